@@ -1,0 +1,10 @@
+pub mod Numbers
+pub mod Ranged
+pub mod Shortest
+pub mod Delimited
+pub mod Writing
+pub mod Folded
+pub mod Pushed
+pub mod Refused
+pub mod Listed
+pub mod WellFormed

@@ -1,0 +1,5 @@
+use Rattle.postcard_wire.proofs.Shortest.{least, Spells-bytes}
+use Rattle.postcard_wire.proofs.laws.shortest.Goals as goal
+
+pub returns : goal.returns
+returns c = record { spelled = Spells-bytes; alone = least }

@@ -1,0 +1,6 @@
+pub mod Number
+pub mod Tree
+pub mod Spelling
+pub mod Reading
+pub mod Digits
+pub mod Error

@@ -1,0 +1,61 @@
+-- Numbers as bytes (wire format 1.0, chapters "varint encoded integers" and "signed integer encoding").
+use Rattle.std.specs.Prelude.{◌≡◌, ℕ, zero, suc, ◌+◌, ◌*◌, ◌/◌, ◌%◌, ◌<◌, ◌≤◌, ◌^◌, ◌-◌, nat_lt, if◌then◌else◌, List, [], ◌∷◌, ◌++◌, length, ℤ, pos, negsuc, neg_ℤ, ◌≤ℤ◌, ◌<ℤ◌}
+
+-- The most bytes that spell a number of w bits, seven bits a byte: 3, 5, 10 and 19 for 16, 32, 64 and 128
+-- (wire format, varint, "maximum encoded length").
+abbrev pub max_digits : ℕ → ℕ
+max_digits w = (w + 6) / 7
+
+-- The number that bytes spell in base 128, lowest digit first: the sum of (byte mod 128) * 128 ^ place
+-- (wire format, varint: seven bits of each byte are data, least significant group first).
+abbrev pub number : List ℕ → ℕ
+number [] = 0
+number (b ∷ bs) = b % 128 + 128 * number bs
+
+-- There is at least one byte; all but the last are at least 128, and the last is below 128
+-- (wire format, varint: the high bit of a byte says that another follows).
+abbrev pub AreDigits : List ℕ → Type 0
+AreDigits [] = ⊥
+AreDigits (b ∷ []) = b < 128
+AreDigits (b ∷ c ∷ bs) = (128 ≤ b) × (b < 256) × AreDigits (c ∷ bs)
+
+-- The bytes p spell the number n of w bits. Padded spellings count; that n itself fits w bits is said of the
+-- tree (`WellFormed`), so no table of greatest last bytes occurs.
+pub record SpellsNum (w n : ℕ) (p : List ℕ) : Type 0 where
+  pub digits : AreDigits p
+  pub count : length p ≤ max_digits w
+  pub value : number p ≡ n
+
+-- The number n in at most k + 1 bytes, lowest digit first, with no zero digit at its end.
+abbrev pub digits_within : ℕ → ℕ → List ℕ
+digits_within zero n = n ∷ []
+digits_within (suc k) n = if nat_lt n 128 then n ∷ [] else (n % 128 + 128) ∷ digits_within k (n / 128)
+
+-- The fewest bytes that spell n, of at most 128 bits (wire format, varint, canonical form).
+unfoldable pub digits : ℕ → List ℕ
+digits n = digits_within 18 n
+
+-- A signed number as an unsigned one: 2 z for z at least 0, and -2 z - 1 below, where `negsuc n` is -n - 1
+-- (wire format, signed integers, "zigzag").
+abbrev pub zigzag : ℤ → ℕ
+zigzag (pos n) = 2 * n
+zigzag (negsuc n) = 2 * n + 1
+
+-- The signed number z has w bits in two's complement.
+abbrev pub InRange : ℕ → ℤ → Type 0
+InRange w z = (neg_ℤ (pos (2 ^ (w - 1))) ≤ℤ z) × (z <ℤ pos (2 ^ (w - 1)))
+
+-- The bytes begin a number and don't end it: each is at least 128.
+abbrev pub GoesOn : List ℕ → Type 0
+GoesOn [] = Unit {0}
+GoesOn (b ∷ bs) = (128 ≤ b) × (b < 256) × GoesOn bs
+
+-- The bytes p are as many as a number of w bits has at most, all but the last at least 128, and spell no
+-- number of w bits.
+pub record SpellsNone (w : ℕ) (p : List ℕ) : Type 0 where
+  pub front : List ℕ
+  pub last : ℕ
+  pub is : p ≡ front ++ last ∷ []
+  pub high : GoesOn front
+  pub full : length p ≡ max_digits w
+  pub none : (n : ℕ) → n < 2 ^ w → SpellsNum w n p → ⊥
