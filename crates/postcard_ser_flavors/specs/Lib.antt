@@ -1,0 +1,4 @@
+pub mod Flavor
+pub mod Memory
+pub mod Slice
+pub mod SliceLaws

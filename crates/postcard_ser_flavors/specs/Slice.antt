@@ -1,0 +1,32 @@
+-- What a contract sees of the flavor that fills a slice (behaviour of postcard 1.1.3: bytes go to the front, in order).
+use Rattle.std.specs.Prelude.{◌≡◌, ℕ, ◌+◌, ◌≤◌, List, ◌++◌, take, drop, length}
+use Rattle.std.specs.Borrow.{GName}
+
+-- The name of the loan that it stands over, the bytes of the whole slice, and how many at its front are held.
+pub record Written : Type 0 where
+  pub loan : GName
+  pub buffer : List ℕ
+  pub count : ℕ
+
+-- The bytes held.
+abbrev pub held : Written → List ℕ
+held s = take s.count s.buffer
+
+-- The bytes behind them, still to be written.
+abbrev pub free : Written → List ℕ
+free s = drop s.count s.buffer
+
+-- t holds what s did, and then x.
+abbrev pub Appended : Written → List ℕ → Written → Type 0
+Appended s x t = held t ≡ held s ++ x
+
+-- The bytes x fit behind those held.
+abbrev pub HasRoom : Written → List ℕ → Type 0
+HasRoom s x = length (held s) + length x ≤ length s.buffer
+
+-- Pushes may make t of s: it stands over the same slice, holds as much or more, and the bytes behind are the old ones.
+pub record Reaches (s t : Written) : Type 0 where
+  pub same_loan : t.loan ≡ s.loan
+  pub same_length : length t.buffer ≡ length s.buffer
+  pub grows : s.count ≤ t.count
+  pub old_behind : drop t.count t.buffer ≡ drop t.count s.buffer

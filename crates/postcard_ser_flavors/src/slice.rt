@@ -1,0 +1,134 @@
+//! The flavor that fills a caller's slice from its front.
+
+ghost use Rattle.std.specs.Prelude.{◌≡◌, ◌+◌, ◌≤◌, ◌↔◌, [], ◌∷◌, ◌++◌, length, drop, ⊤, IsOk, OnOk, OnErr, IfOk, IfErr};
+ghost use Rattle.postcard_ser_flavors.specs.Flavor.{Begins};
+ghost use Rattle.postcard_ser_flavors.specs.Slice.{held, free, Appended, HasRoom, Reaches};
+ghost use Rattle.postcard_ser_flavors.specs.SliceLaws.{slice_lawful};
+
+use crate::flavor::Flavor;
+use crate::memory::Memory;
+use postcard_wire::{Error, Result};
+use std::marker::Model;
+
+/// Fills a slice from its front. A piece is written whole or not at all.
+///
+/// A contract sees the loan that it stands over, the bytes of the whole `buffer`, and how many of them are held.
+#[derive(Drop)]
+pub struct Slice<'a> {
+    memory: Memory<'a>,
+    len: usize,
+    position: usize,
+}
+
+impl<'a> Model for Slice<'a> {
+    ghost use Rattle.std.specs.Prelude.{◌≡◌, ◌≤◌, ◌<◌, ◌^◌, length};
+    ghost use Rattle.postcard_ser_flavors.specs.Slice.{Written};
+
+    ghost Value = { Written };
+
+    ghost view = { λ s. record { loan = s.memory.loan; buffer = s.memory.items; count = s.position } };
+
+    ghost invariant = { λ s. (s.position ≤ s.len) × (s.len ≡ length s.memory.items) × (s.len < 2 ^ 63) };
+}
+
+impl<'a> Slice<'a> {
+    /// Stands before the first byte of the slice.
+    pub fn new(buf: &'a mut [u8]) -> Slice<'a>
+        ensures same_loan { result.loan ≡ buf.entry.ghost_name }
+        ensures all { (result.buffer ≡ buf.old) × (result.count ≡ 0) }
+    {
+        let len = buf.len();
+        Slice {
+            memory: Memory::new(buf),
+            len,
+            position: 0,
+        }
+    }
+
+    /// The whole slice that was lent, and how many bytes at its front were written (not in the Rust crate). By it a caller can say what
+    /// its buffer ends as, also after a refusal.
+    pub fn into_parts(self) -> (&'a mut [u8], usize)
+        ensures same_loan { result.0.ghost_name ≡ self.entry.loan }
+        ensures parts { (result.0.now ≡ self.entry.buffer) × (result.1 ≡ self.entry.count) }
+        ensures within { self.entry.count ≤ length self.entry.buffer }
+    {
+        let Slice {
+            memory,
+            len,
+            position,
+        } = self;
+        (memory.whole(len), position)
+    }
+}
+
+impl<'a> Flavor for Slice<'a> {
+    type Output = &'a mut [u8];
+
+    ghost appended = { Appended };
+
+    ghost room = { HasRoom };
+
+    ghost tidy = { ⊤ };
+
+    ghost reaches = { Reaches };
+
+    ghost finishes = { λ s output. output.now ≡ held s };
+
+    ghost lawful = { slice_lawful };
+
+    /// Writes a byte. Refuses with `SerializeBufferFull` exactly where no byte is free, and is then unchanged.
+    fn try_push(&mut self, byte: u8) -> Result<()>
+        ensures appends { OnOk result (⟦<Slice<'static> as Flavor>⟧.appended self.old (byte ∷ []) self.new) }
+        ensures has_room { ⟦<Slice<'static> as Flavor>⟧.room self.old (byte ∷ []) → IsOk result }
+        ensures refused { OnErr result (⟦<Slice<'static> as Flavor>⟧.tidy → Begins ⟦<Slice<'static> as Flavor>⟧.appended self.old (byte ∷ []) self.new) }
+        ensures leaves { ⟦<Slice<'static> as Flavor>⟧.reaches self.old self.new }
+        ensures fits { IsOk result ↔ (1 ≤ length (free self.old)) }
+        ensures rest { OnOk result (free self.new ≡ drop 1 (free self.old)) }
+        ensures full { IfErr result (λ e. e ≡ Error.SerializeBufferFull) }
+        ensures unchanged { OnErr result (self.new ≡ self.old) }
+    {
+        if self.position == self.len {
+            return Err(Error::SerializeBufferFull);
+        }
+        let len = self.len;
+        let place = self.position;
+        let all = self.memory.lend(len);
+        all[place] = byte;
+        self.position += 1;
+        Ok(())
+    }
+
+    /// Writes bytes in a row. Refuses with `SerializeBufferFull` exactly where they are more than are free, and is
+    /// then unchanged.
+    fn try_extend(&mut self, bytes: &[u8]) -> Result<()>
+        ensures appends { OnOk result (⟦<Slice<'static> as Flavor>⟧.appended self.old bytes.now self.new) }
+        ensures has_room { ⟦<Slice<'static> as Flavor>⟧.room self.old bytes.now → IsOk result }
+        ensures refused { OnErr result (⟦<Slice<'static> as Flavor>⟧.tidy → Begins ⟦<Slice<'static> as Flavor>⟧.appended self.old bytes.now self.new) }
+        ensures leaves { ⟦<Slice<'static> as Flavor>⟧.reaches self.old self.new }
+        ensures fits { IsOk result ↔ (length bytes.now ≤ length (free self.old)) }
+        ensures rest { OnOk result (free self.new ≡ drop (length bytes.now) (free self.old)) }
+        ensures full { IfErr result (λ e. e ≡ Error.SerializeBufferFull) }
+        ensures unchanged { OnErr result (self.new ≡ self.old) }
+    {
+        if self.len - self.position < bytes.len() {
+            return Err(Error::SerializeBufferFull);
+        }
+        let len = self.len;
+        let start = self.position;
+        let all = self.memory.lend(len);
+        all[start..start + bytes.len()].copy_from_slice(bytes);
+        self.position += bytes.len();
+        Ok(())
+    }
+
+    /// The bytes written. Never refuses.
+    fn finalize(self) -> Result<&'a mut [u8]>
+        ensures gives { IfOk result (λ output. ⟦<Slice<'static> as Flavor>⟧.finishes self.entry output) }
+        ensures closes { ⟦<Slice<'static> as Flavor>⟧.room self.entry [] → IsOk result }
+        ensures always { IsOk result }
+    {
+        let (all, count) = self.into_parts();
+        let (front, _) = all.split_at_mut(count);
+        Ok(front)
+    }
+}
