@@ -1,0 +1,62 @@
+-- A value that is written part after part: from what each call did, what they did together.
+use Rattle.std.proofs.Common.{◌≡◌, inl, inr, Result, Ok, Err, IfErr, IsErrAnd, ℕ, List, [], ◌++◌, refl, append-nil}
+use Rattle.std.proofs.lemmas.Result.{err_from_is_err_and}
+use Rattle.postcard_wire.specs.declared.error.Error.{Error}
+use Rattle.postcard_ser_flavors.specs.declared.flavor.Flavor.{Ghosts}
+use Rattle.postcard_ser_flavors.proofs.Parts.{begins_then, begins_more}
+use Rattle.postcard_ser.specs.Writing.{Wrote, AnswersRefusal}
+
+-- A part's answer is one of the whole, where what the part may do the whole may.
+pub answer_may : {Q R T U : Type 0} (r : Result (Unit {0}) Error) → (¬ Q → IfErr r (AnswersRefusal T)) → (Q → R) → (T → U) → ¬ R → IfErr r (AnswersRefusal U)
+answer_may {Q} {R} {T} {U} (Ok ok) h i j n = tt
+answer_may {Q} {R} {T} {U} (Err e) h i j n = elim (h (λ q. n (i q))) as (λ _. AnswersRefusal U e) [ inl full ↦ inl full | inr p ↦ inr (j p.0, p.1) ]
+
+module _ {S O : Type 0} {F : Ghosts S O} where
+  -- No part is written.
+  pub wrote_none : {Q T : Type 0} (s : S) → Wrote F s [] Q T (Ok tt) s
+  wrote_none s = record {
+    appends = F.lawful.appended_none s;
+    has_room = λ _ _. refl;
+    answers = λ _. tt;
+    refused = λ _ _. tt;
+    leaves = F.lawful.reaches_self s;
+  }
+
+  -- What the exit of a `?` returns.
+  pub wrote_err : {s t : S} {Q T : Type 0} {x : List ℕ} {e : Error} (r : Result (Unit {0}) Error) → IsErrAnd r (λ y. y ≡ e) → Wrote F s x Q T (Err e) t → Wrote F s x Q T r t
+  wrote_err {s} {t} {Q} {T} {x} {e} r h w = let p = err_from_is_err_and r h in rw (p.1, p.2) w
+
+  -- A success says nothing of refusals.
+  pub wrote_ok : {s t : S} {Q T R U : Type 0} {x : List ℕ} → Wrote F s x Q T (Ok tt) t → Wrote F s x R U (Ok tt) t
+  wrote_ok w = record { appends = w.appends; has_room = λ _ _. refl; answers = λ _. tt; refused = λ _ _. tt; leaves = w.leaves }
+
+  -- The last of the parts, after which none comes.
+  pub wrote_last : {s t : S} {Q T : Type 0} {r : Result (Unit {0}) Error} {x : List ℕ} → Wrote F s x Q T r t → Wrote F s (x ++ []) Q T r t
+  wrote_last {x} w = rw append-nil w
+
+  -- The first part was refused, and so was the whole.
+  pub wrote_stop : {s t : S} {Q R T U : Type 0} {e : Error} (x y : List ℕ) → Wrote F s x Q T (Err e) t → (Q → R) → (T → U) → Wrote F s (x ++ y) R U (Err e) t
+  wrote_stop {s} {t} {Q} {R} {T} {U} {e} x y w i j = record {
+    appends = tt;
+    has_room = λ n r. w.has_room (λ q. n (i q)) (F.lawful.room_front s x y r);
+    answers = answer_may (Err e) w.answers i j;
+    refused = λ n d. begins_more x y (w.refused (λ q. n (i q)) d);
+    leaves = w.leaves;
+  }
+
+  -- The first part was written, and then the others.
+  pub wrote_then : {s t u : S} {P Q R T U V : Type 0} {r : Result (Unit {0}) Error} (x y : List ℕ) → Wrote F s x P V (Ok tt) t → Wrote F t y Q T r u → (Q → R) → (T → U) → Wrote F s (x ++ y) R U r u
+  wrote_then {s} {t} {u} {P} {Q} {R} {T} {U} {V} {r = Ok ok} x y w v i j = record {
+    appends = F.lawful.appended_join s t u x y w.appends v.appends;
+    has_room = λ n r. refl;
+    answers = λ n. tt;
+    refused = λ n d. tt;
+    leaves = F.lawful.reaches_join s t u w.leaves v.leaves;
+  }
+  wrote_then {s} {t} {u} {P} {Q} {R} {T} {U} {V} {r = Err e} x y w v i j = record {
+    appends = tt;
+    has_room = λ n r. v.has_room (λ q. n (i q)) (F.lawful.room_rest s t x y r w.appends w.leaves);
+    answers = answer_may (Err e) v.answers i j;
+    refused = λ n d. begins_then F.lawful.appended_join x y w.appends (v.refused (λ q. n (i q)) d);
+    leaves = F.lawful.reaches_join s t u w.leaves v.leaves;
+  }

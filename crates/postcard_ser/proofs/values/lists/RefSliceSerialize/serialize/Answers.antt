@@ -1,0 +1,14 @@
+-- The count, and then the elements.
+use Rattle.postcard_ser.proofs.Elements.{elements_count}
+use Rattle.postcard_ser.proofs.PartByPart.{wrote_then, wrote_stop, wrote_err}
+use Rattle.postcard_ser.proofs.values.lists.RefSliceSerialize.serialize.Goals as goal
+
+pub returns-in_err-serialize_seq : goal.returns-in_err-serialize_seq
+returns-in_err-serialize_seq g c =
+    wrote_err _ c.from_residual.ensures.1
+    (rw (elements_count g.T.Serialize.tree c.args.self.now.now) (wrote_stop _ _ c.in_err-serialize_seq.ensures.known absurd absurd))
+
+pub returns : goal.returns
+returns g c =
+    rw (elements_count g.T.Serialize.tree c.args.self.now.now)
+    (wrote_then _ _ c.in_ok-serialize_seq.ensures.known c.serialize_all.ensures (λ q. q) (λ t. t))

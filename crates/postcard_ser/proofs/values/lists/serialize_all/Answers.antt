@@ -1,0 +1,24 @@
+-- One more element is written, or it is refused and so is the list.
+use Rattle.std.proofs.Common.{◌<◌, length, Err, Ok, arith, subst}
+use Rattle.std.specs.Prelude.{Any}
+use Rattle.postcard_ser.specs.Writing.{Wrote}
+use Rattle.postcard_ser.proofs.Elements.{elements_more, elements_cut, any_at}
+use Rattle.postcard_ser.proofs.PartByPart.{wrote_then, wrote_stop, wrote_err, wrote_ok}
+use Rattle.postcard_ser.proofs.values.lists.serialize_all.Goals as goal
+
+pub returns-in_err-serialize : goal.returns-in_err-serialize
+returns-in_err-serialize g c =
+    let xs = c.args.items.now in let k = c.loop-item.item-index in let x = c.item-item.result in let below : k < length xs = omega arith in
+    let R = Any g.T.Serialize.refuses_itself xs in
+    wrote_err _ c.from_residual.ensures.1
+    (subst (λ z. Wrote g.F.Flavor c.args.serializer.now.output z R g.T.Serialize.may_fail_text (Err c.in_err-serialize.field-0.0) c.serialize.new.serializer.output)
+    (elements_cut g.T.Serialize.tree xs k x below c.item-item.is)
+    (wrote_then _ _ c.loop-item.invariant
+    (wrote_stop _ _ c.in_err-serialize.ensures (any_at xs k x below c.item-item.is) (λ t. t)) (λ q. q) (λ t. t)))
+
+pub loop-item-preserved : goal.loop-item-preserved
+loop-item-preserved g c =
+    let xs = c.args.items.now in let k = c.loop-item.item-index in let x = c.item-item.result in let below : k < length xs = omega arith in
+    subst (λ z. Wrote g.F.Flavor c.args.serializer.now.output z ⊥ ⊥ (Ok tt) c.serialize.new.serializer.output)
+    (elements_more g.T.Serialize.tree xs k x below c.item-item.is)
+    (wrote_then _ _ c.loop-item.invariant (wrote_ok c.in_ok-serialize.ensures) (λ q. q) (λ t. t))

@@ -1,0 +1,175 @@
+//! The calls by which a type writes itself, each a node of the wire format.
+
+ghost use Rattle.std.specs.Prelude.{◌≡◌, [], ◌∷◌, map, false, IsOk, IsErrOf, IfSome};
+ghost use Rattle.std.specs.Option.{IfNone};
+ghost use Rattle.std.specs.Int.{w8, cast_unsigned};
+ghost use Rattle.postcard_wire.specs.Spelling.{bytes};
+ghost use Rattle.postcard_wire.specs.Tree.{Byte, Num, Int, Text, Seq, trees};
+ghost use Rattle.postcard_ser.specs.Writing.{Wrote};
+
+use crate::serialize::Serialize;
+use postcard_ser_flavors::Flavor;
+use postcard_wire::varint::{
+    VARINT_MAX_16, VARINT_MAX_32, VARINT_MAX_64, VARINT_MAX_128, varint_u16, varint_u32,
+    varint_u64, varint_u128,
+};
+use postcard_wire::zigzag::{zig_zag_i16, zig_zag_i32, zig_zag_i64, zig_zag_i128};
+use postcard_wire::{Error, Result};
+
+/// Writes values into a flavor.
+///
+/// Each call refuses with `SerializeBufferFull` where the flavor refuses, whatever the flavor's own error is. The
+/// output then holds the pieces that were taken so far.
+#[derive(Drop)]
+pub struct Serializer<F: Flavor> {
+    /// Where the bytes go.
+    pub output: F,
+}
+
+impl<F: Flavor> Serializer<F> {
+    // Hands over a byte.
+    fn push(&mut self, byte: u8) -> Result<()>
+        ensures { Wrote F.Flavor self.old.output (byte ∷ []) ⊥ ⊥ result self.new.output }
+    {
+        match self.output.try_push(byte) {
+            Ok(()) => Ok(()),
+            Err(_) => Err(Error::SerializeBufferFull),
+        }
+    }
+
+    // Hands over bytes in a row.
+    fn extend(&mut self, bytes: &[u8]) -> Result<()>
+        ensures { Wrote F.Flavor self.old.output bytes.now ⊥ ⊥ result self.new.output }
+    {
+        match self.output.try_extend(bytes) {
+            Ok(()) => Ok(()),
+            Err(_) => Err(Error::SerializeBufferFull),
+        }
+    }
+
+    /// Whether a type should write itself for people to read: it never should.
+    pub fn is_human_readable(&self) -> bool
+        ensures { result ≡ false }
+    {
+        false
+    }
+
+    /// Writes one byte.
+    pub fn serialize_u8(&mut self, v: u8) -> Result<()>
+        ensures { Wrote F.Flavor self.old.output (bytes (Byte v)) ⊥ ⊥ result self.new.output }
+    {
+        self.push(v)
+    }
+
+    /// Writes a varint of 1 to 3 bytes.
+    pub fn serialize_u16(&mut self, v: u16) -> Result<()>
+        ensures { Wrote F.Flavor self.old.output (bytes (Num 16 v)) ⊥ ⊥ result self.new.output }
+    {
+        let mut out = [0; VARINT_MAX_16];
+        self.extend(varint_u16(v, &mut out))
+    }
+
+    /// Writes a varint of 1 to 5 bytes.
+    pub fn serialize_u32(&mut self, v: u32) -> Result<()>
+        ensures { Wrote F.Flavor self.old.output (bytes (Num 32 v)) ⊥ ⊥ result self.new.output }
+    {
+        let mut out = [0; VARINT_MAX_32];
+        self.extend(varint_u32(v, &mut out))
+    }
+
+    /// Writes a varint of 1 to 10 bytes.
+    pub fn serialize_u64(&mut self, v: u64) -> Result<()>
+        ensures { Wrote F.Flavor self.old.output (bytes (Num 64 v)) ⊥ ⊥ result self.new.output }
+    {
+        let mut out = [0; VARINT_MAX_64];
+        self.extend(varint_u64(v, &mut out))
+    }
+
+    /// Writes a varint of 1 to 19 bytes.
+    pub fn serialize_u128(&mut self, v: u128) -> Result<()>
+        ensures { Wrote F.Flavor self.old.output (bytes (Num 128 v)) ⊥ ⊥ result self.new.output }
+    {
+        let mut out = [0; VARINT_MAX_128];
+        self.extend(varint_u128(v, &mut out))
+    }
+
+    /// Writes one byte, in two's complement.
+    pub fn serialize_i8(&mut self, v: i8) -> Result<()>
+        ensures { Wrote F.Flavor self.old.output (bytes (Byte (cast_unsigned w8 v))) ⊥ ⊥ result self.new.output }
+    {
+        self.push(v.cast_unsigned())
+    }
+
+    /// Writes the zigzag number of `v` as a varint of 1 to 3 bytes.
+    pub fn serialize_i16(&mut self, v: i16) -> Result<()>
+        ensures { Wrote F.Flavor self.old.output (bytes (Int 16 v)) ⊥ ⊥ result self.new.output }
+    {
+        self.serialize_u16(zig_zag_i16(v))
+    }
+
+    /// Writes the zigzag number of `v` as a varint of 1 to 5 bytes.
+    pub fn serialize_i32(&mut self, v: i32) -> Result<()>
+        ensures { Wrote F.Flavor self.old.output (bytes (Int 32 v)) ⊥ ⊥ result self.new.output }
+    {
+        self.serialize_u32(zig_zag_i32(v))
+    }
+
+    /// Writes the zigzag number of `v` as a varint of 1 to 10 bytes.
+    pub fn serialize_i64(&mut self, v: i64) -> Result<()>
+        ensures { Wrote F.Flavor self.old.output (bytes (Int 64 v)) ⊥ ⊥ result self.new.output }
+    {
+        self.serialize_u64(zig_zag_i64(v))
+    }
+
+    /// Writes the zigzag number of `v` as a varint of 1 to 19 bytes.
+    pub fn serialize_i128(&mut self, v: i128) -> Result<()>
+        ensures { Wrote F.Flavor self.old.output (bytes (Int 128 v)) ⊥ ⊥ result self.new.output }
+    {
+        self.serialize_u128(zig_zag_i128(v))
+    }
+
+    /// Writes the count of the text's bytes as a varint, and then its bytes.
+    pub fn serialize_str(&mut self, v: &str) -> Result<()>
+        ensures { Wrote F.Flavor self.old.output (bytes (Text v.now)) ⊥ ⊥ result self.new.output }
+    {
+        self.serialize_u64(v.len() as u64)?;
+        self.extend(v.as_bytes())
+    }
+
+    /// Writes the count of the bytes as a varint, and then the bytes: those of a list of `u8`.
+    pub fn serialize_bytes(&mut self, v: &[u8]) -> Result<()>
+        ensures { Wrote F.Flavor self.old.output (bytes (Seq (trees (map Byte v.now)))) ⊥ ⊥ result self.new.output }
+    {
+        self.serialize_u64(v.len() as u64)?;
+        self.extend(v)
+    }
+
+    /// Begins a list: writes the count of its elements as a varint. Elements are then written by
+    /// `serialize_element`; nobody counts them. Refuses an unknown count with `SerializeSeqLengthUnknown`, before
+    /// anything is written.
+    pub fn serialize_seq(&mut self, len: Option<usize>) -> Result<()>
+        ensures known { IfSome len (λ n. Wrote F.Flavor self.old.output (bytes (Num 64 n)) ⊥ ⊥ result self.new.output) }
+        ensures unknown { IfNone len (IsErrOf result Error.SerializeSeqLengthUnknown × (self.new ≡ self.old)) }
+    {
+        match len {
+            Some(n) => self.serialize_u64(n as u64),
+            None => Err(Error::SerializeSeqLengthUnknown),
+        }
+    }
+
+    /// Writes an element of a list, or any part of a value.
+    pub fn serialize_element<T: Serialize>(&mut self, value: &T) -> Result<()>
+        ensures { Wrote F.Flavor self.old.output (bytes (T.tree value.now)) (T.refuses_itself value.now) T.may_fail_text result self.new.output }
+    {
+        value.serialize(self)
+    }
+
+    /// Ends a list: nothing is written.
+    pub fn end(&mut self) -> Result<()>
+        ensures wrote { Wrote F.Flavor self.old.output [] ⊥ ⊥ result self.new.output }
+        ensures always { IsOk result }
+        ensures unchanged { self.new ≡ self.old }
+    {
+        Ok(())
+    }
+}

@@ -1,0 +1,1 @@
+//! Values as bytes, against those worked out by hand from the wire format.

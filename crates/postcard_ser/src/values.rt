@@ -1,0 +1,5 @@
+//! The types that are written, each beside those like it.
+
+mod lists;
+mod numbers;
+mod text;

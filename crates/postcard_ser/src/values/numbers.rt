@@ -1,0 +1,139 @@
+//! Numbers.
+
+ghost use Rattle.std.specs.Int.{w8, cast_unsigned};
+ghost use Rattle.postcard_wire.specs.Tree.{Byte, Num, Int};
+
+use crate::serialize::Serialize;
+use crate::serializer::Serializer;
+use postcard_ser_flavors::Flavor;
+use postcard_wire::Result;
+
+/// One byte.
+impl Serialize for u8 {
+    ghost tree = { λ v. Byte v };
+
+    ghost refuses_itself = { λ _. ⊥ };
+
+    ghost may_fail_text = { ⊥ };
+
+    fn serialize<F: Flavor>(&self, serializer: &mut Serializer<F>) -> Result<()> {
+        serializer.serialize_u8(*self)
+    }
+}
+
+/// A varint.
+impl Serialize for u16 {
+    ghost tree = { λ v. Num 16 v };
+
+    ghost refuses_itself = { λ _. ⊥ };
+
+    ghost may_fail_text = { ⊥ };
+
+    fn serialize<F: Flavor>(&self, serializer: &mut Serializer<F>) -> Result<()> {
+        serializer.serialize_u16(*self)
+    }
+}
+
+/// A varint.
+impl Serialize for u32 {
+    ghost tree = { λ v. Num 32 v };
+
+    ghost refuses_itself = { λ _. ⊥ };
+
+    ghost may_fail_text = { ⊥ };
+
+    fn serialize<F: Flavor>(&self, serializer: &mut Serializer<F>) -> Result<()> {
+        serializer.serialize_u32(*self)
+    }
+}
+
+/// A varint.
+impl Serialize for u64 {
+    ghost tree = { λ v. Num 64 v };
+
+    ghost refuses_itself = { λ _. ⊥ };
+
+    ghost may_fail_text = { ⊥ };
+
+    fn serialize<F: Flavor>(&self, serializer: &mut Serializer<F>) -> Result<()> {
+        serializer.serialize_u64(*self)
+    }
+}
+
+/// A varint.
+impl Serialize for u128 {
+    ghost tree = { λ v. Num 128 v };
+
+    ghost refuses_itself = { λ _. ⊥ };
+
+    ghost may_fail_text = { ⊥ };
+
+    fn serialize<F: Flavor>(&self, serializer: &mut Serializer<F>) -> Result<()> {
+        serializer.serialize_u128(*self)
+    }
+}
+
+/// One byte, in two's complement.
+impl Serialize for i8 {
+    ghost tree = { λ v. Byte (cast_unsigned w8 v) };
+
+    ghost refuses_itself = { λ _. ⊥ };
+
+    ghost may_fail_text = { ⊥ };
+
+    fn serialize<F: Flavor>(&self, serializer: &mut Serializer<F>) -> Result<()> {
+        serializer.serialize_i8(*self)
+    }
+}
+
+/// A varint of the zigzag number.
+impl Serialize for i16 {
+    ghost tree = { λ v. Int 16 v };
+
+    ghost refuses_itself = { λ _. ⊥ };
+
+    ghost may_fail_text = { ⊥ };
+
+    fn serialize<F: Flavor>(&self, serializer: &mut Serializer<F>) -> Result<()> {
+        serializer.serialize_i16(*self)
+    }
+}
+
+/// A varint of the zigzag number.
+impl Serialize for i32 {
+    ghost tree = { λ v. Int 32 v };
+
+    ghost refuses_itself = { λ _. ⊥ };
+
+    ghost may_fail_text = { ⊥ };
+
+    fn serialize<F: Flavor>(&self, serializer: &mut Serializer<F>) -> Result<()> {
+        serializer.serialize_i32(*self)
+    }
+}
+
+/// A varint of the zigzag number.
+impl Serialize for i64 {
+    ghost tree = { λ v. Int 64 v };
+
+    ghost refuses_itself = { λ _. ⊥ };
+
+    ghost may_fail_text = { ⊥ };
+
+    fn serialize<F: Flavor>(&self, serializer: &mut Serializer<F>) -> Result<()> {
+        serializer.serialize_i64(*self)
+    }
+}
+
+/// A varint of the zigzag number.
+impl Serialize for i128 {
+    ghost tree = { λ v. Int 128 v };
+
+    ghost refuses_itself = { λ _. ⊥ };
+
+    ghost may_fail_text = { ⊥ };
+
+    fn serialize<F: Flavor>(&self, serializer: &mut Serializer<F>) -> Result<()> {
+        serializer.serialize_i128(*self)
+    }
+}
