@@ -1,0 +1,18 @@
+//! Postcard: values as few bytes, and back.
+//!
+//! This is the crate that programs use: the calls that encode and decode, and under one roof the traits, errors and
+//! buffers of the layers below. Its contract is what each call promises end to end, in the words of the wire format
+//! alone: trees, their spellings, and the one shortest spelling.
+//!
+//! - `to_slice` and `fill_slice` write a value into a buffer (module `ser`).
+//! - `from_bytes` and `take_from_bytes` read a value from the front of a slice (module `de`).
+#![tactic(auto)]
+
+mod ser;
+#[cfg(test)]
+mod tests;
+
+pub use postcard_ser::{Serialize, Serializer};
+pub use postcard_ser_flavors as ser_flavors;
+pub use postcard_wire::{Error, Result};
+pub use ser::{fill_slice, to_slice};

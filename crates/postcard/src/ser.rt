@@ -1,0 +1,109 @@
+//! Encoding into a buffer.
+
+ghost use Rattle.std.specs.Prelude.{◌≡◌, ◌<◌, ◌≤◌, ◌↔◌, ◌⊎◌, ℕ, List, ◌++◌, length, drop, IfOk, IfErr, IsOk, OnErr, OnOk};
+ghost use Rattle.std.specs.Borrow.{sem, LendsIfOk, LendsSoOk, Array, u8};
+ghost use Rattle.postcard_wire.specs.Spelling.{bytes, Spells};
+ghost use Rattle.postcard_ser.specs.Writing.{AnswersRefusal};
+ghost use Rattle.postcard.specs.Buffers.{Fills, Begins};
+ghost use Rattle.postcard.specs.Done.{IsDone, IsCut};
+
+use postcard_ser::{Serialize, Serializer};
+use postcard_ser_flavors::Slice;
+use postcard_wire::{Error, Result};
+use std::slice;
+
+/// Encodes a value into the front of a buffer, and lends that front: the shortest spelling of the value's tree.
+///
+/// It succeeds exactly where that spelling fits the buffer, a value that refuses itself aside. The bytes behind the
+/// answer stay as they were. `SerializeBufferFull` says that it doesn't fit; the buffer then has a beginning of the
+/// spelling, and behind it the old bytes. Takes no memory.
+///
+/// The clause `writes_back` says what the buffer is once the loan is over. A caller whose own proof goes on about
+/// the buffer uses `fill_slice`, whose plain clauses say the same.
+pub fn to_slice<'a, T: Serialize>(value: &T, buf: &'a mut [u8]) -> Result<&'a mut [u8]>
+    // Where it succeeds, what the caller makes of the front, and then the old bytes; where it refuses, a beginning
+    // of the spelling, and then the old bytes.
+    ensures* writes_back { sem 𝓛 (LendsSoOk (Array u8 0) (Array u8 0) buf.entry result
+        (λ all front. all ≡ front ++ drop (length (bytes (T.tree value.now))) buf.old)
+        (λ all. ¬ T.refuses_itself value.now → Begins (bytes (T.tree value.now)) buf.old all)) }
+    ensures gives { IfOk result (λ front. front.now ≡ bytes (T.tree value.now)) }
+    ensures shortest { IfOk result (λ front. (p : List ℕ) → Spells (T.tree value.now) p → (p ≡ front.now) ⊎ (length front.now < length p)) }
+    ensures exactly { ¬ T.refuses_itself value.now → (IsOk result ↔ (length (bytes (T.tree value.now)) ≤ length buf.old)) }
+    ensures answers { ¬ T.refuses_itself value.now → IfErr result (AnswersRefusal T.may_fail_text) }
+{
+    cut(write_front(value, buf))
+}
+
+/// Encodes a value into the front of a buffer, and answers how many bytes it wrote (own).
+///
+/// It is `to_slice` for callers that keep the buffer: the same bytes, refusals and bytes behind, said of the buffer
+/// as it is after the call.
+pub fn fill_slice<T: Serialize>(value: &T, buf: &mut [u8]) -> Result<usize>
+    ensures counts { IfOk result (λ count. count ≡ length (bytes (T.tree value.now))) }
+    ensures fills { OnOk result (Fills (bytes (T.tree value.now)) buf.old buf.new) }
+    ensures refused { OnErr result (¬ T.refuses_itself value.now → Begins (bytes (T.tree value.now)) buf.old buf.new) }
+    ensures exactly { ¬ T.refuses_itself value.now → (IsOk result ↔ (length (bytes (T.tree value.now)) ≤ length buf.old)) }
+    ensures answers { ¬ T.refuses_itself value.now → IfErr result (AnswersRefusal T.may_fail_text) }
+{
+    let Done {
+        all: _all,
+        count,
+        failed,
+        error,
+    } = write_front(value, buf);
+    if failed { Err(error) } else { Ok(count) }
+}
+
+/// What an attempt leaves: the whole buffer, how many bytes of it were written, and the refusal where it `failed`.
+struct Done<'a> {
+    all: &'a mut [u8],
+    count: usize,
+    failed: bool,
+    error: Error,
+}
+
+/// Writes the value into the front of the buffer, and gives the buffer back as the loan that it was.
+fn write_front<'a, T: Serialize>(value: &T, buf: &'a mut [u8]) -> Done<'a>
+    ensures same_loan { result.all.ghost_name ≡ buf.entry.ghost_name }
+    ensures done { IsDone (bytes (T.tree value.now)) (T.refuses_itself value.now) T.may_fail_text buf.old result }
+{
+    let mut serializer = Serializer {
+        output: Slice::new(buf),
+    };
+    let outcome = value.serialize(&mut serializer);
+    let (all, count) = serializer.output.into_parts();
+    match outcome {
+        Ok(()) => Done {
+            all,
+            count,
+            failed: false,
+            error: Error::SerializeBufferFull,
+        },
+        Err(error) => Done {
+            all,
+            count,
+            failed: true,
+            error,
+        },
+    }
+}
+
+/// Lends the written front of the buffer, or answers the refusal.
+fn cut<'a>(done: Done<'a>) -> Result<&'a mut [u8]>
+    requires { done.count ≤ length done.all.now }
+    ensures* writes_back { sem 𝓛 (LendsIfOk (Array u8 0) (Array u8 0) done.entry.all result (λ front. front ++ drop done.entry.count done.entry.all.now) done.entry.all.now) }
+    ensures cuts { IsCut done.entry result }
+{
+    let Done {
+        all,
+        count,
+        failed,
+        error,
+    } = done;
+    // SAFETY: `all` is not used again, and `count` is at most its length.
+    let front = unsafe { slice::from_raw_parts_mut(all.as_mut_ptr(), count) };
+    if failed {
+        return Err(error);
+    }
+    Ok(front)
+}
