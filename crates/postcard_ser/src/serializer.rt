@@ -31,20 +31,18 @@ impl<F: Flavor> Serializer<F> {
     fn push(&mut self, byte: u8) -> Result<()>
         ensures { Wrote F.Flavor self.old.output (byte ∷ []) ⊥ ⊥ result self.new.output }
     {
-        match self.output.try_push(byte) {
-            Ok(()) => Ok(()),
-            Err(_) => Err(Error::SerializeBufferFull),
-        }
+        self.output
+            .try_push(byte)
+            .map_err(|_| Error::SerializeBufferFull)
     }
 
     // Hands over bytes in a row.
     fn extend(&mut self, bytes: &[u8]) -> Result<()>
         ensures { Wrote F.Flavor self.old.output bytes.now ⊥ ⊥ result self.new.output }
     {
-        match self.output.try_extend(bytes) {
-            Ok(()) => Ok(()),
-            Err(_) => Err(Error::SerializeBufferFull),
-        }
+        self.output
+            .try_extend(bytes)
+            .map_err(|_| Error::SerializeBufferFull)
     }
 
     /// Whether a type should write itself for people to read: it never should.
