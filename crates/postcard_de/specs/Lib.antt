@@ -1,0 +1,5 @@
+pub mod Reads
+pub mod Refuses
+pub mod Values
+pub mod Same
+pub mod Deserializer
