@@ -1,0 +1,4 @@
+pub mod Taking
+pub mod Leaves
+pub mod Numbers
+pub mod Texts

@@ -1,0 +1,3 @@
+//! The types that are read, a room for each kind.
+
+pub mod numbers;
