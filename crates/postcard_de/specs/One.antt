@@ -1,5 +1,6 @@
 -- A leaf's tree has one value: each kind of node tells its content.
 use Rattle.std.specs.Prelude.{◌≡◌, ℕ, List, ℤ}
+use Rattle.std.specs.Int.{w8, cast_unsigned}
 use Rattle.std.proofs.Common.{sym, ◌∙◌}
 use Rattle.postcard_wire.specs.Tree.{Tree, Byte, Num, Int, Text}
 use Rattle.postcard_de.specs.Same.{HasOne}
@@ -31,3 +32,7 @@ int_one w t u v h k = int_same w u v (sym h ∙ k)
 -- A text, by what is seen of it.
 pub text_one : {V : Type 0} (see : V → List ℕ) → HasOne (λ t v. t ≡ Text (see v)) (λ v w. see v ≡ see w)
 text_one see t v w h k = text_same (see v) (see w) (sym h ∙ k)
+
+-- A signed number of a byte, by its two's complement.
+pub signed_byte_one : HasOne (λ t v. t ≡ Byte (cast_unsigned w8 v)) (λ v w. cast_unsigned w8 v ≡ cast_unsigned w8 w)
+signed_byte_one t v w h k = byte_same (cast_unsigned w8 v) (cast_unsigned w8 w) (sym h ∙ k)

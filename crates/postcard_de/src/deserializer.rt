@@ -90,7 +90,6 @@ impl<'de, F: Flavor> Deserializer<'de, F> {
     /// # Errors
     ///
     /// `DeserializeUnexpectedEnd` where the bytes end within it, `DeserializeBadVarint` where it is longer or greater.
-    #[tactic(auto, using(crate::proofs::Numbers::num_read, crate::proofs::Numbers::num_refused))]
     pub fn deserialize_u16(&mut self) -> Result<u16>
         ensures reads { Reads Spells (IsNum 16) (λ t v. t ≡ Num 16 v) ⊥ F.left F.able F.may_leave (source_of self.old) result (source_of self.new) }
         ensures refused { IfErr result (λ e. Refuses (WantsDigit 16) (BadNumber 16) F.left F.able (source_of self.old) e (source_of self.new)) }
@@ -104,7 +103,6 @@ impl<'de, F: Flavor> Deserializer<'de, F> {
     /// # Errors
     ///
     /// As `deserialize_u16`.
-    #[tactic(auto, using(crate::proofs::Numbers::num_read, crate::proofs::Numbers::num_refused))]
     pub fn deserialize_u32(&mut self) -> Result<u32>
         ensures reads { Reads Spells (IsNum 32) (λ t v. t ≡ Num 32 v) ⊥ F.left F.able F.may_leave (source_of self.old) result (source_of self.new) }
         ensures refused { IfErr result (λ e. Refuses (WantsDigit 32) (BadNumber 32) F.left F.able (source_of self.old) e (source_of self.new)) }
@@ -118,7 +116,6 @@ impl<'de, F: Flavor> Deserializer<'de, F> {
     /// # Errors
     ///
     /// As `deserialize_u16`.
-    #[tactic(auto, using(crate::proofs::Numbers::num_read, crate::proofs::Numbers::num_refused))]
     pub fn deserialize_u64(&mut self) -> Result<u64>
         ensures reads { Reads Spells (IsNum 64) (λ t v. t ≡ Num 64 v) ⊥ F.left F.able F.may_leave (source_of self.old) result (source_of self.new) }
         ensures refused { IfErr result (λ e. Refuses (WantsDigit 64) (BadNumber 64) F.left F.able (source_of self.old) e (source_of self.new)) }
@@ -132,7 +129,6 @@ impl<'de, F: Flavor> Deserializer<'de, F> {
     /// # Errors
     ///
     /// As `deserialize_u16`.
-    #[tactic(auto, using(crate::proofs::Numbers::num_read, crate::proofs::Numbers::num_refused))]
     pub fn deserialize_u128(&mut self) -> Result<u128>
         ensures reads { Reads Spells (IsNum 128) (λ t v. t ≡ Num 128 v) ⊥ F.left F.able F.may_leave (source_of self.old) result (source_of self.new) }
         ensures refused { IfErr result (λ e. Refuses (WantsDigit 128) (BadNumber 128) F.left F.able (source_of self.old) e (source_of self.new)) }
@@ -146,7 +142,6 @@ impl<'de, F: Flavor> Deserializer<'de, F> {
     /// # Errors
     ///
     /// As `deserialize_u16`.
-    #[tactic(auto, using(crate::proofs::Numbers::int_read, crate::proofs::Numbers::int_refused))]
     pub fn deserialize_i16(&mut self) -> Result<i16>
         ensures reads { Reads Spells (IsInt 16) (λ t v. t ≡ Int 16 v) ⊥ F.left F.able F.may_leave (source_of self.old) result (source_of self.new) }
         ensures refused { IfErr result (λ e. Refuses (WantsDigit 16) (BadNumber 16) F.left F.able (source_of self.old) e (source_of self.new)) }
@@ -160,7 +155,6 @@ impl<'de, F: Flavor> Deserializer<'de, F> {
     /// # Errors
     ///
     /// As `deserialize_u16`.
-    #[tactic(auto, using(crate::proofs::Numbers::int_read, crate::proofs::Numbers::int_refused))]
     pub fn deserialize_i32(&mut self) -> Result<i32>
         ensures reads { Reads Spells (IsInt 32) (λ t v. t ≡ Int 32 v) ⊥ F.left F.able F.may_leave (source_of self.old) result (source_of self.new) }
         ensures refused { IfErr result (λ e. Refuses (WantsDigit 32) (BadNumber 32) F.left F.able (source_of self.old) e (source_of self.new)) }
@@ -174,7 +168,6 @@ impl<'de, F: Flavor> Deserializer<'de, F> {
     /// # Errors
     ///
     /// As `deserialize_u16`.
-    #[tactic(auto, using(crate::proofs::Numbers::int_read, crate::proofs::Numbers::int_refused))]
     pub fn deserialize_i64(&mut self) -> Result<i64>
         ensures reads { Reads Spells (IsInt 64) (λ t v. t ≡ Int 64 v) ⊥ F.left F.able F.may_leave (source_of self.old) result (source_of self.new) }
         ensures refused { IfErr result (λ e. Refuses (WantsDigit 64) (BadNumber 64) F.left F.able (source_of self.old) e (source_of self.new)) }
@@ -188,7 +181,6 @@ impl<'de, F: Flavor> Deserializer<'de, F> {
     /// # Errors
     ///
     /// As `deserialize_u16`.
-    #[tactic(auto, using(crate::proofs::Numbers::int_read, crate::proofs::Numbers::int_refused))]
     pub fn deserialize_i128(&mut self) -> Result<i128>
         ensures reads { Reads Spells (IsInt 128) (λ t v. t ≡ Int 128 v) ⊥ F.left F.able F.may_leave (source_of self.old) result (source_of self.new) }
         ensures refused { IfErr result (λ e. Refuses (WantsDigit 128) (BadNumber 128) F.left F.able (source_of self.old) e (source_of self.new)) }
