@@ -72,3 +72,7 @@ module _ {S : Type 0} {left : S → Option (List ℕ)} {able : S → ℕ → Typ
       not_encoding : Refuses wants bad left able old e new → e ≡ DeserializeBadEncoding → ⊥
       not_encoding (inl (is_end, ends)) h = cc
       not_encoding (inr b) h = excludes.never b.front (subst (bad b.front) h b.why)
+
+  -- Memory ran out.
+  pub out_of_memory : {X V : Type 0} {spelled : X → List ℕ → Type 0} {reads : X → Type 0} {value : X → V → Type 0} {grows : Type 0} {old new : S} → may_leave old new → grows → Reads spelled reads value grows left able may_leave old (refusal V OutOfMemory) new
+  out_of_memory l h = record { gives = tt; accepts = λ x p a b c. refl; leaves = l; grown = λ e. h; never = λ e. cc }

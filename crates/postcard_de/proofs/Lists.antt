@@ -9,10 +9,10 @@ use Rattle.postcard_wire.specs.Reading.{Each, IsSeq}
 use Rattle.postcard_de_flavors.specs.Source.{CanTake, Takes, Laws}
 use Rattle.postcard_de.specs.Reads.{Reads}
 use Rattle.postcard_de.specs.Values.{Same, EachIs, ListIs, SomeIs, AreRead}
-use Rattle.postcard_de.proofs.Taking.{nothing_taken}
-use Rattle.postcard_de.proofs.Leaves.{refusal}
+use Rattle.postcard_de.proofs.Taking.{nothing_taken, can_first}
+use Rattle.postcard_de.proofs.Leaves.{refusal, out_of_memory}
 use Rattle.postcard_de.proofs.Numbers.{Below}
-use Rattle.postcard_de.proofs.Compound.{Compound, first_refused, second_refused, both_read, out_of_memory}
+use Rattle.postcard_de.proofs.Compound.{Compound, first_refused, second_refused, both_read}
 
 -- One more value in front of those that are read.
 abbrev pub with_first : {V : Type 0} → V → Result (List V) Error → Result (List V) Error
@@ -25,9 +25,8 @@ behind us (Ok vs) = Ok (us ++ vs)
 behind us (Err e) = Err e
 
 -- Trees in a row are one and the rest.
-pub one_and_rest : {V : Type 0} (R : Tree → Type 0) (I : Tree → V → Type 0) (n : ℕ) → Compound Spells R I SpellsAll (λ v ts. AreRead n R ts) SpellsAll (AreRead (suc n) R)
-one_and_rest R I n = record {
-  make = Then;
+pub one_and_rest : {V : Type 0} (R : Tree → Type 0) (I : Tree → V → Type 0) (n : ℕ) → Compound Then Spells R I SpellsAll (λ v ts. AreRead n R ts) SpellsAll (AreRead (suc n) R)
+one_and_rest {V} R I n = record {
   joined = λ t ts v p q r i s a b. ((ap suc s.0, (r, s.1)), (p, q, a, b, refl));
   parted = parted;
 }
@@ -37,9 +36,8 @@ one_and_rest R I n = record {
     parted (Then t ts) r a (p, q, s, k, e) = (t, ts, p, q, refl, a.1.0, s, k, e, λ v i. (omega (arith, a.0), a.1.1))
 
 -- A list is a count and as many trees.
-pub count_and_parts : (R : Tree → Type 0) → Compound (SpellsNum 64) (Below 64) Same SpellsAll (λ n ts. AreRead n R ts) Spells (IsSeq R)
+pub count_and_parts : (R : Tree → Type 0) → Compound (λ (n : ℕ) ts. Seq ts) (SpellsNum 64) (Below 64) Same SpellsAll (λ n ts. AreRead n R ts) Spells (IsSeq R)
 count_and_parts R = record {
-  make = λ n ts. Seq ts;
   joined = λ n ts v p q low same s a b.
       let e : n ≡ count ts = same ∙ sym s.0 in
       ((ts, refl, subst (Below 64) e low, s.1), (p, q, subst (λ (m : ℕ). SpellsNum 64 m p) e a, b, refl));
@@ -76,7 +74,7 @@ module _ {S V : Type 0} {left : S → Option (List ℕ)} {able : S → ℕ → T
   -- Memory ran out.
   pub going_full : {start now new : S} {all rest : ℕ} {items : List V} → H → Going left able may_leave R I H start all items now (suc rest) → may_leave now new →
     Reads SpellsAll (AreRead all R) (EachIs I) H left able may_leave start (refusal (List V) OutOfMemory) new
-  going_full {new = new} {rest = rest} h so l = so.ends (Err OutOfMemory) new (out_of_memory laws (one_and_rest R I rest) l h)
+  going_full {new = new} h so l = so.ends (Err OutOfMemory) new (out_of_memory l h)
 
   -- None is left.
   pub going_done : {start now : S} {all : ℕ} {items : List V} → Going left able may_leave R I H start all items now 0 →
@@ -105,6 +103,18 @@ module _ {S V : Type 0} {left : S → Option (List ℕ)} {able : S → ℕ → T
     Reads Spells (IsSeq R) (λ t x. ListIs I t (see x)) H left able may_leave old (refusal A e) new
   list_refused see h k = second_refused laws (count_and_parts R) (λ g. g) h k
 
+module _ {S : Type 0} {left : S → Option (List ℕ)} {able : S → ℕ → Type 0} {may_leave : S → S → Type 0} (laws : Laws left able may_leave) {R : Tree → Type 0} {H : Type 0} where
+  -- The count was refused.
+  pub count_refused : {A W : Type 0} {value : ℕ → W → Type 0} {K : Tree → A → Type 0} {old new : S} {e : Error} → Reads (SpellsNum 64) (Below 64) value ⊥ left able may_leave old (refusal W e) new → Reads Spells (IsSeq R) K H left able may_leave old (refusal A e) new
+  count_refused r = record {
+    gives = tt;
+    accepts = λ t p a s c. let q : Spells (Seq a.0) p = rw a.1 at s in r.accepts (count a.0) q.0 a.2 q.2 (can_first laws q.0 q.1 (rw q.4 at c));
+    leaves = r.leaves;
+    grown = λ h. absurd (r.grown cc);
+    never = λ h. r.never cc;
+  }
+
+module _ {S V : Type 0} {left : S → Option (List ℕ)} {able : S → ℕ → Type 0} {may_leave : S → S → Type 0} {R : Tree → Type 0} {I : Tree → V → Type 0} where
   -- An element that was read is some.
   pub unwrapped : {G : Type 0} {old new : S} {v : V} → Reads Spells R (SomeIs I) G left able may_leave old (Ok (Some v)) new → Reads Spells R I G left able may_leave old (Ok v) new
   unwrapped r = record {
