@@ -1,0 +1,37 @@
+-- When two values look alike to contracts, and the law that a tree has one value so seen.
+use Rattle.std.specs.Prelude.{◌≡◌, ℕ, List, [], ◌∷◌}
+use Rattle.std.proofs.Common.{sym, ◌∙◌, ap, subst}
+use Rattle.postcard_wire.specs.Tree.{Tree, Trees, Seq, NoTrees, Then}
+use Rattle.postcard_de.specs.Values.{EachIs, ListIs}
+
+-- Two values of one tree look alike.
+abbrev pub HasOne : {V : Type 0} → (Tree → V → Type 0) → (V → V → Type 0) → Type 0
+HasOne {V} value same = (t : Tree) (v w : V) → value t v → value t w → same v w
+
+-- Two lists look alike, one by one.
+abbrev pub SameList : {V : Type 0} → (V → V → Type 0) → List V → List V → Type 0
+SameList same [] [] = Unit {0}
+SameList same (v ∷ vs) (w ∷ ws) = same v w × SameList same vs ws
+SameList same _ _ = ⊥
+
+-- A tree that is made of what is seen of a value, by a constructor that loses nothing.
+pub node_one : {V A : Type 0} (node : A → Tree) (see : V → A) → ((a b : A) → node a ≡ node b → a ≡ b) → HasOne (λ t v. t ≡ node (see v)) (λ v w. see v ≡ see w)
+node_one node see injective t v w h k = injective (see v) (see w) (sym h ∙ k)
+
+-- What trees in a row have for values, one by one.
+pub each_one : {V : Type 0} (value : Tree → V → Type 0) (same : V → V → Type 0) → HasOne value same → (ts : Trees) (vs ws : List V) → EachIs value ts vs → EachIs value ts ws → SameList same vs ws
+each_one value same one NoTrees [] [] h k = tt
+each_one value same one NoTrees [] (w ∷ ws) h k = absurd k
+each_one value same one NoTrees (v ∷ vs) ws h k = absurd h
+each_one value same one (Then t ts) [] ws h k = absurd h
+each_one value same one (Then t ts) (v ∷ vs) [] h k = absurd k
+each_one value same one (Then t ts) (v ∷ vs) (w ∷ ws) h k = (one t v w h.0 k.0, each_one value same one ts vs ws h.1 k.1)
+
+parts_same : (ts ss : Trees) → Seq ts ≡ Seq ss → ts ≡ ss
+parts_same ts ss e = cc
+
+-- A list has one value where its elements do.
+pub list_one : {V L : Type 0} (see : L → List V) (value : Tree → V → Type 0) (same : V → V → Type 0) → HasOne value same → HasOne (λ t l. ListIs value t (see l)) (λ l m. SameList same (see l) (see m))
+list_one see value same one t l m h k =
+    let e = parts_same k.0 h.0 (sym k.1 ∙ h.1) in
+    each_one value same one h.0 (see l) (see m) h.2 (subst (λ (ts : Trees). EachIs value ts (see m)) e k.2)

@@ -1,0 +1,27 @@
+-- The values of trees, for types that read them: relations between a tree and what a contract sees of a value.
+use Rattle.std.specs.Prelude.{◌≡◌, ℕ, ◌<◌, List, [], ◌∷◌, Option, None, Some}
+use Rattle.postcard_wire.specs.Tree.{Tree, Trees, Seq, NoTrees, Then, count}
+use Rattle.postcard_wire.specs.Reading.{Each}
+
+-- Each value is one of its tree, in order.
+abbrev pub EachIs : {V : Type 0} → (Tree → V → Type 0) → Trees → List V → Type 0
+EachIs value NoTrees [] = Unit {0}
+EachIs value (Then t ts) (v ∷ vs) = value t v × EachIs value ts vs
+EachIs value _ _ = ⊥
+
+-- A list's values are those of its parts.
+abbrev pub ListIs : {V : Type 0} → (Tree → V → Type 0) → Tree → List V → Type 0
+ListIs value t vs = (ts : Trees) × (t ≡ Seq ts) × EachIs value ts vs
+
+-- There is a value, and it is one of the tree.
+abbrev pub SomeIs : {V : Type 0} → (Tree → V → Type 0) → Tree → Option V → Type 0
+SomeIs value t None = ⊥
+SomeIs value t (Some v) = value t v
+
+-- Trees in a row, n of them, each of which is read.
+abbrev pub AreRead : ℕ → (Tree → Type 0) → Trees → Type 0
+AreRead n reads ts = (count ts ≡ n) × Each reads ts
+
+-- The number is the value.
+abbrev pub Same : ℕ → ℕ → Type 0
+Same n v = n ≡ v

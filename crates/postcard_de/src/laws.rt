@@ -1,0 +1,1 @@
+//! Laws of every type that reads. The functions do nothing: their contracts are the laws.

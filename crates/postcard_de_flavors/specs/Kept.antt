@@ -1,0 +1,12 @@
+-- The source over a slice keeps to the laws of a source: its state is the list of the bytes left.
+use Rattle.std.specs.Prelude.{ℕ, ◌≤◌, List, [], ◌++◌, length, Some, refl}
+use Rattle.std.proofs.Common.{◌∙◌, sym, ap, arith, append_assoc}
+use Rattle.postcard_de_flavors.specs.Source.{Laws, IsEndOf}
+
+-- Fewer bytes than a list has, and ends of ends.
+pub slice_laws : Laws (λ (s : List ℕ). Some s) (λ s n. n ≤ length s) (λ s t. IsEndOf t s)
+slice_laws = record {
+  fewer = λ s m n le enough. omega arith;
+  itself = λ s. ([], refl);
+  joins = λ s t u a b. (a.0 ++ b.0, a.1 ∙ (ap (λ (l : List ℕ). a.0 ++ l) b.1 ∙ sym (append_assoc a.0 b.0 u)));
+}

@@ -1,0 +1,170 @@
+//! The source over a slice.
+
+ghost use Rattle.std.specs.Prelude.{◌≡◌, ◌↔◌, ℕ, ◌≤◌, ◌-◌, List, [], ◌∷◌, ◌++◌, length, Some, IfOk, IfErr, OnErr, IsOk, MatchResult};
+ghost use Rattle.postcard_de_flavors.specs.Source.{Takes, IsEndOf};
+ghost use Rattle.postcard_de_flavors.specs.Kept.{slice_laws};
+
+use crate::flavor::Flavor;
+use postcard_wire::{Error, Result};
+use std::marker::Model;
+
+/// The bytes of a slice.
+#[derive(Drop)]
+struct Bytes<'de> {
+    bytes: &'de [u8],
+}
+
+impl<'de> Model for Bytes<'de> {
+    ghost use Rattle.std.specs.Prelude.{List, ℕ};
+
+    ghost Value = { List ℕ };
+
+    ghost view = { λ s. s.bytes.now };
+}
+
+impl<'de> Bytes<'de> {
+    /// The bytes of this slice.
+    fn new(bytes: &'de [u8]) -> Bytes<'de>
+        ensures { result ≡ bytes.now }
+    {
+        Bytes { bytes }
+    }
+
+    /// All of them, `len` in number.
+    fn all(&mut self, len: usize) -> &'de [u8]
+        requires { len ≡ length self.old }
+        ensures same { self.new ≡ self.old }
+        ensures all { result.now ≡ self.old }
+    {
+        &self.bytes[..len]
+    }
+}
+
+/// Reads from a slice. A contract sees it as the list of the bytes left.
+#[derive(Drop)]
+pub struct Slice<'de> {
+    bytes: Bytes<'de>,
+    len: usize,
+    position: usize,
+}
+
+impl<'de> Model for Slice<'de> {
+    ghost use Rattle.std.specs.Prelude.{List, ℕ, ◌≡◌, ◌≤◌, drop, length};
+
+    ghost Value = { List ℕ };
+
+    ghost view = { λ s. drop s.position s.bytes };
+
+    ghost invariant = { λ s. (s.position ≤ s.len) × (s.len ≡ length s.bytes) };
+}
+
+impl<'de> Slice<'de> {
+    /// A source of these bytes.
+    pub fn new(bytes: &'de [u8]) -> Slice<'de>
+        ensures { result ≡ bytes.now }
+    {
+        Slice {
+            bytes: Bytes::new(bytes),
+            len: bytes.len(),
+            position: 0,
+        }
+    }
+}
+
+impl<'de> Flavor for Slice<'de> {
+    type Remainder = &'de [u8];
+    type Source = &'de [u8];
+
+    ghost left = { λ s. Some s };
+
+    ghost able = { λ s n. n ≤ length s };
+
+    ghost may_leave = { λ s t. IsEndOf t s };
+
+    ghost finishes = { λ s r. MatchResult r (λ rest. rest.now ≡ s) (λ e. ⊥) };
+
+    ghost hint = { λ s. Some (length s) };
+
+    ghost lawful = { slice_laws };
+
+    /// Takes the first byte.
+    ///
+    /// # Errors
+    ///
+    /// `DeserializeUnexpectedEnd` exactly where no byte is left; nothing is changed then.
+    fn pop(&mut self) -> Result<u8>
+        ensures gives { IfOk result (λ b. Takes ⟦<Slice<'de> as Flavor>⟧.left ⟦<Slice<'de> as Flavor>⟧.able self.old (b ∷ []) self.new) }
+        ensures leaves { ⟦<Slice<'de> as Flavor>⟧.may_leave self.old self.new }
+        ensures refuses { IfErr result (λ e. e ≡ Error.DeserializeUnexpectedEnd) }
+        ensures exact { IsOk result ↔ (1 ≤ length self.old) }
+        ensures unchanged { OnErr result (self.new ≡ self.old) }
+    {
+        if self.position == self.len {
+            return Err(Error::DeserializeUnexpectedEnd);
+        }
+        let len = self.len;
+        let all = self.bytes.all(len);
+        let byte = all[self.position];
+        self.position += 1;
+        Ok(byte)
+    }
+
+    /// How many bytes are left.
+    fn size_hint(&self) -> Option<usize>
+        ensures { result ≡ Some (length self.now) }
+    {
+        Some(self.len - self.position)
+    }
+
+    /// Takes the first `ct` bytes.
+    ///
+    /// # Errors
+    ///
+    /// `DeserializeUnexpectedEnd` exactly where fewer are left; nothing is changed then.
+    fn try_take_n<'a>(&mut self, ct: usize) -> Result<&'a [u8]>
+    where
+        Self: 'a,
+        ensures length { IfOk result (λ front. length front.now ≡ ct) }
+        ensures gives { IfOk result (λ front. Takes ⟦<Slice<'de> as Flavor>⟧.left ⟦<Slice<'de> as Flavor>⟧.able self.old front.now self.new) }
+        ensures leaves { ⟦<Slice<'de> as Flavor>⟧.may_leave self.old self.new }
+        ensures refuses { IfErr result (λ e. e ≡ Error.DeserializeUnexpectedEnd) }
+        ensures exact { IsOk result ↔ (ct ≤ length self.old) }
+        ensures unchanged { OnErr result (self.new ≡ self.old) }
+    {
+        if self.len - self.position < ct {
+            return Err(Error::DeserializeUnexpectedEnd);
+        }
+        let len = self.len;
+        let all = self.bytes.all(len);
+        let from = self.position;
+        self.position += ct;
+        Ok(&all[from..from + ct])
+    }
+
+    /// Takes the first `ct` bytes.
+    ///
+    /// # Errors
+    ///
+    /// `DeserializeUnexpectedEnd` exactly where fewer are left.
+    fn try_take_n_temp(&mut self, ct: usize) -> Result<&[u8]> {
+        if self.len - self.position < ct {
+            return Err(Error::DeserializeUnexpectedEnd);
+        }
+        let len = self.len;
+        let all = self.bytes.all(len);
+        let from = self.position;
+        self.position += ct;
+        Ok(&all[from..from + ct])
+    }
+
+    /// The bytes left; never fails.
+    fn finalize(self) -> Result<&'de [u8]> {
+        let Slice {
+            mut bytes,
+            len,
+            position,
+        } = self;
+        let all = bytes.all(len);
+        Ok(&all[position..])
+    }
+}
