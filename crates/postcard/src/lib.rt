@@ -8,10 +8,14 @@
 //! - `from_bytes` and `take_from_bytes` read a value from the front of a slice (module `de`).
 #![tactic(auto)]
 
+mod de;
 mod ser;
 #[cfg(test)]
 mod tests;
 
+pub use de::{from_bytes, take_from_bytes};
+pub use postcard_de::{Deserialize, Deserializer, SeqAccess};
+pub use postcard_de_flavors as de_flavors;
 pub use postcard_ser::{Serialize, Serializer};
 pub use postcard_ser_flavors as ser_flavors;
 pub use postcard_wire::{Error, Result};
