@@ -1,8 +1,8 @@
 -- A signed number is in its range exactly where its zigzag is below the power of two of its width.
 use Rattle.std.proofs.Common.{◌≡◌, ℕ, zero, suc, ◌+◌, ◌-◌, ◌*◌, ◌/◌, ◌%◌, ◌<◌, ◌^◌, inl, inr, ℤ, pos, negsuc, refl, arith}
 use Rattle.std.proofs.lemmas.Int.{ints}
-use mir.Syntax.{w16}
-use mir.Val.{SFits}
+use mir.Syntax.{Width, w8, w16, w32, w64, w128}
+use mir.Val.{SFits, bits, hbits}
 use Rattle.postcard_wire.specs.Number.{zigzag, InRange}
 use Rattle.postcard_wire.specs.Tree.{IsWidth}
 
@@ -38,7 +38,19 @@ zig_onto w n wide h =
     let u = unzigzag n in
     (u.0, in_range w u.0 wide (rw u.1 h), u.1)
 
--- What is known of a signed value of 16 bits in the code.
+-- Half the numbers of a width of the code are below 0.
+halves : (w : Width) → 2 ^ (bits w - 1) ≡ 2 ^ hbits w
+halves w8 = refl
+halves w16 = refl
+halves w32 = refl
+halves w64 = refl
+halves w128 = refl
+
+-- A signed value of the code is in the range of its width.
+pub ranged : (w : Width) (z : ℤ) → SFits w z → InRange (bits w) z
+ranged w (pos n) f = let e = halves w in (omega (arith, ints, f.sfits), omega (arith, ints, f.sfits))
+ranged w (negsuc n) f = let e = halves w in (omega (arith, ints, f.sfits), omega (arith, ints, f.sfits))
+
+-- The same at 16 bits.
 pub ranged_16 : (z : ℤ) → SFits w16 z → InRange 16 z
-ranged_16 (pos n) f = (omega (arith, ints, f.sfits), omega (arith, ints, f.sfits))
-ranged_16 (negsuc n) f = (omega (arith, ints, f.sfits), omega (arith, ints, f.sfits))
+ranged_16 = ranged w16
