@@ -28,17 +28,15 @@ fn read(bits: u32, bytes: &[u8]) -> Result<(u128, usize)>
 /// multiplicative generator. Taken modulo a width they are edges and samples of that width.
 fn numbers(alloc: Global) -> std::result::Result<Vec<u128>, AllocError> {
     let mut numbers = Vec::new(alloc);
-    for place in 0..128u32 {
-        let power = 1u128 << place;
-        numbers.push(power - 1)?;
-        numbers.push(power)?;
-        numbers.push(power.wrapping_add(1))?;
+    let mut power = 1u128;
+    for _ in 0..129 {
+        numbers.extend_from_slice(&[power.wrapping_sub(1), power, power.wrapping_add(1)])?;
+        power = power.wrapping_mul(2);
     }
-    numbers.push(u128::MAX)?;
-    let mut state = 1u128;
+    let mut sample = 1u128;
     for _ in 0..300 {
-        state = state.wrapping_mul(0x2360_ED05_1FC6_5DA4_4385_DF64_9FCC_F645);
-        numbers.push(state)?;
+        sample = sample.wrapping_mul(0x2360_ED05_1FC6_5DA4_4385_DF64_9FCC_F645);
+        numbers.push(sample)?;
     }
     Ok(numbers)
 }
