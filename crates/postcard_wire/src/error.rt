@@ -67,7 +67,7 @@ impl Error {
     pub fn ser_custom<M: Display + Drop>(_msg: M) -> Error
         ensures { result ≡ Error.SerdeSerCustom }
     {
-        Error::SerdeSerCustom
+        Self::SerdeSerCustom
     }
 
     /// What a type answers that has no value for the bytes: [`Error::SerdeDeCustom`], whatever its message, which is
@@ -75,7 +75,7 @@ impl Error {
     pub fn de_custom<M: Display + Drop>(_msg: M) -> Error
         ensures { result ≡ Error.SerdeDeCustom }
     {
-        Error::SerdeDeCustom
+        Self::SerdeDeCustom
     }
 }
 
