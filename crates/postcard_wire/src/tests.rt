@@ -200,34 +200,77 @@ fn has_its_most_bytes_at_the_greatest(rt: HostRuntime) {
 
 #[test]
 fn reads_padded_numbers_and_refuses_great_ones(rt: HostRuntime) {
-    let bad = Err(Error::DeserializeBadVarint);
-    let end = Err(Error::DeserializeUnexpectedEnd);
-    assert_eq!(rt; read(16, &[0x80, 0x00]), Ok((0, 2)));
-    assert_eq!(rt; read(16, &[0x80, 0x80, 0x00, 0x07]), Ok((0, 3)));
-    assert_eq!(rt; read(16, &[0x80, 0x80, 0x04]), bad);
-    assert_eq!(rt; read(16, &[0x80, 0x80, 0x80, 0x00]), bad);
-    assert_eq!(rt; read(16, &[]), end);
-    assert_eq!(rt;
-        read(32, &[0xFF, 0xFF, 0xFF, 0xFF, 0x0F]),
-        Ok((u128::from(u32::MAX), 5))
-    );
-    assert_eq!(rt; read(32, &[0xFF, 0xFF, 0xFF, 0xFF, 0x1F]), bad);
-    assert_eq!(rt; read(32, &[0xFF, 0xFF, 0xFF, 0xFF, 0xFF, 0x01]), bad);
-    assert_eq!(rt; read(32, &[0xFF, 0xFF, 0xFF, 0xFF]), end);
-    assert_eq!(rt;
-        read(
-            64,
-            &[0xFF, 0xFF, 0xFF, 0xFF, 0xFF, 0xFF, 0xFF, 0xFF, 0xFF, 0x01]
+    for (bytes, wanted) in [
+        ([0x80, 0x00].as_slice(), Ok((0, 2))),
+        ([0x80, 0x80, 0x00, 0x07].as_slice(), Ok((0, 3))),
+        ([0xFF, 0xFF, 0x03].as_slice(), Ok((0xFFFF, 3))),
+        (
+            [0x80, 0x80, 0x04].as_slice(),
+            Err(Error::DeserializeBadVarint),
         ),
-        Ok((u128::from(u64::MAX), 10))
-    );
-    assert_eq!(rt;
-        read(
-            64,
-            &[0xFF, 0xFF, 0xFF, 0xFF, 0xFF, 0xFF, 0xFF, 0xFF, 0xFF, 0x02]
+        (
+            [0x80, 0x80, 0x80, 0x00].as_slice(),
+            Err(Error::DeserializeBadVarint),
         ),
-        bad
-    );
+        (
+            [0x80, 0x80].as_slice(),
+            Err(Error::DeserializeUnexpectedEnd),
+        ),
+        ([].as_slice(), Err(Error::DeserializeUnexpectedEnd)),
+    ] {
+        assert_eq!(rt; read(16, bytes), wanted, "16 bits of {bytes:?}");
+    }
+    for (bytes, wanted) in [
+        (
+            [0xFF, 0xFF, 0xFF, 0xFF, 0x0F].as_slice(),
+            Ok((0xFFFF_FFFF, 5)),
+        ),
+        (
+            [0xFF, 0xFF, 0xFF, 0xFF, 0x1F].as_slice(),
+            Err(Error::DeserializeBadVarint),
+        ),
+        (
+            [0xFF, 0xFF, 0xFF, 0xFF, 0xFF, 0x01].as_slice(),
+            Err(Error::DeserializeBadVarint),
+        ),
+        (
+            [0xFF, 0xFF, 0xFF, 0xFF].as_slice(),
+            Err(Error::DeserializeUnexpectedEnd),
+        ),
+    ] {
+        assert_eq!(rt; read(32, bytes), wanted, "32 bits of {bytes:?}");
+    }
+}
+
+/// Of 64 and 128 bits the full length with a last byte of 0, the greatest allowed, one more, and one that goes on.
+#[test]
+fn refuses_a_last_byte_past_the_width(rt: HostRuntime) {
+    for (last, wanted) in [
+        (0x00, Ok((0x7FFF_FFFF_FFFF_FFFF, 10))),
+        (varint::MAX_OF_LAST_BYTE_64, Ok((0xFFFF_FFFF_FFFF_FFFF, 10))),
+        (
+            varint::MAX_OF_LAST_BYTE_64 + 1,
+            Err(Error::DeserializeBadVarint),
+        ),
+        (0x80, Err(Error::DeserializeBadVarint)),
+    ] {
+        let mut bytes = [0xFF; varint::VARINT_MAX_64];
+        bytes[9] = last;
+        assert_eq!(rt; read(64, &bytes), wanted, "last byte {last}");
+    }
+    for (last, wanted) in [
+        (0x00, Ok((u128::MAX >> 2, 19))),
+        (varint::MAX_OF_LAST_BYTE_128, Ok((u128::MAX, 19))),
+        (
+            varint::MAX_OF_LAST_BYTE_128 + 1,
+            Err(Error::DeserializeBadVarint),
+        ),
+        (0x80, Err(Error::DeserializeBadVarint)),
+    ] {
+        let mut bytes = [0xFF; varint::VARINT_MAX_128];
+        bytes[18] = last;
+        assert_eq!(rt; read(128, &bytes), wanted, "last byte {last}");
+    }
 }
 
 #[test]
@@ -244,14 +287,14 @@ fn folds_the_vectors(rt: HostRuntime) {
         assert_eq!(rt; zigzag::zig_zag_i16(z), n, "{z}");
         assert_eq!(rt; zigzag::de_zig_zag_i16(n), z, "{n}");
     }
+    for (z, n) in [(-1, 1), (i128::MAX, u128::MAX - 1), (i128::MIN, u128::MAX)] {
+        assert_eq!(rt; zigzag::zig_zag_i128(z), n, "{z}");
+        assert_eq!(rt; zigzag::de_zig_zag_i128(n), z, "{n}");
+        assert_eq!(rt; plain::zig_zag(z), n, "{z}");
+        assert_eq!(rt; plain::de_zig_zag(n), z, "{n}");
+    }
     assert_eq!(rt; zigzag::zig_zag_i32(i32::MIN), u32::MAX);
     assert_eq!(rt; zigzag::zig_zag_i64(i64::MIN), u64::MAX);
-    assert_eq!(rt; zigzag::zig_zag_i128(i128::MIN), u128::MAX);
-    assert_eq!(rt; plain::zig_zag(i128::MIN), u128::MAX);
-    assert_eq!(rt; zigzag::de_zig_zag_i32(u32::MAX), i32::MIN);
-    assert_eq!(rt; zigzag::de_zig_zag_i64(u64::MAX), i64::MIN);
-    assert_eq!(rt; zigzag::de_zig_zag_i128(u128::MAX), i128::MIN);
-    assert_eq!(rt; plain::de_zig_zag(u128::MAX), i128::MIN);
 }
 
 #[test]

@@ -1,4 +1,4 @@
--- The composed laws of `Delimited` at the set that the type parameter names.
+-- The laws are lemmas of `Delimited`, at the set that the type names.
 use Rattle.postcard_wire.proofs.Delimited.{option_delimited, seq_delimited, array_delimited}
 use Rattle.postcard_wire.proofs.laws.self_delimiting_containers.Goals as goal
 

@@ -1,3 +1,4 @@
+-- The laws are lemmas of `Delimited`, at the sets that the types name.
 use Rattle.postcard_wire.proofs.Delimited.{end_delimited, then_delimited, group_delimited}
 use Rattle.postcard_wire.proofs.laws.self_delimiting_parts.Goals as goal
 

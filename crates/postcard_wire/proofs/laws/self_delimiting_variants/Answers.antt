@@ -1,3 +1,4 @@
+-- The law is a lemma of `Delimited`, at the sets that the type names.
 use Rattle.postcard_wire.proofs.Delimited.{variant_delimited}
 use Rattle.postcard_wire.proofs.laws.self_delimiting_variants.Goals as goal
 

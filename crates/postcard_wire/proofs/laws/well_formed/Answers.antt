@@ -1,3 +1,4 @@
+-- The laws are lemmas of `WellFormed`.
 use Rattle.postcard_wire.proofs.WellFormed.{byte_well_formed, boolean_well_formed, num_well_formed, int_well_formed, char_well_formed, text_well_formed}
 use Rattle.postcard_wire.proofs.laws.well_formed.Goals as goal
 

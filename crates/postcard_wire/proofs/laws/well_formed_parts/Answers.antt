@@ -1,3 +1,4 @@
+-- The laws are lemmas of `WellFormed`, at the sets that the types name.
 use Rattle.postcard_wire.proofs.WellFormed.{end_well_formed, then_well_formed, group_well_formed}
 use Rattle.postcard_wire.proofs.laws.well_formed_parts.Goals as goal
 

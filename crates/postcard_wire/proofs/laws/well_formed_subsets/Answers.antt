@@ -1,3 +1,4 @@
+-- The law is a lemma of `WellFormed`, at the sets that the types name.
 use Rattle.postcard_wire.proofs.WellFormed.{fewer_well_formed}
 use Rattle.postcard_wire.proofs.laws.well_formed_subsets.Goals as goal
 

@@ -1,3 +1,4 @@
+-- The laws are lemmas of `Ranged` and `Delimited`.
 use Rattle.postcard_wire.proofs.Delimited.{zig_same}
 use Rattle.postcard_wire.proofs.Ranged.{zig_below, zig_onto}
 use Rattle.postcard_wire.proofs.laws.zigzags.Goals as goal

@@ -1,3 +1,4 @@
+-- What is written so far are the first digits of the number, and the rest shrinks.
 use Rattle.postcard_wire.proofs.Writing.{IsPartly}
 use Rattle.postcard_wire.proofs.plain.spell.Given as goal
 

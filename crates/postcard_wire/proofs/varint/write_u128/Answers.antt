@@ -1,3 +1,4 @@
+-- A turn writes one digit more.
 use Rattle.postcard_wire.proofs.Writing.{one_written_bits}
 use Rattle.postcard_wire.proofs.varint.write_u128.Goals as goal
 

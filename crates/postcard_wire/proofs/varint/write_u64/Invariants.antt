@@ -1,3 +1,4 @@
+-- What is written so far are the first digits of the number, and the rest shrinks.
 use Rattle.postcard_wire.proofs.Writing.{IsBegun}
 use Rattle.postcard_wire.proofs.varint.write_u64.Given as goal
 
