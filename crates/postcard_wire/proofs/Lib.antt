@@ -1,10 +1,11 @@
+-- The lemmas, by subject.
 pub mod Numbers
-pub mod Ranged
-pub mod Shortest
-pub mod Delimited
 pub mod Writing
-pub mod Folded
 pub mod Pushed
 pub mod Refused
-pub mod Listed
+pub mod Ranged
+pub mod Folded
+pub mod Shortest
+pub mod Delimited
 pub mod WellFormed
+pub mod Listed

@@ -1,31 +1,34 @@
--- The trees of a list, one by one.
+-- The trees of a list, written or read one by one.
 use Rattle.std.proofs.Common.{◌≡◌, ℕ, suc, ◌+◌, ◌<◌, ◌≤◌, List, [], ◌∷◌, ◌++◌, length, map, take, get_or, refl, sym, ap, ap₂, ◌∙◌, append_assoc, append-nil}
 use Rattle.std.proofs.lemmas.List.{take_more, take_all, map_push, length-map}
 use Rattle.postcard_wire.specs.Number.{digits}
-use Rattle.postcard_wire.specs.Tree.{Tree, Seq, count, trees}
-use Rattle.postcard_wire.specs.Spelling.{Spells, SpellsAll, bytes, bytes_all}
 use Rattle.postcard_wire.specs.Reading.{Each}
+use Rattle.postcard_wire.specs.Spelling.{Spells, SpellsAll, bytes, bytes_all}
+use Rattle.postcard_wire.specs.Tree.{Tree, Seq, count, trees}
 
+-- There are as many trees as the list has.
 pub count-trees : (ts : List Tree) → count (trees ts) ≡ length ts
 count-trees [] = refl
 count-trees (t ∷ ts) = ap suc (count-trees ts)
 
--- one more is written
+-- One tree more is written behind the others.
 pub bytes_all-push : (ts : List Tree) (t : Tree) → bytes_all (trees (ts ++ t ∷ [])) ≡ bytes_all (trees ts) ++ bytes t
 bytes_all-push [] t = append-nil (bytes t)
 bytes_all-push (s ∷ ts) t = ap (λ (l : List ℕ). bytes s ++ l) (bytes_all-push ts t) ∙ sym (append_assoc (bytes s) (bytes_all (trees ts)) (bytes t))
 
--- one more is read
+-- One tree more is read behind the others.
 pub SpellsAll-push : (ts : List Tree) (t : Tree) (p q : List ℕ) → SpellsAll (trees ts) p → Spells t q → SpellsAll (trees (ts ++ t ∷ [])) (p ++ q)
 SpellsAll-push [] t p q s r = (q, [], r, refl, ap (λ (l : List ℕ). l ++ q) s ∙ sym (append-nil q))
 SpellsAll-push (u ∷ ts) t p q s r =
     (s.0, s.1 ++ q, s.2, SpellsAll-push ts t s.1 q s.3 r, ap (λ (l : List ℕ). l ++ q) s.4 ∙ append_assoc s.0 s.1 q)
 
+-- One tree more is of the set, as the others are.
 pub Each-push : (reads : Tree → Type 0) (ts : List Tree) (t : Tree) → Each reads (trees ts) → reads t → Each reads (trees (ts ++ t ∷ []))
 Each-push reads [] t e r = (r, tt)
 Each-push reads (u ∷ ts) t e r = (e.0, Each-push reads ts t e.1 r)
 
--- a loop that writes what a list has, one by one, behind start and some digits d
+-- A turn of a loop that writes a list behind what stood there (start) and the digits of its length (d): where the
+-- first i elements were written and x, the next, has been, the first i + 1 are.
 pub written_more : {X : Type 0} (f : X → Tree) (xs : List X) (i : ℕ) (x : X) (start d mid new : List ℕ)
     → mid ≡ start ++ (d ++ bytes_all (trees (map f (take i xs)))) → new ≡ mid ++ bytes (f x) → i < length xs → x ≡ get_or xs i x
     → new ≡ start ++ (d ++ bytes_all (trees (map f (take (i + 1) xs))))
@@ -35,6 +38,7 @@ written_more {X} f xs i x start d mid new e g h k =
     let b = ap (λ (l : List Tree). bytes_all (trees l)) m ∙ bytes_all-push (map f (take i xs)) (f x) in
     g ∙ (ap (λ (l : List ℕ). l ++ bytes (f x)) e ∙ (append_assoc start _ (bytes (f x)) ∙ ap (λ (l : List ℕ). start ++ l) (append_assoc d _ (bytes (f x)) ∙ ap (λ (l : List ℕ). d ++ l) (sym b))))
 
+-- The end of such a loop: all elements were written, so what is new is the list's shortest spelling.
 pub written_all : {X : Type 0} (f : X → Tree) (xs : List X) (i : ℕ) (start new : List ℕ)
     → new ≡ start ++ (digits (length xs) ++ bytes_all (trees (map f (take i xs)))) → length xs ≤ i → new ≡ start ++ bytes (Seq (trees (map f xs)))
 written_all {X} f xs i start new e h =

@@ -7,13 +7,14 @@ use Rattle.postcard_wire.specs.Spelling.{Spells, SpellsAll, bytes, bytes_all, Be
 use Rattle.postcard_wire.proofs.Ranged.{zig_below}
 use Rattle.postcard_wire.proofs.Numbers.{IsOrLonger, AreDigits-digits_within, number-digits_within, length-digits_within, least_digits}
 
--- j + 1 digits are enough
+-- The shortest digits of a number that j + 1 digits hold spell it, where the width allows so many.
 spells_in : (w j n : ℕ) → n < 128 ^ suc j → n < 128 ^ 19 → suc j ≤ max_digits w → SpellsNum w n (digits n)
 unfolding digits
 spells_in w j n h low few =
     let l = length-digits_within 18 j n h in
     record { digits = AreDigits-digits_within 18 n low; count = omega arith; value = number-digits_within 18 n low }
 
+-- The shortest digits of a number of a width spell it.
 pub SpellsNum-digits : (w n : ℕ) → IsWidth w → n < 2 ^ w → SpellsNum w n (digits n)
 SpellsNum-digits w n wide h =
     elim wide [
@@ -27,11 +28,12 @@ SpellsNum-digits w n wide h =
       ]
     ]
 
+-- Any other spelling of a number is longer.
 pub least_num : (w n : ℕ) (p : List ℕ) → SpellsNum w n p → IsOrLonger p (digits n)
 unfolding digits
 least_num w n p s = subst (λ (m : ℕ). IsOrLonger p (digits_within 18 m)) s.value (least_digits 18 p s.digits)
 
--- parts that are each the shortest or longer
+-- Two parts, each the shortest or longer, make the shortest or longer.
 least_joined : (p x y a b : List ℕ) → IsOrLonger x a → IsOrLonger y b → p ≡ x ++ y → IsOrLonger p (a ++ b)
 least_joined p x y a b f g e =
     elim f [
@@ -45,15 +47,17 @@ least_joined p x y a b f g e =
       ]
     ]
 
+-- A number below 128 ^ (j + 1) has at most j + 1 digits.
 pub length-digits : (j n : ℕ) → n < 128 ^ suc j → length (digits n) ≤ suc j
 unfolding digits
 length-digits j n h = length-digits_within 18 j n h
 
+-- Digits are one at least.
 some_digit : (x : List ℕ) → AreDigits x → 1 ≤ length x
 some_digit [] d = absurd d
 some_digit (a ∷ x) d = omega arith
 
--- a character's own text is the shortest that begins with it
+-- A character's own text is the shortest that begins with it, its length before it.
 least_text : (c : ℕ) (p u x rest : List ℕ) → length u ≤ 4 → SpellsNum 64 (length u) x → p ≡ x ++ u → u ≡ encode_utf8 c ++ rest → IsOrLonger p (digits (length (encode_utf8 c)) ++ encode_utf8 c)
 least_text c p u x [] few s e g =
     let h : u ≡ encode_utf8 c = g ∙ append-nil (encode_utf8 c) in
@@ -65,10 +69,11 @@ least_text c p u x (r ∷ rest) few s e g =
     let m = some_digit x s.digits in
     inr (omega (arith, ap length e, length-append x u, length-append (digits (length (encode_utf8 c))) (encode_utf8 c)))
 
+-- So a character is spelled the shortest by its own text.
 least_char : (c : ℕ) (p u x y : List ℕ) → BeginsWithChar c u → SpellsNum 64 (length u) x → y ≡ u → p ≡ x ++ y → IsOrLonger p (digits (length (encode_utf8 c)) ++ encode_utf8 c)
 least_char c p u x y b s f e = least_text c p u x b.first.0 b.few s (e ∙ ap (λ (v : List ℕ). x ++ v) f) b.first.1
 
--- each spelling of a tree is the shortest, or longer
+-- Each spelling of a tree, and of trees in a row, is the shortest or longer.
 mutual
   pub least : (t : Tree) (p : List ℕ) → Spells t p → IsOrLonger p (bytes t)
   least (Byte b) p s = inl s
@@ -87,13 +92,15 @@ mutual
   least_all NoTrees p s = inl s
   least_all (Then t ts) p s = least_joined p s.0 s.1 (bytes t) (bytes_all ts) (least t s.0 s.2) (least_all ts s.1 s.3) s.4
 
--- the shortest spelling is one
+-- 32 is a width.
 wide_32 : IsWidth 32
 wide_32 = inr (inl refl)
 
+-- 64 is a width.
 wide_64 : IsWidth 64
 wide_64 = inr (inr (inl refl))
 
+-- The shortest spelling of a well formed tree, and of trees in a row, spells it.
 mutual
   pub Spells-bytes : (t : Tree) → WellFormed t → Spells t (bytes t)
   Spells-bytes (Byte b) w = refl

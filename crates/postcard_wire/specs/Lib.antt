@@ -1,3 +1,4 @@
+-- The definitions that contracts cite, in reading order.
 pub mod Number
 pub mod Tree
 pub mod Spelling

@@ -1,13 +1,15 @@
-//! Reads a number byte by byte.
+//! Varints read byte by byte, from wherever the bytes come (wire format 1.0, "varint encoded integers").
+//!
+//! A padded spelling, as `80 00` for 0, is accepted as long as it has no more bytes than the width allows.
 
-ghost use Rattle.std.specs.Prelude.{◌≡◌, ◌≤◌, ◌*◌, ◌++◌, ◌∷◌, [], ℕ, List, MatchBool, IfOk, IfErr, IsOk};
+ghost use Rattle.std.specs.Prelude.{◌≡◌, ◌≤◌, ◌*◌, ◌++◌, ◌∷◌, [], ℕ, List, MatchBool};
 ghost use Rattle.postcard_wire.specs.Digits.{Within};
 ghost use Rattle.postcard_wire.specs.Tree.{IsWidth};
-ghost use Rattle.postcard_wire.specs.Digits.{HasRead, Answers, ReadsNum, Refuses};
+ghost use Rattle.postcard_wire.specs.Digits.{HasRead, Answers};
 
 use crate::error::{Error, Result};
 
-/// The digits so far of a number that goes on.
+/// The digits read so far of a number that goes on: its bytes were all 128 or more, and fewer than its width allows.
 #[derive(Clone, Copy)]
 pub struct Digits {
     value: u128,
@@ -15,14 +17,18 @@ pub struct Digits {
 }
 
 impl Digits {
-    /// No digit yet.
+    /// No digit yet, of a number of any width.
     pub fn new() -> Digits
         ensures { (w : ℕ) → IsWidth w → HasRead w [] result }
     {
         Digits { value: 0, count: 0 }
     }
 
-    /// Takes the next byte of a number of so many bits. Answers the number where this was its last.
+    /// Takes the next byte of a number of 16, 32, 64 or 128 bits, the same at each byte of one number. Answers the
+    /// number where this was its last byte, and `None` where more are to come.
+    ///
+    /// [`Error::DeserializeBadVarint`] comes where the number now has its full length, 3, 5, 10 or 19 bytes, and this
+    /// byte goes on or says more than the width holds. After the number, or the error, begin anew.
     pub fn push(&mut self, bits: u32, byte: u8) -> Result<Option<u128>>
         requires width { IsWidth bits }
         requires begun { (p : List ℕ) × HasRead bits p self.old }
@@ -40,58 +46,12 @@ impl Digits {
     }
 }
 
-/// Whether a digit at this place is within so many bits.
+/// Whether the digit of a byte at a place, the first being 0, stays within so many bits. A byte that goes on counts
+/// as too great where no further place is left.
 fn is_within(bits: u32, place: u32, byte: u8) -> bool
     requires few { bits ≤ 128 }
     requires within { 7 * place ≤ bits }
     ensures { MatchBool result (Within bits place byte) (Within bits place byte → ⊥) }
 {
     7 * place + 7 <= bits || byte >> (bits - 7 * place) == 0
-}
-
-/// Reads the number of so many bits at the front, and answers it with the bytes after it.
-pub fn read_varint(bits: u32, bytes: &[u8]) -> Result<(u128, &[u8])>
-    requires { IsWidth bits }
-    ensures found { IfOk result (λ found. ReadsNum bits bytes.now found.0 found.1.now) }
-    ensures refused { IfErr result (λ e. Refuses bits bytes.now e) }
-    ensures only { (n : ℕ) (rest : List ℕ) → ReadsNum bits bytes.now n rest → IsOk result }
-{
-    let mut digits = Digits::new();
-    for (i, byte) in bytes.iter().enumerate() {
-        match digits.push(bits, *byte) {
-            Ok(Some(n)) => return Ok((n, &bytes[i + 1..])),
-            Ok(None) => {}
-            Err(e) => return Err(e),
-        }
-    }
-    Err(Error::DeserializeUnexpectedEnd)
-}
-
-#[cfg(test)]
-mod tests {
-    use super::*;
-    use crate::varint;
-
-    #[test]
-    fn spells_the_greatest(rt: HostRuntime) {
-        let mut buffer = [0; 5];
-        let used: &[u8] = varint::varint_u32(u32::MAX, &mut buffer);
-        assert_eq!(rt; used, [0xFF, 0xFF, 0xFF, 0xFF, 0x0F].as_slice());
-    }
-
-    #[test]
-    fn reads_padded_numbers(rt: HostRuntime) {
-        assert_eq!(rt;
-            read_varint(16, &[0x80, 0x80, 0x00, 0x07]),
-            Ok((0, &[0x07][..]))
-        );
-        assert_eq!(rt;
-            read_varint(16, &[0x80, 0x80, 0x04]),
-            Err(Error::DeserializeBadVarint)
-        );
-        assert_eq!(rt;
-            read_varint(32, &[0xFF, 0xFF]),
-            Err(Error::DeserializeUnexpectedEnd)
-        );
-    }
 }

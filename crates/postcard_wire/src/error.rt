@@ -1,4 +1,4 @@
-//! What can go wrong.
+//! Why a value was not written or not read.
 
 ghost use Rattle.std.specs.Prelude.{◌≡◌, Some};
 ghost use Rattle.postcard_wire.specs.Error.{error_text};
@@ -6,61 +6,76 @@ ghost use Rattle.postcard_wire.specs.Error.{error_text};
 use std::fmt::Display;
 use std::{error, fmt};
 
-/// Why a value was not written or read.
+/// Why a value was not written or not read.
+///
+/// The cases are those of postcard 1.1.3 in its order, and then [`Error::OutOfMemory`], which is this port's own. An
+/// error carries nothing else, so it says neither where in the bytes nor in which part of a value it arose. Three
+/// cases are kept so that a `match` may name them, and are never answered by this port's own calls:
+/// [`Error::NotYetImplemented`], [`Error::DeserializeBadEnum`] and [`Error::DeserializeBadCrc`].
+///
+/// `Display` prints the texts of postcard 1.1.3, and `Debug` the name of the case.
 #[derive(Clone, Debug, Drop, PartialEq, Eq)]
 pub enum Error {
-    /// What the format will never have.
+    /// A call that the format has no bytes for, since nothing in a message says of which type it is: reading a value
+    /// of any type, an identifier, or a value that is to be ignored. Nothing was read.
     WontImplement,
-    /// What it has not yet; never answered.
+    /// Never answered by this port: what the format has not yet.
     NotYetImplemented,
-    /// A writing flavor refused.
+    /// A writing flavor refused a piece: its room ran out, its memory could not grow, its writer failed, or its count
+    /// of bytes would pass `usize::MAX`.
     SerializeBufferFull,
-    /// A list or map was announced without a length.
+    /// A list or a map was announced without a length. Nothing was written.
     SerializeSeqLengthUnknown,
-    /// There are too few bytes.
+    /// The bytes end before the value does. From a reader also: it failed, or the scratch for a lent piece is too
+    /// short.
     DeserializeUnexpectedEnd,
-    /// A number is longer or greater than its width allows.
+    /// A number has its full length, 3, 5, 10 or 19 bytes for 16, 32, 64 or 128 bits, and its last byte goes on or
+    /// says more than the width holds. A variant's index past 32 bits is this case too.
     DeserializeBadVarint,
-    /// A `bool` is another byte.
+    /// The byte of a `bool` is neither 0 nor 1.
     DeserializeBadBool,
-    /// A `char`'s text is empty, too long or not UTF-8.
+    /// The text of a `char` is announced with more than four bytes, is not UTF-8, or is empty.
     DeserializeBadChar,
-    /// A text is not UTF-8.
+    /// The bytes of a text are not UTF-8.
     DeserializeBadUtf8,
-    /// An option begins with another byte.
+    /// The first byte of an option is neither 0 nor 1.
     DeserializeBadOption,
-    /// Never answered.
+    /// Never answered by this port: a variant's index past 32 bits is [`Error::DeserializeBadVarint`].
     DeserializeBadEnum,
-    /// A frame is empty, or a group runs past it.
+    /// A frame is empty, or one of its groups runs past its end.
     DeserializeBadEncoding,
-    /// Never answered.
+    /// Never answered by this port, which has no checksums.
     DeserializeBadCrc,
-    /// A value refuses to be written.
+    /// A value refuses to be written. No type of this port does: it is for a user's own (see [`Error::ser_custom`]).
     SerdeSerCustom,
-    /// No value of the type has this tree.
+    /// The bytes spell no value of the type: a variant that it lacks, a zero where none may be, a duration that is too
+    /// long, more elements than its capacity. A user's own type answers it too (see [`Error::de_custom`]).
     SerdeDeCustom,
-    /// A text failed to format.
+    /// A text that is written as it is formatted fails to format, is longer than `usize` counts, or is refused by the
+    /// flavor after its length was written.
     CollectStrError,
-    /// Memory ran out while reading.
+    /// Memory was refused while reading a value that has to grow. A type that does not grow never answers it.
     OutOfMemory,
 }
 
-/// A result with that error.
+/// A result that fails with an [`Error`].
 pub type Result<T> = std::result::Result<T, Error>;
 
 impl Error {
-    /// What a type answers whose value refuses to be written, whatever its message.
+    /// What a type answers whose value refuses to be written: [`Error::SerdeSerCustom`], whatever its message, which
+    /// is not kept.
     pub fn ser_custom<M: Display + Drop>(_msg: M) -> Error
         ensures { result ≡ Error.SerdeSerCustom }
     {
-        Error::SerdeSerCustom
+        Self::SerdeSerCustom
     }
 
-    /// What a type answers that has no value for a message, whatever its own message.
+    /// What a type answers that has no value for the bytes: [`Error::SerdeDeCustom`], whatever its message, which is
+    /// not kept.
     pub fn de_custom<M: Display + Drop>(_msg: M) -> Error
         ensures { result ≡ Error.SerdeDeCustom }
     {
-        Error::SerdeDeCustom
+        Self::SerdeDeCustom
     }
 }
 
@@ -94,3 +109,6 @@ impl fmt::Display for Error {
 }
 
 impl error::Error for Error {}
+
+#[cfg(test)]
+mod tests;

@@ -1,12 +1,30 @@
 //! Laws of spellings. The functions do nothing: their contracts are the laws.
+//!
+//! A law over any set of trees is said of a type that names the set: [`TreeSet`] for trees, [`PartsSet`] for trees in
+//! a row, [`ContentSet`] for the content of an enum by its index.
 
 ghost use Rattle.std.specs.Prelude.{◌≡◌, ℕ, ℤ, ◌+◌, ◌-◌, ◌≤◌, ◌*◌, ◌%◌, ◌^◌, ◌<◌, ◌⊎◌, ◌++◌, ◌∷◌, [], List, length};
-ghost use Rattle.postcard_wire.specs.Number.{number, zigzag, max_digits};
-ghost use Rattle.postcard_wire.specs.Tree.{Tree, Num, WellFormed, IsWidth};
+ghost use Rattle.postcard_wire.specs.Number.{number, zigzag, max_digits, InRange};
+ghost use Rattle.postcard_wire.specs.Tree.{Tree, Trees, Num, WellFormed, IsWidth};
 ghost use Rattle.postcard_wire.specs.Spelling.{Spells, bytes};
 ghost use Rattle.postcard_wire.specs.Digits.{ReadsNum, Refuses};
 ghost use Rattle.postcard_wire.specs.declared.error.Error.{Error};
-ghost use Rattle.postcard_wire.specs.Reading.{IsDelimited, IsByte, IsBoolean, IsNum, IsInt, IsChar, IsText};
+ghost use Rattle.postcard_wire.specs.Reading.{IsDelimited, AreDelimited, ReadsWellFormed, PartsWellFormed, IsByte, IsBoolean, IsNum, IsInt, IsChar, IsText, IsOption, IsEnd, IsThen, IsGroup, IsSeq, IsArray, IsVariant};
+
+/// A set of trees.
+pub trait TreeSet {
+    ghost has: { Tree → Type 0 };
+}
+
+/// A set of trees in a row.
+pub trait PartsSet {
+    ghost have: { Trees → Type 0 };
+}
+
+/// A set of trees for each index of an enum.
+pub trait ContentSet {
+    ghost holds: { ℕ → Tree → Type 0 };
+}
 
 /// Of each tree there is one shortest spelling, and every other is longer.
 pub fn shortest()
@@ -24,6 +42,72 @@ pub fn self_delimiting()
     ensures text { IsDelimited IsText }
 {}
 
+/// What an option, a list or an array spells begins no other spelling of its kind, where that holds of what it holds.
+pub fn self_delimiting_containers<S: TreeSet>()
+    ensures option { IsDelimited S.has → IsDelimited (IsOption S.has) }
+    ensures list { IsDelimited S.has → IsDelimited (IsSeq S.has) }
+    ensures array { (n : ℕ) → IsDelimited S.has → IsDelimited (IsArray n S.has) }
+{}
+
+/// The same of parts in a row, where it holds of the first and of those after it, and of the group that they make.
+pub fn self_delimiting_parts<S: TreeSet, P: PartsSet>()
+    ensures end { AreDelimited IsEnd }
+    ensures then { IsDelimited S.has → AreDelimited P.have → AreDelimited (IsThen S.has P.have) }
+    ensures group { AreDelimited P.have → IsDelimited (IsGroup P.have) }
+{}
+
+/// The same of an enum, where it holds of the content at each index.
+pub fn self_delimiting_variants<C: ContentSet>()
+    ensures { ((i : ℕ) → IsDelimited (C.holds i)) → IsDelimited (IsVariant C.holds) }
+{}
+
+/// The same of a set within another, where it holds of that one.
+pub fn self_delimiting_subsets<S: TreeSet, T: TreeSet>()
+    ensures { ((t : Tree) → S.has t → T.has t) → IsDelimited T.has → IsDelimited S.has }
+{}
+
+/// The nodes of each kind are well formed.
+pub fn well_formed()
+    ensures byte { ReadsWellFormed IsByte }
+    ensures boolean { ReadsWellFormed IsBoolean }
+    ensures num { (w : ℕ) → IsWidth w → ReadsWellFormed (IsNum w) }
+    ensures int { (w : ℕ) → IsWidth w → ReadsWellFormed (IsInt w) }
+    ensures character { ReadsWellFormed IsChar }
+    ensures text { ReadsWellFormed IsText }
+{}
+
+/// An option, a list and an array are well formed, where what they hold is.
+pub fn well_formed_containers<S: TreeSet>()
+    ensures option { ReadsWellFormed S.has → ReadsWellFormed (IsOption S.has) }
+    ensures list { ReadsWellFormed S.has → ReadsWellFormed (IsSeq S.has) }
+    ensures array { (n : ℕ) → ReadsWellFormed S.has → ReadsWellFormed (IsArray n S.has) }
+{}
+
+/// Parts in a row are, where the first and those after it are, and so is the group that they make.
+pub fn well_formed_parts<S: TreeSet, P: PartsSet>()
+    ensures end { PartsWellFormed IsEnd }
+    ensures then { ReadsWellFormed S.has → PartsWellFormed P.have → PartsWellFormed (IsThen S.has P.have) }
+    ensures group { PartsWellFormed P.have → ReadsWellFormed (IsGroup P.have) }
+{}
+
+/// An enum is, where the content at each index is.
+pub fn well_formed_variants<C: ContentSet>()
+    ensures { ((i : ℕ) → ReadsWellFormed (C.holds i)) → ReadsWellFormed (IsVariant C.holds) }
+{}
+
+/// A set within another is, where that one is.
+pub fn well_formed_subsets<S: TreeSet, T: TreeSet>()
+    ensures { ((t : Tree) → S.has t → T.has t) → ReadsWellFormed T.has → ReadsWellFormed S.has }
+{}
+
+/// What is written is read again: of bytes that begin with a tree's shortest spelling, no front spells a tree of the
+/// set but that one, and it spells that tree alone.
+pub fn read_again<S: TreeSet>()
+    ensures { IsDelimited S.has → ReadsWellFormed S.has → (t s : Tree) (p rest left : List ℕ)
+        → S.has t → S.has s → Spells s p → p ++ left ≡ bytes t ++ rest
+        → (p ≡ bytes t) × (s ≡ t) × (left ≡ rest) }
+{}
+
 /// Bytes that are refused as a number begin with no number.
 pub fn refused()
     ensures { (w n : ℕ) (bytes rest : List ℕ) (e : Error) → Refuses w bytes e → ReadsNum w bytes n rest → ⊥ }
@@ -34,6 +118,14 @@ pub fn numbers()
     ensures none { number [] ≡ 0 }
     ensures by_place { (p : List ℕ) (b : ℕ) → number (p ++ b ∷ []) ≡ number p + b % 128 * 128 ^ length p }
     ensures folded { (y z : ℤ) → zigzag y ≡ zigzag z → y ≡ z }
+{}
+
+/// Zigzag takes the signed numbers of a width to the unsigned ones of that width, one to one and onto: so either way
+/// and back is where it began.
+pub fn zigzags()
+    ensures within { (w : ℕ) (z : ℤ) → IsWidth w → InRange w z → zigzag z < 2 ^ w }
+    ensures onto { (w n : ℕ) → IsWidth w → n < 2 ^ w → (z : ℤ) × InRange w z × (zigzag z ≡ n) }
+    ensures one_to_one { (y z : ℤ) → zigzag y ≡ zigzag z → y ≡ z }
 {}
 
 /// No number takes more bytes than its width allows, and the greatest takes as many.

@@ -1,3 +1,4 @@
+-- The laws are lemmas of `Shortest`.
 use Rattle.postcard_wire.proofs.Shortest.{least, Spells-bytes}
 use Rattle.postcard_wire.proofs.laws.shortest.Goals as goal
 

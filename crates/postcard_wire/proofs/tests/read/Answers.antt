@@ -1,0 +1,5 @@
+-- At first no byte was passed.
+use Rattle.postcard_wire.proofs.tests.read.Goals as goal
+
+pub loop-i-init : goal.loop-i-init
+loop-i-init c = c.new-digits.ensures c.args.bits c.requires

@@ -1,0 +1,131 @@
+//! The texts and the names of the errors.
+
+use super::*;
+use std::test::Fail;
+
+/// Each case with its name and its text: those of postcard 1.1.3, and the last this port's own.
+fn table() -> [(Error, &'static str, &'static str); 17] {
+    [
+        (
+            Error::WontImplement,
+            "WontImplement",
+            "This is a feature that PostCard will never implement",
+        ),
+        (
+            Error::NotYetImplemented,
+            "NotYetImplemented",
+            "This is a feature that Postcard intends to support, but does not yet",
+        ),
+        (
+            Error::SerializeBufferFull,
+            "SerializeBufferFull",
+            "The serialize buffer is full",
+        ),
+        (
+            Error::SerializeSeqLengthUnknown,
+            "SerializeSeqLengthUnknown",
+            "The length of a sequence must be known",
+        ),
+        (
+            Error::DeserializeUnexpectedEnd,
+            "DeserializeUnexpectedEnd",
+            "Hit the end of buffer, expected more data",
+        ),
+        (
+            Error::DeserializeBadVarint,
+            "DeserializeBadVarint",
+            "Found a varint that didn't terminate. Is the usize too big for this platform?",
+        ),
+        (
+            Error::DeserializeBadBool,
+            "DeserializeBadBool",
+            "Found a bool that wasn't 0 or 1",
+        ),
+        (
+            Error::DeserializeBadChar,
+            "DeserializeBadChar",
+            "Found an invalid unicode char",
+        ),
+        (
+            Error::DeserializeBadUtf8,
+            "DeserializeBadUtf8",
+            "Tried to parse invalid utf-8",
+        ),
+        (
+            Error::DeserializeBadOption,
+            "DeserializeBadOption",
+            "Found an Option discriminant that wasn't 0 or 1",
+        ),
+        (
+            Error::DeserializeBadEnum,
+            "DeserializeBadEnum",
+            "Found an enum discriminant that was > u32::max_value()",
+        ),
+        (
+            Error::DeserializeBadEncoding,
+            "DeserializeBadEncoding",
+            "The original data was not well encoded",
+        ),
+        (
+            Error::DeserializeBadCrc,
+            "DeserializeBadCrc",
+            "Bad CRC while deserializing",
+        ),
+        (
+            Error::SerdeSerCustom,
+            "SerdeSerCustom",
+            "Serde Serialization Error",
+        ),
+        (
+            Error::SerdeDeCustom,
+            "SerdeDeCustom",
+            "Serde Deserialization Error",
+        ),
+        (
+            Error::CollectStrError,
+            "CollectStrError",
+            "Error while processing `collect_str` during serialization",
+        ),
+        (Error::OutOfMemory, "OutOfMemory", "Out of memory"),
+    ]
+}
+
+#[test]
+fn prints_its_text_and_its_name(rt: HostRuntime) -> std::result::Result<(), Fail> {
+    for (error, name, text) in &table() {
+        assert_eq!(rt; error.to_string(rt.alloc())?.as_str(), *text);
+        assert_eq!(rt; format!(in rt.alloc(); "{error:?}")?.as_str(), *name);
+    }
+    Ok(())
+}
+
+#[test]
+fn equals_its_clone_alone(rt: HostRuntime) -> std::result::Result<(), Fail> {
+    for (i, (error, ..)) in table().iter().enumerate() {
+        let copy = error.clone()?;
+        for (j, (other, name, _)) in table().iter().enumerate() {
+            assert_eq!(rt; copy == *other, i == j, "at {name}");
+        }
+    }
+    Ok(())
+}
+
+#[test]
+fn is_made_of_any_message(rt: HostRuntime) {
+    assert_eq!(rt; Error::ser_custom("no such colour"), Error::SerdeSerCustom);
+    assert_eq!(rt; Error::ser_custom(7u8), Error::SerdeSerCustom);
+    assert_eq!(rt; Error::de_custom("no such colour"), Error::SerdeDeCustom);
+    assert_eq!(rt; Error::de_custom(7u8), Error::SerdeDeCustom);
+}
+
+/// What any error of the standard library's kind prints.
+fn text_of<E: error::Error>(rt: &HostRuntime, error: &E) -> std::result::Result<String, Fail> {
+    Ok(error.to_string(rt.alloc())?)
+}
+
+#[test]
+fn is_an_error_of_std(rt: HostRuntime) -> std::result::Result<(), Fail> {
+    let text = text_of(&rt, &Error::DeserializeBadUtf8)?;
+    assert_eq!(rt; text.as_str(), "Tried to parse invalid utf-8");
+    Ok(())
+}

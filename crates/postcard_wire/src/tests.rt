@@ -1,0 +1,299 @@
+//! The fast calls against the plain ones over edges and samples of each width, and both against vectors worked out by
+//! hand.
+
+ghost use Rattle.postcard_wire.specs.Tree.{IsWidth};
+
+use crate::digits::Digits;
+use crate::error::{Error, Result};
+use crate::{plain, text, varint, zigzag};
+use std::alloc::{AllocError, Global};
+use std::test::Fail;
+
+type Tested = std::result::Result<(), Fail>;
+
+/// The number of so many bits at the front, and how many bytes it took.
+fn read(bits: u32, bytes: &[u8]) -> Result<(u128, usize)>
+    requires { IsWidth bits }
+{
+    let mut digits = Digits::new();
+    for (i, byte) in bytes.iter().enumerate() {
+        if let Some(n) = digits.push(bits, *byte)? {
+            return Ok((n, i + 1));
+        }
+    }
+    Err(Error::DeserializeUnexpectedEnd)
+}
+
+/// Numbers of 128 bits: each power of two, and so of 128, with its neighbours, the greatest, and 300 of a
+/// multiplicative generator. Taken modulo a width they are edges and samples of that width.
+fn numbers(alloc: Global) -> std::result::Result<Vec<u128>, AllocError> {
+    let mut numbers = Vec::new(alloc);
+    let mut power = 1u128;
+    for _ in 0..129 {
+        numbers.extend_from_slice(&[power.wrapping_sub(1), power, power.wrapping_add(1)])?;
+        power = power.wrapping_mul(2);
+    }
+    let mut sample = 1u128;
+    for _ in 0..300 {
+        sample = sample.wrapping_mul(0x2360_ED05_1FC6_5DA4_4385_DF64_9FCC_F645);
+        numbers.push(sample)?;
+    }
+    Ok(numbers)
+}
+
+/// Compares what is written, read and folded of one number of a width.
+macro_rules! compare {
+    ($rt:ident, $bits:literal, $n:ident, $varint:path, $most:path, $zig_zag:path, $de_zig_zag:path) => {{
+        let spelling = plain::spell($rt.alloc(), $bits, u128::from($n))?;
+        let mut buffer = [0; $most];
+        let written: &[u8] = $varint($n, &mut buffer);
+        assert_eq!($rt; written, spelling.as_slice(), "the digits of {}", $n);
+        assert_eq!($rt; read($bits, written), Ok((u128::from($n), written.len())), "{} read again", $n);
+        let signed = $de_zig_zag($n);
+        assert_eq!($rt; i128::from(signed), plain::de_zig_zag(u128::from($n)), "the sign of {}", $n);
+        assert_eq!($rt; $zig_zag(signed), $n);
+        let signed = $n.cast_signed();
+        let folded = $zig_zag(signed);
+        assert_eq!($rt; u128::from(folded), plain::zig_zag(i128::from(signed)), "{signed} folded");
+        assert_eq!($rt; $de_zig_zag(folded), signed);
+    }};
+}
+
+#[test]
+fn agrees_with_the_plain_calls_at_16_bits(rt: HostRuntime) -> Tested {
+    for number in numbers(rt.alloc())?.iter() {
+        let n = (*number & 0xFFFF) as u16;
+        compare!(
+            rt,
+            16,
+            n,
+            varint::varint_u16,
+            varint::VARINT_MAX_16,
+            zigzag::zig_zag_i16,
+            zigzag::de_zig_zag_i16
+        );
+    }
+    Ok(())
+}
+
+#[test]
+fn agrees_with_the_plain_calls_at_32_bits(rt: HostRuntime) -> Tested {
+    for number in numbers(rt.alloc())?.iter() {
+        let n = (*number & 0xFFFF_FFFF) as u32;
+        compare!(
+            rt,
+            32,
+            n,
+            varint::varint_u32,
+            varint::VARINT_MAX_32,
+            zigzag::zig_zag_i32,
+            zigzag::de_zig_zag_i32
+        );
+    }
+    Ok(())
+}
+
+#[test]
+fn agrees_with_the_plain_calls_at_64_bits(rt: HostRuntime) -> Tested {
+    for number in numbers(rt.alloc())?.iter() {
+        let n = (*number & 0xFFFF_FFFF_FFFF_FFFF) as u64;
+        compare!(
+            rt,
+            64,
+            n,
+            varint::varint_u64,
+            varint::VARINT_MAX_64,
+            zigzag::zig_zag_i64,
+            zigzag::de_zig_zag_i64
+        );
+    }
+    Ok(())
+}
+
+#[test]
+fn agrees_with_the_plain_calls_at_128_bits(rt: HostRuntime) -> Tested {
+    for number in numbers(rt.alloc())?.iter() {
+        let n = *number;
+        compare!(
+            rt,
+            128,
+            n,
+            varint::varint_u128,
+            varint::VARINT_MAX_128,
+            zigzag::zig_zag_i128,
+            zigzag::de_zig_zag_i128
+        );
+    }
+    Ok(())
+}
+
+#[test]
+fn writes_a_length_as_64_bits(rt: HostRuntime) -> Tested {
+    for number in numbers(rt.alloc())?.iter() {
+        let n = (*number & 0xFFFF_FFFF_FFFF_FFFF) as usize;
+        let spelling = plain::spell(rt.alloc(), 64, n as u128)?;
+        let mut buffer = [0; varint::VARINT_MAX_64];
+        let written: &[u8] = varint::varint_usize(n, &mut buffer);
+        assert_eq!(rt; written, spelling.as_slice(), "the digits of {n}");
+    }
+    Ok(())
+}
+
+#[test]
+fn writes_the_vectors(rt: HostRuntime) {
+    let mut buffer = [0; varint::VARINT_MAX_16];
+    let written: &[u8] = varint::varint_u16(0xA5C7, &mut buffer);
+    assert_eq!(rt; written, [0xC7, 0xCB, 0x02].as_slice());
+    let mut buffer = [0; varint::VARINT_MAX_32];
+    let written: &[u8] = varint::varint_u32(0xCDAB_3412, &mut buffer);
+    assert_eq!(rt; written, [0x92, 0xE8, 0xAC, 0xED, 0x0C].as_slice());
+    let mut buffer = [0; varint::VARINT_MAX_64];
+    let written: &[u8] = varint::varint_u64(0x1234_5678_90AB_CDEF, &mut buffer);
+    assert_eq!(rt;
+        written,
+        [0xEF, 0x9B, 0xAF, 0x85, 0x89, 0xCF, 0x95, 0x9A, 0x12].as_slice()
+    );
+    let mut buffer = [0; varint::VARINT_MAX_128];
+    let written: &[u8] = varint::varint_u128(
+        0x1234_5678_90AB_CDEF_1234_5678_90AB_CDEF,
+        &mut buffer,
+    );
+    assert_eq!(rt;
+        written,
+        [
+            0xEF, 0x9B, 0xAF, 0x85, 0x89, 0xCF, 0x95, 0x9A, 0x92, 0xDE, 0xB7, 0xDE, 0x8A, 0x92,
+            0x9E, 0xAB, 0xB4, 0x24,
+        ]
+        .as_slice()
+    );
+    let mut buffer = [0; varint::VARINT_MAX_64];
+    let written: &[u8] = varint::varint_usize(usize::MAX, &mut buffer);
+    assert_eq!(rt;
+        written,
+        [0xFF, 0xFF, 0xFF, 0xFF, 0xFF, 0xFF, 0xFF, 0xFF, 0xFF, 0x01].as_slice()
+    );
+    let mut buffer = [0; varint::VARINT_MAX_64];
+    let written: &[u8] = varint::varint_usize(1, &mut buffer);
+    assert_eq!(rt; written, [0x01].as_slice());
+}
+
+/// The greatest number of a width: its most bytes, and its greatest last byte.
+#[test]
+fn has_its_most_bytes_at_the_greatest(rt: HostRuntime) {
+    let mut buffer = [0; varint::VARINT_MAX_16];
+    let written: &[u8] = varint::varint_u16(u16::MAX, &mut buffer);
+    assert_eq!(rt; written.len(), 3);
+    assert_eq!(rt; written.last().copied(), Some(varint::MAX_OF_LAST_BYTE_16));
+    let mut buffer = [0; varint::VARINT_MAX_32];
+    let written: &[u8] = varint::varint_u32(u32::MAX, &mut buffer);
+    assert_eq!(rt; written.len(), 5);
+    assert_eq!(rt; written.last().copied(), Some(varint::MAX_OF_LAST_BYTE_32));
+    let mut buffer = [0; varint::VARINT_MAX_64];
+    let written: &[u8] = varint::varint_u64(u64::MAX, &mut buffer);
+    assert_eq!(rt; written.len(), 10);
+    assert_eq!(rt; written.last().copied(), Some(varint::MAX_OF_LAST_BYTE_64));
+    let mut buffer = [0; varint::VARINT_MAX_128];
+    let written: &[u8] = varint::varint_u128(u128::MAX, &mut buffer);
+    assert_eq!(rt; written.len(), 19);
+    assert_eq!(rt; written.last().copied(), Some(varint::MAX_OF_LAST_BYTE_128));
+}
+
+#[test]
+fn reads_padded_numbers(rt: HostRuntime) {
+    assert_eq!(rt; read(16, &[0x80, 0x00]), Ok((0, 2)));
+    assert_eq!(rt; read(16, &[0x80, 0x80, 0x00, 0x07]), Ok((0, 3)));
+    assert_eq!(rt;
+        read(32, &[0xFF, 0xFF, 0xFF, 0xFF, 0x0F]),
+        Ok((0xFFFF_FFFF, 5))
+    );
+}
+
+#[test]
+fn refuses_numbers_past_the_width(rt: HostRuntime) {
+    for bytes in [
+        [0x80, 0x80, 0x04].as_slice(),
+        [0x80, 0x80, 0x80, 0x00].as_slice(),
+    ] {
+        assert_eq!(rt;
+            read(16, bytes),
+            Err(Error::DeserializeBadVarint),
+            "{bytes:?}"
+        );
+    }
+    for bytes in [
+        [0xFF, 0xFF, 0xFF, 0xFF, 0x1F].as_slice(),
+        [0xFF, 0xFF, 0xFF, 0xFF, 0xFF, 0x01].as_slice(),
+    ] {
+        assert_eq!(rt;
+            read(32, bytes),
+            Err(Error::DeserializeBadVarint),
+            "{bytes:?}"
+        );
+    }
+    for bytes in [[].as_slice(), [0xFF, 0xFF, 0xFF, 0xFF].as_slice()] {
+        assert_eq!(rt;
+            read(32, bytes),
+            Err(Error::DeserializeUnexpectedEnd),
+            "{bytes:?}"
+        );
+    }
+}
+
+/// Of 64 and 128 bits a full length whose last byte is one more than the greatest, or goes on.
+#[test]
+fn refuses_a_great_last_byte(rt: HostRuntime) {
+    for last in [varint::MAX_OF_LAST_BYTE_64 + 1, 0x80] {
+        let mut bytes = [0x80; varint::VARINT_MAX_64];
+        bytes[9] = last;
+        assert_eq!(rt;
+            read(64, &bytes),
+            Err(Error::DeserializeBadVarint),
+            "{last}"
+        );
+    }
+    for last in [varint::MAX_OF_LAST_BYTE_128 + 1, 0x80] {
+        let mut bytes = [0x80; varint::VARINT_MAX_128];
+        bytes[18] = last;
+        assert_eq!(rt;
+            read(128, &bytes),
+            Err(Error::DeserializeBadVarint),
+            "{last}"
+        );
+    }
+}
+
+#[test]
+fn folds_the_vectors(rt: HostRuntime) {
+    for (z, n) in [
+        (0, 0),
+        (-1, 1),
+        (1, 2),
+        (-2, 3),
+        (i16::MAX, 0xFFFE),
+        (i16::MIN, 0xFFFF),
+    ] {
+        assert_eq!(rt; zigzag::zig_zag_i16(z), n, "{z}");
+    }
+    assert_eq!(rt; zigzag::zig_zag_i32(i32::MIN), u32::MAX);
+    assert_eq!(rt; zigzag::zig_zag_i64(i64::MIN), u64::MAX);
+    assert_eq!(rt; zigzag::zig_zag_i128(i128::MIN), u128::MAX);
+    assert_eq!(rt; plain::zig_zag(i128::MIN), u128::MAX);
+    assert_eq!(rt; plain::de_zig_zag(u128::MAX), i128::MIN);
+}
+
+#[test]
+fn takes_the_first_character(rt: HostRuntime) {
+    for (bytes, wanted) in [
+        (b"z".as_slice(), Ok('z')),
+        (b"ab".as_slice(), Ok('a')),
+        ([0xC2, 0xA2].as_slice(), Ok('¢')),
+        ([0xF0, 0x90, 0x8D, 0x88].as_slice(), Ok('𐍈')),
+        ([0xC2, 0xA2, 0x61].as_slice(), Ok('¢')),
+        (b"".as_slice(), Err(Error::DeserializeBadChar)),
+        ([0xC3].as_slice(), Err(Error::DeserializeBadChar)),
+        ([0x61, 0xC3].as_slice(), Err(Error::DeserializeBadChar)),
+    ] {
+        assert!(rt; bytes.len() <= 4);
+        assert_eq!(rt; text::first_char(bytes), wanted);
+    }
+}
