@@ -168,3 +168,23 @@ impl<'de> Flavor for Slice<'de> {
         Ok(&all[position..])
     }
 }
+
+#[cfg(test)]
+mod tests {
+    use super::*;
+    use std::test::Fail;
+
+    #[test]
+    fn takes_fronts_until_too_few_bytes_are_left(rt: HostRuntime) -> std::result::Result<(), Fail> {
+        let mut source = Slice::new(&[1, 2, 3, 4]);
+        assert_eq!(rt; source.pop(), Ok(1));
+        assert_eq!(rt; source.try_take_n(2)?, [2, 3].as_slice());
+        assert_eq!(rt; source.try_take_n(2), Err(Error::DeserializeUnexpectedEnd));
+        assert_eq!(rt; source.size_hint(), Some(1));
+        assert_eq!(rt; source.try_take_n_temp(2), Err(Error::DeserializeUnexpectedEnd));
+        assert_eq!(rt; source.try_take_n_temp(1)?, [4].as_slice());
+        assert_eq!(rt; source.pop(), Err(Error::DeserializeUnexpectedEnd));
+        assert_eq!(rt; source.finalize()?.len(), 0);
+        Ok(())
+    }
+}
