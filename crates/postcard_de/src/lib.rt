@@ -13,6 +13,8 @@ pub mod access;
 pub mod deserialize;
 pub mod deserializer;
 pub mod laws;
+#[cfg(test)]
+mod tests;
 pub mod values;
 
 pub use access::SeqAccess;
