@@ -21,8 +21,9 @@ pub fn read(alloc: Global, text: &str) -> Result<Vec<u8>, Failure>
 {
     let mut bytes = Vec::new(alloc);
     let mut rest = text.as_bytes();
-    'pairs: while let [high, low, after @ ..] = rest {
-        let Ok(byte) = <[u8; 1]>::from_hex([*high, *low]) else {
+    'pairs: while rest.len() >= 2 {
+        let (pair, after) = rest.split_at(2);
+        let Ok(byte) = <[u8; 1]>::from_hex(pair) else {
             return Err(Failure::BadHex);
         };
         bytes.push(byte[0])?;
