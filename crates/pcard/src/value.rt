@@ -1,6 +1,7 @@
 //! Reading the word VALUE.
 
-ghost use Rattle.pcard.specs.Value.{ReadsNumber};
+ghost use Rattle.std.specs.Prelude.{IfOk, IfErr};
+ghost use Rattle.pcard.specs.Value.{ReadsNumber, SayEach, RefusesList, parts};
 
 use crate::failure::Failure;
 use std::alloc::Global;
@@ -22,13 +23,18 @@ where
 pub fn list<T: FromStr + Drop>(alloc: Global, word: &str) -> Result<Vec<T>, Failure>
 where
     T::Err: Drop,
+    ensures value { IfOk result (λ numbers. SayEach T.from_str_gives (parts word.now) numbers.items) }
+    ensures refused { IfErr result (λ e. RefusesList T.from_str_gives word.now e) }
 {
     let mut numbers = Vec::new(alloc);
     if word.is_empty() {
         return Ok(numbers);
     }
-    for part in word.split(',') {
+    let mut rest = word;
+    'parts: while let Some((part, after)) = rest.split_once(',') {
         numbers.push(number(part)?)?;
+        rest = after;
     }
+    numbers.push(number(rest)?)?;
     Ok(numbers)
 }
