@@ -1,5 +1,5 @@
 -- The words of a call.
-use Rattle.std.specs.Prelude.{ℕ, List, [], ◌∷◌, codes}
+use Rattle.std.specs.Prelude.{◌≢◌, ℕ, List, [], ◌∷◌, codes}
 use Rattle.pcard.specs.declared.command.ValueType.{ValueType}
 use Rattle.pcard.specs.declared.command.ValueType.TheVariants.{U8, U16, U32, U64, U128, I8, I16, I32, I64, I128, Str, ListU8, ListU32}
 use Rattle.pcard.specs.declared.command.Command.{Command}
@@ -25,3 +25,7 @@ name_of ListU32 = codes "list-u32"
 abbrev pub words_of : Command → List (List ℕ)
 words_of (Encode kind value) = codes "enc" ∷ name_of kind ∷ value.now ∷ []
 words_of (Decode kind hex) = codes "dec" ∷ name_of kind ∷ hex.now ∷ []
+
+-- The words ask for no command.
+abbrev pub IsNoCall : List (List ℕ) → Type 0
+IsNoCall words = (command : Command) → words ≢ words_of command

@@ -1,5 +1,6 @@
 -- What a call that fails prints, and its exit status.
-use Rattle.std.specs.Prelude.{ℕ, List, [], ◌∷◌, ◌++◌, codes, Result, Ok, Err}
+use Rattle.std.specs.Prelude.{◌≡◌, ◌⊎◌, ℕ, Option, List, [], ◌∷◌, ◌++◌, codes, Result, Ok, Err}
+use Rattle.std.specs.Io.KnownBytes.{Appends}
 use Rattle.postcard_wire.specs.Error.{error_text}
 use Rattle.pcard.specs.declared.failure.Failure.{Failure}
 use Rattle.pcard.specs.declared.failure.Failure.TheVariants.{Usage, BadValue, BadHex, Library, Output}
@@ -29,3 +30,7 @@ exit_status (Err failure) = failure_status failure
 abbrev pub last_line : Result Unit Failure → List ℕ
 last_line (Ok done) = []
 last_line (Err failure) = failure_text failure ++ 10 ∷ []
+
+-- A failure is answered: its line is printed and its status given, or the output could not be written.
+abbrev pub AnswersFailure : Failure → Option (List ℕ) → Option (List ℕ) → ℕ → Type 0
+AnswersFailure failure old new status = (status ≡ 3) ⊎ ((status ≡ failure_status failure) × Appends old new (failure_text failure ++ 10 ∷ []))

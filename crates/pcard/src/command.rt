@@ -1,9 +1,8 @@
 //! What the words of a call ask for.
 
 ghost use Rattle.std.specs.Prelude.{◌≡◌, ◌≢◌, IfSome, IfNone, map, string_bytes};
-ghost use Rattle.pcard.specs.Command.{name_of, words_of};
+ghost use Rattle.pcard.specs.Command.{IsNoCall, name_of, words_of};
 ghost use Rattle.pcard.specs.declared.command.ValueType.{ValueType};
-ghost use Rattle.pcard.specs.declared.command.Command.{Command};
 
 /// The types of which values are written and read.
 #[derive(Clone, Copy, Debug, PartialEq, Eq)]
@@ -61,7 +60,7 @@ impl<'a> Command<'a> {
     /// The command of these words, or `None` where they are no call: an unknown command or type, or too few or many words.
     pub fn from_words(words: &'a [String]) -> Option<Command<'a>>
         ensures found { IfSome result (λ command. map string_bytes words.now ≡ words_of command) }
-        ensures none { IfNone result ((command : Command) → map string_bytes words.now ≢ words_of command) }
+        ensures none { IfNone result (IsNoCall (map string_bytes words.now)) }
     {
         let [command, kind, text] = words else {
             return None;

@@ -11,10 +11,9 @@ mod failure;
 mod hexadecimal;
 mod joined;
 mod program;
-mod value;
-
 #[cfg(test)]
 mod tests;
+mod value;
 
 /// The words behind the program's name.
 fn words(rt: &HostRuntime) -> Result<Vec<String>, Failure> {

@@ -1,8 +1,10 @@
 //! From the words of a call to its output and exit status.
 
-ghost use Rattle.std.specs.Prelude.{◌≡◌, ◌≢◌, ◌≤◌, ◌⊎◌};
+ghost use Rattle.std.specs.Prelude.{◌≡◌, ◌≢◌, ◌≤◌, ◌⊎◌, ◌↔◌, ℕ, List, [], ◌∷◌, ◌++◌, map, string_bytes, IfSome, IfErr, OnOk, IsErrOf};
 ghost use Rattle.std.specs.Io.KnownBytes.{Appends};
-ghost use Rattle.pcard.specs.Failure.{exit_status, last_line};
+ghost use Rattle.hex.specs.Hex.{encode_lower};
+ghost use Rattle.pcard.specs.Command.{IsNoCall};
+ghost use Rattle.pcard.specs.Failure.{AnswersFailure, exit_status, last_line};
 
 use crate::command::{Command, ValueType};
 use crate::failure::Failure;
@@ -29,7 +31,8 @@ enum Task<'a> {
 /// Does what the words ask for (program name off), and answers the exit status: 0 done; 1 the library refused, or memory
 /// ran out; 2 the words are wrong; 3 the output could not be written, whatever else would have been answered.
 pub fn run<W: Write>(alloc: Global, words: &[String], output: &mut W) -> u8
-    ensures { result ≤ 3 }
+    ensures status { result ≤ 3 }
+    ensures usage { IsNoCall (map string_bytes words.now) → AnswersFailure Failure.Usage (W.contents output.old) (W.contents output.new) result }
 {
     let outcome = perform(alloc, words, output);
     report(outcome, output)
@@ -51,7 +54,10 @@ pub fn report<W: Write>(outcome: Result<(), Failure>, output: &mut W) -> u8
 }
 
 /// Reads the words, and prints what they ask for.
-fn perform<W: Write>(alloc: Global, words: &[String], output: &mut W) -> Result<(), Failure> {
+fn perform<W: Write>(alloc: Global, words: &[String], output: &mut W) -> Result<(), Failure>
+    ensures usage { IsErrOf result Failure.Usage ↔ IsNoCall (map string_bytes words.now) }
+    ensures untouched { result ≡ Err Failure.Usage → output.new ≡ output.old }
+{
     match Command::from_words(words) {
         Some(Command::Encode { kind, value }) => convert(alloc, kind, Task::Encode(value), output),
         Some(Command::Decode { kind, hex }) => {
@@ -68,7 +74,9 @@ fn convert<W: Write>(
     kind: ValueType,
     task: Task<'_>,
     output: &mut W,
-) -> Result<(), Failure> {
+) -> Result<(), Failure>
+    ensures { IfErr result (λ e. e ≢ Failure.Usage) }
+{
     match kind {
         ValueType::U8 => convert_number::<u8, W>(alloc, task, output),
         ValueType::U16 => convert_number::<u16, W>(alloc, task, output),
@@ -95,6 +103,7 @@ fn convert_number<'a, T, W: Write>(
 where
     T: FromStr + Display + Serialize + Deserialize<'a> + Drop,
     T::Err: Drop,
+    ensures { IfErr result (λ e. e ≢ Failure.Usage) }
 {
     match task {
         Task::Encode(word) => print_encoded(&value::number::<T>(word)?, output),
@@ -106,7 +115,9 @@ where
 }
 
 /// Encodes or decodes a text.
-fn convert_text<W: Write>(alloc: Global, task: Task<'_>, output: &mut W) -> Result<(), Failure> {
+fn convert_text<W: Write>(alloc: Global, task: Task<'_>, output: &mut W) -> Result<(), Failure>
+    ensures { IfErr result (λ e. e ≢ Failure.Usage) }
+{
     match task {
         Task::Encode(word) => print_encoded(&word, output),
         Task::Decode(bytes) => {
@@ -125,6 +136,7 @@ fn convert_list<'a, T, W: Write>(
 where
     T: FromStr + Display + Serialize + Deserialize<'a> + Drop,
     T::Err: Drop,
+    ensures { IfErr result (λ e. e ≢ Failure.Usage) }
 {
     match task {
         Task::Encode(word) => print_encoded(&value::list::<T>(alloc, word)?, output),
@@ -136,7 +148,10 @@ where
 }
 
 /// Prints the bytes of a value as hexadecimal on a line.
-fn print_encoded<T: Serialize, W: Write>(value: &T, output: &mut W) -> Result<(), Failure> {
+fn print_encoded<T: Serialize, W: Write>(value: &T, output: &mut W) -> Result<(), Failure>
+    ensures printed { OnOk result ((bytes : List ℕ) × Appends (W.contents output.old) (W.contents output.new) (encode_lower bytes ++ 10 ∷ [])) }
+    ensures refused { IfErr result (λ e. e ≢ Failure.Usage) }
+{
     let mut buffer = [0; BUFFER];
     let bytes = postcard::to_slice(value, &mut buffer)?;
     hexadecimal::write(bytes, output)?;
@@ -149,7 +164,10 @@ fn print_decoded<D: Display + Drop, W: Write>(
     value: D,
     rest: &[u8],
     output: &mut W,
-) -> Result<(), Failure> {
+) -> Result<(), Failure>
+    ensures printed { OnOk result (IfSome (D.output value) (λ text. Appends (W.contents output.old) (W.contents output.new) (text ++ 10 ∷ encode_lower rest.now ++ 10 ∷ []))) }
+    ensures refused { IfErr result (λ e. e ≡ Failure.Output) }
+{
     writeln!(output, "{value}")?;
     hexadecimal::write(rest, output)?;
     writeln!(output)?;

@@ -31,9 +31,13 @@ fn check(
 }
 
 const USAGE: &str = "usage: pcard enc TYPE VALUE, dec TYPE HEX, frames\n";
+
 const BAD_VALUE: &str = "bad value\n";
+
 const BAD_HEX: &str = "bad hex\n";
+
 const UNEXPECTED_END: &str = "Hit the end of buffer, expected more data\n";
+
 const BAD_VARINT: &str =
     "Found a varint that didn't terminate. Is the usize too big for this platform?\n";
 
@@ -140,10 +144,20 @@ fn converts_each_type(rt: HostRuntime) -> Result<(), Fail> {
     for (kind, value, bytes) in cases {
         let encode = format!(in rt.alloc(); "enc|{kind}|{value}")?;
         let encoded = format!(in rt.alloc(); "{bytes}\n")?;
-        check(&rt, words(rt.alloc(), encode.as_str())?.as_slice(), encoded.as_str(), 0)?;
+        check(
+            &rt,
+            words(rt.alloc(), encode.as_str())?.as_slice(),
+            encoded.as_str(),
+            0,
+        )?;
         let decode = format!(in rt.alloc(); "dec|{kind}|{bytes}07")?;
         let decoded = format!(in rt.alloc(); "{value}\n07\n")?;
-        check(&rt, words(rt.alloc(), decode.as_str())?.as_slice(), decoded.as_str(), 0)?;
+        check(
+            &rt,
+            words(rt.alloc(), decode.as_str())?.as_slice(),
+            decoded.as_str(),
+            0,
+        )?;
     }
     Ok(())
 }
@@ -155,13 +169,25 @@ fn reads_numbers_as_written(rt: HostRuntime) -> Result<(), Fail> {
         ("enc|i8|+5", "05\n", 0),
         ("enc|i8|-0", "00\n", 0),
         ("enc|u8|007", "07\n", 0),
-        ("enc|u8|00000000000000000000000000000000000000000255", "ff\n", 0),
+        (
+            "enc|u8|00000000000000000000000000000000000000000255",
+            "ff\n",
+            0,
+        ),
         ("enc|i16|-0001", "01\n", 0),
         ("enc|list-u8|+1,02", "020102\n", 0),
         ("enc|i8|128", BAD_VALUE, 2),
         ("enc|i8|-129", BAD_VALUE, 2),
-        ("enc|u128|340282366920938463463374607431768211456", BAD_VALUE, 2),
-        ("enc|i128|-170141183460469231731687303715884105729", BAD_VALUE, 2),
+        (
+            "enc|u128|340282366920938463463374607431768211456",
+            BAD_VALUE,
+            2,
+        ),
+        (
+            "enc|i128|-170141183460469231731687303715884105729",
+            BAD_VALUE,
+            2,
+        ),
     ];
     for (text, printed, status) in cases {
         check(&rt, words(rt.alloc(), text)?.as_slice(), printed, status)?;
@@ -245,7 +271,11 @@ fn answers_failed_output(rt: HostRuntime) -> Result<(), Fail> {
                     finished: false,
                 };
                 let answer = run(rt.alloc(), words.as_slice(), &mut output);
-                let wanted = if writes == length && flushes { status } else { 3 };
+                let wanted = if writes == length && flushes {
+                    status
+                } else {
+                    3
+                };
                 assert_eq!(rt; answer, wanted, "{text} after {writes} writes");
                 assert_eq!(rt; output.finished, flushes, "{text} is flushed");
             }

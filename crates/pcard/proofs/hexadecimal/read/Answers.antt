@@ -18,5 +18,5 @@ pairs-preserved c =
     rw (c.in_ok-push.ensures.items, c.split_at.ensures.back) (before-step _ _ _ _ c.pairs.invariant c.pairs-test.true good)
 
 pub returns-clause-value : goal.returns-clause-value
-returns-clause-value c = 
+returns-clause-value c =
     before-end _ _ _ c.pairs.invariant (nil_from_length _ (eqb-true _ 0 (sym c.is_empty.ensures ∙ c.if-not-is_empty.false)))
