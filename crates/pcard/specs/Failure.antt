@@ -1,0 +1,36 @@
+-- What a call that fails prints, and its exit status.
+use Rattle.std.specs.Prelude.{◌≡◌, ◌⊎◌, ℕ, Option, List, [], ◌∷◌, ◌++◌, codes, Result, Ok, Err}
+use Rattle.std.specs.Io.KnownBytes.{Appends}
+use Rattle.postcard_wire.specs.Error.{error_text}
+use Rattle.pcard.specs.declared.failure.Failure.{Failure}
+use Rattle.pcard.specs.declared.failure.Failure.TheVariants.{Usage, BadValue, BadHex, Library, Output}
+
+-- The text of a failure, in ASCII.
+abbrev pub failure_text : Failure → List ℕ
+failure_text Usage = codes "usage: pcard enc TYPE VALUE, dec TYPE HEX, frames"
+failure_text BadValue = codes "bad value"
+failure_text BadHex = codes "bad hex"
+failure_text (Library e) = error_text e
+failure_text Output = codes "the output could not be written"
+
+-- The exit status of a failure.
+abbrev pub failure_status : Failure → ℕ
+failure_status Usage = 2
+failure_status BadValue = 2
+failure_status BadHex = 2
+failure_status (Library e) = 1
+failure_status Output = 3
+
+-- The exit status of a call whose output can be written.
+abbrev pub exit_status : Result Unit Failure → ℕ
+exit_status (Ok done) = 0
+exit_status (Err failure) = failure_status failure
+
+-- What is printed last: a line of text where the call failed.
+abbrev pub last_line : Result Unit Failure → List ℕ
+last_line (Ok done) = []
+last_line (Err failure) = failure_text failure ++ 10 ∷ []
+
+-- A failure is answered: its line is printed and its status given, or the output could not be written.
+abbrev pub AnswersFailure : Failure → Option (List ℕ) → Option (List ℕ) → ℕ → Type 0
+AnswersFailure failure old new status = (status ≡ 3) ⊎ ((status ≡ failure_status failure) × Appends old new (failure_text failure ++ 10 ∷ []))

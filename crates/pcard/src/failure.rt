@@ -1,0 +1,83 @@
+//! Why a call fails, with its text and exit status.
+
+ghost use Rattle.std.specs.Prelude.{◌≡◌, Some};
+ghost use Rattle.postcard_wire.specs.declared.error.Error.TheVariants.{OutOfMemory};
+ghost use Rattle.pcard.specs.Failure.{failure_status, failure_text};
+ghost use Rattle.pcard.specs.declared.failure.Failure.TheVariants.{Library, Output};
+
+use std::alloc::{AllocError, AllocFailed};
+use std::{fmt, io};
+
+/// Why a call fails.
+#[derive(Debug, Drop, PartialEq, Eq)]
+pub enum Failure {
+    /// The command or the type is unknown, or the words are too few or too many.
+    Usage,
+    /// VALUE says no value of the type.
+    BadValue,
+    /// HEX is not an even count of hexadecimal digits.
+    BadHex,
+    /// The library refused to write or to read the value, or memory ran out while VALUE or HEX was read.
+    Library(postcard::Error),
+    /// The output could not be written.
+    Output,
+}
+
+impl Failure {
+    /// The exit status that answers this failure: 1 to 3.
+    pub fn status(&self) -> u8
+        ensures { result ≡ failure_status self.now }
+    {
+        match self {
+            Failure::Library(_) => 1,
+            Failure::Usage | Failure::BadValue | Failure::BadHex => 2,
+            Failure::Output => 3,
+        }
+    }
+}
+
+impl fmt::Display for Failure {
+    ghost output = { λ failure. Some (failure_text failure) };
+
+    fn fmt<W: fmt::Write>(&self, f: &mut fmt::Formatter<W>) -> fmt::Result {
+        match self {
+            Failure::Usage => f.write_str("usage: pcard enc TYPE VALUE, dec TYPE HEX, frames"),
+            Failure::BadValue => f.write_str("bad value"),
+            Failure::BadHex => f.write_str("bad hex"),
+            Failure::Library(error) => error.fmt(f),
+            Failure::Output => f.write_str("the output could not be written"),
+        }
+    }
+}
+
+impl From<postcard::Error> for Failure {
+    ghost from_gives = { λ error failure. failure ≡ Library error };
+
+    fn from(error: postcard::Error) -> Failure {
+        Failure::Library(error)
+    }
+}
+
+impl From<AllocError> for Failure {
+    ghost from_gives = { λ _ failure. failure ≡ Library OutOfMemory };
+
+    fn from(_error: AllocError) -> Failure {
+        Failure::Library(postcard::Error::OutOfMemory)
+    }
+}
+
+impl<T: Drop> From<AllocFailed<T>> for Failure {
+    ghost from_gives = { λ _ failure. failure ≡ Library OutOfMemory };
+
+    fn from(_error: AllocFailed<T>) -> Failure {
+        Failure::Library(postcard::Error::OutOfMemory)
+    }
+}
+
+impl From<io::Error> for Failure {
+    ghost from_gives = { λ _ failure. failure ≡ Output };
+
+    fn from(_error: io::Error) -> Failure {
+        Failure::Output
+    }
+}

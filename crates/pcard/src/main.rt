@@ -1,0 +1,37 @@
+//! The program `pcard`: encodes a value in the Postcard format, or decodes bytes to a value. `program` does all the work.
+#![tactic(auto)]
+
+use failure::Failure;
+use std::alloc::AllocError;
+use std::process::ExitCode;
+use std::{env, io};
+
+mod command;
+mod failure;
+mod hexadecimal;
+mod joined;
+mod program;
+#[cfg(test)]
+mod tests;
+mod value;
+
+/// The words behind the program's name.
+fn words(rt: &HostRuntime) -> Result<Vec<String>, Failure> {
+    match env::args(rt) {
+        Ok(mut args) => {
+            let _ = args.next();
+            Ok(args.collect(rt.alloc())?)
+        }
+        Err(e) if e.kind() == io::ErrorKind::OutOfMemory => Err(Failure::from(AllocError)),
+        Err(_) => Err(Failure::Usage),
+    }
+}
+
+fn main(rt: HostRuntime) -> ExitCode {
+    let mut output = rt.stdout();
+    let status = match words(&rt) {
+        Ok(words) => program::run(rt.alloc(), words.as_slice(), &mut output),
+        Err(failure) => program::report(Err(failure), &mut output),
+    };
+    ExitCode::from(status)
+}

@@ -1,0 +1,175 @@
+//! From the words of a call to its output and exit status.
+
+ghost use Rattle.std.specs.Prelude.{◌≡◌, ◌≢◌, ◌≤◌, ◌⊎◌, ◌↔◌, ℕ, List, [], ◌∷◌, ◌++◌, map, string_bytes, IfSome, IfErr, OnOk, IsErrOf};
+ghost use Rattle.std.specs.Io.KnownBytes.{Appends};
+ghost use Rattle.hex.specs.Hex.{encode_lower};
+ghost use Rattle.pcard.specs.Command.{IsNoCall};
+ghost use Rattle.pcard.specs.Failure.{AnswersFailure, exit_status, last_line};
+
+use crate::command::{Command, ValueType};
+use crate::failure::Failure;
+use crate::joined::Joined;
+use crate::{hexadecimal, value};
+use postcard::{Deserialize, Serialize};
+use std::alloc::Global;
+use std::fmt::Display;
+use std::io::Write;
+use std::str::FromStr;
+
+/// The greatest size of what `enc` writes, in bytes.
+const BUFFER: usize = 4096;
+
+/// What is done with a type.
+#[derive(Clone, Copy)]
+enum Task<'a> {
+    /// Encode the value that this word says.
+    Encode(&'a str),
+    /// Decode a value from the front of these bytes.
+    Decode(&'a [u8]),
+}
+
+/// Does what the words ask for (program name off), and answers the exit status: 0 done; 1 the library refused, or memory
+/// ran out; 2 the words are wrong; 3 the output could not be written, whatever else would have been answered.
+pub fn run<W: Write>(alloc: Global, words: &[String], output: &mut W) -> u8
+    ensures status { result ≤ 3 }
+    ensures usage { IsNoCall (map string_bytes words.now) → AnswersFailure Failure.Usage (W.contents output.old) (W.contents output.new) result }
+{
+    let outcome = perform(alloc, words, output);
+    report(outcome, output)
+}
+
+/// Ends a call: prints why it failed, flushes the output, and answers the exit status.
+pub fn report<W: Write>(outcome: Result<(), Failure>, output: &mut W) -> u8
+    ensures status { (result ≡ 3) ⊎ (result ≡ exit_status outcome) }
+    ensures printed { result ≢ 3 → Appends (W.contents output.old) (W.contents output.new) (last_line outcome) }
+{
+    let (printed, status) = match outcome {
+        Ok(()) => (Ok(()), 0),
+        Err(failure) => (writeln!(output, "{failure}"), failure.status()),
+    };
+    match printed.and(output.flush()) {
+        Ok(()) => status,
+        Err(_) => Failure::Output.status(),
+    }
+}
+
+/// Reads the words, and prints what they ask for.
+fn perform<W: Write>(alloc: Global, words: &[String], output: &mut W) -> Result<(), Failure>
+    ensures usage { IsErrOf result Failure.Usage ↔ IsNoCall (map string_bytes words.now) }
+    ensures untouched { result ≡ Err Failure.Usage → output.new ≡ output.old }
+{
+    match Command::from_words(words) {
+        Some(Command::Encode { kind, value }) => convert(alloc, kind, Task::Encode(value), output),
+        Some(Command::Decode { kind, hex }) => {
+            let bytes = hexadecimal::read(alloc, hex)?;
+            convert(alloc, kind, Task::Decode(bytes.as_slice()), output)
+        }
+        None => Err(Failure::Usage),
+    }
+}
+
+/// The one table of types.
+fn convert<W: Write>(
+    alloc: Global,
+    kind: ValueType,
+    task: Task<'_>,
+    output: &mut W,
+) -> Result<(), Failure>
+    ensures { IfErr result (λ e. e ≢ Failure.Usage) }
+{
+    match kind {
+        ValueType::U8 => convert_number::<u8, W>(alloc, task, output),
+        ValueType::U16 => convert_number::<u16, W>(alloc, task, output),
+        ValueType::U32 => convert_number::<u32, W>(alloc, task, output),
+        ValueType::U64 => convert_number::<u64, W>(alloc, task, output),
+        ValueType::U128 => convert_number::<u128, W>(alloc, task, output),
+        ValueType::I8 => convert_number::<i8, W>(alloc, task, output),
+        ValueType::I16 => convert_number::<i16, W>(alloc, task, output),
+        ValueType::I32 => convert_number::<i32, W>(alloc, task, output),
+        ValueType::I64 => convert_number::<i64, W>(alloc, task, output),
+        ValueType::I128 => convert_number::<i128, W>(alloc, task, output),
+        ValueType::Str => convert_text(alloc, task, output),
+        ValueType::ListU8 => convert_list::<u8, W>(alloc, task, output),
+        ValueType::ListU32 => convert_list::<u32, W>(alloc, task, output),
+    }
+}
+
+/// Encodes or decodes a number.
+fn convert_number<'a, T, W: Write>(
+    alloc: Global,
+    task: Task<'a>,
+    output: &mut W,
+) -> Result<(), Failure>
+where
+    T: FromStr + Display + Serialize + Deserialize<'a> + Drop,
+    T::Err: Drop,
+    ensures { IfErr result (λ e. e ≢ Failure.Usage) }
+{
+    match task {
+        Task::Encode(word) => print_encoded(&value::number::<T>(word)?, output),
+        Task::Decode(bytes) => {
+            let (number, rest) = postcard::take_from_bytes::<T>(alloc, bytes)?;
+            print_decoded(&number, rest, output)
+        }
+    }
+}
+
+/// Encodes or decodes a text.
+fn convert_text<W: Write>(alloc: Global, task: Task<'_>, output: &mut W) -> Result<(), Failure>
+    ensures { IfErr result (λ e. e ≢ Failure.Usage) }
+{
+    match task {
+        Task::Encode(word) => print_encoded(&word, output),
+        Task::Decode(bytes) => {
+            let (text, rest) = postcard::take_from_bytes::<&str>(alloc, bytes)?;
+            print_decoded(text, rest, output)
+        }
+    }
+}
+
+/// Encodes or decodes a list of numbers.
+fn convert_list<'a, T, W: Write>(
+    alloc: Global,
+    task: Task<'a>,
+    output: &mut W,
+) -> Result<(), Failure>
+where
+    T: FromStr + Display + Serialize + Deserialize<'a> + Drop,
+    T::Err: Drop,
+    ensures { IfErr result (λ e. e ≢ Failure.Usage) }
+{
+    match task {
+        Task::Encode(word) => print_encoded(&value::list::<T>(alloc, word)?, output),
+        Task::Decode(bytes) => {
+            let (numbers, rest) = postcard::take_from_bytes::<Vec<T>>(alloc, bytes)?;
+            print_decoded(Joined(numbers.as_slice()), rest, output)
+        }
+    }
+}
+
+/// Prints the bytes of a value as hexadecimal on a line.
+fn print_encoded<T: Serialize, W: Write>(value: &T, output: &mut W) -> Result<(), Failure>
+    ensures printed { OnOk result ((bytes : List ℕ) × Appends (W.contents output.old) (W.contents output.new) (encode_lower bytes ++ 10 ∷ [])) }
+    ensures refused { IfErr result (λ e. e ≢ Failure.Usage) }
+{
+    let mut buffer = [0; BUFFER];
+    let bytes = postcard::to_slice(value, &mut buffer)?;
+    hexadecimal::write(bytes, output)?;
+    writeln!(output)?;
+    Ok(())
+}
+
+/// Prints a value on a line, and the bytes behind it as hexadecimal on a second.
+fn print_decoded<D: Display + Drop, W: Write>(
+    value: D,
+    rest: &[u8],
+    output: &mut W,
+) -> Result<(), Failure>
+    ensures printed { OnOk result (IfSome (D.output value) (λ text. Appends (W.contents output.old) (W.contents output.new) (text ++ 10 ∷ encode_lower rest.now ++ 10 ∷ []))) }
+    ensures refused { IfErr result (λ e. e ≡ Failure.Output) }
+{
+    writeln!(output, "{value}")?;
+    hexadecimal::write(rest, output)?;
+    writeln!(output)?;
+    Ok(())
+}
