@@ -3,6 +3,7 @@
 ghost use Rattle.std.specs.Prelude.{◌≡◌, ◌≢◌, ◌≤◌, ◌⊎◌, ◌↔◌, ℕ, List, [], ◌∷◌, ◌++◌, map, string_bytes, IfSome, IfErr, OnOk, IsErrOf};
 ghost use Rattle.std.specs.Io.KnownBytes.{Appends};
 ghost use Rattle.hex.specs.Hex.{encode_lower};
+ghost use Rattle.postcard_wire.specs.Spelling.{bytes};
 ghost use Rattle.pcard.specs.Command.{IsNoCall};
 ghost use Rattle.pcard.specs.Failure.{AnswersFailure, exit_status, last_line};
 
@@ -147,14 +148,14 @@ where
     }
 }
 
-/// Prints the bytes of a value as hexadecimal on a line.
+/// Prints the shortest bytes of a value as hexadecimal on a line.
 fn print_encoded<T: Serialize, W: Write>(value: &T, output: &mut W) -> Result<(), Failure>
-    ensures printed { OnOk result ((bytes : List ℕ) × Appends (W.contents output.old) (W.contents output.new) (encode_lower bytes ++ 10 ∷ [])) }
+    ensures printed { OnOk result (Appends (W.contents output.old) (W.contents output.new) (encode_lower (bytes (T.tree value.now)) ++ 10 ∷ [])) }
     ensures refused { IfErr result (λ e. e ≢ Failure.Usage) }
 {
     let mut buffer = [0; BUFFER];
-    let bytes = postcard::to_slice(value, &mut buffer)?;
-    hexadecimal::write(bytes, output)?;
+    let front = postcard::to_slice(value, &mut buffer)?;
+    hexadecimal::write(front, output)?;
     writeln!(output)?;
     Ok(())
 }
