@@ -156,3 +156,17 @@ fn counts_elements(rt: HostRuntime) -> std::result::Result<(), Fail> {
     assert_eq!(rt; access.next_element::<u16, _>(alloc, &mut ends), Ok(None));
     Ok(())
 }
+
+/// Run with `--fail-alloc N` too, which refuses the Nth request for memory: each answers `OutOfMemory` then, and no other error.
+#[test]
+fn answers_out_of_memory(rt: HostRuntime) {
+    let alloc = rt.alloc();
+    match read::<String>(alloc, &[0x02, 0x48, 0x69]) {
+        Ok(text) => assert_eq!(rt; text.as_str(), "Hi"),
+        Err(e) => assert_eq!(rt; e, Error::OutOfMemory),
+    }
+    match read::<Vec<u8>>(alloc, &[0x02, 0x05, 0x06]) {
+        Ok(list) => assert_eq!(rt; list.as_slice(), [0x05, 0x06].as_slice()),
+        Err(e) => assert_eq!(rt; e, Error::OutOfMemory),
+    }
+}
