@@ -10,9 +10,20 @@
 //! - `slice`: the flavor that fills them.
 #![tactic(auto)]
 
+pub mod alloc_vec;
+pub mod extend;
 pub mod flavor;
+pub mod hvec;
+pub mod io;
 mod memory;
+pub mod size;
 pub mod slice;
+pub mod storage;
 
+pub use alloc_vec::{AllocVec, StdVec};
+pub use extend::{ExtendBytes, ExtendFlavor};
 pub use flavor::Flavor;
+pub use hvec::HVec;
+pub use size::Size;
 pub use slice::Slice;
+pub use storage::Storage;

@@ -1,0 +1,90 @@
+//! The flavor over a writer of `std`.
+
+ghost use Rattle.std.specs.Prelude.{◌≡◌, [], ◌∷◌, ⊤, IsOk, OnOk, OnErr, IfOk, IfErr};
+ghost use Rattle.std.specs.Io.KnownBytes.{Keeps};
+ghost use Rattle.postcard_ser_flavors.specs.Flavor.{Begins};
+ghost use Rattle.postcard_ser_flavors.specs.Held.{NoRoom, AnyReached};
+ghost use Rattle.postcard_ser_flavors.specs.Told.{Told, told_lawful};
+
+use crate::flavor::Flavor;
+use postcard_wire::{Error, Result};
+use std::io::Write;
+use std::marker::Model;
+
+/// Hands each piece to a writer, whole, and flushes it at the end. Its output is the writer.
+///
+/// A contract sees the writer, and speaks of the bytes in it where the writer tells them. What a writer that failed
+/// has got is left open.
+#[derive(Drop)]
+pub struct WriteFlavor<T: Write> {
+    writer: T,
+}
+
+impl<T: Write> Model for WriteFlavor<T> {
+    ghost Value = { T };
+
+    ghost coded = { T.code };
+
+    ghost view = { λ s. s.writer };
+}
+
+impl<T: Write + Drop> WriteFlavor<T> {
+    /// Stands behind what was written to the writer before.
+    pub fn new(writer: T) -> WriteFlavor<T>
+        ensures { result ≡ writer }
+    {
+        WriteFlavor { writer }
+    }
+}
+
+impl<T: Write + Drop> Flavor for WriteFlavor<T> {
+    type Output = T;
+
+    ghost appended = { Told T.contents };
+
+    ghost room = { NoRoom };
+
+    ghost tidy = { ⊥ };
+
+    ghost reaches = { AnyReached };
+
+    ghost finishes = { λ s output. Keeps (T.contents s) (T.contents output) };
+
+    ghost lawful = { told_lawful T.contents };
+
+    /// Hands a byte on. Refuses with `SerializeBufferFull` where the writer fails.
+    fn try_push(&mut self, byte: u8) -> Result<()>
+        ensures appends { OnOk result (⟦<WriteFlavor<T> as Flavor>⟧.appended self.old (byte ∷ []) self.new) }
+        ensures has_room { ⟦<WriteFlavor<T> as Flavor>⟧.room self.old (byte ∷ []) → IsOk result }
+        ensures refused { OnErr result (⟦<WriteFlavor<T> as Flavor>⟧.tidy → Begins ⟦<WriteFlavor<T> as Flavor>⟧.appended self.old (byte ∷ []) self.new) }
+        ensures leaves { ⟦<WriteFlavor<T> as Flavor>⟧.reaches self.old self.new }
+        ensures full { IfErr result (λ e. e ≡ Error.SerializeBufferFull) }
+    {
+        self.try_extend(&[byte])
+    }
+
+    /// Hands bytes on in one piece, by `write_all`. Refuses with `SerializeBufferFull` where the writer fails.
+    fn try_extend(&mut self, bytes: &[u8]) -> Result<()>
+        ensures appends { OnOk result (⟦<WriteFlavor<T> as Flavor>⟧.appended self.old bytes.now self.new) }
+        ensures has_room { ⟦<WriteFlavor<T> as Flavor>⟧.room self.old bytes.now → IsOk result }
+        ensures refused { OnErr result (⟦<WriteFlavor<T> as Flavor>⟧.tidy → Begins ⟦<WriteFlavor<T> as Flavor>⟧.appended self.old bytes.now self.new) }
+        ensures leaves { ⟦<WriteFlavor<T> as Flavor>⟧.reaches self.old self.new }
+        ensures full { IfErr result (λ e. e ≡ Error.SerializeBufferFull) }
+    {
+        self.writer
+            .write_all(bytes)
+            .map_err(|_| Error::SerializeBufferFull)
+    }
+
+    /// Flushes the writer and answers it. Refuses with `SerializeBufferFull` where the flush fails; the writer is then
+    /// dropped.
+    fn finalize(self) -> Result<T>
+        ensures gives { IfOk result (λ output. ⟦<WriteFlavor<T> as Flavor>⟧.finishes self output) }
+        ensures closes { ⟦<WriteFlavor<T> as Flavor>⟧.room self [] → IsOk result }
+        ensures full { IfErr result (λ e. e ≡ Error.SerializeBufferFull) }
+    {
+        let WriteFlavor { mut writer } = self;
+        writer.flush().map_err(|_| Error::SerializeBufferFull)?;
+        Ok(writer)
+    }
+}
