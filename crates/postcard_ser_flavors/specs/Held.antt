@@ -1,11 +1,11 @@
 -- What a contract sees of the flavors that hold a list of bytes, and why they are lawful. The lemmas stand here since
 -- ghost members cite them.
-use Rattle.std.proofs.Common.{◌≡◌, ℕ, ◌+◌, ◌≤◌, List, ◌++◌, length, sym, ap, append-nil, length-append, arith}
+use Rattle.std.proofs.Common.{◌≡◌, ℕ, ◌+◌, ◌<◌, ◌≤◌, List, ◌++◌, length, sym, ap, append-nil, length-append, arith}
 use Rattle.std.specs.Coded.{le_prop}
-use Rattle.std.specs.Prelude.{⊤}
+use Rattle.std.specs.Prelude.{⊤, slice_index}
 use Rattle.postcard_ser_flavors.specs.Flavor.{IsFlavor}
 use Rattle.postcard_ser_flavors.specs.SliceLaws.{held_join, fits_front, fits_rest}
-use Rattle.postcard_ser_flavors.specs.Storage.{IsFree, IsStorage}
+use Rattle.postcard_ser_flavors.specs.Storage.{IsFree, IsStorage, IsIndexed}
 
 module _ {S : Type 0} (held : S → List ℕ) where
   -- t holds what s did, and then x.
@@ -94,3 +94,10 @@ module _ {S : Type 0} (held : S → List ℕ) where
     free_room = λ s x h. h;
     free_rest = λ s t x n h p v. rest_fits (held s) (held t) x n capacity p h;
   }
+
+-- A list is indexed where it has a place.
+pub list_indexed : IsIndexed (λ (s : List ℕ) place. place < length s) (λ s place byte. byte ≡ slice_index s place) (λ s. s)
+list_indexed = record {
+  can_read = λ s place h. h;
+  reads = λ s place byte h e. e;
+}

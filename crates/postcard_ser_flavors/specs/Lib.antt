@@ -4,5 +4,6 @@ pub mod Held
 pub mod Memory
 pub mod Slice
 pub mod SliceLaws
+pub mod SliceStorage
 pub mod Storage
 pub mod Told

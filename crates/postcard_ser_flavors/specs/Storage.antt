@@ -1,5 +1,5 @@
 -- What holds of the words of each storage.
-use Rattle.std.specs.Prelude.{◌≡◌, ℕ, ◌+◌, List, ◌++◌, length}
+use Rattle.std.specs.Prelude.{◌≡◌, ℕ, ◌+◌, ◌<◌, List, ◌++◌, length, slice_index}
 
 -- Where bytes are free, fewer are too. One proof that bytes are free is as good as another.
 pub record IsFree {S : Type 0} (free : S → ℕ → Type 0) : Type 0 where
@@ -12,3 +12,8 @@ pub record IsStorage {S : Type 0} (appended : S → List ℕ → S → Type 0) (
   pub held_more : (s t : S) (x : List ℕ) → appended s x t → held t ≡ held s ++ x
   pub free_room : (s : S) (x : List ℕ) → free s (length x) → room s x
   pub free_rest : (s t : S) (x : List ℕ) (n : ℕ) → free s (length x + n) → appended s x t → reaches s t → free t n
+
+-- A place that is held may be indexed, and shows the byte there.
+pub record IsIndexed {S : Type 0} (can_index : S → ℕ → Type 0) (index_gives : S → ℕ → ℕ → Type 0) (held : S → List ℕ) : Type 0 where
+  pub can_read : (s : S) (place : ℕ) → place < length (held s) → can_index s place
+  pub reads : (s : S) (place byte : ℕ) → place < length (held s) → index_gives s place byte → byte ≡ slice_index (held s) place

@@ -2,7 +2,7 @@
 
 ghost use Rattle.std.specs.Prelude.{◌≡◌, ◌+◌, ◌<◌, [], ◌∷◌, ◌++◌, length, slice_index, slice_set, ⊤, IsOk, OnOk, OnErr, IfOk, IfErr};
 ghost use Rattle.postcard_ser_flavors.specs.Flavor.{Begins};
-ghost use Rattle.postcard_ser_flavors.specs.Held.{Appended, NoRoom, NoneFree, AnyReached, grows_lawful, none_free, grows_storage};
+ghost use Rattle.postcard_ser_flavors.specs.Held.{Appended, NoRoom, NoneFree, AnyReached, grows_lawful, none_free, grows_storage, list_indexed};
 
 use crate::flavor::Flavor;
 use crate::storage::Storage;
@@ -135,4 +135,6 @@ impl Storage for AllocVec {
     }
 
     ghost storage_lawful = { grows_storage (λ s. s) };
+
+    ghost indexed = { list_indexed };
 }

@@ -2,7 +2,7 @@
 
 ghost use Rattle.std.specs.Prelude.{◌≡◌, ◌+◌, ◌≤◌, ◌<◌, ◌↔◌, [], ◌∷◌, ◌++◌, length, slice_index, slice_set, ⊤, IsOk, OnOk, OnErr, IfOk, IfErr};
 ghost use Rattle.postcard_ser_flavors.specs.Flavor.{Begins};
-ghost use Rattle.postcard_ser_flavors.specs.Held.{Appended, HasRoom, CanTake, AnyReached, fixed_lawful, fixed_free, fixed_storage};
+ghost use Rattle.postcard_ser_flavors.specs.Held.{Appended, HasRoom, CanTake, AnyReached, fixed_lawful, fixed_free, fixed_storage, list_indexed};
 
 ghost use Rattle.std.specs.Borrow.{sem, Lends, u8 as byte_row, unit as unit_row};
 ghost use Rattle.arrayvec.specs.Lends.{lends_item};
@@ -158,4 +158,6 @@ impl<const B: usize> Storage for HVec<B> {
     }
 
     ghost storage_lawful = { fixed_storage (λ s. s) B };
+
+    ghost indexed = { list_indexed };
 }

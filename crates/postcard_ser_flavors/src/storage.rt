@@ -1,7 +1,7 @@
 //! The trait of the flavors that keep their bytes where they can be changed.
 
 ghost use Rattle.std.specs.Prelude.{◌≡◌, ℕ, ◌^◌, ◌<◌, List, length, slice_set};
-ghost use Rattle.postcard_ser_flavors.specs.Storage.{IsFree, IsStorage};
+ghost use Rattle.postcard_ser_flavors.specs.Storage.{IsFree, IsStorage, IsIndexed};
 
 use crate::flavor::Flavor;
 use std::ops::IndexMut;
@@ -12,7 +12,8 @@ use std::ops::IndexMut;
 /// An impl defines these members beside those of [`Flavor`]:
 /// - `held state`: the bytes written so far, from the first on. Bytes from before a frame are among them.
 /// - `free state n`: any `n` bytes more are surely taken, whichever they are and however they are cut into pieces.
-/// - `free_lawful`, `storage_lawful`: what holds of these in each storage.
+/// - `free_lawful`, `storage_lawful`, `indexed`: what holds of these in each storage; by the last, a byte that is held
+///   can be read by its place.
 pub trait Storage: Flavor + IndexMut<usize, Output = u8> {
     ghost held: { Self → List ℕ };
 
@@ -32,4 +33,6 @@ pub trait Storage: Flavor + IndexMut<usize, Output = u8> {
         ensures countable { length (held self.new) < 2 ^ 64 };
 
     ghost storage_lawful: { IsStorage Self.appended Self.room Self.reaches held free };
+
+    ghost indexed: { IsIndexed Self.can_index Self.index_gives held };
 }
