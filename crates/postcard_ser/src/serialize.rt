@@ -25,5 +25,6 @@ pub trait Serialize {
 
     /// Writes the shortest bytes of the value's tree.
     fn serialize<F: Flavor>(&self, serializer: &mut Serializer<F>) -> Result<()>
-        ensures { Wrote F.Flavor serializer.old.output (bytes (tree self.now)) (refuses_itself self.now) may_fail_text result serializer.new.output };
+        ensures { Wrote F.Flavor serializer.old.output (bytes (tree self.now))
+            (refuses_itself self.now) may_fail_text result serializer.new.output };
 }

@@ -26,25 +26,34 @@ pub struct Serializer<F: Flavor> {
     pub output: F,
 }
 
+// What is answered where a flavor refuses, whatever its own error.
+fn refusal(_of_flavor: Error) -> Error
+    ensures { result ≡ Error.SerializeBufferFull }
+{
+    Error::SerializeBufferFull
+}
+
 impl<F: Flavor> Serializer<F> {
     // Hands over a byte.
     fn push(&mut self, byte: u8) -> Result<()>
         ensures { Wrote F.Flavor self.old.output (byte ∷ []) ⊥ ⊥ result self.new.output }
     {
-        match self.output.try_push(byte) {
-            Ok(()) => Ok(()),
-            Err(_) => Err(Error::SerializeBufferFull),
-        }
+        self.output.try_push(byte).map_err(refusal)
     }
 
     // Hands over bytes in a row.
-    fn extend(&mut self, bytes: &[u8]) -> Result<()>
-        ensures { Wrote F.Flavor self.old.output bytes.now ⊥ ⊥ result self.new.output }
+    fn extend(&mut self, piece: &[u8]) -> Result<()>
+        ensures { Wrote F.Flavor self.old.output piece.now ⊥ ⊥ result self.new.output }
     {
-        match self.output.try_extend(bytes) {
-            Ok(()) => Ok(()),
-            Err(_) => Err(Error::SerializeBufferFull),
-        }
+        self.output.try_extend(piece).map_err(refusal)
+    }
+
+    // Hands over the count of the bytes, and then the bytes.
+    fn extend_counted(&mut self, piece: &[u8]) -> Result<()>
+        ensures { Wrote F.Flavor self.old.output (bytes (Text piece.now)) ⊥ ⊥ result self.new.output }
+    {
+        self.serialize_u64(piece.len() as u64)?;
+        self.extend(piece)
     }
 
     /// Whether a type should write itself for people to read: it never should.
@@ -95,7 +104,8 @@ impl<F: Flavor> Serializer<F> {
 
     /// Writes one byte, in two's complement.
     pub fn serialize_i8(&mut self, v: i8) -> Result<()>
-        ensures { Wrote F.Flavor self.old.output (bytes (Byte (cast_unsigned w8 v))) ⊥ ⊥ result self.new.output }
+        ensures { Wrote F.Flavor self.old.output (bytes (Byte (cast_unsigned w8 v))) ⊥ ⊥
+            result self.new.output }
     {
         self.push(v.cast_unsigned())
     }
@@ -132,24 +142,25 @@ impl<F: Flavor> Serializer<F> {
     pub fn serialize_str(&mut self, v: &str) -> Result<()>
         ensures { Wrote F.Flavor self.old.output (bytes (Text v.now)) ⊥ ⊥ result self.new.output }
     {
-        self.serialize_u64(v.len() as u64)?;
-        self.extend(v.as_bytes())
+        self.extend_counted(v.as_bytes())
     }
 
     /// Writes the count of the bytes as a varint, and then the bytes: those of a list of `u8`.
     pub fn serialize_bytes(&mut self, v: &[u8]) -> Result<()>
-        ensures { Wrote F.Flavor self.old.output (bytes (Seq (trees (map Byte v.now)))) ⊥ ⊥ result self.new.output }
+        ensures { Wrote F.Flavor self.old.output (bytes (Seq (trees (map Byte v.now)))) ⊥ ⊥
+            result self.new.output }
     {
-        self.serialize_u64(v.len() as u64)?;
-        self.extend(v)
+        self.extend_counted(v)
     }
 
     /// Begins a list: writes the count of its elements as a varint. Elements are then written by
     /// `serialize_element`; nobody counts them. Refuses an unknown count with `SerializeSeqLengthUnknown`, before
     /// anything is written.
     pub fn serialize_seq(&mut self, len: Option<usize>) -> Result<()>
-        ensures known { IfSome len (λ n. Wrote F.Flavor self.old.output (bytes (Num 64 n)) ⊥ ⊥ result self.new.output) }
-        ensures unknown { IfNone len (IsErrOf result Error.SerializeSeqLengthUnknown × (self.new ≡ self.old)) }
+        ensures known { IfSome len (λ n. Wrote F.Flavor self.old.output (bytes (Num 64 n)) ⊥ ⊥
+            result self.new.output) }
+        ensures unknown { IfNone len (IsErrOf result Error.SerializeSeqLengthUnknown
+            × (self.new ≡ self.old)) }
     {
         match len {
             Some(n) => self.serialize_u64(n as u64),
@@ -159,7 +170,8 @@ impl<F: Flavor> Serializer<F> {
 
     /// Writes an element of a list, or any part of a value.
     pub fn serialize_element<T: Serialize>(&mut self, value: &T) -> Result<()>
-        ensures { Wrote F.Flavor self.old.output (bytes (T.tree value.now)) (T.refuses_itself value.now) T.may_fail_text result self.new.output }
+        ensures { Wrote F.Flavor self.old.output (bytes (T.tree value.now))
+            (T.refuses_itself value.now) T.may_fail_text result self.new.output }
     {
         value.serialize(self)
     }

@@ -12,7 +12,8 @@ use postcard_wire::Result;
 
 /// Writes the elements in order, with no count before them.
 fn serialize_all<T: Serialize, F: Flavor>(items: &[T], serializer: &mut Serializer<F>) -> Result<()>
-    ensures { Wrote F.Flavor serializer.old.output (bytes_all (trees (map T.tree items.now))) (Any T.refuses_itself items.now) T.may_fail_text result serializer.new.output }
+    ensures { Wrote F.Flavor serializer.old.output (bytes_all (trees (map T.tree items.now)))
+        (Any T.refuses_itself items.now) T.may_fail_text result serializer.new.output }
 {
     for item in items {
         item.serialize(serializer)?;
