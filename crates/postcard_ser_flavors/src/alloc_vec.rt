@@ -138,3 +138,41 @@ impl Storage for AllocVec {
 
     ghost indexed = { list_indexed };
 }
+
+#[cfg(test)]
+mod tests {
+    use super::*;
+    use std::test::Fail;
+
+    // Also run with `rt try --test --fail-alloc N` for N from 1 on: then one of these writes is refused.
+    #[test]
+    fn a_refused_write_can_be_made_again(rt: HostRuntime) -> std::result::Result<(), Fail> {
+        let mut vec = AllocVec::new(rt.alloc());
+        for piece in [[7; 1].as_slice(), [7; 30].as_slice(), [7; 200].as_slice()] {
+            let before = vec.vec.len();
+            if let Err(error) = vec.try_extend(piece) {
+                assert_eq!(rt; error, Error::SerializeBufferFull);
+                assert_eq!(rt; vec.vec.len(), before);
+                vec.try_extend(piece)?;
+            }
+        }
+        let vec = vec.finalize()?;
+        assert_eq!(rt; vec.as_slice(), [7; 231].as_slice());
+        Ok(())
+    }
+
+    #[test]
+    fn grows_seldom(rt: HostRuntime) -> std::result::Result<(), Fail> {
+        let mut vec = AllocVec::new(rt.alloc());
+        let mut growths = 0u16;
+        for _ in 0..4000u16 {
+            let before = vec.vec.capacity();
+            vec.try_push(7)?;
+            if vec.vec.capacity() != before {
+                growths = growths.saturating_add(1);
+            }
+        }
+        assert!(rt; growths <= 12, "{growths} times");
+        Ok(())
+    }
+}

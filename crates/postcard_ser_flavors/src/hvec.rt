@@ -3,7 +3,6 @@
 ghost use Rattle.std.specs.Prelude.{◌≡◌, ◌+◌, ◌≤◌, ◌<◌, ◌↔◌, [], ◌∷◌, ◌++◌, length, slice_index, slice_set, ⊤, IsOk, OnOk, OnErr, IfOk, IfErr};
 ghost use Rattle.postcard_ser_flavors.specs.Flavor.{Begins};
 ghost use Rattle.postcard_ser_flavors.specs.Held.{Appended, HasRoom, CanTake, AnyReached, fixed_lawful, fixed_free, fixed_storage, list_indexed};
-
 ghost use Rattle.std.specs.Borrow.{sem, Lends, u8 as byte_row, unit as unit_row};
 ghost use Rattle.arrayvec.specs.Lends.{lends_item};
 
@@ -160,4 +159,21 @@ impl<const B: usize> Storage for HVec<B> {
     ghost storage_lawful = { fixed_storage (λ s. s) B };
 
     ghost indexed = { list_indexed };
+}
+
+#[cfg(test)]
+mod tests {
+    use super::*;
+
+    #[test]
+    fn takes_a_piece_whole_or_not(rt: HostRuntime) {
+        let mut vec = HVec::<4>::new();
+        assert_eq!(rt; vec.try_extend(&[1, 2]), Ok(()));
+        assert_eq!(rt; vec.try_extend(&[3, 4, 5]), Err(Error::SerializeBufferFull));
+        assert_eq!(rt; vec.vec.as_slice(), [1, 2].as_slice());
+        assert_eq!(rt; vec.try_extend(&[3, 4]), Ok(()));
+        assert_eq!(rt; vec.try_push(5), Err(Error::SerializeBufferFull));
+        vec.set(1, 9);
+        assert_eq!(rt; vec.vec.as_slice(), [1, 9, 3, 4].as_slice());
+    }
 }

@@ -19,6 +19,8 @@ mod memory;
 pub mod size;
 pub mod slice;
 pub mod storage;
+#[cfg(test)]
+mod tests;
 
 pub use alloc_vec::{AllocVec, StdVec};
 pub use extend::{ExtendBytes, ExtendFlavor};
