@@ -70,3 +70,7 @@ module _ {S O : Type 0} {F : Ghosts S O} where
     refused = λ n d. begins_then F.lawful.appended_join x y w.appends (v.refused (λ q. n (i q)) d);
     leaves = F.lawful.reaches_join s t u w.leaves v.leaves;
   }
+
+  -- Once all that had room is written, there is room for no more bytes, by which `finalize` succeeds.
+  pub wrote_closes : {s t : S} {Q T : Type 0} (x : List ℕ) → F.room s x → Wrote F s x Q T (Ok tt) t → F.room t []
+  wrote_closes {s} {t} x r w = F.lawful.room_rest s t x [] (rw append-nil r) w.appends w.leaves

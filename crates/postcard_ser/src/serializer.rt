@@ -18,8 +18,8 @@ use postcard_wire::{Error, Result};
 
 /// Writes values into a flavor.
 ///
-/// Each call refuses with `SerializeBufferFull` where the flavor refuses, whatever the flavor's own error is. The
-/// output then holds the pieces that were taken so far.
+/// Each call answers `SerializeBufferFull` where the flavor refuses, whatever the flavor's own error
+/// is. The output then holds the pieces that were taken so far.
 #[derive(Drop)]
 pub struct Serializer<F: Flavor> {
     /// Where the bytes go.
@@ -50,7 +50,8 @@ impl<F: Flavor> Serializer<F> {
 
     // Hands over the count of the bytes, and then the bytes.
     fn extend_counted(&mut self, piece: &[u8]) -> Result<()>
-        ensures { Wrote F.Flavor self.old.output (bytes (Text piece.now)) ⊥ ⊥ result self.new.output }
+        ensures { Wrote F.Flavor self.old.output (bytes (Text piece.now)) ⊥ ⊥
+            result self.new.output }
     {
         self.serialize_u64(piece.len() as u64)?;
         self.extend(piece)
@@ -153,9 +154,10 @@ impl<F: Flavor> Serializer<F> {
         self.extend_counted(v)
     }
 
-    /// Begins a list: writes the count of its elements as a varint. Elements are then written by
-    /// `serialize_element`; nobody counts them. Refuses an unknown count with `SerializeSeqLengthUnknown`, before
-    /// anything is written.
+    /// Begins a list: writes the count of its elements as a varint of 1 to 10 bytes.
+    ///
+    /// Each element is then written by `serialize_element`; nobody counts them. An unknown count is
+    /// refused with `SerializeSeqLengthUnknown`, before anything is written.
     pub fn serialize_seq(&mut self, len: Option<usize>) -> Result<()>
         ensures known { IfSome len (λ n. Wrote F.Flavor self.old.output (bytes (Num 64 n)) ⊥ ⊥
             result self.new.output) }

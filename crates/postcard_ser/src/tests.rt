@@ -17,7 +17,8 @@ struct Reading<'a> {
 }
 
 impl Serialize for Reading<'_> {
-    ghost tree = { λ v. Group (trees (⟦<&'static str as Serialize>⟧.tree v.name ∷ ⟦<u32 as Serialize>⟧.tree v.value ∷ [])) };
+    ghost tree = { λ v. Group (trees (⟦<&'static str as Serialize>⟧.tree v.name
+        ∷ ⟦<u32 as Serialize>⟧.tree v.value ∷ [])) };
 
     ghost refuses_itself = { λ _. ⊥ };
 
@@ -33,7 +34,8 @@ impl Serialize for Reading<'_> {
 struct Both(u32, u32);
 
 impl Serialize for Both {
-    ghost tree = { λ v. Seq (trees (⟦<u32 as Serialize>⟧.tree v.0 ∷ ⟦<u32 as Serialize>⟧.tree v.1 ∷ [])) };
+    ghost tree = { λ v. Seq (trees (⟦<u32 as Serialize>⟧.tree v.0
+        ∷ ⟦<u32 as Serialize>⟧.tree v.1 ∷ [])) };
 
     ghost refuses_itself = { λ _. ⊥ };
 
@@ -140,8 +142,8 @@ fn assert_written<T: Serialize>(rt: &impl Abort, value: &T, want: &[u8]) {
     assert_eq!(rt; written(value, &mut buffer), Ok(want));
 }
 
-/// With each number of pieces that the flavor takes before it refuses, these bytes are held; with as many as there
-/// are numbers, the value is written.
+/// Over a flavor that refuses its first piece, its second and so on, the value is refused and so
+/// many of its bytes are held.
 fn assert_refused<T: Serialize>(rt: &impl Abort, value: &T, want: &[u8], held: &[usize]) {
     for (i, count) in held.iter().enumerate() {
         let mut buffer = [0xAA; 32];

@@ -8,14 +8,14 @@ use postcard_wire::Result;
 /// Takes the bytes of a message, and ends as its output.
 ///
 /// An impl defines these members:
-/// - `appended old bytes new`: `new` holds what `old` did and then these bytes. A flavor that holds no bytes says it
-///   of what it has instead, as a count.
-/// - `room state bytes`: these bytes are surely taken, however they are cut into pieces. That there is room for no
+/// - `appended old bytes new`: `new` holds what `old` did, and then these bytes. A flavor that holds no
+///   bytes says it of what it has instead, as a count.
+/// - `room state bytes`: these bytes are surely taken, however they are cut into pieces. Room for no
 ///   bytes says that `finalize` succeeds.
 /// - `tidy`: a refusal leaves a beginning of the refused bytes appended, or nothing.
 /// - `reaches old new`: calls that push may make `new` of `old`, refused calls among them.
 /// - `finishes last output`: the output of a flavor whose last state this is.
-/// - `lawful`: what holds of these in each flavor.
+/// - `lawful`: what holds of these words in each flavor.
 pub trait Flavor {
     /// What the flavor ends as.
     type Output;
