@@ -38,8 +38,8 @@ use Rattle.postcard_ser_flavors.specs.declared.slice.Slice.TheView.{view, invari
 use Rattle.postcard_ser_flavors.specs.contracts.slice.Slice.{the_row}
 use Rattle.postcard_ser_flavors.specs.contracts.slice.Slice.TheInside as inside
 
--- D is the slice as a contract sees it, a its fields and u the fields of its memory; us are the words of the slice, vss
--- those of its fields, and wss those of the memory's field.
+-- D is the slice as a contract sees it, a its fields and u the fields of its memory; us are the
+-- words of the slice, vss those of its fields, and wss those of the memory's field.
 module _ {M : Type 1} {𝓤 : Ura M} (𝓛 : Logic 𝓤) (ℓ : NamedLft) (b o b' o' : ℕ) (D : Written) (a : Inside) (seen : view a ≡ D) (holds : invariant a)
     (u : Lender) (lends : lent u ≡ a.memory) (at : u.buf.ref_ptr ≡ (b', o')) (room : Room u8 (length u.buf.now))
     (us : List Val) (vss : Valss (shape (inside.the_type ℓ)).fields) (told : us ≡ vstruct (of_list (flat (shape (inside.the_type ℓ)).fields vss)) ∷ [])
@@ -129,7 +129,8 @@ module _ {M : Type 1} {𝓤 : Ura M} (𝓛 : Logic 𝓤) (ℓ : NamedLft) (b o b
       let l : Share = Share.left q in let r : Share = Share.right q in let q' : Share = thinned ℓ.lft r in
       qed 𝓛 (‵ (fobs δ (Bytes xs)) ∷ ‵ (fbor ℓ.lft Inner) ∷ ‵ Rest ∷ ‵ (fobor κ l (Outer γ)) ∷ ‵ (fobs γ u) ∷ ‵ (fauth γ v) ∷ ‵ (flft κ r) ∷ []) ∵ updating ! $ move ! (6 ∷ []) $
       use1 𝓛 (‵ (flft ℓ.lft q') ⊛ raw (wand 𝓤 (A.lft ℓ.lft q') (A.lft κ r))) (𝓛.lfts.lft-incl κ ℓ.lft r inc) $ split ! $ move ! (2 ∷ 3 ∷ 0 ∷ []) $ open_ref ! tt (Arr (mem u8) n) $
-      -- [the bytes; the inner, open; its obs and auth; the token's way back; the rest; the outer, open; its obs and auth]
+      -- [the bytes; the inner, open; its obs and auth; the token's way back; the rest; the outer,
+      -- open; its obs and auth]
       move ! (6 ∷ 7 ∷ 8 ∷ 1 ∷ 2 ∷ 3 ∷ 0 ∷ 5 ∷ []) $ group ! 8 $
       use1 𝓛 (later (some (λ (γ' : GName). ‵ (fobs γ' (Bytes xs)) ⊛ ‵ (fbor κ (Body (Arr (mem u8) n) b' o' γ')) ⊛ ‵ (flft κ l) ⊛ ‵ (flft ℓ.lft q') ⊛ ‵ (follows R (Array u8 0) γ γ' with_buffer))))
       (takes_through 𝓛 (mem R) (Arr (mem u8) n) with_buffer κ ℓ.lft inc b o b' o' γ δ (sem 𝓛 Rest) (λ ws. length ws ≡ n) counts back l q' u v (Bytes xs) (Bytes xs) xs) $ await ! tt $ pick ! (λ γ'. split3 ! $ move ! (2 ∷ []) $ split3 ! $

@@ -1,5 +1,5 @@
--- What a contract sees of the flavors that hold a list of bytes, and why they are lawful. The lemmas stand here since
--- ghost members cite them.
+-- What a contract sees of the flavors that hold a list of bytes, and why they are lawful. The
+-- lemmas stand here since ghost members cite them.
 use Rattle.std.proofs.Common.{◌≡◌, ℕ, ◌+◌, ◌<◌, ◌≤◌, List, ◌++◌, length, sym, ap, append-nil, length-append, arith}
 use Rattle.std.specs.Coded.{le_prop}
 use Rattle.std.specs.Prelude.{⊤, slice_index}

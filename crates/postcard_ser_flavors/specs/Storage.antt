@@ -6,8 +6,8 @@ pub record IsFree {S : Type 0} (free : S → ℕ → Type 0) : Type 0 where
   pub fewer : (s : S) (m n : ℕ) → free s (m + n) → free s m
   pub free_prop : (s : S) (n : ℕ) → IsProp (free s n)
 
--- What is appended is held behind what was. As many bytes as are free have room, and once some of them are in, the
--- others stay free.
+-- What is appended is held behind what was. As many bytes as are free have room, and once some of
+-- them are in, the others stay free.
 pub record IsStorage {S : Type 0} (appended : S → List ℕ → S → Type 0) (room : S → List ℕ → Type 0) (reaches : S → S → Type 0) (held : S → List ℕ) (free : S → ℕ → Type 0) : Type 0 where
   pub held_more : (s t : S) (x : List ℕ) → appended s x t → held t ≡ held s ++ x
   pub free_room : (s : S) (x : List ℕ) → free s (length x) → room s x

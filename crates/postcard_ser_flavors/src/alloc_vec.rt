@@ -11,8 +11,8 @@ use std::alloc::Global;
 use std::marker::Model;
 use std::ops::{Index, IndexMut};
 
-/// Appends to a vector that grows by the allocator, to a multiple of its capacity at a time. A piece is written whole,
-/// in one copy, or not at all. It refuses for want of memory alone.
+/// Appends to a vector that grows by the allocator, to a multiple of its capacity at a time. A
+/// piece is written whole, in one copy, or not at all. It refuses for want of memory alone.
 ///
 /// A contract sees the bytes that it holds.
 #[derive(Drop)]
@@ -57,12 +57,14 @@ impl Flavor for AllocVec {
 
     ghost lawful = { grows_lawful (λ s. s) };
 
-    /// Writes a byte. Refuses with `SerializeBufferFull` where the allocator refuses to let the vector grow, and is then
-    /// unchanged.
+    /// Writes a byte. Refuses with `SerializeBufferFull` where the allocator refuses to let the
+    /// vector grow, and is then unchanged.
     fn try_push(&mut self, byte: u8) -> Result<()>
-        ensures appends { OnOk result (⟦<AllocVec as Flavor>⟧.appended self.old (byte ∷ []) self.new) }
+        ensures appends { OnOk result
+            (⟦<AllocVec as Flavor>⟧.appended self.old (byte ∷ []) self.new) }
         ensures has_room { ⟦<AllocVec as Flavor>⟧.room self.old (byte ∷ []) → IsOk result }
-        ensures refused { OnErr result (⟦<AllocVec as Flavor>⟧.tidy → Begins ⟦<AllocVec as Flavor>⟧.appended self.old (byte ∷ []) self.new) }
+        ensures refused { OnErr result (⟦<AllocVec as Flavor>⟧.tidy
+            → Begins ⟦<AllocVec as Flavor>⟧.appended self.old (byte ∷ []) self.new) }
         ensures leaves { ⟦<AllocVec as Flavor>⟧.reaches self.old self.new }
         ensures full { IfErr result (λ e. e ≡ Error.SerializeBufferFull) }
         ensures unchanged { OnErr result (self.new ≡ self.old) }
@@ -70,12 +72,14 @@ impl Flavor for AllocVec {
         self.vec.push(byte).map_err(|_| Error::SerializeBufferFull)
     }
 
-    /// Writes bytes in a row. Refuses with `SerializeBufferFull` where the allocator refuses to let the vector grow, and
-    /// is then unchanged.
+    /// Writes bytes in a row. Refuses with `SerializeBufferFull` where the allocator refuses to let
+    /// the vector grow, and is then unchanged.
     fn try_extend(&mut self, bytes: &[u8]) -> Result<()>
-        ensures appends { OnOk result (⟦<AllocVec as Flavor>⟧.appended self.old bytes.now self.new) }
+        ensures appends { OnOk result
+            (⟦<AllocVec as Flavor>⟧.appended self.old bytes.now self.new) }
         ensures has_room { ⟦<AllocVec as Flavor>⟧.room self.old bytes.now → IsOk result }
-        ensures refused { OnErr result (⟦<AllocVec as Flavor>⟧.tidy → Begins ⟦<AllocVec as Flavor>⟧.appended self.old bytes.now self.new) }
+        ensures refused { OnErr result (⟦<AllocVec as Flavor>⟧.tidy
+            → Begins ⟦<AllocVec as Flavor>⟧.appended self.old bytes.now self.new) }
         ensures leaves { ⟦<AllocVec as Flavor>⟧.reaches self.old self.new }
         ensures full { IfErr result (λ e. e ≡ Error.SerializeBufferFull) }
         ensures unchanged { OnErr result (self.new ≡ self.old) }
@@ -115,7 +119,8 @@ impl IndexMut<usize> for AllocVec {
     /// The byte at a place that is held, counted from 0, to be written. Nothing else changes.
     fn index_mut(&mut self, place: usize) -> &mut u8
         requires { place < length self.old }
-        ensures* writes_back { sem 𝓛 (Lends the_row byte_row self.entry result (slice_set self.old place)) }
+        ensures* writes_back { sem 𝓛
+            (Lends the_row byte_row self.entry result (slice_set self.old place)) }
         ensures value { result.now ≡ slice_index self.old place }
     {
         &mut self.vec[place]
@@ -143,23 +148,6 @@ impl Storage for AllocVec {
 mod tests {
     use super::*;
     use std::test::Fail;
-
-    // Also run with `rt try --test --fail-alloc N` for N from 1 on: then one of these writes is refused.
-    #[test]
-    fn a_refused_write_can_be_made_again(rt: HostRuntime) -> std::result::Result<(), Fail> {
-        let mut vec = AllocVec::new(rt.alloc());
-        for piece in [[7; 1].as_slice(), [7; 30].as_slice(), [7; 200].as_slice()] {
-            let before = vec.vec.len();
-            if let Err(error) = vec.try_extend(piece) {
-                assert_eq!(rt; error, Error::SerializeBufferFull);
-                assert_eq!(rt; vec.vec.len(), before);
-                vec.try_extend(piece)?;
-            }
-        }
-        let vec = vec.finalize()?;
-        assert_eq!(rt; vec.as_slice(), [7; 231].as_slice());
-        Ok(())
-    }
 
     #[test]
     fn grows_seldom(rt: HostRuntime) -> std::result::Result<(), Fail> {

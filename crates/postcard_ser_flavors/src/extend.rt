@@ -21,11 +21,11 @@ pub trait ExtendBytes {
 impl ExtendBytes for Vec<u8> {
     ghost content = { λ v. v.items };
 
-    /// Appends the bytes in one copy. Refuses with `SerializeBufferFull` where the allocator refuses to let the vector
-    /// grow, and is then unchanged.
+    /// Appends the bytes in one copy. Refuses with `SerializeBufferFull` where the allocator
+    /// refuses to let the vector grow, and is then unchanged.
     fn extend(&mut self, data: &[u8]) -> Result<()>
-        ensures appends { OnOk result (⟦<Vec<u8> as ExtendBytes>⟧.content self.new ≡ ⟦<Vec<u8> as ExtendBytes>⟧.content self.old ++ «data».now) }
-        ensures unchanged { OnErr result (⟦<Vec<u8> as ExtendBytes>⟧.content self.new ≡ ⟦<Vec<u8> as ExtendBytes>⟧.content self.old) }
+        ensures appends { OnOk result (self.new.items ≡ self.old.items ++ «data».now) }
+        ensures unchanged { OnErr result (self.new.items ≡ self.old.items) }
         ensures full { IfErr result (λ e. e ≡ Error.SerializeBufferFull) }
     {
         self.extend_from_slice(data)
@@ -73,11 +73,14 @@ impl<T: ExtendBytes + Drop> Flavor for ExtendFlavor<T> {
 
     ghost lawful = { grows_lawful T.content };
 
-    /// Hands a byte on. Refuses with `SerializeBufferFull` where the target refuses, whose content is then unchanged.
+    /// Hands a byte on. Refuses with `SerializeBufferFull` where the target refuses, whose content
+    /// is then unchanged.
     fn try_push(&mut self, byte: u8) -> Result<()>
-        ensures appends { OnOk result (⟦<ExtendFlavor<T> as Flavor>⟧.appended self.old (byte ∷ []) self.new) }
+        ensures appends { OnOk result
+            (⟦<ExtendFlavor<T> as Flavor>⟧.appended self.old (byte ∷ []) self.new) }
         ensures has_room { ⟦<ExtendFlavor<T> as Flavor>⟧.room self.old (byte ∷ []) → IsOk result }
-        ensures refused { OnErr result (⟦<ExtendFlavor<T> as Flavor>⟧.tidy → Begins ⟦<ExtendFlavor<T> as Flavor>⟧.appended self.old (byte ∷ []) self.new) }
+        ensures refused { OnErr result (⟦<ExtendFlavor<T> as Flavor>⟧.tidy
+            → Begins ⟦<ExtendFlavor<T> as Flavor>⟧.appended self.old (byte ∷ []) self.new) }
         ensures leaves { ⟦<ExtendFlavor<T> as Flavor>⟧.reaches self.old self.new }
         ensures full { IfErr result (λ e. e ≡ Error.SerializeBufferFull) }
         ensures unchanged { OnErr result (T.content self.new ≡ T.content self.old) }
@@ -85,12 +88,14 @@ impl<T: ExtendBytes + Drop> Flavor for ExtendFlavor<T> {
         self.try_extend(&[byte])
     }
 
-    /// Hands bytes on in one piece. Refuses with `SerializeBufferFull` where the target refuses, whose content is then
-    /// unchanged.
+    /// Hands bytes on in one piece. Refuses with `SerializeBufferFull` where the target refuses,
+    /// whose content is then unchanged.
     fn try_extend(&mut self, bytes: &[u8]) -> Result<()>
-        ensures appends { OnOk result (⟦<ExtendFlavor<T> as Flavor>⟧.appended self.old bytes.now self.new) }
+        ensures appends { OnOk result
+            (⟦<ExtendFlavor<T> as Flavor>⟧.appended self.old bytes.now self.new) }
         ensures has_room { ⟦<ExtendFlavor<T> as Flavor>⟧.room self.old bytes.now → IsOk result }
-        ensures refused { OnErr result (⟦<ExtendFlavor<T> as Flavor>⟧.tidy → Begins ⟦<ExtendFlavor<T> as Flavor>⟧.appended self.old bytes.now self.new) }
+        ensures refused { OnErr result (⟦<ExtendFlavor<T> as Flavor>⟧.tidy
+            → Begins ⟦<ExtendFlavor<T> as Flavor>⟧.appended self.old bytes.now self.new) }
         ensures leaves { ⟦<ExtendFlavor<T> as Flavor>⟧.reaches self.old self.new }
         ensures full { IfErr result (λ e. e ≡ Error.SerializeBufferFull) }
         ensures unchanged { OnErr result (T.content self.new ≡ T.content self.old) }

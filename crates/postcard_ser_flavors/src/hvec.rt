@@ -13,8 +13,8 @@ use postcard_wire::{Error, Result};
 use std::marker::Model;
 use std::ops::{Index, IndexMut};
 
-/// Appends to a vector with room for `B` bytes that lies in the value itself. A piece is written whole or not at all,
-/// and no memory is asked for.
+/// Appends to a vector with room for `B` bytes that lies in the value itself. A piece is written
+/// whole or not at all, and no memory is asked for.
 ///
 /// A contract sees the bytes that it holds.
 #[derive(Drop)]
@@ -65,11 +65,14 @@ impl<const B: usize> Flavor for HVec<B> {
 
     ghost lawful = { fixed_lawful (λ s. s) B };
 
-    /// Writes a byte. Refuses with `SerializeBufferFull` exactly where `B` bytes are held, and is then unchanged.
+    /// Writes a byte. Refuses with `SerializeBufferFull` exactly where `B` bytes are held, and is
+    /// then unchanged.
     fn try_push(&mut self, byte: u8) -> Result<()>
-        ensures appends { OnOk result (⟦<HVec<B> as Flavor>⟧.appended self.old (byte ∷ []) self.new) }
+        ensures appends { OnOk result
+            (⟦<HVec<B> as Flavor>⟧.appended self.old (byte ∷ []) self.new) }
         ensures has_room { ⟦<HVec<B> as Flavor>⟧.room self.old (byte ∷ []) → IsOk result }
-        ensures refused { OnErr result (⟦<HVec<B> as Flavor>⟧.tidy → Begins ⟦<HVec<B> as Flavor>⟧.appended self.old (byte ∷ []) self.new) }
+        ensures refused { OnErr result (⟦<HVec<B> as Flavor>⟧.tidy
+            → Begins ⟦<HVec<B> as Flavor>⟧.appended self.old (byte ∷ []) self.new) }
         ensures leaves { ⟦<HVec<B> as Flavor>⟧.reaches self.old self.new }
         ensures fits { IsOk result ↔ (length self.old + 1 ≤ B) }
         ensures full { IfErr result (λ e. e ≡ Error.SerializeBufferFull) }
@@ -80,12 +83,13 @@ impl<const B: usize> Flavor for HVec<B> {
             .map_err(|_| Error::SerializeBufferFull)
     }
 
-    /// Writes bytes in a row. Refuses with `SerializeBufferFull` exactly where more than `B` bytes would be held, and is
-    /// then unchanged.
+    /// Writes bytes in a row. Refuses with `SerializeBufferFull` exactly where more than `B` bytes
+    /// would be held, and is then unchanged.
     fn try_extend(&mut self, bytes: &[u8]) -> Result<()>
         ensures appends { OnOk result (⟦<HVec<B> as Flavor>⟧.appended self.old bytes.now self.new) }
         ensures has_room { ⟦<HVec<B> as Flavor>⟧.room self.old bytes.now → IsOk result }
-        ensures refused { OnErr result (⟦<HVec<B> as Flavor>⟧.tidy → Begins ⟦<HVec<B> as Flavor>⟧.appended self.old bytes.now self.new) }
+        ensures refused { OnErr result (⟦<HVec<B> as Flavor>⟧.tidy
+            → Begins ⟦<HVec<B> as Flavor>⟧.appended self.old bytes.now self.new) }
         ensures leaves { ⟦<HVec<B> as Flavor>⟧.reaches self.old self.new }
         ensures fits { IsOk result ↔ (length self.old + length bytes.now ≤ B) }
         ensures full { IfErr result (λ e. e ≡ Error.SerializeBufferFull) }
@@ -137,7 +141,8 @@ impl<const B: usize> IndexMut<usize> for HVec<B> {
     /// The byte at a place that is held, counted from 0, to be written. Nothing else changes.
     fn index_mut(&mut self, place: usize) -> &mut u8
         requires { place < length self.old }
-        ensures* writes_back { sem 𝓛 (Lends (the_row B.row) byte_row self.entry result (slice_set self.old place)) }
+        ensures* writes_back { sem 𝓛
+            (Lends (the_row B.row) byte_row self.entry result (slice_set self.old place)) }
         ensures value { result.now ≡ slice_index self.old place }
     {
         byte_at(&mut self.vec, place)

@@ -13,8 +13,8 @@ use std::marker::Model;
 
 /// Hands each piece to a writer, whole, and flushes it at the end. Its output is the writer.
 ///
-/// A contract sees the writer, and speaks of the bytes in it where the writer tells them. What a writer that failed
-/// has got is left open.
+/// A contract sees the writer, and speaks of the bytes in it where the writer tells them. What a
+/// writer that failed has got is left open.
 #[derive(Drop)]
 pub struct WriteFlavor<T: Write> {
     writer: T,
@@ -54,20 +54,25 @@ impl<T: Write + Drop> Flavor for WriteFlavor<T> {
 
     /// Hands a byte on. Refuses with `SerializeBufferFull` where the writer fails.
     fn try_push(&mut self, byte: u8) -> Result<()>
-        ensures appends { OnOk result (⟦<WriteFlavor<T> as Flavor>⟧.appended self.old (byte ∷ []) self.new) }
+        ensures appends { OnOk result
+            (⟦<WriteFlavor<T> as Flavor>⟧.appended self.old (byte ∷ []) self.new) }
         ensures has_room { ⟦<WriteFlavor<T> as Flavor>⟧.room self.old (byte ∷ []) → IsOk result }
-        ensures refused { OnErr result (⟦<WriteFlavor<T> as Flavor>⟧.tidy → Begins ⟦<WriteFlavor<T> as Flavor>⟧.appended self.old (byte ∷ []) self.new) }
+        ensures refused { OnErr result (⟦<WriteFlavor<T> as Flavor>⟧.tidy
+            → Begins ⟦<WriteFlavor<T> as Flavor>⟧.appended self.old (byte ∷ []) self.new) }
         ensures leaves { ⟦<WriteFlavor<T> as Flavor>⟧.reaches self.old self.new }
         ensures full { IfErr result (λ e. e ≡ Error.SerializeBufferFull) }
     {
         self.try_extend(&[byte])
     }
 
-    /// Hands bytes on in one piece, by `write_all`. Refuses with `SerializeBufferFull` where the writer fails.
+    /// Hands bytes on in one piece, by `write_all`. Refuses with `SerializeBufferFull` where the
+    /// writer fails.
     fn try_extend(&mut self, bytes: &[u8]) -> Result<()>
-        ensures appends { OnOk result (⟦<WriteFlavor<T> as Flavor>⟧.appended self.old bytes.now self.new) }
+        ensures appends { OnOk result
+            (⟦<WriteFlavor<T> as Flavor>⟧.appended self.old bytes.now self.new) }
         ensures has_room { ⟦<WriteFlavor<T> as Flavor>⟧.room self.old bytes.now → IsOk result }
-        ensures refused { OnErr result (⟦<WriteFlavor<T> as Flavor>⟧.tidy → Begins ⟦<WriteFlavor<T> as Flavor>⟧.appended self.old bytes.now self.new) }
+        ensures refused { OnErr result (⟦<WriteFlavor<T> as Flavor>⟧.tidy
+            → Begins ⟦<WriteFlavor<T> as Flavor>⟧.appended self.old bytes.now self.new) }
         ensures leaves { ⟦<WriteFlavor<T> as Flavor>⟧.reaches self.old self.new }
         ensures full { IfErr result (λ e. e ≡ Error.SerializeBufferFull) }
     {
@@ -76,8 +81,8 @@ impl<T: Write + Drop> Flavor for WriteFlavor<T> {
             .map_err(|_| Error::SerializeBufferFull)
     }
 
-    /// Flushes the writer and answers it. Refuses with `SerializeBufferFull` where the flush fails; the writer is then
-    /// dropped.
+    /// Flushes the writer and answers it. Refuses with `SerializeBufferFull` where the flush fails;
+    /// the writer is then dropped.
     fn finalize(self) -> Result<T>
         ensures gives { IfOk result (λ output. ⟦<WriteFlavor<T> as Flavor>⟧.finishes self output) }
         ensures closes { ⟦<WriteFlavor<T> as Flavor>⟧.room self [] → IsOk result }

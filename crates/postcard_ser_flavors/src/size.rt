@@ -65,12 +65,13 @@ impl Flavor for Size {
 
     ghost lawful = { count_lawful };
 
-    /// Counts a byte. Refuses with `SerializeBufferFull` exactly where the count would pass `usize::MAX`, and is then
-    /// unchanged.
+    /// Counts a byte. Refuses with `SerializeBufferFull` exactly where the count would pass
+    /// `usize::MAX`, and is then unchanged.
     fn try_push(&mut self, byte: u8) -> Result<()>
         ensures appends { OnOk result (⟦<Size as Flavor>⟧.appended self.old (byte ∷ []) self.new) }
         ensures has_room { ⟦<Size as Flavor>⟧.room self.old (byte ∷ []) → IsOk result }
-        ensures refused { OnErr result (⟦<Size as Flavor>⟧.tidy → Begins ⟦<Size as Flavor>⟧.appended self.old (byte ∷ []) self.new) }
+        ensures refused { OnErr result (⟦<Size as Flavor>⟧.tidy
+            → Begins ⟦<Size as Flavor>⟧.appended self.old (byte ∷ []) self.new) }
         ensures leaves { ⟦<Size as Flavor>⟧.reaches self.old self.new }
         ensures fits { IsOk result ↔ (self.old + 1 < 2 ^ 64) }
         ensures full { IfErr result (λ e. e ≡ Error.SerializeBufferFull) }
@@ -80,12 +81,13 @@ impl Flavor for Size {
         self.add(1)
     }
 
-    /// Counts bytes. Refuses with `SerializeBufferFull` exactly where the count would pass `usize::MAX`, and is then
-    /// unchanged.
+    /// Counts bytes. Refuses with `SerializeBufferFull` exactly where the count would pass
+    /// `usize::MAX`, and is then unchanged.
     fn try_extend(&mut self, bytes: &[u8]) -> Result<()>
         ensures appends { OnOk result (⟦<Size as Flavor>⟧.appended self.old bytes.now self.new) }
         ensures has_room { ⟦<Size as Flavor>⟧.room self.old bytes.now → IsOk result }
-        ensures refused { OnErr result (⟦<Size as Flavor>⟧.tidy → Begins ⟦<Size as Flavor>⟧.appended self.old bytes.now self.new) }
+        ensures refused { OnErr result (⟦<Size as Flavor>⟧.tidy
+            → Begins ⟦<Size as Flavor>⟧.appended self.old bytes.now self.new) }
         ensures leaves { ⟦<Size as Flavor>⟧.reaches self.old self.new }
         ensures fits { IsOk result ↔ (self.old + length bytes.now < 2 ^ 64) }
         ensures full { IfErr result (λ e. e ≡ Error.SerializeBufferFull) }

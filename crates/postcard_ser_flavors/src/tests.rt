@@ -1,4 +1,5 @@
-//! The flavors and storages through their traits, against bytes worked out by hand, and a user's flavor over others.
+//! The flavors and storages through their traits, against bytes worked out by hand, and a user's
+//! flavor over others.
 
 ghost use Rattle.std.specs.Prelude.{◌≡◌, ◌∷◌, [], ⊤};
 
@@ -39,8 +40,8 @@ fn each_flavor_has_the_bytes(rt: HostRuntime) -> std::result::Result<(), Fail> {
     Ok(())
 }
 
-/// Writes 03 05 07 behind what is held, changes the first byte of all to 09 by `set` and the second to 06 by the index,
-/// and answers the first two as they were in between.
+/// Writes 03 05 07 behind what is held, changes the first byte of all to 09 by `set` and the second
+/// to 06 by the index, and answers the first two as they were in between.
 fn change_two<B: Storage>(storage: &mut B) -> Result<(u8, u8)> {
     storage.try_extend(&[3, 5, 7])?;
     storage.set(0, 9);
@@ -69,6 +70,30 @@ fn each_storage_changes_held_bytes_alone(rt: HostRuntime) -> std::result::Result
     grown.try_push(1)?;
     assert_eq!(rt; change_two(&mut grown)?, (9, 3));
     assert_eq!(rt; grown.finalize()?.as_slice(), [9, 6, 5, 7].as_slice());
+    Ok(())
+}
+
+/// Writes 231 bytes 07 in three pieces, each once more where it is refused.
+fn retried<F: Flavor + Drop>(flavor: F) -> Result<F::Output> {
+    let mut flavor = flavor;
+    for piece in [[7; 1].as_slice(), [7; 30].as_slice(), [7; 200].as_slice()] {
+        if flavor.try_extend(piece).is_err() {
+            flavor.try_extend(piece)?;
+        }
+    }
+    flavor.finalize()
+}
+
+// Also run with `rt try --test --fail-alloc N` for N from 1 on: then a piece is refused, and nothing of it
+// stays.
+#[test]
+fn a_piece_refused_for_want_of_memory_can_be_written_again(
+    rt: HostRuntime,
+) -> std::result::Result<(), Fail> {
+    let grown = retried(AllocVec::new(rt.alloc()))?;
+    assert_eq!(rt; grown.as_slice(), [7; 231].as_slice());
+    let extended = retried(ExtendFlavor::new(Vec::new(rt.alloc())))?;
+    assert_eq!(rt; extended.as_slice(), [7; 231].as_slice());
     Ok(())
 }
 
@@ -106,11 +131,23 @@ where
 
     ghost lawful = { record {
       appended_none = λ s. (F.lawful.appended_none s.first, G.lawful.appended_none s.second);
-      appended_join = λ s t u x y p q. (F.lawful.appended_join s.first t.first u.first x y p.0 q.0, G.lawful.appended_join s.second t.second u.second x y p.1 q.1);
-      room_front = λ s x y r. (F.lawful.room_front s.first x y r.0, G.lawful.room_front s.second x y r.1);
-      room_rest = λ s t x y r p v. (F.lawful.room_rest s.first t.first x y r.0 p.0 v.0, G.lawful.room_rest s.second t.second x y r.1 p.1 v.1);
+      appended_join = λ s t u x y p q. (
+        F.lawful.appended_join s.first t.first u.first x y p.0 q.0,
+        G.lawful.appended_join s.second t.second u.second x y p.1 q.1,
+      );
+      room_front = λ s x y r. (
+        F.lawful.room_front s.first x y r.0,
+        G.lawful.room_front s.second x y r.1,
+      );
+      room_rest = λ s t x y r p v. (
+        F.lawful.room_rest s.first t.first x y r.0 p.0 v.0,
+        G.lawful.room_rest s.second t.second x y r.1 p.1 v.1,
+      );
       reaches_self = λ s. (F.lawful.reaches_self s.first, G.lawful.reaches_self s.second);
-      reaches_join = λ s t u p q. (F.lawful.reaches_join s.first t.first u.first p.0 q.0, G.lawful.reaches_join s.second t.second u.second p.1 q.1);
+      reaches_join = λ s t u p q. (
+        F.lawful.reaches_join s.first t.first u.first p.0 q.0,
+        G.lawful.reaches_join s.second t.second u.second p.1 q.1,
+      );
       reaches_prop = λ s t. Prim.hlevel (F.lawful.reaches_prop, G.lawful.reaches_prop);
     } };
 

@@ -15,12 +15,16 @@ impl<'a> Storage for Slice<'a> {
 
     ghost free_lawful = { slice_free };
 
-    /// Changes the byte at a place that is held, counted in bytes from 0, and nothing else of the whole slice.
+    /// Changes the byte at a place that is held, counted in bytes from 0, and nothing else of the
+    /// whole slice.
     fn set(&mut self, place: usize, byte: u8)
         requires { place < length (held self.old) }
-        ensures sets { ⟦<Slice<'static> as Storage>⟧.held self.new ≡ slice_set (⟦<Slice<'static> as Storage>⟧.held self.old) place byte }
-        ensures keeps_room { (x : List ℕ) → ⟦<Slice<'static> as Flavor>⟧.room self.old x → ⟦<Slice<'static> as Flavor>⟧.room self.new x }
-        ensures keeps_free { (n : ℕ) → ⟦<Slice<'static> as Storage>⟧.free self.old n → ⟦<Slice<'static> as Storage>⟧.free self.new n }
+        ensures sets { ⟦<Slice<'static> as Storage>⟧.held self.new
+            ≡ slice_set (⟦<Slice<'static> as Storage>⟧.held self.old) place byte }
+        ensures keeps_room { (x : List ℕ) → ⟦<Slice<'static> as Flavor>⟧.room self.old x
+            → ⟦<Slice<'static> as Flavor>⟧.room self.new x }
+        ensures keeps_free { (n : ℕ) → ⟦<Slice<'static> as Storage>⟧.free self.old n
+            → ⟦<Slice<'static> as Storage>⟧.free self.new n }
         ensures leaves { ⟦<Slice<'static> as Flavor>⟧.reaches self.old self.new }
         ensures countable { length (⟦<Slice<'static> as Storage>⟧.held self.new) < 2 ^ 64 }
         ensures alone { self.new ≡ record self.old { buffer = slice_set self.old.buffer place byte } }
