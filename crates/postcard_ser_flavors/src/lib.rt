@@ -5,15 +5,45 @@
 //! laws of these words are its member `lawful`. The layer above cites nothing else, but for a `Slice`,
 //! whose `into_parts` says what a caller's buffer ends as.
 //!
+//! Which flavor for what:
+//!
+//! | A message goes | Flavor | Ends as | Refuses |
+//! |---|---|---|---|
+//! | into bytes that the caller has | [`Slice`] | the part that was written | a piece that doesn't fit |
+//! | into a value, with no memory asked for | [`HVec`] | an `ArrayVec` | a piece that doesn't fit |
+//! | into memory that grows | [`AllocVec`], also [`StdVec`] | a `Vec` | for want of memory |
+//! | behind what a target has | [`ExtendFlavor`] | the target | where the target does |
+//! | to a file, a socket or the like | [`io::WriteFlavor`] | the writer, flushed | where it fails |
+//! | nowhere, but is counted | [`Size`] | the number of bytes | past `usize::MAX` |
+//!
+//! Each refuses with `SerializeBufferFull`. `Slice`, `HVec`, `AllocVec` and `Size` are unchanged by a
+//! refusal, and so is the content of the target of an `ExtendFlavor`; what a writer that failed has got is
+//! left open. A user's own flavor, also one over another flavor, meets the same trait; `tests` has one
+//! that writes to two others.
+//!
 //! To be read in this order:
 //! - `flavor`: the trait.
-//! - `memory`: bytes that a caller lent.
-//! - `slice`: the flavor that fills them.
+//! - `storage`: the trait of those whose bytes can still be changed, as a frame needs it.
+//! - `memory`, `slice`: bytes that a caller lent, and the flavor that fills them.
+//! - `hvec`, `alloc_vec`, `extend`, `io`, `size`: the other flavors.
 #![tactic(auto)]
 
+pub mod alloc_vec;
+pub mod extend;
 pub mod flavor;
+pub mod hvec;
+pub mod io;
 mod memory;
+pub mod size;
 pub mod slice;
+pub mod storage;
+#[cfg(test)]
+mod tests;
 
+pub use alloc_vec::{AllocVec, StdVec};
+pub use extend::{ExtendBytes, ExtendFlavor};
 pub use flavor::Flavor;
+pub use hvec::HVec;
+pub use size::Size;
 pub use slice::Slice;
+pub use storage::Storage;

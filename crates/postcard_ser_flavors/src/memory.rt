@@ -10,7 +10,7 @@ use std::marker::Model;
 /// The bytes of a `&'a mut [u8]`. A contract sees the loan and the bytes.
 #[derive(Drop)]
 pub struct Memory<'a> {
-    buf: &'a mut [u8],
+    pub(crate) buf: &'a mut [u8],
 }
 
 impl<'a> Model for Memory<'a> {

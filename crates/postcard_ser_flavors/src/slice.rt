@@ -10,6 +10,9 @@ use crate::memory::Memory;
 use postcard_wire::{Error, Result};
 use std::marker::Model;
 
+mod index;
+mod storage;
+
 /// Fills a slice from its front. A piece is written whole or not at all.
 ///
 /// A contract sees the loan that it stands over, the bytes of the whole slice (`buffer`), and how many

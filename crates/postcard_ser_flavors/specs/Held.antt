@@ -1,0 +1,103 @@
+-- What a contract sees of the flavors that hold a list of bytes, and why they are lawful. The
+-- lemmas stand here since ghost members cite them.
+use Rattle.std.proofs.Common.{◌≡◌, ℕ, ◌+◌, ◌<◌, ◌≤◌, List, ◌++◌, length, sym, ap, append-nil, length-append, arith}
+use Rattle.std.specs.Coded.{le_prop}
+use Rattle.std.specs.Prelude.{⊤, slice_index}
+use Rattle.postcard_ser_flavors.specs.Flavor.{IsFlavor}
+use Rattle.postcard_ser_flavors.specs.SliceLaws.{held_join, fits_front, fits_rest}
+use Rattle.postcard_ser_flavors.specs.Storage.{IsFree, IsStorage, IsIndexed}
+
+module _ {S : Type 0} (held : S → List ℕ) where
+  -- t holds what s did, and then x.
+  abbrev pub Appended : S → List ℕ → S → Type 0
+  Appended s x t = held t ≡ held s ++ x
+
+  -- With x it holds at most this many bytes.
+  abbrev pub HasRoom : ℕ → S → List ℕ → Type 0
+  HasRoom capacity s x = length (held s) + length x ≤ capacity
+
+  -- With n bytes more it holds at most this many.
+  abbrev pub CanTake : ℕ → S → ℕ → Type 0
+  CanTake capacity s n = length (held s) + n ≤ capacity
+
+-- Room is never told.
+abbrev pub NoRoom : {S : Type 0} → S → List ℕ → Type 0
+NoRoom s x = ⊥
+
+-- No byte is surely free.
+abbrev pub NoneFree : {S : Type 0} → S → ℕ → Type 0
+NoneFree s n = ⊥
+
+-- Where none is free, none of fewer is.
+pub none_free : {S : Type 0} → IsFree (λ (s : S) n. NoneFree s n)
+none_free = record {
+  fewer = λ s m n h. h;
+  free_prop = λ s n. hlevel tt;
+}
+
+-- Pushes may leave whatever they like.
+abbrev pub AnyReached : {S : Type 0} → S → S → Type 0
+AnyReached s t = ⊤
+
+-- Fewer bytes fit where more do.
+pub fewer_fit : (k m n capacity : ℕ) → k + (m + n) ≤ capacity → k + m ≤ capacity
+fewer_fit k m n capacity h = omega arith
+
+-- Once x is in, the bytes that fitted behind it still do.
+pub rest_fits : (h i x : List ℕ) (n capacity : ℕ) → i ≡ h ++ x → length h + (length x + n) ≤ capacity → length i + n ≤ capacity
+rest_fits h i x n capacity e r = omega (arith, ap length e, length-append h x)
+
+module _ {S : Type 0} (held : S → List ℕ) where
+  -- What grows by the allocator is a flavor.
+  pub grows_lawful : IsFlavor (Appended held) NoRoom AnyReached
+  grows_lawful = record {
+    appended_none = λ s. sym (append-nil (held s));
+    appended_join = λ s t u x y p q. held_join (held s) (held t) (held u) x y p q;
+    room_front = λ s x y r. r;
+    room_rest = λ s t x y r p v. r;
+    reaches_self = λ s. tt;
+    reaches_join = λ s t u p q. tt;
+    reaches_prop = λ s t. hlevel tt;
+  }
+
+  -- What grows by the allocator is a storage.
+  pub grows_storage : IsStorage (Appended held) NoRoom AnyReached held NoneFree
+  grows_storage = record {
+    held_more = λ s t x p. p;
+    free_room = λ s x h. h;
+    free_rest = λ s t x n h p v. h;
+  }
+
+  -- What holds up to a capacity is a flavor.
+  pub fixed_lawful : (capacity : ℕ) → IsFlavor (Appended held) (HasRoom held capacity) AnyReached
+  fixed_lawful capacity = record {
+    appended_none = λ s. sym (append-nil (held s));
+    appended_join = λ s t u x y p q. held_join (held s) (held t) (held u) x y p q;
+    room_front = λ s x y r. fits_front (length (held s)) capacity x y r;
+    room_rest = λ s t x y r p v. fits_rest (held s) (held t) capacity x y p r;
+    reaches_self = λ s. tt;
+    reaches_join = λ s t u p q. tt;
+    reaches_prop = λ s t. hlevel tt;
+  }
+
+  -- Up to a capacity, where bytes are free, fewer are.
+  pub fixed_free : (capacity : ℕ) → IsFree (CanTake held capacity)
+  fixed_free capacity = record {
+    fewer = λ s m n h. fewer_fit (length (held s)) m n capacity h;
+    free_prop = λ s n. hlevel le_prop;
+  }
+
+  -- What holds up to a capacity is a storage.
+  pub fixed_storage : (capacity : ℕ) → IsStorage (Appended held) (HasRoom held capacity) AnyReached held (CanTake held capacity)
+  fixed_storage capacity = record {
+    held_more = λ s t x p. p;
+    free_room = λ s x h. h;
+    free_rest = λ s t x n h p v. rest_fits (held s) (held t) x n capacity p h;
+  }
+
+-- A list is indexed where it has a place.
+pub list_indexed : IsIndexed (λ (s : List ℕ) place. place < length s) (λ s place byte. byte ≡ slice_index s place) (λ s. s)
+list_indexed = record {
+  can_read = λ s place h. h;
+  reads = λ s place byte h e. e;
+}

@@ -1,0 +1,166 @@
+//! The flavor that appends to a growing vector.
+
+ghost use Rattle.std.specs.Prelude.{◌≡◌, ◌+◌, ◌<◌, [], ◌∷◌, ◌++◌, length, slice_index, slice_set, ⊤, IsOk, OnOk, OnErr, IfOk, IfErr};
+ghost use Rattle.postcard_ser_flavors.specs.Flavor.{Begins};
+ghost use Rattle.postcard_ser_flavors.specs.Held.{Appended, NoRoom, NoneFree, AnyReached, grows_lawful, none_free, grows_storage, list_indexed};
+
+use crate::flavor::Flavor;
+use crate::storage::Storage;
+use postcard_wire::{Error, Result};
+use std::alloc::Global;
+use std::marker::Model;
+use std::ops::{Index, IndexMut};
+
+/// Appends to a vector that grows by the allocator, to a multiple of its capacity at a time. A
+/// piece is written whole, in one copy, or not at all. It refuses for want of memory alone.
+///
+/// A contract sees the bytes that it holds.
+#[derive(Drop)]
+pub struct AllocVec {
+    vec: Vec<u8>,
+}
+
+/// The same under the name that users of `std` know.
+pub type StdVec = AllocVec;
+
+impl Model for AllocVec {
+    ghost use Rattle.std.specs.Prelude.{ℕ, List};
+
+    ghost Value = { List ℕ };
+
+    ghost view = { λ s. s.vec.items };
+}
+
+impl AllocVec {
+    /// Holds nothing. Memory is asked for by the first byte.
+    pub fn new(alloc: Global) -> AllocVec
+        ensures { result ≡ [] }
+    {
+        AllocVec {
+            vec: Vec::new(alloc),
+        }
+    }
+}
+
+impl Flavor for AllocVec {
+    type Output = Vec<u8>;
+
+    ghost appended = { Appended (λ s. s) };
+
+    ghost room = { NoRoom };
+
+    ghost tidy = { ⊤ };
+
+    ghost reaches = { AnyReached };
+
+    ghost finishes = { λ s output. output.items ≡ s };
+
+    ghost lawful = { grows_lawful (λ s. s) };
+
+    /// Writes a byte. Refuses with `SerializeBufferFull` where the allocator refuses to let the
+    /// vector grow, and is then unchanged.
+    fn try_push(&mut self, byte: u8) -> Result<()>
+        ensures appends { OnOk result
+            (⟦<AllocVec as Flavor>⟧.appended self.old (byte ∷ []) self.new) }
+        ensures has_room { ⟦<AllocVec as Flavor>⟧.room self.old (byte ∷ []) → IsOk result }
+        ensures refused { OnErr result (⟦<AllocVec as Flavor>⟧.tidy
+            → Begins ⟦<AllocVec as Flavor>⟧.appended self.old (byte ∷ []) self.new) }
+        ensures leaves { ⟦<AllocVec as Flavor>⟧.reaches self.old self.new }
+        ensures full { IfErr result (λ e. e ≡ Error.SerializeBufferFull) }
+        ensures unchanged { OnErr result (self.new ≡ self.old) }
+    {
+        self.vec.push(byte).map_err(|_| Error::SerializeBufferFull)
+    }
+
+    /// Writes bytes in a row. Refuses with `SerializeBufferFull` where the allocator refuses to let
+    /// the vector grow, and is then unchanged.
+    fn try_extend(&mut self, bytes: &[u8]) -> Result<()>
+        ensures appends { OnOk result
+            (⟦<AllocVec as Flavor>⟧.appended self.old bytes.now self.new) }
+        ensures has_room { ⟦<AllocVec as Flavor>⟧.room self.old bytes.now → IsOk result }
+        ensures refused { OnErr result (⟦<AllocVec as Flavor>⟧.tidy
+            → Begins ⟦<AllocVec as Flavor>⟧.appended self.old bytes.now self.new) }
+        ensures leaves { ⟦<AllocVec as Flavor>⟧.reaches self.old self.new }
+        ensures full { IfErr result (λ e. e ≡ Error.SerializeBufferFull) }
+        ensures unchanged { OnErr result (self.new ≡ self.old) }
+    {
+        self.vec
+            .extend_from_slice(bytes)
+            .map_err(|_| Error::SerializeBufferFull)
+    }
+
+    /// The vector. Never refuses.
+    fn finalize(self) -> Result<Vec<u8>>
+        ensures gives { IfOk result (λ output. ⟦<AllocVec as Flavor>⟧.finishes self output) }
+        ensures closes { ⟦<AllocVec as Flavor>⟧.room self [] → IsOk result }
+        ensures always { IsOk result }
+    {
+        Ok(self.vec)
+    }
+}
+
+impl Index<usize> for AllocVec {
+    type Output = u8;
+
+    ghost can_index = { λ s place. place < length s };
+
+    ghost index_gives = { λ s place byte. byte ≡ slice_index s place };
+
+    /// The byte at a place that is held, counted from 0.
+    fn index(&self, place: usize) -> &u8 {
+        &self.vec[place]
+    }
+}
+
+impl IndexMut<usize> for AllocVec {
+    ghost use Rattle.std.specs.Borrow.{sem, Lends, u8 as byte_row};
+    ghost use Rattle.postcard_ser_flavors.specs.contracts.alloc_vec.AllocVec.{the_row};
+
+    /// The byte at a place that is held, counted from 0, to be written. Nothing else changes.
+    fn index_mut(&mut self, place: usize) -> &mut u8
+        requires { place < length self.old }
+        ensures* writes_back { sem 𝓛
+            (Lends the_row byte_row self.entry result (slice_set self.old place)) }
+        ensures value { result.now ≡ slice_index self.old place }
+    {
+        &mut self.vec[place]
+    }
+}
+
+impl Storage for AllocVec {
+    ghost held = { λ s. s };
+
+    ghost free = { NoneFree };
+
+    ghost free_lawful = { none_free };
+
+    /// Changes the byte at a place that is held, counted in bytes from 0, and nothing else.
+    fn set(&mut self, place: usize, byte: u8) {
+        self.vec[place] = byte;
+    }
+
+    ghost storage_lawful = { grows_storage (λ s. s) };
+
+    ghost indexed = { list_indexed };
+}
+
+#[cfg(test)]
+mod tests {
+    use super::*;
+    use std::test::Fail;
+
+    #[test]
+    fn grows_seldom(rt: HostRuntime) -> std::result::Result<(), Fail> {
+        let mut vec = AllocVec::new(rt.alloc());
+        let mut growths = 0u16;
+        for _ in 0..4000u16 {
+            let before = vec.vec.capacity();
+            vec.try_push(7)?;
+            if vec.vec.capacity() != before {
+                growths = growths.saturating_add(1);
+            }
+        }
+        assert!(rt; growths <= 12, "{growths} times");
+        Ok(())
+    }
+}

@@ -1,0 +1,116 @@
+//! The flavor over what can be extended by bytes.
+
+ghost use Rattle.std.specs.Prelude.{◌≡◌, ℕ, List, [], ◌∷◌, ◌++◌, ⊤, IsOk, OnOk, OnErr, IfOk, IfErr};
+ghost use Rattle.postcard_ser_flavors.specs.Flavor.{Begins};
+ghost use Rattle.postcard_ser_flavors.specs.Held.{Appended, NoRoom, AnyReached, grows_lawful};
+
+use crate::flavor::Flavor;
+use postcard_wire::{Error, Result};
+use std::marker::Model;
+
+/// Takes bytes behind those that it has. Its member `content` is the list of them.
+pub trait ExtendBytes {
+    ghost content: { Self → List ℕ };
+
+    /// Appends the bytes. Refused, it is unchanged; with which error is the implementor's choice.
+    fn extend(&mut self, data: &[u8]) -> Result<()>
+        ensures appends { OnOk result (content self.new ≡ content self.old ++ «data».now) }
+        ensures unchanged { OnErr result (content self.new ≡ content self.old) };
+}
+
+impl ExtendBytes for Vec<u8> {
+    ghost content = { λ v. v.items };
+
+    /// Appends the bytes in one copy. Refuses with `SerializeBufferFull` where the allocator
+    /// refuses to let the vector grow, and is then unchanged.
+    fn extend(&mut self, data: &[u8]) -> Result<()>
+        ensures appends { OnOk result (self.new.items ≡ self.old.items ++ «data».now) }
+        ensures unchanged { OnErr result (self.new.items ≡ self.old.items) }
+        ensures full { IfErr result (λ e. e ≡ Error.SerializeBufferFull) }
+    {
+        self.extend_from_slice(data)
+            .map_err(|_| Error::SerializeBufferFull)
+    }
+}
+
+/// Hands each piece to what can be extended, and ends as that.
+///
+/// A contract sees what is extended, as it is.
+#[derive(Drop)]
+pub struct ExtendFlavor<T: ExtendBytes> {
+    target: T,
+}
+
+impl<T: ExtendBytes> Model for ExtendFlavor<T> {
+    ghost Value = { T };
+
+    ghost coded = { T.code };
+
+    ghost view = { λ s. s.target };
+}
+
+impl<T: ExtendBytes + Drop> ExtendFlavor<T> {
+    /// Stands behind what the target has.
+    pub fn new(target: T) -> ExtendFlavor<T>
+        ensures { result ≡ target }
+    {
+        ExtendFlavor { target }
+    }
+}
+
+impl<T: ExtendBytes + Drop> Flavor for ExtendFlavor<T> {
+    type Output = T;
+
+    ghost appended = { Appended T.content };
+
+    ghost room = { NoRoom };
+
+    ghost tidy = { ⊤ };
+
+    ghost reaches = { AnyReached };
+
+    ghost finishes = { λ s output. output ≡ s };
+
+    ghost lawful = { grows_lawful T.content };
+
+    /// Hands a byte on. Refuses with `SerializeBufferFull` where the target refuses, whose content
+    /// is then unchanged.
+    fn try_push(&mut self, byte: u8) -> Result<()>
+        ensures appends { OnOk result
+            (⟦<ExtendFlavor<T> as Flavor>⟧.appended self.old (byte ∷ []) self.new) }
+        ensures has_room { ⟦<ExtendFlavor<T> as Flavor>⟧.room self.old (byte ∷ []) → IsOk result }
+        ensures refused { OnErr result (⟦<ExtendFlavor<T> as Flavor>⟧.tidy
+            → Begins ⟦<ExtendFlavor<T> as Flavor>⟧.appended self.old (byte ∷ []) self.new) }
+        ensures leaves { ⟦<ExtendFlavor<T> as Flavor>⟧.reaches self.old self.new }
+        ensures full { IfErr result (λ e. e ≡ Error.SerializeBufferFull) }
+        ensures unchanged { OnErr result (T.content self.new ≡ T.content self.old) }
+    {
+        self.try_extend(&[byte])
+    }
+
+    /// Hands bytes on in one piece. Refuses with `SerializeBufferFull` where the target refuses,
+    /// whose content is then unchanged.
+    fn try_extend(&mut self, bytes: &[u8]) -> Result<()>
+        ensures appends { OnOk result
+            (⟦<ExtendFlavor<T> as Flavor>⟧.appended self.old bytes.now self.new) }
+        ensures has_room { ⟦<ExtendFlavor<T> as Flavor>⟧.room self.old bytes.now → IsOk result }
+        ensures refused { OnErr result (⟦<ExtendFlavor<T> as Flavor>⟧.tidy
+            → Begins ⟦<ExtendFlavor<T> as Flavor>⟧.appended self.old bytes.now self.new) }
+        ensures leaves { ⟦<ExtendFlavor<T> as Flavor>⟧.reaches self.old self.new }
+        ensures full { IfErr result (λ e. e ≡ Error.SerializeBufferFull) }
+        ensures unchanged { OnErr result (T.content self.new ≡ T.content self.old) }
+    {
+        self.target
+            .extend(bytes)
+            .map_err(|_| Error::SerializeBufferFull)
+    }
+
+    /// The target. Never refuses.
+    fn finalize(self) -> Result<T>
+        ensures gives { IfOk result (λ output. ⟦<ExtendFlavor<T> as Flavor>⟧.finishes self output) }
+        ensures closes { ⟦<ExtendFlavor<T> as Flavor>⟧.room self [] → IsOk result }
+        ensures always { IsOk result }
+    {
+        Ok(self.target)
+    }
+}

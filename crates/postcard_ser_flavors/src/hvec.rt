@@ -1,0 +1,184 @@
+//! The flavor that fills a vector of a fixed capacity.
+
+ghost use Rattle.std.specs.Prelude.{◌≡◌, ◌+◌, ◌≤◌, ◌<◌, ◌↔◌, [], ◌∷◌, ◌++◌, length, slice_index, slice_set, ⊤, IsOk, OnOk, OnErr, IfOk, IfErr};
+ghost use Rattle.postcard_ser_flavors.specs.Flavor.{Begins};
+ghost use Rattle.postcard_ser_flavors.specs.Held.{Appended, HasRoom, CanTake, AnyReached, fixed_lawful, fixed_free, fixed_storage, list_indexed};
+ghost use Rattle.std.specs.Borrow.{sem, Lends, u8 as byte_row, unit as unit_row};
+ghost use Rattle.arrayvec.specs.Lends.{lends_item};
+
+use crate::flavor::Flavor;
+use crate::storage::Storage;
+use arrayvec::ArrayVec;
+use postcard_wire::{Error, Result};
+use std::marker::Model;
+use std::ops::{Index, IndexMut};
+
+/// Appends to a vector with room for `B` bytes that lies in the value itself. A piece is written
+/// whole or not at all, and no memory is asked for.
+///
+/// A contract sees the bytes that it holds.
+#[derive(Drop)]
+pub struct HVec<const B: usize> {
+    vec: ArrayVec<u8, B>,
+}
+
+impl<const B: usize> Model for HVec<B> {
+    ghost use Rattle.std.specs.Prelude.{ℕ, List};
+
+    ghost Value = { List ℕ };
+
+    ghost view = { λ s. s.vec.items };
+}
+
+impl<const B: usize> HVec<B> {
+    /// Holds nothing.
+    pub fn new() -> HVec<B>
+        ensures { result ≡ [] }
+    {
+        HVec {
+            vec: ArrayVec::new(),
+        }
+    }
+}
+
+impl<const B: usize> Default for HVec<B> {
+    ghost is_default = { λ s. s ≡ [] };
+
+    /// Holds nothing.
+    fn default() -> HVec<B> {
+        HVec::new()
+    }
+}
+
+impl<const B: usize> Flavor for HVec<B> {
+    type Output = ArrayVec<u8, B>;
+
+    ghost appended = { Appended (λ s. s) };
+
+    ghost room = { HasRoom (λ s. s) B };
+
+    ghost tidy = { ⊤ };
+
+    ghost reaches = { AnyReached };
+
+    ghost finishes = { λ s output. output.items ≡ s };
+
+    ghost lawful = { fixed_lawful (λ s. s) B };
+
+    /// Writes a byte. Refuses with `SerializeBufferFull` exactly where `B` bytes are held, and is
+    /// then unchanged.
+    fn try_push(&mut self, byte: u8) -> Result<()>
+        ensures appends { OnOk result
+            (⟦<HVec<B> as Flavor>⟧.appended self.old (byte ∷ []) self.new) }
+        ensures has_room { ⟦<HVec<B> as Flavor>⟧.room self.old (byte ∷ []) → IsOk result }
+        ensures refused { OnErr result (⟦<HVec<B> as Flavor>⟧.tidy
+            → Begins ⟦<HVec<B> as Flavor>⟧.appended self.old (byte ∷ []) self.new) }
+        ensures leaves { ⟦<HVec<B> as Flavor>⟧.reaches self.old self.new }
+        ensures fits { IsOk result ↔ (length self.old + 1 ≤ B) }
+        ensures full { IfErr result (λ e. e ≡ Error.SerializeBufferFull) }
+        ensures unchanged { OnErr result (self.new ≡ self.old) }
+    {
+        self.vec
+            .try_push(byte)
+            .map_err(|_| Error::SerializeBufferFull)
+    }
+
+    /// Writes bytes in a row. Refuses with `SerializeBufferFull` exactly where more than `B` bytes
+    /// would be held, and is then unchanged.
+    fn try_extend(&mut self, bytes: &[u8]) -> Result<()>
+        ensures appends { OnOk result (⟦<HVec<B> as Flavor>⟧.appended self.old bytes.now self.new) }
+        ensures has_room { ⟦<HVec<B> as Flavor>⟧.room self.old bytes.now → IsOk result }
+        ensures refused { OnErr result (⟦<HVec<B> as Flavor>⟧.tidy
+            → Begins ⟦<HVec<B> as Flavor>⟧.appended self.old bytes.now self.new) }
+        ensures leaves { ⟦<HVec<B> as Flavor>⟧.reaches self.old self.new }
+        ensures fits { IsOk result ↔ (length self.old + length bytes.now ≤ B) }
+        ensures full { IfErr result (λ e. e ≡ Error.SerializeBufferFull) }
+        ensures unchanged { OnErr result (self.new ≡ self.old) }
+    {
+        self.vec
+            .try_extend_from_slice(bytes)
+            .map_err(|_| Error::SerializeBufferFull)
+    }
+
+    /// The vector. Never refuses.
+    fn finalize(self) -> Result<ArrayVec<u8, B>>
+        ensures gives { IfOk result (λ output. ⟦<HVec<B> as Flavor>⟧.finishes self.entry output) }
+        ensures closes { ⟦<HVec<B> as Flavor>⟧.room self.entry [] → IsOk result }
+        ensures always { IsOk result }
+    {
+        Ok(self.vec)
+    }
+}
+
+impl<const B: usize> Index<usize> for HVec<B> {
+    type Output = u8;
+
+    ghost can_index = { λ s place. place < length s };
+
+    ghost index_gives = { λ s place byte. byte ≡ slice_index s place };
+
+    /// The byte at a place that is held, counted from 0.
+    fn index(&self, place: usize) -> &u8 {
+        &self.vec[place]
+    }
+}
+
+// The byte at a place of a vector, to be written.
+fn byte_at<const B: usize>(vec: &mut ArrayVec<u8, B>, place: usize) -> &mut u8
+    requires { place < length vec.old.items }
+    ensures* writes_back { sem 𝓛 (lends_item byte_row B.row unit_row vec.entry place result) }
+    ensures value { result.now ≡ slice_index vec.old.items place }
+{
+    match vec.get_mut(place) {
+        Some(byte) => byte,
+        None => unreachable!(),
+    }
+}
+
+impl<const B: usize> IndexMut<usize> for HVec<B> {
+    ghost use Rattle.postcard_ser_flavors.specs.contracts.hvec.HVec.{the_row};
+
+    /// The byte at a place that is held, counted from 0, to be written. Nothing else changes.
+    fn index_mut(&mut self, place: usize) -> &mut u8
+        requires { place < length self.old }
+        ensures* writes_back { sem 𝓛
+            (Lends (the_row B.row) byte_row self.entry result (slice_set self.old place)) }
+        ensures value { result.now ≡ slice_index self.old place }
+    {
+        byte_at(&mut self.vec, place)
+    }
+}
+
+impl<const B: usize> Storage for HVec<B> {
+    ghost held = { λ s. s };
+
+    ghost free = { CanTake (λ s. s) B };
+
+    ghost free_lawful = { fixed_free (λ s. s) B };
+
+    /// Changes the byte at a place that is held, counted in bytes from 0, and nothing else.
+    fn set(&mut self, place: usize, byte: u8) {
+        self.vec[place] = byte;
+    }
+
+    ghost storage_lawful = { fixed_storage (λ s. s) B };
+
+    ghost indexed = { list_indexed };
+}
+
+#[cfg(test)]
+mod tests {
+    use super::*;
+
+    #[test]
+    fn takes_a_piece_whole_or_not(rt: HostRuntime) {
+        let mut vec = HVec::<4>::new();
+        assert_eq!(rt; vec.try_extend(&[1, 2]), Ok(()));
+        assert_eq!(rt; vec.try_extend(&[3, 4, 5]), Err(Error::SerializeBufferFull));
+        assert_eq!(rt; vec.vec.as_slice(), [1, 2].as_slice());
+        assert_eq!(rt; vec.try_extend(&[3, 4]), Ok(()));
+        assert_eq!(rt; vec.try_push(5), Err(Error::SerializeBufferFull));
+        vec.set(1, 9);
+        assert_eq!(rt; vec.vec.as_slice(), [1, 9, 3, 4].as_slice());
+    }
+}

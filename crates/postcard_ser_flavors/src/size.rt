@@ -1,0 +1,107 @@
+//! The flavor that only counts.
+
+ghost use Rattle.std.specs.Prelude.{◌≡◌, ◌+◌, ◌^◌, ◌<◌, ◌↔◌, [], ◌∷◌, length, ⊤, IsOk, OnOk, OnErr, IfOk, IfErr};
+ghost use Rattle.postcard_ser_flavors.specs.Counted.{Counts, CanCount, Rises, count_lawful};
+ghost use Rattle.postcard_ser_flavors.specs.Flavor.{Begins};
+
+use crate::flavor::Flavor;
+use postcard_wire::{Error, Result};
+use std::marker::Model;
+
+/// Counts the bytes of a message and keeps none of them. Its output is their number.
+///
+/// A contract sees the count, in bytes.
+#[derive(Drop)]
+pub struct Size {
+    count: usize,
+}
+
+impl Model for Size {
+    ghost use Rattle.std.specs.Prelude.{ℕ};
+
+    ghost Value = { ℕ };
+
+    ghost view = { λ s. s.count };
+}
+
+impl Default for Size {
+    ghost is_default = { λ s. s ≡ 0 };
+
+    /// Stands at 0 bytes.
+    fn default() -> Size {
+        Size { count: 0 }
+    }
+}
+
+impl Size {
+    fn add(&mut self, len: usize) -> Result<()>
+        ensures counts { OnOk result (self.new ≡ self.old + len) }
+        ensures fits { IsOk result ↔ (self.old + len < 2 ^ 64) }
+        ensures full { IfErr result (λ e. e ≡ Error.SerializeBufferFull) }
+        ensures unchanged { OnErr result (self.new ≡ self.old) }
+    {
+        match self.count.checked_add(len) {
+            Some(count) => {
+                self.count = count;
+                Ok(())
+            }
+            None => Err(Error::SerializeBufferFull),
+        }
+    }
+}
+
+impl Flavor for Size {
+    type Output = usize;
+
+    ghost appended = { Counts };
+
+    ghost room = { CanCount };
+
+    ghost tidy = { ⊤ };
+
+    ghost reaches = { Rises };
+
+    ghost finishes = { λ s output. output ≡ s };
+
+    ghost lawful = { count_lawful };
+
+    /// Counts a byte. Refuses with `SerializeBufferFull` exactly where the count would pass
+    /// `usize::MAX`, and is then unchanged.
+    fn try_push(&mut self, byte: u8) -> Result<()>
+        ensures appends { OnOk result (⟦<Size as Flavor>⟧.appended self.old (byte ∷ []) self.new) }
+        ensures has_room { ⟦<Size as Flavor>⟧.room self.old (byte ∷ []) → IsOk result }
+        ensures refused { OnErr result (⟦<Size as Flavor>⟧.tidy
+            → Begins ⟦<Size as Flavor>⟧.appended self.old (byte ∷ []) self.new) }
+        ensures leaves { ⟦<Size as Flavor>⟧.reaches self.old self.new }
+        ensures fits { IsOk result ↔ (self.old + 1 < 2 ^ 64) }
+        ensures full { IfErr result (λ e. e ≡ Error.SerializeBufferFull) }
+        ensures unchanged { OnErr result (self.new ≡ self.old) }
+    {
+        let _ = byte;
+        self.add(1)
+    }
+
+    /// Counts bytes. Refuses with `SerializeBufferFull` exactly where the count would pass
+    /// `usize::MAX`, and is then unchanged.
+    fn try_extend(&mut self, bytes: &[u8]) -> Result<()>
+        ensures appends { OnOk result (⟦<Size as Flavor>⟧.appended self.old bytes.now self.new) }
+        ensures has_room { ⟦<Size as Flavor>⟧.room self.old bytes.now → IsOk result }
+        ensures refused { OnErr result (⟦<Size as Flavor>⟧.tidy
+            → Begins ⟦<Size as Flavor>⟧.appended self.old bytes.now self.new) }
+        ensures leaves { ⟦<Size as Flavor>⟧.reaches self.old self.new }
+        ensures fits { IsOk result ↔ (self.old + length bytes.now < 2 ^ 64) }
+        ensures full { IfErr result (λ e. e ≡ Error.SerializeBufferFull) }
+        ensures unchanged { OnErr result (self.new ≡ self.old) }
+    {
+        self.add(bytes.len())
+    }
+
+    /// The count. Never refuses.
+    fn finalize(self) -> Result<usize>
+        ensures gives { IfOk result (λ output. ⟦<Size as Flavor>⟧.finishes self output) }
+        ensures closes { ⟦<Size as Flavor>⟧.room self [] → IsOk result }
+        ensures always { IsOk result }
+    {
+        Ok(self.count)
+    }
+}

@@ -1,0 +1,40 @@
+//! The slice as a storage: what is written can still be changed.
+
+ghost use Rattle.std.specs.Prelude.{◌≡◌, ℕ, ◌^◌, ◌<◌, List, length, slice_set};
+ghost use Rattle.postcard_ser_flavors.specs.Slice.{held};
+ghost use Rattle.postcard_ser_flavors.specs.SliceStorage.{CanTake, slice_free, slice_storage, slice_indexed};
+
+use crate::flavor::Flavor;
+use crate::slice::Slice;
+use crate::storage::Storage;
+
+impl<'a> Storage for Slice<'a> {
+    ghost held = { held };
+
+    ghost free = { CanTake };
+
+    ghost free_lawful = { slice_free };
+
+    /// Changes the byte at a place that is held, counted in bytes from 0, and nothing else of the
+    /// whole slice.
+    fn set(&mut self, place: usize, byte: u8)
+        requires { place < length (held self.old) }
+        ensures sets { ⟦<Slice<'static> as Storage>⟧.held self.new
+            ≡ slice_set (⟦<Slice<'static> as Storage>⟧.held self.old) place byte }
+        ensures keeps_room { (x : List ℕ) → ⟦<Slice<'static> as Flavor>⟧.room self.old x
+            → ⟦<Slice<'static> as Flavor>⟧.room self.new x }
+        ensures keeps_free { (n : ℕ) → ⟦<Slice<'static> as Storage>⟧.free self.old n
+            → ⟦<Slice<'static> as Storage>⟧.free self.new n }
+        ensures leaves { ⟦<Slice<'static> as Flavor>⟧.reaches self.old self.new }
+        ensures countable { length (⟦<Slice<'static> as Storage>⟧.held self.new) < 2 ^ 64 }
+        ensures alone { self.new ≡ record self.old { buffer = slice_set self.old.buffer place byte } }
+    {
+        let len = self.len;
+        let all = self.memory.lend(len);
+        all[place] = byte;
+    }
+
+    ghost storage_lawful = { slice_storage };
+
+    ghost indexed = { slice_indexed };
+}

@@ -1,0 +1,40 @@
+//! The trait of the flavors that keep their bytes where they can be changed.
+
+ghost use Rattle.std.specs.Prelude.{◌≡◌, ℕ, ◌^◌, ◌<◌, List, length, slice_set};
+ghost use Rattle.postcard_ser_flavors.specs.Storage.{IsFree, IsStorage, IsIndexed};
+
+use crate::flavor::Flavor;
+use std::ops::IndexMut;
+
+/// A flavor whose bytes are at hand: each can be changed until `finalize`. A frame needs this,
+/// since the code in front of a group is known only at the group's end.
+///
+/// An impl defines these members beside those of [`Flavor`]:
+/// - `held state`: the bytes written so far, from the first on. Bytes from before a frame are among
+///   them.
+/// - `free state n`: any `n` bytes more are surely taken, whichever they are and however they are
+///   cut into pieces.
+/// - `free_lawful`, `storage_lawful`, `indexed`: what holds of these in each storage; by the last,
+///   a byte that is held can be read by its place.
+pub trait Storage: Flavor + IndexMut<usize, Output = u8> {
+    ghost held: { Self → List ℕ };
+
+    ghost free: { Self → ℕ → Type 0 };
+
+    // Above the last function, so that a flavor over a storage can cite it in a member of its own.
+    ghost free_lawful: { IsFree free };
+
+    /// Changes the byte at a place that is held, counted in bytes from 0, and nothing else. The
+    /// number of bytes held fits a `usize`.
+    fn set(&mut self, place: usize, byte: u8)
+        requires { place < length (held self.old) }
+        ensures sets { held self.new ≡ slice_set (held self.old) place byte }
+        ensures keeps_room { (x : List ℕ) → Self.room self.old x → Self.room self.new x }
+        ensures keeps_free { (n : ℕ) → free self.old n → free self.new n }
+        ensures leaves { Self.reaches self.old self.new }
+        ensures countable { length (held self.new) < 2 ^ 64 };
+
+    ghost storage_lawful: { IsStorage Self.appended Self.room Self.reaches held free };
+
+    ghost indexed: { IsIndexed Self.can_index Self.index_gives held };
+}
