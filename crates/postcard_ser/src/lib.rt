@@ -13,6 +13,7 @@
 //! - `values`: numbers, texts and lists.
 #![tactic(auto)]
 
+mod collect_str;
 pub mod serialize;
 pub mod serializer;
 #[cfg(test)]
