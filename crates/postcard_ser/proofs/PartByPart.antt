@@ -27,6 +27,16 @@ module _ {S O : Type 0} {F : Ghosts S O} where
     leaves = F.lawful.reaches_self s;
   }
 
+  -- The value refuses itself before any part is written.
+  pub wrote_refusal : {Q T : Type 0} {x : List ℕ} {e : Error} (s : S) → Q → Wrote F s x Q T (Err e) s
+  wrote_refusal s q = record {
+    appends = tt;
+    has_room = λ n _. absurd (n q);
+    answers = λ n. absurd (n q);
+    refused = λ n _. absurd (n q);
+    leaves = F.lawful.reaches_self s;
+  }
+
   -- What the exit of a `?` returns.
   pub wrote_err : {s t : S} {Q T : Type 0} {x : List ℕ} {e : Error} (r : Result (Unit {0}) Error) → IsErrAnd r (λ y. y ≡ e) → Wrote F s x Q T (Err e) t → Wrote F s x Q T r t
   wrote_err {s} {t} {Q} {T} {x} {e} r h w = let p = err_from_is_err_and r h in rw (p.1, p.2) w
@@ -75,3 +85,7 @@ module _ {S O : Type 0} {F : Ghosts S O} where
     refused = λ n. w.refused (λ q. n (i q));
     leaves = w.leaves;
   }
+
+  -- Once all that had room is written, there is room for no more bytes, by which `finalize` succeeds.
+  pub wrote_closes : {s t : S} {Q T : Type 0} (x : List ℕ) → F.room s x → Wrote F s x Q T (Ok tt) t → F.room t []
+  wrote_closes {s} {t} x r w = F.lawful.room_rest s t x [] (rw append-nil r) w.appends w.leaves

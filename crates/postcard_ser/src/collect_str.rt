@@ -1,4 +1,5 @@
-//! A value written as the text that it prints: the text is counted in a first pass, and handed over in a second.
+//! A value written as the text that it prints: the text is counted in a first pass, and handed over
+//! in a second.
 
 ghost use Rattle.std.specs.Prelude.{◌≡◌, ◌+◌, length, ⊤, OnOk, IfOk, IfErr, IsErrOf, IfSome};
 ghost use Rattle.postcard_wire.specs.Number.{digits};
@@ -76,7 +77,8 @@ fn count_text<T: Display>(value: &T) -> std::result::Result<usize, fmt::Error>
 fn write_text<T: Display, F: Flavor, K: Lasting<F>>(output: F, value: &T) -> (F, fmt::Result)
     requires lasts { K.lasts output }
     requires kept { (s t : F) → K.lasts s → F.Flavor.reaches s t → K.lasts t }
-    ensures appends { OnOk result.1 (IfSome (T.output value.now) (λ u. F.appended output u result.0)) }
+    ensures appends { OnOk result.1
+        (IfSome (T.output value.now) (λ u. F.appended output u result.0)) }
     ensures lasts { ∥ K.lasts result.0 ∥₁ }
 {
     let writer: FmtWriter<F, K> = FmtWriter {
@@ -91,23 +93,30 @@ fn write_text<T: Display, F: Flavor, K: Lasting<F>>(output: F, value: &T) -> (F,
 
 /// Hands over what a value prints, and gives back the flavor, which is one that pushes may leave.
 fn print<T: Display, F: Flavor>(output: F, value: &T) -> (F, fmt::Result)
-    ensures appends { OnOk result.1 (IfSome (T.output value.now) (λ u. F.appended output u result.0)) }
+    ensures appends { OnOk result.1
+        (IfSome (T.output value.now) (λ u. F.appended output u result.0)) }
     ensures leaves { F.reaches output result.0 }
 {
     write_text::<T, F, Brand>(output, value)
 }
 
 impl<F: Flavor> Serializer<F> {
-    /// Writes the text that a value prints: the count of its bytes as a varint, and then its bytes. The value is
-    /// formatted twice, first to count.
+    /// Writes the text that a value prints: the count of its bytes as a varint, and then its bytes.
+    /// The value is formatted twice, first to count.
     ///
-    /// A text that fails to format, is longer than `usize::MAX` bytes, or is refused by the flavor is answered by
-    /// `CollectStrError`. Where the flavor refuses the count, it is `SerializeBufferFull`.
+    /// A text that fails to format, is longer than `usize::MAX` bytes, or is refused by the flavor
+    /// is answered by `CollectStrError`. Where the flavor refuses the count, it is
+    /// `SerializeBufferFull`.
     pub fn collect_str<T: Display>(&mut self, value: &T) -> Result<()>
-        ensures writes { IfSome (T.output value.now) (λ u. Wrote F.Flavor self.old.output (bytes (Text u)) ⊤ ⊤ result self.new.output) }
+        ensures writes { IfSome (T.output value.now)
+            (λ u. Wrote F.Flavor self.old.output (bytes (Text u)) ⊤ ⊤ result self.new.output) }
         ensures names { IfErr result (AnswersRefusal ⊤) }
-        ensures full { IfSome (T.output value.now) (λ u. F.room self.old.output (digits (length u)) → ¬ IsErrOf result Error.SerializeBufferFull) }
-        ensures front { IfSome (T.output value.now) (λ u. IsErrOf result Error.SerializeBufferFull → F.tidy → Begins F.appended self.old.output (digits (length u)) self.new.output) }
+        ensures full { IfSome (T.output value.now)
+            (λ u. F.room self.old.output (digits (length u)) → ¬ IsErrOf result
+            Error.SerializeBufferFull) }
+        ensures front { IfSome (T.output value.now)
+            (λ u. IsErrOf result Error.SerializeBufferFull → F.tidy → Begins F.appended
+            self.old.output (digits (length u)) self.new.output) }
         ensures leaves { F.reaches self.old.output self.new.output }
     {
         let Ok(count) = count_text(value) else {

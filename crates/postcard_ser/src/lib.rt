@@ -1,16 +1,18 @@
 //! Values as bytes: what a type says of itself is handed to a flavor, piece after piece.
 //!
-//! The one contract is that of [`Serialize`]: `serialize` has `Wrote` the bytes of the value's `tree`. That is, after
-//! an `Ok` just these bytes are appended; a value that doesn't refuse itself is refused only where the flavor has no
-//! room for them, with `SerializeBufferFull` (or with `CollectStrError`, if the type may answer it); and what is left is a
-//! state that the flavor's pushes may leave, over a tidy flavor with a beginning of the bytes. The layer above cites
-//! nothing else.
+//! The one contract is that of [`Serialize`]: a call of `serialize` has `Wrote` the bytes of the
+//! value's `tree`. After an `Ok` just these bytes are appended. A value that doesn't refuse itself is
+//! refused only where the flavor has no room for them, with `SerializeBufferFull` (or with
+//! `CollectStrError`, if the type may answer it); a tidy flavor then holds a beginning of them. In any
+//! case pushes may leave what is left. The layer above cites nothing else. Whoever writes an impl for a
+//! type of several parts joins what each part wrote by the lemmas of `proofs/PartByPart.antt`.
 //!
 //! To be read in this order:
 //! - the crate `postcard_ser_flavors`, passed on here: where the bytes go.
-//! - `serializer`: the calls by which a type writes itself.
+//! - `serializer`: the calls by which a type writes itself; `collect_str`: that for texts that values
+//!   print.
 //! - `serialize`: the trait of all types that are written.
-//! - `values`: numbers, texts and lists.
+//! - `values`: the types of std and of `arrayvec` that are written.
 #![tactic(auto)]
 
 mod collect_str;

@@ -13,8 +13,10 @@ use postcard_wire::Result;
 ///
 /// An impl defines these members:
 /// - `tree`: what a value says.
-/// - `refuses_itself`: values that may be refused for a reason of their own, with any error. None, where it is left out.
-/// - `may_fail_text`: whether other values may be refused with `CollectStrError`. No, where it is left out.
+/// - `refuses_itself`: values that may be refused for a reason of their own, with any error. None,
+///   where it is left out.
+/// - `may_fail_text`: whether other values may be refused with `CollectStrError`. No, where it is
+///   left out.
 ///
 /// A struct names its parts by quotes, as `⟦<u32 as Serialize>⟧.tree v.count`.
 pub trait Serialize {
@@ -26,9 +28,11 @@ pub trait Serialize {
 
     /// Writes the shortest bytes of the value's tree.
     fn serialize<F: Flavor>(&self, serializer: &mut Serializer<F>) -> Result<()>
-        ensures { Wrote F.Flavor serializer.old.output (bytes (tree self.now)) (refuses_itself self.now) may_fail_text result serializer.new.output };
+        ensures { Wrote F.Flavor serializer.old.output (bytes (tree self.now))
+            (refuses_itself self.now) may_fail_text result serializer.new.output };
 
-    /// The bytes of values in a row, where just these stand in memory: so a list of `u8` is handed over as one piece.
+    /// The bytes of values in a row, where just these stand in memory: so a list of `u8` is handed
+    /// over as one piece.
     fn slice_bytes(items: &[Self]) -> Option<&[u8]>
         ensures { IfSome result (λ b. b.now ≡ bytes_all (trees (map tree items.now))) }
     {

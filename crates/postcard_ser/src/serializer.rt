@@ -1,5 +1,5 @@
-//! The calls by which a type writes itself, each a node of the wire format. Here are those for numbers, texts and
-//! lists.
+//! The calls by which a type writes itself, each a node of the wire format. Here are those for numbers,
+//! texts and lists.
 
 ghost use Rattle.std.specs.Prelude.{◌≡◌, [], ◌∷◌, map, false, IsOk, IsErrOf, IfSome};
 ghost use Rattle.std.specs.Option.{IfNone};
@@ -24,12 +24,19 @@ use postcard_wire::{Error, Result};
 
 /// Writes values into a flavor.
 ///
-/// Each call refuses with `SerializeBufferFull` where the flavor refuses, whatever the flavor's own error is. The
-/// output then holds the pieces that were taken so far.
+/// Each call answers `SerializeBufferFull` where the flavor refuses, whatever the flavor's own error
+/// is. The output then holds the pieces that were taken so far.
 #[derive(Drop)]
 pub struct Serializer<F: Flavor> {
     /// Where the bytes go.
     pub output: F,
+}
+
+// What is answered where a flavor refuses, whatever its own error.
+fn refusal(_of_flavor: Error) -> Error
+    ensures { result ≡ Error.SerializeBufferFull }
+{
+    Error::SerializeBufferFull
 }
 
 impl<F: Flavor> Serializer<F> {
@@ -37,20 +44,23 @@ impl<F: Flavor> Serializer<F> {
     fn push(&mut self, byte: u8) -> Result<()>
         ensures { Wrote F.Flavor self.old.output (byte ∷ []) ⊥ ⊥ result self.new.output }
     {
-        match self.output.try_push(byte) {
-            Ok(()) => Ok(()),
-            Err(_) => Err(Error::SerializeBufferFull),
-        }
+        self.output.try_push(byte).map_err(refusal)
     }
 
     // Hands over bytes in a row.
-    pub(crate) fn extend(&mut self, bytes: &[u8]) -> Result<()>
-        ensures { Wrote F.Flavor self.old.output bytes.now ⊥ ⊥ result self.new.output }
+    pub(crate) fn extend(&mut self, piece: &[u8]) -> Result<()>
+        ensures { Wrote F.Flavor self.old.output piece.now ⊥ ⊥ result self.new.output }
     {
-        match self.output.try_extend(bytes) {
-            Ok(()) => Ok(()),
-            Err(_) => Err(Error::SerializeBufferFull),
-        }
+        self.output.try_extend(piece).map_err(refusal)
+    }
+
+    // Hands over the count of the bytes, and then the bytes.
+    fn extend_counted(&mut self, piece: &[u8]) -> Result<()>
+        ensures { Wrote F.Flavor self.old.output (bytes (Text piece.now)) ⊥ ⊥
+            result self.new.output }
+    {
+        self.serialize_u64(piece.len() as u64)?;
+        self.extend(piece)
     }
 
     /// Whether a type should write itself for people to read: it never should.
@@ -101,7 +111,8 @@ impl<F: Flavor> Serializer<F> {
 
     /// Writes one byte, in two's complement.
     pub fn serialize_i8(&mut self, v: i8) -> Result<()>
-        ensures { Wrote F.Flavor self.old.output (bytes (Byte (cast_unsigned w8 v))) ⊥ ⊥ result self.new.output }
+        ensures { Wrote F.Flavor self.old.output (bytes (Byte (cast_unsigned w8 v))) ⊥ ⊥
+            result self.new.output }
     {
         self.push(v.cast_unsigned())
     }
@@ -138,24 +149,26 @@ impl<F: Flavor> Serializer<F> {
     pub fn serialize_str(&mut self, v: &str) -> Result<()>
         ensures { Wrote F.Flavor self.old.output (bytes (Text v.now)) ⊥ ⊥ result self.new.output }
     {
-        self.serialize_u64(v.len() as u64)?;
-        self.extend(v.as_bytes())
+        self.extend_counted(v.as_bytes())
     }
 
     /// Writes the count of the bytes as a varint, and then the bytes: those of a list of `u8`.
     pub fn serialize_bytes(&mut self, v: &[u8]) -> Result<()>
-        ensures { Wrote F.Flavor self.old.output (bytes (Seq (trees (map Byte v.now)))) ⊥ ⊥ result self.new.output }
+        ensures { Wrote F.Flavor self.old.output (bytes (Seq (trees (map Byte v.now)))) ⊥ ⊥
+            result self.new.output }
     {
-        self.serialize_u64(v.len() as u64)?;
-        self.extend(v)
+        self.extend_counted(v)
     }
 
-    /// Begins a list: writes the count of its elements as a varint. Elements are then written by
-    /// `serialize_element`; nobody counts them. Refuses an unknown count with `SerializeSeqLengthUnknown`, before
-    /// anything is written.
+    /// Begins a list: writes the count of its elements as a varint of 1 to 10 bytes.
+    ///
+    /// Each element is then written by `serialize_element`; nobody counts them. An unknown count is
+    /// refused with `SerializeSeqLengthUnknown`, before anything is written.
     pub fn serialize_seq(&mut self, len: Option<usize>) -> Result<()>
-        ensures known { IfSome len (λ n. Wrote F.Flavor self.old.output (bytes (Num 64 n)) ⊥ ⊥ result self.new.output) }
-        ensures unknown { IfNone len (IsErrOf result Error.SerializeSeqLengthUnknown × (self.new ≡ self.old)) }
+        ensures known { IfSome len (λ n. Wrote F.Flavor self.old.output (bytes (Num 64 n)) ⊥ ⊥
+            result self.new.output) }
+        ensures unknown { IfNone len (IsErrOf result Error.SerializeSeqLengthUnknown
+            × (self.new ≡ self.old)) }
     {
         match len {
             Some(n) => self.serialize_u64(n as u64),
@@ -165,7 +178,8 @@ impl<F: Flavor> Serializer<F> {
 
     /// Writes an element of a list, or any part of a value.
     pub fn serialize_element<T: Serialize>(&mut self, value: &T) -> Result<()>
-        ensures { Wrote F.Flavor self.old.output (bytes (T.tree value.now)) (T.refuses_itself value.now) T.may_fail_text result self.new.output }
+        ensures { Wrote F.Flavor self.old.output (bytes (T.tree value.now))
+            (T.refuses_itself value.now) T.may_fail_text result self.new.output }
     {
         value.serialize(self)
     }

@@ -1,1 +1,251 @@
 //! Values as bytes, against those worked out by hand from the wire format.
+
+ghost use Rattle.std.specs.Prelude.{◌≡◌, ◌%◌, [], ◌∷◌};
+ghost use Rattle.postcard_wire.specs.Tree.{Byte, Group, Seq, trees};
+
+mod calls;
+mod printed;
+mod users;
+mod values;
+
+use crate::serialize::Serialize;
+use crate::serializer::Serializer;
+use postcard_ser_flavors::{Flavor, Slice};
+use postcard_wire::{Error, Result};
+use std::process::Abort;
+use std::test::Fail;
+
+/// A user's struct.
+struct Reading<'a> {
+    name: &'a str,
+    value: u32,
+}
+
+impl Serialize for Reading<'_> {
+    ghost tree = { λ v. Group (trees (⟦<&'static str as Serialize>⟧.tree v.name
+        ∷ ⟦<u32 as Serialize>⟧.tree v.value ∷ [])) };
+
+    ghost refuses_itself = { λ _. ⊥ };
+
+    ghost may_fail_text = { ⊥ };
+
+    fn serialize<F: Flavor>(&self, serializer: &mut Serializer<F>) -> Result<()> {
+        self.name.serialize(serializer)?;
+        self.value.serialize(serializer)
+    }
+}
+
+/// A user's list, which calls the serializer by itself.
+struct Both(u32, u32);
+
+impl Serialize for Both {
+    ghost tree = { λ v. Seq (trees (⟦<u32 as Serialize>⟧.tree v.0
+        ∷ ⟦<u32 as Serialize>⟧.tree v.1 ∷ [])) };
+
+    ghost refuses_itself = { λ _. ⊥ };
+
+    ghost may_fail_text = { ⊥ };
+
+    fn serialize<F: Flavor>(&self, serializer: &mut Serializer<F>) -> Result<()> {
+        serializer.serialize_seq(Some(2))?;
+        serializer.serialize_element(&self.0)?;
+        serializer.serialize_element(&self.1)?;
+        serializer.end()
+    }
+}
+
+/// A user's type that has no bytes for its odd numbers.
+struct Even(u8);
+
+impl Serialize for Even {
+    ghost tree = { λ v. Byte v.0 };
+
+    ghost refuses_itself = { λ v. v.0 % 2 ≡ 1 };
+
+    ghost may_fail_text = { ⊥ };
+
+    fn serialize<F: Flavor>(&self, serializer: &mut Serializer<F>) -> Result<()> {
+        if self.0 % 2 == 1 {
+            return Err(Error::ser_custom("no"));
+        }
+        serializer.serialize_u8(self.0)
+    }
+}
+
+/// Takes so many pieces, and then refuses with an error of its own.
+#[derive(Drop)]
+struct Pieces<F> {
+    inner: F,
+    left: usize,
+}
+
+impl<F: Flavor + Drop> Pieces<F> {
+    fn take(&mut self) -> Result<()>
+        ensures { self.new.inner ≡ self.old.inner }
+    {
+        match self.left.checked_sub(1) {
+            Some(left) => {
+                self.left = left;
+                Ok(())
+            }
+            None => Err(Error::WontImplement),
+        }
+    }
+}
+
+impl<F: Flavor + Drop> Flavor for Pieces<F> {
+    type Output = F::Output;
+
+    ghost appended = { λ s x t. F.appended s.inner x t.inner };
+
+    ghost room = { λ _ _. ⊥ };
+
+    ghost tidy = { ⊥ };
+
+    ghost reaches = { λ s t. F.reaches s.inner t.inner };
+
+    ghost finishes = { λ s output. F.finishes s.inner output };
+
+    ghost lawful = { record {
+      appended_none = λ s. F.lawful.appended_none s.inner;
+      appended_join = λ s t u x y p q. F.lawful.appended_join s.inner t.inner u.inner x y p q;
+      room_front = λ s x y r. r;
+      room_rest = λ s t x y r p v. r;
+      reaches_self = λ s. F.lawful.reaches_self s.inner;
+      reaches_join = λ s t u p q. F.lawful.reaches_join s.inner t.inner u.inner p q;
+      reaches_prop = λ s t. F.lawful.reaches_prop s.inner t.inner;
+    } };
+
+    fn try_push(&mut self, byte: u8) -> Result<()> {
+        self.take()?;
+        self.inner.try_push(byte)
+    }
+
+    fn try_extend(&mut self, bytes: &[u8]) -> Result<()> {
+        self.take()?;
+        self.inner.try_extend(bytes)
+    }
+
+    fn finalize(self) -> Result<F::Output> {
+        self.inner.finalize()
+    }
+}
+
+/// Writes a value into a slice, and answers its bytes.
+fn written<'a, T: Serialize>(value: &T, buffer: &'a mut [u8]) -> Result<&'a [u8]> {
+    let mut serializer = Serializer {
+        output: Slice::new(buffer),
+    };
+    value.serialize(&mut serializer)?;
+    let front: &'a [u8] = serializer.output.finalize()?;
+    Ok(front)
+}
+
+/// The value is written as these bytes.
+fn assert_written<T: Serialize>(rt: &impl Abort, value: &T, want: &[u8]) {
+    let mut buffer = [0xAA; 32];
+    assert_eq!(rt; written(value, &mut buffer), Ok(want));
+}
+
+/// Over a flavor that refuses its first piece, its second and so on, the value is refused and so
+/// many of its bytes are held.
+fn assert_refused<T: Serialize>(rt: &impl Abort, value: &T, want: &[u8], held: &[usize]) {
+    for (i, count) in held.iter().enumerate() {
+        let mut buffer = [0xAA; 32];
+        let mut serializer = Serializer {
+            output: Pieces {
+                inner: Slice::new(&mut buffer),
+                left: i,
+            },
+        };
+        assert_eq!(rt;
+            value.serialize(&mut serializer),
+            Err(Error::SerializeBufferFull),
+            "{i}"
+        );
+        let (all, used) = serializer.output.inner.into_parts();
+        assert_eq!(rt; used, *count, "{i}");
+        assert_eq!(rt; all.get(..used), want.get(..used), "{i}");
+    }
+}
+
+#[test]
+fn numbers(rt: HostRuntime) {
+    assert_written(&rt, &200u8, &[0xC8]);
+    assert_written(&rt, &u16::MAX, &[0xFF, 0xFF, 0x03]);
+    assert_written(&rt, &u32::MAX, &[0xFF, 0xFF, 0xFF, 0xFF, 0x0F]);
+    assert_written(
+        &rt,
+        &(1u64 << 63),
+        &[0x80, 0x80, 0x80, 0x80, 0x80, 0x80, 0x80, 0x80, 0x80, 0x01],
+    );
+    assert_written(&rt, &-1i8, &[0xFF]);
+    assert_written(&rt, &-128i8, &[0x80]);
+    assert_written(&rt, &-1i16, &[0x01]);
+    assert_written(&rt, &32767i16, &[0xFE, 0xFF, 0x03]);
+    assert_written(&rt, &-32768i16, &[0xFF, 0xFF, 0x03]);
+    assert_written(&rt, &64i32, &[0x80, 0x01]);
+    assert_written(&rt, &-65i64, &[0x81, 0x01]);
+    let mut greatest = [0xFF; 19];
+    greatest[18] = 0x03;
+    assert_written(&rt, &u128::MAX, &greatest);
+    assert_written(&rt, &i128::MIN, &greatest);
+}
+
+#[test]
+fn texts_and_lists(rt: HostRuntime) -> std::result::Result<(), Fail> {
+    let text = [0x03, 0x48, 0x69, 0x21];
+    assert_written(&rt, &"Hi!", &text);
+    assert_written(&rt, &String::from_str(rt.alloc(), "Hi!")?, &text);
+    let list = [0x02, 0x01, 0xAC, 0x02];
+    assert_written(&rt, &[1u32, 300].as_slice(), &list);
+    assert_written(&rt, &vec![in rt.alloc(); 1u32, 300]?, &list);
+    assert_written(&rt, &Both(1, 300), &list);
+    assert_written(
+        &rt,
+        &Reading {
+            name: "Hi!",
+            value: 300,
+        },
+        &[0x03, 0x48, 0x69, 0x21, 0xAC, 0x02],
+    );
+    Ok(())
+}
+
+#[test]
+fn calls_of_the_serializer(rt: HostRuntime) {
+    let mut buffer = [0xAA; 4];
+    let mut serializer = Serializer {
+        output: Slice::new(&mut buffer),
+    };
+    assert!(rt; !serializer.is_human_readable());
+    assert_eq!(rt; serializer.serialize_bytes(&[7, 0]), Ok(()));
+    assert_eq!(rt;
+        serializer.serialize_seq(None),
+        Err(Error::SerializeSeqLengthUnknown)
+    );
+    let (all, used) = serializer.output.into_parts();
+    assert_eq!(rt; used, 3);
+    assert_eq!(rt; &*all, [0x02, 0x07, 0x00, 0xAA].as_slice());
+}
+
+#[test]
+fn refusals(rt: HostRuntime) {
+    let mut short = [0xAA; 3];
+    assert_eq!(rt;
+        written(&"Hi!", &mut short),
+        Err(Error::SerializeBufferFull)
+    );
+    assert_eq!(rt; short, [0x03, 0xAA, 0xAA]);
+    assert_refused(&rt, &"Hi!", &[0x03, 0x48, 0x69, 0x21], &[0, 1]);
+    assert_refused(
+        &rt,
+        &[1u32, 300].as_slice(),
+        &[0x02, 0x01, 0xAC, 0x02],
+        &[0, 1, 2],
+    );
+    assert_refused(&rt, &Even(4), &[0x04], &[0]);
+    let mut buffer = [0xAA; 1];
+    assert_eq!(rt; written(&Even(3), &mut buffer), Err(Error::SerdeSerCustom));
+    assert_eq!(rt; written(&Even(4), &mut buffer), Ok([0x04].as_slice()));
+}

@@ -1,4 +1,5 @@
--- What holds of the words of each writing flavor.
+-- The words of a writing flavor, in terms of those that it tells (own definitions; the Rust crate leaves
+-- them to its documentation).
 use Rattle.std.specs.Prelude.{◌≡◌, ℕ, List, [], ◌++◌}
 
 -- t is s with a beginning of xs appended, which may be none of it or all.
@@ -8,9 +9,9 @@ pub record Begins {S : Type 0} (appended : S → List ℕ → S → Type 0) (s :
   pub joins : xs ≡ front ++ rest
   pub given : appended s front t
 
--- Nothing appended changes nothing, and what is appended joins. Room for a list is room for its front, and for its
--- rest once the front is in. No push reaches the same state, pushes in a row reach the last, and one proof of it is
--- as good as another.
+-- Nothing appended changes nothing, and what is appended joins. Room for a list is room for its front,
+-- and for its rest once the front is in. No push reaches the same state, pushes in a row reach the last,
+-- and two proofs that a state is reached are one.
 pub record IsFlavor {S : Type 0} (appended : S → List ℕ → S → Type 0) (room : S → List ℕ → Type 0) (reaches : S → S → Type 0) : Type 0 where
   pub appended_none : (s : S) → appended s [] s
   pub appended_join : (s t u : S) (x y : List ℕ) → appended s x t → appended t y u → appended s (x ++ y) u

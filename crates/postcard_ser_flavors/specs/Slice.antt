@@ -1,8 +1,10 @@
--- What a contract sees of the flavor that fills a slice (behaviour of postcard 1.1.3: bytes go to the front, in order).
+-- What a contract sees of the flavor that fills a slice from its front (behaviour of postcard 1.1.3; that
+-- a piece is written whole or not at all too).
 use Rattle.std.specs.Prelude.{◌≡◌, ℕ, ◌+◌, ◌≤◌, List, ◌++◌, take, drop, length}
 use Rattle.std.specs.Borrow.{GName}
 
--- The name of the loan that it stands over, the bytes of the whole slice, and how many at its front are held.
+-- The name of the loan that it stands over, the bytes of the whole slice, and how many at its front
+-- are held.
 pub record Written : Type 0 where
   pub loan : GName
   pub buffer : List ℕ
@@ -24,7 +26,8 @@ Appended s x t = held t ≡ held s ++ x
 abbrev pub HasRoom : Written → List ℕ → Type 0
 HasRoom s x = length (held s) + length x ≤ length s.buffer
 
--- Pushes may make t of s: it stands over the same slice, holds as much or more, and the bytes behind are the old ones.
+-- Pushes may make t of s: it stands over the same slice, holds as much or more, and the bytes behind
+-- are the old ones.
 pub record Reaches (s t : Written) : Type 0 where
   pub same_loan : t.loan ≡ s.loan
   pub same_length : length t.buffer ≡ length s.buffer

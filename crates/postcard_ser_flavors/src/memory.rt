@@ -32,7 +32,8 @@ impl<'a> Memory<'a> {
     /// All `len` bytes, to be written. What they end as, the memory holds.
     pub fn lend(&mut self, len: usize) -> &mut [u8]
         requires { len ≡ length self.old.items }
-        ensures* writes_back { sem 𝓛 (Lends (the_row (record { mir = named 1; lft = [] })) (Array u8 0) self.entry result (λ w. record self.old { items = w })) }
+        ensures* writes_back { sem 𝓛 (Lends (the_row (record { mir = named 1; lft = [] }))
+            (Array u8 0) self.entry result (λ w. record self.old { items = w })) }
         ensures all { result.now ≡ self.old.items }
     {
         let _ = len;

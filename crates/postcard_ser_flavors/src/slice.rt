@@ -12,7 +12,8 @@ use std::marker::Model;
 
 /// Fills a slice from its front. A piece is written whole or not at all.
 ///
-/// A contract sees the loan that it stands over, the bytes of the whole `buffer`, and how many of them are held.
+/// A contract sees the loan that it stands over, the bytes of the whole slice (`buffer`), and how many
+/// of them at the front are held (`count`).
 #[derive(Drop)]
 pub struct Slice<'a> {
     memory: Memory<'a>,
@@ -26,9 +27,14 @@ impl<'a> Model for Slice<'a> {
 
     ghost Value = { Written };
 
-    ghost view = { λ s. record { loan = s.memory.loan; buffer = s.memory.items; count = s.position } };
+    ghost view = { λ s. record {
+      loan = s.memory.loan;
+      buffer = s.memory.items;
+      count = s.position;
+    } };
 
-    ghost invariant = { λ s. (s.position ≤ s.len) × (s.len ≡ length s.memory.items) × (s.len < 2 ^ 63) };
+    ghost invariant = { λ s. (s.position ≤ s.len) × (s.len ≡ length s.memory.items)
+        × (s.len < 2 ^ 63) };
 }
 
 impl<'a> Slice<'a> {
@@ -45,8 +51,8 @@ impl<'a> Slice<'a> {
         }
     }
 
-    /// The whole slice that was lent, and how many bytes at its front were written (not in the Rust crate). By it a caller can say what
-    /// its buffer ends as, also after a refusal.
+    /// The whole slice that was lent, and how many bytes at its front were written. The Rust crate has
+    /// no such call: by it a caller can say what its buffer ends as, also after a refusal.
     pub fn into_parts(self) -> (&'a mut [u8], usize)
         ensures same_loan { result.0.ghost_name ≡ self.entry.loan }
         ensures parts { (result.0.now ≡ self.entry.buffer) × (result.1 ≡ self.entry.count) }
@@ -76,11 +82,14 @@ impl<'a> Flavor for Slice<'a> {
 
     ghost lawful = { slice_lawful };
 
-    /// Writes a byte. Refuses with `SerializeBufferFull` exactly where no byte is free, and is then unchanged.
+    /// Writes a byte. Refuses with `SerializeBufferFull` exactly where none is free, and is then
+    /// unchanged.
     fn try_push(&mut self, byte: u8) -> Result<()>
-        ensures appends { OnOk result (⟦<Slice<'static> as Flavor>⟧.appended self.old (byte ∷ []) self.new) }
+        ensures appends { OnOk result
+            (⟦<Slice<'static> as Flavor>⟧.appended self.old (byte ∷ []) self.new) }
         ensures has_room { ⟦<Slice<'static> as Flavor>⟧.room self.old (byte ∷ []) → IsOk result }
-        ensures refused { OnErr result (⟦<Slice<'static> as Flavor>⟧.tidy → Begins ⟦<Slice<'static> as Flavor>⟧.appended self.old (byte ∷ []) self.new) }
+        ensures refused { OnErr result (⟦<Slice<'static> as Flavor>⟧.tidy
+            → Begins ⟦<Slice<'static> as Flavor>⟧.appended self.old (byte ∷ []) self.new) }
         ensures leaves { ⟦<Slice<'static> as Flavor>⟧.reaches self.old self.new }
         ensures fits { IsOk result ↔ (1 ≤ length (free self.old)) }
         ensures rest { OnOk result (free self.new ≡ drop 1 (free self.old)) }
@@ -98,12 +107,14 @@ impl<'a> Flavor for Slice<'a> {
         Ok(())
     }
 
-    /// Writes bytes in a row. Refuses with `SerializeBufferFull` exactly where they are more than are free, and is
-    /// then unchanged.
+    /// Writes bytes in a row. Refuses with `SerializeBufferFull` exactly where they are more than are
+    /// free, and is then unchanged.
     fn try_extend(&mut self, bytes: &[u8]) -> Result<()>
-        ensures appends { OnOk result (⟦<Slice<'static> as Flavor>⟧.appended self.old bytes.now self.new) }
+        ensures appends { OnOk result
+            (⟦<Slice<'static> as Flavor>⟧.appended self.old bytes.now self.new) }
         ensures has_room { ⟦<Slice<'static> as Flavor>⟧.room self.old bytes.now → IsOk result }
-        ensures refused { OnErr result (⟦<Slice<'static> as Flavor>⟧.tidy → Begins ⟦<Slice<'static> as Flavor>⟧.appended self.old bytes.now self.new) }
+        ensures refused { OnErr result (⟦<Slice<'static> as Flavor>⟧.tidy
+            → Begins ⟦<Slice<'static> as Flavor>⟧.appended self.old bytes.now self.new) }
         ensures leaves { ⟦<Slice<'static> as Flavor>⟧.reaches self.old self.new }
         ensures fits { IsOk result ↔ (length bytes.now ≤ length (free self.old)) }
         ensures rest { OnOk result (free self.new ≡ drop (length bytes.now) (free self.old)) }
@@ -123,12 +134,44 @@ impl<'a> Flavor for Slice<'a> {
 
     /// The bytes written. Never refuses.
     fn finalize(self) -> Result<&'a mut [u8]>
-        ensures gives { IfOk result (λ output. ⟦<Slice<'static> as Flavor>⟧.finishes self.entry output) }
+        ensures gives { IfOk result
+            (λ output. ⟦<Slice<'static> as Flavor>⟧.finishes self.entry output) }
         ensures closes { ⟦<Slice<'static> as Flavor>⟧.room self.entry [] → IsOk result }
         ensures always { IsOk result }
     {
         let (all, count) = self.into_parts();
         let (front, _) = all.split_at_mut(count);
         Ok(front)
+    }
+}
+
+#[cfg(test)]
+mod tests {
+    use super::*;
+    use std::test::Fail;
+
+    #[test]
+    fn fills_from_the_front(rt: HostRuntime) -> std::result::Result<(), Fail> {
+        let mut buffer = [0xAA; 6];
+        let mut slice = Slice::new(&mut buffer);
+        slice.try_push(0x03)?;
+        slice.try_extend(b"Hi!")?;
+        let front: &[u8] = slice.finalize()?;
+        assert_eq!(rt; front, [0x03, 0x48, 0x69, 0x21].as_slice());
+        Ok(())
+    }
+
+    #[test]
+    fn refuses_a_piece_whole(rt: HostRuntime) {
+        let mut buffer = [0xAA; 3];
+        let mut slice = Slice::new(&mut buffer);
+        assert_eq!(rt; slice.try_push(0x03), Ok(()));
+        assert_eq!(rt; slice.try_extend(b"Hi!"), Err(Error::SerializeBufferFull));
+        assert_eq!(rt; slice.try_extend(b"Hi"), Ok(()));
+        assert_eq!(rt; slice.try_push(0x21), Err(Error::SerializeBufferFull));
+        assert_eq!(rt; slice.try_extend(b""), Ok(()));
+        let (all, count) = slice.into_parts();
+        assert_eq!(rt; count, 3);
+        assert_eq!(rt; &*all, [0x03, 0x48, 0x69].as_slice());
     }
 }

@@ -11,14 +11,16 @@ use postcard_ser_flavors::Flavor;
 use postcard_wire::Result;
 
 impl<F: Flavor> Serializer<F> {
-    /// Writes the index as a varint of 1 to 5 bytes: the variant has no content. The names aren't written.
+    /// Writes the index as a varint of 1 to 5 bytes: the variant has no content. The names aren't
+    /// written.
     pub fn serialize_unit_variant(
         &mut self,
         _name: &'static str,
         index: u32,
         _variant: &'static str,
     ) -> Result<()>
-        ensures { Wrote F.Flavor self.old.output (bytes (unit_variant index)) ⊥ ⊥ result self.new.output }
+        ensures { Wrote F.Flavor self.old.output (bytes (unit_variant index)) ⊥ ⊥ result
+            self.new.output }
     {
         self.serialize_u32(index)
     }
@@ -31,14 +33,16 @@ impl<F: Flavor> Serializer<F> {
         _variant: &'static str,
         value: &T,
     ) -> Result<()>
-        ensures { Wrote F.Flavor self.old.output (bytes (Variant index (T.tree value.now))) (T.refuses_itself value.now) T.may_fail_text result self.new.output }
+        ensures { Wrote F.Flavor self.old.output (bytes (Variant index (T.tree value.now)))
+            (T.refuses_itself value.now) T.may_fail_text result self.new.output }
     {
         self.serialize_u32(index)?;
         value.serialize(self)
     }
 
-    /// Begins a variant with `len` fields: writes the index as a varint of 1 to 5 bytes. The fields are then written
-    /// by `serialize_field`; nobody counts them, and neither their count nor the names are written.
+    /// Begins a variant with `len` fields: writes the index as a varint of 1 to 5 bytes. The fields
+    /// are then written by `serialize_field`; nobody counts them, and neither their count nor the
+    /// names are written.
     pub fn serialize_tuple_variant(
         &mut self,
         _name: &'static str,
@@ -51,8 +55,9 @@ impl<F: Flavor> Serializer<F> {
         self.serialize_u32(index)
     }
 
-    /// Begins a variant with `len` named fields: writes the index as a varint of 1 to 5 bytes. The fields are then
-    /// written by `serialize_struct_field`; nobody counts them, and neither their count nor the names are written.
+    /// Begins a variant with `len` named fields: writes the index as a varint of 1 to 5 bytes. The
+    /// fields are then written by `serialize_struct_field`; nobody counts them, and neither their
+    /// count nor the names are written.
     pub fn serialize_struct_variant(
         &mut self,
         _name: &'static str,

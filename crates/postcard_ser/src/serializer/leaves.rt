@@ -27,7 +27,8 @@ impl<F: Flavor> Serializer<F> {
 
     /// Writes nothing.
     pub fn serialize_unit(&mut self) -> Result<()>
-        ensures wrote { Wrote F.Flavor self.old.output (bytes (Group NoTrees)) ⊥ ⊥ result self.new.output }
+        ensures wrote { Wrote F.Flavor self.old.output (bytes (Group NoTrees)) ⊥ ⊥ result
+            self.new.output }
         ensures always { IsOk result }
         ensures unchanged { self.new ≡ self.old }
     {
@@ -36,7 +37,8 @@ impl<F: Flavor> Serializer<F> {
 
     /// Writes nothing. The name isn't written.
     pub fn serialize_unit_struct(&mut self, _name: &'static str) -> Result<()>
-        ensures wrote { Wrote F.Flavor self.old.output (bytes (Group NoTrees)) ⊥ ⊥ result self.new.output }
+        ensures wrote { Wrote F.Flavor self.old.output (bytes (Group NoTrees)) ⊥ ⊥ result
+            self.new.output }
         ensures always { IsOk result }
         ensures unchanged { self.new ≡ self.old }
     {

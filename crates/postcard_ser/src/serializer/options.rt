@@ -19,15 +19,21 @@ impl<F: Flavor> Serializer<F> {
 
     /// Writes one byte, 1, and then the value.
     pub fn serialize_some<T: Serialize>(&mut self, value: &T) -> Result<()>
-        ensures { Wrote F.Flavor self.old.output (bytes (Present (T.tree value.now))) (T.refuses_itself value.now) T.may_fail_text result self.new.output }
+        ensures { Wrote F.Flavor self.old.output (bytes (Present (T.tree value.now)))
+            (T.refuses_itself value.now) T.may_fail_text result self.new.output }
     {
         self.serialize_u8(1)?;
         value.serialize(self)
     }
 
     /// Writes the value alone. The name isn't written.
-    pub fn serialize_newtype_struct<T: Serialize>(&mut self, _name: &'static str, value: &T) -> Result<()>
-        ensures { Wrote F.Flavor self.old.output (bytes (T.tree value.now)) (T.refuses_itself value.now) T.may_fail_text result self.new.output }
+    pub fn serialize_newtype_struct<T: Serialize>(
+        &mut self,
+        _name: &'static str,
+        value: &T,
+    ) -> Result<()>
+        ensures { Wrote F.Flavor self.old.output (bytes (T.tree value.now))
+            (T.refuses_itself value.now) T.may_fail_text result self.new.output }
     {
         value.serialize(self)
     }

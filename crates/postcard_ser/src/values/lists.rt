@@ -10,9 +10,14 @@ use crate::serializer::Serializer;
 use postcard_ser_flavors::Flavor;
 use postcard_wire::Result;
 
-/// Writes the elements in order, with no count before them: in one piece, where they are bytes already.
-pub(crate) fn serialize_all<T: Serialize, F: Flavor>(items: &[T], serializer: &mut Serializer<F>) -> Result<()>
-    ensures { Wrote F.Flavor serializer.old.output (bytes_all (trees (map T.tree items.now))) (Any T.refuses_itself items.now) T.may_fail_text result serializer.new.output }
+/// Writes the elements in order, with no count before them: in one piece, where they are bytes
+/// already.
+pub(crate) fn serialize_all<T: Serialize, F: Flavor>(
+    items: &[T],
+    serializer: &mut Serializer<F>,
+) -> Result<()>
+    ensures { Wrote F.Flavor serializer.old.output (bytes_all (trees (map T.tree items.now)))
+        (Any T.refuses_itself items.now) T.may_fail_text result serializer.new.output }
 {
     match T::slice_bytes(items) {
         Some(bytes) => serializer.extend(bytes),
@@ -21,8 +26,12 @@ pub(crate) fn serialize_all<T: Serialize, F: Flavor>(items: &[T], serializer: &m
 }
 
 /// Writes the elements one by one.
-fn serialize_each<T: Serialize, F: Flavor>(items: &[T], serializer: &mut Serializer<F>) -> Result<()>
-    ensures { Wrote F.Flavor serializer.old.output (bytes_all (trees (map T.tree items.now))) (Any T.refuses_itself items.now) T.may_fail_text result serializer.new.output }
+fn serialize_each<T: Serialize, F: Flavor>(
+    items: &[T],
+    serializer: &mut Serializer<F>,
+) -> Result<()>
+    ensures { Wrote F.Flavor serializer.old.output (bytes_all (trees (map T.tree items.now)))
+        (Any T.refuses_itself items.now) T.may_fail_text result serializer.new.output }
 {
     for item in items {
         item.serialize(serializer)?;

@@ -17,7 +17,10 @@ fn serialize_entries<K: Serialize + Ord, V: Serialize, F: Flavor>(
     entries: &BTreeMap<K, V>,
     serializer: &mut Serializer<F>,
 ) -> Result<()>
-    ensures { Wrote F.Flavor serializer.old.output (bytes_all (trees (map (entry_tree K.tree V.tree) entries.now.entries))) (Any (λ e. K.refuses_itself e.0 ⊎ V.refuses_itself e.1) entries.now.entries) (K.may_fail_text ⊎ V.may_fail_text) result serializer.new.output }
+    ensures { Wrote F.Flavor serializer.old.output
+        (bytes_all (trees (map (entry_tree K.tree V.tree) entries.now.entries)))
+        (Any (λ e. K.refuses_itself e.0 ⊎ V.refuses_itself e.1) entries.now.entries)
+        (K.may_fail_text ⊎ V.may_fail_text) result serializer.new.output }
 {
     for entry in entries {
         entry.serialize(serializer)?;

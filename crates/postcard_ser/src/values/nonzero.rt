@@ -8,7 +8,10 @@ use crate::serialize::Serialize;
 use crate::serializer::Serializer;
 use postcard_ser_flavors::Flavor;
 use postcard_wire::Result;
-use std::num::{NonZeroI128, NonZeroI16, NonZeroI32, NonZeroI64, NonZeroI8, NonZeroIsize, NonZeroU128, NonZeroU16, NonZeroU32, NonZeroU64, NonZeroU8, NonZeroUsize};
+use std::num::{
+    NonZeroI8, NonZeroI16, NonZeroI32, NonZeroI64, NonZeroI128, NonZeroIsize, NonZeroU8,
+    NonZeroU16, NonZeroU32, NonZeroU64, NonZeroU128, NonZeroUsize,
+};
 
 /// As the `u8`.
 impl Serialize for NonZeroU8 {

@@ -26,9 +26,11 @@ impl<T: Serialize> Serialize for Range<T> {
 
 /// The start, and then the end. Whether the range was walked to its end isn't written.
 impl<T: Serialize> Serialize for RangeInclusive<T> {
-    ghost tree = { λ v. pair_tree (T.tree (range_inclusive_start v)) (T.tree (range_inclusive_end v)) };
+    ghost tree = { λ v. pair_tree (T.tree (range_inclusive_start v))
+        (T.tree (range_inclusive_end v)) };
 
-    ghost refuses_itself = { λ v. T.refuses_itself (range_inclusive_start v) ⊎ T.refuses_itself (range_inclusive_end v) };
+    ghost refuses_itself = { λ v. T.refuses_itself (range_inclusive_start v) ⊎ T.refuses_itself
+        (range_inclusive_end v) };
 
     ghost may_fail_text = { T.may_fail_text };
 

@@ -1,7 +1,7 @@
 //! Tuples: the parts from left to right, with no count before them.
 
-ghost use Rattle.std.specs.Prelude.{◌⊎◌};
-ghost use Rattle.postcard_wire.specs.Tree.{Group, NoTrees, Then};
+ghost use Rattle.std.specs.Prelude.{◌⊎◌, [], ◌∷◌};
+ghost use Rattle.postcard_wire.specs.Tree.{Group, trees};
 
 use crate::serialize::Serialize;
 use crate::serializer::Serializer;
@@ -10,7 +10,7 @@ use postcard_wire::Result;
 
 /// The part.
 impl<P: Serialize> Serialize for (P,) {
-    ghost tree = { λ v. Group (Then (P.tree v.0) NoTrees) };
+    ghost tree = { λ v. Group (trees (P.tree v.0 ∷ [])) };
 
     ghost refuses_itself = { λ v. P.refuses_itself v.0 };
 
@@ -23,7 +23,7 @@ impl<P: Serialize> Serialize for (P,) {
 
 /// The two parts.
 impl<P: Serialize, Q: Serialize> Serialize for (P, Q) {
-    ghost tree = { λ v. Group (Then (P.tree v.0) (Then (Q.tree v.1) NoTrees)) };
+    ghost tree = { λ v. Group (trees (P.tree v.0 ∷ Q.tree v.1 ∷ [])) };
 
     ghost refuses_itself = { λ v. P.refuses_itself v.0 ⊎ Q.refuses_itself v.1 };
 
@@ -37,11 +37,11 @@ impl<P: Serialize, Q: Serialize> Serialize for (P, Q) {
 
 /// The first part, and then the others.
 impl<P: Serialize, Q: Serialize, R: Serialize> Serialize for (P, Q, R) {
-    ghost tree = { λ v. Group (Then (P.tree v.0) (Then (Q.tree v.1) (Then (R.tree v.2) NoTrees))) };
+    ghost tree = { λ v. Group (trees (P.tree v.0 ∷ Q.tree v.1 ∷ R.tree v.2 ∷ [])) };
 
-    ghost refuses_itself = { λ v. P.refuses_itself v.0 ⊎ (Q.refuses_itself v.1 ⊎ R.refuses_itself v.2) };
+    ghost refuses_itself = { λ v. P.refuses_itself v.0 ⊎ Q.refuses_itself v.1 ⊎ R.refuses_itself v.2 };
 
-    ghost may_fail_text = { P.may_fail_text ⊎ (Q.may_fail_text ⊎ R.may_fail_text) };
+    ghost may_fail_text = { P.may_fail_text ⊎ Q.may_fail_text ⊎ R.may_fail_text };
 
     fn serialize<F: Flavor>(&self, serializer: &mut Serializer<F>) -> Result<()> {
         self.0.serialize(serializer)?;
@@ -51,11 +51,12 @@ impl<P: Serialize, Q: Serialize, R: Serialize> Serialize for (P, Q, R) {
 
 /// The first part, and then the others.
 impl<P: Serialize, Q: Serialize, R: Serialize, S: Serialize> Serialize for (P, Q, R, S) {
-    ghost tree = { λ v. Group (Then (P.tree v.0) (Then (Q.tree v.1) (Then (R.tree v.2) (Then (S.tree v.3) NoTrees)))) };
+    ghost tree = { λ v. Group (trees (P.tree v.0 ∷ Q.tree v.1 ∷ R.tree v.2 ∷ S.tree v.3 ∷ [])) };
 
-    ghost refuses_itself = { λ v. P.refuses_itself v.0 ⊎ (Q.refuses_itself v.1 ⊎ (R.refuses_itself v.2 ⊎ S.refuses_itself v.3)) };
+    ghost refuses_itself = { λ v. P.refuses_itself v.0 ⊎ Q.refuses_itself v.1 ⊎ R.refuses_itself v.2
+        ⊎ S.refuses_itself v.3 };
 
-    ghost may_fail_text = { P.may_fail_text ⊎ (Q.may_fail_text ⊎ (R.may_fail_text ⊎ S.may_fail_text)) };
+    ghost may_fail_text = { P.may_fail_text ⊎ Q.may_fail_text ⊎ R.may_fail_text ⊎ S.may_fail_text };
 
     fn serialize<F: Flavor>(&self, serializer: &mut Serializer<F>) -> Result<()> {
         self.0.serialize(serializer)?;
@@ -64,12 +65,16 @@ impl<P: Serialize, Q: Serialize, R: Serialize, S: Serialize> Serialize for (P, Q
 }
 
 /// The first part, and then the others.
-impl<P: Serialize, Q: Serialize, R: Serialize, S: Serialize, T: Serialize> Serialize for (P, Q, R, S, T) {
-    ghost tree = { λ v. Group (Then (P.tree v.0) (Then (Q.tree v.1) (Then (R.tree v.2) (Then (S.tree v.3) (Then (T.tree v.4) NoTrees))))) };
+impl<P: Serialize, Q: Serialize, R: Serialize, S: Serialize, T: Serialize> Serialize
+    for (P, Q, R, S, T) {
+    ghost tree = { λ v. Group (trees
+        (P.tree v.0 ∷ Q.tree v.1 ∷ R.tree v.2 ∷ S.tree v.3 ∷ T.tree v.4 ∷ [])) };
 
-    ghost refuses_itself = { λ v. P.refuses_itself v.0 ⊎ (Q.refuses_itself v.1 ⊎ (R.refuses_itself v.2 ⊎ (S.refuses_itself v.3 ⊎ T.refuses_itself v.4))) };
+    ghost refuses_itself = { λ v. P.refuses_itself v.0 ⊎ Q.refuses_itself v.1 ⊎ R.refuses_itself v.2
+        ⊎ S.refuses_itself v.3 ⊎ T.refuses_itself v.4 };
 
-    ghost may_fail_text = { P.may_fail_text ⊎ (Q.may_fail_text ⊎ (R.may_fail_text ⊎ (S.may_fail_text ⊎ T.may_fail_text))) };
+    ghost may_fail_text = { P.may_fail_text ⊎ Q.may_fail_text ⊎ R.may_fail_text ⊎ S.may_fail_text ⊎
+        T.may_fail_text };
 
     fn serialize<F: Flavor>(&self, serializer: &mut Serializer<F>) -> Result<()> {
         self.0.serialize(serializer)?;
@@ -78,12 +83,16 @@ impl<P: Serialize, Q: Serialize, R: Serialize, S: Serialize, T: Serialize> Seria
 }
 
 /// The first part, and then the others.
-impl<P: Serialize, Q: Serialize, R: Serialize, S: Serialize, T: Serialize, U: Serialize> Serialize for (P, Q, R, S, T, U) {
-    ghost tree = { λ v. Group (Then (P.tree v.0) (Then (Q.tree v.1) (Then (R.tree v.2) (Then (S.tree v.3) (Then (T.tree v.4) (Then (U.tree v.5) NoTrees)))))) };
+impl<P: Serialize, Q: Serialize, R: Serialize, S: Serialize, T: Serialize, U: Serialize> Serialize
+    for (P, Q, R, S, T, U) {
+    ghost tree = { λ v. Group (trees
+        (P.tree v.0 ∷ Q.tree v.1 ∷ R.tree v.2 ∷ S.tree v.3 ∷ T.tree v.4 ∷ U.tree v.5 ∷ [])) };
 
-    ghost refuses_itself = { λ v. P.refuses_itself v.0 ⊎ (Q.refuses_itself v.1 ⊎ (R.refuses_itself v.2 ⊎ (S.refuses_itself v.3 ⊎ (T.refuses_itself v.4 ⊎ U.refuses_itself v.5)))) };
+    ghost refuses_itself = { λ v. P.refuses_itself v.0 ⊎ Q.refuses_itself v.1 ⊎ R.refuses_itself v.2
+        ⊎ S.refuses_itself v.3 ⊎ T.refuses_itself v.4 ⊎ U.refuses_itself v.5 };
 
-    ghost may_fail_text = { P.may_fail_text ⊎ (Q.may_fail_text ⊎ (R.may_fail_text ⊎ (S.may_fail_text ⊎ (T.may_fail_text ⊎ U.may_fail_text)))) };
+    ghost may_fail_text = { P.may_fail_text ⊎ Q.may_fail_text ⊎ R.may_fail_text ⊎ S.may_fail_text ⊎
+        T.may_fail_text ⊎ U.may_fail_text };
 
     fn serialize<F: Flavor>(&self, serializer: &mut Serializer<F>) -> Result<()> {
         self.0.serialize(serializer)?;
