@@ -9,3 +9,7 @@ any_mid {A} {P} before x after all e p =
     let n : length before < length (before ++ (x ∷ after)) = omega (arith, length-append before (x ∷ after)) in
     let a : get_or (before ++ (x ∷ after)) (length before) x ≡ x = grind (arith, common_steps) in
     subst (λ z. Any P z) e (length before, x, n, a, p)
+
+-- Where no value refuses itself, none of a list does.
+pub none_refuses : {A : Type 0} (xs : List A) → Any (λ x. ⊥) xs → ⊥
+none_refuses xs q = q.4

@@ -15,28 +15,28 @@ impl<F: Flavor> Serializer<F> {
     /// written.
     pub fn serialize_unit_variant(
         &mut self,
-        _name: &'static str,
+        name: &'static str,
         index: u32,
-        _variant: &'static str,
+        variant: &'static str,
     ) -> Result<()>
         ensures { Wrote F.Flavor self.old.output (bytes (unit_variant index)) ⊥ ⊥ result
             self.new.output }
     {
-        self.serialize_u32(index)
+        self.serialize_tuple_variant(name, index, variant, 0)
     }
 
     /// Writes the index as a varint of 1 to 5 bytes, and then the value. The names aren't written.
     pub fn serialize_newtype_variant<T: Serialize>(
         &mut self,
-        _name: &'static str,
+        name: &'static str,
         index: u32,
-        _variant: &'static str,
+        variant: &'static str,
         value: &T,
     ) -> Result<()>
         ensures { Wrote F.Flavor self.old.output (bytes (Variant index (T.tree value.now)))
             (T.refuses_itself value.now) T.may_fail_text result self.new.output }
     {
-        self.serialize_u32(index)?;
+        self.serialize_tuple_variant(name, index, variant, 1)?;
         value.serialize(self)
     }
 
@@ -60,13 +60,13 @@ impl<F: Flavor> Serializer<F> {
     /// count nor the names are written.
     pub fn serialize_struct_variant(
         &mut self,
-        _name: &'static str,
+        name: &'static str,
         index: u32,
-        _variant: &'static str,
-        _len: usize,
+        variant: &'static str,
+        len: usize,
     ) -> Result<()>
         ensures { Wrote F.Flavor self.old.output (bytes (Num 32 index)) ⊥ ⊥ result self.new.output }
     {
-        self.serialize_u32(index)
+        self.serialize_tuple_variant(name, index, variant, len)
     }
 }

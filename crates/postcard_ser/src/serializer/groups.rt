@@ -24,22 +24,22 @@ impl<F: Flavor> Serializer<F> {
 
     /// Begins a struct of `len` fields without names: writes nothing. They are then written by
     /// `serialize_field`; nobody counts them.
-    pub fn serialize_tuple_struct(&mut self, _name: &'static str, _len: usize) -> Result<()>
+    pub fn serialize_tuple_struct(&mut self, _name: &'static str, len: usize) -> Result<()>
         ensures wrote { Wrote F.Flavor self.old.output [] ⊥ ⊥ result self.new.output }
         ensures always { IsOk result }
         ensures unchanged { self.new ≡ self.old }
     {
-        Ok(())
+        self.serialize_tuple(len)
     }
 
     /// Begins a struct of `len` fields: writes nothing. They are then written by
     /// `serialize_struct_field`; nobody counts them.
-    pub fn serialize_struct(&mut self, _name: &'static str, _len: usize) -> Result<()>
+    pub fn serialize_struct(&mut self, name: &'static str, len: usize) -> Result<()>
         ensures wrote { Wrote F.Flavor self.old.output [] ⊥ ⊥ result self.new.output }
         ensures always { IsOk result }
         ensures unchanged { self.new ≡ self.old }
     {
-        Ok(())
+        self.serialize_tuple_struct(name, len)
     }
 
     /// Begins a map: writes the count of its entries as a varint of 1 to 10 bytes. Each entry is
@@ -75,7 +75,7 @@ impl<F: Flavor> Serializer<F> {
         ensures { Wrote F.Flavor self.old.output (bytes (T.tree value.now))
             (T.refuses_itself value.now) T.may_fail_text result self.new.output }
     {
-        value.serialize(self)
+        self.serialize_element(value)
     }
 
     /// Writes a field that has a name, of a struct or a variant. The name isn't written.
@@ -87,6 +87,6 @@ impl<F: Flavor> Serializer<F> {
         ensures { Wrote F.Flavor self.old.output (bytes (T.tree value.now))
             (T.refuses_itself value.now) T.may_fail_text result self.new.output }
     {
-        value.serialize(self)
+        self.serialize_field(value)
     }
 }

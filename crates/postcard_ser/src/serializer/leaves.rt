@@ -42,6 +42,6 @@ impl<F: Flavor> Serializer<F> {
         ensures always { IsOk result }
         ensures unchanged { self.new ≡ self.old }
     {
-        Ok(())
+        self.serialize_unit()
     }
 }

@@ -35,6 +35,6 @@ impl<F: Flavor> Serializer<F> {
         ensures { Wrote F.Flavor self.old.output (bytes (T.tree value.now))
             (T.refuses_itself value.now) T.may_fail_text result self.new.output }
     {
-        value.serialize(self)
+        self.serialize_element(value)
     }
 }

@@ -18,7 +18,7 @@ impl Serialize for NonZeroU8 {
     ghost tree = { λ v. Byte (non_zero_u8_get v) };
 
     fn serialize<F: Flavor>(&self, serializer: &mut Serializer<F>) -> Result<()> {
-        self.get().serialize(serializer)
+        serializer.serialize_u8(self.get())
     }
 }
 
@@ -27,7 +27,7 @@ impl Serialize for NonZeroU16 {
     ghost tree = { λ v. Num 16 (non_zero_u16_get v) };
 
     fn serialize<F: Flavor>(&self, serializer: &mut Serializer<F>) -> Result<()> {
-        self.get().serialize(serializer)
+        serializer.serialize_u16(self.get())
     }
 }
 
@@ -36,7 +36,7 @@ impl Serialize for NonZeroU32 {
     ghost tree = { λ v. Num 32 (non_zero_u32_get v) };
 
     fn serialize<F: Flavor>(&self, serializer: &mut Serializer<F>) -> Result<()> {
-        self.get().serialize(serializer)
+        serializer.serialize_u32(self.get())
     }
 }
 
@@ -45,7 +45,7 @@ impl Serialize for NonZeroU64 {
     ghost tree = { λ v. Num 64 (non_zero_u64_get v) };
 
     fn serialize<F: Flavor>(&self, serializer: &mut Serializer<F>) -> Result<()> {
-        self.get().serialize(serializer)
+        serializer.serialize_u64(self.get())
     }
 }
 
@@ -54,7 +54,7 @@ impl Serialize for NonZeroU128 {
     ghost tree = { λ v. Num 128 (non_zero_u128_get v) };
 
     fn serialize<F: Flavor>(&self, serializer: &mut Serializer<F>) -> Result<()> {
-        self.get().serialize(serializer)
+        serializer.serialize_u128(self.get())
     }
 }
 
@@ -63,7 +63,7 @@ impl Serialize for NonZeroUsize {
     ghost tree = { λ v. Num 64 (non_zero_usize_get v) };
 
     fn serialize<F: Flavor>(&self, serializer: &mut Serializer<F>) -> Result<()> {
-        self.get().serialize(serializer)
+        serializer.serialize_u64(self.get() as u64)
     }
 }
 
@@ -72,7 +72,7 @@ impl Serialize for NonZeroI8 {
     ghost tree = { λ v. Byte (cast_unsigned w8 (non_zero_i8_get v)) };
 
     fn serialize<F: Flavor>(&self, serializer: &mut Serializer<F>) -> Result<()> {
-        self.get().serialize(serializer)
+        serializer.serialize_i8(self.get())
     }
 }
 
@@ -81,7 +81,7 @@ impl Serialize for NonZeroI16 {
     ghost tree = { λ v. Int 16 (non_zero_i16_get v) };
 
     fn serialize<F: Flavor>(&self, serializer: &mut Serializer<F>) -> Result<()> {
-        self.get().serialize(serializer)
+        serializer.serialize_i16(self.get())
     }
 }
 
@@ -90,7 +90,7 @@ impl Serialize for NonZeroI32 {
     ghost tree = { λ v. Int 32 (non_zero_i32_get v) };
 
     fn serialize<F: Flavor>(&self, serializer: &mut Serializer<F>) -> Result<()> {
-        self.get().serialize(serializer)
+        serializer.serialize_i32(self.get())
     }
 }
 
@@ -99,7 +99,7 @@ impl Serialize for NonZeroI64 {
     ghost tree = { λ v. Int 64 (non_zero_i64_get v) };
 
     fn serialize<F: Flavor>(&self, serializer: &mut Serializer<F>) -> Result<()> {
-        self.get().serialize(serializer)
+        serializer.serialize_i64(self.get())
     }
 }
 
@@ -108,7 +108,7 @@ impl Serialize for NonZeroI128 {
     ghost tree = { λ v. Int 128 (non_zero_i128_get v) };
 
     fn serialize<F: Flavor>(&self, serializer: &mut Serializer<F>) -> Result<()> {
-        self.get().serialize(serializer)
+        serializer.serialize_i128(self.get())
     }
 }
 
@@ -117,6 +117,6 @@ impl Serialize for NonZeroIsize {
     ghost tree = { λ v. Int 64 (non_zero_isize_get v) };
 
     fn serialize<F: Flavor>(&self, serializer: &mut Serializer<F>) -> Result<()> {
-        self.get().serialize(serializer)
+        serializer.serialize_i64(self.get() as i64)
     }
 }
