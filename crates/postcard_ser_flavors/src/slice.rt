@@ -1,6 +1,6 @@
 //! The flavor that fills a caller's slice from its front.
 
-ghost use Rattle.std.specs.Prelude.{◌≡◌, ◌+◌, ◌≤◌, ◌↔◌, [], ◌∷◌, ◌++◌, length, drop, ⊤, IsOk, OnOk, OnErr, IfOk, IfErr};
+ghost use Rattle.std.specs.Prelude.{◌≡◌, ◌≤◌, ◌↔◌, [], ◌∷◌, length, drop, ⊤, IsOk, OnOk, OnErr, IfOk, IfErr};
 ghost use Rattle.postcard_ser_flavors.specs.Flavor.{Begins};
 ghost use Rattle.postcard_ser_flavors.specs.Slice.{held, free, Appended, HasRoom, Reaches};
 ghost use Rattle.postcard_ser_flavors.specs.SliceLaws.{slice_lawful};
