@@ -1,2 +1,4 @@
 pub mod PartByPart
 pub mod Elements
+pub mod Entries
+pub mod Printed

@@ -1,5 +1,5 @@
 -- A value that is written part after part: from what each call did, what they did together.
-use Rattle.std.proofs.Common.{◌≡◌, inl, inr, Result, Ok, Err, IfErr, IsErrAnd, ℕ, List, [], ◌++◌, refl, append-nil}
+use Rattle.std.proofs.Common.{◌≡◌, ◌⊎◌, inl, inr, Result, Ok, Err, IfErr, IsErrAnd, ℕ, List, [], ◌++◌, refl, append-nil}
 use Rattle.std.proofs.lemmas.Result.{err_from_is_err_and}
 use Rattle.postcard_wire.specs.declared.error.Error.{Error}
 use Rattle.postcard_ser_flavors.specs.declared.flavor.Flavor.{Ghosts}
@@ -10,6 +10,11 @@ use Rattle.postcard_ser.specs.Writing.{Wrote, AnswersRefusal}
 pub answer_may : {Q R T U : Type 0} (r : Result (Unit {0}) Error) → (¬ Q → IfErr r (AnswersRefusal T)) → (Q → R) → (T → U) → ¬ R → IfErr r (AnswersRefusal U)
 answer_may {Q} {R} {T} {U} (Ok ok) h i j n = tt
 answer_may {Q} {R} {T} {U} (Err e) h i j n = elim (h (λ q. n (i q))) as (λ _. AnswersRefusal U e) [ inl full ↦ inl full | inr p ↦ inr (j p.0, p.1) ]
+
+-- What is so either way is so.
+pub either : {P : Type 0} → P ⊎ P → P
+either (inl p) = p
+either (inr p) = p
 
 module _ {S O : Type 0} {F : Ghosts S O} where
   -- No part is written.
@@ -69,6 +74,16 @@ module _ {S O : Type 0} {F : Ghosts S O} where
     answers = answer_may (Err e) v.answers i j;
     refused = λ n d. begins_then F.lawful.appended_join x y w.appends (v.refused (λ q. n (i q)) d);
     leaves = F.lawful.reaches_join s t u w.leaves v.leaves;
+  }
+
+  -- Where what the call may do the whole may, it is the whole's call.
+  pub wrote_as : {s t : S} {Q R T U : Type 0} {r : Result (Unit {0}) Error} {x : List ℕ} → Wrote F s x Q T r t → (Q → R) → (T → U) → Wrote F s x R U r t
+  wrote_as {s} {t} {Q} {R} {T} {U} {r} {x} w i j = record {
+    appends = w.appends;
+    has_room = λ n. w.has_room (λ q. n (i q));
+    answers = answer_may r w.answers i j;
+    refused = λ n. w.refused (λ q. n (i q));
+    leaves = w.leaves;
   }
 
   -- Once all that had room is written, there is room for no more bytes, by which `finalize` succeeds.

@@ -9,11 +9,13 @@
 //!
 //! To be read in this order:
 //! - the crate `postcard_ser_flavors`, passed on here: where the bytes go.
-//! - `serializer`: the calls by which a type writes itself.
+//! - `serializer`: the calls by which a type writes itself; `collect_str`: that for texts that values
+//!   print.
 //! - `serialize`: the trait of all types that are written.
-//! - `values`: numbers, texts and lists.
+//! - `values`: the types of std and of `arrayvec` that are written.
 #![tactic(auto)]
 
+mod collect_str;
 pub mod serialize;
 pub mod serializer;
 #[cfg(test)]

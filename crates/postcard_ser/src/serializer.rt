@@ -1,4 +1,5 @@
-//! The calls by which a type writes itself, each a node of the wire format.
+//! The calls by which a type writes itself, each a node of the wire format. Here are those for numbers,
+//! texts and lists.
 
 ghost use Rattle.std.specs.Prelude.{◌≡◌, [], ◌∷◌, map, false, IsOk, IsErrOf, IfSome};
 ghost use Rattle.std.specs.Option.{IfNone};
@@ -6,6 +7,11 @@ ghost use Rattle.std.specs.Int.{w8, cast_unsigned};
 ghost use Rattle.postcard_wire.specs.Spelling.{bytes};
 ghost use Rattle.postcard_wire.specs.Tree.{Byte, Num, Int, Text, Seq, trees};
 ghost use Rattle.postcard_ser.specs.Writing.{Wrote};
+
+mod enums;
+mod groups;
+mod leaves;
+mod options;
 
 use crate::serialize::Serialize;
 use postcard_ser_flavors::Flavor;
@@ -42,7 +48,7 @@ impl<F: Flavor> Serializer<F> {
     }
 
     // Hands over bytes in a row.
-    fn extend(&mut self, piece: &[u8]) -> Result<()>
+    pub(crate) fn extend(&mut self, piece: &[u8]) -> Result<()>
         ensures { Wrote F.Flavor self.old.output piece.now ⊥ ⊥ result self.new.output }
     {
         self.output.try_extend(piece).map_err(refusal)

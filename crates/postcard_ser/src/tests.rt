@@ -3,6 +3,11 @@
 ghost use Rattle.std.specs.Prelude.{◌≡◌, ◌%◌, [], ◌∷◌};
 ghost use Rattle.postcard_wire.specs.Tree.{Byte, Group, Seq, trees};
 
+mod calls;
+mod printed;
+mod users;
+mod values;
+
 use crate::serialize::Serialize;
 use crate::serializer::Serializer;
 use postcard_ser_flavors::{Flavor, Slice};

@@ -10,8 +10,26 @@ use crate::serializer::Serializer;
 use postcard_ser_flavors::Flavor;
 use postcard_wire::Result;
 
-/// Writes the elements in order, with no count before them.
-fn serialize_all<T: Serialize, F: Flavor>(items: &[T], serializer: &mut Serializer<F>) -> Result<()>
+/// Writes the elements in order, with no count before them: in one piece, where they are bytes
+/// already.
+pub(crate) fn serialize_all<T: Serialize, F: Flavor>(
+    items: &[T],
+    serializer: &mut Serializer<F>,
+) -> Result<()>
+    ensures { Wrote F.Flavor serializer.old.output (bytes_all (trees (map T.tree items.now)))
+        (Any T.refuses_itself items.now) T.may_fail_text result serializer.new.output }
+{
+    match T::slice_bytes(items) {
+        Some(bytes) => serializer.extend(bytes),
+        None => serialize_each(items, serializer),
+    }
+}
+
+/// Writes the elements one by one.
+fn serialize_each<T: Serialize, F: Flavor>(
+    items: &[T],
+    serializer: &mut Serializer<F>,
+) -> Result<()>
     ensures { Wrote F.Flavor serializer.old.output (bytes_all (trees (map T.tree items.now)))
         (Any T.refuses_itself items.now) T.may_fail_text result serializer.new.output }
 {

@@ -19,6 +19,11 @@ impl Serialize for u8 {
     fn serialize<F: Flavor>(&self, serializer: &mut Serializer<F>) -> Result<()> {
         serializer.serialize_u8(*self)
     }
+
+    #[tactic(auto, using(crate::proofs::Elements::bytes_of_bytes))]
+    fn slice_bytes(items: &[u8]) -> Option<&[u8]> {
+        Some(items)
+    }
 }
 
 /// A varint.

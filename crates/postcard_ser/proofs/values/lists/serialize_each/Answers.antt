@@ -4,7 +4,7 @@ use Rattle.std.specs.Prelude.{Any}
 use Rattle.postcard_ser.specs.Writing.{Wrote}
 use Rattle.postcard_ser.proofs.Elements.{elements_more, elements_cut, any_at}
 use Rattle.postcard_ser.proofs.PartByPart.{wrote_then, wrote_stop, wrote_err, wrote_ok}
-use Rattle.postcard_ser.proofs.values.lists.serialize_all.Goals as goal
+use Rattle.postcard_ser.proofs.values.lists.serialize_each.Goals as goal
 
 pub returns-in_err-serialize : goal.returns-in_err-serialize
 returns-in_err-serialize g c =

@@ -4,7 +4,7 @@ use Rattle.std.specs.Prelude.{map}
 use Rattle.postcard_wire.specs.Spelling.{bytes_all}
 use Rattle.postcard_wire.specs.Tree.{trees}
 use Rattle.postcard_ser.specs.Writing.{Wrote}
-use Rattle.postcard_ser.proofs.values.lists.serialize_all.Given as goal
+use Rattle.postcard_ser.proofs.values.lists.serialize_each.Given as goal
 
 abbrev pub invariant-loop-item : goal.invariant-loop-item
 invariant-loop-item g l = Wrote g.F.Flavor l.initial.serializer.output (bytes_all (trees (map g.T.Serialize.tree (take l.item-index l.items)))) ⊥ ⊥ (Ok tt) l.serializer.output

@@ -1,0 +1,5 @@
+-- What lasts: that pushes reach it from the flavor as it was given.
+use Rattle.postcard_ser.proofs.collect_str.print.Given as goal
+
+abbrev pub ghosts-write_text : goal.ghosts-write_text
+ghosts-write_text g a = record { lasts = λ s. g.F.Flavor.reaches a.output s }

@@ -1,0 +1,131 @@
+//! A value written as the text that it prints: the text is counted in a first pass, and handed over
+//! in a second.
+
+ghost use Rattle.std.specs.Prelude.{◌≡◌, ◌+◌, length, ⊤, OnOk, IfOk, IfErr, IsErrOf, IfSome};
+ghost use Rattle.postcard_wire.specs.Number.{digits};
+ghost use Rattle.postcard_wire.specs.Spelling.{bytes};
+ghost use Rattle.postcard_wire.specs.Tree.{Text};
+ghost use Rattle.postcard_ser_flavors.specs.Flavor.{Begins};
+ghost use Rattle.postcard_ser.specs.Writing.{Wrote, AnswersRefusal};
+
+use crate::serializer::Serializer;
+use core::mem::replace_with;
+use postcard_ser_flavors::Flavor;
+use postcard_wire::{Error, Result};
+use std::fmt;
+use std::fmt::{Display, Formatter, Write};
+use std::marker::{Brand, PhantomData};
+
+/// Counts the bytes of a text. A count past `usize::MAX` is a fault of the formatting.
+#[derive(Drop)]
+struct CountWriter {
+    count: usize,
+}
+
+impl fmt::Write for CountWriter {
+    ghost write_str_gives = { λ s x t. t.count ≡ s.count + length x };
+
+    fn write_str(&mut self, s: &str) -> fmt::Result {
+        match self.count.checked_add(s.len()) {
+            Some(count) => {
+                self.count = count;
+                Ok(())
+            }
+            None => Err(fmt::Error),
+        }
+    }
+}
+
+/// What holds of a flavor however often it was pushed to. The call of `write_text` picks it.
+trait Lasting<F> {
+    ghost lasts: { F → Type 0 };
+}
+
+impl<F> Lasting<F> for Brand {
+    ghost lasts = { λ _. ⊤ };
+}
+
+/// Hands the pieces of a text to a flavor. A refusal is a fault of the formatting.
+struct FmtWriter<F: Flavor, K: Lasting<F>> {
+    output: F,
+    of: PhantomData<K>,
+    ghost lasts: { ∥ K.lasts output ∥₁ },
+    ghost kept: { ∥ ((s t : F) → K.lasts s → F.Flavor.reaches s t → K.lasts t) ∥₁ },
+}
+
+impl<F: Flavor, K: Lasting<F>> fmt::Write for FmtWriter<F, K> {
+    ghost write_str_gives = { λ s x t. F.appended s.output x t.output };
+
+    fn write_str(&mut self, s: &str) -> fmt::Result {
+        match self.output.try_extend(s.as_bytes()) {
+            Ok(()) => Ok(()),
+            Err(_) => Err(fmt::Error),
+        }
+    }
+}
+
+/// The count of the bytes that a value prints.
+fn count_text<T: Display>(value: &T) -> std::result::Result<usize, fmt::Error>
+    ensures { IfOk result (λ n. IfSome (T.output value.now) (λ u. n ≡ length u)) }
+{
+    let mut writer = CountWriter { count: 0 };
+    writer.write(value)?;
+    Ok(writer.count)
+}
+
+/// Hands over what a value prints, and gives back the flavor, of which what lasts still holds.
+fn write_text<T: Display, F: Flavor, K: Lasting<F>>(output: F, value: &T) -> (F, fmt::Result)
+    requires lasts { K.lasts output }
+    requires kept { (s t : F) → K.lasts s → F.Flavor.reaches s t → K.lasts t }
+    ensures appends { OnOk result.1
+        (IfSome (T.output value.now) (λ u. F.appended output u result.0)) }
+    ensures lasts { ∥ K.lasts result.0 ∥₁ }
+{
+    let writer: FmtWriter<F, K> = FmtWriter {
+        output,
+        of: PhantomData,
+    };
+    let mut formatter = Formatter::new(writer);
+    let result = formatter.write(value);
+    let FmtWriter { output, of: _ } = formatter.into_inner();
+    (output, result)
+}
+
+/// Hands over what a value prints, and gives back the flavor, which is one that pushes may leave.
+fn print<T: Display, F: Flavor>(output: F, value: &T) -> (F, fmt::Result)
+    ensures appends { OnOk result.1
+        (IfSome (T.output value.now) (λ u. F.appended output u result.0)) }
+    ensures leaves { F.reaches output result.0 }
+{
+    write_text::<T, F, Brand>(output, value)
+}
+
+impl<F: Flavor> Serializer<F> {
+    /// Writes the text that a value prints: the count of its bytes as a varint, and then its bytes.
+    /// The value is formatted twice, first to count.
+    ///
+    /// A text that fails to format, is longer than `usize::MAX` bytes, or is refused by the flavor
+    /// is answered by `CollectStrError`. Where the flavor refuses the count, it is
+    /// `SerializeBufferFull`.
+    pub fn collect_str<T: Display>(&mut self, value: &T) -> Result<()>
+        ensures writes { IfSome (T.output value.now)
+            (λ u. Wrote F.Flavor self.old.output (bytes (Text u)) ⊤ ⊤ result self.new.output) }
+        ensures names { IfErr result (AnswersRefusal ⊤) }
+        ensures full { IfSome (T.output value.now)
+            (λ u. F.room self.old.output (digits (length u)) → ¬ IsErrOf result
+            Error.SerializeBufferFull) }
+        ensures front { IfSome (T.output value.now)
+            (λ u. IsErrOf result Error.SerializeBufferFull → F.tidy → Begins F.appended
+            self.old.output (digits (length u)) self.new.output) }
+        ensures leaves { F.reaches self.old.output self.new.output }
+    {
+        let Ok(count) = count_text(value) else {
+            return Err(Error::CollectStrError);
+        };
+        self.serialize_u64(count as u64)?;
+        match replace_with(&mut self.output, value, print::<T, F>) {
+            Ok(()) => Ok(()),
+            Err(_) => Err(Error::CollectStrError),
+        }
+    }
+}

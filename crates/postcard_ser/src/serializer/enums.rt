@@ -1,0 +1,72 @@
+//! The calls for enums: the variant's index as a varint, and then its content.
+
+ghost use Rattle.postcard_wire.specs.Spelling.{bytes};
+ghost use Rattle.postcard_wire.specs.Tree.{Num, Variant};
+ghost use Rattle.postcard_ser.specs.Compound.{unit_variant};
+ghost use Rattle.postcard_ser.specs.Writing.{Wrote};
+
+use crate::serialize::Serialize;
+use crate::serializer::Serializer;
+use postcard_ser_flavors::Flavor;
+use postcard_wire::Result;
+
+impl<F: Flavor> Serializer<F> {
+    /// Writes the index as a varint of 1 to 5 bytes: the variant has no content. The names aren't
+    /// written.
+    pub fn serialize_unit_variant(
+        &mut self,
+        name: &'static str,
+        index: u32,
+        variant: &'static str,
+    ) -> Result<()>
+        ensures { Wrote F.Flavor self.old.output (bytes (unit_variant index)) ⊥ ⊥ result
+            self.new.output }
+    {
+        self.serialize_tuple_variant(name, index, variant, 0)
+    }
+
+    /// Writes the index as a varint of 1 to 5 bytes, and then the value. The names aren't written.
+    pub fn serialize_newtype_variant<T: Serialize>(
+        &mut self,
+        name: &'static str,
+        index: u32,
+        variant: &'static str,
+        value: &T,
+    ) -> Result<()>
+        ensures { Wrote F.Flavor self.old.output (bytes (Variant index (T.tree value.now)))
+            (T.refuses_itself value.now) T.may_fail_text result self.new.output }
+    {
+        self.serialize_tuple_variant(name, index, variant, 1)?;
+        value.serialize(self)
+    }
+
+    /// Begins a variant with `len` fields: writes the index as a varint of 1 to 5 bytes. The fields
+    /// are then written by `serialize_field`; nobody counts them, and neither their count nor the
+    /// names are written.
+    pub fn serialize_tuple_variant(
+        &mut self,
+        _name: &'static str,
+        index: u32,
+        _variant: &'static str,
+        _len: usize,
+    ) -> Result<()>
+        ensures { Wrote F.Flavor self.old.output (bytes (Num 32 index)) ⊥ ⊥ result self.new.output }
+    {
+        self.serialize_u32(index)
+    }
+
+    /// Begins a variant with `len` named fields: writes the index as a varint of 1 to 5 bytes. The
+    /// fields are then written by `serialize_struct_field`; nobody counts them, and neither their
+    /// count nor the names are written.
+    pub fn serialize_struct_variant(
+        &mut self,
+        name: &'static str,
+        index: u32,
+        variant: &'static str,
+        len: usize,
+    ) -> Result<()>
+        ensures { Wrote F.Flavor self.old.output (bytes (Num 32 index)) ⊥ ⊥ result self.new.output }
+    {
+        self.serialize_tuple_variant(name, index, variant, len)
+    }
+}

@@ -1,0 +1,92 @@
+//! The calls for tuples, structs and maps, and for their parts.
+
+ghost use Rattle.std.specs.Prelude.{◌≡◌, [], IsOk, IsErrOf, IfSome};
+ghost use Rattle.std.specs.Option.{IfNone};
+ghost use Rattle.postcard_wire.specs.Spelling.{bytes};
+ghost use Rattle.postcard_wire.specs.Tree.{Num};
+ghost use Rattle.postcard_ser.specs.Writing.{Wrote};
+
+use crate::serialize::Serialize;
+use crate::serializer::Serializer;
+use postcard_ser_flavors::Flavor;
+use postcard_wire::{Error, Result};
+
+impl<F: Flavor> Serializer<F> {
+    /// Begins a tuple or an array of `len` elements: writes nothing. They are then written by
+    /// `serialize_element`; nobody counts them.
+    pub fn serialize_tuple(&mut self, _len: usize) -> Result<()>
+        ensures wrote { Wrote F.Flavor self.old.output [] ⊥ ⊥ result self.new.output }
+        ensures always { IsOk result }
+        ensures unchanged { self.new ≡ self.old }
+    {
+        Ok(())
+    }
+
+    /// Begins a struct of `len` fields without names: writes nothing. They are then written by
+    /// `serialize_field`; nobody counts them.
+    pub fn serialize_tuple_struct(&mut self, _name: &'static str, len: usize) -> Result<()>
+        ensures wrote { Wrote F.Flavor self.old.output [] ⊥ ⊥ result self.new.output }
+        ensures always { IsOk result }
+        ensures unchanged { self.new ≡ self.old }
+    {
+        self.serialize_tuple(len)
+    }
+
+    /// Begins a struct of `len` fields: writes nothing. They are then written by
+    /// `serialize_struct_field`; nobody counts them.
+    pub fn serialize_struct(&mut self, name: &'static str, len: usize) -> Result<()>
+        ensures wrote { Wrote F.Flavor self.old.output [] ⊥ ⊥ result self.new.output }
+        ensures always { IsOk result }
+        ensures unchanged { self.new ≡ self.old }
+    {
+        self.serialize_tuple_struct(name, len)
+    }
+
+    /// Begins a map: writes the count of its entries as a varint of 1 to 10 bytes. Each entry is
+    /// then written by `serialize_key` and `serialize_value`; nobody counts them. Refuses an
+    /// unknown count with `SerializeSeqLengthUnknown`, before anything is written.
+    pub fn serialize_map(&mut self, len: Option<usize>) -> Result<()>
+        ensures known { IfSome len (λ n. Wrote F.Flavor self.old.output (bytes (Num 64 n)) ⊥ ⊥
+            result self.new.output) }
+        ensures unknown { IfNone len (IsErrOf result Error.SerializeSeqLengthUnknown ×
+            (self.new ≡ self.old)) }
+    {
+        self.serialize_seq(len)
+    }
+
+    /// Writes the key of an entry of a map.
+    pub fn serialize_key<T: Serialize>(&mut self, key: &T) -> Result<()>
+        ensures { Wrote F.Flavor self.old.output (bytes (T.tree key.now)) (T.refuses_itself key.now)
+            T.may_fail_text result self.new.output }
+    {
+        key.serialize(self)
+    }
+
+    /// Writes the value of an entry of a map, behind its key.
+    pub fn serialize_value<T: Serialize>(&mut self, value: &T) -> Result<()>
+        ensures { Wrote F.Flavor self.old.output (bytes (T.tree value.now))
+            (T.refuses_itself value.now) T.may_fail_text result self.new.output }
+    {
+        value.serialize(self)
+    }
+
+    /// Writes a field that has no name, of a struct or a variant.
+    pub fn serialize_field<T: Serialize>(&mut self, value: &T) -> Result<()>
+        ensures { Wrote F.Flavor self.old.output (bytes (T.tree value.now))
+            (T.refuses_itself value.now) T.may_fail_text result self.new.output }
+    {
+        self.serialize_element(value)
+    }
+
+    /// Writes a field that has a name, of a struct or a variant. The name isn't written.
+    pub fn serialize_struct_field<T: Serialize>(
+        &mut self,
+        _key: &'static str,
+        value: &T,
+    ) -> Result<()>
+        ensures { Wrote F.Flavor self.old.output (bytes (T.tree value.now))
+            (T.refuses_itself value.now) T.may_fail_text result self.new.output }
+    {
+        self.serialize_field(value)
+    }
+}

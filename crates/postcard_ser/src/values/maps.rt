@@ -1,0 +1,43 @@
+//! Maps: the count of the entries, and the entries in the order of their keys.
+
+ghost use Rattle.std.specs.Prelude.{◌⊎◌, Any, map};
+ghost use Rattle.postcard_wire.specs.Spelling.{bytes_all};
+ghost use Rattle.postcard_wire.specs.Tree.{Seq, trees};
+ghost use Rattle.postcard_ser.specs.Compound.{entry_tree};
+ghost use Rattle.postcard_ser.specs.Writing.{Wrote};
+
+use crate::serialize::Serialize;
+use crate::serializer::Serializer;
+use postcard_ser_flavors::Flavor;
+use postcard_wire::Result;
+use std::collections::BTreeMap;
+
+/// Writes the entries in order, with no count before them.
+fn serialize_entries<K: Serialize + Ord, V: Serialize, F: Flavor>(
+    entries: &BTreeMap<K, V>,
+    serializer: &mut Serializer<F>,
+) -> Result<()>
+    ensures { Wrote F.Flavor serializer.old.output
+        (bytes_all (trees (map (entry_tree K.tree V.tree) entries.now.entries)))
+        (Any (λ e. K.refuses_itself e.0 ⊎ V.refuses_itself e.1) entries.now.entries)
+        (K.may_fail_text ⊎ V.may_fail_text) result serializer.new.output }
+{
+    for entry in entries {
+        entry.serialize(serializer)?;
+    }
+    Ok(())
+}
+
+/// A map that refuses itself where a key or a value does.
+impl<K: Serialize + Ord, V: Serialize> Serialize for BTreeMap<K, V> {
+    ghost tree = { λ m. Seq (trees (map (entry_tree K.tree V.tree) m.entries)) };
+
+    ghost refuses_itself = { λ m. Any (λ e. K.refuses_itself e.0 ⊎ V.refuses_itself e.1) m.entries };
+
+    ghost may_fail_text = { K.may_fail_text ⊎ V.may_fail_text };
+
+    fn serialize<F: Flavor>(&self, serializer: &mut Serializer<F>) -> Result<()> {
+        serializer.serialize_map(Some(self.len()))?;
+        serialize_entries(self, serializer)
+    }
+}
