@@ -1,2 +1,4 @@
 pub mod Source
 pub mod Kept
+pub mod Reader
+pub mod Plain

@@ -9,7 +9,11 @@
 #![tactic(auto)]
 
 pub mod flavor;
+pub mod plain;
 pub mod slice;
+pub mod source;
 
 pub use flavor::Flavor;
+pub use plain::Plain;
 pub use slice::Slice;
+pub use source::Source;
