@@ -2,3 +2,5 @@ pub mod Source
 pub mod Kept
 pub mod Reader
 pub mod Plain
+pub mod Memory
+pub mod IOReader

@@ -9,6 +9,8 @@
 #![tactic(auto)]
 
 pub mod flavor;
+pub mod io;
+mod memory;
 pub mod plain;
 pub mod slice;
 pub mod source;

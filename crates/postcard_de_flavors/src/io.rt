@@ -1,0 +1,4 @@
+//! Sources over readers.
+
+pub mod io;
+mod sliding_buffer;
