@@ -2,3 +2,5 @@
 
 pub mod io;
 mod sliding_buffer;
+#[cfg(test)]
+mod tests;
