@@ -25,7 +25,7 @@ module _ {M : Type 1} {𝓤 : Ura M} (𝓛 : Logic 𝓤) where
   turns R X D D' gives =
       let W : SProp 𝓤 = Turns 𝓤 R X (D tt) D' in
       let all_of : ent 𝓤 (emp 𝓤) W = all_i 𝓤 (λ (r : R). all 𝓤 (λ (e : X). wand 𝓤 (D tt r e) (D' r e))) (λ r. all_i 𝓤 (λ (e : X). wand 𝓤 (D tt r e) (D' r e)) (λ e.
-        wand_i 𝓤 (emp 𝓤) (D tt r e) (D' r e) (via 𝓤 (D tt r e) (snd∗ 𝓤 (emp 𝓤) (D tt r e)) (gives tt r e)))) in
+      wand_i 𝓤 (emp 𝓤) (D tt r e) (D' r e) (via 𝓤 (D tt r e) (snd∗ 𝓤 (emp 𝓤) (D tt r e)) (gives tt r e)))) in
       via 𝓤 (sep 𝓤 (emp 𝓤) W) (via 𝓤 (sep 𝓤 (emp 𝓤) (emp 𝓤)) (emp∗ 𝓤 (emp 𝓤)) (mono_r 𝓤 (emp 𝓤) all_of)) (ex_i 𝓤 (λ (g : Unit {0}). sep 𝓤 (emp 𝓤) (Turns 𝓤 R X (D g) D')) tt)
 
   -- The same facts but the last, and less of the lender.

@@ -1,4 +1,4 @@
-//! Sources over readers.
+//! Sources over readers: [`io::IOReader`].
 
 pub mod io;
 mod sliding_buffer;

@@ -14,18 +14,19 @@ pub struct Plain<R> {
 }
 
 impl<R: Read> Plain<R> {
-    /// Wraps `inner`.
+    /// Wraps a reader, and reads nothing of it.
     pub fn new(inner: R) -> Plain<R>
         ensures { inner_of result ≡ inner }
     {
         Plain { inner }
     }
 
-    /// The reader that was wrapped, as the reads so far left it.
+    /// The reader that was wrapped, as the reads so far have left it.
     pub fn into_inner(self) -> R
         ensures { result ≡ inner_of self }
     {
-        self.inner
+        let Plain { inner } = self;
+        inner
     }
 }
 
@@ -41,7 +42,7 @@ impl<R: Read + Drop> Source for Plain<R> {
     ghost steady = { λ _. ⊥ };
 
     fn read_some(&mut self, buf: &mut [u8]) -> io::Result<usize> {
-        self.inner.read(buf)
+        self.read(buf)
     }
 
     fn read_full(&mut self, buf: &mut [u8]) -> io::Result<()> {

@@ -14,7 +14,14 @@ use crate::flavor::Flavor;
 use crate::source::Source;
 use postcard_wire::{Error, Result};
 
-/// Reads from a reader.
+/// Reads from a reader, and lends from a scratch what it has read.
+///
+/// No byte is read before it is asked for, so what stands behind a message stays unread. A single byte needs no scratch. Bytes
+/// that are lent are read into the front of the scratch: `try_take_n` uses up as much of it as it is asked for, also where the
+/// read then fails, and `try_take_n_temp` gives it back.
+///
+/// A contract sees the reader, `reader_of`, and the scratch left, `scratch_of`. Success is promised where the reader is steady
+/// and has enough bytes left, and enough scratch is left too. Over any reader that tells its bytes, what is given stood in front.
 #[derive(Drop)]
 pub struct IOReader<'de, T: Source> {
     reader: T,
@@ -22,7 +29,7 @@ pub struct IOReader<'de, T: Source> {
 }
 
 impl<'de, T: Source> IOReader<'de, T> {
-    /// A source over `reader`, with `buff` as its scratch.
+    /// A source over `reader`, with all of `buff` as its scratch.
     pub fn new(reader: T, buff: &'de mut [u8]) -> IOReader<'de, T>
         ensures reader { reader_of result ≡ reader }
         ensures scratch { scratch_of result ≡ buff.old }
@@ -36,6 +43,7 @@ impl<'de, T: Source> IOReader<'de, T> {
 
 impl<'de, T: Source> Flavor for IOReader<'de, T> {
     type Remainder = (T, &'de mut [u8]);
+
     type Source = &'de [u8];
 
     ghost left = { λ s. T.remaining (reader_of s) };
@@ -50,7 +58,11 @@ impl<'de, T: Source> Flavor for IOReader<'de, T> {
 
     ghost lawful = { reader_laws T.remaining T.steady };
 
-    /// Reads one byte.
+    /// Reads one byte, and needs no scratch.
+    ///
+    /// # Errors
+    ///
+    /// `DeserializeUnexpectedEnd` where no byte is left or the reader fails.
     fn pop(&mut self) -> Result<u8>
         ensures gives { IfOk result (λ b. Takes ⟦<IOReader<'de, T> as Flavor>⟧.left ⟦<IOReader<'de, T> as Flavor>⟧.able self.old (b ∷ []) self.new) }
         ensures leaves { ⟦<IOReader<'de, T> as Flavor>⟧.may_leave self.old self.new }
@@ -66,14 +78,19 @@ impl<'de, T: Source> Flavor for IOReader<'de, T> {
         }
     }
 
-    /// None: how many bytes a reader has left isn't known.
+    /// None, since a reader doesn't say how many bytes are left.
     fn size_hint(&self) -> Option<usize>
         ensures { result ≡ None }
     {
         None
     }
 
-    /// Takes `ct` bytes into scratch that is used up.
+    /// Reads `ct` bytes into the front of the scratch, which is used up.
+    ///
+    /// # Errors
+    ///
+    /// `DeserializeUnexpectedEnd` where less scratch is left; the reader isn't asked then, and nothing is changed. Also where
+    /// fewer bytes are left or the reader fails; the scratch is used up then, and how much the reader gave is open.
     fn try_take_n<'a>(&mut self, ct: usize) -> Result<&'a [u8]>
     where
         Self: 'a,
@@ -92,7 +109,12 @@ impl<'de, T: Source> Flavor for IOReader<'de, T> {
         }
     }
 
-    /// Takes `ct` bytes into scratch that is given back.
+    /// Reads `ct` bytes into the front of the scratch, which is given back once they are no longer lent.
+    ///
+    /// # Errors
+    ///
+    /// `DeserializeUnexpectedEnd` where less scratch is left; the reader isn't asked then, and nothing is changed. Also where
+    /// fewer bytes are left or the reader fails; the scratch is given back then, and how much the reader gave is open.
     fn try_take_n_temp(&mut self, ct: usize) -> Result<&[u8]>
         ensures length { IfOk result (λ front. length front.now ≡ ct) }
         ensures* gives { sem 𝓛 (Rests (the_row (record { mir = named 1; lft = [] }) T.row) self.entry (λ new. LendsFront ⟦<IOReader<'de, T> as Flavor>⟧.left ⟦<IOReader<'de, T> as Flavor>⟧.able ⟦<IOReader<'de, T> as Flavor>⟧.may_leave self.old result new × GivesBack ct self.old new)) }

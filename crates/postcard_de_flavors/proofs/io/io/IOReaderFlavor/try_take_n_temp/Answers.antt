@@ -12,8 +12,20 @@ returns g c =
     let kept : length c.fill.new.self ≡ length c.args.self.now.scratch = did.length in
     let count : length c.front.result.now ≡ c.args.ct = rw c.front.ensures (omega (arith, length-take c.args.ct c.fill.new.self, kept, room)) in
     let took : Consumes old new c.front.result.now = rw c.front.ensures did.bytes in
-    let not_short : length c.args.self.now.scratch < c.args.ct → ⊥ = λ short. omega (arith, room, short) in
-    ((refl, (λ _. tt), ((record {
-      drops = took;
-      keeps = λ n able. (did.stays_steady able.0, at_least_behind old new c.front.result.now n took able.1, omega (arith, able.2, count, kept))
-    }, (did.stays_steady, omega (arith, kept))), (kept, did.rest, λ short. absurd (not_short short)))), record { length = count; gives = tt; accepts = λ _. refl; refuses = tt; short = λ short. absurd (not_short short) })
+    let not_short : length c.args.self.now.scratch < c.args.ct → ⊥ = λ short. omega (arith, room, short) in (
+      (
+        refl,
+        (λ _. tt),
+        (
+          (
+            record {
+              drops = took;
+              keeps = λ n able. (did.stays_steady able.0, at_least_behind old new c.front.result.now n took able.1, omega (arith, able.2, count, kept));
+            },
+            (did.stays_steady, omega (arith, kept)),
+          ),
+          (kept, did.rest, λ short. absurd (not_short short)),
+        ),
+      ),
+      record { length = count; gives = tt; accepts = λ _. refl; refuses = tt; short = λ short. absurd (not_short short) },
+    )
