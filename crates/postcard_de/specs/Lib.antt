@@ -3,3 +3,4 @@ pub mod Refuses
 pub mod Values
 pub mod Same
 pub mod Deserializer
+pub mod One

@@ -1,0 +1,11 @@
+use Rattle.std.proofs.Common.{inl, inr, refl}
+use Rattle.std.proofs.lemmas.Int.{to_z-of_z}
+use mir.Syntax.{w16}
+use Rattle.postcard_de.proofs.Numbers.{int_read}
+use Rattle.postcard_de.proofs.deserializer.Deserializer.deserialize_i16.Goals as goal
+
+pub returns-clause-reads : goal.returns-clause-reads
+returns-clause-reads g c =
+    let z = c.de_zig_zag_i16.result in
+    rw (to_z-of_z w16 z (record { sfits = c.de_zig_zag_i16.type_inv }))
+    (int_read g.F.Flavor.lawful z (inl refl) c.de_zig_zag_i16.ensures c.in_ok-n.ensures.reads)

@@ -1,0 +1,5 @@
+use Rattle.postcard_de.proofs.Numbers.{num_read}
+use Rattle.postcard_de.proofs.deserializer.Deserializer.deserialize_u32.Goals as goal
+
+pub returns-clause-reads : goal.returns-clause-reads
+returns-clause-reads g c = num_read g.F.Flavor.lawful c.in_ok-n.ensures.reads

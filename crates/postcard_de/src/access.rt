@@ -1,0 +1,72 @@
+//! The elements of a list, one by one.
+
+ghost use Rattle.std.specs.Prelude.{◌≡◌, ℕ, ◌-◌, ◌<◌, ◌≤◌, None, Some, Ok};
+ghost use Rattle.postcard_wire.specs.Spelling.{Spells};
+ghost use Rattle.postcard_de.specs.Reads.{Reads};
+ghost use Rattle.postcard_de.specs.Values.{SomeIs};
+ghost use Rattle.postcard_de.specs.Deserializer.{source_of};
+
+use crate::deserialize::Deserialize;
+use crate::deserializer::Deserializer;
+use postcard_de_flavors::Flavor;
+use postcard_wire::Result;
+use std::alloc::Global;
+use std::marker::Model;
+
+/// How many elements of a list are left to read. A contract sees it as that count.
+#[derive(Drop)]
+pub struct SeqAccess {
+    len: usize,
+}
+
+impl Model for SeqAccess {
+    ghost use Rattle.std.specs.Prelude.{ℕ};
+
+    ghost Value = { ℕ };
+
+    ghost view = { λ access. access.len };
+}
+
+impl SeqAccess {
+    /// So many elements.
+    pub(crate) fn new(len: usize) -> SeqAccess
+        ensures { result ≡ len }
+    {
+        SeqAccess { len }
+    }
+
+    /// Reads the next element, or answers None where none is left. The count falls before the element is read, so it has
+    /// fallen where that is refused too.
+    ///
+    /// # Errors
+    ///
+    /// Those of the element.
+    pub fn next_element<'de, T: Deserialize<'de>, F: Flavor>(
+        &mut self,
+        alloc: Global,
+        d: &mut Deserializer<'de, F>,
+    ) -> Result<Option<T>>
+        ensures count { self.new ≡ self.old - 1 }
+        ensures none { self.old ≡ 0 → (result ≡ Ok None) × (d.new ≡ d.old) }
+        ensures some { 0 < self.old → Reads Spells T.reads (SomeIs T.value) T.grows F.left F.able F.may_leave (source_of d.old) result (source_of d.new) }
+    {
+        if self.len == 0 {
+            return Ok(None);
+        }
+        self.len -= 1;
+        let value = T::deserialize(alloc, d)?;
+        Ok(Some(value))
+    }
+
+    /// How many elements are left, unless the source says that it has fewer bytes.
+    pub fn size_hint<'de, F: Flavor>(&self, d: &Deserializer<'de, F>) -> Option<usize>
+        ensures few { (bytes : ℕ) → F.hint (source_of d.now) ≡ Some bytes → bytes < self.now → result ≡ None }
+        ensures enough { (bytes : ℕ) → F.hint (source_of d.now) ≡ Some bytes → self.now ≤ bytes → result ≡ Some self.now }
+        ensures untold { F.hint (source_of d.now) ≡ None → result ≡ Some self.now }
+    {
+        match d.flavor.size_hint() {
+            Some(bytes) if bytes < self.len => None,
+            _ => Some(self.len),
+        }
+    }
+}

@@ -1,0 +1,266 @@
+//! The calls that read one node.
+
+ghost use Rattle.std.specs.Prelude.{◌≡◌, ℕ, ◌≤◌, ◌<◌, ◌^◌, List, length, IfErr, false, string_bytes, ⊤};
+ghost use Rattle.std.specs.Int.{w8, cast_unsigned};
+ghost use Rattle.postcard_wire.specs.Tree.{Byte, Num, Int, Text, IsWidth};
+ghost use Rattle.postcard_wire.specs.Number.{SpellsNum};
+ghost use Rattle.postcard_wire.specs.Spelling.{Spells};
+ghost use Rattle.postcard_wire.specs.Reading.{IsByte, IsNum, IsInt, IsText};
+ghost use Rattle.postcard_de.specs.Reads.{Reads};
+ghost use Rattle.postcard_de.specs.Refuses.{Refuses, WantsByte, NoneBad, WantsDigit, BadNumber, WantsText, BadText};
+ghost use Rattle.postcard_de.specs.Values.{Same};
+ghost use Rattle.postcard_de.specs.Deserializer.{source_of};
+
+use crate::access::SeqAccess;
+use postcard_de_flavors::{Flavor, Slice};
+use postcard_wire::digits::Digits;
+use postcard_wire::{Error, Result, zigzag};
+use std::alloc::Global;
+use std::marker::PhantomData;
+use std::str;
+
+/// Reads values from a source, each from the front of what is left.
+#[derive(Drop)]
+pub struct Deserializer<'de, F: Flavor> {
+    pub(crate) flavor: F,
+    lives: PhantomData<&'de F>,
+}
+
+impl<'de> Deserializer<'de, Slice<'de>> {
+    /// Reads from these bytes.
+    pub fn from_bytes(bytes: &'de [u8]) -> Self
+        ensures { source_of result ≡ bytes.now }
+    {
+        Deserializer::from_flavor(Slice::new(bytes))
+    }
+}
+
+impl<'de, F: Flavor> Deserializer<'de, F> {
+    /// Reads from this source.
+    pub fn from_flavor(flavor: F) -> Self
+        ensures { source_of result ≡ flavor }
+    {
+        Deserializer {
+            flavor,
+            lives: PhantomData,
+        }
+    }
+
+    /// Ends reading, and answers what the source has left.
+    pub fn finalize(self) -> Result<F::Remainder>
+        ensures { F.finishes (source_of self.entry) result }
+    {
+        self.flavor.finalize()
+    }
+
+    /// Whether the format is meant for people: never.
+    pub fn is_human_readable(&self) -> bool
+        ensures { result ≡ false }
+    {
+        false
+    }
+
+    /// Reads a byte.
+    ///
+    /// # Errors
+    ///
+    /// `DeserializeUnexpectedEnd` where none is left.
+    pub fn deserialize_u8(&mut self) -> Result<u8>
+        ensures reads { Reads Spells IsByte (λ t v. t ≡ Byte v) ⊥ F.left F.able F.may_leave (source_of self.old) result (source_of self.new) }
+        ensures refused { IfErr result (λ e. Refuses WantsByte NoneBad F.left F.able (source_of self.old) e (source_of self.new)) }
+    {
+        self.flavor.pop()
+    }
+
+    /// Reads a byte as a signed number, in two's complement.
+    ///
+    /// # Errors
+    ///
+    /// As `deserialize_u8`.
+    pub fn deserialize_i8(&mut self) -> Result<i8>
+        ensures reads { Reads Spells IsByte (λ t v. t ≡ Byte (cast_unsigned w8 v)) ⊥ F.left F.able F.may_leave (source_of self.old) result (source_of self.new) }
+        ensures refused { IfErr result (λ e. Refuses WantsByte NoneBad F.left F.able (source_of self.old) e (source_of self.new)) }
+    {
+        let byte = self.flavor.pop()?;
+        Ok(byte.cast_signed())
+    }
+
+    /// Reads a number of 16 bits: a varint of at most 3 bytes.
+    ///
+    /// # Errors
+    ///
+    /// `DeserializeUnexpectedEnd` where the bytes end within it, `DeserializeBadVarint` where it is longer or greater.
+    pub fn deserialize_u16(&mut self) -> Result<u16>
+        ensures reads { Reads Spells (IsNum 16) (λ t v. t ≡ Num 16 v) ⊥ F.left F.able F.may_leave (source_of self.old) result (source_of self.new) }
+        ensures refused { IfErr result (λ e. Refuses (WantsDigit 16) (BadNumber 16) F.left F.able (source_of self.old) e (source_of self.new)) }
+    {
+        let n = self.number(16)?;
+        Ok(n as u16)
+    }
+
+    /// Reads a number of 32 bits: a varint of at most 5 bytes.
+    ///
+    /// # Errors
+    ///
+    /// As `deserialize_u16`.
+    pub fn deserialize_u32(&mut self) -> Result<u32>
+        ensures reads { Reads Spells (IsNum 32) (λ t v. t ≡ Num 32 v) ⊥ F.left F.able F.may_leave (source_of self.old) result (source_of self.new) }
+        ensures refused { IfErr result (λ e. Refuses (WantsDigit 32) (BadNumber 32) F.left F.able (source_of self.old) e (source_of self.new)) }
+    {
+        let n = self.number(32)?;
+        Ok(n as u32)
+    }
+
+    /// Reads a number of 64 bits: a varint of at most 10 bytes.
+    ///
+    /// # Errors
+    ///
+    /// As `deserialize_u16`.
+    pub fn deserialize_u64(&mut self) -> Result<u64>
+        ensures reads { Reads Spells (IsNum 64) (λ t v. t ≡ Num 64 v) ⊥ F.left F.able F.may_leave (source_of self.old) result (source_of self.new) }
+        ensures refused { IfErr result (λ e. Refuses (WantsDigit 64) (BadNumber 64) F.left F.able (source_of self.old) e (source_of self.new)) }
+    {
+        let n = self.number(64)?;
+        Ok(n as u64)
+    }
+
+    /// Reads a number of 128 bits: a varint of at most 19 bytes.
+    ///
+    /// # Errors
+    ///
+    /// As `deserialize_u16`.
+    pub fn deserialize_u128(&mut self) -> Result<u128>
+        ensures reads { Reads Spells (IsNum 128) (λ t v. t ≡ Num 128 v) ⊥ F.left F.able F.may_leave (source_of self.old) result (source_of self.new) }
+        ensures refused { IfErr result (λ e. Refuses (WantsDigit 128) (BadNumber 128) F.left F.able (source_of self.old) e (source_of self.new)) }
+    {
+        let n = self.number(128)?;
+        Ok(n)
+    }
+
+    /// Reads a signed number of 16 bits: a zigzag number, a varint of at most 3 bytes.
+    ///
+    /// # Errors
+    ///
+    /// As `deserialize_u16`.
+    pub fn deserialize_i16(&mut self) -> Result<i16>
+        ensures reads { Reads Spells (IsInt 16) (λ t v. t ≡ Int 16 v) ⊥ F.left F.able F.may_leave (source_of self.old) result (source_of self.new) }
+        ensures refused { IfErr result (λ e. Refuses (WantsDigit 16) (BadNumber 16) F.left F.able (source_of self.old) e (source_of self.new)) }
+    {
+        let n = self.number(16)?;
+        Ok(zigzag::de_zig_zag_i16(n as u16))
+    }
+
+    /// Reads a signed number of 32 bits: a zigzag number, a varint of at most 5 bytes.
+    ///
+    /// # Errors
+    ///
+    /// As `deserialize_u16`.
+    pub fn deserialize_i32(&mut self) -> Result<i32>
+        ensures reads { Reads Spells (IsInt 32) (λ t v. t ≡ Int 32 v) ⊥ F.left F.able F.may_leave (source_of self.old) result (source_of self.new) }
+        ensures refused { IfErr result (λ e. Refuses (WantsDigit 32) (BadNumber 32) F.left F.able (source_of self.old) e (source_of self.new)) }
+    {
+        let n = self.number(32)?;
+        Ok(zigzag::de_zig_zag_i32(n as u32))
+    }
+
+    /// Reads a signed number of 64 bits: a zigzag number, a varint of at most 10 bytes.
+    ///
+    /// # Errors
+    ///
+    /// As `deserialize_u16`.
+    pub fn deserialize_i64(&mut self) -> Result<i64>
+        ensures reads { Reads Spells (IsInt 64) (λ t v. t ≡ Int 64 v) ⊥ F.left F.able F.may_leave (source_of self.old) result (source_of self.new) }
+        ensures refused { IfErr result (λ e. Refuses (WantsDigit 64) (BadNumber 64) F.left F.able (source_of self.old) e (source_of self.new)) }
+    {
+        let n = self.number(64)?;
+        Ok(zigzag::de_zig_zag_i64(n as u64))
+    }
+
+    /// Reads a signed number of 128 bits: a zigzag number, a varint of at most 19 bytes.
+    ///
+    /// # Errors
+    ///
+    /// As `deserialize_u16`.
+    pub fn deserialize_i128(&mut self) -> Result<i128>
+        ensures reads { Reads Spells (IsInt 128) (λ t v. t ≡ Int 128 v) ⊥ F.left F.able F.may_leave (source_of self.old) result (source_of self.new) }
+        ensures refused { IfErr result (λ e. Refuses (WantsDigit 128) (BadNumber 128) F.left F.able (source_of self.old) e (source_of self.new)) }
+    {
+        let n = self.number(128)?;
+        Ok(zigzag::de_zig_zag_i128(n))
+    }
+
+    /// Reads a text that the source holds.
+    ///
+    /// # Errors
+    ///
+    /// As a number of 64 bits for its length, `DeserializeUnexpectedEnd` where the bytes end before the text does, and
+    /// `DeserializeBadUtf8`.
+    pub fn deserialize_str(&mut self) -> Result<&'de str>
+        ensures reads { Reads Spells IsText (λ t v. t ≡ Text v.now) ⊥ F.left F.able F.may_leave (source_of self.old) result (source_of self.new) }
+        ensures refused { IfErr result (λ e. Refuses WantsText (BadText ⊥) F.left F.able (source_of self.old) e (source_of self.new)) }
+    {
+        let count = self.count()?;
+        let bytes = self.flavor.try_take_n(count)?;
+        match str::from_utf8(bytes) {
+            Ok(text) => Ok(text),
+            Err(_) => Err(Error::DeserializeBadUtf8),
+        }
+    }
+
+    /// Reads a text and copies it, once its bytes were taken and found to be UTF-8.
+    ///
+    /// # Errors
+    ///
+    /// As `deserialize_str`, and `OutOfMemory`.
+    pub fn deserialize_string(&mut self, alloc: Global) -> Result<String>
+        ensures reads { Reads Spells IsText (λ t v. t ≡ Text (string_bytes v)) ⊤ F.left F.able F.may_leave (source_of self.old) result (source_of self.new) }
+        ensures refused { IfErr result (λ e. Refuses WantsText (BadText ⊤) F.left F.able (source_of self.old) e (source_of self.new)) }
+    {
+        let count = self.count()?;
+        let bytes = self.flavor.try_take_n_temp(count)?;
+        match str::from_utf8(bytes) {
+            Ok(text) => match String::from_str(alloc, text) {
+                Ok(copy) => Ok(copy),
+                Err(_) => Err(Error::OutOfMemory),
+            },
+            Err(_) => Err(Error::DeserializeBadUtf8),
+        }
+    }
+
+    /// Reads the count of a list, whose elements are then read by `next_element`.
+    ///
+    /// # Errors
+    ///
+    /// As a number of 64 bits.
+    pub fn deserialize_seq(&mut self) -> Result<SeqAccess>
+        ensures reads { Reads (SpellsNum 64) (λ n. n < 2 ^ 64) Same ⊥ F.left F.able F.may_leave (source_of self.old) result (source_of self.new) }
+        ensures refused { IfErr result (λ e. Refuses (WantsDigit 64) (BadNumber 64) F.left F.able (source_of self.old) e (source_of self.new)) }
+    {
+        let count = self.count()?;
+        Ok(SeqAccess::new(count))
+    }
+
+    /// Reads a number of so many bits.
+    fn number(&mut self, bits: u32) -> Result<u128>
+        requires { IsWidth bits }
+        ensures reads { Reads (SpellsNum bits) (λ n. n < 2 ^ bits) Same ⊥ F.left F.able F.may_leave (source_of self.old) result (source_of self.new) }
+        ensures refused { IfErr result (λ e. Refuses (WantsDigit bits) (BadNumber bits) F.left F.able (source_of self.old) e (source_of self.new)) }
+    {
+        let mut digits = Digits::new();
+        loop {
+            let byte = self.flavor.pop()?;
+            if let Some(n) = digits.push(bits, byte)? {
+                return Ok(n);
+            }
+        }
+    }
+
+    /// Reads a count or a length.
+    fn count(&mut self) -> Result<usize>
+        ensures reads { Reads (SpellsNum 64) (λ n. n < 2 ^ 64) Same ⊥ F.left F.able F.may_leave (source_of self.old) result (source_of self.new) }
+        ensures refused { IfErr result (λ e. Refuses (WantsDigit 64) (BadNumber 64) F.left F.able (source_of self.old) e (source_of self.new)) }
+    {
+        let n = self.number(64)?;
+        Ok(n as usize)
+    }
+}
