@@ -1,5 +1,5 @@
 -- Taking bytes from a reader that may tell them.
-use Rattle.std.specs.Prelude.{◌≡◌, ℕ, ◌+◌, ◌≤◌, List, length, Option, None, Some}
+use Rattle.std.specs.Prelude.{ℕ, ◌+◌, List, length, Option, None, Some}
 use Rattle.std.proofs.Common.{ap, arith, length-append}
 use Rattle.std.specs.Io.KnownBytes.{Consumes}
 use Rattle.postcard_de_flavors.specs.Reader.{AtLeast}

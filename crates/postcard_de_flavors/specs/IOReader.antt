@@ -1,5 +1,5 @@
 -- What a contract sees of a source over a reader, which takes scratch for what it lends (behaviour of postcard 1.1.3).
-use Rattle.std.specs.Prelude.{◌≡◌, ℕ, ◌≤◌, ◌<◌, List, length, drop, Option, None, Some}
+use Rattle.std.specs.Prelude.{◌≡◌, ℕ, ◌≤◌, ◌<◌, List, length, drop, Option}
 use Rattle.std.proofs.Common.{arith}
 use Rattle.postcard_de_flavors.specs.declared.io.io.IOReader.{IOReader}
 use Rattle.postcard_de_flavors.specs.Reader.{AtLeast, at_least_fewer}

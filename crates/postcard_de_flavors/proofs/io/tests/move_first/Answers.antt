@@ -1,4 +1,4 @@
-use Rattle.std.proofs.Common.{◌≡◌, ℕ, ◌<◌, List, [], ◌∷◌, length, take, slice_set, refl, arith, rules}
+use Rattle.std.proofs.Common.{◌≡◌, ℕ, ◌<◌, List, [], ◌∷◌, length, take, slice_set, refl, arith}
 use Rattle.postcard_de_flavors.proofs.io.tests.move_first.Goals as goal
 
 -- The front of a buffer that isn't empty, once its first byte is written.

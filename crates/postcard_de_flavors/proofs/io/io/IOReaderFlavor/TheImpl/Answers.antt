@@ -1,5 +1,5 @@
 use mathlib.Core.List.{[], ◌∷◌}
-use mir.Syntax.{erased, named}
+use mir.Syntax.{erased}
 use seplogic.Ra.Ura.{Ura}
 use base.Logic.{SProp, ent, sep, mono∗, mono_r, fst∗}
 use contract.Monad.{fact}

@@ -1,4 +1,4 @@
-use Rattle.std.proofs.Common.{◌≡◌, ℕ, ◌≤◌, ◌<◌, ◌+◌, List, length, take, refl, arith, length-take}
+use Rattle.std.proofs.Common.{◌≡◌, ◌≤◌, ◌<◌, length, refl, arith, length-take}
 use Rattle.std.specs.Io.KnownBytes.{Consumes}
 use Rattle.postcard_de_flavors.proofs.Told.{at_least_behind}
 use Rattle.postcard_de_flavors.proofs.io.io.IOReaderFlavor.try_take_n_temp.Goals as goal
