@@ -1,2 +1,6 @@
 pub mod Source
 pub mod Kept
+pub mod Reader
+pub mod Plain
+pub mod Memory
+pub mod IOReader

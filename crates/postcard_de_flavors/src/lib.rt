@@ -5,11 +5,18 @@
 //! the source is able to give as many (`accepts`), leave what it says that they may leave (`leaves`), and refuse by
 //! `DeserializeUnexpectedEnd` alone (`refuses`); `lawful` ties these together.
 //!
-//! In reading order: [`flavor`] has the interface, [`slice`] the source over a slice.
+//! In reading order: [`flavor`] has the interface, [`slice`] the source over a slice, and [`io`] the source over a reader, which
+//! stands over what [`source`] asks of a reader; [`plain`] makes one of any reader.
 #![tactic(auto)]
 
 pub mod flavor;
+pub mod io;
+mod memory;
+pub mod plain;
 pub mod slice;
+pub mod source;
 
 pub use flavor::Flavor;
+pub use plain::Plain;
 pub use slice::Slice;
+pub use source::Source;

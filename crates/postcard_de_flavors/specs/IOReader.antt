@@ -1,0 +1,36 @@
+-- What a contract sees of a source over a reader, which takes scratch for what it lends (behaviour of postcard 1.1.3).
+use Rattle.std.specs.Prelude.{◌≡◌, ℕ, ◌≤◌, ◌<◌, List, length, drop, Option}
+use Rattle.std.proofs.Common.{arith}
+use Rattle.postcard_de_flavors.specs.declared.io.io.IOReader.{IOReader}
+use Rattle.postcard_de_flavors.specs.Reader.{AtLeast, at_least_fewer}
+use Rattle.postcard_de_flavors.specs.Source.{Laws}
+
+-- The reader, as it is now.
+abbrev pub reader_of : {T : Type 0} → IOReader T → T
+reader_of s = s.reader
+
+-- The scratch left.
+abbrev pub scratch_of : {T : Type 0} → IOReader T → List ℕ
+scratch_of s = s.scratch
+
+-- The reader is steady, and n bytes or more are left both of it and of the scratch.
+abbrev pub CanRead : {T : Type 0} → (T → Option (List ℕ)) → (T → Type 0) → IOReader T → ℕ → Type 0
+CanRead remaining steady s n = steady (reader_of s) × AtLeast (remaining (reader_of s)) n × (n ≤ length (scratch_of s))
+
+-- A steady reader is steady still, and no scratch was gained.
+abbrev pub MayBecome : {T : Type 0} → (T → Type 0) → IOReader T → IOReader T → Type 0
+MayBecome steady s t = (steady (reader_of s) → steady (reader_of t)) × (length (scratch_of t) ≤ length (scratch_of s))
+
+-- What a take of n bytes for a while does to the scratch: it is all there again, and bytes past the front are the old ones.
+-- Where it is too short, the source is as it was.
+abbrev pub GivesBack : {T : Type 0} → ℕ → IOReader T → IOReader T → Type 0
+GivesBack n old new = (length (scratch_of new) ≡ length (scratch_of old)) × (drop n (scratch_of new) ≡ drop n (scratch_of old))
+    × (length (scratch_of old) < n → new ≡ old)
+
+-- The source keeps to the laws of a source.
+pub reader_laws : {T : Type 0} (remaining : T → Option (List ℕ)) (steady : T → Type 0) → Laws (λ (s : IOReader T). remaining (reader_of s)) (CanRead remaining steady) (MayBecome steady)
+reader_laws remaining steady = record {
+  fewer = λ s m n le h. (h.0, at_least_fewer (remaining (reader_of s)) m n le h.1, omega (arith, le, h.2));
+  itself = λ s. (λ h. h, omega arith);
+  joins = λ s t u a b. (λ h. b.0 (a.0 h), omega (arith, a.1, b.1));
+}

@@ -1,0 +1,133 @@
+//! The source over a reader.
+
+ghost use Rattle.std.specs.Prelude.{◌≡◌, ◌<◌, ◌≤◌, [], ◌∷◌, length, drop, None, IfOk, IfErr, IsOk, IsErr, MatchResult};
+ghost use Rattle.std.specs.Borrow.{sem};
+ghost use Rattle.std.specs.Io.BufRead.{Rests};
+ghost use Rattle.postcard_de_flavors.specs.contracts.io.io.IOReader.{the_row};
+ghost use mir.Syntax.{named};
+ghost use Rattle.postcard_de_flavors.specs.Source.{Takes, LendsFront};
+ghost use Rattle.postcard_de_flavors.specs.Reader.{AtLeast};
+ghost use Rattle.postcard_de_flavors.specs.IOReader.{reader_of, scratch_of, CanRead, MayBecome, GivesBack, reader_laws};
+
+use super::sliding_buffer::SlidingBuffer;
+use crate::flavor::Flavor;
+use crate::source::Source;
+use postcard_wire::{Error, Result};
+
+/// Reads from a reader, and lends from a scratch what it has read.
+///
+/// No byte is read before it is asked for, so what stands behind a message stays unread. A single byte needs no scratch. Bytes
+/// that are lent are read into the front of the scratch: `try_take_n` uses up as much of it as it is asked for, also where the
+/// read then fails, and `try_take_n_temp` gives it back.
+///
+/// A contract sees the reader, `reader_of`, and the scratch left, `scratch_of`. Success is promised where the reader is steady
+/// and has enough bytes left, and enough scratch is left too. Over any reader that tells its bytes, what is given stood in front.
+#[derive(Drop)]
+pub struct IOReader<'de, T: Source> {
+    reader: T,
+    scratch: SlidingBuffer<'de>,
+}
+
+impl<'de, T: Source> IOReader<'de, T> {
+    /// A source over `reader`, with all of `buff` as its scratch.
+    pub fn new(reader: T, buff: &'de mut [u8]) -> IOReader<'de, T>
+        ensures reader { reader_of result ≡ reader }
+        ensures scratch { scratch_of result ≡ buff.old }
+    {
+        IOReader {
+            reader,
+            scratch: SlidingBuffer::new(buff),
+        }
+    }
+}
+
+impl<'de, T: Source> Flavor for IOReader<'de, T> {
+    type Remainder = (T, &'de mut [u8]);
+
+    type Source = &'de [u8];
+
+    ghost left = { λ s. T.remaining (reader_of s) };
+
+    ghost able = { CanRead T.remaining T.steady };
+
+    ghost may_leave = { MayBecome T.steady };
+
+    ghost finishes = { λ s r. MatchResult r (λ rest. (rest.0 ≡ reader_of s) × (rest.1.now ≡ scratch_of s)) (λ e. ⊥) };
+
+    ghost hint = { λ _. None };
+
+    ghost lawful = { reader_laws T.remaining T.steady };
+
+    /// Reads one byte, and needs no scratch.
+    ///
+    /// # Errors
+    ///
+    /// `DeserializeUnexpectedEnd` where no byte is left or the reader fails.
+    fn pop(&mut self) -> Result<u8>
+        ensures gives { IfOk result (λ b. Takes ⟦<IOReader<'de, T> as Flavor>⟧.left ⟦<IOReader<'de, T> as Flavor>⟧.able self.old (b ∷ []) self.new) }
+        ensures leaves { ⟦<IOReader<'de, T> as Flavor>⟧.may_leave self.old self.new }
+        ensures refuses { IfErr result (λ e. e ≡ Error.DeserializeUnexpectedEnd) }
+        ensures accepts { ⟦<IOReader<'de, T> as Flavor>⟧.able self.old 1 → IsOk result }
+        ensures succeeds { T.steady (reader_of self.old) → AtLeast (T.remaining (reader_of self.old)) 1 → IsOk result }
+        ensures no_scratch { scratch_of self.new ≡ scratch_of self.old }
+    {
+        let mut byte = [0];
+        match self.reader.read_full(&mut byte) {
+            Ok(()) => Ok(byte[0]),
+            Err(_) => Err(Error::DeserializeUnexpectedEnd),
+        }
+    }
+
+    /// None, since a reader doesn't say how many bytes are left.
+    fn size_hint(&self) -> Option<usize>
+        ensures { result ≡ None }
+    {
+        None
+    }
+
+    /// Reads `ct` bytes into the front of the scratch, which is used up.
+    ///
+    /// # Errors
+    ///
+    /// `DeserializeUnexpectedEnd` where less scratch is left; the reader isn't asked then, and nothing is changed. Also where
+    /// fewer bytes are left or the reader fails; the scratch is used up then, and how much the reader gave is open.
+    fn try_take_n<'a>(&mut self, ct: usize) -> Result<&'a [u8]>
+    where
+        Self: 'a,
+        ensures length { IfOk result (λ front. length front.now ≡ ct) }
+        ensures gives { IfOk result (λ front. Takes ⟦<IOReader<'de, T> as Flavor>⟧.left ⟦<IOReader<'de, T> as Flavor>⟧.able self.old front.now self.new) }
+        ensures accepts { ⟦<IOReader<'de, T> as Flavor>⟧.able self.old ct → IsOk result }
+        ensures leaves { ⟦<IOReader<'de, T> as Flavor>⟧.may_leave self.old self.new }
+        ensures refuses { IfErr result (λ e. e ≡ Error.DeserializeUnexpectedEnd) }
+        ensures short { length (scratch_of self.old) < ct → IsErr result × (self.new ≡ self.old) }
+        ensures uses { ct ≤ length (scratch_of self.old) → scratch_of self.new ≡ drop ct (scratch_of self.old) }
+    {
+        let front = self.scratch.take_n(ct)?;
+        match self.reader.read_full(front) {
+            Ok(()) => Ok(front),
+            Err(_) => Err(Error::DeserializeUnexpectedEnd),
+        }
+    }
+
+    /// Reads `ct` bytes into the front of the scratch, which is given back once they are no longer lent.
+    ///
+    /// # Errors
+    ///
+    /// `DeserializeUnexpectedEnd` where less scratch is left; the reader isn't asked then, and nothing is changed. Also where
+    /// fewer bytes are left or the reader fails; the scratch is given back then, and how much the reader gave is open.
+    fn try_take_n_temp(&mut self, ct: usize) -> Result<&[u8]>
+        ensures length { IfOk result (λ front. length front.now ≡ ct) }
+        ensures* gives { sem 𝓛 (Rests (the_row (record { mir = named 1; lft = [] }) T.row) self.entry (λ new. LendsFront ⟦<IOReader<'de, T> as Flavor>⟧.left ⟦<IOReader<'de, T> as Flavor>⟧.able ⟦<IOReader<'de, T> as Flavor>⟧.may_leave self.old result new × GivesBack ct self.old new)) }
+        ensures accepts { ⟦<IOReader<'de, T> as Flavor>⟧.able self.old ct → IsOk result }
+        ensures refuses { IfErr result (λ e. e ≡ Error.DeserializeUnexpectedEnd) }
+        ensures short { length (scratch_of self.old) < ct → IsErr result }
+    {
+        self.scratch.fill(&mut self.reader, ct)?;
+        Ok(self.scratch.front(ct))
+    }
+
+    /// The reader and the scratch left; never fails.
+    fn finalize(self) -> Result<(T, &'de mut [u8])> {
+        Ok((self.reader, self.scratch.complete()))
+    }
+}

@@ -1,0 +1,240 @@
+//! The source over a reader: what it takes of its reader and of its scratch, over readers that give many bytes a call, one,
+//! or fail.
+
+ghost use Rattle.std.specs.Prelude.{◌≡◌, ◌<◌, ◌≤◌, [], ◌++◌, length, take, Some, IsOk, ⊤};
+ghost use Rattle.postcard_de_flavors.specs.IOReader.{scratch_of};
+ghost use Rattle.std.specs.Io.{ReadsAtMost};
+ghost use Rattle.std.specs.Io.KnownBytes.{ReadConsumes};
+
+use super::io::IOReader;
+use crate::flavor::Flavor;
+use crate::plain::Plain;
+use crate::source::Source;
+use postcard_wire::Error;
+use std::io;
+use std::io::{ErrorKind, Read};
+use std::process::Abort;
+use std::test::Fail;
+
+/// Moves the first byte into the front of `buf`. Answers how many it moved: none where either is empty.
+fn move_first(bytes: &mut &[u8], buf: &mut [u8]) -> usize
+    ensures moved { bytes.old.now ≡ take result buf.new ++ bytes.new.now }
+    ensures fits { result ≤ length buf.new }
+    ensures ends { result ≡ 0 → 0 < length buf.new → bytes.new.now ≡ [] }
+{
+    if buf.is_empty() {
+        return 0;
+    }
+    let Some((first, rest)) = bytes.split_first() else {
+        return 0;
+    };
+    buf[0] = *first;
+    *bytes = rest;
+    1
+}
+
+/// A steady reader that gives one byte a call.
+#[derive(Drop)]
+struct OneByte<'a> {
+    bytes: &'a [u8],
+}
+
+impl Read for OneByte<'_> {
+    ghost remaining = { λ s. Some s.bytes.now };
+
+    fn read(&mut self, buf: &mut [u8]) -> io::Result<usize>
+        ensures bound { ReadsAtMost result buf.new }
+        ensures bytes { ReadConsumes (Some self.old.bytes.now) (Some self.new.bytes.now) result buf.new }
+        ensures succeeds { IsOk result }
+    {
+        Ok(move_first(&mut self.bytes, buf))
+    }
+}
+
+impl Source for OneByte<'_> {
+    ghost steady = { λ _. ⊤ };
+
+    fn read_some(&mut self, buf: &mut [u8]) -> io::Result<usize> {
+        self.read(buf)
+    }
+
+    fn read_full(&mut self, buf: &mut [u8]) -> io::Result<()> {
+        for at in 0..buf.len() {
+            let Some((first, rest)) = self.bytes.split_first() else {
+                return Err(io::Error::from(ErrorKind::UnexpectedEof));
+            };
+            buf[at] = *first;
+            self.bytes = rest;
+        }
+        Ok(())
+    }
+}
+
+/// A reader that gives one byte a read, and fails once the reads left are none.
+#[derive(Drop)]
+struct Failing<'a> {
+    bytes: &'a [u8],
+    reads: usize,
+}
+
+impl Read for Failing<'_> {
+    ghost remaining = { λ s. Some s.bytes.now };
+
+    fn read(&mut self, buf: &mut [u8]) -> io::Result<usize> {
+        if self.reads == 0 {
+            return Err(io::Error::from(ErrorKind::Other));
+        }
+        self.reads -= 1;
+        Ok(move_first(&mut self.bytes, buf))
+    }
+}
+
+/// Whether a take for a while succeeds. A caller knows that it costs no scratch, and that one with too little changes nothing.
+fn looks<T: Source>(source: &mut IOReader<'_, T>, count: usize) -> bool
+    ensures room { length (scratch_of source.new) ≡ length (scratch_of source.old) }
+    ensures short { length (scratch_of source.old) < count → source.new ≡ source.old }
+{
+    source.try_take_n_temp(count).is_ok()
+}
+
+/// A steady reader over given bytes.
+trait Over: Source {
+    fn over(bytes: &'static [u8]) -> Self;
+}
+
+impl Over for &'static [u8] {
+    fn over(bytes: &'static [u8]) -> Self {
+        bytes
+    }
+}
+
+impl Over for OneByte<'static> {
+    fn over(bytes: &'static [u8]) -> Self {
+        OneByte { bytes }
+    }
+}
+
+/// What is left of a source: these bytes and no more, and so much scratch.
+fn assert_left<T: Source>(rt: &impl Abort, source: IOReader<'_, T>, unread: &[u8], room: usize) {
+    let Ok((reader, scratch)) = source.finalize() else {
+        unreachable!()
+    };
+    assert_eq!(rt; scratch.len(), room);
+    let mut rest = IOReader::new(reader, &mut []);
+    for byte in unread {
+        assert_eq!(rt; rest.pop(), Ok(*byte));
+    }
+    assert!(rt; rest.pop().is_err());
+}
+
+/// Both takes, with enough of everything.
+fn takes<T: Over>(rt: &impl Abort) -> Result<(), Fail> {
+    let mut memory = [0; 8];
+    let mut source = IOReader::new(T::over(&[0xaa, 0xbb, 0xcc, 0xdd, 0xee]), &mut memory);
+    assert_eq!(rt; source.size_hint(), None);
+    let first = source.try_take_n(2)?;
+    assert_eq!(rt; source.try_take_n_temp(2)?, [0xcc, 0xdd].as_slice());
+    assert_eq!(rt; first, [0xaa, 0xbb].as_slice());
+    assert_left(rt, source, &[0xee], 6);
+
+    let mut memory = [0; 8];
+    let mut source = IOReader::new(T::over(&[0xaa, 0xbb, 0xcc, 0xdd, 0xee]), &mut memory);
+    let first = source.try_take_n(2)?;
+    let second = source.try_take_n(2)?;
+    assert!(rt; source.try_take_n(2).is_err());
+    assert_eq!(rt; first, [0xaa, 0xbb].as_slice());
+    assert_eq!(rt; second, [0xcc, 0xdd].as_slice());
+    Ok(())
+}
+
+/// Single bytes, with no scratch.
+fn pops<T: Over>(rt: &impl Abort) {
+    let mut source = IOReader::new(T::over(&[0xaa, 0xbb, 0xcc]), &mut []);
+    for byte in [0xaa, 0xbb, 0xcc] {
+        assert_eq!(rt; source.pop(), Ok(byte));
+    }
+    assert_eq!(rt; source.pop(), Err(Error::DeserializeUnexpectedEnd));
+}
+
+/// An input too short: 3 bytes of 01 02, with 4 of scratch, of which so much is left.
+fn input_too_short<T: Over>(rt: &impl Abort, for_good: bool, room: usize) {
+    let mut memory = [0; 4];
+    let mut source = IOReader::new(T::over(&[1, 2]), &mut memory);
+    if for_good {
+        assert!(rt; source.try_take_n(3).is_err());
+    } else {
+        assert!(rt; source.try_take_n_temp(3).is_err());
+    }
+    let Ok((_reader, scratch)) = source.finalize() else {
+        unreachable!()
+    };
+    assert_eq!(rt; scratch.len(), room, "for good: {for_good}");
+}
+
+/// A scratch too short, and the reader isn't asked.
+fn scratch_too_short<T: Over>(rt: &impl Abort) {
+    let mut memory = [0; 1];
+    let mut source = IOReader::new(T::over(&[1, 2]), &mut memory);
+    assert!(rt; source.try_take_n(2).is_err());
+    assert!(rt; !looks(&mut source, 2));
+    assert_left(rt, source, &[1, 2], 1);
+}
+
+/// All of these.
+fn all_rows<T: Over>(rt: &impl Abort) -> Result<(), Fail> {
+    takes::<T>(rt)?;
+    pops::<T>(rt);
+    input_too_short::<T>(rt, true, 1);
+    input_too_short::<T>(rt, false, 4);
+    scratch_too_short::<T>(rt);
+    Ok(())
+}
+
+#[test]
+fn over_a_slice(rt: HostRuntime) -> Result<(), Fail> {
+    all_rows::<&[u8]>(&rt)
+}
+
+#[test]
+fn over_single_bytes(rt: HostRuntime) -> Result<(), Fail> {
+    all_rows::<OneByte>(&rt)
+}
+
+#[test]
+fn over_a_failing_reader(rt: HostRuntime) {
+    let bytes = [0xaa, 0xbb, 0xcc];
+    for reads in 0..4 {
+        let mut memory = [0; 4];
+        let failing = Failing {
+            bytes: &bytes,
+            reads,
+        };
+        let mut source = IOReader::new(Plain::new(failing), &mut memory);
+        let taken = source.try_take_n(3);
+        assert_eq!(rt; taken.is_ok(), reads == 3, "{reads} reads");
+        let Ok((reader, scratch)) = source.finalize() else {
+            unreachable!()
+        };
+        assert_eq!(rt; scratch.len(), 1);
+        assert_eq!(rt; reader.into_inner().bytes.len(), 3 - reads);
+    }
+}
+
+#[test]
+fn readers(rt: HostRuntime) -> Result<(), Fail> {
+    let bytes = [1, 2, 3];
+    let mut slice = bytes.as_slice();
+    let mut plain = Plain::new(bytes.as_slice());
+    let mut buf = [0; 2];
+    assert_eq!(rt; slice.read_some(&mut buf)?, 2);
+    assert_eq!(rt; plain.read_some(&mut buf)?, 2);
+    assert_eq!(rt; buf, [1, 2]);
+    assert!(rt; slice.read_full(&mut buf).is_err());
+    assert!(rt; plain.read_full(&mut buf).is_err());
+    assert_eq!(rt; plain.into_inner().len(), 0);
+    let mut buf = [0; 1];
+    slice.read_full(&mut buf)?;
+    assert_eq!(rt; buf, [3]);
+    assert_eq!(rt; slice.read_some(&mut buf)?, 0);
+    Ok(())
+}

@@ -1,0 +1,51 @@
+//! Any reader, as one of which nothing is promised.
+
+ghost use Rattle.std.specs.Prelude.{◌≡◌};
+ghost use Rattle.postcard_de_flavors.specs.Plain.{inner_of};
+
+use crate::source::Source;
+use std::io;
+use std::io::Read;
+
+/// A reader of which nothing is promised: it tells the bytes that `R` tells, and is never steady.
+#[derive(Drop)]
+pub struct Plain<R> {
+    inner: R,
+}
+
+impl<R: Read> Plain<R> {
+    /// Wraps a reader, and reads nothing of it.
+    pub fn new(inner: R) -> Plain<R>
+        ensures { inner_of result ≡ inner }
+    {
+        Plain { inner }
+    }
+
+    /// The reader that was wrapped, as the reads so far have left it.
+    pub fn into_inner(self) -> R
+        ensures { result ≡ inner_of self }
+    {
+        let Plain { inner } = self;
+        inner
+    }
+}
+
+impl<R: Read> Read for Plain<R> {
+    ghost remaining = { λ s. R.remaining (inner_of s) };
+
+    fn read(&mut self, buf: &mut [u8]) -> io::Result<usize> {
+        self.inner.read(buf)
+    }
+}
+
+impl<R: Read + Drop> Source for Plain<R> {
+    ghost steady = { λ _. ⊥ };
+
+    fn read_some(&mut self, buf: &mut [u8]) -> io::Result<usize> {
+        self.read(buf)
+    }
+
+    fn read_full(&mut self, buf: &mut [u8]) -> io::Result<()> {
+        self.inner.read_exact(buf)
+    }
+}
