@@ -1,6 +1,6 @@
 -- The trees of values that have parts, from those of their parts (wire format 1.0, chapter "the serde data model").
 use Rattle.std.specs.Prelude.{ℕ, ◌/◌, ◌%◌, Option, Some, None, Result, Ok, Err}
-use Rattle.postcard_wire.specs.Tree.{Tree, Trees, Num, Variant, Absent, Present, Group, Then, NoTrees}
+use Rattle.postcard_wire.specs.Tree.{Tree, Num, Variant, Absent, Present, Group, Then, NoTrees}
 
 -- An option: none, or what is in it.
 abbrev pub option_tree : {A : Type 0} → (A → Tree) → Option A → Tree
