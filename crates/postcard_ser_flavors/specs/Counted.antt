@@ -1,5 +1,5 @@
 -- What a contract sees of the flavor that counts, as a number of bytes, and why it is lawful.
-use Rattle.std.proofs.Common.{◌≡◌, ℕ, ◌+◌, ◌^◌, ◌<◌, ◌≤◌, List, ◌++◌, length, length-append, arith}
+use Rattle.std.proofs.Common.{◌≡◌, ℕ, ◌+◌, ◌^◌, ◌<◌, ◌≤◌, List, length, length-append, arith}
 use Rattle.std.specs.Coded.{le_prop}
 use Rattle.postcard_ser_flavors.specs.Flavor.{IsFlavor}
 

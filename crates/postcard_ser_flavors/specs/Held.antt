@@ -31,7 +31,7 @@ NoneFree s n = ⊥
 -- Where none is free, none of fewer is.
 pub none_free : {S : Type 0} → IsFree (λ (s : S) n. NoneFree s n)
 none_free = record {
-  fewer = λ s m n h. h;
+  free_fewer = λ s m n h. h;
   free_prop = λ s n. hlevel tt;
 }
 
@@ -83,7 +83,7 @@ module _ {S : Type 0} (held : S → List ℕ) where
   -- Up to a capacity, where bytes are free, fewer are.
   pub fixed_free : (capacity : ℕ) → IsFree (CanTake held capacity)
   fixed_free capacity = record {
-    fewer = λ s m n h. fewer_fit (length (held s)) m n capacity h;
+    free_fewer = λ s m n h. fewer_fit (length (held s)) m n capacity h;
     free_prop = λ s n. hlevel le_prop;
   }
 

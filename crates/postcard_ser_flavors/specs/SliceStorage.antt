@@ -14,7 +14,7 @@ CanTake s n = length (held s) + n ≤ length s.buffer
 -- Where bytes are free, fewer are.
 pub slice_free : IsFree CanTake
 slice_free = record {
-  fewer = λ s m n h. fewer_fit (length (held s)) m n (length s.buffer) h;
+  free_fewer = λ s m n h. fewer_fit (length (held s)) m n (length s.buffer) h;
   free_prop = λ s n. hlevel le_prop;
 }
 

@@ -3,7 +3,7 @@ use Rattle.std.specs.Prelude.{◌≡◌, ℕ, ◌+◌, ◌<◌, List, ◌++◌, 
 
 -- Where bytes are free, fewer are too. One proof that bytes are free is as good as another.
 pub record IsFree {S : Type 0} (free : S → ℕ → Type 0) : Type 0 where
-  pub fewer : (s : S) (m n : ℕ) → free s (m + n) → free s m
+  pub free_fewer : (s : S) (m n : ℕ) → free s (m + n) → free s m
   pub free_prop : (s : S) (n : ℕ) → IsProp (free s n)
 
 -- What is appended is held behind what was. As many bytes as are free have room, and once some of

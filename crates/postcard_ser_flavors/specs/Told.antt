@@ -1,6 +1,6 @@
 -- Why a flavor over a writer is lawful, whether the writer tells its bytes or not. The lemmas stand
 -- here since a ghost member cites them.
-use Rattle.std.proofs.Common.{◌≡◌, ℕ, List, [], ◌++◌, Option, Some, None, sym, append-nil}
+use Rattle.std.proofs.Common.{ℕ, List, [], ◌++◌, Option, Some, None, sym, append-nil}
 use Rattle.std.specs.Io.KnownBytes.{Appends}
 use Rattle.postcard_ser_flavors.specs.Flavor.{IsFlavor}
 use Rattle.postcard_ser_flavors.specs.Held.{NoRoom, AnyReached}

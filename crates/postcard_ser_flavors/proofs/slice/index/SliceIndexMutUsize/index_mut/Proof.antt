@@ -1,43 +1,33 @@
 -- `index_mut` lends one byte of the whole buffer. The model hides where the bytes lie, so the byte is lent while the `&mut` to the struct is open. Assumes `Logic`.
-use Rattle.std.proofs.Common.{ℕ, MutBor, List, [], ◌∷◌, ◌≡◌, ◌∙◌, ap, sym, refl, w64}
-use mir.Syntax.{named}
-use types.Kit.{‵, raw, ◌⊛◌, some, later, await, pick, ◌$◌, ◌∵◌, !, qed, move, keep, split, drop, join, fsplit, fsplit3, fjoin, fpick, feq_l, rewrite, done, use1, suffices}
+use Rattle.std.proofs.Common.{ℕ, MutBor, List, [], ◌∷◌, ◌≡◌, ◌∙◌, ap, sym, refl, w64, get_or, set, ◌+◌, ◌<◌, ◌^◌, ◌++◌, length, subst}
+use mir.Syntax.{named, erased}
+use types.Kit.{‵, raw, ◌⊛◌, some, later, await, pick, ◌$◌, ◌∵◌, !, qed, move, keep, split, drop, join, fsplit, fsplit3, fjoin, fpick, feq_l, rewrite, done, use1, suffices, use0, split3, group}
 use contract.Running.{tables}
-use base.Fml.{ftrue, flft}
-use mir.Val.{Val, vint}
+use base.Fml.{ftrue, flft, GName, fat, fobs}
+use mir.Val.{Val, vint, vptr, vstruct, of_list}
 use types.Run.{enter, load, fld, stop, bin, addr, returns}
 use types.ByLocal.{alloc_all, pass_all, free_all, look_at, get, through, sets}
 use types.Part.{look_in, sub, whole}
-use denote.Signature.{plain}
+use denote.Signature.{plain, named_lft, types_at}
 use denote.Exit.{yes, no}
-use denote.Builtin.{u8}
+use denote.Builtin.{u8, usize, RefMutOf}
 use base.Fraction.{full_share}
 use denote.Steps.{opens, peeks, heard, nothing}
 use denote.Laws.{shows}
-use denote.Triple.Walked.{Stays, walk_of, stay_dropped, Goes-dropped}
+use denote.Triple.Walked.{Stays, walk_of, stay_dropped, Goes-dropped, Goes-spent_ref}
 use denote.Ref.{mut_vals, mut_Tells, MutRef}
 use denote.Plain.{uint_vals, uint_Tells}
 use denote.Slice.{MutSlice, slice_val}
-use contract.Monad.{fact}
-use Rattle.std.proofs.raw_atomic.Walks.{proved}
-use Rattle.std.proofs.Common.{get_or, set, ◌+◌, ◌<◌, ◌^◌, ◌++◌, length, subst}
-use Rattle.std.proofs.raw_atomic.Walks.{leaves}
+use contract.Monad.{fact, fact_i}
+use Rattle.std.proofs.raw_atomic.Walks.{proved, leaves}
 use base.Logic.{emp}
 use base.Share
-use mir.Val.{vptr, vstruct, of_list}
-use base.Fml.{GName, fat, fobs}
-use mir.Syntax.{erased}
 use Rattle.postcard_ser_flavors.proofs.slice.Slice.TheLaws.{mir as written}
 use base.Stored.{coded_list}
-use contract.Monad.{fact_i}
-use types.Kit.{use0, split3, group}
-use denote.Builtin.{usize, RefMutOf}
 use denote.Follow.{follows}
 use denote.FollowSlice.{heres_id}
 use denote.Memory.{cell_at}
 use denote.RattleType.{RattleType, owns}
-use denote.Signature.{named_lft, types_at}
-use denote.Triple.Walked.{Goes-spent_ref}
 use Rattle.postcard_ser_flavors.specs.Slice.{Written}
 use Rattle.postcard_ser_flavors.specs.declared.memory.Memory.{Memory}
 use Rattle.postcard_ser_flavors.specs.contracts.slice.Slice.{the_row}
