@@ -28,33 +28,69 @@ fn check<'a, T: Deserialize<'a> + PartialEq + Debug>(
 #[test]
 fn reads_numbers(rt: HostRuntime) {
     let alloc = rt.alloc();
-    check(&rt, alloc, &[(&[0x07], Ok(7u8)), (&[], Err(Error::DeserializeUnexpectedEnd))]);
-    check(&rt, alloc, &[(&[0x07], Ok(7i8)), (&[0x80], Ok(-128)), (&[0xFF], Ok(-1))]);
-    check(&rt, alloc, &[
-        (&[0x80, 0x00], Ok(0u16)),
-        (&[0x80, 0x80, 0x00], Ok(0)),
-        (&[0x80, 0x80, 0x04], Err(Error::DeserializeBadVarint)),
-        (&[0x80, 0x80, 0x80, 0x00], Err(Error::DeserializeBadVarint)),
-    ]);
-    check(&rt, alloc, &[
-        (&[0xFF, 0xFF, 0xFF, 0xFF, 0x0F], Ok(u32::MAX)),
-        (&[0xFF, 0xFF, 0xFF, 0xFF, 0x1F], Err(Error::DeserializeBadVarint)),
-        (&[0xFF, 0xFF, 0xFF, 0xFF, 0xFF, 0x01], Err(Error::DeserializeBadVarint)),
-        (&[0xFF, 0xFF, 0xFF, 0xFF], Err(Error::DeserializeUnexpectedEnd)),
-    ]);
-    check(&rt, alloc, &[(&[0xAC, 0x02], Ok(300u64))]);
-    check(&rt, alloc, &[(
+    check(
+        &rt,
+        alloc,
         &[
-            0xFF, 0xFF, 0xFF, 0xFF, 0xFF, 0xFF, 0xFF, 0xFF, 0xFF, 0xFF, 0xFF, 0xFF, 0xFF, 0xFF,
-            0xFF, 0xFF, 0xFF, 0xFF, 0x03,
+            (&[0x07], Ok(7u8)),
+            (&[], Err(Error::DeserializeUnexpectedEnd)),
         ],
-        Ok(u128::MAX),
-    )]);
-    check(&rt, alloc, &[
-        (&[0xFF, 0xFF, 0x03], Ok(-32768i16)),
-        (&[0xFE, 0xFF, 0x03], Ok(32767)),
-        (&[0x01], Ok(-1)),
-    ]);
+    );
+    check(
+        &rt,
+        alloc,
+        &[(&[0x07], Ok(7i8)), (&[0x80], Ok(-128)), (&[0xFF], Ok(-1))],
+    );
+    check(
+        &rt,
+        alloc,
+        &[
+            (&[0x80, 0x00], Ok(0u16)),
+            (&[0x80, 0x80, 0x00], Ok(0)),
+            (&[0x80, 0x80, 0x04], Err(Error::DeserializeBadVarint)),
+            (&[0x80, 0x80, 0x80, 0x00], Err(Error::DeserializeBadVarint)),
+        ],
+    );
+    check(
+        &rt,
+        alloc,
+        &[
+            (&[0xFF, 0xFF, 0xFF, 0xFF, 0x0F], Ok(u32::MAX)),
+            (
+                &[0xFF, 0xFF, 0xFF, 0xFF, 0x1F],
+                Err(Error::DeserializeBadVarint),
+            ),
+            (
+                &[0xFF, 0xFF, 0xFF, 0xFF, 0xFF, 0x01],
+                Err(Error::DeserializeBadVarint),
+            ),
+            (
+                &[0xFF, 0xFF, 0xFF, 0xFF],
+                Err(Error::DeserializeUnexpectedEnd),
+            ),
+        ],
+    );
+    check(&rt, alloc, &[(&[0xAC, 0x02], Ok(300u64))]);
+    check(
+        &rt,
+        alloc,
+        &[(
+            &[
+                0xFF, 0xFF, 0xFF, 0xFF, 0xFF, 0xFF, 0xFF, 0xFF, 0xFF, 0xFF, 0xFF, 0xFF, 0xFF, 0xFF,
+                0xFF, 0xFF, 0xFF, 0xFF, 0x03,
+            ],
+            Ok(u128::MAX),
+        )],
+    );
+    check(
+        &rt,
+        alloc,
+        &[
+            (&[0xFF, 0xFF, 0x03], Ok(-32768i16)),
+            (&[0xFE, 0xFF, 0x03], Ok(32767)),
+            (&[0x01], Ok(-1)),
+        ],
+    );
     check(&rt, alloc, &[(&[0x03], Ok(-2i32))]);
     check(&rt, alloc, &[(&[0x04], Ok(2i64))]);
     check(&rt, alloc, &[(&[0x01], Ok(-1i128))]);
@@ -63,13 +99,20 @@ fn reads_numbers(rt: HostRuntime) {
 #[test]
 fn reads_texts(rt: HostRuntime) -> std::result::Result<(), Fail> {
     let alloc = rt.alloc();
-    check(&rt, alloc, &[
-        (&[0x02, 0x48, 0x69], Ok("Hi")),
-        (&[0x01, 0xFF], Err(Error::DeserializeBadUtf8)),
-        (&[0x03, 0x48, 0x69], Err(Error::DeserializeUnexpectedEnd)),
-    ]);
+    check(
+        &rt,
+        alloc,
+        &[
+            (&[0x02, 0x48, 0x69], Ok("Hi")),
+            (&[0x01, 0xFF], Err(Error::DeserializeBadUtf8)),
+            (&[0x03, 0x48, 0x69], Err(Error::DeserializeUnexpectedEnd)),
+        ],
+    );
     assert_eq!(rt; read::<String>(alloc, &[0x02, 0x48, 0x69])?.as_str(), "Hi");
-    assert_eq!(rt; read::<String>(alloc, &[0x01, 0xFF]).err(), Some(Error::DeserializeBadUtf8));
+    assert_eq!(rt;
+        read::<String>(alloc, &[0x01, 0xFF]).err(),
+        Some(Error::DeserializeBadUtf8)
+    );
     Ok(())
 }
 
@@ -79,7 +122,10 @@ fn reads_lists(rt: HostRuntime) -> std::result::Result<(), Fail> {
     let eight = [0x08, 0xFF, 0xFF, 0xFF, 0x00, 0x00, 0x00, 0x00, 0x00];
     assert_eq!(rt; read::<Vec<u8>>(alloc, &eight)?.as_slice(), &eight[1..]);
     let many = [0x88, 0xFF, 0xFF, 0xFF, 0x00, 0x00, 0x00, 0x00, 0x00];
-    assert_eq!(rt; read::<Vec<u8>>(alloc, &many).err(), Some(Error::DeserializeUnexpectedEnd));
+    assert_eq!(rt;
+        read::<Vec<u8>>(alloc, &many).err(),
+        Some(Error::DeserializeUnexpectedEnd)
+    );
     Ok(())
 }
 
@@ -99,8 +145,28 @@ fn counts_elements(rt: HostRuntime) -> std::result::Result<(), Fail> {
 
     let mut ends = Deserializer::from_bytes(&[0x02, 0x01, 0x80]);
     let mut access = ends.deserialize_seq()?;
-    assert_eq!(rt; access.next_element::<u16, _>(alloc, &mut ends), Ok(Some(1)));
-    assert_eq!(rt; access.next_element::<u16, _>(alloc, &mut ends), Err(Error::DeserializeUnexpectedEnd));
+    assert_eq!(rt;
+        access.next_element::<u16, _>(alloc, &mut ends),
+        Ok(Some(1))
+    );
+    assert_eq!(rt;
+        access.next_element::<u16, _>(alloc, &mut ends),
+        Err(Error::DeserializeUnexpectedEnd)
+    );
     assert_eq!(rt; access.next_element::<u16, _>(alloc, &mut ends), Ok(None));
     Ok(())
+}
+
+/// Run with `--fail-alloc N` too, which refuses the Nth request for memory: each answers `OutOfMemory` then, and no other error.
+#[test]
+fn answers_out_of_memory(rt: HostRuntime) {
+    let alloc = rt.alloc();
+    match read::<String>(alloc, &[0x02, 0x48, 0x69]) {
+        Ok(text) => assert_eq!(rt; text.as_str(), "Hi"),
+        Err(e) => assert_eq!(rt; e, Error::OutOfMemory),
+    }
+    match read::<Vec<u8>>(alloc, &[0x02, 0x05, 0x06]) {
+        Ok(list) => assert_eq!(rt; list.as_slice(), [0x05, 0x06].as_slice()),
+        Err(e) => assert_eq!(rt; e, Error::OutOfMemory),
+    }
 }
