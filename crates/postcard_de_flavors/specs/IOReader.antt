@@ -1,9 +1,10 @@
 -- What a contract sees of a source over a reader, which takes scratch for what it lends (behaviour of postcard 1.1.3).
-use Rattle.std.specs.Prelude.{◌≡◌, ℕ, ◌≤◌, ◌<◌, List, length, drop, Option}
+use Rattle.std.specs.Prelude.{◌≡◌, ℕ, ◌≤◌, ◌<◌, List, length, drop, Option, Result}
 use Rattle.std.proofs.Common.{arith}
+use Rattle.std.specs.Borrow.{Bor}
 use Rattle.postcard_de_flavors.specs.declared.io.io.IOReader.{IOReader}
 use Rattle.postcard_de_flavors.specs.Reader.{AtLeast, at_least_fewer}
-use Rattle.postcard_de_flavors.specs.Source.{Laws}
+use Rattle.postcard_de_flavors.specs.Source.{LendsFront, Laws}
 
 -- The reader, as it is now.
 abbrev pub reader_of : {T : Type 0} → IOReader T → T
@@ -26,6 +27,11 @@ MayBecome steady s t = (steady (reader_of s) → steady (reader_of t)) × (lengt
 abbrev pub GivesBack : {T : Type 0} → ℕ → IOReader T → IOReader T → Type 0
 GivesBack n old new = (length (scratch_of new) ≡ length (scratch_of old)) × (drop n (scratch_of new) ≡ drop n (scratch_of old))
     × (length (scratch_of old) < n → new ≡ old)
+
+-- What the source is once n bytes that it lent for a while are given back: what any source is then, and the scratch is too.
+abbrev pub LendsScratch : {T E : Type 0} → (T → Option (List ℕ)) → (T → Type 0) → ℕ → IOReader T → Result (Bor (List ℕ)) E → IOReader T → Type 0
+LendsScratch remaining steady n old lent new =
+    LendsFront (λ s. remaining (reader_of s)) (CanRead remaining steady) (MayBecome steady) old lent new × GivesBack n old new
 
 -- The source keeps to the laws of a source.
 pub reader_laws : {T : Type 0} (remaining : T → Option (List ℕ)) (steady : T → Type 0) → Laws (λ (s : IOReader T). remaining (reader_of s)) (CanRead remaining steady) (MayBecome steady)

@@ -5,9 +5,9 @@ ghost use Rattle.std.specs.Borrow.{sem};
 ghost use Rattle.std.specs.Io.BufRead.{Rests};
 ghost use Rattle.postcard_de_flavors.specs.contracts.io.io.IOReader.{the_row};
 ghost use mir.Syntax.{named};
-ghost use Rattle.postcard_de_flavors.specs.Source.{Takes, LendsFront};
+ghost use Rattle.postcard_de_flavors.specs.Source.{Takes};
 ghost use Rattle.postcard_de_flavors.specs.Reader.{AtLeast};
-ghost use Rattle.postcard_de_flavors.specs.IOReader.{reader_of, scratch_of, CanRead, MayBecome, GivesBack, reader_laws};
+ghost use Rattle.postcard_de_flavors.specs.IOReader.{reader_of, scratch_of, CanRead, MayBecome, LendsScratch, reader_laws};
 
 use super::sliding_buffer::SlidingBuffer;
 use crate::flavor::Flavor;
@@ -117,7 +117,7 @@ impl<'de, T: Source> Flavor for IOReader<'de, T> {
     /// fewer bytes are left or the reader fails; the scratch is given back then, and how much the reader gave is open.
     fn try_take_n_temp(&mut self, ct: usize) -> Result<&[u8]>
         ensures length { IfOk result (λ front. length front.now ≡ ct) }
-        ensures* gives { sem 𝓛 (Rests (the_row (record { mir = named 1; lft = [] }) T.row) self.entry (λ new. LendsFront ⟦<IOReader<'de, T> as Flavor>⟧.left ⟦<IOReader<'de, T> as Flavor>⟧.able ⟦<IOReader<'de, T> as Flavor>⟧.may_leave self.old result new × GivesBack ct self.old new)) }
+        ensures* gives { sem 𝓛 (Rests (the_row (record { mir = named 1; lft = [] }) T.row) self.entry (LendsScratch T.remaining T.steady ct self.old result)) }
         ensures accepts { ⟦<IOReader<'de, T> as Flavor>⟧.able self.old ct → IsOk result }
         ensures refuses { IfErr result (λ e. e ≡ Error.DeserializeUnexpectedEnd) }
         ensures short { length (scratch_of self.old) < ct → IsErr result }

@@ -97,7 +97,7 @@ fn looks<T: Source>(source: &mut IOReader<'_, T>, count: usize) -> bool
     source.try_take_n_temp(count).is_ok()
 }
 
-/// A steady reader over given bytes.
+/// A reader over given bytes.
 trait Over: Source {
     fn over(bytes: &'static [u8]) -> Self;
 }
@@ -111,6 +111,12 @@ impl Over for &'static [u8] {
 impl Over for OneByte<'static> {
     fn over(bytes: &'static [u8]) -> Self {
         OneByte { bytes }
+    }
+}
+
+impl Over for Plain<&'static [u8]> {
+    fn over(bytes: &'static [u8]) -> Self {
+        Plain::new(bytes)
     }
 }
 
@@ -198,6 +204,11 @@ fn over_a_slice(rt: HostRuntime) -> Result<(), Fail> {
 #[test]
 fn over_single_bytes(rt: HostRuntime) -> Result<(), Fail> {
     all_rows::<OneByte>(&rt)
+}
+
+#[test]
+fn over_any_reader(rt: HostRuntime) -> Result<(), Fail> {
+    all_rows::<Plain<&[u8]>>(&rt)
 }
 
 #[test]
