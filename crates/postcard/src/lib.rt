@@ -5,13 +5,17 @@
 //! alone: trees, their spellings, and the one shortest spelling.
 //!
 //! - `to_slice` and `fill_slice` write a value into a buffer (module `ser`).
+//! - `to_vec`, `to_allocvec`, `to_stdvec`, `to_extend`, `to_io` write it elsewhere, and `serialize_with_flavor` into any
+//!   flavor (module `with_flavor`); `experimental::serialized_size` counts its bytes.
 //! - `from_bytes` and `take_from_bytes` read a value from the front of a slice (module `de`).
 #![tactic(auto)]
 
 mod de;
+pub mod experimental;
 mod ser;
 #[cfg(test)]
 mod tests;
+mod with_flavor;
 
 pub use de::{from_bytes, take_from_bytes};
 pub use postcard_de::{Deserialize, Deserializer, SeqAccess};
@@ -20,3 +24,4 @@ pub use postcard_ser::{Serialize, Serializer};
 pub use postcard_ser_flavors as ser_flavors;
 pub use postcard_wire::{Error, Result};
 pub use ser::{fill_slice, to_slice};
+pub use with_flavor::{serialize_with_flavor, to_allocvec, to_extend, to_io, to_stdvec, to_vec};

@@ -1,0 +1,22 @@
+//! What the Rust crate calls experimental.
+
+ghost use Rattle.std.specs.Prelude.{◌≡◌, ◌<◌, ◌^◌, ◌↔◌, length, IfOk, IfErr, IsOk};
+ghost use Rattle.postcard_wire.specs.Spelling.{bytes};
+ghost use Rattle.postcard_ser.specs.Writing.{AnswersRefusal};
+
+use crate::with_flavor::serialize_with_flavor;
+use postcard_ser::Serialize;
+use postcard_ser_flavors::Size;
+use postcard_wire::Result;
+
+/// How many bytes the encoding of a value has. Nothing is stored, and no memory is taken.
+///
+/// It succeeds exactly where the count fits `usize`, a value that refuses itself aside; else it answers
+/// `SerializeBufferFull`.
+pub fn serialized_size<T: Serialize>(value: &T) -> Result<usize>
+    ensures gives { IfOk result (λ count. count ≡ length (bytes (T.tree value.now))) }
+    ensures exactly { ¬ T.refuses_itself value.now → (IsOk result ↔ (length (bytes (T.tree value.now)) < 2 ^ 64)) }
+    ensures answers { ¬ T.refuses_itself value.now → IfErr result (AnswersRefusal T.may_fail_text) }
+{
+    serialize_with_flavor(value, Size::default())
+}
