@@ -1,6 +1,13 @@
 //! The calls end to end, against bytes that were worked out by hand from the wire format.
 
-use crate::{Error, Serialize, fill_slice, from_bytes, take_from_bytes, to_slice};
+use crate::experimental::serialized_size;
+use crate::ser_flavors::Size;
+use crate::{
+    Error, Serialize, Serializer, fill_slice, from_bytes, serialize_with_flavor, take_from_bytes,
+    to_allocvec, to_extend, to_io, to_slice, to_stdvec, to_vec,
+};
+use postcard_ser_flavors::Flavor;
+use std::alloc::AllocError;
 use std::process::Abort;
 
 /// A buffer's fill, so that a byte that was not written shows.
@@ -61,7 +68,7 @@ fn writes_numbers(rt: HostRuntime) {
 }
 
 #[test]
-fn writes_texts_and_lists(rt: HostRuntime) -> Result<(), std::alloc::AllocError> {
+fn writes_texts_and_lists(rt: HostRuntime) -> Result<(), AllocError> {
     let text = String::from_str(rt.alloc(), "Hi!")?;
     is_written(&rt, &"Hi!", &[0x03, 0x48, 0x69, 0x21]);
     is_written(&rt, &text, &[0x03, 0x48, 0x69, 0x21]);
@@ -177,4 +184,75 @@ fn reads_texts_and_lists(rt: HostRuntime) {
         }
         Err(e) => panic!(rt; "{e}"),
     }
+}
+
+/// `(1u8, 10u32, "Hello!")` on the wire.
+const TUPLE: [u8; 9] = [0x01, 0x0A, 0x06, 0x48, 0x65, 0x6C, 0x6C, 0x6F, 0x21];
+
+#[test]
+fn writes_into_each_flavor(rt: HostRuntime) {
+    let tuple = (1u8, 10u32, "Hello!");
+    match to_vec::<_, 9>(&tuple) {
+        Ok(vec) => assert_eq!(rt; vec.as_slice(), &TUPLE[..]),
+        Err(e) => panic!(rt; "{e}"),
+    }
+    assert!(rt; matches!(to_vec::<_, 8>(&tuple), Err(Error::SerializeBufferFull)));
+    for outcome in [
+        to_stdvec(rt.alloc(), &tuple),
+        to_allocvec(rt.alloc(), &tuple),
+    ] {
+        match outcome {
+            Ok(vec) => assert_eq!(rt; vec.as_slice(), &TUPLE[..]),
+            Err(e) => panic!(rt; "{e}"),
+        }
+    }
+    assert_eq!(rt; serialized_size(&tuple), Ok(9));
+    assert_eq!(rt; serialize_with_flavor(&false, Size::default()), Ok(1));
+}
+
+#[test]
+fn appends_to_what_is_there(rt: HostRuntime) {
+    let want = [0x01, 0x03, 0x48, 0x69, 0x21];
+    match to_extend(&true, Vec::new(rt.alloc())) {
+        Ok(vec) => match to_extend(&"Hi!", vec) {
+            Ok(vec) => assert_eq!(rt; vec.as_slice(), &want[..]),
+            Err(e) => panic!(rt; "{e}"),
+        },
+        Err(e) => panic!(rt; "{e}"),
+    }
+    match to_io(&true, Vec::new(rt.alloc())) {
+        Ok(vec) => match to_io(&"Hi!", vec) {
+            Ok(vec) => assert_eq!(rt; vec.as_slice(), &want[..]),
+            Err(e) => panic!(rt; "{e}"),
+        },
+        Err(e) => panic!(rt; "{e}"),
+    }
+}
+
+/// A value that refuses itself.
+struct Unwritable;
+
+impl Serialize for Unwritable {
+    ghost use Rattle.std.specs.Prelude.{⊤};
+    ghost use Rattle.postcard_wire.specs.Tree.{Group, NoTrees};
+
+    ghost tree = { λ _. Group NoTrees };
+
+    ghost refuses_itself = { λ _. ⊤ };
+
+    fn serialize<F: Flavor>(&self, _serializer: &mut Serializer<F>) -> crate::Result<()> {
+        Err(Error::ser_custom("no"))
+    }
+}
+
+#[test]
+fn hands_on_a_refusal_of_the_value(rt: HostRuntime) {
+    let mut buffer = [OLD; 4];
+    assert!(rt;
+        matches!(
+            to_slice(&Unwritable, &mut buffer),
+            Err(Error::SerdeSerCustom)
+        )
+    );
+    assert_eq!(rt; buffer, [OLD; 4]);
 }

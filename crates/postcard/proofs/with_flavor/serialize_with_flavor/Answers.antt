@@ -1,0 +1,7 @@
+-- A flavor that had room for the whole closes once the whole is in.
+use Rattle.postcard_ser.proofs.PartByPart.{wrote_closes}
+use Rattle.postcard.proofs.with_flavor.serialize_with_flavor.Goals as goal
+
+pub returns-in-Err-clause-has_room : goal.returns-in-Err-clause-has_room
+returns-in-Err-clause-has_room g c refuses room =
+    c.in-Err.ensures.closes (wrote_closes _ room c.in_ok-serialize.ensures)
