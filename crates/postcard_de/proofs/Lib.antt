@@ -4,3 +4,6 @@ pub mod Numbers
 pub mod Texts
 pub mod Compound
 pub mod Lists
+pub mod Parts
+pub mod Sift
+pub mod Enums

@@ -3,3 +3,4 @@
 pub mod lists;
 pub mod numbers;
 pub mod text;
+pub mod tuples;
