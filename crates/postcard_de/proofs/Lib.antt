@@ -7,3 +7,6 @@ pub mod Lists
 pub mod Parts
 pub mod Sift
 pub mod Enums
+pub mod Options
+pub mod Spans
+pub mod Entries

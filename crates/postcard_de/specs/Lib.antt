@@ -7,3 +7,6 @@ pub mod One
 pub mod Parts
 pub mod Options
 pub mod Unfit
+pub mod Numbers
+pub mod Maps
+pub mod Fixed

@@ -1,5 +1,5 @@
 -- Why a single node is refused, for the nodes that aren't numbers or texts (behaviour of postcard 1.1.3).
-use Rattle.std.specs.Prelude.{◌≡◌, ℕ, ◌<◌, ◌≤◌, ◌^◌, ◌⊎◌, List, [], ◌∷◌, ◌++◌, length, Option, Result, Err}
+use Rattle.std.specs.Prelude.{◌≡◌, ℕ, ◌<◌, ◌≤◌, ◌^◌, ◌⊎◌, List, [], ◌∷◌, ◌++◌, length, Option, Err}
 use Rattle.postcard_wire.specs.declared.error.Error.{Error}
 use Rattle.postcard_wire.specs.declared.error.Error.TheVariants.{OutOfMemory, DeserializeBadBool, DeserializeBadOption, DeserializeBadChar}
 use Rattle.postcard_wire.specs.Number.{SpellsNum}
@@ -43,4 +43,4 @@ BadBytes p e = BadNumber 64 p e ⊎ ((e ≡ OutOfMemory) × ((q : List ℕ) × (
 
 -- The byte 1 was taken, and what stands behind it is refused as the content.
 abbrev pub ContentRefuses : {S V : Type 0} → (Tree → Type 0) → (Tree → V → Type 0) → Type 0 → (S → Option (List ℕ)) → (S → ℕ → Type 0) → (S → S → Type 0) → S → Error → S → Type 0
-ContentRefuses {S} {V} reads value grows left able may_leave old e new = (mid : S) × Takes left able old (1 ∷ []) mid × ((r : Result V Error) × (r ≡ Err e) × Reads Spells reads value grows left able may_leave mid r new)
+ContentRefuses {S} reads value grows left able may_leave old e new = (mid : S) × Takes left able old (1 ∷ []) mid × Reads Spells reads value grows left able may_leave mid (Err e) new

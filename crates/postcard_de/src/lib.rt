@@ -13,10 +13,12 @@ pub mod access;
 pub mod deserialize;
 pub mod deserializer;
 pub mod laws;
+pub mod map_access;
 pub mod values;
 
 pub use access::SeqAccess;
 pub use deserialize::Deserialize;
 pub use deserializer::Deserializer;
+pub use map_access::MapAccess;
 pub use postcard_de_flavors::{Flavor, Slice, flavor, slice};
 pub use postcard_wire::{Error, Result};
