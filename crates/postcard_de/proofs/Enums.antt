@@ -9,7 +9,7 @@ use Rattle.postcard_wire.specs.Reading.{IsVariant}
 use Rattle.postcard_de_flavors.specs.Source.{Laws}
 use Rattle.postcard_de.specs.Reads.{Reads}
 use Rattle.postcard_de.specs.Values.{Same}
-use Rattle.postcard_de.specs.Options.{VariantIs}
+use Rattle.postcard_de.specs.Options.{ResultReads}
 use Rattle.postcard_de.proofs.Leaves.{refusal, is_refusal}
 use Rattle.postcard_de.proofs.Numbers.{Below}
 use Rattle.postcard_de.proofs.Sift.{none_follows}
@@ -41,3 +41,9 @@ module _ {S : Type 0} {left : S → Option (List ℕ)} {able : S → ℕ → Typ
   pub unknown_index : {old new : S} {i : ℕ} {e : Error} → e ≢ OutOfMemory → e ≢ DeserializeBadEncoding → ((t : Tree) → content i t → ⊥) →
     Reads (SpellsNum 32) (Below 32) Same ⊥ left able may_leave old (Ok i) new → Reads Spells (IsVariant content) value H left able may_leave old (refusal A e) new
   unknown_index {new = new} other never none s = none_follows laws (index_and_content content) other never none (laws.itself new) s
+
+-- A `Result` has no index but 0 and 1.
+pub no_other : (R E : Tree → Type 0) (i : ℕ) → (i ≡ 0 → ⊥) → (i ≡ 1 → ⊥) → (t : Tree) → ResultReads R E i t → ⊥
+no_other R E zero a b t r = a refl
+no_other R E (suc zero) a b t r = b refl
+no_other R E (suc (suc i)) a b t r = r

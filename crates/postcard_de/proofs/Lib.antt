@@ -10,3 +10,5 @@ pub mod Enums
 pub mod Options
 pub mod Spans
 pub mod Entries
+pub mod Chars
+pub mod Bytes

@@ -1,6 +1,8 @@
 //! The types that are read, a room for each kind.
 
+pub mod arrays;
 pub mod lists;
+pub mod maps;
 pub mod nonzero;
 pub mod numbers;
 pub mod options;

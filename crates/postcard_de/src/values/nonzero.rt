@@ -3,7 +3,6 @@
 ghost use Rattle.std.specs.Prelude.{◌≡◌, refl, pos};
 ghost use Rattle.std.specs.Int.{w8, cast_unsigned};
 ghost use Rattle.std.specs.Int.NonZero.{non_zero_u8_get, non_zero_u16_get, non_zero_u32_get, non_zero_u64_get, non_zero_u128_get, non_zero_usize_get, non_zero_i8_get, non_zero_i16_get, non_zero_i32_get, non_zero_i64_get, non_zero_i128_get, non_zero_isize_get};
-ghost use Rattle.std.specs.declared.num.nonzero.NonZeroI8.{NonZeroI8};
 ghost use Rattle.std.proofs.Common.{inl, inr};
 ghost use Rattle.postcard_wire.specs.Tree.{Byte, Num, Int};
 ghost use Rattle.postcard_wire.specs.Reading.{IsByte, IsNum, IsInt};
@@ -180,7 +179,7 @@ impl<'de> Deserialize<'de> for NonZeroI8 {
 
     ghost well_formed = { without_well_formed (Byte 0) IsByte byte_well_formed };
 
-    ghost one_value = { node_one Byte (λ (v : NonZeroI8). cast_unsigned w8 (non_zero_i8_get v)) byte_same };
+    ghost one_value = { node_one Byte (λ v. cast_unsigned w8 (non_zero_i8_get v)) byte_same };
 
     fn deserialize<F: Flavor>(alloc: Global, d: &mut Deserializer<'de, F>) -> Result<Self> {
         let number = i8::deserialize(alloc, d)?;

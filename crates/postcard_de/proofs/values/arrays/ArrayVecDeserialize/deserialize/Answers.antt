@@ -1,4 +1,4 @@
-use Rattle.std.proofs.Common.{◌≡◌, ℕ, suc, ◌<◌, ◌≤◌, ◌+◌, ◌-◌, List, ◌∷◌, [], ◌++◌, length, arith, length-append}
+use Rattle.std.proofs.Common.{◌≡◌, ℕ, suc, ◌<◌, ◌≤◌, ◌+◌, ◌-◌, List, ◌∷◌, [], ◌++◌, length, ap, arith, length-append}
 use Rattle.std.proofs.lemmas.Grind.{common_steps}
 use Rattle.arrayvec.specs.ArrayVec.{ArrayVec, array_vec_len}
 use Rattle.postcard_de.proofs.Leaves.{is_refusal}
@@ -8,7 +8,14 @@ use Rattle.postcard_de.proofs.Lists.{going, goes_on, going_stops, going_done, un
 use Rattle.postcard_de.proofs.values.arrays.ArrayVecDeserialize.deserialize.Goals as goal
 
 pub loop-items-init : goal.loop-items-init
-loop-items-init g c = record { going = rw c.new-items.ensures (going g.F.Flavor.lawful); counted = omega (arith, c.new-items.ensures); few = omega (arith, c.new-items.ensures) }
+loop-items-init g c =
+    let laws = g.F.Flavor.lawful in
+    record {
+      going = rw c.new-items.ensures (going laws);
+      counted = let e = ap length c.new-items.ensures in omega (arith, e);
+      few = let e = ap length c.new-items.ensures in omega (arith, e);
+      leaves = laws.itself _
+    }
 
 pub returns-in_err-access : goal.returns-in_err-access
 returns-in_err-access g c =
@@ -25,10 +32,29 @@ returns-in_err-item g c =
     (going_stops laws (λ h. h) (rw more at c.loop-items.invariant.going) (c.in_err-item.ensures.some (omega (arith, more)))))
 
 pub returns-then-is_err : goal.returns-then-is_err
-returns-then-is_err g c = ?
+returns-then-is_err g c =
+    let laws = g.F.Flavor.lawful in
+    let n = c.loop-items.access in
+    let more : n ≡ suc (n - 1) = one_more_left n (λ z. is_some _ _ (c.in_ok-item.ensures.none z).0 c.in-Some.is) in
+    let read = c.in_ok-item.ensures.some (omega (arith, more)) in
+    let full : length c.loop-items.items.items ≡ g.row.CAP = grind (arith, common_steps) in
+    too_many laws c.in_ok-access.ensures.reads custom_isnt_memory custom_isnt_encoding (λ few. omega (arith, few, full, more, c.loop-items.invariant.counted)) (laws.joins _ _ _ c.loop-items.invariant.leaves read.leaves)
 
 pub loop-items-preserved : goal.loop-items-preserved
-loop-items-preserved g c = ?
+loop-items-preserved g c =
+    let laws = g.F.Flavor.lawful in
+    let n = c.loop-items.access in
+    let more : n ≡ suc (n - 1) = one_more_left n (λ z. is_some _ _ (c.in_ok-item.ensures.none z).0 c.in-Some.is) in
+    let read = rw c.in-Some.is at (c.in_ok-item.ensures.some (omega (arith, more))) in
+    let e : c.try_push.new.self.items ≡ c.loop-items.items.items ++ c.in-Some.item ∷ [] = grind (arith, common_steps) in
+    let room : length c.loop-items.items.items < g.row.CAP = grind (arith, common_steps) in
+    let long : length c.try_push.new.self.items ≡ length c.loop-items.items.items + 1 = rw (e, length-append) (omega arith) in
+    record {
+      going = rw (e, c.in_ok-item.ensures.count) (goes_on laws (λ h. h) (rw more at c.loop-items.invariant.going) (unwrapped read));
+      counted = rw c.in_ok-item.ensures.count (omega (arith, long, more, c.loop-items.invariant.counted));
+      few = omega (arith, long, room);
+      leaves = laws.joins _ _ _ c.loop-items.invariant.leaves read.leaves
+    }
 
 pub returns : goal.returns
 returns g c =
