@@ -73,9 +73,8 @@ module _ {S : Type 0} {left : S → Option (List ℕ)} {able : S → ℕ → Typ
       pub few_read : {a : A} → n ≤ m → Reads SpellsAll (AreRead n R) (EachIs I) H left able may_leave mid (Ok (see a)) new → Reads Spells (IsFewSeq m R) (λ t x. ListIs I t (see x)) H left able may_leave old (Ok a) new
       few_read few k = both_read laws (count_and_few m R) (λ j ts same h. (ts, refl, h)) counted (allowed few k)
         where
-          allowed : {r : Result (List V) Error} {x y : S} → n ≤ m → Reads SpellsAll (AreRead n R) (EachIs I) H left able may_leave x r y → Reads SpellsAll (λ ts. AreRead n R ts × (n ≤ m)) (EachIs I) H left able may_leave x r y
-          allowed {Ok vs} few k = record { gives = let g = k.gives in record { thing = g.thing; front = g.front; is_read = (g.is_read, few); is_spelled = g.is_spelled; has = g.has; taken = g.taken }; accepts = λ x p a b c. k.accepts x p a.0 b c; leaves = k.leaves; grown = k.grown; never = k.never }
-          allowed {Err e} few k = record { gives = tt; accepts = λ x p a b c. k.accepts x p a.0 b c; leaves = k.leaves; grown = k.grown; never = k.never }
+          allowed : {a : A} → n ≤ m → Reads SpellsAll (AreRead n R) (EachIs I) H left able may_leave mid (Ok (see a)) new → Reads SpellsAll (λ ts. AreRead n R ts × (n ≤ m)) (EachIs I) H left able may_leave mid (Ok (see a)) new
+          allowed few k = let g = k.gives in record { gives = record { thing = g.thing; front = g.front; is_read = (g.is_read, few); is_spelled = g.is_spelled; has = g.has; taken = g.taken }; accepts = λ x p a b c. k.accepts x p a.0 b c; leaves = k.leaves; grown = k.grown; never = k.never }
 
       -- The count was read, and the elements refuse.
       pub few_refused : {e : Error} → Reads SpellsAll (AreRead n R) (EachIs I) H left able may_leave mid (refusal (List V) e) new → Reads Spells (IsFewSeq m R) (λ t x. ListIs I t (see x)) H left able may_leave old (refusal A e) new

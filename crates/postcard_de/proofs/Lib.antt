@@ -12,3 +12,4 @@ pub mod Spans
 pub mod Entries
 pub mod Chars
 pub mod Bytes
+pub mod Fixed

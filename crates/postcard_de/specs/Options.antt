@@ -1,7 +1,7 @@
--- The values of options and of enums, and the law that a tree has one.
+-- The values of truth values, characters, options and enums, and the law that a tree has one.
 use Rattle.std.specs.Prelude.{◌≡◌, ℕ, zero, suc, Bool, Option, None, Some, Result, Ok, Err}
 use Rattle.std.proofs.Common.{sym, ◌∙◌, subst}
-use Rattle.postcard_wire.specs.Tree.{Tree, Boolean, Absent, Present, Variant}
+use Rattle.postcard_wire.specs.Tree.{Tree, Boolean, Char, Absent, Present, Variant}
 use Rattle.postcard_wire.specs.Reading.{IsDelimited, ReadsWellFormed}
 use Rattle.postcard_wire.proofs.Delimited.{none_delimited}
 use Rattle.postcard_de.specs.Same.{HasOne}
@@ -92,3 +92,10 @@ pub result_well_formed : (R E : Tree → Type 0) → ReadsWellFormed R → Reads
 result_well_formed R E a b zero = a
 result_well_formed R E a b (suc zero) = b
 result_well_formed R E a b (suc (suc i)) = λ t r. absurd r
+
+char_same : (a b : ℕ) → Char a ≡ Char b → a ≡ b
+char_same a b e = cc
+
+-- A character.
+pub char_one : HasOne (λ t v. t ≡ Char v) (λ v w. v ≡ w)
+char_one t v w h k = char_same v w (sym h ∙ k)

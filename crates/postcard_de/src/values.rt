@@ -1,6 +1,7 @@
 //! The types that are read, a room for each kind.
 
 pub mod arrays;
+pub mod chars;
 pub mod lists;
 pub mod maps;
 pub mod nonzero;

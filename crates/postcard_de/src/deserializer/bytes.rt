@@ -1,7 +1,6 @@
 //! The calls for nodes that hold bytes: a character, bytes that the source holds, copies of them.
 
 ghost use Rattle.std.specs.Prelude.{◌≡◌, ℕ, ◌<◌, ◌^◌, List, length, IfErr, slice_index, ⊤};
-ghost use Rattle.arrayvec.specs.ArrayString.{ArrayString};
 ghost use Rattle.postcard_wire.specs.Tree.{Byte, Char, Text};
 ghost use Rattle.postcard_wire.specs.Spelling.{Spells};
 ghost use Rattle.postcard_wire.specs.Reading.{IsByte, IsChar, IsSeq};
@@ -98,7 +97,7 @@ impl<'de, F: Flavor> Deserializer<'de, F> {
         let bytes = self.flavor.try_take_n_temp(count)?;
         match str::from_utf8(bytes) {
             Ok(text) => match ArrayString::from(text) {
-                Ok(copy) => Ok(copy),
+                Ok(short) => Ok(short),
                 Err(_) => Err(Error::SerdeDeCustom),
             },
             Err(_) => Err(Error::DeserializeBadUtf8),

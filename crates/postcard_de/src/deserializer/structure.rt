@@ -76,7 +76,7 @@ impl<'de, F: Flavor> Deserializer<'de, F> {
         ensures parts { result ≡ Ok len }
         ensures unchanged { self.new ≡ self.old }
     {
-        Ok(SeqAccess::new(len))
+        self.deserialize_tuple(len)
     }
 
     /// Begins a struct with these fields: nothing is read yet, and as many elements are left. The names aren't used.

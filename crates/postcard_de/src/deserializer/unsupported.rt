@@ -28,7 +28,7 @@ impl<'de, F: Flavor> Deserializer<'de, F> {
         ensures refused { result ≡ Err Error.WontImplement }
         ensures unchanged { self.new ≡ self.old }
     {
-        Err(Error::WontImplement)
+        self.deserialize_any()
     }
 
     /// Would pass over a value of any type.
@@ -40,6 +40,6 @@ impl<'de, F: Flavor> Deserializer<'de, F> {
         ensures refused { result ≡ Err Error.WontImplement }
         ensures unchanged { self.new ≡ self.old }
     {
-        Err(Error::WontImplement)
+        self.deserialize_identifier()
     }
 }
