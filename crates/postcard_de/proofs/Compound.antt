@@ -1,8 +1,7 @@
 -- Reading a thing and then another behind it, which may depend on the value of the first, as one thing made of both.
-use Rattle.std.proofs.Common.{◌≡◌, ◌≢◌, ℕ, List, ◌++◌, Option, Ok, Err, Result, refl, sym, ◌∙◌, ap, subst}
+use Rattle.std.proofs.Common.{◌≡◌, ℕ, List, ◌++◌, Option, Ok, sym, subst}
 use Rattle.postcard_wire.specs.declared.error.Error.{Error}
-use Rattle.postcard_wire.specs.declared.error.Error.TheVariants.{OutOfMemory, DeserializeBadEncoding}
-use Rattle.postcard_de_flavors.specs.Source.{CanTake, Takes, Laws}
+use Rattle.postcard_de_flavors.specs.Source.{Takes, Laws}
 use Rattle.postcard_de.specs.Reads.{Reads}
 use Rattle.postcard_de.proofs.Taking.{both_taken, can_first, can_second}
 use Rattle.postcard_de.proofs.Leaves.{refusal}
@@ -26,7 +25,7 @@ module _ {F : Type 0} {left : F → Option (List ℕ)} {able : F → ℕ → Typ
 
   -- The first was read, and the second refuses.
   pub second_refused : {W : Type 0} {J : Y → W → Type 0} {G' : Type 0} {old mid new : F} {v : V} {e : Error} → (G' → H) → Reads P R I G left able may_leave old (Ok v) mid → Reads Q (S v) J G' left able may_leave mid (refusal W e) new →
-    Reads P' R' K H left able may_leave old (refusal A e) new
+      Reads P' R' K H left able may_leave old (refusal A e) new
   second_refused {old = old} {mid = mid} {new = new} {v = v} grow s t = record {
     gives = tt;
     accepts = λ z r a b c.
@@ -41,20 +40,20 @@ module _ {F : Type 0} {left : F → Option (List ℕ)} {able : F → ℕ → Typ
 
   -- Both were read.
   pub both_read : {W : Type 0} {J : Y → W → Type 0} {G' : Type 0} {old mid new : F} {v : V} {w : W} {a : A} → ((x : X) (y : Y) → I x v → J y w → K (make x y) a) →
-    Reads P R I G left able may_leave old (Ok v) mid → Reads Q (S v) J G' left able may_leave mid (Ok w) new → Reads P' R' K H left able may_leave old (Ok a) new
+      Reads P R I G left able may_leave old (Ok v) mid → Reads Q (S v) J G' left able may_leave mid (Ok w) new → Reads P' R' K H left able may_leave old (Ok a) new
   both_read {old = old} {mid = mid} {new = new} {v = v} {a = a} has s t =
-    let g = s.gives in
-    let k = t.gives in
-    let m = both.joined g.thing k.thing v g.front k.front g.is_read g.has k.is_read g.is_spelled k.is_spelled in
-    record {
-      gives = record { thing = make g.thing k.thing; front = g.front ++ k.front; is_read = m.0; is_spelled = m.1; has = has g.thing k.thing g.has k.has; taken = both_taken g.taken k.taken };
-      accepts = λ z r b d c.
-          let (x, y, p, q, j, rx, px, qy, e, then) = both.parted z r b d in
-          let c0 = rw e at c in
-          let one = s.accepts x p rx px (can_first laws p q c0) in
-          let two = t.accepts y q (then v one.0) qy (can_second p q c0 one.1) in
-          (subst (λ (o : Z). K o a) j (has x y one.0 two.0), subst (λ (l : List ℕ). Takes left able old l new) (sym e) (both_taken one.1 two.1));
-      leaves = laws.joins old mid new s.leaves t.leaves;
-      grown = λ h. cc;
-      never = λ h. cc;
-    }
+      let g = s.gives in
+      let k = t.gives in
+      let m = both.joined g.thing k.thing v g.front k.front g.is_read g.has k.is_read g.is_spelled k.is_spelled in
+      record {
+        gives = record { thing = make g.thing k.thing; front = g.front ++ k.front; is_read = m.0; is_spelled = m.1; has = has g.thing k.thing g.has k.has; taken = both_taken g.taken k.taken };
+        accepts = λ z r b d c.
+            let (x, y, p, q, j, rx, px, qy, e, then) = both.parted z r b d in
+            let c0 = rw e at c in
+            let one = s.accepts x p rx px (can_first laws p q c0) in
+            let two = t.accepts y q (then v one.0) qy (can_second p q c0 one.1) in
+            (subst (λ (o : Z). K o a) j (has x y one.0 two.0), subst (λ (l : List ℕ). Takes left able old l new) (sym e) (both_taken one.1 two.1));
+        leaves = laws.joins old mid new s.leaves t.leaves;
+        grown = λ h. cc;
+        never = λ h. cc;
+      }

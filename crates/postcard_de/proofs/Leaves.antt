@@ -1,10 +1,10 @@
 -- Reading one node: what is found in front, and that nothing is where a call refuses.
-use Rattle.std.proofs.Common.{◌≡◌, ◌≢◌, ℕ, ◌+◌, ◌≤◌, inl, inr, List, [], ◌∷◌, ◌++◌, length, Option, Some, None, Ok, Err, Result, IsErrAnd, refl, sym, ◌∙◌, ap, subst, arith}
+use Rattle.std.proofs.Common.{◌≡◌, ℕ, ◌+◌, ◌≤◌, inl, inr, List, ◌++◌, length, Option, Ok, Err, Result, IsErrAnd, refl, ap, subst}
 use Rattle.postcard_wire.specs.declared.error.Error.{Error}
-use Rattle.postcard_wire.specs.declared.error.Error.TheVariants.{OutOfMemory, DeserializeUnexpectedEnd, DeserializeBadEncoding}
+use Rattle.postcard_wire.specs.declared.error.Error.TheVariants.{OutOfMemory, DeserializeBadEncoding}
 use Rattle.postcard_de_flavors.specs.Source.{CanTake, Takes, Laws}
 use Rattle.postcard_de.specs.Reads.{Reads}
-use Rattle.postcard_de.specs.Refuses.{Ends, IsBad, Refuses}
+use Rattle.postcard_de.specs.Refuses.{Refuses}
 use Rattle.postcard_de.proofs.Taking.{faces}
 
 -- A refusal as a result.
@@ -31,7 +31,7 @@ pub record Excludes {X : Type 0} (grows : Type 0) (wants : List ℕ → ℕ → 
 module _ {S : Type 0} {left : S → Option (List ℕ)} {able : S → ℕ → Type 0} {may_leave : S → S → Type 0} where
   -- A front that spells something that is read was taken.
   pub found : {X V : Type 0} {spelled : X → List ℕ → Type 0} {reads : X → Type 0} {value : X → V → Type 0} {grows : Type 0} {old new : S} →
-    Delimits spelled reads → (x : X) (p : List ℕ) (v : V) → reads x → spelled x p → value x v → Takes left able old p new → may_leave old new → Reads spelled reads value grows left able may_leave old (Ok v) new
+      Delimits spelled reads → (x : X) (p : List ℕ) (v : V) → reads x → spelled x p → value x v → Takes left able old p new → may_leave old new → Reads spelled reads value grows left able may_leave old (Ok v) new
   found {value = value} {old = old} {new = new} law x p v r s h t l = record {
     gives = record { thing = x; front = p; is_read = r; is_spelled = s; has = h; taken = t };
     accepts = λ y q a b c.
@@ -45,18 +45,18 @@ module _ {S : Type 0} {left : S → Option (List ℕ)} {able : S → ℕ → Typ
 
   -- A front that can be taken and read isn't where a call refuses, unless memory ran out.
   no_front : {X : Type 0} {spelled : X → List ℕ → Type 0} {reads : X → Type 0} {grows : Type 0} {wants : List ℕ → ℕ → Type 0} {bad : List ℕ → Error → Type 0} {old new : S} {e : Error} →
-    Laws left able may_leave → Excludes grows wants bad spelled reads → Refuses wants bad left able old e new → (x : X) (q : List ℕ) → reads x → spelled x q → CanTake left able old q → e ≡ OutOfMemory
+      Laws left able may_leave → Excludes grows wants bad spelled reads → Refuses wants bad left able old e new → (x : X) (q : List ℕ) → reads x → spelled x q → CanTake left able old q → e ≡ OutOfMemory
   no_front {old = old} laws excludes (inl (is_end, ends)) x q r s c =
-    let f = faces ends.taken c in
-    let h = excludes.within x ends.front q ends.count f.0 f.1 ends.wanted r s f.2 in
-    absurd (ends.lacks (ends.taken.keeps ends.count (laws.fewer old (length ends.front + ends.count) (length q) h c.enough)))
+      let f = faces ends.taken c in
+      let h = excludes.within x ends.front q ends.count f.0 f.1 ends.wanted r s f.2 in
+      absurd (ends.lacks (ends.taken.keeps ends.count (laws.fewer old (length ends.front + ends.count) (length q) h c.enough)))
   no_front {e = e} laws excludes (inr bad) x q r s c =
-    let f = faces bad.taken c in
-    excludes.none x bad.front q e f.0 f.1 bad.why r s f.2
+      let f = faces bad.taken c in
+      excludes.none x bad.front q e f.0 f.1 bad.why r s f.2
 
   -- A call that refuses for such a reason.
   pub refused : {X V : Type 0} {spelled : X → List ℕ → Type 0} {reads : X → Type 0} {value : X → V → Type 0} {grows : Type 0} {wants : List ℕ → ℕ → Type 0} {bad : List ℕ → Error → Type 0} {old new : S} {e : Error} →
-    Laws left able may_leave → Excludes grows wants bad spelled reads → Refuses wants bad left able old e new → may_leave old new → Reads spelled reads value grows left able may_leave old (refusal V e) new
+      Laws left able may_leave → Excludes grows wants bad spelled reads → Refuses wants bad left able old e new → may_leave old new → Reads spelled reads value grows left able may_leave old (refusal V e) new
   refused {grows = grows} {wants = wants} {bad = bad} {old = old} {new = new} {e = e} laws excludes why l = record {
     gives = tt;
     accepts = no_front laws excludes why;

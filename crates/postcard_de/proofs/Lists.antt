@@ -1,11 +1,11 @@
 -- Reading a list element by element, behind its count.
-use Rattle.std.proofs.Common.{◌≡◌, ℕ, zero, suc, ◌+◌, ◌-◌, ◌<◌, ◌^◌, List, [], ◌∷◌, ◌++◌, length, Option, Some, None, Ok, Err, Result, refl, sym, ◌∙◌, ap, subst, arith, append_assoc, append-nil}
+use Rattle.std.proofs.Common.{◌≡◌, ℕ, zero, suc, ◌-◌, ◌<◌, List, [], ◌∷◌, ◌++◌, Option, Some, None, Ok, Err, Result, refl, sym, ◌∙◌, ap, subst, arith, append_assoc, append-nil}
 use Rattle.postcard_wire.specs.declared.error.Error.{Error}
-use Rattle.postcard_wire.specs.declared.error.Error.TheVariants.{OutOfMemory, DeserializeBadEncoding}
+use Rattle.postcard_wire.specs.declared.error.Error.TheVariants.{OutOfMemory}
 use Rattle.postcard_wire.specs.Number.{SpellsNum}
 use Rattle.postcard_wire.specs.Tree.{Tree, Trees, Seq, NoTrees, Then, count}
 use Rattle.postcard_wire.specs.Spelling.{Spells, SpellsAll}
-use Rattle.postcard_wire.specs.Reading.{Each, IsSeq}
+use Rattle.postcard_wire.specs.Reading.{IsSeq}
 use Rattle.postcard_de_flavors.specs.Source.{CanTake, Takes, Laws}
 use Rattle.postcard_de.specs.Reads.{Reads}
 use Rattle.postcard_de.specs.Values.{Same, EachIs, ListIs, SomeIs, AreRead}
@@ -59,7 +59,7 @@ module _ {S V : Type 0} {left : S → Option (List ℕ)} {able : S → ℕ → T
 
   -- One more was read.
   pub goes_on : {G : Type 0} {start now mid : S} {all rest : ℕ} {items : List V} {v : V} → (G → H) → Going left able may_leave R I H start all items now (suc rest) →
-    Reads Spells R I G left able may_leave now (Ok v) mid → Going left able may_leave R I H start all (items ++ v ∷ []) mid rest
+      Reads Spells R I G left able may_leave now (Ok v) mid → Going left able may_leave R I H start all (items ++ v ∷ []) mid rest
   goes_on {start = start} {mid = mid} {all = all} {rest = rest} {items = items} {v = v} grow so h = record { ends = ends }
     where
       ends : (r : Result (List V) Error) (new : S) → Reads SpellsAll (AreRead rest R) (EachIs I) H left able may_leave mid r new → Reads SpellsAll (AreRead all R) (EachIs I) H left able may_leave start (behind (items ++ v ∷ []) r) new
@@ -68,17 +68,17 @@ module _ {S V : Type 0} {left : S → Option (List ℕ)} {able : S → ℕ → T
 
   -- The next one refuses.
   pub going_stops : {G W : Type 0} {I' : Tree → W → Type 0} {start now new : S} {all rest : ℕ} {items : List V} {e : Error} → (G → H) → Going left able may_leave R I H start all items now (suc rest) →
-    Reads Spells R I' G left able may_leave now (refusal W e) new → Reads SpellsAll (AreRead all R) (EachIs I) H left able may_leave start (refusal (List V) e) new
+      Reads Spells R I' G left able may_leave now (refusal W e) new → Reads SpellsAll (AreRead all R) (EachIs I) H left able may_leave start (refusal (List V) e) new
   going_stops {I' = I'} {new = new} {rest = rest} {e = e} grow so h = so.ends (Err e) new (first_refused laws (one_and_rest R I' rest) grow h)
 
   -- Memory ran out.
   pub going_full : {start now new : S} {all rest : ℕ} {items : List V} → H → Going left able may_leave R I H start all items now (suc rest) → may_leave now new →
-    Reads SpellsAll (AreRead all R) (EachIs I) H left able may_leave start (refusal (List V) OutOfMemory) new
+      Reads SpellsAll (AreRead all R) (EachIs I) H left able may_leave start (refusal (List V) OutOfMemory) new
   going_full {new = new} h so l = so.ends (Err OutOfMemory) new (out_of_memory l h)
 
   -- None is left.
   pub going_done : {start now : S} {all : ℕ} {items : List V} → Going left able may_leave R I H start all items now 0 →
-    Reads SpellsAll (AreRead all R) (EachIs I) H left able may_leave start (Ok items) now
+      Reads SpellsAll (AreRead all R) (EachIs I) H left able may_leave start (Ok items) now
   going_done {now = now} so = rw append-nil at (so.ends (Ok []) now (record {
     gives = record { thing = NoTrees; front = []; is_read = (refl, tt); is_spelled = refl; has = tt; taken = nothing_taken now };
     accepts = accepts;
@@ -93,14 +93,14 @@ module _ {S V : Type 0} {left : S → Option (List ℕ)} {able : S → ℕ → T
 
   -- The count and then the elements were read.
   pub list_read : {A : Type 0} (see : A → List V) {old mid new : S} {n : ℕ} (a : A) →
-    Reads (SpellsNum 64) (Below 64) Same ⊥ left able may_leave old (Ok n) mid → Reads SpellsAll (AreRead n R) (EachIs I) H left able may_leave mid (Ok (see a)) new →
-    Reads Spells (IsSeq R) (λ t x. ListIs I t (see x)) H left able may_leave old (Ok a) new
+      Reads (SpellsNum 64) (Below 64) Same ⊥ left able may_leave old (Ok n) mid → Reads SpellsAll (AreRead n R) (EachIs I) H left able may_leave mid (Ok (see a)) new →
+      Reads Spells (IsSeq R) (λ t x. ListIs I t (see x)) H left able may_leave old (Ok a) new
   list_read see a h k = both_read laws (count_and_parts R) (λ n ts i j. (ts, refl, j)) h k
 
   -- The count was read, and then the elements refuse.
   pub list_refused : {A : Type 0} (see : A → List V) {old mid new : S} {n : ℕ} {e : Error} →
-    Reads (SpellsNum 64) (Below 64) Same ⊥ left able may_leave old (Ok n) mid → Reads SpellsAll (AreRead n R) (EachIs I) H left able may_leave mid (refusal (List V) e) new →
-    Reads Spells (IsSeq R) (λ t x. ListIs I t (see x)) H left able may_leave old (refusal A e) new
+      Reads (SpellsNum 64) (Below 64) Same ⊥ left able may_leave old (Ok n) mid → Reads SpellsAll (AreRead n R) (EachIs I) H left able may_leave mid (refusal (List V) e) new →
+      Reads Spells (IsSeq R) (λ t x. ListIs I t (see x)) H left able may_leave old (refusal A e) new
   list_refused see h k = second_refused laws (count_and_parts R) (λ g. g) h k
 
 module _ {S : Type 0} {left : S → Option (List ℕ)} {able : S → ℕ → Type 0} {may_leave : S → S → Type 0} (laws : Laws left able may_leave) {R : Tree → Type 0} {H : Type 0} where

@@ -1,17 +1,17 @@
 -- Reading a number digit by digit, and seeing it as a tree.
-use Rattle.std.proofs.Common.{◌≡◌, ℕ, suc, ◌+◌, ◌<◌, ◌≤◌, ◌^◌, inl, inr, List, [], ◌∷◌, ◌++◌, length, Option, Some, None, Ok, Err, Result, ℤ, refl, sym, ◌∙◌, ap, subst, arith, length-append}
+use Rattle.std.proofs.Common.{◌≡◌, ℕ, ◌<◌, ◌^◌, inl, inr, List, [], ◌∷◌, ◌++◌, Option, Ok, ℤ, refl, sym, ◌∙◌, subst, arith}
 use Rattle.postcard_wire.specs.declared.error.Error.{Error}
 use Rattle.postcard_wire.specs.declared.error.Error.TheVariants.{OutOfMemory, DeserializeUnexpectedEnd, DeserializeBadEncoding, DeserializeBadVarint}
 use Rattle.postcard_wire.specs.declared.digits.Digits.{Digits}
 use Rattle.postcard_wire.specs.Digits.{HasRead}
-use Rattle.postcard_wire.specs.Number.{max_digits, SpellsNum, SpellsNone, zigzag}
+use Rattle.postcard_wire.specs.Number.{SpellsNum, zigzag}
 use Rattle.postcard_wire.specs.Tree.{Tree, Num, Int, IsWidth}
 use Rattle.postcard_wire.specs.Spelling.{Spells}
 use Rattle.postcard_wire.specs.Reading.{IsNum, IsInt}
 use Rattle.postcard_wire.proofs.Delimited.{num_front, num_delimited, int_delimited}
 use Rattle.postcard_wire.proofs.Refused.{longer, none_spelled}
 use Rattle.postcard_wire.proofs.Ranged.{zig_below, in_range}
-use Rattle.postcard_de_flavors.specs.Source.{CanTake, Takes, Laws}
+use Rattle.postcard_de_flavors.specs.Source.{Takes, Laws}
 use Rattle.postcard_de.specs.Reads.{Reads}
 use Rattle.postcard_de.specs.Refuses.{Refuses, WantsDigit, BadNumber}
 use Rattle.postcard_de.specs.Values.{Same}
@@ -64,14 +64,14 @@ module _ {S : Type 0} {left : S → Option (List ℕ)} {able : S → ℕ → Typ
 
   -- One more was taken.
   pub one_more : {w : ℕ} {digits next : Digits} {old now new : S} {b : ℕ} → (so : Within w left able may_leave old digits now) → Takes left able now (b ∷ []) new → may_leave now new → HasRead w (so.front ++ b ∷ []) next →
-    Within w left able may_leave old next new
+      Within w left able may_leave old next new
   one_more {old = old} {now = now} {new = new} {b = b} so t l h = record { front = so.front ++ b ∷ []; read = h; taken = both_taken so.taken t; leaves = laws.joins old now new so.leaves l }
 
   -- The last was taken.
   pub number_read : {w : ℕ} {digits : Digits} {old now new : S} {b n : ℕ} → (so : Within w left able may_leave old digits now) → Takes left able now (b ∷ []) new → may_leave now new → SpellsNum w n (so.front ++ b ∷ []) → n < 2 ^ w →
-    Reads (SpellsNum w) (Below w) Same ⊥ left able may_leave old (Ok n) new
+      Reads (SpellsNum w) (Below w) Same ⊥ left able may_leave old (Ok n) new
   number_read {w} {old = old} {now = now} {new = new} {b = b} {n = n} so t l s low =
-    found (number_delimited w) n (so.front ++ b ∷ []) n low s refl (both_taken so.taken t) (laws.joins old now new so.leaves l)
+      found (number_delimited w) n (so.front ++ b ∷ []) n low s refl (both_taken so.taken t) (laws.joins old now new so.leaves l)
 
   -- The source has no further one.
   pub number_ends : {w : ℕ} {digits : Digits} {old now new : S} {e : Error} → Within w left able may_leave old digits now → (able now 1 → ⊥) → e ≡ DeserializeUnexpectedEnd → Refuses (WantsDigit w) (BadNumber w) left able old e new
@@ -98,11 +98,11 @@ module _ {S : Type 0} {left : S → Option (List ℕ)} {able : S → ℕ → Typ
   -- A number that was read, as a tree and as a signed one.
   pub num_read : {w n : ℕ} {old new : S} → Reads (SpellsNum w) (Below w) Same ⊥ left able may_leave old (Ok n) new → Reads Spells (IsNum w) (λ t v. t ≡ Num w v) ⊥ left able may_leave old (Ok n) new
   num_read {w} {n} r =
-    let g = r.gives in
-    found (num_delimited w) (Num w n) g.front n (n, refl, number_below r) (subst (λ (m : ℕ). SpellsNum w m g.front) g.has g.is_spelled) refl g.taken r.leaves
+      let g = r.gives in
+      found (num_delimited w) (Num w n) g.front n (n, refl, number_below r) (subst (λ (m : ℕ). SpellsNum w m g.front) g.has g.is_spelled) refl g.taken r.leaves
 
   pub int_read : {w n : ℕ} {old new : S} (z : ℤ) → IsWidth w → zigzag z ≡ n → Reads (SpellsNum w) (Below w) Same ⊥ left able may_leave old (Ok n) new → Reads Spells (IsInt w) (λ t v. t ≡ Int w v) ⊥ left able may_leave old (Ok z) new
   int_read {w} {n} z wide e r =
-    let g = r.gives in
-    let low : zigzag z < 2 ^ w = subst (Below w) (sym e) (number_below r) in
-    found (int_delimited w) (Int w z) g.front z (z, refl, in_range w z wide low) (subst (λ (m : ℕ). SpellsNum w m g.front) (g.has ∙ sym e) g.is_spelled) refl g.taken r.leaves
+      let g = r.gives in
+      let low : zigzag z < 2 ^ w = subst (Below w) (sym e) (number_below r) in
+      found (int_delimited w) (Int w z) g.front z (z, refl, in_range w z wide low) (subst (λ (m : ℕ). SpellsNum w m g.front) (g.has ∙ sym e) g.is_spelled) refl g.taken r.leaves

@@ -1,5 +1,5 @@
 -- Reading a text: a length, and as many bytes of UTF-8.
-use Rattle.std.proofs.Common.{◌≡◌, ℕ, ◌+◌, ◌<◌, ◌≤◌, ◌^◌, inl, inr, List, [], ◌∷◌, ◌++◌, length, Option, Ok, Err, Result, refl, sym, ◌∙◌, ap, subst, arith, append_assoc, length-append}
+use Rattle.std.proofs.Common.{◌≡◌, ℕ, ◌+◌, ◌<◌, ◌≤◌, ◌^◌, inl, inr, List, ◌++◌, length, Option, Ok, refl, sym, ◌∙◌, ap, subst, arith, append_assoc, length-append}
 use Rattle.std.specs.Prelude.{IsUtf8}
 use Rattle.postcard_wire.specs.declared.error.Error.{Error}
 use Rattle.postcard_wire.specs.declared.error.Error.TheVariants.{OutOfMemory, DeserializeUnexpectedEnd, DeserializeBadEncoding, DeserializeBadVarint, DeserializeBadUtf8}
@@ -12,7 +12,7 @@ use Rattle.postcard_wire.proofs.Refused.{longer, none_spelled}
 use Rattle.std.proofs.lemmas.List.{append_cancel_left}
 use Rattle.postcard_de_flavors.specs.Source.{Takes, Laws}
 use Rattle.postcard_de.specs.Reads.{Reads}
-use Rattle.postcard_de.specs.Refuses.{Ends, IsBad, Refuses, WantsDigit, BadNumber, WantsText, BadText}
+use Rattle.postcard_de.specs.Refuses.{Refuses, WantsDigit, BadNumber, WantsText, BadText}
 use Rattle.postcard_de.specs.Values.{Same}
 use Rattle.postcard_de.proofs.Taking.{both_taken}
 use Rattle.postcard_de.proofs.Leaves.{Excludes, found, refused, refusal}

@@ -2,7 +2,7 @@
 use Rattle.std.specs.Prelude.{◌≡◌, ℕ, List, ℤ}
 use Rattle.std.specs.Int.{w8, cast_unsigned}
 use Rattle.std.proofs.Common.{sym, ◌∙◌}
-use Rattle.postcard_wire.specs.Tree.{Tree, Byte, Num, Int, Text}
+use Rattle.postcard_wire.specs.Tree.{Byte, Num, Int, Text}
 use Rattle.postcard_de.specs.Same.{HasOne}
 
 pub byte_same : (a b : ℕ) → Byte a ≡ Byte b → a ≡ b

@@ -1,5 +1,5 @@
 -- What a reading call does, told of whatever kind of thing is spelled: a tree, trees in a row, or a number alone.
-use Rattle.std.specs.Prelude.{◌≡◌, ◌≢◌, ℕ, List, Option, Result, Ok, Err, IfOk, MatchResult}
+use Rattle.std.specs.Prelude.{◌≡◌, ◌≢◌, ℕ, List, Option, Result, Err, IfOk, MatchResult}
 use Rattle.postcard_wire.specs.declared.error.Error.{Error}
 use Rattle.postcard_wire.specs.declared.error.Error.TheVariants.{OutOfMemory, DeserializeBadEncoding}
 use Rattle.postcard_de_flavors.specs.Source.{CanTake, Takes}

@@ -1,6 +1,6 @@
 -- When two values look alike to contracts, and the law that a tree has one value so seen.
-use Rattle.std.specs.Prelude.{◌≡◌, ℕ, List, [], ◌∷◌}
-use Rattle.std.proofs.Common.{sym, ◌∙◌, ap, subst}
+use Rattle.std.specs.Prelude.{◌≡◌, List, [], ◌∷◌}
+use Rattle.std.proofs.Common.{sym, ◌∙◌, subst}
 use Rattle.postcard_wire.specs.Tree.{Tree, Trees, Seq, NoTrees, Then}
 use Rattle.postcard_de.specs.Values.{EachIs, ListIs}
 

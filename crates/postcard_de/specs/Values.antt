@@ -1,5 +1,5 @@
 -- The values of trees, for types that read them: relations between a tree and what a contract sees of a value.
-use Rattle.std.specs.Prelude.{◌≡◌, ℕ, ◌<◌, List, [], ◌∷◌, Option, None, Some}
+use Rattle.std.specs.Prelude.{◌≡◌, ℕ, List, [], ◌∷◌, Option, None, Some}
 use Rattle.postcard_wire.specs.Tree.{Tree, Trees, Seq, NoTrees, Then, count}
 use Rattle.postcard_wire.specs.Reading.{Each}
 

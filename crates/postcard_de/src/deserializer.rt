@@ -86,8 +86,8 @@ impl<'de, F: Flavor> Deserializer<'de, F> {
         ensures reads { Reads Spells IsByte (λ t v. t ≡ Byte (cast_unsigned w8 v)) ⊥ F.left F.able F.may_leave (source_of self.old) result (source_of self.new) }
         ensures refused { IfErr result (λ e. Refuses WantsByte NoneBad F.left F.able (source_of self.old) e (source_of self.new)) }
     {
-        let byte = self.flavor.pop()?;
-        Ok(byte.cast_signed())
+        let bits = self.flavor.pop()?;
+        Ok(bits.cast_signed())
     }
 
     /// Reads a number of 16 bits: a varint of at most 3 bytes.
@@ -151,8 +151,8 @@ impl<'de, F: Flavor> Deserializer<'de, F> {
         ensures reads { Reads Spells (IsInt 16) (λ t v. t ≡ Int 16 v) ⊥ F.left F.able F.may_leave (source_of self.old) result (source_of self.new) }
         ensures refused { IfErr result (λ e. Refuses (WantsDigit 16) (BadNumber 16) F.left F.able (source_of self.old) e (source_of self.new)) }
     {
-        let n = self.number(16)?;
-        Ok(zigzag::de_zig_zag_i16(n as u16))
+        let folded = self.number(16)?;
+        Ok(zigzag::de_zig_zag_i16(folded as u16))
     }
 
     /// Reads a signed number of 32 bits: a zigzag number, a varint of at most 5 bytes.
@@ -164,8 +164,8 @@ impl<'de, F: Flavor> Deserializer<'de, F> {
         ensures reads { Reads Spells (IsInt 32) (λ t v. t ≡ Int 32 v) ⊥ F.left F.able F.may_leave (source_of self.old) result (source_of self.new) }
         ensures refused { IfErr result (λ e. Refuses (WantsDigit 32) (BadNumber 32) F.left F.able (source_of self.old) e (source_of self.new)) }
     {
-        let n = self.number(32)?;
-        Ok(zigzag::de_zig_zag_i32(n as u32))
+        let folded = self.number(32)?;
+        Ok(zigzag::de_zig_zag_i32(folded as u32))
     }
 
     /// Reads a signed number of 64 bits: a zigzag number, a varint of at most 10 bytes.
@@ -177,8 +177,8 @@ impl<'de, F: Flavor> Deserializer<'de, F> {
         ensures reads { Reads Spells (IsInt 64) (λ t v. t ≡ Int 64 v) ⊥ F.left F.able F.may_leave (source_of self.old) result (source_of self.new) }
         ensures refused { IfErr result (λ e. Refuses (WantsDigit 64) (BadNumber 64) F.left F.able (source_of self.old) e (source_of self.new)) }
     {
-        let n = self.number(64)?;
-        Ok(zigzag::de_zig_zag_i64(n as u64))
+        let folded = self.number(64)?;
+        Ok(zigzag::de_zig_zag_i64(folded as u64))
     }
 
     /// Reads a signed number of 128 bits: a zigzag number, a varint of at most 19 bytes.
@@ -190,8 +190,8 @@ impl<'de, F: Flavor> Deserializer<'de, F> {
         ensures reads { Reads Spells (IsInt 128) (λ t v. t ≡ Int 128 v) ⊥ F.left F.able F.may_leave (source_of self.old) result (source_of self.new) }
         ensures refused { IfErr result (λ e. Refuses (WantsDigit 128) (BadNumber 128) F.left F.able (source_of self.old) e (source_of self.new)) }
     {
-        let n = self.number(128)?;
-        Ok(zigzag::de_zig_zag_i128(n))
+        let folded = self.number(128)?;
+        Ok(zigzag::de_zig_zag_i128(folded))
     }
 
     /// Reads a text that the source holds.
@@ -222,8 +222,8 @@ impl<'de, F: Flavor> Deserializer<'de, F> {
         ensures refused { IfErr result (λ e. Refuses WantsText (BadText ⊤) F.left F.able (source_of self.old) e (source_of self.new)) }
     {
         let count = self.count()?;
-        let bytes = self.flavor.try_take_n_temp(count)?;
-        match str::from_utf8(bytes) {
+        let lent = self.flavor.try_take_n_temp(count)?;
+        match str::from_utf8(lent) {
             Ok(text) => match String::from_str(alloc, text) {
                 Ok(copy) => Ok(copy),
                 Err(_) => Err(Error::OutOfMemory),
@@ -265,7 +265,7 @@ impl<'de, F: Flavor> Deserializer<'de, F> {
         ensures reads { Reads (SpellsNum 64) (λ n. n < 2 ^ 64) Same ⊥ F.left F.able F.may_leave (source_of self.old) result (source_of self.new) }
         ensures refused { IfErr result (λ e. Refuses (WantsDigit 64) (BadNumber 64) F.left F.able (source_of self.old) e (source_of self.new)) }
     {
-        let n = self.number(64)?;
-        Ok(n as usize)
+        let count = self.number(64)?;
+        Ok(count as usize)
     }
 }

@@ -14,6 +14,10 @@ pub mod deserialize;
 pub mod deserializer;
 pub mod laws;
 pub mod map_access;
+#[cfg(test)]
+mod tests;
+#[cfg(test)]
+mod types_tests;
 pub mod values;
 
 pub use access::SeqAccess;

@@ -1,5 +1,5 @@
 -- Cutting bytes off the front of a list.
-use Rattle.std.proofs.Common.{◌≡◌, ℕ, ◌+◌, ◌-◌, ◌≤◌, List, ◌∷◌, [], ◌++◌, length, take, drop, Some, sym, ap, ◌∙◌, arith, length-append}
+use Rattle.std.proofs.Common.{◌≡◌, ℕ, ◌+◌, ◌≤◌, List, ◌++◌, length, take, drop, Some, sym, ap, ◌∙◌, arith, length-append}
 use Rattle.std.proofs.lemmas.List.{take-append-drop, drop-drop}
 use Rattle.postcard_de_flavors.specs.Source.{Takes, IsEndOf}
 
@@ -14,7 +14,3 @@ is_end all s from n e = (take n (drop from all), cut all s from n e)
 -- A front of the bytes left was taken.
 pub taken : (s p t : List ℕ) → s ≡ p ++ t → Takes (λ (l : List ℕ). Some l) (λ l n. n ≤ length l) s p t
 taken s p t e = record { drops = e; keeps = λ n h. omega (arith, ap (λ (l : List ℕ). length l) e, length-append p t) }
-
--- The range of a slice from a place on, n bytes long.
-pub range : (all : List ℕ) (from n : ℕ) → take (from + n - from) (drop from all) ≡ take n (drop from all)
-range all from n = let e : from + n - from ≡ n = omega arith in ap (λ (k : ℕ). take k (drop from all)) e

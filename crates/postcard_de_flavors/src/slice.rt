@@ -1,7 +1,9 @@
 //! The source over a slice.
 
 ghost use Rattle.std.specs.Prelude.{◌≡◌, ◌↔◌, ℕ, ◌≤◌, ◌-◌, List, [], ◌∷◌, ◌++◌, length, Some, IfOk, IfErr, OnErr, IsOk, MatchResult};
-ghost use Rattle.postcard_de_flavors.specs.Source.{Takes, IsEndOf};
+ghost use Rattle.std.specs.Borrow.{sem};
+ghost use Rattle.std.specs.Io.BufRead.{Rests};
+ghost use Rattle.postcard_de_flavors.specs.Source.{Takes, LeavesRest, IsEndOf};
 ghost use Rattle.postcard_de_flavors.specs.Kept.{slice_laws};
 
 use crate::flavor::Flavor;
@@ -72,7 +74,11 @@ impl<'de> Slice<'de> {
 }
 
 impl<'de> Flavor for Slice<'de> {
+    ghost use Rattle.postcard_de_flavors.specs.contracts.slice.Slice.{the_row};
+    ghost use mir.Syntax.{named};
+
     type Remainder = &'de [u8];
+
     type Source = &'de [u8];
 
     ghost left = { λ s. Some s };
@@ -145,16 +151,22 @@ impl<'de> Flavor for Slice<'de> {
     ///
     /// # Errors
     ///
-    /// `DeserializeUnexpectedEnd` exactly where fewer are left.
-    fn try_take_n_temp(&mut self, ct: usize) -> Result<&[u8]> {
-        if self.len - self.position < ct {
+    /// `DeserializeUnexpectedEnd` exactly where fewer are left; nothing is changed then.
+    fn try_take_n_temp(&mut self, ct: usize) -> Result<&[u8]>
+        ensures length { IfOk result (λ front. length front.now ≡ ct) }
+        ensures* gives { sem 𝓛 (Rests (the_row (record { mir = named 1; lft = [] })) self.entry (LeavesRest self.old result)) }
+        ensures refuses { IfErr result (λ e. e ≡ Error.DeserializeUnexpectedEnd) }
+        ensures exact { IsOk result ↔ (ct ≤ length self.old) }
+    {
+        // As `try_take_n`: lent through a call of it, the checker wouldn't know what `self` ends as.
+        if ct > self.len - self.position {
             return Err(Error::DeserializeUnexpectedEnd);
         }
         let len = self.len;
         let all = self.bytes.all(len);
-        let from = self.position;
-        self.position += ct;
-        Ok(&all[from..from + ct])
+        let start = self.position;
+        self.position = start + ct;
+        Ok(&all[start..self.position])
     }
 
     /// The bytes left; never fails.
@@ -166,5 +178,28 @@ impl<'de> Flavor for Slice<'de> {
         } = self;
         let all = bytes.all(len);
         Ok(&all[position..])
+    }
+}
+
+#[cfg(test)]
+mod tests {
+    use super::*;
+    use std::test::Fail;
+
+    #[test]
+    fn takes_fronts_until_too_few_bytes_are_left(rt: HostRuntime) -> std::result::Result<(), Fail> {
+        let mut source = Slice::new(&[1, 2, 3, 4]);
+        assert_eq!(rt; source.pop(), Ok(1));
+        assert_eq!(rt; source.try_take_n(2)?, [2, 3].as_slice());
+        assert_eq!(rt; source.try_take_n(2), Err(Error::DeserializeUnexpectedEnd));
+        assert_eq!(rt; source.size_hint(), Some(1));
+        assert_eq!(rt;
+            source.try_take_n_temp(2),
+            Err(Error::DeserializeUnexpectedEnd)
+        );
+        assert_eq!(rt; source.try_take_n_temp(1)?, [4].as_slice());
+        assert_eq!(rt; source.pop(), Err(Error::DeserializeUnexpectedEnd));
+        assert_eq!(rt; source.finalize()?.len(), 0);
+        Ok(())
     }
 }

@@ -1,4 +1,4 @@
-use Rattle.std.proofs.Common.{inl, inr, refl}
+use Rattle.std.proofs.Common.{inr, refl}
 use Rattle.std.proofs.lemmas.Int.{to_z-of_z}
 use mir.Syntax.{w128}
 use Rattle.postcard_de.proofs.Numbers.{int_read}
@@ -8,4 +8,4 @@ pub returns-clause-reads : goal.returns-clause-reads
 returns-clause-reads g c =
     let z = c.de_zig_zag_i128.result in
     rw (to_z-of_z w128 z (record { sfits = c.de_zig_zag_i128.type_inv }))
-    (int_read g.F.Flavor.lawful z (inr (inr (inr refl))) c.de_zig_zag_i128.ensures c.in_ok-n.ensures.reads)
+    (int_read g.F.Flavor.lawful z (inr (inr (inr refl))) c.de_zig_zag_i128.ensures c.in_ok-folded.ensures.reads)

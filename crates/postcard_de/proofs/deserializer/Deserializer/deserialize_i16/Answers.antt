@@ -1,4 +1,4 @@
-use Rattle.std.proofs.Common.{inl, inr, refl}
+use Rattle.std.proofs.Common.{inl, refl}
 use Rattle.std.proofs.lemmas.Int.{to_z-of_z}
 use mir.Syntax.{w16}
 use Rattle.postcard_de.proofs.Numbers.{int_read}
@@ -8,4 +8,4 @@ pub returns-clause-reads : goal.returns-clause-reads
 returns-clause-reads g c =
     let z = c.de_zig_zag_i16.result in
     rw (to_z-of_z w16 z (record { sfits = c.de_zig_zag_i16.type_inv }))
-    (int_read g.F.Flavor.lawful z (inl refl) c.de_zig_zag_i16.ensures c.in_ok-n.ensures.reads)
+    (int_read g.F.Flavor.lawful z (inl refl) c.de_zig_zag_i16.ensures c.in_ok-folded.ensures.reads)

@@ -1,4 +1,4 @@
-use Rattle.std.proofs.Common.{ℕ, ◌-◌}
+use Rattle.std.proofs.Common.{◌-◌}
 use Rattle.postcard_wire.specs.Number.{max_digits}
 use Rattle.postcard_de.specs.Deserializer.{source_of}
 use Rattle.postcard_de.proofs.Numbers.{Within}

@@ -1,5 +1,4 @@
-use Rattle.std.proofs.Common.{◌≡◌, ℕ, ◌+◌, ◌-◌, ◌≤◌, List, ◌++◌, length, take, drop, refl, rules}
-use Rattle.postcard_de_flavors.proofs.Cut.{cut, is_end, taken, range}
+use Rattle.postcard_de_flavors.proofs.Cut.{is_end}
 use Rattle.postcard_de_flavors.proofs.slice.SliceFlavor.pop.Goals as goal
 
 pub returns-clause-leaves : goal.returns-clause-leaves

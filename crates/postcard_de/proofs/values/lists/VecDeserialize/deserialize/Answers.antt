@@ -1,4 +1,4 @@
-use Rattle.std.proofs.Common.{◌≡◌, ℕ, suc, ◌<◌, ◌-◌, List, ◌∷◌, [], ◌++◌, Vec, Global, arith}
+use Rattle.std.proofs.Common.{◌≡◌, suc, ◌-◌, ◌∷◌, [], ◌++◌, Vec, Global, arith}
 use Rattle.std.proofs.lemmas.Grind.{common_steps}
 use Rattle.postcard_de.proofs.Leaves.{is_refusal}
 use Rattle.postcard_de.proofs.Lists.{goes_on, going_stops, going_full, going_done, list_read, list_refused, count_refused, unwrapped, one_more_left, none_left, is_some}
