@@ -34,11 +34,11 @@ count_and_few m R = record {
 }
 
 module _ {S : Type 0} {left : S → Option (List ℕ)} {able : S → ℕ → Type 0} {may_leave : S → S → Type 0} (laws : Laws left able may_leave) where
-  module _ {A B : Type 0} {K V : Tree → Type 0} {I : Tree → A → Type 0} {J : Tree → B → Type 0} {G H : Type 0} where
-    -- The key refuses.
-    pub key_refused : {old new : S} {e : Error} → Reads Spells K I G left able may_leave old (refusal A e) new → Reads Spells (IsEntry K V) (EntryIs I J) (G ⊎ (H ⊎ ⊥)) left able may_leave old (refusal (A × B) e) new
-    key_refused r = struct_fails laws refl (stops laws r)
+  -- A pair's key refuses.
+  pub key_refused : {A B : Type 0} {K V : Tree → Type 0} {I : Tree → A → Type 0} {G H : Type 0} {value : Tree → A × B → Type 0} {old new : S} {e : Error} → Reads Spells K I G left able may_leave old (refusal A e) new → Reads Spells (IsEntry K V) value (G ⊎ (H ⊎ ⊥)) left able may_leave old (refusal (A × B) e) new
+  key_refused r = struct_fails laws refl (stops laws r)
 
+  module _ {A B : Type 0} {K V : Tree → Type 0} {I : Tree → A → Type 0} {J : Tree → B → Type 0} {G H : Type 0} where
     -- The key was read, and the value refuses.
     pub value_refused : {old mid new : S} {a : A} {e : Error} → Reads Spells K I G left able may_leave old (Ok a) mid → Reads Spells V J H left able may_leave mid (refusal B e) new → Reads Spells (IsEntry K V) (EntryIs I J) (G ⊎ (H ⊎ ⊥)) left able may_leave old (refusal (A × B) e) new
     value_refused r s = struct_fails laws refl (and_fails laws r (stops laws s))

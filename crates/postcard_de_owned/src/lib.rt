@@ -7,6 +7,8 @@
 #![tactic(auto)]
 
 pub mod owned;
+#[cfg(test)]
+mod tests;
 pub mod values;
 
 pub use owned::{DeserializeOwned, Owned};

@@ -1,6 +1,7 @@
 //! The types that are read and borrow nothing, a room for each kind.
 
 pub mod chars;
+pub mod lists;
 pub mod nonzero;
 pub mod numbers;
 pub mod options;

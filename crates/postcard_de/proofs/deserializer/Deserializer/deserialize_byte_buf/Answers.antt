@@ -25,7 +25,7 @@ returns-in-Ok-clause-reads g c =
     let lent = c.try_take_n_temp.follows.holds-at-none in
     let gives = rw c.in_ok-lent.was at lent.0 in
     let e : c.in-Ok.copy.items ≡ c.in_ok-lent.lent.now = c.in-Ok.ensures.items_if_clones_equal (λ x y h. h) ∙ c.in_range-bytes.ensures.same in
-    recast (λ x h. h)
+    recast {G = ⊥} (λ x h. h)
     (list_read laws (λ (v : Vec ℕ Global). v.items) c.in-Ok.copy c.in_ok-count.ensures.reads
     (rw e (bytes_read laws c.in_ok-lent.ensures.length c.in_range-bytes.ensures.range gives lent.1)))
 

@@ -26,7 +26,7 @@ returns-in_err-key g c =
     passed_on (λ x a. a) (λ h. h) c.from_residual-in_err-key.ensures.1
     (list_refused laws (λ (ps : List (g.row.K.Denot × g.row.V.Denot)). ps) c.in_ok-access.ensures.reads
     (going_stops laws (λ h. tt) (rw more at c.loop-map.invariant.going)
-    (key_refused laws {V = v.reads} {J = v.value} {H = v.grows} (refused_too {I' = k.value} (λ x a. a) (λ h. h) (c.in_err-key.ensures.some (omega (arith, more)))))))
+    (key_refused laws {B = g.row.V.Denot} {K = k.reads} {V = v.reads} {H = v.grows} {value = EntryIs k.value v.value} (refused_too {I' = k.value} (λ x a. a) (λ h. h) (c.in_err-key.ensures.some (omega (arith, more)))))))
 
 pub returns-in_err-value : goal.returns-in_err-value
 returns-in_err-value g c =
