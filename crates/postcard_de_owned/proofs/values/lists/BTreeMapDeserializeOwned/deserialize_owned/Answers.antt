@@ -34,7 +34,7 @@ returns-in_err-value g c =
     let laws = g.F.Flavor.lawful in
     let n = c.loop-map.access in
     let more : n ≡ suc (n - 1) = one_more_left n (λ z. is_some _ _ (c.in_ok-key.ensures.none z).0 c.in-Some.is) in
-    let key = content_read (unwrapped (rw c.in-Some.is at (c.in_ok-key.ensures.some (omega (arith, more))))) in
+    let key = content_read {I = g.K.DeserializeOwned.value} (unwrapped (rw c.in-Some.is at (c.in_ok-key.ensures.some (omega (arith, more))))) in
     passed_on (λ x a. a) (λ h. h) c.from_residual-in_err-value.ensures.1
     (list_refused laws (λ (ps : List (g.row.K.Denot × g.row.V.Denot)). ps) c.in_ok-access.ensures.reads
     (going_stops laws (λ h. tt) (rw more at c.loop-map.invariant.going) (value_refused laws key c.in_err-value.ensures.value)))
@@ -54,11 +54,11 @@ loop-map-preserved g c =
     let laws = g.F.Flavor.lawful in
     let n = c.loop-map.access in
     let more : n ≡ suc (n - 1) = one_more_left n (λ z. is_some _ _ (c.in_ok-key.ensures.none z).0 c.in-Some.is) in
-    let key = content_read (unwrapped (rw c.in-Some.is at (c.in_ok-key.ensures.some (omega (arith, more))))) in
+    let key = content_read {I = g.K.DeserializeOwned.value} (unwrapped (rw c.in-Some.is at (c.in_ok-key.ensures.some (omega (arith, more))))) in
     let e : c.insert.new.self.entries ≡ insert_entry g.K.Ord.cmp c.loop-map.map.entries c.in-Some.key.0 c.in_ok-value.value.0 = grind (arith, common_steps) in
     record {
       pairs = c.loop-map.invariant.pairs ++ ((c.in-Some.key.0, c.in_ok-value.value.0) ∷ []);
-      going = rw (c.in_ok-value.ensures.count, c.in_ok-key.ensures.count) (goes_on laws (λ h. tt) (rw more at c.loop-map.invariant.going) (entry_read laws key (content_read c.in_ok-value.ensures.value)));
+      going = rw (c.in_ok-value.ensures.count, c.in_ok-key.ensures.count) (goes_on laws (λ h. tt) (rw more at c.loop-map.invariant.going) (entry_read laws key (content_read {I = g.V.DeserializeOwned.value} c.in_ok-value.ensures.value)));
       made = e ∙ ap (λ (es : List (g.row.K.Denot × g.row.V.Denot)). insert_entry g.K.Ord.cmp es c.in-Some.key.0 c.in_ok-value.value.0) c.loop-map.invariant.made ∙ sym (inserted_last g.K.Ord.cmp c.loop-map.invariant.pairs [] c.in-Some.key.0 c.in_ok-value.value.0)
     }
 
