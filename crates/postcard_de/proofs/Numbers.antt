@@ -22,6 +22,7 @@ use Rattle.postcard_de.proofs.Leaves.{Delimits, Excludes, found, refused, refusa
 abbrev pub Below : ℕ → ℕ → Type 0
 Below w n = n < 2 ^ w
 
+-- No number's spelling begins another's.
 number_delimited : (w : ℕ) → Delimits (SpellsNum w) (Below w)
 number_delimited w n m p q x y a b s r e = num_front w n m p q x y s r e
 
@@ -34,6 +35,7 @@ number_excludes w = record {
   never = λ p bad. let e : DeserializeBadEncoding ≡ DeserializeBadVarint = bad.0 in cc;
 }
 
+-- The same, of a number's tree.
 num_excludes : (w : ℕ) → Excludes ⊥ (WantsDigit w) (BadNumber w) Spells (IsNum w)
 num_excludes w = let k = number_excludes w in record {
   within = λ x p q n y z wanted r s e. k.within r.0 p q n y z wanted r.2 (rw r.1 at s) e;
@@ -42,6 +44,7 @@ num_excludes w = let k = number_excludes w in record {
   never = k.never;
 }
 
+-- The same, of a signed number's tree.
 int_excludes : (w : ℕ) → IsWidth w → Excludes ⊥ (WantsDigit w) (BadNumber w) Spells (IsInt w)
 int_excludes w wide = let k = number_excludes w in record {
   within = λ x p q n y z wanted r s e. k.within (zigzag r.0) p q n y z wanted (zig_below w r.0 wide r.2) (rw r.1 at s) e;
@@ -81,13 +84,15 @@ module _ {S : Type 0} {left : S → Option (List ℕ)} {able : S → ℕ → Typ
   pub number_bad : {w : ℕ} {digits : Digits} {old now new : S} {b : ℕ} {e : Error} → (so : Within w left able may_leave old digits now) → Takes left able now (b ∷ []) new → BadNumber w (so.front ++ b ∷ []) e → Refuses (WantsDigit w) (BadNumber w) left able old e new
   number_bad {b = b} so t bad = inr (record { front = so.front ++ b ∷ []; taken = both_taken so.taken t; why = bad })
 
-  -- A refused number, as a number, as a tree and as a signed one.
+  -- A refused number, as a number alone.
   pub number_refused : {w : ℕ} {old new : S} {e : Error} → Refuses (WantsDigit w) (BadNumber w) left able old e new → may_leave old new → {V : Type 0} {value : ℕ → V → Type 0} → Reads (SpellsNum w) (Below w) value ⊥ left able may_leave old (refusal V e) new
   number_refused {w} why l = refused laws (number_excludes w) why l
 
+  -- As a tree.
   pub num_refused : {w : ℕ} {old new : S} {e : Error} → Refuses (WantsDigit w) (BadNumber w) left able old e new → may_leave old new → {V : Type 0} {value : Tree → V → Type 0} → Reads Spells (IsNum w) value ⊥ left able may_leave old (refusal V e) new
   num_refused {w} why l = refused laws (num_excludes w) why l
 
+  -- As a signed number's tree.
   pub int_refused : {w : ℕ} {old new : S} {e : Error} → IsWidth w → Refuses (WantsDigit w) (BadNumber w) left able old e new → may_leave old new → {V : Type 0} {value : Tree → V → Type 0} → Reads Spells (IsInt w) value ⊥ left able may_leave old (refusal V e) new
   int_refused {w} wide why l = refused laws (int_excludes w wide) why l
 
@@ -95,12 +100,13 @@ module _ {S : Type 0} {left : S → Option (List ℕ)} {able : S → ℕ → Typ
   pub number_below : {w n : ℕ} {old new : S} → Reads (SpellsNum w) (Below w) Same ⊥ left able may_leave old (Ok n) new → n < 2 ^ w
   number_below {w} r = subst (Below w) r.gives.has r.gives.is_read
 
-  -- A number that was read, as a tree and as a signed one.
+  -- A number that was read, as a tree.
   pub num_read : {w n : ℕ} {old new : S} → Reads (SpellsNum w) (Below w) Same ⊥ left able may_leave old (Ok n) new → Reads Spells (IsNum w) (λ t v. t ≡ Num w v) ⊥ left able may_leave old (Ok n) new
   num_read {w} {n} r =
       let g = r.gives in
       found (num_delimited w) (Num w n) g.front n (n, refl, number_below r) (subst (λ (m : ℕ). SpellsNum w m g.front) g.has g.is_spelled) refl g.taken r.leaves
 
+  -- As a signed number's tree.
   pub int_read : {w n : ℕ} {old new : S} (z : ℤ) → IsWidth w → zigzag z ≡ n → Reads (SpellsNum w) (Below w) Same ⊥ left able may_leave old (Ok n) new → Reads Spells (IsInt w) (λ t v. t ≡ Int w v) ⊥ left able may_leave old (Ok z) new
   int_read {w} {n} z wide e r =
       let g = r.gives in

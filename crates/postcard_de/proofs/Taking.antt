@@ -11,19 +11,23 @@ consumes_joined (Some xs) None c x y h k = absurd h
 consumes_joined (Some xs) (Some ys) None x y h k = absurd k
 consumes_joined (Some xs) (Some ys) (Some zs) x y h k = h ∙ (ap (λ (r : List ℕ). x ++ r) k ∙ sym (append_assoc x y zs))
 
+-- The bytes told after no take.
 consumes_none : (a : Option (List ℕ)) → Consumes a a []
 consumes_none None = tt
 consumes_none (Some xs) = refl
 
+-- Of two fronts that the bytes told begin with, they begin with the first.
 begins_front : (a : Option (List ℕ)) (x y : List ℕ) → Begins a (x ++ y) → Begins a x
 begins_front None x y h = absurd h
 begins_front (Some xs) x y h = (y ++ h.0, h.1 ∙ append_assoc x y h.0)
 
+-- And once it was taken, with the second.
 begins_rest : (a b : Option (List ℕ)) (x y : List ℕ) → Begins a (x ++ y) → Consumes a b x → Begins b y
 begins_rest None b x y h d = absurd h
 begins_rest (Some xs) None x y h d = absurd d
 begins_rest (Some xs) (Some ys) x y h d = (h.0, append_cancel_left x ys (y ++ h.0) (sym d ∙ (h.1 ∙ append_assoc x y h.0)))
 
+-- What was taken from the bytes told and what they begin with are fronts of one list.
 facing : (a b : Option (List ℕ)) (p q : List ℕ) → Consumes a b p → Begins a q → (x : List ℕ) × (y : List ℕ) × (p ++ x ≡ q ++ y)
 facing None b p q c d = absurd d
 facing (Some xs) None p q c d = absurd c

@@ -5,15 +5,19 @@ use Rattle.std.proofs.Common.{sym, ◌∙◌}
 use Rattle.postcard_wire.specs.Tree.{Byte, Num, Int, Text}
 use Rattle.postcard_de.specs.Same.{HasOne}
 
+-- A byte's node tells the byte.
 pub byte_same : (a b : ℕ) → Byte a ≡ Byte b → a ≡ b
 byte_same a b e = cc
 
+-- A number's tells the number.
 pub num_same : (w a b : ℕ) → Num w a ≡ Num w b → a ≡ b
 num_same w a b e = cc
 
+-- A signed number's tells the number.
 pub int_same : (w : ℕ) (a b : ℤ) → Int w a ≡ Int w b → a ≡ b
 int_same w a b e = cc
 
+-- A text's tells the bytes.
 pub text_same : (a b : List ℕ) → Text a ≡ Text b → a ≡ b
 text_same a b e = cc
 

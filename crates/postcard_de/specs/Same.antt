@@ -14,10 +14,6 @@ SameList same [] [] = Unit {0}
 SameList same (v ∷ vs) (w ∷ ws) = same v w × SameList same vs ws
 SameList same _ _ = ⊥
 
--- A tree that is made of what is seen of a value, by a constructor that loses nothing.
-pub node_one : {V A : Type 0} (node : A → Tree) (see : V → A) → ((a b : A) → node a ≡ node b → a ≡ b) → HasOne (λ t v. t ≡ node (see v)) (λ v w. see v ≡ see w)
-node_one node see injective t v w h k = injective (see v) (see w) (sym h ∙ k)
-
 -- What trees in a row have for values, one by one.
 pub each_one : {V : Type 0} (value : Tree → V → Type 0) (same : V → V → Type 0) → HasOne value same → (ts : Trees) (vs ws : List V) → EachIs value ts vs → EachIs value ts ws → SameList same vs ws
 each_one value same one NoTrees [] [] h k = tt
@@ -27,6 +23,7 @@ each_one value same one (Then t ts) [] ws h k = absurd h
 each_one value same one (Then t ts) (v ∷ vs) [] h k = absurd k
 each_one value same one (Then t ts) (v ∷ vs) (w ∷ ws) h k = (one t v w h.0 k.0, each_one value same one ts vs ws h.1 k.1)
 
+-- A list's node tells the parts.
 parts_same : (ts ss : Trees) → Seq ts ≡ Seq ss → ts ≡ ss
 parts_same ts ss e = cc
 
