@@ -29,17 +29,17 @@ module _ {S : Type 0} {left : S → Option (List ℕ)} {able : S → ℕ → Typ
 
   -- The index was read, and its content refuses.
   pub content_refused : {V : Type 0} {J : Tree → V → Type 0} {G : Type 0} {old mid new : S} {i : ℕ} {r : Result A Error} {e : Error} → (G → H) → IsErrAnd r (λ x. x ≡ e) →
-    Reads (SpellsNum 32) (Below 32) Same ⊥ left able may_leave old (Ok i) mid → Reads Spells (content i) J G left able may_leave mid (refusal V e) new → Reads Spells (IsVariant content) value H left able may_leave old r new
+      Reads (SpellsNum 32) (Below 32) Same ⊥ left able may_leave old (Ok i) mid → Reads Spells (content i) J G left able may_leave mid (refusal V e) new → Reads Spells (IsVariant content) value H left able may_leave old r new
   content_refused {r = r} {e = e} grow h s t = rw (is_refusal r e h) (second_refused laws (index_and_content content) grow s t)
 
   -- Both were read.
   pub variant_read : {V : Type 0} {J : Tree → V → Type 0} {G : Type 0} {old mid new : S} {i : ℕ} {v : V} {a : A} → ((t : Tree) → J t v → value (Variant i t) a) →
-    Reads (SpellsNum 32) (Below 32) Same ⊥ left able may_leave old (Ok i) mid → Reads Spells (content i) J G left able may_leave mid (Ok v) new → Reads Spells (IsVariant content) value H left able may_leave old (Ok a) new
+      Reads (SpellsNum 32) (Below 32) Same ⊥ left able may_leave old (Ok i) mid → Reads Spells (content i) J G left able may_leave mid (Ok v) new → Reads Spells (IsVariant content) value H left able may_leave old (Ok a) new
   variant_read {i = i} {a = a} has s t = both_read laws (index_and_content content) (λ j u same k. subst (λ (n : ℕ). value (Variant n u) a) (sym same) (has u k)) s t
 
   -- The index is unknown.
   pub unknown_index : {old new : S} {i : ℕ} {e : Error} → e ≢ OutOfMemory → e ≢ DeserializeBadEncoding → ((t : Tree) → content i t → ⊥) →
-    Reads (SpellsNum 32) (Below 32) Same ⊥ left able may_leave old (Ok i) new → Reads Spells (IsVariant content) value H left able may_leave old (refusal A e) new
+      Reads (SpellsNum 32) (Below 32) Same ⊥ left able may_leave old (Ok i) new → Reads Spells (IsVariant content) value H left able may_leave old (refusal A e) new
   unknown_index {new = new} other never none s = none_follows laws (index_and_content content) other never none (laws.itself new) s
 
 -- A `Result` has no index but 0 and 1.

@@ -11,7 +11,7 @@ use Rattle.postcard_de.proofs.Compound.{Compound}
 module _ {S : Type 0} {left : S → Option (List ℕ)} {able : S → ℕ → Type 0} {may_leave : S → S → Type 0} {X V : Type 0} {P : X → List ℕ → Type 0} {R : X → Type 0} {I : X → V → Type 0} {G : Type 0} {old new : S} where
   -- What was read is answered as w, a value of fewer things.
   pub seen_as : {W : Type 0} {R' : X → Type 0} {I' : X → W → Type 0} {H : Type 0} {v : V} {w : W} → ((x : X) → R' x → R x) → ((x : X) → R x → I x v → R' x × I' x w) →
-    Reads P R I G left able may_leave old (Ok v) new → Reads P R' I' H left able may_leave old (Ok w) new
+      Reads P R I G left able may_leave old (Ok v) new → Reads P R' I' H left able may_leave old (Ok w) new
   seen_as fewer fits r = record {
     gives = let g = r.gives in let k = fits g.thing g.is_read g.has in record { thing = g.thing; front = g.front; is_read = k.0; is_spelled = g.is_spelled; has = k.1; taken = g.taken };
     accepts = λ x p a b c. let k = r.accepts x p (fewer x a) b c in ((fits x (fewer x a) k.0).1, k.1);
@@ -26,7 +26,7 @@ module _ {S : Type 0} {left : S → Option (List ℕ)} {able : S → ℕ → Typ
 
   -- What was read is none of those that are answered.
   pub unfit : {W : Type 0} {R' : X → Type 0} {I' : X → W → Type 0} {H : Type 0} {v : V} {e : Error} → e ≢ OutOfMemory → e ≢ DeserializeBadEncoding → ((x : X) → R' x → R x) → ((x : X) → R' x → I x v → ⊥) →
-    Reads P R I G left able may_leave old (Ok v) new → Reads P R' I' H left able may_leave old (refusal W e) new
+      Reads P R I G left able may_leave old (Ok v) new → Reads P R' I' H left able may_leave old (refusal W e) new
   unfit other never fewer bad r = record {
     gives = tt;
     accepts = λ x p a b c. let k = r.accepts x p (fewer x a) b c in absurd (bad x a k.0);

@@ -40,4 +40,3 @@ seconds_are s n r m e = cc
 
 pub nanos_are : (s n r m : ℕ) → span s n ≡ span r m → n ≡ m
 nanos_are s n r m e = cc
-

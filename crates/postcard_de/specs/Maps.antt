@@ -39,5 +39,5 @@ entry_one I J same other one two t v w = group_one (then_one one (then_one two e
 
 -- A map.
 pub map_one : {A B M : Type 0} (see : M → List (A × B)) (cmp : A → A → Ordering) (I : Tree → A → Type 0) (J : Tree → B → Type 0) (same : A → A → Type 0) (other : B → B → Type 0) → HasOne I same → HasOne J other →
-  HasOne (λ t m. MapIs cmp I J t (see m)) (λ m n. SameMap cmp same other (see m) (see n))
+    HasOne (λ t m. MapIs cmp I J t (see m)) (λ m n. SameMap cmp same other (see m) (see n))
 map_one {A} {B} see cmp I J same other one two t m n (ps, h, a) (qs, k, b) = (ps, qs, list_one (λ (x : List (A × B)). x) (EntryIs I J) (SameEntry same other) (entry_one I J same other one two) t ps qs h k, a, b)

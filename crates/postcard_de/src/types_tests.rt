@@ -42,7 +42,10 @@ fn reads_what_chooses(rt: HostRuntime) {
         (&[0x80, 0x00, 0x07], Ok(Ok(7))),
         (&[0x01, 0x07], Ok(Err(7))),
         (&[0x02, 0x00], Err(Error::SerdeDeCustom)),
-        (&[0xFF, 0xFF, 0xFF, 0xFF, 0x1F], Err(Error::DeserializeBadVarint)),
+        (
+            &[0xFF, 0xFF, 0xFF, 0xFF, 0x1F],
+            Err(Error::DeserializeBadVarint),
+        ),
     ];
     check(&rt, alloc, rows);
 }
@@ -100,10 +103,19 @@ fn reads_spans_of_time(rt: HostRuntime) {
         alloc,
         &[
             (&[0x01, 0x00], Ok(Duration::new(1, 0))),
-            (&[0x00, 0x80, 0x94, 0xEB, 0xDC, 0x03], Ok(Duration::new(1, 0))),
-            (&[0x7F, 0xFF, 0xFF, 0xFF, 0xFF, 0x0F], Ok(Duration::new(131, 294_967_295))),
             (
-                &[0xFF, 0xFF, 0xFF, 0xFF, 0xFF, 0xFF, 0xFF, 0xFF, 0xFF, 0x01, 0x80, 0x94, 0xEB, 0xDC, 0x03],
+                &[0x00, 0x80, 0x94, 0xEB, 0xDC, 0x03],
+                Ok(Duration::new(1, 0)),
+            ),
+            (
+                &[0x7F, 0xFF, 0xFF, 0xFF, 0xFF, 0x0F],
+                Ok(Duration::new(131, 294_967_295)),
+            ),
+            (
+                &[
+                    0xFF, 0xFF, 0xFF, 0xFF, 0xFF, 0xFF, 0xFF, 0xFF, 0xFF, 0x01, 0x80, 0x94, 0xEB,
+                    0xDC, 0x03,
+                ],
                 Err(Error::SerdeDeCustom),
             ),
         ],
@@ -123,12 +135,41 @@ fn reads_parts_in_a_row(rt: HostRuntime) {
             (&[0x12, 0xA5], Err(Error::DeserializeUnexpectedEnd)),
         ],
     );
-    check(&rt, alloc, &[(&[0x01, 0x0A, 0x06, 0x48, 0x65, 0x6C, 0x6C, 0x6F, 0x21], Ok((1u8, 10u32, "Hello!")))]);
+    check(
+        &rt,
+        alloc,
+        &[(
+            &[0x01, 0x0A, 0x06, 0x48, 0x65, 0x6C, 0x6C, 0x6F, 0x21],
+            Ok((1u8, 10u32, "Hello!")),
+        )],
+    );
     check(&rt, alloc, &[(&[1, 2, 3, 4], Ok((1u8, 2u8, 3u8, 4u8)))]);
-    check(&rt, alloc, &[(&[1, 2, 3, 4, 5], Ok((1u8, 2u8, 3u8, 4u8, 5u8)))]);
-    check(&rt, alloc, &[(&[1, 2, 3, 4, 5, 6], Ok((1u8, 2u8, 3u8, 4u8, 5u8, 6u8)))]);
-    check(&rt, alloc, &[(&[0x05, 0xAC, 0x02], Ok(Range { start: 5u16, end: 300 }))]);
-    check(&rt, alloc, &[(&[0x05, 0xAC, 0x02], Ok(RangeInclusive::new(5u16, 300)))]);
+    check(
+        &rt,
+        alloc,
+        &[(&[1, 2, 3, 4, 5], Ok((1u8, 2u8, 3u8, 4u8, 5u8)))],
+    );
+    check(
+        &rt,
+        alloc,
+        &[(&[1, 2, 3, 4, 5, 6], Ok((1u8, 2u8, 3u8, 4u8, 5u8, 6u8)))],
+    );
+    check(
+        &rt,
+        alloc,
+        &[(
+            &[0x05, 0xAC, 0x02],
+            Ok(Range {
+                start: 5u16,
+                end: 300,
+            }),
+        )],
+    );
+    check(
+        &rt,
+        alloc,
+        &[(&[0x05, 0xAC, 0x02], Ok(RangeInclusive::new(5u16, 300)))],
+    );
     check(&rt, alloc, &[(&[0x05], Ok(RangeFrom { start: 5u16 }))]);
     check(&rt, alloc, &[(&[0x05], Ok(RangeTo { end: 5u16 }))]);
     check(
@@ -154,7 +195,10 @@ fn reads_bytes(rt: HostRuntime) -> Result<(), Fail> {
         ],
     );
     let mut d = Deserializer::from_bytes(&[0x02, 0x05, 0x06]);
-    assert_eq!(rt; d.deserialize_byte_buf(alloc)?.as_slice(), [5, 6].as_slice());
+    assert_eq!(rt;
+        d.deserialize_byte_buf(alloc)?.as_slice(),
+        [5, 6].as_slice()
+    );
     Ok(())
 }
 
@@ -165,18 +209,32 @@ fn reads_into_fixed_room(rt: HostRuntime) -> Result<(), Fail> {
     assert_eq!(rt; two.as_slice(), [1, 2].as_slice());
     for (bytes, error) in [
         ([0x03, 0x01, 0x02, 0x03].as_slice(), Error::SerdeDeCustom),
-        ([0x03, 0x01, 0x02].as_slice(), Error::DeserializeUnexpectedEnd),
+        (
+            [0x03, 0x01, 0x02].as_slice(),
+            Error::DeserializeUnexpectedEnd,
+        ),
     ] {
-        assert!(rt; read::<ArrayVec<u8, 2>>(alloc, bytes).is_err_and(|e| e == error), "{bytes:?}");
+        assert!(rt;
+            read::<ArrayVec<u8, 2>>(alloc, bytes).is_err_and(|e| e == error),
+            "{bytes:?}"
+        );
     }
-    assert!(rt; read::<ArrayVec<(), 3>>(alloc, &GREATEST).is_err_and(|e| e == Error::SerdeDeCustom));
+    assert!(rt;
+        read::<ArrayVec<(), 3>>(alloc, &GREATEST).is_err_and(|e| e == Error::SerdeDeCustom)
+    );
     let short = read::<ArrayString<2>>(alloc, &[0x02, 0x61, 0x62])?;
     assert_eq!(rt; short.as_str(), "ab");
     for (bytes, error) in [
         ([0x03, 0x61, 0x62, 0x63].as_slice(), Error::SerdeDeCustom),
-        ([0x03, 0x61, 0x62, 0xFF].as_slice(), Error::DeserializeBadUtf8),
+        (
+            [0x03, 0x61, 0x62, 0xFF].as_slice(),
+            Error::DeserializeBadUtf8,
+        ),
     ] {
-        assert!(rt; read::<ArrayString<2>>(alloc, bytes).is_err_and(|e| e == error), "{bytes:?}");
+        assert!(rt;
+            read::<ArrayString<2>>(alloc, bytes).is_err_and(|e| e == error),
+            "{bytes:?}"
+        );
     }
     Ok(())
 }
@@ -196,7 +254,10 @@ fn reads_maps(rt: HostRuntime) -> Result<(), Fail> {
             assert_eq!(rt; map.get(key), Some(value), "{bytes:?}");
         }
     }
-    assert!(rt; read::<BTreeMap<u8, u8>>(alloc, &GREATEST).is_err_and(|e| e == Error::DeserializeUnexpectedEnd));
+    assert!(rt;
+        read::<BTreeMap<u8, u8>>(alloc, &GREATEST).is_err_and(|e| e
+            == Error::DeserializeUnexpectedEnd)
+    );
     Ok(())
 }
 

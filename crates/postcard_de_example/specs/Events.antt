@@ -1,14 +1,13 @@
 -- What `Event` reads at each index, and the values of that.
-use Rattle.std.specs.Prelude.{◌≡◌, ℕ, zero, suc, List}
+use Rattle.std.specs.Prelude.{◌≡◌, ◌⊎◌, ℕ, zero, suc}
 use Rattle.std.proofs.Common.{sym, ◌∙◌}
-use Rattle.std.specs.Borrow.{Bor}
-use Rattle.postcard_wire.specs.Tree.{Tree, Int, Text}
-use Rattle.postcard_wire.specs.Reading.{IsDelimited, ReadsWellFormed, IsInt, IsText, IsEnd, IsThen, IsGroup}
-use Rattle.postcard_wire.proofs.Delimited.{int_delimited, text_delimited, end_delimited, then_delimited, group_delimited, none_delimited}
-use Rattle.postcard_wire.proofs.WellFormed.{int_well_formed, text_well_formed, end_well_formed, then_well_formed, group_well_formed}
-use Rattle.std.proofs.Common.{inl, refl}
+use Rattle.postcard_wire.specs.Tree.{Tree, Num, Text}
+use Rattle.postcard_wire.specs.Reading.{IsDelimited, ReadsWellFormed, IsNum, IsText, IsEnd, IsThen, IsGroup}
+use Rattle.postcard_wire.proofs.Delimited.{num_delimited, text_delimited, end_delimited, then_delimited, group_delimited, none_delimited}
+use Rattle.postcard_wire.proofs.WellFormed.{num_well_formed, text_well_formed, end_well_formed, then_well_formed, group_well_formed}
+use Rattle.std.proofs.Common.{inl, inr, refl}
 use Rattle.postcard_de.specs.Same.{HasOne}
-use Rattle.postcard_de.specs.One.{int_one, text_same}
+use Rattle.postcard_de.specs.One.{num_one, text_same}
 use Rattle.postcard_de.specs.Parts.{end_one, then_one, group_one}
 use Rattle.postcard_de_example.specs.declared.Event.{Event}
 use Rattle.postcard_de_example.specs.declared.Event.TheVariants.{Started, Moved, Named}
@@ -16,14 +15,14 @@ use Rattle.postcard_de_example.specs.declared.Event.TheVariants.{Started, Moved,
 -- 0 has no content, 1 two numbers in a row, 2 a text.
 abbrev pub Content : ℕ → Tree → Type 0
 Content zero t = IsGroup IsEnd t
-Content (suc zero) t = IsGroup (IsThen (IsInt 16) (IsThen (IsInt 16) IsEnd)) t
+Content (suc zero) t = IsGroup (IsThen (IsNum 16) (IsThen (IsNum 16) IsEnd)) t
 Content (suc (suc zero)) t = IsText t
 Content (suc (suc (suc i))) t = ⊥
 
 -- The event of a content.
 abbrev pub EventIs : ℕ → Tree → Event → Type 0
 EventIs zero t Started = Unit {0}
-EventIs (suc zero) t (Moved x y) = IsGroup (IsThen (λ s. s ≡ Int 16 x) (IsThen (λ s. s ≡ Int 16 y) IsEnd)) t
+EventIs (suc zero) t (Moved x y) = IsGroup (IsThen (λ s. s ≡ Num 16 x) (IsThen (λ s. s ≡ Num 16 y) IsEnd)) t
 EventIs (suc (suc zero)) t (Named name) = t ≡ Text name.now
 EventIs _ t e = ⊥
 
@@ -36,13 +35,13 @@ SameEvent _ _ = ⊥
 
 pub content_delimited : (i : ℕ) → IsDelimited (Content i)
 content_delimited zero = group_delimited _ end_delimited
-content_delimited (suc zero) = group_delimited _ (then_delimited _ _ (int_delimited 16) (then_delimited _ _ (int_delimited 16) end_delimited))
+content_delimited (suc zero) = group_delimited _ (then_delimited _ _ (num_delimited 16) (then_delimited _ _ (num_delimited 16) end_delimited))
 content_delimited (suc (suc zero)) = text_delimited
 content_delimited (suc (suc (suc i))) = none_delimited
 
 pub content_well_formed : (i : ℕ) → ReadsWellFormed (Content i)
 content_well_formed zero = group_well_formed _ end_well_formed
-content_well_formed (suc zero) = group_well_formed _ (then_well_formed _ _ (int_well_formed 16 (inl refl)) (then_well_formed _ _ (int_well_formed 16 (inl refl)) end_well_formed))
+content_well_formed (suc zero) = group_well_formed _ (then_well_formed _ _ (num_well_formed 16 (inl refl)) (then_well_formed _ _ (num_well_formed 16 (inl refl)) end_well_formed))
 content_well_formed (suc (suc zero)) = text_well_formed
 content_well_formed (suc (suc (suc i))) = λ t r. absurd r
 
@@ -52,7 +51,7 @@ event_one zero t Started (Moved u v) h k = absurd k
 event_one zero t Started (Named b) h k = absurd k
 event_one zero t (Moved x y) w h k = absurd h
 event_one zero t (Named a) w h k = absurd h
-event_one (suc zero) t (Moved x y) (Moved u v) h k = group_one (then_one (int_one 16) (then_one (int_one 16) end_one)) t h k
+event_one (suc zero) t (Moved x y) (Moved u v) h k = group_one (then_one (num_one 16) (then_one (num_one 16) end_one)) t h k
 event_one (suc zero) t (Moved x y) Started h k = absurd k
 event_one (suc zero) t (Moved x y) (Named b) h k = absurd k
 event_one (suc zero) t Started w h k = absurd h
@@ -63,6 +62,12 @@ event_one (suc (suc zero)) t (Named a) (Moved u v) h k = absurd k
 event_one (suc (suc zero)) t Started w h k = absurd h
 event_one (suc (suc zero)) t (Moved x y) w h k = absurd h
 event_one (suc (suc (suc i))) t v w h k = absurd h
+
+-- Neither of two numbers grows.
+pub never_grows : ⊥ ⊎ (⊥ ⊎ ⊥) → ⊥
+never_grows (inl h) = h
+never_grows (inr (inl h)) = h
+never_grows (inr (inr h)) = h
 
 -- No index but these has a content.
 pub no_other : (i : ℕ) → (i ≡ 0 → ⊥) → (i ≡ 1 → ⊥) → (i ≡ 2 → ⊥) → (t : Tree) → Content i t → ⊥

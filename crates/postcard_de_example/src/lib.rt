@@ -62,12 +62,12 @@ impl<'de> Deserialize<'de> for Report<'de> {
 pub enum Event<'a> {
     /// It was switched on.
     Started,
-    /// It was moved by so much.
+    /// It was moved to a place on the wall.
     Moved {
-        /// To the right.
-        x: i16,
-        /// Upwards.
-        y: i16,
+        /// Counted from the left.
+        column: u16,
+        /// Counted from the top.
+        row: u16,
     },
     /// It was given a name, which is lent from the input.
     Named(&'a str),
@@ -97,9 +97,9 @@ impl<'de> Deserialize<'de> for Event<'de> {
                 Ok(Event::Started)
             }
             1 => {
-                let offset: (i16, i16) = d.newtype_variant(alloc)?;
-                let (x, y) = offset;
-                Ok(Event::Moved { x, y })
+                let place: (u16, u16) = d.newtype_variant(alloc)?;
+                let (column, row) = place;
+                Ok(Event::Moved { column, row })
             }
             2 => {
                 let name = d.newtype_variant(alloc)?;

@@ -19,9 +19,23 @@ fn reads_events(rt: HostRuntime) {
     let alloc = rt.alloc();
     let started = Event::deserialize(alloc, &mut Deserializer::from_bytes(&[0x00]));
     assert!(rt; matches!(started, Ok(Event::Started)));
-    let moved = Event::deserialize(alloc, &mut Deserializer::from_bytes(&[0x01, 0x01, 0x04]));
-    assert!(rt; matches!(moved, Ok(Event::Moved { x: -1, y: 2 })));
-    let named = Event::deserialize(alloc, &mut Deserializer::from_bytes(&[0x02, 0x02, 0x48, 0x69]));
+    let moved = Event::deserialize(
+        alloc,
+        &mut Deserializer::from_bytes(&[0x01, 0x03, 0xAC, 0x02]),
+    );
+    assert!(rt;
+        matches!(
+            moved,
+            Ok(Event::Moved {
+                column: 3,
+                row: 300
+            })
+        )
+    );
+    let named = Event::deserialize(
+        alloc,
+        &mut Deserializer::from_bytes(&[0x02, 0x02, 0x48, 0x69]),
+    );
     assert!(rt; matches!(named, Ok(Event::Named("Hi"))));
     let unknown = Event::deserialize(alloc, &mut Deserializer::from_bytes(&[0x03]));
     assert!(rt; matches!(unknown, Err(Error::SerdeDeCustom)));

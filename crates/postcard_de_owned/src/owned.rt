@@ -39,7 +39,10 @@ pub trait DeserializeOwned: Sized + Drop {
     /// # Errors
     ///
     /// That of the first part that refuses. `OutOfMemory` only if the type grows, and `DeserializeBadEncoding` never.
-    fn deserialize_owned<'de, F: Flavor>(alloc: Global, d: &mut Deserializer<'de, F>) -> Result<Self>
+    fn deserialize_owned<'de, F: Flavor>(
+        alloc: Global,
+        d: &mut Deserializer<'de, F>,
+    ) -> Result<Self>
         ensures { Reads Spells reads value grows F.left F.able F.may_leave (source_of d.old) result (source_of d.new) };
 }
 

@@ -49,7 +49,11 @@ impl<'de, F: Flavor> Deserializer<'de, F> {
     /// # Errors
     ///
     /// Those of the part.
-    pub fn deserialize_newtype_struct<T: Deserialize<'de>>(&mut self, alloc: Global, _name: &str) -> Result<T>
+    pub fn deserialize_newtype_struct<T: Deserialize<'de>>(
+        &mut self,
+        alloc: Global,
+        _name: &str,
+    ) -> Result<T>
         ensures { Reads Spells T.reads T.value T.grows F.left F.able F.may_leave (source_of self.old) result (source_of self.new) }
     {
         T::deserialize(alloc, self)

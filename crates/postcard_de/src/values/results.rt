@@ -27,7 +27,10 @@ impl<'de, T: Deserialize<'de>, E: Deserialize<'de>> Deserialize<'de> for Result<
 
     ghost one_value = { variant_one _ _ (result_one T.value E.value T.same E.same T.one_value E.one_value) };
 
-    fn deserialize<F: Flavor>(alloc: Global, d: &mut Deserializer<'de, F>) -> postcard_wire::Result<Self> {
+    fn deserialize<F: Flavor>(
+        alloc: Global,
+        d: &mut Deserializer<'de, F>,
+    ) -> postcard_wire::Result<Self> {
         let index = d.deserialize_enum("Result", &["Ok", "Err"])?;
         match index {
             0 => {

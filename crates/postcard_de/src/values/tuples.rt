@@ -55,7 +55,8 @@ impl<'de, A: Deserialize<'de>, B: Deserialize<'de>> Deserialize<'de> for (A, B) 
     }
 }
 
-impl<'de, A: Deserialize<'de>, B: Deserialize<'de>, C: Deserialize<'de>> Deserialize<'de> for (A, B, C) {
+impl<'de, A: Deserialize<'de>, B: Deserialize<'de>, C: Deserialize<'de>> Deserialize<'de>
+    for (A, B, C) {
     ghost reads = { IsGroup (IsThen A.reads (IsThen B.reads (IsThen C.reads IsEnd))) };
 
     ghost value = { λ t v. IsGroup (IsThen (λ s. A.value s v.0) (IsThen (λ s. B.value s v.1) (IsThen (λ s. C.value s v.2) IsEnd))) t };
@@ -78,7 +79,13 @@ impl<'de, A: Deserialize<'de>, B: Deserialize<'de>, C: Deserialize<'de>> Deseria
     }
 }
 
-impl<'de, A: Deserialize<'de>, B: Deserialize<'de>, C: Deserialize<'de>, D: Deserialize<'de>> Deserialize<'de> for (A, B, C, D) {
+impl<
+    'de,
+    A: Deserialize<'de>,
+    B: Deserialize<'de>,
+    C: Deserialize<'de>,
+    D: Deserialize<'de>,
+> Deserialize<'de> for (A, B, C, D) {
     ghost reads = { IsGroup (IsThen A.reads (IsThen B.reads (IsThen C.reads (IsThen D.reads IsEnd)))) };
 
     ghost value = { λ t v. IsGroup (IsThen (λ s. A.value s v.0) (IsThen (λ s. B.value s v.1) (IsThen (λ s. C.value s v.2) (IsThen (λ s. D.value s v.3) IsEnd)))) t };
@@ -102,7 +109,14 @@ impl<'de, A: Deserialize<'de>, B: Deserialize<'de>, C: Deserialize<'de>, D: Dese
     }
 }
 
-impl<'de, A: Deserialize<'de>, B: Deserialize<'de>, C: Deserialize<'de>, D: Deserialize<'de>, E: Deserialize<'de>> Deserialize<'de> for (A, B, C, D, E) {
+impl<
+    'de,
+    A: Deserialize<'de>,
+    B: Deserialize<'de>,
+    C: Deserialize<'de>,
+    D: Deserialize<'de>,
+    E: Deserialize<'de>,
+> Deserialize<'de> for (A, B, C, D, E) {
     ghost reads = { IsGroup (IsThen A.reads (IsThen B.reads (IsThen C.reads (IsThen D.reads (IsThen E.reads IsEnd))))) };
 
     ghost value = { λ t v. IsGroup (IsThen (λ s. A.value s v.0) (IsThen (λ s. B.value s v.1) (IsThen (λ s. C.value s v.2) (IsThen (λ s. D.value s v.3) (IsThen (λ s. E.value s v.4) IsEnd))))) t };
@@ -127,7 +141,15 @@ impl<'de, A: Deserialize<'de>, B: Deserialize<'de>, C: Deserialize<'de>, D: Dese
     }
 }
 
-impl<'de, A: Deserialize<'de>, B: Deserialize<'de>, C: Deserialize<'de>, D: Deserialize<'de>, E: Deserialize<'de>, G: Deserialize<'de>> Deserialize<'de> for (A, B, C, D, E, G) {
+impl<
+    'de,
+    A: Deserialize<'de>,
+    B: Deserialize<'de>,
+    C: Deserialize<'de>,
+    D: Deserialize<'de>,
+    E: Deserialize<'de>,
+    G: Deserialize<'de>,
+> Deserialize<'de> for (A, B, C, D, E, G) {
     ghost reads = { IsGroup (IsThen A.reads (IsThen B.reads (IsThen C.reads (IsThen D.reads (IsThen E.reads (IsThen G.reads IsEnd)))))) };
 
     ghost value = { λ t v. IsGroup (IsThen (λ s. A.value s v.0) (IsThen (λ s. B.value s v.1) (IsThen (λ s. C.value s v.2) (IsThen (λ s. D.value s v.3) (IsThen (λ s. E.value s v.4) (IsThen (λ s. G.value s v.5) IsEnd)))))) t };

@@ -14,9 +14,9 @@ ghost use Rattle.postcard_de.specs.Options.{char_one};
 ghost use Rattle.postcard_de.specs.Fixed.{IsShortText, short_text_inside};
 
 use crate::owned::DeserializeOwned;
+use arrayvec::ArrayString;
 use postcard_de::{Deserialize, Deserializer, Flavor, Result};
 use std::alloc::Global;
-use arrayvec::ArrayString;
 
 impl DeserializeOwned for char {
     ghost reads = { IsChar };
@@ -33,7 +33,10 @@ impl DeserializeOwned for char {
 
     ghost one_value = { char_one };
 
-    fn deserialize_owned<'de, F: Flavor>(alloc: Global, d: &mut Deserializer<'de, F>) -> Result<Self> {
+    fn deserialize_owned<'de, F: Flavor>(
+        alloc: Global,
+        d: &mut Deserializer<'de, F>,
+    ) -> Result<Self> {
         char::deserialize(alloc, d)
     }
 }
@@ -53,7 +56,10 @@ impl<const CAP: usize> DeserializeOwned for ArrayString<CAP> {
 
     ghost one_value = { text_one (λ (v : ArrayString). v.bytes) };
 
-    fn deserialize_owned<'de, F: Flavor>(alloc: Global, d: &mut Deserializer<'de, F>) -> Result<Self> {
+    fn deserialize_owned<'de, F: Flavor>(
+        alloc: Global,
+        d: &mut Deserializer<'de, F>,
+    ) -> Result<Self> {
         <ArrayString<CAP>>::deserialize(alloc, d)
     }
 }

@@ -31,7 +31,10 @@ impl<T: DeserializeOwned> DeserializeOwned for Vec<T> {
 
     ghost one_value = { list_one _ T.value T.same T.one_value };
 
-    fn deserialize_owned<'de, F: Flavor>(alloc: Global, d: &mut Deserializer<'de, F>) -> Result<Self> {
+    fn deserialize_owned<'de, F: Flavor>(
+        alloc: Global,
+        d: &mut Deserializer<'de, F>,
+    ) -> Result<Self> {
         let mut access = d.deserialize_seq()?;
         let mut items = Vec::new(alloc);
         while let Some(item) = access.next_element::<Owned<T>, F>(alloc, d)? {
@@ -58,7 +61,10 @@ impl<T: DeserializeOwned + Copy + Default, const N: usize> DeserializeOwned for 
 
     ghost one_value = { λ t v w. group_one (λ ts. each_one T.value T.same T.one_value ts v w) t };
 
-    fn deserialize_owned<'de, F: Flavor>(alloc: Global, d: &mut Deserializer<'de, F>) -> Result<Self> {
+    fn deserialize_owned<'de, F: Flavor>(
+        alloc: Global,
+        d: &mut Deserializer<'de, F>,
+    ) -> Result<Self> {
         let mut items = [T::default(); N];
         for i in 0..N {
             items[i] = T::deserialize_owned(alloc, d)?;
@@ -82,7 +88,10 @@ impl<T: DeserializeOwned + Default, const CAP: usize> DeserializeOwned for Array
 
     ghost one_value = { list_one _ T.value T.same T.one_value };
 
-    fn deserialize_owned<'de, F: Flavor>(alloc: Global, d: &mut Deserializer<'de, F>) -> Result<Self> {
+    fn deserialize_owned<'de, F: Flavor>(
+        alloc: Global,
+        d: &mut Deserializer<'de, F>,
+    ) -> Result<Self> {
         let mut access = d.deserialize_seq()?;
         let mut items = ArrayVec::new();
         while let Some(item) = access.next_element::<Owned<T>, F>(alloc, d)? {
@@ -109,7 +118,10 @@ impl<K: DeserializeOwned + Ord, V: DeserializeOwned> DeserializeOwned for BTreeM
 
     ghost one_value = { map_one _ K.cmp K.value V.value K.same V.same K.one_value V.one_value };
 
-    fn deserialize_owned<'de, F: Flavor>(alloc: Global, d: &mut Deserializer<'de, F>) -> Result<Self> {
+    fn deserialize_owned<'de, F: Flavor>(
+        alloc: Global,
+        d: &mut Deserializer<'de, F>,
+    ) -> Result<Self> {
         let mut access = d.deserialize_map()?;
         let mut map = BTreeMap::new(alloc);
         while let Some(key) = access.next_key::<Owned<K>, F>(alloc, d)? {

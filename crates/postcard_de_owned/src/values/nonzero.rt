@@ -16,8 +16,8 @@ use crate::owned::DeserializeOwned;
 use postcard_de::{Deserialize, Deserializer, Flavor, Result};
 use std::alloc::Global;
 use std::num::{
-    NonZeroI8, NonZeroI16, NonZeroI32, NonZeroI64, NonZeroI128, NonZeroIsize, NonZeroU8, NonZeroU16, NonZeroU32, NonZeroU64,
-    NonZeroU128, NonZeroUsize,
+    NonZeroI8, NonZeroI16, NonZeroI32, NonZeroI64, NonZeroI128, NonZeroIsize, NonZeroU8,
+    NonZeroU16, NonZeroU32, NonZeroU64, NonZeroU128, NonZeroUsize,
 };
 
 impl DeserializeOwned for NonZeroU8 {
@@ -35,7 +35,10 @@ impl DeserializeOwned for NonZeroU8 {
 
     ghost one_value = { node_one Byte non_zero_u8_get byte_same };
 
-    fn deserialize_owned<'de, F: Flavor>(alloc: Global, d: &mut Deserializer<'de, F>) -> Result<Self> {
+    fn deserialize_owned<'de, F: Flavor>(
+        alloc: Global,
+        d: &mut Deserializer<'de, F>,
+    ) -> Result<Self> {
         NonZeroU8::deserialize(alloc, d)
     }
 }
@@ -55,7 +58,10 @@ impl DeserializeOwned for NonZeroU16 {
 
     ghost one_value = { node_one (Num 16) non_zero_u16_get (num_same 16) };
 
-    fn deserialize_owned<'de, F: Flavor>(alloc: Global, d: &mut Deserializer<'de, F>) -> Result<Self> {
+    fn deserialize_owned<'de, F: Flavor>(
+        alloc: Global,
+        d: &mut Deserializer<'de, F>,
+    ) -> Result<Self> {
         NonZeroU16::deserialize(alloc, d)
     }
 }
@@ -75,7 +81,10 @@ impl DeserializeOwned for NonZeroU32 {
 
     ghost one_value = { node_one (Num 32) non_zero_u32_get (num_same 32) };
 
-    fn deserialize_owned<'de, F: Flavor>(alloc: Global, d: &mut Deserializer<'de, F>) -> Result<Self> {
+    fn deserialize_owned<'de, F: Flavor>(
+        alloc: Global,
+        d: &mut Deserializer<'de, F>,
+    ) -> Result<Self> {
         NonZeroU32::deserialize(alloc, d)
     }
 }
@@ -95,7 +104,10 @@ impl DeserializeOwned for NonZeroU64 {
 
     ghost one_value = { node_one (Num 64) non_zero_u64_get (num_same 64) };
 
-    fn deserialize_owned<'de, F: Flavor>(alloc: Global, d: &mut Deserializer<'de, F>) -> Result<Self> {
+    fn deserialize_owned<'de, F: Flavor>(
+        alloc: Global,
+        d: &mut Deserializer<'de, F>,
+    ) -> Result<Self> {
         NonZeroU64::deserialize(alloc, d)
     }
 }
@@ -115,7 +127,10 @@ impl DeserializeOwned for NonZeroU128 {
 
     ghost one_value = { node_one (Num 128) non_zero_u128_get (num_same 128) };
 
-    fn deserialize_owned<'de, F: Flavor>(alloc: Global, d: &mut Deserializer<'de, F>) -> Result<Self> {
+    fn deserialize_owned<'de, F: Flavor>(
+        alloc: Global,
+        d: &mut Deserializer<'de, F>,
+    ) -> Result<Self> {
         NonZeroU128::deserialize(alloc, d)
     }
 }
@@ -135,7 +150,10 @@ impl DeserializeOwned for NonZeroUsize {
 
     ghost one_value = { node_one (Num 64) non_zero_usize_get (num_same 64) };
 
-    fn deserialize_owned<'de, F: Flavor>(alloc: Global, d: &mut Deserializer<'de, F>) -> Result<Self> {
+    fn deserialize_owned<'de, F: Flavor>(
+        alloc: Global,
+        d: &mut Deserializer<'de, F>,
+    ) -> Result<Self> {
         NonZeroUsize::deserialize(alloc, d)
     }
 }
@@ -155,7 +173,10 @@ impl DeserializeOwned for NonZeroI8 {
 
     ghost one_value = { node_one Byte (λ v. cast_unsigned w8 (non_zero_i8_get v)) byte_same };
 
-    fn deserialize_owned<'de, F: Flavor>(alloc: Global, d: &mut Deserializer<'de, F>) -> Result<Self> {
+    fn deserialize_owned<'de, F: Flavor>(
+        alloc: Global,
+        d: &mut Deserializer<'de, F>,
+    ) -> Result<Self> {
         NonZeroI8::deserialize(alloc, d)
     }
 }
@@ -175,7 +196,10 @@ impl DeserializeOwned for NonZeroI16 {
 
     ghost one_value = { node_one (Int 16) non_zero_i16_get (int_same 16) };
 
-    fn deserialize_owned<'de, F: Flavor>(alloc: Global, d: &mut Deserializer<'de, F>) -> Result<Self> {
+    fn deserialize_owned<'de, F: Flavor>(
+        alloc: Global,
+        d: &mut Deserializer<'de, F>,
+    ) -> Result<Self> {
         NonZeroI16::deserialize(alloc, d)
     }
 }
@@ -195,7 +219,10 @@ impl DeserializeOwned for NonZeroI32 {
 
     ghost one_value = { node_one (Int 32) non_zero_i32_get (int_same 32) };
 
-    fn deserialize_owned<'de, F: Flavor>(alloc: Global, d: &mut Deserializer<'de, F>) -> Result<Self> {
+    fn deserialize_owned<'de, F: Flavor>(
+        alloc: Global,
+        d: &mut Deserializer<'de, F>,
+    ) -> Result<Self> {
         NonZeroI32::deserialize(alloc, d)
     }
 }
@@ -215,7 +242,10 @@ impl DeserializeOwned for NonZeroI64 {
 
     ghost one_value = { node_one (Int 64) non_zero_i64_get (int_same 64) };
 
-    fn deserialize_owned<'de, F: Flavor>(alloc: Global, d: &mut Deserializer<'de, F>) -> Result<Self> {
+    fn deserialize_owned<'de, F: Flavor>(
+        alloc: Global,
+        d: &mut Deserializer<'de, F>,
+    ) -> Result<Self> {
         NonZeroI64::deserialize(alloc, d)
     }
 }
@@ -235,7 +265,10 @@ impl DeserializeOwned for NonZeroI128 {
 
     ghost one_value = { node_one (Int 128) non_zero_i128_get (int_same 128) };
 
-    fn deserialize_owned<'de, F: Flavor>(alloc: Global, d: &mut Deserializer<'de, F>) -> Result<Self> {
+    fn deserialize_owned<'de, F: Flavor>(
+        alloc: Global,
+        d: &mut Deserializer<'de, F>,
+    ) -> Result<Self> {
         NonZeroI128::deserialize(alloc, d)
     }
 }
@@ -255,7 +288,10 @@ impl DeserializeOwned for NonZeroIsize {
 
     ghost one_value = { node_one (Int 64) non_zero_isize_get (int_same 64) };
 
-    fn deserialize_owned<'de, F: Flavor>(alloc: Global, d: &mut Deserializer<'de, F>) -> Result<Self> {
+    fn deserialize_owned<'de, F: Flavor>(
+        alloc: Global,
+        d: &mut Deserializer<'de, F>,
+    ) -> Result<Self> {
         NonZeroIsize::deserialize(alloc, d)
     }
 }

@@ -28,7 +28,10 @@ impl DeserializeOwned for u8 {
 
     ghost one_value = { byte_one };
 
-    fn deserialize_owned<'de, F: Flavor>(alloc: Global, d: &mut Deserializer<'de, F>) -> Result<Self> {
+    fn deserialize_owned<'de, F: Flavor>(
+        alloc: Global,
+        d: &mut Deserializer<'de, F>,
+    ) -> Result<Self> {
         u8::deserialize(alloc, d)
     }
 }
@@ -48,7 +51,10 @@ impl DeserializeOwned for u16 {
 
     ghost one_value = { num_one 16 };
 
-    fn deserialize_owned<'de, F: Flavor>(alloc: Global, d: &mut Deserializer<'de, F>) -> Result<Self> {
+    fn deserialize_owned<'de, F: Flavor>(
+        alloc: Global,
+        d: &mut Deserializer<'de, F>,
+    ) -> Result<Self> {
         u16::deserialize(alloc, d)
     }
 }
@@ -68,7 +74,10 @@ impl DeserializeOwned for u32 {
 
     ghost one_value = { num_one 32 };
 
-    fn deserialize_owned<'de, F: Flavor>(alloc: Global, d: &mut Deserializer<'de, F>) -> Result<Self> {
+    fn deserialize_owned<'de, F: Flavor>(
+        alloc: Global,
+        d: &mut Deserializer<'de, F>,
+    ) -> Result<Self> {
         u32::deserialize(alloc, d)
     }
 }
@@ -88,7 +97,10 @@ impl DeserializeOwned for u64 {
 
     ghost one_value = { num_one 64 };
 
-    fn deserialize_owned<'de, F: Flavor>(alloc: Global, d: &mut Deserializer<'de, F>) -> Result<Self> {
+    fn deserialize_owned<'de, F: Flavor>(
+        alloc: Global,
+        d: &mut Deserializer<'de, F>,
+    ) -> Result<Self> {
         u64::deserialize(alloc, d)
     }
 }
@@ -108,7 +120,10 @@ impl DeserializeOwned for u128 {
 
     ghost one_value = { num_one 128 };
 
-    fn deserialize_owned<'de, F: Flavor>(alloc: Global, d: &mut Deserializer<'de, F>) -> Result<Self> {
+    fn deserialize_owned<'de, F: Flavor>(
+        alloc: Global,
+        d: &mut Deserializer<'de, F>,
+    ) -> Result<Self> {
         u128::deserialize(alloc, d)
     }
 }
@@ -128,7 +143,10 @@ impl DeserializeOwned for i8 {
 
     ghost one_value = { signed_byte_one };
 
-    fn deserialize_owned<'de, F: Flavor>(alloc: Global, d: &mut Deserializer<'de, F>) -> Result<Self> {
+    fn deserialize_owned<'de, F: Flavor>(
+        alloc: Global,
+        d: &mut Deserializer<'de, F>,
+    ) -> Result<Self> {
         i8::deserialize(alloc, d)
     }
 }
@@ -148,7 +166,10 @@ impl DeserializeOwned for i16 {
 
     ghost one_value = { int_one 16 };
 
-    fn deserialize_owned<'de, F: Flavor>(alloc: Global, d: &mut Deserializer<'de, F>) -> Result<Self> {
+    fn deserialize_owned<'de, F: Flavor>(
+        alloc: Global,
+        d: &mut Deserializer<'de, F>,
+    ) -> Result<Self> {
         i16::deserialize(alloc, d)
     }
 }
@@ -168,7 +189,10 @@ impl DeserializeOwned for i32 {
 
     ghost one_value = { int_one 32 };
 
-    fn deserialize_owned<'de, F: Flavor>(alloc: Global, d: &mut Deserializer<'de, F>) -> Result<Self> {
+    fn deserialize_owned<'de, F: Flavor>(
+        alloc: Global,
+        d: &mut Deserializer<'de, F>,
+    ) -> Result<Self> {
         i32::deserialize(alloc, d)
     }
 }
@@ -188,7 +212,10 @@ impl DeserializeOwned for i64 {
 
     ghost one_value = { int_one 64 };
 
-    fn deserialize_owned<'de, F: Flavor>(alloc: Global, d: &mut Deserializer<'de, F>) -> Result<Self> {
+    fn deserialize_owned<'de, F: Flavor>(
+        alloc: Global,
+        d: &mut Deserializer<'de, F>,
+    ) -> Result<Self> {
         i64::deserialize(alloc, d)
     }
 }
@@ -208,7 +235,10 @@ impl DeserializeOwned for i128 {
 
     ghost one_value = { int_one 128 };
 
-    fn deserialize_owned<'de, F: Flavor>(alloc: Global, d: &mut Deserializer<'de, F>) -> Result<Self> {
+    fn deserialize_owned<'de, F: Flavor>(
+        alloc: Global,
+        d: &mut Deserializer<'de, F>,
+    ) -> Result<Self> {
         i128::deserialize(alloc, d)
     }
 }

@@ -26,7 +26,10 @@ impl DeserializeOwned for bool {
 
     ghost one_value = { boolean_one };
 
-    fn deserialize_owned<'de, F: Flavor>(alloc: Global, d: &mut Deserializer<'de, F>) -> Result<Self> {
+    fn deserialize_owned<'de, F: Flavor>(
+        alloc: Global,
+        d: &mut Deserializer<'de, F>,
+    ) -> Result<Self> {
         bool::deserialize(alloc, d)
     }
 }
@@ -46,7 +49,10 @@ impl<T: DeserializeOwned> DeserializeOwned for Option<T> {
 
     ghost one_value = { option_one T.value T.same T.one_value };
 
-    fn deserialize_owned<'de, F: Flavor>(alloc: Global, d: &mut Deserializer<'de, F>) -> Result<Self> {
+    fn deserialize_owned<'de, F: Flavor>(
+        alloc: Global,
+        d: &mut Deserializer<'de, F>,
+    ) -> Result<Self> {
         let value = d.deserialize_option::<Owned<T>>(alloc)?;
         match value {
             Some(Owned(content)) => Ok(Some(content)),

@@ -27,7 +27,10 @@ impl<T: DeserializeOwned> DeserializeOwned for Range<T> {
 
     ghost one_value = { λ t v w. group_one (then_one T.one_value (then_one T.one_value end_one)) t };
 
-    fn deserialize_owned<'de, F: Flavor>(alloc: Global, d: &mut Deserializer<'de, F>) -> Result<Self> {
+    fn deserialize_owned<'de, F: Flavor>(
+        alloc: Global,
+        d: &mut Deserializer<'de, F>,
+    ) -> Result<Self> {
         let ends = <(Owned<T>, Owned<T>)>::deserialize(alloc, d)?;
         let (Owned(start), Owned(end)) = ends;
         Ok(Range { start, end })
@@ -49,7 +52,10 @@ impl<T: DeserializeOwned> DeserializeOwned for RangeInclusive<T> {
 
     ghost one_value = { λ t v w. group_one (then_one T.one_value (then_one T.one_value end_one)) t };
 
-    fn deserialize_owned<'de, F: Flavor>(alloc: Global, d: &mut Deserializer<'de, F>) -> Result<Self> {
+    fn deserialize_owned<'de, F: Flavor>(
+        alloc: Global,
+        d: &mut Deserializer<'de, F>,
+    ) -> Result<Self> {
         let ends = <(Owned<T>, Owned<T>)>::deserialize(alloc, d)?;
         let (Owned(start), Owned(end)) = ends;
         Ok(RangeInclusive::new(start, end))
@@ -71,7 +77,10 @@ impl<T: DeserializeOwned> DeserializeOwned for RangeFrom<T> {
 
     ghost one_value = { λ t v w. group_one (then_one T.one_value end_one) t };
 
-    fn deserialize_owned<'de, F: Flavor>(alloc: Global, d: &mut Deserializer<'de, F>) -> Result<Self> {
+    fn deserialize_owned<'de, F: Flavor>(
+        alloc: Global,
+        d: &mut Deserializer<'de, F>,
+    ) -> Result<Self> {
         let ends = <(Owned<T>,)>::deserialize(alloc, d)?;
         let (Owned(start),) = ends;
         Ok(RangeFrom { start })
@@ -93,7 +102,10 @@ impl<T: DeserializeOwned> DeserializeOwned for RangeTo<T> {
 
     ghost one_value = { λ t v w. group_one (then_one T.one_value end_one) t };
 
-    fn deserialize_owned<'de, F: Flavor>(alloc: Global, d: &mut Deserializer<'de, F>) -> Result<Self> {
+    fn deserialize_owned<'de, F: Flavor>(
+        alloc: Global,
+        d: &mut Deserializer<'de, F>,
+    ) -> Result<Self> {
         let ends = <(Owned<T>,)>::deserialize(alloc, d)?;
         let (Owned(end),) = ends;
         Ok(RangeTo { end })

@@ -28,7 +28,10 @@ impl<T: DeserializeOwned> DeserializeOwned for Box<T> {
 
     ghost one_value = { λ t v w h k. T.one_value t v.value w.value h k };
 
-    fn deserialize_owned<'de, F: Flavor>(alloc: Global, d: &mut Deserializer<'de, F>) -> Result<Self> {
+    fn deserialize_owned<'de, F: Flavor>(
+        alloc: Global,
+        d: &mut Deserializer<'de, F>,
+    ) -> Result<Self> {
         let value = T::deserialize_owned(alloc, d)?;
         match Box::new(alloc, value) {
             Ok(boxed) => Ok(boxed),
@@ -52,7 +55,10 @@ impl<T: DeserializeOwned> DeserializeOwned for Rc<T> {
 
     ghost one_value = { λ t v w h k. T.one_value t v.value w.value h k };
 
-    fn deserialize_owned<'de, F: Flavor>(alloc: Global, d: &mut Deserializer<'de, F>) -> Result<Self> {
+    fn deserialize_owned<'de, F: Flavor>(
+        alloc: Global,
+        d: &mut Deserializer<'de, F>,
+    ) -> Result<Self> {
         let value = T::deserialize_owned(alloc, d)?;
         match Rc::new(alloc, value) {
             Ok(shared) => Ok(shared),
@@ -76,7 +82,10 @@ impl<T: DeserializeOwned> DeserializeOwned for Wrapping<T> {
 
     ghost one_value = { λ t v w h k. T.one_value t v.0 w.0 h k };
 
-    fn deserialize_owned<'de, F: Flavor>(alloc: Global, d: &mut Deserializer<'de, F>) -> Result<Self> {
+    fn deserialize_owned<'de, F: Flavor>(
+        alloc: Global,
+        d: &mut Deserializer<'de, F>,
+    ) -> Result<Self> {
         let value = T::deserialize_owned(alloc, d)?;
         Ok(Wrapping(value))
     }
@@ -97,7 +106,10 @@ impl DeserializeOwned for () {
 
     ghost one_value = { λ t v w. group_one end_one t };
 
-    fn deserialize_owned<'de, F: Flavor>(alloc: Global, d: &mut Deserializer<'de, F>) -> Result<Self> {
+    fn deserialize_owned<'de, F: Flavor>(
+        alloc: Global,
+        d: &mut Deserializer<'de, F>,
+    ) -> Result<Self> {
         <()>::deserialize(alloc, d)
     }
 }
@@ -117,7 +129,10 @@ impl<T: Drop> DeserializeOwned for PhantomData<T> {
 
     ghost one_value = { λ t v w. group_one end_one t };
 
-    fn deserialize_owned<'de, F: Flavor>(alloc: Global, d: &mut Deserializer<'de, F>) -> Result<Self> {
+    fn deserialize_owned<'de, F: Flavor>(
+        alloc: Global,
+        d: &mut Deserializer<'de, F>,
+    ) -> Result<Self> {
         PhantomData::deserialize(alloc, d)
     }
 }

@@ -25,7 +25,10 @@ impl<T: DeserializeOwned, E: DeserializeOwned> DeserializeOwned for Result<T, E>
 
     ghost one_value = { variant_one _ _ (result_one T.value E.value T.same E.same T.one_value E.one_value) };
 
-    fn deserialize_owned<'de, F: Flavor>(alloc: Global, d: &mut Deserializer<'de, F>) -> postcard_de::Result<Self> {
+    fn deserialize_owned<'de, F: Flavor>(
+        alloc: Global,
+        d: &mut Deserializer<'de, F>,
+    ) -> postcard_de::Result<Self> {
         let value = <Result<Owned<T>, Owned<E>>>::deserialize(alloc, d)?;
         match value {
             Ok(Owned(good)) => Ok(Ok(good)),

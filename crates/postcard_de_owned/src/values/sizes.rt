@@ -30,7 +30,10 @@ impl DeserializeOwned for usize {
 
     ghost one_value = { num_one 64 };
 
-    fn deserialize_owned<'de, F: Flavor>(alloc: Global, d: &mut Deserializer<'de, F>) -> Result<Self> {
+    fn deserialize_owned<'de, F: Flavor>(
+        alloc: Global,
+        d: &mut Deserializer<'de, F>,
+    ) -> Result<Self> {
         usize::deserialize(alloc, d)
     }
 }
@@ -50,7 +53,10 @@ impl DeserializeOwned for isize {
 
     ghost one_value = { int_one 64 };
 
-    fn deserialize_owned<'de, F: Flavor>(alloc: Global, d: &mut Deserializer<'de, F>) -> Result<Self> {
+    fn deserialize_owned<'de, F: Flavor>(
+        alloc: Global,
+        d: &mut Deserializer<'de, F>,
+    ) -> Result<Self> {
         isize::deserialize(alloc, d)
     }
 }
@@ -70,7 +76,10 @@ impl DeserializeOwned for Duration {
 
     ghost one_value = { span_one };
 
-    fn deserialize_owned<'de, F: Flavor>(alloc: Global, d: &mut Deserializer<'de, F>) -> Result<Self> {
+    fn deserialize_owned<'de, F: Flavor>(
+        alloc: Global,
+        d: &mut Deserializer<'de, F>,
+    ) -> Result<Self> {
         Duration::deserialize(alloc, d)
     }
 }

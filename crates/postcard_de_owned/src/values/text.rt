@@ -27,7 +27,10 @@ impl DeserializeOwned for String {
 
     ghost one_value = { text_one _ };
 
-    fn deserialize_owned<'de, F: Flavor>(alloc: Global, d: &mut Deserializer<'de, F>) -> Result<Self> {
+    fn deserialize_owned<'de, F: Flavor>(
+        alloc: Global,
+        d: &mut Deserializer<'de, F>,
+    ) -> Result<Self> {
         String::deserialize(alloc, d)
     }
 }

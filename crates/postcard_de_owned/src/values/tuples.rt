@@ -25,7 +25,10 @@ impl<A: DeserializeOwned> DeserializeOwned for (A,) {
 
     ghost one_value = { λ t v w. group_one (then_one A.one_value end_one) t };
 
-    fn deserialize_owned<'de, F: Flavor>(alloc: Global, d: &mut Deserializer<'de, F>) -> Result<Self> {
+    fn deserialize_owned<'de, F: Flavor>(
+        alloc: Global,
+        d: &mut Deserializer<'de, F>,
+    ) -> Result<Self> {
         let parts = <(Owned<A>,)>::deserialize(alloc, d)?;
         let (Owned(first),) = parts;
         Ok((first,))
@@ -47,7 +50,10 @@ impl<A: DeserializeOwned, B: DeserializeOwned> DeserializeOwned for (A, B) {
 
     ghost one_value = { λ t v w. group_one (then_one A.one_value (then_one B.one_value end_one)) t };
 
-    fn deserialize_owned<'de, F: Flavor>(alloc: Global, d: &mut Deserializer<'de, F>) -> Result<Self> {
+    fn deserialize_owned<'de, F: Flavor>(
+        alloc: Global,
+        d: &mut Deserializer<'de, F>,
+    ) -> Result<Self> {
         let parts = <(Owned<A>, Owned<B>)>::deserialize(alloc, d)?;
         let (Owned(first), Owned(second)) = parts;
         Ok((first, second))
@@ -69,14 +75,22 @@ impl<A: DeserializeOwned, B: DeserializeOwned, C: DeserializeOwned> DeserializeO
 
     ghost one_value = { λ t v w. group_one (then_one A.one_value (then_one B.one_value (then_one C.one_value end_one))) t };
 
-    fn deserialize_owned<'de, F: Flavor>(alloc: Global, d: &mut Deserializer<'de, F>) -> Result<Self> {
+    fn deserialize_owned<'de, F: Flavor>(
+        alloc: Global,
+        d: &mut Deserializer<'de, F>,
+    ) -> Result<Self> {
         let parts = <(Owned<A>, Owned<B>, Owned<C>)>::deserialize(alloc, d)?;
         let (Owned(first), Owned(second), Owned(third)) = parts;
         Ok((first, second, third))
     }
 }
 
-impl<A: DeserializeOwned, B: DeserializeOwned, C: DeserializeOwned, D: DeserializeOwned> DeserializeOwned for (A, B, C, D) {
+impl<
+    A: DeserializeOwned,
+    B: DeserializeOwned,
+    C: DeserializeOwned,
+    D: DeserializeOwned,
+> DeserializeOwned for (A, B, C, D) {
     ghost reads = { IsGroup (IsThen A.reads (IsThen B.reads (IsThen C.reads (IsThen D.reads IsEnd)))) };
 
     ghost value = { λ t v. IsGroup (IsThen (λ s. A.value s v.0) (IsThen (λ s. B.value s v.1) (IsThen (λ s. C.value s v.2) (IsThen (λ s. D.value s v.3) IsEnd)))) t };
@@ -91,14 +105,23 @@ impl<A: DeserializeOwned, B: DeserializeOwned, C: DeserializeOwned, D: Deseriali
 
     ghost one_value = { λ t v w. group_one (then_one A.one_value (then_one B.one_value (then_one C.one_value (then_one D.one_value end_one)))) t };
 
-    fn deserialize_owned<'de, F: Flavor>(alloc: Global, d: &mut Deserializer<'de, F>) -> Result<Self> {
+    fn deserialize_owned<'de, F: Flavor>(
+        alloc: Global,
+        d: &mut Deserializer<'de, F>,
+    ) -> Result<Self> {
         let parts = <(Owned<A>, Owned<B>, Owned<C>, Owned<D>)>::deserialize(alloc, d)?;
         let (Owned(first), Owned(second), Owned(third), Owned(fourth)) = parts;
         Ok((first, second, third, fourth))
     }
 }
 
-impl<A: DeserializeOwned, B: DeserializeOwned, C: DeserializeOwned, D: DeserializeOwned, E: DeserializeOwned> DeserializeOwned for (A, B, C, D, E) {
+impl<
+    A: DeserializeOwned,
+    B: DeserializeOwned,
+    C: DeserializeOwned,
+    D: DeserializeOwned,
+    E: DeserializeOwned,
+> DeserializeOwned for (A, B, C, D, E) {
     ghost reads = { IsGroup (IsThen A.reads (IsThen B.reads (IsThen C.reads (IsThen D.reads (IsThen E.reads IsEnd))))) };
 
     ghost value = { λ t v. IsGroup (IsThen (λ s. A.value s v.0) (IsThen (λ s. B.value s v.1) (IsThen (λ s. C.value s v.2) (IsThen (λ s. D.value s v.3) (IsThen (λ s. E.value s v.4) IsEnd))))) t };
@@ -113,14 +136,24 @@ impl<A: DeserializeOwned, B: DeserializeOwned, C: DeserializeOwned, D: Deseriali
 
     ghost one_value = { λ t v w. group_one (then_one A.one_value (then_one B.one_value (then_one C.one_value (then_one D.one_value (then_one E.one_value end_one))))) t };
 
-    fn deserialize_owned<'de, F: Flavor>(alloc: Global, d: &mut Deserializer<'de, F>) -> Result<Self> {
+    fn deserialize_owned<'de, F: Flavor>(
+        alloc: Global,
+        d: &mut Deserializer<'de, F>,
+    ) -> Result<Self> {
         let parts = <(Owned<A>, Owned<B>, Owned<C>, Owned<D>, Owned<E>)>::deserialize(alloc, d)?;
         let (Owned(first), Owned(second), Owned(third), Owned(fourth), Owned(fifth)) = parts;
         Ok((first, second, third, fourth, fifth))
     }
 }
 
-impl<A: DeserializeOwned, B: DeserializeOwned, C: DeserializeOwned, D: DeserializeOwned, E: DeserializeOwned, G: DeserializeOwned> DeserializeOwned for (A, B, C, D, E, G) {
+impl<
+    A: DeserializeOwned,
+    B: DeserializeOwned,
+    C: DeserializeOwned,
+    D: DeserializeOwned,
+    E: DeserializeOwned,
+    G: DeserializeOwned,
+> DeserializeOwned for (A, B, C, D, E, G) {
     ghost reads = { IsGroup (IsThen A.reads (IsThen B.reads (IsThen C.reads (IsThen D.reads (IsThen E.reads (IsThen G.reads IsEnd)))))) };
 
     ghost value = { λ t v. IsGroup (IsThen (λ s. A.value s v.0) (IsThen (λ s. B.value s v.1) (IsThen (λ s. C.value s v.2) (IsThen (λ s. D.value s v.3) (IsThen (λ s. E.value s v.4) (IsThen (λ s. G.value s v.5) IsEnd)))))) t };
@@ -135,9 +168,15 @@ impl<A: DeserializeOwned, B: DeserializeOwned, C: DeserializeOwned, D: Deseriali
 
     ghost one_value = { λ t v w. group_one (then_one A.one_value (then_one B.one_value (then_one C.one_value (then_one D.one_value (then_one E.one_value (then_one G.one_value end_one)))))) t };
 
-    fn deserialize_owned<'de, F: Flavor>(alloc: Global, d: &mut Deserializer<'de, F>) -> Result<Self> {
-        let parts = <(Owned<A>, Owned<B>, Owned<C>, Owned<D>, Owned<E>, Owned<G>)>::deserialize(alloc, d)?;
-        let (Owned(first), Owned(second), Owned(third), Owned(fourth), Owned(fifth), Owned(sixth)) = parts;
+    fn deserialize_owned<'de, F: Flavor>(
+        alloc: Global,
+        d: &mut Deserializer<'de, F>,
+    ) -> Result<Self> {
+        let parts = <(Owned<A>, Owned<B>, Owned<C>, Owned<D>, Owned<E>, Owned<G>)>::deserialize(
+            alloc, d,
+        )?;
+        let (Owned(first), Owned(second), Owned(third), Owned(fourth), Owned(fifth), Owned(sixth)) =
+            parts;
         Ok((first, second, third, fourth, fifth, sixth))
     }
 }

@@ -9,7 +9,7 @@ invariant-loop-items g l = let f = g.F.Flavor in let t = g.T.Deserialize in
       going : Going f.left f.able f.may_leave t.reads t.value t.grows (source_of l.initial.d) l.initial.access l.items.items (source_of l.d) l.access;
       counted : length l.items.items + l.access ≡ l.initial.access;
       few : length l.items.items ≤ g.row.CAP;
-      leaves : f.may_leave (source_of l.initial.d) (source_of l.d)
+      leaves : f.may_leave (source_of l.initial.d) (source_of l.d);
     }
 
 abbrev pub decreases-loop-items : goal.decreases-loop-items

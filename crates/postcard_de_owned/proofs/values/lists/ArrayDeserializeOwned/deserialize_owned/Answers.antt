@@ -26,7 +26,7 @@ loop-i-preserved g c =
     record {
       long = rw length-set c.loop-i.invariant.long;
       going = rw (add-one, take-suc-set c.loop-i.items c.loop-i.i c.in_ok-items.field-0 within)
-        (let k = goes_on g.F.Flavor.lawful (λ h. h) (rw more at c.loop-i.invariant.going) c.in_ok-items.ensures in rw add-one at k)
+          (let k = goes_on g.F.Flavor.lawful (λ h. h) (rw more at c.loop-i.invariant.going) c.in_ok-items.ensures in rw add-one at k);
     }
 
 pub returns : goal.returns

@@ -15,7 +15,7 @@ loop-items-init g c =
       going = rw c.new-items.ensures (going laws);
       counted = let e = ap length c.new-items.ensures in omega (arith, e);
       few = let e = ap length c.new-items.ensures in omega (arith, e);
-      leaves = laws.itself _
+      leaves = laws.itself _;
     }
 
 pub returns-in_err-access : goal.returns-in_err-access
@@ -54,7 +54,7 @@ loop-items-preserved g c =
       going = rw (e, c.in_ok-item.ensures.count) (goes_on laws (λ h. h) (rw more at c.loop-items.invariant.going) (content_read (unwrapped read)));
       counted = rw c.in_ok-item.ensures.count (omega (arith, long, more, c.loop-items.invariant.counted));
       few = omega (arith, long, room);
-      leaves = laws.joins _ _ _ c.loop-items.invariant.leaves read.leaves
+      leaves = laws.joins _ _ _ c.loop-items.invariant.leaves read.leaves;
     }
 
 pub returns : goal.returns

@@ -59,7 +59,7 @@ loop-map-preserved g c =
     record {
       pairs = c.loop-map.invariant.pairs ++ ((c.in-Some.key.0, c.in_ok-value.value.0) ∷ []);
       going = rw (c.in_ok-value.ensures.count, c.in_ok-key.ensures.count) (goes_on laws (λ h. tt) (rw more at c.loop-map.invariant.going) (entry_read laws key (content_read {I = g.V.DeserializeOwned.value} c.in_ok-value.ensures.value)));
-      made = e ∙ ap (λ (es : List (g.row.K.Denot × g.row.V.Denot)). insert_entry g.K.Ord.cmp es c.in-Some.key.0 c.in_ok-value.value.0) c.loop-map.invariant.made ∙ sym (inserted_last g.K.Ord.cmp c.loop-map.invariant.pairs [] c.in-Some.key.0 c.in_ok-value.value.0)
+      made = e ∙ ap (λ (es : List (g.row.K.Denot × g.row.V.Denot)). insert_entry g.K.Ord.cmp es c.in-Some.key.0 c.in_ok-value.value.0) c.loop-map.invariant.made ∙ sym (inserted_last g.K.Ord.cmp c.loop-map.invariant.pairs [] c.in-Some.key.0 c.in_ok-value.value.0);
     }
 
 pub returns : goal.returns

@@ -10,7 +10,7 @@ invariant-loop-map g l = let f = g.F.Flavor in let k = g.K.DeserializeOwned in l
     record {
       pairs : List (g.row.K.Denot × g.row.V.Denot);
       going : Going f.left f.able f.may_leave (IsEntry k.reads v.reads) (EntryIs k.value v.value) ⊤ (source_of l.initial.d) l.initial.access pairs (source_of l.d) l.access;
-      made : l.map.entries ≡ inserted g.K.Ord.cmp pairs []
+      made : l.map.entries ≡ inserted g.K.Ord.cmp pairs [];
     }
 
 abbrev pub decreases-loop-map : goal.decreases-loop-map
