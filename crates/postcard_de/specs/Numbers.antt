@@ -18,6 +18,10 @@ without_delimited one reads law = fewer_delimited (Without one reads) reads (λ 
 pub without_well_formed : (one : Tree) (reads : Tree → Type 0) → ReadsWellFormed reads → ReadsWellFormed (Without one reads)
 without_well_formed one reads law t r = law t r.0
 
+-- A tree that is made of what is seen of a value, by a constructor that loses nothing, has one value.
+pub node_one : {V A : Type 0} (node : A → Tree) (see : V → A) → ((a b : A) → node a ≡ node b → a ≡ b) → HasOne (λ t v. t ≡ node (see v)) (λ v w. see v ≡ see w)
+node_one node see injective t v w h k = injective (see v) (see w) (sym h ∙ k)
+
 -- So many seconds, and then so many nanoseconds.
 abbrev pub span : ℕ → ℕ → Tree
 span s n = Group (Then (Num 64 s) (Then (Num 32 n) NoTrees))
