@@ -4,3 +4,12 @@ pub mod Numbers
 pub mod Texts
 pub mod Compound
 pub mod Lists
+pub mod Parts
+pub mod Sift
+pub mod Enums
+pub mod Options
+pub mod Spans
+pub mod Entries
+pub mod Chars
+pub mod Bytes
+pub mod Fixed

@@ -19,7 +19,7 @@ use Rattle.postcard_de.proofs.Leaves.{Excludes, found, refused, refusal}
 use Rattle.postcard_de.proofs.Numbers.{Below, number_below}
 
 -- The spelling of a text, taken apart.
-facing_length : (p q a u y z : List ℕ) → q ≡ a ++ u → p ++ y ≡ q ++ z → p ++ y ≡ a ++ (u ++ z)
+pub facing_length : (p q a u y z : List ℕ) → q ≡ a ++ u → p ++ y ≡ q ++ z → p ++ y ≡ a ++ (u ++ z)
 facing_length p q a u y z e f = f ∙ (ap (λ (l : List ℕ). l ++ z) e ∙ append_assoc a u z)
 
 -- Where more bytes are wanted, they are within the text's spelling.

@@ -11,6 +11,11 @@ ghost use Rattle.postcard_de.specs.Refuses.{Refuses, WantsByte, NoneBad, WantsDi
 ghost use Rattle.postcard_de.specs.Values.{Same};
 ghost use Rattle.postcard_de.specs.Deserializer.{source_of};
 
+pub mod bytes;
+pub mod choices;
+pub mod structure;
+pub mod unsupported;
+
 use crate::access::SeqAccess;
 use postcard_de_flavors::{Flavor, Slice};
 use postcard_wire::digits::Digits;

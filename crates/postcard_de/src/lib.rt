@@ -5,20 +5,30 @@
 //! spells a tree that the type reads, that such a front is always read if the source can give it, what is left, and which
 //! errors never come. Every `deserialize_*` has the same clause, and beside it `refused`, the exact reason of a refusal.
 //!
-//! In reading order: [`deserialize`] has the trait, [`deserializer`] the calls for one node, [`access`] those for the elements
-//! of a list, [`values`] the types, [`laws`] what holds of every type that reads.
+//! A type of one's own says its trees by `IsGroup`, `IsThen` and `IsEnd` (a struct) or `IsVariant` (an enum), its values by
+//! the same words over its fields, and is proved by the lemmas of `proofs/Parts.antt` and `proofs/Enums.antt`: one citation
+//! for each exit of `?`, as `struct_fails laws .. (and_fails laws FIRST (stops laws SECOND))`, and
+//! `struct_read laws (λ t h. h) (and_part laws FIRST (and_part laws SECOND (no_more laws)))` where all was read.
+//!
+//! In reading order: [`deserialize`] has the trait, [`deserializer`] the calls for one node, a module for each kind,
+//! [`access`] and [`map_access`] those for the elements of a list and the pairs of a map, [`values`] the types, [`laws`] what
+//! holds of every type that reads.
 #![tactic(auto)]
 
 pub mod access;
 pub mod deserialize;
 pub mod deserializer;
 pub mod laws;
+pub mod map_access;
 #[cfg(test)]
 mod tests;
+#[cfg(test)]
+mod types_tests;
 pub mod values;
 
 pub use access::SeqAccess;
 pub use deserialize::Deserialize;
 pub use deserializer::Deserializer;
+pub use map_access::MapAccess;
 pub use postcard_de_flavors::{Flavor, Slice, flavor, slice};
 pub use postcard_wire::{Error, Result};

@@ -10,12 +10,12 @@ use std::process::Abort;
 use std::test::Fail;
 
 /// Reads a value from the front of some bytes.
-fn read<'a, T: Deserialize<'a>>(alloc: Global, bytes: &'a [u8]) -> Result<T> {
+pub(crate) fn read<'a, T: Deserialize<'a>>(alloc: Global, bytes: &'a [u8]) -> Result<T> {
     T::deserialize(alloc, &mut Deserializer::from_bytes(bytes))
 }
 
 /// Each row's bytes read as its value, or refused by its error.
-fn check<'a, T: Deserialize<'a> + PartialEq + Debug>(
+pub(crate) fn check<'a, T: Deserialize<'a> + PartialEq + Debug>(
     rt: &impl Abort,
     alloc: Global,
     rows: &'a [(&'a [u8], Result<T>)],

@@ -1,0 +1,113 @@
+-- Reading a character: a length of at most 4, and as many bytes, which begin with one.
+use Rattle.std.proofs.Common.{◌≡◌, ℕ, ◌+◌, ◌<◌, ◌≤◌, ◌^◌, ◌⊎◌, inl, inr, List, [], ◌∷◌, ◌++◌, length, Option, Ok, Err, Result, refl, sym, ◌∙◌, ap, subst, arith, append_assoc, length-append}
+use Rattle.std.specs.Char.{IsScalar}
+use Rattle.postcard_wire.specs.declared.error.Error.{Error}
+use Rattle.postcard_wire.specs.declared.error.Error.TheVariants.{OutOfMemory, DeserializeUnexpectedEnd, DeserializeBadEncoding, DeserializeBadVarint, DeserializeBadChar}
+use Rattle.postcard_wire.specs.Number.{SpellsNum}
+use Rattle.postcard_wire.specs.Tree.{Tree, Char}
+use Rattle.postcard_wire.specs.Spelling.{Spells, BeginsWithChar}
+use Rattle.postcard_wire.specs.Reading.{IsChar}
+use Rattle.postcard_wire.proofs.Delimited.{num_front, char_delimited, same_front}
+use Rattle.postcard_wire.proofs.Refused.{longer, none_spelled}
+use Rattle.std.proofs.lemmas.List.{append_cancel_left}
+use Rattle.postcard_de_flavors.specs.Source.{Takes, Laws}
+use Rattle.postcard_de.specs.Reads.{Reads}
+use Rattle.postcard_de.specs.Refuses.{Ends, IsBad, Refuses, WantsDigit, BadNumber}
+use Rattle.postcard_de.specs.Unfit.{WantsChar, BadChar, TooLong, NoChar}
+use Rattle.postcard_de.specs.Values.{Same}
+use Rattle.postcard_de.proofs.Taking.{both_taken}
+use Rattle.postcard_de.proofs.Leaves.{Excludes, found, refused, refusal}
+use Rattle.postcard_de.proofs.Numbers.{Below, number_below}
+use Rattle.postcard_de.proofs.Texts.{facing_length}
+
+-- Where more bytes are wanted, they are within the character's spelling.
+char_within : (x : Tree) (p q : List ℕ) (n : ℕ) (y z : List ℕ) → WantsChar p n → IsChar x → Spells x q → p ++ y ≡ q ++ z → length p + n ≤ length q
+char_within x p q n y z (inl wanted) r s e =
+    let t : Spells (Char r.0) q = rw r.1 at s in
+    let j = t.2 in
+    let h = longer p j.0 y (j.1 ++ z) wanted.0 j.2.digits (facing_length p q j.0 j.1 y z j.4 e) in
+    omega (arith, h, wanted.2, ap length j.4, length-append j.0 j.1)
+char_within x p q n y z (inr wanted) r s e =
+    let t : Spells (Char r.0) q = rw r.1 at s in
+    let j = t.2 in
+    let h = num_front 64 n (length t.0) p j.0 y (j.1 ++ z) wanted.0 j.2 (facing_length p q j.0 j.1 y z j.4 e) in
+    omega (arith, h.1, ap length h.0, ap length j.3, ap length j.4, length-append j.0 j.1)
+
+-- No character begins with what is refused.
+char_none : (x : Tree) (p q : List ℕ) (f : Error) (y z : List ℕ) → BadChar p f → IsChar x → Spells x q → p ++ y ≡ q ++ z → f ≡ OutOfMemory
+char_none x p q f y z (inl bad) r s e =
+    let t : Spells (Char r.0) q = rw r.1 at s in
+    let j = t.2 in
+    let low : length t.0 < 2 ^ 64 = omega (arith, t.1.few) in
+    absurd (none_spelled 64 (length t.0) p j.0 y (j.1 ++ z) bad.1 j.2 low (facing_length p q j.0 j.1 y z j.4 e))
+char_none x p q f y z (inr (is, inl (n, spelled, high))) r s e =
+    let t : Spells (Char r.0) q = rw r.1 at s in
+    let j = t.2 in
+    let h = num_front 64 n (length t.0) p j.0 y (j.1 ++ z) spelled j.2 (facing_length p q j.0 j.1 y z j.4 e) in
+    absurd (omega (arith, h.1, high, t.1.few))
+char_none x p q f y z (inr (is, inr (a, u, spelled, i, few, none))) r s e =
+    let t : Spells (Char r.0) q = rw r.1 at s in
+    let j = t.2 in
+    let g : a ++ (u ++ y) ≡ j.0 ++ (j.1 ++ z) = sym (append_assoc a u y) ∙ (ap (λ (l : List ℕ). l ++ y) (sym i) ∙ facing_length p q j.0 j.1 y z j.4 e) in
+    let h = num_front 64 (length u) (length t.0) a j.0 (u ++ y) (j.1 ++ z) spelled j.2 g in
+    let k : u ++ y ≡ j.1 ++ z = append_cancel_left a (u ++ y) (j.1 ++ z) (g ∙ ap (λ (l : List ℕ). l ++ (j.1 ++ z)) (sym h.0)) in
+    let same = same_front u j.1 y z (h.1 ∙ ap length (sym j.3)) k in
+    absurd (none r.0 (subst (BeginsWithChar r.0) (sym (same ∙ j.3)) t.1))
+
+char_grown : (p : List ℕ) → BadChar p OutOfMemory → ⊥
+char_grown p (inl bad) = let e : OutOfMemory ≡ DeserializeBadVarint = bad.0 in cc
+char_grown p (inr bad) = let e : OutOfMemory ≡ DeserializeBadChar = bad.0 in cc
+
+char_never : (p : List ℕ) → BadChar p DeserializeBadEncoding → ⊥
+char_never p (inl bad) = let e : DeserializeBadEncoding ≡ DeserializeBadVarint = bad.0 in cc
+char_never p (inr bad) = let e : DeserializeBadEncoding ≡ DeserializeBadChar = bad.0 in cc
+
+-- The reasons to refuse a character stand where there is none.
+char_excludes : Excludes ⊥ WantsChar BadChar Spells IsChar
+char_excludes = record { within = char_within; none = char_none; grown = char_grown; never = char_never }
+
+module _ {S : Type 0} {left : S → Option (List ℕ)} {able : S → ℕ → Type 0} where
+  -- A reason to refuse, told in wider words.
+  pub widened : {wants wants' : List ℕ → ℕ → Type 0} {bad bad' : List ℕ → Error → Type 0} {old new : S} {e : Error} → ((p : List ℕ) (n : ℕ) → wants p n → wants' p n) → ((p : List ℕ) → bad p e → bad' p e) → Refuses wants bad left able old e new → Refuses wants' bad' left able old e new
+  widened wide bad (inl (is, ends)) = inl (is, record { front = ends.front; behind = ends.behind; taken = ends.taken; count = ends.count; wanted = wide ends.front ends.count ends.wanted; lacks = ends.lacks })
+  widened wide bad (inr b) = inr (record { front = b.front; taken = b.taken; why = bad b.front b.why })
+
+  -- More bytes are wanted behind a front that was taken.
+  pub behind_front : {wants : List ℕ → ℕ → Type 0} {bad : List ℕ → Error → Type 0} {old mid new : S} {p : List ℕ} {n : ℕ} {e : Error} → Takes left able old p mid → wants p n → (able mid n → ⊥) → e ≡ DeserializeUnexpectedEnd → Refuses wants bad left able old e new
+  behind_front {mid = mid} {p = p} {n = n} t wanted lacks is = inl (is, record { front = p; behind = mid; taken = t; count = n; wanted = wanted; lacks = lacks })
+
+module _ {S : Type 0} {left : S → Option (List ℕ)} {able : S → ℕ → Type 0} {may_leave : S → S → Type 0} (laws : Laws left able may_leave) where
+  -- A refused character.
+  pub char_refused : {V : Type 0} {value : Tree → V → Type 0} {old new : S} {e : Error} → Refuses WantsChar BadChar left able old e new → may_leave old new → Reads Spells IsChar value ⊥ left able may_leave old (refusal V e) new
+  char_refused why l = refused laws char_excludes why l
+
+  -- Its length was refused.
+  pub char_length_refused : {old new : S} {e : Error} → Refuses (WantsDigit 64) (BadNumber 64) left able old e new → Refuses WantsChar BadChar left able old e new
+  char_length_refused why = widened (λ p n w. inl w) (λ p b. inl b) why
+
+module _ {S : Type 0} {left : S → Option (List ℕ)} {able : S → ℕ → Type 0} {may_leave : S → S → Type 0} (laws : Laws left able may_leave) {n : ℕ} {old mid : S} (counted : Reads (SpellsNum 64) (Below 64) Same ⊥ left able may_leave old (Ok n) mid) where
+  -- The length's spelling.
+  pub length_is_spelled : SpellsNum 64 n counted.gives.front
+  length_is_spelled = subst (λ (m : ℕ). SpellsNum 64 m counted.gives.front) counted.gives.has counted.gives.is_spelled
+
+  -- The length is above 4.
+  pub char_too_long : 4 < n → Refuses WantsChar BadChar left able old DeserializeBadChar mid
+  char_too_long high = inr (record { front = counted.gives.front; taken = counted.gives.taken; why = inr (refl, inl (n, length_is_spelled, high)) })
+
+  -- The bytes behind the length can't be taken.
+  pub char_ends : {new : S} {e : Error} → n ≤ 4 → (able mid n → ⊥) → e ≡ DeserializeUnexpectedEnd → Refuses WantsChar BadChar left able old e new
+  char_ends few lacks is = behind_front counted.gives.taken (inr (length_is_spelled, few)) lacks is
+
+  module _ {u : List ℕ} {new : S} (few : n ≤ 4) (long : length u ≡ n) (t : Takes left able mid u new) where
+    -- The length's spelling, by the bytes.
+    char_spelled : SpellsNum 64 (length u) counted.gives.front
+    char_spelled = subst (λ (m : ℕ). SpellsNum 64 m counted.gives.front) (sym long) length_is_spelled
+
+    -- They are no character.
+    pub char_bad : ((c : ℕ) → BeginsWithChar c u → ⊥) → Refuses WantsChar BadChar left able old DeserializeBadChar new
+    char_bad none = inr (record { front = counted.gives.front ++ u; taken = both_taken counted.gives.taken t; why = inr (refl, inr (counted.gives.front, u, char_spelled, refl, subst (λ (m : ℕ). m ≤ 4) (sym long) few, none)) })
+
+    -- They begin with the character that is answered.
+    pub char_read : {c : ℕ} → BeginsWithChar c u → IsScalar c → may_leave mid new → Reads Spells IsChar (λ t v. t ≡ Char v) ⊥ left able may_leave old (Ok c) new
+    char_read {c} begins scalar l =
+        found char_delimited (Char c) (counted.gives.front ++ u) c (c, refl, scalar) (u, begins, (counted.gives.front, u, char_spelled, refl, refl)) refl (both_taken counted.gives.taken t) (laws.joins old mid new counted.leaves l)

@@ -1,0 +1,119 @@
+//! The calls for nodes that choose: a truth value, an option, an enum.
+
+ghost use Rattle.std.specs.Prelude.{◌≡◌, ℕ, ◌<◌, ◌^◌, ◌⊎◌, IfErr, Ok, length};
+ghost use Rattle.postcard_wire.specs.Tree.{Boolean};
+ghost use Rattle.postcard_wire.specs.Number.{SpellsNum};
+ghost use Rattle.postcard_wire.specs.Spelling.{Spells};
+ghost use Rattle.postcard_wire.specs.Reading.{IsBoolean, IsOption};
+ghost use Rattle.postcard_de.specs.Reads.{Reads};
+ghost use Rattle.postcard_de.specs.Refuses.{Refuses, WantsByte, WantsDigit, BadNumber};
+ghost use Rattle.postcard_de.specs.Unfit.{BadBool, BadOption, ContentRefuses};
+ghost use Rattle.postcard_de.specs.Options.{OptionIs};
+ghost use Rattle.postcard_de.specs.Values.{Same};
+ghost use Rattle.postcard_de.specs.Deserializer.{source_of};
+
+use crate::access::SeqAccess;
+use crate::deserialize::Deserialize;
+use crate::deserializer::Deserializer;
+use postcard_de_flavors::Flavor;
+use postcard_wire::{Error, Result};
+use std::alloc::Global;
+
+impl<'de, F: Flavor> Deserializer<'de, F> {
+    /// Reads a truth value: the byte 0 or 1.
+    ///
+    /// # Errors
+    ///
+    /// `DeserializeUnexpectedEnd` where no byte is left, `DeserializeBadBool` at any other byte.
+    pub fn deserialize_bool(&mut self) -> Result<bool>
+        ensures reads { Reads Spells IsBoolean (λ t v. t ≡ Boolean v) ⊥ F.left F.able F.may_leave (source_of self.old) result (source_of self.new) }
+        ensures refused { IfErr result (λ e. Refuses WantsByte BadBool F.left F.able (source_of self.old) e (source_of self.new)) }
+    {
+        match self.flavor.pop()? {
+            0 => Ok(false),
+            1 => Ok(true),
+            _ => Err(Error::DeserializeBadBool),
+        }
+    }
+
+    /// Reads an option: the byte 0, or the byte 1 and the content.
+    ///
+    /// # Errors
+    ///
+    /// `DeserializeUnexpectedEnd` where no byte is left, `DeserializeBadOption` at any other byte, and those of the content.
+    pub fn deserialize_option<T: Deserialize<'de>>(&mut self, alloc: Global) -> Result<Option<T>>
+        ensures reads { Reads Spells (IsOption T.reads) (OptionIs T.value) T.grows F.left F.able F.may_leave (source_of self.old) result (source_of self.new) }
+        ensures refused { IfErr result (λ e. Refuses WantsByte BadOption F.left F.able (source_of self.old) e (source_of self.new)
+            ⊎ ContentRefuses T.reads T.value T.grows F.left F.able F.may_leave (source_of self.old) e (source_of self.new)) }
+    {
+        match self.flavor.pop()? {
+            0 => Ok(None),
+            1 => {
+                let value = T::deserialize(alloc, self)?;
+                Ok(Some(value))
+            }
+            _ => Err(Error::DeserializeBadOption),
+        }
+    }
+
+    /// Reads the index of an enum's variant: a varint of at most 5 bytes. The content is read by the call for its kind.
+    ///
+    /// # Errors
+    ///
+    /// `DeserializeUnexpectedEnd` where the bytes end within the index, `DeserializeBadVarint` where it is longer or
+    /// passes 32 bits. That an index has no variant is for the type to refuse.
+    pub fn deserialize_enum(&mut self, _name: &'static str, _variants: &[&str]) -> Result<u32>
+        ensures reads { Reads (SpellsNum 32) (λ n. n < 2 ^ 32) Same ⊥ F.left F.able F.may_leave (source_of self.old) result (source_of self.new) }
+        ensures refused { IfErr result (λ e. Refuses (WantsDigit 32) (BadNumber 32) F.left F.able (source_of self.old) e (source_of self.new)) }
+    {
+        let n = self.number(32)?;
+        Ok(n as u32)
+    }
+
+    /// Reads the content of a variant that has none: nothing.
+    ///
+    /// # Errors
+    ///
+    /// None.
+    pub fn unit_variant(&mut self) -> Result<()>
+        ensures reads { result ≡ Ok tt }
+        ensures unchanged { self.new ≡ self.old }
+    {
+        Ok(())
+    }
+
+    /// Reads the content of a variant that has one part.
+    ///
+    /// # Errors
+    ///
+    /// Those of the content.
+    pub fn newtype_variant<T: Deserialize<'de>>(&mut self, alloc: Global) -> Result<T>
+        ensures { Reads Spells T.reads T.value T.grows F.left F.able F.may_leave (source_of self.old) result (source_of self.new) }
+    {
+        T::deserialize(alloc, self)
+    }
+
+    /// Begins the content of a variant of `len` parts: nothing is read yet, and as many elements are left.
+    ///
+    /// # Errors
+    ///
+    /// None.
+    pub fn tuple_variant(&mut self, len: usize) -> Result<SeqAccess>
+        ensures parts { result ≡ Ok len }
+        ensures unchanged { self.new ≡ self.old }
+    {
+        Ok(SeqAccess::new(len))
+    }
+
+    /// Begins the content of a variant with these fields: nothing is read yet, and as many elements are left.
+    ///
+    /// # Errors
+    ///
+    /// None.
+    pub fn struct_variant(&mut self, fields: &[&str]) -> Result<SeqAccess>
+        ensures parts { result ≡ Ok (length fields.now) }
+        ensures unchanged { self.new ≡ self.old }
+    {
+        Ok(SeqAccess::new(fields.len()))
+    }
+}

@@ -1,0 +1,110 @@
+//! The calls for nodes that are made of others, and for those that have no bytes.
+
+ghost use Rattle.std.specs.Prelude.{◌≡◌, ℕ, ◌<◌, ◌^◌, length, IfErr, Ok, IsOk};
+ghost use Rattle.postcard_wire.specs.Number.{SpellsNum};
+ghost use Rattle.postcard_wire.specs.Spelling.{Spells};
+ghost use Rattle.postcard_wire.specs.Reading.{IsEnd, IsGroup};
+ghost use Rattle.postcard_de.specs.Reads.{Reads};
+ghost use Rattle.postcard_de.specs.Refuses.{Refuses, WantsDigit, BadNumber};
+ghost use Rattle.postcard_de.specs.Values.{Same};
+ghost use Rattle.postcard_de.specs.Deserializer.{source_of};
+
+use crate::access::SeqAccess;
+use crate::deserialize::Deserialize;
+use crate::deserializer::Deserializer;
+use crate::map_access::MapAccess;
+use postcard_de_flavors::Flavor;
+use postcard_wire::Result;
+use std::alloc::Global;
+
+impl<'de, F: Flavor> Deserializer<'de, F> {
+    /// Reads the type of nothing, which has no bytes.
+    ///
+    /// # Errors
+    ///
+    /// None.
+    pub fn deserialize_unit(&mut self) -> Result<()>
+        ensures reads { Reads Spells (IsGroup IsEnd) (λ t v. IsGroup IsEnd t) ⊥ F.left F.able F.may_leave (source_of self.old) result (source_of self.new) }
+        ensures always { IsOk result }
+        ensures unchanged { self.new ≡ self.old }
+    {
+        Ok(())
+    }
+
+    /// Reads a struct without fields, which has no bytes.
+    ///
+    /// # Errors
+    ///
+    /// None.
+    pub fn deserialize_unit_struct(&mut self, _name: &'static str) -> Result<()>
+        ensures reads { Reads Spells (IsGroup IsEnd) (λ t v. IsGroup IsEnd t) ⊥ F.left F.able F.may_leave (source_of self.old) result (source_of self.new) }
+        ensures always { IsOk result }
+        ensures unchanged { self.new ≡ self.old }
+    {
+        self.deserialize_unit()
+    }
+
+    /// Reads a struct of one part, which is spelled as that part.
+    ///
+    /// # Errors
+    ///
+    /// Those of the part.
+    pub fn deserialize_newtype_struct<T: Deserialize<'de>>(
+        &mut self,
+        alloc: Global,
+        _name: &str,
+    ) -> Result<T>
+        ensures { Reads Spells T.reads T.value T.grows F.left F.able F.may_leave (source_of self.old) result (source_of self.new) }
+    {
+        T::deserialize(alloc, self)
+    }
+
+    /// Begins a tuple of `len` parts: nothing is read yet, and as many elements are left.
+    ///
+    /// # Errors
+    ///
+    /// None.
+    pub fn deserialize_tuple(&mut self, len: usize) -> Result<SeqAccess>
+        ensures parts { result ≡ Ok len }
+        ensures unchanged { self.new ≡ self.old }
+    {
+        Ok(SeqAccess::new(len))
+    }
+
+    /// Begins a tuple struct of `len` parts: nothing is read yet, and as many elements are left.
+    ///
+    /// # Errors
+    ///
+    /// None.
+    pub fn deserialize_tuple_struct(&mut self, _name: &'static str, len: usize) -> Result<SeqAccess>
+        ensures parts { result ≡ Ok len }
+        ensures unchanged { self.new ≡ self.old }
+    {
+        self.deserialize_tuple(len)
+    }
+
+    /// Begins a struct with these fields: nothing is read yet, and as many elements are left. The names aren't used.
+    ///
+    /// # Errors
+    ///
+    /// None.
+    pub fn deserialize_struct(&mut self, _name: &'static str, fields: &[&str]) -> Result<SeqAccess>
+        ensures parts { result ≡ Ok (length fields.now) }
+        ensures unchanged { self.new ≡ self.old }
+    {
+        Ok(SeqAccess::new(fields.len()))
+    }
+
+    /// Reads the count of a map's pairs, whose keys and values are then read by `next_key` and `next_value` in turn.
+    ///
+    /// # Errors
+    ///
+    /// As a number of 64 bits.
+    pub fn deserialize_map(&mut self) -> Result<MapAccess>
+        ensures reads { Reads (SpellsNum 64) (λ n. n < 2 ^ 64) Same ⊥ F.left F.able F.may_leave (source_of self.old) result (source_of self.new) }
+        ensures refused { IfErr result (λ e. Refuses (WantsDigit 64) (BadNumber 64) F.left F.able (source_of self.old) e (source_of self.new)) }
+    {
+        let count = self.count()?;
+        Ok(MapAccess::new(count))
+    }
+}

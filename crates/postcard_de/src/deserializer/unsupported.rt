@@ -1,0 +1,45 @@
+//! The calls that the format can't serve, since its bytes don't tell their types.
+
+ghost use Rattle.std.specs.Prelude.{◌≡◌, Err};
+
+use crate::deserializer::Deserializer;
+use postcard_de_flavors::Flavor;
+use postcard_wire::{Error, Result};
+
+impl<'de, F: Flavor> Deserializer<'de, F> {
+    /// Would read a value of any type.
+    ///
+    /// # Errors
+    ///
+    /// Always `WontImplement`; nothing is changed.
+    pub fn deserialize_any(&mut self) -> Result<()>
+        ensures refused { result ≡ Err Error.WontImplement }
+        ensures unchanged { self.new ≡ self.old }
+    {
+        Err(Error::WontImplement)
+    }
+
+    /// Would read the name of a field or a variant.
+    ///
+    /// # Errors
+    ///
+    /// Always `WontImplement`; nothing is changed.
+    pub fn deserialize_identifier(&mut self) -> Result<()>
+        ensures refused { result ≡ Err Error.WontImplement }
+        ensures unchanged { self.new ≡ self.old }
+    {
+        self.deserialize_any()
+    }
+
+    /// Would pass over a value of any type.
+    ///
+    /// # Errors
+    ///
+    /// Always `WontImplement`; nothing is changed.
+    pub fn deserialize_ignored_any(&mut self) -> Result<()>
+        ensures refused { result ≡ Err Error.WontImplement }
+        ensures unchanged { self.new ≡ self.old }
+    {
+        self.deserialize_identifier()
+    }
+}

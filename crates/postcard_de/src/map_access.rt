@@ -1,0 +1,83 @@
+//! The pairs of a map, one by one.
+
+ghost use Rattle.std.specs.Prelude.{◌≡◌, ℕ, ◌-◌, ◌<◌, None, Some, Ok};
+ghost use Rattle.postcard_wire.specs.Spelling.{Spells};
+ghost use Rattle.postcard_de.specs.Reads.{Reads};
+ghost use Rattle.postcard_de.specs.Values.{SomeIs};
+ghost use Rattle.postcard_de.specs.Deserializer.{source_of};
+
+use crate::deserialize::Deserialize;
+use crate::deserializer::Deserializer;
+use postcard_de_flavors::Flavor;
+use postcard_wire::Result;
+use std::alloc::Global;
+use std::marker::Model;
+
+/// How many pairs of a map are left to read. A contract sees it as that count.
+#[derive(Drop)]
+pub struct MapAccess {
+    len: usize,
+}
+
+impl Model for MapAccess {
+    ghost use Rattle.std.specs.Prelude.{ℕ};
+
+    ghost Value = { ℕ };
+
+    ghost view = { λ access. access.len };
+}
+
+impl MapAccess {
+    /// So many pairs.
+    pub(crate) fn new(len: usize) -> MapAccess
+        ensures { result ≡ len }
+    {
+        MapAccess { len }
+    }
+
+    /// Reads the next key, or answers None where no pair is left. The count falls before the key is read, so it has
+    /// fallen where that is refused too.
+    ///
+    /// # Errors
+    ///
+    /// Those of the key.
+    pub fn next_key<'de, K: Deserialize<'de>, F: Flavor>(
+        &mut self,
+        alloc: Global,
+        d: &mut Deserializer<'de, F>,
+    ) -> Result<Option<K>>
+        ensures count { self.new ≡ self.old - 1 }
+        ensures none { self.old ≡ 0 → (result ≡ Ok None) × (d.new ≡ d.old) }
+        ensures some { 0 < self.old → Reads Spells K.reads (SomeIs K.value) K.grows F.left F.able F.may_leave (source_of d.old) result (source_of d.new) }
+    {
+        if self.len == 0 {
+            return Ok(None);
+        }
+        self.len -= 1;
+        let key = K::deserialize(alloc, d)?;
+        Ok(Some(key))
+    }
+
+    /// Reads the value of the key that was read last.
+    ///
+    /// # Errors
+    ///
+    /// Those of the value.
+    pub fn next_value<'de, V: Deserialize<'de>, F: Flavor>(
+        &mut self,
+        alloc: Global,
+        d: &mut Deserializer<'de, F>,
+    ) -> Result<V>
+        ensures count { self.new ≡ self.old }
+        ensures value { Reads Spells V.reads V.value V.grows F.left F.able F.may_leave (source_of d.old) result (source_of d.new) }
+    {
+        V::deserialize(alloc, d)
+    }
+
+    /// How many pairs are left: always told, whatever the source has.
+    pub fn size_hint(&self) -> Option<usize>
+        ensures { result ≡ Some self.now }
+    {
+        Some(self.len)
+    }
+}

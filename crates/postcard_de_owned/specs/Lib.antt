@@ -1,0 +1,1 @@
+-- This crate's contracts are in the words of `postcard_de`.
