@@ -20,6 +20,7 @@ mod with_flavor;
 pub use de::{from_bytes, take_from_bytes};
 pub use postcard_de::{Deserialize, Deserializer, MapAccess, SeqAccess};
 pub use postcard_de_flavors as de_flavors;
+pub use postcard_de_owned::{DeserializeOwned, Owned};
 pub use postcard_ser::{Serialize, Serializer};
 pub use postcard_ser_flavors as ser_flavors;
 pub use postcard_wire::{Error, Result};
