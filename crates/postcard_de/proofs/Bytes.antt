@@ -1,9 +1,9 @@
 -- Reading bytes behind their count, as a list of trees.
-use Rattle.std.proofs.Common.{◌≡◌, ℕ, zero, suc, ◌+◌, ◌<◌, ◌≤◌, List, [], ◌∷◌, ◌++◌, length, get_or, Option, Ok, Err, Result, refl, sym, ◌∙◌, ap, subst, arith}
+use Rattle.std.proofs.Common.{◌≡◌, ℕ, suc, ◌<◌, List, [], ◌∷◌, ◌++◌, length, get_or, Option, Ok, refl, sym, ◌∙◌, ap, subst}
 use Rattle.postcard_wire.specs.declared.error.Error.{Error}
-use Rattle.postcard_wire.specs.declared.error.Error.TheVariants.{OutOfMemory, DeserializeUnexpectedEnd, DeserializeBadEncoding}
+use Rattle.postcard_wire.specs.declared.error.Error.TheVariants.{DeserializeUnexpectedEnd}
 use Rattle.postcard_wire.specs.Tree.{Tree, Trees, Byte, NoTrees, Then, count}
-use Rattle.postcard_wire.specs.Spelling.{Spells, SpellsAll}
+use Rattle.postcard_wire.specs.Spelling.{SpellsAll}
 use Rattle.postcard_wire.specs.Reading.{IsByte, Each}
 use Rattle.postcard_wire.proofs.Delimited.{same_front}
 use Rattle.postcard_de_flavors.specs.Source.{Takes, Laws}

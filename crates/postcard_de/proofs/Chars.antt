@@ -1,5 +1,5 @@
 -- Reading a character: a length of at most 4, and as many bytes, which begin with one.
-use Rattle.std.proofs.Common.{◌≡◌, ℕ, ◌+◌, ◌<◌, ◌≤◌, ◌^◌, ◌⊎◌, inl, inr, List, [], ◌∷◌, ◌++◌, length, Option, Ok, Err, Result, refl, sym, ◌∙◌, ap, subst, arith, append_assoc, length-append}
+use Rattle.std.proofs.Common.{◌≡◌, ℕ, ◌+◌, ◌<◌, ◌≤◌, ◌^◌, inl, inr, List, ◌++◌, length, Option, Ok, refl, sym, ◌∙◌, ap, subst, arith, append_assoc, length-append}
 use Rattle.std.specs.Char.{IsScalar}
 use Rattle.postcard_wire.specs.declared.error.Error.{Error}
 use Rattle.postcard_wire.specs.declared.error.Error.TheVariants.{OutOfMemory, DeserializeUnexpectedEnd, DeserializeBadEncoding, DeserializeBadVarint, DeserializeBadChar}
@@ -12,12 +12,12 @@ use Rattle.postcard_wire.proofs.Refused.{longer, none_spelled}
 use Rattle.std.proofs.lemmas.List.{append_cancel_left}
 use Rattle.postcard_de_flavors.specs.Source.{Takes, Laws}
 use Rattle.postcard_de.specs.Reads.{Reads}
-use Rattle.postcard_de.specs.Refuses.{Ends, IsBad, Refuses, WantsDigit, BadNumber}
-use Rattle.postcard_de.specs.Unfit.{WantsChar, BadChar, TooLong, NoChar}
+use Rattle.postcard_de.specs.Refuses.{Refuses, WantsDigit, BadNumber}
+use Rattle.postcard_de.specs.Unfit.{WantsChar, BadChar}
 use Rattle.postcard_de.specs.Values.{Same}
 use Rattle.postcard_de.proofs.Taking.{both_taken}
 use Rattle.postcard_de.proofs.Leaves.{Excludes, found, refused, refusal}
-use Rattle.postcard_de.proofs.Numbers.{Below, number_below}
+use Rattle.postcard_de.proofs.Numbers.{Below}
 use Rattle.postcard_de.proofs.Texts.{facing_length}
 
 -- Where more bytes are wanted, they are within the character's spelling.

@@ -1,13 +1,13 @@
 -- Reading a pair of a map, arrays, and lists of few elements.
-use Rattle.std.proofs.Common.{◌≡◌, ◌≢◌, ℕ, ◌≤◌, ◌<◌, ◌^◌, ◌⊎◌, List, [], ◌∷◌, ◌++◌, length, Option, Ok, Err, Result, refl, sym, ◌∙◌, ap, subst, arith}
+use Rattle.std.proofs.Common.{◌≡◌, ◌≢◌, ℕ, ◌≤◌, ◌⊎◌, List, [], ◌∷◌, ◌++◌, Option, Ok, refl, sym, ◌∙◌, subst}
 use Rattle.std.specs.declared.cmp.Ordering.{Ordering}
 use Rattle.std.specs.BTreeMap.{insert_entry}
 use Rattle.postcard_wire.specs.declared.error.Error.{Error}
 use Rattle.postcard_wire.specs.declared.error.Error.TheVariants.{OutOfMemory, DeserializeBadEncoding}
 use Rattle.postcard_wire.specs.Number.{SpellsNum}
-use Rattle.postcard_wire.specs.Tree.{Tree, Trees, Group, Seq, count}
+use Rattle.postcard_wire.specs.Tree.{Tree, Group, Seq, count}
 use Rattle.postcard_wire.specs.Spelling.{Spells, SpellsAll}
-use Rattle.postcard_wire.specs.Reading.{IsGroup, IsArray, Each}
+use Rattle.postcard_wire.specs.Reading.{IsGroup, IsArray}
 use Rattle.postcard_de_flavors.specs.Source.{Laws}
 use Rattle.postcard_de.specs.Reads.{Reads}
 use Rattle.postcard_de.specs.Values.{Same, EachIs, ListIs, AreRead}

@@ -1,8 +1,8 @@
 -- A value that was read and is then seen otherwise, or refused; and bytes that begin nothing that is read.
-use Rattle.std.proofs.Common.{◌≡◌, ◌≢◌, ℕ, List, [], ◌++◌, Option, Ok, Err, Result, IsErrAnd, refl, sym, ◌∙◌, ap, subst}
+use Rattle.std.proofs.Common.{◌≡◌, ◌≢◌, ℕ, List, Option, Ok, Result, IsErrAnd, refl}
 use Rattle.postcard_wire.specs.declared.error.Error.{Error}
 use Rattle.postcard_wire.specs.declared.error.Error.TheVariants.{OutOfMemory, DeserializeBadEncoding}
-use Rattle.postcard_de_flavors.specs.Source.{CanTake, Takes, Laws}
+use Rattle.postcard_de_flavors.specs.Source.{Laws}
 use Rattle.postcard_de.specs.Reads.{Reads}
 use Rattle.postcard_de.proofs.Leaves.{refusal, is_refusal}
 use Rattle.postcard_de.proofs.Taking.{can_first}

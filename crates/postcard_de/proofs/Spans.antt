@@ -1,14 +1,13 @@
 -- Numbers without 0, and spans of time, of numbers that were read.
-use Rattle.std.proofs.Common.{◌≡◌, ◌≢◌, ℕ, ◌+◌, ◌*◌, ◌/◌, ◌<◌, ◌^◌, List, Option, Ok, Err, Result, IsErrAnd, refl, sym, ◌∙◌, ap, subst}
-use Rattle.postcard_wire.specs.declared.error.Error.{Error}
+use Rattle.std.proofs.Common.{◌≡◌, ◌≢◌, ℕ, List, Option, Ok, refl, sym, ◌∙◌, ap}
 use Rattle.postcard_wire.specs.declared.error.Error.TheVariants.{OutOfMemory, DeserializeBadEncoding, SerdeDeCustom}
-use Rattle.postcard_wire.specs.Tree.{Tree, Trees, Num, Group, NoTrees, Then}
+use Rattle.postcard_wire.specs.Tree.{Tree, Num}
 use Rattle.postcard_wire.specs.Spelling.{Spells}
-use Rattle.postcard_wire.specs.Reading.{IsNum, IsEnd, IsThen, IsGroup}
+use Rattle.postcard_wire.specs.Reading.{IsEnd, IsThen, IsGroup}
 use Rattle.postcard_de.specs.Reads.{Reads}
-use Rattle.postcard_de.specs.Numbers.{Without, span, IsSpan, AnySpan}
+use Rattle.postcard_de.specs.Numbers.{Without, span}
 use Rattle.postcard_de.proofs.Leaves.{refusal}
-use Rattle.postcard_de.proofs.Sift.{seen_as, unfit, passed_on}
+use Rattle.postcard_de.proofs.Sift.{seen_as, unfit}
 
 -- The two errors that `SerdeDeCustom` isn't.
 pub custom_isnt_memory : SerdeDeCustom ≢ OutOfMemory

@@ -3,7 +3,7 @@ use Rattle.std.specs.Prelude.{◌≡◌, ◌≢◌, ℕ, ◌+◌, ◌*◌, ◌/�
 use Rattle.std.proofs.Common.{sym, ◌∙◌, ap, refl}
 use Rattle.std.specs.Duration.{as_nanos}
 use Rattle.std.specs.declared.time.Duration.{Duration}
-use Rattle.postcard_wire.specs.Tree.{Tree, Trees, Num, Group, NoTrees, Then}
+use Rattle.postcard_wire.specs.Tree.{Tree, Num, Group, NoTrees, Then}
 use Rattle.postcard_wire.specs.Reading.{IsDelimited, ReadsWellFormed, IsNum, IsEnd, IsThen, IsGroup}
 use Rattle.postcard_wire.proofs.Delimited.{fewer_delimited}
 use Rattle.postcard_de.specs.Same.{HasOne}

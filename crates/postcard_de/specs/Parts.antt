@@ -2,7 +2,7 @@
 -- for sets of trees, each set that of one field's value.
 use Rattle.std.specs.Prelude.{◌≡◌}
 use Rattle.std.proofs.Common.{sym, ◌∙◌, subst}
-use Rattle.postcard_wire.specs.Tree.{Tree, Trees, Group, NoTrees, Then}
+use Rattle.postcard_wire.specs.Tree.{Tree, Trees, Group, Then}
 use Rattle.postcard_wire.specs.Reading.{IsEnd, IsThen, IsGroup}
 use Rattle.postcard_de.specs.Same.{HasOne}
 

@@ -1,5 +1,5 @@
 -- Why a single node is refused, for the nodes that aren't numbers or texts (behaviour of postcard 1.1.3).
-use Rattle.std.specs.Prelude.{◌≡◌, ℕ, ◌<◌, ◌≤◌, ◌^◌, ◌⊎◌, List, [], ◌∷◌, ◌++◌, length, Option, Err}
+use Rattle.std.specs.Prelude.{◌≡◌, ℕ, ◌<◌, ◌≤◌, ◌⊎◌, List, [], ◌∷◌, ◌++◌, length, Option, Err}
 use Rattle.postcard_wire.specs.declared.error.Error.{Error}
 use Rattle.postcard_wire.specs.declared.error.Error.TheVariants.{OutOfMemory, DeserializeBadBool, DeserializeBadOption, DeserializeBadChar}
 use Rattle.postcard_wire.specs.Number.{SpellsNum}

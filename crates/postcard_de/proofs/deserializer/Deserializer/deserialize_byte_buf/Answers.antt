@@ -1,4 +1,4 @@
-use Rattle.std.proofs.Common.{◌≡◌, ℕ, List, Vec, Global, inl, inr, ◌∙◌}
+use Rattle.std.proofs.Common.{◌≡◌, ℕ, List, Vec, Global, ◌∙◌}
 use Rattle.postcard_de.proofs.Leaves.{is_refusal}
 use Rattle.postcard_de.proofs.Lists.{list_read, list_refused, count_refused}
 use Rattle.postcard_de.proofs.Sift.{recast, no_room, passed_on}

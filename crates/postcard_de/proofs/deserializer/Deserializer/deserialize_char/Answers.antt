@@ -1,4 +1,4 @@
-use Rattle.std.proofs.Common.{ℕ, ◌<◌, ◌≤◌, rules}
+use Rattle.std.proofs.Common.{◌<◌, ◌≤◌, rules}
 use Rattle.std.specs.Char.{IsScalar}
 use Rattle.postcard_de.proofs.Leaves.{is_refusal}
 use Rattle.postcard_de.proofs.Chars.{char_refused, char_length_refused, char_too_long, char_ends, char_bad, char_read}

@@ -1,4 +1,4 @@
-use Rattle.std.proofs.Common.{◌≡◌, ℕ, ◌≤◌, ◌<◌, ◌^◌, List, length, refl, sym, ◌∙◌, subst, rules}
+use Rattle.std.proofs.Common.{◌≡◌, ℕ, ◌≤◌, ◌<◌, ◌^◌, List, length, refl, ◌∙◌, rules}
 use Rattle.std.specs.Prelude.{IsUtf8}
 use Rattle.postcard_de.specs.Fixed.{short_text_inside}
 use Rattle.postcard_de.proofs.Texts.{text_refused, length_refused, text_ends, text_bad, text_read}
