@@ -1,0 +1,1 @@
+//! Readers and writers for tests: short of room, cut in pieces, failing at a stated call.

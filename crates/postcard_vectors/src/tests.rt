@@ -1,0 +1,4 @@
+//! The vectors and the rows.
+
+mod rows;
+mod vectors;

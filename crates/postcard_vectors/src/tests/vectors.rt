@@ -1,0 +1,1 @@
+//! The published vectors, each written and read back.
