@@ -1,0 +1,124 @@
+//! Readers for tests: one that gives its bytes in stated pieces, and one that fails at a stated call.
+
+ghost use Rattle.std.specs.Prelude.{◌≡◌, ◌≤◌, ◌<◌, ◌++◌, [], length, take, Some, IfOk, IsOk, IsErr, OnOk, ⊤};
+ghost use Rattle.std.specs.Io.{ReadsAtMost};
+ghost use Rattle.std.specs.Io.KnownBytes.{Consumes, ReadConsumes};
+
+use postcard::de_flavors::Source;
+use std::io;
+use std::io::{ErrorKind, Read};
+
+/// A steady reader that gives its bytes in pieces: no read gives more than the next of the stated lengths. These are used in
+/// turn, from the first on again once they are over; where there are none, each read gives one byte. A length of 0 counts as 1.
+#[derive(Drop)]
+pub struct Pieces<'a> {
+    bytes: &'a [u8],
+    lengths: &'a [usize],
+    place: usize,
+}
+
+impl<'a> Pieces<'a> {
+    /// A reader of `bytes` in pieces of `lengths`.
+    pub fn new(bytes: &'a [u8], lengths: &'a [usize]) -> Pieces<'a>
+        ensures { result.bytes.now ≡ bytes.now }
+    {
+        Pieces {
+            bytes,
+            lengths,
+            place: 0,
+        }
+    }
+
+    /// The bytes that weren't read yet.
+    pub fn unread(&self) -> &'a [u8]
+        ensures { result.now ≡ self.now.bytes.now }
+    {
+        self.bytes
+    }
+
+    /// How many bytes the next read gives at most: one or more.
+    fn next_length(&mut self) -> usize
+        ensures some { 0 < result }
+        ensures moves_nothing { self.new.bytes ≡ self.old.bytes }
+    {
+        if self.place >= self.lengths.len() {
+            self.place = 0;
+        }
+        let length = self.lengths.get(self.place).copied().unwrap_or(1);
+        self.place = self.place.saturating_add(1);
+        length.max(1)
+    }
+
+    /// Moves the next piece, or as much of it as there is and fits, into the front of `buf`, and answers its length.
+    fn give(&mut self, buf: &mut [u8]) -> usize
+        ensures moves { self.old.bytes.now ≡ take result buf.new ++ self.new.bytes.now }
+        ensures fits { result ≤ length buf.new }
+        ensures ends { result ≡ 0 → 0 < length buf.old → self.new.bytes.now ≡ [] }
+    {
+        let count = self.next_length().min(buf.len()).min(self.bytes.len());
+        let (piece, rest) = self.bytes.split_at(count);
+        buf[..count].copy_from_slice(piece);
+        self.bytes = rest;
+        count
+    }
+}
+
+impl Read for Pieces<'_> {
+    ghost remaining = { λ s. Some s.bytes.now };
+
+    fn read(&mut self, buf: &mut [u8]) -> io::Result<usize>
+        ensures bound { ReadsAtMost result buf.new }
+        ensures bytes { ReadConsumes (Some self.old.bytes.now) (Some self.new.bytes.now) result buf.new }
+        ensures succeeds { IsOk result }
+    {
+        Ok(self.give(buf))
+    }
+}
+
+impl Source for Pieces<'_> {
+    ghost steady = { λ _. ⊤ };
+
+    fn read_some(&mut self, buf: &mut [u8]) -> io::Result<usize> {
+        self.read(buf)
+    }
+
+    fn read_full(&mut self, buf: &mut [u8]) -> io::Result<()> {
+        let mut at = 0;
+        while at < buf.len() {
+            let count = self.give(&mut buf[at..]);
+            if count == 0 {
+                return Err(ErrorKind::UnexpectedEof.into());
+            }
+            at += count;
+        }
+        Ok(())
+    }
+}
+
+/// Hands on to another reader, but for one read, which fails as a broken pipe does.
+#[derive(Drop)]
+pub struct FailingReader<R> {
+    /// Where the bytes come from.
+    pub inner: R,
+    /// How many reads were asked for.
+    pub reads: usize,
+    /// Which of them fails, counted from 0.
+    pub fails_at: usize,
+}
+
+impl<R: Read> Read for FailingReader<R> {
+    ghost remaining = { λ s. R.remaining s.inner };
+
+    fn read(&mut self, buf: &mut [u8]) -> io::Result<usize>
+        ensures bound { ReadsAtMost result buf.new }
+        ensures bytes { ReadConsumes (R.remaining self.old.inner) (R.remaining self.new.inner) result buf.new }
+        ensures fails { self.old.reads ≡ self.old.fails_at → IsErr result }
+    {
+        let fails = self.reads == self.fails_at;
+        self.reads = self.reads.saturating_add(1);
+        if fails {
+            return Err(ErrorKind::BrokenPipe.into());
+        }
+        self.inner.read(buf)
+    }
+}

@@ -1,0 +1,98 @@
+//! Writers for tests: one that is short of room, and one that fails at a stated call.
+
+ghost use Rattle.std.specs.Prelude.{◌≡◌, ◌-◌, [], length, min, true, Ok, Some, IsErr, IsOk, OnOk};
+ghost use Rattle.std.specs.Io.{WritesAtMost};
+ghost use Rattle.std.specs.Io.KnownBytes.{Keeps, WriteAppends};
+
+use arrayvec::ArrayVec;
+use std::io;
+use std::io::{ErrorKind, Write};
+
+/// A writer with room for `N` bytes. It takes of each piece what it has room for, and once it is full nothing more, which
+/// `write_all` answers with an error.
+#[derive(Drop)]
+pub struct Bounded<const N: usize> {
+    /// The bytes that it was given.
+    pub held: ArrayVec<u8, N>,
+}
+
+impl<const N: usize> Bounded<N> {
+    /// Holds nothing.
+    pub fn new() -> Bounded<N>
+        ensures { result.held.items ≡ [] }
+    {
+        Bounded {
+            held: ArrayVec::new(),
+        }
+    }
+}
+
+impl<const N: usize> Write for Bounded<N> {
+    ghost contents = { λ s. Some s.held.items };
+
+    /// Takes the front that there is room for.
+    fn write(&mut self, buf: &[u8]) -> io::Result<usize>
+        ensures bound { WritesAtMost result buf.now }
+        ensures bytes { WriteAppends (Some self.old.held.items) (Some self.new.held.items) result buf.now }
+        ensures count { result ≡ Ok (min (length buf.now) (N - length self.old.held.items)) }
+    {
+        let count = buf.len().min(self.held.remaining_capacity());
+        match self.held.try_extend_from_slice(&buf[..count]) {
+            Ok(()) => Ok(count),
+            Err(_) => unreachable!(),
+        }
+    }
+
+    /// There is nothing to flush.
+    fn flush(&mut self) -> io::Result<()>
+        ensures bytes { Keeps (Some self.old.held.items) (Some self.new.held.items) }
+        ensures ok { IsOk result }
+    {
+        Ok(())
+    }
+}
+
+/// Hands on to another writer, but for one write, or the flush, which fails as a broken pipe does.
+#[derive(Drop)]
+pub struct FailingWriter<W> {
+    /// What the bytes go to.
+    pub inner: W,
+    /// How many writes were asked for.
+    pub writes: usize,
+    /// Which of them fails, counted from 0.
+    pub fails_at: usize,
+    /// Whether the flush fails.
+    pub flush_fails: bool,
+    /// Whether it was flushed.
+    pub flushed: bool,
+}
+
+impl<W: Write> Write for FailingWriter<W> {
+    ghost contents = { λ s. W.contents s.inner };
+
+    fn write(&mut self, buf: &[u8]) -> io::Result<usize>
+        ensures bound { WritesAtMost result buf.now }
+        ensures bytes { WriteAppends (W.contents self.old.inner) (W.contents self.new.inner) result buf.now }
+        ensures fails { self.old.writes ≡ self.old.fails_at → IsErr result }
+    {
+        let fails = self.writes == self.fails_at;
+        self.writes = self.writes.saturating_add(1);
+        if fails {
+            return Err(ErrorKind::BrokenPipe.into());
+        }
+        self.inner.write(buf)
+    }
+
+    fn flush(&mut self) -> io::Result<()>
+        ensures bytes { Keeps (W.contents self.old.inner) (W.contents self.new.inner) }
+        ensures fails { self.old.flush_fails ≡ true → IsErr result }
+        ensures records { OnOk result (self.new.flushed ≡ true) }
+    {
+        if self.flush_fails {
+            return Err(ErrorKind::BrokenPipe.into());
+        }
+        self.inner.flush()?;
+        self.flushed = true;
+        Ok(())
+    }
+}
