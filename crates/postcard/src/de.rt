@@ -1,11 +1,15 @@
-//! Decoding from a slice.
+//! Decoding from a slice or a reader.
 
-ghost use Rattle.std.specs.Prelude.{◌≡◌, ◌≢◌, ℕ, List, ◌++◌, Err, IfOk, MatchResult};
+ghost use Rattle.std.specs.Prelude.{◌≡◌, ◌≢◌, ◌≤◌, ℕ, List, ◌++◌, length, Err, IfOk, MatchResult};
+ghost use Rattle.std.specs.Io.KnownBytes.{Consumes};
 ghost use Rattle.postcard_wire.specs.Tree.{Tree};
 ghost use Rattle.postcard_wire.specs.Spelling.{Spells};
-ghost use Rattle.postcard.specs.Front.{ReadsFront};
+ghost use Rattle.postcard_de_flavors.specs.Source.{Begins};
+ghost use Rattle.postcard.specs.Front.{ReadsFront, ReadsReader};
 
 use postcard_de::{Deserialize, Deserializer};
+use postcard_de_flavors::io::io::IOReader;
+use postcard_de_flavors::source::Source;
 use postcard_wire::{Error, Result};
 use std::alloc::Global;
 
@@ -48,4 +52,37 @@ pub fn from_bytes<'a, T: Deserialize<'a>>(alloc: Global, bytes: &'a [u8]) -> Res
 {
     let (value, _) = take_from_bytes(alloc, bytes)?;
     Ok(value)
+}
+
+/// Decodes a value from a reader, and answers it with the reader and the scratch left. The bytes behind the value stay
+/// unread, so that messages in a row are read by one call after another, each handed what the last one answered.
+///
+/// What is lent to the value, as a `&str`, lies in the scratch, which is used up by as many bytes; what is read for a while,
+/// as the bytes of a `String`, only needs it. Numbers need none.
+///
+/// Where the reader tells its bytes, the value is that of a front of them, and just that front was read. Over a steady
+/// reader it succeeds wherever a front spells a tree that the type reads and the scratch is as long as that front. A reader that
+/// promises nothing goes within [`Plain`](crate::de_flavors::plain::Plain).
+///
+/// # Errors
+///
+/// As `take_from_bytes`, and `DeserializeUnexpectedEnd` also where the reader fails or the scratch is too short. Reader and
+/// scratch are then dropped.
+pub fn from_io<'a, T: Deserialize<'a>, R: Source + 'a>(
+    alloc: Global,
+    from: (R, &'a mut [u8]),
+) -> Result<(T, (R, &'a mut [u8]))>
+    ensures gives { IfOk result (λ read. ReadsReader T.reads T.value R.remaining R.steady from.entry.0 from.entry.1.now read.0 read.1.0 read.1.1.now) }
+    ensures accepts { (t : Tree) (front : List ℕ) → T.reads t → Spells t front → R.steady from.entry.0 → Begins (R.remaining from.entry.0) front
+        → length front ≤ length from.entry.1.now
+        → MatchResult result (λ read. T.value t read.0 × Consumes (R.remaining from.entry.0) (R.remaining read.1.0) front) (λ e. (e ≡ Error.OutOfMemory) × T.grows) }
+    ensures stays_steady { R.steady from.entry.0 → IfOk result (λ read. R.steady read.1.0) }
+    ensures grows { result ≡ Err Error.OutOfMemory → T.grows }
+    ensures never { result ≢ Err Error.DeserializeBadEncoding }
+{
+    let (reader, scratch) = from;
+    let mut deserializer = Deserializer::from_flavor(IOReader::new(reader, scratch));
+    let value = T::deserialize(alloc, &mut deserializer)?;
+    let left = deserializer.finalize()?;
+    Ok((value, left))
 }

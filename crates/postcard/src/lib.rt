@@ -7,17 +7,19 @@
 //! - `to_slice` and `fill_slice` write a value into a buffer (module `ser`).
 //! - `to_vec`, `to_allocvec`, `to_stdvec`, `to_extend`, `to_io` write it elsewhere, and `serialize_with_flavor` into any
 //!   flavor (module `with_flavor`); `experimental::serialized_size` counts its bytes.
-//! - `from_bytes` and `take_from_bytes` read a value from the front of a slice (module `de`).
+//! - `from_bytes` and `take_from_bytes` read a value from the front of a slice, `from_io` from a reader (module `de`).
+//! - What ties both directions together stands in `laws`.
 #![tactic(auto)]
 
 mod de;
 pub mod experimental;
+pub mod laws;
 mod ser;
 #[cfg(test)]
 mod tests;
 mod with_flavor;
 
-pub use de::{from_bytes, take_from_bytes};
+pub use de::{from_bytes, from_io, take_from_bytes};
 pub use postcard_de::{Deserialize, Deserializer, MapAccess, SeqAccess};
 pub use postcard_de_flavors as de_flavors;
 pub use postcard_de_owned::{DeserializeOwned, Owned};
