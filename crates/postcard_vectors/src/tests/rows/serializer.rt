@@ -1,0 +1,84 @@
+//! The calls of a `Serializer` that no value's writing makes: an unknown length, texts that a value prints, and refusals of a
+//! value by itself.
+
+use super::{OLD, written};
+use postcard::ser_flavors::{Flavor, Slice};
+use postcard::{Error, Result, Serialize, Serializer};
+use std::fmt;
+use std::fmt::Display;
+use std::process::Abort;
+
+/// Fails to print at once.
+struct Unprintable;
+
+impl Display for Unprintable {
+    fn fmt<W: fmt::Write>(&self, _f: &mut fmt::Formatter<W>) -> fmt::Result {
+        Err(fmt::Error)
+    }
+}
+
+/// A value that refuses itself.
+struct Unwritable;
+
+impl Serialize for Unwritable {
+    ghost use Rattle.std.specs.Prelude.{⊤};
+    ghost use Rattle.postcard_wire.specs.Tree.{Group, NoTrees};
+
+    ghost tree = { λ _. Group NoTrees };
+
+    ghost refuses_itself = { λ _. ⊤ };
+
+    fn serialize<F: Flavor>(&self, _serializer: &mut Serializer<F>) -> Result<()> {
+        Err(Error::ser_custom("no"))
+    }
+}
+
+/// Into so many bytes, what the value prints is answered so, and this is then written.
+fn assert_collected<T: Display>(
+    rt: &impl Abort,
+    value: &T,
+    room: usize,
+    answer: Result<()>,
+    want: &[u8],
+) {
+    let mut buffer = [OLD; 48];
+    let (front, _) = buffer.split_at_mut(room.min(48));
+    let mut serializer = Serializer {
+        output: Slice::new(front),
+    };
+    assert_eq!(rt; serializer.collect_str(value), answer);
+    let (all, used) = serializer.output.into_parts();
+    assert_eq!(rt; all.get(..used), Some(want));
+}
+
+#[test]
+fn printed_texts(rt: HostRuntime) {
+    assert_collected(&rt, &true, 48, Ok(()), b"\x04true");
+    assert_collected(&rt, &"", 48, Ok(()), &[0x00]);
+    let least = b"\x28-170141183460469231731687303715884105728";
+    assert_collected(&rt, &i128::MIN, 48, Ok(()), least);
+    assert_collected(&rt, &12345u32, 6, Ok(()), b"\x0512345");
+    assert_collected(&rt, &12345u32, 0, Err(Error::SerializeBufferFull), &[]);
+    assert_collected(&rt, &12345u32, 3, Err(Error::CollectStrError), &[0x05]);
+    assert_collected(&rt, &Unprintable, 48, Err(Error::CollectStrError), &[]);
+}
+
+#[test]
+fn refusals(rt: HostRuntime) {
+    let mut buffer = [OLD; 2];
+    let mut serializer = Serializer {
+        output: Slice::new(&mut buffer),
+    };
+    assert_eq!(rt; serializer.serialize_u8(7), Ok(()));
+    assert_eq!(rt;
+        serializer.serialize_seq(None),
+        Err(Error::SerializeSeqLengthUnknown)
+    );
+    let (all, used) = serializer.output.into_parts();
+    assert_eq!(rt; used, 1);
+    assert_eq!(rt; &*all, [0x07, OLD].as_slice());
+    assert_eq!(rt;
+        written(&Unwritable, &mut buffer),
+        Err(Error::SerdeSerCustom)
+    );
+}
