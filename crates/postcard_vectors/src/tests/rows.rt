@@ -6,6 +6,7 @@
 mod deserializer;
 mod flavors;
 mod memory;
+mod readers;
 mod reading;
 mod serializer;
 mod writers;
