@@ -37,9 +37,9 @@ fn assert_grows<T: Serialize>(
 fn written(rt: HostRuntime) -> std::result::Result<(), Fail> {
     assert_grows(&rt, &(), &[])?;
     assert_grows(&rt, &"Hi!", &[0x03, 0x48, 0x69, 0x21])?;
-    let mut want = [0x01; 202];
-    want[0] = 0xC8;
-    assert_grows(&rt, &[1u32; 200].as_slice(), &want)
+    let mut want = [0x01; 31];
+    want[0] = 30;
+    assert_grows(&rt, &[1u32; 30].as_slice(), &want)
 }
 
 #[test]
