@@ -9,7 +9,7 @@ use Rattle.std.specs.Prelude.{MatchResult}
 use Rattle.std.specs.List.{slice_split}
 use Rattle.pcard.specs.declared.failure.Failure.{Failure}
 use Rattle.pcard.specs.declared.failure.Failure.TheVariants.{BadValue}
-use Rattle.pcard.specs.Value.{ReadsNumber, SayEach, SomeSaysNone}
+use Rattle.pcard.specs.Value.{ReadsScalar, SayEach, SomeSaysNone}
 
 -- the parts of a text at its commas
 abbrev pub cut : List ℕ → List (List ℕ)
@@ -42,7 +42,7 @@ number_of parses word r n (Err e) says reads is = cc (sym reads ∙ is)
 
 -- a number that was read is what the word says
 pub says-number : {T E : Type 0} (parses : List ℕ → Result T E → Type 0) (word : List ℕ) (r : Result T Failure) (n : T)
-    → ReadsNumber parses word r → r ≡ Ok n → parses word (Ok n)
+    → ReadsScalar parses word r → r ≡ Ok n → parses word (Ok n)
 says-number {T} {E} parses word r n reads is = number_of parses word r n reads.0 reads.1 reads.2 is
 
 -- the failure of a result, or g
@@ -58,7 +58,7 @@ refusal_of parses word r f (Err e) says reads is = (ap (failure_or BadValue) (sy
 
 -- a word that was refused says no number
 pub says-none : {T E : Type 0} (parses : List ℕ → Result T E → Type 0) (word : List ℕ) (r : Result T Failure) (f : Failure)
-    → ReadsNumber parses word r → r ≡ Err f → (f ≡ BadValue) × ((e : E) × parses word (Err e))
+    → ReadsScalar parses word r → r ≡ Err f → (f ≡ BadValue) × ((e : E) × parses word (Err e))
 says-none {T} {E} parses word r f reads is = refusal_of parses word r f reads.0 reads.1 reads.2 is
 
 -- one more word says one more number

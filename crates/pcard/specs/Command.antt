@@ -1,7 +1,7 @@
 -- The words of a call.
 use Rattle.std.specs.Prelude.{◌≢◌, ℕ, List, [], ◌∷◌, codes}
 use Rattle.pcard.specs.declared.command.ValueType.{ValueType}
-use Rattle.pcard.specs.declared.command.ValueType.TheVariants.{U8, U16, U32, U64, U128, I8, I16, I32, I64, I128, Str, ListU8, ListU32}
+use Rattle.pcard.specs.declared.command.ValueType.TheVariants.{U8, U16, U32, U64, U128, I8, I16, I32, I64, I128, Bool, Char, Str, ListU8, ListU32}
 use Rattle.pcard.specs.declared.command.Command.{Command}
 use Rattle.pcard.specs.declared.command.Command.TheVariants.{Encode, Decode}
 
@@ -17,6 +17,8 @@ name_of I16 = codes "i16"
 name_of I32 = codes "i32"
 name_of I64 = codes "i64"
 name_of I128 = codes "i128"
+name_of Bool = codes "bool"
+name_of Char = codes "char"
 name_of Str = codes "str"
 name_of ListU8 = codes "list-u8"
 name_of ListU32 = codes "list-u32"

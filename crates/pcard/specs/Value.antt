@@ -1,13 +1,14 @@
--- What the word VALUE says. `parses` is what a number's type tells of `parse`: std's decimal numerals in its range.
+-- What the word VALUE says. `parses` is what a type tells of `parse`: of a number, std's decimal numerals in its range; of a bool,
+-- `true` and `false`; of a character, a word of just that character.
 use Rattle.std.specs.Prelude.{◌≡◌, ℕ, ◌==◌, if◌then◌else◌, List, [], ◌∷◌, ◌++◌, ◌⊎◌, length, Result, Ok, Err, MatchResult}
 use Rattle.std.specs.List.{slice_split}
 use Rattle.postcard_wire.specs.declared.error.Error.TheVariants.{OutOfMemory}
 use Rattle.pcard.specs.declared.failure.Failure.{Failure}
 use Rattle.pcard.specs.declared.failure.Failure.TheVariants.{BadValue, Library}
 
--- The result is the number that `parse` reads from the word, or `BadValue` where it reads none.
-abbrev pub ReadsNumber : {T E : Type 0} → (List ℕ → Result T E → Type 0) → List ℕ → Result T Failure → Type 0
-ReadsNumber {T = T} {E = E} parses word r = (p : Result T E) × parses word p × MatchResult p (λ n. r ≡ Ok n) (λ _. r ≡ Err BadValue)
+-- The result is the value that `parse` reads from the word, or `BadValue` where it reads none.
+abbrev pub ReadsScalar : {T E : Type 0} → (List ℕ → Result T E → Type 0) → List ℕ → Result T Failure → Type 0
+ReadsScalar {T = T} {E = E} parses word r = (p : Result T E) × parses word p × MatchResult p (λ n. r ≡ Ok n) (λ _. r ≡ Err BadValue)
 
 -- The parts of a word between its commas. The empty word has none.
 abbrev pub parts : List ℕ → List (List ℕ)

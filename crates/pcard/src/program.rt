@@ -79,24 +79,26 @@ fn convert<W: Write>(
     ensures { IfErr result (λ e. e ≢ Failure.Usage) }
 {
     match kind {
-        ValueType::U8 => convert_number::<u8, W>(alloc, task, output),
-        ValueType::U16 => convert_number::<u16, W>(alloc, task, output),
-        ValueType::U32 => convert_number::<u32, W>(alloc, task, output),
-        ValueType::U64 => convert_number::<u64, W>(alloc, task, output),
-        ValueType::U128 => convert_number::<u128, W>(alloc, task, output),
-        ValueType::I8 => convert_number::<i8, W>(alloc, task, output),
-        ValueType::I16 => convert_number::<i16, W>(alloc, task, output),
-        ValueType::I32 => convert_number::<i32, W>(alloc, task, output),
-        ValueType::I64 => convert_number::<i64, W>(alloc, task, output),
-        ValueType::I128 => convert_number::<i128, W>(alloc, task, output),
+        ValueType::U8 => convert_scalar::<u8, W>(alloc, task, output),
+        ValueType::U16 => convert_scalar::<u16, W>(alloc, task, output),
+        ValueType::U32 => convert_scalar::<u32, W>(alloc, task, output),
+        ValueType::U64 => convert_scalar::<u64, W>(alloc, task, output),
+        ValueType::U128 => convert_scalar::<u128, W>(alloc, task, output),
+        ValueType::I8 => convert_scalar::<i8, W>(alloc, task, output),
+        ValueType::I16 => convert_scalar::<i16, W>(alloc, task, output),
+        ValueType::I32 => convert_scalar::<i32, W>(alloc, task, output),
+        ValueType::I64 => convert_scalar::<i64, W>(alloc, task, output),
+        ValueType::I128 => convert_scalar::<i128, W>(alloc, task, output),
+        ValueType::Bool => convert_scalar::<bool, W>(alloc, task, output),
+        ValueType::Char => convert_scalar::<char, W>(alloc, task, output),
         ValueType::Str => convert_text(alloc, task, output),
         ValueType::ListU8 => convert_list::<u8, W>(alloc, task, output),
         ValueType::ListU32 => convert_list::<u32, W>(alloc, task, output),
     }
 }
 
-/// Encodes or decodes a number.
-fn convert_number<'a, T, W: Write>(
+/// Encodes or decodes a value that is one word: a number, a bool or a character.
+fn convert_scalar<'a, T, W: Write>(
     alloc: Global,
     task: Task<'a>,
     output: &mut W,
@@ -107,10 +109,10 @@ where
     ensures { IfErr result (λ e. e ≢ Failure.Usage) }
 {
     match task {
-        Task::Encode(word) => print_encoded(&value::number::<T>(word)?, output),
+        Task::Encode(word) => print_encoded(&value::scalar::<T>(word)?, output),
         Task::Decode(bytes) => {
-            let (number, rest) = postcard::take_from_bytes::<T>(alloc, bytes)?;
-            print_decoded(&number, rest, output)
+            let (value, rest) = postcard::take_from_bytes::<T>(alloc, bytes)?;
+            print_decoded(&value, rest, output)
         }
     }
 }

@@ -41,6 +41,10 @@ const UNEXPECTED_END: &str = "Hit the end of buffer, expected more data\n";
 const BAD_VARINT: &str =
     "Found a varint that didn't terminate. Is the usize too big for this platform?\n";
 
+const BAD_BOOL: &str = "Found a bool that wasn't 0 or 1\n";
+
+const BAD_CHAR: &str = "Found an invalid unicode char\n";
+
 #[test]
 fn answers_calls(rt: HostRuntime) -> Result<(), Fail> {
     let cases = [
@@ -58,6 +62,11 @@ fn answers_calls(rt: HostRuntime) -> Result<(), Fail> {
         ("dec|u32|FFFFFFFF0f", "4294967295\n\n", 0),
         ("dec|u8|", UNEXPECTED_END, 1),
         ("enc|str|", "00\n", 0),
+        ("dec|char|026162", "a\n\n", 0),
+        ("dec|char|0162ff", "b\nff\n", 0),
+        ("dec|char|00", BAD_CHAR, 1),
+        ("dec|bool|02", BAD_BOOL, 1),
+        ("dec|bool|", UNEXPECTED_END, 1),
     ];
     for (text, printed, status) in cases {
         check(&rt, words(rt.alloc(), text)?.as_slice(), printed, status)?;
@@ -85,6 +94,11 @@ fn refuses_calls(rt: HostRuntime) -> Result<(), Fail> {
         ("enc|i8|--1", BAD_VALUE),
         ("enc|u32|1_000", BAD_VALUE),
         ("enc|u32|٣", BAD_VALUE),
+        ("enc|bool|True", BAD_VALUE),
+        ("enc|bool|1", BAD_VALUE),
+        ("enc|bool|", BAD_VALUE),
+        ("enc|char|", BAD_VALUE),
+        ("enc|char|ab", BAD_VALUE),
         ("enc|list-u8|1,,2", BAD_VALUE),
         ("enc|list-u8|1,", BAD_VALUE),
         ("enc|list-u8|,", BAD_VALUE),
@@ -137,6 +151,12 @@ fn converts_each_type(rt: HostRuntime) -> Result<(), Fail> {
             "170141183460469231731687303715884105727",
             "feffffffffffffffffffffffffffffffffff03",
         ),
+        ("bool", "false", "00"),
+        ("bool", "true", "01"),
+        ("char", "z", "017a"),
+        ("char", "¢", "02c2a2"),
+        ("char", "€", "03e282ac"),
+        ("char", "𐍈", "04f0908d88"),
         ("str", "é", "02c3a9"),
         ("list-u8", "0,255", "0200ff"),
         ("list-u32", "0,4294967295", "0200ffffffff0f"),

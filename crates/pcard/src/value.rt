@@ -1,20 +1,21 @@
 //! Reading the word VALUE.
 
 ghost use Rattle.std.specs.Prelude.{IfOk, IfErr};
-ghost use Rattle.pcard.specs.Value.{ReadsNumber, SayEach, RefusesList, parts};
+ghost use Rattle.pcard.specs.Value.{ReadsScalar, SayEach, RefusesList, parts};
 
 use crate::failure::Failure;
 use std::alloc::Global;
 use std::str::FromStr;
 
-/// The number that the word says: a plus, or at a signed type a minus, may stand before its decimal digits.
-pub fn number<T: FromStr>(word: &str) -> Result<T, Failure>
+/// The one value that the word says: a number, with a plus, or at a signed type a minus, before its decimal digits if at all;
+/// `true` or `false`; one character.
+pub fn scalar<T: FromStr>(word: &str) -> Result<T, Failure>
 where
     T::Err: Drop,
-    ensures { ReadsNumber T.from_str_gives word.now result }
+    ensures { ReadsScalar T.from_str_gives word.now result }
 {
     match word.parse::<T>() {
-        Ok(number) => Ok(number),
+        Ok(value) => Ok(value),
         Err(_) => Err(Failure::BadValue),
     }
 }
@@ -32,9 +33,9 @@ where
     }
     let mut rest = word;
     'parts: while let Some((part, after)) = rest.split_once(',') {
-        numbers.push(number(part)?)?;
+        numbers.push(scalar(part)?)?;
         rest = after;
     }
-    numbers.push(number(rest)?)?;
+    numbers.push(scalar(rest)?)?;
     Ok(numbers)
 }

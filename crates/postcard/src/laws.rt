@@ -1,11 +1,13 @@
 //! Laws over what the calls answer. The functions do nothing: their contracts are the laws.
 
-ghost use Rattle.std.specs.Prelude.{◌≡◌, ℕ, List, ◌++◌};
+ghost use Rattle.std.specs.Prelude.{◌≡◌, ◌≤◌, ℕ, List, ◌++◌, length, Some};
 ghost use Rattle.postcard_wire.specs.Tree.{Tree};
 ghost use Rattle.postcard_wire.specs.Spelling.{Spells, bytes};
-ghost use Rattle.postcard.specs.Front.{ReadsFront};
+ghost use Rattle.postcard_de_flavors.specs.Source.{Begins};
+ghost use Rattle.postcard.specs.Front.{ReadsFront, ReadsReader};
 
 use postcard_de::Deserialize;
+use postcard_de_flavors::source::Source;
 
 /// What was encoded is decoded, whatever stands behind it: bytes that begin with the encoding of a tree that the type reads
 /// have a front that spells it, and what is read of them is a value of that tree and leaves just the bytes behind.
@@ -20,4 +22,18 @@ pub fn decodes_encoded<'a, T: Deserialize<'a>>()
 pub fn decodes_alike<'a, T: Deserialize<'a>>()
     ensures { (all rest left : List ℕ) (v w : T) → ReadsFront T.reads T.value all v rest
         → ReadsFront T.reads T.value all w left → T.same v w × (rest ≡ left) }
+{}
+
+/// What a reader gives is what its bytes give: the value of `from_io` and that of `take_from_bytes` over the bytes that the reader
+/// told look alike, and what stays unread is the rest. With scratch as long as these bytes, each succeeds where the other does.
+pub fn reads_alike<'a, T: Deserialize<'a>, R: Source>()
+    ensures alike { (old new : R) (all scratch room rest : List ℕ) (v w : T) → R.remaining old ≡ Some all
+        → ReadsReader T.reads T.value R.remaining R.steady old scratch v new room → ReadsFront T.reads T.value all w rest
+        → T.same v w × (R.remaining new ≡ Some rest) }
+    ensures given { (old new : R) (all scratch room : List ℕ) (v : T) → R.remaining old ≡ Some all
+        → ReadsReader T.reads T.value R.remaining R.steady old scratch v new room
+        → (rest : List ℕ) × ReadsFront T.reads T.value all v rest }
+    ensures taken { (old : R) (all scratch rest : List ℕ) (w : T) → R.remaining old ≡ Some all → length all ≤ length scratch
+        → ReadsFront T.reads T.value all w rest
+        → (t : Tree) × (front : List ℕ) × T.reads t × Spells t front × Begins (R.remaining old) front × (length front ≤ length scratch) }
 {}

@@ -1,4 +1,5 @@
 //! The vectors and the rows.
 
+mod examples;
 mod rows;
 mod vectors;
