@@ -4,8 +4,8 @@ use Rattle.std.proofs.Common.{refl, sym, ◌∙◌, ap}
 use Rattle.postcard_wire.specs.Tree.{Tree, Trees, Byte, Num, Text, Seq, Group, NoTrees, Then, trees}
 use Rattle.postcard_de.specs.Same.{HasOne}
 use Rattle.postcard_vectors.specs.declared.types.ref_struct.RefStruct.{RefStruct}
-use Rattle.postcard_vectors.specs.declared.types.records.BasicU8S.{BasicU8S}
-use Rattle.postcard_vectors.specs.declared.types.records.WideU8S.{WideU8S}
+use Rattle.postcard_vectors.specs.declared.types.basic_u8s.BasicU8S.{BasicU8S}
+use Rattle.postcard_vectors.specs.declared.types.wide_u8s.WideU8S.{WideU8S}
 use Rattle.postcard_vectors.specs.declared.types.newtypes.NewTypeStruct.{NewTypeStruct}
 use Rattle.postcard_vectors.specs.declared.types.newtypes.TupleStruct.{TupleStruct}
 use Rattle.postcard_vectors.specs.declared.types.newtypes.DualTupleStruct.{DualTupleStruct}

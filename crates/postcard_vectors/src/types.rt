@@ -4,18 +4,20 @@
 //! it is. A struct is read as the tuple of its fields, and has the laws of that tuple.
 //!
 //! - [`ref_struct`]: a struct that borrows from the input.
-//! - [`records`]: structs of numbers.
+//! - [`basic_u8s`], [`wide_u8s`]: structs of numbers.
 //! - [`newtypes`]: structs whose fields have no names.
 //! - [`basic_enum`], [`data_enum`]: an enum without content, and one with content of every kind.
 
 pub mod basic_enum;
+pub mod basic_u8s;
 pub mod data_enum;
 pub mod newtypes;
-pub mod records;
 pub mod ref_struct;
+pub mod wide_u8s;
 
 pub use basic_enum::BasicEnum;
+pub use basic_u8s::BasicU8S;
 pub use data_enum::{DataEnum, EnumStruct};
 pub use newtypes::{DualTupleStruct, NewTypeStruct, TupleStruct};
-pub use records::{BasicU8S, WideU8S};
 pub use ref_struct::RefStruct;
+pub use wide_u8s::WideU8S;

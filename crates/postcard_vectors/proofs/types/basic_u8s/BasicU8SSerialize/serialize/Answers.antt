@@ -1,7 +1,7 @@
 -- The four numbers, one after the other.
 use Rattle.std.proofs.Common.{[], ◌∷◌}
 use Rattle.postcard_ser.proofs.PartByPart.{wrote_then, wrote_stop, wrote_err}
-use Rattle.postcard_vectors.proofs.types.records.BasicU8SSerialize.serialize.Goals as goal
+use Rattle.postcard_vectors.proofs.types.basic_u8s.BasicU8SSerialize.serialize.Goals as goal
 
 pub returns-in_err-serialize_struct_field-2 : goal.returns-in_err-serialize_struct_field-2
 returns-in_err-serialize_struct_field-2 g c =
