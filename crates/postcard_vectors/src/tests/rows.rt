@@ -4,6 +4,7 @@
 //! called once more, and only the named error may come before the right answer.
 
 mod deserializer;
+mod devices;
 mod flavors;
 mod memory;
 mod readers;
