@@ -1,1 +1,23 @@
 //! The types of the vectors, implemented by hand as a user of the library would.
+//!
+//! Each says the tree of a value once, in its impl of `Serialize`; the value that is read from a tree is the one whose tree
+//! it is. A struct is read as the tuple of its fields, and has the laws of that tuple.
+//!
+//! - [`ref_struct`]: a struct that borrows from the input.
+//! - [`basic_u8s`], [`wide_u8s`]: structs of numbers.
+//! - [`newtypes`]: structs whose fields have no names.
+//! - [`basic_enum`], [`data_enum`]: an enum without content, and one with content of every kind.
+
+pub mod basic_enum;
+pub mod basic_u8s;
+pub mod data_enum;
+pub mod newtypes;
+pub mod ref_struct;
+pub mod wide_u8s;
+
+pub use basic_enum::BasicEnum;
+pub use basic_u8s::BasicU8S;
+pub use data_enum::{DataEnum, EnumStruct};
+pub use newtypes::{DualTupleStruct, NewTypeStruct, TupleStruct};
+pub use ref_struct::RefStruct;
+pub use wide_u8s::WideU8S;

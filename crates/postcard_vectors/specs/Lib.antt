@@ -1,0 +1,3 @@
+pub mod Told
+pub mod Basic
+pub mod Data

@@ -1,0 +1,85 @@
+//! A struct with a number of each unsigned width but the greatest.
+
+ghost use Rattle.std.specs.Prelude.{◌≡◌, [], ◌∷◌, refl};
+ghost use Rattle.postcard_wire.specs.Tree.{Group, trees};
+ghost use Rattle.postcard_vectors.specs.Told.{told_by, basic_u8s_of};
+
+use postcard::de_flavors::Flavor as Source;
+use postcard::ser_flavors::Flavor;
+use postcard::{Deserialize, DeserializeOwned, Deserializer, Result, Serialize, Serializer};
+use std::alloc::Global;
+
+/// The fields of `BasicU8S`.
+type BasicFields = (u16, u8, u64, u32);
+
+/// A number of each unsigned width but the greatest.
+#[derive(Clone, Debug, Drop, PartialEq)]
+pub struct BasicU8S {
+    /// Of 16 bits.
+    pub st: u16,
+    /// Of 8 bits.
+    pub ei: u8,
+    /// Of 64 bits.
+    pub sf: u64,
+    /// Of 32 bits.
+    pub tt: u32,
+}
+
+impl Serialize for BasicU8S {
+    ghost tree = { λ v. Group (trees (⟦<u16 as Serialize>⟧.tree v.st ∷ ⟦<u8 as Serialize>⟧.tree v.ei
+        ∷ ⟦<u64 as Serialize>⟧.tree v.sf ∷ ⟦<u32 as Serialize>⟧.tree v.tt ∷ [])) };
+
+    fn serialize<F: Flavor>(&self, serializer: &mut Serializer<F>) -> Result<()> {
+        serializer.serialize_struct("BasicU8S", 4)?;
+        serializer.serialize_struct_field("st", &self.st)?;
+        serializer.serialize_struct_field("ei", &self.ei)?;
+        serializer.serialize_struct_field("sf", &self.sf)?;
+        serializer.serialize_struct_field("tt", &self.tt)?;
+        serializer.end()
+    }
+}
+
+/// It is read as the tuple of its fields.
+impl<'de> Deserialize<'de> for BasicU8S {
+    ghost reads = { ⟦<BasicFields as Deserialize<'de>>⟧.reads };
+
+    ghost value = { λ t v. t ≡ ⟦<BasicU8S as Serialize>⟧.tree v };
+
+    ghost same = { λ v w. v ≡ w };
+
+    ghost grows = { ⊥ };
+
+    ghost delimited = { ⟦<BasicFields as Deserialize<'de>>⟧.delimited };
+
+    ghost well_formed = { ⟦<BasicFields as Deserialize<'de>>⟧.well_formed };
+
+    ghost one_value = { told_by basic_u8s_of (λ v. refl) };
+
+    fn deserialize<F: Source>(alloc: Global, d: &mut Deserializer<'de, F>) -> Result<Self> {
+        let (st, ei, sf, tt): BasicFields = Deserialize::deserialize(alloc, d)?;
+        Ok(BasicU8S { st, ei, sf, tt })
+    }
+}
+
+impl DeserializeOwned for BasicU8S {
+    ghost reads = { ⟦<BasicU8S as Deserialize<'static>>⟧.reads };
+
+    ghost value = { ⟦<BasicU8S as Deserialize<'static>>⟧.value };
+
+    ghost same = { ⟦<BasicU8S as Deserialize<'static>>⟧.same };
+
+    ghost grows = { ⟦<BasicU8S as Deserialize<'static>>⟧.grows };
+
+    ghost delimited = { ⟦<BasicU8S as Deserialize<'static>>⟧.delimited };
+
+    ghost well_formed = { ⟦<BasicU8S as Deserialize<'static>>⟧.well_formed };
+
+    ghost one_value = { ⟦<BasicU8S as Deserialize<'static>>⟧.one_value };
+
+    fn deserialize_owned<'de, F: Source>(
+        alloc: Global,
+        d: &mut Deserializer<'de, F>,
+    ) -> Result<Self> {
+        BasicU8S::deserialize(alloc, d)
+    }
+}

@@ -1,0 +1,56 @@
+//! A struct with borrowed fields: both are lent from the input when it is read.
+
+ghost use Rattle.std.specs.Prelude.{◌≡◌, [], ◌∷◌};
+ghost use Rattle.postcard_wire.specs.Tree.{Group, trees};
+ghost use Rattle.postcard_vectors.specs.Told.{ref_struct_one};
+
+use postcard::de_flavors::Flavor as Source;
+use postcard::ser_flavors::Flavor;
+use postcard::{Deserialize, Deserializer, Result, Serialize, Serializer};
+use std::alloc::Global;
+
+/// The fields of `RefStruct`.
+type RefFields<'a> = (&'a [u8], &'a str);
+
+/// Bytes and a text that stand elsewhere.
+#[derive(Clone, Debug, Drop, PartialEq)]
+pub struct RefStruct<'a> {
+    /// Some bytes.
+    pub bytes: &'a [u8],
+    /// A text.
+    pub str_s: &'a str,
+}
+
+impl Serialize for RefStruct<'_> {
+    ghost tree = { λ v. Group (trees (⟦<&'static [u8] as Serialize>⟧.tree v.bytes
+        ∷ ⟦<&'static str as Serialize>⟧.tree v.str_s ∷ [])) };
+
+    fn serialize<F: Flavor>(&self, serializer: &mut Serializer<F>) -> Result<()> {
+        serializer.serialize_struct("RefStruct", 2)?;
+        serializer.serialize_struct_field("bytes", &self.bytes)?;
+        serializer.serialize_struct_field("str_s", &self.str_s)?;
+        serializer.end()
+    }
+}
+
+/// It is read as the tuple of its fields.
+impl<'de> Deserialize<'de> for RefStruct<'de> {
+    ghost reads = { ⟦<RefFields<'de> as Deserialize<'de>>⟧.reads };
+
+    ghost value = { λ t v. t ≡ ⟦<RefStruct<'de> as Serialize>⟧.tree v };
+
+    ghost same = { λ v w. (v.bytes.now ≡ w.bytes.now) × (v.str_s.now ≡ w.str_s.now) };
+
+    ghost grows = { ⊥ };
+
+    ghost delimited = { ⟦<RefFields<'de> as Deserialize<'de>>⟧.delimited };
+
+    ghost well_formed = { ⟦<RefFields<'de> as Deserialize<'de>>⟧.well_formed };
+
+    ghost one_value = { ref_struct_one };
+
+    fn deserialize<F: Source>(alloc: Global, d: &mut Deserializer<'de, F>) -> Result<Self> {
+        let (bytes, str_s): RefFields<'de> = Deserialize::deserialize(alloc, d)?;
+        Ok(RefStruct { bytes, str_s })
+    }
+}
