@@ -10,6 +10,7 @@ mod memory;
 mod readers;
 mod reading;
 mod serializer;
+mod streams;
 mod writers;
 mod writing;
 
