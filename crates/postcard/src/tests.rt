@@ -1,11 +1,9 @@
 //! The calls end to end, against bytes that were worked out by hand from the wire format.
 
-use crate::experimental::serialized_size;
-use crate::ser_flavors::Size;
-use crate::{
-    Error, Serialize, Serializer, fill_slice, from_bytes, serialize_with_flavor, take_from_bytes,
-    to_allocvec, to_extend, to_io, to_slice, to_stdvec, to_vec,
-};
+mod decoding;
+mod flavors;
+
+use crate::{Error, Serialize, Serializer, fill_slice, to_slice};
 use postcard_ser_flavors::Flavor;
 use std::alloc::AllocError;
 use std::process::Abort;
@@ -95,138 +93,6 @@ fn leaves_a_beginning_where_there_is_no_room(rt: HostRuntime) {
     let mut buffer = [OLD; 4];
     assert!(rt; to_slice(&"Hi!", &mut buffer).is_ok());
     assert_eq!(rt; buffer, [0x03, 0x48, 0x69, 0x21]);
-}
-
-#[test]
-fn reads_numbers(rt: HostRuntime) {
-    for (bytes, want) in [
-        (&[0xFF, 0xFF, 0xFF, 0xFF, 0x0F][..], Ok(u32::MAX)),
-        (
-            &[0xFF, 0xFF, 0xFF, 0xFF, 0x1F],
-            Err(Error::DeserializeBadVarint),
-        ),
-        (
-            &[0xFF, 0xFF, 0xFF, 0xFF, 0xFF, 0x01],
-            Err(Error::DeserializeBadVarint),
-        ),
-        (
-            &[0xFF, 0xFF, 0xFF, 0xFF],
-            Err(Error::DeserializeUnexpectedEnd),
-        ),
-        (&[], Err(Error::DeserializeUnexpectedEnd)),
-    ] {
-        assert_eq!(rt; from_bytes::<u32>(rt.alloc(), bytes), want, "{bytes:?}");
-    }
-    for (bytes, want) in [
-        (&[0x80, 0x00][..], Ok(0)),
-        (&[0x80, 0x80, 0x00], Ok(0)),
-        (&[0x80, 0x80, 0x04], Err(Error::DeserializeBadVarint)),
-        (&[0x80, 0x80, 0x80, 0x00], Err(Error::DeserializeBadVarint)),
-    ] {
-        assert_eq!(rt; from_bytes::<u16>(rt.alloc(), bytes), want, "{bytes:?}");
-    }
-    for (bytes, want) in [
-        (&[0xFF, 0xFF, 0x03][..], Ok(i16::MIN)),
-        (&[0xFE, 0xFF, 0x03], Ok(i16::MAX)),
-        (&[0x01], Ok(-1)),
-    ] {
-        assert_eq!(rt; from_bytes::<i16>(rt.alloc(), bytes), want, "{bytes:?}");
-    }
-    let mut widest = [0xFF; 19];
-    widest[18] = 0x03;
-    assert_eq!(rt; from_bytes(rt.alloc(), &widest), Ok(u128::MAX));
-    assert_eq!(rt; from_bytes(rt.alloc(), &widest), Ok(i128::MIN));
-    widest[18] = 0x04;
-    assert_eq!(rt;
-        from_bytes::<u128>(rt.alloc(), &widest),
-        Err(Error::DeserializeBadVarint)
-    );
-    assert_eq!(rt; from_bytes(rt.alloc(), &[0xFF]), Ok(-1i8));
-    assert_eq!(rt;
-        take_from_bytes(rt.alloc(), &[0x05, 0x99]),
-        Ok((5u8, &[0x99][..]))
-    );
-}
-
-#[test]
-fn reads_texts_and_lists(rt: HostRuntime) {
-    assert_eq!(rt;
-        take_from_bytes(rt.alloc(), &[0x03, 0x48, 0x69, 0x21, 0x07]),
-        Ok(("Hi!", &[0x07][..]))
-    );
-    for (bytes, want) in [
-        (&[0x01, 0xFF][..], Error::DeserializeBadUtf8),
-        (&[0x03, 0x48, 0x69], Error::DeserializeUnexpectedEnd),
-        (&[0x80], Error::DeserializeUnexpectedEnd),
-    ] {
-        assert!(rt;
-            matches!(from_bytes::<&str>(rt.alloc(), bytes), Err(e) if e == want),
-            "{bytes:?}"
-        );
-        assert!(rt;
-            matches!(from_bytes::<String>(rt.alloc(), bytes), Err(e) if e == want),
-            "{bytes:?}"
-        );
-    }
-    let eight = [0x08, 0xFF, 0xFF, 0xFF, 0, 0, 0, 0, 0];
-    match from_bytes::<Vec<u8>>(rt.alloc(), &eight) {
-        Ok(list) => assert_eq!(rt; list.as_slice(), &eight[1..]),
-        Err(e) => panic!(rt; "{e}"),
-    }
-    // A count of 268,435,336 is refused for the bytes that aren't there, and not for memory.
-    let announced = [0x88, 0xFF, 0xFF, 0xFF, 0, 0, 0, 0, 0];
-    let refused = from_bytes::<Vec<u8>>(rt.alloc(), &announced);
-    assert!(rt; matches!(refused, Err(Error::DeserializeUnexpectedEnd)));
-    match take_from_bytes::<Vec<u32>>(rt.alloc(), &[0x02, 0x01, 0xAC, 0x02, 0x99]) {
-        Ok((list, rest)) => {
-            assert_eq!(rt; list.as_slice(), [1, 300].as_slice());
-            assert_eq!(rt; rest, [0x99].as_slice());
-        }
-        Err(e) => panic!(rt; "{e}"),
-    }
-}
-
-/// `(1u8, 10u32, "Hello!")` on the wire.
-const TUPLE: [u8; 9] = [0x01, 0x0A, 0x06, 0x48, 0x65, 0x6C, 0x6C, 0x6F, 0x21];
-
-#[test]
-fn writes_into_each_flavor(rt: HostRuntime) {
-    let tuple = (1u8, 10u32, "Hello!");
-    match to_vec::<_, 9>(&tuple) {
-        Ok(vec) => assert_eq!(rt; vec.as_slice(), &TUPLE[..]),
-        Err(e) => panic!(rt; "{e}"),
-    }
-    assert!(rt; matches!(to_vec::<_, 8>(&tuple), Err(Error::SerializeBufferFull)));
-    for outcome in [
-        to_stdvec(rt.alloc(), &tuple),
-        to_allocvec(rt.alloc(), &tuple),
-    ] {
-        match outcome {
-            Ok(vec) => assert_eq!(rt; vec.as_slice(), &TUPLE[..]),
-            Err(e) => panic!(rt; "{e}"),
-        }
-    }
-    assert_eq!(rt; serialized_size(&tuple), Ok(9));
-    assert_eq!(rt; serialize_with_flavor(&false, Size::default()), Ok(1));
-}
-
-#[test]
-fn appends_to_what_is_there(rt: HostRuntime) {
-    let want = [0x01, 0x03, 0x48, 0x69, 0x21];
-    match to_extend(&true, Vec::new(rt.alloc())) {
-        Ok(vec) => match to_extend(&"Hi!", vec) {
-            Ok(vec) => assert_eq!(rt; vec.as_slice(), &want[..]),
-            Err(e) => panic!(rt; "{e}"),
-        },
-        Err(e) => panic!(rt; "{e}"),
-    }
-    match to_io(&true, Vec::new(rt.alloc())) {
-        Ok(vec) => match to_io(&"Hi!", vec) {
-            Ok(vec) => assert_eq!(rt; vec.as_slice(), &want[..]),
-            Err(e) => panic!(rt; "{e}"),
-        },
-        Err(e) => panic!(rt; "{e}"),
-    }
 }
 
 /// A value that refuses itself.

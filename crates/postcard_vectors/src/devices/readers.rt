@@ -1,6 +1,6 @@
 //! Readers for tests: one that gives its bytes in stated pieces, and one that fails at a stated call.
 
-ghost use Rattle.std.specs.Prelude.{◌≡◌, ◌≤◌, ◌<◌, ◌++◌, [], length, take, Some, IfOk, IsOk, IsErr, OnOk, ⊤};
+ghost use Rattle.std.specs.Prelude.{◌≡◌, ◌+◌, ◌-◌, ◌^◌, ◌≤◌, ◌<◌, ◌++◌, [], length, min, take, Some, IfOk, IsOk, IsErr, OnOk, ⊤};
 ghost use Rattle.std.specs.Io.{ReadsAtMost};
 ghost use Rattle.std.specs.Io.KnownBytes.{Consumes, ReadConsumes};
 
@@ -113,6 +113,8 @@ impl<R: Read> Read for FailingReader<R> {
         ensures bound { ReadsAtMost result buf.new }
         ensures bytes { ReadConsumes (R.remaining self.old.inner) (R.remaining self.new.inner) result buf.new }
         ensures fails { self.old.reads ≡ self.old.fails_at → IsErr result }
+        ensures counts { self.new.reads ≡ min (self.old.reads + 1) (2 ^ 64 - 1) }
+        ensures keeps { self.new.fails_at ≡ self.old.fails_at }
     {
         let fails = self.reads == self.fails_at;
         self.reads = self.reads.saturating_add(1);

@@ -1,6 +1,6 @@
 //! Writers for tests: one that is short of room, and one that fails at a stated call.
 
-ghost use Rattle.std.specs.Prelude.{◌≡◌, ◌-◌, [], length, min, true, Ok, Some, IsErr, IsOk, OnOk};
+ghost use Rattle.std.specs.Prelude.{◌≡◌, ◌+◌, ◌-◌, ◌^◌, [], length, min, true, Ok, Some, IsErr, IsOk, OnOk, OnErr};
 ghost use Rattle.std.specs.Io.{WritesAtMost};
 ghost use Rattle.std.specs.Io.KnownBytes.{Keeps, WriteAppends};
 
@@ -74,6 +74,8 @@ impl<W: Write> Write for FailingWriter<W> {
         ensures bound { WritesAtMost result buf.now }
         ensures bytes { WriteAppends (W.contents self.old.inner) (W.contents self.new.inner) result buf.now }
         ensures fails { self.old.writes ≡ self.old.fails_at → IsErr result }
+        ensures counts { self.new.writes ≡ min (self.old.writes + 1) (2 ^ 64 - 1) }
+        ensures keeps { self.new.fails_at ≡ self.old.fails_at }
     {
         let fails = self.writes == self.fails_at;
         self.writes = self.writes.saturating_add(1);
@@ -87,6 +89,7 @@ impl<W: Write> Write for FailingWriter<W> {
         ensures bytes { Keeps (W.contents self.old.inner) (W.contents self.new.inner) }
         ensures fails { self.old.flush_fails ≡ true → IsErr result }
         ensures records { OnOk result (self.new.flushed ≡ true) }
+        ensures not_flushed { OnErr result (self.new.flushed ≡ self.old.flushed) }
     {
         if self.flush_fails {
             return Err(ErrorKind::BrokenPipe.into());

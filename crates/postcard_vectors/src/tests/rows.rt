@@ -4,11 +4,13 @@
 //! called once more, and only the named error may come before the right answer.
 
 mod deserializer;
+mod devices;
 mod flavors;
 mod memory;
 mod readers;
 mod reading;
 mod serializer;
+mod streams;
 mod writers;
 mod writing;
 

@@ -1,6 +1,7 @@
 //! The calls of a `Deserializer` one by one.
 
 use postcard::{Deserialize, Deserializer, Error};
+use std::alloc::Global;
 use std::test::Fail;
 
 #[test]
@@ -31,6 +32,21 @@ fn an_element_refused_is_counted(rt: HostRuntime) -> Result<(), Fail> {
     ] {
         assert_eq!(rt; elements.next_element(rt.alloc(), &mut deserializer), want);
     }
+    Ok(())
+}
+
+/// A list of bytes, as a vector.
+fn byte_buf(alloc: Global) -> postcard::Result<Vec<u8>> {
+    Deserializer::from_bytes(&[0x02, 0x05, 0x06]).deserialize_byte_buf(alloc)
+}
+
+#[test]
+fn bytes_in_memory(rt: HostRuntime) -> Result<(), Fail> {
+    let list = match byte_buf(rt.alloc()) {
+        Err(Error::OutOfMemory) => byte_buf(rt.alloc()),
+        answer => answer,
+    };
+    assert_eq!(rt; list?.as_slice(), [0x05, 0x06].as_slice());
     Ok(())
 }
 

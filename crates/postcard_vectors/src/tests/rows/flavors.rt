@@ -26,6 +26,7 @@ fn a_piece_that_does_not_fit(rt: HostRuntime) -> Result<(), Fail> {
         vec.try_extend(&[0x03, 0x04, 0x05]),
         Err(Error::SerializeBufferFull)
     );
+    assert_eq!(rt; (vec[0], vec[1]), (0x01, 0x02));
     assert_eq!(rt; vec.try_extend(&[0x03, 0x04]), Ok(()));
     vec[1] = 0x09;
     assert_eq!(rt;

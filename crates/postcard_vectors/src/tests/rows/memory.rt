@@ -37,6 +37,8 @@ fn assert_grows<T: Serialize>(
 fn written(rt: HostRuntime) -> std::result::Result<(), Fail> {
     assert_grows(&rt, &(), &[])?;
     assert_grows(&rt, &"Hi!", &[0x03, 0x48, 0x69, 0x21])?;
+    let tuple = [0x01, 0x0A, 0x06, 0x48, 0x65, 0x6C, 0x6C, 0x6F, 0x21];
+    assert_grows(&rt, &(1u8, 10u32, "Hello!"), &tuple)?;
     let mut want = [0x01; 31];
     want[0] = 30;
     assert_grows(&rt, &[1u32; 30].as_slice(), &want)

@@ -12,6 +12,9 @@ use std::test::Fail;
 /// Two texts, "ab" and "c".
 const TEXTS: [u8; 5] = [0x02, 0x61, 0x62, 0x01, 0x63];
 
+/// The text "ab", the character 'c', which needs scratch for a while alone, and the text "d".
+const MIXED: [u8; 7] = [0x02, 0x61, 0x62, 0x01, 0x63, 0x01, 0x64];
+
 /// The text "z", and a byte behind it.
 const LETTER: [u8; 3] = [0x01, 0x7A, 0x99];
 
@@ -49,6 +52,13 @@ fn lends_texts<'b, R: Source + 'b, F: Fn(&'b [u8]) -> R>(
     assert_eq!(rt; text, "z");
     assert_eq!(rt; left.len(), 1);
     assert_unread(rt, reader, &[0x99]);
+    let mut memory = [OLD; 3];
+    let (mixed, (_, left)) = from_io::<(&str, char, &str), _>(
+        rt.alloc(),
+        (over(&MIXED), &mut memory),
+    )?;
+    assert_eq!(rt; mixed, ("ab", 'c', "d"));
+    assert_eq!(rt; left.len(), 0);
     Ok(())
 }
 

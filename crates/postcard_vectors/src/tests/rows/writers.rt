@@ -1,18 +1,28 @@
 //! Values written to writers that are short of room, or fail.
 
+ghost use Rattle.std.specs.Prelude.{◌≡◌, IfOk};
+ghost use Rattle.postcard_wire.specs.Spelling.{bytes};
+
 use crate::devices::writers::{Bounded, FailingWriter};
-use postcard::{Error, to_io};
+use postcard::{Error, Serialize, to_io};
 use std::process::Abort;
 use std::test::Fail;
+
+/// Sends a value to a writer of which a caller knows what it holds then.
+fn sent<T: Serialize, const N: usize>(value: &T) -> postcard::Result<Bounded<N>>
+    ensures { IfOk result (λ writer. writer.held.items ≡ bytes (T.tree value.now)) }
+{
+    to_io(value, Bounded::new())
+}
 
 #[test]
 fn short_of_room(rt: HostRuntime) -> Result<(), Fail> {
     assert_eq!(rt;
-        to_io(&"Hi!", Bounded::<4>::new())?.held.as_slice(),
+        sent::<_, 4>(&"Hi!")?.held.as_slice(),
         [0x03, 0x48, 0x69, 0x21].as_slice()
     );
     assert_eq!(rt;
-        to_io(&"Hi!", Bounded::<3>::new()).err(),
+        sent::<_, 3>(&"Hi!").err(),
         Some(Error::SerializeBufferFull)
     );
     Ok(())
