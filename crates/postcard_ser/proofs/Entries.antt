@@ -1,4 +1,4 @@
--- A list of which the front is done: one entry more, and why what an entry has some entry of the list has.
+-- Why what one entry of a list has some entry has, and when none has it.
 use Rattle.std.proofs.Common.{◌≡◌, ◌<◌, List, ◌∷◌, ◌++◌, length, get_or, subst, arith, length-append}
 use Rattle.std.proofs.lemmas.Grind.{common_steps}
 use Rattle.std.specs.Prelude.{Any}

@@ -1,7 +1,7 @@
 //! A value written as the text that it prints: the text is counted in a first pass, and handed over
 //! in a second.
 
-ghost use Rattle.std.specs.Prelude.{◌≡◌, ◌+◌, length, ⊤, OnOk, IfOk, IfErr, IsErrOf, IfSome};
+ghost use Rattle.std.specs.Prelude.{◌≡◌, ◌↔◌, ◌+◌, ◌^◌, ◌<◌, length, ⊤, IsOk, OnOk, IfOk, IfErr, IsErrOf, IfSome};
 ghost use Rattle.postcard_wire.specs.Number.{digits};
 ghost use Rattle.postcard_wire.specs.Spelling.{bytes};
 ghost use Rattle.postcard_wire.specs.Tree.{Text};
@@ -25,7 +25,10 @@ struct CountWriter {
 impl fmt::Write for CountWriter {
     ghost write_str_gives = { λ s x t. t.count ≡ s.count + length x };
 
-    fn write_str(&mut self, s: &str) -> fmt::Result {
+    fn write_str(&mut self, s: &str) -> fmt::Result
+        ensures ok { IsOk result → self.new.count ≡ self.old.count + length s.now }
+        ensures fits { IsOk result ↔ (self.old.count + length s.now < 2 ^ 64) }
+    {
         match self.count.checked_add(s.len()) {
             Some(count) => {
                 self.count = count;
@@ -56,7 +59,10 @@ struct FmtWriter<F: Flavor, K: Lasting<F>> {
 impl<F: Flavor, K: Lasting<F>> fmt::Write for FmtWriter<F, K> {
     ghost write_str_gives = { λ s x t. F.appended s.output x t.output };
 
-    fn write_str(&mut self, s: &str) -> fmt::Result {
+    fn write_str(&mut self, s: &str) -> fmt::Result
+        ensures ok { IsOk result → F.appended self.old.output s.now self.new.output }
+        ensures has_room { F.room self.old.output s.now → IsOk result }
+    {
         match self.output.try_extend(s.as_bytes()) {
             Ok(()) => Ok(()),
             Err(_) => Err(fmt::Error),

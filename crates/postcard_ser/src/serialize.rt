@@ -19,6 +19,8 @@ use postcard_wire::Result;
 ///   left out.
 ///
 /// A struct names its parts by quotes, as `⟦<u32 as Serialize>⟧.tree v.count`.
+/// Where it is written as the tuple of its parts, as `(&self.name, &self.count).serialize(serializer)`,
+/// the check mostly finds the proof by itself.
 pub trait Serialize {
     ghost tree: { Self → Tree };
 

@@ -1,9 +1,10 @@
 //! The calls by which a type writes itself, each a node of the wire format. Here are those for numbers,
 //! texts and lists.
 
-ghost use Rattle.std.specs.Prelude.{◌≡◌, [], ◌∷◌, map, false, IsOk, IsErrOf, IfSome};
+ghost use Rattle.std.specs.Prelude.{◌≡◌, [], ◌∷◌, ◌++◌, length, map, false, IsOk, IsErrOf, IfSome};
 ghost use Rattle.std.specs.Option.{IfNone};
 ghost use Rattle.std.specs.Int.{w8, cast_unsigned};
+ghost use Rattle.postcard_wire.specs.Number.{digits};
 ghost use Rattle.postcard_wire.specs.Spelling.{bytes};
 ghost use Rattle.postcard_wire.specs.Tree.{Byte, Num, Int, Text, Seq, trees};
 ghost use Rattle.postcard_ser.specs.Writing.{Wrote};
@@ -56,7 +57,7 @@ impl<F: Flavor> Serializer<F> {
 
     // Hands over the count of the bytes, and then the bytes.
     fn extend_counted(&mut self, piece: &[u8]) -> Result<()>
-        ensures { Wrote F.Flavor self.old.output (bytes (Text piece.now)) ⊥ ⊥
+        ensures { Wrote F.Flavor self.old.output (digits (length piece.now) ++ piece.now) ⊥ ⊥
             result self.new.output }
     {
         self.serialize_u64(piece.len() as u64)?;
@@ -153,6 +154,7 @@ impl<F: Flavor> Serializer<F> {
     }
 
     /// Writes the count of the bytes as a varint, and then the bytes: those of a list of `u8`.
+    #[tactic(auto, using(crate::proofs::Elements::elements_count, crate::proofs::Elements::bytes_of_bytes))]
     pub fn serialize_bytes(&mut self, v: &[u8]) -> Result<()>
         ensures { Wrote F.Flavor self.old.output (bytes (Seq (trees (map Byte v.now)))) ⊥ ⊥
             result self.new.output }

@@ -15,7 +15,7 @@ use postcard_wire::{Error, Result};
 use std::process::Abort;
 use std::test::Fail;
 
-/// A user's struct.
+/// A user's struct, written as the tuple of its fields: so it needs no proof of its own.
 struct Reading<'a> {
     name: &'a str,
     value: u32,
@@ -25,13 +25,8 @@ impl Serialize for Reading<'_> {
     ghost tree = { λ v. Group (trees (⟦<&'static str as Serialize>⟧.tree v.name
         ∷ ⟦<u32 as Serialize>⟧.tree v.value ∷ [])) };
 
-    ghost refuses_itself = { λ _. ⊥ };
-
-    ghost may_fail_text = { ⊥ };
-
     fn serialize<F: Flavor>(&self, serializer: &mut Serializer<F>) -> Result<()> {
-        self.name.serialize(serializer)?;
-        self.value.serialize(serializer)
+        (&self.name, &self.value).serialize(serializer)
     }
 }
 
@@ -41,10 +36,6 @@ struct Both(u32, u32);
 impl Serialize for Both {
     ghost tree = { λ v. Seq (trees (⟦<u32 as Serialize>⟧.tree v.0
         ∷ ⟦<u32 as Serialize>⟧.tree v.1 ∷ [])) };
-
-    ghost refuses_itself = { λ _. ⊥ };
-
-    ghost may_fail_text = { ⊥ };
 
     fn serialize<F: Flavor>(&self, serializer: &mut Serializer<F>) -> Result<()> {
         serializer.serialize_seq(Some(2))?;
@@ -61,8 +52,6 @@ impl Serialize for Even {
     ghost tree = { λ v. Byte v.0 };
 
     ghost refuses_itself = { λ v. v.0 % 2 ≡ 1 };
-
-    ghost may_fail_text = { ⊥ };
 
     fn serialize<F: Flavor>(&self, serializer: &mut Serializer<F>) -> Result<()> {
         if self.0 % 2 == 1 {
@@ -248,4 +237,18 @@ fn refusals(rt: HostRuntime) {
     let mut buffer = [0xAA; 1];
     assert_eq!(rt; written(&Even(3), &mut buffer), Err(Error::SerdeSerCustom));
     assert_eq!(rt; written(&Even(4), &mut buffer), Ok([0x04].as_slice()));
+    // Of parts the first that fails names the error.
+    assert_eq!(rt;
+        written(&(Even(4), Even(3)), &mut buffer),
+        Err(Error::SerdeSerCustom)
+    );
+    let mut none = [0; 0];
+    assert_eq!(rt;
+        written(&(Even(4), Even(3)), &mut none),
+        Err(Error::SerializeBufferFull)
+    );
+    assert_eq!(rt;
+        written(&(Even(3), Even(4)), &mut none),
+        Err(Error::SerdeSerCustom)
+    );
 }

@@ -39,7 +39,7 @@ fn serialize_each<T: Serialize, F: Flavor>(
     Ok(())
 }
 
-/// A list that refuses itself where an element does.
+/// The count of the elements, and these. The list refuses itself where an element does.
 impl<T: Serialize> Serialize for &[T] {
     ghost tree = { λ v. Seq (trees (map T.tree v.now)) };
 
@@ -53,7 +53,7 @@ impl<T: Serialize> Serialize for &[T] {
     }
 }
 
-/// A list that refuses itself where an element does.
+/// The count of the elements, and these. The list refuses itself where an element does.
 impl<T: Serialize> Serialize for Vec<T> {
     ghost tree = { λ v. Seq (trees (map T.tree v.items)) };
 

@@ -28,7 +28,7 @@ fn serialize_entries<K: Serialize + Ord, V: Serialize, F: Flavor>(
     Ok(())
 }
 
-/// A map that refuses itself where a key or a value does.
+/// The count of the entries, and these. The map refuses itself where a key or a value does.
 impl<K: Serialize + Ord, V: Serialize> Serialize for BTreeMap<K, V> {
     ghost tree = { λ m. Seq (trees (map (entry_tree K.tree V.tree) m.entries)) };
 

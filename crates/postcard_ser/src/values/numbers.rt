@@ -1,7 +1,9 @@
 //! Numbers.
 
+ghost use Rattle.std.specs.Prelude.{◌≡◌, map, IsSome, IfSome};
 ghost use Rattle.std.specs.Int.{w8, cast_unsigned};
-ghost use Rattle.postcard_wire.specs.Tree.{Byte, Num, Int};
+ghost use Rattle.postcard_wire.specs.Spelling.{bytes_all};
+ghost use Rattle.postcard_wire.specs.Tree.{Byte, Num, Int, trees};
 
 use crate::serialize::Serialize;
 use crate::serializer::Serializer;
@@ -12,16 +14,15 @@ use postcard_wire::Result;
 impl Serialize for u8 {
     ghost tree = { λ v. Byte v };
 
-    ghost refuses_itself = { λ _. ⊥ };
-
-    ghost may_fail_text = { ⊥ };
-
     fn serialize<F: Flavor>(&self, serializer: &mut Serializer<F>) -> Result<()> {
         serializer.serialize_u8(*self)
     }
 
     #[tactic(auto, using(crate::proofs::Elements::bytes_of_bytes))]
-    fn slice_bytes(items: &[u8]) -> Option<&[u8]> {
+    fn slice_bytes(items: &[u8]) -> Option<&[u8]>
+        ensures bytes { IfSome result (λ b. b.now ≡ bytes_all (trees (map Byte items.now))) }
+        ensures always { IsSome result }
+    {
         Some(items)
     }
 }
@@ -29,10 +30,6 @@ impl Serialize for u8 {
 /// A varint.
 impl Serialize for u16 {
     ghost tree = { λ v. Num 16 v };
-
-    ghost refuses_itself = { λ _. ⊥ };
-
-    ghost may_fail_text = { ⊥ };
 
     fn serialize<F: Flavor>(&self, serializer: &mut Serializer<F>) -> Result<()> {
         serializer.serialize_u16(*self)
@@ -43,10 +40,6 @@ impl Serialize for u16 {
 impl Serialize for u32 {
     ghost tree = { λ v. Num 32 v };
 
-    ghost refuses_itself = { λ _. ⊥ };
-
-    ghost may_fail_text = { ⊥ };
-
     fn serialize<F: Flavor>(&self, serializer: &mut Serializer<F>) -> Result<()> {
         serializer.serialize_u32(*self)
     }
@@ -55,10 +48,6 @@ impl Serialize for u32 {
 /// A varint.
 impl Serialize for u64 {
     ghost tree = { λ v. Num 64 v };
-
-    ghost refuses_itself = { λ _. ⊥ };
-
-    ghost may_fail_text = { ⊥ };
 
     fn serialize<F: Flavor>(&self, serializer: &mut Serializer<F>) -> Result<()> {
         serializer.serialize_u64(*self)
@@ -69,10 +58,6 @@ impl Serialize for u64 {
 impl Serialize for u128 {
     ghost tree = { λ v. Num 128 v };
 
-    ghost refuses_itself = { λ _. ⊥ };
-
-    ghost may_fail_text = { ⊥ };
-
     fn serialize<F: Flavor>(&self, serializer: &mut Serializer<F>) -> Result<()> {
         serializer.serialize_u128(*self)
     }
@@ -81,10 +66,6 @@ impl Serialize for u128 {
 /// One byte, in two's complement.
 impl Serialize for i8 {
     ghost tree = { λ v. Byte (cast_unsigned w8 v) };
-
-    ghost refuses_itself = { λ _. ⊥ };
-
-    ghost may_fail_text = { ⊥ };
 
     fn serialize<F: Flavor>(&self, serializer: &mut Serializer<F>) -> Result<()> {
         serializer.serialize_i8(*self)
@@ -95,10 +76,6 @@ impl Serialize for i8 {
 impl Serialize for i16 {
     ghost tree = { λ v. Int 16 v };
 
-    ghost refuses_itself = { λ _. ⊥ };
-
-    ghost may_fail_text = { ⊥ };
-
     fn serialize<F: Flavor>(&self, serializer: &mut Serializer<F>) -> Result<()> {
         serializer.serialize_i16(*self)
     }
@@ -107,10 +84,6 @@ impl Serialize for i16 {
 /// A varint of the zigzag number.
 impl Serialize for i32 {
     ghost tree = { λ v. Int 32 v };
-
-    ghost refuses_itself = { λ _. ⊥ };
-
-    ghost may_fail_text = { ⊥ };
 
     fn serialize<F: Flavor>(&self, serializer: &mut Serializer<F>) -> Result<()> {
         serializer.serialize_i32(*self)
@@ -121,10 +94,6 @@ impl Serialize for i32 {
 impl Serialize for i64 {
     ghost tree = { λ v. Int 64 v };
 
-    ghost refuses_itself = { λ _. ⊥ };
-
-    ghost may_fail_text = { ⊥ };
-
     fn serialize<F: Flavor>(&self, serializer: &mut Serializer<F>) -> Result<()> {
         serializer.serialize_i64(*self)
     }
@@ -133,10 +102,6 @@ impl Serialize for i64 {
 /// A varint of the zigzag number.
 impl Serialize for i128 {
     ghost tree = { λ v. Int 128 v };
-
-    ghost refuses_itself = { λ _. ⊥ };
-
-    ghost may_fail_text = { ⊥ };
 
     fn serialize<F: Flavor>(&self, serializer: &mut Serializer<F>) -> Result<()> {
         serializer.serialize_i128(*self)

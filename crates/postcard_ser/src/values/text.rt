@@ -12,10 +12,6 @@ use postcard_wire::Result;
 impl Serialize for &str {
     ghost tree = { λ v. Text v.now };
 
-    ghost refuses_itself = { λ _. ⊥ };
-
-    ghost may_fail_text = { ⊥ };
-
     fn serialize<F: Flavor>(&self, serializer: &mut Serializer<F>) -> Result<()> {
         serializer.serialize_str(self)
     }
@@ -24,10 +20,6 @@ impl Serialize for &str {
 /// The count of the bytes, and the bytes.
 impl Serialize for String {
     ghost tree = { λ v. Text (string_bytes v) };
-
-    ghost refuses_itself = { λ _. ⊥ };
-
-    ghost may_fail_text = { ⊥ };
 
     fn serialize<F: Flavor>(&self, serializer: &mut Serializer<F>) -> Result<()> {
         serializer.serialize_str(self.as_str())

@@ -1,12 +1,29 @@
 //! Tuples: the parts from left to right, with no count before them.
 
-ghost use Rattle.std.specs.Prelude.{◌⊎◌, [], ◌∷◌};
+ghost use Rattle.std.specs.Prelude.{◌⊎◌, [], ◌∷◌, ◌++◌};
+ghost use Rattle.postcard_wire.specs.Spelling.{bytes};
 ghost use Rattle.postcard_wire.specs.Tree.{Group, trees};
+ghost use Rattle.postcard_ser.specs.Writing.{Wrote};
 
 use crate::serialize::Serialize;
 use crate::serializer::Serializer;
 use postcard_ser_flavors::Flavor;
 use postcard_wire::Result;
+
+/// Writes a value, and then another.
+fn serialize_both<P: Serialize, Q: Serialize, F: Flavor>(
+    first: &P,
+    second: &Q,
+    serializer: &mut Serializer<F>,
+) -> Result<()>
+    ensures { Wrote F.Flavor serializer.old.output
+        (bytes (P.tree first.now) ++ bytes (Q.tree second.now))
+        (P.refuses_itself first.now ⊎ Q.refuses_itself second.now)
+        (P.may_fail_text ⊎ Q.may_fail_text) result serializer.new.output }
+{
+    first.serialize(serializer)?;
+    second.serialize(serializer)
+}
 
 /// The part.
 impl<P: Serialize> Serialize for (P,) {
@@ -17,7 +34,7 @@ impl<P: Serialize> Serialize for (P,) {
     ghost may_fail_text = { P.may_fail_text };
 
     fn serialize<F: Flavor>(&self, serializer: &mut Serializer<F>) -> Result<()> {
-        self.0.serialize(serializer)
+        serializer.serialize_element(&self.0)
     }
 }
 
@@ -30,8 +47,7 @@ impl<P: Serialize, Q: Serialize> Serialize for (P, Q) {
     ghost may_fail_text = { P.may_fail_text ⊎ Q.may_fail_text };
 
     fn serialize<F: Flavor>(&self, serializer: &mut Serializer<F>) -> Result<()> {
-        self.0.serialize(serializer)?;
-        self.1.serialize(serializer)
+        serialize_both(&self.0, &self.1, serializer)
     }
 }
 
@@ -44,8 +60,7 @@ impl<P: Serialize, Q: Serialize, R: Serialize> Serialize for (P, Q, R) {
     ghost may_fail_text = { P.may_fail_text ⊎ Q.may_fail_text ⊎ R.may_fail_text };
 
     fn serialize<F: Flavor>(&self, serializer: &mut Serializer<F>) -> Result<()> {
-        self.0.serialize(serializer)?;
-        (&self.1, &self.2).serialize(serializer)
+        serialize_both(&self.0, &(&self.1, &self.2), serializer)
     }
 }
 
@@ -59,8 +74,7 @@ impl<P: Serialize, Q: Serialize, R: Serialize, S: Serialize> Serialize for (P, Q
     ghost may_fail_text = { P.may_fail_text ⊎ Q.may_fail_text ⊎ R.may_fail_text ⊎ S.may_fail_text };
 
     fn serialize<F: Flavor>(&self, serializer: &mut Serializer<F>) -> Result<()> {
-        self.0.serialize(serializer)?;
-        (&self.1, &self.2, &self.3).serialize(serializer)
+        serialize_both(&self.0, &(&self.1, &self.2, &self.3), serializer)
     }
 }
 
@@ -77,8 +91,7 @@ impl<P: Serialize, Q: Serialize, R: Serialize, S: Serialize, T: Serialize> Seria
         T.may_fail_text };
 
     fn serialize<F: Flavor>(&self, serializer: &mut Serializer<F>) -> Result<()> {
-        self.0.serialize(serializer)?;
-        (&self.1, &self.2, &self.3, &self.4).serialize(serializer)
+        serialize_both(&self.0, &(&self.1, &self.2, &self.3, &self.4), serializer)
     }
 }
 
@@ -95,7 +108,10 @@ impl<P: Serialize, Q: Serialize, R: Serialize, S: Serialize, T: Serialize, U: Se
         T.may_fail_text ⊎ U.may_fail_text };
 
     fn serialize<F: Flavor>(&self, serializer: &mut Serializer<F>) -> Result<()> {
-        self.0.serialize(serializer)?;
-        (&self.1, &self.2, &self.3, &self.4, &self.5).serialize(serializer)
+        serialize_both(
+            &self.0,
+            &(&self.1, &self.2, &self.3, &self.4, &self.5),
+            serializer,
+        )
     }
 }

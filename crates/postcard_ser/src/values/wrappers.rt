@@ -18,7 +18,7 @@ impl<T: Serialize> Serialize for &T {
     ghost may_fail_text = { T.may_fail_text };
 
     fn serialize<F: Flavor>(&self, serializer: &mut Serializer<F>) -> Result<()> {
-        (**self).serialize(serializer)
+        T::serialize(self, serializer)
     }
 }
 
@@ -44,7 +44,7 @@ impl<T: Serialize> Serialize for Box<T> {
     ghost may_fail_text = { T.may_fail_text };
 
     fn serialize<F: Flavor>(&self, serializer: &mut Serializer<F>) -> Result<()> {
-        (**self).serialize(serializer)
+        self.as_ref().serialize(serializer)
     }
 }
 
@@ -57,7 +57,8 @@ impl<T: Serialize> Serialize for Rc<T> {
     ghost may_fail_text = { T.may_fail_text };
 
     fn serialize<F: Flavor>(&self, serializer: &mut Serializer<F>) -> Result<()> {
-        (**self).serialize(serializer)
+        let shared: &T = self;
+        shared.serialize(serializer)
     }
 }
 

@@ -1,9 +1,0 @@
--- The name, and then the value.
-use Rattle.postcard_ser.proofs.PartByPart.{wrote_then, wrote_stop, wrote_err, wrote_last}
-use Rattle.postcard_ser.proofs.tests.ReadingSerialize.serialize.Goals as goal
-
-pub returns-in_err-serialize : goal.returns-in_err-serialize
-returns-in_err-serialize g c = wrote_err _ c.from_residual.ensures.1 (wrote_stop _ _ c.in_err-serialize.ensures absurd absurd)
-
-pub returns : goal.returns
-returns g c = wrote_then _ _ c.in_ok-serialize.ensures (wrote_last c.serialize-2.ensures) absurd absurd
