@@ -100,11 +100,15 @@ module _ {S : Type 0} {left : S → Option (List ℕ)} {able : S → ℕ → Typ
   pub number_below : {w n : ℕ} {old new : S} → Reads (SpellsNum w) (Below w) Same ⊥ left able may_leave old (Ok n) new → n < 2 ^ w
   number_below {w} r = subst (Below w) r.gives.has r.gives.is_read
 
+  -- And spelled by the front that was taken.
+  pub number_spelled : {w n : ℕ} {old new : S} → (r : Reads (SpellsNum w) (Below w) Same ⊥ left able may_leave old (Ok n) new) → SpellsNum w n r.gives.front
+  number_spelled {w} r = subst (λ (m : ℕ). SpellsNum w m r.gives.front) r.gives.has r.gives.is_spelled
+
   -- A number that was read, as a tree.
   pub num_read : {w n : ℕ} {old new : S} → Reads (SpellsNum w) (Below w) Same ⊥ left able may_leave old (Ok n) new → Reads Spells (IsNum w) (λ t v. t ≡ Num w v) ⊥ left able may_leave old (Ok n) new
   num_read {w} {n} r =
       let g = r.gives in
-      found (num_delimited w) (Num w n) g.front n (n, refl, number_below r) (subst (λ (m : ℕ). SpellsNum w m g.front) g.has g.is_spelled) refl g.taken r.leaves
+      found (num_delimited w) (Num w n) g.front n (n, refl, number_below r) (number_spelled r) refl g.taken r.leaves
 
   -- As a signed number's tree.
   pub int_read : {w n : ℕ} {old new : S} (z : ℤ) → IsWidth w → zigzag z ≡ n → Reads (SpellsNum w) (Below w) Same ⊥ left able may_leave old (Ok n) new → Reads Spells (IsInt w) (λ t v. t ≡ Int w v) ⊥ left able may_leave old (Ok z) new
