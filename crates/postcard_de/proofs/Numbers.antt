@@ -5,7 +5,7 @@ use Rattle.postcard_wire.specs.declared.error.Error.TheVariants.{OutOfMemory, De
 use Rattle.postcard_wire.specs.declared.digits.Digits.{Digits}
 use Rattle.postcard_wire.specs.Digits.{HasRead}
 use Rattle.postcard_wire.specs.Number.{SpellsNum, zigzag}
-use Rattle.postcard_wire.specs.Tree.{Tree, Num, Int, IsWidth}
+use Rattle.postcard_wire.specs.Tree.{Num, Int, IsWidth}
 use Rattle.postcard_wire.specs.Spelling.{Spells}
 use Rattle.postcard_wire.specs.Reading.{IsNum, IsInt}
 use Rattle.postcard_wire.proofs.Delimited.{num_front, num_delimited, int_delimited}
@@ -65,11 +65,6 @@ module _ {S : Type 0} {left : S → Option (List ℕ)} {able : S → ℕ → Typ
   pub begun : (w : ℕ) (digits : Digits) (old : S) → HasRead w [] digits → Within w left able may_leave old digits old
   begun w digits old h = record { front = []; read = h; taken = nothing_taken old; leaves = laws.itself old }
 
-  -- One more was taken.
-  pub one_more : {w : ℕ} {digits next : Digits} {old now new : S} {b : ℕ} → (so : Within w left able may_leave old digits now) → Takes left able now (b ∷ []) new → may_leave now new → HasRead w (so.front ++ b ∷ []) next →
-      Within w left able may_leave old next new
-  one_more {old = old} {now = now} {new = new} {b = b} so t l h = record { front = so.front ++ b ∷ []; read = h; taken = both_taken so.taken t; leaves = laws.joins old now new so.leaves l }
-
   -- The last was taken.
   pub number_read : {w : ℕ} {digits : Digits} {old now new : S} {b n : ℕ} → (so : Within w left able may_leave old digits now) → Takes left able now (b ∷ []) new → may_leave now new → SpellsNum w n (so.front ++ b ∷ []) → n < 2 ^ w →
       Reads (SpellsNum w) (Below w) Same ⊥ left able may_leave old (Ok n) new
@@ -87,14 +82,6 @@ module _ {S : Type 0} {left : S → Option (List ℕ)} {able : S → ℕ → Typ
   -- A refused number, as a number alone.
   pub number_refused : {w : ℕ} {old new : S} {e : Error} → Refuses (WantsDigit w) (BadNumber w) left able old e new → may_leave old new → {V : Type 0} {value : ℕ → V → Type 0} → Reads (SpellsNum w) (Below w) value ⊥ left able may_leave old (refusal V e) new
   number_refused {w} why l = refused laws (number_excludes w) why l
-
-  -- As a tree.
-  pub num_refused : {w : ℕ} {old new : S} {e : Error} → Refuses (WantsDigit w) (BadNumber w) left able old e new → may_leave old new → {V : Type 0} {value : Tree → V → Type 0} → Reads Spells (IsNum w) value ⊥ left able may_leave old (refusal V e) new
-  num_refused {w} why l = refused laws (num_excludes w) why l
-
-  -- As a signed number's tree.
-  pub int_refused : {w : ℕ} {old new : S} {e : Error} → IsWidth w → Refuses (WantsDigit w) (BadNumber w) left able old e new → may_leave old new → {V : Type 0} {value : Tree → V → Type 0} → Reads Spells (IsInt w) value ⊥ left able may_leave old (refusal V e) new
-  int_refused {w} wide why l = refused laws (int_excludes w wide) why l
 
   -- A number that was read is one of its width.
   pub number_below : {w n : ℕ} {old new : S} → Reads (SpellsNum w) (Below w) Same ⊥ left able may_leave old (Ok n) new → n < 2 ^ w
