@@ -16,8 +16,8 @@ use Rattle.postcard_de.specs.Refuses.{Refuses, WantsDigit, BadNumber}
 use Rattle.postcard_de.specs.Unfit.{WantsChar, BadChar}
 use Rattle.postcard_de.specs.Values.{Same}
 use Rattle.postcard_de.proofs.Taking.{both_taken}
-use Rattle.postcard_de.proofs.Leaves.{Excludes, found, refused, refusal}
-use Rattle.postcard_de.proofs.Numbers.{Below}
+use Rattle.postcard_de.proofs.Leaves.{Excludes, found, refused, refusal, widened, behind_front}
+use Rattle.postcard_de.proofs.Numbers.{Below, number_spelled}
 use Rattle.postcard_de.proofs.Texts.{facing_length}
 
 -- Where more bytes are wanted, they are within the character's spelling.
@@ -66,16 +66,6 @@ char_never p (inr bad) = let e : DeserializeBadEncoding ≡ DeserializeBadChar =
 char_excludes : Excludes ⊥ WantsChar BadChar Spells IsChar
 char_excludes = record { within = char_within; none = char_none; grown = char_grown; never = char_never }
 
-module _ {S : Type 0} {left : S → Option (List ℕ)} {able : S → ℕ → Type 0} where
-  -- A reason to refuse, told in wider words.
-  pub widened : {wants wants' : List ℕ → ℕ → Type 0} {bad bad' : List ℕ → Error → Type 0} {old new : S} {e : Error} → ((p : List ℕ) (n : ℕ) → wants p n → wants' p n) → ((p : List ℕ) → bad p e → bad' p e) → Refuses wants bad left able old e new → Refuses wants' bad' left able old e new
-  widened wide bad (inl (is, ends)) = inl (is, record { front = ends.front; behind = ends.behind; taken = ends.taken; count = ends.count; wanted = wide ends.front ends.count ends.wanted; lacks = ends.lacks })
-  widened wide bad (inr b) = inr (record { front = b.front; taken = b.taken; why = bad b.front b.why })
-
-  -- More bytes are wanted behind a front that was taken.
-  pub behind_front : {wants : List ℕ → ℕ → Type 0} {bad : List ℕ → Error → Type 0} {old mid new : S} {p : List ℕ} {n : ℕ} {e : Error} → Takes left able old p mid → wants p n → (able mid n → ⊥) → e ≡ DeserializeUnexpectedEnd → Refuses wants bad left able old e new
-  behind_front {mid = mid} {p = p} {n = n} t wanted lacks is = inl (is, record { front = p; behind = mid; taken = t; count = n; wanted = wanted; lacks = lacks })
-
 module _ {S : Type 0} {left : S → Option (List ℕ)} {able : S → ℕ → Type 0} {may_leave : S → S → Type 0} (laws : Laws left able may_leave) where
   -- A refused character.
   pub char_refused : {V : Type 0} {value : Tree → V → Type 0} {old new : S} {e : Error} → Refuses WantsChar BadChar left able old e new → may_leave old new → Reads Spells IsChar value ⊥ left able may_leave old (refusal V e) new
@@ -86,22 +76,18 @@ module _ {S : Type 0} {left : S → Option (List ℕ)} {able : S → ℕ → Typ
   char_length_refused why = widened (λ p n w. inl w) (λ p b. inl b) why
 
 module _ {S : Type 0} {left : S → Option (List ℕ)} {able : S → ℕ → Type 0} {may_leave : S → S → Type 0} (laws : Laws left able may_leave) {n : ℕ} {old mid : S} (counted : Reads (SpellsNum 64) (Below 64) Same ⊥ left able may_leave old (Ok n) mid) where
-  -- The length's spelling.
-  pub length_is_spelled : SpellsNum 64 n counted.gives.front
-  length_is_spelled = subst (λ (m : ℕ). SpellsNum 64 m counted.gives.front) counted.gives.has counted.gives.is_spelled
-
   -- The length is above 4.
   pub char_too_long : 4 < n → Refuses WantsChar BadChar left able old DeserializeBadChar mid
-  char_too_long high = inr (record { front = counted.gives.front; taken = counted.gives.taken; why = inr (refl, inl (n, length_is_spelled, high)) })
+  char_too_long high = inr (record { front = counted.gives.front; taken = counted.gives.taken; why = inr (refl, inl (n, number_spelled laws counted, high)) })
 
   -- The bytes behind the length can't be taken.
   pub char_ends : {new : S} {e : Error} → n ≤ 4 → (able mid n → ⊥) → e ≡ DeserializeUnexpectedEnd → Refuses WantsChar BadChar left able old e new
-  char_ends few lacks is = behind_front counted.gives.taken (inr (length_is_spelled, few)) lacks is
+  char_ends few lacks is = behind_front counted.gives.taken (inr (number_spelled laws counted, few)) lacks is
 
   module _ {u : List ℕ} {new : S} (few : n ≤ 4) (long : length u ≡ n) (t : Takes left able mid u new) where
     -- The length's spelling, by the bytes.
     char_spelled : SpellsNum 64 (length u) counted.gives.front
-    char_spelled = subst (λ (m : ℕ). SpellsNum 64 m counted.gives.front) (sym long) length_is_spelled
+    char_spelled = subst (λ (m : ℕ). SpellsNum 64 m counted.gives.front) (sym long) (number_spelled laws counted)
 
     -- They are no character.
     pub char_bad : ((c : ℕ) → BeginsWithChar c u → ⊥) → Refuses WantsChar BadChar left able old DeserializeBadChar new

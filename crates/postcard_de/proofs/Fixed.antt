@@ -13,8 +13,7 @@ use Rattle.postcard_de.specs.Fixed.{IsShortText}
 use Rattle.postcard_de.specs.One.{text_same}
 use Rattle.postcard_de.specs.Values.{Same}
 use Rattle.postcard_de.proofs.Taking.{both_taken}
-use Rattle.postcard_de.proofs.Numbers.{Below}
-use Rattle.postcard_de.proofs.Chars.{length_is_spelled}
+use Rattle.postcard_de.proofs.Numbers.{Below, number_spelled}
 
 -- A text that there is room for is one that is read.
 pub short_fits : (n : ℕ) (u w : List ℕ) → length u ≤ n → IsUtf8 u → length u < 2 ^ 64 → w ≡ u → (x : Tree) → IsText x → x ≡ Text u → IsShortText n x × (x ≡ Text w)
@@ -30,5 +29,5 @@ module _ {S : Type 0} {left : S → Option (List ℕ)} {able : S → ℕ → Typ
   bytes_full {u = u} long t = inr (record {
     front = counted.gives.front ++ u;
     taken = both_taken counted.gives.taken t;
-    why = inr (refl, (counted.gives.front, u, subst (λ (m : ℕ). SpellsNum 64 m counted.gives.front) (sym long) (length_is_spelled laws counted), refl));
+    why = inr (refl, (counted.gives.front, u, subst (λ (m : ℕ). SpellsNum 64 m counted.gives.front) (sym long) (number_spelled laws counted), refl));
   })

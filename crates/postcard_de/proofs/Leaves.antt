@@ -1,7 +1,7 @@
 -- Reading one node: what is found in front, and that nothing is where a call refuses.
 use Rattle.std.proofs.Common.{◌≡◌, ℕ, ◌+◌, ◌≤◌, inl, inr, List, ◌++◌, length, Option, Ok, Err, Result, IsErrAnd, refl, ap, subst}
 use Rattle.postcard_wire.specs.declared.error.Error.{Error}
-use Rattle.postcard_wire.specs.declared.error.Error.TheVariants.{OutOfMemory, DeserializeBadEncoding}
+use Rattle.postcard_wire.specs.declared.error.Error.TheVariants.{OutOfMemory, DeserializeUnexpectedEnd, DeserializeBadEncoding}
 use Rattle.postcard_de_flavors.specs.Source.{CanTake, Takes, Laws}
 use Rattle.postcard_de.specs.Reads.{Reads}
 use Rattle.postcard_de.specs.Refuses.{Refuses}
@@ -27,6 +27,16 @@ pub record Excludes {X : Type 0} (grows : Type 0) (wants : List ℕ → ℕ → 
   pub none : (x : X) (p q : List ℕ) (e : Error) (y z : List ℕ) → bad p e → reads x → spelled x q → p ++ y ≡ q ++ z → e ≡ OutOfMemory
   pub grown : (p : List ℕ) → bad p OutOfMemory → grows
   pub never : (p : List ℕ) → bad p DeserializeBadEncoding → ⊥
+
+module _ {S : Type 0} {left : S → Option (List ℕ)} {able : S → ℕ → Type 0} where
+  -- A reason to refuse, told in wider words.
+  pub widened : {wants wants' : List ℕ → ℕ → Type 0} {bad bad' : List ℕ → Error → Type 0} {old new : S} {e : Error} → ((p : List ℕ) (n : ℕ) → wants p n → wants' p n) → ((p : List ℕ) → bad p e → bad' p e) → Refuses wants bad left able old e new → Refuses wants' bad' left able old e new
+  widened wide bad (inl (is, ends)) = inl (is, record { front = ends.front; behind = ends.behind; taken = ends.taken; count = ends.count; wanted = wide ends.front ends.count ends.wanted; lacks = ends.lacks })
+  widened wide bad (inr b) = inr (record { front = b.front; taken = b.taken; why = bad b.front b.why })
+
+  -- More bytes are wanted behind a front that was taken.
+  pub behind_front : {wants : List ℕ → ℕ → Type 0} {bad : List ℕ → Error → Type 0} {old mid new : S} {p : List ℕ} {n : ℕ} {e : Error} → Takes left able old p mid → wants p n → (able mid n → ⊥) → e ≡ DeserializeUnexpectedEnd → Refuses wants bad left able old e new
+  behind_front {mid = mid} {p = p} {n = n} t wanted lacks is = inl (is, record { front = p; behind = mid; taken = t; count = n; wanted = wanted; lacks = lacks })
 
 module _ {S : Type 0} {left : S → Option (List ℕ)} {able : S → ℕ → Type 0} {may_leave : S → S → Type 0} where
   -- A front that spells something that is read was taken.

@@ -14,11 +14,6 @@ use Rattle.postcard_de.proofs.Leaves.{refusal, out_of_memory}
 use Rattle.postcard_de.proofs.Numbers.{Below}
 use Rattle.postcard_de.proofs.Compound.{Compound, first_refused, second_refused, both_read}
 
--- One more value in front of those that are read.
-abbrev pub with_first : {V : Type 0} → V → Result (List V) Error → Result (List V) Error
-with_first v (Ok vs) = Ok (v ∷ vs)
-with_first v (Err e) = Err e
-
 -- Values that were read, in front of those that are to come.
 abbrev pub behind : {V : Type 0} → List V → Result (List V) Error → Result (List V) Error
 behind us (Ok vs) = Ok (us ++ vs)

@@ -5,7 +5,7 @@ use Rattle.postcard_wire.specs.declared.error.Error.TheVariants.{OutOfMemory, De
 use Rattle.postcard_wire.specs.declared.digits.Digits.{Digits}
 use Rattle.postcard_wire.specs.Digits.{HasRead}
 use Rattle.postcard_wire.specs.Number.{SpellsNum, zigzag}
-use Rattle.postcard_wire.specs.Tree.{Tree, Num, Int, IsWidth}
+use Rattle.postcard_wire.specs.Tree.{Num, Int, IsWidth}
 use Rattle.postcard_wire.specs.Spelling.{Spells}
 use Rattle.postcard_wire.specs.Reading.{IsNum, IsInt}
 use Rattle.postcard_wire.proofs.Delimited.{num_front, num_delimited, int_delimited}
@@ -65,11 +65,6 @@ module _ {S : Type 0} {left : S → Option (List ℕ)} {able : S → ℕ → Typ
   pub begun : (w : ℕ) (digits : Digits) (old : S) → HasRead w [] digits → Within w left able may_leave old digits old
   begun w digits old h = record { front = []; read = h; taken = nothing_taken old; leaves = laws.itself old }
 
-  -- One more was taken.
-  pub one_more : {w : ℕ} {digits next : Digits} {old now new : S} {b : ℕ} → (so : Within w left able may_leave old digits now) → Takes left able now (b ∷ []) new → may_leave now new → HasRead w (so.front ++ b ∷ []) next →
-      Within w left able may_leave old next new
-  one_more {old = old} {now = now} {new = new} {b = b} so t l h = record { front = so.front ++ b ∷ []; read = h; taken = both_taken so.taken t; leaves = laws.joins old now new so.leaves l }
-
   -- The last was taken.
   pub number_read : {w : ℕ} {digits : Digits} {old now new : S} {b n : ℕ} → (so : Within w left able may_leave old digits now) → Takes left able now (b ∷ []) new → may_leave now new → SpellsNum w n (so.front ++ b ∷ []) → n < 2 ^ w →
       Reads (SpellsNum w) (Below w) Same ⊥ left able may_leave old (Ok n) new
@@ -88,23 +83,19 @@ module _ {S : Type 0} {left : S → Option (List ℕ)} {able : S → ℕ → Typ
   pub number_refused : {w : ℕ} {old new : S} {e : Error} → Refuses (WantsDigit w) (BadNumber w) left able old e new → may_leave old new → {V : Type 0} {value : ℕ → V → Type 0} → Reads (SpellsNum w) (Below w) value ⊥ left able may_leave old (refusal V e) new
   number_refused {w} why l = refused laws (number_excludes w) why l
 
-  -- As a tree.
-  pub num_refused : {w : ℕ} {old new : S} {e : Error} → Refuses (WantsDigit w) (BadNumber w) left able old e new → may_leave old new → {V : Type 0} {value : Tree → V → Type 0} → Reads Spells (IsNum w) value ⊥ left able may_leave old (refusal V e) new
-  num_refused {w} why l = refused laws (num_excludes w) why l
-
-  -- As a signed number's tree.
-  pub int_refused : {w : ℕ} {old new : S} {e : Error} → IsWidth w → Refuses (WantsDigit w) (BadNumber w) left able old e new → may_leave old new → {V : Type 0} {value : Tree → V → Type 0} → Reads Spells (IsInt w) value ⊥ left able may_leave old (refusal V e) new
-  int_refused {w} wide why l = refused laws (int_excludes w wide) why l
-
   -- A number that was read is one of its width.
   pub number_below : {w n : ℕ} {old new : S} → Reads (SpellsNum w) (Below w) Same ⊥ left able may_leave old (Ok n) new → n < 2 ^ w
   number_below {w} r = subst (Below w) r.gives.has r.gives.is_read
+
+  -- And spelled by the front that was taken.
+  pub number_spelled : {w n : ℕ} {old new : S} → (r : Reads (SpellsNum w) (Below w) Same ⊥ left able may_leave old (Ok n) new) → SpellsNum w n r.gives.front
+  number_spelled {w} r = subst (λ (m : ℕ). SpellsNum w m r.gives.front) r.gives.has r.gives.is_spelled
 
   -- A number that was read, as a tree.
   pub num_read : {w n : ℕ} {old new : S} → Reads (SpellsNum w) (Below w) Same ⊥ left able may_leave old (Ok n) new → Reads Spells (IsNum w) (λ t v. t ≡ Num w v) ⊥ left able may_leave old (Ok n) new
   num_read {w} {n} r =
       let g = r.gives in
-      found (num_delimited w) (Num w n) g.front n (n, refl, number_below r) (subst (λ (m : ℕ). SpellsNum w m g.front) g.has g.is_spelled) refl g.taken r.leaves
+      found (num_delimited w) (Num w n) g.front n (n, refl, number_below r) (number_spelled r) refl g.taken r.leaves
 
   -- As a signed number's tree.
   pub int_read : {w n : ℕ} {old new : S} (z : ℤ) → IsWidth w → zigzag z ≡ n → Reads (SpellsNum w) (Below w) Same ⊥ left able may_leave old (Ok n) new → Reads Spells (IsInt w) (λ t v. t ≡ Int w v) ⊥ left able may_leave old (Ok z) new

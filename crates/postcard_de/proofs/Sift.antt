@@ -1,4 +1,4 @@
--- A value that was read and is then seen otherwise, or refused; and bytes that begin nothing that is read.
+-- A value that was read and is then seen otherwise, or refused; and a thing behind which no second may follow.
 use Rattle.std.proofs.Common.{◌≡◌, ◌≢◌, ℕ, List, Option, Ok, Result, IsErrAnd, refl}
 use Rattle.postcard_wire.specs.declared.error.Error.{Error}
 use Rattle.postcard_wire.specs.declared.error.Error.TheVariants.{OutOfMemory, DeserializeBadEncoding}

@@ -15,8 +15,8 @@ use Rattle.postcard_de.specs.Reads.{Reads}
 use Rattle.postcard_de.specs.Refuses.{Refuses, WantsDigit, BadNumber, WantsText, BadText}
 use Rattle.postcard_de.specs.Values.{Same}
 use Rattle.postcard_de.proofs.Taking.{both_taken}
-use Rattle.postcard_de.proofs.Leaves.{Excludes, found, refused, refusal}
-use Rattle.postcard_de.proofs.Numbers.{Below, number_below}
+use Rattle.postcard_de.proofs.Leaves.{Excludes, found, refused, refusal, widened, behind_front}
+use Rattle.postcard_de.proofs.Numbers.{Below, number_below, number_spelled}
 
 -- The spelling of a text, taken apart.
 pub facing_length : (p q a u y z : List ℕ) → q ≡ a ++ u → p ++ y ≡ q ++ z → p ++ y ≡ a ++ (u ++ z)
@@ -68,22 +68,17 @@ module _ {S : Type 0} {left : S → Option (List ℕ)} {able : S → ℕ → Typ
 
   -- Its length was refused.
   pub length_refused : {G : Type 0} {old new : S} {e : Error} → Refuses (WantsDigit 64) (BadNumber 64) left able old e new → Refuses WantsText (BadText G) left able old e new
-  length_refused (inl (is, ends)) = inl (is, record { front = ends.front; behind = ends.behind; taken = ends.taken; count = ends.count; wanted = inl ends.wanted; lacks = ends.lacks })
-  length_refused (inr bad) = inr (record { front = bad.front; taken = bad.taken; why = inl bad.why })
+  length_refused why = widened (λ p n w. inl w) (λ p b. inl b) why
 
 module _ {S : Type 0} {left : S → Option (List ℕ)} {able : S → ℕ → Type 0} {may_leave : S → S → Type 0} (laws : Laws left able may_leave) {n : ℕ} {old mid : S} (counted : Reads (SpellsNum 64) (Below 64) Same ⊥ left able may_leave old (Ok n) mid) where
-  -- The length's spelling.
-  length_spelled : SpellsNum 64 n counted.gives.front
-  length_spelled = subst (λ (m : ℕ). SpellsNum 64 m counted.gives.front) counted.gives.has counted.gives.is_spelled
-
   -- The bytes behind the length can't be taken.
   pub text_ends : {G : Type 0} {new : S} {e : Error} → (able mid n → ⊥) → e ≡ DeserializeUnexpectedEnd → Refuses WantsText (BadText G) left able old e new
-  text_ends lacks is = inl (is, record { front = counted.gives.front; behind = mid; taken = counted.gives.taken; count = n; wanted = inr (length_spelled, number_below laws counted); lacks = lacks })
+  text_ends lacks is = behind_front counted.gives.taken (inr (number_spelled laws counted, number_below laws counted)) lacks is
 
   module _ {u : List ℕ} {new : S} (long : length u ≡ n) (t : Takes left able mid u new) where
     -- The length's spelling and the bytes.
     spelled_u : SpellsNum 64 (length u) counted.gives.front
-    spelled_u = subst (λ (m : ℕ). SpellsNum 64 m counted.gives.front) (sym long) length_spelled
+    spelled_u = subst (λ (m : ℕ). SpellsNum 64 m counted.gives.front) (sym long) (number_spelled laws counted)
 
     -- They are no text.
     pub text_bad : {G : Type 0} → (IsUtf8 u → ⊥) → Refuses WantsText (BadText G) left able old DeserializeBadUtf8 new

@@ -1,6 +1,6 @@
 //! The calls that read one node.
 
-ghost use Rattle.std.specs.Prelude.{◌≡◌, ℕ, ◌≤◌, ◌<◌, ◌^◌, List, length, IfErr, false, string_bytes, ⊤};
+ghost use Rattle.std.specs.Prelude.{◌≡◌, ◌<◌, ◌^◌, length, IfErr, false, string_bytes, ⊤};
 ghost use Rattle.std.specs.Int.{w8, cast_unsigned};
 ghost use Rattle.postcard_wire.specs.Tree.{Byte, Num, Int, Text, IsWidth};
 ghost use Rattle.postcard_wire.specs.Number.{SpellsNum};

@@ -14,6 +14,18 @@ pub(crate) fn read<'a, T: Deserialize<'a>>(alloc: Global, bytes: &'a [u8]) -> Re
     T::deserialize(alloc, &mut Deserializer::from_bytes(bytes))
 }
 
+/// Reads a value, and once more where memory was refused: a run with `--fail-alloc N`, which refuses the Nth request alone, then
+/// ends as one without it.
+pub(crate) fn read_in_two_tries<'a, T: Deserialize<'a>>(
+    alloc: Global,
+    bytes: &'a [u8],
+) -> Result<T> {
+    match read(alloc, bytes) {
+        Err(Error::OutOfMemory) => read(alloc, bytes),
+        answer => answer,
+    }
+}
+
 /// Each row's bytes read as its value, or refused by its error.
 pub(crate) fn check<'a, T: Deserialize<'a> + PartialEq + Debug>(
     rt: &impl Abort,
@@ -108,7 +120,8 @@ fn reads_texts(rt: HostRuntime) -> std::result::Result<(), Fail> {
             (&[0x03, 0x48, 0x69], Err(Error::DeserializeUnexpectedEnd)),
         ],
     );
-    assert_eq!(rt; read::<String>(alloc, &[0x02, 0x48, 0x69])?.as_str(), "Hi");
+    let text = read_in_two_tries::<String>(alloc, &[0x02, 0x48, 0x69])?;
+    assert_eq!(rt; text.as_str(), "Hi");
     assert_eq!(rt;
         read::<String>(alloc, &[0x01, 0xFF]).err(),
         Some(Error::DeserializeBadUtf8)
@@ -120,10 +133,11 @@ fn reads_texts(rt: HostRuntime) -> std::result::Result<(), Fail> {
 fn reads_lists(rt: HostRuntime) -> std::result::Result<(), Fail> {
     let alloc = rt.alloc();
     let eight = [0x08, 0xFF, 0xFF, 0xFF, 0x00, 0x00, 0x00, 0x00, 0x00];
-    assert_eq!(rt; read::<Vec<u8>>(alloc, &eight)?.as_slice(), &eight[1..]);
+    let bytes = read_in_two_tries::<Vec<u8>>(alloc, &eight)?;
+    assert_eq!(rt; bytes.as_slice(), &eight[1..]);
     let many = [0x88, 0xFF, 0xFF, 0xFF, 0x00, 0x00, 0x00, 0x00, 0x00];
     assert_eq!(rt;
-        read::<Vec<u8>>(alloc, &many).err(),
+        read_in_two_tries::<Vec<u8>>(alloc, &many).err(),
         Some(Error::DeserializeUnexpectedEnd)
     );
     Ok(())
@@ -155,18 +169,4 @@ fn counts_elements(rt: HostRuntime) -> std::result::Result<(), Fail> {
     );
     assert_eq!(rt; access.next_element::<u16, _>(alloc, &mut ends), Ok(None));
     Ok(())
-}
-
-/// Run with `--fail-alloc N` too, which refuses the Nth request for memory: each answers `OutOfMemory` then, and no other error.
-#[test]
-fn answers_out_of_memory(rt: HostRuntime) {
-    let alloc = rt.alloc();
-    match read::<String>(alloc, &[0x02, 0x48, 0x69]) {
-        Ok(text) => assert_eq!(rt; text.as_str(), "Hi"),
-        Err(e) => assert_eq!(rt; e, Error::OutOfMemory),
-    }
-    match read::<Vec<u8>>(alloc, &[0x02, 0x05, 0x06]) {
-        Ok(list) => assert_eq!(rt; list.as_slice(), [0x05, 0x06].as_slice()),
-        Err(e) => assert_eq!(rt; e, Error::OutOfMemory),
-    }
 }

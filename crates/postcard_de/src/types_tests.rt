@@ -1,12 +1,21 @@
-//! What no clause says of the types and calls of one room each: rows from outside, and each call once.
+//! What no clause says of the other types and calls: rows from outside, and each call once.
 
+use crate::deserialize::Deserialize;
 use crate::deserializer::Deserializer;
-use crate::tests::{check, read};
+use crate::laws::{one_message, read_again};
+use crate::tests::{check, read, read_in_two_tries};
 use arrayvec::{ArrayString, ArrayVec};
 use postcard_wire::Error;
+use std::alloc::Global;
 use std::collections::BTreeMap;
-use std::num::{NonZeroI32, NonZeroU8, NonZeroU64, Wrapping};
+use std::fmt::Debug;
+use std::marker::PhantomData;
+use std::num::{
+    NonZeroI8, NonZeroI16, NonZeroI32, NonZeroI64, NonZeroI128, NonZeroIsize, NonZeroU8,
+    NonZeroU16, NonZeroU32, NonZeroU64, NonZeroU128, NonZeroUsize, Wrapping,
+};
 use std::ops::{Range, RangeFrom, RangeInclusive, RangeTo};
+use std::process::Abort;
 use std::rc::Rc;
 use std::test::Fail;
 use std::time::Duration;
@@ -75,24 +84,40 @@ fn reads_other_numbers(rt: HostRuntime) {
     let alloc = rt.alloc();
     check(&rt, alloc, &[(&GREATEST, Ok(usize::MAX))]);
     check(&rt, alloc, &[(&GREATEST, Ok(isize::MIN))]);
-    check(
-        &rt,
-        alloc,
-        &[
-            (&[0x05], Ok(NonZeroU8::new(5).unwrap_or(NonZeroU8::MAX))),
-            (&[0x00], Err(Error::SerdeDeCustom)),
-        ],
-    );
-    check(
-        &rt,
-        alloc,
-        &[
-            (&[0x05], Ok(NonZeroI32::new(-3).unwrap_or(NonZeroI32::MAX))),
-            (&[0x80, 0x00], Err(Error::SerdeDeCustom)),
-        ],
-    );
-    check(&rt, alloc, &[(&GREATEST, Ok(NonZeroU64::MAX))]);
     check(&rt, alloc, &[(&[0x07], Ok(Wrapping(7u8)))]);
+}
+
+/// Bytes are read as this number, and the byte 0 is refused.
+fn check_nonzero<'a, T: Deserialize<'a> + PartialEq + Debug>(
+    rt: &impl Abort,
+    alloc: Global,
+    bytes: &'a [u8],
+    expected: Option<T>,
+) {
+    assert_eq!(rt; read::<T>(alloc, bytes).ok(), expected);
+    assert_eq!(rt; read::<T>(alloc, &[0x00]).err(), Some(Error::SerdeDeCustom));
+}
+
+#[test]
+fn reads_numbers_but_zero(rt: HostRuntime) {
+    let alloc = rt.alloc();
+    check_nonzero(&rt, alloc, &[0x05], NonZeroU8::new(5));
+    check_nonzero(&rt, alloc, &[0xAC, 0x02], NonZeroU16::new(300));
+    check_nonzero(&rt, alloc, &[0xAC, 0x02], NonZeroU32::new(300));
+    check_nonzero(&rt, alloc, &GREATEST, NonZeroU64::new(u64::MAX));
+    check_nonzero(&rt, alloc, &[0xAC, 0x02], NonZeroU128::new(300));
+    check_nonzero(&rt, alloc, &GREATEST, NonZeroUsize::new(usize::MAX));
+    check_nonzero(&rt, alloc, &[0x80], NonZeroI8::new(-128));
+    check_nonzero(&rt, alloc, &[0x05], NonZeroI16::new(-3));
+    check_nonzero(&rt, alloc, &[0x05], NonZeroI32::new(-3));
+    check_nonzero(&rt, alloc, &GREATEST, NonZeroI64::new(i64::MIN));
+    check_nonzero(&rt, alloc, &[0x05], NonZeroI128::new(-3));
+    check_nonzero(&rt, alloc, &GREATEST, NonZeroIsize::new(isize::MIN));
+    check(
+        &rt,
+        alloc,
+        &[(&[0x80, 0x00], Err::<NonZeroI32, _>(Error::SerdeDeCustom))],
+    );
 }
 
 #[test]
@@ -126,6 +151,7 @@ fn reads_spans_of_time(rt: HostRuntime) {
 fn reads_parts_in_a_row(rt: HostRuntime) {
     let alloc = rt.alloc();
     check(&rt, alloc, &[(&[], Ok(()))]);
+    check(&rt, alloc, &[(&[], Ok(PhantomData::<u8>))]);
     check(&rt, alloc, &[(&[0x07], Ok((7u8,)))]);
     check(
         &rt,
@@ -182,6 +208,11 @@ fn reads_parts_in_a_row(rt: HostRuntime) {
     );
 }
 
+/// Copies the bytes that stand in front.
+fn copy_bytes(alloc: Global, bytes: &[u8]) -> postcard_wire::Result<Vec<u8>> {
+    Deserializer::from_bytes(bytes).deserialize_byte_buf(alloc)
+}
+
 #[test]
 fn reads_bytes(rt: HostRuntime) -> Result<(), Fail> {
     let alloc = rt.alloc();
@@ -194,10 +225,14 @@ fn reads_bytes(rt: HostRuntime) -> Result<(), Fail> {
             (&[8, 1, 2, 3], Err(Error::DeserializeUnexpectedEnd)),
         ],
     );
-    let mut d = Deserializer::from_bytes(&[0x02, 0x05, 0x06]);
+    let copy = match copy_bytes(alloc, &[0x02, 0x05, 0x06]) {
+        Err(Error::OutOfMemory) => copy_bytes(alloc, &[0x02, 0x05, 0x06])?,
+        answer => answer?,
+    };
+    assert_eq!(rt; copy.as_slice(), [5, 6].as_slice());
     assert_eq!(rt;
-        d.deserialize_byte_buf(alloc)?.as_slice(),
-        [5, 6].as_slice()
+        copy_bytes(alloc, &[0x02, 0x05]).err(),
+        Some(Error::DeserializeUnexpectedEnd)
     );
     Ok(())
 }
@@ -248,25 +283,61 @@ fn reads_maps(rt: HostRuntime) -> Result<(), Fail> {
         (&[0x00], &[]),
     ];
     for (bytes, expected) in rows {
-        let map = read::<BTreeMap<u8, u8>>(alloc, bytes)?;
+        let map = read_in_two_tries::<BTreeMap<u8, u8>>(alloc, bytes)?;
         assert_eq!(rt; map.len(), expected.len(), "{bytes:?}");
         for (key, value) in expected {
             assert_eq!(rt; map.get(key), Some(value), "{bytes:?}");
         }
     }
-    assert!(rt;
-        read::<BTreeMap<u8, u8>>(alloc, &GREATEST).is_err_and(|e| e
-            == Error::DeserializeUnexpectedEnd)
-    );
     Ok(())
+}
+
+/// A count that was announced asks for no memory: these answer the same where the first request is refused.
+#[test]
+fn asks_for_what_was_read_alone(rt: HostRuntime) {
+    let alloc = rt.alloc();
+    let announced = [
+        0xFF, 0xFF, 0xFF, 0xFF, 0xFF, 0xFF, 0xFF, 0xFF, 0xFF, 0x01, 0x61, 0x62, 0x63,
+    ];
+    let ends = Some(Error::DeserializeUnexpectedEnd);
+    assert_eq!(rt; read::<String>(alloc, &announced).err(), ends);
+    assert_eq!(rt; copy_bytes(alloc, &announced).err(), ends);
+    assert_eq!(rt; read::<Vec<u8>>(alloc, &GREATEST).err(), ends);
+    assert_eq!(rt; read::<BTreeMap<u8, u8>>(alloc, &GREATEST).err(), ends);
 }
 
 #[test]
 fn reads_behind_pointers(rt: HostRuntime) -> Result<(), Fail> {
     let alloc = rt.alloc();
-    assert_eq!(rt; *read::<Box<u8>>(alloc, &[0x07])?, 7);
-    assert_eq!(rt; *read::<Rc<u8>>(alloc, &[0x07])?, 7);
-    assert_eq!(rt; read::<Vec<()>>(alloc, &[0x03])?.len(), 3);
+    assert_eq!(rt; *read_in_two_tries::<Box<u8>>(alloc, &[0x07])?, 7);
+    assert_eq!(rt; *read_in_two_tries::<Rc<u8>>(alloc, &[0x07])?, 7);
+    assert_eq!(rt; read_in_two_tries::<Vec<()>>(alloc, &[0x03])?.len(), 3);
+    Ok(())
+}
+
+#[test]
+fn reads_what_has_parts_that_grow(rt: HostRuntime) -> Result<(), Fail> {
+    let alloc = rt.alloc();
+    let texts = read_in_two_tries::<Vec<String>>(alloc, &[0x02, 0x01, 0x61, 0x01, 0x62])?;
+    assert_eq!(rt; texts.len(), 2);
+    for (text, expected) in texts.iter().zip(["a", "b"]) {
+        assert_eq!(rt; text.as_str(), expected);
+    }
+    let some = read_in_two_tries::<Option<Box<u8>>>(alloc, &[0x01, 0x07])?;
+    assert!(rt; some.is_some_and(|boxed| *boxed == 7));
+    let (number, text) = read_in_two_tries::<(Rc<u8>, String)>(alloc, &[0x07, 0x01, 0x61])?;
+    assert_eq!(rt; *number, 7);
+    assert_eq!(rt; text.as_str(), "a");
+    Ok(())
+}
+
+#[test]
+fn takes_just_the_front(rt: HostRuntime) -> Result<(), Fail> {
+    one_message::<u16>();
+    read_again::<u16>();
+    let mut d = Deserializer::from_bytes(&[0xAC, 0x02, 0x99]);
+    assert_eq!(rt; u16::deserialize(rt.alloc(), &mut d), Ok(300));
+    assert_eq!(rt; d.finalize()?, [0x99].as_slice());
     Ok(())
 }
 

@@ -1,4 +1,4 @@
-//! The types that are read, a room for each kind.
+//! The types that are read, a module for each kind.
 
 pub mod arrays;
 pub mod chars;

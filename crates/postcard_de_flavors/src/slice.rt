@@ -1,6 +1,6 @@
 //! The source over a slice.
 
-ghost use Rattle.std.specs.Prelude.{◌≡◌, ◌↔◌, ℕ, ◌≤◌, ◌-◌, List, [], ◌∷◌, ◌++◌, length, Some, IfOk, IfErr, OnErr, IsOk, MatchResult};
+ghost use Rattle.std.specs.Prelude.{◌≡◌, ◌↔◌, ℕ, ◌≤◌, ◌-◌, List, [], ◌∷◌, length, Some, IfOk, IfErr, OnErr, IsOk, MatchResult};
 ghost use Rattle.std.specs.Borrow.{sem};
 ghost use Rattle.std.specs.Io.BufRead.{Rests};
 ghost use Rattle.postcard_de_flavors.specs.Source.{Takes, LeavesRest, IsEndOf};

@@ -6,16 +6,57 @@ use postcard_de::{Deserialize, Deserializer, Error, Result};
 use std::alloc::Global;
 use std::collections::BTreeMap;
 use std::fmt::Debug;
-use std::num::{NonZeroU8, Wrapping};
+use std::marker::PhantomData;
+use std::num::{
+    NonZeroI8, NonZeroI16, NonZeroI32, NonZeroI64, NonZeroI128, NonZeroIsize, NonZeroU8,
+    NonZeroU16, NonZeroU32, NonZeroU64, NonZeroU128, NonZeroUsize, Wrapping,
+};
 use std::ops::{Range, RangeFrom, RangeInclusive, RangeTo};
 use std::process::Abort;
 use std::rc::Rc;
 use std::test::Fail;
 use std::time::Duration;
 
+/// The spelling of 2^64 - 1.
+const GREATEST: [u8; 10] = [0xFF, 0xFF, 0xFF, 0xFF, 0xFF, 0xFF, 0xFF, 0xFF, 0xFF, 0x01];
+
 /// Reads a value from the front of some bytes.
 fn read<T: DeserializeOwned>(alloc: Global, bytes: &[u8]) -> Result<T> {
     T::deserialize_owned(alloc, &mut Deserializer::from_bytes(bytes))
+}
+
+/// Reads a value, and once more where memory was refused: a run with `--fail-alloc N`, which refuses the Nth request alone, then
+/// ends as one without it.
+fn read_in_two_tries<T: DeserializeOwned>(alloc: Global, bytes: &[u8]) -> Result<T> {
+    match read(alloc, bytes) {
+        Err(Error::OutOfMemory) => read(alloc, bytes),
+        answer => answer,
+    }
+}
+
+/// Bytes are read as this value, and no bytes are refused.
+fn check_value<T: DeserializeOwned + PartialEq + Debug>(
+    rt: &impl Abort,
+    alloc: Global,
+    bytes: &[u8],
+    expected: T,
+) {
+    assert_eq!(rt; read::<T>(alloc, bytes), Ok(expected), "{bytes:?}");
+    assert_eq!(rt;
+        read::<T>(alloc, &[]).err(),
+        Some(Error::DeserializeUnexpectedEnd)
+    );
+}
+
+/// Bytes are read as this number, and the byte 0 is refused.
+fn check_nonzero<T: DeserializeOwned + PartialEq + Debug>(
+    rt: &impl Abort,
+    alloc: Global,
+    bytes: &[u8],
+    expected: Option<T>,
+) {
+    assert_eq!(rt; read::<T>(alloc, bytes).ok(), expected);
+    assert_eq!(rt; read::<T>(alloc, &[0x00]).err(), Some(Error::SerdeDeCustom));
 }
 
 /// Each row's bytes read as its value, or refused by its error.
@@ -40,8 +81,18 @@ fn reads_single_values(rt: HostRuntime) {
             (&[], Err(Error::DeserializeUnexpectedEnd)),
         ],
     );
-    check(&rt, alloc, &[(&[0xFF, 0xFF, 0x03], Ok(i16::MIN))]);
-    check(&rt, alloc, &[(&[0xAC, 0x02], Ok(300usize))]);
+    check_value(&rt, alloc, &[0xAC, 0x02], 300u16);
+    check_value(&rt, alloc, &[0xAC, 0x02], 300u32);
+    check_value(&rt, alloc, &[0xAC, 0x02], 300u64);
+    check_value(&rt, alloc, &[0xAC, 0x02], 300u128);
+    check_value(&rt, alloc, &[0xAC, 0x02], 300usize);
+    check_value(&rt, alloc, &[0x80], -128i8);
+    check_value(&rt, alloc, &[0xFF, 0xFF, 0x03], i16::MIN);
+    check_value(&rt, alloc, &[0x03], -2i32);
+    check_value(&rt, alloc, &GREATEST, i64::MIN);
+    check_value(&rt, alloc, &[0x03], -2i128);
+    check_value(&rt, alloc, &GREATEST, isize::MIN);
+    check_value(&rt, alloc, &[0x01], true);
     check(
         &rt,
         alloc,
@@ -51,18 +102,31 @@ fn reads_single_values(rt: HostRuntime) {
     check(
         &rt,
         alloc,
-        &[(&[0x00], Err::<NonZeroU8, _>(Error::SerdeDeCustom))],
-    );
-    check(
-        &rt,
-        alloc,
         &[(
             &[0x00, 0x80, 0x94, 0xEB, 0xDC, 0x03],
             Ok(Duration::new(1, 0)),
         )],
     );
     check(&rt, alloc, &[(&[], Ok(()))]);
+    check(&rt, alloc, &[(&[], Ok(PhantomData::<u8>))]);
     check(&rt, alloc, &[(&[0x07], Ok(Wrapping(7u8)))]);
+}
+
+#[test]
+fn reads_numbers_but_zero(rt: HostRuntime) {
+    let alloc = rt.alloc();
+    check_nonzero(&rt, alloc, &[0x05], NonZeroU8::new(5));
+    check_nonzero(&rt, alloc, &[0xAC, 0x02], NonZeroU16::new(300));
+    check_nonzero(&rt, alloc, &[0xAC, 0x02], NonZeroU32::new(300));
+    check_nonzero(&rt, alloc, &GREATEST, NonZeroU64::new(u64::MAX));
+    check_nonzero(&rt, alloc, &[0xAC, 0x02], NonZeroU128::new(300));
+    check_nonzero(&rt, alloc, &GREATEST, NonZeroUsize::new(usize::MAX));
+    check_nonzero(&rt, alloc, &[0x80], NonZeroI8::new(-128));
+    check_nonzero(&rt, alloc, &[0x05], NonZeroI16::new(-3));
+    check_nonzero(&rt, alloc, &[0x05], NonZeroI32::new(-3));
+    check_nonzero(&rt, alloc, &GREATEST, NonZeroI64::new(i64::MIN));
+    check_nonzero(&rt, alloc, &[0x05], NonZeroI128::new(-3));
+    check_nonzero(&rt, alloc, &GREATEST, NonZeroIsize::new(isize::MIN));
 }
 
 #[test]
@@ -128,16 +192,23 @@ fn reads_compounds(rt: HostRuntime) {
 #[test]
 fn reads_what_grows(rt: HostRuntime) -> std::result::Result<(), Fail> {
     let alloc = rt.alloc();
-    assert_eq!(rt;
-        read::<Vec<u8>>(alloc, &[0x02, 0x05, 0x06])?.as_slice(),
-        [5, 6].as_slice()
-    );
-    assert_eq!(rt; read::<String>(alloc, &[0x02, 0x48, 0x69])?.as_str(), "Hi");
-    assert_eq!(rt; *read::<Box<u8>>(alloc, &[0x07])?, 7);
-    assert_eq!(rt; *read::<Rc<u8>>(alloc, &[0x07])?, 7);
-    let map = read::<BTreeMap<u8, u8>>(alloc, &[0x02, 0x01, 0x05, 0x01, 0x06])?;
+    let bytes = read_in_two_tries::<Vec<u8>>(alloc, &[0x02, 0x05, 0x06])?;
+    assert_eq!(rt; bytes.as_slice(), [5, 6].as_slice());
+    let text = read_in_two_tries::<String>(alloc, &[0x02, 0x48, 0x69])?;
+    assert_eq!(rt; text.as_str(), "Hi");
+    assert_eq!(rt; *read_in_two_tries::<Box<u8>>(alloc, &[0x07])?, 7);
+    assert_eq!(rt; *read_in_two_tries::<Rc<u8>>(alloc, &[0x07])?, 7);
+    let some = read_in_two_tries::<Option<Box<u8>>>(alloc, &[0x01, 0x07])?;
+    assert!(rt; some.is_some_and(|boxed| *boxed == 7));
+    let map = read_in_two_tries::<BTreeMap<u8, u8>>(alloc, &[0x02, 0x01, 0x05, 0x01, 0x06])?;
     assert_eq!(rt; map.len(), 1);
     assert_eq!(rt; map.get(&1), Some(&6));
+    Ok(())
+}
+
+#[test]
+fn reads_into_fixed_room(rt: HostRuntime) -> std::result::Result<(), Fail> {
+    let alloc = rt.alloc();
     assert_eq!(rt;
         read::<ArrayVec<u8, 2>>(alloc, &[0x02, 0x01, 0x02])?.as_slice(),
         [1, 2].as_slice()
@@ -153,23 +224,24 @@ fn reads_what_grows(rt: HostRuntime) -> std::result::Result<(), Fail> {
     Ok(())
 }
 
+/// Reads by `Deserialize`, in at most two tries.
+fn lead_back<T: DeserializeOwned>(alloc: Global, bytes: &[u8]) -> Result<Owned<T>> {
+    match Owned::deserialize(alloc, &mut Deserializer::from_bytes(bytes)) {
+        Err(Error::OutOfMemory) => {
+            Owned::deserialize(alloc, &mut Deserializer::from_bytes(bytes))
+        }
+        answer => answer,
+    }
+}
+
 #[test]
 fn leads_back(rt: HostRuntime) -> std::result::Result<(), Fail> {
     let alloc = rt.alloc();
-    let Owned(pair) = Owned::<(u8, u32)>::deserialize(
-        alloc,
-        &mut Deserializer::from_bytes(&[0x01, 0x0A]),
-    )?;
+    let Owned(pair) = lead_back::<(u8, u32)>(alloc, &[0x01, 0x0A])?;
     assert_eq!(rt; pair, (1, 10));
-    let Owned(boxed) = Owned::<Box<u8>>::deserialize(
-        alloc,
-        &mut Deserializer::from_bytes(&[0x07]),
-    )?;
+    let Owned(boxed) = lead_back::<Box<u8>>(alloc, &[0x07])?;
     assert_eq!(rt; *boxed, 7);
-    let Owned(shared) = Owned::<Rc<u8>>::deserialize(
-        alloc,
-        &mut Deserializer::from_bytes(&[0x07]),
-    )?;
+    let Owned(shared) = lead_back::<Rc<u8>>(alloc, &[0x07])?;
     assert_eq!(rt; *shared, 7);
     Ok(())
 }

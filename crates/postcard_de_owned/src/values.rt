@@ -1,4 +1,4 @@
-//! The types that are read and borrow nothing, a room for each kind.
+//! The types that are read and borrow nothing, a module for each kind.
 
 pub mod chars;
 pub mod lists;

@@ -1,6 +1,6 @@
 //! The calls for nodes that hold bytes: a character, bytes that the source holds, copies of them.
 
-ghost use Rattle.std.specs.Prelude.{◌≡◌, ℕ, ◌<◌, ◌^◌, List, length, IfErr, slice_index, ⊤};
+ghost use Rattle.std.specs.Prelude.{◌≡◌, ℕ, ◌<◌, length, IfErr, slice_index, ⊤};
 ghost use Rattle.postcard_wire.specs.Tree.{Byte, Char, Text};
 ghost use Rattle.postcard_wire.specs.Spelling.{Spells};
 ghost use Rattle.postcard_wire.specs.Reading.{IsByte, IsChar, IsSeq};

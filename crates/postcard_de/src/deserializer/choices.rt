@@ -1,6 +1,6 @@
 //! The calls for nodes that choose: a truth value, an option, an enum.
 
-ghost use Rattle.std.specs.Prelude.{◌≡◌, ℕ, ◌<◌, ◌^◌, ◌⊎◌, IfErr, Ok, length};
+ghost use Rattle.std.specs.Prelude.{◌≡◌, ◌<◌, ◌^◌, ◌⊎◌, IfErr, Ok, length};
 ghost use Rattle.postcard_wire.specs.Tree.{Boolean};
 ghost use Rattle.postcard_wire.specs.Number.{SpellsNum};
 ghost use Rattle.postcard_wire.specs.Spelling.{Spells};

@@ -1,6 +1,5 @@
 //! Arrays, and lists of a fixed capacity.
 
-ghost use Rattle.std.specs.Prelude.{◌≡◌};
 ghost use Rattle.postcard_wire.specs.Reading.{IsGroup, IsArray};
 ghost use Rattle.postcard_wire.proofs.Delimited.{array_delimited, seq_delimited, fewer_delimited};
 ghost use Rattle.postcard_wire.proofs.WellFormed.{array_well_formed, seq_well_formed};

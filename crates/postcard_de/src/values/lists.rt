@@ -1,6 +1,6 @@
 //! Lists.
 
-ghost use Rattle.std.specs.Prelude.{◌≡◌, ⊤};
+ghost use Rattle.std.specs.Prelude.{⊤};
 ghost use Rattle.postcard_wire.specs.Reading.{IsSeq};
 ghost use Rattle.postcard_wire.proofs.Delimited.{seq_delimited};
 ghost use Rattle.postcard_wire.proofs.WellFormed.{seq_well_formed};

@@ -1,6 +1,6 @@
 //! Types that hold one value, and pass it on as it is.
 
-ghost use Rattle.std.specs.Prelude.{◌≡◌, ⊤};
+ghost use Rattle.std.specs.Prelude.{⊤};
 ghost use Rattle.postcard_wire.specs.Reading.{IsEnd, IsGroup};
 ghost use Rattle.postcard_wire.proofs.Delimited.{group_delimited, end_delimited};
 ghost use Rattle.postcard_wire.proofs.WellFormed.{group_well_formed, end_well_formed};

@@ -4,7 +4,7 @@ ghost use Rattle.std.specs.Prelude.{◌≡◌, refl};
 ghost use Rattle.std.specs.Duration.{as_nanos};
 ghost use Rattle.std.proofs.Common.{inl, inr};
 ghost use Rattle.postcard_wire.specs.Tree.{Num, Int};
-ghost use Rattle.postcard_wire.specs.Reading.{IsNum, IsInt, IsEnd, IsThen};
+ghost use Rattle.postcard_wire.specs.Reading.{IsNum, IsInt};
 ghost use Rattle.postcard_wire.proofs.Delimited.{num_delimited, int_delimited, group_delimited, then_delimited, end_delimited, fewer_delimited};
 ghost use Rattle.postcard_wire.proofs.WellFormed.{num_well_formed, int_well_formed, group_well_formed, then_well_formed, end_well_formed};
 ghost use Rattle.postcard_de.specs.One.{num_one, int_one};

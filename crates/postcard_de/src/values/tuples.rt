@@ -1,6 +1,6 @@
 //! Tuples of one to six parts, and the type of nothing.
 
-ghost use Rattle.std.specs.Prelude.{◌≡◌, ◌⊎◌};
+ghost use Rattle.std.specs.Prelude.{◌⊎◌};
 ghost use Rattle.postcard_wire.specs.Reading.{IsEnd, IsThen, IsGroup};
 ghost use Rattle.postcard_wire.proofs.Delimited.{group_delimited, then_delimited, end_delimited};
 ghost use Rattle.postcard_wire.proofs.WellFormed.{group_well_formed, then_well_formed, end_well_formed};

@@ -1,15 +1,12 @@
 //! Characters, and texts of a fixed capacity.
 
-ghost use Rattle.std.specs.Prelude.{◌≡◌, ℕ, List};
-ghost use Rattle.std.specs.Borrow.{Bor};
+ghost use Rattle.std.specs.Prelude.{◌≡◌};
 ghost use Rattle.arrayvec.specs.ArrayString.{ArrayString};
-ghost use Rattle.postcard_wire.specs.Tree.{Byte, Char, Text};
-ghost use Rattle.postcard_wire.specs.Reading.{IsByte, IsChar, IsSeq};
-ghost use Rattle.postcard_wire.proofs.Delimited.{byte_delimited, char_delimited, seq_delimited, text_delimited, fewer_delimited};
-ghost use Rattle.postcard_wire.proofs.WellFormed.{byte_well_formed, char_well_formed, seq_well_formed, text_well_formed};
-ghost use Rattle.postcard_de.specs.Values.{ListIs};
-ghost use Rattle.postcard_de.specs.Same.{SameList, list_one};
-ghost use Rattle.postcard_de.specs.One.{byte_one, text_one};
+ghost use Rattle.postcard_wire.specs.Tree.{Char, Text};
+ghost use Rattle.postcard_wire.specs.Reading.{IsChar};
+ghost use Rattle.postcard_wire.proofs.Delimited.{char_delimited, text_delimited, fewer_delimited};
+ghost use Rattle.postcard_wire.proofs.WellFormed.{char_well_formed, text_well_formed};
+ghost use Rattle.postcard_de.specs.One.{text_one};
 ghost use Rattle.postcard_de.specs.Options.{char_one};
 ghost use Rattle.postcard_de.specs.Fixed.{IsShortText, short_text_inside};
 

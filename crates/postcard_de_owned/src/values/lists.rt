@@ -1,6 +1,6 @@
 //! Lists, arrays and maps.
 
-ghost use Rattle.std.specs.Prelude.{◌≡◌, ⊤};
+ghost use Rattle.std.specs.Prelude.{⊤};
 ghost use Rattle.postcard_wire.specs.Reading.{IsGroup, IsSeq, IsArray};
 ghost use Rattle.postcard_wire.proofs.Delimited.{seq_delimited, array_delimited, group_delimited, then_delimited, end_delimited, fewer_delimited};
 ghost use Rattle.postcard_wire.proofs.WellFormed.{seq_well_formed, array_well_formed, group_well_formed, then_well_formed, end_well_formed};

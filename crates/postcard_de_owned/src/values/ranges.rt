@@ -1,6 +1,6 @@
 //! Ranges: structs of their ends.
 
-ghost use Rattle.std.specs.Prelude.{◌≡◌, ◌⊎◌};
+ghost use Rattle.std.specs.Prelude.{◌⊎◌};
 ghost use Rattle.std.specs.Range.{range_inclusive_start, range_inclusive_end};
 ghost use Rattle.postcard_wire.specs.Reading.{IsEnd, IsThen, IsGroup};
 ghost use Rattle.postcard_wire.proofs.Delimited.{group_delimited, then_delimited, end_delimited};

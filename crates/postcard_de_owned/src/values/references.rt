@@ -1,12 +1,12 @@
 //! Types that hold one value, and pass it on as it is.
 
-ghost use Rattle.std.specs.Prelude.{◌≡◌, ⊤};
+ghost use Rattle.std.specs.Prelude.{⊤};
 ghost use Rattle.postcard_wire.specs.Reading.{IsEnd, IsGroup};
 ghost use Rattle.postcard_wire.proofs.Delimited.{group_delimited, end_delimited};
 ghost use Rattle.postcard_wire.proofs.WellFormed.{group_well_formed, end_well_formed};
 ghost use Rattle.postcard_de.specs.Parts.{end_one, group_one};
 
-use crate::owned::{DeserializeOwned, Owned};
+use crate::owned::DeserializeOwned;
 use postcard_de::{Deserialize, Deserializer, Error, Flavor, Result};
 use std::alloc::Global;
 use std::marker::PhantomData;

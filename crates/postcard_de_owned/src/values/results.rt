@@ -1,6 +1,6 @@
 //! Results, which are read as enums of two variants.
 
-ghost use Rattle.std.specs.Prelude.{◌≡◌, ◌⊎◌};
+ghost use Rattle.std.specs.Prelude.{◌⊎◌};
 ghost use Rattle.postcard_wire.specs.Reading.{IsVariant};
 ghost use Rattle.postcard_wire.proofs.Delimited.{variant_delimited};
 ghost use Rattle.postcard_wire.proofs.WellFormed.{variant_well_formed};

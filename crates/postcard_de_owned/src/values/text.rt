@@ -1,7 +1,6 @@
-//! Texts and characters.
+//! Texts.
 
-ghost use Rattle.std.specs.Prelude.{◌≡◌, ℕ, List, string_bytes, String, ⊤};
-ghost use Rattle.std.specs.Borrow.{Bor};
+ghost use Rattle.std.specs.Prelude.{◌≡◌, string_bytes, String, ⊤};
 ghost use Rattle.postcard_wire.specs.Tree.{Text};
 ghost use Rattle.postcard_wire.specs.Reading.{IsText};
 ghost use Rattle.postcard_wire.proofs.Delimited.{text_delimited};

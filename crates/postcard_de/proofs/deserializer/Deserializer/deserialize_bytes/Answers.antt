@@ -1,8 +1,7 @@
 use Rattle.std.proofs.Common.{ℕ, List, Bor, inl, inr}
-use Rattle.postcard_de.proofs.Leaves.{is_refusal}
+use Rattle.postcard_de.proofs.Leaves.{is_refusal, widened, behind_front}
 use Rattle.postcard_de.proofs.Lists.{list_read, list_refused, count_refused}
-use Rattle.postcard_de.proofs.Numbers.{number_below}
-use Rattle.postcard_de.proofs.Chars.{widened, behind_front, length_is_spelled}
+use Rattle.postcard_de.proofs.Numbers.{number_below, number_spelled}
 use Rattle.postcard_de.proofs.Bytes.{bytes_read, bytes_end}
 use Rattle.postcard_de.proofs.deserializer.Deserializer.deserialize_bytes.Goals as goal
 
@@ -27,7 +26,7 @@ pub returns-in_err-lent-clause-refused : goal.returns-in_err-lent-clause-refused
 returns-in_err-lent-clause-refused g c =
     let laws = g.F.Flavor.lawful in
     rw (is_refusal c.from_residual-in_err-lent.result c.in_err-lent.field-0.0 c.from_residual-in_err-lent.ensures.1)
-    (behind_front c.in_ok-count.ensures.reads.gives.taken (inr (length_is_spelled laws c.in_ok-count.ensures.reads, number_below laws c.in_ok-count.ensures.reads)) (λ a. let bad = c.in_err-lent.ensures.accepts a in cc) c.in_err-lent.ensures.refuses)
+    (behind_front c.in_ok-count.ensures.reads.gives.taken (inr (number_spelled laws c.in_ok-count.ensures.reads, number_below laws c.in_ok-count.ensures.reads)) (λ a. let bad = c.in_err-lent.ensures.accepts a in cc) c.in_err-lent.ensures.refuses)
 
 pub returns-clause-reads : goal.returns-clause-reads
 returns-clause-reads g c =
