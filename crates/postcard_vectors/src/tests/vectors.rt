@@ -6,8 +6,7 @@ use crate::types::{
 };
 use arrayvec::{ArrayString, ArrayVec};
 use postcard::{
-    Deserialize, DeserializeOwned, Error, Owned, Result, Serialize, from_bytes, take_from_bytes,
-    to_slice,
+    Deserialize, DeserializeOwned, Error, Owned, Serialize, from_bytes, take_from_bytes, to_slice,
 };
 use std::alloc::{AllocError, Global};
 use std::collections::BTreeMap;
@@ -110,6 +109,15 @@ fn numbers(rt: HostRuntime) {
         ],
     );
     owned_round_trip(&rt, alloc, 1usize, &[0x01, END]);
+    owned_round_trip(
+        &rt,
+        alloc,
+        -19490127978232325886905073712831_i128,
+        &[
+            0xFD, 0xFA, 0xF5, 0xEB, 0xF7, 0xFF, 0xFF, 0xFF, 0xFF, 0xC3, 0xFF, 0xFF, 0xFF, 0xFF,
+            0x7A, END,
+        ],
+    );
 }
 
 #[test]
@@ -125,11 +133,16 @@ fn scalars(rt: HostRuntime) {
 }
 
 #[test]
-fn enums(rt: HostRuntime) {
+fn enums_without_content(rt: HostRuntime) {
     let alloc = rt.alloc();
     owned_round_trip(&rt, alloc, BasicEnum::Bib, &[0x00, END]);
     owned_round_trip(&rt, alloc, BasicEnum::Bim, &[0x01, END]);
     owned_round_trip(&rt, alloc, BasicEnum::Bap, &[0x02, END]);
+}
+
+#[test]
+fn enums_with_content(rt: HostRuntime) {
+    let alloc = rt.alloc();
     owned_round_trip(
         &rt,
         alloc,
@@ -213,6 +226,11 @@ fn structs(rt: HostRuntime) {
         DualTupleStruct(0xA0, 0x1234),
         &[0xA0, 0xB4, 0x24, END],
     );
+}
+
+#[test]
+fn structs_of_each_width(rt: HostRuntime) {
+    let alloc = rt.alloc();
     let value = BasicU8S {
         st: 0xABCD,
         ei: 0xFE,
@@ -280,7 +298,7 @@ fn what_is_lent(rt: HostRuntime) {
 }
 
 /// A row of 1,024 bytes with their count before them.
-fn long_row(alloc: Global, content: &[u8]) -> std::result::Result<Vec<u8>, AllocError> {
+fn long_row(alloc: Global, content: &[u8]) -> Result<Vec<u8>, AllocError> {
     let mut row = vec![in alloc; 0x80, 0x08]?;
     row.extend_from_slice(content)?;
     row.push(END)?;
@@ -288,7 +306,7 @@ fn long_row(alloc: Global, content: &[u8]) -> std::result::Result<Vec<u8>, Alloc
 }
 
 #[test]
-fn long_ones(rt: HostRuntime) -> std::result::Result<(), Fail> {
+fn long_texts_and_lists(rt: HostRuntime) -> Result<(), Fail> {
     let alloc = rt.alloc();
     let mut text = String::new(alloc);
     let mut list = Vec::new(alloc);
@@ -313,7 +331,7 @@ fn long_ones(rt: HostRuntime) -> std::result::Result<(), Fail> {
 }
 
 #[test]
-fn collections(rt: HostRuntime) -> std::result::Result<(), Fail> {
+fn collections(rt: HostRuntime) -> Result<(), Fail> {
     let alloc = rt.alloc();
     let list: ArrayVec<u8, 4> = ArrayVec::from_iter(alloc, [1u8, 2, 3, 4])?;
     owned_round_trip(&rt, alloc, list, &[0x04, 0x01, 0x02, 0x03, 0x04, END]);
