@@ -8,8 +8,8 @@ ghost use Rattle.postcard_de_flavors.specs.Source.{Begins};
 ghost use Rattle.postcard.specs.Front.{ReadsFront, ReadsReader};
 
 use postcard_de::{Deserialize, Deserializer};
+use postcard_de_flavors::Source;
 use postcard_de_flavors::io::io::IOReader;
-use postcard_de_flavors::source::Source;
 use postcard_wire::{Error, Result};
 use std::alloc::Global;
 
@@ -62,7 +62,7 @@ pub fn from_bytes<'a, T: Deserialize<'a>>(alloc: Global, bytes: &'a [u8]) -> Res
 ///
 /// Where the reader tells its bytes, the value is that of a front of them, and just that front was read. Over a steady
 /// reader it succeeds wherever a front spells a tree that the type reads and the scratch is as long as that front. A reader that
-/// promises nothing goes within [`Plain`](crate::de_flavors::plain::Plain).
+/// promises nothing goes within [`Plain`](crate::de_flavors::Plain).
 ///
 /// # Errors
 ///

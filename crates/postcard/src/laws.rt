@@ -7,7 +7,7 @@ ghost use Rattle.postcard_de_flavors.specs.Source.{Begins};
 ghost use Rattle.postcard.specs.Front.{ReadsFront, ReadsReader};
 
 use postcard_de::Deserialize;
-use postcard_de_flavors::source::Source;
+use postcard_de_flavors::Source;
 
 /// What was encoded is decoded, whatever stands behind it: bytes that begin with the encoding of a tree that the type reads
 /// have a front that spells it, and what is read of them is a value of that tree and leaves just the bytes behind.

@@ -1,7 +1,7 @@
 //! The types of the vectors, implemented by hand as a user of the library would.
 //!
-//! Each says the tree of a value once, in its impl of `Serialize`; the value that is read from a tree is the one whose tree
-//! it is. A struct is read as the tuple of its fields, and has the laws of that tuple.
+//! A struct is read as the tuple of its fields: each member of its impl of `Deserialize` is that of the tuple, and nothing
+//! more is to be proved. An enum says what stands at each index, and is read as the value whose tree it is.
 //!
 //! - [`ref_struct`]: a struct that borrows from the input.
 //! - [`basic_u8s`], [`wide_u8s`]: structs of numbers.

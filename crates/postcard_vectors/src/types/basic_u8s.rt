@@ -1,9 +1,5 @@
 //! A struct with a number of each unsigned width but the greatest.
 
-ghost use Rattle.std.specs.Prelude.{◌≡◌, [], ◌∷◌, refl};
-ghost use Rattle.postcard_wire.specs.Tree.{Group, trees};
-ghost use Rattle.postcard_vectors.specs.Told.{told_by, basic_u8s_of};
-
 use postcard::de_flavors::Flavor as Source;
 use postcard::ser_flavors::Flavor;
 use postcard::{Deserialize, DeserializeOwned, Deserializer, Result, Serialize, Serializer};
@@ -26,8 +22,7 @@ pub struct BasicU8S {
 }
 
 impl Serialize for BasicU8S {
-    ghost tree = { λ v. Group (trees (⟦<u16 as Serialize>⟧.tree v.st ∷ ⟦<u8 as Serialize>⟧.tree v.ei
-        ∷ ⟦<u64 as Serialize>⟧.tree v.sf ∷ ⟦<u32 as Serialize>⟧.tree v.tt ∷ [])) };
+    ghost tree = { λ v. ⟦<BasicFields as Serialize>⟧.tree (v.st, v.ei, v.sf, v.tt) };
 
     fn serialize<F: Flavor>(&self, serializer: &mut Serializer<F>) -> Result<()> {
         serializer.serialize_struct("BasicU8S", 4)?;
@@ -43,9 +38,9 @@ impl Serialize for BasicU8S {
 impl<'de> Deserialize<'de> for BasicU8S {
     ghost reads = { ⟦<BasicFields as Deserialize<'de>>⟧.reads };
 
-    ghost value = { λ t v. t ≡ ⟦<BasicU8S as Serialize>⟧.tree v };
+    ghost value = { λ t v. ⟦<BasicFields as Deserialize<'de>>⟧.value t (v.st, v.ei, v.sf, v.tt) };
 
-    ghost same = { λ v w. v ≡ w };
+    ghost same = { λ v w. ⟦<BasicFields as Deserialize<'de>>⟧.same (v.st, v.ei, v.sf, v.tt) (w.st, w.ei, w.sf, w.tt) };
 
     ghost grows = { ⊥ };
 
@@ -53,7 +48,7 @@ impl<'de> Deserialize<'de> for BasicU8S {
 
     ghost well_formed = { ⟦<BasicFields as Deserialize<'de>>⟧.well_formed };
 
-    ghost one_value = { told_by basic_u8s_of (λ v. refl) };
+    ghost one_value = { λ t v w. ⟦<BasicFields as Deserialize<'de>>⟧.one_value t (v.st, v.ei, v.sf, v.tt) (w.st, w.ei, w.sf, w.tt) };
 
     fn deserialize<F: Source>(alloc: Global, d: &mut Deserializer<'de, F>) -> Result<Self> {
         let (st, ei, sf, tt): BasicFields = Deserialize::deserialize(alloc, d)?;

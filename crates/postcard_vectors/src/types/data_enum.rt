@@ -1,12 +1,12 @@
 //! An enum with content of every kind, and the struct that one of its variants holds.
 
-ghost use Rattle.std.specs.Prelude.{◌≡◌, [], ◌∷◌, refl};
-ghost use Rattle.postcard_wire.specs.Tree.{Group, Variant, trees};
+ghost use Rattle.std.specs.Prelude.{◌≡◌};
+ghost use Rattle.postcard_wire.specs.Tree.{Variant};
 ghost use Rattle.postcard_wire.specs.Reading.{IsVariant};
 ghost use Rattle.postcard_wire.proofs.Delimited.{variant_delimited};
 ghost use Rattle.postcard_wire.proofs.WellFormed.{variant_well_formed};
 ghost use Rattle.postcard_vectors.specs.declared.types.data_enum.DataEnum.{DataEnum};
-ghost use Rattle.postcard_vectors.specs.Data.{DataContent, data_delimited, data_well_formed, data_of, data_again, enum_struct_of};
+ghost use Rattle.postcard_vectors.specs.Data.{DataContent, data_delimited, data_well_formed, data_of, data_again};
 ghost use Rattle.postcard_vectors.specs.Told.{told_by};
 
 use postcard::de_flavors::Flavor as Source;
@@ -27,8 +27,7 @@ pub struct EnumStruct {
 }
 
 impl Serialize for EnumStruct {
-    ghost tree = { λ v. Group (trees (⟦<u8 as Serialize>⟧.tree v.eight
-        ∷ ⟦<u16 as Serialize>⟧.tree v.sixt ∷ [])) };
+    ghost tree = { λ v. ⟦<EnumFields as Serialize>⟧.tree (v.eight, v.sixt) };
 
     fn serialize<F: Flavor>(&self, serializer: &mut Serializer<F>) -> Result<()> {
         serializer.serialize_struct("EnumStruct", 2)?;
@@ -42,9 +41,9 @@ impl Serialize for EnumStruct {
 impl<'de> Deserialize<'de> for EnumStruct {
     ghost reads = { ⟦<EnumFields as Deserialize<'de>>⟧.reads };
 
-    ghost value = { λ t v. t ≡ ⟦<EnumStruct as Serialize>⟧.tree v };
+    ghost value = { λ t v. ⟦<EnumFields as Deserialize<'de>>⟧.value t (v.eight, v.sixt) };
 
-    ghost same = { λ v w. v ≡ w };
+    ghost same = { λ v w. ⟦<EnumFields as Deserialize<'de>>⟧.same (v.eight, v.sixt) (w.eight, w.sixt) };
 
     ghost grows = { ⊥ };
 
@@ -52,7 +51,7 @@ impl<'de> Deserialize<'de> for EnumStruct {
 
     ghost well_formed = { ⟦<EnumFields as Deserialize<'de>>⟧.well_formed };
 
-    ghost one_value = { told_by enum_struct_of (λ v. refl) };
+    ghost one_value = { λ t v w. ⟦<EnumFields as Deserialize<'de>>⟧.one_value t (v.eight, v.sixt) (w.eight, w.sixt) };
 
     fn deserialize<F: Source>(alloc: Global, d: &mut Deserializer<'de, F>) -> Result<Self> {
         let (eight, sixt): EnumFields = Deserialize::deserialize(alloc, d)?;

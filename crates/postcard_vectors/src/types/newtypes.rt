@@ -1,9 +1,5 @@
 //! Structs whose fields have no names.
 
-ghost use Rattle.std.specs.Prelude.{◌≡◌, [], ◌∷◌, refl};
-ghost use Rattle.postcard_wire.specs.Tree.{Group, trees};
-ghost use Rattle.postcard_vectors.specs.Told.{told_by, new_type_of, tuple_of, dual_of};
-
 use postcard::de_flavors::Flavor as Source;
 use postcard::ser_flavors::Flavor;
 use postcard::{Deserialize, DeserializeOwned, Deserializer, Result, Serialize, Serializer};
@@ -25,9 +21,9 @@ impl Serialize for NewTypeStruct {
 impl<'de> Deserialize<'de> for NewTypeStruct {
     ghost reads = { ⟦<u32 as Deserialize<'de>>⟧.reads };
 
-    ghost value = { λ t v. t ≡ ⟦<NewTypeStruct as Serialize>⟧.tree v };
+    ghost value = { λ t v. ⟦<u32 as Deserialize<'de>>⟧.value t v.0 };
 
-    ghost same = { λ v w. v ≡ w };
+    ghost same = { λ v w. ⟦<u32 as Deserialize<'de>>⟧.same v.0 w.0 };
 
     ghost grows = { ⊥ };
 
@@ -35,7 +31,7 @@ impl<'de> Deserialize<'de> for NewTypeStruct {
 
     ghost well_formed = { ⟦<u32 as Deserialize<'de>>⟧.well_formed };
 
-    ghost one_value = { told_by new_type_of (λ v. refl) };
+    ghost one_value = { λ t v w. ⟦<u32 as Deserialize<'de>>⟧.one_value t v.0 w.0 };
 
     fn deserialize<F: Source>(alloc: Global, d: &mut Deserializer<'de, F>) -> Result<Self> {
         let content = d.deserialize_newtype_struct(alloc, "NewTypeStruct")?;
@@ -85,9 +81,9 @@ impl Serialize for TupleStruct {
 impl<'de> Deserialize<'de> for TupleStruct {
     ghost reads = { ⟦<Parts as Deserialize<'de>>⟧.reads };
 
-    ghost value = { λ t v. t ≡ ⟦<TupleStruct as Serialize>⟧.tree v };
+    ghost value = { λ t v. ⟦<Parts as Deserialize<'de>>⟧.value t v.0 };
 
-    ghost same = { λ v w. v ≡ w };
+    ghost same = { λ v w. ⟦<Parts as Deserialize<'de>>⟧.same v.0 w.0 };
 
     ghost grows = { ⊥ };
 
@@ -95,7 +91,7 @@ impl<'de> Deserialize<'de> for TupleStruct {
 
     ghost well_formed = { ⟦<Parts as Deserialize<'de>>⟧.well_formed };
 
-    ghost one_value = { told_by tuple_of (λ v. refl) };
+    ghost one_value = { λ t v w. ⟦<Parts as Deserialize<'de>>⟧.one_value t v.0 w.0 };
 
     fn deserialize<F: Source>(alloc: Global, d: &mut Deserializer<'de, F>) -> Result<Self> {
         let content = d.deserialize_newtype_struct(alloc, "TupleStruct")?;
@@ -131,7 +127,7 @@ impl DeserializeOwned for TupleStruct {
 pub struct DualTupleStruct(pub u8, pub u16);
 
 impl Serialize for DualTupleStruct {
-    ghost tree = { λ v. Group (trees (⟦<u8 as Serialize>⟧.tree v.0 ∷ ⟦<u16 as Serialize>⟧.tree v.1 ∷ [])) };
+    ghost tree = { λ v. ⟦<Parts as Serialize>⟧.tree (v.0, v.1) };
 
     fn serialize<F: Flavor>(&self, serializer: &mut Serializer<F>) -> Result<()> {
         serializer.serialize_tuple_struct("DualTupleStruct", 2)?;
@@ -145,9 +141,9 @@ impl Serialize for DualTupleStruct {
 impl<'de> Deserialize<'de> for DualTupleStruct {
     ghost reads = { ⟦<Parts as Deserialize<'de>>⟧.reads };
 
-    ghost value = { λ t v. t ≡ ⟦<DualTupleStruct as Serialize>⟧.tree v };
+    ghost value = { λ t v. ⟦<Parts as Deserialize<'de>>⟧.value t (v.0, v.1) };
 
-    ghost same = { λ v w. v ≡ w };
+    ghost same = { λ v w. ⟦<Parts as Deserialize<'de>>⟧.same (v.0, v.1) (w.0, w.1) };
 
     ghost grows = { ⊥ };
 
@@ -155,7 +151,7 @@ impl<'de> Deserialize<'de> for DualTupleStruct {
 
     ghost well_formed = { ⟦<Parts as Deserialize<'de>>⟧.well_formed };
 
-    ghost one_value = { told_by dual_of (λ v. refl) };
+    ghost one_value = { λ t v w. ⟦<Parts as Deserialize<'de>>⟧.one_value t (v.0, v.1) (w.0, w.1) };
 
     fn deserialize<F: Source>(alloc: Global, d: &mut Deserializer<'de, F>) -> Result<Self> {
         let (first, second): Parts = Deserialize::deserialize(alloc, d)?;

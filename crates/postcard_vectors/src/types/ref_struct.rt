@@ -1,9 +1,5 @@
 //! A struct with borrowed fields: both are lent from the input when it is read.
 
-ghost use Rattle.std.specs.Prelude.{◌≡◌, [], ◌∷◌};
-ghost use Rattle.postcard_wire.specs.Tree.{Group, trees};
-ghost use Rattle.postcard_vectors.specs.Told.{ref_struct_one};
-
 use postcard::de_flavors::Flavor as Source;
 use postcard::ser_flavors::Flavor;
 use postcard::{Deserialize, Deserializer, Result, Serialize, Serializer};
@@ -22,8 +18,7 @@ pub struct RefStruct<'a> {
 }
 
 impl Serialize for RefStruct<'_> {
-    ghost tree = { λ v. Group (trees (⟦<&'static [u8] as Serialize>⟧.tree v.bytes
-        ∷ ⟦<&'static str as Serialize>⟧.tree v.str_s ∷ [])) };
+    ghost tree = { λ v. ⟦<RefFields<'static> as Serialize>⟧.tree (v.bytes, v.str_s) };
 
     fn serialize<F: Flavor>(&self, serializer: &mut Serializer<F>) -> Result<()> {
         serializer.serialize_struct("RefStruct", 2)?;
@@ -37,9 +32,9 @@ impl Serialize for RefStruct<'_> {
 impl<'de> Deserialize<'de> for RefStruct<'de> {
     ghost reads = { ⟦<RefFields<'de> as Deserialize<'de>>⟧.reads };
 
-    ghost value = { λ t v. t ≡ ⟦<RefStruct<'de> as Serialize>⟧.tree v };
+    ghost value = { λ t v. ⟦<RefFields<'de> as Deserialize<'de>>⟧.value t (v.bytes, v.str_s) };
 
-    ghost same = { λ v w. (v.bytes.now ≡ w.bytes.now) × (v.str_s.now ≡ w.str_s.now) };
+    ghost same = { λ v w. ⟦<RefFields<'de> as Deserialize<'de>>⟧.same (v.bytes, v.str_s) (w.bytes, w.str_s) };
 
     ghost grows = { ⊥ };
 
@@ -47,7 +42,7 @@ impl<'de> Deserialize<'de> for RefStruct<'de> {
 
     ghost well_formed = { ⟦<RefFields<'de> as Deserialize<'de>>⟧.well_formed };
 
-    ghost one_value = { ref_struct_one };
+    ghost one_value = { λ t v w. ⟦<RefFields<'de> as Deserialize<'de>>⟧.one_value t (v.bytes, v.str_s) (w.bytes, w.str_s) };
 
     fn deserialize<F: Source>(alloc: Global, d: &mut Deserializer<'de, F>) -> Result<Self> {
         let (bytes, str_s): RefFields<'de> = Deserialize::deserialize(alloc, d)?;

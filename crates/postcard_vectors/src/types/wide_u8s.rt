@@ -1,9 +1,5 @@
 //! A struct with a number of each unsigned width.
 
-ghost use Rattle.std.specs.Prelude.{◌≡◌, [], ◌∷◌, refl};
-ghost use Rattle.postcard_wire.specs.Tree.{Group, trees};
-ghost use Rattle.postcard_vectors.specs.Told.{told_by, wide_u8s_of};
-
 use postcard::de_flavors::Flavor as Source;
 use postcard::ser_flavors::Flavor;
 use postcard::{Deserialize, DeserializeOwned, Deserializer, Result, Serialize, Serializer};
@@ -28,8 +24,7 @@ pub struct WideU8S {
 }
 
 impl Serialize for WideU8S {
-    ghost tree = { λ v. Group (trees (⟦<u16 as Serialize>⟧.tree v.st ∷ ⟦<u8 as Serialize>⟧.tree v.ei
-        ∷ ⟦<u128 as Serialize>⟧.tree v.ote ∷ ⟦<u64 as Serialize>⟧.tree v.sf ∷ ⟦<u32 as Serialize>⟧.tree v.tt ∷ [])) };
+    ghost tree = { λ v. ⟦<WideFields as Serialize>⟧.tree (v.st, v.ei, v.ote, v.sf, v.tt) };
 
     fn serialize<F: Flavor>(&self, serializer: &mut Serializer<F>) -> Result<()> {
         serializer.serialize_struct("WideU8S", 5)?;
@@ -46,9 +41,9 @@ impl Serialize for WideU8S {
 impl<'de> Deserialize<'de> for WideU8S {
     ghost reads = { ⟦<WideFields as Deserialize<'de>>⟧.reads };
 
-    ghost value = { λ t v. t ≡ ⟦<WideU8S as Serialize>⟧.tree v };
+    ghost value = { λ t v. ⟦<WideFields as Deserialize<'de>>⟧.value t (v.st, v.ei, v.ote, v.sf, v.tt) };
 
-    ghost same = { λ v w. v ≡ w };
+    ghost same = { λ v w. ⟦<WideFields as Deserialize<'de>>⟧.same (v.st, v.ei, v.ote, v.sf, v.tt) (w.st, w.ei, w.ote, w.sf, w.tt) };
 
     ghost grows = { ⊥ };
 
@@ -56,7 +51,7 @@ impl<'de> Deserialize<'de> for WideU8S {
 
     ghost well_formed = { ⟦<WideFields as Deserialize<'de>>⟧.well_formed };
 
-    ghost one_value = { told_by wide_u8s_of (λ v. refl) };
+    ghost one_value = { λ t v w. ⟦<WideFields as Deserialize<'de>>⟧.one_value t (v.st, v.ei, v.ote, v.sf, v.tt) (w.st, w.ei, w.ote, w.sf, w.tt) };
 
     fn deserialize<F: Source>(alloc: Global, d: &mut Deserializer<'de, F>) -> Result<Self> {
         let (st, ei, ote, sf, tt): WideFields = Deserialize::deserialize(alloc, d)?;

@@ -42,7 +42,7 @@ pub returns-in_err-newtype_variant-in-3 : goal.returns-in_err-newtype_variant-in
 returns-in_err-newtype_variant-in-3 g c = content_refused g.F.Flavor.lawful (λ h. h) c.from_residual-in_err-newtype_variant-in-3.ensures.1 (rw c.in-3.is at c.in_ok-deserialize_enum.ensures.reads) c.in_err-newtype_variant-in-3.ensures
 
 pub returns-in_ok-newtype_variant-in-3 : goal.returns-in_ok-newtype_variant-in-3
-returns-in_ok-newtype_variant-in-3 g c = variant_read g.F.Flavor.lawful (λ t h. ap (λ s. Variant 3 s) h) (rw c.in-3.is at c.in_ok-deserialize_enum.ensures.reads) c.in_ok-newtype_variant-in-3.ensures
+returns-in_ok-newtype_variant-in-3 g c = variant_read g.F.Flavor.lawful (λ t h. ap (λ s. Variant 3 s) (pair_is t h)) (rw c.in-3.is at c.in_ok-deserialize_enum.ensures.reads) c.in_ok-newtype_variant-in-3.ensures
 
 pub returns-in_err-a-in-4 : goal.returns-in_err-a-in-4
 returns-in_err-a-in-4 g c = content_refused g.F.Flavor.lawful neither_grows c.from_residual-in_err-a-in-4.ensures.1 (rw c.in-4.is at c.in_ok-deserialize_enum.ensures.reads) c.in_err-a-in-4.ensures
