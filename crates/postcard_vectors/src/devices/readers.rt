@@ -1,8 +1,8 @@
 //! Readers for tests: one that gives its bytes in stated pieces, and one that fails at a stated call.
 
-ghost use Rattle.std.specs.Prelude.{◌≡◌, ◌+◌, ◌-◌, ◌^◌, ◌≤◌, ◌<◌, ◌++◌, [], length, min, take, Some, IfOk, IsOk, IsErr, OnOk, ⊤};
+ghost use Rattle.std.specs.Prelude.{◌≡◌, ◌+◌, ◌-◌, ◌^◌, ◌≤◌, ◌<◌, ◌++◌, [], length, min, take, Some, IsOk, IsErr, ⊤};
 ghost use Rattle.std.specs.Io.{ReadsAtMost};
-ghost use Rattle.std.specs.Io.KnownBytes.{Consumes, ReadConsumes};
+ghost use Rattle.std.specs.Io.KnownBytes.{ReadConsumes};
 
 use postcard::de_flavors::Source;
 use std::io;
@@ -20,7 +20,9 @@ pub struct Pieces<'a> {
 impl<'a> Pieces<'a> {
     /// A reader of `bytes` in pieces of `lengths`.
     pub fn new(bytes: &'a [u8], lengths: &'a [usize]) -> Pieces<'a>
-        ensures { result.bytes.now ≡ bytes.now }
+        ensures bytes { result.bytes.now ≡ bytes.now }
+        ensures lengths { result.lengths.now ≡ lengths.now }
+        ensures begins { result.place ≡ 0 }
     {
         Pieces {
             bytes,

@@ -32,7 +32,7 @@ fn assert_unread<R: Source>(rt: &impl Abort, reader: R, unread: &[u8]) {
     assert_eq!(rt; rest.pop(), Err(Error::DeserializeUnexpectedEnd));
 }
 
-/// Texts are lent from a scratch that is long enough for all of them.
+/// Texts are lent from a scratch that is long enough for all of them. What is left of it is answered.
 fn lends_texts<'b, R: Source + 'b, F: Fn(&'b [u8]) -> R>(
     rt: &(impl Abort + AllocGlobal),
     over: &F,
@@ -104,7 +104,7 @@ fn copies_texts<'b, R: Source + 'b, F: Fn(&'b [u8]) -> R>(
     }
 }
 
-/// Bytes taken for good and for a while: with enough of all, too short an input, too short a scratch, and no scratch.
+/// Bytes taken for good until too few are left, and single bytes with no scratch.
 fn takes<'b, R: Source + 'b, F: Fn(&'b [u8]) -> R>(rt: &impl Abort, over: &F) -> Result<(), Fail>
     requires { F.IsAlwaysCallable over.now }
 {

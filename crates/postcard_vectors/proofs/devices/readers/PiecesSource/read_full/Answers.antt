@@ -1,4 +1,4 @@
-use Rattle.std.proofs.Common.{rules, ◌-◌, ◌≤◌, ◌++◌, length, take, sym, ap, ◌∙◌, append_assoc}
+use Rattle.std.proofs.Common.{rules, ◌-◌, ◌++◌, length, take, sym, ap, ◌∙◌, append_assoc}
 use Rattle.postcard_vectors.proofs.Filled.{front_filled}
 use Rattle.postcard_vectors.proofs.devices.readers.PiecesSource.read_full.Goals as goal
 
