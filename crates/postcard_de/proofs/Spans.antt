@@ -1,4 +1,4 @@
--- Numbers without 0, and spans of time, of numbers that were read.
+-- What the error of a value that a type refuses is not.
 use Rattle.std.proofs.Common.{◌≢◌}
 use Rattle.postcard_wire.specs.declared.error.Error.TheVariants.{OutOfMemory, DeserializeBadEncoding, SerdeDeCustom}
 
