@@ -1,3 +1,4 @@
 pub mod Told
 pub mod Basic
 pub mod Data
+pub mod Lengths

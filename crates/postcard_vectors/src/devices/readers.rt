@@ -1,6 +1,7 @@
 //! Readers for tests: one that gives its bytes in stated pieces, and one that fails at a stated call.
 
-ghost use Rattle.std.specs.Prelude.{◌≡◌, ◌+◌, ◌-◌, ◌^◌, ◌≤◌, ◌<◌, ◌++◌, [], length, min, take, Some, IsOk, IsErr, ⊤};
+ghost use Rattle.std.specs.Prelude.{◌≡◌, ◌+◌, ◌-◌, ◌^◌, ◌≤◌, ◌<◌, ◌++◌, [], length, min, take, Ok, Some, IsErr, ⊤};
+ghost use Rattle.postcard_vectors.specs.Lengths.{turn, piece_length};
 ghost use Rattle.std.specs.Io.{ReadsAtMost};
 ghost use Rattle.std.specs.Io.KnownBytes.{ReadConsumes};
 
@@ -38,24 +39,28 @@ impl<'a> Pieces<'a> {
         self.bytes
     }
 
-    /// How many bytes the next read gives at most: one or more.
+    /// How many bytes the next read gives at most.
     fn next_length(&mut self) -> usize
-        ensures some { 0 < result }
-        ensures moves_nothing { self.new.bytes ≡ self.old.bytes }
+        ensures stated { result ≡ piece_length self.old.lengths.now self.old.place }
+        ensures turns { self.new.place ≡ turn self.old.lengths.now self.old.place + 1 }
+        ensures keeps { (self.new.bytes ≡ self.old.bytes) × (self.new.lengths ≡ self.old.lengths) }
     {
         if self.place >= self.lengths.len() {
             self.place = 0;
         }
         let length = self.lengths.get(self.place).copied().unwrap_or(1);
-        self.place = self.place.saturating_add(1);
+        self.place += 1;
         length.max(1)
     }
 
     /// Moves the next piece, or as much of it as there is and fits, into the front of `buf`, and answers its length.
     fn give(&mut self, buf: &mut [u8]) -> usize
+        ensures counts { result ≡ min (min (piece_length self.old.lengths.now self.old.place) (length buf.old)) (length self.old.bytes.now) }
         ensures moves { self.old.bytes.now ≡ take result buf.new ++ self.new.bytes.now }
         ensures fits { result ≤ length buf.new }
         ensures ends { result ≡ 0 → 0 < length buf.old → self.new.bytes.now ≡ [] }
+        ensures turns { self.new.place ≡ turn self.old.lengths.now self.old.place + 1 }
+        ensures keeps { self.new.lengths ≡ self.old.lengths }
     {
         let count = self.next_length().min(buf.len()).min(self.bytes.len());
         let (piece, rest) = self.bytes.split_at(count);
@@ -71,7 +76,8 @@ impl Read for Pieces<'_> {
     fn read(&mut self, buf: &mut [u8]) -> io::Result<usize>
         ensures bound { ReadsAtMost result buf.new }
         ensures bytes { ReadConsumes (Some self.old.bytes.now) (Some self.new.bytes.now) result buf.new }
-        ensures succeeds { IsOk result }
+        ensures gives { result ≡ Ok (min (min (piece_length self.old.lengths.now self.old.place) (length buf.old)) (length self.old.bytes.now)) }
+        ensures turns { self.new.place ≡ turn self.old.lengths.now self.old.place + 1 }
     {
         Ok(self.give(buf))
     }
