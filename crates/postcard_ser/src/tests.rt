@@ -5,7 +5,6 @@ ghost use Rattle.postcard_wire.specs.Tree.{Byte, Group, Seq, trees};
 
 mod calls;
 mod printed;
-mod users;
 mod values;
 
 use crate::serialize::Serialize;
