@@ -5,7 +5,8 @@
 //! spells a tree that the type reads, that such a front is always read if the source can give it, what is left, and which
 //! errors never come. Every `deserialize_*` has the same clause, and beside it `refused`, the exact reason of a refusal.
 //!
-//! A type of one's own says its trees by `IsGroup`, `IsThen` and `IsEnd` (a struct) or `IsVariant` (an enum), its values by
+//! A struct is read as the tuple of its fields, and says its trees and values by quotes at that tuple, with no proof of its own. Any
+//! other type of one's own says its trees by `IsGroup`, `IsThen` and `IsEnd` (a struct) or `IsVariant` (an enum), its values by
 //! the same words over its fields, and is proved by the lemmas of `proofs/Parts.antt` and `proofs/Enums.antt`: one citation
 //! for each exit of `?`, as `struct_fails laws .. (and_fails laws FIRST (stops laws SECOND))`, and
 //! `struct_read laws (λ t h. h) (and_part laws FIRST (and_part laws SECOND (no_more laws)))` where all was read.

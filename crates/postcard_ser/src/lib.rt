@@ -13,8 +13,6 @@
 //!   print.
 //! - `serialize`: the trait of all types that are written.
 //! - `values`: the types of std and of `arrayvec` that are written.
-//! - `tests/users`, among the tests: worked examples of a user's types, a struct with borrowed fields
-//!   and enums with content and without.
 #![tactic(auto)]
 
 mod collect_str;
