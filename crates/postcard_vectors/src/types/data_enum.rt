@@ -1,4 +1,7 @@
 //! An enum with content of every kind, and the struct that one of its variants holds.
+//!
+//! The enum's impl of `Serialize` says the tree of each variant. `DataContent` of `specs/Data.antt` says what is read at each
+//! index; the value that is read is the one whose tree it is.
 
 ghost use Rattle.std.specs.Prelude.{◌≡◌};
 ghost use Rattle.postcard_wire.specs.Tree.{Variant};

@@ -1,4 +1,7 @@
 //! A struct with borrowed fields: both are lent from the input when it is read.
+//!
+//! On the wire it is the tuple of its fields. So the two impls name that tuple's members: its tree, the set of trees that it
+//! reads with their values, and the laws of that set.
 
 use postcard::de_flavors::Flavor as Source;
 use postcard::ser_flavors::Flavor;
@@ -17,6 +20,7 @@ pub struct RefStruct<'a> {
     pub str_s: &'a str,
 }
 
+/// It is written as the tuple of its fields, without their names.
 impl Serialize for RefStruct<'_> {
     ghost tree = { λ v. ⟦<RefFields<'static> as Serialize>⟧.tree (v.bytes, v.str_s) };
 
