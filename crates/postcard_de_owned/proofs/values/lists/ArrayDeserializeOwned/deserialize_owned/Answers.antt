@@ -1,4 +1,4 @@
-use Rattle.std.proofs.Common.{◌≡◌, ℕ, suc, ◌≤◌, ◌<◌, ◌-◌, ◌+◌, List, length, take, arith, add-one}
+use Rattle.std.proofs.Common.{◌≡◌, suc, ◌<◌, ◌-◌, ◌+◌, length, take, arith, add-one}
 use Rattle.std.proofs.Math.ListN.{length-set}
 use Rattle.std.proofs.Math.Seq.{take-suc-set}
 use Rattle.std.proofs.lemmas.List.{take_all, length-replicate}

@@ -1,4 +1,4 @@
-use Rattle.std.proofs.Common.{◌≡◌, ℕ, ◌-◌, length, take}
+use Rattle.std.proofs.Common.{◌≡◌, ◌-◌, length, take}
 use Rattle.postcard_de.specs.Deserializer.{source_of}
 use Rattle.postcard_de.proofs.Lists.{Going}
 use Rattle.postcard_de_owned.proofs.values.lists.ArrayDeserializeOwned.deserialize_owned.Given as goal

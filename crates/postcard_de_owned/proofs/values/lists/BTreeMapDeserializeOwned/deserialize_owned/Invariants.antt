@@ -1,4 +1,4 @@
-use Rattle.std.proofs.Common.{◌≡◌, ℕ, List, []}
+use Rattle.std.proofs.Common.{◌≡◌, List, []}
 use Rattle.std.specs.Prelude.{⊤}
 use Rattle.postcard_de.specs.Deserializer.{source_of}
 use Rattle.postcard_de.specs.Maps.{IsEntry, EntryIs, inserted}
