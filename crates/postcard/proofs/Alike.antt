@@ -4,7 +4,7 @@ use Rattle.std.specs.Io.KnownBytes.{Consumes}
 use Rattle.std.proofs.lemmas.List.{append_cancel_left}
 use Rattle.postcard_wire.specs.Tree.{Tree}
 use Rattle.postcard_wire.specs.Reading.{IsDelimited}
-use Rattle.postcard_de.specs.Same.{HasOne}
+use Rattle.postcard_shape.specs.Same.{HasOne}
 use Rattle.postcard.specs.Front.{ReadsFront}
 
 pub fronts_alike : {V : Type 0} {reads : Tree → Type 0} {value : Tree → V → Type 0} {same : V → V → Type 0} {all rest left : List ℕ} {v w : V}

@@ -8,7 +8,7 @@ use Rattle.postcard_wire.specs.Reading.{IsByte, Each}
 use Rattle.postcard_wire.proofs.Delimited.{same_front}
 use Rattle.postcard_de_flavors.specs.Source.{Takes, Laws}
 use Rattle.postcard_de.specs.Reads.{Reads}
-use Rattle.postcard_de.specs.Values.{EachIs, AreRead}
+use Rattle.postcard_shape.specs.Values.{EachIs, AreRead}
 use Rattle.postcard_de.proofs.Taking.{faces}
 use Rattle.postcard_de.proofs.Leaves.{refusal}
 

@@ -14,7 +14,7 @@ use Rattle.postcard_de_flavors.specs.Source.{Takes, Laws}
 use Rattle.postcard_de.specs.Reads.{Reads}
 use Rattle.postcard_de.specs.Refuses.{Refuses, WantsDigit, BadNumber}
 use Rattle.postcard_de.specs.Unfit.{WantsChar, BadChar}
-use Rattle.postcard_de.specs.Values.{Same}
+use Rattle.postcard_shape.specs.Values.{Same}
 use Rattle.postcard_de.proofs.Taking.{both_taken}
 use Rattle.postcard_de.proofs.Leaves.{Excludes, found, refused, refusal, widened, behind_front}
 use Rattle.postcard_de.proofs.Numbers.{Below, number_spelled}

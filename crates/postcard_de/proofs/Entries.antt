@@ -10,9 +10,9 @@ use Rattle.postcard_wire.specs.Spelling.{Spells, SpellsAll}
 use Rattle.postcard_wire.specs.Reading.{IsGroup, IsArray}
 use Rattle.postcard_de_flavors.specs.Source.{Laws}
 use Rattle.postcard_de.specs.Reads.{Reads}
-use Rattle.postcard_de.specs.Values.{Same, EachIs, ListIs, AreRead}
-use Rattle.postcard_de.specs.Maps.{IsEntry, EntryIs, inserted}
-use Rattle.postcard_de.specs.Fixed.{IsFewSeq}
+use Rattle.postcard_shape.specs.Values.{Same, EachIs, ListIs, AreRead}
+use Rattle.postcard_shape.specs.Maps.{IsEntry, EntryIs, inserted}
+use Rattle.postcard_shape.specs.Fixed.{IsFewSeq}
 use Rattle.postcard_de.proofs.Leaves.{refusal}
 use Rattle.postcard_de.proofs.Numbers.{Below}
 use Rattle.postcard_de.proofs.Compound.{Compound, first_refused, second_refused, both_read}

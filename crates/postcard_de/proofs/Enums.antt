@@ -8,8 +8,8 @@ use Rattle.postcard_wire.specs.Spelling.{Spells}
 use Rattle.postcard_wire.specs.Reading.{IsVariant}
 use Rattle.postcard_de_flavors.specs.Source.{Laws}
 use Rattle.postcard_de.specs.Reads.{Reads}
-use Rattle.postcard_de.specs.Values.{Same}
-use Rattle.postcard_de.specs.Options.{ResultReads}
+use Rattle.postcard_shape.specs.Values.{Same}
+use Rattle.postcard_shape.specs.Options.{ResultReads}
 use Rattle.postcard_de.proofs.Leaves.{refusal, is_refusal}
 use Rattle.postcard_de.proofs.Numbers.{Below}
 use Rattle.postcard_de.proofs.Sift.{none_follows}

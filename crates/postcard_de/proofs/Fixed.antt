@@ -9,9 +9,9 @@ use Rattle.postcard_de_flavors.specs.Source.{Takes, Laws}
 use Rattle.postcard_de.specs.Reads.{Reads}
 use Rattle.postcard_de.specs.Refuses.{Refuses, WantsText}
 use Rattle.postcard_de.specs.Unfit.{BadBytes}
-use Rattle.postcard_de.specs.Fixed.{IsShortText}
-use Rattle.postcard_de.specs.One.{text_same}
-use Rattle.postcard_de.specs.Values.{Same}
+use Rattle.postcard_shape.specs.Fixed.{IsShortText}
+use Rattle.postcard_shape.specs.One.{text_same}
+use Rattle.postcard_shape.specs.Values.{Same}
 use Rattle.postcard_de.proofs.Taking.{both_taken}
 use Rattle.postcard_de.proofs.Numbers.{Below, number_spelled}
 

@@ -8,7 +8,7 @@ use Rattle.postcard_wire.specs.Spelling.{Spells, SpellsAll}
 use Rattle.postcard_wire.specs.Reading.{IsSeq}
 use Rattle.postcard_de_flavors.specs.Source.{CanTake, Takes, Laws}
 use Rattle.postcard_de.specs.Reads.{Reads}
-use Rattle.postcard_de.specs.Values.{Same, EachIs, ListIs, SomeIs, AreRead}
+use Rattle.postcard_shape.specs.Values.{Same, EachIs, ListIs, SomeIs, AreRead}
 use Rattle.postcard_de.proofs.Taking.{nothing_taken, can_first}
 use Rattle.postcard_de.proofs.Leaves.{refusal, out_of_memory}
 use Rattle.postcard_de.proofs.Numbers.{Below}

@@ -14,7 +14,7 @@ use Rattle.postcard_wire.proofs.Ranged.{zig_below, in_range}
 use Rattle.postcard_de_flavors.specs.Source.{Takes, Laws}
 use Rattle.postcard_de.specs.Reads.{Reads}
 use Rattle.postcard_de.specs.Refuses.{Refuses, WantsDigit, BadNumber}
-use Rattle.postcard_de.specs.Values.{Same}
+use Rattle.postcard_shape.specs.Values.{Same}
 use Rattle.postcard_de.proofs.Taking.{nothing_taken, both_taken}
 use Rattle.postcard_de.proofs.Leaves.{Delimits, Excludes, found, refused, refusal}
 

@@ -8,7 +8,7 @@ use Rattle.postcard_de_flavors.specs.Source.{CanTake, Takes, Laws}
 use Rattle.postcard_de.specs.Reads.{Reads}
 use Rattle.postcard_de.specs.Refuses.{WantsByte}
 use Rattle.postcard_de.specs.Unfit.{NotABit, BadBool, BadOption}
-use Rattle.postcard_de.specs.Options.{OptionIs}
+use Rattle.postcard_shape.specs.Options.{OptionIs}
 use Rattle.postcard_de.proofs.Taking.{both_taken, faces, can_second}
 use Rattle.postcard_de.proofs.Leaves.{Excludes}
 

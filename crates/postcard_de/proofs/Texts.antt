@@ -13,7 +13,7 @@ use Rattle.std.proofs.lemmas.List.{append_cancel_left}
 use Rattle.postcard_de_flavors.specs.Source.{Takes, Laws}
 use Rattle.postcard_de.specs.Reads.{Reads}
 use Rattle.postcard_de.specs.Refuses.{Refuses, WantsDigit, BadNumber, WantsText, BadText}
-use Rattle.postcard_de.specs.Values.{Same}
+use Rattle.postcard_shape.specs.Values.{Same}
 use Rattle.postcard_de.proofs.Taking.{both_taken}
 use Rattle.postcard_de.proofs.Leaves.{Excludes, found, refused, refusal, widened, behind_front}
 use Rattle.postcard_de.proofs.Numbers.{Below, number_below, number_spelled}

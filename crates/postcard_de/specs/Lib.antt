@@ -1,12 +1,4 @@
 pub mod Reads
 pub mod Refuses
-pub mod Values
-pub mod Same
 pub mod Deserializer
-pub mod One
-pub mod Parts
-pub mod Options
 pub mod Unfit
-pub mod Numbers
-pub mod Maps
-pub mod Fixed

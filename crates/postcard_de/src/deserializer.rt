@@ -8,7 +8,7 @@ ghost use Rattle.postcard_wire.specs.Spelling.{Spells};
 ghost use Rattle.postcard_wire.specs.Reading.{IsByte, IsNum, IsInt, IsText};
 ghost use Rattle.postcard_de.specs.Reads.{Reads};
 ghost use Rattle.postcard_de.specs.Refuses.{Refuses, WantsByte, NoneBad, WantsDigit, BadNumber, WantsText, BadText};
-ghost use Rattle.postcard_de.specs.Values.{Same};
+ghost use Rattle.postcard_shape.specs.Values.{Same};
 ghost use Rattle.postcard_de.specs.Deserializer.{source_of};
 
 pub mod bytes;

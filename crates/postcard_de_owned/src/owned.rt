@@ -4,7 +4,7 @@ ghost use Rattle.postcard_wire.specs.Tree.{Tree};
 ghost use Rattle.postcard_wire.specs.Spelling.{Spells};
 ghost use Rattle.postcard_wire.specs.Reading.{IsDelimited, ReadsWellFormed};
 ghost use Rattle.postcard_de.specs.Reads.{Reads};
-ghost use Rattle.postcard_de.specs.Same.{HasOne};
+ghost use Rattle.postcard_shape.specs.Same.{HasOne};
 ghost use Rattle.postcard_de.specs.Deserializer.{source_of};
 
 use postcard_de::{Deserialize, Deserializer, Flavor, Result};

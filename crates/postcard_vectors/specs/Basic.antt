@@ -5,7 +5,7 @@ use Rattle.postcard_wire.specs.Tree.{Tree, Variant}
 use Rattle.postcard_wire.specs.Reading.{IsDelimited, ReadsWellFormed, IsEnd, IsGroup}
 use Rattle.postcard_wire.proofs.Delimited.{end_delimited, group_delimited, none_delimited}
 use Rattle.postcard_wire.proofs.WellFormed.{end_well_formed, group_well_formed}
-use Rattle.postcard_ser.specs.Compound.{unit_variant}
+use Rattle.postcard_shape.specs.Compound.{unit_variant}
 use Rattle.postcard_vectors.specs.declared.types.basic_enum.BasicEnum.{BasicEnum}
 use Rattle.postcard_vectors.specs.declared.types.basic_enum.BasicEnum.TheVariants.{Bib, Bim, Bap}
 

@@ -2,7 +2,7 @@
 use Rattle.std.specs.Prelude.{◌≡◌}
 use Rattle.std.proofs.Common.{sym, ◌∙◌, ap}
 use Rattle.postcard_wire.specs.Tree.{Tree}
-use Rattle.postcard_de.specs.Same.{HasOne}
+use Rattle.postcard_shape.specs.Same.{HasOne}
 
 -- Where the value that a tree is of can be found from it, there is no other.
 pub told_by : {V : Type 0} {tree : V → Tree} (of : Tree → V) → ((v : V) → of (tree v) ≡ v) → HasOne (λ t v. t ≡ tree v) (λ v w. v ≡ w)

@@ -7,8 +7,8 @@ ghost use Rattle.postcard_wire.specs.Reading.{IsByte, IsChar, IsSeq};
 ghost use Rattle.postcard_de.specs.Reads.{Reads};
 ghost use Rattle.postcard_de.specs.Refuses.{Refuses, BadNumber, WantsText};
 ghost use Rattle.postcard_de.specs.Unfit.{WantsChar, BadChar, BadBytes};
-ghost use Rattle.postcard_de.specs.Values.{ListIs};
-ghost use Rattle.postcard_de.specs.Fixed.{IsShortText};
+ghost use Rattle.postcard_shape.specs.Values.{ListIs};
+ghost use Rattle.postcard_shape.specs.Fixed.{IsShortText};
 ghost use Rattle.postcard_de.specs.Deserializer.{source_of};
 
 use crate::deserializer::Deserializer;

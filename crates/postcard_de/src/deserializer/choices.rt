@@ -8,8 +8,8 @@ ghost use Rattle.postcard_wire.specs.Reading.{IsBoolean, IsOption};
 ghost use Rattle.postcard_de.specs.Reads.{Reads};
 ghost use Rattle.postcard_de.specs.Refuses.{Refuses, WantsByte, WantsDigit, BadNumber};
 ghost use Rattle.postcard_de.specs.Unfit.{BadBool, BadOption, ContentRefuses};
-ghost use Rattle.postcard_de.specs.Options.{OptionIs};
-ghost use Rattle.postcard_de.specs.Values.{Same};
+ghost use Rattle.postcard_shape.specs.Options.{OptionIs};
+ghost use Rattle.postcard_shape.specs.Values.{Same};
 ghost use Rattle.postcard_de.specs.Deserializer.{source_of};
 
 use crate::access::SeqAccess;

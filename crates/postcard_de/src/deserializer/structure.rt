@@ -6,7 +6,7 @@ ghost use Rattle.postcard_wire.specs.Spelling.{Spells};
 ghost use Rattle.postcard_wire.specs.Reading.{IsEnd, IsGroup};
 ghost use Rattle.postcard_de.specs.Reads.{Reads};
 ghost use Rattle.postcard_de.specs.Refuses.{Refuses, WantsDigit, BadNumber};
-ghost use Rattle.postcard_de.specs.Values.{Same};
+ghost use Rattle.postcard_shape.specs.Values.{Same};
 ghost use Rattle.postcard_de.specs.Deserializer.{source_of};
 
 use crate::access::SeqAccess;

@@ -3,10 +3,10 @@
 ghost use Rattle.postcard_wire.specs.Reading.{IsGroup, IsArray};
 ghost use Rattle.postcard_wire.proofs.Delimited.{array_delimited, seq_delimited, fewer_delimited};
 ghost use Rattle.postcard_wire.proofs.WellFormed.{array_well_formed, seq_well_formed};
-ghost use Rattle.postcard_de.specs.Values.{EachIs, ListIs};
-ghost use Rattle.postcard_de.specs.Same.{SameList, each_one, list_one};
-ghost use Rattle.postcard_de.specs.Parts.{group_one};
-ghost use Rattle.postcard_de.specs.Fixed.{IsFewSeq, few_seq_inside};
+ghost use Rattle.postcard_shape.specs.Values.{EachIs, ListIs};
+ghost use Rattle.postcard_shape.specs.Same.{SameList, each_one, list_one};
+ghost use Rattle.postcard_shape.specs.Parts.{group_one};
+ghost use Rattle.postcard_shape.specs.Fixed.{IsFewSeq, few_seq_inside};
 
 use crate::deserialize::Deserialize;
 use crate::deserializer::Deserializer;

@@ -6,11 +6,11 @@ ghost use Rattle.postcard_wire.specs.Tree.{Byte, Char, Text};
 ghost use Rattle.postcard_wire.specs.Reading.{IsByte, IsChar, IsSeq};
 ghost use Rattle.postcard_wire.proofs.Delimited.{byte_delimited, char_delimited, seq_delimited, text_delimited, fewer_delimited};
 ghost use Rattle.postcard_wire.proofs.WellFormed.{byte_well_formed, char_well_formed, seq_well_formed, text_well_formed};
-ghost use Rattle.postcard_de.specs.Values.{ListIs};
-ghost use Rattle.postcard_de.specs.Same.{SameList, list_one};
-ghost use Rattle.postcard_de.specs.One.{byte_one, text_one};
-ghost use Rattle.postcard_de.specs.Options.{char_one};
-ghost use Rattle.postcard_de.specs.Fixed.{IsShortText, short_text_inside};
+ghost use Rattle.postcard_shape.specs.Values.{ListIs};
+ghost use Rattle.postcard_shape.specs.Same.{SameList, list_one};
+ghost use Rattle.postcard_shape.specs.One.{byte_one, text_one};
+ghost use Rattle.postcard_shape.specs.Options.{char_one};
+ghost use Rattle.postcard_shape.specs.Fixed.{IsShortText, short_text_inside};
 
 use crate::deserialize::Deserialize;
 use crate::deserializer::Deserializer;

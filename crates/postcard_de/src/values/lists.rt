@@ -4,8 +4,8 @@ ghost use Rattle.std.specs.Prelude.{⊤};
 ghost use Rattle.postcard_wire.specs.Reading.{IsSeq};
 ghost use Rattle.postcard_wire.proofs.Delimited.{seq_delimited};
 ghost use Rattle.postcard_wire.proofs.WellFormed.{seq_well_formed};
-ghost use Rattle.postcard_de.specs.Values.{ListIs};
-ghost use Rattle.postcard_de.specs.Same.{SameList, list_one};
+ghost use Rattle.postcard_shape.specs.Values.{ListIs};
+ghost use Rattle.postcard_shape.specs.Same.{SameList, list_one};
 
 use crate::deserialize::Deserialize;
 use crate::deserializer::Deserializer;

@@ -4,7 +4,7 @@ ghost use Rattle.std.specs.Prelude.{⊤};
 ghost use Rattle.postcard_wire.specs.Reading.{IsSeq};
 ghost use Rattle.postcard_wire.proofs.Delimited.{seq_delimited, group_delimited, then_delimited, end_delimited};
 ghost use Rattle.postcard_wire.proofs.WellFormed.{seq_well_formed, group_well_formed, then_well_formed, end_well_formed};
-ghost use Rattle.postcard_de.specs.Maps.{IsEntry, MapIs, SameMap, map_one};
+ghost use Rattle.postcard_shape.specs.Maps.{IsEntry, MapIs, SameMap, map_one};
 
 use crate::deserialize::Deserialize;
 use crate::deserializer::Deserializer;

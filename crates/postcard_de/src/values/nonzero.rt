@@ -8,8 +8,8 @@ ghost use Rattle.postcard_wire.specs.Tree.{Byte, Num, Int};
 ghost use Rattle.postcard_wire.specs.Reading.{IsByte, IsNum, IsInt};
 ghost use Rattle.postcard_wire.proofs.Delimited.{byte_delimited, num_delimited, int_delimited};
 ghost use Rattle.postcard_wire.proofs.WellFormed.{byte_well_formed, num_well_formed, int_well_formed};
-ghost use Rattle.postcard_de.specs.Numbers.{Without, without_delimited, without_well_formed, node_one};
-ghost use Rattle.postcard_de.specs.One.{byte_same, num_same, int_same};
+ghost use Rattle.postcard_shape.specs.Numbers.{Without, without_delimited, without_well_formed, node_one};
+ghost use Rattle.postcard_shape.specs.One.{byte_same, num_same, int_same};
 
 use crate::deserialize::Deserialize;
 use crate::deserializer::Deserializer;

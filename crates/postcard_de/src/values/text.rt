@@ -6,7 +6,7 @@ ghost use Rattle.postcard_wire.specs.Tree.{Text};
 ghost use Rattle.postcard_wire.specs.Reading.{IsText};
 ghost use Rattle.postcard_wire.proofs.Delimited.{text_delimited};
 ghost use Rattle.postcard_wire.proofs.WellFormed.{text_well_formed};
-ghost use Rattle.postcard_de.specs.One.{text_one};
+ghost use Rattle.postcard_shape.specs.One.{text_one};
 
 use crate::deserialize::Deserialize;
 use crate::deserializer::Deserializer;

@@ -6,9 +6,9 @@ ghost use Rattle.postcard_wire.specs.Tree.{Char, Text};
 ghost use Rattle.postcard_wire.specs.Reading.{IsChar};
 ghost use Rattle.postcard_wire.proofs.Delimited.{char_delimited, text_delimited, fewer_delimited};
 ghost use Rattle.postcard_wire.proofs.WellFormed.{char_well_formed, text_well_formed};
-ghost use Rattle.postcard_de.specs.One.{text_one};
-ghost use Rattle.postcard_de.specs.Options.{char_one};
-ghost use Rattle.postcard_de.specs.Fixed.{IsShortText, short_text_inside};
+ghost use Rattle.postcard_shape.specs.One.{text_one};
+ghost use Rattle.postcard_shape.specs.Options.{char_one};
+ghost use Rattle.postcard_shape.specs.Fixed.{IsShortText, short_text_inside};
 
 use crate::owned::DeserializeOwned;
 use arrayvec::ArrayString;

@@ -4,11 +4,11 @@ ghost use Rattle.std.specs.Prelude.{⊤};
 ghost use Rattle.postcard_wire.specs.Reading.{IsGroup, IsSeq, IsArray};
 ghost use Rattle.postcard_wire.proofs.Delimited.{seq_delimited, array_delimited, group_delimited, then_delimited, end_delimited, fewer_delimited};
 ghost use Rattle.postcard_wire.proofs.WellFormed.{seq_well_formed, array_well_formed, group_well_formed, then_well_formed, end_well_formed};
-ghost use Rattle.postcard_de.specs.Values.{EachIs, ListIs};
-ghost use Rattle.postcard_de.specs.Same.{SameList, each_one, list_one};
-ghost use Rattle.postcard_de.specs.Parts.{group_one};
-ghost use Rattle.postcard_de.specs.Maps.{IsEntry, MapIs, SameMap, map_one};
-ghost use Rattle.postcard_de.specs.Fixed.{IsFewSeq, few_seq_inside};
+ghost use Rattle.postcard_shape.specs.Values.{EachIs, ListIs};
+ghost use Rattle.postcard_shape.specs.Same.{SameList, each_one, list_one};
+ghost use Rattle.postcard_shape.specs.Parts.{group_one};
+ghost use Rattle.postcard_shape.specs.Maps.{IsEntry, MapIs, SameMap, map_one};
+ghost use Rattle.postcard_shape.specs.Fixed.{IsFewSeq, few_seq_inside};
 
 use crate::owned::{DeserializeOwned, Owned};
 use arrayvec::ArrayVec;

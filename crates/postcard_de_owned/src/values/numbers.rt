@@ -7,7 +7,7 @@ ghost use Rattle.postcard_wire.specs.Tree.{Byte, Num, Int};
 ghost use Rattle.postcard_wire.specs.Reading.{IsByte, IsNum, IsInt};
 ghost use Rattle.postcard_wire.proofs.Delimited.{byte_delimited, num_delimited, int_delimited};
 ghost use Rattle.postcard_wire.proofs.WellFormed.{byte_well_formed, num_well_formed, int_well_formed};
-ghost use Rattle.postcard_de.specs.One.{byte_one, signed_byte_one, num_one, int_one};
+ghost use Rattle.postcard_shape.specs.One.{byte_one, signed_byte_one, num_one, int_one};
 
 use crate::owned::DeserializeOwned;
 use postcard_de::{Deserialize, Deserializer, Flavor, Result};

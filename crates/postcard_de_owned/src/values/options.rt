@@ -5,7 +5,7 @@ ghost use Rattle.postcard_wire.specs.Tree.{Boolean};
 ghost use Rattle.postcard_wire.specs.Reading.{IsBoolean, IsOption};
 ghost use Rattle.postcard_wire.proofs.Delimited.{boolean_delimited, option_delimited};
 ghost use Rattle.postcard_wire.proofs.WellFormed.{boolean_well_formed, option_well_formed};
-ghost use Rattle.postcard_de.specs.Options.{OptionIs, SameOption, boolean_one, option_one};
+ghost use Rattle.postcard_shape.specs.Options.{OptionIs, SameOption, boolean_one, option_one};
 
 use crate::owned::{DeserializeOwned, Owned};
 use postcard_de::{Deserialize, Deserializer, Flavor, Result};

@@ -5,7 +5,7 @@ ghost use Rattle.std.specs.Range.{range_inclusive_start, range_inclusive_end};
 ghost use Rattle.postcard_wire.specs.Reading.{IsEnd, IsThen, IsGroup};
 ghost use Rattle.postcard_wire.proofs.Delimited.{group_delimited, then_delimited, end_delimited};
 ghost use Rattle.postcard_wire.proofs.WellFormed.{group_well_formed, then_well_formed, end_well_formed};
-ghost use Rattle.postcard_de.specs.Parts.{end_one, then_one, group_one};
+ghost use Rattle.postcard_shape.specs.Parts.{end_one, then_one, group_one};
 
 use crate::owned::{DeserializeOwned, Owned};
 use postcard_de::{Deserialize, Deserializer, Flavor, Result};

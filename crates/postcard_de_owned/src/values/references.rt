@@ -4,7 +4,7 @@ ghost use Rattle.std.specs.Prelude.{⊤};
 ghost use Rattle.postcard_wire.specs.Reading.{IsEnd, IsGroup};
 ghost use Rattle.postcard_wire.proofs.Delimited.{group_delimited, end_delimited};
 ghost use Rattle.postcard_wire.proofs.WellFormed.{group_well_formed, end_well_formed};
-ghost use Rattle.postcard_de.specs.Parts.{end_one, group_one};
+ghost use Rattle.postcard_shape.specs.Parts.{end_one, group_one};
 
 use crate::owned::DeserializeOwned;
 use postcard_de::{Deserialize, Deserializer, Error, Flavor, Result};

@@ -4,7 +4,7 @@ ghost use Rattle.std.specs.Prelude.{◌⊎◌};
 ghost use Rattle.postcard_wire.specs.Reading.{IsVariant};
 ghost use Rattle.postcard_wire.proofs.Delimited.{variant_delimited};
 ghost use Rattle.postcard_wire.proofs.WellFormed.{variant_well_formed};
-ghost use Rattle.postcard_de.specs.Options.{VariantIs, ResultReads, ResultIs, SameResult, variant_one, result_one, result_delimited, result_well_formed};
+ghost use Rattle.postcard_shape.specs.Options.{VariantIs, ResultReads, ResultIs, SameResult, variant_one, result_one, result_delimited, result_well_formed};
 
 use crate::owned::{DeserializeOwned, Owned};
 use postcard_de::{Deserialize, Deserializer, Flavor};

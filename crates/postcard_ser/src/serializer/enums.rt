@@ -2,7 +2,7 @@
 
 ghost use Rattle.postcard_wire.specs.Spelling.{bytes};
 ghost use Rattle.postcard_wire.specs.Tree.{Num, Variant};
-ghost use Rattle.postcard_ser.specs.Compound.{unit_variant};
+ghost use Rattle.postcard_shape.specs.Compound.{unit_variant};
 ghost use Rattle.postcard_ser.specs.Writing.{Wrote};
 
 use crate::serialize::Serialize;

@@ -3,7 +3,7 @@
 ghost use Rattle.std.specs.Prelude.{◌⊎◌, Any, map};
 ghost use Rattle.postcard_wire.specs.Spelling.{bytes_all};
 ghost use Rattle.postcard_wire.specs.Tree.{Seq, trees};
-ghost use Rattle.postcard_ser.specs.Compound.{entry_tree};
+ghost use Rattle.postcard_shape.specs.Compound.{entry_tree};
 ghost use Rattle.postcard_ser.specs.Writing.{Wrote};
 
 use crate::serialize::Serialize;

@@ -1,7 +1,7 @@
 //! Options and results.
 
 ghost use Rattle.std.specs.Prelude.{◌⊎◌, IsSomeAnd, IsOkAnd, IsErrAnd};
-ghost use Rattle.postcard_ser.specs.Compound.{option_tree, result_tree};
+ghost use Rattle.postcard_shape.specs.Compound.{option_tree, result_tree};
 
 use crate::serialize::Serialize;
 use crate::serializer::Serializer;

@@ -3,7 +3,7 @@
 ghost use Rattle.std.specs.Prelude.{◌⊎◌};
 ghost use Rattle.std.specs.Range.{range_inclusive_start, range_inclusive_end};
 ghost use Rattle.postcard_wire.specs.Tree.{Group, Then, NoTrees};
-ghost use Rattle.postcard_ser.specs.Compound.{pair_tree};
+ghost use Rattle.postcard_shape.specs.Compound.{pair_tree};
 
 use crate::serialize::Serialize;
 use crate::serializer::Serializer;

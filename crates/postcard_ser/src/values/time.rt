@@ -1,7 +1,7 @@
 //! Spans of time.
 
 ghost use Rattle.std.specs.Duration.{as_nanos};
-ghost use Rattle.postcard_ser.specs.Compound.{duration_tree};
+ghost use Rattle.postcard_shape.specs.Compound.{duration_tree};
 
 use crate::serialize::Serialize;
 use crate::serializer::Serializer;

@@ -4,7 +4,7 @@ ghost use Rattle.std.specs.Prelude.{◌≡◌};
 ghost use Rattle.postcard_wire.specs.Reading.{IsVariant};
 ghost use Rattle.postcard_wire.proofs.Delimited.{variant_delimited};
 ghost use Rattle.postcard_wire.proofs.WellFormed.{variant_well_formed};
-ghost use Rattle.postcard_ser.specs.Compound.{unit_variant};
+ghost use Rattle.postcard_shape.specs.Compound.{unit_variant};
 ghost use Rattle.postcard_vectors.specs.declared.types.basic_enum.BasicEnum.{BasicEnum};
 ghost use Rattle.postcard_vectors.specs.Basic.{BasicContent, basic_delimited, basic_well_formed, basic_of, basic_again};
 ghost use Rattle.postcard_vectors.specs.Told.{told_by};

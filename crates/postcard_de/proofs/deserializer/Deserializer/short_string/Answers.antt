@@ -1,6 +1,6 @@
 use Rattle.std.proofs.Common.{◌≡◌, ℕ, ◌≤◌, ◌<◌, ◌^◌, List, length, refl, ◌∙◌, rules}
 use Rattle.std.specs.Prelude.{IsUtf8}
-use Rattle.postcard_de.specs.Fixed.{short_text_inside}
+use Rattle.postcard_shape.specs.Fixed.{short_text_inside}
 use Rattle.postcard_de.proofs.Texts.{text_refused, length_refused, text_ends, text_bad, text_read}
 use Rattle.postcard_de.proofs.Numbers.{number_below}
 use Rattle.postcard_de.proofs.Sift.{seen_as, unfit, refused_too, passed_on}

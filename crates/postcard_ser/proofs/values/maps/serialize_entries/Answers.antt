@@ -3,7 +3,7 @@ use Rattle.std.proofs.Common.{[], ◌∷◌, ◌++◌, ◌≡◌, ◌⊎◌, Ok,
 use Rattle.std.specs.Prelude.{map, Any}
 use Rattle.postcard_wire.specs.Spelling.{bytes_all}
 use Rattle.postcard_wire.specs.Tree.{trees}
-use Rattle.postcard_ser.specs.Compound.{entry_tree}
+use Rattle.postcard_shape.specs.Compound.{entry_tree}
 use Rattle.postcard_ser.specs.Writing.{Wrote}
 use Rattle.postcard_ser.proofs.Elements.{elements_append}
 use Rattle.postcard_ser.proofs.Entries.{any_mid}

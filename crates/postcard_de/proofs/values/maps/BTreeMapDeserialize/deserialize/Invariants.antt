@@ -1,7 +1,7 @@
 use Rattle.std.proofs.Common.{◌≡◌, List, []}
 use Rattle.std.specs.Prelude.{⊤}
 use Rattle.postcard_de.specs.Deserializer.{source_of}
-use Rattle.postcard_de.specs.Maps.{IsEntry, EntryIs, inserted}
+use Rattle.postcard_shape.specs.Maps.{IsEntry, EntryIs, inserted}
 use Rattle.postcard_de.proofs.Lists.{Going}
 use Rattle.postcard_de.proofs.values.maps.BTreeMapDeserialize.deserialize.Given as goal
 

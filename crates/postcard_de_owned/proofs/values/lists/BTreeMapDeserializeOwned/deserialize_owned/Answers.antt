@@ -1,7 +1,7 @@
 use Rattle.std.proofs.Common.{◌≡◌, suc, ◌-◌, List, [], ◌∷◌, ◌++◌, sym, ◌∙◌, ap, arith}
 use Rattle.std.proofs.lemmas.Grind.{common_steps}
 use Rattle.std.specs.BTreeMap.{insert_entry}
-use Rattle.postcard_de.specs.Maps.{EntryIs}
+use Rattle.postcard_shape.specs.Maps.{EntryIs}
 use Rattle.postcard_de.proofs.Leaves.{is_refusal}
 use Rattle.postcard_de.proofs.Sift.{recast, refused_too, passed_on}
 use Rattle.postcard_de.proofs.Entries.{inserted_last, key_refused, value_refused, entry_read}

@@ -1,5 +1,5 @@
 -- The count, and then the entries.
-use Rattle.postcard_ser.specs.Compound.{entry_tree}
+use Rattle.postcard_shape.specs.Compound.{entry_tree}
 use Rattle.postcard_ser.proofs.Elements.{elements_count}
 use Rattle.postcard_ser.proofs.PartByPart.{wrote_then, wrote_stop, wrote_err}
 use Rattle.postcard_ser.proofs.values.maps.BTreeMapSerialize.serialize.Goals as goal

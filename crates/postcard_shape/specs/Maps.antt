@@ -4,9 +4,9 @@ use Rattle.std.specs.declared.cmp.Ordering.{Ordering}
 use Rattle.std.specs.BTreeMap.{insert_entry}
 use Rattle.postcard_wire.specs.Tree.{Tree}
 use Rattle.postcard_wire.specs.Reading.{IsEnd, IsThen, IsGroup}
-use Rattle.postcard_de.specs.Same.{HasOne, SameList, list_one}
-use Rattle.postcard_de.specs.Values.{ListIs}
-use Rattle.postcard_de.specs.Parts.{end_one, then_one, group_one}
+use Rattle.postcard_shape.specs.Same.{HasOne, SameList, list_one}
+use Rattle.postcard_shape.specs.Values.{ListIs}
+use Rattle.postcard_shape.specs.Parts.{end_one, then_one, group_one}
 
 -- A pair is a group of a key and a value (wire format 1.0, "map").
 abbrev pub IsEntry : (Tree → Type 0) → (Tree → Type 0) → Tree → Type 0

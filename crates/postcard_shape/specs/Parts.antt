@@ -4,7 +4,7 @@ use Rattle.std.specs.Prelude.{◌≡◌}
 use Rattle.std.proofs.Common.{sym, ◌∙◌, subst}
 use Rattle.postcard_wire.specs.Tree.{Tree, Trees, Group, Then}
 use Rattle.postcard_wire.specs.Reading.{IsEnd, IsThen, IsGroup}
-use Rattle.postcard_de.specs.Same.{HasOne}
+use Rattle.postcard_shape.specs.Same.{HasOne}
 
 first_same : (s r : Tree) (ss rs : Trees) → Then s ss ≡ Then r rs → s ≡ r
 first_same s r ss rs e = cc

@@ -2,7 +2,7 @@
 use Rattle.std.specs.Prelude.{◌≡◌, List, [], ◌∷◌}
 use Rattle.std.proofs.Common.{sym, ◌∙◌, subst}
 use Rattle.postcard_wire.specs.Tree.{Tree, Trees, Seq, NoTrees, Then}
-use Rattle.postcard_de.specs.Values.{EachIs, ListIs}
+use Rattle.postcard_shape.specs.Values.{EachIs, ListIs}
 
 -- Two values of one tree look alike.
 abbrev pub HasOne : {V : Type 0} → (Tree → V → Type 0) → (V → V → Type 0) → Type 0

@@ -4,7 +4,7 @@ use Rattle.std.proofs.Common.{sym, ◌∙◌, subst}
 use Rattle.postcard_wire.specs.Tree.{Tree, Boolean, Char, Absent, Present, Variant}
 use Rattle.postcard_wire.specs.Reading.{IsDelimited, ReadsWellFormed}
 use Rattle.postcard_wire.proofs.Delimited.{none_delimited}
-use Rattle.postcard_de.specs.Same.{HasOne}
+use Rattle.postcard_shape.specs.Same.{HasOne}
 
 -- None of an absent value, Some of a present one.
 abbrev pub OptionIs : {V : Type 0} → (Tree → V → Type 0) → Tree → Option V → Type 0

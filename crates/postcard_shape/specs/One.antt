@@ -3,7 +3,7 @@ use Rattle.std.specs.Prelude.{◌≡◌, ℕ, List, ℤ}
 use Rattle.std.specs.Int.{w8, cast_unsigned}
 use Rattle.std.proofs.Common.{sym, ◌∙◌}
 use Rattle.postcard_wire.specs.Tree.{Byte, Num, Int, Text}
-use Rattle.postcard_de.specs.Same.{HasOne}
+use Rattle.postcard_shape.specs.Same.{HasOne}
 
 -- A byte's node tells the byte.
 pub byte_same : (a b : ℕ) → Byte a ≡ Byte b → a ≡ b

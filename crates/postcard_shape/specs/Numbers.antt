@@ -6,7 +6,7 @@ use Rattle.std.specs.declared.time.Duration.{Duration}
 use Rattle.postcard_wire.specs.Tree.{Tree, Num, Group, NoTrees, Then}
 use Rattle.postcard_wire.specs.Reading.{IsDelimited, ReadsWellFormed, IsNum, IsEnd, IsThen, IsGroup}
 use Rattle.postcard_wire.proofs.Delimited.{fewer_delimited}
-use Rattle.postcard_de.specs.Same.{HasOne}
+use Rattle.postcard_shape.specs.Same.{HasOne}
 
 -- Those of the set but one tree.
 abbrev pub Without : Tree → (Tree → Type 0) → Tree → Type 0

@@ -1,0 +1,124 @@
+-- What an enum says: of each variant its index, and of the content at each index a shape.
+use Rattle.std.specs.Prelude.{◌≡◌, ℕ, zero, suc, ◌<◌, ◌^◌, ◌⊎◌}
+use Rattle.std.proofs.Common.{refl}
+use Rattle.postcard_wire.specs.Tree.{Tree, Variant, Absent}
+use Rattle.postcard_wire.specs.Reading.{IsDelimited, ReadsWellFormed, IsVariant}
+use Rattle.postcard_wire.proofs.Delimited.{variant_delimited, none_delimited}
+use Rattle.postcard_wire.proofs.WellFormed.{variant_well_formed}
+use Rattle.postcard_shape.specs.Same.{HasOne}
+use Rattle.postcard_shape.specs.Options.{VariantIs, variant_one}
+use Rattle.postcard_shape.specs.Shape.{Shape}
+use Rattle.postcard_shape.specs.declared.cases.Case.{Case}
+use Rattle.postcard_shape.specs.declared.cases.Case.TheVariants.{This, Next}
+
+-- What the variants of an enum say.
+pub record Cases (V : Type 0) : Type 1 where
+  pub index : V → ℕ
+  pub content : V → Tree
+  pub refuses : V → Type 0
+  pub text : Type 0
+  pub reads : ℕ → Tree → Type 0
+  pub value : ℕ → Tree → V → Type 0
+  pub same : V → V → Type 0
+  pub grows : Type 0
+  pub fits : V → Type 0
+  pub delimited : (i : ℕ) → IsDelimited (reads i)
+  pub well_formed : (i : ℕ) → ReadsWellFormed (reads i)
+  pub one_value : (i : ℕ) → HasOne (value i) same
+  pub again : (v : V) → fits v → reads (index v) (content v) × value (index v) (content v) v
+
+-- No variant.
+abbrev pub no_case : {V : Type 0} → Cases V
+no_case {V} = record {
+  index = λ v. 0;
+  content = λ v. Absent;
+  refuses = λ v. ⊥;
+  text = ⊥;
+  reads = λ i t. ⊥;
+  value = λ i t v. ⊥;
+  same = λ v w. Unit {0};
+  grows = ⊥;
+  fits = λ v. ⊥;
+  delimited = λ i. none_delimited;
+  well_formed = λ i t r. absurd r;
+  one_value = λ i t v w h k. absurd h;
+  again = λ v f. absurd f;
+}
+
+abbrev pub case_index : {A R : Type 0} → (R → ℕ) → Case A R → ℕ
+case_index f (This a) = 0
+case_index f (Next r) = suc (f r)
+
+abbrev pub case_of {ℓ} : {A R : Type 0} {Z : Type ℓ} → (A → Z) → (R → Z) → Case A R → Z
+case_of f g (This a) = f a
+case_of f g (Next r) = g r
+
+abbrev pub case_reads : (Tree → Type 0) → (ℕ → Tree → Type 0) → ℕ → Tree → Type 0
+case_reads s r zero = s
+case_reads s r (suc i) = r i
+
+abbrev pub case_value : {A R : Type 0} → (Tree → A → Type 0) → (ℕ → Tree → R → Type 0) → ℕ → Tree → Case A R → Type 0
+case_value s r zero t (This a) = s t a
+case_value s r zero t (Next v) = ⊥
+case_value s r (suc i) t (This a) = ⊥
+case_value s r (suc i) t (Next v) = r i t v
+
+abbrev pub case_same : {A R : Type 0} → (A → A → Type 0) → (R → R → Type 0) → Case A R → Case A R → Type 0
+case_same s r (This a) (This b) = s a b
+case_same s r (Next v) (Next w) = r v w
+case_same s r _ _ = ⊥
+
+pub case_delimited : (s : Tree → Type 0) (r : ℕ → Tree → Type 0) → IsDelimited s → ((i : ℕ) → IsDelimited (r i)) → (i : ℕ) → IsDelimited (case_reads s r i)
+case_delimited s r a b zero = a
+case_delimited s r a b (suc i) = b i
+
+pub case_well_formed : (s : Tree → Type 0) (r : ℕ → Tree → Type 0) → ReadsWellFormed s → ((i : ℕ) → ReadsWellFormed (r i)) → (i : ℕ) → ReadsWellFormed (case_reads s r i)
+case_well_formed s r a b zero = a
+case_well_formed s r a b (suc i) = b i
+
+pub case_one : {A R : Type 0} (s : Tree → A → Type 0) (r : ℕ → Tree → R → Type 0) (same : A → A → Type 0) (other : R → R → Type 0) → HasOne s same → ((i : ℕ) → HasOne (r i) other) → (i : ℕ) → HasOne (case_value s r i) (case_same same other)
+case_one s r same other one two zero t (This a) (This b) h k = one t a b h k
+case_one s r same other one two zero t (This a) (Next w) h k = absurd k
+case_one s r same other one two zero t (Next v) w h k = absurd h
+case_one s r same other one two (suc i) t (Next v) (Next w) h k = two i t v w h k
+case_one s r same other one two (suc i) t (Next v) (This b) h k = absurd k
+case_one s r same other one two (suc i) t (This a) w h k = absurd h
+
+pub case_again : {A R : Type 0} (s : Shape A) (r : Cases R) (v : Case A R) → case_of s.fits r.fits v → case_reads s.reads r.reads (case_index r.index v) (case_of s.tree r.content v) × case_value s.value r.value (case_index r.index v) (case_of s.tree r.content v) v
+case_again s r (This a) f = s.again a f
+case_again s r (Next v) f = r.again v f
+
+-- A variant before others.
+abbrev pub case : {A R : Type 0} → Shape A → Cases R → Cases (Case A R)
+case s r = record {
+  index = case_index r.index;
+  content = case_of s.tree r.content;
+  refuses = case_of s.refuses r.refuses;
+  text = s.text ⊎ r.text;
+  reads = case_reads s.reads r.reads;
+  value = case_value s.value r.value;
+  same = case_same s.same r.same;
+  grows = s.grows ⊎ r.grows;
+  fits = case_of s.fits r.fits;
+  delimited = case_delimited s.reads r.reads s.delimited r.delimited;
+  well_formed = case_well_formed s.reads r.reads s.well_formed r.well_formed;
+  one_value = case_one s.value r.value s.same r.same s.one_value r.one_value;
+  again = case_again s r;
+}
+
+-- An enum.
+abbrev pub variants : {V : Type 0} → Cases V → Shape V
+variants c = record {
+  tree = λ v. Variant (c.index v) (c.content v);
+  refuses = c.refuses;
+  text = c.text;
+  reads = IsVariant c.reads;
+  value = VariantIs c.value;
+  same = c.same;
+  grows = c.grows;
+  fits = λ v. (c.index v < 2 ^ 32) × c.fits v;
+  delimited = variant_delimited c.reads c.delimited;
+  well_formed = variant_well_formed c.reads c.well_formed;
+  one_value = variant_one c.value c.same c.one_value;
+  again = λ v f. let k = c.again v f.1 in ((c.index v, c.content v, refl, f.0, k.0), (c.index v, c.content v, refl, k.1));
+}

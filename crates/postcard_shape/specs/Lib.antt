@@ -1,0 +1,17 @@
+pub mod Values
+pub mod Same
+pub mod One
+pub mod Parts
+pub mod Options
+pub mod Numbers
+pub mod Maps
+pub mod Fixed
+pub mod Compound
+pub mod Shape
+pub mod Leaves
+pub mod Lists
+pub mod Choices
+pub mod Spans
+pub mod Entries
+pub mod Rows
+pub mod Cases

@@ -1,0 +1,92 @@
+-- The shapes of parts in a row: tuples and structs (wire format 1.0, "tuple" and "struct").
+use Rattle.std.specs.Prelude.{◌⊎◌, ⊤}
+use Rattle.std.proofs.Common.{refl}
+use Rattle.postcard_wire.specs.Tree.{Trees, Group, NoTrees, Then}
+use Rattle.postcard_wire.specs.Reading.{AreDelimited, PartsWellFormed, IsEnd, IsThen, IsGroup}
+use Rattle.postcard_wire.proofs.Delimited.{end_delimited, then_delimited, group_delimited}
+use Rattle.postcard_wire.proofs.WellFormed.{end_well_formed, then_well_formed, group_well_formed}
+use Rattle.postcard_shape.specs.Parts.{end_one, then_one, group_one}
+use Rattle.postcard_shape.specs.Shape.{Shape}
+
+-- What parts in a row say, as a type says its shape.
+pub record Row (V : Type 0) : Type 1 where
+  pub trees : V → Trees
+  pub refuses : V → Type 0
+  pub text : Type 0
+  pub reads : Trees → Type 0
+  pub value : V → Trees → Type 0
+  pub same : V → V → Type 0
+  pub grows : Type 0
+  pub fits : V → Type 0
+  pub delimited : AreDelimited reads
+  pub well_formed : PartsWellFormed reads
+  pub one_value : (v w : V) (ts : Trees) → value v ts → value w ts → same v w
+  pub again : (v : V) → fits v → reads (trees v) × value v (trees v)
+
+-- No part.
+abbrev pub none : {V : Type 0} → Row V
+none {V} = record {
+  trees = λ v. NoTrees;
+  refuses = λ v. ⊥;
+  text = ⊥;
+  reads = IsEnd;
+  value = λ v. IsEnd;
+  same = λ v w. Unit {0};
+  grows = ⊥;
+  fits = λ v. ⊤;
+  delimited = end_delimited;
+  well_formed = end_well_formed;
+  one_value = λ v w. end_one;
+  again = λ v f. (refl, refl);
+}
+
+-- A part, and those after it.
+abbrev pub then : {A B : Type 0} → Shape A → Row B → Row (A × B)
+then s r = record {
+  trees = λ v. Then (s.tree v.0) (r.trees v.1);
+  refuses = λ v. s.refuses v.0 ⊎ r.refuses v.1;
+  text = s.text ⊎ r.text;
+  reads = IsThen s.reads r.reads;
+  value = λ v. IsThen (λ t. s.value t v.0) (r.value v.1);
+  same = λ v w. s.same v.0 w.0 × r.same v.1 w.1;
+  grows = s.grows ⊎ r.grows;
+  fits = λ v. s.fits v.0 × r.fits v.1;
+  delimited = then_delimited s.reads r.reads s.delimited r.delimited;
+  well_formed = then_well_formed s.reads r.reads s.well_formed r.well_formed;
+  one_value = λ v w. then_one s.one_value (r.one_value v.1 w.1);
+  again = λ v f. let k = s.again v.0 f.0 in let m = r.again v.1 f.1 in ((s.tree v.0, r.trees v.1, refl, k.0, m.0), (s.tree v.0, r.trees v.1, refl, k.1, m.1));
+}
+
+-- The parts of a value that is seen as another.
+abbrev pub along : {V W : Type 0} → (V → W) → Row W → Row V
+along see r = record {
+  trees = λ v. r.trees (see v);
+  refuses = λ v. r.refuses (see v);
+  text = r.text;
+  reads = r.reads;
+  value = λ v. r.value (see v);
+  same = λ v w. r.same (see v) (see w);
+  grows = r.grows;
+  fits = λ v. r.fits (see v);
+  delimited = r.delimited;
+  well_formed = r.well_formed;
+  one_value = λ v w. r.one_value (see v) (see w);
+  again = λ v. r.again (see v);
+}
+
+-- A tuple or a struct.
+abbrev pub group : {V : Type 0} → Row V → Shape V
+group r = record {
+  tree = λ v. Group (r.trees v);
+  refuses = r.refuses;
+  text = r.text;
+  reads = IsGroup r.reads;
+  value = λ t v. IsGroup (r.value v) t;
+  same = r.same;
+  grows = r.grows;
+  fits = r.fits;
+  delimited = group_delimited r.reads r.delimited;
+  well_formed = group_well_formed r.reads r.well_formed;
+  one_value = λ t v w. group_one (r.one_value v w) t;
+  again = λ v f. let k = r.again v f in ((r.trees v, refl, k.0), (r.trees v, refl, k.1));
+}

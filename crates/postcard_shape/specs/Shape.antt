@@ -1,0 +1,67 @@
+-- What a type says of its values, once for both directions: the tree that each is written as, the trees that are read and their
+-- values, when two values look alike, and the laws that tie them.
+use Rattle.std.specs.Prelude.{⊤}
+use Rattle.postcard_wire.specs.Tree.{Tree}
+use Rattle.postcard_wire.specs.Reading.{IsDelimited, ReadsWellFormed}
+use Rattle.postcard_shape.specs.Same.{HasOne}
+
+-- The shape of a type: all that a contract says of its values on the wire.
+pub record Shape (V : Type 0) : Type 1 where
+  -- The tree that a value is written as.
+  pub tree : V → Tree
+  -- The value may be refused for a reason of its own when it is written, with any error.
+  pub refuses : V → Type 0
+  -- Any other value may be refused with `CollectStrError`, by the text that it prints.
+  pub text : Type 0
+  -- The trees that are read.
+  pub reads : Tree → Type 0
+  -- The values of a tree.
+  pub value : Tree → V → Type 0
+  -- Two values look alike to contracts.
+  pub same : V → V → Type 0
+  -- Reading may ask for memory.
+  pub grows : Type 0
+  -- What holds of every value that a program has: numbers in their range, texts that are UTF-8, lengths below 2^64, maps in order.
+  pub fits : V → Type 0
+  -- No encoding begins another: a front of some bytes spells one of the trees at most.
+  pub delimited : IsDelimited reads
+  -- Every tree that is read is well formed.
+  pub well_formed : ReadsWellFormed reads
+  -- All values of one tree look alike.
+  pub one_value : HasOne value same
+  -- What a value is written as is read, and the value is one of that tree: what was written comes back.
+  pub again : (v : V) → fits v → reads (tree v) × value (tree v) v
+
+-- The shape of a type that is seen as another.
+abbrev pub via : {V W : Type 0} → (V → W) → Shape W → Shape V
+via see s = record {
+  tree = λ v. s.tree (see v);
+  refuses = λ v. s.refuses (see v);
+  text = s.text;
+  reads = s.reads;
+  value = λ t v. s.value t (see v);
+  same = λ v w. s.same (see v) (see w);
+  grows = s.grows;
+  fits = λ v. s.fits (see v);
+  delimited = s.delimited;
+  well_formed = s.well_formed;
+  one_value = λ t v w. s.one_value t (see v) (see w);
+  again = λ v. s.again (see v);
+}
+
+-- The same shape, of a type that asks for memory when it is read.
+abbrev pub growing : {V : Type 0} → Shape V → Shape V
+growing s = record {
+  tree = s.tree;
+  refuses = s.refuses;
+  text = s.text;
+  reads = s.reads;
+  value = s.value;
+  same = s.same;
+  grows = ⊤;
+  fits = s.fits;
+  delimited = s.delimited;
+  well_formed = s.well_formed;
+  one_value = s.one_value;
+  again = s.again;
+}

@@ -1,0 +1,27 @@
+//! Parts in a row, as a type: what tuples of any length are seen as.
+
+ghost use Rattle.postcard_shape.specs.Rows.{Row, none, then, along, group};
+
+use crate::shape::Shaped;
+
+/// A part, and those after it. The last is followed by `()`.
+#[derive(Drop)]
+pub struct Part<A, R>(pub A, pub R);
+
+/// Parts in a row: `()`, or a [`Part`] of a type that says its shape and of parts.
+pub trait Parts {
+    /// What the parts say.
+    ghost parts: { Row Self };
+}
+
+impl Parts for () {
+    ghost parts = { none };
+}
+
+impl<A: Shaped, R: Parts> Parts for Part<A, R> {
+    ghost parts = { along (λ v. (v.0, v.1)) (then A.shape R.parts) };
+}
+
+impl<A: Shaped, R: Parts> Shaped for Part<A, R> {
+    ghost shape = { group (along (λ v. (v.0, v.1)) (then A.shape R.parts)) };
+}

@@ -1,0 +1,14 @@
+//! The shapes of the types of std and of `arrayvec`, a module for each kind.
+
+mod choices;
+mod lists;
+mod maps;
+mod nonzero;
+mod numbers;
+mod ranges;
+mod scalars;
+mod text;
+mod time;
+mod tuples;
+mod units;
+mod wrappers;

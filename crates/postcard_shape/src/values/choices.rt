@@ -1,0 +1,13 @@
+//! Options and results.
+
+ghost use Rattle.postcard_shape.specs.Choices.{option, result};
+
+use crate::shape::Shaped;
+
+impl<T: Shaped> Shaped for Option<T> {
+    ghost shape = { option T.shape };
+}
+
+impl<T: Shaped, E: Shaped> Shaped for Result<T, E> {
+    ghost shape = { result T.shape E.shape };
+}

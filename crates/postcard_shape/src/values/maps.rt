@@ -1,0 +1,11 @@
+//! Maps.
+
+ghost use Rattle.postcard_shape.specs.Shape.{via};
+ghost use Rattle.postcard_shape.specs.Entries.{entries};
+
+use crate::shape::Shaped;
+use std::collections::BTreeMap;
+
+impl<K: Shaped + Ord, V: Shaped> Shaped for BTreeMap<K, V> {
+    ghost shape = { via (λ m. m.entries) (entries K.cmp K.shape V.shape) };
+}

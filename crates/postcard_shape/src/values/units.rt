@@ -1,0 +1,14 @@
+//! Types with one value, of which nothing is written.
+
+ghost use Rattle.postcard_shape.specs.Rows.{none, group};
+
+use crate::shape::Shaped;
+use std::marker::PhantomData;
+
+impl Shaped for () {
+    ghost shape = { group none };
+}
+
+impl<T> Shaped for PhantomData<T> {
+    ghost shape = { group none };
+}
