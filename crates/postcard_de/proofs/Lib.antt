@@ -13,3 +13,6 @@ pub mod Entries
 pub mod Chars
 pub mod Bytes
 pub mod Fixed
+pub mod Content
+pub mod Groups
+pub mod Mapped

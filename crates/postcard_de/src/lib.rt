@@ -17,10 +17,14 @@
 #![tactic(auto)]
 
 pub mod access;
+pub mod cases;
 pub mod deserialize;
 pub mod deserializer;
 pub mod laws;
 pub mod map_access;
+pub mod owned;
+pub mod repr;
+pub mod rows;
 #[cfg(test)]
 mod tests;
 #[cfg(test)]
@@ -31,5 +35,8 @@ pub use access::SeqAccess;
 pub use deserialize::Deserialize;
 pub use deserializer::Deserializer;
 pub use map_access::MapAccess;
+pub use owned::{DeserializeOwned, Owned};
 pub use postcard_de_flavors::{Flavor, Slice, flavor, slice};
+pub use postcard_shape::{Case, NoCase, Part, Repr, Shaped};
 pub use postcard_wire::{Error, Result};
+pub use repr::FromRepr;

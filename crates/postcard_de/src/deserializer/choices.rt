@@ -42,9 +42,9 @@ impl<'de, F: Flavor> Deserializer<'de, F> {
     ///
     /// `DeserializeUnexpectedEnd` where no byte is left, `DeserializeBadOption` at any other byte, and those of the content.
     pub fn deserialize_option<T: Deserialize<'de>>(&mut self, alloc: Global) -> Result<Option<T>>
-        ensures reads { Reads Spells (IsOption T.reads) (OptionIs T.value) T.grows F.left F.able F.may_leave (source_of self.old) result (source_of self.new) }
+        ensures reads { Reads Spells (IsOption T.shape.reads) (OptionIs T.shape.value) T.shape.grows F.left F.able F.may_leave (source_of self.old) result (source_of self.new) }
         ensures refused { IfErr result (λ e. Refuses WantsByte BadOption F.left F.able (source_of self.old) e (source_of self.new)
-            ⊎ ContentRefuses T.reads T.value T.grows F.left F.able F.may_leave (source_of self.old) e (source_of self.new)) }
+            ⊎ ContentRefuses T.shape.reads T.shape.value T.shape.grows F.left F.able F.may_leave (source_of self.old) e (source_of self.new)) }
     {
         match self.flavor.pop()? {
             0 => Ok(None),
@@ -88,7 +88,7 @@ impl<'de, F: Flavor> Deserializer<'de, F> {
     ///
     /// Those of the content.
     pub fn newtype_variant<T: Deserialize<'de>>(&mut self, alloc: Global) -> Result<T>
-        ensures { Reads Spells T.reads T.value T.grows F.left F.able F.may_leave (source_of self.old) result (source_of self.new) }
+        ensures { Reads Spells T.shape.reads T.shape.value T.shape.grows F.left F.able F.may_leave (source_of self.old) result (source_of self.new) }
     {
         T::deserialize(alloc, self)
     }

@@ -54,7 +54,7 @@ impl<'de, F: Flavor> Deserializer<'de, F> {
         alloc: Global,
         _name: &str,
     ) -> Result<T>
-        ensures { Reads Spells T.reads T.value T.grows F.left F.able F.may_leave (source_of self.old) result (source_of self.new) }
+        ensures { Reads Spells T.shape.reads T.shape.value T.shape.grows F.left F.able F.may_leave (source_of self.old) result (source_of self.new) }
     {
         T::deserialize(alloc, self)
     }

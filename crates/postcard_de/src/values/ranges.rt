@@ -1,102 +1,30 @@
-//! Ranges: structs of their ends.
+//! Ranges: read as the tuple of their ends.
 
-ghost use Rattle.std.specs.Prelude.{◌⊎◌};
-ghost use Rattle.std.specs.Range.{range_inclusive_start, range_inclusive_end};
-ghost use Rattle.postcard_wire.specs.Reading.{IsEnd, IsThen, IsGroup};
-ghost use Rattle.postcard_wire.proofs.Delimited.{group_delimited, then_delimited, end_delimited};
-ghost use Rattle.postcard_wire.proofs.WellFormed.{group_well_formed, then_well_formed, end_well_formed};
-ghost use Rattle.postcard_shape.specs.Parts.{end_one, then_one, group_one};
-
-use crate::deserialize::Deserialize;
-use crate::deserializer::Deserializer;
-use postcard_de_flavors::Flavor;
-use postcard_wire::Result;
-use std::alloc::Global;
+use crate::repr::FromRepr;
+use postcard_shape::Shaped;
 use std::ops::{Range, RangeFrom, RangeInclusive, RangeTo};
 
-impl<'de, T: Deserialize<'de>> Deserialize<'de> for Range<T> {
-    ghost reads = { IsGroup (IsThen T.reads (IsThen T.reads IsEnd)) };
-
-    ghost value = { λ t v. IsGroup (IsThen (λ s. T.value s v.start) (IsThen (λ s. T.value s v.end) IsEnd)) t };
-
-    ghost same = { λ v w. T.same v.start w.start × (T.same v.end w.end × Unit {0}) };
-
-    ghost grows = { T.grows ⊎ (T.grows ⊎ ⊥) };
-
-    ghost delimited = { group_delimited _ (then_delimited _ _ T.delimited (then_delimited _ _ T.delimited end_delimited)) };
-
-    ghost well_formed = { group_well_formed _ (then_well_formed _ _ T.well_formed (then_well_formed _ _ T.well_formed end_well_formed)) };
-
-    ghost one_value = { λ t v w. group_one (then_one T.one_value (then_one T.one_value end_one)) t };
-
-    fn deserialize<F: Flavor>(alloc: Global, d: &mut Deserializer<'de, F>) -> Result<Self> {
-        let start = T::deserialize(alloc, d)?;
-        let end = T::deserialize(alloc, d)?;
-        Ok(Range { start, end })
+impl<T: Shaped + Drop> FromRepr for Range<T> {
+    fn from_repr((start, end): Self::As) -> Self {
+        Range { start, end }
     }
 }
 
 /// Whether a range was walked to its end isn't written, so one that was read isn't.
-impl<'de, T: Deserialize<'de>> Deserialize<'de> for RangeInclusive<T> {
-    ghost reads = { IsGroup (IsThen T.reads (IsThen T.reads IsEnd)) };
-
-    ghost value = { λ t v. IsGroup (IsThen (λ s. T.value s (range_inclusive_start v)) (IsThen (λ s. T.value s (range_inclusive_end v)) IsEnd)) t };
-
-    ghost same = { λ v w. T.same (range_inclusive_start v) (range_inclusive_start w) × (T.same (range_inclusive_end v) (range_inclusive_end w) × Unit {0}) };
-
-    ghost grows = { T.grows ⊎ (T.grows ⊎ ⊥) };
-
-    ghost delimited = { group_delimited _ (then_delimited _ _ T.delimited (then_delimited _ _ T.delimited end_delimited)) };
-
-    ghost well_formed = { group_well_formed _ (then_well_formed _ _ T.well_formed (then_well_formed _ _ T.well_formed end_well_formed)) };
-
-    ghost one_value = { λ t v w. group_one (then_one T.one_value (then_one T.one_value end_one)) t };
-
-    fn deserialize<F: Flavor>(alloc: Global, d: &mut Deserializer<'de, F>) -> Result<Self> {
-        let start = T::deserialize(alloc, d)?;
-        let end = T::deserialize(alloc, d)?;
-        Ok(RangeInclusive::new(start, end))
+impl<T: Shaped + Drop> FromRepr for RangeInclusive<T> {
+    fn from_repr((start, end): Self::As) -> Self {
+        RangeInclusive::new(start, end)
     }
 }
 
-impl<'de, T: Deserialize<'de>> Deserialize<'de> for RangeFrom<T> {
-    ghost reads = { IsGroup (IsThen T.reads IsEnd) };
-
-    ghost value = { λ t v. IsGroup (IsThen (λ s. T.value s v.start) IsEnd) t };
-
-    ghost same = { λ v w. T.same v.start w.start × Unit {0} };
-
-    ghost grows = { T.grows ⊎ ⊥ };
-
-    ghost delimited = { group_delimited _ (then_delimited _ _ T.delimited end_delimited) };
-
-    ghost well_formed = { group_well_formed _ (then_well_formed _ _ T.well_formed end_well_formed) };
-
-    ghost one_value = { λ t v w. group_one (then_one T.one_value end_one) t };
-
-    fn deserialize<F: Flavor>(alloc: Global, d: &mut Deserializer<'de, F>) -> Result<Self> {
-        let start = T::deserialize(alloc, d)?;
-        Ok(RangeFrom { start })
+impl<T: Shaped + Drop> FromRepr for RangeFrom<T> {
+    fn from_repr((start,): Self::As) -> Self {
+        RangeFrom { start }
     }
 }
 
-impl<'de, T: Deserialize<'de>> Deserialize<'de> for RangeTo<T> {
-    ghost reads = { IsGroup (IsThen T.reads IsEnd) };
-
-    ghost value = { λ t v. IsGroup (IsThen (λ s. T.value s v.end) IsEnd) t };
-
-    ghost same = { λ v w. T.same v.end w.end × Unit {0} };
-
-    ghost grows = { T.grows ⊎ ⊥ };
-
-    ghost delimited = { group_delimited _ (then_delimited _ _ T.delimited end_delimited) };
-
-    ghost well_formed = { group_well_formed _ (then_well_formed _ _ T.well_formed end_well_formed) };
-
-    ghost one_value = { λ t v w. group_one (then_one T.one_value end_one) t };
-
-    fn deserialize<F: Flavor>(alloc: Global, d: &mut Deserializer<'de, F>) -> Result<Self> {
-        let end = T::deserialize(alloc, d)?;
-        Ok(RangeTo { end })
+impl<T: Shaped + Drop> FromRepr for RangeTo<T> {
+    fn from_repr((end,): Self::As) -> Self {
+        RangeTo { end }
     }
 }

@@ -5,7 +5,7 @@ use Rattle.postcard_wire.proofs.Shortest.{Spells-bytes}
 use Rattle.postcard_de.proofs.laws.read_again.Goals as goal
 
 pub returns : goal.returns
-returns g c = let type = g.T.Deserialize in record {
+returns g c = let type = g.T.Shaped.shape in record {
   spelled = λ t r. Spells-bytes t (type.well_formed t r);
   only = λ t s p rest left r k e f.
       let d = type.delimited s t p (bytes t) left rest k r e (Spells-bytes t (type.well_formed t r)) f in

@@ -19,8 +19,8 @@ returns-in_err-access g c =
 pub returns-in_err-key : goal.returns-in_err-key
 returns-in_err-key g c =
     let laws = g.F.Flavor.lawful in
-    let k = g.K.Deserialize in
-    let v = g.V.Deserialize in
+    let k = g.K.Shaped.shape in
+    let v = g.V.Shaped.shape in
     let n = c.loop-map.access in
     let more : n ≡ suc (n - 1) = one_more_left n (λ z. let bad = (c.in_err-key.ensures.none z).0 in cc) in
     passed_on (λ x a. a) (λ h. h) c.from_residual-in_err-key.ensures.1

@@ -1,0 +1,120 @@
+//! The variants of an enum in a row are read by their index, and then as the content at that index.
+
+ghost use Rattle.postcard_wire.specs.Spelling.{Spells};
+ghost use Rattle.postcard_de.specs.Reads.{Reads};
+ghost use Rattle.postcard_de.specs.Deserializer.{source_of};
+
+use crate::deserialize::Deserialize;
+use crate::deserializer::Deserializer;
+use crate::owned::DeserializeOwned;
+use postcard_de_flavors::Flavor;
+use postcard_shape::{Case, Cased, NoCase};
+use postcard_wire::{Error, Result};
+use std::alloc::Global;
+
+/// Variants that are read.
+pub trait DeserializeCase<'de>: Cased + Sized + Drop {
+    /// Reads the content of the variant at `index`.
+    ///
+    /// # Errors
+    ///
+    /// `SerdeDeCustom` if there is no such variant, and those of the content.
+    fn deserialize_case<F: Flavor>(
+        index: u32,
+        alloc: Global,
+        d: &mut Deserializer<'de, F>,
+    ) -> Result<Self>
+        ensures { Reads Spells (Self.cases.reads index) (Self.cases.value index) Self.cases.grows F.left F.able F.may_leave (source_of d.old) result (source_of d.new) };
+}
+
+impl<'de> DeserializeCase<'de> for NoCase {
+    fn deserialize_case<F: Flavor>(
+        _index: u32,
+        _alloc: Global,
+        _d: &mut Deserializer<'de, F>,
+    ) -> Result<Self> {
+        Err(Error::SerdeDeCustom)
+    }
+}
+
+impl<'de, A: Deserialize<'de>, R: DeserializeCase<'de>> DeserializeCase<'de> for Case<A, R> {
+    fn deserialize_case<F: Flavor>(
+        index: u32,
+        alloc: Global,
+        d: &mut Deserializer<'de, F>,
+    ) -> Result<Self> {
+        match index {
+            0 => {
+                let value = A::deserialize(alloc, d)?;
+                Ok(Case::This(value))
+            }
+            _ => {
+                let rest = R::deserialize_case(index - 1, alloc, d)?;
+                Ok(Case::Next(rest))
+            }
+        }
+    }
+}
+
+impl<'de, A: Deserialize<'de>, R: DeserializeCase<'de>> Deserialize<'de> for Case<A, R> {
+    fn deserialize<F: Flavor>(alloc: Global, d: &mut Deserializer<'de, F>) -> Result<Self> {
+        let index = d.deserialize_enum("", &[])?;
+        let value = <Case<A, R> as DeserializeCase<'de>>::deserialize_case(index, alloc, d)?;
+        Ok(value)
+    }
+}
+
+/// Variants that are read and borrow nothing.
+pub trait DeserializeCaseOwned: Cased + Sized + Drop {
+    /// Reads the content of the variant at `index`.
+    ///
+    /// # Errors
+    ///
+    /// As [`DeserializeCase::deserialize_case`].
+    fn deserialize_case_owned<'de, F: Flavor>(
+        index: u32,
+        alloc: Global,
+        d: &mut Deserializer<'de, F>,
+    ) -> Result<Self>
+        ensures { Reads Spells (Self.cases.reads index) (Self.cases.value index) Self.cases.grows F.left F.able F.may_leave (source_of d.old) result (source_of d.new) };
+}
+
+impl DeserializeCaseOwned for NoCase {
+    fn deserialize_case_owned<'de, F: Flavor>(
+        _index: u32,
+        _alloc: Global,
+        _d: &mut Deserializer<'de, F>,
+    ) -> Result<Self> {
+        Err(Error::SerdeDeCustom)
+    }
+}
+
+impl<A: DeserializeOwned, R: DeserializeCaseOwned> DeserializeCaseOwned for Case<A, R> {
+    fn deserialize_case_owned<'de, F: Flavor>(
+        index: u32,
+        alloc: Global,
+        d: &mut Deserializer<'de, F>,
+    ) -> Result<Self> {
+        match index {
+            0 => {
+                let value = A::deserialize_owned(alloc, d)?;
+                Ok(Case::This(value))
+            }
+            _ => {
+                let rest = R::deserialize_case_owned(index - 1, alloc, d)?;
+                Ok(Case::Next(rest))
+            }
+        }
+    }
+}
+
+impl<A: DeserializeOwned, R: DeserializeCaseOwned> DeserializeOwned for Case<A, R> {
+    fn deserialize_owned<'de, F: Flavor>(
+        alloc: Global,
+        d: &mut Deserializer<'de, F>,
+    ) -> Result<Self> {
+        let index = d.deserialize_enum("", &[])?;
+        let value = <Case<A, R> as DeserializeCaseOwned>::deserialize_case_owned(index, alloc, d)?;
+        Ok(value)
+    }
+}

@@ -1,0 +1,42 @@
+//! The trait of the types that are read and borrow nothing, and the way back to `Deserialize`.
+
+ghost use Rattle.postcard_wire.specs.Spelling.{Spells};
+ghost use Rattle.postcard_de.specs.Reads.{Reads};
+ghost use Rattle.postcard_de.specs.Deserializer.{source_of};
+
+use crate::deserialize::Deserialize;
+use crate::deserializer::Deserializer;
+use postcard_de_flavors::Flavor;
+use postcard_shape::{Repr, Shaped};
+use postcard_wire::Result;
+use std::alloc::Global;
+
+/// A type whose values can be read, and borrow nothing from the source.
+pub trait DeserializeOwned: Shaped + Sized + Drop {
+    /// Reads a value from the front of what is left.
+    ///
+    /// # Errors
+    ///
+    /// As [`Deserialize::deserialize`].
+    fn deserialize_owned<'de, F: Flavor>(
+        alloc: Global,
+        d: &mut Deserializer<'de, F>,
+    ) -> Result<Self>
+        ensures { Reads Spells Self.shape.reads Self.shape.value Self.shape.grows F.left F.able F.may_leave (source_of d.old) result (source_of d.new) };
+}
+
+/// A value that borrows nothing, read as such wherever a `Deserialize` is asked for.
+#[derive(Drop)]
+pub struct Owned<T: DeserializeOwned>(pub T);
+
+impl<T: DeserializeOwned> Repr for Owned<T> {
+    type As = T;
+    ghost repr = { λ v. v.0 };
+}
+
+impl<'de, T: DeserializeOwned> Deserialize<'de> for Owned<T> {
+    fn deserialize<F: Flavor>(alloc: Global, d: &mut Deserializer<'de, F>) -> Result<Self> {
+        let value = T::deserialize_owned(alloc, d)?;
+        Ok(Owned(value))
+    }
+}

@@ -1,0 +1,43 @@
+//! Types that are read as what they are seen as: a struct as the tuple of its fields, an enum as
+//! its variants in a row.
+
+ghost use Rattle.std.specs.Prelude.{◌≡◌};
+
+use crate::deserialize::Deserialize;
+use crate::deserializer::Deserializer;
+use crate::owned::DeserializeOwned;
+use postcard_de_flavors::Flavor;
+use postcard_shape::Repr;
+use postcard_wire::Result;
+use std::alloc::Global;
+
+/// A type whose values are made of what they are seen as. It is read wherever that is, and owned
+/// where that is.
+pub trait FromRepr: Repr<As: Drop> + Sized + Drop {
+    /// Returns the value that is seen as `repr`.
+    fn from_repr(repr: Self::As) -> Self
+        ensures { Self.repr result ≡ repr };
+}
+
+impl<'de, T: FromRepr> Deserialize<'de> for T
+where
+    T::As: Deserialize<'de>,
+{
+    fn deserialize<F: Flavor>(alloc: Global, d: &mut Deserializer<'de, F>) -> Result<Self> {
+        let repr = <T::As as Deserialize<'de>>::deserialize(alloc, d)?;
+        Ok(T::from_repr(repr))
+    }
+}
+
+impl<T: FromRepr> DeserializeOwned for T
+where
+    T::As: DeserializeOwned,
+{
+    fn deserialize_owned<'de, F: Flavor>(
+        alloc: Global,
+        d: &mut Deserializer<'de, F>,
+    ) -> Result<Self> {
+        let repr = <T::As as DeserializeOwned>::deserialize_owned(alloc, d)?;
+        Ok(T::from_repr(repr))
+    }
+}

@@ -1,0 +1,32 @@
+//! Spans of time.
+
+use crate::deserialize::Deserialize;
+use crate::deserializer::Deserializer;
+use crate::owned::DeserializeOwned;
+use postcard_de_flavors::Flavor;
+use postcard_wire::{Error, Result};
+use std::alloc::Global;
+use std::time::Duration;
+
+const NANOSECONDS_PER_SECOND: u32 = 1_000_000_000;
+
+impl<'de> Deserialize<'de> for Duration {
+    fn deserialize<F: Flavor>(alloc: Global, d: &mut Deserializer<'de, F>) -> Result<Self> {
+        let parts: (u64, u32) = <(u64, u32)>::deserialize(alloc, d)?;
+        let (seconds, nanoseconds) = parts;
+        let carried = (nanoseconds / NANOSECONDS_PER_SECOND) as u64;
+        if seconds > u64::MAX - carried {
+            return Err(Error::SerdeDeCustom);
+        }
+        Ok(Duration::new(seconds, nanoseconds))
+    }
+}
+
+impl DeserializeOwned for Duration {
+    fn deserialize_owned<'de, F: Flavor>(
+        alloc: Global,
+        d: &mut Deserializer<'de, F>,
+    ) -> Result<Self> {
+        Duration::deserialize(alloc, d)
+    }
+}

@@ -1,0 +1,64 @@
+//! Types that hold one value of another: as that value.
+
+use crate::deserialize::Deserialize;
+use crate::deserializer::Deserializer;
+use crate::owned::DeserializeOwned;
+use crate::repr::FromRepr;
+use postcard_de_flavors::Flavor;
+use postcard_shape::Shaped;
+use postcard_wire::{Error, Result};
+use std::alloc::Global;
+use std::num::Wrapping;
+use std::rc::Rc;
+
+impl<'de, T: Deserialize<'de>> Deserialize<'de> for Box<T> {
+    fn deserialize<F: Flavor>(alloc: Global, d: &mut Deserializer<'de, F>) -> Result<Self> {
+        let value = T::deserialize(alloc, d)?;
+        match Box::new(alloc, value) {
+            Ok(boxed) => Ok(boxed),
+            Err(_) => Err(Error::OutOfMemory),
+        }
+    }
+}
+
+impl<T: DeserializeOwned> DeserializeOwned for Box<T> {
+    fn deserialize_owned<'de, F: Flavor>(
+        alloc: Global,
+        d: &mut Deserializer<'de, F>,
+    ) -> Result<Self> {
+        let value = T::deserialize_owned(alloc, d)?;
+        match Box::new(alloc, value) {
+            Ok(boxed) => Ok(boxed),
+            Err(_) => Err(Error::OutOfMemory),
+        }
+    }
+}
+
+impl<'de, T: Deserialize<'de>> Deserialize<'de> for Rc<T> {
+    fn deserialize<F: Flavor>(alloc: Global, d: &mut Deserializer<'de, F>) -> Result<Self> {
+        let value = T::deserialize(alloc, d)?;
+        match Rc::new(alloc, value) {
+            Ok(shared) => Ok(shared),
+            Err(_) => Err(Error::OutOfMemory),
+        }
+    }
+}
+
+impl<T: DeserializeOwned> DeserializeOwned for Rc<T> {
+    fn deserialize_owned<'de, F: Flavor>(
+        alloc: Global,
+        d: &mut Deserializer<'de, F>,
+    ) -> Result<Self> {
+        let value = T::deserialize_owned(alloc, d)?;
+        match Rc::new(alloc, value) {
+            Ok(shared) => Ok(shared),
+            Err(_) => Err(Error::OutOfMemory),
+        }
+    }
+}
+
+impl<T: Shaped + Drop> FromRepr for Wrapping<T> {
+    fn from_repr(value: Self::As) -> Self {
+        Wrapping(value)
+    }
+}
