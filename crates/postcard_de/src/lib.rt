@@ -25,10 +25,6 @@ pub mod map_access;
 pub mod owned;
 pub mod repr;
 pub mod rows;
-#[cfg(test)]
-mod tests;
-#[cfg(test)]
-mod types_tests;
 pub mod values;
 
 pub use access::SeqAccess;

@@ -26,8 +26,8 @@ impl<T: DeserializeOwned> DeserializeOwned for Box<T> {
         alloc: Global,
         d: &mut Deserializer<'de, F>,
     ) -> Result<Self> {
-        let value = T::deserialize_owned(alloc, d)?;
-        match Box::new(alloc, value) {
+        let content = T::deserialize_owned(alloc, d)?;
+        match Box::new(alloc, content) {
             Ok(boxed) => Ok(boxed),
             Err(_) => Err(Error::OutOfMemory),
         }
@@ -49,8 +49,8 @@ impl<T: DeserializeOwned> DeserializeOwned for Rc<T> {
         alloc: Global,
         d: &mut Deserializer<'de, F>,
     ) -> Result<Self> {
-        let value = T::deserialize_owned(alloc, d)?;
-        match Rc::new(alloc, value) {
+        let content = T::deserialize_owned(alloc, d)?;
+        match Rc::new(alloc, content) {
             Ok(shared) => Ok(shared),
             Err(_) => Err(Error::OutOfMemory),
         }

@@ -1,1 +1,0 @@
--- This crate's contracts are in the words of `postcard_de`.
