@@ -1,15 +1,20 @@
 //! Values as bytes, against those worked out by hand from the wire format.
 
 ghost use Rattle.std.specs.Prelude.{◌≡◌, ◌%◌, [], ◌∷◌};
-ghost use Rattle.postcard_wire.specs.Tree.{Byte, Group, Seq, trees};
+ghost use Rattle.postcard_shape.specs.Leaves.{byte};
+ghost use Rattle.postcard_shape.specs.Lists.{seq};
+ghost use Rattle.postcard_shape.specs.Shape.{via};
+ghost use Rattle.postcard_ser.specs.Refusing.{refusing};
 
 mod calls;
 mod printed;
 mod values;
 
+use crate::repr::SerializeRepr;
 use crate::serialize::Serialize;
 use crate::serializer::Serializer;
 use postcard_ser_flavors::{Flavor, Slice};
+use postcard_shape::{Repr, Shaped};
 use postcard_wire::{Error, Result};
 use std::process::Abort;
 use std::test::Fail;
@@ -20,11 +25,14 @@ struct Reading<'a> {
     value: u32,
 }
 
-impl Serialize for Reading<'_> {
-    ghost tree = { λ v. Group (trees (⟦<&'static str as Serialize>⟧.tree v.name
-        ∷ ⟦<u32 as Serialize>⟧.tree v.value ∷ [])) };
+impl<'a> Repr for Reading<'a> {
+    type As = (&'a str, u32);
 
-    fn serialize<F: Flavor>(&self, serializer: &mut Serializer<F>) -> Result<()> {
+    ghost repr = { λ v. (v.name, v.value) };
+}
+
+impl SerializeRepr for Reading<'_> {
+    fn serialize_repr<F: Flavor>(&self, serializer: &mut Serializer<F>) -> Result<()> {
         (&self.name, &self.value).serialize(serializer)
     }
 }
@@ -32,10 +40,11 @@ impl Serialize for Reading<'_> {
 /// A user's list, which calls the serializer by itself.
 struct Both(u32, u32);
 
-impl Serialize for Both {
-    ghost tree = { λ v. Seq (trees (⟦<u32 as Serialize>⟧.tree v.0
-        ∷ ⟦<u32 as Serialize>⟧.tree v.1 ∷ [])) };
+impl Shaped for Both {
+    ghost shape = { via (λ v. v.0 ∷ v.1 ∷ []) (seq ⟦<u32 as Shaped>⟧.shape) };
+}
 
+impl Serialize for Both {
     fn serialize<F: Flavor>(&self, serializer: &mut Serializer<F>) -> Result<()> {
         serializer.serialize_seq(Some(2))?;
         serializer.serialize_element(&self.0)?;
@@ -47,11 +56,11 @@ impl Serialize for Both {
 /// A user's type that has no bytes for its odd numbers.
 struct Even(u8);
 
+impl Shaped for Even {
+    ghost shape = { refusing (λ v. v.0 % 2 ≡ 1) (via (λ v. v.0) byte) };
+}
+
 impl Serialize for Even {
-    ghost tree = { λ v. Byte v.0 };
-
-    ghost refuses_itself = { λ v. v.0 % 2 ≡ 1 };
-
     fn serialize<F: Flavor>(&self, serializer: &mut Serializer<F>) -> Result<()> {
         if self.0 % 2 == 1 {
             return Err(Error::ser_custom("no"));
