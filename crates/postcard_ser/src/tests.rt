@@ -5,16 +5,18 @@ ghost use Rattle.postcard_shape.specs.Leaves.{byte};
 ghost use Rattle.postcard_shape.specs.Lists.{seq};
 ghost use Rattle.postcard_shape.specs.Shape.{via};
 ghost use Rattle.postcard_ser.specs.Refusing.{refusing};
+ghost use Rattle.postcard_ser.specs.declared.tests.Event.{Event};
 
 mod calls;
 mod printed;
 mod values;
 
+use crate::cases::serialize_variant;
 use crate::repr::SerializeRepr;
 use crate::serialize::Serialize;
 use crate::serializer::Serializer;
 use postcard_ser_flavors::{Flavor, Slice};
-use postcard_shape::{Repr, Shaped};
+use postcard_shape::{Case, NoCase, Repr, Shaped};
 use postcard_wire::{Error, Result};
 use std::process::Abort;
 use std::test::Fail;
@@ -34,6 +36,36 @@ impl<'a> Repr for Reading<'a> {
 impl SerializeRepr for Reading<'_> {
     fn serialize_repr<F: Flavor>(&self, serializer: &mut Serializer<F>) -> Result<()> {
         (&self.name, &self.value).serialize(serializer)
+    }
+}
+
+/// A user's enum, of which each variant is written by its index and its content: so it needs no
+/// proof of its own.
+enum Event<'a> {
+    Boot,
+    Reading(Reading<'a>),
+    Fault { code: u8, text: &'a str },
+}
+
+impl<'a> Repr for Event<'a> {
+    ghost use Rattle.postcard_shape.specs.declared.cases.Case.TheVariants.{This, Next};
+
+    type As = Case<(), Case<Reading<'a>, Case<(u8, &'a str), NoCase>>>;
+
+    ghost repr = { elim [
+      | Event.Boot ↦ This tt
+      | Event.Reading r ↦ Next (This r)
+      | Event.Fault code text ↦ Next (Next (This (code, text)))
+    ] };
+}
+
+impl SerializeRepr for Event<'_> {
+    fn serialize_repr<F: Flavor>(&self, serializer: &mut Serializer<F>) -> Result<()> {
+        match self {
+            Event::Boot => serialize_variant(0, &(), serializer),
+            Event::Reading(reading) => serialize_variant(1, reading, serializer),
+            Event::Fault { code, text } => serialize_variant(2, &(*code, *text), serializer),
+        }
     }
 }
 
@@ -207,6 +239,26 @@ fn texts_and_lists(rt: HostRuntime) -> std::result::Result<(), Fail> {
         &[0x03, 0x48, 0x69, 0x21, 0xAC, 0x02],
     );
     Ok(())
+}
+
+#[test]
+fn enums(rt: HostRuntime) {
+    let reading = Reading {
+        name: "Hi!",
+        value: 300,
+    };
+    let fault = Event::Fault {
+        code: 7,
+        text: "z",
+    };
+    assert_written(&rt, &Event::Boot, &[0x00]);
+    assert_written(
+        &rt,
+        &Event::Reading(reading),
+        &[0x01, 0x03, 0x48, 0x69, 0x21, 0xAC, 0x02],
+    );
+    assert_written(&rt, &fault, &[0x02, 0x07, 0x01, 0x7A]);
+    assert_refused(&rt, &fault, &[0x02, 0x07, 0x01, 0x7A], &[0, 1, 2, 3]);
 }
 
 #[test]

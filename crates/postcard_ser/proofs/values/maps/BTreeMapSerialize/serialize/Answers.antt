@@ -1,5 +1,6 @@
 -- The count, and then the entries, which are those of a map in hand: in the order of their keys.
 use Rattle.std.proofs.Common.{arith}
+use Rattle.std.proofs.lemmas.Result.{on_ok_weaker}
 use Rattle.postcard_shape.proofs.Ordered.{inserted_itself}
 use Rattle.postcard_shape.specs.Compound.{entry_tree}
 use Rattle.postcard_ser.proofs.Elements.{elements_count}
@@ -16,3 +17,8 @@ pub returns-clause-wrote : goal.returns-clause-wrote
 returns-clause-wrote g c =
     rw (elements_count (entry_tree g.K.Shaped.shape.tree g.V.Shaped.shape.tree) c.args.self.now.entries)
     (wrote_then _ _ (rw c.len.ensures.len at c.in_ok-serialize_map.ensures.known) c.serialize_entries.ensures.wrote (λ q. q) (λ t. t))
+
+pub returns-clause-fits : goal.returns-clause-fits
+returns-clause-fits g c =
+    on_ok_weaker c.serialize_entries.result (λ fit. (omega (arith, c.len.ensures.len, c.len.ensures.small), fit, inserted_itself g.K.Ord.cmp g.met.K.Ord.total c.args.self.now.entries c.len.ensures.ordered))
+    c.serialize_entries.ensures.fits
