@@ -16,6 +16,12 @@ pub either : {P : Type 0} → P ⊎ P → P
 either (inl p) = p
 either (inr p) = p
 
+-- What some part of a row of two has, one of the two has.
+pub either_part : {P Q : Type 0} → P ⊎ (Q ⊎ ⊥) → P ⊎ Q
+either_part (inl p) = inl p
+either_part (inr (inl q)) = inr q
+either_part (inr (inr none)) = absurd none
+
 module _ {S O : Type 0} {F : Ghosts S O} where
   -- No part is written.
   pub wrote_none : {Q T : Type 0} (s : S) → Wrote F s [] Q T (Ok tt) s

@@ -1,6 +1,7 @@
 -- What a printed text leaves of the writer that took it: its pieces are appended one after the other.
 use Rattle.std.proofs.Common.{◌≡◌, ℕ, ◌+◌, List, [], ◌∷◌, ◌++◌, length, Option, Some, None, Result, Ok, Err, OnOk, refl, subst, arith, length-append}
-use Rattle.std.specs.Prelude.{IfSome}
+use Rattle.std.specs.Prelude.{IfSome, IsUtf8}
+use Rattle.std.proofs.lemmas.Str.{IsUtf8-nil, IsUtf8-append}
 use Rattle.std.specs.List.{concat, FoldsTo}
 use Rattle.std.specs.Fmt.{WritesInCalls, WritesText, DisplaysOnOk, IsPlainFormatter, formatter_writer}
 use Rattle.std.specs.declared.fmt.Formatter.{Formatter}
@@ -31,9 +32,9 @@ module _ {S W : Type 0} (out : W → S) (appended : S → List ℕ → S → Typ
   pub printed : (w : W) (f : Formatter W) (r : Result (Unit {0}) Error) (o : Option (List ℕ)) (g : Formatter W) (v : W) → formatter_writer f ≡ w → DisplaysOnOk (λ s x t. appended (out s) x (out t)) f r o g → IsPlainFormatter f → v ≡ formatter_writer g → OnOk r (IfSome o (λ u. appended (out w) u (out v)))
   printed w f r o g v e h p i = rw i (rw (← e) (displayed f r o g h p))
 
--- A writer that counts from 0 what is printed counts the text.
-pub text_counted : {W : Type 0} (out : W → ℕ) (w : W) (o : Option (List ℕ)) (v : W) → out w ≡ 0 → WritesText (λ s x t. out t ≡ out s + length x) w o v → IfSome o (λ u. out v ≡ length u)
+-- A writer that counts from 0 what is printed, in pieces that are UTF-8, counts the text, which is UTF-8.
+pub text_counted : {W : Type 0} (out : W → ℕ) (w : W) (o : Option (List ℕ)) (v : W) → out w ≡ 0 → WritesText (λ s x t. (out t ≡ out s + length x) × IsUtf8 x) w o v → IfSome o (λ u. (out v ≡ length u) × IsUtf8 u)
 text_counted out w None v e h = tt
 text_counted out w (Some u) v e h =
-    let p = calls_appended out (λ a x b. b ≡ a + length x) (λ s. omega arith) (λ a b c x y p q. omega (arith, length-append x y)) w u v h in
-    omega arith
+    let p = calls_appended out (λ a x b. (b ≡ a + length x) × IsUtf8 x) (λ s. (omega arith, IsUtf8-nil)) (λ a b c x y p q. (omega (arith, length-append x y, p.0, q.0), IsUtf8-append x y p.1 q.1)) w u v h in
+    (omega (arith, p.0), p.1)

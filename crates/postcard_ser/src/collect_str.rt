@@ -1,7 +1,7 @@
 //! A value written as the text that it prints: the text is counted in a first pass, and handed over
 //! in a second.
 
-ghost use Rattle.std.specs.Prelude.{◌≡◌, ◌↔◌, ◌+◌, ◌^◌, ◌<◌, length, ⊤, IsOk, OnOk, IfOk, IfErr, IsErrOf, IfSome};
+ghost use Rattle.std.specs.Prelude.{◌≡◌, ◌↔◌, ◌+◌, ◌^◌, ◌<◌, length, ⊤, IsOk, OnOk, IfOk, IfErr, IsErrOf, IsUtf8, IfSome};
 ghost use Rattle.postcard_wire.specs.Number.{digits};
 ghost use Rattle.postcard_wire.specs.Spelling.{bytes};
 ghost use Rattle.postcard_wire.specs.Tree.{Text};
@@ -23,13 +23,14 @@ struct CountWriter {
 }
 
 impl fmt::Write for CountWriter {
-    ghost write_str_gives = { λ s x t. t.count ≡ s.count + length x };
+    ghost write_str_gives = { λ s x t. (t.count ≡ s.count + length x) × IsUtf8 x };
 
     fn write_str(&mut self, s: &str) -> fmt::Result
-        ensures ok { IsOk result → self.new.count ≡ self.old.count + length s.now }
+        ensures ok { IsOk result → (self.new.count ≡ self.old.count + length s.now)
+            × IsUtf8 s.now }
         ensures fits { IsOk result ↔ (self.old.count + length s.now < 2 ^ 64) }
     {
-        match self.count.checked_add(s.len()) {
+        match self.count.checked_add(s.as_bytes().len()) {
             Some(count) => {
                 self.count = count;
                 Ok(())
@@ -72,7 +73,8 @@ impl<F: Flavor, K: Lasting<F>> fmt::Write for FmtWriter<F, K> {
 
 /// The count of the bytes that a value prints.
 fn count_text<T: Display>(value: &T) -> std::result::Result<usize, fmt::Error>
-    ensures { IfOk result (λ n. IfSome (T.output value.now) (λ u. n ≡ length u)) }
+    ensures { IfOk result
+        (λ n. IfSome (T.output value.now) (λ u. (n ≡ length u) × IsUtf8 u)) }
 {
     let mut writer = CountWriter { count: 0 };
     writer.write(value)?;
@@ -116,6 +118,8 @@ impl<F: Flavor> Serializer<F> {
     pub fn collect_str<T: Display>(&mut self, value: &T) -> Result<()>
         ensures writes { IfSome (T.output value.now)
             (λ u. Wrote F.Flavor self.old.output (bytes (Text u)) ⊤ ⊤ result self.new.output) }
+        ensures fits { OnOk result
+            (IfSome (T.output value.now) (λ u. IsUtf8 u × (length u < 2 ^ 64))) }
         ensures names { IfErr result (AnswersRefusal ⊤) }
         ensures full { IfSome (T.output value.now)
             (λ u. F.room self.old.output (digits (length u)) → ¬ IsErrOf result

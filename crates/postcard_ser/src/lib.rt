@@ -15,13 +15,17 @@
 //! - `values`: the types of std and of `arrayvec` that are written.
 #![tactic(auto)]
 
+pub mod cases;
 mod collect_str;
+pub mod repr;
 pub mod serialize;
 pub mod serializer;
 #[cfg(test)]
 mod tests;
 mod values;
 
+pub use cases::serialize_variant;
 pub use postcard_ser_flavors::{Flavor, Slice};
+pub use repr::SerializeRepr;
 pub use serialize::Serialize;
 pub use serializer::Serializer;

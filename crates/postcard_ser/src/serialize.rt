@@ -1,42 +1,40 @@
 //! The trait of all types that are written.
 
-ghost use Rattle.std.specs.Prelude.{◌≡◌, map, IfSome};
+ghost use Rattle.std.specs.Prelude.{◌≡◌, map, OnOk, IfSome};
 ghost use Rattle.postcard_wire.specs.Spelling.{bytes, bytes_all};
-ghost use Rattle.postcard_wire.specs.Tree.{Tree, trees};
+ghost use Rattle.postcard_wire.specs.Tree.{trees};
+ghost use Rattle.postcard_shape.specs.Lists.{AllFit};
 ghost use Rattle.postcard_ser.specs.Writing.{Wrote};
 
 use crate::serializer::Serializer;
 use postcard_ser_flavors::Flavor;
+use postcard_shape::Shaped;
 use postcard_wire::Result;
 
-/// A type whose values are written.
+/// A type whose values are written, as their shape says.
 ///
-/// An impl defines these members:
-/// - `tree`: what a value says.
-/// - `refuses_itself`: values that may be refused for a reason of their own, with any error. None,
-///   where it is left out.
-/// - `may_fail_text`: whether other values may be refused with `CollectStrError`. No, where it is
-///   left out.
-///
-/// A struct names its parts by quotes, as `⟦<u32 as Serialize>⟧.tree v.count`.
-/// Where it is written as the tuple of its parts, as `(&self.name, &self.count).serialize(serializer)`,
-/// the check mostly finds the proof by itself.
-pub trait Serialize {
-    ghost tree: { Self → Tree };
-
-    ghost refuses_itself: { Self → Type 0 } = { λ _. ⊥ };
-
-    ghost may_fail_text: { Type 0 } = { ⊥ };
-
-    /// Writes the shortest bytes of the value's tree.
+/// A struct or an enum of one's own implements `SerializeRepr`, and has this trait by that. A type
+/// implements this trait itself where it says its shape itself, by `Shaped`: one that refuses
+/// values, as one whose text may fail to print.
+pub trait Serialize: Shaped {
+    /// Writes the canonical encoding of the value's tree.
+    ///
+    /// # Errors
+    ///
+    /// Fails with `SerializeBufferFull` if the flavor refuses a piece. A type whose values refuse
+    /// themselves, or whose texts may fail to print, may also fail with an error of its own, or with
+    /// `CollectStrError`. What the flavor took before the error stays in it.
     fn serialize<F: Flavor>(&self, serializer: &mut Serializer<F>) -> Result<()>
-        ensures { Wrote F.Flavor serializer.old.output (bytes (tree self.now))
-            (refuses_itself self.now) may_fail_text result serializer.new.output };
+        ensures wrote { Wrote F.Flavor serializer.old.output (bytes (Self.shape.tree self.now))
+            (Self.shape.refuses self.now) Self.shape.text result serializer.new.output }
+        ensures fits { OnOk result (Self.shape.fits self.now) };
 
-    /// The bytes of values in a row, where just these stand in memory: so a list of `u8` is handed
-    /// over as one piece.
+    /// Returns the encodings of `items` one after the other if just these bytes stand in memory, as
+    /// those of a slice of `u8` do, which is then written as one piece. Returns `None` otherwise.
     fn slice_bytes(items: &[Self]) -> Option<&[u8]>
-        ensures { IfSome result (λ b. b.now ≡ bytes_all (trees (map tree items.now))) }
+        ensures gives { IfSome result
+            (λ b. b.now ≡ bytes_all (trees (map Self.shape.tree items.now))) }
+        ensures fits { IfSome result (λ _. AllFit Self.shape.fits items.now) }
     {
         let _ = items;
         None

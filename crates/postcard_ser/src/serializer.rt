@@ -1,7 +1,7 @@
 //! The calls by which a type writes itself, each a node of the wire format. Here are those for numbers,
 //! texts and lists.
 
-ghost use Rattle.std.specs.Prelude.{◌≡◌, [], ◌∷◌, ◌++◌, length, map, false, IsOk, IsErrOf, IfSome};
+ghost use Rattle.std.specs.Prelude.{◌≡◌, [], ◌∷◌, ◌++◌, length, map, false, IsOk, IsErrOf, IfSome, OnOk};
 ghost use Rattle.std.specs.Option.{IfNone};
 ghost use Rattle.std.specs.Int.{w8, cast_unsigned};
 ghost use Rattle.postcard_wire.specs.Number.{digits};
@@ -180,8 +180,9 @@ impl<F: Flavor> Serializer<F> {
 
     /// Writes an element of a list, or any part of a value.
     pub fn serialize_element<T: Serialize>(&mut self, value: &T) -> Result<()>
-        ensures { Wrote F.Flavor self.old.output (bytes (T.tree value.now))
-            (T.refuses_itself value.now) T.may_fail_text result self.new.output }
+        ensures wrote { Wrote F.Flavor self.old.output (bytes (T.shape.tree value.now))
+            (T.shape.refuses value.now) T.shape.text result self.new.output }
+        ensures fits { OnOk result (T.shape.fits value.now) }
     {
         value.serialize(self)
     }

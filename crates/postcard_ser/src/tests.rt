@@ -1,15 +1,22 @@
 //! Values as bytes, against those worked out by hand from the wire format.
 
 ghost use Rattle.std.specs.Prelude.{◌≡◌, ◌%◌, [], ◌∷◌};
-ghost use Rattle.postcard_wire.specs.Tree.{Byte, Group, Seq, trees};
+ghost use Rattle.postcard_shape.specs.Leaves.{byte};
+ghost use Rattle.postcard_shape.specs.Lists.{seq};
+ghost use Rattle.postcard_shape.specs.Shape.{via};
+ghost use Rattle.postcard_ser.specs.Refusing.{refusing};
+ghost use Rattle.postcard_ser.specs.declared.tests.Event.{Event};
 
 mod calls;
 mod printed;
 mod values;
 
+use crate::cases::serialize_variant;
+use crate::repr::SerializeRepr;
 use crate::serialize::Serialize;
 use crate::serializer::Serializer;
 use postcard_ser_flavors::{Flavor, Slice};
+use postcard_shape::{Case, NoCase, Repr, Shaped};
 use postcard_wire::{Error, Result};
 use std::process::Abort;
 use std::test::Fail;
@@ -20,22 +27,56 @@ struct Reading<'a> {
     value: u32,
 }
 
-impl Serialize for Reading<'_> {
-    ghost tree = { λ v. Group (trees (⟦<&'static str as Serialize>⟧.tree v.name
-        ∷ ⟦<u32 as Serialize>⟧.tree v.value ∷ [])) };
+impl<'a> Repr for Reading<'a> {
+    type As = (&'a str, u32);
 
-    fn serialize<F: Flavor>(&self, serializer: &mut Serializer<F>) -> Result<()> {
+    ghost repr = { λ v. (v.name, v.value) };
+}
+
+impl SerializeRepr for Reading<'_> {
+    fn serialize_repr<F: Flavor>(&self, serializer: &mut Serializer<F>) -> Result<()> {
         (&self.name, &self.value).serialize(serializer)
+    }
+}
+
+/// A user's enum, of which each variant is written by its index and its content: so it needs no
+/// proof of its own.
+enum Event<'a> {
+    Boot,
+    Reading(Reading<'a>),
+    Fault { code: u8, text: &'a str },
+}
+
+impl<'a> Repr for Event<'a> {
+    ghost use Rattle.postcard_shape.specs.declared.cases.Case.TheVariants.{This, Next};
+
+    type As = Case<(), Case<Reading<'a>, Case<(u8, &'a str), NoCase>>>;
+
+    ghost repr = { elim [
+      | Event.Boot ↦ This tt
+      | Event.Reading r ↦ Next (This r)
+      | Event.Fault code text ↦ Next (Next (This (code, text)))
+    ] };
+}
+
+impl SerializeRepr for Event<'_> {
+    fn serialize_repr<F: Flavor>(&self, serializer: &mut Serializer<F>) -> Result<()> {
+        match self {
+            Event::Boot => serialize_variant(0, &(), serializer),
+            Event::Reading(reading) => serialize_variant(1, reading, serializer),
+            Event::Fault { code, text } => serialize_variant(2, &(*code, *text), serializer),
+        }
     }
 }
 
 /// A user's list, which calls the serializer by itself.
 struct Both(u32, u32);
 
-impl Serialize for Both {
-    ghost tree = { λ v. Seq (trees (⟦<u32 as Serialize>⟧.tree v.0
-        ∷ ⟦<u32 as Serialize>⟧.tree v.1 ∷ [])) };
+impl Shaped for Both {
+    ghost shape = { via (λ v. v.0 ∷ v.1 ∷ []) (seq ⟦<u32 as Shaped>⟧.shape) };
+}
 
+impl Serialize for Both {
     fn serialize<F: Flavor>(&self, serializer: &mut Serializer<F>) -> Result<()> {
         serializer.serialize_seq(Some(2))?;
         serializer.serialize_element(&self.0)?;
@@ -47,11 +88,11 @@ impl Serialize for Both {
 /// A user's type that has no bytes for its odd numbers.
 struct Even(u8);
 
+impl Shaped for Even {
+    ghost shape = { refusing (λ v. v.0 % 2 ≡ 1) (via (λ v. v.0) byte) };
+}
+
 impl Serialize for Even {
-    ghost tree = { λ v. Byte v.0 };
-
-    ghost refuses_itself = { λ v. v.0 % 2 ≡ 1 };
-
     fn serialize<F: Flavor>(&self, serializer: &mut Serializer<F>) -> Result<()> {
         if self.0 % 2 == 1 {
             return Err(Error::ser_custom("no"));
@@ -198,6 +239,26 @@ fn texts_and_lists(rt: HostRuntime) -> std::result::Result<(), Fail> {
         &[0x03, 0x48, 0x69, 0x21, 0xAC, 0x02],
     );
     Ok(())
+}
+
+#[test]
+fn enums(rt: HostRuntime) {
+    let reading = Reading {
+        name: "Hi!",
+        value: 300,
+    };
+    let fault = Event::Fault {
+        code: 7,
+        text: "z",
+    };
+    assert_written(&rt, &Event::Boot, &[0x00]);
+    assert_written(
+        &rt,
+        &Event::Reading(reading),
+        &[0x01, 0x03, 0x48, 0x69, 0x21, 0xAC, 0x02],
+    );
+    assert_written(&rt, &fault, &[0x02, 0x07, 0x01, 0x7A]);
+    assert_refused(&rt, &fault, &[0x02, 0x07, 0x01, 0x7A], &[0, 1, 2, 3]);
 }
 
 #[test]

@@ -1,5 +1,6 @@
 //! The calls for enums: the variant's index as a varint, and then its content.
 
+ghost use Rattle.std.specs.Prelude.{OnOk};
 ghost use Rattle.postcard_wire.specs.Spelling.{bytes};
 ghost use Rattle.postcard_wire.specs.Tree.{Num, Variant};
 ghost use Rattle.postcard_shape.specs.Compound.{unit_variant};
@@ -13,12 +14,7 @@ use postcard_wire::Result;
 impl<F: Flavor> Serializer<F> {
     /// Writes the index as a varint of 1 to 5 bytes: the variant has no content. The names aren't
     /// written.
-    pub fn serialize_unit_variant(
-        &mut self,
-        name: &'static str,
-        index: u32,
-        variant: &'static str,
-    ) -> Result<()>
+    pub fn serialize_unit_variant(&mut self, name: &str, index: u32, variant: &str) -> Result<()>
         ensures { Wrote F.Flavor self.old.output (bytes (unit_variant index)) ⊥ ⊥ result
             self.new.output }
     {
@@ -28,13 +24,14 @@ impl<F: Flavor> Serializer<F> {
     /// Writes the index as a varint of 1 to 5 bytes, and then the value. The names aren't written.
     pub fn serialize_newtype_variant<T: Serialize>(
         &mut self,
-        name: &'static str,
+        name: &str,
         index: u32,
-        variant: &'static str,
+        variant: &str,
         value: &T,
     ) -> Result<()>
-        ensures { Wrote F.Flavor self.old.output (bytes (Variant index (T.tree value.now)))
-            (T.refuses_itself value.now) T.may_fail_text result self.new.output }
+        ensures wrote { Wrote F.Flavor self.old.output (bytes (Variant index (T.shape.tree value.now)))
+            (T.shape.refuses value.now) T.shape.text result self.new.output }
+        ensures fits { OnOk result (T.shape.fits value.now) }
     {
         self.serialize_tuple_variant(name, index, variant, 1)?;
         value.serialize(self)
@@ -45,9 +42,9 @@ impl<F: Flavor> Serializer<F> {
     /// names are written.
     pub fn serialize_tuple_variant(
         &mut self,
-        _name: &'static str,
+        _name: &str,
         index: u32,
-        _variant: &'static str,
+        _variant: &str,
         _len: usize,
     ) -> Result<()>
         ensures { Wrote F.Flavor self.old.output (bytes (Num 32 index)) ⊥ ⊥ result self.new.output }
@@ -60,9 +57,9 @@ impl<F: Flavor> Serializer<F> {
     /// count nor the names are written.
     pub fn serialize_struct_variant(
         &mut self,
-        name: &'static str,
+        name: &str,
         index: u32,
-        variant: &'static str,
+        variant: &str,
         len: usize,
     ) -> Result<()>
         ensures { Wrote F.Flavor self.old.output (bytes (Num 32 index)) ⊥ ⊥ result self.new.output }

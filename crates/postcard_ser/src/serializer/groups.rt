@@ -1,6 +1,6 @@
 //! The calls for tuples, structs and maps, and for their parts.
 
-ghost use Rattle.std.specs.Prelude.{◌≡◌, [], IsOk, IsErrOf, IfSome};
+ghost use Rattle.std.specs.Prelude.{◌≡◌, [], IsOk, IsErrOf, IfSome, OnOk};
 ghost use Rattle.std.specs.Option.{IfNone};
 ghost use Rattle.postcard_wire.specs.Spelling.{bytes};
 ghost use Rattle.postcard_wire.specs.Tree.{Num};
@@ -24,7 +24,7 @@ impl<F: Flavor> Serializer<F> {
 
     /// Begins a struct of `len` fields without names: writes nothing. They are then written by
     /// `serialize_field`; nobody counts them.
-    pub fn serialize_tuple_struct(&mut self, _name: &'static str, len: usize) -> Result<()>
+    pub fn serialize_tuple_struct(&mut self, _name: &str, len: usize) -> Result<()>
         ensures wrote { Wrote F.Flavor self.old.output [] ⊥ ⊥ result self.new.output }
         ensures always { IsOk result }
         ensures unchanged { self.new ≡ self.old }
@@ -34,7 +34,7 @@ impl<F: Flavor> Serializer<F> {
 
     /// Begins a struct of `len` fields: writes nothing. They are then written by
     /// `serialize_struct_field`; nobody counts them.
-    pub fn serialize_struct(&mut self, name: &'static str, len: usize) -> Result<()>
+    pub fn serialize_struct(&mut self, name: &str, len: usize) -> Result<()>
         ensures wrote { Wrote F.Flavor self.old.output [] ⊥ ⊥ result self.new.output }
         ensures always { IsOk result }
         ensures unchanged { self.new ≡ self.old }
@@ -56,36 +56,36 @@ impl<F: Flavor> Serializer<F> {
 
     /// Writes the key of an entry of a map.
     pub fn serialize_key<T: Serialize>(&mut self, key: &T) -> Result<()>
-        ensures { Wrote F.Flavor self.old.output (bytes (T.tree key.now)) (T.refuses_itself key.now)
-            T.may_fail_text result self.new.output }
+        ensures wrote { Wrote F.Flavor self.old.output (bytes (T.shape.tree key.now)) (T.shape.refuses key.now)
+            T.shape.text result self.new.output }
+        ensures fits { OnOk result (T.shape.fits key.now) }
     {
         key.serialize(self)
     }
 
     /// Writes the value of an entry of a map, behind its key.
     pub fn serialize_value<T: Serialize>(&mut self, value: &T) -> Result<()>
-        ensures { Wrote F.Flavor self.old.output (bytes (T.tree value.now))
-            (T.refuses_itself value.now) T.may_fail_text result self.new.output }
+        ensures wrote { Wrote F.Flavor self.old.output (bytes (T.shape.tree value.now))
+            (T.shape.refuses value.now) T.shape.text result self.new.output }
+        ensures fits { OnOk result (T.shape.fits value.now) }
     {
         value.serialize(self)
     }
 
     /// Writes a field that has no name, of a struct or a variant.
     pub fn serialize_field<T: Serialize>(&mut self, value: &T) -> Result<()>
-        ensures { Wrote F.Flavor self.old.output (bytes (T.tree value.now))
-            (T.refuses_itself value.now) T.may_fail_text result self.new.output }
+        ensures wrote { Wrote F.Flavor self.old.output (bytes (T.shape.tree value.now))
+            (T.shape.refuses value.now) T.shape.text result self.new.output }
+        ensures fits { OnOk result (T.shape.fits value.now) }
     {
         self.serialize_element(value)
     }
 
     /// Writes a field that has a name, of a struct or a variant. The name isn't written.
-    pub fn serialize_struct_field<T: Serialize>(
-        &mut self,
-        _key: &'static str,
-        value: &T,
-    ) -> Result<()>
-        ensures { Wrote F.Flavor self.old.output (bytes (T.tree value.now))
-            (T.refuses_itself value.now) T.may_fail_text result self.new.output }
+    pub fn serialize_struct_field<T: Serialize>(&mut self, _key: &str, value: &T) -> Result<()>
+        ensures wrote { Wrote F.Flavor self.old.output (bytes (T.shape.tree value.now))
+            (T.shape.refuses value.now) T.shape.text result self.new.output }
+        ensures fits { OnOk result (T.shape.fits value.now) }
     {
         self.serialize_field(value)
     }

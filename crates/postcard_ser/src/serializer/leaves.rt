@@ -36,7 +36,7 @@ impl<F: Flavor> Serializer<F> {
     }
 
     /// Writes nothing. The name isn't written.
-    pub fn serialize_unit_struct(&mut self, _name: &'static str) -> Result<()>
+    pub fn serialize_unit_struct(&mut self, _name: &str) -> Result<()>
         ensures wrote { Wrote F.Flavor self.old.output (bytes (Group NoTrees)) ⊥ ⊥ result
             self.new.output }
         ensures always { IsOk result }

@@ -1,5 +1,6 @@
 //! The calls for options and for values within another.
 
+ghost use Rattle.std.specs.Prelude.{OnOk};
 ghost use Rattle.postcard_wire.specs.Spelling.{bytes};
 ghost use Rattle.postcard_wire.specs.Tree.{Absent, Present};
 ghost use Rattle.postcard_ser.specs.Writing.{Wrote};
@@ -19,21 +20,19 @@ impl<F: Flavor> Serializer<F> {
 
     /// Writes one byte, 1, and then the value.
     pub fn serialize_some<T: Serialize>(&mut self, value: &T) -> Result<()>
-        ensures { Wrote F.Flavor self.old.output (bytes (Present (T.tree value.now)))
-            (T.refuses_itself value.now) T.may_fail_text result self.new.output }
+        ensures wrote { Wrote F.Flavor self.old.output (bytes (Present (T.shape.tree value.now)))
+            (T.shape.refuses value.now) T.shape.text result self.new.output }
+        ensures fits { OnOk result (T.shape.fits value.now) }
     {
         self.serialize_u8(1)?;
         value.serialize(self)
     }
 
     /// Writes the value alone. The name isn't written.
-    pub fn serialize_newtype_struct<T: Serialize>(
-        &mut self,
-        _name: &'static str,
-        value: &T,
-    ) -> Result<()>
-        ensures { Wrote F.Flavor self.old.output (bytes (T.tree value.now))
-            (T.refuses_itself value.now) T.may_fail_text result self.new.output }
+    pub fn serialize_newtype_struct<T: Serialize>(&mut self, _name: &str, value: &T) -> Result<()>
+        ensures wrote { Wrote F.Flavor self.old.output (bytes (T.shape.tree value.now))
+            (T.shape.refuses value.now) T.shape.text result self.new.output }
+        ensures fits { OnOk result (T.shape.fits value.now) }
     {
         self.serialize_element(value)
     }

@@ -1,6 +1,7 @@
 //! Each call of the serializer, at values whose bytes were worked out by hand.
 
 use super::Serializer;
+use crate::cases::serialize_variant;
 use postcard_ser_flavors::Slice;
 use postcard_wire::Error;
 use std::test::Fail;
@@ -51,11 +52,13 @@ fn calls_for_enums(rt: HostRuntime) -> std::result::Result<(), Fail> {
     serializer.serialize_field(&8u8)?;
     serializer.serialize_struct_variant("Kind", u32::MAX, "Last", 1)?;
     serializer.serialize_struct_field("x", &9u8)?;
+    serialize_variant(128, &7u8, &mut serializer)?;
     let (all, used) = serializer.output.into_parts();
     let want = [
-        0xAC, 0x02, 0x01, 0xAC, 0x02, 0x02, 0x07, 0x08, 0xFF, 0xFF, 0xFF, 0xFF, 0x0F, 0x09,
+        0xAC, 0x02, 0x01, 0xAC, 0x02, 0x02, 0x07, 0x08, 0xFF, 0xFF, 0xFF, 0xFF, 0x0F, 0x09, 0x80,
+        0x01, 0x07,
     ];
-    assert_eq!(rt; used, 14);
+    assert_eq!(rt; used, 17);
     assert_eq!(rt; all.get(..used), want.get(..));
     Ok(())
 }

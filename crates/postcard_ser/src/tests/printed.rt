@@ -1,13 +1,16 @@
 //! Texts that values print, which no clause says to succeed.
 
-ghost use Rattle.std.specs.Prelude.{◌∷◌, ⊤, Some};
+ghost use Rattle.std.specs.Prelude.{◌∷◌, Some};
 ghost use Rattle.std.specs.Fmt.{decimal};
-ghost use Rattle.postcard_wire.specs.Tree.{Text};
+ghost use Rattle.postcard_shape.specs.Leaves.{text};
+ghost use Rattle.postcard_shape.specs.Shape.{via};
+ghost use Rattle.postcard_ser.specs.Refusing.{printed};
 
 use super::assert_written;
 use crate::serialize::Serialize;
 use crate::serializer::Serializer;
 use postcard_ser_flavors::{Flavor, Slice};
+use postcard_shape::Shaped;
 use postcard_wire::{Error, Result};
 use std::fmt;
 use std::fmt::Display;
@@ -38,14 +41,11 @@ impl Display for Shown {
     }
 }
 
+impl Shaped for Shown {
+    ghost shape = { printed (via (λ s. 61 ∷ decimal s.0) text) };
+}
+
 impl Serialize for Shown {
-    ghost tree = { λ s. Text (61 ∷ decimal s.0) };
-
-    // A printing may fail by itself.
-    ghost refuses_itself = { λ _. ⊤ };
-
-    ghost may_fail_text = { ⊤ };
-
     fn serialize<F: Flavor>(&self, serializer: &mut Serializer<F>) -> Result<()> {
         serializer.collect_str(self)
     }

@@ -1,8 +1,9 @@
 //! Lists: the count of the elements, and the elements.
 
-ghost use Rattle.std.specs.Prelude.{Any, map};
+ghost use Rattle.std.specs.Prelude.{Any, map, OnOk};
 ghost use Rattle.postcard_wire.specs.Spelling.{bytes_all};
-ghost use Rattle.postcard_wire.specs.Tree.{Seq, trees};
+ghost use Rattle.postcard_wire.specs.Tree.{trees};
+ghost use Rattle.postcard_shape.specs.Lists.{AllFit};
 ghost use Rattle.postcard_ser.specs.Writing.{Wrote};
 
 use crate::serialize::Serialize;
@@ -16,8 +17,10 @@ pub(crate) fn serialize_all<T: Serialize, F: Flavor>(
     items: &[T],
     serializer: &mut Serializer<F>,
 ) -> Result<()>
-    ensures { Wrote F.Flavor serializer.old.output (bytes_all (trees (map T.tree items.now)))
-        (Any T.refuses_itself items.now) T.may_fail_text result serializer.new.output }
+    ensures wrote { Wrote F.Flavor serializer.old.output
+        (bytes_all (trees (map T.shape.tree items.now)))
+        (Any T.shape.refuses items.now) T.shape.text result serializer.new.output }
+    ensures fits { OnOk result (AllFit T.shape.fits items.now) }
 {
     match T::slice_bytes(items) {
         Some(bytes) => serializer.extend(bytes),
@@ -30,8 +33,10 @@ fn serialize_each<T: Serialize, F: Flavor>(
     items: &[T],
     serializer: &mut Serializer<F>,
 ) -> Result<()>
-    ensures { Wrote F.Flavor serializer.old.output (bytes_all (trees (map T.tree items.now)))
-        (Any T.refuses_itself items.now) T.may_fail_text result serializer.new.output }
+    ensures wrote { Wrote F.Flavor serializer.old.output
+        (bytes_all (trees (map T.shape.tree items.now)))
+        (Any T.shape.refuses items.now) T.shape.text result serializer.new.output }
+    ensures fits { OnOk result (AllFit T.shape.fits items.now) }
 {
     for item in items {
         item.serialize(serializer)?;
@@ -41,12 +46,6 @@ fn serialize_each<T: Serialize, F: Flavor>(
 
 /// The count of the elements, and these. The list refuses itself where an element does.
 impl<T: Serialize> Serialize for &[T] {
-    ghost tree = { λ v. Seq (trees (map T.tree v.now)) };
-
-    ghost refuses_itself = { λ v. Any T.refuses_itself v.now };
-
-    ghost may_fail_text = { T.may_fail_text };
-
     fn serialize<F: Flavor>(&self, serializer: &mut Serializer<F>) -> Result<()> {
         serializer.serialize_seq(Some(self.len()))?;
         serialize_all(self, serializer)
@@ -55,12 +54,6 @@ impl<T: Serialize> Serialize for &[T] {
 
 /// The count of the elements, and these. The list refuses itself where an element does.
 impl<T: Serialize> Serialize for Vec<T> {
-    ghost tree = { λ v. Seq (trees (map T.tree v.items)) };
-
-    ghost refuses_itself = { λ v. Any T.refuses_itself v.items };
-
-    ghost may_fail_text = { T.may_fail_text };
-
     fn serialize<F: Flavor>(&self, serializer: &mut Serializer<F>) -> Result<()> {
         self.as_slice().serialize(serializer)
     }

@@ -1,9 +1,10 @@
 //! Maps: the count of the entries, and the entries in the order of their keys.
 
-ghost use Rattle.std.specs.Prelude.{◌⊎◌, Any, map};
+ghost use Rattle.std.specs.Prelude.{◌⊎◌, Any, map, OnOk};
 ghost use Rattle.postcard_wire.specs.Spelling.{bytes_all};
-ghost use Rattle.postcard_wire.specs.Tree.{Seq, trees};
+ghost use Rattle.postcard_wire.specs.Tree.{trees};
 ghost use Rattle.postcard_shape.specs.Compound.{entry_tree};
+ghost use Rattle.postcard_shape.specs.Lists.{AllFit};
 ghost use Rattle.postcard_ser.specs.Writing.{Wrote};
 
 use crate::serialize::Serialize;
@@ -17,10 +18,12 @@ fn serialize_entries<K: Serialize + Ord, V: Serialize, F: Flavor>(
     entries: &BTreeMap<K, V>,
     serializer: &mut Serializer<F>,
 ) -> Result<()>
-    ensures { Wrote F.Flavor serializer.old.output
-        (bytes_all (trees (map (entry_tree K.tree V.tree) entries.now.entries)))
-        (Any (λ e. K.refuses_itself e.0 ⊎ V.refuses_itself e.1) entries.now.entries)
-        (K.may_fail_text ⊎ V.may_fail_text) result serializer.new.output }
+    ensures wrote { Wrote F.Flavor serializer.old.output
+        (bytes_all (trees (map (entry_tree K.shape.tree V.shape.tree) entries.now.entries)))
+        (Any (λ e. K.shape.refuses e.0 ⊎ V.shape.refuses e.1) entries.now.entries)
+        (K.shape.text ⊎ V.shape.text) result serializer.new.output }
+    ensures fits { OnOk result
+        (AllFit (λ e. K.shape.fits e.0 × V.shape.fits e.1) entries.now.entries) }
 {
     for entry in entries {
         entry.serialize(serializer)?;
@@ -30,12 +33,6 @@ fn serialize_entries<K: Serialize + Ord, V: Serialize, F: Flavor>(
 
 /// The count of the entries, and these. The map refuses itself where a key or a value does.
 impl<K: Serialize + Ord, V: Serialize> Serialize for BTreeMap<K, V> {
-    ghost tree = { λ m. Seq (trees (map (entry_tree K.tree V.tree) m.entries)) };
-
-    ghost refuses_itself = { λ m. Any (λ e. K.refuses_itself e.0 ⊎ V.refuses_itself e.1) m.entries };
-
-    ghost may_fail_text = { K.may_fail_text ⊎ V.may_fail_text };
-
     fn serialize<F: Flavor>(&self, serializer: &mut Serializer<F>) -> Result<()> {
         serializer.serialize_map(Some(self.len()))?;
         serialize_entries(self, serializer)

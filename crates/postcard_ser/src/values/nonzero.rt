@@ -1,9 +1,5 @@
 //! Numbers that aren't 0: as the number.
 
-ghost use Rattle.std.specs.Int.{w8, cast_unsigned};
-ghost use Rattle.std.specs.Int.NonZero.{non_zero_u8_get, non_zero_u16_get, non_zero_u32_get, non_zero_u64_get, non_zero_u128_get, non_zero_usize_get, non_zero_i8_get, non_zero_i16_get, non_zero_i32_get, non_zero_i64_get, non_zero_i128_get, non_zero_isize_get};
-ghost use Rattle.postcard_wire.specs.Tree.{Byte, Num, Int};
-
 use crate::serialize::Serialize;
 use crate::serializer::Serializer;
 use postcard_ser_flavors::Flavor;
@@ -15,8 +11,6 @@ use std::num::{
 
 /// As the `u8`.
 impl Serialize for NonZeroU8 {
-    ghost tree = { λ v. Byte (non_zero_u8_get v) };
-
     fn serialize<F: Flavor>(&self, serializer: &mut Serializer<F>) -> Result<()> {
         serializer.serialize_u8(self.get())
     }
@@ -24,8 +18,6 @@ impl Serialize for NonZeroU8 {
 
 /// As the `u16`.
 impl Serialize for NonZeroU16 {
-    ghost tree = { λ v. Num 16 (non_zero_u16_get v) };
-
     fn serialize<F: Flavor>(&self, serializer: &mut Serializer<F>) -> Result<()> {
         serializer.serialize_u16(self.get())
     }
@@ -33,8 +25,6 @@ impl Serialize for NonZeroU16 {
 
 /// As the `u32`.
 impl Serialize for NonZeroU32 {
-    ghost tree = { λ v. Num 32 (non_zero_u32_get v) };
-
     fn serialize<F: Flavor>(&self, serializer: &mut Serializer<F>) -> Result<()> {
         serializer.serialize_u32(self.get())
     }
@@ -42,8 +32,6 @@ impl Serialize for NonZeroU32 {
 
 /// As the `u64`.
 impl Serialize for NonZeroU64 {
-    ghost tree = { λ v. Num 64 (non_zero_u64_get v) };
-
     fn serialize<F: Flavor>(&self, serializer: &mut Serializer<F>) -> Result<()> {
         serializer.serialize_u64(self.get())
     }
@@ -51,8 +39,6 @@ impl Serialize for NonZeroU64 {
 
 /// As the `u128`.
 impl Serialize for NonZeroU128 {
-    ghost tree = { λ v. Num 128 (non_zero_u128_get v) };
-
     fn serialize<F: Flavor>(&self, serializer: &mut Serializer<F>) -> Result<()> {
         serializer.serialize_u128(self.get())
     }
@@ -60,8 +46,6 @@ impl Serialize for NonZeroU128 {
 
 /// As the `usize`.
 impl Serialize for NonZeroUsize {
-    ghost tree = { λ v. Num 64 (non_zero_usize_get v) };
-
     fn serialize<F: Flavor>(&self, serializer: &mut Serializer<F>) -> Result<()> {
         serializer.serialize_u64(self.get() as u64)
     }
@@ -69,8 +53,6 @@ impl Serialize for NonZeroUsize {
 
 /// As the `i8`.
 impl Serialize for NonZeroI8 {
-    ghost tree = { λ v. Byte (cast_unsigned w8 (non_zero_i8_get v)) };
-
     fn serialize<F: Flavor>(&self, serializer: &mut Serializer<F>) -> Result<()> {
         serializer.serialize_i8(self.get())
     }
@@ -78,8 +60,6 @@ impl Serialize for NonZeroI8 {
 
 /// As the `i16`.
 impl Serialize for NonZeroI16 {
-    ghost tree = { λ v. Int 16 (non_zero_i16_get v) };
-
     fn serialize<F: Flavor>(&self, serializer: &mut Serializer<F>) -> Result<()> {
         serializer.serialize_i16(self.get())
     }
@@ -87,8 +67,6 @@ impl Serialize for NonZeroI16 {
 
 /// As the `i32`.
 impl Serialize for NonZeroI32 {
-    ghost tree = { λ v. Int 32 (non_zero_i32_get v) };
-
     fn serialize<F: Flavor>(&self, serializer: &mut Serializer<F>) -> Result<()> {
         serializer.serialize_i32(self.get())
     }
@@ -96,8 +74,6 @@ impl Serialize for NonZeroI32 {
 
 /// As the `i64`.
 impl Serialize for NonZeroI64 {
-    ghost tree = { λ v. Int 64 (non_zero_i64_get v) };
-
     fn serialize<F: Flavor>(&self, serializer: &mut Serializer<F>) -> Result<()> {
         serializer.serialize_i64(self.get())
     }
@@ -105,8 +81,6 @@ impl Serialize for NonZeroI64 {
 
 /// As the `i128`.
 impl Serialize for NonZeroI128 {
-    ghost tree = { λ v. Int 128 (non_zero_i128_get v) };
-
     fn serialize<F: Flavor>(&self, serializer: &mut Serializer<F>) -> Result<()> {
         serializer.serialize_i128(self.get())
     }
@@ -114,8 +88,6 @@ impl Serialize for NonZeroI128 {
 
 /// As the `isize`.
 impl Serialize for NonZeroIsize {
-    ghost tree = { λ v. Int 64 (non_zero_isize_get v) };
-
     fn serialize<F: Flavor>(&self, serializer: &mut Serializer<F>) -> Result<()> {
         serializer.serialize_i64(self.get() as i64)
     }

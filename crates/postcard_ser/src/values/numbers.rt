@@ -1,9 +1,10 @@
 //! Numbers.
 
 ghost use Rattle.std.specs.Prelude.{◌≡◌, map, IsSome, IfSome};
-ghost use Rattle.std.specs.Int.{w8, cast_unsigned};
 ghost use Rattle.postcard_wire.specs.Spelling.{bytes_all};
-ghost use Rattle.postcard_wire.specs.Tree.{Byte, Num, Int, trees};
+ghost use Rattle.postcard_wire.specs.Tree.{Byte, trees};
+ghost use Rattle.postcard_shape.specs.Leaves.{byte};
+ghost use Rattle.postcard_shape.specs.Lists.{AllFit};
 
 use crate::serialize::Serialize;
 use crate::serializer::Serializer;
@@ -12,15 +13,14 @@ use postcard_wire::Result;
 
 /// One byte.
 impl Serialize for u8 {
-    ghost tree = { λ v. Byte v };
-
     fn serialize<F: Flavor>(&self, serializer: &mut Serializer<F>) -> Result<()> {
         serializer.serialize_u8(*self)
     }
 
     #[tactic(auto, using(crate::proofs::Elements::bytes_of_bytes))]
     fn slice_bytes(items: &[u8]) -> Option<&[u8]>
-        ensures bytes { IfSome result (λ b. b.now ≡ bytes_all (trees (map Byte items.now))) }
+        ensures gives { IfSome result (λ b. b.now ≡ bytes_all (trees (map Byte items.now))) }
+        ensures fits { IfSome result (λ _. AllFit byte.fits items.now) }
         ensures always { IsSome result }
     {
         Some(items)
@@ -29,8 +29,6 @@ impl Serialize for u8 {
 
 /// A varint.
 impl Serialize for u16 {
-    ghost tree = { λ v. Num 16 v };
-
     fn serialize<F: Flavor>(&self, serializer: &mut Serializer<F>) -> Result<()> {
         serializer.serialize_u16(*self)
     }
@@ -38,8 +36,6 @@ impl Serialize for u16 {
 
 /// A varint.
 impl Serialize for u32 {
-    ghost tree = { λ v. Num 32 v };
-
     fn serialize<F: Flavor>(&self, serializer: &mut Serializer<F>) -> Result<()> {
         serializer.serialize_u32(*self)
     }
@@ -47,8 +43,6 @@ impl Serialize for u32 {
 
 /// A varint.
 impl Serialize for u64 {
-    ghost tree = { λ v. Num 64 v };
-
     fn serialize<F: Flavor>(&self, serializer: &mut Serializer<F>) -> Result<()> {
         serializer.serialize_u64(*self)
     }
@@ -56,8 +50,6 @@ impl Serialize for u64 {
 
 /// A varint.
 impl Serialize for u128 {
-    ghost tree = { λ v. Num 128 v };
-
     fn serialize<F: Flavor>(&self, serializer: &mut Serializer<F>) -> Result<()> {
         serializer.serialize_u128(*self)
     }
@@ -65,8 +57,6 @@ impl Serialize for u128 {
 
 /// One byte, in two's complement.
 impl Serialize for i8 {
-    ghost tree = { λ v. Byte (cast_unsigned w8 v) };
-
     fn serialize<F: Flavor>(&self, serializer: &mut Serializer<F>) -> Result<()> {
         serializer.serialize_i8(*self)
     }
@@ -74,8 +64,6 @@ impl Serialize for i8 {
 
 /// A varint of the zigzag number.
 impl Serialize for i16 {
-    ghost tree = { λ v. Int 16 v };
-
     fn serialize<F: Flavor>(&self, serializer: &mut Serializer<F>) -> Result<()> {
         serializer.serialize_i16(*self)
     }
@@ -83,8 +71,6 @@ impl Serialize for i16 {
 
 /// A varint of the zigzag number.
 impl Serialize for i32 {
-    ghost tree = { λ v. Int 32 v };
-
     fn serialize<F: Flavor>(&self, serializer: &mut Serializer<F>) -> Result<()> {
         serializer.serialize_i32(*self)
     }
@@ -92,8 +78,6 @@ impl Serialize for i32 {
 
 /// A varint of the zigzag number.
 impl Serialize for i64 {
-    ghost tree = { λ v. Int 64 v };
-
     fn serialize<F: Flavor>(&self, serializer: &mut Serializer<F>) -> Result<()> {
         serializer.serialize_i64(*self)
     }
@@ -101,8 +85,6 @@ impl Serialize for i64 {
 
 /// A varint of the zigzag number.
 impl Serialize for i128 {
-    ghost tree = { λ v. Int 128 v };
-
     fn serialize<F: Flavor>(&self, serializer: &mut Serializer<F>) -> Result<()> {
         serializer.serialize_i128(*self)
     }

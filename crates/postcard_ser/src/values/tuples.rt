@@ -1,8 +1,7 @@
-//! Tuples: the parts from left to right, with no count before them.
+//! Tuples of one to twelve parts: the parts from left to right, with no count before them.
 
-ghost use Rattle.std.specs.Prelude.{◌⊎◌, [], ◌∷◌, ◌++◌};
+ghost use Rattle.std.specs.Prelude.{◌⊎◌, ◌++◌, OnOk};
 ghost use Rattle.postcard_wire.specs.Spelling.{bytes};
-ghost use Rattle.postcard_wire.specs.Tree.{Group, trees};
 ghost use Rattle.postcard_ser.specs.Writing.{Wrote};
 
 use crate::serialize::Serialize;
@@ -16,101 +15,200 @@ fn serialize_both<P: Serialize, Q: Serialize, F: Flavor>(
     second: &Q,
     serializer: &mut Serializer<F>,
 ) -> Result<()>
-    ensures { Wrote F.Flavor serializer.old.output
-        (bytes (P.tree first.now) ++ bytes (Q.tree second.now))
-        (P.refuses_itself first.now ⊎ Q.refuses_itself second.now)
-        (P.may_fail_text ⊎ Q.may_fail_text) result serializer.new.output }
+    ensures wrote { Wrote F.Flavor serializer.old.output
+        (bytes (P.shape.tree first.now) ++ bytes (Q.shape.tree second.now))
+        (P.shape.refuses first.now ⊎ Q.shape.refuses second.now)
+        (P.shape.text ⊎ Q.shape.text) result serializer.new.output }
+    ensures fits { OnOk result (P.shape.fits first.now × Q.shape.fits second.now) }
 {
     first.serialize(serializer)?;
     second.serialize(serializer)
 }
 
 /// The part.
-impl<P: Serialize> Serialize for (P,) {
-    ghost tree = { λ v. Group (trees (P.tree v.0 ∷ [])) };
-
-    ghost refuses_itself = { λ v. P.refuses_itself v.0 };
-
-    ghost may_fail_text = { P.may_fail_text };
-
+impl<A: Serialize> Serialize for (A,) {
     fn serialize<F: Flavor>(&self, serializer: &mut Serializer<F>) -> Result<()> {
         serializer.serialize_element(&self.0)
     }
 }
 
 /// The two parts.
-impl<P: Serialize, Q: Serialize> Serialize for (P, Q) {
-    ghost tree = { λ v. Group (trees (P.tree v.0 ∷ Q.tree v.1 ∷ [])) };
-
-    ghost refuses_itself = { λ v. P.refuses_itself v.0 ⊎ Q.refuses_itself v.1 };
-
-    ghost may_fail_text = { P.may_fail_text ⊎ Q.may_fail_text };
-
+impl<A: Serialize, B: Serialize> Serialize for (A, B) {
     fn serialize<F: Flavor>(&self, serializer: &mut Serializer<F>) -> Result<()> {
         serialize_both(&self.0, &self.1, serializer)
     }
 }
 
 /// The first part, and then the others.
-impl<P: Serialize, Q: Serialize, R: Serialize> Serialize for (P, Q, R) {
-    ghost tree = { λ v. Group (trees (P.tree v.0 ∷ Q.tree v.1 ∷ R.tree v.2 ∷ [])) };
-
-    ghost refuses_itself = { λ v. P.refuses_itself v.0 ⊎ Q.refuses_itself v.1 ⊎ R.refuses_itself v.2 };
-
-    ghost may_fail_text = { P.may_fail_text ⊎ Q.may_fail_text ⊎ R.may_fail_text };
-
+impl<A: Serialize, B: Serialize, C: Serialize> Serialize for (A, B, C) {
     fn serialize<F: Flavor>(&self, serializer: &mut Serializer<F>) -> Result<()> {
         serialize_both(&self.0, &(&self.1, &self.2), serializer)
     }
 }
 
 /// The first part, and then the others.
-impl<P: Serialize, Q: Serialize, R: Serialize, S: Serialize> Serialize for (P, Q, R, S) {
-    ghost tree = { λ v. Group (trees (P.tree v.0 ∷ Q.tree v.1 ∷ R.tree v.2 ∷ S.tree v.3 ∷ [])) };
-
-    ghost refuses_itself = { λ v. P.refuses_itself v.0 ⊎ Q.refuses_itself v.1 ⊎ R.refuses_itself v.2
-        ⊎ S.refuses_itself v.3 };
-
-    ghost may_fail_text = { P.may_fail_text ⊎ Q.may_fail_text ⊎ R.may_fail_text ⊎ S.may_fail_text };
-
+impl<A: Serialize, B: Serialize, C: Serialize, D: Serialize> Serialize for (A, B, C, D) {
     fn serialize<F: Flavor>(&self, serializer: &mut Serializer<F>) -> Result<()> {
         serialize_both(&self.0, &(&self.1, &self.2, &self.3), serializer)
     }
 }
 
 /// The first part, and then the others.
-impl<P: Serialize, Q: Serialize, R: Serialize, S: Serialize, T: Serialize> Serialize
-    for (P, Q, R, S, T) {
-    ghost tree = { λ v. Group (trees
-        (P.tree v.0 ∷ Q.tree v.1 ∷ R.tree v.2 ∷ S.tree v.3 ∷ T.tree v.4 ∷ [])) };
-
-    ghost refuses_itself = { λ v. P.refuses_itself v.0 ⊎ Q.refuses_itself v.1 ⊎ R.refuses_itself v.2
-        ⊎ S.refuses_itself v.3 ⊎ T.refuses_itself v.4 };
-
-    ghost may_fail_text = { P.may_fail_text ⊎ Q.may_fail_text ⊎ R.may_fail_text ⊎ S.may_fail_text ⊎
-        T.may_fail_text };
-
+impl<A: Serialize, B: Serialize, C: Serialize, D: Serialize, E: Serialize> Serialize
+    for (A, B, C, D, E) {
     fn serialize<F: Flavor>(&self, serializer: &mut Serializer<F>) -> Result<()> {
         serialize_both(&self.0, &(&self.1, &self.2, &self.3, &self.4), serializer)
     }
 }
 
 /// The first part, and then the others.
-impl<P: Serialize, Q: Serialize, R: Serialize, S: Serialize, T: Serialize, U: Serialize> Serialize
-    for (P, Q, R, S, T, U) {
-    ghost tree = { λ v. Group (trees
-        (P.tree v.0 ∷ Q.tree v.1 ∷ R.tree v.2 ∷ S.tree v.3 ∷ T.tree v.4 ∷ U.tree v.5 ∷ [])) };
-
-    ghost refuses_itself = { λ v. P.refuses_itself v.0 ⊎ Q.refuses_itself v.1 ⊎ R.refuses_itself v.2
-        ⊎ S.refuses_itself v.3 ⊎ T.refuses_itself v.4 ⊎ U.refuses_itself v.5 };
-
-    ghost may_fail_text = { P.may_fail_text ⊎ Q.may_fail_text ⊎ R.may_fail_text ⊎ S.may_fail_text ⊎
-        T.may_fail_text ⊎ U.may_fail_text };
-
+impl<A: Serialize, B: Serialize, C: Serialize, D: Serialize, E: Serialize, G: Serialize> Serialize
+    for (A, B, C, D, E, G) {
     fn serialize<F: Flavor>(&self, serializer: &mut Serializer<F>) -> Result<()> {
         serialize_both(
             &self.0,
             &(&self.1, &self.2, &self.3, &self.4, &self.5),
+            serializer,
+        )
+    }
+}
+
+/// The first part, and then the others.
+impl<
+    A: Serialize,
+    B: Serialize,
+    C: Serialize,
+    D: Serialize,
+    E: Serialize,
+    G: Serialize,
+    H: Serialize,
+> Serialize for (A, B, C, D, E, G, H) {
+    fn serialize<F: Flavor>(&self, serializer: &mut Serializer<F>) -> Result<()> {
+        serialize_both(
+            &self.0,
+            &(&self.1, &self.2, &self.3, &self.4, &self.5, &self.6),
+            serializer,
+        )
+    }
+}
+
+/// The first part, and then the others.
+impl<
+    A: Serialize,
+    B: Serialize,
+    C: Serialize,
+    D: Serialize,
+    E: Serialize,
+    G: Serialize,
+    H: Serialize,
+    I: Serialize,
+> Serialize for (A, B, C, D, E, G, H, I) {
+    fn serialize<F: Flavor>(&self, serializer: &mut Serializer<F>) -> Result<()> {
+        serialize_both(
+            &self.0,
+            &(
+                &self.1, &self.2, &self.3, &self.4, &self.5, &self.6, &self.7,
+            ),
+            serializer,
+        )
+    }
+}
+
+/// The first part, and then the others.
+impl<
+    A: Serialize,
+    B: Serialize,
+    C: Serialize,
+    D: Serialize,
+    E: Serialize,
+    G: Serialize,
+    H: Serialize,
+    I: Serialize,
+    J: Serialize,
+> Serialize for (A, B, C, D, E, G, H, I, J) {
+    fn serialize<F: Flavor>(&self, serializer: &mut Serializer<F>) -> Result<()> {
+        serialize_both(
+            &self.0,
+            &(
+                &self.1, &self.2, &self.3, &self.4, &self.5, &self.6, &self.7, &self.8,
+            ),
+            serializer,
+        )
+    }
+}
+
+/// The first part, and then the others.
+impl<
+    A: Serialize,
+    B: Serialize,
+    C: Serialize,
+    D: Serialize,
+    E: Serialize,
+    G: Serialize,
+    H: Serialize,
+    I: Serialize,
+    J: Serialize,
+    K: Serialize,
+> Serialize for (A, B, C, D, E, G, H, I, J, K) {
+    fn serialize<F: Flavor>(&self, serializer: &mut Serializer<F>) -> Result<()> {
+        serialize_both(
+            &self.0,
+            &(
+                &self.1, &self.2, &self.3, &self.4, &self.5, &self.6, &self.7, &self.8, &self.9,
+            ),
+            serializer,
+        )
+    }
+}
+
+/// The first part, and then the others.
+impl<
+    A: Serialize,
+    B: Serialize,
+    C: Serialize,
+    D: Serialize,
+    E: Serialize,
+    G: Serialize,
+    H: Serialize,
+    I: Serialize,
+    J: Serialize,
+    K: Serialize,
+    L: Serialize,
+> Serialize for (A, B, C, D, E, G, H, I, J, K, L) {
+    fn serialize<F: Flavor>(&self, serializer: &mut Serializer<F>) -> Result<()> {
+        serialize_both(
+            &self.0,
+            &(
+                &self.1, &self.2, &self.3, &self.4, &self.5, &self.6, &self.7, &self.8, &self.9,
+                &self.10,
+            ),
+            serializer,
+        )
+    }
+}
+
+/// The first part, and then the others.
+impl<
+    A: Serialize,
+    B: Serialize,
+    C: Serialize,
+    D: Serialize,
+    E: Serialize,
+    G: Serialize,
+    H: Serialize,
+    I: Serialize,
+    J: Serialize,
+    K: Serialize,
+    L: Serialize,
+    M: Serialize,
+> Serialize for (A, B, C, D, E, G, H, I, J, K, L, M) {
+    fn serialize<F: Flavor>(&self, serializer: &mut Serializer<F>) -> Result<()> {
+        serialize_both(
+            &self.0,
+            &(
+                &self.1, &self.2, &self.3, &self.4, &self.5, &self.6, &self.7, &self.8, &self.9,
+                &self.10, &self.11,
+            ),
             serializer,
         )
     }

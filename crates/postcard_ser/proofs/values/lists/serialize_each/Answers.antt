@@ -1,24 +1,29 @@
--- One more element is written, or it is refused and so is the list.
+-- One more element is written and fits, or it is refused and so is the list.
 use Rattle.std.proofs.Common.{◌<◌, length, Err, Ok, arith, subst}
 use Rattle.std.specs.Prelude.{Any}
+use Rattle.postcard_shape.proofs.Fitting.{one_more_fits}
 use Rattle.postcard_ser.specs.Writing.{Wrote}
 use Rattle.postcard_ser.proofs.Elements.{elements_more, elements_cut, any_at}
 use Rattle.postcard_ser.proofs.PartByPart.{wrote_then, wrote_stop, wrote_err, wrote_ok}
 use Rattle.postcard_ser.proofs.values.lists.serialize_each.Goals as goal
 
-pub returns-in_err-serialize : goal.returns-in_err-serialize
-returns-in_err-serialize g c =
+pub returns-in_err-serialize-clause-wrote : goal.returns-in_err-serialize-clause-wrote
+returns-in_err-serialize-clause-wrote g c =
     let xs = c.args.items.now in let k = c.loop-item.item-index in let x = c.item-item.result in let below : k < length xs = omega arith in
-    let R = Any g.T.Serialize.refuses_itself xs in
+    let s = g.T.Shaped.shape in let R = Any s.refuses xs in
     wrote_err _ c.from_residual.ensures.1
-    (subst (λ z. Wrote g.F.Flavor c.args.serializer.now.output z R g.T.Serialize.may_fail_text (Err c.in_err-serialize.field-0.0) c.serialize.new.serializer.output)
-    (elements_cut g.T.Serialize.tree xs k x below c.item-item.is)
-    (wrote_then _ _ c.loop-item.invariant
-    (wrote_stop _ _ c.in_err-serialize.ensures (any_at xs k x below c.item-item.is) (λ t. t)) (λ q. q) (λ t. t)))
+    (subst (λ z. Wrote g.F.Flavor c.args.serializer.now.output z R s.text (Err c.in_err-serialize.field-0.0) c.serialize.new.serializer.output)
+    (elements_cut s.tree xs k x below c.item-item.is)
+    (wrote_then _ _ c.loop-item.invariant.wrote
+    (wrote_stop _ _ c.in_err-serialize.ensures.wrote (any_at xs k x below c.item-item.is) (λ t. t)) (λ q. q) (λ t. t)))
 
 pub loop-item-preserved : goal.loop-item-preserved
 loop-item-preserved g c =
     let xs = c.args.items.now in let k = c.loop-item.item-index in let x = c.item-item.result in let below : k < length xs = omega arith in
-    subst (λ z. Wrote g.F.Flavor c.args.serializer.now.output z ⊥ ⊥ (Ok tt) c.serialize.new.serializer.output)
-    (elements_more g.T.Serialize.tree xs k x below c.item-item.is)
-    (wrote_then _ _ c.loop-item.invariant (wrote_ok c.in_ok-serialize.ensures) (λ q. q) (λ t. t))
+    let s = g.T.Shaped.shape in
+    record {
+      wrote = subst (λ z. Wrote g.F.Flavor c.args.serializer.now.output z ⊥ ⊥ (Ok tt) c.serialize.new.serializer.output)
+          (elements_more s.tree xs k x below c.item-item.is)
+          (wrote_then _ _ c.loop-item.invariant.wrote (wrote_ok c.in_ok-serialize.ensures.wrote) (λ q. q) (λ t. t));
+      fits = one_more_fits s.fits xs k x below c.item-item.is c.loop-item.invariant.fits c.in_ok-serialize.ensures.fits;
+    }

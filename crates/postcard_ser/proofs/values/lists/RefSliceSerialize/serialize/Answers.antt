@@ -3,12 +3,12 @@ use Rattle.postcard_ser.proofs.Elements.{elements_count}
 use Rattle.postcard_ser.proofs.PartByPart.{wrote_then, wrote_stop, wrote_err}
 use Rattle.postcard_ser.proofs.values.lists.RefSliceSerialize.serialize.Goals as goal
 
-pub returns-in_err-serialize_seq : goal.returns-in_err-serialize_seq
-returns-in_err-serialize_seq g c =
+pub returns-in_err-serialize_seq-clause-wrote : goal.returns-in_err-serialize_seq-clause-wrote
+returns-in_err-serialize_seq-clause-wrote g c =
     wrote_err _ c.from_residual.ensures.1
-    (rw (elements_count g.T.Serialize.tree c.args.self.now.now) (wrote_stop _ _ c.in_err-serialize_seq.ensures.known absurd absurd))
+    (rw (elements_count g.T.Shaped.shape.tree c.args.self.now.now) (wrote_stop _ _ c.in_err-serialize_seq.ensures.known absurd absurd))
 
-pub returns : goal.returns
-returns g c =
-    rw (elements_count g.T.Serialize.tree c.args.self.now.now)
-    (wrote_then _ _ c.in_ok-serialize_seq.ensures.known c.serialize_all.ensures (λ q. q) (λ t. t))
+pub returns-clause-wrote : goal.returns-clause-wrote
+returns-clause-wrote g c =
+    rw (elements_count g.T.Shaped.shape.tree c.args.self.now.now)
+    (wrote_then _ _ c.in_ok-serialize_seq.ensures.known c.serialize_all.ensures.wrote (λ q. q) (λ t. t))

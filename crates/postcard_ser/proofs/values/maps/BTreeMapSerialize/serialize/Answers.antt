@@ -1,16 +1,24 @@
--- The count, and then the entries.
+-- The count, and then the entries, which are those of a map in hand: in the order of their keys.
+use Rattle.std.proofs.Common.{arith}
+use Rattle.std.proofs.lemmas.Result.{on_ok_weaker}
+use Rattle.postcard_shape.proofs.Ordered.{inserted_itself}
 use Rattle.postcard_shape.specs.Compound.{entry_tree}
 use Rattle.postcard_ser.proofs.Elements.{elements_count}
 use Rattle.postcard_ser.proofs.PartByPart.{wrote_then, wrote_stop, wrote_err}
 use Rattle.postcard_ser.proofs.values.maps.BTreeMapSerialize.serialize.Goals as goal
 
-pub returns-in_err-serialize_map : goal.returns-in_err-serialize_map
-returns-in_err-serialize_map g c =
+pub returns-in_err-serialize_map-clause-wrote : goal.returns-in_err-serialize_map-clause-wrote
+returns-in_err-serialize_map-clause-wrote g c =
     wrote_err _ c.from_residual.ensures.1
-    (rw (elements_count (entry_tree g.K.Serialize.tree g.V.Serialize.tree) c.args.self.now.entries)
+    (rw (elements_count (entry_tree g.K.Shaped.shape.tree g.V.Shaped.shape.tree) c.args.self.now.entries)
     (wrote_stop _ _ (rw c.len.ensures.len at c.in_err-serialize_map.ensures.known) absurd absurd))
 
-pub returns : goal.returns
-returns g c =
-    rw (elements_count (entry_tree g.K.Serialize.tree g.V.Serialize.tree) c.args.self.now.entries)
-    (wrote_then _ _ (rw c.len.ensures.len at c.in_ok-serialize_map.ensures.known) c.serialize_entries.ensures (λ q. q) (λ t. t))
+pub returns-clause-wrote : goal.returns-clause-wrote
+returns-clause-wrote g c =
+    rw (elements_count (entry_tree g.K.Shaped.shape.tree g.V.Shaped.shape.tree) c.args.self.now.entries)
+    (wrote_then _ _ (rw c.len.ensures.len at c.in_ok-serialize_map.ensures.known) c.serialize_entries.ensures.wrote (λ q. q) (λ t. t))
+
+pub returns-clause-fits : goal.returns-clause-fits
+returns-clause-fits g c =
+    on_ok_weaker c.serialize_entries.result (λ fit. (omega (arith, c.len.ensures.len, c.len.ensures.small), fit, inserted_itself g.K.Ord.cmp g.met.K.Ord.total c.args.self.now.entries c.len.ensures.ordered))
+    c.serialize_entries.ensures.fits

@@ -1,0 +1,43 @@
+-- Entries in the order of their keys are those that putting them in one after another makes.
+use Rattle.std.specs.Prelude.{◌≡◌, List, [], ◌∷◌, ◌++◌}
+use Rattle.std.specs.Cmp.{IsTotalOrder}
+use Rattle.std.specs.List.{AllByRecursion}
+use Rattle.std.specs.List.Sorted.{IsStrictlySortedBy}
+use Rattle.std.specs.Map.{keys_of}
+use Rattle.std.specs.Ordering.{ordering_reverse}
+use Rattle.std.specs.declared.cmp.Ordering.{Ordering}
+use Rattle.std.specs.declared.cmp.Ordering.TheVariants.{Less, Greater}
+use Rattle.std.specs.BTreeMap.{insert_entry}
+use Rattle.std.proofs.Common.{refl, ap, sym, subst, ◌∙◌, append-nil, append_assoc}
+use Rattle.std.proofs.lemmas.Map.Keys.{sorted_head, sorted_tail}
+use Rattle.postcard_shape.specs.Maps.{inserted}
+
+module _ {A B : Type 0} (cmp : A → A → Ordering) (o : IsTotalOrder cmp) where
+  -- An entry whose key is above all others goes last.
+  insert_above : (es : List (A × B)) (k : A) (v : B) → AllByRecursion (λ y. cmp y k ≡ Less) (keys_of es) → insert_entry cmp es k v ≡ es ++ ((k, v) ∷ [])
+  insert_above [] k v a = refl
+  insert_above (e ∷ es) k v a =
+      let above : cmp k e.0 ≡ Greater = o.antisymm k e.0 ∙ ap ordering_reverse a.0 in
+      rw above (ap (λ (z : List (A × B)). e ∷ z) (insert_above es k v a.1))
+
+  -- What all keys have the key of an entry in the middle has.
+  middle_key : (P : A → Type 0) (es : List (A × B)) (p : A × B) (ps : List (A × B)) → AllByRecursion P (keys_of (es ++ (p ∷ ps))) → P p.0
+  middle_key P [] p ps a = a.0
+  middle_key P (e ∷ es) p ps a = middle_key P es p ps a.1
+
+  -- The keys before an entry of an ordered list are below its key.
+  keys_below : (es : List (A × B)) (p : A × B) (ps : List (A × B)) → IsStrictlySortedBy cmp (keys_of (es ++ (p ∷ ps))) → AllByRecursion (λ y. cmp y p.0 ≡ Less) (keys_of es)
+  keys_below [] p ps s = tt
+  keys_below (e ∷ es) p ps s = (middle_key (λ y. cmp e.0 y ≡ Less) es p ps (sorted_head cmp e.0 (keys_of (es ++ (p ∷ ps))) s), keys_below es p ps (sorted_tail cmp e.0 (keys_of (es ++ (p ∷ ps))) s))
+
+  -- Entries above those of a map are appended in their order.
+  inserted_onto : (ps es : List (A × B)) → IsStrictlySortedBy cmp (keys_of (es ++ ps)) → inserted cmp ps es ≡ es ++ ps
+  inserted_onto [] es s = sym (append-nil es)
+  inserted_onto (p ∷ ps) es s =
+      let one : insert_entry cmp es p.0 p.1 ≡ es ++ (p ∷ []) = insert_above es p.0 p.1 (keys_below es p ps s) in
+      let moved : (es ++ (p ∷ [])) ++ ps ≡ es ++ (p ∷ ps) = append_assoc es (p ∷ []) ps in
+      rw one (inserted_onto ps (es ++ (p ∷ [])) (subst (λ (z : List (A × B)). IsStrictlySortedBy cmp (keys_of z)) (sym moved) s) ∙ moved)
+
+  -- Ordered entries are those that putting them into an empty map makes.
+  pub inserted_itself : (es : List (A × B)) → IsStrictlySortedBy cmp (keys_of es) → es ≡ inserted cmp es []
+  inserted_itself es s = sym (inserted_onto es [] s)
