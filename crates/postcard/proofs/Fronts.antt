@@ -6,7 +6,7 @@ use Rattle.std.specs.Prelude.{◌↔◌, IfErr}
 use mathlib.Core.Bool.{Bool, true, false, not}
 use lib.Dec.{T}
 use Rattle.postcard_wire.specs.declared.error.Error.{Error}
-use Rattle.std.specs.Result.{IsOk, OnErr}
+use Rattle.std.specs.Result.{IsOk, OnOk, OnErr}
 use Rattle.std.specs.declared.result.Result.{Result}
 use Rattle.std.specs.Borrow.{MutBor, GName, RattleType, follows_if, follows_so}
 use mathlib.Core.Option.{Option}
@@ -36,7 +36,7 @@ is_false false t = refl
 in_front : (n : ℕ) (bs xs all : List ℕ) → n ≡ length bs → all ≡ bs ++ drop (length bs) xs → take n all ≡ bs
 in_front n bs xs all long is = (λ i. take (long i) (is i)) ∙ take-append_seam bs (drop (length bs) xs)
 
-module _ (xs : List ℕ) (Refuses Text : Type 0) (old : List ℕ) (d : Done) (r : Result (MutBor (List ℕ)) Error) (done : IsDone xs Refuses Text old d) (cut : IsCut d r) where
+module _ (xs : List ℕ) (Refuses Text Fits : Type 0) (old : List ℕ) (d : Done) (r : Result (MutBor (List ℕ)) Error) (done : IsDone xs Refuses Text Fits old d) (cut : IsCut d r) where
   -- what the caller writes through the front lands in front of the old bytes
   pub follows_front : (front : List ℕ) → IsOk r → front ++ drop d.count d.all.now ≡ front ++ drop (length xs) old
   follows_front front ok =
@@ -81,6 +81,22 @@ module _ (xs : List ℕ) (Refuses Text : Type 0) (old : List ℕ) (d : Done) (r 
       by_answer (Ok x) b sorts w k = tt
       by_answer (Err e) true sorts w k = subst (λ (x : Error). AnswersRefusal Text x) (sym w) (k refl)
       by_answer (Err e) false sorts w k = absurd (never_true (sorts.1 refl))
+
+  -- what was written fits
+  pub fits : OnOk r Fits
+  fits = by_answer r d.failed cut.sorts done.fitting
+    where
+      by_answer : (r : Result (MutBor (List ℕ)) Error) (b : Bool) → IsOk r ↔ (b ≡ false) → (b ≡ false → Fits) → OnOk r Fits
+      by_answer (Ok x) b sorts k = k (sorts.0 refl)
+      by_answer (Err _) b sorts k = tt
+
+  -- and so what is lent spells the tree
+  pub spelled : (t : Tree) → xs ≡ bytes t → (Fits → Spells t (bytes t)) → IfOk r (λ x. Spells t x.now)
+  spelled t is spell = by_answer r gives fits
+    where
+      by_answer : (r : Result (MutBor (List ℕ)) Error) → IfOk r (λ x. x.now ≡ xs) → OnOk r Fits → IfOk r (λ x. Spells t x.now)
+      by_answer (Ok x) h f = subst (λ (l : List ℕ). Spells t l) (sym (h ∙ is)) (spell f)
+      by_answer (Err _) h f = tt
 
 -- where a function says what the whole ends as, it follows each relation that the function meets
 module _ {M : Type 1} {𝓤 : Ura M} (𝓛 : Logic 𝓤) (R U : RattleType) (γ : GName) (m : Option GName) (F : U.Denot → R.Denot) (v : R.Denot) (P : U.Denot → R.Denot → Type 0) (P₀ : R.Denot → Type 0) where

@@ -3,7 +3,7 @@
 ghost use Rattle.std.specs.Prelude.{◌≡◌, ◌≢◌, ◌≤◌, ℕ, List, ◌++◌, length, Err, IfOk, MatchResult};
 ghost use Rattle.std.specs.Io.KnownBytes.{Consumes};
 ghost use Rattle.postcard_wire.specs.Tree.{Tree};
-ghost use Rattle.postcard_wire.specs.Spelling.{Spells};
+ghost use Rattle.postcard_wire.specs.Spelling.{Spells, bytes as canonical};
 ghost use Rattle.postcard_de_flavors.specs.Source.{Begins};
 ghost use Rattle.postcard.specs.Front.{ReadsFront, ReadsReader};
 
@@ -26,10 +26,12 @@ pub fn take_from_bytes<'a, T: Deserialize<'a>>(
     alloc: Global,
     bytes: &'a [u8],
 ) -> Result<(T, &'a [u8])>
-    ensures gives { IfOk result (λ read. ReadsFront T.reads T.value bytes.now read.0 read.1.now) }
-    ensures accepts { (t : Tree) (front rest : List ℕ) → T.reads t → Spells t front → bytes.now ≡ front ++ rest →
-        MatchResult result (λ read. T.value t read.0 × (read.1.now ≡ rest)) (λ e. (e ≡ Error.OutOfMemory) × T.grows) }
-    ensures grows { result ≡ Err Error.OutOfMemory → T.grows }
+    ensures gives { IfOk result (λ read. ReadsFront T.shape.reads T.shape.value bytes.now read.0 read.1.now) }
+    ensures accepts { (t : Tree) (front rest : List ℕ) → T.shape.reads t → Spells t front → bytes.now ≡ front ++ rest →
+        MatchResult result (λ read. T.shape.value t read.0 × (read.1.now ≡ rest)) (λ e. (e ≡ Error.OutOfMemory) × T.shape.grows) }
+    ensures reads_back { (x : T) (rest : List ℕ) → T.shape.fits x → bytes.now ≡ canonical (T.shape.tree x) ++ rest →
+        MatchResult result (λ read. T.shape.same read.0 x × (read.1.now ≡ rest)) (λ e. (e ≡ Error.OutOfMemory) × T.shape.grows) }
+    ensures grows { result ≡ Err Error.OutOfMemory → T.shape.grows }
     ensures never { result ≢ Err Error.DeserializeBadEncoding }
 {
     let mut deserializer = Deserializer::from_bytes(bytes);
@@ -44,10 +46,12 @@ pub fn take_from_bytes<'a, T: Deserialize<'a>>(
 ///
 /// As `take_from_bytes`.
 pub fn from_bytes<'a, T: Deserialize<'a>>(alloc: Global, bytes: &'a [u8]) -> Result<T>
-    ensures gives { IfOk result (λ value. (rest : List ℕ) × ReadsFront T.reads T.value bytes.now value rest) }
-    ensures accepts { (t : Tree) (front rest : List ℕ) → T.reads t → Spells t front → bytes.now ≡ front ++ rest →
-        MatchResult result (λ value. T.value t value) (λ e. (e ≡ Error.OutOfMemory) × T.grows) }
-    ensures grows { result ≡ Err Error.OutOfMemory → T.grows }
+    ensures gives { IfOk result (λ value. (rest : List ℕ) × ReadsFront T.shape.reads T.shape.value bytes.now value rest) }
+    ensures accepts { (t : Tree) (front rest : List ℕ) → T.shape.reads t → Spells t front → bytes.now ≡ front ++ rest →
+        MatchResult result (λ value. T.shape.value t value) (λ e. (e ≡ Error.OutOfMemory) × T.shape.grows) }
+    ensures reads_back { (x : T) (rest : List ℕ) → T.shape.fits x → bytes.now ≡ canonical (T.shape.tree x) ++ rest →
+        MatchResult result (λ value. T.shape.same value x) (λ e. (e ≡ Error.OutOfMemory) × T.shape.grows) }
+    ensures grows { result ≡ Err Error.OutOfMemory → T.shape.grows }
     ensures never { result ≢ Err Error.DeserializeBadEncoding }
 {
     let (value, _) = take_from_bytes(alloc, bytes)?;
@@ -72,12 +76,15 @@ pub fn from_io<'a, T: Deserialize<'a>, R: Source + 'a>(
     alloc: Global,
     from: (R, &'a mut [u8]),
 ) -> Result<(T, (R, &'a mut [u8]))>
-    ensures gives { IfOk result (λ read. ReadsReader T.reads T.value R.remaining R.steady from.entry.0 from.entry.1.now read.0 read.1.0 read.1.1.now) }
-    ensures accepts { (t : Tree) (front : List ℕ) → T.reads t → Spells t front → R.steady from.entry.0 → Begins (R.remaining from.entry.0) front
+    ensures gives { IfOk result (λ read. ReadsReader T.shape.reads T.shape.value R.remaining R.steady from.entry.0 from.entry.1.now read.0 read.1.0 read.1.1.now) }
+    ensures accepts { (t : Tree) (front : List ℕ) → T.shape.reads t → Spells t front → R.steady from.entry.0 → Begins (R.remaining from.entry.0) front
         → length front ≤ length from.entry.1.now
-        → MatchResult result (λ read. T.value t read.0 × Consumes (R.remaining from.entry.0) (R.remaining read.1.0) front) (λ e. (e ≡ Error.OutOfMemory) × T.grows) }
+        → MatchResult result (λ read. T.shape.value t read.0 × Consumes (R.remaining from.entry.0) (R.remaining read.1.0) front) (λ e. (e ≡ Error.OutOfMemory) × T.shape.grows) }
+    ensures reads_back { (x : T) → T.shape.fits x → R.steady from.entry.0 → Begins (R.remaining from.entry.0) (canonical (T.shape.tree x))
+        → length (canonical (T.shape.tree x)) ≤ length from.entry.1.now
+        → MatchResult result (λ read. T.shape.same read.0 x × Consumes (R.remaining from.entry.0) (R.remaining read.1.0) (canonical (T.shape.tree x))) (λ e. (e ≡ Error.OutOfMemory) × T.shape.grows) }
     ensures stays_steady { R.steady from.entry.0 → IfOk result (λ read. R.steady read.1.0) }
-    ensures grows { result ≡ Err Error.OutOfMemory → T.grows }
+    ensures grows { result ≡ Err Error.OutOfMemory → T.shape.grows }
     ensures never { result ≢ Err Error.DeserializeBadEncoding }
 {
     let (reader, scratch) = from;

@@ -14,9 +14,9 @@ use postcard_wire::Result;
 /// It succeeds exactly where the count fits `usize`, a value that refuses itself aside; else it answers
 /// `SerializeBufferFull`.
 pub fn serialized_size<T: Serialize>(value: &T) -> Result<usize>
-    ensures gives { IfOk result (λ count. count ≡ length (bytes (T.tree value.now))) }
-    ensures exactly { ¬ T.refuses_itself value.now → (IsOk result ↔ (length (bytes (T.tree value.now)) < 2 ^ 64)) }
-    ensures answers { ¬ T.refuses_itself value.now → IfErr result (AnswersRefusal T.may_fail_text) }
+    ensures gives { IfOk result (λ count. count ≡ length (bytes (T.shape.tree value.now))) }
+    ensures exactly { ¬ T.shape.refuses value.now → (IsOk result ↔ (length (bytes (T.shape.tree value.now)) < 2 ^ 64)) }
+    ensures answers { ¬ T.shape.refuses value.now → IfErr result (AnswersRefusal T.shape.text) }
 {
     serialize_with_flavor(value, Size::default())
 }

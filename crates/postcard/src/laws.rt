@@ -12,28 +12,28 @@ use postcard_de_flavors::Source;
 /// What was encoded is decoded, whatever stands behind it: bytes that begin with the encoding of a tree that the type reads
 /// have a front that spells it, and what is read of them is a value of that tree and leaves just the bytes behind.
 pub fn decodes_encoded<'a, T: Deserialize<'a>>()
-    ensures spelled { (t : Tree) → T.reads t → Spells t (bytes t) }
-    ensures decoded { (t : Tree) (rest left : List ℕ) (v : T) → T.reads t
-        → ReadsFront T.reads T.value (bytes t ++ rest) v left → T.value t v × (left ≡ rest) }
+    ensures spelled { (t : Tree) → T.shape.reads t → Spells t (bytes t) }
+    ensures decoded { (t : Tree) (rest left : List ℕ) (v : T) → T.shape.reads t
+        → ReadsFront T.shape.reads T.shape.value (bytes t ++ rest) v left → T.shape.value t v × (left ≡ rest) }
 {}
 
 /// Two decodings of the same bytes, as those of `take_from_bytes` and of `from_io`, give values that look alike and leave
 /// the same bytes.
 pub fn decodes_alike<'a, T: Deserialize<'a>>()
-    ensures { (all rest left : List ℕ) (v w : T) → ReadsFront T.reads T.value all v rest
-        → ReadsFront T.reads T.value all w left → T.same v w × (rest ≡ left) }
+    ensures { (all rest left : List ℕ) (v w : T) → ReadsFront T.shape.reads T.shape.value all v rest
+        → ReadsFront T.shape.reads T.shape.value all w left → T.shape.same v w × (rest ≡ left) }
 {}
 
 /// What a reader gives is what its bytes give: the value of `from_io` and that of `take_from_bytes` over the bytes that the reader
 /// told look alike, and what stays unread is the rest. With scratch as long as these bytes, each succeeds where the other does.
 pub fn reads_alike<'a, T: Deserialize<'a>, R: Source>()
     ensures alike { (old new : R) (all scratch room rest : List ℕ) (v w : T) → R.remaining old ≡ Some all
-        → ReadsReader T.reads T.value R.remaining R.steady old scratch v new room → ReadsFront T.reads T.value all w rest
-        → T.same v w × (R.remaining new ≡ Some rest) }
+        → ReadsReader T.shape.reads T.shape.value R.remaining R.steady old scratch v new room → ReadsFront T.shape.reads T.shape.value all w rest
+        → T.shape.same v w × (R.remaining new ≡ Some rest) }
     ensures given { (old new : R) (all scratch room : List ℕ) (v : T) → R.remaining old ≡ Some all
-        → ReadsReader T.reads T.value R.remaining R.steady old scratch v new room
-        → (rest : List ℕ) × ReadsFront T.reads T.value all v rest }
+        → ReadsReader T.shape.reads T.shape.value R.remaining R.steady old scratch v new room
+        → (rest : List ℕ) × ReadsFront T.shape.reads T.shape.value all v rest }
     ensures taken { (old : R) (all scratch rest : List ℕ) (w : T) → R.remaining old ≡ Some all → length all ≤ length scratch
-        → ReadsFront T.reads T.value all w rest
-        → (t : Tree) × (front : List ℕ) × T.reads t × Spells t front × Begins (R.remaining old) front × (length front ≤ length scratch) }
+        → ReadsFront T.shape.reads T.shape.value all w rest
+        → (t : Tree) × (front : List ℕ) × T.shape.reads t × Spells t front × Begins (R.remaining old) front × (length front ≤ length scratch) }
 {}

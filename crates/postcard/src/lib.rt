@@ -20,10 +20,12 @@ mod tests;
 mod with_flavor;
 
 pub use de::{from_bytes, from_io, take_from_bytes};
-pub use postcard_de::{Deserialize, Deserializer, MapAccess, SeqAccess};
+pub use postcard_de::{
+    Case, Deserialize, DeserializeOwned, Deserializer, FromRepr, MapAccess, NoCase, Owned, Repr, SeqAccess,
+    Shaped,
+};
 pub use postcard_de_flavors as de_flavors;
-pub use postcard_de_owned::{DeserializeOwned, Owned};
-pub use postcard_ser::{Serialize, Serializer};
+pub use postcard_ser::{Serialize, SerializeRepr, Serializer, serialize_variant};
 pub use postcard_ser_flavors as ser_flavors;
 pub use postcard_wire::{Error, Result};
 pub use ser::{fill_slice, to_slice};

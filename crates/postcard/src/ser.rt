@@ -24,12 +24,14 @@ pub fn to_slice<'a, T: Serialize>(value: &T, buf: &'a mut [u8]) -> Result<&'a mu
     // Where it succeeds, what the caller makes of the front, and then the old bytes; where it refuses, a beginning
     // of the spelling, and then the old bytes.
     ensures* writes_back { sem 𝓛 (LendsSoOk (Array u8 0) (Array u8 0) buf.entry result
-        (λ all front. all ≡ front ++ drop (length (bytes (T.tree value.now))) buf.old)
-        (λ all. ¬ T.refuses_itself value.now → Begins (bytes (T.tree value.now)) buf.old all)) }
-    ensures gives { IfOk result (λ front. front.now ≡ bytes (T.tree value.now)) }
-    ensures shortest { IfOk result (λ front. (p : List ℕ) → Spells (T.tree value.now) p → (p ≡ front.now) ⊎ (length front.now < length p)) }
-    ensures exactly { ¬ T.refuses_itself value.now → (IsOk result ↔ (length (bytes (T.tree value.now)) ≤ length buf.old)) }
-    ensures answers { ¬ T.refuses_itself value.now → IfErr result (AnswersRefusal T.may_fail_text) }
+        (λ all front. all ≡ front ++ drop (length (bytes (T.shape.tree value.now))) buf.old)
+        (λ all. ¬ T.shape.refuses value.now → Begins (bytes (T.shape.tree value.now)) buf.old all)) }
+    ensures gives { IfOk result (λ front. front.now ≡ bytes (T.shape.tree value.now)) }
+    ensures shortest { IfOk result (λ front. (p : List ℕ) → Spells (T.shape.tree value.now) p → (p ≡ front.now) ⊎ (length front.now < length p)) }
+    ensures exactly { ¬ T.shape.refuses value.now → (IsOk result ↔ (length (bytes (T.shape.tree value.now)) ≤ length buf.old)) }
+    ensures answers { ¬ T.shape.refuses value.now → IfErr result (AnswersRefusal T.shape.text) }
+    ensures fits { OnOk result (T.shape.fits value.now) }
+    ensures spelled { IfOk result (λ front. Spells (T.shape.tree value.now) front.now) }
 {
     cut(write_front(value, buf))
 }
@@ -39,11 +41,12 @@ pub fn to_slice<'a, T: Serialize>(value: &T, buf: &'a mut [u8]) -> Result<&'a mu
 /// It is `to_slice` for callers that keep the buffer: the same bytes, refusals and bytes behind, said of the buffer
 /// as it is after the call.
 pub fn fill_slice<T: Serialize>(value: &T, buf: &mut [u8]) -> Result<usize>
-    ensures counts { IfOk result (λ count. count ≡ length (bytes (T.tree value.now))) }
-    ensures fills { OnOk result (Fills (bytes (T.tree value.now)) buf.old buf.new) }
-    ensures refused { OnErr result (¬ T.refuses_itself value.now → Begins (bytes (T.tree value.now)) buf.old buf.new) }
-    ensures exactly { ¬ T.refuses_itself value.now → (IsOk result ↔ (length (bytes (T.tree value.now)) ≤ length buf.old)) }
-    ensures answers { ¬ T.refuses_itself value.now → IfErr result (AnswersRefusal T.may_fail_text) }
+    ensures counts { IfOk result (λ count. count ≡ length (bytes (T.shape.tree value.now))) }
+    ensures fills { OnOk result (Fills (bytes (T.shape.tree value.now)) buf.old buf.new) }
+    ensures refused { OnErr result (¬ T.shape.refuses value.now → Begins (bytes (T.shape.tree value.now)) buf.old buf.new) }
+    ensures exactly { ¬ T.shape.refuses value.now → (IsOk result ↔ (length (bytes (T.shape.tree value.now)) ≤ length buf.old)) }
+    ensures answers { ¬ T.shape.refuses value.now → IfErr result (AnswersRefusal T.shape.text) }
+    ensures fits { OnOk result (T.shape.fits value.now) }
 {
     let Done {
         all: _all,
@@ -65,7 +68,7 @@ struct Done<'a> {
 /// Writes the value into the front of the buffer, and gives the buffer back as the loan that it was.
 fn write_front<'a, T: Serialize>(value: &T, buf: &'a mut [u8]) -> Done<'a>
     ensures same_loan { result.all.ghost_name ≡ buf.entry.ghost_name }
-    ensures done { IsDone (bytes (T.tree value.now)) (T.refuses_itself value.now) T.may_fail_text buf.old result }
+    ensures done { IsDone (bytes (T.shape.tree value.now)) (T.shape.refuses value.now) T.shape.text (T.shape.fits value.now) buf.old result }
 {
     let mut serializer = Serializer {
         output: Slice::new(buf),

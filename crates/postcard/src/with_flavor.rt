@@ -1,6 +1,6 @@
 //! Encoding into any writing flavor, and the calls over those of this library.
 
-ghost use Rattle.std.specs.Prelude.{◌≡◌, ◌≤◌, ◌↔◌, ◌++◌, length, IfOk, IfErr, IsOk};
+ghost use Rattle.std.specs.Prelude.{◌≡◌, ◌≤◌, ◌↔◌, ◌++◌, length, IfOk, IfErr, IsOk, OnOk};
 ghost use Rattle.std.specs.Io.KnownBytes.{Appends};
 ghost use Rattle.postcard_wire.specs.Spelling.{bytes};
 ghost use Rattle.postcard_ser.specs.Writing.{AnswersRefusal};
@@ -25,9 +25,10 @@ pub fn serialize_with_flavor<T: Serialize, S: Flavor<Output = O> + Drop, O>(
     value: &T,
     storage: S,
 ) -> Result<O>
-    ensures gives { IfOk result (Finished S.Flavor storage (bytes (T.tree value.now))) }
-    ensures has_room { ¬ T.refuses_itself value.now → S.room storage (bytes (T.tree value.now)) → IsOk result }
-    ensures answers { ¬ T.refuses_itself value.now → IfErr result (AnswersRefusal T.may_fail_text) }
+    ensures gives { IfOk result (Finished S.Flavor storage (bytes (T.shape.tree value.now))) }
+    ensures has_room { ¬ T.shape.refuses value.now → S.room storage (bytes (T.shape.tree value.now)) → IsOk result }
+    ensures answers { ¬ T.shape.refuses value.now → IfErr result (AnswersRefusal T.shape.text) }
+    ensures fits { OnOk result (T.shape.fits value.now) }
 {
     let mut serializer = Serializer { output: storage };
     value.serialize(&mut serializer)?;
@@ -42,25 +43,28 @@ pub fn serialize_with_flavor<T: Serialize, S: Flavor<Output = O> + Drop, O>(
 /// It succeeds exactly where the shortest spelling of the value's tree has at most `B` bytes, a value that refuses
 /// itself aside; else it answers `SerializeBufferFull`.
 pub fn to_vec<T: Serialize, const B: usize>(value: &T) -> Result<ArrayVec<u8, B>>
-    ensures gives { IfOk result (λ vec. vec.items ≡ bytes (T.tree value.now)) }
-    ensures exactly { ¬ T.refuses_itself value.now → (IsOk result ↔ (length (bytes (T.tree value.now)) ≤ B)) }
-    ensures answers { ¬ T.refuses_itself value.now → IfErr result (AnswersRefusal T.may_fail_text) }
+    ensures gives { IfOk result (λ vec. vec.items ≡ bytes (T.shape.tree value.now)) }
+    ensures exactly { ¬ T.shape.refuses value.now → (IsOk result ↔ (length (bytes (T.shape.tree value.now)) ≤ B)) }
+    ensures answers { ¬ T.shape.refuses value.now → IfErr result (AnswersRefusal T.shape.text) }
+    ensures fits { OnOk result (T.shape.fits value.now) }
 {
     serialize_with_flavor(value, HVec::new())
 }
 
 /// Encodes a value into a vector that grows. `SerializeBufferFull` for want of memory alone.
 pub fn to_allocvec<T: Serialize>(alloc: Global, value: &T) -> Result<Vec<u8>>
-    ensures gives { IfOk result (λ vec. vec.items ≡ bytes (T.tree value.now)) }
-    ensures answers { ¬ T.refuses_itself value.now → IfErr result (AnswersRefusal T.may_fail_text) }
+    ensures gives { IfOk result (λ vec. vec.items ≡ bytes (T.shape.tree value.now)) }
+    ensures answers { ¬ T.shape.refuses value.now → IfErr result (AnswersRefusal T.shape.text) }
+    ensures fits { OnOk result (T.shape.fits value.now) }
 {
     serialize_with_flavor(value, AllocVec::new(alloc))
 }
 
 /// Encodes a value into a vector that grows. `SerializeBufferFull` for want of memory alone.
 pub fn to_stdvec<T: Serialize>(alloc: Global, value: &T) -> Result<Vec<u8>>
-    ensures gives { IfOk result (λ vec. vec.items ≡ bytes (T.tree value.now)) }
-    ensures answers { ¬ T.refuses_itself value.now → IfErr result (AnswersRefusal T.may_fail_text) }
+    ensures gives { IfOk result (λ vec. vec.items ≡ bytes (T.shape.tree value.now)) }
+    ensures answers { ¬ T.shape.refuses value.now → IfErr result (AnswersRefusal T.shape.text) }
+    ensures fits { OnOk result (T.shape.fits value.now) }
 {
     serialize_with_flavor(value, StdVec::new(alloc))
 }
@@ -68,8 +72,9 @@ pub fn to_stdvec<T: Serialize>(alloc: Global, value: &T) -> Result<Vec<u8>>
 /// Encodes a value behind what a target has, and answers the target. `SerializeBufferFull` where the target refuses a
 /// piece; it is then dropped.
 pub fn to_extend<T: Serialize, W: ExtendBytes + Drop>(value: &T, writer: W) -> Result<W>
-    ensures appends { IfOk result (λ target. W.content target ≡ W.content writer ++ bytes (T.tree value.now)) }
-    ensures answers { ¬ T.refuses_itself value.now → IfErr result (AnswersRefusal T.may_fail_text) }
+    ensures appends { IfOk result (λ target. W.content target ≡ W.content writer ++ bytes (T.shape.tree value.now)) }
+    ensures answers { ¬ T.shape.refuses value.now → IfErr result (AnswersRefusal T.shape.text) }
+    ensures fits { OnOk result (T.shape.fits value.now) }
 {
     serialize_with_flavor(value, ExtendFlavor::new(writer))
 }
@@ -78,8 +83,9 @@ pub fn to_extend<T: Serialize, W: ExtendBytes + Drop>(value: &T, writer: W) -> R
 /// it is then dropped, and what it got is open. Of a writer that tells its bytes, they are those that it had and then the
 /// shortest spelling of the value's tree.
 pub fn to_io<T: Serialize, W: Write + Drop>(value: &T, writer: W) -> Result<W>
-    ensures appends { IfOk result (λ output. Appends (W.contents writer) (W.contents output) (bytes (T.tree value.now))) }
-    ensures answers { ¬ T.refuses_itself value.now → IfErr result (AnswersRefusal T.may_fail_text) }
+    ensures appends { IfOk result (λ output. Appends (W.contents writer) (W.contents output) (bytes (T.shape.tree value.now))) }
+    ensures answers { ¬ T.shape.refuses value.now → IfErr result (AnswersRefusal T.shape.text) }
+    ensures fits { OnOk result (T.shape.fits value.now) }
 {
     serialize_with_flavor(value, WriteFlavor::new(writer))
 }

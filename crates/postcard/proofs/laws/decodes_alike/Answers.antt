@@ -3,4 +3,4 @@ use Rattle.postcard.proofs.Alike.{fronts_alike}
 use Rattle.postcard.proofs.laws.decodes_alike.Goals as goal
 
 pub returns : goal.returns
-returns g c all rest left v w a b = fronts_alike g.T.Deserialize.delimited g.T.Deserialize.one_value a b
+returns g c all rest left v w a b = fronts_alike g.T.Shaped.shape.delimited g.T.Shaped.shape.one_value a b

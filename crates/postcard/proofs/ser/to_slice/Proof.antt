@@ -15,7 +15,7 @@ use denote.Triple.Clauses.{Lasts}
 use Rattle.std.specs.Prelude.{◌↔◌}
 use Rattle.postcard_wire.specs.contracts.error.Error.{the_row as err_row}
 use Rattle.postcard_wire.proofs.error.Error.TheLaws.{the_row_laws as err_laws}
-use Rattle.std.specs.Result.{IsOk, OnErr}
+use Rattle.std.specs.Result.{IsOk, OnOk, OnErr}
 use Rattle.std.specs.contracts.result.Result as RS
 use Rattle.postcard.specs.Buffers.{Begins}
 use Rattle.postcard.specs.Done.{IsDone, IsCut}
@@ -25,7 +25,8 @@ use Rattle.std.specs.Prelude.{IfErr}
 use Rattle.std.specs.Borrow.{name_if_ok}
 use Rattle.std.proofs.Common.{IfOk}
 use Rattle.std.proofs.result.Result.TheLaws.{the_row_laws as result_laws}
-use Rattle.postcard.proofs.Fronts.{follows_front, follows_old, gives, shortest, exactly, answers, follows_such}
+use Rattle.postcard_shape.proofs.Again.{is_spelled}
+use Rattle.postcard.proofs.Fronts.{follows_front, follows_old, gives, shortest, exactly, answers, fits, spelled, follows_such}
 use base.Fml.{GName}
 use types.Kit.{use0}
 use denote.Array.{Array}
@@ -53,30 +54,30 @@ slice_laws : (a : NamedLft) → Laws (MutSlice a.mir a.lft u8)
 slice_laws a = of_field (mut_slice_field a u8 tt) (mut_slice_laws a u8 tt) refl (mut_slice_shared a u8 tt (row_shared u8 byte_laws))
 
 pub to_slice_spec : {M : Type 1} → statement M
-to_slice_spec 𝓤 𝓛 𝓜 𝓡 wired X L gs dict met =
-    let args : Args = bounded (a_type ∷ []) (X, tt) (dcons dict dnil) in let fn : Fn = inst_fn args code.function in
-    let end = f.ended X gs dict in
+to_slice_spec 𝓤 𝓛 𝓜 𝓡 wired X L gs dict sh dict2 met met2 =
+    let args : Args = bounded (a_type ∷ []) (X, tt) (dcons dict (dcons dict2 dnil)) in let fn : Fn = inst_fn args code.function in
+    let end = f.ended X gs dict sh dict2 in
     let stayed : Stays end.signature.params end.kept = (stay_dropped (RefOf (0 ∷ []) tt (plain (λ _. param 0 X)) (λ _. tt)) yes, (stay_dropped (SliceRefMutOf (1 ∷ []) tt (plain (λ _. u8)) (λ _. tt)) no, tt)) in
-    let c = f.clauses X gs dict 𝓛 𝓜.mem 𝓡.returns in let W = walk_of 𝓛 end stayed c in let 𝓣 = tables 𝓤 𝓛.H 𝓜 𝓡 𝓡.env in
+    let c = f.clauses X gs dict sh dict2 𝓛 𝓜.mem 𝓡.returns in let W = walk_of 𝓛 end stayed c in let 𝓣 = tables 𝓤 𝓛.H 𝓜 𝓡 𝓡.env in
     proved 𝓛 end stayed c 𝓜 𝓡 (Goes-dropped 𝓛 3 (RefOf (0 ∷ []) tt (plain (λ _. param 0 X)) (λ _. tt)) yes (λ κs x w. refl), (Goes-spent_slice 𝓛 3 (1 ∷ []) tt (plain (λ _. u8)), tt))
-    (f.Key.name args) fn (code.unfolded 𝓤 𝓛.H 𝓜 𝓡 wired (X, tt) dict)
+    (f.Key.name args) fn (code.unfolded 𝓤 𝓛.H 𝓜 𝓡 wired (X, tt) dict dict2)
     (λ κs. (shr_vals, (mut_slice_vals, tt))) (λ κs. (shr_Tells (named 0) κs.0 (param 0 X), (mut_slice_Tells (named 1) κs.1.0 u8, tt))) (λ κs qs bounds a _ are.
     let b = a.1.0.ref_ptr.0 in let o = a.1.0.ref_ptr.1 in let γ = a.1.0.ghost_name in let xs : List ℕ = a.1.0.now in
     let y : W.Ghost = ((κs, qs, bounds, a, (shr_vals a.0, (mut_slice_vals a.1.0, tt))), tt) in
-    let κ = κs.1.0 in let q = qs.1.0 in let ℓ = named_lft 3 1 tt κs in let D : RattleType = the_row ℓ in let ys : List ℕ = bytes (gs.tree a.0.now) in let Refuses : Type 0 = gs.refuses_itself a.0.now in let Text : Type 0 = gs.may_fail_text in
+    let κ = κs.1.0 in let q = qs.1.0 in let ℓ = named_lft 3 1 tt κs in let D : RattleType = the_row ℓ in let ys : List ℕ = bytes (sh.shape.tree a.0.now) in let Refuses : Type 0 = sh.shape.refuses a.0.now in let Text : Type 0 = sh.shape.text in let Fits : Type 0 = sh.shape.fits a.0.now in
     let Own : RattleType = MutSlice (named 1) κ u8 in let Out : RattleType = RS.the_row Own err_row in
     let Begun : List ℕ → Type 0 = λ n. ¬ Refuses → Begins ys xs n in
     let long : length xs < 2 ^ 64 = are.1.0.0.1.0 in
-    let G = triple_of 𝓛 (g.signature X) (g.spec X gs dict 𝓛 𝓜.mem 𝓡.returns) in
+    let G = triple_of 𝓛 (g.signature X) (g.spec X gs dict sh dict2 𝓛 𝓜.mem 𝓡.returns) in
     let z : G.Ghost = ((κs, qs, bounds, a, (shr_vals a.0, (mut_slice_vals a.1.0, tt))), tt) in
     qed 𝓛 (raw (G.pre z) ∷ []) ∵ enter ! _ _ _ _ _ $
     alloc_all ! (λ l. pass_all ! refl ((tt, tt), ((tt, (tt, (record { fits = long }, tt))), tt)) $
     sets ! (addr ! (from ! (fld ! refl (hop ! (look_in_at ! 2 (sub ! 0 refl (whole !))) (stop !))))) refl (tt, tt) $
     sets ! (agg ! (and_then ! (get ! refl) (and_then ! (get_in ! (fld ! refl (stop !)) (sub ! 1 refl (whole !))) (no_more !)))) refl (tt, (tt, (record { fits = long }, tt))) $
-    calls_at ! (framed 𝓤 𝓛.H 𝓜 𝓣) G (g-thm.met 𝓤 𝓛 𝓜 𝓡 (code.calls-postcard::ser::write_front 𝓡.env wired) X L gs dict met) z
+    calls_at ! (framed 𝓤 𝓛.H 𝓜 𝓣) G (g-thm.met 𝓤 𝓛 𝓜 𝓡 (code.calls-postcard::ser::write_front 𝓡.env wired) X L gs dict sh dict2 met met2) z
     (and_then ! (get ! refl) (and_then ! (get ! refl) (no_more !))) (λ v.
     use1 𝓛 (later (some (λ (r : Done). ((‵ (flft κs.0 qs.0) ⊛ ‵ (flft κ q) ⊛ ‵ (flft κs.1.1.0 qs.1.1.0) ⊛ ‵ ftrue) ⊛ ‵ (D.own_val r (v ∷ []))) ⊛
-    some (λ (ws : Lasts (g.ended X gs dict) κs a). ‵ (lasts (g.ended X gs dict) κs a ws) ⊛ raw (fact 𝓤 (r.all.ghost_name ≡ γ)) ⊛ raw (fact 𝓤 (IsDone ys Refuses Text xs r)))))) (id⊢ 𝓤 _) $
+    some (λ (ws : Lasts (g.ended X gs dict sh dict2) κs a). ‵ (lasts (g.ended X gs dict sh dict2) κs a ws) ⊛ raw (fact 𝓤 (r.all.ghost_name ≡ γ)) ⊛ raw (fact 𝓤 (IsDone ys Refuses Text Fits xs r)))))) (id⊢ 𝓤 _) $
     await ! tt $ pick ! (λ r. split ! $ split ! $ move ! (2 ∷ []) $ pick ! (λ ws. split ! $ drop ! $ split ! $ heard ! _ (λ same. heard ! _ (λ made.
     move ! (1 ∷ []) $ peeks ! D _ (shows 𝓛 D) r (v ∷ []) (λ is.
     lands_as ! refl refl (((the_row_laws ℓ).lawful 𝓛).typed r _ is).0 $
@@ -102,9 +103,11 @@ to_slice_spec 𝓤 𝓛 𝓜 𝓡 wired X L gs dict met =
     let name = name_if_ok (λ (x : MutBor (List ℕ)). x.ghost_name) w in
     let P : List ℕ → List ℕ → Type 0 = λ x n. IsOk w → n ≡ x ++ drop_list (length ys) xs in let P₀ : List ℕ → Type 0 = λ n. OnErr w (Begun n) in
     move ! (2 ∷ []) $ use1 𝓛 (‵ (follows_so (Array u8 0) (Array u8 0) γ name P P₀)) (follows_such 𝓛 (Array u8 0) (Array u8 0) γ name (λ n. n ++ drop_list r.count r.all.now) r.all.now P P₀
-    (λ x ok. follows_front ys Refuses Text xs r w made front x ok) (follows_old ys Refuses Text xs r w made front)) $
-    use0 𝓛 (raw (fact 𝓤 (¬ Refuses → IfErr w (AnswersRefusal Text)))) (fact_i 𝓤 _ (emp 𝓤) (answers ys Refuses Text xs r w made front)) $
-    use0 𝓛 (raw (fact 𝓤 (¬ Refuses → IsOk w ↔ (length ys ≤ length xs)))) (fact_i 𝓤 _ (emp 𝓤) (exactly ys Refuses Text xs r w made front)) $
-    use0 𝓛 (raw (fact 𝓤 (IfOk w (λ x. (p : List ℕ) → Spells (gs.tree a.0.now) p → (p ≡ x.now) ⊎ (length x.now < length p))))) (fact_i 𝓤 _ (emp 𝓤) (shortest ys Refuses Text xs r w made front (gs.tree a.0.now) refl)) $
-    use0 𝓛 (raw (fact 𝓤 (IfOk w (λ x. x.now ≡ ys)))) (fact_i 𝓤 _ (emp 𝓤) (gives ys Refuses Text xs r w made front)) $
-    suffices ! _ (leaves 𝓛 end stayed c y v' w (tt, (tt, tt)) (tt, (tt, tt))) $ nothing ! $ nothing ! $ fjoin ! $ nothing ! $ fjoin ! $ move ! (6 ∷ 0 ∷ 7 ∷ 5 ∷ 1 ∷ 2 ∷ 3 ∷ 4 ∷ []) $ done !)))))))))))))
+    (λ x ok. follows_front ys Refuses Text Fits xs r w made front x ok) (follows_old ys Refuses Text Fits xs r w made front)) $
+    use0 𝓛 (raw (fact 𝓤 (IfOk w (λ x. Spells (sh.shape.tree a.0.now) x.now)))) (fact_i 𝓤 _ (emp 𝓤) (spelled ys Refuses Text Fits xs r w made front (sh.shape.tree a.0.now) refl (λ f. is_spelled sh.shape a.0.now f))) $
+    use0 𝓛 (raw (fact 𝓤 (OnOk w Fits))) (fact_i 𝓤 _ (emp 𝓤) (fits ys Refuses Text Fits xs r w made front)) $
+    use0 𝓛 (raw (fact 𝓤 (¬ Refuses → IfErr w (AnswersRefusal Text)))) (fact_i 𝓤 _ (emp 𝓤) (answers ys Refuses Text Fits xs r w made front)) $
+    use0 𝓛 (raw (fact 𝓤 (¬ Refuses → IsOk w ↔ (length ys ≤ length xs)))) (fact_i 𝓤 _ (emp 𝓤) (exactly ys Refuses Text Fits xs r w made front)) $
+    use0 𝓛 (raw (fact 𝓤 (IfOk w (λ x. (p : List ℕ) → Spells (sh.shape.tree a.0.now) p → (p ≡ x.now) ⊎ (length x.now < length p))))) (fact_i 𝓤 _ (emp 𝓤) (shortest ys Refuses Text Fits xs r w made front (sh.shape.tree a.0.now) refl)) $
+    use0 𝓛 (raw (fact 𝓤 (IfOk w (λ x. x.now ≡ ys)))) (fact_i 𝓤 _ (emp 𝓤) (gives ys Refuses Text Fits xs r w made front)) $
+    suffices ! _ (leaves 𝓛 end stayed c y v' w (tt, (tt, tt)) (tt, (tt, tt))) $ nothing ! $ nothing ! $ fjoin ! $ nothing ! $ fjoin ! $ move ! (8 ∷ 0 ∷ 9 ∷ 7 ∷ 1 ∷ 2 ∷ 3 ∷ 4 ∷ 5 ∷ 6 ∷ []) $ done !)))))))))))))

@@ -4,4 +4,4 @@ use Rattle.postcard.proofs.with_flavor.serialize_with_flavor.Goals as goal
 
 pub returns-in-Err-clause-has_room : goal.returns-in-Err-clause-has_room
 returns-in-Err-clause-has_room g c refuses room =
-    c.in-Err.ensures.closes (wrote_closes _ room c.in_ok-serialize.ensures)
+    c.in-Err.ensures.closes (wrote_closes _ room c.in_ok-serialize.ensures.wrote)
