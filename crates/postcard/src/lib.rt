@@ -21,8 +21,8 @@ mod with_flavor;
 
 pub use de::{from_bytes, from_io, take_from_bytes};
 pub use postcard_de::{
-    Case, Deserialize, DeserializeOwned, Deserializer, FromRepr, MapAccess, NoCase, Owned, Repr, SeqAccess,
-    Shaped,
+    Case, Deserialize, DeserializeOwned, Deserializer, FromRepr, MapAccess, NoCase, Owned, Repr,
+    SeqAccess, Shaped,
 };
 pub use postcard_de_flavors as de_flavors;
 pub use postcard_ser::{Serialize, SerializeRepr, Serializer, serialize_variant};
