@@ -152,7 +152,7 @@ where
 
 /// Prints the shortest bytes of a value as hexadecimal on a line.
 fn print_encoded<T: Serialize, W: Write>(value: &T, output: &mut W) -> Result<(), Failure>
-    ensures printed { OnOk result (Appends (W.contents output.old) (W.contents output.new) (encode_lower (bytes (T.tree value.now)) ++ 10 ∷ [])) }
+    ensures printed { OnOk result (Appends (W.contents output.old) (W.contents output.new) (encode_lower (bytes (T.shape.tree value.now)) ++ 10 ∷ [])) }
     ensures refused { IfErr result (λ e. e ≢ Failure.Usage) }
 {
     let mut buffer = [0; BUFFER];

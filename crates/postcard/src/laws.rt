@@ -1,13 +1,18 @@
-//! Laws over what the calls answer. The functions do nothing: their contracts are the laws.
+//! Laws over what the calls answer, as contracts. But for [`comes_back`], the functions do nothing.
 
-ghost use Rattle.std.specs.Prelude.{◌≡◌, ◌≤◌, ℕ, List, ◌++◌, length, Some};
+ghost use Rattle.std.specs.Prelude.{◌≡◌, ◌≤◌, ℕ, List, ◌++◌, length, Some, IfOk};
 ghost use Rattle.postcard_wire.specs.Tree.{Tree};
 ghost use Rattle.postcard_wire.specs.Spelling.{Spells, bytes};
 ghost use Rattle.postcard_de_flavors.specs.Source.{Begins};
 ghost use Rattle.postcard.specs.Front.{ReadsFront, ReadsReader};
 
-use postcard_de::Deserialize;
+use crate::de::from_bytes;
+use crate::with_flavor::to_allocvec;
+use postcard_de::{Deserialize, DeserializeOwned, Owned};
 use postcard_de_flavors::Source;
+use postcard_ser::Serialize;
+use postcard_wire::Result;
+use std::alloc::Global;
 
 /// What was encoded is decoded, whatever stands behind it: bytes that begin with the encoding of a tree that the type reads
 /// have a front that spells it, and what is read of them is a value of that tree and leaves just the bytes behind.
@@ -37,3 +42,16 @@ pub fn reads_alike<'a, T: Deserialize<'a>, R: Source>()
         → ReadsFront T.shape.reads T.shape.value all w rest
         → (t : Tree) × (front : List ℕ) × T.shape.reads t × Spells t front × Begins (R.remaining old) front × (length front ≤ length scratch) }
 {}
+
+/// Encodes a value and decodes it again: what comes back looks like the value.
+///
+/// # Errors
+///
+/// Fails with `SerializeBufferFull` or `OutOfMemory` if an allocation fails, and with the error of a value that refuses itself.
+pub fn comes_back<T: Serialize + DeserializeOwned>(alloc: Global, value: &T) -> Result<T>
+    ensures { IfOk result (λ back. T.shape.same back value.now) }
+{
+    let message = to_allocvec(alloc, value)?;
+    let Owned(back) = from_bytes::<Owned<T>>(alloc, &message)?;
+    Ok(back)
+}
