@@ -3,7 +3,7 @@
 mod decoding;
 mod flavors;
 
-use crate::{Error, Serialize, Serializer, fill_slice, to_slice};
+use crate::{Error, Serialize, Serializer, Shaped, fill_slice, to_slice};
 use postcard_ser_flavors::Flavor;
 use std::alloc::AllocError;
 use std::process::Abort;
@@ -98,14 +98,15 @@ fn leaves_a_beginning_where_there_is_no_room(rt: HostRuntime) {
 /// A value that refuses itself.
 struct Unwritable;
 
-impl Serialize for Unwritable {
+impl Shaped for Unwritable {
     ghost use Rattle.std.specs.Prelude.{⊤};
-    ghost use Rattle.postcard_wire.specs.Tree.{Group, NoTrees};
+    ghost use Rattle.postcard_shape.specs.Rows.{none, group};
+    ghost use Rattle.postcard_ser.specs.Refusing.{refusing};
 
-    ghost tree = { λ _. Group NoTrees };
+    ghost shape = { refusing (λ _. ⊤) (group none) };
+}
 
-    ghost refuses_itself = { λ _. ⊤ };
-
+impl Serialize for Unwritable {
     fn serialize<F: Flavor>(&self, _serializer: &mut Serializer<F>) -> crate::Result<()> {
         Err(Error::ser_custom("no"))
     }
