@@ -1,8 +1,10 @@
 //! Why a value was not written or not read.
 
 ghost use Rattle.std.specs.Prelude.{◌≡◌, Some};
+ghost use Rattle.postcard_wire.specs.declared.error.Error.TheVariants.{OutOfMemory};
 ghost use Rattle.postcard_wire.specs.Error.{error_text};
 
+use std::alloc::{AllocError, AllocFailed};
 use std::fmt::Display;
 use std::{error, fmt};
 
@@ -109,6 +111,26 @@ impl fmt::Display for Error {
 }
 
 impl error::Error for Error {}
+
+/// Converts a refused allocation into [`Error::OutOfMemory`], so that a type which grows may be
+/// read with `?`, as in `String::from_str(alloc, text)?`.
+impl From<AllocError> for Error {
+    ghost from_gives = { λ _ e. e ≡ OutOfMemory };
+
+    fn from(_error: AllocError) -> Error {
+        Error::OutOfMemory
+    }
+}
+
+/// Converts a refused allocation into [`Error::OutOfMemory`] and drops the value that found no
+/// place, so that `items.push(item)?` may be written while reading.
+impl<T: Drop> From<AllocFailed<T>> for Error {
+    ghost from_gives = { λ _ e. e ≡ OutOfMemory };
+
+    fn from(_error: AllocFailed<T>) -> Error {
+        Error::OutOfMemory
+    }
+}
 
 #[cfg(test)]
 mod tests;

@@ -1,6 +1,7 @@
 //! The texts and the names of the errors.
 
 use super::*;
+use std::alloc::Global;
 use std::test::Fail;
 
 /// Each case with its name and its text: those of postcard 1.1.3, and the last this port's own.
@@ -127,5 +128,26 @@ fn text_of<E: error::Error>(rt: &HostRuntime, error: &E) -> std::result::Result<
 fn is_an_error_of_std(rt: HostRuntime) -> std::result::Result<(), Fail> {
     let text = text_of(&rt, &Error::DeserializeBadUtf8)?;
     assert_eq!(rt; text.as_str(), "Tried to parse invalid utf-8");
+    Ok(())
+}
+
+/// A reader's steps that ask for memory, with `?` alone.
+fn grown(alloc: Global) -> Result<(String, Vec<u8>)> {
+    let text = String::from_str(alloc, "Hi!")?;
+    let mut items = Vec::new(alloc);
+    items.push(7)?;
+    Ok((text, items))
+}
+
+#[test]
+fn is_made_of_a_refused_allocation(rt: HostRuntime) -> std::result::Result<(), Fail> {
+    assert_eq!(rt; Error::from(AllocError), Error::OutOfMemory);
+    match grown(rt.alloc()) {
+        Ok((text, items)) => {
+            assert_eq!(rt; text.as_str(), "Hi!");
+            assert_eq!(rt; items.as_slice(), [7].as_slice());
+        }
+        Err(error) => assert_eq!(rt; error, Error::OutOfMemory),
+    }
     Ok(())
 }
