@@ -22,6 +22,7 @@ use std::process::Abort;
 use std::test::Fail;
 
 /// A user's struct, written as the tuple of its fields: so it needs no proof of its own.
+#[derive(Drop)]
 struct Reading<'a> {
     name: &'a str,
     value: u32,
@@ -41,6 +42,7 @@ impl SerializeRepr for Reading<'_> {
 
 /// A user's enum, of which each variant is written by its index and its content: so it needs no
 /// proof of its own.
+#[derive(Drop)]
 enum Event<'a> {
     Boot,
     Reading(Reading<'a>),
