@@ -162,7 +162,7 @@ impl<F: Flavor + Drop> Flavor for Pieces<F> {
     }
 }
 
-/// Writes a value into a slice, and answers its bytes.
+/// Writes a value into a slice, and returns its bytes.
 fn written<'a, T: Serialize>(value: &T, buffer: &'a mut [u8]) -> Result<&'a [u8]> {
     let mut serializer = Serializer {
         output: Slice::new(buffer),
@@ -249,10 +249,7 @@ fn enums(rt: HostRuntime) {
         name: "Hi!",
         value: 300,
     };
-    let fault = Event::Fault {
-        code: 7,
-        text: "z",
-    };
+    let fault = Event::Fault { code: 7, text: "z" };
     assert_written(&rt, &Event::Boot, &[0x00]);
     assert_written(
         &rt,
