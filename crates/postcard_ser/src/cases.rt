@@ -24,6 +24,5 @@ pub fn serialize_variant<T: Serialize, F: Flavor>(
         (T.shape.refuses content.now) T.shape.text result serializer.new.output }
     ensures fits { OnOk result ((index < 2 ^ 32) × T.shape.fits content.now) }
 {
-    serializer.serialize_u32(index)?;
-    content.serialize(serializer)
+    serializer.serialize_newtype_variant("", index, "", content)
 }

@@ -112,9 +112,8 @@ impl<F: Flavor> Serializer<F> {
     /// Writes the text that a value prints: the count of its bytes as a varint, and then its bytes.
     /// The value is formatted twice, first to count.
     ///
-    /// A text that fails to format, is longer than `usize::MAX` bytes, or is refused by the flavor
-    /// is answered by `CollectStrError`. Where the flavor refuses the count, it is
-    /// `SerializeBufferFull`.
+    /// Fails with `CollectStrError` if the text fails to format, is longer than `usize::MAX` bytes,
+    /// or is refused by the flavor, and with `SerializeBufferFull` if the flavor refuses the count.
     pub fn collect_str<T: Display>(&mut self, value: &T) -> Result<()>
         ensures writes { IfSome (T.output value.now)
             (λ u. Wrote F.Flavor self.old.output (bytes (Text u)) ⊤ ⊤ result self.new.output) }

@@ -1,17 +1,40 @@
-//! Values as bytes: what a type says of itself is handed to a flavor, piece after piece.
+//! Values as bytes: a type writes itself into a flavor, piece after piece.
 //!
 //! The one contract is that of [`Serialize`]: a call of `serialize` has `Wrote` the bytes of the
-//! value's `tree`. After an `Ok` just these bytes are appended. A value that doesn't refuse itself is
-//! refused only where the flavor has no room for them, with `SerializeBufferFull` (or with
-//! `CollectStrError`, if the type may answer it); a tidy flavor then holds a beginning of them. In any
-//! case pushes may leave what is left. The layer above cites nothing else. Whoever writes an impl for a
-//! type of several parts joins what each part wrote by the lemmas of `proofs/PartByPart.antt`.
+//! value's tree, which the type's shape says (`Shaped`, of the crate `postcard_shape`). After an
+//! `Ok` just these bytes are appended, and the value `fits`, by which they are read again. A value
+//! that doesn't refuse itself is refused only if the flavor has no room for them, with
+//! `SerializeBufferFull` (or with `CollectStrError`, if it may fail to print); a tidy flavor then
+//! holds a beginning of them. The layer above cites nothing else.
 //!
-//! To be read in this order:
-//! - the crate `postcard_ser_flavors`, passed on here: where the bytes go.
-//! - `serializer`: the calls by which a type writes itself; `collect_str`: that for texts that values
-//!   print.
-//! - `serialize`: the trait of all types that are written.
+//! A struct of one's own needs three impls, of which the third, `FromRepr` of `postcard_de`, is for
+//! reading, and one ghost line:
+//!
+//! ```text
+//! impl<'a> Repr for Reading<'a> {
+//!     type As = (&'a str, u32);
+//!
+//!     ghost repr = { λ v. (v.name, v.value) };
+//! }
+//!
+//! impl SerializeRepr for Reading<'_> {
+//!     fn serialize_repr<F: Flavor>(&self, serializer: &mut Serializer<F>) -> Result<()> {
+//!         (&self.name, &self.value).serialize(serializer)
+//!     }
+//! }
+//! ```
+//!
+//! An enum is seen as its variants in a row, and writes each by [`serialize_variant`]. A type that
+//! calls the [`Serializer`] more than once itself joins what each call wrote by the lemmas of
+//! `proofs/PartByPart.antt`.
+//!
+//! In reading order:
+//! - the crates `postcard_ser_flavors`, passed on here, for where the bytes go, and
+//!   `postcard_shape`, for what a type says of its values.
+//! - `serializer`: the calls by which a type writes itself; `collect_str`: that for texts that
+//!   values print.
+//! - `serialize`: the trait of all types that are written; `repr` and `cases`: how structs and
+//!   enums are written.
 //! - `values`: the types of std and of `arrayvec` that are written.
 #![tactic(auto)]
 

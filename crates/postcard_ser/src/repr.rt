@@ -13,9 +13,9 @@ use postcard_wire::Result;
 
 /// A type that is written as what it is seen as, by its `Repr`.
 ///
-/// A struct writes the tuple of its fields, as `(&self.name, &self.count).serialize(serializer)`. An
-/// enum writes the variant of each arm of a `match` by `serialize_variant`. The check finds either
-/// proof by itself.
+/// A struct writes the tuple of its fields, as `(&self.name, &self.count).serialize(serializer)`.
+/// An enum writes the variant of each arm of a `match` by `serialize_variant`. The check finds
+/// either proof by itself.
 pub trait SerializeRepr: Repr {
     /// Writes the canonical encoding of what the value is seen as. Fails as `Serialize::serialize`
     /// does.

@@ -22,8 +22,8 @@ pub trait Serialize: Shaped {
     /// # Errors
     ///
     /// Fails with `SerializeBufferFull` if the flavor refuses a piece. A type whose values refuse
-    /// themselves, or whose texts may fail to print, may also fail with an error of its own, or with
-    /// `CollectStrError`. What the flavor took before the error stays in it.
+    /// themselves, or whose texts may fail to print, may also fail with an error of its own, or
+    /// with `CollectStrError`. What the flavor took before the error stays in it.
     fn serialize<F: Flavor>(&self, serializer: &mut Serializer<F>) -> Result<()>
         ensures wrote { Wrote F.Flavor serializer.old.output (bytes (Self.shape.tree self.now))
             (Self.shape.refuses self.now) Self.shape.text result serializer.new.output }

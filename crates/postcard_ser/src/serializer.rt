@@ -1,5 +1,5 @@
-//! The calls by which a type writes itself, each a node of the wire format. Here are those for numbers,
-//! texts and lists.
+//! The calls by which a type writes itself, each a node of the wire format. Here are those for
+//! numbers, texts and lists.
 
 ghost use Rattle.std.specs.Prelude.{◌≡◌, [], ◌∷◌, ◌++◌, length, map, false, IsOk, IsErrOf, IfSome, OnOk};
 ghost use Rattle.std.specs.Option.{IfNone};
@@ -25,15 +25,15 @@ use postcard_wire::{Error, Result};
 
 /// Writes values into a flavor.
 ///
-/// Each call answers `SerializeBufferFull` where the flavor refuses, whatever the flavor's own error
-/// is. The output then holds the pieces that were taken so far.
+/// Each call fails with `SerializeBufferFull` if the flavor refuses a piece, whatever the flavor's
+/// own error is. The output then holds the pieces that were taken before.
 #[derive(Drop)]
 pub struct Serializer<F: Flavor> {
     /// Where the bytes go.
     pub output: F,
 }
 
-// What is answered where a flavor refuses, whatever its own error.
+// The error of a call whose flavor refused a piece, whatever the flavor's own.
 fn refusal(_of_flavor: Error) -> Error
     ensures { result ≡ Error.SerializeBufferFull }
 {
@@ -64,7 +64,7 @@ impl<F: Flavor> Serializer<F> {
         self.extend(piece)
     }
 
-    /// Whether a type should write itself for people to read: it never should.
+    /// Always `false`: the format is binary.
     pub fn is_human_readable(&self) -> bool
         ensures { result ≡ false }
     {
@@ -162,10 +162,9 @@ impl<F: Flavor> Serializer<F> {
         self.extend_counted(v)
     }
 
-    /// Begins a list: writes the count of its elements as a varint of 1 to 10 bytes.
-    ///
-    /// Each element is then written by `serialize_element`; nobody counts them. An unknown count is
-    /// refused with `SerializeSeqLengthUnknown`, before anything is written.
+    /// Begins a list: writes the number of its elements as a varint of 1 to 10 bytes. The caller
+    /// must write exactly `len` elements by `serialize_element`; this is not checked. Fails with
+    /// `SerializeSeqLengthUnknown` if `len` is `None`, before anything is written.
     pub fn serialize_seq(&mut self, len: Option<usize>) -> Result<()>
         ensures known { IfSome len (λ n. Wrote F.Flavor self.old.output (bytes (Num 64 n)) ⊥ ⊥
             result self.new.output) }

@@ -22,6 +22,7 @@ use std::process::Abort;
 use std::test::Fail;
 
 /// A user's struct, written as the tuple of its fields: so it needs no proof of its own.
+#[derive(Drop)]
 struct Reading<'a> {
     name: &'a str,
     value: u32,
@@ -41,6 +42,7 @@ impl SerializeRepr for Reading<'_> {
 
 /// A user's enum, of which each variant is written by its index and its content: so it needs no
 /// proof of its own.
+#[derive(Drop)]
 enum Event<'a> {
     Boot,
     Reading(Reading<'a>),
@@ -160,7 +162,7 @@ impl<F: Flavor + Drop> Flavor for Pieces<F> {
     }
 }
 
-/// Writes a value into a slice, and answers its bytes.
+/// Writes a value into a slice, and returns its bytes.
 fn written<'a, T: Serialize>(value: &T, buffer: &'a mut [u8]) -> Result<&'a [u8]> {
     let mut serializer = Serializer {
         output: Slice::new(buffer),
@@ -247,10 +249,7 @@ fn enums(rt: HostRuntime) {
         name: "Hi!",
         value: 300,
     };
-    let fault = Event::Fault {
-        code: 7,
-        text: "z",
-    };
+    let fault = Event::Fault { code: 7, text: "z" };
     assert_written(&rt, &Event::Boot, &[0x00]);
     assert_written(
         &rt,

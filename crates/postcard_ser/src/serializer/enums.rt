@@ -29,7 +29,8 @@ impl<F: Flavor> Serializer<F> {
         variant: &str,
         value: &T,
     ) -> Result<()>
-        ensures wrote { Wrote F.Flavor self.old.output (bytes (Variant index (T.shape.tree value.now)))
+        ensures wrote { Wrote F.Flavor self.old.output
+            (bytes (Variant index (T.shape.tree value.now)))
             (T.shape.refuses value.now) T.shape.text result self.new.output }
         ensures fits { OnOk result (T.shape.fits value.now) }
     {
@@ -37,9 +38,9 @@ impl<F: Flavor> Serializer<F> {
         value.serialize(self)
     }
 
-    /// Begins a variant with `len` fields: writes the index as a varint of 1 to 5 bytes. The fields
-    /// are then written by `serialize_field`; nobody counts them, and neither their count nor the
-    /// names are written.
+    /// Begins a variant with `len` fields: writes the index as a varint of 1 to 5 bytes. Neither
+    /// the number of fields nor the names are written. The caller must write exactly `len` fields
+    /// by `serialize_field`; this is not checked.
     pub fn serialize_tuple_variant(
         &mut self,
         _name: &str,
@@ -52,9 +53,9 @@ impl<F: Flavor> Serializer<F> {
         self.serialize_u32(index)
     }
 
-    /// Begins a variant with `len` named fields: writes the index as a varint of 1 to 5 bytes. The
-    /// fields are then written by `serialize_struct_field`; nobody counts them, and neither their
-    /// count nor the names are written.
+    /// Begins a variant with `len` named fields: writes the index as a varint of 1 to 5 bytes.
+    /// Neither the number of fields nor the names are written. The caller must write exactly `len`
+    /// fields by `serialize_struct_field`; this is not checked.
     pub fn serialize_struct_variant(
         &mut self,
         name: &str,

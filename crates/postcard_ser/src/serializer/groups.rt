@@ -12,8 +12,8 @@ use postcard_ser_flavors::Flavor;
 use postcard_wire::{Error, Result};
 
 impl<F: Flavor> Serializer<F> {
-    /// Begins a tuple or an array of `len` elements: writes nothing. They are then written by
-    /// `serialize_element`; nobody counts them.
+    /// Begins a tuple or an array of `len` elements: writes nothing. The caller must write exactly
+    /// `len` elements by `serialize_element`; this is not checked.
     pub fn serialize_tuple(&mut self, _len: usize) -> Result<()>
         ensures wrote { Wrote F.Flavor self.old.output [] ⊥ ⊥ result self.new.output }
         ensures always { IsOk result }
@@ -22,8 +22,8 @@ impl<F: Flavor> Serializer<F> {
         Ok(())
     }
 
-    /// Begins a struct of `len` fields without names: writes nothing. They are then written by
-    /// `serialize_field`; nobody counts them.
+    /// Begins a struct of `len` fields without names: writes nothing. The caller must write exactly
+    /// `len` fields by `serialize_field`; this is not checked.
     pub fn serialize_tuple_struct(&mut self, _name: &str, len: usize) -> Result<()>
         ensures wrote { Wrote F.Flavor self.old.output [] ⊥ ⊥ result self.new.output }
         ensures always { IsOk result }
@@ -32,8 +32,8 @@ impl<F: Flavor> Serializer<F> {
         self.serialize_tuple(len)
     }
 
-    /// Begins a struct of `len` fields: writes nothing. They are then written by
-    /// `serialize_struct_field`; nobody counts them.
+    /// Begins a struct of `len` fields: writes nothing. The caller must write exactly `len` fields
+    /// by `serialize_struct_field`; this is not checked.
     pub fn serialize_struct(&mut self, name: &str, len: usize) -> Result<()>
         ensures wrote { Wrote F.Flavor self.old.output [] ⊥ ⊥ result self.new.output }
         ensures always { IsOk result }
@@ -42,9 +42,10 @@ impl<F: Flavor> Serializer<F> {
         self.serialize_tuple_struct(name, len)
     }
 
-    /// Begins a map: writes the count of its entries as a varint of 1 to 10 bytes. Each entry is
-    /// then written by `serialize_key` and `serialize_value`; nobody counts them. Refuses an
-    /// unknown count with `SerializeSeqLengthUnknown`, before anything is written.
+    /// Begins a map: writes the number of its entries as a varint of 1 to 10 bytes. The caller must
+    /// write exactly `len` entries, each by `serialize_key` and `serialize_value`; this is not
+    /// checked. Fails with `SerializeSeqLengthUnknown` if `len` is `None`, before anything is
+    /// written.
     pub fn serialize_map(&mut self, len: Option<usize>) -> Result<()>
         ensures known { IfSome len (λ n. Wrote F.Flavor self.old.output (bytes (Num 64 n)) ⊥ ⊥
             result self.new.output) }
@@ -56,14 +57,14 @@ impl<F: Flavor> Serializer<F> {
 
     /// Writes the key of an entry of a map.
     pub fn serialize_key<T: Serialize>(&mut self, key: &T) -> Result<()>
-        ensures wrote { Wrote F.Flavor self.old.output (bytes (T.shape.tree key.now)) (T.shape.refuses key.now)
-            T.shape.text result self.new.output }
+        ensures wrote { Wrote F.Flavor self.old.output (bytes (T.shape.tree key.now))
+            (T.shape.refuses key.now) T.shape.text result self.new.output }
         ensures fits { OnOk result (T.shape.fits key.now) }
     {
         key.serialize(self)
     }
 
-    /// Writes the value of an entry of a map, behind its key.
+    /// Writes the value of an entry of a map, after its key.
     pub fn serialize_value<T: Serialize>(&mut self, value: &T) -> Result<()>
         ensures wrote { Wrote F.Flavor self.old.output (bytes (T.shape.tree value.now))
             (T.shape.refuses value.now) T.shape.text result self.new.output }

@@ -99,12 +99,38 @@ fn tuples(rt: HostRuntime) {
 
 #[test]
 fn long_tuples(rt: HostRuntime) {
-    assert_written(&rt, &(1u8, 2u8, 3u8, 4u8, 5u8, 6u8, 7u8), &[1, 2, 3, 4, 5, 6, 7]);
-    assert_written(&rt, &(1u8, 2u8, 3u8, 4u8, 5u8, 6u8, 7u8, 8u8), &[1, 2, 3, 4, 5, 6, 7, 8]);
-    assert_written(&rt, &(1u8, 2u8, 3u8, 4u8, 5u8, 6u8, 7u8, 8u8, 9u8), &[1, 2, 3, 4, 5, 6, 7, 8, 9]);
-    assert_written(&rt, &(1u8, 2u8, 3u8, 4u8, 5u8, 6u8, 7u8, 8u8, 9u8, 10u8), &[1, 2, 3, 4, 5, 6, 7, 8, 9, 10]);
-    assert_written(&rt, &(1u8, 2u8, 3u8, 4u8, 5u8, 6u8, 7u8, 8u8, 9u8, 10u8, 11u8), &[1, 2, 3, 4, 5, 6, 7, 8, 9, 10, 11]);
-    assert_written(&rt, &(1u8, 2u8, 3u8, 4u8, 5u8, 6u8, 7u8, 8u8, 9u8, 10u8, 11u8, 12u8), &[1, 2, 3, 4, 5, 6, 7, 8, 9, 10, 11, 12]);
+    assert_written(
+        &rt,
+        &(1u8, 2u8, 3u8, 4u8, 5u8, 6u8, 7u8),
+        &[1, 2, 3, 4, 5, 6, 7],
+    );
+    assert_written(
+        &rt,
+        &(1u8, 2u8, 3u8, 4u8, 5u8, 6u8, 7u8, 8u8),
+        &[1, 2, 3, 4, 5, 6, 7, 8],
+    );
+    assert_written(
+        &rt,
+        &(1u8, 2u8, 3u8, 4u8, 5u8, 6u8, 7u8, 8u8, 9u8),
+        &[1, 2, 3, 4, 5, 6, 7, 8, 9],
+    );
+    assert_written(
+        &rt,
+        &(1u8, 2u8, 3u8, 4u8, 5u8, 6u8, 7u8, 8u8, 9u8, 10u8),
+        &[1, 2, 3, 4, 5, 6, 7, 8, 9, 10],
+    );
+    assert_written(
+        &rt,
+        &(1u8, 2u8, 3u8, 4u8, 5u8, 6u8, 7u8, 8u8, 9u8, 10u8, 11u8),
+        &[1, 2, 3, 4, 5, 6, 7, 8, 9, 10, 11],
+    );
+    assert_written(
+        &rt,
+        &(
+            1u8, 2u8, 3u8, 4u8, 5u8, 6u8, 7u8, 8u8, 9u8, 10u8, 11u8, 12u8,
+        ),
+        &[1, 2, 3, 4, 5, 6, 7, 8, 9, 10, 11, 12],
+    );
 }
 
 #[test]
