@@ -101,7 +101,7 @@ struct Unwritable;
 impl Shaped for Unwritable {
     ghost use Rattle.std.specs.Prelude.{⊤};
     ghost use Rattle.postcard_shape.specs.Rows.{none, group};
-    ghost use Rattle.postcard_ser.specs.Refusing.{refusing};
+    ghost use Rattle.postcard_shape.specs.Refusing.{refusing};
 
     ghost shape = { refusing (λ _. ⊤) (group none) };
 }

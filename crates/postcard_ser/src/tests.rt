@@ -4,7 +4,7 @@ ghost use Rattle.std.specs.Prelude.{◌≡◌, ◌%◌, [], ◌∷◌};
 ghost use Rattle.postcard_shape.specs.Leaves.{byte};
 ghost use Rattle.postcard_shape.specs.Lists.{seq};
 ghost use Rattle.postcard_shape.specs.Shape.{via};
-ghost use Rattle.postcard_ser.specs.Refusing.{refusing};
+ghost use Rattle.postcard_shape.specs.Refusing.{refusing};
 ghost use Rattle.postcard_ser.specs.declared.tests.Event.{Event};
 
 mod calls;

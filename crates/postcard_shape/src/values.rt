@@ -1,10 +1,11 @@
 //! The shapes of the types of std and of `arrayvec`, a module for each kind.
 
-mod choices;
+mod fixed;
 mod lists;
 mod maps;
 mod nonzero;
 mod numbers;
+mod options;
 mod ranges;
 mod scalars;
 mod text;

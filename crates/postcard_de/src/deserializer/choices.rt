@@ -62,7 +62,7 @@ impl<'de, F: Flavor> Deserializer<'de, F> {
     ///
     /// `DeserializeUnexpectedEnd` where the bytes end within the index, `DeserializeBadVarint` where it is longer or
     /// passes 32 bits. That an index has no variant is for the type to refuse.
-    pub fn deserialize_enum(&mut self, _name: &'static str, _variants: &[&str]) -> Result<u32>
+    pub fn deserialize_enum(&mut self, _name: &str, _variants: &[&str]) -> Result<u32>
         ensures reads { Reads (SpellsNum 32) (λ n. n < 2 ^ 32) Same ⊥ F.left F.able F.may_leave (source_of self.old) result (source_of self.new) }
         ensures refused { IfErr result (λ e. Refuses (WantsDigit 32) (BadNumber 32) F.left F.able (source_of self.old) e (source_of self.new)) }
     {

@@ -36,7 +36,7 @@ impl<'de, F: Flavor> Deserializer<'de, F> {
     /// # Errors
     ///
     /// None.
-    pub fn deserialize_unit_struct(&mut self, _name: &'static str) -> Result<()>
+    pub fn deserialize_unit_struct(&mut self, _name: &str) -> Result<()>
         ensures reads { Reads Spells (IsGroup IsEnd) (λ t v. IsGroup IsEnd t) ⊥ F.left F.able F.may_leave (source_of self.old) result (source_of self.new) }
         ensures always { IsOk result }
         ensures unchanged { self.new ≡ self.old }
@@ -76,7 +76,7 @@ impl<'de, F: Flavor> Deserializer<'de, F> {
     /// # Errors
     ///
     /// None.
-    pub fn deserialize_tuple_struct(&mut self, _name: &'static str, len: usize) -> Result<SeqAccess>
+    pub fn deserialize_tuple_struct(&mut self, _name: &str, len: usize) -> Result<SeqAccess>
         ensures parts { result ≡ Ok len }
         ensures unchanged { self.new ≡ self.old }
     {
@@ -88,7 +88,7 @@ impl<'de, F: Flavor> Deserializer<'de, F> {
     /// # Errors
     ///
     /// None.
-    pub fn deserialize_struct(&mut self, _name: &'static str, fields: &[&str]) -> Result<SeqAccess>
+    pub fn deserialize_struct(&mut self, _name: &str, fields: &[&str]) -> Result<SeqAccess>
         ensures parts { result ≡ Ok (length fields.now) }
         ensures unchanged { self.new ≡ self.old }
     {

@@ -4,7 +4,7 @@ ghost use Rattle.std.specs.Prelude.{◌∷◌, Some};
 ghost use Rattle.std.specs.Fmt.{decimal};
 ghost use Rattle.postcard_shape.specs.Leaves.{text};
 ghost use Rattle.postcard_shape.specs.Shape.{via};
-ghost use Rattle.postcard_ser.specs.Refusing.{printed};
+ghost use Rattle.postcard_shape.specs.Refusing.{printed};
 
 use super::assert_written;
 use crate::serialize::Serialize;

@@ -1,11 +1,10 @@
-//! Texts: lent, owned, and of a fixed capacity.
+//! Texts.
 
 ghost use Rattle.std.specs.Prelude.{string_bytes};
 ghost use Rattle.postcard_shape.specs.Shape.{via, growing};
-ghost use Rattle.postcard_shape.specs.Leaves.{text, short_text};
+ghost use Rattle.postcard_shape.specs.Leaves.{text};
 
 use crate::shape::Shaped;
-use arrayvec::ArrayString;
 
 impl Shaped for &str {
     ghost shape = { via (λ v. v.now) text };
@@ -13,8 +12,4 @@ impl Shaped for &str {
 
 impl Shaped for String {
     ghost shape = { via (λ v. string_bytes v) (growing text) };
-}
-
-impl<const CAP: usize> Shaped for ArrayString<CAP> {
-    ghost shape = { via (λ v. v.bytes) (short_text CAP) };
 }

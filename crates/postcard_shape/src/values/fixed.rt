@@ -1,0 +1,20 @@
+//! Arrays, and vectors and texts of a fixed capacity.
+
+ghost use Rattle.postcard_shape.specs.Shape.{via};
+ghost use Rattle.postcard_shape.specs.Leaves.{short_text};
+ghost use Rattle.postcard_shape.specs.Lists.{array, few};
+
+use crate::shape::Shaped;
+use arrayvec::{ArrayString, ArrayVec};
+
+impl<T: Shaped, const N: usize> Shaped for [T; N] {
+    ghost shape = { array N T.shape };
+}
+
+impl<T: Shaped, const CAP: usize> Shaped for ArrayVec<T, CAP> {
+    ghost shape = { via (λ v. v.items) (few CAP T.shape) };
+}
+
+impl<const CAP: usize> Shaped for ArrayString<CAP> {
+    ghost shape = { via (λ v. v.bytes) (short_text CAP) };
+}
