@@ -1,6 +1,7 @@
 //! The decoder: the frame at the front of a buffer is replaced by its data, group by group.
 
-ghost use Rattle.std.specs.Prelude.{◌≡◌, ◌+◌, ◌-◌, ◌<◌, ◌≤◌, ◌∷◌, [], ◌++◌, List, ℕ, length, take, drop, OnOk, OnErr, IfOk, IfErr};
+ghost use Rattle.std.specs.Prelude.{◌≡◌, ◌+◌, ◌-◌, ◌<◌, ◌≤◌, ◌++◌, List, ℕ};
+ghost use Rattle.std.specs.Prelude.{length, take, drop, OnErr, IfOk, IfErr};
 ghost use Rattle.postcard_cobs.specs.Groups.{EndsFrame, Groups, NoZero, before_zero};
 ghost use Rattle.postcard_cobs.specs.InPlace.{LeavesData};
 
@@ -15,8 +16,8 @@ pub struct DecodeReport {
     pub dst_used: usize,
 }
 
-/// Returns the length of the frame at the front of a buffer: the number of bytes before the first zero,
-/// or of all bytes if there is no zero.
+/// Returns the length of the frame at the front of a buffer: the number of bytes before the first
+/// zero, or of all bytes if there is no zero.
 pub fn frame_len(buf: &[u8]) -> usize
     ensures value { result ≡ length (before_zero buf.now) }
     ensures within { result ≤ length buf.now }
@@ -42,16 +43,17 @@ fn move_down(buf: &mut [u8], from: usize, to: usize, at: usize)
     buf.copy_within(from..to, at);
 }
 
-/// Decodes the frame at the front of a buffer in place, and returns its length and that of its data.
+/// Decodes the frame at the front of a buffer in place, and returns its length and that of its
+/// data.
 ///
-/// The frame is the bytes before the first zero, or all bytes if there is no zero. Its data is left at
-/// the front of the buffer; each byte from the data's length on is as it was.
+/// The frame is the bytes before the first zero, or all bytes if there is no zero. Its data is left
+/// at the front of the buffer; each byte from the data's length on is as it was.
 ///
 /// # Errors
 ///
-/// Fails with [`Error::DeserializeBadEncoding`] if the frame is empty or a group runs past its end, and
-/// only then. The bytes of the frame are then unspecified; each byte from the first zero on is as it
-/// was.
+/// Fails with [`Error::DeserializeBadEncoding`] if the frame is empty or a group runs past its end,
+/// and only then. The bytes of the frame are then unspecified; each byte from the first zero on is
+/// as it was.
 pub fn decode_in_place_report(buf: &mut [u8]) -> Result<DecodeReport>
     ensures gives { IfOk result (λ report.
         (report.src_used ≡ length (before_zero buf.old))
@@ -60,7 +62,8 @@ pub fn decode_in_place_report(buf: &mut [u8]) -> Result<DecodeReport>
     ensures bad_encoding { IfErr result (λ e. e ≡ Error.DeserializeBadEncoding) }
     ensures within { IfOk result (λ report.
         (report.dst_used ≤ report.src_used) × (report.src_used ≤ length buf.new)) }
-    ensures past_frame_unchanged { drop (length (before_zero buf.old)) buf.new ≡ drop (length (before_zero buf.old)) buf.old }
+    ensures past_frame_unchanged { drop (length (before_zero buf.old)) buf.new
+        ≡ drop (length (before_zero buf.old)) buf.old }
 {
     let end = frame_len(buf);
     if end == 0 {
@@ -97,15 +100,16 @@ pub fn decode_in_place_report(buf: &mut [u8]) -> Result<DecodeReport>
 ///
 /// # Errors
 ///
-/// Fails with [`Error::DeserializeBadEncoding`] if the frame is empty or a group runs past its end, and
-/// only then. The bytes of the frame are then unspecified; each byte from the first zero on is as it
-/// was.
+/// Fails with [`Error::DeserializeBadEncoding`] if the frame is empty or a group runs past its end,
+/// and only then. The bytes of the frame are then unspecified; each byte from the first zero on is
+/// as it was.
 pub fn decode_in_place(buf: &mut [u8]) -> Result<usize>
     ensures gives { IfOk result (λ len. LeavesData buf.old buf.new len) }
     ensures no_groups { OnErr result ((d : List ℕ) → Groups (before_zero buf.old) d → ⊥) }
     ensures bad_encoding { IfErr result (λ e. e ≡ Error.DeserializeBadEncoding) }
     ensures within { IfOk result (λ len. len ≤ length buf.new) }
-    ensures past_frame_unchanged { drop (length (before_zero buf.old)) buf.new ≡ drop (length (before_zero buf.old)) buf.old }
+    ensures past_frame_unchanged { drop (length (before_zero buf.old)) buf.new
+        ≡ drop (length (before_zero buf.old)) buf.old }
 {
     let report = decode_in_place_report(buf)?;
     Ok(report.dst_used)

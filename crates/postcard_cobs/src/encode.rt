@@ -1,6 +1,6 @@
 //! The encoder: for each byte of data, what to write, and which earlier code byte to set.
 
-ghost use Rattle.std.specs.Prelude.{length, ◌≡◌, ◌≢◌, ◌+◌, ◌-◌, ◌<◌, ◌≤◌, ◌∷◌, [], ◌++◌, List, ℕ};
+ghost use Rattle.std.specs.Prelude.{◌≡◌, ◌+◌, ◌-◌, ◌<◌, ◌≤◌, ◌∷◌, [], ◌++◌, List, ℕ, length};
 ghost use Rattle.postcard_cobs.specs.Groups.{IsOpen, NoZero};
 ghost use Rattle.postcard_cobs.specs.Pushing.{changed, SetsAt, after, answer, AddsSingles};
 
@@ -11,20 +11,20 @@ use std::marker::Model;
 pub enum PushResult {
     /// Write this byte.
     AddSingle(u8),
-    /// Set the byte at the place to the code, and write one byte, of any value, in which the next
-    /// group's code will be set.
+    /// Set the byte at the place to the code, and write a zero. The next group's code is set in its
+    /// place later.
     ModifyFromStartAndSkip((usize, u8)),
-    /// Set the byte at the place to the code, write the third, and then one byte, of any value, in
-    /// which the next group's code will be set.
+    /// Set the byte at the place to the code, and write the third byte and then a zero. The next
+    /// group's code is set in the zero's place later.
     ModifyFromStartAndPushAndSkip((usize, u8, u8)),
 }
 
 /// The state of an encoder: where the open group's code byte stands, and its value so far.
 ///
-/// The bytes of the frame are the caller's. Before the first [`push`](EncoderState::push) the caller
-/// writes one byte, of any value, for the first code. After the last, [`finalize`] says which byte to
-/// set to which code; then the caller writes the zero that ends the frame. The result is the made frame
-/// of the bytes pushed (the law [`open_finishes`](crate::laws::open_finishes)).
+/// The bytes of the frame are the caller's. Before the first [`push`](EncoderState::push) the
+/// caller writes one byte, of any value, for the first code. After the last, [`finalize`] says
+/// which byte to set to which code; then the caller writes the zero that ends the frame. The result
+/// is the made frame of the bytes pushed (the law [`open_finishes`](crate::laws::open_finishes)).
 ///
 /// [`finalize`]: EncoderState::finalize
 #[derive(Drop)]
@@ -45,7 +45,8 @@ impl Model for EncoderState {
 }
 
 impl Default for EncoderState {
-    /// Returns the state before any data: an empty group is open, and its code byte is at place zero.
+    /// Returns the state before any data: an empty group is open, and its code byte is at place
+    /// zero.
     fn default() -> Self
         ensures starts_at_zero { result ≡ record { code_at = 0; code = 1 } }
         ensures open { (unwritten : ℕ) → IsOpen (unwritten ∷ []) result [] }
@@ -75,7 +76,8 @@ impl EncoderState {
             IsOpen (changed L result) self.new (d ++ byte ∷ []) }
         ensures steps { (self.new ≡ after self.old byte) × (result ≡ answer self.old byte) }
         ensures sets_open_code { SetsAt self.old.code_at result }
-        ensures at_most_two_more { self.new.code_at + self.new.code ≤ self.old.code_at + self.old.code + 2 }
+        ensures at_most_two_more { self.new.code_at + self.new.code
+            ≤ self.old.code_at + self.old.code + 2 }
     {
         if byte == 0 {
             let set = (self.code_at, self.code);
@@ -105,23 +107,26 @@ impl EncoderState {
     ///
     /// The state is then as after a [`push`](EncoderState::push) of each byte, and each would have
     /// returned [`PushResult::AddSingle`]. The run has no zero and is shorter than
-    /// [`run_room`](EncoderState::run_room), and the frame with it is at most `usize::MAX - 2` bytes
-    /// long.
+    /// [`run_room`](EncoderState::run_room), and the frame with it is at most `usize::MAX - 2`
+    /// bytes long.
     pub fn push_run(&mut self, run: &[u8])
         requires no_zero { NoZero run.now }
         requires short { length run.now < 255 - self.old.code }
-        requires countable { self.old.code_at + self.old.code + length run.now ≤ usize.MAX - 2 }
+        requires countable { self.old.code_at + self.old.code + length run.now
+            ≤ usize.MAX - 2 }
         ensures counts { self.new ≡ record {
           code_at = self.old.code_at;
           code = self.old.code + length run.now;
         } }
         ensures steps { AddsSingles self.old run.now self.new }
-        ensures open { (L d : List ℕ) → IsOpen L self.old d → IsOpen (L ++ run.now) self.new (d ++ run.now) }
+        ensures open { (L d : List ℕ) → IsOpen L self.old d →
+            IsOpen (L ++ run.now) self.new (d ++ run.now) }
     {
         self.code += run.len() as u8;
     }
 
-    /// Ends the data, and returns the place of the open group's code byte and the code to set there.
+    /// Ends the data, and returns the place of the open group's code byte and the code to set
+    /// there.
     pub fn finalize(self) -> (usize, u8)
         ensures { (result.0 ≡ self.code_at) × (result.1 ≡ self.code) }
     {

@@ -1,9 +1,11 @@
-//! What holds of every frame. The functions do nothing: their contracts are the laws, whose statements
-//! stand in `specs/Laws.antt`.
+//! What holds of every frame. The functions do nothing: their contracts are the laws, whose
+//! statements stand in `specs/Laws.antt`.
 
-ghost use Rattle.postcard_cobs.specs.Laws.{DataIsOne, HasNoZero, MadeIsMade, MadeIsOne, MadeLength, BoundIsReached, ReachesBound, MadeDecodes, OneZero, OpenFinishes, OpenLength, MadeByLastCode, OpenByParts};
+ghost use Rattle.postcard_cobs.specs.Laws.{DataIsOne, HasNoZero, MadeIsMade, MadeIsOne, OneZero};
+ghost use Rattle.postcard_cobs.specs.Laws.{MadeLength, BoundIsReached, ReachesBound, MadeDecodes};
+ghost use Rattle.postcard_cobs.specs.Laws.{OpenFinishes, OpenLength, MadeByLastCode, OpenByParts};
 
-/// A frame has the data of one list of groups only: no two different data have the same frame.
+/// A frame is the frame of one data only.
 pub fn data_is_one()
     ensures { DataIsOne }
 {}
@@ -33,7 +35,8 @@ pub fn made_length()
     ensures { MadeLength }
 {}
 
-/// That bound is reached by data of each length: the made frame of data without a zero is that long.
+/// That bound is reached by data of each length: the made frame of data without a zero is that
+/// long.
 pub fn bound_is_reached()
     ensures at_each_length { BoundIsReached }
     ensures without_zero { ReachesBound }
@@ -59,8 +62,8 @@ pub fn made_by_last_code()
     ensures { MadeByLastCode }
 {}
 
-/// A list is an open frame exactly if groups stand in front of the place of its last code, and the list
-/// with that code set is a frame of the data.
+/// A list is an open frame exactly if groups stand in front of the place of its last code, and the
+/// list with that code set is a frame of the data.
 pub fn open_by_parts()
     ensures { OpenByParts }
 {}
