@@ -1,23 +1,27 @@
-use Rattle.std.proofs.Common.{◌≡◌, ℕ, suc, ◌+◌, ◌-◌, ◌*◌, ◌<◌, ◌≤◌, List, [], ◌∷◌, ◌++◌, length, refl, sym, ap, ◌∙◌, append_assoc, arith, length-append, cond, eqb, Bool, true, false, set}
+-- The open frame of an encoder: how each byte of data keeps it open, and that its end is the made frame.
+use Rattle.std.proofs.Common.{◌≡◌, ℕ, ◌+◌, ◌<◌, List, [], ◌∷◌, ◌++◌, length, refl, sym, ap, ◌∙◌, append_assoc, arith, length-append, set}
 use Rattle.std.specs.Prelude.{flat_map}
 use Rattle.std.proofs.lemmas.Grind.{flat_map-append}
 use Rattle.std.proofs.lemmas.List.{append-nil, set_at}
-use Rattle.postcard_cobs.specs.Groups.{NoZero, IsGroup, AreGroups, coded, gap, followed, Groups, IsOpen, Standing, IsMade}
+use Rattle.postcard_cobs.specs.Groups.{IsGroup, AreGroups, coded, followed, IsOpen, Standing, IsMade}
 use Rattle.postcard_cobs.proofs.Frames.{with_last}
 use Rattle.postcard_cobs.proofs.Made.{followed_full, followed_short, NoZero-append, made_is_one}
 use Rattle.postcard_cobs.specs.Laws.{OpenFinishes, OpenLength}
 
+-- groups and one more group behind them are groups
 pub AreGroups-push : (gs : List (List ℕ)) (g : List ℕ) → AreGroups gs → IsGroup g → AreGroups (gs ++ g ∷ [])
 AreGroups-push [] g a is = (is, tt)
 AreGroups-push (x ∷ gs) g a is = (a.0, AreGroups-push gs g a.1 is)
 
+-- their data with the gap behind the last
 pub followed_push : (gs : List (List ℕ)) (g : List ℕ) → flat_map followed (gs ++ g ∷ []) ≡ flat_map followed gs ++ followed g
 followed_push gs g = flat_map-append followed gs (g ∷ []) ∙ ap (λ (x : List ℕ). flat_map followed gs ++ x) (append-nil (followed g))
 
--- the open group's code is written
+-- the open code byte is set
 pub closes : (L d : List ℕ) (at : Standing) (h : IsOpen L at d) (code : ℕ) → set L at.code_at code ≡ flat_map coded h.before ++ code ∷ h.last
 closes L d at h code = ap (λ (x : List ℕ). set x at.code_at code) h.frame_is ∙ set_at (flat_map coded h.before) h.unwritten h.last code at.code_at (sym h.code_at_is)
 
+-- a zero of data ends the open group and opens the next
 pub push_zero : (L d : List ℕ) (at : Standing) → IsOpen L at d → IsOpen (set L at.code_at at.code ++ 0 ∷ []) (record { code_at = at.code_at + at.code; code = 1 }) (d ++ 0 ∷ [])
 push_zero L d at h =
     let f = followed_short h.last (λ e. let n = h.not_full in omega arith) in
@@ -41,6 +45,7 @@ push_zero L d at h =
           ∙ ap (λ (x : List ℕ). flat_map followed h.before ++ x) (sym f) ∙ sym (followed_push h.before h.last) ∙ sym (append-nil (flat_map followed (h.before ++ h.last ∷ [])));
     }
 
+-- a byte that makes the open group full ends it and opens the next
 pub push_full : (L d : List ℕ) (at : Standing) (b : ℕ) → 0 < b → at.code ≡ 254 → IsOpen L at d →
     IsOpen (set L at.code_at 255 ++ b ∷ 0 ∷ []) (record { code_at = at.code_at + 255; code = 1 }) (d ++ b ∷ [])
 push_full L d at b pos full h =
@@ -68,6 +73,7 @@ push_full L d at b pos full h =
           ∙ ap (λ (x : List ℕ). flat_map followed h.before ++ x) (sym f) ∙ sym (followed_push h.before (h.last ++ b ∷ [])) ∙ sym (append-nil (flat_map followed (h.before ++ (h.last ++ b ∷ []) ∷ [])));
     }
 
+-- any other byte lengthens the open group
 pub push_one : (L d : List ℕ) (at : Standing) (b : ℕ) → 0 < b → at.code < 254 → IsOpen L at d →
     IsOpen (L ++ b ∷ []) (record { code_at = at.code_at; code = at.code + 1 }) (d ++ b ∷ [])
 push_one L d at b pos room h =
@@ -86,7 +92,7 @@ push_one L d at b pos room h =
       data_is = ap (λ (x : List ℕ). x ++ b ∷ []) h.data_is ∙ append_assoc (flat_map followed h.before) h.last (b ∷ []);
     }
 
--- the encoder's start
+-- one byte, of any value, is an open frame of no data
 pub new_open : (x : ℕ) → IsOpen (x ∷ []) (record { code_at = 0; code = 1 }) []
 new_open x = record {
   before = [];
@@ -101,7 +107,7 @@ new_open x = record {
   data_is = refl;
 }
 
--- the last code written and a zero behind it make the frame
+-- an open frame with its last code byte set, and a zero, is a made frame by the definition
 pub finished : (L d : List ℕ) (at : Standing) → IsOpen L at d → IsMade d (set L at.code_at at.code ++ 0 ∷ [])
 finished L d at h = record {
   before = h.before;
@@ -113,9 +119,11 @@ finished L d at h = record {
   data_is = h.data_is;
 }
 
+-- so it is the one made frame
 pub open_finishes : OpenFinishes
 open_finishes L d at h = made_is_one d _ (finished L d at h)
 
+-- the length of an open frame
 pub open_length : OpenLength
 open_length L d at h =
     let n = ap length h.frame_is ∙ length-append (flat_map coded h.before) (h.unwritten ∷ h.last) in

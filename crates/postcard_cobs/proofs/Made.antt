@@ -1,48 +1,57 @@
+-- The made frame: there is one for each data, it ends in its only zero, decodes to its data, and how long it is.
 use Rattle.std.proofs.Common.{◌≡◌, ℕ, suc, ◌+◌, ◌*◌, ◌/◌, ◌<◌, ◌≤◌, List, [], ◌∷◌, ◌++◌, length, refl, sym, ap, ◌∙◌, append_assoc, arith, length-append, cond, eqb, Bool, true, false, eq-eqb, zero, replicate}
 use Rattle.std.specs.Prelude.{flat_map}
-use Rattle.std.proofs.lemmas.Grind.{common_steps, flat_map-append}
 use Rattle.std.proofs.lemmas.Bool.{ne_eqb, eqb-true, eqb-false}
 use Rattle.std.proofs.lemmas.List.{append-nil, length-replicate}
-use Rattle.postcard_cobs.specs.Groups.{NoZero, IsGroup, AreGroups, coded, gap, followed, Groups, IsMade, Standing, IsOpen, before_zero, made_from, made}
+use Rattle.postcard_cobs.specs.Groups.{NoZero, IsGroup, AreGroups, coded, followed, Groups, IsMade, before_zero, made_from, made}
 use Rattle.postcard_cobs.specs.Laws.{MadeIsMade, MadeIsOne, OneZero, MadeLength, ReachesBound, BoundIsReached, MadeDecodes}
-use Rattle.postcard_cobs.proofs.Frames.{append_split, with_last}
 
+-- no byte is zero in two lists joined
 pub NoZero-append : (g h : List ℕ) → NoZero g → NoZero h → NoZero (g ++ h)
 NoZero-append [] h a b = b
 NoZero-append (x ∷ g) h a b = (a.0, NoZero-append g h a.1 b)
 
-pub eqb_no : (a b : ℕ) → (a ≡ b → ⊥) → eqb a b ≡ false
-eqb_no = ne_eqb
+-- where no byte of two lists joined is zero, none of the first is
+pub NoZero-left : (g h : List ℕ) → NoZero (g ++ h) → NoZero g
+NoZero-left [] h z = tt
+NoZero-left (x ∷ g) h z = (z.0, NoZero-left g h z.1)
 
--- bytes of the open group are taken in one after the other
+-- and none of the second
+pub NoZero-right : (g h : List ℕ) → NoZero (g ++ h) → NoZero h
+NoZero-right [] h z = z
+NoZero-right (x ∷ g) h z = NoZero-right g h z.1
+
+-- bytes of data that leave the open group short only lengthen it
 pub made_run : (g t rest : List ℕ) → NoZero t → length g + length t ≤ 253 → made_from g (t ++ rest) ≡ made_from (g ++ t) rest
 made_run g [] rest z n = ap (λ (x : List ℕ). made_from x rest) (sym (append-nil g))
 made_run g (b ∷ t) rest z n =
-    let some : eqb b 0 ≡ false = eqb_no b 0 (λ e. omega (arith, z.0)) in
-    let room : eqb (length g) 253 ≡ false = eqb_no (length g) 253 (λ e. omega arith) in
+    let some : eqb b 0 ≡ false = ne_eqb b 0 (λ e. omega (arith, z.0)) in
+    let room : eqb (length g) 253 ≡ false = ne_eqb (length g) 253 (λ e. omega arith) in
     let deep = made_run (g ++ b ∷ []) t rest z.1 (omega (arith, length-append g (b ∷ []))) in
     rw (some, room) (rw append_assoc at deep)
 
+-- bytes of data that make the open group full end it
 pub made_full : (g t rest : List ℕ) → NoZero t → length g + length t ≡ 254 → length g ≤ 253 → made_from g (t ++ rest) ≡ coded (g ++ t) ++ made_from [] rest
 made_full g [] rest z n m = absurd (omega arith)
 made_full g (b ∷ []) rest z n m =
-    let some : eqb b 0 ≡ false = eqb_no b 0 (λ e. omega (arith, z.0)) in
+    let some : eqb b 0 ≡ false = ne_eqb b 0 (λ e. omega (arith, z.0)) in
     let full : eqb (length g) 253 ≡ true = eq-eqb (length g) 253 (omega arith) in
     rw (some, full) refl
 made_full g (b ∷ x ∷ t) rest z n m =
-    let some : eqb b 0 ≡ false = eqb_no b 0 (λ e. omega (arith, z.0)) in
-    let room : eqb (length g) 253 ≡ false = eqb_no (length g) 253 (λ e. omega arith) in
+    let some : eqb b 0 ≡ false = ne_eqb b 0 (λ e. omega (arith, z.0)) in
+    let room : eqb (length g) 253 ≡ false = ne_eqb (length g) 253 (λ e. omega arith) in
     let deep = made_full (g ++ b ∷ []) (x ∷ t) rest z.1 (omega (arith, length-append g (b ∷ []))) (omega (arith, length-append g (b ∷ []))) in
     rw (some, room) (deep ∙ ap (λ (y : List ℕ). coded y ++ made_from [] rest) (append_assoc g (b ∷ []) (x ∷ t)))
 
--- the data of a group that another follows, by whether the group is full
+-- a full group has no gap behind it
 pub followed_full : (g : List ℕ) → length g ≡ 254 → followed g ≡ g
 followed_full g n = let e : eqb (length g) 254 ≡ true = eq-eqb (length g) 254 n in rw e (append-nil g)
 
+-- any other group has a zero behind it
 pub followed_short : (g : List ℕ) → (length g ≡ 254 → ⊥) → followed g ≡ g ++ 0 ∷ []
 followed_short g n = let e : eqb (length g) 254 ≡ false = ne_eqb (length g) 254 n in rw e refl
 
--- one group and the data behind it
+-- a group of data in front is a group of the made frame in front
 pub made_group : (g rest : List ℕ) → IsGroup g → made_from [] (followed g ++ rest) ≡ coded g ++ made_from [] rest
 made_group g rest is = at_full (eqb (length g) 254) refl where
   at_full : (b : Bool) → eqb (length g) 254 ≡ b → made_from [] (followed g ++ rest) ≡ coded g ++ made_from [] rest
@@ -53,7 +62,7 @@ made_group g rest is = at_full (eqb (length g) 254) refl where
       let run = made_run [] g (0 ∷ rest) is.no_zero (omega (arith, short, fits)) in
       rw (followed_short g short, append_assoc) run
 
--- a group is put in front of a made frame
+-- a group put in front of some data and of its made frame
 pub made_more : (g d m : List ℕ) → IsGroup g → IsMade d m → IsMade (followed g ++ d) (coded g ++ m)
 made_more g d m is r = record {
   before = g ∷ r.before;
@@ -65,6 +74,7 @@ made_more g d m is r = record {
   data_is = ap (λ (x : List ℕ). followed g ++ x) r.data_is ∙ sym (append_assoc (followed g) (flat_map followed r.before) r.last);
 }
 
+-- the made frame of data behind an open group is one by the definition
 pub made_is_from : (g d : List ℕ) → NoZero g → length g ≤ 253 → IsMade (g ++ d) (made_from g d)
 made_is_from g [] z n = record {
   before = [];
@@ -97,9 +107,11 @@ made_is_from g (b ∷ d) z n = at_zero (eqb b 0) refl (made_is_from [] d tt (ome
       rw same at r
   at_zero false e one more = at_room (eqb (length g) 253) refl e one more
 
+-- each data has a made frame
 pub made_is_made : MadeIsMade
 made_is_made d = made_is_from [] d tt (omega arith)
 
+-- the made frame of groups is these groups and a zero
 pub made_of : (before : List (List ℕ)) (last : List ℕ) → AreGroups before → IsGroup last → length last < 254 →
     made (flat_map followed before ++ last) ≡ flat_map coded before ++ coded last ++ 0 ∷ []
 made_of [] last are is n =
@@ -110,14 +122,16 @@ made_of (g ∷ gs) last are is n =
     let here = made_group g (flat_map followed gs ++ last) are.0 in
     rw append_assoc (here ∙ ap (λ (x : List ℕ). coded g ++ x) rest ∙ simp append_assoc)
 
+-- each data has one made frame only
 pub made_is_one : MadeIsOne
 made_is_one d m r = r.frame_is ∙ sym (made_of r.before r.last r.are r.is r.not_full) ∙ ap made (sym r.data_is)
 
+-- no byte of groups joined is zero
 pub NoZero-coded : (gs : List (List ℕ)) → AreGroups gs → NoZero (flat_map coded gs)
 NoZero-coded [] a = tt
 NoZero-coded (g ∷ gs) a = (omega arith, NoZero-append g (flat_map coded gs) a.0.no_zero (NoZero-coded gs a.1))
 
--- the frame of a made frame, without its zero
+-- a made frame is a frame without zeros, and then a zero
 pub made_frame : (d m : List ℕ) → IsMade d m → (F : List ℕ) × NoZero F × (m ≡ F ++ 0 ∷ []) × Groups F d
 made_frame d m r = (
   flat_map coded r.before ++ coded r.last,
@@ -126,26 +140,30 @@ made_frame d m r = (
   record { before = r.before; last = r.last; are = r.are; is = r.is; frame_is = refl; data_is = r.data_is },
 )
 
+-- a made frame has one zero, at its end
 pub one_zero : OneZero
 one_zero d = let f = made_frame d (made d) (made_is_made d) in (f.0, f.1, f.2)
 
+-- the frame in front of the first zero
 pub before_zero_at : (F more : List ℕ) → NoZero F → before_zero (F ++ 0 ∷ more) ≡ F
 before_zero_at [] more z = refl
 before_zero_at (b ∷ F) more z =
     let some : eqb b 0 ≡ false = ne_eqb b 0 (λ e. omega (arith, z.0)) in
     rw some (ap (λ (x : List ℕ). b ∷ x) (before_zero_at F more z.1))
 
+-- the frame at the front of a made frame has its data
 pub made_decodes : MadeDecodes
 made_decodes d more =
     let f = made_frame d (made d) (made_is_made d) in
     let same : before_zero (made d ++ more) ≡ f.0 = ap (λ (x : List ℕ). before_zero (x ++ more)) f.2 ∙ ap before_zero (append_assoc f.0 (0 ∷ []) more) ∙ before_zero_at f.0 more f.1 in
     rw same f.3
 
--- full groups take a byte each, and hold 254
+-- the number of full groups
 abbrev full : List (List ℕ) → ℕ
 full [] = 0
 full (g ∷ gs) = cond (eqb (length g) 254) 1 0 + full gs
 
+-- a frame is longer than its data by one byte for each full group, of which each has 254 bytes of data
 coded_length : (gs : List (List ℕ)) → AreGroups gs → (length (flat_map coded gs) ≡ length (flat_map followed gs) + full gs) × (254 * full gs ≤ length (flat_map followed gs))
 coded_length [] a = (refl, omega arith)
 coded_length (g ∷ gs) a = at_full (eqb (length g) 254) refl (coded_length gs a.1) where
@@ -165,7 +183,7 @@ coded_length (g ∷ gs) a = at_full (eqb (length g) 254) refl (coded_length gs a
       let h0 = deep.0 in let h1 = deep.1 in
       (omega arith, omega arith)
 
--- the length of a made frame, and of its data, by its full groups
+-- the length of a made frame, and that of its data, by its groups
 made_lengths : (d : List ℕ) (r : IsMade d (made d)) →
     (length (made d) ≡ length (flat_map coded r.before) + (length r.last + 2)) × (length d ≡ length (flat_map followed r.before) + length r.last)
 made_lengths d r = (frame, content) where
@@ -178,6 +196,7 @@ made_lengths d r = (frame, content) where
   content : length d ≡ length (flat_map followed r.before) + length r.last
   content = ap length r.data_is ∙ length-append (flat_map followed r.before) r.last
 
+-- the greatest length of a made frame
 pub made_length : MadeLength
 made_length d =
     let r = made_is_made d in
@@ -190,15 +209,7 @@ made_length d =
     let many : full r.before ≤ length d / 254 = omega arith in
     omega arith
 
-NoZero-left : (g h : List ℕ) → NoZero (g ++ h) → NoZero g
-NoZero-left [] h z = tt
-NoZero-left (x ∷ g) h z = (z.0, NoZero-left g h z.1)
-
-NoZero-right : (g h : List ℕ) → NoZero (g ++ h) → NoZero h
-NoZero-right [] h z = z
-NoZero-right (x ∷ g) h z = NoZero-right g h z.1
-
--- where the data has no zero, each group that another follows is full
+-- where the data has no zero, each group but the last is full
 all_full : (gs : List (List ℕ)) → NoZero (flat_map followed gs) → length (flat_map followed gs) ≡ 254 * full gs
 all_full [] z = refl
 all_full (g ∷ gs) z = at_full (eqb (length g) 254) refl (all_full gs (NoZero-right (followed g) (flat_map followed gs) z)) where
@@ -214,6 +225,7 @@ all_full (g ∷ gs) z = at_full (eqb (length g) 254) refl (all_full gs (NoZero-r
       let none = (NoZero-right g (0 ∷ []) zero_in).0 in
       absurd (omega arith)
 
+-- data without a zero has a made frame of the greatest length
 pub reaches_bound : ReachesBound
 reaches_bound d z =
     let r = made_is_made d in
@@ -228,10 +240,12 @@ reaches_bound d z =
     let many : full r.before ≡ length d / 254 = omega arith in
     omega arith
 
+-- bytes 1 are no zeros
 NoZero-replicate : (n : ℕ) → NoZero (replicate n 1)
 NoZero-replicate zero = tt
 NoZero-replicate (suc n) = (omega arith, NoZero-replicate n)
 
+-- the greatest length is reached by data of each length
 pub bound_is_reached : BoundIsReached
 bound_is_reached n =
     let few = length-replicate n 1 in

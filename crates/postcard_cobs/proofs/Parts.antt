@@ -1,20 +1,18 @@
-use Rattle.std.proofs.Common.{◌≡◌, ◌≢◌, ℕ, suc, ◌+◌, ◌<◌, ◌≤◌, List, [], ◌∷◌, ◌++◌, length, refl, sym, ap, subst, ◌∙◌, append_assoc, arith, length-append, set, take, drop}
+-- Frames by their last code byte, and open frames by their parts.
+use Rattle.std.proofs.Common.{◌≡◌, ◌≢◌, ℕ, suc, ◌+◌, ◌<◌, List, [], ◌∷◌, ◌++◌, length, refl, sym, ap, subst, ◌∙◌, arith, length-append, set, take, drop}
 use Rattle.std.specs.Prelude.{flat_map}
-use Rattle.std.proofs.lemmas.List.{append-nil, set_at, take_at, take-append-drop, length-drop, length-take-le}
-use Rattle.postcard_cobs.specs.Groups.{NoZero, IsGroup, AreGroups, coded, followed, Groups, IsMade, IsOpen, IsOpenAt, Standing, made, last_code}
+use Rattle.std.proofs.lemmas.List.{set_at, take_at, take-append-drop, length-drop, length-take-le}
+use Rattle.postcard_cobs.specs.Groups.{NoZero, coded, followed, Groups, IsOpen, IsOpenAt, made, last_code}
 use Rattle.postcard_cobs.specs.Laws.{HasNoZero, MadeByLastCode, OpenByParts}
 use Rattle.postcard_cobs.proofs.Frames.{with_last, push_split, coded_injective}
-use Rattle.postcard_cobs.proofs.Made.{NoZero-append, NoZero-coded, made_is_made, made_is_one}
+use Rattle.postcard_cobs.proofs.Made.{NoZero-append, NoZero-right, NoZero-coded, made_is_made, made_is_one}
 use Rattle.postcard_cobs.proofs.Encoding.{closes, open_length}
 
-NoZero-right : (g h : List ℕ) → NoZero (g ++ h) → NoZero h
-NoZero-right [] h z = z
-NoZero-right (x ∷ g) h z = NoZero-right g h z.1
-
--- groups joined, and a last one, are these alone
+-- groups with a last one, of one frame, are the same groups with the same last one
 same_groups : (gs hs : List (List ℕ)) (g h : List ℕ) → flat_map coded gs ++ coded g ≡ flat_map coded hs ++ coded h → (gs ≡ hs) × (g ≡ h)
 same_groups gs hs g h e = push_split gs hs g h (coded_injective (gs ++ g ∷ []) (hs ++ h ∷ []) (with_last gs g ∙ e ∙ sym (with_last hs h)))
 
+-- a frame and a zero is the made frame exactly if the last code byte is not 255
 pub made_by_last_code : MadeByLastCode
 made_by_last_code F d g = (to, from) where
   to : F ++ 0 ∷ [] ≡ made d → last_code g ≢ 255
@@ -40,15 +38,18 @@ made_by_last_code F d g = (to, from) where
         data_is = g.data_is;
       })
 
+-- no byte of a frame is zero
 no_zero_in : (F d : List ℕ) → Groups F d → NoZero F
 no_zero_in F d g = subst NoZero (sym g.frame_is) (NoZero-append (flat_map coded g.before) (coded g.last) (NoZero-coded g.before g.are) (omega arith, g.is.no_zero))
 
+-- nor is a frame empty
 pub frame_has_no_zero : HasNoZero
 frame_has_no_zero F d g =
     let here = ap length g.frame_is in
     let parts = length-append (flat_map coded g.before) (coded g.last) in
     (no_zero_in F d g, omega arith)
 
+-- an open frame by its groups, and by its parts
 pub open_by_parts : OpenByParts
 open_by_parts L d c n = (to, from) where
   to : IsOpen L (record { code_at = c; code = n }) d → IsOpenAt L c n d

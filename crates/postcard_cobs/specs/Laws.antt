@@ -1,5 +1,5 @@
 -- The laws of frames, as statements. The functions of `src/laws.rt` have them as contracts.
-use Rattle.std.specs.Prelude.{◌≡◌, ◌≢◌, ◌↔◌, ℕ, ◌+◌, ◌/◌, ◌<◌, ◌≤◌, List, [], ◌∷◌, ◌++◌, length, slice_set}
+use Rattle.std.specs.Prelude.{◌≡◌, ◌≢◌, ◌↔◌, ℕ, ◌+◌, ◌/◌, ◌≤◌, List, [], ◌∷◌, ◌++◌, length, slice_set}
 use Rattle.postcard_cobs.specs.Groups.{Groups, IsMade, made, NoZero, before_zero, IsOpen, IsOpenAt, Standing, last_code}
 
 -- a frame is a frame of one data only

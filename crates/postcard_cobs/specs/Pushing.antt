@@ -1,5 +1,5 @@
 -- What `push` returns, and what it asks of the bytes written so far.
-use Rattle.std.specs.Prelude.{◌≡◌, ℕ, ◌+◌, ◌<◌, List, [], ◌∷◌, ◌++◌, slice_set, cond, eqb, length}
+use Rattle.std.specs.Prelude.{◌≡◌, ℕ, ◌+◌, List, [], ◌∷◌, ◌++◌, slice_set, cond, eqb}
 use Rattle.postcard_cobs.specs.Groups.{Standing}
 use Rattle.postcard_cobs.specs.declared.encode.PushResult.{PushResult}
 use Rattle.postcard_cobs.specs.declared.encode.PushResult.TheVariants.{AddSingle, ModifyFromStartAndSkip, ModifyFromStartAndPushAndSkip}

@@ -1,4 +1,4 @@
-use Rattle.std.proofs.Common.{arith, ◌≡◌, ◌<◌, ◌+◌, get_or}
+use Rattle.std.proofs.Common.{arith}
 use Rattle.postcard_cobs.proofs.Decoding.{in_bounds, refused, past_end, code_pos, code_byte, now_length, end_inside, decoded, moved_past, moved_length, on_full, on_short}
 use Rattle.postcard_cobs.proofs.decode.decode_in_place_report.Goals as goal
 

@@ -1,6 +1,4 @@
-use Rattle.std.proofs.Common.{arith, length, ◌≡◌, ◌+◌, ◌<◌, sym, ◌∙◌}
-use Rattle.std.proofs.lemmas.Grind.{common_steps}
-use Rattle.postcard_cobs.specs.Groups.{before_zero}
+use Rattle.std.proofs.Common.{arith}
 use Rattle.postcard_cobs.proofs.Decoding.{before_zero_ends, before_zero_none, zero_here, none_here}
 use Rattle.postcard_cobs.proofs.decode.frame_len.Goals as goal
 
