@@ -29,7 +29,7 @@ gap bytes = cond (eqb (length bytes) 254) [] (0 ∷ [])
 abbrev pub followed : List ℕ → List ℕ
 followed bytes = bytes ++ gap bytes
 
--- F is a frame of the data d: it is one group or more, each behind its code byte, and d is their bytes with the gaps
+-- F is a frame of the data d: it is one group or more, each after its code byte, and d is their bytes with the gaps
 -- between them
 pub record Groups (F d : List ℕ) : Type 0 where
   pub before : List (List ℕ)

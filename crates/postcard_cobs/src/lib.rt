@@ -2,13 +2,13 @@
 //!
 //! COBS (Cheshire and Baker, 1999) writes any bytes as a frame in which no byte is zero. A zero,
 //! the *sentinel*, then marks the end of the frame, and a receiver that starts in the middle of a
-//! stream finds the next frame behind the next zero. The cost is one byte for each 254 bytes of
+//! stream finds the next frame after the next zero. The cost is one byte for each 254 bytes of
 //! data, and two more.
 //!
 //! The data is cut into *groups* of at most 254 bytes, none of them zero. In the frame each group
-//! comes behind its *code byte*, which is the number of its bytes plus one. Between two groups the
-//! data has a zero, unless the first of them is full: the code byte `FF` stands for 254 bytes and
-//! no zero.
+//! follows its *code byte*, which is the number of its bytes plus one. Between two groups the data
+//! has a zero, unless the first of them is full: the code byte `FF` stands for 254 bytes and no
+//! zero.
 //!
 //! ```text
 //! data           01   00   20  30
@@ -22,7 +22,7 @@
 //! The data ends with the last group, whose zero isn't data. The bytes `04 01 00 20 30`, with a
 //! length in front as a message has it, become `03 04 01 03 20 30 00`. No data at all is `01 00`.
 //!
-//! Two choices are left open by the publication and made here. The encoder opens a new group behind
+//! Two choices are left open by the publication and made here. The encoder opens a new group after
 //! each full one, also at the end of the data, so 254 bytes without a zero end in `01 00`. The
 //! decoder takes the bytes before the first zero of its buffer as the frame, or all of them if
 //! there is no zero, and refuses an empty frame.

@@ -84,7 +84,7 @@ fn made(rt: &impl Abort, alloc: Global, content: &[u8]) -> Result<Vec<u8>, Alloc
     Ok(frame)
 }
 
-/// The same, by runs as long as may be, and a push behind each.
+/// The same, by runs as long as may be, and a push after each.
 fn made_by_runs(rt: &impl Abort, alloc: Global, content: &[u8]) -> Result<Vec<u8>, AllocError> {
     let mut frame = [0].to_vec(alloc)?;
     let mut state = EncoderState::default();
@@ -108,18 +108,16 @@ fn made_by_runs(rt: &impl Abort, alloc: Global, content: &[u8]) -> Result<Vec<u8
 }
 
 #[test]
-fn a_state_answers_byte_by_byte(rt: HostRuntime) {
+fn a_new_state(rt: HostRuntime) {
     let mut state = EncoderState::default();
     assert_eq!(rt; state.place(), 1);
-    for (byte, asked, place) in [
-        (0x01, PushResult::AddSingle(0x01), 2),
-        (0x00, PushResult::ModifyFromStartAndSkip((0, 2)), 3),
-        (0x20, PushResult::AddSingle(0x20), 4),
-    ] {
-        assert!(rt; state.place() < 1000);
-        assert_eq!(rt; state.push(byte), asked, "of {byte}");
-        assert_eq!(rt; state.place(), place, "after {byte}");
-    }
+    assert_eq!(rt; state.push(0x01), PushResult::AddSingle(0x01));
+    assert_eq!(rt;
+        state.push(0x00),
+        PushResult::ModifyFromStartAndSkip((0, 2))
+    );
+    assert_eq!(rt; state.push(0x20), PushResult::AddSingle(0x20));
+    assert_eq!(rt; state.place(), 4);
     assert_eq!(rt; state.finalize(), (2, 2));
 }
 
@@ -170,63 +168,62 @@ fn bytes_of(alloc: Global, parts: &[(u8, usize)]) -> Result<Vec<u8>, AllocError>
     Ok(bytes)
 }
 
+/// Fails unless this is the made frame of the content, and decodes to it.
+fn is_framed(
+    rt: &impl Abort,
+    alloc: Global,
+    content: &[(u8, usize)],
+    frame: &[(u8, usize)],
+) -> Tested {
+    let content = bytes_of(alloc, content)?;
+    let mut buffer = made(rt, alloc, &content)?;
+    assert_eq!(rt; buffer, bytes_of(alloc, frame)?, "{} bytes", content.len());
+    let used = decode_in_place(&mut buffer)?;
+    assert_eq!(rt;
+        buffer.get(..used),
+        Some(content.as_slice()),
+        "{} bytes",
+        content.len()
+    );
+    Ok(())
+}
+
 #[test]
 fn long_groups(rt: HostRuntime) -> Tested {
-    let rows: [(&[(u8, usize)], &[(u8, usize)], usize); 5] = [
-        (&[(0x11, 253)], &[(0xFE, 1), (0x11, 253), (0, 1)], 255),
-        (
-            &[(0x11, 254)],
-            &[(0xFF, 1), (0x11, 254), (1, 1), (0, 1)],
-            257,
-        ),
-        (
-            &[(0x11, 255)],
-            &[(0xFF, 1), (0x11, 254), (2, 1), (0x11, 1), (0, 1)],
-            258,
-        ),
-        (
-            &[(0x11, 254), (0, 1)],
-            &[(0xFF, 1), (0x11, 254), (1, 2), (0, 1)],
-            258,
-        ),
-        (
-            &[(0x11, 508)],
-            &[
-                (0xFF, 1),
-                (0x11, 254),
-                (0xFF, 1),
-                (0x11, 254),
-                (1, 1),
-                (0, 1),
-            ],
-            512,
-        ),
+    let alloc = rt.alloc();
+    is_framed(
+        &rt,
+        alloc,
+        &[(0x11, 253)],
+        &[(0xFE, 1), (0x11, 253), (0, 1)],
+    )?;
+    is_framed(
+        &rt,
+        alloc,
+        &[(0x11, 254)],
+        &[(0xFF, 1), (0x11, 254), (1, 1), (0, 1)],
+    )?;
+    let frame = [(0xFF, 1), (0x11, 254), (2, 1), (0x11, 1), (0, 1)];
+    is_framed(&rt, alloc, &[(0x11, 255)], &frame)?;
+    let frame = [(0xFF, 1), (0x11, 254), (1, 2), (0, 1)];
+    is_framed(&rt, alloc, &[(0x11, 254), (0, 1)], &frame)?;
+    let frame = [
+        (0xFF, 1),
+        (0x11, 254),
+        (0xFF, 1),
+        (0x11, 254),
+        (1, 1),
+        (0, 1),
     ];
-    for (content, frame, len) in rows {
-        let content = bytes_of(rt.alloc(), content)?;
-        let mut buffer = made(&rt, rt.alloc(), &content)?;
-        assert_eq!(rt;
-            buffer,
-            bytes_of(rt.alloc(), frame)?,
-            "{} bytes",
-            content.len()
-        );
-        assert_eq!(rt; buffer.len(), len);
-        let used = decode_in_place(&mut buffer)?;
-        assert_eq!(rt;
-            buffer.get(..used),
-            Some(content.as_slice()),
-            "{} bytes",
-            content.len()
-        );
-    }
+    is_framed(&rt, alloc, &[(0x11, 508)], &frame)?;
+    Ok(())
+}
+
+#[test]
+fn a_full_group_at_the_end(rt: HostRuntime) -> Tested {
     for zeros in [0, 1] {
         let mut buffer = bytes_of(rt.alloc(), &[(0xFF, 1), (0x11, 254), (0, zeros)])?;
-        assert_eq!(rt;
-            decode_in_place(&mut buffer),
-            Ok(254),
-            "a full group at the end"
-        );
+        assert_eq!(rt; decode_in_place(&mut buffer), Ok(254));
         let mut buffer = bytes_of(rt.alloc(), &[(0xFF, 1), (0x11, 253), (0, zeros)])?;
         assert_eq!(rt;
             decode_in_place(&mut buffer),
@@ -290,7 +287,7 @@ fn what_is_no_frame_is_refused(rt: HostRuntime) -> Tested {
         assert_eq!(rt;
             buffer.get(end..),
             before.get(end..),
-            "behind the frame {before:?}"
+            "after the frame {before:?}"
         );
     }
     Ok(())
@@ -314,7 +311,7 @@ fn a_changed_byte_is_decoded_or_refused(rt: HostRuntime) -> Tested {
                 assert_eq!(rt;
                     after.get(end..),
                     before.get(end..),
-                    "behind the frame {before:?}"
+                    "after the frame {before:?}"
                 );
             }
         }
@@ -322,13 +319,13 @@ fn a_changed_byte_is_decoded_or_refused(rt: HostRuntime) -> Tested {
     Ok(())
 }
 
-/// Data of a number of bytes, with a zero at each place that the step divides.
+/// Data of a number of bytes, with a zero at each place that `step` divides; places count from one.
 fn sample(alloc: Global, len: usize, step: usize) -> Result<Vec<u8>, AllocError>
     requires { 0 < step }
 {
     let mut content = Vec::new(alloc);
-    for place in 0..len {
-        content.push(if place % step == step - 1 { 0 } else { 0x11 })?;
+    for place in 1..=len {
+        content.push(if place % step == 0 { 0 } else { 0x11 })?;
     }
     Ok(content)
 }
