@@ -12,19 +12,19 @@ use postcard_wire::{Error, Result};
 
 mod runs;
 
-/// Encodes the bytes that it takes by COBS, and writes the frame into a storage, behind the bytes that
-/// the storage already holds.
+/// Encodes the bytes that it takes by COBS, and writes the frame into a storage, behind the bytes
+/// that the storage already holds.
 ///
 /// Data of `n` bytes becomes a frame of at most `n + n / 254 + 2` bytes, its sentinel among them.
-/// While the frame is open, the storage holds what it held before and then the frame without its last
-/// code byte and its sentinel; `finalize` writes both.
+/// While the frame is open, the storage holds what it held before and then the frame without its
+/// last code byte and its sentinel; `finalize` writes both.
 ///
 /// # Errors
 ///
-/// Each call fails with `SerializeBufferFull` alone: where the storage fails, by whatever error, and
-/// where the frame would have more than `usize::MAX - 2` bytes. A `Cobs` that has failed once fails
-/// at every further byte and at `finalize`, so that no frame is closed that lacks bytes. (The `Cobs`
-/// of the Rust crate goes on.)
+/// Each call fails with `SerializeBufferFull` alone: where the storage fails, by whatever error,
+/// and where the frame would have more bytes than a `usize` counts. A `Cobs` that has failed once
+/// fails at every further byte and at `finalize`, so that no frame is closed that lacks bytes. The
+/// `Cobs` of the Rust crate goes on.
 #[derive(Drop)]
 pub struct Cobs<B: Storage> {
     storage: B,
@@ -38,8 +38,8 @@ pub struct Cobs<B: Storage> {
 }
 
 impl<B: Storage + Drop> Cobs<B> {
-    /// Opens a frame behind the bytes that `bee` holds, which stay as they are: pushes a place for the
-    /// first code byte.
+    /// Opens a frame behind the bytes that `bee` holds, which stay as they are. Pushes a place for
+    /// the first code byte.
     ///
     /// # Errors
     ///
@@ -85,7 +85,7 @@ impl<B: Storage + Drop> Flavor for Cobs<B> {
     ghost finishes = { λ s output. (before d : List ℕ)
         → HoldsOpen B.held s.storage s.start s.encoder s.failed before d
         → (last : B) × (B.held last ≡ before ++ made d) × B.reaches s.storage last
-            × B.finishes last output };
+        × B.finishes last output };
 
     ghost lawful = { record {
       appended_none = λ s before d h. holds_none h;
@@ -103,8 +103,8 @@ impl<B: Storage + Drop> Flavor for Cobs<B> {
     ///
     /// # Errors
     ///
-    /// Fails with `SerializeBufferFull` where the storage has no room for what the frame grows by, 1
-    /// or 2 bytes, where the frame would get too long to count, and after any earlier failure.
+    /// Fails with `SerializeBufferFull` where the storage has no room for what the frame grows by,
+    /// 1 or 2 bytes, where the frame would get too long to count, and after any earlier failure.
     fn try_push(&mut self, byte: u8) -> Result<()>
         ensures appends { OnOk result
             (⟦<Cobs<B> as Flavor>⟧.appended self.old (byte ∷ []) self.new) }
@@ -128,8 +128,8 @@ impl<B: Storage + Drop> Flavor for Cobs<B> {
         Ok(())
     }
 
-    /// Takes bytes of data. Each run of bytes between zeros goes to the storage in one piece, but cut
-    /// where a group is full, at 254 bytes.
+    /// Takes bytes of data. Each run of bytes between zeros goes to the storage in one piece, but
+    /// cut where a group of 254 bytes is full.
     ///
     /// # Errors
     ///
@@ -161,8 +161,8 @@ impl<B: Storage + Drop> Flavor for Cobs<B> {
     /// # Errors
     ///
     /// Fails with `SerializeBufferFull` where the storage has no room for the sentinel, where the
-    /// storage's own `finalize` fails, and after any earlier failure. What the storage holds is then
-    /// dropped.
+    /// storage's own `finalize` fails, and after any earlier failure. What the storage holds is
+    /// then dropped.
     fn finalize(self) -> Result<<B as Flavor>::Output>
         ensures gives { IfOk result (λ output. ⟦<Cobs<B> as Flavor>⟧.finishes self output) }
         ensures closes { ⟦<Cobs<B> as Flavor>⟧.room self [] → IsOk result }

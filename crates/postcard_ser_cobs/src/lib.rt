@@ -20,13 +20,15 @@
 //! let vec = frame.finalize()?; // what the vector held, and then 02 01 03 20 30 00
 //! ```
 //!
-//! The contracts speak of frames by the definitions of `postcard_cobs`: `made d` is the frame of the
-//! data `d`. To be read in this order:
+//! The contracts speak of frames by the definitions of `postcard_cobs`: `made d` is the frame of
+//! the data `d`. To be read in this order:
 //! - `cobs`: the flavor, and in `cobs/runs` how bytes other than zero are taken many at once.
 //! - `steps`: what a storage is asked to do.
 #![tactic(auto)]
 
 pub mod cobs;
 mod steps;
+#[cfg(test)]
+mod tests;
 
 pub use cobs::Cobs;

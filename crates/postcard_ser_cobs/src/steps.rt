@@ -22,8 +22,8 @@ pub(crate) fn push_one<B: Storage>(storage: &mut B, byte: u8) -> Result<()>
     }
 }
 
-/// Appends bytes in one piece. Fails with `SerializeBufferFull` where the storage fails, by whatever
-/// error.
+/// Appends bytes in one piece. Fails with `SerializeBufferFull` where the storage fails, by
+/// whatever error.
 pub(crate) fn push_piece<B: Storage>(storage: &mut B, bytes: &[u8]) -> Result<()>
     ensures appends { OnOk result (B.held storage.new ≡ B.held storage.old ++ bytes.now) }
     ensures has_room { B.free storage.old (length bytes.now) → IsOk result }
@@ -38,8 +38,8 @@ pub(crate) fn push_piece<B: Storage>(storage: &mut B, bytes: &[u8]) -> Result<()
     }
 }
 
-/// Sets a code byte at a place that is counted from the first byte of the frame, which stands at the
-/// place `start` of the storage.
+/// Sets a code byte at a place that is counted from the first byte of the frame, which stands at
+/// the place `start` of the storage.
 pub(crate) fn set_code<B: Storage>(storage: &mut B, start: usize, place: usize, code: u8)
     requires { start + place < length (B.held storage.old) }
     ensures sets { B.held storage.new ≡ slice_set (B.held storage.old) (start + place) code }
