@@ -1,0 +1,5 @@
+use Rattle.postcard_cobs.proofs.Frames as frames
+use Rattle.postcard_cobs.proofs.laws.data_is_one.Goals as goal
+
+pub returns : goal.returns
+returns c = frames.data_is_one

@@ -1,0 +1,5 @@
+use Rattle.postcard_cobs.proofs.Parts as laws
+use Rattle.postcard_cobs.proofs.laws.frame_has_no_zero.Goals as goal
+
+pub returns : goal.returns
+returns c = laws.frame_has_no_zero

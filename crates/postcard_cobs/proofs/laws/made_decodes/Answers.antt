@@ -1,0 +1,5 @@
+use Rattle.postcard_cobs.proofs.Made as laws
+use Rattle.postcard_cobs.proofs.laws.made_decodes.Goals as goal
+
+pub returns : goal.returns
+returns c = laws.made_decodes
