@@ -1,3 +1,4 @@
+-- A place for the first code is an open frame of no data.
 use Rattle.std.proofs.Common.{[], ◌∷◌, refl}
 use Rattle.postcard_ser_cobs.proofs.cobs.Cobs.try_new.Goals as goal
 

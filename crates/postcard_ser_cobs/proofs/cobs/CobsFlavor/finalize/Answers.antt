@@ -1,3 +1,4 @@
+-- With its last code and the sentinel, the open frame is the made frame.
 use Rattle.std.proofs.Common.{[], ◌∷◌, ◌++◌, ap, ◌∙◌}
 use Rattle.postcard_ser_cobs.proofs.StepLemmas.{ends}
 use Rattle.postcard_ser_cobs.proofs.cobs.CobsFlavor.finalize.Goals as goal

@@ -1,3 +1,4 @@
+-- The answer of the encoder keeps the frame open; it is refused only without room, or after a refusal.
 use Rattle.std.proofs.Common.{◌++◌, [], ◌∷◌, refl, arith}
 use Rattle.std.proofs.Math.Logic.{∥∥₁_elim, ∥∥₁_map}
 use Rattle.std.specs.Coded.{le_prop}
@@ -16,7 +17,7 @@ returns-then-self-clause-has_room g c r =
 pub take_step-requires : goal.take_step-requires
 take_step-requires g c =
     let s = c.args.self.now in
-    sets_below _ _ _ _ c.push-step.ensures.sets
+    sets_below _ _ _ _ c.push-step.ensures.sets_open_code
     (∥∥₁_elim s.stands le_prop (λ f. let p = f c.if-self.false in code_held p.2))
 
 pub returns-in_err-take_step-clause-has_room : goal.returns-in_err-take_step-clause-has_room

@@ -1,3 +1,4 @@
+-- One byte more that is no zero.
 use Rattle.std.proofs.Common.{arith}
 use Rattle.postcard_ser_cobs.proofs.RunLemmas.{one_more}
 use Rattle.postcard_ser_cobs.proofs.cobs.runs.run_len.Goals as goal

@@ -1,3 +1,4 @@
+-- The bytes counted have no zero.
 use Rattle.std.proofs.Common.{◌-◌, ◌≤◌, length, take}
 use Rattle.postcard_cobs.specs.Groups.{NoZero}
 use Rattle.postcard_ser_cobs.proofs.cobs.runs.run_len.Given as goal
