@@ -1,5 +1,5 @@
 -- What the encoder's answer to one byte does to a storage that holds an open frame.
-use Rattle.std.proofs.Common.{◌≡◌, ℕ, ◌+◌, ◌-◌, ◌^◌, ◌<◌, suc, List, [], ◌∷◌, ◌++◌, length, Bool, IsFalse, refl, ap, subst, ◌∙◌, append-nil, append_assoc, length-append, length-set, arith}
+use Rattle.std.proofs.Common.{◌≡◌, ℕ, ◌+◌, ◌-◌, ◌^◌, ◌<◌, suc, List, [], ◌∷◌, ◌++◌, length, Bool, IsFalse, ap, subst, ◌∙◌, append-nil, append_assoc, length-append, length-set, arith}
 use Rattle.std.specs.Prelude.{slice_set, flat_map}
 use Rattle.postcard_cobs.specs.declared.encode.PushResult.{PushResult}
 use Rattle.postcard_cobs.specs.declared.encode.PushResult.TheVariants.{AddSingle, ModifyFromStartAndSkip, ModifyFromStartAndPushAndSkip}
