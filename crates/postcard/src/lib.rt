@@ -7,18 +7,25 @@
 //! - `to_slice` and `fill_slice` write a value into a buffer (module `ser`).
 //! - `to_vec`, `to_allocvec`, `to_stdvec`, `to_extend`, `to_io` write it elsewhere, and `serialize_with_flavor` into any
 //!   flavor (module `with_flavor`); `experimental::serialized_size` counts its bytes.
+//! - `to_slice_cobs`, `to_vec_cobs`, `to_allocvec_cobs`, `to_stdvec_cobs` and `to_allocvec_cobs_after` write a value as a
+//!   frame (module `cobs`).
 //! - `from_bytes` and `take_from_bytes` read a value from the front of a slice, `from_io` from a reader (module `de`).
 //! - What ties both directions together stands in `laws`.
 #![tactic(auto)]
 
+mod cobs;
 mod de;
 pub mod experimental;
 pub mod laws;
 mod ser;
+pub mod ser_flavors;
 #[cfg(test)]
 mod tests;
 mod with_flavor;
 
+pub use cobs::{
+    to_allocvec_cobs, to_allocvec_cobs_after, to_slice_cobs, to_stdvec_cobs, to_vec_cobs,
+};
 pub use de::{from_bytes, from_io, take_from_bytes};
 pub use postcard_de::{
     Case, Deserialize, DeserializeOwned, Deserializer, FromRepr, MapAccess, NoCase, Owned, Repr,
@@ -26,7 +33,6 @@ pub use postcard_de::{
 };
 pub use postcard_de_flavors as de_flavors;
 pub use postcard_ser::{Serialize, SerializeRepr, Serializer, serialize_variant};
-pub use postcard_ser_flavors as ser_flavors;
 pub use postcard_wire::{Error, Result};
 pub use ser::{fill_slice, to_slice};
 pub use with_flavor::{serialize_with_flavor, to_allocvec, to_extend, to_io, to_stdvec, to_vec};

@@ -40,6 +40,13 @@ impl AllocVec {
             vec: Vec::new(alloc),
         }
     }
+
+    /// Starts with the bytes of `vec`, and appends to them. Nothing is allocated or copied.
+    pub fn from_vec(vec: Vec<u8>) -> AllocVec
+        ensures { result ≡ vec.items }
+    {
+        AllocVec { vec }
+    }
 }
 
 impl Flavor for AllocVec {
@@ -137,6 +144,11 @@ impl Storage for AllocVec {
     /// Changes the byte at a place that is held, counted in bytes from 0, and nothing else.
     fn set(&mut self, place: usize, byte: u8) {
         self.vec[place] = byte;
+    }
+
+    /// Returns the number of bytes held, those of [`AllocVec::from_vec`] among them.
+    fn held_len(&self) -> usize {
+        self.vec.len()
     }
 
     ghost storage_lawful = { grows_storage (λ s. s) };

@@ -161,6 +161,11 @@ impl<const B: usize> Storage for HVec<B> {
         self.vec[place] = byte;
     }
 
+    /// Returns the number of bytes held, from 0 to `B`.
+    fn held_len(&self) -> usize {
+        self.vec.len()
+    }
+
     ghost storage_lawful = { fixed_storage (λ s. s) B };
 
     ghost indexed = { list_indexed };

@@ -34,6 +34,11 @@ pub trait Storage: Flavor + IndexMut<usize, Output = u8> {
         ensures leaves { Self.reaches self.old self.new }
         ensures countable { length (held self.new) < 2 ^ 64 };
 
+    /// Returns the number of bytes held. A frame that is written behind these bytes starts at this
+    /// place.
+    fn held_len(&self) -> usize
+        ensures { result ≡ length (held self.now) };
+
     ghost storage_lawful: { IsStorage Self.appended Self.room Self.reaches held free };
 
     ghost indexed: { IsIndexed Self.can_index Self.index_gives held };

@@ -73,6 +73,31 @@ fn each_storage_changes_held_bytes_alone(rt: HostRuntime) -> std::result::Result
     Ok(())
 }
 
+/// Returns the number of bytes held at first, and after pushing 07.
+fn held_before_and_after<B: Storage>(storage: &mut B) -> Result<(usize, usize)> {
+    let before = storage.held_len();
+    storage.try_push(7)?;
+    Ok((before, storage.held_len()))
+}
+
+#[test]
+fn each_storage_counts_held_bytes(rt: HostRuntime) -> std::result::Result<(), Fail> {
+    let mut buffer = [0xAA; 5];
+    assert_eq!(rt;
+        held_before_and_after(&mut Slice::new(&mut buffer))?,
+        (0, 1)
+    );
+    assert_eq!(rt; held_before_and_after(&mut HVec::<4>::new())?, (0, 1));
+    assert_eq!(rt;
+        held_before_and_after(&mut AllocVec::new(rt.alloc()))?,
+        (0, 1)
+    );
+    let mut grown = AllocVec::from_vec([9, 8].to_vec(rt.alloc())?);
+    assert_eq!(rt; held_before_and_after(&mut grown)?, (2, 3));
+    assert_eq!(rt; grown.finalize()?.as_slice(), [9, 8, 7].as_slice());
+    Ok(())
+}
+
 /// Writes 231 bytes 07 in three pieces, each once more where it is refused.
 fn retried<F: Flavor + Drop>(flavor: F) -> Result<F::Output> {
     let mut flavor = flavor;

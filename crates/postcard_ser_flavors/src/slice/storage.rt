@@ -34,6 +34,11 @@ impl<'a> Storage for Slice<'a> {
         all[place] = byte;
     }
 
+    /// Returns the number of bytes written at the front of the slice.
+    fn held_len(&self) -> usize {
+        self.position
+    }
+
     ghost storage_lawful = { slice_storage };
 
     ghost indexed = { slice_indexed };

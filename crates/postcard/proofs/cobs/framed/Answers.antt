@@ -1,0 +1,37 @@
+-- A frame that fits behind what a storage holds is made there.
+use Rattle.std.proofs.Common.{◌≡◌, ℕ, ◌+◌, ◌-◌, ◌≤◌, [], ◌∷◌, ◌++◌, length, refl, sym, subst, ap, ◌∙◌, arith}
+use Rattle.std.proofs.lemmas.Result.{err_from_is_err_and, IfOk-weaker}
+use Rattle.postcard_cobs.specs.Groups.{made}
+use Rattle.postcard_ser_cobs.specs.FramingLaws.{made_least}
+use Rattle.postcard_wire.specs.Spelling.{bytes}
+use Rattle.postcard.proofs.cobs.framed.Goals as goal
+
+pub returns-in_err-try_new-clause-has_room : goal.returns-in_err-try_new-clause-has_room
+returns-in_err-try_new-clause-has_room g c n few free =
+    let xs = bytes (g.T.Shaped.shape.tree c.args.value.now) in
+    let p = err_from_is_err_and c.from_residual.result c.from_residual.ensures.1 in
+    let e : length (made xs) ≡ 1 + (length (made xs) - 1) = omega (arith, made_least [] xs) in
+    let no = c.in_err-try_new.ensures.has_room (g.B.Storage.free_lawful.free_fewer _ 1 _ (subst (λ k. g.B.Storage.free c.args.storage k) e free)) in
+    absurd (cc)
+
+pub returns-clause-gives : goal.returns-clause-gives
+returns-clause-gives g c =
+    let before = g.B.Storage.held c.args.storage in
+    IfOk-weaker c.serialize_with_flavor.result _ _
+    (λ o fin.
+        let b = fin.ended before (bytes (g.T.Shaped.shape.tree c.args.value.now)) (fin.appended before [] c.in_ok-try_new.ensures.opens_behind_held) in
+        (b.0, b.1, g.B.Flavor.lawful.reaches_join _ _ _ c.in_ok-try_new.ensures.leaves (g.B.Flavor.lawful.reaches_join _ _ _ fin.reached.inner b.2), b.3))
+    c.serialize_with_flavor.ensures.gives
+
+pub returns-clause-has_room : goal.returns-clause-has_room
+returns-clause-has_room g c n few free =
+    let xs = bytes (g.T.Shaped.shape.tree c.args.value.now) in
+    let m = made_least [] xs in
+    let e : length (made xs) ≡ 1 + (length (made xs) - length (made []) + 1) = omega arith in
+    c.serialize_with_flavor.ensures.has_room n (record {
+      before = _;
+      d = [];
+      holds = c.in_ok-try_new.ensures.opens_behind_held;
+      enough = c.in_ok-try_new.ensures.keeps_free _ (subst (λ k. g.B.Storage.free c.args.storage k) e free);
+      few = few;
+    })

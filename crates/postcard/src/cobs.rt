@@ -1,0 +1,108 @@
+//! Encoding into frames: the canonical encoding of a value, framed by COBS.
+
+ghost use Rattle.std.specs.Prelude.{◌≡◌, [], ◌-◌, ◌≤◌, ◌↔◌, ◌++◌, length, IfOk, IfErr, IsOk, OnOk};
+ghost use Rattle.postcard_cobs.specs.Groups.{made};
+ghost use Rattle.postcard_wire.specs.Spelling.{bytes};
+ghost use Rattle.postcard_ser.specs.Writing.{AnswersRefusal};
+
+use crate::with_flavor::serialize_with_flavor;
+use arrayvec::ArrayVec;
+use postcard_ser::Serialize;
+use postcard_ser_cobs::Cobs;
+use postcard_ser_flavors::{AllocVec, Flavor, HVec, Slice, Storage};
+use postcard_wire::Result;
+use std::alloc::Global;
+
+/// Encodes a value as a frame behind the bytes that a storage holds, and returns its output.
+fn framed<T: Serialize, B: Storage + Drop>(value: &T, storage: B) -> Result<<B as Flavor>::Output>
+    ensures gives { IfOk result (λ output. (last : B)
+        × (B.held last ≡ B.held storage ++ made (bytes (T.shape.tree value.now)))
+        × B.reaches storage last × B.finishes last output) }
+    ensures has_room { ¬ T.shape.refuses value.now
+        → length (made (bytes (T.shape.tree value.now))) ≤ usize.MAX - 2
+        → B.free storage (length (made (bytes (T.shape.tree value.now)))) → IsOk result }
+    ensures answers { ¬ T.shape.refuses value.now
+        → IfErr result (AnswersRefusal T.shape.text) }
+    ensures fits { OnOk result (T.shape.fits value.now) }
+{
+    serialize_with_flavor(value, Cobs::try_new(storage)?)
+}
+
+/// Encodes a value as a frame into a vector with room for `B` bytes, its sentinel among them. Nothing is
+/// allocated.
+///
+/// # Errors
+///
+/// Fails with `SerializeBufferFull` exactly where the frame is longer than `B` bytes, unless the value
+/// refuses itself.
+pub fn to_vec_cobs<T: Serialize, const B: usize>(value: &T) -> Result<ArrayVec<u8, B>>
+    ensures gives { IfOk result (λ vec. vec.items ≡ made (bytes (T.shape.tree value.now))) }
+    ensures exactly { ¬ T.shape.refuses value.now → B ≤ usize.MAX - 2
+        → (IsOk result ↔ (length (made (bytes (T.shape.tree value.now))) ≤ B)) }
+    ensures answers { ¬ T.shape.refuses value.now
+        → IfErr result (AnswersRefusal T.shape.text) }
+    ensures fits { OnOk result (T.shape.fits value.now) }
+{
+    framed(value, HVec::new())
+}
+
+/// Encodes a value as a frame into the front of a buffer, and returns that front. The bytes after it are
+/// unchanged.
+///
+/// # Errors
+///
+/// Fails with `SerializeBufferFull` exactly where the frame is longer than the buffer, unless the value
+/// refuses itself.
+pub fn to_slice_cobs<'a, T: Serialize>(value: &T, buf: &'a mut [u8]) -> Result<&'a mut [u8]>
+    ensures gives { IfOk result (λ front. front.now ≡ made (bytes (T.shape.tree value.now))) }
+    ensures exactly { ¬ T.shape.refuses value.now
+        → (IsOk result ↔ (length (made (bytes (T.shape.tree value.now))) ≤ length buf.old)) }
+    ensures answers { ¬ T.shape.refuses value.now
+        → IfErr result (AnswersRefusal T.shape.text) }
+    ensures fits { OnOk result (T.shape.fits value.now) }
+{
+    // For the prover: a slice has fewer than 2^63 bytes, so the frame's length can be counted.
+    let _len = buf.len();
+    framed(value, Slice::new(buf))
+}
+
+/// Encodes a value as a frame into a new `Vec`.
+///
+/// # Errors
+///
+/// Fails with `SerializeBufferFull` only if an allocation fails, unless the value refuses itself.
+pub fn to_allocvec_cobs<T: Serialize>(alloc: Global, value: &T) -> Result<Vec<u8>>
+    ensures gives { IfOk result (λ vec. vec.items ≡ made (bytes (T.shape.tree value.now))) }
+    ensures answers { ¬ T.shape.refuses value.now
+        → IfErr result (AnswersRefusal T.shape.text) }
+    ensures fits { OnOk result (T.shape.fits value.now) }
+{
+    framed(value, AllocVec::new(alloc))
+}
+
+/// The same as [`to_allocvec_cobs`], under the name that users of `std` know.
+pub fn to_stdvec_cobs<T: Serialize>(alloc: Global, value: &T) -> Result<Vec<u8>>
+    ensures gives { IfOk result (λ vec. vec.items ≡ made (bytes (T.shape.tree value.now))) }
+    ensures answers { ¬ T.shape.refuses value.now
+        → IfErr result (AnswersRefusal T.shape.text) }
+    ensures fits { OnOk result (T.shape.fits value.now) }
+{
+    to_allocvec_cobs(alloc, value)
+}
+
+/// Encodes a value as a frame behind the bytes of a vector, and returns the vector. The Rust crate has no
+/// such call.
+///
+/// # Errors
+///
+/// Fails with `SerializeBufferFull` only if an allocation fails, unless the value refuses itself. The
+/// vector is then dropped.
+pub fn to_allocvec_cobs_after<T: Serialize>(value: &T, vec: Vec<u8>) -> Result<Vec<u8>>
+    ensures gives { IfOk result
+        (λ output. output.items ≡ vec.items ++ made (bytes (T.shape.tree value.now))) }
+    ensures answers { ¬ T.shape.refuses value.now
+        → IfErr result (AnswersRefusal T.shape.text) }
+    ensures fits { OnOk result (T.shape.fits value.now) }
+{
+    framed(value, AllocVec::from_vec(vec))
+}

@@ -1,0 +1,6 @@
+//! Where written bytes go.
+
+pub use postcard_ser_cobs::Cobs;
+pub use postcard_ser_flavors::{
+    AllocVec, ExtendBytes, ExtendFlavor, Flavor, HVec, Size, Slice, StdVec, Storage, io,
+};

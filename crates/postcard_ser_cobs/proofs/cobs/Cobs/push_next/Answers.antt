@@ -1,0 +1,27 @@
+-- A run or a byte is a front of the bytes that are left, so it has room where they do.
+use Rattle.std.proofs.Common.{◌-◌, ◌<◌, [], ◌∷◌, length, take, drop, subst, sym, ◌∙◌, arith, get_or}
+use Rattle.std.proofs.lemmas.List.{take-append-drop, take_rest, length-drop}
+use Rattle.postcard_ser_cobs.specs.Framing.{HasFrameRoom}
+use Rattle.postcard_ser_cobs.specs.FramingLaws.{room_of_front}
+use Rattle.postcard_ser_cobs.proofs.RunLemmas.{first_and_rest}
+use Rattle.postcard_ser_cobs.proofs.cobs.Cobs.push_next.Goals as goal
+
+pub returns-in_err-try_push-clause-has_room : goal.returns-in_err-try_push-clause-has_room
+returns-in_err-try_push-clause-has_room g c r =
+    let s = c.args.self.now in
+    let q = take_rest c.args.bytes.now c.args.place in
+    let rest = take (length c.args.bytes.now - c.args.place) (drop c.args.place c.args.bytes.now) in
+    let l : 0 < length (drop c.args.place c.args.bytes.now) = omega (arith, length-drop c.args.place c.args.bytes.now, c.requires) in
+    let l' : 0 < length rest = rw q l in
+    let no = c.in_err-try_push.ensures.has_room
+    (room_of_front g.B.Storage.free_lawful.free_fewer (get_or rest 0 0 ∷ []) (drop 1 rest) (subst (λ z. HasFrameRoom g.B.Storage.held g.B.Storage.free s.storage s.start s.encoder s.failed z) (sym q ∙ first_and_rest rest l') r)) in
+    absurd (cc)
+
+pub returns-in_err-push_run-clause-has_room : goal.returns-in_err-push_run-clause-has_room
+returns-in_err-push_run-clause-has_room g c r =
+    let s = c.args.self.now in
+    let q = take_rest c.args.bytes.now c.args.place in
+    let rest = take (length c.args.bytes.now - c.args.place) (drop c.args.place c.args.bytes.now) in
+    let no = c.in_err-push_run.ensures.has_room
+    (room_of_front g.B.Storage.free_lawful.free_fewer (take c.run_len-count.result rest) (drop c.run_len-count.result rest) (subst (λ z. HasFrameRoom g.B.Storage.held g.B.Storage.free s.storage s.start s.encoder s.failed z) (sym q ∙ sym (take-append-drop _ rest)) r)) in
+    absurd (cc)

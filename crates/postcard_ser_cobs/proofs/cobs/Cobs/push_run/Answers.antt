@@ -1,0 +1,36 @@
+-- A run goes into the open group; it is refused only without room, or after a refusal.
+use Rattle.std.proofs.Common.{◌++◌, refl, arith}
+use Rattle.std.proofs.Math.Logic.{∥∥₁_map}
+use Rattle.postcard_ser_cobs.specs.FramingLaws.{not_both}
+use Rattle.postcard_ser_cobs.proofs.RunLemmas.{run_holds, run_free, run_small, run_leaves}
+use Rattle.postcard_ser_cobs.proofs.cobs.Cobs.push_run.Goals as goal
+use Rattle.postcard_ser_cobs.proofs.cobs.Cobs.push_run.Goals.{then-self-via-then-self, then-self-via-else-self+then-place-run}
+
+pub returns-then-self-clause-has_room : goal.returns-then-self-clause-has_room
+returns-then-self-clause-has_room g c r =
+    let s = c.requires.short in
+    elim c.then-self.branch [
+      | then-self-via-then-self w ↦ absurd (not_both w.if-self.true r.holds.going)
+      | then-self-via-else-self+then-place-run w ↦ absurd (omega (arith, run_small _ c.requires.no_zero (omega (arith, s)) r, w.place.ensures, w.if-place-run.true))
+    ]
+
+pub returns-in_err-push_piece-clause-has_room : goal.returns-in_err-push_piece-clause-has_room
+returns-in_err-push_piece-clause-has_room g c r =
+    let s = c.requires.short in
+    let no = c.in_err-push_piece.ensures.has_room (run_free _ c.requires.no_zero (omega (arith, s)) g.B.Storage.free_lawful.free_fewer r) in
+    absurd (cc)
+
+pub invariant_of-self-2 : goal.invariant_of-self-2
+invariant_of-self-2 g c =
+    let s = c.args.self.now in
+    record {
+      stands = ∥∥₁_map s.stands (λ f _. let p = f c.if-self.false in
+          (p.0, p.1 ++ c.args.run.now, run_holds _ refl c.in_ok-push_piece.ensures.appends c.push_run.ensures.open p.2));
+    }
+
+pub returns-clause-appends : goal.returns-clause-appends
+returns-clause-appends g c before d h = run_holds _ refl c.in_ok-push_piece.ensures.appends c.push_run.ensures.open h
+
+pub returns-clause-leaves : goal.returns-clause-leaves
+returns-clause-leaves g c =
+    run_leaves _ c.if-self.false c.in_ok-push_piece.ensures.leaves c.in_ok-push_piece.ensures.appends c.in_ok-push_piece.ensures.keeps_free

@@ -1,0 +1,8 @@
+-- What is appended is held behind what was, and the other free bytes stay free: laws of each storage.
+use Rattle.postcard_ser_cobs.proofs.steps.push_piece.Goals as goal
+
+pub returns-in-Ok-clause-keeps_free : goal.returns-in-Ok-clause-keeps_free
+returns-in-Ok-clause-keeps_free g c n h = g.met.B.Storage.storage_lawful.free_rest _ _ c.args.bytes.now n h c.in-Ok.ensures.appends c.in-Ok.ensures.leaves
+
+pub returns-in-Ok-clause-appends : goal.returns-in-Ok-clause-appends
+returns-in-Ok-clause-appends g c = g.met.B.Storage.storage_lawful.held_more _ _ _ c.in-Ok.ensures.appends

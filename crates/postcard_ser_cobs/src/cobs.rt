@@ -1,0 +1,190 @@
+//! The flavor that encodes by COBS.
+
+ghost use Rattle.std.specs.Prelude.{◌≡◌, ℕ, ◌+◌, ◌<◌, List, [], ◌∷◌, ◌++◌, length, IsFalse, IfOk, IfErr, OnOk, OnErr, IsOk, IsTrue, IsErrOf};
+ghost use Rattle.postcard_cobs.specs.Groups.{made};
+ghost use Rattle.postcard_ser_cobs.specs.Framing.{HoldsOpen, HasFrameRoom, LeavesFrame};
+ghost use Rattle.postcard_ser_flavors.specs.Flavor.{Begins};
+
+use crate::steps::{push_one, set_code, take_step};
+use postcard_cobs::EncoderState;
+use postcard_ser_flavors::{Flavor, Storage};
+use postcard_wire::{Error, Result};
+
+mod runs;
+
+/// Encodes the bytes that it takes by COBS, and writes the frame into a storage, behind the bytes
+/// that the storage already holds.
+///
+/// Data of `n` bytes becomes a frame of at most `n + n / 254 + 2` bytes, its sentinel among them.
+/// While the frame is open, the storage holds what it held before and then the frame without its
+/// last code byte and its sentinel; `finalize` writes both.
+///
+/// # Errors
+///
+/// Each call fails with `SerializeBufferFull` alone: where the storage fails, by whatever error,
+/// and where the frame would have more bytes than a `usize` counts. A `Cobs` that has failed once
+/// fails at every further byte and at `finalize`, so that no frame is closed that lacks bytes. The
+/// `Cobs` of the Rust crate goes on.
+#[derive(Drop)]
+pub struct Cobs<B: Storage> {
+    storage: B,
+    // The number of bytes that the storage held before the frame, and so the place of its first.
+    start: usize,
+    encoder: EncoderState,
+    // Whether a byte was refused. The storage may then hold a part of what was asked for.
+    failed: bool,
+    ghost stands: { ∥ (IsFalse failed → (before : List ℕ) × (d : List ℕ)
+        × HoldsOpen B.held storage start encoder failed before d) ∥₁ },
+}
+
+impl<B: Storage + Drop> Cobs<B> {
+    /// Opens a frame behind the bytes that `bee` holds, which stay as they are. Pushes a place for
+    /// the first code byte.
+    ///
+    /// # Errors
+    ///
+    /// Fails with `SerializeBufferFull` where the storage has no room for a byte.
+    pub fn try_new(bee: B) -> Result<Cobs<B>>
+        ensures opens_behind_held { IfOk result (λ c.
+            HoldsOpen B.held c.storage c.start c.encoder c.failed (B.held bee) []) }
+        ensures leaves { IfOk result (λ c. B.reaches bee c.storage) }
+        ensures keeps_free { IfOk result
+            (λ c. (n : ℕ) → B.free bee (1 + n) → B.free c.storage n) }
+        ensures has_room { B.free bee 1 → IsOk result }
+        ensures refuses_by_buffer_full { IfErr result (λ e. e ≡ Error.SerializeBufferFull) }
+    {
+        let mut storage = bee;
+        let start = storage.held_len();
+        push_one(&mut storage, 0)?;
+        Ok(Cobs {
+            storage,
+            start,
+            encoder: EncoderState::default(),
+            failed: false,
+        })
+    }
+}
+
+impl<B: Storage + Drop> Flavor for Cobs<B> {
+    ghost use Rattle.postcard_ser_cobs.specs.FramingLaws.{holds_none, holds_join, room_of_front, room_of_rest, leaves_self, leaves_join, leaves_prop};
+
+    type Output = <B as Flavor>::Output;
+
+    ghost appended = { λ s x t. (before d : List ℕ)
+        → HoldsOpen B.held s.storage s.start s.encoder s.failed before d
+        → HoldsOpen B.held t.storage t.start t.encoder t.failed before (d ++ x) };
+
+    ghost room = { λ s x. HasFrameRoom B.held B.free s.storage s.start s.encoder s.failed x };
+
+    // Refused, a byte may have set a code or pushed a part of what the encoder asked for.
+    ghost tidy = { ⊥ };
+
+    ghost reaches = { λ s t.
+        LeavesFrame B.held B.free B.reaches s.storage s.failed t.storage t.failed };
+
+    ghost finishes = { λ s output. (before d : List ℕ)
+        → HoldsOpen B.held s.storage s.start s.encoder s.failed before d
+        → (last : B) × (B.held last ≡ before ++ made d) × B.reaches s.storage last
+        × B.finishes last output };
+
+    ghost lawful = { record {
+      appended_none = λ s before d h. holds_none h;
+      appended_join = λ s t u x y p q before d h.
+          holds_join before d x y (q before (d ++ x) (p before d h));
+      room_front = λ s x y r. room_of_front B.free_lawful.free_fewer x y r;
+      room_rest = λ s t x y r p l. room_of_rest x y r (p r.before r.d r.holds) l;
+      reaches_self = λ s. leaves_self B.lawful.reaches_self s.storage s.failed;
+      reaches_join = λ s t u p q. leaves_join B.lawful.reaches_join p q;
+      reaches_prop = λ s t. leaves_prop B.lawful.reaches_prop B.free_lawful.free_prop
+          s.storage s.failed t.storage t.failed;
+    } };
+
+    /// Takes a byte of data.
+    ///
+    /// # Errors
+    ///
+    /// Fails with `SerializeBufferFull` where the storage has no room for what the frame grows by,
+    /// 1 or 2 bytes, where the frame would get too long to count, and after any earlier failure.
+    fn try_push(&mut self, byte: u8) -> Result<()>
+        ensures appends { OnOk result
+            (⟦<Cobs<B> as Flavor>⟧.appended self.old (byte ∷ []) self.new) }
+        ensures has_room { ⟦<Cobs<B> as Flavor>⟧.room self.old (byte ∷ []) → IsOk result }
+        ensures refused { OnErr result (⟦<Cobs<B> as Flavor>⟧.tidy
+            → Begins ⟦<Cobs<B> as Flavor>⟧.appended self.old (byte ∷ []) self.new) }
+        ensures leaves { ⟦<Cobs<B> as Flavor>⟧.reaches self.old self.new }
+        ensures stays_refused { IsTrue self.old.failed → IsErrOf result Error.SerializeBufferFull }
+        ensures remembers_refusal { OnErr result (IsTrue self.new.failed) }
+        ensures refuses_by_buffer_full { IfErr result (λ e. e ≡ Error.SerializeBufferFull) }
+    {
+        if self.failed || self.encoder.place() > usize::MAX - 2 {
+            self.failed = true;
+            return Err(Error::SerializeBufferFull);
+        }
+        // A refusal by the storage leaves this set.
+        self.failed = true;
+        let step = self.encoder.push(byte);
+        take_step(&mut self.storage, self.start, step)?;
+        self.failed = false;
+        Ok(())
+    }
+
+    /// Takes bytes of data. Each run of bytes between zeros goes to the storage in one piece, but
+    /// cut where a group of 254 bytes is full.
+    ///
+    /// # Errors
+    ///
+    /// Fails with `SerializeBufferFull` where the storage has no room for what the frame grows by,
+    /// where the frame would get too long to count, and, unless `bytes` is empty, after any earlier
+    /// failure.
+    fn try_extend(&mut self, bytes: &[u8]) -> Result<()>
+        ensures appends { OnOk result
+            (⟦<Cobs<B> as Flavor>⟧.appended self.old bytes.now self.new) }
+        ensures has_room { ⟦<Cobs<B> as Flavor>⟧.room self.old bytes.now → IsOk result }
+        ensures refused { OnErr result (⟦<Cobs<B> as Flavor>⟧.tidy
+            → Begins ⟦<Cobs<B> as Flavor>⟧.appended self.old bytes.now self.new) }
+        ensures leaves { ⟦<Cobs<B> as Flavor>⟧.reaches self.old self.new }
+        ensures stays_refused { IsTrue self.old.failed → 0 < length bytes.now
+            → IsErrOf result Error.SerializeBufferFull }
+        ensures remembers_refusal { OnErr result (IsTrue self.new.failed) }
+        ensures refuses_by_buffer_full { IfErr result (λ e. e ≡ Error.SerializeBufferFull) }
+    {
+        let mut place = 0;
+        while place < bytes.len() {
+            place = self.push_next(bytes, place)?;
+        }
+        Ok(())
+    }
+
+    /// Closes the frame with its last code byte and the sentinel, and returns the output of the
+    /// storage, which then holds what it held before the frame and then the whole frame.
+    ///
+    /// # Errors
+    ///
+    /// Fails with `SerializeBufferFull` where the storage has no room for the sentinel, where the
+    /// storage's own `finalize` fails, and after any earlier failure. What the storage holds is
+    /// then dropped.
+    fn finalize(self) -> Result<<B as Flavor>::Output>
+        ensures gives { IfOk result (λ output. ⟦<Cobs<B> as Flavor>⟧.finishes self output) }
+        ensures closes { ⟦<Cobs<B> as Flavor>⟧.room self [] → IsOk result }
+        ensures stays_refused { IsTrue self.failed → IsErrOf result Error.SerializeBufferFull }
+        ensures refuses_by_buffer_full { IfErr result (λ e. e ≡ Error.SerializeBufferFull) }
+    {
+        let Cobs {
+            storage,
+            start,
+            encoder,
+            failed,
+        } = self;
+        let mut storage = storage;
+        if failed {
+            return Err(Error::SerializeBufferFull);
+        }
+        let (place, code) = encoder.finalize();
+        set_code(&mut storage, start, place, code);
+        push_one(&mut storage, 0)?;
+        match storage.finalize() {
+            Ok(output) => Ok(output),
+            Err(_) => Err(Error::SerializeBufferFull),
+        }
+    }
+}

@@ -1,0 +1,78 @@
+//! What a frame asks of its storage: bytes behind those that it holds, and code bytes set.
+
+ghost use Rattle.std.specs.Prelude.{◌≡◌, ℕ, ◌+◌, ◌<◌, [], ◌∷◌, ◌++◌, length, slice_set, IfErr, OnOk, IsOk};
+ghost use Rattle.postcard_ser_cobs.specs.Steps.{growth, SetsBelow, changed_from};
+
+use postcard_cobs::PushResult;
+use postcard_ser_flavors::{Flavor, Storage};
+use postcard_wire::{Error, Result};
+
+/// Appends a byte. Fails with `SerializeBufferFull` where the storage fails, by whatever error.
+pub(crate) fn push_one<B: Storage>(storage: &mut B, byte: u8) -> Result<()>
+    ensures appends { OnOk result (B.held storage.new ≡ B.held storage.old ++ byte ∷ []) }
+    ensures has_room { B.free storage.old 1 → IsOk result }
+    ensures leaves { B.reaches storage.old storage.new }
+    ensures keeps_free { OnOk result
+        ((n : ℕ) → B.free storage.old (1 + n) → B.free storage.new n) }
+    ensures refuses_by_buffer_full { IfErr result (λ e. e ≡ Error.SerializeBufferFull) }
+{
+    match storage.try_push(byte) {
+        Ok(()) => Ok(()),
+        Err(_) => Err(Error::SerializeBufferFull),
+    }
+}
+
+/// Appends bytes in one piece. Fails with `SerializeBufferFull` where the storage fails, by
+/// whatever error.
+pub(crate) fn push_piece<B: Storage>(storage: &mut B, bytes: &[u8]) -> Result<()>
+    ensures appends { OnOk result (B.held storage.new ≡ B.held storage.old ++ bytes.now) }
+    ensures has_room { B.free storage.old (length bytes.now) → IsOk result }
+    ensures leaves { B.reaches storage.old storage.new }
+    ensures keeps_free { OnOk result
+        ((n : ℕ) → B.free storage.old (length bytes.now + n) → B.free storage.new n) }
+    ensures refuses_by_buffer_full { IfErr result (λ e. e ≡ Error.SerializeBufferFull) }
+{
+    match storage.try_extend(bytes) {
+        Ok(()) => Ok(()),
+        Err(_) => Err(Error::SerializeBufferFull),
+    }
+}
+
+/// Sets a code byte at a place that is counted from the first byte of the frame, which stands at
+/// the place `start` of the storage.
+pub(crate) fn set_code<B: Storage>(storage: &mut B, start: usize, place: usize, code: u8)
+    requires { start + place < length (B.held storage.old) }
+    ensures sets { B.held storage.new ≡ slice_set (B.held storage.old) (start + place) code }
+    ensures leaves { B.reaches storage.old storage.new }
+    ensures keeps_free { (n : ℕ) → B.free storage.old n → B.free storage.new n }
+{
+    // For the prover: the number of bytes held fits a `usize`, and so does each place among them.
+    let _held = storage.held_len();
+    storage.set(start + place, code);
+}
+
+/// Does what the encoder asks for. Fails with `SerializeBufferFull` where the storage fails; of two
+/// bytes the first may then be in.
+pub(crate) fn take_step<B: Storage>(storage: &mut B, start: usize, step: PushResult) -> Result<()>
+    requires { SetsBelow start (length (B.held storage.old)) step }
+    ensures changes { OnOk result
+        (B.held storage.new ≡ changed_from start (B.held storage.old) step) }
+    ensures has_room { B.free storage.old (growth step) → IsOk result }
+    ensures leaves { B.reaches storage.old storage.new }
+    ensures keeps_free { OnOk result
+        ((n : ℕ) → B.free storage.old (growth step + n) → B.free storage.new n) }
+    ensures refuses_by_buffer_full { IfErr result (λ e. e ≡ Error.SerializeBufferFull) }
+{
+    match step {
+        PushResult::AddSingle(byte) => push_one(storage, byte),
+        PushResult::ModifyFromStartAndSkip((place, code)) => {
+            set_code(storage, start, place, code);
+            push_one(storage, 0)
+        }
+        PushResult::ModifyFromStartAndPushAndSkip((place, code, byte)) => {
+            set_code(storage, start, place, code);
+            push_one(storage, byte)?;
+            push_one(storage, 0)
+        }
+    }
+}
