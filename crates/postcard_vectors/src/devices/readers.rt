@@ -1,4 +1,5 @@
-//! Readers for tests: one that gives its bytes in stated pieces, and one that fails at a stated call.
+//! Readers for tests: one that gives its bytes in stated pieces, one that fails at a stated call,
+//! and one of which every other call is interrupted.
 
 ghost use Rattle.std.specs.Prelude.{◌≡◌, ◌+◌, ◌-◌, ◌^◌, ◌≤◌, ◌<◌, ◌++◌, [], length, min, take, Ok, Some, IsErr, ⊤};
 ghost use Rattle.postcard_vectors.specs.Lengths.{turn, piece_length};
@@ -130,5 +131,36 @@ impl<R: Read> Read for FailingReader<R> {
             return Err(ErrorKind::BrokenPipe.into());
         }
         self.inner.read(buf)
+    }
+}
+
+/// Reads from another reader at every other call. The calls between fail with
+/// [`ErrorKind::Interrupted`] and read nothing, as a system call does that a signal cuts short.
+#[derive(Drop)]
+pub struct InterruptedReader<R> {
+    /// Where the bytes come from.
+    pub inner: R,
+    /// Whether the next call is interrupted.
+    pub interrupts: bool,
+}
+
+impl<R: Read> Read for InterruptedReader<R> {
+    ghost use Rattle.std.specs.Prelude.{true, false};
+
+    ghost remaining = { λ s. R.remaining s.inner };
+
+    fn read(&mut self, buf: &mut [u8]) -> io::Result<usize>
+        ensures bound { ReadsAtMost result buf.new }
+        ensures bytes { ReadConsumes (R.remaining self.old.inner) (R.remaining self.new.inner) result buf.new }
+        ensures interrupts { self.old.interrupts ≡ true
+            → IsErr result × (self.new.inner ≡ self.old.inner) × (self.new.interrupts ≡ false) }
+        ensures next_is_interrupted { self.old.interrupts ≡ false → self.new.interrupts ≡ true }
+    {
+        self.interrupts = !self.interrupts;
+        if self.interrupts {
+            self.inner.read(buf)
+        } else {
+            Err(ErrorKind::Interrupted.into())
+        }
     }
 }

@@ -1,4 +1,5 @@
-//! Writers for tests: one that is short of room, and one that fails at a stated call.
+//! Writers for tests: one that is short of room, one that fails at a stated call, and one of which
+//! every other call is interrupted.
 
 ghost use Rattle.std.specs.Prelude.{◌≡◌, ◌+◌, ◌-◌, ◌^◌, [], length, min, true, Ok, Some, IsErr, IsOk, OnOk, OnErr};
 ghost use Rattle.std.specs.Io.{WritesAtMost};
@@ -97,5 +98,44 @@ impl<W: Write> Write for FailingWriter<W> {
         self.inner.flush()?;
         self.flushed = true;
         Ok(())
+    }
+}
+
+/// Writes to another writer at every other call. The calls between fail with
+/// [`ErrorKind::Interrupted`] and write nothing, as a system call does that a signal cuts short.
+#[derive(Drop)]
+pub struct InterruptedWriter<W> {
+    /// What the bytes go to.
+    pub inner: W,
+    /// Whether the next call is interrupted.
+    pub interrupts: bool,
+}
+
+impl<W: Write> Write for InterruptedWriter<W> {
+    ghost use Rattle.std.specs.Prelude.{false};
+
+    ghost contents = { λ s. W.contents s.inner };
+
+    fn write(&mut self, buf: &[u8]) -> io::Result<usize>
+        ensures bound { WritesAtMost result buf.now }
+        ensures bytes { WriteAppends (W.contents self.old.inner) (W.contents self.new.inner) result buf.now }
+        ensures interrupts { self.old.interrupts ≡ true
+            → IsErr result × (self.new.inner ≡ self.old.inner) × (self.new.interrupts ≡ false) }
+        ensures next_is_interrupted { self.old.interrupts ≡ false → self.new.interrupts ≡ true }
+    {
+        self.interrupts = !self.interrupts;
+        if self.interrupts {
+            self.inner.write(buf)
+        } else {
+            Err(ErrorKind::Interrupted.into())
+        }
+    }
+
+    /// Flushes the other writer, and is never interrupted.
+    fn flush(&mut self) -> io::Result<()>
+        ensures bytes { Keeps (W.contents self.old.inner) (W.contents self.new.inner) }
+        ensures turns_not { self.new.interrupts ≡ self.old.interrupts }
+    {
+        self.inner.flush()
     }
 }

@@ -3,12 +3,17 @@
 //! A run may refuse one request for memory (`rt try --test --fail-alloc N` refuses the Nth). What asks for memory is then
 //! called once more, and only the named error may come before the right answer.
 
+mod announced;
+mod appended;
 mod deserializer;
 mod devices;
+mod ends;
 mod flavors;
+mod interruptions;
 mod memory;
 mod readers;
 mod reading;
+mod scratch;
 mod serializer;
 mod streams;
 mod writers;
