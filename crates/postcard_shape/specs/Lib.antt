@@ -15,3 +15,4 @@ pub mod Spans
 pub mod Entries
 pub mod Rows
 pub mod Cases
+pub mod Only
