@@ -6,14 +6,20 @@
 //! - [`event`]: an enum, which is seen as its variants in a row.
 //! - [`percent`], [`interval`]: types that say their shape themselves. One refuses values that are
 //!   read, the other values that are written.
+//! - [`flavor`], [`trailer`]: writing flavors. [`source`]: a reading source.
+//! - [`theorems`]: what a caller proves of its own functions.
 #![tactic(auto)]
 
 pub mod event;
+pub mod flavor;
 pub mod interval;
 pub mod numbers;
 pub mod pair;
 pub mod percent;
 pub mod reading;
+pub mod source;
 pub mod station;
 #[cfg(test)]
 mod tests;
+pub mod theorems;
+pub mod trailer;
