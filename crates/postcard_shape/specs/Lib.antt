@@ -16,3 +16,4 @@ pub mod Entries
 pub mod Rows
 pub mod Cases
 pub mod Refusing
+pub mod Only

@@ -1,0 +1,32 @@
+//! A type of which a value may refuse to be written.
+
+ghost use Rattle.std.specs.Prelude.{◌<◌};
+ghost use Rattle.postcard_shape.specs.Shape.{via};
+ghost use Rattle.postcard_ser.specs.Refusing.{refusing};
+
+use postcard::ser_flavors::Flavor;
+use postcard::{Error, Result, Serialize, Serializer, Shaped};
+
+/// The numbers from `start` to `end`, both included.
+#[derive(Debug, Drop, PartialEq)]
+pub struct Interval {
+    /// The least number.
+    pub start: u16,
+    /// The greatest number.
+    pub end: u16,
+}
+
+/// An interval is seen as the tuple of its ends, and refuses itself if it ends before it starts.
+impl Shaped for Interval {
+    ghost shape = { refusing (λ v. v.end < v.start) (via (λ v. (v.start, v.end)) ⟦<(u16, u16) as Shaped>⟧.shape) };
+}
+
+/// Fails with `SerdeSerCustom` if the interval ends before it starts. Nothing is written then.
+impl Serialize for Interval {
+    fn serialize<F: Flavor>(&self, serializer: &mut Serializer<F>) -> Result<()> {
+        if self.end < self.start {
+            return Err(Error::ser_custom("ends before it starts"));
+        }
+        (self.start, self.end).serialize(serializer)
+    }
+}

@@ -1,0 +1,1 @@
+//! Each type there and back, with bytes worked out by hand.

@@ -1,0 +1,28 @@
+-- The shape of a type that has only some of another's values, as the bytes up to 100: reading refuses the others.
+use Rattle.postcard_wire.specs.Tree.{Tree}
+use Rattle.postcard_wire.proofs.Delimited.{fewer_delimited}
+use Rattle.postcard_shape.specs.Shape.{Shape}
+
+-- A tree that is read, of which a value passes the test.
+abbrev pub IsOnly : {V : Type 0} → (V → Type 0) → (Tree → Type 0) → (Tree → V → Type 0) → Tree → Type 0
+IsOnly {V} test reads value t = reads t × ((v : V) × value t v × test v)
+
+pub only_inside : {V : Type 0} (test : V → Type 0) (reads : Tree → Type 0) (value : Tree → V → Type 0) (t : Tree) → IsOnly test reads value t → reads t
+only_inside test reads value t r = r.0
+
+-- The same shape with the values that pass the test alone.
+abbrev pub only : {V : Type 0} → (V → Type 0) → Shape V → Shape V
+only test s = record {
+  tree = s.tree;
+  refuses = s.refuses;
+  text = s.text;
+  reads = IsOnly test s.reads s.value;
+  value = s.value;
+  same = s.same;
+  grows = s.grows;
+  fits = λ v. s.fits v × test v;
+  delimited = fewer_delimited _ _ (only_inside test s.reads s.value) s.delimited;
+  well_formed = λ t r. s.well_formed t r.0;
+  one_value = s.one_value;
+  again = λ v f. let k = s.again v f.0 in ((k.0, (v, k.1, f.1)), k.1);
+}
