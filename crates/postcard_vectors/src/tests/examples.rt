@@ -51,3 +51,18 @@ fn records(rt: HostRuntime) -> Result<()> {
     assert_eq!(rt; (reader, left.len()), ([0x99].as_slice(), 7));
     Ok(())
 }
+
+#[test]
+fn framing(rt: HostRuntime) -> Result<(), Fail> {
+    use postcard::{to_allocvec_cobs_after, to_slice_cobs};
+
+    let mut buffer = [0; 16];
+    let frame = to_slice_cobs(&[0x01u8, 0x00, 0x20, 0x30].as_slice(), &mut buffer)?;
+    assert_eq!(rt;
+        &*frame,
+        [0x03, 0x04, 0x01, 0x03, 0x20, 0x30, 0x00].as_slice()
+    );
+    let two = to_allocvec_cobs_after(&5u8, frame.to_vec(rt.alloc())?)?; // behind what the vector has
+    assert_eq!(rt; two.get(7..), Some([0x02, 0x05, 0x00].as_slice()));
+    Ok(())
+}

@@ -9,6 +9,7 @@ mod deserializer;
 mod devices;
 mod ends;
 mod flavors;
+mod frames;
 mod interruptions;
 mod memory;
 mod readers;

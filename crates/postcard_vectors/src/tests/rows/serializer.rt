@@ -2,8 +2,14 @@
 //! value by itself.
 
 use super::{OLD, written};
-use postcard::ser_flavors::{Flavor, Slice};
-use postcard::{Error, Result, Serialize, Serializer};
+use postcard::experimental::serialized_size;
+use postcard::ser_flavors::{Flavor, HVec, Slice};
+use postcard::{
+    Error, Result, Serialize, Serializer, Shaped, serialize_with_flavor, to_allocvec, to_extend,
+    to_io, to_stdvec, to_vec,
+};
+use std::alloc::AllocGlobal;
+use std::collections::BTreeMap;
 use std::fmt;
 use std::fmt::Display;
 use std::process::Abort;
@@ -18,16 +24,18 @@ impl Display for Unprintable {
 }
 
 /// A value that refuses itself.
+#[derive(Drop)]
 struct Unwritable;
 
-impl Serialize for Unwritable {
+impl Shaped for Unwritable {
     ghost use Rattle.std.specs.Prelude.{⊤};
-    ghost use Rattle.postcard_wire.specs.Tree.{Group, NoTrees};
+    ghost use Rattle.postcard_shape.specs.Rows.{none, group};
+    ghost use Rattle.postcard_shape.specs.Refusing.{refusing};
 
-    ghost tree = { λ _. Group NoTrees };
+    ghost shape = { refusing (λ _. ⊤) (group none) };
+}
 
-    ghost refuses_itself = { λ _. ⊤ };
-
+impl Serialize for Unwritable {
     fn serialize<F: Flavor>(&self, _serializer: &mut Serializer<F>) -> Result<()> {
         Err(Error::ser_custom("no"))
     }
@@ -81,4 +89,28 @@ fn refusals(rt: HostRuntime) {
         written(&Unwritable, &mut buffer),
         Err(Error::SerdeSerCustom)
     );
+}
+
+/// The value is refused by its own error, whatever call writes it.
+fn assert_refuses_itself<T: Serialize>(rt: &(impl Abort + AllocGlobal), value: &T) {
+    let own = Some(Error::SerdeSerCustom);
+    assert_eq!(rt; serialize_with_flavor(value, HVec::<8>::new()).err(), own);
+    assert_eq!(rt; to_vec::<_, 8>(value).err(), own);
+    assert_eq!(rt; to_allocvec(rt.alloc(), value).err(), own);
+    assert_eq!(rt; to_stdvec(rt.alloc(), value).err(), own);
+    assert_eq!(rt; to_extend(value, Vec::new(rt.alloc())).err(), own);
+    assert_eq!(rt; to_io(value, Vec::new(rt.alloc())).err(), own);
+    assert_eq!(rt; serialized_size(value).err(), own);
+}
+
+#[test]
+fn values_that_refuse_themselves(rt: HostRuntime) -> Result<()> {
+    let mut map = BTreeMap::new(rt.alloc());
+    map.insert(1u8, Unwritable)?;
+    assert_refuses_itself(&rt, &map);
+    assert_refuses_itself(&rt, &Unwritable);
+    assert_refuses_itself(&rt, &[Unwritable, Unwritable].as_slice());
+    assert_refuses_itself(&rt, &Some(Unwritable));
+    assert_refuses_itself(&rt, &(1u8, Unwritable));
+    Ok(())
 }
