@@ -53,7 +53,7 @@ fn records(rt: HostRuntime) -> Result<()> {
 }
 
 #[test]
-fn framing(rt: HostRuntime) -> Result<(), Fail> {
+fn framing(rt: HostRuntime) -> Result<()> {
     use postcard::{to_allocvec_cobs_after, to_slice_cobs};
 
     let mut buffer = [0; 16];
