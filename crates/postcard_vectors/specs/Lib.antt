@@ -1,4 +1,1 @@
-pub mod Told
-pub mod Basic
-pub mod Data
 pub mod Lengths

@@ -1,7 +1,7 @@
 //! The types of the vectors, implemented by hand as a user of the library would.
 //!
-//! A struct is read as the tuple of its fields: each member of its impl of `Deserialize` is that of the tuple, and nothing
-//! more is to be proved. An enum says what stands at each index, and is read as the value whose tree it is.
+//! A struct is seen as the tuple of its fields, and an enum as its variants in a row; the check needs no
+//! proof file for them.
 //!
 //! - [`ref_struct`]: a struct that borrows from the input.
 //! - [`basic_u8s`], [`wide_u8s`]: structs of numbers.

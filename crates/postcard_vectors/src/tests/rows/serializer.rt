@@ -3,7 +3,7 @@
 
 use super::{OLD, written};
 use postcard::ser_flavors::{Flavor, Slice};
-use postcard::{Error, Result, Serialize, Serializer};
+use postcard::{Error, Result, Serialize, Serializer, Shaped};
 use std::fmt;
 use std::fmt::Display;
 use std::process::Abort;
@@ -20,14 +20,15 @@ impl Display for Unprintable {
 /// A value that refuses itself.
 struct Unwritable;
 
-impl Serialize for Unwritable {
+impl Shaped for Unwritable {
     ghost use Rattle.std.specs.Prelude.{⊤};
-    ghost use Rattle.postcard_wire.specs.Tree.{Group, NoTrees};
+    ghost use Rattle.postcard_shape.specs.Rows.{none, group};
+    ghost use Rattle.postcard_ser.specs.Refusing.{refusing};
 
-    ghost tree = { λ _. Group NoTrees };
+    ghost shape = { refusing (λ _. ⊤) (group none) };
+}
 
-    ghost refuses_itself = { λ _. ⊤ };
-
+impl Serialize for Unwritable {
     fn serialize<F: Flavor>(&self, _serializer: &mut Serializer<F>) -> Result<()> {
         Err(Error::ser_custom("no"))
     }
