@@ -4,7 +4,9 @@ ghost use Rattle.postcard_examples.specs.declared.event.Event.{Event};
 
 use crate::reading::Reading;
 use postcard::ser_flavors::Flavor;
-use postcard::{Case, FromRepr, NoCase, Repr, Result, SerializeRepr, Serializer, serialize_variant};
+use postcard::{
+    Case, FromRepr, NoCase, Repr, Result, SerializeRepr, Serializer, serialize_variant,
+};
 
 /// What a device reports.
 #[derive(Debug, Drop, PartialEq)]

@@ -3,11 +3,13 @@
 ghost use Rattle.postcard_shape.specs.Shape.{via};
 ghost use Rattle.postcard_shape.specs.Leaves.{byte};
 ghost use Rattle.postcard_shape.specs.Only.{only};
-ghost use Rattle.std.specs.Prelude.{◌≤◌};
+ghost use Rattle.std.specs.Prelude.{◌≡◌, ◌≤◌, ◌↔◌, IsSome, IfSome};
 
 use postcard::de_flavors::Flavor as Source;
 use postcard::ser_flavors::Flavor;
-use postcard::{Deserialize, DeserializeOwned, Deserializer, Error, Result, Serialize, Serializer, Shaped};
+use postcard::{
+    Deserialize, DeserializeOwned, Deserializer, Error, Result, Serialize, Serializer, Shaped,
+};
 use std::alloc::Global;
 
 /// A share of a hundred: 0 to 100.
@@ -19,12 +21,21 @@ pub struct Percent {
 
 impl Percent {
     /// Returns this share, or `None` if `value` is above 100.
-    pub fn new(value: u8) -> Option<Percent> {
-        if value <= 100 { Some(Percent { value }) } else { None }
+    pub fn new(value: u8) -> Option<Percent>
+        ensures accepts { IsSome result ↔ (value ≤ 100) }
+        ensures keeps { IfSome result (λ percent. percent.value ≡ value) }
+    {
+        if value <= 100 {
+            Some(Percent { value })
+        } else {
+            None
+        }
     }
 
     /// Returns the share as a number from 0 to 100.
-    pub fn get(&self) -> u8 {
+    pub fn get(&self) -> u8
+        ensures { result ≡ self.now.value }
+    {
         self.value
     }
 }

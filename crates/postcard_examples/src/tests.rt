@@ -1,1 +1,204 @@
-//! Each type there and back, with bytes worked out by hand.
+//! Each type there and back, and each flavor and source at work, with bytes worked out by hand.
+
+use crate::event::Event;
+use crate::flavor::Both;
+use crate::interval::Interval;
+use crate::numbers::Numbers;
+use crate::pair::Pair;
+use crate::percent::Percent;
+use crate::reading::Reading;
+use crate::source::Counted;
+use crate::station::{Position, Station};
+use crate::theorems::{reading_comes_back, station_comes_back, u32_fits_five_bytes};
+use crate::trailer::Trailed;
+use postcard::ser_flavors::{AllocVec, HVec, Size};
+use postcard::{
+    Deserialize, DeserializeOwned, Error, Owned, Result, Serialize, from_bytes, from_io,
+    serialize_with_flavor, to_allocvec,
+};
+use std::fmt::Debug;
+use std::process::Abort;
+use std::test::Fail;
+
+/// The value is written as these bytes, and they are read as the value.
+fn is_there_and_back<'a, T: Serialize + Deserialize<'a> + PartialEq + Debug>(
+    rt: &(impl Abort + AllocGlobal),
+    value: T,
+    bytes: &'a [u8],
+) {
+    match to_allocvec(rt.alloc(), &value) {
+        Ok(written) => assert_eq!(rt; written.as_slice(), bytes),
+        Err(error) => panic!(rt; "{error}"),
+    }
+    assert_eq!(rt; from_bytes(rt.alloc(), bytes), Ok(value));
+}
+
+/// The bytes are read as the value by a type that borrows nothing.
+fn is_owned<T: DeserializeOwned + PartialEq + Debug>(
+    rt: &(impl Abort + AllocGlobal),
+    value: T,
+    bytes: &[u8],
+) {
+    match from_bytes::<Owned<T>>(rt.alloc(), bytes) {
+        Ok(Owned(back)) => assert_eq!(rt; back, value),
+        Err(error) => panic!(rt; "{error}"),
+    }
+}
+
+/// The reading 300, -2 at "ab" with the samples 1 and 128.
+const READING: [u8; 10] = [0xAC, 0x02, 0x03, 2, b'a', b'b', 2, 1, 0x80, 0x01];
+
+fn reading(rt: &impl AllocGlobal) -> Result<Reading<'static>> {
+    let samples = match [1, 128].to_vec(rt.alloc()) {
+        Ok(samples) => samples,
+        Err(_) => return Err(Error::OutOfMemory),
+    };
+    Ok(Reading {
+        id: 300,
+        temperature: -2,
+        label: "ab",
+        samples,
+    })
+}
+
+#[test]
+fn structs(rt: HostRuntime) -> std::result::Result<(), Fail> {
+    is_there_and_back(&rt, reading(&rt)?, &READING);
+    let numbers = || Numbers {
+        byte: 200,
+        signed_byte: -1,
+        short: 128,
+        signed_short: -1,
+        word: 127,
+        signed_word: 1,
+        long: 16384,
+        signed_long: -64,
+    };
+    let bytes = [200, 0xFF, 0x80, 0x01, 1, 127, 2, 0x80, 0x80, 0x01, 127];
+    is_there_and_back(&rt, numbers(), &bytes);
+    is_owned(&rt, numbers(), &bytes);
+    let pair = Pair {
+        left: 1u8,
+        right: 2u8,
+    };
+    is_there_and_back(&rt, pair, &[1, 2]);
+    Ok(())
+}
+
+/// The station "x" at 1 north, 1 west, 3 metres high.
+const STATION: [u8; 6] = [1, b'x', 2, 1, 1, 6];
+
+fn station(rt: &impl AllocGlobal) -> Result<Station> {
+    let name = match String::from_str(rt.alloc(), "x") {
+        Ok(name) => name,
+        Err(_) => return Err(Error::OutOfMemory),
+    };
+    let position = Position {
+        latitude: 1,
+        longitude: -1,
+    };
+    Ok(Station {
+        name,
+        position,
+        height: Some(3),
+    })
+}
+
+#[test]
+fn a_struct_within_a_struct(rt: HostRuntime) -> std::result::Result<(), Fail> {
+    is_there_and_back(&rt, station(&rt)?, &STATION);
+    is_owned(&rt, station(&rt)?, &STATION);
+    Ok(())
+}
+
+#[test]
+fn enums(rt: HostRuntime) -> std::result::Result<(), Fail> {
+    is_there_and_back(&rt, Event::Boot, &[0]);
+    let bytes = [1, 0xAC, 0x02, 0x03, 2, b'a', b'b', 2, 1, 0x80, 0x01];
+    is_there_and_back(&rt, Event::Reading(reading(&rt)?), &bytes);
+    let text = String::from_str(rt.alloc(), "hot")?;
+    is_there_and_back(
+        &rt,
+        Event::Fault { code: 7, text },
+        &[2, 7, 3, b'h', b'o', b't'],
+    );
+    assert_eq!(rt;
+        from_bytes::<Event>(rt.alloc(), &[3]),
+        Err(Error::SerdeDeCustom)
+    );
+    Ok(())
+}
+
+#[test]
+fn values_that_are_refused(rt: HostRuntime) {
+    for value in [0, 100] {
+        match Percent::new(value) {
+            Some(percent) => is_there_and_back(&rt, percent, &[value]),
+            None => panic!(rt; "{value} is a percent"),
+        }
+    }
+    assert_eq!(rt;
+        from_bytes::<Percent>(rt.alloc(), &[101]),
+        Err(Error::SerdeDeCustom)
+    );
+    let interval = Interval { start: 1, end: 300 };
+    assert_eq!(rt; serialize_with_flavor(&interval, Size::default()), Ok(3));
+    let reversed = Interval { start: 2, end: 1 };
+    assert_eq!(rt;
+        serialize_with_flavor(&reversed, Size::default()),
+        Err(Error::SerdeSerCustom)
+    );
+}
+
+#[test]
+fn flavors(rt: HostRuntime) -> std::result::Result<(), Fail> {
+    let both = Both {
+        first: Size::default(),
+        second: AllocVec::new(rt.alloc()),
+    };
+    let (count, written) = serialize_with_flavor(&300u16, both)?;
+    assert_eq!(rt; count, 2);
+    assert_eq!(rt; written.as_slice(), [0xAC, 0x02].as_slice());
+    let trailed = Trailed {
+        inner: HVec::<3>::new(),
+    };
+    let written = serialize_with_flavor(&300u16, trailed)?;
+    assert_eq!(rt; written.as_slice(), [0xAC, 0x02, 0].as_slice());
+    let short = Trailed {
+        inner: HVec::<2>::new(),
+    };
+    assert_eq!(rt;
+        serialize_with_flavor(&300u16, short).err(),
+        Some(Error::SerializeBufferFull)
+    );
+    Ok(())
+}
+
+#[test]
+fn a_source(rt: HostRuntime) -> std::result::Result<(), Fail> {
+    let mut scratch = [0; 8];
+    let bytes: &[u8] = &[0xAC, 0x02, 9];
+    let counted = Counted {
+        inner: bytes,
+        count: 0,
+    };
+    let (value, (reader, _)) = from_io::<u16, _>(rt.alloc(), (counted, &mut scratch))?;
+    assert_eq!(rt; value, 300);
+    assert_eq!(rt; reader.count, 2);
+    Ok(())
+}
+
+#[test]
+fn what_is_written_comes_back(rt: HostRuntime) -> std::result::Result<(), Fail> {
+    let mut message = Vec::new(rt.alloc());
+    let back = reading_comes_back(rt.alloc(), &reading(&rt)?, &mut message)?;
+    assert_eq!(rt; back, reading(&rt)?);
+    assert_eq!(rt;
+        station_comes_back(rt.alloc(), &station(&rt)?)?,
+        station(&rt)?
+    );
+    let mut buffer = [0; 5];
+    assert_eq!(rt; u32_fits_five_bytes(u32::MAX, &mut buffer), Ok(5));
+    assert_eq!(rt; buffer, [0xFF, 0xFF, 0xFF, 0xFF, 0x0F]);
+    Ok(())
+}
