@@ -31,6 +31,7 @@ pub struct Owned<T: DeserializeOwned>(pub T);
 
 impl<T: DeserializeOwned> Repr for Owned<T> {
     type As = T;
+
     ghost repr = { λ v. v.0 };
 }
 

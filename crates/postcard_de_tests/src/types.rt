@@ -1,9 +1,9 @@
 //! What no clause says of the other types and calls: rows from outside, and each call once.
 
-use postcard_de::{Deserialize, Deserializer};
-use postcard_de::laws::{one_message, read_again};
 use crate::nodes::{check, read, read_in_two_tries};
 use arrayvec::{ArrayString, ArrayVec};
+use postcard_de::laws::{one_message, read_again};
+use postcard_de::{Deserialize, Deserializer};
 use postcard_wire::Error;
 use std::alloc::Global;
 use std::collections::BTreeMap;

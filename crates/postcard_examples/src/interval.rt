@@ -2,7 +2,7 @@
 
 ghost use Rattle.std.specs.Prelude.{◌<◌};
 ghost use Rattle.postcard_shape.specs.Shape.{via};
-ghost use Rattle.postcard_ser.specs.Refusing.{refusing};
+ghost use Rattle.postcard_shape.specs.Refusing.{refusing};
 
 use postcard::ser_flavors::Flavor;
 use postcard::{Error, Result, Serialize, Serializer, Shaped};

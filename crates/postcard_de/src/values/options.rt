@@ -8,7 +8,10 @@ use postcard_wire::Error;
 use std::alloc::Global;
 
 impl<'de, T: Deserialize<'de>> Deserialize<'de> for Option<T> {
-    fn deserialize<F: Flavor>(alloc: Global, d: &mut Deserializer<'de, F>) -> postcard_wire::Result<Self> {
+    fn deserialize<F: Flavor>(
+        alloc: Global,
+        d: &mut Deserializer<'de, F>,
+    ) -> postcard_wire::Result<Self> {
         d.deserialize_option(alloc)
     }
 }

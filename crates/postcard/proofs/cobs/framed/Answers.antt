@@ -19,8 +19,8 @@ returns-clause-gives g c =
     let before = g.B.Storage.held c.args.storage in
     IfOk-weaker c.serialize_with_flavor.result _ _
     (λ o fin.
-        let b = fin.ended before (bytes (g.T.Shaped.shape.tree c.args.value.now)) (fin.appended before [] c.in_ok-try_new.ensures.opens_behind_held) in
-        (b.0, b.1, g.B.Flavor.lawful.reaches_join _ _ _ c.in_ok-try_new.ensures.leaves (g.B.Flavor.lawful.reaches_join _ _ _ fin.reached.inner b.2), b.3))
+    let b = fin.ended before (bytes (g.T.Shaped.shape.tree c.args.value.now)) (fin.appended before [] c.in_ok-try_new.ensures.opens_behind_held) in
+    (b.0, b.1, g.B.Flavor.lawful.reaches_join _ _ _ c.in_ok-try_new.ensures.leaves (g.B.Flavor.lawful.reaches_join _ _ _ fin.reached.inner b.2), b.3))
     c.serialize_with_flavor.ensures.gives
 
 pub returns-clause-has_room : goal.returns-clause-has_room
