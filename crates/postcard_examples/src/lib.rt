@@ -6,10 +6,12 @@
 //! - [`event`]: an enum, which is seen as its variants in a row.
 //! - [`percent`], [`interval`]: types that say their shape themselves. One refuses values that are
 //!   read, the other values that are written.
+//! - [`chain`]: a recursive type, written to a depth.
 //! - [`flavor`], [`trailer`]: writing flavors. [`source`]: a reading source.
 //! - [`theorems`]: what a caller proves of its own functions.
 #![tactic(auto)]
 
+pub mod chain;
 pub mod event;
 pub mod flavor;
 pub mod interval;

@@ -46,7 +46,7 @@ impl Shaped for Percent {
 
 impl Serialize for Percent {
     fn serialize<F: Flavor>(&self, serializer: &mut Serializer<F>) -> Result<()> {
-        self.value.serialize(serializer)
+        self.get().serialize(serializer)
     }
 }
 
