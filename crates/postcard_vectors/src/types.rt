@@ -1,7 +1,7 @@
 //! The types of the vectors, implemented by hand as a user of the library would.
 //!
-//! A struct is seen as the tuple of its fields, and an enum as its variants in a row; the check needs no
-//! proof file for them.
+//! A struct is seen as the tuple of its fields, and an enum as its variants in a row. Neither needs
+//! a proof file.
 //!
 //! - [`ref_struct`]: a struct that borrows from the input.
 //! - [`basic_u8s`], [`wide_u8s`]: structs of numbers.
