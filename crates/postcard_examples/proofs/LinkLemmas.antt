@@ -1,11 +1,11 @@
 -- How a link is written, from how its parts are.
-use Rattle.std.proofs.Common.{◌≡◌, ◌⊎◌, inl, inr, Result, ℕ, List, [], ◌++◌, suc, sym, append-nil}
+use Rattle.std.proofs.Common.{◌≡◌, inl, inr, Result, ℕ, [], ◌++◌, suc}
 use Rattle.postcard_wire.specs.declared.error.Error.{Error}
 use Rattle.postcard_wire.specs.Number.{digits}
 use Rattle.postcard_wire.specs.Spelling.{bytes}
 use Rattle.postcard_ser_flavors.specs.declared.flavor.Flavor.{Ghosts}
 use Rattle.postcard_ser.specs.Writing.{Wrote}
-use Rattle.postcard_ser.proofs.PartByPart.{wrote_as, wrote_last}
+use Rattle.postcard_ser.proofs.PartByPart.{wrote_as}
 use Rattle.postcard_examples.specs.declared.chain.Chain.{Chain}
 use Rattle.postcard_shape.specs.declared.cases.Case.TheVariants.{This, Next}
 use Rattle.postcard_examples.specs.Links.{chain_shape, chain_cases}

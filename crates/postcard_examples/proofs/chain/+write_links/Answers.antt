@@ -1,5 +1,5 @@
 -- Each exit wrote the index, the number and the rest as far as it came.
-use Rattle.std.proofs.Common.{◌≡◌, suc, arith, ◌-◌, ap}
+use Rattle.std.proofs.Common.{arith, ◌-◌, ap}
 use Rattle.postcard_examples.specs.Links.{chain_cases}
 use Rattle.postcard_ser.proofs.PartByPart.{wrote_then, wrote_stop, wrote_err, wrote_last}
 use Rattle.postcard_examples.proofs.LinkLemmas.{link_wrote}
