@@ -1,6 +1,6 @@
 -- The words of a flavor that ends each message with a byte more, from those of the flavor within.
 use Rattle.std.specs.Prelude.{◌≡◌, ℕ, suc, List, [], ◌∷◌, ◌++◌, length}
-use Rattle.std.proofs.Common.{refl, ap, sym, ◌∙◌, arith}
+use Rattle.std.proofs.Common.{refl, ◌∙◌, arith}
 use Rattle.std.proofs.lemmas.List.{length-append}
 use Rattle.postcard_ser_flavors.specs.Flavor.{IsFlavor}
 use Rattle.postcard_ser_flavors.specs.declared.flavor.Flavor.{Ghosts}

@@ -18,7 +18,8 @@ pub struct Interval {
 
 /// An interval is seen as the tuple of its ends, and refuses itself if it ends before it starts.
 impl Shaped for Interval {
-    ghost shape = { refusing (λ v. v.end < v.start) (via (λ v. (v.start, v.end)) ⟦<(u16, u16) as Shaped>⟧.shape) };
+    ghost shape = { refusing (λ v. v.end < v.start)
+        (via (λ v. (v.start, v.end)) ⟦<(u16, u16) as Shaped>⟧.shape) };
 }
 
 /// Fails with `SerdeSerCustom` if the interval ends before it starts. Nothing is written then.

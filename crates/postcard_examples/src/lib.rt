@@ -1,15 +1,17 @@
 //! A user's own types, flavors and theorems, each a page of the guide `docs/TYPES.md`.
 //!
 //! - [`reading`], [`numbers`], [`station`], [`pair`]: structs, which are seen as the tuple of their
-//!   fields. [`reading`] borrows from the message, [`numbers`] has more than six fields, [`station`]
-//!   has a struct within, and [`pair`] has a type parameter.
+//!   fields. The first borrows from the message, the second has more than six fields, the third a
+//!   struct within, and the last a type parameter.
 //! - [`event`]: an enum, which is seen as its variants in a row.
 //! - [`percent`], [`interval`]: types that say their shape themselves. One refuses values that are
 //!   read, the other values that are written.
+//! - [`chain`]: a recursive type, written to a depth.
 //! - [`flavor`], [`trailer`]: writing flavors. [`source`]: a reading source.
 //! - [`theorems`]: what a caller proves of its own functions.
 #![tactic(auto)]
 
+pub mod chain;
 pub mod event;
 pub mod flavor;
 pub mod interval;

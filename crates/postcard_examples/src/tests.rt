@@ -1,5 +1,6 @@
 //! Each type there and back, and each flavor and source at work, with bytes worked out by hand.
 
+use crate::chain::Chain;
 use crate::event::Event;
 use crate::flavor::Both;
 use crate::interval::Interval;
@@ -200,5 +201,27 @@ fn what_is_written_comes_back(rt: HostRuntime) -> std::result::Result<(), Fail> 
     let mut buffer = [0; 5];
     assert_eq!(rt; u32_fits_five_bytes(u32::MAX, &mut buffer), Ok(5));
     assert_eq!(rt; buffer, [0xFF, 0xFF, 0xFF, 0xFF, 0x0F]);
+    Ok(())
+}
+
+#[test]
+fn a_chain_to_a_depth(rt: HostRuntime) -> std::result::Result<(), Fail> {
+    let mut chain = Chain::End;
+    for number in 0..31u16 {
+        chain = Chain::Link(number, Box::new(rt.alloc(), chain)?);
+        let links = usize::from(number) + 1;
+        assert_eq!(rt;
+            serialize_with_flavor(&chain, Size::default()),
+            Ok(2 * links + 1)
+        );
+    }
+    let longer = Chain::Link(31, Box::new(rt.alloc(), chain)?);
+    assert_eq!(rt;
+        serialize_with_flavor(&longer, Size::default()),
+        Err(Error::SerdeSerCustom)
+    );
+    let last = Chain::Link(300, Box::new(rt.alloc(), Chain::End)?);
+    let written = to_allocvec(rt.alloc(), &Chain::Link(1, Box::new(rt.alloc(), last)?))?;
+    assert_eq!(rt; written.as_slice(), [1, 1, 1, 0xAC, 0x02, 0].as_slice());
     Ok(())
 }

@@ -1,0 +1,40 @@
+-- The shape of a chain of less than a number of links, by recursion on that number.
+use Rattle.std.specs.Prelude.{ℕ, zero, suc, ⊤}
+use Rattle.std.proofs.Common.{refl, inl}
+use Rattle.postcard_wire.specs.Tree.{Absent}
+use Rattle.postcard_wire.proofs.Delimited.{none_delimited}
+use Rattle.postcard_shape.specs.Shape.{Shape, via}
+use Rattle.postcard_shape.specs.Leaves.{num}
+use Rattle.postcard_shape.specs.Rows.{none, then, group}
+use Rattle.postcard_shape.specs.Cases.{no_case, case, variants}
+use Rattle.postcard_shape.specs.declared.cases.Case.{Case}
+use Rattle.postcard_shape.specs.declared.cases.Case.TheVariants.{This, Next}
+use Rattle.postcard_shape.specs.declared.cases.NoCase.{NoCase}
+use Rattle.postcard_examples.specs.declared.chain.Chain.{Chain, End, Link'}
+
+-- What a chain is seen as: nothing, or an item and a chain.
+abbrev pub chain_cases : Chain → Case (Unit {0}) (Case (ℕ × (Chain × Unit {0})) NoCase)
+chain_cases End = This tt
+chain_cases (Link' n p c) = Next (This (n, (c, tt)))
+
+-- The shape of no chain: each refuses itself, and none is read.
+abbrev pub too_long : {V : Type 0} → Shape V
+too_long {V} = record {
+  tree = λ v. Absent;
+  refuses = λ v. ⊤;
+  text = ⊥;
+  reads = λ t. ⊥;
+  value = λ t v. ⊥;
+  same = λ v w. ⊤;
+  grows = ⊥;
+  fits = λ v. ⊥;
+  delimited = none_delimited;
+  well_formed = λ t r. absurd r;
+  one_value = λ t v w h k. absurd h;
+  again = λ v f. absurd f;
+}
+
+-- A chain of less than n links.
+abbrev pub chain_shape : ℕ → Shape Chain
+chain_shape zero = too_long
+chain_shape (suc n) = via chain_cases (variants (case (group none) (case (group (then (num 16 (inl refl)) (then (chain_shape n) none))) no_case)))
