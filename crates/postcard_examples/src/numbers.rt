@@ -27,8 +27,16 @@ pub struct Numbers {
 impl Repr for Numbers {
     type As = (u8, i8, u16, i16, u32, i32, u64, i64);
 
-    ghost repr = { λ v. (v.byte, v.signed_byte, v.short, v.signed_short, v.word, v.signed_word,
-        v.long, v.signed_long) };
+    ghost repr = { λ v. (
+      v.byte,
+      v.signed_byte,
+      v.short,
+      v.signed_short,
+      v.word,
+      v.signed_word,
+      v.long,
+      v.signed_long,
+    ) };
 }
 
 impl FromRepr for Numbers {
