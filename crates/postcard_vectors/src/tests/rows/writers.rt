@@ -10,7 +10,7 @@ use std::test::Fail;
 
 /// Sends a value to a writer of which a caller knows what it holds then.
 fn sent<T: Serialize, const N: usize>(value: &T) -> postcard::Result<Bounded<N>>
-    ensures { IfOk result (λ writer. writer.held.items ≡ bytes (T.tree value.now)) }
+    ensures { IfOk result (λ writer. writer.held.items ≡ bytes (T.shape.tree value.now)) }
 {
     to_io(value, Bounded::new())
 }
