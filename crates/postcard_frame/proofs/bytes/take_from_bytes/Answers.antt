@@ -4,7 +4,7 @@ use Rattle.std.proofs.lemmas.List.{append_cancel_left}
 use Rattle.postcard_de.proofs.Leaves.{is_refusal}
 use Rattle.postcard_wire.specs.Spelling.{bytes}
 use Rattle.postcard_shape.proofs.Again.{is_spelled, is_same}
-use Rattle.postcard.proofs.de.take_from_bytes.Goals as goal
+use Rattle.postcard_frame.proofs.bytes.take_from_bytes.Goals as goal
 
 -- a list has at least the bytes of its front
 long_enough : (bytes front rest : List ℕ) → bytes ≡ front ++ rest → length front ≤ length bytes
