@@ -7,7 +7,7 @@ use Rattle.postcard_wire.specs.Spelling.{SpellsAll}
 use Rattle.postcard_wire.specs.Reading.{IsByte, Each}
 use Rattle.postcard_wire.proofs.Delimited.{same_front}
 use Rattle.postcard_de_flavors.specs.Source.{Takes, Laws}
-use Rattle.postcard_de.specs.Reads.{Reads}
+use Rattle.postcard_de.specs.Reads.{MayAnswer, Reads}
 use Rattle.postcard_shape.specs.Values.{EachIs, AreRead}
 use Rattle.postcard_de.proofs.Taking.{faces}
 use Rattle.postcard_de.proofs.Leaves.{refusal}
@@ -49,8 +49,7 @@ module _ {S : Type 0} {left : S → Option (List ℕ)} {able : S → ℕ → Typ
         let same : u ≡ p = same_front u p f.0 f.1 (e ∙ (sym a.0 ∙ m.0)) f.2 in
         (subst (EachIs ByteIs ts) (sym same) m.1, subst (λ (l : List ℕ). Takes left able old l new) same t);
     leaves = l;
-    grown = λ z. cc;
-    never = λ z. cc;
+    names = tt;
   }
 
   -- So many can't be taken.
@@ -59,6 +58,5 @@ module _ {S : Type 0} {left : S → Option (List ℕ)} {able : S → ℕ → Typ
     gives = tt;
     accepts = λ ts p a s c. let m = spelled_are ts p a.1 s in let long : length p ≡ n = sym m.0 ∙ a.0 in absurd (lacks (rw long at c.enough));
     leaves = l;
-    grown = λ h. cc;
-    never = λ h. cc;
+    names = subst (MayAnswer ⊥) (sym is) tt;
   }

@@ -2,7 +2,7 @@
 use Rattle.std.proofs.Common.{◌≡◌, ℕ, ◌+◌, ◌<◌, ◌≤◌, ◌^◌, inl, inr, List, ◌++◌, length, Option, Ok, refl, sym, ◌∙◌, ap, subst, arith, append_assoc, length-append}
 use Rattle.std.specs.Char.{IsScalar}
 use Rattle.postcard_wire.specs.declared.error.Error.{Error}
-use Rattle.postcard_wire.specs.declared.error.Error.TheVariants.{OutOfMemory, DeserializeUnexpectedEnd, DeserializeBadEncoding, DeserializeBadVarint, DeserializeBadChar}
+use Rattle.postcard_wire.specs.declared.error.Error.TheVariants.{OutOfMemory, DeserializeUnexpectedEnd, DeserializeBadChar}
 use Rattle.postcard_wire.specs.Number.{SpellsNum}
 use Rattle.postcard_wire.specs.Tree.{Tree, Char}
 use Rattle.postcard_wire.specs.Spelling.{Spells, BeginsWithChar}
@@ -11,7 +11,7 @@ use Rattle.postcard_wire.proofs.Delimited.{num_front, char_delimited, same_front
 use Rattle.postcard_wire.proofs.Refused.{longer, none_spelled}
 use Rattle.std.proofs.lemmas.List.{append_cancel_left}
 use Rattle.postcard_de_flavors.specs.Source.{Takes, Laws}
-use Rattle.postcard_de.specs.Reads.{Reads}
+use Rattle.postcard_de.specs.Reads.{MayAnswer, Reads}
 use Rattle.postcard_de.specs.Refuses.{Refuses, WantsDigit, BadNumber}
 use Rattle.postcard_de.specs.Unfit.{WantsChar, BadChar}
 use Rattle.postcard_shape.specs.Values.{Same}
@@ -54,17 +54,14 @@ char_none x p q f y z (inr (is, inr (a, u, spelled, i, few, none))) r s e =
     let same = same_front u j.1 y z (h.1 ∙ ap length (sym j.3)) k in
     absurd (none r.0 (subst (BeginsWithChar r.0) (sym (same ∙ j.3)) t.1))
 
-char_grown : (p : List ℕ) → BadChar p OutOfMemory → ⊥
-char_grown p (inl bad) = let e : OutOfMemory ≡ DeserializeBadVarint = bad.0 in cc
-char_grown p (inr bad) = let e : OutOfMemory ≡ DeserializeBadChar = bad.0 in cc
-
-char_never : (p : List ℕ) → BadChar p DeserializeBadEncoding → ⊥
-char_never p (inl bad) = let e : DeserializeBadEncoding ≡ DeserializeBadVarint = bad.0 in cc
-char_never p (inr bad) = let e : DeserializeBadEncoding ≡ DeserializeBadChar = bad.0 in cc
+-- It is refused with an error that may be answered.
+char_named : (p : List ℕ) (e : Error) → BadChar p e → MayAnswer ⊥ e
+char_named p e (inl bad) = subst (MayAnswer ⊥) (sym bad.0) tt
+char_named p e (inr bad) = subst (MayAnswer ⊥) (sym bad.0) tt
 
 -- The reasons to refuse a character stand where there is none.
 char_excludes : Excludes ⊥ WantsChar BadChar Spells IsChar
-char_excludes = record { within = char_within; none = char_none; grown = char_grown; never = char_never }
+char_excludes = record { within = char_within; none = char_none; named = char_named }
 
 module _ {S : Type 0} {left : S → Option (List ℕ)} {able : S → ℕ → Type 0} {may_leave : S → S → Type 0} (laws : Laws left able may_leave) where
   -- A refused character.

@@ -1,15 +1,14 @@
 -- Reading a pair of a map, arrays, and lists of few elements.
-use Rattle.std.proofs.Common.{◌≡◌, ◌≢◌, ℕ, ◌≤◌, ◌⊎◌, List, [], ◌∷◌, ◌++◌, Option, Ok, refl, sym, ◌∙◌, subst}
+use Rattle.std.proofs.Common.{◌≡◌, ℕ, ◌≤◌, ◌⊎◌, List, [], ◌∷◌, ◌++◌, Option, Ok, refl, sym, ◌∙◌, subst}
 use Rattle.std.specs.declared.cmp.Ordering.{Ordering}
 use Rattle.std.specs.BTreeMap.{insert_entry}
 use Rattle.postcard_wire.specs.declared.error.Error.{Error}
-use Rattle.postcard_wire.specs.declared.error.Error.TheVariants.{OutOfMemory, DeserializeBadEncoding}
 use Rattle.postcard_wire.specs.Number.{SpellsNum}
 use Rattle.postcard_wire.specs.Tree.{Tree, Group, Seq, count}
 use Rattle.postcard_wire.specs.Spelling.{Spells, SpellsAll}
 use Rattle.postcard_wire.specs.Reading.{IsGroup, IsArray}
 use Rattle.postcard_de_flavors.specs.Source.{Laws}
-use Rattle.postcard_de.specs.Reads.{Reads}
+use Rattle.postcard_de.specs.Reads.{MayAnswer, Reads}
 use Rattle.postcard_shape.specs.Values.{Same, EachIs, ListIs, AreRead}
 use Rattle.postcard_shape.specs.Maps.{IsEntry, EntryIs, inserted}
 use Rattle.postcard_shape.specs.Fixed.{IsFewSeq}
@@ -54,8 +53,7 @@ module _ {S : Type 0} {left : S → Option (List ℕ)} {able : S → ℕ → Typ
       gives = record { thing = Group g.thing; front = g.front; is_read = (g.thing, refl, g.is_read.0, g.is_read.1); is_spelled = g.is_spelled; has = (g.thing, refl, g.has); taken = g.taken };
       accepts = λ t p a b c. let k = r.accepts a.0 p (a.2, a.3) (rw a.1 at b) c in ((a.0, a.1, k.0), k.1);
       leaves = r.leaves;
-      grown = λ h. cc;
-      never = λ h. cc;
+      names = tt;
     }
 
     -- They refuse.
@@ -64,8 +62,7 @@ module _ {S : Type 0} {left : S → Option (List ℕ)} {able : S → ℕ → Typ
       gives = tt;
       accepts = λ t p a b c. r.accepts a.0 p (a.2, a.3) (rw a.1 at b) c;
       leaves = r.leaves;
-      grown = λ h. r.grown cc;
-      never = λ h. r.never cc;
+      names = r.names;
     }
 
     module _ {A : Type 0} {see : A → List V} {m n : ℕ} {old mid new : S} (counted : Reads (SpellsNum 64) (Below 64) Same ⊥ left able may_leave old (Ok n) mid) where
@@ -74,18 +71,18 @@ module _ {S : Type 0} {left : S → Option (List ℕ)} {able : S → ℕ → Typ
       few_read few k = both_read laws (count_and_few m R) (λ j ts same h. (ts, refl, h)) counted (allowed few k)
         where
           allowed : {a : A} → n ≤ m → Reads SpellsAll (AreRead n R) (EachIs I) H left able may_leave mid (Ok (see a)) new → Reads SpellsAll (λ ts. AreRead n R ts × (n ≤ m)) (EachIs I) H left able may_leave mid (Ok (see a)) new
-          allowed few k = let g = k.gives in record { gives = record { thing = g.thing; front = g.front; is_read = (g.is_read, few); is_spelled = g.is_spelled; has = g.has; taken = g.taken }; accepts = λ x p a b c. k.accepts x p a.0 b c; leaves = k.leaves; grown = k.grown; never = k.never }
+          allowed few k = let g = k.gives in record { gives = record { thing = g.thing; front = g.front; is_read = (g.is_read, few); is_spelled = g.is_spelled; has = g.has; taken = g.taken }; accepts = λ x p a b c. k.accepts x p a.0 b c; leaves = k.leaves; names = k.names }
 
       -- The count was read, and the elements refuse.
       pub few_refused : {e : Error} → Reads SpellsAll (AreRead n R) (EachIs I) H left able may_leave mid (refusal (List V) e) new → Reads Spells (IsFewSeq m R) (λ t x. ListIs I t (see x)) H left able may_leave old (refusal A e) new
       few_refused {e} k = second_refused laws (count_and_few m R) (λ g. g) counted fewer
         where
           fewer : Reads SpellsAll (λ ts. AreRead n R ts × (n ≤ m)) (EachIs I) H left able may_leave mid (refusal (List V) e) new
-          fewer = record { gives = tt; accepts = λ x p a b c. k.accepts x p a.0 b c; leaves = k.leaves; grown = k.grown; never = k.never }
+          fewer = record { gives = tt; accepts = λ x p a b c. k.accepts x p a.0 b c; leaves = k.leaves; names = k.names }
 
       -- More were announced than there is room for, and some were read.
-      pub too_many : {e : Error} → e ≢ OutOfMemory → e ≢ DeserializeBadEncoding → (n ≤ m → ⊥) → may_leave mid new → Reads Spells (IsFewSeq m R) (λ t x. ListIs I t (see x)) H left able may_leave old (refusal A e) new
-      too_many other never many l = none_follows laws (count_and_few m R) other never (λ ts a. many a.1) l counted
+      pub too_many : {e : Error} → MayAnswer H e → (n ≤ m → ⊥) → may_leave mid new → Reads Spells (IsFewSeq m R) (λ t x. ListIs I t (see x)) H left able may_leave old (refusal A e) new
+      too_many named many l = none_follows laws (count_and_few m R) named (λ ts a. many a.1) l counted
 
   -- The count was refused.
   pub few_count_refused : {A : Type 0} {K : Tree → A → Type 0} {R : Tree → Type 0} {H : Type 0} {m : ℕ} {old new : S} {e : Error} → Reads (SpellsNum 64) (Below 64) Same ⊥ left able may_leave old (refusal ℕ e) new → Reads Spells (IsFewSeq m R) K H left able may_leave old (refusal A e) new

@@ -1,13 +1,12 @@
 -- Reading an enum: its index, and then what stands at that index.
-use Rattle.std.proofs.Common.{◌≡◌, ◌≢◌, ℕ, zero, suc, List, Option, Ok, Result, IsErrAnd, refl, sym, subst}
+use Rattle.std.proofs.Common.{◌≡◌, ℕ, zero, suc, List, Option, Ok, Result, IsErrAnd, refl, sym, subst}
 use Rattle.postcard_wire.specs.declared.error.Error.{Error}
-use Rattle.postcard_wire.specs.declared.error.Error.TheVariants.{OutOfMemory, DeserializeBadEncoding}
 use Rattle.postcard_wire.specs.Number.{SpellsNum}
 use Rattle.postcard_wire.specs.Tree.{Tree, Variant}
 use Rattle.postcard_wire.specs.Spelling.{Spells}
 use Rattle.postcard_wire.specs.Reading.{IsVariant}
 use Rattle.postcard_de_flavors.specs.Source.{Laws}
-use Rattle.postcard_de.specs.Reads.{Reads}
+use Rattle.postcard_de.specs.Reads.{MayAnswer, Reads}
 use Rattle.postcard_shape.specs.Values.{Same}
 use Rattle.postcard_shape.specs.Options.{ResultReads}
 use Rattle.postcard_de.proofs.Leaves.{refusal, is_refusal}
@@ -38,9 +37,9 @@ module _ {S : Type 0} {left : S → Option (List ℕ)} {able : S → ℕ → Typ
   variant_read {i = i} {a = a} has s t = both_read laws (index_and_content content) (λ j u same k. subst (λ (n : ℕ). value (Variant n u) a) (sym same) (has u k)) s t
 
   -- The index is unknown.
-  pub unknown_index : {old new : S} {i : ℕ} {e : Error} → e ≢ OutOfMemory → e ≢ DeserializeBadEncoding → ((t : Tree) → content i t → ⊥) →
+  pub unknown_index : {old new : S} {i : ℕ} {e : Error} → MayAnswer H e → ((t : Tree) → content i t → ⊥) →
       Reads (SpellsNum 32) (Below 32) Same ⊥ left able may_leave old (Ok i) new → Reads Spells (IsVariant content) value H left able may_leave old (refusal A e) new
-  unknown_index {new = new} other never none s = none_follows laws (index_and_content content) other never none (laws.itself new) s
+  unknown_index {new = new} named none s = none_follows laws (index_and_content content) named none (laws.itself new) s
 
 -- A `Result` has no index but 0 and 1.
 pub no_other : (R E : Tree → Type 0) (i : ℕ) → (i ≡ 0 → ⊥) → (i ≡ 1 → ⊥) → (t : Tree) → ResultReads R E i t → ⊥

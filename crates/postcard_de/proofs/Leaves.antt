@@ -1,9 +1,9 @@
 -- Reading one node: what is found in front, and that nothing is where a call refuses.
-use Rattle.std.proofs.Common.{◌≡◌, ℕ, ◌+◌, ◌≤◌, inl, inr, List, ◌++◌, length, Option, Ok, Err, Result, IsErrAnd, refl, ap, subst}
+use Rattle.std.proofs.Common.{◌≡◌, ℕ, ◌+◌, ◌≤◌, inl, inr, List, ◌++◌, length, Option, Ok, Err, Result, IsErrAnd, refl, sym, ap, subst}
 use Rattle.postcard_wire.specs.declared.error.Error.{Error}
-use Rattle.postcard_wire.specs.declared.error.Error.TheVariants.{OutOfMemory, DeserializeUnexpectedEnd, DeserializeBadEncoding}
+use Rattle.postcard_wire.specs.declared.error.Error.TheVariants.{OutOfMemory, DeserializeUnexpectedEnd}
 use Rattle.postcard_de_flavors.specs.Source.{CanTake, Takes, Laws}
-use Rattle.postcard_de.specs.Reads.{Reads}
+use Rattle.postcard_de.specs.Reads.{MayAnswer, Reads}
 use Rattle.postcard_de.specs.Refuses.{Refuses}
 use Rattle.postcard_de.proofs.Taking.{faces}
 
@@ -21,12 +21,11 @@ abbrev pub Delimits : {X : Type 0} → (X → List ℕ → Type 0) → (X → Ty
 Delimits {X} spelled reads = (t s : X) (p q x y : List ℕ) → reads t → reads s → spelled t p → spelled s q → p ++ x ≡ q ++ y → (p ≡ q) × (t ≡ s)
 
 -- Reasons to refuse that only stand where no front is read: more bytes are wanted only within such a front, and bad bytes
--- begin none, but for want of memory.
+-- begin none, but for want of memory; and are refused with an error that may be answered.
 pub record Excludes {X : Type 0} (grows : Type 0) (wants : List ℕ → ℕ → Type 0) (bad : List ℕ → Error → Type 0) (spelled : X → List ℕ → Type 0) (reads : X → Type 0) : Type 0 where
   pub within : (x : X) (p q : List ℕ) (n : ℕ) (y z : List ℕ) → wants p n → reads x → spelled x q → p ++ y ≡ q ++ z → length p + n ≤ length q
   pub none : (x : X) (p q : List ℕ) (e : Error) (y z : List ℕ) → bad p e → reads x → spelled x q → p ++ y ≡ q ++ z → e ≡ OutOfMemory
-  pub grown : (p : List ℕ) → bad p OutOfMemory → grows
-  pub never : (p : List ℕ) → bad p DeserializeBadEncoding → ⊥
+  pub named : (p : List ℕ) (e : Error) → bad p e → MayAnswer grows e
 
 module _ {S : Type 0} {left : S → Option (List ℕ)} {able : S → ℕ → Type 0} where
   -- A reason to refuse, told in wider words.
@@ -49,8 +48,7 @@ module _ {S : Type 0} {left : S → Option (List ℕ)} {able : S → ℕ → Typ
         let e = law x y p q f.0 f.1 r a s b f.2 in
         (subst (λ z. value z v) e.1 h, subst (λ z. Takes left able old z new) e.0 t);
     leaves = l;
-    grown = λ h. cc;
-    never = λ h. cc;
+    names = tt;
   }
 
   -- A front that can be taken and read isn't where a call refuses, unless memory ran out.
@@ -71,18 +69,13 @@ module _ {S : Type 0} {left : S → Option (List ℕ)} {able : S → ℕ → Typ
     gives = tt;
     accepts = no_front laws excludes why;
     leaves = l;
-    grown = λ h. only_grown why cc;
-    never = λ h. not_encoding why cc;
+    names = named why;
   }
     where
-      only_grown : Refuses wants bad left able old e new → e ≡ OutOfMemory → grows
-      only_grown (inl (is_end, ends)) h = cc
-      only_grown (inr b) h = excludes.grown b.front (subst (bad b.front) h b.why)
-
-      not_encoding : Refuses wants bad left able old e new → e ≡ DeserializeBadEncoding → ⊥
-      not_encoding (inl (is_end, ends)) h = cc
-      not_encoding (inr b) h = excludes.never b.front (subst (bad b.front) h b.why)
+      named : Refuses wants bad left able old e new → MayAnswer grows e
+      named (inl (is, ends)) = subst (MayAnswer grows) (sym is) tt
+      named (inr b) = excludes.named b.front e b.why
 
   -- Memory ran out.
   pub out_of_memory : {X V : Type 0} {spelled : X → List ℕ → Type 0} {reads : X → Type 0} {value : X → V → Type 0} {grows : Type 0} {old new : S} → may_leave old new → grows → Reads spelled reads value grows left able may_leave old (refusal V OutOfMemory) new
-  out_of_memory l h = record { gives = tt; accepts = λ x p a b c. refl; leaves = l; grown = λ e. h; never = λ e. cc }
+  out_of_memory l h = record { gives = tt; accepts = λ x p a b c. refl; leaves = l; names = h }

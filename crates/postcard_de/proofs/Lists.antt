@@ -9,6 +9,7 @@ use Rattle.postcard_wire.specs.Reading.{IsSeq}
 use Rattle.postcard_de_flavors.specs.Source.{CanTake, Takes, Laws}
 use Rattle.postcard_de.specs.Reads.{Reads}
 use Rattle.postcard_shape.specs.Values.{Same, EachIs, ListIs, SomeIs, AreRead}
+use Rattle.postcard_de.proofs.Named.{wider}
 use Rattle.postcard_de.proofs.Taking.{nothing_taken, can_first}
 use Rattle.postcard_de.proofs.Leaves.{refusal, out_of_memory}
 use Rattle.postcard_de.proofs.Numbers.{Below}
@@ -78,8 +79,7 @@ module _ {S V : Type 0} {left : S → Option (List ℕ)} {able : S → ℕ → T
     gives = record { thing = NoTrees; front = []; is_read = (refl, tt); is_spelled = refl; has = tt; taken = nothing_taken now };
     accepts = accepts;
     leaves = laws.itself now;
-    grown = λ h. cc;
-    never = λ h. cc;
+    names = tt;
   }))
     where
       accepts : (ts : Trees) (p : List ℕ) → AreRead 0 R ts → SpellsAll ts p → CanTake left able now p → EachIs I ts [] × Takes left able now p now
@@ -101,12 +101,11 @@ module _ {S V : Type 0} {left : S → Option (List ℕ)} {able : S → ℕ → T
 module _ {S : Type 0} {left : S → Option (List ℕ)} {able : S → ℕ → Type 0} {may_leave : S → S → Type 0} (laws : Laws left able may_leave) {R : Tree → Type 0} {H : Type 0} where
   -- The count was refused.
   pub count_refused : {A W : Type 0} {value : ℕ → W → Type 0} {K : Tree → A → Type 0} {old new : S} {e : Error} → Reads (SpellsNum 64) (Below 64) value ⊥ left able may_leave old (refusal W e) new → Reads Spells (IsSeq R) K H left able may_leave old (refusal A e) new
-  count_refused r = record {
+  count_refused {e = e} r = record {
     gives = tt;
     accepts = λ t p a s c. let q : Spells (Seq a.0) p = rw a.1 at s in r.accepts (count a.0) q.0 a.2 q.2 (can_first laws q.0 q.1 (rw q.4 at c));
     leaves = r.leaves;
-    grown = λ h. absurd (r.grown cc);
-    never = λ h. r.never cc;
+    names = wider (λ z. absurd z) e r.names;
   }
 
 module _ {S V : Type 0} {left : S → Option (List ℕ)} {able : S → ℕ → Type 0} {may_leave : S → S → Type 0} {R : Tree → Type 0} {I : Tree → V → Type 0} where
@@ -116,8 +115,7 @@ module _ {S V : Type 0} {left : S → Option (List ℕ)} {able : S → ℕ → T
     gives = record { thing = r.gives.thing; front = r.gives.front; is_read = r.gives.is_read; is_spelled = r.gives.is_spelled; has = r.gives.has; taken = r.gives.taken };
     accepts = r.accepts;
     leaves = r.leaves;
-    grown = λ h. cc;
-    never = λ h. cc;
+    names = tt;
   }
 
 -- A count that isn't 0 is one more than the count below it.

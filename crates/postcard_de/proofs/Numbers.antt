@@ -1,7 +1,7 @@
 -- Reading a number digit by digit, and seeing it as a tree.
 use Rattle.std.proofs.Common.{◌≡◌, ℕ, ◌<◌, ◌^◌, inl, inr, List, [], ◌∷◌, ◌++◌, Option, Ok, ℤ, refl, sym, ◌∙◌, subst, arith}
 use Rattle.postcard_wire.specs.declared.error.Error.{Error}
-use Rattle.postcard_wire.specs.declared.error.Error.TheVariants.{OutOfMemory, DeserializeUnexpectedEnd, DeserializeBadEncoding, DeserializeBadVarint}
+use Rattle.postcard_wire.specs.declared.error.Error.TheVariants.{DeserializeUnexpectedEnd}
 use Rattle.postcard_wire.specs.declared.digits.Digits.{Digits}
 use Rattle.postcard_wire.specs.Digits.{HasRead}
 use Rattle.postcard_wire.specs.Number.{SpellsNum, zigzag}
@@ -12,7 +12,7 @@ use Rattle.postcard_wire.proofs.Delimited.{num_front, num_delimited, int_delimit
 use Rattle.postcard_wire.proofs.Refused.{longer, none_spelled}
 use Rattle.postcard_wire.proofs.Ranged.{zig_below, in_range}
 use Rattle.postcard_de_flavors.specs.Source.{Takes, Laws}
-use Rattle.postcard_de.specs.Reads.{Reads}
+use Rattle.postcard_de.specs.Reads.{MayAnswer, Reads}
 use Rattle.postcard_de.specs.Refuses.{Refuses, WantsDigit, BadNumber}
 use Rattle.postcard_shape.specs.Values.{Same}
 use Rattle.postcard_de.proofs.Taking.{nothing_taken, both_taken}
@@ -31,8 +31,7 @@ pub number_excludes : (w : ℕ) → Excludes ⊥ (WantsDigit w) (BadNumber w) (S
 number_excludes w = record {
   within = λ x p q n y z wanted r s e. omega (arith, longer p q y z wanted.0 s.digits e, wanted.2);
   none = λ x p q f y z bad r s e. absurd (none_spelled w x p q y z bad.1 s r e);
-  grown = λ p bad. let e : OutOfMemory ≡ DeserializeBadVarint = bad.0 in cc;
-  never = λ p bad. let e : DeserializeBadEncoding ≡ DeserializeBadVarint = bad.0 in cc;
+  named = λ p e bad. subst (MayAnswer ⊥) (sym bad.0) tt;
 }
 
 -- The same, of a number's tree.
@@ -40,8 +39,7 @@ num_excludes : (w : ℕ) → Excludes ⊥ (WantsDigit w) (BadNumber w) Spells (I
 num_excludes w = let k = number_excludes w in record {
   within = λ x p q n y z wanted r s e. k.within r.0 p q n y z wanted r.2 (rw r.1 at s) e;
   none = λ x p q f y z bad r s e. k.none r.0 p q f y z bad r.2 (rw r.1 at s) e;
-  grown = k.grown;
-  never = k.never;
+  named = k.named;
 }
 
 -- The same, of a signed number's tree.
@@ -49,8 +47,7 @@ int_excludes : (w : ℕ) → IsWidth w → Excludes ⊥ (WantsDigit w) (BadNumbe
 int_excludes w wide = let k = number_excludes w in record {
   within = λ x p q n y z wanted r s e. k.within (zigzag r.0) p q n y z wanted (zig_below w r.0 wide r.2) (rw r.1 at s) e;
   none = λ x p q f y z bad r s e. k.none (zigzag r.0) p q f y z bad (zig_below w r.0 wide r.2) (rw r.1 at s) e;
-  grown = k.grown;
-  never = k.never;
+  named = k.named;
 }
 
 -- The digits so far were taken.

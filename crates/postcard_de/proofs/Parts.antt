@@ -47,8 +47,7 @@ module _ {S : Type 0} {left : S → Option (List ℕ)} {able : S → ℕ → Typ
     gives = record { thing = NoTrees; front = []; is_read = refl; is_spelled = refl; has = refl; taken = nothing_taken s };
     accepts = λ ts p a b c. (a, let k : SpellsAll NoTrees p = rw a at b in rw k (nothing_taken s));
     leaves = laws.itself s;
-    grown = λ h. cc;
-    never = λ h. cc;
+    names = tt;
   }
 
   -- All parts of a tuple or a struct were read.
@@ -58,8 +57,7 @@ module _ {S : Type 0} {left : S → Option (List ℕ)} {able : S → ℕ → Typ
     gives = record { thing = Group g.thing; front = g.front; is_read = (g.thing, refl, g.is_read); is_spelled = g.is_spelled; has = has (Group g.thing) (g.thing, refl, g.has); taken = g.taken };
     accepts = λ t p a b c. let k = r.accepts a.0 p a.2 (rw a.1 at b) c in (has t (a.0, a.1, k.0), k.1);
     leaves = r.leaves;
-    grown = λ h. cc;
-    never = λ h. cc;
+    names = tt;
   }
 
   -- The parts of a tuple or a struct refuse, and `?` passes that on.
@@ -69,6 +67,5 @@ module _ {S : Type 0} {left : S → Option (List ℕ)} {able : S → ℕ → Typ
     gives = tt;
     accepts = λ t p a b c. s.accepts a.0 p a.2 (rw a.1 at b) c;
     leaves = s.leaves;
-    grown = λ k. s.grown cc;
-    never = λ k. s.never cc;
+    names = s.names;
   })

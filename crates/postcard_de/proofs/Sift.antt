@@ -1,9 +1,10 @@
 -- A value that was read and is then seen otherwise, or refused; and a thing behind which no second may follow.
-use Rattle.std.proofs.Common.{◌≡◌, ◌≢◌, ℕ, List, Option, Ok, Result, IsErrAnd, refl}
+use Rattle.std.proofs.Common.{◌≡◌, ℕ, List, Option, Ok, Result, IsErrAnd, refl}
 use Rattle.postcard_wire.specs.declared.error.Error.{Error}
-use Rattle.postcard_wire.specs.declared.error.Error.TheVariants.{OutOfMemory, DeserializeBadEncoding}
+use Rattle.postcard_wire.specs.declared.error.Error.TheVariants.{OutOfMemory}
 use Rattle.postcard_de_flavors.specs.Source.{Laws}
-use Rattle.postcard_de.specs.Reads.{Reads}
+use Rattle.postcard_de.specs.Reads.{MayAnswer, Reads}
+use Rattle.postcard_de.proofs.Named.{wider}
 use Rattle.postcard_de.proofs.Leaves.{refusal, is_refusal}
 use Rattle.postcard_de.proofs.Taking.{can_first}
 use Rattle.postcard_de.proofs.Compound.{Compound}
@@ -16,8 +17,7 @@ module _ {S : Type 0} {left : S → Option (List ℕ)} {able : S → ℕ → Typ
     gives = let g = r.gives in let k = fits g.thing g.is_read g.has in record { thing = g.thing; front = g.front; is_read = k.0; is_spelled = g.is_spelled; has = k.1; taken = g.taken };
     accepts = λ x p a b c. let k = r.accepts x p (fewer x a) b c in ((fits x (fewer x a) k.0).1, k.1);
     leaves = r.leaves;
-    grown = λ h. cc;
-    never = λ h. cc;
+    names = tt;
   }
 
   -- The same where all that was read is answered.
@@ -25,28 +25,26 @@ module _ {S : Type 0} {left : S → Option (List ℕ)} {able : S → ℕ → Typ
   recast has r = seen_as (λ x a. a) (λ x a h. (a, has x h)) r
 
   -- What was read is none of those that are answered.
-  pub unfit : {W : Type 0} {R' : X → Type 0} {I' : X → W → Type 0} {H : Type 0} {v : V} {e : Error} → e ≢ OutOfMemory → e ≢ DeserializeBadEncoding → ((x : X) → R' x → R x) → ((x : X) → R' x → I x v → ⊥) →
+  pub unfit : {W : Type 0} {R' : X → Type 0} {I' : X → W → Type 0} {H : Type 0} {v : V} {e : Error} → MayAnswer H e → ((x : X) → R' x → R x) → ((x : X) → R' x → I x v → ⊥) →
       Reads P R I G left able may_leave old (Ok v) new → Reads P R' I' H left able may_leave old (refusal W e) new
-  unfit other never fewer bad r = record {
+  unfit named fewer bad r = record {
     gives = tt;
     accepts = λ x p a b c. let k = r.accepts x p (fewer x a) b c in absurd (bad x a k.0);
     leaves = r.leaves;
-    grown = λ h. absurd (other cc);
-    never = λ h. never cc;
+    names = named;
   }
 
   -- Memory runs out for what was read.
   pub no_room : {W : Type 0} {R' : X → Type 0} {I' : X → W → Type 0} {H : Type 0} {v : V} → H → Reads P R I G left able may_leave old (Ok v) new → Reads P R' I' H left able may_leave old (refusal W OutOfMemory) new
-  no_room h r = record { gives = tt; accepts = λ x p a b c. refl; leaves = r.leaves; grown = λ z. h; never = λ z. cc }
+  no_room h r = record { gives = tt; accepts = λ x p a b c. refl; leaves = r.leaves; names = h }
 
   -- What refuses all refuses fewer.
   pub refused_too : {W : Type 0} {R' : X → Type 0} {I' : X → W → Type 0} {H : Type 0} {e : Error} → ((x : X) → R' x → R x) → (G → H) → Reads P R I G left able may_leave old (refusal V e) new → Reads P R' I' H left able may_leave old (refusal W e) new
-  refused_too fewer grow r = record {
+  refused_too {e = e} fewer grow r = record {
     gives = tt;
     accepts = λ x p a b c. r.accepts x p (fewer x a) b c;
     leaves = r.leaves;
-    grown = λ h. grow (r.grown cc);
-    never = λ h. r.never cc;
+    names = wider grow e r.names;
   }
 
   -- And `?` passes it on.
@@ -55,14 +53,13 @@ module _ {S : Type 0} {left : S → Option (List ℕ)} {able : S → ℕ → Typ
 
 module _ {F : Type 0} {left : F → Option (List ℕ)} {able : F → ℕ → Type 0} {may_leave : F → F → Type 0} (laws : Laws left able may_leave) {X Y Z V A : Type 0} {P : X → List ℕ → Type 0} {R : X → Type 0} {I : X → V → Type 0} {Q : Y → List ℕ → Type 0} {S : V → Y → Type 0} {P' : Z → List ℕ → Type 0} {R' : Z → Type 0} {K : Z → A → Type 0} {G H : Type 0} {make : X → Y → Z} (both : Compound make P R I Q S P' R') where
   -- The first was read, and no second may follow it.
-  pub none_follows : {old mid new : F} {v : V} {e : Error} → e ≢ OutOfMemory → e ≢ DeserializeBadEncoding → ((y : Y) → S v y → ⊥) → may_leave mid new → Reads P R I G left able may_leave old (Ok v) mid → Reads P' R' K H left able may_leave old (refusal A e) new
-  none_follows {old = old} {mid = mid} {new = new} {v = v} other never none l s = record {
+  pub none_follows : {old mid new : F} {v : V} {e : Error} → MayAnswer H e → ((y : Y) → S v y → ⊥) → may_leave mid new → Reads P R I G left able may_leave old (Ok v) mid → Reads P' R' K H left able may_leave old (refusal A e) new
+  none_follows {old = old} {mid = mid} {new = new} {v = v} named none l s = record {
     gives = tt;
     accepts = λ z r a b c.
         let (x, y, p, q, j, rx, px, qy, e, then) = both.parted z r a b in
         let one = s.accepts x p rx px (can_first laws p q (rw e at c)) in
         absurd (none y (then v one.0));
     leaves = laws.joins old mid new s.leaves l;
-    grown = λ h. absurd (other cc);
-    never = λ h. never cc;
+    names = named;
   }

@@ -2,7 +2,7 @@
 use Rattle.std.proofs.Common.{◌≡◌, ℕ, ◌+◌, ◌<◌, ◌≤◌, ◌^◌, inl, inr, List, ◌++◌, length, Option, Ok, refl, sym, ◌∙◌, ap, subst, arith, append_assoc, length-append}
 use Rattle.std.specs.Prelude.{IsUtf8}
 use Rattle.postcard_wire.specs.declared.error.Error.{Error}
-use Rattle.postcard_wire.specs.declared.error.Error.TheVariants.{OutOfMemory, DeserializeUnexpectedEnd, DeserializeBadEncoding, DeserializeBadVarint, DeserializeBadUtf8}
+use Rattle.postcard_wire.specs.declared.error.Error.TheVariants.{OutOfMemory, DeserializeUnexpectedEnd, DeserializeBadUtf8}
 use Rattle.postcard_wire.specs.Number.{SpellsNum}
 use Rattle.postcard_wire.specs.Tree.{Tree, Text}
 use Rattle.postcard_wire.specs.Spelling.{Spells}
@@ -11,7 +11,7 @@ use Rattle.postcard_wire.proofs.Delimited.{num_front, text_delimited, same_front
 use Rattle.postcard_wire.proofs.Refused.{longer, none_spelled}
 use Rattle.std.proofs.lemmas.List.{append_cancel_left}
 use Rattle.postcard_de_flavors.specs.Source.{Takes, Laws}
-use Rattle.postcard_de.specs.Reads.{Reads}
+use Rattle.postcard_de.specs.Reads.{MayAnswer, Reads}
 use Rattle.postcard_de.specs.Refuses.{Refuses, WantsDigit, BadNumber, WantsText, BadText}
 use Rattle.postcard_shape.specs.Values.{Same}
 use Rattle.postcard_de.proofs.Taking.{both_taken}
@@ -47,19 +47,15 @@ text_none G x p q f y z (inr (a, u, spelled, j, inl why)) r s e =
     let same = same_front u t.1 y z (h.1 ∙ ap length (sym t.3)) k in
     absurd (why.1 (subst IsUtf8 (sym (same ∙ t.3)) r.2))
 
-text_grown : (G : Type 0) (p : List ℕ) → BadText G p OutOfMemory → G
-text_grown G p (inl bad) = let e : OutOfMemory ≡ DeserializeBadVarint = bad.0 in cc
-text_grown G p (inr (a, u, spelled, j, inl why)) = let e : OutOfMemory ≡ DeserializeBadUtf8 = why.0 in cc
-text_grown G p (inr (a, u, spelled, j, inr why)) = why.2
-
-text_never : (G : Type 0) (p : List ℕ) → BadText G p DeserializeBadEncoding → ⊥
-text_never G p (inl bad) = let e : DeserializeBadEncoding ≡ DeserializeBadVarint = bad.0 in cc
-text_never G p (inr (a, u, spelled, j, inl why)) = let e : DeserializeBadEncoding ≡ DeserializeBadUtf8 = why.0 in cc
-text_never G p (inr (a, u, spelled, j, inr why)) = let e : DeserializeBadEncoding ≡ OutOfMemory = why.0 in cc
+-- It is refused with an error that may be answered.
+text_named : (G : Type 0) (p : List ℕ) (e : Error) → BadText G p e → MayAnswer G e
+text_named G p e (inl bad) = subst (MayAnswer G) (sym bad.0) tt
+text_named G p e (inr (a, u, spelled, j, inl why)) = subst (MayAnswer G) (sym why.0) tt
+text_named G p e (inr (a, u, spelled, j, inr why)) = subst (MayAnswer G) (sym why.0) why.2
 
 -- The reasons to refuse a text stand where there is none.
 pub text_excludes : (G : Type 0) → Excludes G WantsText (BadText G) Spells IsText
-text_excludes G = record { within = text_within; none = text_none G; grown = text_grown G; never = text_never G }
+text_excludes G = record { within = text_within; none = text_none G; named = text_named G }
 
 module _ {S : Type 0} {left : S → Option (List ℕ)} {able : S → ℕ → Type 0} {may_leave : S → S → Type 0} (laws : Laws left able may_leave) where
   -- A refused text.
