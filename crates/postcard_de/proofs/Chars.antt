@@ -17,7 +17,7 @@ use Rattle.postcard_de.specs.Unfit.{WantsChar, BadChar}
 use Rattle.postcard_shape.specs.Values.{Same}
 use Rattle.postcard_de.proofs.Taking.{both_taken}
 use Rattle.postcard_de.proofs.Leaves.{Excludes, found, refused, refusal, widened, behind_front}
-use Rattle.postcard_de.proofs.Numbers.{Below, number_spelled}
+use Rattle.postcard_de.proofs.Numbers.{Below, number_below, number_spelled}
 use Rattle.postcard_de.proofs.Texts.{facing_length}
 
 -- Where more bytes are wanted, they are within the character's spelling.
@@ -40,7 +40,7 @@ char_none x p q f y z (inl bad) r s e =
     let j = t.2 in
     let low : length t.0 < 2 ^ 64 = omega (arith, t.1.few) in
     absurd (none_spelled 64 (length t.0) p j.0 y (j.1 ++ z) bad.1 j.2 low (facing_length p q j.0 j.1 y z j.4 e))
-char_none x p q f y z (inr (is, inl (n, spelled, high))) r s e =
+char_none x p q f y z (inr (is, inl (n, spelled, low, high))) r s e =
     let t : Spells (Char r.0) q = rw r.1 at s in
     let j = t.2 in
     let h = num_front 64 n (length t.0) p j.0 y (j.1 ++ z) spelled j.2 (facing_length p q j.0 j.1 y z j.4 e) in
@@ -75,7 +75,7 @@ module _ {S : Type 0} {left : S → Option (List ℕ)} {able : S → ℕ → Typ
 module _ {S : Type 0} {left : S → Option (List ℕ)} {able : S → ℕ → Type 0} {may_leave : S → S → Type 0} (laws : Laws left able may_leave) {n : ℕ} {old mid : S} (counted : Reads (SpellsNum 64) (Below 64) Same ⊥ left able may_leave old (Ok n) mid) where
   -- The length is above 4.
   pub char_too_long : 4 < n → Refuses WantsChar BadChar left able old DeserializeBadChar mid
-  char_too_long high = inr (record { front = counted.gives.front; taken = counted.gives.taken; why = inr (refl, inl (n, number_spelled laws counted, high)) })
+  char_too_long high = inr (record { front = counted.gives.front; taken = counted.gives.taken; why = inr (refl, inl (n, number_spelled laws counted, number_below laws counted, high)) })
 
   -- The bytes behind the length can't be taken.
   pub char_ends : {new : S} {e : Error} → n ≤ 4 → (able mid n → ⊥) → e ≡ DeserializeUnexpectedEnd → Refuses WantsChar BadChar left able old e new

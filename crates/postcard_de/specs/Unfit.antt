@@ -1,5 +1,5 @@
 -- Why a single node is refused, for the nodes that aren't numbers or texts (behaviour of postcard 1.1.3).
-use Rattle.std.specs.Prelude.{◌≡◌, ℕ, ◌<◌, ◌≤◌, ◌⊎◌, List, [], ◌∷◌, ◌++◌, length, Option, Err}
+use Rattle.std.specs.Prelude.{◌≡◌, ℕ, ◌<◌, ◌≤◌, ◌^◌, ◌⊎◌, List, [], ◌∷◌, ◌++◌, length, Option, Err}
 use Rattle.postcard_wire.specs.declared.error.Error.{Error}
 use Rattle.postcard_wire.specs.declared.error.Error.TheVariants.{OutOfMemory, DeserializeBadBool, DeserializeBadOption, DeserializeBadChar}
 use Rattle.postcard_wire.specs.Number.{SpellsNum}
@@ -25,9 +25,9 @@ BadOption p e = (e ≡ DeserializeBadOption) × NotABit p
 abbrev pub WantsChar : List ℕ → ℕ → Type 0
 WantsChar p n = WantsDigit 64 p n ⊎ (SpellsNum 64 n p × (n ≤ 4))
 
--- A length above 4 was taken.
+-- A length of 64 bits above 4 was taken.
 abbrev pub TooLong : List ℕ → Type 0
-TooLong p = (n : ℕ) × SpellsNum 64 n p × (4 < n)
+TooLong p = (n : ℕ) × SpellsNum 64 n p × (n < 2 ^ 64) × (4 < n)
 
 -- A length of at most 4 and as many bytes were taken, which begin with no character.
 abbrev pub NoChar : List ℕ → Type 0
