@@ -11,8 +11,8 @@ use Rattle.postcard_wire.proofs.Delimited.{num_front, char_delimited, same_front
 use Rattle.postcard_wire.proofs.Refused.{longer, none_spelled}
 use Rattle.std.proofs.lemmas.List.{append_cancel_left}
 use Rattle.postcard_de_flavors.specs.Source.{Takes, Laws}
-use Rattle.postcard_de.specs.Reads.{MayAnswer, Reads}
-use Rattle.postcard_de.specs.Refuses.{Refuses, WantsDigit, BadNumber}
+use Rattle.postcard_de.specs.Reads.{MayAnswer, ReadsFrom}
+use Rattle.postcard_de.specs.Refuses.{RefusesFrom, WantsDigit, BadNumber}
 use Rattle.postcard_de.specs.Unfit.{WantsChar, BadChar}
 use Rattle.postcard_shape.specs.Values.{Same}
 use Rattle.postcard_de.proofs.Taking.{both_taken}
@@ -65,20 +65,20 @@ char_excludes = record { within = char_within; none = char_none; named = char_na
 
 module _ {S : Type 0} {left : S → Option (List ℕ)} {able : S → ℕ → Type 0} {may_leave : S → S → Type 0} (laws : Laws left able may_leave) where
   -- A refused character.
-  pub char_refused : {V : Type 0} {value : Tree → V → Type 0} {old new : S} {e : Error} → Refuses WantsChar BadChar left able old e new → may_leave old new → Reads Spells IsChar value ⊥ left able may_leave old (refusal V e) new
+  pub char_refused : {V : Type 0} {value : Tree → V → Type 0} {old new : S} {e : Error} → RefusesFrom WantsChar BadChar left able old e new → may_leave old new → ReadsFrom Spells IsChar value ⊥ left able may_leave old (refusal V e) new
   char_refused why l = refused laws char_excludes why l
 
   -- Its length was refused.
-  pub char_length_refused : {old new : S} {e : Error} → Refuses (WantsDigit 64) (BadNumber 64) left able old e new → Refuses WantsChar BadChar left able old e new
+  pub char_length_refused : {old new : S} {e : Error} → RefusesFrom (WantsDigit 64) (BadNumber 64) left able old e new → RefusesFrom WantsChar BadChar left able old e new
   char_length_refused why = widened (λ p n w. inl w) (λ p b. inl b) why
 
-module _ {S : Type 0} {left : S → Option (List ℕ)} {able : S → ℕ → Type 0} {may_leave : S → S → Type 0} (laws : Laws left able may_leave) {n : ℕ} {old mid : S} (counted : Reads (SpellsNum 64) (Below 64) Same ⊥ left able may_leave old (Ok n) mid) where
+module _ {S : Type 0} {left : S → Option (List ℕ)} {able : S → ℕ → Type 0} {may_leave : S → S → Type 0} (laws : Laws left able may_leave) {n : ℕ} {old mid : S} (counted : ReadsFrom (SpellsNum 64) (Below 64) Same ⊥ left able may_leave old (Ok n) mid) where
   -- The length is above 4.
-  pub char_too_long : 4 < n → Refuses WantsChar BadChar left able old DeserializeBadChar mid
+  pub char_too_long : 4 < n → RefusesFrom WantsChar BadChar left able old DeserializeBadChar mid
   char_too_long high = inr (record { front = counted.gives.front; taken = counted.gives.taken; why = inr (refl, inl (n, number_spelled laws counted, number_below laws counted, high)) })
 
   -- The bytes behind the length can't be taken.
-  pub char_ends : {new : S} {e : Error} → n ≤ 4 → (able mid n → ⊥) → e ≡ DeserializeUnexpectedEnd → Refuses WantsChar BadChar left able old e new
+  pub char_ends : {new : S} {e : Error} → n ≤ 4 → (able mid n → ⊥) → e ≡ DeserializeUnexpectedEnd → RefusesFrom WantsChar BadChar left able old e new
   char_ends few lacks is = behind_front counted.gives.taken (inr (number_spelled laws counted, few)) lacks is
 
   module _ {u : List ℕ} {new : S} (few : n ≤ 4) (long : length u ≡ n) (t : Takes left able mid u new) where
@@ -87,10 +87,10 @@ module _ {S : Type 0} {left : S → Option (List ℕ)} {able : S → ℕ → Typ
     char_spelled = subst (λ (m : ℕ). SpellsNum 64 m counted.gives.front) (sym long) (number_spelled laws counted)
 
     -- They are no character.
-    pub char_bad : ((c : ℕ) → BeginsWithChar c u → ⊥) → Refuses WantsChar BadChar left able old DeserializeBadChar new
+    pub char_bad : ((c : ℕ) → BeginsWithChar c u → ⊥) → RefusesFrom WantsChar BadChar left able old DeserializeBadChar new
     char_bad none = inr (record { front = counted.gives.front ++ u; taken = both_taken counted.gives.taken t; why = inr (refl, inr (counted.gives.front, u, char_spelled, refl, subst (λ (m : ℕ). m ≤ 4) (sym long) few, none)) })
 
     -- They begin with the character that is answered.
-    pub char_read : {c : ℕ} → BeginsWithChar c u → IsScalar c → may_leave mid new → Reads Spells IsChar (λ t v. t ≡ Char v) ⊥ left able may_leave old (Ok c) new
+    pub char_read : {c : ℕ} → BeginsWithChar c u → IsScalar c → may_leave mid new → ReadsFrom Spells IsChar (λ t v. t ≡ Char v) ⊥ left able may_leave old (Ok c) new
     char_read {c} begins scalar l =
         found char_delimited (Char c) (counted.gives.front ++ u) c (c, refl, scalar) (u, begins, (counted.gives.front, u, char_spelled, refl, refl)) refl (both_taken counted.gives.taken t) (laws.joins old mid new counted.leaves l)

@@ -2,7 +2,7 @@
 use Rattle.std.proofs.Common.{◌≡◌, ℕ, List, ◌++◌, Option, Ok, sym, subst}
 use Rattle.postcard_wire.specs.declared.error.Error.{Error}
 use Rattle.postcard_de_flavors.specs.Source.{Takes, Laws}
-use Rattle.postcard_de.specs.Reads.{Reads}
+use Rattle.postcard_de.specs.Reads.{ReadsFrom}
 use Rattle.postcard_de.proofs.Named.{wider}
 use Rattle.postcard_de.proofs.Taking.{both_taken, can_first, can_second}
 use Rattle.postcard_de.proofs.Leaves.{refusal}
@@ -15,7 +15,7 @@ pub record Compound {X Y Z V : Type 0} (make : X → Y → Z) (P : X → List �
 
 module _ {F : Type 0} {left : F → Option (List ℕ)} {able : F → ℕ → Type 0} {may_leave : F → F → Type 0} (laws : Laws left able may_leave) {X Y Z V A : Type 0} {P : X → List ℕ → Type 0} {R : X → Type 0} {I : X → V → Type 0} {Q : Y → List ℕ → Type 0} {S : V → Y → Type 0} {P' : Z → List ℕ → Type 0} {R' : Z → Type 0} {K : Z → A → Type 0} {G H : Type 0} {make : X → Y → Z} (both : Compound make P R I Q S P' R') where
   -- The first refuses.
-  pub first_refused : {old new : F} {e : Error} → (G → H) → Reads P R I G left able may_leave old (refusal V e) new → Reads P' R' K H left able may_leave old (refusal A e) new
+  pub first_refused : {old new : F} {e : Error} → (G → H) → ReadsFrom P R I G left able may_leave old (refusal V e) new → ReadsFrom P' R' K H left able may_leave old (refusal A e) new
   first_refused {e = f} grow s = record {
     gives = tt;
     accepts = λ z r a b c. let (x, y, p, q, j, rx, px, qy, e, then) = both.parted z r a b in s.accepts x p rx px (can_first laws p q (rw e at c));
@@ -24,8 +24,8 @@ module _ {F : Type 0} {left : F → Option (List ℕ)} {able : F → ℕ → Typ
   }
 
   -- The first was read, and the second refuses.
-  pub second_refused : {W : Type 0} {J : Y → W → Type 0} {G' : Type 0} {old mid new : F} {v : V} {e : Error} → (G' → H) → Reads P R I G left able may_leave old (Ok v) mid → Reads Q (S v) J G' left able may_leave mid (refusal W e) new →
-      Reads P' R' K H left able may_leave old (refusal A e) new
+  pub second_refused : {W : Type 0} {J : Y → W → Type 0} {G' : Type 0} {old mid new : F} {v : V} {e : Error} → (G' → H) → ReadsFrom P R I G left able may_leave old (Ok v) mid → ReadsFrom Q (S v) J G' left able may_leave mid (refusal W e) new →
+      ReadsFrom P' R' K H left able may_leave old (refusal A e) new
   second_refused {old = old} {mid = mid} {new = new} {v = v} {e = f} grow s t = record {
     gives = tt;
     accepts = λ z r a b c.
@@ -39,7 +39,7 @@ module _ {F : Type 0} {left : F → Option (List ℕ)} {able : F → ℕ → Typ
 
   -- Both were read.
   pub both_read : {W : Type 0} {J : Y → W → Type 0} {G' : Type 0} {old mid new : F} {v : V} {w : W} {a : A} → ((x : X) (y : Y) → I x v → J y w → K (make x y) a) →
-      Reads P R I G left able may_leave old (Ok v) mid → Reads Q (S v) J G' left able may_leave mid (Ok w) new → Reads P' R' K H left able may_leave old (Ok a) new
+      ReadsFrom P R I G left able may_leave old (Ok v) mid → ReadsFrom Q (S v) J G' left able may_leave mid (Ok w) new → ReadsFrom P' R' K H left able may_leave old (Ok a) new
   both_read {old = old} {mid = mid} {new = new} {v = v} {a = a} has s t =
       let g = s.gives in
       let k = t.gives in

@@ -4,7 +4,7 @@ use Rattle.postcard_wire.specs.Tree.{Tree, Present}
 use Rattle.postcard_wire.specs.Spelling.{Spells, bool_byte}
 use Rattle.postcard_wire.specs.Reading.{IsBoolean, IsOption}
 use Rattle.postcard_de_flavors.specs.Source.{CanTake, Takes, Laws}
-use Rattle.postcard_de.specs.Reads.{MayAnswer, Reads}
+use Rattle.postcard_de.specs.Reads.{MayAnswer, ReadsFrom}
 use Rattle.postcard_de.specs.Refuses.{WantsByte}
 use Rattle.postcard_de.specs.Unfit.{NotABit, BadBool, BadOption}
 use Rattle.postcard_shape.specs.Options.{OptionIs}
@@ -53,7 +53,7 @@ option_excludes G R = record {
 module _ {S : Type 0} {left : S → Option (List ℕ)} {able : S → ℕ → Type 0} {may_leave : S → S → Type 0} (laws : Laws left able may_leave) where
   module _ {V : Type 0} {R : Tree → Type 0} {I : Tree → V → Type 0} {G : Type 0} where
     -- The byte 1 was taken, and the content read.
-    pub some_read : {old mid new : S} {v : V} → Takes left able old (1 ∷ []) mid → may_leave old mid → Reads Spells R I G left able may_leave mid (Ok v) new → Reads Spells (IsOption R) (OptionIs I) G left able may_leave old (Ok (Some v)) new
+    pub some_read : {old mid new : S} {v : V} → Takes left able old (1 ∷ []) mid → may_leave old mid → ReadsFrom Spells R I G left able may_leave mid (Ok v) new → ReadsFrom Spells (IsOption R) (OptionIs I) G left able may_leave old (Ok (Some v)) new
     some_read {old = old} {mid = mid} {new = new} {v = v} t l r = let g = r.gives in record {
       gives = record { thing = Present g.thing; front = 1 ∷ g.front; is_read = inr (g.thing, refl, g.is_read); is_spelled = (1 ∷ [], g.front, refl, g.is_spelled, refl); has = (g.thing, refl, g.has); taken = both_taken t g.taken };
       accepts = accepts;
