@@ -7,7 +7,7 @@ use Rattle.postcard_wire.specs.Spelling.{SpellsAll}
 use Rattle.postcard_wire.specs.Reading.{IsByte, Each}
 use Rattle.postcard_wire.proofs.Delimited.{same_front}
 use Rattle.postcard_de_flavors.specs.Source.{Takes, Laws}
-use Rattle.postcard_de.specs.Reads.{Reads}
+use Rattle.postcard_de.specs.Reads.{MayAnswer, ReadsFrom}
 use Rattle.postcard_shape.specs.Values.{EachIs, AreRead}
 use Rattle.postcard_de.proofs.Taking.{faces}
 use Rattle.postcard_de.proofs.Leaves.{refusal}
@@ -40,7 +40,7 @@ spelled_are (Then t ts) r a (p, q, s, k, e) =
 
 module _ {S : Type 0} {left : S → Option (List ℕ)} {able : S → ℕ → Type 0} {may_leave : S → S → Type 0} (laws : Laws left able may_leave) where
   -- So many bytes were taken.
-  pub bytes_read : {n : ℕ} {old new : S} {u : List ℕ} → length u ≡ n → ((k : ℕ) → get_or u k 0 < 256) → Takes left able old u new → may_leave old new → Reads SpellsAll (AreRead n IsByte) (EachIs ByteIs) ⊥ left able may_leave old (Ok u) new
+  pub bytes_read : {n : ℕ} {old new : S} {u : List ℕ} → length u ≡ n → ((k : ℕ) → get_or u k 0 < 256) → Takes left able old u new → may_leave old new → ReadsFrom SpellsAll (AreRead n IsByte) (EachIs ByteIs) ⊥ left able may_leave old (Ok u) new
   bytes_read {n} {old} {new} {u} e h t l = let k = trees_are u h in record {
     gives = record { thing = bytes_trees u; front = u; is_read = (k.0 ∙ e, k.1); is_spelled = k.2; has = k.3; taken = t };
     accepts = λ ts p a s c.
@@ -49,16 +49,14 @@ module _ {S : Type 0} {left : S → Option (List ℕ)} {able : S → ℕ → Typ
         let same : u ≡ p = same_front u p f.0 f.1 (e ∙ (sym a.0 ∙ m.0)) f.2 in
         (subst (EachIs ByteIs ts) (sym same) m.1, subst (λ (l : List ℕ). Takes left able old l new) same t);
     leaves = l;
-    grown = λ z. cc;
-    never = λ z. cc;
+    names = tt;
   }
 
   -- So many can't be taken.
-  pub bytes_end : {n : ℕ} {old new : S} {e : Error} → (able old n → ⊥) → may_leave old new → e ≡ DeserializeUnexpectedEnd → Reads SpellsAll (AreRead n IsByte) (EachIs ByteIs) ⊥ left able may_leave old (refusal (List ℕ) e) new
+  pub bytes_end : {n : ℕ} {old new : S} {e : Error} → (able old n → ⊥) → may_leave old new → e ≡ DeserializeUnexpectedEnd → ReadsFrom SpellsAll (AreRead n IsByte) (EachIs ByteIs) ⊥ left able may_leave old (refusal (List ℕ) e) new
   bytes_end {n} lacks l is = record {
     gives = tt;
     accepts = λ ts p a s c. let m = spelled_are ts p a.1 s in let long : length p ≡ n = sym m.0 ∙ a.0 in absurd (lacks (rw long at c.enough));
     leaves = l;
-    grown = λ h. cc;
-    never = λ h. cc;
+    names = subst (MayAnswer ⊥) (sym is) tt;
   }

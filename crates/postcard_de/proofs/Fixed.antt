@@ -6,8 +6,8 @@ use Rattle.postcard_wire.specs.Number.{SpellsNum}
 use Rattle.postcard_wire.specs.Tree.{Tree, Text}
 use Rattle.postcard_wire.specs.Reading.{IsText}
 use Rattle.postcard_de_flavors.specs.Source.{Takes, Laws}
-use Rattle.postcard_de.specs.Reads.{Reads}
-use Rattle.postcard_de.specs.Refuses.{Refuses, WantsText}
+use Rattle.postcard_de.specs.Reads.{ReadsFrom}
+use Rattle.postcard_de.specs.Refuses.{RefusesFrom, WantsText}
 use Rattle.postcard_de.specs.Unfit.{BadBytes}
 use Rattle.postcard_shape.specs.Fixed.{IsShortText}
 use Rattle.postcard_shape.specs.One.{text_same}
@@ -23,9 +23,9 @@ short_fits n u w few utf8 low e x r is = ((u, is, few, utf8, low), is ∙ ap Tex
 pub long_unfit : (n : ℕ) (u : List ℕ) → (length u ≤ n → ⊥) → (x : Tree) → IsShortText n x → x ≡ Text u → ⊥
 long_unfit n u many x r is = many (subst (λ (v : List ℕ). length v ≤ n) (text_same r.0 u (sym r.1 ∙ is)) r.2)
 
-module _ {S : Type 0} {left : S → Option (List ℕ)} {able : S → ℕ → Type 0} {may_leave : S → S → Type 0} (laws : Laws left able may_leave) {n : ℕ} {old mid : S} (counted : Reads (SpellsNum 64) (Below 64) Same ⊥ left able may_leave old (Ok n) mid) where
+module _ {S : Type 0} {left : S → Option (List ℕ)} {able : S → ℕ → Type 0} {may_leave : S → S → Type 0} (laws : Laws left able may_leave) {n : ℕ} {old mid : S} (counted : ReadsFrom (SpellsNum 64) (Below 64) Same ⊥ left able may_leave old (Ok n) mid) where
   -- Bytes were taken, and there is no memory for a copy.
-  pub bytes_full : {u : List ℕ} {new : S} → length u ≡ n → Takes left able mid u new → Refuses WantsText BadBytes left able old OutOfMemory new
+  pub bytes_full : {u : List ℕ} {new : S} → length u ≡ n → Takes left able mid u new → RefusesFrom WantsText BadBytes left able old OutOfMemory new
   bytes_full {u = u} long t = inr (record {
     front = counted.gives.front ++ u;
     taken = both_taken counted.gives.taken t;

@@ -1,3 +1,4 @@
+pub mod Named
 pub mod Taking
 pub mod Leaves
 pub mod Numbers
@@ -8,7 +9,6 @@ pub mod Parts
 pub mod Sift
 pub mod Enums
 pub mod Options
-pub mod Spans
 pub mod Entries
 pub mod Chars
 pub mod Bytes

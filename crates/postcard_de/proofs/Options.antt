@@ -1,11 +1,10 @@
 -- Reading a truth value, and an option: a byte, and behind the byte 1 its content.
 use Rattle.std.proofs.Common.{◌≡◌, ℕ, ◌+◌, ◌≤◌, ◌<◌, inl, inr, Bool, true, false, List, [], ◌∷◌, ◌++◌, length, Option, Some, Ok, refl, sym, ◌∙◌, ap, subst, arith}
-use Rattle.postcard_wire.specs.declared.error.Error.TheVariants.{OutOfMemory, DeserializeBadEncoding, DeserializeBadBool, DeserializeBadOption}
 use Rattle.postcard_wire.specs.Tree.{Tree, Present}
 use Rattle.postcard_wire.specs.Spelling.{Spells, bool_byte}
 use Rattle.postcard_wire.specs.Reading.{IsBoolean, IsOption}
 use Rattle.postcard_de_flavors.specs.Source.{CanTake, Takes, Laws}
-use Rattle.postcard_de.specs.Reads.{Reads}
+use Rattle.postcard_de.specs.Reads.{MayAnswer, ReadsFrom}
 use Rattle.postcard_de.specs.Refuses.{WantsByte}
 use Rattle.postcard_de.specs.Unfit.{NotABit, BadBool, BadOption}
 use Rattle.postcard_shape.specs.Options.{OptionIs}
@@ -35,8 +34,7 @@ bool_excludes : Excludes ⊥ WantsByte BadBool Spells IsBoolean
 bool_excludes = record {
   within = λ x p q n y z wanted r s e. wants_byte p q [] (bool_byte r.0) n wanted (rw r.1 at s);
   none = λ x p q f y z bad r s e. absurd (not_a_bit p q [] y z (bool_byte r.0) bad.1 (bit_low r.0) (rw r.1 at s) e);
-  grown = λ p bad. let e : OutOfMemory ≡ DeserializeBadBool = bad.0 in cc;
-  never = λ p bad. let e : DeserializeBadEncoding ≡ DeserializeBadBool = bad.0 in cc;
+  named = λ p e bad. subst (MayAnswer ⊥) (sym bad.0) tt;
 }
 
 -- What spells an option begins with 0 or 1.
@@ -49,20 +47,18 @@ option_excludes : (G : Type 0) (R : Tree → Type 0) → Excludes G WantsByte Ba
 option_excludes G R = record {
   within = λ x p q n y z wanted r s e. let k = option_begins R x q r s in wants_byte p q k.1 k.0 n wanted k.3;
   none = λ x p q f y z bad r s e. let k = option_begins R x q r s in absurd (not_a_bit p q k.1 y z k.0 bad.1 k.2 k.3 e);
-  grown = λ p bad. let e : OutOfMemory ≡ DeserializeBadOption = bad.0 in cc;
-  never = λ p bad. let e : DeserializeBadEncoding ≡ DeserializeBadOption = bad.0 in cc;
+  named = λ p e bad. subst (MayAnswer G) (sym bad.0) tt;
 }
 
 module _ {S : Type 0} {left : S → Option (List ℕ)} {able : S → ℕ → Type 0} {may_leave : S → S → Type 0} (laws : Laws left able may_leave) where
   module _ {V : Type 0} {R : Tree → Type 0} {I : Tree → V → Type 0} {G : Type 0} where
     -- The byte 1 was taken, and the content read.
-    pub some_read : {old mid new : S} {v : V} → Takes left able old (1 ∷ []) mid → may_leave old mid → Reads Spells R I G left able may_leave mid (Ok v) new → Reads Spells (IsOption R) (OptionIs I) G left able may_leave old (Ok (Some v)) new
+    pub some_read : {old mid new : S} {v : V} → Takes left able old (1 ∷ []) mid → may_leave old mid → ReadsFrom Spells R I G left able may_leave mid (Ok v) new → ReadsFrom Spells (IsOption R) (OptionIs I) G left able may_leave old (Ok (Some v)) new
     some_read {old = old} {mid = mid} {new = new} {v = v} t l r = let g = r.gives in record {
       gives = record { thing = Present g.thing; front = 1 ∷ g.front; is_read = inr (g.thing, refl, g.is_read); is_spelled = (1 ∷ [], g.front, refl, g.is_spelled, refl); has = (g.thing, refl, g.has); taken = both_taken t g.taken };
       accepts = accepts;
       leaves = laws.joins old mid new l r.leaves;
-      grown = λ h. cc;
-      never = λ h. cc;
+      names = tt;
     }
       where
         accepts : (x : Tree) (p : List ℕ) → IsOption R x → Spells x p → CanTake left able old p → OptionIs I x (Some v) × Takes left able old p new

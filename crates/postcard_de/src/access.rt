@@ -48,7 +48,7 @@ impl SeqAccess {
     ) -> Result<Option<T>>
         ensures count { self.new ≡ self.old - 1 }
         ensures none { self.old ≡ 0 → (result ≡ Ok None) × (d.new ≡ d.old) }
-        ensures some { 0 < self.old → Reads Spells T.shape.reads (SomeIs T.shape.value) T.shape.grows F.left F.able F.may_leave (source_of d.old) result (source_of d.new) }
+        ensures some { 0 < self.old → Reads F.Flavor Spells T.shape.reads (SomeIs T.shape.value) T.shape.grows (source_of d.old) result (source_of d.new) }
     {
         if self.len == 0 {
             return Ok(None);

@@ -1,8 +1,9 @@
 //! Decoding from a slice of bytes.
 
-ghost use Rattle.std.specs.Prelude.{◌≡◌, ◌≢◌, ℕ, List, ◌++◌, Err, IfOk, MatchResult};
+ghost use Rattle.std.specs.Prelude.{◌≡◌, ℕ, List, ◌++◌, Err, IfOk, IfErr, MatchResult};
 ghost use Rattle.postcard_wire.specs.Tree.{Tree};
 ghost use Rattle.postcard_wire.specs.Spelling.{Spells, bytes as canonical};
+ghost use Rattle.postcard_de.specs.Reads.{MayAnswer};
 ghost use Rattle.postcard_frame.specs.Front.{ReadsFront};
 
 use postcard_de::{Deserialize, Deserializer};
@@ -34,7 +35,7 @@ pub fn take_from_bytes<'a, T: Deserialize<'a>>(
         MatchResult result (λ read. T.shape.same read.0 x × (read.1.now ≡ rest))
         (λ e. (e ≡ Error.OutOfMemory) × T.shape.grows) }
     ensures grows { result ≡ Err Error.OutOfMemory → T.shape.grows }
-    ensures never { result ≢ Err Error.DeserializeBadEncoding }
+    ensures names { IfErr result (MayAnswer T.shape.grows) }
 {
     let mut deserializer = Deserializer::from_bytes(bytes);
     let value = T::deserialize(alloc, &mut deserializer)?;
@@ -59,7 +60,7 @@ pub fn from_bytes<'a, T: Deserialize<'a>>(alloc: Global, bytes: &'a [u8]) -> Res
         MatchResult result (λ value. T.shape.same value x)
         (λ e. (e ≡ Error.OutOfMemory) × T.shape.grows) }
     ensures grows { result ≡ Err Error.OutOfMemory → T.shape.grows }
-    ensures never { result ≢ Err Error.DeserializeBadEncoding }
+    ensures names { IfErr result (MayAnswer T.shape.grows) }
 {
     let (value, _) = take_from_bytes(alloc, bytes)?;
     Ok(value)

@@ -1,9 +1,10 @@
 -- Where a front of the input spells a tree of the type, that front can be taken, and what is left
 -- behind it is the rest.
-use Rattle.std.proofs.Common.{Err, ◌≡◌, ◌≤◌, ℕ, List, ◌++◌, length}
+use Rattle.std.proofs.Common.{◌≡◌, ◌≤◌, ℕ, List, ◌++◌, length}
 use Rattle.std.proofs.Common.{sym, ◌∙◌, ap, arith, length-append}
 use Rattle.std.proofs.lemmas.List.{append_cancel_left}
 use Rattle.postcard_de.proofs.Leaves.{is_refusal}
+use Rattle.postcard_de.proofs.Named.{only_grown}
 use Rattle.postcard_wire.specs.Spelling.{bytes}
 use Rattle.postcard_shape.proofs.Again.{is_spelled, is_same}
 use Rattle.postcard_frame.proofs.bytes.take_from_bytes.Goals as goal
@@ -29,7 +30,7 @@ returns-in_err-value-clause-reads_back g c x rest f e =
     let found = refused.ensures.accepts t (bytes t) (s.again x f).0 (is_spelled s x f)
     (record { begins = (rest, all); enough = long_enough _ (bytes t) rest all }) in
     let passed = is_refusal c.from_residual.result refused.field-0.0 c.from_residual.ensures.1 in
-    rw passed (found, refused.ensures.grown (ap Err found))
+    rw passed (found, only_grown s.grows _ refused.ensures.names found)
 
 pub returns-clause-reads_back : goal.returns-clause-reads_back
 returns-clause-reads_back g c x rest f e =

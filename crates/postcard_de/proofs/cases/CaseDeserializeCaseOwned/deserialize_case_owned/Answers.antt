@@ -1,4 +1,4 @@
-use Rattle.std.proofs.Common.{◌≡◌, suc, ◌-◌, arith, inl, inr, rules}
+use Rattle.std.proofs.Common.{◌≡◌, inl, inr, rules}
 use Rattle.postcard_de.proofs.Mapped.{reads_as, fails_as, one_less}
 use Rattle.postcard_de.proofs.cases.CaseDeserializeCaseOwned.deserialize_case_owned.Goals as goal
 

@@ -4,7 +4,6 @@ use Rattle.postcard_shape.specs.Fixed.{short_text_inside}
 use Rattle.postcard_de.proofs.Texts.{text_refused, length_refused, text_ends, text_bad, text_read}
 use Rattle.postcard_de.proofs.Numbers.{number_below}
 use Rattle.postcard_de.proofs.Sift.{seen_as, unfit, refused_too, passed_on}
-use Rattle.postcard_de.proofs.Spans.{custom_isnt_memory, custom_isnt_encoding}
 use Rattle.postcard_de.proofs.Fixed.{short_fits, long_unfit}
 use Rattle.postcard_de.proofs.deserializer.Deserializer.short_string.Goals as goal
 
@@ -44,7 +43,7 @@ returns-in-Err-from g c =
     let long : length c.in-Ok.text.now ≤ g.row.CAP → ⊥ = search rules in
     let many : length u ≤ g.row.CAP → ⊥ = rw c.in-Ok.ensures.cases.0 at long in
     let utf8 : IsUtf8 u = c.in-Ok.ensures.cases.1 in
-    unfit custom_isnt_memory custom_isnt_encoding (short_text_inside g.row.CAP) (long_unfit g.row.CAP u many)
+    unfit tt (short_text_inside g.row.CAP) (long_unfit g.row.CAP u many)
     (text_read laws c.in_ok-count.ensures.reads c.in_ok-bytes.ensures.length gives {G = ⊥} (λ (v : List ℕ). v) u refl utf8 lent.1)
 
 pub returns-in-Err : goal.returns-in-Err

@@ -1,7 +1,6 @@
 use Rattle.std.proofs.Common.{◌≡◌, suc, ◌<◌, ◌+◌, ◌-◌, ◌∷◌, [], ◌++◌, length, ap, arith, length-append}
 use Rattle.std.proofs.lemmas.Grind.{common_steps}
 use Rattle.postcard_de.proofs.Leaves.{is_refusal}
-use Rattle.postcard_de.proofs.Spans.{custom_isnt_memory, custom_isnt_encoding}
 use Rattle.postcard_de.proofs.Entries.{few_read, few_refused, too_many, few_count_refused}
 use Rattle.postcard_de.proofs.Lists.{going, goes_on, going_stops, going_done, unwrapped, one_more_left, none_left, is_some}
 use Rattle.postcard_de.proofs.values.fixed.ArrayVecDeserialize.deserialize.Goals as goal
@@ -37,7 +36,7 @@ returns-then-is_err g c =
     let more : n ≡ suc (n - 1) = one_more_left n (λ z. is_some _ _ (c.in_ok-item.ensures.none z).0 c.in-Some.is) in
     let read = c.in_ok-item.ensures.some (omega (arith, more)) in
     let full : length c.loop-items.items.items ≡ g.row.CAP = grind (arith, common_steps) in
-    too_many laws c.in_ok-access.ensures.reads custom_isnt_memory custom_isnt_encoding (λ few. omega (arith, few, full, more, c.loop-items.invariant.counted)) (laws.joins _ _ _ c.loop-items.invariant.leaves read.leaves)
+    too_many laws c.in_ok-access.ensures.reads tt (λ few. omega (arith, few, full, more, c.loop-items.invariant.counted)) (laws.joins _ _ _ c.loop-items.invariant.leaves read.leaves)
 
 pub loop-items-preserved : goal.loop-items-preserved
 loop-items-preserved g c =

@@ -1,6 +1,5 @@
 use Rattle.std.proofs.Common.{◌≡◌, inl, inr, refl, rules}
 use Rattle.postcard_de.proofs.Enums.{index_refused, content_refused, variant_read, unknown_index, no_other}
-use Rattle.postcard_de.proofs.Spans.{custom_isnt_memory, custom_isnt_encoding}
 use Rattle.postcard_de.proofs.values.options.ResultDeserialize.deserialize.Goals as goal
 
 pub returns-in_err-value-in-0 : goal.returns-in_err-value-in-0
@@ -26,4 +25,4 @@ pub returns-in_default : goal.returns-in_default
 returns-in_default g c =
     let isnt_0 : c.in_ok-index.index ≡ 0 → ⊥ = search rules in
     let isnt_1 : c.in_ok-index.index ≡ 1 → ⊥ = search rules in
-    unknown_index g.F.Flavor.lawful custom_isnt_memory custom_isnt_encoding (no_other _ _ c.in_ok-index.index isnt_0 isnt_1) c.in_ok-index.ensures.reads
+    unknown_index g.F.Flavor.lawful tt (no_other _ _ c.in_ok-index.index isnt_0 isnt_1) c.in_ok-index.ensures.reads
