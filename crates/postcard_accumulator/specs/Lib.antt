@@ -1,0 +1,8 @@
+-- The definitions that contracts cite, in reading order.
+pub mod State
+pub mod Front
+pub mod Feeding
+pub mod Streams
+pub mod Laws
+pub mod Messages
+pub mod Reading
