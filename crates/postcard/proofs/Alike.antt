@@ -5,7 +5,7 @@ use Rattle.std.proofs.lemmas.List.{append_cancel_left}
 use Rattle.postcard_wire.specs.Tree.{Tree}
 use Rattle.postcard_wire.specs.Reading.{IsDelimited}
 use Rattle.postcard_shape.specs.Same.{HasOne}
-use Rattle.postcard.specs.Front.{ReadsFront}
+use Rattle.postcard_frame.specs.Front.{ReadsFront}
 
 pub fronts_alike : {V : Type 0} {reads : Tree → Type 0} {value : Tree → V → Type 0} {same : V → V → Type 0} {all rest left : List ℕ} {v w : V}
     → IsDelimited reads → HasOne value same → ReadsFront reads value all v rest → ReadsFront reads value all w left → same v w × (rest ≡ left)

@@ -4,12 +4,13 @@ ghost use Rattle.std.specs.Prelude.{◌≡◌, ◌≤◌, ℕ, List, ◌++◌, l
 ghost use Rattle.postcard_wire.specs.Tree.{Tree};
 ghost use Rattle.postcard_wire.specs.Spelling.{Spells, bytes};
 ghost use Rattle.postcard_de_flavors.specs.Source.{Begins};
-ghost use Rattle.postcard.specs.Front.{ReadsFront, ReadsReader};
+ghost use Rattle.postcard_frame.specs.Front.{ReadsFront};
+ghost use Rattle.postcard.specs.Front.{ReadsReader};
 
-use crate::de::from_bytes;
 use crate::with_flavor::to_allocvec;
 use postcard_de::{Deserialize, DeserializeOwned, Owned};
 use postcard_de_flavors::Source;
+use postcard_frame::from_bytes;
 use postcard_ser::Serialize;
 use postcard_wire::Result;
 use std::alloc::Global;

@@ -9,7 +9,8 @@
 //!   flavor (module `with_flavor`); `experimental::serialized_size` counts its bytes.
 //! - `to_slice_cobs`, `to_vec_cobs`, `to_allocvec_cobs`, `to_stdvec_cobs` and `to_allocvec_cobs_after` write a value as a
 //!   frame (module `cobs`).
-//! - `from_bytes` and `take_from_bytes` read a value from the front of a slice, `from_io` from a reader (module `de`).
+//! - `from_bytes` and `take_from_bytes` read a value from the front of a slice, `from_bytes_cobs` and
+//!   `take_from_bytes_cobs` from a frame in place (all of `postcard_frame`); `from_io` reads it from a reader (module `de`).
 //! - What ties both directions together stands in `laws`.
 #![tactic(auto)]
 
@@ -26,12 +27,13 @@ mod with_flavor;
 pub use cobs::{
     to_allocvec_cobs, to_allocvec_cobs_after, to_slice_cobs, to_stdvec_cobs, to_vec_cobs,
 };
-pub use de::{from_bytes, from_io, take_from_bytes};
+pub use de::from_io;
 pub use postcard_de::{
     Case, Deserialize, DeserializeOwned, Deserializer, FromRepr, MapAccess, NoCase, Owned, Repr,
     SeqAccess, Shaped,
 };
 pub use postcard_de_flavors as de_flavors;
+pub use postcard_frame::{from_bytes, from_bytes_cobs, take_from_bytes, take_from_bytes_cobs};
 pub use postcard_ser::{Serialize, SerializeRepr, Serializer, serialize_variant};
 pub use postcard_wire::{Error, Result};
 pub use ser::{fill_slice, to_slice};

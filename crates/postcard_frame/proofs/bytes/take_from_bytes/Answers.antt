@@ -1,0 +1,39 @@
+-- Where a front of the input spells a tree of the type, that front can be taken, and what is left
+-- behind it is the rest.
+use Rattle.std.proofs.Common.{Err, ◌≡◌, ◌≤◌, ℕ, List, ◌++◌, length}
+use Rattle.std.proofs.Common.{sym, ◌∙◌, ap, arith, length-append}
+use Rattle.std.proofs.lemmas.List.{append_cancel_left}
+use Rattle.postcard_de.proofs.Leaves.{is_refusal}
+use Rattle.postcard_wire.specs.Spelling.{bytes}
+use Rattle.postcard_shape.proofs.Again.{is_spelled, is_same}
+use Rattle.postcard_frame.proofs.bytes.take_from_bytes.Goals as goal
+
+-- a list has at least the bytes of its front
+long_enough : (bytes front rest : List ℕ) → bytes ≡ front ++ rest → length front ≤ length bytes
+long_enough bytes front rest e = omega (arith, ap length e, length-append front rest)
+
+pub returns-clause-accepts : goal.returns-clause-accepts
+returns-clause-accepts g c t front rest is_read is_spelled e =
+    let all = c.from_bytes-deserializer.ensures ∙ e in
+    let found = c.in_ok-value.ensures.accepts t front is_read is_spelled
+    (record { begins = (rest, all); enough = long_enough _ front rest all }) in
+    let joined = ap (λ r. front ++ r) c.in_ok-rest.ensures ∙ sym found.1.drops ∙ all in
+    (found.0, append_cancel_left front _ rest joined)
+
+pub returns-in_err-value-clause-reads_back : goal.returns-in_err-value-clause-reads_back
+returns-in_err-value-clause-reads_back g c x rest f e =
+    let s = g.T.Shaped.shape in
+    let all = c.from_bytes-deserializer.ensures ∙ e in
+    let t = s.tree x in
+    let refused = c.in_err-value in
+    let found = refused.ensures.accepts t (bytes t) (s.again x f).0 (is_spelled s x f)
+    (record { begins = (rest, all); enough = long_enough _ (bytes t) rest all }) in
+    let passed = is_refusal c.from_residual.result refused.field-0.0 c.from_residual.ensures.1 in
+    rw passed (found, refused.ensures.grown (ap Err found))
+
+pub returns-clause-reads_back : goal.returns-clause-reads_back
+returns-clause-reads_back g c x rest f e =
+    let s = g.T.Shaped.shape in
+    let t = s.tree x in
+    let found = returns-clause-accepts g c t (bytes t) rest (s.again x f).0 (is_spelled s x f) e in
+    (is_same s x c.in_ok-value.value f found.0, found.1)

@@ -1,0 +1,13 @@
+//! Values read from bytes that are at hand: from the front of a slice, and from a frame in the
+//! buffer that holds it.
+//!
+//! - `from_bytes` and `take_from_bytes` read a value from the front of a slice (module `bytes`).
+//! - `from_bytes_cobs` and `take_from_bytes_cobs` read a value from the frame at the front of a
+//!   buffer, which they decode in place (module `cobs`).
+#![tactic(auto)]
+
+mod bytes;
+mod cobs;
+
+pub use bytes::{from_bytes, take_from_bytes};
+pub use cobs::{from_bytes_cobs, take_from_bytes_cobs};
