@@ -1,21 +1,19 @@
 -- For a type that doesn't grow, the answers of a stream are one, but for values that look alike.
 use Rattle.std.proofs.Common.{◌≡◌, ℕ, ◌+◌, ◌<◌, inl, inr, List, [], ◌∷◌, ◌++◌, length, sym, ap, subst, ◌∙◌, arith}
 use native.Mathlib.Decide.{dec_le}
-use Rattle.postcard_cobs.proofs.Frames.{data_is_one}
 use Rattle.postcard_shape.specs.Shape.{Shape}
 use Rattle.postcard_accumulator.specs.State.{State, holding, skipping}
-use Rattle.postcard_accumulator.specs.Front.{FrontOf}
 use Rattle.postcard_accumulator.specs.Streams.{IsOwn, IsAnswerOf, AreAnswersOf, IsAnswered}
 use Rattle.postcard_accumulator.specs.Laws.{IsAlike, AreAlike, AnswersAreOne, DamageStays}
 use Rattle.postcard_accumulator.specs.declared.answers.Answer.{Answer}
 use Rattle.postcard_accumulator.specs.declared.answers.Answer.TheVariants.{OverFull, DeserError, Success}
 use Rattle.postcard_accumulator.proofs.Cutting.{zero_cut, has_zero, one_split}
-use Rattle.postcard_accumulator.proofs.Fronts.{fronts_alike}
+use Rattle.postcard_accumulator.proofs.Fronts.{values_alike}
 use Rattle.postcard_accumulator.proofs.Splitting.{split_law}
 
 module _ {T : Type 0} (n : ℕ) (shape : Shape T) (still : ¬ shape.grows) where
   own_alike : (f : List ℕ) (x y : Answer T) → IsOwn shape f x → IsOwn shape f y → IsAlike shape x y
-  own_alike f (Success v) (Success w) p q = fronts_alike shape q.0 v w (subst (λ (d : List ℕ). FrontOf shape d v) (data_is_one f p.0 q.0 p.1 q.1) p.2) q.2
+  own_alike f (Success v) (Success w) p q = values_alike shape f v w p q
   own_alike f (Success v) DeserError p q = absurd (q still v p)
   own_alike f (Success v) OverFull p q = absurd q
   own_alike f DeserError (Success w) p q = absurd (p still w q)

@@ -8,29 +8,30 @@ use Rattle.postcard_wire.specs.Spelling.{bytes as canonical}
 use Rattle.postcard_shape.specs.Shape.{Shape}
 use Rattle.postcard_shape.proofs.Again.{is_spelled}
 use Rattle.postcard_accumulator.specs.State.{holding}
-use Rattle.postcard_accumulator.specs.Front.{FrontOf}
+use Rattle.postcard_accumulator.specs.Feeding.{IsValueOf}
 use Rattle.postcard_accumulator.specs.Streams.{IsOwn, AreAnswersOf, AreZeroFree, IsSplit, ended}
 use Rattle.postcard_accumulator.specs.Messages.{Sent, message, oversized, stream_of, AreSent, Arrive, MessagesArrive}
 use Rattle.postcard_accumulator.specs.declared.answers.Answer.{Answer}
 use Rattle.postcard_accumulator.specs.declared.answers.Answer.TheVariants.{OverFull, DeserError, Success}
 use Rattle.postcard_accumulator.proofs.Cutting.{one_split}
-use Rattle.postcard_accumulator.proofs.Fronts.{fronts_alike}
-use Rattle.postcard_cobs.proofs.Frames.{data_is_one}
+use Rattle.postcard_accumulator.proofs.Fronts.{values_alike}
 
 module _ {T : Type 0} (n : ℕ) (shape : Shape T) where
-  -- the canonical encoding of a value that fits is read b the value
-  is_front : (v : T) → shape.fits v → FrontOf shape (canonical (shape.tree v)) v
-  is_front v f = (
-    [],
-    record {
+  -- a frame of the canonical encoding of a value that fits has that value
+  is_value : (v : T) (f : List ℕ) → shape.fits v → Groups f (canonical (shape.tree v)) → IsValueOf shape f v
+  is_value v f fits g = record {
+    content = canonical (shape.tree v);
+    decodes = g;
+    rest = [];
+    is_read = record {
       tree = shape.tree v;
       front = canonical (shape.tree v);
-      is_read = (shape.again v f).0;
-      is_spelled = is_spelled shape v f;
-      has = (shape.again v f).1;
+      is_read = (shape.again v fits).0;
+      is_spelled = is_spelled shape v fits;
+      has = (shape.again v fits).1;
       joins = sym (append-nil (canonical (shape.tree v)));
-    },
-  )
+    };
+  }
 
   -- the frames of what is sent, without their zeros
   abbrev frames_of : (sent : List (Sent T)) → AreSent n shape sent → List (List ℕ)
@@ -53,9 +54,8 @@ module _ {T : Type 0} (n : ℕ) (shape : Shape T) where
   -- the own answer of a made frame
   own_arrives : (v : T) (f : List ℕ) (a : Answer T) (more : List (Sent T)) (b : List (Answer T)) (frame : List ℕ) → shape.fits v → Groups f (canonical (shape.tree v)) → IsOwn shape f a
       → Arrive shape more b → Arrive shape (message v frame ∷ more) (a ∷ b)
-  own_arrives v f (Success w) more b frame fits g own rest =
-      (fronts_alike shape (canonical (shape.tree v)) w v (subst (λ (d : List ℕ). FrontOf shape d w) (data_is_one f own.0 (canonical (shape.tree v)) own.1 g) own.2) (is_front v fits), rest)
-  own_arrives v f DeserError more b frame fits g own rest = (λ still. own still v (canonical (shape.tree v), g, is_front v fits), rest)
+  own_arrives v f (Success w) more b frame fits g own rest = (values_alike shape f w v own (is_value v f fits g), rest)
+  own_arrives v f DeserError more b frame fits g own rest = (λ still. own still v (is_value v f fits g), rest)
   own_arrives v f OverFull more b frame fits g own rest = absurd own
 
   over_arrives : (f : List ℕ) (a : Answer T) (more : List (Sent T)) (b : List (Answer T)) → a ≡ OverFull → Arrive shape more b → Arrive shape (oversized f ∷ more) (a ∷ b)

@@ -1,7 +1,6 @@
 -- Lemmas, in reading order.
 pub mod Cutting
 pub mod Fronts
-pub mod Refusing
 pub mod Holding
 pub mod Feeding
 pub mod Joining

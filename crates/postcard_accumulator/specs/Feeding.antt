@@ -2,18 +2,18 @@
 -- through the zero that ends it, and is answered once.
 use Rattle.std.specs.Prelude.{◌≡◌, ℕ, ◌+◌, ◌<◌, ◌≤◌, ◌⊎◌, List, [], ◌++◌, length}
 use Rattle.postcard_cobs.specs.Groups.{NoZero, Groups, EndsFrame}
+use Rattle.postcard_frame.specs.Frame.{ReadsFrame}
 use Rattle.postcard_shape.specs.Shape.{Shape}
 use Rattle.postcard_accumulator.specs.State.{State, holding, skipping}
-use Rattle.postcard_accumulator.specs.Front.{FrontOf}
 use Rattle.postcard_accumulator.specs.declared.answers.FeedResult.{FeedResult}
 use Rattle.postcard_accumulator.specs.declared.answers.FeedResult.TheVariants.{Consumed, OverFull}
 use Rattle.postcard_accumulator.specs.declared.answers.FeedResult.TheVariants.{DeserError, Success}
 use Rattle.postcard_accumulator.specs.declared.taken.Taken.{Taken}
 use Rattle.postcard_accumulator.specs.declared.taken.Taken.TheVariants as taken
 
--- The frame f is a COBS frame, and v is the value of a front of its data.
+-- The frame f has data of which a front spells a tree that the type reads, and v is its value.
 abbrev pub IsValueOf : {T : Type 0} → Shape T → List ℕ → T → Type 0
-IsValueOf shape f v = (d : List ℕ) × Groups f d × FrontOf shape d v
+IsValueOf shape f v = ReadsFrame shape.reads shape.value f v
 
 -- The frame f has no value. Of a type that asks for memory when it is read, nothing is said: the
 -- memory may have been refused.

@@ -1,6 +1,5 @@
 -- The definitions that contracts cite, in reading order.
 pub mod State
-pub mod Front
 pub mod Feeding
 pub mod Streams
 pub mod Laws

@@ -46,7 +46,6 @@
 
 pub mod accumulator;
 mod answers;
-mod front;
 pub mod laws;
 mod reading;
 mod taken;

@@ -3,8 +3,8 @@
 ghost use Rattle.postcard_accumulator.specs.Feeding.{IsReadOf};
 
 use crate::answers::FeedResult;
-use crate::front::{lent_front, owned_front};
-use postcard_de::{Deserialize, DeserializeOwned};
+use postcard_de::{Deserialize, DeserializeOwned, Owned};
+use postcard_frame::from_bytes;
 use std::alloc::Global;
 
 /// What a piece completes, before a value is read of it. The slices of lifetime `'a` are what
@@ -32,7 +32,7 @@ pub fn value_of<'de, 'a, T: Deserialize<'de>>(
         Taken::Consumed => FeedResult::Consumed,
         Taken::OverFull(rest) => FeedResult::OverFull(rest),
         Taken::Refused(rest) => FeedResult::DeserError(rest),
-        Taken::Message(data, rest) => match lent_front::<T>(alloc, data) {
+        Taken::Message(data, rest) => match from_bytes::<T>(alloc, data) {
             Ok(value) => FeedResult::Success {
                 value,
                 remaining: rest,
@@ -53,8 +53,8 @@ pub fn owned_value_of<'a, T: DeserializeOwned>(
         Taken::Consumed => FeedResult::Consumed,
         Taken::OverFull(rest) => FeedResult::OverFull(rest),
         Taken::Refused(rest) => FeedResult::DeserError(rest),
-        Taken::Message(data, rest) => match owned_front::<T>(alloc, data) {
-            Ok(value) => FeedResult::Success {
+        Taken::Message(data, rest) => match from_bytes::<Owned<T>>(alloc, data) {
+            Ok(Owned(value)) => FeedResult::Success {
                 value,
                 remaining: rest,
             },
