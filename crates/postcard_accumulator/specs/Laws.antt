@@ -7,12 +7,14 @@ use Rattle.postcard_accumulator.specs.Feeding.{IsFed}
 use Rattle.postcard_accumulator.specs.Streams.{Answers, IsSplit, answers_of, left_of}
 use Rattle.postcard_accumulator.specs.declared.answers.FeedResult.{FeedResult}
 use Rattle.postcard_accumulator.specs.declared.answers.Answer.{Answer}
-use Rattle.postcard_accumulator.specs.declared.answers.Answer.TheVariants.{OverFull, DeserError, Success}
+use Rattle.postcard_accumulator.specs.declared.answers.Answer.TheVariants.{OverFull, DeserError}
+use Rattle.postcard_accumulator.specs.declared.answers.Answer.TheVariants.{Success}
 
 -- One feed returns the answers of the front that it takes of its piece.
 abbrev pub FeedsAnswer : {T : Type 0} → Shape T → Type 0
 FeedsAnswer {T} shape =
-    (n : ℕ) (c d : State) (p : List ℕ) (r : FeedResult T) → NoZero (held_of c) → IsFed n shape c p r d
+    (n : ℕ) (c d : State) (p : List ℕ) (r : FeedResult T)
+    → NoZero (held_of c) → IsFed n shape c p r d
     → (eaten : List ℕ) × (p ≡ eaten ++ left_of r) × Answers n shape c eaten (answers_of r) d
 
 -- Answers of calls in a row, joined, are answers of the joined stream.
@@ -63,11 +65,12 @@ abbrev pub Split : {T : Type 0} → Shape T → Type 0
 Split {T} shape =
     (n : ℕ) (d : State) (u x v : List ℕ) (a : List (Answer T)) → EndsInZero u → EndsInZero x
     → Answers n shape (holding []) (u ++ (x ++ v)) a d
-    → (b e f : List (Answer T)) × (a ≡ b ++ (e ++ f)) × Answers n shape (holding []) u b (holding [])
+    → (b e f : List (Answer T)) × (a ≡ b ++ (e ++ f))
+    × Answers n shape (holding []) u b (holding [])
     × Answers n shape (holding []) x e (holding []) × Answers n shape (holding []) v f d
 
--- So damage in x that leaves its last zero changes no answer of u or v, and not the state at the
--- end: the answers of u, x, v and of u, y, v differ in those of x and y alone.
+-- So damage that makes y of x and leaves its last zero changes no answer of u or v, and not the
+-- state at the end: the answers of u, x, v and of u, y, v differ in those of x and y alone.
 abbrev pub DamageStays : {T : Type 0} → Shape T → Type 0
 DamageStays {T} shape = ¬ shape.grows →
     (n : ℕ) (d e : State) (u x y v : List ℕ) (a b : List (Answer T))
@@ -89,4 +92,5 @@ NothingAfterZero {T} shape =
 abbrev pub FramesAreOne : Type 0
 FramesAreOne = (s : List ℕ) →
     ((fs : List (List ℕ)) × (r : List ℕ) × IsSplit s fs r)
-    × ((fs gs : List (List ℕ)) (r q : List ℕ) → IsSplit s fs r → IsSplit s gs q → (fs ≡ gs) × (r ≡ q))
+    × ((fs gs : List (List ℕ)) (r q : List ℕ)
+    → IsSplit s fs r → IsSplit s gs q → (fs ≡ gs) × (r ≡ q))

@@ -1,12 +1,14 @@
 -- What the reading loop does.
-use Rattle.std.specs.Prelude.{◌≡◌, ℕ, ◌-◌, ◌*◌, ◌<◌, ◌≤◌, List, [], ◌++◌, length, take, drop, Option}
+use Rattle.std.specs.Prelude.{◌≡◌, ℕ, ◌-◌, ◌*◌, ◌<◌, ◌≤◌, List, [], ◌++◌, Option}
+use Rattle.std.specs.Prelude.{length, take, drop}
 use Rattle.std.specs.Io.KnownBytes.{Consumes}
 use Rattle.postcard_shape.specs.Shape.{Shape}
 use Rattle.postcard_accumulator.specs.State.{State}
 use Rattle.postcard_accumulator.specs.Streams.{Answers}
 use Rattle.postcard_accumulator.specs.declared.answers.Answer.{Answer}
 use Rattle.postcard_accumulator.specs.declared.reading.ReadEnd.{ReadEnd}
-use Rattle.postcard_accumulator.specs.declared.reading.ReadEnd.TheVariants.{End, Limit, ReadFailed, OutOfMemory}
+use Rattle.postcard_accumulator.specs.declared.reading.ReadEnd.TheVariants.{End, Limit}
+use Rattle.postcard_accumulator.specs.declared.reading.ReadEnd.TheVariants.{ReadFailed, OutOfMemory}
 
 -- From the first state of a reader, reads gave these bytes and left the second, if the reader tells
 -- its bytes.
@@ -14,7 +16,8 @@ abbrev pub Gave : {R : Type 0} → (R → Option (List ℕ)) → R → List ℕ 
 Gave remaining old xs new = Consumes (remaining old) (remaining new) xs
 
 -- A piece was fed but for so many bytes at its end.
-pub record IsFedAll {T : Type 0} (n : ℕ) (shape : Shape T) (before : State) (piece : List ℕ) (old new : List (Answer T)) (after : State) (left : ℕ) : Type 0 where
+pub record IsFedAll {T : Type 0} (n : ℕ) (shape : Shape T) (before : State) (piece : List ℕ)
+    (old new : List (Answer T)) (after : State) (left : ℕ) : Type 0 where
   pub within : left ≤ length piece
   pub answers : List (Answer T)
   pub items : new ≡ old ++ answers
@@ -49,8 +52,9 @@ SteadyEnd steady at_end ReadFailed = steady → ⊥
 SteadyEnd steady at_end (OutOfMemory from to) = Unit {0}
 
 -- The answers that were added are those of all that the reads gave, but for what was not fed.
-pub record IsReading {T R : Type 0} (n : ℕ) (shape : Shape T) (gave : R → List ℕ → R → Type 0) (reads : ℕ)
-    (from left : R) (chunk : List ℕ) (before after : State) (old new : List (Answer T)) (end : ReadEnd) : Type 0 where
+pub record IsReading {T R : Type 0} (n : ℕ) (shape : Shape T) (gave : R → List ℕ → R → Type 0)
+    (reads : ℕ) (from left : R) (chunk : List ℕ) (before after : State)
+    (old new : List (Answer T)) (end : ReadEnd) : Type 0 where
   pub given : List ℕ
   pub last : R
   pub reader : gave from given last

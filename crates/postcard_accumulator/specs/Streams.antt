@@ -8,7 +8,8 @@ use Rattle.postcard_accumulator.specs.declared.answers.FeedResult.{FeedResult}
 use Rattle.postcard_accumulator.specs.declared.answers.FeedResult.TheVariants.{Consumed}
 use Rattle.postcard_accumulator.specs.declared.answers.FeedResult.TheVariants as fed
 use Rattle.postcard_accumulator.specs.declared.answers.Answer.{Answer}
-use Rattle.postcard_accumulator.specs.declared.answers.Answer.TheVariants.{OverFull, DeserError, Success}
+use Rattle.postcard_accumulator.specs.declared.answers.Answer.TheVariants.{OverFull, DeserError}
+use Rattle.postcard_accumulator.specs.declared.answers.Answer.TheVariants.{Success}
 
 -- The own answer of a frame: the value of its data, or that it has none.
 abbrev pub IsOwn : {T : Type 0} → Shape T → List ℕ → Answer T → Type 0
@@ -17,7 +18,8 @@ IsOwn shape f DeserError = IsRefused shape f
 IsOwn shape f OverFull = ⊥
 
 -- The answer of a frame: its own if the frame and its zero have room, else that they haven't.
-pub record IsAnswerOf {T : Type 0} (n : ℕ) (shape : Shape T) (f : List ℕ) (answer : Answer T) : Type 0 where
+pub record IsAnswerOf {T : Type 0} (n : ℕ) (shape : Shape T) (f : List ℕ) (answer : Answer T)
+    : Type 0 where
   pub own : length f + 1 ≤ n → IsOwn shape f answer
   pub over_full : n < length f + 1 → answer ≡ OverFull
 
@@ -44,7 +46,8 @@ pub record IsSplit (stream : List ℕ) (frames : List (List ℕ)) (rest : List �
 
 -- The answers of a stream that begins with a frame: one of each frame, and one more where the rest
 -- has no room and is skipped.
-pub record IsAnswered {T : Type 0} (n : ℕ) (shape : Shape T) (stream : List ℕ) (answers : List (Answer T)) (after : State) : Type 0 where
+pub record IsAnswered {T : Type 0} (n : ℕ) (shape : Shape T) (stream : List ℕ)
+    (answers : List (Answer T)) (after : State) : Type 0 where
   pub frames : List (List ℕ)
   pub rest : List ℕ
   pub split : IsSplit stream frames rest

@@ -36,7 +36,8 @@ impl<const N: usize> Model for CobsAccumulator<N> {
 
     ghost view = { λ s. state_of s.skipping (take s.idx s.buf) };
 
-    ghost invariant = { λ s. (s.idx ≤ N) × NoZero (take s.idx s.buf) × (IsTrue s.skipping → s.idx ≡ 0) };
+    ghost invariant = { λ s. (s.idx ≤ N) × NoZero (take s.idx s.buf)
+        × (IsTrue s.skipping → s.idx ≡ 0) };
 }
 
 impl<const N: usize> Default for CobsAccumulator<N> {
@@ -111,8 +112,8 @@ impl<const N: usize> CobsAccumulator<N> {
         requires { is_skipping self.old ≡ false }
         ensures ok { IfOk result (λ d. Groups (held_of self.old) d.now) }
         ensures err { OnErr result ((d : List ℕ) → Groups (held_of self.old) d → ⊥) }
-        ensures* held { sem 𝓛 (follows_so (the_row N.row) (the_row N.row) self.entry.ghost_name none
-            (λ _ _. ⊤) (λ v. v ≡ holding [])) }
+        ensures* held { sem 𝓛 (follows_so (the_row N.row) (the_row N.row)
+            self.entry.ghost_name none (λ _ _. ⊤) (λ v. v ≡ holding [])) }
     {
         let end = self.idx;
         self.idx = 0;
@@ -127,8 +128,9 @@ impl<const N: usize> CobsAccumulator<N> {
         requires { is_skipping self.old ≡ false }
         ensures answer { (after : State)
             × IsTakenHolding N (held_of self.old) input.now result after }
-        ensures* after { sem 𝓛 (follows_so (the_row N.row) (the_row N.row) self.entry.ghost_name none
-            (λ _ _. ⊤) (λ v. IsTakenHolding N (held_of self.old) input.now result v)) }
+        ensures* after { sem 𝓛 (follows_so (the_row N.row) (the_row N.row)
+            self.entry.ghost_name none (λ _ _. ⊤)
+            (λ v. IsTakenHolding N (held_of self.old) input.now result v)) }
     {
         let n = frame_len(input);
         if n == input.len() {
@@ -152,15 +154,15 @@ impl<const N: usize> CobsAccumulator<N> {
         }
     }
 
-    /// Takes in a piece up to the end of a frame, as [`feed`](CobsAccumulator::feed) does, and reads
-    /// no value.
+    /// Takes in a piece up to the end of a frame, as [`feed`](CobsAccumulator::feed) does, but
+    /// reads no value.
     ///
-    /// The data that it lends stands in the accumulator. What is carried after it is known once the
-    /// loan ends.
+    /// The data that it lends stands in the accumulator, which can be used again once the loan
+    /// ends.
     pub fn take_in<'de, 'a>(&'de mut self, input: &'a [u8]) -> Taken<'de, 'a>
         ensures answer { (after : State) × IsTaken N self.old input.now result after }
-        ensures* after { sem 𝓛 (follows_so (the_row N.row) (the_row N.row) self.entry.ghost_name none
-            (λ _ _. ⊤) (λ v. IsTaken N self.old input.now result v)) }
+        ensures* after { sem 𝓛 (follows_so (the_row N.row) (the_row N.row)
+            self.entry.ghost_name none (λ _ _. ⊤) (λ v. IsTaken N self.old input.now result v)) }
     {
         if !self.skipping {
             return self.take_held(input);
@@ -200,8 +202,9 @@ impl<const N: usize> CobsAccumulator<N> {
         input: &'a [u8],
     ) -> FeedResult<'a, T>
         ensures answer { (after : State) × IsFed N T.shape self.old input.now result after }
-        ensures* after { sem 𝓛 (follows_so (the_row N.row) (the_row N.row) self.entry.ghost_name none
-            (λ _ _. ⊤) (λ v. IsFed N T.shape self.old input.now result v)) }
+        ensures* after { sem 𝓛 (follows_so (the_row N.row) (the_row N.row)
+            self.entry.ghost_name none (λ _ _. ⊤)
+            (λ v. IsFed N T.shape self.old input.now result v)) }
     {
         let taken = self.take_in(input);
         value_of(alloc, taken)

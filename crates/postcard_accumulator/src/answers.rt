@@ -2,8 +2,8 @@
 
 /// The result of [`feed`](crate::accumulator::CobsAccumulator::feed).
 ///
-/// But for `Consumed`, each lends the bytes of the piece that were not looked at, which may be none.
-/// They are to be fed next.
+/// But for `Consumed`, each lends the bytes of the piece that were not looked at, which may be
+/// none. They are to be fed next.
 #[derive(Drop)]
 pub enum FeedResult<'a, T> {
     /// All of the piece was consumed, and no frame ended.

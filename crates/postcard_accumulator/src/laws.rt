@@ -36,7 +36,8 @@ pub fn answers_are_one<T: DeserializeOwned>()
     ensures { AnswersAreOne T.shape }
 {}
 
-/// After a zero the answers go on as those of a new accumulator, whatever was held or skipped before.
+/// After a zero the answers go on as those of a new accumulator, whatever was held or skipped
+/// before.
 pub fn cut_at_zero<T: DeserializeOwned>()
     ensures { CutAtZero T.shape }
 {}

@@ -13,15 +13,18 @@
 //! | Before | Piece | Result | After |
 //! |---|---|---|---|
 //! | skipping | no zero | `Consumed` | skipping |
-//! | skipping | a zero at `n` | that of `p[n + 1..]` where nothing is held | of that row |
+//! | skipping | a zero at `n` | as for `p[n + 1..]` if `h` is empty | as there |
 //! | holds `h` | no zero, `h.len() + p.len() <= N` | `Consumed` | holds `h`, `p` |
-//! | holds `h` | no zero, no room | `OverFull` with nothing left | skipping |
-//! | holds `h` | a zero at `n`, `h.len() + n + 1 <= N` | `Success` or `DeserError` with `p[n + 1..]` | holds nothing |
-//! | holds `h` | a zero at `n`, no room | `OverFull` with `p[n + 1..]` | holds nothing |
+//! | holds `h` | no zero, no room | `OverFull` of nothing | skipping |
+//! | holds `h` | a zero at `n`, `h.len() + n + 1 <= N` | the own answer | holds nothing |
+//! | holds `h` | a zero at `n`, no room | `OverFull` of `p[n + 1..]` | holds nothing |
 //!
-//! `Success` has the value that a front of the frame's data spells, and comes exactly if there is
-//! one; `DeserError` comes in its place if memory for the value was refused. So an oversized frame
-//! is answered once, wherever the line cuts it, and with `N` of 0 every frame is oversized.
+//! The own answer of the frame `h`, `p[..n]` is `Success`, with the value that a front of the
+//! frame's data spells and with `p[n + 1..]`, if there is such a value; else, or if memory for the
+//! value was refused, it is `DeserError` of `p[n + 1..]`.
+//!
+//! So an oversized frame is answered once, wherever the line cuts it. With `N` of 0 every frame is
+//! oversized.
 //!
 //! A link that joins late may begin inside a frame: it loses at most what stands before the first
 //! zero, which may be answered `DeserError`, `OverFull` or, by chance, as a value of its own. From
@@ -37,10 +40,9 @@
 //!
 //! # Contents
 //!
-//! - [`accumulator`]: [`CobsAccumulator`], and its lower half, [`take_in`](CobsAccumulator::take_in)
-//!   and [`value_of`], for callers whose own proofs go on from there.
-//! - `answers`: [`FeedResult`] and [`Answer`].
-//! - `reading`: [`read_frames`] and [`ReadEnd`].
+//! - [`accumulator`]: [`CobsAccumulator`], with [`FeedResult`]. The two halves of a feed are
+//!   [`take_in`](CobsAccumulator::take_in) and [`value_of`], for callers whose own proofs go on.
+//! - [`read_frames`], with [`Answer`] and [`ReadEnd`].
 //! - [`laws`]: what holds of every stream, as contracts of functions that do nothing.
 #![tactic(auto)]
 

@@ -76,16 +76,16 @@ fn feed_all<T: DeserializeOwned, const N: usize>(
 
 /// Reads a stream of frames, and adds their answers to `out`.
 ///
-/// At most `reads` reads are made, each into `chunk`, and what was read is fed at once. At every end
-/// `out` keeps the answers, and the accumulator what it carries, so another call goes on where this
-/// one ended. A place in `out` is reserved before each feed, so no answer is lost.
+/// At most `reads` reads are made, each into `chunk`, and what was read is fed at once. At every
+/// end `out` keeps the answers, and the accumulator what it carries, so another call goes on where
+/// this one ended. A place in `out` is reserved before each feed, so no answer is lost.
 ///
 /// The answers are those of the stream, however the reader cuts it: of what was held before, and of
 /// all bytes that the reads gave, but for `chunk[from..to]` at `OutOfMemory`, which is to be fed
 /// next. Of a reader that doesn't tell its bytes to contracts nothing more is said.
 ///
-/// A steady reader is at its end at `End`, and never gives `ReadFailed`. At `Limit` at least `reads`
-/// bytes were read, and never more than `reads * chunk.len()`.
+/// A steady reader is at its end at `End`, and never gives `ReadFailed`. At `Limit` at least
+/// `reads` bytes were read, and never more than `reads * chunk.len()`.
 pub fn read_frames<R: Source, T: DeserializeOwned, const N: usize>(
     alloc: Global,
     reader: &mut R,
