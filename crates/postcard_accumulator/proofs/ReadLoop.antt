@@ -1,0 +1,197 @@
+-- The two loops of the reading: over the feeds of a piece, and over the reads.
+use Rattle.std.proofs.Common.{◌≡◌, ℕ, ◌+◌, ◌-◌, ◌*◌, ◌<◌, ◌≤◌, inl, inr, List, [], ◌∷◌, ◌++◌, length, refl, sym, ap, subst, ◌∙◌, append_assoc, arith, length-append, take, drop}
+use Rattle.std.proofs.lemmas.List.{append-nil, take_all, length-take-le, take-append-drop, take_at}
+use Rattle.std.proofs.Math.Nat.{mul-le-mul_right}
+use Rattle.postcard_cobs.specs.Groups.{NoZero}
+use Rattle.postcard_shape.specs.Shape.{Shape}
+use Rattle.postcard_accumulator.specs.State.{State, holding, skipping, held_of}
+use Rattle.postcard_accumulator.specs.Feeding.{IsFed, IsFedHolding, EndsFitting}
+use Rattle.postcard_accumulator.specs.Streams.{Answers, answers_of, left_of}
+use Rattle.postcard_accumulator.specs.Reading.{IsFedAll, IsReading, unfed, IsLeft, EndsWell}
+use Rattle.postcard_accumulator.specs.declared.answers.FeedResult.{FeedResult}
+use Rattle.postcard_accumulator.specs.declared.answers.FeedResult.TheVariants.{Consumed}
+use Rattle.postcard_accumulator.specs.declared.answers.FeedResult.TheVariants as fed
+use Rattle.postcard_accumulator.specs.declared.answers.Answer.{Answer}
+use Rattle.postcard_accumulator.specs.declared.reading.ReadEnd.{ReadEnd}
+use Rattle.postcard_accumulator.specs.declared.reading.ReadEnd.TheVariants.{OutOfMemory}
+use Rattle.postcard_accumulator.proofs.Feeding.{feeds_law}
+use Rattle.postcard_accumulator.proofs.Joining.{joined_law}
+
+module _ {T : Type 0} (n : ℕ) (shape : Shape T) where
+  -- no bytes, no answers
+  nothing_fed : (c : State) → NoZero (held_of c) → length (held_of c) ≤ n → Answers n shape c [] [] c
+  nothing_fed (holding h) zh room = rw (append-nil h) (record {
+    frames = [];
+    rest = h;
+    split = record { is = refl; frames_zero_free = tt; rest_zero_free = zh };
+    parts = [];
+    each = tt;
+    fits = λ l. (refl, refl);
+    over = λ l. absurd (omega arith);
+  })
+  nothing_fed skipping zh room = inl (tt, refl, refl)
+
+  -- inside a piece: what is fed of it, the answers to that, and what is left
+  pub record AtWindow (before : State) (piece : List ℕ) (old now : List (Answer T)) (after : State) (window : List ℕ) : Type 0 where
+    pub eaten : List ℕ
+    pub cut : piece ≡ eaten ++ window
+    pub answers : List (Answer T)
+    pub items : now ≡ old ++ answers
+    pub is : Answers n shape before eaten answers after
+
+  pub at_start : (c : State) (piece : List ℕ) (old : List (Answer T)) → NoZero (held_of c) → length (held_of c) ≤ n → AtWindow c piece old old c piece
+  at_start c piece old zh room = record { eaten = []; cut = refl; answers = []; items = sym (append-nil old); is = nothing_fed c zh room }
+
+  pub at_next : (c : State) (piece : List ℕ) (old now : List (Answer T)) (h k : State) (w : List ℕ) (r : FeedResult T) → NoZero (held_of h) →
+      AtWindow c piece old now h w → IsFed n shape h w r k → AtWindow c piece old (now ++ answers_of r) k (left_of r)
+  at_next c piece old now h k w r zh p fed =
+      let f = feeds_law shape n h k w r zh fed in
+      record {
+        eaten = p.eaten ++ f.0;
+        cut = p.cut ∙ ap (λ (x : List ℕ). p.eaten ++ x) f.1 ∙ sym (append_assoc p.eaten f.0 (left_of r));
+        answers = p.answers ++ answers_of r;
+        items = ap (λ (x : List (Answer T)). x ++ answers_of r) p.items ∙ append_assoc old p.answers (answers_of r);
+        is = joined_law shape n c h k p.eaten f.0 p.answers (answers_of r) p.is f.2;
+      }
+
+  pub at_end : (c : State) (piece : List ℕ) (old now : List (Answer T)) (after : State) (window : List ℕ) (left : ℕ) → left ≡ length window → AtWindow c piece old now after window →
+      IsFedAll n shape c piece old now after left
+  at_end c piece old now after window left e p =
+      let l = ap length p.cut ∙ length-append p.eaten window in
+      let m : length p.eaten ≡ length piece - left = omega arith in
+      let t : take (length piece - left) piece ≡ p.eaten = ap (take (length piece - left)) p.cut ∙ take_at p.eaten window (length piece - left) m in
+      record { within = omega arith; answers = p.answers; items = p.items; is = rw t p.is }
+
+  -- what ends a frame takes a byte of the piece
+  ends_shorter : (h w q rest : List ℕ) → EndsFitting n h w q rest → length rest < length w
+  ends_shorter h w q rest f = let l = ap length f.0.1 ∙ length-append q (0 ∷ rest) in omega arith
+
+  -- so each feed of a piece that isn't empty leaves less than it
+  shorter_held : (h w : List ℕ) (r : FeedResult T) (k : State) → 0 < length w → IsFedHolding n shape h w r k → length (left_of r) < length w
+  shorter_held h w Consumed k some f = some
+  shorter_held h w (fed.OverFull rest) k some (inl f) = let l = ap length f.1.1 ∙ length-append f.0 (0 ∷ rest.now) in omega arith
+  shorter_held h w (fed.OverFull rest) k some (inr f) = let l = ap length f.2 in omega arith
+  shorter_held h w (fed.DeserError rest) k some f = ends_shorter h w f.0 rest.now f.1
+  shorter_held h w (fed.Success v rest) k some f = ends_shorter h w f.0 rest.now f.1
+
+  left_within : (h w : List ℕ) (r : FeedResult T) (k : State) → IsFedHolding n shape h w r k → length (left_of r) ≤ length w
+  left_within h w Consumed k f = omega arith
+  left_within h w (fed.OverFull rest) k (inl f) = let l = ap length f.1.1 ∙ length-append f.0 (0 ∷ rest.now) in omega arith
+  left_within h w (fed.OverFull rest) k (inr f) = let l = ap length f.2 in omega arith
+  left_within h w (fed.DeserError rest) k f = let l = ends_shorter h w f.0 rest.now f.1 in omega arith
+  left_within h w (fed.Success v rest) k f = let l = ends_shorter h w f.0 rest.now f.1 in omega arith
+
+  pub shorter : (c : State) (w : List ℕ) (r : FeedResult T) (k : State) → 0 < length w → IsFed n shape c w r k → length (left_of r) < length w
+  shorter (holding h) w r k some f = shorter_held h w r k some f
+  shorter skipping w r k some (inl f) = rw f.1 some
+  shorter skipping w r k some (inr f) = let l = ap length f.2.1 ∙ length-append f.0 (0 ∷ f.1) in let m = left_within [] f.1 r k f.3 in omega arith
+
+module _ {T R : Type 0} (n : ℕ) (shape : Shape T) (gave : R → List ℕ → R → Type 0) where
+  -- so many reads were made, and all that they gave was fed
+  pub record ReadSoFar (from now : R) (before after : State) (old new : List (Answer T)) (count size : ℕ) : Type 0 where
+    pub given : List ℕ
+    pub reader : gave from given now
+    pub answers : List (Answer T)
+    pub items : new ≡ old ++ answers
+    pub is : Answers n shape before given answers after
+    pub at_most : length given ≤ count * size
+    pub at_least : count ≤ length given
+
+  pub no_read : (from : R) (c : State) (old : List (Answer T)) (size : ℕ) → gave from [] from → NoZero (held_of c) → length (held_of c) ≤ n → ReadSoFar from from c c old old 0 size
+  no_read from c old size none zh room = record {
+    given = [];
+    reader = none;
+    answers = [];
+    items = sym (append-nil old);
+    is = nothing_fed n shape c zh room;
+    at_most = omega arith;
+    at_least = omega arith;
+  }
+
+  module _ (More : (q r s : R) (xs ys : List ℕ) → gave q xs r → gave r ys s → gave q (xs ++ ys) s)
+      (from now next : R) (c after later : State) (old new newer : List (Answer T)) (count size : ℕ) (p : ReadSoFar from now c after old new count size)
+      (piece : List ℕ) (left : ℕ) (f : IsFedAll n shape after piece new newer later left) (g : gave now piece next) where
+    -- the answers go on with what was fed of the piece
+    goes_on : Answers n shape c (p.given ++ take (length piece - left) piece) (p.answers ++ f.answers) later
+    goes_on = joined_law shape n c after later p.given (take (length piece - left) piece) p.answers f.answers p.is f.is
+
+    items_on : newer ≡ old ++ (p.answers ++ f.answers)
+    items_on = f.items ∙ ap (λ (x : List (Answer T)). x ++ f.answers) p.items ∙ append_assoc old p.answers f.answers
+
+    pub read_on : left ≡ 0 → 0 < length piece → length piece ≤ size → ReadSoFar from next c later old newer (count + 1) size
+    read_on none some fits =
+        let k : length piece - left ≡ length piece = omega arith in
+        let t : take (length piece - left) piece ≡ piece = take_all (length piece - left) piece (omega arith) in
+        let l = length-append p.given piece in
+        let m = p.at_most in let o = p.at_least in
+        let s : (count + 1) * size ≡ count * size + size = omega arith in
+        record {
+          given = p.given ++ piece;
+          reader = More from now next p.given piece p.reader g;
+          answers = p.answers ++ f.answers;
+          items = items_on;
+          is = rw t at goes_on;
+          at_most = omega arith;
+          at_least = omega arith;
+        }
+
+    pub read_stopped : (reads to at : ℕ) (chunk : List ℕ) → count < reads → 0 < left → to ≤ length chunk → piece ≡ take to chunk → at ≡ to - left → length chunk ≡ size →
+        IsReading n shape gave reads from next chunk c later old newer (OutOfMemory at to)
+    read_stopped reads to at chunk more some within e from_is len =
+        let l = length-append p.given piece in
+        let m = p.at_most in
+        let lp : length piece ≡ to = ap length e ∙ length-take-le to chunk within in
+        let low = f.within in
+        let s : (count + 1) * size ≡ count * size + size = omega arith in
+        let mono = mul-le-mul_right size more1 in
+        let un : drop (length piece - left) piece ≡ drop at (take to chunk) = ap (λ (x : List ℕ). drop (length piece - left) x) e ∙ ap (λ (k : ℕ). drop k (take to chunk)) (let y : length piece - left ≡ at = omega arith in y) in
+        record {
+          given = p.given ++ piece;
+          last = next;
+          reader = More from now next p.given piece p.reader g;
+          left_is = refl;
+          fed = p.given ++ take (length piece - left) piece;
+          all = ap (λ (x : List ℕ). p.given ++ x) (sym (take-append-drop (length piece - left) piece)) ∙ sym (append_assoc p.given (take (length piece - left) piece) (drop (length piece - left) piece))
+              ∙ ap (λ (x : List ℕ). (p.given ++ take (length piece - left) piece) ++ x) un;
+          answers = p.answers ++ f.answers;
+          items = items_on;
+          is = goes_on;
+          at_most = rw len (omega (arith, mono));
+          ends = (omega arith, within);
+        } where
+          more1 : count + 1 ≤ reads
+          more1 = omega arith
+
+  -- an end at which all that was read was fed
+  pub read_ended : (from now left : R) (c after : State) (old new : List (Answer T)) (count size reads : ℕ) (chunk : List ℕ) (e : ReadEnd) → ReadSoFar from now c after old new count size →
+      unfed chunk e ≡ [] → IsLeft now left e → count ≤ reads → length chunk ≡ size → ((k : ℕ) → count ≤ k → EndsWell reads k chunk e) →
+      IsReading n shape gave reads from left chunk c after old new e
+  read_ended from now left c after old new count size reads chunk e p none is more len well =
+      let mono = mul-le-mul_right size more in
+      let m = p.at_most in
+      record {
+        given = p.given;
+        last = now;
+        reader = p.reader;
+        left_is = is;
+        fed = p.given;
+        all = sym (append-nil p.given) ∙ ap (λ (x : List ℕ). p.given ++ x) (sym none);
+        answers = p.answers;
+        items = p.items;
+        is = p.is;
+        at_most = rw len (omega (arith, mono));
+        ends = well (length p.given) p.at_least;
+      }
+
+  -- a read that gave nothing changes nothing
+  pub read_nothing : ((q r s : R) (xs ys : List ℕ) → gave q xs r → gave r ys s → gave q (xs ++ ys) s) → (from now next : R) (c after : State) (old new : List (Answer T)) (count size : ℕ) →
+      ReadSoFar from now c after old new count size → gave now [] next → ReadSoFar from next c after old new count size
+  read_nothing More from now next c after old new count size p g = record {
+    given = p.given;
+    reader = subst (λ (x : List ℕ). gave from x next) (append-nil p.given) (More from now next p.given [] p.reader g);
+    answers = p.answers;
+    items = p.items;
+    is = p.is;
+    at_most = p.at_most;
+    at_least = p.at_least;
+  }

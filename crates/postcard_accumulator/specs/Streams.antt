@@ -1,0 +1,79 @@
+-- The answers of a whole stream: frames, each ended by a zero, and then a rest. No piece occurs.
+use Rattle.std.specs.Prelude.{◌≡◌, ℕ, ◌+◌, ◌<◌, ◌≤◌, ◌⊎◌, List, [], ◌∷◌, ◌++◌, length, flat_map}
+use Rattle.postcard_cobs.specs.Groups.{NoZero, EndsFrame}
+use Rattle.postcard_shape.specs.Shape.{Shape}
+use Rattle.postcard_accumulator.specs.State.{State, holding, skipping}
+use Rattle.postcard_accumulator.specs.Feeding.{IsValueOf, IsRefused}
+use Rattle.postcard_accumulator.specs.declared.answers.FeedResult.{FeedResult}
+use Rattle.postcard_accumulator.specs.declared.answers.FeedResult.TheVariants.{Consumed}
+use Rattle.postcard_accumulator.specs.declared.answers.FeedResult.TheVariants as fed
+use Rattle.postcard_accumulator.specs.declared.answers.Answer.{Answer}
+use Rattle.postcard_accumulator.specs.declared.answers.Answer.TheVariants.{OverFull, DeserError}
+use Rattle.postcard_accumulator.specs.declared.answers.Answer.TheVariants.{Success}
+
+-- The own answer of a frame: the value of its data, or that it has none.
+abbrev pub IsOwn : {T : Type 0} → Shape T → List ℕ → Answer T → Type 0
+IsOwn shape f (Success v) = IsValueOf shape f v
+IsOwn shape f DeserError = IsRefused shape f
+IsOwn shape f OverFull = ⊥
+
+-- The answer of a frame: its own if the frame and its zero have room, else that they haven't.
+pub record IsAnswerOf {T : Type 0} (n : ℕ) (shape : Shape T) (f : List ℕ) (answer : Answer T)
+    : Type 0 where
+  pub own : length f + 1 ≤ n → IsOwn shape f answer
+  pub over_full : n < length f + 1 → answer ≡ OverFull
+
+-- One answer of each frame, in order.
+abbrev pub AreAnswersOf : {T : Type 0} → ℕ → Shape T → List (List ℕ) → List (Answer T) → Type 0
+AreAnswersOf n shape [] [] = Unit {0}
+AreAnswersOf n shape [] (a ∷ more) = ⊥
+AreAnswersOf n shape (f ∷ fs) [] = ⊥
+AreAnswersOf n shape (f ∷ fs) (a ∷ more) = IsAnswerOf n shape f a × AreAnswersOf n shape fs more
+
+abbrev pub AreZeroFree : List (List ℕ) → Type 0
+AreZeroFree [] = Unit {0}
+AreZeroFree (f ∷ fs) = NoZero f × AreZeroFree fs
+
+-- A frame and the zero that ends it.
+abbrev pub ended : List ℕ → List ℕ
+ended f = f ++ 0 ∷ []
+
+-- The stream is frames, each ended by a zero, and then a rest.
+pub record IsSplit (stream : List ℕ) (frames : List (List ℕ)) (rest : List ℕ) : Type 0 where
+  pub is : stream ≡ flat_map ended frames ++ rest
+  pub frames_zero_free : AreZeroFree frames
+  pub rest_zero_free : NoZero rest
+
+-- The answers of a stream that begins with a frame: one of each frame, and one more where the rest
+-- has no room and is skipped.
+pub record IsAnswered {T : Type 0} (n : ℕ) (shape : Shape T) (stream : List ℕ)
+    (answers : List (Answer T)) (after : State) : Type 0 where
+  pub frames : List (List ℕ)
+  pub rest : List ℕ
+  pub split : IsSplit stream frames rest
+  pub parts : List (Answer T)
+  pub each : AreAnswersOf n shape frames parts
+  pub fits : length rest ≤ n → (answers ≡ parts) × (after ≡ holding rest)
+  pub over : n < length rest → (answers ≡ parts ++ OverFull ∷ []) × (after ≡ skipping)
+
+-- In a state, these bytes have these answers and lead to that state. What is held is the front of
+-- the stream. While a frame is being skipped, nothing is answered up to and with its zero.
+abbrev pub Answers : {T : Type 0} → ℕ → Shape T → State → List ℕ → List (Answer T) → State → Type 0
+Answers n shape (holding h) bytes answers after = IsAnswered n shape (h ++ bytes) answers after
+Answers n shape skipping bytes answers after =
+    (NoZero bytes × (answers ≡ []) × (after ≡ skipping))
+    ⊎ ((q more : List ℕ) × EndsFrame bytes q more × IsAnswered n shape more answers after)
+
+-- The answers that one feed returns.
+abbrev pub answers_of : {T : Type 0} → FeedResult T → List (Answer T)
+answers_of Consumed = []
+answers_of (fed.OverFull rest) = OverFull ∷ []
+answers_of (fed.DeserError rest) = DeserError ∷ []
+answers_of (fed.Success v rest) = Success v ∷ []
+
+-- What one feed leaves of its piece.
+abbrev pub left_of : {T : Type 0} → FeedResult T → List ℕ
+left_of Consumed = []
+left_of (fed.OverFull rest) = rest.now
+left_of (fed.DeserError rest) = rest.now
+left_of (fed.Success v rest) = rest.now

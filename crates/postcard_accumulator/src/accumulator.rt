@@ -1,0 +1,212 @@
+//! The accumulator: frames are put together from pieces of a stream, and their values decoded.
+
+ghost use Rattle.std.specs.Prelude.{◌≡◌, ◌+◌, ◌≤◌, List, ℕ, [], ◌++◌, length, take};
+ghost use Rattle.std.specs.Prelude.{false, IfOk, OnErr};
+ghost use Rattle.postcard_cobs.specs.Groups.{Groups, NoZero, before_zero};
+ghost use Rattle.postcard_accumulator.specs.State.{State, holding, held_of, is_skipping};
+ghost use Rattle.postcard_accumulator.specs.Feeding.{IsFed, IsTakenHolding, IsTaken};
+
+pub use crate::answers::FeedResult;
+pub use crate::taken::Taken;
+use crate::taken::{owned_value_of, value_of};
+use postcard_cobs::{decode_in_place, frame_len};
+use postcard_de::{Deserialize, DeserializeOwned};
+use postcard_wire::Result;
+use std::alloc::Global;
+use std::marker::Model;
+
+/// Puts COBS frames together from pieces of a stream, and decodes their values.
+///
+/// It holds at most `N` bytes: the front of a frame that hasn't ended yet. A frame has room if it
+/// has at most `N` bytes with its zero. One that has no room is skipped through its zero and
+/// answered once; while it is skipped, nothing is held.
+#[derive(Drop)]
+pub struct CobsAccumulator<const N: usize> {
+    buf: [u8; N],
+    idx: usize,
+    skipping: bool,
+}
+
+impl<const N: usize> Model for CobsAccumulator<N> {
+    ghost use Rattle.std.specs.Prelude.{◌≡◌, ◌≤◌, List, ℕ, take, IsTrue};
+    ghost use Rattle.postcard_cobs.specs.Groups.{NoZero};
+    ghost use Rattle.postcard_accumulator.specs.State.{State, state_of};
+
+    ghost Value = { State };
+
+    ghost view = { λ s. state_of s.skipping (take s.idx s.buf) };
+
+    ghost invariant = { λ s. (s.idx ≤ N) × NoZero (take s.idx s.buf)
+        × (IsTrue s.skipping → s.idx ≡ 0) };
+}
+
+impl<const N: usize> Default for CobsAccumulator<N> {
+    /// Returns an accumulator that holds nothing.
+    fn default() -> Self
+        ensures { result ≡ holding [] }
+    {
+        CobsAccumulator::new()
+    }
+}
+
+/// Decodes the frame at the front of the first `end` bytes of a buffer in place, and returns the
+/// length of its data.
+fn decode_front(buf: &mut [u8], end: usize) -> Result<usize>
+    requires { end ≤ length buf.old }
+    ensures ok { IfOk result (λ n. (n ≤ length buf.new)
+        × Groups (before_zero (take end buf.old)) (take n buf.new)) }
+    ensures err { OnErr result
+        ((d : List ℕ) → Groups (before_zero (take end buf.old)) d → ⊥) }
+{
+    decode_in_place(&mut buf[..end])
+}
+
+impl<const N: usize> CobsAccumulator<N> {
+    ghost use Rattle.std.specs.Prelude.{⊤};
+    ghost use Rattle.std.specs.Borrow.{sem, follows_so};
+    ghost use Rattle.postcard_accumulator.specs.contracts.accumulator.CobsAccumulator.{the_row};
+    ghost use mathlib.Core.Option.{none};
+
+    /// Returns an accumulator that holds nothing.
+    pub fn new() -> Self
+        ensures { result ≡ holding [] }
+    {
+        CobsAccumulator {
+            buf: [0; N],
+            idx: 0,
+            skipping: false,
+        }
+    }
+
+    /// Returns `true` if an oversized frame is being skipped: it was answered, and its zero hasn't
+    /// come yet.
+    pub fn skipping(&self) -> bool
+        ensures { result ≡ is_skipping self.now }
+    {
+        self.skipping
+    }
+
+    /// Tells contracts that what is held has room and no zero. Does nothing.
+    pub fn held_fits(&self)
+        ensures room { length (held_of self.now) ≤ N }
+        ensures no_zero { NoZero (held_of self.now) }
+    {
+        let _ = &self.idx;
+    }
+
+    /// Adds bytes to those held.
+    fn extend(&mut self, input: &[u8])
+        requires holds { is_skipping self.old ≡ false }
+        requires room { length (held_of self.old) + length input.now ≤ N }
+        requires no_zero { NoZero input.now }
+        ensures { self.new ≡ holding (held_of self.old ++ input.now) }
+    {
+        let end = self.idx + input.len();
+        let all = &mut self.buf[..];
+        all[self.idx..end].copy_from_slice(input);
+        self.idx = end;
+    }
+
+    /// Takes the held bytes as a frame, and lends its data. Nothing is held after it.
+    fn decode<'de>(&'de mut self) -> Result<&'de [u8]>
+        requires { is_skipping self.old ≡ false }
+        ensures ok { IfOk result (λ d. Groups (held_of self.old) d.now) }
+        ensures err { OnErr result ((d : List ℕ) → Groups (held_of self.old) d → ⊥) }
+        ensures* held { sem 𝓛 (follows_so (the_row N.row) (the_row N.row)
+            self.entry.ghost_name none (λ _ _. ⊤) (λ v. v ≡ holding [])) }
+    {
+        let end = self.idx;
+        self.idx = 0;
+        let all = &mut self.buf[..];
+        let n = decode_front(all, end)?;
+        let all = &self.buf[..];
+        Ok(&all[..n])
+    }
+
+    /// Takes in a piece up to the end of a frame, if no frame is being skipped.
+    fn take_held<'de, 'a>(&'de mut self, input: &'a [u8]) -> Taken<'de, 'a>
+        requires { is_skipping self.old ≡ false }
+        ensures answer { (after : State)
+            × IsTakenHolding N (held_of self.old) input.now result after }
+        ensures* after { sem 𝓛 (follows_so (the_row N.row) (the_row N.row)
+            self.entry.ghost_name none (λ _ _. ⊤)
+            (λ v. IsTakenHolding N (held_of self.old) input.now result v)) }
+    {
+        let n = frame_len(input);
+        if n == input.len() {
+            if n > N - self.idx {
+                self.idx = 0;
+                self.skipping = true;
+                return Taken::OverFull(&input[n..]);
+            }
+            self.extend(input);
+            return Taken::Consumed;
+        }
+        let rest = &input[n + 1..];
+        if n >= N - self.idx {
+            self.idx = 0;
+            return Taken::OverFull(rest);
+        }
+        self.extend(&input[..n]);
+        match self.decode() {
+            Ok(data) => Taken::Message(data, rest),
+            Err(_) => Taken::Refused(rest),
+        }
+    }
+
+    /// Takes in a piece up to the end of a frame, as [`feed`](CobsAccumulator::feed) does, but
+    /// reads no value.
+    ///
+    /// The data that it lends stands in the accumulator, which can be used again once the loan
+    /// ends.
+    pub fn take_in<'de, 'a>(&'de mut self, input: &'a [u8]) -> Taken<'de, 'a>
+        ensures answer { (after : State) × IsTaken N self.old input.now result after }
+        ensures* after { sem 𝓛 (follows_so (the_row N.row) (the_row N.row)
+            self.entry.ghost_name none (λ _ _. ⊤) (λ v. IsTaken N self.old input.now result v)) }
+    {
+        if !self.skipping {
+            return self.take_held(input);
+        }
+        let n = frame_len(input);
+        if n == input.len() {
+            return Taken::Consumed;
+        }
+        self.skipping = false;
+        self.take_held(&input[n + 1..])
+    }
+
+    /// Takes in a piece of a stream up to the end of a frame, and decodes that frame's value.
+    ///
+    /// But for `Consumed`, the result lends what follows in the piece; feed it next, until nothing
+    /// is left. Bytes after the value in a frame's data are ignored. The crate's page has the rule
+    /// as a table.
+    ///
+    /// After `DeserError` and `Success` nothing is held, and after `OverFull` too: then the frame
+    /// has ended, or it is skipped from now on.
+    pub fn feed<'a, T: DeserializeOwned>(
+        &mut self,
+        alloc: Global,
+        input: &'a [u8],
+    ) -> FeedResult<'a, T>
+        ensures { IsFed N T.shape self.old input.now result self.new }
+    {
+        let taken = self.take_in(input);
+        owned_value_of(alloc, taken)
+    }
+
+    /// Does the same as [`feed`](CobsAccumulator::feed), for a value that may borrow from the
+    /// accumulator.
+    pub fn feed_ref<'de, 'a, T: Deserialize<'de>>(
+        &'de mut self,
+        alloc: Global,
+        input: &'a [u8],
+    ) -> FeedResult<'a, T>
+        ensures answer { (after : State) × IsFed N T.shape self.old input.now result after }
+        ensures* after { sem 𝓛 (follows_so (the_row N.row) (the_row N.row)
+            self.entry.ghost_name none (λ _ _. ⊤)
+            (λ v. IsFed N T.shape self.old input.now result v)) }
+    {
+        let taken = self.take_in(input);
+        value_of(alloc, taken)
+    }
+}

@@ -1,0 +1,60 @@
+//! What holds of every stream. The functions do nothing: their contracts are the laws, whose
+//! statements stand in `specs/Laws.antt` and `specs/Messages.antt`.
+
+ghost use Rattle.postcard_accumulator.specs.Laws.{AnswersAreOne, CutAtZero, DamageStays};
+ghost use Rattle.postcard_accumulator.specs.Laws.{FeedsAnswer, FramesAreOne, Joined};
+ghost use Rattle.postcard_accumulator.specs.Laws.{NothingAfterZero, Split};
+ghost use Rattle.postcard_accumulator.specs.Messages.{MessagesArrive};
+
+use postcard_de::DeserializeOwned;
+
+/// A feed returns the answers of what it takes of its piece.
+pub fn feeds_answer<T: DeserializeOwned>()
+    ensures { FeedsAnswer T.shape }
+{}
+
+/// The answers of calls in a row, joined, are answers of the joined stream.
+pub fn joined<T: DeserializeOwned>()
+    ensures { Joined T.shape }
+{}
+
+/// If `u` and `x` are each empty or end in a zero, the answers of `u`, `x` and `v` in a row are
+/// those of `u`, of `x` and of `v`.
+pub fn split<T: DeserializeOwned>()
+    ensures { Split T.shape }
+{}
+
+/// Damage inside whole frames that leaves their last zero changes no answer of the frames before
+/// and after them, for a type that doesn't grow.
+pub fn damage_stays<T: DeserializeOwned>()
+    ensures { DamageStays T.shape }
+{}
+
+/// For a type that doesn't grow, the answers of a stream look alike however it is cut, and so does
+/// what is carried after it.
+pub fn answers_are_one<T: DeserializeOwned>()
+    ensures { AnswersAreOne T.shape }
+{}
+
+/// After a zero the answers go on as those of a new accumulator, whatever was held or skipped
+/// before.
+pub fn cut_at_zero<T: DeserializeOwned>()
+    ensures { CutAtZero T.shape }
+{}
+
+/// After bytes that end in a zero nothing is held, and nothing is being skipped.
+pub fn nothing_after_zero<T: DeserializeOwned>()
+    ensures { NothingAfterZero T.shape }
+{}
+
+/// Every stream is frames, each ended by a zero, and a rest without a zero, in one way.
+pub fn frames_are_one()
+    ensures { FramesAreOne }
+{}
+
+/// Values that were encoded as frames that have room come back in order, whatever oversized frames
+/// stand between them: each is answered `Success` with a value that looks like it, or `DeserError`
+/// if its type grows.
+pub fn messages_arrive<T: DeserializeOwned>()
+    ensures { MessagesArrive T.shape }
+{}
