@@ -1,4 +1,5 @@
 pub mod Buffers
 pub mod Done
+pub mod Frames
 pub mod Front
 pub mod Finished

@@ -1,9 +1,11 @@
-//! Encoding into frames: the canonical encoding of a value, framed by COBS.
+//! Encoding into frames: the canonical encoding of a value, framed by COBS. The clause `decodes` of
+//! each call says that what it wrote is one frame, which decodes to that encoding, and then a zero.
 
-ghost use Rattle.std.specs.Prelude.{◌≡◌, [], ◌-◌, ◌≤◌, ◌↔◌, ◌++◌, length, IfOk, IfErr, IsOk, OnOk};
+ghost use Rattle.std.specs.Prelude.{◌≡◌, [], ◌-◌, ◌≤◌, ◌↔◌, ◌++◌, length, drop, IfOk, IfErr, IsOk, OnOk};
 ghost use Rattle.postcard_cobs.specs.Groups.{made};
 ghost use Rattle.postcard_wire.specs.Spelling.{bytes};
 ghost use Rattle.postcard_ser.specs.Writing.{AnswersRefusal};
+ghost use Rattle.postcard.specs.Frames.{DecodesTo};
 
 use crate::with_flavor::serialize_with_flavor;
 use arrayvec::ArrayVec;
@@ -35,8 +37,11 @@ fn framed<T: Serialize, B: Storage + Drop>(value: &T, storage: B) -> Result<<B a
 ///
 /// Fails with `SerializeBufferFull` exactly where the frame is longer than `B` bytes, unless the value
 /// refuses itself.
+#[tactic(auto, using(crate::proofs::Framed::made_decodes_to))]
 pub fn to_vec_cobs<T: Serialize, const B: usize>(value: &T) -> Result<ArrayVec<u8, B>>
     ensures gives { IfOk result (λ vec. vec.items ≡ made (bytes (T.shape.tree value.now))) }
+    ensures decodes { IfOk result
+        (λ vec. DecodesTo vec.items (bytes (T.shape.tree value.now))) }
     ensures exactly { ¬ T.shape.refuses value.now → B ≤ usize.MAX - 2
         → (IsOk result ↔ (length (made (bytes (T.shape.tree value.now))) ≤ B)) }
     ensures answers { ¬ T.shape.refuses value.now
@@ -53,8 +58,11 @@ pub fn to_vec_cobs<T: Serialize, const B: usize>(value: &T) -> Result<ArrayVec<u
 ///
 /// Fails with `SerializeBufferFull` exactly where the frame is longer than the buffer, unless the value
 /// refuses itself.
+#[tactic(auto, using(crate::proofs::Framed::made_decodes_to))]
 pub fn to_slice_cobs<'a, T: Serialize>(value: &T, buf: &'a mut [u8]) -> Result<&'a mut [u8]>
     ensures gives { IfOk result (λ front. front.now ≡ made (bytes (T.shape.tree value.now))) }
+    ensures decodes { IfOk result
+        (λ front. DecodesTo front.now (bytes (T.shape.tree value.now))) }
     ensures exactly { ¬ T.shape.refuses value.now
         → (IsOk result ↔ (length (made (bytes (T.shape.tree value.now))) ≤ length buf.old)) }
     ensures answers { ¬ T.shape.refuses value.now
@@ -71,8 +79,11 @@ pub fn to_slice_cobs<'a, T: Serialize>(value: &T, buf: &'a mut [u8]) -> Result<&
 /// # Errors
 ///
 /// Fails with `SerializeBufferFull` only if an allocation fails, unless the value refuses itself.
+#[tactic(auto, using(crate::proofs::Framed::made_decodes_to))]
 pub fn to_allocvec_cobs<T: Serialize>(alloc: Global, value: &T) -> Result<Vec<u8>>
     ensures gives { IfOk result (λ vec. vec.items ≡ made (bytes (T.shape.tree value.now))) }
+    ensures decodes { IfOk result
+        (λ vec. DecodesTo vec.items (bytes (T.shape.tree value.now))) }
     ensures answers { ¬ T.shape.refuses value.now
         → IfErr result (AnswersRefusal T.shape.text) }
     ensures fits { OnOk result (T.shape.fits value.now) }
@@ -83,6 +94,8 @@ pub fn to_allocvec_cobs<T: Serialize>(alloc: Global, value: &T) -> Result<Vec<u8
 /// The same as [`to_allocvec_cobs`], under the name that users of `std` know.
 pub fn to_stdvec_cobs<T: Serialize>(alloc: Global, value: &T) -> Result<Vec<u8>>
     ensures gives { IfOk result (λ vec. vec.items ≡ made (bytes (T.shape.tree value.now))) }
+    ensures decodes { IfOk result
+        (λ vec. DecodesTo vec.items (bytes (T.shape.tree value.now))) }
     ensures answers { ¬ T.shape.refuses value.now
         → IfErr result (AnswersRefusal T.shape.text) }
     ensures fits { OnOk result (T.shape.fits value.now) }
@@ -97,9 +110,12 @@ pub fn to_stdvec_cobs<T: Serialize>(alloc: Global, value: &T) -> Result<Vec<u8>>
 ///
 /// Fails with `SerializeBufferFull` only if an allocation fails, unless the value refuses itself. The
 /// vector is then dropped.
+#[tactic(auto, using(crate::proofs::Framed::behind_decodes_to))]
 pub fn to_allocvec_cobs_after<T: Serialize>(value: &T, vec: Vec<u8>) -> Result<Vec<u8>>
     ensures gives { IfOk result
         (λ output. output.items ≡ vec.items ++ made (bytes (T.shape.tree value.now))) }
+    ensures decodes { IfOk result (λ output. DecodesTo (drop (length vec.items) output.items)
+        (bytes (T.shape.tree value.now))) }
     ensures answers { ¬ T.shape.refuses value.now
         → IfErr result (AnswersRefusal T.shape.text) }
     ensures fits { OnOk result (T.shape.fits value.now) }

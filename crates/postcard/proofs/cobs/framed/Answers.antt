@@ -1,5 +1,5 @@
 -- A frame that fits behind what a storage holds is made there.
-use Rattle.std.proofs.Common.{◌≡◌, ℕ, ◌+◌, ◌-◌, ◌≤◌, [], ◌∷◌, ◌++◌, length, refl, sym, subst, ap, ◌∙◌, arith}
+use Rattle.std.proofs.Common.{◌≡◌, ◌+◌, ◌-◌, [], length, subst, arith}
 use Rattle.std.proofs.lemmas.Result.{err_from_is_err_and, IfOk-weaker}
 use Rattle.postcard_cobs.specs.Groups.{made}
 use Rattle.postcard_ser_cobs.specs.FramingLaws.{made_least}
