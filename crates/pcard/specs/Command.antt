@@ -3,7 +3,7 @@ use Rattle.std.specs.Prelude.{◌≢◌, ℕ, List, [], ◌∷◌, codes}
 use Rattle.pcard.specs.declared.command.ValueType.{ValueType}
 use Rattle.pcard.specs.declared.command.ValueType.TheVariants.{U8, U16, U32, U64, U128, I8, I16, I32, I64, I128, Bool, Char, Str, ListU8, ListU32}
 use Rattle.pcard.specs.declared.command.Command.{Command}
-use Rattle.pcard.specs.declared.command.Command.TheVariants.{Encode, Decode}
+use Rattle.pcard.specs.declared.command.Command.TheVariants.{Encode, Decode, Frames}
 
 -- The word that names a type.
 abbrev pub name_of : ValueType → List ℕ
@@ -27,6 +27,7 @@ name_of ListU32 = codes "list-u32"
 abbrev pub words_of : Command → List (List ℕ)
 words_of (Encode kind value) = codes "enc" ∷ name_of kind ∷ value.now ∷ []
 words_of (Decode kind hex) = codes "dec" ∷ name_of kind ∷ hex.now ∷ []
+words_of Frames = codes "frames" ∷ []
 
 -- The words ask for no command.
 abbrev pub IsNoCall : List (List ℕ) → Type 0

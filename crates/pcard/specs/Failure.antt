@@ -3,7 +3,8 @@ use Rattle.std.specs.Prelude.{◌≡◌, ◌⊎◌, ℕ, Option, List, [], ◌�
 use Rattle.std.specs.Io.KnownBytes.{Appends}
 use Rattle.postcard_wire.specs.Error.{error_text}
 use Rattle.pcard.specs.declared.failure.Failure.{Failure}
-use Rattle.pcard.specs.declared.failure.Failure.TheVariants.{Usage, BadValue, BadHex, Library, Output}
+use Rattle.pcard.specs.declared.failure.Failure.TheVariants.{Usage, BadValue, BadHex, Library, Output, Limit, ReadFailed}
+use Rattle.pcard.specs.declared.failure.Failure.TheVariants as failed
 
 -- The text of a failure, in ASCII.
 abbrev pub failure_text : Failure → List ℕ
@@ -12,6 +13,9 @@ failure_text BadValue = codes "bad value"
 failure_text BadHex = codes "bad hex"
 failure_text (Library e) = error_text e
 failure_text Output = codes "the output could not be written"
+failure_text Limit = codes "limit"
+failure_text ReadFailed = codes "read failed"
+failure_text failed.OutOfMemory = codes "out of memory"
 
 -- The exit status of a failure.
 abbrev pub failure_status : Failure → ℕ
@@ -20,6 +24,9 @@ failure_status BadValue = 2
 failure_status BadHex = 2
 failure_status (Library e) = 1
 failure_status Output = 3
+failure_status Limit = 3
+failure_status ReadFailed = 3
+failure_status failed.OutOfMemory = 3
 
 -- The exit status of a call whose output can be written.
 abbrev pub exit_status : Result Unit Failure → ℕ

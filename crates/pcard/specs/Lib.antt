@@ -1,3 +1,4 @@
 pub mod Command
 pub mod Failure
+pub mod Frames
 pub mod Value

@@ -58,6 +58,8 @@ pub enum Command<'a> {
     Encode { kind: ValueType, value: &'a str },
     /// `dec TYPE HEX`.
     Decode { kind: ValueType, hex: &'a str },
+    /// `frames`.
+    Frames,
 }
 
 impl<'a> Command<'a> {
@@ -66,6 +68,12 @@ impl<'a> Command<'a> {
         ensures found { IfSome result (λ command. map string_bytes words.now ≡ words_of command) }
         ensures none { IfNone result (IsNoCall (map string_bytes words.now)) }
     {
+        if let [command] = words {
+            return match command.as_str() {
+                "frames" => Some(Command::Frames),
+                _ => None,
+            };
+        }
         let [command, kind, text] = words else {
             return None;
         };

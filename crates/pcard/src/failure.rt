@@ -21,6 +21,12 @@ pub enum Failure {
     Library(postcard::Error),
     /// The output could not be written.
     Output,
+    /// `frames` made all its reads.
+    Limit,
+    /// `frames` could not read on.
+    ReadFailed,
+    /// Memory for an answer of `frames` was refused.
+    OutOfMemory,
 }
 
 impl Failure {
@@ -31,7 +37,7 @@ impl Failure {
         match self {
             Failure::Library(_) => 1,
             Failure::Usage | Failure::BadValue | Failure::BadHex => 2,
-            Failure::Output => 3,
+            Failure::Output | Failure::Limit | Failure::ReadFailed | Failure::OutOfMemory => 3,
         }
     }
 }
@@ -46,6 +52,9 @@ impl fmt::Display for Failure {
             Failure::BadHex => f.write_str("bad hex"),
             Failure::Library(error) => error.fmt(f),
             Failure::Output => f.write_str("the output could not be written"),
+            Failure::Limit => f.write_str("limit"),
+            Failure::ReadFailed => f.write_str("read failed"),
+            Failure::OutOfMemory => f.write_str("out of memory"),
         }
     }
 }

@@ -1,13 +1,15 @@
-//! The program `pcard`: encodes a value in the Postcard format, or decodes bytes to a value. `program` does all the work.
+//! The program `pcard`: encodes a value in the Postcard format, or decodes bytes to a value or a stream of frames. `program` does all the work.
 #![tactic(auto)]
 
 use failure::Failure;
+use postcard::de_flavors::Plain;
 use std::alloc::AllocError;
 use std::process::ExitCode;
 use std::{env, io};
 
 mod command;
 mod failure;
+mod frames;
 mod hexadecimal;
 mod joined;
 mod program;
@@ -28,9 +30,10 @@ fn words(rt: &HostRuntime) -> Result<Vec<String>, Failure> {
 }
 
 fn main(rt: HostRuntime) -> ExitCode {
+    let mut input = Plain::new(rt.stdin());
     let mut output = rt.stdout();
     let status = match words(&rt) {
-        Ok(words) => program::run(rt.alloc(), words.as_slice(), &mut output),
+        Ok(words) => program::run(rt.alloc(), words.as_slice(), &mut input, &mut output),
         Err(failure) => program::report(Err(failure), &mut output),
     };
     ExitCode::from(status)

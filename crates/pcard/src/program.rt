@@ -10,7 +10,8 @@ ghost use Rattle.pcard.specs.Failure.{AnswersFailure, exit_status, last_line};
 use crate::command::{Command, ValueType};
 use crate::failure::Failure;
 use crate::joined::Joined;
-use crate::{hexadecimal, value};
+use crate::{frames, hexadecimal, value};
+use postcard::de_flavors::Source;
 use postcard::{Deserialize, Serialize};
 use std::alloc::Global;
 use std::fmt::Display;
@@ -30,12 +31,18 @@ enum Task<'a> {
 }
 
 /// Does what the words ask for (program name off), and answers the exit status: 0 done; 1 the library refused, or memory
-/// ran out; 2 the words are wrong; 3 the output could not be written, whatever else would have been answered.
-pub fn run<W: Write>(alloc: Global, words: &[String], output: &mut W) -> u8
+/// ran out; 2 the words are wrong; 3 `frames` did not come to the end of its input, or the output could not be written,
+/// whatever else would have been answered. `frames` alone reads the input.
+pub fn run<R: Source, W: Write>(
+    alloc: Global,
+    words: &[String],
+    input: &mut R,
+    output: &mut W,
+) -> u8
     ensures status { result ≤ 3 }
     ensures usage { IsNoCall (map string_bytes words.now) → AnswersFailure Failure.Usage (W.contents output.old) (W.contents output.new) result }
 {
-    let outcome = perform(alloc, words, output);
+    let outcome = perform(alloc, words, input, output);
     report(outcome, output)
 }
 
@@ -55,7 +62,12 @@ pub fn report<W: Write>(outcome: Result<(), Failure>, output: &mut W) -> u8
 }
 
 /// Reads the words, and prints what they ask for.
-fn perform<W: Write>(alloc: Global, words: &[String], output: &mut W) -> Result<(), Failure>
+fn perform<R: Source, W: Write>(
+    alloc: Global,
+    words: &[String],
+    input: &mut R,
+    output: &mut W,
+) -> Result<(), Failure>
     ensures usage { IsErrOf result Failure.Usage ↔ IsNoCall (map string_bytes words.now) }
     ensures untouched { result ≡ Err Failure.Usage → output.new ≡ output.old }
 {
@@ -65,6 +77,7 @@ fn perform<W: Write>(alloc: Global, words: &[String], output: &mut W) -> Result<
             let bytes = hexadecimal::read(alloc, hex)?;
             convert(alloc, kind, Task::Decode(bytes.as_slice()), output)
         }
+        Some(Command::Frames) => frames::print(alloc, input, output),
         None => Err(Failure::Usage),
     }
 }

@@ -1,9 +1,12 @@
 //! Whole calls: what they print, and their exit status.
 
+ghost use Rattle.std.specs.Prelude.{None};
+
 use crate::program::run;
+use postcard::de_flavors::Plain;
 use std::alloc::{AllocError, Global};
 use std::io;
-use std::io::{ErrorKind, Write};
+use std::io::{ErrorKind, Read, Write};
 use std::process::Abort;
 use std::test::Fail;
 
@@ -24,7 +27,8 @@ fn check(
     status: u8,
 ) -> Result<(), Fail> {
     let mut output = Vec::new(rt.alloc());
-    let answer = run(rt.alloc(), words, &mut output);
+    let mut input: &[u8] = &[];
+    let answer = run(rt.alloc(), words, &mut input, &mut output);
     assert_eq!(rt; output.as_slice(), printed.as_bytes(), "{words:?}");
     assert_eq!(rt; answer, status, "{words:?}");
     Ok(())
@@ -78,7 +82,8 @@ fn answers_calls(rt: HostRuntime) -> Result<(), Fail> {
 fn refuses_calls(rt: HostRuntime) -> Result<(), Fail> {
     let cases = [
         ("enc", USAGE),
-        ("frames", USAGE),
+        ("frames|u8", USAGE),
+        ("Frames", USAGE),
         ("enc|u8", USAGE),
         ("enc|u8|1|2", USAGE),
         ("enc|u7|one", USAGE),
@@ -279,7 +284,7 @@ fn answers_failed_output(rt: HostRuntime) -> Result<(), Fail> {
         ("dec|str|034869", 42, 1),
         ("enc|u8|256", 10, 2),
         ("dec|u8|7", 8, 2),
-        ("frames", 50, 2),
+        ("frames", 12, 0),
     ];
     for (text, length, status) in cases {
         let words = words(rt.alloc(), text)?;
@@ -290,7 +295,8 @@ fn answers_failed_output(rt: HostRuntime) -> Result<(), Fail> {
                     flushes,
                     finished: false,
                 };
-                let answer = run(rt.alloc(), words.as_slice(), &mut output);
+                let mut input: &[u8] = &[0x03, 0x01, 0x07, 0x00, 0x00];
+                let answer = run(rt.alloc(), words.as_slice(), &mut input, &mut output);
                 let wanted = if writes == length && flushes {
                     status
                 } else {
@@ -301,5 +307,89 @@ fn answers_failed_output(rt: HostRuntime) -> Result<(), Fail> {
             }
         }
     }
+    Ok(())
+}
+
+/// Gives its bytes, and fails once so many reads were made.
+#[derive(Drop)]
+struct Breaking<'a> {
+    bytes: &'a [u8],
+    reads_left: usize,
+}
+
+impl Read for Breaking<'_> {
+    ghost remaining = { λ _. None };
+
+    fn read(&mut self, buf: &mut [u8]) -> io::Result<usize> {
+        if self.reads_left == 0 {
+            return Err(io::Error::from(ErrorKind::BrokenPipe));
+        }
+        self.reads_left -= 1;
+        self.bytes.read(buf)
+    }
+}
+
+/// Runs `frames` over the bytes, of which so many reads succeed, and compares what is printed and
+/// the status with what is wanted.
+fn check_frames(
+    rt: &(impl Abort + AllocGlobal),
+    bytes: &[u8],
+    reads: usize,
+    printed: &str,
+    status: u8,
+) -> Result<(), Fail> {
+    let words = words(rt.alloc(), "frames")?;
+    let mut input = Plain::new(Breaking {
+        bytes,
+        reads_left: reads,
+    });
+    let mut output = Vec::new(rt.alloc());
+    let answer = run(rt.alloc(), words.as_slice(), &mut input, &mut output);
+    assert_eq!(rt; output.as_slice(), printed.as_bytes());
+    assert_eq!(rt; answer, status);
+    Ok(())
+}
+
+#[test]
+fn reads_frames(rt: HostRuntime) -> Result<(), Fail> {
+    let mut ones = [1; 129];
+    check_frames(&rt, &ones, 100, "overfull\n", 0)?;
+    ones[70..75].copy_from_slice(&[0, 3, 1, 7, 0]);
+    check_frames(&rt, &ones[..75], 100, "overfull\nok 07\n", 0)?;
+    let three = [3, 4, 1, 3, 0x20, 0x30, 0, 1, 1, 0, 0];
+    let cases = [
+        (three.as_slice(), 100, "ok 01002030\nok \nerror\n", 0),
+        ([].as_slice(), 100, "", 0),
+        ([0].as_slice(), 100, "error\n", 0),
+        (
+            [3, 2, 7, 0, 3, 1, 9, 0].as_slice(),
+            100,
+            "error\nok 09\n",
+            0,
+        ),
+        ([3, 1, 7].as_slice(), 100, "", 0),
+        (
+            three.as_slice(),
+            1,
+            "ok 01002030\nok \nerror\nread failed\n",
+            3,
+        ),
+        (three.as_slice(), 0, "read failed\n", 3),
+    ];
+    for (bytes, reads, printed, status) in cases {
+        check_frames(&rt, bytes, reads, printed, status)?;
+    }
+    Ok(())
+}
+
+#[test]
+fn stops_after_so_many_reads(rt: HostRuntime) -> Result<(), Fail> {
+    let mut long = Vec::new(rt.alloc());
+    for _ in 0..65_535u32 {
+        long.extend_from_slice(&[1; 16])?;
+    }
+    check_frames(&rt, long.as_slice(), 100_000, "overfull\n", 0)?;
+    long.push(1)?;
+    check_frames(&rt, long.as_slice(), 100_000, "overfull\nlimit\n", 3)?;
     Ok(())
 }

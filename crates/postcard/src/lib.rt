@@ -11,9 +11,12 @@
 //!   frame (module `cobs`).
 //! - `from_bytes` and `take_from_bytes` read a value from the front of a slice, `from_bytes_cobs` and
 //!   `take_from_bytes_cobs` from a frame in place (all of `postcard_frame`); `from_io` reads it from a reader (module `de`).
+//! - `CobsAccumulator` puts frames together from the pieces of a stream (module `accumulator`), and `read_frames` reads
+//!   all frames of a reader (both of `postcard_accumulator`).
 //! - What ties both directions together stands in `laws`.
 #![tactic(auto)]
 
+pub mod accumulator;
 mod cobs;
 mod de;
 pub mod experimental;
@@ -28,6 +31,7 @@ pub use cobs::{
     to_allocvec_cobs, to_allocvec_cobs_after, to_slice_cobs, to_stdvec_cobs, to_vec_cobs,
 };
 pub use de::from_io;
+pub use postcard_accumulator::{Answer, ReadEnd, read_frames};
 pub use postcard_de::{
     Case, Deserialize, DeserializeOwned, Deserializer, FromRepr, MapAccess, NoCase, Owned, Repr,
     SeqAccess, Shaped,

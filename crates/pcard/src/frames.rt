@@ -1,0 +1,77 @@
+//! The command `frames`: what a stream of frames says, a line for each.
+
+ghost use Rattle.std.specs.Prelude.{◌≢◌, IfErr, OnOk};
+ghost use Rattle.std.specs.Io.KnownBytes.{Appends};
+ghost use Rattle.pcard.specs.Frames.{answer_line};
+
+use crate::failure::Failure;
+use crate::hexadecimal;
+use postcard::accumulator::CobsAccumulator;
+use postcard::de_flavors::Source;
+use postcard::{Answer, ReadEnd, read_frames};
+use std::alloc::Global;
+use std::io::Write;
+
+/// The most bytes of a frame, with its zero.
+const LONGEST_FRAME: usize = 64;
+
+/// The most bytes that one read gives.
+const CHUNK: usize = 16;
+
+/// The most reads.
+const READS: usize = 65_536;
+
+/// Reads frames of lists of bytes until the input ends, and prints a line for each: `ok` and the
+/// bytes as hexadecimal, `error` for a frame with no such list, or `overfull` for a frame that is
+/// too long.
+///
+/// # Errors
+///
+/// `Limit`, `ReadFailed` and `OutOfMemory` if reading ended before the input did; what was read
+/// until then is printed. `Output` if the output could not be written.
+pub fn print<R: Source, W: Write>(
+    alloc: Global,
+    input: &mut R,
+    output: &mut W,
+) -> Result<(), Failure>
+    ensures { IfErr result (λ e. e ≢ Failure.Usage) }
+{
+    let mut accumulator = CobsAccumulator::<LONGEST_FRAME>::new();
+    let mut chunk = [0; CHUNK];
+    let mut answers = Vec::new(alloc);
+    let end = read_frames(
+        alloc,
+        input,
+        &mut chunk,
+        READS,
+        &mut accumulator,
+        &mut answers,
+    );
+    for answer in answers.iter() {
+        print_answer(answer, output)?;
+    }
+    match end {
+        ReadEnd::End => Ok(()),
+        ReadEnd::Limit => Err(Failure::Limit),
+        ReadEnd::ReadFailed => Err(Failure::ReadFailed),
+        ReadEnd::OutOfMemory { .. } => Err(Failure::OutOfMemory),
+    }
+}
+
+/// Prints an answer on a line.
+fn print_answer<W: Write>(answer: &Answer<Vec<u8>>, output: &mut W) -> Result<(), Failure>
+    ensures printed { OnOk result (Appends (W.contents output.old) (W.contents output.new)
+        (answer_line answer.now)) }
+    ensures refused { IfErr result (λ e. e ≢ Failure.Usage) }
+{
+    match answer {
+        Answer::OverFull => output.write_all(b"overfull\n")?,
+        Answer::DeserError => output.write_all(b"error\n")?,
+        Answer::Success(bytes) => {
+            output.write_all(b"ok ")?;
+            hexadecimal::write(bytes, output)?;
+            output.write_all(b"\n")?;
+        }
+    }
+    Ok(())
+}
