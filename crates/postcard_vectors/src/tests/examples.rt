@@ -54,7 +54,7 @@ fn records(rt: HostRuntime) -> Result<()> {
 
 #[test]
 fn framing(rt: HostRuntime) -> Result<()> {
-    use postcard::{to_allocvec_cobs_after, to_slice_cobs};
+    use postcard::{from_bytes_cobs, take_from_bytes_cobs, to_allocvec_cobs_after, to_slice_cobs};
 
     let mut buffer = [0; 16];
     let frame = to_slice_cobs(&[0x01u8, 0x00, 0x20, 0x30].as_slice(), &mut buffer)?;
@@ -62,7 +62,11 @@ fn framing(rt: HostRuntime) -> Result<()> {
         &*frame,
         [0x03, 0x04, 0x01, 0x03, 0x20, 0x30, 0x00].as_slice()
     );
-    let two = to_allocvec_cobs_after(&5u8, frame.to_vec(rt.alloc())?)?; // behind what the vector has
+    let mut two = to_allocvec_cobs_after(&5u8, frame.to_vec(rt.alloc())?)?; // behind what the vector has
     assert_eq!(rt; two.get(7..), Some([0x02, 0x05, 0x00].as_slice()));
+
+    let (list, rest) = take_from_bytes_cobs::<&[u8]>(rt.alloc(), &mut two)?;
+    let five: u8 = from_bytes_cobs(rt.alloc(), rest)?;
+    assert_eq!(rt; (list, five), ([0x01, 0x00, 0x20, 0x30].as_slice(), 5));
     Ok(())
 }

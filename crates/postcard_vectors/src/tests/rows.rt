@@ -10,6 +10,7 @@ mod devices;
 mod ends;
 mod flavors;
 mod frames;
+mod frames_read;
 mod interruptions;
 mod memory;
 mod readers;
