@@ -2,12 +2,15 @@
 use Rattle.std.proofs.Common.{◌≡◌, ℕ, ◌+◌, ◌-◌, ◌*◌, ◌<◌, ◌≤◌, inl, inr, List, [], ◌∷◌, ◌++◌, length, refl, sym, ap, subst, ◌∙◌, append_assoc, arith, length-append, take, drop}
 use Rattle.std.proofs.lemmas.List.{append-nil, take_all, length-take-le, take-append-drop, take_at}
 use Rattle.std.proofs.Math.Nat.{mul-le-mul_right}
+use Rattle.std.specs.Prelude.{Option}
+use Rattle.std.specs.Io.KnownBytes.{Consumes, Keeps}
+use Rattle.std.proofs.KnownBytes.{Consumes-nil, Consumes-trans, Consumes-kept}
 use Rattle.postcard_cobs.specs.Groups.{NoZero}
 use Rattle.postcard_shape.specs.Shape.{Shape}
 use Rattle.postcard_accumulator.specs.State.{State, holding, skipping, held_of}
 use Rattle.postcard_accumulator.specs.Feeding.{IsFed, IsFedHolding, EndsFitting}
 use Rattle.postcard_accumulator.specs.Streams.{Answers, answers_of, left_of}
-use Rattle.postcard_accumulator.specs.Reading.{IsFedAll, IsReading, unfed, IsLeft, EndsWell}
+use Rattle.postcard_accumulator.specs.Reading.{IsFedAll, IsReading, unfed, EndsWell}
 use Rattle.postcard_accumulator.specs.declared.answers.FeedResult.{FeedResult}
 use Rattle.postcard_accumulator.specs.declared.answers.FeedResult.TheVariants.{Consumed}
 use Rattle.postcard_accumulator.specs.declared.answers.FeedResult.TheVariants as fed
@@ -86,31 +89,29 @@ module _ {T : Type 0} (n : ℕ) (shape : Shape T) where
   shorter skipping w r k some (inl f) = rw f.1 some
   shorter skipping w r k some (inr f) = let l = ap length f.2.1 ∙ length-append f.0 (0 ∷ f.1) in let m = left_within [] f.1 r k f.3 in omega arith
 
-module _ {T R : Type 0} (n : ℕ) (shape : Shape T) (gave : R → List ℕ → R → Type 0) where
   -- so many reads were made, and all that they gave was fed
-  pub record ReadSoFar (from now : R) (before after : State) (old new : List (Answer T)) (count size : ℕ) : Type 0 where
+  pub record ReadSoFar (from now : Option (List ℕ)) (before after : State) (old new : List (Answer T)) (count size : ℕ) : Type 0 where
     pub given : List ℕ
-    pub reader : gave from given now
+    pub reader : Consumes from now given
     pub answers : List (Answer T)
     pub items : new ≡ old ++ answers
     pub is : Answers n shape before given answers after
     pub at_most : length given ≤ count * size
     pub at_least : count ≤ length given
 
-  pub no_read : (from : R) (c : State) (old : List (Answer T)) (size : ℕ) → gave from [] from → NoZero (held_of c) → length (held_of c) ≤ n → ReadSoFar from from c c old old 0 size
-  no_read from c old size none zh room = record {
+  pub no_read : (from : Option (List ℕ)) (c : State) (old : List (Answer T)) (size : ℕ) → NoZero (held_of c) → length (held_of c) ≤ n → ReadSoFar from from c c old old 0 size
+  no_read from c old size zh room = record {
     given = [];
-    reader = none;
+    reader = Consumes-nil from;
     answers = [];
     items = sym (append-nil old);
-    is = nothing_fed n shape c zh room;
+    is = nothing_fed c zh room;
     at_most = omega arith;
     at_least = omega arith;
   }
 
-  module _ (More : (q r s : R) (xs ys : List ℕ) → gave q xs r → gave r ys s → gave q (xs ++ ys) s)
-      (from now next : R) (c after later : State) (old new newer : List (Answer T)) (count size : ℕ) (p : ReadSoFar from now c after old new count size)
-      (piece : List ℕ) (left : ℕ) (f : IsFedAll n shape after piece new newer later left) (g : gave now piece next) where
+  module _ (from now next : Option (List ℕ)) (c after later : State) (old new newer : List (Answer T)) (count size : ℕ) (p : ReadSoFar from now c after old new count size)
+      (piece : List ℕ) (left : ℕ) (f : IsFedAll n shape after piece new newer later left) (g : Consumes now next piece) where
     -- the answers go on with what was fed of the piece
     goes_on : Answers n shape c (p.given ++ take (length piece - left) piece) (p.answers ++ f.answers) later
     goes_on = joined_law shape n c after later p.given (take (length piece - left) piece) p.answers f.answers p.is f.is
@@ -118,6 +119,7 @@ module _ {T R : Type 0} (n : ℕ) (shape : Shape T) (gave : R → List ℕ → R
     items_on : newer ≡ old ++ (p.answers ++ f.answers)
     items_on = f.items ∙ ap (λ (x : List (Answer T)). x ++ f.answers) p.items ∙ append_assoc old p.answers f.answers
 
+    -- a read whose bytes were all fed
     pub read_on : left ≡ 0 → 0 < length piece → length piece ≤ size → ReadSoFar from next c later old newer (count + 1) size
     read_on none some fits =
         let k : length piece - left ≡ length piece = omega arith in
@@ -127,7 +129,7 @@ module _ {T R : Type 0} (n : ℕ) (shape : Shape T) (gave : R → List ℕ → R
         let s : (count + 1) * size ≡ count * size + size = omega arith in
         record {
           given = p.given ++ piece;
-          reader = More from now next p.given piece p.reader g;
+          reader = Consumes-trans from now next p.given piece p.reader g;
           answers = p.answers ++ f.answers;
           items = items_on;
           is = rw t at goes_on;
@@ -135,8 +137,9 @@ module _ {T R : Type 0} (n : ℕ) (shape : Shape T) (gave : R → List ℕ → R
           at_least = omega arith;
         }
 
+    -- a read of whose bytes the last were not fed
     pub read_stopped : (reads to at : ℕ) (chunk : List ℕ) → count < reads → 0 < left → to ≤ length chunk → piece ≡ take to chunk → at ≡ to - left → length chunk ≡ size →
-        IsReading n shape gave reads from next chunk c later old newer (OutOfMemory at to)
+        IsReading n shape reads from next chunk c later old newer (OutOfMemory at to)
     read_stopped reads to at chunk more some within e from_is len =
         let l = length-append p.given piece in
         let m = p.at_most in
@@ -147,9 +150,7 @@ module _ {T R : Type 0} (n : ℕ) (shape : Shape T) (gave : R → List ℕ → R
         let un : drop (length piece - left) piece ≡ drop at (take to chunk) = ap (λ (x : List ℕ). drop (length piece - left) x) e ∙ ap (λ (k : ℕ). drop k (take to chunk)) (let y : length piece - left ≡ at = omega arith in y) in
         record {
           given = p.given ++ piece;
-          last = next;
-          reader = More from now next p.given piece p.reader g;
-          left_is = refl;
+          reader = Consumes-trans from now next p.given piece p.reader g;
           fed = p.given ++ take (length piece - left) piece;
           all = ap (λ (x : List ℕ). p.given ++ x) (sym (take-append-drop (length piece - left) piece)) ∙ sym (append_assoc p.given (take (length piece - left) piece) (drop (length piece - left) piece))
               ∙ ap (λ (x : List ℕ). (p.given ++ take (length piece - left) piece) ++ x) un;
@@ -163,17 +164,15 @@ module _ {T R : Type 0} (n : ℕ) (shape : Shape T) (gave : R → List ℕ → R
           more1 = omega arith
 
   -- an end at which all that was read was fed
-  pub read_ended : (from now left : R) (c after : State) (old new : List (Answer T)) (count size reads : ℕ) (chunk : List ℕ) (e : ReadEnd) → ReadSoFar from now c after old new count size →
-      unfed chunk e ≡ [] → IsLeft now left e → count ≤ reads → length chunk ≡ size → ((k : ℕ) → count ≤ k → EndsWell reads k chunk e) →
-      IsReading n shape gave reads from left chunk c after old new e
-  read_ended from now left c after old new count size reads chunk e p none is more len well =
+  pub read_ended : (from now : Option (List ℕ)) (c after : State) (old new : List (Answer T)) (count size reads : ℕ) (chunk : List ℕ) (e : ReadEnd) → ReadSoFar from now c after old new count size →
+      unfed chunk e ≡ [] → count ≤ reads → length chunk ≡ size → ((k : ℕ) → count ≤ k → EndsWell reads k chunk e) →
+      IsReading n shape reads from now chunk c after old new e
+  read_ended from now c after old new count size reads chunk e p none more len well =
       let mono = mul-le-mul_right size more in
       let m = p.at_most in
       record {
         given = p.given;
-        last = now;
         reader = p.reader;
-        left_is = is;
         fed = p.given;
         all = sym (append-nil p.given) ∙ ap (λ (x : List ℕ). p.given ++ x) (sym none);
         answers = p.answers;
@@ -183,12 +182,24 @@ module _ {T R : Type 0} (n : ℕ) (shape : Shape T) (gave : R → List ℕ → R
         ends = well (length p.given) p.at_least;
       }
 
-  -- a read that gave nothing changes nothing
-  pub read_nothing : ((q r s : R) (xs ys : List ℕ) → gave q xs r → gave r ys s → gave q (xs ++ ys) s) → (from now next : R) (c after : State) (old new : List (Answer T)) (count size : ℕ) →
-      ReadSoFar from now c after old new count size → gave now [] next → ReadSoFar from next c after old new count size
-  read_nothing More from now next c after old new count size p g = record {
+  -- a read that gave nothing changes nothing, nor does one that failed
+  pub read_nothing : (from now next : Option (List ℕ)) (c after : State) (old new : List (Answer T)) (count size : ℕ) →
+      ReadSoFar from now c after old new count size → Consumes now next [] → ReadSoFar from next c after old new count size
+  read_nothing from now next c after old new count size p g = record {
     given = p.given;
-    reader = subst (λ (x : List ℕ). gave from x next) (append-nil p.given) (More from now next p.given [] p.reader g);
+    reader = subst (λ (x : List ℕ). Consumes from next x) (append-nil p.given) (Consumes-trans from now next p.given [] p.reader g);
+    answers = p.answers;
+    items = p.items;
+    is = p.is;
+    at_most = p.at_most;
+    at_least = p.at_least;
+  }
+
+  pub read_failed : (from now next : Option (List ℕ)) (c after : State) (old new : List (Answer T)) (count size : ℕ) →
+      ReadSoFar from now c after old new count size → Keeps now next → ReadSoFar from next c after old new count size
+  read_failed from now next c after old new count size p k = record {
+    given = p.given;
+    reader = Consumes-kept from now next p.given p.reader k;
     answers = p.answers;
     items = p.items;
     is = p.is;

@@ -10,11 +10,6 @@ use Rattle.postcard_accumulator.specs.declared.reading.ReadEnd.{ReadEnd}
 use Rattle.postcard_accumulator.specs.declared.reading.ReadEnd.TheVariants.{End, Limit}
 use Rattle.postcard_accumulator.specs.declared.reading.ReadEnd.TheVariants.{ReadFailed, OutOfMemory}
 
--- From the first state of a reader, reads gave these bytes and left the second, if the reader tells
--- its bytes.
-abbrev pub Gave : {R : Type 0} → (R → Option (List ℕ)) → R → List ℕ → R → Type 0
-Gave remaining old xs new = Consumes (remaining old) (remaining new) xs
-
 -- A piece was fed but for so many bytes at its end.
 pub record IsFedAll {T : Type 0} (n : ℕ) (shape : Shape T) (before : State) (piece : List ℕ)
     (old new : List (Answer T)) (after : State) (left : ℕ) : Type 0 where
@@ -37,28 +32,13 @@ EndsWell reads given chunk Limit = reads ≤ given
 EndsWell reads given chunk ReadFailed = Unit {0}
 EndsWell reads given chunk (OutOfMemory from to) = (from < to) × (to ≤ length chunk)
 
--- The state after the last read is the one that the reader is left in, unless a read failed.
-abbrev pub IsLeft : {R : Type 0} → R → R → ReadEnd → Type 0
-IsLeft last left End = last ≡ left
-IsLeft last left Limit = last ≡ left
-IsLeft {R} last left ReadFailed = Unit {0}
-IsLeft last left (OutOfMemory from to) = last ≡ left
-
--- A steady reader never fails, and is at its end at `End`.
-abbrev pub SteadyEnd : Type 0 → Type 0 → ReadEnd → Type 0
-SteadyEnd steady at_end End = steady → at_end
-SteadyEnd steady at_end Limit = Unit {0}
-SteadyEnd steady at_end ReadFailed = steady → ⊥
-SteadyEnd steady at_end (OutOfMemory from to) = Unit {0}
-
--- The answers that were added are those of all that the reads gave, but for what was not fed.
-pub record IsReading {T R : Type 0} (n : ℕ) (shape : Shape T) (gave : R → List ℕ → R → Type 0)
-    (reads : ℕ) (from left : R) (chunk : List ℕ) (before after : State)
+-- The reads gave these bytes, if the reader tells its bytes, and the answers that were added are
+-- those of all of them but for what was not fed.
+pub record IsReading {T : Type 0} (n : ℕ) (shape : Shape T) (reads : ℕ)
+    (told left : Option (List ℕ)) (chunk : List ℕ) (before after : State)
     (old new : List (Answer T)) (end : ReadEnd) : Type 0 where
   pub given : List ℕ
-  pub last : R
-  pub reader : gave from given last
-  pub left_is : IsLeft last left end
+  pub reader : Consumes told left given
   pub fed : List ℕ
   pub all : given ≡ fed ++ unfed chunk end
   pub answers : List (Answer T)

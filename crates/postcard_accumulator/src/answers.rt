@@ -23,7 +23,7 @@ pub enum FeedResult<'a, T> {
 }
 
 /// The answer to one frame of a stream.
-#[derive(Drop)]
+#[derive(Debug, PartialEq, Eq, Drop)]
 pub enum Answer<T> {
     /// The frame has no room in the accumulator.
     OverFull,

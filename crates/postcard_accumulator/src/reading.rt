@@ -1,8 +1,9 @@
 //! The reading loop: all frames of a reader, by an accumulator.
 
-ghost use Rattle.std.specs.Prelude.{◌≡◌, ◌<◌, ◌++◌, ◌∷◌, [], length, vec_len, vec_capacity};
+ghost use Rattle.std.specs.Prelude.{◌≡◌, ◌≢◌, ◌<◌, ◌++◌, ◌∷◌, [], length};
+ghost use Rattle.std.specs.Prelude.{vec_len, vec_capacity};
 ghost use Rattle.std.specs.Io.KnownBytes.{IsAtEnd};
-ghost use Rattle.postcard_accumulator.specs.Reading.{Gave, IsFedAll, IsReading, SteadyEnd};
+ghost use Rattle.postcard_accumulator.specs.Reading.{IsFedAll, IsReading};
 
 use crate::accumulator::CobsAccumulator;
 use crate::answers::{Answer, FeedResult};
@@ -82,10 +83,11 @@ fn feed_all<T: DeserializeOwned, const N: usize>(
 ///
 /// The answers are those of the stream, however the reader cuts it: of what was held before, and of
 /// all bytes that the reads gave, but for `chunk[from..to]` at `OutOfMemory`, which is to be fed
-/// next. Of a reader that doesn't tell its bytes to contracts nothing more is said.
+/// next. Nothing else that was read is lost.
 ///
-/// A steady reader is at its end at `End`, and never gives `ReadFailed`. At `Limit` at least
-/// `reads` bytes were read, and never more than `reads * chunk.len()`.
+/// The reader is at its end at `End`. A steady reader never gives `ReadFailed`. At `Limit` at least
+/// `reads` bytes were read, and never more than `reads * chunk.len()`. What is said of the bytes
+/// that were read holds of a reader that tells them to contracts.
 pub fn read_frames<R: Source, T: DeserializeOwned, const N: usize>(
     alloc: Global,
     reader: &mut R,
@@ -95,9 +97,10 @@ pub fn read_frames<R: Source, T: DeserializeOwned, const N: usize>(
     out: &mut Vec<Answer<T>>,
 ) -> ReadEnd
     requires { 0 < length chunk.old }
-    ensures stream { IsReading N T.shape (Gave R.remaining) reads reader.old reader.new chunk.new
-        acc.old acc.new out.old.items out.new.items result }
-    ensures steady { SteadyEnd (R.steady reader.old) (IsAtEnd (R.remaining reader.new)) result }
+    ensures stream { IsReading N T.shape reads (R.remaining reader.old) (R.remaining reader.new)
+        chunk.new acc.old acc.new out.old.items out.new.items result }
+    ensures at_end { result ≡ ReadEnd.End → IsAtEnd (R.remaining reader.new) }
+    ensures steady_never_fails { R.steady reader.old → result ≢ ReadEnd.ReadFailed }
     ensures stays_steady { R.steady reader.old → R.steady reader.new }
 {
     acc.held_fits();
