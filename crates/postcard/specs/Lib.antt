@@ -3,3 +3,4 @@ pub mod Done
 pub mod Frames
 pub mod Front
 pub mod Finished
+pub mod Lemmas

@@ -37,7 +37,7 @@ fn framed<T: Serialize, B: Storage + Drop>(value: &T, storage: B) -> Result<<B a
 ///
 /// Fails with `SerializeBufferFull` exactly where the frame is longer than `B` bytes, unless the value
 /// refuses itself.
-#[tactic(auto, using(crate::proofs::Framed::made_decodes_to))]
+#[tactic(auto, using(crate::specs::Lemmas::frame_decodes))]
 pub fn to_vec_cobs<T: Serialize, const B: usize>(value: &T) -> Result<ArrayVec<u8, B>>
     ensures gives { IfOk result (λ vec. vec.items ≡ made (bytes (T.shape.tree value.now))) }
     ensures decodes { IfOk result
@@ -58,7 +58,7 @@ pub fn to_vec_cobs<T: Serialize, const B: usize>(value: &T) -> Result<ArrayVec<u
 ///
 /// Fails with `SerializeBufferFull` exactly where the frame is longer than the buffer, unless the value
 /// refuses itself.
-#[tactic(auto, using(crate::proofs::Framed::made_decodes_to))]
+#[tactic(auto, using(crate::specs::Lemmas::frame_decodes))]
 pub fn to_slice_cobs<'a, T: Serialize>(value: &T, buf: &'a mut [u8]) -> Result<&'a mut [u8]>
     ensures gives { IfOk result (λ front. front.now ≡ made (bytes (T.shape.tree value.now))) }
     ensures decodes { IfOk result
@@ -79,7 +79,7 @@ pub fn to_slice_cobs<'a, T: Serialize>(value: &T, buf: &'a mut [u8]) -> Result<&
 /// # Errors
 ///
 /// Fails with `SerializeBufferFull` only if an allocation fails, unless the value refuses itself.
-#[tactic(auto, using(crate::proofs::Framed::made_decodes_to))]
+#[tactic(auto, using(crate::specs::Lemmas::frame_decodes))]
 pub fn to_allocvec_cobs<T: Serialize>(alloc: Global, value: &T) -> Result<Vec<u8>>
     ensures gives { IfOk result (λ vec. vec.items ≡ made (bytes (T.shape.tree value.now))) }
     ensures decodes { IfOk result
@@ -110,7 +110,7 @@ pub fn to_stdvec_cobs<T: Serialize>(alloc: Global, value: &T) -> Result<Vec<u8>>
 ///
 /// Fails with `SerializeBufferFull` only if an allocation fails, unless the value refuses itself. The
 /// vector is then dropped.
-#[tactic(auto, using(crate::proofs::Framed::behind_decodes_to))]
+#[tactic(auto, using(crate::specs::Lemmas::frame_behind_decodes))]
 pub fn to_allocvec_cobs_after<T: Serialize>(value: &T, vec: Vec<u8>) -> Result<Vec<u8>>
     ensures gives { IfOk result
         (λ output. output.items ≡ vec.items ++ made (bytes (T.shape.tree value.now))) }

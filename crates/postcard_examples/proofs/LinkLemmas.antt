@@ -5,7 +5,7 @@ use Rattle.postcard_wire.specs.Number.{digits}
 use Rattle.postcard_wire.specs.Spelling.{bytes}
 use Rattle.postcard_ser_flavors.specs.declared.flavor.Flavor.{Ghosts}
 use Rattle.postcard_ser.specs.Writing.{Wrote}
-use Rattle.postcard_ser.proofs.PartByPart.{wrote_as}
+use Rattle.postcard.specs.Lemmas.{wrote_as}
 use Rattle.postcard_examples.specs.declared.chain.Chain.{Chain}
 use Rattle.postcard_shape.specs.declared.cases.Case.TheVariants.{This, Next}
 use Rattle.postcard_examples.specs.Links.{chain_shape, chain_cases}

@@ -2,7 +2,7 @@
 use Rattle.std.specs.Prelude.{ℕ, zero, suc, ⊤}
 use Rattle.std.proofs.Common.{refl, inl}
 use Rattle.postcard_wire.specs.Tree.{Absent}
-use Rattle.postcard_wire.proofs.Delimited.{none_delimited}
+use Rattle.postcard.specs.Lemmas.{none_delimited}
 use Rattle.postcard_shape.specs.Shape.{Shape, via}
 use Rattle.postcard_shape.specs.Leaves.{num}
 use Rattle.postcard_shape.specs.Rows.{none, then, group}

@@ -49,7 +49,7 @@ pub fn station_comes_back(alloc: Global, station: &Station) -> Result<Station>
 
 /// Writes a `u32` into a buffer of five bytes, which is always enough, and returns the number of
 /// bytes written.
-#[tactic(auto, using(postcard_wire::proofs::Writing::few_32))]
+#[tactic(auto, using(postcard::specs::Lemmas::u32_len))]
 pub fn u32_fits_five_bytes(number: u32, buffer: &mut [u8; 5]) -> Result<usize>
     ensures { IsOk result }
 {

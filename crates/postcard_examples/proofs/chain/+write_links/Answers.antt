@@ -1,7 +1,7 @@
 -- Each exit wrote the index, the number and the rest as far as it came.
 use Rattle.std.proofs.Common.{arith, ◌-◌, ap}
 use Rattle.postcard_examples.specs.Links.{chain_cases}
-use Rattle.postcard_ser.proofs.PartByPart.{wrote_then, wrote_stop, wrote_err, wrote_last}
+use Rattle.postcard.specs.Lemmas.{wrote_then, wrote_stop, wrote_err, wrote_last}
 use Rattle.postcard_examples.proofs.LinkLemmas.{link_wrote}
 use Rattle.postcard_examples.proofs.chain.+write_links.Goals as goal
 
