@@ -24,7 +24,8 @@ pub trait DeserializeCase<'de>: Cased + Sized + Drop {
         alloc: Global,
         d: &mut Deserializer<'de, F>,
     ) -> Result<Self>
-        ensures { Reads F.Flavor Spells (Self.cases.reads index) (Self.cases.value index) Self.cases.grows (source_of d.old) result (source_of d.new) };
+        ensures { Reads F.Flavor Spells (Self.cases.reads index) (Self.cases.value index)
+            Self.cases.grows (source_of d.old) result (source_of d.new) };
 }
 
 impl<'de> DeserializeCase<'de> for NoCase {
@@ -76,7 +77,8 @@ pub trait DeserializeCaseOwned: Cased + Sized + Drop {
         alloc: Global,
         d: &mut Deserializer<'de, F>,
     ) -> Result<Self>
-        ensures { Reads F.Flavor Spells (Self.cases.reads index) (Self.cases.value index) Self.cases.grows (source_of d.old) result (source_of d.new) };
+        ensures { Reads F.Flavor Spells (Self.cases.reads index) (Self.cases.value index)
+            Self.cases.grows (source_of d.old) result (source_of d.new) };
 }
 
 impl DeserializeCaseOwned for NoCase {
