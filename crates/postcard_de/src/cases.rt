@@ -83,11 +83,11 @@ pub trait DeserializeCaseOwned: Cased + Sized + Drop {
 
 impl DeserializeCaseOwned for NoCase {
     fn deserialize_case_owned<'de, F: Flavor>(
-        _index: u32,
-        _alloc: Global,
-        _d: &mut Deserializer<'de, F>,
+        index: u32,
+        alloc: Global,
+        d: &mut Deserializer<'de, F>,
     ) -> Result<Self> {
-        Err(Error::SerdeDeCustom)
+        NoCase::deserialize_case(index, alloc, d)
     }
 }
 

@@ -44,11 +44,11 @@ impl<'de, F: Flavor> Deserializer<'de, F> {
         ensures refused { IfErr result (λ e. Refuses F.Flavor WantsChar BadChar
             (source_of self.old) e (source_of self.new)) }
     {
-        let count = self.count()?;
-        if count > LONGEST_CHAR {
+        let length = self.count()?;
+        if length > LONGEST_CHAR {
             return Err(Error::DeserializeBadChar);
         }
-        let bytes = self.flavor.try_take_n_temp(count)?;
+        let bytes = self.flavor.try_take_n_temp(length)?;
         match text::first_char(bytes) {
             Ok(c) => Ok(c),
             Err(_) => Err(Error::DeserializeBadChar),
