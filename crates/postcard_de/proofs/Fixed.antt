@@ -1,5 +1,6 @@
 -- Texts of a fixed capacity, of texts that were read; and want of memory for bytes that were taken.
-use Rattle.std.proofs.Common.{◌≡◌, ℕ, ◌<◌, ◌≤◌, ◌^◌, inr, List, ◌++◌, length, Option, Ok, refl, sym, ◌∙◌, ap, subst}
+use Rattle.std.proofs.Common.{◌≡◌, ℕ, ◌<◌, ◌≤◌, ◌^◌, inr, List, ◌++◌, length, Option, Ok, refl, sym}
+use Rattle.std.proofs.Common.{◌∙◌, ap, subst}
 use Rattle.std.specs.Prelude.{IsUtf8}
 use Rattle.postcard_wire.specs.declared.error.Error.TheVariants.{OutOfMemory}
 use Rattle.postcard_wire.specs.Number.{SpellsNum}
@@ -16,18 +17,33 @@ use Rattle.postcard_de.proofs.Taking.{both_taken}
 use Rattle.postcard_de.proofs.Numbers.{Below, number_spelled}
 
 -- A text that there is room for is one that is read.
-pub short_fits : (n : ℕ) (u w : List ℕ) → length u ≤ n → IsUtf8 u → length u < 2 ^ 64 → w ≡ u → (x : Tree) → IsText x → x ≡ Text u → IsShortText n x × (x ≡ Text w)
+pub short_fits : (n : ℕ) (u w : List ℕ) → length u ≤ n → IsUtf8 u → length u < 2 ^ 64 → w ≡ u →
+    (x : Tree) → IsText x → x ≡ Text u → IsShortText n x × (x ≡ Text w)
 short_fits n u w few utf8 low e x r is = ((u, is, few, utf8, low), is ∙ ap Text (sym e))
 
 -- A longer one is none.
-pub long_unfit : (n : ℕ) (u : List ℕ) → (length u ≤ n → ⊥) → (x : Tree) → IsShortText n x → x ≡ Text u → ⊥
-long_unfit n u many x r is = many (subst (λ (v : List ℕ). length v ≤ n) (text_same r.0 u (sym r.1 ∙ is)) r.2)
+pub long_unfit : (n : ℕ) (u : List ℕ) → (length u ≤ n → ⊥) → (x : Tree) → IsShortText n x →
+    x ≡ Text u → ⊥
+long_unfit n u many x r is =
+    many (subst (λ (v : List ℕ). length v ≤ n) (text_same r.0 u (sym r.1 ∙ is)) r.2)
 
-module _ {S : Type 0} {left : S → Option (List ℕ)} {able : S → ℕ → Type 0} {may_leave : S → S → Type 0} (laws : Laws left able may_leave) {n : ℕ} {old mid : S} (counted : ReadsFrom (SpellsNum 64) (Below 64) Same ⊥ left able may_leave old (Ok n) mid) where
+module _ {S : Type 0} {left : S → Option (List ℕ)} {able : S → ℕ → Type 0}
+    {may_leave : S → S → Type 0} (laws : Laws left able may_leave) {n : ℕ} {old mid : S}
+    (counted : ReadsFrom (SpellsNum 64) (Below 64) Same ⊥ left able may_leave old (Ok n) mid) where
   -- Bytes were taken, and there is no memory for a copy.
-  pub bytes_full : {u : List ℕ} {new : S} → length u ≡ n → Takes left able mid u new → RefusesFrom WantsText BadBytes left able old OutOfMemory new
+  pub bytes_full : {u : List ℕ} {new : S} → length u ≡ n → Takes left able mid u new →
+      RefusesFrom WantsText BadBytes left able old OutOfMemory new
   bytes_full {u = u} long t = inr (record {
     front = counted.gives.front ++ u;
     taken = both_taken counted.gives.taken t;
-    why = inr (refl, (counted.gives.front, u, subst (λ (m : ℕ). SpellsNum 64 m counted.gives.front) (sym long) (number_spelled laws counted), refl));
+    why = inr (
+      refl,
+      (
+        counted.gives.front,
+        u,
+        subst (λ (m : ℕ). SpellsNum 64 m counted.gives.front)
+            (sym long) (number_spelled laws counted),
+        refl,
+      ),
+    );
   })

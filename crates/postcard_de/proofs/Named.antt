@@ -1,7 +1,8 @@
 -- The errors that a reading call may answer.
 use Rattle.std.proofs.Common.{◌≡◌, ◌≢◌, subst}
 use Rattle.postcard_wire.specs.declared.error.Error.{Error}
-use Rattle.postcard_wire.specs.declared.error.Error.TheVariants.{OutOfMemory, DeserializeBadEncoding}
+use Rattle.postcard_wire.specs.declared.error.Error.TheVariants.{OutOfMemory}
+use Rattle.postcard_wire.specs.declared.error.Error.TheVariants.{DeserializeBadEncoding}
 use Rattle.postcard_de.specs.Reads.{MayAnswer}
 
 -- What may be answered where less grows may be answered where more does.
