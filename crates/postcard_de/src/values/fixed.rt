@@ -2,19 +2,16 @@
 
 use crate::deserialize::Deserialize;
 use crate::deserializer::Deserializer;
-use crate::owned::{DeserializeOwned, Owned};
+use crate::element::{Kept, Lent};
+use crate::owned::DeserializeOwned;
 use arrayvec::{ArrayString, ArrayVec};
 use postcard_de_flavors::Flavor;
-use postcard_wire::{Error, Result};
+use postcard_wire::Result;
 use std::alloc::Global;
 
 impl<'de, T: Deserialize<'de> + Copy + Default, const N: usize> Deserialize<'de> for [T; N] {
     fn deserialize<F: Flavor>(alloc: Global, d: &mut Deserializer<'de, F>) -> Result<Self> {
-        let mut items = [T::default(); N];
-        for i in 0..N {
-            items[i] = T::deserialize(alloc, d)?;
-        }
-        Ok(items)
+        d.array::<T, Lent, N>(alloc)
     }
 }
 
@@ -23,11 +20,7 @@ impl<T: DeserializeOwned + Copy + Default, const N: usize> DeserializeOwned for 
         alloc: Global,
         d: &mut Deserializer<'de, F>,
     ) -> Result<Self> {
-        let mut items = [T::default(); N];
-        for i in 0..N {
-            items[i] = T::deserialize_owned(alloc, d)?;
-        }
-        Ok(items)
+        d.array::<T, Kept, N>(alloc)
     }
 }
 
@@ -35,14 +28,7 @@ impl<T: DeserializeOwned + Copy + Default, const N: usize> DeserializeOwned for 
 /// has been read.
 impl<'de, T: Deserialize<'de> + Default, const CAP: usize> Deserialize<'de> for ArrayVec<T, CAP> {
     fn deserialize<F: Flavor>(alloc: Global, d: &mut Deserializer<'de, F>) -> Result<Self> {
-        let mut access = d.deserialize_seq()?;
-        let mut items = ArrayVec::new();
-        while let Some(item) = access.next_element(alloc, d)? {
-            if items.try_push(item).is_err() {
-                return Err(Error::SerdeDeCustom);
-            }
-        }
-        Ok(items)
+        d.few::<T, Lent, CAP>(alloc)
     }
 }
 
@@ -51,14 +37,7 @@ impl<T: DeserializeOwned + Default, const CAP: usize> DeserializeOwned for Array
         alloc: Global,
         d: &mut Deserializer<'de, F>,
     ) -> Result<Self> {
-        let mut access = d.deserialize_seq()?;
-        let mut items = ArrayVec::new();
-        while let Some(item) = access.next_element::<Owned<T>, F>(alloc, d)? {
-            if items.try_push(item.0).is_err() {
-                return Err(Error::SerdeDeCustom);
-            }
-        }
-        Ok(items)
+        d.few::<T, Kept, CAP>(alloc)
     }
 }
 

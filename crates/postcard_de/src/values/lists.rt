@@ -2,9 +2,10 @@
 
 use crate::deserialize::Deserialize;
 use crate::deserializer::Deserializer;
-use crate::owned::{DeserializeOwned, Owned};
+use crate::element::{Kept, Lent};
+use crate::owned::DeserializeOwned;
 use postcard_de_flavors::Flavor;
-use postcard_wire::{Error, Result};
+use postcard_wire::Result;
 use std::alloc::Global;
 
 impl<'de> Deserialize<'de> for &'de [u8] {
@@ -15,14 +16,7 @@ impl<'de> Deserialize<'de> for &'de [u8] {
 
 impl<'de, T: Deserialize<'de>> Deserialize<'de> for Vec<T> {
     fn deserialize<F: Flavor>(alloc: Global, d: &mut Deserializer<'de, F>) -> Result<Self> {
-        let mut access = d.deserialize_seq()?;
-        let mut items = Vec::new(alloc);
-        while let Some(item) = access.next_element(alloc, d)? {
-            if items.push(item).is_err() {
-                return Err(Error::OutOfMemory);
-            }
-        }
-        Ok(items)
+        d.list::<T, Lent>(alloc)
     }
 }
 
@@ -31,13 +25,6 @@ impl<T: DeserializeOwned> DeserializeOwned for Vec<T> {
         alloc: Global,
         d: &mut Deserializer<'de, F>,
     ) -> Result<Self> {
-        let mut access = d.deserialize_seq()?;
-        let mut items = Vec::new(alloc);
-        while let Some(item) = access.next_element::<Owned<T>, F>(alloc, d)? {
-            if items.push(item.0).is_err() {
-                return Err(Error::OutOfMemory);
-            }
-        }
-        Ok(items)
+        d.list::<T, Kept>(alloc)
     }
 }
