@@ -1,14 +1,14 @@
 -- Texts of a fixed capacity, of texts that were read; and want of memory for bytes that were taken.
 use Rattle.std.proofs.Common.{◌≡◌, ℕ, ◌<◌, ◌≤◌, ◌^◌, inr, List, ◌++◌, length, Option, Ok, refl, sym, ◌∙◌, ap, subst}
 use Rattle.std.specs.Prelude.{IsUtf8}
-use Rattle.postcard_wire.specs.declared.error.Error.TheVariants.{OutOfMemory}
+use Rattle.postcard_wire.specs.declared.error.Error.TheVariants.{OutOfMemory, SerdeDeCustom}
 use Rattle.postcard_wire.specs.Number.{SpellsNum}
 use Rattle.postcard_wire.specs.Tree.{Tree, Text}
 use Rattle.postcard_wire.specs.Reading.{IsText}
 use Rattle.postcard_de_flavors.specs.Source.{Takes, Laws}
 use Rattle.postcard_de.specs.Reads.{Reads}
 use Rattle.postcard_de.specs.Refuses.{Refuses, WantsText}
-use Rattle.postcard_de.specs.Unfit.{BadBytes}
+use Rattle.postcard_de.specs.Unfit.{BadBytes, BadShortText}
 use Rattle.postcard_shape.specs.Fixed.{IsShortText}
 use Rattle.postcard_shape.specs.One.{text_same}
 use Rattle.postcard_shape.specs.Values.{Same}
@@ -30,4 +30,12 @@ module _ {S : Type 0} {left : S → Option (List ℕ)} {able : S → ℕ → Typ
     front = counted.gives.front ++ u;
     taken = both_taken counted.gives.taken t;
     why = inr (refl, (counted.gives.front, u, subst (λ (m : ℕ). SpellsNum 64 m counted.gives.front) (sym long) (number_spelled laws counted), refl));
+  })
+
+  -- A text was taken that there is no room for.
+  pub text_long : {m : ℕ} {u : List ℕ} {new : S} → length u ≡ n → Takes left able mid u new → IsUtf8 u → m < length u → Refuses WantsText (BadShortText m) left able old SerdeDeCustom new
+  text_long {u = u} long t utf8 many = inr (record {
+    front = counted.gives.front ++ u;
+    taken = both_taken counted.gives.taken t;
+    why = inr (refl, (counted.gives.front, u, subst (λ (k : ℕ). SpellsNum 64 k counted.gives.front) (sym long) (number_spelled laws counted), refl, utf8, many));
   })

@@ -1,13 +1,13 @@
 -- Why a single node is refused, for the nodes that aren't numbers or texts (behaviour of postcard 1.1.3).
-use Rattle.std.specs.Prelude.{◌≡◌, ℕ, ◌<◌, ◌≤◌, ◌⊎◌, List, [], ◌∷◌, ◌++◌, length, Option, Err}
+use Rattle.std.specs.Prelude.{◌≡◌, ℕ, ◌<◌, ◌≤◌, ◌⊎◌, List, [], ◌∷◌, ◌++◌, length, Option, Err, IsUtf8}
 use Rattle.postcard_wire.specs.declared.error.Error.{Error}
-use Rattle.postcard_wire.specs.declared.error.Error.TheVariants.{OutOfMemory, DeserializeBadBool, DeserializeBadOption, DeserializeBadChar}
+use Rattle.postcard_wire.specs.declared.error.Error.TheVariants.{OutOfMemory, SerdeDeCustom, DeserializeBadBool, DeserializeBadOption, DeserializeBadChar}
 use Rattle.postcard_wire.specs.Number.{SpellsNum}
 use Rattle.postcard_wire.specs.Tree.{Tree}
 use Rattle.postcard_wire.specs.Spelling.{Spells, BeginsWithChar}
 use Rattle.postcard_de_flavors.specs.Source.{Takes}
 use Rattle.postcard_de.specs.Reads.{Reads}
-use Rattle.postcard_de.specs.Refuses.{WantsDigit, BadNumber}
+use Rattle.postcard_de.specs.Refuses.{WantsDigit, BadNumber, BadText}
 
 -- A byte was taken that is neither 0 nor 1.
 abbrev pub NotABit : List ℕ → Type 0
@@ -44,3 +44,11 @@ BadBytes p e = BadNumber 64 p e ⊎ ((e ≡ OutOfMemory) × ((q : List ℕ) × (
 -- The byte 1 was taken, and what stands behind it is refused as the content.
 abbrev pub ContentRefuses : {S V : Type 0} → (Tree → Type 0) → (Tree → V → Type 0) → Type 0 → (S → Option (List ℕ)) → (S → ℕ → Type 0) → (S → S → Type 0) → S → Error → S → Type 0
 ContentRefuses {S} reads value grows left able may_leave old e new = (mid : S) × Takes left able old (1 ∷ []) mid × Reads Spells reads value grows left able may_leave mid (Err e) new
+
+-- A text of more than n bytes was taken.
+abbrev pub LongText : ℕ → List ℕ → Type 0
+LongText n p = (q : List ℕ) × (u : List ℕ) × SpellsNum 64 (length u) q × (p ≡ q ++ u) × IsUtf8 u × (n < length u)
+
+-- The bytes are refused as those of a text, or are a text of more than n bytes.
+abbrev pub BadShortText : ℕ → List ℕ → Error → Type 0
+BadShortText n p e = BadText ⊥ p e ⊎ ((e ≡ SerdeDeCustom) × LongText n p)

@@ -1,5 +1,14 @@
 //! Arrays, and vectors and texts of a fixed capacity.
 
+ghost use Rattle.std.specs.Prelude.{◌≡◌, IfErr};
+ghost use Rattle.postcard_wire.specs.Tree.{Text};
+ghost use Rattle.postcard_wire.specs.Spelling.{Spells};
+ghost use Rattle.postcard_shape.specs.Fixed.{IsShortText};
+ghost use Rattle.postcard_de.specs.Reads.{Reads};
+ghost use Rattle.postcard_de.specs.Refuses.{Refuses, WantsText};
+ghost use Rattle.postcard_de.specs.Unfit.{BadShortText};
+ghost use Rattle.postcard_de.specs.Deserializer.{source_of};
+
 use crate::deserialize::Deserialize;
 use crate::deserializer::Deserializer;
 use crate::element::{Kept, Lent};
@@ -44,7 +53,10 @@ impl<T: DeserializeOwned + Default, const CAP: usize> DeserializeOwned for Array
 /// A text that is longer than there is room for is refused by `SerdeDeCustom`, once its bytes were taken and found to be
 /// UTF-8.
 impl<'de, const CAP: usize> Deserialize<'de> for ArrayString<CAP> {
-    fn deserialize<F: Flavor>(_alloc: Global, d: &mut Deserializer<'de, F>) -> Result<Self> {
+    fn deserialize<F: Flavor>(_alloc: Global, d: &mut Deserializer<'de, F>) -> Result<Self>
+        ensures reads { Reads Spells (IsShortText CAP) (λ t v. t ≡ Text v.bytes) ⊥ F.left F.able F.may_leave (source_of d.old) result (source_of d.new) }
+        ensures refused { IfErr result (λ e. Refuses WantsText (BadShortText CAP) F.left F.able (source_of d.old) e (source_of d.new)) }
+    {
         d.short_string()
     }
 }
@@ -53,7 +65,10 @@ impl<const CAP: usize> DeserializeOwned for ArrayString<CAP> {
     fn deserialize_owned<'de, F: Flavor>(
         alloc: Global,
         d: &mut Deserializer<'de, F>,
-    ) -> Result<Self> {
+    ) -> Result<Self>
+        ensures reads { Reads Spells (IsShortText CAP) (λ t v. t ≡ Text v.bytes) ⊥ F.left F.able F.may_leave (source_of d.old) result (source_of d.new) }
+        ensures refused { IfErr result (λ e. Refuses WantsText (BadShortText CAP) F.left F.able (source_of d.old) e (source_of d.new)) }
+    {
         <ArrayString<CAP>>::deserialize(alloc, d)
     }
 }

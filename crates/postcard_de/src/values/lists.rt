@@ -1,5 +1,14 @@
 //! Lists.
 
+ghost use Rattle.std.specs.Prelude.{◌≡◌, IfErr};
+ghost use Rattle.postcard_wire.specs.Tree.{Byte};
+ghost use Rattle.postcard_wire.specs.Spelling.{Spells};
+ghost use Rattle.postcard_wire.specs.Reading.{IsByte, IsSeq};
+ghost use Rattle.postcard_shape.specs.Values.{ListIs};
+ghost use Rattle.postcard_de.specs.Reads.{Reads};
+ghost use Rattle.postcard_de.specs.Refuses.{Refuses, BadNumber, WantsText};
+ghost use Rattle.postcard_de.specs.Deserializer.{source_of};
+
 use crate::deserialize::Deserialize;
 use crate::deserializer::Deserializer;
 use crate::element::{Kept, Lent};
@@ -9,7 +18,10 @@ use postcard_wire::Result;
 use std::alloc::Global;
 
 impl<'de> Deserialize<'de> for &'de [u8] {
-    fn deserialize<F: Flavor>(_alloc: Global, d: &mut Deserializer<'de, F>) -> Result<Self> {
+    fn deserialize<F: Flavor>(_alloc: Global, d: &mut Deserializer<'de, F>) -> Result<Self>
+        ensures reads { Reads Spells (IsSeq IsByte) (λ t v. ListIs (λ s b. s ≡ Byte b) t v.now) ⊥ F.left F.able F.may_leave (source_of d.old) result (source_of d.new) }
+        ensures refused { IfErr result (λ e. Refuses WantsText (BadNumber 64) F.left F.able (source_of d.old) e (source_of d.new)) }
+    {
         d.deserialize_bytes()
     }
 }
