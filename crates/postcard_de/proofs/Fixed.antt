@@ -2,14 +2,14 @@
 use Rattle.std.proofs.Common.{◌≡◌, ℕ, ◌<◌, ◌≤◌, ◌^◌, inr, List, ◌++◌, length, Option, Ok, refl, sym}
 use Rattle.std.proofs.Common.{◌∙◌, ap, subst}
 use Rattle.std.specs.Prelude.{IsUtf8}
-use Rattle.postcard_wire.specs.declared.error.Error.TheVariants.{OutOfMemory}
+use Rattle.postcard_wire.specs.declared.error.Error.TheVariants.{OutOfMemory, SerdeDeCustom}
 use Rattle.postcard_wire.specs.Number.{SpellsNum}
 use Rattle.postcard_wire.specs.Tree.{Tree, Text}
 use Rattle.postcard_wire.specs.Reading.{IsText}
 use Rattle.postcard_de_flavors.specs.Source.{Takes, Laws}
 use Rattle.postcard_de.specs.Reads.{ReadsFrom}
 use Rattle.postcard_de.specs.Refuses.{RefusesFrom, WantsText}
-use Rattle.postcard_de.specs.Unfit.{BadBytes}
+use Rattle.postcard_de.specs.Unfit.{BadBytes, BadShortText}
 use Rattle.postcard_shape.specs.Fixed.{IsShortText}
 use Rattle.postcard_shape.specs.One.{text_same}
 use Rattle.postcard_shape.specs.Values.{Same}
@@ -44,6 +44,27 @@ module _ {S : Type 0} {left : S → Option (List ℕ)} {able : S → ℕ → Typ
         subst (λ (m : ℕ). SpellsNum 64 m counted.gives.front)
             (sym long) (number_spelled laws counted),
         refl,
+      ),
+    );
+  })
+
+  -- A text was taken that there is no room for.
+  pub text_long : {m : ℕ} {u : List ℕ} {new : S} → length u ≡ n → Takes left able mid u new →
+      IsUtf8 u → m < length u →
+      RefusesFrom WantsText (BadShortText m) left able old SerdeDeCustom new
+  text_long {u = u} long t utf8 many = inr (record {
+    front = counted.gives.front ++ u;
+    taken = both_taken counted.gives.taken t;
+    why = inr (
+      refl,
+      (
+        counted.gives.front,
+        u,
+        subst (λ (k : ℕ). SpellsNum 64 k counted.gives.front)
+            (sym long) (number_spelled laws counted),
+        refl,
+        utf8,
+        many,
       ),
     );
   })

@@ -1,17 +1,19 @@
 -- Why a single node is refused, for the nodes that aren't numbers or texts (behaviour of postcard
 -- 1.1.3).
 use Rattle.std.specs.Prelude.{◌≡◌, ℕ, ◌<◌, ◌≤◌, ◌^◌, ◌⊎◌, List, [], ◌∷◌, ◌++◌, length, Err}
+use Rattle.std.specs.Prelude.{IsUtf8}
 use Rattle.postcard_wire.specs.declared.error.Error.{Error}
 use Rattle.postcard_wire.specs.declared.error.Error.TheVariants.{DeserializeBadBool}
 use Rattle.postcard_wire.specs.declared.error.Error.TheVariants.{DeserializeBadOption}
-use Rattle.postcard_wire.specs.declared.error.Error.TheVariants.{DeserializeBadChar, OutOfMemory}
+use Rattle.postcard_wire.specs.declared.error.Error.TheVariants.{DeserializeBadChar, SerdeDeCustom}
+use Rattle.postcard_wire.specs.declared.error.Error.TheVariants.{OutOfMemory}
 use Rattle.postcard_wire.specs.Number.{SpellsNum}
 use Rattle.postcard_wire.specs.Tree.{Tree}
 use Rattle.postcard_wire.specs.Spelling.{Spells, BeginsWithChar}
 use Rattle.postcard_de_flavors.specs.Source.{Takes}
 use Rattle.postcard_de_flavors.specs.declared.flavor.Flavor.{Ghosts}
 use Rattle.postcard_de.specs.Reads.{Reads}
-use Rattle.postcard_de.specs.Refuses.{WantsDigit, BadNumber}
+use Rattle.postcard_de.specs.Refuses.{WantsDigit, BadNumber, BadText}
 
 -- A byte was taken that is neither 0 nor 1.
 abbrev pub NotABit : List ℕ → Type 0
@@ -52,3 +54,12 @@ abbrev pub ContentRefuses : {S M O V : Type 0} → Ghosts S M O → (Tree → Ty
     (Tree → V → Type 0) → Type 0 → S → Error → S → Type 0
 ContentRefuses {S} F reads value grows old e new = (mid : S) × Takes F.left F.able old (1 ∷ []) mid
     × Reads F Spells reads value grows mid (Err e) new
+
+-- A text of more than n bytes was taken.
+abbrev pub LongText : ℕ → List ℕ → Type 0
+LongText n p = (q : List ℕ) × (u : List ℕ) × SpellsNum 64 (length u) q × (p ≡ q ++ u) × IsUtf8 u
+    × (n < length u)
+
+-- The bytes are refused as those of a text, or are a text of more than n bytes.
+abbrev pub BadShortText : ℕ → List ℕ → Error → Type 0
+BadShortText n p e = BadText ⊥ p e ⊎ ((e ≡ SerdeDeCustom) × LongText n p)

@@ -14,6 +14,7 @@ ghost use Rattle.postcard_de.specs.Deserializer.{source_of};
 
 pub mod bytes;
 pub mod choices;
+mod elements;
 pub mod structure;
 pub mod unsupported;
 

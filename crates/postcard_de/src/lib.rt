@@ -24,6 +24,7 @@ pub mod access;
 pub mod cases;
 pub mod deserialize;
 pub mod deserializer;
+mod element;
 pub mod laws;
 pub mod map_access;
 pub mod owned;

@@ -6,7 +6,7 @@ ghost use Rattle.postcard_wire.specs.Spelling.{Spells};
 ghost use Rattle.postcard_wire.specs.Reading.{IsByte, IsChar, IsSeq};
 ghost use Rattle.postcard_de.specs.Reads.{Reads};
 ghost use Rattle.postcard_de.specs.Refuses.{Refuses, BadNumber, WantsText};
-ghost use Rattle.postcard_de.specs.Unfit.{WantsChar, BadChar, BadBytes};
+ghost use Rattle.postcard_de.specs.Unfit.{WantsChar, BadChar, BadBytes, BadShortText};
 ghost use Rattle.postcard_shape.specs.Values.{ListIs};
 ghost use Rattle.postcard_shape.specs.Fixed.{IsShortText};
 ghost use Rattle.postcard_de.specs.Deserializer.{source_of};
@@ -101,8 +101,10 @@ impl<'de, F: Flavor> Deserializer<'de, F> {
     /// As `deserialize_str`, and `SerdeDeCustom` where it is longer, once its bytes were taken and
     /// found to be UTF-8.
     pub(crate) fn short_string<const CAP: usize>(&mut self) -> Result<ArrayString<CAP>>
-        ensures { Reads F.Flavor Spells (IsShortText CAP) (λ t v. t ≡ Text v.bytes) ⊥
+        ensures reads { Reads F.Flavor Spells (IsShortText CAP) (λ t v. t ≡ Text v.bytes) ⊥
             (source_of self.old) result (source_of self.new) }
+        ensures refused { IfErr result (λ e. Refuses F.Flavor WantsText (BadShortText CAP)
+            (source_of self.old) e (source_of self.new)) }
     {
         let count = self.count()?;
         let bytes = self.flavor.try_take_n_temp(count)?;

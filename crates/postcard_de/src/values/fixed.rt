@@ -1,20 +1,26 @@
 //! Arrays, and vectors and texts of a fixed capacity.
 
+ghost use Rattle.std.specs.Prelude.{◌≡◌, IfErr};
+ghost use Rattle.postcard_wire.specs.Tree.{Text};
+ghost use Rattle.postcard_wire.specs.Spelling.{Spells};
+ghost use Rattle.postcard_shape.specs.Fixed.{IsShortText};
+ghost use Rattle.postcard_de.specs.Reads.{Reads};
+ghost use Rattle.postcard_de.specs.Refuses.{Refuses, WantsText};
+ghost use Rattle.postcard_de.specs.Unfit.{BadShortText};
+ghost use Rattle.postcard_de.specs.Deserializer.{source_of};
+
 use crate::deserialize::Deserialize;
 use crate::deserializer::Deserializer;
-use crate::owned::{DeserializeOwned, Owned};
+use crate::element::{Kept, Lent};
+use crate::owned::DeserializeOwned;
 use arrayvec::{ArrayString, ArrayVec};
 use postcard_de_flavors::Flavor;
-use postcard_wire::{Error, Result};
+use postcard_wire::Result;
 use std::alloc::Global;
 
 impl<'de, T: Deserialize<'de> + Copy + Default, const N: usize> Deserialize<'de> for [T; N] {
     fn deserialize<F: Flavor>(alloc: Global, d: &mut Deserializer<'de, F>) -> Result<Self> {
-        let mut items = [T::default(); N];
-        for i in 0..N {
-            items[i] = T::deserialize(alloc, d)?;
-        }
-        Ok(items)
+        d.array::<T, Lent, N>(alloc)
     }
 }
 
@@ -23,11 +29,7 @@ impl<T: DeserializeOwned + Copy + Default, const N: usize> DeserializeOwned for 
         alloc: Global,
         d: &mut Deserializer<'de, F>,
     ) -> Result<Self> {
-        let mut items = [T::default(); N];
-        for i in 0..N {
-            items[i] = T::deserialize_owned(alloc, d)?;
-        }
-        Ok(items)
+        d.array::<T, Kept, N>(alloc)
     }
 }
 
@@ -35,14 +37,7 @@ impl<T: DeserializeOwned + Copy + Default, const N: usize> DeserializeOwned for 
 /// has been read.
 impl<'de, T: Deserialize<'de> + Default, const CAP: usize> Deserialize<'de> for ArrayVec<T, CAP> {
     fn deserialize<F: Flavor>(alloc: Global, d: &mut Deserializer<'de, F>) -> Result<Self> {
-        let mut access = d.deserialize_seq()?;
-        let mut items = ArrayVec::new();
-        while let Some(item) = access.next_element(alloc, d)? {
-            if items.try_push(item).is_err() {
-                return Err(Error::SerdeDeCustom);
-            }
-        }
-        Ok(items)
+        d.few::<T, Lent, CAP>(alloc)
     }
 }
 
@@ -51,21 +46,19 @@ impl<T: DeserializeOwned + Default, const CAP: usize> DeserializeOwned for Array
         alloc: Global,
         d: &mut Deserializer<'de, F>,
     ) -> Result<Self> {
-        let mut access = d.deserialize_seq()?;
-        let mut items = ArrayVec::new();
-        while let Some(item) = access.next_element::<Owned<T>, F>(alloc, d)? {
-            if items.try_push(item.0).is_err() {
-                return Err(Error::SerdeDeCustom);
-            }
-        }
-        Ok(items)
+        d.few::<T, Kept, CAP>(alloc)
     }
 }
 
 /// A text that is longer than there is room for is refused by `SerdeDeCustom`, once its bytes were taken and found to be
 /// UTF-8.
 impl<'de, const CAP: usize> Deserialize<'de> for ArrayString<CAP> {
-    fn deserialize<F: Flavor>(_alloc: Global, d: &mut Deserializer<'de, F>) -> Result<Self> {
+    fn deserialize<F: Flavor>(_alloc: Global, d: &mut Deserializer<'de, F>) -> Result<Self>
+        ensures reads { Reads F.Flavor Spells (IsShortText CAP) (λ t v. t ≡ Text v.bytes) ⊥
+            (source_of d.old) result (source_of d.new) }
+        ensures refused { IfErr result (λ e. Refuses F.Flavor WantsText (BadShortText CAP)
+            (source_of d.old) e (source_of d.new)) }
+    {
         d.short_string()
     }
 }
@@ -74,7 +67,12 @@ impl<const CAP: usize> DeserializeOwned for ArrayString<CAP> {
     fn deserialize_owned<'de, F: Flavor>(
         alloc: Global,
         d: &mut Deserializer<'de, F>,
-    ) -> Result<Self> {
+    ) -> Result<Self>
+        ensures reads { Reads F.Flavor Spells (IsShortText CAP) (λ t v. t ≡ Text v.bytes) ⊥
+            (source_of d.old) result (source_of d.new) }
+        ensures refused { IfErr result (λ e. Refuses F.Flavor WantsText (BadShortText CAP)
+            (source_of d.old) e (source_of d.new)) }
+    {
         <ArrayString<CAP>>::deserialize(alloc, d)
     }
 }

@@ -1,28 +1,36 @@
 //! Lists.
 
+ghost use Rattle.std.specs.Prelude.{◌≡◌, IfErr};
+ghost use Rattle.postcard_wire.specs.Tree.{Byte};
+ghost use Rattle.postcard_wire.specs.Spelling.{Spells};
+ghost use Rattle.postcard_wire.specs.Reading.{IsByte, IsSeq};
+ghost use Rattle.postcard_shape.specs.Values.{ListIs};
+ghost use Rattle.postcard_de.specs.Reads.{Reads};
+ghost use Rattle.postcard_de.specs.Refuses.{Refuses, BadNumber, WantsText};
+ghost use Rattle.postcard_de.specs.Deserializer.{source_of};
+
 use crate::deserialize::Deserialize;
 use crate::deserializer::Deserializer;
-use crate::owned::{DeserializeOwned, Owned};
+use crate::element::{Kept, Lent};
+use crate::owned::DeserializeOwned;
 use postcard_de_flavors::Flavor;
-use postcard_wire::{Error, Result};
+use postcard_wire::Result;
 use std::alloc::Global;
 
 impl<'de> Deserialize<'de> for &'de [u8] {
-    fn deserialize<F: Flavor>(_alloc: Global, d: &mut Deserializer<'de, F>) -> Result<Self> {
+    fn deserialize<F: Flavor>(_alloc: Global, d: &mut Deserializer<'de, F>) -> Result<Self>
+        ensures reads { Reads F.Flavor Spells (IsSeq IsByte) (λ t v. ListIs (λ s b. s ≡ Byte b) t v.now) ⊥
+            (source_of d.old) result (source_of d.new) }
+        ensures refused { IfErr result (λ e. Refuses F.Flavor WantsText (BadNumber 64)
+            (source_of d.old) e (source_of d.new)) }
+    {
         d.deserialize_bytes()
     }
 }
 
 impl<'de, T: Deserialize<'de>> Deserialize<'de> for Vec<T> {
     fn deserialize<F: Flavor>(alloc: Global, d: &mut Deserializer<'de, F>) -> Result<Self> {
-        let mut access = d.deserialize_seq()?;
-        let mut items = Vec::new(alloc);
-        while let Some(item) = access.next_element(alloc, d)? {
-            if items.push(item).is_err() {
-                return Err(Error::OutOfMemory);
-            }
-        }
-        Ok(items)
+        d.list::<T, Lent>(alloc)
     }
 }
 
@@ -31,13 +39,6 @@ impl<T: DeserializeOwned> DeserializeOwned for Vec<T> {
         alloc: Global,
         d: &mut Deserializer<'de, F>,
     ) -> Result<Self> {
-        let mut access = d.deserialize_seq()?;
-        let mut items = Vec::new(alloc);
-        while let Some(item) = access.next_element::<Owned<T>, F>(alloc, d)? {
-            if items.push(item.0).is_err() {
-                return Err(Error::OutOfMemory);
-            }
-        }
-        Ok(items)
+        d.list::<T, Kept>(alloc)
     }
 }

@@ -1,5 +1,14 @@
 //! Numbers of a fixed width.
 
+ghost use Rattle.std.specs.Prelude.{◌≡◌, IfErr};
+ghost use Rattle.std.specs.Int.{w8, cast_unsigned};
+ghost use Rattle.postcard_wire.specs.Tree.{Byte, Num, Int};
+ghost use Rattle.postcard_wire.specs.Spelling.{Spells};
+ghost use Rattle.postcard_wire.specs.Reading.{IsByte, IsNum, IsInt};
+ghost use Rattle.postcard_de.specs.Reads.{Reads};
+ghost use Rattle.postcard_de.specs.Refuses.{Refuses, WantsByte, NoneBad, WantsDigit, BadNumber};
+ghost use Rattle.postcard_de.specs.Deserializer.{source_of};
+
 use crate::deserialize::Deserialize;
 use crate::deserializer::Deserializer;
 use crate::owned::DeserializeOwned;
@@ -8,7 +17,12 @@ use postcard_wire::Result;
 use std::alloc::Global;
 
 impl<'de> Deserialize<'de> for u8 {
-    fn deserialize<F: Flavor>(_alloc: Global, d: &mut Deserializer<'de, F>) -> Result<Self> {
+    fn deserialize<F: Flavor>(_alloc: Global, d: &mut Deserializer<'de, F>) -> Result<Self>
+        ensures reads { Reads F.Flavor Spells IsByte (λ t v. t ≡ Byte v) ⊥
+            (source_of d.old) result (source_of d.new) }
+        ensures refused { IfErr result (λ e. Refuses F.Flavor WantsByte NoneBad
+            (source_of d.old) e (source_of d.new)) }
+    {
         d.deserialize_u8()
     }
 }
@@ -17,13 +31,23 @@ impl DeserializeOwned for u8 {
     fn deserialize_owned<'de, F: Flavor>(
         alloc: Global,
         d: &mut Deserializer<'de, F>,
-    ) -> Result<Self> {
+    ) -> Result<Self>
+        ensures reads { Reads F.Flavor Spells IsByte (λ t v. t ≡ Byte v) ⊥
+            (source_of d.old) result (source_of d.new) }
+        ensures refused { IfErr result (λ e. Refuses F.Flavor WantsByte NoneBad
+            (source_of d.old) e (source_of d.new)) }
+    {
         u8::deserialize(alloc, d)
     }
 }
 
 impl<'de> Deserialize<'de> for u16 {
-    fn deserialize<F: Flavor>(_alloc: Global, d: &mut Deserializer<'de, F>) -> Result<Self> {
+    fn deserialize<F: Flavor>(_alloc: Global, d: &mut Deserializer<'de, F>) -> Result<Self>
+        ensures reads { Reads F.Flavor Spells (IsNum 16) (λ t v. t ≡ Num 16 v) ⊥
+            (source_of d.old) result (source_of d.new) }
+        ensures refused { IfErr result (λ e. Refuses F.Flavor (WantsDigit 16) (BadNumber 16)
+            (source_of d.old) e (source_of d.new)) }
+    {
         d.deserialize_u16()
     }
 }
@@ -32,13 +56,23 @@ impl DeserializeOwned for u16 {
     fn deserialize_owned<'de, F: Flavor>(
         alloc: Global,
         d: &mut Deserializer<'de, F>,
-    ) -> Result<Self> {
+    ) -> Result<Self>
+        ensures reads { Reads F.Flavor Spells (IsNum 16) (λ t v. t ≡ Num 16 v) ⊥
+            (source_of d.old) result (source_of d.new) }
+        ensures refused { IfErr result (λ e. Refuses F.Flavor (WantsDigit 16) (BadNumber 16)
+            (source_of d.old) e (source_of d.new)) }
+    {
         u16::deserialize(alloc, d)
     }
 }
 
 impl<'de> Deserialize<'de> for u32 {
-    fn deserialize<F: Flavor>(_alloc: Global, d: &mut Deserializer<'de, F>) -> Result<Self> {
+    fn deserialize<F: Flavor>(_alloc: Global, d: &mut Deserializer<'de, F>) -> Result<Self>
+        ensures reads { Reads F.Flavor Spells (IsNum 32) (λ t v. t ≡ Num 32 v) ⊥
+            (source_of d.old) result (source_of d.new) }
+        ensures refused { IfErr result (λ e. Refuses F.Flavor (WantsDigit 32) (BadNumber 32)
+            (source_of d.old) e (source_of d.new)) }
+    {
         d.deserialize_u32()
     }
 }
@@ -47,13 +81,23 @@ impl DeserializeOwned for u32 {
     fn deserialize_owned<'de, F: Flavor>(
         alloc: Global,
         d: &mut Deserializer<'de, F>,
-    ) -> Result<Self> {
+    ) -> Result<Self>
+        ensures reads { Reads F.Flavor Spells (IsNum 32) (λ t v. t ≡ Num 32 v) ⊥
+            (source_of d.old) result (source_of d.new) }
+        ensures refused { IfErr result (λ e. Refuses F.Flavor (WantsDigit 32) (BadNumber 32)
+            (source_of d.old) e (source_of d.new)) }
+    {
         u32::deserialize(alloc, d)
     }
 }
 
 impl<'de> Deserialize<'de> for u64 {
-    fn deserialize<F: Flavor>(_alloc: Global, d: &mut Deserializer<'de, F>) -> Result<Self> {
+    fn deserialize<F: Flavor>(_alloc: Global, d: &mut Deserializer<'de, F>) -> Result<Self>
+        ensures reads { Reads F.Flavor Spells (IsNum 64) (λ t v. t ≡ Num 64 v) ⊥
+            (source_of d.old) result (source_of d.new) }
+        ensures refused { IfErr result (λ e. Refuses F.Flavor (WantsDigit 64) (BadNumber 64)
+            (source_of d.old) e (source_of d.new)) }
+    {
         d.deserialize_u64()
     }
 }
@@ -62,13 +106,23 @@ impl DeserializeOwned for u64 {
     fn deserialize_owned<'de, F: Flavor>(
         alloc: Global,
         d: &mut Deserializer<'de, F>,
-    ) -> Result<Self> {
+    ) -> Result<Self>
+        ensures reads { Reads F.Flavor Spells (IsNum 64) (λ t v. t ≡ Num 64 v) ⊥
+            (source_of d.old) result (source_of d.new) }
+        ensures refused { IfErr result (λ e. Refuses F.Flavor (WantsDigit 64) (BadNumber 64)
+            (source_of d.old) e (source_of d.new)) }
+    {
         u64::deserialize(alloc, d)
     }
 }
 
 impl<'de> Deserialize<'de> for u128 {
-    fn deserialize<F: Flavor>(_alloc: Global, d: &mut Deserializer<'de, F>) -> Result<Self> {
+    fn deserialize<F: Flavor>(_alloc: Global, d: &mut Deserializer<'de, F>) -> Result<Self>
+        ensures reads { Reads F.Flavor Spells (IsNum 128) (λ t v. t ≡ Num 128 v) ⊥
+            (source_of d.old) result (source_of d.new) }
+        ensures refused { IfErr result (λ e. Refuses F.Flavor (WantsDigit 128) (BadNumber 128)
+            (source_of d.old) e (source_of d.new)) }
+    {
         d.deserialize_u128()
     }
 }
@@ -77,13 +131,23 @@ impl DeserializeOwned for u128 {
     fn deserialize_owned<'de, F: Flavor>(
         alloc: Global,
         d: &mut Deserializer<'de, F>,
-    ) -> Result<Self> {
+    ) -> Result<Self>
+        ensures reads { Reads F.Flavor Spells (IsNum 128) (λ t v. t ≡ Num 128 v) ⊥
+            (source_of d.old) result (source_of d.new) }
+        ensures refused { IfErr result (λ e. Refuses F.Flavor (WantsDigit 128) (BadNumber 128)
+            (source_of d.old) e (source_of d.new)) }
+    {
         u128::deserialize(alloc, d)
     }
 }
 
 impl<'de> Deserialize<'de> for i8 {
-    fn deserialize<F: Flavor>(_alloc: Global, d: &mut Deserializer<'de, F>) -> Result<Self> {
+    fn deserialize<F: Flavor>(_alloc: Global, d: &mut Deserializer<'de, F>) -> Result<Self>
+        ensures reads { Reads F.Flavor Spells IsByte (λ t v. t ≡ Byte (cast_unsigned w8 v)) ⊥
+            (source_of d.old) result (source_of d.new) }
+        ensures refused { IfErr result (λ e. Refuses F.Flavor WantsByte NoneBad
+            (source_of d.old) e (source_of d.new)) }
+    {
         d.deserialize_i8()
     }
 }
@@ -92,13 +156,23 @@ impl DeserializeOwned for i8 {
     fn deserialize_owned<'de, F: Flavor>(
         alloc: Global,
         d: &mut Deserializer<'de, F>,
-    ) -> Result<Self> {
+    ) -> Result<Self>
+        ensures reads { Reads F.Flavor Spells IsByte (λ t v. t ≡ Byte (cast_unsigned w8 v)) ⊥
+            (source_of d.old) result (source_of d.new) }
+        ensures refused { IfErr result (λ e. Refuses F.Flavor WantsByte NoneBad
+            (source_of d.old) e (source_of d.new)) }
+    {
         i8::deserialize(alloc, d)
     }
 }
 
 impl<'de> Deserialize<'de> for i16 {
-    fn deserialize<F: Flavor>(_alloc: Global, d: &mut Deserializer<'de, F>) -> Result<Self> {
+    fn deserialize<F: Flavor>(_alloc: Global, d: &mut Deserializer<'de, F>) -> Result<Self>
+        ensures reads { Reads F.Flavor Spells (IsInt 16) (λ t v. t ≡ Int 16 v) ⊥
+            (source_of d.old) result (source_of d.new) }
+        ensures refused { IfErr result (λ e. Refuses F.Flavor (WantsDigit 16) (BadNumber 16)
+            (source_of d.old) e (source_of d.new)) }
+    {
         d.deserialize_i16()
     }
 }
@@ -107,13 +181,23 @@ impl DeserializeOwned for i16 {
     fn deserialize_owned<'de, F: Flavor>(
         alloc: Global,
         d: &mut Deserializer<'de, F>,
-    ) -> Result<Self> {
+    ) -> Result<Self>
+        ensures reads { Reads F.Flavor Spells (IsInt 16) (λ t v. t ≡ Int 16 v) ⊥
+            (source_of d.old) result (source_of d.new) }
+        ensures refused { IfErr result (λ e. Refuses F.Flavor (WantsDigit 16) (BadNumber 16)
+            (source_of d.old) e (source_of d.new)) }
+    {
         i16::deserialize(alloc, d)
     }
 }
 
 impl<'de> Deserialize<'de> for i32 {
-    fn deserialize<F: Flavor>(_alloc: Global, d: &mut Deserializer<'de, F>) -> Result<Self> {
+    fn deserialize<F: Flavor>(_alloc: Global, d: &mut Deserializer<'de, F>) -> Result<Self>
+        ensures reads { Reads F.Flavor Spells (IsInt 32) (λ t v. t ≡ Int 32 v) ⊥
+            (source_of d.old) result (source_of d.new) }
+        ensures refused { IfErr result (λ e. Refuses F.Flavor (WantsDigit 32) (BadNumber 32)
+            (source_of d.old) e (source_of d.new)) }
+    {
         d.deserialize_i32()
     }
 }
@@ -122,13 +206,23 @@ impl DeserializeOwned for i32 {
     fn deserialize_owned<'de, F: Flavor>(
         alloc: Global,
         d: &mut Deserializer<'de, F>,
-    ) -> Result<Self> {
+    ) -> Result<Self>
+        ensures reads { Reads F.Flavor Spells (IsInt 32) (λ t v. t ≡ Int 32 v) ⊥
+            (source_of d.old) result (source_of d.new) }
+        ensures refused { IfErr result (λ e. Refuses F.Flavor (WantsDigit 32) (BadNumber 32)
+            (source_of d.old) e (source_of d.new)) }
+    {
         i32::deserialize(alloc, d)
     }
 }
 
 impl<'de> Deserialize<'de> for i64 {
-    fn deserialize<F: Flavor>(_alloc: Global, d: &mut Deserializer<'de, F>) -> Result<Self> {
+    fn deserialize<F: Flavor>(_alloc: Global, d: &mut Deserializer<'de, F>) -> Result<Self>
+        ensures reads { Reads F.Flavor Spells (IsInt 64) (λ t v. t ≡ Int 64 v) ⊥
+            (source_of d.old) result (source_of d.new) }
+        ensures refused { IfErr result (λ e. Refuses F.Flavor (WantsDigit 64) (BadNumber 64)
+            (source_of d.old) e (source_of d.new)) }
+    {
         d.deserialize_i64()
     }
 }
@@ -137,13 +231,23 @@ impl DeserializeOwned for i64 {
     fn deserialize_owned<'de, F: Flavor>(
         alloc: Global,
         d: &mut Deserializer<'de, F>,
-    ) -> Result<Self> {
+    ) -> Result<Self>
+        ensures reads { Reads F.Flavor Spells (IsInt 64) (λ t v. t ≡ Int 64 v) ⊥
+            (source_of d.old) result (source_of d.new) }
+        ensures refused { IfErr result (λ e. Refuses F.Flavor (WantsDigit 64) (BadNumber 64)
+            (source_of d.old) e (source_of d.new)) }
+    {
         i64::deserialize(alloc, d)
     }
 }
 
 impl<'de> Deserialize<'de> for i128 {
-    fn deserialize<F: Flavor>(_alloc: Global, d: &mut Deserializer<'de, F>) -> Result<Self> {
+    fn deserialize<F: Flavor>(_alloc: Global, d: &mut Deserializer<'de, F>) -> Result<Self>
+        ensures reads { Reads F.Flavor Spells (IsInt 128) (λ t v. t ≡ Int 128 v) ⊥
+            (source_of d.old) result (source_of d.new) }
+        ensures refused { IfErr result (λ e. Refuses F.Flavor (WantsDigit 128) (BadNumber 128)
+            (source_of d.old) e (source_of d.new)) }
+    {
         d.deserialize_i128()
     }
 }
@@ -152,7 +256,12 @@ impl DeserializeOwned for i128 {
     fn deserialize_owned<'de, F: Flavor>(
         alloc: Global,
         d: &mut Deserializer<'de, F>,
-    ) -> Result<Self> {
+    ) -> Result<Self>
+        ensures reads { Reads F.Flavor Spells (IsInt 128) (λ t v. t ≡ Int 128 v) ⊥
+            (source_of d.old) result (source_of d.new) }
+        ensures refused { IfErr result (λ e. Refuses F.Flavor (WantsDigit 128) (BadNumber 128)
+            (source_of d.old) e (source_of d.new)) }
+    {
         i128::deserialize(alloc, d)
     }
 }

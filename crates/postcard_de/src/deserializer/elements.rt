@@ -1,0 +1,112 @@
+//! The calls that read elements in a row, each by one loop.
+
+ghost use Rattle.std.specs.Prelude.{⊤};
+ghost use Rattle.postcard_wire.specs.Spelling.{Spells};
+ghost use Rattle.postcard_wire.specs.Reading.{IsGroup, IsSeq, IsArray};
+ghost use Rattle.postcard_de.specs.Reads.{Reads};
+ghost use Rattle.postcard_de.specs.Deserializer.{source_of};
+ghost use Rattle.postcard_shape.specs.Values.{EachIs, ListIs};
+ghost use Rattle.postcard_shape.specs.Fixed.{IsFewSeq};
+ghost use Rattle.postcard_shape.specs.Maps.{IsEntry, MapIs};
+
+use crate::deserializer::Deserializer;
+use crate::element::Element;
+use arrayvec::ArrayVec;
+use postcard_de_flavors::Flavor;
+use postcard_shape::Shaped;
+use postcard_wire::{Error, Result};
+use std::alloc::Global;
+use std::collections::BTreeMap;
+
+impl<'de, F: Flavor> Deserializer<'de, F> {
+    /// Reads a list: its count, and as many elements.
+    ///
+    /// # Errors
+    ///
+    /// As a number of 64 bits for the count, those of an element, and `OutOfMemory`.
+    pub(crate) fn list<T: Shaped + Drop, E: Element<'de, T>>(
+        &mut self,
+        alloc: Global,
+    ) -> Result<Vec<T>>
+        ensures { Reads F.Flavor Spells (IsSeq T.shape.reads) (λ t v. ListIs T.shape.value t v.items) ⊤
+            (source_of self.old) result (source_of self.new) }
+    {
+        let count = self.count()?;
+        let mut items = Vec::new(alloc);
+        for _ in 0..count {
+            let item = E::element(alloc, self)?;
+            if items.push(item).is_err() {
+                return Err(Error::OutOfMemory);
+            }
+        }
+        Ok(items)
+    }
+
+    /// Reads a list of at most `CAP` elements: its count, and as many elements.
+    ///
+    /// # Errors
+    ///
+    /// As a number of 64 bits for the count, those of an element, and `SerdeDeCustom` once the first element that doesn't
+    /// fit has been read.
+    pub(crate) fn few<T: Shaped + Drop + Default, E: Element<'de, T>, const CAP: usize>(
+        &mut self,
+        alloc: Global,
+    ) -> Result<ArrayVec<T, CAP>>
+        ensures { Reads F.Flavor Spells (IsFewSeq CAP T.shape.reads) (λ t v. ListIs T.shape.value t v.items) T.shape.grows
+            (source_of self.old) result (source_of self.new) }
+    {
+        let count = self.count()?;
+        let mut items = ArrayVec::new();
+        for _ in 0..count {
+            let item = E::element(alloc, self)?;
+            if items.try_push(item).is_err() {
+                return Err(Error::SerdeDeCustom);
+            }
+        }
+        Ok(items)
+    }
+
+    /// Reads an array: `N` elements, without a count.
+    ///
+    /// # Errors
+    ///
+    /// Those of an element.
+    pub(crate) fn array<T: Shaped + Drop + Copy + Default, E: Element<'de, T>, const N: usize>(
+        &mut self,
+        alloc: Global,
+    ) -> Result<[T; N]>
+        ensures { Reads F.Flavor Spells (IsArray N T.shape.reads) (λ t v. IsGroup (λ ts. EachIs T.shape.value ts v) t) T.shape.grows
+            (source_of self.old) result (source_of self.new) }
+    {
+        let mut items = [T::default(); N];
+        for i in 0..N {
+            items[i] = E::element(alloc, self)?;
+        }
+        Ok(items)
+    }
+
+    /// Reads a map: a count, and as many pairs of a key and a value. A later value of an equal key wins.
+    ///
+    /// # Errors
+    ///
+    /// As a number of 64 bits for the count, those of a key or a value, and `OutOfMemory`.
+    pub(crate) fn map<
+        K: Shaped + Ord + Drop,
+        V: Shaped + Drop,
+        E: Element<'de, K> + Element<'de, V>,
+    >(&mut self, alloc: Global) -> Result<BTreeMap<K, V>>
+        ensures { Reads F.Flavor Spells (IsSeq (IsEntry K.shape.reads V.shape.reads)) (λ t m. MapIs K.cmp K.shape.value V.shape.value t m.entries) ⊤
+            (source_of self.old) result (source_of self.new) }
+    {
+        let count = self.count()?;
+        let mut map = BTreeMap::new(alloc);
+        for _ in 0..count {
+            let key: K = E::element(alloc, self)?;
+            let value: V = E::element(alloc, self)?;
+            if map.insert(key, value).is_err() {
+                return Err(Error::OutOfMemory);
+            }
+        }
+        Ok(map)
+    }
+}

@@ -1,0 +1,43 @@
+//! How the elements of a container are read: as what they are, or as what borrows nothing.
+
+ghost use Rattle.postcard_wire.specs.Spelling.{Spells};
+ghost use Rattle.postcard_de.specs.Reads.{Reads};
+ghost use Rattle.postcard_de.specs.Deserializer.{source_of};
+
+use crate::deserialize::Deserialize;
+use crate::deserializer::Deserializer;
+use crate::owned::DeserializeOwned;
+use postcard_de_flavors::Flavor;
+use postcard_shape::Shaped;
+use postcard_wire::Result;
+use std::alloc::Global;
+
+/// A way to read a `T`.
+pub(crate) trait Element<'de, T: Shaped + Drop> {
+    /// Reads a value from the front of what is left.
+    ///
+    /// # Errors
+    ///
+    /// As [`Deserialize::deserialize`].
+    fn element<F: Flavor>(alloc: Global, d: &mut Deserializer<'de, F>) -> Result<T>
+        ensures { Reads F.Flavor Spells T.shape.reads T.shape.value T.shape.grows
+            (source_of d.old) result (source_of d.new) };
+}
+
+/// As [`Deserialize`] reads it.
+pub(crate) struct Lent;
+
+impl<'de, T: Deserialize<'de>> Element<'de, T> for Lent {
+    fn element<F: Flavor>(alloc: Global, d: &mut Deserializer<'de, F>) -> Result<T> {
+        T::deserialize(alloc, d)
+    }
+}
+
+/// As [`DeserializeOwned`] reads it.
+pub(crate) struct Kept;
+
+impl<'de, T: DeserializeOwned> Element<'de, T> for Kept {
+    fn element<F: Flavor>(alloc: Global, d: &mut Deserializer<'de, F>) -> Result<T> {
+        T::deserialize_owned(alloc, d)
+    }
+}
