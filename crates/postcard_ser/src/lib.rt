@@ -43,8 +43,6 @@ mod collect_str;
 pub mod repr;
 pub mod serialize;
 pub mod serializer;
-#[cfg(test)]
-mod tests;
 mod values;
 
 pub use cases::serialize_variant;

@@ -28,7 +28,5 @@
 
 pub mod cobs;
 mod steps;
-#[cfg(test)]
-mod tests;
 
 pub use cobs::Cobs;

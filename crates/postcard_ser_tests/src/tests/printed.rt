@@ -7,8 +7,7 @@ ghost use Rattle.postcard_shape.specs.Shape.{via};
 ghost use Rattle.postcard_shape.specs.Refusing.{printed};
 
 use super::assert_written;
-use crate::serialize::Serialize;
-use crate::serializer::Serializer;
+use postcard_ser::{Serialize, Serializer};
 use postcard_ser_flavors::{Flavor, Slice};
 use postcard_shape::Shaped;
 use postcard_wire::{Error, Result};

@@ -1,9 +1,8 @@
 //! Each type that is written, at a value whose bytes were worked out by hand.
 
 use super::{Pieces, assert_written};
-use crate::serialize::Serialize;
-use crate::serializer::Serializer;
 use arrayvec::{ArrayString, ArrayVec};
+use postcard_ser::{Serialize, Serializer};
 use postcard_ser_flavors::Slice;
 use postcard_wire::{Error, Result};
 use std::collections::BTreeMap;

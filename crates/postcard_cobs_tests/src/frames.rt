@@ -4,8 +4,9 @@
 ghost use Rattle.std.specs.Prelude.{IsTrue, ◌<◌};
 ghost use Rattle.postcard_cobs.specs.Groups.{NoZero};
 
-use crate::decode::{DecodeReport, decode_in_place, decode_in_place_report, frame_len};
-use crate::encode::{EncoderState, PushResult};
+use postcard_cobs::{
+    DecodeReport, EncoderState, PushResult, decode_in_place, decode_in_place_report, frame_len,
+};
 use postcard_wire::Error;
 use std::alloc::{AllocError, Global};
 use std::process::Abort;

@@ -1,7 +1,6 @@
 //! Each call of the serializer, at values whose bytes were worked out by hand.
 
-use super::Serializer;
-use crate::cases::serialize_variant;
+use postcard_ser::{Serializer, serialize_variant};
 use postcard_ser_flavors::Slice;
 use postcard_wire::Error;
 use std::test::Fail;

@@ -5,16 +5,13 @@ ghost use Rattle.postcard_shape.specs.Leaves.{byte};
 ghost use Rattle.postcard_shape.specs.Lists.{seq};
 ghost use Rattle.postcard_shape.specs.Shape.{via};
 ghost use Rattle.postcard_shape.specs.Refusing.{refusing};
-ghost use Rattle.postcard_ser.specs.declared.tests.Event.{Event};
+ghost use Rattle.postcard_ser_tests.specs.declared.tests.Event.{Event};
 
 mod calls;
 mod printed;
 mod values;
 
-use crate::cases::serialize_variant;
-use crate::repr::SerializeRepr;
-use crate::serialize::Serialize;
-use crate::serializer::Serializer;
+use postcard_ser::{Serialize, SerializeRepr, Serializer, serialize_variant};
 use postcard_ser_flavors::{Flavor, Slice};
 use postcard_shape::{Case, NoCase, Repr, Shaped};
 use postcard_wire::{Error, Result};

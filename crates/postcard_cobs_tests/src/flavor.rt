@@ -3,7 +3,7 @@
 
 ghost use Rattle.std.specs.Prelude.{◌<◌};
 
-use crate::cobs::Cobs;
+use postcard_ser_cobs::Cobs;
 use postcard_ser_flavors::{AllocVec, Flavor, HVec, Slice, Storage};
 use postcard_wire::{Error, Result};
 use std::alloc::Global;

@@ -1,6 +1,6 @@
 -- The count, and then each element.
 use Rattle.postcard_ser.proofs.PartByPart.{wrote_then, wrote_stop, wrote_err}
-use Rattle.postcard_ser.proofs.tests.BothSerialize.serialize.Goals as goal
+use Rattle.postcard_ser_tests.proofs.tests.BothSerialize.serialize.Goals as goal
 
 pub returns-in_err-serialize_seq-clause-wrote : goal.returns-in_err-serialize_seq-clause-wrote
 returns-in_err-serialize_seq-clause-wrote g c =
