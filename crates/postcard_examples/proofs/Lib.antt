@@ -1,1 +1,2 @@
 mod LinkLemmas
+pub mod ReadLemmas

@@ -3,7 +3,7 @@ use Rattle.std.specs.Prelude.{ℕ, zero, suc, ⊤}
 use Rattle.std.proofs.Common.{refl, inl}
 use Rattle.postcard_wire.specs.Tree.{Absent}
 use Rattle.postcard.specs.Lemmas.{none_delimited}
-use Rattle.postcard_shape.specs.Shape.{Shape, via}
+use Rattle.postcard_shape.specs.Shape.{Shape, via, growing}
 use Rattle.postcard_shape.specs.Leaves.{num}
 use Rattle.postcard_shape.specs.Rows.{none, then, group}
 use Rattle.postcard_shape.specs.Cases.{no_case, case, variants}
@@ -37,4 +37,5 @@ too_long {V} = record {
 -- A chain of less than n links.
 abbrev pub chain_shape : ℕ → Shape Chain
 chain_shape zero = too_long
-chain_shape (suc n) = via chain_cases (variants (case (group none) (case (group (then (num 16 (inl refl)) (then (chain_shape n) none))) no_case)))
+chain_shape (suc n) = growing (via chain_cases (variants (case (group none)
+    (case (group (then (num 16 (inl refl)) (then (chain_shape n) none))) no_case))))

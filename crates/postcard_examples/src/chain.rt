@@ -1,15 +1,22 @@
-//! A recursive type: a list of links, written to a depth.
+//! A recursive type: a list of links, written and read to a depth.
 
 ghost use Rattle.std.specs.Prelude.{OnOk};
-ghost use Rattle.postcard_wire.specs.Spelling.{bytes};
+ghost use Rattle.postcard_wire.specs.Spelling.{Spells, bytes};
+ghost use Rattle.postcard_de.specs.Deserializer.{source_of};
+ghost use Rattle.postcard_de.specs.Reads.{Reads};
 ghost use Rattle.postcard_ser.specs.Writing.{Wrote};
 ghost use Rattle.postcard_examples.specs.Links.{chain_shape};
 
+use postcard::de_flavors::Flavor as Source;
 use postcard::ser_flavors::Flavor;
-use postcard::{Error, Result, Serialize, Serializer, Shaped, serialize_variant};
+use postcard::{
+    Deserialize, DeserializeOwned, Deserializer, Error, Result, Serialize, Serializer, Shaped,
+    serialize_variant,
+};
+use std::alloc::Global;
 
-/// A list of numbers. One of 32 numbers or more refuses to be written.
-#[derive(Drop)]
+/// A list of numbers. One of 32 numbers or more refuses to be written, and isn't read.
+#[derive(Debug, Drop, PartialEq)]
 pub enum Chain {
     /// No number.
     End,
@@ -38,6 +45,29 @@ fn write_links<F: Flavor>(chain: &Chain, limit: u32, serializer: &mut Serializer
     }
 }
 
+/// Reads a chain of less than `limit` links. Fails with `SerdeDeCustom` if it has more, or another
+/// variant than these two.
+fn read_links<F: Source>(limit: u32, alloc: Global, d: &mut Deserializer<'_, F>) -> Result<Chain>
+    ensures { Reads F.Flavor Spells (chain_shape limit).reads (chain_shape limit).value
+        (chain_shape limit).grows (source_of d.old) result (source_of d.new) }
+{
+    if limit == 0 {
+        return Err(Error::de_custom("too many links"));
+    }
+    match d.deserialize_enum("Chain", &["End", "Link"])? {
+        0 => Ok(Chain::End),
+        1 => {
+            let number = d.deserialize_u16()?;
+            let rest = read_links(limit - 1, alloc, d)?;
+            match Box::new(alloc, rest) {
+                Ok(rest) => Ok(Chain::Link(number, rest)),
+                Err(_) => Err(Error::OutOfMemory),
+            }
+        }
+        _ => Err(Error::de_custom("no such variant")),
+    }
+}
+
 impl Shaped for Chain {
     ghost shape = { chain_shape 32 };
 }
@@ -45,5 +75,20 @@ impl Shaped for Chain {
 impl Serialize for Chain {
     fn serialize<F: Flavor>(&self, serializer: &mut Serializer<F>) -> Result<()> {
         write_links(self, 32, serializer)
+    }
+}
+
+impl<'de> Deserialize<'de> for Chain {
+    fn deserialize<F: Source>(alloc: Global, d: &mut Deserializer<'de, F>) -> Result<Self> {
+        read_links(32, alloc, d)
+    }
+}
+
+impl DeserializeOwned for Chain {
+    fn deserialize_owned<'de, F: Source>(
+        alloc: Global,
+        d: &mut Deserializer<'de, F>,
+    ) -> Result<Self> {
+        Chain::deserialize(alloc, d)
     }
 }

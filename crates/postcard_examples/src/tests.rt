@@ -204,24 +204,41 @@ fn what_is_written_comes_back(rt: HostRuntime) -> std::result::Result<(), Fail> 
     Ok(())
 }
 
+/// The chain of these numbers.
+fn links(rt: &impl AllocGlobal, numbers: &[u16]) -> Result<Chain> {
+    let mut chain = Chain::End;
+    for number in numbers.iter().rev() {
+        chain = Chain::Link(*number, Box::new(rt.alloc(), chain)?);
+    }
+    Ok(chain)
+}
+
 #[test]
 fn a_chain_to_a_depth(rt: HostRuntime) -> std::result::Result<(), Fail> {
-    let mut chain = Chain::End;
-    for number in 0..31u16 {
-        chain = Chain::Link(number, Box::new(rt.alloc(), chain)?);
-        let links = usize::from(number) + 1;
-        assert_eq!(rt;
-            serialize_with_flavor(&chain, Size::default()),
-            Ok(2 * links + 1)
-        );
+    let bytes = [1, 1, 1, 0xAC, 0x02, 0];
+    is_there_and_back(&rt, links(&rt, &[1, 300])?, &bytes);
+    is_owned(&rt, links(&rt, &[1, 300])?, &bytes);
+    let mut zeros = [0; 65];
+    for link in 0..32usize {
+        zeros[2 * link] = 1;
     }
-    let longer = Chain::Link(31, Box::new(rt.alloc(), chain)?);
+    is_there_and_back(&rt, links(&rt, &[0; 31])?, &zeros[2..]);
+    let longer = links(&rt, &[0; 32])?;
     assert_eq!(rt;
         serialize_with_flavor(&longer, Size::default()),
         Err(Error::SerdeSerCustom)
     );
-    let last = Chain::Link(300, Box::new(rt.alloc(), Chain::End)?);
-    let written = to_allocvec(rt.alloc(), &Chain::Link(1, Box::new(rt.alloc(), last)?))?;
-    assert_eq!(rt; written.as_slice(), [1, 1, 1, 0xAC, 0x02, 0].as_slice());
+    let refused = [
+        (zeros.as_slice(), Error::SerdeDeCustom),
+        ([2].as_slice(), Error::SerdeDeCustom),
+        (
+            [1, 0x80, 0x80, 0x04, 0].as_slice(),
+            Error::DeserializeBadVarint,
+        ),
+        ([1, 7, 1, 8].as_slice(), Error::DeserializeUnexpectedEnd),
+    ];
+    for (bytes, error) in refused {
+        assert_eq!(rt; from_bytes::<Chain>(rt.alloc(), bytes), Err(error));
+    }
     Ok(())
 }

@@ -1,0 +1,5 @@
+-- A chain is read to one link less.
+use Rattle.postcard_examples.proofs.chain.+read_links.Given as goal
+
+abbrev pub decreases-read_links : goal.decreases-read_links
+decreases-read_links g l = l.limit
