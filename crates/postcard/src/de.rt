@@ -1,10 +1,11 @@
 //! Decoding from a slice or a reader.
 
-ghost use Rattle.std.specs.Prelude.{◌≡◌, ◌≢◌, ◌≤◌, ℕ, List, ◌++◌, length, Err, IfOk, MatchResult};
+ghost use Rattle.std.specs.Prelude.{◌≡◌, ◌≤◌, ℕ, List, ◌++◌, length, Err, IfOk, IfErr, MatchResult};
 ghost use Rattle.std.specs.Io.KnownBytes.{Consumes};
 ghost use Rattle.postcard_wire.specs.Tree.{Tree};
 ghost use Rattle.postcard_wire.specs.Spelling.{Spells, bytes as canonical};
 ghost use Rattle.postcard_de_flavors.specs.Source.{Begins};
+ghost use Rattle.postcard_de.specs.Reads.{MayAnswer};
 ghost use Rattle.postcard.specs.Front.{ReadsFront, ReadsReader};
 
 use postcard_de::{Deserialize, Deserializer};
@@ -32,7 +33,7 @@ pub fn take_from_bytes<'a, T: Deserialize<'a>>(
     ensures reads_back { (x : T) (rest : List ℕ) → T.shape.fits x → bytes.now ≡ canonical (T.shape.tree x) ++ rest →
         MatchResult result (λ read. T.shape.same read.0 x × (read.1.now ≡ rest)) (λ e. (e ≡ Error.OutOfMemory) × T.shape.grows) }
     ensures grows { result ≡ Err Error.OutOfMemory → T.shape.grows }
-    ensures never { result ≢ Err Error.DeserializeBadEncoding }
+    ensures names { IfErr result (MayAnswer T.shape.grows) }
 {
     let mut deserializer = Deserializer::from_bytes(bytes);
     let value = T::deserialize(alloc, &mut deserializer)?;
@@ -52,7 +53,7 @@ pub fn from_bytes<'a, T: Deserialize<'a>>(alloc: Global, bytes: &'a [u8]) -> Res
     ensures reads_back { (x : T) (rest : List ℕ) → T.shape.fits x → bytes.now ≡ canonical (T.shape.tree x) ++ rest →
         MatchResult result (λ value. T.shape.same value x) (λ e. (e ≡ Error.OutOfMemory) × T.shape.grows) }
     ensures grows { result ≡ Err Error.OutOfMemory → T.shape.grows }
-    ensures never { result ≢ Err Error.DeserializeBadEncoding }
+    ensures names { IfErr result (MayAnswer T.shape.grows) }
 {
     let (value, _) = take_from_bytes(alloc, bytes)?;
     Ok(value)
@@ -85,7 +86,7 @@ pub fn from_io<'a, T: Deserialize<'a>, R: Source + 'a>(
         → MatchResult result (λ read. T.shape.same read.0 x × Consumes (R.remaining from.entry.0) (R.remaining read.1.0) (canonical (T.shape.tree x))) (λ e. (e ≡ Error.OutOfMemory) × T.shape.grows) }
     ensures stays_steady { R.steady from.entry.0 → IfOk result (λ read. R.steady read.1.0) }
     ensures grows { result ≡ Err Error.OutOfMemory → T.shape.grows }
-    ensures never { result ≢ Err Error.DeserializeBadEncoding }
+    ensures names { IfErr result (MayAnswer T.shape.grows) }
 {
     let (reader, scratch) = from;
     let mut deserializer = Deserializer::from_flavor(IOReader::new(reader, scratch));

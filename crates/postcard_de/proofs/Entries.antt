@@ -1,15 +1,15 @@
 -- Reading a pair of a map, arrays, and lists of few elements.
-use Rattle.std.proofs.Common.{◌≡◌, ◌≢◌, ℕ, ◌≤◌, ◌⊎◌, List, [], ◌∷◌, ◌++◌, Option, Ok, refl, sym, ◌∙◌, subst}
+use Rattle.std.proofs.Common.{◌≡◌, ℕ, ◌≤◌, ◌⊎◌, List, [], ◌∷◌, ◌++◌, Option, Ok, refl, sym, ◌∙◌}
+use Rattle.std.proofs.Common.{subst}
 use Rattle.std.specs.declared.cmp.Ordering.{Ordering}
 use Rattle.std.specs.BTreeMap.{insert_entry}
 use Rattle.postcard_wire.specs.declared.error.Error.{Error}
-use Rattle.postcard_wire.specs.declared.error.Error.TheVariants.{OutOfMemory, DeserializeBadEncoding}
 use Rattle.postcard_wire.specs.Number.{SpellsNum}
 use Rattle.postcard_wire.specs.Tree.{Tree, Group, Seq, count}
 use Rattle.postcard_wire.specs.Spelling.{Spells, SpellsAll}
 use Rattle.postcard_wire.specs.Reading.{IsGroup, IsArray}
 use Rattle.postcard_de_flavors.specs.Source.{Laws}
-use Rattle.postcard_de.specs.Reads.{Reads}
+use Rattle.postcard_de.specs.Reads.{MayAnswer, ReadsFrom}
 use Rattle.postcard_shape.specs.Values.{Same, EachIs, ListIs, AreRead}
 use Rattle.postcard_shape.specs.Maps.{IsEntry, EntryIs, inserted}
 use Rattle.postcard_shape.specs.Fixed.{IsFewSeq}
@@ -20,73 +20,153 @@ use Rattle.postcard_de.proofs.Sift.{none_follows}
 use Rattle.postcard_de.proofs.Parts.{struct_read, and_part, no_more, struct_fails, stops, and_fails}
 
 -- One pair more is put in last.
-pub inserted_last : {A B : Type 0} (cmp : A → A → Ordering) (ps es : List (A × B)) (a : A) (b : B) → inserted cmp (ps ++ ((a, b) ∷ [])) es ≡ insert_entry cmp (inserted cmp ps es) a b
+pub inserted_last : {A B : Type 0} (cmp : A → A → Ordering) (ps es : List (A × B)) (a : A) (b : B) →
+    inserted cmp (ps ++ ((a, b) ∷ [])) es ≡ insert_entry cmp (inserted cmp ps es) a b
 inserted_last cmp [] es a b = refl
 inserted_last cmp (p ∷ ps) es a b = inserted_last cmp ps (insert_entry cmp es p.0 p.1) a b
 
 -- A list of at most m elements is a count of at most m and as many trees.
-pub count_and_few : (m : ℕ) (R : Tree → Type 0) → Compound (λ (n : ℕ) ts. Seq ts) (SpellsNum 64) (Below 64) Same SpellsAll (λ n ts. AreRead n R ts × (n ≤ m)) Spells (IsFewSeq m R)
+pub count_and_few : (m : ℕ) (R : Tree → Type 0) →
+    Compound (λ (n : ℕ) ts. Seq ts) (SpellsNum 64) (Below 64) Same SpellsAll
+    (λ n ts. AreRead n R ts × (n ≤ m)) Spells (IsFewSeq m R)
 count_and_few m R = record {
   joined = λ n ts v p q low same s a b.
-      let e : n ≡ count ts = same ∙ sym s.0.0 in
-      ((ts, refl, subst (λ (k : ℕ). k ≤ m) (sym s.0.0) s.1, subst (Below 64) e low, s.0.1), (p, q, subst (λ (k : ℕ). SpellsNum 64 k p) e a, b, refl));
-  parted = λ z r a s. let t : Spells (Seq a.0) r = rw a.1 at s in (count a.0, a.0, t.0, t.1, sym a.1, a.3, t.2, t.3, t.4, λ v same. ((same, a.4), subst (λ (k : ℕ). k ≤ m) same a.2));
+      let e : n ≡ count ts = same ∙ sym s.0.0 in (
+        (ts, refl, subst (λ (k : ℕ). k ≤ m) (sym s.0.0) s.1, subst (Below 64) e low, s.0.1),
+        (p, q, subst (λ (k : ℕ). SpellsNum 64 k p) e a, b, refl),
+      );
+  parted = λ z r a s. let t : Spells (Seq a.0) r = rw a.1 at s in (
+    count a.0,
+    a.0,
+    t.0,
+    t.1,
+    sym a.1,
+    a.3,
+    t.2,
+    t.3,
+    t.4,
+    λ v same.
+        ((same, a.4), subst (λ (k : ℕ). k ≤ m) same a.2),
+  );
 }
 
-module _ {S : Type 0} {left : S → Option (List ℕ)} {able : S → ℕ → Type 0} {may_leave : S → S → Type 0} (laws : Laws left able may_leave) where
+module _ {S : Type 0} {left : S → Option (List ℕ)} {able : S → ℕ → Type 0}
+    {may_leave : S → S → Type 0} (laws : Laws left able may_leave) where
   -- A pair's key refuses.
-  pub key_refused : {A B : Type 0} {K V : Tree → Type 0} {I : Tree → A → Type 0} {G H : Type 0} {value : Tree → A × B → Type 0} {old new : S} {e : Error} → Reads Spells K I G left able may_leave old (refusal A e) new → Reads Spells (IsEntry K V) value (G ⊎ (H ⊎ ⊥)) left able may_leave old (refusal (A × B) e) new
+  pub key_refused : {A B : Type 0} {K V : Tree → Type 0} {I : Tree → A → Type 0} {G H : Type 0}
+      {value : Tree → A × B → Type 0} {old new : S} {e : Error} →
+      ReadsFrom Spells K I G left able may_leave old (refusal A e) new →
+      ReadsFrom Spells (IsEntry K V) value (G ⊎ (H ⊎ ⊥)) left able may_leave old (refusal (A × B) e)
+      new
   key_refused r = struct_fails laws refl (stops laws r)
 
-  module _ {A B : Type 0} {K V : Tree → Type 0} {I : Tree → A → Type 0} {J : Tree → B → Type 0} {G H : Type 0} where
+  module _ {A B : Type 0} {K V : Tree → Type 0} {I : Tree → A → Type 0} {J : Tree → B → Type 0}
+      {G H : Type 0} where
     -- The key was read, and the value refuses.
-    pub value_refused : {old mid new : S} {a : A} {e : Error} → Reads Spells K I G left able may_leave old (Ok a) mid → Reads Spells V J H left able may_leave mid (refusal B e) new → Reads Spells (IsEntry K V) (EntryIs I J) (G ⊎ (H ⊎ ⊥)) left able may_leave old (refusal (A × B) e) new
+    pub value_refused : {old mid new : S} {a : A} {e : Error} →
+        ReadsFrom Spells K I G left able may_leave old (Ok a) mid →
+        ReadsFrom Spells V J H left able may_leave mid (refusal B e) new →
+        ReadsFrom Spells (IsEntry K V) (EntryIs I J) (G ⊎ (H ⊎ ⊥)) left able may_leave old
+        (refusal (A × B) e) new
     value_refused r s = struct_fails laws refl (and_fails laws r (stops laws s))
 
     -- Both were read.
-    pub entry_read : {old mid new : S} {a : A} {b : B} → Reads Spells K I G left able may_leave old (Ok a) mid → Reads Spells V J H left able may_leave mid (Ok b) new → Reads Spells (IsEntry K V) (EntryIs I J) (G ⊎ (H ⊎ ⊥)) left able may_leave old (Ok (a, b)) new
+    pub entry_read : {old mid new : S} {a : A} {b : B} →
+        ReadsFrom Spells K I G left able may_leave old (Ok a) mid →
+        ReadsFrom Spells V J H left able may_leave mid (Ok b) new →
+        ReadsFrom Spells (IsEntry K V) (EntryIs I J) (G ⊎ (H ⊎ ⊥)) left able may_leave old
+        (Ok (a, b)) new
     entry_read r s = struct_read laws (λ t h. h) (and_part laws r (and_part laws s (no_more laws)))
 
   module _ {V : Type 0} {R : Tree → Type 0} {I : Tree → V → Type 0} {H : Type 0} where
     -- All elements of an array were read.
-    pub array_read : {n : ℕ} {old new : S} {vs : List V} → Reads SpellsAll (AreRead n R) (EachIs I) H left able may_leave old (Ok vs) new → Reads Spells (IsArray n R) (λ t v. IsGroup (λ ts. EachIs I ts v) t) H left able may_leave old (Ok vs) new
+    pub array_read : {n : ℕ} {old new : S} {vs : List V} →
+        ReadsFrom SpellsAll (AreRead n R) (EachIs I) H left able may_leave old (Ok vs) new →
+        ReadsFrom Spells (IsArray n R) (λ t v. IsGroup (λ ts. EachIs I ts v) t) H left able
+        may_leave old (Ok vs) new
     array_read r = let g = r.gives in record {
-      gives = record { thing = Group g.thing; front = g.front; is_read = (g.thing, refl, g.is_read.0, g.is_read.1); is_spelled = g.is_spelled; has = (g.thing, refl, g.has); taken = g.taken };
-      accepts = λ t p a b c. let k = r.accepts a.0 p (a.2, a.3) (rw a.1 at b) c in ((a.0, a.1, k.0), k.1);
+      gives = record {
+        thing = Group g.thing;
+        front = g.front;
+        is_read = (g.thing, refl, g.is_read.0, g.is_read.1);
+        is_spelled = g.is_spelled;
+        has = (g.thing, refl, g.has);
+        taken = g.taken;
+      };
+      accepts = λ t p a b c. let k = r.accepts a.0 p (a.2, a.3) (rw a.1 at b) c in
+          ((a.0, a.1, k.0), k.1);
       leaves = r.leaves;
-      grown = λ h. cc;
-      never = λ h. cc;
+      names = tt;
     }
 
     -- They refuse.
-    pub array_refused : {n : ℕ} {old new : S} {e : Error} → Reads SpellsAll (AreRead n R) (EachIs I) H left able may_leave old (refusal (List V) e) new → Reads Spells (IsArray n R) (λ t v. IsGroup (λ ts. EachIs I ts v) t) H left able may_leave old (refusal (List V) e) new
+    pub array_refused : {n : ℕ} {old new : S} {e : Error} →
+        ReadsFrom SpellsAll (AreRead n R) (EachIs I) H left able may_leave old (refusal (List V) e)
+        new → ReadsFrom Spells (IsArray n R) (λ t v. IsGroup (λ ts. EachIs I ts v) t) H left able
+        may_leave old (refusal (List V) e) new
     array_refused r = record {
       gives = tt;
       accepts = λ t p a b c. r.accepts a.0 p (a.2, a.3) (rw a.1 at b) c;
       leaves = r.leaves;
-      grown = λ h. r.grown cc;
-      never = λ h. r.never cc;
+      names = r.names;
     }
 
-    module _ {A : Type 0} {see : A → List V} {m n : ℕ} {old mid new : S} (counted : Reads (SpellsNum 64) (Below 64) Same ⊥ left able may_leave old (Ok n) mid) where
-      -- The count and as few elements were read.
-      pub few_read : {a : A} → n ≤ m → Reads SpellsAll (AreRead n R) (EachIs I) H left able may_leave mid (Ok (see a)) new → Reads Spells (IsFewSeq m R) (λ t x. ListIs I t (see x)) H left able may_leave old (Ok a) new
-      few_read few k = both_read laws (count_and_few m R) (λ j ts same h. (ts, refl, h)) counted (allowed few k)
-        where
-          allowed : {a : A} → n ≤ m → Reads SpellsAll (AreRead n R) (EachIs I) H left able may_leave mid (Ok (see a)) new → Reads SpellsAll (λ ts. AreRead n R ts × (n ≤ m)) (EachIs I) H left able may_leave mid (Ok (see a)) new
-          allowed few k = let g = k.gives in record { gives = record { thing = g.thing; front = g.front; is_read = (g.is_read, few); is_spelled = g.is_spelled; has = g.has; taken = g.taken }; accepts = λ x p a b c. k.accepts x p a.0 b c; leaves = k.leaves; grown = k.grown; never = k.never }
+    module _ {A : Type 0} {see : A → List V} {m n : ℕ} {old mid new : S}
+        (counted : ReadsFrom (SpellsNum 64) (Below 64) Same ⊥ left able may_leave old (Ok n) mid)
+      where
+        -- The count and as few elements were read.
+        pub few_read : {a : A} → n ≤ m → ReadsFrom SpellsAll (AreRead n R) (EachIs I) H left able
+            may_leave mid (Ok (see a)) new → ReadsFrom Spells (IsFewSeq m R)
+            (λ t x. ListIs I t (see x)) H left able may_leave old (Ok a) new
+        few_read few k =
+            both_read laws (count_and_few m R) (λ j ts same h. (ts, refl, h)) counted
+            (allowed few k)
+          where
+            allowed : {a : A} → n ≤ m → ReadsFrom SpellsAll (AreRead n R) (EachIs I) H left able
+                may_leave mid (Ok (see a)) new →
+                ReadsFrom SpellsAll (λ ts. AreRead n R ts × (n ≤ m)) (EachIs I) H left able
+                may_leave mid (Ok (see a)) new
+            allowed few k = let g = k.gives in
+                record {
+                  gives = record {
+                    thing = g.thing;
+                    front = g.front;
+                    is_read = (g.is_read, few);
+                    is_spelled = g.is_spelled;
+                    has = g.has;
+                    taken = g.taken;
+                  };
+                  accepts = λ x p a b c. k.accepts x p a.0 b c;
+                  leaves = k.leaves;
+                  names = k.names;
+                }
 
-      -- The count was read, and the elements refuse.
-      pub few_refused : {e : Error} → Reads SpellsAll (AreRead n R) (EachIs I) H left able may_leave mid (refusal (List V) e) new → Reads Spells (IsFewSeq m R) (λ t x. ListIs I t (see x)) H left able may_leave old (refusal A e) new
-      few_refused {e} k = second_refused laws (count_and_few m R) (λ g. g) counted fewer
-        where
-          fewer : Reads SpellsAll (λ ts. AreRead n R ts × (n ≤ m)) (EachIs I) H left able may_leave mid (refusal (List V) e) new
-          fewer = record { gives = tt; accepts = λ x p a b c. k.accepts x p a.0 b c; leaves = k.leaves; grown = k.grown; never = k.never }
+        -- The count was read, and the elements refuse.
+        pub few_refused : {e : Error} → ReadsFrom SpellsAll (AreRead n R) (EachIs I) H left able
+            may_leave mid (refusal (List V) e) new →
+            ReadsFrom Spells (IsFewSeq m R) (λ t x. ListIs I t (see x)) H left able may_leave old
+            (refusal A e) new
+        few_refused {e} k = second_refused laws (count_and_few m R) (λ g. g) counted fewer
+          where
+            fewer : ReadsFrom SpellsAll (λ ts. AreRead n R ts × (n ≤ m)) (EachIs I) H left able
+                may_leave mid (refusal (List V) e) new
+            fewer = record {
+              gives = tt;
+              accepts = λ x p a b c. k.accepts x p a.0 b c;
+              leaves = k.leaves;
+              names = k.names;
+            }
 
-      -- More were announced than there is room for, and some were read.
-      pub too_many : {e : Error} → e ≢ OutOfMemory → e ≢ DeserializeBadEncoding → (n ≤ m → ⊥) → may_leave mid new → Reads Spells (IsFewSeq m R) (λ t x. ListIs I t (see x)) H left able may_leave old (refusal A e) new
-      too_many other never many l = none_follows laws (count_and_few m R) other never (λ ts a. many a.1) l counted
+        -- More were announced than there is room for, and some were read.
+        pub too_many : {e : Error} → MayAnswer H e → (n ≤ m → ⊥) → may_leave mid new →
+            ReadsFrom Spells (IsFewSeq m R) (λ t x. ListIs I t (see x)) H left able may_leave old
+            (refusal A e) new
+        too_many named many l =
+            none_follows laws (count_and_few m R) named (λ ts a. many a.1) l counted
 
   -- The count was refused.
-  pub few_count_refused : {A : Type 0} {K : Tree → A → Type 0} {R : Tree → Type 0} {H : Type 0} {m : ℕ} {old new : S} {e : Error} → Reads (SpellsNum 64) (Below 64) Same ⊥ left able may_leave old (refusal ℕ e) new → Reads Spells (IsFewSeq m R) K H left able may_leave old (refusal A e) new
+  pub few_count_refused : {A : Type 0} {K : Tree → A → Type 0} {R : Tree → Type 0} {H : Type 0}
+      {m : ℕ} {old new : S} {e : Error} → ReadsFrom (SpellsNum 64) (Below 64) Same ⊥ left able
+      may_leave old (refusal ℕ e) new → ReadsFrom Spells (IsFewSeq m R) K H left able may_leave old
+      (refusal A e) new
   few_count_refused {R = R} {m = m} r = first_refused laws (count_and_few m R) (λ z. absurd z) r

@@ -1,3 +1,4 @@
+pub mod Named
 pub mod Taking
 pub mod Leaves
 pub mod Numbers
@@ -8,11 +9,9 @@ pub mod Parts
 pub mod Sift
 pub mod Enums
 pub mod Options
-pub mod Spans
 pub mod Entries
 pub mod Chars
 pub mod Bytes
 pub mod Fixed
-pub mod Content
 pub mod Groups
 pub mod Mapped

@@ -1,5 +1,7 @@
 -- Reading a list element by element, behind its count.
-use Rattle.std.proofs.Common.{◌≡◌, ℕ, zero, suc, ◌-◌, ◌<◌, List, [], ◌∷◌, ◌++◌, Option, Some, None, Ok, Err, Result, refl, sym, ◌∙◌, ap, subst, arith, append_assoc, append-nil}
+use Rattle.std.proofs.Common.{◌≡◌, ℕ, suc, List, [], ◌∷◌, ◌++◌, Option}
+use Rattle.std.proofs.Common.{Ok, Err, Result, refl, sym, ◌∙◌, ap, subst, arith, append_assoc}
+use Rattle.std.proofs.Common.{append-nil}
 use Rattle.postcard_wire.specs.declared.error.Error.{Error}
 use Rattle.postcard_wire.specs.declared.error.Error.TheVariants.{OutOfMemory}
 use Rattle.postcard_wire.specs.Number.{SpellsNum}
@@ -7,8 +9,9 @@ use Rattle.postcard_wire.specs.Tree.{Tree, Trees, Seq, NoTrees, Then, count}
 use Rattle.postcard_wire.specs.Spelling.{Spells, SpellsAll}
 use Rattle.postcard_wire.specs.Reading.{IsSeq}
 use Rattle.postcard_de_flavors.specs.Source.{CanTake, Takes, Laws}
-use Rattle.postcard_de.specs.Reads.{Reads}
-use Rattle.postcard_shape.specs.Values.{Same, EachIs, ListIs, SomeIs, AreRead}
+use Rattle.postcard_de.specs.Reads.{ReadsFrom}
+use Rattle.postcard_shape.specs.Values.{Same, EachIs, ListIs, AreRead}
+use Rattle.postcard_de.proofs.Named.{wider}
 use Rattle.postcard_de.proofs.Taking.{nothing_taken, can_first}
 use Rattle.postcard_de.proofs.Leaves.{refusal, out_of_memory}
 use Rattle.postcard_de.proofs.Numbers.{Below}
@@ -20,120 +23,148 @@ behind us (Ok vs) = Ok (us ++ vs)
 behind us (Err e) = Err e
 
 -- Trees in a row are one and the rest.
-pub one_and_rest : {V : Type 0} (R : Tree → Type 0) (I : Tree → V → Type 0) (n : ℕ) → Compound Then Spells R I SpellsAll (λ v ts. AreRead n R ts) SpellsAll (AreRead (suc n) R)
+pub one_and_rest : {V : Type 0} (R : Tree → Type 0) (I : Tree → V → Type 0) (n : ℕ) →
+    Compound Then Spells R I SpellsAll (λ v ts. AreRead n R ts) SpellsAll (AreRead (suc n) R)
 one_and_rest {V} R I n = record {
   joined = λ t ts v p q r i s a b. ((ap suc s.0, (r, s.1)), (p, q, a, b, refl));
   parted = parted;
 }
   where
-    parted : (z : Trees) (r : List ℕ) → AreRead (suc n) R z → SpellsAll z r → (x : Tree) × (y : Trees) × (p : List ℕ) × (q : List ℕ) × (Then x y ≡ z) × R x × Spells x p × SpellsAll y q × (r ≡ p ++ q) × ((v : V) → I x v → AreRead n R y)
+    parted : (z : Trees) (r : List ℕ) → AreRead (suc n) R z → SpellsAll z r →
+        (x : Tree) × (y : Trees) × (p : List ℕ) × (q : List ℕ) × (Then x y ≡ z) × R x × Spells x p
+        × SpellsAll y q × (r ≡ p ++ q) × ((v : V) → I x v → AreRead n R y)
     parted NoTrees r a s = absurd (omega (arith, a.0))
-    parted (Then t ts) r a (p, q, s, k, e) = (t, ts, p, q, refl, a.1.0, s, k, e, λ v i. (omega (arith, a.0), a.1.1))
+    parted (Then t ts) r a (p, q, s, k, e) =
+        (t, ts, p, q, refl, a.1.0, s, k, e, λ v i. (omega (arith, a.0), a.1.1))
 
 -- A list is a count and as many trees.
-pub count_and_parts : (R : Tree → Type 0) → Compound (λ (n : ℕ) ts. Seq ts) (SpellsNum 64) (Below 64) Same SpellsAll (λ n ts. AreRead n R ts) Spells (IsSeq R)
+pub count_and_parts : (R : Tree → Type 0) → Compound (λ (n : ℕ) ts. Seq ts) (SpellsNum 64)
+    (Below 64) Same SpellsAll (λ n ts. AreRead n R ts) Spells (IsSeq R)
 count_and_parts R = record {
   joined = λ n ts v p q low same s a b.
-      let e : n ≡ count ts = same ∙ sym s.0 in
-      ((ts, refl, subst (Below 64) e low, s.1), (p, q, subst (λ (m : ℕ). SpellsNum 64 m p) e a, b, refl));
-  parted = λ z r a s. let t : Spells (Seq a.0) r = rw a.1 at s in (count a.0, a.0, t.0, t.1, sym a.1, a.2, t.2, t.3, t.4, λ v same. (same, a.3));
+      let e : n ≡ count ts = same ∙ sym s.0 in (
+        (ts, refl, subst (Below 64) e low, s.1),
+        (
+          p,
+          q,
+          subst (λ (m : ℕ). SpellsNum 64 m p) e a,
+          b,
+          refl,
+        ),
+      );
+  parted = λ z r a s. let t : Spells (Seq a.0) r = rw a.1 at s in
+      (count a.0, a.0, t.0, t.1, sym a.1, a.2, t.2, t.3, t.4, λ v same. (same, a.3));
 }
 
 -- What reading the elements that are left would give is what reading all gives.
-pub record Going {S V : Type 0} (left : S → Option (List ℕ)) (able : S → ℕ → Type 0) (may_leave : S → S → Type 0) (R : Tree → Type 0) (I : Tree → V → Type 0) (H : Type 0) (start : S) (all : ℕ) (items : List V) (now : S) (rest : ℕ) : Type 0 where
-  pub ends : (r : Result (List V) Error) (new : S) → Reads SpellsAll (AreRead rest R) (EachIs I) H left able may_leave now r new → Reads SpellsAll (AreRead all R) (EachIs I) H left able may_leave start (behind items r) new
+pub record Going {S V : Type 0} (left : S → Option (List ℕ)) (able : S → ℕ → Type 0)
+    (may_leave : S → S → Type 0) (R : Tree → Type 0) (I : Tree → V → Type 0) (H : Type 0)
+    (start : S) (all : ℕ) (items : List V) (now : S) (rest : ℕ) : Type 0 where
+  pub ends : (r : Result (List V) Error) (new : S) →
+      ReadsFrom SpellsAll (AreRead rest R) (EachIs I) H left able may_leave now r new →
+      ReadsFrom SpellsAll (AreRead all R) (EachIs I) H left able may_leave start (behind items r)
+      new
 
-module _ {S V : Type 0} {left : S → Option (List ℕ)} {able : S → ℕ → Type 0} {may_leave : S → S → Type 0} (laws : Laws left able may_leave) {R : Tree → Type 0} {I : Tree → V → Type 0} {H : Type 0} where
+module _ {S V : Type 0} {left : S → Option (List ℕ)} {able : S → ℕ → Type 0}
+    {may_leave : S → S → Type 0} (laws : Laws left able may_leave) {R : Tree → Type 0}
+    {I : Tree → V → Type 0} {H : Type 0} where
   -- None was read yet.
   pub going : {start : S} {all : ℕ} → Going left able may_leave R I H start all [] start all
   going {start} {all} = record { ends = ends }
     where
-      ends : (r : Result (List V) Error) (new : S) → Reads SpellsAll (AreRead all R) (EachIs I) H left able may_leave start r new → Reads SpellsAll (AreRead all R) (EachIs I) H left able may_leave start (behind [] r) new
+      ends : (r : Result (List V) Error) (new : S) →
+          ReadsFrom SpellsAll (AreRead all R) (EachIs I) H left able may_leave start r new →
+          ReadsFrom SpellsAll (AreRead all R) (EachIs I) H left able may_leave start (behind [] r)
+          new
       ends (Ok vs) new h = h
       ends (Err e) new h = h
 
   -- One more was read.
-  pub goes_on : {G : Type 0} {start now mid : S} {all rest : ℕ} {items : List V} {v : V} → (G → H) → Going left able may_leave R I H start all items now (suc rest) →
-      Reads Spells R I G left able may_leave now (Ok v) mid → Going left able may_leave R I H start all (items ++ v ∷ []) mid rest
-  goes_on {start = start} {mid = mid} {all = all} {rest = rest} {items = items} {v = v} grow so h = record { ends = ends }
+  pub goes_on : {G : Type 0} {start now mid : S} {all rest : ℕ} {items : List V} {v : V} → (G → H) →
+      Going left able may_leave R I H start all items now (suc rest) →
+      ReadsFrom Spells R I G left able may_leave now (Ok v) mid →
+      Going left able may_leave R I H start all (items ++ v ∷ []) mid rest
+  goes_on {start = start} {mid = mid} {all = all} {rest = rest} {items = items} {v = v} grow so h =
+      record { ends = ends }
     where
-      ends : (r : Result (List V) Error) (new : S) → Reads SpellsAll (AreRead rest R) (EachIs I) H left able may_leave mid r new → Reads SpellsAll (AreRead all R) (EachIs I) H left able may_leave start (behind (items ++ v ∷ []) r) new
-      ends (Ok vs) new k = rw (append_assoc items (v ∷ []) vs) (so.ends (Ok (v ∷ vs)) new (both_read laws (one_and_rest R I rest) (λ t ts i j. (i, j)) h k))
-      ends (Err e) new k = so.ends (Err e) new (second_refused laws (one_and_rest R I rest) (λ g. g) h k)
+      ends : (r : Result (List V) Error) (new : S) →
+          ReadsFrom SpellsAll (AreRead rest R) (EachIs I) H left able may_leave mid r new →
+          ReadsFrom SpellsAll (AreRead all R) (EachIs I) H left able may_leave start
+          (behind (items ++ v ∷ []) r) new
+      ends (Ok vs) new k = rw (append_assoc items (v ∷ []) vs)
+          (so.ends (Ok (v ∷ vs)) new (both_read laws (one_and_rest R I rest) (λ t ts i j. (i, j)) h
+          k))
+      ends (Err e) new k =
+          so.ends (Err e) new (second_refused laws (one_and_rest R I rest) (λ g. g) h k)
 
   -- The next one refuses.
-  pub going_stops : {G W : Type 0} {I' : Tree → W → Type 0} {start now new : S} {all rest : ℕ} {items : List V} {e : Error} → (G → H) → Going left able may_leave R I H start all items now (suc rest) →
-      Reads Spells R I' G left able may_leave now (refusal W e) new → Reads SpellsAll (AreRead all R) (EachIs I) H left able may_leave start (refusal (List V) e) new
-  going_stops {I' = I'} {new = new} {rest = rest} {e = e} grow so h = so.ends (Err e) new (first_refused laws (one_and_rest R I' rest) grow h)
+  pub going_stops : {G W : Type 0} {I' : Tree → W → Type 0} {start now new : S} {all rest : ℕ}
+      {items : List V} {e : Error} → (G → H) →
+      Going left able may_leave R I H start all items now (suc rest) →
+      ReadsFrom Spells R I' G left able may_leave now (refusal W e) new →
+      ReadsFrom SpellsAll (AreRead all R) (EachIs I) H left able may_leave start
+      (refusal (List V) e) new
+  going_stops {I' = I'} {new = new} {rest = rest} {e = e} grow so h =
+      so.ends (Err e) new (first_refused laws (one_and_rest R I' rest) grow h)
 
   -- Memory ran out.
-  pub going_full : {start now new : S} {all rest : ℕ} {items : List V} → H → Going left able may_leave R I H start all items now (suc rest) → may_leave now new →
-      Reads SpellsAll (AreRead all R) (EachIs I) H left able may_leave start (refusal (List V) OutOfMemory) new
+  pub going_full : {start now new : S} {all rest : ℕ} {items : List V} → H →
+      Going left able may_leave R I H start all items now (suc rest) → may_leave now new →
+      ReadsFrom SpellsAll (AreRead all R) (EachIs I) H left able may_leave start
+      (refusal (List V) OutOfMemory) new
   going_full {new = new} h so l = so.ends (Err OutOfMemory) new (out_of_memory l h)
 
   -- None is left.
-  pub going_done : {start now : S} {all : ℕ} {items : List V} → Going left able may_leave R I H start all items now 0 →
-      Reads SpellsAll (AreRead all R) (EachIs I) H left able may_leave start (Ok items) now
+  pub going_done : {start now : S} {all : ℕ} {items : List V} →
+      Going left able may_leave R I H start all items now 0 →
+      ReadsFrom SpellsAll (AreRead all R) (EachIs I) H left able may_leave start (Ok items) now
   going_done {now = now} so = rw append-nil at (so.ends (Ok []) now (record {
-    gives = record { thing = NoTrees; front = []; is_read = (refl, tt); is_spelled = refl; has = tt; taken = nothing_taken now };
+    gives = record {
+      thing = NoTrees;
+      front = [];
+      is_read = (refl, tt);
+      is_spelled = refl;
+      has = tt;
+      taken = nothing_taken now;
+    };
     accepts = accepts;
     leaves = laws.itself now;
-    grown = λ h. cc;
-    never = λ h. cc;
+    names = tt;
   }))
     where
-      accepts : (ts : Trees) (p : List ℕ) → AreRead 0 R ts → SpellsAll ts p → CanTake left able now p → EachIs I ts [] × Takes left able now p now
+      accepts : (ts : Trees) (p : List ℕ) → AreRead 0 R ts → SpellsAll ts p →
+          CanTake left able now p → EachIs I ts [] × Takes left able now p now
       accepts NoTrees p a s c = (tt, rw s (nothing_taken now))
       accepts (Then t ts) p a s c = absurd (omega (arith, a.0))
 
   -- The count and then the elements were read.
   pub list_read : {A : Type 0} (see : A → List V) {old mid new : S} {n : ℕ} (a : A) →
-      Reads (SpellsNum 64) (Below 64) Same ⊥ left able may_leave old (Ok n) mid → Reads SpellsAll (AreRead n R) (EachIs I) H left able may_leave mid (Ok (see a)) new →
-      Reads Spells (IsSeq R) (λ t x. ListIs I t (see x)) H left able may_leave old (Ok a) new
+      ReadsFrom (SpellsNum 64) (Below 64) Same ⊥ left able may_leave old (Ok n) mid →
+      ReadsFrom SpellsAll (AreRead n R) (EachIs I) H left able may_leave mid (Ok (see a)) new →
+      ReadsFrom Spells (IsSeq R) (λ t x. ListIs I t (see x)) H left able may_leave old (Ok a) new
   list_read see a h k = both_read laws (count_and_parts R) (λ n ts i j. (ts, refl, j)) h k
 
   -- The count was read, and then the elements refuse.
   pub list_refused : {A : Type 0} (see : A → List V) {old mid new : S} {n : ℕ} {e : Error} →
-      Reads (SpellsNum 64) (Below 64) Same ⊥ left able may_leave old (Ok n) mid → Reads SpellsAll (AreRead n R) (EachIs I) H left able may_leave mid (refusal (List V) e) new →
-      Reads Spells (IsSeq R) (λ t x. ListIs I t (see x)) H left able may_leave old (refusal A e) new
+      ReadsFrom (SpellsNum 64) (Below 64) Same ⊥ left able may_leave old (Ok n) mid →
+      ReadsFrom SpellsAll (AreRead n R) (EachIs I) H left able may_leave mid
+      (refusal (List V) e) new →
+      ReadsFrom Spells (IsSeq R) (λ t x. ListIs I t (see x)) H left able may_leave old (refusal A e)
+      new
   list_refused see h k = second_refused laws (count_and_parts R) (λ g. g) h k
 
-module _ {S : Type 0} {left : S → Option (List ℕ)} {able : S → ℕ → Type 0} {may_leave : S → S → Type 0} (laws : Laws left able may_leave) {R : Tree → Type 0} {H : Type 0} where
-  -- The count was refused.
-  pub count_refused : {A W : Type 0} {value : ℕ → W → Type 0} {K : Tree → A → Type 0} {old new : S} {e : Error} → Reads (SpellsNum 64) (Below 64) value ⊥ left able may_leave old (refusal W e) new → Reads Spells (IsSeq R) K H left able may_leave old (refusal A e) new
-  count_refused r = record {
-    gives = tt;
-    accepts = λ t p a s c. let q : Spells (Seq a.0) p = rw a.1 at s in r.accepts (count a.0) q.0 a.2 q.2 (can_first laws q.0 q.1 (rw q.4 at c));
-    leaves = r.leaves;
-    grown = λ h. absurd (r.grown cc);
-    never = λ h. r.never cc;
-  }
-
-module _ {S V : Type 0} {left : S → Option (List ℕ)} {able : S → ℕ → Type 0} {may_leave : S → S → Type 0} {R : Tree → Type 0} {I : Tree → V → Type 0} where
-  -- An element that was read is some.
-  pub unwrapped : {G : Type 0} {old new : S} {v : V} → Reads Spells R (SomeIs I) G left able may_leave old (Ok (Some v)) new → Reads Spells R I G left able may_leave old (Ok v) new
-  unwrapped r = record {
-    gives = record { thing = r.gives.thing; front = r.gives.front; is_read = r.gives.is_read; is_spelled = r.gives.is_spelled; has = r.gives.has; taken = r.gives.taken };
-    accepts = r.accepts;
-    leaves = r.leaves;
-    grown = λ h. cc;
-    never = λ h. cc;
-  }
-
--- A count that isn't 0 is one more than the count below it.
-pub one_more_left : (n : ℕ) → (n ≡ 0 → ⊥) → n ≡ suc (n - 1)
-one_more_left zero h = absurd (h refl)
-one_more_left (suc n) h = omega arith
-
--- A count that isn't above 0 is 0.
-pub none_left : (n : ℕ) → (0 < n → ⊥) → n ≡ 0
-none_left zero h = refl
-none_left (suc n) h = absurd (h (omega arith))
-
--- An answer that there is a further element or none.
-abbrev pub answer : {V : Type 0} → Option V → Result (Option V) Error
-answer o = Ok o
-
--- There is one, so the answer isn't that there is none.
-pub is_some : {V : Type 0} (o : Option V) (v : V) → answer o ≡ answer None → o ≡ Some v → ⊥
-is_some o v a b = cc
+module _ {S : Type 0} {left : S → Option (List ℕ)} {able : S → ℕ → Type 0}
+    {may_leave : S → S → Type 0} (laws : Laws left able may_leave) {R : Tree → Type 0} {H : Type 0}
+  where
+    -- The count was refused.
+    pub count_refused : {A W : Type 0} {value : ℕ → W → Type 0} {K : Tree → A → Type 0}
+        {old new : S} {e : Error} →
+        ReadsFrom (SpellsNum 64) (Below 64) value ⊥ left able may_leave old (refusal W e) new →
+        ReadsFrom Spells (IsSeq R) K H left able may_leave old (refusal A e) new
+    count_refused {e = e} r = record {
+      gives = tt;
+      accepts = λ t p a s c. let q : Spells (Seq a.0) p = rw a.1 at s in
+          r.accepts (count a.0) q.0 a.2 q.2 (can_first laws q.0 q.1 (rw q.4 at c));
+      leaves = r.leaves;
+      names = wider (λ z. absurd z) e r.names;
+    }

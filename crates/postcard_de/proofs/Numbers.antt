@@ -1,7 +1,8 @@
 -- Reading a number digit by digit, and seeing it as a tree.
-use Rattle.std.proofs.Common.{◌≡◌, ℕ, ◌<◌, ◌^◌, inl, inr, List, [], ◌∷◌, ◌++◌, Option, Ok, ℤ, refl, sym, ◌∙◌, subst, arith}
+use Rattle.std.proofs.Common.{◌≡◌, ℕ, ◌<◌, ◌^◌, inl, inr, List, [], ◌∷◌, ◌++◌, Option, Ok, ℤ, refl}
+use Rattle.std.proofs.Common.{sym, ◌∙◌, subst, arith}
 use Rattle.postcard_wire.specs.declared.error.Error.{Error}
-use Rattle.postcard_wire.specs.declared.error.Error.TheVariants.{OutOfMemory, DeserializeUnexpectedEnd, DeserializeBadEncoding, DeserializeBadVarint}
+use Rattle.postcard_wire.specs.declared.error.Error.TheVariants.{DeserializeUnexpectedEnd}
 use Rattle.postcard_wire.specs.declared.digits.Digits.{Digits}
 use Rattle.postcard_wire.specs.Digits.{HasRead}
 use Rattle.postcard_wire.specs.Number.{SpellsNum, zigzag}
@@ -12,8 +13,8 @@ use Rattle.postcard_wire.proofs.Delimited.{num_front, num_delimited, int_delimit
 use Rattle.postcard_wire.proofs.Refused.{longer, none_spelled}
 use Rattle.postcard_wire.proofs.Ranged.{zig_below, in_range}
 use Rattle.postcard_de_flavors.specs.Source.{Takes, Laws}
-use Rattle.postcard_de.specs.Reads.{Reads}
-use Rattle.postcard_de.specs.Refuses.{Refuses, WantsDigit, BadNumber}
+use Rattle.postcard_de.specs.Reads.{MayAnswer, ReadsFrom}
+use Rattle.postcard_de.specs.Refuses.{RefusesFrom, WantsDigit, BadNumber}
 use Rattle.postcard_shape.specs.Values.{Same}
 use Rattle.postcard_de.proofs.Taking.{nothing_taken, both_taken}
 use Rattle.postcard_de.proofs.Leaves.{Delimits, Excludes, found, refused, refusal}
@@ -31,8 +32,7 @@ pub number_excludes : (w : ℕ) → Excludes ⊥ (WantsDigit w) (BadNumber w) (S
 number_excludes w = record {
   within = λ x p q n y z wanted r s e. omega (arith, longer p q y z wanted.0 s.digits e, wanted.2);
   none = λ x p q f y z bad r s e. absurd (none_spelled w x p q y z bad.1 s r e);
-  grown = λ p bad. let e : OutOfMemory ≡ DeserializeBadVarint = bad.0 in cc;
-  never = λ p bad. let e : DeserializeBadEncoding ≡ DeserializeBadVarint = bad.0 in cc;
+  named = λ p e bad. subst (MayAnswer ⊥) (sym bad.0) tt;
 }
 
 -- The same, of a number's tree.
@@ -40,66 +40,103 @@ num_excludes : (w : ℕ) → Excludes ⊥ (WantsDigit w) (BadNumber w) Spells (I
 num_excludes w = let k = number_excludes w in record {
   within = λ x p q n y z wanted r s e. k.within r.0 p q n y z wanted r.2 (rw r.1 at s) e;
   none = λ x p q f y z bad r s e. k.none r.0 p q f y z bad r.2 (rw r.1 at s) e;
-  grown = k.grown;
-  never = k.never;
+  named = k.named;
 }
 
 -- The same, of a signed number's tree.
 int_excludes : (w : ℕ) → IsWidth w → Excludes ⊥ (WantsDigit w) (BadNumber w) Spells (IsInt w)
 int_excludes w wide = let k = number_excludes w in record {
-  within = λ x p q n y z wanted r s e. k.within (zigzag r.0) p q n y z wanted (zig_below w r.0 wide r.2) (rw r.1 at s) e;
-  none = λ x p q f y z bad r s e. k.none (zigzag r.0) p q f y z bad (zig_below w r.0 wide r.2) (rw r.1 at s) e;
-  grown = k.grown;
-  never = k.never;
+  within = λ x p q n y z wanted r s e. k.within (zigzag r.0) p q n y z wanted
+      (zig_below w r.0 wide r.2) (rw r.1 at s) e;
+  none = λ x p q f y z bad r s e. k.none (zigzag r.0) p q f y z bad (zig_below w r.0 wide r.2)
+      (rw r.1 at s) e;
+  named = k.named;
 }
 
 -- The digits so far were taken.
-pub record Within {S : Type 0} (w : ℕ) (left : S → Option (List ℕ)) (able : S → ℕ → Type 0) (may_leave : S → S → Type 0) (old : S) (digits : Digits) (now : S) : Type 0 where
+pub record Within {S : Type 0} (w : ℕ) (left : S → Option (List ℕ)) (able : S → ℕ → Type 0)
+    (may_leave : S → S → Type 0) (old : S) (digits : Digits) (now : S) : Type 0 where
   pub front : List ℕ
   pub read : HasRead w front digits
   pub taken : Takes left able old front now
   pub leaves : may_leave old now
 
-module _ {S : Type 0} {left : S → Option (List ℕ)} {able : S → ℕ → Type 0} {may_leave : S → S → Type 0} (laws : Laws left able may_leave) where
+module _ {S : Type 0} {left : S → Option (List ℕ)} {able : S → ℕ → Type 0}
+    {may_leave : S → S → Type 0} (laws : Laws left able may_leave) where
   -- None was taken yet.
-  pub begun : (w : ℕ) (digits : Digits) (old : S) → HasRead w [] digits → Within w left able may_leave old digits old
-  begun w digits old h = record { front = []; read = h; taken = nothing_taken old; leaves = laws.itself old }
+  pub begun : (w : ℕ) (digits : Digits) (old : S) → HasRead w [] digits →
+      Within w left able may_leave old digits old
+  begun w digits old h =
+      record { front = []; read = h; taken = nothing_taken old; leaves = laws.itself old }
 
   -- The last was taken.
-  pub number_read : {w : ℕ} {digits : Digits} {old now new : S} {b n : ℕ} → (so : Within w left able may_leave old digits now) → Takes left able now (b ∷ []) new → may_leave now new → SpellsNum w n (so.front ++ b ∷ []) → n < 2 ^ w →
-      Reads (SpellsNum w) (Below w) Same ⊥ left able may_leave old (Ok n) new
+  pub number_read : {w : ℕ} {digits : Digits} {old now new : S} {b n : ℕ} →
+      (so : Within w left able may_leave old digits now) → Takes left able now (b ∷ []) new →
+      may_leave now new → SpellsNum w n (so.front ++ b ∷ []) → n < 2 ^ w →
+      ReadsFrom (SpellsNum w) (Below w) Same ⊥ left able may_leave old (Ok n) new
   number_read {w} {old = old} {now = now} {new = new} {b = b} {n = n} so t l s low =
-      found (number_delimited w) n (so.front ++ b ∷ []) n low s refl (both_taken so.taken t) (laws.joins old now new so.leaves l)
+      found (number_delimited w) n (so.front ++ b ∷ []) n low s refl (both_taken so.taken t)
+      (laws.joins old now new so.leaves l)
 
   -- The source has no further one.
-  pub number_ends : {w : ℕ} {digits : Digits} {old now new : S} {e : Error} → Within w left able may_leave old digits now → (able now 1 → ⊥) → e ≡ DeserializeUnexpectedEnd → Refuses (WantsDigit w) (BadNumber w) left able old e new
-  number_ends {now = now} so lacks is = inl (is, record { front = so.front; behind = now; taken = so.taken; count = 1; wanted = (so.read.high, so.read.fewer, refl); lacks = lacks })
+  pub number_ends : {w : ℕ} {digits : Digits} {old now new : S} {e : Error} →
+      Within w left able may_leave old digits now → (able now 1 → ⊥) →
+      e ≡ DeserializeUnexpectedEnd → RefusesFrom (WantsDigit w) (BadNumber w) left able old e new
+  number_ends {now = now} so lacks is = inl (
+    is,
+    record {
+      front = so.front;
+      behind = now;
+      taken = so.taken;
+      count = 1;
+      wanted = (so.read.high, so.read.fewer, refl);
+      lacks = lacks;
+    },
+  )
 
   -- The last is too great.
-  pub number_bad : {w : ℕ} {digits : Digits} {old now new : S} {b : ℕ} {e : Error} → (so : Within w left able may_leave old digits now) → Takes left able now (b ∷ []) new → BadNumber w (so.front ++ b ∷ []) e → Refuses (WantsDigit w) (BadNumber w) left able old e new
-  number_bad {b = b} so t bad = inr (record { front = so.front ++ b ∷ []; taken = both_taken so.taken t; why = bad })
+  pub number_bad : {w : ℕ} {digits : Digits} {old now new : S} {b : ℕ} {e : Error} →
+      (so : Within w left able may_leave old digits now) → Takes left able now (b ∷ []) new →
+      BadNumber w (so.front ++ b ∷ []) e → RefusesFrom (WantsDigit w) (BadNumber w) left able old e
+      new
+  number_bad {b = b} so t bad =
+      inr (record { front = so.front ++ b ∷ []; taken = both_taken so.taken t; why = bad })
 
   -- A refused number, as a number alone.
-  pub number_refused : {w : ℕ} {old new : S} {e : Error} → Refuses (WantsDigit w) (BadNumber w) left able old e new → may_leave old new → {V : Type 0} {value : ℕ → V → Type 0} → Reads (SpellsNum w) (Below w) value ⊥ left able may_leave old (refusal V e) new
+  pub number_refused : {w : ℕ} {old new : S} {e : Error} →
+      RefusesFrom (WantsDigit w) (BadNumber w) left able old e new → may_leave old new →
+      {V : Type 0} {value : ℕ → V → Type 0} → ReadsFrom (SpellsNum w) (Below w) value ⊥ left able
+      may_leave old (refusal V e) new
   number_refused {w} why l = refused laws (number_excludes w) why l
 
   -- A number that was read is one of its width.
-  pub number_below : {w n : ℕ} {old new : S} → Reads (SpellsNum w) (Below w) Same ⊥ left able may_leave old (Ok n) new → n < 2 ^ w
+  pub number_below : {w n : ℕ} {old new : S} →
+      ReadsFrom (SpellsNum w) (Below w) Same ⊥ left able may_leave old (Ok n) new → n < 2 ^ w
   number_below {w} r = subst (Below w) r.gives.has r.gives.is_read
 
   -- And spelled by the front that was taken.
-  pub number_spelled : {w n : ℕ} {old new : S} → (r : Reads (SpellsNum w) (Below w) Same ⊥ left able may_leave old (Ok n) new) → SpellsNum w n r.gives.front
-  number_spelled {w} r = subst (λ (m : ℕ). SpellsNum w m r.gives.front) r.gives.has r.gives.is_spelled
+  pub number_spelled : {w n : ℕ} {old new : S} →
+      (r : ReadsFrom (SpellsNum w) (Below w) Same ⊥ left able may_leave old (Ok n) new) →
+      SpellsNum w n r.gives.front
+  number_spelled {w} r =
+      subst (λ (m : ℕ). SpellsNum w m r.gives.front) r.gives.has r.gives.is_spelled
 
   -- A number that was read, as a tree.
-  pub num_read : {w n : ℕ} {old new : S} → Reads (SpellsNum w) (Below w) Same ⊥ left able may_leave old (Ok n) new → Reads Spells (IsNum w) (λ t v. t ≡ Num w v) ⊥ left able may_leave old (Ok n) new
+  pub num_read : {w n : ℕ} {old new : S} → ReadsFrom (SpellsNum w) (Below w) Same ⊥ left able
+      may_leave old (Ok n) new → ReadsFrom Spells (IsNum w) (λ t v. t ≡ Num w v) ⊥ left able
+      may_leave old (Ok n) new
   num_read {w} {n} r =
       let g = r.gives in
-      found (num_delimited w) (Num w n) g.front n (n, refl, number_below r) (number_spelled r) refl g.taken r.leaves
+      found (num_delimited w) (Num w n) g.front n (n, refl, number_below r) (number_spelled r) refl
+      g.taken r.leaves
 
   -- As a signed number's tree.
-  pub int_read : {w n : ℕ} {old new : S} (z : ℤ) → IsWidth w → zigzag z ≡ n → Reads (SpellsNum w) (Below w) Same ⊥ left able may_leave old (Ok n) new → Reads Spells (IsInt w) (λ t v. t ≡ Int w v) ⊥ left able may_leave old (Ok z) new
+  pub int_read : {w n : ℕ} {old new : S} (z : ℤ) → IsWidth w → zigzag z ≡ n →
+      ReadsFrom (SpellsNum w) (Below w) Same ⊥ left able may_leave old (Ok n) new →
+      ReadsFrom Spells (IsInt w) (λ t v. t ≡ Int w v) ⊥ left able may_leave old (Ok z) new
   int_read {w} {n} z wide e r =
       let g = r.gives in
       let low : zigzag z < 2 ^ w = subst (Below w) (sym e) (number_below r) in
-      found (int_delimited w) (Int w z) g.front z (z, refl, in_range w z wide low) (subst (λ (m : ℕ). SpellsNum w m g.front) (g.has ∙ sym e) g.is_spelled) refl g.taken r.leaves
+      found (int_delimited w) (Int w z) g.front z (z, refl, in_range w z wide low)
+      (subst (λ (m : ℕ). SpellsNum w m g.front) (g.has ∙ sym e) g.is_spelled) refl g.taken
+      r.leaves

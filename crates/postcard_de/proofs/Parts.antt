@@ -1,20 +1,24 @@
--- Reading parts in a row, as of a tuple or a struct: the first refuses, or it was read and the others go on.
-use Rattle.std.proofs.Common.{◌≡◌, ℕ, ◌⊎◌, inl, inr, List, [], Option, Ok, Result, IsErrAnd, refl, sym}
+-- Reading parts in a row, as of a tuple or a struct: the first refuses, or it was read and the
+-- others go on.
+use Rattle.std.proofs.Common.{◌≡◌, ℕ, ◌⊎◌, inl, inr, List, [], Option, Ok, Result, IsErrAnd, refl}
+use Rattle.std.proofs.Common.{sym}
 use Rattle.postcard_wire.specs.declared.error.Error.{Error}
 use Rattle.postcard_wire.specs.Tree.{Tree, Trees, Group, NoTrees, Then}
 use Rattle.postcard_wire.specs.Spelling.{Spells, SpellsAll}
 use Rattle.postcard_wire.specs.Reading.{IsEnd, IsThen, IsGroup}
 use Rattle.postcard_de_flavors.specs.Source.{Laws}
-use Rattle.postcard_de.specs.Reads.{Reads}
+use Rattle.postcard_de.specs.Reads.{ReadsFrom}
 use Rattle.postcard_de.proofs.Taking.{nothing_taken}
 use Rattle.postcard_de.proofs.Leaves.{refusal, is_refusal}
 use Rattle.postcard_de.proofs.Compound.{Compound, first_refused, second_refused, both_read}
 
 -- Parts in a row are one and the rest.
-pub part_and_rest : {V : Type 0} (R : Tree → Type 0) (I : Tree → V → Type 0) (Rs : Trees → Type 0) → Compound Then Spells R I SpellsAll (λ v. Rs) SpellsAll (IsThen R Rs)
+pub part_and_rest : {V : Type 0} (R : Tree → Type 0) (I : Tree → V → Type 0) (Rs : Trees → Type 0) →
+    Compound Then Spells R I SpellsAll (λ v. Rs) SpellsAll (IsThen R Rs)
 part_and_rest {V} R I Rs = record {
   joined = λ t ts v p q r i s a b. ((t, ts, refl, r, s), (p, q, a, b, refl));
-  parted = λ z r a s. let k : SpellsAll (Then a.0 a.1) r = rw a.2 at s in (a.0, a.1, k.0, k.1, sym a.2, a.3, k.2, k.3, k.4, λ v i. a.4);
+  parted = λ z r a s. let k : SpellsAll (Then a.0 a.1) r = rw a.2 at s in
+      (a.0, a.1, k.0, k.1, sym a.2, a.3, k.2, k.3, k.4, λ v i. a.4);
 }
 
 -- Parts that were read have what is said of them; there is no other value.
@@ -25,50 +29,79 @@ AllAre K ts u = K ts
 abbrev pub NoneIs : Trees → Unit {0} → Type 0
 NoneIs ts u = ⊥
 
-module _ {S : Type 0} {left : S → Option (List ℕ)} {able : S → ℕ → Type 0} {may_leave : S → S → Type 0} (laws : Laws left able may_leave) where
+module _ {S : Type 0} {left : S → Option (List ℕ)} {able : S → ℕ → Type 0}
+    {may_leave : S → S → Type 0} (laws : Laws left able may_leave) where
   -- A part was read, and then those after it.
-  pub and_part : {V : Type 0} {R : Tree → Type 0} {I : Tree → V → Type 0} {G : Type 0} {Rs K : Trees → Type 0} {H : Type 0} {old mid new : S} {v : V} →
-      Reads Spells R I G left able may_leave old (Ok v) mid → Reads SpellsAll Rs (AllAre K) H left able may_leave mid (Ok tt) new → Reads SpellsAll (IsThen R Rs) (AllAre (IsThen (λ t. I t v) K)) (G ⊎ H) left able may_leave old (Ok tt) new
-  and_part {R = R} {I = I} {Rs = Rs} r s = both_read laws (part_and_rest R I Rs) (λ t ts i j. (t, ts, refl, i, j)) r s
+  pub and_part : {V : Type 0} {R : Tree → Type 0} {I : Tree → V → Type 0} {G : Type 0}
+      {Rs K : Trees → Type 0} {H : Type 0} {old mid new : S} {v : V} →
+      ReadsFrom Spells R I G left able may_leave old (Ok v) mid →
+      ReadsFrom SpellsAll Rs (AllAre K) H left able may_leave mid (Ok tt) new →
+      ReadsFrom SpellsAll (IsThen R Rs) (AllAre (IsThen (λ t. I t v) K)) (G ⊎ H) left able
+      may_leave old (Ok tt) new
+  and_part {R = R} {I = I} {Rs = Rs} r s =
+      both_read laws (part_and_rest R I Rs) (λ t ts i j. (t, ts, refl, i, j)) r s
 
   -- A part was read, and those after it refuse.
-  pub and_fails : {V : Type 0} {R : Tree → Type 0} {I : Tree → V → Type 0} {G : Type 0} {Rs : Trees → Type 0} {H : Type 0} {old mid new : S} {v : V} {e : Error} →
-      Reads Spells R I G left able may_leave old (Ok v) mid → Reads SpellsAll Rs NoneIs H left able may_leave mid (refusal (Unit {0}) e) new → Reads SpellsAll (IsThen R Rs) NoneIs (G ⊎ H) left able may_leave old (refusal (Unit {0}) e) new
+  pub and_fails : {V : Type 0} {R : Tree → Type 0} {I : Tree → V → Type 0} {G : Type 0}
+      {Rs : Trees → Type 0} {H : Type 0} {old mid new : S} {v : V} {e : Error} →
+      ReadsFrom Spells R I G left able may_leave old (Ok v) mid →
+      ReadsFrom SpellsAll Rs NoneIs H left able may_leave mid (refusal (Unit {0}) e) new →
+      ReadsFrom SpellsAll (IsThen R Rs) NoneIs (G ⊎ H) left able may_leave old
+      (refusal (Unit {0}) e) new
   and_fails {R = R} {I = I} {Rs = Rs} r s = second_refused laws (part_and_rest R I Rs) inr r s
 
   -- A part refuses.
-  pub stops : {V : Type 0} {R : Tree → Type 0} {I : Tree → V → Type 0} {G : Type 0} {Rs : Trees → Type 0} {H : Type 0} {old new : S} {e : Error} →
-      Reads Spells R I G left able may_leave old (refusal V e) new → Reads SpellsAll (IsThen R Rs) NoneIs (G ⊎ H) left able may_leave old (refusal (Unit {0}) e) new
+  pub stops : {V : Type 0} {R : Tree → Type 0} {I : Tree → V → Type 0} {G : Type 0}
+      {Rs : Trees → Type 0} {H : Type 0} {old new : S} {e : Error} →
+      ReadsFrom Spells R I G left able may_leave old (refusal V e) new →
+      ReadsFrom SpellsAll (IsThen R Rs) NoneIs (G ⊎ H) left able may_leave old
+      (refusal (Unit {0}) e) new
   stops {R = R} {I = I} {Rs = Rs} r = first_refused laws (part_and_rest R I Rs) inl r
 
   -- No part is left.
-  pub no_more : {s : S} → Reads SpellsAll IsEnd (AllAre IsEnd) ⊥ left able may_leave s (Ok tt) s
+  pub no_more : {s : S} → ReadsFrom SpellsAll IsEnd (AllAre IsEnd) ⊥ left able may_leave s (Ok tt) s
   no_more {s} = record {
-    gives = record { thing = NoTrees; front = []; is_read = refl; is_spelled = refl; has = refl; taken = nothing_taken s };
+    gives = record {
+      thing = NoTrees;
+      front = [];
+      is_read = refl;
+      is_spelled = refl;
+      has = refl;
+      taken = nothing_taken s;
+    };
     accepts = λ ts p a b c. (a, let k : SpellsAll NoTrees p = rw a at b in rw k (nothing_taken s));
     leaves = laws.itself s;
-    grown = λ h. cc;
-    never = λ h. cc;
+    names = tt;
   }
 
   -- All parts of a tuple or a struct were read.
-  pub struct_read : {A : Type 0} {value : Tree → A → Type 0} {Rs K : Trees → Type 0} {G : Type 0} {old new : S} {a : A} → ((t : Tree) → IsGroup K t → value t a) →
-      Reads SpellsAll Rs (AllAre K) G left able may_leave old (Ok tt) new → Reads Spells (IsGroup Rs) value G left able may_leave old (Ok a) new
+  pub struct_read : {A : Type 0} {value : Tree → A → Type 0} {Rs K : Trees → Type 0} {G : Type 0}
+      {old new : S} {a : A} → ((t : Tree) → IsGroup K t → value t a) →
+      ReadsFrom SpellsAll Rs (AllAre K) G left able may_leave old (Ok tt) new →
+      ReadsFrom Spells (IsGroup Rs) value G left able may_leave old (Ok a) new
   struct_read has r = let g = r.gives in record {
-    gives = record { thing = Group g.thing; front = g.front; is_read = (g.thing, refl, g.is_read); is_spelled = g.is_spelled; has = has (Group g.thing) (g.thing, refl, g.has); taken = g.taken };
-    accepts = λ t p a b c. let k = r.accepts a.0 p a.2 (rw a.1 at b) c in (has t (a.0, a.1, k.0), k.1);
+    gives = record {
+      thing = Group g.thing;
+      front = g.front;
+      is_read = (g.thing, refl, g.is_read);
+      is_spelled = g.is_spelled;
+      has = has (Group g.thing) (g.thing, refl, g.has);
+      taken = g.taken;
+    };
+    accepts = λ t p a b c. let k = r.accepts a.0 p a.2 (rw a.1 at b) c in
+        (has t (a.0, a.1, k.0), k.1);
     leaves = r.leaves;
-    grown = λ h. cc;
-    never = λ h. cc;
+    names = tt;
   }
 
   -- The parts of a tuple or a struct refuse, and `?` passes that on.
-  pub struct_fails : {A : Type 0} {value : Tree → A → Type 0} {Rs : Trees → Type 0} {G : Type 0} {old new : S} {r : Result A Error} {e : Error} → IsErrAnd r (λ x. x ≡ e) →
-      Reads SpellsAll Rs NoneIs G left able may_leave old (refusal (Unit {0}) e) new → Reads Spells (IsGroup Rs) value G left able may_leave old r new
+  pub struct_fails : {A : Type 0} {value : Tree → A → Type 0} {Rs : Trees → Type 0} {G : Type 0}
+      {old new : S} {r : Result A Error} {e : Error} → IsErrAnd r (λ x. x ≡ e) →
+      ReadsFrom SpellsAll Rs NoneIs G left able may_leave old (refusal (Unit {0}) e) new →
+      ReadsFrom Spells (IsGroup Rs) value G left able may_leave old r new
   struct_fails {A} {r = r} {e = e} h s = rw (is_refusal r e h) (record {
     gives = tt;
     accepts = λ t p a b c. s.accepts a.0 p a.2 (rw a.1 at b) c;
     leaves = s.leaves;
-    grown = λ k. s.grown cc;
-    never = λ k. s.never cc;
+    names = s.names;
   })

@@ -1,15 +1,18 @@
 -- Taking bytes from a source, one front after another.
-use Rattle.std.proofs.Common.{◌≡◌, ℕ, ◌+◌, List, [], ◌++◌, length, Option, Some, None, refl, sym, ◌∙◌, ap, arith, append_assoc, length-append}
+use Rattle.std.proofs.Common.{◌≡◌, ℕ, ◌+◌, List, [], ◌++◌, length, Option, Some, None, refl, sym}
+use Rattle.std.proofs.Common.{◌∙◌, ap, arith, append_assoc, length-append}
 use Rattle.std.proofs.lemmas.List.{append_cancel_left}
 use Rattle.std.specs.Io.KnownBytes.{Consumes}
 use Rattle.postcard_de_flavors.specs.Source.{Begins, CanTake, Takes, Laws}
 
 -- The bytes told after two takes.
-consumes_joined : (a b c : Option (List ℕ)) (x y : List ℕ) → Consumes a b x → Consumes b c y → Consumes a c (x ++ y)
+consumes_joined : (a b c : Option (List ℕ)) (x y : List ℕ) → Consumes a b x → Consumes b c y →
+    Consumes a c (x ++ y)
 consumes_joined None b c x y h k = tt
 consumes_joined (Some xs) None c x y h k = absurd h
 consumes_joined (Some xs) (Some ys) None x y h k = absurd k
-consumes_joined (Some xs) (Some ys) (Some zs) x y h k = h ∙ (ap (λ (r : List ℕ). x ++ r) k ∙ sym (append_assoc x y zs))
+consumes_joined (Some xs) (Some ys) (Some zs) x y h k =
+    h ∙ (ap (λ (r : List ℕ). x ++ r) k ∙ sym (append_assoc x y zs))
 
 -- The bytes told after no take.
 consumes_none : (a : Option (List ℕ)) → Consumes a a []
@@ -22,13 +25,16 @@ begins_front None x y h = absurd h
 begins_front (Some xs) x y h = (y ++ h.0, h.1 ∙ append_assoc x y h.0)
 
 -- And once it was taken, with the second.
-begins_rest : (a b : Option (List ℕ)) (x y : List ℕ) → Begins a (x ++ y) → Consumes a b x → Begins b y
+begins_rest : (a b : Option (List ℕ)) (x y : List ℕ) → Begins a (x ++ y) → Consumes a b x →
+    Begins b y
 begins_rest None b x y h d = absurd h
 begins_rest (Some xs) None x y h d = absurd d
-begins_rest (Some xs) (Some ys) x y h d = (h.0, append_cancel_left x ys (y ++ h.0) (sym d ∙ (h.1 ∙ append_assoc x y h.0)))
+begins_rest (Some xs) (Some ys) x y h d =
+    (h.0, append_cancel_left x ys (y ++ h.0) (sym d ∙ (h.1 ∙ append_assoc x y h.0)))
 
 -- What was taken from the bytes told and what they begin with are fronts of one list.
-facing : (a b : Option (List ℕ)) (p q : List ℕ) → Consumes a b p → Begins a q → (x : List ℕ) × (y : List ℕ) × (p ++ x ≡ q ++ y)
+facing : (a b : Option (List ℕ)) (p q : List ℕ) → Consumes a b p → Begins a q →
+    (x : List ℕ) × (y : List ℕ) × (p ++ x ≡ q ++ y)
 facing None b p q c d = absurd d
 facing (Some xs) None p q c d = absurd c
 facing (Some xs) (Some ys) p q c d = (ys, d.0, sym c ∙ d.1)
@@ -36,28 +42,37 @@ facing (Some xs) (Some ys) p q c d = (ys, d.0, sym c ∙ d.1)
 module _ {S : Type 0} {left : S → Option (List ℕ)} {able : S → ℕ → Type 0} where
   -- No bytes were taken.
   pub nothing_taken : (s : S) → Takes left able s [] s
-  nothing_taken s = record { drops = consumes_none (left s); keeps = λ n h. let e : 0 + n ≡ n = omega arith in rw e at h }
+  nothing_taken s = record {
+    drops = consumes_none (left s);
+    keeps = λ n h. let e : 0 + n ≡ n = omega arith in rw e at h;
+  }
 
   -- Two fronts were taken, one behind the other.
-  pub both_taken : {s t u : S} {x y : List ℕ} → Takes left able s x t → Takes left able t y u → Takes left able s (x ++ y) u
+  pub both_taken : {s t u : S} {x y : List ℕ} → Takes left able s x t → Takes left able t y u →
+      Takes left able s (x ++ y) u
   both_taken {s} {t} {u} {x} {y} a b = record {
     drops = consumes_joined (left s) (left t) (left u) x y a.drops b.drops;
-    keeps = λ n h. b.keeps n (a.keeps (length y + n) (let e : length (x ++ y) + n ≡ length x + (length y + n) = omega (arith, length-append x y) in rw e at h));
+    keeps = λ n h. b.keeps n (a.keeps (length y + n)
+        (let e : length (x ++ y) + n ≡ length x + (length y + n) =
+        omega (arith, length-append x y) in rw e at h));
   }
 
   -- A front that was taken and one that can be taken are fronts of one list.
-  pub faces : {s t : S} {p q : List ℕ} → Takes left able s p t → CanTake left able s q → (x : List ℕ) × (y : List ℕ) × (p ++ x ≡ q ++ y)
+  pub faces : {s t : S} {p q : List ℕ} → Takes left able s p t → CanTake left able s q →
+      (x : List ℕ) × (y : List ℕ) × (p ++ x ≡ q ++ y)
   faces {s} {t} {p} {q} a c = facing (left s) (left t) p q a.drops c.begins
 
   -- Of two fronts that can be taken, the first can be.
-  pub can_first : {may_leave : S → S → Type 0} → Laws left able may_leave → {s : S} (x y : List ℕ) → CanTake left able s (x ++ y) → CanTake left able s x
+  pub can_first : {may_leave : S → S → Type 0} → Laws left able may_leave → {s : S} (x y : List ℕ) →
+      CanTake left able s (x ++ y) → CanTake left able s x
   can_first laws {s} x y c = record {
     begins = begins_front (left s) x y c.begins;
     enough = laws.fewer s (length x) (length (x ++ y)) (omega (arith, length-append x y)) c.enough;
   }
 
   -- And once it was, the second can be.
-  pub can_second : {s t : S} (x y : List ℕ) → CanTake left able s (x ++ y) → Takes left able s x t → CanTake left able t y
+  pub can_second : {s t : S} (x y : List ℕ) → CanTake left able s (x ++ y) → Takes left able s x t →
+      CanTake left able t y
   can_second {s} {t} x y c a = record {
     begins = begins_rest (left s) (left t) x y c.begins a.drops;
     enough = a.keeps (length y) (rw length-append at c.enough);

@@ -35,8 +35,8 @@ impl SeqAccess {
         SeqAccess { len }
     }
 
-    /// Reads the next element, or answers None where none is left. The count falls before the element is read, so it has
-    /// fallen where that is refused too.
+    /// Reads the next element, or answers None where none is left. The count falls before the
+    /// element is read, so it has fallen where that is refused too.
     ///
     /// # Errors
     ///
@@ -48,7 +48,8 @@ impl SeqAccess {
     ) -> Result<Option<T>>
         ensures count { self.new ≡ self.old - 1 }
         ensures none { self.old ≡ 0 → (result ≡ Ok None) × (d.new ≡ d.old) }
-        ensures some { 0 < self.old → Reads Spells T.shape.reads (SomeIs T.shape.value) T.shape.grows F.left F.able F.may_leave (source_of d.old) result (source_of d.new) }
+        ensures some { 0 < self.old → Reads F.Flavor Spells T.shape.reads (SomeIs T.shape.value)
+            T.shape.grows (source_of d.old) result (source_of d.new) }
     {
         if self.len == 0 {
             return Ok(None);
@@ -60,8 +61,10 @@ impl SeqAccess {
 
     /// How many elements are left, unless the source says that it has fewer bytes.
     pub fn size_hint<'de, F: Flavor>(&self, d: &Deserializer<'de, F>) -> Option<usize>
-        ensures few { (bytes : ℕ) → F.hint (source_of d.now) ≡ Some bytes → bytes < self.now → result ≡ None }
-        ensures enough { (bytes : ℕ) → F.hint (source_of d.now) ≡ Some bytes → self.now ≤ bytes → result ≡ Some self.now }
+        ensures few { (bytes : ℕ) → F.hint (source_of d.now) ≡ Some bytes → bytes < self.now →
+            result ≡ None }
+        ensures enough { (bytes : ℕ) → F.hint (source_of d.now) ≡ Some bytes → self.now ≤ bytes →
+            result ≡ Some self.now }
         ensures untold { F.hint (source_of d.now) ≡ None → result ≡ Some self.now }
     {
         match d.flavor.size_hint() {

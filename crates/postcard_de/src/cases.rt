@@ -24,7 +24,8 @@ pub trait DeserializeCase<'de>: Cased + Sized + Drop {
         alloc: Global,
         d: &mut Deserializer<'de, F>,
     ) -> Result<Self>
-        ensures { Reads Spells (Self.cases.reads index) (Self.cases.value index) Self.cases.grows F.left F.able F.may_leave (source_of d.old) result (source_of d.new) };
+        ensures { Reads F.Flavor Spells (Self.cases.reads index) (Self.cases.value index)
+            Self.cases.grows (source_of d.old) result (source_of d.new) };
 }
 
 impl<'de> DeserializeCase<'de> for NoCase {
@@ -76,16 +77,17 @@ pub trait DeserializeCaseOwned: Cased + Sized + Drop {
         alloc: Global,
         d: &mut Deserializer<'de, F>,
     ) -> Result<Self>
-        ensures { Reads Spells (Self.cases.reads index) (Self.cases.value index) Self.cases.grows F.left F.able F.may_leave (source_of d.old) result (source_of d.new) };
+        ensures { Reads F.Flavor Spells (Self.cases.reads index) (Self.cases.value index)
+            Self.cases.grows (source_of d.old) result (source_of d.new) };
 }
 
 impl DeserializeCaseOwned for NoCase {
     fn deserialize_case_owned<'de, F: Flavor>(
-        _index: u32,
-        _alloc: Global,
-        _d: &mut Deserializer<'de, F>,
+        index: u32,
+        alloc: Global,
+        d: &mut Deserializer<'de, F>,
     ) -> Result<Self> {
-        Err(Error::SerdeDeCustom)
+        NoCase::deserialize_case(index, alloc, d)
     }
 }
 

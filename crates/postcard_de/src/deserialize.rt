@@ -16,7 +16,9 @@ pub trait Deserialize<'de>: Shaped + Sized + Drop {
     ///
     /// # Errors
     ///
-    /// That of the first part that refuses. `OutOfMemory` only if the type grows, and `DeserializeBadEncoding` never.
+    /// That of the first part that refuses, which is one of a reading call. `OutOfMemory` only if
+    /// the type grows.
     fn deserialize<F: Flavor>(alloc: Global, d: &mut Deserializer<'de, F>) -> Result<Self>
-        ensures { Reads Spells Self.shape.reads Self.shape.value Self.shape.grows F.left F.able F.may_leave (source_of d.old) result (source_of d.new) };
+        ensures { Reads F.Flavor Spells Self.shape.reads Self.shape.value Self.shape.grows
+            (source_of d.old) result (source_of d.new) };
 }

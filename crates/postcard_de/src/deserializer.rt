@@ -7,7 +7,8 @@ ghost use Rattle.postcard_wire.specs.Number.{SpellsNum};
 ghost use Rattle.postcard_wire.specs.Spelling.{Spells};
 ghost use Rattle.postcard_wire.specs.Reading.{IsByte, IsNum, IsInt, IsText};
 ghost use Rattle.postcard_de.specs.Reads.{Reads};
-ghost use Rattle.postcard_de.specs.Refuses.{Refuses, WantsByte, NoneBad, WantsDigit, BadNumber, WantsText, BadText};
+ghost use Rattle.postcard_de.specs.Refuses.{Refuses, WantsByte, NoneBad, WantsDigit, BadNumber};
+ghost use Rattle.postcard_de.specs.Refuses.{WantsText, BadText};
 ghost use Rattle.postcard_shape.specs.Values.{Same};
 ghost use Rattle.postcard_de.specs.Deserializer.{source_of};
 
@@ -72,8 +73,10 @@ impl<'de, F: Flavor> Deserializer<'de, F> {
     ///
     /// `DeserializeUnexpectedEnd` where none is left.
     pub fn deserialize_u8(&mut self) -> Result<u8>
-        ensures reads { Reads Spells IsByte (λ t v. t ≡ Byte v) ⊥ F.left F.able F.may_leave (source_of self.old) result (source_of self.new) }
-        ensures refused { IfErr result (λ e. Refuses WantsByte NoneBad F.left F.able (source_of self.old) e (source_of self.new)) }
+        ensures reads { Reads F.Flavor Spells IsByte (λ t v. t ≡ Byte v) ⊥
+            (source_of self.old) result (source_of self.new) }
+        ensures refused { IfErr result (λ e. Refuses F.Flavor WantsByte NoneBad
+            (source_of self.old) e (source_of self.new)) }
     {
         self.flavor.pop()
     }
@@ -84,8 +87,10 @@ impl<'de, F: Flavor> Deserializer<'de, F> {
     ///
     /// As `deserialize_u8`.
     pub fn deserialize_i8(&mut self) -> Result<i8>
-        ensures reads { Reads Spells IsByte (λ t v. t ≡ Byte (cast_unsigned w8 v)) ⊥ F.left F.able F.may_leave (source_of self.old) result (source_of self.new) }
-        ensures refused { IfErr result (λ e. Refuses WantsByte NoneBad F.left F.able (source_of self.old) e (source_of self.new)) }
+        ensures reads { Reads F.Flavor Spells IsByte (λ t v. t ≡ Byte (cast_unsigned w8 v)) ⊥
+            (source_of self.old) result (source_of self.new) }
+        ensures refused { IfErr result (λ e. Refuses F.Flavor WantsByte NoneBad
+            (source_of self.old) e (source_of self.new)) }
     {
         let bits = self.flavor.pop()?;
         Ok(bits.cast_signed())
@@ -95,10 +100,13 @@ impl<'de, F: Flavor> Deserializer<'de, F> {
     ///
     /// # Errors
     ///
-    /// `DeserializeUnexpectedEnd` where the bytes end within it, `DeserializeBadVarint` where it is longer or greater.
+    /// `DeserializeUnexpectedEnd` where the bytes end within it, `DeserializeBadVarint` where it is
+    /// longer or greater.
     pub fn deserialize_u16(&mut self) -> Result<u16>
-        ensures reads { Reads Spells (IsNum 16) (λ t v. t ≡ Num 16 v) ⊥ F.left F.able F.may_leave (source_of self.old) result (source_of self.new) }
-        ensures refused { IfErr result (λ e. Refuses (WantsDigit 16) (BadNumber 16) F.left F.able (source_of self.old) e (source_of self.new)) }
+        ensures reads { Reads F.Flavor Spells (IsNum 16) (λ t v. t ≡ Num 16 v) ⊥
+            (source_of self.old) result (source_of self.new) }
+        ensures refused { IfErr result (λ e. Refuses F.Flavor (WantsDigit 16) (BadNumber 16)
+            (source_of self.old) e (source_of self.new)) }
     {
         let n = self.number(16)?;
         Ok(n as u16)
@@ -110,8 +118,10 @@ impl<'de, F: Flavor> Deserializer<'de, F> {
     ///
     /// As `deserialize_u16`.
     pub fn deserialize_u32(&mut self) -> Result<u32>
-        ensures reads { Reads Spells (IsNum 32) (λ t v. t ≡ Num 32 v) ⊥ F.left F.able F.may_leave (source_of self.old) result (source_of self.new) }
-        ensures refused { IfErr result (λ e. Refuses (WantsDigit 32) (BadNumber 32) F.left F.able (source_of self.old) e (source_of self.new)) }
+        ensures reads { Reads F.Flavor Spells (IsNum 32) (λ t v. t ≡ Num 32 v) ⊥
+            (source_of self.old) result (source_of self.new) }
+        ensures refused { IfErr result (λ e. Refuses F.Flavor (WantsDigit 32) (BadNumber 32)
+            (source_of self.old) e (source_of self.new)) }
     {
         let n = self.number(32)?;
         Ok(n as u32)
@@ -123,8 +133,10 @@ impl<'de, F: Flavor> Deserializer<'de, F> {
     ///
     /// As `deserialize_u16`.
     pub fn deserialize_u64(&mut self) -> Result<u64>
-        ensures reads { Reads Spells (IsNum 64) (λ t v. t ≡ Num 64 v) ⊥ F.left F.able F.may_leave (source_of self.old) result (source_of self.new) }
-        ensures refused { IfErr result (λ e. Refuses (WantsDigit 64) (BadNumber 64) F.left F.able (source_of self.old) e (source_of self.new)) }
+        ensures reads { Reads F.Flavor Spells (IsNum 64) (λ t v. t ≡ Num 64 v) ⊥
+            (source_of self.old) result (source_of self.new) }
+        ensures refused { IfErr result (λ e. Refuses F.Flavor (WantsDigit 64) (BadNumber 64)
+            (source_of self.old) e (source_of self.new)) }
     {
         let n = self.number(64)?;
         Ok(n as u64)
@@ -136,8 +148,10 @@ impl<'de, F: Flavor> Deserializer<'de, F> {
     ///
     /// As `deserialize_u16`.
     pub fn deserialize_u128(&mut self) -> Result<u128>
-        ensures reads { Reads Spells (IsNum 128) (λ t v. t ≡ Num 128 v) ⊥ F.left F.able F.may_leave (source_of self.old) result (source_of self.new) }
-        ensures refused { IfErr result (λ e. Refuses (WantsDigit 128) (BadNumber 128) F.left F.able (source_of self.old) e (source_of self.new)) }
+        ensures reads { Reads F.Flavor Spells (IsNum 128) (λ t v. t ≡ Num 128 v) ⊥
+            (source_of self.old) result (source_of self.new) }
+        ensures refused { IfErr result (λ e. Refuses F.Flavor (WantsDigit 128) (BadNumber 128)
+            (source_of self.old) e (source_of self.new)) }
     {
         let n = self.number(128)?;
         Ok(n)
@@ -149,8 +163,10 @@ impl<'de, F: Flavor> Deserializer<'de, F> {
     ///
     /// As `deserialize_u16`.
     pub fn deserialize_i16(&mut self) -> Result<i16>
-        ensures reads { Reads Spells (IsInt 16) (λ t v. t ≡ Int 16 v) ⊥ F.left F.able F.may_leave (source_of self.old) result (source_of self.new) }
-        ensures refused { IfErr result (λ e. Refuses (WantsDigit 16) (BadNumber 16) F.left F.able (source_of self.old) e (source_of self.new)) }
+        ensures reads { Reads F.Flavor Spells (IsInt 16) (λ t v. t ≡ Int 16 v) ⊥
+            (source_of self.old) result (source_of self.new) }
+        ensures refused { IfErr result (λ e. Refuses F.Flavor (WantsDigit 16) (BadNumber 16)
+            (source_of self.old) e (source_of self.new)) }
     {
         let folded = self.number(16)?;
         Ok(zigzag::de_zig_zag_i16(folded as u16))
@@ -162,8 +178,10 @@ impl<'de, F: Flavor> Deserializer<'de, F> {
     ///
     /// As `deserialize_u16`.
     pub fn deserialize_i32(&mut self) -> Result<i32>
-        ensures reads { Reads Spells (IsInt 32) (λ t v. t ≡ Int 32 v) ⊥ F.left F.able F.may_leave (source_of self.old) result (source_of self.new) }
-        ensures refused { IfErr result (λ e. Refuses (WantsDigit 32) (BadNumber 32) F.left F.able (source_of self.old) e (source_of self.new)) }
+        ensures reads { Reads F.Flavor Spells (IsInt 32) (λ t v. t ≡ Int 32 v) ⊥
+            (source_of self.old) result (source_of self.new) }
+        ensures refused { IfErr result (λ e. Refuses F.Flavor (WantsDigit 32) (BadNumber 32)
+            (source_of self.old) e (source_of self.new)) }
     {
         let folded = self.number(32)?;
         Ok(zigzag::de_zig_zag_i32(folded as u32))
@@ -175,8 +193,10 @@ impl<'de, F: Flavor> Deserializer<'de, F> {
     ///
     /// As `deserialize_u16`.
     pub fn deserialize_i64(&mut self) -> Result<i64>
-        ensures reads { Reads Spells (IsInt 64) (λ t v. t ≡ Int 64 v) ⊥ F.left F.able F.may_leave (source_of self.old) result (source_of self.new) }
-        ensures refused { IfErr result (λ e. Refuses (WantsDigit 64) (BadNumber 64) F.left F.able (source_of self.old) e (source_of self.new)) }
+        ensures reads { Reads F.Flavor Spells (IsInt 64) (λ t v. t ≡ Int 64 v) ⊥
+            (source_of self.old) result (source_of self.new) }
+        ensures refused { IfErr result (λ e. Refuses F.Flavor (WantsDigit 64) (BadNumber 64)
+            (source_of self.old) e (source_of self.new)) }
     {
         let folded = self.number(64)?;
         Ok(zigzag::de_zig_zag_i64(folded as u64))
@@ -188,8 +208,10 @@ impl<'de, F: Flavor> Deserializer<'de, F> {
     ///
     /// As `deserialize_u16`.
     pub fn deserialize_i128(&mut self) -> Result<i128>
-        ensures reads { Reads Spells (IsInt 128) (λ t v. t ≡ Int 128 v) ⊥ F.left F.able F.may_leave (source_of self.old) result (source_of self.new) }
-        ensures refused { IfErr result (λ e. Refuses (WantsDigit 128) (BadNumber 128) F.left F.able (source_of self.old) e (source_of self.new)) }
+        ensures reads { Reads F.Flavor Spells (IsInt 128) (λ t v. t ≡ Int 128 v) ⊥
+            (source_of self.old) result (source_of self.new) }
+        ensures refused { IfErr result (λ e. Refuses F.Flavor (WantsDigit 128) (BadNumber 128)
+            (source_of self.old) e (source_of self.new)) }
     {
         let folded = self.number(128)?;
         Ok(zigzag::de_zig_zag_i128(folded))
@@ -199,11 +221,13 @@ impl<'de, F: Flavor> Deserializer<'de, F> {
     ///
     /// # Errors
     ///
-    /// As a number of 64 bits for its length, `DeserializeUnexpectedEnd` where the bytes end before the text does, and
-    /// `DeserializeBadUtf8`.
+    /// As a number of 64 bits for its length, `DeserializeUnexpectedEnd` where the bytes end before
+    /// the text does, and `DeserializeBadUtf8`.
     pub fn deserialize_str(&mut self) -> Result<&'de str>
-        ensures reads { Reads Spells IsText (λ t v. t ≡ Text v.now) ⊥ F.left F.able F.may_leave (source_of self.old) result (source_of self.new) }
-        ensures refused { IfErr result (λ e. Refuses WantsText (BadText ⊥) F.left F.able (source_of self.old) e (source_of self.new)) }
+        ensures reads { Reads F.Flavor Spells IsText (λ t v. t ≡ Text v.now) ⊥
+            (source_of self.old) result (source_of self.new) }
+        ensures refused { IfErr result (λ e. Refuses F.Flavor WantsText (BadText ⊥)
+            (source_of self.old) e (source_of self.new)) }
     {
         let count = self.count()?;
         let bytes = self.flavor.try_take_n(count)?;
@@ -219,8 +243,10 @@ impl<'de, F: Flavor> Deserializer<'de, F> {
     ///
     /// As `deserialize_str`, and `OutOfMemory`.
     pub fn deserialize_string(&mut self, alloc: Global) -> Result<String>
-        ensures reads { Reads Spells IsText (λ t v. t ≡ Text (string_bytes v)) ⊤ F.left F.able F.may_leave (source_of self.old) result (source_of self.new) }
-        ensures refused { IfErr result (λ e. Refuses WantsText (BadText ⊤) F.left F.able (source_of self.old) e (source_of self.new)) }
+        ensures reads { Reads F.Flavor Spells IsText (λ t v. t ≡ Text (string_bytes v)) ⊤
+            (source_of self.old) result (source_of self.new) }
+        ensures refused { IfErr result (λ e. Refuses F.Flavor WantsText (BadText ⊤)
+            (source_of self.old) e (source_of self.new)) }
     {
         let count = self.count()?;
         let lent = self.flavor.try_take_n_temp(count)?;
@@ -239,8 +265,10 @@ impl<'de, F: Flavor> Deserializer<'de, F> {
     ///
     /// As a number of 64 bits.
     pub fn deserialize_seq(&mut self) -> Result<SeqAccess>
-        ensures reads { Reads (SpellsNum 64) (λ n. n < 2 ^ 64) Same ⊥ F.left F.able F.may_leave (source_of self.old) result (source_of self.new) }
-        ensures refused { IfErr result (λ e. Refuses (WantsDigit 64) (BadNumber 64) F.left F.able (source_of self.old) e (source_of self.new)) }
+        ensures reads { Reads F.Flavor (SpellsNum 64) (λ n. n < 2 ^ 64) Same ⊥
+            (source_of self.old) result (source_of self.new) }
+        ensures refused { IfErr result (λ e. Refuses F.Flavor (WantsDigit 64) (BadNumber 64)
+            (source_of self.old) e (source_of self.new)) }
     {
         let count = self.count()?;
         Ok(SeqAccess::new(count))
@@ -249,8 +277,10 @@ impl<'de, F: Flavor> Deserializer<'de, F> {
     /// Reads a number of so many bits.
     fn number(&mut self, bits: u32) -> Result<u128>
         requires { IsWidth bits }
-        ensures reads { Reads (SpellsNum bits) (λ n. n < 2 ^ bits) Same ⊥ F.left F.able F.may_leave (source_of self.old) result (source_of self.new) }
-        ensures refused { IfErr result (λ e. Refuses (WantsDigit bits) (BadNumber bits) F.left F.able (source_of self.old) e (source_of self.new)) }
+        ensures reads { Reads F.Flavor (SpellsNum bits) (λ n. n < 2 ^ bits) Same ⊥
+            (source_of self.old) result (source_of self.new) }
+        ensures refused { IfErr result (λ e. Refuses F.Flavor (WantsDigit bits) (BadNumber bits)
+            (source_of self.old) e (source_of self.new)) }
     {
         let mut digits = Digits::new();
         loop {
@@ -263,8 +293,10 @@ impl<'de, F: Flavor> Deserializer<'de, F> {
 
     /// Reads a count or a length.
     fn count(&mut self) -> Result<usize>
-        ensures reads { Reads (SpellsNum 64) (λ n. n < 2 ^ 64) Same ⊥ F.left F.able F.may_leave (source_of self.old) result (source_of self.new) }
-        ensures refused { IfErr result (λ e. Refuses (WantsDigit 64) (BadNumber 64) F.left F.able (source_of self.old) e (source_of self.new)) }
+        ensures reads { Reads F.Flavor (SpellsNum 64) (λ n. n < 2 ^ 64) Same ⊥
+            (source_of self.old) result (source_of self.new) }
+        ensures refused { IfErr result (λ e. Refuses F.Flavor (WantsDigit 64) (BadNumber 64)
+            (source_of self.old) e (source_of self.new)) }
     {
         let count = self.number(64)?;
         Ok(count as usize)

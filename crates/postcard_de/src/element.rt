@@ -20,7 +20,8 @@ pub(crate) trait Element<'de, T: Shaped + Drop> {
     ///
     /// As [`Deserialize::deserialize`].
     fn element<F: Flavor>(alloc: Global, d: &mut Deserializer<'de, F>) -> Result<T>
-        ensures { Reads Spells T.shape.reads T.shape.value T.shape.grows F.left F.able F.may_leave (source_of d.old) result (source_of d.new) };
+        ensures { Reads F.Flavor Spells T.shape.reads T.shape.value T.shape.grows
+            (source_of d.old) result (source_of d.new) };
 }
 
 /// As [`Deserialize`] reads it.

@@ -8,15 +8,17 @@ ghost use Rattle.postcard_shape.specs.Same.{HasOne};
 
 use crate::deserialize::Deserialize;
 
-/// No message of a type begins another: a front of some bytes spells one of its trees at most, and a tree has one value.
+/// No message of a type begins another: a front of some bytes spells one of its trees at most, and
+/// a tree has one value.
 pub fn one_message<'de, T: Deserialize<'de>>()
     ensures delimited { IsDelimited T.shape.reads }
     ensures one_value { HasOne T.shape.value T.shape.same }
 {}
 
-/// The shortest spelling of a tree that is read, whatever bytes follow it, is read as that tree and as no other, and just that
-/// front is taken.
+/// The shortest spelling of a tree that is read, whatever bytes follow it, is read as that tree and
+/// as no other, and just that front is taken.
 pub fn read_again<'de, T: Deserialize<'de>>()
     ensures spelled { (t : Tree) → T.shape.reads t → Spells t (bytes t) }
-    ensures only { (t s : Tree) (p rest left : List ℕ) → T.shape.reads t → T.shape.reads s → Spells s p → p ++ left ≡ bytes t ++ rest → (s ≡ t) × (p ≡ bytes t) × (left ≡ rest) }
+    ensures only { (t s : Tree) (p rest left : List ℕ) → T.shape.reads t → T.shape.reads s →
+        Spells s p → p ++ left ≡ bytes t ++ rest → (s ≡ t) × (p ≡ bytes t) × (left ≡ rest) }
 {}

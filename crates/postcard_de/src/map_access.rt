@@ -35,8 +35,8 @@ impl MapAccess {
         MapAccess { len }
     }
 
-    /// Reads the next key, or answers None where no pair is left. The count falls before the key is read, so it has
-    /// fallen where that is refused too.
+    /// Reads the next key, or answers None where no pair is left. The count falls before the key is
+    /// read, so it has fallen where that is refused too.
     ///
     /// # Errors
     ///
@@ -48,7 +48,8 @@ impl MapAccess {
     ) -> Result<Option<K>>
         ensures count { self.new ≡ self.old - 1 }
         ensures none { self.old ≡ 0 → (result ≡ Ok None) × (d.new ≡ d.old) }
-        ensures some { 0 < self.old → Reads Spells K.shape.reads (SomeIs K.shape.value) K.shape.grows F.left F.able F.may_leave (source_of d.old) result (source_of d.new) }
+        ensures some { 0 < self.old → Reads F.Flavor Spells K.shape.reads (SomeIs K.shape.value)
+            K.shape.grows (source_of d.old) result (source_of d.new) }
     {
         if self.len == 0 {
             return Ok(None);
@@ -69,7 +70,8 @@ impl MapAccess {
         d: &mut Deserializer<'de, F>,
     ) -> Result<V>
         ensures count { self.new ≡ self.old }
-        ensures value { Reads Spells V.shape.reads V.shape.value V.shape.grows F.left F.able F.may_leave (source_of d.old) result (source_of d.new) }
+        ensures value { Reads F.Flavor Spells V.shape.reads V.shape.value V.shape.grows
+            (source_of d.old) result (source_of d.new) }
     {
         V::deserialize(alloc, d)
     }

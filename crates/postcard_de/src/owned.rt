@@ -22,7 +22,8 @@ pub trait DeserializeOwned: Shaped + Sized + Drop {
         alloc: Global,
         d: &mut Deserializer<'de, F>,
     ) -> Result<Self>
-        ensures { Reads Spells Self.shape.reads Self.shape.value Self.shape.grows F.left F.able F.may_leave (source_of d.old) result (source_of d.new) };
+        ensures { Reads F.Flavor Spells Self.shape.reads Self.shape.value Self.shape.grows
+            (source_of d.old) result (source_of d.new) };
 }
 
 /// A value that borrows nothing, read as such wherever a `Deserialize` is asked for.

@@ -16,7 +16,8 @@ use std::alloc::Global;
 pub trait DeserializeParts<'de>: Parts + Sized + Drop {
     /// Reads the parts from left to right. The first that refuses gives the error.
     fn deserialize_parts<F: Flavor>(alloc: Global, d: &mut Deserializer<'de, F>) -> Result<Self>
-        ensures { Reads SpellsAll Self.parts.reads (λ ts v. Self.parts.value v ts) Self.parts.grows F.left F.able F.may_leave (source_of d.old) result (source_of d.new) };
+        ensures { Reads F.Flavor SpellsAll Self.parts.reads (λ ts v. Self.parts.value v ts)
+            Self.parts.grows (source_of d.old) result (source_of d.new) };
 }
 
 impl<'de> DeserializeParts<'de> for () {
@@ -47,7 +48,8 @@ pub trait DeserializePartsOwned: Parts + Sized + Drop {
         alloc: Global,
         d: &mut Deserializer<'de, F>,
     ) -> Result<Self>
-        ensures { Reads SpellsAll Self.parts.reads (λ ts v. Self.parts.value v ts) Self.parts.grows F.left F.able F.may_leave (source_of d.old) result (source_of d.new) };
+        ensures { Reads F.Flavor SpellsAll Self.parts.reads (λ ts v. Self.parts.value v ts)
+            Self.parts.grows (source_of d.old) result (source_of d.new) };
 }
 
 impl DeserializePartsOwned for () {

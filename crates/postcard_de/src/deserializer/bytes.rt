@@ -30,22 +30,25 @@ fn in_range(bytes: &[u8]) -> &[u8]
 }
 
 impl<'de, F: Flavor> Deserializer<'de, F> {
-    /// Reads a character: a length of at most 4, and as many bytes of UTF-8, of which the first character is answered.
+    /// Reads a character: a length of at most 4, and as many bytes of UTF-8, of which the first
+    /// character is answered.
     ///
     /// # Errors
     ///
-    /// As a number of 64 bits for its length, `DeserializeBadChar` where that is above 4, before the bytes are taken;
-    /// `DeserializeUnexpectedEnd` where the bytes end before the text does; `DeserializeBadChar` where they aren't UTF-8,
-    /// and where there are none.
+    /// As a number of 64 bits for its length, `DeserializeBadChar` where that is above 4, before
+    /// the bytes are taken; `DeserializeUnexpectedEnd` where the bytes end before the text does;
+    /// `DeserializeBadChar` where they aren't UTF-8, and where there are none.
     pub fn deserialize_char(&mut self) -> Result<char>
-        ensures reads { Reads Spells IsChar (λ t v. t ≡ Char v) ⊥ F.left F.able F.may_leave (source_of self.old) result (source_of self.new) }
-        ensures refused { IfErr result (λ e. Refuses WantsChar BadChar F.left F.able (source_of self.old) e (source_of self.new)) }
+        ensures reads { Reads F.Flavor Spells IsChar (λ t v. t ≡ Char v) ⊥
+            (source_of self.old) result (source_of self.new) }
+        ensures refused { IfErr result (λ e. Refuses F.Flavor WantsChar BadChar
+            (source_of self.old) e (source_of self.new)) }
     {
-        let count = self.count()?;
-        if count > LONGEST_CHAR {
+        let length = self.count()?;
+        if length > LONGEST_CHAR {
             return Err(Error::DeserializeBadChar);
         }
-        let bytes = self.flavor.try_take_n_temp(count)?;
+        let bytes = self.flavor.try_take_n_temp(length)?;
         match text::first_char(bytes) {
             Ok(c) => Ok(c),
             Err(_) => Err(Error::DeserializeBadChar),
@@ -58,8 +61,11 @@ impl<'de, F: Flavor> Deserializer<'de, F> {
     ///
     /// As a number of 64 bits for their count, and `DeserializeUnexpectedEnd` where fewer are left.
     pub fn deserialize_bytes(&mut self) -> Result<&'de [u8]>
-        ensures reads { Reads Spells (IsSeq IsByte) (λ t v. ListIs (λ s b. s ≡ Byte b) t v.now) ⊥ F.left F.able F.may_leave (source_of self.old) result (source_of self.new) }
-        ensures refused { IfErr result (λ e. Refuses WantsText (BadNumber 64) F.left F.able (source_of self.old) e (source_of self.new)) }
+        ensures reads { Reads F.Flavor Spells (IsSeq IsByte)
+            (λ t v. ListIs (λ s b. s ≡ Byte b) t v.now) ⊥
+            (source_of self.old) result (source_of self.new) }
+        ensures refused { IfErr result (λ e. Refuses F.Flavor WantsText (BadNumber 64)
+            (source_of self.old) e (source_of self.new)) }
     {
         let count = self.count()?;
         let lent = self.flavor.try_take_n(count)?;
@@ -73,8 +79,11 @@ impl<'de, F: Flavor> Deserializer<'de, F> {
     ///
     /// As `deserialize_bytes`, and `OutOfMemory`.
     pub fn deserialize_byte_buf(&mut self, alloc: Global) -> Result<Vec<u8>>
-        ensures reads { Reads Spells (IsSeq IsByte) (λ t v. ListIs (λ s b. s ≡ Byte b) t v.items) ⊤ F.left F.able F.may_leave (source_of self.old) result (source_of self.new) }
-        ensures refused { IfErr result (λ e. Refuses WantsText BadBytes F.left F.able (source_of self.old) e (source_of self.new)) }
+        ensures reads { Reads F.Flavor Spells (IsSeq IsByte)
+            (λ t v. ListIs (λ s b. s ≡ Byte b) t v.items) ⊤
+            (source_of self.old) result (source_of self.new) }
+        ensures refused { IfErr result (λ e. Refuses F.Flavor WantsText BadBytes
+            (source_of self.old) e (source_of self.new)) }
     {
         let count = self.count()?;
         let lent = self.flavor.try_take_n_temp(count)?;
@@ -89,10 +98,13 @@ impl<'de, F: Flavor> Deserializer<'de, F> {
     ///
     /// # Errors
     ///
-    /// As `deserialize_str`, and `SerdeDeCustom` where it is longer, once its bytes were taken and found to be UTF-8.
+    /// As `deserialize_str`, and `SerdeDeCustom` where it is longer, once its bytes were taken and
+    /// found to be UTF-8.
     pub(crate) fn short_string<const CAP: usize>(&mut self) -> Result<ArrayString<CAP>>
-        ensures reads { Reads Spells (IsShortText CAP) (λ t v. t ≡ Text v.bytes) ⊥ F.left F.able F.may_leave (source_of self.old) result (source_of self.new) }
-        ensures refused { IfErr result (λ e. Refuses WantsText (BadShortText CAP) F.left F.able (source_of self.old) e (source_of self.new)) }
+        ensures reads { Reads F.Flavor Spells (IsShortText CAP) (λ t v. t ≡ Text v.bytes) ⊥
+            (source_of self.old) result (source_of self.new) }
+        ensures refused { IfErr result (λ e. Refuses F.Flavor WantsText (BadShortText CAP)
+            (source_of self.old) e (source_of self.new)) }
     {
         let count = self.count()?;
         let bytes = self.flavor.try_take_n_temp(count)?;

@@ -26,8 +26,10 @@ impl<'de, F: Flavor> Deserializer<'de, F> {
     ///
     /// `DeserializeUnexpectedEnd` where no byte is left, `DeserializeBadBool` at any other byte.
     pub fn deserialize_bool(&mut self) -> Result<bool>
-        ensures reads { Reads Spells IsBoolean (λ t v. t ≡ Boolean v) ⊥ F.left F.able F.may_leave (source_of self.old) result (source_of self.new) }
-        ensures refused { IfErr result (λ e. Refuses WantsByte BadBool F.left F.able (source_of self.old) e (source_of self.new)) }
+        ensures reads { Reads F.Flavor Spells IsBoolean (λ t v. t ≡ Boolean v) ⊥
+            (source_of self.old) result (source_of self.new) }
+        ensures refused { IfErr result (λ e. Refuses F.Flavor WantsByte BadBool
+            (source_of self.old) e (source_of self.new)) }
     {
         match self.flavor.pop()? {
             0 => Ok(false),
@@ -40,11 +42,15 @@ impl<'de, F: Flavor> Deserializer<'de, F> {
     ///
     /// # Errors
     ///
-    /// `DeserializeUnexpectedEnd` where no byte is left, `DeserializeBadOption` at any other byte, and those of the content.
+    /// `DeserializeUnexpectedEnd` where no byte is left, `DeserializeBadOption` at any other byte,
+    /// and those of the content.
     pub fn deserialize_option<T: Deserialize<'de>>(&mut self, alloc: Global) -> Result<Option<T>>
-        ensures reads { Reads Spells (IsOption T.shape.reads) (OptionIs T.shape.value) T.shape.grows F.left F.able F.may_leave (source_of self.old) result (source_of self.new) }
-        ensures refused { IfErr result (λ e. Refuses WantsByte BadOption F.left F.able (source_of self.old) e (source_of self.new)
-            ⊎ ContentRefuses T.shape.reads T.shape.value T.shape.grows F.left F.able F.may_leave (source_of self.old) e (source_of self.new)) }
+        ensures reads { Reads F.Flavor Spells (IsOption T.shape.reads) (OptionIs T.shape.value)
+            T.shape.grows (source_of self.old) result (source_of self.new) }
+        ensures refused { IfErr result (λ e. Refuses F.Flavor WantsByte BadOption
+            (source_of self.old) e (source_of self.new)
+            ⊎ ContentRefuses F.Flavor T.shape.reads T.shape.value T.shape.grows
+            (source_of self.old) e (source_of self.new)) }
     {
         match self.flavor.pop()? {
             0 => Ok(None),
@@ -56,15 +62,19 @@ impl<'de, F: Flavor> Deserializer<'de, F> {
         }
     }
 
-    /// Reads the index of an enum's variant: a varint of at most 5 bytes. The content is read by the call for its kind.
+    /// Reads the index of an enum's variant: a varint of at most 5 bytes. The content is read by
+    /// the call for its kind.
     ///
     /// # Errors
     ///
-    /// `DeserializeUnexpectedEnd` where the bytes end within the index, `DeserializeBadVarint` where it is longer or
-    /// passes 32 bits. That an index has no variant is for the type to refuse.
+    /// `DeserializeUnexpectedEnd` where the bytes end within the index, `DeserializeBadVarint`
+    /// where it is longer or passes 32 bits. That an index has no variant is for the type to
+    /// refuse.
     pub fn deserialize_enum(&mut self, _name: &str, _variants: &[&str]) -> Result<u32>
-        ensures reads { Reads (SpellsNum 32) (λ n. n < 2 ^ 32) Same ⊥ F.left F.able F.may_leave (source_of self.old) result (source_of self.new) }
-        ensures refused { IfErr result (λ e. Refuses (WantsDigit 32) (BadNumber 32) F.left F.able (source_of self.old) e (source_of self.new)) }
+        ensures reads { Reads F.Flavor (SpellsNum 32) (λ n. n < 2 ^ 32) Same ⊥
+            (source_of self.old) result (source_of self.new) }
+        ensures refused { IfErr result (λ e. Refuses F.Flavor (WantsDigit 32) (BadNumber 32)
+            (source_of self.old) e (source_of self.new)) }
     {
         let n = self.number(32)?;
         Ok(n as u32)
@@ -88,12 +98,14 @@ impl<'de, F: Flavor> Deserializer<'de, F> {
     ///
     /// Those of the content.
     pub fn newtype_variant<T: Deserialize<'de>>(&mut self, alloc: Global) -> Result<T>
-        ensures { Reads Spells T.shape.reads T.shape.value T.shape.grows F.left F.able F.may_leave (source_of self.old) result (source_of self.new) }
+        ensures { Reads F.Flavor Spells T.shape.reads T.shape.value T.shape.grows
+            (source_of self.old) result (source_of self.new) }
     {
         T::deserialize(alloc, self)
     }
 
-    /// Begins the content of a variant of `len` parts: nothing is read yet, and as many elements are left.
+    /// Begins the content of a variant of `len` parts: nothing is read yet, and as many elements
+    /// are left.
     ///
     /// # Errors
     ///
@@ -105,7 +117,8 @@ impl<'de, F: Flavor> Deserializer<'de, F> {
         Ok(SeqAccess::new(len))
     }
 
-    /// Begins the content of a variant with these fields: nothing is read yet, and as many elements are left.
+    /// Begins the content of a variant with these fields: nothing is read yet, and as many elements
+    /// are left.
     ///
     /// # Errors
     ///

@@ -28,7 +28,9 @@ impl<'de, F: Flavor> Deserializer<'de, F> {
         &mut self,
         alloc: Global,
     ) -> Result<Vec<T>>
-        ensures { Reads Spells (IsSeq T.shape.reads) (λ t v. ListIs T.shape.value t v.items) ⊤ F.left F.able F.may_leave (source_of self.old) result (source_of self.new) }
+        ensures { Reads F.Flavor Spells (IsSeq T.shape.reads)
+            (λ t v. ListIs T.shape.value t v.items) ⊤
+            (source_of self.old) result (source_of self.new) }
     {
         let count = self.count()?;
         let mut items = Vec::new(alloc);
@@ -45,13 +47,15 @@ impl<'de, F: Flavor> Deserializer<'de, F> {
     ///
     /// # Errors
     ///
-    /// As a number of 64 bits for the count, those of an element, and `SerdeDeCustom` once the first element that doesn't
-    /// fit has been read.
+    /// As a number of 64 bits for the count, those of an element, and `SerdeDeCustom` once the
+    /// first element that doesn't fit has been read.
     pub(crate) fn few<T: Shaped + Drop + Default, E: Element<'de, T>, const CAP: usize>(
         &mut self,
         alloc: Global,
     ) -> Result<ArrayVec<T, CAP>>
-        ensures { Reads Spells (IsFewSeq CAP T.shape.reads) (λ t v. ListIs T.shape.value t v.items) T.shape.grows F.left F.able F.may_leave (source_of self.old) result (source_of self.new) }
+        ensures { Reads F.Flavor Spells (IsFewSeq CAP T.shape.reads)
+            (λ t v. ListIs T.shape.value t v.items) T.shape.grows
+            (source_of self.old) result (source_of self.new) }
     {
         let count = self.count()?;
         let mut items = ArrayVec::new();
@@ -73,7 +77,9 @@ impl<'de, F: Flavor> Deserializer<'de, F> {
         &mut self,
         alloc: Global,
     ) -> Result<[T; N]>
-        ensures { Reads Spells (IsArray N T.shape.reads) (λ t v. IsGroup (λ ts. EachIs T.shape.value ts v) t) T.shape.grows F.left F.able F.may_leave (source_of self.old) result (source_of self.new) }
+        ensures { Reads F.Flavor Spells (IsArray N T.shape.reads)
+            (λ t v. IsGroup (λ ts. EachIs T.shape.value ts v) t) T.shape.grows
+            (source_of self.old) result (source_of self.new) }
     {
         let mut items = [T::default(); N];
         for i in 0..N {
@@ -82,7 +88,8 @@ impl<'de, F: Flavor> Deserializer<'de, F> {
         Ok(items)
     }
 
-    /// Reads a map: a count, and as many pairs of a key and a value. A later value of an equal key wins.
+    /// Reads a map: a count, and as many pairs of a key and a value. A later value of an equal key
+    /// wins.
     ///
     /// # Errors
     ///
@@ -92,7 +99,9 @@ impl<'de, F: Flavor> Deserializer<'de, F> {
         V: Shaped + Drop,
         E: Element<'de, K> + Element<'de, V>,
     >(&mut self, alloc: Global) -> Result<BTreeMap<K, V>>
-        ensures { Reads Spells (IsSeq (IsEntry K.shape.reads V.shape.reads)) (λ t m. MapIs K.cmp K.shape.value V.shape.value t m.entries) ⊤ F.left F.able F.may_leave (source_of self.old) result (source_of self.new) }
+        ensures { Reads F.Flavor Spells (IsSeq (IsEntry K.shape.reads V.shape.reads))
+            (λ t m. MapIs K.cmp K.shape.value V.shape.value t m.entries) ⊤
+            (source_of self.old) result (source_of self.new) }
     {
         let count = self.count()?;
         let mut map = BTreeMap::new(alloc);

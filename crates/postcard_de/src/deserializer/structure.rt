@@ -24,7 +24,8 @@ impl<'de, F: Flavor> Deserializer<'de, F> {
     ///
     /// None.
     pub fn deserialize_unit(&mut self) -> Result<()>
-        ensures reads { Reads Spells (IsGroup IsEnd) (λ t v. IsGroup IsEnd t) ⊥ F.left F.able F.may_leave (source_of self.old) result (source_of self.new) }
+        ensures reads { Reads F.Flavor Spells (IsGroup IsEnd) (λ t v. IsGroup IsEnd t) ⊥
+            (source_of self.old) result (source_of self.new) }
         ensures always { IsOk result }
         ensures unchanged { self.new ≡ self.old }
     {
@@ -37,7 +38,8 @@ impl<'de, F: Flavor> Deserializer<'de, F> {
     ///
     /// None.
     pub fn deserialize_unit_struct(&mut self, _name: &str) -> Result<()>
-        ensures reads { Reads Spells (IsGroup IsEnd) (λ t v. IsGroup IsEnd t) ⊥ F.left F.able F.may_leave (source_of self.old) result (source_of self.new) }
+        ensures reads { Reads F.Flavor Spells (IsGroup IsEnd) (λ t v. IsGroup IsEnd t) ⊥
+            (source_of self.old) result (source_of self.new) }
         ensures always { IsOk result }
         ensures unchanged { self.new ≡ self.old }
     {
@@ -54,7 +56,8 @@ impl<'de, F: Flavor> Deserializer<'de, F> {
         alloc: Global,
         _name: &str,
     ) -> Result<T>
-        ensures { Reads Spells T.shape.reads T.shape.value T.shape.grows F.left F.able F.may_leave (source_of self.old) result (source_of self.new) }
+        ensures { Reads F.Flavor Spells T.shape.reads T.shape.value T.shape.grows
+            (source_of self.old) result (source_of self.new) }
     {
         T::deserialize(alloc, self)
     }
@@ -83,7 +86,8 @@ impl<'de, F: Flavor> Deserializer<'de, F> {
         self.deserialize_tuple(len)
     }
 
-    /// Begins a struct with these fields: nothing is read yet, and as many elements are left. The names aren't used.
+    /// Begins a struct with these fields: nothing is read yet, and as many elements are left. The
+    /// names aren't used.
     ///
     /// # Errors
     ///
@@ -95,14 +99,17 @@ impl<'de, F: Flavor> Deserializer<'de, F> {
         Ok(SeqAccess::new(fields.len()))
     }
 
-    /// Reads the count of a map's pairs, whose keys and values are then read by `next_key` and `next_value` in turn.
+    /// Reads the count of a map's pairs, whose keys and values are then read by `next_key` and
+    /// `next_value` in turn.
     ///
     /// # Errors
     ///
     /// As a number of 64 bits.
     pub fn deserialize_map(&mut self) -> Result<MapAccess>
-        ensures reads { Reads (SpellsNum 64) (λ n. n < 2 ^ 64) Same ⊥ F.left F.able F.may_leave (source_of self.old) result (source_of self.new) }
-        ensures refused { IfErr result (λ e. Refuses (WantsDigit 64) (BadNumber 64) F.left F.able (source_of self.old) e (source_of self.new)) }
+        ensures reads { Reads F.Flavor (SpellsNum 64) (λ n. n < 2 ^ 64) Same ⊥
+            (source_of self.old) result (source_of self.new) }
+        ensures refused { IfErr result (λ e. Refuses F.Flavor (WantsDigit 64) (BadNumber 64)
+            (source_of self.old) e (source_of self.new)) }
     {
         let count = self.count()?;
         Ok(MapAccess::new(count))

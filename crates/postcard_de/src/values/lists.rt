@@ -19,8 +19,11 @@ use std::alloc::Global;
 
 impl<'de> Deserialize<'de> for &'de [u8] {
     fn deserialize<F: Flavor>(_alloc: Global, d: &mut Deserializer<'de, F>) -> Result<Self>
-        ensures reads { Reads Spells (IsSeq IsByte) (λ t v. ListIs (λ s b. s ≡ Byte b) t v.now) ⊥ F.left F.able F.may_leave (source_of d.old) result (source_of d.new) }
-        ensures refused { IfErr result (λ e. Refuses WantsText (BadNumber 64) F.left F.able (source_of d.old) e (source_of d.new)) }
+        ensures reads { Reads F.Flavor Spells (IsSeq IsByte)
+            (λ t v. ListIs (λ s b. s ≡ Byte b) t v.now) ⊥
+            (source_of d.old) result (source_of d.new) }
+        ensures refused { IfErr result (λ e. Refuses F.Flavor WantsText (BadNumber 64)
+            (source_of d.old) e (source_of d.new)) }
     {
         d.deserialize_bytes()
     }

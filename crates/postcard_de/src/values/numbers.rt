@@ -18,8 +18,10 @@ use std::alloc::Global;
 
 impl<'de> Deserialize<'de> for u8 {
     fn deserialize<F: Flavor>(_alloc: Global, d: &mut Deserializer<'de, F>) -> Result<Self>
-        ensures reads { Reads Spells IsByte (λ t v. t ≡ Byte v) ⊥ F.left F.able F.may_leave (source_of d.old) result (source_of d.new) }
-        ensures refused { IfErr result (λ e. Refuses WantsByte NoneBad F.left F.able (source_of d.old) e (source_of d.new)) }
+        ensures reads { Reads F.Flavor Spells IsByte (λ t v. t ≡ Byte v) ⊥
+            (source_of d.old) result (source_of d.new) }
+        ensures refused { IfErr result (λ e. Refuses F.Flavor WantsByte NoneBad
+            (source_of d.old) e (source_of d.new)) }
     {
         d.deserialize_u8()
     }
@@ -30,8 +32,10 @@ impl DeserializeOwned for u8 {
         alloc: Global,
         d: &mut Deserializer<'de, F>,
     ) -> Result<Self>
-        ensures reads { Reads Spells IsByte (λ t v. t ≡ Byte v) ⊥ F.left F.able F.may_leave (source_of d.old) result (source_of d.new) }
-        ensures refused { IfErr result (λ e. Refuses WantsByte NoneBad F.left F.able (source_of d.old) e (source_of d.new)) }
+        ensures reads { Reads F.Flavor Spells IsByte (λ t v. t ≡ Byte v) ⊥
+            (source_of d.old) result (source_of d.new) }
+        ensures refused { IfErr result (λ e. Refuses F.Flavor WantsByte NoneBad
+            (source_of d.old) e (source_of d.new)) }
     {
         u8::deserialize(alloc, d)
     }
@@ -39,8 +43,10 @@ impl DeserializeOwned for u8 {
 
 impl<'de> Deserialize<'de> for u16 {
     fn deserialize<F: Flavor>(_alloc: Global, d: &mut Deserializer<'de, F>) -> Result<Self>
-        ensures reads { Reads Spells (IsNum 16) (λ t v. t ≡ Num 16 v) ⊥ F.left F.able F.may_leave (source_of d.old) result (source_of d.new) }
-        ensures refused { IfErr result (λ e. Refuses (WantsDigit 16) (BadNumber 16) F.left F.able (source_of d.old) e (source_of d.new)) }
+        ensures reads { Reads F.Flavor Spells (IsNum 16) (λ t v. t ≡ Num 16 v) ⊥
+            (source_of d.old) result (source_of d.new) }
+        ensures refused { IfErr result (λ e. Refuses F.Flavor (WantsDigit 16) (BadNumber 16)
+            (source_of d.old) e (source_of d.new)) }
     {
         d.deserialize_u16()
     }
@@ -51,8 +57,10 @@ impl DeserializeOwned for u16 {
         alloc: Global,
         d: &mut Deserializer<'de, F>,
     ) -> Result<Self>
-        ensures reads { Reads Spells (IsNum 16) (λ t v. t ≡ Num 16 v) ⊥ F.left F.able F.may_leave (source_of d.old) result (source_of d.new) }
-        ensures refused { IfErr result (λ e. Refuses (WantsDigit 16) (BadNumber 16) F.left F.able (source_of d.old) e (source_of d.new)) }
+        ensures reads { Reads F.Flavor Spells (IsNum 16) (λ t v. t ≡ Num 16 v) ⊥
+            (source_of d.old) result (source_of d.new) }
+        ensures refused { IfErr result (λ e. Refuses F.Flavor (WantsDigit 16) (BadNumber 16)
+            (source_of d.old) e (source_of d.new)) }
     {
         u16::deserialize(alloc, d)
     }
@@ -60,8 +68,10 @@ impl DeserializeOwned for u16 {
 
 impl<'de> Deserialize<'de> for u32 {
     fn deserialize<F: Flavor>(_alloc: Global, d: &mut Deserializer<'de, F>) -> Result<Self>
-        ensures reads { Reads Spells (IsNum 32) (λ t v. t ≡ Num 32 v) ⊥ F.left F.able F.may_leave (source_of d.old) result (source_of d.new) }
-        ensures refused { IfErr result (λ e. Refuses (WantsDigit 32) (BadNumber 32) F.left F.able (source_of d.old) e (source_of d.new)) }
+        ensures reads { Reads F.Flavor Spells (IsNum 32) (λ t v. t ≡ Num 32 v) ⊥
+            (source_of d.old) result (source_of d.new) }
+        ensures refused { IfErr result (λ e. Refuses F.Flavor (WantsDigit 32) (BadNumber 32)
+            (source_of d.old) e (source_of d.new)) }
     {
         d.deserialize_u32()
     }
@@ -72,8 +82,10 @@ impl DeserializeOwned for u32 {
         alloc: Global,
         d: &mut Deserializer<'de, F>,
     ) -> Result<Self>
-        ensures reads { Reads Spells (IsNum 32) (λ t v. t ≡ Num 32 v) ⊥ F.left F.able F.may_leave (source_of d.old) result (source_of d.new) }
-        ensures refused { IfErr result (λ e. Refuses (WantsDigit 32) (BadNumber 32) F.left F.able (source_of d.old) e (source_of d.new)) }
+        ensures reads { Reads F.Flavor Spells (IsNum 32) (λ t v. t ≡ Num 32 v) ⊥
+            (source_of d.old) result (source_of d.new) }
+        ensures refused { IfErr result (λ e. Refuses F.Flavor (WantsDigit 32) (BadNumber 32)
+            (source_of d.old) e (source_of d.new)) }
     {
         u32::deserialize(alloc, d)
     }
@@ -81,8 +93,10 @@ impl DeserializeOwned for u32 {
 
 impl<'de> Deserialize<'de> for u64 {
     fn deserialize<F: Flavor>(_alloc: Global, d: &mut Deserializer<'de, F>) -> Result<Self>
-        ensures reads { Reads Spells (IsNum 64) (λ t v. t ≡ Num 64 v) ⊥ F.left F.able F.may_leave (source_of d.old) result (source_of d.new) }
-        ensures refused { IfErr result (λ e. Refuses (WantsDigit 64) (BadNumber 64) F.left F.able (source_of d.old) e (source_of d.new)) }
+        ensures reads { Reads F.Flavor Spells (IsNum 64) (λ t v. t ≡ Num 64 v) ⊥
+            (source_of d.old) result (source_of d.new) }
+        ensures refused { IfErr result (λ e. Refuses F.Flavor (WantsDigit 64) (BadNumber 64)
+            (source_of d.old) e (source_of d.new)) }
     {
         d.deserialize_u64()
     }
@@ -93,8 +107,10 @@ impl DeserializeOwned for u64 {
         alloc: Global,
         d: &mut Deserializer<'de, F>,
     ) -> Result<Self>
-        ensures reads { Reads Spells (IsNum 64) (λ t v. t ≡ Num 64 v) ⊥ F.left F.able F.may_leave (source_of d.old) result (source_of d.new) }
-        ensures refused { IfErr result (λ e. Refuses (WantsDigit 64) (BadNumber 64) F.left F.able (source_of d.old) e (source_of d.new)) }
+        ensures reads { Reads F.Flavor Spells (IsNum 64) (λ t v. t ≡ Num 64 v) ⊥
+            (source_of d.old) result (source_of d.new) }
+        ensures refused { IfErr result (λ e. Refuses F.Flavor (WantsDigit 64) (BadNumber 64)
+            (source_of d.old) e (source_of d.new)) }
     {
         u64::deserialize(alloc, d)
     }
@@ -102,8 +118,10 @@ impl DeserializeOwned for u64 {
 
 impl<'de> Deserialize<'de> for u128 {
     fn deserialize<F: Flavor>(_alloc: Global, d: &mut Deserializer<'de, F>) -> Result<Self>
-        ensures reads { Reads Spells (IsNum 128) (λ t v. t ≡ Num 128 v) ⊥ F.left F.able F.may_leave (source_of d.old) result (source_of d.new) }
-        ensures refused { IfErr result (λ e. Refuses (WantsDigit 128) (BadNumber 128) F.left F.able (source_of d.old) e (source_of d.new)) }
+        ensures reads { Reads F.Flavor Spells (IsNum 128) (λ t v. t ≡ Num 128 v) ⊥
+            (source_of d.old) result (source_of d.new) }
+        ensures refused { IfErr result (λ e. Refuses F.Flavor (WantsDigit 128) (BadNumber 128)
+            (source_of d.old) e (source_of d.new)) }
     {
         d.deserialize_u128()
     }
@@ -114,8 +132,10 @@ impl DeserializeOwned for u128 {
         alloc: Global,
         d: &mut Deserializer<'de, F>,
     ) -> Result<Self>
-        ensures reads { Reads Spells (IsNum 128) (λ t v. t ≡ Num 128 v) ⊥ F.left F.able F.may_leave (source_of d.old) result (source_of d.new) }
-        ensures refused { IfErr result (λ e. Refuses (WantsDigit 128) (BadNumber 128) F.left F.able (source_of d.old) e (source_of d.new)) }
+        ensures reads { Reads F.Flavor Spells (IsNum 128) (λ t v. t ≡ Num 128 v) ⊥
+            (source_of d.old) result (source_of d.new) }
+        ensures refused { IfErr result (λ e. Refuses F.Flavor (WantsDigit 128) (BadNumber 128)
+            (source_of d.old) e (source_of d.new)) }
     {
         u128::deserialize(alloc, d)
     }
@@ -123,8 +143,10 @@ impl DeserializeOwned for u128 {
 
 impl<'de> Deserialize<'de> for i8 {
     fn deserialize<F: Flavor>(_alloc: Global, d: &mut Deserializer<'de, F>) -> Result<Self>
-        ensures reads { Reads Spells IsByte (λ t v. t ≡ Byte (cast_unsigned w8 v)) ⊥ F.left F.able F.may_leave (source_of d.old) result (source_of d.new) }
-        ensures refused { IfErr result (λ e. Refuses WantsByte NoneBad F.left F.able (source_of d.old) e (source_of d.new)) }
+        ensures reads { Reads F.Flavor Spells IsByte (λ t v. t ≡ Byte (cast_unsigned w8 v)) ⊥
+            (source_of d.old) result (source_of d.new) }
+        ensures refused { IfErr result (λ e. Refuses F.Flavor WantsByte NoneBad
+            (source_of d.old) e (source_of d.new)) }
     {
         d.deserialize_i8()
     }
@@ -135,8 +157,10 @@ impl DeserializeOwned for i8 {
         alloc: Global,
         d: &mut Deserializer<'de, F>,
     ) -> Result<Self>
-        ensures reads { Reads Spells IsByte (λ t v. t ≡ Byte (cast_unsigned w8 v)) ⊥ F.left F.able F.may_leave (source_of d.old) result (source_of d.new) }
-        ensures refused { IfErr result (λ e. Refuses WantsByte NoneBad F.left F.able (source_of d.old) e (source_of d.new)) }
+        ensures reads { Reads F.Flavor Spells IsByte (λ t v. t ≡ Byte (cast_unsigned w8 v)) ⊥
+            (source_of d.old) result (source_of d.new) }
+        ensures refused { IfErr result (λ e. Refuses F.Flavor WantsByte NoneBad
+            (source_of d.old) e (source_of d.new)) }
     {
         i8::deserialize(alloc, d)
     }
@@ -144,8 +168,10 @@ impl DeserializeOwned for i8 {
 
 impl<'de> Deserialize<'de> for i16 {
     fn deserialize<F: Flavor>(_alloc: Global, d: &mut Deserializer<'de, F>) -> Result<Self>
-        ensures reads { Reads Spells (IsInt 16) (λ t v. t ≡ Int 16 v) ⊥ F.left F.able F.may_leave (source_of d.old) result (source_of d.new) }
-        ensures refused { IfErr result (λ e. Refuses (WantsDigit 16) (BadNumber 16) F.left F.able (source_of d.old) e (source_of d.new)) }
+        ensures reads { Reads F.Flavor Spells (IsInt 16) (λ t v. t ≡ Int 16 v) ⊥
+            (source_of d.old) result (source_of d.new) }
+        ensures refused { IfErr result (λ e. Refuses F.Flavor (WantsDigit 16) (BadNumber 16)
+            (source_of d.old) e (source_of d.new)) }
     {
         d.deserialize_i16()
     }
@@ -156,8 +182,10 @@ impl DeserializeOwned for i16 {
         alloc: Global,
         d: &mut Deserializer<'de, F>,
     ) -> Result<Self>
-        ensures reads { Reads Spells (IsInt 16) (λ t v. t ≡ Int 16 v) ⊥ F.left F.able F.may_leave (source_of d.old) result (source_of d.new) }
-        ensures refused { IfErr result (λ e. Refuses (WantsDigit 16) (BadNumber 16) F.left F.able (source_of d.old) e (source_of d.new)) }
+        ensures reads { Reads F.Flavor Spells (IsInt 16) (λ t v. t ≡ Int 16 v) ⊥
+            (source_of d.old) result (source_of d.new) }
+        ensures refused { IfErr result (λ e. Refuses F.Flavor (WantsDigit 16) (BadNumber 16)
+            (source_of d.old) e (source_of d.new)) }
     {
         i16::deserialize(alloc, d)
     }
@@ -165,8 +193,10 @@ impl DeserializeOwned for i16 {
 
 impl<'de> Deserialize<'de> for i32 {
     fn deserialize<F: Flavor>(_alloc: Global, d: &mut Deserializer<'de, F>) -> Result<Self>
-        ensures reads { Reads Spells (IsInt 32) (λ t v. t ≡ Int 32 v) ⊥ F.left F.able F.may_leave (source_of d.old) result (source_of d.new) }
-        ensures refused { IfErr result (λ e. Refuses (WantsDigit 32) (BadNumber 32) F.left F.able (source_of d.old) e (source_of d.new)) }
+        ensures reads { Reads F.Flavor Spells (IsInt 32) (λ t v. t ≡ Int 32 v) ⊥
+            (source_of d.old) result (source_of d.new) }
+        ensures refused { IfErr result (λ e. Refuses F.Flavor (WantsDigit 32) (BadNumber 32)
+            (source_of d.old) e (source_of d.new)) }
     {
         d.deserialize_i32()
     }
@@ -177,8 +207,10 @@ impl DeserializeOwned for i32 {
         alloc: Global,
         d: &mut Deserializer<'de, F>,
     ) -> Result<Self>
-        ensures reads { Reads Spells (IsInt 32) (λ t v. t ≡ Int 32 v) ⊥ F.left F.able F.may_leave (source_of d.old) result (source_of d.new) }
-        ensures refused { IfErr result (λ e. Refuses (WantsDigit 32) (BadNumber 32) F.left F.able (source_of d.old) e (source_of d.new)) }
+        ensures reads { Reads F.Flavor Spells (IsInt 32) (λ t v. t ≡ Int 32 v) ⊥
+            (source_of d.old) result (source_of d.new) }
+        ensures refused { IfErr result (λ e. Refuses F.Flavor (WantsDigit 32) (BadNumber 32)
+            (source_of d.old) e (source_of d.new)) }
     {
         i32::deserialize(alloc, d)
     }
@@ -186,8 +218,10 @@ impl DeserializeOwned for i32 {
 
 impl<'de> Deserialize<'de> for i64 {
     fn deserialize<F: Flavor>(_alloc: Global, d: &mut Deserializer<'de, F>) -> Result<Self>
-        ensures reads { Reads Spells (IsInt 64) (λ t v. t ≡ Int 64 v) ⊥ F.left F.able F.may_leave (source_of d.old) result (source_of d.new) }
-        ensures refused { IfErr result (λ e. Refuses (WantsDigit 64) (BadNumber 64) F.left F.able (source_of d.old) e (source_of d.new)) }
+        ensures reads { Reads F.Flavor Spells (IsInt 64) (λ t v. t ≡ Int 64 v) ⊥
+            (source_of d.old) result (source_of d.new) }
+        ensures refused { IfErr result (λ e. Refuses F.Flavor (WantsDigit 64) (BadNumber 64)
+            (source_of d.old) e (source_of d.new)) }
     {
         d.deserialize_i64()
     }
@@ -198,8 +232,10 @@ impl DeserializeOwned for i64 {
         alloc: Global,
         d: &mut Deserializer<'de, F>,
     ) -> Result<Self>
-        ensures reads { Reads Spells (IsInt 64) (λ t v. t ≡ Int 64 v) ⊥ F.left F.able F.may_leave (source_of d.old) result (source_of d.new) }
-        ensures refused { IfErr result (λ e. Refuses (WantsDigit 64) (BadNumber 64) F.left F.able (source_of d.old) e (source_of d.new)) }
+        ensures reads { Reads F.Flavor Spells (IsInt 64) (λ t v. t ≡ Int 64 v) ⊥
+            (source_of d.old) result (source_of d.new) }
+        ensures refused { IfErr result (λ e. Refuses F.Flavor (WantsDigit 64) (BadNumber 64)
+            (source_of d.old) e (source_of d.new)) }
     {
         i64::deserialize(alloc, d)
     }
@@ -207,8 +243,10 @@ impl DeserializeOwned for i64 {
 
 impl<'de> Deserialize<'de> for i128 {
     fn deserialize<F: Flavor>(_alloc: Global, d: &mut Deserializer<'de, F>) -> Result<Self>
-        ensures reads { Reads Spells (IsInt 128) (λ t v. t ≡ Int 128 v) ⊥ F.left F.able F.may_leave (source_of d.old) result (source_of d.new) }
-        ensures refused { IfErr result (λ e. Refuses (WantsDigit 128) (BadNumber 128) F.left F.able (source_of d.old) e (source_of d.new)) }
+        ensures reads { Reads F.Flavor Spells (IsInt 128) (λ t v. t ≡ Int 128 v) ⊥
+            (source_of d.old) result (source_of d.new) }
+        ensures refused { IfErr result (λ e. Refuses F.Flavor (WantsDigit 128) (BadNumber 128)
+            (source_of d.old) e (source_of d.new)) }
     {
         d.deserialize_i128()
     }
@@ -219,8 +257,10 @@ impl DeserializeOwned for i128 {
         alloc: Global,
         d: &mut Deserializer<'de, F>,
     ) -> Result<Self>
-        ensures reads { Reads Spells (IsInt 128) (λ t v. t ≡ Int 128 v) ⊥ F.left F.able F.may_leave (source_of d.old) result (source_of d.new) }
-        ensures refused { IfErr result (λ e. Refuses (WantsDigit 128) (BadNumber 128) F.left F.able (source_of d.old) e (source_of d.new)) }
+        ensures reads { Reads F.Flavor Spells (IsInt 128) (λ t v. t ≡ Int 128 v) ⊥
+            (source_of d.old) result (source_of d.new) }
+        ensures refused { IfErr result (λ e. Refuses F.Flavor (WantsDigit 128) (BadNumber 128)
+            (source_of d.old) e (source_of d.new)) }
     {
         i128::deserialize(alloc, d)
     }

@@ -1,4 +1,5 @@
-//! Truth values, characters, and numbers as wide as an address, which are read as numbers of 64 bits.
+//! Truth values, characters, and numbers as wide as an address, which are read as numbers of 64
+//! bits.
 
 ghost use Rattle.std.specs.Prelude.{◌≡◌, IfErr};
 ghost use Rattle.postcard_wire.specs.Tree.{Boolean, Char, Num, Int};
@@ -18,8 +19,10 @@ use std::alloc::Global;
 
 impl<'de> Deserialize<'de> for bool {
     fn deserialize<F: Flavor>(_alloc: Global, d: &mut Deserializer<'de, F>) -> Result<Self>
-        ensures reads { Reads Spells IsBoolean (λ t v. t ≡ Boolean v) ⊥ F.left F.able F.may_leave (source_of d.old) result (source_of d.new) }
-        ensures refused { IfErr result (λ e. Refuses WantsByte BadBool F.left F.able (source_of d.old) e (source_of d.new)) }
+        ensures reads { Reads F.Flavor Spells IsBoolean (λ t v. t ≡ Boolean v) ⊥
+            (source_of d.old) result (source_of d.new) }
+        ensures refused { IfErr result (λ e. Refuses F.Flavor WantsByte BadBool
+            (source_of d.old) e (source_of d.new)) }
     {
         d.deserialize_bool()
     }
@@ -30,8 +33,10 @@ impl DeserializeOwned for bool {
         alloc: Global,
         d: &mut Deserializer<'de, F>,
     ) -> Result<Self>
-        ensures reads { Reads Spells IsBoolean (λ t v. t ≡ Boolean v) ⊥ F.left F.able F.may_leave (source_of d.old) result (source_of d.new) }
-        ensures refused { IfErr result (λ e. Refuses WantsByte BadBool F.left F.able (source_of d.old) e (source_of d.new)) }
+        ensures reads { Reads F.Flavor Spells IsBoolean (λ t v. t ≡ Boolean v) ⊥
+            (source_of d.old) result (source_of d.new) }
+        ensures refused { IfErr result (λ e. Refuses F.Flavor WantsByte BadBool
+            (source_of d.old) e (source_of d.new)) }
     {
         bool::deserialize(alloc, d)
     }
@@ -39,8 +44,10 @@ impl DeserializeOwned for bool {
 
 impl<'de> Deserialize<'de> for char {
     fn deserialize<F: Flavor>(_alloc: Global, d: &mut Deserializer<'de, F>) -> Result<Self>
-        ensures reads { Reads Spells IsChar (λ t v. t ≡ Char v) ⊥ F.left F.able F.may_leave (source_of d.old) result (source_of d.new) }
-        ensures refused { IfErr result (λ e. Refuses WantsChar BadChar F.left F.able (source_of d.old) e (source_of d.new)) }
+        ensures reads { Reads F.Flavor Spells IsChar (λ t v. t ≡ Char v) ⊥
+            (source_of d.old) result (source_of d.new) }
+        ensures refused { IfErr result (λ e. Refuses F.Flavor WantsChar BadChar
+            (source_of d.old) e (source_of d.new)) }
     {
         d.deserialize_char()
     }
@@ -51,8 +58,10 @@ impl DeserializeOwned for char {
         alloc: Global,
         d: &mut Deserializer<'de, F>,
     ) -> Result<Self>
-        ensures reads { Reads Spells IsChar (λ t v. t ≡ Char v) ⊥ F.left F.able F.may_leave (source_of d.old) result (source_of d.new) }
-        ensures refused { IfErr result (λ e. Refuses WantsChar BadChar F.left F.able (source_of d.old) e (source_of d.new)) }
+        ensures reads { Reads F.Flavor Spells IsChar (λ t v. t ≡ Char v) ⊥
+            (source_of d.old) result (source_of d.new) }
+        ensures refused { IfErr result (λ e. Refuses F.Flavor WantsChar BadChar
+            (source_of d.old) e (source_of d.new)) }
     {
         char::deserialize(alloc, d)
     }
@@ -60,8 +69,10 @@ impl DeserializeOwned for char {
 
 impl<'de> Deserialize<'de> for usize {
     fn deserialize<F: Flavor>(_alloc: Global, d: &mut Deserializer<'de, F>) -> Result<Self>
-        ensures reads { Reads Spells (IsNum 64) (λ t v. t ≡ Num 64 v) ⊥ F.left F.able F.may_leave (source_of d.old) result (source_of d.new) }
-        ensures refused { IfErr result (λ e. Refuses (WantsDigit 64) (BadNumber 64) F.left F.able (source_of d.old) e (source_of d.new)) }
+        ensures reads { Reads F.Flavor Spells (IsNum 64) (λ t v. t ≡ Num 64 v) ⊥
+            (source_of d.old) result (source_of d.new) }
+        ensures refused { IfErr result (λ e. Refuses F.Flavor (WantsDigit 64) (BadNumber 64)
+            (source_of d.old) e (source_of d.new)) }
     {
         let n = d.deserialize_u64()?;
         Ok(n as usize)
@@ -73,8 +84,10 @@ impl DeserializeOwned for usize {
         alloc: Global,
         d: &mut Deserializer<'de, F>,
     ) -> Result<Self>
-        ensures reads { Reads Spells (IsNum 64) (λ t v. t ≡ Num 64 v) ⊥ F.left F.able F.may_leave (source_of d.old) result (source_of d.new) }
-        ensures refused { IfErr result (λ e. Refuses (WantsDigit 64) (BadNumber 64) F.left F.able (source_of d.old) e (source_of d.new)) }
+        ensures reads { Reads F.Flavor Spells (IsNum 64) (λ t v. t ≡ Num 64 v) ⊥
+            (source_of d.old) result (source_of d.new) }
+        ensures refused { IfErr result (λ e. Refuses F.Flavor (WantsDigit 64) (BadNumber 64)
+            (source_of d.old) e (source_of d.new)) }
     {
         usize::deserialize(alloc, d)
     }
@@ -82,8 +95,10 @@ impl DeserializeOwned for usize {
 
 impl<'de> Deserialize<'de> for isize {
     fn deserialize<F: Flavor>(_alloc: Global, d: &mut Deserializer<'de, F>) -> Result<Self>
-        ensures reads { Reads Spells (IsInt 64) (λ t v. t ≡ Int 64 v) ⊥ F.left F.able F.may_leave (source_of d.old) result (source_of d.new) }
-        ensures refused { IfErr result (λ e. Refuses (WantsDigit 64) (BadNumber 64) F.left F.able (source_of d.old) e (source_of d.new)) }
+        ensures reads { Reads F.Flavor Spells (IsInt 64) (λ t v. t ≡ Int 64 v) ⊥
+            (source_of d.old) result (source_of d.new) }
+        ensures refused { IfErr result (λ e. Refuses F.Flavor (WantsDigit 64) (BadNumber 64)
+            (source_of d.old) e (source_of d.new)) }
     {
         let n = d.deserialize_i64()?;
         Ok(n as isize)
@@ -95,8 +110,10 @@ impl DeserializeOwned for isize {
         alloc: Global,
         d: &mut Deserializer<'de, F>,
     ) -> Result<Self>
-        ensures reads { Reads Spells (IsInt 64) (λ t v. t ≡ Int 64 v) ⊥ F.left F.able F.may_leave (source_of d.old) result (source_of d.new) }
-        ensures refused { IfErr result (λ e. Refuses (WantsDigit 64) (BadNumber 64) F.left F.able (source_of d.old) e (source_of d.new)) }
+        ensures reads { Reads F.Flavor Spells (IsInt 64) (λ t v. t ≡ Int 64 v) ⊥
+            (source_of d.old) result (source_of d.new) }
+        ensures refused { IfErr result (λ e. Refuses F.Flavor (WantsDigit 64) (BadNumber 64)
+            (source_of d.old) e (source_of d.new)) }
     {
         isize::deserialize(alloc, d)
     }

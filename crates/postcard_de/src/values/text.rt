@@ -17,8 +17,10 @@ use std::alloc::Global;
 
 impl<'de> Deserialize<'de> for &'de str {
     fn deserialize<F: Flavor>(_alloc: Global, d: &mut Deserializer<'de, F>) -> Result<Self>
-        ensures reads { Reads Spells IsText (λ t v. t ≡ Text v.now) ⊥ F.left F.able F.may_leave (source_of d.old) result (source_of d.new) }
-        ensures refused { IfErr result (λ e. Refuses WantsText (BadText ⊥) F.left F.able (source_of d.old) e (source_of d.new)) }
+        ensures reads { Reads F.Flavor Spells IsText (λ t v. t ≡ Text v.now) ⊥
+            (source_of d.old) result (source_of d.new) }
+        ensures refused { IfErr result (λ e. Refuses F.Flavor WantsText (BadText ⊥)
+            (source_of d.old) e (source_of d.new)) }
     {
         d.deserialize_str()
     }
@@ -26,8 +28,10 @@ impl<'de> Deserialize<'de> for &'de str {
 
 impl<'de> Deserialize<'de> for String {
     fn deserialize<F: Flavor>(alloc: Global, d: &mut Deserializer<'de, F>) -> Result<Self>
-        ensures reads { Reads Spells IsText (λ t v. t ≡ Text (string_bytes v)) ⊤ F.left F.able F.may_leave (source_of d.old) result (source_of d.new) }
-        ensures refused { IfErr result (λ e. Refuses WantsText (BadText ⊤) F.left F.able (source_of d.old) e (source_of d.new)) }
+        ensures reads { Reads F.Flavor Spells IsText (λ t v. t ≡ Text (string_bytes v)) ⊤
+            (source_of d.old) result (source_of d.new) }
+        ensures refused { IfErr result (λ e. Refuses F.Flavor WantsText (BadText ⊤)
+            (source_of d.old) e (source_of d.new)) }
     {
         d.deserialize_string(alloc)
     }
@@ -38,8 +42,10 @@ impl DeserializeOwned for String {
         alloc: Global,
         d: &mut Deserializer<'de, F>,
     ) -> Result<Self>
-        ensures reads { Reads Spells IsText (λ t v. t ≡ Text (string_bytes v)) ⊤ F.left F.able F.may_leave (source_of d.old) result (source_of d.new) }
-        ensures refused { IfErr result (λ e. Refuses WantsText (BadText ⊤) F.left F.able (source_of d.old) e (source_of d.new)) }
+        ensures reads { Reads F.Flavor Spells IsText (λ t v. t ≡ Text (string_bytes v)) ⊤
+            (source_of d.old) result (source_of d.new) }
+        ensures refused { IfErr result (λ e. Refuses F.Flavor WantsText (BadText ⊤)
+            (source_of d.old) e (source_of d.new)) }
     {
         String::deserialize(alloc, d)
     }

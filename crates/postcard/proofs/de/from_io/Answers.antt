@@ -1,6 +1,7 @@
 -- Where a front of what a steady reader tells spells a tree of the type, and the scratch is as long, that front can be taken.
-use Rattle.std.proofs.Common.{Err, ap, ◌∙◌}
+use Rattle.std.proofs.Common.{ap, ◌∙◌}
 use Rattle.postcard_de.proofs.Leaves.{is_refusal}
+use Rattle.postcard_de.proofs.Named.{only_grown}
 use Rattle.postcard_de_flavors.specs.IOReader.{reader_of, scratch_of}
 use Rattle.postcard_wire.specs.Spelling.{bytes}
 use Rattle.postcard_shape.proofs.Again.{is_spelled, is_same}
@@ -20,7 +21,7 @@ returns-in_err-value-clause-reads_back g c x f steady begins room =
     let reader = ap reader_of c.from_flavor-deserializer.ensures ∙ c.new.ensures.reader in
     let scratch = ap scratch_of c.from_flavor-deserializer.ensures ∙ c.new.ensures.scratch in
     let found = c.in_err-value.ensures.accepts (s.tree x) (bytes (s.tree x)) (s.again x f).0 (is_spelled s x f) (can_take g.R.Read.remaining g.R.Source.steady _ _ _ (bytes (s.tree x)) reader scratch steady begins room) in
-    rw (is_refusal c.from_residual.result c.in_err-value.field-0.0 c.from_residual.ensures.1) (found, c.in_err-value.ensures.grown (ap Err found))
+    rw (is_refusal c.from_residual.result c.in_err-value.field-0.0 c.from_residual.ensures.1) (found, only_grown s.grows _ c.in_err-value.ensures.names found)
 
 pub returns-clause-reads_back : goal.returns-clause-reads_back
 returns-clause-reads_back g c x f steady begins room =

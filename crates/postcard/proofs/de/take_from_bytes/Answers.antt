@@ -1,7 +1,8 @@
 -- Where a front of the input spells a tree of the type, that front can be taken, and what is left behind it is the rest.
-use Rattle.std.proofs.Common.{Err, ◌≡◌, ◌≤◌, ℕ, List, ◌++◌, length, sym, ◌∙◌, ap, arith, length-append}
+use Rattle.std.proofs.Common.{◌≡◌, ◌≤◌, ℕ, List, ◌++◌, length, sym, ◌∙◌, ap, arith, length-append}
 use Rattle.std.proofs.lemmas.List.{append_cancel_left}
 use Rattle.postcard_de.proofs.Leaves.{is_refusal}
+use Rattle.postcard_de.proofs.Named.{only_grown}
 use Rattle.postcard_wire.specs.Spelling.{bytes}
 use Rattle.postcard_shape.proofs.Again.{is_spelled, is_same}
 use Rattle.postcard.proofs.de.take_from_bytes.Goals as goal
@@ -21,7 +22,7 @@ returns-in_err-value-clause-reads_back g c x rest f e =
     let s = g.T.Shaped.shape in
     let all = c.from_bytes-deserializer.ensures ∙ e in
     let found = c.in_err-value.ensures.accepts (s.tree x) (bytes (s.tree x)) (s.again x f).0 (is_spelled s x f) (record { begins = (rest, all); enough = long_enough _ (bytes (s.tree x)) rest all }) in
-    rw (is_refusal c.from_residual.result c.in_err-value.field-0.0 c.from_residual.ensures.1) (found, c.in_err-value.ensures.grown (ap Err found))
+    rw (is_refusal c.from_residual.result c.in_err-value.field-0.0 c.from_residual.ensures.1) (found, only_grown s.grows _ c.in_err-value.ensures.names found)
 
 pub returns-clause-reads_back : goal.returns-clause-reads_back
 returns-clause-reads_back g c x rest f e =

@@ -8,6 +8,11 @@ pub returns : goal.returns
 returns g c = let type = g.T.Shaped.shape in record {
   spelled = λ t r. Spells-bytes t (type.well_formed t r);
   only = λ t s p rest left r k e f.
-      let d = type.delimited s t p (bytes t) left rest k r e (Spells-bytes t (type.well_formed t r)) f in
-      (d.1, d.0, append_cancel_left (bytes t) left rest (ap (λ (l : List ℕ). l ++ left) (sym d.0) ∙ f));
+      let d = type.delimited s t p (bytes t) left rest k r e (Spells-bytes t (type.well_formed t r))
+      f in (
+        d.1,
+        d.0,
+        append_cancel_left (bytes t) left rest
+            (ap (λ (l : List ℕ). l ++ left) (sym d.0) ∙ f),
+      );
 }

@@ -17,17 +17,20 @@ returns-in_err-lent-clause-reads g c =
     let lent = c.try_take_n_temp.follows.holds-at-none in
     passed_on (λ x a. a) (λ h. absurd h) c.from_residual-in_err-lent.ensures.1
     (list_refused laws (λ (v : Vec ℕ Global). v.items) c.in_ok-count.ensures.reads
-    (bytes_end laws (λ a. let bad = c.in_err-lent.ensures.accepts a in cc) lent.1 c.in_err-lent.ensures.refuses))
+    (bytes_end laws (λ a. let bad = c.in_err-lent.ensures.accepts a in cc) lent.1
+    c.in_err-lent.ensures.refuses))
 
 pub returns-in-Ok-clause-reads : goal.returns-in-Ok-clause-reads
 returns-in-Ok-clause-reads g c =
     let laws = g.F.Flavor.lawful in
     let lent = c.try_take_n_temp.follows.holds-at-none in
     let gives = rw c.in_ok-lent.was at lent.0 in
-    let e : c.in-Ok.copy.items ≡ c.in_ok-lent.lent.now = c.in-Ok.ensures.items_if_clones_equal (λ x y h. h) ∙ c.in_range-bytes.ensures.same in
+    let e : c.in-Ok.copy.items ≡ c.in_ok-lent.lent.now =
+    c.in-Ok.ensures.items_if_clones_equal (λ x y h. h) ∙ c.in_range-bytes.ensures.same in
     recast {G = ⊥} (λ x h. h)
     (list_read laws (λ (v : Vec ℕ Global). v.items) c.in-Ok.copy c.in_ok-count.ensures.reads
-    (rw e (bytes_read laws c.in_ok-lent.ensures.length c.in_range-bytes.ensures.range gives lent.1)))
+    (rw e (bytes_read laws c.in_ok-lent.ensures.length c.in_range-bytes.ensures.range gives
+    lent.1)))
 
 pub returns-in-Err-clause-reads : goal.returns-in-Err-clause-reads
 returns-in-Err-clause-reads g c =

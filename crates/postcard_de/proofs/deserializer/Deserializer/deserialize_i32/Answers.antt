@@ -8,4 +8,5 @@ pub returns-clause-reads : goal.returns-clause-reads
 returns-clause-reads g c =
     let z = c.de_zig_zag_i32.result in
     rw (to_z-of_z w32 z (record { sfits = c.de_zig_zag_i32.type_inv }))
-    (int_read g.F.Flavor.lawful z (inr (inl refl)) c.de_zig_zag_i32.ensures c.in_ok-folded.ensures.reads)
+    (int_read g.F.Flavor.lawful z (inr (inl refl)) c.de_zig_zag_i32.ensures
+    c.in_ok-folded.ensures.reads)

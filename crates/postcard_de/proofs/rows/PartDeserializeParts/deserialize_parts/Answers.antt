@@ -7,10 +7,13 @@ use Rattle.postcard_de.proofs.rows.PartDeserializeParts.deserialize_parts.Goals 
 pub returns-in_err-rest : goal.returns-in_err-rest
 returns-in_err-rest g c =
     let s = g.A.Shaped.shape in
-    rw (is_refusal c.from_residual-in_err-rest.result c.in_err-rest.field-0.0 c.from_residual-in_err-rest.ensures.1)
-    (second_refused g.F.Flavor.lawful (part_and_rest s.reads s.value g.R.Parts.parts.reads) inr c.in_ok-first.ensures c.in_err-rest.ensures)
+    rw (is_refusal c.from_residual-in_err-rest.result c.in_err-rest.field-0.0
+    c.from_residual-in_err-rest.ensures.1)
+    (second_refused g.F.Flavor.lawful (part_and_rest s.reads s.value g.R.Parts.parts.reads) inr
+    c.in_ok-first.ensures c.in_err-rest.ensures)
 
 pub returns : goal.returns
 returns g c =
     let s = g.A.Shaped.shape in
-    both_read g.F.Flavor.lawful (part_and_rest s.reads s.value g.R.Parts.parts.reads) (λ t ts i j. (t, ts, refl, i, j)) c.in_ok-first.ensures c.in_ok-rest.ensures
+    both_read g.F.Flavor.lawful (part_and_rest s.reads s.value g.R.Parts.parts.reads)
+    (λ t ts i j. (t, ts, refl, i, j)) c.in_ok-first.ensures c.in_ok-rest.ensures
