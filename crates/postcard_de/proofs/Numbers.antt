@@ -11,7 +11,7 @@ use Rattle.postcard_wire.specs.Spelling.{Spells}
 use Rattle.postcard_wire.specs.Reading.{IsNum, IsInt}
 use Rattle.postcard_wire.proofs.Delimited.{num_front, num_delimited, int_delimited}
 use Rattle.postcard_wire.proofs.Refused.{longer, none_spelled}
-use Rattle.postcard_wire.proofs.Ranged.{zig_below, in_range}
+use Rattle.postcard_wire.proofs.Ranged.{in_range}
 use Rattle.postcard_de_flavors.specs.Source.{Takes, Laws}
 use Rattle.postcard_de.specs.Reads.{MayAnswer, ReadsFrom}
 use Rattle.postcard_de.specs.Refuses.{RefusesFrom, WantsDigit, BadNumber}
@@ -33,24 +33,6 @@ number_excludes w = record {
   within = λ x p q n y z wanted r s e. omega (arith, longer p q y z wanted.0 s.digits e, wanted.2);
   none = λ x p q f y z bad r s e. absurd (none_spelled w x p q y z bad.1 s r e);
   named = λ p e bad. subst (MayAnswer ⊥) (sym bad.0) tt;
-}
-
--- The same, of a number's tree.
-num_excludes : (w : ℕ) → Excludes ⊥ (WantsDigit w) (BadNumber w) Spells (IsNum w)
-num_excludes w = let k = number_excludes w in record {
-  within = λ x p q n y z wanted r s e. k.within r.0 p q n y z wanted r.2 (rw r.1 at s) e;
-  none = λ x p q f y z bad r s e. k.none r.0 p q f y z bad r.2 (rw r.1 at s) e;
-  named = k.named;
-}
-
--- The same, of a signed number's tree.
-int_excludes : (w : ℕ) → IsWidth w → Excludes ⊥ (WantsDigit w) (BadNumber w) Spells (IsInt w)
-int_excludes w wide = let k = number_excludes w in record {
-  within = λ x p q n y z wanted r s e. k.within (zigzag r.0) p q n y z wanted
-      (zig_below w r.0 wide r.2) (rw r.1 at s) e;
-  none = λ x p q f y z bad r s e. k.none (zigzag r.0) p q f y z bad (zig_below w r.0 wide r.2)
-      (rw r.1 at s) e;
-  named = k.named;
 }
 
 -- The digits so far were taken.

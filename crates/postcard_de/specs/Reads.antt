@@ -39,7 +39,8 @@ pub record Gives {X S : Type 0} (spelled : X → List ℕ → Type 0) (reads tol
   pub has : told thing
   pub taken : Takes left able old front new
 
--- A reading call over a source, from its state `old` to `new`:
+-- A reading call over a source that has `left s` left and is `able` to give so many bytes, from its
+-- state `old` to `new`:
 -- what it answers is the value of a front that spells a thing that it reads, and just that front
 -- was taken;
 -- where such a front can be taken, it answers that thing's value and takes just that front, unless
@@ -56,7 +57,8 @@ pub record ReadsFrom {X S V : Type 0} (spelled : X → List ℕ → Type 0) (rea
   pub leaves : may_leave old new
   pub names : IfErr result (MayAnswer grows)
 
--- The same over a source of a flavor.
+-- A reading call over a source of a flavor with the ghosts F, from its state `old` to `new`: what
+-- `ReadsFrom` says.
 abbrev pub Reads : {S M O X V : Type 0} → Ghosts S M O → (X → List ℕ → Type 0) → (X → Type 0) →
     (X → V → Type 0) → Type 0 → S → Result V Error → S → Type 0
 Reads F spelled reads value grows old result new =

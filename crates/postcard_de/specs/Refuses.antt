@@ -27,13 +27,15 @@ pub record IsBad {S : Type 0} (bad : List ℕ → Error → Type 0) (left : S �
   pub taken : Takes left able old front new
   pub why : bad front e
 
--- The bytes end where more are wanted, or a front is refused for what it is.
+-- A call over a source that has `left s` left and is `able` to give so many bytes refuses with the
+-- error e: the bytes end where more are wanted, or a front is refused for what it is.
 abbrev pub RefusesFrom : {S : Type 0} → (List ℕ → ℕ → Type 0) → (List ℕ → Error → Type 0) →
     (S → Option (List ℕ)) → (S → ℕ → Type 0) → S → Error → S → Type 0
 RefusesFrom wants bad left able old e new =
     ((e ≡ DeserializeUnexpectedEnd) × Ends wants left able old) ⊎ IsBad bad left able old e new
 
--- The same over a source of a flavor.
+-- A call over a source of a flavor with the ghosts F refuses with the error e: the bytes end where
+-- more are wanted, or a front is refused for what it is.
 abbrev pub Refuses : {S M O : Type 0} → Ghosts S M O → (List ℕ → ℕ → Type 0) →
     (List ℕ → Error → Type 0) → S → Error → S → Type 0
 Refuses F wants bad old e new = RefusesFrom wants bad F.left F.able old e new

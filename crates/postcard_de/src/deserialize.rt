@@ -16,8 +16,9 @@ pub trait Deserialize<'de>: Shaped + Sized + Drop {
     ///
     /// # Errors
     ///
-    /// That of the first part that refuses, which is one of a reading call. `OutOfMemory` only if
-    /// the type grows.
+    /// Fails with the error of the first part that refuses: `DeserializeUnexpectedEnd` where the
+    /// bytes end, an error of the `deserialize_*` calls, or the type's own `SerdeDeCustom`. Fails
+    /// with `OutOfMemory` only if the type grows.
     fn deserialize<F: Flavor>(alloc: Global, d: &mut Deserializer<'de, F>) -> Result<Self>
         ensures { Reads F.Flavor Spells Self.shape.reads Self.shape.value Self.shape.grows
             (source_of d.old) result (source_of d.new) };

@@ -1,5 +1,6 @@
 use Rattle.std.proofs.Common.{◌≡◌, inl, inr, rules}
-use Rattle.postcard_de.proofs.Mapped.{reads_as, fails_as, one_less}
+use Rattle.postcard_de.proofs.Lists.{one_more_left}
+use Rattle.postcard_de.proofs.Mapped.{reads_as, fails_as}
 use Rattle.postcard_de.proofs.cases.CaseDeserializeCase.deserialize_case.Goals as goal
 
 pub returns-in_err-value-in-0 : goal.returns-in_err-value-in-0
@@ -13,11 +14,11 @@ returns-in_ok-value-in-0 g c =
 pub returns-in_err-rest-in_default : goal.returns-in_err-rest-in_default
 returns-in_err-rest-in_default g c =
     let isnt : c.args.index ≡ 0 → ⊥ = search rules in
-    rw (one_less c.args.index isnt) (fails_as inr (λ t h. h)
+    rw (one_more_left c.args.index isnt) (fails_as inr (λ t h. h)
     c.from_residual-in_err-rest-in_default.ensures.1 c.in_err-rest-in_default.ensures)
 
 pub returns-in_ok-rest-in_default : goal.returns-in_ok-rest-in_default
 returns-in_ok-rest-in_default g c =
     let isnt : c.args.index ≡ 0 → ⊥ = search rules in
-    rw (one_less c.args.index isnt) (reads_as inr (λ t h. h) (λ t h. h) (λ t h. h)
+    rw (one_more_left c.args.index isnt) (reads_as inr (λ t h. h) (λ t h. h) (λ t h. h)
     c.in_ok-rest-in_default.ensures)
