@@ -1,5 +1,5 @@
 -- Reading a list element by element, behind its count.
-use Rattle.std.proofs.Common.{◌≡◌, ℕ, suc, List, [], ◌∷◌, ◌++◌, Option}
+use Rattle.std.proofs.Common.{◌≡◌, ℕ, zero, suc, ◌-◌, List, [], ◌∷◌, ◌++◌, Option}
 use Rattle.std.proofs.Common.{Ok, Err, Result, refl, sym, ◌∙◌, ap, subst, arith, append_assoc}
 use Rattle.std.proofs.Common.{append-nil}
 use Rattle.postcard_wire.specs.declared.error.Error.{Error}
@@ -168,3 +168,8 @@ module _ {S : Type 0} {left : S → Option (List ℕ)} {able : S → ℕ → Typ
       leaves = r.leaves;
       names = wider (λ z. absurd z) e r.names;
     }
+
+-- A count that isn't 0 is one more than the count below it.
+pub one_more_left : (n : ℕ) → (n ≡ 0 → ⊥) → n ≡ suc (n - 1)
+one_more_left zero h = absurd (h refl)
+one_more_left (suc n) h = omega arith
