@@ -13,6 +13,5 @@ pub mod Entries
 pub mod Chars
 pub mod Bytes
 pub mod Fixed
-pub mod Content
 pub mod Groups
 pub mod Mapped

@@ -1,5 +1,5 @@
 -- Reading a list element by element, behind its count.
-use Rattle.std.proofs.Common.{◌≡◌, ℕ, zero, suc, ◌-◌, ◌<◌, List, [], ◌∷◌, ◌++◌, Option, Some, None}
+use Rattle.std.proofs.Common.{◌≡◌, ℕ, zero, suc, ◌-◌, List, [], ◌∷◌, ◌++◌, Option}
 use Rattle.std.proofs.Common.{Ok, Err, Result, refl, sym, ◌∙◌, ap, subst, arith, append_assoc}
 use Rattle.std.proofs.Common.{append-nil}
 use Rattle.postcard_wire.specs.declared.error.Error.{Error}
@@ -10,7 +10,7 @@ use Rattle.postcard_wire.specs.Spelling.{Spells, SpellsAll}
 use Rattle.postcard_wire.specs.Reading.{IsSeq}
 use Rattle.postcard_de_flavors.specs.Source.{CanTake, Takes, Laws}
 use Rattle.postcard_de.specs.Reads.{ReadsFrom}
-use Rattle.postcard_shape.specs.Values.{Same, EachIs, ListIs, SomeIs, AreRead}
+use Rattle.postcard_shape.specs.Values.{Same, EachIs, ListIs, AreRead}
 use Rattle.postcard_de.proofs.Named.{wider}
 use Rattle.postcard_de.proofs.Taking.{nothing_taken, can_first}
 use Rattle.postcard_de.proofs.Leaves.{refusal, out_of_memory}
@@ -169,40 +169,7 @@ module _ {S : Type 0} {left : S → Option (List ℕ)} {able : S → ℕ → Typ
       names = wider (λ z. absurd z) e r.names;
     }
 
-module _ {S V : Type 0} {left : S → Option (List ℕ)} {able : S → ℕ → Type 0}
-    {may_leave : S → S → Type 0} {R : Tree → Type 0} {I : Tree → V → Type 0} where
-  -- An element that was read is some.
-  pub unwrapped : {G : Type 0} {old new : S} {v : V} →
-      ReadsFrom Spells R (SomeIs I) G left able may_leave old (Ok (Some v)) new →
-      ReadsFrom Spells R I G left able may_leave old (Ok v) new
-  unwrapped r = record {
-    gives = record {
-      thing = r.gives.thing;
-      front = r.gives.front;
-      is_read = r.gives.is_read;
-      is_spelled = r.gives.is_spelled;
-      has = r.gives.has;
-      taken = r.gives.taken;
-    };
-    accepts = r.accepts;
-    leaves = r.leaves;
-    names = tt;
-  }
-
 -- A count that isn't 0 is one more than the count below it.
 pub one_more_left : (n : ℕ) → (n ≡ 0 → ⊥) → n ≡ suc (n - 1)
 one_more_left zero h = absurd (h refl)
 one_more_left (suc n) h = omega arith
-
--- A count that isn't above 0 is 0.
-pub none_left : (n : ℕ) → (0 < n → ⊥) → n ≡ 0
-none_left zero h = refl
-none_left (suc n) h = absurd (h (omega arith))
-
--- An answer that there is a further element or none.
-abbrev pub answer : {V : Type 0} → Option V → Result (Option V) Error
-answer o = Ok o
-
--- There is one, so the answer isn't that there is none.
-pub is_some : {V : Type 0} (o : Option V) (v : V) → answer o ≡ answer None → o ≡ Some v → ⊥
-is_some o v a b = cc

@@ -5,8 +5,8 @@ use Rattle.std.specs.Prelude.{IsUtf8}
 use Rattle.postcard_wire.specs.declared.error.Error.{Error}
 use Rattle.postcard_wire.specs.declared.error.Error.TheVariants.{DeserializeBadBool}
 use Rattle.postcard_wire.specs.declared.error.Error.TheVariants.{DeserializeBadOption}
-use Rattle.postcard_wire.specs.declared.error.Error.TheVariants.{DeserializeBadChar, SerdeDeCustom}
-use Rattle.postcard_wire.specs.declared.error.Error.TheVariants.{OutOfMemory}
+use Rattle.postcard_wire.specs.declared.error.Error.TheVariants.{DeserializeBadChar, OutOfMemory}
+use Rattle.postcard_wire.specs.declared.error.Error.TheVariants.{SerdeDeCustom}
 use Rattle.postcard_wire.specs.Number.{SpellsNum}
 use Rattle.postcard_wire.specs.Tree.{Tree}
 use Rattle.postcard_wire.specs.Spelling.{Spells, BeginsWithChar}

@@ -1,5 +1,5 @@
-//! The types that are read, a module for each kind. A type that is one node says why exactly it refuses, in the words of
-//! the call for that node.
+//! The types that are read, a module for each kind. A type that is one node says why exactly it
+//! refuses, in the words of the call for that node.
 
 pub mod fixed;
 pub mod lists;

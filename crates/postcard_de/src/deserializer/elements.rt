@@ -28,7 +28,8 @@ impl<'de, F: Flavor> Deserializer<'de, F> {
         &mut self,
         alloc: Global,
     ) -> Result<Vec<T>>
-        ensures { Reads F.Flavor Spells (IsSeq T.shape.reads) (λ t v. ListIs T.shape.value t v.items) ⊤
+        ensures { Reads F.Flavor Spells (IsSeq T.shape.reads)
+            (λ t v. ListIs T.shape.value t v.items) ⊤
             (source_of self.old) result (source_of self.new) }
     {
         let count = self.count()?;
@@ -46,13 +47,14 @@ impl<'de, F: Flavor> Deserializer<'de, F> {
     ///
     /// # Errors
     ///
-    /// As a number of 64 bits for the count, those of an element, and `SerdeDeCustom` once the first element that doesn't
-    /// fit has been read.
+    /// As a number of 64 bits for the count, those of an element, and `SerdeDeCustom` once the
+    /// first element that doesn't fit has been read.
     pub(crate) fn few<T: Shaped + Drop + Default, E: Element<'de, T>, const CAP: usize>(
         &mut self,
         alloc: Global,
     ) -> Result<ArrayVec<T, CAP>>
-        ensures { Reads F.Flavor Spells (IsFewSeq CAP T.shape.reads) (λ t v. ListIs T.shape.value t v.items) T.shape.grows
+        ensures { Reads F.Flavor Spells (IsFewSeq CAP T.shape.reads)
+            (λ t v. ListIs T.shape.value t v.items) T.shape.grows
             (source_of self.old) result (source_of self.new) }
     {
         let count = self.count()?;
@@ -75,7 +77,8 @@ impl<'de, F: Flavor> Deserializer<'de, F> {
         &mut self,
         alloc: Global,
     ) -> Result<[T; N]>
-        ensures { Reads F.Flavor Spells (IsArray N T.shape.reads) (λ t v. IsGroup (λ ts. EachIs T.shape.value ts v) t) T.shape.grows
+        ensures { Reads F.Flavor Spells (IsArray N T.shape.reads)
+            (λ t v. IsGroup (λ ts. EachIs T.shape.value ts v) t) T.shape.grows
             (source_of self.old) result (source_of self.new) }
     {
         let mut items = [T::default(); N];
@@ -85,7 +88,8 @@ impl<'de, F: Flavor> Deserializer<'de, F> {
         Ok(items)
     }
 
-    /// Reads a map: a count, and as many pairs of a key and a value. A later value of an equal key wins.
+    /// Reads a map: a count, and as many pairs of a key and a value. A later value of an equal key
+    /// wins.
     ///
     /// # Errors
     ///
@@ -95,7 +99,8 @@ impl<'de, F: Flavor> Deserializer<'de, F> {
         V: Shaped + Drop,
         E: Element<'de, K> + Element<'de, V>,
     >(&mut self, alloc: Global) -> Result<BTreeMap<K, V>>
-        ensures { Reads F.Flavor Spells (IsSeq (IsEntry K.shape.reads V.shape.reads)) (λ t m. MapIs K.cmp K.shape.value V.shape.value t m.entries) ⊤
+        ensures { Reads F.Flavor Spells (IsSeq (IsEntry K.shape.reads V.shape.reads))
+            (λ t m. MapIs K.cmp K.shape.value V.shape.value t m.entries) ⊤
             (source_of self.old) result (source_of self.new) }
     {
         let count = self.count()?;

@@ -19,7 +19,8 @@ use std::alloc::Global;
 
 impl<'de> Deserialize<'de> for &'de [u8] {
     fn deserialize<F: Flavor>(_alloc: Global, d: &mut Deserializer<'de, F>) -> Result<Self>
-        ensures reads { Reads F.Flavor Spells (IsSeq IsByte) (λ t v. ListIs (λ s b. s ≡ Byte b) t v.now) ⊥
+        ensures reads { Reads F.Flavor Spells (IsSeq IsByte)
+            (λ t v. ListIs (λ s b. s ≡ Byte b) t v.now) ⊥
             (source_of d.old) result (source_of d.new) }
         ensures refused { IfErr result (λ e. Refuses F.Flavor WantsText (BadNumber 64)
             (source_of d.old) e (source_of d.new)) }

@@ -1,4 +1,5 @@
-use Rattle.std.proofs.Common.{◌≡◌, suc, ◌<◌, ◌+◌, ◌-◌, ◌∷◌, [], ◌++◌, length, ap, arith, length-append}
+use Rattle.std.proofs.Common.{◌≡◌, suc, ◌<◌, ◌+◌, ◌-◌, ◌∷◌, [], ◌++◌, length, ap, arith}
+use Rattle.std.proofs.Common.{length-append}
 use Rattle.std.proofs.lemmas.Grind.{common_steps}
 use Rattle.postcard_de.proofs.Leaves.{is_refusal}
 use Rattle.postcard_de.proofs.Entries.{few_read, few_refused, too_many, few_count_refused}
@@ -13,7 +14,8 @@ returns-in_err-count g c =
 pub loop-init : goal.loop-init
 loop-init g c =
     let laws = g.F.Flavor.lawful in
-    let whole : c.in_ok-count.count - 0 ≡ c.in_ok-count.count = omega arith in
+    let n = c.in_ok-count.count in
+    let whole : n - 0 ≡ n = omega arith in
     record {
       going = rw (whole, c.new-items.ensures) (going laws);
       counted = ap length c.new-items.ensures;
@@ -24,33 +26,46 @@ loop-init g c =
 pub returns-in_err-item : goal.returns-in_err-item
 returns-in_err-item g c =
     let laws = g.F.Flavor.lawful in
-    let more : c.in_ok-count.count - c.loop.counter ≡ suc (c.in_ok-count.count - (c.loop.counter + 1)) = omega arith in
-    rw (is_refusal c.from_residual-in_err-item.result c.in_err-item.field-0.0 c.from_residual-in_err-item.ensures.1)
-    (few_refused laws c.in_ok-count.ensures.reads (going_stops laws (λ h. h) (rw more at c.loop.invariant.going) c.in_err-item.ensures))
+    let n = c.in_ok-count.count in
+    let i = c.loop.counter in
+    let more : n - i ≡ suc (n - (i + 1)) = omega arith in
+    let e = c.in_err-item.field-0.0 in
+    rw (is_refusal c.from_residual-in_err-item.result e c.from_residual-in_err-item.ensures.1)
+    (few_refused laws c.in_ok-count.ensures.reads
+    (going_stops laws (λ h. h) (rw more at c.loop.invariant.going) c.in_err-item.ensures))
 
 pub returns-then-is_err : goal.returns-then-is_err
 returns-then-is_err g c =
     let laws = g.F.Flavor.lawful in
+    let so = c.loop.invariant in
     let full : length c.loop.items.items ≡ g.row.CAP = grind (arith, common_steps) in
     let more : c.loop.counter < c.in_ok-count.count = omega arith in
-    too_many laws c.in_ok-count.ensures.reads tt (λ few. omega (arith, few, full, more, c.loop.invariant.counted)) (laws.joins _ _ _ c.loop.invariant.leaves c.in_ok-item.ensures.leaves)
+    too_many laws c.in_ok-count.ensures.reads tt (λ few. omega (arith, few, full, more, so.counted))
+    (laws.joins _ _ _ so.leaves c.in_ok-item.ensures.leaves)
 
 pub loop-preserved : goal.loop-preserved
 loop-preserved g c =
     let laws = g.F.Flavor.lawful in
-    let more : c.in_ok-count.count - c.loop.counter ≡ suc (c.in_ok-count.count - (c.loop.counter + 1)) = omega arith in
-    let e : c.try_push.new.self.items ≡ c.loop.items.items ++ c.in_ok-item.item ∷ [] = grind (arith, common_steps) in
-    let room : length c.loop.items.items < g.row.CAP = grind (arith, common_steps) in
-    let long : length c.try_push.new.self.items ≡ length c.loop.items.items + 1 = rw (e, length-append) (omega arith) in
+    let so = c.loop.invariant in
+    let n = c.in_ok-count.count in
+    let i = c.loop.counter in
+    let items = c.loop.items.items in
+    let longer = c.try_push.new.self.items in
+    let more : n - i ≡ suc (n - (i + 1)) = omega arith in
+    let e : longer ≡ items ++ c.in_ok-item.item ∷ [] = grind (arith, common_steps) in
+    let room : length items < g.row.CAP = grind (arith, common_steps) in
+    let long : length longer ≡ length items + 1 = rw (e, length-append) (omega arith) in
     record {
-      going = rw e (goes_on laws (λ h. h) (rw more at c.loop.invariant.going) c.in_ok-item.ensures);
-      counted = omega (arith, long, c.loop.invariant.counted);
+      going = rw e (goes_on laws (λ h. h) (rw more at so.going) c.in_ok-item.ensures);
+      counted = omega (arith, long, so.counted);
       few = omega (arith, long, room);
-      leaves = laws.joins _ _ _ c.loop.invariant.leaves c.in_ok-item.ensures.leaves;
+      leaves = laws.joins _ _ _ so.leaves c.in_ok-item.ensures.leaves;
     }
 
 pub returns : goal.returns
 returns g c =
     let laws = g.F.Flavor.lawful in
+    let so = c.loop.invariant in
     let none : c.in_ok-count.count - c.loop.counter ≡ 0 = omega arith in
-    few_read laws c.in_ok-count.ensures.reads (omega (arith, c.loop.invariant.counted, c.loop.invariant.few)) (going_done laws (rw none at c.loop.invariant.going))
+    few_read laws c.in_ok-count.ensures.reads (omega (arith, so.counted, so.few))
+    (going_done laws (rw none at so.going))

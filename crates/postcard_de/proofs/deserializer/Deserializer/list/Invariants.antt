@@ -5,4 +5,5 @@ use Rattle.postcard_de.proofs.deserializer.Deserializer.list.Given as goal
 
 abbrev pub invariant-loop : goal.invariant-loop
 invariant-loop g l = let f = g.F.Flavor in let t = g.T.Shaped.shape in
-    Going f.left f.able f.may_leave t.reads t.value ⊤ (source_of l.initial.self) l.count l.items.items (source_of l.self) (l.count - l.counter)
+    Going f.left f.able f.may_leave t.reads t.value ⊤ (source_of l.initial.self) l.count
+    l.items.items (source_of l.self) (l.count - l.counter)

@@ -69,7 +69,6 @@ pub returns-in-Err-from-clause-refused : goal.returns-in-Err-from-clause-refused
 returns-in-Err-from-clause-refused g c =
     let lent = c.try_take_n_temp.follows.holds-at-none in
     let gives = rw c.in_ok-bytes.was at lent.0 in
-    let u = c.in_ok-bytes.bytes.now in
     let long : g.row.CAP < length c.in-Ok.text.now = search rules in
     text_long g.F.Flavor.lawful c.in_ok-count.ensures.reads c.in_ok-bytes.ensures.length gives
     c.in-Ok.ensures.cases.1 (rw c.in-Ok.ensures.cases.0 at long)
