@@ -23,8 +23,6 @@ pub mod experimental;
 pub mod laws;
 mod ser;
 pub mod ser_flavors;
-#[cfg(test)]
-mod tests;
 mod with_flavor;
 
 pub use cobs::{

@@ -91,26 +91,34 @@ fn refusals(rt: HostRuntime) {
     );
 }
 
+/// A call that refused a value gave the value's own error.
+fn assert_own<R: Drop>(rt: &impl Abort, answer: Result<R>) {
+    assert!(rt; matches!(answer, Err(Error::SerdeSerCustom)));
+}
+
 /// The value is refused by its own error, whatever call writes it.
 fn assert_refuses_itself<T: Serialize>(rt: &(impl Abort + AllocGlobal), value: &T) {
-    let own = Some(Error::SerdeSerCustom);
-    assert_eq!(rt; serialize_with_flavor(value, HVec::<8>::new()).err(), own);
-    assert_eq!(rt; to_vec::<_, 8>(value).err(), own);
-    assert_eq!(rt; to_allocvec(rt.alloc(), value).err(), own);
-    assert_eq!(rt; to_stdvec(rt.alloc(), value).err(), own);
-    assert_eq!(rt; to_extend(value, Vec::new(rt.alloc())).err(), own);
-    assert_eq!(rt; to_io(value, Vec::new(rt.alloc())).err(), own);
-    assert_eq!(rt; serialized_size(value).err(), own);
+    assert_own(rt, serialize_with_flavor(value, HVec::<8>::new()));
+    assert_own(rt, to_vec::<_, 8>(value));
+    assert_own(rt, to_allocvec(rt.alloc(), value));
+    assert_own(rt, to_stdvec(rt.alloc(), value));
+    assert_own(rt, to_extend(value, Vec::new(rt.alloc())));
+    assert_own(rt, to_io(value, Vec::new(rt.alloc())));
+    assert_own(rt, serialized_size(value));
 }
 
 #[test]
-fn values_that_refuse_themselves(rt: HostRuntime) -> Result<()> {
-    let mut map = BTreeMap::new(rt.alloc());
-    map.insert(1u8, Unwritable)?;
-    assert_refuses_itself(&rt, &map);
+fn values_that_refuse_themselves(rt: HostRuntime) {
     assert_refuses_itself(&rt, &Unwritable);
     assert_refuses_itself(&rt, &[Unwritable, Unwritable].as_slice());
     assert_refuses_itself(&rt, &Some(Unwritable));
     assert_refuses_itself(&rt, &(1u8, Unwritable));
+}
+
+#[test]
+fn a_map_that_refuses_itself(rt: HostRuntime) -> Result<()> {
+    let mut map = BTreeMap::new(rt.alloc());
+    map.insert(1u8, Unwritable)?;
+    assert_refuses_itself(&rt, &map);
     Ok(())
 }

@@ -1,6 +1,6 @@
 //! Decoding, of bytes and of what a reader gives.
 
-use crate::{Error, from_bytes, from_io, take_from_bytes};
+use postcard::{Error, from_bytes, from_io, take_from_bytes};
 
 #[test]
 fn reads_numbers(rt: HostRuntime) {

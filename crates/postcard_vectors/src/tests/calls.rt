@@ -3,7 +3,7 @@
 mod decoding;
 mod flavors;
 
-use crate::{Error, Serialize, Serializer, Shaped, fill_slice, to_slice};
+use postcard::{Error, Serialize, Serializer, Shaped, fill_slice, to_slice};
 use postcard_ser_flavors::Flavor;
 use std::alloc::AllocError;
 use std::process::Abort;
@@ -107,7 +107,7 @@ impl Shaped for Unwritable {
 }
 
 impl Serialize for Unwritable {
-    fn serialize<F: Flavor>(&self, _serializer: &mut Serializer<F>) -> crate::Result<()> {
+    fn serialize<F: Flavor>(&self, _serializer: &mut Serializer<F>) -> postcard::Result<()> {
         Err(Error::ser_custom("no"))
     }
 }

@@ -1,8 +1,8 @@
 //! Encoding elsewhere than into a buffer.
 
-use crate::experimental::serialized_size;
-use crate::ser_flavors::Size;
-use crate::{Error, serialize_with_flavor, to_allocvec, to_extend, to_io, to_stdvec, to_vec};
+use postcard::experimental::serialized_size;
+use postcard::ser_flavors::Size;
+use postcard::{Error, serialize_with_flavor, to_allocvec, to_extend, to_io, to_stdvec, to_vec};
 
 /// `(1u8, 10u32, "Hello!")` on the wire.
 const TUPLE: [u8; 9] = [0x01, 0x0A, 0x06, 0x48, 0x65, 0x6C, 0x6C, 0x6F, 0x21];
