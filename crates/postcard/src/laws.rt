@@ -1,4 +1,5 @@
-//! Laws over what the calls answer, as contracts. But for [`comes_back`], the functions do nothing.
+//! Laws over what the calls answer, as contracts. But for [`comes_back`] and
+//! [`frame_comes_back`], the functions do nothing.
 
 ghost use Rattle.std.specs.Prelude.{◌≡◌, ◌≤◌, ℕ, List, ◌++◌, length, Some, IfOk};
 ghost use Rattle.postcard_wire.specs.Tree.{Tree};
@@ -7,10 +8,11 @@ ghost use Rattle.postcard_de_flavors.specs.Source.{Begins};
 ghost use Rattle.postcard_frame.specs.Front.{ReadsFront};
 ghost use Rattle.postcard.specs.Front.{ReadsReader};
 
+use crate::cobs::to_allocvec_cobs;
 use crate::with_flavor::to_allocvec;
 use postcard_de::{Deserialize, DeserializeOwned, Owned};
 use postcard_de_flavors::Source;
-use postcard_frame::from_bytes;
+use postcard_frame::{from_bytes, from_bytes_cobs};
 use postcard_ser::Serialize;
 use postcard_wire::Result;
 use std::alloc::Global;
@@ -54,5 +56,18 @@ pub fn comes_back<T: Serialize + DeserializeOwned>(alloc: Global, value: &T) -> 
 {
     let message = to_allocvec(alloc, value)?;
     let Owned(back) = from_bytes::<Owned<T>>(alloc, &message)?;
+    Ok(back)
+}
+
+/// Encodes a value as a frame and decodes it again in place: what comes back looks like the value.
+///
+/// # Errors
+///
+/// As [`comes_back`].
+pub fn frame_comes_back<T: Serialize + DeserializeOwned>(alloc: Global, value: &T) -> Result<T>
+    ensures { IfOk result (λ back. T.shape.same back value.now) }
+{
+    let mut frame = to_allocvec_cobs(alloc, value)?;
+    let Owned(back) = from_bytes_cobs::<Owned<T>>(alloc, &mut frame)?;
     Ok(back)
 }

@@ -1,10 +1,11 @@
 //! Decoding from a frame, in the buffer that holds it.
 
-ghost use Rattle.std.specs.Prelude.{◌≡◌, ◌+◌, ℕ, List, ◌++◌, length, drop};
-ghost use Rattle.std.specs.Prelude.{Err, IfOk, IsErrOf, MatchResult};
+ghost use Rattle.std.specs.Prelude.{◌≡◌, ◌+◌, ◌⊎◌, ℕ, List, ◌++◌, length, drop};
+ghost use Rattle.std.specs.Prelude.{Err, IfOk, IfErr, IsErrOf, MatchResult};
 ghost use Rattle.postcard_cobs.specs.Groups.{Groups, before_zero, made};
 ghost use Rattle.postcard_wire.specs.Tree.{Tree};
 ghost use Rattle.postcard_wire.specs.Spelling.{Spells, bytes as canonical};
+ghost use Rattle.postcard_de.specs.Reads.{MayAnswer};
 ghost use Rattle.postcard_frame.specs.Frame.{ReadsFrame};
 
 use crate::bytes::from_bytes;
@@ -43,6 +44,8 @@ pub fn from_bytes_cobs<'a, T: Deserialize<'a>>(alloc: Global, s: &'a mut [u8]) -
     ensures bad { result ≡ Err Error.DeserializeBadEncoding
         → (content : List ℕ) → Groups (before_zero s.old) content → ⊥ }
     ensures grows { result ≡ Err Error.OutOfMemory → T.shape.grows }
+    ensures names { IfErr result
+        (λ e. (e ≡ Error.DeserializeBadEncoding) ⊎ MayAnswer T.shape.grows e) }
 {
     let used = decode_in_place(s)?;
     from_bytes(alloc, &s[..used])
@@ -78,6 +81,8 @@ pub fn take_from_bytes_cobs<'a, T: Deserialize<'a>>(
     ensures bad { result ≡ Err Error.DeserializeBadEncoding
         → (content : List ℕ) → Groups (before_zero s.old) content → ⊥ }
     ensures grows { result ≡ Err Error.OutOfMemory → T.shape.grows }
+    ensures names { IfErr result
+        (λ e. (e ≡ Error.DeserializeBadEncoding) ⊎ MayAnswer T.shape.grows e) }
 {
     let report = decode_in_place_report(s)?;
     let (front, rest) = s.split_at_mut(report.src_used);
