@@ -18,7 +18,6 @@ use Rattle.postcard_shape.proofs.Again as again
 use Rattle.postcard.specs.Frames.{DecodesTo}
 -- How a value that calls other values is written: the calls of its `serialize`, one after the other.
 pub use Rattle.postcard_ser.proofs.PartByPart.{wrote_none, wrote_refusal, wrote_err, wrote_ok, wrote_last, wrote_stop, wrote_then, wrote_as, wrote_closes}
-
 -- How a value that is made of others is read: what was read of its parts, of which the first may
 -- refuse, and of the index and the content of a variant.
 pub use Rattle.postcard_de.proofs.Leaves.{refusal, is_refusal}

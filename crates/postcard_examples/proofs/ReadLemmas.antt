@@ -33,7 +33,7 @@ module _ {S : Type 0} {left : S → Option (List ℕ)} {able : S → ℕ → Typ
       ReadsFrom (SpellsNum 32) (Below 32) Same ⊥ left able may_leave old (Ok i) mid →
       ReadsFrom SpellsAll (LinkReads m) NoneIs G left able may_leave mid (refusal (Unit {0}) e) new →
       ReadsFrom Spells (chain_shape d).reads (chain_shape d).value (chain_shape d).grows
-        left able may_leave old r new
+      left able may_leave old r new
   link_refused {e = e} one h s parts = rw deeper (content_refused laws (λ k. tt) h (rw one at s)
       (struct_fails laws {A = Unit {0}} {value = λ t v. ⊥} {r = refusal (Unit {0}) e} refl parts))
 
@@ -41,21 +41,21 @@ module _ {S : Type 0} {left : S → Option (List ℕ)} {able : S → ℕ → Typ
   pub link_read : {i n : ℕ} {v w : Chain} → i ≡ 1 → chain_cases v ≡ Next (This (n, (w, tt))) →
       ReadsFrom (SpellsNum 32) (Below 32) Same ⊥ left able may_leave old (Ok i) mid →
       ReadsFrom SpellsAll (LinkReads m) (AllAre (LinkIs m n w)) G left able may_leave
-        mid (Ok tt) new →
+      mid (Ok tt) new →
       ReadsFrom Spells (chain_shape d).reads (chain_shape d).value (chain_shape d).grows
-        left able may_leave old (Ok v) new
+      left able may_leave old (Ok v) new
   link_read {n = n} {w = w} one seen s parts =
       rw deeper (variant_read laws (λ t h. (1, t, refl, rw seen h)) (rw one at s)
       (struct_read laws {A = Unit {0}} {value = λ t u. IsGroup (LinkIs m n w) t} {K = LinkIs m n w}
-        {a = tt} (λ t h. h) parts))
+      {a = tt} (λ t h. h) parts))
 
   -- There is no memory for the link.
   pub link_too_big : {i n : ℕ} (w : Chain) → i ≡ 1 →
       ReadsFrom (SpellsNum 32) (Below 32) Same ⊥ left able may_leave old (Ok i) mid →
       ReadsFrom SpellsAll (LinkReads m) (AllAre (LinkIs m n w)) G left able may_leave
-        mid (Ok tt) new →
+      mid (Ok tt) new →
       ReadsFrom Spells (chain_shape d).reads (chain_shape d).value (chain_shape d).grows
-        left able may_leave old (refusal Chain OutOfMemory) new
+      left able may_leave old (refusal Chain OutOfMemory) new
   link_too_big w one s parts = rw deeper (content_refused laws (λ k. tt) refl (rw one at s)
       (no_room {W = Unit {0}} {R' = IsGroup (LinkReads m)} {I' = λ t v. ⊥} {H = Unit {0}} tt
       (struct_read laws {A = Unit {0}} {value = λ t u. Unit {0}} {a = tt} (λ t h. tt) parts)))
