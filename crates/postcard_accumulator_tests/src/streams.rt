@@ -188,3 +188,35 @@ fn failing_reads(rt: HostRuntime) -> Result<(), Fail> {
     }
     Ok(())
 }
+
+/// Where memory for an answer is refused, what wasn't fed is fed by the next call, and no answer is
+/// lost. Memory is refused if the test runs under `rt try --test --fail-alloc 1`.
+#[test]
+fn refused_answers(rt: HostRuntime) -> Result<(), Fail> {
+    let mut chunk = [0; 16];
+    let mut acc = CobsAccumulator::<4>::new();
+    let mut out = Vec::new(rt.alloc());
+    let first = read_frames(
+        rt.alloc(),
+        &mut STREAM.as_slice(),
+        &mut chunk,
+        5,
+        &mut acc,
+        &mut out,
+    );
+    if let ReadEnd::OutOfMemory { from, to } = first {
+        assert_eq!(rt; (from, to, out.len()), (0, 9, 0));
+        let Some(mut unfed) = chunk.get(from..to) else {
+            panic!(rt; "bytes that weren't fed lie outside the chunk");
+        };
+        let ended = read_frames(rt.alloc(), &mut unfed, &mut [0; 16], 5, &mut acc, &mut out);
+        assert_eq!(rt; ended, ReadEnd::End);
+    } else {
+        assert_eq!(rt; first, ReadEnd::End);
+    }
+    assert_eq!(rt;
+        out.as_slice(),
+        [Answer::OverFull, Answer::Success(7u8)].as_slice()
+    );
+    Ok(())
+}
