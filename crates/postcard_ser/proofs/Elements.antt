@@ -4,7 +4,7 @@ use Rattle.std.proofs.lemmas.Grind.{common_steps}
 use Rattle.std.specs.Prelude.{Any, map}
 use Rattle.std.proofs.lemmas.List.{take_more}
 use Rattle.postcard_wire.specs.Spelling.{bytes, bytes_all}
-use Rattle.postcard_wire.specs.Tree.{Tree, Byte, trees, count}
+use Rattle.postcard_wire.specs.Tree.{Tree, trees, count}
 
 module _ {A : Type 0} (f : A → Tree) where
   -- The bytes of two lists joined are those of the first and then those of the second.
@@ -34,8 +34,3 @@ module _ {A : Type 0} (f : A → Tree) where
 -- Some element has what the one at this place has.
 pub any_at : {A : Type 0} {P : A → Type 0} (xs : List A) (k : ℕ) (d : A) → k < length xs → d ≡ get_or xs k d → P d → Any P xs
 any_at xs k d h e p = (k, d, h, sym e, p)
-
--- The bytes of a list of bytes are its elements.
-pub bytes_of_bytes : (xs : List ℕ) → bytes_all (trees (map Byte xs)) ≡ xs
-bytes_of_bytes [] = refl
-bytes_of_bytes (x ∷ xs) = ap (λ z. x ∷ z) (bytes_of_bytes xs)

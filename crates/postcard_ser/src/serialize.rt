@@ -1,9 +1,7 @@
 //! The trait of all types that are written.
 
-ghost use Rattle.std.specs.Prelude.{◌≡◌, map, OnOk, IfSome};
-ghost use Rattle.postcard_wire.specs.Spelling.{bytes, bytes_all};
-ghost use Rattle.postcard_wire.specs.Tree.{trees};
-ghost use Rattle.postcard_shape.specs.Lists.{AllFit};
+ghost use Rattle.std.specs.Prelude.{OnOk};
+ghost use Rattle.postcard_wire.specs.Spelling.{bytes};
 ghost use Rattle.postcard_ser.specs.Writing.{Wrote};
 
 use crate::serializer::Serializer;
@@ -28,15 +26,4 @@ pub trait Serialize: Shaped {
         ensures wrote { Wrote F.Flavor serializer.old.output (bytes (Self.shape.tree self.now))
             (Self.shape.refuses self.now) Self.shape.text result serializer.new.output }
         ensures fits { OnOk result (Self.shape.fits self.now) };
-
-    /// Returns the encodings of `items` one after the other if just these bytes stand in memory, as
-    /// those of a slice of `u8` do, which is then written as one piece. Returns `None` otherwise.
-    fn slice_bytes(items: &[Self]) -> Option<&[u8]>
-        ensures gives { IfSome result
-            (λ b. b.now ≡ bytes_all (trees (map Self.shape.tree items.now))) }
-        ensures fits { IfSome result (λ _. AllFit Self.shape.fits items.now) }
-    {
-        let _ = items;
-        None
-    }
 }

@@ -154,7 +154,7 @@ impl<F: Flavor> Serializer<F> {
     }
 
     /// Writes the count of the bytes as a varint, and then the bytes: those of a list of `u8`.
-    #[tactic(auto, using(crate::proofs::Elements::elements_count, crate::proofs::Elements::bytes_of_bytes))]
+    #[tactic(auto, using(crate::proofs::Elements::elements_count, postcard_shape::proofs::Bytes::bytes_of_bytes))]
     pub fn serialize_bytes(&mut self, v: &[u8]) -> Result<()>
         ensures { Wrote F.Flavor self.old.output (bytes (Seq (trees (map Byte v.now)))) ⊥ ⊥
             result self.new.output }

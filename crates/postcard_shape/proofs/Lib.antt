@@ -1,3 +1,4 @@
 pub mod Fitting
 pub mod Ordered
 pub mod Again
+pub mod Bytes

@@ -1,7 +1,8 @@
 -- The values of trees, for types that read them: relations between a tree and what a contract sees of a value.
-use Rattle.std.specs.Prelude.{◌≡◌, ℕ, List, [], ◌∷◌, Option, None, Some}
+use Rattle.std.specs.Prelude.{◌≡◌, ℕ, List, [], ◌∷◌, length, Option, None, Some}
 use Rattle.postcard_wire.specs.Tree.{Tree, Trees, Seq, NoTrees, Then, count}
 use Rattle.postcard_wire.specs.Reading.{Each}
+use Rattle.postcard_wire.specs.Spelling.{SpellsAll}
 
 -- Each value is one of its tree, in order.
 abbrev pub EachIs : {V : Type 0} → (Tree → V → Type 0) → Trees → List V → Type 0
@@ -25,3 +26,9 @@ AreRead n reads ts = (count ts ≡ n) × Each reads ts
 -- The number is the value.
 abbrev pub Same : ℕ → ℕ → Type 0
 Same n v = n ≡ v
+
+-- The bytes spell as many trees as they are, each of which is read, and the list has their values.
+abbrev pub AreOfBytes : {V : Type 0} → (Tree → Type 0) → (Tree → V → Type 0) → List ℕ → List V →
+    Type 0
+AreOfBytes reads value bytes vs = (ts : Trees) × AreRead (length bytes) reads ts
+    × SpellsAll ts bytes × EachIs value ts vs

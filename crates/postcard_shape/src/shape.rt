@@ -1,6 +1,14 @@
 //! The traits by which a type says its shape: directly, or as what it is seen as.
 
+ghost use Rattle.std.specs.Prelude.{◌≡◌, map, IfErr, IfOk, IfSome};
+ghost use Rattle.postcard_wire.specs.Spelling.{bytes_all};
+ghost use Rattle.postcard_wire.specs.Tree.{trees};
+ghost use Rattle.postcard_shape.specs.Lists.{AllFit};
 ghost use Rattle.postcard_shape.specs.Shape.{Shape, via};
+ghost use Rattle.postcard_shape.specs.Values.{AreOfBytes};
+
+use postcard_wire::{Error, Result};
+use std::alloc::Global;
 
 /// A type that says what its values are on the wire, once for both directions.
 ///
@@ -9,6 +17,38 @@ ghost use Rattle.postcard_shape.specs.Shape.{Shape, via};
 pub trait Shaped {
     /// The tree of each value, the trees that are read, their values, and the laws that tie them.
     ghost shape: { Shape Self };
+
+    /// Returns the encodings of `items` one after the other if just these bytes stand in memory, as
+    /// those of a slice of `u8` do, which is then written as one piece. Returns `None` otherwise.
+    fn slice_bytes(items: &[Self]) -> Option<&[u8]>
+    where
+        Self: Sized,
+        ensures gives { IfSome result
+            (λ b. b.now ≡ bytes_all (trees (map shape.tree items.now))) }
+        ensures fits { IfSome result (λ _. AllFit shape.fits items.now) }
+    {
+        let _ = items;
+        None
+    }
+
+    /// Returns the list whose elements `bytes` encode, one byte each, if the values of the type are
+    /// bytes as they stand, as those of `u8` are. Returns `None` for every other type, whose lists
+    /// are read element by element.
+    ///
+    /// # Errors
+    ///
+    /// Fails with `OutOfMemory` only if an allocation fails.
+    fn list_of_bytes(alloc: Global, bytes: &[u8]) -> Result<Option<Vec<Self>>>
+    where
+        Self: Sized,
+        ensures reads { IfOk result
+            (λ list. IfSome list (λ v. AreOfBytes shape.reads shape.value bytes.now v.items)) }
+        ensures refused { IfErr result (λ e. e ≡ Error.OutOfMemory) }
+    {
+        let _ = alloc;
+        let _ = bytes;
+        Ok(None)
+    }
 }
 
 /// A type whose values are seen as those of another on the wire: a struct as the tuple of its

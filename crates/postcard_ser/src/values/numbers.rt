@@ -1,11 +1,5 @@
 //! Numbers.
 
-ghost use Rattle.std.specs.Prelude.{◌≡◌, map, IsSome, IfSome};
-ghost use Rattle.postcard_wire.specs.Spelling.{bytes_all};
-ghost use Rattle.postcard_wire.specs.Tree.{Byte, trees};
-ghost use Rattle.postcard_shape.specs.Leaves.{byte};
-ghost use Rattle.postcard_shape.specs.Lists.{AllFit};
-
 use crate::serialize::Serialize;
 use crate::serializer::Serializer;
 use postcard_ser_flavors::Flavor;
@@ -15,15 +9,6 @@ use postcard_wire::Result;
 impl Serialize for u8 {
     fn serialize<F: Flavor>(&self, serializer: &mut Serializer<F>) -> Result<()> {
         serializer.serialize_u8(*self)
-    }
-
-    #[tactic(auto, using(crate::proofs::Elements::bytes_of_bytes))]
-    fn slice_bytes(items: &[u8]) -> Option<&[u8]>
-        ensures gives { IfSome result (λ b. b.now ≡ bytes_all (trees (map Byte items.now))) }
-        ensures fits { IfSome result (λ _. AllFit byte.fits items.now) }
-        ensures always { IsSome result }
-    {
-        Some(items)
     }
 }
 

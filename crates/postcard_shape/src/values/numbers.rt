@@ -1,13 +1,50 @@
 //! Numbers of a fixed width.
 
-ghost use Rattle.std.specs.Prelude.{refl};
+ghost use Rattle.std.specs.Prelude.{◌≡◌, ℕ, ◌<◌, map, refl, IfErr, IfOk, IfSome, IsSome};
+ghost use Rattle.std.specs.Prelude.{slice_index};
 ghost use Rattle.std.proofs.Common.{inl, inr};
+ghost use Rattle.postcard_wire.specs.Spelling.{bytes_all};
+ghost use Rattle.postcard_wire.specs.Tree.{Byte, trees};
 ghost use Rattle.postcard_shape.specs.Leaves.{byte, signed_byte, num, int};
+ghost use Rattle.postcard_shape.specs.Lists.{AllFit};
+ghost use Rattle.postcard_shape.specs.Values.{AreOfBytes};
 
 use crate::shape::Shaped;
+use postcard_wire::{Error, Result};
+use std::alloc::Global;
+
+/// Returns the same slice. Its contract tells the prover that each element is below 256.
+fn in_range(bytes: &[u8]) -> &[u8]
+    ensures same { result.now ≡ bytes.now }
+    ensures range { (k : ℕ) → slice_index bytes.now k < 256 }
+{
+    bytes
+}
 
 impl Shaped for u8 {
     ghost shape = { byte };
+
+    #[tactic(auto, using(crate::proofs::Bytes::bytes_of_bytes))]
+    fn slice_bytes(items: &[u8]) -> Option<&[u8]>
+        ensures gives { IfSome result (λ b. b.now ≡ bytes_all (trees (map Byte items.now))) }
+        ensures fits { IfSome result (λ _. AllFit byte.fits items.now) }
+        ensures always { IsSome result }
+    {
+        Some(items)
+    }
+
+    fn list_of_bytes(alloc: Global, bytes: &[u8]) -> Result<Option<Vec<u8>>>
+        ensures reads { IfOk result
+            (λ list. IfSome list (λ v. AreOfBytes byte.reads byte.value bytes.now v.items)) }
+        ensures refused { IfErr result (λ e. e ≡ Error.OutOfMemory) }
+        ensures always { IfOk result (λ list. IsSome list) }
+    {
+        let bytes = in_range(bytes);
+        match bytes.to_vec(alloc) {
+            Ok(copy) => Ok(Some(copy)),
+            Err(_) => Err(Error::OutOfMemory),
+        }
+    }
 }
 
 impl Shaped for u16 {

@@ -1,0 +1,38 @@
+-- Bytes as a list of trees, one for each.
+use Rattle.std.proofs.Common.{◌≡◌, ℕ, suc, ◌<◌, List, [], ◌∷◌, length, get_or, refl, ap}
+use Rattle.std.specs.Prelude.{map}
+use Rattle.postcard_wire.specs.Tree.{Tree, Trees, Byte, NoTrees, Then, trees, count}
+use Rattle.postcard_wire.specs.Spelling.{SpellsAll, bytes_all}
+use Rattle.postcard_wire.specs.Reading.{IsByte, Each}
+use Rattle.postcard_shape.specs.Values.{EachIs, AreOfBytes}
+
+-- The bytes of a list of bytes are its elements.
+pub bytes_of_bytes : (xs : List ℕ) → bytes_all (trees (map Byte xs)) ≡ xs
+bytes_of_bytes [] = refl
+bytes_of_bytes (x ∷ xs) = ap (λ z. x ∷ z) (bytes_of_bytes xs)
+
+-- A byte is its tree's value.
+abbrev pub ByteIs : Tree → ℕ → Type 0
+ByteIs t v = t ≡ Byte v
+
+-- A tree for each byte.
+pub bytes_trees : List ℕ → Trees
+bytes_trees [] = NoTrees
+bytes_trees (b ∷ u) = Then (Byte b) (bytes_trees u)
+
+-- Bytes spell their trees, and are their values.
+pub trees_are : (u : List ℕ) → ((k : ℕ) → get_or u k 0 < 256) →
+    (count (bytes_trees u) ≡ length u) × Each IsByte (bytes_trees u) × SpellsAll (bytes_trees u) u
+    × EachIs ByteIs (bytes_trees u) u
+unfolding bytes_trees
+trees_are [] h = (refl, tt, refl, tt)
+trees_are (b ∷ u) h =
+    let k = trees_are u (λ i. h (suc i)) in
+    (ap suc k.0, ((b, refl, h 0), k.1), (b ∷ [], u, refl, k.2, refl), (refl, k.3))
+
+-- Bytes are the list that they encode.
+pub are_bytes : (u vs : List ℕ) → ((k : ℕ) → get_or u k 0 < 256) → vs ≡ u →
+    AreOfBytes IsByte ByteIs u vs
+are_bytes u vs h e =
+    let k = trees_are u h in
+    rw e (bytes_trees u, (k.0, k.1), k.2, k.3)
