@@ -25,6 +25,26 @@ fn serialize_both<P: Serialize, Q: Serialize, F: Flavor>(
     second.serialize(serializer)
 }
 
+/// Writes a value, another, and what is behind them. A long tuple goes by two parts at a time,
+/// since the prover's work for a tuple within a tuple grows with its length.
+fn serialize_three<P: Serialize, Q: Serialize, R: Serialize, F: Flavor>(
+    first: &P,
+    second: &Q,
+    others: &R,
+    serializer: &mut Serializer<F>,
+) -> Result<()>
+    ensures wrote { Wrote F.Flavor serializer.old.output
+        (bytes (P.shape.tree first.now)
+        ++ (bytes (Q.shape.tree second.now) ++ bytes (R.shape.tree others.now)))
+        (P.shape.refuses first.now ⊎ (Q.shape.refuses second.now ⊎ R.shape.refuses others.now))
+        (P.shape.text ⊎ (Q.shape.text ⊎ R.shape.text)) result serializer.new.output }
+    ensures fits { OnOk result (P.shape.fits first.now
+        × (Q.shape.fits second.now × R.shape.fits others.now)) }
+{
+    first.serialize(serializer)?;
+    serialize_both(second, others, serializer)
+}
+
 /// The part.
 impl<A: Serialize> Serialize for (A,) {
     fn serialize<F: Flavor>(&self, serializer: &mut Serializer<F>) -> Result<()> {
@@ -39,41 +59,42 @@ impl<A: Serialize, B: Serialize> Serialize for (A, B) {
     }
 }
 
-/// The first part, and then the others.
+/// The three parts.
 impl<A: Serialize, B: Serialize, C: Serialize> Serialize for (A, B, C) {
     fn serialize<F: Flavor>(&self, serializer: &mut Serializer<F>) -> Result<()> {
-        serialize_both(&self.0, &(&self.1, &self.2), serializer)
+        serialize_three(&self.0, &self.1, &self.2, serializer)
     }
 }
 
-/// The first part, and then the others.
+/// The first two parts, and then the others.
 impl<A: Serialize, B: Serialize, C: Serialize, D: Serialize> Serialize for (A, B, C, D) {
     fn serialize<F: Flavor>(&self, serializer: &mut Serializer<F>) -> Result<()> {
-        serialize_both(&self.0, &(&self.1, &self.2, &self.3), serializer)
+        serialize_three(&self.0, &self.1, &(&self.2, &self.3), serializer)
     }
 }
 
-/// The first part, and then the others.
+/// The first two parts, and then the others.
 impl<A: Serialize, B: Serialize, C: Serialize, D: Serialize, E: Serialize> Serialize
     for (A, B, C, D, E) {
     fn serialize<F: Flavor>(&self, serializer: &mut Serializer<F>) -> Result<()> {
-        serialize_both(&self.0, &(&self.1, &self.2, &self.3, &self.4), serializer)
+        serialize_three(&self.0, &self.1, &(&self.2, &self.3, &self.4), serializer)
     }
 }
 
-/// The first part, and then the others.
+/// The first two parts, and then the others.
 impl<A: Serialize, B: Serialize, C: Serialize, D: Serialize, E: Serialize, G: Serialize> Serialize
     for (A, B, C, D, E, G) {
     fn serialize<F: Flavor>(&self, serializer: &mut Serializer<F>) -> Result<()> {
-        serialize_both(
+        serialize_three(
             &self.0,
-            &(&self.1, &self.2, &self.3, &self.4, &self.5),
+            &self.1,
+            &(&self.2, &self.3, &self.4, &self.5),
             serializer,
         )
     }
 }
 
-/// The first part, and then the others.
+/// The first two parts, and then the others.
 impl<
     A: Serialize,
     B: Serialize,
@@ -84,15 +105,16 @@ impl<
     H: Serialize,
 > Serialize for (A, B, C, D, E, G, H) {
     fn serialize<F: Flavor>(&self, serializer: &mut Serializer<F>) -> Result<()> {
-        serialize_both(
+        serialize_three(
             &self.0,
-            &(&self.1, &self.2, &self.3, &self.4, &self.5, &self.6),
+            &self.1,
+            &(&self.2, &self.3, &self.4, &self.5, &self.6),
             serializer,
         )
     }
 }
 
-/// The first part, and then the others.
+/// The first two parts, and then the others.
 impl<
     A: Serialize,
     B: Serialize,
@@ -104,17 +126,16 @@ impl<
     I: Serialize,
 > Serialize for (A, B, C, D, E, G, H, I) {
     fn serialize<F: Flavor>(&self, serializer: &mut Serializer<F>) -> Result<()> {
-        serialize_both(
+        serialize_three(
             &self.0,
-            &(
-                &self.1, &self.2, &self.3, &self.4, &self.5, &self.6, &self.7,
-            ),
+            &self.1,
+            &(&self.2, &self.3, &self.4, &self.5, &self.6, &self.7),
             serializer,
         )
     }
 }
 
-/// The first part, and then the others.
+/// The first two parts, and then the others.
 impl<
     A: Serialize,
     B: Serialize,
@@ -127,17 +148,18 @@ impl<
     J: Serialize,
 > Serialize for (A, B, C, D, E, G, H, I, J) {
     fn serialize<F: Flavor>(&self, serializer: &mut Serializer<F>) -> Result<()> {
-        serialize_both(
+        serialize_three(
             &self.0,
+            &self.1,
             &(
-                &self.1, &self.2, &self.3, &self.4, &self.5, &self.6, &self.7, &self.8,
+                &self.2, &self.3, &self.4, &self.5, &self.6, &self.7, &self.8,
             ),
             serializer,
         )
     }
 }
 
-/// The first part, and then the others.
+/// The first two parts, and then the others.
 impl<
     A: Serialize,
     B: Serialize,
@@ -151,17 +173,18 @@ impl<
     K: Serialize,
 > Serialize for (A, B, C, D, E, G, H, I, J, K) {
     fn serialize<F: Flavor>(&self, serializer: &mut Serializer<F>) -> Result<()> {
-        serialize_both(
+        serialize_three(
             &self.0,
+            &self.1,
             &(
-                &self.1, &self.2, &self.3, &self.4, &self.5, &self.6, &self.7, &self.8, &self.9,
+                &self.2, &self.3, &self.4, &self.5, &self.6, &self.7, &self.8, &self.9,
             ),
             serializer,
         )
     }
 }
 
-/// The first part, and then the others.
+/// The first two parts, and then the others.
 impl<
     A: Serialize,
     B: Serialize,
@@ -176,18 +199,18 @@ impl<
     L: Serialize,
 > Serialize for (A, B, C, D, E, G, H, I, J, K, L) {
     fn serialize<F: Flavor>(&self, serializer: &mut Serializer<F>) -> Result<()> {
-        serialize_both(
+        serialize_three(
             &self.0,
+            &self.1,
             &(
-                &self.1, &self.2, &self.3, &self.4, &self.5, &self.6, &self.7, &self.8, &self.9,
-                &self.10,
+                &self.2, &self.3, &self.4, &self.5, &self.6, &self.7, &self.8, &self.9, &self.10,
             ),
             serializer,
         )
     }
 }
 
-/// The first part, and then the others.
+/// The first two parts, and then the others.
 impl<
     A: Serialize,
     B: Serialize,
@@ -203,11 +226,12 @@ impl<
     M: Serialize,
 > Serialize for (A, B, C, D, E, G, H, I, J, K, L, M) {
     fn serialize<F: Flavor>(&self, serializer: &mut Serializer<F>) -> Result<()> {
-        serialize_both(
+        serialize_three(
             &self.0,
+            &self.1,
             &(
-                &self.1, &self.2, &self.3, &self.4, &self.5, &self.6, &self.7, &self.8, &self.9,
-                &self.10, &self.11,
+                &self.2, &self.3, &self.4, &self.5, &self.6, &self.7, &self.8, &self.9, &self.10,
+                &self.11,
             ),
             serializer,
         )
