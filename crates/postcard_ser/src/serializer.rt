@@ -16,10 +16,7 @@ mod options;
 
 use crate::serialize::Serialize;
 use postcard_ser_flavors::Flavor;
-use postcard_wire::varint::{
-    VARINT_MAX_16, VARINT_MAX_32, VARINT_MAX_64, VARINT_MAX_128, varint_u16, varint_u32,
-    varint_u64, varint_u128,
-};
+use postcard_wire::varint::{VARINT_MAX_128, varint_u128};
 use postcard_wire::zigzag::{zig_zag_i16, zig_zag_i32, zig_zag_i64, zig_zag_i128};
 use postcard_wire::{Error, Result};
 
@@ -55,6 +52,13 @@ impl<F: Flavor> Serializer<F> {
         self.output.try_extend(piece).map_err(refusal)
     }
 
+    // Hands over the varint of a number.
+    fn varint(&mut self, n: u64) -> Result<()>
+        ensures { Wrote F.Flavor self.old.output (digits n) ⊥ ⊥ result self.new.output }
+    {
+        self.output.try_varint(n).map_err(refusal)
+    }
+
     // Hands over the count of the bytes, and then the bytes.
     fn extend_counted(&mut self, piece: &[u8]) -> Result<()>
         ensures { Wrote F.Flavor self.old.output (digits (length piece.now) ++ piece.now) ⊥ ⊥
@@ -82,24 +86,21 @@ impl<F: Flavor> Serializer<F> {
     pub fn serialize_u16(&mut self, v: u16) -> Result<()>
         ensures { Wrote F.Flavor self.old.output (bytes (Num 16 v)) ⊥ ⊥ result self.new.output }
     {
-        let mut out = [0; VARINT_MAX_16];
-        self.extend(varint_u16(v, &mut out))
+        self.serialize_u32(u32::from(v))
     }
 
     /// Writes a varint of 1 to 5 bytes.
     pub fn serialize_u32(&mut self, v: u32) -> Result<()>
         ensures { Wrote F.Flavor self.old.output (bytes (Num 32 v)) ⊥ ⊥ result self.new.output }
     {
-        let mut out = [0; VARINT_MAX_32];
-        self.extend(varint_u32(v, &mut out))
+        self.varint(u64::from(v))
     }
 
     /// Writes a varint of 1 to 10 bytes.
     pub fn serialize_u64(&mut self, v: u64) -> Result<()>
         ensures { Wrote F.Flavor self.old.output (bytes (Num 64 v)) ⊥ ⊥ result self.new.output }
     {
-        let mut out = [0; VARINT_MAX_64];
-        self.extend(varint_u64(v, &mut out))
+        self.varint(v)
     }
 
     /// Writes a varint of 1 to 19 bytes.

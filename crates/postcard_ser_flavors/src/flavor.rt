@@ -1,9 +1,11 @@
 //! The trait of all writing flavors.
 
 ghost use Rattle.std.specs.Prelude.{ℕ, List, [], ◌∷◌, OnOk, OnErr, IfOk, IsOk};
+ghost use Rattle.postcard_wire.specs.Number.{digits};
 ghost use Rattle.postcard_ser_flavors.specs.Flavor.{Begins, IsFlavor};
 
 use postcard_wire::Result;
+use postcard_wire::varint::{VARINT_MAX_64, varint_u64};
 
 /// Takes the bytes of a message, and ends as its output.
 ///
@@ -51,6 +53,18 @@ pub trait Flavor {
             self.try_push(*byte)?;
         }
         Ok(())
+    }
+
+    /// Takes the varint of a number of at most 64 bits, 1 to 10 bytes. A flavor that can write it in
+    /// place overrides this.
+    fn try_varint(&mut self, n: u64) -> Result<()>
+        ensures appends { OnOk result (appended self.old (digits n) self.new) }
+        ensures has_room { room self.old (digits n) → IsOk result }
+        ensures refused { OnErr result (tidy → Begins appended self.old (digits n) self.new) }
+        ensures leaves { reaches self.old self.new }
+    {
+        let mut out = [0; VARINT_MAX_64];
+        self.try_extend(varint_u64(n, &mut out))
     }
 
     /// Ends the message, and answers the output.

@@ -1,12 +1,14 @@
 //! The flavor that fills a caller's slice from its front.
 
 ghost use Rattle.std.specs.Prelude.{◌≡◌, ◌≤◌, ◌↔◌, [], ◌∷◌, length, drop, ⊤, IsOk, OnOk, OnErr, IfOk, IfErr};
+ghost use Rattle.postcard_wire.specs.Number.{digits};
 ghost use Rattle.postcard_ser_flavors.specs.Flavor.{Begins};
 ghost use Rattle.postcard_ser_flavors.specs.Slice.{held, free, Appended, HasRoom, Reaches};
 ghost use Rattle.postcard_ser_flavors.specs.SliceLaws.{slice_lawful};
 
 use crate::flavor::Flavor;
 use crate::memory::Memory;
+use postcard_wire::varint::{VARINT_MAX_64, varint_u64, write_u64};
 use postcard_wire::{Error, Result};
 use std::marker::Model;
 
@@ -132,6 +134,33 @@ impl<'a> Flavor for Slice<'a> {
         let all = self.memory.lend(len);
         all[start..start + bytes.len()].copy_from_slice(bytes);
         self.position += bytes.len();
+        Ok(())
+    }
+
+    /// Writes a varint, in place where 10 bytes are free. Fails with `SerializeBufferFull` if it has
+    /// more bytes than are free, and is then unchanged.
+    #[inline]
+    fn try_varint(&mut self, n: u64) -> Result<()>
+        ensures appends { OnOk result
+            (⟦<Slice<'static> as Flavor>⟧.appended self.old (digits n) self.new) }
+        ensures has_room { ⟦<Slice<'static> as Flavor>⟧.room self.old (digits n) → IsOk result }
+        ensures refused { OnErr result (⟦<Slice<'static> as Flavor>⟧.tidy
+            → Begins ⟦<Slice<'static> as Flavor>⟧.appended self.old (digits n) self.new) }
+        ensures leaves { ⟦<Slice<'static> as Flavor>⟧.reaches self.old self.new }
+        ensures fits { IsOk result ↔ (length (digits n) ≤ length (free self.old)) }
+        ensures rest { OnOk result (free self.new ≡ drop (length (digits n)) (free self.old)) }
+        ensures full { IfErr result (λ e. e ≡ Error.SerializeBufferFull) }
+        ensures unchanged { OnErr result (self.new ≡ self.old) }
+    {
+        if self.len - self.position < VARINT_MAX_64 {
+            let mut out = [0; VARINT_MAX_64];
+            return self.try_extend(varint_u64(n, &mut out));
+        }
+        let len = self.len;
+        let start = self.position;
+        let all = self.memory.lend(len);
+        let count = write_u64(n, &mut all[start..]);
+        self.position += count;
         Ok(())
     }
 

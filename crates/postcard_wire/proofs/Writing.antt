@@ -1,7 +1,7 @@
 -- A number that is written digit by digit: its digits so far, and how many there are at most.
-use Rattle.std.proofs.Common.{◌≡◌, inl, inr, ℕ, zero, suc, ◌+◌, ◌-◌, ◌*◌, ◌/◌, ◌%◌, ◌<◌, ◌≤◌, ◌^◌, List, [], ◌∷◌, ◌++◌, length, take, set, bit_and, bit_or, refl, sym, ap, ◌∙◌, subst, arith, append_assoc, length-append, length-set}
+use Rattle.std.proofs.Common.{◌≡◌, inl, inr, ℕ, zero, suc, ◌+◌, ◌-◌, ◌*◌, ◌/◌, ◌%◌, ◌<◌, ◌≤◌, ◌^◌, List, [], ◌∷◌, ◌++◌, length, take, drop, set, bit_and, bit_or, refl, sym, ap, ◌∙◌, subst, arith, append_assoc, length-append, length-set}
 use Rattle.std.proofs.Math.Nat.{pow-succ'}
-use Rattle.std.proofs.lemmas.List.{take_more_set, length-take-le}
+use Rattle.std.proofs.lemmas.List.{take_more_set, length-take-le, drop-drop, drop-set-lt}
 use Rattle.std.proofs.lemmas.Nat.{and_mask, or_shifted, or_comm}
 use Rattle.postcard_wire.specs.Number.{digits_within, digits, AreDigits, max_digits}
 use Rattle.postcard_wire.specs.Tree.{IsWidth}
@@ -117,3 +117,7 @@ reached w (inl e) = rw e refl
 reached w (inr (inl e)) = rw e refl
 reached w (inr (inr (inl e))) = rw e refl
 reached w (inr (inr (inr e))) = rw e refl
+
+-- A byte written at a place leaves those behind it.
+pub behind_kept : (out old : List ℕ) (len x : ℕ) → drop len out ≡ drop len old → drop (len + 1) (set out len x) ≡ drop (len + 1) old
+behind_kept out old len x e = drop-set-lt (len + 1) out len x (omega arith) ∙ (sym (drop-drop 1 len out) ∙ (ap (λ (l : List ℕ). drop 1 l) e ∙ drop-drop 1 len old))
