@@ -52,10 +52,10 @@ int_reached w wide =
     (Int w z, (z, refl, r), ap (λ n. length (digits n)) e ∙ reached w wide)
 
 -- A set without one tree is bounded as the whole set, and reached by any tree that is longer than that one.
-pub without_bounded : (one : Tree) (m : ℕ) (reads : Tree → Type 0) → AreBounded (Some m) reads → AreBounded (Some m) (Without one reads)
+without_bounded : (one : Tree) (m : ℕ) (reads : Tree → Type 0) → AreBounded (Some m) reads → AreBounded (Some m) (Without one reads)
 without_bounded one m reads h t f = h t f.0
 
-pub without_reached : (one : Tree) (m : ℕ) (reads : Tree → Type 0) → tree_len one < m → IsReached (Some m) reads → IsReached (Some m) (Without one reads)
+without_reached : (one : Tree) (m : ℕ) (reads : Tree → Type 0) → tree_len one < m → IsReached (Some m) reads → IsReached (Some m) (Without one reads)
 without_reached one m reads h (t, r, e) = (t, (r, λ same. omega (arith, h, e, ap tree_len same)), e)
 
 -- 0 takes one byte, and the other numbers of a width more.
@@ -65,13 +65,22 @@ one_byte w (inr (inl e)) = rw e (omega arith)
 one_byte w (inr (inr (inl e))) = rw e (omega arith)
 one_byte w (inr (inr (inr e))) = rw e (omega arith)
 
+pub nonzero_num_bounded : (w : ℕ) → IsWidth w → AreBounded (Some (max_digits w)) (Without (Num w 0) (IsNum w))
+nonzero_num_bounded w wide = without_bounded (Num w 0) (max_digits w) (IsNum w) (num_bounded w wide)
+
 pub nonzero_num_reached : (w : ℕ) → IsWidth w → IsReached (Some (max_digits w)) (Without (Num w 0) (IsNum w))
 nonzero_num_reached w wide = without_reached (Num w 0) (max_digits w) (IsNum w) (omega (arith, one_byte w wide, one_count 0 (omega arith))) (num_reached w wide)
+
+pub nonzero_int_bounded : (w : ℕ) → IsWidth w → AreBounded (Some (max_digits w)) (Without (Int w (pos 0)) (IsInt w))
+nonzero_int_bounded w wide = without_bounded (Int w (pos 0)) (max_digits w) (IsInt w) (int_bounded w wide)
 
 pub nonzero_int_reached : (w : ℕ) → IsWidth w → IsReached (Some (max_digits w)) (Without (Int w (pos 0)) (IsInt w))
 nonzero_int_reached w wide = without_reached (Int w (pos 0)) (max_digits w) (IsInt w) (omega (arith, one_byte w wide, one_count 0 (omega arith))) (int_reached w wide)
 
 -- A byte other than 0 takes one byte.
+pub nonzero_byte_bounded : AreBounded (Some 1) (Without (Byte 0) IsByte)
+nonzero_byte_bounded = without_bounded (Byte 0) 1 IsByte byte_bounded
+
 pub nonzero_byte_reached : IsReached (Some 1) (Without (Byte 0) IsByte)
 nonzero_byte_reached = (Byte 1, ((1, refl, omega arith), λ e. omega (arith, byte_same 1 0 e)), refl)
 

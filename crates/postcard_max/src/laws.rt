@@ -92,40 +92,49 @@ pub fn table<
     ensures tuple_of_five_reached { A.reached → B.reached → C.reached → D.reached → E.reached →
         ⟦<(A, B, C, D, E) as MaxSize>⟧.reached }
     ensures tuple_of_six { ⟦<(A, B, C, D, E, G) as MaxSize>⟧.greatest
-        ≡ sum_all (A.greatest ∷ B.greatest ∷ C.greatest ∷ D.greatest ∷ E.greatest ∷ G.greatest ∷
-        []) }
-    ensures tuple_of_six_reached { A.reached × B.reached × C.reached × D.reached × E.reached × G.reached
+        ≡ sum_all (A.greatest ∷ B.greatest ∷ C.greatest ∷ D.greatest ∷ E.greatest ∷
+        G.greatest ∷ []) }
+    ensures tuple_of_six_reached { A.reached × B.reached × C.reached × D.reached × E.reached
+        × G.reached
         → ⟦<(A, B, C, D, E, G) as MaxSize>⟧.reached }
     ensures tuple_of_seven { ⟦<(A, B, C, D, E, G, H) as MaxSize>⟧.greatest
-        ≡ sum_all (A.greatest ∷ B.greatest ∷ C.greatest ∷ D.greatest ∷ E.greatest ∷ G.greatest ∷
-        H.greatest ∷ []) }
-    ensures tuple_of_seven_reached { A.reached × B.reached × C.reached × D.reached × E.reached × G.reached
-        × H.reached → ⟦<(A, B, C, D, E, G, H) as MaxSize>⟧.reached }
+        ≡ sum_all (A.greatest ∷ B.greatest ∷ C.greatest ∷ D.greatest ∷ E.greatest ∷
+        G.greatest ∷ H.greatest ∷ []) }
+    ensures tuple_of_seven_reached { A.reached × B.reached × C.reached × D.reached × E.reached
+        × G.reached × H.reached
+        → ⟦<(A, B, C, D, E, G, H) as MaxSize>⟧.reached }
     ensures tuple_of_eight { ⟦<(A, B, C, D, E, G, H, I) as MaxSize>⟧.greatest
-        ≡ sum_all (A.greatest ∷ B.greatest ∷ C.greatest ∷ D.greatest ∷ E.greatest ∷ G.greatest ∷
-        H.greatest ∷ I.greatest ∷ []) }
-    ensures tuple_of_eight_reached { A.reached × B.reached × C.reached × D.reached × E.reached × G.reached
-        × H.reached × I.reached → ⟦<(A, B, C, D, E, G, H, I) as MaxSize>⟧.reached }
+        ≡ sum_all (A.greatest ∷ B.greatest ∷ C.greatest ∷ D.greatest ∷ E.greatest ∷
+        G.greatest ∷ H.greatest ∷ I.greatest ∷ []) }
+    ensures tuple_of_eight_reached { A.reached × B.reached × C.reached × D.reached × E.reached
+        × G.reached × H.reached × I.reached
+        → ⟦<(A, B, C, D, E, G, H, I) as MaxSize>⟧.reached }
     ensures tuple_of_nine { ⟦<(A, B, C, D, E, G, H, I, J) as MaxSize>⟧.greatest
-        ≡ sum_all (A.greatest ∷ B.greatest ∷ C.greatest ∷ D.greatest ∷ E.greatest ∷ G.greatest ∷
-        H.greatest ∷ I.greatest ∷ J.greatest ∷ []) }
-    ensures tuple_of_nine_reached { A.reached × B.reached × C.reached × D.reached × E.reached × G.reached
-        × H.reached × I.reached × J.reached → ⟦<(A, B, C, D, E, G, H, I, J) as MaxSize>⟧.reached }
+        ≡ sum_all (A.greatest ∷ B.greatest ∷ C.greatest ∷ D.greatest ∷ E.greatest ∷
+        G.greatest ∷ H.greatest ∷ I.greatest ∷ J.greatest ∷ []) }
+    ensures tuple_of_nine_reached { A.reached × B.reached × C.reached × D.reached × E.reached
+        × G.reached × H.reached × I.reached × J.reached
+        → ⟦<(A, B, C, D, E, G, H, I, J) as MaxSize>⟧.reached }
     ensures tuple_of_ten { ⟦<(A, B, C, D, E, G, H, I, J, K) as MaxSize>⟧.greatest
-        ≡ sum_all (A.greatest ∷ B.greatest ∷ C.greatest ∷ D.greatest ∷ E.greatest ∷ G.greatest ∷
-        H.greatest ∷ I.greatest ∷ J.greatest ∷ K.greatest ∷ []) }
-    ensures tuple_of_ten_reached { A.reached × B.reached × C.reached × D.reached × E.reached × G.reached
-        × H.reached × I.reached × J.reached × K.reached → ⟦<(A, B, C, D, E, G, H, I, J, K) as MaxSize>⟧.reached }
+        ≡ sum_all (A.greatest ∷ B.greatest ∷ C.greatest ∷ D.greatest ∷ E.greatest ∷
+        G.greatest ∷ H.greatest ∷ I.greatest ∷ J.greatest ∷ K.greatest ∷ []) }
+    ensures tuple_of_ten_reached { A.reached × B.reached × C.reached × D.reached × E.reached
+        × G.reached × H.reached × I.reached × J.reached × K.reached
+        → ⟦<(A, B, C, D, E, G, H, I, J, K) as MaxSize>⟧.reached }
     ensures tuple_of_eleven { ⟦<(A, B, C, D, E, G, H, I, J, K, L) as MaxSize>⟧.greatest
-        ≡ sum_all (A.greatest ∷ B.greatest ∷ C.greatest ∷ D.greatest ∷ E.greatest ∷ G.greatest ∷
-        H.greatest ∷ I.greatest ∷ J.greatest ∷ K.greatest ∷ L.greatest ∷ []) }
-    ensures tuple_of_eleven_reached { A.reached × B.reached × C.reached × D.reached × E.reached × G.reached
-        × H.reached × I.reached × J.reached × K.reached × L.reached → ⟦<(A, B, C, D, E, G, H, I, J, K, L) as MaxSize>⟧.reached }
+        ≡ sum_all (A.greatest ∷ B.greatest ∷ C.greatest ∷ D.greatest ∷ E.greatest ∷
+        G.greatest ∷ H.greatest ∷ I.greatest ∷ J.greatest ∷ K.greatest ∷
+        L.greatest ∷ []) }
+    ensures tuple_of_eleven_reached { A.reached × B.reached × C.reached × D.reached × E.reached
+        × G.reached × H.reached × I.reached × J.reached × K.reached × L.reached
+        → ⟦<(A, B, C, D, E, G, H, I, J, K, L) as MaxSize>⟧.reached }
     ensures tuple_of_twelve { ⟦<(A, B, C, D, E, G, H, I, J, K, L, M) as MaxSize>⟧.greatest
-        ≡ sum_all (A.greatest ∷ B.greatest ∷ C.greatest ∷ D.greatest ∷ E.greatest ∷ G.greatest ∷
-        H.greatest ∷ I.greatest ∷ J.greatest ∷ K.greatest ∷ L.greatest ∷ M.greatest ∷ []) }
-    ensures tuple_of_twelve_reached { A.reached × B.reached × C.reached × D.reached × E.reached × G.reached
-        × H.reached × I.reached × J.reached × K.reached × L.reached × M.reached → ⟦<(A, B, C, D, E, G, H, I, J, K, L, M) as MaxSize>⟧.reached }
+        ≡ sum_all (A.greatest ∷ B.greatest ∷ C.greatest ∷ D.greatest ∷ E.greatest ∷
+        G.greatest ∷ H.greatest ∷ I.greatest ∷ J.greatest ∷ K.greatest ∷
+        L.greatest ∷ M.greatest ∷ []) }
+    ensures tuple_of_twelve_reached { A.reached × B.reached × C.reached × D.reached × E.reached
+        × G.reached × H.reached × I.reached × J.reached × K.reached × L.reached × M.reached
+        → ⟦<(A, B, C, D, E, G, H, I, J, K, L, M) as MaxSize>⟧.reached }
     ensures duration { (⟦<Duration as MaxSize>⟧.greatest ≡ Some 15)
         × ⟦<Duration as MaxSize>⟧.reached }
     ensures range { ⟦<Range<A> as MaxSize>⟧.greatest ≡ sum_all (A.greatest ∷ A.greatest ∷ []) }

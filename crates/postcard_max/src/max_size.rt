@@ -73,8 +73,8 @@ impl<T: MaxSize> SizeBound for T {
 /// A type that has the greatest size of what it is seen as, by its `Repr`: a struct that of the
 /// tuple of its fields, an enum that of the greatest of its variants.
 pub trait MaxSizeRepr: Repr {
-    /// Does nothing. It calls `in_forms` on each field, as by `(&self.name, self.count).in_forms()`,
-    /// and in an enum on each field of the variant at hand.
+    /// Does nothing. It calls `in_forms` on each field, as by
+    /// `(&self.name, self.count).in_forms()`, and in an enum on each field of the variant at hand.
     fn in_forms_repr(&self)
         ensures { Self.As.shape.fits (Self.repr self.now) };
 }

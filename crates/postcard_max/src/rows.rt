@@ -74,7 +74,8 @@ impl<A: MaxSize, R: MaxParts> SizeBound for Part<A, R> {
         <Part<A, R> as MaxParts>::parts_size()
     }
 
-    ghost bounded = { group_bounded _ _ (then_bounded A.greatest R.greatest _ _ A.bounded R.bounded) };
+    ghost bounded = { group_bounded _ _
+        (then_bounded A.greatest R.greatest _ _ A.bounded R.bounded) };
 
     ghost is_reached = { λ r. group_reached _ _
         (then_reached A.greatest R.greatest _ _ (A.is_reached r.0) (R.is_reached r.1)) };

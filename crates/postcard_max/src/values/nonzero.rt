@@ -1,18 +1,8 @@
 //! The greatest sizes of numbers that aren't 0: as the number.
 
 ghost use Rattle.std.specs.Prelude.{Some, ⊤, refl};
-ghost use Rattle.std.proofs.Common.{inl, inr, pos};
-ghost use Rattle.postcard_wire.specs.Reading.{IsByte, IsNum, IsInt};
-ghost use Rattle.postcard_wire.specs.Tree.{Byte, Num, Int};
-ghost use Rattle.postcard_max.specs.Leaves.{
-  byte_bounded,
-  num_bounded,
-  int_bounded,
-  without_bounded,
-  nonzero_byte_reached,
-  nonzero_num_reached,
-  nonzero_int_reached,
-};
+ghost use Rattle.std.proofs.Common.{inl, inr};
+ghost use Rattle.postcard_max.specs.Leaves.{nonzero_byte_bounded, nonzero_byte_reached, nonzero_num_bounded, nonzero_num_reached, nonzero_int_bounded, nonzero_int_reached};
 
 use crate::max_size::MaxSize;
 use std::num::{
@@ -34,7 +24,7 @@ impl MaxSize for NonZeroU8 {
         let _value = self.get();
     }
 
-    ghost bounded = { without_bounded (Byte 0) 1 IsByte byte_bounded };
+    ghost bounded = { nonzero_byte_bounded };
 
     ghost is_reached = { λ _. nonzero_byte_reached };
 }
@@ -53,7 +43,7 @@ impl MaxSize for NonZeroU16 {
         let _value = self.get();
     }
 
-    ghost bounded = { without_bounded (Num 16 0) 3 (IsNum 16) (num_bounded 16 (inl refl)) };
+    ghost bounded = { nonzero_num_bounded 16 (inl refl) };
 
     ghost is_reached = { λ _. nonzero_num_reached 16 (inl refl) };
 }
@@ -72,7 +62,7 @@ impl MaxSize for NonZeroU32 {
         let _value = self.get();
     }
 
-    ghost bounded = { without_bounded (Num 32 0) 5 (IsNum 32) (num_bounded 32 (inr (inl refl))) };
+    ghost bounded = { nonzero_num_bounded 32 (inr (inl refl)) };
 
     ghost is_reached = { λ _. nonzero_num_reached 32 (inr (inl refl)) };
 }
@@ -91,7 +81,7 @@ impl MaxSize for NonZeroU64 {
         let _value = self.get();
     }
 
-    ghost bounded = { without_bounded (Num 64 0) 10 (IsNum 64) (num_bounded 64 (inr (inr (inl refl)))) };
+    ghost bounded = { nonzero_num_bounded 64 (inr (inr (inl refl))) };
 
     ghost is_reached = { λ _. nonzero_num_reached 64 (inr (inr (inl refl))) };
 }
@@ -110,7 +100,7 @@ impl MaxSize for NonZeroU128 {
         let _value = self.get();
     }
 
-    ghost bounded = { without_bounded (Num 128 0) 19 (IsNum 128) (num_bounded 128 (inr (inr (inr refl)))) };
+    ghost bounded = { nonzero_num_bounded 128 (inr (inr (inr refl))) };
 
     ghost is_reached = { λ _. nonzero_num_reached 128 (inr (inr (inr refl))) };
 }
@@ -129,7 +119,7 @@ impl MaxSize for NonZeroUsize {
         let _value = self.get();
     }
 
-    ghost bounded = { without_bounded (Num 64 0) 10 (IsNum 64) (num_bounded 64 (inr (inr (inl refl)))) };
+    ghost bounded = { nonzero_num_bounded 64 (inr (inr (inl refl))) };
 
     ghost is_reached = { λ _. nonzero_num_reached 64 (inr (inr (inl refl))) };
 }
@@ -148,7 +138,7 @@ impl MaxSize for NonZeroI8 {
         let _value = self.get();
     }
 
-    ghost bounded = { without_bounded (Byte 0) 1 IsByte byte_bounded };
+    ghost bounded = { nonzero_byte_bounded };
 
     ghost is_reached = { λ _. nonzero_byte_reached };
 }
@@ -167,7 +157,7 @@ impl MaxSize for NonZeroI16 {
         let _value = self.get();
     }
 
-    ghost bounded = { without_bounded (Int 16 (pos 0)) 3 (IsInt 16) (int_bounded 16 (inl refl)) };
+    ghost bounded = { nonzero_int_bounded 16 (inl refl) };
 
     ghost is_reached = { λ _. nonzero_int_reached 16 (inl refl) };
 }
@@ -186,7 +176,7 @@ impl MaxSize for NonZeroI32 {
         let _value = self.get();
     }
 
-    ghost bounded = { without_bounded (Int 32 (pos 0)) 5 (IsInt 32) (int_bounded 32 (inr (inl refl))) };
+    ghost bounded = { nonzero_int_bounded 32 (inr (inl refl)) };
 
     ghost is_reached = { λ _. nonzero_int_reached 32 (inr (inl refl)) };
 }
@@ -205,7 +195,7 @@ impl MaxSize for NonZeroI64 {
         let _value = self.get();
     }
 
-    ghost bounded = { without_bounded (Int 64 (pos 0)) 10 (IsInt 64) (int_bounded 64 (inr (inr (inl refl)))) };
+    ghost bounded = { nonzero_int_bounded 64 (inr (inr (inl refl))) };
 
     ghost is_reached = { λ _. nonzero_int_reached 64 (inr (inr (inl refl))) };
 }
@@ -224,7 +214,7 @@ impl MaxSize for NonZeroI128 {
         let _value = self.get();
     }
 
-    ghost bounded = { without_bounded (Int 128 (pos 0)) 19 (IsInt 128) (int_bounded 128 (inr (inr (inr refl)))) };
+    ghost bounded = { nonzero_int_bounded 128 (inr (inr (inr refl))) };
 
     ghost is_reached = { λ _. nonzero_int_reached 128 (inr (inr (inr refl))) };
 }
@@ -243,7 +233,7 @@ impl MaxSize for NonZeroIsize {
         let _value = self.get();
     }
 
-    ghost bounded = { without_bounded (Int 64 (pos 0)) 10 (IsInt 64) (int_bounded 64 (inr (inr (inl refl)))) };
+    ghost bounded = { nonzero_int_bounded 64 (inr (inr (inl refl))) };
 
     ghost is_reached = { λ _. nonzero_int_reached 64 (inr (inr (inl refl))) };
 }

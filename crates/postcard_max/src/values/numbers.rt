@@ -1,7 +1,7 @@
 //! The greatest sizes of numbers of a fixed width.
 //!
-//! In each `in_forms` the value is read for the prover, which learns from it that the number has its
-//! width.
+//! In each `in_forms` the value is read for the prover, which learns from it that the number has
+//! its width.
 
 ghost use Rattle.std.specs.Prelude.{Some, ⊤, refl};
 ghost use Rattle.std.proofs.Common.{inl, inr};
