@@ -1,5 +1,5 @@
 -- The greatest sizes of enums: the greatest of the variants', each with its index (wire format 1.0, "newtype_variant").
-use Rattle.std.proofs.Common.{◌≡◌, ℕ, zero, suc, ◌+◌, ◌<◌, ◌≤◌, ◌^◌, inl, inr, Option, Some, None, true, false, length, refl, ap, subst, arith, length-append, nat_lt, sym, ◌∙◌}
+use Rattle.std.proofs.Common.{◌≡◌, ℕ, zero, suc, ◌+◌, ◌<◌, ◌≤◌, ◌^◌, inl, inr, Option, Some, None, true, false, refl, ap, subst, arith, length-append, nat_lt, sym, ◌∙◌}
 use Rattle.std.specs.Prelude.{max, if◌then◌else◌, IfSome}
 use Rattle.std.proofs.lemmas.Bool.{cases_lt}
 use Rattle.postcard_wire.specs.Number.{digits}
@@ -7,9 +7,9 @@ use Rattle.postcard_wire.specs.Tree.{Tree, Variant}
 use Rattle.postcard_wire.specs.Spelling.{bytes}
 use Rattle.postcard_wire.specs.Reading.{IsVariant}
 use Rattle.postcard_shape.specs.Cases.{case_reads}
-use Rattle.postcard_max.specs.Sizes.{sum_of, greater_of, index_len, limited}
+use Rattle.postcard_max.specs.Sizes.{sum_of, greater_of, varint_len, index_len, limited}
 use Rattle.postcard_max.specs.Limits.{AreBounded, IsReached, tree_len}
-use Rattle.postcard_max.specs.Counts.{some_count}
+use Rattle.postcard_max.specs.Counts.{some_count, count_len}
 
 -- The greatest size of the variants from the index i on, from that of the first one's content and those after it.
 abbrev pub case_greatest : Option ℕ → (Option ℕ → Option ℕ) → Option ℕ → Option ℕ
@@ -55,8 +55,8 @@ no_case_reached None = refl
 no_case_reached (Some i) = λ h. absurd (omega (arith, h))
 
 -- A variant takes its index and its content.
-variant_len : (i : ℕ) (t : Tree) → tree_len (Variant i t) ≡ length (digits i) + tree_len t
-variant_len i t = length-append (digits i) (bytes t)
+variant_len : (i : ℕ) (t : Tree) → tree_len (Variant i t) ≡ varint_len i + tree_len t
+variant_len i t = omega (arith, count_len i, length-append (digits i) (bytes t))
 
 -- Those after the first.
 later_bounded : (i : ℕ) (g : Option ℕ → Option ℕ) (reads : ℕ → Tree → Type 0) → ((k : Option ℕ) → CasesBounded k (g k) reads) → FromBounded (i + 1) (g (limited (i + 1))) reads
@@ -72,7 +72,7 @@ later_reached i g reads = elim (nat_lt (i + 1) (2 ^ 64)) as (λ v. CasesReached 
 ]
 
 longest_case : (i a b : ℕ) (s : Tree → Type 0) (r : ℕ → Tree → Type 0) → ((t : Tree) → s t → tree_len t ≤ a) → ((j : ℕ) (t : Tree) → r j t → tree_len (Variant (i + 1 + j) t) ≤ b)
-    → (j : ℕ) (t : Tree) → case_reads s r j t → tree_len (Variant (i + j) t) ≤ max (length (digits i) + a) b
+    → (j : ℕ) (t : Tree) → case_reads s r j t → tree_len (Variant (i + j) t) ≤ max (varint_len i + a) b
 longest_case i a b s r h k zero t f =
     let e : i + 0 ≡ i = omega arith in
     rw e (omega (arith, variant_len i t, h t f))
@@ -80,13 +80,13 @@ longest_case i a b s r h k (suc j) t f =
     let e : i + suc j ≡ i + 1 + j = omega arith in
     rw e (omega (arith, k j t f))
 
-first_bounded : (i a : ℕ) (q : Option ℕ) (s : Tree → Type 0) (r : ℕ → Tree → Type 0) → ((t : Tree) → s t → tree_len t ≤ a) → FromBounded (i + 1) q r → FromBounded i (greater_of (limited (length (digits i) + a)) q) (case_reads s r)
-first_bounded i a q s r h k = elim (nat_lt (length (digits i) + a) (2 ^ 64)) as (λ v. FromBounded i (greater_of (if v then Some (length (digits i) + a) else None) q) (case_reads s r)) [
+first_bounded : (i a : ℕ) (q : Option ℕ) (s : Tree → Type 0) (r : ℕ → Tree → Type 0) → ((t : Tree) → s t → tree_len t ≤ a) → FromBounded (i + 1) q r → FromBounded i (greater_of (limited (varint_len i + a)) q) (case_reads s r)
+first_bounded i a q s r h k = elim (nat_lt (varint_len i + a) (2 ^ 64)) as (λ v. FromBounded i (greater_of (if v then Some (varint_len i + a) else None) q) (case_reads s r)) [
   | true ↦ with_others q k
   | false ↦ tt
 ]
   where
-    with_others : (q : Option ℕ) → FromBounded (i + 1) q r → FromBounded i (greater_of (Some (length (digits i) + a)) q) (case_reads s r)
+    with_others : (q : Option ℕ) → FromBounded (i + 1) q r → FromBounded i (greater_of (Some (varint_len i + a)) q) (case_reads s r)
     with_others None k = tt
     with_others (Some b) k = longest_case i a b s r h k
 
@@ -98,8 +98,8 @@ case_bounded None g s r h k (Some i) = tt
 case_bounded (Some a) g s r h k (Some i) = first_bounded i a (g (limited (i + 1))) s r h (later_bounded i g r k)
 
 longer_case : (i a b : ℕ) (s : Tree → Type 0) (r : ℕ → Tree → Type 0) → i < 2 ^ 32 → ((t : Tree) × s t × (tree_len t ≡ a)) → FromReached (i + 1) (Some b) r
-    → FromReached i (Some (max (length (digits i) + a) b)) (case_reads s r)
-longer_case i a b s r few (t, f, d) k _ = elim (cases_lt (length (digits i) + a) b) [
+    → FromReached i (Some (max (varint_len i + a) b)) (case_reads s r)
+longer_case i a b s r few (t, f, d) k _ = elim (cases_lt (varint_len i + a) b) [
   | inl less ↦
       let (j, u, p, low, e) = k (omega (arith, less)) in
       (suc j, u, p, omega (arith, low), ap (λ (n : ℕ). tree_len (Variant n u)) (next j) ∙ (e ∙ omega (arith, less)))
@@ -112,13 +112,13 @@ longer_case i a b s r few (t, f, d) k _ = elim (cases_lt (length (digits i) + a)
     here : i + 0 ≡ i
     here = omega arith
 
-first_reached : (i a : ℕ) (q : Option ℕ) (s : Tree → Type 0) (r : ℕ → Tree → Type 0) → i < 2 ^ 32 → ((t : Tree) × s t × (tree_len t ≡ a)) → FromReached (i + 1) q r → FromReached i (greater_of (limited (length (digits i) + a)) q) (case_reads s r)
-first_reached i a q s r few h k = elim (nat_lt (length (digits i) + a) (2 ^ 64)) as (λ v. FromReached i (greater_of (if v then Some (length (digits i) + a) else None) q) (case_reads s r)) [
+first_reached : (i a : ℕ) (q : Option ℕ) (s : Tree → Type 0) (r : ℕ → Tree → Type 0) → i < 2 ^ 32 → ((t : Tree) × s t × (tree_len t ≡ a)) → FromReached (i + 1) q r → FromReached i (greater_of (limited (varint_len i + a)) q) (case_reads s r)
+first_reached i a q s r few h k = elim (nat_lt (varint_len i + a) (2 ^ 64)) as (λ v. FromReached i (greater_of (if v then Some (varint_len i + a) else None) q) (case_reads s r)) [
   | true ↦ with_others q k
   | false ↦ tt
 ]
   where
-    with_others : (q : Option ℕ) → FromReached (i + 1) q r → FromReached i (greater_of (Some (length (digits i) + a)) q) (case_reads s r)
+    with_others : (q : Option ℕ) → FromReached (i + 1) q r → FromReached i (greater_of (Some (varint_len i + a)) q) (case_reads s r)
     with_others None k = tt
     with_others (Some b) k = longer_case i a b s r few h k
 
@@ -138,12 +138,12 @@ variants_bounded (Some m) reads h = λ t (j, s, e, few, r). rw e (subst (λ (n :
 
 some_bytes : (a : Option ℕ) (q : Option ℕ) → IfSome (greater_of (sum_of (index_len (Some 0)) a) q) (λ m. 1 ≤ m)
 some_bytes None q = tt
-some_bytes (Some a) q = elim (nat_lt (length (digits 0) + a) (2 ^ 64)) as (λ v. IfSome (greater_of (if v then Some (length (digits 0) + a) else None) q) (λ m. 1 ≤ m)) [
+some_bytes (Some a) q = elim (nat_lt (varint_len 0 + a) (2 ^ 64)) as (λ v. IfSome (greater_of (if v then Some (varint_len 0 + a) else None) q) (λ m. 1 ≤ m)) [
   | true ↦ with_others q
   | false ↦ tt
 ]
   where
-    with_others : (q : Option ℕ) → IfSome (greater_of (Some (length (digits 0) + a)) q) (λ m. 1 ≤ m)
+    with_others : (q : Option ℕ) → IfSome (greater_of (Some (varint_len 0 + a)) q) (λ m. 1 ≤ m)
     with_others None = tt
     with_others (Some b) = omega (arith, some_count 0)
 

@@ -10,9 +10,9 @@ use Rattle.postcard_wire.specs.Spelling.{bytes, bytes_all}
 use Rattle.postcard_wire.specs.Reading.{IsOption, IsArray, IsVariant, Each}
 use Rattle.postcard_shape.specs.Fixed.{IsFewSeq}
 use Rattle.postcard_shape.specs.Options.{ResultReads}
-use Rattle.postcard_max.specs.Sizes.{limited, sum_of, times, greater_of}
+use Rattle.postcard_max.specs.Sizes.{limited, sum_of, times, greater_of, varint_len}
 use Rattle.postcard_max.specs.Limits.{AreBounded, IsReached, tree_len, limited_bounded, limited_reached}
-use Rattle.postcard_max.specs.Counts.{longer_counts, one_count}
+use Rattle.postcard_max.specs.Counts.{longer_counts, count_len, one_count}
 
 -- An option takes one byte, and what is in it.
 longest_option : (m : ℕ) (reads : Tree → Type 0) → ((t : Tree) → reads t → tree_len t ≤ m) → (t : Tree) → IsOption reads t → tree_len t ≤ 1 + m
@@ -90,21 +90,21 @@ counted_bounded n d reads h = elim (nat_lt n (2 ^ 64)) as (λ v. AreBounded (sum
 counted_reached : (n d : ℕ) (reads : Tree → Type 0) → ((t : Tree) × reads t × (tree_len t ≡ n + d)) → IsReached (sum_of (limited n) (Some d)) reads
 counted_reached n d reads h = elim (nat_lt n (2 ^ 64)) as (λ v. IsReached (sum_of (if v then Some n else None) (Some d)) reads) [ true ↦ limited_reached tree_len (n + d) reads h | false ↦ tt ]
 
-longest_few : (cap m : ℕ) (reads : Tree → Type 0) → ((t : Tree) → reads t → tree_len t ≤ m) → (t : Tree) → IsFewSeq cap reads t → tree_len t ≤ cap * m + length (digits cap)
+longest_few : (cap m : ℕ) (reads : Tree → Type 0) → ((t : Tree) → reads t → tree_len t ≤ m) → (t : Tree) → IsFewSeq cap reads t → tree_len t ≤ cap * m + varint_len cap
 longest_few cap m reads h t f =
     let p : count f.0 * m ≤ cap * m = mul-le-mul_right m f.2 in
     rw f.1 (omega (arith, p, longer_counts (count f.0) cap f.2, each_bounded m reads h f.0 f.4, length-append (digits (count f.0)) (bytes_all f.0)))
 
-pub few_bounded : (cap : ℕ) (g : Option ℕ) (reads : Tree → Type 0) → AreBounded g reads → AreBounded (sum_of (times cap g) (Some (length (digits cap)))) (IsFewSeq cap reads)
+pub few_bounded : (cap : ℕ) (g : Option ℕ) (reads : Tree → Type 0) → AreBounded g reads → AreBounded (sum_of (times cap g) (Some (varint_len cap))) (IsFewSeq cap reads)
 few_bounded cap None reads h = tt
-few_bounded cap (Some m) reads h = counted_bounded (cap * m) (length (digits cap)) (IsFewSeq cap reads) (longest_few cap m reads h)
+few_bounded cap (Some m) reads h = counted_bounded (cap * m) (varint_len cap) (IsFewSeq cap reads) (longest_few cap m reads h)
 
-pub few_reached : (cap : ℕ) → cap < 2 ^ 64 → (g : Option ℕ) (reads : Tree → Type 0) → IsReached g reads → IsReached (sum_of (times cap g) (Some (length (digits cap)))) (IsFewSeq cap reads)
+pub few_reached : (cap : ℕ) → cap < 2 ^ 64 → (g : Option ℕ) (reads : Tree → Type 0) → IsReached g reads → IsReached (sum_of (times cap g) (Some (varint_len cap))) (IsFewSeq cap reads)
 few_reached cap fits None reads h = tt
 few_reached cap fits (Some m) reads h =
     let c = copies_count cap h.0 in
-    counted_reached (cap * m) (length (digits cap)) (IsFewSeq cap reads) (
+    counted_reached (cap * m) (varint_len cap) (IsFewSeq cap reads) (
       Seq (copies cap h.0),
       (copies cap h.0, refl, omega arith, omega (arith, c, fits), copies_each reads cap h.0 h.1),
-      omega (arith, copies_length cap m h.0 h.2, length-append (digits (count (copies cap h.0))) (bytes_all (copies cap h.0)), ap (λ n. length (digits n)) c),
+      omega (arith, copies_length cap m h.0 h.2, length-append (digits (count (copies cap h.0))) (bytes_all (copies cap h.0)), ap (λ n. length (digits n)) c, count_len cap),
     )

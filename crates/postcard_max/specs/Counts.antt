@@ -1,7 +1,8 @@
 -- How many bytes the count of a list or the index of a variant takes.
-use Rattle.std.proofs.Common.{◌≡◌, ℕ, zero, suc, ◌/◌, ◌<◌, ◌≤◌, inl, inr, length, arith}
+use Rattle.std.proofs.Common.{◌≡◌, ℕ, zero, suc, ◌/◌, ◌<◌, ◌≤◌, inl, inr, length, refl, arith}
 use Rattle.std.proofs.lemmas.Bool.{cases_lt}
 use Rattle.postcard_wire.specs.Number.{digits, digits_within}
+use Rattle.postcard_max.specs.Sizes.{varint_len}
 use Rattle.postcard_wire.proofs.Numbers.{one_digit, more_digits}
 
 -- A number has some digit.
@@ -22,8 +23,13 @@ more_for_more (suc k) a b h = elim (cases_lt a 128) [
       rw (more_digits k a large, more_digits k b q) (omega (arith, more_for_more k (a / 128) (b / 128) d))
 ]
 
+-- The bytes of a number are its fewest digits.
+pub count_len : (n : ℕ) → length (digits n) ≡ varint_len n
+unfolding digits
+count_len n = refl
+
 -- A greater number has no fewer digits.
-pub longer_counts : (a b : ℕ) → a ≤ b → length (digits a) ≤ length (digits b)
+pub longer_counts : (a b : ℕ) → a ≤ b → length (digits a) ≤ varint_len b
 unfolding digits
 longer_counts a b h = more_for_more 18 a b h
 
@@ -33,6 +39,5 @@ unfolding digits
 one_count i h = rw (one_digit 18 i h)
 
 -- Any number has at least one.
-pub some_count : (n : ℕ) → 1 ≤ length (digits n)
-unfolding digits
+pub some_count : (n : ℕ) → 1 ≤ varint_len n
 some_count n = some_digits 18 n

@@ -14,9 +14,9 @@ use Rattle.postcard_wire.proofs.Writing.{reached, few_32, few_64}
 use Rattle.postcard_shape.specs.Fixed.{IsShortText}
 use Rattle.postcard_shape.specs.Numbers.{IsSpan, Without}
 use Rattle.postcard_shape.specs.One.{byte_same}
-use Rattle.postcard_max.specs.Sizes.{sum_of}
+use Rattle.postcard_max.specs.Sizes.{sum_of, varint_len}
 use Rattle.postcard_max.specs.Limits.{AreBounded, IsReached, tree_len, limited_bounded, limited_reached}
-use Rattle.postcard_max.specs.Counts.{longer_counts, one_count}
+use Rattle.postcard_max.specs.Counts.{longer_counts, count_len, one_count}
 
 -- A byte takes one byte.
 pub byte_bounded : AreBounded (Some 1) IsByte
@@ -104,11 +104,11 @@ unfolding digits
 span_reached = (Group (Then (Num 64 18446744073709551615) (Then (Num 32 999999999) NoTrees)), (18446744073709551615, 999999999, refl, omega arith, omega arith, omega arith), refl)
 
 -- A text of at most cap bytes takes these and their count.
-longest_text : (cap : ℕ) → (t : Tree) → IsShortText cap t → tree_len t ≤ cap + length (digits cap)
+longest_text : (cap : ℕ) → (t : Tree) → IsShortText cap t → tree_len t ≤ cap + varint_len cap
 longest_text cap t f = rw f.1 (omega (arith, longer_counts (length f.0) cap f.2, length-append (digits (length f.0)) f.0))
 
-pub short_bounded : (cap : ℕ) → AreBounded (sum_of (Some cap) (Some (length (digits cap)))) (IsShortText cap)
-short_bounded cap = limited_bounded tree_len (cap + length (digits cap)) (IsShortText cap) (longest_text cap)
+pub short_bounded : (cap : ℕ) → AreBounded (sum_of (Some cap) (Some (varint_len cap))) (IsShortText cap)
+short_bounded cap = limited_bounded tree_len (cap + varint_len cap) (IsShortText cap) (longest_text cap)
 
 letters : ℕ → List ℕ
 letters zero = []
@@ -125,11 +125,11 @@ letters_low zero i = omega arith
 letters_low (suc n) zero = omega arith
 letters_low (suc n) (suc i) = letters_low n i
 
-pub short_reached : (cap : ℕ) → cap < 2 ^ 64 → IsReached (sum_of (Some cap) (Some (length (digits cap)))) (IsShortText cap)
+pub short_reached : (cap : ℕ) → cap < 2 ^ 64 → IsReached (sum_of (Some cap) (Some (varint_len cap))) (IsShortText cap)
 short_reached cap fits =
     let l = letters_length cap in
-    limited_reached tree_len (cap + length (digits cap)) (IsShortText cap) (
+    limited_reached tree_len (cap + varint_len cap) (IsShortText cap) (
       Text (letters cap),
       (letters cap, refl, omega arith, IsUtf8-from_ascii (letters cap) (letters_low cap), omega (arith, l, fits)),
-      omega (arith, ap (λ n. length (digits n)) l, length-append (digits (length (letters cap))) (letters cap)),
+      omega (arith, ap (λ n. length (digits n)) l, count_len cap, length-append (digits (length (letters cap))) (letters cap)),
     )

@@ -1,6 +1,6 @@
 -- The greatest size of an encoding, in bytes: a number of 64 bits, or none where there is no such number.
 use Rattle.std.specs.Prelude.{ℕ, ◌+◌, ◌*◌, ◌^◌, nat_lt, max, if◌then◌else◌, length, List, [], ◌∷◌, Option, Some, None}
-use Rattle.postcard_wire.specs.Number.{digits}
+use Rattle.postcard_wire.specs.Number.{digits_within}
 
 -- The number, or none where it takes more than 64 bits.
 abbrev pub limited : ℕ → Option ℕ
@@ -28,7 +28,12 @@ abbrev pub sum_all : List (Option ℕ) → Option ℕ
 sum_all [] = Some 0
 sum_all (g ∷ gs) = sum_of g (sum_all gs)
 
+-- The number of bytes of a number as a varint: that of the fewest digits that spell it. Unlike `length (digits n)`, which it
+-- is, it computes in a user's proof.
+abbrev pub varint_len : ℕ → ℕ
+varint_len n = length (digits_within 18 n)
+
 -- The number of bytes of an index as a varint.
 abbrev pub index_len : Option ℕ → Option ℕ
 index_len None = None
-index_len (Some i) = Some (length (digits i))
+index_len (Some i) = Some (varint_len i)

@@ -2,10 +2,9 @@
 //! nothing: their contracts are the laws.
 
 ghost use Rattle.std.specs.Prelude.{◌≡◌, ◌≤◌, length, Some, IfSome, [], ◌∷◌};
-ghost use Rattle.postcard_wire.specs.Number.{digits};
 ghost use Rattle.postcard_wire.specs.Spelling.{bytes};
 ghost use Rattle.postcard_max.specs.Limits.{AreBounded, IsReached};
-ghost use Rattle.postcard_max.specs.Sizes.{sum_of, sum_all, times, greater_of};
+ghost use Rattle.postcard_max.specs.Sizes.{sum_of, sum_all, times, greater_of, varint_len};
 
 use crate::max_size::MaxSize;
 use arrayvec::{ArrayString, ArrayVec};
@@ -181,10 +180,10 @@ pub fn table<
     ensures nonzero_isize { (⟦<NonZeroIsize as MaxSize>⟧.greatest ≡ Some 10)
         × ⟦<NonZeroIsize as MaxSize>⟧.reached }
     ensures vector { ⟦<ArrayVec<A, N> as MaxSize>⟧.greatest
-        ≡ sum_of (times N A.greatest) (Some (length (digits N))) }
+        ≡ sum_of (times N A.greatest) (Some (varint_len N)) }
     ensures vector_reached { A.reached → ⟦<ArrayVec<A, N> as MaxSize>⟧.reached }
     ensures short_text { ⟦<ArrayString<N> as MaxSize>⟧.greatest
-        ≡ sum_of (Some N) (Some (length (digits N))) }
+        ≡ sum_of (Some N) (Some (varint_len N)) }
     ensures short_text_reached { ⟦<ArrayString<N> as MaxSize>⟧.reached }
 {
     // For the prover: `N` fits 64 bits.

@@ -2,9 +2,8 @@
 //!
 //! Each is `None` if a size is, or if the number does not fit `usize`.
 
-ghost use Rattle.std.specs.Prelude.{◌≡◌, length};
-ghost use Rattle.postcard_wire.specs.Number.{digits};
-ghost use Rattle.postcard_max.specs.Sizes.{sum_of, times, greater_of};
+ghost use Rattle.std.specs.Prelude.{◌≡◌};
+ghost use Rattle.postcard_max.specs.Sizes.{sum_of, times, greater_of, varint_len as len_of};
 
 use postcard_wire::varint::varint_usize;
 
@@ -39,8 +38,9 @@ pub fn greater(first: Option<usize>, second: Option<usize>) -> Option<usize>
 }
 
 /// Returns the number of bytes of `number` as a varint, from 1 to 10.
+#[tactic(auto, unfolding(postcard_wire::specs::Number::digits))]
 pub fn varint_len(number: usize) -> usize
-    ensures { result ≡ length (digits number) }
+    ensures { result ≡ len_of number }
 {
     varint_usize(number, &mut [0; 10]).len()
 }

@@ -1,8 +1,7 @@
 //! The greatest sizes of arrays, and of vectors and texts of a fixed capacity.
 
-ghost use Rattle.std.specs.Prelude.{Some, ◌<◌, ◌^◌, length};
+ghost use Rattle.std.specs.Prelude.{Some, ◌<◌, ◌^◌};
 ghost use Rattle.postcard_shape.specs.Lists.{AllFit};
-ghost use Rattle.postcard_wire.specs.Number.{digits};
 ghost use Rattle.postcard_max.specs.Containers.{
   array_bounded,
   array_reached,
@@ -10,7 +9,7 @@ ghost use Rattle.postcard_max.specs.Containers.{
   few_reached,
 };
 ghost use Rattle.postcard_max.specs.Leaves.{short_bounded, short_reached};
-ghost use Rattle.postcard_max.specs.Sizes.{sum_of, times};
+ghost use Rattle.postcard_max.specs.Sizes.{sum_of, times, varint_len as len_of};
 
 use crate::max_size::MaxSize;
 use crate::sizes::{product, sum, varint_len};
@@ -46,7 +45,7 @@ impl<T: MaxSize, const N: usize> MaxSize for [T; N] {
 
 /// `CAP` times the size of an element, and the count `CAP` as a varint.
 impl<T: MaxSize, const CAP: usize> MaxSize for ArrayVec<T, CAP> {
-    ghost greatest = { sum_of (times CAP T.greatest) (Some (length (digits CAP))) };
+    ghost greatest = { sum_of (times CAP T.greatest) (Some (len_of CAP)) };
 
     ghost reached = { T.reached × (CAP < 2 ^ 64) };
 
@@ -66,7 +65,7 @@ impl<T: MaxSize, const CAP: usize> MaxSize for ArrayVec<T, CAP> {
 
 /// `CAP` bytes, and the count `CAP` as a varint.
 impl<const CAP: usize> MaxSize for ArrayString<CAP> {
-    ghost greatest = { sum_of (Some CAP) (Some (length (digits CAP))) };
+    ghost greatest = { sum_of (Some CAP) (Some (len_of CAP)) };
 
     ghost reached = { CAP < 2 ^ 64 };
 
