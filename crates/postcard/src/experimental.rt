@@ -4,6 +4,8 @@ ghost use Rattle.std.specs.Prelude.{◌≡◌, ◌<◌, ◌^◌, ◌↔◌, leng
 ghost use Rattle.postcard_wire.specs.Spelling.{bytes};
 ghost use Rattle.postcard_ser.specs.Writing.{AnswersRefusal};
 
+pub mod max_size;
+
 use crate::with_flavor::serialize_with_flavor;
 use postcard_ser::Serialize;
 use postcard_ser_flavors::Size;

@@ -6,7 +6,8 @@
 //!
 //! - `to_slice` and `fill_slice` write a value into a buffer (module `ser`).
 //! - `to_vec`, `to_allocvec`, `to_stdvec`, `to_extend`, `to_io` write it elsewhere, and `serialize_with_flavor` into any
-//!   flavor (module `with_flavor`); `experimental::serialized_size` counts its bytes.
+//!   flavor (module `with_flavor`); `experimental::serialized_size` counts its bytes, and `experimental::max_size` has the
+//!   greatest size of a type's encodings.
 //! - `to_slice_cobs`, `to_vec_cobs`, `to_allocvec_cobs`, `to_stdvec_cobs` and `to_allocvec_cobs_after` write a value as a
 //!   frame (module `cobs`).
 //! - `from_bytes` and `take_from_bytes` read a value from the front of a slice, `from_bytes_cobs` and

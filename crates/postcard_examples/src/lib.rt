@@ -7,6 +7,7 @@
 //! - [`percent`], [`interval`]: types that say their shape themselves. One refuses values that are
 //!   read, the other values that are written.
 //! - [`chain`]: a recursive type, written to a depth.
+//! - [`store`]: a struct and an enum that have a greatest size, and a store of that size.
 //! - [`flavor`], [`trailer`]: writing flavors. [`source`]: a reading source.
 //! - [`theorems`]: what a caller proves of its own functions.
 #![tactic(auto)]
@@ -21,6 +22,7 @@ pub mod percent;
 pub mod reading;
 pub mod source;
 pub mod station;
+pub mod store;
 #[cfg(test)]
 mod tests;
 pub mod theorems;

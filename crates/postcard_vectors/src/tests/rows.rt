@@ -17,6 +17,7 @@ mod readers;
 mod reading;
 mod scratch;
 mod serializer;
+mod sizes;
 mod streams;
 mod writers;
 mod writing;

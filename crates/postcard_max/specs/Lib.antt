@@ -1,0 +1,7 @@
+pub mod Sizes
+pub mod Limits
+pub mod Counts
+pub mod Leaves
+pub mod Containers
+pub mod Rows
+pub mod Cases

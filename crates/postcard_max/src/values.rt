@@ -1,0 +1,12 @@
+//! The greatest sizes of the types of std and of `arrayvec`, a module for each kind.
+
+mod fixed;
+mod nonzero;
+mod numbers;
+mod options;
+mod ranges;
+mod scalars;
+mod time;
+mod tuples;
+mod units;
+mod wrappers;

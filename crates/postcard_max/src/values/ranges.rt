@@ -1,0 +1,34 @@
+//! The greatest sizes of ranges: as the tuple of their ends.
+
+use crate::max_size::{MaxSize, MaxSizeRepr};
+use std::ops::{Range, RangeFrom, RangeInclusive, RangeTo};
+
+/// Twice the size of an end.
+impl<T: MaxSize> MaxSizeRepr for Range<T> {
+    fn in_forms_repr(&self) {
+        self.start.in_forms();
+        self.end.in_forms();
+    }
+}
+
+/// Twice the size of an end.
+impl<T: MaxSize> MaxSizeRepr for RangeInclusive<T> {
+    fn in_forms_repr(&self) {
+        self.start().in_forms();
+        self.end().in_forms();
+    }
+}
+
+/// The size of the start.
+impl<T: MaxSize> MaxSizeRepr for RangeFrom<T> {
+    fn in_forms_repr(&self) {
+        self.start.in_forms();
+    }
+}
+
+/// The size of the end.
+impl<T: MaxSize> MaxSizeRepr for RangeTo<T> {
+    fn in_forms_repr(&self) {
+        self.end.in_forms();
+    }
+}

@@ -1,0 +1,237 @@
+//! The greatest size of each type, and a value that takes it.
+
+ghost use Rattle.postcard_vectors.specs.declared.tests.rows.sizes.Choice.{Choice};
+
+use arrayvec::{ArrayString, ArrayVec};
+use postcard::experimental::max_size::sizes::{greater, product, sum, varint_len};
+use postcard::experimental::max_size::{MaxSize, MaxSizeRepr, fill_max_size, laws};
+use postcard::ser_flavors::Flavor;
+use postcard::{
+    Case, Error, NoCase, Repr, Result, Serialize, SerializeRepr, Serializer, serialize_variant,
+    to_slice,
+};
+use std::marker::PhantomData;
+use std::num::{
+    NonZeroI8, NonZeroI16, NonZeroI32, NonZeroI64, NonZeroI128, NonZeroIsize, NonZeroU8,
+    NonZeroU16, NonZeroU32, NonZeroU64, NonZeroU128, NonZeroUsize, Wrapping,
+};
+use std::process::Abort;
+use std::rc::Rc;
+use std::test::Fail;
+use std::time::Duration;
+
+/// A type with one value, which is written as the byte 0.
+struct One;
+
+impl Repr for One {
+    type As = u8;
+
+    ghost repr = { λ v. 0 };
+}
+
+impl SerializeRepr for One {
+    fn serialize_repr<F: Flavor>(&self, serializer: &mut Serializer<F>) -> Result<()> {
+        0u8.serialize(serializer)
+    }
+}
+
+impl MaxSizeRepr for One {
+    fn in_forms_repr(&self) {}
+}
+
+/// A struct of 3 and 2 bytes.
+struct Parts {
+    number: u16,
+    choice: Option<u8>,
+}
+
+impl Repr for Parts {
+    type As = (u16, Option<u8>);
+
+    ghost repr = { λ v. (v.number, v.choice) };
+}
+
+impl SerializeRepr for Parts {
+    fn serialize_repr<F: Flavor>(&self, serializer: &mut Serializer<F>) -> Result<()> {
+        (self.number, self.choice).serialize(serializer)
+    }
+}
+
+impl MaxSizeRepr for Parts {
+    fn in_forms_repr(&self) {
+        (self.number, self.choice).in_forms();
+    }
+}
+
+/// An enum of variants of 3 bytes and of 1 byte.
+enum Choice {
+    Wide(u16),
+    Narrow(u8),
+}
+
+impl Repr for Choice {
+    ghost use Rattle.postcard_shape.specs.declared.cases.Case.TheVariants.{This, Next};
+
+    type As = Case<u16, Case<u8, NoCase>>;
+
+    ghost repr = { elim [
+      | Choice.Wide number ↦ This number
+      | Choice.Narrow number ↦ Next (This number)
+    ] };
+}
+
+impl SerializeRepr for Choice {
+    fn serialize_repr<F: Flavor>(&self, serializer: &mut Serializer<F>) -> Result<()> {
+        match self {
+            Choice::Wide(number) => serialize_variant(0, number, serializer),
+            Choice::Narrow(number) => serialize_variant(1, number, serializer),
+        }
+    }
+}
+
+impl MaxSizeRepr for Choice {
+    fn in_forms_repr(&self) {
+        match self {
+            Choice::Wide(number) => number.in_forms(),
+            Choice::Narrow(number) => number.in_forms(),
+        }
+    }
+}
+
+/// The greatest size of the type is `size`, and the value takes it: a buffer of just that size holds
+/// it, and one that is a byte shorter doesn't.
+fn assert_takes<T: Serialize + MaxSize>(rt: &impl Abort, value: &T, size: usize) {
+    let mut buffer = [0; 700];
+    assert_eq!(rt; T::postcard_max_size(), Some(size));
+    value.in_forms();
+    laws::within_max_size(value);
+    assert_eq!(rt; fill_max_size(value, &mut buffer[..size]), Ok(size));
+    if let Some(shorter) = size.checked_sub(1) {
+        let short = &mut buffer[..shorter];
+        assert_eq!(rt;
+            to_slice(value, short).err(),
+            Some(Error::SerializeBufferFull),
+            "{size}"
+        );
+    }
+}
+
+#[test]
+fn numbers(rt: HostRuntime) {
+    assert_takes(&rt, &u8::MAX, 1);
+    assert_takes(&rt, &u16::MAX, 3);
+    assert_takes(&rt, &u32::MAX, 5);
+    assert_takes(&rt, &u64::MAX, 10);
+    assert_takes(&rt, &u128::MAX, 19);
+    assert_takes(&rt, &usize::MAX, 10);
+    assert_takes(&rt, &i8::MIN, 1);
+    assert_takes(&rt, &i16::MIN, 3);
+    assert_takes(&rt, &i32::MIN, 5);
+    assert_takes(&rt, &i64::MIN, 10);
+    assert_takes(&rt, &i128::MIN, 19);
+    assert_takes(&rt, &isize::MIN, 10);
+    assert_takes(&rt, &Wrapping(u32::MAX), 5);
+}
+
+#[test]
+fn numbers_but_zero(rt: HostRuntime) {
+    assert_takes(&rt, &NonZeroU8::MAX, 1);
+    assert_takes(&rt, &NonZeroU16::MAX, 3);
+    assert_takes(&rt, &NonZeroU32::MAX, 5);
+    assert_takes(&rt, &NonZeroU64::MAX, 10);
+    assert_takes(&rt, &NonZeroU128::MAX, 19);
+    assert_takes(&rt, &NonZeroUsize::MAX, 10);
+    assert_takes(&rt, &NonZeroI8::MIN, 1);
+    assert_takes(&rt, &NonZeroI16::MIN, 3);
+    assert_takes(&rt, &NonZeroI32::MIN, 5);
+    assert_takes(&rt, &NonZeroI64::MIN, 10);
+    assert_takes(&rt, &NonZeroI128::MIN, 19);
+    assert_takes(&rt, &NonZeroIsize::MIN, 10);
+}
+
+#[test]
+fn scalars_and_choices(rt: HostRuntime) {
+    let wide: std::result::Result<u16, u8> = Ok(u16::MAX);
+    assert_takes(&rt, &true, 1);
+    assert_takes(&rt, &'𐍈', 5);
+    assert_takes(&rt, &Some('𐍈'), 6);
+    assert_takes(&rt, &wide, 4);
+    assert_takes(&rt, &Choice::Wide(u16::MAX), 4);
+    assert_eq!(rt; fill_max_size(&Choice::Narrow(7), &mut [0; 4]), Ok(2));
+    assert_takes(&rt, &Duration::new(u64::MAX, 999_999_999), 15);
+}
+
+#[test]
+fn parts_in_a_row(rt: HostRuntime) {
+    assert_takes(&rt, &(), 0);
+    assert_takes(&rt, &PhantomData::<u8>, 0);
+    assert_takes(&rt, &(u16::MAX,), 3);
+    assert_takes(&rt, &(u16::MAX, true), 4);
+    assert_takes(&rt, &(1u8, u16::MAX, true), 5);
+    assert_takes(&rt, &(1u8, 2u8, u16::MAX, true), 6);
+    assert_takes(&rt, &(1u8, 2u8, 3u8, u16::MAX, true), 7);
+    assert_takes(&rt, &(1u8, 2u8, 3u8, 4u8, u16::MAX, true), 8);
+    assert_takes(&rt, &[u128::MAX; 3], 57);
+    assert_takes(&rt, &(i8::MIN..=i8::MAX), 2);
+    assert_takes(&rt, &(i16::MIN..i16::MAX), 6);
+    assert_takes(&rt, &(u16::MAX..), 3);
+    assert_takes(&rt, &(..u16::MAX), 3);
+    assert_takes(
+        &rt,
+        &Parts {
+            number: u16::MAX,
+            choice: Some(1),
+        },
+        5,
+    );
+}
+
+#[test]
+fn pointers(rt: HostRuntime) -> std::result::Result<(), Fail> {
+    let record = (u128::MAX, [1u8; 8]);
+    let mut number = u32::MAX;
+    assert_takes(&rt, &Box::new(rt.alloc(), record)?, 27);
+    assert_takes(&rt, &Rc::new(rt.alloc(), record)?, 27);
+    assert_takes(&rt, &&number, 5);
+    assert_takes(&rt, &&mut number, 5);
+    Ok(())
+}
+
+#[test]
+fn fixed_capacities(rt: HostRuntime) -> std::result::Result<(), Fail> {
+    let none: ArrayString<0> = ArrayString::from("")?;
+    let text: ArrayString<6> = ArrayString::from("helLO!")?;
+    assert_takes(&rt, &none, 1);
+    assert_takes(&rt, &text, 7);
+    assert_takes(&rt, &ArrayVec::from([u16::MAX; 200]), 602);
+    assert_takes(&rt, &ArrayVec::from([0u8; 1]), 2);
+    assert_takes(&rt, &ArrayVec::from([0u8; 2]), 3);
+    assert_takes(&rt, &ArrayVec::from([0u8; 127]), 128);
+    assert_takes(&rt, &ArrayVec::from([0u8; 128]), 130);
+    assert_takes(&rt, &ArrayVec::from([0u8; 129]), 131);
+    assert_eq!(rt; ArrayVec::<u8, 16383>::postcard_max_size(), Some(16385));
+    assert_eq!(rt; ArrayVec::<u8, 16384>::postcard_max_size(), Some(16387));
+    assert_eq!(rt; ArrayVec::<u8, 16385>::postcard_max_size(), Some(16388));
+    Ok(())
+}
+
+#[test]
+fn sizes_past_the_greatest_number(rt: HostRuntime) {
+    type Most = [One; usize::MAX];
+    assert_takes(&rt, &One, 1);
+    assert_eq!(rt; Most::postcard_max_size(), Some(usize::MAX));
+    assert_eq!(rt; <(Most, One)>::postcard_max_size(), None);
+    assert_eq!(rt; Option::<Most>::postcard_max_size(), None);
+    assert_eq!(rt;
+        std::result::Result::<u8, (Most, One)>::postcard_max_size(),
+        None
+    );
+}
+
+#[test]
+fn sizes_put_together(rt: HostRuntime) {
+    assert_eq!(rt; sum(Some(2), Some(3)), Some(5));
+    assert_eq!(rt; product(2, Some(3)), Some(6));
+    assert_eq!(rt; greater(Some(2), Some(3)), Some(3));
+    assert_eq!(rt; varint_len(128), 2);
+}
