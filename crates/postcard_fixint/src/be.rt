@@ -24,9 +24,9 @@ use std::marker::Model;
 /// It stands for the number where a value is made of others: in the tuple of a struct's fields, in
 /// a list, in an option. A contract sees it as the number.
 #[derive(Drop)]
-pub struct BE<T: FixInt>(T);
+pub struct BE<T>(T);
 
-impl<T: FixInt> Model for BE<T> {
+impl<T> Model for BE<T> {
     ghost Value = { T };
 
     ghost view = { λ v. v.0 };

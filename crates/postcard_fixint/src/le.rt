@@ -24,9 +24,9 @@ use std::marker::Model;
 /// It stands for the number where a value is made of others: in the tuple of a struct's fields, in
 /// a list, in an option. A contract sees it as the number.
 #[derive(Drop)]
-pub struct LE<T: FixInt>(T);
+pub struct LE<T>(T);
 
-impl<T: FixInt> Model for LE<T> {
+impl<T> Model for LE<T> {
     ghost Value = { T };
 
     ghost view = { λ v. v.0 };
