@@ -14,6 +14,8 @@
 //!   `take_from_bytes_cobs` from a frame in place (all of `postcard_frame`); `from_io` reads it from a reader (module `de`).
 //! - `CobsAccumulator` puts frames together from the pieces of a stream (module `accumulator`), and `read_frames` reads
 //!   all frames of a reader (both of `postcard_accumulator`).
+//! - `fixint` writes and reads numbers at their full width, the lowest or the highest byte first (all of
+//!   `postcard_fixint`).
 //! - What ties both directions together stands in `laws`.
 #![tactic(auto)]
 
@@ -36,6 +38,7 @@ pub use postcard_de::{
     SeqAccess, Shaped,
 };
 pub use postcard_de_flavors as de_flavors;
+pub use postcard_fixint as fixint;
 pub use postcard_frame::{from_bytes, from_bytes_cobs, take_from_bytes, take_from_bytes_cobs};
 pub use postcard_ser::{Serialize, SerializeRepr, Serializer, serialize_variant};
 pub use postcard_wire::{Error, Result};

@@ -8,6 +8,7 @@ mod appended;
 mod deserializer;
 mod devices;
 mod ends;
+mod fixint;
 mod flavors;
 mod frames;
 mod frames_read;

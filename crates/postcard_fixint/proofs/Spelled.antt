@@ -1,0 +1,19 @@
+-- What the bytes of an array are spelled as, and which bytes are a number.
+use Rattle.std.proofs.Common.{◌≡◌, ◌↔◌, ℕ, ◌<◌, ◌^◌, List, [], ◌∷◌, refl, sym, ap, ◌∙◌, subst}
+use Rattle.std.specs.Prelude.{map}
+use Rattle.postcard_wire.specs.Tree.{Byte, trees}
+use Rattle.postcard_wire.specs.Spelling.{bytes_all}
+use Rattle.postcard_fixint.specs.Base256.{AreNumber, Order}
+
+-- Bytes in a row are spelled as themselves.
+pub bytes_of_bytes : (bs : List ℕ) → bytes_all (trees (map Byte bs)) ≡ bs
+bytes_of_bytes [] = refl
+bytes_of_bytes (b ∷ bs) = ap (λ (x : List ℕ). b ∷ x) (bytes_of_bytes bs)
+
+-- The bytes of a number are the only ones that are it.
+pub only_bytes : (order : Order) (k n : ℕ) (p : List ℕ) → n < 256 ^ k → AreNumber order.value k n p ↔ (p ≡ order.spell k n)
+only_bytes order k n p f =
+    let made : AreNumber order.value k n (order.spell k n) = record { count = order.counts k n; bytes = order.bytes k n; value_is = order.worth k n f } in (
+      λ h. order.one p (order.spell k n) (h.count ∙ sym made.count) h.bytes made.bytes (h.value_is ∙ sym made.value_is),
+      λ e. subst (AreNumber order.value k n) (sym e) made,
+    )

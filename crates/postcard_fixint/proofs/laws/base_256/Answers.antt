@@ -1,0 +1,7 @@
+-- The laws are one lemma, of each order.
+use Rattle.postcard_fixint.specs.Base256.{little, big}
+use Rattle.postcard_fixint.proofs.Spelled.{only_bytes}
+use Rattle.postcard_fixint.proofs.laws.base_256.Goals as goal
+
+pub returns : goal.returns
+returns c = record { lowest_first = only_bytes little; highest_first = only_bytes big }

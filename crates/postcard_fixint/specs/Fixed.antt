@@ -1,0 +1,118 @@
+-- The shape of a number that is written as its bytes, as many as its type has (behaviour of postcard 1.1.3, module `fixint`).
+use Rattle.std.specs.Prelude.{◌≡◌, ℕ, suc, ◌-◌, ◌*◌, ◌<◌, ◌^◌, List, [], ◌∷◌, ℤ, pos, negsuc}
+use Rattle.std.proofs.Common.{refl, sym, ap, ap₂, ◌∙◌, arith}
+use Rattle.std.proofs.lemmas.Int.{ints}
+use Rattle.postcard_wire.specs.Number.{InRange}
+use Rattle.postcard_wire.specs.Tree.{Tree}
+use Rattle.postcard_shape.specs.Leaves.{byte}
+use Rattle.postcard_shape.specs.Lists.{array}
+use Rattle.postcard_shape.specs.Same.{HasOne, SameList}
+use Rattle.postcard_shape.specs.Shape.{Shape}
+use Rattle.postcard_fixint.specs.Base256.{Order}
+
+-- A type of numbers of a fixed width.
+pub record FixedWidth (V : Type 0) : Type 1 where
+  -- The number of its bytes.
+  pub size : ℕ
+  -- A number modulo 256 ^ size.
+  pub modulo : V → ℕ
+  -- The number is one of the type.
+  pub fits : V → Type 0
+  pub below : (v : V) → fits v → modulo v < 256 ^ size
+  pub one : (v w : V) → fits v → fits w → modulo v ≡ modulo w → v ≡ w
+
+-- Unsigned numbers of k bytes.
+abbrev pub unsigned : ℕ → FixedWidth ℕ
+unsigned k = record {
+  size = k;
+  modulo = λ n. n;
+  fits = λ n. n < 256 ^ k;
+  below = λ n f. f;
+  one = λ n m f g e. e;
+}
+
+-- A signed number of k bytes modulo 256 ^ k, where `negsuc n` is -n - 1: in two's complement.
+abbrev pub twos_complement : ℕ → ℤ → ℕ
+twos_complement k (pos n) = n
+twos_complement k (negsuc n) = 256 ^ k - suc n
+
+pub signed_below : (k w : ℕ) (z : ℤ) → 256 ^ k ≡ 2 * 2 ^ (w - 1) → InRange w z → twos_complement k z < 256 ^ k
+signed_below k w (pos n) e f = omega (arith, ints, f.0, f.1)
+signed_below k w (negsuc n) e f = omega (arith, ints, f.0, f.1)
+
+pub signed_one : (k w : ℕ) (y z : ℤ) → 256 ^ k ≡ 2 * 2 ^ (w - 1) → InRange w y → InRange w z → twos_complement k y ≡ twos_complement k z → y ≡ z
+signed_one k w (pos n) (pos m) h f g e = ap pos e
+signed_one k w (pos n) (negsuc m) h f g e = absurd (omega (arith, ints, f.0, f.1, g.0, g.1))
+signed_one k w (negsuc n) (pos m) h f g e = absurd (omega (arith, ints, f.0, f.1, g.0, g.1))
+signed_one k w (negsuc n) (negsuc m) h f g e = let i : n ≡ m = omega (arith, ints, f.0, f.1, g.0, g.1) in ap negsuc i
+
+-- Signed numbers of k bytes, which are w bits.
+abbrev pub signed : (k w : ℕ) → 256 ^ k ≡ 2 * 2 ^ (w - 1) → FixedWidth ℤ
+signed k w e = record {
+  size = k;
+  modulo = twos_complement k;
+  fits = InRange w;
+  below = λ z f. signed_below k w z e f;
+  one = λ y z f g h. signed_one k w y z e f g h;
+}
+
+same_list : (xs ys : List ℕ) → SameList (λ n m. n ≡ m) xs ys → xs ≡ ys
+same_list [] [] h = refl
+same_list [] (y ∷ ys) h = absurd h
+same_list (x ∷ xs) [] h = absurd h
+same_list (x ∷ xs) (y ∷ ys) h = ap₂ (λ n ns. n ∷ ns) h.0 (same_list xs ys h.1)
+
+-- The tree is the array of some bytes of which the number, modulo its width, is the value.
+abbrev pub IsFixed : {V : Type 0} → Order → FixedWidth V → Tree → V → Type 0
+IsFixed order width t v = (p : List ℕ) × (array width.size byte).value t p × (order.value p ≡ width.modulo v) × width.fits v
+
+pub fixed_one : {V : Type 0} (order : Order) (width : FixedWidth V) → HasOne (IsFixed order width) (λ v w. v ≡ w)
+fixed_one order width t v w (p, a, h, f) (q, b, k, g) =
+    let e : p ≡ q = same_list p q ((array width.size byte).one_value t p q a b) in
+    width.one v w f g (sym h ∙ (ap order.value e ∙ k))
+
+pub fixed_again : {V : Type 0} (order : Order) (width : FixedWidth V) (v : V) → width.fits v → let p = order.spell width.size (width.modulo v) in let t = (array width.size byte).tree p in (array width.size byte).reads t × IsFixed order width t v
+fixed_again order width v f =
+    let n = width.modulo v in
+    let p = order.spell width.size n in
+    let k = (array width.size byte).again p (order.counts width.size n, order.bytes width.size n) in
+    (k.0, (p, k.1, order.worth width.size n (width.below v f), f))
+
+-- A number of a fixed width as the array of its bytes.
+abbrev pub fixed : {V : Type 0} → Order → FixedWidth V → Shape V
+fixed order width = record {
+  tree = λ v. (array width.size byte).tree (order.spell width.size (width.modulo v));
+  refuses = λ v. ⊥;
+  text = ⊥;
+  reads = (array width.size byte).reads;
+  value = IsFixed order width;
+  same = λ v w. v ≡ w;
+  grows = ⊥;
+  fits = width.fits;
+  delimited = (array width.size byte).delimited;
+  well_formed = (array width.size byte).well_formed;
+  one_value = fixed_one order width;
+  again = fixed_again order width;
+}
+
+-- The shape is that of arrays of k bytes, where `list` is what is seen of one.
+pub record IsByteArray {B : Type 0} (s : Shape B) (list : B → List ℕ) (k : ℕ) : Type 0 where
+  pub tree : (b : B) → s.tree b ≡ (array k byte).tree (list b)
+  pub reads : (t : Tree) → s.reads t → (array k byte).reads t
+  pub all : (t : Tree) → (array k byte).reads t → s.reads t
+  pub value : (t : Tree) (b : B) → s.value t b → (array k byte).value t (list b)
+  pub accepted : (b : B) → s.refuses b → ⊥
+  pub silent : s.text → ⊥
+  pub fixed : s.grows → ⊥
+
+-- An array of k bytes is one.
+pub byte_array : (k : ℕ) → IsByteArray (array k byte) (λ xs. xs) k
+byte_array k = record {
+  tree = λ b. refl;
+  reads = λ t r. r;
+  all = λ t r. r;
+  value = λ t b h. h;
+  accepted = λ b h. h.4;
+  silent = λ h. h;
+  fixed = λ h. h;
+}

@@ -1,0 +1,2 @@
+pub mod Base256
+pub mod Fixed

@@ -1,0 +1,113 @@
+//! Numbers at their full width, the highest byte first: big-endian.
+
+ghost use Rattle.std.specs.Prelude.{◌≡◌, OnOk};
+ghost use Rattle.postcard_wire.specs.Spelling.{Spells};
+ghost use Rattle.postcard_shape.specs.Leaves.{byte};
+ghost use Rattle.postcard_shape.specs.Lists.{array};
+ghost use Rattle.postcard_ser.specs.Writing.{Wrote};
+ghost use Rattle.postcard_de.specs.Deserializer.{source_of};
+ghost use Rattle.postcard_de.specs.Reads.{Reads};
+ghost use Rattle.postcard_fixint.specs.Base256.{big};
+ghost use Rattle.postcard_fixint.specs.Fixed.{IsFixed, fixed};
+
+use crate::number::FixInt;
+use postcard_de::{Deserialize, DeserializeOwned, Deserializer};
+use postcard_ser::{Serialize, Serializer};
+use postcard_shape::Shaped;
+use postcard_wire::Result;
+use std::alloc::Global;
+use std::marker::Model;
+
+/// A number that is written as its bytes, the highest first: 2, 4, 8 or 16 of them, with nothing
+/// before them. A signed number is written in two's complement.
+///
+/// It stands for the number where a value is made of others: in the tuple of a struct's fields, in
+/// a list, in an option. A contract sees it as the number.
+#[derive(Drop)]
+pub struct BE<T>(T);
+
+impl<T> Model for BE<T> {
+    ghost Value = { T };
+
+    ghost view = { λ v. v.0 };
+}
+
+impl<T: FixInt> BE<T> {
+    /// Returns the number, to be written highest byte first.
+    pub fn new(value: T) -> BE<T>
+        ensures { result ≡ value }
+    {
+        BE(value)
+    }
+
+    /// Returns the number.
+    pub fn get(self) -> T
+        ensures { result ≡ self }
+    {
+        self.0
+    }
+}
+
+impl<T: FixInt> Shaped for BE<T> {
+    ghost shape = { fixed big T.width };
+}
+
+impl<T: FixInt> Serialize for BE<T> {
+    fn serialize<F: postcard_ser::Flavor>(&self, serializer: &mut Serializer<F>) -> Result<()> {
+        self.0.encode_be().serialize(serializer)
+    }
+}
+
+impl<'de, T: FixInt> Deserialize<'de> for BE<T> {
+    fn deserialize<F: postcard_de::Flavor>(
+        alloc: Global,
+        d: &mut Deserializer<'de, F>,
+    ) -> Result<Self> {
+        BE::deserialize_owned(alloc, d)
+    }
+}
+
+impl<T: FixInt> DeserializeOwned for BE<T> {
+    fn deserialize_owned<'de, F: postcard_de::Flavor>(
+        alloc: Global,
+        d: &mut Deserializer<'de, F>,
+    ) -> Result<Self> {
+        let bytes = T::Bytes::deserialize_owned(alloc, d)?;
+        Ok(BE(T::decode_be(bytes)))
+    }
+}
+
+/// Writes the 2, 4, 8 or 16 bytes of a number, the highest first, as [`BE`] does (behaviour of
+/// postcard 1.1.3).
+///
+/// # Errors
+///
+/// Fails with `SerializeBufferFull` if the flavor refuses the bytes.
+#[tactic(auto, using(crate::proofs::Spelled::bytes_of_bytes))]
+pub fn serialize<T: FixInt, F: postcard_ser::Flavor>(
+    value: &T,
+    serializer: &mut Serializer<F>,
+) -> Result<()>
+    ensures wrote { Wrote F.Flavor serializer.old.output
+        (big.spell T.width.size (T.width.modulo value.now)) ⊥ ⊥ result serializer.new.output }
+    ensures fits { OnOk result (T.width.fits value.now) }
+{
+    BE(*value).serialize(serializer)
+}
+
+/// Reads a number from the next 2, 4, 8 or 16 bytes, the highest first, as [`BE`] does (behaviour
+/// of postcard 1.1.3). No memory is asked for.
+///
+/// # Errors
+///
+/// Fails with `DeserializeUnexpectedEnd` if fewer bytes are left.
+pub fn deserialize<'de, T: FixInt, F: postcard_de::Flavor>(
+    alloc: Global,
+    d: &mut Deserializer<'de, F>,
+) -> Result<T>
+    ensures { Reads F.Flavor Spells (array T.width.size byte).reads (IsFixed big T.width) ⊥
+        (source_of d.old) result (source_of d.new) }
+{
+    let value = <BE<T>>::deserialize_owned(alloc, d)?;
+    Ok(value.get())
+}

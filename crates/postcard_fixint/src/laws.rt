@@ -1,0 +1,26 @@
+//! What holds of the bytes of numbers. The functions do nothing: their contracts are the laws.
+
+ghost use Rattle.std.specs.Prelude.{◌≡◌, ◌↔◌, ◌<◌, ◌^◌, ℕ, List};
+ghost use Rattle.postcard_wire.specs.Spelling.{bytes};
+ghost use Rattle.postcard_fixint.specs.Base256.{AreNumber, little, big};
+ghost use Rattle.postcard_fixint.specs.Fixed.{fixed};
+
+use crate::number::FixInt;
+
+/// The `k` bytes of a number below `256^k` are those `k` bytes, and no others, whose value in base
+/// 256 it is: with the lowest byte first, and with the highest first.
+pub fn base_256()
+    ensures lowest_first { (k n : ℕ) (p : List ℕ) → n < 256 ^ k →
+        AreNumber little.value k n p ↔ (p ≡ little.spell k n) }
+    ensures highest_first { (k n : ℕ) (p : List ℕ) → n < 256 ^ k →
+        AreNumber big.value k n p ↔ (p ≡ big.spell k n) }
+{}
+
+/// What [`crate::LE`] and [`crate::BE`] write is just the bytes of the number.
+#[tactic(auto, using(crate::proofs::Spelled::bytes_of_bytes))]
+pub fn encoded<T: FixInt>()
+    ensures lowest_first { (v : T) → bytes ((fixed little T.width).tree v)
+        ≡ little.spell T.width.size (T.width.modulo v) }
+    ensures highest_first { (v : T) → bytes ((fixed big T.width).tree v)
+        ≡ big.spell T.width.size (T.width.modulo v) }
+{}

@@ -1,0 +1,42 @@
+//! Numbers at their full width: 2, 4, 8 or 16 bytes, the lowest or the highest first, in place of a
+//! varint (behaviour of postcard 1.1.3, module `fixint`).
+//!
+//! A varint is shorter for small numbers. At its full width a number always takes as many bytes as
+//! its type has, and a random one, as a hash or an identifier, takes up to a fifth less.
+//!
+//! `specs/Base256.antt` says what the bytes of a number are: as many as its type has, whose value in
+//! base 256 it is. `specs/Fixed.antt` makes the shape of a type of it, laws included: what was
+//! written is read back as the same number, and every array of that many bytes is read.
+//!
+//! ```text
+//! impl Repr for Header {
+//!     type As = (BE<u32>, LE<u16>);
+//!
+//!     ghost repr = { λ v. (v.address, v.port) };
+//! }
+//!
+//! impl FromRepr for Header {
+//!     fn from_repr((address, port): Self::As) -> Self {
+//!         Header { address: address.get(), port: port.get() }
+//!     }
+//! }
+//!
+//! impl SerializeRepr for Header {
+//!     fn serialize_repr<F: Flavor>(&self, serializer: &mut Serializer<F>) -> Result<()> {
+//!         (BE::new(self.address), LE::new(self.port)).serialize(serializer)
+//!     }
+//! }
+//! ```
+//!
+//! In reading order: [`FixInt`] are the numbers, [`le`] and [`be`] write and read them, [`laws`] has
+//! what holds of their bytes.
+#![tactic(auto)]
+
+pub mod be;
+pub mod laws;
+pub mod le;
+mod number;
+
+pub use be::BE;
+pub use le::LE;
+pub use number::FixInt;
