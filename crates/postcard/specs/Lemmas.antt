@@ -20,13 +20,13 @@ use Rattle.postcard.specs.Frames.{DecodesTo}
 pub use Rattle.postcard_ser.proofs.PartByPart.{wrote_none, wrote_refusal, wrote_err, wrote_ok, wrote_last, wrote_stop, wrote_then, wrote_as, wrote_closes}
 -- How a value that is made of others is read: what was read of its parts, of which the first may
 -- refuse, and of the index and the content of a variant.
-pub use Rattle.postcard_de.proofs.Leaves.{refusal, is_refusal}
-pub use Rattle.postcard_de.proofs.Numbers.{Below}
+pub use Rattle.postcard_de_nodes.specs.ReadLemmas.{refusal, is_refusal}
+pub use Rattle.postcard_de_nodes.specs.NumberLemmas.{Below}
 pub use Rattle.postcard_de.proofs.Parts.{AllAre, NoneIs, and_part, and_fails, stops, no_more}
 pub use Rattle.postcard_de.proofs.Parts.{struct_read, struct_fails}
 pub use Rattle.postcard_de.proofs.Enums.{index_refused, content_refused, variant_read}
 pub use Rattle.postcard_de.proofs.Enums.{unknown_index}
-pub use Rattle.postcard_de.proofs.Sift.{no_room}
+pub use Rattle.postcard_de_nodes.specs.SeenLemmas.{no_room}
 
 -- A `u16`, and so a number below 2^16, takes 3 bytes at most.
 pub u16_len : (n : ℕ) → n < 2 ^ 16 → length (digits n) ≤ 3

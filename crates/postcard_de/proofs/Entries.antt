@@ -9,14 +9,14 @@ use Rattle.postcard_wire.specs.Tree.{Tree, Group, Seq, count}
 use Rattle.postcard_wire.specs.Spelling.{Spells, SpellsAll}
 use Rattle.postcard_wire.specs.Reading.{IsGroup, IsArray}
 use Rattle.postcard_de_flavors.specs.Source.{Laws}
-use Rattle.postcard_de.specs.Reads.{MayAnswer, ReadsFrom}
+use Rattle.postcard_de_nodes.specs.Reads.{MayAnswer, ReadsFrom}
 use Rattle.postcard_shape.specs.Values.{Same, EachIs, ListIs, AreRead}
 use Rattle.postcard_shape.specs.Maps.{IsEntry, EntryIs, inserted}
 use Rattle.postcard_shape.specs.Fixed.{IsFewSeq}
-use Rattle.postcard_de.proofs.Leaves.{refusal}
-use Rattle.postcard_de.proofs.Numbers.{Below}
-use Rattle.postcard_de.proofs.Compound.{Compound, first_refused, second_refused, both_read}
-use Rattle.postcard_de.proofs.Sift.{none_follows}
+use Rattle.postcard_de_nodes.specs.ReadLemmas.{refusal}
+use Rattle.postcard_de_nodes.specs.NumberLemmas.{Below}
+use Rattle.postcard_de_nodes.specs.CompoundLemmas.{Compound, first_refused, second_refused, both_read}
+use Rattle.postcard_de_nodes.specs.SeenLemmas.{none_follows}
 use Rattle.postcard_de.proofs.Parts.{struct_read, and_part, no_more, struct_fails, stops, and_fails}
 
 -- One pair more is put in last.

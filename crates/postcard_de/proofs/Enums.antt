@@ -7,13 +7,13 @@ use Rattle.postcard_wire.specs.Tree.{Tree, Variant}
 use Rattle.postcard_wire.specs.Spelling.{Spells}
 use Rattle.postcard_wire.specs.Reading.{IsVariant}
 use Rattle.postcard_de_flavors.specs.Source.{Laws}
-use Rattle.postcard_de.specs.Reads.{MayAnswer, ReadsFrom}
+use Rattle.postcard_de_nodes.specs.Reads.{MayAnswer, ReadsFrom}
 use Rattle.postcard_shape.specs.Values.{Same}
 use Rattle.postcard_shape.specs.Options.{ResultReads}
-use Rattle.postcard_de.proofs.Leaves.{refusal, is_refusal}
-use Rattle.postcard_de.proofs.Numbers.{Below}
-use Rattle.postcard_de.proofs.Sift.{none_follows}
-use Rattle.postcard_de.proofs.Compound.{Compound, first_refused, second_refused, both_read}
+use Rattle.postcard_de_nodes.specs.ReadLemmas.{refusal, is_refusal}
+use Rattle.postcard_de_nodes.specs.NumberLemmas.{Below}
+use Rattle.postcard_de_nodes.specs.SeenLemmas.{none_follows}
+use Rattle.postcard_de_nodes.specs.CompoundLemmas.{Compound, first_refused, second_refused, both_read}
 
 -- A variant is an index and a content.
 pub index_and_content : (content : ℕ → Tree → Type 0) →

@@ -1,17 +1,7 @@
-pub mod Named
-pub mod Taking
-pub mod Leaves
-pub mod Numbers
-pub mod Texts
-pub mod Compound
 pub mod Lists
 pub mod Parts
-pub mod Sift
 pub mod Enums
 pub mod Options
 pub mod Entries
-pub mod Chars
-pub mod Bytes
-pub mod Fixed
 pub mod Groups
 pub mod Mapped

@@ -1,21 +1,17 @@
--- Reading a list element by element, behind its count.
+-- Reading the elements of a list one by one.
 use Rattle.std.proofs.Common.{◌≡◌, ℕ, zero, suc, ◌-◌, List, [], ◌∷◌, ◌++◌, Option}
-use Rattle.std.proofs.Common.{Ok, Err, Result, refl, sym, ◌∙◌, ap, subst, arith, append_assoc}
+use Rattle.std.proofs.Common.{Ok, Err, Result, refl, ap, arith, append_assoc}
 use Rattle.std.proofs.Common.{append-nil}
 use Rattle.postcard_wire.specs.declared.error.Error.{Error}
 use Rattle.postcard_wire.specs.declared.error.Error.TheVariants.{OutOfMemory}
-use Rattle.postcard_wire.specs.Number.{SpellsNum}
-use Rattle.postcard_wire.specs.Tree.{Tree, Trees, Seq, NoTrees, Then, count}
+use Rattle.postcard_wire.specs.Tree.{Tree, Trees, NoTrees, Then}
 use Rattle.postcard_wire.specs.Spelling.{Spells, SpellsAll}
-use Rattle.postcard_wire.specs.Reading.{IsSeq}
 use Rattle.postcard_de_flavors.specs.Source.{CanTake, Takes, Laws}
-use Rattle.postcard_de.specs.Reads.{ReadsFrom}
-use Rattle.postcard_shape.specs.Values.{Same, EachIs, ListIs, AreRead}
-use Rattle.postcard_de.proofs.Named.{wider}
-use Rattle.postcard_de.proofs.Taking.{nothing_taken, can_first}
-use Rattle.postcard_de.proofs.Leaves.{refusal, out_of_memory}
-use Rattle.postcard_de.proofs.Numbers.{Below}
-use Rattle.postcard_de.proofs.Compound.{Compound, first_refused, second_refused, both_read}
+use Rattle.postcard_de_nodes.specs.Reads.{ReadsFrom}
+use Rattle.postcard_shape.specs.Values.{EachIs, AreRead}
+use Rattle.postcard_de_nodes.specs.TakeLemmas.{nothing_taken}
+use Rattle.postcard_de_nodes.specs.ReadLemmas.{refusal, out_of_memory}
+use Rattle.postcard_de_nodes.specs.CompoundLemmas.{Compound, first_refused, second_refused, both_read}
 
 -- Values that were read, in front of those that are to come.
 abbrev pub behind : {V : Type 0} → List V → Result (List V) Error → Result (List V) Error
@@ -36,25 +32,6 @@ one_and_rest {V} R I n = record {
     parted NoTrees r a s = absurd (omega (arith, a.0))
     parted (Then t ts) r a (p, q, s, k, e) =
         (t, ts, p, q, refl, a.1.0, s, k, e, λ v i. (omega (arith, a.0), a.1.1))
-
--- A list is a count and as many trees.
-pub count_and_parts : (R : Tree → Type 0) → Compound (λ (n : ℕ) ts. Seq ts) (SpellsNum 64)
-    (Below 64) Same SpellsAll (λ n ts. AreRead n R ts) Spells (IsSeq R)
-count_and_parts R = record {
-  joined = λ n ts v p q low same s a b.
-      let e : n ≡ count ts = same ∙ sym s.0 in (
-        (ts, refl, subst (Below 64) e low, s.1),
-        (
-          p,
-          q,
-          subst (λ (m : ℕ). SpellsNum 64 m p) e a,
-          b,
-          refl,
-        ),
-      );
-  parted = λ z r a s. let t : Spells (Seq a.0) r = rw a.1 at s in
-      (count a.0, a.0, t.0, t.1, sym a.1, a.2, t.2, t.3, t.4, λ v same. (same, a.3));
-}
 
 -- What reading the elements that are left would give is what reading all gives.
 pub record Going {S V : Type 0} (left : S → Option (List ℕ)) (able : S → ℕ → Type 0)
@@ -136,38 +113,6 @@ module _ {S V : Type 0} {left : S → Option (List ℕ)} {able : S → ℕ → T
           CanTake left able now p → EachIs I ts [] × Takes left able now p now
       accepts NoTrees p a s c = (tt, rw s (nothing_taken now))
       accepts (Then t ts) p a s c = absurd (omega (arith, a.0))
-
-  -- The count and then the elements were read.
-  pub list_read : {A : Type 0} (see : A → List V) {old mid new : S} {n : ℕ} (a : A) →
-      ReadsFrom (SpellsNum 64) (Below 64) Same ⊥ left able may_leave old (Ok n) mid →
-      ReadsFrom SpellsAll (AreRead n R) (EachIs I) H left able may_leave mid (Ok (see a)) new →
-      ReadsFrom Spells (IsSeq R) (λ t x. ListIs I t (see x)) H left able may_leave old (Ok a) new
-  list_read see a h k = both_read laws (count_and_parts R) (λ n ts i j. (ts, refl, j)) h k
-
-  -- The count was read, and then the elements refuse.
-  pub list_refused : {A : Type 0} (see : A → List V) {old mid new : S} {n : ℕ} {e : Error} →
-      ReadsFrom (SpellsNum 64) (Below 64) Same ⊥ left able may_leave old (Ok n) mid →
-      ReadsFrom SpellsAll (AreRead n R) (EachIs I) H left able may_leave mid
-      (refusal (List V) e) new →
-      ReadsFrom Spells (IsSeq R) (λ t x. ListIs I t (see x)) H left able may_leave old (refusal A e)
-      new
-  list_refused see h k = second_refused laws (count_and_parts R) (λ g. g) h k
-
-module _ {S : Type 0} {left : S → Option (List ℕ)} {able : S → ℕ → Type 0}
-    {may_leave : S → S → Type 0} (laws : Laws left able may_leave) {R : Tree → Type 0} {H : Type 0}
-  where
-    -- The count was refused.
-    pub count_refused : {A W : Type 0} {value : ℕ → W → Type 0} {K : Tree → A → Type 0}
-        {old new : S} {e : Error} →
-        ReadsFrom (SpellsNum 64) (Below 64) value ⊥ left able may_leave old (refusal W e) new →
-        ReadsFrom Spells (IsSeq R) K H left able may_leave old (refusal A e) new
-    count_refused {e = e} r = record {
-      gives = tt;
-      accepts = λ t p a s c. let q : Spells (Seq a.0) p = rw a.1 at s in
-          r.accepts (count a.0) q.0 a.2 q.2 (can_first laws q.0 q.1 (rw q.4 at c));
-      leaves = r.leaves;
-      names = wider (λ z. absurd z) e r.names;
-    }
 
 -- A count that isn't 0 is one more than the count below it.
 pub one_more_left : (n : ℕ) → (n ≡ 0 → ⊥) → n ≡ suc (n - 1)

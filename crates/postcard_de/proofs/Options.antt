@@ -5,9 +5,9 @@ use Rattle.postcard_wire.specs.Tree.{Tree, Present}
 use Rattle.postcard_wire.specs.Spelling.{Spells}
 use Rattle.postcard_wire.specs.Reading.{IsOption}
 use Rattle.postcard_de_flavors.specs.Source.{CanTake, Takes, Laws}
-use Rattle.postcard_de.specs.Reads.{ReadsFrom}
+use Rattle.postcard_de_nodes.specs.Reads.{ReadsFrom}
 use Rattle.postcard_shape.specs.Options.{OptionIs}
-use Rattle.postcard_de.proofs.Taking.{both_taken, faces, can_second}
+use Rattle.postcard_de_nodes.specs.TakeLemmas.{both_taken, faces, can_second}
 
 -- Where one byte faces a front, it begins that front.
 first_byte : (b c : ℕ) (q y z : List ℕ) → (b ∷ []) ++ y ≡ (c ∷ q) ++ z → b ≡ c

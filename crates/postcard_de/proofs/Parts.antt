@@ -7,10 +7,10 @@ use Rattle.postcard_wire.specs.Tree.{Tree, Trees, Group, NoTrees, Then}
 use Rattle.postcard_wire.specs.Spelling.{Spells, SpellsAll}
 use Rattle.postcard_wire.specs.Reading.{IsEnd, IsThen, IsGroup}
 use Rattle.postcard_de_flavors.specs.Source.{Laws}
-use Rattle.postcard_de.specs.Reads.{ReadsFrom}
-use Rattle.postcard_de.proofs.Taking.{nothing_taken}
-use Rattle.postcard_de.proofs.Leaves.{refusal, is_refusal}
-use Rattle.postcard_de.proofs.Compound.{Compound, first_refused, second_refused, both_read}
+use Rattle.postcard_de_nodes.specs.Reads.{ReadsFrom}
+use Rattle.postcard_de_nodes.specs.TakeLemmas.{nothing_taken}
+use Rattle.postcard_de_nodes.specs.ReadLemmas.{refusal, is_refusal}
+use Rattle.postcard_de_nodes.specs.CompoundLemmas.{Compound, first_refused, second_refused, both_read}
 
 -- Parts in a row are one and the rest.
 pub part_and_rest : {V : Type 0} (R : Tree → Type 0) (I : Tree → V → Type 0) (Rs : Trees → Type 0) →

@@ -2,7 +2,7 @@
 
 ghost use Rattle.std.specs.Prelude.{◌≡◌, ◌<◌, ◌^◌, length, IfErr, false, string_bytes, ⊤};
 ghost use Rattle.std.specs.Int.{w8, cast_unsigned};
-ghost use Rattle.postcard_wire.specs.Tree.{Byte, Num, Int, Text, IsWidth};
+ghost use Rattle.postcard_wire.specs.Tree.{Byte, Num, Int, Text};
 ghost use Rattle.postcard_wire.specs.Number.{SpellsNum};
 ghost use Rattle.postcard_wire.specs.Spelling.{Spells};
 ghost use Rattle.postcard_wire.specs.Reading.{IsByte, IsNum, IsInt, IsText};
@@ -20,11 +20,10 @@ pub mod unsupported;
 
 use crate::access::SeqAccess;
 use postcard_de_flavors::{Flavor, Slice};
-use postcard_wire::digits::Digits;
-use postcard_wire::{Error, Result, zigzag};
+use postcard_de_nodes::{numbers, texts};
+use postcard_wire::{Result, zigzag};
 use std::alloc::Global;
 use std::marker::PhantomData;
-use std::str;
 
 /// Reads values from a source, each from the front of what is left.
 #[derive(Drop)]
@@ -108,7 +107,7 @@ impl<'de, F: Flavor> Deserializer<'de, F> {
         ensures refused { IfErr result (λ e. Refuses F.Flavor (WantsDigit 16) (BadNumber 16)
             (source_of self.old) e (source_of self.new)) }
     {
-        let n = self.number(16)?;
+        let n = numbers::number(&mut self.flavor, 16)?;
         Ok(n as u16)
     }
 
@@ -123,7 +122,7 @@ impl<'de, F: Flavor> Deserializer<'de, F> {
         ensures refused { IfErr result (λ e. Refuses F.Flavor (WantsDigit 32) (BadNumber 32)
             (source_of self.old) e (source_of self.new)) }
     {
-        let n = self.number(32)?;
+        let n = numbers::number(&mut self.flavor, 32)?;
         Ok(n as u32)
     }
 
@@ -138,7 +137,7 @@ impl<'de, F: Flavor> Deserializer<'de, F> {
         ensures refused { IfErr result (λ e. Refuses F.Flavor (WantsDigit 64) (BadNumber 64)
             (source_of self.old) e (source_of self.new)) }
     {
-        let n = self.number(64)?;
+        let n = numbers::number(&mut self.flavor, 64)?;
         Ok(n as u64)
     }
 
@@ -153,7 +152,7 @@ impl<'de, F: Flavor> Deserializer<'de, F> {
         ensures refused { IfErr result (λ e. Refuses F.Flavor (WantsDigit 128) (BadNumber 128)
             (source_of self.old) e (source_of self.new)) }
     {
-        let n = self.number(128)?;
+        let n = numbers::number(&mut self.flavor, 128)?;
         Ok(n)
     }
 
@@ -168,7 +167,7 @@ impl<'de, F: Flavor> Deserializer<'de, F> {
         ensures refused { IfErr result (λ e. Refuses F.Flavor (WantsDigit 16) (BadNumber 16)
             (source_of self.old) e (source_of self.new)) }
     {
-        let folded = self.number(16)?;
+        let folded = numbers::number(&mut self.flavor, 16)?;
         Ok(zigzag::de_zig_zag_i16(folded as u16))
     }
 
@@ -183,7 +182,7 @@ impl<'de, F: Flavor> Deserializer<'de, F> {
         ensures refused { IfErr result (λ e. Refuses F.Flavor (WantsDigit 32) (BadNumber 32)
             (source_of self.old) e (source_of self.new)) }
     {
-        let folded = self.number(32)?;
+        let folded = numbers::number(&mut self.flavor, 32)?;
         Ok(zigzag::de_zig_zag_i32(folded as u32))
     }
 
@@ -198,7 +197,7 @@ impl<'de, F: Flavor> Deserializer<'de, F> {
         ensures refused { IfErr result (λ e. Refuses F.Flavor (WantsDigit 64) (BadNumber 64)
             (source_of self.old) e (source_of self.new)) }
     {
-        let folded = self.number(64)?;
+        let folded = numbers::number(&mut self.flavor, 64)?;
         Ok(zigzag::de_zig_zag_i64(folded as u64))
     }
 
@@ -213,7 +212,7 @@ impl<'de, F: Flavor> Deserializer<'de, F> {
         ensures refused { IfErr result (λ e. Refuses F.Flavor (WantsDigit 128) (BadNumber 128)
             (source_of self.old) e (source_of self.new)) }
     {
-        let folded = self.number(128)?;
+        let folded = numbers::number(&mut self.flavor, 128)?;
         Ok(zigzag::de_zig_zag_i128(folded))
     }
 
@@ -229,12 +228,7 @@ impl<'de, F: Flavor> Deserializer<'de, F> {
         ensures refused { IfErr result (λ e. Refuses F.Flavor WantsText (BadText ⊥)
             (source_of self.old) e (source_of self.new)) }
     {
-        let count = self.count()?;
-        let bytes = self.flavor.try_take_n(count)?;
-        match str::from_utf8(bytes) {
-            Ok(text) => Ok(text),
-            Err(_) => Err(Error::DeserializeBadUtf8),
-        }
+        texts::text(&mut self.flavor)
     }
 
     /// Reads a text and copies it, once its bytes were taken and found to be UTF-8.
@@ -248,15 +242,7 @@ impl<'de, F: Flavor> Deserializer<'de, F> {
         ensures refused { IfErr result (λ e. Refuses F.Flavor WantsText (BadText ⊤)
             (source_of self.old) e (source_of self.new)) }
     {
-        let count = self.count()?;
-        let lent = self.flavor.try_take_n_temp(count)?;
-        match str::from_utf8(lent) {
-            Ok(text) => match String::from_str(alloc, text) {
-                Ok(copy) => Ok(copy),
-                Err(_) => Err(Error::OutOfMemory),
-            },
-            Err(_) => Err(Error::DeserializeBadUtf8),
-        }
+        texts::text_copy(alloc, &mut self.flavor)
     }
 
     /// Reads the count of a list, whose elements are then read by `next_element`.
@@ -270,35 +256,7 @@ impl<'de, F: Flavor> Deserializer<'de, F> {
         ensures refused { IfErr result (λ e. Refuses F.Flavor (WantsDigit 64) (BadNumber 64)
             (source_of self.old) e (source_of self.new)) }
     {
-        let count = self.count()?;
+        let count = numbers::count(&mut self.flavor)?;
         Ok(SeqAccess::new(count))
-    }
-
-    /// Reads a number of so many bits.
-    fn number(&mut self, bits: u32) -> Result<u128>
-        requires { IsWidth bits }
-        ensures reads { Reads F.Flavor (SpellsNum bits) (λ n. n < 2 ^ bits) Same ⊥
-            (source_of self.old) result (source_of self.new) }
-        ensures refused { IfErr result (λ e. Refuses F.Flavor (WantsDigit bits) (BadNumber bits)
-            (source_of self.old) e (source_of self.new)) }
-    {
-        let mut digits = Digits::new();
-        loop {
-            let byte = self.flavor.pop()?;
-            if let Some(n) = digits.push(bits, byte)? {
-                return Ok(n);
-            }
-        }
-    }
-
-    /// Reads a count or a length.
-    fn count(&mut self) -> Result<usize>
-        ensures reads { Reads F.Flavor (SpellsNum 64) (λ n. n < 2 ^ 64) Same ⊥
-            (source_of self.old) result (source_of self.new) }
-        ensures refused { IfErr result (λ e. Refuses F.Flavor (WantsDigit 64) (BadNumber 64)
-            (source_of self.old) e (source_of self.new)) }
-    {
-        let count = self.number(64)?;
-        Ok(count as usize)
     }
 }

@@ -16,6 +16,7 @@ use crate::access::SeqAccess;
 use crate::deserialize::Deserialize;
 use crate::deserializer::Deserializer;
 use postcard_de_flavors::Flavor;
+use postcard_de_nodes::{choices, numbers};
 use postcard_wire::{Error, Result};
 use std::alloc::Global;
 
@@ -31,11 +32,7 @@ impl<'de, F: Flavor> Deserializer<'de, F> {
         ensures refused { IfErr result (λ e. Refuses F.Flavor WantsByte BadBool
             (source_of self.old) e (source_of self.new)) }
     {
-        match self.flavor.pop()? {
-            0 => Ok(false),
-            1 => Ok(true),
-            _ => Err(Error::DeserializeBadBool),
-        }
+        choices::boolean(&mut self.flavor)
     }
 
     /// Reads an option: the byte 0, or the byte 1 and the content.
@@ -76,7 +73,7 @@ impl<'de, F: Flavor> Deserializer<'de, F> {
         ensures refused { IfErr result (λ e. Refuses F.Flavor (WantsDigit 32) (BadNumber 32)
             (source_of self.old) e (source_of self.new)) }
     {
-        let n = self.number(32)?;
+        let n = numbers::number(&mut self.flavor, 32)?;
         Ok(n as u32)
     }
 

@@ -13,6 +13,7 @@ use crate::deserializer::Deserializer;
 use crate::element::Element;
 use arrayvec::ArrayVec;
 use postcard_de_flavors::Flavor;
+use postcard_de_nodes::numbers;
 use postcard_shape::Shaped;
 use postcard_wire::{Error, Result};
 use std::alloc::Global;
@@ -32,7 +33,7 @@ impl<'de, F: Flavor> Deserializer<'de, F> {
             (λ t v. ListIs T.shape.value t v.items) ⊤
             (source_of self.old) result (source_of self.new) }
     {
-        let count = self.count()?;
+        let count = numbers::count(&mut self.flavor)?;
         let mut items = Vec::new(alloc);
         for _ in 0..count {
             let item = E::element(alloc, self)?;
@@ -57,7 +58,7 @@ impl<'de, F: Flavor> Deserializer<'de, F> {
             (λ t v. ListIs T.shape.value t v.items) T.shape.grows
             (source_of self.old) result (source_of self.new) }
     {
-        let count = self.count()?;
+        let count = numbers::count(&mut self.flavor)?;
         let mut items = ArrayVec::new();
         for _ in 0..count {
             let item = E::element(alloc, self)?;
@@ -103,7 +104,7 @@ impl<'de, F: Flavor> Deserializer<'de, F> {
             (λ t m. MapIs K.cmp K.shape.value V.shape.value t m.entries) ⊤
             (source_of self.old) result (source_of self.new) }
     {
-        let count = self.count()?;
+        let count = numbers::count(&mut self.flavor)?;
         let mut map = BTreeMap::new(alloc);
         for _ in 0..count {
             let key: K = E::element(alloc, self)?;

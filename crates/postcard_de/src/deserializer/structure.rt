@@ -14,6 +14,7 @@ use crate::deserialize::Deserialize;
 use crate::deserializer::Deserializer;
 use crate::map_access::MapAccess;
 use postcard_de_flavors::Flavor;
+use postcard_de_nodes::numbers;
 use postcard_wire::Result;
 use std::alloc::Global;
 
@@ -111,7 +112,7 @@ impl<'de, F: Flavor> Deserializer<'de, F> {
         ensures refused { IfErr result (λ e. Refuses F.Flavor (WantsDigit 64) (BadNumber 64)
             (source_of self.old) e (source_of self.new)) }
     {
-        let count = self.count()?;
+        let count = numbers::count(&mut self.flavor)?;
         Ok(MapAccess::new(count))
     }
 }

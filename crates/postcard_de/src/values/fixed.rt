@@ -15,6 +15,7 @@ use crate::element::{Kept, Lent};
 use crate::owned::DeserializeOwned;
 use arrayvec::{ArrayString, ArrayVec};
 use postcard_de_flavors::Flavor;
+use postcard_de_nodes::texts;
 use postcard_wire::Result;
 use std::alloc::Global;
 
@@ -59,7 +60,7 @@ impl<'de, const CAP: usize> Deserialize<'de> for ArrayString<CAP> {
         ensures refused { IfErr result (λ e. Refuses F.Flavor WantsText (BadShortText CAP)
             (source_of d.old) e (source_of d.new)) }
     {
-        d.short_string()
+        texts::short_text(&mut d.flavor)
     }
 }
 

@@ -1,7 +1,7 @@
 -- Where a front of what a steady reader tells spells a tree of the type, and the scratch is as long, that front can be taken.
 use Rattle.std.proofs.Common.{ap, ◌∙◌}
-use Rattle.postcard_de.proofs.Leaves.{is_refusal}
-use Rattle.postcard_de.proofs.Named.{only_grown}
+use Rattle.postcard_de_nodes.specs.ReadLemmas.{is_refusal}
+use Rattle.postcard_de_nodes.specs.ErrorLemmas.{only_grown}
 use Rattle.postcard_de_flavors.specs.IOReader.{reader_of, scratch_of}
 use Rattle.postcard_wire.specs.Spelling.{bytes}
 use Rattle.postcard_shape.proofs.Again.{is_spelled, is_same}

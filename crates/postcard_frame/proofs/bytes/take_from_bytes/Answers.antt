@@ -3,8 +3,8 @@
 use Rattle.std.proofs.Common.{◌≡◌, ◌≤◌, ℕ, List, ◌++◌, length}
 use Rattle.std.proofs.Common.{sym, ◌∙◌, ap, arith, length-append}
 use Rattle.std.proofs.lemmas.List.{append_cancel_left}
-use Rattle.postcard_de.proofs.Leaves.{is_refusal}
-use Rattle.postcard_de.proofs.Named.{only_grown}
+use Rattle.postcard_de_nodes.specs.ReadLemmas.{is_refusal}
+use Rattle.postcard_de_nodes.specs.ErrorLemmas.{only_grown}
 use Rattle.postcard_wire.specs.Spelling.{bytes}
 use Rattle.postcard_shape.proofs.Again.{is_spelled, is_same}
 use Rattle.postcard_frame.proofs.bytes.take_from_bytes.Goals as goal

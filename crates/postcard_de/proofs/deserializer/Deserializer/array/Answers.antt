@@ -2,7 +2,7 @@ use Rattle.std.proofs.Common.{◌≡◌, suc, ◌<◌, ◌-◌, ◌+◌, length,
 use Rattle.std.proofs.Math.ListN.{length-set}
 use Rattle.std.proofs.Math.Seq.{take-suc-set}
 use Rattle.std.proofs.lemmas.List.{take_all, length-replicate}
-use Rattle.postcard_de.proofs.Leaves.{is_refusal}
+use Rattle.postcard_de_nodes.specs.ReadLemmas.{is_refusal}
 use Rattle.postcard_de.proofs.Entries.{array_read, array_refused}
 use Rattle.postcard_de.proofs.Lists.{going, goes_on, going_stops, going_done}
 use Rattle.postcard_de.proofs.deserializer.Deserializer.array.Goals as goal

@@ -1,7 +1,7 @@
 use Rattle.std.proofs.Common.{inl, inr, refl}
 use Rattle.std.proofs.lemmas.Int.{to_z-of_z}
 use mir.Syntax.{w32}
-use Rattle.postcard_de.proofs.Numbers.{int_read}
+use Rattle.postcard_de_nodes.specs.NumberLemmas.{int_read}
 use Rattle.postcard_de.proofs.deserializer.Deserializer.deserialize_i32.Goals as goal
 
 pub returns-clause-reads : goal.returns-clause-reads

@@ -1,4 +1,4 @@
-use Rattle.postcard_de.proofs.Numbers.{num_read}
+use Rattle.postcard_de_nodes.specs.NumberLemmas.{num_read}
 use Rattle.postcard_de.proofs.deserializer.Deserializer.deserialize_u32.Goals as goal
 
 pub returns-clause-reads : goal.returns-clause-reads

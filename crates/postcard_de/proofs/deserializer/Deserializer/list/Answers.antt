@@ -1,8 +1,8 @@
 use Rattle.std.proofs.Common.{◌≡◌, suc, ◌-◌, ◌+◌, ◌∷◌, [], ◌++◌, Vec, Global, arith}
 use Rattle.std.proofs.lemmas.Grind.{common_steps}
-use Rattle.postcard_de.proofs.Leaves.{is_refusal}
+use Rattle.postcard_de_nodes.specs.ReadLemmas.{is_refusal}
 use Rattle.postcard_de.proofs.Lists.{going, goes_on, going_stops, going_full, going_done}
-use Rattle.postcard_de.proofs.Lists.{list_read, list_refused, count_refused}
+use Rattle.postcard_de_nodes.specs.CountLemmas.{list_read, list_refused, count_refused}
 use Rattle.postcard_de.proofs.deserializer.Deserializer.list.Goals as goal
 
 pub returns-in_err-count : goal.returns-in_err-count

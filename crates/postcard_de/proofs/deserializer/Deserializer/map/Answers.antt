@@ -2,11 +2,11 @@ use Rattle.std.proofs.Common.{◌≡◌, suc, ◌-◌, ◌+◌, List, [], ◌∷
 use Rattle.std.proofs.lemmas.Grind.{common_steps}
 use Rattle.std.specs.BTreeMap.{insert_entry}
 use Rattle.postcard_shape.specs.Maps.{EntryIs}
-use Rattle.postcard_de.proofs.Leaves.{is_refusal}
-use Rattle.postcard_de.proofs.Sift.{recast, refused_too, passed_on}
+use Rattle.postcard_de_nodes.specs.ReadLemmas.{is_refusal}
+use Rattle.postcard_de_nodes.specs.SeenLemmas.{recast, refused_too, passed_on}
 use Rattle.postcard_de.proofs.Entries.{inserted_last, key_refused, value_refused, entry_read}
 use Rattle.postcard_de.proofs.Lists.{going, goes_on, going_stops, going_full, going_done}
-use Rattle.postcard_de.proofs.Lists.{list_read, list_refused, count_refused}
+use Rattle.postcard_de_nodes.specs.CountLemmas.{list_read, list_refused, count_refused}
 use Rattle.postcard_de.proofs.deserializer.Deserializer.map.Goals as goal
 
 pub returns-in_err-count : goal.returns-in_err-count

@@ -1,6 +1,6 @@
 use Rattle.std.proofs.Common.{inr, refl}
-use Rattle.postcard_de.proofs.Leaves.{is_refusal}
-use Rattle.postcard_de.proofs.Compound.{second_refused, both_read}
+use Rattle.postcard_de_nodes.specs.ReadLemmas.{is_refusal}
+use Rattle.postcard_de_nodes.specs.CompoundLemmas.{second_refused, both_read}
 use Rattle.postcard_de.proofs.Parts.{part_and_rest}
 use Rattle.postcard_de.proofs.rows.PartDeserializeParts.deserialize_parts.Goals as goal
 

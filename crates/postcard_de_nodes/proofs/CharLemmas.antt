@@ -1,0 +1,139 @@
+-- Reading a character: a length of at most 4, and as many bytes, which begin with one.
+use Rattle.std.proofs.Common.{◌≡◌, ℕ, ◌+◌, ◌<◌, ◌≤◌, ◌^◌, inl, inr, List, ◌++◌, length, Option, Ok}
+use Rattle.std.proofs.Common.{refl, sym, ◌∙◌, ap, subst, arith, append_assoc, length-append}
+use Rattle.std.specs.Char.{IsScalar}
+use Rattle.postcard_wire.specs.declared.error.Error.{Error}
+use Rattle.postcard_wire.specs.declared.error.Error.TheVariants.{OutOfMemory}
+use Rattle.postcard_wire.specs.declared.error.Error.TheVariants.{DeserializeUnexpectedEnd}
+use Rattle.postcard_wire.specs.declared.error.Error.TheVariants.{DeserializeBadChar}
+use Rattle.postcard_wire.specs.Number.{SpellsNum}
+use Rattle.postcard_wire.specs.Tree.{Tree, Char}
+use Rattle.postcard_wire.specs.Spelling.{Spells, BeginsWithChar}
+use Rattle.postcard_wire.specs.Reading.{IsChar}
+use Rattle.postcard_wire.proofs.Delimited.{num_front, char_delimited, same_front}
+use Rattle.postcard_wire.proofs.Refused.{longer, none_spelled}
+use Rattle.std.proofs.lemmas.List.{append_cancel_left}
+use Rattle.postcard_de_flavors.specs.Source.{Takes, Laws}
+use Rattle.postcard_de_nodes.specs.Reads.{MayAnswer, ReadsFrom}
+use Rattle.postcard_de_nodes.specs.Refuses.{RefusesFrom, WantsDigit, BadNumber}
+use Rattle.postcard_de_nodes.specs.Unfit.{WantsChar, BadChar}
+use Rattle.postcard_shape.specs.Values.{Same}
+use Rattle.postcard_de_nodes.specs.TakeLemmas.{both_taken}
+use Rattle.postcard_de_nodes.specs.ReadLemmas.{Excludes, found, refused, refusal, widened, behind_front}
+use Rattle.postcard_de_nodes.specs.NumberLemmas.{Below, number_below, number_spelled}
+use Rattle.postcard_de_nodes.proofs.TextLemmas.{facing_length}
+
+-- Where more bytes are wanted, they are within the character's spelling.
+char_within : (x : Tree) (p q : List ℕ) (n : ℕ) (y z : List ℕ) → WantsChar p n → IsChar x →
+    Spells x q → p ++ y ≡ q ++ z → length p + n ≤ length q
+char_within x p q n y z (inl wanted) r s e =
+    let t : Spells (Char r.0) q = rw r.1 at s in
+    let j = t.2 in
+    let h = longer p j.0 y (j.1 ++ z) wanted.0 j.2.digits (facing_length p q j.0 j.1 y z j.4 e) in
+    omega (arith, h, wanted.2, ap length j.4, length-append j.0 j.1)
+char_within x p q n y z (inr wanted) r s e =
+    let t : Spells (Char r.0) q = rw r.1 at s in
+    let j = t.2 in
+    let h = num_front 64 n (length t.0) p j.0 y (j.1 ++ z) wanted.0 j.2
+    (facing_length p q j.0 j.1 y z j.4 e) in
+    omega (arith, h.1, ap length h.0, ap length j.3, ap length j.4, length-append j.0 j.1)
+
+-- No character begins with what is refused.
+char_none : (x : Tree) (p q : List ℕ) (f : Error) (y z : List ℕ) → BadChar p f → IsChar x →
+    Spells x q → p ++ y ≡ q ++ z → f ≡ OutOfMemory
+char_none x p q f y z (inl bad) r s e =
+    let t : Spells (Char r.0) q = rw r.1 at s in
+    let j = t.2 in
+    let low : length t.0 < 2 ^ 64 = omega (arith, t.1.few) in
+    absurd (none_spelled 64 (length t.0) p j.0 y (j.1 ++ z) bad.1 j.2 low
+    (facing_length p q j.0 j.1 y z j.4 e))
+char_none x p q f y z (inr (is, inl (n, spelled, low, high))) r s e =
+    let t : Spells (Char r.0) q = rw r.1 at s in
+    let j = t.2 in
+    let h = num_front 64 n (length t.0) p j.0 y (j.1 ++ z) spelled j.2
+    (facing_length p q j.0 j.1 y z j.4 e) in
+    absurd (omega (arith, h.1, high, t.1.few))
+char_none x p q f y z (inr (is, inr (a, u, spelled, i, few, none))) r s e =
+    let t : Spells (Char r.0) q = rw r.1 at s in
+    let j = t.2 in
+    let g : a ++ (u ++ y) ≡ j.0 ++ (j.1 ++ z) = sym (append_assoc a u y)
+    ∙ (ap (λ (l : List ℕ). l ++ y) (sym i) ∙ facing_length p q j.0 j.1 y z j.4 e) in
+    let h = num_front 64 (length u) (length t.0) a j.0 (u ++ y) (j.1 ++ z) spelled j.2 g in
+    let k : u ++ y ≡ j.1 ++ z = append_cancel_left a (u ++ y) (j.1 ++ z)
+    (g ∙ ap (λ (l : List ℕ). l ++ (j.1 ++ z)) (sym h.0)) in
+    let same = same_front u j.1 y z (h.1 ∙ ap length (sym j.3)) k in
+    absurd (none r.0 (subst (BeginsWithChar r.0) (sym (same ∙ j.3)) t.1))
+
+-- It is refused with an error that may be answered.
+char_named : (p : List ℕ) (e : Error) → BadChar p e → MayAnswer ⊥ e
+char_named p e (inl bad) = subst (MayAnswer ⊥) (sym bad.0) tt
+char_named p e (inr bad) = subst (MayAnswer ⊥) (sym bad.0) tt
+
+-- The reasons to refuse a character stand where there is none.
+char_excludes : Excludes ⊥ WantsChar BadChar Spells IsChar
+char_excludes = record { within = char_within; none = char_none; named = char_named }
+
+module _ {S : Type 0} {left : S → Option (List ℕ)} {able : S → ℕ → Type 0}
+    {may_leave : S → S → Type 0} (laws : Laws left able may_leave) where
+  -- A refused character.
+  pub char_refused : {V : Type 0} {value : Tree → V → Type 0} {old new : S} {e : Error} →
+      RefusesFrom WantsChar BadChar left able old e new → may_leave old new →
+      ReadsFrom Spells IsChar value ⊥ left able may_leave old (refusal V e) new
+  char_refused why l = refused laws char_excludes why l
+
+  -- Its length was refused.
+  pub char_length_refused : {old new : S} {e : Error} →
+      RefusesFrom (WantsDigit 64) (BadNumber 64) left able old e new →
+      RefusesFrom WantsChar BadChar left able old e new
+  char_length_refused why = widened (λ p n w. inl w) (λ p b. inl b) why
+
+module _ {S : Type 0} {left : S → Option (List ℕ)} {able : S → ℕ → Type 0}
+    {may_leave : S → S → Type 0} (laws : Laws left able may_leave) {n : ℕ} {old mid : S}
+    (counted : ReadsFrom (SpellsNum 64) (Below 64) Same ⊥ left able may_leave old (Ok n) mid) where
+  -- The length is above 4.
+  pub char_too_long : 4 < n → RefusesFrom WantsChar BadChar left able old DeserializeBadChar mid
+  char_too_long high = inr (record {
+    front = counted.gives.front;
+    taken = counted.gives.taken;
+    why = inr (refl, inl (n, number_spelled laws counted, number_below laws counted, high));
+  })
+
+  -- The bytes behind the length can't be taken.
+  pub char_ends : {new : S} {e : Error} → n ≤ 4 → (able mid n → ⊥) → e ≡ DeserializeUnexpectedEnd →
+      RefusesFrom WantsChar BadChar left able old e new
+  char_ends few lacks is =
+      behind_front counted.gives.taken (inr (number_spelled laws counted, few)) lacks is
+
+  module _ {u : List ℕ} {new : S} (few : n ≤ 4) (long : length u ≡ n)
+      (t : Takes left able mid u new) where
+    -- The length's spelling, by the bytes.
+    char_spelled : SpellsNum 64 (length u) counted.gives.front
+    char_spelled = subst (λ (m : ℕ). SpellsNum 64 m counted.gives.front) (sym long)
+        (number_spelled laws counted)
+
+    -- They are no character.
+    pub char_bad : ((c : ℕ) → BeginsWithChar c u → ⊥) →
+        RefusesFrom WantsChar BadChar left able old DeserializeBadChar new
+    char_bad none = inr (record {
+      front = counted.gives.front ++ u;
+      taken = both_taken counted.gives.taken t;
+      why = inr (
+        refl,
+        inr (
+          counted.gives.front,
+          u,
+          char_spelled,
+          refl,
+          subst (λ (m : ℕ). m ≤ 4) (sym long) few,
+          none,
+        ),
+      );
+    })
+
+    -- They begin with the character that is answered.
+    pub char_read : {c : ℕ} → BeginsWithChar c u → IsScalar c → may_leave mid new →
+        ReadsFrom Spells IsChar (λ t v. t ≡ Char v) ⊥ left able may_leave old (Ok c) new
+    char_read {c} begins scalar l =
+        found char_delimited (Char c) (counted.gives.front ++ u) c (c, refl, scalar)
+        (u, begins, (counted.gives.front, u, char_spelled, refl, refl)) refl
+        (both_taken counted.gives.taken t) (laws.joins old mid new counted.leaves l)

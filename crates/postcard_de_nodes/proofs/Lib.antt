@@ -1,0 +1,5 @@
+pub mod VarintLoop
+pub mod TextLemmas
+pub mod ShortTextLemmas
+pub mod CharLemmas
+pub mod ByteLemmas

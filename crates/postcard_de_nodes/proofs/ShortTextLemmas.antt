@@ -1,0 +1,52 @@
+-- Texts of a fixed capacity, of texts that were read.
+use Rattle.std.proofs.Common.{◌≡◌, ℕ, ◌<◌, ◌≤◌, ◌^◌, inr, List, ◌++◌, length, Option, Ok, refl, sym}
+use Rattle.std.proofs.Common.{◌∙◌, ap, subst}
+use Rattle.std.specs.Prelude.{IsUtf8}
+use Rattle.postcard_wire.specs.declared.error.Error.TheVariants.{SerdeDeCustom}
+use Rattle.postcard_wire.specs.Number.{SpellsNum}
+use Rattle.postcard_wire.specs.Tree.{Tree, Text}
+use Rattle.postcard_wire.specs.Reading.{IsText}
+use Rattle.postcard_de_flavors.specs.Source.{Takes, Laws}
+use Rattle.postcard_de_nodes.specs.Reads.{ReadsFrom}
+use Rattle.postcard_de_nodes.specs.Refuses.{RefusesFrom, WantsText}
+use Rattle.postcard_de_nodes.specs.Unfit.{BadShortText}
+use Rattle.postcard_shape.specs.Fixed.{IsShortText}
+use Rattle.postcard_shape.specs.One.{text_same}
+use Rattle.postcard_shape.specs.Values.{Same}
+use Rattle.postcard_de_nodes.specs.TakeLemmas.{both_taken}
+use Rattle.postcard_de_nodes.specs.NumberLemmas.{Below, number_spelled}
+
+-- A text that there is room for is one that is read.
+pub short_fits : (n : ℕ) (u w : List ℕ) → length u ≤ n → IsUtf8 u → length u < 2 ^ 64 → w ≡ u →
+    (x : Tree) → IsText x → x ≡ Text u → IsShortText n x × (x ≡ Text w)
+short_fits n u w few utf8 low e x r is = ((u, is, few, utf8, low), is ∙ ap Text (sym e))
+
+-- A longer one is none.
+pub long_unfit : (n : ℕ) (u : List ℕ) → (length u ≤ n → ⊥) → (x : Tree) → IsShortText n x →
+    x ≡ Text u → ⊥
+long_unfit n u many x r is =
+    many (subst (λ (v : List ℕ). length v ≤ n) (text_same r.0 u (sym r.1 ∙ is)) r.2)
+
+module _ {S : Type 0} {left : S → Option (List ℕ)} {able : S → ℕ → Type 0}
+    {may_leave : S → S → Type 0} (laws : Laws left able may_leave) {n : ℕ} {old mid : S}
+    (counted : ReadsFrom (SpellsNum 64) (Below 64) Same ⊥ left able may_leave old (Ok n) mid) where
+  -- A text was taken that there is no room for.
+  pub text_long : {m : ℕ} {u : List ℕ} {new : S} → length u ≡ n → Takes left able mid u new →
+      IsUtf8 u → m < length u →
+      RefusesFrom WantsText (BadShortText m) left able old SerdeDeCustom new
+  text_long {u = u} long t utf8 many = inr (record {
+    front = counted.gives.front ++ u;
+    taken = both_taken counted.gives.taken t;
+    why = inr (
+      refl,
+      (
+        counted.gives.front,
+        u,
+        subst (λ (k : ℕ). SpellsNum 64 k counted.gives.front)
+            (sym long) (number_spelled laws counted),
+        refl,
+        utf8,
+        many,
+      ),
+    );
+  })

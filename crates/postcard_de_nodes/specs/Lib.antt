@@ -1,0 +1,10 @@
+pub mod Reads
+pub mod Refuses
+pub mod Unfit
+pub mod TakeLemmas
+pub mod ErrorLemmas
+pub mod ReadLemmas
+pub mod NumberLemmas
+pub mod CompoundLemmas
+pub mod SeenLemmas
+pub mod CountLemmas

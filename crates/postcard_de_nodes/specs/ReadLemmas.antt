@@ -1,0 +1,132 @@
+-- Reading one node: what is found in front, and that nothing is where a call refuses.
+use Rattle.std.proofs.Common.{◌≡◌, ℕ, ◌+◌, ◌≤◌, inl, inr, List, ◌++◌, length, Option, Ok, Err}
+use Rattle.std.proofs.Common.{Result, IsErrAnd, refl, sym, ap, subst}
+use Rattle.postcard_wire.specs.declared.error.Error.{Error}
+use Rattle.postcard_wire.specs.declared.error.Error.TheVariants.{OutOfMemory}
+use Rattle.postcard_wire.specs.declared.error.Error.TheVariants.{DeserializeUnexpectedEnd}
+use Rattle.postcard_de_flavors.specs.Source.{CanTake, Takes, Laws}
+use Rattle.postcard_de_nodes.specs.Reads.{MayAnswer, ReadsFrom}
+use Rattle.postcard_de_nodes.specs.Refuses.{RefusesFrom}
+use Rattle.postcard_de_nodes.specs.TakeLemmas.{faces}
+
+-- A refusal as a result.
+abbrev pub refusal : (A : Type 0) → Error → Result A Error
+refusal A e = Err e
+
+-- What `?` passes on is the refusal.
+pub is_refusal : {W : Type 0} (r : Result W Error) (e : Error) → IsErrAnd r (λ x. x ≡ e) →
+    r ≡ refusal W e
+is_refusal (Ok x) e h = absurd h
+is_refusal (Err d) e h = ap Err h
+
+-- Where two fronts of one list spell things that are read, they are one front and one thing.
+abbrev pub Delimits : {X : Type 0} → (X → List ℕ → Type 0) → (X → Type 0) → Type 0
+Delimits {X} spelled reads = (t s : X) (p q x y : List ℕ) → reads t → reads s → spelled t p →
+    spelled s q → p ++ x ≡ q ++ y → (p ≡ q) × (t ≡ s)
+
+-- Reasons to refuse that only stand where no front is read: more bytes are wanted only within such
+-- a front, and bad bytes begin none, but for want of memory; and are refused with an error that may
+-- be answered.
+pub record Excludes {X : Type 0} (grows : Type 0) (wants : List ℕ → ℕ → Type 0)
+    (bad : List ℕ → Error → Type 0) (spelled : X → List ℕ → Type 0) (reads : X → Type 0) : Type 0
+  where
+    pub within : (x : X) (p q : List ℕ) (n : ℕ) (y z : List ℕ) → wants p n → reads x → spelled x q →
+        p ++ y ≡ q ++ z → length p + n ≤ length q
+    pub none : (x : X) (p q : List ℕ) (e : Error) (y z : List ℕ) → bad p e → reads x → spelled x q →
+        p ++ y ≡ q ++ z → e ≡ OutOfMemory
+    pub named : (p : List ℕ) (e : Error) → bad p e → MayAnswer grows e
+
+module _ {S : Type 0} {left : S → Option (List ℕ)} {able : S → ℕ → Type 0} where
+  -- A reason to refuse, told in wider words.
+  pub widened : {wants wants' : List ℕ → ℕ → Type 0} {bad bad' : List ℕ → Error → Type 0}
+      {old new : S} {e : Error} → ((p : List ℕ) (n : ℕ) → wants p n → wants' p n) →
+      ((p : List ℕ) → bad p e → bad' p e) → RefusesFrom wants bad left able old e new →
+      RefusesFrom wants' bad' left able old e new
+  widened wide bad (inl (is, ends)) = inl (
+    is,
+    record {
+      front = ends.front;
+      behind = ends.behind;
+      taken = ends.taken;
+      count = ends.count;
+      wanted = wide ends.front ends.count ends.wanted;
+      lacks = ends.lacks;
+    },
+  )
+  widened wide bad (inr b) =
+      inr (record { front = b.front; taken = b.taken; why = bad b.front b.why })
+
+  -- More bytes are wanted behind a front that was taken.
+  pub behind_front : {wants : List ℕ → ℕ → Type 0} {bad : List ℕ → Error → Type 0} {old mid new : S}
+      {p : List ℕ} {n : ℕ} {e : Error} → Takes left able old p mid → wants p n → (able mid n → ⊥) →
+      e ≡ DeserializeUnexpectedEnd → RefusesFrom wants bad left able old e new
+  behind_front {mid = mid} {p = p} {n = n} t wanted lacks is =
+      inl (
+        is,
+        record {
+          front = p;
+          behind = mid;
+          taken = t;
+          count = n;
+          wanted = wanted;
+          lacks = lacks;
+        },
+      )
+
+module _ {S : Type 0} {left : S → Option (List ℕ)} {able : S → ℕ → Type 0}
+    {may_leave : S → S → Type 0} where
+  -- A front that spells something that is read was taken.
+  pub found : {X V : Type 0} {spelled : X → List ℕ → Type 0} {reads : X → Type 0}
+      {value : X → V → Type 0} {grows : Type 0} {old new : S} →
+      Delimits spelled reads → (x : X) (p : List ℕ) (v : V) → reads x → spelled x p → value x v →
+      Takes left able old p new → may_leave old new →
+      ReadsFrom spelled reads value grows left able may_leave old (Ok v) new
+  found {value = value} {old = old} {new = new} law x p v r s h t l = record {
+    gives = record { thing = x; front = p; is_read = r; is_spelled = s; has = h; taken = t };
+    accepts = λ y q a b c.
+        let f = faces t c in
+        let e = law x y p q f.0 f.1 r a s b f.2 in
+        (subst (λ z. value z v) e.1 h, subst (λ z. Takes left able old z new) e.0 t);
+    leaves = l;
+    names = tt;
+  }
+
+  -- A front that can be taken and read isn't where a call refuses, unless memory ran out.
+  no_front : {X : Type 0} {spelled : X → List ℕ → Type 0} {reads : X → Type 0} {grows : Type 0}
+      {wants : List ℕ → ℕ → Type 0} {bad : List ℕ → Error → Type 0} {old new : S} {e : Error} →
+      Laws left able may_leave → Excludes grows wants bad spelled reads →
+      RefusesFrom wants bad left able old e new → (x : X) (q : List ℕ) → reads x → spelled x q →
+      CanTake left able old q → e ≡ OutOfMemory
+  no_front {old = old} laws excludes (inl (is_end, ends)) x q r s c =
+      let f = faces ends.taken c in
+      let h = excludes.within x ends.front q ends.count f.0 f.1 ends.wanted r s f.2 in
+      absurd (ends.lacks (ends.taken.keeps ends.count
+      (laws.fewer old (length ends.front + ends.count) (length q) h c.enough)))
+  no_front {e = e} laws excludes (inr bad) x q r s c =
+      let f = faces bad.taken c in
+      excludes.none x bad.front q e f.0 f.1 bad.why r s f.2
+
+  -- A call that refuses for such a reason.
+  pub refused : {X V : Type 0} {spelled : X → List ℕ → Type 0} {reads : X → Type 0}
+      {value : X → V → Type 0} {grows : Type 0} {wants : List ℕ → ℕ → Type 0}
+      {bad : List ℕ → Error → Type 0} {old new : S} {e : Error} →
+      Laws left able may_leave → Excludes grows wants bad spelled reads →
+      RefusesFrom wants bad left able old e new → may_leave old new →
+      ReadsFrom spelled reads value grows left able may_leave old (refusal V e) new
+  refused {grows = grows} {wants = wants} {bad = bad} {old = old} {new = new} {e = e} laws excludes
+      why l = record {
+        gives = tt;
+        accepts = no_front laws excludes why;
+        leaves = l;
+        names = named why;
+      }
+    where
+      named : RefusesFrom wants bad left able old e new → MayAnswer grows e
+      named (inl (is, ends)) = subst (MayAnswer grows) (sym is) tt
+      named (inr b) = excludes.named b.front e b.why
+
+  -- Memory ran out.
+  pub out_of_memory : {X V : Type 0} {spelled : X → List ℕ → Type 0} {reads : X → Type 0}
+      {value : X → V → Type 0} {grows : Type 0} {old new : S} → may_leave old new → grows →
+      ReadsFrom spelled reads value grows left able may_leave old (refusal V OutOfMemory) new
+  out_of_memory l h = record { gives = tt; accepts = λ x p a b c. refl; leaves = l; names = h }

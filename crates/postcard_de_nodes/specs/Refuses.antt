@@ -1,0 +1,68 @@
+-- Why a reading call refuses, of one node (behaviour of postcard 1.1.3: the errors of its
+-- `deserialize_*` calls). Over a source whose every refusal is for want of bytes, as the one over a
+-- slice, each reason is exact.
+use Rattle.std.specs.Prelude.{◌≡◌, ℕ, ◌<◌, ◌^◌, ◌⊎◌, List, [], ◌++◌, length, Option, IsUtf8}
+use Rattle.postcard_wire.specs.declared.error.Error.{Error}
+use Rattle.postcard_wire.specs.declared.error.Error.TheVariants.{DeserializeUnexpectedEnd}
+use Rattle.postcard_wire.specs.declared.error.Error.TheVariants.{DeserializeBadVarint}
+use Rattle.postcard_wire.specs.declared.error.Error.TheVariants.{DeserializeBadUtf8, OutOfMemory}
+use Rattle.postcard_wire.specs.Number.{max_digits, GoesOn, SpellsNum, SpellsNone}
+use Rattle.postcard_de_flavors.specs.Source.{Takes}
+use Rattle.postcard_de_flavors.specs.declared.flavor.Flavor.{Ghosts}
+
+-- Once a front was taken, behind which n bytes more are wanted, the source isn't able to give them.
+pub record Ends {S : Type 0} (wants : List ℕ → ℕ → Type 0) (left : S → Option (List ℕ))
+    (able : S → ℕ → Type 0) (old : S) : Type 0 where
+  pub front : List ℕ
+  pub behind : S
+  pub taken : Takes left able old front behind
+  pub count : ℕ
+  pub wanted : wants front count
+  pub lacks : able behind count → ⊥
+
+-- A front was taken that is refused with the error e.
+pub record IsBad {S : Type 0} (bad : List ℕ → Error → Type 0) (left : S → Option (List ℕ))
+    (able : S → ℕ → Type 0) (old : S) (e : Error) (new : S) : Type 0 where
+  pub front : List ℕ
+  pub taken : Takes left able old front new
+  pub why : bad front e
+
+-- A call over a source that has `left s` left and is `able` to give so many bytes refuses with the
+-- error e: the bytes end where more are wanted, or a front is refused for what it is.
+abbrev pub RefusesFrom : {S : Type 0} → (List ℕ → ℕ → Type 0) → (List ℕ → Error → Type 0) →
+    (S → Option (List ℕ)) → (S → ℕ → Type 0) → S → Error → S → Type 0
+RefusesFrom wants bad left able old e new =
+    ((e ≡ DeserializeUnexpectedEnd) × Ends wants left able old) ⊎ IsBad bad left able old e new
+
+-- A call over a source of a flavor with the ghosts F refuses with the error e: the bytes end where
+-- more are wanted, or a front is refused for what it is.
+abbrev pub Refuses : {S M O : Type 0} → Ghosts S M O → (List ℕ → ℕ → Type 0) →
+    (List ℕ → Error → Type 0) → S → Error → S → Type 0
+Refuses F wants bad old e new = RefusesFrom wants bad F.left F.able old e new
+
+-- A byte is wanted before anything else.
+abbrev pub WantsByte : List ℕ → ℕ → Type 0
+WantsByte p n = (p ≡ []) × (n ≡ 1)
+
+-- No front is refused.
+abbrev pub NoneBad : List ℕ → Error → Type 0
+NoneBad p e = ⊥
+
+-- One byte more is wanted behind bytes that begin a number of w bits and don't end it.
+abbrev pub WantsDigit : ℕ → List ℕ → ℕ → Type 0
+WantsDigit w p n = GoesOn p × (length p < max_digits w) × (n ≡ 1)
+
+-- A number's full length of bytes that spell none of w bits.
+abbrev pub BadNumber : ℕ → List ℕ → Error → Type 0
+BadNumber w p e = (e ≡ DeserializeBadVarint) × SpellsNone w p
+
+-- A digit of the length is wanted, or behind the length as many bytes as it says.
+abbrev pub WantsText : List ℕ → ℕ → Type 0
+WantsText p n = WantsDigit 64 p n ⊎ (SpellsNum 64 n p × (n < 2 ^ 64))
+
+-- The length is refused, or the bytes behind it are no text, or they are and there is no memory for
+-- a copy.
+abbrev pub BadText : Type 0 → List ℕ → Error → Type 0
+BadText grows p e = BadNumber 64 p e ⊎ ((q : List ℕ) × (u : List ℕ) × SpellsNum 64 (length u) q
+    × (p ≡ q ++ u)
+    × (((e ≡ DeserializeBadUtf8) × (IsUtf8 u → ⊥)) ⊎ ((e ≡ OutOfMemory) × IsUtf8 u × grows)))

@@ -1,0 +1,66 @@
+//! Bytes behind their count, lent or copied.
+
+ghost use Rattle.std.specs.Prelude.{◌≡◌, ℕ, ◌<◌, IfErr, slice_index, ⊤};
+ghost use Rattle.postcard_wire.specs.Tree.{Byte};
+ghost use Rattle.postcard_wire.specs.Spelling.{Spells};
+ghost use Rattle.postcard_wire.specs.Reading.{IsByte, IsSeq};
+ghost use Rattle.postcard_shape.specs.Values.{ListIs};
+ghost use Rattle.postcard_de_nodes.specs.Reads.{Reads};
+ghost use Rattle.postcard_de_nodes.specs.Refuses.{Refuses, BadNumber, WantsText};
+ghost use Rattle.postcard_de_nodes.specs.Unfit.{BadBytes};
+
+use crate::numbers;
+use postcard_de_flavors::Flavor;
+use postcard_wire::{Error, Result};
+use std::alloc::Global;
+
+/// Returns the same slice. For the prover: the contract says that each element is below 256.
+fn in_range(bytes: &[u8]) -> &[u8]
+    ensures same { result.now ≡ bytes.now }
+    ensures range { (k : ℕ) → slice_index bytes.now k < 256 }
+{
+    bytes
+}
+
+/// Reads bytes that the source holds: their count, and the bytes (wire format 1.0, "byte array").
+/// The slice is valid as long as what the source reads from.
+///
+/// # Errors
+///
+/// Fails as [`numbers::count`] for the count, and with `DeserializeUnexpectedEnd` if fewer bytes
+/// are left.
+pub fn bytes<'de, F: Flavor>(flavor: &mut F) -> Result<&'de [u8]>
+where
+    F: 'de,
+    ensures reads { Reads F.Flavor Spells (IsSeq IsByte)
+        (λ t v. ListIs (λ s b. s ≡ Byte b) t v.now) ⊥
+        flavor.old result flavor.new }
+    ensures refused { IfErr result (λ e. Refuses F.Flavor WantsText (BadNumber 64)
+        flavor.old e flavor.new) }
+{
+    let count = numbers::count(flavor)?;
+    let lent = flavor.try_take_n(count)?;
+    let bytes = in_range(lent);
+    Ok(bytes)
+}
+
+/// Reads bytes and copies them into a new `Vec`, once they were taken.
+///
+/// # Errors
+///
+/// As [`bytes`], and fails with `OutOfMemory` if the allocation fails.
+pub fn bytes_copy<F: Flavor>(alloc: Global, flavor: &mut F) -> Result<Vec<u8>>
+    ensures reads { Reads F.Flavor Spells (IsSeq IsByte)
+        (λ t v. ListIs (λ s b. s ≡ Byte b) t v.items) ⊤
+        flavor.old result flavor.new }
+    ensures refused { IfErr result (λ e. Refuses F.Flavor WantsText BadBytes
+        flavor.old e flavor.new) }
+{
+    let count = numbers::count(flavor)?;
+    let lent = flavor.try_take_n_temp(count)?;
+    let bytes = in_range(lent);
+    match bytes.to_vec(alloc) {
+        Ok(copy) => Ok(copy),
+        Err(_) => Err(Error::OutOfMemory),
+    }
+}
