@@ -1,10 +1,10 @@
 //! The interface of a source.
 
-ghost use Rattle.std.specs.Prelude.{◌≡◌, ℕ, List, [], ◌∷◌, length, Option, Result, IfOk, IfErr, IsOk};
+ghost use Rattle.std.specs.Prelude.{◌≡◌, ◌<◌, ℕ, List, [], ◌∷◌, length, Option, Result, IfOk, IfErr, IsOk};
 ghost use Rattle.std.specs.Borrow.{sem};
 ghost use Rattle.std.specs.Io.BufRead.{Rests};
 ghost use Rattle.postcard_wire.specs.declared.error.Error.{Error};
-ghost use Rattle.postcard_de_flavors.specs.Source.{Takes, LendsFront, Laws};
+ghost use Rattle.postcard_de_flavors.specs.Source.{Takes, CanTake, LendsFront, Laws};
 
 use postcard_wire::{Error, Result};
 
@@ -47,6 +47,14 @@ pub trait Flavor: Drop {
     /// How many bytes are left, if the source can say.
     fn size_hint(&self) -> Option<usize>
         ensures { result ≡ hint self.now };
+
+    /// Returns bytes at the front of those left that stand in memory already, each of which can be
+    /// taken. Returns no bytes if the source can't tell, as one over a reader.
+    fn at_hand(&self) -> &[u8]
+        ensures can_take { 0 < length result.now → CanTake left able self.now result.now }
+    {
+        &[]
+    }
 
     /// Takes `ct` bytes, which live as long as what the source reads from.
     ///

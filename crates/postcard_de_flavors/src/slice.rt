@@ -1,9 +1,10 @@
 //! The source over a slice.
 
-ghost use Rattle.std.specs.Prelude.{◌≡◌, ◌↔◌, ℕ, ◌≤◌, ◌-◌, List, [], ◌∷◌, length, Some, IfOk, IfErr, OnErr, IsOk, MatchResult};
+ghost use Rattle.std.specs.Prelude.{◌≡◌, ◌↔◌, ℕ, ◌<◌, ◌≤◌, ◌-◌, List, [], ◌∷◌, drop, length, Some};
+ghost use Rattle.std.specs.Prelude.{IfOk, IfErr, OnErr, IsOk, MatchResult};
 ghost use Rattle.std.specs.Borrow.{sem};
 ghost use Rattle.std.specs.Io.BufRead.{Rests};
-ghost use Rattle.postcard_de_flavors.specs.Source.{Takes, LeavesRest, IsEndOf};
+ghost use Rattle.postcard_de_flavors.specs.Source.{Takes, CanTake, LeavesRest, IsEndOf};
 ghost use Rattle.postcard_de_flavors.specs.Kept.{slice_laws};
 
 use crate::flavor::Flavor;
@@ -39,6 +40,14 @@ impl<'de> Bytes<'de> {
         ensures all { result.now ≡ self.old }
     {
         &self.bytes[..len]
+    }
+
+    /// Returns the bytes from place `at` on.
+    fn from(&self, at: usize) -> &[u8]
+        requires { at ≤ length self.now }
+        ensures { result.now ≡ drop at self.now }
+    {
+        &self.bytes[at..]
     }
 }
 
@@ -120,6 +129,15 @@ impl<'de> Flavor for Slice<'de> {
         ensures { result ≡ Some (length self.now) }
     {
         Some(self.len - self.position)
+    }
+
+    /// Returns all bytes that are left.
+    fn at_hand(&self) -> &[u8]
+        ensures can_take { 0 < length result.now → CanTake ⟦<Slice<'de> as Flavor>⟧.left
+            ⟦<Slice<'de> as Flavor>⟧.able self.now result.now }
+        ensures all { result.now ≡ self.now }
+    {
+        self.bytes.from(self.position)
     }
 
     /// Takes the first `ct` bytes.

@@ -3,3 +3,4 @@ pub mod TextLemmas
 pub mod ShortTextLemmas
 pub mod CharLemmas
 pub mod ByteLemmas
+pub mod AtHandLemmas

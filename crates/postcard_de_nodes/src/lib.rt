@@ -14,5 +14,6 @@
 
 pub mod bytes;
 pub mod choices;
+pub mod lists;
 pub mod numbers;
 pub mod texts;

@@ -8,8 +8,8 @@ ghost use Rattle.postcard_de_nodes.specs.Reads.{Reads};
 ghost use Rattle.postcard_de_nodes.specs.Refuses.{Refuses, WantsDigit, BadNumber};
 
 use postcard_de_flavors::Flavor;
-use postcard_wire::Result;
 use postcard_wire::digits::Digits;
+use postcard_wire::{Error, Result};
 
 /// Reads a varint of a number of `bits` bits, which is 16, 32, 64 or 128. It has at most 3, 5, 10
 /// or 19 bytes (wire format 1.0, "varint").
@@ -18,6 +18,7 @@ use postcard_wire::digits::Digits;
 ///
 /// Fails with `DeserializeUnexpectedEnd` if the bytes end within the varint, and with
 /// `DeserializeBadVarint` if the varint is longer or the number is greater than `bits` bits allow.
+#[inline(always)]
 pub fn number<F: Flavor>(flavor: &mut F, bits: u32) -> Result<u128>
     requires { IsWidth bits }
     ensures reads { Reads F.Flavor (SpellsNum bits) (λ n. n < 2 ^ bits) Same ⊥
@@ -26,12 +27,15 @@ pub fn number<F: Flavor>(flavor: &mut F, bits: u32) -> Result<u128>
         flavor.old e flavor.new) }
 {
     let mut digits = Digits::new();
-    loop {
+    // Counted, so that the compiler unrolls it and each place is a constant. The last byte that the
+    // width allows always ends the varint, so what is after the loop is never reached.
+    for place in 0..(bits + 6) / 7 {
         let byte = flavor.pop()?;
         if let Some(n) = digits.push(bits, byte)? {
             return Ok(n);
         }
     }
+    Err(Error::DeserializeBadVarint)
 }
 
 /// Reads the count of a list or a map, or the length of a text or of bytes: a varint of 64 bits, of
@@ -40,6 +44,7 @@ pub fn number<F: Flavor>(flavor: &mut F, bits: u32) -> Result<u128>
 /// # Errors
 ///
 /// As [`number`].
+#[inline(always)]
 pub fn count<F: Flavor>(flavor: &mut F) -> Result<usize>
     ensures reads { Reads F.Flavor (SpellsNum 64) (λ n. n < 2 ^ 64) Same ⊥
         flavor.old result flavor.new }

@@ -2,14 +2,15 @@ use Rattle.postcard_de_nodes.specs.ReadLemmas.{is_refusal}
 use Rattle.postcard_de_nodes.proofs.VarintLoop.{begun, number_read, number_ends, number_bad, number_refused}
 use Rattle.postcard_de_nodes.proofs.numbers.number.Goals as goal
 
-pub loop-byte-init : goal.loop-byte-init
-loop-byte-init g c = begun g.F.Flavor.lawful c.args.bits c.new-digits.result
-    c.args.flavor.now (c.new-digits.ensures c.args.bits c.requires)
+pub loop-place-init : goal.loop-place-init
+loop-place-init g c =
+    let none = c.new-digits.ensures c.args.bits c.requires in
+    (begun g.F.Flavor.lawful c.args.bits c.new-digits.result c.args.flavor.now none, none.count)
 
 pub returns-in_err-byte-clause-reads : goal.returns-in_err-byte-clause-reads
 returns-in_err-byte-clause-reads g c =
     let laws = g.F.Flavor.lawful in
-    let so = c.loop-byte.invariant in
+    let so = c.loop-place.invariant.0 in
     rw (is_refusal c.from_residual.result c.in_err-byte.field-0.0 c.from_residual.ensures.1)
     (number_refused laws (number_ends laws so (λ a. let bad = c.in_err-byte.ensures.accepts a in cc)
     c.in_err-byte.ensures.refuses) (laws.joins _ _ _ so.leaves c.in_err-byte.ensures.leaves))
@@ -17,7 +18,7 @@ returns-in_err-byte-clause-reads g c =
 pub returns-in_err-n-clause-reads : goal.returns-in_err-n-clause-reads
 returns-in_err-n-clause-reads g c =
     let laws = g.F.Flavor.lawful in
-    let so = c.loop-byte.invariant in
+    let so = c.loop-place.invariant.0 in
     rw (is_refusal c.from_residual-in_err-n.result c.in_err-n.field-0.0
     c.from_residual-in_err-n.ensures.1)
     (number_refused laws (number_bad laws so c.in_ok-byte.ensures.gives
@@ -27,7 +28,7 @@ returns-in_err-n-clause-reads g c =
 pub returns-in_err-n-clause-refused : goal.returns-in_err-n-clause-refused
 returns-in_err-n-clause-refused g c =
     let laws = g.F.Flavor.lawful in
-    let so = c.loop-byte.invariant in
+    let so = c.loop-place.invariant.0 in
     rw (is_refusal c.from_residual-in_err-n.result c.in_err-n.field-0.0
     c.from_residual-in_err-n.ensures.1)
     (number_bad laws so c.in_ok-byte.ensures.gives (c.in_err-n.ensures so.front so.read))
@@ -35,6 +36,6 @@ returns-in_err-n-clause-refused g c =
 pub returns-in-Some-clause-reads : goal.returns-in-Some-clause-reads
 returns-in-Some-clause-reads g c =
     let laws = g.F.Flavor.lawful in
-    let so = c.loop-byte.invariant in
+    let so = c.loop-place.invariant.0 in
     let k = rw c.in-Some.is at (c.in_ok-n.ensures so.front so.read) in
     number_read laws so c.in_ok-byte.ensures.gives c.in_ok-byte.ensures.leaves k.0 k.1

@@ -1,11 +1,7 @@
-use Rattle.std.proofs.Common.{◌-◌}
-use Rattle.postcard_wire.specs.Number.{max_digits}
+use Rattle.std.proofs.Common.{◌≡◌}
 use Rattle.postcard_de_nodes.proofs.VarintLoop.{Within}
 use Rattle.postcard_de_nodes.proofs.numbers.number.Given as goal
 
-abbrev pub invariant-loop-byte : goal.invariant-loop-byte
-invariant-loop-byte g l = let f = g.F.Flavor in Within l.bits f.left f.able f.may_leave
-    l.fn.flavor l.digits l.flavor
-
-abbrev pub decreases-loop-byte : goal.decreases-loop-byte
-decreases-loop-byte g l = max_digits l.bits - l.digits.count
+abbrev pub invariant-loop-place : goal.invariant-loop-place
+invariant-loop-place g l = let f = g.F.Flavor in (Within l.bits f.left f.able f.may_leave
+    l.initial.flavor l.digits l.flavor) × (l.digits.count ≡ l.place)

@@ -1,0 +1,44 @@
+-- Reading a list whose bytes stand in memory.
+use Rattle.std.proofs.Common.{◌≡◌, ℕ, ◌≤◌, List, ◌++◌, length, take, drop, Option, Ok, refl, sym}
+use Rattle.std.proofs.Common.{◌∙◌, ap, subst, append_assoc}
+use Rattle.std.specs.Bool.{⊤}
+use Rattle.std.proofs.lemmas.List.{take-append-drop, length-take-le}
+use Rattle.postcard_wire.specs.Tree.{Tree, Trees, Group}
+use Rattle.postcard_wire.specs.Spelling.{SpellsAll}
+use Rattle.postcard_wire.specs.Reading.{IsDelimited}
+use Rattle.postcard_wire.proofs.Delimited.{same_front, array_delimited}
+use Rattle.postcard_shape.specs.Values.{EachIs, AreRead, AreOfBytes}
+use Rattle.postcard_de_flavors.specs.Source.{CanTake, Takes}
+use Rattle.postcard_de_nodes.specs.Reads.{ReadsFrom}
+use Rattle.postcard_de_nodes.specs.ReadLemmas.{Delimits, found}
+use Rattle.postcard_de_nodes.specs.TakeLemmas.{faces}
+
+-- The parts of one group are one.
+group_parts : (ts ss : Trees) → Group ts ≡ Group ss → ts ≡ ss
+group_parts ts ss e = cc
+
+-- Two fronts of some bytes that spell as many trees each are one front, and the trees are the same.
+row_delimits : (R : Tree → Type 0) → IsDelimited R → (n : ℕ) → Delimits SpellsAll (AreRead n R)
+row_delimits R d n ts ss p q x y a b s t e =
+    let k = array_delimited n R d (Group ts) (Group ss) p q x y (ts, refl, a.0, a.1)
+    (ss, refl, b.0, b.1) s t e in
+    (k.0, group_parts ts ss k.1)
+
+module _ {S V : Type 0} {left : S → Option (List ℕ)} {able : S → ℕ → Type 0}
+    {may_leave : S → S → Type 0} where
+  -- The first bytes at hand were made a list, and then as many were taken.
+  pub at_hand_read : {R : Tree → Type 0} {I : Tree → V → Type 0} {n : ℕ} {hand u : List ℕ}
+      {old new : S} {vs : List V} → IsDelimited R → AreOfBytes R I (take n hand) vs →
+      n ≤ length hand → CanTake left able old hand → length u ≡ n → Takes left able old u new →
+      may_leave old new →
+      ReadsFrom SpellsAll (AreRead n R) (EachIs I) ⊤ left able may_leave old (Ok vs) new
+  at_hand_read {R} {I} {n} {hand} {u} {old} {new} {vs} d w le can e t l =
+      let f = faces t can in
+      let k : length (take n hand) ≡ n = length-take-le n hand le in
+      let g : u ++ f.0 ≡ take n hand ++ (drop n hand ++ f.1) =
+      f.2 ∙ (ap (λ (z : List ℕ). z ++ f.1) (sym (take-append-drop n hand))
+      ∙ append_assoc (take n hand) (drop n hand) f.1) in
+      let same : u ≡ take n hand =
+      same_front u (take n hand) f.0 (drop n hand ++ f.1) (e ∙ sym k) g in
+      found (row_delimits R d n) w.0 (take n hand) vs (w.1.0 ∙ k, w.1.1) w.2 w.3
+      (subst (λ (z : List ℕ). Takes left able old z new) same t) l
