@@ -1,7 +1,8 @@
 -- Reading the elements of a list one by one.
-use Rattle.std.proofs.Common.{◌≡◌, ℕ, zero, suc, ◌-◌, List, [], ◌∷◌, ◌++◌, Option}
+use Rattle.std.proofs.Common.{◌≡◌, ℕ, zero, suc, ◌-◌, List, [], ◌∷◌, ◌++◌, Option, None}
 use Rattle.std.proofs.Common.{Ok, Err, Result, refl, ap, arith, append_assoc}
 use Rattle.std.proofs.Common.{append-nil}
+use Rattle.std.specs.Option.{IfNone}
 use Rattle.postcard_wire.specs.declared.error.Error.{Error}
 use Rattle.postcard_wire.specs.declared.error.Error.TheVariants.{OutOfMemory}
 use Rattle.postcard_wire.specs.Tree.{Tree, Trees, NoTrees, Then}
@@ -118,3 +119,15 @@ module _ {S V : Type 0} {left : S → Option (List ℕ)} {able : S → ℕ → T
 pub one_more_left : (n : ℕ) → (n ≡ 0 → ⊥) → n ≡ suc (n - 1)
 one_more_left zero h = absurd (h refl)
 one_more_left (suc n) h = omega arith
+
+-- What was read up to a state was read up to any state that equals it.
+pub not_moved : {X S V : Type 0} {spelled : X → List ℕ → Type 0} {reads : X → Type 0}
+    {value : X → V → Type 0} {grows : Type 0} {left : S → Option (List ℕ)} {able : S → ℕ → Type 0}
+    {may_leave : S → S → Type 0} {old mid new : S} {r : Result V Error} → new ≡ mid →
+    ReadsFrom spelled reads value grows left able may_leave old r mid →
+    ReadsFrom spelled reads value grows left able may_leave old r new
+not_moved e h = rw e h
+
+-- What holds where there is no value.
+pub at_none : {V P : Type 0} {o : Option V} → o ≡ None → IfNone o P → P
+at_none e h = rw e at h

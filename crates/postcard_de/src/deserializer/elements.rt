@@ -1,6 +1,6 @@
 //! The calls that read elements in a row, each by one loop.
 
-ghost use Rattle.std.specs.Prelude.{⊤};
+ghost use Rattle.std.specs.Prelude.{◌≡◌, [], ◌∷◌, ◌++◌, IfErr, OnOk, ⊤};
 ghost use Rattle.postcard_wire.specs.Spelling.{Spells};
 ghost use Rattle.postcard_wire.specs.Reading.{IsGroup, IsSeq, IsArray};
 ghost use Rattle.postcard_de.specs.Reads.{Reads};
@@ -13,11 +13,40 @@ use crate::deserializer::Deserializer;
 use crate::element::Element;
 use arrayvec::ArrayVec;
 use postcard_de_flavors::Flavor;
-use postcard_de_nodes::numbers;
+use postcard_de_nodes::{lists, numbers};
 use postcard_shape::Shaped;
 use postcard_wire::{Error, Result};
 use std::alloc::Global;
 use std::collections::BTreeMap;
+
+/// The number of elements that a list first asks memory for, once its first element was read.
+const FIRST_ROOM: usize = 16;
+
+/// Appends an element to a list of which `announced` elements are still to come, this one among
+/// them.
+///
+/// A full list asks for room for 16 elements at first and then for three times as many as it has,
+/// but never for more than are announced: so a few requests for memory serve a list, and none is
+/// greater than what was read explains, whatever count a damaged message announces.
+///
+/// # Errors
+///
+/// Fails with `OutOfMemory` if an allocation fails.
+fn push_announced<T: Drop>(items: &mut Vec<T>, item: T, announced: usize) -> Result<()>
+    ensures pushed { OnOk result (items.new.items ≡ items.old.items ++ item ∷ []) }
+    ensures refused { IfErr result (λ e. e ≡ Error.OutOfMemory) }
+{
+    if items.len() == items.capacity() {
+        let room = items.len().saturating_mul(3).max(FIRST_ROOM).min(announced);
+        if items.reserve_exact(room).is_err() {
+            return Err(Error::OutOfMemory);
+        }
+    }
+    match items.push(item) {
+        Ok(()) => Ok(()),
+        Err(_) => Err(Error::OutOfMemory),
+    }
+}
 
 impl<'de, F: Flavor> Deserializer<'de, F> {
     /// Reads a list: its count, and as many elements.
@@ -34,12 +63,13 @@ impl<'de, F: Flavor> Deserializer<'de, F> {
             (source_of self.old) result (source_of self.new) }
     {
         let count = numbers::count(&mut self.flavor)?;
+        if let Some(items) = lists::list_at_hand(alloc, &mut self.flavor, count)? {
+            return Ok(items);
+        }
         let mut items = Vec::new(alloc);
-        for _ in 0..count {
+        for i in 0..count {
             let item = E::element(alloc, self)?;
-            if items.push(item).is_err() {
-                return Err(Error::OutOfMemory);
-            }
+            push_announced(&mut items, item, count - i)?;
         }
         Ok(items)
     }
