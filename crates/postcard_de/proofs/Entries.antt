@@ -15,7 +15,8 @@ use Rattle.postcard_shape.specs.Maps.{IsEntry, EntryIs, inserted}
 use Rattle.postcard_shape.specs.Fixed.{IsFewSeq}
 use Rattle.postcard_de_nodes.specs.ReadLemmas.{refusal}
 use Rattle.postcard_de_nodes.specs.NumberLemmas.{Below}
-use Rattle.postcard_de_nodes.specs.CompoundLemmas.{Compound, first_refused, second_refused, both_read}
+use Rattle.postcard_de_nodes.specs.CompoundLemmas.{Compound, first_refused, second_refused}
+use Rattle.postcard_de_nodes.specs.CompoundLemmas.{both_read}
 use Rattle.postcard_de_nodes.specs.SeenLemmas.{none_follows}
 use Rattle.postcard_de.proofs.Parts.{struct_read, and_part, no_more, struct_fails, stops, and_fails}
 

@@ -13,7 +13,8 @@ use Rattle.postcard_shape.specs.Options.{ResultReads}
 use Rattle.postcard_de_nodes.specs.ReadLemmas.{refusal, is_refusal}
 use Rattle.postcard_de_nodes.specs.NumberLemmas.{Below}
 use Rattle.postcard_de_nodes.specs.SeenLemmas.{none_follows}
-use Rattle.postcard_de_nodes.specs.CompoundLemmas.{Compound, first_refused, second_refused, both_read}
+use Rattle.postcard_de_nodes.specs.CompoundLemmas.{Compound, first_refused, second_refused}
+use Rattle.postcard_de_nodes.specs.CompoundLemmas.{both_read}
 
 -- A variant is an index and a content.
 pub index_and_content : (content : ℕ → Tree → Type 0) →

@@ -12,7 +12,8 @@ use Rattle.postcard_de_nodes.specs.Reads.{ReadsFrom}
 use Rattle.postcard_shape.specs.Values.{EachIs, AreRead}
 use Rattle.postcard_de_nodes.specs.TakeLemmas.{nothing_taken}
 use Rattle.postcard_de_nodes.specs.ReadLemmas.{refusal, out_of_memory}
-use Rattle.postcard_de_nodes.specs.CompoundLemmas.{Compound, first_refused, second_refused, both_read}
+use Rattle.postcard_de_nodes.specs.CompoundLemmas.{Compound, first_refused, second_refused}
+use Rattle.postcard_de_nodes.specs.CompoundLemmas.{both_read}
 
 -- Values that were read, in front of those that are to come.
 abbrev pub behind : {V : Type 0} → List V → Result (List V) Error → Result (List V) Error

@@ -10,7 +10,8 @@ use Rattle.postcard_de_flavors.specs.Source.{Laws}
 use Rattle.postcard_de_nodes.specs.Reads.{ReadsFrom}
 use Rattle.postcard_de_nodes.specs.TakeLemmas.{nothing_taken}
 use Rattle.postcard_de_nodes.specs.ReadLemmas.{refusal, is_refusal}
-use Rattle.postcard_de_nodes.specs.CompoundLemmas.{Compound, first_refused, second_refused, both_read}
+use Rattle.postcard_de_nodes.specs.CompoundLemmas.{Compound, first_refused, second_refused}
+use Rattle.postcard_de_nodes.specs.CompoundLemmas.{both_read}
 
 -- Parts in a row are one and the rest.
 pub part_and_rest : {V : Type 0} (R : Tree → Type 0) (I : Tree → V → Type 0) (Rs : Trees → Type 0) →

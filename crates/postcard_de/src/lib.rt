@@ -15,9 +15,10 @@
 //! `struct_read laws (λ t h. h) (and_part laws FIRST (and_part laws SECOND (no_more laws)))` where
 //! all was read.
 //!
-//! In reading order: [`deserialize`] has the trait, [`deserializer`] the calls for one node, a
-//! module for each kind, [`access`] and [`map_access`] those for the elements of a list and the
-//! pairs of a map, [`values`] the types, [`laws`] what holds of every type that reads.
+//! In reading order: [`deserialize`] has the trait, [`deserializer`] the calls for one node, which
+//! are made of the functions of `postcard_de_nodes`, [`access`] and [`map_access`] those for the
+//! elements of a list and the pairs of a map, [`values`] the types, [`laws`] what holds of every
+//! type that reads.
 #![tactic(auto)]
 
 pub mod access;

@@ -19,7 +19,8 @@ use Rattle.postcard_de_nodes.specs.Refuses.{RefusesFrom, WantsDigit, BadNumber}
 use Rattle.postcard_de_nodes.specs.Unfit.{WantsChar, BadChar}
 use Rattle.postcard_shape.specs.Values.{Same}
 use Rattle.postcard_de_nodes.specs.TakeLemmas.{both_taken}
-use Rattle.postcard_de_nodes.specs.ReadLemmas.{Excludes, found, refused, refusal, widened, behind_front}
+use Rattle.postcard_de_nodes.specs.ReadLemmas.{Excludes, found, refused, refusal, widened}
+use Rattle.postcard_de_nodes.specs.ReadLemmas.{behind_front}
 use Rattle.postcard_de_nodes.specs.NumberLemmas.{Below, number_below, number_spelled}
 use Rattle.postcard_de_nodes.proofs.TextLemmas.{facing_length}
 

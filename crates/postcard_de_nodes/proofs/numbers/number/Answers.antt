@@ -1,5 +1,6 @@
 use Rattle.postcard_de_nodes.specs.ReadLemmas.{is_refusal}
-use Rattle.postcard_de_nodes.proofs.VarintLoop.{begun, number_read, number_ends, number_bad, number_refused}
+use Rattle.postcard_de_nodes.proofs.VarintLoop.{begun, number_read, number_ends, number_bad}
+use Rattle.postcard_de_nodes.proofs.VarintLoop.{number_refused}
 use Rattle.postcard_de_nodes.proofs.numbers.number.Goals as goal
 
 pub loop-place-init : goal.loop-place-init

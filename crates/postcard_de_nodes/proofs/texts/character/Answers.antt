@@ -1,7 +1,8 @@
 use Rattle.std.proofs.Common.{◌<◌, ◌≤◌, rules}
 use Rattle.std.specs.Char.{IsScalar}
 use Rattle.postcard_de_nodes.specs.ReadLemmas.{is_refusal}
-use Rattle.postcard_de_nodes.proofs.CharLemmas.{char_refused, char_length_refused, char_too_long, char_ends}
+use Rattle.postcard_de_nodes.proofs.CharLemmas.{char_refused, char_length_refused, char_too_long}
+use Rattle.postcard_de_nodes.proofs.CharLemmas.{char_ends}
 use Rattle.postcard_de_nodes.proofs.CharLemmas.{char_bad, char_read}
 use Rattle.postcard_de_nodes.proofs.texts.character.Goals as goal
 

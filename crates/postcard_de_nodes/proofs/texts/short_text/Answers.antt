@@ -2,7 +2,8 @@ use Rattle.std.proofs.Common.{◌≡◌, ℕ, ◌≤◌, ◌<◌, ◌^◌, inl, 
 use Rattle.std.specs.Prelude.{IsUtf8}
 use Rattle.postcard_shape.specs.Fixed.{short_text_inside}
 use Rattle.postcard_de_nodes.specs.ReadLemmas.{widened}
-use Rattle.postcard_de_nodes.proofs.TextLemmas.{text_refused, length_refused, text_ends, text_bad, text_read}
+use Rattle.postcard_de_nodes.proofs.TextLemmas.{text_refused, length_refused, text_ends, text_bad}
+use Rattle.postcard_de_nodes.proofs.TextLemmas.{text_read}
 use Rattle.postcard_de_nodes.specs.NumberLemmas.{number_below}
 use Rattle.postcard_de_nodes.specs.SeenLemmas.{seen_as, unfit, refused_too, passed_on}
 use Rattle.postcard_de_nodes.proofs.ShortTextLemmas.{short_fits, long_unfit, text_long}

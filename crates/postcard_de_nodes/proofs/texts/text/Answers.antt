@@ -1,6 +1,7 @@
 use Rattle.std.proofs.Common.{ℕ, List, Bor}
 use Rattle.postcard_de_nodes.specs.ReadLemmas.{is_refusal}
-use Rattle.postcard_de_nodes.proofs.TextLemmas.{text_refused, length_refused, text_ends, text_bad, text_read}
+use Rattle.postcard_de_nodes.proofs.TextLemmas.{text_refused, length_refused, text_ends, text_bad}
+use Rattle.postcard_de_nodes.proofs.TextLemmas.{text_read}
 use Rattle.postcard_de_nodes.proofs.texts.text.Goals as goal
 
 pub returns-in_err-count-clause-reads : goal.returns-in_err-count-clause-reads
