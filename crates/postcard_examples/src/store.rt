@@ -117,6 +117,7 @@ pub fn settings_size() -> Option<usize>
 }
 
 /// Settings as bytes, in memory of a fixed size.
+#[derive(Drop)]
 pub struct Store {
     memory: [u8; SETTINGS_SIZE],
 }
