@@ -4,12 +4,11 @@ ghost use Rattle.postcard_examples.specs.declared.store.Mode.{Mode};
 ghost use Rattle.std.specs.Prelude.{◌≡◌, Some, IsOk};
 
 use arrayvec::ArrayString;
-use postcard::experimental::max_size::laws::within_max_size;
-use postcard::experimental::max_size::{MaxSize, MaxSizeRepr};
+use postcard::experimental::max_size::{MaxSize, MaxSizeRepr, fill_max_size};
 use postcard::ser_flavors::Flavor;
 use postcard::{
-    Case, FromRepr, NoCase, Repr, Result, Serialize, SerializeRepr, Serializer, fill_slice,
-    from_bytes, serialize_variant,
+    Case, FromRepr, NoCase, Repr, Result, Serialize, SerializeRepr, Serializer, from_bytes,
+    serialize_variant,
 };
 use std::alloc::Global;
 
@@ -118,6 +117,7 @@ pub fn settings_size() -> Option<usize>
 }
 
 /// Settings as bytes, in memory of a fixed size.
+#[derive(Drop)]
 pub struct Store {
     memory: [u8; SETTINGS_SIZE],
 }
@@ -135,8 +135,7 @@ impl Store {
     pub fn save(&mut self, settings: &Settings) -> Result<usize>
         ensures { IsOk result }
     {
-        within_max_size(settings);
-        fill_slice(settings, &mut self.memory)
+        fill_max_size(settings, &mut self.memory)
     }
 
     /// Returns the settings that were saved last.

@@ -10,8 +10,10 @@ use crate::percent::Percent;
 use crate::reading::Reading;
 use crate::source::Counted;
 use crate::station::{Position, Station};
+use crate::store::{Mode, SETTINGS_SIZE, Settings, Store, settings_size};
 use crate::theorems::{reading_comes_back, station_comes_back, u32_fits_five_bytes};
 use crate::trailer::Trailed;
+use arrayvec::ArrayString;
 use postcard::ser_flavors::{AllocVec, HVec, Size};
 use postcard::{
     Deserialize, DeserializeOwned, Error, Owned, Result, Serialize, from_bytes, from_io,
@@ -201,6 +203,28 @@ fn what_is_written_comes_back(rt: HostRuntime) -> std::result::Result<(), Fail> 
     let mut buffer = [0; 5];
     assert_eq!(rt; u32_fits_five_bytes(u32::MAX, &mut buffer), Ok(5));
     assert_eq!(rt; buffer, [0xFF, 0xFF, 0xFF, 0xFF, 0x0F]);
+    Ok(())
+}
+
+#[test]
+fn settings_in_a_buffer_of_the_greatest_size(rt: HostRuntime) -> std::result::Result<(), Fail> {
+    let settings = Settings {
+        name: ArrayString::from("kitchen (window)")?,
+        color: Some(u16::MAX),
+        mode: Mode::On(u16::MAX),
+    };
+    let mut store = Store::new();
+    assert_eq!(rt; settings_size(), Some(SETTINGS_SIZE));
+    assert_eq!(rt; store.load(rt.alloc())?.mode, Mode::Off);
+    assert_eq!(rt; store.save(&settings), Ok(25));
+    assert_eq!(rt; store.load(rt.alloc())?, settings);
+    let timer = Settings {
+        name: ArrayString::from("")?,
+        color: None,
+        mode: Mode::Timer { from: 7, to: 22 },
+    };
+    let bytes = [0, 0, 2, 7, 22];
+    is_there_and_back(&rt, timer, &bytes);
     Ok(())
 }
 

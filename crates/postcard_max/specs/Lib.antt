@@ -1,5 +1,6 @@
 pub mod Sizes
 pub mod Limits
+pub mod Willing
 pub mod Counts
 pub mod Leaves
 pub mod Containers

@@ -1,6 +1,7 @@
 //! The greatest size of an enum: that of its greatest variant, the index and the content.
 
 ghost use Rattle.std.specs.Prelude.{◌≡◌, ℕ, Option, Some, ⊤};
+ghost use Rattle.postcard_max.specs.Willing.{Never, case_never};
 ghost use Rattle.postcard_max.specs.Sizes.{sum_of, index_len as len_of};
 ghost use Rattle.postcard_max.specs.Cases.{
   CasesBounded,
@@ -32,6 +33,9 @@ pub trait MaxCases: Cased {
     /// Whether the encoding of some variant is as long.
     ghost reached: { Option ℕ → Type 0 };
 
+    /// Whether no content refuses itself when it is written.
+    ghost willing: { Type 0 };
+
     /// Returns the greatest size in bytes of a variant with its index, where the first variant has
     /// the index `index`, or `None` if it does not fit `usize`.
     fn cases_size(index: Option<usize>) -> Option<usize>
@@ -42,12 +46,17 @@ pub trait MaxCases: Cased {
 
     /// If `reached` holds, that of some variant with a content that is read is as long.
     ghost is_reached: { (i : Option ℕ) → reached i → CasesReached i (greatest i) Self.cases.reads };
+
+    /// If `willing` holds, no content refuses itself.
+    ghost never_refuses: { willing → Never Self.cases.refuses };
 }
 
 impl MaxCases for NoCase {
     ghost greatest = { no_case_greatest };
 
     ghost reached = { λ _. ⊤ };
+
+    ghost willing = { ⊤ };
 
     fn cases_size(index: Option<usize>) -> Option<usize> {
         match index {
@@ -59,12 +68,16 @@ impl MaxCases for NoCase {
     ghost bounded = { no_case_bounded };
 
     ghost is_reached = { λ i _. no_case_reached i };
+
+    ghost never_refuses = { λ _ _ refuses. refuses };
 }
 
 impl<A: MaxSize, R: MaxCases> MaxCases for Case<A, R> {
     ghost greatest = { case_greatest A.greatest R.greatest };
 
     ghost reached = { λ i. IsIndex i × A.reached × R.reached (sum_of i (Some 1)) };
+
+    ghost willing = { A.willing × R.willing };
 
     fn cases_size(index: Option<usize>) -> Option<usize> {
         greater(
@@ -77,6 +90,9 @@ impl<A: MaxSize, R: MaxCases> MaxCases for Case<A, R> {
 
     ghost is_reached = { λ i r. case_reached A.greatest R.greatest _ _ i
         r.0 (A.is_reached r.1) (R.is_reached (sum_of i (Some 1)) r.2) };
+
+    ghost never_refuses = { λ w. case_never A.shape.refuses R.cases.refuses
+        (A.never_refuses w.0) (R.never_refuses w.1) };
 }
 
 /// Returns the number of bytes of a variant's index.
@@ -94,6 +110,8 @@ impl<A: MaxSize, R: MaxCases> SizeBound for Case<A, R> {
 
     ghost reached = { A.reached × R.reached (sum_of (Some 0) (Some 1)) };
 
+    ghost willing = { A.willing × R.willing };
+
     fn size_bound() -> Option<usize> {
         <Case<A, R> as MaxCases>::cases_size(Some(0))
     }
@@ -104,4 +122,7 @@ impl<A: MaxSize, R: MaxCases> SizeBound for Case<A, R> {
     ghost is_reached = { λ r. variants_reached A.greatest R.greatest _
         (case_reached A.greatest R.greatest _ _ (Some 0)
         zero_index (A.is_reached r.0) (R.is_reached (sum_of (Some 0) (Some 1)) r.1)) };
+
+    ghost never_refuses = { λ w. case_never A.shape.refuses R.cases.refuses
+        (A.never_refuses w.0) (R.never_refuses w.1) };
 }

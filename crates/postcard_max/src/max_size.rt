@@ -2,6 +2,7 @@
 
 ghost use Rattle.std.specs.Prelude.{◌≡◌, ℕ, Option};
 ghost use Rattle.postcard_max.specs.Limits.{AreBounded, IsReached};
+ghost use Rattle.postcard_max.specs.Willing.{Never};
 
 use postcard_shape::{Repr, Shaped};
 
@@ -15,6 +16,9 @@ pub trait MaxSize: Shaped {
 
     /// Whether some encoding is as long as the greatest size.
     ghost reached: { Type 0 };
+
+    /// Whether no value refuses itself when it is written.
+    ghost willing: { Type 0 };
 
     /// Returns the number of bytes of the longest encoding of this type's values, or `None` if that
     /// number does not fit `usize`.
@@ -32,6 +36,9 @@ pub trait MaxSize: Shaped {
 
     /// If `reached` holds, the canonical encoding of some tree that the type reads is as long.
     ghost is_reached: { reached → IsReached greatest Self.shape.reads };
+
+    /// If `willing` holds, no value refuses itself.
+    ghost never_refuses: { willing → Never Self.shape.refuses };
 }
 
 /// What a type with a greatest size may be seen as: a type with [`MaxSize`], parts in a row
@@ -45,6 +52,9 @@ pub trait SizeBound: Shaped {
     /// Whether some encoding is as long as the greatest size.
     ghost reached: { Type 0 };
 
+    /// Whether no value refuses itself when it is written.
+    ghost willing: { Type 0 };
+
     /// Returns the greatest size in bytes, or `None` if it does not fit `usize`.
     fn size_bound() -> Option<usize>
         ensures { result ≡ greatest };
@@ -54,12 +64,17 @@ pub trait SizeBound: Shaped {
 
     /// If `reached` holds, the canonical encoding of some tree that the type reads is as long.
     ghost is_reached: { reached → IsReached greatest Self.shape.reads };
+
+    /// If `willing` holds, no value refuses itself.
+    ghost never_refuses: { willing → Never Self.shape.refuses };
 }
 
 impl<T: MaxSize> SizeBound for T {
     ghost greatest = { T.greatest };
 
     ghost reached = { T.reached };
+
+    ghost willing = { T.willing };
 
     fn size_bound() -> Option<usize> {
         T::postcard_max_size()
@@ -68,6 +83,8 @@ impl<T: MaxSize> SizeBound for T {
     ghost bounded = { T.bounded };
 
     ghost is_reached = { T.is_reached };
+
+    ghost never_refuses = { T.never_refuses };
 }
 
 /// A type that has the greatest size of what it is seen as, by its `Repr`: a struct that of the
@@ -87,6 +104,8 @@ where
 
     ghost reached = { T.As.reached };
 
+    ghost willing = { T.As.willing };
+
     fn postcard_max_size() -> Option<usize> {
         T::As::size_bound()
     }
@@ -98,4 +117,6 @@ where
     ghost bounded = { T.As.bounded };
 
     ghost is_reached = { T.As.is_reached };
+
+    ghost never_refuses = { λ w v. T.As.never_refuses w (T.repr v) };
 }

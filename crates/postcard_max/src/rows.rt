@@ -2,6 +2,7 @@
 
 ghost use Rattle.std.specs.Prelude.{◌≡◌, ℕ, Option, Some, ⊤};
 ghost use Rattle.postcard_max.specs.Limits.{RowBounded, RowReached};
+ghost use Rattle.postcard_max.specs.Willing.{Never, then_never};
 ghost use Rattle.postcard_max.specs.Sizes.{sum_of};
 ghost use Rattle.postcard_max.specs.Rows.{
   end_bounded,
@@ -25,6 +26,9 @@ pub trait MaxParts: Parts {
     /// Whether some encoding is as long as the sum.
     ghost reached: { Type 0 };
 
+    /// Whether no part refuses itself when it is written.
+    ghost willing: { Type 0 };
+
     /// Returns the sum of the parts' greatest sizes in bytes, or `None` if it does not fit `usize`.
     fn parts_size() -> Option<usize>
         ensures { result ≡ greatest };
@@ -34,12 +38,17 @@ pub trait MaxParts: Parts {
 
     /// If `reached` holds, those of some trees that the parts read are as long together.
     ghost is_reached: { reached → RowReached greatest Self.parts.reads };
+
+    /// If `willing` holds, no part refuses itself.
+    ghost never_refuses: { willing → Never Self.parts.refuses };
 }
 
 impl MaxParts for () {
     ghost greatest = { Some 0 };
 
     ghost reached = { ⊤ };
+
+    ghost willing = { ⊤ };
 
     fn parts_size() -> Option<usize> {
         Some(0)
@@ -48,12 +57,16 @@ impl MaxParts for () {
     ghost bounded = { end_bounded };
 
     ghost is_reached = { λ _. end_reached };
+
+    ghost never_refuses = { λ _ _ refuses. refuses };
 }
 
 impl<A: MaxSize, R: MaxParts> MaxParts for Part<A, R> {
     ghost greatest = { sum_of A.greatest R.greatest };
 
     ghost reached = { A.reached × R.reached };
+
+    ghost willing = { A.willing × R.willing };
 
     fn parts_size() -> Option<usize> {
         sum(A::postcard_max_size(), R::parts_size())
@@ -63,12 +76,17 @@ impl<A: MaxSize, R: MaxParts> MaxParts for Part<A, R> {
 
     ghost is_reached = { λ r.
         then_reached A.greatest R.greatest _ _ (A.is_reached r.0) (R.is_reached r.1) };
+
+    ghost never_refuses = { λ w v.
+        then_never (A.never_refuses w.0 v.0) (R.never_refuses w.1 v.1) };
 }
 
 impl<A: MaxSize, R: MaxParts> SizeBound for Part<A, R> {
     ghost greatest = { sum_of A.greatest R.greatest };
 
     ghost reached = { A.reached × R.reached };
+
+    ghost willing = { A.willing × R.willing };
 
     fn size_bound() -> Option<usize> {
         <Part<A, R> as MaxParts>::parts_size()
@@ -79,4 +97,7 @@ impl<A: MaxSize, R: MaxParts> SizeBound for Part<A, R> {
 
     ghost is_reached = { λ r. group_reached _ _
         (then_reached A.greatest R.greatest _ _ (A.is_reached r.0) (R.is_reached r.1)) };
+
+    ghost never_refuses = { λ w v.
+        then_never (A.never_refuses w.0 v.0) (R.never_refuses w.1 v.1) };
 }

@@ -19,6 +19,8 @@ pub use postcard_max::{MaxSize, MaxSizeRepr, SizeBound, cases, laws, rows, sizes
 pub fn fill_max_size<T: Serialize + MaxSize>(value: &T, buffer: &mut [u8]) -> Result<usize>
     ensures enough { ¬ T.shape.refuses value.now
         → IfSome T.greatest (λ m. m ≤ length buffer.old → IsOk result) }
+    ensures always_enough { T.willing
+        → IfSome T.greatest (λ m. m ≤ length buffer.old → IsOk result) }
 {
     laws::within_max_size(value);
     fill_slice(value, buffer)

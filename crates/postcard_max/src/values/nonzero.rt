@@ -16,6 +16,8 @@ impl MaxSize for NonZeroU8 {
 
     ghost reached = { ⊤ };
 
+    ghost willing = { ⊤ };
+
     fn postcard_max_size() -> Option<usize> {
         Some(1)
     }
@@ -27,6 +29,8 @@ impl MaxSize for NonZeroU8 {
     ghost bounded = { nonzero_byte_bounded };
 
     ghost is_reached = { λ _. nonzero_byte_reached };
+
+    ghost never_refuses = { λ _ _ refuses. refuses };
 }
 
 /// As the `u16`.
@@ -34,6 +38,8 @@ impl MaxSize for NonZeroU16 {
     ghost greatest = { Some 3 };
 
     ghost reached = { ⊤ };
+
+    ghost willing = { ⊤ };
 
     fn postcard_max_size() -> Option<usize> {
         Some(3)
@@ -46,6 +52,8 @@ impl MaxSize for NonZeroU16 {
     ghost bounded = { nonzero_num_bounded 16 (inl refl) };
 
     ghost is_reached = { λ _. nonzero_num_reached 16 (inl refl) };
+
+    ghost never_refuses = { λ _ _ refuses. refuses };
 }
 
 /// As the `u32`.
@@ -53,6 +61,8 @@ impl MaxSize for NonZeroU32 {
     ghost greatest = { Some 5 };
 
     ghost reached = { ⊤ };
+
+    ghost willing = { ⊤ };
 
     fn postcard_max_size() -> Option<usize> {
         Some(5)
@@ -65,6 +75,8 @@ impl MaxSize for NonZeroU32 {
     ghost bounded = { nonzero_num_bounded 32 (inr (inl refl)) };
 
     ghost is_reached = { λ _. nonzero_num_reached 32 (inr (inl refl)) };
+
+    ghost never_refuses = { λ _ _ refuses. refuses };
 }
 
 /// As the `u64`.
@@ -72,6 +84,8 @@ impl MaxSize for NonZeroU64 {
     ghost greatest = { Some 10 };
 
     ghost reached = { ⊤ };
+
+    ghost willing = { ⊤ };
 
     fn postcard_max_size() -> Option<usize> {
         Some(10)
@@ -84,6 +98,8 @@ impl MaxSize for NonZeroU64 {
     ghost bounded = { nonzero_num_bounded 64 (inr (inr (inl refl))) };
 
     ghost is_reached = { λ _. nonzero_num_reached 64 (inr (inr (inl refl))) };
+
+    ghost never_refuses = { λ _ _ refuses. refuses };
 }
 
 /// As the `u128`.
@@ -91,6 +107,8 @@ impl MaxSize for NonZeroU128 {
     ghost greatest = { Some 19 };
 
     ghost reached = { ⊤ };
+
+    ghost willing = { ⊤ };
 
     fn postcard_max_size() -> Option<usize> {
         Some(19)
@@ -103,6 +121,8 @@ impl MaxSize for NonZeroU128 {
     ghost bounded = { nonzero_num_bounded 128 (inr (inr (inr refl))) };
 
     ghost is_reached = { λ _. nonzero_num_reached 128 (inr (inr (inr refl))) };
+
+    ghost never_refuses = { λ _ _ refuses. refuses };
 }
 
 /// As the `usize`.
@@ -110,6 +130,8 @@ impl MaxSize for NonZeroUsize {
     ghost greatest = { Some 10 };
 
     ghost reached = { ⊤ };
+
+    ghost willing = { ⊤ };
 
     fn postcard_max_size() -> Option<usize> {
         Some(10)
@@ -122,6 +144,8 @@ impl MaxSize for NonZeroUsize {
     ghost bounded = { nonzero_num_bounded 64 (inr (inr (inl refl))) };
 
     ghost is_reached = { λ _. nonzero_num_reached 64 (inr (inr (inl refl))) };
+
+    ghost never_refuses = { λ _ _ refuses. refuses };
 }
 
 /// As the `i8`.
@@ -129,6 +153,8 @@ impl MaxSize for NonZeroI8 {
     ghost greatest = { Some 1 };
 
     ghost reached = { ⊤ };
+
+    ghost willing = { ⊤ };
 
     fn postcard_max_size() -> Option<usize> {
         Some(1)
@@ -141,6 +167,8 @@ impl MaxSize for NonZeroI8 {
     ghost bounded = { nonzero_byte_bounded };
 
     ghost is_reached = { λ _. nonzero_byte_reached };
+
+    ghost never_refuses = { λ _ _ refuses. refuses };
 }
 
 /// As the `i16`.
@@ -148,6 +176,8 @@ impl MaxSize for NonZeroI16 {
     ghost greatest = { Some 3 };
 
     ghost reached = { ⊤ };
+
+    ghost willing = { ⊤ };
 
     fn postcard_max_size() -> Option<usize> {
         Some(3)
@@ -160,6 +190,8 @@ impl MaxSize for NonZeroI16 {
     ghost bounded = { nonzero_int_bounded 16 (inl refl) };
 
     ghost is_reached = { λ _. nonzero_int_reached 16 (inl refl) };
+
+    ghost never_refuses = { λ _ _ refuses. refuses };
 }
 
 /// As the `i32`.
@@ -167,6 +199,8 @@ impl MaxSize for NonZeroI32 {
     ghost greatest = { Some 5 };
 
     ghost reached = { ⊤ };
+
+    ghost willing = { ⊤ };
 
     fn postcard_max_size() -> Option<usize> {
         Some(5)
@@ -179,6 +213,8 @@ impl MaxSize for NonZeroI32 {
     ghost bounded = { nonzero_int_bounded 32 (inr (inl refl)) };
 
     ghost is_reached = { λ _. nonzero_int_reached 32 (inr (inl refl)) };
+
+    ghost never_refuses = { λ _ _ refuses. refuses };
 }
 
 /// As the `i64`.
@@ -186,6 +222,8 @@ impl MaxSize for NonZeroI64 {
     ghost greatest = { Some 10 };
 
     ghost reached = { ⊤ };
+
+    ghost willing = { ⊤ };
 
     fn postcard_max_size() -> Option<usize> {
         Some(10)
@@ -198,6 +236,8 @@ impl MaxSize for NonZeroI64 {
     ghost bounded = { nonzero_int_bounded 64 (inr (inr (inl refl))) };
 
     ghost is_reached = { λ _. nonzero_int_reached 64 (inr (inr (inl refl))) };
+
+    ghost never_refuses = { λ _ _ refuses. refuses };
 }
 
 /// As the `i128`.
@@ -205,6 +245,8 @@ impl MaxSize for NonZeroI128 {
     ghost greatest = { Some 19 };
 
     ghost reached = { ⊤ };
+
+    ghost willing = { ⊤ };
 
     fn postcard_max_size() -> Option<usize> {
         Some(19)
@@ -217,6 +259,8 @@ impl MaxSize for NonZeroI128 {
     ghost bounded = { nonzero_int_bounded 128 (inr (inr (inr refl))) };
 
     ghost is_reached = { λ _. nonzero_int_reached 128 (inr (inr (inr refl))) };
+
+    ghost never_refuses = { λ _ _ refuses. refuses };
 }
 
 /// As the `isize`.
@@ -224,6 +268,8 @@ impl MaxSize for NonZeroIsize {
     ghost greatest = { Some 10 };
 
     ghost reached = { ⊤ };
+
+    ghost willing = { ⊤ };
 
     fn postcard_max_size() -> Option<usize> {
         Some(10)
@@ -236,4 +282,6 @@ impl MaxSize for NonZeroIsize {
     ghost bounded = { nonzero_int_bounded 64 (inr (inr (inl refl))) };
 
     ghost is_reached = { λ _. nonzero_int_reached 64 (inr (inr (inl refl))) };
+
+    ghost never_refuses = { λ _ _ refuses. refuses };
 }

@@ -22,6 +22,8 @@ impl MaxSize for u8 {
 
     ghost reached = { ⊤ };
 
+    ghost willing = { ⊤ };
+
     fn postcard_max_size() -> Option<usize> {
         Some(1)
     }
@@ -33,6 +35,8 @@ impl MaxSize for u8 {
     ghost bounded = { byte_bounded };
 
     ghost is_reached = { λ _. byte_reached };
+
+    ghost never_refuses = { λ _ _ refuses. refuses };
 }
 
 /// Three bytes, the most of a varint of 16 bits.
@@ -40,6 +44,8 @@ impl MaxSize for u16 {
     ghost greatest = { Some 3 };
 
     ghost reached = { ⊤ };
+
+    ghost willing = { ⊤ };
 
     fn postcard_max_size() -> Option<usize> {
         Some(3)
@@ -52,6 +58,8 @@ impl MaxSize for u16 {
     ghost bounded = { num_bounded 16 (inl refl) };
 
     ghost is_reached = { λ _. num_reached 16 (inl refl) };
+
+    ghost never_refuses = { λ _ _ refuses. refuses };
 }
 
 /// Five bytes, the most of a varint of 32 bits.
@@ -59,6 +67,8 @@ impl MaxSize for u32 {
     ghost greatest = { Some 5 };
 
     ghost reached = { ⊤ };
+
+    ghost willing = { ⊤ };
 
     fn postcard_max_size() -> Option<usize> {
         Some(5)
@@ -71,6 +81,8 @@ impl MaxSize for u32 {
     ghost bounded = { num_bounded 32 (inr (inl refl)) };
 
     ghost is_reached = { λ _. num_reached 32 (inr (inl refl)) };
+
+    ghost never_refuses = { λ _ _ refuses. refuses };
 }
 
 /// Ten bytes, the most of a varint of 64 bits.
@@ -78,6 +90,8 @@ impl MaxSize for u64 {
     ghost greatest = { Some 10 };
 
     ghost reached = { ⊤ };
+
+    ghost willing = { ⊤ };
 
     fn postcard_max_size() -> Option<usize> {
         Some(10)
@@ -90,6 +104,8 @@ impl MaxSize for u64 {
     ghost bounded = { num_bounded 64 (inr (inr (inl refl))) };
 
     ghost is_reached = { λ _. num_reached 64 (inr (inr (inl refl))) };
+
+    ghost never_refuses = { λ _ _ refuses. refuses };
 }
 
 /// Nineteen bytes, the most of a varint of 128 bits.
@@ -97,6 +113,8 @@ impl MaxSize for u128 {
     ghost greatest = { Some 19 };
 
     ghost reached = { ⊤ };
+
+    ghost willing = { ⊤ };
 
     fn postcard_max_size() -> Option<usize> {
         Some(19)
@@ -109,6 +127,8 @@ impl MaxSize for u128 {
     ghost bounded = { num_bounded 128 (inr (inr (inr refl))) };
 
     ghost is_reached = { λ _. num_reached 128 (inr (inr (inr refl))) };
+
+    ghost never_refuses = { λ _ _ refuses. refuses };
 }
 
 /// One byte.
@@ -116,6 +136,8 @@ impl MaxSize for i8 {
     ghost greatest = { Some 1 };
 
     ghost reached = { ⊤ };
+
+    ghost willing = { ⊤ };
 
     fn postcard_max_size() -> Option<usize> {
         Some(1)
@@ -128,6 +150,8 @@ impl MaxSize for i8 {
     ghost bounded = { byte_bounded };
 
     ghost is_reached = { λ _. byte_reached };
+
+    ghost never_refuses = { λ _ _ refuses. refuses };
 }
 
 /// Three bytes, the most of a varint of 16 bits.
@@ -135,6 +159,8 @@ impl MaxSize for i16 {
     ghost greatest = { Some 3 };
 
     ghost reached = { ⊤ };
+
+    ghost willing = { ⊤ };
 
     fn postcard_max_size() -> Option<usize> {
         Some(3)
@@ -147,6 +173,8 @@ impl MaxSize for i16 {
     ghost bounded = { int_bounded 16 (inl refl) };
 
     ghost is_reached = { λ _. int_reached 16 (inl refl) };
+
+    ghost never_refuses = { λ _ _ refuses. refuses };
 }
 
 /// Five bytes, the most of a varint of 32 bits.
@@ -154,6 +182,8 @@ impl MaxSize for i32 {
     ghost greatest = { Some 5 };
 
     ghost reached = { ⊤ };
+
+    ghost willing = { ⊤ };
 
     fn postcard_max_size() -> Option<usize> {
         Some(5)
@@ -166,6 +196,8 @@ impl MaxSize for i32 {
     ghost bounded = { int_bounded 32 (inr (inl refl)) };
 
     ghost is_reached = { λ _. int_reached 32 (inr (inl refl)) };
+
+    ghost never_refuses = { λ _ _ refuses. refuses };
 }
 
 /// Ten bytes, the most of a varint of 64 bits.
@@ -173,6 +205,8 @@ impl MaxSize for i64 {
     ghost greatest = { Some 10 };
 
     ghost reached = { ⊤ };
+
+    ghost willing = { ⊤ };
 
     fn postcard_max_size() -> Option<usize> {
         Some(10)
@@ -185,6 +219,8 @@ impl MaxSize for i64 {
     ghost bounded = { int_bounded 64 (inr (inr (inl refl))) };
 
     ghost is_reached = { λ _. int_reached 64 (inr (inr (inl refl))) };
+
+    ghost never_refuses = { λ _ _ refuses. refuses };
 }
 
 /// Nineteen bytes, the most of a varint of 128 bits.
@@ -192,6 +228,8 @@ impl MaxSize for i128 {
     ghost greatest = { Some 19 };
 
     ghost reached = { ⊤ };
+
+    ghost willing = { ⊤ };
 
     fn postcard_max_size() -> Option<usize> {
         Some(19)
@@ -204,4 +242,6 @@ impl MaxSize for i128 {
     ghost bounded = { int_bounded 128 (inr (inr (inr refl))) };
 
     ghost is_reached = { λ _. int_reached 128 (inr (inr (inr refl))) };
+
+    ghost never_refuses = { λ _ _ refuses. refuses };
 }

@@ -24,6 +24,8 @@ impl MaxSize for bool {
 
     ghost reached = { ⊤ };
 
+    ghost willing = { ⊤ };
+
     fn postcard_max_size() -> Option<usize> {
         Some(1)
     }
@@ -35,6 +37,8 @@ impl MaxSize for bool {
     ghost bounded = { boolean_bounded };
 
     ghost is_reached = { λ _. boolean_reached };
+
+    ghost never_refuses = { λ _ _ refuses. refuses };
 }
 
 /// Five bytes: a count, and at most four bytes of UTF-8.
@@ -42,6 +46,8 @@ impl MaxSize for char {
     ghost greatest = { Some 5 };
 
     ghost reached = { ⊤ };
+
+    ghost willing = { ⊤ };
 
     fn postcard_max_size() -> Option<usize> {
         Some(5)
@@ -54,6 +60,8 @@ impl MaxSize for char {
     ghost bounded = { char_bounded };
 
     ghost is_reached = { λ _. char_reached };
+
+    ghost never_refuses = { λ _ _ refuses. refuses };
 }
 
 /// Ten bytes, the most of a varint of 64 bits.
@@ -61,6 +69,8 @@ impl MaxSize for usize {
     ghost greatest = { Some 10 };
 
     ghost reached = { ⊤ };
+
+    ghost willing = { ⊤ };
 
     fn postcard_max_size() -> Option<usize> {
         Some(10)
@@ -73,6 +83,8 @@ impl MaxSize for usize {
     ghost bounded = { num_bounded 64 (inr (inr (inl refl))) };
 
     ghost is_reached = { λ _. num_reached 64 (inr (inr (inl refl))) };
+
+    ghost never_refuses = { λ _ _ refuses. refuses };
 }
 
 /// Ten bytes, the most of a varint of 64 bits.
@@ -80,6 +92,8 @@ impl MaxSize for isize {
     ghost greatest = { Some 10 };
 
     ghost reached = { ⊤ };
+
+    ghost willing = { ⊤ };
 
     fn postcard_max_size() -> Option<usize> {
         Some(10)
@@ -92,4 +106,6 @@ impl MaxSize for isize {
     ghost bounded = { int_bounded 64 (inr (inr (inl refl))) };
 
     ghost is_reached = { λ _. int_reached 64 (inr (inr (inl refl))) };
+
+    ghost never_refuses = { λ _ _ refuses. refuses };
 }

@@ -12,6 +12,8 @@ impl MaxSize for Duration {
 
     ghost reached = { ⊤ };
 
+    ghost willing = { ⊤ };
+
     fn postcard_max_size() -> Option<usize> {
         Some(15)
     }
@@ -23,4 +25,6 @@ impl MaxSize for Duration {
     ghost bounded = { span_bounded };
 
     ghost is_reached = { λ _. span_reached };
+
+    ghost never_refuses = { λ _ _ refuses. refuses };
 }

@@ -12,6 +12,8 @@ impl MaxSize for () {
 
     ghost reached = { ⊤ };
 
+    ghost willing = { ⊤ };
+
     fn postcard_max_size() -> Option<usize> {
         Some(0)
     }
@@ -21,6 +23,8 @@ impl MaxSize for () {
     ghost bounded = { group_bounded (Some 0) _ end_bounded };
 
     ghost is_reached = { λ _. group_reached (Some 0) _ end_reached };
+
+    ghost never_refuses = { λ _ _ refuses. refuses };
 }
 
 /// No byte.
@@ -29,6 +33,8 @@ impl<T> MaxSize for PhantomData<T> {
 
     ghost reached = { ⊤ };
 
+    ghost willing = { ⊤ };
+
     fn postcard_max_size() -> Option<usize> {
         Some(0)
     }
@@ -38,4 +44,6 @@ impl<T> MaxSize for PhantomData<T> {
     ghost bounded = { group_bounded (Some 0) _ end_bounded };
 
     ghost is_reached = { λ _. group_reached (Some 0) _ end_reached };
+
+    ghost never_refuses = { λ _ _ refuses. refuses };
 }

@@ -24,6 +24,8 @@ impl<T: MaxSize> MaxSize for Box<T> {
 
     ghost reached = { T.reached };
 
+    ghost willing = { T.willing };
+
     fn postcard_max_size() -> Option<usize> {
         T::postcard_max_size()
     }
@@ -35,6 +37,8 @@ impl<T: MaxSize> MaxSize for Box<T> {
     ghost bounded = { T.bounded };
 
     ghost is_reached = { T.is_reached };
+
+    ghost never_refuses = { λ w v. T.never_refuses w v.value };
 }
 
 /// As the value in it.
@@ -42,6 +46,8 @@ impl<T: MaxSize> MaxSize for Rc<T> {
     ghost greatest = { T.greatest };
 
     ghost reached = { T.reached };
+
+    ghost willing = { T.willing };
 
     fn postcard_max_size() -> Option<usize> {
         T::postcard_max_size()
@@ -55,6 +61,8 @@ impl<T: MaxSize> MaxSize for Rc<T> {
     ghost bounded = { T.bounded };
 
     ghost is_reached = { T.is_reached };
+
+    ghost never_refuses = { λ w v. T.never_refuses w v.value };
 }
 
 /// As the number in it.
