@@ -1,6 +1,7 @@
 //! The types that are read, a module for each kind. A type that is one node says why exactly it
 //! refuses, in the words of the call for that node.
 
+pub mod error;
 pub mod fixed;
 pub mod lists;
 pub mod maps;

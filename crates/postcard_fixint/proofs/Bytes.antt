@@ -1,10 +1,12 @@
--- std's bytes of a number, at every width, are those of base 256, and two's complement is how std sees a signed number.
-use Rattle.std.proofs.Common.{◌≡◌, ℕ, zero, suc, ◌-◌, ◌/◌, ◌%◌, ◌<◌, ◌^◌, List, [], ◌∷◌, length, get_or, ℤ, pos, negsuc, refl, sym, ap, ap₂, subst, ◌∙◌, arith}
+-- std's bytes of a number, at every width, are those of base 256, also where the number is signed.
+use Rattle.std.proofs.Common.{◌≡◌, ℕ, zero, suc, ◌-◌, ◌/◌, ◌%◌, ◌<◌, ◌^◌, List, [], ◌∷◌, length}
+use Rattle.std.proofs.Common.{get_or, ℤ, pos, negsuc, refl, sym, ap, ap₂, subst, ◌∙◌, arith}
 use Rattle.std.specs.Prelude.{reverse}
 use Rattle.std.proofs.lemmas.List.{length-reverse}
 use Rattle.std.proofs.Math.Nat.{pow-suc, div-div-eq-div-mul}
 use Rattle.std.proofs.lemmas.Int.{of_z-to_z, to_z-of_z}
-use Rattle.std.specs.Int.{Width, w8, w16, w32, w64, w128, byte_at, byte_len, bytes_low_first, cast_signed, cast_unsigned, from_le_bytes, from_be_bytes}
+use Rattle.std.specs.Int.{Width, w8, w16, w32, w64, w128, byte_at, byte_len, bytes_low_first}
+use Rattle.std.specs.Int.{cast_signed, cast_unsigned, from_le_bytes, from_be_bytes}
 use mir.Val.{bits, SFits}
 use Rattle.postcard_fixint.specs.Base256.{low_first, low_value, AreBytes, reversed_bytes}
 use Rattle.postcard_fixint.specs.Fixed.{twos_complement}
@@ -19,7 +21,9 @@ place (suc i) n = refl
 places : (i k n : ℕ) → bytes_low_first i k n ≡ low_first k (n / 256 ^ i)
 places i zero n = refl
 places i (suc k) n =
-    let next : n / 256 ^ suc i ≡ n / 256 ^ i / 256 = ap (λ m. n / m) (pow-suc 256 i) ∙ sym (div-div-eq-div-mul n (256 ^ i) 256) in
+    let power = ap (λ m. n / m) (pow-suc 256 i) in
+    let next : n / 256 ^ suc i ≡ n / 256 ^ i / 256 =
+    power ∙ sym (div-div-eq-div-mul n (256 ^ i) 256) in
     ap₂ (λ b bs. b ∷ bs) (place i n) (places (suc i) k n ∙ ap (low_first k) next)
 
 -- The lowest k bytes.
@@ -34,44 +38,18 @@ value_below (b ∷ bs) small =
     let rest = value_below bs small.1 in
     omega (arith, small.0)
 
--- The bytes of an array are bytes.
+-- The elements of an array of bytes are bytes.
 are_bytes : (bs : List ℕ) → ((i : ℕ) → get_or bs i 0 < 256) → AreBytes bs
 are_bytes [] small = tt
 are_bytes (b ∷ bs) small = (small 0, are_bytes bs (λ i. small (suc i)))
 
+-- As many bytes as bits.
 powers : (w : Width) → 256 ^ byte_len w ≡ 2 ^ bits w
 powers w8 = refl
 powers w16 = refl
 powers w32 = refl
 powers w64 = refl
 powers w128 = refl
-
--- A signed number as std casts it.
-pub as_cast : (w : Width) (z : ℤ) → twos_complement (byte_len w) z ≡ cast_unsigned w z
-as_cast w (pos n) = refl
-as_cast w (negsuc n) = rw (powers w) refl
-
--- The number whose two's complement is n.
-cast_back : (w : Width) (n : ℕ) → n < 2 ^ bits w → twos_complement (byte_len w) (cast_signed w n) ≡ n
-cast_back w n f = as_cast w (cast_signed w n) ∙ of_z-to_z w n f
-
--- A signed number that was cast from n, as the code sees it.
-seen : (w : Width) (z : ℤ) (n : ℕ) → n < 2 ^ bits w → z ≡ cast_signed w n → twos_complement (byte_len w) (cast_signed w (cast_unsigned w z)) ≡ n
-seen w z n f e =
-    let same : cast_signed w (cast_unsigned w z) ≡ z = ap (λ y. cast_signed w (cast_unsigned w y)) e ∙ ap (cast_signed w) (of_z-to_z w n f) ∙ sym e in
-    ap (twos_complement (byte_len w)) (same ∙ e) ∙ cast_back w n f
-
--- The same of the value of as many bytes as the width has.
-value_seen : (w : Width) (z : ℤ) (n : ℕ) (bs : List ℕ) → length bs ≡ byte_len w → AreBytes bs → n ≡ low_value bs → z ≡ cast_signed w n → twos_complement (byte_len w) (cast_signed w (cast_unsigned w z)) ≡ low_value bs
-value_seen w z n bs l small e c =
-    let below : n < 2 ^ bits w = subst (λ m. n < m) (ap (λ k. 256 ^ k) l ∙ powers w) (subst (λ m. m < 256 ^ length bs) (sym e) (value_below bs small)) in
-    seen w z n below c ∙ e
-
--- The lowest bytes of a signed number.
-pub little_signed : (w : Width) (z : ℤ) → SFits w z → bytes_low_first 0 (byte_len w) (cast_unsigned w (cast_signed w (cast_unsigned w z))) ≡ low_first (byte_len w) (twos_complement (byte_len w) z)
-little_signed w z f =
-    let same : cast_unsigned w (cast_signed w (cast_unsigned w z)) ≡ twos_complement (byte_len w) z = ap (cast_unsigned w) (to_z-of_z w z f) ∙ sym (as_cast w z) in
-    little_bytes (byte_len w) (cast_unsigned w (cast_signed w (cast_unsigned w z))) ∙ ap (low_first (byte_len w)) same
 
 -- A width has at least one byte.
 one_byte : (w : Width) → byte_len w ≡ suc (byte_len w - 1)
@@ -81,10 +59,50 @@ one_byte w32 = refl
 one_byte w64 = refl
 one_byte w128 = refl
 
--- A signed number has the value of the bytes that it was made of, the lowest first,
-pub little_value : (w : Width) (z : ℤ) (bs : List ℕ) → length bs ≡ byte_len w → ((i : ℕ) → get_or bs i 0 < 256) → z ≡ cast_signed w (from_le_bytes w bs) → twos_complement (byte_len w) (cast_signed w (cast_unsigned w z)) ≡ low_value bs
-little_value w z bs l small c = value_seen w z (from_le_bytes w bs) bs l (are_bytes bs small) (little_sum bs (byte_len w - 1) (l ∙ one_byte w)) c
+module _ (w : Width) where
+  -- The two's complement of a number is what std casts it to.
+  as_cast : (z : ℤ) → twos_complement (byte_len w) z ≡ cast_unsigned w z
+  as_cast (pos n) = refl
+  as_cast (negsuc n) = rw (powers w) refl
 
--- or the highest first.
-pub big_value : (w : Width) (z : ℤ) (bs : List ℕ) → length bs ≡ byte_len w → ((i : ℕ) → get_or bs i 0 < 256) → z ≡ cast_signed w (from_be_bytes w bs) → twos_complement (byte_len w) (cast_signed w (cast_unsigned w z)) ≡ low_value (reverse bs)
-big_value w z bs l small c = value_seen w z (from_be_bytes w bs) (reverse bs) (length-reverse bs ∙ l) (reversed_bytes bs (are_bytes bs small)) (big_sum bs (byte_len w - 1) (l ∙ one_byte w)) c
+  -- The number that n is cast to has n as its two's complement, also as the code sees it.
+  cast_back : (z : ℤ) (n : ℕ) → n < 2 ^ bits w → z ≡ cast_signed w n
+      → twos_complement (byte_len w) (cast_signed w (cast_unsigned w z)) ≡ n
+  cast_back z n f e =
+      let back = of_z-to_z w n f in
+      let seen = ap (λ y. cast_signed w (cast_unsigned w y)) e ∙ ap (cast_signed w) back in
+      ap (twos_complement (byte_len w)) seen ∙ as_cast (cast_signed w n) ∙ back
+
+  -- The same where n is the value of as many bytes as the width has.
+  value_back : (z : ℤ) (n : ℕ) (bs : List ℕ) → length bs ≡ byte_len w → AreBytes bs
+      → n ≡ low_value bs → z ≡ cast_signed w n
+      → twos_complement (byte_len w) (cast_signed w (cast_unsigned w z)) ≡ low_value bs
+  value_back z n bs l small e c =
+      let power : 256 ^ length bs ≡ 2 ^ bits w = ap (λ k. 256 ^ k) l ∙ powers w in
+      let below = subst (λ m. m < 256 ^ length bs) (sym e) (value_below bs small) in
+      cast_back z n (subst (λ m. n < m) power below) c ∙ e
+
+  -- The lowest bytes of a signed number.
+  pub little_signed : (z : ℤ) → SFits w z
+      → bytes_low_first 0 (byte_len w) (cast_unsigned w (cast_signed w (cast_unsigned w z)))
+      ≡ low_first (byte_len w) (twos_complement (byte_len w) z)
+  little_signed z f =
+      let seen = ap (cast_unsigned w) (to_z-of_z w z f) ∙ sym (as_cast z) in
+      little_bytes (byte_len w) _ ∙ ap (low_first (byte_len w)) seen
+
+  -- A signed number has the value of the bytes that it was made of, the lowest first,
+  pub little_value : (z : ℤ) (bs : List ℕ) → length bs ≡ byte_len w
+      → ((i : ℕ) → get_or bs i 0 < 256) → z ≡ cast_signed w (from_le_bytes w bs)
+      → twos_complement (byte_len w) (cast_signed w (cast_unsigned w z)) ≡ low_value bs
+  little_value z bs l small c =
+      let sum = little_sum bs (byte_len w - 1) (l ∙ one_byte w) in
+      value_back z (from_le_bytes w bs) bs l (are_bytes bs small) sum c
+
+  -- or the highest first.
+  pub big_value : (z : ℤ) (bs : List ℕ) → length bs ≡ byte_len w
+      → ((i : ℕ) → get_or bs i 0 < 256) → z ≡ cast_signed w (from_be_bytes w bs)
+      → twos_complement (byte_len w) (cast_signed w (cast_unsigned w z)) ≡ low_value (reverse bs)
+  big_value z bs l small c =
+      let sum = big_sum bs (byte_len w - 1) (l ∙ one_byte w) in
+      let turned = reversed_bytes bs (are_bytes bs small) in
+      value_back z (from_be_bytes w bs) (reverse bs) (length-reverse bs ∙ l) turned sum c

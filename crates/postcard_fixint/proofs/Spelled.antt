@@ -10,10 +10,14 @@ pub bytes_of_bytes : (bs : List ℕ) → bytes_all (trees (map Byte bs)) ≡ bs
 bytes_of_bytes [] = refl
 bytes_of_bytes (b ∷ bs) = ap (λ (x : List ℕ). b ∷ x) (bytes_of_bytes bs)
 
--- The bytes of a number are the only ones that are it.
-pub only_bytes : (order : Order) (k n : ℕ) (p : List ℕ) → n < 256 ^ k → AreNumber order.value k n p ↔ (p ≡ order.spell k n)
+-- The bytes of a number are that number, and no others are.
+pub only_bytes : (order : Order) (k n : ℕ) (p : List ℕ) → n < 256 ^ k
+    → AreNumber order.value k n p ↔ (p ≡ order.spell k n)
 only_bytes order k n p f =
-    let made : AreNumber order.value k n (order.spell k n) = record { count = order.counts k n; bytes = order.bytes k n; value_is = order.worth k n f } in (
-      λ h. order.one p (order.spell k n) (h.count ∙ sym made.count) h.bytes made.bytes (h.value_is ∙ sym made.value_is),
-      λ e. subst (AreNumber order.value k n) (sym e) made,
-    )
+    let made : AreNumber order.value k n (order.spell k n) =
+    record { count = order.counts k n; bytes = order.bytes k n; value_is = order.worth k n f }
+    in
+    let only : AreNumber order.value k n p → p ≡ order.spell k n = λ h.
+    order.one p (order.spell k n) (h.count ∙ sym made.count) h.bytes made.bytes
+    (h.value_is ∙ sym made.value_is) in
+    (only, λ e. subst (AreNumber order.value k n) (sym e) made)

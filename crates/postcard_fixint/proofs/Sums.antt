@@ -1,5 +1,6 @@
--- The value of bytes as std sums it up, at every width, is that of base 256.
-use Rattle.std.proofs.Common.{◌≡◌, ℕ, zero, suc, ◌+◌, ◌-◌, ◌*◌, ◌^◌, List, [], ◌∷◌, ◌++◌, length, refl, sym, ap, ap₂, ◌∙◌, arith}
+-- The value of bytes as std sums it up, at every width, is that in base 256.
+use Rattle.std.proofs.Common.{◌≡◌, ℕ, zero, suc, ◌+◌, ◌-◌, ◌*◌, ◌^◌, List, [], ◌∷◌, ◌++◌, length}
+use Rattle.std.proofs.Common.{refl, sym, ap, ap₂, ◌∙◌, arith}
 use Rattle.std.specs.Prelude.{reverse, slice_index}
 use Rattle.std.specs.Int.{byte_worth, sum_through}
 use Rattle.std.proofs.Math.Nat.{pow-suc, mul_assoc, mul_comm}
@@ -24,10 +25,13 @@ scaled f (suc k) = let e = scaled f k in omega (arith, e)
 -- A byte is worth 256 times what it is worth a place below.
 next_place : (i b : ℕ) → byte_worth (suc i) b ≡ 256 * byte_worth i b
 next_place zero b = omega arith
-next_place (suc i) b = ap (λ p. b * p) (pow-suc 256 (suc i)) ∙ sym (mul_assoc b (256 ^ suc i) 256) ∙ mul_comm (b * 256 ^ suc i) 256
+next_place (suc i) b =
+    let power = ap (λ p. b * p) (pow-suc 256 (suc i)) in
+    power ∙ sym (mul_assoc b (256 ^ suc i) 256) ∙ mul_comm (b * 256 ^ suc i) 256
 
--- Bytes that count by their place, the lowest first.
-pub little_sum : (bs : List ℕ) (k : ℕ) → length bs ≡ suc k → sum_through (λ i. byte_worth i (slice_index bs i)) k ≡ low_value bs
+-- The sum of bytes, each worth what it is at its place, the lowest first.
+pub little_sum : (bs : List ℕ) (k : ℕ) → length bs ≡ suc k
+    → sum_through (λ i. byte_worth i (slice_index bs i)) k ≡ low_value bs
 little_sum [] k l = absurd (omega arith)
 little_sum (b ∷ []) zero l = omega arith
 little_sum (b ∷ c ∷ bs) zero l = absurd (omega arith)
@@ -35,29 +39,38 @@ little_sum (b ∷ []) (suc k) l = absurd (omega arith)
 little_sum (b ∷ c ∷ bs) (suc k) l =
     let f : ℕ → ℕ = λ i. byte_worth i (slice_index (b ∷ c ∷ bs) i) in
     let g : ℕ → ℕ = λ i. byte_worth i (slice_index (c ∷ bs) i) in
-    let rest = same_terms (λ i. f (suc i)) (λ i. 256 * g i) k (λ i. next_place i (slice_index (c ∷ bs) i)) ∙ scaled g k ∙ ap (λ n. 256 * n) (little_sum (c ∷ bs) k (omega arith)) in
-    first_term f k ∙ ap (λ n. b + n) rest
+    let up : (i : ℕ) → f (suc i) ≡ 256 * g i = λ i. next_place i (slice_index (c ∷ bs) i) in
+    let rest = ap (λ n. 256 * n) (little_sum (c ∷ bs) k (omega arith)) in
+    let higher = same_terms (λ i. f (suc i)) (λ i. 256 * g i) k up ∙ scaled g k ∙ rest in
+    first_term f k ∙ ap (λ n. b + n) higher
 
--- A byte behind others counts by their number.
-low_value-push : (bs : List ℕ) (b : ℕ) → low_value (bs ++ b ∷ []) ≡ low_value bs + b * 256 ^ length bs
+-- A byte after others counts by their number.
+low_value-push : (bs : List ℕ) (b : ℕ)
+    → low_value (bs ++ b ∷ []) ≡ low_value bs + b * 256 ^ length bs
 low_value-push [] b = omega arith
 low_value-push (c ∷ bs) b =
     let rest = low_value-push bs b in
-    let high : 256 * (b * 256 ^ length bs) ≡ b * 256 ^ suc (length bs) = mul_comm 256 (b * 256 ^ length bs) ∙ mul_assoc b (256 ^ length bs) 256 ∙ ap (λ p. b * p) (sym (pow-suc 256 (length bs))) in
+    let turn = mul_comm 256 (b * 256 ^ length bs) ∙ mul_assoc b (256 ^ length bs) 256 in
+    let power = ap (λ p. b * p) (sym (pow-suc 256 (length bs))) in
+    let high : 256 * (b * 256 ^ length bs) ≡ b * 256 ^ suc (length bs) = turn ∙ power in
     omega (arith, rest, high)
 
 -- The first byte, the highest, and then the others.
-high_first : (b : ℕ) (bs : List ℕ) → low_value (reverse (b ∷ bs)) ≡ b * 256 ^ length bs + low_value (reverse bs)
-high_first b bs =
-    let e = ap low_value (reverse-append (b ∷ []) bs) ∙ low_value-push (reverse bs) b ∙ ap (λ n. low_value (reverse bs) + b * 256 ^ n) (length-reverse bs) in
+highest : (b : ℕ) (bs : List ℕ)
+    → low_value (reverse (b ∷ bs)) ≡ b * 256 ^ length bs + low_value (reverse bs)
+highest b bs =
+    let turned = ap low_value (reverse-append (b ∷ []) bs) ∙ low_value-push (reverse bs) b in
+    let count = ap (λ n. low_value (reverse bs) + b * 256 ^ n) (length-reverse bs) in
+    let e = turned ∙ count in
     omega (arith, e)
 
 -- The highest place.
 top_place : (k b : ℕ) → byte_worth (suc k - 0) b ≡ b * 256 ^ suc k
 top_place k b = let e : suc k - 0 ≡ suc k = omega arith in ap (λ i. byte_worth i b) e
 
--- Bytes that count by their place, the highest first.
-pub big_sum : (bs : List ℕ) (k : ℕ) → length bs ≡ suc k → sum_through (λ i. byte_worth (k - i) (slice_index bs i)) k ≡ low_value (reverse bs)
+-- The sum of bytes, each worth what it is at its place, the highest first.
+pub big_sum : (bs : List ℕ) (k : ℕ) → length bs ≡ suc k
+    → sum_through (λ i. byte_worth (k - i) (slice_index bs i)) k ≡ low_value (reverse bs)
 big_sum [] k l = absurd (omega arith)
 big_sum (b ∷ []) zero l = omega arith
 big_sum (b ∷ c ∷ bs) zero l = absurd (omega arith)
@@ -66,5 +79,9 @@ big_sum (b ∷ c ∷ bs) (suc k) l =
     let f : ℕ → ℕ = λ i. byte_worth (suc k - i) (slice_index (b ∷ c ∷ bs) i) in
     let g : ℕ → ℕ = λ i. byte_worth (k - i) (slice_index (c ∷ bs) i) in
     let count : length (c ∷ bs) ≡ suc k = omega arith in
-    let rest = same_terms (λ i. f (suc i)) g k (λ i. let e : suc k - suc i ≡ k - i = omega arith in ap (λ j. byte_worth j (slice_index (c ∷ bs) i)) e) ∙ big_sum (c ∷ bs) k count in
-    first_term f k ∙ ap₂ (λ n m. n + m) (top_place k b ∙ ap (λ n. b * 256 ^ n) (sym count)) rest ∙ sym (high_first b (c ∷ bs))
+    let down : (i : ℕ) → f (suc i) ≡ g i = λ i.
+    let e : suc k - suc i ≡ k - i = omega arith in
+    ap (λ j. byte_worth j (slice_index (c ∷ bs) i)) e in
+    let top = top_place k b ∙ ap (λ n. b * 256 ^ n) (sym count) in
+    let lower = same_terms (λ i. f (suc i)) g k down ∙ big_sum (c ∷ bs) k count in
+    first_term f k ∙ ap₂ (λ n m. n + m) top lower ∙ sym (highest b (c ∷ bs))

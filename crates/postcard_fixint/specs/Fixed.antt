@@ -1,4 +1,5 @@
--- The shape of a number that is written as its bytes, as many as its type has (behaviour of postcard 1.1.3, module `fixint`).
+-- The shape of a number that is written as its bytes, as many as its type has (behaviour of
+-- postcard 1.1.3, module `fixint`).
 use Rattle.std.specs.Prelude.{◌≡◌, ℕ, suc, ◌-◌, ◌*◌, ◌<◌, ◌^◌, List, [], ◌∷◌, ℤ, pos, negsuc}
 use Rattle.std.proofs.Common.{refl, sym, ap, ap₂, ◌∙◌, arith}
 use Rattle.std.proofs.lemmas.Int.{ints}
@@ -12,12 +13,13 @@ use Rattle.postcard_fixint.specs.Base256.{Order}
 
 -- A type of numbers of a fixed width.
 pub record FixedWidth (V : Type 0) : Type 1 where
-  -- The number of its bytes.
+  -- How many bytes a number has.
   pub size : ℕ
   -- A number modulo 256 ^ size.
   pub modulo : V → ℕ
   -- The number is one of the type.
   pub fits : V → Type 0
+  -- Modulo 256 ^ size, no two numbers of the type are one.
   pub below : (v : V) → fits v → modulo v < 256 ^ size
   pub one : (v w : V) → fits v → fits w → modulo v ≡ modulo w → v ≡ w
 
@@ -36,24 +38,30 @@ abbrev pub twos_complement : ℕ → ℤ → ℕ
 twos_complement k (pos n) = n
 twos_complement k (negsuc n) = 256 ^ k - suc n
 
-pub signed_below : (k w : ℕ) (z : ℤ) → 256 ^ k ≡ 2 * 2 ^ (w - 1) → InRange w z → twos_complement k z < 256 ^ k
-signed_below k w (pos n) e f = omega (arith, ints, f.0, f.1)
-signed_below k w (negsuc n) e f = omega (arith, ints, f.0, f.1)
+module _ (k w : ℕ) (halves : 256 ^ k ≡ 2 * 2 ^ (w - 1)) where
+  -- The two's complement of a number of w bits has k bytes.
+  pub signed_below : (z : ℤ) → InRange w z → twos_complement k z < 256 ^ k
+  signed_below (pos n) f = omega (arith, ints, halves, f.0, f.1)
+  signed_below (negsuc n) f = omega (arith, ints, halves, f.0, f.1)
 
-pub signed_one : (k w : ℕ) (y z : ℤ) → 256 ^ k ≡ 2 * 2 ^ (w - 1) → InRange w y → InRange w z → twos_complement k y ≡ twos_complement k z → y ≡ z
-signed_one k w (pos n) (pos m) h f g e = ap pos e
-signed_one k w (pos n) (negsuc m) h f g e = absurd (omega (arith, ints, f.0, f.1, g.0, g.1))
-signed_one k w (negsuc n) (pos m) h f g e = absurd (omega (arith, ints, f.0, f.1, g.0, g.1))
-signed_one k w (negsuc n) (negsuc m) h f g e = let i : n ≡ m = omega (arith, ints, f.0, f.1, g.0, g.1) in ap negsuc i
+  -- No two such numbers have one two's complement.
+  pub signed_one : (y z : ℤ) → InRange w y → InRange w z
+      → twos_complement k y ≡ twos_complement k z → y ≡ z
+  signed_one (pos n) (pos m) f g e = ap pos e
+  signed_one (pos n) (negsuc m) f g e = absurd (omega (arith, ints, halves, f.0, f.1, g.0, g.1))
+  signed_one (negsuc n) (pos m) f g e = absurd (omega (arith, ints, halves, f.0, f.1, g.0, g.1))
+  signed_one (negsuc n) (negsuc m) f g e =
+      let same : n ≡ m = omega (arith, ints, halves, f.0, f.1, g.0, g.1) in
+      ap negsuc same
 
 -- Signed numbers of k bytes, which are w bits.
 abbrev pub signed : (k w : ℕ) → 256 ^ k ≡ 2 * 2 ^ (w - 1) → FixedWidth ℤ
-signed k w e = record {
+signed k w halves = record {
   size = k;
   modulo = twos_complement k;
   fits = InRange w;
-  below = λ z f. signed_below k w z e f;
-  one = λ y z f g h. signed_one k w y z e f g h;
+  below = signed_below k w halves;
+  one = signed_one k w halves;
 }
 
 same_list : (xs ys : List ℕ) → SameList (λ n m. n ≡ m) xs ys → xs ≡ ys
@@ -62,23 +70,31 @@ same_list [] (y ∷ ys) h = absurd h
 same_list (x ∷ xs) [] h = absurd h
 same_list (x ∷ xs) (y ∷ ys) h = ap₂ (λ n ns. n ∷ ns) h.0 (same_list xs ys h.1)
 
--- The tree is the array of some bytes of which the number, modulo its width, is the value.
+-- The tree is the array of some bytes, and the number is one of the type that has their value.
 abbrev pub IsFixed : {V : Type 0} → Order → FixedWidth V → Tree → V → Type 0
-IsFixed order width t v = (p : List ℕ) × (array width.size byte).value t p × (order.value p ≡ width.modulo v) × width.fits v
+IsFixed order width t v = (p : List ℕ) × (array width.size byte).value t p
+    × (order.value p ≡ width.modulo v) × width.fits v
 
-pub fixed_one : {V : Type 0} (order : Order) (width : FixedWidth V) → HasOne (IsFixed order width) (λ v w. v ≡ w)
-fixed_one order width t v w (p, a, h, f) (q, b, k, g) =
-    let e : p ≡ q = same_list p q ((array width.size byte).one_value t p q a b) in
-    width.one v w f g (sym h ∙ (ap order.value e ∙ k))
+module _ {V : Type 0} (order : Order) (width : FixedWidth V) where
+  -- A tree has one number.
+  pub fixed_one : HasOne (IsFixed order width) (λ v w. v ≡ w)
+  fixed_one t v w (p, a, h, f) (q, b, k, g) =
+      let e : p ≡ q = same_list p q ((array width.size byte).one_value t p q a b) in
+      width.one v w f g (sym h ∙ (ap order.value e ∙ k))
 
-pub fixed_again : {V : Type 0} (order : Order) (width : FixedWidth V) (v : V) → width.fits v → let p = order.spell width.size (width.modulo v) in let t = (array width.size byte).tree p in (array width.size byte).reads t × IsFixed order width t v
-fixed_again order width v f =
-    let n = width.modulo v in
-    let p = order.spell width.size n in
-    let k = (array width.size byte).again p (order.counts width.size n, order.bytes width.size n) in
-    (k.0, (p, k.1, order.worth width.size n (width.below v f), f))
+  -- What a number is written as is read again.
+  pub fixed_again : (v : V) → width.fits v
+      → let t = (array width.size byte).tree (order.spell width.size (width.modulo v)) in
+      (array width.size byte).reads t × IsFixed order width t v
+  fixed_again v f =
+      let n = width.modulo v in
+      let p = order.spell width.size n in
+      let fitting : (array width.size byte).fits p =
+      (order.counts width.size n, order.bytes width.size n) in
+      let again = (array width.size byte).again p fitting in
+      (again.0, (p, again.1, order.worth width.size n (width.below v f), f))
 
--- A number of a fixed width as the array of its bytes.
+-- A number of a fixed width: the array of its bytes.
 abbrev pub fixed : {V : Type 0} → Order → FixedWidth V → Shape V
 fixed order width = record {
   tree = λ v. (array width.size byte).tree (order.spell width.size (width.modulo v));

@@ -1,12 +1,14 @@
 //! Numbers at their full width: 2, 4, 8 or 16 bytes, the lowest or the highest first, in place of a
 //! varint (behaviour of postcard 1.1.3, module `fixint`).
 //!
-//! A varint is shorter for small numbers. At its full width a number always takes as many bytes as
-//! its type has, and a random one, as a hash or an identifier, takes up to a fifth less.
+//! A varint is shorter for small numbers. At its full width a number takes the same room whatever
+//! it is: a random `u64`, as a hash or an identifier, 8 bytes in place of 9 or 10.
 //!
-//! `specs/Base256.antt` says what the bytes of a number are: as many as its type has, whose value in
-//! base 256 it is. `specs/Fixed.antt` makes the shape of a type of it, laws included: what was
-//! written is read back as the same number, and every array of that many bytes is read.
+//! `specs/Base256.antt` says what the bytes of a number are: as many as its type has, whose value
+//! in base 256 it is. `specs/Fixed.antt` makes a shape of it, laws included: what was written is
+//! read back as the same number, and any bytes of that count are read.
+//!
+//! In a struct, a [`LE`] or [`BE`] stands for the number in the tuple of the fields:
 //!
 //! ```text
 //! impl Repr for Header {
@@ -22,14 +24,14 @@
 //! }
 //!
 //! impl SerializeRepr for Header {
-//!     fn serialize_repr<F: Flavor>(&self, serializer: &mut Serializer<F>) -> Result<()> {
-//!         (BE::new(self.address), LE::new(self.port)).serialize(serializer)
+//!     fn serialize_repr<F: Flavor>(&self, s: &mut Serializer<F>) -> Result<()> {
+//!         (BE::new(self.address), LE::new(self.port)).serialize(s)
 //!     }
 //! }
 //! ```
 //!
-//! In reading order: [`FixInt`] are the numbers, [`le`] and [`be`] write and read them, [`laws`] has
-//! what holds of their bytes.
+//! In reading order: [`FixInt`] are the numbers, [`le`] and [`be`] write and read them, and [`laws`]
+//! has what holds of their bytes.
 #![tactic(auto)]
 
 pub mod be;

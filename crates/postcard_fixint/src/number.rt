@@ -68,7 +68,7 @@ impl FixInt for u16 {
     ghost is_array = { byte_array 2 };
 
     fn encode_le(self) -> [u8; 2] {
-        self.to_le_bytes()
+        u16::to_le_bytes(self)
     }
 
     fn decode_le(bytes: [u8; 2]) -> u16 {
@@ -76,7 +76,7 @@ impl FixInt for u16 {
     }
 
     fn encode_be(self) -> [u8; 2] {
-        self.to_be_bytes()
+        u16::to_be_bytes(self)
     }
 
     fn decode_be(bytes: [u8; 2]) -> u16 {
@@ -96,7 +96,7 @@ impl FixInt for u32 {
     ghost is_array = { byte_array 4 };
 
     fn encode_le(self) -> [u8; 4] {
-        self.to_le_bytes()
+        u32::to_le_bytes(self)
     }
 
     fn decode_le(bytes: [u8; 4]) -> u32 {
@@ -104,7 +104,7 @@ impl FixInt for u32 {
     }
 
     fn encode_be(self) -> [u8; 4] {
-        self.to_be_bytes()
+        u32::to_be_bytes(self)
     }
 
     fn decode_be(bytes: [u8; 4]) -> u32 {
@@ -124,7 +124,7 @@ impl FixInt for u64 {
     ghost is_array = { byte_array 8 };
 
     fn encode_le(self) -> [u8; 8] {
-        self.to_le_bytes()
+        u64::to_le_bytes(self)
     }
 
     fn decode_le(bytes: [u8; 8]) -> u64 {
@@ -132,7 +132,7 @@ impl FixInt for u64 {
     }
 
     fn encode_be(self) -> [u8; 8] {
-        self.to_be_bytes()
+        u64::to_be_bytes(self)
     }
 
     fn decode_be(bytes: [u8; 8]) -> u64 {
@@ -152,7 +152,7 @@ impl FixInt for u128 {
     ghost is_array = { byte_array 16 };
 
     fn encode_le(self) -> [u8; 16] {
-        self.to_le_bytes()
+        u128::to_le_bytes(self)
     }
 
     fn decode_le(bytes: [u8; 16]) -> u128 {
@@ -160,7 +160,7 @@ impl FixInt for u128 {
     }
 
     fn encode_be(self) -> [u8; 16] {
-        self.to_be_bytes()
+        u128::to_be_bytes(self)
     }
 
     fn decode_be(bytes: [u8; 16]) -> u128 {
@@ -180,7 +180,7 @@ impl FixInt for i16 {
     ghost is_array = { byte_array 2 };
 
     fn encode_le(self) -> [u8; 2] {
-        self.to_le_bytes()
+        i16::to_le_bytes(self)
     }
 
     fn decode_le(bytes: [u8; 2]) -> i16 {
@@ -188,7 +188,7 @@ impl FixInt for i16 {
     }
 
     fn encode_be(self) -> [u8; 2] {
-        self.to_be_bytes()
+        i16::to_be_bytes(self)
     }
 
     fn decode_be(bytes: [u8; 2]) -> i16 {
@@ -208,7 +208,7 @@ impl FixInt for i32 {
     ghost is_array = { byte_array 4 };
 
     fn encode_le(self) -> [u8; 4] {
-        self.to_le_bytes()
+        i32::to_le_bytes(self)
     }
 
     fn decode_le(bytes: [u8; 4]) -> i32 {
@@ -216,7 +216,7 @@ impl FixInt for i32 {
     }
 
     fn encode_be(self) -> [u8; 4] {
-        self.to_be_bytes()
+        i32::to_be_bytes(self)
     }
 
     fn decode_be(bytes: [u8; 4]) -> i32 {
@@ -236,7 +236,7 @@ impl FixInt for i64 {
     ghost is_array = { byte_array 8 };
 
     fn encode_le(self) -> [u8; 8] {
-        self.to_le_bytes()
+        i64::to_le_bytes(self)
     }
 
     fn decode_le(bytes: [u8; 8]) -> i64 {
@@ -244,7 +244,7 @@ impl FixInt for i64 {
     }
 
     fn encode_be(self) -> [u8; 8] {
-        self.to_be_bytes()
+        i64::to_be_bytes(self)
     }
 
     fn decode_be(bytes: [u8; 8]) -> i64 {
@@ -264,7 +264,7 @@ impl FixInt for i128 {
     ghost is_array = { byte_array 16 };
 
     fn encode_le(self) -> [u8; 16] {
-        self.to_le_bytes()
+        i128::to_le_bytes(self)
     }
 
     fn decode_le(bytes: [u8; 16]) -> i128 {
@@ -272,7 +272,7 @@ impl FixInt for i128 {
     }
 
     fn encode_be(self) -> [u8; 16] {
-        self.to_be_bytes()
+        i128::to_be_bytes(self)
     }
 
     fn decode_be(bytes: [u8; 16]) -> i128 {

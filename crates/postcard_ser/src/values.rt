@@ -1,5 +1,6 @@
 //! The types that are written, each beside those like it.
 
+mod error;
 mod fixed;
 mod lists;
 mod maps;

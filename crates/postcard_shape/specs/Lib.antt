@@ -17,3 +17,5 @@ pub mod Rows
 pub mod Cases
 pub mod Refusing
 pub mod Only
+pub mod Enumerations
+pub mod Errors

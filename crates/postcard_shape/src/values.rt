@@ -1,5 +1,6 @@
 //! The shapes of the types of std and of `arrayvec`, a module for each kind.
 
+mod error;
 mod fixed;
 mod lists;
 mod maps;

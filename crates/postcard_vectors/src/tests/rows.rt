@@ -8,6 +8,7 @@ mod appended;
 mod deserializer;
 mod devices;
 mod ends;
+mod errors;
 mod fixint;
 mod flavors;
 mod frames;

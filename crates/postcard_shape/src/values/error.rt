@@ -1,0 +1,11 @@
+//! Errors as values: by their index, with no content.
+
+ghost use Rattle.postcard_shape.specs.Enumerations.{enumeration};
+ghost use Rattle.postcard_shape.specs.Errors.{error_index, error_at, error_back};
+
+use crate::shape::Shaped;
+use postcard_wire::Error;
+
+impl Shaped for Error {
+    ghost shape = { enumeration 17 error_index error_at error_back };
+}
