@@ -1,6 +1,7 @@
 -- What the encoder's answer to one byte does to a storage that holds an open frame.
-use Rattle.std.proofs.Common.{◌≡◌, ℕ, ◌+◌, ◌-◌, ◌^◌, ◌<◌, suc, List, [], ◌∷◌, ◌++◌, length, Bool, IsFalse, ap, subst, ◌∙◌, append-nil, append_assoc, length-append, length-set, arith}
+use Rattle.std.proofs.Common.{◌≡◌, ℕ, ◌+◌, ◌-◌, ◌^◌, ◌<◌, suc, List, [], ◌∷◌, ◌++◌, length, Bool, IsFalse, Result, Ok, Err, OnOk, ap, subst, ◌∙◌, append-nil, append_assoc, length-append, length-set, arith}
 use Rattle.std.specs.Prelude.{slice_set, flat_map}
+use Rattle.std.specs.Result.{is_err}
 use Rattle.postcard_cobs.specs.declared.encode.PushResult.{PushResult}
 use Rattle.postcard_cobs.specs.declared.encode.PushResult.TheVariants.{AddSingle, ModifyFromStartAndSkip, ModifyFromStartAndPushAndSkip}
 use Rattle.postcard_cobs.specs.Groups.{IsOpen, Standing, made, coded}
@@ -87,3 +88,8 @@ ends {at = at} {before = before} {d = d} h =
     let e : slice_set (before ++ h.frame) (length before + at.code_at) at.code ≡ before ++ slice_set h.frame at.code_at at.code = set_behind before h.frame at.code_at at.code in
     (λ i. slice_set (h.behind i) (h.starts i + at.code_at) at.code ++ 0 ∷ []) ∙ ap (λ z. z ++ 0 ∷ []) e
     ∙ append_assoc before (slice_set h.frame at.code_at at.code) (0 ∷ []) ∙ ap (λ z. before ++ z) (open_finishes h.frame d at h.stands)
+
+-- What holds of a success holds where none failed.
+pub succeeded : {T E P : Type 0} (r : Result T E) → IsFalse (is_err r) → OnOk r P → P
+succeeded (Ok x) f p = p
+succeeded (Err e) f p = absurd (cc)
