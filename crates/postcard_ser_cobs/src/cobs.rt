@@ -12,7 +12,7 @@ use postcard_wire::{Error, Result};
 
 mod runs;
 
-/// Encodes the bytes that it takes by COBS, and writes the frame into a storage, behind the bytes
+/// Encodes the bytes that it takes by COBS, and writes the frame into a storage, after the bytes
 /// that the storage already holds.
 ///
 /// Data of `n` bytes becomes a frame of at most `n + n / 254 + 2` bytes, its sentinel among them.
