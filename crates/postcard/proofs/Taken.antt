@@ -1,5 +1,5 @@
 -- What a steady reader tells can be taken from it, with as much scratch.
-use Rattle.std.proofs.Common.{◌≡◌, ◌≤◌, ℕ, List, ◌++◌, length, Option, Some, None, sym, ap, subst, arith, length-append}
+use Rattle.std.proofs.Common.{◌≡◌, ◌≤◌, ℕ, List, length, Option, Some, None, sym, ap, subst, arith, length-append}
 use Rattle.std.specs.Io.KnownBytes.{Consumes}
 use Rattle.postcard_de_flavors.specs.IOReader.{CanRead, reader_of, scratch_of}
 use Rattle.postcard_de_flavors.specs.Reader.{AtLeast}

@@ -8,8 +8,8 @@
 //! - `to_vec`, `to_allocvec`, `to_stdvec`, `to_extend`, `to_io` write it elsewhere, and `serialize_with_flavor` into any
 //!   flavor (module `with_flavor`); `experimental::serialized_size` counts its bytes, and `experimental::max_size` has the
 //!   greatest size of a type's encodings.
-//! - `to_slice_cobs`, `to_vec_cobs`, `to_allocvec_cobs`, `to_stdvec_cobs` and `to_allocvec_cobs_after` write a value as a
-//!   frame (module `cobs`).
+//! - `to_slice_cobs`, `fill_slice_cobs`, `to_vec_cobs`, `to_allocvec_cobs`, `to_stdvec_cobs` and
+//!   `to_allocvec_cobs_after` write a value as a frame (module `cobs`).
 //! - `from_bytes` and `take_from_bytes` read a value from the front of a slice, `from_bytes_cobs` and
 //!   `take_from_bytes_cobs` from a frame in place (all of `postcard_frame`); `from_io` reads it from a reader (module `de`).
 //! - `CobsAccumulator` puts frames together from the pieces of a stream (module `accumulator`), and `read_frames` reads
@@ -29,7 +29,8 @@ pub mod ser_flavors;
 mod with_flavor;
 
 pub use cobs::{
-    to_allocvec_cobs, to_allocvec_cobs_after, to_slice_cobs, to_stdvec_cobs, to_vec_cobs,
+    fill_slice_cobs, to_allocvec_cobs, to_allocvec_cobs_after, to_slice_cobs, to_stdvec_cobs,
+    to_vec_cobs,
 };
 pub use de::from_io;
 pub use postcard_accumulator::{Answer, ReadEnd, read_frames};

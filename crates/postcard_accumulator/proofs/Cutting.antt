@@ -1,5 +1,6 @@
 -- Where a stream is cut: at its first zero, and at the end of a frame.
-use Rattle.std.proofs.Common.{◌≡◌, ℕ, ◌⊎◌, inl, inr, List, [], ◌∷◌, ◌++◌, refl, sym, ap, subst, ◌∙◌, append_assoc, arith, eqb, false, zero, suc}
+use Rattle.std.proofs.Common.{◌≡◌, ℕ, ◌⊎◌, inl, inr, List, [], ◌∷◌, ◌++◌, refl, sym, ap, subst, ◌∙◌}
+use Rattle.std.proofs.Common.{append_assoc, arith, eqb, false, zero, suc}
 use Rattle.std.specs.Prelude.{flat_map}
 use Rattle.std.proofs.lemmas.Bool.{ne_eqb}
 use Rattle.std.proofs.lemmas.List.{append-nil}
@@ -9,7 +10,8 @@ use Rattle.postcard_accumulator.specs.Streams.{AreZeroFree, ended, IsSplit}
 use Rattle.postcard_accumulator.specs.Laws.{EndsInZero, FramesAreOne}
 
 -- the first zero of a list stands before each other
-pub zero_cut : (f w more v : List ℕ) → NoZero f → f ++ 0 ∷ more ≡ w ++ 0 ∷ v → ((w ≡ f) × (more ≡ v)) ⊎ ((t : List ℕ) × (w ≡ f ++ 0 ∷ t) × (more ≡ t ++ 0 ∷ v))
+pub zero_cut : (f w more v : List ℕ) → NoZero f → f ++ 0 ∷ more ≡ w ++ 0 ∷ v
+    → ((w ≡ f) × (more ≡ v)) ⊎ ((t : List ℕ) × (w ≡ f ++ 0 ∷ t) × (more ≡ t ++ 0 ∷ v))
 zero_cut [] [] more v z e = inl (refl, cc)
 zero_cut [] (y ∷ w) more v z e =
     let heads : y ≡ 0 = cc in
@@ -34,10 +36,12 @@ has_zero p q r e z = at_zero q r (subst NoZero e.1 z) where
 -- the frame at the front of bytes without a zero is all of them
 pub before_zero_all : (f : List ℕ) → NoZero f → before_zero f ≡ f
 before_zero_all [] z = refl
-before_zero_all (b ∷ f) z = let e : eqb b 0 ≡ false = ne_eqb b 0 (λ e. omega (arith, z.0)) in rw e (ap (λ (x : List ℕ). b ∷ x) (before_zero_all f z.1))
+before_zero_all (b ∷ f) z = let e : eqb b 0 ≡ false = ne_eqb b 0 (λ e. omega (arith, z.0)) in
+    rw e (ap (λ (x : List ℕ). b ∷ x) (before_zero_all f z.1))
 
 -- frames joined, and their two halves
-pub AreZeroFree-append : (fs gs : List (List ℕ)) → AreZeroFree fs → AreZeroFree gs → AreZeroFree (fs ++ gs)
+pub AreZeroFree-append : (fs gs : List (List ℕ)) → AreZeroFree fs → AreZeroFree gs
+    → AreZeroFree (fs ++ gs)
 AreZeroFree-append [] gs a b = b
 AreZeroFree-append (f ∷ fs) gs a b = (a.0, AreZeroFree-append fs gs a.1 b)
 
@@ -50,15 +54,21 @@ AreZeroFree-right [] gs a = a
 AreZeroFree-right (f ∷ fs) gs a = AreZeroFree-right fs gs a.1
 
 -- the first of some frames stands in front
-pub first : (g : List ℕ) (gs : List (List ℕ)) (q : List ℕ) → flat_map ended (g ∷ gs) ++ q ≡ g ++ 0 ∷ (flat_map ended gs ++ q)
-first g gs q = append_assoc (ended g) (flat_map ended gs) q ∙ append_assoc g (0 ∷ []) (flat_map ended gs ++ q)
+pub first : (g : List ℕ) (gs : List (List ℕ)) (q : List ℕ) → flat_map ended (g ∷ gs) ++ q ≡ g
+    ++ 0 ∷ (flat_map ended gs ++ q)
+first g gs q = append_assoc (ended g) (flat_map ended gs) q
+    ∙ append_assoc g (0 ∷ []) (flat_map ended gs ++ q)
 
 -- a front of a stream that ends in a zero is whole frames
-pub ends_cut : (u v : List ℕ) (fs : List (List ℕ)) (rest : List ℕ) → EndsInZero u → AreZeroFree fs → NoZero rest → u ++ v ≡ flat_map ended fs ++ rest →
-    (gs hs : List (List ℕ)) × (fs ≡ gs ++ hs) × (u ≡ flat_map ended gs) × (v ≡ flat_map ended hs ++ rest)
-ends_cut u v fs rest (inl nil) zf zr e = ([], fs, refl, nil, ap (λ (x : List ℕ). x ++ v) (sym nil) ∙ e)
+pub ends_cut : (u v : List ℕ) (fs : List (List ℕ)) (rest : List ℕ) → EndsInZero u → AreZeroFree fs
+    → NoZero rest → u ++ v ≡ flat_map ended fs ++ rest →
+    (gs hs : List (List ℕ)) × (fs ≡ gs ++ hs) × (u ≡ flat_map ended gs)
+    × (v ≡ flat_map ended hs ++ rest)
+ends_cut u v fs rest (inl nil) zf zr e =
+    ([], fs, refl, nil, ap (λ (x : List ℕ). x ++ v) (sym nil) ∙ e)
 ends_cut u v [] rest (inr w) zf zr e =
-    let e2 : w.0 ++ 0 ∷ v ≡ rest = sym (append_assoc w.0 (0 ∷ []) v) ∙ ap (λ (x : List ℕ). x ++ v) (sym w.1) ∙ e in
+    let e2 : w.0 ++ 0 ∷ v ≡ rest = sym (append_assoc w.0 (0 ∷ []) v)
+    ∙ ap (λ (x : List ℕ). x ++ v) (sym w.1) ∙ e in
     let no = NoZero-right w.0 (0 ∷ v) (subst NoZero (sym e2) zr) in
     absurd (omega (arith, no.0))
 ends_cut u v (f ∷ fs) rest (inr w) zf zr e =
@@ -67,29 +77,39 @@ ends_cut u v (f ∷ fs) rest (inr w) zf zr e =
     elim (zero_cut f w.0 (flat_map ended fs ++ rest) v zf.0 e2) [
       | inl r ↦ (f ∷ [], fs, refl, w.1 ∙ ap ended r.0 ∙ sym (append-nil (ended f)), sym r.1)
       | inr r ↦
-          let deep = ends_cut (r.0 ++ 0 ∷ []) v fs rest (inr (r.0, refl)) zf.1 zr (append_assoc r.0 (0 ∷ []) v ∙ sym r.2) in (
+          let deep = ends_cut (r.0 ++ 0 ∷ []) v fs rest (inr (r.0, refl)) zf.1 zr
+          (append_assoc r.0 (0 ∷ []) v ∙ sym r.2) in (
             f ∷ deep.0,
             deep.1,
             ap (λ (x : List (List ℕ)). f ∷ x) deep.2,
-            w.1 ∙ ap ended r.1 ∙ append_assoc f (0 ∷ r.0) (0 ∷ []) ∙ sym (append_assoc f (0 ∷ []) (r.0 ++ 0 ∷ [])) ∙ ap (λ (x : List ℕ). ended f ++ x) deep.3,
+            w.1 ∙ ap ended r.1 ∙ append_assoc f (0 ∷ r.0) (0 ∷ [])
+                ∙ sym (append_assoc f (0 ∷ []) (r.0 ++ 0 ∷ []))
+                ∙ ap (λ (x : List ℕ). ended f ++ x) deep.3,
             deep.4,
           )
     ]
 
 -- a stream is frames and a rest in one way at most
-pub split_one : (fs gs : List (List ℕ)) (r q : List ℕ) → AreZeroFree fs → AreZeroFree gs → NoZero r → NoZero q → flat_map ended fs ++ r ≡ flat_map ended gs ++ q → (fs ≡ gs) × (r ≡ q)
+pub split_one : (fs gs : List (List ℕ)) (r q : List ℕ) → AreZeroFree fs → AreZeroFree gs → NoZero r
+    → NoZero q → flat_map ended fs ++ r ≡ flat_map ended gs ++ q → (fs ≡ gs) × (r ≡ q)
 split_one [] [] r q zf zg zr zq e = (refl, e)
-split_one [] (g ∷ gs) r q zf zg zr zq e = absurd (has_zero r g (flat_map ended gs ++ q) (zg.0, e ∙ first g gs q) zr)
-split_one (f ∷ fs) [] r q zf zg zr zq e = absurd (has_zero q f (flat_map ended fs ++ r) (zf.0, sym e ∙ first f fs r) zq)
+split_one [] (g ∷ gs) r q zf zg zr zq e =
+    absurd (has_zero r g (flat_map ended gs ++ q) (zg.0, e ∙ first g gs q) zr)
+split_one (f ∷ fs) [] r q zf zg zr zq e =
+    absurd (has_zero q f (flat_map ended fs ++ r) (zf.0, sym e ∙ first f fs r) zq)
 split_one (f ∷ fs) (g ∷ gs) r q zf zg zr zq e =
-    elim (zero_cut f g (flat_map ended fs ++ r) (flat_map ended gs ++ q) zf.0 (sym (first f fs r) ∙ e ∙ first g gs q)) [
+    elim (zero_cut f g (flat_map ended fs ++ r) (flat_map ended gs ++ q) zf.0
+    (sym (first f fs r) ∙ e ∙ first g gs q)) [
       | inl c ↦ let s = split_one fs gs r q zf.1 zg.1 zr zq c.1 in (cc (c.0, s.0), s.1)
       | inr c ↦ absurd (has_zero g f c.0 (zf.0, c.1) zg.0)
     ]
 
 -- two splits of one stream are one
-pub one_split : (s : List ℕ) (fs gs : List (List ℕ)) (r q : List ℕ) → IsSplit s fs r → IsSplit s gs q → (fs ≡ gs) × (r ≡ q)
-one_split s fs gs r q p u = split_one fs gs r q p.frames_zero_free u.frames_zero_free p.rest_zero_free u.rest_zero_free (sym p.is ∙ u.is)
+pub one_split : (s : List ℕ) (fs gs : List (List ℕ)) (r q : List ℕ) → IsSplit s fs r
+    → IsSplit s gs q → (fs ≡ gs) × (r ≡ q)
+one_split s fs gs r q p u =
+    split_one fs gs r q p.frames_zero_free u.frames_zero_free p.rest_zero_free u.rest_zero_free
+    (sym p.is ∙ u.is)
 
 -- the split of a stream of which h has come
 split_from : (h s : List ℕ) → NoZero h → (fs : List (List ℕ)) × (r : List ℕ) × IsSplit (h ++ s) fs r

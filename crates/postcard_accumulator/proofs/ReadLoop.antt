@@ -1,5 +1,7 @@
 -- The two loops of the reading: over the feeds of a piece, and over the reads.
-use Rattle.std.proofs.Common.{◌≡◌, ℕ, ◌+◌, ◌-◌, ◌*◌, ◌<◌, ◌≤◌, inl, inr, List, [], ◌∷◌, ◌++◌, length, refl, sym, ap, subst, ◌∙◌, append_assoc, arith, length-append, take, drop}
+use Rattle.std.proofs.Common.{◌≡◌, ℕ, ◌+◌, ◌-◌, ◌*◌, ◌<◌, ◌≤◌, inl, inr, List, [], ◌∷◌, ◌++◌}
+use Rattle.std.proofs.Common.{length, refl, sym, ap, subst, ◌∙◌, append_assoc, arith, length-append}
+use Rattle.std.proofs.Common.{take, drop}
 use Rattle.std.proofs.lemmas.List.{append-nil, take_all, length-take-le, take-append-drop, take_at}
 use Rattle.std.proofs.Math.Nat.{mul-le-mul_right}
 use Rattle.std.specs.Prelude.{Option}
@@ -22,7 +24,8 @@ use Rattle.postcard_accumulator.proofs.Joining.{joined_law}
 
 module _ {T : Type 0} (n : ℕ) (shape : Shape T) where
   -- no bytes, no answers
-  nothing_fed : (c : State) → NoZero (held_of c) → length (held_of c) ≤ n → Answers n shape c [] [] c
+  nothing_fed : (c : State) → NoZero (held_of c) → length (held_of c) ≤ n
+      → Answers n shape c [] [] c
   nothing_fed (holding h) zh room = rw (append-nil h) (record {
     frames = [];
     rest = h;
@@ -35,34 +38,50 @@ module _ {T : Type 0} (n : ℕ) (shape : Shape T) where
   nothing_fed skipping zh room = inl (tt, refl, refl)
 
   -- inside a piece: what is fed of it, the answers to that, and what is left
-  pub record AtWindow (before : State) (piece : List ℕ) (old now : List (Answer T)) (after : State) (window : List ℕ) : Type 0 where
+  pub record AtWindow (before : State) (piece : List ℕ) (old now : List (Answer T)) (after : State)
+      (window : List ℕ) : Type 0 where
     pub eaten : List ℕ
     pub cut : piece ≡ eaten ++ window
     pub answers : List (Answer T)
     pub items : now ≡ old ++ answers
     pub is : Answers n shape before eaten answers after
 
-  pub at_start : (c : State) (piece : List ℕ) (old : List (Answer T)) → NoZero (held_of c) → length (held_of c) ≤ n → AtWindow c piece old old c piece
-  at_start c piece old zh room = record { eaten = []; cut = refl; answers = []; items = sym (append-nil old); is = nothing_fed c zh room }
+  pub at_start : (c : State) (piece : List ℕ) (old : List (Answer T)) → NoZero (held_of c)
+      → length (held_of c) ≤ n → AtWindow c piece old old c piece
+  at_start c piece old zh room =
+      record {
+        eaten = [];
+        cut = refl;
+        answers = [];
+        items = sym (append-nil old);
+        is =
+            nothing_fed c zh room;
+      }
 
-  pub at_next : (c : State) (piece : List ℕ) (old now : List (Answer T)) (h k : State) (w : List ℕ) (r : FeedResult T) → NoZero (held_of h) →
-      AtWindow c piece old now h w → IsFed n shape h w r k → AtWindow c piece old (now ++ answers_of r) k (left_of r)
+  pub at_next : (c : State) (piece : List ℕ) (old now : List (Answer T)) (h k : State) (w : List ℕ)
+      (r : FeedResult T) → NoZero (held_of h) →
+      AtWindow c piece old now h w → IsFed n shape h w r k
+      → AtWindow c piece old (now ++ answers_of r) k (left_of r)
   at_next c piece old now h k w r zh p fed =
       let f = feeds_law shape n h k w r zh fed in
       record {
         eaten = p.eaten ++ f.0;
-        cut = p.cut ∙ ap (λ (x : List ℕ). p.eaten ++ x) f.1 ∙ sym (append_assoc p.eaten f.0 (left_of r));
+        cut = p.cut ∙ ap (λ (x : List ℕ). p.eaten ++ x) f.1
+            ∙ sym (append_assoc p.eaten f.0 (left_of r));
         answers = p.answers ++ answers_of r;
-        items = ap (λ (x : List (Answer T)). x ++ answers_of r) p.items ∙ append_assoc old p.answers (answers_of r);
+        items = ap (λ (x : List (Answer T)). x ++ answers_of r) p.items
+            ∙ append_assoc old p.answers (answers_of r);
         is = joined_law shape n c h k p.eaten f.0 p.answers (answers_of r) p.is f.2;
       }
 
-  pub at_end : (c : State) (piece : List ℕ) (old now : List (Answer T)) (after : State) (window : List ℕ) (left : ℕ) → left ≡ length window → AtWindow c piece old now after window →
+  pub at_end : (c : State) (piece : List ℕ) (old now : List (Answer T)) (after : State)
+      (window : List ℕ) (left : ℕ) → left ≡ length window → AtWindow c piece old now after window →
       IsFedAll n shape c piece old now after left
   at_end c piece old now after window left e p =
       let l = ap length p.cut ∙ length-append p.eaten window in
       let m : length p.eaten ≡ length piece - left = omega arith in
-      let t : take (length piece - left) piece ≡ p.eaten = ap (take (length piece - left)) p.cut ∙ take_at p.eaten window (length piece - left) m in
+      let t : take (length piece - left) piece ≡ p.eaten = ap (take (length piece - left)) p.cut
+      ∙ take_at p.eaten window (length piece - left) m in
       record { within = omega arith; answers = p.answers; items = p.items; is = rw t p.is }
 
   -- what ends a frame takes a byte of the piece
@@ -70,27 +89,36 @@ module _ {T : Type 0} (n : ℕ) (shape : Shape T) where
   ends_shorter h w q rest f = let l = ap length f.0.1 ∙ length-append q (0 ∷ rest) in omega arith
 
   -- so each feed of a piece that isn't empty leaves less than it
-  shorter_held : (h w : List ℕ) (r : FeedResult T) (k : State) → 0 < length w → IsFedHolding n shape h w r k → length (left_of r) < length w
+  shorter_held : (h w : List ℕ) (r : FeedResult T) (k : State) → 0 < length w
+      → IsFedHolding n shape h w r k → length (left_of r) < length w
   shorter_held h w Consumed k some f = some
-  shorter_held h w (fed.OverFull rest) k some (inl f) = let l = ap length f.1.1 ∙ length-append f.0 (0 ∷ rest.now) in omega arith
+  shorter_held h w (fed.OverFull rest) k some (inl f) = let l = ap length f.1.1
+      ∙ length-append f.0 (0 ∷ rest.now) in omega arith
   shorter_held h w (fed.OverFull rest) k some (inr f) = let l = ap length f.2 in omega arith
   shorter_held h w (fed.DeserError rest) k some f = ends_shorter h w f.0 rest.now f.1
   shorter_held h w (fed.Success v rest) k some f = ends_shorter h w f.0 rest.now f.1
 
-  left_within : (h w : List ℕ) (r : FeedResult T) (k : State) → IsFedHolding n shape h w r k → length (left_of r) ≤ length w
+  left_within : (h w : List ℕ) (r : FeedResult T) (k : State) → IsFedHolding n shape h w r k
+      → length (left_of r) ≤ length w
   left_within h w Consumed k f = omega arith
-  left_within h w (fed.OverFull rest) k (inl f) = let l = ap length f.1.1 ∙ length-append f.0 (0 ∷ rest.now) in omega arith
+  left_within h w (fed.OverFull rest) k (inl f) = let l = ap length f.1.1
+      ∙ length-append f.0 (0 ∷ rest.now) in omega arith
   left_within h w (fed.OverFull rest) k (inr f) = let l = ap length f.2 in omega arith
-  left_within h w (fed.DeserError rest) k f = let l = ends_shorter h w f.0 rest.now f.1 in omega arith
-  left_within h w (fed.Success v rest) k f = let l = ends_shorter h w f.0 rest.now f.1 in omega arith
+  left_within h w (fed.DeserError rest) k f = let l = ends_shorter h w f.0 rest.now f.1 in
+      omega arith
+  left_within h w (fed.Success v rest) k f = let l = ends_shorter h w f.0 rest.now f.1 in
+      omega arith
 
-  pub shorter : (c : State) (w : List ℕ) (r : FeedResult T) (k : State) → 0 < length w → IsFed n shape c w r k → length (left_of r) < length w
+  pub shorter : (c : State) (w : List ℕ) (r : FeedResult T) (k : State) → 0 < length w
+      → IsFed n shape c w r k → length (left_of r) < length w
   shorter (holding h) w r k some f = shorter_held h w r k some f
   shorter skipping w r k some (inl f) = rw f.1 some
-  shorter skipping w r k some (inr f) = let l = ap length f.2.1 ∙ length-append f.0 (0 ∷ f.1) in let m = left_within [] f.1 r k f.3 in omega arith
+  shorter skipping w r k some (inr f) = let l = ap length f.2.1 ∙ length-append f.0 (0 ∷ f.1) in
+      let m = left_within [] f.1 r k f.3 in omega arith
 
-  -- so many reads were made, and all that they gave was fed
-  pub record ReadSoFar (from now : Option (List ℕ)) (before after : State) (old new : List (Answer T)) (count size : ℕ) : Type 0 where
+  -- `count` reads were made, and all that they gave was fed
+  pub record ReadSoFar (from now : Option (List ℕ)) (before after : State)
+      (old new : List (Answer T)) (count size : ℕ) : Type 0 where
     pub given : List ℕ
     pub reader : Consumes from now given
     pub answers : List (Answer T)
@@ -99,7 +127,8 @@ module _ {T : Type 0} (n : ℕ) (shape : Shape T) where
     pub at_most : length given ≤ count * size
     pub at_least : count ≤ length given
 
-  pub no_read : (from : Option (List ℕ)) (c : State) (old : List (Answer T)) (size : ℕ) → NoZero (held_of c) → length (held_of c) ≤ n → ReadSoFar from from c c old old 0 size
+  pub no_read : (from : Option (List ℕ)) (c : State) (old : List (Answer T)) (size : ℕ)
+      → NoZero (held_of c) → length (held_of c) ≤ n → ReadSoFar from from c c old old 0 size
   no_read from c old size zh room = record {
     given = [];
     reader = Consumes-nil from;
@@ -110,20 +139,28 @@ module _ {T : Type 0} (n : ℕ) (shape : Shape T) where
     at_least = omega arith;
   }
 
-  module _ (from now next : Option (List ℕ)) (c after later : State) (old new newer : List (Answer T)) (count size : ℕ) (p : ReadSoFar from now c after old new count size)
-      (piece : List ℕ) (left : ℕ) (f : IsFedAll n shape after piece new newer later left) (g : Consumes now next piece) where
+  module _ (from now next : Option (List ℕ)) (c after later : State)
+      (old new newer : List (Answer T)) (count size : ℕ)
+      (p : ReadSoFar from now c after old new count size)
+      (piece : List ℕ) (left : ℕ) (f : IsFedAll n shape after piece new newer later left)
+      (g : Consumes now next piece) where
     -- the answers go on with what was fed of the piece
-    goes_on : Answers n shape c (p.given ++ take (length piece - left) piece) (p.answers ++ f.answers) later
-    goes_on = joined_law shape n c after later p.given (take (length piece - left) piece) p.answers f.answers p.is f.is
+    goes_on : Answers n shape c (p.given ++ take (length piece - left) piece)
+        (p.answers ++ f.answers) later
+    goes_on = joined_law shape n c after later p.given
+        (take (length piece - left) piece) p.answers f.answers p.is f.is
 
     items_on : newer ≡ old ++ (p.answers ++ f.answers)
-    items_on = f.items ∙ ap (λ (x : List (Answer T)). x ++ f.answers) p.items ∙ append_assoc old p.answers f.answers
+    items_on = f.items ∙ ap (λ (x : List (Answer T)). x ++ f.answers) p.items
+        ∙ append_assoc old p.answers f.answers
 
     -- a read whose bytes were all fed
-    pub read_on : left ≡ 0 → 0 < length piece → length piece ≤ size → ReadSoFar from next c later old newer (count + 1) size
+    pub read_on : left ≡ 0 → 0 < length piece → length piece ≤ size
+        → ReadSoFar from next c later old newer (count + 1) size
     read_on none some fits =
         let k : length piece - left ≡ length piece = omega arith in
-        let t : take (length piece - left) piece ≡ piece = take_all (length piece - left) piece (omega arith) in
+        let t : take (length piece - left) piece ≡ piece =
+        take_all (length piece - left) piece (omega arith) in
         let l = length-append p.given piece in
         let m = p.at_most in let o = p.at_least in
         let s : (count + 1) * size ≡ count * size + size = omega arith in
@@ -138,7 +175,8 @@ module _ {T : Type 0} (n : ℕ) (shape : Shape T) where
         }
 
     -- a read of whose bytes the last were not fed
-    pub read_stopped : (reads to at : ℕ) (chunk : List ℕ) → count < reads → 0 < left → to ≤ length chunk → piece ≡ take to chunk → at ≡ to - left → length chunk ≡ size →
+    pub read_stopped : (reads to at : ℕ) (chunk : List ℕ) → count < reads → 0 < left → to
+        ≤ length chunk → piece ≡ take to chunk → at ≡ to - left → length chunk ≡ size →
         IsReading n shape reads from next chunk c later old newer (OutOfMemory at to)
     read_stopped reads to at chunk more some within e from_is len =
         let l = length-append p.given piece in
@@ -147,12 +185,18 @@ module _ {T : Type 0} (n : ℕ) (shape : Shape T) where
         let low = f.within in
         let s : (count + 1) * size ≡ count * size + size = omega arith in
         let mono = mul-le-mul_right size more1 in
-        let un : drop (length piece - left) piece ≡ drop at (take to chunk) = ap (λ (x : List ℕ). drop (length piece - left) x) e ∙ ap (λ (k : ℕ). drop k (take to chunk)) (let y : length piece - left ≡ at = omega arith in y) in
+        let un : drop (length piece - left) piece ≡ drop at (take to chunk) =
+        ap (λ (x : List ℕ). drop (length piece - left) x) e
+        ∙ ap (λ (k : ℕ). drop k (take to chunk))
+        (let y : length piece - left ≡ at = omega arith in y) in
         record {
           given = p.given ++ piece;
           reader = Consumes-trans from now next p.given piece p.reader g;
           fed = p.given ++ take (length piece - left) piece;
-          all = ap (λ (x : List ℕ). p.given ++ x) (sym (take-append-drop (length piece - left) piece)) ∙ sym (append_assoc p.given (take (length piece - left) piece) (drop (length piece - left) piece))
+          all = ap (λ (x : List ℕ). p.given ++ x)
+              (sym (take-append-drop (length piece - left) piece))
+              ∙ sym (append_assoc p.given (take (length piece - left) piece)
+              (drop (length piece - left) piece))
               ∙ ap (λ (x : List ℕ). (p.given ++ take (length piece - left) piece) ++ x) un;
           answers = p.answers ++ f.answers;
           items = items_on;
@@ -164,8 +208,11 @@ module _ {T : Type 0} (n : ℕ) (shape : Shape T) where
           more1 = omega arith
 
   -- an end at which all that was read was fed
-  pub read_ended : (from now : Option (List ℕ)) (c after : State) (old new : List (Answer T)) (count size reads : ℕ) (chunk : List ℕ) (e : ReadEnd) → ReadSoFar from now c after old new count size →
-      unfed chunk e ≡ [] → count ≤ reads → length chunk ≡ size → ((k : ℕ) → count ≤ k → EndsWell reads k chunk e) →
+  pub read_ended : (from now : Option (List ℕ)) (c after : State) (old new : List (Answer T))
+      (count size reads : ℕ) (chunk : List ℕ) (e : ReadEnd)
+      → ReadSoFar from now c after old new count size →
+      unfed chunk e ≡ [] → count ≤ reads → length chunk ≡ size
+      → ((k : ℕ) → count ≤ k → EndsWell reads k chunk e) →
       IsReading n shape reads from now chunk c after old new e
   read_ended from now c after old new count size reads chunk e p none more len well =
       let mono = mul-le-mul_right size more in
@@ -183,11 +230,14 @@ module _ {T : Type 0} (n : ℕ) (shape : Shape T) where
       }
 
   -- a read that gave nothing changes nothing, nor does one that failed
-  pub read_nothing : (from now next : Option (List ℕ)) (c after : State) (old new : List (Answer T)) (count size : ℕ) →
-      ReadSoFar from now c after old new count size → Consumes now next [] → ReadSoFar from next c after old new count size
+  pub read_nothing : (from now next : Option (List ℕ)) (c after : State) (old new : List (Answer T))
+      (count size : ℕ) →
+      ReadSoFar from now c after old new count size → Consumes now next []
+      → ReadSoFar from next c after old new count size
   read_nothing from now next c after old new count size p g = record {
     given = p.given;
-    reader = subst (λ (x : List ℕ). Consumes from next x) (append-nil p.given) (Consumes-trans from now next p.given [] p.reader g);
+    reader = subst (λ (x : List ℕ). Consumes from next x) (append-nil p.given)
+        (Consumes-trans from now next p.given [] p.reader g);
     answers = p.answers;
     items = p.items;
     is = p.is;
@@ -195,8 +245,10 @@ module _ {T : Type 0} (n : ℕ) (shape : Shape T) where
     at_least = p.at_least;
   }
 
-  pub read_failed : (from now next : Option (List ℕ)) (c after : State) (old new : List (Answer T)) (count size : ℕ) →
-      ReadSoFar from now c after old new count size → Keeps now next → ReadSoFar from next c after old new count size
+  pub read_failed : (from now next : Option (List ℕ)) (c after : State) (old new : List (Answer T))
+      (count size : ℕ) →
+      ReadSoFar from now c after old new count size → Keeps now next
+      → ReadSoFar from next c after old new count size
   read_failed from now next c after old new count size p k = record {
     given = p.given;
     reader = Consumes-kept from now next p.given p.reader k;

@@ -1,5 +1,5 @@
 -- What one feed returns, and what the accumulator carries after it. An oversized frame is skipped
--- through the zero that ends it, and is answered once.
+-- through the zero that ends it, and has one answer.
 use Rattle.std.specs.Prelude.{◌≡◌, ℕ, ◌+◌, ◌<◌, ◌≤◌, ◌⊎◌, List, [], ◌++◌, length}
 use Rattle.postcard_cobs.specs.Groups.{NoZero, Groups, EndsFrame}
 use Rattle.postcard_frame.specs.Frame.{ReadsFrame}

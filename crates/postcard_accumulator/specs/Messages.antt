@@ -1,4 +1,4 @@
--- What a stream of messages is answered, in words of their values.
+-- The answers to a stream of messages, in words of their values.
 use Rattle.std.specs.Prelude.{◌≡◌, ℕ, ◌+◌, ◌<◌, ◌≤◌, List, [], ◌∷◌, ◌++◌, length}
 use Rattle.postcard_cobs.specs.Groups.{NoZero, IsMade}
 use Rattle.postcard_wire.specs.Spelling.{bytes as canonical}

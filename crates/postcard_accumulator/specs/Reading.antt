@@ -10,7 +10,7 @@ use Rattle.postcard_accumulator.specs.declared.reading.ReadEnd.{ReadEnd}
 use Rattle.postcard_accumulator.specs.declared.reading.ReadEnd.TheVariants.{End, Limit}
 use Rattle.postcard_accumulator.specs.declared.reading.ReadEnd.TheVariants.{ReadFailed, OutOfMemory}
 
--- A piece was fed but for so many bytes at its end.
+-- A piece was fed but for `left` bytes at its end.
 pub record IsFedAll {T : Type 0} (n : ℕ) (shape : Shape T) (before : State) (piece : List ℕ)
     (old new : List (Answer T)) (after : State) (left : ℕ) : Type 0 where
   pub within : left ≤ length piece

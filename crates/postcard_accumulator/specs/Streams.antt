@@ -57,7 +57,7 @@ pub record IsAnswered {T : Type 0} (n : ℕ) (shape : Shape T) (stream : List �
   pub over : n < length rest → (answers ≡ parts ++ OverFull ∷ []) × (after ≡ skipping)
 
 -- In a state, these bytes have these answers and lead to that state. What is held is the front of
--- the stream. While a frame is being skipped, nothing is answered up to and with its zero.
+-- the stream. While a frame is being skipped, there is no answer up to and with its zero.
 abbrev pub Answers : {T : Type 0} → ℕ → Shape T → State → List ℕ → List (Answer T) → State → Type 0
 Answers n shape (holding h) bytes answers after = IsAnswered n shape (h ++ bytes) answers after
 Answers n shape skipping bytes answers after =

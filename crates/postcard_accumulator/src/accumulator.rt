@@ -19,7 +19,7 @@ use std::marker::Model;
 ///
 /// It holds at most `N` bytes: the front of a frame that hasn't ended yet. A frame has room if it
 /// has at most `N` bytes with its zero. One that has no room is skipped through its zero and
-/// answered once; while it is skipped, nothing is held.
+/// has one answer, `OverFull`; while it is skipped, nothing is held.
 #[derive(Drop)]
 pub struct CobsAccumulator<const N: usize> {
     buf: [u8; N],
@@ -78,8 +78,8 @@ impl<const N: usize> CobsAccumulator<N> {
         }
     }
 
-    /// Returns `true` if an oversized frame is being skipped: it was answered, and its zero hasn't
-    /// come yet.
+    /// Returns `true` if an oversized frame is being skipped: `OverFull` was returned, and its
+    /// zero hasn't come yet.
     pub fn skipping(&self) -> bool
         ensures { result ≡ is_skipping self.now }
     {

@@ -53,8 +53,8 @@ pub fn frames_are_one()
 {}
 
 /// Values that were encoded as frames that have room come back in order, whatever oversized frames
-/// stand between them: each is answered `Success` with a value that looks like it, or `DeserError`
-/// if its type grows.
+/// stand between them: the answer to each is `Success` with a value that looks like it, or
+/// `DeserError` if its type grows.
 pub fn messages_arrive<T: DeserializeOwned>()
     ensures { MessagesArrive T.shape }
 {}

@@ -8,7 +8,7 @@
 //! # The rule
 //!
 //! An accumulator of `N` bytes holds the bytes `h`, or it is skipping an oversized frame. It is fed
-//! the piece `p`, whose first zero, if it has one, stands at `n`. The first row that fits decides:
+//! the piece `p`, whose first zero, if it has one, is `p[n]`. The first row that fits decides:
 //!
 //! | Before | Piece | Result | After |
 //! |---|---|---|---|
@@ -23,11 +23,11 @@
 //! frame's data spells and with `p[n + 1..]`, if there is such a value; else, or if memory for the
 //! value was refused, it is `DeserError` of `p[n + 1..]`.
 //!
-//! So an oversized frame is answered once, wherever the line cuts it. With `N` of 0 every frame is
+//! So an oversized frame has one answer, wherever the line cuts it. With `N` of 0 every frame is
 //! oversized.
 //!
 //! A link that joins late may begin inside a frame: it loses at most what stands before the first
-//! zero, which may be answered `DeserError`, `OverFull` or, by chance, as a value of its own. From
+//! zero, of which the answer may be `DeserError`, `OverFull` or, by chance, a value. From
 //! that zero on the answers are those of the frames.
 //!
 //! # What is proved

@@ -87,7 +87,7 @@ fn feed_all<T: DeserializeOwned, const N: usize>(
 ///
 /// The reader is at its end at `End`. A steady reader never gives `ReadFailed`. At `Limit` at least
 /// `reads` bytes were read, and never more than `reads * chunk.len()`. What is said of the bytes
-/// that were read holds of a reader that tells them to contracts.
+/// that were read holds of a reader whose bytes contracts can name.
 pub fn read_frames<R: Source, T: DeserializeOwned, const N: usize>(
     alloc: Global,
     reader: &mut R,

@@ -49,16 +49,13 @@ pub fn owned_value_of<'a, T: DeserializeOwned>(
 ) -> FeedResult<'a, T>
     ensures { IsReadOf T.shape taken.entry result }
 {
-    match taken {
-        Taken::Consumed => FeedResult::Consumed,
-        Taken::OverFull(rest) => FeedResult::OverFull(rest),
-        Taken::Refused(rest) => FeedResult::DeserError(rest),
-        Taken::Message(data, rest) => match from_bytes::<Owned<T>>(alloc, data) {
-            Ok(Owned(value)) => FeedResult::Success {
-                value,
-                remaining: rest,
-            },
-            Err(_) => FeedResult::DeserError(rest),
-        },
+    match value_of::<Owned<T>>(alloc, taken) {
+        FeedResult::Consumed => FeedResult::Consumed,
+        FeedResult::OverFull(rest) => FeedResult::OverFull(rest),
+        FeedResult::DeserError(rest) => FeedResult::DeserError(rest),
+        FeedResult::Success { value, remaining } => {
+            let Owned(value) = value;
+            FeedResult::Success { value, remaining }
+        }
     }
 }

@@ -1,4 +1,4 @@
-//! Frames worked out by hand, over each storage and behind held bytes, and the same data taken
+//! Frames worked out by hand, over each storage and after held bytes, and the same data taken
 //! whole, byte by byte and in pieces.
 
 ghost use Rattle.std.specs.Prelude.{◌<◌};

@@ -1,9 +1,9 @@
--- What a decoding call answers of the front of its input.
+-- What a decoding call returns for the front of its input.
 use Rattle.std.specs.Prelude.{◌≡◌, ℕ, List, ◌++◌}
 use Rattle.postcard_wire.specs.Tree.{Tree}
 use Rattle.postcard_wire.specs.Spelling.{Spells}
 
--- A front of the bytes spells a tree that is read, v is its value, and the bytes behind it are the
+-- A front of the bytes spells a tree that is read, v is its value, and the bytes after it are the
 -- rest.
 pub record ReadsFront {V : Type 0} (reads : Tree → Type 0) (value : Tree → V → Type 0)
     (bytes : List ℕ) (v : V) (rest : List ℕ) : Type 0 where

@@ -10,16 +10,16 @@ use postcard_de::{Deserialize, Deserializer};
 use postcard_wire::{Error, Result};
 use std::alloc::Global;
 
-/// Decodes a value from the front of some bytes, and answers it with the bytes behind that front.
+/// Decodes a value from the front of some bytes, and returns it with the bytes after that front.
 ///
 /// It succeeds exactly where a front spells a tree that the type reads, padded numbers included;
 /// there is one such front at most. What is lent to the value, as a `&str`, is lent from `bytes`.
 ///
 /// # Errors
 ///
-/// That of the first part that refuses: `DeserializeUnexpectedEnd` where the bytes end before the
-/// value does, and the errors of `Deserializer`'s calls. `OutOfMemory` only from a type that grows,
-/// where memory was refused.
+/// Fails with the error of the first part that can't be read: with `DeserializeUnexpectedEnd` if the
+/// bytes end before the value does, and with the errors of `Deserializer`'s calls. Fails with
+/// `OutOfMemory` only if an allocation fails, for a type that grows.
 pub fn take_from_bytes<'a, T: Deserialize<'a>>(
     alloc: Global,
     bytes: &'a [u8],
@@ -43,7 +43,7 @@ pub fn take_from_bytes<'a, T: Deserialize<'a>>(
     Ok((value, rest))
 }
 
-/// Decodes a value from the front of some bytes. Bytes behind that front are ignored.
+/// Decodes a value from the front of some bytes. Bytes after that front are ignored.
 ///
 /// # Errors
 ///

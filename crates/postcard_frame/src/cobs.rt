@@ -1,12 +1,9 @@
 //! Decoding from a frame, in the buffer that holds it.
 
-ghost use Rattle.std.specs.Prelude.{◌≡◌, ◌+◌, ◌⊎◌, ℕ, List, ◌++◌, length, drop};
-ghost use Rattle.std.specs.Prelude.{Err, IfOk, IfErr, IsErrOf, MatchResult};
-ghost use Rattle.postcard_cobs.specs.Groups.{Groups, before_zero, made};
-ghost use Rattle.postcard_wire.specs.Tree.{Tree};
-ghost use Rattle.postcard_wire.specs.Spelling.{Spells, bytes as canonical};
+ghost use Rattle.std.specs.Prelude.{◌≡◌, ◌+◌, ◌⊎◌, length, drop, Err, IfOk, IfErr, IsErrOf};
+ghost use Rattle.postcard_cobs.specs.Groups.{before_zero};
 ghost use Rattle.postcard_de.specs.Reads.{MayAnswer};
-ghost use Rattle.postcard_frame.specs.Frame.{ReadsFrame};
+ghost use Rattle.postcard_frame.specs.Frame.{ReadsFrame, HasNoData, AcceptsFrame, ReadsBackFrame};
 
 use crate::bytes::from_bytes;
 use postcard_cobs::{decode_in_place, decode_in_place_report};
@@ -18,7 +15,7 @@ use std::alloc::Global;
 ///
 /// The frame is the bytes before the first zero, or all bytes if there is no zero. Its data takes
 /// its place, and what is lent to the value, as a `&str`, is lent from there. Bytes of the data
-/// behind the value are ignored.
+/// after the value are ignored.
 ///
 /// It succeeds exactly where the frame has data of which a front spells a tree that the type reads,
 /// want of memory aside; so the made frame of a value that fits gives that value, with its sentinel
@@ -27,22 +24,14 @@ use std::alloc::Global;
 /// # Errors
 ///
 /// Fails with `DeserializeBadEncoding` exactly where the frame is empty or a group runs past its
-/// end, and else as [`from_bytes`] of the frame's data.
+/// end, and otherwise as [`from_bytes`] of the frame's data.
 pub fn from_bytes_cobs<'a, T: Deserialize<'a>>(alloc: Global, s: &'a mut [u8]) -> Result<T>
     ensures gives { IfOk result (ReadsFrame T.shape.reads T.shape.value (before_zero s.old)) }
-    ensures accepts { (content : List ℕ) (t : Tree) (front rest : List ℕ)
-        → Groups (before_zero s.old) content
-        → T.shape.reads t → Spells t front → content ≡ front ++ rest →
-        MatchResult result (λ value. T.shape.value t value)
-        (λ e. (e ≡ Error.OutOfMemory) × T.shape.grows) }
-    ensures reads_back { (x : T) → T.shape.fits x
-        → before_zero s.old ≡ before_zero (made (canonical (T.shape.tree x))) →
-        MatchResult result (λ value. T.shape.same value x)
-        (λ e. (e ≡ Error.OutOfMemory) × T.shape.grows) }
-    ensures no_frame { ((content : List ℕ) → Groups (before_zero s.old) content → ⊥)
+    ensures accepts { AcceptsFrame T.shape (λ value. value) (before_zero s.old) result }
+    ensures reads_back { ReadsBackFrame T.shape (λ value. value) (before_zero s.old) result }
+    ensures no_frame { HasNoData (before_zero s.old)
         → IsErrOf result Error.DeserializeBadEncoding }
-    ensures bad { result ≡ Err Error.DeserializeBadEncoding
-        → (content : List ℕ) → Groups (before_zero s.old) content → ⊥ }
+    ensures bad { result ≡ Err Error.DeserializeBadEncoding → HasNoData (before_zero s.old) }
     ensures grows { result ≡ Err Error.OutOfMemory → T.shape.grows }
     ensures names { IfErr result
         (λ e. (e ≡ Error.DeserializeBadEncoding) ⊎ MayAnswer T.shape.grows e) }
@@ -51,11 +40,11 @@ pub fn from_bytes_cobs<'a, T: Deserialize<'a>>(alloc: Global, s: &'a mut [u8]) -
     from_bytes(alloc, &s[..used])
 }
 
-/// Decodes a value from the frame at the front of a buffer, in place, and answers it with the bytes
-/// behind the frame and behind the one zero that ends it. These are as they were.
+/// Decodes a value from the frame at the front of a buffer, in place, and returns it with the bytes
+/// after the frame and the one zero that ends it. These are unchanged.
 ///
-/// Else it is as [`from_bytes_cobs`]. What is lent to the value stays usable beside these bytes, of
-/// which the next call may read the next frame.
+/// Otherwise it does the same as [`from_bytes_cobs`]. What is lent to the value stays usable beside
+/// these bytes, from which the next call may read the next frame.
 ///
 /// # Errors
 ///
@@ -67,19 +56,11 @@ pub fn take_from_bytes_cobs<'a, T: Deserialize<'a>>(
     ensures gives { IfOk result
         (λ read. ReadsFrame T.shape.reads T.shape.value (before_zero s.old) read.0) }
     ensures rest { IfOk result (λ read. read.1.now ≡ drop (length (before_zero s.old) + 1) s.old) }
-    ensures accepts { (content : List ℕ) (t : Tree) (front rest : List ℕ)
-        → Groups (before_zero s.old) content
-        → T.shape.reads t → Spells t front → content ≡ front ++ rest →
-        MatchResult result (λ read. T.shape.value t read.0)
-        (λ e. (e ≡ Error.OutOfMemory) × T.shape.grows) }
-    ensures reads_back { (x : T) → T.shape.fits x
-        → before_zero s.old ≡ before_zero (made (canonical (T.shape.tree x))) →
-        MatchResult result (λ read. T.shape.same read.0 x)
-        (λ e. (e ≡ Error.OutOfMemory) × T.shape.grows) }
-    ensures no_frame { ((content : List ℕ) → Groups (before_zero s.old) content → ⊥)
+    ensures accepts { AcceptsFrame T.shape (λ read. read.0) (before_zero s.old) result }
+    ensures reads_back { ReadsBackFrame T.shape (λ read. read.0) (before_zero s.old) result }
+    ensures no_frame { HasNoData (before_zero s.old)
         → IsErrOf result Error.DeserializeBadEncoding }
-    ensures bad { result ≡ Err Error.DeserializeBadEncoding
-        → (content : List ℕ) → Groups (before_zero s.old) content → ⊥ }
+    ensures bad { result ≡ Err Error.DeserializeBadEncoding → HasNoData (before_zero s.old) }
     ensures grows { result ≡ Err Error.OutOfMemory → T.shape.grows }
     ensures names { IfErr result
         (λ e. (e ≡ Error.DeserializeBadEncoding) ⊎ MayAnswer T.shape.grows e) }

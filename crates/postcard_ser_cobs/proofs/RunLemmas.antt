@@ -34,7 +34,7 @@ module _ {S : Type 0} {held : S → List ℕ} where
         let e : length (made (room.d ++ run)) - length (made room.d) + 1 ≡ length run + 1 = omega arith in
         fewer s (length run) 1 (subst (λ n. free s n) e room.enough)
 
-    -- Where a run has room, the encoder can count its place behind it.
+    -- Where a run has room, the encoder can count its place after it.
     pub run_small : {s : S} {start : ℕ} {at : Standing} {f : Bool} (run : List ℕ) → NoZero run → length run + at.code < 255 → HasFrameRoom held free s start at f run
         → at.code_at + at.code + length run < 2 ^ 64 - 1 - 2
     run_small {at = at} run z short room =

@@ -1,6 +1,7 @@
 -- What the encoder's answer to one byte does to a storage that holds an open frame.
-use Rattle.std.proofs.Common.{◌≡◌, ℕ, ◌+◌, ◌-◌, ◌^◌, ◌<◌, suc, List, [], ◌∷◌, ◌++◌, length, Bool, IsFalse, ap, subst, ◌∙◌, append-nil, append_assoc, length-append, length-set, arith}
+use Rattle.std.proofs.Common.{◌≡◌, ℕ, ◌+◌, ◌-◌, ◌^◌, ◌<◌, suc, List, [], ◌∷◌, ◌++◌, length, Bool, IsFalse, Result, Ok, Err, OnOk, ap, subst, ◌∙◌, append-nil, append_assoc, length-append, length-set, arith}
 use Rattle.std.specs.Prelude.{slice_set, flat_map}
+use Rattle.std.specs.Result.{is_err}
 use Rattle.postcard_cobs.specs.declared.encode.PushResult.{PushResult}
 use Rattle.postcard_cobs.specs.declared.encode.PushResult.TheVariants.{AddSingle, ModifyFromStartAndSkip, ModifyFromStartAndPushAndSkip}
 use Rattle.postcard_cobs.specs.Groups.{IsOpen, Standing, made, coded}
@@ -26,7 +27,7 @@ sets_below (ModifyFromStartAndPushAndSkip p) start i n e h = omega (arith, e, h)
 pub code_below : (L d : List ℕ) (at : Standing) → IsOpen L at d → at.code_at < length L
 code_below L d at h = omega (arith, h.code_at_is, ap length h.frame_is, length-append (flat_map coded h.before) (h.unwritten ∷ h.last))
 
--- Where a storage holds an open frame behind other bytes, it holds the place of the open code.
+-- Where a storage holds an open frame after other bytes, it holds the place of the open code.
 pub code_held : {S : Type 0} {held : S → List ℕ} {s : S} {start : ℕ} {at : Standing} {f : Bool} {before d : List ℕ} → HoldsOpen held s start at f before d → start + at.code_at < length (held s)
 code_held {before = before} {d = d} h = omega (arith, h.starts, ap length h.behind, length-append before h.frame, code_below h.frame d _ h.stands)
 
@@ -54,14 +55,14 @@ end_free {free = free} {s = s} room =
     let e : length (made (room.d ++ [])) - length (made room.d) + 1 ≡ 1 = omega arith in
     subst (λ n. free s n) e room.enough
 
--- A byte set behind other bytes is one set in the frame.
+-- A byte set after other bytes is one set in the frame.
 pub set_behind : (before frame : List ℕ) (i b : ℕ) → slice_set (before ++ frame) (length before + i) b ≡ before ++ slice_set frame i b
 set_behind [] frame i b = let e : 0 + i ≡ i = omega arith in ap (λ (k : ℕ). slice_set frame k b) e
 set_behind (x ∷ before) frame i b =
     let e : length (x ∷ before) + i ≡ suc (length before + i) = omega arith in
     ap (λ (k : ℕ). slice_set (x ∷ (before ++ frame)) k b) e ∙ ap (λ (z : List ℕ). x ∷ z) (set_behind before frame i b)
 
--- An answer that is taken behind other bytes changes the frame alone.
+-- An answer that is taken after other bytes changes the frame alone.
 pub changed_behind : (before L : List ℕ) (r : PushResult) → changed_from (length before) (before ++ L) r ≡ before ++ changed L r
 changed_behind before L (AddSingle b) = append_assoc before L (b ∷ [])
 changed_behind before L (ModifyFromStartAndSkip p) = ap (λ z. z ++ 0 ∷ []) (set_behind before L p.0 p.1) ∙ append_assoc before (slice_set L p.0 p.1) (0 ∷ [])
@@ -87,3 +88,8 @@ ends {at = at} {before = before} {d = d} h =
     let e : slice_set (before ++ h.frame) (length before + at.code_at) at.code ≡ before ++ slice_set h.frame at.code_at at.code = set_behind before h.frame at.code_at at.code in
     (λ i. slice_set (h.behind i) (h.starts i + at.code_at) at.code ++ 0 ∷ []) ∙ ap (λ z. z ++ 0 ∷ []) e
     ∙ append_assoc before (slice_set h.frame at.code_at at.code) (0 ∷ []) ∙ ap (λ z. before ++ z) (open_finishes h.frame d at h.stands)
+
+-- What holds of a success holds where none failed.
+pub succeeded : {T E P : Type 0} (r : Result T E) → IsFalse (is_err r) → OnOk r P → P
+succeeded (Ok x) f p = p
+succeeded (Err e) f p = absurd (cc)

@@ -50,7 +50,7 @@ pub still_going : (f f' : Bool) → (IsTrue f → IsTrue f') → IsFalse f' → 
 still_going false f' i g = refl
 still_going true f' i g = absurd (not_both (i refl) g)
 
--- The number of bytes of a storage that holds an open frame behind others.
+-- The number of bytes of a storage that holds an open frame after others.
 pub holds_made : {S : Type 0} {held : S → List ℕ} {s : S} {start : ℕ} {at : Standing} {f : Bool} {before d : List ℕ} → HoldsOpen held s start at f before d → length (held s) + 1 ≡ length before + length (made d)
 holds_made {before = before} {d = d} h = omega (arith, ap length h.behind, length-append before h.frame, open_made h.frame d _ h.stands)
 

@@ -12,7 +12,7 @@ use postcard_wire::{Error, Result};
 
 mod runs;
 
-/// Encodes the bytes that it takes by COBS, and writes the frame into a storage, behind the bytes
+/// Encodes the bytes that it takes by COBS, and writes the frame into a storage, after the bytes
 /// that the storage already holds.
 ///
 /// Data of `n` bytes becomes a frame of at most `n + n / 254 + 2` bytes, its sentinel among them.
@@ -38,12 +38,13 @@ pub struct Cobs<B: Storage> {
 }
 
 impl<B: Storage + Drop> Cobs<B> {
-    /// Opens a frame behind the bytes that `bee` holds, which stay as they are. Pushes a place for
+    /// Opens a frame after the bytes that `bee` holds, which stay as they are. Pushes a place for
     /// the first code byte.
     ///
     /// # Errors
     ///
-    /// Fails with `SerializeBufferFull` where the storage has no room for a byte.
+    /// Fails with `SerializeBufferFull` where the storage has no room for a byte. The storage is
+    /// then dropped; [`open`](Cobs::open) keeps it.
     pub fn try_new(bee: B) -> Result<Cobs<B>>
         ensures opens_behind_held { IfOk result (λ c.
             HoldsOpen B.held c.storage c.start c.encoder c.failed (B.held bee) []) }
@@ -53,15 +54,79 @@ impl<B: Storage + Drop> Cobs<B> {
         ensures has_room { B.free bee 1 → IsOk result }
         ensures refuses_by_buffer_full { IfErr result (λ e. e ≡ Error.SerializeBufferFull) }
     {
-        let mut storage = bee;
+        let cobs = Cobs::open(bee);
+        if cobs.failed {
+            return Err(Error::SerializeBufferFull);
+        }
+        Ok(cobs)
+    }
+
+    /// Opens a frame as [`try_new`](Cobs::try_new) does, for a caller that wants its storage back
+    /// whatever happens. The Rust crate has no such call.
+    ///
+    /// If the storage has no room for a byte, the `Cobs` has failed: each byte pushed and
+    /// [`close`](Cobs::close) fail with `SerializeBufferFull`.
+    pub fn open(storage: B) -> Cobs<B>
+        ensures opens_behind_held { IsFalse result.failed → HoldsOpen B.held result.storage
+            result.start result.encoder result.failed (B.held storage) [] }
+        ensures leaves { B.reaches storage result.storage }
+        ensures keeps_free { IsFalse result.failed
+            → (n : ℕ) → B.free storage (1 + n) → B.free result.storage n }
+        ensures has_room { B.free storage 1 → IsFalse result.failed }
+    {
+        let mut storage = storage;
         let start = storage.held_len();
-        push_one(&mut storage, 0)?;
-        Ok(Cobs {
+        let failed = push_one(&mut storage, 0).is_err();
+        Cobs {
             storage,
             start,
             encoder: EncoderState::default(),
-            failed: false,
-        })
+            failed,
+        }
+    }
+
+    /// Closes the frame with its last code byte and the sentinel, and returns the storage, which
+    /// then holds what it held before the frame and then the whole frame. The Rust crate has no
+    /// such call.
+    ///
+    /// # Errors
+    ///
+    /// The second part is `SerializeBufferFull` where the storage has no room for the sentinel, and
+    /// after any earlier failure. The storage then holds what it held before the frame and then
+    /// part of a frame.
+    pub fn close(self) -> (B, Result<()>)
+        ensures closes { OnOk result.1 ((before d : List ℕ)
+            → HoldsOpen B.held self.storage self.start self.encoder self.failed before d
+            → B.held result.0 ≡ before ++ made d) }
+        ensures leaves { B.reaches self.storage result.0 }
+        ensures keeps_free { OnOk result.1
+            ((n : ℕ) → B.free self.storage (1 + n) → B.free result.0 n) }
+        ensures has_room { ⟦<Cobs<B> as Flavor>⟧.room self [] → IsOk result.1 }
+        ensures stays_refused { IsTrue self.failed → IsErrOf result.1 Error.SerializeBufferFull }
+        ensures refuses_by_buffer_full { IfErr result.1 (λ e. e ≡ Error.SerializeBufferFull) }
+    {
+        let Cobs {
+            storage,
+            start,
+            encoder,
+            failed,
+        } = self;
+        let mut storage = storage;
+        if failed {
+            return (storage, Err(Error::SerializeBufferFull));
+        }
+        let (place, code) = encoder.finalize();
+        set_code(&mut storage, start, place, code);
+        let closed = push_one(&mut storage, 0);
+        (storage, closed)
+    }
+
+    /// Gives the frame up, and returns the storage with what it holds: what it held before the
+    /// frame, and then part of a frame, with no sentinel. The Rust crate has no such call.
+    pub fn into_storage(self) -> B
+        ensures { result ≡ self.storage }
+    {
+        self.storage
     }
 }
 
@@ -169,19 +234,8 @@ impl<B: Storage + Drop> Flavor for Cobs<B> {
         ensures stays_refused { IsTrue self.failed → IsErrOf result Error.SerializeBufferFull }
         ensures refuses_by_buffer_full { IfErr result (λ e. e ≡ Error.SerializeBufferFull) }
     {
-        let Cobs {
-            storage,
-            start,
-            encoder,
-            failed,
-        } = self;
-        let mut storage = storage;
-        if failed {
-            return Err(Error::SerializeBufferFull);
-        }
-        let (place, code) = encoder.finalize();
-        set_code(&mut storage, start, place, code);
-        push_one(&mut storage, 0)?;
+        let (storage, closed) = self.close();
+        closed?;
         match storage.finalize() {
             Ok(output) => Ok(output),
             Err(_) => Err(Error::SerializeBufferFull),

@@ -11,7 +11,7 @@
 //! ```
 //!
 //! A code byte is known only where its group ends, and so the flavor goes back and sets it. It
-//! counts its places from the first byte of the frame, and therefore a frame can be written behind
+//! counts its places from the first byte of the frame, and therefore a frame can be written after
 //! bytes that the storage already holds:
 //!
 //! ```text

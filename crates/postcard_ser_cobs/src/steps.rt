@@ -1,4 +1,4 @@
-//! What a frame asks of its storage: bytes behind those that it holds, and code bytes set.
+//! What a frame asks of its storage: bytes after those that it holds, and code bytes set.
 
 ghost use Rattle.std.specs.Prelude.{◌≡◌, ℕ, ◌+◌, ◌<◌, [], ◌∷◌, ◌++◌, length, slice_set, IfErr, OnOk, IsOk};
 ghost use Rattle.postcard_ser_cobs.specs.Steps.{growth, SetsBelow, changed_from};
@@ -38,7 +38,7 @@ pub(crate) fn push_piece<B: Storage>(storage: &mut B, bytes: &[u8]) -> Result<()
     }
 }
 
-/// Sets a code byte at a place that is counted from the first byte of the frame, which stands at
+/// Sets a code byte at a place that is counted from the first byte of the frame, which is at
 /// the place `start` of the storage.
 pub(crate) fn set_code<B: Storage>(storage: &mut B, start: usize, place: usize, code: u8)
     requires { start + place < length (B.held storage.old) }

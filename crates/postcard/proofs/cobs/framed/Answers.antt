@@ -1,17 +1,15 @@
--- A frame that fits behind what a storage holds is made there.
-use Rattle.std.proofs.Common.{◌≡◌, ◌+◌, ◌-◌, [], length, subst, arith}
+-- A frame that fits after what a storage holds is made there.
+use Rattle.std.proofs.Common.{[]}
 use Rattle.std.proofs.lemmas.Result.{err_from_is_err_and, IfOk-weaker}
-use Rattle.postcard_cobs.specs.Groups.{made}
-use Rattle.postcard_ser_cobs.specs.FramingLaws.{made_least}
 use Rattle.postcard_wire.specs.Spelling.{bytes}
+use Rattle.postcard.proofs.Framed.{one_free, data_room}
 use Rattle.postcard.proofs.cobs.framed.Goals as goal
 
 pub returns-in_err-try_new-clause-has_room : goal.returns-in_err-try_new-clause-has_room
 returns-in_err-try_new-clause-has_room g c n few free =
     let xs = bytes (g.T.Shaped.shape.tree c.args.value.now) in
     let p = err_from_is_err_and c.from_residual.result c.from_residual.ensures.1 in
-    let e : length (made xs) ≡ 1 + (length (made xs) - 1) = omega (arith, made_least [] xs) in
-    let no = c.in_err-try_new.ensures.has_room (g.B.Storage.free_lawful.free_fewer _ 1 _ (subst (λ k. g.B.Storage.free c.args.storage k) e free)) in
+    let no = c.in_err-try_new.ensures.has_room (one_free g.B.Storage.free_lawful.free_fewer _ xs free) in
     absurd (cc)
 
 pub returns-clause-gives : goal.returns-clause-gives
@@ -26,12 +24,5 @@ returns-clause-gives g c =
 pub returns-clause-has_room : goal.returns-clause-has_room
 returns-clause-has_room g c n few free =
     let xs = bytes (g.T.Shaped.shape.tree c.args.value.now) in
-    let m = made_least [] xs in
-    let e : length (made xs) ≡ 1 + (length (made xs) - length (made []) + 1) = omega arith in
-    c.serialize_with_flavor.ensures.has_room n (record {
-      before = _;
-      d = [];
-      holds = c.in_ok-try_new.ensures.opens_behind_held;
-      enough = c.in_ok-try_new.ensures.keeps_free _ (subst (λ k. g.B.Storage.free c.args.storage k) e free);
-      few = few;
-    })
+    c.serialize_with_flavor.ensures.has_room n
+    (data_room _ xs c.in_ok-try_new.ensures.opens_behind_held c.in_ok-try_new.ensures.keeps_free few free)

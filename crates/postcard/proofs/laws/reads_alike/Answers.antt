@@ -1,6 +1,7 @@
 -- What the reader told is a decoding of the same bytes.
 use Rattle.std.proofs.Common.{Some, ◌∙◌, ap}
-use Rattle.postcard.proofs.Alike.{fronts_alike, unread}
+use Rattle.postcard_frame.proofs.Alike.{fronts_alike}
+use Rattle.postcard.proofs.Unread.{unread}
 use Rattle.postcard.proofs.laws.reads_alike.Goals as goal
 
 pub returns-clause-alike : goal.returns-clause-alike

@@ -3,7 +3,8 @@ use Rattle.postcard_accumulator.proofs.ReadLoop.{AtWindow}
 use Rattle.postcard_accumulator.proofs.reading.feed_all.Given as goal
 
 abbrev pub invariant-feeds : goal.invariant-feeds
-invariant-feeds g l = AtWindow g.row.N g.T.Shaped.shape l.fn.acc l.piece l.fn.out.items l.out.items l.acc l.window
+invariant-feeds g l = AtWindow g.row.N g.T.Shaped.shape l.fn.acc l.piece l.fn.out.items l.out.items
+    l.acc l.window
 
 abbrev pub decreases-feeds : goal.decreases-feeds
 decreases-feeds g l = length l.window

@@ -4,6 +4,8 @@ use Rattle.postcard_accumulator.proofs.reading.read_frames.Given as goal
 
 abbrev pub invariant-loop : goal.invariant-loop
 invariant-loop g l = record {
-  so_far : ReadSoFar g.row.N g.T.Shaped.shape (g.R.Read.remaining l.fn.reader) (g.R.Read.remaining l.reader) l.fn.acc l.acc l.fn.out.items l.out.items l.counter (length l.fn.chunk);
+  so_far : ReadSoFar g.row.N g.T.Shaped.shape (g.R.Read.remaining l.fn.reader)
+      (g.R.Read.remaining l.reader) l.fn.acc l.acc l.fn.out.items l.out.items l.counter
+      (length l.fn.chunk);
   steady : g.R.Source.steady l.fn.reader → g.R.Source.steady l.reader;
 }

@@ -1,5 +1,5 @@
 -- Where a front of the input spells a tree of the type, that front can be taken, and what is left
--- behind it is the rest.
+-- after it is the rest.
 use Rattle.std.proofs.Common.{◌≡◌, ◌≤◌, ℕ, List, ◌++◌, length}
 use Rattle.std.proofs.Common.{sym, ◌∙◌, ap, arith, length-append}
 use Rattle.std.proofs.lemmas.List.{append_cancel_left}

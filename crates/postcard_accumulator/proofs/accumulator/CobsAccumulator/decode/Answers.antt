@@ -7,10 +7,26 @@ use Rattle.postcard_accumulator.proofs.accumulator.CobsAccumulator.decode.Goals 
 pub returns-in_err-n : goal.returns-in_err-n
 returns-in_err-n g c =
     let s = not_skipping _ _ _ c.self.view_is c.requires in
-    let p = err_from_is_err_and c.from_residual.result c.from_residual.ensures.1 in
-    ((refl, (λ x. tt), rw s.0 refl), record { ok = rw p.1 tt; err = rw (p.1, ← s.1) (rw (before_zero_all (take c.self.inside.idx c.self.inside.buf) c.self.invariant.1) at c.in_err-n.ensures.err); held = tt })
+    let p = err_from_is_err_and c.from_residual.result c.from_residual.ensures.1 in (
+      (refl, (λ x. tt), rw s.0 refl),
+      record {
+        ok = rw p.1 tt;
+        err =
+            rw (p.1, ← s.1) (rw (before_zero_all
+            (take c.self.inside.idx c.self.inside.buf) c.self.invariant.1) at c.in_err-n.ensures.err);
+        held = tt;
+      },
+    )
 
 pub returns : goal.returns
 returns g c =
-    let s = not_skipping _ _ _ c.self.view_is c.requires in
-    ((refl, (λ x. tt), rw s.0 refl), record { ok = rw (← s.1) (rw (before_zero_all (take c.self.inside.idx c.self.inside.buf) c.self.invariant.1) at c.in_ok-n.ensures.ok.1); err = tt; held = tt })
+    let s = not_skipping _ _ _ c.self.view_is c.requires in (
+      (refl, (λ x. tt), rw s.0 refl),
+      record {
+        ok = rw (← s.1)
+            (rw (before_zero_all (take c.self.inside.idx c.self.inside.buf) c.self.invariant.1)
+            at c.in_ok-n.ensures.ok.1);
+        err = tt;
+        held = tt;
+      },
+    )

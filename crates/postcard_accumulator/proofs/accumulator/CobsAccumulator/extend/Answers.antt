@@ -12,5 +12,14 @@ invariant_of-self g c =
     let low = old.0 in
     let more = NoZero-append _ _ old.1 c.requires.no_zero in
     let held = ap length s.1 in
-    let cut = length-take-le c.self.inside.idx c.self.inside.buf (omega arith) in
-    (omega (arith, c.requires.room), rw (take-put_mid c.self.inside.idx (c.self.inside.idx + length c.args.input.now - c.self.inside.idx) c.self.inside.buf c.copy_from_slice.new.self (c.self.inside.idx + length c.args.input.now) (omega arith) (omega arith), c.copy_from_slice.ensures.after) more, never _ _ s.0)
+    let cut = length-take-le c.self.inside.idx c.self.inside.buf (omega arith) in (
+      omega (arith, c.requires.room),
+      rw (
+        take-put_mid c.self.inside.idx
+            (c.self.inside.idx + length c.args.input.now - c.self.inside.idx) c.self.inside.buf
+            c.copy_from_slice.new.self (c.self.inside.idx + length c.args.input.now) (omega arith)
+            (omega arith),
+        c.copy_from_slice.ensures.after,
+      ) more,
+      never _ _ s.0,
+    )

@@ -1,0 +1,44 @@
+-- A frame in a storage: the room that it has from the start, and what the front of a buffer is.
+use Rattle.std.proofs.Common.{◌≡◌, ℕ, ◌+◌, ◌-◌, ◌^◌, ◌≤◌, List, [], length, take, drop, Bool}
+use Rattle.std.proofs.Common.{Result, Ok, Err, IfOk, OnOk, ◌∙◌, subst, arith}
+use Rattle.std.proofs.Math.Seq.{take-append_seam}
+use Rattle.postcard_cobs.specs.Groups.{Standing, made}
+use Rattle.postcard_ser_cobs.specs.Framing.{HoldsOpen, HasFrameRoom}
+use Rattle.postcard_ser_cobs.specs.FramingLaws.{made_least}
+use Rattle.postcard.specs.Buffers.{Fills}
+use Rattle.postcard.specs.Frames.{DecodesTo}
+use Rattle.postcard.specs.Lemmas.{frame_decodes}
+
+-- Where the made frame has room, one byte does.
+pub one_free : {S : Type 0} {free : S → ℕ → Type 0}
+    → ((s : S) (m n : ℕ) → free s (m + n) → free s m) → (s : S) (xs : List ℕ)
+    → free s (length (made xs)) → free s 1
+one_free {free = free} fewer s xs h =
+    let e : length (made xs) ≡ 1 + (length (made xs) - 1) = omega (arith, made_least [] xs) in
+    fewer s 1 _ (subst (λ n. free s n) e h)
+
+-- Where the made frame had room before its first byte, its data has room after it.
+pub data_room : {S : Type 0} {held : S → List ℕ} {free : S → ℕ → Type 0} (s : S) {t : S}
+    {start : ℕ} {at : Standing} {failed : Bool} {before : List ℕ} (xs : List ℕ)
+    → HoldsOpen held t start at failed before [] → ((n : ℕ) → free s (1 + n) → free t n)
+    → length (made xs) ≤ 2 ^ 64 - 1 - 2 → free s (length (made xs))
+    → HasFrameRoom held free t start at failed xs
+data_room {free = free} s xs holds keeps few room =
+    let m = made_least [] xs in
+    let e : length (made xs) ≡ 1 + (length (made xs) - length (made []) + 1) = omega arith in
+    record {
+      before = _;
+      d = [];
+      holds = holds;
+      enough = keeps _ (subst (λ n. free s n) e room);
+      few = few;
+    }
+
+-- The bytes counted at the front of a buffer that a frame fills decode to its data.
+pub front_decodes : {E : Type 0} (r : Result ℕ E) (all old d : List ℕ)
+    → IfOk r (λ count. count ≡ length (made d)) → OnOk r (Fills (made d) old all)
+    → IfOk r (λ count. DecodesTo (take count all) d)
+front_decodes (Ok count) all old d counts fills =
+    frame_decodes (take count all) d
+    ((λ i. take (counts i) (fills i)) ∙ take-append_seam (made d) (drop (length (made d)) old))
+front_decodes (Err e) all old d counts fills = tt

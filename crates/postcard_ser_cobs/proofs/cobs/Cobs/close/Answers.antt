@@ -1,0 +1,12 @@
+-- With its last code and the sentinel, the open frame is the made frame.
+use Rattle.std.proofs.Common.{[], ◌∷◌, ◌++◌, ap, ◌∙◌}
+use Rattle.std.proofs.lemmas.Result.{on_ok_weaker}
+use Rattle.postcard_ser_cobs.proofs.StepLemmas.{ends}
+use Rattle.postcard_ser_cobs.proofs.cobs.Cobs.close.Goals as goal
+
+pub returns-clause-closes : goal.returns-clause-closes
+returns-clause-closes g c =
+    let sets = rw (c.finalize-place.ensures.0, c.finalize-place.ensures.1) at c.set_code.ensures.sets in
+    on_ok_weaker c.push_one-closed.result
+    (λ appends before d h. appends ∙ ap (λ l. l ++ 0 ∷ []) sets ∙ ends h)
+    c.push_one-closed.ensures.appends
