@@ -9,7 +9,7 @@ use Rattle.postcard_de.specs.Deserializer.{source_of}
 use Rattle.postcard_de.specs.Reads.{ReadsFrom}
 use Rattle.postcard_de.proofs.Parts.{struct_read, no_more}
 use Rattle.postcard_de.proofs.Enums.{variant_read, unknown_index}
-use Rattle.postcard_de.proofs.Sift.{seen_as}
+use Rattle.postcard_de_nodes.specs.SeenLemmas.{seen_as}
 use Rattle.postcard_de.proofs.values.error.ErrorDeserialize.deserialize.Goals as goal
 
 -- The content of a variant that has none: nothing is taken.
