@@ -16,7 +16,8 @@ pub values_alike : {V : Type 0} (shape : Shape V) (f : List ℕ) (v w : V) → I
     → IsValueOf shape f w → shape.same v w
 values_alike shape f v w a b =
     let one = data_is_one f a.content b.content a.decodes b.decodes in
-    let first = subst (λ (d : List ℕ). ReadsFront shape.reads shape.value d v a.rest) one a.is_read in
+    let first = subst (λ (d : List ℕ). ReadsFront shape.reads shape.value d v a.rest) one
+    a.is_read in
     (fronts_alike shape.delimited shape.one_value first b.is_read).0
 
 -- no data, no value
@@ -32,5 +33,6 @@ refused_data {T = T} shape f d e g accepts =
     λ still v o. none still v o.rest
     (subst (λ (x : List ℕ). ReadsFront shape.reads shape.value x v o.rest)
     (data_is_one f o.content d o.decodes g) o.is_read) where
-      none : ¬ shape.grows → (v : T) (rest : List ℕ) → ReadsFront shape.reads shape.value d v rest → ⊥
+      none : ¬ shape.grows → (v : T) (rest : List ℕ)
+          → ReadsFront shape.reads shape.value d v rest → ⊥
       none still v rest r = still (accepts r.tree r.front rest r.is_read r.is_spelled r.joins).1

@@ -118,7 +118,8 @@ joined_law shape n (holding h) d e x y a b p q =
 joined_law {T = T} shape n skipping d e x y a b (inl p) q =
     go (subst (λ (c : State). Answers n shape c y b e) p.2 q) where
       go : Answers n shape skipping y b e → Answers n shape skipping (x ++ y) (a ++ b) e
-      go (inl r) = inl (NoZero-append x y p.0 r.0, ap (λ (z : List (Answer T)). z ++ b) p.1 ∙ r.1, r.2)
+      go (inl r) =
+          inl (NoZero-append x y p.0 r.0, ap (λ (z : List (Answer T)). z ++ b) p.1 ∙ r.1, r.2)
       go (inr r) = inr (
         x ++ r.0,
         r.1,

@@ -16,8 +16,8 @@ pub fronts_alike : {V : Type 0} {reads : Tree → Type 0} {value : Tree → V �
 fronts_alike {value = value} {rest = rest} {left = left} {v = v} {w = w} delimited one_value a b =
     let same_bytes = sym a.joins ∙ b.joins in
     let one = delimited a.tree b.tree a.front b.front rest left a.is_read b.is_read
-        a.is_spelled b.is_spelled same_bytes in (
+    a.is_spelled b.is_spelled same_bytes in (
       one_value a.tree v w a.has (subst (λ (s : Tree). value s w) (sym one.1) b.has),
       append_cancel_left a.front rest left
-      (same_bytes ∙ ap (λ (p : List ℕ). p ++ left) (sym one.0)),
+          (same_bytes ∙ ap (λ (p : List ℕ). p ++ left) (sym one.0)),
     )

@@ -20,7 +20,8 @@ pub record ReadsFrame {V : Type 0} (reads : Tree → Type 0) (value : Tree → V
 abbrev pub HasNoData : List ℕ → Type 0
 HasNoData frame = (content : List ℕ) → Groups frame content → ⊥
 
-module _ {V R : Type 0} (shape : Shape V) (value : R → V) (frame : List ℕ) (r : Result R Error) where
+module _ {V R : Type 0} (shape : Shape V) (value : R → V) (frame : List ℕ)
+    (r : Result R Error) where
   -- The call succeeds with a value of which P holds, want of memory for a type that grows aside.
   abbrev pub SucceedsWith : (V → Type 0) → Type 0
   SucceedsWith P = MatchResult r (λ read. P (value read)) (λ e. (e ≡ OutOfMemory) × shape.grows)

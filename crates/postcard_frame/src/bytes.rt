@@ -17,8 +17,8 @@ use std::alloc::Global;
 ///
 /// # Errors
 ///
-/// Fails with the error of the first part that can't be read: with `DeserializeUnexpectedEnd` if the
-/// bytes end before the value does, and with the errors of `Deserializer`'s calls. Fails with
+/// Fails with the error of the first part that can't be read: with `DeserializeUnexpectedEnd` if
+/// the bytes end before the value does, and with the errors of `Deserializer`'s calls. Fails with
 /// `OutOfMemory` only if an allocation fails, for a type that grows.
 pub fn take_from_bytes<'a, T: Deserialize<'a>>(
     alloc: Global,
