@@ -1,4 +1,4 @@
-//! What whole streams are answered by the reading loop.
+//! The answers of the reading loop to whole streams.
 
 use postcard_accumulator::{Answer, CobsAccumulator, ReadEnd, read_frames};
 use postcard_de::DeserializeOwned;
@@ -51,7 +51,7 @@ fn chunks_and_reads(rt: HostRuntime) -> Result<(), Fail> {
     Ok(())
 }
 
-/// The whole stream is answered so, with chunks of any size up to 32 bytes. A zero after each
+/// The whole stream has these answers, with chunks of any size up to 32 bytes. A zero after each
 /// reading ends what it left.
 fn check<T: DeserializeOwned + PartialEq + Debug, const N: usize>(
     rt: &(impl Abort + AllocGlobal),
@@ -135,7 +135,7 @@ fn a_long_record(rt: HostRuntime) -> Result<(), Fail> {
     )
 }
 
-/// A reader that fails once after so many reads.
+/// A reader that fails once, after `reads` reads.
 #[derive(Drop)]
 struct FailsOnce<'a> {
     bytes: &'a [u8],
@@ -160,7 +160,7 @@ impl Read for FailsOnce<'_> {
     }
 }
 
-/// Where a read fails, the answers of what was read stand, and the next call goes on.
+/// Where a read fails, `out` keeps the answers of what was read, and the next call goes on.
 #[test]
 fn failing_reads(rt: HostRuntime) -> Result<(), Fail> {
     let both = [Answer::OverFull, Answer::Success(7u8)];
@@ -189,34 +189,63 @@ fn failing_reads(rt: HostRuntime) -> Result<(), Fail> {
     Ok(())
 }
 
-/// Where memory for an answer is refused, what wasn't fed is fed by the next call, and no answer is
-/// lost. Memory is refused if the test runs under `rt try --test --fail-alloc 1`.
+/// Reads a stream to its end, and returns whether memory for an answer was refused on the way. What
+/// wasn't fed then is fed by the next call.
+fn read_on<T: DeserializeOwned, const N: usize>(
+    rt: &(impl Abort + AllocGlobal),
+    stream: &[u8],
+    acc: &mut CobsAccumulator<N>,
+    out: &mut Vec<Answer<T>>,
+) -> bool {
+    let mut chunk = [0; 32];
+    let mut reader = stream;
+    let first = read_frames(rt.alloc(), &mut reader, &mut chunk, 5, acc, out);
+    let ReadEnd::OutOfMemory { from, to } = first else {
+        assert_eq!(rt; first, ReadEnd::End);
+        return false;
+    };
+    let Some(mut unfed) = chunk.get(from..to) else {
+        panic!(rt; "bytes that weren't fed lie outside the chunk");
+    };
+    let ended = read_frames(rt.alloc(), &mut unfed, &mut [0; 32], 5, acc, out);
+    assert_eq!(rt; ended, ReadEnd::End);
+    true
+}
+
+/// No answer is lost, whichever request for memory is refused. A test that meets a refusal prints
+/// the line that `checks/refused-memory` looks for.
 #[test]
 fn refused_answers(rt: HostRuntime) -> Result<(), Fail> {
-    let mut chunk = [0; 16];
     let mut acc = CobsAccumulator::<4>::new();
     let mut out = Vec::new(rt.alloc());
-    let first = read_frames(
-        rt.alloc(),
-        &mut STREAM.as_slice(),
-        &mut chunk,
-        5,
-        &mut acc,
-        &mut out,
-    );
-    if let ReadEnd::OutOfMemory { from, to } = first {
-        assert_eq!(rt; (from, to, out.len()), (0, 9, 0));
-        let Some(mut unfed) = chunk.get(from..to) else {
-            panic!(rt; "bytes that weren't fed lie outside the chunk");
-        };
-        let ended = read_frames(rt.alloc(), &mut unfed, &mut [0; 16], 5, &mut acc, &mut out);
-        assert_eq!(rt; ended, ReadEnd::End);
-    } else {
-        assert_eq!(rt; first, ReadEnd::End);
+    if read_on(&rt, &STREAM, &mut acc, &mut out) {
+        println!(rt; "refused")?;
     }
     assert_eq!(rt;
         out.as_slice(),
         [Answer::OverFull, Answer::Success(7u8)].as_slice()
     );
+    Ok(())
+}
+
+/// A frame whose list gets no memory is refused, and no other answer changes.
+#[test]
+fn refused_lists(rt: HostRuntime) -> Result<(), Fail> {
+    let mut acc = CobsAccumulator::<8>::new();
+    let mut out = Vec::<Answer<Vec<u8>>>::new(rt.alloc());
+    let mut refused = read_on(&rt, &[4, 2, 9, 8, 0, 3, 1, 7, 0], &mut acc, &mut out);
+    assert_eq!(rt; out.len(), 2);
+    for (answer, list) in out.iter().zip([[9, 8].as_slice(), [7].as_slice()]) {
+        match answer {
+            Answer::Success(read) => assert_eq!(rt; read.as_slice(), list),
+            other => {
+                assert_eq!(rt; (other, refused), (&Answer::DeserError, false));
+                refused = true;
+            }
+        }
+    }
+    if refused {
+        println!(rt; "refused")?;
+    }
     Ok(())
 }

@@ -226,6 +226,34 @@ fn a_frame_goes_behind_held_bytes(rt: HostRuntime) -> std::result::Result<(), Fa
     Ok(())
 }
 
+#[test]
+fn the_storage_comes_back(rt: HostRuntime) -> std::result::Result<(), Fail> {
+    for room in 1..7 {
+        let mut buffer = [OLD; 6];
+        let mut slice = Slice::new(&mut buffer[..room]);
+        slice.try_push(0x09)?;
+        let mut cobs = Cobs::open(slice);
+        let pushed = cobs.try_extend(&[0x01, 0x31]);
+        let (slice, closed) = cobs.close();
+        let (all, count) = slice.into_parts();
+        let expected = (room >= 4, room >= 5, room);
+        assert_eq!(rt; (pushed.is_ok(), closed.is_ok(), all.len()), expected);
+        if closed.is_ok() {
+            let frame = [0x09, 0x03, 0x01, 0x31, 0x00];
+            assert_eq!(rt; all.get(..count), Some(frame.as_slice()), "{room}");
+            assert!(rt; all.iter().skip(count).all(|byte| *byte == OLD), "{room}");
+        }
+    }
+
+    let mut cobs = Cobs::open(AllocVec::from_vec([0x09].to_vec(rt.alloc())?));
+    cobs.try_push(0x31)?;
+    let held = cobs.into_storage().finalize()?;
+    assert_eq!(rt; held.len(), 3);
+    assert_eq!(rt; held.first(), Some(&0x09));
+    assert_eq!(rt; held.last(), Some(&0x31));
+    Ok(())
+}
+
 /// The data of the longest kind: zeros at the places that `zero_each` divides, and elsewhere 11.
 fn long_data(zero_each: usize) -> [u8; 600]
     requires { 0 < zero_each }

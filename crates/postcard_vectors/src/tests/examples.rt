@@ -6,6 +6,7 @@ use postcard::{
     to_stdvec, to_vec,
 };
 use std::process::Abort;
+use std::test::Fail;
 
 /// `(1u8, 10u32, "Hello!")` on the wire.
 const TUPLE: [u8; 9] = [0x01, 0x0A, 0x06, 0x48, 0x65, 0x6C, 0x6C, 0x6F, 0x21];
@@ -68,5 +69,30 @@ fn framing(rt: HostRuntime) -> Result<()> {
     let (list, rest) = take_from_bytes_cobs::<&[u8]>(rt.alloc(), &mut two)?;
     let five: u8 = from_bytes_cobs(rt.alloc(), rest)?;
     assert_eq!(rt; (list, five), ([0x01, 0x00, 0x20, 0x30].as_slice(), 5));
+    Ok(())
+}
+
+#[test]
+fn streams(rt: HostRuntime) -> std::result::Result<(), Fail> {
+    use postcard::accumulator::{CobsAccumulator, FeedResult};
+
+    let pieces = [[0x03, 0x07], [0x2A, 0x00], [0x03, 0x08], [0x2B, 0x00]]; // as the line cuts them
+    let mut accumulator = CobsAccumulator::<16>::new();
+    let mut readings = Vec::new(rt.alloc());
+    for piece in pieces {
+        let mut left = piece.as_slice();
+        for _ in 0..piece.len() {
+            left = match accumulator.feed::<(u8, u8)>(rt.alloc(), left) {
+                FeedResult::Consumed => break,
+                FeedResult::OverFull(rest) => rest, // it has more than 16 bytes
+                FeedResult::DeserError(rest) => rest, // it was damaged
+                FeedResult::Success { value, remaining } => {
+                    readings.push(value)?;
+                    remaining
+                }
+            };
+        }
+    }
+    assert_eq!(rt; readings.as_slice(), [(7, 42), (8, 43)].as_slice());
     Ok(())
 }

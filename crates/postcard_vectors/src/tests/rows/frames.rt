@@ -4,8 +4,8 @@ use super::OLD;
 use crate::types::RefStruct;
 use postcard::ser_flavors::{AllocVec, Cobs, Flavor, Slice};
 use postcard::{
-    Error, Result, Serialize, to_allocvec_cobs, to_allocvec_cobs_after, to_slice_cobs,
-    to_stdvec_cobs, to_vec_cobs,
+    Error, Result, Serialize, fill_slice_cobs, to_allocvec_cobs, to_allocvec_cobs_after,
+    to_slice_cobs, to_stdvec_cobs, to_vec_cobs,
 };
 use std::alloc::{AllocGlobal, Global};
 use std::process::Abort;
@@ -27,6 +27,19 @@ fn is_framed<T: Serialize>(rt: &(impl Abort + AllocGlobal), value: &T, want: &[u
     to_slice_cobs(value, &mut buffer)?;
     assert_eq!(rt; buffer.get(..want.len()), Some(want));
     assert!(rt; buffer.iter().skip(want.len()).all(|byte| *byte == OLD));
+    for room in 0..=16 {
+        let mut place = [OLD; 16];
+        let Some(front) = place.get_mut(..room) else {
+            panic!(rt; "the test's buffer is too short");
+        };
+        match fill_slice_cobs(value, front) {
+            Ok(count) => assert_eq!(rt; (count, want.len() <= room), (want.len(), true)),
+            Err(e) => assert_eq!(rt; (e, want.len() > room), (Error::SerializeBufferFull, true)),
+        }
+        if want.len() <= room {
+            assert_eq!(rt; place, buffer);
+        }
+    }
     assert_eq!(rt; to_vec_cobs::<_, 16>(value)?.as_slice(), want);
     assert_eq!(rt; to_allocvec_cobs(rt.alloc(), value)?.as_slice(), want);
     assert_eq!(rt; to_stdvec_cobs(rt.alloc(), value)?.as_slice(), want);
