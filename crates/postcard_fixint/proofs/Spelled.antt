@@ -1,5 +1,5 @@
 -- What the bytes of an array are spelled as, and which bytes are a number.
-use Rattle.std.proofs.Common.{◌≡◌, ◌↔◌, ℕ, ◌<◌, ◌^◌, List, [], ◌∷◌, refl, sym, ap, ◌∙◌, subst}
+use Rattle.std.proofs.Common.{◌≡◌, ◌↔◌, ℕ, ◌<◌, ◌^◌, List, [], ◌∷◌, length, refl, sym, ap, ◌∙◌, subst}
 use Rattle.std.specs.Prelude.{map}
 use Rattle.postcard_wire.specs.Tree.{Byte, trees}
 use Rattle.postcard_wire.specs.Spelling.{bytes_all}
@@ -21,3 +21,8 @@ only_bytes order k n p f =
     order.one p (order.spell k n) (h.count ∙ sym made.count) h.bytes made.bytes
     (h.value_is ∙ sym made.value_is) in
     (only, λ e. subst (AreNumber order.value k n) (sym e) made)
+
+-- They are as many as its type has, in either order.
+pub encoded_length : (order : Order) (k n : ℕ)
+    → length (bytes_all (trees (map Byte (order.spell k n)))) ≡ k
+encoded_length order k n = ap length (bytes_of_bytes (order.spell k n)) ∙ order.counts k n

@@ -1,6 +1,6 @@
 //! What holds of the bytes of numbers. The functions do nothing: their contracts are the laws.
 
-ghost use Rattle.std.specs.Prelude.{◌≡◌, ◌↔◌, ◌<◌, ◌^◌, ℕ, List};
+ghost use Rattle.std.specs.Prelude.{◌≡◌, ◌↔◌, ◌<◌, ◌^◌, ℕ, List, length};
 ghost use Rattle.postcard_wire.specs.Spelling.{bytes};
 ghost use Rattle.postcard_fixint.specs.Base256.{AreNumber, little, big};
 ghost use Rattle.postcard_fixint.specs.Fixed.{fixed};
@@ -16,11 +16,13 @@ pub fn base_256()
         AreNumber big.value k n p ↔ (p ≡ big.spell k n) }
 {}
 
-/// What [`crate::LE`] and [`crate::BE`] write is just the bytes of the number.
-#[tactic(auto, using(crate::proofs::Spelled::bytes_of_bytes))]
+/// What [`crate::LE`] and [`crate::BE`] write is just the bytes of the number, as many as its type
+/// has.
 pub fn encoded<T: FixInt>()
     ensures lowest_first { (v : T) → bytes ((fixed little T.width).tree v)
         ≡ little.spell T.width.size (T.width.modulo v) }
     ensures highest_first { (v : T) → bytes ((fixed big T.width).tree v)
         ≡ big.spell T.width.size (T.width.modulo v) }
+    ensures little_len { (v : T) → length (bytes ((fixed little T.width).tree v)) ≡ T.width.size }
+    ensures big_len { (v : T) → length (bytes ((fixed big T.width).tree v)) ≡ T.width.size }
 {}
