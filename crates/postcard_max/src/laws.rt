@@ -25,8 +25,8 @@ pub fn sizes<T: MaxSize>()
 {}
 
 /// Does nothing. The value's canonical encoding is no longer than the greatest size of its type, so
-/// a buffer of that size refuses no value but one that refuses itself. If no value of the type does,
-/// neither does this one.
+/// a buffer of that size refuses no value but one that refuses itself. If no value of the type
+/// does, neither does this one.
 pub fn within_max_size<T: MaxSize>(value: &T)
     ensures willing { T.willing → ¬ T.shape.refuses value.now }
     ensures bounded { IfSome T.greatest (λ m. length (bytes (T.shape.tree value.now)) ≤ m) }

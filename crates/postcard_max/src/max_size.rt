@@ -44,7 +44,8 @@ pub trait MaxSize: Shaped {
 /// What a type with a greatest size may be seen as: a type with [`MaxSize`], parts in a row
 /// (`Part`), or the variants of an enum (`Case`).
 ///
-/// It is [`MaxSize`] without `in_forms`, since the values of a `Case` are never made to be written.
+/// It is [`MaxSize`] without `in_forms`, which a `Case` can't have: that the index of a variant has
+/// 32 bits is known of a concrete enum alone.
 pub trait SizeBound: Shaped {
     /// The greatest size in bytes, or none where there is none that fits `usize`.
     ghost greatest: { Option ℕ };

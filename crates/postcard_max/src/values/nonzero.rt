@@ -2,7 +2,14 @@
 
 ghost use Rattle.std.specs.Prelude.{Some, ⊤, refl};
 ghost use Rattle.std.proofs.Common.{inl, inr};
-ghost use Rattle.postcard_max.specs.Leaves.{nonzero_byte_bounded, nonzero_byte_reached, nonzero_num_bounded, nonzero_num_reached, nonzero_int_bounded, nonzero_int_reached};
+ghost use Rattle.postcard_max.specs.Leaves.{
+  nonzero_byte_bounded,
+  nonzero_byte_reached,
+  nonzero_num_bounded,
+  nonzero_num_reached,
+  nonzero_int_bounded,
+  nonzero_int_reached,
+};
 
 use crate::max_size::MaxSize;
 use std::num::{

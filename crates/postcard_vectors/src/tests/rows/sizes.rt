@@ -98,8 +98,8 @@ impl MaxSizeRepr for Choice {
     }
 }
 
-/// The greatest size of the type is `size`, and the value takes it: a buffer of just that size holds
-/// it, and one that is a byte shorter doesn't.
+/// The greatest size of the type is `size`, and the value takes it: a buffer of just that size
+/// holds it, and one that is a byte shorter doesn't.
 fn assert_takes<T: Serialize + MaxSize>(rt: &impl Abort, value: &T, size: usize) {
     let mut buffer = [0; 700];
     assert_eq!(rt; T::postcard_max_size(), Some(size));
