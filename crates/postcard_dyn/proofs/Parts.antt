@@ -1,5 +1,5 @@
 -- Values that are read part by part: a count, the parts of a group, an option, the variant at an index.
-use Rattle.std.proofs.Common.{◌≡◌, ℕ, zero, suc, ◌<◌, List, [], ◌∷◌, ◌++◌, map, get_or, length, Option, Ok, Err, Result, refl, sym, ◌∙◌, ap, ap₂, subst, arith, inl, inr, append_assoc, append-nil}
+use Rattle.std.proofs.Common.{◌≡◌, ℕ, List, [], ◌∷◌, ◌++◌, map, Option, Ok, Err, Result, refl, sym, ◌∙◌, ap, ap₂, subst, arith, inl, inr, append_assoc, append-nil}
 use Rattle.std.specs.Prelude.{⊤}
 use Rattle.postcard_wire.specs.declared.error.Error.{Error}
 use Rattle.postcard_wire.specs.declared.error.Error.TheVariants.{OutOfMemory}
@@ -12,8 +12,7 @@ use Rattle.postcard_de_flavors.specs.Source.{CanTake, Takes, Laws}
 use Rattle.postcard_de.specs.Reads.{ReadsFrom}
 use Rattle.postcard_shape.specs.Values.{Same, EachIs, ListIs, AreRead}
 use Rattle.postcard.specs.Lemmas.{refusal, out_of_memory, Below, behind, nothing_taken, both_taken, faces, can_second, part_and_rest, first_refused, second_refused, both_read}
-use Rattle.postcard_dyn_schema.specs.declared.schema.Schema.{Schema}
-use Rattle.postcard_dyn_schema.specs.Meaning.{MessageType, MessageTypes, no_types, then_type, reads, reads_all, reads_at, type_of, types_of}
+use Rattle.postcard_dyn_schema.specs.Meaning.{MessageType, MessageTypes, no_types, then_type, reads, reads_all}
 use Rattle.postcard_dyn.specs.declared.value.Value.{Value}
 use Rattle.postcard_dyn.specs.Tree.{tree, IsTree}
 
@@ -203,15 +202,3 @@ module _ {S : Type 0} {left : S → Option (List ℕ)} {able : S → ℕ → Typ
             a.1 ∙ (ap nodes.Present m.0 ∙ sym seen),
             subst (λ (l : List ℕ). Takes left able old l new) (sym j) (both_taken t m.1),
           )
-
--- The variant at an index has its content's type there.
-pub type_at : (ss : List Schema) (i : ℕ) (s : Schema) → i < length ss → s ≡ get_or ss i s → reads_at (types_of ss) i ≡ reads (type_of s)
-type_at [] i s low e = absurd (omega (arith, low))
-type_at (x ∷ xs) zero s low e = ap (λ z. reads (type_of z)) (sym e)
-type_at (x ∷ xs) (suc i) s low e = type_at xs i s (omega (arith, low)) e
-
--- There is no type at an index behind the last.
-pub none_at : (ss : List Schema) (i : ℕ) (t : Tree) → (i < length ss → ⊥) → reads_at (types_of ss) i t → ⊥
-none_at [] i t high r = r
-none_at (x ∷ xs) zero t high r = high (omega arith)
-none_at (x ∷ xs) (suc i) t high r = none_at xs i t (λ low. high (omega (arith, low))) r

@@ -7,6 +7,7 @@
 
 pub mod calls;
 pub mod laws;
+pub mod locate;
 pub mod read;
 #[cfg(test)]
 mod tests;
@@ -14,7 +15,8 @@ pub mod value;
 pub mod write;
 
 pub use calls::{take_from_bytes, to_flavor};
-pub use postcard_dyn_schema::{ExpressionError, Leaf, Problem, Schema, parse};
+pub use locate::refused_at;
+pub use postcard_dyn_schema::{ExpressionError, Leaf, Problem, Schema, parse, scan};
 pub use read::read_value;
 pub use value::Value;
 pub use write::write_value;

@@ -35,7 +35,7 @@ pub enum Problem {
     CountTooLarge,
     /// The elements of a list, an array or a map would take no bytes.
     NoBytes,
-    /// Brackets nest more than 64 deep, or more than 4 `?` stand in a row.
+    /// Types nest more than 64 deep, or more than 4 `?` stand in a row.
     TooDeep,
     /// The expression is whole, and more text follows it.
     EndExpected,

@@ -13,9 +13,11 @@
 //! An enum has two variants or more, or a `|` before its only one. `(T)` is `T`, and `(T,)` a tuple
 //! of one part, as in Rust.
 
+ghost use Rattle.std.specs.Prelude.{◌≤◌, IfErr};
+
 use crate::error::{ExpressionError, Problem};
 use crate::scan::{
-    Fault, boxed, expect, fault_at, named, skip_blanks, take, take_count, take_word,
+    Fault, boxed, character_of, expect, fault_at, named, skip_blanks, take, take_count, take_word,
 };
 use crate::schema::{Leaf, Schema};
 use std::alloc::Global;
@@ -32,8 +34,10 @@ const MAX_OPTIONS: usize = 4;
 ///
 /// Says what is wrong and at which character, counted from 1. Fails with `NoBytes` if the elements
 /// of a list, an array or a map would have no bytes, since a short message could then hold any
-/// number of them, and with `TooDeep` where brackets nest more than 64 deep.
-pub fn parse(alloc: Global, text: &str) -> Result<Schema, ExpressionError> {
+/// number of them, and with `TooDeep` if types nest more than 64 deep.
+pub fn parse(alloc: Global, text: &str) -> Result<Schema, ExpressionError>
+    ensures { IfErr result (λ e. 1 ≤ e.character) }
+{
     let mut rest = text.as_bytes();
     match read_whole(alloc, &mut rest) {
         Ok(schema) => Ok(schema),
@@ -42,12 +46,6 @@ pub fn parse(alloc: Global, text: &str) -> Result<Schema, ExpressionError> {
             character: character_of(text.as_bytes(), left),
         }),
     }
-}
-
-/// Returns the number of the character before which all but `left` bytes of the text stand, from 1.
-fn character_of(text: &[u8], left: usize) -> usize {
-    let before = &text[..text.len().saturating_sub(left)];
-    before.iter().filter(|byte| **byte & 0xC0 != 0x80).count() + 1
 }
 
 /// Reads a type that is the whole text.
@@ -79,7 +77,11 @@ fn read_type(alloc: Global, rest: &mut &[u8], depth: usize) -> Result<Schema, Fa
         }
         schema = Schema::Option(boxed(alloc, schema, rest)?);
     }
-    Err(fault_at(Problem::TooDeep, rest))
+    skip_blanks(rest);
+    if rest.starts_with(b"?") {
+        return Err(fault_at(Problem::TooDeep, rest));
+    }
+    Ok(schema)
 }
 
 /// Reads a type that begins with a bracket or a word.

@@ -7,7 +7,7 @@
 
 pub mod error;
 pub mod expression;
-mod scan;
+pub mod scan;
 pub mod schema;
 #[cfg(test)]
 mod tests;

@@ -1,5 +1,7 @@
 //! Taking the parts of an expression from the front of a text.
 
+ghost use Rattle.std.specs.Prelude.{◌≤◌};
+
 use crate::error::Problem;
 use crate::schema::Schema;
 use std::alloc::Global;
@@ -17,6 +19,14 @@ pub fn fault_at(problem: Problem, rest: &[u8]) -> Fault {
         problem,
         left: rest.len(),
     }
+}
+
+/// Returns the number, from 1, of the character at which `left` bytes of the text are left.
+pub fn character_of(text: &[u8], left: usize) -> usize
+    ensures { 1 ≤ result }
+{
+    let before = &text[..text.len().saturating_sub(left)];
+    before.iter().filter(|byte| **byte & 0xC0 != 0x80).count() + 1
 }
 
 /// Takes the blanks in front.

@@ -11,6 +11,7 @@ fn reads_expressions(rt: HostRuntime) -> Result<(), Fail> {
         ("u8", "Leaf(U8)"),
         (" usize ", "Leaf(U64)"),
         ("u16??", "Option(Option(Leaf(U16)))"),
+        ("u8????", "Option(Option(Option(Option(Leaf(U8)))))"),
         ("[ i32 ]", "Seq(Leaf(I32))"),
         ("[str; 12]", "Array(Leaf(Str), 12)"),
         ("()", "Group([])"),

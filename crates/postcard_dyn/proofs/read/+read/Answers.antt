@@ -6,9 +6,10 @@ use Rattle.postcard_wire.specs.Tree as nodes
 use Rattle.postcard.specs.Lemmas.{is_refusal, recast, refused_too, passed_on, going, goes_on, going_stops, going_full, going_done, list_read, list_refused, count_refused}
 use Rattle.postcard.specs.Lemmas.{index_refused, content_refused, variant_read, unknown_index}
 use Rattle.postcard_dyn_schema.specs.Meaning.{type_of, types_of, no_types, then_type, reads, reads_at}
+use Rattle.postcard_dyn_schema.specs.Lemmas.{type_at, none_at}
 use Rattle.postcard_dyn.specs.Tree.{tree}
 use Rattle.postcard_dyn.specs.declared.value.Value.{Value, Present, Seq, Group, Variant, the_lemmas}
-use Rattle.postcard_dyn.proofs.Parts.{list_tree, as_count, no_count, array_read, array_refused, part_read, part_stops, parts_full, parts_done, group_read, group_refused, one_taken, some_stops, some_read, type_at, none_at}
+use Rattle.postcard_dyn.proofs.Parts.{list_tree, as_count, no_count, array_read, array_refused, part_read, part_stops, parts_full, parts_done, group_read, group_refused, one_taken, some_stops, some_read}
 use Rattle.postcard_dyn.proofs.read.+read.Goals as goal
 
 pub read_list-returns-in_err-count : goal.read_list-returns-in_err-count
