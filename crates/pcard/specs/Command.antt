@@ -1,9 +1,12 @@
 -- The words of a call.
-use Rattle.std.specs.Prelude.{◌≢◌, ℕ, List, [], ◌∷◌, codes}
+use Rattle.std.specs.Prelude.{◌≡◌, ℕ, nat_eq, Bool as TruthValue, true, if◌then◌else◌, List, [], ◌∷◌, codes}
+use Rattle.std.specs.List.{starts_with, ends_with, list_any}
 use Rattle.pcard.specs.declared.command.ValueType.{ValueType}
 use Rattle.pcard.specs.declared.command.ValueType.TheVariants.{U8, U16, U32, U64, U128, I8, I16, I32, I64, I128, Bool, Char, Str, ListU8, ListU32}
+use Rattle.pcard.specs.declared.command.TypeWord.{TypeWord}
+use Rattle.pcard.specs.declared.command.TypeWord.TheVariants.{Named, Expression}
 use Rattle.pcard.specs.declared.command.Command.{Command}
-use Rattle.pcard.specs.declared.command.Command.TheVariants.{Encode, Decode, Frames}
+use Rattle.pcard.specs.declared.command.Command.TheVariants.{Encode, Decode, DecodeAll, Frames, FramesOf, Types}
 
 -- The word that names a type.
 abbrev pub name_of : ValueType → List ℕ
@@ -23,12 +26,32 @@ name_of Str = codes "str"
 name_of ListU8 = codes "list-u8"
 name_of ListU32 = codes "list-u32"
 
--- The words that ask for a command.
-abbrev pub words_of : Command → List (List ℕ)
-words_of (Encode kind value) = codes "enc" ∷ name_of kind ∷ value.now ∷ []
-words_of (Decode kind hex) = codes "dec" ∷ name_of kind ∷ hex.now ∷ []
-words_of Frames = codes "frames" ∷ []
+-- Whether the word begins with `(`, `[` or `{`, ends with `?`, or holds a `|`.
+abbrev pub looks_like_expression : List ℕ → TruthValue
+looks_like_expression word =
+    if starts_with nat_eq word (40 ∷ []) then true else
+    if starts_with nat_eq word (91 ∷ []) then true else
+    if starts_with nat_eq word (123 ∷ []) then true else
+    if ends_with nat_eq word (63 ∷ []) then true else list_any (λ b. nat_eq b 124) word
+
+-- So it is a type expression.
+abbrev pub IsExpression : List ℕ → Type 0
+IsExpression word = looks_like_expression word ≡ true
+
+-- The word says a type: it is its name, which is no expression, or an expression.
+abbrev pub IsWordOf : List ℕ → TypeWord → Type 0
+IsWordOf word (Named kind) = word ≡ name_of kind
+IsWordOf word (Expression text) = (word ≡ text.now) × IsExpression word
+
+-- The words ask for a command.
+abbrev pub IsCallOf : List (List ℕ) → Command → Type 0
+IsCallOf words (Encode kind value) = (word : List ℕ) × IsWordOf word kind × (words ≡ codes "enc" ∷ word ∷ value.now ∷ [])
+IsCallOf words (Decode kind hex) = (word : List ℕ) × IsWordOf word kind × (words ≡ codes "dec" ∷ word ∷ hex.now ∷ [])
+IsCallOf words (DecodeAll expression hex) = IsExpression expression.now × (words ≡ codes "decs" ∷ expression.now ∷ hex.now ∷ [])
+IsCallOf words Frames = words ≡ codes "frames" ∷ []
+IsCallOf words (FramesOf expression) = IsExpression expression.now × (words ≡ codes "frames" ∷ expression.now ∷ [])
+IsCallOf words Types = words ≡ codes "types" ∷ []
 
 -- The words ask for no command.
 abbrev pub IsNoCall : List (List ℕ) → Type 0
-IsNoCall words = (command : Command) → words ≢ words_of command
+IsNoCall words = (command : Command) → IsCallOf words command → ⊥

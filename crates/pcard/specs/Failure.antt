@@ -3,12 +3,13 @@ use Rattle.std.specs.Prelude.{◌≡◌, ◌⊎◌, ℕ, Option, List, [], ◌�
 use Rattle.std.specs.Io.KnownBytes.{Appends}
 use Rattle.postcard_wire.specs.Error.{error_text}
 use Rattle.pcard.specs.declared.failure.Failure.{Failure}
-use Rattle.pcard.specs.declared.failure.Failure.TheVariants.{Usage, BadValue, BadHex, Library, Output, Limit, ReadFailed}
+use Rattle.pcard.specs.declared.failure.Failure.TheVariants.{Usage, BadType, BadValue, BadHex, Library, Output, Limit, ReadFailed}
 use Rattle.pcard.specs.declared.failure.Failure.TheVariants as failed
 
 -- The text of a failure, in ASCII.
 abbrev pub failure_text : Failure → List ℕ
 failure_text Usage = codes "usage: pcard enc TYPE VALUE, dec TYPE HEX, frames"
+failure_text BadType = codes "bad type"
 failure_text BadValue = codes "bad value"
 failure_text BadHex = codes "bad hex"
 failure_text (Library e) = error_text e
@@ -20,6 +21,7 @@ failure_text failed.OutOfMemory = codes "out of memory"
 -- The exit status of a failure.
 abbrev pub failure_status : Failure → ℕ
 failure_status Usage = 2
+failure_status BadType = 2
 failure_status BadValue = 2
 failure_status BadHex = 2
 failure_status (Library e) = 1

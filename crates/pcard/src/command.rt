@@ -1,7 +1,8 @@
 //! What the words of a call ask for.
 
-ghost use Rattle.std.specs.Prelude.{◌≡◌, ◌≢◌, IfSome, IfNone, map, string_bytes};
-ghost use Rattle.pcard.specs.Command.{IsNoCall, name_of, words_of};
+ghost use Rattle.std.specs.Prelude.{◌≡◌, ◌≢◌, [], ◌∷◌, IfSome, IfNone, map, string_bytes};
+ghost use Rattle.pcard.specs.Command.{IsCallOf, IsNoCall, IsWordOf, looks_like_expression, name_of};
+ghost use Rattle.pcard.specs.declared.command.TypeWord.{TypeWord};
 ghost use Rattle.pcard.specs.declared.command.ValueType.{ValueType};
 
 /// The types of which values are written and read.
@@ -51,37 +52,122 @@ impl ValueType {
     }
 }
 
+/// Returns whether a word is a type expression: it begins with `(`, `[` or `{`, or ends with `?`, or
+/// holds a `|`. So no name of a type is one.
+pub fn is_expression(word: &str) -> bool
+    ensures { result ≡ looks_like_expression word.now }
+{
+    let bytes = word.as_bytes();
+    bytes.starts_with(b"(")
+        || bytes.starts_with(b"[")
+        || bytes.starts_with(b"{")
+        || bytes.ends_with(b"?")
+        || bytes.contains(&b'|')
+}
+
+/// What the word TYPE says.
+#[derive(Clone, Copy, Debug, PartialEq, Eq)]
+pub enum TypeWord<'a> {
+    /// A type by its name.
+    Named(ValueType),
+    /// A type expression, which isn't read yet.
+    Expression(&'a str),
+}
+
+impl<'a> TypeWord<'a> {
+    /// Returns what the word says, or `None` if it is neither a name nor an expression.
+    pub fn from_word(word: &'a str) -> Option<TypeWord<'a>>
+        ensures found { IfSome result (λ kind. IsWordOf word.now kind) }
+        ensures none { IfNone result ((kind : TypeWord) → IsWordOf word.now kind → ⊥) }
+    {
+        if is_expression(word) {
+            return Some(TypeWord::Expression(word));
+        }
+        match ValueType::from_name(word) {
+            Some(kind) => Some(TypeWord::Named(kind)),
+            None => None,
+        }
+    }
+}
+
 /// A call whose words are right in number, command and type. What its last word says is not read yet.
 #[derive(Clone, Copy, Debug, PartialEq, Eq)]
 pub enum Command<'a> {
     /// `enc TYPE VALUE`.
-    Encode { kind: ValueType, value: &'a str },
+    Encode { kind: TypeWord<'a>, value: &'a str },
     /// `dec TYPE HEX`.
-    Decode { kind: ValueType, hex: &'a str },
+    Decode { kind: TypeWord<'a>, hex: &'a str },
+    /// `decs TYPE HEX`, where TYPE is an expression.
+    DecodeAll { expression: &'a str, hex: &'a str },
     /// `frames`.
     Frames,
+    /// `frames TYPE`, where TYPE is an expression.
+    FramesOf { expression: &'a str },
+    /// `types`.
+    Types,
 }
 
 impl<'a> Command<'a> {
     /// The command of these words, or `None` where they are no call: an unknown command or type, or too few or many words.
     pub fn from_words(words: &'a [String]) -> Option<Command<'a>>
-        ensures found { IfSome result (λ command. map string_bytes words.now ≡ words_of command) }
+        ensures found { IfSome result (λ command. IsCallOf (map string_bytes words.now) command) }
         ensures none { IfNone result (IsNoCall (map string_bytes words.now)) }
     {
-        if let [command] = words {
-            return match command.as_str() {
-                "frames" => Some(Command::Frames),
-                _ => None,
-            };
+        match words {
+            [command] => Command::alone(command.as_str()),
+            [command, kind] => Command::of_type(command.as_str(), kind.as_str()),
+            [command, kind, text] => {
+                Command::of_text(command.as_str(), kind.as_str(), text.as_str())
+            }
+            _ => None,
         }
-        let [command, kind, text] = words else {
+    }
+
+    /// The command of one word.
+    fn alone(command: &'a str) -> Option<Command<'a>>
+        ensures found { IfSome result (λ found. IsCallOf (command.now ∷ []) found) }
+        ensures none { IfNone result (IsNoCall (command.now ∷ [])) }
+    {
+        match command {
+            "frames" => Some(Command::Frames),
+            "types" => Some(Command::Types),
+            _ => None,
+        }
+    }
+
+    /// The command of a word and a type.
+    fn of_type(command: &'a str, kind: &'a str) -> Option<Command<'a>>
+        ensures found { IfSome result (λ found. IsCallOf (command.now ∷ kind.now ∷ []) found) }
+        ensures none { IfNone result (IsNoCall (command.now ∷ kind.now ∷ [])) }
+    {
+        match command {
+            "frames" if is_expression(kind) => Some(Command::FramesOf { expression: kind }),
+            _ => None,
+        }
+    }
+
+    /// The command of a word, a type and a text.
+    fn of_text(command: &'a str, kind: &'a str, text: &'a str) -> Option<Command<'a>>
+        ensures found { IfSome result
+            (λ found. IsCallOf (command.now ∷ kind.now ∷ text.now ∷ []) found) }
+        ensures none { IfNone result (IsNoCall (command.now ∷ kind.now ∷ text.now ∷ [])) }
+    {
+        let Some(word) = TypeWord::from_word(kind) else {
             return None;
         };
-        let kind = ValueType::from_name(kind.as_str())?;
-        let text = text.as_str();
-        match command.as_str() {
-            "enc" => Some(Command::Encode { kind, value: text }),
-            "dec" => Some(Command::Decode { kind, hex: text }),
+        match command {
+            "enc" => Some(Command::Encode {
+                kind: word,
+                value: text,
+            }),
+            "dec" => Some(Command::Decode {
+                kind: word,
+                hex: text,
+            }),
+            "decs" if is_expression(kind) => Some(Command::DecodeAll {
+                expression: kind,
+                hex: text,
+            }),
             _ => None,
         }
     }

@@ -13,6 +13,8 @@ use std::{fmt, io};
 pub enum Failure {
     /// The command or the type is unknown, or the words are too few or too many.
     Usage,
+    /// TYPE is a misspelled expression.
+    BadType,
     /// VALUE says no value of the type.
     BadValue,
     /// HEX is not an even count of hexadecimal digits.
@@ -36,7 +38,7 @@ impl Failure {
     {
         match self {
             Failure::Library(_) => 1,
-            Failure::Usage | Failure::BadValue | Failure::BadHex => 2,
+            Failure::Usage | Failure::BadType | Failure::BadValue | Failure::BadHex => 2,
             Failure::Output | Failure::Limit | Failure::ReadFailed | Failure::OutOfMemory => 3,
         }
     }
@@ -48,6 +50,7 @@ impl fmt::Display for Failure {
     fn fmt<W: fmt::Write>(&self, f: &mut fmt::Formatter<W>) -> fmt::Result {
         match self {
             Failure::Usage => f.write_str("usage: pcard enc TYPE VALUE, dec TYPE HEX, frames"),
+            Failure::BadType => f.write_str("bad type"),
             Failure::BadValue => f.write_str("bad value"),
             Failure::BadHex => f.write_str("bad hex"),
             Failure::Library(error) => error.fmt(f),

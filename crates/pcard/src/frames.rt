@@ -13,13 +13,13 @@ use std::alloc::Global;
 use std::io::Write;
 
 /// The most bytes of a frame, with its zero.
-const LONGEST_FRAME: usize = 64;
+pub const LONGEST_FRAME: usize = 64;
 
 /// The most bytes that one read gives.
-const CHUNK: usize = 16;
+pub const CHUNK: usize = 16;
 
 /// The most reads.
-const READS: usize = 65_536;
+pub const READS: usize = 65_536;
 
 /// Reads frames of lists of bytes until the input ends, and prints a line for each: `ok` and the
 /// bytes as hexadecimal, `error` for a frame with no such list, or `overfull` for a frame that is

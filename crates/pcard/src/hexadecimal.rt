@@ -1,12 +1,14 @@
 //! Bytes as hexadecimal digits, two a byte, the high one first.
 
-ghost use Rattle.std.specs.Prelude.{◌≡◌, ◌≤◌, ◌⊎◌, length, IfOk, IfErr, OnOk, IsErr};
+ghost use Rattle.std.specs.Prelude.{◌≡◌, ◌≢◌, ◌≤◌, ◌⊎◌, length, IfOk, IfErr, OnOk, IsErr};
 ghost use Rattle.std.specs.Io.KnownBytes.{Appends};
 ghost use Rattle.hex.specs.Hex.{decode_of, encode_lower};
 ghost use Rattle.postcard_wire.specs.declared.error.Error.TheVariants.{OutOfMemory};
 
 use crate::failure::Failure;
+use crate::frames::READS;
 use hex::FromHex;
+use postcard::de_flavors::Source;
 use std::alloc::Global;
 use std::io;
 use std::io::Write;
@@ -33,6 +35,57 @@ pub fn read(alloc: Global, text: &str) -> Result<Vec<u8>, Failure>
         return Err(Failure::BadHex);
     }
     Ok(bytes)
+}
+
+/// The bytes of a text of hexadecimal digits with blanks between them, each word with `0x` before it
+/// or not. The text `-` stands for that of the input.
+pub fn read_loose<R: Source>(alloc: Global, text: &str, input: &mut R) -> Result<Vec<u8>, Failure>
+    ensures { IfErr result (λ e. e ≢ Failure.Usage) }
+{
+    if text != "-" {
+        return read_words(alloc, text);
+    }
+    let held = read_input(alloc, input)?;
+    match str::from_utf8(&held) {
+        Ok(text) => read_words(alloc, text),
+        Err(_) => Err(Failure::BadHex),
+    }
+}
+
+/// The bytes of the words of a text, each with `0x` before it or not.
+fn read_words(alloc: Global, text: &str) -> Result<Vec<u8>, Failure>
+    ensures { IfErr result (λ e. e ≢ Failure.Usage) }
+{
+    let mut bytes = Vec::new(alloc);
+    for word in text.split_ascii_whitespace() {
+        let digits = match word.strip_prefix("0x") {
+            Some(digits) => digits,
+            None => word,
+        };
+        bytes.extend_from_slice(&read(alloc, digits)?)?;
+    }
+    Ok(bytes)
+}
+
+/// All bytes of the input.
+fn read_input<R: Source>(alloc: Global, input: &mut R) -> Result<Vec<u8>, Failure>
+    ensures { IfErr result (λ e. e ≢ Failure.Usage) }
+{
+    let mut held = Vec::new(alloc);
+    let mut chunk = [0; PIECE];
+    for _ in 0..READS {
+        let count = match input.read_some(&mut chunk) {
+            Ok(count) => count,
+            Err(_) => return Err(Failure::ReadFailed),
+        };
+        if count == 0 {
+            return Ok(held);
+        }
+        for byte in chunk.iter().take(count) {
+            held.push(*byte)?;
+        }
+    }
+    Err(Failure::Limit)
 }
 
 /// Writes the bytes in lower case digits. Takes no memory.

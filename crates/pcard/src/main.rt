@@ -12,7 +12,12 @@ mod failure;
 mod frames;
 mod hexadecimal;
 mod joined;
+mod message;
+#[cfg(test)]
+mod message_tests;
 mod program;
+mod stream;
+mod syntax;
 #[cfg(test)]
 mod tests;
 mod value;

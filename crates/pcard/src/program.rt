@@ -7,10 +7,10 @@ ghost use Rattle.postcard_wire.specs.Spelling.{bytes};
 ghost use Rattle.pcard.specs.Command.{IsNoCall};
 ghost use Rattle.pcard.specs.Failure.{AnswersFailure, exit_status, last_line};
 
-use crate::command::{Command, ValueType};
+use crate::command::{Command, TypeWord, ValueType};
 use crate::failure::Failure;
 use crate::joined::Joined;
-use crate::{frames, hexadecimal, value};
+use crate::{frames, hexadecimal, message, stream, syntax, value};
 use postcard::de_flavors::Source;
 use postcard::{Deserialize, Serialize};
 use std::alloc::Global;
@@ -19,7 +19,7 @@ use std::io::Write;
 use std::str::FromStr;
 
 /// The greatest size of what `enc` writes, in bytes.
-const BUFFER: usize = 4096;
+pub const BUFFER: usize = 4096;
 
 /// What is done with a type.
 #[derive(Clone, Copy)]
@@ -32,7 +32,7 @@ enum Task<'a> {
 
 /// Does what the words ask for (program name off), and answers the exit status: 0 done; 1 the library refused, or memory
 /// ran out; 2 the words are wrong; 3 `frames` did not come to the end of its input, or the output could not be written,
-/// whatever else would have been answered. `frames` alone reads the input.
+/// whatever else would have been answered. The input is read by `frames` and for a HEX of `-`.
 pub fn run<R: Source, W: Write>(
     alloc: Global,
     words: &[String],
@@ -72,13 +72,51 @@ fn perform<R: Source, W: Write>(
     ensures untouched { result ≡ Err Failure.Usage → output.new ≡ output.old }
 {
     match Command::from_words(words) {
-        Some(Command::Encode { kind, value }) => convert(alloc, kind, Task::Encode(value), output),
-        Some(Command::Decode { kind, hex }) => {
+        Some(Command::Encode { kind, value }) => encode(alloc, kind, value, output),
+        Some(Command::Decode { kind, hex }) => decode(alloc, kind, hex, input, output),
+        Some(Command::DecodeAll { expression, hex }) => {
+            message::decode_all(alloc, expression, hex, input, output)
+        }
+        Some(Command::Frames) => frames::print(alloc, input, output),
+        Some(Command::FramesOf { expression }) => {
+            stream::print(alloc, expression, input, output)
+        }
+        Some(Command::Types) => syntax::print(output),
+        None => Err(Failure::Usage),
+    }
+}
+
+/// Encodes the value that a word says.
+fn encode<W: Write>(
+    alloc: Global,
+    kind: TypeWord<'_>,
+    value: &str,
+    output: &mut W,
+) -> Result<(), Failure>
+    ensures { IfErr result (λ e. e ≢ Failure.Usage) }
+{
+    match kind {
+        TypeWord::Named(kind) => convert(alloc, kind, Task::Encode(value), output),
+        TypeWord::Expression(text) => message::encode(alloc, text, value, output),
+    }
+}
+
+/// Decodes a value from the front of the bytes that a word says.
+fn decode<R: Source, W: Write>(
+    alloc: Global,
+    kind: TypeWord<'_>,
+    hex: &str,
+    input: &mut R,
+    output: &mut W,
+) -> Result<(), Failure>
+    ensures { IfErr result (λ e. e ≢ Failure.Usage) }
+{
+    match kind {
+        TypeWord::Named(kind) => {
             let bytes = hexadecimal::read(alloc, hex)?;
             convert(alloc, kind, Task::Decode(bytes.as_slice()), output)
         }
-        Some(Command::Frames) => frames::print(alloc, input, output),
-        None => Err(Failure::Usage),
+        TypeWord::Expression(text) => message::decode(alloc, text, hex, input, output),
     }
 }
 

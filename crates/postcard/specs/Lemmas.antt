@@ -18,6 +18,23 @@ use Rattle.postcard_shape.proofs.Again as again
 use Rattle.postcard.specs.Frames.{DecodesTo}
 -- How a value that calls other values is written: the calls of its `serialize`, one after the other.
 pub use Rattle.postcard_ser.proofs.PartByPart.{wrote_none, wrote_refusal, wrote_err, wrote_ok, wrote_last, wrote_stop, wrote_then, wrote_as, wrote_closes}
+-- Sets of trees of which no encoding begins another, and whose trees are well formed.
+pub use Rattle.postcard_wire.proofs.Delimited.{byte_delimited, boolean_delimited, num_delimited, int_delimited, char_delimited, text_delimited}
+pub use Rattle.postcard_wire.proofs.Delimited.{option_delimited, end_delimited, then_delimited, group_delimited, seq_delimited, array_delimited, variant_delimited}
+pub use Rattle.postcard_wire.proofs.WellFormed.{byte_well_formed, boolean_well_formed, num_well_formed, int_well_formed, char_well_formed, text_well_formed}
+pub use Rattle.postcard_wire.proofs.WellFormed.{option_well_formed, end_well_formed, then_well_formed, group_well_formed, seq_well_formed, array_well_formed, variant_well_formed}
+-- The bytes of a list's elements, one after the other, and how many there are.
+pub use Rattle.postcard_ser.proofs.Elements.{elements_count, elements_more, elements_cut, bytes_of_bytes}
+-- Bytes that were taken, one front after another.
+pub use Rattle.postcard_de_nodes.specs.TakeLemmas.{nothing_taken, both_taken, faces, can_first, can_second}
+-- A thing and another behind it, read as one thing; what was read, seen otherwise; want of memory.
+pub use Rattle.postcard_de_nodes.specs.CompoundLemmas.{Compound, first_refused, second_refused, both_read}
+pub use Rattle.postcard_de_nodes.specs.SeenLemmas.{recast, refused_too, passed_on}
+pub use Rattle.postcard_de_nodes.specs.ReadLemmas.{out_of_memory}
+-- Elements that are read one by one, behind their count or without one.
+pub use Rattle.postcard_de.proofs.Lists.{behind, Going, going, goes_on, going_stops, going_full, going_done}
+pub use Rattle.postcard_de_nodes.specs.CountLemmas.{list_read, list_refused, count_refused}
+pub use Rattle.postcard_de.proofs.Parts.{part_and_rest}
 -- How a value that is made of others is read: what was read of its parts, of which the first may
 -- refuse, and of the index and the content of a variant.
 pub use Rattle.postcard_de_nodes.specs.ReadLemmas.{refusal, is_refusal}

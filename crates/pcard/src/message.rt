@@ -1,0 +1,127 @@
+//! Encoding and decoding messages whose type is an expression.
+
+ghost use Rattle.std.specs.Prelude.{◌≢◌, IfErr};
+
+use crate::failure::Failure;
+use crate::hexadecimal;
+use crate::program::BUFFER;
+use postcard::Error;
+use postcard::de_flavors::Source;
+use postcard::ser_flavors::HVec;
+use postcard_dyn::{Schema, parse, refused_at, take_from_bytes, to_flavor};
+use postcard_dyn_text::{Shown, TextError, read_text};
+use std::alloc::Global;
+use std::io::Write;
+
+/// Reads a type expression. If it is misspelled, prints what is wrong and where.
+pub fn schema_of<W: Write>(alloc: Global, text: &str, output: &mut W) -> Result<Schema, Failure>
+    ensures { IfErr result (λ e. e ≢ Failure.Usage) }
+{
+    match parse(alloc, text) {
+        Ok(schema) => Ok(schema),
+        Err(error) => {
+            write!(output, "{error}: ")?;
+            Err(Failure::BadType)
+        }
+    }
+}
+
+/// Encodes the value that the text says, and prints its bytes as hexadecimal on a line. At most 4,096
+/// bytes are written.
+pub fn encode<W: Write>(
+    alloc: Global,
+    expression: &str,
+    value: &str,
+    output: &mut W,
+) -> Result<(), Failure>
+    ensures { IfErr result (λ e. e ≢ Failure.Usage) }
+{
+    let schema = schema_of(alloc, expression, output)?;
+    let value = match read_text(alloc, &schema, value) {
+        Ok(value) => value,
+        Err(TextError::NotAValue { character }) => {
+            write!(output, "at character {character}: ")?;
+            return Err(Failure::BadValue);
+        }
+        Err(TextError::OutOfMemory) => return Err(Failure::from(Error::OutOfMemory)),
+    };
+    let message = to_flavor(&value, HVec::<BUFFER>::new())?;
+    hexadecimal::write(&message, output)?;
+    writeln!(output)?;
+    Ok(())
+}
+
+/// Decodes a value from the front of the bytes, and prints it on a line and the bytes behind it as
+/// hexadecimal on a second.
+pub fn decode<R: Source, W: Write>(
+    alloc: Global,
+    expression: &str,
+    hex: &str,
+    input: &mut R,
+    output: &mut W,
+) -> Result<(), Failure>
+    ensures { IfErr result (λ e. e ≢ Failure.Usage) }
+{
+    let schema = schema_of(alloc, expression, output)?;
+    let bytes = hexadecimal::read_loose(alloc, hex, input)?;
+    let rest = print_front(alloc, &schema, &bytes, &bytes, output)?;
+    hexadecimal::write(rest, output)?;
+    writeln!(output)?;
+    Ok(())
+}
+
+/// Decodes values one behind the other until no byte is left, and prints each on a line.
+pub fn decode_all<R: Source, W: Write>(
+    alloc: Global,
+    expression: &str,
+    hex: &str,
+    input: &mut R,
+    output: &mut W,
+) -> Result<(), Failure>
+    ensures { IfErr result (λ e. e ≢ Failure.Usage) }
+{
+    let schema = schema_of(alloc, expression, output)?;
+    if !schema.has_bytes() {
+        output.write_all(b"messages of this type have no bytes: ")?;
+        return Err(Failure::BadType);
+    }
+    let bytes = hexadecimal::read_loose(alloc, hex, input)?;
+    let all = bytes.as_slice();
+    let mut rest = all;
+    for _ in 0..all.len() {
+        if rest.is_empty() {
+            break;
+        }
+        rest = print_front(alloc, &schema, all, rest, output)?;
+    }
+    Ok(())
+}
+
+/// Decodes a value from the front of `rest` and prints it on a line. Returns the bytes behind it. On
+/// a refusal prints the place in `all` of the part that refused.
+fn print_front<'a, W: Write>(
+    alloc: Global,
+    schema: &Schema,
+    all: &[u8],
+    rest: &'a [u8],
+    output: &mut W,
+) -> Result<&'a [u8], Failure>
+    ensures { IfErr result (λ e. e ≢ Failure.Usage) }
+{
+    match take_from_bytes(alloc, schema, rest) {
+        Ok((value, after)) => {
+            let shown = Shown {
+                schema,
+                value: &value,
+            };
+            writeln!(output, "{shown}")?;
+            Ok(after)
+        }
+        Err(error) => {
+            let before = all.len().saturating_sub(rest.len());
+            let offset = before.saturating_add(refused_at(alloc, schema, rest));
+            write!(output, "at byte {offset}: ")?;
+            Err(Failure::from(error))
+        }
+    }
+}

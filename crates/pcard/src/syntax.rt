@@ -1,0 +1,34 @@
+//! The command `types`: how a type expression is written.
+
+ghost use Rattle.std.specs.Prelude.{◌≢◌, IfErr};
+
+use crate::failure::Failure;
+use std::io::Write;
+
+/// The forms of an expression with an example each, a line a form.
+const SYNTAX: &str = "\
+u8 u16 u32 u64 u128 usize   a number without a sign: 42
+i8 i16 i32 i64 i128 isize   a number with a sign: -42
+bool                        a truth value: true
+char                        a character: 'x'
+str                         a text: \"a \\\"b\\\"\\n\"
+bytes                       a byte string: 0x00ff
+T?                          an option, (u8?): None or Some(7)
+[T]                         a list, [u16]: [1, 300]
+[T; N]                      an array, [u8; 3]: [1, 2, 3]
+()                          nothing: ()
+(T, U)                      a tuple, (u8, str): (1, \"x\")
+{name: T, ..}               a struct, {id: u32, label: str}: {id: 42, label: \"x\"}
+{K => V}                    a map, {u8 => bool}: {1 => true}
+A | B(T, U) | C{name: T}    an enum, Boot | Reading(u16, i32) | Fault{code: u8}: Reading(1, -2)
+Where a type is asked for, an expression begins with ( [ or {, ends with ?, or holds |.
+So (u8) is the expression u8. HEX may have blanks and 0x, and - reads it from the input.
+";
+
+/// Prints how a type expression is written.
+pub fn print<W: Write>(output: &mut W) -> Result<(), Failure>
+    ensures { IfErr result (λ e. e ≢ Failure.Usage) }
+{
+    output.write_all(SYNTAX.as_bytes())?;
+    Ok(())
+}

@@ -1,0 +1,7 @@
+-- A flavor that had room for the whole closes once the whole is in.
+use Rattle.postcard.specs.Lemmas.{wrote_closes}
+use Rattle.postcard_dyn.proofs.calls.to_flavor.Goals as goal
+
+pub returns-in-Err-clause-has_room : goal.returns-in-Err-clause-has_room
+returns-in-Err-clause-has_room g c room =
+    c.in-Err.ensures.closes (wrote_closes _ room c.in_ok-write_value.ensures)

@@ -1,0 +1,5 @@
+use Rattle.postcard_dyn.proofs.Types.{type_delimited}
+use Rattle.postcard_dyn.proofs.laws.prefix_free.Goals as goal
+
+pub returns : goal.returns
+returns c = type_delimited

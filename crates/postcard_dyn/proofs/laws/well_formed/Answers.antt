@@ -1,0 +1,5 @@
+use Rattle.postcard_dyn.proofs.Types.{type_well_formed}
+use Rattle.postcard_dyn.proofs.laws.well_formed.Goals as goal
+
+pub returns : goal.returns
+returns c = type_well_formed

@@ -1,0 +1,21 @@
+-- What was read so far, and what reading the rest would give.
+use Rattle.std.proofs.Common.{◌-◌, drop}
+use Rattle.std.specs.Prelude.{⊤}
+use Rattle.postcard_de.specs.Deserializer.{source_of}
+use Rattle.postcard.specs.Lemmas.{Going}
+use Rattle.postcard_dyn_schema.specs.Meaning.{type_of, types_of, reads}
+use Rattle.postcard_dyn.specs.Tree.{IsTree}
+use Rattle.postcard_dyn.proofs.Parts.{GoingParts}
+use Rattle.postcard_dyn.proofs.read.+read.Given as goal
+
+abbrev pub invariant-read_group-loop-part : goal.invariant-read_group-loop-part
+invariant-read_group-loop-part g l = let f = g.F.Flavor in
+    GoingParts f.left f.able f.may_leave (source_of l.initial.d) (types_of l.part-items) l.items.items (source_of l.d) (types_of (drop l.part-index l.part-items))
+
+abbrev pub invariant-read_list-loop : goal.invariant-read_list-loop
+invariant-read_list-loop g l = let f = g.F.Flavor in
+    Going f.left f.able f.may_leave (reads (type_of l.element)) IsTree ⊤ (source_of l.initial.d) l.count l.items.items (source_of l.d) (l.count - l.counter)
+
+abbrev pub invariant-read_array-loop : goal.invariant-read_array-loop
+invariant-read_array-loop g l = let f = g.F.Flavor in
+    Going f.left f.able f.may_leave (reads (type_of l.element)) IsTree ⊤ (source_of l.initial.d) l.count l.items.items (source_of l.d) (l.count - l.counter)

@@ -1,0 +1,74 @@
+//! Whole messages: decoding from a slice of bytes, and encoding into a flavor.
+
+ghost use Rattle.std.specs.Prelude.{◌≡◌, ℕ, List, ◌++◌, IfOk, IfErr, IsOk, MatchResult, ⊤};
+ghost use Rattle.postcard_wire.specs.Tree.{Tree};
+ghost use Rattle.postcard_wire.specs.Spelling.{Spells, bytes as canonical};
+ghost use Rattle.postcard_ser.specs.Writing.{AnswersRefusal};
+ghost use Rattle.postcard_de.specs.Reads.{MayAnswer};
+ghost use Rattle.postcard_frame.specs.Front.{ReadsFront};
+ghost use Rattle.postcard.specs.Finished.{Finished};
+ghost use Rattle.postcard_dyn_schema.specs.Meaning.{type_of, reads};
+ghost use Rattle.postcard_dyn.specs.Tree.{tree, IsTree};
+ghost use Rattle.postcard_dyn.specs.declared.value.Value.{Value};
+
+use crate::read::read_value;
+use crate::value::Value;
+use crate::write::write_value;
+use postcard_de::{Deserializer, Error, Result};
+use postcard_dyn_schema::Schema;
+use postcard_ser::Serializer;
+use postcard_ser_flavors::Flavor;
+use std::alloc::Global;
+
+/// Decodes a value of the schema from the front of some bytes, and returns it with the bytes behind
+/// that front.
+///
+/// It succeeds exactly if a front spells a tree of the schema, padded numbers included, unless an
+/// allocation fails; there is one such front at most. The encoding of a value of the schema,
+/// whatever follows it, gives a value of the same tree.
+///
+/// # Errors
+///
+/// As [`read_value`].
+pub fn take_from_bytes<'a>(
+    alloc: Global,
+    schema: &Schema,
+    bytes: &'a [u8],
+) -> Result<(Value, &'a [u8])>
+    ensures gives { IfOk result (λ read.
+        ReadsFront (reads (type_of schema.now)) IsTree bytes.now read.0 read.1.now) }
+    ensures accepts { (t : Tree) (front rest : List ℕ)
+        → reads (type_of schema.now) t → Spells t front → bytes.now ≡ front ++ rest →
+        MatchResult result (λ read. (t ≡ tree read.0) × (read.1.now ≡ rest))
+        (λ e. e ≡ Error.OutOfMemory) }
+    ensures reads_back { (v : Value) (rest : List ℕ)
+        → reads (type_of schema.now) (tree v) → bytes.now ≡ canonical (tree v) ++ rest →
+        MatchResult result (λ read. (tree v ≡ tree read.0) × (read.1.now ≡ rest))
+        (λ e. e ≡ Error.OutOfMemory) }
+    ensures names { IfErr result (MayAnswer ⊤) }
+{
+    let mut deserializer = Deserializer::from_bytes(bytes);
+    let value = read_value(alloc, schema, &mut deserializer)?;
+    let rest = deserializer.finalize()?;
+    Ok((value, rest))
+}
+
+/// Encodes a value into a flavor, ends the flavor, and returns its output: the canonical encoding of
+/// the value's tree, as the flavor keeps it.
+///
+/// # Errors
+///
+/// Fails with `SerializeBufferFull` if the flavor refuses a piece or its end. The flavor is then
+/// dropped.
+pub fn to_flavor<S: Flavor<Output = O> + Drop, O>(value: &Value, storage: S) -> Result<O>
+    ensures gives { IfOk result (Finished S.Flavor storage (canonical (tree value.now))) }
+    ensures has_room { S.room storage (canonical (tree value.now)) → IsOk result }
+    ensures names { IfErr result (λ e. e ≡ Error.SerializeBufferFull) }
+{
+    let mut serializer = Serializer { output: storage };
+    write_value(value, &mut serializer)?;
+    match serializer.output.finalize() {
+        Ok(output) => Ok(output),
+        Err(_) => Err(Error::SerializeBufferFull),
+    }
+}

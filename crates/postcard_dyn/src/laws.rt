@@ -1,0 +1,15 @@
+//! What holds of every type that is given at run time, as contracts of functions that do nothing.
+
+ghost use Rattle.postcard_wire.specs.Reading.{IsDelimited, ReadsWellFormed};
+ghost use Rattle.postcard_dyn_schema.specs.Meaning.{MessageType, reads};
+
+/// The encodings of each type are prefix-free: of two fronts of the same bytes that spell trees of
+/// the type, one is not longer than the other, and the trees are the same.
+pub fn prefix_free()
+    ensures { (t : MessageType) → IsDelimited (reads t) }
+{}
+
+/// Every tree of a type is well formed: each number is in its range, and each text is UTF-8.
+pub fn well_formed()
+    ensures { (t : MessageType) → ReadsWellFormed (reads t) }
+{}

@@ -1,0 +1,22 @@
+//! Messages of a type that is given at run time, as a [`Schema`].
+//!
+//! [`read_value`] reads a [`Value`] of a schema from any source, and [`write_value`] writes one into
+//! any flavor; [`take_from_bytes`] and [`to_flavor`] do so from end to end. [`laws`] says that the
+//! encodings of each schema are prefix-free.
+#![tactic(auto)]
+
+pub mod calls;
+pub mod laws;
+pub mod locate;
+pub mod read;
+#[cfg(test)]
+mod tests;
+pub mod value;
+pub mod write;
+
+pub use calls::{take_from_bytes, to_flavor};
+pub use locate::refused_at;
+pub use postcard_dyn_schema::{ExpressionError, Leaf, Problem, Schema, parse, scan};
+pub use read::read_value;
+pub use value::Value;
+pub use write::write_value;

@@ -1,0 +1,105 @@
+//! Where in a message a part was refused.
+
+ghost use Rattle.std.specs.Prelude.{◌≤◌, length};
+
+use crate::calls::take_from_bytes;
+use postcard_dyn_schema::Schema;
+use std::alloc::Global;
+
+/// Returns the offset in bytes of the part that [`take_from_bytes`] refuses: of the leaf, the option's
+/// byte, the count or the index that it can't read.
+///
+/// The bytes are such that `take_from_bytes` fails with another error than `OutOfMemory`.
+#[cycle(locate)]
+pub fn refused_at(alloc: Global, schema: &Schema, bytes: &[u8]) -> usize
+    ensures { result ≤ length bytes.now }
+{
+    match schema {
+        Schema::Leaf(_) => 0,
+        Schema::Option(content) => match bytes {
+            [1, rest @ ..] => refused_at(alloc, content, rest) + 1,
+            _ => 0,
+        },
+        Schema::Seq(element) => refused_behind_count(alloc, element, bytes),
+        Schema::Map(entry) => refused_behind_count(alloc, entry, bytes),
+        Schema::Array(element, _) => refused_element(alloc, element, bytes),
+        Schema::Group(parts) => refused_part(alloc, parts, bytes),
+        Schema::Enum(variants) => refused_content(alloc, variants, bytes),
+        Schema::Named(_, content) => refused_at(alloc, content, bytes),
+    }
+}
+
+/// Returns the offset of what is refused of a list.
+#[cycle(locate)]
+fn refused_behind_count(alloc: Global, element: &Schema, bytes: &[u8]) -> usize
+    ensures { result ≤ length bytes.now }
+{
+    match postcard::take_from_bytes::<u64>(alloc, bytes) {
+        Ok((_, rest)) => {
+            let offset = refused_element(alloc, element, rest);
+            behind(bytes, rest, offset)
+        }
+        Err(_) => 0,
+    }
+}
+
+/// Returns the offset of what is refused of elements in a row.
+#[cycle(locate)]
+fn refused_element(alloc: Global, element: &Schema, bytes: &[u8]) -> usize
+    ensures { result ≤ length bytes.now }
+{
+    let mut rest = bytes;
+    for _ in 0..bytes.len() {
+        match take_from_bytes(alloc, element, rest) {
+            Ok((_, after)) => rest = after,
+            Err(_) => {
+                let offset = refused_at(alloc, element, rest);
+                return behind(bytes, rest, offset);
+            }
+        }
+    }
+    bytes.len()
+}
+
+/// Returns the offset of what is refused of parts in a row.
+#[cycle(locate)]
+fn refused_part(alloc: Global, parts: &Vec<Schema>, bytes: &[u8]) -> usize
+    ensures { result ≤ length bytes.now }
+{
+    let mut rest = bytes;
+    for part in parts {
+        match take_from_bytes(alloc, part, rest) {
+            Ok((_, after)) => rest = after,
+            Err(_) => {
+                let offset = refused_at(alloc, part, rest);
+                return behind(bytes, rest, offset);
+            }
+        }
+    }
+    bytes.len()
+}
+
+/// Returns the offset of what is refused of an enum.
+#[cycle(locate)]
+fn refused_content(alloc: Global, variants: &Vec<Schema>, bytes: &[u8]) -> usize
+    ensures { result ≤ length bytes.now }
+{
+    match postcard::take_from_bytes::<u32>(alloc, bytes) {
+        Ok((index, rest)) => match variants.get(index as usize) {
+            Some(variant) => {
+                let offset = refused_at(alloc, variant, rest);
+                behind(bytes, rest, offset)
+            }
+            None => 0,
+        },
+        Err(_) => 0,
+    }
+}
+
+/// Returns an offset within the end `rest` of some bytes as one within all of them.
+fn behind(bytes: &[u8], rest: &[u8], offset: usize) -> usize
+    ensures { result ≤ length bytes.now }
+{
+    let before = bytes.len().saturating_sub(rest.len());
+    before.saturating_add(offset).min(bytes.len())
+}

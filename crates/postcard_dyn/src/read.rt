@@ -1,0 +1,177 @@
+//! Reading a value of a schema.
+
+ghost use Rattle.std.specs.Prelude.{⊤};
+ghost use Rattle.postcard_wire.specs.Spelling.{Spells};
+ghost use Rattle.postcard_wire.specs.Reading.{IsOption, IsSeq, IsArray, IsGroup, IsVariant};
+ghost use Rattle.postcard_de.specs.Reads.{Reads};
+ghost use Rattle.postcard_de.specs.Deserializer.{source_of};
+ghost use Rattle.postcard_dyn_schema.specs.Meaning.{type_of, types_of, reads, reads_all, reads_at};
+ghost use Rattle.postcard_dyn_schema.specs.Meaning.{leaf_reads};
+ghost use Rattle.postcard_dyn.specs.Tree.{IsTree};
+
+use crate::value::Value;
+use postcard_de::{Deserializer, Error, Flavor, Result};
+use postcard_dyn_schema::{Leaf, Schema};
+use std::alloc::Global;
+
+/// Reads a value of the schema from the front of what is left, as `Deserialize::deserialize` does
+/// for a type that is known.
+///
+/// # Errors
+///
+/// Fails with the error of the first part that refuses: `DeserializeUnexpectedEnd` if the bytes end,
+/// an error of the `deserialize_*` calls, or `SerdeDeCustom` for an index without a variant. Fails
+/// with `OutOfMemory` if an allocation fails. No memory is asked for by an announced length.
+#[cycle(read)]
+pub fn read_value<'de, F: Flavor>(
+    alloc: Global,
+    schema: &Schema,
+    d: &mut Deserializer<'de, F>,
+) -> Result<Value>
+    ensures { Reads F.Flavor Spells (reads (type_of schema.now)) IsTree ⊤
+        (source_of d.old) result (source_of d.new) }
+{
+    match schema {
+        Schema::Leaf(leaf) => read_leaf(alloc, *leaf, d),
+        Schema::Option(content) => read_option(alloc, content, d),
+        Schema::Seq(element) => read_list(alloc, element, d),
+        Schema::Map(entry) => read_list(alloc, entry, d),
+        Schema::Array(element, count) => read_array(alloc, element, *count, d),
+        Schema::Group(parts) => read_group(alloc, parts, d),
+        Schema::Enum(variants) => read_variant(alloc, variants, d),
+        Schema::Named(_, content) => read_value(alloc, content, d),
+    }
+}
+
+/// Reads an option: a byte, and after the byte 1 its content.
+#[cycle(read)]
+fn read_option<'de, F: Flavor>(
+    alloc: Global,
+    content: &Schema,
+    d: &mut Deserializer<'de, F>,
+) -> Result<Value>
+    ensures { Reads F.Flavor Spells (IsOption (reads (type_of content.now))) IsTree ⊤
+        (source_of d.old) result (source_of d.new) }
+{
+    match d.deserialize_u8()? {
+        0 => Ok(Value::Absent),
+        1 => {
+            let value = read_value(alloc, content, d)?;
+            match Box::new(alloc, value) {
+                Ok(held) => Ok(Value::Present(held)),
+                Err(_) => Err(Error::OutOfMemory),
+            }
+        }
+        _ => Err(Error::DeserializeBadOption),
+    }
+}
+
+/// Reads a list: its count, and as many elements.
+#[cycle(read)]
+fn read_list<'de, F: Flavor>(
+    alloc: Global,
+    element: &Schema,
+    d: &mut Deserializer<'de, F>,
+) -> Result<Value>
+    ensures { Reads F.Flavor Spells (IsSeq (reads (type_of element.now))) IsTree ⊤
+        (source_of d.old) result (source_of d.new) }
+{
+    let count = d.deserialize_u64()?;
+    let mut items = Vec::new(alloc);
+    for _ in 0..count {
+        let item = read_value(alloc, element, d)?;
+        if items.push(item).is_err() {
+            return Err(Error::OutOfMemory);
+        }
+    }
+    Ok(Value::Seq(items))
+}
+
+/// Reads an array: so many elements, without a count.
+#[cycle(read)]
+fn read_array<'de, F: Flavor>(
+    alloc: Global,
+    element: &Schema,
+    count: usize,
+    d: &mut Deserializer<'de, F>,
+) -> Result<Value>
+    ensures { Reads F.Flavor Spells (IsArray count (reads (type_of element.now))) IsTree ⊤
+        (source_of d.old) result (source_of d.new) }
+{
+    let mut items = Vec::new(alloc);
+    for _ in 0..count {
+        let item = read_value(alloc, element, d)?;
+        if items.push(item).is_err() {
+            return Err(Error::OutOfMemory);
+        }
+    }
+    Ok(Value::Group(items))
+}
+
+/// Reads a value of each of the types, in order.
+#[cycle(read)]
+fn read_group<'de, F: Flavor>(
+    alloc: Global,
+    parts: &Vec<Schema>,
+    d: &mut Deserializer<'de, F>,
+) -> Result<Value>
+    ensures { Reads F.Flavor Spells (IsGroup (reads_all (types_of parts.now.items))) IsTree ⊤
+        (source_of d.old) result (source_of d.new) }
+{
+    let mut items = Vec::new(alloc);
+    for part in parts {
+        let item = read_value(alloc, part, d)?;
+        if items.push(item).is_err() {
+            return Err(Error::OutOfMemory);
+        }
+    }
+    Ok(Value::Group(items))
+}
+
+/// Reads an enum: the index of a variant, and its content.
+#[cycle(read)]
+fn read_variant<'de, F: Flavor>(
+    alloc: Global,
+    variants: &Vec<Schema>,
+    d: &mut Deserializer<'de, F>,
+) -> Result<Value>
+    ensures { Reads F.Flavor Spells (IsVariant (reads_at (types_of variants.now.items))) IsTree ⊤
+        (source_of d.old) result (source_of d.new) }
+{
+    let index = d.deserialize_enum("", &[])?;
+    let Some(variant) = variants.get(index as usize) else {
+        return Err(Error::SerdeDeCustom);
+    };
+    let content = read_value(alloc, variant, d)?;
+    match Box::new(alloc, content) {
+        Ok(held) => Ok(Value::Variant(index, held)),
+        Err(_) => Err(Error::OutOfMemory),
+    }
+}
+
+/// Reads a value of a type without parts.
+fn read_leaf<'de, F: Flavor>(
+    alloc: Global,
+    leaf: Leaf,
+    d: &mut Deserializer<'de, F>,
+) -> Result<Value>
+    ensures { Reads F.Flavor Spells (leaf_reads leaf) IsTree ⊤
+        (source_of d.old) result (source_of d.new) }
+{
+    match leaf {
+        Leaf::Bool => Ok(Value::Bool(d.deserialize_bool()?)),
+        Leaf::U8 => Ok(Value::U8(d.deserialize_u8()?)),
+        Leaf::U16 => Ok(Value::U16(d.deserialize_u16()?)),
+        Leaf::U32 => Ok(Value::U32(d.deserialize_u32()?)),
+        Leaf::U64 => Ok(Value::U64(d.deserialize_u64()?)),
+        Leaf::U128 => Ok(Value::U128(d.deserialize_u128()?)),
+        Leaf::I8 => Ok(Value::I8(d.deserialize_i8()?)),
+        Leaf::I16 => Ok(Value::I16(d.deserialize_i16()?)),
+        Leaf::I32 => Ok(Value::I32(d.deserialize_i32()?)),
+        Leaf::I64 => Ok(Value::I64(d.deserialize_i64()?)),
+        Leaf::I128 => Ok(Value::I128(d.deserialize_i128()?)),
+        Leaf::Char => Ok(Value::Char(d.deserialize_char()?)),
+        Leaf::Str => Ok(Value::Str(d.deserialize_string(alloc)?)),
+        Leaf::Bytes => Ok(Value::Bytes(d.deserialize_byte_buf(alloc)?)),
+    }
+}

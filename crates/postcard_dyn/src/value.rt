@@ -1,0 +1,34 @@
+//! A value of a type that is given at run time.
+
+/// A value of some [`Schema`](postcard_dyn_schema::Schema).
+///
+/// It has no names: those of fields and variants stand in the schema.
+#[derive(Debug, Drop)]
+pub enum Value {
+    Bool(bool),
+    U8(u8),
+    U16(u16),
+    U32(u32),
+    /// Also a `usize`.
+    U64(u64),
+    U128(u128),
+    I8(i8),
+    I16(i16),
+    I32(i32),
+    /// Also an `isize`.
+    I64(i64),
+    I128(i128),
+    Char(char),
+    Str(String),
+    Bytes(Vec<u8>),
+    /// An option without a value.
+    Absent,
+    /// An option with a value.
+    Present(Box<Value>),
+    /// The elements of a list, or the entries of a map, each a [`Value::Group`] of two.
+    Seq(Vec<Value>),
+    /// The parts of a tuple, a struct or an array.
+    Group(Vec<Value>),
+    /// The index of an enum's variant, counted from 0, and its content.
+    Variant(u32, Box<Value>),
+}

@@ -1,0 +1,71 @@
+//! Writing a value.
+
+ghost use Rattle.std.specs.Prelude.{map};
+ghost use Rattle.postcard_wire.specs.Spelling.{bytes, bytes_all};
+ghost use Rattle.postcard_wire.specs.Tree.{trees};
+ghost use Rattle.postcard_ser.specs.Writing.{Wrote};
+ghost use Rattle.postcard_dyn.specs.Tree.{tree};
+
+use crate::value::Value;
+use postcard_ser::Serializer;
+use postcard_ser_flavors::Flavor;
+use postcard_wire::Result;
+
+/// Writes the canonical encoding of the value's tree, as `Serialize::serialize` does for a type that
+/// is known.
+///
+/// [`Value`] does not implement `Serialize`, since the encodings of all values together are not
+/// prefix-free, as those of each type are.
+///
+/// # Errors
+///
+/// Fails with `SerializeBufferFull` if the flavor refuses a piece. What the flavor took before the
+/// error stays in it.
+#[cycle(write)]
+pub fn write_value<F: Flavor>(value: &Value, serializer: &mut Serializer<F>) -> Result<()>
+    ensures { Wrote F.Flavor serializer.old.output (bytes (tree value.now)) ⊥ ⊥ result
+        serializer.new.output }
+{
+    match value {
+        Value::Bool(x) => serializer.serialize_bool(*x),
+        Value::U8(n) => serializer.serialize_u8(*n),
+        Value::U16(n) => serializer.serialize_u16(*n),
+        Value::U32(n) => serializer.serialize_u32(*n),
+        Value::U64(n) => serializer.serialize_u64(*n),
+        Value::U128(n) => serializer.serialize_u128(*n),
+        Value::I8(n) => serializer.serialize_i8(*n),
+        Value::I16(n) => serializer.serialize_i16(*n),
+        Value::I32(n) => serializer.serialize_i32(*n),
+        Value::I64(n) => serializer.serialize_i64(*n),
+        Value::I128(n) => serializer.serialize_i128(*n),
+        Value::Char(c) => serializer.serialize_char(*c),
+        Value::Str(text) => serializer.serialize_str(text),
+        Value::Bytes(held) => serializer.serialize_bytes(held),
+        Value::Absent => serializer.serialize_none(),
+        Value::Present(content) => {
+            serializer.serialize_u8(1)?;
+            write_value(content, serializer)
+        }
+        Value::Seq(items) => {
+            serializer.serialize_seq(Some(items.len()))?;
+            write_all(items, serializer)
+        }
+        Value::Group(items) => write_all(items, serializer),
+        Value::Variant(index, content) => {
+            serializer.serialize_tuple_variant("", *index, "", 0)?;
+            write_value(content, serializer)
+        }
+    }
+}
+
+/// Writes the values in order.
+#[cycle(write)]
+fn write_all<F: Flavor>(items: &Vec<Value>, serializer: &mut Serializer<F>) -> Result<()>
+    ensures { Wrote F.Flavor serializer.old.output (bytes_all (trees (map tree items.now.items)))
+        ⊥ ⊥ result serializer.new.output }
+{
+    for item in items {
+        write_value(item, serializer)?;
+    }
+    Ok(())
+}

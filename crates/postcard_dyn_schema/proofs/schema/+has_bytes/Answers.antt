@@ -1,0 +1,18 @@
+use Rattle.std.proofs.Common.{◌≡◌, ◌+◌, false, ◌∷◌, drop, refl, sym, ap, ◌∙◌, arith}
+use Rattle.std.proofs.lemmas.List.{drop_more}
+use Rattle.postcard_dyn_schema.specs.Meaning.{MessageType, MessageTypes, has_bytes, some_has_bytes, type_of, types_of, then_type}
+use Rattle.postcard_dyn_schema.proofs.schema.+has_bytes.Goals as goal
+
+-- A type that may have no bytes says nothing of those after it.
+first_lacks : (t : MessageType) (ts : MessageTypes) → has_bytes t ≡ false → some_has_bytes (then_type t ts) ≡ some_has_bytes ts
+first_lacks t ts e = rw e refl
+
+pub any_has_bytes-loop-part-preserved : goal.any_has_bytes-loop-part-preserved
+any_has_bytes-loop-part-preserved t c =
+    let l = c.loop-part in
+    let xs = c.deref-part-items.result.now in
+    let x = c.part-item.result in
+    let rest = drop (l.part-index + 1) xs in
+    let here : drop l.part-index xs ≡ x ∷ rest = drop_more xs l.part-index x (omega arith) ∙ ap (λ y. y ∷ rest) (sym c.part-item.is) in
+    let none : has_bytes (type_of x) ≡ false = sym c.has_bytes.ensures ∙ c.if-has_bytes.false in
+    sym (first_lacks (type_of x) (types_of rest) none) ∙ (ap (λ ss. some_has_bytes (types_of ss)) (sym here) ∙ l.invariant)

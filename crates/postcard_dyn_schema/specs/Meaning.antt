@@ -1,0 +1,117 @@
+-- What a type means: the set of trees that its messages say (wire format 1.0, chapter "the serde data model").
+use Rattle.std.specs.Prelude.{◌≡◌, ℕ, zero, suc, nat_lt, Bool, true, false, if◌then◌else◌, ◌⊎◌, List, [], ◌∷◌, map, codes, box_value}
+use Rattle.postcard_wire.specs.Tree.{Tree, Trees}
+use Rattle.postcard_wire.specs.Reading.{IsByte, IsBoolean, IsNum, IsInt, IsChar, IsText, IsOption, IsEnd, IsThen, IsGroup, IsSeq, IsArray, IsVariant}
+use Rattle.postcard_dyn_schema.specs.declared.schema.Leaf.{Leaf}
+use Rattle.postcard_dyn_schema.specs.declared.schema.Leaf.TheVariants.{U8, U16, U32, U64, U128, I8, I16, I32, I64, I128, Char, Str, Bytes}
+use Rattle.postcard_dyn_schema.specs.declared.schema.Leaf.TheVariants as leaves
+use Rattle.postcard_dyn_schema.specs.declared.schema.Schema.{Schema, fold-Schema}
+use Rattle.postcard_dyn_schema.specs.declared.schema.Schema.TheOpen.{Schema-F}
+
+-- The words that name a type without parts. A `usize` is a number of 64 bits (wire format 1.0, "varint encoded integers").
+abbrev pub IsNameOf : List ℕ → Leaf → Type 0
+IsNameOf word leaves.Bool = word ≡ codes "bool"
+IsNameOf word U8 = word ≡ codes "u8"
+IsNameOf word U16 = word ≡ codes "u16"
+IsNameOf word U32 = word ≡ codes "u32"
+IsNameOf word U64 = (word ≡ codes "u64") ⊎ (word ≡ codes "usize")
+IsNameOf word U128 = word ≡ codes "u128"
+IsNameOf word I8 = word ≡ codes "i8"
+IsNameOf word I16 = word ≡ codes "i16"
+IsNameOf word I32 = word ≡ codes "i32"
+IsNameOf word I64 = (word ≡ codes "i64") ⊎ (word ≡ codes "isize")
+IsNameOf word I128 = word ≡ codes "i128"
+IsNameOf word Char = word ≡ codes "char"
+IsNameOf word Str = word ≡ codes "str"
+IsNameOf word Bytes = word ≡ codes "bytes"
+
+mutual
+  -- A type without the names of its fields and variants. A map is a `seq` of groups of two.
+  pub data MessageType : Type 0 where
+    leaf : Leaf → MessageType
+    option : MessageType → MessageType
+    seq : MessageType → MessageType
+    array : ℕ → MessageType → MessageType
+    group : MessageTypes → MessageType
+    choice : MessageTypes → MessageType
+
+  pub data MessageTypes : Type 0 where
+    no_types : MessageTypes
+    then_type : MessageType → MessageTypes → MessageTypes
+
+-- The trees of a type without parts. An `i8` is a byte, and `bytes` a counted list of bytes.
+abbrev pub leaf_reads : Leaf → Tree → Type 0
+leaf_reads leaves.Bool = IsBoolean
+leaf_reads U8 = IsByte
+leaf_reads U16 = IsNum 16
+leaf_reads U32 = IsNum 32
+leaf_reads U64 = IsNum 64
+leaf_reads U128 = IsNum 128
+leaf_reads I8 = IsByte
+leaf_reads I16 = IsInt 16
+leaf_reads I32 = IsInt 32
+leaf_reads I64 = IsInt 64
+leaf_reads I128 = IsInt 128
+leaf_reads Char = IsChar
+leaf_reads Str = IsText
+leaf_reads Bytes = IsSeq IsByte
+
+-- The trees of a type: just those that its messages say.
+abbrev mutual
+  pub reads : MessageType → Tree → Type 0
+  reads (leaf l) = leaf_reads l
+  reads (option t) = IsOption (reads t)
+  reads (seq t) = IsSeq (reads t)
+  reads (array n t) = IsArray n (reads t)
+  reads (group ts) = IsGroup (reads_all ts)
+  reads (choice ts) = IsVariant (reads_at ts)
+
+  -- One tree of each type, in order.
+  pub reads_all : MessageTypes → Trees → Type 0
+  reads_all no_types = IsEnd
+  reads_all (then_type t ts) = IsThen (reads t) (reads_all ts)
+
+  -- The trees of the type at a place, counted from 0.
+  pub reads_at : MessageTypes → ℕ → Tree → Type 0
+  reads_at no_types i = λ s. ⊥
+  reads_at (then_type t ts) zero = reads t
+  reads_at (then_type t ts) (suc i) = reads_at ts i
+
+-- Types of a list, in order.
+abbrev pub row_of : List MessageType → MessageTypes
+row_of [] = no_types
+row_of (t ∷ ts) = then_type t (row_of ts)
+
+-- One level, with each type inside already seen.
+abbrev pub type_step : Schema-F MessageType → MessageType
+type_step (Schema-F.Leaf l) = leaf l
+type_step (Schema-F.Option t) = option (box_value t)
+type_step (Schema-F.Seq t) = seq (box_value t)
+type_step (Schema-F.Map t) = seq (box_value t)
+type_step (Schema-F.Array t n) = array n (box_value t)
+type_step (Schema-F.Group v) = group (row_of v.items)
+type_step (Schema-F.Enum v) = choice (row_of v.items)
+type_step (Schema-F.Named s t) = box_value t
+
+-- The type that a schema says.
+abbrev pub type_of : Schema → MessageType
+type_of = fold-Schema MessageType type_step
+
+-- The types that schemas say.
+abbrev pub types_of : List Schema → MessageTypes
+types_of ss = row_of (map type_of ss)
+
+-- Whether each message of a type has at least one byte.
+abbrev mutual
+  pub has_bytes : MessageType → Bool
+  has_bytes (leaf l) = true
+  has_bytes (option t) = true
+  has_bytes (seq t) = true
+  has_bytes (array n t) = if nat_lt 0 n then has_bytes t else false
+  has_bytes (group ts) = some_has_bytes ts
+  has_bytes (choice ts) = true
+
+  -- Whether one of the types has at least one byte in each message.
+  pub some_has_bytes : MessageTypes → Bool
+  some_has_bytes no_types = false
+  some_has_bytes (then_type t ts) = if has_bytes t then true else some_has_bytes ts

@@ -1,0 +1,277 @@
+//! Reading a type expression.
+//!
+//! The grammar, where blanks may stand between any two words or signs:
+//!
+//! ```text
+//! type    = plain {"?"} | ["|"] variant {"|" variant}
+//! plain   = word | "[" type "]" | "[" type ";" count "]" | tuple | "{" fields "}" | "{" type "=>" type "}"
+//! tuple   = "(" [type {"," type} [","]] ")"
+//! fields  = name ":" type {"," name ":" type} [","]
+//! variant = Name [tuple | "{" fields "}"]
+//! ```
+//!
+//! An enum has two variants or more, or a `|` before its only one. `(T)` is `T`, and `(T,)` a tuple
+//! of one part, as in Rust.
+
+ghost use Rattle.std.specs.Prelude.{◌≤◌, IfErr};
+
+use crate::error::{ExpressionError, Problem};
+use crate::scan::{
+    Fault, boxed, character_of, expect, fault_at, named, skip_blanks, take, take_count, take_word,
+};
+use crate::schema::{Leaf, Schema};
+use std::alloc::Global;
+
+/// How deep brackets may nest.
+const MAX_DEPTH: usize = 64;
+
+/// How many `?` may stand in a row.
+const MAX_OPTIONS: usize = 4;
+
+/// Reads a type expression.
+///
+/// # Errors
+///
+/// Says what is wrong and at which character, counted from 1. Fails with `NoBytes` if the elements
+/// of a list, an array or a map would have no bytes, since a short message could then hold any
+/// number of them, and with `TooDeep` if types nest more than 64 deep.
+pub fn parse(alloc: Global, text: &str) -> Result<Schema, ExpressionError>
+    ensures { IfErr result (λ e. 1 ≤ e.character) }
+{
+    let mut rest = text.as_bytes();
+    match read_whole(alloc, &mut rest) {
+        Ok(schema) => Ok(schema),
+        Err(Fault { problem, left }) => Err(ExpressionError {
+            problem,
+            character: character_of(text.as_bytes(), left),
+        }),
+    }
+}
+
+/// Reads a type that is the whole text.
+fn read_whole(alloc: Global, rest: &mut &[u8]) -> Result<Schema, Fault> {
+    let schema = read_type(alloc, rest, MAX_DEPTH)?;
+    skip_blanks(rest);
+    if !rest.is_empty() {
+        return Err(fault_at(Problem::EndExpected, rest));
+    }
+    Ok(schema)
+}
+
+/// Reads a type: an enum, or another with `?` behind it or none.
+#[cycle(expression)]
+fn read_type(alloc: Global, rest: &mut &[u8], depth: usize) -> Result<Schema, Fault> {
+    skip_blanks(rest);
+    if depth == 0 {
+        return Err(fault_at(Problem::TooDeep, rest));
+    }
+    if let Some(first) = rest.first() {
+        if *first == b'|' || first.is_ascii_uppercase() {
+            return read_enum(alloc, rest, depth - 1);
+        }
+    }
+    let mut schema = read_plain(alloc, rest, depth - 1)?;
+    for _ in 0..MAX_OPTIONS {
+        if !take(rest, b'?') {
+            return Ok(schema);
+        }
+        schema = Schema::Option(boxed(alloc, schema, rest)?);
+    }
+    skip_blanks(rest);
+    if rest.starts_with(b"?") {
+        return Err(fault_at(Problem::TooDeep, rest));
+    }
+    Ok(schema)
+}
+
+/// Reads a type that begins with a bracket or a word.
+#[cycle(expression)]
+fn read_plain(alloc: Global, rest: &mut &[u8], depth: usize) -> Result<Schema, Fault> {
+    if take(rest, b'[') {
+        return read_list(alloc, rest, depth);
+    }
+    if take(rest, b'(') {
+        return read_tuple(alloc, rest, depth);
+    }
+    if take(rest, b'{') {
+        return read_braces(alloc, rest, depth);
+    }
+    let start = *rest;
+    let word = take_word(rest);
+    if word.is_empty() {
+        return Err(fault_at(Problem::TypeExpected, start));
+    }
+    match Leaf::from_name(word) {
+        Some(leaf) => Ok(Schema::Leaf(leaf)),
+        None => Err(fault_at(Problem::UnknownType, start)),
+    }
+}
+
+/// Reads a list or an array behind its `[`.
+#[cycle(expression)]
+fn read_list(alloc: Global, rest: &mut &[u8], depth: usize) -> Result<Schema, Fault> {
+    skip_blanks(rest);
+    let start = *rest;
+    let element = read_type(alloc, rest, depth)?;
+    if !element.has_bytes() {
+        return Err(fault_at(Problem::NoBytes, start));
+    }
+    let element = boxed(alloc, element, rest)?;
+    if take(rest, b';') {
+        let count = take_count(rest)?;
+        expect(rest, b']', Problem::BracketExpected)?;
+        return Ok(Schema::Array(element, count));
+    }
+    expect(rest, b']', Problem::SemicolonOrBracket)?;
+    Ok(Schema::Seq(element))
+}
+
+/// Reads a tuple behind its `(`. One type with no `,` is that type.
+#[cycle(expression)]
+fn read_tuple(alloc: Global, rest: &mut &[u8], depth: usize) -> Result<Schema, Fault> {
+    let mut parts = Vec::new(alloc);
+    if take(rest, b')') {
+        return Ok(Schema::Group(parts));
+    }
+    let first = read_type(alloc, rest, depth)?;
+    if take(rest, b')') {
+        return Ok(first);
+    }
+    push(&mut parts, first, rest)?;
+    for _ in 0..rest.len() {
+        expect(rest, b',', Problem::CommaOrParenthesis)?;
+        if take(rest, b')') {
+            return Ok(Schema::Group(parts));
+        }
+        let part = read_type(alloc, rest, depth)?;
+        push(&mut parts, part, rest)?;
+        if take(rest, b')') {
+            return Ok(Schema::Group(parts));
+        }
+    }
+    Err(fault_at(Problem::CommaOrParenthesis, rest))
+}
+
+/// Reads a struct or a map behind its `{`. In a struct, `:` follows the first word.
+#[cycle(expression)]
+fn read_braces(alloc: Global, rest: &mut &[u8], depth: usize) -> Result<Schema, Fault> {
+    let start = *rest;
+    let word = take_word(rest);
+    let is_struct = !word.is_empty() && take(rest, b':');
+    *rest = start;
+    if is_struct {
+        read_fields(alloc, rest, depth)
+    } else {
+        read_map(alloc, rest, depth)
+    }
+}
+
+/// Reads the fields of a struct and the `}` behind them.
+#[cycle(expression)]
+fn read_fields(alloc: Global, rest: &mut &[u8], depth: usize) -> Result<Schema, Fault> {
+    let mut fields = Vec::new(alloc);
+    for _ in 0..rest.len() {
+        skip_blanks(rest);
+        let start = *rest;
+        let name = take_word(rest);
+        if name.is_empty() || name[0].is_ascii_digit() {
+            return Err(fault_at(Problem::FieldExpected, start));
+        }
+        check_new(&fields, name, start)?;
+        expect(rest, b':', Problem::ColonExpected)?;
+        let schema = read_type(alloc, rest, depth)?;
+        push(&mut fields, named(alloc, name, schema, start)?, rest)?;
+        if take(rest, b'}') {
+            return Ok(Schema::Group(fields));
+        }
+        expect(rest, b',', Problem::CommaOrBrace)?;
+        if take(rest, b'}') {
+            return Ok(Schema::Group(fields));
+        }
+    }
+    Err(fault_at(Problem::FieldExpected, rest))
+}
+
+/// Reads the key and the value type of a map and the `}` behind them.
+#[cycle(expression)]
+fn read_map(alloc: Global, rest: &mut &[u8], depth: usize) -> Result<Schema, Fault> {
+    skip_blanks(rest);
+    let start = *rest;
+    let mut parts = Vec::new(alloc);
+    let key = read_type(alloc, rest, depth)?;
+    push(&mut parts, key, rest)?;
+    expect(rest, b'=', Problem::ArrowExpected)?;
+    expect(rest, b'>', Problem::ArrowExpected)?;
+    let value = read_type(alloc, rest, depth)?;
+    push(&mut parts, value, rest)?;
+    expect(rest, b'}', Problem::BraceExpected)?;
+    let entry = Schema::Group(parts);
+    if !entry.has_bytes() {
+        return Err(fault_at(Problem::NoBytes, start));
+    }
+    Ok(Schema::Map(boxed(alloc, entry, rest)?))
+}
+
+/// Reads an enum.
+#[cycle(expression)]
+fn read_enum(alloc: Global, rest: &mut &[u8], depth: usize) -> Result<Schema, Fault> {
+    let start = *rest;
+    let leads = take(rest, b'|');
+    let mut variants = Vec::new(alloc);
+    for _ in 0..rest.len() {
+        let variant = read_variant(alloc, &variants, rest, depth)?;
+        push(&mut variants, variant, rest)?;
+        if !take(rest, b'|') {
+            if variants.len() == 1 && !leads {
+                return Err(fault_at(Problem::UnknownType, start));
+            }
+            return Ok(Schema::Enum(variants));
+        }
+    }
+    Err(fault_at(Problem::VariantExpected, rest))
+}
+
+/// Reads a variant, whose name is none of those before it.
+#[cycle(expression)]
+fn read_variant(
+    alloc: Global,
+    before: &Vec<Schema>,
+    rest: &mut &[u8],
+    depth: usize,
+) -> Result<Schema, Fault> {
+    skip_blanks(rest);
+    let start = *rest;
+    let name = take_word(rest);
+    if name.is_empty() || !name[0].is_ascii_uppercase() {
+        return Err(fault_at(Problem::VariantExpected, start));
+    }
+    check_new(before, name, start)?;
+    let content = if take(rest, b'(') {
+        read_tuple(alloc, rest, depth)?
+    } else if take(rest, b'{') {
+        read_fields(alloc, rest, depth)?
+    } else {
+        Schema::Group(Vec::new(alloc))
+    };
+    named(alloc, name, content, start)
+}
+
+/// Refuses a name that one of the types has already.
+fn check_new(before: &Vec<Schema>, name: &[u8], start: &[u8]) -> Result<(), Fault> {
+    for schema in before {
+        if let Schema::Named(other, _) = schema {
+            if other.as_bytes() == name {
+                return Err(fault_at(Problem::NameTwice, start));
+            }
+        }
+    }
+    Ok(())
+}
+
+/// Adds a type to the others.
+fn push(schemas: &mut Vec<Schema>, schema: Schema, rest: &[u8]) -> Result<(), Fault> {
+    match schemas.push(schema) {
+        Ok(()) => Ok(()),
+        Err(_) => Err(fault_at(Problem::OutOfMemory, rest)),
+    }
+}

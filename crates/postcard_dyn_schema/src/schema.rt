@@ -1,0 +1,106 @@
+//! A type, as a value.
+
+ghost use Rattle.std.specs.Prelude.{◌≡◌, IfSome, IfNone};
+ghost use Rattle.postcard_dyn_schema.specs.Meaning.{IsNameOf, has_bytes, type_of, types_of, some_has_bytes};
+ghost use Rattle.postcard_dyn_schema.specs.declared.schema.Leaf.{Leaf};
+
+/// A type that has no parts. Each is read and written by one call of the serde data model.
+///
+/// `usize` and `isize` are numbers of 64 bits in the format, and so are `U64` and `I64` here.
+#[derive(Clone, Copy, Debug, PartialEq, Eq)]
+pub enum Leaf {
+    Bool,
+    U8,
+    U16,
+    U32,
+    U64,
+    U128,
+    I8,
+    I16,
+    I32,
+    I64,
+    I128,
+    Char,
+    Str,
+    Bytes,
+}
+
+impl Leaf {
+    /// Returns the type of this name, as `u16`, or `None` if it names no type.
+    pub fn from_name(name: &[u8]) -> Option<Leaf>
+        ensures found { IfSome result (λ leaf. IsNameOf name.now leaf) }
+        ensures none { IfNone result ((leaf : Leaf) → IsNameOf name.now leaf → ⊥) }
+    {
+        match name {
+            b"bool" => Some(Leaf::Bool),
+            b"u8" => Some(Leaf::U8),
+            b"u16" => Some(Leaf::U16),
+            b"u32" => Some(Leaf::U32),
+            b"u64" | b"usize" => Some(Leaf::U64),
+            b"u128" => Some(Leaf::U128),
+            b"i8" => Some(Leaf::I8),
+            b"i16" => Some(Leaf::I16),
+            b"i32" => Some(Leaf::I32),
+            b"i64" | b"isize" => Some(Leaf::I64),
+            b"i128" => Some(Leaf::I128),
+            b"char" => Some(Leaf::Char),
+            b"str" => Some(Leaf::Str),
+            b"bytes" => Some(Leaf::Bytes),
+            _ => None,
+        }
+    }
+}
+
+/// The type of a message.
+///
+/// Names are kept for printing and take no bytes in the format.
+#[derive(Debug, Drop)]
+pub enum Schema {
+    /// A type without parts.
+    Leaf(Leaf),
+    /// `T?`: no value, or one of the type.
+    Option(Box<Schema>),
+    /// `[T]`: a count, and as many elements.
+    Seq(Box<Schema>),
+    /// `{K => V}`: a count, and as many entries, each a [`Schema::Group`] of the key and the value.
+    /// Entries keep their order, and equal keys may occur.
+    Map(Box<Schema>),
+    /// `[T; N]`: just so many elements, without a count.
+    Array(Box<Schema>, usize),
+    /// A tuple `(T, U)`, the unit `()`, or a struct `{name: T, ..}`, whose parts are
+    /// [`Schema::Named`].
+    Group(Vec<Schema>),
+    /// `Boot | Reading(u16, i32)`: the index of a variant, and its content. Each variant is a
+    /// [`Schema::Named`]. One without content has the unit for it.
+    Enum(Vec<Schema>),
+    /// A field of a struct or a variant of an enum, with its name.
+    Named(String, Box<Schema>),
+}
+
+impl Schema {
+    /// Returns whether every message of the type has at least one byte.
+    #[cycle(has_bytes)]
+    pub fn has_bytes(&self) -> bool
+        ensures { result ≡ has_bytes (type_of self.now) }
+    {
+        match self {
+            Schema::Array(element, count) => *count > 0 && element.has_bytes(),
+            Schema::Group(parts) => any_has_bytes(parts),
+            Schema::Named(_, content) => content.has_bytes(),
+            _ => true,
+        }
+    }
+}
+
+/// Returns whether one of the types has at least one byte in each of its messages.
+#[cycle(has_bytes)]
+fn any_has_bytes(parts: &Vec<Schema>) -> bool
+    ensures { result ≡ some_has_bytes (types_of parts.now.items) }
+{
+    for part in parts {
+        if part.has_bytes() {
+            return true;
+        }
+    }
+    false
+}

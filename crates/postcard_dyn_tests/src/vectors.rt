@@ -1,0 +1,107 @@
+//! Vectors, worked out from the wire format: an expression, the text of a value, and its bytes.
+
+use postcard::ser_flavors::AllocVec;
+use postcard_dyn::{parse, take_from_bytes, to_flavor};
+use postcard_dyn_text::{Shown, read_text};
+use std::process::Abort;
+use std::test::Fail;
+
+/// An expression, the text of a value as it prints, and the value's bytes.
+const VECTORS: [(&str, &str, &[u8]); 47] = [
+    ("u8", "255", &[0xFF]),
+    ("(u8)", "0", &[0x00]),
+    ("u16", "300", &[0xAC, 0x02]),
+    ("u32", "4294967295", &[0xFF, 0xFF, 0xFF, 0xFF, 0x0F]),
+    ("u64", "18446744073709551615", &[0xFF, 0xFF, 0xFF, 0xFF, 0xFF, 0xFF, 0xFF, 0xFF, 0xFF, 0x01]),
+    ("usize", "128", &[0x80, 0x01]),
+    ("u128", "340282366920938463463374607431768211455", &[0xFF, 0xFF, 0xFF, 0xFF, 0xFF, 0xFF, 0xFF, 0xFF, 0xFF, 0xFF, 0xFF, 0xFF, 0xFF, 0xFF, 0xFF, 0xFF, 0xFF, 0xFF, 0x03]),
+    ("i8", "-128", &[0x80]),
+    ("i16", "-32768", &[0xFF, 0xFF, 0x03]),
+    ("i32", "-1", &[0x01]),
+    ("i64", "9223372036854775807", &[0xFE, 0xFF, 0xFF, 0xFF, 0xFF, 0xFF, 0xFF, 0xFF, 0xFF, 0x01]),
+    ("isize", "-64", &[0x7F]),
+    ("i128", "-170141183460469231731687303715884105728", &[0xFF, 0xFF, 0xFF, 0xFF, 0xFF, 0xFF, 0xFF, 0xFF, 0xFF, 0xFF, 0xFF, 0xFF, 0xFF, 0xFF, 0xFF, 0xFF, 0xFF, 0xFF, 0x03]),
+    ("bool", "true", &[0x01]),
+    ("char", "'é'", &[0x02, 0xC3, 0xA9]),
+    ("char", "'\\''", &[0x01, 0x27]),
+    ("str", "\"\"", &[0x00]),
+    ("str", "\"Hi!\"", &[0x03, 0x48, 0x69, 0x21]),
+    ("str", "\"a \\\"b\\\" \\\\ \\n\"", &[0x09, 0x61, 0x20, 0x22, 0x62, 0x22, 0x20, 0x5C, 0x20, 0x0A]),
+    ("bytes", "0x", &[0x00]),
+    ("bytes", "0x00ff", &[0x02, 0x00, 0xFF]),
+    ("()", "()", &[]),
+    ("u8?", "None", &[0x00]),
+    ("u8?", "Some(7)", &[0x01, 0x07]),
+    ("u16??", "Some(None)", &[0x01, 0x00]),
+    ("u16??", "Some(Some(300))", &[0x01, 0x01, 0xAC, 0x02]),
+    ("[u8]", "[]", &[0x00]),
+    ("[u32]", "[1, 300]", &[0x02, 0x01, 0xAC, 0x02]),
+    ("[[i8]]", "[[-1], [], [2, 3]]", &[0x03, 0x01, 0xFF, 0x00, 0x02, 0x02, 0x03]),
+    ("[(str, bool?)]", "[(\"a\", None), (\"b\", Some(true))]", &[0x02, 0x01, 0x61, 0x00, 0x01, 0x62, 0x01, 0x01]),
+    ("[u16; 3]", "[1, 128, 16384]", &[0x01, 0x80, 0x01, 0x80, 0x80, 0x01]),
+    ("[u8; 0]", "[]", &[]),
+    ("(u8,)", "(9,)", &[0x09]),
+    ("(u8, u32, str)", "(1, 10, \"Hello!\")", &[0x01, 0x0A, 0x06, 0x48, 0x65, 0x6C, 0x6C, 0x6F, 0x21]),
+    ("((u8, u8), ())", "((1, 2), ())", &[0x01, 0x02]),
+    ("{id: u32, label: str, samples: [i16]}", "{id: 42, label: \"x\", samples: [1, -2]}", &[0x2A, 0x01, 0x78, 0x02, 0x02, 0x03]),
+    ("{at: {x: i32, y: i32}, on: bool}", "{at: {x: -300, y: 5}, on: false}", &[0xD7, 0x04, 0x0A, 0x00]),
+    ("{u8 => bool}", "{}", &[0x00]),
+    ("{u8 => str}", "{2 => \"b\", 1 => \"a\", 2 => \"\"}", &[0x03, 0x02, 0x01, 0x62, 0x01, 0x01, 0x61, 0x02, 0x00]),
+    ("{str => [u8]}", "{\"k\" => [1]}", &[0x01, 0x01, 0x6B, 0x01, 0x01]),
+    ("Boot | Reading(u16, i32) | Fault{code: u8, text: str}", "Boot", &[0x00]),
+    ("Boot | Reading(u16, i32) | Fault{code: u8, text: str}", "Reading(300, -2)", &[0x01, 0xAC, 0x02, 0x03]),
+    ("Boot | Reading(u16, i32) | Fault{code: u8, text: str}", "Fault{code: 7, text: \"hot\"}", &[0x02, 0x07, 0x03, 0x68, 0x6F, 0x74]),
+    ("|Only(u64?)", "Only(Some(1))", &[0x00, 0x01, 0x01]),
+    ("[On | Off | Level(u8)]", "[Off, Level(3), On]", &[0x03, 0x01, 0x02, 0x03, 0x00]),
+    ("(On | Off)?", "Some(Off)", &[0x01, 0x01]),
+    ("{state: On | Off, raw: bytes}", "{state: On, raw: 0x0a}", &[0x00, 0x01, 0x0A]),
+];
+
+/// The text is written as the bytes, and the bytes, with others behind them, print as the text.
+#[test]
+fn both_ways(rt: HostRuntime) -> Result<(), Fail> {
+    for (expression, text, message) in VECTORS {
+        let Ok(schema) = parse(rt.alloc(), expression) else {
+            panic!(rt; "{expression}");
+        };
+        let Ok(value) = read_text(rt.alloc(), &schema, text) else {
+            panic!(rt; "{expression}: {text}");
+        };
+        let Ok(written) = to_flavor(&value, AllocVec::new(rt.alloc())) else {
+            panic!(rt; "{expression}: {text}");
+        };
+        assert_eq!(rt; written.as_slice(), message, "{expression}: {text}");
+        let mut longer = written;
+        longer.push(0xFF)?;
+        let Ok((back, rest)) = take_from_bytes(rt.alloc(), &schema, &longer) else {
+            panic!(rt; "{expression}: {text}");
+        };
+        let shown = Shown {
+            schema: &schema,
+            value: &back,
+        };
+        let printed = format!(in rt.alloc(); "{shown}")?;
+        assert_eq!(rt; printed.as_str(), text, "{expression}");
+        assert_eq!(rt; rest, [0xFF].as_slice(), "{expression}");
+    }
+    Ok(())
+}
+
+/// Each proper beginning of a message is refused for its end.
+#[test]
+fn refuses_beginnings(rt: HostRuntime) -> Result<(), Fail> {
+    for (expression, _, message) in VECTORS {
+        let Ok(schema) = parse(rt.alloc(), expression) else {
+            panic!(rt; "{expression}");
+        };
+        for length in 0..message.len() {
+            match take_from_bytes(rt.alloc(), &schema, &message[..length]) {
+                Ok(_) => panic!(rt; "{expression}: {length}"),
+                Err(error) => {
+                    assert_eq!(rt; error, postcard::Error::DeserializeUnexpectedEnd, "{expression}");
+                }
+            }
+        }
+    }
+    Ok(())
+}

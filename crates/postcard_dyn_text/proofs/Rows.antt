@@ -1,0 +1,52 @@
+-- Values in a row and the trees that are read: elements, parts, bytes.
+use Rattle.std.proofs.Common.{◌≡◌, ℕ, suc, ◌<◌, ◌^◌, List, [], ◌∷◌, ◌++◌, map, length, refl, sym, ap, subst, arith}
+use Rattle.std.specs.Prelude.{slice_index}
+use Rattle.postcard_wire.specs.Tree.{Tree, Trees, Byte, Seq, NoTrees, Then, trees}
+use Rattle.postcard_wire.specs.Reading.{IsByte, IsSeq, Each}
+use Rattle.postcard.specs.Lemmas.{elements_count}
+use Rattle.postcard_dyn_schema.specs.Meaning.{MessageType, MessageTypes, no_types, then_type, reads, reads_all}
+use Rattle.postcard_dyn.specs.declared.value.Value.{Value}
+use Rattle.postcard_dyn.specs.Tree.{tree}
+
+-- One more element is read.
+pub each_more : (R : Tree → Type 0) (vs : List Value) (v : Value) → Each R (trees (map tree vs)) → R (tree v) → Each R (trees (map tree (vs ++ v ∷ [])))
+each_more R [] v h r = (r, tt)
+each_more R (u ∷ us) v h r = (h.0, each_more R us v h.1 r)
+
+-- Elements that are read are a list.
+pub is_list : (R : Tree → Type 0) (vs : List Value) (v : Value) → tree v ≡ Seq (trees (map tree vs)) → length vs < 2 ^ 64 → Each R (trees (map tree vs)) → IsSeq R (tree v)
+is_list R vs v seen few h = (trees (map tree vs), seen, omega (arith, few, elements_count tree vs), h)
+
+-- Numbers below 256 are bytes.
+pub each_byte : (bs : List ℕ) → ((k : ℕ) → slice_index bs k < 256) → Each IsByte (trees (map Byte bs))
+each_byte [] h = tt
+each_byte (b ∷ bs) h = ((b, refl, h 0), each_byte bs (λ k. h (suc k)))
+
+pub is_bytes : (bs : List ℕ) (v : Value) → tree v ≡ Seq (trees (map Byte bs)) → length bs < 2 ^ 64 → ((k : ℕ) → slice_index bs k < 256) → IsSeq IsByte (tree v)
+is_bytes bs v seen few h = (trees (map Byte bs), seen, omega (arith, few, elements_count Byte bs), each_byte bs h)
+
+-- The trees of values, and then others.
+abbrev pub trees_then : List Value → Trees → Trees
+trees_then [] ts = ts
+trees_then (v ∷ vs) ts = Then (tree v) (trees_then vs ts)
+
+then_none : (vs : List Value) → trees_then vs NoTrees ≡ trees (map tree vs)
+then_none [] = refl
+then_none (v ∷ vs) = ap (Then (tree v)) (then_none vs)
+
+then_one : (vs : List Value) (v : Value) (ts : Trees) → trees_then (vs ++ v ∷ []) ts ≡ trees_then vs (Then (tree v) ts)
+then_one [] v ts = refl
+then_one (u ∷ us) v ts = ap (Then (tree u)) (then_one us v ts)
+
+-- The values are of the first types, so that values of the rest complete them.
+pub record Begun (all : MessageTypes) (vs : List Value) (rest : MessageTypes) : Type 0 where
+  pub completes : (ts : Trees) → reads_all rest ts → reads_all all (trees_then vs ts)
+
+pub begun : (all : MessageTypes) → Begun all [] all
+begun all = record { completes = λ ts r. r }
+
+pub one_more : (all : MessageTypes) (t : MessageType) (rest : MessageTypes) (vs : List Value) (v : Value) → Begun all vs (then_type t rest) → reads t (tree v) → Begun all (vs ++ v ∷ []) rest
+one_more all t rest vs v so h = record { completes = λ ts r. subst (reads_all all) (sym (then_one vs v ts)) (so.completes (Then (tree v) ts) (tree v, ts, refl, h, r)) }
+
+pub complete : (all : MessageTypes) (vs : List Value) → Begun all vs no_types → reads_all all (trees (map tree vs))
+complete all vs so = subst (reads_all all) (then_none vs) (so.completes NoTrees refl)

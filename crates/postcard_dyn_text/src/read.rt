@@ -1,0 +1,404 @@
+//! Reading a value from its text.
+
+ghost use Rattle.std.specs.Prelude.{◌≡◌, ℕ, ◌<◌, [], ◌∷◌, ◌++◌, map, slice_index, IfOk, OnOk};
+ghost use Rattle.postcard_wire.specs.Tree.{trees};
+ghost use Rattle.postcard_wire.specs.Reading.{IsOption, IsGroup, IsSeq, IsArray, IsVariant, Each};
+ghost use Rattle.postcard_dyn_schema.specs.Meaning.{type_of, types_of, reads, reads_all, reads_at};
+ghost use Rattle.postcard_dyn_schema.specs.Meaning.{leaf_reads};
+ghost use Rattle.postcard_dyn.specs.Tree.{tree};
+
+use crate::quoted::{bytes_of, take_quoted};
+use crate::show::{has_brackets, is_struct, is_unit};
+use postcard_dyn::scan::{character_of, skip_blanks, take, take_word};
+use postcard_dyn::{Leaf, Schema, Value};
+use std::alloc::Global;
+use std::fmt;
+use std::str::FromStr;
+
+/// Why a text says no value of a schema.
+#[derive(Clone, Copy, Debug, PartialEq, Eq)]
+pub enum TextError {
+    /// The text goes on otherwise than a value of the schema from this character, counted from 1.
+    NotAValue { character: usize },
+    /// Memory was refused.
+    OutOfMemory,
+}
+
+impl fmt::Display for TextError {
+    fn fmt<W: fmt::Write>(&self, f: &mut fmt::Formatter<W>) -> fmt::Result {
+        match self {
+            TextError::NotAValue { character } => write!(f, "bad value at character {character}"),
+            TextError::OutOfMemory => f.write_str("out of memory"),
+        }
+    }
+}
+
+/// Why reading stops.
+#[derive(Clone, Copy)]
+pub enum Stop {
+    /// The text is no value here, where so many bytes of it are left.
+    At(usize),
+    /// Memory was refused.
+    Memory,
+}
+
+impl Stop {
+    /// Returns that the text is no value at the front of `rest`.
+    pub fn here(rest: &[u8]) -> Stop {
+        Stop::At(rest.len())
+    }
+}
+
+/// Reads the value of the schema that a text says. Blanks may stand between any two words or signs.
+///
+/// # Errors
+///
+/// Fails with `NotAValue` and the place if the text says no value of the schema, and with
+/// `OutOfMemory` if an allocation fails.
+pub fn read_text(alloc: Global, schema: &Schema, text: &str) -> Result<Value, TextError>
+    ensures { IfOk result (λ v. reads (type_of schema.now) (tree v)) }
+{
+    let mut rest = text.as_bytes();
+    match read_whole(alloc, schema, &mut rest) {
+        Ok(value) => Ok(value),
+        Err(Stop::At(left)) => Err(TextError::NotAValue {
+            character: character_of(text.as_bytes(), left),
+        }),
+        Err(Stop::Memory) => Err(TextError::OutOfMemory),
+    }
+}
+
+/// Reads a value that is the whole text.
+fn read_whole(alloc: Global, schema: &Schema, rest: &mut &[u8]) -> Result<Value, Stop>
+    ensures { IfOk result (λ v. reads (type_of schema.now) (tree v)) }
+{
+    let value = read(alloc, schema, rest)?;
+    skip_blanks(rest);
+    if !rest.is_empty() {
+        return Err(Stop::here(rest));
+    }
+    Ok(value)
+}
+
+/// Takes this byte behind blanks, or stops.
+fn expect(rest: &mut &[u8], byte: u8) -> Result<(), Stop> {
+    if take(rest, byte) {
+        Ok(())
+    } else {
+        Err(Stop::here(rest))
+    }
+}
+
+/// Takes these bytes in order, each behind blanks, or stops.
+fn expect_all(rest: &mut &[u8], bytes: &[u8]) -> Result<(), Stop> {
+    for byte in bytes {
+        expect(rest, *byte)?;
+    }
+    Ok(())
+}
+
+/// Adds a value to the others.
+fn push(items: &mut Vec<Value>, item: Value) -> Result<(), Stop>
+    ensures { OnOk result (items.new.items ≡ items.old.items ++ item ∷ []) }
+{
+    match items.push(item) {
+        Ok(()) => Ok(()),
+        Err(_) => Err(Stop::Memory),
+    }
+}
+
+/// Reads a value.
+#[cycle(text)]
+fn read(alloc: Global, schema: &Schema, rest: &mut &[u8]) -> Result<Value, Stop>
+    ensures { IfOk result (λ v. reads (type_of schema.now) (tree v)) }
+{
+    match schema {
+        Schema::Leaf(leaf) => read_leaf(alloc, *leaf, rest),
+        Schema::Option(content) => read_option(alloc, content, rest),
+        Schema::Seq(element) => read_list(alloc, element, rest, b'[', b']'),
+        Schema::Map(entry) => read_list(alloc, entry, rest, b'{', b'}'),
+        Schema::Array(element, count) => read_array(alloc, element, *count, rest),
+        Schema::Group(parts) => read_group(alloc, parts, rest),
+        Schema::Enum(variants) => read_variant(alloc, variants, rest),
+        Schema::Named(name, content) => {
+            skip_blanks(rest);
+            let start = *rest;
+            if take_word(rest) != name.as_bytes() {
+                return Err(Stop::here(start));
+            }
+            expect(rest, b':')?;
+            read(alloc, content, rest)
+        }
+    }
+}
+
+/// Reads `None` or `Some(..)`.
+#[cycle(text)]
+fn read_option(alloc: Global, content: &Schema, rest: &mut &[u8]) -> Result<Value, Stop>
+    ensures { IfOk result (λ v. IsOption (reads (type_of content.now)) (tree v)) }
+{
+    skip_blanks(rest);
+    let start = *rest;
+    match take_word(rest) {
+        b"None" => Ok(Value::Absent),
+        b"Some" => {
+            expect(rest, b'(')?;
+            let value = read(alloc, content, rest)?;
+            expect(rest, b')')?;
+            match Box::new(alloc, value) {
+                Ok(held) => Ok(Value::Present(held)),
+                Err(_) => Err(Stop::Memory),
+            }
+        }
+        _ => Err(Stop::here(start)),
+    }
+}
+
+/// Reads a list or a map between these brackets.
+#[cycle(text)]
+fn read_list(
+    alloc: Global,
+    element: &Schema,
+    rest: &mut &[u8],
+    open: u8,
+    close: u8,
+) -> Result<Value, Stop>
+    ensures { IfOk result (λ v. IsSeq (reads (type_of element.now)) (tree v)) }
+{
+    expect(rest, open)?;
+    let items = read_items(alloc, element, rest, close)?;
+    Ok(Value::Seq(items))
+}
+
+/// Reads elements up to the closing bracket: values, or the entries of a map.
+#[cycle(text)]
+fn read_items(
+    alloc: Global,
+    element: &Schema,
+    rest: &mut &[u8],
+    close: u8,
+) -> Result<Vec<Value>, Stop>
+    ensures { IfOk result (λ v. Each (reads (type_of element.now)) (trees (map tree v.items))) }
+{
+    let mut items = Vec::new(alloc);
+    for _ in 0..rest.len() {
+        if take(rest, close) {
+            return Ok(items);
+        }
+        let item = read_item(alloc, element, rest, close)?;
+        push(&mut items, item)?;
+        if !take(rest, b',') {
+            expect(rest, close)?;
+            return Ok(items);
+        }
+    }
+    Err(Stop::here(rest))
+}
+
+/// Reads an element: a value, or before a `}` an entry of a map, which is its key, `=>` and its value.
+#[cycle(text)]
+fn read_item(alloc: Global, element: &Schema, rest: &mut &[u8], close: u8) -> Result<Value, Stop>
+    ensures { IfOk result (λ v. reads (type_of element.now) (tree v)) }
+{
+    match element {
+        Schema::Group(parts) if close == b'}' => {
+            Ok(Value::Group(read_parts(alloc, parts, rest, b"=>")?))
+        }
+        _ => read(alloc, element, rest),
+    }
+}
+
+/// Reads an array of so many elements.
+#[cycle(text)]
+fn read_array(
+    alloc: Global,
+    element: &Schema,
+    count: usize,
+    rest: &mut &[u8],
+) -> Result<Value, Stop>
+    ensures { IfOk result (λ v. IsArray count (reads (type_of element.now)) (tree v)) }
+{
+    expect(rest, b'[')?;
+    let start = *rest;
+    let items = read_items(alloc, element, rest, b']')?;
+    if items.len() != count {
+        return Err(Stop::here(start));
+    }
+    Ok(Value::Group(items))
+}
+
+/// Reads a tuple or a struct.
+#[cycle(text)]
+fn read_group(alloc: Global, parts: &Vec<Schema>, rest: &mut &[u8]) -> Result<Value, Stop>
+    ensures { IfOk result (λ v. IsGroup (reads_all (types_of parts.now.items)) (tree v)) }
+{
+    let (open, close) = if is_struct(parts) {
+        (b'{', b'}')
+    } else {
+        (b'(', b')')
+    };
+    expect(rest, open)?;
+    let items = read_parts(alloc, parts, rest, b",")?;
+    if !items.is_empty() {
+        let _ = take(rest, b',');
+    }
+    expect(rest, close)?;
+    Ok(Value::Group(items))
+}
+
+/// Reads a value of each of the types in order, with these bytes between two of them.
+#[cycle(text)]
+fn read_parts(
+    alloc: Global,
+    parts: &Vec<Schema>,
+    rest: &mut &[u8],
+    between: &[u8],
+) -> Result<Vec<Value>, Stop>
+    ensures { IfOk result (λ v. reads_all (types_of parts.now.items) (trees (map tree v.items))) }
+{
+    let mut items = Vec::new(alloc);
+    for part in parts {
+        if !items.is_empty() {
+            expect_all(rest, between)?;
+        }
+        push(&mut items, read(alloc, part, rest)?)?;
+    }
+    Ok(items)
+}
+
+/// Reads a variant: its name, and its content if it has any.
+#[cycle(text)]
+fn read_variant(alloc: Global, variants: &Vec<Schema>, rest: &mut &[u8]) -> Result<Value, Stop>
+    ensures { IfOk result (λ v. IsVariant (reads_at (types_of variants.now.items)) (tree v)) }
+{
+    skip_blanks(rest);
+    let start = *rest;
+    let index = index_of(variants, take_word(rest));
+    let Some(variant) = variants.get(index) else {
+        return Err(Stop::here(start));
+    };
+    let Ok(index) = u32::try_from(index) else {
+        return Err(Stop::here(start));
+    };
+    let content = read_content(alloc, variant, rest)?;
+    match Box::new(alloc, content) {
+        Ok(held) => Ok(Value::Variant(index, held)),
+        Err(_) => Err(Stop::Memory),
+    }
+}
+
+/// Returns the place of the variant of this name, or the number of variants if there is none.
+fn index_of(variants: &Vec<Schema>, name: &[u8]) -> usize {
+    for (i, variant) in variants.iter().enumerate() {
+        if let Schema::Named(other, _) = variant {
+            if other.as_bytes() == name {
+                return i;
+            }
+        }
+    }
+    variants.len()
+}
+
+/// Reads the content of a variant behind its name.
+#[cycle(text)]
+fn read_content(alloc: Global, variant: &Schema, rest: &mut &[u8]) -> Result<Value, Stop>
+    ensures { IfOk result (λ v. reads (type_of variant.now) (tree v)) }
+{
+    let Schema::Named(_, content) = variant else {
+        return Err(Stop::here(rest));
+    };
+    if is_unit(content) {
+        return Ok(Value::Group(Vec::new(alloc)));
+    }
+    if has_brackets(content) {
+        return read(alloc, content, rest);
+    }
+    expect(rest, b'(')?;
+    let value = read(alloc, content, rest)?;
+    expect(rest, b')')?;
+    Ok(value)
+}
+
+/// Reads a value without parts.
+fn read_leaf(alloc: Global, leaf: Leaf, rest: &mut &[u8]) -> Result<Value, Stop>
+    ensures { IfOk result (λ v. leaf_reads leaf (tree v)) }
+{
+    skip_blanks(rest);
+    match leaf {
+        Leaf::Bool => Ok(Value::Bool(scalar(rest)?)),
+        Leaf::U8 => Ok(Value::U8(scalar(rest)?)),
+        Leaf::U16 => Ok(Value::U16(scalar(rest)?)),
+        Leaf::U32 => Ok(Value::U32(scalar(rest)?)),
+        Leaf::U64 => Ok(Value::U64(scalar(rest)?)),
+        Leaf::U128 => Ok(Value::U128(scalar(rest)?)),
+        Leaf::I8 => Ok(Value::I8(scalar(rest)?)),
+        Leaf::I16 => Ok(Value::I16(scalar(rest)?)),
+        Leaf::I32 => Ok(Value::I32(scalar(rest)?)),
+        Leaf::I64 => Ok(Value::I64(scalar(rest)?)),
+        Leaf::I128 => Ok(Value::I128(scalar(rest)?)),
+        Leaf::Char => Ok(Value::Char(read_char(alloc, rest)?)),
+        Leaf::Str => Ok(Value::Str(take_quoted(alloc, rest, b'"')?)),
+        Leaf::Bytes => Ok(Value::Bytes(read_bytes(alloc, rest)?)),
+    }
+}
+
+/// Reads a number or a truth value.
+fn scalar<T: FromStr>(rest: &mut &[u8]) -> Result<T, Stop>
+where
+    T::Err: Drop,
+{
+    let start = *rest;
+    let count = match start.iter().position(|byte| !is_of_scalar(*byte)) {
+        Some(count) => count,
+        None => start.len(),
+    };
+    let (word, after) = start.split_at(count);
+    let Ok(text) = str::from_utf8(word) else {
+        return Err(Stop::here(start));
+    };
+    match text.parse::<T>() {
+        Ok(value) => {
+            *rest = after;
+            Ok(value)
+        }
+        Err(_) => Err(Stop::here(start)),
+    }
+}
+
+/// Returns whether a byte may stand in a number or a truth value.
+fn is_of_scalar(byte: u8) -> bool {
+    byte.is_ascii_alphanumeric() || byte == b'-' || byte == b'+'
+}
+
+/// Reads one character between single quotes.
+fn read_char(alloc: Global, rest: &mut &[u8]) -> Result<char, Stop> {
+    let start = *rest;
+    let text = take_quoted(alloc, rest, b'\'')?;
+    let mut characters = text.chars();
+    match characters.next() {
+        Some(c) if characters.next().is_none() => Ok(c),
+        _ => Err(Stop::here(start)),
+    }
+}
+
+/// Reads `0x` and two hexadecimal digits a byte.
+fn read_bytes(alloc: Global, rest: &mut &[u8]) -> Result<Vec<u8>, Stop>
+    ensures { IfOk result (λ held. (k : ℕ) → slice_index held.items k < 256) }
+{
+    let start = *rest;
+    match take_word(rest).strip_prefix(b"0x") {
+        Some(digits) => {
+            let held = bytes_of(alloc, digits, start)?;
+            in_range(&held);
+            Ok(held)
+        }
+        None => Err(Stop::here(start)),
+    }
+}
+
+/// Does nothing. Its contract tells the prover that each byte is below 256.
+fn in_range(bytes: &[u8])
+    ensures { (k : ℕ) → slice_index bytes.now k < 256 }
+{
+    let _ = bytes;
+}

@@ -1,0 +1,144 @@
+//! Texts of values, read and printed.
+
+use crate::{Shown, read_text};
+use postcard_dyn::parse;
+use std::process::Abort;
+use std::test::Fail;
+
+/// Types, and the texts of values as they print.
+#[test]
+fn prints_what_it_reads(rt: HostRuntime) -> Result<(), Fail> {
+    let rows = [
+        ("u8", "255"),
+        ("i128", "-170141183460469231731687303715884105728"),
+        ("bool", "true"),
+        ("char", "'x'"),
+        ("char", "'\\''"),
+        ("char", "'\u{e9}'"),
+        ("str", "\"\""),
+        ("str", "\"a \\\"b\\\" \\\\ \\n\\r\\t\\0 \u{fc}\""),
+        ("str", "\"\\u{1b}\""),
+        ("bytes", "0x"),
+        ("bytes", "0x00ff7f"),
+        ("u8?", "None"),
+        ("u8??", "Some(Some(1))"),
+        ("u8??", "Some(None)"),
+        ("()", "()"),
+        ("(u8,)", "(1,)"),
+        ("(u8, (i8, bool))", "(1, (-2, false))"),
+        ("[u8]", "[]"),
+        ("[[u8]; 2]", "[[1], [2, 3]]"),
+        (
+            "{id: u32, label: str, samples: [i16]}",
+            "{id: 42, label: \"x\", samples: [1, -2]}",
+        ),
+        ("{u8 => str?}", "{1 => Some(\"a\"), 1 => None}"),
+        ("{u8 => u8}", "{}"),
+        ("Boot | Reading(u16, i32) | Fault{code: u8}", "Boot"),
+        (
+            "Boot | Reading(u16, i32) | Fault{code: u8}",
+            "Reading(1, -2)",
+        ),
+        (
+            "Boot | Reading(u16, i32) | Fault{code: u8}",
+            "Fault{code: 7}",
+        ),
+        ("|One(u8)", "One(1)"),
+        ("|One({u8 => u8})", "One({1 => 2})"),
+        ("[A | B(u8?)]", "[A, B(None), B(Some(3))]"),
+    ];
+    for (kind, text) in rows {
+        let Ok(schema) = parse(rt.alloc(), kind) else {
+            panic!(rt; "{kind}");
+        };
+        match read_text(rt.alloc(), &schema, text) {
+            Ok(value) => {
+                let shown = Shown {
+                    schema: &schema,
+                    value: &value,
+                };
+                let printed = format!(in rt.alloc(); "{shown}")?;
+                assert_eq!(rt; printed.as_str(), text);
+            }
+            Err(error) => panic!(rt; "{text}: {error}"),
+        }
+    }
+    Ok(())
+}
+
+/// Texts that are read and print otherwise.
+#[test]
+fn reads_other_texts(rt: HostRuntime) -> Result<(), Fail> {
+    let rows = [
+        ("u8", " +7 ", "7"),
+        ("i8", "-0", "0"),
+        ("str", "\"\\u{41}\\'\"", "\"A'\""),
+        ("char", "'\"'", "'\"'"),
+        ("[u8]", "[ 1 ,2, ]", "[1, 2]"),
+        ("(u8,u8)", "( 1,2 , )", "(1, 2)"),
+        ("bytes", "0xABcd", "0xabcd"),
+        ("{a: u8}", "{ a : 1 , }", "{a: 1}"),
+        ("{u8 => u8}", "{1=>2,}", "{1 => 2}"),
+        ("A|B(u8)", " B ( 2 )", "B(2)"),
+        ("u8?", "Some (3)", "Some(3)"),
+    ];
+    for (kind, text, wanted) in rows {
+        let Ok(schema) = parse(rt.alloc(), kind) else {
+            panic!(rt; "{kind}");
+        };
+        match read_text(rt.alloc(), &schema, text) {
+            Ok(value) => {
+                let shown = Shown {
+                    schema: &schema,
+                    value: &value,
+                };
+                let printed = format!(in rt.alloc(); "{shown}")?;
+                assert_eq!(rt; printed.as_str(), wanted);
+            }
+            Err(error) => panic!(rt; "{text}: {error}"),
+        }
+    }
+    Ok(())
+}
+
+/// Texts that are no value, with the place.
+#[test]
+fn refuses_texts(rt: HostRuntime) -> Result<(), Fail> {
+    let rows = [
+        ("u8", "256", 1),
+        ("u8", "", 1),
+        ("u8", "1 2", 3),
+        ("bool", "yes", 1),
+        ("char", "'ab'", 1),
+        ("char", "''", 1),
+        ("str", "\"a", 3),
+        ("str", "\"\\q\"", 3),
+        ("str", "\"\\u{d800}\"", 4),
+        ("bytes", "0x123", 1),
+        ("bytes", "12", 1),
+        ("bytes", "0x0g", 1),
+        ("u8?", "7", 1),
+        ("u8?", "Some 7", 6),
+        ("(u8, u8)", "(1)", 3),
+        ("(u8, u8)", "(1, 2, 3)", 8),
+        ("[u8; 2]", "[1]", 2),
+        ("{a: u8}", "{b: 1}", 2),
+        ("{u8 => u8}", "{1: 2}", 3),
+        ("A|B", "C", 1),
+        ("(str, u8)", "(\"\u{e9}\u{e9}\", x)", 8),
+    ];
+    for (kind, text, place) in rows {
+        let Ok(schema) = parse(rt.alloc(), kind) else {
+            panic!(rt; "{kind}");
+        };
+        match read_text(rt.alloc(), &schema, text) {
+            Ok(_) => panic!(rt; "{text} is a value of {kind}"),
+            Err(error) => {
+                let printed = format!(in rt.alloc(); "{error}")?;
+                let wanted = format!(in rt.alloc(); "bad value at character {place}")?;
+                assert_eq!(rt; printed.as_str(), wanted.as_str(), "{text}");
+            }
+        }
+    }
+    Ok(())
+}
