@@ -24,7 +24,8 @@ pub use Rattle.postcard_wire.proofs.Delimited.{option_delimited, end_delimited, 
 pub use Rattle.postcard_wire.proofs.WellFormed.{byte_well_formed, boolean_well_formed, num_well_formed, int_well_formed, char_well_formed, text_well_formed}
 pub use Rattle.postcard_wire.proofs.WellFormed.{option_well_formed, end_well_formed, then_well_formed, group_well_formed, seq_well_formed, array_well_formed, variant_well_formed}
 -- The bytes of a list's elements, one after the other, and how many there are.
-pub use Rattle.postcard_ser.proofs.Elements.{elements_count, elements_more, elements_cut, bytes_of_bytes}
+pub use Rattle.postcard_ser.proofs.Elements.{elements_count, elements_more, elements_cut}
+pub use Rattle.postcard_shape.proofs.Bytes.{bytes_of_bytes}
 -- Bytes that were taken, one front after another.
 pub use Rattle.postcard_de_nodes.specs.TakeLemmas.{nothing_taken, both_taken, faces, can_first, can_second}
 -- A thing and another behind it, read as one thing; what was read, seen otherwise; want of memory.
