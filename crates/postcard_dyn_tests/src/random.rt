@@ -130,8 +130,15 @@ fn tells_the_place(rt: HostRuntime) -> Result<(), Fail> {
         let Ok(schema) = parse(rt.alloc(), expression) else {
             panic!(rt; "{expression}");
         };
-        assert!(rt; take_from_bytes(rt.alloc(), &schema, message).is_err(), "{expression}");
-        assert_eq!(rt; refused_at(rt.alloc(), &schema, message), wanted, "{expression}");
+        assert!(rt;
+            take_from_bytes(rt.alloc(), &schema, message).is_err(),
+            "{expression}"
+        );
+        assert_eq!(rt;
+            refused_at(rt.alloc(), &schema, message),
+            wanted,
+            "{expression}"
+        );
     }
     Ok(())
 }

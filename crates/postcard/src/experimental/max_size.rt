@@ -4,10 +4,9 @@
 ghost use Rattle.std.specs.Prelude.{◌≤◌, length, IfSome, IsOk};
 
 use crate::ser::fill_slice;
+pub use postcard_max::{MaxSize, MaxSizeRepr, SizeBound, cases, laws, rows, sizes};
 use postcard_ser::Serialize;
 use postcard_wire::Result;
-
-pub use postcard_max::{MaxSize, MaxSizeRepr, SizeBound, cases, laws, rows, sizes};
 
 /// Encodes a value into the front of a buffer, as `fill_slice` does, and returns the number of
 /// bytes written. A buffer of `T::postcard_max_size()` bytes refuses no value, but one that refuses
