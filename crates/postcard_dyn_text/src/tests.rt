@@ -2,8 +2,28 @@
 
 use crate::{Shown, read_text};
 use postcard_dyn::parse;
+use std::alloc::AllocGlobal;
 use std::process::Abort;
 use std::test::Fail;
+
+/// Asserts that a text is read as a value of a type, which prints as just that text.
+fn assert_prints(rt: &(impl Abort + AllocGlobal), kind: &str, text: &str) -> Result<(), Fail> {
+    let Ok(schema) = parse(rt.alloc(), kind) else {
+        panic!(rt; "{kind}");
+    };
+    match read_text(rt.alloc(), &schema, text) {
+        Ok(value) => {
+            let shown = Shown {
+                schema: &schema,
+                value: &value,
+            };
+            let printed = format!(in rt.alloc(); "{shown}")?;
+            assert_eq!(rt; printed.as_str(), text);
+            Ok(())
+        }
+        Err(error) => panic!(rt; "{text}: {error}"),
+    }
+}
 
 /// Types, and the texts of values as they print.
 #[test]
@@ -48,20 +68,7 @@ fn prints_what_it_reads(rt: HostRuntime) -> Result<(), Fail> {
         ("[A | B(u8?)]", "[A, B(None), B(Some(3))]"),
     ];
     for (kind, text) in rows {
-        let Ok(schema) = parse(rt.alloc(), kind) else {
-            panic!(rt; "{kind}");
-        };
-        match read_text(rt.alloc(), &schema, text) {
-            Ok(value) => {
-                let shown = Shown {
-                    schema: &schema,
-                    value: &value,
-                };
-                let printed = format!(in rt.alloc(); "{shown}")?;
-                assert_eq!(rt; printed.as_str(), text);
-            }
-            Err(error) => panic!(rt; "{text}: {error}"),
-        }
+        assert_prints(&rt, kind, text)?;
     }
     Ok(())
 }
