@@ -187,7 +187,4 @@ pub fn table<
     ensures short_text { ⟦<ArrayString<N> as MaxSize>⟧.greatest
         ≡ sum_of (Some N) (Some (varint_len N)) }
     ensures short_text_reached { ⟦<ArrayString<N> as MaxSize>⟧.reached }
-{
-    // For the prover: `N` fits 64 bits.
-    let _capacity = N;
-}
+{}

@@ -98,18 +98,17 @@ impl MaxSizeRepr for Choice {
     }
 }
 
-/// The greatest size of the type is `size`, and the value takes it: a buffer of just that size
-/// holds it, and one that is a byte shorter doesn't.
-fn assert_takes<T: Serialize + MaxSize>(rt: &impl Abort, value: &T, size: usize) {
-    let mut buffer = [0; 700];
+/// The greatest size of the type is that of the buffer, and the value takes it: the buffer holds
+/// it, and one that is a byte shorter doesn't.
+fn assert_takes<T: Serialize + MaxSize>(rt: &impl Abort, value: &T, buffer: &mut [u8]) {
+    let size = buffer.len();
     assert_eq!(rt; T::postcard_max_size(), Some(size));
     value.in_forms();
     laws::within_max_size(value);
-    assert_eq!(rt; fill_max_size(value, &mut buffer[..size]), Ok(size));
-    if let Some(shorter) = size.checked_sub(1) {
-        let short = &mut buffer[..shorter];
+    assert_eq!(rt; fill_max_size(value, buffer), Ok(size));
+    if let Some((_, shorter)) = buffer.split_first_mut() {
         assert_eq!(rt;
-            to_slice(value, short).err(),
+            to_slice(value, shorter).err(),
             Some(Error::SerializeBufferFull),
             "{size}"
         );
@@ -118,71 +117,71 @@ fn assert_takes<T: Serialize + MaxSize>(rt: &impl Abort, value: &T, size: usize)
 
 #[test]
 fn numbers(rt: HostRuntime) {
-    assert_takes(&rt, &u8::MAX, 1);
-    assert_takes(&rt, &u16::MAX, 3);
-    assert_takes(&rt, &u32::MAX, 5);
-    assert_takes(&rt, &u64::MAX, 10);
-    assert_takes(&rt, &u128::MAX, 19);
-    assert_takes(&rt, &usize::MAX, 10);
-    assert_takes(&rt, &i8::MIN, 1);
-    assert_takes(&rt, &i16::MIN, 3);
-    assert_takes(&rt, &i32::MIN, 5);
-    assert_takes(&rt, &i64::MIN, 10);
-    assert_takes(&rt, &i128::MIN, 19);
-    assert_takes(&rt, &isize::MIN, 10);
-    assert_takes(&rt, &Wrapping(u32::MAX), 5);
+    assert_takes(&rt, &u8::MAX, &mut [0; 1]);
+    assert_takes(&rt, &u16::MAX, &mut [0; 3]);
+    assert_takes(&rt, &u32::MAX, &mut [0; 5]);
+    assert_takes(&rt, &u64::MAX, &mut [0; 10]);
+    assert_takes(&rt, &u128::MAX, &mut [0; 19]);
+    assert_takes(&rt, &usize::MAX, &mut [0; 10]);
+    assert_takes(&rt, &i8::MIN, &mut [0; 1]);
+    assert_takes(&rt, &i16::MIN, &mut [0; 3]);
+    assert_takes(&rt, &i32::MIN, &mut [0; 5]);
+    assert_takes(&rt, &i64::MIN, &mut [0; 10]);
+    assert_takes(&rt, &i128::MIN, &mut [0; 19]);
+    assert_takes(&rt, &isize::MIN, &mut [0; 10]);
+    assert_takes(&rt, &Wrapping(u32::MAX), &mut [0; 5]);
 }
 
 #[test]
 fn numbers_but_zero(rt: HostRuntime) {
-    assert_takes(&rt, &NonZeroU8::MAX, 1);
-    assert_takes(&rt, &NonZeroU16::MAX, 3);
-    assert_takes(&rt, &NonZeroU32::MAX, 5);
-    assert_takes(&rt, &NonZeroU64::MAX, 10);
-    assert_takes(&rt, &NonZeroU128::MAX, 19);
-    assert_takes(&rt, &NonZeroUsize::MAX, 10);
-    assert_takes(&rt, &NonZeroI8::MIN, 1);
-    assert_takes(&rt, &NonZeroI16::MIN, 3);
-    assert_takes(&rt, &NonZeroI32::MIN, 5);
-    assert_takes(&rt, &NonZeroI64::MIN, 10);
-    assert_takes(&rt, &NonZeroI128::MIN, 19);
-    assert_takes(&rt, &NonZeroIsize::MIN, 10);
+    assert_takes(&rt, &NonZeroU8::MAX, &mut [0; 1]);
+    assert_takes(&rt, &NonZeroU16::MAX, &mut [0; 3]);
+    assert_takes(&rt, &NonZeroU32::MAX, &mut [0; 5]);
+    assert_takes(&rt, &NonZeroU64::MAX, &mut [0; 10]);
+    assert_takes(&rt, &NonZeroU128::MAX, &mut [0; 19]);
+    assert_takes(&rt, &NonZeroUsize::MAX, &mut [0; 10]);
+    assert_takes(&rt, &NonZeroI8::MIN, &mut [0; 1]);
+    assert_takes(&rt, &NonZeroI16::MIN, &mut [0; 3]);
+    assert_takes(&rt, &NonZeroI32::MIN, &mut [0; 5]);
+    assert_takes(&rt, &NonZeroI64::MIN, &mut [0; 10]);
+    assert_takes(&rt, &NonZeroI128::MIN, &mut [0; 19]);
+    assert_takes(&rt, &NonZeroIsize::MIN, &mut [0; 10]);
 }
 
 #[test]
 fn scalars_and_choices(rt: HostRuntime) {
     let wide: std::result::Result<u16, u8> = Ok(u16::MAX);
-    assert_takes(&rt, &true, 1);
-    assert_takes(&rt, &'𐍈', 5);
-    assert_takes(&rt, &Some('𐍈'), 6);
-    assert_takes(&rt, &wide, 4);
-    assert_takes(&rt, &Choice::Wide(u16::MAX), 4);
+    assert_takes(&rt, &true, &mut [0; 1]);
+    assert_takes(&rt, &'𐍈', &mut [0; 5]);
+    assert_takes(&rt, &Some('𐍈'), &mut [0; 6]);
+    assert_takes(&rt, &wide, &mut [0; 4]);
+    assert_takes(&rt, &Choice::Wide(u16::MAX), &mut [0; 4]);
     assert_eq!(rt; fill_max_size(&Choice::Narrow(7), &mut [0; 4]), Ok(2));
-    assert_takes(&rt, &Duration::new(u64::MAX, 999_999_999), 15);
+    assert_takes(&rt, &Duration::new(u64::MAX, 999_999_999), &mut [0; 15]);
 }
 
 #[test]
 fn parts_in_a_row(rt: HostRuntime) {
-    assert_takes(&rt, &(), 0);
-    assert_takes(&rt, &PhantomData::<u8>, 0);
-    assert_takes(&rt, &(u16::MAX,), 3);
-    assert_takes(&rt, &(u16::MAX, true), 4);
-    assert_takes(&rt, &(1u8, u16::MAX, true), 5);
-    assert_takes(&rt, &(1u8, 2u8, u16::MAX, true), 6);
-    assert_takes(&rt, &(1u8, 2u8, 3u8, u16::MAX, true), 7);
-    assert_takes(&rt, &(1u8, 2u8, 3u8, 4u8, u16::MAX, true), 8);
-    assert_takes(&rt, &[u128::MAX; 3], 57);
-    assert_takes(&rt, &(i8::MIN..=i8::MAX), 2);
-    assert_takes(&rt, &(i16::MIN..i16::MAX), 6);
-    assert_takes(&rt, &(u16::MAX..), 3);
-    assert_takes(&rt, &(..u16::MAX), 3);
+    assert_takes(&rt, &(), &mut [0; 0]);
+    assert_takes(&rt, &PhantomData::<u8>, &mut [0; 0]);
+    assert_takes(&rt, &(u16::MAX,), &mut [0; 3]);
+    assert_takes(&rt, &(u16::MAX, true), &mut [0; 4]);
+    assert_takes(&rt, &(1u8, u16::MAX, true), &mut [0; 5]);
+    assert_takes(&rt, &(1u8, 2u8, u16::MAX, true), &mut [0; 6]);
+    assert_takes(&rt, &(1u8, 2u8, 3u8, u16::MAX, true), &mut [0; 7]);
+    assert_takes(&rt, &(1u8, 2u8, 3u8, 4u8, u16::MAX, true), &mut [0; 8]);
+    assert_takes(&rt, &[u128::MAX; 3], &mut [0; 57]);
+    assert_takes(&rt, &(i8::MIN..=i8::MAX), &mut [0; 2]);
+    assert_takes(&rt, &(i16::MIN..i16::MAX), &mut [0; 6]);
+    assert_takes(&rt, &(u16::MAX..), &mut [0; 3]);
+    assert_takes(&rt, &(..u16::MAX), &mut [0; 3]);
     assert_takes(
         &rt,
         &Parts {
             number: u16::MAX,
             choice: Some(1),
         },
-        5,
+        &mut [0; 5],
     );
 }
 
@@ -190,10 +189,10 @@ fn parts_in_a_row(rt: HostRuntime) {
 fn pointers(rt: HostRuntime) -> std::result::Result<(), Fail> {
     let record = (u128::MAX, [1u8; 8]);
     let mut number = u32::MAX;
-    assert_takes(&rt, &Box::new(rt.alloc(), record)?, 27);
-    assert_takes(&rt, &Rc::new(rt.alloc(), record)?, 27);
-    assert_takes(&rt, &&number, 5);
-    assert_takes(&rt, &&mut number, 5);
+    assert_takes(&rt, &Box::new(rt.alloc(), record)?, &mut [0; 27]);
+    assert_takes(&rt, &Rc::new(rt.alloc(), record)?, &mut [0; 27]);
+    assert_takes(&rt, &&number, &mut [0; 5]);
+    assert_takes(&rt, &&mut number, &mut [0; 5]);
     Ok(())
 }
 
@@ -201,14 +200,14 @@ fn pointers(rt: HostRuntime) -> std::result::Result<(), Fail> {
 fn fixed_capacities(rt: HostRuntime) -> std::result::Result<(), Fail> {
     let none: ArrayString<0> = ArrayString::from("")?;
     let text: ArrayString<6> = ArrayString::from("helLO!")?;
-    assert_takes(&rt, &none, 1);
-    assert_takes(&rt, &text, 7);
-    assert_takes(&rt, &ArrayVec::from([u16::MAX; 200]), 602);
-    assert_takes(&rt, &ArrayVec::from([0u8; 1]), 2);
-    assert_takes(&rt, &ArrayVec::from([0u8; 2]), 3);
-    assert_takes(&rt, &ArrayVec::from([0u8; 127]), 128);
-    assert_takes(&rt, &ArrayVec::from([0u8; 128]), 130);
-    assert_takes(&rt, &ArrayVec::from([0u8; 129]), 131);
+    assert_takes(&rt, &none, &mut [0; 1]);
+    assert_takes(&rt, &text, &mut [0; 7]);
+    assert_takes(&rt, &ArrayVec::from([u16::MAX; 200]), &mut [0; 602]);
+    assert_takes(&rt, &ArrayVec::from([0u8; 1]), &mut [0; 2]);
+    assert_takes(&rt, &ArrayVec::from([0u8; 2]), &mut [0; 3]);
+    assert_takes(&rt, &ArrayVec::from([0u8; 127]), &mut [0; 128]);
+    assert_takes(&rt, &ArrayVec::from([0u8; 128]), &mut [0; 130]);
+    assert_takes(&rt, &ArrayVec::from([0u8; 129]), &mut [0; 131]);
     assert_eq!(rt; ArrayVec::<u8, 16383>::postcard_max_size(), Some(16385));
     assert_eq!(rt; ArrayVec::<u8, 16384>::postcard_max_size(), Some(16387));
     assert_eq!(rt; ArrayVec::<u8, 16385>::postcard_max_size(), Some(16388));
@@ -218,7 +217,7 @@ fn fixed_capacities(rt: HostRuntime) -> std::result::Result<(), Fail> {
 #[test]
 fn sizes_past_the_greatest_number(rt: HostRuntime) {
     type Most = [One; usize::MAX];
-    assert_takes(&rt, &One, 1);
+    assert_takes(&rt, &One, &mut [0; 1]);
     assert_eq!(rt; Most::postcard_max_size(), Some(usize::MAX));
     assert_eq!(rt; <(Most, One)>::postcard_max_size(), None);
     assert_eq!(rt; Option::<Most>::postcard_max_size(), None);
