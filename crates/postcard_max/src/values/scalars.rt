@@ -1,7 +1,8 @@
 //! The greatest sizes of truth values, characters, and numbers as wide as an address, which are
 //! numbers of 64 bits.
 //!
-//! In each `in_forms` the value is read for the prover, which learns its range from that.
+//! In the `in_forms` of a number or a character the value is read for the prover, which learns its
+//! range from that.
 
 ghost use Rattle.std.specs.Prelude.{Some, ⊤, refl};
 ghost use Rattle.std.proofs.Common.{inl, inr};
@@ -30,9 +31,7 @@ impl MaxSize for bool {
         Some(1)
     }
 
-    fn in_forms(&self) {
-        let _value = *self;
-    }
+    fn in_forms(&self) {}
 
     ghost bounded = { boolean_bounded };
 
