@@ -89,7 +89,7 @@ fn check(rt: &(impl Abort + AllocGlobal), schema: &Schema, message: &[u8]) -> Re
 #[test]
 fn ends_in_a_value_or_a_refusal(rt: HostRuntime) -> Result<(), Fail> {
     let mut state = 1;
-    let mut values = 0;
+    let mut values = 0u32;
     for expression in EXPRESSIONS {
         let Ok(schema) = parse(rt.alloc(), expression) else {
             panic!(rt; "{expression}");
@@ -101,7 +101,7 @@ fn ends_in_a_value_or_a_refusal(rt: HostRuntime) -> Result<(), Fail> {
                 message.push(if round % 2 == 0 { byte } else { byte % 6 })?;
             }
             if check(&rt, &schema, &message)? {
-                values += 1;
+                values = values.saturating_add(1);
             }
         }
     }

@@ -3,6 +3,7 @@
 use postcard::ser_flavors::AllocVec;
 use postcard_dyn::{parse, take_from_bytes, to_flavor};
 use postcard_dyn_text::{Shown, read_text};
+use std::alloc::AllocGlobal;
 use std::process::Abort;
 use std::test::Fail;
 
@@ -135,32 +136,43 @@ const VECTORS: [(&str, &str, &[u8]); 47] = [
     ),
 ];
 
-/// The text is written as the bytes, and the bytes, with others behind them, print as the text.
+/// Asserts that the text is written as the bytes, and that the bytes, with others after them, print
+/// as the text.
+fn assert_both_ways(
+    rt: &(impl Abort + AllocGlobal),
+    expression: &str,
+    text: &str,
+    message: &[u8],
+) -> Result<(), Fail> {
+    let Ok(schema) = parse(rt.alloc(), expression) else {
+        panic!(rt; "{expression}");
+    };
+    let Ok(value) = read_text(rt.alloc(), &schema, text) else {
+        panic!(rt; "{expression}: {text}");
+    };
+    let Ok(written) = to_flavor(&value, AllocVec::new(rt.alloc())) else {
+        panic!(rt; "{expression}: {text}");
+    };
+    assert_eq!(rt; written.as_slice(), message, "{expression}: {text}");
+    let mut longer = written;
+    longer.push(0xFF)?;
+    let Ok((back, rest)) = take_from_bytes(rt.alloc(), &schema, &longer) else {
+        panic!(rt; "{expression}: {text}");
+    };
+    let shown = Shown {
+        schema: &schema,
+        value: &back,
+    };
+    let printed = format!(in rt.alloc(); "{shown}")?;
+    assert_eq!(rt; printed.as_str(), text, "{expression}");
+    assert_eq!(rt; rest, [0xFF].as_slice(), "{expression}");
+    Ok(())
+}
+
 #[test]
 fn both_ways(rt: HostRuntime) -> Result<(), Fail> {
     for (expression, text, message) in VECTORS {
-        let Ok(schema) = parse(rt.alloc(), expression) else {
-            panic!(rt; "{expression}");
-        };
-        let Ok(value) = read_text(rt.alloc(), &schema, text) else {
-            panic!(rt; "{expression}: {text}");
-        };
-        let Ok(written) = to_flavor(&value, AllocVec::new(rt.alloc())) else {
-            panic!(rt; "{expression}: {text}");
-        };
-        assert_eq!(rt; written.as_slice(), message, "{expression}: {text}");
-        let mut longer = written;
-        longer.push(0xFF)?;
-        let Ok((back, rest)) = take_from_bytes(rt.alloc(), &schema, &longer) else {
-            panic!(rt; "{expression}: {text}");
-        };
-        let shown = Shown {
-            schema: &schema,
-            value: &back,
-        };
-        let printed = format!(in rt.alloc(); "{shown}")?;
-        assert_eq!(rt; printed.as_str(), text, "{expression}");
-        assert_eq!(rt; rest, [0xFF].as_slice(), "{expression}");
+        assert_both_ways(&rt, expression, text, message)?;
     }
     Ok(())
 }
