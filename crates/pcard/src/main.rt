@@ -4,6 +4,7 @@
 use failure::Failure;
 use postcard::de_flavors::Plain;
 use std::alloc::AllocError;
+use std::io::{BufWriter, Write};
 use std::process::ExitCode;
 use std::{env, io};
 
@@ -34,12 +35,20 @@ fn words(rt: &HostRuntime) -> Result<Vec<String>, Failure> {
     }
 }
 
-fn main(rt: HostRuntime) -> ExitCode {
+/// Runs the call with this output, and returns the exit status.
+fn answer<W: Write>(rt: &HostRuntime, output: &mut W) -> u8 {
     let mut input = Plain::new(rt.stdin());
-    let mut output = rt.stdout();
-    let status = match words(&rt) {
-        Ok(words) => program::run(rt.alloc(), words.as_slice(), &mut input, &mut output),
-        Err(failure) => program::report(Err(failure), &mut output),
+    match words(rt) {
+        Ok(words) => program::run(rt.alloc(), words.as_slice(), &mut input, output),
+        Err(failure) => program::report(Err(failure), output),
+    }
+}
+
+fn main(rt: HostRuntime) -> ExitCode {
+    // Without memory for a buffer the output is written as it comes.
+    let status = match BufWriter::new(rt.alloc(), rt.stdout()) {
+        Ok(mut output) => answer(&rt, &mut output),
+        Err(_) => answer(&rt, &mut rt.stdout()),
     };
     ExitCode::from(status)
 }

@@ -1,5 +1,5 @@
 -- Runs: bytes in a row that aren't zero and don't make the open group full.
-use Rattle.std.proofs.Common.{◌≡◌, ℕ, zero, suc, refl, take, drop, get_or, add-one, ◌+◌, ◌-◌, ◌^◌, ◌<◌, List, [], ◌∷◌, ◌++◌, length, Bool, false, IsFalse, sym, ap, subst, ◌∙◌, append_assoc, length-append, arith}
+use Rattle.std.proofs.Common.{◌≡◌, ℕ, refl, take, drop, get_or, ◌+◌, ◌-◌, ◌^◌, ◌<◌, List, [], ◌∷◌, ◌++◌, length, Bool, false, IsFalse, sym, ap, subst, ◌∙◌, append_assoc, length-append, arith}
 use Rattle.std.proofs.Math.Seq.{take-add}
 use Rattle.postcard_cobs.specs.Groups.{NoZero, IsOpen, Standing, made}
 use Rattle.postcard_cobs.proofs.Encoding.{open_length}
@@ -51,15 +51,6 @@ run_leaves {held = held} {free = free} {s = s} {t = t} run going inner is keeps 
       grows = λ _. omega (arith, l);
       keeps_free = λ _ k n e h. let z : k + n ≡ length run + n = omega (arith, l, e) in keeps n (subst (λ m. free s m) z h);
     }
-
--- A front without a zero, and the next byte, which is none, have no zero.
-pub one_more : (n : ℕ) (xs : List ℕ) → n < length xs → NoZero (take n xs) → (get_or xs n 0 ≡ 0 → ⊥) → NoZero (take (n + 1) xs)
-one_more n xs l z p = rw (add-one n) (go n xs l z p)
-  where
-    go : (n : ℕ) (xs : List ℕ) → n < length xs → NoZero (take n xs) → (get_or xs n 0 ≡ 0 → ⊥) → NoZero (take (suc n) xs)
-    go n [] l z p = absurd (omega (arith, l))
-    go zero (x ∷ xs) l z p = (omega (arith, p), tt)
-    go (suc n) (x ∷ xs) l z p = (z.0, go n xs (omega (arith, l)) z.1 p)
 
 -- A list that isn't empty is its first byte and the rest.
 pub first_and_rest : (xs : List ℕ) → 0 < length xs → xs ≡ (get_or xs 0 0 ∷ []) ++ drop 1 xs

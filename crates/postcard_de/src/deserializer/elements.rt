@@ -19,25 +19,27 @@ use postcard_wire::{Error, Result};
 use std::alloc::Global;
 use std::collections::BTreeMap;
 
-/// The number of elements that a list first asks memory for, once its first element was read.
-const FIRST_ROOM: usize = 16;
-
 /// Appends an element to a list of which `announced` elements are still to come, this one among
 /// them.
 ///
-/// A full list asks for room for 16 elements at first and then for three times as many as it has,
-/// but never for more than are announced: so a few requests for memory serve a list, and none is
-/// greater than what was read explains, whatever count a damaged message announces.
+/// A full list asks for room for `first` elements at first and then for three times as many as it
+/// has, but never for more than are announced. So a few requests for memory serve a list, and none
+/// is large for what was read, whatever count a damaged message announces.
 ///
 /// # Errors
 ///
 /// Fails with `OutOfMemory` if an allocation fails.
-fn push_announced<T: Drop>(items: &mut Vec<T>, item: T, announced: usize) -> Result<()>
+fn push_announced<T: Drop>(
+    items: &mut Vec<T>,
+    item: T,
+    first: usize,
+    announced: usize,
+) -> Result<()>
     ensures pushed { OnOk result (items.new.items ≡ items.old.items ++ item ∷ []) }
     ensures refused { IfErr result (λ e. e ≡ Error.OutOfMemory) }
 {
     if items.len() == items.capacity() {
-        let room = items.len().saturating_mul(3).max(FIRST_ROOM).min(announced);
+        let room = items.len().saturating_mul(3).max(first).min(announced);
         if items.reserve_exact(room).is_err() {
             return Err(Error::OutOfMemory);
         }
@@ -66,10 +68,12 @@ impl<'de, F: Flavor> Deserializer<'de, F> {
         if let Some(items) = lists::list_at_hand(alloc, &mut self.flavor, count)? {
             return Ok(items);
         }
+        // An element has a byte at least, but for types whose elements take no memory either.
+        let first = self.flavor.at_hand().len().clamp(16, 128);
         let mut items = Vec::new(alloc);
         for i in 0..count {
             let item = E::element(alloc, self)?;
-            push_announced(&mut items, item, count - i)?;
+            push_announced(&mut items, item, first, count - i)?;
         }
         Ok(items)
     }

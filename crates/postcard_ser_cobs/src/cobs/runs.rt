@@ -5,6 +5,7 @@ ghost use Rattle.postcard_cobs.specs.Groups.{NoZero};
 
 use crate::cobs::Cobs;
 use crate::steps::push_piece;
+use postcard_cobs::frame_len;
 use postcard_ser_flavors::{Flavor, Storage};
 use postcard_wire::{Error, Result};
 
@@ -16,11 +17,7 @@ fn run_len(bytes: &[u8], most: usize) -> usize
     ensures stops_at_zero { result < most → result < length bytes.now
         → slice_index bytes.now result ≡ 0 }
 {
-    let mut count = 0;
-    while count < most && count < bytes.len() && bytes[count] != 0 {
-        count += 1;
-    }
-    count
+    frame_len(&bytes[..most.min(bytes.len())])
 }
 
 impl<B: Storage + Drop> Cobs<B> {

@@ -1,5 +1,5 @@
 -- A place for the first code is an open frame of no data.
-use Rattle.std.proofs.Common.{[], ◌∷◌, refl, sym, ◌∙◌}
+use Rattle.std.proofs.Common.{[], ◌∷◌, sym, ◌∙◌}
 use Rattle.postcard_ser_cobs.proofs.StepLemmas.{succeeded}
 use Rattle.postcard_ser_cobs.proofs.cobs.Cobs.open.Goals as goal
 

@@ -1,0 +1,267 @@
+/* Measures the exports of crates/postcard_bench: `speed` has the time of an item or of a byte, `growth`
+ * the time of an item over longer and longer lists, and `memory` what is asked of the allocator. */
+#include <inttypes.h>
+#include <stdint.h>
+#include <stdio.h>
+#include <stdlib.h>
+#include <string.h>
+#include <time.h>
+
+uint64_t port_small_encode(uint32_t count, uint8_t *out, size_t size);
+uint64_t port_small_stream(uint32_t count, uint8_t *out, size_t size);
+uint64_t port_small_decode(const uint8_t *bytes, size_t size);
+uint64_t port_u32s_encode(const uint32_t *values, size_t count, uint8_t *out, size_t size);
+uint64_t port_u32s_allocate(const uint32_t *values, size_t count);
+uint64_t port_u32s_decode(const uint8_t *bytes, size_t size);
+uint64_t port_bytes_encode(const uint8_t *values, size_t count, uint8_t *out, size_t size);
+uint64_t port_bytes_decode(const uint8_t *bytes, size_t size);
+uint64_t port_bytes_lend(const uint8_t *bytes, size_t size);
+uint64_t port_cobs_encode(const uint8_t *values, size_t count, uint8_t *out, size_t size);
+uint64_t port_cobs_decode(uint8_t *frame, size_t size);
+uint64_t port_accumulate(const uint8_t *stream, size_t size, size_t piece);
+uint64_t port_hostile(uint32_t kind, const uint8_t *bytes, size_t size);
+
+/* What was asked of the allocator since `forget`: requests, the largest of them, all of them summed,
+ * the bytes that are held, and the most that were. */
+static struct { uint64_t requests, largest, asked; int64_t held, peak; } memory;
+
+void *__real_malloc(size_t size);
+void *__real_realloc(void *old, size_t size);
+void __real_free(void *old);
+
+/* In front of each block stands its size, in 16 bytes, so that blocks stay aligned. */
+static void *counted(void *block, size_t old, size_t size) {
+    memory.requests += 1;
+    memory.asked += size;
+    if (size > memory.largest) memory.largest = size;
+    if (!block) return NULL;
+    memory.held += (int64_t)size - (int64_t)old;
+    if (memory.held > memory.peak) memory.peak = memory.held;
+    *(size_t *)block = size;
+    return (char *)block + 16;
+}
+
+void *__wrap_malloc(size_t size) { return counted(size > SIZE_MAX - 16 ? NULL : __real_malloc(size + 16), 0, size); }
+
+void *__wrap_realloc(void *old, size_t size) {
+    if (!old) return __wrap_malloc(size);
+    char *start = (char *)old - 16;
+    size_t was = *(size_t *)start;
+    return counted(size > SIZE_MAX - 16 ? NULL : __real_realloc(start, size + 16), was, size);
+}
+
+void __wrap_free(void *old) {
+    if (!old) return;
+    memory.held -= (int64_t) * (size_t *)((char *)old - 16);
+    __real_free((char *)old - 16);
+}
+
+static void forget(void) { memset(&memory, 0, sizeof memory); }
+
+static double now(void) {
+    struct timespec time;
+    clock_gettime(CLOCK_PROCESS_CPUTIME_ID, &time);
+    return time.tv_sec * 1e9 + time.tv_nsec;
+}
+
+static void fail(const char *what) {
+    fprintf(stderr, "bench: %s\n", what);
+    exit(1);
+}
+
+/* Runs `call` at least 5 times and for at least 0.2 s; sets `best` to the fewest nanoseconds of a run. */
+#define BEST(best, call)                                          \
+    do {                                                          \
+        double all = 0;                                           \
+        best = 1e300;                                             \
+        for (int run = 0; run < 5 || all < 2e8; run++) {          \
+            double began = now();                                 \
+            uint64_t answer = (call);                             \
+            double took = now() - began;                          \
+            if (answer == UINT64_MAX) fail("a call refused");     \
+            all += took;                                          \
+            if (took < best) best = took;                         \
+        }                                                         \
+    } while (0)
+
+#define MOST 16777216
+
+static uint8_t *room, *source;
+static uint32_t *numbers;
+
+/* Fills `numbers` with numbers of every length that a varint of 32 bits can have, or of one length. */
+static void fill(const char *kind) {
+    for (uint32_t i = 0; i < 10000000; i++) {
+        uint32_t mixed = i * 2654435761u;
+        if (!strcmp(kind, "one byte")) numbers[i] = mixed >> 25;
+        else if (!strcmp(kind, "five bytes")) numbers[i] = mixed | 0x80000000u;
+        else numbers[i] = mixed >> (i % 4 * 8);
+    }
+}
+
+static double copying;
+
+static void tell(const char *row, double nanoseconds, const char *unit) { printf("%-44s %8.2f ns %s\n", row, nanoseconds, unit); }
+
+static void tell_bytes(const char *row, double nanoseconds) {
+    printf("%-44s %8.3f ns a byte, %.2f of memcpy\n", row, nanoseconds / MOST, nanoseconds / copying);
+}
+
+static uint64_t copy(void) {
+    memcpy(room, source, MOST);
+    return room[MOST - 1];
+}
+
+static void speed_of_numbers(const char *kind) {
+    double best;
+    char row[64];
+    const size_t count = 1000000;
+    fill(kind);
+    BEST(best, port_u32s_encode(numbers, count, room, 2 * MOST));
+    snprintf(row, sizeof row, "a million u32, %s: write", kind);
+    tell(row, best / count, "a number");
+    size_t size = port_u32s_encode(numbers, count, room, 2 * MOST);
+    BEST(best, port_u32s_decode(room, size));
+    snprintf(row, sizeof row, "a million u32, %s: read", kind);
+    tell(row, best / count, "a number");
+}
+
+static void speed_of_records(void) {
+    const uint32_t count = 100000;
+    double best;
+    BEST(best, port_small_encode(count, room, 64));
+    tell("a small record: write", best / count, "a record");
+    size_t size = port_small_stream(count, room, 2 * MOST);
+    BEST(best, port_small_decode(room, size));
+    tell("a small record: read", best / count, "a record");
+}
+
+static void speed_of_bytes(void) {
+    double best;
+    BEST(copying, copy());
+    tell_bytes("16 MiB: memcpy", copying);
+    memset(source, 0x55, MOST);
+    BEST(best, port_bytes_encode(source, MOST, room, 2 * MOST));
+    tell_bytes("16 MiB of u8: write", best);
+    size_t size = port_bytes_encode(source, MOST, room, 2 * MOST);
+    BEST(best, port_bytes_decode(room, size));
+    tell_bytes("16 MiB of u8: read into a vector", best);
+    BEST(best, port_bytes_lend(room, size));
+    tell("16 MiB of u8: read, lent", best, "in all");
+}
+
+static void speed_of_frames(uint8_t zero_every) {
+    double best, all = 0;
+    char row[64];
+    for (size_t i = 0; i < MOST; i++) source[i] = zero_every && i % zero_every == 0 ? 0 : 0x55;
+    snprintf(row, sizeof row, zero_every ? "16 MiB, a zero at each %dth byte: frame" : "16 MiB without a zero: frame", zero_every);
+    BEST(best, port_cobs_encode(source, MOST, room, 2 * MOST));
+    tell_bytes(row, best);
+    /* decoding is in place, so each run has a frame of its own */
+    size_t size = port_cobs_encode(source, MOST, room, 2 * MOST);
+    uint8_t *frame = malloc(size);
+    best = 1e300;
+    for (int run = 0; run < 5 || all < 2e8; run++) {
+        memcpy(frame, room, size);
+        double began = now();
+        if (port_cobs_decode(frame, size) == UINT64_MAX) fail("a frame was refused");
+        double took = now() - began;
+        all += took;
+        if (took < best) best = took;
+    }
+    free(frame);
+    snprintf(row, sizeof row, zero_every ? "16 MiB, a zero at each %dth byte: decode" : "16 MiB without a zero: decode", zero_every);
+    tell_bytes(row, best);
+}
+
+static void speed(void) {
+    speed_of_records();
+    speed_of_numbers("mixed");
+    speed_of_numbers("one byte");
+    speed_of_numbers("five bytes");
+    speed_of_bytes();
+    speed_of_frames(0);
+    speed_of_frames(10);
+}
+
+static void growth(void) {
+    double best;
+    char row[64];
+    fill("mixed");
+    for (size_t count = 1000; count <= 10000000; count *= 10) {
+        uint8_t *out = malloc(5 * count + 10);
+        BEST(best, port_u32s_allocate(numbers, count));
+        snprintf(row, sizeof row, "%zu u32: to_allocvec", count);
+        tell(row, best / count, "a number");
+        size_t size = port_u32s_encode(numbers, count, out, 5 * count + 10);
+        BEST(best, port_u32s_decode(out, size));
+        snprintf(row, sizeof row, "%zu u32: from_bytes", count);
+        tell(row, best / count, "a number");
+        free(out);
+    }
+}
+
+/* Prints what was asked for since `forget`. Fails if something is still held, or if a request is larger than `limit`. */
+static void told(const char *row, uint64_t limit) {
+    printf("%-44s %6" PRIu64 " requests, largest %9" PRIu64 ", in all %9" PRIu64 ", most held %9" PRId64 "\n", row, memory.requests, memory.largest, memory.asked, memory.peak);
+    if (memory.held) fail("memory was not given back");
+    if (memory.largest > limit) fail("a request is larger than what was read explains");
+}
+
+static void memory_of_lists(void) {
+    char row[64];
+    fill("mixed");
+    for (size_t count = 10; count <= 1000000; count *= 10) {
+        size_t size = port_u32s_encode(numbers, count, room, 2 * MOST);
+        forget();
+        if (port_u32s_decode(room, size) == UINT64_MAX) fail("a list was refused");
+        snprintf(row, sizeof row, "%zu u32, read", count);
+        told(row, 64 + 4 * 4 * count);
+        forget();
+        if (port_u32s_decode(room, size / 2) != UINT64_MAX) fail("half a list was read");
+        snprintf(row, sizeof row, "%zu u32 announced, half of the bytes", count);
+        told(row, 64 + 4 * 4 * count / 2);
+        size = port_bytes_encode(source, count, room, 2 * MOST);
+        forget();
+        if (port_bytes_decode(room, size) == UINT64_MAX) fail("a list was refused");
+        snprintf(row, sizeof row, "%zu u8, read", count);
+        told(row, count);
+    }
+}
+
+/* A count of 2^63 - 1, of 2^40 or of 300, and then three bytes, as each of the growing types. */
+static void memory_of_hostile_counts(void) {
+    static const uint8_t counts[3][12] = {
+        {0xff, 0xff, 0xff, 0xff, 0xff, 0xff, 0xff, 0xff, 0x7f, 1, 1, 1},
+        {0x80, 0x80, 0x80, 0x80, 0x80, 0x20, 1, 1, 1},
+        {0xac, 0x02, 1, 1, 1},
+    };
+    static const size_t sizes[3] = {12, 9, 5};
+    static const char *const names[] = {
+        "Vec<u8>", "Vec<u32>", "Vec<u128>", "String", "Vec<String>", "Vec<Vec<u8>>", "BTreeMap<u8, u8>", "Vec<BTreeMap<u8, u8>>", "ArrayString<4>", "ArrayVec<u8, 4>",
+    };
+    char row[64];
+    for (uint32_t kind = 0; kind < sizeof names / sizeof *names; kind++) {
+        for (int i = 0; i < 3; i++) {
+            forget();
+            if (port_hostile(kind, counts[i], sizes[i]) != UINT64_MAX) fail("a count without its elements was read");
+            snprintf(row, sizeof row, "%s of %s elements", names[kind], i == 0 ? "2^63 - 1" : i == 1 ? "2^40" : "300");
+            told(row, 4096);
+        }
+    }
+}
+
+int main(int count, char **words) {
+    const char *task = count == 2 ? words[1] : "";
+    room = malloc(2 * MOST);
+    source = malloc(MOST);
+    numbers = malloc(4 * 10000000);
+    if (!room || !source || !numbers) fail("too little memory");
+    memset(source, 0x55, MOST);
+    memset(room, 0x55, 2 * MOST);
+    if (!strcmp(task, "speed")) speed();
+    else if (!strcmp(task, "growth")) growth();
+    else if (!strcmp(task, "memory")) memory_of_lists(), memory_of_hostile_counts();
+    else fail("say speed, growth or memory");
+    return 0;
+}
