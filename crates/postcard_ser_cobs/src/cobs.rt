@@ -170,6 +170,7 @@ impl<B: Storage + Drop> Flavor for Cobs<B> {
     ///
     /// Fails with `SerializeBufferFull` where the storage has no room for what the frame grows by,
     /// 1 or 2 bytes, where the frame would get too long to count, and after any earlier failure.
+    #[inline(always)]
     fn try_push(&mut self, byte: u8) -> Result<()>
         ensures appends { OnOk result
             (⟦<Cobs<B> as Flavor>⟧.appended self.old (byte ∷ []) self.new) }

@@ -10,6 +10,7 @@ use postcard_ser_flavors::{Flavor, Storage};
 use postcard_wire::{Error, Result};
 
 /// Returns the number of bytes before the first zero, but at most `most`.
+#[inline(always)]
 fn run_len(bytes: &[u8], most: usize) -> usize
     ensures within { result ≤ length bytes.now }
     ensures at_most { result ≤ most }
@@ -17,7 +18,11 @@ fn run_len(bytes: &[u8], most: usize) -> usize
     ensures stops_at_zero { result < most → result < length bytes.now
         → slice_index bytes.now result ≡ 0 }
 {
-    frame_len(&bytes[..most.min(bytes.len())])
+    let few = most.min(bytes.len());
+    if few == 0 || bytes[0] == 0 {
+        return 0;
+    }
+    frame_len(&bytes[..few])
 }
 
 impl<B: Storage + Drop> Cobs<B> {
