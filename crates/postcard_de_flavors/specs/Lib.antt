@@ -2,5 +2,4 @@ pub mod Source
 pub mod Kept
 pub mod Reader
 pub mod Plain
-pub mod Memory
 pub mod IOReader

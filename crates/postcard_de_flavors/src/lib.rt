@@ -11,7 +11,6 @@
 
 pub mod flavor;
 pub mod io;
-mod memory;
 pub mod plain;
 pub mod slice;
 pub mod source;

@@ -1,6 +1,6 @@
 //! The source over a slice.
 
-ghost use Rattle.std.specs.Prelude.{◌≡◌, ◌↔◌, ℕ, ◌<◌, ◌≤◌, ◌-◌, List, [], ◌∷◌, drop, length, Some};
+ghost use Rattle.std.specs.Prelude.{◌≡◌, ◌↔◌, ◌<◌, ◌≤◌, [], ◌∷◌, length, Some};
 ghost use Rattle.std.specs.Prelude.{IfOk, IfErr, OnErr, IsOk, MatchResult};
 ghost use Rattle.std.specs.Borrow.{sem};
 ghost use Rattle.std.specs.Io.BufRead.{Rests};
@@ -8,65 +8,25 @@ ghost use Rattle.postcard_de_flavors.specs.Source.{Takes, CanTake, LeavesRest, I
 ghost use Rattle.postcard_de_flavors.specs.Kept.{slice_laws};
 
 use crate::flavor::Flavor;
+use postcard_memory::Bytes;
 use postcard_wire::{Error, Result};
 use std::marker::Model;
-
-/// The bytes of a slice.
-#[derive(Drop)]
-struct Bytes<'de> {
-    bytes: &'de [u8],
-}
-
-impl<'de> Model for Bytes<'de> {
-    ghost use Rattle.std.specs.Prelude.{List, ℕ};
-
-    ghost Value = { List ℕ };
-
-    ghost view = { λ s. s.bytes.now };
-}
-
-impl<'de> Bytes<'de> {
-    /// The bytes of this slice.
-    fn new(bytes: &'de [u8]) -> Bytes<'de>
-        ensures { result ≡ bytes.now }
-    {
-        Bytes { bytes }
-    }
-
-    /// All of them, `len` in number.
-    fn all(&mut self, len: usize) -> &'de [u8]
-        requires { len ≡ length self.old }
-        ensures same { self.new ≡ self.old }
-        ensures all { result.now ≡ self.old }
-    {
-        &self.bytes[..len]
-    }
-
-    /// Returns the bytes from place `at` on.
-    fn from(&self, at: usize) -> &[u8]
-        requires { at ≤ length self.now }
-        ensures { result.now ≡ drop at self.now }
-    {
-        &self.bytes[at..]
-    }
-}
 
 /// Reads from a slice. A contract sees it as the list of the bytes left.
 #[derive(Drop)]
 pub struct Slice<'de> {
     bytes: Bytes<'de>,
     len: usize,
-    position: usize,
 }
 
 impl<'de> Model for Slice<'de> {
-    ghost use Rattle.std.specs.Prelude.{List, ℕ, ◌≡◌, ◌≤◌, drop, length};
+    ghost use Rattle.std.specs.Prelude.{List, ℕ, ◌≡◌, length};
 
     ghost Value = { List ℕ };
 
-    ghost view = { λ s. drop s.position s.bytes };
+    ghost view = { λ s. s.bytes.items };
 
-    ghost invariant = { λ s. (s.position ≤ s.len) × (s.len ≡ length s.bytes) };
+    ghost invariant = { λ s. s.len ≡ length s.bytes.items };
 }
 
 impl<'de> Slice<'de> {
@@ -77,7 +37,6 @@ impl<'de> Slice<'de> {
         Slice {
             bytes: Bytes::new(bytes),
             len: bytes.len(),
-            position: 0,
         }
     }
 }
@@ -114,21 +73,18 @@ impl<'de> Flavor for Slice<'de> {
         ensures exact { IsOk result ↔ (1 ≤ length self.old) }
         ensures unchanged { OnErr result (self.new ≡ self.old) }
     {
-        if self.position == self.len {
+        if self.len == 0 {
             return Err(Error::DeserializeUnexpectedEnd);
         }
-        let len = self.len;
-        let all = self.bytes.all(len);
-        let byte = all[self.position];
-        self.position += 1;
-        Ok(byte)
+        self.len -= 1;
+        Ok(self.bytes.pop())
     }
 
     /// How many bytes are left.
     fn size_hint(&self) -> Option<usize>
         ensures { result ≡ Some (length self.now) }
     {
-        Some(self.len - self.position)
+        Some(self.len)
     }
 
     /// Returns all bytes that are left.
@@ -137,7 +93,7 @@ impl<'de> Flavor for Slice<'de> {
             ⟦<Slice<'de> as Flavor>⟧.able self.now result.now }
         ensures all { result.now ≡ self.now }
     {
-        self.bytes.from(self.position)
+        self.bytes.view(self.len)
     }
 
     /// Takes the first `ct` bytes.
@@ -155,14 +111,11 @@ impl<'de> Flavor for Slice<'de> {
         ensures exact { IsOk result ↔ (ct ≤ length self.old) }
         ensures unchanged { OnErr result (self.new ≡ self.old) }
     {
-        if self.len - self.position < ct {
+        if self.len < ct {
             return Err(Error::DeserializeUnexpectedEnd);
         }
-        let len = self.len;
-        let all = self.bytes.all(len);
-        let from = self.position;
-        self.position += ct;
-        Ok(&all[from..from + ct])
+        self.len -= ct;
+        Ok(self.bytes.take(ct))
     }
 
     /// Takes the first `ct` bytes.
@@ -177,25 +130,18 @@ impl<'de> Flavor for Slice<'de> {
         ensures exact { IsOk result ↔ (ct ≤ length self.old) }
     {
         // As `try_take_n`: lent through a call of it, the checker wouldn't know what `self` ends as.
-        if ct > self.len - self.position {
+        if ct > self.len {
             return Err(Error::DeserializeUnexpectedEnd);
         }
-        let len = self.len;
-        let all = self.bytes.all(len);
-        let start = self.position;
-        self.position = start + ct;
-        Ok(&all[start..self.position])
+        self.len -= ct;
+        let front = self.bytes.take(ct);
+        Ok(front)
     }
 
     /// The bytes left; never fails.
     fn finalize(self) -> Result<&'de [u8]> {
-        let Slice {
-            mut bytes,
-            len,
-            position,
-        } = self;
-        let all = bytes.all(len);
-        Ok(&all[position..])
+        let Slice { bytes, len } = self;
+        Ok(bytes.whole(len))
     }
 }
 

@@ -1,5 +1,5 @@
--- One byte behind a writing slice is lent, while the `&mut` to the slice is open. Assumes `Logic`.
-use Rattle.std.proofs.Common.{◌≡◌, ℕ, ◌+◌, ◌<◌, get_or, set, MutBor, List, [], ◌∷◌, length, refl, sym, subst, ap, ◌∙◌}
+-- One byte behind a `Slice` is lent, while the `&mut` to the `Slice` is open. Assumes `Logic`.
+use Rattle.std.proofs.Common.{◌≡◌, ℕ, ◌+◌, ◌<◌, get_or, set, MutBor, ◌^◌, List, [], ◌∷◌, length, refl, sym, subst, ◌∙◌}
 use seplogic.Ra.Ura.{Ura}
 use base.Fraction.{full_share}
 use base.Logic.{SProp, ent, sep, ex, guard, wand, apply∗}
@@ -13,7 +13,7 @@ use ghost.Rules.{thinned}
 use denote.Steps.{nothing}
 use borrow.Rule.Slice.Handed.{takes_at}
 use borrow.Table.Elements.{at_byte}
-use types.Kit.{‵, ◌⊛◌, raw, some, later, await, pick, split, split3, use1, use2, use3, fjoin3, updating, now, show, group, ◌$◌, ◌∵◌, !, qed, move, rewrite, fsplit, fjoin, fpack, feq_l, feq_i, check, done}
+use types.Kit.{‵, ◌⊛◌, raw, some, later, await, pick, split, split3, use1, use2, use3, fjoin3, updating, now, show, group, ◌$◌, ◌∵◌, !, qed, move, rewrite, fsplit, fjoin, fpack, feq_l, feq_i, flt_i, check, done}
 use types.Mut.{open_ref}
 use types.SemTy.{Body, Arr}
 use types.Through.{takes_through}
@@ -23,27 +23,20 @@ use denote.Follow.{follows, follows_then}
 use denote.FollowSlice.{heres_id}
 use denote.Memory.{mem, cell_at, part_of}
 use denote.RattleType.{RattleType, Valss, flat}
+use denote.RawPtr.{Ptr, block_ptr}
 use denote.Ref.{NamedLft, MutRef}
-use denote.Shadow.{pure_i}
-use denote.Slice.{Room, slice_val, mut_slice_at}
 use denote.Struct.Declared.{shape}
 use denote.Struct.Struct.{Shape, within}
 use Rattle.postcard_ser_flavors.specs.Slice.{Written}
-use Rattle.postcard_ser_flavors.specs.declared.memory.Memory.{Memory}
-use Rattle.postcard_ser_flavors.specs.declared.memory.Memory.TheInside.{Inside as Lender}
-use Rattle.postcard_ser_flavors.specs.declared.memory.Memory.TheView.{view as lent, invariant as any}
-use Rattle.postcard_ser_flavors.specs.contracts.memory.Memory.TheInside as lender
+use Rattle.postcard_memory.specs.Lent.{lent_bytes}
 use Rattle.postcard_ser_flavors.specs.declared.slice.Slice.TheInside.{Inside}
 use Rattle.postcard_ser_flavors.specs.declared.slice.Slice.TheView.{view, invariant}
 use Rattle.postcard_ser_flavors.specs.contracts.slice.Slice.{the_row}
 use Rattle.postcard_ser_flavors.specs.contracts.slice.Slice.TheInside as inside
+use Rattle.postcard_memory.proofs.Parts.{Words}
 
--- D is the slice as a contract sees it, a its fields and u the fields of its memory; us are the
--- words of the slice, vss those of its fields, and wss those of the memory's field.
 module _ {M : Type 1} {𝓤 : Ura M} (𝓛 : Logic 𝓤) (ℓ : NamedLft) (b o b' o' : ℕ) (D : Written) (a : Inside) (seen : view a ≡ D) (holds : invariant a)
-    (u : Lender) (lends : lent u ≡ a.memory) (at : u.buf.ref_ptr ≡ (b', o')) (room : Room u8 (length u.buf.now))
-    (us : List Val) (vss : Valss (shape (inside.the_type ℓ)).fields) (told : us ≡ vstruct (of_list (flat (shape (inside.the_type ℓ)).fields vss)) ∷ [])
-    (wss : Valss (shape (lender.the_type ℓ)).fields) (said : vss.0 ≡ vstruct (of_list (flat (shape (lender.the_type ℓ)).fields wss)) ∷ []) (spelled : wss.0 ≡ slice_val u.buf.ref_ptr (length u.buf.now) ∷ []) where
+    (e : a.memory.start ≡ block_ptr b' o') (us : List Val) (vss : Valss (shape (inside.the_type ℓ)).fields) (told : us ≡ vstruct (of_list (flat (shape (inside.the_type ℓ)).fields vss)) ∷ []) where
   open 𝓛 use {H, A}
 
   abbrev R : RattleType
@@ -52,32 +45,23 @@ module _ {M : Type 1} {𝓤 : Ura M} (𝓛 : Logic 𝓤) (ℓ : NamedLft) (b o b
   abbrev S : Shape
   S = shape (inside.the_type ℓ)
 
-  abbrev T : Shape
-  T = shape (lender.the_type ℓ)
-
   abbrev xs : List ℕ
-  xs = u.buf.now
+  xs = a.memory.items
 
   abbrev n : ℕ
   n = length xs
 
   abbrev δ : GName
-  δ = u.buf.ghost_name
+  δ = a.memory.loan
 
   abbrev pub with_buffer : List ℕ → Written
   with_buffer w = record { loan = D.loan; buffer = w; count = D.count }
 
-  abbrev lender_with : List ℕ → Lender
-  lender_with w = record { buf = record { ref_ptr = u.buf.ref_ptr; ghost_name = δ; now = w } }
-
-  abbrev memory_with : List ℕ → Memory
-  memory_with w = record { loan = a.memory.loan; items = w }
-
   abbrev inside_with : List ℕ → Inside
-  inside_with w = record { memory = memory_with w; len = a.len; position = a.position }
+  inside_with w = record { memory = record { start = a.memory.start; mark = a.memory.mark; loan = δ; items = w }; len = a.len; position = a.position }
 
   abbrev pub Rest : Fml
-  Rest = fsep (cell_at full_share R.mir us b o) (fsep (usize.own_val a.len vss.1.0) (fsep (usize.own_val a.position vss.1.1.0) ftrue))
+  Rest = fsep (cell_at full_share R.mir us b o) (fsep ((Words ℓ).own_val (a.memory.start, (tt, tt)) vss.0) (fsep (usize.own_val a.len vss.1.0) (fsep (usize.own_val a.position vss.1.1.0) ftrue)))
 
   abbrev pub Inner : Fml
   Inner = Body (Arr (mem u8) n) b' o' δ
@@ -91,27 +75,18 @@ module _ {M : Type 1} {𝓤 : Ura M} (𝓛 : Logic 𝓤) (ℓ : NamedLft) (b o b
   back : (w : List ℕ) → length w ≡ n → ent 𝓤 (sep 𝓤 (A.obs δ (Bytes w)) (sep 𝓤 (A.bor ℓ.lft Inner) (sem 𝓛 Rest))) (sem 𝓛 ((mem R).own_at (with_buffer w) b o))
   unfolding part_of
   back w g =
-      let ref : MutBor (List ℕ) = (lender_with w).buf in
-      let room' : Room u8 (length w) = subst (Room u8) (sym g) room in
-      let spelled' : wss.0 ≡ slice_val u.buf.ref_ptr (length w) ∷ [] = spelled ∙ ap (λ (k : ℕ). slice_val u.buf.ref_ptr k ∷ []) (sym g) in
-      let length_is : a.len ≡ length w = holds.1 ∙ ap (λ (d : Memory). length d.items) (sym lends) ∙ sym g in
+      let count : a.len ≡ length w = holds.1 ∙ sym g in
+      let most : length w < 2 ^ 63 = subst (λ (k : ℕ). k < 2 ^ 63) count holds.2 in
       qed 𝓛 (‵ (fobs δ (Bytes w)) ∷ ‵ (fbor ℓ.lft Inner) ∷ ‵ Rest ∷ []) ∵
       rewrite ! 0 (λ (l : List ℕ). ‵ (fobs δ (Bytes l))) (sym (heres_id u8 w)) refl $
-      rewrite ! 1 (λ (k : ℕ). ‵ (fbor ℓ.lft (Body (Arr (mem u8) k) b' o' δ))) (sym g) refl $
-      rewrite ! 1 (λ (p : ℕ × ℕ). ‵ (fbor ℓ.lft (Body (Arr (mem u8) (length w)) p.0 p.1 δ))) (sym at) refl $ fjoin ! $
-      pure_i ! (mut_slice_at u8 ref wss.0) (tt, (tt, tt)) (spelled', room') $ fjoin ! $
-      -- [the reference; the rest]
-      nothing ! $ move ! (1 ∷ 0 ∷ []) $ fjoin ! $ feq_i ! (List Val) vss.0 (vstruct (of_list (flat T.fields wss)) ∷ []) said $ fjoin ! $
-      fpack ! (Valss T.fields) (within T (ref, tt) vss.0) wss $
+      rewrite ! 1 (λ (k : ℕ). ‵ (fbor ℓ.lft (Body (Arr (mem u8) k) b' o' δ))) (sym g) refl $ fjoin ! $ flt_i ! (length w) (2 ^ 63) most $ fjoin ! $
+      rewrite ! 0 (λ (p : Ptr). ‵ (lent_bytes ℓ.lft p δ w)) (sym e) refl $
+      move ! (1 ∷ []) $ fsplit ! $ move ! (1 ∷ []) $ fsplit ! $
+      -- [the words; the counts; the struct's cell; the bytes]
+      move ! (0 ∷ 3 ∷ []) $ fjoin ! $ fjoin ! $ feq_i ! (List Val) us (vstruct (of_list (flat S.fields vss)) ∷ []) told $ fjoin ! $
+      fpack ! (Valss S.fields) (within S ((inside_with w).memory, (a.len, (a.position, tt))) us) vss $
       nothing ! $ move ! (1 ∷ 0 ∷ []) $ fjoin ! $
-      fpack ! ((v : Lender) × ((lent v ≡ memory_with w) × any v)) (λ v. fsep ((lender.the_row ℓ).own_val v.0 vss.0) ftrue) (lender_with w, ((λ i. record { loan = (lends i).loan; items = w }), tt)) $
-      -- [the memory; the rest]
-      move ! (1 ∷ []) $ fsplit ! $
-      -- [the struct's cell; the counts; the memory]
-      move ! (2 ∷ 1 ∷ []) $ fjoin ! $ feq_i ! (List Val) us (vstruct (of_list (flat S.fields vss)) ∷ []) told $ fjoin ! $
-      fpack ! (Valss S.fields) (within S (memory_with w, (a.len, (a.position, tt))) us) vss $
-      nothing ! $ move ! (1 ∷ 0 ∷ []) $ fjoin ! $
-      fpack ! ((v : Inside) × ((view v ≡ with_buffer w) × invariant v)) (λ v. fsep ((inside.the_row ℓ).own_val v.0 us) ftrue) (inside_with w, ((λ i. record { loan = (seen i).loan; buffer = w; count = (seen i).count }), (holds.0, length_is, holds.2))) $
+      fpack ! ((u : Inside) × ((view u ≡ with_buffer w) × invariant u)) (λ u. fsep ((inside.the_row ℓ).own_val u.0 us) ftrue) (inside_with w, ((λ i. record { loan = (seen i).loan; buffer = w; count = (seen i).count }), (holds.0, count, holds.2))) $
       move ! (1 ∷ 0 ∷ []) $ fjoin ! $ fpack ! (List Val) (λ vs. fsep (cell_at full_share R.mir vs b o) (R.own_val (with_buffer w) vs)) us $ done !
 
   abbrev pub Outer : GName → Fml
@@ -129,8 +104,7 @@ module _ {M : Type 1} {𝓤 : Ura M} (𝓛 : Logic 𝓤) (ℓ : NamedLft) (b o b
       let l : Share = Share.left q in let r : Share = Share.right q in let q' : Share = thinned ℓ.lft r in
       qed 𝓛 (‵ (fobs δ (Bytes xs)) ∷ ‵ (fbor ℓ.lft Inner) ∷ ‵ Rest ∷ ‵ (fobor κ l (Outer γ)) ∷ ‵ (fobs γ u) ∷ ‵ (fauth γ v) ∷ ‵ (flft κ r) ∷ []) ∵ updating ! $ move ! (6 ∷ []) $
       use1 𝓛 (‵ (flft ℓ.lft q') ⊛ raw (wand 𝓤 (A.lft ℓ.lft q') (A.lft κ r))) (𝓛.lfts.lft-incl κ ℓ.lft r inc) $ split ! $ move ! (2 ∷ 3 ∷ 0 ∷ []) $ open_ref ! tt (Arr (mem u8) n) $
-      -- [the bytes; the inner, open; its obs and auth; the token's way back; the rest; the outer,
-      -- open; its obs and auth]
+      -- [the bytes; the inner, open; its obs and auth; the token's way back; the rest; the outer, open; its obs and auth]
       move ! (6 ∷ 7 ∷ 8 ∷ 1 ∷ 2 ∷ 3 ∷ 0 ∷ 5 ∷ []) $ group ! 8 $
       use1 𝓛 (later (some (λ (γ' : GName). ‵ (fobs γ' (Bytes xs)) ⊛ ‵ (fbor κ (Body (Arr (mem u8) n) b' o' γ')) ⊛ ‵ (flft κ l) ⊛ ‵ (flft ℓ.lft q') ⊛ ‵ (follows R (Array u8 0) γ γ' with_buffer))))
       (takes_through 𝓛 (mem R) (Arr (mem u8) n) with_buffer κ ℓ.lft inc b o b' o' γ δ (sem 𝓛 Rest) (λ ws. length ws ≡ n) counts back l q' u v (Bytes xs) (Bytes xs) xs) $ await ! tt $ pick ! (λ γ'. split3 ! $ move ! (2 ∷ []) $ split3 ! $

@@ -24,7 +24,7 @@
 //! To be read in this order:
 //! - `flavor`: the trait.
 //! - `storage`: the trait of those whose bytes can still be changed, as a frame needs it.
-//! - `memory`, `slice`: bytes that a caller lent, and the flavor that fills them.
+//! - `slice`: the flavor that fills bytes that a caller lent.
 //! - `hvec`, `alloc_vec`, `extend`, `io`, `size`: the other flavors.
 #![tactic(auto)]
 
@@ -33,7 +33,6 @@ pub mod extend;
 pub mod flavor;
 pub mod hvec;
 pub mod io;
-mod memory;
 pub mod size;
 pub mod slice;
 pub mod storage;

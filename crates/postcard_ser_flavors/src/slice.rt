@@ -7,7 +7,7 @@ ghost use Rattle.postcard_ser_flavors.specs.Slice.{held, free, Appended, HasRoom
 ghost use Rattle.postcard_ser_flavors.specs.SliceLaws.{slice_lawful};
 
 use crate::flavor::Flavor;
-use crate::memory::Memory;
+use postcard_memory::Memory;
 use postcard_wire::varint::{VARINT_MAX_64, varint_u64, write_u64};
 use postcard_wire::{Error, Result};
 use std::marker::Model;
@@ -104,10 +104,8 @@ impl<'a> Flavor for Slice<'a> {
         if self.position == self.len {
             return Err(Error::SerializeBufferFull);
         }
-        let len = self.len;
         let place = self.position;
-        let all = self.memory.lend(len);
-        all[place] = byte;
+        *self.memory.at(place) = byte;
         self.position += 1;
         Ok(())
     }

@@ -4,8 +4,8 @@ ghost use Rattle.std.specs.Prelude.{◌≡◌, ◌<◌, ◌≤◌, ◌^◌, ◌+
 ghost use Rattle.std.specs.Io.KnownBytes.{Consumes};
 ghost use Rattle.postcard_de_flavors.specs.Reader.{AtLeast};
 
-use crate::memory::Memory;
 use crate::source::Source;
+use postcard_memory::Memory;
 use postcard_wire::{Error, Result};
 use std::marker::Model;
 use std::mem;

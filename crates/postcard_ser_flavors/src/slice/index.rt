@@ -34,6 +34,9 @@ impl<'a> IndexMut<usize> for Slice<'a> {
             (λ w. record self.old { buffer = slice_set self.old.buffer place w })) }
         ensures value { result.now ≡ slice_index self.old.buffer place }
     {
-        &mut self.memory.buf[place]
+        // SAFETY: the place is one of the bytes at `start`, and `self` is borrowed for as long as the
+        // result lives. Not by `Memory::at`: for the prover, a memory that is lent for that long may
+        // end as another, of another length.
+        unsafe { &mut *self.memory.start.add(place) }
     }
 }

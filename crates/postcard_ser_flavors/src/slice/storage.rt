@@ -29,9 +29,7 @@ impl<'a> Storage for Slice<'a> {
         ensures countable { length (⟦<Slice<'static> as Storage>⟧.held self.new) < 2 ^ 64 }
         ensures alone { self.new ≡ record self.old { buffer = slice_set self.old.buffer place byte } }
     {
-        let len = self.len;
-        let all = self.memory.lend(len);
-        all[place] = byte;
+        *self.memory.at(place) = byte;
     }
 
     /// Returns the number of bytes written at the front of the slice.

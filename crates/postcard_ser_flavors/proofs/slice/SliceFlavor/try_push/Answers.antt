@@ -5,5 +5,5 @@ use Rattle.postcard_ser_flavors.proofs.slice.SliceFlavor.try_push.Goals as goal
 
 pub returns-clause-rest : goal.returns-clause-rest
 returns-clause-rest c =
-    let xs : List ℕ = c.lend-all.result.now in let place : ℕ = c.self.inside.position in
-    rw (← c.self.view_is, ← c.lend-all.ensures.all) (drop-set-lt (place + 1) xs place c.args.byte (omega arith) ∙ sym (drop-drop 1 place xs))
+    let xs : List ℕ = c.self.inside.memory.items in let place : ℕ = c.self.inside.position in
+    rw (← c.self.view_is) (drop-set-lt (place + 1) xs place c.args.byte (omega arith) ∙ sym (drop-drop 1 place xs))

@@ -1,5 +1,5 @@
 -- The digits stand behind what was held, and the bytes past them are the old ones.
-use Rattle.std.proofs.Common.{◌≡◌, length, ap, ◌∙◌, rules, arith}
+use Rattle.std.proofs.Common.{length, ap, ◌∙◌, rules, arith}
 use Rattle.postcard_ser_flavors.specs.Slice.{Written}
 use Rattle.postcard_ser_flavors.proofs.InPlace.{fits_here, held_here, behind_here, free_here}
 use Rattle.postcard_ser_flavors.proofs.slice.SliceFlavor.try_varint.Goals as goal

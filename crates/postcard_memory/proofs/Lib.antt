@@ -1,0 +1,6 @@
+pub mod Steps
+pub mod Parts
+pub mod BytesParts
+pub mod Lending
+pub mod Sharing
+pub mod Reading

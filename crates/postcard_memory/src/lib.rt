@@ -1,0 +1,12 @@
+//! Bytes that a caller lent, reached by a pointer.
+//!
+//! The other crates see the bytes as lists, by the contracts here. [`Memory`] has bytes that are written and
+//! [`Bytes`] bytes that are read. Both hold one pointer and no slice: the caller keeps the length, and
+//! [`Bytes`] moves its pointer on. No pointer becomes a number, and none is compared.
+#![tactic(auto)]
+
+pub mod bytes;
+pub mod memory;
+
+pub use bytes::Bytes;
+pub use memory::Memory;
