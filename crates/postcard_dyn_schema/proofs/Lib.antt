@@ -1,0 +1,3 @@
+pub mod Phrases
+pub mod Rows
+pub mod Types

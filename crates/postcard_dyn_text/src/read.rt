@@ -83,10 +83,10 @@ fn read_whole(alloc: Global, schema: &Schema, rest: &mut &[u8]) -> Result<Value,
 /// Takes this byte behind blanks, or stops.
 fn expect(rest: &mut &[u8], byte: u8) -> Result<(), Stop> {
     if take(rest, byte) {
-        Ok(())
-    } else {
-        Err(Stop::here(rest))
+        return Ok(());
     }
+    skip_blanks(rest);
+    Err(Stop::here(rest))
 }
 
 /// Takes these bytes in order, each behind blanks, or stops.
