@@ -13,8 +13,10 @@
 //! An enum has two variants or more, or a `|` before its only one. `(T)` is `T`, and `(T,)` a tuple
 //! of one part, as in Rust.
 
-ghost use Rattle.std.specs.Prelude.{◌≡◌, ◌+◌, ◌<◌, ◌≤◌, ◌++◌, ◌⊎◌, [], ◌∷◌, IfOk, IfErr, OnOk, length};
-ghost use Rattle.postcard_dyn_schema.specs.Text.{characters, Takes, Then, AreBlank};
+ghost use Rattle.std.specs.Prelude.{◌≡◌, ◌+◌, ◌≤◌, ◌++◌, ◌⊎◌, [], ◌∷◌, IfOk, IfErr, OnOk};
+ghost use Rattle.postcard_dyn_schema.specs.Text.{characters, Takes};
+ghost use Rattle.postcard_dyn_schema.specs.Meaning.{type_of};
+ghost use Rattle.postcard_dyn_schema.specs.Bounds.{ElementsHaveBytes, depth as depth_of};
 ghost use Rattle.postcard_dyn_schema.specs.Grammar.{IsType, IsPlain, IsListRest, IsTupleRest};
 ghost use Rattle.postcard_dyn_schema.specs.Grammar.{IsFieldsRest, IsMapRest, IsEnumText};
 ghost use Rattle.postcard_dyn_schema.specs.Grammar.{IsVariantText, IsContent, IsExpression};
@@ -41,6 +43,8 @@ const MAX_OPTIONS: usize = 4;
 /// number of them, and with `TooDeep` if types nest more than 64 deep.
 pub fn parse(alloc: Global, text: &str) -> Result<Schema, ExpressionError>
     ensures spelled { IfOk result (λ schema. IsExpression schema text.now) }
+    ensures full { IfOk result (λ schema. ElementsHaveBytes (type_of schema)) }
+    ensures deep { IfOk result (λ schema. depth_of (type_of schema) ≤ 384) }
     ensures place { IfErr result (λ e. (1 ≤ e.character)
         × (e.character ≤ characters text.now + 1)) }
 {
