@@ -2,7 +2,7 @@
 
 ghost use Rattle.std.specs.Prelude.{◌≢◌, IfErr, OnOk};
 ghost use Rattle.std.specs.Io.KnownBytes.{Appends};
-ghost use Rattle.pcard.specs.Frames.{answer_line};
+ghost use Rattle.pcard.specs.Frames.{answer_line, PrintsAnswers};
 
 use crate::failure::Failure;
 use crate::hexadecimal;
@@ -34,7 +34,9 @@ pub fn print<R: Source, W: Write>(
     input: &mut R,
     output: &mut W,
 ) -> Result<(), Failure>
-    ensures { IfErr result (λ e. e ≢ Failure.Usage) }
+    ensures printed { OnOk result (PrintsAnswers (R.remaining input.old) (R.remaining input.new)
+        (W.contents output.old) (W.contents output.new)) }
+    ensures refused { IfErr result (λ e. e ≢ Failure.Usage) }
 {
     let mut accumulator = CobsAccumulator::<LONGEST_FRAME>::new();
     let mut chunk = [0; CHUNK];

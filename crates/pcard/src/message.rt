@@ -1,6 +1,14 @@
 //! Encoding and decoding messages whose type is an expression.
 
-ghost use Rattle.std.specs.Prelude.{◌≢◌, IfErr};
+ghost use Rattle.std.specs.Prelude.{◌≡◌, ◌≢◌, ◌⊎◌, [], ◌∷◌, ◌++◌, IfOk, IfErr, OnOk};
+ghost use Rattle.std.specs.Io.KnownBytes.{Appends};
+ghost use Rattle.hex.specs.Hex.{encode_lower};
+ghost use Rattle.postcard_wire.specs.Spelling.{bytes as canonical};
+ghost use Rattle.postcard_dyn_schema.specs.Grammar.{IsExpression};
+ghost use Rattle.postcard_dyn_schema.specs.Meaning.{type_of, reads};
+ghost use Rattle.postcard_dyn_schema.specs.declared.schema.Schema.{Schema};
+ghost use Rattle.postcard_dyn.specs.Tree.{tree};
+ghost use Rattle.postcard_dyn.specs.declared.value.Value.{Value};
 
 use crate::failure::Failure;
 use crate::hexadecimal;
@@ -15,7 +23,9 @@ use std::io::Write;
 
 /// Reads a type expression. If it is misspelled, prints what is wrong and where.
 pub fn schema_of<W: Write>(alloc: Global, text: &str, output: &mut W) -> Result<Schema, Failure>
-    ensures { IfErr result (λ e. e ≢ Failure.Usage) }
+    ensures spelled { IfOk result (λ schema. IsExpression schema text.now) }
+    ensures untouched { OnOk result (output.new ≡ output.old) }
+    ensures refused { IfErr result (λ e. (e ≡ Failure.BadType) ⊎ (e ≡ Failure.Output)) }
 {
     match parse(alloc, text) {
         Ok(schema) => Ok(schema),
@@ -34,7 +44,11 @@ pub fn encode<W: Write>(
     value: &str,
     output: &mut W,
 ) -> Result<(), Failure>
-    ensures { IfErr result (λ e. e ≢ Failure.Usage) }
+    ensures printed { OnOk result ((schema : Schema) × (encoded : Value)
+        × IsExpression schema expression.now × reads (type_of schema) (tree encoded)
+        × Appends (W.contents output.old) (W.contents output.new)
+        (encode_lower (canonical (tree encoded)) ++ 10 ∷ [])) }
+    ensures refused { IfErr result (λ e. e ≢ Failure.Usage) }
 {
     let schema = schema_of(alloc, expression, output)?;
     let value = match read_text(alloc, &schema, value) {

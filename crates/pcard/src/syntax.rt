@@ -1,6 +1,7 @@
 //! The command `types`: how a type expression is written.
 
-ghost use Rattle.std.specs.Prelude.{◌≢◌, IfErr};
+ghost use Rattle.std.specs.Prelude.{◌≢◌, IfErr, OnOk};
+ghost use Rattle.std.specs.Io.KnownBytes.{Appends};
 
 use crate::failure::Failure;
 use std::io::Write;
@@ -27,7 +28,9 @@ So (u8) is the expression u8. HEX may have blanks and 0x, and - reads it from th
 
 /// Prints how a type expression is written.
 pub fn print<W: Write>(output: &mut W) -> Result<(), Failure>
-    ensures { IfErr result (λ e. e ≢ Failure.Usage) }
+    ensures printed { OnOk result (Appends (W.contents output.old) (W.contents output.new)
+        SYNTAX.now) }
+    ensures refused { IfErr result (λ e. e ≢ Failure.Usage) }
 {
     output.write_all(SYNTAX.as_bytes())?;
     Ok(())

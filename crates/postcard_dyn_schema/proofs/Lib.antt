@@ -1,0 +1,4 @@
+pub mod Phrases
+pub mod Rows
+pub mod Types
+pub mod Bounded

@@ -13,7 +13,13 @@
 //! An enum has two variants or more, or a `|` before its only one. `(T)` is `T`, and `(T,)` a tuple
 //! of one part, as in Rust.
 
-ghost use Rattle.std.specs.Prelude.{◌≤◌, IfErr};
+ghost use Rattle.std.specs.Prelude.{◌≡◌, ◌+◌, ◌≤◌, ◌++◌, ◌⊎◌, [], ◌∷◌, IfOk, IfErr, OnOk};
+ghost use Rattle.postcard_dyn_schema.specs.Text.{characters, Takes};
+ghost use Rattle.postcard_dyn_schema.specs.Meaning.{type_of};
+ghost use Rattle.postcard_dyn_schema.specs.Bounds.{ElementsHaveBytes, depth as depth_of};
+ghost use Rattle.postcard_dyn_schema.specs.Grammar.{IsType, IsPlain, IsListRest, IsTupleRest};
+ghost use Rattle.postcard_dyn_schema.specs.Grammar.{IsFieldsRest, IsMapRest, IsEnumText};
+ghost use Rattle.postcard_dyn_schema.specs.Grammar.{IsVariantText, IsContent, IsExpression};
 
 use crate::error::{ExpressionError, Problem};
 use crate::scan::{
@@ -36,7 +42,11 @@ const MAX_OPTIONS: usize = 4;
 /// of a list, an array or a map would have no bytes, since a short message could then hold any
 /// number of them, and with `TooDeep` if types nest more than 64 deep.
 pub fn parse(alloc: Global, text: &str) -> Result<Schema, ExpressionError>
-    ensures { IfErr result (λ e. 1 ≤ e.character) }
+    ensures spelled { IfOk result (λ schema. IsExpression schema text.now) }
+    ensures full { IfOk result (λ schema. ElementsHaveBytes (type_of schema)) }
+    ensures deep { IfOk result (λ schema. depth_of (type_of schema) ≤ 384) }
+    ensures place { IfErr result (λ e. (1 ≤ e.character)
+        × (e.character ≤ characters text.now + 1)) }
 {
     let mut rest = text.as_bytes();
     match read_whole(alloc, &mut rest) {
@@ -49,7 +59,9 @@ pub fn parse(alloc: Global, text: &str) -> Result<Schema, ExpressionError>
 }
 
 /// Reads a type that is the whole text.
-fn read_whole(alloc: Global, rest: &mut &[u8]) -> Result<Schema, Fault> {
+fn read_whole(alloc: Global, rest: &mut &[u8]) -> Result<Schema, Fault>
+    ensures { IfOk result (λ schema. IsExpression schema rest.old.now) }
+{
     let schema = read_type(alloc, rest, MAX_DEPTH)?;
     skip_blanks(rest);
     if !rest.is_empty() {
@@ -60,7 +72,9 @@ fn read_whole(alloc: Global, rest: &mut &[u8]) -> Result<Schema, Fault> {
 
 /// Reads a type: an enum, or another with `?` behind it or none.
 #[cycle(expression)]
-fn read_type(alloc: Global, rest: &mut &[u8], depth: usize) -> Result<Schema, Fault> {
+fn read_type(alloc: Global, rest: &mut &[u8], depth: usize) -> Result<Schema, Fault>
+    ensures { IfOk result (λ schema. Takes (IsType depth schema) rest.old.now rest.new.now) }
+{
     skip_blanks(rest);
     if depth == 0 {
         return Err(fault_at(Problem::TooDeep, rest));
@@ -77,8 +91,8 @@ fn read_type(alloc: Global, rest: &mut &[u8], depth: usize) -> Result<Schema, Fa
         }
         schema = Schema::Option(boxed(alloc, schema, rest)?);
     }
-    skip_blanks(rest);
-    if rest.starts_with(b"?") {
+    if rest.trim_ascii_start().starts_with(b"?") {
+        skip_blanks(rest);
         return Err(fault_at(Problem::TooDeep, rest));
     }
     Ok(schema)
@@ -86,7 +100,10 @@ fn read_type(alloc: Global, rest: &mut &[u8], depth: usize) -> Result<Schema, Fa
 
 /// Reads a type that begins with a bracket or a word.
 #[cycle(expression)]
-fn read_plain(alloc: Global, rest: &mut &[u8], depth: usize) -> Result<Schema, Fault> {
+fn read_plain(alloc: Global, rest: &mut &[u8], depth: usize) -> Result<Schema, Fault>
+    ensures { IfOk result (λ schema. Takes (IsPlain (IsType depth) schema)
+        rest.old.now rest.new.now) }
+{
     if take(rest, b'[') {
         return read_list(alloc, rest, depth);
     }
@@ -109,7 +126,10 @@ fn read_plain(alloc: Global, rest: &mut &[u8], depth: usize) -> Result<Schema, F
 
 /// Reads a list or an array behind its `[`.
 #[cycle(expression)]
-fn read_list(alloc: Global, rest: &mut &[u8], depth: usize) -> Result<Schema, Fault> {
+fn read_list(alloc: Global, rest: &mut &[u8], depth: usize) -> Result<Schema, Fault>
+    ensures { IfOk result (λ schema. Takes (IsListRest (IsType depth) schema)
+        rest.old.now rest.new.now) }
+{
     skip_blanks(rest);
     let start = *rest;
     let element = read_type(alloc, rest, depth)?;
@@ -128,7 +148,10 @@ fn read_list(alloc: Global, rest: &mut &[u8], depth: usize) -> Result<Schema, Fa
 
 /// Reads a tuple behind its `(`. One type with no `,` is that type.
 #[cycle(expression)]
-fn read_tuple(alloc: Global, rest: &mut &[u8], depth: usize) -> Result<Schema, Fault> {
+fn read_tuple(alloc: Global, rest: &mut &[u8], depth: usize) -> Result<Schema, Fault>
+    ensures { IfOk result (λ schema. Takes (IsTupleRest (IsType depth) schema)
+        rest.old.now rest.new.now) }
+{
     let mut parts = Vec::new(alloc);
     if take(rest, b')') {
         return Ok(Schema::Group(parts));
@@ -154,7 +177,10 @@ fn read_tuple(alloc: Global, rest: &mut &[u8], depth: usize) -> Result<Schema, F
 
 /// Reads a struct or a map behind its `{`. In a struct, `:` follows the first word.
 #[cycle(expression)]
-fn read_braces(alloc: Global, rest: &mut &[u8], depth: usize) -> Result<Schema, Fault> {
+fn read_braces(alloc: Global, rest: &mut &[u8], depth: usize) -> Result<Schema, Fault>
+    ensures { IfOk result (λ schema. Takes (IsFieldsRest (IsType depth) schema)
+        rest.old.now rest.new.now ⊎ Takes (IsMapRest (IsType depth) schema) rest.old.now rest.new.now) }
+{
     let start = *rest;
     let word = take_word(rest);
     let is_struct = !word.is_empty() && take(rest, b':');
@@ -168,7 +194,10 @@ fn read_braces(alloc: Global, rest: &mut &[u8], depth: usize) -> Result<Schema, 
 
 /// Reads the fields of a struct and the `}` behind them.
 #[cycle(expression)]
-fn read_fields(alloc: Global, rest: &mut &[u8], depth: usize) -> Result<Schema, Fault> {
+fn read_fields(alloc: Global, rest: &mut &[u8], depth: usize) -> Result<Schema, Fault>
+    ensures { IfOk result (λ schema. Takes (IsFieldsRest (IsType depth) schema)
+        rest.old.now rest.new.now) }
+{
     let mut fields = Vec::new(alloc);
     for _ in 0..rest.len() {
         skip_blanks(rest);
@@ -194,7 +223,10 @@ fn read_fields(alloc: Global, rest: &mut &[u8], depth: usize) -> Result<Schema, 
 
 /// Reads the key and the value type of a map and the `}` behind them.
 #[cycle(expression)]
-fn read_map(alloc: Global, rest: &mut &[u8], depth: usize) -> Result<Schema, Fault> {
+fn read_map(alloc: Global, rest: &mut &[u8], depth: usize) -> Result<Schema, Fault>
+    ensures { IfOk result (λ schema. Takes (IsMapRest (IsType depth) schema)
+        rest.old.now rest.new.now) }
+{
     skip_blanks(rest);
     let start = *rest;
     let mut parts = Vec::new(alloc);
@@ -214,7 +246,10 @@ fn read_map(alloc: Global, rest: &mut &[u8], depth: usize) -> Result<Schema, Fau
 
 /// Reads an enum.
 #[cycle(expression)]
-fn read_enum(alloc: Global, rest: &mut &[u8], depth: usize) -> Result<Schema, Fault> {
+fn read_enum(alloc: Global, rest: &mut &[u8], depth: usize) -> Result<Schema, Fault>
+    ensures { IfOk result (λ schema. Takes (IsEnumText (IsType depth) schema)
+        rest.old.now rest.new.now) }
+{
     let start = *rest;
     let leads = take(rest, b'|');
     let mut variants = Vec::new(alloc);
@@ -238,7 +273,10 @@ fn read_variant(
     before: &Vec<Schema>,
     rest: &mut &[u8],
     depth: usize,
-) -> Result<Schema, Fault> {
+) -> Result<Schema, Fault>
+    ensures { IfOk result (λ schema. Takes (IsVariantText (IsType depth) schema)
+        rest.old.now rest.new.now) }
+{
     skip_blanks(rest);
     let start = *rest;
     let name = take_word(rest);
@@ -246,14 +284,23 @@ fn read_variant(
         return Err(fault_at(Problem::VariantExpected, start));
     }
     check_new(before, name, start)?;
-    let content = if take(rest, b'(') {
-        read_tuple(alloc, rest, depth)?
-    } else if take(rest, b'{') {
-        read_fields(alloc, rest, depth)?
-    } else {
-        Schema::Group(Vec::new(alloc))
-    };
+    let content = read_content(alloc, rest, depth)?;
     named(alloc, name, content, start)
+}
+
+/// Reads what a variant has behind its name: a tuple, a struct or nothing.
+#[cycle(expression)]
+fn read_content(alloc: Global, rest: &mut &[u8], depth: usize) -> Result<Schema, Fault>
+    ensures { IfOk result (λ schema. Takes (IsContent (IsType depth) schema)
+        rest.old.now rest.new.now) }
+{
+    if take(rest, b'(') {
+        return read_tuple(alloc, rest, depth);
+    }
+    if take(rest, b'{') {
+        return read_fields(alloc, rest, depth);
+    }
+    Ok(Schema::Group(Vec::new(alloc)))
 }
 
 /// Refuses a name that one of the types has already.
@@ -269,7 +316,9 @@ fn check_new(before: &Vec<Schema>, name: &[u8], start: &[u8]) -> Result<(), Faul
 }
 
 /// Adds a type to the others.
-fn push(schemas: &mut Vec<Schema>, schema: Schema, rest: &[u8]) -> Result<(), Fault> {
+fn push(schemas: &mut Vec<Schema>, schema: Schema, rest: &[u8]) -> Result<(), Fault>
+    ensures { OnOk result (schemas.new.items ≡ schemas.old.items ++ schema ∷ []) }
+{
     match schemas.push(schema) {
         Ok(()) => Ok(()),
         Err(_) => Err(fault_at(Problem::OutOfMemory, rest)),

@@ -1,6 +1,14 @@
 //! Taking the parts of an expression from the front of a text.
 
-ghost use Rattle.std.specs.Prelude.{◌≤◌};
+ghost use Rattle.std.specs.Prelude.{◌≡◌, ◌+◌, ◌-◌, ◌≤◌, ◌++◌, true, false, take, length, Box, IfOk, IfErr, OnOk, OnErr, string_bytes};
+ghost use Rattle.std.specs.List.{AllPass};
+ghost use Rattle.std.specs.Str.{IsTrimAsciiStart};
+ghost use Rattle.std.specs.declared.alloc.Global.{Global};
+ghost use Rattle.std.specs.declared.string.String.{String};
+ghost use Rattle.postcard_dyn_schema.specs.declared.schema.Schema.{Schema};
+ghost use Rattle.postcard_dyn_schema.specs.declared.schema.Schema.TheVariants.{Named};
+ghost use Rattle.postcard_dyn_schema.specs.Text.{characters, AreBlank, Takes, IsSign, IsWord, IsCount};
+ghost use Rattle.postcard_dyn_schema.specs.Text.{is_of_word as is_of_word_byte};
 
 use crate::error::Problem;
 use crate::schema::Schema;
@@ -14,7 +22,10 @@ pub struct Fault {
 }
 
 /// Returns the problem as one at the front of `rest`.
-pub fn fault_at(problem: Problem, rest: &[u8]) -> Fault {
+pub fn fault_at(problem: Problem, rest: &[u8]) -> Fault
+    ensures problem { result.problem ≡ problem }
+    ensures left { result.left ≡ length rest.now }
+{
     Fault {
         problem,
         left: rest.len(),
@@ -23,21 +34,26 @@ pub fn fault_at(problem: Problem, rest: &[u8]) -> Fault {
 
 /// Returns the number, from 1, of the character at which `left` bytes of the text are left.
 pub fn character_of(text: &[u8], left: usize) -> usize
-    ensures { 1 ≤ result }
+    ensures first { 1 ≤ result }
+    ensures counted { result ≡ characters (take (length text.now - left) text.now) + 1 }
 {
     let before = &text[..text.len().saturating_sub(left)];
     before.iter().filter(|byte| **byte & 0xC0 != 0x80).count() + 1
 }
 
 /// Takes the blanks in front.
-pub fn skip_blanks(rest: &mut &[u8]) {
+pub fn skip_blanks(rest: &mut &[u8])
+    ensures { IsTrimAsciiStart rest.old.now rest.new.now }
+{
     *rest = rest.trim_ascii_start();
 }
 
-/// Takes the blanks in front and then this byte, if it is next. Returns whether it was.
-pub fn take(rest: &mut &[u8], byte: u8) -> bool {
-    skip_blanks(rest);
-    match rest.split_first() {
+/// Takes the blanks in front and this byte, if it is next, or else nothing. Returns whether it was.
+pub fn take(rest: &mut &[u8], byte: u8) -> bool
+    ensures taken { result ≡ true → Takes (IsSign byte) rest.old.now rest.new.now }
+    ensures left { result ≡ false → rest.new.now ≡ rest.old.now }
+{
+    match rest.trim_ascii_start().split_first() {
         Some((first, after)) if *first == byte => {
             *rest = after;
             true
@@ -46,35 +62,45 @@ pub fn take(rest: &mut &[u8], byte: u8) -> bool {
     }
 }
 
-/// Takes this byte as `take` does, or fails with the problem.
-pub fn expect(rest: &mut &[u8], byte: u8, problem: Problem) -> Result<(), Fault> {
+/// Takes this byte as `take` does, or fails with the problem at what is next instead.
+pub fn expect(rest: &mut &[u8], byte: u8, problem: Problem) -> Result<(), Fault>
+    ensures taken { OnOk result (Takes (IsSign byte) rest.old.now rest.new.now) }
+    ensures refused { IfErr result (λ fault. (fault.problem ≡ problem)
+        × (fault.left ≡ length rest.new.now) × IsTrimAsciiStart rest.old.now rest.new.now) }
+{
     if take(rest, byte) {
-        Ok(())
-    } else {
-        Err(fault_at(problem, rest))
+        return Ok(());
     }
+    skip_blanks(rest);
+    Err(fault_at(problem, rest))
 }
 
 /// Takes the blanks in front and then a word of letters, digits and `_`, which may be empty.
-pub fn take_word<'a>(rest: &mut &'a [u8]) -> &'a [u8] {
+pub fn take_word<'a>(rest: &mut &'a [u8]) -> &'a [u8]
+    ensures { Takes (IsWord result.now) rest.old.now rest.new.now }
+{
     skip_blanks(rest);
     let all = *rest;
-    let count = match all.iter().position(|byte| !is_of_word(*byte)) {
-        Some(count) => count,
-        None => all.len(),
-    };
+    let mut count = 0;
+    'letters: while count < all.len() && is_of_word(all[count]) {
+        count += 1;
+    }
     let (word, after) = all.split_at(count);
     *rest = after;
     word
 }
 
 /// Returns whether a byte may stand in a word.
-fn is_of_word(byte: u8) -> bool {
+fn is_of_word(byte: u8) -> bool
+    ensures { result ≡ is_of_word_byte byte }
+{
     byte.is_ascii_alphanumeric() || byte == b'_'
 }
 
 /// Takes the decimal digits of an array's count.
-pub fn take_count(rest: &mut &[u8]) -> Result<usize, Fault> {
+pub fn take_count(rest: &mut &[u8]) -> Result<usize, Fault>
+    ensures { IfOk result (λ count. Takes (IsCount count) rest.old.now rest.new.now) }
+{
     skip_blanks(rest);
     let start = *rest;
     let digits = take_word(rest);
@@ -96,7 +122,10 @@ pub fn take_count(rest: &mut &[u8]) -> Result<usize, Fault> {
 }
 
 /// Puts a type into memory of its own.
-pub fn boxed(alloc: Global, schema: Schema, rest: &[u8]) -> Result<Box<Schema>, Fault> {
+pub fn boxed(alloc: Global, schema: Schema, rest: &[u8]) -> Result<Box<Schema>, Fault>
+    ensures held { IfOk result (λ held. held.value ≡ schema) }
+    ensures refused { IfErr result (λ fault. fault.problem ≡ Problem.OutOfMemory) }
+{
     match Box::new(alloc, schema) {
         Ok(held) => Ok(held),
         Err(_) => Err(fault_at(Problem::OutOfMemory, rest)),
@@ -104,7 +133,10 @@ pub fn boxed(alloc: Global, schema: Schema, rest: &[u8]) -> Result<Box<Schema>, 
 }
 
 /// Gives a type a name.
-pub fn named(alloc: Global, name: &[u8], schema: Schema, rest: &[u8]) -> Result<Schema, Fault> {
+pub fn named(alloc: Global, name: &[u8], schema: Schema, rest: &[u8]) -> Result<Schema, Fault>
+    ensures { IfOk result (λ whole. (text : String Global) × (held : Box Schema Global)
+        × (whole ≡ Named text held) × (string_bytes text ≡ name.now) × (held.value ≡ schema)) }
+{
     let Ok(text) = str::from_utf8(name) else {
         return Err(fault_at(Problem::FieldExpected, rest));
     };

@@ -1,6 +1,8 @@
 //! Reading a value from its text.
 
-ghost use Rattle.std.specs.Prelude.{◌≡◌, ℕ, ◌<◌, [], ◌∷◌, ◌++◌, map, slice_index, IfOk, OnOk};
+ghost use Rattle.std.specs.Prelude.{◌≡◌, ℕ, ◌<◌, [], ◌∷◌, ◌++◌, map, slice_index, length};
+ghost use Rattle.std.specs.Prelude.{IfOk, IfErr, OnOk};
+ghost use Rattle.postcard_dyn_text.specs.Place.{IsPlaceIn};
 ghost use Rattle.postcard_wire.specs.Tree.{trees};
 ghost use Rattle.postcard_wire.specs.Reading.{IsOption, IsGroup, IsSeq, IsArray, IsVariant, Each};
 ghost use Rattle.postcard_dyn_schema.specs.Meaning.{type_of, types_of, reads, reads_all, reads_at};
@@ -44,7 +46,9 @@ pub enum Stop {
 
 impl Stop {
     /// Returns that the text is no value at the front of `rest`.
-    pub fn here(rest: &[u8]) -> Stop {
+    pub fn here(rest: &[u8]) -> Stop
+        ensures { result ≡ Stop.At (length rest.now) }
+    {
         Stop::At(rest.len())
     }
 }
@@ -56,7 +60,8 @@ impl Stop {
 /// Fails with `NotAValue` and the place if the text says no value of the schema, and with
 /// `OutOfMemory` if an allocation fails.
 pub fn read_text(alloc: Global, schema: &Schema, text: &str) -> Result<Value, TextError>
-    ensures { IfOk result (λ v. reads (type_of schema.now) (tree v)) }
+    ensures value { IfOk result (λ v. reads (type_of schema.now) (tree v)) }
+    ensures place { IfErr result (IsPlaceIn text.now) }
 {
     let mut rest = text.as_bytes();
     match read_whole(alloc, schema, &mut rest) {
@@ -83,10 +88,10 @@ fn read_whole(alloc: Global, schema: &Schema, rest: &mut &[u8]) -> Result<Value,
 /// Takes this byte behind blanks, or stops.
 fn expect(rest: &mut &[u8], byte: u8) -> Result<(), Stop> {
     if take(rest, byte) {
-        Ok(())
-    } else {
-        Err(Stop::here(rest))
+        return Ok(());
     }
+    skip_blanks(rest);
+    Err(Stop::here(rest))
 }
 
 /// Takes these bytes in order, each behind blanks, or stops.

@@ -1,6 +1,9 @@
 //! Printing a value with the names of its schema.
 
-ghost use Rattle.std.specs.Prelude.{◌≡◌, true};
+ghost use Rattle.std.specs.Prelude.{◌≡◌, true, false, Vec};
+ghost use Rattle.std.specs.declared.alloc.Global.{Global};
+ghost use Rattle.postcard_dyn_schema.specs.declared.schema.Schema.{Schema};
+ghost use Rattle.postcard_dyn_schema.specs.declared.schema.Schema.TheVariants.{Group};
 ghost use Rattle.postcard_dyn_schema.specs.Meaning.{type_of, group, no_types};
 
 use postcard_dyn::{Schema, Value};
@@ -179,8 +182,14 @@ pub fn is_unit(schema: &Schema) -> bool
 }
 
 /// Returns whether values of the type stand in brackets of their own behind a variant's name.
-pub fn has_brackets(schema: &Schema) -> bool {
-    matches!(schema, Schema::Group(_))
+pub fn has_brackets(schema: &Schema) -> bool
+    ensures group { result ≡ true → (parts : Vec Schema Global) × (schema.now ≡ Group parts) }
+    ensures other { result ≡ false → (parts : Vec Schema Global) → schema.now ≡ Group parts → ⊥ }
+{
+    match schema {
+        Schema::Group(_) => true,
+        _ => false,
+    }
 }
 
 /// Prints a value without parts.

@@ -1,5 +1,8 @@
--- How deep types may still nest, and the order of the functions at one depth.
-use Rattle.std.proofs.Common.{◌+◌, ◌*◌}
+-- How deep types may still nest, and the order of the functions at one depth; and what each loop has taken.
+use Rattle.std.proofs.Common.{◌+◌, ◌*◌, ◌-◌}
+use Rattle.postcard_dyn_schema.specs.Text.{Led, Takes}
+use Rattle.postcard_dyn_schema.specs.Grammar.{Separated, IsField, IsPlain, IsOptions, IsVariantText, IsType}
+use Rattle.postcard_dyn_schema.proofs.Rows.{Begun}
 use Rattle.postcard_dyn_schema.proofs.expression.+expression.Given as goal
 
 abbrev pub decreases-read_type : goal.decreases-read_type
@@ -28,3 +31,18 @@ decreases-read_enum l = 8 * l.depth + 4
 
 abbrev pub decreases-read_variant : goal.decreases-read_variant
 decreases-read_variant l = 8 * l.depth + 3
+
+abbrev pub decreases-read_content : goal.decreases-read_content
+decreases-read_content l = 8 * l.depth + 2
+
+abbrev pub invariant-read_enum-loop : goal.invariant-read_enum-loop
+invariant-read_enum-loop l = Begun (IsVariantText (IsType l.depth)) 124 l.variants.items l.initial.rest.now l.rest.now
+
+abbrev pub invariant-read_fields-loop : goal.invariant-read_fields-loop
+invariant-read_fields-loop l = Begun (IsField (IsType l.depth)) 44 l.fields.items l.initial.rest.now l.rest.now
+
+abbrev pub invariant-read_tuple-loop : goal.invariant-read_tuple-loop
+invariant-read_tuple-loop l = Takes (Separated (IsType l.depth) 44 l.parts.items) l.fn.rest.now l.rest.now
+
+abbrev pub invariant-read_type-loop : goal.invariant-read_type-loop
+invariant-read_type-loop l = Takes (Led (IsOptions l.counter (IsPlain (IsType (l.depth - 1))) l.schema)) l.fn.rest.now l.rest.now

@@ -1,0 +1,134 @@
+-- Each text of the grammar says a type whose lists have elements with bytes, and which nests at most so deep.
+use Rattle.std.proofs.Common.{◌≡◌, ℕ, zero, suc, ◌+◌, ◌*◌, ◌≤◌, true, List, [], ◌∷◌, Vec, Box, arith, rules, inl, inr}
+use Rattle.std.specs.declared.alloc.Global.{Global}
+use Rattle.std.specs.declared.string.String.{String}
+use Rattle.postcard_dyn_schema.specs.declared.schema.Schema.{Schema, the_lemmas}
+use Rattle.postcard_dyn_schema.specs.declared.schema.Schema.TheVariants.{Option, Seq, Map, Array, Group, Enum, Named}
+use Rattle.postcard_dyn_schema.specs.declared.schema.Schema.TheVariants as schemas
+use Rattle.postcard_dyn_schema.specs.declared.schema.Leaf.{Leaf}
+use Rattle.postcard_dyn_schema.specs.Meaning.{MessageType, MessageTypes, leaf, option, seq, array, group, choice, no_types, then_type, has_bytes, type_of, types_of}
+use Rattle.postcard_dyn_schema.specs.Bounds.{ElementsHaveBytes, AllElementsHaveBytes, depth, greatest_depth}
+use Rattle.postcard_dyn_schema.specs.Grammar.{Separated, IsLeaf, IsListRest, IsTupleRest, IsField, IsFieldsRest, IsMapRest, IsPlain, IsOptions, IsContent, IsVariantText, IsEnumText, IsType}
+
+-- Both at once.
+pub record Bounded (n : ℕ) (t : MessageType) : Type 0 where
+  pub full : ElementsHaveBytes t
+  pub low : depth t ≤ n
+
+pub record AllBounded (n : ℕ) (ts : MessageTypes) : Type 0 where
+  pub full : AllElementsHaveBytes ts
+  pub low : greatest_depth ts ≤ n
+
+-- The type of each kind of schema.
+type_of_leaf : (l : Leaf) → type_of (schemas.Leaf l) ≡ leaf l
+type_of_leaf l = search (rules, the_lemmas)
+
+type_of_option : (b : Box Schema Global) → type_of (Option b) ≡ option (type_of b.value)
+type_of_option b = search (rules, the_lemmas)
+
+type_of_seq : (b : Box Schema Global) → type_of (Seq b) ≡ seq (type_of b.value)
+type_of_seq b = search (rules, the_lemmas)
+
+type_of_map : (b : Box Schema Global) → type_of (Map b) ≡ seq (type_of b.value)
+type_of_map b = search (rules, the_lemmas)
+
+type_of_array : (b : Box Schema Global) (n : ℕ) → type_of (Array b n) ≡ array n (type_of b.value)
+type_of_array b n = search (rules, the_lemmas)
+
+type_of_group : (v : Vec Schema Global) → type_of (Group v) ≡ group (types_of v.items)
+type_of_group v = search (rules, the_lemmas)
+
+type_of_enum : (v : Vec Schema Global) → type_of (Enum v) ≡ choice (types_of v.items)
+type_of_enum v = search (rules, the_lemmas)
+
+type_of_named : (s : String Global) (b : Box Schema Global) → type_of (Named s b) ≡ type_of b.value
+type_of_named s b = search (rules, the_lemmas)
+
+-- A greater bound is one too.
+more : (n m : ℕ) (t : MessageType) → n ≤ m → Bounded n t → Bounded m t
+more n m t le b = record { full = b.full; low = omega (arith, le, b.low) }
+
+-- A list or a map of elements with bytes.
+bounded_seq : (n : ℕ) (t : MessageType) → has_bytes t ≡ true → Bounded n t → Bounded (n + 1) (seq t)
+bounded_seq n t full b = record { full = (full, b.full); low = omega (arith, b.low) }
+
+bounded_array : (n k : ℕ) (t : MessageType) → has_bytes t ≡ true → Bounded n t → Bounded (n + 1) (array k t)
+bounded_array n k t full b = record { full = (full, b.full); low = omega (arith, b.low) }
+
+bounded_group : (n : ℕ) (ts : MessageTypes) → AllBounded n ts → Bounded (n + 1) (group ts)
+bounded_group n ts b = record { full = b.full; low = omega (arith, b.low) }
+
+bounded_choice : (n : ℕ) (ts : MessageTypes) → AllBounded n ts → Bounded (n + 1) (choice ts)
+bounded_choice n ts b = record { full = b.full; low = omega (arith, b.low) }
+
+none : (n : ℕ) → AllBounded n no_types
+none n = record { full = tt; low = omega arith }
+
+one : (n : ℕ) (t : MessageType) (ts : MessageTypes) → Bounded n t → AllBounded n ts → AllBounded n (then_type t ts)
+one n t ts b bs = record { full = (b.full, bs.full); low = omega (arith, b.low, bs.low) }
+
+-- What each text of T says is bounded.
+abbrev Bounds : ℕ → (Schema → List ℕ → Type 0) → Type 0
+Bounds n T = (s : Schema) (t : List ℕ) → T s t → Bounded n (type_of s)
+
+row : (n : ℕ) (P : Schema → List ℕ → Type 0) (sign : ℕ) (ss : List Schema) (t : List ℕ) → Bounds n P → Separated P sign ss t → AllBounded n (types_of ss)
+row n P sign [] t each h = absurd h
+row n P sign (s ∷ []) t each h = one n (type_of s) no_types (each s t h) (none n)
+row n P sign (s ∷ u ∷ ss) t each (a, b, h, (c, d, g, rest, e), f) = one n (type_of s) (types_of (u ∷ ss)) (each s a h) (row n P sign (u ∷ ss) d each rest)
+
+of_list : (n : ℕ) (T : Schema → List ℕ → Type 0) → Bounds n T → Bounds (n + 1) (IsListRest T)
+of_list n T each s t (inl (b, is, full, (x, y, h, close, e))) = rw (is, type_of_seq b) (bounded_seq n (type_of b.value) full (each b.value x h))
+of_list n T each s t (inr (b, k, is, full, (x, y, h, rest, e))) = rw (is, type_of_array b k) (bounded_array n k (type_of b.value) full (each b.value x h))
+
+of_tuple : (n : ℕ) (T : Schema → List ℕ → Type 0) → Bounds n T → Bounds (n + 1) (IsTupleRest T)
+of_tuple n T each s t (inl (v, is, empty, close)) = rw (is, type_of_group v, empty) (bounded_group n no_types (none n))
+of_tuple n T each s t (inr (inl (x, y, h, close, e))) = more n (n + 1) (type_of s) (omega arith) (each s x h)
+of_tuple n T each s t (inr (inr (v, is, (x, y, h, end, e)))) = rw (is, type_of_group v) (bounded_group n (types_of v.items) (row n T 44 v.items x each h))
+
+of_field : (n : ℕ) (T : Schema → List ℕ → Type 0) → Bounds n T → Bounds n (IsField T)
+of_field n T each s t (name, b, is, filled, letter, (x, y, word, (u, v, colon, h, e), f)) = rw (is, type_of_named name b) (each b.value v h)
+
+of_fields : (n : ℕ) (T : Schema → List ℕ → Type 0) → Bounds n T → Bounds (n + 1) (IsFieldsRest T)
+of_fields n T each s t (v, is, (x, y, h, end, e)) = rw (is, type_of_group v) (bounded_group n (types_of v.items) (row n (IsField T) 44 v.items x (of_field n T each) h))
+
+of_map : (n : ℕ) (T : Schema → List ℕ → Type 0) → Bounds n T → Bounds (n + 2) (IsMapRest T)
+of_map n T each s t (b, v, key, value, is, entry, items, full, (x, y, h, (x2, y2, equals, (x3, y3, greater, (x4, y4, g, close, e4), e3), e2), e)) =
+    let parts : AllBounded n (types_of v.items) = rw items (one n (type_of key) (types_of (value ∷ [])) (each key x h) (one n (type_of value) no_types (each value x4 g) (none n))) in
+    let inside : Bounded (n + 1) (type_of b.value) = rw (entry, type_of_group v) (bounded_group n (types_of v.items) parts) in
+    rw (is, type_of_map b) (more (n + 1 + 1) (n + 2) (seq (type_of b.value)) (omega arith) (bounded_seq (n + 1) (type_of b.value) full inside))
+
+of_leaf : (n : ℕ) (s : Schema) (t : List ℕ) → IsLeaf s t → Bounded n (type_of s)
+of_leaf n s t (l, word, is, named, spelled) = rw (is, type_of_leaf l) record { full = tt; low = omega arith }
+
+of_plain : (n : ℕ) (T : Schema → List ℕ → Type 0) → Bounds n T → Bounds (n + 2) (IsPlain T)
+of_plain n T each s t (inl h) = of_leaf (n + 2) s t h
+of_plain n T each s t (inr (inl (x, y, sign, h, e))) = more (n + 1) (n + 2) (type_of s) (omega arith) (of_list n T each s y h)
+of_plain n T each s t (inr (inr (inl (x, y, sign, h, e)))) = more (n + 1) (n + 2) (type_of s) (omega arith) (of_tuple n T each s y h)
+of_plain n T each s t (inr (inr (inr (x, y, sign, inl h, e)))) = more (n + 1) (n + 2) (type_of s) (omega arith) (of_fields n T each s y h)
+of_plain n T each s t (inr (inr (inr (x, y, sign, inr h, e)))) = of_map n T each s y h
+
+of_options : (n k : ℕ) (P : Schema → List ℕ → Type 0) → Bounds n P → Bounds (n + k) (IsOptions k P)
+of_options n zero P each s t h = more n (n + 0) (type_of s) (omega arith) (each s t h)
+of_options n (suc k) P each s t (b, is, (x, y, h, sign, e)) =
+    let inside : Bounded (n + k) (type_of b.value) = of_options n k P each b.value x h in
+    rw (is, type_of_option b) record { full = inside.full; low = omega (arith, inside.low) }
+
+of_content : (n : ℕ) (T : Schema → List ℕ → Type 0) → Bounds n T → Bounds (n + 1) (IsContent T)
+of_content n T each s t (inl (x, y, sign, h, e)) = of_tuple n T each s y h
+of_content n T each s t (inr (inl (x, y, sign, h, e))) = of_fields n T each s y h
+of_content n T each s t (inr (inr (v, is, empty, nothing))) = rw (is, type_of_group v, empty) (bounded_group n no_types (none n))
+
+of_variant : (n : ℕ) (T : Schema → List ℕ → Type 0) → Bounds n T → Bounds (n + 1) (IsVariantText T)
+of_variant n T each s t (name, b, is, filled, letter, (x, y, word, h, e)) = rw (is, type_of_named name b) (of_content n T each b.value y h)
+
+of_enum : (n : ℕ) (T : Schema → List ℕ → Type 0) → Bounds n T → Bounds (n + 2) (IsEnumText T)
+of_enum n T each s t (v, is, (x, y, lead, h, e)) = rw (is, type_of_enum v)
+    (more (n + 1 + 1) (n + 2) (choice (types_of v.items)) (omega arith) (bounded_choice (n + 1) (types_of v.items) (row (n + 1) (IsVariantText T) 124 v.items y (of_variant n T each) h)))
+
+-- At most six levels a bracket: four options, a map and its entries.
+pub type_bounded : (d : ℕ) (s : Schema) (t : List ℕ) → IsType d s t → Bounded (6 * d) (type_of s)
+unfolding IsType
+type_bounded zero s t h = absurd h
+type_bounded (suc d) s t (x, y, blank, inl h, e) = more (6 * d + 2) (6 * suc d) (type_of s) (omega arith) (of_enum (6 * d) (IsType d) (type_bounded d) s y h)
+type_bounded (suc d) s t (x, y, blank, inr (k, few, h), e) =
+    more (6 * d + 2 + k) (6 * suc d) (type_of s) (omega (arith, few)) (of_options (6 * d + 2) k (IsPlain (IsType d)) (of_plain (6 * d) (IsType d) (type_bounded d)) s y h)

@@ -1,0 +1,15 @@
+use Rattle.std.proofs.Common.{◌≡◌, [], ◌++◌, ap, ◌∙◌, arith}
+use Rattle.std.proofs.lemmas.Grind.{common_steps}
+use Rattle.std.proofs.lemmas.List.{append-nil}
+use Rattle.postcard_dyn_schema.specs.Text.{AreBlank}
+use Rattle.postcard_dyn_schema.specs.Grammar.{IsType}
+use Rattle.postcard_dyn_schema.proofs.Phrases.{takes_two, trim_takes}
+use Rattle.postcard_dyn_schema.proofs.expression.read_whole.Goals as goal
+
+pub returns : goal.returns
+returns c =
+    let after = c.skip_blanks.new.rest.now in
+    let none : after ≡ [] = grind (arith, common_steps) in
+    let all = takes_two (IsType 64 c.in_ok-schema.schema) AreBlank c.args.rest.now.now c.read_type.new.rest.now after
+    c.in_ok-schema.ensures (trim_takes c.read_type.new.rest.now after c.skip_blanks.ensures) in
+    (all.1.0, all.1.1, all.1.2, all.1.3, all.2 ∙ ap (λ t. all.0 ++ t) none ∙ append-nil all.0 ∙ all.1.4)

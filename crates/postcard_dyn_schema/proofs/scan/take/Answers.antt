@@ -1,0 +1,11 @@
+use Rattle.std.proofs.Common.{◌≡◌, ◌∷◌, arith}
+use Rattle.std.proofs.lemmas.Grind.{common_steps}
+use Rattle.postcard_dyn_schema.proofs.Phrases.{sign_takes}
+use Rattle.postcard_dyn_schema.proofs.scan.take.Goals as goal
+
+pub returns-in-Some-clause-taken : goal.returns-in-Some-clause-taken
+returns-in-Some-clause-taken c _ =
+    let s = c.trim_ascii_start.result.now in
+    let whole : s ≡ c.in-Some.first.now ∷ c.in-Some.after.now = c.in-Some.ensures.cases.0 in
+    let same : c.in-Some.first.now ≡ c.args.byte = grind (arith, common_steps) in
+    sign_takes c.args.byte c.args.rest.now.now s c.in-Some.after.now c.trim_ascii_start.ensures.value (rw same at whole)

@@ -1,0 +1,7 @@
+-- The digits so far say the count.
+use Rattle.std.proofs.Common.{◌≡◌, drop}
+use Rattle.postcard_dyn_schema.specs.Text.{decimal}
+use Rattle.postcard_dyn_schema.proofs.scan.take_count.Given as goal
+
+abbrev pub invariant-loop-digit : goal.invariant-loop-digit
+invariant-loop-digit l = decimal l.count (drop l.digit-index l.digits) ≡ decimal 0 l.digits
