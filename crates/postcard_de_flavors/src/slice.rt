@@ -166,4 +166,19 @@ mod tests {
         assert_eq!(rt; source.finalize()?.len(), 0);
         Ok(())
     }
+
+    #[test]
+    fn gives_no_bytes_at_the_end(rt: HostRuntime) -> std::result::Result<(), Fail> {
+        for bytes in [[].as_slice(), [7].as_slice()] {
+            let mut source = Slice::new(bytes);
+            assert_eq!(rt; source.try_take_n(bytes.len())?, bytes);
+            assert_eq!(rt; source.try_take_n(0)?.len(), 0);
+            assert_eq!(rt; source.try_take_n_temp(0)?.len(), 0);
+            assert_eq!(rt; source.at_hand().len(), 0);
+            assert_eq!(rt; source.size_hint(), Some(0));
+            assert_eq!(rt; source.pop(), Err(Error::DeserializeUnexpectedEnd));
+            assert_eq!(rt; source.finalize()?.len(), 0);
+        }
+        Ok(())
+    }
 }

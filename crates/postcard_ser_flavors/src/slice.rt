@@ -204,4 +204,16 @@ mod tests {
         assert_eq!(rt; count, 3);
         assert_eq!(rt; &*all, [0x03, 0x48, 0x69].as_slice());
     }
+
+    #[test]
+    fn takes_nothing_into_no_bytes(rt: HostRuntime) -> std::result::Result<(), Fail> {
+        let mut none = [0; 0];
+        let mut slice = Slice::new(&mut none);
+        assert_eq!(rt; slice.try_push(0x00), Err(Error::SerializeBufferFull));
+        assert_eq!(rt; slice.try_varint(0), Err(Error::SerializeBufferFull));
+        assert_eq!(rt; slice.try_extend(b"H"), Err(Error::SerializeBufferFull));
+        assert_eq!(rt; slice.try_extend(b""), Ok(()));
+        assert_eq!(rt; slice.finalize()?.len(), 0);
+        Ok(())
+    }
 }
