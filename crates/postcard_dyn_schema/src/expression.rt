@@ -178,8 +178,9 @@ fn read_tuple(alloc: Global, rest: &mut &[u8], depth: usize) -> Result<Schema, F
 /// Reads a struct or a map behind its `{`. In a struct, `:` follows the first word.
 #[cycle(expression)]
 fn read_braces(alloc: Global, rest: &mut &[u8], depth: usize) -> Result<Schema, Fault>
-    ensures { IfOk result (λ schema. Takes (IsFieldsRest (IsType depth) schema)
-        rest.old.now rest.new.now ⊎ Takes (IsMapRest (IsType depth) schema) rest.old.now rest.new.now) }
+    ensures { IfOk result (λ schema.
+        Takes (IsFieldsRest (IsType depth) schema) rest.old.now rest.new.now
+        ⊎ Takes (IsMapRest (IsType depth) schema) rest.old.now rest.new.now) }
 {
     let start = *rest;
     let word = take_word(rest);

@@ -1,13 +1,13 @@
 //! Taking the parts of an expression from the front of a text.
 
-ghost use Rattle.std.specs.Prelude.{◌≡◌, ◌+◌, ◌-◌, ◌≤◌, ◌++◌, true, false, take, length, Box, IfOk, IfErr, OnOk, OnErr, string_bytes};
-ghost use Rattle.std.specs.List.{AllPass};
+ghost use Rattle.std.specs.Prelude.{◌≡◌, ◌+◌, ◌-◌, ◌≤◌, true, false, take, length, string_bytes};
+ghost use Rattle.std.specs.Prelude.{Box, IfOk, IfErr, OnOk};
 ghost use Rattle.std.specs.Str.{IsTrimAsciiStart};
 ghost use Rattle.std.specs.declared.alloc.Global.{Global};
 ghost use Rattle.std.specs.declared.string.String.{String};
 ghost use Rattle.postcard_dyn_schema.specs.declared.schema.Schema.{Schema};
 ghost use Rattle.postcard_dyn_schema.specs.declared.schema.Schema.TheVariants.{Named};
-ghost use Rattle.postcard_dyn_schema.specs.Text.{characters, AreBlank, Takes, IsSign, IsWord, IsCount};
+ghost use Rattle.postcard_dyn_schema.specs.Text.{characters, Takes, IsSign, IsWord, IsCount};
 ghost use Rattle.postcard_dyn_schema.specs.Text.{is_of_word as is_of_word_byte};
 
 use crate::error::Problem;

@@ -1,5 +1,5 @@
 -- Where a text is refused.
-use Rattle.std.specs.Prelude.{◌≡◌, ℕ, ◌+◌, ◌≤◌, List}
+use Rattle.std.specs.Prelude.{ℕ, ◌+◌, ◌≤◌, List}
 use Rattle.postcard_dyn_schema.specs.Text.{characters}
 use Rattle.postcard_dyn_text.specs.declared.read.TextError.{TextError}
 use Rattle.postcard_dyn_text.specs.declared.read.TextError.TheVariants.{NotAValue, OutOfMemory}
