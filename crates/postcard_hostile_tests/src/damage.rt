@@ -162,8 +162,8 @@ pub(crate) fn frames_are_answered<'a, T: Deserialize<'a>>(
     }
 }
 
-/// Once the changed frames of these bytes were read: from its first zero on each buffer is as it was
-/// before.
+/// Once the changed frames of these bytes were read: from its first zero on each buffer is as it
+/// was before.
 pub(crate) fn frames_are_kept(
     rt: &(impl Abort + AllocGlobal),
     bytes: &[u8],

@@ -1,5 +1,5 @@
-//! Readers and writers that fail at each of their calls, with interruptions in between, streams that
-//! are cut in each way, and scratch buffers of each length.
+//! Readers and writers that fail at each of their calls, with interruptions in between, streams
+//! that are cut in each way, and scratch buffers of each length.
 
 use postcard::accumulator::CobsAccumulator;
 use postcard::de_flavors::Plain;
@@ -256,8 +256,8 @@ fn read_through(
     Ok(())
 }
 
-/// Reads the stream in pieces of these lengths, where every other read is interrupted: an interrupted
-/// read is one that failed, and the next call goes on.
+/// Reads the stream in pieces of these lengths, where every other read is interrupted: such a read
+/// is one that failed, and the next call goes on.
 fn read_interrupted(rt: &(impl Abort + AllocGlobal), lengths: &[usize]) -> Result<(), Fail> {
     let both = [Answer::OverFull, Answer::Success(7u8)];
     let mut reader = Plain::new(InterruptedReader {
