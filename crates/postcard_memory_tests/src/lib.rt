@@ -8,6 +8,8 @@
 #[cfg(test)]
 mod counts;
 #[cfg(test)]
+mod lengths;
+#[cfg(test)]
 mod reading;
 #[cfg(test)]
 mod streams;

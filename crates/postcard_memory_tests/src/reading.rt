@@ -43,8 +43,8 @@ fn from_reader<T: DeserializeOwned>(rt: &impl AllocGlobal, bytes: &[u8]) -> Resu
     Ok(value)
 }
 
-/// The bytes are read as a value that has these bytes, or memory is refused and they are read so the
-/// next time.
+/// The bytes are read as a value that has these bytes, or memory is refused and they are read so
+/// the next time.
 fn is_read<T: DeserializeOwned + Serialize>(
     rt: &(impl Abort + AllocGlobal + Print),
     bytes: &[u8],

@@ -55,8 +55,8 @@ fn refused_values_of_frames(rt: HostRuntime) -> Result<(), Fail> {
     is_fed::<BTreeMap<u8, Box<u8>>>(&rt, &[6, 2, 1, 5, 2, 6, 0], &[2, 1, 5, 2, 6])
 }
 
-/// An oversized frame for four bytes, and one that has room: where there is no memory for an answer,
-/// all bytes of the chunk are left for the next call, and it gives both.
+/// An oversized frame for four bytes, and one that has room: where there is no memory for an
+/// answer, all bytes of the chunk are left for the next call, and it gives both.
 #[test]
 fn refused_first_answer(rt: HostRuntime) -> Result<(), Fail> {
     let stream = [5, 1, 1, 1, 1, 0, 2, 7, 0];
