@@ -1,0 +1,91 @@
+//! Values of the types that grow, read from a slice, a reader and a frame.
+
+use postcard::{DeserializeOwned, Error, Owned, Result, Serialize, from_bytes, from_io, to_slice};
+use std::alloc::AllocGlobal;
+use std::collections::BTreeMap;
+use std::process::Abort;
+use std::rc::Rc;
+use std::test::Fail;
+
+/// The value has these bytes.
+fn assert_written<T: Serialize>(rt: &impl Abort, value: &T, bytes: &[u8]) {
+    let mut buffer = [0; 64];
+    match to_slice(value, &mut buffer) {
+        Ok(front) => assert_eq!(rt; &*front, bytes),
+        Err(e) => panic!(rt; "{e}"),
+    }
+}
+
+/// The answer is a value of these bytes. Returns whether memory was refused in its place.
+fn is_refused<T: Serialize + Drop>(rt: &impl Abort, answer: Result<T>, bytes: &[u8]) -> bool {
+    match answer {
+        Ok(value) => {
+            assert_written(rt, &value, bytes);
+            false
+        }
+        Err(e) => {
+            assert_eq!(rt; e, Error::OutOfMemory, "{bytes:?}");
+            true
+        }
+    }
+}
+
+/// Reads a value from a slice.
+fn from_slice<T: DeserializeOwned>(rt: &impl AllocGlobal, bytes: &[u8]) -> Result<T> {
+    let Owned(value) = from_bytes::<Owned<T>>(rt.alloc(), bytes)?;
+    Ok(value)
+}
+
+/// Reads a value from a reader.
+fn from_reader<T: DeserializeOwned>(rt: &impl AllocGlobal, bytes: &[u8]) -> Result<T> {
+    let mut scratch = [0; 16];
+    let (Owned(value), _) = from_io::<Owned<T>, _>(rt.alloc(), (bytes, &mut scratch))?;
+    Ok(value)
+}
+
+/// The bytes are read as a value that has these bytes, or memory is refused and they are read so
+/// the next time.
+fn is_read<T: DeserializeOwned + Serialize>(
+    rt: &(impl Abort + AllocGlobal + Print),
+    bytes: &[u8],
+) -> std::result::Result<(), Fail> {
+    let mut refused = false;
+    if is_refused(rt, from_slice::<T>(rt, bytes), bytes) {
+        refused = true;
+        assert!(rt; !is_refused(rt, from_slice::<T>(rt, bytes), bytes));
+    }
+    if is_refused(rt, from_reader::<T>(rt, bytes), bytes) {
+        refused = true;
+        assert!(rt; !is_refused(rt, from_reader::<T>(rt, bytes), bytes));
+    }
+    if refused {
+        println!(rt; "refused")?;
+    }
+    Ok(())
+}
+
+#[test]
+fn refused_texts(rt: HostRuntime) -> std::result::Result<(), Fail> {
+    is_read::<String>(&rt, b"\x10hello, postcard!")?;
+    is_read::<Vec<String>>(&rt, b"\x02\x01a\x02bc")
+}
+
+#[test]
+fn refused_lists(rt: HostRuntime) -> std::result::Result<(), Fail> {
+    is_read::<Vec<u8>>(&rt, &[8, 1, 2, 3, 4, 5, 6, 7, 8])?;
+    is_read::<Vec<u16>>(&rt, &[2, 0xAC, 0x02, 7])?;
+    is_read::<Vec<Vec<u8>>>(&rt, &[2, 1, 7, 2, 8, 9])
+}
+
+#[test]
+fn refused_maps(rt: HostRuntime) -> std::result::Result<(), Fail> {
+    is_read::<BTreeMap<u8, u8>>(&rt, &[4, 1, 5, 2, 6, 3, 7, 4, 8])?;
+    is_read::<BTreeMap<u8, Vec<u8>>>(&rt, &[2, 1, 1, 5, 2, 2, 6, 7])
+}
+
+#[test]
+fn refused_pointers(rt: HostRuntime) -> std::result::Result<(), Fail> {
+    is_read::<Box<u8>>(&rt, &[7])?;
+    is_read::<Rc<u8>>(&rt, &[7])?;
+    is_read::<(Option<Box<u8>>, Box<(u8, Rc<u16>)>)>(&rt, &[1, 7, 8, 0xAC, 0x02])
+}
