@@ -7,10 +7,10 @@ ghost use Rattle.postcard_ser.specs.Writing.{AnswersRefusal};
 ghost use Rattle.postcard.specs.Buffers.{Fills, Begins};
 ghost use Rattle.postcard.specs.Done.{IsDone, IsCut};
 
+use postcard_memory::front;
 use postcard_ser::{Serialize, Serializer};
 use postcard_ser_flavors::Slice;
 use postcard_wire::{Error, Result};
-use std::slice;
 
 /// Encodes a value into the front of a buffer, and lends that front: the shortest spelling of the value's tree.
 ///
@@ -103,10 +103,8 @@ fn cut<'a>(done: Done<'a>) -> Result<&'a mut [u8]>
         failed,
         error,
     } = done;
-    // SAFETY: `all` is not used again, and `count` is at most its length.
-    let front = unsafe { slice::from_raw_parts_mut(all.as_mut_ptr(), count) };
     if failed {
         return Err(error);
     }
-    Ok(front)
+    Ok(front(all, count))
 }

@@ -4,3 +4,4 @@ pub mod BytesParts
 pub mod Lending
 pub mod Sharing
 pub mod Reading
+pub mod Prefix

@@ -2,11 +2,14 @@
 //!
 //! The other crates see the bytes as lists, by the contracts here. [`Memory`] has bytes that are written and
 //! [`Bytes`] bytes that are read. Both hold one pointer and no slice: the caller keeps the length, and
-//! [`Bytes`] moves its pointer on. No pointer becomes a number, and none is compared.
+//! [`Bytes`] moves its pointer on. [`front`] lends the front of a slice for as long as the whole was lent.
+//! No pointer becomes a number, and none is compared.
 #![tactic(auto)]
 
 pub mod bytes;
+pub mod cut;
 pub mod memory;
 
 pub use bytes::Bytes;
+pub use cut::front;
 pub use memory::Memory;

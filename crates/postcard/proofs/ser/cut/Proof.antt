@@ -1,6 +1,6 @@
--- `cut` lends the front, or gives the whole up with the refusal. Assumes `Logic`.
-use Rattle.postcard.proofs.Steps.{ℕ, MutBor, List, [], ◌∷◌, ◌≡◌, sym, refl, lit<, ‵, raw, ◌⊛◌, some, later, await, pick, tables, ftrue, flft, named, Val, ◌$◌, ◌∵◌, !, qed, move, keep, split, drop, join, fsplit, fsplit3, fjoin, fpick, rewrite, done, enter, alloc_all, pass_all, free_all, look_at, look_in_at, get, get_in, sets, sets_last, fld, hop, from, stop, agg, lit, addr, and_then, no_more, of_opd, first, blocks, branches, skips, exec, at_ret, returns, returns_within, sub, whole, env, plain, no, u8, heard, peeks, shows, use1, use2, Stays, walk_of, stay_dropped, suffices, nothing, MutSlice, slice_val, Room, fact, proved}
-use Rattle.std.proofs.Common.{◌≤◌, ◌<◌, ◌*◌, ◌^◌, ◌++◌, length, take, drop as drop_list, subst, arith, Ok, Err}
+-- `cut` lends the front by a call, or gives the whole up with the refusal. Assumes `Logic`.
+use Rattle.postcard.proofs.Steps.{ℕ, MutBor, List, [], ◌∷◌, ◌≡◌, ap, refl, lit<, ‵, raw, ◌⊛◌, some, later, await, pick, tables, ftrue, flft, named, Val, ◌$◌, ◌∵◌, !, qed, move, keep, split, drop, join, fsplit, fsplit3, fjoin, fpick, rewrite, done, enter, alloc_all, pass_all, free_all, look_at, look_in_at, get, get_in, sets, fld, hop, from, stop, agg, lit, addr, and_then, no_more, of_opd, first, branches, skips, exec, at_ret, returns, returns_within, sub, whole, env, plain, no, u8, heard, peeks, shows, use1, use2, Stays, walk_of, stay_dropped, suffices, nothing, MutSlice, slice_val, mut_slice_vals, fact, proved, id⊢, w64, vint, owned, uint_Makes, lands_as, only, calls_at, lasts, triple_of, framed}
+use Rattle.std.proofs.Common.{◌≤◌, ◌<◌, ◌*◌, ◌^◌, ◌++◌, length, take, drop as drop_list, subst, Ok, Err}
 use Rattle.std.proofs.raw_atomic.Walks.{leaves}
 use Rattle.std.proofs.VecSteps.Shapes.{after}
 use Rattle.std.proofs.ResultValues.{ok_of, err_of, and_tt}
@@ -12,20 +12,20 @@ use Rattle.postcard_wire.specs.contracts.error.Error.{the_row as err_row}
 use Rattle.postcard_wire.proofs.error.Error.TheLaws.{lowered as err_lowered, lowers as err_lowers, the_row_laws as err_laws}
 use Rattle.postcard.proofs.Fronts.{is_false}
 use Rattle.std.proofs.Flags.{never_true}
-use lib.ListN.{take-append-drop}
-use base.Fml.{GName, fobs, fres}
+use base.Fml.{fobs, fres}
 use base.Stored.{coded_list}
 use contract.Monad.{fact_i}
 use base.Logic.{emp}
 use mir.Val.{of_list}
-use types.Kit.{use0, split3}
+use types.Kit.{use0}
 use types.Match.{live}
 use denote.Array.{Array}
+use denote.Builtin.{usize}
+use denote.Triple.Clauses.{Lasts}
 use denote.Follow.{follows, follows_by}
 use denote.FollowSlice.{heres_id}
 use denote.RattleType.{RattleType, owns}
 use denote.Signature.{named_lft, types_at}
-use borrow.Table.Elements.{length-take-le}
 use Rattle.std.specs.contracts.result.Result as RS
 use Rattle.postcard.specs.declared.ser.Done.{Done}
 use Rattle.postcard.specs.contracts.ser.Done.{the_row}
@@ -34,7 +34,8 @@ use Rattle.postcard.specs.contracts.ser.cut as f
 use Rattle.postcard.proofs.ser.cut.Statement.{statement}
 use Rattle.postcard.proofs.ser.cut.Code as code
 use Rattle.postcard.specs.Done.{IsCut}
-use Rattle.postcard.proofs.Prefix.{lends_front}
+use Rattle.postcard_memory.specs.contracts.cut.front as g
+use Rattle.postcard_memory.proofs.cut.front.Met as g-thm
 
 abbrev stayed : Stays f.ended.signature.params f.ended.kept
 stayed = (stay_dropped (plain (λ κs. the_row (named_lft 1 0 tt κs))) no, tt)
@@ -49,7 +50,6 @@ cut_spec 𝓤 𝓛 𝓜 𝓡 wired =
     let κ = κs.0 in let q = qs.0 in let d : Done = a.0 in let b = d.all.ref_ptr.0 in let o = d.all.ref_ptr.1 in let γ = d.all.ghost_name in
     let xs : List ℕ = d.all.now in let n : ℕ = d.count in let e : Error = d.error in let ev : Val = err_lowered e in let Er : RattleType = err_row in
     let Own : RattleType = MutSlice (named 0) κ u8 in let Out : RattleType = RS.the_row Own Er in
-    let at_front : GName → MutBor (List ℕ) = λ δ. record { ref_ptr = (b, o); ghost_name = δ; now = take n xs } in
     let y : W.Ghost = ((κs, qs, bounds, a, (lowered d ∷ [], tt)), tt) in
     qed 𝓛 (((‵ (flft κ q) ⊛ ‵ ftrue) ⊛ ‵ (owns (types_at f.ended.signature.params κs) a y.0.4)) ∷ raw (fact 𝓤 (n ≤ length xs)) ∷ []) ∵
     move ! (1 ∷ []) $ heard ! _ (λ asked. split ! $ split ! $ move ! (2 ∷ []) $ fsplit ! $ keep ! (0 ∷ 2 ∷ []) $
@@ -66,11 +66,6 @@ cut_spec 𝓤 𝓛 𝓜 𝓡 wired =
     sets ! (of_opd ! (get_in ! (fld ! refl (stop !)) (sub ! 1 refl (whole !)))) refl (tt, record { fits = fits }) $
     sets ! (of_opd ! (get_in ! (fld ! refl (stop !)) (sub ! 2 refl (whole !)))) refl (tt, tt) $
     sets ! (of_opd ! (get_in ! (fld ! refl (stop !)) (sub ! 3 refl (whole !)))) refl ok $
-    first ! $ blocks ! $
-    sets ! (addr ! (from ! (fld ! refl (hop ! (look_in_at ! 2 (sub ! 0 refl (whole !))) (stop !))))) refl (tt, tt) $
-    sets_last ! (agg ! (and_then ! (get ! refl) (and_then ! (get ! refl) (no_more !)))) refl (tt, (tt, (record { fits = fits }, tt))) $
-    exec ! 𝓣.C 𝓣.Λ (env (code.function).locals l) (after 5 (code.function).body) (at_ret (env (code.function).locals l) (W.post y)) $
-    sets ! (of_opd ! (get ! refl)) refl (tt, (tt, (record { fits = fits }, tt))) $
     sets ! (of_opd ! (get ! refl)) refl (tt, tt) $
     first ! $ branches ! (get ! refl)
     (λ yes'. sets ! (agg ! (and_then ! (lit ! tt) (and_then ! (get ! refl) (no_more !)))) refl (and_tt _ ok.0, (record { fits = lit< tt }, (ok.1, tt))) $
@@ -81,19 +76,32 @@ cut_spec 𝓤 𝓛 𝓜 𝓡 wired =
     use1 𝓛 (‵ (Out.own_val (Err e) (live 1 (of_list (ev ∷ [])) ∷ []))) (err_of 𝓛 Own Er e ev) $
     let r : Out.Denot = Err e in
     suffices ! _ (leaves 𝓛 f.ended stayed c y (live 1 (of_list (ev ∷ []))) r ((tt, tt), tt) (tt, tt)) $ use0 𝓛 (raw (fact 𝓤 (IsCut d r))) (fact_i 𝓤 _ (emp 𝓤) (record { front = tt; sorts = ((λ t. never_true t), λ z. absurd (subst T z yes')); error = refl })) $ nothing ! $ move ! (4 ∷ 0 ∷ []) $ join ! $ nothing ! $ nothing ! $ fjoin ! $ move ! (1 ∷ 0 ∷ 3 ∷ 4 ∷ 2 ∷ []) $ done !)
-    (λ no'. skips ! $ exec ! 𝓣.C 𝓣.Λ (env (code.function).locals l) (after 8 (code.function).body) (at_ret (env (code.function).locals l) (W.post y)) $
-    sets ! (addr ! (from ! (fld ! refl (hop ! (look_in_at ! 6 (sub ! 0 refl (whole !))) (stop !))))) refl (tt, tt) $
-    sets ! (agg ! (and_then ! (get ! refl) (and_then ! (get_in ! (fld ! refl (stop !)) (sub ! 1 refl (whole !))) (no_more !)))) refl (tt, (tt, (record { fits = fits }, tt))) $
-    sets ! (agg ! (and_then ! (lit ! tt) (and_then ! (get ! refl) (no_more !)))) refl (tt, (record { fits = lit< tt }, ((tt, (record { fits = fits }, tt)), tt))) $
+    (λ no'. skips ! $ exec ! 𝓣.C 𝓣.Λ (env (code.function).locals l) (after 6 (code.function).body) (at_ret (env (code.function).locals l) (W.post y)) $
+    sets ! (addr ! (from ! (fld ! refl (hop ! (look_in_at ! 2 (sub ! 0 refl (whole !))) (stop !))))) refl (tt, tt) $
+    sets ! (agg ! (and_then ! (get ! refl) (and_then ! (get_in ! (fld ! refl (stop !)) (sub ! 1 refl (whole !))) (no_more !)))) refl (tt, (tt, (record { fits = long }, tt))) $
     move ! (2 ∷ []) $ drop ! $
-    let front : List ℕ = take n xs in let back : List ℕ = drop_list n xs in let cut : length front ≡ n = length-take-le n xs asked in
-    let room : Room u8 (length front) = (omega arith, omega arith) in
-    rewrite ! 0 (λ (l : List ℕ). ‵ (Own.own_val (record { ref_ptr = (b, o); ghost_name = γ; now = l }) vss.0)) (sym (take-append-drop n xs)) refl $
-    use2 𝓛 (later (some (λ (δ : GName). ‵ (Own.own_val (at_front δ) (slice_val (b, o) (length front) ∷ [])) ⊛ ‵ (flft κ q) ⊛ ‵ (follows (Array u8 0) (Array u8 0) γ δ (λ w. w ++ back)))))
-    (lends_front 𝓛 (named 0) κ q b o γ front back room vss.0) $ await ! tt $ pick ! (λ δ. split3 ! $
+    -- [the slice; the token]
+    peeks ! Own _ (shows 𝓛 Own) d.all vss.0 (λ isS. rewrite ! 0 (λ (vs : List Val). ‵ (Own.own_val d.all vs)) isS.0.0 refl $
+    let G = triple_of 𝓛 g.signature (g.spec 𝓛 𝓜.mem 𝓡.returns) in
+    let z : G.Ghost = (((κ, tt), (q, tt), tt, (d.all, (n, tt)), (mut_slice_vals d.all, (vint w64 n ∷ [], tt))), tt) in
+    nothing ! $ owned ! usize _ (uint_Makes 𝓛 w64) n _ (refl, fits) $ fjoin ! $ move ! (1 ∷ 0 ∷ []) $ fjoin ! $
+    nothing ! $ move ! (2 ∷ 0 ∷ []) $ join ! $ join ! $
+    use0 𝓛 (raw (fact 𝓤 (n ≤ length xs))) (fact_i 𝓤 _ (emp 𝓤) asked) $ move ! (1 ∷ 0 ∷ []) $ use2 𝓛 (raw (G.pre z)) (id⊢ 𝓤 _) $
+    calls_at ! (framed 𝓤 𝓛.H 𝓜 𝓣) G (g-thm.met 𝓤 𝓛 𝓜 𝓡 (code.calls-postcard_memory::cut::front 𝓡.env wired)) z (and_then ! (get ! refl) (and_then ! (get ! refl) (no_more !))) (λ v.
+    let back : List ℕ = drop_list n xs in
+    use1 𝓛 (later (some (λ (r : MutBor (List ℕ)). ((‵ (flft κ q) ⊛ ‵ ftrue) ⊛ ‵ (Own.own_val r (v ∷ []))) ⊛
+    some (λ (ws : Lasts g.ended (κ, tt) (d.all, (n, tt))). ‵ (lasts g.ended (κ, tt) (d.all, (n, tt)) ws) ⊛ ‵ (follows (Array u8 0) (Array u8 0) γ r.ghost_name (λ w. w ++ back)) ⊛
+    raw (fact 𝓤 (r.now ≡ take n xs)))))) (id⊢ 𝓤 _) $
+    await ! tt $ pick ! (λ r. split ! $ split ! $ move ! (2 ∷ []) $ pick ! (λ ws. split ! $ drop ! $ split ! $ move ! (1 ∷ []) $ heard ! _ (λ gave.
+    -- [what the whole follows; the tokens; the front]
+    move ! (2 ∷ []) $ peeks ! Own _ (shows 𝓛 Own) r (v ∷ []) (λ isR.
+    let fits' : length r.now < 2 ^ 64 = isR.0.1.0 in let w : Val = slice_val r.ref_ptr (length r.now) in
+    lands_as ! (ap only isR.0.0) refl (tt, (tt, (record { fits = fits' }, tt))) $
+    rewrite ! 0 (λ (vs : List Val). ‵ (Own.own_val r vs)) isR.0.0 refl $
+    sets ! (agg ! (and_then ! (lit ! tt) (and_then ! (get ! refl) (no_more !)))) refl (tt, (record { fits = lit< tt }, ((tt, (record { fits = fits' }, tt)), tt))) $
     returns ! (look_at ! 0 refl) $ free_all ! refl $
-    rewrite ! 0 (λ (k : ℕ). ‵ (Own.own_val (at_front δ) (slice_val (b, o) k ∷ []))) cut refl $
-    let v : Val = slice_val (b, o) n in let r : Out.Denot = Ok (at_front δ) in
-    use1 𝓛 (‵ (Out.own_val r (live 0 (of_list (v ∷ [])) ∷ []))) (ok_of 𝓛 Own Er (at_front δ) v) $
-    use0 𝓛 (raw (fact 𝓤 (IsCut d r))) (fact_i 𝓤 _ (emp 𝓤) (record { front = refl; sorts = ((λ _. is_false d.failed no'), λ _. refl); error = tt })) $
-    suffices ! _ (leaves 𝓛 f.ended stayed c y (live 0 (of_list (v ∷ []))) r ((tt, tt), tt) (tt, tt)) $ nothing ! $ move ! (3 ∷ 0 ∷ []) $ join ! $ nothing ! $ nothing ! $ fjoin ! $ move ! (1 ∷ 0 ∷ 3 ∷ 4 ∷ 2 ∷ []) $ done !)))))))
+    let out : Out.Denot = Ok r in
+    use1 𝓛 (‵ (Out.own_val out (live 0 (of_list (w ∷ [])) ∷ []))) (ok_of 𝓛 Own Er r w) $
+    use0 𝓛 (raw (fact 𝓤 (IsCut d out))) (fact_i 𝓤 _ (emp 𝓤) (record { front = gave; sorts = ((λ _. is_false d.failed no'), λ _. refl); error = tt })) $
+    -- [what is shown; the result; what the whole follows; the tokens]
+    suffices ! _ (leaves 𝓛 f.ended stayed c y (live 0 (of_list (w ∷ []))) out ((tt, tt), tt) (tt, tt)) $ nothing ! $ nothing ! $ fjoin ! $ move ! (4 ∷ 0 ∷ 2 ∷ 3 ∷ 1 ∷ []) $ done !))))))))))))
