@@ -7,6 +7,7 @@
 //! - [`percent`], [`interval`]: types that say their shape themselves. One refuses values that are
 //!   read, the other values that are written.
 //! - [`chain`]: a recursive type, written to a depth.
+//! - [`tally`]: a list of lists of elements without bytes, with a capacity.
 //! - [`store`]: a struct and an enum that have a greatest size, and a store of that size.
 //! - [`flavor`], [`trailer`]: writing flavors. [`source`]: a reading source.
 //! - [`theorems`]: what a caller proves of its own functions.
@@ -23,6 +24,7 @@ pub mod reading;
 pub mod source;
 pub mod station;
 pub mod store;
+pub mod tally;
 #[cfg(test)]
 mod tests;
 pub mod theorems;

@@ -11,9 +11,10 @@ use crate::reading::Reading;
 use crate::source::Counted;
 use crate::station::{Position, Station};
 use crate::store::{Mode, SETTINGS_SIZE, Settings, Store, settings_size};
+use crate::tally::Tally;
 use crate::theorems::{reading_comes_back, station_comes_back, u32_fits_five_bytes};
 use crate::trailer::Trailed;
-use arrayvec::ArrayString;
+use arrayvec::{ArrayString, ArrayVec};
 use postcard::ser_flavors::{AllocVec, HVec, Size};
 use postcard::{
     Deserialize, DeserializeOwned, Error, Owned, Result, Serialize, from_bytes, from_io,
@@ -265,4 +266,36 @@ fn a_chain_to_a_depth(rt: HostRuntime) -> std::result::Result<(), Fail> {
         assert_eq!(rt; from_bytes::<Chain>(rt.alloc(), bytes), Err(error));
     }
     Ok(())
+}
+
+/// A row of strokes.
+fn strokes(count: usize) -> ArrayVec<(), 5> {
+    let mut row = ArrayVec::new();
+    for _ in 0..count {
+        let _ = row.try_push(());
+    }
+    row
+}
+
+#[test]
+fn strokes_up_to_the_capacity(rt: HostRuntime) {
+    let mut tally = Tally {
+        rows: ArrayVec::new(),
+    };
+    for count in [5, 0, 2] {
+        assert!(rt; tally.rows.try_push(strokes(count)).is_ok());
+    }
+    is_owned(&rt, tally, &[3, 5, 0, 2]);
+    let greatest = [0xFF, 0xFF, 0xFF, 0xFF, 0xFF, 0xFF, 0xFF, 0xFF, 0xFF, 0x01];
+    let mut row = [2; 12];
+    row[2..].copy_from_slice(&greatest);
+    let mut rows = [5; 20];
+    rows[..10].copy_from_slice(&greatest);
+    for bytes in [[1, 6].as_slice(), &row, &rows] {
+        assert_eq!(rt;
+            from_bytes::<Tally>(rt.alloc(), bytes),
+            Err(Error::SerdeDeCustom),
+            "{bytes:?}"
+        );
+    }
 }
