@@ -32,7 +32,7 @@ pub enum Failure {
 }
 
 impl Failure {
-    /// The exit status that answers this failure: 1 to 3.
+    /// The exit status of this failure: 1 to 3.
     pub fn status(&self) -> u8
         ensures { result ≡ failure_status self.now }
     {

@@ -37,8 +37,8 @@ pub fn read(alloc: Global, text: &str) -> Result<Vec<u8>, Failure>
     Ok(bytes)
 }
 
-/// The bytes of a text of hexadecimal digits with blanks between them, each word with `0x` before it
-/// or not. The text `-` stands for that of the input.
+/// The bytes of a text of hexadecimal digits with blanks between them, each word with `0x` before
+/// it or not. The text `-` means the text of the input.
 pub fn read_loose<R: Source>(alloc: Global, text: &str, input: &mut R) -> Result<Vec<u8>, Failure>
     ensures { IfErr result (λ e. e ≢ Failure.Usage) }
 {

@@ -23,7 +23,7 @@ mod syntax;
 mod tests;
 mod value;
 
-/// The words behind the program's name.
+/// The words after the program's name.
 fn words(rt: &HostRuntime) -> Result<Vec<String>, Failure> {
     match env::args(rt) {
         Ok(mut args) => {

@@ -65,7 +65,7 @@ pub fn encode<W: Write>(
     Ok(())
 }
 
-/// Decodes a value from the front of the bytes, and prints it on a line and the bytes behind it as
+/// Decodes a value from the front of the bytes, and prints it on a line and the bytes after it as
 /// hexadecimal on a second.
 pub fn decode<R: Source, W: Write>(
     alloc: Global,
@@ -84,7 +84,7 @@ pub fn decode<R: Source, W: Write>(
     Ok(())
 }
 
-/// Decodes values one behind the other until no byte is left, and prints each on a line.
+/// Decodes values one after another until no byte is left, and prints each on a line.
 pub fn decode_all<R: Source, W: Write>(
     alloc: Global,
     expression: &str,
@@ -111,7 +111,7 @@ pub fn decode_all<R: Source, W: Write>(
     Ok(())
 }
 
-/// Decodes a value from the front of `rest` and prints it on a line. Returns the bytes behind it. On
+/// Decodes a value from the front of `rest` and prints it on a line. Returns the bytes after it. On
 /// a refusal prints the place in `all` of the part that refused.
 fn print_front<'a, W: Write>(
     alloc: Global,

@@ -30,9 +30,10 @@ enum Task<'a> {
     Decode(&'a [u8]),
 }
 
-/// Does what the words ask for (program name off), and answers the exit status: 0 done; 1 the library refused, or memory
-/// ran out; 2 the words are wrong; 3 `frames` did not come to the end of its input, or the output could not be written,
-/// whatever else would have been answered. The input is read by `frames` and for a HEX of `-`.
+/// Does what the words ask for, which come after the program's name, and returns the exit status: 0
+/// done; 1 the library refused, or an allocation failed; 2 the words are wrong; 3 `frames` did not
+/// come to the end of its input, or the output could not be written, whatever else happened. The
+/// input is read by `frames` and for a HEX of `-`.
 pub fn run<R: Source, W: Write>(
     alloc: Global,
     words: &[String],
@@ -46,7 +47,7 @@ pub fn run<R: Source, W: Write>(
     report(outcome, output)
 }
 
-/// Ends a call: prints why it failed, flushes the output, and answers the exit status.
+/// Ends a call: prints why it failed, flushes the output, and returns the exit status.
 pub fn report<W: Write>(outcome: Result<(), Failure>, output: &mut W) -> u8
     ensures status { (result ≡ 3) ⊎ (result ≡ exit_status outcome) }
     ensures printed { result ≢ 3 → Appends (W.contents output.old) (W.contents output.new) (last_line outcome) }
@@ -213,7 +214,7 @@ fn print_encoded<T: Serialize, W: Write>(value: &T, output: &mut W) -> Result<()
     Ok(())
 }
 
-/// Prints a value on a line, and the bytes behind it as hexadecimal on a second.
+/// Prints a value on a line, and the bytes after it as hexadecimal on a second.
 fn print_decoded<D: Display + Drop, W: Write>(
     value: D,
     rest: &[u8],

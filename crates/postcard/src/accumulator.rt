@@ -1,4 +1,4 @@
-//! Frames from a stream that comes in pieces: the accumulator, what it answers, and the laws of
+//! Frames from a stream that comes in pieces: the accumulator, what it returns, and the laws of
 //! streams.
 
 pub use postcard_accumulator::{

@@ -14,20 +14,20 @@ use postcard_de_flavors::io::io::IOReader;
 use postcard_wire::{Error, Result};
 use std::alloc::Global;
 
-/// Decodes a value from a reader, and answers it with the reader and the scratch left. The bytes behind the value stay
-/// unread, so that messages in a row are read by one call after another, each handed what the last one answered.
+/// Decodes a value from a reader, and returns it with the reader and the scratch left. The bytes after
+/// the value stay unread, so that each call can be given what the one before it returned.
 ///
-/// What is lent to the value, as a `&str`, lies in the scratch, which is used up by as many bytes; what is read for a while,
-/// as the bytes of a `String`, only needs it. Numbers need none.
+/// What is lent to the value, as a `&str`, is in the scratch buffer, which is used up by that many bytes.
+/// The bytes of a `String` need it only for a while, and numbers don't need it.
 ///
-/// Where the reader tells its bytes, the value is that of a front of them, and just that front was read. Over a steady
-/// reader it succeeds wherever a front spells a tree that the type reads and the scratch is as long as that front. A reader that
-/// promises nothing goes within [`Plain`](crate::de_flavors::Plain).
+/// The value is that of a front of the reader's bytes, and just that front was read. Over a steady reader
+/// it succeeds if a front spells a tree that the type reads and the scratch is at least as long as that
+/// front. Wrap a reader that promises nothing in [`Plain`](crate::de_flavors::Plain).
 ///
 /// # Errors
 ///
-/// As `take_from_bytes`, and `DeserializeUnexpectedEnd` also where the reader fails or the scratch is too short. Reader and
-/// scratch are then dropped.
+/// As [`take_from_bytes`](crate::take_from_bytes), and `DeserializeUnexpectedEnd` also if the reader
+/// fails or the scratch is too short. The reader and the scratch are then dropped.
 pub fn from_io<'a, T: Deserialize<'a>, R: Source + 'a>(
     alloc: Global,
     from: (R, &'a mut [u8]),

@@ -11,10 +11,12 @@ use postcard_ser::Serialize;
 use postcard_ser_flavors::Size;
 use postcard_wire::Result;
 
-/// How many bytes the encoding of a value has. Nothing is stored, and no memory is taken.
+/// Returns the number of bytes of a value's encoding. Nothing is stored or allocated.
 ///
-/// It succeeds exactly where the count fits `usize`, a value that refuses itself aside; else it answers
-/// `SerializeBufferFull`.
+/// # Errors
+///
+/// Fails with `SerializeBufferFull` if and only if the number exceeds `usize::MAX`, unless the value
+/// refuses itself.
 pub fn serialized_size<T: Serialize>(value: &T) -> Result<usize>
     ensures gives { IfOk result (λ count. count ≡ length (bytes (T.shape.tree value.now))) }
     ensures exactly { ¬ T.shape.refuses value.now → (IsOk result ↔ (length (bytes (T.shape.tree value.now)) < 2 ^ 64)) }

@@ -12,17 +12,19 @@ use postcard_ser::{Serialize, Serializer};
 use postcard_ser_flavors::Slice;
 use postcard_wire::{Error, Result};
 
-/// Encodes a value into the front of a buffer, and lends that front: the shortest spelling of the value's tree.
+/// Encodes a value into the front of a buffer, and returns that front: the shortest spelling of the
+/// value's tree. The bytes after it are unchanged. Nothing is allocated.
 ///
-/// It succeeds exactly where that spelling fits the buffer, a value that refuses itself aside. The bytes behind the
-/// answer stay as they were. `SerializeBufferFull` says that it doesn't fit; the buffer then has a beginning of the
-/// spelling, and behind it the old bytes. Takes no memory.
+/// The clause `writes_back` says what the buffer is once the loan is over. A caller with proofs of its
+/// own about the buffer uses [`fill_slice`], whose plain clauses say the same.
 ///
-/// The clause `writes_back` says what the buffer is once the loan is over. A caller whose own proof goes on about
-/// the buffer uses `fill_slice`, whose plain clauses say the same.
+/// # Errors
+///
+/// Fails with `SerializeBufferFull` if and only if the encoding is longer than the buffer, unless the
+/// value refuses itself. The buffer then holds a beginning of the encoding, and after it the old bytes.
 pub fn to_slice<'a, T: Serialize>(value: &T, buf: &'a mut [u8]) -> Result<&'a mut [u8]>
-    // Where it succeeds, what the caller makes of the front, and then the old bytes; where it refuses, a beginning
-    // of the spelling, and then the old bytes.
+    // After a success, what the caller makes of the front, and then the old bytes; after a failure, a
+    // beginning of the encoding, and then the old bytes.
     ensures* writes_back { sem 𝓛 (LendsSoOk (Array u8 0) (Array u8 0) buf.entry result
         (λ all front. all ≡ front ++ drop (length (bytes (T.shape.tree value.now))) buf.old)
         (λ all. ¬ T.shape.refuses value.now → Begins (bytes (T.shape.tree value.now)) buf.old all)) }
@@ -36,10 +38,15 @@ pub fn to_slice<'a, T: Serialize>(value: &T, buf: &'a mut [u8]) -> Result<&'a mu
     cut(write_front(value, buf))
 }
 
-/// Encodes a value into the front of a buffer, and answers how many bytes it wrote (own).
+/// Encodes a value into the front of a buffer, and returns the number of bytes written. The Rust crate
+/// has no such call.
 ///
-/// It is `to_slice` for callers that keep the buffer: the same bytes, refusals and bytes behind, said of the buffer
-/// as it is after the call.
+/// The same as [`to_slice`], for callers that keep the buffer: its contract says what the whole buffer
+/// is after the call.
+///
+/// # Errors
+///
+/// As [`to_slice`].
 pub fn fill_slice<T: Serialize>(value: &T, buf: &mut [u8]) -> Result<usize>
     ensures counts { IfOk result (λ count. count ≡ length (bytes (T.shape.tree value.now))) }
     ensures fills { OnOk result (Fills (bytes (T.shape.tree value.now)) buf.old buf.new) }
@@ -57,7 +64,7 @@ pub fn fill_slice<T: Serialize>(value: &T, buf: &mut [u8]) -> Result<usize>
     if failed { Err(error) } else { Ok(count) }
 }
 
-/// What an attempt leaves: the whole buffer, how many bytes of it were written, and the refusal where it `failed`.
+/// What an attempt leaves: the whole buffer, the number of bytes written, and the error if it `failed`.
 struct Done<'a> {
     all: &'a mut [u8],
     count: usize,
@@ -65,7 +72,7 @@ struct Done<'a> {
     error: Error,
 }
 
-/// Writes the value into the front of the buffer, and gives the buffer back as the loan that it was.
+/// Writes the value into the front of the buffer, and returns the buffer as the loan that it was.
 fn write_front<'a, T: Serialize>(value: &T, buf: &'a mut [u8]) -> Done<'a>
     ensures same_loan { result.all.ghost_name ≡ buf.entry.ghost_name }
     ensures done { IsDone (bytes (T.shape.tree value.now)) (T.shape.refuses value.now) T.shape.text (T.shape.fits value.now) buf.old result }
@@ -91,7 +98,7 @@ fn write_front<'a, T: Serialize>(value: &T, buf: &'a mut [u8]) -> Done<'a>
     }
 }
 
-/// Lends the written front of the buffer, or answers the refusal.
+/// Returns the written front of the buffer, or the error.
 fn cut<'a>(done: Done<'a>) -> Result<&'a mut [u8]>
     requires { done.count ≤ length done.all.now }
     ensures* writes_back { sem 𝓛 (LendsIfOk (Array u8 0) (Array u8 0) done.entry.all result (λ front. front ++ drop done.entry.count done.entry.all.now) done.entry.all.now) }

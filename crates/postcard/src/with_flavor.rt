@@ -14,13 +14,13 @@ use postcard_wire::{Error, Result};
 use std::alloc::Global;
 use std::io::Write;
 
-/// Encodes a value into a flavor, ends the flavor, and answers its output: that of a flavor which took just the
+/// Encodes a value into a flavor, ends the flavor, and returns its output. The flavor took just the
 /// shortest spelling of the value's tree.
 ///
 /// # Errors
 ///
-/// `SerializeBufferFull` where the flavor refuses a piece or its end, and never where it has room for the spelling;
-/// the error of a value that refuses itself. The flavor is then dropped.
+/// Fails with `SerializeBufferFull` if the flavor refuses bytes or its end, and never if it has room for
+/// the encoding. Fails with the error of a value that refuses itself. The flavor is then dropped.
 pub fn serialize_with_flavor<T: Serialize, S: Flavor<Output = O> + Drop, O>(
     value: &T,
     storage: S,
@@ -38,10 +38,12 @@ pub fn serialize_with_flavor<T: Serialize, S: Flavor<Output = O> + Drop, O>(
     }
 }
 
-/// Encodes a value into a vector of at most `B` bytes, which lies in the answer itself. Takes no memory.
+/// Encodes a value into a vector of at most `B` bytes, which holds them itself. Nothing is allocated.
 ///
-/// It succeeds exactly where the shortest spelling of the value's tree has at most `B` bytes, a value that refuses
-/// itself aside; else it answers `SerializeBufferFull`.
+/// # Errors
+///
+/// Fails with `SerializeBufferFull` if and only if the encoding has more than `B` bytes, unless the value
+/// refuses itself.
 pub fn to_vec<T: Serialize, const B: usize>(value: &T) -> Result<ArrayVec<u8, B>>
     ensures gives { IfOk result (λ vec. vec.items ≡ bytes (T.shape.tree value.now)) }
     ensures exactly { ¬ T.shape.refuses value.now → (IsOk result ↔ (length (bytes (T.shape.tree value.now)) ≤ B)) }
@@ -51,7 +53,11 @@ pub fn to_vec<T: Serialize, const B: usize>(value: &T) -> Result<ArrayVec<u8, B>
     serialize_with_flavor(value, HVec::new())
 }
 
-/// Encodes a value into a vector that grows. `SerializeBufferFull` for want of memory alone.
+/// Encodes a value into a new `Vec`.
+///
+/// # Errors
+///
+/// Fails with `SerializeBufferFull` only if an allocation fails, unless the value refuses itself.
 pub fn to_allocvec<T: Serialize>(alloc: Global, value: &T) -> Result<Vec<u8>>
     ensures gives { IfOk result (λ vec. vec.items ≡ bytes (T.shape.tree value.now)) }
     ensures answers { ¬ T.shape.refuses value.now → IfErr result (AnswersRefusal T.shape.text) }
@@ -60,7 +66,7 @@ pub fn to_allocvec<T: Serialize>(alloc: Global, value: &T) -> Result<Vec<u8>>
     serialize_with_flavor(value, AllocVec::new(alloc))
 }
 
-/// Encodes a value into a vector that grows. `SerializeBufferFull` for want of memory alone.
+/// The same as [`to_allocvec`], under the name that users of `std` know.
 pub fn to_stdvec<T: Serialize>(alloc: Global, value: &T) -> Result<Vec<u8>>
     ensures gives { IfOk result (λ vec. vec.items ≡ bytes (T.shape.tree value.now)) }
     ensures answers { ¬ T.shape.refuses value.now → IfErr result (AnswersRefusal T.shape.text) }
@@ -69,8 +75,11 @@ pub fn to_stdvec<T: Serialize>(alloc: Global, value: &T) -> Result<Vec<u8>>
     serialize_with_flavor(value, StdVec::new(alloc))
 }
 
-/// Encodes a value behind what a target has, and answers the target. `SerializeBufferFull` where the target refuses a
-/// piece; it is then dropped.
+/// Encodes a value after what a target holds, and returns the target.
+///
+/// # Errors
+///
+/// Fails with `SerializeBufferFull` if the target refuses bytes. It is then dropped.
 pub fn to_extend<T: Serialize, W: ExtendBytes + Drop>(value: &T, writer: W) -> Result<W>
     ensures appends { IfOk result (λ target. W.content target ≡ W.content writer ++ bytes (T.shape.tree value.now)) }
     ensures answers { ¬ T.shape.refuses value.now → IfErr result (AnswersRefusal T.shape.text) }
@@ -79,9 +88,12 @@ pub fn to_extend<T: Serialize, W: ExtendBytes + Drop>(value: &T, writer: W) -> R
     serialize_with_flavor(value, ExtendFlavor::new(writer))
 }
 
-/// Encodes a value to a writer, flushes it, and answers it. `SerializeBufferFull` where the writer or its flush fails;
-/// it is then dropped, and what it got is open. Of a writer that tells its bytes, they are those that it had and then the
-/// shortest spelling of the value's tree.
+/// Encodes a value to a writer, flushes it, and returns it.
+///
+/// # Errors
+///
+/// Fails with `SerializeBufferFull` if the writer or its flush fails. The writer is then dropped, and may
+/// have got some of the bytes.
 pub fn to_io<T: Serialize, W: Write + Drop>(value: &T, writer: W) -> Result<W>
     ensures appends { IfOk result (λ output. Appends (W.contents writer) (W.contents output) (bytes (T.shape.tree value.now))) }
     ensures answers { ¬ T.shape.refuses value.now → IfErr result (AnswersRefusal T.shape.text) }

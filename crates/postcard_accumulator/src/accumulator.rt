@@ -157,8 +157,7 @@ impl<const N: usize> CobsAccumulator<N> {
     /// Takes in a piece up to the end of a frame, as [`feed`](CobsAccumulator::feed) does, but
     /// reads no value.
     ///
-    /// The data that it lends stands in the accumulator, which can be used again once the loan
-    /// ends.
+    /// The data that it lends is in the accumulator, which can be used again once the loan ends.
     pub fn take_in<'de, 'a>(&'de mut self, input: &'a [u8]) -> Taken<'de, 'a>
         ensures answer { (after : State) × IsTaken N self.old input.now result after }
         ensures* after { sem 𝓛 (follows_so (the_row N.row) (the_row N.row)

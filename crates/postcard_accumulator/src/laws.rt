@@ -1,5 +1,5 @@
 //! What holds of every stream. The functions do nothing: their contracts are the laws, whose
-//! statements stand in `specs/Laws.antt` and `specs/Messages.antt`.
+//! statements are in `specs/Laws.antt` and `specs/Messages.antt`.
 
 ghost use Rattle.postcard_accumulator.specs.Laws.{AnswersAreOne, CutAtZero, DamageStays};
 ghost use Rattle.postcard_accumulator.specs.Laws.{FeedsAnswer, FramesAreOne, Joined};
@@ -53,7 +53,7 @@ pub fn frames_are_one()
 {}
 
 /// Values that were encoded as frames that have room come back in order, whatever oversized frames
-/// stand between them: the answer to each is `Success` with a value that looks like it, or
+/// are between them: the answer to each is `Success` with a value that looks like it, or
 /// `DeserError` if its type grows.
 pub fn messages_arrive<T: DeserializeOwned>()
     ensures { MessagesArrive T.shape }

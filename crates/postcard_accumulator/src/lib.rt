@@ -26,16 +26,16 @@
 //! So an oversized frame has one answer, wherever the line cuts it. With `N` of 0 every frame is
 //! oversized.
 //!
-//! A link that joins late may begin inside a frame: it loses at most what stands before the first
-//! zero, of which the answer may be `DeserError`, `OverFull` or, by chance, a value. From
-//! that zero on the answers are those of the frames.
+//! A link that joins late may begin inside a frame: it loses at most what comes before the first
+//! zero, of which the answer may be `DeserError`, `OverFull` or, by chance, a value. From that zero
+//! on the answers are those of the frames.
 //!
 //! # What is proved
 //!
 //! `specs/Feeding.antt` is the table, of [`feed`](CobsAccumulator::feed) and
 //! [`feed_ref`](CobsAccumulator::feed_ref). `specs/Streams.antt` says what the answers of a whole
 //! stream are: one of each frame, in order, with no word of pieces. The answers of [`read_frames`]
-//! are those of all that it read. What follows for every stream stands in [`laws`]: above all,
+//! are those of all that it read. [`laws`] has what follows for every stream: above all,
 //! [`laws::messages_arrive`].
 //!
 //! # Contents

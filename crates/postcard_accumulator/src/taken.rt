@@ -17,7 +17,7 @@ pub enum Taken<'de, 'a> {
     OverFull(&'a [u8]),
     /// A frame ended that is no COBS frame.
     Refused(&'a [u8]),
-    /// A frame ended: its data, which stands in the accumulator, and what follows in the piece.
+    /// A frame ended: its data, which is in the accumulator, and what follows in the piece.
     Message(&'de [u8], &'a [u8]),
 }
 

@@ -1,5 +1,5 @@
 //! What holds of every frame. The functions do nothing: their contracts are the laws, whose
-//! statements stand in `specs/Laws.antt`.
+//! statements are in `specs/Laws.antt`.
 
 ghost use Rattle.postcard_cobs.specs.Laws.{DataIsOne, HasNoZero, MadeIsMade, MadeIsOne, OneZero};
 ghost use Rattle.postcard_cobs.specs.Laws.{MadeLength, BoundIsReached, ReachesBound, MadeDecodes};
@@ -62,7 +62,7 @@ pub fn made_by_last_code()
     ensures { MadeByLastCode }
 {}
 
-/// A list is an open frame exactly if groups stand in front of the place of its last code, and the
+/// A list is an open frame if and only if groups come before the place of its last code, and the
 /// list with that code set is a frame of the data.
 pub fn open_by_parts()
     ensures { OpenByParts }

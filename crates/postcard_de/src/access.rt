@@ -13,7 +13,7 @@ use postcard_wire::Result;
 use std::alloc::Global;
 use std::marker::Model;
 
-/// How many elements of a list are left to read. A contract sees it as that count.
+/// The number of elements of a list that are left to read. A contract sees it as that number.
 #[derive(Drop)]
 pub struct SeqAccess {
     len: usize,
@@ -28,15 +28,15 @@ impl Model for SeqAccess {
 }
 
 impl SeqAccess {
-    /// So many elements.
+    /// Returns an access to `len` elements.
     pub(crate) fn new(len: usize) -> SeqAccess
         ensures { result ≡ len }
     {
         SeqAccess { len }
     }
 
-    /// Reads the next element, or answers None where none is left. The count falls before the
-    /// element is read, so it has fallen where that is refused too.
+    /// Reads the next element, or returns `None` if none is left. The number falls by one before the
+    /// element is read, also if that fails.
     ///
     /// # Errors
     ///
@@ -59,7 +59,7 @@ impl SeqAccess {
         Ok(Some(value))
     }
 
-    /// How many elements are left, unless the source says that it has fewer bytes.
+    /// Returns the number of elements left, or `None` if the source has fewer bytes than that.
     pub fn size_hint<'de, F: Flavor>(&self, d: &Deserializer<'de, F>) -> Option<usize>
         ensures few { (bytes : ℕ) → F.hint (source_of d.now) ≡ Some bytes → bytes < self.now →
             result ≡ None }

@@ -1,4 +1,4 @@
-//! The variants of an enum in a row are read by their index, and then as the content at that index.
+//! The variants of an enum in a row: their index is read, and then the content of that index.
 
 ghost use Rattle.postcard_wire.specs.Spelling.{Spells};
 ghost use Rattle.postcard_de.specs.Reads.{Reads};
@@ -18,7 +18,7 @@ pub trait DeserializeCase<'de>: Cased + Sized + Drop {
     ///
     /// # Errors
     ///
-    /// `SerdeDeCustom` if there is no such variant, and those of the content.
+    /// Fails with `SerdeDeCustom` if there is no such variant, and with the errors of the content.
     fn deserialize_case<F: Flavor>(
         index: u32,
         alloc: Global,

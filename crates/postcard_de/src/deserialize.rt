@@ -16,9 +16,9 @@ pub trait Deserialize<'de>: Shaped + Sized + Drop {
     ///
     /// # Errors
     ///
-    /// Fails with the error of the first part that refuses: `DeserializeUnexpectedEnd` where the
+    /// Fails with the error of the first part that can't be read: `DeserializeUnexpectedEnd` if the
     /// bytes end, an error of the `deserialize_*` calls, or the type's own `SerdeDeCustom`. Fails
-    /// with `OutOfMemory` only if the type grows.
+    /// with `OutOfMemory` only if an allocation fails, for a type that grows.
     fn deserialize<F: Flavor>(alloc: Global, d: &mut Deserializer<'de, F>) -> Result<Self>
         ensures { Reads F.Flavor Spells Self.shape.reads Self.shape.value Self.shape.grows
             (source_of d.old) result (source_of d.new) };

@@ -33,7 +33,7 @@ pub struct Deserializer<'de, F: Flavor> {
 }
 
 impl<'de> Deserializer<'de, Slice<'de>> {
-    /// Reads from these bytes.
+    /// Returns a deserializer of these bytes.
     pub fn from_bytes(bytes: &'de [u8]) -> Self
         ensures { source_of result ≡ bytes.now }
     {
@@ -42,7 +42,7 @@ impl<'de> Deserializer<'de, Slice<'de>> {
 }
 
 impl<'de, F: Flavor> Deserializer<'de, F> {
-    /// Reads from this source.
+    /// Returns a deserializer over this source.
     pub fn from_flavor(flavor: F) -> Self
         ensures { source_of result ≡ flavor }
     {
@@ -52,14 +52,14 @@ impl<'de, F: Flavor> Deserializer<'de, F> {
         }
     }
 
-    /// Ends reading, and answers what the source has left.
+    /// Ends reading, and returns the rest of the source.
     pub fn finalize(self) -> Result<F::Remainder>
         ensures { F.finishes (source_of self.entry) result }
     {
         self.flavor.finalize()
     }
 
-    /// Whether the format is meant for people: never.
+    /// Returns `false`: the format is binary.
     pub fn is_human_readable(&self) -> bool
         ensures { result ≡ false }
     {
@@ -70,7 +70,7 @@ impl<'de, F: Flavor> Deserializer<'de, F> {
     ///
     /// # Errors
     ///
-    /// `DeserializeUnexpectedEnd` where none is left.
+    /// Fails with `DeserializeUnexpectedEnd` if no byte is left.
     pub fn deserialize_u8(&mut self) -> Result<u8>
         ensures reads { Reads F.Flavor Spells IsByte (λ t v. t ≡ Byte v) ⊥
             (source_of self.old) result (source_of self.new) }
@@ -99,8 +99,8 @@ impl<'de, F: Flavor> Deserializer<'de, F> {
     ///
     /// # Errors
     ///
-    /// `DeserializeUnexpectedEnd` where the bytes end within it, `DeserializeBadVarint` where it is
-    /// longer or greater.
+    /// Fails with `DeserializeUnexpectedEnd` if the bytes end within the varint, and with
+    /// `DeserializeBadVarint` if it has more bytes or a greater number.
     pub fn deserialize_u16(&mut self) -> Result<u16>
         ensures reads { Reads F.Flavor Spells (IsNum 16) (λ t v. t ≡ Num 16 v) ⊥
             (source_of self.old) result (source_of self.new) }
@@ -216,12 +216,12 @@ impl<'de, F: Flavor> Deserializer<'de, F> {
         Ok(zigzag::de_zig_zag_i128(folded))
     }
 
-    /// Reads a text that the source holds.
+    /// Reads a text, which is lent from the source.
     ///
     /// # Errors
     ///
-    /// As a number of 64 bits for its length, `DeserializeUnexpectedEnd` where the bytes end before
-    /// the text does, and `DeserializeBadUtf8`.
+    /// For its length as `deserialize_u64`. Fails with `DeserializeUnexpectedEnd` if the bytes end
+    /// before the text does, and with `DeserializeBadUtf8` if it is not UTF-8.
     pub fn deserialize_str(&mut self) -> Result<&'de str>
         ensures reads { Reads F.Flavor Spells IsText (λ t v. t ≡ Text v.now) ⊥
             (source_of self.old) result (source_of self.new) }
@@ -235,7 +235,7 @@ impl<'de, F: Flavor> Deserializer<'de, F> {
     ///
     /// # Errors
     ///
-    /// As `deserialize_str`, and `OutOfMemory`.
+    /// As `deserialize_str`. Fails with `OutOfMemory` if an allocation fails.
     pub fn deserialize_string(&mut self, alloc: Global) -> Result<String>
         ensures reads { Reads F.Flavor Spells IsText (λ t v. t ≡ Text (string_bytes v)) ⊤
             (source_of self.old) result (source_of self.new) }
@@ -245,11 +245,11 @@ impl<'de, F: Flavor> Deserializer<'de, F> {
         texts::text_copy(alloc, &mut self.flavor)
     }
 
-    /// Reads the count of a list, whose elements are then read by `next_element`.
+    /// Reads the count of a list. Its elements are then read by `next_element`.
     ///
     /// # Errors
     ///
-    /// As a number of 64 bits.
+    /// As `deserialize_u64`.
     pub fn deserialize_seq(&mut self) -> Result<SeqAccess>
         ensures reads { Reads F.Flavor (SpellsNum 64) (λ n. n < 2 ^ 64) Same ⊥
             (source_of self.old) result (source_of self.new) }

@@ -1,19 +1,13 @@
 //! Reading: a deserializer over a source, and the types that it reads.
 //!
-//! A type says which trees it reads and what their values are. The layer above uses one contract,
-//! that of [`Deserialize::deserialize`]: `Reads F.Flavor Spells reads value grows ..` says that
-//! what is answered is the value of a front that spells a tree that the type reads, that such a
-//! front is always read if the source can give it, what is left, and which errors may be answered.
-//! Every `deserialize_*` has the same clause, and beside it `refused`, the exact reason of a
-//! refusal.
+//! A type's shape says which trees it reads and what their values are. The layer above uses one
+//! contract, that of [`Deserialize::deserialize`]: `Reads F.Flavor Spells reads value grows ..` says
+//! that the result is the value of a front that spells a tree that the type reads, that such a front
+//! is read if the source is able to give it, what is left, and which errors may be returned. Each
+//! `deserialize_*` has the same clause, and beside it `refused`, the exact reason of a failure.
 //!
-//! A struct is read as the tuple of its fields, and says its trees and values by quotes at that
-//! tuple, with no proof of its own. Any other type of one's own says its trees by `IsGroup`,
-//! `IsThen` and `IsEnd` (a struct) or `IsVariant` (an enum), its values by the same words over its
-//! fields, and is proved by the lemmas of `proofs/Parts.antt` and `proofs/Enums.antt`: one citation
-//! for each exit of `?`, as `struct_fails laws .. (and_fails laws FIRST (stops laws SECOND))`, and
-//! `struct_read laws (λ t h. h) (and_part laws FIRST (and_part laws SECOND (no_more laws)))` where
-//! all was read.
+//! A struct is read as the tuple of its fields and an enum as its variants in a row ([`FromRepr`]),
+//! with no proof of their own.
 //!
 //! In reading order: [`deserialize`] has the trait, [`deserializer`] the calls for one node, which
 //! are made of the functions of `postcard_de_nodes`, [`access`] and [`map_access`] those for the

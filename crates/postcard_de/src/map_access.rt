@@ -13,7 +13,7 @@ use postcard_wire::Result;
 use std::alloc::Global;
 use std::marker::Model;
 
-/// How many pairs of a map are left to read. A contract sees it as that count.
+/// The number of pairs of a map that are left to read. A contract sees it as that number.
 #[derive(Drop)]
 pub struct MapAccess {
     len: usize,
@@ -28,15 +28,15 @@ impl Model for MapAccess {
 }
 
 impl MapAccess {
-    /// So many pairs.
+    /// Returns an access to `len` pairs.
     pub(crate) fn new(len: usize) -> MapAccess
         ensures { result ≡ len }
     {
         MapAccess { len }
     }
 
-    /// Reads the next key, or answers None where no pair is left. The count falls before the key is
-    /// read, so it has fallen where that is refused too.
+    /// Reads the next key, or returns `None` if no pair is left. The number falls by one before the
+    /// key is read, also if that fails.
     ///
     /// # Errors
     ///
@@ -76,7 +76,7 @@ impl MapAccess {
         V::deserialize(alloc, d)
     }
 
-    /// How many pairs are left: always told, whatever the source has.
+    /// Returns the number of pairs left, whatever the source has.
     pub fn size_hint(&self) -> Option<usize>
         ensures { result ≡ Some self.now }
     {

@@ -26,7 +26,7 @@ pub trait DeserializeOwned: Shaped + Sized + Drop {
             (source_of d.old) result (source_of d.new) };
 }
 
-/// A value that borrows nothing, read as such wherever a `Deserialize` is asked for.
+/// A value that borrows nothing, read as such by calls that take a `Deserialize`.
 #[derive(Drop)]
 pub struct Owned<T: DeserializeOwned>(pub T);
 

@@ -11,8 +11,8 @@ use postcard_shape::Repr;
 use postcard_wire::Result;
 use std::alloc::Global;
 
-/// A type whose values are made of what they are seen as. It is read wherever that is, and owned
-/// where that is.
+/// A type whose values are made of what they are seen as. It has `Deserialize` if that has it, and
+/// `DeserializeOwned` too.
 pub trait FromRepr: Repr<As: Drop> + Sized + Drop {
     /// Returns the value that is seen as `repr`.
     fn from_repr(repr: Self::As) -> Self

@@ -1,4 +1,4 @@
-//! Parts in a row are read one after another, by one proof for tuples of any length.
+//! Parts in a row, read one after another, by one proof for tuples of any length.
 
 ghost use Rattle.postcard_wire.specs.Spelling.{SpellsAll};
 ghost use Rattle.postcard_de.specs.Reads.{Reads};

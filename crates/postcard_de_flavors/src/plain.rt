@@ -1,4 +1,4 @@
-//! Any reader, as one of which nothing is promised.
+//! Any reader, as one that promises nothing.
 
 ghost use Rattle.std.specs.Prelude.{◌≡◌};
 ghost use Rattle.postcard_de_flavors.specs.Plain.{inner_of};
@@ -7,21 +7,21 @@ use crate::source::Source;
 use std::io;
 use std::io::Read;
 
-/// A reader of which nothing is promised: it tells the bytes that `R` tells, and is never steady.
+/// A reader that promises nothing: its bytes left are those of `R`, and it is never steady.
 #[derive(Drop)]
 pub struct Plain<R> {
     inner: R,
 }
 
 impl<R: Read> Plain<R> {
-    /// Wraps a reader, and reads nothing of it.
+    /// Wraps a reader. Reads nothing from it.
     pub fn new(inner: R) -> Plain<R>
         ensures { inner_of result ≡ inner }
     {
         Plain { inner }
     }
 
-    /// The reader that was wrapped, as the reads so far have left it.
+    /// Returns the wrapped reader, as the reads so far have left it.
     pub fn into_inner(self) -> R
         ensures { result ≡ inner_of self }
     {

@@ -30,7 +30,7 @@ impl<'de> Model for Slice<'de> {
 }
 
 impl<'de> Slice<'de> {
-    /// A source of these bytes.
+    /// Returns a source of these bytes.
     pub fn new(bytes: &'de [u8]) -> Slice<'de>
         ensures { result ≡ bytes.now }
     {
@@ -61,11 +61,11 @@ impl<'de> Flavor for Slice<'de> {
 
     ghost lawful = { slice_laws };
 
-    /// Takes the first byte.
+    /// Takes the next byte.
     ///
     /// # Errors
     ///
-    /// `DeserializeUnexpectedEnd` exactly where no byte is left; nothing is changed then.
+    /// Fails with `DeserializeUnexpectedEnd` if and only if no byte is left; nothing is changed then.
     fn pop(&mut self) -> Result<u8>
         ensures gives { IfOk result (λ b. Takes ⟦<Slice<'de> as Flavor>⟧.left ⟦<Slice<'de> as Flavor>⟧.able self.old (b ∷ []) self.new) }
         ensures leaves { ⟦<Slice<'de> as Flavor>⟧.may_leave self.old self.new }
@@ -80,7 +80,7 @@ impl<'de> Flavor for Slice<'de> {
         Ok(self.bytes.pop())
     }
 
-    /// How many bytes are left.
+    /// Returns the number of bytes left.
     fn size_hint(&self) -> Option<usize>
         ensures { result ≡ Some (length self.now) }
     {
@@ -138,7 +138,7 @@ impl<'de> Flavor for Slice<'de> {
         Ok(front)
     }
 
-    /// The bytes left; never fails.
+    /// Returns the bytes left. Never fails.
     fn finalize(self) -> Result<&'de [u8]> {
         let Slice { bytes, len } = self;
         Ok(bytes.whole(len))

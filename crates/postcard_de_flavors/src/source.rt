@@ -1,4 +1,4 @@
-//! Readers that a source can stand over.
+//! Readers that a source can read from.
 
 ghost use Rattle.std.specs.Prelude.{length, OnOk, IsOk, ⊤};
 ghost use Rattle.std.specs.Io.{ReadsAtMost};
@@ -8,18 +8,19 @@ ghost use Rattle.postcard_de_flavors.specs.Reader.{AtLeast};
 use std::io;
 use std::io::Read;
 
-/// A reader that says to contracts whether it is steady: that no read fails while bytes are left. It tells its bytes as
-/// `Read` does, by `remaining`.
+/// A reader whose contract says whether it is *steady*: no read fails while bytes are left. The bytes
+/// left are `remaining`, as of `Read`.
 ///
-/// The sources of this crate read by these two calls alone. A reader that promises nothing is met by
+/// The sources of this crate read only by these two methods. Wrap a reader that promises nothing in
 /// [`Plain`](crate::plain::Plain).
 pub trait Source: Read + Drop {
     /// No read fails while bytes are left.
     ghost steady: { Self → Type 0 };
 
-    /// Reads into the front of `buf` and answers how many bytes it read, as `Read::read` does.
+    /// Reads into the front of `buf` and returns the number of bytes read, as `Read::read` does.
     ///
-    /// A steady reader never fails here, and answers 0 to a buffer that isn't empty only at its end. It stays steady.
+    /// A steady reader never fails here, and returns 0 for a buffer that isn't empty only at its end. It
+    /// stays steady.
     fn read_some(&mut self, buf: &mut [u8]) -> io::Result<usize>
         ensures bound { ReadsAtMost result buf.new }
         ensures bytes { ReadConsumes (Self.remaining self.old) (Self.remaining self.new) result buf.new }
@@ -28,7 +29,8 @@ pub trait Source: Read + Drop {
 
     /// Fills all of `buf`, as `Read::read_exact` does.
     ///
-    /// A steady reader succeeds where at least as many bytes are left. It stays steady, also where it fails.
+    /// A steady reader succeeds if at least `buf.len()` bytes are left. It stays steady, also after a
+    /// failure.
     fn read_full(&mut self, buf: &mut [u8]) -> io::Result<()>
         ensures bytes { OnOk result (Consumes (Self.remaining self.old) (Self.remaining self.new) buf.new) }
         ensures succeeds { steady self.old → AtLeast (Self.remaining self.old) (length buf.old) → IsOk result }

@@ -1,4 +1,4 @@
-//! Bytes behind their count, lent or copied.
+//! Byte strings: a count and the bytes, lent or copied.
 
 ghost use Rattle.std.specs.Prelude.{◌≡◌, ℕ, ◌<◌, IfErr, slice_index, ⊤};
 ghost use Rattle.postcard_wire.specs.Tree.{Byte};

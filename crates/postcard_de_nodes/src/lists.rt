@@ -1,4 +1,4 @@
-//! Lists whose bytes stand in memory: read at once.
+//! Lists whose bytes are in memory: read at once.
 
 ghost use Rattle.std.specs.Prelude.{◌≡◌, IfErr, IfOk, IfSome, Ok, ⊤};
 ghost use Rattle.std.specs.Option.{IfNone};
@@ -12,7 +12,7 @@ use postcard_wire::{Error, Result};
 use std::alloc::Global;
 
 /// Reads the next `count` elements of a list at once, by one copy. Returns `None`, and takes
-/// nothing, if their bytes don't stand in memory, or if the type is read element by element
+/// nothing, if their bytes aren't in memory, or if the type is read element by element
 /// ([`Shaped::list_of_bytes`]).
 ///
 /// # Errors

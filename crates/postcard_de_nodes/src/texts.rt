@@ -19,8 +19,8 @@ use std::str;
 /// The greatest length in bytes of a character's UTF-8.
 const LONGEST_CHAR: usize = 4;
 
-/// Reads a text that the source holds: its length in bytes, and as many bytes of UTF-8 (wire format
-/// 1.0, "string"). The text is valid as long as what the source reads from.
+/// Reads a text, which is lent from the source: its length in bytes, and that many bytes of UTF-8
+/// (wire format 1.0, "string"). The text is valid as long as what the source reads from.
 ///
 /// # Errors
 ///
@@ -87,7 +87,7 @@ pub fn short_text<F: Flavor, const CAP: usize>(flavor: &mut F) -> Result<ArraySt
     }
 }
 
-/// Reads a character: a length of at most 4, and as many bytes of UTF-8, of which the first
+/// Reads a character: a length of at most 4, and that many bytes of UTF-8, of which the first
 /// character is returned, as in postcard 1.1.3 (wire format 1.0, "char").
 ///
 /// # Errors

@@ -20,7 +20,7 @@ use postcard_ser::Serializer;
 use postcard_ser_flavors::Flavor;
 use std::alloc::Global;
 
-/// Decodes a value of the schema from the front of some bytes, and returns it with the bytes behind
+/// Decodes a value of the schema from the front of some bytes, and returns it with the bytes after
 /// that front.
 ///
 /// It succeeds exactly if a front spells a tree of the schema, padded numbers included, unless an

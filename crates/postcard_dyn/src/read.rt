@@ -66,7 +66,7 @@ fn read_option<'de, F: Flavor>(
     }
 }
 
-/// Reads a list: its count, and as many elements.
+/// Reads a list: its count, and that many elements.
 #[cycle(read)]
 fn read_list<'de, F: Flavor>(
     alloc: Global,
@@ -87,7 +87,7 @@ fn read_list<'de, F: Flavor>(
     Ok(Value::Seq(items))
 }
 
-/// Reads an array: so many elements, without a count.
+/// Reads an array: its elements, without a count.
 #[cycle(read)]
 fn read_array<'de, F: Flavor>(
     alloc: Global,

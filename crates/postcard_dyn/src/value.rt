@@ -2,7 +2,7 @@
 
 /// A value of some [`Schema`](postcard_dyn_schema::Schema).
 ///
-/// It has no names: those of fields and variants stand in the schema.
+/// It has no names: those of fields and variants are in the schema.
 #[derive(Debug, Drop)]
 pub enum Value {
     Bool(bool),

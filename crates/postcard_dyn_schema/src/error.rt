@@ -5,7 +5,7 @@ use std::fmt;
 /// What is wrong with a type expression.
 #[derive(Clone, Copy, Debug, PartialEq, Eq)]
 pub enum Problem {
-    /// Something else stands where a type is to begin, or the text ends there.
+    /// Something else is where a type is to begin, or the text ends there.
     TypeExpected,
     /// A word that names no type, or a single variant with no `|`.
     UnknownType,
@@ -35,7 +35,7 @@ pub enum Problem {
     CountTooLarge,
     /// The elements of a list, an array or a map would take no bytes.
     NoBytes,
-    /// Types nest more than 64 deep, or more than 4 `?` stand in a row.
+    /// Types nest more than 64 deep, or more than 4 `?` are in a row.
     TooDeep,
     /// The expression is whole, and more text follows it.
     EndExpected,

@@ -1,6 +1,6 @@
 //! Reading a type expression.
 //!
-//! The grammar, where blanks may stand between any two words or signs:
+//! The grammar, where blanks may be between any two words or signs:
 //!
 //! ```text
 //! type    = plain {"?"} | ["|"] variant {"|" variant}
@@ -31,7 +31,7 @@ use std::alloc::Global;
 /// How deep brackets may nest.
 const MAX_DEPTH: usize = 64;
 
-/// How many `?` may stand in a row.
+/// The greatest number of `?` in a row.
 const MAX_OPTIONS: usize = 4;
 
 /// Reads a type expression.
@@ -70,7 +70,7 @@ fn read_whole(alloc: Global, rest: &mut &[u8]) -> Result<Schema, Fault>
     Ok(schema)
 }
 
-/// Reads a type: an enum, or another with `?` behind it or none.
+/// Reads a type: an enum, or another type and any `?` after it.
 #[cycle(expression)]
 fn read_type(alloc: Global, rest: &mut &[u8], depth: usize) -> Result<Schema, Fault>
     ensures { IfOk result (λ schema. Takes (IsType depth schema) rest.old.now rest.new.now) }
@@ -124,7 +124,7 @@ fn read_plain(alloc: Global, rest: &mut &[u8], depth: usize) -> Result<Schema, F
     }
 }
 
-/// Reads a list or an array behind its `[`.
+/// Reads a list or an array after its `[`.
 #[cycle(expression)]
 fn read_list(alloc: Global, rest: &mut &[u8], depth: usize) -> Result<Schema, Fault>
     ensures { IfOk result (λ schema. Takes (IsListRest (IsType depth) schema)
@@ -146,7 +146,7 @@ fn read_list(alloc: Global, rest: &mut &[u8], depth: usize) -> Result<Schema, Fa
     Ok(Schema::Seq(element))
 }
 
-/// Reads a tuple behind its `(`. One type with no `,` is that type.
+/// Reads a tuple after its `(`. One type with no `,` is that type.
 #[cycle(expression)]
 fn read_tuple(alloc: Global, rest: &mut &[u8], depth: usize) -> Result<Schema, Fault>
     ensures { IfOk result (λ schema. Takes (IsTupleRest (IsType depth) schema)
@@ -175,7 +175,7 @@ fn read_tuple(alloc: Global, rest: &mut &[u8], depth: usize) -> Result<Schema, F
     Err(fault_at(Problem::CommaOrParenthesis, rest))
 }
 
-/// Reads a struct or a map behind its `{`. In a struct, `:` follows the first word.
+/// Reads a struct or a map after its `{`. In a struct, `:` follows the first word.
 #[cycle(expression)]
 fn read_braces(alloc: Global, rest: &mut &[u8], depth: usize) -> Result<Schema, Fault>
     ensures { IfOk result (λ schema.
@@ -193,7 +193,7 @@ fn read_braces(alloc: Global, rest: &mut &[u8], depth: usize) -> Result<Schema, 
     }
 }
 
-/// Reads the fields of a struct and the `}` behind them.
+/// Reads the fields of a struct and the `}` after them.
 #[cycle(expression)]
 fn read_fields(alloc: Global, rest: &mut &[u8], depth: usize) -> Result<Schema, Fault>
     ensures { IfOk result (λ schema. Takes (IsFieldsRest (IsType depth) schema)
@@ -222,7 +222,7 @@ fn read_fields(alloc: Global, rest: &mut &[u8], depth: usize) -> Result<Schema, 
     Err(fault_at(Problem::FieldExpected, rest))
 }
 
-/// Reads the key and the value type of a map and the `}` behind them.
+/// Reads the key and the value type of a map and the `}` after them.
 #[cycle(expression)]
 fn read_map(alloc: Global, rest: &mut &[u8], depth: usize) -> Result<Schema, Fault>
     ensures { IfOk result (λ schema. Takes (IsMapRest (IsType depth) schema)
@@ -289,7 +289,7 @@ fn read_variant(
     named(alloc, name, content, start)
 }
 
-/// Reads what a variant has behind its name: a tuple, a struct or nothing.
+/// Reads what a variant has after its name: a tuple, a struct or nothing.
 #[cycle(expression)]
 fn read_content(alloc: Global, rest: &mut &[u8], depth: usize) -> Result<Schema, Fault>
     ensures { IfOk result (λ schema. Takes (IsContent (IsType depth) schema)

@@ -90,7 +90,7 @@ pub fn take_word<'a>(rest: &mut &'a [u8]) -> &'a [u8]
     word
 }
 
-/// Returns whether a byte may stand in a word.
+/// Returns whether a byte may be in a word.
 fn is_of_word(byte: u8) -> bool
     ensures { result ≡ is_of_word_byte byte }
 {

@@ -60,12 +60,12 @@ pub enum Schema {
     Leaf(Leaf),
     /// `T?`: no value, or one of the type.
     Option(Box<Schema>),
-    /// `[T]`: a count, and as many elements.
+    /// `[T]`: a count, and that many elements.
     Seq(Box<Schema>),
-    /// `{K => V}`: a count, and as many entries, each a [`Schema::Group`] of the key and the value.
-    /// Entries keep their order, and equal keys may occur.
+    /// `{K => V}`: a count, and that many entries, each a [`Schema::Group`] of the key and the
+    /// value. Entries keep their order, and equal keys may occur.
     Map(Box<Schema>),
-    /// `[T; N]`: just so many elements, without a count.
+    /// `[T; N]`: `N` elements, without a count.
     Array(Box<Schema>, usize),
     /// A tuple `(T, U)`, the unit `()`, or a struct `{name: T, ..}`, whose parts are
     /// [`Schema::Named`].

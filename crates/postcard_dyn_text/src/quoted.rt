@@ -42,7 +42,7 @@ fn take_byte(rest: &mut &[u8]) -> Result<u8, Stop> {
     }
 }
 
-/// Takes an escape behind its `\` and adds the character that it means.
+/// Takes an escape after its `\` and adds the character that it means.
 fn take_escape(rest: &mut &[u8], bytes: &mut Vec<u8>) -> Result<(), Stop> {
     let start = *rest;
     match take_byte(rest)? {
@@ -88,7 +88,7 @@ fn take_code(rest: &mut &[u8]) -> Result<char, Stop> {
     Err(Stop::here(start))
 }
 
-/// Reads the digits of bytes behind their `0x`, two a byte.
+/// Reads the digits of bytes after their `0x`, two a byte.
 pub fn bytes_of(alloc: Global, digits: &[u8], start: &[u8]) -> Result<Vec<u8>, Stop> {
     if digits.len() % 2 != 0 {
         return Err(Stop::here(start));

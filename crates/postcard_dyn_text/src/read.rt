@@ -38,7 +38,7 @@ impl fmt::Display for TextError {
 /// Why reading stops.
 #[derive(Clone, Copy)]
 pub enum Stop {
-    /// The text is no value here, where so many bytes of it are left.
+    /// The text is no value here, where this number of its bytes is left.
     At(usize),
     /// Memory was refused.
     Memory,
@@ -53,7 +53,7 @@ impl Stop {
     }
 }
 
-/// Reads the value of the schema that a text says. Blanks may stand between any two words or signs.
+/// Reads the value of the schema that a text says. Blanks may be between any two words or signs.
 ///
 /// # Errors
 ///
@@ -85,7 +85,7 @@ fn read_whole(alloc: Global, schema: &Schema, rest: &mut &[u8]) -> Result<Value,
     Ok(value)
 }
 
-/// Takes this byte behind blanks, or stops.
+/// Takes blanks and then this byte, or stops.
 fn expect(rest: &mut &[u8], byte: u8) -> Result<(), Stop> {
     if take(rest, byte) {
         return Ok(());
@@ -94,7 +94,7 @@ fn expect(rest: &mut &[u8], byte: u8) -> Result<(), Stop> {
     Err(Stop::here(rest))
 }
 
-/// Takes these bytes in order, each behind blanks, or stops.
+/// Takes these bytes in order, each after blanks, or stops.
 fn expect_all(rest: &mut &[u8], bytes: &[u8]) -> Result<(), Stop> {
     for byte in bytes {
         expect(rest, *byte)?;
@@ -213,7 +213,7 @@ fn read_item(alloc: Global, element: &Schema, rest: &mut &[u8], close: u8) -> Re
     }
 }
 
-/// Reads an array of so many elements.
+/// Reads an array of `count` elements.
 #[cycle(text)]
 fn read_array(
     alloc: Global,
@@ -304,7 +304,7 @@ fn index_of(variants: &Vec<Schema>, name: &[u8]) -> usize {
     variants.len()
 }
 
-/// Reads the content of a variant behind its name.
+/// Reads the content of a variant after its name.
 #[cycle(text)]
 fn read_content(alloc: Global, variant: &Schema, rest: &mut &[u8]) -> Result<Value, Stop>
     ensures { IfOk result (λ v. reads (type_of variant.now) (tree v)) }
@@ -370,7 +370,7 @@ where
     }
 }
 
-/// Returns whether a byte may stand in a number or a truth value.
+/// Returns whether a byte may be in a number or a truth value.
 fn is_of_scalar(byte: u8) -> bool {
     byte.is_ascii_alphanumeric() || byte == b'-' || byte == b'+'
 }

@@ -109,7 +109,7 @@ fn show_map<W: Write>(entry: &Schema, items: &Vec<Value>, f: &mut Formatter<W>) 
     f.write_str("}")
 }
 
-/// Prints a tuple or a struct. Behind the one part of a tuple stands a `,`.
+/// Prints a tuple or a struct. A `,` follows the only part of a tuple.
 #[cycle(show)]
 fn show_group<W: Write>(
     parts: &Vec<Schema>,
@@ -181,7 +181,7 @@ pub fn is_unit(schema: &Schema) -> bool
     }
 }
 
-/// Returns whether values of the type stand in brackets of their own behind a variant's name.
+/// Returns whether values of the type are in brackets of their own after a variant's name.
 pub fn has_brackets(schema: &Schema) -> bool
     ensures group { result ≡ true → (parts : Vec Schema Global) × (schema.now ≡ Group parts) }
     ensures other { result ≡ false → (parts : Vec Schema Global) → schema.now ≡ Group parts → ⊥ }

@@ -8,7 +8,7 @@ use postcard::ser_flavors::Flavor;
 
 /// Writes to another flavor, and ends the message with a byte 0.
 ///
-/// It has room for a message only if the flavor within has room for as many bytes and one more.
+/// It has room for a message only if the flavor within has room for its bytes and one more.
 #[derive(Drop)]
 pub struct Trailed<F> {
     /// The flavor that gets all bytes.

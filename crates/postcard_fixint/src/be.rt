@@ -21,8 +21,8 @@ use std::marker::Model;
 /// A number that is written as its bytes, the highest first: 2, 4, 8 or 16 of them, with nothing
 /// before them. A signed number is written in two's complement.
 ///
-/// It stands for the number where a value is made of others: in the tuple of a struct's fields, in
-/// a list, in an option. A contract sees it as the number.
+/// It takes the number's place in a value that is made of others: in the tuple of a struct's
+/// fields, in a list, in an option. A contract sees it as the number.
 #[derive(Drop)]
 pub struct BE<T>(T);
 

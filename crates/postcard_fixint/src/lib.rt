@@ -4,11 +4,11 @@
 //! A varint is shorter for small numbers. At its full width a number takes the same room whatever
 //! it is: a random `u64`, as a hash or an identifier, 8 bytes in place of 9 or 10.
 //!
-//! `specs/Base256.antt` says what the bytes of a number are: as many as its type has, whose value
-//! in base 256 it is. `specs/Fixed.antt` makes a shape of it, laws included: what was written is
-//! read back as the same number, and any bytes of that count are read.
+//! `specs/Base256.antt` says what the bytes of a number are: those, as many as its type has, whose
+//! value in base 256 it is. `specs/Fixed.antt` makes a shape of it, laws included: what was written
+//! is read back as the same number, and any bytes of that count are read.
 //!
-//! In a struct, a [`LE`] or [`BE`] stands for the number in the tuple of the fields:
+//! In a struct, the tuple of the fields has a [`LE`] or [`BE`] for the number:
 //!
 //! ```text
 //! impl Repr for Header {

@@ -18,8 +18,8 @@ use std::alloc::Global;
 /// after the value are ignored.
 ///
 /// It succeeds exactly where the frame has data of which a front spells a tree that the type reads,
-/// want of memory aside; so the made frame of a value that fits gives that value, with its sentinel
-/// or without.
+/// unless an allocation fails; so the made frame of a value that fits gives that value, with its
+/// sentinel or without.
 ///
 /// # Errors
 ///

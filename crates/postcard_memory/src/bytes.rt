@@ -41,7 +41,7 @@ impl<'de> Bytes<'de> {
         let start = self.start;
         // SAFETY: a byte lies at `start`, so the next place is at most the end of the bytes.
         self.start = unsafe { start.add(1) };
-        // SAFETY: as above, and nobody writes the byte during 'de.
+        // SAFETY: as above, and the byte isn't written during 'de.
         unsafe { *start }
     }
 
@@ -54,7 +54,7 @@ impl<'de> Bytes<'de> {
         let start = self.start;
         // SAFETY: at least `count` bytes lie at `start`.
         self.start = unsafe { start.add(count) };
-        // SAFETY: as above, and nobody writes them during 'de.
+        // SAFETY: as above, and they aren't written during 'de.
         unsafe { slice::from_raw_parts(start, count) }
     }
 
@@ -63,7 +63,7 @@ impl<'de> Bytes<'de> {
         requires { len ≡ length self.now.items }
         ensures { result.now ≡ self.now.items }
     {
-        // SAFETY: `len` bytes lie at `start`, and nobody writes them during 'de.
+        // SAFETY: `len` bytes lie at `start`, and they aren't written during 'de.
         unsafe { slice::from_raw_parts(self.start, len) }
     }
 
@@ -73,7 +73,7 @@ impl<'de> Bytes<'de> {
         ensures { result.now ≡ self.entry.items }
     {
         let Bytes { start, mark: _ } = self;
-        // SAFETY: `len` bytes lie at `start`, and nobody writes them during 'de.
+        // SAFETY: `len` bytes lie at `start`, and they aren't written during 'de.
         unsafe { slice::from_raw_parts(start, len) }
     }
 }

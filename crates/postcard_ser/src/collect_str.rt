@@ -1,5 +1,5 @@
-//! A value written as the text that it prints: the text is counted in a first pass, and handed over
-//! in a second.
+//! A value written as the text that it prints: the text is counted in a first pass, and written in
+//! a second.
 
 ghost use Rattle.std.specs.Prelude.{◌≡◌, ◌↔◌, ◌+◌, ◌^◌, ◌<◌, length, ⊤, IsOk, OnOk, IfOk, IfErr, IsErrOf, IsUtf8, IfSome};
 ghost use Rattle.postcard_wire.specs.Number.{digits};
@@ -16,7 +16,7 @@ use std::fmt;
 use std::fmt::{Display, Formatter, Write};
 use std::marker::{Brand, PhantomData};
 
-/// Counts the bytes of a text. A count past `usize::MAX` is a fault of the formatting.
+/// Counts the bytes of a text. A count above `usize::MAX` is an error of the formatting.
 #[derive(Drop)]
 struct CountWriter {
     count: usize,
@@ -40,7 +40,7 @@ impl fmt::Write for CountWriter {
     }
 }
 
-/// What holds of a flavor however often it was pushed to. The call of `write_text` picks it.
+/// What holds of a flavor after any number of pushes. The call of `write_text` picks it.
 trait Lasting<F> {
     ghost lasts: { F → Type 0 };
 }
@@ -49,7 +49,7 @@ impl<F> Lasting<F> for Brand {
     ghost lasts = { λ _. ⊤ };
 }
 
-/// Hands the pieces of a text to a flavor. A refusal is a fault of the formatting.
+/// Writes the pieces of a text to a flavor. A failure is an error of the formatting.
 struct FmtWriter<F: Flavor, K: Lasting<F>> {
     output: F,
     of: PhantomData<K>,
@@ -71,7 +71,7 @@ impl<F: Flavor, K: Lasting<F>> fmt::Write for FmtWriter<F, K> {
     }
 }
 
-/// The count of the bytes that a value prints.
+/// Returns the number of bytes that a value prints.
 fn count_text<T: Display>(value: &T) -> std::result::Result<usize, fmt::Error>
     ensures { IfOk result
         (λ n. IfSome (T.output value.now) (λ u. (n ≡ length u) × IsUtf8 u)) }
@@ -81,7 +81,7 @@ fn count_text<T: Display>(value: &T) -> std::result::Result<usize, fmt::Error>
     Ok(writer.count)
 }
 
-/// Hands over what a value prints, and gives back the flavor, of which what lasts still holds.
+/// Writes what a value prints, and returns the flavor, of which what lasts still holds.
 fn write_text<T: Display, F: Flavor, K: Lasting<F>>(output: F, value: &T) -> (F, fmt::Result)
     requires lasts { K.lasts output }
     requires kept { (s t : F) → K.lasts s → F.Flavor.reaches s t → K.lasts t }
@@ -99,7 +99,7 @@ fn write_text<T: Display, F: Flavor, K: Lasting<F>>(output: F, value: &T) -> (F,
     (output, result)
 }
 
-/// Hands over what a value prints, and gives back the flavor, which is one that pushes may leave.
+/// Writes what a value prints, and returns the flavor, which is one that pushes may leave.
 fn print<T: Display, F: Flavor>(output: F, value: &T) -> (F, fmt::Result)
     ensures appends { OnOk result.1
         (IfSome (T.output value.now) (λ u. F.appended output u result.0)) }

@@ -12,8 +12,8 @@ use postcard_wire::Result;
 /// A type whose values are written, as their shape says.
 ///
 /// A struct or an enum of one's own implements `SerializeRepr`, and has this trait by that. A type
-/// implements this trait itself where it says its shape itself, by `Shaped`: one that refuses
-/// values, as one whose text may fail to print.
+/// implements this trait itself if it says its shape itself, by `Shaped`: one that refuses values,
+/// as one whose text may fail to print.
 pub trait Serialize: Shaped {
     /// Writes the canonical encoding of the value's tree.
     ///

@@ -26,7 +26,7 @@ use postcard_wire::{Error, Result};
 /// own error is. The output then holds the pieces that were taken before.
 #[derive(Drop)]
 pub struct Serializer<F: Flavor> {
-    /// Where the bytes go.
+    /// The flavor that the bytes go to.
     pub output: F,
 }
 
@@ -38,28 +38,28 @@ fn refusal(_of_flavor: Error) -> Error
 }
 
 impl<F: Flavor> Serializer<F> {
-    // Hands over a byte.
+    // Writes a byte.
     fn push(&mut self, byte: u8) -> Result<()>
         ensures { Wrote F.Flavor self.old.output (byte ∷ []) ⊥ ⊥ result self.new.output }
     {
         self.output.try_push(byte).map_err(refusal)
     }
 
-    // Hands over bytes in a row.
+    // Writes bytes in a row.
     pub(crate) fn extend(&mut self, piece: &[u8]) -> Result<()>
         ensures { Wrote F.Flavor self.old.output piece.now ⊥ ⊥ result self.new.output }
     {
         self.output.try_extend(piece).map_err(refusal)
     }
 
-    // Hands over the varint of a number.
+    // Writes the varint of a number.
     fn varint(&mut self, n: u64) -> Result<()>
         ensures { Wrote F.Flavor self.old.output (digits n) ⊥ ⊥ result self.new.output }
     {
         self.output.try_varint(n).map_err(refusal)
     }
 
-    // Hands over the count of the bytes, and then the bytes.
+    // Writes the count of the bytes, and then the bytes.
     fn extend_counted(&mut self, piece: &[u8]) -> Result<()>
         ensures { Wrote F.Flavor self.old.output (digits (length piece.now) ++ piece.now) ⊥ ⊥
             result self.new.output }

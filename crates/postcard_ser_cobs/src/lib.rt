@@ -3,7 +3,7 @@
 //!
 //! COBS (Cheshire and Baker 1999) turns any data into a frame whose one zero is its last byte, the
 //! sentinel, so that a receiver finds where each frame ends. The data is cut into groups, and in
-//! front of each group stands its code byte, which is the number of its bytes plus one:
+//! front of each group is its code byte, which is the number of its bytes plus one:
 //!
 //! ```text
 //! data        01  00  20 30

@@ -12,7 +12,7 @@ use std::marker::Model;
 use std::ops::{Index, IndexMut};
 
 /// Appends to a vector that grows by the allocator, to a multiple of its capacity at a time. A
-/// piece is written whole, in one copy, or not at all. It refuses for want of memory alone.
+/// piece is written whole, in one copy, or not at all. It fails only if an allocation fails.
 ///
 /// A contract sees the bytes that it holds.
 #[derive(Drop)]
@@ -32,7 +32,7 @@ impl Model for AllocVec {
 }
 
 impl AllocVec {
-    /// Holds nothing. Memory is asked for by the first byte.
+    /// Returns a flavor that holds nothing. The first byte allocates.
     pub fn new(alloc: Global) -> AllocVec
         ensures { result ≡ [] }
     {
@@ -64,8 +64,8 @@ impl Flavor for AllocVec {
 
     ghost lawful = { grows_lawful (λ s. s) };
 
-    /// Writes a byte. Refuses with `SerializeBufferFull` where the allocator refuses to let the
-    /// vector grow, and is then unchanged.
+    /// Writes a byte. Fails with `SerializeBufferFull` if an allocation fails, and is then
+    /// unchanged.
     fn try_push(&mut self, byte: u8) -> Result<()>
         ensures appends { OnOk result
             (⟦<AllocVec as Flavor>⟧.appended self.old (byte ∷ []) self.new) }
@@ -79,8 +79,8 @@ impl Flavor for AllocVec {
         self.vec.push(byte).map_err(|_| Error::SerializeBufferFull)
     }
 
-    /// Writes bytes in a row. Refuses with `SerializeBufferFull` where the allocator refuses to let
-    /// the vector grow, and is then unchanged.
+    /// Writes bytes in a row. Fails with `SerializeBufferFull` if an allocation fails, and is then
+    /// unchanged.
     fn try_extend(&mut self, bytes: &[u8]) -> Result<()>
         ensures appends { OnOk result
             (⟦<AllocVec as Flavor>⟧.appended self.old bytes.now self.new) }
@@ -96,7 +96,7 @@ impl Flavor for AllocVec {
             .map_err(|_| Error::SerializeBufferFull)
     }
 
-    /// The vector. Never refuses.
+    /// Returns the vector. Never fails.
     fn finalize(self) -> Result<Vec<u8>>
         ensures gives { IfOk result (λ output. ⟦<AllocVec as Flavor>⟧.finishes self output) }
         ensures closes { ⟦<AllocVec as Flavor>⟧.room self [] → IsOk result }

@@ -8,11 +8,11 @@ use crate::flavor::Flavor;
 use postcard_wire::{Error, Result};
 use std::marker::Model;
 
-/// Takes bytes behind those that it has. Its member `content` is the list of them.
+/// Something that bytes can be appended to. Its member `content` is the list of its bytes.
 pub trait ExtendBytes {
     ghost content: { Self → List ℕ };
 
-    /// Appends the bytes. Refused, it is unchanged; with which error is the implementor's choice.
+    /// Appends the bytes. If it fails, with whatever error, the content is unchanged.
     fn extend(&mut self, data: &[u8]) -> Result<()>
         ensures appends { OnOk result (content self.new ≡ content self.old ++ «data».now) }
         ensures unchanged { OnErr result (content self.new ≡ content self.old) };
@@ -21,8 +21,8 @@ pub trait ExtendBytes {
 impl ExtendBytes for Vec<u8> {
     ghost content = { λ v. v.items };
 
-    /// Appends the bytes in one copy. Refuses with `SerializeBufferFull` where the allocator
-    /// refuses to let the vector grow, and is then unchanged.
+    /// Appends the bytes in one copy. Fails with `SerializeBufferFull` if an allocation fails, and
+    /// is then unchanged.
     fn extend(&mut self, data: &[u8]) -> Result<()>
         ensures appends { OnOk result (self.new.items ≡ self.old.items ++ «data».now) }
         ensures unchanged { OnErr result (self.new.items ≡ self.old.items) }
@@ -33,7 +33,7 @@ impl ExtendBytes for Vec<u8> {
     }
 }
 
-/// Hands each piece to what can be extended, and ends as that.
+/// Appends each piece to what can be extended, and ends as that.
 ///
 /// A contract sees what is extended, as it is.
 #[derive(Drop)]
@@ -50,7 +50,7 @@ impl<T: ExtendBytes> Model for ExtendFlavor<T> {
 }
 
 impl<T: ExtendBytes + Drop> ExtendFlavor<T> {
-    /// Stands behind what the target has.
+    /// Starts after what the target holds.
     pub fn new(target: T) -> ExtendFlavor<T>
         ensures { result ≡ target }
     {
@@ -73,8 +73,8 @@ impl<T: ExtendBytes + Drop> Flavor for ExtendFlavor<T> {
 
     ghost lawful = { grows_lawful T.content };
 
-    /// Hands a byte on. Refuses with `SerializeBufferFull` where the target refuses, whose content
-    /// is then unchanged.
+    /// Passes a byte on. Fails with `SerializeBufferFull` if the target fails, whose content is
+    /// then unchanged.
     fn try_push(&mut self, byte: u8) -> Result<()>
         ensures appends { OnOk result
             (⟦<ExtendFlavor<T> as Flavor>⟧.appended self.old (byte ∷ []) self.new) }
@@ -88,8 +88,8 @@ impl<T: ExtendBytes + Drop> Flavor for ExtendFlavor<T> {
         self.try_extend(&[byte])
     }
 
-    /// Hands bytes on in one piece. Refuses with `SerializeBufferFull` where the target refuses,
-    /// whose content is then unchanged.
+    /// Passes bytes on in one piece. Fails with `SerializeBufferFull` if the target fails, whose
+    /// content is then unchanged.
     fn try_extend(&mut self, bytes: &[u8]) -> Result<()>
         ensures appends { OnOk result
             (⟦<ExtendFlavor<T> as Flavor>⟧.appended self.old bytes.now self.new) }
@@ -105,7 +105,7 @@ impl<T: ExtendBytes + Drop> Flavor for ExtendFlavor<T> {
             .map_err(|_| Error::SerializeBufferFull)
     }
 
-    /// The target. Never refuses.
+    /// Returns the target. Never fails.
     fn finalize(self) -> Result<T>
         ensures gives { IfOk result (λ output. ⟦<ExtendFlavor<T> as Flavor>⟧.finishes self output) }
         ensures closes { ⟦<ExtendFlavor<T> as Flavor>⟧.room self [] → IsOk result }

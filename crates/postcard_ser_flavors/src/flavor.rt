@@ -7,15 +7,15 @@ ghost use Rattle.postcard_ser_flavors.specs.Flavor.{Begins, IsFlavor};
 use postcard_wire::Result;
 use postcard_wire::varint::{VARINT_MAX_64, varint_u64};
 
-/// Takes the bytes of a message, and ends as its output.
+/// A writing flavor: takes the bytes of a message, and ends as its output.
 ///
 /// An impl defines these members:
 /// - `appended old bytes new`: `new` holds what `old` did, and then these bytes. A flavor that holds no
 ///   bytes says it of what it has instead, as a count.
-/// - `room state bytes`: these bytes are surely taken, however they are cut into pieces. Room for no
-///   bytes says that `finalize` succeeds.
-/// - `tidy`: a refusal leaves a beginning of the refused bytes appended, or nothing.
-/// - `reaches old new`: calls that push may make `new` of `old`, refused calls among them.
+/// - `room state bytes`: pushing these bytes succeeds, in whatever pieces. Room for no bytes says
+///   that `finalize` succeeds.
+/// - `tidy`: a call that fails has appended a beginning of its bytes, or nothing.
+/// - `reaches old new`: calls that push may make `new` of `old`, also calls that fail.
 /// - `finishes last output`: the output of a flavor whose last state this is.
 /// - `lawful`: what holds of these words in each flavor.
 pub trait Flavor {
@@ -67,7 +67,7 @@ pub trait Flavor {
         self.try_extend(varint_u64(n, &mut out))
     }
 
-    /// Ends the message, and answers the output.
+    /// Ends the message, and returns the output.
     fn finalize(self) -> Result<Self::Output>
         ensures gives { IfOk result (λ output. finishes self output) }
         ensures closes { room self [] → IsOk result };

@@ -31,7 +31,7 @@ impl<const B: usize> Model for HVec<B> {
 }
 
 impl<const B: usize> HVec<B> {
-    /// Holds nothing.
+    /// Returns a flavor that holds nothing.
     pub fn new() -> HVec<B>
         ensures { result ≡ [] }
     {
@@ -44,7 +44,7 @@ impl<const B: usize> HVec<B> {
 impl<const B: usize> Default for HVec<B> {
     ghost is_default = { λ s. s ≡ [] };
 
-    /// Holds nothing.
+    /// Returns a flavor that holds nothing.
     fn default() -> HVec<B> {
         HVec::new()
     }
@@ -65,7 +65,7 @@ impl<const B: usize> Flavor for HVec<B> {
 
     ghost lawful = { fixed_lawful (λ s. s) B };
 
-    /// Writes a byte. Refuses with `SerializeBufferFull` exactly where `B` bytes are held, and is
+    /// Writes a byte. Fails with `SerializeBufferFull` if and only if `B` bytes are held, and is
     /// then unchanged.
     fn try_push(&mut self, byte: u8) -> Result<()>
         ensures appends { OnOk result
@@ -83,7 +83,7 @@ impl<const B: usize> Flavor for HVec<B> {
             .map_err(|_| Error::SerializeBufferFull)
     }
 
-    /// Writes bytes in a row. Refuses with `SerializeBufferFull` exactly where more than `B` bytes
+    /// Writes bytes in a row. Fails with `SerializeBufferFull` if and only if more than `B` bytes
     /// would be held, and is then unchanged.
     fn try_extend(&mut self, bytes: &[u8]) -> Result<()>
         ensures appends { OnOk result (⟦<HVec<B> as Flavor>⟧.appended self.old bytes.now self.new) }
@@ -100,7 +100,7 @@ impl<const B: usize> Flavor for HVec<B> {
             .map_err(|_| Error::SerializeBufferFull)
     }
 
-    /// The vector. Never refuses.
+    /// Returns the vector. Never fails.
     fn finalize(self) -> Result<ArrayVec<u8, B>>
         ensures gives { IfOk result (λ output. ⟦<HVec<B> as Flavor>⟧.finishes self.entry output) }
         ensures closes { ⟦<HVec<B> as Flavor>⟧.room self.entry [] → IsOk result }

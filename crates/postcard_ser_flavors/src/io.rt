@@ -11,10 +11,10 @@ use postcard_wire::{Error, Result};
 use std::io::Write;
 use std::marker::Model;
 
-/// Hands each piece to a writer, whole, and flushes it at the end. Its output is the writer.
+/// Writes each piece to a writer, whole, and flushes it at the end. Its output is the writer.
 ///
-/// A contract sees the writer, and speaks of the bytes in it where the writer tells them. What a
-/// writer that failed has got is left open.
+/// A contract sees the writer, and its bytes if the writer knows them. A writer that failed may
+/// have got some of the bytes.
 #[derive(Drop)]
 pub struct WriteFlavor<T: Write> {
     writer: T,
@@ -29,7 +29,7 @@ impl<T: Write> Model for WriteFlavor<T> {
 }
 
 impl<T: Write + Drop> WriteFlavor<T> {
-    /// Stands behind what was written to the writer before.
+    /// Starts after what was written to the writer before.
     pub fn new(writer: T) -> WriteFlavor<T>
         ensures { result ≡ writer }
     {
@@ -52,7 +52,7 @@ impl<T: Write + Drop> Flavor for WriteFlavor<T> {
 
     ghost lawful = { told_lawful T.contents };
 
-    /// Hands a byte on. Refuses with `SerializeBufferFull` where the writer fails.
+    /// Passes a byte on. Fails with `SerializeBufferFull` if the writer fails.
     fn try_push(&mut self, byte: u8) -> Result<()>
         ensures appends { OnOk result
             (⟦<WriteFlavor<T> as Flavor>⟧.appended self.old (byte ∷ []) self.new) }
@@ -65,8 +65,8 @@ impl<T: Write + Drop> Flavor for WriteFlavor<T> {
         self.try_extend(&[byte])
     }
 
-    /// Hands bytes on in one piece, by `write_all`. Refuses with `SerializeBufferFull` where the
-    /// writer fails.
+    /// Passes bytes on in one piece, by `write_all`. Fails with `SerializeBufferFull` if the writer
+    /// fails.
     fn try_extend(&mut self, bytes: &[u8]) -> Result<()>
         ensures appends { OnOk result
             (⟦<WriteFlavor<T> as Flavor>⟧.appended self.old bytes.now self.new) }
@@ -81,8 +81,8 @@ impl<T: Write + Drop> Flavor for WriteFlavor<T> {
             .map_err(|_| Error::SerializeBufferFull)
     }
 
-    /// Flushes the writer and answers it. Refuses with `SerializeBufferFull` where the flush fails;
-    /// the writer is then dropped.
+    /// Flushes the writer and returns it. Fails with `SerializeBufferFull` if the flush fails; the
+    /// writer is then dropped.
     fn finalize(self) -> Result<T>
         ensures gives { IfOk result (λ output. ⟦<WriteFlavor<T> as Flavor>⟧.finishes self output) }
         ensures closes { ⟦<WriteFlavor<T> as Flavor>⟧.room self [] → IsOk result }

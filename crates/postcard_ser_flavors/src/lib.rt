@@ -1,25 +1,25 @@
 //! Where written bytes go: a flavor takes them one by one or many at once, and ends as its output.
 //!
 //! The one contract is that of [`Flavor`]. After an `Ok` the bytes that were passed are `appended`;
-//! bytes that it has `room` for are taken; what a call leaves, also a refused one, `reaches` tells. The
-//! laws of these words are its member `lawful`. The layer above cites nothing else, but for a `Slice`,
-//! whose `into_parts` says what a caller's buffer ends as.
+//! bytes that it has `room` for are taken; `reaches` says what a call leaves, also one that fails.
+//! The laws of these words are its member `lawful`. The layer above cites nothing else, but for a
+//! `Slice`, whose `into_parts` says what a caller's buffer ends as.
 //!
 //! Which flavor for what:
 //!
-//! | A message goes | Flavor | Ends as | Refuses |
+//! | A message goes | Flavor | Ends as | Fails |
 //! |---|---|---|---|
-//! | into bytes that the caller has | [`Slice`] | the part that was written | a piece that doesn't fit |
-//! | into a value, with no memory asked for | [`HVec`] | an `ArrayVec` | a piece that doesn't fit |
-//! | into memory that grows | [`AllocVec`], also [`StdVec`] | a `Vec` | for want of memory |
-//! | behind what a target has | [`ExtendFlavor`] | the target | where the target does |
-//! | to a file, a socket or the like | [`io::WriteFlavor`] | the writer, flushed | where it fails |
-//! | nowhere, but is counted | [`Size`] | the number of bytes | past `usize::MAX` |
+//! | into bytes that the caller has | [`Slice`] | the part that was written | if a piece doesn't fit |
+//! | into a value, with nothing allocated | [`HVec`] | an `ArrayVec` | if a piece doesn't fit |
+//! | into memory that grows | [`AllocVec`], also [`StdVec`] | a `Vec` | if an allocation fails |
+//! | after what a target holds | [`ExtendFlavor`] | the target | if the target does |
+//! | to a file, a socket or the like | [`io::WriteFlavor`] | the writer, flushed | if it fails |
+//! | nowhere, but is counted | [`Size`] | the number of bytes | above `usize::MAX` |
 //!
-//! Each refuses with `SerializeBufferFull`. `Slice`, `HVec`, `AllocVec` and `Size` are unchanged by a
-//! refusal, and so is the content of the target of an `ExtendFlavor`; what a writer that failed has got is
-//! left open. A user's own flavor, also one over another flavor, meets the same trait; `tests` has one
-//! that writes to two others.
+//! Each fails with `SerializeBufferFull`. `Slice`, `HVec`, `AllocVec` and `Size` are unchanged by a
+//! failure, and so is the content of the target of an `ExtendFlavor`; a writer that failed may have
+//! got some of the bytes. A user's own flavor, also one over another flavor, meets the same trait;
+//! `tests` has one that writes to two others.
 //!
 //! To be read in this order:
 //! - `flavor`: the trait.

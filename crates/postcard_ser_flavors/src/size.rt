@@ -27,7 +27,7 @@ impl Model for Size {
 impl Default for Size {
     ghost is_default = { λ s. s ≡ 0 };
 
-    /// Stands at 0 bytes.
+    /// Starts at a count of zero.
     fn default() -> Size {
         Size { count: 0 }
     }
@@ -65,7 +65,7 @@ impl Flavor for Size {
 
     ghost lawful = { count_lawful };
 
-    /// Counts a byte. Refuses with `SerializeBufferFull` exactly where the count would pass
+    /// Counts a byte. Fails with `SerializeBufferFull` if and only if the count would pass
     /// `usize::MAX`, and is then unchanged.
     fn try_push(&mut self, byte: u8) -> Result<()>
         ensures appends { OnOk result (⟦<Size as Flavor>⟧.appended self.old (byte ∷ []) self.new) }
@@ -81,7 +81,7 @@ impl Flavor for Size {
         self.add(1)
     }
 
-    /// Counts bytes. Refuses with `SerializeBufferFull` exactly where the count would pass
+    /// Counts bytes. Fails with `SerializeBufferFull` if and only if the count would pass
     /// `usize::MAX`, and is then unchanged.
     fn try_extend(&mut self, bytes: &[u8]) -> Result<()>
         ensures appends { OnOk result (⟦<Size as Flavor>⟧.appended self.old bytes.now self.new) }
@@ -96,7 +96,7 @@ impl Flavor for Size {
         self.add(bytes.len())
     }
 
-    /// The count. Never refuses.
+    /// Returns the count. Never fails.
     fn finalize(self) -> Result<usize>
         ensures gives { IfOk result (λ output. ⟦<Size as Flavor>⟧.finishes self output) }
         ensures closes { ⟦<Size as Flavor>⟧.room self [] → IsOk result }

@@ -17,8 +17,8 @@ mod storage;
 
 /// Fills a slice from its front. A piece is written whole or not at all.
 ///
-/// A contract sees the loan that it stands over, the bytes of the whole slice (`buffer`), and how many
-/// of them at the front are held (`count`).
+/// A contract sees the loan of the slice, the bytes of the whole slice (`buffer`), and the number
+/// of those at the front that are held (`count`).
 #[derive(Drop)]
 pub struct Slice<'a> {
     memory: Memory<'a>,
@@ -43,7 +43,7 @@ impl<'a> Model for Slice<'a> {
 }
 
 impl<'a> Slice<'a> {
-    /// Stands before the first byte of the slice.
+    /// Starts at the front of the slice.
     pub fn new(buf: &'a mut [u8]) -> Slice<'a>
         ensures same_loan { result.loan ≡ buf.entry.ghost_name }
         ensures all { (result.buffer ≡ buf.old) × (result.count ≡ 0) }
@@ -56,8 +56,9 @@ impl<'a> Slice<'a> {
         }
     }
 
-    /// The whole slice that was lent, and how many bytes at its front were written. The Rust crate has
-    /// no such call: by it a caller can say what its buffer ends as, also after a refusal.
+    /// Returns the whole slice that was lent, and the number of bytes written at its front. The
+    /// Rust crate has no such call: with it a caller can say what its buffer ends as, also after a
+    /// failure.
     pub fn into_parts(self) -> (&'a mut [u8], usize)
         ensures same_loan { result.0.ghost_name ≡ self.entry.loan }
         ensures parts { (result.0.now ≡ self.entry.buffer) × (result.1 ≡ self.entry.count) }
@@ -87,7 +88,7 @@ impl<'a> Flavor for Slice<'a> {
 
     ghost lawful = { slice_lawful };
 
-    /// Writes a byte. Refuses with `SerializeBufferFull` exactly where none is free, and is then
+    /// Writes a byte. Fails with `SerializeBufferFull` if and only if none is free, and is then
     /// unchanged.
     fn try_push(&mut self, byte: u8) -> Result<()>
         ensures appends { OnOk result
@@ -110,8 +111,8 @@ impl<'a> Flavor for Slice<'a> {
         Ok(())
     }
 
-    /// Writes bytes in a row. Refuses with `SerializeBufferFull` exactly where they are more than are
-    /// free, and is then unchanged.
+    /// Writes bytes in a row. Fails with `SerializeBufferFull` if and only if they are more than
+    /// are free, and is then unchanged.
     fn try_extend(&mut self, bytes: &[u8]) -> Result<()>
         ensures appends { OnOk result
             (⟦<Slice<'static> as Flavor>⟧.appended self.old bytes.now self.new) }
@@ -162,7 +163,7 @@ impl<'a> Flavor for Slice<'a> {
         Ok(())
     }
 
-    /// The bytes written. Never refuses.
+    /// Returns the bytes written. Never fails.
     fn finalize(self) -> Result<&'a mut [u8]>
         ensures gives { IfOk result
             (λ output. ⟦<Slice<'static> as Flavor>⟧.finishes self.entry output) }

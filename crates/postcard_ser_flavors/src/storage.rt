@@ -12,8 +12,7 @@ use std::ops::IndexMut;
 /// An impl defines these members beside those of [`Flavor`]:
 /// - `held state`: the bytes written so far, from the first on. Bytes from before a frame are among
 ///   them.
-/// - `free state n`: any `n` bytes more are surely taken, whichever they are and however they are
-///   cut into pieces.
+/// - `free state n`: pushing any `n` more bytes succeeds, in whatever pieces.
 /// - `free_lawful`, `storage_lawful`, `indexed`: what holds of these in each storage; by the last,
 ///   a byte that is held can be read by its place.
 pub trait Storage: Flavor + IndexMut<usize, Output = u8> {
@@ -34,7 +33,7 @@ pub trait Storage: Flavor + IndexMut<usize, Output = u8> {
         ensures leaves { Self.reaches self.old self.new }
         ensures countable { length (held self.new) < 2 ^ 64 };
 
-    /// Returns the number of bytes held. A frame that is written behind these bytes starts at this
+    /// Returns the number of bytes held. A frame that is written after these bytes starts at this
     /// place.
     fn held_len(&self) -> usize
         ensures { result ≡ length (held self.now) };

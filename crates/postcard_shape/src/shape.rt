@@ -12,13 +12,13 @@ use std::alloc::Global;
 
 /// A type that says what its values are on the wire, once for both directions.
 ///
-/// [`Repr`] is the short way for structs and enums. A type says its shape itself where it refuses
-/// values, or where it is made of no other type.
+/// [`Repr`] is the short way for structs and enums. A type says its shape itself if it refuses
+/// values, or if it is made of no other type.
 pub trait Shaped {
     /// The tree of each value, the trees that are read, their values, and the laws that tie them.
     ghost shape: { Shape Self };
 
-    /// Returns the encodings of `items` one after the other if just these bytes stand in memory, as
+    /// Returns the encodings of `items` one after the other if just these bytes are in memory, as
     /// those of a slice of `u8` do, which is then written as one piece. Returns `None` otherwise.
     fn slice_bytes(items: &[Self]) -> Option<&[u8]>
     where
@@ -32,8 +32,8 @@ pub trait Shaped {
     }
 
     /// Returns the list whose elements `bytes` encode, one byte each, if the values of the type are
-    /// bytes as they stand, as those of `u8` are. Returns `None` for every other type, whose lists
-    /// are read element by element.
+    /// bytes as they are in memory, as those of `u8`. Returns `None` for every other type, whose
+    /// lists are read element by element.
     ///
     /// # Errors
     ///

@@ -1,6 +1,7 @@
-//! Varints read byte by byte, from wherever the bytes come (wire format 1.0, "varint encoded integers").
+//! Varints, read byte by byte from any source (wire format 1.0, "varint encoded integers").
 //!
-//! A padded spelling, as `80 00` for 0, is accepted as long as it has no more bytes than the width allows.
+//! A padded spelling, such as `80 00` for 0, is accepted if it has no more bytes than the width
+//! allows.
 
 ghost use Rattle.std.specs.Prelude.{◌≡◌, ◌≤◌, ◌*◌, ◌++◌, ◌∷◌, [], ℕ, List, MatchBool};
 ghost use Rattle.postcard_wire.specs.Digits.{Within};
@@ -9,7 +10,8 @@ ghost use Rattle.postcard_wire.specs.Digits.{HasRead, Answers};
 
 use crate::error::{Error, Result};
 
-/// The digits read so far of a number that goes on: its bytes were all 128 or more, and fewer than its width allows.
+/// The digits read so far of a varint that goes on: its bytes were all 128 or more, and fewer than its
+/// width allows.
 #[derive(Clone, Copy)]
 pub struct Digits {
     value: u128,
@@ -17,18 +19,21 @@ pub struct Digits {
 }
 
 impl Digits {
-    /// No digit yet, of a number of any width.
+    /// Returns an empty accumulator, for a varint of any width.
     pub fn new() -> Digits
         ensures { (w : ℕ) → IsWidth w → HasRead w [] result }
     {
         Digits { value: 0, count: 0 }
     }
 
-    /// Takes the next byte of a number of 16, 32, 64 or 128 bits, the same at each byte of one number. Answers the
-    /// number where this was its last byte, and `None` where more are to come.
+    /// Takes the next byte of a varint of `bits` bits: 16, 32, 64 or 128, the same for each byte of one
+    /// varint. Returns the number if this was its last byte, or `None` if more bytes follow.
     ///
-    /// [`Error::DeserializeBadVarint`] comes where the number now has its full length, 3, 5, 10 or 19 bytes, and this
-    /// byte goes on or says more than the width holds. After the number, or the error, begin anew.
+    /// # Errors
+    ///
+    /// Fails with [`Error::DeserializeBadVarint`] if the varint now has its full length, 3, 5, 10 or 19
+    /// bytes, and this byte says that another follows or exceeds the width. After the number or the
+    /// error, start with a new accumulator.
     pub fn push(&mut self, bits: u32, byte: u8) -> Result<Option<u128>>
         requires width { IsWidth bits }
         requires begun { (p : List ℕ) × HasRead bits p self.old }
@@ -46,8 +51,8 @@ impl Digits {
     }
 }
 
-/// Whether the digit of a byte at a place, the first being 0, stays within so many bits. A byte that goes on counts
-/// as too great where no further place is left.
+/// Returns whether the digit of `byte` at `place`, counted from 0, fits in `bits` bits. A byte that says
+/// that another follows doesn't fit at the last place.
 fn is_within(bits: u32, place: u32, byte: u8) -> bool
     requires few { bits ≤ 128 }
     requires within { 7 * place ≤ bits }

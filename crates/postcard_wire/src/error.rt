@@ -10,53 +10,55 @@ use std::{error, fmt};
 
 /// Why a value was not written or not read.
 ///
-/// The cases are those of postcard 1.1.3 in its order, and then [`Error::OutOfMemory`], which is this port's own. An
-/// error carries nothing else, so it says neither where in the bytes nor in which part of a value it arose. Three
-/// cases are kept so that a `match` may name them, and are never answered by this port's own calls:
+/// The variants are those of postcard 1.1.3 in its order, and then [`Error::OutOfMemory`], which is this
+/// port's own. An error doesn't say where in the bytes or in which part of a value it arose. Three
+/// variants are there so that a `match` can name them; no call of this port returns them:
 /// [`Error::NotYetImplemented`], [`Error::DeserializeBadEnum`] and [`Error::DeserializeBadCrc`].
 ///
-/// `Display` prints the texts of postcard 1.1.3, and `Debug` the name of the case.
+/// `Display` prints the texts of postcard 1.1.3, and `Debug` the name of the variant.
 #[derive(Clone, Debug, Drop, PartialEq, Eq)]
 pub enum Error {
-    /// A call that the format has no bytes for, since nothing in a message says of which type it is: reading a value
-    /// of any type, an identifier, or a value that is to be ignored. Nothing was read.
+    /// A call that the format can't serve, since a message doesn't say of which type it is: reading a
+    /// value of any type, an identifier, or a value to be ignored. Nothing was read.
     WontImplement,
-    /// Never answered by this port: what the format has not yet.
+    /// Never returned by this port: a feature that the format doesn't have yet.
     NotYetImplemented,
-    /// A writing flavor refused a piece: its room ran out, its memory could not grow, its writer failed, or its count
-    /// of bytes would pass `usize::MAX`.
+    /// A writing flavor refused bytes: it has no room left, an allocation or its writer failed, or its
+    /// count of bytes would exceed `usize::MAX`.
     SerializeBufferFull,
-    /// A list or a map was announced without a length. Nothing was written.
+    /// A list or a map was begun without a length. Nothing was written.
     SerializeSeqLengthUnknown,
-    /// The bytes end before the value does. From a reader also: it failed, or the scratch for a lent piece is too
-    /// short.
+    /// The bytes end before the value does. Over a reader also: the reader failed, or the scratch buffer
+    /// is too short for what is lent.
     DeserializeUnexpectedEnd,
-    /// A number has its full length, 3, 5, 10 or 19 bytes for 16, 32, 64 or 128 bits, and its last byte goes on or
-    /// says more than the width holds. A variant's index past 32 bits is this case too.
+    /// A varint has its full length, 3, 5, 10 or 19 bytes for 16, 32, 64 or 128 bits, and its last byte
+    /// says that another follows or exceeds the width. Also for a variant's index above 32 bits.
     DeserializeBadVarint,
     /// The byte of a `bool` is neither 0 nor 1.
     DeserializeBadBool,
-    /// The text of a `char` is announced with more than four bytes, is not UTF-8, or is empty.
+    /// The text of a `char` has a length of more than four bytes, is not UTF-8, or is empty.
     DeserializeBadChar,
     /// The bytes of a text are not UTF-8.
     DeserializeBadUtf8,
     /// The first byte of an option is neither 0 nor 1.
     DeserializeBadOption,
-    /// Never answered by this port: a variant's index past 32 bits is [`Error::DeserializeBadVarint`].
+    /// Never returned by this port: a variant's index above 32 bits is [`Error::DeserializeBadVarint`].
     DeserializeBadEnum,
     /// A frame is empty, or one of its groups runs past its end.
     DeserializeBadEncoding,
-    /// Never answered by this port, which has no checksums.
+    /// Never returned by this port, which has no checksums.
     DeserializeBadCrc,
-    /// A value refuses to be written. No type of this port does: it is for a user's own (see [`Error::ser_custom`]).
+    /// A value refuses to be written. No type of this port does; it is for types of a user (see
+    /// [`Error::ser_custom`]).
     SerdeSerCustom,
-    /// The bytes spell no value of the type: a variant that it lacks, a zero where none may be, a duration that is too
-    /// long, more elements than its capacity. A user's own type answers it too (see [`Error::de_custom`]).
+    /// The bytes spell no value of the type: an unknown variant, a zero for a type without one, a duration
+    /// that is too long, more elements than the capacity. Types of a user return it too (see
+    /// [`Error::de_custom`]).
     SerdeDeCustom,
-    /// A text that is written as it is formatted fails to format, is longer than `usize` counts, or is refused by the
-    /// flavor after its length was written.
+    /// A value written by its `Display` text fails to format, has a text of more than `usize::MAX` bytes,
+    /// or has one that the flavor refuses after its length was written.
     CollectStrError,
-    /// Memory was refused while reading a value that has to grow. A type that does not grow never answers it.
+    /// An allocation failed while reading a value that grows. Types that don't grow never return it.
     OutOfMemory,
 }
 
@@ -64,16 +66,16 @@ pub enum Error {
 pub type Result<T> = std::result::Result<T, Error>;
 
 impl Error {
-    /// What a type answers whose value refuses to be written: [`Error::SerdeSerCustom`], whatever its message, which
-    /// is not kept.
+    /// Returns [`Error::SerdeSerCustom`], for a type whose value refuses to be written. The message is
+    /// not kept.
     pub fn ser_custom<M: Display + Drop>(_msg: M) -> Error
         ensures { result ≡ Error.SerdeSerCustom }
     {
         Self::SerdeSerCustom
     }
 
-    /// What a type answers that has no value for the bytes: [`Error::SerdeDeCustom`], whatever its message, which is
-    /// not kept.
+    /// Returns [`Error::SerdeDeCustom`], for a type that has no value for the bytes. The message is not
+    /// kept.
     pub fn de_custom<M: Display + Drop>(_msg: M) -> Error
         ensures { result ≡ Error.SerdeDeCustom }
     {
@@ -123,7 +125,7 @@ impl From<AllocError> for Error {
 }
 
 /// Converts a refused allocation into [`Error::OutOfMemory`] and drops the value that found no
-/// place, so that `items.push(item)?` may be written while reading.
+/// place, so that `items.push(item)?` can be written while reading.
 impl<T: Drop> From<AllocFailed<T>> for Error {
     ghost from_gives = { λ _ e. e ≡ OutOfMemory };
 

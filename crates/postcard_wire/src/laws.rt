@@ -1,7 +1,7 @@
 //! Laws of spellings. The functions do nothing: their contracts are the laws.
 //!
-//! A law over any set of trees is said of a type that names the set: [`TreeSet`] for trees, [`PartsSet`] for trees in
-//! a row, [`ContentSet`] for the content of an enum by its index.
+//! A law over any set of trees is about a type that names the set: [`TreeSet`] for trees, [`PartsSet`]
+//! for trees in a row, [`ContentSet`] for the content of an enum by its index.
 
 ghost use Rattle.std.specs.Prelude.{◌≡◌, ℕ, ℤ, ◌+◌, ◌-◌, ◌≤◌, ◌*◌, ◌%◌, ◌^◌, ◌<◌, ◌⊎◌, ◌++◌, ◌∷◌, [], List, length};
 ghost use Rattle.postcard_wire.specs.Number.{number, zigzag, max_digits, InRange};
@@ -26,13 +26,13 @@ pub trait ContentSet {
     ghost holds: { ℕ → Tree → Type 0 };
 }
 
-/// Of each tree there is one shortest spelling, and every other is longer.
+/// Each tree has one shortest spelling, and every other is longer.
 pub fn shortest()
     ensures spelled { (t : Tree) → WellFormed t → Spells t (bytes t) }
     ensures alone { (t : Tree) (p : List ℕ) → Spells t p → (p ≡ bytes t) ⊎ (length (bytes t) < length p) }
 {}
 
-/// No spelling of a node begins another of a node of its kind.
+/// The spellings of the nodes of one kind are prefix-free: none is a proper prefix of another.
 pub fn self_delimiting()
     ensures byte { IsDelimited IsByte }
     ensures boolean { IsDelimited IsBoolean }
@@ -42,26 +42,27 @@ pub fn self_delimiting()
     ensures text { IsDelimited IsText }
 {}
 
-/// What an option, a list or an array spells begins no other spelling of its kind, where that holds of what it holds.
+/// The spellings of options, lists and arrays are prefix-free if those of their elements are.
 pub fn self_delimiting_containers<S: TreeSet>()
     ensures option { IsDelimited S.has → IsDelimited (IsOption S.has) }
     ensures list { IsDelimited S.has → IsDelimited (IsSeq S.has) }
     ensures array { (n : ℕ) → IsDelimited S.has → IsDelimited (IsArray n S.has) }
 {}
 
-/// The same of parts in a row, where it holds of the first and of those after it, and of the group that they make.
+/// The spellings of parts in a row, and of the group that they make, are prefix-free if those of the
+/// first part and of the parts after it are.
 pub fn self_delimiting_parts<S: TreeSet, P: PartsSet>()
     ensures end { AreDelimited IsEnd }
     ensures then { IsDelimited S.has → AreDelimited P.have → AreDelimited (IsThen S.has P.have) }
     ensures group { AreDelimited P.have → IsDelimited (IsGroup P.have) }
 {}
 
-/// The same of an enum, where it holds of the content at each index.
+/// The spellings of an enum are prefix-free if those of the content of each index are.
 pub fn self_delimiting_variants<C: ContentSet>()
     ensures { ((i : ℕ) → IsDelimited (C.holds i)) → IsDelimited (IsVariant C.holds) }
 {}
 
-/// The same of a set within another, where it holds of that one.
+/// The spellings of a set of trees are prefix-free if those of a larger set are.
 pub fn self_delimiting_subsets<S: TreeSet, T: TreeSet>()
     ensures { ((t : Tree) → S.has t → T.has t) → IsDelimited T.has → IsDelimited S.has }
 {}
@@ -76,59 +77,60 @@ pub fn well_formed()
     ensures text { ReadsWellFormed IsText }
 {}
 
-/// An option, a list and an array are well formed, where what they hold is.
+/// Options, lists and arrays are well formed if their elements are.
 pub fn well_formed_containers<S: TreeSet>()
     ensures option { ReadsWellFormed S.has → ReadsWellFormed (IsOption S.has) }
     ensures list { ReadsWellFormed S.has → ReadsWellFormed (IsSeq S.has) }
     ensures array { (n : ℕ) → ReadsWellFormed S.has → ReadsWellFormed (IsArray n S.has) }
 {}
 
-/// Parts in a row are, where the first and those after it are, and so is the group that they make.
+/// Parts in a row, and the group that they make, are well formed if the first part and the parts after it
+/// are.
 pub fn well_formed_parts<S: TreeSet, P: PartsSet>()
     ensures end { PartsWellFormed IsEnd }
     ensures then { ReadsWellFormed S.has → PartsWellFormed P.have → PartsWellFormed (IsThen S.has P.have) }
     ensures group { PartsWellFormed P.have → ReadsWellFormed (IsGroup P.have) }
 {}
 
-/// An enum is, where the content at each index is.
+/// An enum is well formed if the content of each index is.
 pub fn well_formed_variants<C: ContentSet>()
     ensures { ((i : ℕ) → ReadsWellFormed (C.holds i)) → ReadsWellFormed (IsVariant C.holds) }
 {}
 
-/// A set within another is, where that one is.
+/// A set of trees is well formed if a larger set is.
 pub fn well_formed_subsets<S: TreeSet, T: TreeSet>()
     ensures { ((t : Tree) → S.has t → T.has t) → ReadsWellFormed T.has → ReadsWellFormed S.has }
 {}
 
-/// What is written is read again: of bytes that begin with a tree's shortest spelling, no front spells a tree of the
-/// set but that one, and it spells that tree alone.
+/// What is written is read again: if bytes begin with a tree's shortest spelling, that is the only front
+/// that spells a tree of the set, and it spells only this tree.
 pub fn read_again<S: TreeSet>()
     ensures { IsDelimited S.has → ReadsWellFormed S.has → (t s : Tree) (p rest left : List ℕ)
         → S.has t → S.has s → Spells s p → p ++ left ≡ bytes t ++ rest
         → (p ≡ bytes t) × (s ≡ t) × (left ≡ rest) }
 {}
 
-/// Bytes that are refused as a number begin with no number.
+/// Bytes that are refused as a number don't begin with one.
 pub fn refused()
     ensures { (w n : ℕ) (bytes rest : List ℕ) (e : Error) → Refuses w bytes e → ReadsNum w bytes n rest → ⊥ }
 {}
 
-/// What digits say: each counts by its place. No two signed numbers are folded into one.
+/// What digits say: each counts by its place. No two signed numbers have the same zigzag encoding.
 pub fn numbers()
     ensures none { number [] ≡ 0 }
     ensures by_place { (p : List ℕ) (b : ℕ) → number (p ++ b ∷ []) ≡ number p + b % 128 * 128 ^ length p }
     ensures folded { (y z : ℤ) → zigzag y ≡ zigzag z → y ≡ z }
 {}
 
-/// Zigzag takes the signed numbers of a width to the unsigned ones of that width, one to one and onto: so either way
-/// and back is where it began.
+/// Zigzag maps the signed numbers of a width to the unsigned ones of that width, one to one and onto, so
+/// that each direction undoes the other.
 pub fn zigzags()
     ensures within { (w : ℕ) (z : ℤ) → IsWidth w → InRange w z → zigzag z < 2 ^ w }
     ensures onto { (w n : ℕ) → IsWidth w → n < 2 ^ w → (z : ℤ) × InRange w z × (zigzag z ≡ n) }
     ensures one_to_one { (y z : ℤ) → zigzag y ≡ zigzag z → y ≡ z }
 {}
 
-/// No number takes more bytes than its width allows, and the greatest takes as many.
+/// No number takes more bytes than its width allows, and the greatest takes just that many.
 pub fn lengths()
     ensures most { (w n : ℕ) → IsWidth w → n < 2 ^ w → length (bytes (Num w n)) ≤ max_digits w }
     ensures reached { (w : ℕ) → IsWidth w → length (bytes (Num w (2 ^ w - 1))) ≡ max_digits w }

@@ -1,5 +1,5 @@
-//! Numbers by plain division and remainder, a byte at a time: slow, and close to the words of the format. The fast
-//! calls of [`crate::varint`] and [`crate::zigzag`] are tested against these.
+//! Numbers by plain division and remainder, a byte at a time: slow, and close to the words of the
+//! format. The fast functions of [`crate::varint`] and [`crate::zigzag`] are tested against these.
 
 ghost use Rattle.std.specs.Prelude.{◌≡◌, ◌<◌, ◌^◌, IfOk};
 ghost use Rattle.postcard_wire.specs.Number.{SpellsNum, zigzag};
@@ -8,9 +8,10 @@ ghost use Rattle.postcard_wire.specs.Tree.{Num, IsWidth};
 
 use std::alloc::{AllocError, Global};
 
-/// The shortest spelling of a number of 16, 32, 64 or 128 bits (wire format 1.0, "varint encoded integers").
+/// Returns the shortest spelling of a number of 16, 32, 64 or 128 bits (wire format 1.0, "varint encoded
+/// integers").
 ///
-/// Fails only where memory is refused.
+/// Fails only if an allocation fails.
 #[tactic(auto, using(crate::proofs::Writing::none_appended, crate::proofs::Writing::one_appended, crate::proofs::Writing::all_appended))]
 pub fn spell(alloc: Global, bits: u32, n: u128) -> Result<Vec<u8>, AllocError>
     requires width { IsWidth bits }
@@ -28,8 +29,8 @@ pub fn spell(alloc: Global, bits: u32, n: u128) -> Result<Vec<u8>, AllocError>
     Ok(spelling)
 }
 
-/// The unsigned number that stands for a signed one of any width: twice the number, or below 0 one less than twice
-/// its size (wire format 1.0, "signed integer encoding").
+/// Returns the zigzag encoding of a signed number of any width: `2 * n`, or `-2 * n - 1` if `n` is
+/// negative (wire format 1.0, "signed integer encoding").
 pub fn zig_zag(z: i128) -> u128
     ensures { result ≡ zigzag z }
 {
@@ -40,7 +41,7 @@ pub fn zig_zag(z: i128) -> u128
     }
 }
 
-/// The signed number that an unsigned one of any width stands for.
+/// Returns the signed number, of any width, whose zigzag encoding is `n`.
 pub fn de_zig_zag(n: u128) -> i128
     ensures { zigzag result ≡ n }
 {

@@ -1,26 +1,26 @@
-//! Signed numbers as unsigned ones, by zigzag (wire format 1.0, "signed integer encoding"): 0, -1, 1, -2, 2 are 0, 1,
-//! 2, 3, 4, so that a number near 0 has few digits whichever its sign.
+//! Zigzag: signed numbers as unsigned ones (wire format 1.0, "signed integer encoding"). 0, -1, 1,
+//! -2, 2 become 0, 1, 2, 3, 4, so that a number near zero is short whatever its sign.
 //!
-//! An `i8` is no varint: it is written as its one byte.
+//! An `i8` is not a varint: it is written as one byte.
 
 ghost use Rattle.std.specs.Prelude.{◌≡◌};
 ghost use Rattle.postcard_wire.specs.Number.{zigzag};
 
-/// Twice a number, with each bit turned where it is below 0.
+/// Twice a number, with each bit flipped if the number is negative.
 macro_rules! fold_sign {
     ($n:ident, $int:ty) => {
         (($n << 1) ^ ($n >> (<$int>::BITS - 1))).cast_unsigned()
     };
 }
 
-/// Half of a number, with each bit turned where it is odd.
+/// Half of a number, with each bit flipped if the number is odd.
 macro_rules! unfold_sign {
     ($n:ident) => {
         ($n >> 1).cast_signed() ^ -(($n & 1).cast_signed())
     };
 }
 
-/// The `u16` that stands for an `i16`: twice the number, or below 0 one less than twice its size.
+/// Returns the zigzag encoding of an `i16`: `2 * n`, or `-2 * n - 1` if `n` is negative.
 #[tactic(auto, using(crate::proofs::Folded::folded_16))]
 pub fn zig_zag_i16(n: i16) -> u16
     ensures { result ≡ zigzag n }
@@ -28,7 +28,7 @@ pub fn zig_zag_i16(n: i16) -> u16
     fold_sign!(n, i16)
 }
 
-/// The `u32` that stands for an `i32`: twice the number, or below 0 one less than twice its size.
+/// Returns the zigzag encoding of an `i32`: `2 * n`, or `-2 * n - 1` if `n` is negative.
 #[tactic(auto, using(crate::proofs::Folded::folded_32))]
 pub fn zig_zag_i32(n: i32) -> u32
     ensures { result ≡ zigzag n }
@@ -36,7 +36,7 @@ pub fn zig_zag_i32(n: i32) -> u32
     fold_sign!(n, i32)
 }
 
-/// The `u64` that stands for an `i64`: twice the number, or below 0 one less than twice its size.
+/// Returns the zigzag encoding of an `i64`: `2 * n`, or `-2 * n - 1` if `n` is negative.
 #[tactic(auto, using(crate::proofs::Folded::folded_64))]
 pub fn zig_zag_i64(n: i64) -> u64
     ensures { result ≡ zigzag n }
@@ -44,7 +44,7 @@ pub fn zig_zag_i64(n: i64) -> u64
     fold_sign!(n, i64)
 }
 
-/// The `u128` that stands for an `i128`: twice the number, or below 0 one less than twice its size.
+/// Returns the zigzag encoding of an `i128`: `2 * n`, or `-2 * n - 1` if `n` is negative.
 #[tactic(auto, using(crate::proofs::Folded::folded_128))]
 pub fn zig_zag_i128(n: i128) -> u128
     ensures { result ≡ zigzag n }
@@ -52,7 +52,7 @@ pub fn zig_zag_i128(n: i128) -> u128
     fold_sign!(n, i128)
 }
 
-/// The `i16` that a `u16` stands for: half of it, or where it is odd that half with its sign turned, less one.
+/// Returns the `i16` whose zigzag encoding is `n`: `n / 2`, or `-(n / 2) - 1` if `n` is odd.
 #[tactic(auto, using(crate::proofs::Folded::unfolded))]
 pub fn de_zig_zag_i16(n: u16) -> i16
     ensures { zigzag result ≡ n }
@@ -60,7 +60,7 @@ pub fn de_zig_zag_i16(n: u16) -> i16
     unfold_sign!(n)
 }
 
-/// The `i32` that a `u32` stands for: half of it, or where it is odd that half with its sign turned, less one.
+/// Returns the `i32` whose zigzag encoding is `n`: `n / 2`, or `-(n / 2) - 1` if `n` is odd.
 #[tactic(auto, using(crate::proofs::Folded::unfolded))]
 pub fn de_zig_zag_i32(n: u32) -> i32
     ensures { zigzag result ≡ n }
@@ -68,7 +68,7 @@ pub fn de_zig_zag_i32(n: u32) -> i32
     unfold_sign!(n)
 }
 
-/// The `i64` that a `u64` stands for: half of it, or where it is odd that half with its sign turned, less one.
+/// Returns the `i64` whose zigzag encoding is `n`: `n / 2`, or `-(n / 2) - 1` if `n` is odd.
 #[tactic(auto, using(crate::proofs::Folded::unfolded))]
 pub fn de_zig_zag_i64(n: u64) -> i64
     ensures { zigzag result ≡ n }
@@ -76,7 +76,7 @@ pub fn de_zig_zag_i64(n: u64) -> i64
     unfold_sign!(n)
 }
 
-/// The `i128` that a `u128` stands for: half of it, or where it is odd that half with its sign turned, less one.
+/// Returns the `i128` whose zigzag encoding is `n`: `n / 2`, or `-(n / 2) - 1` if `n` is odd.
 #[tactic(auto, using(crate::proofs::Folded::unfolded))]
 pub fn de_zig_zag_i128(n: u128) -> i128
     ensures { zigzag result ≡ n }

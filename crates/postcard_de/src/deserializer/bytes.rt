@@ -1,4 +1,4 @@
-//! The calls for nodes that hold bytes: a character, bytes that the source holds, copies of them.
+//! The calls for nodes that hold bytes: a character, bytes lent from the source, copies of them.
 
 ghost use Rattle.std.specs.Prelude.{◌≡◌, IfErr, ⊤};
 ghost use Rattle.postcard_wire.specs.Tree.{Byte, Char};
@@ -17,14 +17,14 @@ use postcard_wire::Result;
 use std::alloc::Global;
 
 impl<'de, F: Flavor> Deserializer<'de, F> {
-    /// Reads a character: a length of at most 4, and as many bytes of UTF-8, of which the first
-    /// character is answered.
+    /// Reads a character: a length of at most 4, and that many bytes of UTF-8. Returns the first
+    /// character; others are ignored, as in postcard 1.1.3.
     ///
     /// # Errors
     ///
-    /// As a number of 64 bits for its length, `DeserializeBadChar` where that is above 4, before
-    /// the bytes are taken; `DeserializeUnexpectedEnd` where the bytes end before the text does;
-    /// `DeserializeBadChar` where they aren't UTF-8, and where there are none.
+    /// For the length as `deserialize_u64`. Fails with `DeserializeBadChar` if the length is above 4,
+    /// before any of the bytes is taken; with `DeserializeUnexpectedEnd` if the bytes end before the
+    /// text does; with `DeserializeBadChar` if the text is not UTF-8 or is empty.
     pub fn deserialize_char(&mut self) -> Result<char>
         ensures reads { Reads F.Flavor Spells IsChar (λ t v. t ≡ Char v) ⊥
             (source_of self.old) result (source_of self.new) }
@@ -34,11 +34,12 @@ impl<'de, F: Flavor> Deserializer<'de, F> {
         texts::character(&mut self.flavor)
     }
 
-    /// Reads bytes that the source holds.
+    /// Reads a byte string, which is lent from the source.
     ///
     /// # Errors
     ///
-    /// As a number of 64 bits for their count, and `DeserializeUnexpectedEnd` where fewer are left.
+    /// For its length as `deserialize_u64`. Fails with `DeserializeUnexpectedEnd` if fewer bytes are
+    /// left.
     pub fn deserialize_bytes(&mut self) -> Result<&'de [u8]>
         ensures reads { Reads F.Flavor Spells (IsSeq IsByte)
             (λ t v. ListIs (λ s b. s ≡ Byte b) t v.now) ⊥
@@ -49,11 +50,11 @@ impl<'de, F: Flavor> Deserializer<'de, F> {
         bytes::bytes(&mut self.flavor)
     }
 
-    /// Reads bytes and copies them, once they were taken.
+    /// Reads a byte string and copies it, once its bytes were taken.
     ///
     /// # Errors
     ///
-    /// As `deserialize_bytes`, and `OutOfMemory`.
+    /// As `deserialize_bytes`. Fails with `OutOfMemory` if an allocation fails.
     pub fn deserialize_byte_buf(&mut self, alloc: Global) -> Result<Vec<u8>>
         ensures reads { Reads F.Flavor Spells (IsSeq IsByte)
             (λ t v. ListIs (λ s b. s ≡ Byte b) t v.items) ⊤

@@ -22,9 +22,9 @@ use std::collections::BTreeMap;
 /// Appends an element to a list of which `announced` elements are still to come, this one among
 /// them.
 ///
-/// A full list asks for room for `first` elements at first and then for three times as many as it
-/// has, but never for more than are announced. So a few requests for memory serve a list, and none
-/// is large for what was read, whatever count a damaged message announces.
+/// A full list asks for room for `first` elements at first and then for three times the number that
+/// it has, but never for more than are announced. So a few requests for memory serve a list, and
+/// none is large for what was read, whatever count a damaged message announces.
 ///
 /// # Errors
 ///
@@ -51,11 +51,12 @@ fn push_announced<T: Drop>(
 }
 
 impl<'de, F: Flavor> Deserializer<'de, F> {
-    /// Reads a list: its count, and as many elements.
+    /// Reads a list: its count, and that many elements.
     ///
     /// # Errors
     ///
-    /// As a number of 64 bits for the count, those of an element, and `OutOfMemory`.
+    /// For the count as `deserialize_u64`, and those of an element. Fails with `OutOfMemory` if an
+    /// allocation fails.
     pub(crate) fn list<T: Shaped + Drop, E: Element<'de, T>>(
         &mut self,
         alloc: Global,
@@ -78,12 +79,12 @@ impl<'de, F: Flavor> Deserializer<'de, F> {
         Ok(items)
     }
 
-    /// Reads a list of at most `CAP` elements: its count, and as many elements.
+    /// Reads a list of at most `CAP` elements: its count, and that many elements.
     ///
     /// # Errors
     ///
-    /// As a number of 64 bits for the count, those of an element, and `SerdeDeCustom` once the
-    /// first element that doesn't fit has been read.
+    /// For the count as `deserialize_u64`, and those of an element. Fails with `SerdeDeCustom` once
+    /// the first element that doesn't fit has been read.
     pub(crate) fn few<T: Shaped + Drop + Default, E: Element<'de, T>, const CAP: usize>(
         &mut self,
         alloc: Global,
@@ -123,12 +124,13 @@ impl<'de, F: Flavor> Deserializer<'de, F> {
         Ok(items)
     }
 
-    /// Reads a map: a count, and as many pairs of a key and a value. A later value of an equal key
-    /// wins.
+    /// Reads a map: a count, and that many pairs of a key and a value. Of two values of equal keys the
+    /// later wins.
     ///
     /// # Errors
     ///
-    /// As a number of 64 bits for the count, those of a key or a value, and `OutOfMemory`.
+    /// For the count as `deserialize_u64`, and those of a key or a value. Fails with `OutOfMemory` if
+    /// an allocation fails.
     pub(crate) fn map<
         K: Shaped + Ord + Drop,
         V: Shaped + Drop,

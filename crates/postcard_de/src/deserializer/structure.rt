@@ -1,4 +1,4 @@
-//! The calls for nodes that are made of others, and for those that have no bytes.
+//! The calls for nodes that are made of others, and for those without bytes.
 
 ghost use Rattle.std.specs.Prelude.{◌≡◌, ◌<◌, ◌^◌, length, IfErr, Ok, IsOk};
 ghost use Rattle.postcard_wire.specs.Number.{SpellsNum};
@@ -19,11 +19,7 @@ use postcard_wire::Result;
 use std::alloc::Global;
 
 impl<'de, F: Flavor> Deserializer<'de, F> {
-    /// Reads the type of nothing, which has no bytes.
-    ///
-    /// # Errors
-    ///
-    /// None.
+    /// Reads a unit, which has no bytes. Never fails.
     pub fn deserialize_unit(&mut self) -> Result<()>
         ensures reads { Reads F.Flavor Spells (IsGroup IsEnd) (λ t v. IsGroup IsEnd t) ⊥
             (source_of self.old) result (source_of self.new) }
@@ -33,11 +29,7 @@ impl<'de, F: Flavor> Deserializer<'de, F> {
         Ok(())
     }
 
-    /// Reads a struct without fields, which has no bytes.
-    ///
-    /// # Errors
-    ///
-    /// None.
+    /// Reads a struct without fields, which has no bytes. Never fails.
     pub fn deserialize_unit_struct(&mut self, _name: &str) -> Result<()>
         ensures reads { Reads F.Flavor Spells (IsGroup IsEnd) (λ t v. IsGroup IsEnd t) ⊥
             (source_of self.old) result (source_of self.new) }
@@ -63,11 +55,7 @@ impl<'de, F: Flavor> Deserializer<'de, F> {
         T::deserialize(alloc, self)
     }
 
-    /// Begins a tuple of `len` parts: nothing is read yet, and as many elements are left.
-    ///
-    /// # Errors
-    ///
-    /// None.
+    /// Begins a tuple of `len` parts, which are then read as elements. Reads nothing, and never fails.
     pub fn deserialize_tuple(&mut self, len: usize) -> Result<SeqAccess>
         ensures parts { result ≡ Ok len }
         ensures unchanged { self.new ≡ self.old }
@@ -75,11 +63,8 @@ impl<'de, F: Flavor> Deserializer<'de, F> {
         Ok(SeqAccess::new(len))
     }
 
-    /// Begins a tuple struct of `len` parts: nothing is read yet, and as many elements are left.
-    ///
-    /// # Errors
-    ///
-    /// None.
+    /// Begins a tuple struct of `len` parts, which are then read as elements. Reads nothing, and never
+    /// fails.
     pub fn deserialize_tuple_struct(&mut self, _name: &str, len: usize) -> Result<SeqAccess>
         ensures parts { result ≡ Ok len }
         ensures unchanged { self.new ≡ self.old }
@@ -87,12 +72,8 @@ impl<'de, F: Flavor> Deserializer<'de, F> {
         self.deserialize_tuple(len)
     }
 
-    /// Begins a struct with these fields: nothing is read yet, and as many elements are left. The
-    /// names aren't used.
-    ///
-    /// # Errors
-    ///
-    /// None.
+    /// Begins a struct with these fields, which are then read as elements. The names aren't used. Reads
+    /// nothing, and never fails.
     pub fn deserialize_struct(&mut self, _name: &str, fields: &[&str]) -> Result<SeqAccess>
         ensures parts { result ≡ Ok (length fields.now) }
         ensures unchanged { self.new ≡ self.old }
@@ -100,12 +81,12 @@ impl<'de, F: Flavor> Deserializer<'de, F> {
         Ok(SeqAccess::new(fields.len()))
     }
 
-    /// Reads the count of a map's pairs, whose keys and values are then read by `next_key` and
+    /// Reads the count of a map's pairs. Their keys and values are then read by `next_key` and
     /// `next_value` in turn.
     ///
     /// # Errors
     ///
-    /// As a number of 64 bits.
+    /// As `deserialize_u64`.
     pub fn deserialize_map(&mut self) -> Result<MapAccess>
         ensures reads { Reads F.Flavor (SpellsNum 64) (λ n. n < 2 ^ 64) Same ⊥
             (source_of self.old) result (source_of self.new) }

@@ -1,4 +1,4 @@
-//! The calls that the format can't serve, since its bytes don't tell their types.
+//! The calls that the format can't serve, since a message doesn't say of which type it is.
 
 ghost use Rattle.std.specs.Prelude.{◌≡◌, Err};
 
@@ -11,7 +11,7 @@ impl<'de, F: Flavor> Deserializer<'de, F> {
     ///
     /// # Errors
     ///
-    /// Always `WontImplement`; nothing is changed.
+    /// Always fails with `WontImplement`; nothing is changed.
     pub fn deserialize_any(&mut self) -> Result<()>
         ensures refused { result ≡ Err Error.WontImplement }
         ensures unchanged { self.new ≡ self.old }
@@ -23,7 +23,7 @@ impl<'de, F: Flavor> Deserializer<'de, F> {
     ///
     /// # Errors
     ///
-    /// Always `WontImplement`; nothing is changed.
+    /// Always fails with `WontImplement`; nothing is changed.
     pub fn deserialize_identifier(&mut self) -> Result<()>
         ensures refused { result ≡ Err Error.WontImplement }
         ensures unchanged { self.new ≡ self.old }
@@ -31,11 +31,11 @@ impl<'de, F: Flavor> Deserializer<'de, F> {
         self.deserialize_any()
     }
 
-    /// Would pass over a value of any type.
+    /// Would skip a value of any type.
     ///
     /// # Errors
     ///
-    /// Always `WontImplement`; nothing is changed.
+    /// Always fails with `WontImplement`; nothing is changed.
     pub fn deserialize_ignored_any(&mut self) -> Result<()>
         ensures refused { result ≡ Err Error.WontImplement }
         ensures unchanged { self.new ≡ self.old }

@@ -11,7 +11,7 @@ use postcard_wire::{Error, Result};
 use std::alloc::Global;
 
 /// An enum without content: the index of the error as a varint. 16 is [`Error::OutOfMemory`], and
-/// any greater index is refused by `SerdeDeCustom`.
+/// any greater index is refused with `SerdeDeCustom`.
 impl<'de> Deserialize<'de> for Error {
     fn deserialize<F: Flavor>(_alloc: Global, d: &mut Deserializer<'de, F>) -> Result<Self> {
         let index = d.deserialize_enum("Error", &[])?;

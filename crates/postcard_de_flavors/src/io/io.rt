@@ -14,14 +14,15 @@ use crate::flavor::Flavor;
 use crate::source::Source;
 use postcard_wire::{Error, Result};
 
-/// Reads from a reader, and lends from a scratch what it has read.
+/// Reads from a reader, and lends what it has read from a scratch buffer.
 ///
-/// No byte is read before it is asked for, so what stands behind a message stays unread. A single byte needs no scratch. Bytes
-/// that are lent are read into the front of the scratch: `try_take_n` uses up as much of it as it is asked for, also where the
-/// read then fails, and `try_take_n_temp` gives it back.
+/// No byte is read before it is asked for, so what follows a message stays unread. A single byte needs
+/// no scratch. Bytes that are lent are read into the front of the scratch: `try_take_n` uses up as much
+/// of it as it is asked for, also if the read then fails, and `try_take_n_temp` gives it back.
 ///
-/// A contract sees the reader, `reader_of`, and the scratch left, `scratch_of`. Success is promised where the reader is steady
-/// and has enough bytes left, and enough scratch is left too. Over any reader that tells its bytes, what is given stood in front.
+/// A contract sees the reader, `reader_of`, and the scratch left, `scratch_of`. Calls succeed if the
+/// reader is steady and has enough bytes left, and enough scratch is left too. Over any reader that
+/// knows its bytes, what is given was their front.
 #[derive(Drop)]
 pub struct IOReader<'de, T: Source> {
     reader: T,
@@ -29,7 +30,7 @@ pub struct IOReader<'de, T: Source> {
 }
 
 impl<'de, T: Source> IOReader<'de, T> {
-    /// A source over `reader`, with all of `buff` as its scratch.
+    /// Returns a source over `reader`, with all of `buff` as its scratch.
     pub fn new(reader: T, buff: &'de mut [u8]) -> IOReader<'de, T>
         ensures reader { reader_of result ≡ reader }
         ensures scratch { scratch_of result ≡ buff.old }
@@ -58,11 +59,11 @@ impl<'de, T: Source> Flavor for IOReader<'de, T> {
 
     ghost lawful = { reader_laws T.remaining T.steady };
 
-    /// Reads one byte, and needs no scratch.
+    /// Reads the next byte. Needs no scratch.
     ///
     /// # Errors
     ///
-    /// `DeserializeUnexpectedEnd` where no byte is left or the reader fails.
+    /// Fails with `DeserializeUnexpectedEnd` if no byte is left or the reader fails.
     fn pop(&mut self) -> Result<u8>
         ensures gives { IfOk result (λ b. Takes ⟦<IOReader<'de, T> as Flavor>⟧.left ⟦<IOReader<'de, T> as Flavor>⟧.able self.old (b ∷ []) self.new) }
         ensures leaves { ⟦<IOReader<'de, T> as Flavor>⟧.may_leave self.old self.new }
@@ -78,19 +79,20 @@ impl<'de, T: Source> Flavor for IOReader<'de, T> {
         }
     }
 
-    /// None, since a reader doesn't say how many bytes are left.
+    /// Returns `None`: a reader doesn't know how many bytes are left.
     fn size_hint(&self) -> Option<usize>
         ensures { result ≡ None }
     {
         None
     }
 
-    /// Reads `ct` bytes into the front of the scratch, which is used up.
+    /// Reads the next `ct` bytes into the front of the scratch, and uses that up.
     ///
     /// # Errors
     ///
-    /// `DeserializeUnexpectedEnd` where less scratch is left; the reader isn't asked then, and nothing is changed. Also where
-    /// fewer bytes are left or the reader fails; the scratch is used up then, and how much the reader gave is open.
+    /// Fails with `DeserializeUnexpectedEnd` if less scratch is left; the reader isn't called then, and
+    /// nothing is changed. Also if fewer bytes are left or the reader fails; the scratch is used up
+    /// then, and the reader may have given some of the bytes.
     fn try_take_n<'a>(&mut self, ct: usize) -> Result<&'a [u8]>
     where
         Self: 'a,
@@ -109,12 +111,14 @@ impl<'de, T: Source> Flavor for IOReader<'de, T> {
         }
     }
 
-    /// Reads `ct` bytes into the front of the scratch, which is given back once they are no longer lent.
+    /// Reads the next `ct` bytes into the front of the scratch. The slice is valid until the next call,
+    /// which can use the same scratch again.
     ///
     /// # Errors
     ///
-    /// `DeserializeUnexpectedEnd` where less scratch is left; the reader isn't asked then, and nothing is changed. Also where
-    /// fewer bytes are left or the reader fails; the scratch is given back then, and how much the reader gave is open.
+    /// Fails with `DeserializeUnexpectedEnd` if less scratch is left; the reader isn't called then, and
+    /// nothing is changed. Also if fewer bytes are left or the reader fails; the scratch is kept then,
+    /// and the reader may have given some of the bytes.
     fn try_take_n_temp(&mut self, ct: usize) -> Result<&[u8]>
         ensures length { IfOk result (λ front. length front.now ≡ ct) }
         ensures* gives { sem 𝓛 (Rests (the_row (record { mir = named 1; lft = [] }) T.row) self.entry (LendsScratch T.remaining T.steady ct self.old result)) }
@@ -126,7 +130,7 @@ impl<'de, T: Source> Flavor for IOReader<'de, T> {
         Ok(self.scratch.front(ct))
     }
 
-    /// The reader and the scratch left; never fails.
+    /// Returns the reader and the scratch left. Never fails.
     fn finalize(self) -> Result<(T, &'de mut [u8])> {
         Ok((self.reader, self.scratch.complete()))
     }

@@ -1,4 +1,4 @@
-//! Scratch memory of a source: its front is taken for good, or used for a while.
+//! The scratch buffer of a source: its front is used up, or used for a while.
 
 ghost use Rattle.std.specs.Prelude.{◌≡◌, ◌<◌, ◌≤◌, ◌^◌, ◌++◌, length, take, drop, IfOk, IfErr, OnOk, OnErr, IsOk, IsErr};
 ghost use Rattle.std.specs.Io.KnownBytes.{Consumes};
@@ -10,7 +10,7 @@ use postcard_wire::{Error, Result};
 use std::marker::Model;
 use std::mem;
 
-/// The free part of a scratch. A contract sees it as the list of its bytes.
+/// The free part of a scratch buffer. A contract sees it as the list of its bytes.
 #[derive(Drop)]
 pub struct SlidingBuffer<'de> {
     memory: Memory<'de>,
@@ -28,7 +28,7 @@ impl<'de> Model for SlidingBuffer<'de> {
 }
 
 impl<'de> SlidingBuffer<'de> {
-    /// All of `scratch`, free.
+    /// Returns all of `scratch`, free.
     pub fn new(scratch: &'de mut [u8]) -> SlidingBuffer<'de>
         ensures { result ≡ scratch.old }
     {
@@ -39,11 +39,11 @@ impl<'de> SlidingBuffer<'de> {
         }
     }
 
-    /// Takes the first `n` bytes for good.
+    /// Takes the first `n` bytes, which are used up.
     ///
     /// # Errors
     ///
-    /// `DeserializeUnexpectedEnd` exactly where fewer are free; nothing is changed then.
+    /// Fails with `DeserializeUnexpectedEnd` if and only if fewer are free; nothing is changed then.
     pub fn take_n(&mut self, n: usize) -> Result<&'de mut [u8]>
         ensures taken { IfOk result (λ front. (length front.now ≡ n) × (self.old ≡ front.now ++ self.new)) }
         ensures refused { OnErr result ((self.new ≡ self.old) × (length self.old < n)) }
@@ -64,7 +64,8 @@ impl<'de> SlidingBuffer<'de> {
     ///
     /// # Errors
     ///
-    /// `DeserializeUnexpectedEnd` where fewer are free, and nothing is changed then; else where the read fails.
+    /// Fails with `DeserializeUnexpectedEnd` if fewer are free, and nothing is changed then; also if the
+    /// read fails.
     pub fn fill<R: Source>(&mut self, reader: &mut R, n: usize) -> Result<()>
         ensures length { length self.new ≡ length self.old }
         ensures rest { drop n self.new ≡ drop n self.old }
@@ -87,7 +88,7 @@ impl<'de> SlidingBuffer<'de> {
         }
     }
 
-    /// The first `n` bytes.
+    /// Returns the first `n` bytes.
     pub fn front(&self, n: usize) -> &[u8]
         requires { n ≤ length self.now }
         ensures { result.now ≡ take n self.now }
@@ -95,7 +96,7 @@ impl<'de> SlidingBuffer<'de> {
         &self.memory.view(self.len)[..n]
     }
 
-    /// All that is free.
+    /// Returns all that is free.
     pub fn complete(self) -> &'de mut [u8]
         ensures { result.now ≡ self.entry }
     {

@@ -11,8 +11,7 @@ use crate::serializer::Serializer;
 use postcard_ser_flavors::Flavor;
 use postcard_wire::Result;
 
-/// Writes the elements in order, with no count before them: in one piece, where they are bytes
-/// already.
+/// Writes the elements in order, with no count before them: in one piece if they are bytes already.
 pub(crate) fn serialize_all<T: Serialize, F: Flavor>(
     items: &[T],
     serializer: &mut Serializer<F>,
@@ -44,7 +43,7 @@ fn serialize_each<T: Serialize, F: Flavor>(
     Ok(())
 }
 
-/// The count of the elements, and these. The list refuses itself where an element does.
+/// The count of the elements, and these. The list refuses itself if an element does.
 impl<T: Serialize> Serialize for &[T] {
     fn serialize<F: Flavor>(&self, serializer: &mut Serializer<F>) -> Result<()> {
         serializer.serialize_seq(Some(self.len()))?;
@@ -52,7 +51,7 @@ impl<T: Serialize> Serialize for &[T] {
     }
 }
 
-/// The count of the elements, and these. The list refuses itself where an element does.
+/// The count of the elements, and these. The list refuses itself if an element does.
 impl<T: Serialize> Serialize for Vec<T> {
     fn serialize<F: Flavor>(&self, serializer: &mut Serializer<F>) -> Result<()> {
         self.as_slice().serialize(serializer)

@@ -31,7 +31,7 @@ fn serialize_entries<K: Serialize + Ord, V: Serialize, F: Flavor>(
     Ok(())
 }
 
-/// The count of the entries, and these. The map refuses itself where a key or a value does.
+/// The count of the entries, and these. The map refuses itself if a key or a value does.
 impl<K: Serialize + Ord, V: Serialize> Serialize for BTreeMap<K, V> {
     fn serialize<F: Flavor>(&self, serializer: &mut Serializer<F>) -> Result<()> {
         serializer.serialize_map(Some(self.len()))?;

@@ -14,7 +14,7 @@ impl<T: Serialize> SerializeRepr for Range<T> {
     }
 }
 
-/// The start, and then the end. Whether the range was walked to its end isn't written.
+/// The start, and then the end. Whether the range was iterated to its end isn't written.
 impl<T: Serialize> SerializeRepr for RangeInclusive<T> {
     fn serialize_repr<F: Flavor>(&self, serializer: &mut Serializer<F>) -> Result<()> {
         (self.start(), self.end()).serialize(serializer)

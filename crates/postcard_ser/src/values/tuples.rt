@@ -25,8 +25,8 @@ fn serialize_both<P: Serialize, Q: Serialize, F: Flavor>(
     second.serialize(serializer)
 }
 
-/// Writes a value, another, and what is behind them. A long tuple goes by two parts at a time,
-/// since the prover's work for a tuple within a tuple grows with its length.
+/// Writes a value, another, and what follows them. A long tuple goes by two parts at a time, since
+/// the prover's work for a tuple within a tuple grows with its length.
 fn serialize_three<P: Serialize, Q: Serialize, R: Serialize, F: Flavor>(
     first: &P,
     second: &Q,
