@@ -35,6 +35,40 @@ fn assert_given(rt: &impl Abort, answer: Result<()>, output: Slice<'_>, want: &[
     }
 }
 
+/// `le` writes the number as these bytes, and reads it from them and no more.
+fn assert_low_first<T: FixInt + PartialEq + Debug>(
+    rt: &(impl Abort + AllocGlobal),
+    number: T,
+    bytes: &[u8],
+) {
+    let mut buffer = [OLD; 16];
+    let mut serializer = Serializer {
+        output: Slice::new(&mut buffer),
+    };
+    let answer = le::serialize(&number, &mut serializer);
+    assert_given(rt, answer, serializer.output, bytes);
+    let mut source = Deserializer::from_bytes(bytes);
+    assert_eq!(rt; le::deserialize(rt.alloc(), &mut source), Ok(number));
+    assert_eq!(rt; le::deserialize::<T, _>(rt.alloc(), &mut source), Err(END));
+}
+
+/// `be` writes the number as these bytes, and reads it from them and no more.
+fn assert_high_first<T: FixInt + PartialEq + Debug>(
+    rt: &(impl Abort + AllocGlobal),
+    number: T,
+    bytes: &[u8],
+) {
+    let mut buffer = [OLD; 16];
+    let mut serializer = Serializer {
+        output: Slice::new(&mut buffer),
+    };
+    let answer = be::serialize(&number, &mut serializer);
+    assert_given(rt, answer, serializer.output, bytes);
+    let mut source = Deserializer::from_bytes(bytes);
+    assert_eq!(rt; be::deserialize(rt.alloc(), &mut source), Ok(number));
+    assert_eq!(rt; be::deserialize::<T, _>(rt.alloc(), &mut source), Err(END));
+}
+
 /// The calls write the number as these bytes, and read it from them and no more.
 fn assert_calls<T: FixInt + PartialEq + Debug>(
     rt: &(impl Abort + AllocGlobal),
@@ -42,23 +76,8 @@ fn assert_calls<T: FixInt + PartialEq + Debug>(
     low_first: &[u8],
     high_first: &[u8],
 ) {
-    let mut buffer = [OLD; 16];
-    let mut serializer = Serializer {
-        output: Slice::new(&mut buffer),
-    };
-    let answer = le::serialize(&number, &mut serializer);
-    assert_given(rt, answer, serializer.output, low_first);
-    let mut serializer = Serializer {
-        output: Slice::new(&mut buffer),
-    };
-    let answer = be::serialize(&number, &mut serializer);
-    assert_given(rt, answer, serializer.output, high_first);
-    let mut source = Deserializer::from_bytes(low_first);
-    assert_eq!(rt; le::deserialize(rt.alloc(), &mut source), Ok(number));
-    assert_eq!(rt; le::deserialize::<T, _>(rt.alloc(), &mut source), Err(END));
-    let mut source = Deserializer::from_bytes(high_first);
-    assert_eq!(rt; be::deserialize(rt.alloc(), &mut source), Ok(number));
-    assert_eq!(rt; be::deserialize::<T, _>(rt.alloc(), &mut source), Err(END));
+    assert_low_first(rt, number, low_first);
+    assert_high_first(rt, number, high_first);
 }
 
 /// The number is written as these bytes and read from them, by the calls and by the types.
