@@ -32,13 +32,13 @@ fn framed<T: Serialize, B: Storage + Drop>(value: &T, storage: B) -> Result<<B a
     serialize_with_flavor(value, Cobs::try_new(storage)?)
 }
 
-/// Encodes a value as a frame into a vector with room for `B` bytes, its sentinel among them. Nothing is
-/// allocated.
+/// Encodes a value as a frame into a vector with room for `B` bytes, its sentinel among them.
+/// Nothing is allocated.
 ///
 /// # Errors
 ///
-/// Fails with `SerializeBufferFull` exactly where the frame is longer than `B` bytes, unless the value
-/// refuses itself.
+/// Fails with `SerializeBufferFull` exactly where the frame is longer than `B` bytes, unless the
+/// value refuses itself.
 #[tactic(auto, using(crate::specs::Lemmas::frame_decodes))]
 pub fn to_vec_cobs<T: Serialize, const B: usize>(value: &T) -> Result<ArrayVec<u8, B>>
     ensures gives { IfOk result (λ vec. vec.items ≡ made (bytes (T.shape.tree value.now))) }
@@ -53,13 +53,13 @@ pub fn to_vec_cobs<T: Serialize, const B: usize>(value: &T) -> Result<ArrayVec<u
     framed(value, HVec::new())
 }
 
-/// Encodes a value as a frame into the front of a buffer, and returns that front. The bytes after it are
-/// unchanged.
+/// Encodes a value as a frame into the front of a buffer, and returns that front. The bytes after
+/// it are unchanged.
 ///
 /// # Errors
 ///
-/// Fails with `SerializeBufferFull` exactly where the frame is longer than the buffer, unless the value
-/// refuses itself.
+/// Fails with `SerializeBufferFull` exactly where the frame is longer than the buffer, unless the
+/// value refuses itself.
 #[tactic(auto, using(crate::specs::Lemmas::frame_decodes))]
 pub fn to_slice_cobs<'a, T: Serialize>(value: &T, buf: &'a mut [u8]) -> Result<&'a mut [u8]>
     ensures gives { IfOk result (λ front. front.now ≡ made (bytes (T.shape.tree value.now))) }
@@ -177,13 +177,13 @@ pub fn to_stdvec_cobs<T: Serialize>(alloc: Global, value: &T) -> Result<Vec<u8>>
     to_allocvec_cobs(alloc, value)
 }
 
-/// Encodes a value as a frame after the bytes of a vector, and returns the vector. The Rust crate has no
-/// such call.
+/// Encodes a value as a frame after the bytes of a vector, and returns the vector. The Rust crate
+/// has no such call.
 ///
 /// # Errors
 ///
-/// Fails with `SerializeBufferFull` only if an allocation fails, unless the value refuses itself. The
-/// vector is then dropped.
+/// Fails with `SerializeBufferFull` only if an allocation fails, unless the value refuses itself.
+/// The vector is then dropped.
 #[tactic(auto, using(crate::specs::Lemmas::frame_behind_decodes))]
 pub fn to_allocvec_cobs_after<T: Serialize>(value: &T, vec: Vec<u8>) -> Result<Vec<u8>>
     ensures gives { IfOk result

@@ -14,31 +14,40 @@ use postcard_de_flavors::io::io::IOReader;
 use postcard_wire::{Error, Result};
 use std::alloc::Global;
 
-/// Decodes a value from a reader, and returns it with the reader and the scratch left. The bytes after
-/// the value stay unread, so that each call can be given what the one before it returned.
+/// Decodes a value from a reader, and returns it with the reader and the scratch left. The bytes
+/// after the value stay unread, so that each call can be given what the one before it returned.
 ///
-/// What is lent to the value, as a `&str`, is in the scratch buffer, which is used up by that many bytes.
-/// The bytes of a `String` need it only for a while, and numbers don't need it.
+/// What is lent to the value, as a `&str`, is in the scratch buffer, which is used up by that many
+/// bytes. The bytes of a `String` need it only for a while, and numbers don't need it.
 ///
-/// The value is that of a front of the reader's bytes, and just that front was read. Over a steady reader
-/// it succeeds if a front spells a tree that the type reads and the scratch is at least as long as that
-/// front. Wrap a reader that promises nothing in [`Plain`](crate::de_flavors::Plain).
+/// The value is that of a front of the reader's bytes, and just that front was read. Over a steady
+/// reader it succeeds if a front spells a tree that the type reads and the scratch is at least as
+/// long as that front. Wrap a reader that promises nothing in [`Plain`](crate::de_flavors::Plain).
 ///
 /// # Errors
 ///
-/// As [`take_from_bytes`](crate::take_from_bytes), and `DeserializeUnexpectedEnd` also if the reader
-/// fails or the scratch is too short. The reader and the scratch are then dropped.
+/// As [`take_from_bytes`](crate::take_from_bytes), and `DeserializeUnexpectedEnd` also if the
+/// reader fails or the scratch is too short. The reader and the scratch are then dropped.
 pub fn from_io<'a, T: Deserialize<'a>, R: Source + 'a>(
     alloc: Global,
     from: (R, &'a mut [u8]),
 ) -> Result<(T, (R, &'a mut [u8]))>
-    ensures gives { IfOk result (λ read. ReadsReader T.shape.reads T.shape.value R.remaining R.steady from.entry.0 from.entry.1.now read.0 read.1.0 read.1.1.now) }
-    ensures accepts { (t : Tree) (front : List ℕ) → T.shape.reads t → Spells t front → R.steady from.entry.0 → Begins (R.remaining from.entry.0) front
+    ensures gives { IfOk result (λ read. ReadsReader T.shape.reads T.shape.value R.remaining
+        R.steady from.entry.0 from.entry.1.now read.0 read.1.0 read.1.1.now) }
+    ensures accepts { (t : Tree) (front : List ℕ) → T.shape.reads t → Spells t front
+        → R.steady from.entry.0 → Begins (R.remaining from.entry.0) front
         → length front ≤ length from.entry.1.now
-        → MatchResult result (λ read. T.shape.value t read.0 × Consumes (R.remaining from.entry.0) (R.remaining read.1.0) front) (λ e. (e ≡ Error.OutOfMemory) × T.shape.grows) }
-    ensures reads_back { (x : T) → T.shape.fits x → R.steady from.entry.0 → Begins (R.remaining from.entry.0) (canonical (T.shape.tree x))
+        → MatchResult result
+        (λ read. T.shape.value t read.0
+        × Consumes (R.remaining from.entry.0) (R.remaining read.1.0) front)
+        (λ e. (e ≡ Error.OutOfMemory) × T.shape.grows) }
+    ensures reads_back { (x : T) → T.shape.fits x → R.steady from.entry.0
+        → Begins (R.remaining from.entry.0) (canonical (T.shape.tree x))
         → length (canonical (T.shape.tree x)) ≤ length from.entry.1.now
-        → MatchResult result (λ read. T.shape.same read.0 x × Consumes (R.remaining from.entry.0) (R.remaining read.1.0) (canonical (T.shape.tree x))) (λ e. (e ≡ Error.OutOfMemory) × T.shape.grows) }
+        → MatchResult result
+        (λ read. T.shape.same read.0 x
+        × Consumes (R.remaining from.entry.0) (R.remaining read.1.0) (canonical (T.shape.tree x)))
+        (λ e. (e ≡ Error.OutOfMemory) × T.shape.grows) }
     ensures stays_steady { R.steady from.entry.0 → IfOk result (λ read. R.steady read.1.0) }
     ensures grows { result ≡ Err Error.OutOfMemory → T.shape.grows }
     ensures names { IfErr result (MayAnswer T.shape.grows) }

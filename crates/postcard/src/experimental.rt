@@ -15,11 +15,12 @@ use postcard_wire::Result;
 ///
 /// # Errors
 ///
-/// Fails with `SerializeBufferFull` if and only if the number exceeds `usize::MAX`, unless the value
-/// refuses itself.
+/// Fails with `SerializeBufferFull` if and only if the number exceeds `usize::MAX`, unless the
+/// value refuses itself.
 pub fn serialized_size<T: Serialize>(value: &T) -> Result<usize>
     ensures gives { IfOk result (λ count. count ≡ length (bytes (T.shape.tree value.now))) }
-    ensures exactly { ¬ T.shape.refuses value.now → (IsOk result ↔ (length (bytes (T.shape.tree value.now)) < 2 ^ 64)) }
+    ensures exactly { ¬ T.shape.refuses value.now
+        → (IsOk result ↔ (length (bytes (T.shape.tree value.now)) < 2 ^ 64)) }
     ensures answers { ¬ T.shape.refuses value.now → IfErr result (AnswersRefusal T.shape.text) }
 {
     serialize_with_flavor(value, Size::default())

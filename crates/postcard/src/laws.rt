@@ -17,42 +17,48 @@ use postcard_ser::Serialize;
 use postcard_wire::Result;
 use std::alloc::Global;
 
-/// What was encoded is decoded, whatever bytes follow: if bytes begin with the encoding of a tree that
-/// the type reads, what is read from them is a value of that tree, and just the bytes after it are left.
+/// What was encoded is decoded, whatever bytes follow: if bytes begin with the encoding of a tree
+/// that the type reads, what is read from them is a value of that tree, and just the bytes after it
+/// are left.
 pub fn decodes_encoded<'a, T: Deserialize<'a>>()
     ensures spelled { (t : Tree) → T.shape.reads t → Spells t (bytes t) }
     ensures decoded { (t : Tree) (rest left : List ℕ) (v : T) → T.shape.reads t
-        → ReadsFront T.shape.reads T.shape.value (bytes t ++ rest) v left → T.shape.value t v × (left ≡ rest) }
+        → ReadsFront T.shape.reads T.shape.value (bytes t ++ rest) v left
+        → T.shape.value t v × (left ≡ rest) }
 {}
 
-/// Two decodings of the same bytes, as those of `take_from_bytes` and of `from_io`, give values that look
-/// alike and leave the same bytes.
+/// Two decodings of the same bytes, as those of `take_from_bytes` and of `from_io`, give values
+/// that look alike and leave the same bytes.
 pub fn decodes_alike<'a, T: Deserialize<'a>>()
     ensures { (all rest left : List ℕ) (v w : T) → ReadsFront T.shape.reads T.shape.value all v rest
         → ReadsFront T.shape.reads T.shape.value all w left → T.shape.same v w × (rest ≡ left) }
 {}
 
-/// Reading from a reader is reading from its bytes: the values of `from_io` and of `take_from_bytes` over
-/// the reader's bytes look alike, and what stays unread is the rest. With scratch as long as these bytes,
-/// each succeeds if the other does.
+/// Reading from a reader is reading from its bytes: the values of `from_io` and of
+/// `take_from_bytes` over the reader's bytes look alike, and what stays unread is the rest. With
+/// scratch as long as these bytes, each succeeds if the other does.
 pub fn reads_alike<'a, T: Deserialize<'a>, R: Source>()
-    ensures alike { (old new : R) (all scratch room rest : List ℕ) (v w : T) → R.remaining old ≡ Some all
-        → ReadsReader T.shape.reads T.shape.value R.remaining R.steady old scratch v new room → ReadsFront T.shape.reads T.shape.value all w rest
+    ensures alike { (old new : R) (all scratch room rest : List ℕ) (v w : T)
+        → R.remaining old ≡ Some all
+        → ReadsReader T.shape.reads T.shape.value R.remaining R.steady old scratch v new room
+        → ReadsFront T.shape.reads T.shape.value all w rest
         → T.shape.same v w × (R.remaining new ≡ Some rest) }
     ensures given { (old new : R) (all scratch room : List ℕ) (v : T) → R.remaining old ≡ Some all
         → ReadsReader T.shape.reads T.shape.value R.remaining R.steady old scratch v new room
         → (rest : List ℕ) × ReadsFront T.shape.reads T.shape.value all v rest }
-    ensures taken { (old : R) (all scratch rest : List ℕ) (w : T) → R.remaining old ≡ Some all → length all ≤ length scratch
+    ensures taken { (old : R) (all scratch rest : List ℕ) (w : T) → R.remaining old ≡ Some all
+        → length all ≤ length scratch
         → ReadsFront T.shape.reads T.shape.value all w rest
-        → (t : Tree) × (front : List ℕ) × T.shape.reads t × Spells t front × Begins (R.remaining old) front × (length front ≤ length scratch) }
+        → (t : Tree) × (front : List ℕ) × T.shape.reads t × Spells t front
+        × Begins (R.remaining old) front × (length front ≤ length scratch) }
 {}
 
 /// Encodes a value and decodes it again: what comes back looks like the value.
 ///
 /// # Errors
 ///
-/// Fails with `SerializeBufferFull` or `OutOfMemory` if an allocation fails, and with the error of a value
-/// that refuses itself.
+/// Fails with `SerializeBufferFull` or `OutOfMemory` if an allocation fails, and with the error of
+/// a value that refuses itself.
 pub fn comes_back<T: Serialize + DeserializeOwned>(alloc: Global, value: &T) -> Result<T>
     ensures { IfOk result (λ back. T.shape.same back value.now) }
 {

@@ -1,22 +1,23 @@
 //! Postcard: values as few bytes, and back.
 //!
-//! This is the crate that programs use: the calls that encode and decode, and the traits, errors and
-//! buffers of the layers below. Its contract is what each call promises from end to end, in the words of
-//! the wire format: trees, their spellings, and the one shortest spelling.
+//! This is the crate that programs use: the calls that encode and decode, and the traits, errors
+//! and buffers of the layers below. Its contract is what each call promises from end to end, in the
+//! words of the wire format: trees, their spellings, and the one shortest spelling.
 //!
 //! - `to_slice` and `fill_slice` write a value into a buffer (module `ser`).
 //! - `to_vec`, `to_allocvec`, `to_stdvec`, `to_extend`, `to_io` write it elsewhere, and
-//!   `serialize_with_flavor` into any flavor (module `with_flavor`); `experimental::serialized_size`
-//!   counts its bytes, and `experimental::max_size` has the greatest size of a type's encodings.
+//!   `serialize_with_flavor` into any flavor (module `with_flavor`);
+//!   `experimental::serialized_size` counts its bytes, and `experimental::max_size` has the
+//!   greatest size of a type's encodings.
 //! - `to_slice_cobs`, `fill_slice_cobs`, `to_vec_cobs`, `to_allocvec_cobs`, `to_stdvec_cobs` and
 //!   `to_allocvec_cobs_after` write a value as a frame (module `cobs`).
-//! - `from_bytes` and `take_from_bytes` read a value from the front of a slice, `from_bytes_cobs` and
-//!   `take_from_bytes_cobs` from a frame in place (all of `postcard_frame`); `from_io` reads it from a
-//!   reader (module `de`).
+//! - `from_bytes` and `take_from_bytes` read a value from the front of a slice, `from_bytes_cobs`
+//!   and `take_from_bytes_cobs` from a frame in place (all of `postcard_frame`); `from_io` reads it
+//!   from a reader (module `de`).
 //! - `CobsAccumulator` puts frames together from the pieces of a stream (module `accumulator`), and
 //!   `read_frames` reads all frames of a reader (both of `postcard_accumulator`).
-//! - `fixint` writes and reads numbers at their full width, the lowest or the highest byte first (all
-//!   of `postcard_fixint`).
+//! - `fixint` writes and reads numbers at their full width, the lowest or the highest byte first
+//!   (all of `postcard_fixint`).
 //! - `laws` has what ties both directions together.
 #![tactic(auto)]
 

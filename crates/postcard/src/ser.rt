@@ -1,6 +1,7 @@
 //! Encoding into a buffer.
 
-ghost use Rattle.std.specs.Prelude.{◌≡◌, ◌<◌, ◌≤◌, ◌↔◌, ◌⊎◌, ℕ, List, ◌++◌, length, drop, IfOk, IfErr, IsOk, OnErr, OnOk};
+ghost use Rattle.std.specs.Prelude.{◌≡◌, ◌<◌, ◌≤◌, ◌↔◌, ◌⊎◌, ℕ, List, ◌++◌, length, drop, IfOk};
+ghost use Rattle.std.specs.Prelude.{IfErr, IsOk, OnErr, OnOk};
 ghost use Rattle.std.specs.Borrow.{sem, LendsIfOk, LendsSoOk, Array, u8};
 ghost use Rattle.postcard_wire.specs.Spelling.{bytes, Spells};
 ghost use Rattle.postcard_ser.specs.Writing.{AnswersRefusal};
@@ -15,22 +16,26 @@ use postcard_wire::{Error, Result};
 /// Encodes a value into the front of a buffer, and returns that front: the shortest spelling of the
 /// value's tree. The bytes after it are unchanged. Nothing is allocated.
 ///
-/// The clause `writes_back` says what the buffer is once the loan is over. A caller with proofs of its
-/// own about the buffer uses [`fill_slice`], whose plain clauses say the same.
+/// The clause `writes_back` says what the buffer is once the loan is over. A caller with proofs of
+/// its own about the buffer uses [`fill_slice`], whose plain clauses say the same.
 ///
 /// # Errors
 ///
-/// Fails with `SerializeBufferFull` if and only if the encoding is longer than the buffer, unless the
-/// value refuses itself. The buffer then holds a beginning of the encoding, and after it the old bytes.
+/// Fails with `SerializeBufferFull` if and only if the encoding is longer than the buffer, unless
+/// the value refuses itself. The buffer then holds a beginning of the encoding, and after it the
+/// old bytes.
 pub fn to_slice<'a, T: Serialize>(value: &T, buf: &'a mut [u8]) -> Result<&'a mut [u8]>
-    // After a success, what the caller makes of the front, and then the old bytes; after a failure, a
-    // beginning of the encoding, and then the old bytes.
+    // After a success, what the caller makes of the front, and then the old bytes; after a failure,
+    // a beginning of the encoding, and then the old bytes.
     ensures* writes_back { sem 𝓛 (LendsSoOk (Array u8 0) (Array u8 0) buf.entry result
         (λ all front. all ≡ front ++ drop (length (bytes (T.shape.tree value.now))) buf.old)
-        (λ all. ¬ T.shape.refuses value.now → Begins (bytes (T.shape.tree value.now)) buf.old all)) }
+        (λ all. ¬ T.shape.refuses value.now
+        → Begins (bytes (T.shape.tree value.now)) buf.old all)) }
     ensures gives { IfOk result (λ front. front.now ≡ bytes (T.shape.tree value.now)) }
-    ensures shortest { IfOk result (λ front. (p : List ℕ) → Spells (T.shape.tree value.now) p → (p ≡ front.now) ⊎ (length front.now < length p)) }
-    ensures exactly { ¬ T.shape.refuses value.now → (IsOk result ↔ (length (bytes (T.shape.tree value.now)) ≤ length buf.old)) }
+    ensures shortest { IfOk result (λ front. (p : List ℕ) → Spells (T.shape.tree value.now) p
+        → (p ≡ front.now) ⊎ (length front.now < length p)) }
+    ensures exactly { ¬ T.shape.refuses value.now
+        → (IsOk result ↔ (length (bytes (T.shape.tree value.now)) ≤ length buf.old)) }
     ensures answers { ¬ T.shape.refuses value.now → IfErr result (AnswersRefusal T.shape.text) }
     ensures fits { OnOk result (T.shape.fits value.now) }
     ensures spelled { IfOk result (λ front. Spells (T.shape.tree value.now) front.now) }
@@ -38,11 +43,11 @@ pub fn to_slice<'a, T: Serialize>(value: &T, buf: &'a mut [u8]) -> Result<&'a mu
     cut(write_front(value, buf))
 }
 
-/// Encodes a value into the front of a buffer, and returns the number of bytes written. The Rust crate
-/// has no such call.
+/// Encodes a value into the front of a buffer, and returns the number of bytes written. The Rust
+/// crate has no such call.
 ///
-/// The same as [`to_slice`], for callers that keep the buffer: its contract says what the whole buffer
-/// is after the call.
+/// The same as [`to_slice`], for callers that keep the buffer: its contract says what the whole
+/// buffer is after the call.
 ///
 /// # Errors
 ///
@@ -50,8 +55,10 @@ pub fn to_slice<'a, T: Serialize>(value: &T, buf: &'a mut [u8]) -> Result<&'a mu
 pub fn fill_slice<T: Serialize>(value: &T, buf: &mut [u8]) -> Result<usize>
     ensures counts { IfOk result (λ count. count ≡ length (bytes (T.shape.tree value.now))) }
     ensures fills { OnOk result (Fills (bytes (T.shape.tree value.now)) buf.old buf.new) }
-    ensures refused { OnErr result (¬ T.shape.refuses value.now → Begins (bytes (T.shape.tree value.now)) buf.old buf.new) }
-    ensures exactly { ¬ T.shape.refuses value.now → (IsOk result ↔ (length (bytes (T.shape.tree value.now)) ≤ length buf.old)) }
+    ensures refused { OnErr result (¬ T.shape.refuses value.now
+        → Begins (bytes (T.shape.tree value.now)) buf.old buf.new) }
+    ensures exactly { ¬ T.shape.refuses value.now
+        → (IsOk result ↔ (length (bytes (T.shape.tree value.now)) ≤ length buf.old)) }
     ensures answers { ¬ T.shape.refuses value.now → IfErr result (AnswersRefusal T.shape.text) }
     ensures fits { OnOk result (T.shape.fits value.now) }
 {
@@ -64,7 +71,8 @@ pub fn fill_slice<T: Serialize>(value: &T, buf: &mut [u8]) -> Result<usize>
     if failed { Err(error) } else { Ok(count) }
 }
 
-/// What an attempt leaves: the whole buffer, the number of bytes written, and the error if it `failed`.
+/// What an attempt leaves: the whole buffer, the number of bytes written, and the error if it
+/// `failed`.
 struct Done<'a> {
     all: &'a mut [u8],
     count: usize,
@@ -75,7 +83,8 @@ struct Done<'a> {
 /// Writes the value into the front of the buffer, and returns the buffer as the loan that it was.
 fn write_front<'a, T: Serialize>(value: &T, buf: &'a mut [u8]) -> Done<'a>
     ensures same_loan { result.all.ghost_name ≡ buf.entry.ghost_name }
-    ensures done { IsDone (bytes (T.shape.tree value.now)) (T.shape.refuses value.now) T.shape.text (T.shape.fits value.now) buf.old result }
+    ensures done { IsDone (bytes (T.shape.tree value.now)) (T.shape.refuses value.now) T.shape.text
+        (T.shape.fits value.now) buf.old result }
 {
     let mut serializer = Serializer {
         output: Slice::new(buf),
@@ -101,7 +110,8 @@ fn write_front<'a, T: Serialize>(value: &T, buf: &'a mut [u8]) -> Done<'a>
 /// Returns the written front of the buffer, or the error.
 fn cut<'a>(done: Done<'a>) -> Result<&'a mut [u8]>
     requires { done.count ≤ length done.all.now }
-    ensures* writes_back { sem 𝓛 (LendsIfOk (Array u8 0) (Array u8 0) done.entry.all result (λ front. front ++ drop done.entry.count done.entry.all.now) done.entry.all.now) }
+    ensures* writes_back { sem 𝓛 (LendsIfOk (Array u8 0) (Array u8 0) done.entry.all result
+        (λ front. front ++ drop done.entry.count done.entry.all.now) done.entry.all.now) }
     ensures cuts { IsCut done.entry result }
 {
     let Done {

@@ -19,14 +19,16 @@ use std::io::Write;
 ///
 /// # Errors
 ///
-/// Fails with `SerializeBufferFull` if the flavor refuses bytes or its end, and never if it has room for
-/// the encoding. Fails with the error of a value that refuses itself. The flavor is then dropped.
+/// Fails with `SerializeBufferFull` if the flavor refuses bytes or its end, and never if it has
+/// room for the encoding. Fails with the error of a value that refuses itself. The flavor is then
+/// dropped.
 pub fn serialize_with_flavor<T: Serialize, S: Flavor<Output = O> + Drop, O>(
     value: &T,
     storage: S,
 ) -> Result<O>
     ensures gives { IfOk result (Finished S.Flavor storage (bytes (T.shape.tree value.now))) }
-    ensures has_room { ¬ T.shape.refuses value.now → S.room storage (bytes (T.shape.tree value.now)) → IsOk result }
+    ensures has_room { ¬ T.shape.refuses value.now
+        → S.room storage (bytes (T.shape.tree value.now)) → IsOk result }
     ensures answers { ¬ T.shape.refuses value.now → IfErr result (AnswersRefusal T.shape.text) }
     ensures fits { OnOk result (T.shape.fits value.now) }
 {
@@ -38,15 +40,17 @@ pub fn serialize_with_flavor<T: Serialize, S: Flavor<Output = O> + Drop, O>(
     }
 }
 
-/// Encodes a value into a vector of at most `B` bytes, which holds them itself. Nothing is allocated.
+/// Encodes a value into a vector of at most `B` bytes, which holds them itself. Nothing is
+/// allocated.
 ///
 /// # Errors
 ///
-/// Fails with `SerializeBufferFull` if and only if the encoding has more than `B` bytes, unless the value
-/// refuses itself.
+/// Fails with `SerializeBufferFull` if and only if the encoding has more than `B` bytes, unless the
+/// value refuses itself.
 pub fn to_vec<T: Serialize, const B: usize>(value: &T) -> Result<ArrayVec<u8, B>>
     ensures gives { IfOk result (λ vec. vec.items ≡ bytes (T.shape.tree value.now)) }
-    ensures exactly { ¬ T.shape.refuses value.now → (IsOk result ↔ (length (bytes (T.shape.tree value.now)) ≤ B)) }
+    ensures exactly { ¬ T.shape.refuses value.now
+        → (IsOk result ↔ (length (bytes (T.shape.tree value.now)) ≤ B)) }
     ensures answers { ¬ T.shape.refuses value.now → IfErr result (AnswersRefusal T.shape.text) }
     ensures fits { OnOk result (T.shape.fits value.now) }
 {
@@ -81,7 +85,8 @@ pub fn to_stdvec<T: Serialize>(alloc: Global, value: &T) -> Result<Vec<u8>>
 ///
 /// Fails with `SerializeBufferFull` if the target refuses bytes. It is then dropped.
 pub fn to_extend<T: Serialize, W: ExtendBytes + Drop>(value: &T, writer: W) -> Result<W>
-    ensures appends { IfOk result (λ target. W.content target ≡ W.content writer ++ bytes (T.shape.tree value.now)) }
+    ensures appends { IfOk result
+        (λ target. W.content target ≡ W.content writer ++ bytes (T.shape.tree value.now)) }
     ensures answers { ¬ T.shape.refuses value.now → IfErr result (AnswersRefusal T.shape.text) }
     ensures fits { OnOk result (T.shape.fits value.now) }
 {
@@ -92,10 +97,11 @@ pub fn to_extend<T: Serialize, W: ExtendBytes + Drop>(value: &T, writer: W) -> R
 ///
 /// # Errors
 ///
-/// Fails with `SerializeBufferFull` if the writer or its flush fails. The writer is then dropped, and may
-/// have got some of the bytes.
+/// Fails with `SerializeBufferFull` if the writer or its flush fails. The writer is then dropped,
+/// and may have got some of the bytes.
 pub fn to_io<T: Serialize, W: Write + Drop>(value: &T, writer: W) -> Result<W>
-    ensures appends { IfOk result (λ output. Appends (W.contents writer) (W.contents output) (bytes (T.shape.tree value.now))) }
+    ensures appends { IfOk result (λ output. Appends (W.contents writer) (W.contents output)
+        (bytes (T.shape.tree value.now))) }
     ensures answers { ¬ T.shape.refuses value.now → IfErr result (AnswersRefusal T.shape.text) }
     ensures fits { OnOk result (T.shape.fits value.now) }
 {

@@ -34,7 +34,8 @@ impl SerializeRepr for Record<'_> {
 }
 
 impl Record<'_> {
-    /// Returns the `i`th record. Its numbers have each length that a varint of their width can have.
+    /// Returns the `i`th record. Its numbers have each length that a varint of their width can
+    /// have.
     fn numbered(i: u32) -> Record<'static> {
         let mixed = i.wrapping_mul(2_654_435_761);
         let high = mixed >> 16;

@@ -35,8 +35,8 @@ impl SeqAccess {
         SeqAccess { len }
     }
 
-    /// Reads the next element, or returns `None` if none is left. The number falls by one before the
-    /// element is read, also if that fails.
+    /// Reads the next element, or returns `None` if none is left. The number falls by one before
+    /// the element is read, also if that fails.
     ///
     /// # Errors
     ///

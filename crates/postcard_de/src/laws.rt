@@ -8,8 +8,8 @@ ghost use Rattle.postcard_shape.specs.Same.{HasOne};
 
 use crate::deserialize::Deserialize;
 
-/// The encodings of a type are prefix-free: at most one front of some bytes spells one of its trees,
-/// and a tree has one value.
+/// The encodings of a type are prefix-free: at most one front of some bytes spells one of its
+/// trees, and a tree has one value.
 pub fn one_message<'de, T: Deserialize<'de>>()
     ensures delimited { IsDelimited T.shape.reads }
     ensures one_value { HasOne T.shape.value T.shape.same }

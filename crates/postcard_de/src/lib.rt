@@ -1,10 +1,11 @@
 //! Reading: a deserializer over a source, and the types that it reads.
 //!
 //! A type's shape says which trees it reads and what their values are. The layer above uses one
-//! contract, that of [`Deserialize::deserialize`]: `Reads F.Flavor Spells reads value grows ..` says
-//! that the result is the value of a front that spells a tree that the type reads, that such a front
-//! is read if the source is able to give it, what is left, and which errors may be returned. Each
-//! `deserialize_*` has the same clause, and beside it `refused`, the exact reason of a failure.
+//! contract, that of [`Deserialize::deserialize`]: `Reads F.Flavor Spells reads value grows ..`
+//! says that the result is the value of a front that spells a tree that the type reads, that such a
+//! front is read if the source is able to give it, what is left, and which errors may be returned.
+//! Each `deserialize_*` has the same clause, and beside it `refused`, the exact reason of a
+//! failure.
 //!
 //! A struct is read as the tuple of its fields and an enum as its variants in a row ([`FromRepr`]),
 //! with no proof of their own.

@@ -13,8 +13,8 @@ pub(crate) fn read<'a, T: Deserialize<'a>>(alloc: Global, bytes: &'a [u8]) -> Re
     T::deserialize(alloc, &mut Deserializer::from_bytes(bytes))
 }
 
-/// Reads a value, and once more where memory was refused: a run with `--fail-alloc N`, which refuses the Nth request alone, then
-/// ends as one without it.
+/// Reads a value, and once more where memory was refused: a run with `--fail-alloc N`, which
+/// refuses the Nth request alone, then ends as one without it.
 pub(crate) fn read_in_two_tries<'a, T: Deserialize<'a>>(
     alloc: Global,
     bytes: &'a [u8],

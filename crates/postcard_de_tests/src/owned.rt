@@ -24,8 +24,8 @@ fn read<T: DeserializeOwned>(alloc: Global, bytes: &[u8]) -> Result<T> {
     T::deserialize_owned(alloc, &mut Deserializer::from_bytes(bytes))
 }
 
-/// Reads a value, and once more where memory was refused: a run with `--fail-alloc N`, which refuses the Nth request alone, then
-/// ends as one without it.
+/// Reads a value, and once more where memory was refused: a run with `--fail-alloc N`, which
+/// refuses the Nth request alone, then ends as one without it.
 fn read_in_two_tries<T: DeserializeOwned>(alloc: Global, bytes: &[u8]) -> Result<T> {
     match read(alloc, bytes) {
         Err(Error::OutOfMemory) => read(alloc, bytes),

@@ -291,7 +291,8 @@ fn reads_maps(rt: HostRuntime) -> Result<(), Fail> {
     Ok(())
 }
 
-/// A count that was announced asks for no memory: these answer the same where the first request is refused.
+/// A count that was announced asks for no memory: these answer the same where the first request is
+/// refused.
 #[test]
 fn asks_for_what_was_read_alone(rt: HostRuntime) {
     let alloc = rt.alloc();

@@ -30,8 +30,8 @@
 //! }
 //! ```
 //!
-//! In reading order: [`FixInt`] are the numbers, [`le`] and [`be`] write and read them, and [`laws`]
-//! has what holds of their bytes.
+//! In reading order: [`FixInt`] are the numbers, [`le`] and [`be`] write and read them, and
+//! [`laws`] has what holds of their bytes.
 #![tactic(auto)]
 
 pub mod be;

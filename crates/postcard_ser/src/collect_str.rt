@@ -1,7 +1,8 @@
 //! A value written as the text that it prints: the text is counted in a first pass, and written in
 //! a second.
 
-ghost use Rattle.std.specs.Prelude.{◌≡◌, ◌↔◌, ◌+◌, ◌^◌, ◌<◌, length, ⊤, IsOk, OnOk, IfOk, IfErr, IsErrOf, IsUtf8, IfSome};
+ghost use Rattle.std.specs.Prelude.{◌≡◌, ◌↔◌, ◌+◌, ◌^◌, ◌<◌, length, ⊤, IsOk, OnOk, IfOk, IfErr};
+ghost use Rattle.std.specs.Prelude.{IsErrOf, IsUtf8, IfSome};
 ghost use Rattle.postcard_wire.specs.Number.{digits};
 ghost use Rattle.postcard_wire.specs.Spelling.{bytes};
 ghost use Rattle.postcard_wire.specs.Tree.{Text};

@@ -1,7 +1,8 @@
 //! The calls by which a type writes itself, each a node of the wire format. Here are those for
 //! numbers, texts and lists.
 
-ghost use Rattle.std.specs.Prelude.{◌≡◌, [], ◌∷◌, ◌++◌, length, map, false, IsOk, IsErrOf, IfSome, OnOk};
+ghost use Rattle.std.specs.Prelude.{◌≡◌, [], ◌∷◌, ◌++◌, length, map, false, IsOk, IsErrOf, IfSome};
+ghost use Rattle.std.specs.Prelude.{OnOk};
 ghost use Rattle.std.specs.Option.{IfNone};
 ghost use Rattle.std.specs.Int.{w8, cast_unsigned};
 ghost use Rattle.postcard_wire.specs.Number.{digits};

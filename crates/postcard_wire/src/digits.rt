@@ -10,8 +10,8 @@ ghost use Rattle.postcard_wire.specs.Digits.{HasRead, Answers};
 
 use crate::error::{Error, Result};
 
-/// The digits read so far of a varint that goes on: its bytes were all 128 or more, and fewer than its
-/// width allows.
+/// The digits read so far of a varint that goes on: its bytes were all 128 or more, and fewer than
+/// its width allows.
 #[derive(Clone, Copy)]
 pub struct Digits {
     value: u128,
@@ -26,18 +26,19 @@ impl Digits {
         Digits { value: 0, count: 0 }
     }
 
-    /// Takes the next byte of a varint of `bits` bits: 16, 32, 64 or 128, the same for each byte of one
-    /// varint. Returns the number if this was its last byte, or `None` if more bytes follow.
+    /// Takes the next byte of a varint of `bits` bits: 16, 32, 64 or 128, the same for each byte of
+    /// one varint. Returns the number if this was its last byte, or `None` if more bytes follow.
     ///
     /// # Errors
     ///
-    /// Fails with [`Error::DeserializeBadVarint`] if the varint now has its full length, 3, 5, 10 or 19
-    /// bytes, and this byte says that another follows or exceeds the width. After the number or the
-    /// error, start with a new accumulator.
+    /// Fails with [`Error::DeserializeBadVarint`] if the varint now has its full length, 3, 5, 10
+    /// or 19 bytes, and this byte says that another follows or exceeds the width. After the number
+    /// or the error, start with a new accumulator.
     pub fn push(&mut self, bits: u32, byte: u8) -> Result<Option<u128>>
         requires width { IsWidth bits }
         requires begun { (p : List ℕ) × HasRead bits p self.old }
-        ensures { (p : List ℕ) → HasRead bits p self.old → Answers bits (p ++ byte ∷ []) self.new result }
+        ensures { (p : List ℕ) → HasRead bits p self.old
+            → Answers bits (p ++ byte ∷ []) self.new result }
     {
         if !is_within(bits, self.count, byte) {
             return Err(Error::DeserializeBadVarint);
@@ -51,8 +52,8 @@ impl Digits {
     }
 }
 
-/// Returns whether the digit of `byte` at `place`, counted from 0, fits in `bits` bits. A byte that says
-/// that another follows doesn't fit at the last place.
+/// Returns whether the digit of `byte` at `place`, counted from 0, fits in `bits` bits. A byte that
+/// says that another follows doesn't fit at the last place.
 fn is_within(bits: u32, place: u32, byte: u8) -> bool
     requires few { bits ≤ 128 }
     requires within { 7 * place ≤ bits }

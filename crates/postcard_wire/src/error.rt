@@ -10,29 +10,30 @@ use std::{error, fmt};
 
 /// Why a value was not written or not read.
 ///
-/// The variants are those of postcard 1.1.3 in its order, and then [`Error::OutOfMemory`], which is this
-/// port's own. An error doesn't say where in the bytes or in which part of a value it arose. Three
-/// variants are there so that a `match` can name them; no call of this port returns them:
+/// The variants are those of postcard 1.1.3 in its order, and then [`Error::OutOfMemory`], which is
+/// this port's own. An error doesn't say where in the bytes or in which part of a value it arose.
+/// Three variants are there so that a `match` can name them; no call of this port returns them:
 /// [`Error::NotYetImplemented`], [`Error::DeserializeBadEnum`] and [`Error::DeserializeBadCrc`].
 ///
 /// `Display` prints the texts of postcard 1.1.3, and `Debug` the name of the variant.
 #[derive(Clone, Debug, Drop, PartialEq, Eq)]
 pub enum Error {
-    /// A call that the format can't serve, since a message doesn't say of which type it is: reading a
-    /// value of any type, an identifier, or a value to be ignored. Nothing was read.
+    /// A call that the format can't serve, since a message doesn't say of which type it is: reading
+    /// a value of any type, an identifier, or a value to be ignored. Nothing was read.
     WontImplement,
     /// Never returned by this port: a feature that the format doesn't have yet.
     NotYetImplemented,
-    /// A writing flavor refused bytes: it has no room left, an allocation or its writer failed, or its
-    /// count of bytes would exceed `usize::MAX`.
+    /// A writing flavor refused bytes: it has no room left, an allocation or its writer failed, or
+    /// its count of bytes would exceed `usize::MAX`.
     SerializeBufferFull,
     /// A list or a map was begun without a length. Nothing was written.
     SerializeSeqLengthUnknown,
-    /// The bytes end before the value does. Over a reader also: the reader failed, or the scratch buffer
-    /// is too short for what is lent.
+    /// The bytes end before the value does. Over a reader also: the reader failed, or the scratch
+    /// buffer is too short for what is lent.
     DeserializeUnexpectedEnd,
-    /// A varint has its full length, 3, 5, 10 or 19 bytes for 16, 32, 64 or 128 bits, and its last byte
-    /// says that another follows or exceeds the width. Also for a variant's index above 32 bits.
+    /// A varint has its full length, 3, 5, 10 or 19 bytes for 16, 32, 64 or 128 bits, and its last
+    /// byte says that another follows or exceeds the width. Also for a variant's index above 32
+    /// bits.
     DeserializeBadVarint,
     /// The byte of a `bool` is neither 0 nor 1.
     DeserializeBadBool,
@@ -42,7 +43,8 @@ pub enum Error {
     DeserializeBadUtf8,
     /// The first byte of an option is neither 0 nor 1.
     DeserializeBadOption,
-    /// Never returned by this port: a variant's index above 32 bits is [`Error::DeserializeBadVarint`].
+    /// Never returned by this port: a variant's index above 32 bits is
+    /// [`Error::DeserializeBadVarint`].
     DeserializeBadEnum,
     /// A frame is empty, or one of its groups runs past its end.
     DeserializeBadEncoding,
@@ -51,14 +53,15 @@ pub enum Error {
     /// A value refuses to be written. No type of this port does; it is for types of a user (see
     /// [`Error::ser_custom`]).
     SerdeSerCustom,
-    /// The bytes spell no value of the type: an unknown variant, a zero for a type without one, a duration
-    /// that is too long, more elements than the capacity. Types of a user return it too (see
-    /// [`Error::de_custom`]).
+    /// The bytes spell no value of the type: an unknown variant, a zero for a type without one, a
+    /// duration that is too long, more elements than the capacity. Types of a user return it too
+    /// (see [`Error::de_custom`]).
     SerdeDeCustom,
-    /// A value written by its `Display` text fails to format, has a text of more than `usize::MAX` bytes,
-    /// or has one that the flavor refuses after its length was written.
+    /// A value written by its `Display` text fails to format, has a text of more than `usize::MAX`
+    /// bytes, or has one that the flavor refuses after its length was written.
     CollectStrError,
-    /// An allocation failed while reading a value that grows. Types that don't grow never return it.
+    /// An allocation failed while reading a value that grows. Types that don't grow never return
+    /// it.
     OutOfMemory,
 }
 
@@ -66,16 +69,16 @@ pub enum Error {
 pub type Result<T> = std::result::Result<T, Error>;
 
 impl Error {
-    /// Returns [`Error::SerdeSerCustom`], for a type whose value refuses to be written. The message is
-    /// not kept.
+    /// Returns [`Error::SerdeSerCustom`], for a type whose value refuses to be written. The message
+    /// is not kept.
     pub fn ser_custom<M: Display + Drop>(_msg: M) -> Error
         ensures { result ≡ Error.SerdeSerCustom }
     {
         Self::SerdeSerCustom
     }
 
-    /// Returns [`Error::SerdeDeCustom`], for a type that has no value for the bytes. The message is not
-    /// kept.
+    /// Returns [`Error::SerdeDeCustom`], for a type that has no value for the bytes. The message is
+    /// not kept.
     pub fn de_custom<M: Display + Drop>(_msg: M) -> Error
         ensures { result ≡ Error.SerdeDeCustom }
     {

@@ -1,15 +1,19 @@
 //! Laws of spellings. The functions do nothing: their contracts are the laws.
 //!
-//! A law over any set of trees is about a type that names the set: [`TreeSet`] for trees, [`PartsSet`]
-//! for trees in a row, [`ContentSet`] for the content of an enum by its index.
+//! A law over any set of trees is about a type that names the set: [`TreeSet`] for trees,
+//! [`PartsSet`] for trees in a row, [`ContentSet`] for the content of an enum by its index.
 
-ghost use Rattle.std.specs.Prelude.{◌≡◌, ℕ, ℤ, ◌+◌, ◌-◌, ◌≤◌, ◌*◌, ◌%◌, ◌^◌, ◌<◌, ◌⊎◌, ◌++◌, ◌∷◌, [], List, length};
+ghost use Rattle.std.specs.Prelude.{◌≡◌, ℕ, ℤ, ◌+◌, ◌-◌, ◌≤◌, ◌*◌, ◌%◌, ◌^◌, ◌<◌, ◌⊎◌, ◌++◌, ◌∷◌};
+ghost use Rattle.std.specs.Prelude.{[], List, length};
 ghost use Rattle.postcard_wire.specs.Number.{number, zigzag, max_digits, InRange};
 ghost use Rattle.postcard_wire.specs.Tree.{Tree, Trees, Num, WellFormed, IsWidth};
 ghost use Rattle.postcard_wire.specs.Spelling.{Spells, bytes};
 ghost use Rattle.postcard_wire.specs.Digits.{ReadsNum, Refuses};
 ghost use Rattle.postcard_wire.specs.declared.error.Error.{Error};
-ghost use Rattle.postcard_wire.specs.Reading.{IsDelimited, AreDelimited, ReadsWellFormed, PartsWellFormed, IsByte, IsBoolean, IsNum, IsInt, IsChar, IsText, IsOption, IsEnd, IsThen, IsGroup, IsSeq, IsArray, IsVariant};
+ghost use Rattle.postcard_wire.specs.Reading.{IsDelimited, AreDelimited, ReadsWellFormed};
+ghost use Rattle.postcard_wire.specs.Reading.{PartsWellFormed, IsByte, IsBoolean, IsNum, IsInt};
+ghost use Rattle.postcard_wire.specs.Reading.{IsChar, IsText, IsOption, IsEnd, IsThen, IsGroup};
+ghost use Rattle.postcard_wire.specs.Reading.{IsSeq, IsArray, IsVariant};
 
 /// A set of trees.
 pub trait TreeSet {
@@ -29,7 +33,8 @@ pub trait ContentSet {
 /// Each tree has one shortest spelling, and every other is longer.
 pub fn shortest()
     ensures spelled { (t : Tree) → WellFormed t → Spells t (bytes t) }
-    ensures alone { (t : Tree) (p : List ℕ) → Spells t p → (p ≡ bytes t) ⊎ (length (bytes t) < length p) }
+    ensures alone { (t : Tree) (p : List ℕ) → Spells t p
+        → (p ≡ bytes t) ⊎ (length (bytes t) < length p) }
 {}
 
 /// The spellings of the nodes of one kind are prefix-free: none is a proper prefix of another.
@@ -49,8 +54,8 @@ pub fn self_delimiting_containers<S: TreeSet>()
     ensures array { (n : ℕ) → IsDelimited S.has → IsDelimited (IsArray n S.has) }
 {}
 
-/// The spellings of parts in a row, and of the group that they make, are prefix-free if those of the
-/// first part and of the parts after it are.
+/// The spellings of parts in a row, and of the group that they make, are prefix-free if those of
+/// the first part and of the parts after it are.
 pub fn self_delimiting_parts<S: TreeSet, P: PartsSet>()
     ensures end { AreDelimited IsEnd }
     ensures then { IsDelimited S.has → AreDelimited P.have → AreDelimited (IsThen S.has P.have) }
@@ -84,11 +89,12 @@ pub fn well_formed_containers<S: TreeSet>()
     ensures array { (n : ℕ) → ReadsWellFormed S.has → ReadsWellFormed (IsArray n S.has) }
 {}
 
-/// Parts in a row, and the group that they make, are well formed if the first part and the parts after it
-/// are.
+/// Parts in a row, and the group that they make, are well formed if the first part and the parts
+/// after it are.
 pub fn well_formed_parts<S: TreeSet, P: PartsSet>()
     ensures end { PartsWellFormed IsEnd }
-    ensures then { ReadsWellFormed S.has → PartsWellFormed P.have → PartsWellFormed (IsThen S.has P.have) }
+    ensures then { ReadsWellFormed S.has
+        → PartsWellFormed P.have → PartsWellFormed (IsThen S.has P.have) }
     ensures group { PartsWellFormed P.have → ReadsWellFormed (IsGroup P.have) }
 {}
 
@@ -102,8 +108,8 @@ pub fn well_formed_subsets<S: TreeSet, T: TreeSet>()
     ensures { ((t : Tree) → S.has t → T.has t) → ReadsWellFormed T.has → ReadsWellFormed S.has }
 {}
 
-/// What is written is read again: if bytes begin with a tree's shortest spelling, that is the only front
-/// that spells a tree of the set, and it spells only this tree.
+/// What is written is read again: if bytes begin with a tree's shortest spelling, that is the only
+/// front that spells a tree of the set, and it spells only this tree.
 pub fn read_again<S: TreeSet>()
     ensures { IsDelimited S.has → ReadsWellFormed S.has → (t s : Tree) (p rest left : List ℕ)
         → S.has t → S.has s → Spells s p → p ++ left ≡ bytes t ++ rest
@@ -112,18 +118,20 @@ pub fn read_again<S: TreeSet>()
 
 /// Bytes that are refused as a number don't begin with one.
 pub fn refused()
-    ensures { (w n : ℕ) (bytes rest : List ℕ) (e : Error) → Refuses w bytes e → ReadsNum w bytes n rest → ⊥ }
+    ensures { (w n : ℕ) (bytes rest : List ℕ) (e : Error)
+        → Refuses w bytes e → ReadsNum w bytes n rest → ⊥ }
 {}
 
 /// What digits say: each counts by its place. No two signed numbers have the same zigzag encoding.
 pub fn numbers()
     ensures none { number [] ≡ 0 }
-    ensures by_place { (p : List ℕ) (b : ℕ) → number (p ++ b ∷ []) ≡ number p + b % 128 * 128 ^ length p }
+    ensures by_place { (p : List ℕ) (b : ℕ)
+        → number (p ++ b ∷ []) ≡ number p + b % 128 * 128 ^ length p }
     ensures folded { (y z : ℤ) → zigzag y ≡ zigzag z → y ≡ z }
 {}
 
-/// Zigzag maps the signed numbers of a width to the unsigned ones of that width, one to one and onto, so
-/// that each direction undoes the other.
+/// Zigzag maps the signed numbers of a width to the unsigned ones of that width, one to one and
+/// onto, so that each direction undoes the other.
 pub fn zigzags()
     ensures within { (w : ℕ) (z : ℤ) → IsWidth w → InRange w z → zigzag z < 2 ^ w }
     ensures onto { (w n : ℕ) → IsWidth w → n < 2 ^ w → (z : ℤ) × InRange w z × (zigzag z ≡ n) }

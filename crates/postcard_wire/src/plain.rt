@@ -8,8 +8,8 @@ ghost use Rattle.postcard_wire.specs.Tree.{Num, IsWidth};
 
 use std::alloc::{AllocError, Global};
 
-/// Returns the shortest spelling of a number of 16, 32, 64 or 128 bits (wire format 1.0, "varint encoded
-/// integers").
+/// Returns the shortest spelling of a number of 16, 32, 64 or 128 bits (wire format 1.0, "varint
+/// encoded integers").
 ///
 /// Fails only if an allocation fails.
 #[tactic(auto, using(crate::proofs::Writing::none_appended, crate::proofs::Writing::one_appended, crate::proofs::Writing::all_appended))]

@@ -1,5 +1,5 @@
-//! The fast calls against the plain ones over edges and samples of each width, and both against vectors worked out by
-//! hand.
+//! The fast calls against the plain ones over edges and samples of each width, and both against
+//! vectors worked out by hand.
 
 ghost use Rattle.postcard_wire.specs.Tree.{IsWidth};
 
@@ -24,8 +24,9 @@ fn read(bits: u32, bytes: &[u8]) -> Result<(u128, usize)>
     Err(Error::DeserializeUnexpectedEnd)
 }
 
-/// Numbers of 128 bits: each power of two, and so of 128, with its neighbours, the greatest, and 300 of a
-/// multiplicative generator. Taken modulo a width they are edges and samples of that width.
+/// Numbers of 128 bits: each power of two, and so of 128, with its neighbours, the greatest, and
+/// 300 of a multiplicative generator. Taken modulo a width they are edges and samples of that
+/// width.
 fn numbers(alloc: Global) -> std::result::Result<Vec<u128>, AllocError> {
     let mut numbers = Vec::new(alloc);
     let mut power = 1u128;
@@ -43,14 +44,19 @@ fn numbers(alloc: Global) -> std::result::Result<Vec<u128>, AllocError> {
 
 /// Compares what is written, read and folded of one number of a width.
 macro_rules! compare {
-    ($rt:ident, $bits:literal, $n:ident, $varint:path, $most:path, $zig_zag:path, $de_zig_zag:path) => {{
+    (
+        $rt:ident, $bits:literal, $n:ident, $varint:path, $most:path, $zig_zag:path,
+        $de_zig_zag:path
+    ) => {{
         let spelling = plain::spell($rt.alloc(), $bits, u128::from($n))?;
         let mut buffer = [0; $most];
         let written: &[u8] = $varint($n, &mut buffer);
         assert_eq!($rt; written, spelling.as_slice(), "the digits of {}", $n);
-        assert_eq!($rt; read($bits, written), Ok((u128::from($n), written.len())), "{} read again", $n);
+        let whole = Ok((u128::from($n), written.len()));
+        assert_eq!($rt; read($bits, written), whole, "{} read again", $n);
         let signed = $de_zig_zag($n);
-        assert_eq!($rt; i128::from(signed), plain::de_zig_zag(u128::from($n)), "the sign of {}", $n);
+        let want = plain::de_zig_zag(u128::from($n));
+        assert_eq!($rt; i128::from(signed), want, "the sign of {}", $n);
         assert_eq!($rt; $zig_zag(signed), $n);
         let signed = $n.cast_signed();
         let folded = $zig_zag(signed);

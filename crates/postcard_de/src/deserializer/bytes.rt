@@ -22,9 +22,9 @@ impl<'de, F: Flavor> Deserializer<'de, F> {
     ///
     /// # Errors
     ///
-    /// For the length as `deserialize_u64`. Fails with `DeserializeBadChar` if the length is above 4,
-    /// before any of the bytes is taken; with `DeserializeUnexpectedEnd` if the bytes end before the
-    /// text does; with `DeserializeBadChar` if the text is not UTF-8 or is empty.
+    /// For the length as `deserialize_u64`. Fails with `DeserializeBadChar` if the length is above
+    /// 4, before any of the bytes is taken; with `DeserializeUnexpectedEnd` if the bytes end before
+    /// the text does; with `DeserializeBadChar` if the text is not UTF-8 or is empty.
     pub fn deserialize_char(&mut self) -> Result<char>
         ensures reads { Reads F.Flavor Spells IsChar (λ t v. t ≡ Char v) ⊥
             (source_of self.old) result (source_of self.new) }
@@ -38,8 +38,8 @@ impl<'de, F: Flavor> Deserializer<'de, F> {
     ///
     /// # Errors
     ///
-    /// For its length as `deserialize_u64`. Fails with `DeserializeUnexpectedEnd` if fewer bytes are
-    /// left.
+    /// For its length as `deserialize_u64`. Fails with `DeserializeUnexpectedEnd` if fewer bytes
+    /// are left.
     pub fn deserialize_bytes(&mut self) -> Result<&'de [u8]>
         ensures reads { Reads F.Flavor Spells (IsSeq IsByte)
             (λ t v. ListIs (λ s b. s ≡ Byte b) t v.now) ⊥

@@ -25,8 +25,8 @@ impl<'de, F: Flavor> Deserializer<'de, F> {
     ///
     /// # Errors
     ///
-    /// Fails with `DeserializeUnexpectedEnd` if no byte is left, and with `DeserializeBadBool` for any
-    /// other byte.
+    /// Fails with `DeserializeUnexpectedEnd` if no byte is left, and with `DeserializeBadBool` for
+    /// any other byte.
     pub fn deserialize_bool(&mut self) -> Result<bool>
         ensures reads { Reads F.Flavor Spells IsBoolean (λ t v. t ≡ Boolean v) ⊥
             (source_of self.old) result (source_of self.new) }
@@ -40,8 +40,8 @@ impl<'de, F: Flavor> Deserializer<'de, F> {
     ///
     /// # Errors
     ///
-    /// Fails with `DeserializeUnexpectedEnd` if no byte is left, with `DeserializeBadOption` for any
-    /// other byte, and with the errors of the content.
+    /// Fails with `DeserializeUnexpectedEnd` if no byte is left, with `DeserializeBadOption` for
+    /// any other byte, and with the errors of the content.
     pub fn deserialize_option<T: Deserialize<'de>>(&mut self, alloc: Global) -> Result<Option<T>>
         ensures reads { Reads F.Flavor Spells (IsOption T.shape.reads) (OptionIs T.shape.value)
             T.shape.grows (source_of self.old) result (source_of self.new) }
@@ -60,14 +60,14 @@ impl<'de, F: Flavor> Deserializer<'de, F> {
         }
     }
 
-    /// Reads the index of an enum's variant: a varint of at most 5 bytes. The content is then read by
-    /// the call for its kind.
+    /// Reads the index of an enum's variant: a varint of at most 5 bytes. The content is then read
+    /// by the call for its kind.
     ///
     /// # Errors
     ///
     /// Fails with `DeserializeUnexpectedEnd` if the bytes end within the index, and with
-    /// `DeserializeBadVarint` if it has more bytes or exceeds 32 bits. The type itself refuses an index
-    /// that has no variant.
+    /// `DeserializeBadVarint` if it has more bytes or exceeds 32 bits. The type itself refuses an
+    /// index that has no variant.
     pub fn deserialize_enum(&mut self, _name: &str, _variants: &[&str]) -> Result<u32>
         ensures reads { Reads F.Flavor (SpellsNum 32) (λ n. n < 2 ^ 32) Same ⊥
             (source_of self.old) result (source_of self.new) }
@@ -98,8 +98,8 @@ impl<'de, F: Flavor> Deserializer<'de, F> {
         T::deserialize(alloc, self)
     }
 
-    /// Begins the content of a variant of `len` parts, which are then read as elements. Reads nothing,
-    /// and never fails.
+    /// Begins the content of a variant of `len` parts, which are then read as elements. Reads
+    /// nothing, and never fails.
     pub fn tuple_variant(&mut self, len: usize) -> Result<SeqAccess>
         ensures parts { result ≡ Ok len }
         ensures unchanged { self.new ≡ self.old }

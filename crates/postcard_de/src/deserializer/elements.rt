@@ -124,13 +124,13 @@ impl<'de, F: Flavor> Deserializer<'de, F> {
         Ok(items)
     }
 
-    /// Reads a map: a count, and that many pairs of a key and a value. Of two values of equal keys the
-    /// later wins.
+    /// Reads a map: a count, and that many pairs of a key and a value. Of two values of equal keys
+    /// the later wins.
     ///
     /// # Errors
     ///
-    /// For the count as `deserialize_u64`, and those of a key or a value. Fails with `OutOfMemory` if
-    /// an allocation fails.
+    /// For the count as `deserialize_u64`, and those of a key or a value. Fails with `OutOfMemory`
+    /// if an allocation fails.
     pub(crate) fn map<
         K: Shaped + Ord + Drop,
         V: Shaped + Drop,

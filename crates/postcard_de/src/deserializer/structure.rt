@@ -55,7 +55,8 @@ impl<'de, F: Flavor> Deserializer<'de, F> {
         T::deserialize(alloc, self)
     }
 
-    /// Begins a tuple of `len` parts, which are then read as elements. Reads nothing, and never fails.
+    /// Begins a tuple of `len` parts, which are then read as elements. Reads nothing, and never
+    /// fails.
     pub fn deserialize_tuple(&mut self, len: usize) -> Result<SeqAccess>
         ensures parts { result ≡ Ok len }
         ensures unchanged { self.new ≡ self.old }
@@ -63,8 +64,8 @@ impl<'de, F: Flavor> Deserializer<'de, F> {
         Ok(SeqAccess::new(len))
     }
 
-    /// Begins a tuple struct of `len` parts, which are then read as elements. Reads nothing, and never
-    /// fails.
+    /// Begins a tuple struct of `len` parts, which are then read as elements. Reads nothing, and
+    /// never fails.
     pub fn deserialize_tuple_struct(&mut self, _name: &str, len: usize) -> Result<SeqAccess>
         ensures parts { result ≡ Ok len }
         ensures unchanged { self.new ≡ self.old }
@@ -72,8 +73,8 @@ impl<'de, F: Flavor> Deserializer<'de, F> {
         self.deserialize_tuple(len)
     }
 
-    /// Begins a struct with these fields, which are then read as elements. The names aren't used. Reads
-    /// nothing, and never fails.
+    /// Begins a struct with these fields, which are then read as elements. The names aren't used.
+    /// Reads nothing, and never fails.
     pub fn deserialize_struct(&mut self, _name: &str, fields: &[&str]) -> Result<SeqAccess>
         ensures parts { result ≡ Ok (length fields.now) }
         ensures unchanged { self.new ≡ self.old }

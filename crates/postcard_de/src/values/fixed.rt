@@ -34,8 +34,8 @@ impl<T: DeserializeOwned + Copy + Default, const N: usize> DeserializeOwned for 
     }
 }
 
-/// A list of more elements than the capacity is refused with `SerdeDeCustom`, once the first element
-/// that doesn't fit has been read.
+/// A list of more elements than the capacity is refused with `SerdeDeCustom`, once the first
+/// element that doesn't fit has been read.
 impl<'de, T: Deserialize<'de> + Default, const CAP: usize> Deserialize<'de> for ArrayVec<T, CAP> {
     fn deserialize<F: Flavor>(alloc: Global, d: &mut Deserializer<'de, F>) -> Result<Self> {
         d.few::<T, Lent, CAP>(alloc)
@@ -51,8 +51,8 @@ impl<T: DeserializeOwned + Default, const CAP: usize> DeserializeOwned for Array
     }
 }
 
-/// A text of more bytes than the capacity is refused with `SerdeDeCustom`, once its bytes were taken and
-/// found to be UTF-8.
+/// A text of more bytes than the capacity is refused with `SerdeDeCustom`, once its bytes were
+/// taken and found to be UTF-8.
 impl<'de, const CAP: usize> Deserialize<'de> for ArrayString<CAP> {
     fn deserialize<F: Flavor>(_alloc: Global, d: &mut Deserializer<'de, F>) -> Result<Self>
         ensures reads { Reads F.Flavor Spells (IsShortText CAP) (λ t v. t ≡ Text v.bytes) ⊥

@@ -1,7 +1,10 @@
 //! Numbers that aren't 0.
 
 ghost use Rattle.std.specs.Prelude.{refl, pos};
-ghost use Rattle.std.specs.Int.NonZero.{non_zero_u8_get, non_zero_u16_get, non_zero_u32_get, non_zero_u64_get, non_zero_u128_get, non_zero_usize_get, non_zero_i8_get, non_zero_i16_get, non_zero_i32_get, non_zero_i64_get, non_zero_i128_get, non_zero_isize_get};
+ghost use Rattle.std.specs.Int.NonZero.{non_zero_u8_get, non_zero_u16_get, non_zero_u32_get};
+ghost use Rattle.std.specs.Int.NonZero.{non_zero_u64_get, non_zero_u128_get, non_zero_usize_get};
+ghost use Rattle.std.specs.Int.NonZero.{non_zero_i8_get, non_zero_i16_get, non_zero_i32_get};
+ghost use Rattle.std.specs.Int.NonZero.{non_zero_i64_get, non_zero_i128_get, non_zero_isize_get};
 ghost use Rattle.std.proofs.Common.{inl, inr};
 ghost use Rattle.postcard_wire.specs.Tree.{Byte, Num, Int};
 ghost use Rattle.postcard_shape.specs.Shape.{via};
@@ -26,15 +29,18 @@ impl Shaped for NonZeroU32 {
 }
 
 impl Shaped for NonZeroU64 {
-    ghost shape = { via (λ v. non_zero_u64_get v) (without (Num 64 0) (num 64 (inr (inr (inl refl))))) };
+    ghost shape = { via (λ v. non_zero_u64_get v)
+        (without (Num 64 0) (num 64 (inr (inr (inl refl))))) };
 }
 
 impl Shaped for NonZeroU128 {
-    ghost shape = { via (λ v. non_zero_u128_get v) (without (Num 128 0) (num 128 (inr (inr (inr refl))))) };
+    ghost shape = { via (λ v. non_zero_u128_get v)
+        (without (Num 128 0) (num 128 (inr (inr (inr refl))))) };
 }
 
 impl Shaped for NonZeroUsize {
-    ghost shape = { via (λ v. non_zero_usize_get v) (without (Num 64 0) (num 64 (inr (inr (inl refl))))) };
+    ghost shape = { via (λ v. non_zero_usize_get v)
+        (without (Num 64 0) (num 64 (inr (inr (inl refl))))) };
 }
 
 impl Shaped for NonZeroI8 {
@@ -46,17 +52,21 @@ impl Shaped for NonZeroI16 {
 }
 
 impl Shaped for NonZeroI32 {
-    ghost shape = { via (λ v. non_zero_i32_get v) (without (Int 32 (pos 0)) (int 32 (inr (inl refl)))) };
+    ghost shape = { via (λ v. non_zero_i32_get v)
+        (without (Int 32 (pos 0)) (int 32 (inr (inl refl)))) };
 }
 
 impl Shaped for NonZeroI64 {
-    ghost shape = { via (λ v. non_zero_i64_get v) (without (Int 64 (pos 0)) (int 64 (inr (inr (inl refl))))) };
+    ghost shape = { via (λ v. non_zero_i64_get v)
+        (without (Int 64 (pos 0)) (int 64 (inr (inr (inl refl))))) };
 }
 
 impl Shaped for NonZeroI128 {
-    ghost shape = { via (λ v. non_zero_i128_get v) (without (Int 128 (pos 0)) (int 128 (inr (inr (inr refl))))) };
+    ghost shape = { via (λ v. non_zero_i128_get v)
+        (without (Int 128 (pos 0)) (int 128 (inr (inr (inr refl))))) };
 }
 
 impl Shaped for NonZeroIsize {
-    ghost shape = { via (λ v. non_zero_isize_get v) (without (Int 64 (pos 0)) (int 64 (inr (inr (inl refl))))) };
+    ghost shape = { via (λ v. non_zero_isize_get v)
+        (without (Int 64 (pos 0)) (int 64 (inr (inr (inl refl))))) };
 }

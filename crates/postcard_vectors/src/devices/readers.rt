@@ -1,7 +1,8 @@
 //! Readers for tests: one that gives its bytes in stated pieces, one that fails at a stated call,
 //! and one of which every other call is interrupted.
 
-ghost use Rattle.std.specs.Prelude.{◌≡◌, ◌+◌, ◌-◌, ◌^◌, ◌≤◌, ◌<◌, ◌++◌, [], length, min, take, Ok, Some, IsErr, ⊤};
+ghost use Rattle.std.specs.Prelude.{◌≡◌, ◌+◌, ◌-◌, ◌^◌, ◌≤◌, ◌<◌, ◌++◌, [], length, min, take, Ok};
+ghost use Rattle.std.specs.Prelude.{Some, IsErr, ⊤};
 ghost use Rattle.postcard_vectors.specs.Lengths.{turn, piece_length};
 ghost use Rattle.std.specs.Io.{ReadsAtMost};
 ghost use Rattle.std.specs.Io.KnownBytes.{ReadConsumes};
@@ -10,8 +11,9 @@ use postcard::de_flavors::Source;
 use std::io;
 use std::io::{ErrorKind, Read};
 
-/// A steady reader that gives its bytes in pieces: no read gives more than the next of the stated lengths. These are used in
-/// turn, from the first on again once they are over; where there are none, each read gives one byte. A length of 0 counts as 1.
+/// A steady reader that gives its bytes in pieces: no read gives more than the next of the stated
+/// lengths. These are used in turn, from the first on again once they are over; where there are
+/// none, each read gives one byte. A length of 0 counts as 1.
 #[derive(Drop)]
 pub struct Pieces<'a> {
     bytes: &'a [u8],
@@ -54,9 +56,12 @@ impl<'a> Pieces<'a> {
         length.max(1)
     }
 
-    /// Moves the next piece, or as much of it as there is and fits, into the front of `buf`, and answers its length.
+    /// Moves the next piece, or as much of it as there is and fits, into the front of `buf`, and
+    /// answers its length.
     fn give(&mut self, buf: &mut [u8]) -> usize
-        ensures counts { result ≡ min (min (piece_length self.old.lengths.now self.old.place) (length buf.old)) (length self.old.bytes.now) }
+        ensures counts { result
+            ≡ min (min (piece_length self.old.lengths.now self.old.place) (length buf.old))
+            (length self.old.bytes.now) }
         ensures moves { self.old.bytes.now ≡ take result buf.new ++ self.new.bytes.now }
         ensures fits { result ≤ length buf.new }
         ensures ends { result ≡ 0 → 0 < length buf.old → self.new.bytes.now ≡ [] }
@@ -76,8 +81,11 @@ impl Read for Pieces<'_> {
 
     fn read(&mut self, buf: &mut [u8]) -> io::Result<usize>
         ensures bound { ReadsAtMost result buf.new }
-        ensures bytes { ReadConsumes (Some self.old.bytes.now) (Some self.new.bytes.now) result buf.new }
-        ensures gives { result ≡ Ok (min (min (piece_length self.old.lengths.now self.old.place) (length buf.old)) (length self.old.bytes.now)) }
+        ensures bytes { ReadConsumes (Some self.old.bytes.now) (Some self.new.bytes.now)
+            result buf.new }
+        ensures gives { result
+            ≡ Ok (min (min (piece_length self.old.lengths.now self.old.place) (length buf.old))
+            (length self.old.bytes.now)) }
         ensures turns { self.new.place ≡ turn self.old.lengths.now self.old.place + 1 }
     {
         Ok(self.give(buf))
@@ -120,7 +128,8 @@ impl<R: Read> Read for FailingReader<R> {
 
     fn read(&mut self, buf: &mut [u8]) -> io::Result<usize>
         ensures bound { ReadsAtMost result buf.new }
-        ensures bytes { ReadConsumes (R.remaining self.old.inner) (R.remaining self.new.inner) result buf.new }
+        ensures bytes { ReadConsumes (R.remaining self.old.inner) (R.remaining self.new.inner)
+            result buf.new }
         ensures fails { self.old.reads ≡ self.old.fails_at → IsErr result }
         ensures counts { self.new.reads ≡ min (self.old.reads + 1) (2 ^ 64 - 1) }
         ensures keeps { self.new.fails_at ≡ self.old.fails_at }
@@ -151,7 +160,8 @@ impl<R: Read> Read for InterruptedReader<R> {
 
     fn read(&mut self, buf: &mut [u8]) -> io::Result<usize>
         ensures bound { ReadsAtMost result buf.new }
-        ensures bytes { ReadConsumes (R.remaining self.old.inner) (R.remaining self.new.inner) result buf.new }
+        ensures bytes { ReadConsumes (R.remaining self.old.inner) (R.remaining self.new.inner)
+            result buf.new }
         ensures interrupts { self.old.interrupts ≡ true
             → IsErr result × (self.new.inner ≡ self.old.inner) × (self.new.interrupts ≡ false) }
         ensures next_is_interrupted { self.old.interrupts ≡ false → self.new.interrupts ≡ true }

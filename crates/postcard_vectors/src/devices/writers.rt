@@ -1,7 +1,8 @@
 //! Writers for tests: one that is short of room, one that fails at a stated call, and one of which
 //! every other call is interrupted.
 
-ghost use Rattle.std.specs.Prelude.{◌≡◌, ◌+◌, ◌-◌, ◌^◌, [], length, min, true, Ok, Some, IsErr, IsOk, OnOk, OnErr};
+ghost use Rattle.std.specs.Prelude.{◌≡◌, ◌+◌, ◌-◌, ◌^◌, [], length, min, true, Ok, Some, IsErr};
+ghost use Rattle.std.specs.Prelude.{IsOk, OnOk, OnErr};
 ghost use Rattle.std.specs.Io.{WritesAtMost};
 ghost use Rattle.std.specs.Io.KnownBytes.{Keeps, WriteAppends};
 
@@ -9,8 +10,8 @@ use arrayvec::ArrayVec;
 use std::io;
 use std::io::{ErrorKind, Write};
 
-/// A writer with room for `N` bytes. It takes of each piece what it has room for, and once it is full nothing more, which
-/// `write_all` answers with an error.
+/// A writer with room for `N` bytes. It takes of each piece what it has room for, and once it is
+/// full nothing more, which `write_all` answers with an error.
 #[derive(Drop)]
 pub struct Bounded<const N: usize> {
     /// The bytes that it was given.
@@ -34,7 +35,8 @@ impl<const N: usize> Write for Bounded<N> {
     /// Takes the front that there is room for.
     fn write(&mut self, buf: &[u8]) -> io::Result<usize>
         ensures bound { WritesAtMost result buf.now }
-        ensures bytes { WriteAppends (Some self.old.held.items) (Some self.new.held.items) result buf.now }
+        ensures bytes { WriteAppends (Some self.old.held.items) (Some self.new.held.items)
+            result buf.now }
         ensures count { result ≡ Ok (min (length buf.now) (N - length self.old.held.items)) }
     {
         let count = buf.len().min(self.held.remaining_capacity());
@@ -73,7 +75,8 @@ impl<W: Write> Write for FailingWriter<W> {
 
     fn write(&mut self, buf: &[u8]) -> io::Result<usize>
         ensures bound { WritesAtMost result buf.now }
-        ensures bytes { WriteAppends (W.contents self.old.inner) (W.contents self.new.inner) result buf.now }
+        ensures bytes { WriteAppends (W.contents self.old.inner) (W.contents self.new.inner)
+            result buf.now }
         ensures fails { self.old.writes ≡ self.old.fails_at → IsErr result }
         ensures counts { self.new.writes ≡ min (self.old.writes + 1) (2 ^ 64 - 1) }
         ensures keeps { self.new.fails_at ≡ self.old.fails_at }
@@ -118,7 +121,8 @@ impl<W: Write> Write for InterruptedWriter<W> {
 
     fn write(&mut self, buf: &[u8]) -> io::Result<usize>
         ensures bound { WritesAtMost result buf.now }
-        ensures bytes { WriteAppends (W.contents self.old.inner) (W.contents self.new.inner) result buf.now }
+        ensures bytes { WriteAppends (W.contents self.old.inner) (W.contents self.new.inner)
+            result buf.now }
         ensures interrupts { self.old.interrupts ≡ true
             → IsErr result × (self.new.inner ≡ self.old.inner) × (self.new.interrupts ≡ false) }
         ensures next_is_interrupted { self.old.interrupts ≡ false → self.new.interrupts ≡ true }

@@ -11,8 +11,8 @@ use std::process::Abort;
 /// A buffer's fill, so that a byte that was not written shows.
 const OLD: u8 = 0xAA;
 
-/// Writes a value into buffers of every length up to three bytes more than it needs: it succeeds exactly where the
-/// bytes fit, and what is not written stays as it was.
+/// Writes a value into buffers of every length up to three bytes more than it needs: it succeeds
+/// exactly where the bytes fit, and what is not written stays as it was.
 fn is_written<T: Serialize>(rt: &impl Abort, value: &T, want: &[u8]) {
     for room in 0..want.len().saturating_add(4) {
         let mut buffer = [OLD; 48];

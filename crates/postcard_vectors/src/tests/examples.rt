@@ -63,7 +63,7 @@ fn framing(rt: HostRuntime) -> Result<()> {
         &*frame,
         [0x03, 0x04, 0x01, 0x03, 0x20, 0x30, 0x00].as_slice()
     );
-    let mut two = to_allocvec_cobs_after(&5u8, frame.to_vec(rt.alloc())?)?; // behind what the vector has
+    let mut two = to_allocvec_cobs_after(&5u8, frame.to_vec(rt.alloc())?)?; // behind its bytes
     assert_eq!(rt; two.get(7..), Some([0x02, 0x05, 0x00].as_slice()));
 
     let (list, rest) = take_from_bytes_cobs::<&[u8]>(rt.alloc(), &mut two)?;

@@ -1,7 +1,8 @@
 //! Each public call on values and inputs whose answers were worked out by hand.
 //!
-//! A run may refuse one request for memory (`rt try --test --fail-alloc N` refuses the Nth). What asks for memory is then
-//! called once more, and only the named error may come before the right answer.
+//! A run may refuse one request for memory (`rt try --test --fail-alloc N` refuses the Nth). What
+//! asks for memory is then called once more, and only the named error may come before the right
+//! answer.
 
 mod announced;
 mod appended;
@@ -19,6 +20,7 @@ mod readers;
 mod reading;
 mod scratch;
 mod serializer;
+mod short;
 mod sizes;
 mod streams;
 mod writers;

@@ -17,8 +17,8 @@ use std::test::Fail;
 /// The byte that each row has behind the value's bytes.
 const END: u8 = 0x99;
 
-/// The value is written as the row's bytes but the last, and these are read as the value, alone and with the last
-/// behind them; where they are cut, they are refused.
+/// The value is written as the row's bytes but the last, and these are read as the value, alone and
+/// with the last behind them; where they are cut, they are refused.
 fn round_trip<'a, T: Serialize + Deserialize<'a> + PartialEq + Debug>(
     rt: &impl Abort,
     alloc: Global,

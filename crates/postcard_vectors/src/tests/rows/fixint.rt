@@ -1,5 +1,5 @@
-//! Numbers at their full width. The bytes were worked out by hand: the digits of each number in base
-//! 16, two a byte, the highest first as they stand on paper, or the lowest first.
+//! Numbers at their full width. The bytes were worked out by hand: the digits of each number in
+//! base 16, two a byte, the highest first as they stand on paper, or the lowest first.
 
 use super::{OLD, assert_refused, assert_written, read, written};
 use crate::types::Endpoint;

@@ -10,8 +10,8 @@ use postcard::{
 use std::alloc::{AllocGlobal, Global};
 use std::process::Abort;
 
-/// The value's frame has these bytes: in a buffer that is as long or longer, of which the rest stays
-/// as it was, and in vectors. A buffer that is a byte shorter is refused.
+/// The value's frame has these bytes: in a buffer that is as long or longer, of which the rest
+/// stays as it was, and in vectors. A buffer that is a byte shorter is refused.
 fn is_framed<T: Serialize>(rt: &(impl Abort + AllocGlobal), value: &T, want: &[u8]) -> Result<()> {
     let mut buffer = [OLD; 16];
     for room in 0..=16 {

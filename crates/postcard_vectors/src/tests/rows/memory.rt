@@ -1,4 +1,5 @@
-//! Calls that ask for memory: the right answer, or, where a request was refused, the named error and then the right answer.
+//! Calls that ask for memory: the right answer, or, where a request was refused, the named error
+//! and then the right answer.
 
 use super::{assert_written, read};
 use postcard::{Error, Result, Serialize, to_allocvec, to_extend, to_io, to_stdvec};
@@ -17,7 +18,8 @@ fn again<F: Fn() -> Result<Vec<u8>>>(write: F) -> Result<Vec<u8>>
     }
 }
 
-/// Each call that writes into memory which grows gives these bytes, some behind what was written before.
+/// Each call that writes into memory which grows gives these bytes, some behind what was written
+/// before.
 fn assert_grows<T: Serialize>(
     rt: &(impl Abort + AllocGlobal),
     value: &T,

@@ -18,7 +18,8 @@ const MIXED: [u8; 7] = [0x02, 0x61, 0x62, 0x01, 0x63, 0x01, 0x64];
 /// The text "z", and a byte behind it.
 const LETTER: [u8; 3] = [0x01, 0x7A, 0x99];
 
-/// The text "Hi!", the number 300 as a `u16`, the pair of 5 as a `u8` and the text "z", and two bytes behind them.
+/// The text "Hi!", the number 300 as a `u16`, the pair of 5 as a `u8` and the text "z", and two
+/// bytes behind them.
 const RECORDS: [u8; 11] = [
     0x03, 0x48, 0x69, 0x21, 0xAC, 0x02, 0x05, 0x01, 0x7A, 0x99, 0x98,
 ];
@@ -32,7 +33,8 @@ fn assert_unread<R: Source>(rt: &impl Abort, reader: R, unread: &[u8]) {
     assert_eq!(rt; rest.pop(), Err(Error::DeserializeUnexpectedEnd));
 }
 
-/// Texts are lent from a scratch that is long enough for all of them. What is left of it is answered.
+/// Texts are lent from a scratch that is long enough for all of them. What is left of it is
+/// answered.
 fn lends_texts<'b, R: Source + 'b, F: Fn(&'b [u8]) -> R>(
     rt: &(impl Abort + AllocGlobal),
     over: &F,
@@ -147,7 +149,8 @@ fn refuses_takes<'b, R: Source + 'b, F: Fn(&'b [u8]) -> R>(
     Ok(())
 }
 
-/// Records are read one after another, each with the scratch that the one before left, and the bytes behind them aren't.
+/// Records are read one after another, each with the scratch that the one before left, and the
+/// bytes behind them aren't.
 fn reads_records<'b, R: Source + 'b, F: Fn(&'b [u8]) -> R>(
     rt: &(impl Abort + AllocGlobal),
     over: &F,

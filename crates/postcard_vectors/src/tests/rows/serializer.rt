@@ -1,5 +1,5 @@
-//! The calls of a `Serializer` that no value's writing makes: an unknown length, texts that a value prints, and refusals of a
-//! value by itself.
+//! The calls of a `Serializer` that no value's writing makes: an unknown length, texts that a value
+//! prints, and refusals of a value by itself.
 
 use super::{OLD, written};
 use postcard::experimental::serialized_size;
