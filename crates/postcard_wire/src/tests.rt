@@ -1,11 +1,11 @@
-//! The fast calls against the plain ones over edges and samples of each width, and both against
+//! The fast calls against those by division over edges and samples of each width, and both against
 //! vectors worked out by hand.
 
 ghost use Rattle.postcard_wire.specs.Tree.{IsWidth};
 
 use crate::digits::Digits;
 use crate::error::{Error, Result};
-use crate::{plain, text, varint, zigzag};
+use crate::{division, text, varint, zigzag};
 use std::alloc::{AllocError, Global};
 use std::test::Fail;
 
@@ -48,25 +48,25 @@ macro_rules! compare {
         $rt:ident, $bits:literal, $n:ident, $varint:path, $most:path, $zig_zag:path,
         $de_zig_zag:path
     ) => {{
-        let spelling = plain::spell($rt.alloc(), $bits, u128::from($n))?;
+        let spelling = division::spell($rt.alloc(), $bits, u128::from($n))?;
         let mut buffer = [0; $most];
         let written: &[u8] = $varint($n, &mut buffer);
         assert_eq!($rt; written, spelling.as_slice(), "the digits of {}", $n);
         let whole = Ok((u128::from($n), written.len()));
         assert_eq!($rt; read($bits, written), whole, "{} read again", $n);
         let signed = $de_zig_zag($n);
-        let want = plain::de_zig_zag(u128::from($n));
+        let want = division::de_zig_zag(u128::from($n));
         assert_eq!($rt; i128::from(signed), want, "the sign of {}", $n);
         assert_eq!($rt; $zig_zag(signed), $n);
         let signed = $n.cast_signed();
         let folded = $zig_zag(signed);
-        assert_eq!($rt; u128::from(folded), plain::zig_zag(i128::from(signed)), "{signed} folded");
+        assert_eq!($rt; u128::from(folded), division::zig_zag(i128::from(signed)), "{signed} folded");
         assert_eq!($rt; $de_zig_zag(folded), signed);
     }};
 }
 
 #[test]
-fn agrees_with_the_plain_calls_at_16_bits(rt: HostRuntime) -> Tested {
+fn agrees_with_division_at_16_bits(rt: HostRuntime) -> Tested {
     for number in numbers(rt.alloc())?.iter() {
         let n = (*number & 0xFFFF) as u16;
         compare!(
@@ -83,7 +83,7 @@ fn agrees_with_the_plain_calls_at_16_bits(rt: HostRuntime) -> Tested {
 }
 
 #[test]
-fn agrees_with_the_plain_calls_at_32_bits(rt: HostRuntime) -> Tested {
+fn agrees_with_division_at_32_bits(rt: HostRuntime) -> Tested {
     for number in numbers(rt.alloc())?.iter() {
         let n = (*number & 0xFFFF_FFFF) as u32;
         compare!(
@@ -100,7 +100,7 @@ fn agrees_with_the_plain_calls_at_32_bits(rt: HostRuntime) -> Tested {
 }
 
 #[test]
-fn agrees_with_the_plain_calls_at_64_bits(rt: HostRuntime) -> Tested {
+fn agrees_with_division_at_64_bits(rt: HostRuntime) -> Tested {
     for number in numbers(rt.alloc())?.iter() {
         let n = (*number & 0xFFFF_FFFF_FFFF_FFFF) as u64;
         compare!(
@@ -117,7 +117,7 @@ fn agrees_with_the_plain_calls_at_64_bits(rt: HostRuntime) -> Tested {
 }
 
 #[test]
-fn agrees_with_the_plain_calls_at_128_bits(rt: HostRuntime) -> Tested {
+fn agrees_with_division_at_128_bits(rt: HostRuntime) -> Tested {
     for number in numbers(rt.alloc())?.iter() {
         let n = *number;
         compare!(
@@ -137,7 +137,7 @@ fn agrees_with_the_plain_calls_at_128_bits(rt: HostRuntime) -> Tested {
 fn writes_a_length_as_64_bits(rt: HostRuntime) -> Tested {
     for number in numbers(rt.alloc())?.iter() {
         let n = (*number & 0xFFFF_FFFF_FFFF_FFFF) as usize;
-        let spelling = plain::spell(rt.alloc(), 64, n as u128)?;
+        let spelling = division::spell(rt.alloc(), 64, n as u128)?;
         let mut buffer = [0; varint::VARINT_MAX_64];
         let written: &[u8] = varint::varint_usize(n, &mut buffer);
         assert_eq!(rt; written, spelling.as_slice(), "the digits of {n}");
@@ -283,8 +283,8 @@ fn folds_the_vectors(rt: HostRuntime) {
     assert_eq!(rt; zigzag::zig_zag_i32(i32::MIN), u32::MAX);
     assert_eq!(rt; zigzag::zig_zag_i64(i64::MIN), u64::MAX);
     assert_eq!(rt; zigzag::zig_zag_i128(i128::MIN), u128::MAX);
-    assert_eq!(rt; plain::zig_zag(i128::MIN), u128::MAX);
-    assert_eq!(rt; plain::de_zig_zag(u128::MAX), i128::MIN);
+    assert_eq!(rt; division::zig_zag(i128::MIN), u128::MAX);
+    assert_eq!(rt; division::de_zig_zag(u128::MAX), i128::MIN);
 }
 
 #[test]

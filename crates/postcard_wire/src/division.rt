@@ -1,4 +1,4 @@
-//! Numbers by plain division and remainder, a byte at a time: slow, and close to the words of the
+//! Numbers by division and remainder, a byte at a time: slow, and close to the words of the
 //! format. The fast functions of [`crate::varint`] and [`crate::zigzag`] are tested against these.
 
 ghost use Rattle.std.specs.Prelude.{◌≡◌, ◌<◌, ◌^◌, IfOk};

@@ -3,7 +3,7 @@ use Rattle.std.proofs.Common.{◌≡◌, ◌∙◌}
 use Rattle.postcard_wire.specs.Number.{digits}
 use Rattle.postcard_wire.proofs.Shortest.{SpellsNum-digits}
 use Rattle.postcard_wire.proofs.Writing.{all_appended}
-use Rattle.postcard_wire.proofs.plain.spell.Goals as goal
+use Rattle.postcard_wire.proofs.division.spell.Goals as goal
 
 pub returns-clause-spells : goal.returns-clause-spells
 returns-clause-spells c =
