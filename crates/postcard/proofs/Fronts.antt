@@ -1,4 +1,4 @@
--- What `to_slice` says of its buffer and its answer, from what `run` and `cut` say.
+-- What `to_slice` says of its buffer and its answer, from what `run` and `lend_front` say.
 use Rattle.std.proofs.Common.{◌≡◌, ◌≤◌, ◌<◌, ◌⊎◌, ℕ, List, [], ◌∷◌, length, take, drop, ◌++◌, refl, sym, ap, subst, ◌∙◌, Ok, Err, IfOk}
 use Rattle.std.proofs.Math.Seq.{drop-append_seam, take-append_seam}
 use Rattle.std.proofs.Flags.{never_true}
@@ -19,9 +19,9 @@ use Rattle.postcard_wire.specs.Tree.{Tree}
 use Rattle.postcard_wire.specs.Spelling.{bytes, Spells}
 use Rattle.postcard_wire.proofs.Shortest.{least}
 use Rattle.postcard_ser.specs.Writing.{AnswersRefusal}
-use Rattle.postcard.specs.declared.ser.Done.{Done}
+use Rattle.postcard.specs.declared.ser.Attempt.{Attempt}
 use Rattle.postcard.specs.Buffers.{Begins}
-use Rattle.postcard.specs.Done.{IsDone, IsCut}
+use Rattle.postcard.specs.Attempt.{IsAttempt, LendsFront}
 
 -- a test that came out true, and one that came out false
 pub is_true : (b : Bool) → T b → b ≡ true
@@ -36,7 +36,7 @@ is_false false t = refl
 in_front : (n : ℕ) (bs xs all : List ℕ) → n ≡ length bs → all ≡ bs ++ drop (length bs) xs → take n all ≡ bs
 in_front n bs xs all long is = (λ i. take (long i) (is i)) ∙ take-append_seam bs (drop (length bs) xs)
 
-module _ (xs : List ℕ) (Refuses Text Fits : Type 0) (old : List ℕ) (d : Done) (r : Result (MutBor (List ℕ)) Error) (done : IsDone xs Refuses Text Fits old d) (cut : IsCut d r) where
+module _ (xs : List ℕ) (Refuses Text Fits : Type 0) (old : List ℕ) (d : Attempt) (r : Result (MutBor (List ℕ)) Error) (done : IsAttempt xs Refuses Text Fits old d) (cut : LendsFront d r) where
   -- what the caller writes through the front lands in front of the old bytes
   pub follows_front : (front : List ℕ) → IsOk r → front ++ drop d.count d.all.now ≡ front ++ drop (length xs) old
   follows_front front ok =
@@ -70,12 +70,12 @@ module _ (xs : List ℕ) (Refuses Text Fits : Type 0) (old : List ℕ) (d : Done
       by_answer (Err _) h = tt
 
   -- it succeeds exactly where that fits
-  pub exactly : ¬ Refuses → IsOk r ↔ (length xs ≤ length old)
-  exactly n = let e = done.exactly n in ((λ ok. e.0 (cut.sorts.0 ok)), (λ fits. cut.sorts.1 (e.1 fits)))
+  pub fits_iff : ¬ Refuses → IsOk r ↔ (length xs ≤ length old)
+  fits_iff n = let e = done.fits_iff n in ((λ ok. e.0 (cut.sorts.0 ok)), (λ fits. cut.sorts.1 (e.1 fits)))
 
   -- and answers want of room else
-  pub answers : ¬ Refuses → IfErr r (AnswersRefusal Text)
-  answers n = by_answer r d.failed cut.sorts cut.error (done.answers n)
+  pub named_error : ¬ Refuses → IfErr r (AnswersRefusal Text)
+  named_error n = by_answer r d.failed cut.sorts cut.error (done.named_error n)
     where
       by_answer : (r : Result (MutBor (List ℕ)) Error) (b : Bool) → IsOk r ↔ (b ≡ false) → IfErr r (λ e. e ≡ d.error) → (b ≡ true → AnswersRefusal Text d.error) → IfErr r (AnswersRefusal Text)
       by_answer (Ok x) b sorts w k = tt

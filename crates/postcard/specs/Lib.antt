@@ -1,5 +1,5 @@
 pub mod Buffers
-pub mod Done
+pub mod Attempt
 pub mod Frames
 pub mod Front
 pub mod Finished

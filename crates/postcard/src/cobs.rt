@@ -25,7 +25,7 @@ fn framed<T: Serialize, B: Storage + Drop>(value: &T, storage: B) -> Result<<B a
     ensures has_room { ¬ T.shape.refuses value.now
         → length (made (bytes (T.shape.tree value.now))) ≤ usize.MAX - 2
         → B.free storage (length (made (bytes (T.shape.tree value.now)))) → IsOk result }
-    ensures answers { ¬ T.shape.refuses value.now
+    ensures named_error { ¬ T.shape.refuses value.now
         → IfErr result (AnswersRefusal T.shape.text) }
     ensures fits { OnOk result (T.shape.fits value.now) }
 {
@@ -44,9 +44,9 @@ pub fn to_vec_cobs<T: Serialize, const B: usize>(value: &T) -> Result<ArrayVec<u
     ensures gives { IfOk result (λ vec. vec.items ≡ made (bytes (T.shape.tree value.now))) }
     ensures decodes { IfOk result
         (λ vec. DecodesTo vec.items (bytes (T.shape.tree value.now))) }
-    ensures exactly { ¬ T.shape.refuses value.now → B ≤ usize.MAX - 2
+    ensures fits_iff { ¬ T.shape.refuses value.now → B ≤ usize.MAX - 2
         → (IsOk result ↔ (length (made (bytes (T.shape.tree value.now))) ≤ B)) }
-    ensures answers { ¬ T.shape.refuses value.now
+    ensures named_error { ¬ T.shape.refuses value.now
         → IfErr result (AnswersRefusal T.shape.text) }
     ensures fits { OnOk result (T.shape.fits value.now) }
 {
@@ -65,9 +65,9 @@ pub fn to_slice_cobs<'a, T: Serialize>(value: &T, buf: &'a mut [u8]) -> Result<&
     ensures gives { IfOk result (λ front. front.now ≡ made (bytes (T.shape.tree value.now))) }
     ensures decodes { IfOk result
         (λ front. DecodesTo front.now (bytes (T.shape.tree value.now))) }
-    ensures exactly { ¬ T.shape.refuses value.now
+    ensures fits_iff { ¬ T.shape.refuses value.now
         → (IsOk result ↔ (length (made (bytes (T.shape.tree value.now))) ≤ length buf.old)) }
-    ensures answers { ¬ T.shape.refuses value.now
+    ensures named_error { ¬ T.shape.refuses value.now
         → IfErr result (AnswersRefusal T.shape.text) }
     ensures fits { OnOk result (T.shape.fits value.now) }
 {
@@ -85,7 +85,7 @@ fn frame_into<T: Serialize, B: Storage + Drop>(value: &T, storage: B) -> (B, Res
     ensures has_room { ¬ T.shape.refuses value.now
         → length (made (bytes (T.shape.tree value.now))) ≤ usize.MAX - 2
         → B.free storage (length (made (bytes (T.shape.tree value.now)))) → IsOk result.1 }
-    ensures answers { ¬ T.shape.refuses value.now
+    ensures named_error { ¬ T.shape.refuses value.now
         → IfErr result.1 (AnswersRefusal T.shape.text) }
     ensures fits { OnOk result.1 (T.shape.fits value.now) }
 {
@@ -106,9 +106,9 @@ fn write_frame<'a, T: Serialize>(value: &T, buf: &'a mut [u8]) -> (&'a mut [u8],
         (λ count. count ≡ length (made (bytes (T.shape.tree value.now)))) }
     ensures fills { OnOk result.1
         (Fills (made (bytes (T.shape.tree value.now))) buf.old result.0.now) }
-    ensures exactly { ¬ T.shape.refuses value.now → (IsOk result.1
+    ensures fits_iff { ¬ T.shape.refuses value.now → (IsOk result.1
         ↔ (length (made (bytes (T.shape.tree value.now))) ≤ length buf.old)) }
-    ensures answers { ¬ T.shape.refuses value.now
+    ensures named_error { ¬ T.shape.refuses value.now
         → IfErr result.1 (AnswersRefusal T.shape.text) }
     ensures fits { OnOk result.1 (T.shape.fits value.now) }
 {
@@ -138,9 +138,9 @@ pub fn fill_slice_cobs<T: Serialize>(value: &T, buf: &mut [u8]) -> Result<usize>
         (Fills (made (bytes (T.shape.tree value.now))) buf.old buf.new) }
     ensures decodes { IfOk result
         (λ count. DecodesTo (take count buf.new) (bytes (T.shape.tree value.now))) }
-    ensures exactly { ¬ T.shape.refuses value.now
+    ensures fits_iff { ¬ T.shape.refuses value.now
         → (IsOk result ↔ (length (made (bytes (T.shape.tree value.now))) ≤ length buf.old)) }
-    ensures answers { ¬ T.shape.refuses value.now
+    ensures named_error { ¬ T.shape.refuses value.now
         → IfErr result (AnswersRefusal T.shape.text) }
     ensures fits { OnOk result (T.shape.fits value.now) }
 {
@@ -158,7 +158,7 @@ pub fn to_allocvec_cobs<T: Serialize>(alloc: Global, value: &T) -> Result<Vec<u8
     ensures gives { IfOk result (λ vec. vec.items ≡ made (bytes (T.shape.tree value.now))) }
     ensures decodes { IfOk result
         (λ vec. DecodesTo vec.items (bytes (T.shape.tree value.now))) }
-    ensures answers { ¬ T.shape.refuses value.now
+    ensures named_error { ¬ T.shape.refuses value.now
         → IfErr result (AnswersRefusal T.shape.text) }
     ensures fits { OnOk result (T.shape.fits value.now) }
 {
@@ -170,7 +170,7 @@ pub fn to_stdvec_cobs<T: Serialize>(alloc: Global, value: &T) -> Result<Vec<u8>>
     ensures gives { IfOk result (λ vec. vec.items ≡ made (bytes (T.shape.tree value.now))) }
     ensures decodes { IfOk result
         (λ vec. DecodesTo vec.items (bytes (T.shape.tree value.now))) }
-    ensures answers { ¬ T.shape.refuses value.now
+    ensures named_error { ¬ T.shape.refuses value.now
         → IfErr result (AnswersRefusal T.shape.text) }
     ensures fits { OnOk result (T.shape.fits value.now) }
 {
@@ -190,7 +190,7 @@ pub fn to_allocvec_cobs_after<T: Serialize>(value: &T, vec: Vec<u8>) -> Result<V
         (λ output. output.items ≡ vec.items ++ made (bytes (T.shape.tree value.now))) }
     ensures decodes { IfOk result (λ output. DecodesTo (drop (length vec.items) output.items)
         (bytes (T.shape.tree value.now))) }
-    ensures answers { ¬ T.shape.refuses value.now
+    ensures named_error { ¬ T.shape.refuses value.now
         → IfErr result (AnswersRefusal T.shape.text) }
     ensures fits { OnOk result (T.shape.fits value.now) }
 {

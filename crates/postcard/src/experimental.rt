@@ -19,9 +19,9 @@ use postcard_wire::Result;
 /// value refuses itself.
 pub fn serialized_size<T: Serialize>(value: &T) -> Result<usize>
     ensures gives { IfOk result (λ count. count ≡ length (bytes (T.shape.tree value.now))) }
-    ensures exactly { ¬ T.shape.refuses value.now
+    ensures fits_iff { ¬ T.shape.refuses value.now
         → (IsOk result ↔ (length (bytes (T.shape.tree value.now)) < 2 ^ 64)) }
-    ensures answers { ¬ T.shape.refuses value.now → IfErr result (AnswersRefusal T.shape.text) }
+    ensures named_error { ¬ T.shape.refuses value.now → IfErr result (AnswersRefusal T.shape.text) }
 {
     serialize_with_flavor(value, Size::default())
 }

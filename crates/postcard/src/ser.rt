@@ -6,7 +6,7 @@ ghost use Rattle.std.specs.Borrow.{sem, LendsIfOk, LendsSoOk, Array, u8};
 ghost use Rattle.postcard_wire.specs.Spelling.{bytes, Spells};
 ghost use Rattle.postcard_ser.specs.Writing.{AnswersRefusal};
 ghost use Rattle.postcard.specs.Buffers.{Fills, Begins};
-ghost use Rattle.postcard.specs.Done.{IsDone, IsCut};
+ghost use Rattle.postcard.specs.Attempt.{IsAttempt, LendsFront};
 
 use postcard_memory::front;
 use postcard_ser::{Serialize, Serializer};
@@ -34,13 +34,13 @@ pub fn to_slice<'a, T: Serialize>(value: &T, buf: &'a mut [u8]) -> Result<&'a mu
     ensures gives { IfOk result (λ front. front.now ≡ bytes (T.shape.tree value.now)) }
     ensures shortest { IfOk result (λ front. (p : List ℕ) → Spells (T.shape.tree value.now) p
         → (p ≡ front.now) ⊎ (length front.now < length p)) }
-    ensures exactly { ¬ T.shape.refuses value.now
+    ensures fits_iff { ¬ T.shape.refuses value.now
         → (IsOk result ↔ (length (bytes (T.shape.tree value.now)) ≤ length buf.old)) }
-    ensures answers { ¬ T.shape.refuses value.now → IfErr result (AnswersRefusal T.shape.text) }
+    ensures named_error { ¬ T.shape.refuses value.now → IfErr result (AnswersRefusal T.shape.text) }
     ensures fits { OnOk result (T.shape.fits value.now) }
     ensures spelled { IfOk result (λ front. Spells (T.shape.tree value.now) front.now) }
 {
-    cut(write_front(value, buf))
+    lend_front(write_front(value, buf))
 }
 
 /// Encodes a value into the front of a buffer, and returns the number of bytes written. The Rust
@@ -57,12 +57,12 @@ pub fn fill_slice<T: Serialize>(value: &T, buf: &mut [u8]) -> Result<usize>
     ensures fills { OnOk result (Fills (bytes (T.shape.tree value.now)) buf.old buf.new) }
     ensures refused { OnErr result (¬ T.shape.refuses value.now
         → Begins (bytes (T.shape.tree value.now)) buf.old buf.new) }
-    ensures exactly { ¬ T.shape.refuses value.now
+    ensures fits_iff { ¬ T.shape.refuses value.now
         → (IsOk result ↔ (length (bytes (T.shape.tree value.now)) ≤ length buf.old)) }
-    ensures answers { ¬ T.shape.refuses value.now → IfErr result (AnswersRefusal T.shape.text) }
+    ensures named_error { ¬ T.shape.refuses value.now → IfErr result (AnswersRefusal T.shape.text) }
     ensures fits { OnOk result (T.shape.fits value.now) }
 {
-    let Done {
+    let Attempt {
         all: _all,
         count,
         failed,
@@ -73,7 +73,7 @@ pub fn fill_slice<T: Serialize>(value: &T, buf: &mut [u8]) -> Result<usize>
 
 /// What an attempt leaves: the whole buffer, the number of bytes written, and the error if it
 /// `failed`.
-struct Done<'a> {
+struct Attempt<'a> {
     all: &'a mut [u8],
     count: usize,
     failed: bool,
@@ -81,10 +81,10 @@ struct Done<'a> {
 }
 
 /// Writes the value into the front of the buffer, and returns the buffer as the loan that it was.
-fn write_front<'a, T: Serialize>(value: &T, buf: &'a mut [u8]) -> Done<'a>
+fn write_front<'a, T: Serialize>(value: &T, buf: &'a mut [u8]) -> Attempt<'a>
     ensures same_loan { result.all.ghost_name ≡ buf.entry.ghost_name }
-    ensures done { IsDone (bytes (T.shape.tree value.now)) (T.shape.refuses value.now) T.shape.text
-        (T.shape.fits value.now) buf.old result }
+    ensures attempts { IsAttempt (bytes (T.shape.tree value.now)) (T.shape.refuses value.now)
+        T.shape.text (T.shape.fits value.now) buf.old result }
 {
     let mut serializer = Serializer {
         output: Slice::new(buf),
@@ -92,13 +92,13 @@ fn write_front<'a, T: Serialize>(value: &T, buf: &'a mut [u8]) -> Done<'a>
     let outcome = value.serialize(&mut serializer);
     let (all, count) = serializer.output.into_parts();
     match outcome {
-        Ok(()) => Done {
+        Ok(()) => Attempt {
             all,
             count,
             failed: false,
             error: Error::SerializeBufferFull,
         },
-        Err(error) => Done {
+        Err(error) => Attempt {
             all,
             count,
             failed: true,
@@ -108,18 +108,18 @@ fn write_front<'a, T: Serialize>(value: &T, buf: &'a mut [u8]) -> Done<'a>
 }
 
 /// Returns the written front of the buffer, or the error.
-fn cut<'a>(done: Done<'a>) -> Result<&'a mut [u8]>
-    requires { done.count ≤ length done.all.now }
-    ensures* writes_back { sem 𝓛 (LendsIfOk (Array u8 0) (Array u8 0) done.entry.all result
-        (λ front. front ++ drop done.entry.count done.entry.all.now) done.entry.all.now) }
-    ensures cuts { IsCut done.entry result }
+fn lend_front<'a>(attempt: Attempt<'a>) -> Result<&'a mut [u8]>
+    requires { attempt.count ≤ length attempt.all.now }
+    ensures* writes_back { sem 𝓛 (LendsIfOk (Array u8 0) (Array u8 0) attempt.entry.all result
+        (λ front. front ++ drop attempt.entry.count attempt.entry.all.now) attempt.entry.all.now) }
+    ensures lends { LendsFront attempt.entry result }
 {
-    let Done {
+    let Attempt {
         all,
         count,
         failed,
         error,
-    } = done;
+    } = attempt;
     if failed {
         return Err(error);
     }

@@ -29,7 +29,7 @@ pub fn serialize_with_flavor<T: Serialize, S: Flavor<Output = O> + Drop, O>(
     ensures gives { IfOk result (Finished S.Flavor storage (bytes (T.shape.tree value.now))) }
     ensures has_room { ¬ T.shape.refuses value.now
         → S.room storage (bytes (T.shape.tree value.now)) → IsOk result }
-    ensures answers { ¬ T.shape.refuses value.now → IfErr result (AnswersRefusal T.shape.text) }
+    ensures named_error { ¬ T.shape.refuses value.now → IfErr result (AnswersRefusal T.shape.text) }
     ensures fits { OnOk result (T.shape.fits value.now) }
 {
     let mut serializer = Serializer { output: storage };
@@ -49,9 +49,9 @@ pub fn serialize_with_flavor<T: Serialize, S: Flavor<Output = O> + Drop, O>(
 /// value refuses itself.
 pub fn to_vec<T: Serialize, const B: usize>(value: &T) -> Result<ArrayVec<u8, B>>
     ensures gives { IfOk result (λ vec. vec.items ≡ bytes (T.shape.tree value.now)) }
-    ensures exactly { ¬ T.shape.refuses value.now
+    ensures fits_iff { ¬ T.shape.refuses value.now
         → (IsOk result ↔ (length (bytes (T.shape.tree value.now)) ≤ B)) }
-    ensures answers { ¬ T.shape.refuses value.now → IfErr result (AnswersRefusal T.shape.text) }
+    ensures named_error { ¬ T.shape.refuses value.now → IfErr result (AnswersRefusal T.shape.text) }
     ensures fits { OnOk result (T.shape.fits value.now) }
 {
     serialize_with_flavor(value, HVec::new())
@@ -64,7 +64,7 @@ pub fn to_vec<T: Serialize, const B: usize>(value: &T) -> Result<ArrayVec<u8, B>
 /// Fails with `SerializeBufferFull` only if an allocation fails, unless the value refuses itself.
 pub fn to_allocvec<T: Serialize>(alloc: Global, value: &T) -> Result<Vec<u8>>
     ensures gives { IfOk result (λ vec. vec.items ≡ bytes (T.shape.tree value.now)) }
-    ensures answers { ¬ T.shape.refuses value.now → IfErr result (AnswersRefusal T.shape.text) }
+    ensures named_error { ¬ T.shape.refuses value.now → IfErr result (AnswersRefusal T.shape.text) }
     ensures fits { OnOk result (T.shape.fits value.now) }
 {
     serialize_with_flavor(value, AllocVec::new(alloc))
@@ -73,7 +73,7 @@ pub fn to_allocvec<T: Serialize>(alloc: Global, value: &T) -> Result<Vec<u8>>
 /// The same as [`to_allocvec`], under the name that users of `std` know.
 pub fn to_stdvec<T: Serialize>(alloc: Global, value: &T) -> Result<Vec<u8>>
     ensures gives { IfOk result (λ vec. vec.items ≡ bytes (T.shape.tree value.now)) }
-    ensures answers { ¬ T.shape.refuses value.now → IfErr result (AnswersRefusal T.shape.text) }
+    ensures named_error { ¬ T.shape.refuses value.now → IfErr result (AnswersRefusal T.shape.text) }
     ensures fits { OnOk result (T.shape.fits value.now) }
 {
     serialize_with_flavor(value, StdVec::new(alloc))
@@ -87,7 +87,7 @@ pub fn to_stdvec<T: Serialize>(alloc: Global, value: &T) -> Result<Vec<u8>>
 pub fn to_extend<T: Serialize, W: ExtendBytes + Drop>(value: &T, writer: W) -> Result<W>
     ensures appends { IfOk result
         (λ target. W.content target ≡ W.content writer ++ bytes (T.shape.tree value.now)) }
-    ensures answers { ¬ T.shape.refuses value.now → IfErr result (AnswersRefusal T.shape.text) }
+    ensures named_error { ¬ T.shape.refuses value.now → IfErr result (AnswersRefusal T.shape.text) }
     ensures fits { OnOk result (T.shape.fits value.now) }
 {
     serialize_with_flavor(value, ExtendFlavor::new(writer))
@@ -102,7 +102,7 @@ pub fn to_extend<T: Serialize, W: ExtendBytes + Drop>(value: &T, writer: W) -> R
 pub fn to_io<T: Serialize, W: Write + Drop>(value: &T, writer: W) -> Result<W>
     ensures appends { IfOk result (λ output. Appends (W.contents writer) (W.contents output)
         (bytes (T.shape.tree value.now))) }
-    ensures answers { ¬ T.shape.refuses value.now → IfErr result (AnswersRefusal T.shape.text) }
+    ensures named_error { ¬ T.shape.refuses value.now → IfErr result (AnswersRefusal T.shape.text) }
     ensures fits { OnOk result (T.shape.fits value.now) }
 {
     serialize_with_flavor(value, WriteFlavor::new(writer))

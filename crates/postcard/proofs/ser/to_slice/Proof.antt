@@ -18,7 +18,7 @@ use Rattle.postcard_wire.proofs.error.Error.TheLaws.{the_row_laws as err_laws}
 use Rattle.std.specs.Result.{IsOk, OnOk, OnErr}
 use Rattle.std.specs.contracts.result.Result as RS
 use Rattle.postcard.specs.Buffers.{Begins}
-use Rattle.postcard.specs.Done.{IsDone, IsCut}
+use Rattle.postcard.specs.Attempt.{IsAttempt, LendsFront}
 use Rattle.postcard_wire.specs.Spelling.{bytes, Spells}
 use Rattle.postcard_ser.specs.Writing.{AnswersRefusal}
 use Rattle.std.specs.Prelude.{IfErr}
@@ -26,7 +26,7 @@ use Rattle.std.specs.Borrow.{name_if_ok}
 use Rattle.std.proofs.Common.{IfOk}
 use Rattle.std.proofs.result.Result.TheLaws.{the_row_laws as result_laws}
 use Rattle.postcard_shape.proofs.Again.{is_spelled}
-use Rattle.postcard.proofs.Fronts.{follows_front, follows_old, gives, shortest, exactly, answers, fits, spelled, follows_such}
+use Rattle.postcard.proofs.Fronts.{follows_front, follows_old, gives, shortest, fits_iff, named_error, fits, spelled, follows_such}
 use base.Fml.{GName}
 use types.Kit.{use0}
 use denote.Array.{Array}
@@ -36,16 +36,16 @@ use denote.Param.Shared.{mut_slice_shared, copy_shared}
 use denote.Ref.{NamedLft}
 use denote.Struct.Field.{u8-field, mut_slice_field}
 use denote.Struct.Laws.{u8-laws, u8-copy, mut_slice_laws}
-use Rattle.postcard.specs.declared.ser.Done.{Done}
-use Rattle.postcard.specs.contracts.ser.Done.{the_row}
-use Rattle.postcard.proofs.ser.Done.TheLaws.{the_row_laws}
+use Rattle.postcard.specs.declared.ser.Attempt.{Attempt}
+use Rattle.postcard.specs.contracts.ser.Attempt.{the_row}
+use Rattle.postcard.proofs.ser.Attempt.TheLaws.{the_row_laws}
 use Rattle.postcard.specs.contracts.ser.to_slice as f
 use Rattle.postcard.proofs.ser.to_slice.Statement.{statement}
 use Rattle.postcard.proofs.ser.to_slice.Code as code
 use Rattle.postcard.specs.contracts.ser.write_front as g
 use Rattle.postcard.proofs.ser.write_front.Met as g-thm
-use Rattle.postcard.specs.contracts.ser.cut as h
-use Rattle.postcard.proofs.ser.cut.Met as h-thm
+use Rattle.postcard.specs.contracts.ser.lend_front as h
+use Rattle.postcard.proofs.ser.lend_front.Met as h-thm
 
 byte_laws : Laws u8
 byte_laws = of_field u8-field u8-laws refl (copy_shared u8-field u8-copy)
@@ -76,8 +76,8 @@ to_slice_spec 𝓤 𝓛 𝓜 𝓡 wired X L gs dict sh dict2 met met2 =
     sets ! (agg ! (and_then ! (get ! refl) (and_then ! (get_in ! (fld ! refl (stop !)) (sub ! 1 refl (whole !))) (no_more !)))) refl (tt, (tt, (record { fits = long }, tt))) $
     calls_at ! (framed 𝓤 𝓛.H 𝓜 𝓣) G (g-thm.met 𝓤 𝓛 𝓜 𝓡 (code.calls-postcard::ser::write_front 𝓡.env wired) X L gs dict sh dict2 met met2) z
     (and_then ! (get ! refl) (and_then ! (get ! refl) (no_more !))) (λ v.
-    use1 𝓛 (later (some (λ (r : Done). ((‵ (flft κs.0 qs.0) ⊛ ‵ (flft κ q) ⊛ ‵ (flft κs.1.1.0 qs.1.1.0) ⊛ ‵ ftrue) ⊛ ‵ (D.own_val r (v ∷ []))) ⊛
-    some (λ (ws : Lasts (g.ended X gs dict sh dict2) κs a). ‵ (lasts (g.ended X gs dict sh dict2) κs a ws) ⊛ raw (fact 𝓤 (r.all.ghost_name ≡ γ)) ⊛ raw (fact 𝓤 (IsDone ys Refuses Text Fits xs r)))))) (id⊢ 𝓤 _) $
+    use1 𝓛 (later (some (λ (r : Attempt). ((‵ (flft κs.0 qs.0) ⊛ ‵ (flft κ q) ⊛ ‵ (flft κs.1.1.0 qs.1.1.0) ⊛ ‵ ftrue) ⊛ ‵ (D.own_val r (v ∷ []))) ⊛
+    some (λ (ws : Lasts (g.ended X gs dict sh dict2) κs a). ‵ (lasts (g.ended X gs dict sh dict2) κs a ws) ⊛ raw (fact 𝓤 (r.all.ghost_name ≡ γ)) ⊛ raw (fact 𝓤 (IsAttempt ys Refuses Text Fits xs r)))))) (id⊢ 𝓤 _) $
     await ! tt $ pick ! (λ r. split ! $ split ! $ move ! (2 ∷ []) $ pick ! (λ ws. split ! $ drop ! $ split ! $ heard ! _ (λ same. heard ! _ (λ made.
     move ! (1 ∷ []) $ peeks ! D _ (shows 𝓛 D) r (v ∷ []) (λ is.
     lands_as ! refl refl (((the_row_laws ℓ).lawful 𝓛).typed r _ is).0 $
@@ -86,11 +86,11 @@ to_slice_spec 𝓤 𝓛 𝓜 𝓡 wired X L gs dict sh dict2 met met2 =
     let j : K.Ghost = (((κ, tt), (q, tt), tt, (r, tt), (v ∷ [], tt)), tt) in
     move ! (1 ∷ []) $ split ! $ move ! (1 ∷ []) $ split ! $ nothing ! $ move ! (1 ∷ 0 ∷ []) $ join ! $ nothing ! $ move ! (4 ∷ 0 ∷ []) $ fjoin ! $ move ! (1 ∷ 0 ∷ []) $ join ! $
     use0 𝓛 (raw (fact 𝓤 (r.count ≤ length r.all.now))) (fact_i 𝓤 _ (emp 𝓤) made.within) $ move ! (1 ∷ 0 ∷ []) $ use2 𝓛 (raw (K.pre j)) (id⊢ 𝓤 _) $
-    -- [what `cut` asks; the other tokens, in two; the locals]
-    calls_at ! (framed 𝓤 𝓛.H 𝓜 𝓣) K (h-thm.met 𝓤 𝓛 𝓜 𝓡 (code.calls-postcard::ser::cut 𝓡.env wired)) j (and_then ! (get ! refl) (no_more !)) (λ v'.
+    -- [what `lend_front` asks; the other tokens, in two; the locals]
+    calls_at ! (framed 𝓤 𝓛.H 𝓜 𝓣) K (h-thm.met 𝓤 𝓛 𝓜 𝓡 (code.calls-postcard::ser::lend_front 𝓡.env wired)) j (and_then ! (get ! refl) (no_more !)) (λ v'.
     use1 𝓛 (later (some (λ (w : Out.Denot). ((‵ (flft κ q) ⊛ ‵ ftrue) ⊛ ‵ (Out.own_val w (v' ∷ []))) ⊛
     some (λ (ws : Lasts h.ended (κ, tt) (r, tt)). ‵ (lasts h.ended (κ, tt) (r, tt) ws) ⊛ ‵ (follows_if (Array u8 0) (Array u8 0) r.all.ghost_name (name_if_ok (λ x. x.ghost_name) w) (λ n. n ++ drop_list r.count r.all.now) r.all.now) ⊛
-    raw (fact 𝓤 (IsCut r w)))))) (id⊢ 𝓤 _) $
+    raw (fact 𝓤 (LendsFront r w)))))) (id⊢ 𝓤 _) $
     await ! tt $ pick ! (λ w. split ! $ split ! $ move ! (2 ∷ []) $ pick ! (λ ws'. split ! $ drop ! $ split ! $ move ! (1 ∷ []) $ heard ! _ (λ front.
     -- [what the buffer follows; the token; the result; the other tokens, in two; the locals]
     move ! (2 ∷ []) $ peeks ! Out _ (shows 𝓛 Out) w (v' ∷ []) (λ is'.
@@ -106,8 +106,8 @@ to_slice_spec 𝓤 𝓛 𝓜 𝓡 wired X L gs dict sh dict2 met met2 =
     (λ x ok. follows_front ys Refuses Text Fits xs r w made front x ok) (follows_old ys Refuses Text Fits xs r w made front)) $
     use0 𝓛 (raw (fact 𝓤 (IfOk w (λ x. Spells (sh.shape.tree a.0.now) x.now)))) (fact_i 𝓤 _ (emp 𝓤) (spelled ys Refuses Text Fits xs r w made front (sh.shape.tree a.0.now) refl (λ f. is_spelled sh.shape a.0.now f))) $
     use0 𝓛 (raw (fact 𝓤 (OnOk w Fits))) (fact_i 𝓤 _ (emp 𝓤) (fits ys Refuses Text Fits xs r w made front)) $
-    use0 𝓛 (raw (fact 𝓤 (¬ Refuses → IfErr w (AnswersRefusal Text)))) (fact_i 𝓤 _ (emp 𝓤) (answers ys Refuses Text Fits xs r w made front)) $
-    use0 𝓛 (raw (fact 𝓤 (¬ Refuses → IsOk w ↔ (length ys ≤ length xs)))) (fact_i 𝓤 _ (emp 𝓤) (exactly ys Refuses Text Fits xs r w made front)) $
+    use0 𝓛 (raw (fact 𝓤 (¬ Refuses → IfErr w (AnswersRefusal Text)))) (fact_i 𝓤 _ (emp 𝓤) (named_error ys Refuses Text Fits xs r w made front)) $
+    use0 𝓛 (raw (fact 𝓤 (¬ Refuses → IsOk w ↔ (length ys ≤ length xs)))) (fact_i 𝓤 _ (emp 𝓤) (fits_iff ys Refuses Text Fits xs r w made front)) $
     use0 𝓛 (raw (fact 𝓤 (IfOk w (λ x. (p : List ℕ) → Spells (sh.shape.tree a.0.now) p → (p ≡ x.now) ⊎ (length x.now < length p))))) (fact_i 𝓤 _ (emp 𝓤) (shortest ys Refuses Text Fits xs r w made front (sh.shape.tree a.0.now) refl)) $
     use0 𝓛 (raw (fact 𝓤 (IfOk w (λ x. x.now ≡ ys)))) (fact_i 𝓤 _ (emp 𝓤) (gives ys Refuses Text Fits xs r w made front)) $
     suffices ! _ (leaves 𝓛 end stayed c y v' w (tt, (tt, tt)) (tt, (tt, tt))) $ nothing ! $ nothing ! $ fjoin ! $ nothing ! $ fjoin ! $ move ! (8 ∷ 0 ∷ 9 ∷ 7 ∷ 1 ∷ 2 ∷ 3 ∷ 4 ∷ 5 ∷ 6 ∷ []) $ done !)))))))))))))
