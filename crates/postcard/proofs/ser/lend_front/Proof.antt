@@ -40,9 +40,9 @@ use Rattle.postcard_memory.proofs.cut.front.Met as g-thm
 abbrev stayed : Stays f.ended.signature.params f.ended.kept
 stayed = (stay_dropped (plain (λ κs. the_row (named_lft 1 0 tt κs))) no, tt)
 
-pub cut_spec : {M : Type 1} → statement M
+pub lend_front_spec : {M : Type 1} → statement M
 unfolding follows_by
-cut_spec 𝓤 𝓛 𝓜 𝓡 wired =
+lend_front_spec 𝓤 𝓛 𝓜 𝓡 wired =
     let c = f.clauses 𝓛 𝓜.mem 𝓡.returns in let W = walk_of 𝓛 f.ended stayed c in let 𝓣 = tables 𝓤 𝓛.H 𝓜 𝓡 𝓡.env in
     proved 𝓛 f.ended stayed c 𝓜 𝓡 (Goes-blank 𝓛 1 (plain (λ κs. the_row (named_lft 1 0 tt κs))) no (λ κs x w. tt), tt)
     f.Key.name code.function (code.unfolded 𝓤 𝓛.H 𝓜 𝓡 wired)
