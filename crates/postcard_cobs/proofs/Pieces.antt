@@ -1,10 +1,9 @@
 -- Pieces: bytes of data in a row, zeros among them, that are too few to make the open group full.
-use Rattle.std.proofs.Common.{◌≡◌, ℕ, ◌+◌, ◌<◌, ◌≤◌, List, [], ◌∷◌, ◌++◌, length, refl, ap, subst, append_assoc, append-nil, length-append, length-set, arith, eqb, Bool, true, false, set}
+use Rattle.std.proofs.Common.{◌≡◌, ℕ, ◌+◌, ◌<◌, ◌≤◌, List, [], ◌∷◌, ◌++◌, length, refl, subst, append_assoc, append-nil, length-append, length-set, arith, eqb, Bool, true, false, set}
 use Rattle.std.proofs.lemmas.Bool.{ne_eqb, eqb-true, eqb-false}
 use Rattle.postcard_cobs.specs.Groups.{IsOpen, Standing}
 use Rattle.postcard_cobs.specs.Pushing.{after, answer}
-use Rattle.postcard_cobs.specs.declared.encode.PushResult.{PushResult}
-use Rattle.postcard_cobs.specs.declared.encode.PushResult.TheVariants.{AddSingle, ModifyFromStartAndSkip, ModifyFromStartAndPushAndSkip}
+use Rattle.postcard_cobs.specs.declared.encode.PushResult.TheVariants.{AddSingle, ModifyFromStartAndSkip}
 use Rattle.postcard_cobs.proofs.Encoding.{push_zero, push_one}
 
 -- where a group isn't full with one more byte, the encoder moves on by one place

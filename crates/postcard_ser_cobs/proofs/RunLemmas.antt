@@ -1,5 +1,5 @@
 -- Runs and pieces: bytes in a row that don't make the open group full. A run has no zero.
-use Rattle.std.proofs.Common.{◌≡◌, ℕ, refl, take, drop, get_or, ◌+◌, ◌-◌, ◌^◌, ◌<◌, List, [], ◌∷◌, ◌++◌, length, Bool, false, IsFalse, sym, ap, subst, ◌∙◌, append_assoc, length-append, arith}
+use Rattle.std.proofs.Common.{◌≡◌, ℕ, refl, take, drop, get_or, ◌+◌, ◌-◌, ◌^◌, ◌<◌, List, [], ◌∷◌, ◌++◌, length, Bool, false, IsFalse, sym, ap, subst, ◌∙◌, append_assoc, arith}
 use Rattle.std.proofs.lemmas.List.{take-append-drop, take_rest}
 use Rattle.std.proofs.Math.Seq.{take-add}
 use Rattle.postcard_cobs.specs.Groups.{IsOpen, Standing, made}

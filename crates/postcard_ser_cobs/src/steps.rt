@@ -1,6 +1,7 @@
 //! What a frame asks of its storage: bytes after those that it holds, and code bytes set.
 
-ghost use Rattle.std.specs.Prelude.{◌≡◌, ℕ, ◌+◌, ◌-◌, ◌<◌, ◌≤◌, List, [], ◌∷◌, ◌++◌, length, slice_set, IfErr, OnOk, IsOk};
+ghost use Rattle.std.specs.Prelude.{◌≡◌, ℕ, ◌+◌, ◌-◌, ◌<◌, ◌≤◌, List, [], ◌∷◌, ◌++◌};
+ghost use Rattle.std.specs.Prelude.{length, slice_set, IfErr, OnOk, IsOk};
 ghost use Rattle.postcard_ser_cobs.specs.Framing.{HoldsThen};
 ghost use Rattle.postcard_ser_cobs.specs.Steps.{growth, SetsBelow, changed_from};
 
@@ -53,8 +54,8 @@ pub(crate) fn set_code<B: Storage>(storage: &mut B, start: usize, place: usize, 
 }
 
 /// Takes a piece of data whose bytes the storage holds already, as its last, behind an open frame:
-/// sets the code of each group that a zero of the piece ends. The zero is then the place of the next
-/// code. Returns the state of the encoder after the piece.
+/// sets the code of each group that a zero of the piece ends. The zero is then the place of the
+/// next code. Returns the state of the encoder after the piece.
 ///
 /// The piece is too short to make a group full, and the frame with it can be counted.
 #[inline(always)]

@@ -1,5 +1,5 @@
-//! Runs: bytes other than zero, which go to the storage many at once, and pieces that are dense with
-//! zeros, which do as well.
+//! Runs: bytes other than zero, which go to the storage many at once, and pieces that are dense
+//! with zeros, which do as well.
 
 ghost use Rattle.std.specs.Prelude.{◌≡◌, ◌≤◌, ◌+◌, ◌-◌, ◌<◌, length, take, drop, slice_index, IfOk, IfErr, OnOk, OnErr, IsOk, IsTrue, IsErrOf};
 ghost use Rattle.postcard_cobs.specs.Groups.{NoZero};
@@ -11,21 +11,22 @@ use postcard_ser_flavors::{Flavor, Storage};
 use postcard_wire::{Error, Result};
 use std::mem;
 
-/// The number of bytes that are looked at for zeros, and of the zeros among them that make it
-/// cheaper to take the bytes with their zeros than run by run.
+/// The number of bytes that are looked at for more zeros where the first zero is near.
 const WINDOW: usize = 16;
 
+/// The number of zeros among them from which on it is cheaper to take the bytes with their zeros
+/// than run by run.
 const MANY_ZEROS: u8 = 2;
 
 /// Returns how many bytes to take together with their zeros, at most `most`: none if zeros are rare
-/// among the first bytes.
+/// among the first bytes, of which `run` come before the first zero.
 #[inline(always)]
-fn dense_len(bytes: &[u8], most: usize) -> usize
+fn dense_len(bytes: &[u8], run: usize, most: usize) -> usize
     ensures within { result ≤ length bytes.now }
     ensures at_most { result ≤ most }
 {
-    let few = most.min(bytes.len());
-    if few < WINDOW {
+    let few = bytes.len().min(most);
+    if run >= WINDOW || few < WINDOW {
         return 0;
     }
     let mut zeros: u8 = 0;
@@ -83,6 +84,7 @@ impl<B: Storage + Drop> Cobs<B> {
     ///
     /// A zero of the data stands where the frame has the place of the next code, so the piece is
     /// pushed as it is, and the codes are set after that.
+    #[inline(never)]
     fn push_dense(&mut self, piece: &[u8]) -> Result<()>
         requires short { length piece.now < 255 - self.old.encoder.code }
         ensures appends { OnOk result
@@ -106,8 +108,8 @@ impl<B: Storage + Drop> Cobs<B> {
         Ok(())
     }
 
-    /// Takes the run that starts at a place of `bytes`, or a piece with zeros where many are near, or
-    /// the one byte there, and returns the place after it.
+    /// Takes the run that starts at a place of `bytes`, or a piece with zeros where many are near,
+    /// or the one byte there, and returns the place after it.
     pub(super) fn push_next(&mut self, bytes: &[u8], place: usize) -> Result<usize>
         requires { place < length bytes.now }
         ensures advances { IfOk result (λ n. (place < n) × (n ≤ length bytes.now)) }
@@ -122,12 +124,12 @@ impl<B: Storage + Drop> Cobs<B> {
     {
         let room = self.encoder.run_room();
         let rest = &bytes[place..];
-        let dense = dense_len(rest, room - 1);
+        let count = run_len(rest, room - 1);
+        let dense = dense_len(rest, count, room - 1);
         if dense > 0 {
             self.push_dense(&rest[..dense])?;
             return Ok(place + dense);
         }
-        let count = run_len(rest, room - 1);
         if count == 0 {
             self.try_push(rest[0])?;
             return Ok(place + 1);
