@@ -1,18 +1,20 @@
--- Runs: bytes in a row that aren't zero and don't make the open group full.
-use Rattle.std.proofs.Common.{◌≡◌, ℕ, refl, take, drop, get_or, ◌+◌, ◌-◌, ◌^◌, ◌<◌, List, [], ◌∷◌, ◌++◌, length, Bool, false, IsFalse, sym, ap, subst, ◌∙◌, append_assoc, length-append, arith}
+-- Runs and pieces: bytes in a row that don't make the open group full. A run has no zero.
+use Rattle.std.proofs.Common.{◌≡◌, ℕ, refl, take, drop, get_or, ◌+◌, ◌-◌, ◌^◌, ◌<◌, List, [], ◌∷◌, ◌++◌, length, Bool, false, IsFalse, sym, ap, subst, ◌∙◌, append_assoc, arith}
+use Rattle.std.proofs.lemmas.List.{take-append-drop, take_rest}
 use Rattle.std.proofs.Math.Seq.{take-add}
-use Rattle.postcard_cobs.specs.Groups.{NoZero, IsOpen, Standing, made}
+use Rattle.postcard_cobs.specs.Groups.{IsOpen, Standing, made}
 use Rattle.postcard_cobs.proofs.Encoding.{open_length}
-use Rattle.postcard_cobs.proofs.Runs.{run_open}
+use Rattle.postcard_cobs.proofs.Pieces.{piece_open}
 use Rattle.postcard_ser_cobs.specs.Framing.{HoldsOpen, HasFrameRoom, LeavesFrame}
-use Rattle.postcard_ser_cobs.specs.FramingLaws.{open_made, not_both}
+use Rattle.postcard_ser_cobs.specs.FramingLaws.{open_made, not_both, room_of_front}
 
 module _ {S : Type 0} {held : S → List ℕ} where
-  -- A run makes the frame longer by its own length.
-  pub made_run : {s : S} {start : ℕ} {at : Standing} {f : Bool} {before d : List ℕ} (run : List ℕ) → NoZero run → length run + at.code < 255
-      → HoldsOpen held s start at f before d → length (made (d ++ run)) ≡ length (made d) + length run
-  made_run {at = at} {d = d} run z short h =
-      omega (arith, open_made h.frame d at h.stands, open_made (h.frame ++ run) (d ++ run) _ (run_open run h.frame d at z short h.stands), length-append h.frame run)
+  -- A piece makes the frame longer by its own length.
+  pub made_piece : {s : S} {start : ℕ} {at : Standing} {f : Bool} {before d : List ℕ} (piece : List ℕ) → length piece + at.code < 255
+      → HoldsOpen held s start at f before d → length (made (d ++ piece)) ≡ length (made d) + length piece
+  made_piece {at = at} {d = d} piece short h =
+      let r = piece_open piece h.frame d at short h.stands in
+      omega (arith, open_made h.frame d at h.stands, open_made r.frame (d ++ piece) r.at r.stands, r.longer)
 
   -- After a run the frame is open, with the run as data.
   pub run_holds : {s t : S} {start : ℕ} {at at' : Standing} {f f' : Bool} (run : List ℕ) {before d : List ℕ} → IsFalse f' → held t ≡ held s ++ run
@@ -26,31 +28,36 @@ module _ {S : Type 0} {held : S → List ℕ} where
   }
 
   module _ {free : S → ℕ → Type 0} where
-    -- Where a run has room, its length is free.
-    pub run_free : {s : S} {start : ℕ} {at : Standing} {f : Bool} (run : List ℕ) → NoZero run → length run + at.code < 255
-        → ((s : S) (m n : ℕ) → free s (m + n) → free s m) → HasFrameRoom held free s start at f run → free s (length run)
-    run_free {s = s} run z short fewer room =
-        let m = made_run run z short room.holds in
-        let e : length (made (room.d ++ run)) - length (made room.d) + 1 ≡ length run + 1 = omega arith in
-        fewer s (length run) 1 (subst (λ n. free s n) e room.enough)
+    -- Where a piece has room, its length is free.
+    pub piece_free : {s : S} {start : ℕ} {at : Standing} {f : Bool} (piece : List ℕ) → length piece + at.code < 255
+        → ((s : S) (m n : ℕ) → free s (m + n) → free s m) → HasFrameRoom held free s start at f piece → free s (length piece)
+    piece_free {s = s} piece short fewer room =
+        let m = made_piece piece short room.holds in
+        let e : length (made (room.d ++ piece)) - length (made room.d) + 1 ≡ length piece + 1 = omega arith in
+        fewer s (length piece) 1 (subst (λ n. free s n) e room.enough)
 
-    -- Where a run has room, the encoder can count its place after it.
-    pub run_small : {s : S} {start : ℕ} {at : Standing} {f : Bool} (run : List ℕ) → NoZero run → length run + at.code < 255 → HasFrameRoom held free s start at f run
-        → at.code_at + at.code + length run < 2 ^ 64 - 1 - 2
-    run_small {at = at} run z short room =
-        omega (arith, made_run run z short room.holds, open_made room.holds.frame room.d at room.holds.stands, open_length room.holds.frame room.d at room.holds.stands, room.few)
+    -- Where a piece has room, the encoder can count its place after it.
+    pub piece_small : {s : S} {start : ℕ} {at : Standing} {f : Bool} (piece : List ℕ) → length piece + at.code < 255 → HasFrameRoom held free s start at f piece
+        → at.code_at + at.code + length piece < 2 ^ 64 - 1 - 2
+    piece_small {at = at} piece short room =
+        omega (arith, made_piece piece short room.holds, open_made room.holds.frame room.d at room.holds.stands, open_length room.holds.frame room.d at room.holds.stands, room.few)
 
--- A run leaves the storage as pushes may.
-pub run_leaves : {S : Type 0} {held : S → List ℕ} {free : S → ℕ → Type 0} {reaches : S → S → Type 0} {s t : S} {f : Bool} (run : List ℕ) → IsFalse f → reaches s t → held t ≡ held s ++ run
-    → ((n : ℕ) → free s (length run + n) → free t n) → LeavesFrame held free reaches s f t false
-run_leaves {held = held} {free = free} {s = s} {t = t} run going inner is keeps =
-    let l : length (held t) ≡ length (held s) + length run = ap length is ∙ length-append (held s) run in
-    record {
-      inner = inner;
-      stays_failed = λ failed. absurd (not_both failed going);
-      grows = λ _. omega (arith, l);
-      keeps_free = λ _ k n e h. let z : k + n ≡ length run + n = omega (arith, l, e) in keeps n (subst (λ m. free s m) z h);
-    }
+-- A storage that grew by as many bytes as are no longer free is left as pushes may leave it.
+pub grown_leaves : {S : Type 0} {held : S → List ℕ} {free : S → ℕ → Type 0} {reaches : S → S → Type 0} {s t : S} {f : Bool} (m : ℕ) → IsFalse f → reaches s t
+    → length (held t) ≡ length (held s) + m → ((n : ℕ) → free s (m + n) → free t n) → LeavesFrame held free reaches s f t false
+grown_leaves {free = free} {s = s} m going inner l keeps = record {
+  inner = inner;
+  stays_failed = λ failed. absurd (not_both failed going);
+  grows = λ _. omega (arith, l);
+  keeps_free = λ _ k n e h. let z : k + n ≡ m + n = omega (arith, l, e) in keeps n (subst (λ i. free s i) z h);
+}
+
+-- Where the rest from a place has room, so has a front of it.
+pub room_of_next : {S : Type 0} {held : S → List ℕ} {free : S → ℕ → Type 0} {s : S} {start : ℕ} {at : Standing} {f : Bool} → ((s : S) (m n : ℕ) → free s (m + n) → free s m)
+    → (xs : List ℕ) (i n : ℕ) → HasFrameRoom held free s start at f (drop i xs) → HasFrameRoom held free s start at f (take n (take (length xs - i) (drop i xs)))
+room_of_next {held = held} {free = free} {s = s} {start = start} {at = at} {f = f} fewer xs i n r =
+    let rest = take (length xs - i) (drop i xs) in
+    room_of_front fewer (take n rest) (drop n rest) (subst (λ z. HasFrameRoom held free s start at f z) (sym (take_rest xs i) ∙ sym (take-append-drop n rest)) r)
 
 -- A list that isn't empty is its first byte and the rest.
 pub first_and_rest : (xs : List ℕ) → 0 < length xs → xs ≡ (get_or xs 0 0 ∷ []) ++ drop 1 xs

@@ -13,6 +13,14 @@ module _ {S : Type 0} (held : S → List ℕ) where
     pub starts : start ≡ length before
     pub stands : IsOpen frame at d
 
+  -- The storage s holds the bytes `before`, whose number is `start`, then an open frame of the data d,
+  -- at whose state the encoder is, and then the bytes x.
+  pub record HoldsThen (s : S) (start : ℕ) (at : Standing) (before d x : List ℕ) : Type 0 where
+    pub frame : List ℕ
+    pub behind : held s ≡ before ++ (frame ++ x)
+    pub starts : start ≡ length before
+    pub stands : IsOpen frame at d
+
   module _ (free : S → ℕ → Type 0) where
     -- The data x has room: the storage has as many bytes free as the frame grows by, and one for the
     -- sentinel, and the length of the whole frame can be counted.

@@ -194,8 +194,9 @@ impl<B: Storage + Drop> Flavor for Cobs<B> {
         Ok(())
     }
 
-    /// Takes bytes of data. Each run of bytes between zeros goes to the storage in one piece, but
-    /// cut where a group of 254 bytes is full.
+    /// Takes bytes of data. Each run of bytes between zeros goes to the storage in one piece, and
+    /// so do bytes that are dense with zeros, but each piece is cut where a group of 254 bytes is
+    /// full.
     ///
     /// # Errors
     ///

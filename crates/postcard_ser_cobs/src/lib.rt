@@ -22,7 +22,7 @@
 //!
 //! The contracts speak of frames by the definitions of `postcard_cobs`: `made d` is the frame of
 //! the data `d`. To be read in this order:
-//! - `cobs`: the flavor, and in `cobs/runs` how bytes other than zero are taken many at once.
+//! - `cobs`: the flavor, and in `cobs/runs` how bytes are taken many at once.
 //! - `steps`: what a storage is asked to do.
 #![tactic(auto)]
 

@@ -1,9 +1,11 @@
 //! What a frame asks of its storage: bytes after those that it holds, and code bytes set.
 
-ghost use Rattle.std.specs.Prelude.{◌≡◌, ℕ, ◌+◌, ◌<◌, [], ◌∷◌, ◌++◌, length, slice_set, IfErr, OnOk, IsOk};
+ghost use Rattle.std.specs.Prelude.{◌≡◌, ℕ, ◌+◌, ◌-◌, ◌<◌, ◌≤◌, List, [], ◌∷◌, ◌++◌};
+ghost use Rattle.std.specs.Prelude.{length, slice_set, IfErr, OnOk, IsOk};
+ghost use Rattle.postcard_ser_cobs.specs.Framing.{HoldsThen};
 ghost use Rattle.postcard_ser_cobs.specs.Steps.{growth, SetsBelow, changed_from};
 
-use postcard_cobs::PushResult;
+use postcard_cobs::{EncoderState, PushResult};
 use postcard_ser_flavors::{Flavor, Storage};
 use postcard_wire::{Error, Result};
 
@@ -49,6 +51,38 @@ pub(crate) fn set_code<B: Storage>(storage: &mut B, start: usize, place: usize, 
     // For the prover: the number of bytes held fits a `usize`, and so does each place among them.
     let _held = storage.held_len();
     storage.set(start + place, code);
+}
+
+/// Takes a piece of data whose bytes the storage holds already, as its last, behind an open frame:
+/// sets the code of each group that a zero of the piece ends. The zero is then the place of the
+/// next code. Returns the state of the encoder after the piece.
+///
+/// The piece is too short to make a group full, and the frame with it can be counted.
+#[inline(always)]
+pub(crate) fn set_codes<B: Storage>(
+    storage: &mut B,
+    start: usize,
+    encoder: EncoderState,
+    piece: &[u8],
+) -> EncoderState
+    requires short { length piece.now < 255 - encoder.code }
+    requires countable { encoder.code_at + encoder.code + length piece.now ≤ usize.MAX - 2 }
+    requires held { start + (encoder.code_at + encoder.code + length piece.now)
+        ≤ length (B.held storage.old) }
+    ensures opens { (before d : List ℕ)
+        → HoldsThen B.held storage.old start encoder before d piece.now
+        → HoldsThen B.held storage.new start result before (d ++ piece.now) [] }
+    ensures same_length { length (B.held storage.new) ≡ length (B.held storage.old) }
+    ensures leaves { B.reaches storage.old storage.new }
+    ensures keeps_free { (n : ℕ) → B.free storage.old n → B.free storage.new n }
+{
+    let mut encoder = encoder;
+    for byte in piece {
+        if let PushResult::ModifyFromStartAndSkip((place, code)) = encoder.push(*byte) {
+            set_code(storage, start, place, code);
+        }
+    }
+    encoder
 }
 
 /// Does what the encoder asks for. Fails with `SerializeBufferFull` where the storage fails; of two

@@ -1,13 +1,43 @@
-//! Runs: bytes other than zero, which go to the storage many at once.
+//! Runs: bytes other than zero, which go to the storage many at once, and pieces that are dense
+//! with zeros, which do as well.
 
 ghost use Rattle.std.specs.Prelude.{◌≡◌, ◌≤◌, ◌+◌, ◌-◌, ◌<◌, length, take, drop, slice_index, IfOk, IfErr, OnOk, OnErr, IsOk, IsTrue, IsErrOf};
 ghost use Rattle.postcard_cobs.specs.Groups.{NoZero};
 
 use crate::cobs::Cobs;
-use crate::steps::push_piece;
-use postcard_cobs::frame_len;
+use crate::steps::{push_piece, set_codes};
+use postcard_cobs::{EncoderState, frame_len};
 use postcard_ser_flavors::{Flavor, Storage};
 use postcard_wire::{Error, Result};
+use std::mem;
+
+/// The number of bytes that are looked at for more zeros where the first zero is near.
+const WINDOW: usize = 16;
+
+/// The number of zeros among them from which on it is cheaper to take the bytes with their zeros
+/// than run by run.
+const MANY_ZEROS: u8 = 2;
+
+/// Returns how many bytes to take together with their zeros, at most `most`: none if zeros are rare
+/// among the first bytes, of which `run` come before the first zero.
+#[inline(always)]
+fn dense_len(bytes: &[u8], run: usize, most: usize) -> usize
+    ensures within { result ≤ length bytes.now }
+    ensures at_most { result ≤ most }
+{
+    let few = bytes.len().min(most);
+    if run >= WINDOW || few < WINDOW {
+        return 0;
+    }
+    let mut zeros: u8 = 0;
+    for place in 0..WINDOW {
+        zeros = zeros.wrapping_add(u8::from(bytes[place] == 0));
+    }
+    if zeros < MANY_ZEROS {
+        return 0;
+    }
+    few
+}
 
 /// Returns the number of bytes before the first zero, but at most `most`.
 #[inline(always)]
@@ -50,8 +80,36 @@ impl<B: Storage + Drop> Cobs<B> {
         Ok(())
     }
 
-    /// Takes the run that starts at a place of `bytes`, or the one byte there where none does, and
-    /// returns the place after it.
+    /// Takes a piece in one, zeros included. It is too short to make the open group full.
+    ///
+    /// A zero of the data stands where the frame has the place of the next code, so the piece is
+    /// pushed as it is, and the codes are set after that.
+    #[inline(never)]
+    fn push_dense(&mut self, piece: &[u8]) -> Result<()>
+        requires short { length piece.now < 255 - self.old.encoder.code }
+        ensures appends { OnOk result
+            (⟦<Cobs<B> as Flavor>⟧.appended self.old piece.now self.new) }
+        ensures has_room { ⟦<Cobs<B> as Flavor>⟧.room self.old piece.now → IsOk result }
+        ensures leaves { ⟦<Cobs<B> as Flavor>⟧.reaches self.old self.new }
+        ensures stays_refused { IsTrue self.old.failed → IsErrOf result Error.SerializeBufferFull }
+        ensures remembers_refusal { OnErr result (IsTrue self.new.failed) }
+        ensures refuses_by_buffer_full { IfErr result (λ e. e ≡ Error.SerializeBufferFull) }
+    {
+        if self.failed || self.encoder.place() > usize::MAX - 2 - piece.len() {
+            self.failed = true;
+            return Err(Error::SerializeBufferFull);
+        }
+        // A refusal by the storage leaves this set.
+        self.failed = true;
+        push_piece(&mut self.storage, piece)?;
+        let encoder = mem::replace(&mut self.encoder, EncoderState::default());
+        self.encoder = set_codes(&mut self.storage, self.start, encoder, piece);
+        self.failed = false;
+        Ok(())
+    }
+
+    /// Takes the run that starts at a place of `bytes`, or a piece with zeros where many are near,
+    /// or the one byte there, and returns the place after it.
     pub(super) fn push_next(&mut self, bytes: &[u8], place: usize) -> Result<usize>
         requires { place < length bytes.now }
         ensures advances { IfOk result (λ n. (place < n) × (n ≤ length bytes.now)) }
@@ -67,6 +125,11 @@ impl<B: Storage + Drop> Cobs<B> {
         let room = self.encoder.run_room();
         let rest = &bytes[place..];
         let count = run_len(rest, room - 1);
+        let dense = dense_len(rest, count, room - 1);
+        if dense > 0 {
+            self.push_dense(&rest[..dense])?;
+            return Ok(place + dense);
+        }
         if count == 0 {
             self.try_push(rest[0])?;
             return Ok(place + 1);

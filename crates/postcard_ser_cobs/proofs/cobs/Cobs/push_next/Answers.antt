@@ -1,9 +1,9 @@
--- A run or a byte is a front of the bytes that are left, so it has room where they do.
+-- A piece, a run or a byte is a front of the bytes that are left, so it has room where they do.
 use Rattle.std.proofs.Common.{◌-◌, ◌<◌, [], ◌∷◌, length, take, drop, subst, sym, ◌∙◌, arith, get_or}
-use Rattle.std.proofs.lemmas.List.{take-append-drop, take_rest, length-drop}
+use Rattle.std.proofs.lemmas.List.{take_rest, length-drop}
 use Rattle.postcard_ser_cobs.specs.Framing.{HasFrameRoom}
 use Rattle.postcard_ser_cobs.specs.FramingLaws.{room_of_front}
-use Rattle.postcard_ser_cobs.proofs.RunLemmas.{first_and_rest}
+use Rattle.postcard_ser_cobs.proofs.RunLemmas.{first_and_rest, room_of_next}
 use Rattle.postcard_ser_cobs.proofs.cobs.Cobs.push_next.Goals as goal
 
 pub returns-in_err-try_push-clause-has_room : goal.returns-in_err-try_push-clause-has_room
@@ -19,9 +19,10 @@ returns-in_err-try_push-clause-has_room g c r =
 
 pub returns-in_err-push_run-clause-has_room : goal.returns-in_err-push_run-clause-has_room
 returns-in_err-push_run-clause-has_room g c r =
-    let s = c.args.self.now in
-    let q = take_rest c.args.bytes.now c.args.place in
-    let rest = take (length c.args.bytes.now - c.args.place) (drop c.args.place c.args.bytes.now) in
-    let no = c.in_err-push_run.ensures.has_room
-    (room_of_front g.B.Storage.free_lawful.free_fewer (take c.run_len-count.result rest) (drop c.run_len-count.result rest) (subst (λ z. HasFrameRoom g.B.Storage.held g.B.Storage.free s.storage s.start s.encoder s.failed z) (sym q ∙ sym (take-append-drop _ rest)) r)) in
+    let no = c.in_err-push_run.ensures.has_room (room_of_next g.B.Storage.free_lawful.free_fewer c.args.bytes.now c.args.place c.run_len-count.result r) in
+    absurd (cc)
+
+pub returns-in_err-push_dense-clause-has_room : goal.returns-in_err-push_dense-clause-has_room
+returns-in_err-push_dense-clause-has_room g c r =
+    let no = c.in_err-push_dense.ensures.has_room (room_of_next g.B.Storage.free_lawful.free_fewer c.args.bytes.now c.args.place c.dense_len-dense.result r) in
     absurd (cc)

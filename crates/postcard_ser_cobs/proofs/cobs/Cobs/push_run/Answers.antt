@@ -1,8 +1,8 @@
 -- A run goes into the open group; it is refused only without room, or after a refusal.
-use Rattle.std.proofs.Common.{◌++◌, refl, arith}
+use Rattle.std.proofs.Common.{◌++◌, length, length-append, refl, ap, ◌∙◌, arith}
 use Rattle.std.proofs.Math.Logic.{∥∥₁_map}
 use Rattle.postcard_ser_cobs.specs.FramingLaws.{not_both}
-use Rattle.postcard_ser_cobs.proofs.RunLemmas.{run_holds, run_free, run_small, run_leaves}
+use Rattle.postcard_ser_cobs.proofs.RunLemmas.{run_holds, piece_free, piece_small, grown_leaves}
 use Rattle.postcard_ser_cobs.proofs.cobs.Cobs.push_run.Goals as goal
 use Rattle.postcard_ser_cobs.proofs.cobs.Cobs.push_run.Goals.{then-self-via-then-self, then-self-via-else-self+then-place-run}
 
@@ -11,13 +11,13 @@ returns-then-self-clause-has_room g c r =
     let s = c.requires.short in
     elim c.then-self.branch [
       | then-self-via-then-self w ↦ absurd (not_both w.if-self.true r.holds.going)
-      | then-self-via-else-self+then-place-run w ↦ absurd (omega (arith, run_small _ c.requires.no_zero (omega (arith, s)) r, w.place.ensures, w.if-place-run.true))
+      | then-self-via-else-self+then-place-run w ↦ absurd (omega (arith, piece_small _ (omega (arith, s)) r, w.place.ensures, w.if-place-run.true))
     ]
 
 pub returns-in_err-push_piece-clause-has_room : goal.returns-in_err-push_piece-clause-has_room
 returns-in_err-push_piece-clause-has_room g c r =
     let s = c.requires.short in
-    let no = c.in_err-push_piece.ensures.has_room (run_free _ c.requires.no_zero (omega (arith, s)) g.B.Storage.free_lawful.free_fewer r) in
+    let no = c.in_err-push_piece.ensures.has_room (piece_free _ (omega (arith, s)) g.B.Storage.free_lawful.free_fewer r) in
     absurd (cc)
 
 pub invariant_of-self-2 : goal.invariant_of-self-2
@@ -33,4 +33,5 @@ returns-clause-appends g c before d h = run_holds _ refl c.in_ok-push_piece.ensu
 
 pub returns-clause-leaves : goal.returns-clause-leaves
 returns-clause-leaves g c =
-    run_leaves _ c.if-self.false c.in_ok-push_piece.ensures.leaves c.in_ok-push_piece.ensures.appends c.in_ok-push_piece.ensures.keeps_free
+    let said = c.in_ok-push_piece.ensures in
+    grown_leaves _ c.if-self.false said.leaves (ap length said.appends ∙ length-append _ _) said.keeps_free
