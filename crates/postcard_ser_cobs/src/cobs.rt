@@ -1,6 +1,7 @@
 //! The flavor that encodes by COBS.
 
-ghost use Rattle.std.specs.Prelude.{◌≡◌, ℕ, ◌+◌, ◌<◌, List, [], ◌∷◌, ◌++◌, length, IsFalse, IfOk, IfErr, OnOk, OnErr, IsOk, IsTrue, IsErrOf};
+ghost use Rattle.std.specs.Prelude.{◌≡◌, ℕ, ◌+◌, ◌<◌, List, [], ◌∷◌, ◌++◌, length, IsFalse, IfOk};
+ghost use Rattle.std.specs.Prelude.{IfErr, OnOk, OnErr, IsOk, IsTrue, IsErrOf};
 ghost use Rattle.postcard_cobs.specs.Groups.{made};
 ghost use Rattle.postcard_ser_cobs.specs.Framing.{HoldsOpen, HasFrameRoom, LeavesFrame};
 ghost use Rattle.postcard_ser_flavors.specs.Flavor.{Begins};
@@ -131,7 +132,9 @@ impl<B: Storage + Drop> Cobs<B> {
 }
 
 impl<B: Storage + Drop> Flavor for Cobs<B> {
-    ghost use Rattle.postcard_ser_cobs.specs.FramingLaws.{holds_none, holds_join, room_of_front, room_of_rest, leaves_self, leaves_join, leaves_prop};
+    ghost use Rattle.postcard_ser_cobs.specs.FramingLaws.{holds_none, holds_join, room_of_front};
+    ghost use Rattle.postcard_ser_cobs.specs.FramingLaws.{room_of_rest, leaves_self, leaves_join};
+    ghost use Rattle.postcard_ser_cobs.specs.FramingLaws.{leaves_prop};
 
     type Output = <B as Flavor>::Output;
 

@@ -1,7 +1,8 @@
 //! Runs: bytes other than zero, which go to the storage many at once, and pieces that are dense
 //! with zeros, which do as well.
 
-ghost use Rattle.std.specs.Prelude.{◌≡◌, ◌≤◌, ◌+◌, ◌-◌, ◌<◌, length, take, drop, slice_index, IfOk, IfErr, OnOk, OnErr, IsOk, IsTrue, IsErrOf};
+ghost use Rattle.std.specs.Prelude.{◌≡◌, ◌≤◌, ◌+◌, ◌-◌, ◌<◌, length, take, drop, slice_index, IfOk};
+ghost use Rattle.std.specs.Prelude.{IfErr, OnOk, OnErr, IsOk, IsTrue, IsErrOf};
 ghost use Rattle.postcard_cobs.specs.Groups.{NoZero};
 
 use crate::cobs::Cobs;
