@@ -31,8 +31,25 @@ fn is_written<T: Serialize>(
     Ok(())
 }
 
-/// The value is read from a slice and from a reader that gives up to `most` bytes at once, with
-/// other bytes behind it, which are left.
+/// The value is read from a reader that gives pieces of these lengths. The bytes behind it are left,
+/// and so is the scratch.
+fn is_read_in_pieces<'a, T: DeserializeOwned + PartialEq + Debug>(
+    rt: &(impl Abort + AllocGlobal),
+    value: &T,
+    bytes: &'a [u8],
+    lengths: &'a [usize],
+    scratch: &'a mut [u8],
+) -> Result<(), Fail> {
+    let room = scratch.len();
+    let from = (Pieces::new(bytes, lengths), scratch);
+    let (Owned(read), (reader, left)) = from_io::<Owned<T>, _>(rt.alloc(), from)?;
+    assert_eq!(rt; &read, value, "{bytes:?}");
+    assert_eq!(rt; reader.unread(), BEHIND.as_slice(), "{bytes:?}");
+    assert_eq!(rt; left.len(), room, "{bytes:?}");
+    Ok(())
+}
+
+/// The value is read from a slice and from a reader, with other bytes behind it, which are left.
 fn is_read<T: DeserializeOwned + PartialEq + Debug>(
     rt: &(impl Abort + AllocGlobal),
     value: &T,
@@ -44,13 +61,9 @@ fn is_read<T: DeserializeOwned + PartialEq + Debug>(
     assert_eq!(rt; &read, value, "{bytes:?}");
     bytes.extend_from_slice(&BEHIND)?;
     let (Owned(read), rest) = take_from_bytes::<Owned<T>>(alloc, &bytes)?;
-    assert_eq!(rt; (&read, rest), (value, BEHIND.as_slice()), "{bytes:?}");
-    let mut scratch = [0; 64];
-    let from = (Pieces::new(&bytes, lengths), scratch.as_mut_slice());
-    let (Owned(read), (reader, left)) = from_io::<Owned<T>, _>(alloc, from)?;
-    assert_eq!(rt; (&read, left.len()), (value, 64), "{bytes:?}");
-    assert_eq!(rt; reader.unread(), BEHIND.as_slice(), "{bytes:?}");
-    Ok(())
+    assert_eq!(rt; &read, value, "{bytes:?}");
+    assert_eq!(rt; rest, BEHIND.as_slice(), "{bytes:?}");
+    is_read_in_pieces(rt, value, &bytes, lengths, &mut [0; 64])
 }
 
 /// The value is written as the same frame by both calls, and read from it by both.

@@ -1,7 +1,7 @@
 //! Tests with random values: a hundred thousand of them, of twenty types, there and back through
 //! each call, and in streams of frames between which lie damaged ones.
 //!
-//! The values come from a generator with a fixed seed for each type, so each run tests the same ones.
+//! The values come from a generator with a fixed seed for each type, so each run has the same ones.
 #![tactic(auto)]
 
 #[cfg(test)]

@@ -2,8 +2,7 @@
 
 use crate::source::Source;
 use arrayvec::{ArrayString, ArrayVec};
-use postcard_examples::station::{Position, Station};
-use postcard_vectors::types::{DataEnum, EnumStruct, WideU8S};
+use postcard_vectors::types::{DataEnum, DualTupleStruct, EnumStruct, WideU8S};
 use std::alloc::AllocError;
 use std::collections::BTreeMap;
 use std::rc::Rc;
@@ -241,16 +240,8 @@ impl Random for DataEnum {
     }
 }
 
-impl Random for Station {
-    fn random(source: &mut Source) -> Result<Station, AllocError> {
-        let position = Position {
-            latitude: i32::random(source)?,
-            longitude: i32::random(source)?,
-        };
-        Ok(Station {
-            name: String::random(source)?,
-            position,
-            height: Option::random(source)?,
-        })
+impl Random for DualTupleStruct {
+    fn random(source: &mut Source) -> Result<DualTupleStruct, AllocError> {
+        Ok(DualTupleStruct(source.byte(), u16::random(source)?))
     }
 }

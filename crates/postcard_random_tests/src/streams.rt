@@ -37,7 +37,8 @@ impl<T: Drop> Stream<T> {
     }
 }
 
-/// The frame with a few of its bytes changed, lost or doubled, or more bytes than there is room for.
+/// The frame with a few of its bytes changed, lost or doubled, and sometimes more bytes behind it
+/// than there is room for.
 fn damaged(source: &mut Source, frame: &[u8]) -> Result<Vec<u8>, AllocError> {
     let mut bytes = Vec::new(source.alloc);
     for byte in frame {

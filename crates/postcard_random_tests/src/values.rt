@@ -6,8 +6,7 @@ use crate::source::Source;
 use crate::streams::arrive;
 use arrayvec::{ArrayString, ArrayVec};
 use postcard::{DeserializeOwned, Serialize};
-use postcard_examples::station::Station;
-use postcard_vectors::types::{DataEnum, WideU8S};
+use postcard_vectors::types::{DataEnum, DualTupleStruct, WideU8S};
 use std::alloc::AllocGlobal;
 use std::collections::BTreeMap;
 use std::fmt::Debug;
@@ -83,6 +82,6 @@ fn results_and_pointers(rt: HostRuntime) -> Result<(), Fail> {
 fn of_a_user(rt: HostRuntime) -> Result<(), Fail> {
     check::<Vec<DataEnum>>(&rt, 19)?;
     check::<(WideU8S, bool)>(&rt, 20)?;
-    check::<BTreeMap<u8, Option<Station>>>(&rt, 21)?;
-    check::<Result<Option<Box<DataEnum>>, (bool, Vec<Station>)>>(&rt, 22)
+    check::<BTreeMap<u8, Option<DualTupleStruct>>>(&rt, 21)?;
+    check::<Result<Option<Box<DataEnum>>, (bool, Vec<WideU8S>)>>(&rt, 22)
 }
