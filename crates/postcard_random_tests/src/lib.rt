@@ -1,4 +1,4 @@
-//! Tests with random values: a hundred thousand of them, of twenty types, there and back through
+//! Tests with random values: a hundred thousand, of some twenty types, there and back through
 //! each call, and in streams of frames between which lie damaged ones.
 //!
 //! The values come from a generator with a fixed seed for each type, so each run has the same ones.
