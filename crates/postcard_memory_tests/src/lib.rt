@@ -1,8 +1,8 @@
 //! Tests of refused memory: each call that asks for memory, with each of its requests refused.
 //!
-//! `rt try --test --fail-alloc N` refuses the Nth request of each test, and `checks/refused-memory`
-//! runs them for each N. A refusal is named, and the same call then gives the right answer. A test
-//! that meets a refusal prints a line that the script looks for.
+//! A refusal is named, and the same call then gives the right answer. `checks/memory` refuses the Nth
+//! request of each test named `refused`, for each N, once the tests are built. Before any proof,
+//! `rt try --test --fail-alloc N` does so; a test that meets a refusal prints a line.
 #![tactic(auto)]
 
 #[cfg(test)]

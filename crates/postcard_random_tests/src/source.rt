@@ -1,0 +1,55 @@
+//! A generator of random numbers, by the method splitmix64.
+
+use std::alloc::Global;
+
+/// A source of random numbers, which are the same for the same seed.
+#[derive(Drop)]
+pub(crate) struct Source {
+    state: u64,
+    /// Where values that grow get their memory.
+    pub(crate) alloc: Global,
+}
+
+impl Source {
+    /// A source with this seed.
+    pub(crate) fn new(alloc: Global, seed: u64) -> Source {
+        Source { state: seed, alloc }
+    }
+
+    /// The next 64 random bits.
+    pub(crate) fn next(&mut self) -> u64 {
+        self.state = self.state.wrapping_add(0x9E37_79B9_7F4A_7C15);
+        let mut mixed = self.state;
+        mixed = (mixed ^ (mixed >> 30)).wrapping_mul(0xBF58_476D_1CE4_E5B9);
+        mixed = (mixed ^ (mixed >> 27)).wrapping_mul(0x94D0_49BB_1331_11EB);
+        mixed ^ (mixed >> 31)
+    }
+
+    /// A number below `end`, or 0 if `end` is 0.
+    pub(crate) fn below(&mut self, end: usize) -> usize {
+        let random = self.next() as usize;
+        random.checked_rem(end).unwrap_or(0)
+    }
+
+    /// Whether a throw with one chance in `count` succeeds.
+    pub(crate) fn one_in(&mut self, count: usize) -> bool {
+        self.below(count) == 0
+    }
+
+    /// A number of a random length in bits, or the complement of such a number.
+    pub(crate) fn number(&mut self) -> u128 {
+        let all = (u128::from(self.next()) << 64) | u128::from(self.next());
+        let number = all >> (self.next() % 128);
+        if self.one_in(2) { number } else { !number }
+    }
+
+    /// The low 64 bits of such a number.
+    pub(crate) fn word(&mut self) -> u64 {
+        (self.number() & 0xFFFF_FFFF_FFFF_FFFF) as u64
+    }
+
+    /// The low 8 bits of such a number.
+    pub(crate) fn byte(&mut self) -> u8 {
+        (self.number() & 0xFF) as u8
+    }
+}
