@@ -1,6 +1,6 @@
 //! A record of a tank, and how it is written to a file and read from one.
 
-ghost use Rattle.std.specs.Prelude.{◌≡◌, ◌≤◌, length, IfOk, IsOkAnd};
+ghost use Rattle.std.specs.Prelude.{◌≡◌, ◌≤◌, length, IfOk, OnOk, IsOkAnd};
 ghost use Rattle.std.specs.Io.KnownBytes.{Appends, Consumes};
 ghost use Rattle.postcard_wire.specs.Spelling.{bytes};
 ghost use Rattle.postcard_de_flavors.specs.Source.{Begins};
@@ -50,7 +50,8 @@ impl SerializeRepr for Record<'_> {
 /// Fails with `SerializeBufferFull` if the file can't be written. It may then have a front of the
 /// record, which [`read`] doesn't take for a record.
 pub fn append<W: Write + Drop>(file: W, item: &Record) -> Result<W>
-    ensures { IfOk result (λ after. Appends (W.contents file) (W.contents after)
+    ensures fits { OnOk result (⟦<Record<'static> as Shaped>⟧.shape.fits item.now) }
+    ensures appends { IfOk result (λ after. Appends (W.contents file) (W.contents after)
         (bytes (⟦<Record<'static> as Shaped>⟧.shape.tree item.now))) }
 {
     to_io(item, file)
