@@ -1,16 +1,16 @@
 //! A serial link: reads a noisy stream of frames from standard input, in pieces that are cut
 //! anywhere, and prints a line for each frame.
 //!
-//! The file `stdin` beside `src` is such a stream. This makes it; the comment says what each frame is:
+//! The file `stdin` beside `src` is such a stream, made by these commands:
 //!
 //! ```sh
 //! {
 //!     printf '\1\1\0'                           # Boot
-//!     printf '\5\1\7\314\41\0'                  # sensor 7: 21.50 degrees, 2150 or 4300 as a varint
+//!     printf '\5\1\7\314\41\0'                  # sensor 7: 21.50 degrees; 4300 as a varint
 //!     printf '\5\1\7\41\0'                      # the same with a byte lost
 //!     printf '\231\102\0'                       # noise
-//!     printf '\54\2\11\50%040d\0' 0             # a fault of 40 letters, which has no room
-//!     printf '\5\1\7\251\4\0'                   # sensor 7: -2.77 degrees, 553 as a varint
+//!     printf '\54\2\11\50%040d\0' 0             # a fault whose frame of 45 bytes has no room
+//!     printf '\5\1\7\251\4\0'                   # sensor 7: -2.77 degrees; 553 as a varint
 //!     printf '\2\11\0'                          # a variant that no event has
 //!     printf '\13\2\3\7too hot\0'               # a fault
 //!     printf '\5\1\7'                           # the front of a frame: the stream ends

@@ -57,7 +57,7 @@ pub fn append<W: Write + Drop>(file: W, item: &Record) -> Result<W>
     to_io(item, file)
 }
 
-/// Reads the next record from a file, and returns it with the file. The note is lent from `scratch`.
+/// Reads the next record from a file, and returns both. The note is lent from `scratch`.
 ///
 /// # Errors
 ///
