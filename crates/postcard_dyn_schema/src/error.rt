@@ -1,5 +1,8 @@
 //! Why a text is no type expression.
 
+ghost use Rattle.std.specs.Prelude.{Some};
+ghost use Rattle.postcard_dyn_schema.specs.Printed.{problem_text, error_text};
+
 use std::fmt;
 
 /// What is wrong with a type expression.
@@ -44,6 +47,8 @@ pub enum Problem {
 }
 
 impl fmt::Display for Problem {
+    ghost output = { λ problem. Some (problem_text problem) };
+
     fn fmt<W: fmt::Write>(&self, f: &mut fmt::Formatter<W>) -> fmt::Result {
         f.write_str(match self {
             Problem::TypeExpected => "expected a type",
@@ -80,6 +85,8 @@ pub struct ExpressionError {
 }
 
 impl fmt::Display for ExpressionError {
+    ghost output = { λ e. Some (error_text e) };
+
     fn fmt<W: fmt::Write>(&self, f: &mut fmt::Formatter<W>) -> fmt::Result {
         write!(f, "{} at character {}", self.problem, self.character)
     }

@@ -13,9 +13,10 @@
 //! An enum has two variants or more, or a `|` before its only one. `(T)` is `T`, and `(T,)` a tuple
 //! of one part, as in Rust.
 
-ghost use Rattle.std.specs.Prelude.{◌≡◌, ◌+◌, ◌≤◌, ◌++◌, ◌⊎◌, [], ◌∷◌, IfOk, IfErr, OnOk};
+ghost use Rattle.std.specs.Prelude.{◌≡◌, ◌+◌, ◌≤◌, ◌++◌, ◌⊎◌, [], ◌∷◌, length, IfOk, IfErr, OnOk};
 ghost use Rattle.postcard_dyn_schema.specs.Text.{characters, Takes};
 ghost use Rattle.postcard_dyn_schema.specs.Meaning.{type_of};
+ghost use Rattle.postcard_dyn_schema.specs.Names.{IsNewTo, IsTakenIn};
 ghost use Rattle.postcard_dyn_schema.specs.Bounds.{ElementsHaveBytes, depth as depth_of};
 ghost use Rattle.postcard_dyn_schema.specs.Grammar.{IsType, IsPlain, IsListRest, IsTupleRest};
 ghost use Rattle.postcard_dyn_schema.specs.Grammar.{IsFieldsRest, IsMapRest, IsEnumText};
@@ -305,7 +306,11 @@ fn read_content(alloc: Global, rest: &mut &[u8], depth: usize) -> Result<Schema,
 }
 
 /// Refuses a name that one of the types has already.
-fn check_new(before: &Vec<Schema>, name: &[u8], start: &[u8]) -> Result<(), Fault> {
+fn check_new(before: &Vec<Schema>, name: &[u8], start: &[u8]) -> Result<(), Fault>
+    ensures new { OnOk result (IsNewTo before.now.items name.now) }
+    ensures twice { IfErr result (λ fault. (fault.problem ≡ Problem.NameTwice)
+        × (fault.left ≡ length start.now) × IsTakenIn before.now.items name.now) }
+{
     for schema in before {
         if let Schema::Named(other, _) = schema {
             if other.as_bytes() == name {

@@ -55,6 +55,10 @@ fn check(rt: &(impl Abort + AllocGlobal), schema: &Schema, message: &[u8]) -> Re
             let Ok(written) = to_flavor(&read, AllocVec::new(rt.alloc())) else {
                 panic!(rt; "{text} is not written");
             };
+            let Ok(direct) = to_flavor(&value, AllocVec::new(rt.alloc())) else {
+                panic!(rt; "the value of {text} is not written");
+            };
+            assert_eq!(rt; written.as_slice(), direct.as_slice(), "{text}");
             assert!(rt; written.len() <= message.len() - rest.len(), "{text}");
             let Ok((back, none)) = take_from_bytes(rt.alloc(), schema, &written) else {
                 panic!(rt; "{text} doesn't come back");

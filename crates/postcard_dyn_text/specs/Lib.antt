@@ -1,1 +1,3 @@
 pub mod Place
+pub mod Shown
+pub mod Printed

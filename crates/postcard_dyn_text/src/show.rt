@@ -1,12 +1,21 @@
 //! Printing a value with the names of its schema.
 
-ghost use Rattle.std.specs.Prelude.{◌≡◌, true, false, Vec};
+ghost use Rattle.std.specs.Prelude.{◌≡◌, ◌++◌, ◌/◌, ◌%◌, true, false, Vec, codes, map};
+ghost use Rattle.std.specs.Fmt.{DisplaysOnOk, WritesOnOk, digits, signed_decimal};
+ghost use Rattle.std.specs.Int.{w8, cast_signed, cast_unsigned};
 ghost use Rattle.std.specs.declared.alloc.Global.{Global};
+ghost use Rattle.postcard_wire.specs.Tree.{Byte, trees};
 ghost use Rattle.postcard_dyn_schema.specs.declared.schema.Schema.{Schema};
 ghost use Rattle.postcard_dyn_schema.specs.declared.schema.Schema.TheVariants.{Group};
 ghost use Rattle.postcard_dyn_schema.specs.Meaning.{type_of, group, no_types};
+ghost use Rattle.postcard_dyn.specs.Tree.{tree};
+ghost use Rattle.postcard_dyn_text.specs.Shown.{layout_of, layouts_of, text, texts, joined, each_by};
+ghost use Rattle.postcard_dyn_text.specs.Shown.{leaf_text, option_text, items_text, entries_text};
+ghost use Rattle.postcard_dyn_text.specs.Shown.{entry_text, parts_text, variant_text, hexadecimal};
+ghost use Rattle.postcard_dyn_text.specs.Shown.{have_names, is_empty_group, is_group, lead};
+ghost use Rattle.postcard_dyn_text.specs.Shown.{opening_of, closing_of};
 
-use postcard_dyn::{Schema, Value};
+use postcard_dyn::{Leaf, Schema, Value};
 use std::fmt;
 use std::fmt::{Display, Formatter, Write};
 
@@ -22,6 +31,8 @@ pub struct Shown<'a> {
 }
 
 impl Display for Shown<'_> {
+    ghost output = { λ s. text (layout_of s.schema.now) (tree s.value.now) };
+
     fn fmt<W: Write>(&self, f: &mut Formatter<W>) -> fmt::Result {
         show(self.schema, self.value, f)
     }
@@ -29,9 +40,12 @@ impl Display for Shown<'_> {
 
 /// Prints a value.
 #[cycle(show)]
-fn show<W: Write>(schema: &Schema, value: &Value, f: &mut Formatter<W>) -> fmt::Result {
+fn show<W: Write>(schema: &Schema, value: &Value, f: &mut Formatter<W>) -> fmt::Result
+    ensures { DisplaysOnOk W.write_str_gives f.old result
+        (text (layout_of schema.now) (tree value.now)) f.new }
+{
     match schema {
-        Schema::Leaf(_) => show_leaf(value, f),
+        Schema::Leaf(leaf) => show_leaf(*leaf, value, f),
         Schema::Option(content) => show_option(content, value, f),
         Schema::Seq(element) => match value {
             Value::Seq(items) => show_list(element, items, f),
@@ -57,7 +71,8 @@ fn show<W: Write>(schema: &Schema, value: &Value, f: &mut Formatter<W>) -> fmt::
             _ => Err(fmt::Error),
         },
         Schema::Named(name, content) => {
-            write!(f, "{name}: ")?;
+            f.write_str(name)?;
+            f.write_str(": ")?;
             show(content, value, f)
         }
     }
@@ -65,7 +80,10 @@ fn show<W: Write>(schema: &Schema, value: &Value, f: &mut Formatter<W>) -> fmt::
 
 /// Prints `None` or `Some(..)`.
 #[cycle(show)]
-fn show_option<W: Write>(content: &Schema, value: &Value, f: &mut Formatter<W>) -> fmt::Result {
+fn show_option<W: Write>(content: &Schema, value: &Value, f: &mut Formatter<W>) -> fmt::Result
+    ensures { DisplaysOnOk W.write_str_gives f.old result
+        (option_text (text (layout_of content.now)) (tree value.now)) f.new }
+{
     match value {
         Value::Absent => f.write_str("None"),
         Value::Present(held) => {
@@ -77,14 +95,25 @@ fn show_option<W: Write>(content: &Schema, value: &Value, f: &mut Formatter<W>) 
     }
 }
 
+/// Prints this text before each part but the first.
+fn separate<W: Write>(index: usize, separator: &str, f: &mut Formatter<W>) -> fmt::Result
+    ensures { WritesOnOk W.write_str_gives f.old result (lead index separator.now) f.new }
+{
+    if index == 0 {
+        return Ok(());
+    }
+    f.write_str(separator)
+}
+
 /// Prints the elements of a list or an array.
 #[cycle(show)]
-fn show_list<W: Write>(element: &Schema, items: &Vec<Value>, f: &mut Formatter<W>) -> fmt::Result {
+fn show_list<W: Write>(element: &Schema, items: &Vec<Value>, f: &mut Formatter<W>) -> fmt::Result
+    ensures { DisplaysOnOk W.write_str_gives f.old result
+        (items_text (text (layout_of element.now)) (trees (map tree items.now.items))) f.new }
+{
     f.write_str("[")?;
     for (i, item) in items.iter().enumerate() {
-        if i > 0 {
-            f.write_str(", ")?;
-        }
+        separate(i, ", ", f)?;
         show(element, item, f)?;
     }
     f.write_str("]")
@@ -92,21 +121,31 @@ fn show_list<W: Write>(element: &Schema, items: &Vec<Value>, f: &mut Formatter<W
 
 /// Prints the entries of a map.
 #[cycle(show)]
-fn show_map<W: Write>(entry: &Schema, items: &Vec<Value>, f: &mut Formatter<W>) -> fmt::Result {
+fn show_map<W: Write>(entry: &Schema, items: &Vec<Value>, f: &mut Formatter<W>) -> fmt::Result
+    ensures { DisplaysOnOk W.write_str_gives f.old result
+        (entries_text (entry_text (layout_of entry.now)) (trees (map tree items.now.items))) f.new }
+{
     f.write_str("{")?;
     for (i, item) in items.iter().enumerate() {
-        if i > 0 {
-            f.write_str(", ")?;
-        }
-        let Value::Group(pair) = item else {
-            return Err(fmt::Error);
-        };
-        match entry {
-            Schema::Group(parts) => show_parts(parts, pair, " => ", f)?,
-            _ => return Err(fmt::Error),
-        }
+        separate(i, ", ", f)?;
+        show_entry(entry, item, f)?;
     }
     f.write_str("}")
+}
+
+/// Prints an entry of a map: its key, `=>` and its value.
+#[cycle(show)]
+fn show_entry<W: Write>(entry: &Schema, item: &Value, f: &mut Formatter<W>) -> fmt::Result
+    ensures { DisplaysOnOk W.write_str_gives f.old result
+        (entry_text (layout_of entry.now) (tree item.now)) f.new }
+{
+    match entry {
+        Schema::Group(parts) => match item {
+            Value::Group(pair) => show_parts(parts, pair, " => ", f),
+            _ => Err(fmt::Error),
+        },
+        _ => Err(fmt::Error),
+    }
 }
 
 /// Prints a tuple or a struct. A `,` follows the only part of a tuple.
@@ -115,14 +154,34 @@ fn show_group<W: Write>(
     parts: &Vec<Schema>,
     items: &Vec<Value>,
     f: &mut Formatter<W>,
-) -> fmt::Result {
-    let is_struct = is_struct(parts);
-    f.write_str(if is_struct { "{" } else { "(" })?;
+) -> fmt::Result
+    ensures { DisplaysOnOk W.write_str_gives f.old result (parts_text (layouts_of parts.now.items)
+        (texts (layouts_of parts.now.items)) (trees (map tree items.now.items))) f.new }
+{
+    f.write_str(opening_of(parts))?;
     show_parts(parts, items, ", ", f)?;
-    if parts.len() == 1 && !is_struct {
-        f.write_str(",")?;
+    f.write_str(closing_of(parts))
+}
+
+/// Returns the bracket before the parts of a tuple or a struct.
+fn opening_of(parts: &Vec<Schema>) -> &'static str
+    ensures { result.now ≡ opening_of (layouts_of parts.now.items) }
+{
+    if is_struct(parts) { "{" } else { "(" }
+}
+
+/// Returns the bracket after the parts of a tuple or a struct, behind a `,` if it is the only part of
+/// a tuple.
+fn closing_of(parts: &Vec<Schema>) -> &'static str
+    ensures { result.now ≡ closing_of (layouts_of parts.now.items) }
+{
+    if is_struct(parts) {
+        "}"
+    } else if parts.len() == 1 {
+        ",)"
+    } else {
+        ")"
     }
-    f.write_str(if is_struct { "}" } else { ")" })
 }
 
 /// Prints the parts in order, with this text between two of them.
@@ -132,14 +191,15 @@ fn show_parts<W: Write>(
     items: &Vec<Value>,
     between: &str,
     f: &mut Formatter<W>,
-) -> fmt::Result {
+) -> fmt::Result
+    ensures { DisplaysOnOk W.write_str_gives f.old result (joined between.now
+        (each_by (texts (layouts_of parts.now.items)) (trees (map tree items.now.items)))) f.new }
+{
     if parts.len() != items.len() {
         return Err(fmt::Error);
     }
     for (i, item) in items.iter().enumerate() {
-        if i > 0 {
-            f.write_str(between)?;
-        }
+        separate(i, between, f)?;
         match parts.get(i) {
             Some(part) => show(part, item, f)?,
             None => return Err(fmt::Error),
@@ -150,7 +210,10 @@ fn show_parts<W: Write>(
 
 /// Prints a variant's name and its content.
 #[cycle(show)]
-fn show_variant<W: Write>(variant: &Schema, content: &Value, f: &mut Formatter<W>) -> fmt::Result {
+fn show_variant<W: Write>(variant: &Schema, content: &Value, f: &mut Formatter<W>) -> fmt::Result
+    ensures { DisplaysOnOk W.write_str_gives f.old result
+        (variant_text (layout_of variant.now) (tree content.now)) f.new }
+{
     let Schema::Named(name, schema) = variant else {
         return Err(fmt::Error);
     };
@@ -167,13 +230,16 @@ fn show_variant<W: Write>(variant: &Schema, content: &Value, f: &mut Formatter<W
 }
 
 /// Returns whether parts are those of a struct, which have names.
-pub fn is_struct(parts: &Vec<Schema>) -> bool {
+pub fn is_struct(parts: &Vec<Schema>) -> bool
+    ensures { result ≡ have_names (layouts_of parts.now.items) }
+{
     matches!(parts.first(), Some(Schema::Named(_, _)))
 }
 
 /// Returns whether a variant's content of this type prints no text.
 pub fn is_unit(schema: &Schema) -> bool
-    ensures { result ≡ true → type_of schema.now ≡ group no_types }
+    ensures empty { result ≡ is_empty_group (layout_of schema.now) }
+    ensures unit { result ≡ true → type_of schema.now ≡ group no_types }
 {
     match schema {
         Schema::Group(parts) => parts.is_empty(),
@@ -183,6 +249,7 @@ pub fn is_unit(schema: &Schema) -> bool
 
 /// Returns whether values of the type are in brackets of their own after a variant's name.
 pub fn has_brackets(schema: &Schema) -> bool
+    ensures brackets { result ≡ is_group (layout_of schema.now) }
     ensures group { result ≡ true → (parts : Vec Schema Global) × (schema.now ≡ Group parts) }
     ensures other { result ≡ false → (parts : Vec Schema Global) → schema.now ≡ Group parts → ⊥ }
 {
@@ -193,31 +260,54 @@ pub fn has_brackets(schema: &Schema) -> bool
 }
 
 /// Prints a value without parts.
-fn show_leaf<W: Write>(value: &Value, f: &mut Formatter<W>) -> fmt::Result {
-    match value {
-        Value::Bool(x) => write!(f, "{x}"),
-        Value::U8(n) => write!(f, "{n}"),
-        Value::U16(n) => write!(f, "{n}"),
-        Value::U32(n) => write!(f, "{n}"),
-        Value::U64(n) => write!(f, "{n}"),
-        Value::U128(n) => write!(f, "{n}"),
-        Value::I8(n) => write!(f, "{n}"),
-        Value::I16(n) => write!(f, "{n}"),
-        Value::I32(n) => write!(f, "{n}"),
-        Value::I64(n) => write!(f, "{n}"),
-        Value::I128(n) => write!(f, "{n}"),
-        Value::Char(c) => write!(f, "{c:?}"),
-        Value::Str(text) => write!(f, "{text:?}"),
-        Value::Bytes(held) => show_bytes(held, f),
+fn show_leaf<W: Write>(leaf: Leaf, value: &Value, f: &mut Formatter<W>) -> fmt::Result
+    ensures { DisplaysOnOk W.write_str_gives f.old result (leaf_text leaf (tree value.now)) f.new }
+{
+    match (leaf, value) {
+        (Leaf::Bool, Value::Bool(x)) => write!(f, "{x}"),
+        (Leaf::U8, Value::U8(n)) => write!(f, "{n}"),
+        (Leaf::U16, Value::U16(n)) => write!(f, "{n}"),
+        (Leaf::U32, Value::U32(n)) => write!(f, "{n}"),
+        (Leaf::U64, Value::U64(n)) => write!(f, "{n}"),
+        (Leaf::U128, Value::U128(n)) => write!(f, "{n}"),
+        (Leaf::I8, Value::I8(n)) => show_i8(*n, f),
+        (Leaf::I16, Value::I16(n)) => write!(f, "{n}"),
+        (Leaf::I32, Value::I32(n)) => write!(f, "{n}"),
+        (Leaf::I64, Value::I64(n)) => write!(f, "{n}"),
+        (Leaf::I128, Value::I128(n)) => write!(f, "{n}"),
+        (Leaf::Char, Value::Char(c)) => write!(f, "{c:?}"),
+        (Leaf::Str, Value::Str(text)) => write!(f, "{text:?}"),
+        (Leaf::Bytes, Value::Bytes(held)) => show_bytes(held, f),
         _ => Err(fmt::Error),
     }
 }
 
+/// Prints a number of 8 bits, whose tree is the byte of its two's complement.
+fn show_i8<W: Write>(n: i8, f: &mut Formatter<W>) -> fmt::Result
+    ensures { WritesOnOk W.write_str_gives f.old result
+        (signed_decimal (cast_signed w8 (cast_unsigned w8 n))) f.new }
+{
+    write!(f, "{n}")
+}
+
 /// Prints bytes as `0x` and two lower-case digits a byte.
-fn show_bytes<W: Write>(held: &Vec<u8>, f: &mut Formatter<W>) -> fmt::Result {
+fn show_bytes<W: Write>(held: &Vec<u8>, f: &mut Formatter<W>) -> fmt::Result
+    ensures { WritesOnOk W.write_str_gives f.old result
+        (codes "0x" ++ hexadecimal (trees (map Byte held.now.items))) f.new }
+{
     f.write_str("0x")?;
     for byte in held {
-        write!(f, "{byte:02x}")?;
+        show_byte(*byte, f)?;
     }
     Ok(())
+}
+
+/// Prints a byte as two lower-case hexadecimal digits.
+fn show_byte<W: Write>(byte: u8, f: &mut Formatter<W>) -> fmt::Result
+    ensures { WritesOnOk W.write_str_gives f.old result
+        (digits 16 false (byte / 16) ++ digits 16 false (byte % 16)) f.new }
+{
+    let high = byte / 16;
+    let low = byte % 16;
+    write!(f, "{high:x}{low:x}")
 }
