@@ -213,7 +213,7 @@ fn read_on<T: DeserializeOwned, const N: usize>(
 }
 
 /// No answer is lost, whichever request for memory is refused. A test that meets a refusal prints
-/// the line that `checks/refused-memory` looks for.
+/// a line, which `rt try --test --fail-alloc N` shows.
 #[test]
 fn refused_answers(rt: HostRuntime) -> Result<(), Fail> {
     let mut acc = CobsAccumulator::<4>::new();
