@@ -16,23 +16,31 @@ use crate::program::BUFFER;
 use postcard::Error;
 use postcard::de_flavors::Source;
 use postcard::ser_flavors::HVec;
-use postcard_dyn::{Schema, parse, refused_at, take_from_bytes, to_flavor};
+use postcard_dyn::{Problem, Schema, parse, refused_at, take_from_bytes, to_flavor};
 use postcard_dyn_text::{Shown, TextError, read_text};
 use std::alloc::Global;
 use std::io::Write;
 
 /// Reads a type expression. If it is misspelled, prints what is wrong and where.
+///
+/// # Errors
+///
+/// Fails with `BadType` if it is misspelled, and with `Library(OutOfMemory)` if an allocation fails.
 pub fn schema_of<W: Write>(alloc: Global, text: &str, output: &mut W) -> Result<Schema, Failure>
     ensures spelled { IfOk result (λ schema. IsExpression schema text.now) }
     ensures untouched { OnOk result (output.new ≡ output.old) }
-    ensures refused { IfErr result (λ e. (e ≡ Failure.BadType) ⊎ (e ≡ Failure.Output)) }
+    ensures refused { IfErr result (λ e. (e ≡ Failure.BadType) ⊎ (e ≡ Failure.Output)
+        ⊎ (e ≡ Failure.Library Error.OutOfMemory)) }
 {
     match parse(alloc, text) {
         Ok(schema) => Ok(schema),
-        Err(error) => {
-            write!(output, "{error}: ")?;
-            Err(Failure::BadType)
-        }
+        Err(error) => match error.problem {
+            Problem::OutOfMemory => Err(Failure::from(Error::OutOfMemory)),
+            _ => {
+                write!(output, "{error}: ")?;
+                Err(Failure::BadType)
+            }
+        },
     }
 }
 

@@ -5,6 +5,7 @@ ghost use Rattle.std.specs.Prelude.{◌≢◌, IfErr};
 use crate::failure::Failure;
 use crate::frames::{CHUNK, LONGEST_FRAME, READS};
 use crate::message::schema_of;
+use postcard::Error;
 use postcard::de_flavors::Source;
 use postcard_cobs::decode_in_place;
 use postcard_dyn::{Schema, take_from_bytes};
@@ -85,7 +86,8 @@ fn feed<W: Write>(
     Ok(())
 }
 
-/// Prints the value of a frame without its zero, or `error`.
+/// Prints the value of a frame without its zero, or `error`. Fails with `OutOfMemory` if an
+/// allocation for the value fails.
 fn print_frame<W: Write>(
     alloc: Global,
     schema: &Schema,
@@ -95,13 +97,17 @@ fn print_frame<W: Write>(
     ensures { IfErr result (λ e. e ≢ Failure.Usage) }
 {
     if let Ok(length) = decode_in_place(frame) {
-        if let Ok((value, _)) = take_from_bytes(alloc, schema, &frame[..length]) {
-            let shown = Shown {
-                schema,
-                value: &value,
-            };
-            writeln!(output, "{shown}")?;
-            return Ok(());
+        match take_from_bytes(alloc, schema, &frame[..length]) {
+            Ok((value, _)) => {
+                let shown = Shown {
+                    schema,
+                    value: &value,
+                };
+                writeln!(output, "{shown}")?;
+                return Ok(());
+            }
+            Err(Error::OutOfMemory) => return Err(Failure::OutOfMemory),
+            Err(_) => {}
         }
     }
     output.write_all(b"error\n")?;
