@@ -141,7 +141,7 @@ fn print_front<'a, W: Write>(
         }
         Err(error) => {
             let before = all.len().saturating_sub(rest.len());
-            let offset = before.saturating_add(refused_at(alloc, schema, rest));
+            let offset = before.saturating_add(refused_at(alloc, schema, rest)?);
             write!(output, "at byte {offset}: ")?;
             Err(Failure::from(error))
         }

@@ -1,24 +1,30 @@
 //! Where in a message a part was refused.
 
-ghost use Rattle.std.specs.Prelude.{◌≤◌, length};
+ghost use Rattle.std.specs.Prelude.{◌≡◌, ◌≤◌, length, IfOk, IfErr};
 
 use crate::calls::take_from_bytes;
 use postcard_dyn_schema::Schema;
+use postcard_wire::{Error, Result};
 use std::alloc::Global;
 
 /// Returns the offset in bytes of the part that [`take_from_bytes`] refuses: of the leaf, the option's
 /// byte, the count or the index that it can't read.
 ///
 /// The bytes are such that `take_from_bytes` fails with another error than `OutOfMemory`.
+///
+/// # Errors
+///
+/// Fails with `OutOfMemory` if an allocation for a value before that part fails.
 #[cycle(locate)]
-pub fn refused_at(alloc: Global, schema: &Schema, bytes: &[u8]) -> usize
-    ensures { result ≤ length bytes.now }
+pub fn refused_at(alloc: Global, schema: &Schema, bytes: &[u8]) -> Result<usize>
+    ensures within { IfOk result (λ place. place ≤ length bytes.now) }
+    ensures refused { IfErr result (λ e. e ≡ Error.OutOfMemory) }
 {
     match schema {
-        Schema::Leaf(_) => 0,
+        Schema::Leaf(_) => Ok(0),
         Schema::Option(content) => match bytes {
-            [1, rest @ ..] => refused_at(alloc, content, rest) + 1,
-            _ => 0,
+            [1, rest @ ..] => Ok(refused_at(alloc, content, rest)? + 1),
+            _ => Ok(0),
         },
         Schema::Seq(element) => refused_behind_count(alloc, element, bytes),
         Schema::Map(entry) => refused_behind_count(alloc, entry, bytes),
@@ -31,68 +37,74 @@ pub fn refused_at(alloc: Global, schema: &Schema, bytes: &[u8]) -> usize
 
 /// Returns the offset of what is refused of a list.
 #[cycle(locate)]
-fn refused_behind_count(alloc: Global, element: &Schema, bytes: &[u8]) -> usize
-    ensures { result ≤ length bytes.now }
+fn refused_behind_count(alloc: Global, element: &Schema, bytes: &[u8]) -> Result<usize>
+    ensures within { IfOk result (λ place. place ≤ length bytes.now) }
+    ensures refused { IfErr result (λ e. e ≡ Error.OutOfMemory) }
 {
     match postcard::take_from_bytes::<u64>(alloc, bytes) {
         Ok((_, rest)) => {
-            let offset = refused_element(alloc, element, rest);
-            behind(bytes, rest, offset)
+            let offset = refused_element(alloc, element, rest)?;
+            Ok(behind(bytes, rest, offset))
         }
-        Err(_) => 0,
+        Err(_) => Ok(0),
     }
 }
 
 /// Returns the offset of what is refused of elements in a row.
 #[cycle(locate)]
-fn refused_element(alloc: Global, element: &Schema, bytes: &[u8]) -> usize
-    ensures { result ≤ length bytes.now }
+fn refused_element(alloc: Global, element: &Schema, bytes: &[u8]) -> Result<usize>
+    ensures within { IfOk result (λ place. place ≤ length bytes.now) }
+    ensures refused { IfErr result (λ e. e ≡ Error.OutOfMemory) }
 {
     let mut rest = bytes;
     for _ in 0..bytes.len() {
         match take_from_bytes(alloc, element, rest) {
             Ok((_, after)) => rest = after,
+            Err(Error::OutOfMemory) => return Err(Error::OutOfMemory),
             Err(_) => {
-                let offset = refused_at(alloc, element, rest);
-                return behind(bytes, rest, offset);
+                let offset = refused_at(alloc, element, rest)?;
+                return Ok(behind(bytes, rest, offset));
             }
         }
     }
-    bytes.len()
+    Ok(bytes.len())
 }
 
 /// Returns the offset of what is refused of parts in a row.
 #[cycle(locate)]
-fn refused_part(alloc: Global, parts: &Vec<Schema>, bytes: &[u8]) -> usize
-    ensures { result ≤ length bytes.now }
+fn refused_part(alloc: Global, parts: &Vec<Schema>, bytes: &[u8]) -> Result<usize>
+    ensures within { IfOk result (λ place. place ≤ length bytes.now) }
+    ensures refused { IfErr result (λ e. e ≡ Error.OutOfMemory) }
 {
     let mut rest = bytes;
     for part in parts {
         match take_from_bytes(alloc, part, rest) {
             Ok((_, after)) => rest = after,
+            Err(Error::OutOfMemory) => return Err(Error::OutOfMemory),
             Err(_) => {
-                let offset = refused_at(alloc, part, rest);
-                return behind(bytes, rest, offset);
+                let offset = refused_at(alloc, part, rest)?;
+                return Ok(behind(bytes, rest, offset));
             }
         }
     }
-    bytes.len()
+    Ok(bytes.len())
 }
 
 /// Returns the offset of what is refused of an enum.
 #[cycle(locate)]
-fn refused_content(alloc: Global, variants: &Vec<Schema>, bytes: &[u8]) -> usize
-    ensures { result ≤ length bytes.now }
+fn refused_content(alloc: Global, variants: &Vec<Schema>, bytes: &[u8]) -> Result<usize>
+    ensures within { IfOk result (λ place. place ≤ length bytes.now) }
+    ensures refused { IfErr result (λ e. e ≡ Error.OutOfMemory) }
 {
     match postcard::take_from_bytes::<u32>(alloc, bytes) {
         Ok((index, rest)) => match variants.get(index as usize) {
             Some(variant) => {
-                let offset = refused_at(alloc, variant, rest);
-                behind(bytes, rest, offset)
+                let offset = refused_at(alloc, variant, rest)?;
+                Ok(behind(bytes, rest, offset))
             }
-            None => 0,
+            None => Ok(0),
         },
-        Err(_) => 0,
+        Err(_) => Ok(0),
     }
 }
 

@@ -84,7 +84,8 @@ fn check(rt: &(impl Abort + AllocGlobal), schema: &Schema, message: &[u8]) -> Re
                     | Error::SerdeDeCustom
             );
             assert!(rt; named, "{error}");
-            assert!(rt; refused_at(rt.alloc(), schema, message) <= message.len());
+            let place = refused_at(rt.alloc(), schema, message)?;
+            assert!(rt; place <= message.len());
             Ok(false)
         }
     }
@@ -140,7 +141,7 @@ fn tells_the_place(rt: HostRuntime) -> Result<(), Fail> {
         );
         assert_eq!(rt;
             refused_at(rt.alloc(), &schema, message),
-            wanted,
+            Ok(wanted),
             "{expression}"
         );
     }
