@@ -73,6 +73,7 @@ fn of_maps_and_lists_of_numbers(rt: HostRuntime) -> Result<(), Fail> {
     let mut map = BTreeMap::new(rt.alloc());
     for count in 0..=600u16 {
         let bytes = to_allocvec(rt.alloc(), &list)?;
+        assert_eq!(rt; to_extend(&list, Vec::new(rt.alloc()))?, bytes, "{count}");
         comes_back(&rt, &mut acc, &list, &bytes)?;
         let bytes = to_allocvec(rt.alloc(), &map)?;
         comes_back(&rt, &mut acc, &map, &bytes)?;

@@ -37,33 +37,63 @@ fn number_alone(bytes: &[u8]) -> &[u8] {
     }
 }
 
-/// Reads and writes each row as the number that `of` gives.
-fn assert_short<T: Serialize + for<'a> Deserialize<'a> + PartialEq + Debug>(
+/// The bytes are read as the number, and it is written as them.
+fn assert_shortest<'a, T: Serialize + Deserialize<'a> + PartialEq + Debug>(
     rt: &(impl Abort + AllocGlobal),
-    of: fn(u16, i16) -> T,
+    bytes: &'a [u8],
+    number: T,
 ) {
-    for (bytes, unsigned, signed) in SHORTEST {
-        assert_reads(rt, bytes, of(unsigned, signed), BEHIND);
-        assert_written(rt, &of(unsigned, signed), number_alone(bytes));
-    }
-    for (bytes, unsigned, signed) in PADDED {
-        assert_reads(rt, bytes, of(unsigned, signed), BEHIND);
-    }
+    assert_written(rt, &number, number_alone(bytes));
+    assert_reads(rt, bytes, number, BEHIND);
+}
+
+/// No number is read of a front of one.
+fn assert_cut<'a, T: Deserialize<'a>>(rt: &(impl Abort + AllocGlobal)) {
     for bytes in CUT {
         assert_refused::<T>(rt, bytes, Error::DeserializeUnexpectedEnd);
     }
 }
 
+/// Reads and writes each row as a number of the unsigned type.
+fn assert_unsigned<'a, T: Serialize + Deserialize<'a> + PartialEq + Debug + From<u16>>(
+    rt: &(impl Abort + AllocGlobal),
+) {
+    for (bytes, unsigned, _) in SHORTEST {
+        assert_shortest(rt, bytes, T::from(unsigned));
+    }
+    for (bytes, unsigned, _) in PADDED {
+        assert_reads(rt, bytes, T::from(unsigned), BEHIND);
+    }
+    assert_cut::<T>(rt);
+}
+
+/// Reads and writes each row as a number of the signed type.
+fn assert_signed<'a, T: Serialize + Deserialize<'a> + PartialEq + Debug + From<i16>>(
+    rt: &(impl Abort + AllocGlobal),
+) {
+    for (bytes, _, signed) in SHORTEST {
+        assert_shortest(rt, bytes, T::from(signed));
+    }
+    for (bytes, _, signed) in PADDED {
+        assert_reads(rt, bytes, T::from(signed), BEHIND);
+    }
+    assert_cut::<T>(rt);
+}
+
 #[test]
-fn of_each_width(rt: HostRuntime) {
-    assert_short::<u16>(&rt, |unsigned, _| unsigned);
-    assert_short::<u32>(&rt, |unsigned, _| unsigned.into());
-    assert_short::<u64>(&rt, |unsigned, _| unsigned.into());
-    assert_short::<u128>(&rt, |unsigned, _| unsigned.into());
-    assert_short::<usize>(&rt, |unsigned, _| unsigned.into());
-    assert_short::<i16>(&rt, |_, signed| signed);
-    assert_short::<i32>(&rt, |_, signed| signed.into());
-    assert_short::<i64>(&rt, |_, signed| signed.into());
-    assert_short::<i128>(&rt, |_, signed| signed.into());
-    assert_short::<isize>(&rt, |_, signed| signed.into());
+fn of_each_unsigned_type(rt: HostRuntime) {
+    assert_unsigned::<u16>(&rt);
+    assert_unsigned::<u32>(&rt);
+    assert_unsigned::<u64>(&rt);
+    assert_unsigned::<u128>(&rt);
+    assert_unsigned::<usize>(&rt);
+}
+
+#[test]
+fn of_each_signed_type(rt: HostRuntime) {
+    assert_signed::<i16>(&rt);
+    assert_signed::<i32>(&rt);
+    assert_signed::<i64>(&rt);
+    assert_signed::<i128>(&rt);
+    assert_signed::<isize>(&rt);
 }
