@@ -1,5 +1,5 @@
-/* Measures the exports of crates/postcard_bench: `speed` has the time of an item or of a byte, `growth`
- * the time of an item over longer and longer lists, and `memory` what is asked of the allocator. */
+/* Measures the exports of crates/postcard_bench: `speed` prints the time of an item or of a byte, `growth`
+ * the time of an item over longer and longer lists, and `memory` the memory that is requested. */
 #include <inttypes.h>
 #include <stdint.h>
 #include <stdio.h>
@@ -21,15 +21,15 @@ uint64_t port_cobs_decode(uint8_t *frame, size_t size);
 uint64_t port_accumulate(const uint8_t *stream, size_t size, size_t piece);
 uint64_t port_hostile(uint32_t kind, const uint8_t *bytes, size_t size);
 
-/* What was asked of the allocator since `forget`: requests, the largest of them, all of them summed,
- * the bytes that are held, and the most that were. */
+/* The memory that was requested since `forget`: the number of requests, the bytes of the largest and
+ * of all of them, the bytes that are held, and the most that were held at once. */
 static struct { uint64_t requests, largest, asked; int64_t held, peak; } memory;
 
 void *__real_malloc(size_t size);
 void *__real_realloc(void *old, size_t size);
 void __real_free(void *old);
 
-/* In front of each block stands its size, in 16 bytes, so that blocks stay aligned. */
+/* The size of a block is kept in the 16 bytes before it, so that blocks stay aligned. */
 static void *counted(void *block, size_t old, size_t size) {
     memory.requests += 1;
     memory.asked += size;
@@ -157,7 +157,7 @@ static void speed_of_frames(uint8_t zero_every) {
     snprintf(row, sizeof row, zero_every ? "16 MiB, a zero at each %dth byte: frame" : "16 MiB without a zero: frame", zero_every);
     BEST(best, port_cobs_encode(source, MOST, room, 2 * MOST));
     tell_bytes(row, best);
-    /* decoding is in place, so each run has a frame of its own */
+    /* Decoding is in place, so each run has a frame of its own. */
     size_t size = port_cobs_encode(source, MOST, room, 2 * MOST);
     uint8_t *frame = malloc(size);
     best = 1e300;
@@ -201,7 +201,7 @@ static void growth(void) {
     }
 }
 
-/* Prints what was asked for since `forget`. Fails if something is still held, or if a request is larger than `limit`. */
+/* Prints the memory requested since `forget`. Fails if some is still held, or if a request is larger than `limit`. */
 static void told(const char *row, uint64_t limit) {
     printf("%-44s %6" PRIu64 " requests, largest %9" PRIu64 ", in all %9" PRIu64 ", most held %9" PRId64 "\n", row, memory.requests, memory.largest, memory.asked, memory.peak);
     if (memory.held) fail("memory was not given back");
@@ -229,7 +229,7 @@ static void memory_of_lists(void) {
     }
 }
 
-/* A count of 2^63 - 1, of 2^40 or of 300, and then three bytes, as each of the growing types. */
+/* Decodes a count of 2^63 - 1, of 2^40 or of 300, and then three bytes, as each of the growing types. */
 static void memory_of_hostile_counts(void) {
     static const uint8_t counts[3][12] = {
         {0xff, 0xff, 0xff, 0xff, 0xff, 0xff, 0xff, 0xff, 0x7f, 1, 1, 1},

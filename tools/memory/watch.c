@@ -1,8 +1,7 @@
-/* Loaded into a program by LD_PRELOAD, it watches what the program asks of the allocator, if WATCH_PROGRAM is its name:
+/* Loaded into a program by LD_PRELOAD, it watches the program's allocations, if WATCH_PROGRAM is the program's name:
  *
- * - The request with the number WATCH_REFUSE is refused, counted from 1; then a byte is added to the file WATCH_REFUSED.
- * - At the end each block must have been given back: otherwise the program ends with the status 97. With WATCH_KEPT blocks may be
- *   kept.
+ * - The allocation with the number WATCH_REFUSE, counted from 1, is refused, and a byte is added to the file WATCH_REFUSED.
+ * - If a block isn't freed at the end, the program ends with the status 97. With WATCH_KEPT blocks may be kept.
  *
  * It includes no header, so that a compiler without any can build it. */
 typedef __SIZE_TYPE__ size_t;
@@ -37,7 +36,7 @@ static void say(int file, const char *text) {
     if (write(file, text, size) < 0) _exit(LEAKED);
 }
 
-/* Whether the next request is the one to refuse. */
+/* Returns whether the next allocation is the one to refuse. */
 static int refused(void) {
     if (!state.watches || ++state.requests != state.refuse) return 0;
     const char *path = getenv("WATCH_REFUSED");
@@ -48,7 +47,7 @@ static int refused(void) {
     return 1;
 }
 
-/* A new block, if there is one, is held. */
+/* Counts a new block, if there is one, as held, and returns it. */
 static void *held(void *block) {
     if (state.watches && block) __atomic_add_fetch(&state.held, 1, __ATOMIC_SEQ_CST);
     return block;

@@ -1,8 +1,8 @@
-//! The device: it decodes a request in the buffer that holds its frame, and encodes the reply.
+//! The device, which decodes a request in the buffer that holds its frame, and encodes the reply.
 
 ghost use Rattle.std.specs.Prelude.{◌≡◌, IfOk, MatchResult};
 ghost use Rattle.postcard_cobs.specs.Groups.{before_zero, made};
-ghost use Rattle.postcard_wire.specs.Spelling.{bytes};
+ghost use Rattle.postcard_wire.specs.Spelling.{canonical};
 ghost use Rattle.postcard_frame.specs.Frame.{ReadsFrame};
 ghost use Rattle.example_call.specs.Device.{IsReplyTo};
 ghost use Rattle.example_call.specs.declared.message.Reply.{Reply};
@@ -12,7 +12,7 @@ use crate::message::{Refusal, Reply, Request};
 use postcard::{Result, Shaped, from_bytes_cobs, to_slice_cobs};
 use std::alloc::Global;
 
-/// Returns the reply to a request, or the refusal of bytes that are none.
+/// Returns the reply to a request, or `Refused(NotUnderstood)` if no request was decoded.
 fn reply_to<'a>(request: Result<Request<'a>>) -> Reply<'a>
     ensures { MatchResult request.entry (λ asked. IsReplyTo asked result)
         (λ _. result ≡ Reply.Refused Refusal.NotUnderstood) }
@@ -28,21 +28,23 @@ fn reply_to<'a>(request: Result<Request<'a>>) -> Reply<'a>
     }
 }
 
-/// Replies to the frame of a request, and returns the frame of the reply, which is in `buffer`.
+/// Decodes the request in a frame, encodes the reply as a frame into `buffer`, and returns that
+/// frame. The reply to a frame without a request is `Refused(NotUnderstood)`. The request is
+/// decoded in place, which changes the bytes of its frame.
 ///
 /// # Errors
 ///
-/// Fails with `SerializeBufferFull` if the reply has no room in `buffer`.
+/// Fails with `SerializeBufferFull` if `buffer` is too short for the reply's frame.
 pub fn answer<'b>(alloc: Global, request: &mut [u8], buffer: &'b mut [u8]) -> Result<&'b mut [u8]>
     ensures replies { (asked : Request) → ⟦<Request<'static> as Shaped>⟧.shape.fits asked
         → before_zero request.old
-        ≡ before_zero (made (bytes (⟦<Request<'static> as Shaped>⟧.shape.tree asked)))
+        ≡ before_zero (made (canonical (⟦<Request<'static> as Shaped>⟧.shape.tree asked)))
         → IfOk result (λ frame. (reply : Reply) × IsReplyTo asked reply
         × ⟦<Reply<'static> as Shaped>⟧.shape.fits reply
-        × (frame.now ≡ made (bytes (⟦<Reply<'static> as Shaped>⟧.shape.tree reply)))) }
+        × (frame.now ≡ made (canonical (⟦<Reply<'static> as Shaped>⟧.shape.tree reply)))) }
     ensures refuses { ((asked : Request) → ReadsFrame ⟦<Request<'static> as Shaped>⟧.shape.reads
         ⟦<Request<'static> as Shaped>⟧.shape.value (before_zero request.old) asked → ⊥)
-        → IfOk result (λ frame. frame.now ≡ made (bytes
+        → IfOk result (λ frame. frame.now ≡ made (canonical
         (⟦<Reply<'static> as Shaped>⟧.shape.tree (Reply.Refused Refusal.NotUnderstood)))) }
 {
     let reply = reply_to(from_bytes_cobs(alloc, request));

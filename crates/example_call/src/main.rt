@@ -1,12 +1,12 @@
-//! A remote call: a client asks a device for something by a frame, and the device replies.
+//! A remote call: a client sends a request to a device as a frame, and the device replies.
 //!
-//! Client and device know the same messages, and each has a buffer. Here both stand in one program;
-//! on a link the bytes of the buffers go over the wire.
+//! Client and device know the same messages, and each has a buffer. Here both are in one program;
+//! on a link, the bytes of the buffers would go over the wire.
 #![tactic(auto)]
 
 ghost use Rattle.std.specs.Prelude.{◌≡◌, IfOk};
 ghost use Rattle.postcard_cobs.specs.Groups.{before_zero, made};
-ghost use Rattle.postcard_wire.specs.Spelling.{bytes};
+ghost use Rattle.postcard_wire.specs.Spelling.{canonical};
 ghost use Rattle.example_call.specs.Device.{IsReplyTo};
 ghost use Rattle.example_call.specs.declared.message.Request.{Request};
 
@@ -17,11 +17,11 @@ use anyhow::Result;
 use message::{Reply, Request};
 use postcard::{Shaped, from_bytes_cobs, to_slice_cobs};
 
-/// The size of a buffer in bytes, which bounds a frame.
+/// The size of a buffer in bytes, and so the greatest size of a frame.
 const BUFFER: usize = 32;
 
-/// Hands a frame to the device, and returns the reply, which is lent from `buffer`. Prints the
-/// frames and the reply.
+/// Passes a frame to the device, and returns the reply, which borrows from `buffer`. Prints both
+/// frames and the reply. To the frame of a request, the reply is the one of this request.
 fn exchange<'a>(
     rt: &(impl Print + AllocGlobal),
     frame: &mut [u8],
@@ -29,7 +29,7 @@ fn exchange<'a>(
 ) -> Result<Reply<'a>>
     ensures { (asked : Request) → ⟦<Request<'static> as Shaped>⟧.shape.fits asked
         → before_zero frame.old
-        ≡ before_zero (made (bytes (⟦<Request<'static> as Shaped>⟧.shape.tree asked)))
+        ≡ before_zero (made (canonical (⟦<Request<'static> as Shaped>⟧.shape.tree asked)))
         → IfOk result (IsReplyTo asked) }
 {
     println!(rt; "  sent {frame:?}")?;
@@ -40,7 +40,7 @@ fn exchange<'a>(
     Ok(reply)
 }
 
-/// Asks the device for something, and returns its reply.
+/// Sends a request to the device, and returns the reply to it, which borrows from `buffer`.
 fn ask<'a>(
     rt: &(impl Print + AllocGlobal),
     request: &Request,

@@ -1,4 +1,4 @@
-//! What a client asks of a device, and what the device replies.
+//! The requests of a client and the replies of a device.
 
 ghost use Rattle.example_call.specs.declared.message.Refusal.{Refusal};
 ghost use Rattle.example_call.specs.declared.message.Reply.{Reply};
@@ -9,19 +9,19 @@ use postcard::{
     Case, FromRepr, NoCase, Repr, Result, SerializeRepr, Serializer, serialize_variant,
 };
 
-/// What a client asks of a device.
+/// A request to a device.
 #[derive(Debug, Drop, PartialEq)]
 pub enum Request<'a> {
-    /// Whether the device is there.
+    /// Asks whether the device is there.
     Ping,
-    /// The sum of two numbers.
+    /// Asks for the sum of two numbers.
     Add {
         /// The first number.
         left: u32,
         /// The second number.
         right: u32,
     },
-    /// The same text again.
+    /// Asks for the same text again.
     Echo(&'a str),
 }
 
@@ -58,7 +58,7 @@ impl SerializeRepr for Request<'_> {
     }
 }
 
-/// Why a device refuses a request.
+/// The reason for which a device refuses a request.
 #[derive(Debug, Drop, PartialEq)]
 pub enum Refusal {
     /// The sum is 2^32 or more.
@@ -97,16 +97,16 @@ impl SerializeRepr for Refusal {
     }
 }
 
-/// What a device replies.
+/// A reply of a device.
 #[derive(Debug, Drop, PartialEq)]
 pub enum Reply<'a> {
-    /// It is there.
+    /// The reply to `Ping`.
     Pong,
-    /// The sum.
+    /// The reply to `Add`: the sum of the two numbers.
     Sum(u32),
-    /// The text.
+    /// The reply to `Echo`: the text of the request.
     Text(&'a str),
-    /// It does not do what it was asked.
+    /// The request is refused, for this reason.
     Refused(Refusal),
 }
 

@@ -1,4 +1,4 @@
-//! What a sensor reports over the link.
+//! The events that a device reports over the link.
 
 ghost use Rattle.example_link.specs.declared.event.Event.{Event};
 
@@ -7,10 +7,10 @@ use postcard::{
     Case, FromRepr, NoCase, Repr, Result, Serialize, SerializeRepr, Serializer, serialize_variant,
 };
 
-/// What a sensor measured.
+/// A measurement of a sensor.
 #[derive(Debug, Drop, PartialEq)]
 pub struct Reading {
-    /// The sensor.
+    /// The number of the sensor.
     pub sensor: u16,
     /// The temperature, in hundredths of a degree Celsius.
     pub temperature: i16,
@@ -37,18 +37,18 @@ impl SerializeRepr for Reading {
     }
 }
 
-/// What a device reports.
+/// A report of a device.
 #[derive(Debug, Drop, PartialEq)]
 pub enum Event {
-    /// It started.
+    /// The device started.
     Boot,
-    /// It measured.
+    /// The device took this measurement.
     Measured(Reading),
-    /// It failed.
+    /// The device failed.
     Fault {
         /// The number of the fault.
         code: u8,
-        /// The fault in words.
+        /// A description of the fault.
         text: String,
     },
 }

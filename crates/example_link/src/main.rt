@@ -25,13 +25,13 @@ use event::{Event, Reading};
 use postcard::accumulator::{CobsAccumulator, FeedResult};
 use std::io::Read;
 
-/// The most bytes of a frame, with its zero.
+/// The greatest number of bytes of a frame, its zero included.
 const LONGEST_FRAME: usize = 24;
 
-/// The most bytes that are read at once.
+/// The greatest number of bytes of one read.
 const CHUNK: usize = 8;
 
-/// Prints an event.
+/// Prints an event on a line.
 fn print_event(rt: &impl Print, event: &Event) -> Result<()> {
     match event {
         Event::Boot => println!(rt; "boot")?,
@@ -46,7 +46,8 @@ fn print_event(rt: &impl Print, event: &Event) -> Result<()> {
     Ok(())
 }
 
-/// Feeds a piece of the stream, and prints a line for each frame that ends in it or has no room.
+/// Feeds a piece of the stream to the accumulator, and prints a line for each frame that ends in
+/// the piece, and for each oversized one as soon as it has no room.
 fn feed(
     rt: &(impl Print + AllocGlobal),
     accumulator: &mut CobsAccumulator<LONGEST_FRAME>,

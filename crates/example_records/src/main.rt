@@ -1,4 +1,4 @@
-//! A record file: records are appended one after another, and read one by one until the end. The
+//! A file of records: they are appended one after another, and read one by one until the end. The
 //! last one is unfinished, as after a loss of power.
 #![tactic(auto)]
 
@@ -15,10 +15,10 @@ use std::io::{BufRead, BufReader, Write};
 /// The name of the file.
 const PATH: &str = "tank.records";
 
-/// The most bytes of a note.
+/// The greatest number of bytes of a note.
 const LONGEST_NOTE: usize = 32;
 
-/// Makes the file, with two records.
+/// Creates the file with two records.
 fn make(rt: &HostRuntime) -> Result<()> {
     let file = append(
         fs::create(rt, PATH)?,
@@ -39,7 +39,7 @@ fn make(rt: &HostRuntime) -> Result<()> {
     Ok(())
 }
 
-/// Opens the file again, and appends a record and half of one.
+/// Opens the file again, and appends a record and the first half of another.
 fn go_on(rt: &HostRuntime) -> Result<()> {
     let file = OpenOptions::new().append(true).open(rt, PATH)?;
     let low = Record {
@@ -60,7 +60,7 @@ fn go_on(rt: &HostRuntime) -> Result<()> {
     Ok(())
 }
 
-/// Prints the records of a file.
+/// Prints the records of a file, each on a line, and stops at an unfinished one.
 fn print_records(rt: &HostRuntime, file: File) -> Result<()> {
     let mut reader = BufReader::new(rt.alloc(), file)?;
     for _ in 0..u64::MAX {

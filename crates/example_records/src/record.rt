@@ -1,8 +1,8 @@
-//! A record of a tank, and how it is written to a file and read from one.
+//! Records of a tank, which are written to a file and read from it.
 
 ghost use Rattle.std.specs.Prelude.{◌≡◌, ◌≤◌, length, IfOk, OnOk, IsOkAnd};
 ghost use Rattle.std.specs.Io.KnownBytes.{Appends, Consumes};
-ghost use Rattle.postcard_wire.specs.Spelling.{bytes};
+ghost use Rattle.postcard_wire.specs.Spelling.{canonical};
 ghost use Rattle.postcard_de_flavors.specs.Source.{Begins};
 ghost use Rattle.example_records.specs.declared.record.Record.{Record};
 
@@ -14,7 +14,7 @@ use postcard::{
 use std::alloc::Global;
 use std::io::Write;
 
-/// What is in a tank on a day.
+/// The content of a tank on one day.
 #[derive(Debug, Drop, PartialEq)]
 pub struct Record<'a> {
     /// The day, counted from 1.
@@ -47,34 +47,36 @@ impl SerializeRepr for Record<'_> {
 ///
 /// # Errors
 ///
-/// Fails with `SerializeBufferFull` if the file can't be written. It may then have a front of the
-/// record, which [`read`] doesn't take for a record.
+/// Fails with `SerializeBufferFull` if the file can't be written. The file may then end with a
+/// part of the record, which [`read`] doesn't take for a whole one.
 pub fn append<W: Write + Drop>(file: W, item: &Record) -> Result<W>
     ensures fits { OnOk result (⟦<Record<'static> as Shaped>⟧.shape.fits item.now) }
     ensures appends { IfOk result (λ after. Appends (W.contents file) (W.contents after)
-        (bytes (⟦<Record<'static> as Shaped>⟧.shape.tree item.now))) }
+        (canonical (⟦<Record<'static> as Shaped>⟧.shape.tree item.now))) }
 {
     to_io(item, file)
 }
 
-/// Reads the next record from a file, and returns both. The note is lent from `scratch`.
+/// Reads the next record from a file, and returns the record and the file. The note borrows from
+/// `scratch`. Just the bytes of the record are read from the file.
 ///
 /// # Errors
 ///
-/// Fails with `DeserializeUnexpectedEnd` if the record is unfinished, its note is longer than
-/// `scratch`, or the file can't be read, and as `from_bytes` if it is damaged.
+/// Fails with `DeserializeUnexpectedEnd` if the record is unfinished, if its note is longer than
+/// `scratch`, or if the file can't be read, and as `from_bytes` does if the record is damaged. The
+/// file is then dropped.
 pub fn read<'a, R: Source + 'a>(
     alloc: Global,
     file: R,
     scratch: &'a mut [u8],
 ) -> Result<(Record<'a>, R)>
     ensures reads_back { (x : Record) → ⟦<Record<'static> as Shaped>⟧.shape.fits x → R.steady file
-        → Begins (R.remaining file) (bytes (⟦<Record<'static> as Shaped>⟧.shape.tree x))
-        → length (bytes (⟦<Record<'static> as Shaped>⟧.shape.tree x)) ≤ length scratch.old
+        → Begins (R.remaining file) (canonical (⟦<Record<'static> as Shaped>⟧.shape.tree x))
+        → length (canonical (⟦<Record<'static> as Shaped>⟧.shape.tree x)) ≤ length scratch.old
         → IsOkAnd result (λ read. (read.0.day ≡ x.day) × (read.0.liters ≡ x.liters)
         × (read.0.note.now ≡ x.note.now)
         × Consumes (R.remaining file) (R.remaining read.1)
-        (bytes (⟦<Record<'static> as Shaped>⟧.shape.tree x))) }
+        (canonical (⟦<Record<'static> as Shaped>⟧.shape.tree x))) }
 {
     let (item, (file, _)) = from_io(alloc, (file, scratch))?;
     Ok((item, file))

@@ -1,5 +1,5 @@
 //! A settings store: settings are saved in memory of a fixed size, and loaded when a radio starts.
-//! Memory that holds no settings, because it is erased or damaged, gives the defaults.
+//! If the memory holds no settings, because it is erased or damaged, the radio takes the defaults.
 #![tactic(auto)]
 
 mod settings;
@@ -10,7 +10,7 @@ use arrayvec::ArrayString;
 use settings::{SETTINGS_SIZE, Settings};
 use store::Memory;
 
-/// Returns the settings in memory, or the defaults if it holds none, and prints which.
+/// Returns the settings in the memory, or the defaults if it holds none, and prints which.
 fn start(rt: &(impl Print + AllocGlobal), memory: &Memory) -> Result<Settings> {
     match store::load(rt.alloc(), memory) {
         Ok(settings) => {
@@ -24,7 +24,7 @@ fn start(rt: &(impl Print + AllocGlobal), memory: &Memory) -> Result<Settings> {
     }
 }
 
-/// Saves settings, and prints the bytes that they take.
+/// Saves settings, and prints the number of bytes written and the whole memory.
 fn save(rt: &impl Print, settings: &Settings, memory: &mut Memory) -> Result<()> {
     let count = store::save(settings, memory)?;
     println!(rt; "saved {count} bytes: {memory:?}")?;
@@ -44,7 +44,7 @@ fn main(rt: HostRuntime) -> Result<()> {
     save(&rt, &settings, &mut memory)?;
     start(&rt, &memory)?;
 
-    // The byte after the volume is neither 0 nor 1 now, so that it is no option.
+    // The first byte of the alarm becomes neither 0 nor 1, so that it is no option.
     memory[9] = 0x21;
     let settings = start(&rt, &memory)?;
     save(&rt, &settings, &mut memory)?;

@@ -1,4 +1,4 @@
-//! The settings of a radio, and their greatest size.
+//! The settings of a radio, and the greatest size of their encoding.
 
 use arrayvec::ArrayString;
 use postcard::experimental::max_size::{MaxSize, MaxSizeRepr};
@@ -8,19 +8,19 @@ use postcard::{FromRepr, Repr, Result, Serialize, SerializeRepr, Serializer};
 /// The settings of a radio.
 #[derive(Debug, Drop, PartialEq)]
 pub struct Settings {
-    /// What it is called: at most 12 bytes of UTF-8.
+    /// The name of the radio, at most 12 bytes of UTF-8.
     pub name: ArrayString<12>,
-    /// How loud it is.
+    /// The volume, from 0 to 255.
     pub volume: u8,
-    /// The minute of the day at which it wakes its owner, if it does.
+    /// The minute of the day at which the alarm rings, or `None` for no alarm.
     pub alarm: Option<u16>,
 }
 
-/// The greatest size of the settings in bytes: 13 of the name, 1 of the volume, 4 of the alarm.
+/// The greatest size of encoded settings in bytes: 13 of the name, 1 of the volume, 4 of the alarm.
 pub const SETTINGS_SIZE: usize = 18;
 
 impl Default for Settings {
-    /// Returns the settings of a new radio: no name, a volume of 20, and no alarm.
+    /// Returns the settings of a new radio: an empty name, a volume of 20, and no alarm.
     fn default() -> Self {
         Settings {
             name: ArrayString::new(),

@@ -1,4 +1,4 @@
--- Hexadecimal digits byte by byte, and what a writer holds after several writes.
+-- Lemmas on hexadecimal digits byte by byte, and on what a writer holds after several writes.
 use Rattle.std.proofs.Common.{◌≡◌, ℕ, ◌+◌, ◌*◌, ◌%◌, ◌≤◌, arith, inl, inr, List, [], ◌∷◌, ◌++◌, Option, Some, None, length, take, drop, slice_index, refl, sym, ap, ◌∙◌}
 use Rattle.std.proofs.lemmas.List.{append_assoc, append-nil, take-append-drop}
 use Rattle.std.specs.Io.KnownBytes.{Appends}
@@ -11,36 +11,36 @@ use Rattle.hex.specs.declared.error.FromHexError.TheVariants.{InvalidHexCharacte
 use Rattle.hex.proofs.HexLemmas.{decode_of-even, decode_of-odd}
 use Rattle.hex.proofs.Pairs.{cons_byte, decode_pairs-err_pair, decode_pairs-ok_pair, decode_sized-pairs, prepend, prepend-cons_byte}
 
--- no bytes have no digits
+-- No bytes have no digits.
 pub encode_lower-nil : encode_lower [] ≡ []
 unfolding encode_with
 encode_lower-nil = refl
 
--- the digits of bytes are those of one part after the other
+-- The digits of two lists of bytes in a row are those of the first and then those of the second.
 pub encode_with-append : (t xs ys : List ℕ) → encode_with t (xs ++ ys) ≡ encode_with t xs ++ encode_with t ys
 unfolding encode_with
 encode_with-append t [] ys = refl
 encode_with-append t (x ∷ xs) ys = rw (encode_with-append t xs ys) refl
 
--- nothing is written
+-- A writer that is unchanged has written nothing.
 pub appends-none : (held : Option (List ℕ)) → Appends held held []
 appends-none None = tt
 appends-none (Some xs) = sym (append-nil xs)
 
--- two writes are one
+-- Two writes in a row write both texts.
 pub appends-join : (a b c : Option (List ℕ)) (xs ys : List ℕ) → Appends a b xs → Appends b c ys → Appends a c (xs ++ ys)
 appends-join None b c xs ys first second = tt
 appends-join (Some front) None c xs ys first second = absurd first
 appends-join (Some front) (Some more) None xs ys first second = absurd second
 appends-join (Some front) (Some more) (Some all) xs ys first second = rw (second, first) (append_assoc front xs ys)
 
--- a piece of digits is written behind those before it
+-- Writing the digits of a piece after those before it writes the digits of both.
 pub appends-piece : (a b c : Option (List ℕ)) (xs ys : List ℕ) → Appends a b (encode_lower xs)
     → Appends b c (encode_lower ys) → Appends a c (encode_lower (xs ++ ys))
 appends-piece a b c xs ys first second =
     rw (encode_with-append lower_digits xs ys) (appends-join a b c (encode_lower xs) (encode_lower ys) first second)
 
--- where a list is cut
+-- A list that is cut into a front done and a rest is cut further by cutting the rest.
 pub cut_again : (xs done rest front back : List ℕ) (n : ℕ) → xs ≡ done ++ rest → front ≡ take n rest → back ≡ drop n rest
     → xs ≡ done ++ front ++ back
 cut_again xs done rest front back n whole first second =
@@ -48,24 +48,24 @@ cut_again xs done rest front back n whole first second =
 
 -- ---- reading
 
--- the byte of two digits that have these values, the first at place i
+-- The byte of two digits that have these values, the first at place i.
 abbrev pair_from : ℕ → ℕ → ℕ → Option ℕ → Option ℕ → Result ℕ FromHexError
 pair_from high low i o p = digit_or_error high i o >>= (λ x. digit_or_error low (i + 1) p >>= (λ y. Ok (x * 16 + y)))
 
--- a byte is the same at each place
+-- Two digits make the same byte at each place.
 pair_anywhere : (high low i k : ℕ) (o p : Option ℕ) (b : ℕ) → pair_from high low i o p ≡ Ok b → pair_from high low k o p ≡ Ok b
 pair_anywhere high low i k (Some x) (Some y) b h = h
 pair_anywhere high low i k (Some x) None b h = cc h
 pair_anywhere high low i k None p b h = cc h
 
--- what is no byte at one place is none at another
+-- Two digits that make no byte at one place make none at another.
 pair_nowhere : (high low i k : ℕ) (o p : Option ℕ) (e : FromHexError) → pair_from high low i o p ≡ Err e
     → (f : FromHexError) × (pair_from high low k o p ≡ Err f)
 pair_nowhere high low i k (Some x) (Some y) e h = cc h
 pair_nowhere high low i k (Some x) None e h = (InvalidHexCharacter low (k + 1), refl)
 pair_nowhere high low i k None p e h = (InvalidHexCharacter high k, refl)
 
--- two digits that decode are one byte
+-- Two digits that decode are one byte.
 one_byte : (high low : ℕ) (xs : List ℕ) (r : Result ℕ FromHexError) → pair_value high low 0 ≡ r
     → decode_pairs 0 (high ∷ low ∷ []) ≡ Ok xs → pair_value high low 0 ≡ Ok (slice_index xs 0)
 unfolding decode_pairs
@@ -74,14 +74,14 @@ one_byte high low xs (Ok b) is ok =
     is ∙ ap (λ (r : Result (List ℕ) FromHexError). Ok (slice_index (result_unwrap_or r []) 0)) one
 one_byte high low xs (Err e) is ok = cc (sym ok ∙ decode_pairs-err_pair 0 high low e [] is)
 
--- two digits that do not decode are no byte
+-- Two digits that don't decode are no byte.
 no_byte : (high low : ℕ) (e : FromHexError) (r : Result ℕ FromHexError) → pair_value high low 0 ≡ r
     → decode_pairs 0 (high ∷ low ∷ []) ≡ Err e → (f : FromHexError) × (pair_value high low 0 ≡ Err f)
 unfolding decode_pairs
 no_byte high low e (Ok b) is bad = cc (sym bad ∙ decode_pairs-ok_pair 0 high low b [] is)
 no_byte high low e (Err f) is bad = (f, is)
 
--- the digits that are left begin with those of a byte
+-- If the next two digits decode, their byte is the first of the bytes of the digits that are left.
 byte_first : (rest xs : List ℕ) (k : ℕ) → 2 ≤ length rest → decode_sized (take 2 rest) 1 ≡ Ok xs
     → decode_pairs k rest ≡ cons_byte (slice_index xs 0) (decode_pairs (k + 2) (drop 2 rest))
 byte_first [] xs k two ok = absurd (omega arith)
@@ -92,7 +92,7 @@ byte_first (high ∷ low ∷ after) xs k two ok =
     decode_pairs-ok_pair k high low (slice_index xs 0) after
     (pair_anywhere high low 0 k (hex_digit_value high) (hex_digit_value low) (slice_index xs 0) here)
 
--- the digits that are left begin with no byte
+-- If the next two digits don't decode, the digits that are left don't.
 no_byte_first : (rest : List ℕ) (e : FromHexError) (k : ℕ) → 2 ≤ length rest → decode_sized (take 2 rest) 1 ≡ Err e
     → (f : FromHexError) × (decode_pairs k rest ≡ Err f)
 no_byte_first [] e k two bad = absurd (omega arith)
@@ -103,28 +103,28 @@ no_byte_first (high ∷ low ∷ after) e k two bad =
     let there = pair_nowhere high low 0 k (hex_digit_value high) (hex_digit_value low) here.0 here.1 in
     (there.0, decode_pairs-err_pair k high low there.0 after there.1)
 
--- nothing comes before
+-- Prepending no bytes changes nothing.
 prepend-nil : (r : Result (List ℕ) FromHexError) → r ≡ prepend [] r
 prepend-nil (Ok xs) = refl
 prepend-nil (Err e) = refl
 
--- two digits fewer are as odd
+-- Dropping two digits leaves the parity of their number.
 parity-drop : (rest : List ℕ) → 2 ≤ length rest → length rest % 2 ≡ length (drop 2 rest) % 2
 parity-drop [] two = absurd (omega arith)
 parity-drop (high ∷ []) two = absurd (omega arith)
 parity-drop (high ∷ low ∷ after) two = omega arith
 
--- the bytes so far are followed by those of the digits that are left, the first of them at some place
+-- The bytes of the text are the bytes so far, and then those of the digits that are left.
 pub record IsBefore (text bytes rest : List ℕ) : Type 0 where
   pub place : ℕ
   pub decoded : decode_pairs 0 text ≡ prepend bytes (decode_pairs place rest)
   pub parity : length text % 2 ≡ length rest % 2
 
--- no byte is read
+-- It holds before the first byte is read.
 pub before-start : (text : List ℕ) → IsBefore text [] text
 before-start text = record { place = 0; decoded = prepend-nil (decode_pairs 0 text); parity = refl }
 
--- one more byte is read
+-- It holds after one more byte is read.
 pub before-step : (text bytes rest xs : List ℕ) → IsBefore text bytes rest → 2 ≤ length rest
     → decode_sized (take 2 rest) 1 ≡ Ok xs → IsBefore text (bytes ++ slice_index xs 0 ∷ []) (drop 2 rest)
 before-step text bytes rest xs before two ok = record {
@@ -133,7 +133,7 @@ before-step text bytes rest xs before two ok = record {
   parity = before.parity ∙ parity-drop rest two;
 }
 
--- two digits that are no byte refuse the text
+-- If the next two digits are no byte, the text is refused.
 pub before-refused : (text bytes rest : List ℕ) (e : FromHexError) → IsBefore text bytes rest → 2 ≤ length rest
     → decode_sized (take 2 rest) 1 ≡ Err e → IsErr (decode_of text)
 before-refused text bytes rest e before two bad =
@@ -144,7 +144,7 @@ before-refused text bytes rest e before two bad =
           rw (decode_of-even text (omega arith), before.decoded, first.1) refl
     ]
 
--- all digits are read
+-- If no digit is left, the bytes so far are those of the text.
 pub before-end : (text bytes rest : List ℕ) → IsBefore text bytes rest → rest ≡ [] → decode_of text ≡ Ok bytes
 unfolding decode_pairs
 before-end text bytes rest before none =

@@ -1,4 +1,4 @@
--- The words of a call.
+-- Which words are a call, and of which command.
 use Rattle.std.specs.Prelude.{◌≡◌, ℕ, nat_eq, Bool as TruthValue, true, if◌then◌else◌, List, [], ◌∷◌, codes}
 use Rattle.std.specs.List.{starts_with, ends_with, list_any}
 use Rattle.pcard.specs.declared.command.ValueType.{ValueType}
@@ -34,24 +34,24 @@ looks_like_expression word =
     if starts_with nat_eq word (123 ∷ []) then true else
     if ends_with nat_eq word (63 ∷ []) then true else list_any (λ b. nat_eq b 124) word
 
--- So it is a type expression.
-abbrev pub IsExpression : List ℕ → Type 0
-IsExpression word = looks_like_expression word ≡ true
+-- The word counts as a type expression.
+abbrev pub LooksLikeExpression : List ℕ → Type 0
+LooksLikeExpression word = looks_like_expression word ≡ true
 
--- The word says a type: it is its name, which is no expression, or an expression.
+-- The word stands for this type: it is the name, or a type expression.
 abbrev pub IsWordOf : List ℕ → TypeWord → Type 0
 IsWordOf word (Named kind) = word ≡ name_of kind
-IsWordOf word (Expression text) = (word ≡ text.now) × IsExpression word
+IsWordOf word (Expression text) = (word ≡ text.now) × LooksLikeExpression word
 
--- The words ask for a command.
+-- The words are a call of this command.
 abbrev pub IsCallOf : List (List ℕ) → Command → Type 0
 IsCallOf words (Encode kind value) = (word : List ℕ) × IsWordOf word kind × (words ≡ codes "enc" ∷ word ∷ value.now ∷ [])
 IsCallOf words (Decode kind hex) = (word : List ℕ) × IsWordOf word kind × (words ≡ codes "dec" ∷ word ∷ hex.now ∷ [])
-IsCallOf words (DecodeAll expression hex) = IsExpression expression.now × (words ≡ codes "decs" ∷ expression.now ∷ hex.now ∷ [])
+IsCallOf words (DecodeAll expression hex) = LooksLikeExpression expression.now × (words ≡ codes "decs" ∷ expression.now ∷ hex.now ∷ [])
 IsCallOf words Frames = words ≡ codes "frames" ∷ []
-IsCallOf words (FramesOf expression) = IsExpression expression.now × (words ≡ codes "frames" ∷ expression.now ∷ [])
+IsCallOf words (FramesOf expression) = LooksLikeExpression expression.now × (words ≡ codes "frames" ∷ expression.now ∷ [])
 IsCallOf words Types = words ≡ codes "types" ∷ []
 
--- The words ask for no command.
+-- The words are a call of no command.
 abbrev pub IsNoCall : List (List ℕ) → Type 0
 IsNoCall words = (command : Command) → IsCallOf words command → ⊥

@@ -1,4 +1,4 @@
--- What a call that fails prints, and its exit status.
+-- The text that a failed call prints, and its exit status.
 use Rattle.std.specs.Prelude.{◌≡◌, ◌⊎◌, ℕ, Option, List, [], ◌∷◌, ◌++◌, codes, Result, Ok, Err}
 use Rattle.std.specs.Io.KnownBytes.{Appends}
 use Rattle.postcard_wire.specs.Error.{error_text}
@@ -35,11 +35,11 @@ abbrev pub exit_status : Result Unit Failure → ℕ
 exit_status (Ok done) = 0
 exit_status (Err failure) = failure_status failure
 
--- What is printed last: a line of text where the call failed.
+-- The line that is printed last: the text of the failure if the call failed, and else nothing.
 abbrev pub last_line : Result Unit Failure → List ℕ
 last_line (Ok done) = []
 last_line (Err failure) = failure_text failure ++ 10 ∷ []
 
--- A failure is answered: its line is printed and its status given, or the output could not be written.
+-- The failure is reported: its line is printed and the status is the failure's, or else the status is 3.
 abbrev pub AnswersFailure : Failure → Option (List ℕ) → Option (List ℕ) → ℕ → Type 0
 AnswersFailure failure old new status = (status ≡ 3) ⊎ ((status ≡ failure_status failure) × Appends old new (failure_text failure ++ 10 ∷ []))

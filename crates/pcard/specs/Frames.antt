@@ -1,4 +1,4 @@
--- What is printed of the answers of a stream.
+-- The lines that are printed for the answers of a stream.
 use Rattle.std.specs.Prelude.{ℕ, List, [], ◌∷◌, ◌++◌, codes, Vec, Option}
 use Rattle.std.specs.List.{flat_map}
 use Rattle.std.specs.Io.KnownBytes.{Consumes, Appends}
@@ -13,23 +13,23 @@ use Rattle.postcard_accumulator.specs.declared.answers.Answer.{Answer}
 use Rattle.postcard_accumulator.specs.declared.answers.Answer.TheVariants.{OverFull, DeserError}
 use Rattle.postcard_accumulator.specs.declared.answers.Answer.TheVariants.{Success}
 
--- The line of an answer: of a list of bytes its digits.
+-- The line of an answer. A list of bytes is printed in hexadecimal.
 abbrev pub answer_line : Answer (Vec ℕ Global) → List ℕ
 answer_line OverFull = codes "overfull" ++ 10 ∷ []
 answer_line DeserError = codes "error" ++ 10 ∷ []
 answer_line (Success bytes) = codes "ok " ++ (encode_lower bytes.items ++ 10 ∷ [])
 
--- The lines of answers, in order.
+-- The lines of the answers, in order.
 abbrev pub answer_lines : List (Answer (Vec ℕ Global)) → List ℕ
 answer_lines answers = flat_map answer_line answers
 
--- A list of bytes.
+-- The shape of a list of bytes.
 abbrev pub byte_list : Shape (Vec ℕ Global)
 byte_list = via (λ v. v.items) (growing (seq byte))
 
--- The bytes that were read have just the answers whose lines are printed, with at most 64 bytes a frame.
+-- The answers to the bytes that were read, where frames have at most 64 bytes, are those whose lines are printed.
 abbrev pub PrintsAnswers : Option (List ℕ) → Option (List ℕ) → Option (List ℕ) → Option (List ℕ) → Type 0
-PrintsAnswers told left old new =
+PrintsAnswers known left old new =
     (given : List ℕ) × (answers : List (Answer (Vec ℕ Global))) × (after : State)
-    × Consumes told left given × Answers 64 byte_list (holding []) given answers after
+    × Consumes known left given × Answers 64 byte_list (holding []) given answers after
     × Appends old new (answer_lines answers)

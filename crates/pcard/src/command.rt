@@ -1,11 +1,11 @@
-//! What the words of a call ask for.
+//! The commands, and how they are read from the words of a call.
 
 ghost use Rattle.std.specs.Prelude.{◌≡◌, ◌≢◌, [], ◌∷◌, IfSome, IfNone, map, string_bytes};
 ghost use Rattle.pcard.specs.Command.{IsCallOf, IsNoCall, IsWordOf, looks_like_expression, name_of};
 ghost use Rattle.pcard.specs.declared.command.TypeWord.{TypeWord};
 ghost use Rattle.pcard.specs.declared.command.ValueType.{ValueType};
 
-/// The types of which values are written and read.
+/// The types that have a name.
 #[derive(Clone, Copy, Debug, PartialEq, Eq)]
 pub enum ValueType {
     U8,
@@ -26,7 +26,7 @@ pub enum ValueType {
 }
 
 impl ValueType {
-    /// The type of which this is the name.
+    /// Returns the type with this name, or `None` if no type has it.
     pub fn from_name(name: &str) -> Option<ValueType>
         ensures found { IfSome result (λ kind. name.now ≡ name_of kind) }
         ensures none { IfNone result ((kind : ValueType) → name.now ≢ name_of kind) }
@@ -52,8 +52,8 @@ impl ValueType {
     }
 }
 
-/// Returns whether a word is a type expression: it begins with `(`, `[` or `{`, or ends with `?`, or
-/// holds a `|`. So no name of a type is one.
+/// Returns whether a word counts as a type expression: whether it begins with `(`, `[` or `{`, ends
+/// with `?`, or has a `|` in it. No name of a type does.
 pub fn is_expression(word: &str) -> bool
     ensures { result ≡ looks_like_expression word.now }
 {
@@ -65,7 +65,7 @@ pub fn is_expression(word: &str) -> bool
         || bytes.contains(&b'|')
 }
 
-/// What the word TYPE says.
+/// The type that the word TYPE stands for.
 #[derive(Clone, Copy, Debug, PartialEq, Eq)]
 pub enum TypeWord<'a> {
     /// A type by its name.
@@ -75,7 +75,7 @@ pub enum TypeWord<'a> {
 }
 
 impl<'a> TypeWord<'a> {
-    /// Returns what the word says, or `None` if it is neither a name nor an expression.
+    /// Returns the type of a word, or `None` if the word is neither a name nor an expression.
     pub fn from_word(word: &'a str) -> Option<TypeWord<'a>>
         ensures found { IfSome result (λ kind. IsWordOf word.now kind) }
         ensures none { IfNone result ((kind : TypeWord) → IsWordOf word.now kind → ⊥) }
@@ -90,7 +90,8 @@ impl<'a> TypeWord<'a> {
     }
 }
 
-/// A call whose words are right in number, command and type. What its last word says is not read yet.
+/// A call with a known command, the right number of words, and a TYPE that is a name or counts as
+/// an expression. The expression, VALUE and HEX aren't read yet.
 #[derive(Clone, Copy, Debug, PartialEq, Eq)]
 pub enum Command<'a> {
     /// `enc TYPE VALUE`.
@@ -108,7 +109,8 @@ pub enum Command<'a> {
 }
 
 impl<'a> Command<'a> {
-    /// The command of these words, or `None` where they are no call: an unknown command or type, or too few or many words.
+    /// Returns the command of these words, or `None` if they are no call: if the command or the
+    /// type is unknown, or if there are too few or too many words.
     pub fn from_words(words: &'a [String]) -> Option<Command<'a>>
         ensures found { IfSome result (λ command. IsCallOf (map string_bytes words.now) command) }
         ensures none { IfNone result (IsNoCall (map string_bytes words.now)) }
@@ -123,7 +125,7 @@ impl<'a> Command<'a> {
         }
     }
 
-    /// The command of one word.
+    /// Returns the command of a call of one word.
     fn alone(command: &'a str) -> Option<Command<'a>>
         ensures found { IfSome result (λ found. IsCallOf (command.now ∷ []) found) }
         ensures none { IfNone result (IsNoCall (command.now ∷ [])) }
@@ -135,7 +137,7 @@ impl<'a> Command<'a> {
         }
     }
 
-    /// The command of a word and a type.
+    /// Returns the command of a call of two words, the second of which is a type.
     fn of_type(command: &'a str, kind: &'a str) -> Option<Command<'a>>
         ensures found { IfSome result (λ found. IsCallOf (command.now ∷ kind.now ∷ []) found) }
         ensures none { IfNone result (IsNoCall (command.now ∷ kind.now ∷ [])) }
@@ -146,7 +148,7 @@ impl<'a> Command<'a> {
         }
     }
 
-    /// The command of a word, a type and a text.
+    /// Returns the command of a call of three words: a command, a type and a text.
     fn of_text(command: &'a str, kind: &'a str, text: &'a str) -> Option<Command<'a>>
         ensures found { IfSome result
             (λ found. IsCallOf (command.now ∷ kind.now ∷ text.now ∷ []) found) }

@@ -1,4 +1,4 @@
-//! Why a call fails, with its text and exit status.
+//! The reasons for which a call fails, with their texts and exit statuses.
 
 ghost use Rattle.std.specs.Prelude.{◌≡◌, Some};
 ghost use Rattle.postcard_wire.specs.declared.error.Error.TheVariants.{OutOfMemory};
@@ -8,31 +8,32 @@ ghost use Rattle.pcard.specs.declared.failure.Failure.TheVariants.{Library, Outp
 use std::alloc::{AllocError, AllocFailed};
 use std::{fmt, io};
 
-/// Why a call fails.
+/// The reason for which a call fails.
 #[derive(Debug, Drop, PartialEq, Eq)]
 pub enum Failure {
-    /// The command or the type is unknown, or the words are too few or too many.
+    /// The command or the type is unknown, or there are too few or too many words.
     Usage,
-    /// TYPE is a misspelled expression.
+    /// TYPE is a misspelled expression, or for `decs` a type whose messages have no bytes.
     BadType,
-    /// VALUE says no value of the type.
+    /// VALUE is no value of the type.
     BadValue,
-    /// HEX is not an even count of hexadecimal digits.
+    /// HEX is not an even number of hexadecimal digits.
     BadHex,
-    /// The library refused to write or to read the value, or memory ran out while VALUE or HEX was read.
+    /// The library failed to encode or decode the value, or an allocation failed while TYPE, VALUE
+    /// or HEX was read.
     Library(postcard::Error),
-    /// The output could not be written.
+    /// The output can't be written.
     Output,
-    /// `frames` made all its reads.
+    /// The input didn't end within the greatest number of reads.
     Limit,
-    /// `frames` could not read on.
+    /// A read of the input failed.
     ReadFailed,
-    /// Memory for an answer of `frames` was refused.
+    /// An allocation failed while `frames` read its frames.
     OutOfMemory,
 }
 
 impl Failure {
-    /// The exit status of this failure: 1 to 3.
+    /// Returns the exit status of this failure, 1 to 3.
     pub fn status(&self) -> u8
         ensures { result ≡ failure_status self.now }
     {

@@ -1,4 +1,4 @@
-//! The command `frames`: what a stream of frames says, a line for each.
+//! The command `frames`, which prints the frames of a stream, each on a line.
 
 ghost use Rattle.std.specs.Prelude.{◌≢◌, IfErr, OnOk};
 ghost use Rattle.std.specs.Io.KnownBytes.{Appends};
@@ -12,23 +12,24 @@ use postcard::{Answer, ReadEnd, read_frames};
 use std::alloc::Global;
 use std::io::Write;
 
-/// The most bytes of a frame, with its zero.
+/// The greatest number of bytes of a frame, its zero included.
 pub const LONGEST_FRAME: usize = 64;
 
-/// The most bytes that one read gives.
+/// The greatest number of bytes of one read.
 pub const CHUNK: usize = 16;
 
-/// The most reads.
+/// The greatest number of reads.
 pub const READS: usize = 65_536;
 
 /// Reads frames of lists of bytes until the input ends, and prints a line for each: `ok` and the
-/// bytes as hexadecimal, `error` for a frame with no such list, or `overfull` for a frame that is
-/// too long.
+/// bytes as hexadecimal, `error` for a frame with no such list, or `overfull` for a frame of more
+/// than 64 bytes, its zero included.
 ///
 /// # Errors
 ///
-/// `Limit`, `ReadFailed` and `OutOfMemory` if reading ended before the input did; what was read
-/// until then is printed. `Output` if the output could not be written.
+/// Fails with `Limit` if the input doesn't end within 65,536 reads, with `ReadFailed` if a read
+/// fails, and with `OutOfMemory` if an allocation fails; the lines of the frames until then are
+/// printed. Fails with `Output` if the output can't be written.
 pub fn print<R: Source, W: Write>(
     alloc: Global,
     input: &mut R,
@@ -60,7 +61,7 @@ pub fn print<R: Source, W: Write>(
     }
 }
 
-/// Prints an answer on a line.
+/// Prints the answer to a frame on a line.
 fn print_answer<W: Write>(answer: &Answer<Vec<u8>>, output: &mut W) -> Result<(), Failure>
     ensures printed { OnOk result (Appends (W.contents output.old) (W.contents output.new)
         (answer_line answer.now)) }

@@ -1,9 +1,10 @@
-//! Bytes as hexadecimal digits, two a byte, the high one first.
+//! Reading and writing bytes as hexadecimal digits, two for each byte, the high one first.
 
 ghost use Rattle.std.specs.Prelude.{◌≡◌, ◌≢◌, ◌≤◌, ◌⊎◌, length, IfOk, IfErr, OnOk, IsErr};
 ghost use Rattle.std.specs.Io.KnownBytes.{Appends};
 ghost use Rattle.hex.specs.Hex.{decode_of, encode_lower};
 ghost use Rattle.postcard_wire.specs.declared.error.Error.TheVariants.{OutOfMemory};
+ghost use Rattle.pcard.specs.Hexadecimal.{words_of, AreBytesOf, HasBadWord};
 
 use crate::failure::Failure;
 use crate::frames::READS;
@@ -13,13 +14,19 @@ use std::alloc::Global;
 use std::io;
 use std::io::Write;
 
-/// The most bytes that are written at once.
+/// The greatest number of bytes that are read or written at once.
 const PIECE: usize = 64;
 
-/// The bytes of a text of hexadecimal digits of either case, read from left to right.
+/// Returns the bytes of a text of hexadecimal digits, of either case.
+///
+/// # Errors
+///
+/// Fails with `BadHex` if the text has another character or an odd number of digits, and with
+/// `Library(OutOfMemory)` if an allocation fails.
 pub fn read(alloc: Global, text: &str) -> Result<Vec<u8>, Failure>
     ensures value { IfOk result (λ bytes. decode_of text.now ≡ Ok bytes.items) }
-    ensures refused { IfErr result (λ e. ((e ≡ Failure.BadHex) × IsErr (decode_of text.now)) ⊎ (e ≡ Failure.Library OutOfMemory)) }
+    ensures refused { IfErr result (λ e. ((e ≡ Failure.BadHex) × IsErr (decode_of text.now))
+        ⊎ (e ≡ Failure.Library OutOfMemory)) }
 {
     let mut bytes = Vec::new(alloc);
     let mut rest = text.as_bytes();
@@ -37,8 +44,15 @@ pub fn read(alloc: Global, text: &str) -> Result<Vec<u8>, Failure>
     Ok(bytes)
 }
 
-/// The bytes of a text of hexadecimal digits with blanks between them, each word with `0x` before
-/// it or not. The text `-` means the text of the input.
+/// Returns the bytes of a text of words of hexadecimal digits, of either case, with blanks between
+/// the words. A word may begin with `0x`. For the text `-`, the input is read to its end and is the
+/// text.
+///
+/// # Errors
+///
+/// Fails with `BadHex` if a word isn't an even number of digits or the input isn't UTF-8, with
+/// `Library(OutOfMemory)` if an allocation fails, with `ReadFailed` if a read of the input fails,
+/// and with `Limit` if the input doesn't end within [`READS`] reads.
 pub fn read_loose<R: Source>(alloc: Global, text: &str, input: &mut R) -> Result<Vec<u8>, Failure>
     ensures { IfErr result (λ e. e ≢ Failure.Usage) }
 {
@@ -52,9 +66,12 @@ pub fn read_loose<R: Source>(alloc: Global, text: &str, input: &mut R) -> Result
     }
 }
 
-/// The bytes of the words of a text, each with `0x` before it or not.
+/// Returns the bytes of the words of a text, each with `0x` before it or without.
 fn read_words(alloc: Global, text: &str) -> Result<Vec<u8>, Failure>
-    ensures { IfErr result (λ e. e ≢ Failure.Usage) }
+    ensures value { IfOk result (λ bytes. AreBytesOf (words_of text.now) bytes.items) }
+    ensures refused { IfErr result (λ e. ((e ≡ Failure.BadHex) × HasBadWord (words_of text.now))
+        ⊎ (e ≡ Failure.Library OutOfMemory)) }
+    ensures no_usage { IfErr result (λ e. e ≢ Failure.Usage) }
 {
     let mut bytes = Vec::new(alloc);
     for word in text.split_ascii_whitespace() {
@@ -67,7 +84,7 @@ fn read_words(alloc: Global, text: &str) -> Result<Vec<u8>, Failure>
     Ok(bytes)
 }
 
-/// All bytes of the input.
+/// Returns all bytes of the input.
 fn read_input<R: Source>(alloc: Global, input: &mut R) -> Result<Vec<u8>, Failure>
     ensures { IfErr result (λ e. e ≢ Failure.Usage) }
 {
@@ -88,9 +105,11 @@ fn read_input<R: Source>(alloc: Global, input: &mut R) -> Result<Vec<u8>, Failur
     Err(Failure::Limit)
 }
 
-/// Writes the bytes in lower case digits. Takes no memory.
+/// Writes the bytes as lower-case digits. Nothing is allocated. Fails if the output can't be
+/// written.
 pub fn write<W: Write>(bytes: &[u8], output: &mut W) -> io::Result<()>
-    ensures { OnOk result (Appends (W.contents output.old) (W.contents output.new) (encode_lower bytes.now)) }
+    ensures { OnOk result (Appends (W.contents output.old) (W.contents output.new)
+        (encode_lower bytes.now)) }
 {
     let mut rest = bytes;
     'pieces: while !rest.is_empty() {
@@ -101,10 +120,11 @@ pub fn write<W: Write>(bytes: &[u8], output: &mut W) -> io::Result<()>
     Ok(())
 }
 
-/// Writes a few bytes at once.
+/// Writes at most [`PIECE`] bytes at once.
 fn write_piece<W: Write>(piece: &[u8], output: &mut W) -> io::Result<()>
     requires { length piece.now ≤ PIECE }
-    ensures { OnOk result (Appends (W.contents output.old) (W.contents output.new) (encode_lower piece.now)) }
+    ensures { OnOk result (Appends (W.contents output.old) (W.contents output.new)
+        (encode_lower piece.now)) }
 {
     let mut room = [0; 2 * PIECE];
     let digits = &mut room[..2 * piece.len()];

@@ -1,8 +1,8 @@
-//! Lists as texts.
+//! The texts of lists.
 
 use std::fmt;
 
-/// A list that prints its elements joined by commas, and nothing where it is empty.
+/// A list that is printed as its elements with commas between them.
 #[derive(Drop)]
 pub struct Joined<'a, T>(pub &'a [T]);
 

@@ -1,4 +1,5 @@
-//! The program `pcard`: encodes a value in the Postcard format, or decodes bytes to a value or a stream of frames. `program` does all the work.
+//! The program `pcard`, which encodes a value in the Postcard format, or decodes bytes or a stream
+//! of frames. Its work is done by `program`.
 #![tactic(auto)]
 
 use failure::Failure;
@@ -23,7 +24,7 @@ mod syntax;
 mod tests;
 mod value;
 
-/// The words after the program's name.
+/// Returns the words after the program's name.
 fn words(rt: &HostRuntime) -> Result<Vec<String>, Failure> {
     match env::args(rt) {
         Ok(mut args) => {
@@ -35,7 +36,7 @@ fn words(rt: &HostRuntime) -> Result<Vec<String>, Failure> {
     }
 }
 
-/// Runs the call with this output, and returns the exit status.
+/// Runs the call, which prints to `output`, and returns the exit status.
 fn answer<W: Write>(rt: &HostRuntime, output: &mut W) -> u8 {
     let mut input = Plain::new(rt.stdin());
     match words(rt) {
@@ -45,7 +46,7 @@ fn answer<W: Write>(rt: &HostRuntime, output: &mut W) -> u8 {
 }
 
 fn main(rt: HostRuntime) -> ExitCode {
-    // Without memory for a buffer the output is written as it comes.
+    // If the buffer can't be allocated, the output is written without one.
     let status = match BufWriter::new(rt.alloc(), rt.stdout()) {
         Ok(mut output) => answer(&rt, &mut output),
         Err(_) => answer(&rt, &mut rt.stdout()),

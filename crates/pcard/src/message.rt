@@ -1,9 +1,9 @@
-//! Encoding and decoding messages whose type is an expression.
+//! The commands `enc`, `dec` and `decs` for messages whose type is an expression.
 
 ghost use Rattle.std.specs.Prelude.{◌≡◌, ◌≢◌, ◌⊎◌, [], ◌∷◌, ◌++◌, IfOk, IfErr, OnOk};
 ghost use Rattle.std.specs.Io.KnownBytes.{Appends};
 ghost use Rattle.hex.specs.Hex.{encode_lower};
-ghost use Rattle.postcard_wire.specs.Spelling.{bytes as canonical};
+ghost use Rattle.postcard_wire.specs.Spelling.{canonical};
 ghost use Rattle.postcard_dyn_schema.specs.Grammar.{IsExpression};
 ghost use Rattle.postcard_dyn_schema.specs.Meaning.{type_of, reads};
 ghost use Rattle.postcard_dyn_schema.specs.declared.schema.Schema.{Schema};
@@ -25,7 +25,8 @@ use std::io::Write;
 ///
 /// # Errors
 ///
-/// Fails with `BadType` if it is misspelled, and with `Library(OutOfMemory)` if an allocation fails.
+/// Fails with `BadType` if it is misspelled, with `Library(OutOfMemory)` if an allocation fails,
+/// and with `Output` if the output can't be written.
 pub fn schema_of<W: Write>(alloc: Global, text: &str, output: &mut W) -> Result<Schema, Failure>
     ensures spelled { IfOk result (λ schema. IsExpression schema text.now) }
     ensures untouched { OnOk result (output.new ≡ output.old) }
@@ -44,8 +45,13 @@ pub fn schema_of<W: Write>(alloc: Global, text: &str, output: &mut W) -> Result<
     }
 }
 
-/// Encodes the value that the text says, and prints its bytes as hexadecimal on a line. At most 4,096
-/// bytes are written.
+/// Encodes the value of a text, and prints its encoding as hexadecimal on a line.
+///
+/// # Errors
+///
+/// Fails as [`schema_of`] does, with `BadValue` if the text is no value of the type, after the
+/// place of the error is printed, and with `Library(SerializeBufferFull)` if the encoding is longer
+/// than 4,096 bytes.
 pub fn encode<W: Write>(
     alloc: Global,
     expression: &str,
@@ -73,8 +79,13 @@ pub fn encode<W: Write>(
     Ok(())
 }
 
-/// Decodes a value from the front of the bytes, and prints it on a line and the bytes after it as
-/// hexadecimal on a second.
+/// Decodes a value from the front of the bytes of HEX, and prints it on a line, and the bytes after
+/// it as hexadecimal on a second.
+///
+/// # Errors
+///
+/// Fails as [`schema_of`] and [`hexadecimal::read_loose`] do, and with `Library` if the bytes begin
+/// with no message of the type, after the place of the error is printed.
 pub fn decode<R: Source, W: Write>(
     alloc: Global,
     expression: &str,
@@ -92,7 +103,12 @@ pub fn decode<R: Source, W: Write>(
     Ok(())
 }
 
-/// Decodes values one after another until no byte is left, and prints each on a line.
+/// Decodes values one after another until no byte of HEX is left, and prints each on a line.
+///
+/// # Errors
+///
+/// Fails as [`decode`] does, and with `BadType` if messages of the type have no bytes. The values
+/// before an error are printed.
 pub fn decode_all<R: Source, W: Write>(
     alloc: Global,
     expression: &str,
@@ -119,8 +135,9 @@ pub fn decode_all<R: Source, W: Write>(
     Ok(())
 }
 
-/// Decodes a value from the front of `rest` and prints it on a line. Returns the bytes after it. On
-/// a refusal prints the place in `all` of the part that refused.
+/// Decodes a value from the front of `rest`, the last of the bytes `all`, and prints it on a line.
+/// Returns the bytes after it. If that fails, prints the offset in `all` of the part that can't be
+/// read.
 fn print_front<'a, W: Write>(
     alloc: Global,
     schema: &Schema,

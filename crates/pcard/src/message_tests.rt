@@ -1,10 +1,10 @@
-//! Whole calls whose type is an expression: what they print, and their exit status.
+//! Tests of whole calls whose type is an expression: what they print, and their exit status.
 
 use crate::program::run;
 use std::process::Abort;
 use std::test::Fail;
 
-/// Runs a call over an input, and compares what is printed and the status with what is wanted.
+/// Asserts that a call over this input prints `printed` and has this status.
 fn check(
     rt: &(impl Abort + AllocGlobal),
     call: &[&str],

@@ -1,9 +1,10 @@
-//! From the words of a call to its output and exit status.
+//! The work of the program: from the words of a call to its output and exit status.
 
-ghost use Rattle.std.specs.Prelude.{◌≡◌, ◌≢◌, ◌≤◌, ◌⊎◌, ◌↔◌, ℕ, List, [], ◌∷◌, ◌++◌, map, string_bytes, IfSome, IfErr, OnOk, IsErrOf};
+ghost use Rattle.std.specs.Prelude.{◌≡◌, ◌≢◌, ◌≤◌, ◌⊎◌, ◌↔◌, ℕ, List, [], ◌∷◌, ◌++◌, map};
+ghost use Rattle.std.specs.Prelude.{string_bytes, IfSome, IfErr, OnOk, IsErrOf};
 ghost use Rattle.std.specs.Io.KnownBytes.{Appends};
 ghost use Rattle.hex.specs.Hex.{encode_lower};
-ghost use Rattle.postcard_wire.specs.Spelling.{bytes};
+ghost use Rattle.postcard_wire.specs.Spelling.{canonical};
 ghost use Rattle.pcard.specs.Command.{IsNoCall};
 ghost use Rattle.pcard.specs.Failure.{AnswersFailure, exit_status, last_line};
 
@@ -18,22 +19,28 @@ use std::fmt::Display;
 use std::io::Write;
 use std::str::FromStr;
 
-/// The greatest size of what `enc` writes, in bytes.
+/// The greatest size in bytes of an encoding that `enc` prints.
 pub const BUFFER: usize = 4096;
 
-/// What is done with a type.
+/// What to do with a type.
 #[derive(Clone, Copy)]
 enum Task<'a> {
-    /// Encode the value that this word says.
+    /// Encode the value of this word.
     Encode(&'a str),
     /// Decode a value from the front of these bytes.
     Decode(&'a [u8]),
 }
 
-/// Does what the words ask for, which come after the program's name, and returns the exit status: 0
-/// done; 1 the library refused, or an allocation failed; 2 the words are wrong; 3 `frames` did not
-/// come to the end of its input, or the output could not be written, whatever else happened. The
-/// input is read by `frames` and for a HEX of `-`.
+/// Runs the call of these words, which come after the program's name, and returns the exit status:
+///
+/// - 0 if it succeeds;
+/// - 1 if the library fails to encode or decode, or if an allocation fails, except one for the
+///   frames of `frames`;
+/// - 2 if the words are no call, or if TYPE, VALUE or HEX is wrong;
+/// - 3 if the input isn't read to its end, if an allocation for the frames of `frames` fails, or,
+///   whatever else happened, if the output can't be written.
+///
+/// The input is read by `frames`, and for a HEX of `-` if TYPE is an expression.
 pub fn run<R: Source, W: Write>(
     alloc: Global,
     words: &[String],
@@ -41,16 +48,19 @@ pub fn run<R: Source, W: Write>(
     output: &mut W,
 ) -> u8
     ensures status { result ≤ 3 }
-    ensures usage { IsNoCall (map string_bytes words.now) → AnswersFailure Failure.Usage (W.contents output.old) (W.contents output.new) result }
+    ensures usage { IsNoCall (map string_bytes words.now)
+        → AnswersFailure Failure.Usage (W.contents output.old) (W.contents output.new) result }
 {
     let outcome = perform(alloc, words, input, output);
     report(outcome, output)
 }
 
-/// Ends a call: prints why it failed, flushes the output, and returns the exit status.
+/// Ends a call: prints the text of its failure on a line, if it failed, flushes the output, and
+/// returns the exit status, which is 3 if the output can't be written.
 pub fn report<W: Write>(outcome: Result<(), Failure>, output: &mut W) -> u8
     ensures status { (result ≡ 3) ⊎ (result ≡ exit_status outcome) }
-    ensures printed { result ≢ 3 → Appends (W.contents output.old) (W.contents output.new) (last_line outcome) }
+    ensures printed { result ≢ 3 → Appends (W.contents output.old) (W.contents output.new)
+        (last_line outcome) }
 {
     let (printed, status) = match outcome {
         Ok(()) => (Ok(()), 0),
@@ -62,7 +72,8 @@ pub fn report<W: Write>(outcome: Result<(), Failure>, output: &mut W) -> u8
     }
 }
 
-/// Reads the words, and prints what they ask for.
+/// Runs the call of these words. Fails with `Usage`, and prints nothing, exactly if they are no
+/// call.
 fn perform<R: Source, W: Write>(
     alloc: Global,
     words: &[String],
@@ -87,7 +98,7 @@ fn perform<R: Source, W: Write>(
     }
 }
 
-/// Encodes the value that a word says.
+/// Encodes the value of the word VALUE.
 fn encode<W: Write>(
     alloc: Global,
     kind: TypeWord<'_>,
@@ -102,7 +113,7 @@ fn encode<W: Write>(
     }
 }
 
-/// Decodes a value from the front of the bytes that a word says.
+/// Decodes a value from the front of the bytes of the word HEX.
 fn decode<R: Source, W: Write>(
     alloc: Global,
     kind: TypeWord<'_>,
@@ -121,7 +132,7 @@ fn decode<R: Source, W: Write>(
     }
 }
 
-/// The one table of types.
+/// Does the task with a type that has a name. This is the only table of these types.
 fn convert<W: Write>(
     alloc: Global,
     kind: ValueType,
@@ -202,9 +213,10 @@ where
     }
 }
 
-/// Prints the shortest bytes of a value as hexadecimal on a line.
+/// Prints the encoding of a value as hexadecimal on a line.
 fn print_encoded<T: Serialize, W: Write>(value: &T, output: &mut W) -> Result<(), Failure>
-    ensures printed { OnOk result (Appends (W.contents output.old) (W.contents output.new) (encode_lower (bytes (T.shape.tree value.now)) ++ 10 ∷ [])) }
+    ensures printed { OnOk result (Appends (W.contents output.old) (W.contents output.new)
+        (encode_lower (canonical (T.shape.tree value.now)) ++ 10 ∷ [])) }
     ensures refused { IfErr result (λ e. e ≢ Failure.Usage) }
 {
     let mut buffer = [0; BUFFER];
@@ -220,7 +232,9 @@ fn print_decoded<D: Display + Drop, W: Write>(
     rest: &[u8],
     output: &mut W,
 ) -> Result<(), Failure>
-    ensures printed { OnOk result (IfSome (D.output value) (λ text. Appends (W.contents output.old) (W.contents output.new) (text ++ 10 ∷ encode_lower rest.now ++ 10 ∷ []))) }
+    ensures printed { OnOk result (IfSome (D.output value)
+        (λ text. Appends (W.contents output.old) (W.contents output.new)
+        (text ++ 10 ∷ encode_lower rest.now ++ 10 ∷ []))) }
     ensures refused { IfErr result (λ e. e ≡ Failure.Output) }
 {
     writeln!(output, "{value}")?;

@@ -1,4 +1,4 @@
-//! The command `frames TYPE`: what a stream of frames says, a value a line.
+//! The command `frames TYPE`, which prints the values of a stream of frames, each on a line.
 
 ghost use Rattle.std.specs.Prelude.{◌≢◌, IfErr};
 
@@ -13,19 +13,23 @@ use postcard_dyn_text::Shown;
 use std::alloc::Global;
 use std::io::Write;
 
-/// The bytes held of a frame that hasn't ended, or that an oversized frame is skipped.
+/// The state of the receiver: the bytes held of a frame that hasn't ended, and whether an oversized
+/// frame is being skipped.
 #[derive(Drop)]
 struct Receiver {
     held: Vec<u8>,
     skips: bool,
 }
 
-/// Reads frames of messages of the type until the input ends, and prints a line for each: its value,
-/// `error` for a frame with no such message, or `overfull` for a frame of more than 64 bytes.
+/// Reads frames of messages of the type until the input ends, and prints a line for each: its
+/// value, `error` for a frame with no such message, or `overfull` for a frame of more than 64
+/// bytes, its zero included.
 ///
 /// # Errors
 ///
-/// As [`crate::frames::print`], and `BadType`.
+/// Fails with `BadType` if the expression is misspelled, with `Library(OutOfMemory)` if an
+/// allocation fails while it is read, and else as [`crate::frames::print`] does. The lines of the
+/// frames before an error are printed.
 pub fn print<R: Source, W: Write>(
     alloc: Global,
     expression: &str,
@@ -55,7 +59,7 @@ pub fn print<R: Source, W: Write>(
     Err(Failure::Limit)
 }
 
-/// Takes in one byte of the stream, and prints a line if a frame ends or has no room.
+/// Takes one byte of the stream, and prints a line if the frame ends or has no room.
 fn feed<W: Write>(
     alloc: Global,
     schema: &Schema,
@@ -86,8 +90,8 @@ fn feed<W: Write>(
     Ok(())
 }
 
-/// Prints the value of a frame without its zero, or `error`. Fails with `OutOfMemory` if an
-/// allocation for the value fails.
+/// Prints the value of a frame, which is given without its zero, or `error` if it has none. Fails
+/// with `OutOfMemory` if an allocation for the value fails.
 fn print_frame<W: Write>(
     alloc: Global,
     schema: &Schema,

@@ -1,4 +1,4 @@
-//! The command `types`: how a type expression is written.
+//! The command `types`, which prints how a type expression is written.
 
 ghost use Rattle.std.specs.Prelude.{◌≢◌, IfErr, OnOk};
 ghost use Rattle.std.specs.Io.KnownBytes.{Appends};
@@ -6,7 +6,7 @@ ghost use Rattle.std.specs.Io.KnownBytes.{Appends};
 use crate::failure::Failure;
 use std::io::Write;
 
-/// The forms of an expression with an example each, a line a form.
+/// The forms of an expression, each on a line with an example.
 const SYNTAX: &str = "\
 u8 u16 u32 u64 u128 usize   a number without a sign: 42
 i8 i16 i32 i64 i128 isize   a number with a sign: -42
@@ -26,7 +26,7 @@ Where a type is asked for, an expression begins with ( [ or {, ends with ?, or h
 So (u8) is the expression u8. HEX may have blanks and 0x, and - reads it from the input.
 ";
 
-/// Prints how a type expression is written.
+/// Prints how a type expression is written. Fails with `Output` if the output can't be written.
 pub fn print<W: Write>(output: &mut W) -> Result<(), Failure>
     ensures printed { OnOk result (Appends (W.contents output.old) (W.contents output.new)
         SYNTAX.now) }

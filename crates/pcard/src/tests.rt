@@ -1,4 +1,4 @@
-//! Whole calls: what they print, and their exit status.
+//! Tests of whole calls: what they print, and their exit status.
 
 ghost use Rattle.std.specs.Prelude.{None};
 
@@ -10,7 +10,7 @@ use std::io::{ErrorKind, Read, Write};
 use std::process::Abort;
 use std::test::Fail;
 
-/// The words of a text, cut at each `|`.
+/// Returns the words of a text, with `|` between two of them.
 fn words(alloc: Global, text: &str) -> Result<Vec<String>, AllocError> {
     let mut words = Vec::new(alloc);
     for word in text.split('|') {
@@ -19,7 +19,7 @@ fn words(alloc: Global, text: &str) -> Result<Vec<String>, AllocError> {
     Ok(words)
 }
 
-/// Runs the words, and compares what is printed and the status with what is wanted.
+/// Asserts that the call of these words prints `printed` and has this status.
 fn check(
     rt: &(impl Abort + AllocGlobal),
     words: &[String],
@@ -220,7 +220,7 @@ fn reads_numbers_as_written(rt: HostRuntime) -> Result<(), Fail> {
     Ok(())
 }
 
-/// As many letters `a`.
+/// Returns a text of `count` letters `a`.
 fn letters(alloc: Global, count: usize) -> Result<String, AllocError> {
     let mut text = String::new(alloc);
     for _ in 0..count {
@@ -249,7 +249,8 @@ fn encodes_into_4096_bytes(rt: HostRuntime) -> Result<(), Fail> {
     Ok(())
 }
 
-/// A writer that takes one byte a call, and fails at a stated write (counted from 0), or at its flush.
+/// A writer that takes one byte with each write, and fails once `writes_left` is 0, or at its
+/// flush.
 #[derive(Drop)]
 struct Failing {
     writes_left: usize,
@@ -310,7 +311,7 @@ fn answers_failed_output(rt: HostRuntime) -> Result<(), Fail> {
     Ok(())
 }
 
-/// Gives its bytes, and fails once so many reads were made.
+/// A source of some bytes whose reads fail once `reads_left` is 0.
 #[derive(Drop)]
 struct Breaking<'a> {
     bytes: &'a [u8],
@@ -329,8 +330,8 @@ impl Read for Breaking<'_> {
     }
 }
 
-/// Runs `frames` over the bytes, of which so many reads succeed, and compares what is printed and
-/// the status with what is wanted.
+/// Asserts that `frames` over the bytes, where `reads` reads succeed, prints `printed` and has this
+/// status.
 fn check_frames(
     rt: &(impl Abort + AllocGlobal),
     bytes: &[u8],

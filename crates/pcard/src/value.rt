@@ -1,4 +1,4 @@
-//! Reading the word VALUE.
+//! Reading the word VALUE of a type that has a name.
 
 ghost use Rattle.std.specs.Prelude.{IfOk, IfErr};
 ghost use Rattle.pcard.specs.Value.{ReadsScalar, SayEach, RefusesList, parts};
@@ -7,8 +7,13 @@ use crate::failure::Failure;
 use std::alloc::Global;
 use std::str::FromStr;
 
-/// The one value that the word says: a number, with a plus, or at a signed type a minus, before its decimal digits if at all;
-/// `true` or `false`; one character.
+/// Returns the value of a word by the type's `parse`: of a number, the decimal digits, which may
+/// have a `+` before them, or for a signed type a `-`; of a bool, `true` or `false`; of a `char`,
+/// one character.
+///
+/// # Errors
+///
+/// Fails with `BadValue` if the word is no value of the type.
 pub fn scalar<T: FromStr>(word: &str) -> Result<T, Failure>
 where
     T::Err: Drop,
@@ -20,11 +25,17 @@ where
     }
 }
 
-/// The numbers that the word says, joined by commas. The empty word says none.
+/// Returns the numbers of a word, in which they have commas between them. The empty word has none.
+///
+/// # Errors
+///
+/// Fails with `BadValue` if a part of the word is no number of the type, and with
+/// `Library(OutOfMemory)` if an allocation fails.
 pub fn list<T: FromStr + Drop>(alloc: Global, word: &str) -> Result<Vec<T>, Failure>
 where
     T::Err: Drop,
-    ensures value { IfOk result (λ numbers. SayEach T.from_str_gives (parts word.now) numbers.items) }
+    ensures value { IfOk result (λ numbers. SayEach T.from_str_gives
+        (parts word.now) numbers.items) }
     ensures refused { IfErr result (λ e. RefusesList T.from_str_gives word.now e) }
 {
     let mut numbers = Vec::new(alloc);

@@ -1,4 +1,5 @@
--- A frame in a storage: the room that it has from the start, and what the front of a buffer is.
+-- A frame in a storage: the room that it has from the start, and what the front of a buffer decodes
+-- to.
 use Rattle.std.proofs.Common.{◌≡◌, ℕ, ◌+◌, ◌-◌, ◌^◌, ◌≤◌, List, [], length, take, drop, Bool}
 use Rattle.std.proofs.Common.{Result, Ok, Err, IfOk, OnOk, ◌∙◌, subst, arith}
 use Rattle.std.proofs.Math.Seq.{take-append_seam}
@@ -9,7 +10,7 @@ use Rattle.postcard.specs.Buffers.{Fills}
 use Rattle.postcard.specs.Frames.{DecodesTo}
 use Rattle.postcard.specs.Lemmas.{frame_decodes}
 
--- Where the made frame has room, one byte does.
+-- A storage that has room for the made frame has room for one byte.
 pub one_free : {S : Type 0} {free : S → ℕ → Type 0}
     → ((s : S) (m n : ℕ) → free s (m + n) → free s m) → (s : S) (xs : List ℕ)
     → free s (length (made xs)) → free s 1
@@ -17,7 +18,7 @@ one_free {free = free} fewer s xs h =
     let e : length (made xs) ≡ 1 + (length (made xs) - 1) = omega (arith, made_least [] xs) in
     fewer s 1 _ (subst (λ n. free s n) e h)
 
--- Where the made frame had room before its first byte, its data has room after it.
+-- A storage that had room for the made frame before the first byte has room for the data after it.
 pub data_room : {S : Type 0} {held : S → List ℕ} {free : S → ℕ → Type 0} (s : S) {t : S}
     {start : ℕ} {at : Standing} {failed : Bool} {before : List ℕ} (xs : List ℕ)
     → HoldsOpen held t start at failed before [] → ((n : ℕ) → free s (1 + n) → free t n)
@@ -34,7 +35,7 @@ data_room {free = free} s xs holds keeps few room =
       few = few;
     }
 
--- The bytes counted at the front of a buffer that a frame fills decode to its data.
+-- The front of a buffer that a made frame fills, as many bytes as counted, decodes to the data.
 pub front_decodes : {E : Type 0} (r : Result ℕ E) (all old d : List ℕ)
     → IfOk r (λ count. count ≡ length (made d)) → OnOk r (Fills (made d) old all)
     → IfOk r (λ count. DecodesTo (take count all) d)

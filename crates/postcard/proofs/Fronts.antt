@@ -1,4 +1,4 @@
--- What `to_slice` says of its buffer and its answer, from what `run` and `lend_front` say.
+-- What `to_slice` says of its buffer and its result, from what `write_front` and `lend_front` say.
 use Rattle.std.proofs.Common.{◌≡◌, ◌≤◌, ◌<◌, ◌⊎◌, ℕ, List, [], ◌∷◌, length, take, drop, ◌++◌, refl, sym, ap, subst, ◌∙◌, Ok, Err, IfOk}
 use Rattle.std.proofs.Math.Seq.{drop-append_seam, take-append_seam}
 use Rattle.std.proofs.Flags.{never_true}
@@ -16,14 +16,14 @@ use denote.Follow.{such_by}
 use types.Logic.{Logic, sem}
 use types.Kit.{‵, ◌$◌, ◌∵◌, !, qed, fpack, done}
 use Rattle.postcard_wire.specs.Tree.{Tree}
-use Rattle.postcard_wire.specs.Spelling.{bytes, Spells}
+use Rattle.postcard_wire.specs.Spelling.{canonical, Spells}
 use Rattle.postcard_wire.proofs.Shortest.{least}
-use Rattle.postcard_ser.specs.Writing.{AnswersRefusal}
+use Rattle.postcard_ser.specs.Writing.{IsWriteError}
 use Rattle.postcard.specs.declared.ser.Attempt.{Attempt}
-use Rattle.postcard.specs.Buffers.{Begins}
-use Rattle.postcard.specs.Attempt.{IsAttempt, LendsFront}
+use Rattle.postcard.specs.Buffers.{FillsFront}
+use Rattle.postcard.specs.Attempt.{IsAttempt, LendsAttempt}
 
--- a test that came out true, and one that came out false
+-- A test that holds is true, and one whose negation holds is false.
 pub is_true : (b : Bool) → T b → b ≡ true
 is_true true t = refl
 is_true false t = absurd t
@@ -32,28 +32,29 @@ pub is_false : (b : Bool) → T (not b) → b ≡ false
 is_false true t = absurd t
 is_false false t = refl
 
--- the front of what was written is what was to be written
+-- If bs was written over the front of xs, the front of length bs is bs.
 in_front : (n : ℕ) (bs xs all : List ℕ) → n ≡ length bs → all ≡ bs ++ drop (length bs) xs → take n all ≡ bs
 in_front n bs xs all long is = (λ i. take (long i) (is i)) ∙ take-append_seam bs (drop (length bs) xs)
 
-module _ (xs : List ℕ) (Refuses Text Fits : Type 0) (old : List ℕ) (d : Attempt) (r : Result (MutBor (List ℕ)) Error) (done : IsAttempt xs Refuses Text Fits old d) (cut : LendsFront d r) where
-  -- what the caller writes through the front lands in front of the old bytes
+module _ (xs : List ℕ) (Refuses Text Fits : Type 0) (old : List ℕ) (d : Attempt) (r : Result (MutBor (List ℕ)) Error) (done : IsAttempt xs Refuses Text Fits old d) (cut : LendsAttempt d r) where
+  -- What the caller writes through the front is then at the front of the buffer, before the old
+  -- bytes.
   pub follows_front : (front : List ℕ) → IsOk r → front ++ drop d.count d.all.now ≡ front ++ drop (length xs) old
   follows_front front ok =
       let w = done.written (cut.sorts.0 ok) in
       let e : drop d.count d.all.now ≡ drop (length xs) old = (λ i. drop (w.0 i) (w.1 i)) ∙ drop-append_seam xs (drop (length xs) old) in
       ap (λ (l : List ℕ). front ++ l) e
 
-  -- refused, the buffer is a beginning of the bytes and then the old ones
-  pub follows_old : OnErr r (¬ Refuses → Begins xs old d.all.now)
+  -- After a failure, the buffer is a beginning of the bytes and then the old bytes.
+  pub follows_old : OnErr r (¬ Refuses → FillsFront xs old d.all.now)
   follows_old = by_answer r d.failed cut.sorts done.refused
     where
-      by_answer : (r : Result (MutBor (List ℕ)) Error) (b : Bool) → IsOk r ↔ (b ≡ false) → (b ≡ true → ¬ Refuses → Begins xs old d.all.now) → OnErr r (¬ Refuses → Begins xs old d.all.now)
+      by_answer : (r : Result (MutBor (List ℕ)) Error) (b : Bool) → IsOk r ↔ (b ≡ false) → (b ≡ true → ¬ Refuses → FillsFront xs old d.all.now) → OnErr r (¬ Refuses → FillsFront xs old d.all.now)
       by_answer (Ok x) b sorts k = tt
       by_answer (Err _) true sorts k = k refl
       by_answer (Err _) false sorts k = absurd (never_true (sorts.1 refl))
 
-  -- the front that is lent is what was to be written
+  -- The front that is lent is the bytes that were to be written.
   pub gives : IfOk r (λ x. x.now ≡ xs)
   gives = by_answer r d.failed cut.sorts cut.front (λ z. in_front d.count xs old d.all.now (done.written z).0 (done.written z).1)
     where
@@ -61,28 +62,28 @@ module _ (xs : List ℕ) (Refuses Text Fits : Type 0) (old : List ℕ) (d : Atte
       by_answer (Ok x) b sorts w k = w ∙ k (sorts.0 refl)
       by_answer (Err _) b sorts w k = tt
 
-  -- and no other spelling of the tree is as short
-  pub shortest : (t : Tree) → xs ≡ bytes t → IfOk r (λ x. (p : List ℕ) → Spells t p → (p ≡ x.now) ⊎ (length x.now < length p))
+  -- No other spelling of the tree is as short as the front.
+  pub shortest : (t : Tree) → xs ≡ canonical t → IfOk r (λ x. (p : List ℕ) → Spells t p → (p ≡ x.now) ⊎ (length x.now < length p))
   shortest t is = by_answer r gives
     where
       by_answer : (r : Result (MutBor (List ℕ)) Error) → IfOk r (λ x. x.now ≡ xs) → IfOk r (λ x. (p : List ℕ) → Spells t p → (p ≡ x.now) ⊎ (length x.now < length p))
       by_answer (Ok x) h = λ p s. subst (λ (l : List ℕ). (p ≡ l) ⊎ (length l < length p)) (sym (h ∙ is)) (least t p s)
       by_answer (Err _) h = tt
 
-  -- it succeeds exactly where that fits
+  -- The call succeeds if and only if the bytes fit the buffer.
   pub fits_iff : ¬ Refuses → IsOk r ↔ (length xs ≤ length old)
   fits_iff n = let e = done.fits_iff n in ((λ ok. e.0 (cut.sorts.0 ok)), (λ fits. cut.sorts.1 (e.1 fits)))
 
-  -- and answers want of room else
-  pub named_error : ¬ Refuses → IfErr r (AnswersRefusal Text)
+  -- Otherwise the error is one of a refusal by the flavor.
+  pub named_error : ¬ Refuses → IfErr r (IsWriteError Text)
   named_error n = by_answer r d.failed cut.sorts cut.error (done.named_error n)
     where
-      by_answer : (r : Result (MutBor (List ℕ)) Error) (b : Bool) → IsOk r ↔ (b ≡ false) → IfErr r (λ e. e ≡ d.error) → (b ≡ true → AnswersRefusal Text d.error) → IfErr r (AnswersRefusal Text)
+      by_answer : (r : Result (MutBor (List ℕ)) Error) (b : Bool) → IsOk r ↔ (b ≡ false) → IfErr r (λ e. e ≡ d.error) → (b ≡ true → IsWriteError Text d.error) → IfErr r (IsWriteError Text)
       by_answer (Ok x) b sorts w k = tt
-      by_answer (Err e) true sorts w k = subst (λ (x : Error). AnswersRefusal Text x) (sym w) (k refl)
+      by_answer (Err e) true sorts w k = subst (λ (x : Error). IsWriteError Text x) (sym w) (k refl)
       by_answer (Err e) false sorts w k = absurd (never_true (sorts.1 refl))
 
-  -- what was written fits
+  -- A value that was written fits.
   pub fits : OnOk r Fits
   fits = by_answer r d.failed cut.sorts done.fitting
     where
@@ -90,15 +91,15 @@ module _ (xs : List ℕ) (Refuses Text Fits : Type 0) (old : List ℕ) (d : Atte
       by_answer (Ok x) b sorts k = k (sorts.0 refl)
       by_answer (Err _) b sorts k = tt
 
-  -- and so what is lent spells the tree
-  pub spelled : (t : Tree) → xs ≡ bytes t → (Fits → Spells t (bytes t)) → IfOk r (λ x. Spells t x.now)
+  -- The front that is lent spells the tree.
+  pub spelled : (t : Tree) → xs ≡ canonical t → (Fits → Spells t (canonical t)) → IfOk r (λ x. Spells t x.now)
   spelled t is spell = by_answer r gives fits
     where
       by_answer : (r : Result (MutBor (List ℕ)) Error) → IfOk r (λ x. x.now ≡ xs) → OnOk r Fits → IfOk r (λ x. Spells t x.now)
       by_answer (Ok x) h f = subst (λ (l : List ℕ). Spells t l) (sym (h ∙ is)) (spell f)
       by_answer (Err _) h f = tt
 
--- where a function says what the whole ends as, it follows each relation that the function meets
+-- If the whole buffer ends as F of the front, it satisfies any relation that F satisfies.
 module _ {M : Type 1} {𝓤 : Ura M} (𝓛 : Logic 𝓤) (R U : RattleType) (γ : GName) (m : Option GName) (F : U.Denot → R.Denot) (v : R.Denot) (P : U.Denot → R.Denot → Type 0) (P₀ : R.Denot → Type 0) where
   pub follows_such : ((w : U.Denot) → P w (F w)) → P₀ v → ent 𝓤 (sem 𝓛 (follows_if R U γ m F v)) (sem 𝓛 (follows_so R U γ m P P₀))
   unfolding such_by

@@ -1,4 +1,4 @@
--- What a steady reader tells can be taken from it, with as much scratch.
+-- A front of a steady reader's known bytes can be taken, if the scratch is as long.
 use Rattle.std.proofs.Common.{◌≡◌, ◌≤◌, ℕ, List, length, Option, Some, None, sym, ap, subst, arith, length-append}
 use Rattle.std.specs.Io.KnownBytes.{Consumes}
 use Rattle.postcard_de_flavors.specs.IOReader.{CanRead, reader_of, scratch_of}
@@ -6,22 +6,22 @@ use Rattle.postcard_de_flavors.specs.Reader.{AtLeast}
 use Rattle.postcard_de_flavors.specs.Source.{Begins, CanTake}
 use Rattle.postcard_de_flavors.specs.declared.io.io.IOReader.{IOReader}
 
--- Bytes that begin with a front are at least as many.
+-- Known bytes that begin with a front are at least as many as the front has.
 begins_at_least : (known : Option (List ℕ)) (front : List ℕ) → Begins known front → AtLeast known (length front)
 begins_at_least None front b = b
 begins_at_least (Some bytes) front b = omega (arith, ap length b.1, length-append front b.0)
 
 module _ {T : Type 0} (remaining : T → Option (List ℕ)) (steady : T → Type 0) where
-  -- A front of what a steady reader tells can be taken, if the scratch is as long.
+  -- A front of a steady reader's known bytes can be taken, if the scratch is as long.
   pub can_take : (s : IOReader T) (reader : T) (scratch front : List ℕ) → reader_of s ≡ reader → scratch_of s ≡ scratch → steady reader → Begins (remaining reader) front → length front ≤ length scratch
       → CanTake (λ (s : IOReader T). remaining (reader_of s)) (CanRead remaining steady) s front
   can_take s reader scratch front is_reader is_scratch is_steady begins room =
-      let told = subst (λ (r : T). Begins (remaining r) front) (sym is_reader) begins in
+      let begun = subst (λ (r : T). Begins (remaining r) front) (sym is_reader) begins in
       record {
-        begins = told;
-        enough = (subst steady (sym is_reader) is_steady, begins_at_least (remaining (reader_of s)) front told, subst (λ (l : List ℕ). length front ≤ length l) (sym is_scratch) room);
+        begins = begun;
+        enough = (subst steady (sym is_reader) is_steady, begins_at_least (remaining (reader_of s)) front begun, subst (λ (l : List ℕ). length front ≤ length l) (sym is_scratch) room);
       }
 
-  -- What was taken from a reader was taken from it under its other names.
+  -- `Consumes` of two readers holds of readers equal to them.
   pub consumed : (old new from to : T) (front : List ℕ) → old ≡ from → to ≡ new → Consumes (remaining old) (remaining new) front → Consumes (remaining from) (remaining to) front
   consumed old new from to front e f h = subst (λ (r : T). Consumes (remaining r) (remaining to) front) e (subst (λ (r : T). Consumes (remaining old) (remaining r) front) (sym f) h)

@@ -1,12 +1,12 @@
--- What a caller's buffer ends as.
+-- What a caller's buffer holds at the end.
 use Rattle.std.specs.Prelude.{◌≡◌, ℕ, List, ◌++◌, drop, length}
 
--- The bytes xs in front, and behind them what was there.
+-- The buffer begins with the bytes xs, and has its old bytes after them.
 abbrev pub Fills : List ℕ → List ℕ → List ℕ → Type 0
 Fills xs old new = new ≡ xs ++ drop (length xs) old
 
--- A beginning of the bytes xs in front, and behind it what was there.
-pub record Begins (xs old new : List ℕ) : Type 0 where
+-- The buffer begins with a beginning of the bytes xs, and has its old bytes after that.
+pub record FillsFront (xs old new : List ℕ) : Type 0 where
   pub front : List ℕ
   pub rest : List ℕ
   pub joins : xs ≡ front ++ rest

@@ -1,4 +1,4 @@
--- What the bytes that a framing call writes are.
+-- What the bytes that a framing call writes decode to.
 use Rattle.std.specs.Prelude.{◌≡◌, ℕ, List, [], ◌∷◌, ◌++◌}
 use Rattle.postcard_cobs.specs.Groups.{Groups, NoZero}
 

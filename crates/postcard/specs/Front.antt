@@ -1,13 +1,14 @@
--- What a decoding call answers of the front of what its reader tells.
+-- What a decoding call returns for the front of its reader's bytes.
 use Rattle.std.specs.Prelude.{ℕ, ◌+◌, ◌≤◌, List, length, Option}
 use Rattle.std.specs.Io.KnownBytes.{Consumes}
 use Rattle.postcard_wire.specs.Tree.{Tree}
 use Rattle.postcard_wire.specs.Spelling.{Spells}
 use Rattle.postcard_de_flavors.specs.Reader.{AtLeast}
 
--- A front of what the reader tells spells a tree that is read, v is its value, and just that front was read; what is lent was
--- taken from the scratch, of which the rest is left. A steady reader with more bytes behind the front, and with scratch for them
--- too, has them left, and so is that scratch.
+-- The bytes `front` spell a tree that is read, and v is that tree's value. If the reader knows its
+-- bytes, they begin with `front`, and just it was read. The scratch left, `rest`, isn't longer than
+-- the scratch was. If a steady reader had at least n bytes after `front`, and the scratch had room
+-- for `front` and n bytes, then the reader and the scratch each have at least n bytes left.
 pub record ReadsReader {R V : Type 0} (reads : Tree → Type 0) (value : Tree → V → Type 0) (remaining : R → Option (List ℕ)) (steady : R → Type 0) (old : R) (scratch : List ℕ) (v : V) (new : R) (rest : List ℕ) : Type 0 where
   pub tree : Tree
   pub front : List ℕ

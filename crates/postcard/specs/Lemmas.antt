@@ -1,5 +1,5 @@
--- The lemmas for proofs of programs that use this library. Such a proof cites no other file of lemmas
--- of these crates.
+-- The lemmas for proofs of programs that use this library. Such a proof cites no other file of
+-- lemmas of these crates.
 use Rattle.std.proofs.Common.{◌≡◌, ◌⊎◌, ℕ, ◌+◌, ◌/◌, ◌≤◌, ◌<◌, ◌^◌, inl, inr, ℤ, List, [], ◌∷◌, ◌++◌, length, refl, ap, arith, length-append, encode_utf8, drop, ◌∙◌}
 use Rattle.std.proofs.Math.Seq.{drop-append_seam}
 use Rattle.std.proofs.lemmas.Str.{length-encode, len_utf8_bounds}
@@ -7,7 +7,7 @@ use Rattle.postcard_cobs.specs.Groups.{NoZero, made}
 use Rattle.postcard_cobs.proofs.Made as frames
 use Rattle.postcard_wire.specs.Number.{digits, zigzag, InRange}
 use Rattle.postcard_wire.specs.Tree.{Tree, Trees, Char, Text, Seq, Variant, Then, count, WellFormed}
-use Rattle.postcard_wire.specs.Spelling.{Spells, bytes, bytes_all}
+use Rattle.postcard_wire.specs.Spelling.{Spells, canonical, canonical_all}
 use Rattle.postcard_wire.specs.Reading.{IsDelimited}
 use Rattle.postcard_wire.proofs.Delimited as delimited
 use Rattle.postcard_wire.proofs.Ranged.{zig_below}
@@ -16,28 +16,28 @@ use Rattle.postcard_wire.proofs.Writing as writing
 use Rattle.postcard_shape.specs.Shape.{Shape}
 use Rattle.postcard_shape.proofs.Again as again
 use Rattle.postcard.specs.Frames.{DecodesTo}
--- How a value that calls other values is written: the calls of its `serialize`, one after the other.
+-- How a value that is made of others is written: the calls of its `serialize`, one after the other.
 pub use Rattle.postcard_ser.proofs.PartByPart.{wrote_none, wrote_refusal, wrote_err, wrote_ok, wrote_last, wrote_stop, wrote_then, wrote_as, wrote_closes}
--- Sets of trees of which no encoding begins another, and whose trees are well formed.
+-- Sets of trees whose encodings are prefix-free, and whose trees are well formed.
 pub use Rattle.postcard_wire.proofs.Delimited.{byte_delimited, boolean_delimited, num_delimited, int_delimited, char_delimited, text_delimited}
 pub use Rattle.postcard_wire.proofs.Delimited.{option_delimited, end_delimited, then_delimited, group_delimited, seq_delimited, array_delimited, variant_delimited}
 pub use Rattle.postcard_wire.proofs.WellFormed.{byte_well_formed, boolean_well_formed, num_well_formed, int_well_formed, char_well_formed, text_well_formed}
 pub use Rattle.postcard_wire.proofs.WellFormed.{option_well_formed, end_well_formed, then_well_formed, group_well_formed, seq_well_formed, array_well_formed, variant_well_formed}
--- The bytes of a list's elements, one after the other, and how many there are.
+-- The encodings of a list's elements, one after the other, and the number of elements.
 pub use Rattle.postcard_ser.proofs.Elements.{elements_count, elements_more, elements_cut}
 pub use Rattle.postcard_shape.proofs.Bytes.{bytes_of_bytes}
 -- Bytes that were taken, one front after another.
 pub use Rattle.postcard_de_nodes.specs.TakeLemmas.{nothing_taken, both_taken, faces, can_first, can_second}
--- A thing and another behind it, read as one thing; what was read, seen otherwise; want of memory.
+-- Two things in a row read as one thing; what was read, turned into another value; lack of memory.
 pub use Rattle.postcard_de_nodes.specs.CompoundLemmas.{Compound, first_refused, second_refused, both_read}
 pub use Rattle.postcard_de_nodes.specs.SeenLemmas.{recast, refused_too, passed_on}
 pub use Rattle.postcard_de_nodes.specs.ReadLemmas.{out_of_memory}
--- Elements that are read one by one, behind their count or without one.
+-- Elements that are read one by one, after their count or without one.
 pub use Rattle.postcard_de.proofs.Lists.{behind, Going, going, goes_on, going_stops, going_full, going_done}
 pub use Rattle.postcard_de_nodes.specs.CountLemmas.{list_read, list_refused, count_refused}
 pub use Rattle.postcard_de.proofs.Parts.{part_and_rest}
--- How a value that is made of others is read: what was read of its parts, of which the first may
--- refuse, and of the index and the content of a variant.
+-- How a value that is made of others is read: its parts from left to right, of which the first that
+-- can't be read ends the reading, and the index and the content of a variant.
 pub use Rattle.postcard_de_nodes.specs.ReadLemmas.{refusal, is_refusal}
 pub use Rattle.postcard_de_nodes.specs.NumberLemmas.{Below}
 pub use Rattle.postcard_de.proofs.Parts.{AllAre, NoneIs, and_part, and_fails, stops, no_more}
@@ -46,113 +46,115 @@ pub use Rattle.postcard_de.proofs.Enums.{index_refused, content_refused, variant
 pub use Rattle.postcard_de.proofs.Enums.{unknown_index}
 pub use Rattle.postcard_de_nodes.specs.SeenLemmas.{no_room}
 
--- A `u16`, and so a number below 2^16, takes 3 bytes at most.
+-- A `u16`, that is, a number below 2^16, takes at most 3 bytes.
 pub u16_len : (n : ℕ) → n < 2 ^ 16 → length (digits n) ≤ 3
 u16_len = writing.few_16
 
--- A `u32`, the index of a variant too, takes 5 bytes at most.
+-- A `u32`, as the index of a variant, takes at most 5 bytes.
 pub u32_len : (n : ℕ) → n < 2 ^ 32 → length (digits n) ≤ 5
 u32_len = writing.few_32
 
--- A `u64`, a `usize`, and the count before a text, a list or a map takes 10 bytes at most.
+-- A `u64`, a `usize`, or the count before a text, a list or a map takes at most 10 bytes.
 pub u64_len : (n : ℕ) → n < 2 ^ 64 → length (digits n) ≤ 10
 u64_len = writing.few_64
 
--- A `u128` takes 19 bytes at most.
+-- A `u128` takes at most 19 bytes.
 pub u128_len : (n : ℕ) → n < 2 ^ 128 → length (digits n) ≤ 19
 u128_len = writing.few_128
 
--- An `i16` takes 3 bytes at most.
+-- An `i16` takes at most 3 bytes.
 pub i16_len : (z : ℤ) → InRange 16 z → length (digits (zigzag z)) ≤ 3
 i16_len z h = u16_len (zigzag z) (zig_below 16 z (inl refl) h)
 
--- An `i32` takes 5 bytes at most.
+-- An `i32` takes at most 5 bytes.
 pub i32_len : (z : ℤ) → InRange 32 z → length (digits (zigzag z)) ≤ 5
 i32_len z h = u32_len (zigzag z) (zig_below 32 z (inr (inl refl)) h)
 
--- An `i64` or an `isize` takes 10 bytes at most.
+-- An `i64` or an `isize` takes at most 10 bytes.
 pub i64_len : (z : ℤ) → InRange 64 z → length (digits (zigzag z)) ≤ 10
 i64_len z h = u64_len (zigzag z) (zig_below 64 z (inr (inr (inl refl))) h)
 
--- An `i128` takes 19 bytes at most.
+-- An `i128` takes at most 19 bytes.
 pub i128_len : (z : ℤ) → InRange 128 z → length (digits (zigzag z)) ≤ 19
 i128_len z h = u128_len (zigzag z) (zig_below 128 z (inr (inr (inr refl))) h)
 
--- A count below 128 takes one byte.
+-- A count below 128 takes at most one byte.
 pub short_len : (n : ℕ) → n < 128 → length (digits n) ≤ 1
 short_len n h = shortest.length-digits 0 n (omega (arith, h))
 
--- A character takes 5 bytes at most, its length among them.
-pub char_len : (c : ℕ) → length (bytes (Char c)) ≤ 5
+-- A character takes at most 5 bytes, its length included.
+pub char_len : (c : ℕ) → length (canonical (Char c)) ≤ 5
 char_len c =
     let e = length-encode c in
     let b = len_utf8_bounds c in
     let d = short_len (length (encode_utf8 c)) (omega arith) in
     omega (arith, length-append (digits (length (encode_utf8 c))) (encode_utf8 c))
 
--- A text takes its count and its bytes.
-pub text_len : (u : List ℕ) → length (bytes (Text u)) ≡ length (digits (length u)) + length u
+-- The length of a text's encoding is that of its length's varint plus the number of its bytes.
+pub text_len : (u : List ℕ) → length (canonical (Text u)) ≡ length (digits (length u)) + length u
 text_len u = length-append (digits (length u)) u
 
--- A list, a byte string or a map takes its count and its elements.
-pub seq_len : (ts : Trees) → length (bytes (Seq ts)) ≡ length (digits (count ts)) + length (bytes_all ts)
-seq_len ts = length-append (digits (count ts)) (bytes_all ts)
+-- The length of the encoding of a list, a byte string or a map is that of its count's varint plus
+-- that of its elements.
+pub seq_len : (ts : Trees) → length (canonical (Seq ts)) ≡ length (digits (count ts)) + length (canonical_all ts)
+seq_len ts = length-append (digits (count ts)) (canonical_all ts)
 
--- Parts in a row, as those of a tuple, a struct or a list, take the first and then the others.
-pub parts_len : (t : Tree) (ts : Trees) → length (bytes_all (Then t ts)) ≡ length (bytes t) + length (bytes_all ts)
-parts_len t ts = length-append (bytes t) (bytes_all ts)
+-- The length of the encodings of parts in a row, as of a tuple, a struct or a list, is that of the
+-- first plus that of the others.
+pub parts_len : (t : Tree) (ts : Trees) → length (canonical_all (Then t ts)) ≡ length (canonical t) + length (canonical_all ts)
+parts_len t ts = length-append (canonical t) (canonical_all ts)
 
--- A variant takes its index and its content.
-pub variant_len : (i : ℕ) (t : Tree) → length (bytes (Variant i t)) ≡ length (digits i) + length (bytes t)
-variant_len i t = length-append (digits i) (bytes t)
+-- The length of a variant's encoding is that of its index's varint plus that of its content.
+pub variant_len : (i : ℕ) (t : Tree) → length (canonical (Variant i t)) ≡ length (digits i) + length (canonical t)
+variant_len i t = length-append (digits i) (canonical t)
 
--- The canonical bytes of a well formed tree spell it.
-pub canonical_spells : (t : Tree) → WellFormed t → Spells t (bytes t)
-canonical_spells = shortest.Spells-bytes
+-- The canonical encoding of a well formed tree spells it.
+pub canonical_spells : (t : Tree) → WellFormed t → Spells t (canonical t)
+canonical_spells = shortest.Spells-canonical
 
--- Any other spelling of a tree is longer.
-pub others_longer : (t : Tree) (p : List ℕ) → Spells t p → (p ≡ bytes t) ⊎ (length (bytes t) < length p)
+-- Any spelling of a tree other than its canonical encoding is longer.
+pub others_longer : (t : Tree) (p : List ℕ) → Spells t p → (p ≡ canonical t) ⊎ (length (canonical t) < length p)
 others_longer = shortest.least
 
--- No spelling of a tree is shorter than the canonical one.
-pub spelling_len : (t : Tree) (p : List ℕ) → Spells t p → length (bytes t) ≤ length p
+-- No spelling of a tree is shorter than its canonical encoding.
+pub spelling_len : (t : Tree) (p : List ℕ) → Spells t p → length (canonical t) ≤ length p
 spelling_len t p s =
     elim (others_longer t p s) [
       | inl e ↦ omega (arith, ap length e)
       | inr h ↦ omega (arith, h)
     ]
 
--- What a value that fits is written as spells its tree.
-pub written_spells : {V : Type 0} (s : Shape V) (v : V) → s.fits v → Spells (s.tree v) (bytes (s.tree v))
+-- What is written for a value that fits spells its tree.
+pub written_spells : {V : Type 0} (s : Shape V) (v : V) → s.fits v → Spells (s.tree v) (canonical (s.tree v))
 written_spells = again.is_spelled
 
--- The tree that a value that fits is written as is read, and the value is one of that tree.
+-- The tree of a value that fits is one that its type reads, and the value is a value of that tree.
 pub comes_back : {V : Type 0} (s : Shape V) (v : V) → s.fits v → s.reads (s.tree v) × s.value (s.tree v) v
 comes_back s = s.again
 
--- What is read of the tree of a value that fits looks like the value.
+-- Every value of the tree of a value that fits looks like that value.
 pub looks_alike : {V : Type 0} (s : Shape V) (v w : V) → s.fits v → s.value (s.tree v) w → s.same w v
 looks_alike = again.is_same
 
--- Where no tree is read, none begins another: the law `delimited` of a shape that reads nothing.
+-- The empty set of trees is prefix-free: the law `delimited` of a shape that reads nothing.
 pub none_delimited : IsDelimited (λ t. ⊥)
 none_delimited = delimited.none_delimited
 
--- The frame of n bytes has n + n / 254 + 2 bytes at most, the zero at its end among them.
+-- The made frame of n bytes has at most n + n / 254 + 2 bytes, the zero at its end included.
 pub frame_len : (d : List ℕ) → length (made d) ≤ length d + length d / 254 + 2
 frame_len = frames.made_length
 
--- A frame has just one zero, which is its last byte.
+-- A made frame has just one zero, which is its last byte.
 pub frame_ends : (d : List ℕ) → (frame : List ℕ) × NoZero frame × (made d ≡ frame ++ 0 ∷ [])
 frame_ends = frames.one_zero
 
--- What is the frame of some bytes decodes to them, and to no others.
+-- The made frame of some bytes decodes to these bytes.
 pub frame_decodes : (m d : List ℕ) → m ≡ made d → DecodesTo m d
 frame_decodes m d e =
     let f = frames.made_frame d (made d) (frames.made_is_made d) in
     record { frame = f.0; ends = e ∙ f.2; no_zero = f.1; groups = f.3 }
 
--- The same of a frame behind other bytes.
-pub frame_behind_decodes : (front all d : List ℕ) → all ≡ front ++ made d → DecodesTo (drop (length front) all) d
-frame_behind_decodes front all d e =
+-- The same for a made frame after other bytes.
+pub frame_after_decodes : (front all d : List ℕ) → all ≡ front ++ made d → DecodesTo (drop (length front) all) d
+frame_after_decodes front all d e =
     frame_decodes (drop (length front) all) d (ap (drop (length front)) e ∙ drop-append_seam front (made d))

@@ -1,11 +1,11 @@
-//! Decoding from a reader.
+//! Decoding a value from a reader.
 
 ghost use Rattle.std.specs.Prelude.{◌≡◌, ◌≤◌, ℕ, List, length, Err, IfOk, IfErr, MatchResult};
 ghost use Rattle.std.specs.Io.KnownBytes.{Consumes};
 ghost use Rattle.postcard_wire.specs.Tree.{Tree};
-ghost use Rattle.postcard_wire.specs.Spelling.{Spells, bytes as canonical};
+ghost use Rattle.postcard_wire.specs.Spelling.{Spells, canonical};
 ghost use Rattle.postcard_de_flavors.specs.Source.{Begins};
-ghost use Rattle.postcard_de.specs.Reads.{MayAnswer};
+ghost use Rattle.postcard_de.specs.Reads.{IsReadError};
 ghost use Rattle.postcard.specs.Front.{ReadsReader};
 
 use postcard_de::{Deserialize, Deserializer};
@@ -14,20 +14,24 @@ use postcard_de_flavors::io::io::IOReader;
 use postcard_wire::{Error, Result};
 use std::alloc::Global;
 
-/// Decodes a value from a reader, and returns it with the reader and the scratch left. The bytes
-/// after the value stay unread, so that each call can be given what the one before it returned.
+/// Decodes a value from a reader and a scratch buffer, and returns it with the reader and the
+/// scratch left. The bytes after the value stay unread, so the next call can take what this one
+/// returned.
 ///
-/// What is lent to the value, as a `&str`, is in the scratch buffer, which is used up by that many
-/// bytes. The bytes of a `String` need it only for a while, and numbers don't need it.
+/// Slices and texts in the value, as a `&str`, are in the scratch buffer, of which they use up as
+/// many bytes. A `String` needs as many bytes of scratch while it is read and uses up none; numbers
+/// need none.
 ///
-/// The value is that of a front of the reader's bytes, and just that front was read. Over a steady
-/// reader it succeeds if a front spells a tree that the type reads and the scratch is at least as
-/// long as that front. Wrap a reader that promises nothing in [`Plain`](crate::de_flavors::Plain).
+/// If the reader knows its bytes, the value is that of a front of them, and just that front was
+/// read. Over a steady reader it succeeds if a front spells a tree that the type reads, the scratch
+/// is at least as long as that front, and no allocation fails. Wrap a reader that isn't a `Source`
+/// in [`Plain`](crate::de_flavors::Plain).
 ///
 /// # Errors
 ///
-/// As [`take_from_bytes`](crate::take_from_bytes), and `DeserializeUnexpectedEnd` also if the
-/// reader fails or the scratch is too short. The reader and the scratch are then dropped.
+/// Fails as [`take_from_bytes`](crate::take_from_bytes), and with `DeserializeUnexpectedEnd` also
+/// if the reader fails or the scratch is too short. After a failure the reader and the scratch are
+/// dropped.
 pub fn from_io<'a, T: Deserialize<'a>, R: Source + 'a>(
     alloc: Global,
     from: (R, &'a mut [u8]),
@@ -50,7 +54,7 @@ pub fn from_io<'a, T: Deserialize<'a>, R: Source + 'a>(
         (λ e. (e ≡ Error.OutOfMemory) × T.shape.grows) }
     ensures stays_steady { R.steady from.entry.0 → IfOk result (λ read. R.steady read.1.0) }
     ensures grows { result ≡ Err Error.OutOfMemory → T.shape.grows }
-    ensures names { IfErr result (MayAnswer T.shape.grows) }
+    ensures named_error { IfErr result (IsReadError T.shape.grows) }
 {
     let (reader, scratch) = from;
     let mut deserializer = Deserializer::from_flavor(IOReader::new(reader, scratch));

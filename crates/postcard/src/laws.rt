@@ -1,9 +1,9 @@
-//! Laws over what the calls return, as contracts. But for [`comes_back`] and
-//! [`frame_comes_back`], the functions do nothing.
+//! Laws of what the calls return, as contracts of functions. The functions do nothing, except for
+//! [`comes_back`] and [`frame_comes_back`].
 
 ghost use Rattle.std.specs.Prelude.{◌≡◌, ◌≤◌, ℕ, List, ◌++◌, length, Some, IfOk};
 ghost use Rattle.postcard_wire.specs.Tree.{Tree};
-ghost use Rattle.postcard_wire.specs.Spelling.{Spells, bytes};
+ghost use Rattle.postcard_wire.specs.Spelling.{Spells, canonical};
 ghost use Rattle.postcard_de_flavors.specs.Source.{Begins};
 ghost use Rattle.postcard_frame.specs.Front.{ReadsFront};
 ghost use Rattle.postcard.specs.Front.{ReadsReader};
@@ -17,26 +17,27 @@ use postcard_ser::Serialize;
 use postcard_wire::Result;
 use std::alloc::Global;
 
-/// What was encoded is decoded, whatever bytes follow: if bytes begin with the encoding of a tree
-/// that the type reads, what is read from them is a value of that tree, and just the bytes after it
-/// are left.
+/// What was encoded is decoded, whatever bytes follow: if bytes begin with the canonical encoding
+/// of a tree that the type reads, the value read from them is a value of that tree, and just the
+/// bytes after the encoding are left.
 pub fn decodes_encoded<'a, T: Deserialize<'a>>()
-    ensures spelled { (t : Tree) → T.shape.reads t → Spells t (bytes t) }
+    ensures spelled { (t : Tree) → T.shape.reads t → Spells t (canonical t) }
     ensures decoded { (t : Tree) (rest left : List ℕ) (v : T) → T.shape.reads t
-        → ReadsFront T.shape.reads T.shape.value (bytes t ++ rest) v left
+        → ReadsFront T.shape.reads T.shape.value (canonical t ++ rest) v left
         → T.shape.value t v × (left ≡ rest) }
 {}
 
-/// Two decodings of the same bytes, as those of `take_from_bytes` and of `from_io`, give values
-/// that look alike and leave the same bytes.
+/// Two decodings of the same bytes, as by `take_from_bytes` and by `from_io`, return values that
+/// look alike and leave the same bytes.
 pub fn decodes_alike<'a, T: Deserialize<'a>>()
     ensures { (all rest left : List ℕ) (v w : T) → ReadsFront T.shape.reads T.shape.value all v rest
         → ReadsFront T.shape.reads T.shape.value all w left → T.shape.same v w × (rest ≡ left) }
 {}
 
-/// Reading from a reader is reading from its bytes: the values of `from_io` and of
-/// `take_from_bytes` over the reader's bytes look alike, and what stays unread is the rest. With
-/// scratch as long as these bytes, each succeeds if the other does.
+/// Reading from a reader that knows its bytes agrees with reading from these bytes: the values of
+/// `from_io` and of `take_from_bytes` look alike, and what stays unread is the rest. If `from_io`
+/// succeeds, the bytes can be decoded; and if they can, `from_io` succeeds over a steady reader
+/// with scratch as long as the bytes, unless an allocation fails.
 pub fn reads_alike<'a, T: Deserialize<'a>, R: Source>()
     ensures alike { (old new : R) (all scratch room rest : List ℕ) (v w : T)
         → R.remaining old ≡ Some all
@@ -53,12 +54,12 @@ pub fn reads_alike<'a, T: Deserialize<'a>, R: Source>()
         × Begins (R.remaining old) front × (length front ≤ length scratch) }
 {}
 
-/// Encodes a value and decodes it again: what comes back looks like the value.
+/// Encodes a value, decodes it again, and returns the decoded value, which looks like the first.
 ///
 /// # Errors
 ///
-/// Fails with `SerializeBufferFull` or `OutOfMemory` if an allocation fails, and with the error of
-/// a value that refuses itself.
+/// Fails with `SerializeBufferFull` or `OutOfMemory` if an allocation fails, with `CollectStrError`
+/// for a type whose text may fail to print, and with the error of a value that refuses itself.
 pub fn comes_back<T: Serialize + DeserializeOwned>(alloc: Global, value: &T) -> Result<T>
     ensures { IfOk result (λ back. T.shape.same back value.now) }
 {
@@ -67,11 +68,12 @@ pub fn comes_back<T: Serialize + DeserializeOwned>(alloc: Global, value: &T) -> 
     Ok(back)
 }
 
-/// Encodes a value as a frame and decodes it again in place: what comes back looks like the value.
+/// Encodes a value as a frame, decodes it again in place, and returns the decoded value, which
+/// looks like the first.
 ///
 /// # Errors
 ///
-/// As [`comes_back`].
+/// Fails as [`comes_back`].
 pub fn frame_comes_back<T: Serialize + DeserializeOwned>(alloc: Global, value: &T) -> Result<T>
     ensures { IfOk result (λ back. T.shape.same back value.now) }
 {

@@ -1,8 +1,15 @@
-//! Postcard: values as few bytes, and back.
+//! Postcard: encodes values compactly in binary, and decodes them.
 //!
 //! This is the crate that programs use: the calls that encode and decode, and the traits, errors
-//! and buffers of the layers below. Its contract is what each call promises from end to end, in the
-//! words of the wire format: trees, their spellings, and the one shortest spelling.
+//! and flavors of the layers below. Its contracts say what each call promises from end to end, in
+//! terms of the wire format: trees, the bytes that spell them, and the canonical encoding of a
+//! tree, which is its one shortest spelling.
+//!
+//! A value *refuses itself* if its own `Serialize` may fail whatever flavor it is written to: it
+//! breaks a rule of its type, its type begins a list without a length, or it is written as a text
+//! whose `Display` may fail. No value of this library's types does, unless a part of it does. The
+//! shape of a type of your own says which of its values refuse themselves (`refusing` and `printed`
+//! in `specs/Refusing.antt` of the crate `postcard_shape`).
 //!
 //! - `to_slice` and `fill_slice` write a value into a buffer (module `ser`).
 //! - `to_vec`, `to_allocvec`, `to_stdvec`, `to_extend`, `to_io` write it elsewhere, and
@@ -18,7 +25,7 @@
 //!   `read_frames` reads all frames of a reader (both of `postcard_accumulator`).
 //! - `fixint` writes and reads numbers at their full width, the lowest or the highest byte first
 //!   (all of `postcard_fixint`).
-//! - `laws` has what ties both directions together.
+//! - `laws` has the laws that tie both directions together.
 #![tactic(auto)]
 
 pub mod accumulator;

@@ -1,65 +1,69 @@
-//! Encoding into a buffer.
+//! Encoding a value into a buffer.
 
 ghost use Rattle.std.specs.Prelude.{◌≡◌, ◌<◌, ◌≤◌, ◌↔◌, ◌⊎◌, ℕ, List, ◌++◌, length, drop, IfOk};
 ghost use Rattle.std.specs.Prelude.{IfErr, IsOk, OnErr, OnOk};
 ghost use Rattle.std.specs.Borrow.{sem, LendsIfOk, LendsSoOk, Array, u8};
-ghost use Rattle.postcard_wire.specs.Spelling.{bytes, Spells};
-ghost use Rattle.postcard_ser.specs.Writing.{AnswersRefusal};
-ghost use Rattle.postcard.specs.Buffers.{Fills, Begins};
-ghost use Rattle.postcard.specs.Attempt.{IsAttempt, LendsFront};
+ghost use Rattle.postcard_wire.specs.Spelling.{canonical, Spells};
+ghost use Rattle.postcard_ser.specs.Writing.{IsWriteError};
+ghost use Rattle.postcard.specs.Buffers.{Fills, FillsFront};
+ghost use Rattle.postcard.specs.Attempt.{IsAttempt, LendsAttempt};
 
 use postcard_memory::front;
 use postcard_ser::{Serialize, Serializer};
 use postcard_ser_flavors::Slice;
 use postcard_wire::{Error, Result};
 
-/// Encodes a value into the front of a buffer, and returns that front: the shortest spelling of the
-/// value's tree. The bytes after it are unchanged. Nothing is allocated.
+/// Encodes a value into the front of `buf`, and returns that front: the canonical encoding of the
+/// value's tree, which is its shortest spelling. The bytes after it are unchanged. Nothing is
+/// allocated.
 ///
-/// The clause `writes_back` says what the buffer is once the loan is over. A caller with proofs of
-/// its own about the buffer uses [`fill_slice`], whose plain clauses say the same.
+/// The clause `writes_back` says what the buffer holds once the loan has ended. A caller with
+/// proofs of its own about the buffer uses [`fill_slice`], whose plain clauses say the same.
 ///
 /// # Errors
 ///
-/// Fails with `SerializeBufferFull` if and only if the encoding is longer than the buffer, unless
-/// the value refuses itself. The buffer then holds a beginning of the encoding, and after it the
-/// old bytes.
+/// Fails if and only if the encoding is longer than `buf`: with `SerializeBufferFull`, or with
+/// `CollectStrError` for a type whose text may fail to print. The buffer then holds a beginning of
+/// the encoding, and after it the old bytes. For a value that refuses itself, the call may fail in
+/// any case and with another error; the content of the buffer is then unspecified.
 pub fn to_slice<'a, T: Serialize>(value: &T, buf: &'a mut [u8]) -> Result<&'a mut [u8]>
-    // After a success, what the caller makes of the front, and then the old bytes; after a failure,
-    // a beginning of the encoding, and then the old bytes.
+    // After a success, the buffer holds what the caller made of the front, and then the old bytes;
+    // after a failure, a beginning of the encoding, and then the old bytes.
     ensures* writes_back { sem 𝓛 (LendsSoOk (Array u8 0) (Array u8 0) buf.entry result
-        (λ all front. all ≡ front ++ drop (length (bytes (T.shape.tree value.now))) buf.old)
+        (λ all front. all ≡ front ++ drop (length (canonical (T.shape.tree value.now))) buf.old)
         (λ all. ¬ T.shape.refuses value.now
-        → Begins (bytes (T.shape.tree value.now)) buf.old all)) }
-    ensures gives { IfOk result (λ front. front.now ≡ bytes (T.shape.tree value.now)) }
+        → FillsFront (canonical (T.shape.tree value.now)) buf.old all)) }
+    ensures gives { IfOk result (λ front. front.now ≡ canonical (T.shape.tree value.now)) }
     ensures shortest { IfOk result (λ front. (p : List ℕ) → Spells (T.shape.tree value.now) p
         → (p ≡ front.now) ⊎ (length front.now < length p)) }
     ensures fits_iff { ¬ T.shape.refuses value.now
-        → (IsOk result ↔ (length (bytes (T.shape.tree value.now)) ≤ length buf.old)) }
-    ensures named_error { ¬ T.shape.refuses value.now → IfErr result (AnswersRefusal T.shape.text) }
+        → (IsOk result ↔ (length (canonical (T.shape.tree value.now)) ≤ length buf.old)) }
+    ensures named_error { ¬ T.shape.refuses value.now → IfErr result (IsWriteError T.shape.text) }
     ensures fits { OnOk result (T.shape.fits value.now) }
     ensures spelled { IfOk result (λ front. Spells (T.shape.tree value.now) front.now) }
 {
     lend_front(write_front(value, buf))
 }
 
-/// Encodes a value into the front of a buffer, and returns the number of bytes written. The Rust
-/// crate has no such call.
+/// Encodes a value into the front of `buf`, and returns the number of bytes written, which are the
+/// canonical encoding of the value's tree. The bytes after them are unchanged. Nothing is
+/// allocated. The Rust crate has no such call.
 ///
-/// The same as [`to_slice`], for callers that keep the buffer: its contract says what the whole
-/// buffer is after the call.
+/// It does the same as [`to_slice`], for callers that keep the buffer: its contract says what the
+/// whole buffer holds after the call.
 ///
 /// # Errors
 ///
-/// As [`to_slice`].
+/// Fails as [`to_slice`], and leaves the buffer as that does.
 pub fn fill_slice<T: Serialize>(value: &T, buf: &mut [u8]) -> Result<usize>
-    ensures counts { IfOk result (λ count. count ≡ length (bytes (T.shape.tree value.now))) }
-    ensures fills { OnOk result (Fills (bytes (T.shape.tree value.now)) buf.old buf.new) }
+    ensures count_is_length { IfOk result (λ count. count
+        ≡ length (canonical (T.shape.tree value.now))) }
+    ensures fills { OnOk result (Fills (canonical (T.shape.tree value.now)) buf.old buf.new) }
     ensures refused { OnErr result (¬ T.shape.refuses value.now
-        → Begins (bytes (T.shape.tree value.now)) buf.old buf.new) }
+        → FillsFront (canonical (T.shape.tree value.now)) buf.old buf.new) }
     ensures fits_iff { ¬ T.shape.refuses value.now
-        → (IsOk result ↔ (length (bytes (T.shape.tree value.now)) ≤ length buf.old)) }
-    ensures named_error { ¬ T.shape.refuses value.now → IfErr result (AnswersRefusal T.shape.text) }
+        → (IsOk result ↔ (length (canonical (T.shape.tree value.now)) ≤ length buf.old)) }
+    ensures named_error { ¬ T.shape.refuses value.now → IfErr result (IsWriteError T.shape.text) }
     ensures fits { OnOk result (T.shape.fits value.now) }
 {
     let Attempt {
@@ -71,8 +75,8 @@ pub fn fill_slice<T: Serialize>(value: &T, buf: &mut [u8]) -> Result<usize>
     if failed { Err(error) } else { Ok(count) }
 }
 
-/// What an attempt leaves: the whole buffer, the number of bytes written, and the error if it
-/// `failed`.
+/// What an attempt to write returns: the whole buffer, the number of bytes written, and the error,
+/// which counts only if the attempt `failed`.
 struct Attempt<'a> {
     all: &'a mut [u8],
     count: usize,
@@ -80,10 +84,11 @@ struct Attempt<'a> {
     error: Error,
 }
 
-/// Writes the value into the front of the buffer, and returns the buffer as the loan that it was.
+/// Writes the value into the front of the buffer, and returns the whole buffer, the same loan, with
+/// the outcome.
 fn write_front<'a, T: Serialize>(value: &T, buf: &'a mut [u8]) -> Attempt<'a>
     ensures same_loan { result.all.ghost_name ≡ buf.entry.ghost_name }
-    ensures attempts { IsAttempt (bytes (T.shape.tree value.now)) (T.shape.refuses value.now)
+    ensures attempts { IsAttempt (canonical (T.shape.tree value.now)) (T.shape.refuses value.now)
         T.shape.text (T.shape.fits value.now) buf.old result }
 {
     let mut serializer = Serializer {
@@ -107,12 +112,12 @@ fn write_front<'a, T: Serialize>(value: &T, buf: &'a mut [u8]) -> Attempt<'a>
     }
 }
 
-/// Returns the written front of the buffer, or the error.
+/// Returns the front of the buffer that was written, or the error if the attempt failed.
 fn lend_front<'a>(attempt: Attempt<'a>) -> Result<&'a mut [u8]>
     requires { attempt.count ≤ length attempt.all.now }
     ensures* writes_back { sem 𝓛 (LendsIfOk (Array u8 0) (Array u8 0) attempt.entry.all result
         (λ front. front ++ drop attempt.entry.count attempt.entry.all.now) attempt.entry.all.now) }
-    ensures lends { LendsFront attempt.entry result }
+    ensures lends { LendsAttempt attempt.entry result }
 {
     let Attempt {
         all,

@@ -1,4 +1,4 @@
-//! Where written bytes go.
+//! The writing flavors: where encoded bytes go.
 
 pub use postcard_ser_cobs::Cobs;
 pub use postcard_ser_flavors::{

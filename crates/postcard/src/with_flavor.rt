@@ -1,9 +1,9 @@
-//! Encoding into any writing flavor, and the calls over those of this library.
+//! Encoding into any writing flavor, and the calls for the flavors of this library.
 
 ghost use Rattle.std.specs.Prelude.{◌≡◌, ◌≤◌, ◌↔◌, ◌++◌, length, IfOk, IfErr, IsOk, OnOk};
 ghost use Rattle.std.specs.Io.KnownBytes.{Appends};
-ghost use Rattle.postcard_wire.specs.Spelling.{bytes};
-ghost use Rattle.postcard_ser.specs.Writing.{AnswersRefusal};
+ghost use Rattle.postcard_wire.specs.Spelling.{canonical};
+ghost use Rattle.postcard_ser.specs.Writing.{IsWriteError};
 ghost use Rattle.postcard.specs.Finished.{Finished};
 
 use arrayvec::ArrayVec;
@@ -14,22 +14,23 @@ use postcard_wire::{Error, Result};
 use std::alloc::Global;
 use std::io::Write;
 
-/// Encodes a value into a flavor, ends the flavor, and returns its output. The flavor took just the
-/// shortest spelling of the value's tree.
+/// Encodes a value into a flavor, ends the flavor, and returns its output. The flavor has then
+/// taken just the canonical encoding of the value's tree.
 ///
 /// # Errors
 ///
-/// Fails with `SerializeBufferFull` if the flavor refuses bytes or its end, and never if it has
-/// room for the encoding. Fails with the error of a value that refuses itself. The flavor is then
-/// dropped.
+/// Fails with `SerializeBufferFull`, or with `CollectStrError` for a type whose text may fail to
+/// print, if the flavor refuses bytes or can't end; never if it has room for the encoding. For a
+/// value that refuses itself, the call may fail in any case and with another error. After a failure
+/// the flavor is dropped.
 pub fn serialize_with_flavor<T: Serialize, S: Flavor<Output = O> + Drop, O>(
     value: &T,
     storage: S,
 ) -> Result<O>
-    ensures gives { IfOk result (Finished S.Flavor storage (bytes (T.shape.tree value.now))) }
+    ensures gives { IfOk result (Finished S.Flavor storage (canonical (T.shape.tree value.now))) }
     ensures has_room { ¬ T.shape.refuses value.now
-        → S.room storage (bytes (T.shape.tree value.now)) → IsOk result }
-    ensures named_error { ¬ T.shape.refuses value.now → IfErr result (AnswersRefusal T.shape.text) }
+        → S.room storage (canonical (T.shape.tree value.now)) → IsOk result }
+    ensures named_error { ¬ T.shape.refuses value.now → IfErr result (IsWriteError T.shape.text) }
     ensures fits { OnOk result (T.shape.fits value.now) }
 {
     let mut serializer = Serializer { output: storage };
@@ -40,18 +41,19 @@ pub fn serialize_with_flavor<T: Serialize, S: Flavor<Output = O> + Drop, O>(
     }
 }
 
-/// Encodes a value into a vector of at most `B` bytes, which holds them itself. Nothing is
+/// Encodes a value into an `ArrayVec` with room for `B` bytes, and returns it. Nothing is
 /// allocated.
 ///
 /// # Errors
 ///
-/// Fails with `SerializeBufferFull` if and only if the encoding has more than `B` bytes, unless the
-/// value refuses itself.
+/// Fails if and only if the encoding has more than `B` bytes: with `SerializeBufferFull`, or with
+/// `CollectStrError` for a type whose text may fail to print. For a value that refuses itself, the
+/// call may fail in any case and with another error.
 pub fn to_vec<T: Serialize, const B: usize>(value: &T) -> Result<ArrayVec<u8, B>>
-    ensures gives { IfOk result (λ vec. vec.items ≡ bytes (T.shape.tree value.now)) }
+    ensures gives { IfOk result (λ vec. vec.items ≡ canonical (T.shape.tree value.now)) }
     ensures fits_iff { ¬ T.shape.refuses value.now
-        → (IsOk result ↔ (length (bytes (T.shape.tree value.now)) ≤ B)) }
-    ensures named_error { ¬ T.shape.refuses value.now → IfErr result (AnswersRefusal T.shape.text) }
+        → (IsOk result ↔ (length (canonical (T.shape.tree value.now)) ≤ B)) }
+    ensures named_error { ¬ T.shape.refuses value.now → IfErr result (IsWriteError T.shape.text) }
     ensures fits { OnOk result (T.shape.fits value.now) }
 {
     serialize_with_flavor(value, HVec::new())
@@ -61,48 +63,54 @@ pub fn to_vec<T: Serialize, const B: usize>(value: &T) -> Result<ArrayVec<u8, B>
 ///
 /// # Errors
 ///
-/// Fails with `SerializeBufferFull` only if an allocation fails, unless the value refuses itself.
+/// Fails only if an allocation fails: with `SerializeBufferFull`, or with `CollectStrError` for a
+/// type whose text may fail to print. For a value that refuses itself, the call may fail in any
+/// case and with another error.
 pub fn to_allocvec<T: Serialize>(alloc: Global, value: &T) -> Result<Vec<u8>>
-    ensures gives { IfOk result (λ vec. vec.items ≡ bytes (T.shape.tree value.now)) }
-    ensures named_error { ¬ T.shape.refuses value.now → IfErr result (AnswersRefusal T.shape.text) }
+    ensures gives { IfOk result (λ vec. vec.items ≡ canonical (T.shape.tree value.now)) }
+    ensures named_error { ¬ T.shape.refuses value.now → IfErr result (IsWriteError T.shape.text) }
     ensures fits { OnOk result (T.shape.fits value.now) }
 {
     serialize_with_flavor(value, AllocVec::new(alloc))
 }
 
-/// The same as [`to_allocvec`], under the name that users of `std` know.
+/// Does the same as [`to_allocvec`], under the name that the Rust crate has for users of `std`.
 pub fn to_stdvec<T: Serialize>(alloc: Global, value: &T) -> Result<Vec<u8>>
-    ensures gives { IfOk result (λ vec. vec.items ≡ bytes (T.shape.tree value.now)) }
-    ensures named_error { ¬ T.shape.refuses value.now → IfErr result (AnswersRefusal T.shape.text) }
+    ensures gives { IfOk result (λ vec. vec.items ≡ canonical (T.shape.tree value.now)) }
+    ensures named_error { ¬ T.shape.refuses value.now → IfErr result (IsWriteError T.shape.text) }
     ensures fits { OnOk result (T.shape.fits value.now) }
 {
     serialize_with_flavor(value, StdVec::new(alloc))
 }
 
-/// Encodes a value after what a target holds, and returns the target.
+/// Encodes a value after what the target `writer` holds, and returns the target.
 ///
 /// # Errors
 ///
-/// Fails with `SerializeBufferFull` if the target refuses bytes. It is then dropped.
+/// Fails with `SerializeBufferFull`, or with `CollectStrError` for a type whose text may fail to
+/// print, if the target refuses bytes. For a value that refuses itself, the call may fail in any
+/// case and with another error. After a failure the target is dropped.
 pub fn to_extend<T: Serialize, W: ExtendBytes + Drop>(value: &T, writer: W) -> Result<W>
     ensures appends { IfOk result
-        (λ target. W.content target ≡ W.content writer ++ bytes (T.shape.tree value.now)) }
-    ensures named_error { ¬ T.shape.refuses value.now → IfErr result (AnswersRefusal T.shape.text) }
+        (λ target. W.content target ≡ W.content writer ++ canonical (T.shape.tree value.now)) }
+    ensures named_error { ¬ T.shape.refuses value.now → IfErr result (IsWriteError T.shape.text) }
     ensures fits { OnOk result (T.shape.fits value.now) }
 {
     serialize_with_flavor(value, ExtendFlavor::new(writer))
 }
 
-/// Encodes a value to a writer, flushes it, and returns it.
+/// Writes the encoding of a value to a writer, flushes the writer, and returns it.
 ///
 /// # Errors
 ///
-/// Fails with `SerializeBufferFull` if the writer or its flush fails. The writer is then dropped,
-/// and may have got some of the bytes.
+/// Fails with `SerializeBufferFull`, or with `CollectStrError` for a type whose text may fail to
+/// print, if the writer or its flush fails. For a value that refuses itself, the call may fail in
+/// any case and with another error. After a failure the writer is dropped, and may have been given
+/// some of the bytes.
 pub fn to_io<T: Serialize, W: Write + Drop>(value: &T, writer: W) -> Result<W>
     ensures appends { IfOk result (λ output. Appends (W.contents writer) (W.contents output)
-        (bytes (T.shape.tree value.now))) }
-    ensures named_error { ¬ T.shape.refuses value.now → IfErr result (AnswersRefusal T.shape.text) }
+        (canonical (T.shape.tree value.now))) }
+    ensures named_error { ¬ T.shape.refuses value.now → IfErr result (IsWriteError T.shape.text) }
     ensures fits { OnOk result (T.shape.fits value.now) }
 {
     serialize_with_flavor(value, WriteFlavor::new(writer))

@@ -1,4 +1,4 @@
--- For a type that doesn't grow, the answers of a stream are one, but for values that look alike.
+-- For a type that doesn't grow, two lists of answers of one stream are alike.
 use Rattle.std.proofs.Common.{◌≡◌, ℕ, ◌+◌, ◌<◌, inl, inr, List, [], ◌∷◌, ◌++◌, length, sym, ap}
 use Rattle.std.proofs.Common.{subst, ◌∙◌, arith}
 use native.Mathlib.Decide.{dec_le}

@@ -5,7 +5,7 @@ use Rattle.std.specs.Prelude.{flat_map}
 use Rattle.std.proofs.lemmas.List.{append-nil}
 use Rattle.postcard_cobs.specs.Groups.{Groups}
 use Rattle.postcard_cobs.proofs.Made.{made_frame}
-use Rattle.postcard_wire.specs.Spelling.{bytes as canonical}
+use Rattle.postcard_wire.specs.Spelling.{canonical}
 use Rattle.postcard_shape.specs.Shape.{Shape}
 use Rattle.postcard_shape.proofs.Again.{is_spelled}
 use Rattle.postcard_accumulator.specs.State.{holding}
@@ -20,7 +20,7 @@ use Rattle.postcard_accumulator.proofs.Cutting.{one_split}
 use Rattle.postcard_accumulator.proofs.Fronts.{values_alike}
 
 module _ {T : Type 0} (n : ℕ) (shape : Shape T) where
-  -- a frame of the canonical encoding of a value that fits has that value
+  -- A frame of the canonical encoding of a value that fits has that value.
   is_value : (v : T) (f : List ℕ) → shape.fits v → Groups f (canonical (shape.tree v))
       → IsValueOf shape f v
   is_value v f fits g = record {
@@ -37,7 +37,7 @@ module _ {T : Type 0} (n : ℕ) (shape : Shape T) where
     };
   }
 
-  -- the frames of what is sent, without their zeros
+  -- The frames of what is sent, without their zeros.
   abbrev frames_of : (sent : List (Sent T)) → AreSent n shape sent → List (List ℕ)
   frames_of [] s = []
   frames_of (message v frame ∷ more) s =
@@ -59,7 +59,7 @@ module _ {T : Type 0} (n : ℕ) (shape : Shape T) where
       (joins more s.3)
   joins (oversized f ∷ more) s = ap (λ (x : List ℕ). ended f ++ x) (joins more s.2)
 
-  -- the own answer of a made frame
+  -- The own answer of a made frame is its value, or `DeserError` if its type grows.
   own_arrives : (v : T) (f : List ℕ) (a : Answer T) (more : List (Sent T)) (b : List (Answer T))
       (frame : List ℕ) → shape.fits v → Groups f (canonical (shape.tree v)) → IsOwn shape f a
       → Arrive shape more b → Arrive shape (message v frame ∷ more) (a ∷ b)

@@ -9,7 +9,7 @@ use Rattle.postcard_cobs.proofs.Made.{NoZero-append, NoZero-right}
 use Rattle.postcard_accumulator.specs.Streams.{AreZeroFree, ended, IsSplit}
 use Rattle.postcard_accumulator.specs.Laws.{EndsInZero, FramesAreOne}
 
--- the first zero of a list stands before each other
+-- The first zero of a list is before every other.
 pub zero_cut : (f w more v : List ℕ) → NoZero f → f ++ 0 ∷ more ≡ w ++ 0 ∷ v
     → ((w ≡ f) × (more ≡ v)) ⊎ ((t : List ℕ) × (w ≡ f ++ 0 ∷ t) × (more ≡ t ++ 0 ∷ v))
 zero_cut [] [] more v z e = inl (refl, cc)
@@ -26,20 +26,21 @@ zero_cut (x ∷ f) (y ∷ w) more v z e =
       | inr r ↦ inr (r.0, cc (heads, r.1), r.2)
     ]
 
--- a piece that ends a frame has a zero
+-- A piece that ends a frame has a zero.
 pub has_zero : (p q r : List ℕ) → EndsFrame p q r → NoZero p → ⊥
 has_zero p q r e z = at_zero q r (subst NoZero e.1 z) where
   at_zero : (q r : List ℕ) → NoZero (q ++ 0 ∷ r) → ⊥
   at_zero [] r z = absurd (omega (arith, z.0))
   at_zero (x ∷ q) r z = at_zero q r z.1
 
--- the frame at the front of bytes without a zero is all of them
+-- The frame at the front of bytes without a zero is all of them.
 pub before_zero_all : (f : List ℕ) → NoZero f → before_zero f ≡ f
 before_zero_all [] z = refl
 before_zero_all (b ∷ f) z = let e : eqb b 0 ≡ false = ne_eqb b 0 (λ e. omega (arith, z.0)) in
     rw e (ap (λ (x : List ℕ). b ∷ x) (before_zero_all f z.1))
 
--- frames joined, and their two halves
+-- Two lists of frames without zeros, joined, are such a list, and both halves of such a list are
+-- such lists.
 pub AreZeroFree-append : (fs gs : List (List ℕ)) → AreZeroFree fs → AreZeroFree gs
     → AreZeroFree (fs ++ gs)
 AreZeroFree-append [] gs a b = b
@@ -53,13 +54,13 @@ pub AreZeroFree-right : (fs gs : List (List ℕ)) → AreZeroFree (fs ++ gs) →
 AreZeroFree-right [] gs a = a
 AreZeroFree-right (f ∷ fs) gs a = AreZeroFree-right fs gs a.1
 
--- the first of some frames stands in front
+-- A stream of frames begins with the first of them.
 pub first : (g : List ℕ) (gs : List (List ℕ)) (q : List ℕ) → flat_map ended (g ∷ gs) ++ q ≡ g
     ++ 0 ∷ (flat_map ended gs ++ q)
 first g gs q = append_assoc (ended g) (flat_map ended gs) q
     ∙ append_assoc g (0 ∷ []) (flat_map ended gs ++ q)
 
--- a front of a stream that ends in a zero is whole frames
+-- A front of a stream that ends in a zero consists of whole frames.
 pub ends_cut : (u v : List ℕ) (fs : List (List ℕ)) (rest : List ℕ) → EndsInZero u → AreZeroFree fs
     → NoZero rest → u ++ v ≡ flat_map ended fs ++ rest →
     (gs hs : List (List ℕ)) × (fs ≡ gs ++ hs) × (u ≡ flat_map ended gs)
@@ -89,7 +90,7 @@ ends_cut u v (f ∷ fs) rest (inr w) zf zr e =
           )
     ]
 
--- a stream is frames and a rest in one way at most
+-- A stream is frames and a rest in at most one way.
 pub split_one : (fs gs : List (List ℕ)) (r q : List ℕ) → AreZeroFree fs → AreZeroFree gs → NoZero r
     → NoZero q → flat_map ended fs ++ r ≡ flat_map ended gs ++ q → (fs ≡ gs) × (r ≡ q)
 split_one [] [] r q zf zg zr zq e = (refl, e)
@@ -104,14 +105,14 @@ split_one (f ∷ fs) (g ∷ gs) r q zf zg zr zq e =
       | inr c ↦ absurd (has_zero g f c.0 (zf.0, c.1) zg.0)
     ]
 
--- two splits of one stream are one
+-- Two splits of one stream are equal.
 pub one_split : (s : List ℕ) (fs gs : List (List ℕ)) (r q : List ℕ) → IsSplit s fs r
     → IsSplit s gs q → (fs ≡ gs) × (r ≡ q)
 one_split s fs gs r q p u =
     split_one fs gs r q p.frames_zero_free u.frames_zero_free p.rest_zero_free u.rest_zero_free
     (sym p.is ∙ u.is)
 
--- the split of a stream of which h has come
+-- A stream that begins with h, which has no zero, is frames and a rest.
 split_from : (h s : List ℕ) → NoZero h → (fs : List (List ℕ)) × (r : List ℕ) × IsSplit (h ++ s) fs r
 split_from h [] z = ([], h, record { is = append-nil h; frames_zero_free = tt; rest_zero_free = z })
 split_from h (zero ∷ s) z =

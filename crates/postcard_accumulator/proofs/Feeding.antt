@@ -1,4 +1,4 @@
--- One feed returns the answers of what it takes of its piece.
+-- One feed returns the answers of the front that it takes of its piece.
 use Rattle.std.proofs.Common.{◌≡◌, ℕ, ◌+◌, ◌<◌, ◌≤◌, inl, inr, List, [], ◌∷◌, ◌++◌, length, refl}
 use Rattle.std.proofs.Common.{sym, ap, ◌∙◌, append_assoc, arith, length-append}
 use Rattle.std.proofs.lemmas.List.{append-nil}
@@ -17,7 +17,7 @@ use Rattle.postcard_accumulator.specs.declared.answers.Answer.TheVariants.{OverF
 use Rattle.postcard_accumulator.specs.declared.answers.Answer.TheVariants.{Success}
 
 module _ {T : Type 0} (n : ℕ) (shape : Shape T) where
-  -- a stream of one frame has one answer, and nothing is held after it
+  -- A stream of one frame has one answer, and nothing is held after it.
   one_frame : (h q : List ℕ) (last : Answer T) → NoZero h → NoZero q →
       (length (h ++ q) + 1 ≤ n → IsOwn shape (h ++ q) last)
       → (n < length (h ++ q) + 1 → last ≡ OverFull) →
@@ -40,7 +40,7 @@ module _ {T : Type 0} (n : ℕ) (shape : Shape T) where
   cut : (q rest : List ℕ) → q ++ 0 ∷ rest ≡ (q ++ 0 ∷ []) ++ rest
   cut q rest = sym (append_assoc q (0 ∷ []) rest)
 
-  -- what ends a frame that has room, and the frame's own answer
+  -- A piece that ends a frame that has room has the frame's own answer.
   ends_fitting : (h w q rest : List ℕ) (last : Answer T) (d : State) → NoZero h
       → EndsFitting n h w q rest → IsOwn shape (h ++ q) last → d ≡ holding [] →
       (eaten : List ℕ) × (w ≡ eaten ++ rest) × IsAnswered n shape (h ++ eaten) (last ∷ []) d

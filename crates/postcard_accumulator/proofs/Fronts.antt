@@ -1,4 +1,5 @@
--- The value of a frame: there is one at most, and a frame is refused only if there is none.
+-- The value of a frame: there is at most one, except for values that look alike, and a frame is
+-- refused only if there is none.
 use Rattle.std.proofs.Common.{◌≡◌, List, ℕ, ◌++◌, subst}
 use Rattle.postcard_wire.specs.declared.error.Error.{Error}
 use Rattle.postcard_wire.specs.declared.error.Error.TheVariants.{OutOfMemory}
@@ -11,7 +12,7 @@ use Rattle.postcard_frame.proofs.Alike.{fronts_alike}
 use Rattle.postcard_shape.specs.Shape.{Shape}
 use Rattle.postcard_accumulator.specs.Feeding.{IsValueOf, IsRefused}
 
--- two values of one frame look alike
+-- Two values of one frame look alike.
 pub values_alike : {V : Type 0} (shape : Shape V) (f : List ℕ) (v w : V) → IsValueOf shape f v
     → IsValueOf shape f w → shape.same v w
 values_alike shape f v w a b =
@@ -20,12 +21,13 @@ values_alike shape f v w a b =
     a.is_read in
     (fronts_alike shape.delimited shape.one_value first b.is_read).0
 
--- no data, no value
+-- A frame that has no data has no value.
 pub refused_none : {T : Type 0} (shape : Shape T) (f : List ℕ) → ((d : List ℕ) → Groups f d → ⊥)
     → IsRefused shape f
 refused_none shape f none = λ still v o. none o.content o.decodes
 
--- A call that succeeds wherever a front of the data is read refuses only if the frame has no value.
+-- If a call fails that succeeds for every front of the data that is read, unless memory runs out,
+-- then the frame has no value.
 pub refused_data : {T : Type 0} (shape : Shape T) (f d : List ℕ) (e : Error) → Groups f d →
     ((t : Tree) (front rest : List ℕ) → shape.reads t → Spells t front → d ≡ front ++ rest
     → (e ≡ OutOfMemory) × shape.grows) → IsRefused shape f

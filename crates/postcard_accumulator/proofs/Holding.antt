@@ -1,4 +1,4 @@
--- What a state says of the fields, and what a refusal of a taken frame says of the feed.
+-- What a state says of the accumulator's fields, and what the refusal of a frame says of the feed.
 use Rattle.std.proofs.Common.{◌≡◌, ℕ, List, ◌++◌, refl, ap, sym, subst, ◌∙◌, Bool, true, false}
 use Rattle.std.proofs.Common.{inl, inr}
 use Rattle.std.specs.Prelude.{IsTrue}
@@ -16,26 +16,26 @@ use Rattle.postcard_accumulator.specs.declared.taken.Taken.{Taken}
 use Rattle.postcard_accumulator.specs.declared.taken.Taken.TheVariants.{Refused, Message}
 use Rattle.postcard_accumulator.proofs.Fronts.{refused_none, refused_data}
 
--- where nothing is skipped, the flag is unset and the held bytes are those of the state
+-- If no frame is being skipped, the flag is false and the bytes held are those of the state.
 pub not_skipping : (b : Bool) (l : List ℕ) (c : State) → state_of b l ≡ c → is_skipping c ≡ false
     → (b ≡ false) × (l ≡ held_of c)
 not_skipping false l c e f = (refl, ap held_of e)
 not_skipping true l c e f = let t : true ≡ false = ap is_skipping e ∙ f in cc
 
--- an unset flag isn't set
+-- A flag that is false isn't true.
 pub never : (b : Bool) (A : Type 0) → b ≡ false → IsTrue b → A
 never false A e t = let x : false ≡ true = t in cc
 never true A e t = cc
 
 module _ {T : Type 0} (shape : Shape T) where
-  -- a frame that is no COBS frame has no value
+  -- `DeserError` is right for a frame that is no COBS frame.
   pub read_refused : (rest : Bor (List ℕ)) → IsReadOf shape (Refused rest) (DeserError rest)
   read_refused rest n (holding h) p after t = (t.0, t.1, refused_none shape (h ++ t.0) t.2, t.3)
   read_refused rest n skipping p after (inl t) = absurd (let no = t.1 in cc)
   read_refused rest n skipping p after (inr t) =
       inr (t.0, t.1, t.2, (t.3.0, t.3.1, refused_none shape t.3.0 t.3.2, t.3.3))
 
-  -- nor has one whose data is refused
+  -- `DeserError` is right for a frame whose data is refused.
   pub read_err : (d rest : Bor (List ℕ)) (e : Error)
       → ((t : Tree) (front more : List ℕ) → shape.reads t → Spells t front → d.now ≡ front ++ more
       → (e ≡ OutOfMemory) × shape.grows) → IsReadOf shape (Message d rest) (DeserError rest)
@@ -46,7 +46,8 @@ module _ {T : Type 0} (shape : Shape T) where
       inr (t.0, t.1, t.2, (t.3.0, t.3.1, refused_data shape t.3.0 d.now e t.3.2 accepts, t.3.3))
 
 module _ {T U : Type 0} (see : U → T) (s : Shape T) where
-  -- The value of a frame is that of a type that is seen as another, and the other way round.
+  -- A value of a type that is seen as another, read from a frame, is seen as the other type's
+  -- value.
   value_seen : (f : List ℕ) (u : U) → IsValueOf (via see s) f u → IsValueOf s f (see u)
   value_seen f u o = record {
     content = o.content;
@@ -82,7 +83,7 @@ module _ {T U : Type 0} (see : U → T) (s : Shape T) where
   refused_seen make is f r still v o =
       r still (make v) (value_made f (make v) (subst (λ w. IsValueOf s f w) (sym (is v)) o))
 
-  -- So is what is read of a piece.
+  -- The same of the result of a feed.
   pub read_seen : (taken : Taken) (u : U) (rest : Bor (List ℕ))
       → IsReadOf (via see s) taken (Success u rest) → IsReadOf s taken (Success (see u) rest)
   read_seen taken u rest r n (holding h) p after t =

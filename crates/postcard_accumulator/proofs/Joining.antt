@@ -1,4 +1,4 @@
--- Answers of calls in a row, joined, are answers of the joined stream.
+-- The answers of calls in a row, one list after the other, are answers of the joined stream.
 use Rattle.std.proofs.Common.{◌≡◌, ℕ, ◌<◌, inl, inr, List, [], ◌∷◌, ◌++◌, length, refl, sym, ap}
 use Rattle.std.proofs.Common.{subst, ◌∙◌, append_assoc, arith, length-append}
 use Rattle.std.specs.Prelude.{flat_map}
@@ -23,7 +23,8 @@ module _ {T : Type 0} (n : ℕ) (shape : Shape T) where
   AreAnswersOf-append (f ∷ fs) gs [] b p q = absurd p
   AreAnswersOf-append (f ∷ fs) gs (x ∷ a) b p q = (p.0, AreAnswersOf-append fs gs a b p.1 q)
 
-  -- frames, a rest that goes on, and what came of it
+  -- Frames, and a rest that is held and continued by y: the answers are those of the frames, and
+  -- then those of the rest and y.
   join_held : (s y : List ℕ) (fs : List (List ℕ)) (r : List ℕ) (ps b : List (Answer T)) (e : State)
       → IsSplit s fs r → AreAnswersOf n shape fs ps →
       IsAnswered n shape (r ++ y) b e → IsAnswered n shape (s ++ y) (ps ++ b) e
@@ -48,7 +49,8 @@ module _ {T : Type 0} (n : ℕ) (shape : Shape T) where
     );
   }
 
-  -- frames, a rest that has no room, and the bytes that are skipped after it
+  -- Frames, and a rest that has no room and is skipped: the answers are those of the frames, then
+  -- `OverFull`, and then those of y while skipping.
   join_over : (s y : List ℕ) (fs : List (List ℕ)) (r : List ℕ) (ps b : List (Answer T)) (e : State)
       → IsSplit s fs r → AreAnswersOf n shape fs ps → n < length r →
       Answers n shape skipping y b e → IsAnswered n shape (s ++ y) ((ps ++ OverFull ∷ []) ++ b) e

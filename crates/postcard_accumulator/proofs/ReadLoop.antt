@@ -1,4 +1,4 @@
--- The two loops of the reading: over the feeds of a piece, and over the reads.
+-- The two loops of reading: over the feeds of a piece, and over the reads.
 use Rattle.std.proofs.Common.{◌≡◌, ℕ, ◌+◌, ◌-◌, ◌*◌, ◌<◌, ◌≤◌, inl, inr, List, [], ◌∷◌, ◌++◌}
 use Rattle.std.proofs.Common.{length, refl, sym, ap, subst, ◌∙◌, append_assoc, arith, length-append}
 use Rattle.std.proofs.Common.{take, drop}
@@ -23,7 +23,7 @@ use Rattle.postcard_accumulator.proofs.Feeding.{feeds_law}
 use Rattle.postcard_accumulator.proofs.Joining.{joined_law}
 
 module _ {T : Type 0} (n : ℕ) (shape : Shape T) where
-  -- no bytes, no answers
+  -- No bytes have no answers.
   nothing_fed : (c : State) → NoZero (held_of c) → length (held_of c) ≤ n
       → Answers n shape c [] [] c
   nothing_fed (holding h) zh room = rw (append-nil h) (record {
@@ -37,7 +37,7 @@ module _ {T : Type 0} (n : ℕ) (shape : Shape T) where
   })
   nothing_fed skipping zh room = inl (tt, refl, refl)
 
-  -- inside a piece: what is fed of it, the answers to that, and what is left
+  -- The state within a piece: the bytes fed so far, the answers to them, and the bytes left.
   pub record AtWindow (before : State) (piece : List ℕ) (old now : List (Answer T)) (after : State)
       (window : List ℕ) : Type 0 where
     pub eaten : List ℕ
@@ -84,11 +84,11 @@ module _ {T : Type 0} (n : ℕ) (shape : Shape T) where
       ∙ take_at p.eaten window (length piece - left) m in
       record { within = omega arith; answers = p.answers; items = p.items; is = rw t p.is }
 
-  -- what ends a frame takes a byte of the piece
+  -- A feed that ends a frame takes at least one byte of the piece.
   ends_shorter : (h w q rest : List ℕ) → EndsFitting n h w q rest → length rest < length w
   ends_shorter h w q rest f = let l = ap length f.0.1 ∙ length-append q (0 ∷ rest) in omega arith
 
-  -- so each feed of a piece that isn't empty leaves less than it
+  -- A feed of a piece that isn't empty leaves fewer bytes than the piece has.
   shorter_held : (h w : List ℕ) (r : FeedResult T) (k : State) → 0 < length w
       → IsFedHolding n shape h w r k → length (left_of r) < length w
   shorter_held h w Consumed k some f = some
@@ -116,7 +116,7 @@ module _ {T : Type 0} (n : ℕ) (shape : Shape T) where
   shorter skipping w r k some (inr f) = let l = ap length f.2.1 ∙ length-append f.0 (0 ∷ f.1) in
       let m = left_within [] f.1 r k f.3 in omega arith
 
-  -- `count` reads were made, and all that they gave was fed
+  -- The state between reads: `count` reads were made, and all bytes read were fed.
   pub record ReadSoFar (from now : Option (List ℕ)) (before after : State)
       (old new : List (Answer T)) (count size : ℕ) : Type 0 where
     pub given : List ℕ
@@ -144,7 +144,7 @@ module _ {T : Type 0} (n : ℕ) (shape : Shape T) where
       (p : ReadSoFar from now c after old new count size)
       (piece : List ℕ) (left : ℕ) (f : IsFedAll n shape after piece new newer later left)
       (g : Consumes now next piece) where
-    -- the answers go on with what was fed of the piece
+    -- The answers so far, with those of the bytes fed of the piece, are answers of all these bytes.
     goes_on : Answers n shape c (p.given ++ take (length piece - left) piece)
         (p.answers ++ f.answers) later
     goes_on = joined_law shape n c after later p.given
@@ -154,7 +154,7 @@ module _ {T : Type 0} (n : ℕ) (shape : Shape T) where
     items_on = f.items ∙ ap (λ (x : List (Answer T)). x ++ f.answers) p.items
         ∙ append_assoc old p.answers f.answers
 
-    -- a read whose bytes were all fed
+    -- After a read whose bytes were all fed, the state between reads holds again.
     pub read_on : left ≡ 0 → 0 < length piece → length piece ≤ size
         → ReadSoFar from next c later old newer (count + 1) size
     read_on none some fits =
@@ -174,7 +174,7 @@ module _ {T : Type 0} (n : ℕ) (shape : Shape T) where
           at_least = omega arith;
         }
 
-    -- a read of whose bytes the last were not fed
+    -- After a read whose last bytes weren't fed, the loop ends with `OutOfMemory`.
     pub read_stopped : (reads to at : ℕ) (chunk : List ℕ) → count < reads → 0 < left → to
         ≤ length chunk → piece ≡ take to chunk → at ≡ to - left → length chunk ≡ size →
         IsReading n shape reads from next chunk c later old newer (OutOfMemory at to)
@@ -207,7 +207,7 @@ module _ {T : Type 0} (n : ℕ) (shape : Shape T) where
           more1 : count + 1 ≤ reads
           more1 = omega arith
 
-  -- an end at which all that was read was fed
+  -- The loop may end between reads: all bytes read were fed.
   pub read_ended : (from now : Option (List ℕ)) (c after : State) (old new : List (Answer T))
       (count size reads : ℕ) (chunk : List ℕ) (e : ReadEnd)
       → ReadSoFar from now c after old new count size →
@@ -229,7 +229,7 @@ module _ {T : Type 0} (n : ℕ) (shape : Shape T) where
         ends = well (length p.given) p.at_least;
       }
 
-  -- a read that gave nothing changes nothing, nor does one that failed
+  -- A read that returned no bytes or failed changes nothing.
   pub read_nothing : (from now next : Option (List ℕ)) (c after : State) (old new : List (Answer T))
       (count size : ℕ) →
       ReadSoFar from now c after old new count size → Consumes now next []

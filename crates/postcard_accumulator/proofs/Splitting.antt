@@ -1,4 +1,4 @@
--- Answers of a stream are answers of its parts, where these end in a zero.
+-- The answers of a stream are those of its parts, if the parts before the last end in a zero.
 use Rattle.std.proofs.Common.{◌≡◌, ℕ, inl, inr, List, [], ◌∷◌, ◌++◌, length, refl, sym, ap, subst}
 use Rattle.std.proofs.Common.{◌∙◌, append_assoc, arith, length-append}
 use Rattle.std.specs.Prelude.{flat_map}
@@ -25,7 +25,7 @@ module _ {T : Type 0} (n : ℕ) (shape : Shape T) where
       let r = AreAnswersOf-cut fs gs a p.1 in
       (x ∷ r.0, r.1, ap (λ (y : List (Answer T)). x ∷ y) r.2, (p.0, r.3), r.4)
 
-  -- whole frames and nothing more
+  -- A stream that is whole frames has one answer for each, and nothing is held after it.
   whole : (s : List ℕ) (fs : List (List ℕ)) (ps : List (Answer T)) → s ≡ flat_map ended fs
       → AreZeroFree fs → AreAnswersOf n shape fs ps → IsAnswered n shape s ps (holding [])
   whole s fs ps is zf each = record {
@@ -99,7 +99,7 @@ module _ {T : Type 0} (n : ℕ) (shape : Shape T) where
             )
       ]
 
-  -- no stream of nothing has a frame, and so nothing is held after it
+  -- The empty stream has no frame, and nothing is held after it.
   pub none_held : (a : List (Answer T)) (d : State) → IsAnswered n shape [] a d → d ≡ holding []
   none_held a d q = by_frames q.frames q.split where
     by_frames : (fs : List (List ℕ)) → IsSplit [] fs q.rest → d ≡ holding []

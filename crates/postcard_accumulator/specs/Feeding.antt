@@ -15,27 +15,27 @@ use Rattle.postcard_accumulator.specs.declared.taken.Taken.TheVariants as taken
 abbrev pub IsValueOf : {T : Type 0} → Shape T → List ℕ → T → Type 0
 IsValueOf shape f v = ReadsFrame shape.reads shape.value f v
 
--- The frame f has no value. Of a type that asks for memory when it is read, nothing is said: the
--- memory may have been refused.
+-- The frame f has no value. For a type that grows nothing is said, since an allocation may have
+-- failed.
 abbrev pub IsRefused : {T : Type 0} → Shape T → List ℕ → Type 0
 IsRefused {T} shape f = ¬ shape.grows → (v : T) → IsValueOf shape f v → ⊥
 
--- The piece p ends a frame that h, q are and that has room with its zero, and the rest follows.
+-- The piece p ends the frame h ++ q, which has room with its zero, and `rest` follows in p.
 abbrev pub EndsFitting : ℕ → List ℕ → List ℕ → List ℕ → List ℕ → Type 0
 EndsFitting n h p q rest = EndsFrame p q rest × (length h + length q + 1 ≤ n)
 
--- The piece p ends a frame that has no room, or it has no zero, and no room itself: then the frame
--- is skipped from now on.
+-- The piece p ends a frame that has no room; or p has no zero and no room after h, and the frame is
+-- skipped from now on.
 abbrev pub Overflows : ℕ → List ℕ → List ℕ → List ℕ → State → Type 0
 Overflows n h p rest after =
     ((q : List ℕ) × EndsFrame p q rest × (n < length h + length q + 1) × (after ≡ holding []))
     ⊎ (NoZero p × (n < length h + length p) × (rest ≡ []) × (after ≡ skipping))
 
--- The piece p has no zero and room, and is held.
+-- The piece p has no zero, has room after h, and is held.
 abbrev pub IsHeld : ℕ → List ℕ → List ℕ → State → Type 0
 IsHeld n h p after = NoZero p × (length h + length p ≤ n) × (after ≡ holding (h ++ p))
 
--- What the piece p completes where h is held, in an accumulator of n bytes.
+-- What the piece p completes in an accumulator of n bytes that holds h.
 abbrev pub IsTakenHolding : ℕ → List ℕ → List ℕ → Taken → State → Type 0
 IsTakenHolding n h p taken.Consumed after = IsHeld n h p after
 IsTakenHolding n h p (taken.OverFull rest) after = Overflows n h p rest.now after
@@ -53,7 +53,7 @@ IsTaken n skipping p result after =
     (NoZero p × (result ≡ taken.Consumed) × (after ≡ skipping))
     ⊎ ((q more : List ℕ) × EndsFrame p q more × IsTakenHolding n [] more result after)
 
--- What is returned for the piece p where h is held, in an accumulator of n bytes.
+-- What is returned for the piece p by an accumulator of n bytes that holds h.
 abbrev pub IsFedHolding : {T : Type 0} → ℕ → Shape T → List ℕ → List ℕ → FeedResult T → State
     → Type 0
 IsFedHolding n shape h p Consumed after = IsHeld n h p after
@@ -70,7 +70,8 @@ IsFed n shape skipping p result after =
     (NoZero p × (result ≡ Consumed) × (after ≡ skipping))
     ⊎ ((q more : List ℕ) × EndsFrame p q more × IsFedHolding n shape [] more result after)
 
--- An answer is read of what a piece completes, whatever the state, the piece and the room were.
+-- The answer is what a feed returns if its piece completes `taken`, whatever the state, the piece
+-- and the room were.
 abbrev pub IsReadOf : {T : Type 0} → Shape T → Taken → FeedResult T → Type 0
 IsReadOf shape taken answer =
     (n : ℕ) (c : State) (p : List ℕ) (after : State) → IsTaken n c p taken after

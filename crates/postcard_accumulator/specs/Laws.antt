@@ -17,7 +17,7 @@ FeedsAnswer {T} shape =
     → NoZero (held_of c) → IsFed n shape c p r d
     → (eaten : List ℕ) × (p ≡ eaten ++ left_of r) × Answers n shape c eaten (answers_of r) d
 
--- Answers of calls in a row, joined, are answers of the joined stream.
+-- The answers of calls in a row, one list after the other, are answers of the joined stream.
 abbrev pub Joined : {T : Type 0} → Shape T → Type 0
 Joined {T} shape =
     (n : ℕ) (c d e : State) (x y : List ℕ) (a b : List (Answer T))
@@ -35,15 +35,15 @@ IsAlike shape (Success v) OverFull = ⊥
 IsAlike shape (Success v) DeserError = ⊥
 IsAlike shape (Success v) (Success w) = shape.same v w
 
--- Two lists of answers are equally long and look alike one by one.
+-- Two lists of answers are equally long, and their elements look alike one by one.
 abbrev pub AreAlike : {T : Type 0} → Shape T → List (Answer T) → List (Answer T) → Type 0
 AreAlike shape [] [] = Unit {0}
 AreAlike shape [] (y ∷ ys) = ⊥
 AreAlike shape (x ∷ xs) [] = ⊥
 AreAlike shape (x ∷ xs) (y ∷ ys) = IsAlike shape x y × AreAlike shape xs ys
 
--- For a type that doesn't grow, the answers and the state after them are one function of the bytes
--- and of the state before them.
+-- For a type that doesn't grow, the bytes and the state before them determine the state after them
+-- and the answers, except for values that look alike.
 abbrev pub AnswersAreOne : {T : Type 0} → Shape T → Type 0
 AnswersAreOne {T} shape = ¬ shape.grows →
     (n : ℕ) (c d e : State) (s : List ℕ) (a b : List (Answer T))
@@ -52,7 +52,7 @@ AnswersAreOne {T} shape = ¬ shape.grows →
 abbrev pub EndsInZero : List ℕ → Type 0
 EndsInZero s = (s ≡ []) ⊎ ((w : List ℕ) × (s ≡ w ++ 0 ∷ []))
 
--- After a zero the answers go on as those of a new accumulator.
+-- After a zero the answers are those of a new accumulator.
 abbrev pub CutAtZero : {T : Type 0} → Shape T → Type 0
 CutAtZero {T} shape =
     (n : ℕ) (c d : State) (w v : List ℕ) (a : List (Answer T)) → Answers n shape c (w ++ 0 ∷ v) a d
@@ -69,8 +69,9 @@ Split {T} shape =
     × Answers n shape (holding []) u b (holding [])
     × Answers n shape (holding []) x e (holding []) × Answers n shape (holding []) v f d
 
--- So damage that makes y of x and leaves its last zero changes no answer of u or v, and not the
--- state at the end: the answers of u, x, v and of u, y, v differ in those of x and y alone.
+-- So damage that turns x into y and keeps its last zero changes no answer of u or v and not the
+-- state at the end: the answers of u, x, v and of u, y, v differ only in those of x and y, except
+-- for values that look alike.
 abbrev pub DamageStays : {T : Type 0} → Shape T → Type 0
 DamageStays {T} shape = ¬ shape.grows →
     (n : ℕ) (d e : State) (u x y v : List ℕ) (a b : List (Answer T))
@@ -88,7 +89,7 @@ NothingAfterZero {T} shape =
     (n : ℕ) (c d : State) (w : List ℕ) (a : List (Answer T))
     → Answers n shape c (w ++ 0 ∷ []) a d → d ≡ holding []
 
--- Each stream is frames and a rest in one way.
+-- Each stream is frames and a rest, in exactly one way.
 abbrev pub FramesAreOne : Type 0
 FramesAreOne = (s : List ℕ) →
     ((fs : List (List ℕ)) × (r : List ℕ) × IsSplit s fs r)

@@ -1,7 +1,7 @@
--- The answers to a stream of messages, in words of their values.
+-- The answers to a stream of messages, in terms of their values.
 use Rattle.std.specs.Prelude.{◌≡◌, ℕ, ◌+◌, ◌<◌, ◌≤◌, List, [], ◌∷◌, ◌++◌, length}
 use Rattle.postcard_cobs.specs.Groups.{NoZero, IsMade}
-use Rattle.postcard_wire.specs.Spelling.{bytes as canonical}
+use Rattle.postcard_wire.specs.Spelling.{canonical}
 use Rattle.postcard_shape.specs.Shape.{Shape}
 use Rattle.postcard_accumulator.specs.State.{State, holding}
 use Rattle.postcard_accumulator.specs.Streams.{Answers, ended}
@@ -9,7 +9,8 @@ use Rattle.postcard_accumulator.specs.declared.answers.Answer.{Answer}
 use Rattle.postcard_accumulator.specs.declared.answers.Answer.TheVariants.{OverFull, DeserError}
 use Rattle.postcard_accumulator.specs.declared.answers.Answer.TheVariants.{Success}
 
--- What a sender puts on a stream: a value as a frame, its zero included, or some bytes and a zero.
+-- What a sender puts on a stream: a value and its frame, with the frame's zero; or oversized bytes,
+-- after which a zero is sent.
 pub data Sent (T : Type 0) : Type 0 where
   message : T → List ℕ → Sent T
   oversized : List ℕ → Sent T
@@ -44,7 +45,7 @@ Arrive shape (oversized f ∷ more) (OverFull ∷ rest) = Arrive shape more rest
 Arrive shape (oversized f ∷ more) (Success w ∷ rest) = ⊥
 Arrive shape (oversized f ∷ more) (DeserError ∷ rest) = ⊥
 
--- Messages arrive in order, whatever oversized frames stand between them, and nothing is held after
+-- Messages arrive in order, whatever oversized frames are between them, and nothing is held after
 -- them. The answers of a stream don't depend on how it is cut.
 abbrev pub MessagesArrive : {T : Type 0} → Shape T → Type 0
 MessagesArrive {T} shape =

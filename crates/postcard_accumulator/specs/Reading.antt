@@ -10,7 +10,7 @@ use Rattle.postcard_accumulator.specs.declared.reading.ReadEnd.{ReadEnd}
 use Rattle.postcard_accumulator.specs.declared.reading.ReadEnd.TheVariants.{End, Limit}
 use Rattle.postcard_accumulator.specs.declared.reading.ReadEnd.TheVariants.{ReadFailed, OutOfMemory}
 
--- A piece was fed but for `left` bytes at its end.
+-- All of a piece was fed except for `left` bytes at its end, and the answers were appended.
 pub record IsFedAll {T : Type 0} (n : ℕ) (shape : Shape T) (before : State) (piece : List ℕ)
     (old new : List (Answer T)) (after : State) (left : ℕ) : Type 0 where
   pub within : left ≤ length piece
@@ -18,27 +18,27 @@ pub record IsFedAll {T : Type 0} (n : ℕ) (shape : Shape T) (before : State) (p
   pub items : new ≡ old ++ answers
   pub is : Answers n shape before (take (length piece - left) piece) answers after
 
--- What was read and not fed.
+-- The bytes of the chunk that were read and not fed.
 abbrev pub unfed : List ℕ → ReadEnd → List ℕ
 unfed chunk End = []
 unfed chunk Limit = []
 unfed chunk ReadFailed = []
 unfed chunk (OutOfMemory from to) = drop from (take to chunk)
 
--- What is known at an end, by the number of bytes that the reads gave.
+-- What is known of the number of bytes read, and of the chunk, at each end of the loop.
 abbrev pub EndsWell : ℕ → ℕ → List ℕ → ReadEnd → Type 0
 EndsWell reads given chunk End = Unit {0}
 EndsWell reads given chunk Limit = reads ≤ given
 EndsWell reads given chunk ReadFailed = Unit {0}
 EndsWell reads given chunk (OutOfMemory from to) = (from < to) × (to ≤ length chunk)
 
--- The reads gave these bytes, if the reader tells its bytes, and the answers that were added are
--- those of all of them but for what was not fed.
+-- The bytes `given` were read, which are the next ones of the reader if it knows its bytes, and the
+-- answers added are those of all of them except for the bytes that weren't fed.
 pub record IsReading {T : Type 0} (n : ℕ) (shape : Shape T) (reads : ℕ)
-    (told left : Option (List ℕ)) (chunk : List ℕ) (before after : State)
+    (known left : Option (List ℕ)) (chunk : List ℕ) (before after : State)
     (old new : List (Answer T)) (end : ReadEnd) : Type 0 where
   pub given : List ℕ
-  pub reader : Consumes told left given
+  pub reader : Consumes known left given
   pub fed : List ℕ
   pub all : given ≡ fed ++ unfed chunk end
   pub answers : List (Answer T)

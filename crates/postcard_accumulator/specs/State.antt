@@ -1,7 +1,8 @@
 -- What an accumulator carries from one call to the next.
 use Rattle.std.specs.Prelude.{ℕ, List, Bool, true, false, []}
 
--- The bytes held of a frame that has not ended yet, or that an oversized frame is being skipped.
+-- An accumulator holds the bytes so far of a frame that hasn't ended yet, or is skipping an
+-- oversized frame.
 pub data State : Type 0 where
   holding : List ℕ → State
   skipping : State

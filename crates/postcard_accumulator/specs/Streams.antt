@@ -1,4 +1,5 @@
--- The answers of a whole stream: frames, each ended by a zero, and then a rest. No piece occurs.
+-- The answers of a whole stream: frames, each ended by a zero, and then a rest. The pieces that the
+-- stream is cut into don't occur here.
 use Rattle.std.specs.Prelude.{◌≡◌, ℕ, ◌+◌, ◌<◌, ◌≤◌, ◌⊎◌, List, [], ◌∷◌, ◌++◌, length, flat_map}
 use Rattle.postcard_cobs.specs.Groups.{NoZero, EndsFrame}
 use Rattle.postcard_shape.specs.Shape.{Shape}
@@ -11,19 +12,19 @@ use Rattle.postcard_accumulator.specs.declared.answers.Answer.{Answer}
 use Rattle.postcard_accumulator.specs.declared.answers.Answer.TheVariants.{OverFull, DeserError}
 use Rattle.postcard_accumulator.specs.declared.answers.Answer.TheVariants.{Success}
 
--- The own answer of a frame: the value of its data, or that it has none.
+-- The own answer of a frame: its value, or `DeserError` if it has none.
 abbrev pub IsOwn : {T : Type 0} → Shape T → List ℕ → Answer T → Type 0
 IsOwn shape f (Success v) = IsValueOf shape f v
 IsOwn shape f DeserError = IsRefused shape f
 IsOwn shape f OverFull = ⊥
 
--- The answer of a frame: its own if the frame and its zero have room, else that they haven't.
+-- The answer of a frame: its own if the frame and its zero have room, and `OverFull` otherwise.
 pub record IsAnswerOf {T : Type 0} (n : ℕ) (shape : Shape T) (f : List ℕ) (answer : Answer T)
     : Type 0 where
   pub own : length f + 1 ≤ n → IsOwn shape f answer
   pub over_full : n < length f + 1 → answer ≡ OverFull
 
--- One answer of each frame, in order.
+-- One answer for each frame, in order.
 abbrev pub AreAnswersOf : {T : Type 0} → ℕ → Shape T → List (List ℕ) → List (Answer T) → Type 0
 AreAnswersOf n shape [] [] = Unit {0}
 AreAnswersOf n shape [] (a ∷ more) = ⊥
@@ -44,7 +45,7 @@ pub record IsSplit (stream : List ℕ) (frames : List (List ℕ)) (rest : List �
   pub frames_zero_free : AreZeroFree frames
   pub rest_zero_free : NoZero rest
 
--- The answers of a stream that begins with a frame: one of each frame, and one more where the rest
+-- The answers of a stream that begins with a frame: one for each frame, and one more if the rest
 -- has no room and is skipped.
 pub record IsAnswered {T : Type 0} (n : ℕ) (shape : Shape T) (stream : List ℕ)
     (answers : List (Answer T)) (after : State) : Type 0 where
@@ -56,8 +57,9 @@ pub record IsAnswered {T : Type 0} (n : ℕ) (shape : Shape T) (stream : List �
   pub fits : length rest ≤ n → (answers ≡ parts) × (after ≡ holding rest)
   pub over : n < length rest → (answers ≡ parts ++ OverFull ∷ []) × (after ≡ skipping)
 
--- In a state, these bytes have these answers and lead to that state. What is held is the front of
--- the stream. While a frame is being skipped, there is no answer up to and with its zero.
+-- In a given state, the bytes have these answers and lead to the state `after`. The bytes held are
+-- the front of the stream. While a frame is being skipped, there is no answer up to and including
+-- its zero.
 abbrev pub Answers : {T : Type 0} → ℕ → Shape T → State → List ℕ → List (Answer T) → State → Type 0
 Answers n shape (holding h) bytes answers after = IsAnswered n shape (h ++ bytes) answers after
 Answers n shape skipping bytes answers after =
@@ -71,7 +73,7 @@ answers_of (fed.OverFull rest) = OverFull ∷ []
 answers_of (fed.DeserError rest) = DeserError ∷ []
 answers_of (fed.Success v rest) = Success v ∷ []
 
--- What one feed leaves of its piece.
+-- The bytes of its piece that one feed didn't take.
 abbrev pub left_of : {T : Type 0} → FeedResult T → List ℕ
 left_of Consumed = []
 left_of (fed.OverFull rest) = rest.now

@@ -18,8 +18,8 @@ use std::marker::Model;
 /// Puts COBS frames together from pieces of a stream, and decodes their values.
 ///
 /// It holds at most `N` bytes: the front of a frame that hasn't ended yet. A frame has room if it
-/// has at most `N` bytes with its zero. One that has no room is skipped through its zero and
-/// has one answer, `OverFull`; while it is skipped, nothing is held.
+/// has at most `N` bytes, its zero included. A frame that has no room is skipped through its zero
+/// and has one answer, `OverFull`; while it is skipped, nothing is held.
 #[derive(Drop)]
 pub struct CobsAccumulator<const N: usize> {
     buf: [u8; N],
@@ -50,12 +50,12 @@ impl<const N: usize> Default for CobsAccumulator<N> {
 }
 
 /// Decodes the frame at the front of the first `end` bytes of a buffer in place, and returns the
-/// length of its data.
+/// length of its data. Fails if and only if the frame has no data.
 fn decode_front(buf: &mut [u8], end: usize) -> Result<usize>
     requires { end ≤ length buf.old }
-    ensures ok { IfOk result (λ n. (n ≤ length buf.new)
+    ensures decodes { IfOk result (λ n. (n ≤ length buf.new)
         × Groups (before_zero (take end buf.old)) (take n buf.new)) }
-    ensures err { OnErr result
+    ensures no_groups { OnErr result
         ((d : List ℕ) → Groups (before_zero (take end buf.old)) d → ⊥) }
 {
     decode_in_place(&mut buf[..end])
@@ -86,7 +86,8 @@ impl<const N: usize> CobsAccumulator<N> {
         self.skipping
     }
 
-    /// Tells contracts that what is held has room and no zero. Does nothing.
+    /// Does nothing. For the prover: the contract says that the bytes held have room and no zero
+    /// among them.
     pub fn held_fits(&self)
         ensures room { length (held_of self.now) ≤ N }
         ensures no_zero { NoZero (held_of self.now) }
@@ -94,7 +95,8 @@ impl<const N: usize> CobsAccumulator<N> {
         let _ = &self.idx;
     }
 
-    /// Adds bytes to those held.
+    /// Adds the bytes of `input` to those held. They must have room and no zero among them, and the
+    /// accumulator must not be skipping a frame.
     fn extend(&mut self, input: &[u8])
         requires holds { is_skipping self.old ≡ false }
         requires room { length (held_of self.old) + length input.now ≤ N }
@@ -107,11 +109,16 @@ impl<const N: usize> CobsAccumulator<N> {
         self.idx = end;
     }
 
-    /// Takes the held bytes as a frame, and lends its data. Nothing is held after it.
+    /// Decodes the bytes held as a frame, and lends its data. The accumulator must not be skipping
+    /// a frame. Nothing is held once the loan ends, also after an error.
+    ///
+    /// # Errors
+    ///
+    /// Fails if and only if the bytes held are a frame of no data.
     fn decode<'de>(&'de mut self) -> Result<&'de [u8]>
         requires { is_skipping self.old ≡ false }
-        ensures ok { IfOk result (λ d. Groups (held_of self.old) d.now) }
-        ensures err { OnErr result ((d : List ℕ) → Groups (held_of self.old) d → ⊥) }
+        ensures decodes { IfOk result (λ d. Groups (held_of self.old) d.now) }
+        ensures no_groups { OnErr result ((d : List ℕ) → Groups (held_of self.old) d → ⊥) }
         ensures* held { sem 𝓛 (follows_so (the_row N.row) (the_row N.row)
             self.entry.ghost_name none (λ _ _. ⊤) (λ v. v ≡ holding [])) }
     {
@@ -123,7 +130,8 @@ impl<const N: usize> CobsAccumulator<N> {
         Ok(&all[..n])
     }
 
-    /// Takes in a piece up to the end of a frame, if no frame is being skipped.
+    /// Takes in a piece up to the end of a frame, as [`take_in`](CobsAccumulator::take_in) does.
+    /// The accumulator must not be skipping a frame.
     fn take_held<'de, 'a>(&'de mut self, input: &'a [u8]) -> Taken<'de, 'a>
         requires { is_skipping self.old ≡ false }
         ensures answer { (after : State)
@@ -154,10 +162,11 @@ impl<const N: usize> CobsAccumulator<N> {
         }
     }
 
-    /// Takes in a piece up to the end of a frame, as [`feed`](CobsAccumulator::feed) does, but
-    /// reads no value.
+    /// Takes in a piece of a stream up to the end of a frame, as [`feed`](CobsAccumulator::feed)
+    /// does, but decodes only the frame and reads no value.
     ///
-    /// The data that it lends is in the accumulator, which can be used again once the loan ends.
+    /// The data of [`Taken::Message`] is in the accumulator, which can be used again once that loan
+    /// ends.
     pub fn take_in<'de, 'a>(&'de mut self, input: &'a [u8]) -> Taken<'de, 'a>
         ensures answer { (after : State) × IsTaken N self.old input.now result after }
         ensures* after { sem 𝓛 (follows_so (the_row N.row) (the_row N.row)
@@ -176,12 +185,12 @@ impl<const N: usize> CobsAccumulator<N> {
 
     /// Takes in a piece of a stream up to the end of a frame, and decodes that frame's value.
     ///
-    /// But for `Consumed`, the result lends what follows in the piece; feed it next, until nothing
-    /// is left. Bytes after the value in a frame's data are ignored. The crate's page has the rule
-    /// as a table.
+    /// Except for `Consumed`, the result has the bytes of the piece that weren't taken in; feed
+    /// them next, until none are left. Bytes after the value in a frame's data are ignored. The
+    /// crate's page has the rule as a table.
     ///
-    /// After `DeserError` and `Success` nothing is held, and after `OverFull` too: then the frame
-    /// has ended, or it is skipped from now on.
+    /// After `Success`, `DeserError` and `OverFull` nothing is held. After `OverFull` the frame has
+    /// ended, or it is skipped from now on.
     pub fn feed<'a, T: DeserializeOwned>(
         &mut self,
         alloc: Global,
@@ -194,7 +203,7 @@ impl<const N: usize> CobsAccumulator<N> {
     }
 
     /// Does the same as [`feed`](CobsAccumulator::feed), for a value that may borrow from the
-    /// accumulator.
+    /// accumulator. The accumulator can be used again once that loan ends.
     pub fn feed_ref<'de, 'a, T: Deserialize<'de>>(
         &'de mut self,
         alloc: Global,

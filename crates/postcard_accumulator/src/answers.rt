@@ -1,17 +1,19 @@
-//! What an accumulator returns: the result of one feed, and the answer to one frame.
+//! What an accumulator returns: the result of one feed, and the answer to a frame.
 
 /// The result of [`feed`](crate::accumulator::CobsAccumulator::feed).
 ///
-/// But for `Consumed`, each lends the bytes of the piece that were not looked at, which may be
-/// none. They are to be fed next.
+/// Except for `Consumed`, each has the bytes of the piece that weren't taken in, which may be none.
+/// Feed them next.
 #[derive(Drop)]
 pub enum FeedResult<'a, T> {
     /// All of the piece was consumed, and no frame ended.
     Consumed,
-    /// A frame has no room in the accumulator. It is dropped, through the zero that ends it.
+    /// A frame has no room in the accumulator. It is dropped up to and including the zero that ends
+    /// it, which may come in a later piece.
     OverFull(&'a [u8]),
-    /// A frame ended that isn't the frame of a value: it is no COBS frame, or no front of its data
-    /// is an encoding. Also returned if memory for the value was refused. The frame is dropped.
+    /// A frame ended that has no value of the type: it is no COBS frame, or no front of its data
+    /// spells a tree that the type reads. Also returned if an allocation for the value failed. The
+    /// frame is dropped.
     DeserError(&'a [u8]),
     /// A frame ended, and its value was decoded.
     Success {
@@ -22,12 +24,12 @@ pub enum FeedResult<'a, T> {
     },
 }
 
-/// The answer to one frame of a stream.
+/// The answer to one frame of a stream, as [`read_frames`](crate::read_frames) collects them.
 #[derive(Debug, PartialEq, Eq, Drop)]
 pub enum Answer<T> {
     /// The frame has no room in the accumulator.
     OverFull,
-    /// The frame isn't the frame of a value, or memory for the value was refused.
+    /// The frame has no value of the type, or an allocation for the value failed.
     DeserError,
     /// The value of the frame.
     Success(T),

@@ -8,12 +8,12 @@ ghost use Rattle.postcard_accumulator.specs.Messages.{MessagesArrive};
 
 use postcard_de::DeserializeOwned;
 
-/// A feed returns the answers of what it takes of its piece.
+/// A feed returns the answers of the front that it takes of its piece.
 pub fn feeds_answer<T: DeserializeOwned>()
     ensures { FeedsAnswer T.shape }
 {}
 
-/// The answers of calls in a row, joined, are answers of the joined stream.
+/// The answers of calls in a row, one list after the other, are the answers of the joined stream.
 pub fn joined<T: DeserializeOwned>()
     ensures { Joined T.shape }
 {}
@@ -24,20 +24,19 @@ pub fn split<T: DeserializeOwned>()
     ensures { Split T.shape }
 {}
 
-/// Damage inside whole frames that leaves their last zero changes no answer of the frames before
-/// and after them, for a type that doesn't grow.
+/// For a type that doesn't grow, damage inside whole frames that keeps their last zero changes no
+/// answer of the frames before and after them, except for values that look alike.
 pub fn damage_stays<T: DeserializeOwned>()
     ensures { DamageStays T.shape }
 {}
 
-/// For a type that doesn't grow, the answers of a stream look alike however it is cut, and so does
-/// what is carried after it.
+/// For a type that doesn't grow, the answers of a stream look alike however it is cut, and the
+/// state after it is the same.
 pub fn answers_are_one<T: DeserializeOwned>()
     ensures { AnswersAreOne T.shape }
 {}
 
-/// After a zero the answers go on as those of a new accumulator, whatever was held or skipped
-/// before.
+/// After a zero the answers are those of a new accumulator, whatever was held or skipped before.
 pub fn cut_at_zero<T: DeserializeOwned>()
     ensures { CutAtZero T.shape }
 {}

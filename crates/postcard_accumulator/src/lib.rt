@@ -1,14 +1,14 @@
 //! Frames from a stream: an accumulator that is fed pieces, and a loop that reads them.
 //!
-//! A stream has COBS frames, each ended by a zero. Pieces of it come as the line cuts them: a piece
-//! may have half a frame or many. A [`CobsAccumulator`] holds the front of a frame until its zero
-//! comes, decodes the frame and reads its value. [`read_frames`] does so for all that a reader
-//! gives.
+//! A stream consists of COBS frames, each ended by a zero. It comes in pieces, as the line cuts it:
+//! a piece may have half a frame or many frames. A [`CobsAccumulator`] holds the front of a frame
+//! until its zero comes, decodes the frame and reads its value. [`read_frames`] does so for all
+//! bytes of a reader.
 //!
 //! # The rule
 //!
 //! An accumulator of `N` bytes holds the bytes `h`, or it is skipping an oversized frame. It is fed
-//! the piece `p`, whose first zero, if it has one, is `p[n]`. The first row that fits decides:
+//! the piece `p`, whose first zero, if it has one, is `p[n]`. The first row that applies decides:
 //!
 //! | Before | Piece | Result | After |
 //! |---|---|---|---|
@@ -16,32 +16,32 @@
 //! | skipping | a zero at `n` | as for `p[n + 1..]` if `h` is empty | as there |
 //! | holds `h` | no zero, `h.len() + p.len() <= N` | `Consumed` | holds `h`, `p` |
 //! | holds `h` | no zero, no room | `OverFull` of nothing | skipping |
-//! | holds `h` | a zero at `n`, `h.len() + n + 1 <= N` | the own answer | holds nothing |
+//! | holds `h` | a zero at `n`, `h.len() + n + 1 <= N` | the frame's own answer | holds nothing |
 //! | holds `h` | a zero at `n`, no room | `OverFull` of `p[n + 1..]` | holds nothing |
 //!
-//! The own answer of the frame `h`, `p[..n]` is `Success`, with the value that a front of the
-//! frame's data spells and with `p[n + 1..]`, if there is such a value; else, or if memory for the
-//! value was refused, it is `DeserError` of `p[n + 1..]`.
+//! The frame consists of `h` and then `p[..n]`. Its own answer is `Success`, with the value that a
+//! front of the frame's data spells and with `p[n + 1..]`, if there is such a value and memory for
+//! it; otherwise it is `DeserError` of `p[n + 1..]`.
 //!
-//! So an oversized frame has one answer, wherever the line cuts it. With `N` of 0 every frame is
+//! So an oversized frame has one answer, wherever the line cuts it. If `N` is 0, every frame is
 //! oversized.
 //!
-//! A link that joins late may begin inside a frame: it loses at most what comes before the first
-//! zero, of which the answer may be `DeserError`, `OverFull` or, by chance, a value. From that zero
-//! on the answers are those of the frames.
+//! A link that joins late may begin inside a frame. It loses at most what comes before the first
+//! zero: that may result in `DeserError`, `OverFull` or, by chance, a value. From that zero on the
+//! answers are those of the frames.
 //!
 //! # What is proved
 //!
-//! `specs/Feeding.antt` is the table, of [`feed`](CobsAccumulator::feed) and
-//! [`feed_ref`](CobsAccumulator::feed_ref). `specs/Streams.antt` says what the answers of a whole
-//! stream are: one of each frame, in order, with no word of pieces. The answers of [`read_frames`]
-//! are those of all that it read. [`laws`] has what follows for every stream: above all,
-//! [`laws::messages_arrive`].
+//! `specs/Feeding.antt` is the table, the contract of [`feed`](CobsAccumulator::feed) and
+//! [`feed_ref`](CobsAccumulator::feed_ref). `specs/Streams.antt` defines the answers of a whole
+//! stream: one for each frame, in order, whatever the pieces are. The answers of [`read_frames`]
+//! are those of all bytes that it read and fed. [`laws`] has what follows for every stream: above
+//! all, [`laws::messages_arrive`].
 //!
 //! # Contents
 //!
 //! - [`accumulator`]: [`CobsAccumulator`], with [`FeedResult`]. The two halves of a feed are
-//!   [`take_in`](CobsAccumulator::take_in) and [`value_of`], for callers whose own proofs go on.
+//!   [`take_in`](CobsAccumulator::take_in) and [`value_of`], for callers with proofs of their own.
 //! - [`read_frames`], with [`Answer`] and [`ReadEnd`].
 //! - [`laws`]: what holds of every stream, as contracts of functions that do nothing.
 #![tactic(auto)]

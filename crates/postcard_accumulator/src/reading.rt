@@ -1,4 +1,4 @@
-//! The reading loop: all frames of a reader, by an accumulator.
+//! The reading loop: reads all frames of a reader by an accumulator.
 
 ghost use Rattle.std.specs.Prelude.{◌≡◌, ◌≢◌, ◌<◌, ◌++◌, ◌∷◌, [], length};
 ghost use Rattle.std.specs.Prelude.{vec_len, vec_capacity};
@@ -14,22 +14,22 @@ use std::alloc::Global;
 /// How [`read_frames`] ended.
 #[derive(Clone, Copy, Debug, PartialEq, Eq, Drop)]
 pub enum ReadEnd {
-    /// The reader returned no byte.
+    /// A read returned 0 bytes: the reader is at its end.
     End,
-    /// All reads were made.
+    /// The greatest number of reads was made.
     Limit,
     /// The reader failed.
     ReadFailed,
-    /// Memory for an answer was refused. The bytes `chunk[from..to]` were read and not fed.
+    /// An allocation for an answer failed. The bytes `chunk[from..to]` were read and not fed.
     OutOfMemory {
-        /// The place of the first byte that wasn't fed.
+        /// The index in the chunk of the first byte that wasn't fed.
         from: usize,
-        /// The number of bytes that the last read put into the chunk.
+        /// The number of bytes that the last read wrote to the chunk.
         to: usize,
     },
 }
 
-/// Adds an answer to a vector that has a place for it.
+/// Appends an answer to a vector, which must have capacity for it.
 fn keep<T: Drop>(out: &mut Vec<Answer<T>>, answer: Answer<T>)
     requires { vec_len out.old < vec_capacity out.old }
     ensures { out.new.items ≡ out.old.items ++ answer ∷ [] }
@@ -37,8 +37,8 @@ fn keep<T: Drop>(out: &mut Vec<Answer<T>>, answer: Answer<T>)
     let _ = out.push(answer);
 }
 
-/// Feeds a piece and adds the answers, and returns the number of bytes that weren't fed, because
-/// memory for an answer was refused.
+/// Feeds a piece and appends the answers to `out`. Returns the number of bytes at the end of the
+/// piece that weren't fed, which is above 0 only if an allocation for an answer failed.
 fn feed_all<T: DeserializeOwned, const N: usize>(
     alloc: Global,
     piece: &[u8],
@@ -75,19 +75,19 @@ fn feed_all<T: DeserializeOwned, const N: usize>(
     0
 }
 
-/// Reads a stream of frames, and adds their answers to `out`.
+/// Reads a stream of frames, and appends the answers to `out`.
 ///
-/// At most `reads` reads are made, each into `chunk`, and what was read is fed at once. At every
-/// end `out` keeps the answers, and the accumulator what it carries, so another call goes on where
-/// this one ended. A place in `out` is reserved before each feed, so no answer is lost.
+/// It makes at most `reads` reads, each into `chunk`, which must not be empty, and feeds what was
+/// read at once. However it ends, `out` keeps the answers and `acc` its state, so another call
+/// continues there. Room in `out` is reserved before each feed, so no answer is lost.
 ///
 /// The answers are those of the stream, however the reader cuts it: of what was held before, and of
-/// all bytes that the reads gave, but for `chunk[from..to]` at `OutOfMemory`, which is to be fed
-/// next. Nothing else that was read is lost.
+/// all bytes read, except for `chunk[from..to]` at `OutOfMemory`. The caller must feed these next;
+/// no other byte that was read is lost.
 ///
-/// The reader is at its end at `End`. A steady reader never gives `ReadFailed`. At `Limit` at least
-/// `reads` bytes were read, and never more than `reads * chunk.len()`. What is said of the bytes
-/// that were read holds of a reader whose bytes contracts can name.
+/// At `End` the reader is at its end. `ReadFailed` is never returned for a steady reader. At
+/// `Limit` at least `reads` bytes were read. In any case at most `reads * chunk.len()` bytes were
+/// read. What is said here of the bytes read is promised of a reader that knows its bytes.
 pub fn read_frames<R: Source, T: DeserializeOwned, const N: usize>(
     alloc: Global,
     reader: &mut R,

@@ -1,4 +1,4 @@
-//! The lower half of a feed: what a piece completes, and the value that is read of it.
+//! The two halves of a feed: what a piece completes, and the value that is read from that.
 
 ghost use Rattle.postcard_accumulator.specs.Feeding.{IsReadOf};
 
@@ -7,21 +7,25 @@ use postcard_de::{Deserialize, DeserializeOwned, Owned};
 use postcard_frame::from_bytes;
 use std::alloc::Global;
 
-/// What a piece completes, before a value is read of it. The slices of lifetime `'a` are what
-/// follows in the piece.
+/// What a piece of a stream completes, before a value is read from it. The slices of lifetime `'a`
+/// are the bytes of the piece that weren't taken in.
 #[derive(Drop)]
 pub enum Taken<'de, 'a> {
     /// All of the piece was consumed, and no frame ended.
     Consumed,
-    /// A frame has no room.
+    /// A frame has no room in the accumulator.
     OverFull(&'a [u8]),
-    /// A frame ended that is no COBS frame.
+    /// A frame ended that is no COBS frame: it has no data.
     Refused(&'a [u8]),
-    /// A frame ended: its data, which is in the accumulator, and what follows in the piece.
+    /// A frame ended: its data, which is in the accumulator, and the bytes of the piece after it.
     Message(&'de [u8], &'a [u8]),
 }
 
-/// Reads the value of what a piece completed. The value may borrow from the accumulator.
+/// Reads the value of what a piece completed, and so makes the result of a feed. The value may
+/// borrow from the accumulator.
+///
+/// The result is `DeserError` for `Refused`, and for a `Message` if no value can be read from its
+/// data.
 pub fn value_of<'de, 'a, T: Deserialize<'de>>(
     alloc: Global,
     taken: Taken<'de, 'a>,
@@ -42,7 +46,7 @@ pub fn value_of<'de, 'a, T: Deserialize<'de>>(
     }
 }
 
-/// Reads the value of what a piece completed, as [`value_of`]. The value borrows nothing.
+/// Does the same as [`value_of`], for a value that borrows nothing.
 pub fn owned_value_of<'a, T: DeserializeOwned>(
     alloc: Global,
     taken: Taken<'_, 'a>,

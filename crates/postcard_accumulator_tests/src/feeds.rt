@@ -1,11 +1,11 @@
-//! What feeds return, piece by piece.
+//! Tests of the results of `feed`, piece by piece.
 
 use postcard_accumulator::{CobsAccumulator, FeedResult};
 use std::alloc::AllocGlobal;
 use std::process::Abort;
 use std::test::Fail;
 
-/// What a feed returned, with the number of bytes that it left.
+/// The result of a feed, with the number of bytes that are left after it.
 #[derive(Clone, Copy, Debug, PartialEq, Drop)]
 enum Fed {
     Consumed,
@@ -14,7 +14,7 @@ enum Fed {
     Success(u8, usize),
 }
 
-/// Feeds a piece, and again what is left of it, until nothing is. Adds what the feeds returned.
+/// Feeds a piece, and then what is left of it, until nothing is. Adds the results to `all`.
 fn feed_piece<const N: usize>(
     rt: &impl AllocGlobal,
     acc: &mut CobsAccumulator<N>,
@@ -40,8 +40,8 @@ fn feed_piece<const N: usize>(
     Ok(())
 }
 
-/// Each row's pieces, fed to an accumulator that holds nothing, return just these results. A zero
-/// after each row ends what it left.
+/// Asserts that feeding each row's pieces to an empty accumulator has just these results. A zero
+/// that is fed after each row ends a frame that it left.
 fn check<const N: usize>(
     rt: &(impl Abort + AllocGlobal),
     acc: &mut CobsAccumulator<N>,
@@ -109,7 +109,7 @@ fn pieces(rt: HostRuntime) -> Result<(), Fail> {
     )
 }
 
-/// A stream with an oversized frame and one that has room, cut in each way that there is.
+/// A stream of an oversized frame and one that has room has the same answers, however it is cut.
 #[test]
 fn cut_in_each_way(rt: HostRuntime) -> Result<(), Fail> {
     let stream = [5, 1, 1, 1, 1, 0, 2, 7, 0];
@@ -135,7 +135,8 @@ fn cut_in_each_way(rt: HostRuntime) -> Result<(), Fail> {
     Ok(())
 }
 
-/// A frame of ten bytes and its code and zero has room in twelve bytes and not in eleven.
+/// The frame of ten bytes, with a code byte and the zero, has room in twelve bytes and not in
+/// eleven.
 #[test]
 fn exact_room(rt: HostRuntime) {
     let frame = [
@@ -154,7 +155,7 @@ fn exact_room(rt: HostRuntime) {
     }
 }
 
-/// A value may lie in the accumulator, which is free again once the value is let go.
+/// A value may borrow from the accumulator, which can be used again once the value is dropped.
 #[test]
 fn lent_texts(rt: HostRuntime) {
     let stream = [

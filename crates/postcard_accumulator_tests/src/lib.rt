@@ -1,6 +1,7 @@
-//! Tests of the accumulator and of the reading loop: rows worked out outside this code.
+//! Tests of the accumulator and of the reading loop, with rows that were worked out without this
+//! code.
 //!
-//! They stand in a crate of their own, so that what they test is proved without them.
+//! They are in a crate of their own, so that the crates they test are proved without them.
 #![tactic(auto)]
 
 #[cfg(test)]

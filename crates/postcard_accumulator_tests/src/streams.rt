@@ -1,4 +1,4 @@
-//! The answers of the reading loop to whole streams.
+//! Tests of the answers of `read_frames` to whole streams.
 
 use postcard_accumulator::{Answer, CobsAccumulator, ReadEnd, read_frames};
 use postcard_de::DeserializeOwned;
@@ -10,10 +10,10 @@ use std::io::{ErrorKind, Read};
 use std::process::Abort;
 use std::test::Fail;
 
-/// A stream with an oversized frame for four bytes, and one that has room.
+/// A stream of two frames, of which the first has no room in four bytes and the second has.
 const STREAM: [u8; 9] = [5, 1, 1, 1, 1, 0, 2, 7, 0];
 
-/// Reads a stream with chunks of `size` bytes.
+/// Reads a stream by at most `reads` reads, with a chunk of `size` bytes.
 fn read<R: Source, T: DeserializeOwned, const N: usize>(
     rt: &(impl Abort + AllocGlobal),
     reader: &mut R,
@@ -51,8 +51,8 @@ fn chunks_and_reads(rt: HostRuntime) -> Result<(), Fail> {
     Ok(())
 }
 
-/// The whole stream has these answers, with chunks of any size up to 32 bytes. A zero after each
-/// reading ends what it left.
+/// Asserts that the whole stream has these answers, with chunks of each size up to 32 bytes. A zero
+/// that is fed after each reading ends a frame that it left.
 fn check<T: DeserializeOwned + PartialEq + Debug, const N: usize>(
     rt: &(impl Abort + AllocGlobal),
     acc: &mut CobsAccumulator<N>,
@@ -135,7 +135,7 @@ fn a_long_record(rt: HostRuntime) -> Result<(), Fail> {
     )
 }
 
-/// A reader that fails once, after `reads` reads.
+/// A reader of which one read fails, after `reads` reads.
 #[derive(Drop)]
 struct FailsOnce<'a> {
     bytes: &'a [u8],
@@ -160,7 +160,7 @@ impl Read for FailsOnce<'_> {
     }
 }
 
-/// Where a read fails, `out` keeps the answers of what was read, and the next call goes on.
+/// If a read fails, `out` has the answers to what was read before, and the next call goes on.
 #[test]
 fn failing_reads(rt: HostRuntime) -> Result<(), Fail> {
     let both = [Answer::OverFull, Answer::Success(7u8)];
@@ -189,8 +189,8 @@ fn failing_reads(rt: HostRuntime) -> Result<(), Fail> {
     Ok(())
 }
 
-/// Reads a stream to its end, and returns whether memory for an answer was refused on the way. What
-/// wasn't fed then is fed by the next call.
+/// Reads a stream to its end, and returns whether an allocation for an answer failed on the way.
+/// The bytes that weren't fed then are fed again.
 fn read_on<T: DeserializeOwned, const N: usize>(
     rt: &(impl Abort + AllocGlobal),
     stream: &[u8],
@@ -212,8 +212,8 @@ fn read_on<T: DeserializeOwned, const N: usize>(
     true
 }
 
-/// No answer is lost, whichever request for memory is refused. A test that meets a refusal prints
-/// a line, which `rt try --test --fail-alloc N` shows.
+/// No answer is lost, whichever allocation fails. A test in which one fails prints a line, which
+/// `rt try --test --fail-alloc N` shows.
 #[test]
 fn refused_answers(rt: HostRuntime) -> Result<(), Fail> {
     let mut acc = CobsAccumulator::<4>::new();
@@ -228,7 +228,8 @@ fn refused_answers(rt: HostRuntime) -> Result<(), Fail> {
     Ok(())
 }
 
-/// A frame whose list gets no memory is refused, and no other answer changes.
+/// If an allocation for a list fails, its frame is answered `DeserError`, and no other answer
+/// changes.
 #[test]
 fn refused_lists(rt: HostRuntime) -> Result<(), Fail> {
     let mut acc = CobsAccumulator::<8>::new();

@@ -1,4 +1,4 @@
-//! Frames: one of a long list of bytes, and a stream of small records.
+//! Frames: one frame of a long list of bytes, and a stream of frames of small records.
 
 use crate::lists::last_of;
 use crate::records::Record;
@@ -6,7 +6,7 @@ use postcard::accumulator::{CobsAccumulator, FeedResult};
 use postcard::{from_bytes_cobs, to_slice_cobs};
 use std::alloc::Global;
 
-/// Encodes a list of bytes as a frame. Returns how many bytes the frame has.
+/// Encodes a list of bytes as a frame into `out`. Returns the number of bytes of the frame.
 #[unsafe(no_mangle)]
 pub extern "C" fn port_cobs_encode(values: &[u8], out: &mut [u8]) -> u64 {
     match to_slice_cobs(&values, out) {
@@ -15,8 +15,8 @@ pub extern "C" fn port_cobs_encode(values: &[u8], out: &mut [u8]) -> u64 {
     }
 }
 
-/// Decodes the frame of a list of bytes in place. Returns the list's length and its last byte,
-/// summed.
+/// Decodes the frame of a list of bytes in place. Returns the sum of the list's length and its last
+/// byte.
 #[unsafe(no_mangle)]
 pub extern "C" fn port_cobs_decode(alloc: Global, frame: &mut [u8]) -> u64 {
     match from_bytes_cobs::<&[u8]>(alloc, frame) {
@@ -26,8 +26,8 @@ pub extern "C" fn port_cobs_decode(alloc: Global, frame: &mut [u8]) -> u64 {
 }
 
 /// Feeds a stream of frames to an accumulator of 64 bytes, in pieces of `piece` bytes. Returns the
-/// sum of the records, with 1,000 for each oversized frame and 1,000,000 for each that is no
-/// record's.
+/// sum of [`Record::sum`] over the records, and 1,000 more for each oversized frame and 1,000,000
+/// more for each frame without a record. Returns `u64::MAX` if `piece` is 0.
 #[unsafe(no_mangle)]
 pub extern "C" fn port_accumulate(alloc: Global, stream: &[u8], piece: usize) -> u64 {
     if piece == 0 {

@@ -1,11 +1,12 @@
-//! Counts that announce more than there is: what a growing type asks of the allocator for them.
+//! Messages that announce more elements than they have, by which the memory that a growing type
+//! requests for them is measured.
 
 use arrayvec::{ArrayString, ArrayVec};
 use postcard::{Deserialize, from_bytes};
 use std::alloc::Global;
 use std::collections::BTreeMap;
 
-/// Decodes a value and drops it. Returns 0, or `u64::MAX` if it is refused.
+/// Decodes a value and drops it. Returns 0, or `u64::MAX` if decoding fails.
 fn read<'a, T: Deserialize<'a> + Drop>(alloc: Global, bytes: &'a [u8]) -> u64 {
     match from_bytes::<T>(alloc, bytes) {
         Ok(_) => 0,
@@ -13,7 +14,8 @@ fn read<'a, T: Deserialize<'a> + Drop>(alloc: Global, bytes: &'a [u8]) -> u64 {
     }
 }
 
-/// Decodes a value of the type with this number. Returns 0, or `u64::MAX` if it is refused.
+/// Decodes a value of the type with the number `kind`. Returns 0, or `u64::MAX` if decoding fails.
+/// For a number above 9 it returns 0.
 #[unsafe(no_mangle)]
 pub extern "C" fn port_hostile(alloc: Global, kind: u32, bytes: &[u8]) -> u64 {
     match kind {

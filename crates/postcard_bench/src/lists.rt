@@ -1,4 +1,5 @@
-//! Long lists: of numbers and of bytes, written into a buffer, and read into a vector or lent.
+//! Long lists of numbers and of bytes, written into a buffer or a vector, and read into a vector or
+//! as a borrowed slice.
 
 use postcard::{from_bytes, to_allocvec, to_slice};
 use std::alloc::Global;
@@ -11,12 +12,12 @@ pub fn last_of(bytes: &[u8]) -> u64 {
     }
 }
 
-/// Returns the length and the last byte, summed.
+/// Returns the sum of the length and the last byte.
 fn ends_of(bytes: &[u8]) -> u64 {
     (bytes.len() as u64).wrapping_add(last_of(bytes))
 }
 
-/// Encodes a list of numbers. Returns how many bytes it has.
+/// Encodes a list of numbers into `out`. Returns the number of bytes of the encoding.
 #[unsafe(no_mangle)]
 pub extern "C" fn port_u32s_encode(values: &[u32], out: &mut [u8]) -> u64 {
     match to_slice(&values, out) {
@@ -25,7 +26,7 @@ pub extern "C" fn port_u32s_encode(values: &[u32], out: &mut [u8]) -> u64 {
     }
 }
 
-/// Encodes a list of numbers into a vector. Returns how many bytes it has.
+/// Encodes a list of numbers into a new vector. Returns the number of bytes of the encoding.
 #[unsafe(no_mangle)]
 pub extern "C" fn port_u32s_allocate(alloc: Global, values: &[u32]) -> u64 {
     match to_allocvec(alloc, &values) {
@@ -34,7 +35,7 @@ pub extern "C" fn port_u32s_allocate(alloc: Global, values: &[u32]) -> u64 {
     }
 }
 
-/// Decodes a list of numbers. Returns their sum.
+/// Decodes a list of numbers into a new vector. Returns the sum of the numbers.
 #[unsafe(no_mangle)]
 pub extern "C" fn port_u32s_decode(alloc: Global, bytes: &[u8]) -> u64 {
     let Ok(list) = from_bytes::<Vec<u32>>(alloc, bytes) else {
@@ -47,7 +48,7 @@ pub extern "C" fn port_u32s_decode(alloc: Global, bytes: &[u8]) -> u64 {
     sum
 }
 
-/// Encodes a list of bytes. Returns how many bytes its encoding has.
+/// Encodes a list of bytes into `out`. Returns the number of bytes of the encoding.
 #[unsafe(no_mangle)]
 pub extern "C" fn port_bytes_encode(values: &[u8], out: &mut [u8]) -> u64 {
     match to_slice(&values, out) {
@@ -56,7 +57,7 @@ pub extern "C" fn port_bytes_encode(values: &[u8], out: &mut [u8]) -> u64 {
     }
 }
 
-/// Decodes a list of bytes into a vector. Returns its length and its last byte, summed.
+/// Decodes a list of bytes into a new vector. Returns the sum of its length and its last byte.
 #[unsafe(no_mangle)]
 pub extern "C" fn port_bytes_decode(alloc: Global, bytes: &[u8]) -> u64 {
     match from_bytes::<Vec<u8>>(alloc, bytes) {
@@ -65,7 +66,8 @@ pub extern "C" fn port_bytes_decode(alloc: Global, bytes: &[u8]) -> u64 {
     }
 }
 
-/// Decodes a list of bytes that stays where it is. Returns its length and its last byte, summed.
+/// Decodes a list of bytes as a slice of the message. Returns the sum of its length and its last
+/// byte.
 #[unsafe(no_mangle)]
 pub extern "C" fn port_bytes_lend(alloc: Global, bytes: &[u8]) -> u64 {
     match from_bytes::<&[u8]>(alloc, bytes) {

@@ -1,4 +1,4 @@
-//! Small records: a struct of four fields, written and read through the tuple of these.
+//! Small records: a struct of four fields, written and read as the tuple of its fields.
 
 use postcard::ser_flavors::Flavor;
 use postcard::{
@@ -6,7 +6,7 @@ use postcard::{
 };
 use std::alloc::Global;
 
-/// A record of a few bytes, as a device sends them.
+/// A record whose encoding has a few bytes, such as a device sends.
 #[derive(Drop)]
 pub struct Record<'a> {
     a: u32,
@@ -65,8 +65,8 @@ impl Record<'_> {
     }
 }
 
-/// Encodes `count` records, each into the front of `out`. Returns the sum of their lengths and of
-/// their last bytes.
+/// Encodes `count` records, each into the front of `out`. Returns the sum of the lengths and of the
+/// last bytes of their encodings.
 #[unsafe(no_mangle)]
 pub extern "C" fn port_small_encode(count: u32, out: &mut [u8]) -> u64 {
     let mut sum: u64 = 0;
@@ -80,7 +80,8 @@ pub extern "C" fn port_small_encode(count: u32, out: &mut [u8]) -> u64 {
     sum
 }
 
-/// Encodes `count` records one after another. Returns how many bytes they have.
+/// Encodes `count` records into `out`, one after another. Returns the number of bytes of their
+/// encodings.
 #[unsafe(no_mangle)]
 pub extern "C" fn port_small_stream(count: u32, out: &mut [u8]) -> u64 {
     let mut used: usize = 0;
@@ -96,7 +97,7 @@ pub extern "C" fn port_small_stream(count: u32, out: &mut [u8]) -> u64 {
     used as u64
 }
 
-/// Decodes records until no byte is left. Returns the sum of theirs.
+/// Decodes records until no byte is left. Returns the sum of [`Record::sum`] over them.
 #[unsafe(no_mangle)]
 pub extern "C" fn port_small_decode(alloc: Global, bytes: &[u8]) -> u64 {
     let mut sum: u64 = 0;

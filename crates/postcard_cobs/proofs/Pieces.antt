@@ -6,7 +6,7 @@ use Rattle.postcard_cobs.specs.Pushing.{after, answer}
 use Rattle.postcard_cobs.specs.declared.encode.PushResult.TheVariants.{AddSingle, ModifyFromStartAndSkip}
 use Rattle.postcard_cobs.proofs.Encoding.{push_zero, push_one}
 
--- where a group isn't full with one more byte, the encoder moves on by one place
+-- If a group isn't full with one more byte, the encoder moves on by one place.
 pub after_short : (at : Standing) (b : ℕ) → at.code < 254 → ((after at b).code_at + (after at b).code ≡ at.code_at + at.code + 1) × ((after at b).code ≤ at.code + 1)
 after_short at b s = by_zero (eqb b 0) refl where
   by_zero : (t : Bool) → eqb b 0 ≡ t → ((after at b).code_at + (after at b).code ≡ at.code_at + at.code + 1) × ((after at b).code ≤ at.code + 1)
@@ -15,7 +15,7 @@ after_short at b s = by_zero (eqb b 0) refl where
       let f : eqb at.code 254 ≡ false = ne_eqb at.code 254 (λ e. omega (arith, s)) in
       rw (e, f) (omega arith, omega arith)
 
--- only a zero has a code set alone
+-- Only for a zero is a code set and nothing else written but a zero.
 pub answer_zero : (at : Standing) (b : ℕ) (p : ℕ × ℕ) → answer at b ≡ ModifyFromStartAndSkip p → b ≡ 0
 answer_zero at b p is = by_zero (eqb b 0) (eqb at.code 254) refl refl where
   by_zero : (t u : Bool) → eqb b 0 ≡ t → eqb at.code 254 ≡ u → b ≡ 0
@@ -23,7 +23,7 @@ answer_zero at b p is = by_zero (eqb b 0) (eqb at.code 254) refl refl where
   by_zero false true e f = let r = rw (e, f) at is in absurd (cc)
   by_zero false false e f = let r = rw (e, f) at is in absurd (cc)
 
--- where a group isn't full with one more byte, a byte that has no code set is written alone
+-- If a group isn't full with one more byte, a byte for which no code is set is written alone.
 pub answer_other : (at : Standing) (b : ℕ) → at.code < 254 → ((p : ℕ × ℕ) → answer at b ≡ ModifyFromStartAndSkip p → ⊥) → answer at b ≡ AddSingle b
 answer_other at b s none = by_zero (eqb b 0) refl where
   by_zero : (t : Bool) → eqb b 0 ≡ t → answer at b ≡ AddSingle b
@@ -32,14 +32,14 @@ answer_other at b s none = by_zero (eqb b 0) refl where
       let f : eqb at.code 254 ≡ false = ne_eqb at.code 254 (λ e. omega (arith, s)) in
       rw (e, f) refl
 
--- an open frame of the data d that has n bytes more than L
+-- An open frame of the data d that has n bytes more than L.
 pub record Longer (L d : List ℕ) (n : ℕ) : Type 0 where
   pub frame : List ℕ
   pub at : Standing
   pub stands : IsOpen frame at d
   pub longer : length frame ≡ length L + n
 
--- a piece makes an open frame longer by its own length
+-- A piece makes an open frame longer by the piece's length.
 pub piece_open : (x L d : List ℕ) (at : Standing) → length x + at.code < 255 → IsOpen L at d → Longer L (d ++ x) (length x)
 piece_open [] L d at s h = record { frame = L; at = at; stands = rw (append-nil d) h; longer = omega arith }
 piece_open (b ∷ x) L d at s h = by_zero (eqb b 0) refl (λ F to few one. piece_open x F (d ++ b ∷ []) to few one) where

@@ -1,5 +1,5 @@
-//! Frames worked out by hand, over each storage and after held bytes, and the same data taken
-//! whole, byte by byte and in pieces.
+//! Tests of the flavor `Cobs` with frames worked out by hand: in each storage, after other bytes,
+//! and with data that is taken whole, byte by byte and in pieces.
 
 ghost use Rattle.std.specs.Prelude.{◌<◌};
 
@@ -9,10 +9,10 @@ use postcard_wire::{Error, Result};
 use std::alloc::Global;
 use std::test::Fail;
 
-/// The bytes of a buffer that weren't written.
+/// The bytes of a buffer before anything is written.
 const OLD: u8 = 0xAA;
 
-/// As many bytes as make a group full.
+/// The bytes of a full group.
 const FULL: [u8; 254] = [0x11; 254];
 
 /// Returns the pieces as one vector.
@@ -25,7 +25,7 @@ fn joined(alloc: Global, pieces: &[&[u8]]) -> Result<Vec<u8>> {
     Ok(all)
 }
 
-/// Writes a frame whose data is taken in pieces of `size` bytes.
+/// Writes a frame of the data, which the flavor takes in pieces of `size` bytes.
 fn framed<B: Storage + Drop>(storage: B, data: &[u8], size: usize) -> Result<<B as Flavor>::Output>
     requires { 0 < size }
 {
@@ -36,7 +36,7 @@ fn framed<B: Storage + Drop>(storage: B, data: &[u8], size: usize) -> Result<<B 
     cobs.finalize()
 }
 
-/// Writes a frame whose data is taken byte by byte.
+/// Writes a frame of the data, which the flavor takes byte by byte.
 fn framed_bytewise<B: Storage + Drop>(storage: B, data: &[u8]) -> Result<<B as Flavor>::Output> {
     let mut cobs = Cobs::try_new(storage)?;
     for byte in data {
@@ -49,7 +49,7 @@ fn framed_bytewise<B: Storage + Drop>(storage: B, data: &[u8]) -> Result<<B as F
 fn each_storage_gets_the_frame(rt: HostRuntime) -> std::result::Result<(), Fail> {
     let none = [].as_slice();
     let full = FULL.as_slice();
-    // Two pieces of data, and the pieces of the frame.
+    // Each row is two pieces of data, and the pieces of the frame.
     let rows = [
         (
             [none, none],
@@ -172,9 +172,10 @@ fn refused_once_it_stays_refused(rt: HostRuntime) -> std::result::Result<(), Fai
 }
 
 #[test]
-fn a_frame_goes_behind_held_bytes(rt: HostRuntime) -> std::result::Result<(), Fail> {
+fn a_frame_goes_after_held_bytes(rt: HostRuntime) -> std::result::Result<(), Fail> {
     let full = FULL.as_slice();
-    // The bytes held, the data, and the pieces of what the vector then holds.
+    // Each row is the bytes in the vector before, the data, and the pieces of the vector's bytes
+    // then.
     let rows = [
         (
             [0xAA, 0xBB].as_slice(),
@@ -254,7 +255,7 @@ fn the_storage_comes_back(rt: HostRuntime) -> std::result::Result<(), Fail> {
     Ok(())
 }
 
-/// The data of the longest kind: zeros at the places that `zero_each` divides, and elsewhere 11.
+/// Returns 600 bytes of data: zeros at the places that `zero_each` divides, and 11 elsewhere.
 fn long_data(zero_each: usize) -> [u8; 600]
     requires { 0 < zero_each }
 {

@@ -1,5 +1,5 @@
-//! Frames worked out by hand, encoded and decoded; data of every length up to 600 bytes; and short
-//! frames with each byte changed.
+//! Tests of encoding and decoding frames: frames worked out by hand, data of every length up to 600
+//! bytes, and short frames with each byte changed.
 
 ghost use Rattle.std.specs.Prelude.{IsTrue, ◌<◌};
 ghost use Rattle.postcard_cobs.specs.Groups.{NoZero};
@@ -14,7 +14,7 @@ use std::test::Fail;
 
 type Tested = Result<(), Fail>;
 
-/// Data and its frame, without the zero that ends it.
+/// Data, each beside its frame without the zero at the end.
 const FRAMES: [(&[u8], &[u8]); 20] = [
     (&[], &[1]),
     (&[0], &[1, 1]),
@@ -41,14 +41,14 @@ const FRAMES: [(&[u8], &[u8]); 20] = [
     ),
 ];
 
-/// Whether no byte is zero.
+/// Returns whether no byte is zero.
 fn has_no_zero(bytes: &[u8]) -> bool
     ensures { IsTrue result → NoZero bytes.now }
 {
     frame_len(bytes) == bytes.len()
 }
 
-/// Does what an encoder asks for.
+/// Changes the frame as the result of a push says.
 fn apply(frame: &mut Vec<u8>, asked: PushResult) -> Result<(), AllocError> {
     match asked {
         PushResult::AddSingle(byte) => frame.push(byte)?,
@@ -64,14 +64,14 @@ fn apply(frame: &mut Vec<u8>, asked: PushResult) -> Result<(), AllocError> {
     Ok(())
 }
 
-/// Sets the byte at a place, which has to be there.
+/// Sets the byte at a place, or does nothing if the frame is shorter.
 fn set(frame: &mut Vec<u8>, place: usize, code: u8) {
     if let Some(byte) = frame.get_mut(place) {
         *byte = code;
     }
 }
 
-/// The made frame of the data, by one push for each byte.
+/// Returns the made frame of the data, with one push for each byte.
 fn made(rt: &impl Abort, alloc: Global, content: &[u8]) -> Result<Vec<u8>, AllocError> {
     let mut frame = [0].to_vec(alloc)?;
     let mut state = EncoderState::default();
@@ -85,7 +85,7 @@ fn made(rt: &impl Abort, alloc: Global, content: &[u8]) -> Result<Vec<u8>, Alloc
     Ok(frame)
 }
 
-/// The same, by runs as long as may be, and a push after each.
+/// Returns the made frame of the data, with runs as long as possible and a push after each.
 fn made_by_runs(rt: &impl Abort, alloc: Global, content: &[u8]) -> Result<Vec<u8>, AllocError> {
     let mut frame = [0].to_vec(alloc)?;
     let mut state = EncoderState::default();
@@ -158,7 +158,7 @@ fn the_frames_of_the_table(rt: HostRuntime) -> Tested {
     Ok(())
 }
 
-/// Bytes in a row: each one as many times as the number beside it.
+/// Returns bytes in a row, each as many times as the number beside it.
 fn bytes_of(alloc: Global, parts: &[(u8, usize)]) -> Result<Vec<u8>, AllocError> {
     let mut bytes = Vec::new(alloc);
     for (byte, count) in parts.iter() {
@@ -169,7 +169,7 @@ fn bytes_of(alloc: Global, parts: &[(u8, usize)]) -> Result<Vec<u8>, AllocError>
     Ok(bytes)
 }
 
-/// Fails unless this is the made frame of the content, and decodes to it.
+/// Asserts that the content has this made frame, which decodes to it.
 fn is_framed(
     rt: &impl Abort,
     alloc: Global,
@@ -320,7 +320,8 @@ fn a_changed_byte_is_decoded_or_refused(rt: HostRuntime) -> Tested {
     Ok(())
 }
 
-/// Data of a number of bytes, with a zero at each place that `step` divides; places count from one.
+/// Returns `len` bytes of data, with a zero at each place that `step` divides; places are counted
+/// from 1.
 fn sample(alloc: Global, len: usize, step: usize) -> Result<Vec<u8>, AllocError>
     requires { 0 < step }
 {

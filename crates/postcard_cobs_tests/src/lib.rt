@@ -1,6 +1,6 @@
-//! Tests of frames and of the flavor that writes them, against frames worked out by hand.
+//! Tests of frames and of the flavor that writes them, with frames worked out by hand.
 //!
-//! They stand in a crate of their own, so that what they test is proved without them.
+//! They are in a crate of their own, so that the crates they test are proved without them.
 #![tactic(auto)]
 
 #[cfg(test)]

@@ -9,7 +9,7 @@ use Rattle.postcard_wire.specs.Tree.{Tree, Group, Seq, count}
 use Rattle.postcard_wire.specs.Spelling.{Spells, SpellsAll}
 use Rattle.postcard_wire.specs.Reading.{IsGroup, IsArray}
 use Rattle.postcard_de_flavors.specs.Source.{Laws}
-use Rattle.postcard_de_nodes.specs.Reads.{MayAnswer, ReadsFrom}
+use Rattle.postcard_de_nodes.specs.Reads.{IsReadError, ReadsFrom}
 use Rattle.postcard_shape.specs.Values.{Same, EachIs, ListIs, AreRead}
 use Rattle.postcard_shape.specs.Maps.{IsEntry, EntryIs, inserted}
 use Rattle.postcard_shape.specs.Fixed.{IsFewSeq}
@@ -20,13 +20,13 @@ use Rattle.postcard_de_nodes.specs.CompoundLemmas.{both_read}
 use Rattle.postcard_de_nodes.specs.SeenLemmas.{none_follows}
 use Rattle.postcard_de.proofs.Parts.{struct_read, and_part, no_more, struct_fails, stops, and_fails}
 
--- One pair more is put in last.
+-- Inserting pairs and one more at their end is inserting the pairs and then that one.
 pub inserted_last : {A B : Type 0} (cmp : A → A → Ordering) (ps es : List (A × B)) (a : A) (b : B) →
     inserted cmp (ps ++ ((a, b) ∷ [])) es ≡ insert_entry cmp (inserted cmp ps es) a b
 inserted_last cmp [] es a b = refl
 inserted_last cmp (p ∷ ps) es a b = inserted_last cmp ps (insert_entry cmp es p.0 p.1) a b
 
--- A list of at most m elements is a count of at most m and as many trees.
+-- A list of at most m elements is made of a count of at most m and that many trees.
 pub count_and_few : (m : ℕ) (R : Tree → Type 0) →
     Compound (λ (n : ℕ) ts. Seq ts) (SpellsNum 64) (Below 64) Same SpellsAll
     (λ n ts. AreRead n R ts × (n ≤ m)) Spells (IsFewSeq m R)
@@ -53,7 +53,7 @@ count_and_few m R = record {
 
 module _ {S : Type 0} {left : S → Option (List ℕ)} {able : S → ℕ → Type 0}
     {may_leave : S → S → Type 0} (laws : Laws left able may_leave) where
-  -- A pair's key refuses.
+  -- If reading a pair's key fails, reading the pair fails with that error.
   pub key_refused : {A B : Type 0} {K V : Tree → Type 0} {I : Tree → A → Type 0} {G H : Type 0}
       {value : Tree → A × B → Type 0} {old new : S} {e : Error} →
       ReadsFrom Spells K I G left able may_leave old (refusal A e) new →
@@ -63,7 +63,7 @@ module _ {S : Type 0} {left : S → Option (List ℕ)} {able : S → ℕ → Typ
 
   module _ {A B : Type 0} {K V : Tree → Type 0} {I : Tree → A → Type 0} {J : Tree → B → Type 0}
       {G H : Type 0} where
-    -- The key was read, and the value refuses.
+    -- If the key was read and reading the value fails, reading the pair fails with that error.
     pub value_refused : {old mid new : S} {a : A} {e : Error} →
         ReadsFrom Spells K I G left able may_leave old (Ok a) mid →
         ReadsFrom Spells V J H left able may_leave mid (refusal B e) new →
@@ -71,7 +71,7 @@ module _ {S : Type 0} {left : S → Option (List ℕ)} {able : S → ℕ → Typ
         (refusal (A × B) e) new
     value_refused r s = struct_fails laws refl (and_fails laws r (stops laws s))
 
-    -- Both were read.
+    -- If both were read, the pair was read.
     pub entry_read : {old mid new : S} {a : A} {b : B} →
         ReadsFrom Spells K I G left able may_leave old (Ok a) mid →
         ReadsFrom Spells V J H left able may_leave mid (Ok b) new →
@@ -80,7 +80,7 @@ module _ {S : Type 0} {left : S → Option (List ℕ)} {able : S → ℕ → Typ
     entry_read r s = struct_read laws (λ t h. h) (and_part laws r (and_part laws s (no_more laws)))
 
   module _ {V : Type 0} {R : Tree → Type 0} {I : Tree → V → Type 0} {H : Type 0} where
-    -- All elements of an array were read.
+    -- If all elements of an array were read, the array was read.
     pub array_read : {n : ℕ} {old new : S} {vs : List V} →
         ReadsFrom SpellsAll (AreRead n R) (EachIs I) H left able may_leave old (Ok vs) new →
         ReadsFrom Spells (IsArray n R) (λ t v. IsGroup (λ ts. EachIs I ts v) t) H left able
@@ -97,10 +97,10 @@ module _ {S : Type 0} {left : S → Option (List ℕ)} {able : S → ℕ → Typ
       accepts = λ t p a b c. let k = r.accepts a.0 p (a.2, a.3) (rw a.1 at b) c in
           ((a.0, a.1, k.0), k.1);
       leaves = r.leaves;
-      names = tt;
+      named_error = tt;
     }
 
-    -- They refuse.
+    -- If reading the elements fails, reading the array fails with that error.
     pub array_refused : {n : ℕ} {old new : S} {e : Error} →
         ReadsFrom SpellsAll (AreRead n R) (EachIs I) H left able may_leave old (refusal (List V) e)
         new → ReadsFrom Spells (IsArray n R) (λ t v. IsGroup (λ ts. EachIs I ts v) t) H left able
@@ -109,13 +109,13 @@ module _ {S : Type 0} {left : S → Option (List ℕ)} {able : S → ℕ → Typ
       gives = tt;
       accepts = λ t p a b c. r.accepts a.0 p (a.2, a.3) (rw a.1 at b) c;
       leaves = r.leaves;
-      names = r.names;
+      named_error = r.named_error;
     }
 
     module _ {A : Type 0} {see : A → List V} {m n : ℕ} {old mid new : S}
         (counted : ReadsFrom (SpellsNum 64) (Below 64) Same ⊥ left able may_leave old (Ok n) mid)
       where
-        -- The count and as few elements were read.
+        -- If a count of at most m and that many elements were read, the list was read.
         pub few_read : {a : A} → n ≤ m → ReadsFrom SpellsAll (AreRead n R) (EachIs I) H left able
             may_leave mid (Ok (see a)) new → ReadsFrom Spells (IsFewSeq m R)
             (λ t x. ListIs I t (see x)) H left able may_leave old (Ok a) new
@@ -139,10 +139,11 @@ module _ {S : Type 0} {left : S → Option (List ℕ)} {able : S → ℕ → Typ
                   };
                   accepts = λ x p a b c. k.accepts x p a.0 b c;
                   leaves = k.leaves;
-                  names = k.names;
+                  named_error = k.named_error;
                 }
 
-        -- The count was read, and the elements refuse.
+        -- If the count was read and reading the elements fails, reading the list fails with that
+        -- error.
         pub few_refused : {e : Error} → ReadsFrom SpellsAll (AreRead n R) (EachIs I) H left able
             may_leave mid (refusal (List V) e) new →
             ReadsFrom Spells (IsFewSeq m R) (λ t x. ListIs I t (see x)) H left able may_leave old
@@ -155,17 +156,17 @@ module _ {S : Type 0} {left : S → Option (List ℕ)} {able : S → ℕ → Typ
               gives = tt;
               accepts = λ x p a b c. k.accepts x p a.0 b c;
               leaves = k.leaves;
-              names = k.names;
+              named_error = k.named_error;
             }
 
-        -- More were announced than there is room for, and some were read.
-        pub too_many : {e : Error} → MayAnswer H e → (n ≤ m → ⊥) → may_leave mid new →
+        -- If a count above m was read and then some elements, reading the list may fail.
+        pub too_many : {e : Error} → IsReadError H e → (n ≤ m → ⊥) → may_leave mid new →
             ReadsFrom Spells (IsFewSeq m R) (λ t x. ListIs I t (see x)) H left able may_leave old
             (refusal A e) new
         too_many named many l =
             none_follows laws (count_and_few m R) named (λ ts a. many a.1) l counted
 
-  -- The count was refused.
+  -- If reading the count fails, reading the list fails with that error.
   pub few_count_refused : {A : Type 0} {K : Tree → A → Type 0} {R : Tree → Type 0} {H : Type 0}
       {m : ℕ} {old new : S} {e : Error} → ReadsFrom (SpellsNum 64) (Below 64) Same ⊥ left able
       may_leave old (refusal ℕ e) new → ReadsFrom Spells (IsFewSeq m R) K H left able may_leave old

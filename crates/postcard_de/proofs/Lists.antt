@@ -15,12 +15,12 @@ use Rattle.postcard_de_nodes.specs.ReadLemmas.{refusal, out_of_memory}
 use Rattle.postcard_de_nodes.specs.CompoundLemmas.{Compound, first_refused, second_refused}
 use Rattle.postcard_de_nodes.specs.CompoundLemmas.{both_read}
 
--- Values that were read, in front of those that are to come.
+-- The values us, read before, in front of those that the result has, or its error.
 abbrev pub behind : {V : Type 0} → List V → Result (List V) Error → Result (List V) Error
 behind us (Ok vs) = Ok (us ++ vs)
 behind us (Err e) = Err e
 
--- Trees in a row are one and the rest.
+-- Trees in a row are made of one and the rest.
 pub one_and_rest : {V : Type 0} (R : Tree → Type 0) (I : Tree → V → Type 0) (n : ℕ) →
     Compound Then Spells R I SpellsAll (λ v ts. AreRead n R ts) SpellsAll (AreRead (suc n) R)
 one_and_rest {V} R I n = record {
@@ -35,7 +35,8 @@ one_and_rest {V} R I n = record {
     parted (Then t ts) r a (p, q, s, k, e) =
         (t, ts, p, q, refl, a.1.0, s, k, e, λ v i. (omega (arith, a.0), a.1.1))
 
--- What reading the elements that are left would give is what reading all gives.
+-- The state within a list: however reading the elements left ends, reading all ends likewise, with
+-- the elements read so far in front.
 pub record Going {S V : Type 0} (left : S → Option (List ℕ)) (able : S → ℕ → Type 0)
     (may_leave : S → S → Type 0) (R : Tree → Type 0) (I : Tree → V → Type 0) (H : Type 0)
     (start : S) (all : ℕ) (items : List V) (now : S) (rest : ℕ) : Type 0 where
@@ -47,7 +48,7 @@ pub record Going {S V : Type 0} (left : S → Option (List ℕ)) (able : S → �
 module _ {S V : Type 0} {left : S → Option (List ℕ)} {able : S → ℕ → Type 0}
     {may_leave : S → S → Type 0} (laws : Laws left able may_leave) {R : Tree → Type 0}
     {I : Tree → V → Type 0} {H : Type 0} where
-  -- None was read yet.
+  -- It holds before any element was read.
   pub going : {start : S} {all : ℕ} → Going left able may_leave R I H start all [] start all
   going {start} {all} = record { ends = ends }
     where
@@ -58,7 +59,7 @@ module _ {S V : Type 0} {left : S → Option (List ℕ)} {able : S → ℕ → T
       ends (Ok vs) new h = h
       ends (Err e) new h = h
 
-  -- One more was read.
+  -- It holds after one more element was read.
   pub goes_on : {G : Type 0} {start now mid : S} {all rest : ℕ} {items : List V} {v : V} → (G → H) →
       Going left able may_leave R I H start all items now (suc rest) →
       ReadsFrom Spells R I G left able may_leave now (Ok v) mid →
@@ -76,7 +77,7 @@ module _ {S V : Type 0} {left : S → Option (List ℕ)} {able : S → ℕ → T
       ends (Err e) new k =
           so.ends (Err e) new (second_refused laws (one_and_rest R I rest) (λ g. g) h k)
 
-  -- The next one refuses.
+  -- If reading the next element fails, reading all fails with that error.
   pub going_stops : {G W : Type 0} {I' : Tree → W → Type 0} {start now new : S} {all rest : ℕ}
       {items : List V} {e : Error} → (G → H) →
       Going left able may_leave R I H start all items now (suc rest) →
@@ -86,14 +87,14 @@ module _ {S V : Type 0} {left : S → Option (List ℕ)} {able : S → ℕ → T
   going_stops {I' = I'} {new = new} {rest = rest} {e = e} grow so h =
       so.ends (Err e) new (first_refused laws (one_and_rest R I' rest) grow h)
 
-  -- Memory ran out.
+  -- If memory ran out, reading all fails with `OutOfMemory`.
   pub going_full : {start now new : S} {all rest : ℕ} {items : List V} → H →
       Going left able may_leave R I H start all items now (suc rest) → may_leave now new →
       ReadsFrom SpellsAll (AreRead all R) (EachIs I) H left able may_leave start
       (refusal (List V) OutOfMemory) new
   going_full {new = new} h so l = so.ends (Err OutOfMemory) new (out_of_memory l h)
 
-  -- None is left.
+  -- If no element is left, all were read.
   pub going_done : {start now : S} {all : ℕ} {items : List V} →
       Going left able may_leave R I H start all items now 0 →
       ReadsFrom SpellsAll (AreRead all R) (EachIs I) H left able may_leave start (Ok items) now
@@ -108,7 +109,7 @@ module _ {S V : Type 0} {left : S → Option (List ℕ)} {able : S → ℕ → T
     };
     accepts = accepts;
     leaves = laws.itself now;
-    names = tt;
+    named_error = tt;
   }))
     where
       accepts : (ts : Trees) (p : List ℕ) → AreRead 0 R ts → SpellsAll ts p →
@@ -116,12 +117,12 @@ module _ {S V : Type 0} {left : S → Option (List ℕ)} {able : S → ℕ → T
       accepts NoTrees p a s c = (tt, rw s (nothing_taken now))
       accepts (Then t ts) p a s c = absurd (omega (arith, a.0))
 
--- A count that isn't 0 is one more than the count below it.
+-- A number that isn't 0 is the successor of its predecessor.
 pub one_more_left : (n : ℕ) → (n ≡ 0 → ⊥) → n ≡ suc (n - 1)
 one_more_left zero h = absurd (h refl)
 one_more_left (suc n) h = omega arith
 
--- What was read up to a state was read up to any state that equals it.
+-- A call that left a state left any state that equals it.
 pub not_moved : {X S V : Type 0} {spelled : X → List ℕ → Type 0} {reads : X → Type 0}
     {value : X → V → Type 0} {grows : Type 0} {left : S → Option (List ℕ)} {able : S → ℕ → Type 0}
     {may_leave : S → S → Type 0} {old mid new : S} {r : Result V Error} → new ≡ mid →
@@ -129,6 +130,6 @@ pub not_moved : {X S V : Type 0} {spelled : X → List ℕ → Type 0} {reads : 
     ReadsFrom spelled reads value grows left able may_leave old r new
 not_moved e h = rw e h
 
--- What holds where there is no value.
+-- What holds if an option is `None` holds of an option that is.
 pub at_none : {V P : Type 0} {o : Option V} → o ≡ None → IfNone o P → P
 at_none e h = rw e at h

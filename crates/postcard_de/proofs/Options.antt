@@ -1,4 +1,4 @@
--- Reading an option: a byte, and behind the byte 1 its content.
+-- Reading an option: a byte, and after the byte 1 its content.
 use Rattle.std.proofs.Common.{◌≡◌, ℕ, inl, inr, List, [], ◌∷◌}
 use Rattle.std.proofs.Common.{◌++◌, Option, Some, Ok, refl, sym, ◌∙◌, ap, subst, arith}
 use Rattle.postcard_wire.specs.Tree.{Tree, Present}
@@ -9,14 +9,14 @@ use Rattle.postcard_de_nodes.specs.Reads.{ReadsFrom}
 use Rattle.postcard_shape.specs.Options.{OptionIs}
 use Rattle.postcard_de_nodes.specs.TakeLemmas.{both_taken, faces, can_second}
 
--- Where one byte faces a front, it begins that front.
+-- If a list begins with the byte b and with a front, then the front begins with b.
 first_byte : (b c : ℕ) (q y z : List ℕ) → (b ∷ []) ++ y ≡ (c ∷ q) ++ z → b ≡ c
 first_byte b c q y z e = cc
 
 module _ {S : Type 0} {left : S → Option (List ℕ)} {able : S → ℕ → Type 0}
     {may_leave : S → S → Type 0} (laws : Laws left able may_leave) where
   module _ {V : Type 0} {R : Tree → Type 0} {I : Tree → V → Type 0} {G : Type 0} where
-    -- The byte 1 was taken, and the content read.
+    -- If the byte 1 was taken and the content was read, the option was read.
     pub some_read : {old mid new : S} {v : V} → Takes left able old (1 ∷ []) mid →
         may_leave old mid → ReadsFrom Spells R I G left able may_leave mid (Ok v) new →
         ReadsFrom Spells (IsOption R) (OptionIs I) G left able may_leave old (Ok (Some v)) new
@@ -31,7 +31,7 @@ module _ {S : Type 0} {left : S → Option (List ℕ)} {able : S → ℕ → Typ
       };
       accepts = accepts;
       leaves = laws.joins old mid new l r.leaves;
-      names = tt;
+      named_error = tt;
     }
       where
         accepts : (x : Tree) (p : List ℕ) → IsOption R x → Spells x p → CanTake left able old p →

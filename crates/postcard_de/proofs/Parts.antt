@@ -1,5 +1,5 @@
--- Reading parts in a row, as of a tuple or a struct: the first refuses, or it was read and the
--- others go on.
+-- Reading parts in a row, as of a tuple or a struct: reading the first fails, or it was read and
+-- the others are read next.
 use Rattle.std.proofs.Common.{◌≡◌, ℕ, ◌⊎◌, inl, inr, List, [], Option, Ok, Result, IsErrAnd, refl}
 use Rattle.std.proofs.Common.{sym}
 use Rattle.postcard_wire.specs.declared.error.Error.{Error}
@@ -13,7 +13,7 @@ use Rattle.postcard_de_nodes.specs.ReadLemmas.{refusal, is_refusal}
 use Rattle.postcard_de_nodes.specs.CompoundLemmas.{Compound, first_refused, second_refused}
 use Rattle.postcard_de_nodes.specs.CompoundLemmas.{both_read}
 
--- Parts in a row are one and the rest.
+-- Parts in a row are made of one part and the rest.
 pub part_and_rest : {V : Type 0} (R : Tree → Type 0) (I : Tree → V → Type 0) (Rs : Trees → Type 0) →
     Compound Then Spells R I SpellsAll (λ v. Rs) SpellsAll (IsThen R Rs)
 part_and_rest {V} R I Rs = record {
@@ -22,17 +22,17 @@ part_and_rest {V} R I Rs = record {
       (a.0, a.1, k.0, k.1, sym a.2, a.3, k.2, k.3, k.4, λ v i. a.4);
 }
 
--- Parts that were read have what is said of them; there is no other value.
+-- K holds of parts that were read; they have no other value.
 abbrev pub AllAre : (Trees → Type 0) → Trees → Unit {0} → Type 0
 AllAre K ts u = K ts
 
--- Nothing is said of parts that were refused.
+-- Parts that weren't read have no value.
 abbrev pub NoneIs : Trees → Unit {0} → Type 0
 NoneIs ts u = ⊥
 
 module _ {S : Type 0} {left : S → Option (List ℕ)} {able : S → ℕ → Type 0}
     {may_leave : S → S → Type 0} (laws : Laws left able may_leave) where
-  -- A part was read, and then those after it.
+  -- If a part was read and then those after it, all were read.
   pub and_part : {V : Type 0} {R : Tree → Type 0} {I : Tree → V → Type 0} {G : Type 0}
       {Rs K : Trees → Type 0} {H : Type 0} {old mid new : S} {v : V} →
       ReadsFrom Spells R I G left able may_leave old (Ok v) mid →
@@ -42,7 +42,7 @@ module _ {S : Type 0} {left : S → Option (List ℕ)} {able : S → ℕ → Typ
   and_part {R = R} {I = I} {Rs = Rs} r s =
       both_read laws (part_and_rest R I Rs) (λ t ts i j. (t, ts, refl, i, j)) r s
 
-  -- A part was read, and those after it refuse.
+  -- If a part was read and reading those after it fails, reading all fails with that error.
   pub and_fails : {V : Type 0} {R : Tree → Type 0} {I : Tree → V → Type 0} {G : Type 0}
       {Rs : Trees → Type 0} {H : Type 0} {old mid new : S} {v : V} {e : Error} →
       ReadsFrom Spells R I G left able may_leave old (Ok v) mid →
@@ -51,7 +51,7 @@ module _ {S : Type 0} {left : S → Option (List ℕ)} {able : S → ℕ → Typ
       (refusal (Unit {0}) e) new
   and_fails {R = R} {I = I} {Rs = Rs} r s = second_refused laws (part_and_rest R I Rs) inr r s
 
-  -- A part refuses.
+  -- If reading the first part fails, reading all fails with that error.
   pub stops : {V : Type 0} {R : Tree → Type 0} {I : Tree → V → Type 0} {G : Type 0}
       {Rs : Trees → Type 0} {H : Type 0} {old new : S} {e : Error} →
       ReadsFrom Spells R I G left able may_leave old (refusal V e) new →
@@ -59,7 +59,7 @@ module _ {S : Type 0} {left : S → Option (List ℕ)} {able : S → ℕ → Typ
       (refusal (Unit {0}) e) new
   stops {R = R} {I = I} {Rs = Rs} r = first_refused laws (part_and_rest R I Rs) inl r
 
-  -- No part is left.
+  -- If no part is left, all were read and nothing is taken.
   pub no_more : {s : S} → ReadsFrom SpellsAll IsEnd (AllAre IsEnd) ⊥ left able may_leave s (Ok tt) s
   no_more {s} = record {
     gives = record {
@@ -72,10 +72,10 @@ module _ {S : Type 0} {left : S → Option (List ℕ)} {able : S → ℕ → Typ
     };
     accepts = λ ts p a b c. (a, let k : SpellsAll NoTrees p = rw a at b in rw k (nothing_taken s));
     leaves = laws.itself s;
-    names = tt;
+    named_error = tt;
   }
 
-  -- All parts of a tuple or a struct were read.
+  -- If all parts of a tuple or a struct were read, it was read.
   pub struct_read : {A : Type 0} {value : Tree → A → Type 0} {Rs K : Trees → Type 0} {G : Type 0}
       {old new : S} {a : A} → ((t : Tree) → IsGroup K t → value t a) →
       ReadsFrom SpellsAll Rs (AllAre K) G left able may_leave old (Ok tt) new →
@@ -92,10 +92,11 @@ module _ {S : Type 0} {left : S → Option (List ℕ)} {able : S → ℕ → Typ
     accepts = λ t p a b c. let k = r.accepts a.0 p a.2 (rw a.1 at b) c in
         (has t (a.0, a.1, k.0), k.1);
     leaves = r.leaves;
-    names = tt;
+    named_error = tt;
   }
 
-  -- The parts of a tuple or a struct refuse, and `?` passes that on.
+  -- If reading the parts of a tuple or a struct fails, reading it fails with the error that `?`
+  -- passes on.
   pub struct_fails : {A : Type 0} {value : Tree → A → Type 0} {Rs : Trees → Type 0} {G : Type 0}
       {old new : S} {r : Result A Error} {e : Error} → IsErrAnd r (λ x. x ≡ e) →
       ReadsFrom SpellsAll Rs NoneIs G left able may_leave old (refusal (Unit {0}) e) new →
@@ -104,5 +105,5 @@ module _ {S : Type 0} {left : S → Option (List ℕ)} {able : S → ℕ → Typ
     gives = tt;
     accepts = λ t p a b c. s.accepts a.0 p a.2 (rw a.1 at b) c;
     leaves = s.leaves;
-    names = s.names;
+    named_error = s.named_error;
   })

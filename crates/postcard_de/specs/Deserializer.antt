@@ -1,4 +1,4 @@
--- What a contract sees of a deserializer: its source.
+-- What contracts see of a deserializer: its source.
 use Rattle.postcard_de.specs.declared.deserializer.Deserializer.{Deserializer}
 
 -- The source that a deserializer reads from.

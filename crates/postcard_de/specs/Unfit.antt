@@ -1,4 +1,4 @@
--- Why a single node is refused: the definitions of `postcard_de_nodes`, under the path of this
+-- Why reading a single node fails: the definitions of `postcard_de_nodes`, under the path of this
 -- crate.
 pub use Rattle.postcard_de_nodes.specs.Unfit.{NotABit, BadBool, BadOption, WantsChar, TooLong}
 pub use Rattle.postcard_de_nodes.specs.Unfit.{NoChar, BadChar, BadBytes, ContentRefuses, LongText}

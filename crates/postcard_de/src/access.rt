@@ -13,7 +13,8 @@ use postcard_wire::Result;
 use std::alloc::Global;
 use std::marker::Model;
 
-/// The number of elements of a list that are left to read. A contract sees it as that number.
+/// The number of elements that are left to read of a list, a tuple or a struct. In contracts it is
+/// that number.
 #[derive(Drop)]
 pub struct SeqAccess {
     len: usize,
@@ -28,19 +29,26 @@ impl Model for SeqAccess {
 }
 
 impl SeqAccess {
-    /// Returns an access to `len` elements.
+    /// Returns an access with `len` elements left.
     pub(crate) fn new(len: usize) -> SeqAccess
         ensures { result ≡ len }
     {
         SeqAccess { len }
     }
 
-    /// Reads the next element, or returns `None` if none is left. The number falls by one before
-    /// the element is read, also if that fails.
+    /// Returns the number of elements left.
+    pub(crate) fn left(&self) -> usize
+        ensures { result ≡ self.now }
+    {
+        self.len
+    }
+
+    /// Reads the next element, or returns `None` and reads nothing if no element is left. The
+    /// element counts as read even if that fails.
     ///
     /// # Errors
     ///
-    /// Those of the element.
+    /// Fails as reading the element does.
     pub fn next_element<'de, T: Deserialize<'de>, F: Flavor>(
         &mut self,
         alloc: Global,
@@ -59,13 +67,14 @@ impl SeqAccess {
         Ok(Some(value))
     }
 
-    /// Returns the number of elements left, or `None` if the source has fewer bytes than that.
+    /// Returns the number of elements left, or `None` if the source is known to have fewer bytes
+    /// than that.
     pub fn size_hint<'de, F: Flavor>(&self, d: &Deserializer<'de, F>) -> Option<usize>
         ensures few { (bytes : ℕ) → F.hint (source_of d.now) ≡ Some bytes → bytes < self.now →
             result ≡ None }
         ensures enough { (bytes : ℕ) → F.hint (source_of d.now) ≡ Some bytes → self.now ≤ bytes →
             result ≡ Some self.now }
-        ensures untold { F.hint (source_of d.now) ≡ None → result ≡ Some self.now }
+        ensures no_hint { F.hint (source_of d.now) ≡ None → result ≡ Some self.now }
     {
         match d.flavor.size_hint() {
             Some(bytes) if bytes < self.len => None,

@@ -1,4 +1,5 @@
-//! The variants of an enum in a row: their index is read, and then the content of that index.
+//! The variants of an enum in a row: an index is read, and then the content of the variant of that
+//! index.
 
 ghost use Rattle.postcard_wire.specs.Spelling.{Spells};
 ghost use Rattle.postcard_de.specs.Reads.{Reads};
@@ -12,13 +13,13 @@ use postcard_shape::{Case, Cased, NoCase};
 use postcard_wire::{Error, Result};
 use std::alloc::Global;
 
-/// Variants that are read.
+/// Variants in a row that can be read.
 pub trait DeserializeCase<'de>: Cased + Sized + Drop {
-    /// Reads the content of the variant at `index`.
+    /// Reads the content of the variant of index `index`, counted from 0.
     ///
     /// # Errors
     ///
-    /// Fails with `SerdeDeCustom` if there is no such variant, and with the errors of the content.
+    /// Fails with `SerdeDeCustom` if there is no such variant, and as reading the content does.
     fn deserialize_case<F: Flavor>(
         index: u32,
         alloc: Global,
@@ -65,13 +66,13 @@ impl<'de, A: Deserialize<'de>, R: DeserializeCase<'de>> Deserialize<'de> for Cas
     }
 }
 
-/// Variants that are read and borrow nothing.
+/// Variants in a row that can be read and borrow nothing from the source.
 pub trait DeserializeCaseOwned: Cased + Sized + Drop {
-    /// Reads the content of the variant at `index`.
+    /// Reads the content of the variant of index `index`, counted from 0.
     ///
     /// # Errors
     ///
-    /// As [`DeserializeCase::deserialize_case`].
+    /// Fails as [`DeserializeCase::deserialize_case`].
     fn deserialize_case_owned<'de, F: Flavor>(
         index: u32,
         alloc: Global,

@@ -12,13 +12,14 @@ use std::alloc::Global;
 
 /// A type whose values can be read.
 pub trait Deserialize<'de>: Shaped + Sized + Drop {
-    /// Reads a value from the front of what is left.
+    /// Reads a value from the front of what is left, and takes just the bytes that spell it.
     ///
     /// # Errors
     ///
     /// Fails with the error of the first part that can't be read: `DeserializeUnexpectedEnd` if the
-    /// bytes end, an error of the `deserialize_*` calls, or the type's own `SerdeDeCustom`. Fails
-    /// with `OutOfMemory` only if an allocation fails, for a type that grows.
+    /// bytes end, an error of the `deserialize_*` calls, or `SerdeDeCustom` if the type itself
+    /// refuses what was read. Fails with `OutOfMemory` if an allocation fails, and only for a type
+    /// that grows. Some of the bytes may have been taken then.
     fn deserialize<F: Flavor>(alloc: Global, d: &mut Deserializer<'de, F>) -> Result<Self>
         ensures { Reads F.Flavor Spells Self.shape.reads Self.shape.value Self.shape.grows
             (source_of d.old) result (source_of d.new) };

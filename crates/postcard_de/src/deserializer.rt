@@ -1,31 +1,34 @@
-//! The calls that read one node.
+//! The deserializer, with a call for each kind of node.
 
 ghost use Rattle.std.specs.Prelude.{◌≡◌, ◌<◌, ◌^◌, length, IfErr, false, string_bytes, ⊤};
 ghost use Rattle.std.specs.Int.{w8, cast_unsigned};
 ghost use Rattle.postcard_wire.specs.Tree.{Byte, Num, Int, Text};
 ghost use Rattle.postcard_wire.specs.Number.{SpellsNum};
 ghost use Rattle.postcard_wire.specs.Spelling.{Spells};
-ghost use Rattle.postcard_wire.specs.Reading.{IsByte, IsNum, IsInt, IsText};
+ghost use Rattle.postcard_wire.specs.Reading.{IsByte, IsNum, IsInt, IsSeq, IsText};
 ghost use Rattle.postcard_de.specs.Reads.{Reads};
 ghost use Rattle.postcard_de.specs.Refuses.{Refuses, WantsByte, NoneBad, WantsDigit, BadNumber};
 ghost use Rattle.postcard_de.specs.Refuses.{WantsText, BadText};
-ghost use Rattle.postcard_shape.specs.Values.{Same};
+ghost use Rattle.postcard_de.specs.Unfit.{BadBytes};
+ghost use Rattle.postcard_shape.specs.Values.{ListIs, Same};
 ghost use Rattle.postcard_de.specs.Deserializer.{source_of};
 
-pub mod bytes;
-pub mod choices;
 mod elements;
-pub mod structure;
+pub mod enums;
+pub mod groups;
+pub mod leaves;
+pub mod options;
 pub mod unsupported;
 
 use crate::access::SeqAccess;
 use postcard_de_flavors::{Flavor, Slice};
-use postcard_de_nodes::{numbers, texts};
+use postcard_de_nodes::{bytes, numbers, texts};
 use postcard_wire::{Result, zigzag};
 use std::alloc::Global;
 use std::marker::PhantomData;
 
-/// Reads values from a source, each from the front of what is left.
+/// Reads values from a source, each from the front of what is left. In contracts it is its source,
+/// `source_of`.
 #[derive(Drop)]
 pub struct Deserializer<'de, F: Flavor> {
     pub(crate) flavor: F,
@@ -33,7 +36,7 @@ pub struct Deserializer<'de, F: Flavor> {
 }
 
 impl<'de> Deserializer<'de, Slice<'de>> {
-    /// Returns a deserializer of these bytes.
+    /// Returns a deserializer that reads from `bytes`.
     pub fn from_bytes(bytes: &'de [u8]) -> Self
         ensures { source_of result ≡ bytes.now }
     {
@@ -42,7 +45,7 @@ impl<'de> Deserializer<'de, Slice<'de>> {
 }
 
 impl<'de, F: Flavor> Deserializer<'de, F> {
-    /// Returns a deserializer over this source.
+    /// Returns a deserializer that reads from `flavor`. Reads nothing yet.
     pub fn from_flavor(flavor: F) -> Self
         ensures { source_of result ≡ flavor }
     {
@@ -52,14 +55,15 @@ impl<'de, F: Flavor> Deserializer<'de, F> {
         }
     }
 
-    /// Ends reading, and returns the rest of the source.
+    /// Ends reading, and returns what `finalize` of the source does: what is left of it, or an
+    /// error.
     pub fn finalize(self) -> Result<F::Remainder>
         ensures { F.finishes (source_of self.entry) result }
     {
         self.flavor.finalize()
     }
 
-    /// Returns `false`: the format is binary.
+    /// Always returns `false`: the format is binary.
     pub fn is_human_readable(&self) -> bool
         ensures { result ≡ false }
     {
@@ -70,7 +74,7 @@ impl<'de, F: Flavor> Deserializer<'de, F> {
     ///
     /// # Errors
     ///
-    /// Fails with `DeserializeUnexpectedEnd` if no byte is left.
+    /// Fails with `DeserializeUnexpectedEnd` if the source can't give a byte.
     pub fn deserialize_u8(&mut self) -> Result<u8>
         ensures reads { Reads F.Flavor Spells IsByte (λ t v. t ≡ Byte v) ⊥
             (source_of self.old) result (source_of self.new) }
@@ -84,7 +88,7 @@ impl<'de, F: Flavor> Deserializer<'de, F> {
     ///
     /// # Errors
     ///
-    /// As `deserialize_u8`.
+    /// Fails with `DeserializeUnexpectedEnd` if the source can't give a byte.
     pub fn deserialize_i8(&mut self) -> Result<i8>
         ensures reads { Reads F.Flavor Spells IsByte (λ t v. t ≡ Byte (cast_unsigned w8 v)) ⊥
             (source_of self.old) result (source_of self.new) }
@@ -95,12 +99,13 @@ impl<'de, F: Flavor> Deserializer<'de, F> {
         Ok(bits.cast_signed())
     }
 
-    /// Reads a number of 16 bits: a varint of at most 3 bytes.
+    /// Reads a number of 16 bits: a varint of at most 3 bytes. A padded varint is read too.
     ///
     /// # Errors
     ///
     /// Fails with `DeserializeUnexpectedEnd` if the bytes end within the varint, and with
-    /// `DeserializeBadVarint` if it has more bytes or a greater number.
+    /// `DeserializeBadVarint` if it has more than 3 bytes or its number more than 16 bits; 3 bytes
+    /// are taken then.
     pub fn deserialize_u16(&mut self) -> Result<u16>
         ensures reads { Reads F.Flavor Spells (IsNum 16) (λ t v. t ≡ Num 16 v) ⊥
             (source_of self.old) result (source_of self.new) }
@@ -111,11 +116,13 @@ impl<'de, F: Flavor> Deserializer<'de, F> {
         Ok(n as u16)
     }
 
-    /// Reads a number of 32 bits: a varint of at most 5 bytes.
+    /// Reads a number of 32 bits: a varint of at most 5 bytes. A padded varint is read too.
     ///
     /// # Errors
     ///
-    /// As `deserialize_u16`.
+    /// Fails with `DeserializeUnexpectedEnd` if the bytes end within the varint, and with
+    /// `DeserializeBadVarint` if it has more than 5 bytes or its number more than 32 bits; 5 bytes
+    /// are taken then.
     pub fn deserialize_u32(&mut self) -> Result<u32>
         ensures reads { Reads F.Flavor Spells (IsNum 32) (λ t v. t ≡ Num 32 v) ⊥
             (source_of self.old) result (source_of self.new) }
@@ -126,11 +133,13 @@ impl<'de, F: Flavor> Deserializer<'de, F> {
         Ok(n as u32)
     }
 
-    /// Reads a number of 64 bits: a varint of at most 10 bytes.
+    /// Reads a number of 64 bits: a varint of at most 10 bytes. A padded varint is read too.
     ///
     /// # Errors
     ///
-    /// As `deserialize_u16`.
+    /// Fails with `DeserializeUnexpectedEnd` if the bytes end within the varint, and with
+    /// `DeserializeBadVarint` if it has more than 10 bytes or its number more than 64 bits; 10
+    /// bytes are taken then.
     pub fn deserialize_u64(&mut self) -> Result<u64>
         ensures reads { Reads F.Flavor Spells (IsNum 64) (λ t v. t ≡ Num 64 v) ⊥
             (source_of self.old) result (source_of self.new) }
@@ -141,11 +150,13 @@ impl<'de, F: Flavor> Deserializer<'de, F> {
         Ok(n as u64)
     }
 
-    /// Reads a number of 128 bits: a varint of at most 19 bytes.
+    /// Reads a number of 128 bits: a varint of at most 19 bytes. A padded varint is read too.
     ///
     /// # Errors
     ///
-    /// As `deserialize_u16`.
+    /// Fails with `DeserializeUnexpectedEnd` if the bytes end within the varint, and with
+    /// `DeserializeBadVarint` if it has more than 19 bytes or its number more than 128 bits; 19
+    /// bytes are taken then.
     pub fn deserialize_u128(&mut self) -> Result<u128>
         ensures reads { Reads F.Flavor Spells (IsNum 128) (λ t v. t ≡ Num 128 v) ⊥
             (source_of self.old) result (source_of self.new) }
@@ -156,11 +167,11 @@ impl<'de, F: Flavor> Deserializer<'de, F> {
         Ok(n)
     }
 
-    /// Reads a signed number of 16 bits: a zigzag number, a varint of at most 3 bytes.
+    /// Reads a signed number of 16 bits: its zigzag form, a varint of at most 3 bytes.
     ///
     /// # Errors
     ///
-    /// As `deserialize_u16`.
+    /// Fails as `deserialize_u16`.
     pub fn deserialize_i16(&mut self) -> Result<i16>
         ensures reads { Reads F.Flavor Spells (IsInt 16) (λ t v. t ≡ Int 16 v) ⊥
             (source_of self.old) result (source_of self.new) }
@@ -171,11 +182,11 @@ impl<'de, F: Flavor> Deserializer<'de, F> {
         Ok(zigzag::de_zig_zag_i16(folded as u16))
     }
 
-    /// Reads a signed number of 32 bits: a zigzag number, a varint of at most 5 bytes.
+    /// Reads a signed number of 32 bits: its zigzag form, a varint of at most 5 bytes.
     ///
     /// # Errors
     ///
-    /// As `deserialize_u16`.
+    /// Fails as `deserialize_u32`.
     pub fn deserialize_i32(&mut self) -> Result<i32>
         ensures reads { Reads F.Flavor Spells (IsInt 32) (λ t v. t ≡ Int 32 v) ⊥
             (source_of self.old) result (source_of self.new) }
@@ -186,11 +197,11 @@ impl<'de, F: Flavor> Deserializer<'de, F> {
         Ok(zigzag::de_zig_zag_i32(folded as u32))
     }
 
-    /// Reads a signed number of 64 bits: a zigzag number, a varint of at most 10 bytes.
+    /// Reads a signed number of 64 bits: its zigzag form, a varint of at most 10 bytes.
     ///
     /// # Errors
     ///
-    /// As `deserialize_u16`.
+    /// Fails as `deserialize_u64`.
     pub fn deserialize_i64(&mut self) -> Result<i64>
         ensures reads { Reads F.Flavor Spells (IsInt 64) (λ t v. t ≡ Int 64 v) ⊥
             (source_of self.old) result (source_of self.new) }
@@ -201,11 +212,11 @@ impl<'de, F: Flavor> Deserializer<'de, F> {
         Ok(zigzag::de_zig_zag_i64(folded as u64))
     }
 
-    /// Reads a signed number of 128 bits: a zigzag number, a varint of at most 19 bytes.
+    /// Reads a signed number of 128 bits: its zigzag form, a varint of at most 19 bytes.
     ///
     /// # Errors
     ///
-    /// As `deserialize_u16`.
+    /// Fails as `deserialize_u128`.
     pub fn deserialize_i128(&mut self) -> Result<i128>
         ensures reads { Reads F.Flavor Spells (IsInt 128) (λ t v. t ≡ Int 128 v) ⊥
             (source_of self.old) result (source_of self.new) }
@@ -216,12 +227,14 @@ impl<'de, F: Flavor> Deserializer<'de, F> {
         Ok(zigzag::de_zig_zag_i128(folded))
     }
 
-    /// Reads a text, which is lent from the source.
+    /// Reads a text, which is lent from the source: its length in bytes, and that many bytes of
+    /// UTF-8.
     ///
     /// # Errors
     ///
-    /// For its length as `deserialize_u64`. Fails with `DeserializeUnexpectedEnd` if the bytes end
-    /// before the text does, and with `DeserializeBadUtf8` if it is not UTF-8.
+    /// Fails as `deserialize_u64` if the length can't be read, with `DeserializeUnexpectedEnd` if
+    /// the bytes end before the text does, and with `DeserializeBadUtf8` if they aren't UTF-8; they
+    /// are taken then.
     pub fn deserialize_str(&mut self) -> Result<&'de str>
         ensures reads { Reads F.Flavor Spells IsText (λ t v. t ≡ Text v.now) ⊥
             (source_of self.old) result (source_of self.new) }
@@ -231,11 +244,13 @@ impl<'de, F: Flavor> Deserializer<'de, F> {
         texts::text(&mut self.flavor)
     }
 
-    /// Reads a text and copies it, once its bytes were taken and found to be UTF-8.
+    /// Reads a text, and returns a copy of it, which is allocated once the bytes were taken and
+    /// found to be UTF-8.
     ///
     /// # Errors
     ///
-    /// As `deserialize_str`. Fails with `OutOfMemory` if an allocation fails.
+    /// Fails as `deserialize_str`, and with `OutOfMemory` if the allocation fails; the text is
+    /// taken then.
     pub fn deserialize_string(&mut self, alloc: Global) -> Result<String>
         ensures reads { Reads F.Flavor Spells IsText (λ t v. t ≡ Text (string_bytes v)) ⊤
             (source_of self.old) result (source_of self.new) }
@@ -245,11 +260,45 @@ impl<'de, F: Flavor> Deserializer<'de, F> {
         texts::text_copy(alloc, &mut self.flavor)
     }
 
-    /// Reads the count of a list. Its elements are then read by `next_element`.
+    /// Reads a byte string, which is lent from the source: its length, and that many bytes.
     ///
     /// # Errors
     ///
-    /// As `deserialize_u64`.
+    /// Fails as `deserialize_u64` if the length can't be read, and with `DeserializeUnexpectedEnd`
+    /// if the source can't give that many bytes.
+    pub fn deserialize_bytes(&mut self) -> Result<&'de [u8]>
+        ensures reads { Reads F.Flavor Spells (IsSeq IsByte)
+            (λ t v. ListIs (λ s b. s ≡ Byte b) t v.now) ⊥
+            (source_of self.old) result (source_of self.new) }
+        ensures refused { IfErr result (λ e. Refuses F.Flavor WantsText (BadNumber 64)
+            (source_of self.old) e (source_of self.new)) }
+    {
+        bytes::bytes(&mut self.flavor)
+    }
+
+    /// Reads a byte string, and returns a copy of its bytes, which is allocated once they were
+    /// taken.
+    ///
+    /// # Errors
+    ///
+    /// Fails as `deserialize_bytes`, and with `OutOfMemory` if the allocation fails; the bytes are
+    /// taken then.
+    pub fn deserialize_byte_buf(&mut self, alloc: Global) -> Result<Vec<u8>>
+        ensures reads { Reads F.Flavor Spells (IsSeq IsByte)
+            (λ t v. ListIs (λ s b. s ≡ Byte b) t v.items) ⊤
+            (source_of self.old) result (source_of self.new) }
+        ensures refused { IfErr result (λ e. Refuses F.Flavor WantsText BadBytes
+            (source_of self.old) e (source_of self.new)) }
+    {
+        bytes::bytes_copy(alloc, &mut self.flavor)
+    }
+
+    /// Reads the number of elements of a list, a varint of at most 10 bytes. The elements are then
+    /// read by [`next_element`](SeqAccess::next_element).
+    ///
+    /// # Errors
+    ///
+    /// Fails as `deserialize_u64`.
     pub fn deserialize_seq(&mut self) -> Result<SeqAccess>
         ensures reads { Reads F.Flavor (SpellsNum 64) (λ n. n < 2 ^ 64) Same ⊥
             (source_of self.old) result (source_of self.new) }

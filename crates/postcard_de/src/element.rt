@@ -1,4 +1,4 @@
-//! How the elements of a container are read: as what they are, or as what borrows nothing.
+//! How the elements of a container are read: by `Deserialize` or by `DeserializeOwned`.
 
 ghost use Rattle.postcard_wire.specs.Spelling.{Spells};
 ghost use Rattle.postcard_de.specs.Reads.{Reads};
@@ -18,13 +18,13 @@ pub(crate) trait Element<'de, T: Shaped + Drop> {
     ///
     /// # Errors
     ///
-    /// As [`Deserialize::deserialize`].
+    /// Fails as [`Deserialize::deserialize`].
     fn element<F: Flavor>(alloc: Global, d: &mut Deserializer<'de, F>) -> Result<T>
         ensures { Reads F.Flavor Spells T.shape.reads T.shape.value T.shape.grows
             (source_of d.old) result (source_of d.new) };
 }
 
-/// As [`Deserialize`] reads it.
+/// Reads a `T` by [`Deserialize`].
 pub(crate) struct Lent;
 
 impl<'de, T: Deserialize<'de>> Element<'de, T> for Lent {
@@ -33,7 +33,7 @@ impl<'de, T: Deserialize<'de>> Element<'de, T> for Lent {
     }
 }
 
-/// As [`DeserializeOwned`] reads it.
+/// Reads a `T` by [`DeserializeOwned`].
 pub(crate) struct Kept;
 
 impl<'de, T: DeserializeOwned> Element<'de, T> for Kept {

@@ -1,11 +1,11 @@
 //! Reading: a deserializer over a source, and the types that it reads.
 //!
-//! A type's shape says which trees it reads and what their values are. The layer above uses one
-//! contract, that of [`Deserialize::deserialize`]: `Reads F.Flavor Spells reads value grows ..`
+//! A type's shape says which trees it reads and what their values are. The layer above relies on
+//! one contract, that of [`Deserialize::deserialize`]: `Reads F.Flavor Spells reads value grows ..`
 //! says that the result is the value of a front that spells a tree that the type reads, that such a
-//! front is read if the source is able to give it, what is left, and which errors may be returned.
-//! Each `deserialize_*` has the same clause, and beside it `refused`, the exact reason of a
-//! failure.
+//! front is read if the source is able to give it and no allocation fails, what is left, and which
+//! errors may be returned. Each `deserialize_*` that reads one node has the same clause, and beside
+//! it `refused`, the exact reason of a failure.
 //!
 //! A struct is read as the tuple of its fields and an enum as its variants in a row ([`FromRepr`]),
 //! with no proof of their own.
@@ -13,7 +13,7 @@
 //! In reading order: [`deserialize`] has the trait, [`deserializer`] the calls for one node, which
 //! are made of the functions of `postcard_de_nodes`, [`access`] and [`map_access`] those for the
 //! elements of a list and the pairs of a map, [`values`] the types, [`laws`] what holds of every
-//! type that reads.
+//! type that is read.
 #![tactic(auto)]
 
 pub mod access;

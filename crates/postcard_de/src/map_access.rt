@@ -6,6 +6,7 @@ ghost use Rattle.postcard_de.specs.Reads.{Reads};
 ghost use Rattle.postcard_shape.specs.Values.{SomeIs};
 ghost use Rattle.postcard_de.specs.Deserializer.{source_of};
 
+use crate::access::SeqAccess;
 use crate::deserialize::Deserialize;
 use crate::deserializer::Deserializer;
 use postcard_de_flavors::Flavor;
@@ -13,10 +14,10 @@ use postcard_wire::Result;
 use std::alloc::Global;
 use std::marker::Model;
 
-/// The number of pairs of a map that are left to read. A contract sees it as that number.
+/// The number of pairs of a map whose keys are left to read. In contracts it is that number.
 #[derive(Drop)]
 pub struct MapAccess {
-    len: usize,
+    keys: SeqAccess,
 }
 
 impl Model for MapAccess {
@@ -24,23 +25,25 @@ impl Model for MapAccess {
 
     ghost Value = { ℕ };
 
-    ghost view = { λ access. access.len };
+    ghost view = { λ access. access.keys };
 }
 
 impl MapAccess {
-    /// Returns an access to `len` pairs.
+    /// Returns an access with `len` pairs left.
     pub(crate) fn new(len: usize) -> MapAccess
         ensures { result ≡ len }
     {
-        MapAccess { len }
+        MapAccess {
+            keys: SeqAccess::new(len),
+        }
     }
 
-    /// Reads the next key, or returns `None` if no pair is left. The number falls by one before the
-    /// key is read, also if that fails.
+    /// Reads the next key, or returns `None` and reads nothing if no pair is left. The pair counts
+    /// as read even if that fails.
     ///
     /// # Errors
     ///
-    /// Those of the key.
+    /// Fails as reading the key does.
     pub fn next_key<'de, K: Deserialize<'de>, F: Flavor>(
         &mut self,
         alloc: Global,
@@ -51,19 +54,15 @@ impl MapAccess {
         ensures some { 0 < self.old → Reads F.Flavor Spells K.shape.reads (SomeIs K.shape.value)
             K.shape.grows (source_of d.old) result (source_of d.new) }
     {
-        if self.len == 0 {
-            return Ok(None);
-        }
-        self.len -= 1;
-        let key = K::deserialize(alloc, d)?;
-        Ok(Some(key))
+        self.keys.next_element(alloc, d)
     }
 
-    /// Reads the value of the key that was read last.
+    /// Reads the value of the key that was read last. The caller must have read that key by
+    /// [`next_key`](MapAccess::next_key) just before; this is not checked.
     ///
     /// # Errors
     ///
-    /// Those of the value.
+    /// Fails as reading the value does.
     pub fn next_value<'de, V: Deserialize<'de>, F: Flavor>(
         &mut self,
         alloc: Global,
@@ -76,10 +75,11 @@ impl MapAccess {
         V::deserialize(alloc, d)
     }
 
-    /// Returns the number of pairs left, whatever the source has.
+    /// Returns the number of pairs left, never `None`. The bytes that the source has left are not
+    /// considered.
     pub fn size_hint(&self) -> Option<usize>
         ensures { result ≡ Some self.now }
     {
-        Some(self.len)
+        Some(self.keys.left())
     }
 }

@@ -1,4 +1,4 @@
-//! The trait of the types that are read and borrow nothing, and the way back to `Deserialize`.
+//! The trait of the types that are read and borrow nothing, and how to use one as a `Deserialize`.
 
 ghost use Rattle.postcard_wire.specs.Spelling.{Spells};
 ghost use Rattle.postcard_de.specs.Reads.{Reads};
@@ -11,13 +11,13 @@ use postcard_shape::{Repr, Shaped};
 use postcard_wire::Result;
 use std::alloc::Global;
 
-/// A type whose values can be read, and borrow nothing from the source.
+/// A type whose values can be read and borrow nothing from the source.
 pub trait DeserializeOwned: Shaped + Sized + Drop {
-    /// Reads a value from the front of what is left.
+    /// Reads a value from the front of what is left, and takes just the bytes that spell it.
     ///
     /// # Errors
     ///
-    /// As [`Deserialize::deserialize`].
+    /// Fails as [`Deserialize::deserialize`].
     fn deserialize_owned<'de, F: Flavor>(
         alloc: Global,
         d: &mut Deserializer<'de, F>,
@@ -26,7 +26,8 @@ pub trait DeserializeOwned: Shaped + Sized + Drop {
             (source_of d.old) result (source_of d.new) };
 }
 
-/// A value that borrows nothing, read as such by calls that take a `Deserialize`.
+/// A value that borrows nothing. Calls for a `Deserialize` read an `Owned<T>` by
+/// [`DeserializeOwned::deserialize_owned`] of `T`.
 #[derive(Drop)]
 pub struct Owned<T: DeserializeOwned>(pub T);
 

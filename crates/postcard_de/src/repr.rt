@@ -1,5 +1,5 @@
-//! Types that are read as what they are seen as: a struct as the tuple of its fields, an enum as
-//! its variants in a row.
+//! Types that are read as another type: a struct as the tuple of its fields, an enum as its
+//! variants in a row.
 
 ghost use Rattle.std.specs.Prelude.{◌≡◌};
 
@@ -11,10 +11,10 @@ use postcard_shape::Repr;
 use postcard_wire::Result;
 use std::alloc::Global;
 
-/// A type whose values are made of what they are seen as. It has `Deserialize` if that has it, and
-/// `DeserializeOwned` too.
+/// A type that is read as another, `Repr::As`, of whose values its own are made. It has
+/// `Deserialize` if `As` has it, and `DeserializeOwned` likewise.
 pub trait FromRepr: Repr<As: Drop> + Sized + Drop {
-    /// Returns the value that is seen as `repr`.
+    /// Returns a value that is seen as `repr`.
     fn from_repr(repr: Self::As) -> Self
         ensures { Self.repr result ≡ repr };
 }

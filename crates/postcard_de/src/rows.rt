@@ -1,4 +1,4 @@
-//! Parts in a row, read one after another, by one proof for tuples of any length.
+//! Parts in a row, read from left to right: one proof for tuples of any length.
 
 ghost use Rattle.postcard_wire.specs.Spelling.{SpellsAll};
 ghost use Rattle.postcard_de.specs.Reads.{Reads};
@@ -12,9 +12,13 @@ use postcard_shape::{Part, Parts};
 use postcard_wire::Result;
 use std::alloc::Global;
 
-/// Parts that are read.
+/// Parts in a row that can be read.
 pub trait DeserializeParts<'de>: Parts + Sized + Drop {
-    /// Reads the parts from left to right. The first that refuses gives the error.
+    /// Reads the parts from left to right.
+    ///
+    /// # Errors
+    ///
+    /// Fails with the error of the first part that can't be read.
     fn deserialize_parts<F: Flavor>(alloc: Global, d: &mut Deserializer<'de, F>) -> Result<Self>
         ensures { Reads F.Flavor SpellsAll Self.parts.reads (λ ts v. Self.parts.value v ts)
             Self.parts.grows (source_of d.old) result (source_of d.new) };
@@ -41,9 +45,13 @@ impl<'de, A: Deserialize<'de>, R: DeserializeParts<'de>> Deserialize<'de> for Pa
     }
 }
 
-/// Parts that are read and borrow nothing.
+/// Parts in a row that can be read and borrow nothing from the source.
 pub trait DeserializePartsOwned: Parts + Sized + Drop {
-    /// Reads the parts from left to right. The first that refuses gives the error.
+    /// Reads the parts from left to right.
+    ///
+    /// # Errors
+    ///
+    /// Fails with the error of the first part that can't be read.
     fn deserialize_parts_owned<'de, F: Flavor>(
         alloc: Global,
         d: &mut Deserializer<'de, F>,

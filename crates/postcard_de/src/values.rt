@@ -1,5 +1,5 @@
-//! The types that are read, a module for each kind. A type that is one node says why exactly it
-//! refuses, in the words of the call for that node.
+//! The types that are read, a module for each kind. The contract of a type that is one node states
+//! the exact reason of a failure, as the call for that node does.
 
 pub mod error;
 pub mod fixed;

@@ -1,4 +1,5 @@
--- What a contract sees of a source over a reader, which takes scratch for what it lends (behaviour of postcard 1.1.3).
+-- What contracts see of a source over a reader, which takes scratch for the bytes that it lends
+-- (behaviour of postcard 1.1.3).
 use Rattle.std.specs.Prelude.{◌≡◌, ℕ, ◌≤◌, ◌<◌, List, length, drop, Option, Result}
 use Rattle.std.proofs.Common.{arith}
 use Rattle.std.specs.Borrow.{Bor}
@@ -14,26 +15,28 @@ reader_of s = s.reader
 abbrev pub scratch_of : {T : Type 0} → IOReader T → List ℕ
 scratch_of s = s.scratch
 
--- The reader is steady, and n bytes or more are left both of it and of the scratch.
+-- The reader is steady and is known to have at least n bytes left, and at least n bytes of scratch
+-- are left.
 abbrev pub CanRead : {T : Type 0} → (T → Option (List ℕ)) → (T → Type 0) → IOReader T → ℕ → Type 0
 CanRead remaining steady s n = steady (reader_of s) × AtLeast (remaining (reader_of s)) n × (n ≤ length (scratch_of s))
 
--- A steady reader is steady still, and no scratch was gained.
+-- A steady reader has stayed steady, and there is no more scratch than before.
 abbrev pub MayBecome : {T : Type 0} → (T → Type 0) → IOReader T → IOReader T → Type 0
 MayBecome steady s t = (steady (reader_of s) → steady (reader_of t)) × (length (scratch_of t) ≤ length (scratch_of s))
 
--- What a take of n bytes for a while does to the scratch: it is all there again, and bytes past the front are the old ones.
--- Where it is too short, the source is as it was.
+-- What `try_take_n_temp` of n bytes does to the scratch: its length is unchanged, and so are the
+-- bytes after the first n. If it has fewer than n bytes, the source is unchanged.
 abbrev pub GivesBack : {T : Type 0} → ℕ → IOReader T → IOReader T → Type 0
 GivesBack n old new = (length (scratch_of new) ≡ length (scratch_of old)) × (drop n (scratch_of new) ≡ drop n (scratch_of old))
     × (length (scratch_of old) < n → new ≡ old)
 
--- What the source is once n bytes that it lent for a while are given back: what any source is then, and the scratch is too.
+-- The state of the source after the loan of n bytes by `try_take_n_temp`: `LendsFront`, as of any
+-- source, and the scratch is given back.
 abbrev pub LendsScratch : {T E : Type 0} → (T → Option (List ℕ)) → (T → Type 0) → ℕ → IOReader T → Result (Bor (List ℕ)) E → IOReader T → Type 0
 LendsScratch remaining steady n old lent new =
     LendsFront (λ s. remaining (reader_of s)) (CanRead remaining steady) (MayBecome steady) old lent new × GivesBack n old new
 
--- The source keeps to the laws of a source.
+-- A source over a reader obeys the laws of a source.
 pub reader_laws : {T : Type 0} (remaining : T → Option (List ℕ)) (steady : T → Type 0) → Laws (λ (s : IOReader T). remaining (reader_of s)) (CanRead remaining steady) (MayBecome steady)
 reader_laws remaining steady = record {
   fewer = λ s m n le h. (h.0, at_least_fewer (remaining (reader_of s)) m n le h.1, omega (arith, le, h.2));

@@ -1,5 +1,5 @@
 pub mod Source
-pub mod Kept
+pub mod SliceLaws
 pub mod Reader
 pub mod Plain
 pub mod IOReader

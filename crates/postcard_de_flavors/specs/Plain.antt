@@ -1,4 +1,4 @@
--- What a contract sees of a plain reader: the reader in it.
+-- What contracts see of a `Plain`: the reader in it.
 use Rattle.postcard_de_flavors.specs.declared.plain.Plain.{Plain}
 
 -- The reader that was wrapped.

@@ -1,6 +1,7 @@
-//! The interface of a source.
+//! The interface of a source, which bytes are read from.
 
-ghost use Rattle.std.specs.Prelude.{◌≡◌, ◌<◌, ℕ, List, [], ◌∷◌, length, Option, Result, IfOk, IfErr, IsOk};
+ghost use Rattle.std.specs.Prelude.{◌≡◌, ◌<◌, ℕ, List, [], ◌∷◌, length, Option, Result, IfOk};
+ghost use Rattle.std.specs.Prelude.{IfErr, IsOk};
 ghost use Rattle.std.specs.Borrow.{sem};
 ghost use Rattle.std.specs.Io.BufRead.{Rests};
 ghost use Rattle.postcard_wire.specs.declared.error.Error.{Error};
@@ -8,20 +9,23 @@ ghost use Rattle.postcard_de_flavors.specs.Source.{Takes, CanTake, LendsFront, L
 
 use postcard_wire::{Error, Result};
 
-/// A source: gives the bytes of a message, from the first on.
+/// A source of bytes: returns the bytes of a message in order, as a reading flavor of postcard
+/// 1.1.3 does.
 pub trait Flavor: Drop {
-    /// What `finalize` returns: the rest of the source.
+    /// What `finalize` returns: what is left of the source.
     type Remainder;
-    /// What the source reads from.
+    /// What the source reads from, as in postcard 1.1.3: typically a slice.
     type Source;
 
-    /// The bytes left, if the source knows them.
+    /// The bytes left, or `None` if the source doesn't know them.
     ghost left: { Self → Option (List ℕ) };
 
-    /// Taking this number of bytes succeeds, in whatever pieces.
+    /// Whether the source is able to give this number of bytes: taking them succeeds, in whatever
+    /// pieces.
     ghost able: { Self → ℕ → Type 0 };
 
-    /// The states that a call of `pop` or a take may leave, also one that fails.
+    /// The states, by the state before, that a call of `pop`, `try_take_n` or `try_take_n_temp` may
+    /// leave, whether it succeeds or fails.
     ghost may_leave: { Self → Self → Type 0 };
 
     /// What `finalize` may return.
@@ -30,15 +34,16 @@ pub trait Flavor: Drop {
     /// What `size_hint` returns.
     ghost hint: { Self → Option ℕ };
 
-    /// If a number of bytes can be taken, fewer can too; and states that calls may leave, one after
-    /// another, are states that one call may leave.
+    /// The laws of a source. If it is able to give a number of bytes, it is able to give fewer. A
+    /// call may leave the state as it is. What two calls in a row may leave, one call may leave.
     ghost lawful: { Laws left able may_leave };
 
     /// Takes the next byte.
     ///
     /// # Errors
     ///
-    /// Fails with `DeserializeUnexpectedEnd`, and never if the source is able to give one byte.
+    /// Fails only with `DeserializeUnexpectedEnd`, and never if the source is able to give one
+    /// byte. The source is left in a state that `may_leave` allows.
     fn pop(&mut self) -> Result<u8>
         ensures gives { IfOk result (λ b. Takes left able self.old (b ∷ []) self.new) }
         ensures accepts { able self.old 1 → IsOk result }
@@ -49,19 +54,22 @@ pub trait Flavor: Drop {
     fn size_hint(&self) -> Option<usize>
         ensures { result ≡ hint self.now };
 
-    /// Returns bytes at the front of those left that are in memory already, each of which can be taken.
-    /// Returns no bytes if the source has none there, as one over a reader.
+    /// Returns some of the next bytes: ones that are in memory already, so that taking them
+    /// succeeds. Returns an empty slice if there are none. The default always returns an empty
+    /// slice, as a source over a reader does.
     fn at_hand(&self) -> &[u8]
         ensures can_take { 0 < length result.now → CanTake left able self.now result.now }
     {
         &[]
     }
 
-    /// Takes the next `ct` bytes. The slice is valid as long as what the source reads from.
+    /// Takes the next `ct` bytes. The slice borrows from what the source borrows (`Self: 'de`) and
+    /// not from the source itself, so it stays valid after later calls.
     ///
     /// # Errors
     ///
-    /// Fails with `DeserializeUnexpectedEnd`, and never if the source is able to give `ct` bytes.
+    /// Fails only with `DeserializeUnexpectedEnd`, and never if the source is able to give `ct`
+    /// bytes. The source is left in a state that `may_leave` allows.
     fn try_take_n<'de>(&mut self, ct: usize) -> Result<&'de [u8]>
     where
         Self: 'de,
@@ -75,14 +83,16 @@ pub trait Flavor: Drop {
     ///
     /// # Errors
     ///
-    /// Fails with `DeserializeUnexpectedEnd`, and never if the source is able to give `ct` bytes.
+    /// Fails only with `DeserializeUnexpectedEnd`, and never if the source is able to give `ct`
+    /// bytes. The source is left in a state that `may_leave` allows.
     fn try_take_n_temp(&mut self, ct: usize) -> Result<&[u8]>
         ensures length { IfOk result (λ front. length front.now ≡ ct) }
-        ensures* gives { sem 𝓛 (Rests Self.row self.entry (LendsFront left able may_leave self.old result)) }
+        ensures* gives { sem 𝓛 (Rests Self.row self.entry
+            (LendsFront left able may_leave self.old result)) }
         ensures accepts { able self.old ct → IsOk result }
         ensures refuses { IfErr result (λ e. e ≡ Error.DeserializeUnexpectedEnd) };
 
-    /// Ends reading, and returns what is left.
+    /// Ends reading, and returns what is left of the source, or an error, as `finishes` says.
     fn finalize(self) -> Result<Self::Remainder>
         ensures { finishes self result };
 }

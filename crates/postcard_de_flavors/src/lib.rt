@@ -1,14 +1,15 @@
 //! Where the bytes of a message come from.
 //!
-//! A source gives its bytes from the first on: [`Flavor`] is its interface, and [`Slice`] reads from a
-//! slice. The layer above uses one contract, that of `Flavor`: `pop` and both takes give the front of
-//! the bytes left (`gives`), succeed if the source is able to give that many (`accepts`), leave a state
-//! that they may leave (`leaves`), and fail only with `DeserializeUnexpectedEnd` (`refuses`); `lawful`
-//! ties these together.
+//! A source returns the bytes of a message in order. [`Flavor`] is its interface, and [`Slice`]
+//! reads from a slice. The layer above relies on the contract of `Flavor` alone: `pop` and both
+//! takes return the next bytes (clause `gives`), succeed if the source is able to give that many
+//! (`accepts`), leave a state that such a call may leave (`leaves`, or a part of `gives`), and fail
+//! only with `DeserializeUnexpectedEnd` (`refuses`). `lawful` states the laws that tie these
+//! together.
 //!
-//! In reading order: [`flavor`] has the interface, [`slice`] the source over a slice, and [`io`] the
-//! source over a reader; [`source`] has what it asks of the reader, and [`plain`] makes one of any
-//! reader.
+//! In reading order: [`flavor`] has the interface, [`slice`] the source over a slice, and [`io`]
+//! the source over a reader; [`source`] has the interface that such a reader needs, and [`plain`]
+//! adapts any reader to it.
 #![tactic(auto)]
 
 pub mod flavor;

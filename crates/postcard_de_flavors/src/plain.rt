@@ -1,4 +1,4 @@
-//! Any reader, as one that promises nothing.
+//! Adapts any reader to `Source`, with no promise that a read succeeds.
 
 ghost use Rattle.std.specs.Prelude.{◌≡◌};
 ghost use Rattle.postcard_de_flavors.specs.Plain.{inner_of};
@@ -7,7 +7,8 @@ use crate::source::Source;
 use std::io;
 use std::io::Read;
 
-/// A reader that promises nothing: its bytes left are those of `R`, and it is never steady.
+/// Adapts any reader to [`Source`](crate::source::Source). Its bytes left are those of `R`. It is
+/// never steady: no read is promised to succeed.
 #[derive(Drop)]
 pub struct Plain<R> {
     inner: R,

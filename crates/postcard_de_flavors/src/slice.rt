@@ -5,14 +5,14 @@ ghost use Rattle.std.specs.Prelude.{IfOk, IfErr, OnErr, IsOk, MatchResult};
 ghost use Rattle.std.specs.Borrow.{sem};
 ghost use Rattle.std.specs.Io.BufRead.{Rests};
 ghost use Rattle.postcard_de_flavors.specs.Source.{Takes, CanTake, LeavesRest, IsEndOf};
-ghost use Rattle.postcard_de_flavors.specs.Kept.{slice_laws};
+ghost use Rattle.postcard_de_flavors.specs.SliceLaws.{slice_laws};
 
 use crate::flavor::Flavor;
 use postcard_memory::Bytes;
 use postcard_wire::{Error, Result};
 use std::marker::Model;
 
-/// Reads from a slice. A contract sees it as the list of the bytes left.
+/// A source that reads from a slice. In contracts it is the list of the bytes left.
 #[derive(Drop)]
 pub struct Slice<'de> {
     bytes: Bytes<'de>,
@@ -30,7 +30,7 @@ impl<'de> Model for Slice<'de> {
 }
 
 impl<'de> Slice<'de> {
-    /// Returns a source of these bytes.
+    /// Returns a source over `bytes`.
     pub fn new(bytes: &'de [u8]) -> Slice<'de>
         ensures { result ≡ bytes.now }
     {
@@ -65,12 +65,14 @@ impl<'de> Flavor for Slice<'de> {
     ///
     /// # Errors
     ///
-    /// Fails with `DeserializeUnexpectedEnd` if and only if no byte is left; nothing is changed then.
+    /// Fails with `DeserializeUnexpectedEnd` if and only if no byte is left; nothing is changed
+    /// then.
     fn pop(&mut self) -> Result<u8>
-        ensures gives { IfOk result (λ b. Takes ⟦<Slice<'de> as Flavor>⟧.left ⟦<Slice<'de> as Flavor>⟧.able self.old (b ∷ []) self.new) }
+        ensures gives { IfOk result (λ b. Takes ⟦<Slice<'de> as Flavor>⟧.left
+            ⟦<Slice<'de> as Flavor>⟧.able self.old (b ∷ []) self.new) }
         ensures leaves { ⟦<Slice<'de> as Flavor>⟧.may_leave self.old self.new }
         ensures refuses { IfErr result (λ e. e ≡ Error.DeserializeUnexpectedEnd) }
-        ensures exact { IsOk result ↔ (1 ≤ length self.old) }
+        ensures succeeds_iff_enough { IsOk result ↔ (1 ≤ length self.old) }
         ensures unchanged { OnErr result (self.new ≡ self.old) }
     {
         if self.len == 0 {
@@ -87,28 +89,30 @@ impl<'de> Flavor for Slice<'de> {
         Some(self.len)
     }
 
-    /// Returns all bytes that are left.
+    /// Returns all bytes left.
     fn at_hand(&self) -> &[u8]
         ensures can_take { 0 < length result.now → CanTake ⟦<Slice<'de> as Flavor>⟧.left
             ⟦<Slice<'de> as Flavor>⟧.able self.now result.now }
-        ensures all { result.now ≡ self.now }
+        ensures returns_all { result.now ≡ self.now }
     {
         self.bytes.view(self.len)
     }
 
-    /// Takes the first `ct` bytes.
+    /// Takes the next `ct` bytes. The slice is valid as long as the slice that is read.
     ///
     /// # Errors
     ///
-    /// `DeserializeUnexpectedEnd` exactly where fewer are left; nothing is changed then.
+    /// Fails with `DeserializeUnexpectedEnd` if and only if fewer than `ct` bytes are left; nothing
+    /// is changed then.
     fn try_take_n<'a>(&mut self, ct: usize) -> Result<&'a [u8]>
     where
         Self: 'a,
         ensures length { IfOk result (λ front. length front.now ≡ ct) }
-        ensures gives { IfOk result (λ front. Takes ⟦<Slice<'de> as Flavor>⟧.left ⟦<Slice<'de> as Flavor>⟧.able self.old front.now self.new) }
+        ensures gives { IfOk result (λ front. Takes ⟦<Slice<'de> as Flavor>⟧.left
+            ⟦<Slice<'de> as Flavor>⟧.able self.old front.now self.new) }
         ensures leaves { ⟦<Slice<'de> as Flavor>⟧.may_leave self.old self.new }
         ensures refuses { IfErr result (λ e. e ≡ Error.DeserializeUnexpectedEnd) }
-        ensures exact { IsOk result ↔ (ct ≤ length self.old) }
+        ensures succeeds_iff_enough { IsOk result ↔ (ct ≤ length self.old) }
         ensures unchanged { OnErr result (self.new ≡ self.old) }
     {
         if self.len < ct {
@@ -118,18 +122,21 @@ impl<'de> Flavor for Slice<'de> {
         Ok(self.bytes.take(ct))
     }
 
-    /// Takes the first `ct` bytes.
+    /// Takes the next `ct` bytes. The slice is valid until the next call on this source.
     ///
     /// # Errors
     ///
-    /// `DeserializeUnexpectedEnd` exactly where fewer are left; nothing is changed then.
+    /// Fails with `DeserializeUnexpectedEnd` if and only if fewer than `ct` bytes are left; nothing
+    /// is changed then.
     fn try_take_n_temp(&mut self, ct: usize) -> Result<&[u8]>
         ensures length { IfOk result (λ front. length front.now ≡ ct) }
-        ensures* gives { sem 𝓛 (Rests (the_row (record { mir = named 1; lft = [] })) self.entry (LeavesRest self.old result)) }
+        ensures* gives { sem 𝓛 (Rests (the_row (record { mir = named 1; lft = [] })) self.entry
+            (LeavesRest self.old result)) }
         ensures refuses { IfErr result (λ e. e ≡ Error.DeserializeUnexpectedEnd) }
-        ensures exact { IsOk result ↔ (ct ≤ length self.old) }
+        ensures succeeds_iff_enough { IsOk result ↔ (ct ≤ length self.old) }
     {
-        // As `try_take_n`: lent through a call of it, the checker wouldn't know what `self` ends as.
+        // The code of `try_take_n`, once more for the prover: through a call of it, the prover
+        // wouldn't know the state of `self` after the loan.
         if ct > self.len {
             return Err(Error::DeserializeUnexpectedEnd);
         }

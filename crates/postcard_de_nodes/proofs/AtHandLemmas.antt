@@ -1,4 +1,4 @@
--- Reading a list whose bytes stand in memory.
+-- Reading a list whose bytes are in memory.
 use Rattle.std.proofs.Common.{◌≡◌, ℕ, ◌≤◌, List, ◌++◌, length, take, drop, Option, Ok, refl, sym}
 use Rattle.std.proofs.Common.{◌∙◌, ap, subst, append_assoc}
 use Rattle.std.specs.Bool.{⊤}
@@ -13,11 +13,11 @@ use Rattle.postcard_de_nodes.specs.Reads.{ReadsFrom}
 use Rattle.postcard_de_nodes.specs.ReadLemmas.{Delimits, found}
 use Rattle.postcard_de_nodes.specs.TakeLemmas.{faces}
 
--- The parts of one group are one.
+-- `Group` is injective.
 group_parts : (ts ss : Trees) → Group ts ≡ Group ss → ts ≡ ss
 group_parts ts ss e = cc
 
--- Two fronts of some bytes that spell as many trees each are one front, and the trees are the same.
+-- Two fronts of the same bytes that spell n trees each are equal, and so are the trees.
 row_delimits : (R : Tree → Type 0) → IsDelimited R → (n : ℕ) → Delimits SpellsAll (AreRead n R)
 row_delimits R d n ts ss p q x y a b s t e =
     let k = array_delimited n R d (Group ts) (Group ss) p q x y (ts, refl, a.0, a.1)
@@ -26,7 +26,8 @@ row_delimits R d n ts ss p q x y a b s t e =
 
 module _ {S V : Type 0} {left : S → Option (List ℕ)} {able : S → ℕ → Type 0}
     {may_leave : S → S → Type 0} where
-  -- The first bytes at hand were made a list, and then as many were taken.
+  -- If a list was made of the first n bytes in memory and then n bytes were taken, the list was
+  -- read.
   pub at_hand_read : {R : Tree → Type 0} {I : Tree → V → Type 0} {n : ℕ} {hand u : List ℕ}
       {old new : S} {vs : List V} → IsDelimited R → AreOfBytes R I (take n hand) vs →
       n ≤ length hand → CanTake left able old hand → length u ≡ n → Takes left able old u new →

@@ -1,4 +1,4 @@
--- Reading bytes behind their count, as a list of trees; and want of memory for a copy.
+-- Reading bytes after their count, as a list of trees; and lack of memory for a copy.
 use Rattle.std.proofs.Common.{◌≡◌, ℕ, suc, ◌<◌, inr, List, [], ◌∷◌, ◌++◌, length, get_or, Option}
 use Rattle.std.proofs.Common.{Ok}
 use Rattle.std.proofs.Common.{refl, sym, ◌∙◌, ap, subst}
@@ -11,7 +11,7 @@ use Rattle.postcard_wire.specs.Spelling.{SpellsAll}
 use Rattle.postcard_wire.specs.Reading.{IsByte, Each}
 use Rattle.postcard_wire.proofs.Delimited.{same_front}
 use Rattle.postcard_de_flavors.specs.Source.{Takes, Laws}
-use Rattle.postcard_de_nodes.specs.Reads.{MayAnswer, ReadsFrom}
+use Rattle.postcard_de_nodes.specs.Reads.{IsReadError, ReadsFrom}
 use Rattle.postcard_de_nodes.specs.Refuses.{RefusesFrom, WantsText}
 use Rattle.postcard_de_nodes.specs.Unfit.{BadBytes}
 use Rattle.postcard_shape.specs.Values.{Same, EachIs, AreRead}
@@ -23,12 +23,12 @@ use Rattle.postcard_de_nodes.specs.NumberLemmas.{Below, number_spelled}
 abbrev pub ByteIs : Tree → ℕ → Type 0
 ByteIs t v = t ≡ Byte v
 
--- A tree for each byte.
+-- The trees of some bytes, one for each byte.
 bytes_trees : List ℕ → Trees
 bytes_trees [] = NoTrees
 bytes_trees (b ∷ u) = Then (Byte b) (bytes_trees u)
 
--- Bytes spell their trees, and are their values.
+-- Bytes spell their trees, and are the values of these.
 trees_are : (u : List ℕ) → ((k : ℕ) → get_or u k 0 < 256) →
     (count (bytes_trees u) ≡ length u) × Each IsByte (bytes_trees u) × SpellsAll (bytes_trees u) u
     × EachIs ByteIs (bytes_trees u) u
@@ -38,7 +38,7 @@ trees_are (b ∷ u) h =
     let k = trees_are u (λ i. h (suc i)) in
     (ap suc k.0, ((b, refl, h 0), k.1), (b ∷ [], u, refl, k.2, refl), (refl, k.3))
 
--- What trees of bytes are spelled by is their values.
+-- Bytes that spell trees of bytes are the values of these.
 spelled_are : (ts : Trees) (r : List ℕ) → Each IsByte ts → SpellsAll ts r →
     (count ts ≡ length r) × EachIs ByteIs ts r
 spelled_are NoTrees r a e = rw e (refl, tt)
@@ -50,7 +50,7 @@ spelled_are (Then t ts) r a (p, q, s, k, e) =
 
 module _ {S : Type 0} {left : S → Option (List ℕ)} {able : S → ℕ → Type 0}
     {may_leave : S → S → Type 0} (laws : Laws left able may_leave) where
-  -- So many bytes were taken.
+  -- If n bytes were taken, n trees of bytes were read.
   pub bytes_read : {n : ℕ} {old new : S} {u : List ℕ} → length u ≡ n →
       ((k : ℕ) → get_or u k 0 < 256) → Takes left able old u new → may_leave old new →
       ReadsFrom SpellsAll (AreRead n IsByte) (EachIs ByteIs) ⊥ left able may_leave old (Ok u) new
@@ -72,10 +72,10 @@ module _ {S : Type 0} {left : S → Option (List ℕ)} {able : S → ℕ → Typ
               same t,
         );
     leaves = l;
-    names = tt;
+    named_error = tt;
   }
 
-  -- So many can't be taken.
+  -- If n bytes can't be taken, reading n trees of bytes fails.
   pub bytes_end : {n : ℕ} {old new : S} {e : Error} → (able old n → ⊥) → may_leave old new →
       e ≡ DeserializeUnexpectedEnd → ReadsFrom SpellsAll (AreRead n IsByte) (EachIs ByteIs) ⊥ left
       able may_leave old (refusal (List ℕ) e) new
@@ -84,13 +84,14 @@ module _ {S : Type 0} {left : S → Option (List ℕ)} {able : S → ℕ → Typ
     accepts = λ ts p a s c. let m = spelled_are ts p a.1 s in let long : length p ≡ n =
         sym m.0 ∙ a.0 in absurd (lacks (rw long at c.enough));
     leaves = l;
-    names = subst (MayAnswer ⊥) (sym is) tt;
+    named_error = subst (IsReadError ⊥) (sym is) tt;
   }
 
 module _ {S : Type 0} {left : S → Option (List ℕ)} {able : S → ℕ → Type 0}
     {may_leave : S → S → Type 0} (laws : Laws left able may_leave) {n : ℕ} {old mid : S}
     (counted : ReadsFrom (SpellsNum 64) (Below 64) Same ⊥ left able may_leave old (Ok n) mid) where
-  -- Bytes were taken, and there is no memory for a copy.
+  -- If the bytes were taken and there is no memory for a copy, that is a reason to fail with
+  -- `OutOfMemory`.
   pub bytes_full : {u : List ℕ} {new : S} → length u ≡ n → Takes left able mid u new →
       RefusesFrom WantsText BadBytes left able old OutOfMemory new
   bytes_full {u = u} long t = inr (record {

@@ -1,4 +1,4 @@
--- Reading a character: a length of at most 4, and as many bytes, which begin with one.
+-- Reading a character: a length of at most 4, and that many bytes, which begin with the character.
 use Rattle.std.proofs.Common.{◌≡◌, ℕ, ◌+◌, ◌<◌, ◌≤◌, ◌^◌, inl, inr, List, ◌++◌, length, Option, Ok}
 use Rattle.std.proofs.Common.{refl, sym, ◌∙◌, ap, subst, arith, append_assoc, length-append}
 use Rattle.std.specs.Char.{IsScalar}
@@ -14,7 +14,7 @@ use Rattle.postcard_wire.proofs.Delimited.{num_front, char_delimited, same_front
 use Rattle.postcard_wire.proofs.Refused.{longer, none_spelled}
 use Rattle.std.proofs.lemmas.List.{append_cancel_left}
 use Rattle.postcard_de_flavors.specs.Source.{Takes, Laws}
-use Rattle.postcard_de_nodes.specs.Reads.{MayAnswer, ReadsFrom}
+use Rattle.postcard_de_nodes.specs.Reads.{IsReadError, ReadsFrom}
 use Rattle.postcard_de_nodes.specs.Refuses.{RefusesFrom, WantsDigit, BadNumber}
 use Rattle.postcard_de_nodes.specs.Unfit.{WantsChar, BadChar}
 use Rattle.postcard_shape.specs.Values.{Same}
@@ -24,7 +24,7 @@ use Rattle.postcard_de_nodes.specs.ReadLemmas.{behind_front}
 use Rattle.postcard_de_nodes.specs.NumberLemmas.{Below, number_below, number_spelled}
 use Rattle.postcard_de_nodes.proofs.TextLemmas.{facing_length}
 
--- Where more bytes are wanted, they are within the character's spelling.
+-- If more bytes are wanted, they are within the character's spelling.
 char_within : (x : Tree) (p q : List ℕ) (n : ℕ) (y z : List ℕ) → WantsChar p n → IsChar x →
     Spells x q → p ++ y ≡ q ++ z → length p + n ≤ length q
 char_within x p q n y z (inl wanted) r s e =
@@ -39,7 +39,7 @@ char_within x p q n y z (inr wanted) r s e =
     (facing_length p q j.0 j.1 y z j.4 e) in
     omega (arith, h.1, ap length h.0, ap length j.3, ap length j.4, length-append j.0 j.1)
 
--- No character begins with what is refused.
+-- A bad front begins no spelling of a character.
 char_none : (x : Tree) (p q : List ℕ) (f : Error) (y z : List ℕ) → BadChar p f → IsChar x →
     Spells x q → p ++ y ≡ q ++ z → f ≡ OutOfMemory
 char_none x p q f y z (inl bad) r s e =
@@ -65,24 +65,24 @@ char_none x p q f y z (inr (is, inr (a, u, spelled, i, few, none))) r s e =
     let same = same_front u j.1 y z (h.1 ∙ ap length (sym j.3)) k in
     absurd (none r.0 (subst (BeginsWithChar r.0) (sym (same ∙ j.3)) t.1))
 
--- It is refused with an error that may be answered.
-char_named : (p : List ℕ) (e : Error) → BadChar p e → MayAnswer ⊥ e
-char_named p e (inl bad) = subst (MayAnswer ⊥) (sym bad.0) tt
-char_named p e (inr bad) = subst (MayAnswer ⊥) (sym bad.0) tt
+-- The error for a bad front is one that a reading call may return.
+char_named : (p : List ℕ) (e : Error) → BadChar p e → IsReadError ⊥ e
+char_named p e (inl bad) = subst (IsReadError ⊥) (sym bad.0) tt
+char_named p e (inr bad) = subst (IsReadError ⊥) (sym bad.0) tt
 
--- The reasons to refuse a character stand where there is none.
+-- The reasons to fail to read a character exclude a character at the front.
 char_excludes : Excludes ⊥ WantsChar BadChar Spells IsChar
 char_excludes = record { within = char_within; none = char_none; named = char_named }
 
 module _ {S : Type 0} {left : S → Option (List ℕ)} {able : S → ℕ → Type 0}
     {may_leave : S → S → Type 0} (laws : Laws left able may_leave) where
-  -- A refused character.
+  -- A call with a reason to fail to read a character may return its error.
   pub char_refused : {V : Type 0} {value : Tree → V → Type 0} {old new : S} {e : Error} →
       RefusesFrom WantsChar BadChar left able old e new → may_leave old new →
       ReadsFrom Spells IsChar value ⊥ left able may_leave old (refusal V e) new
   char_refused why l = refused laws char_excludes why l
 
-  -- Its length was refused.
+  -- If reading the length fails, reading the character fails with that error.
   pub char_length_refused : {old new : S} {e : Error} →
       RefusesFrom (WantsDigit 64) (BadNumber 64) left able old e new →
       RefusesFrom WantsChar BadChar left able old e new
@@ -91,7 +91,7 @@ module _ {S : Type 0} {left : S → Option (List ℕ)} {able : S → ℕ → Typ
 module _ {S : Type 0} {left : S → Option (List ℕ)} {able : S → ℕ → Type 0}
     {may_leave : S → S → Type 0} (laws : Laws left able may_leave) {n : ℕ} {old mid : S}
     (counted : ReadsFrom (SpellsNum 64) (Below 64) Same ⊥ left able may_leave old (Ok n) mid) where
-  -- The length is above 4.
+  -- A length above 4 is a reason to fail with `DeserializeBadChar`.
   pub char_too_long : 4 < n → RefusesFrom WantsChar BadChar left able old DeserializeBadChar mid
   char_too_long high = inr (record {
     front = counted.gives.front;
@@ -99,7 +99,7 @@ module _ {S : Type 0} {left : S → Option (List ℕ)} {able : S → ℕ → Typ
     why = inr (refl, inl (n, number_spelled laws counted, number_below laws counted, high));
   })
 
-  -- The bytes behind the length can't be taken.
+  -- If the bytes after the length can't be taken, that is a reason to fail.
   pub char_ends : {new : S} {e : Error} → n ≤ 4 → (able mid n → ⊥) → e ≡ DeserializeUnexpectedEnd →
       RefusesFrom WantsChar BadChar left able old e new
   char_ends few lacks is =
@@ -107,12 +107,12 @@ module _ {S : Type 0} {left : S → Option (List ℕ)} {able : S → ℕ → Typ
 
   module _ {u : List ℕ} {new : S} (few : n ≤ 4) (long : length u ≡ n)
       (t : Takes left able mid u new) where
-    -- The length's spelling, by the bytes.
+    -- The front that was taken spells the number of the bytes u.
     char_spelled : SpellsNum 64 (length u) counted.gives.front
     char_spelled = subst (λ (m : ℕ). SpellsNum 64 m counted.gives.front) (sym long)
         (number_spelled laws counted)
 
-    -- They are no character.
+    -- If they begin with no character, that is a reason to fail with `DeserializeBadChar`.
     pub char_bad : ((c : ℕ) → BeginsWithChar c u → ⊥) →
         RefusesFrom WantsChar BadChar left able old DeserializeBadChar new
     char_bad none = inr (record {
@@ -131,7 +131,7 @@ module _ {S : Type 0} {left : S → Option (List ℕ)} {able : S → ℕ → Typ
       );
     })
 
-    -- They begin with the character that is answered.
+    -- If they begin with c, the call may return c.
     pub char_read : {c : ℕ} → BeginsWithChar c u → IsScalar c → may_leave mid new →
         ReadsFrom Spells IsChar (λ t v. t ≡ Char v) ⊥ left able may_leave old (Ok c) new
     char_read {c} begins scalar l =

@@ -1,4 +1,4 @@
--- Texts of a fixed capacity, of texts that were read.
+-- Texts of a fixed capacity, made of texts that were read.
 use Rattle.std.proofs.Common.{◌≡◌, ℕ, ◌<◌, ◌≤◌, ◌^◌, inr, List, ◌++◌, length, Option, Ok, refl, sym}
 use Rattle.std.proofs.Common.{◌∙◌, ap, subst}
 use Rattle.std.specs.Prelude.{IsUtf8}
@@ -16,12 +16,12 @@ use Rattle.postcard_shape.specs.Values.{Same}
 use Rattle.postcard_de_nodes.specs.TakeLemmas.{both_taken}
 use Rattle.postcard_de_nodes.specs.NumberLemmas.{Below, number_spelled}
 
--- A text that there is room for is one that is read.
+-- A text of at most n bytes is read as a text of capacity n.
 pub short_fits : (n : ℕ) (u w : List ℕ) → length u ≤ n → IsUtf8 u → length u < 2 ^ 64 → w ≡ u →
     (x : Tree) → IsText x → x ≡ Text u → IsShortText n x × (x ≡ Text w)
 short_fits n u w few utf8 low e x r is = ((u, is, few, utf8, low), is ∙ ap Text (sym e))
 
--- A longer one is none.
+-- A text of more than n bytes is no text of capacity n.
 pub long_unfit : (n : ℕ) (u : List ℕ) → (length u ≤ n → ⊥) → (x : Tree) → IsShortText n x →
     x ≡ Text u → ⊥
 long_unfit n u many x r is =
@@ -30,7 +30,7 @@ long_unfit n u many x r is =
 module _ {S : Type 0} {left : S → Option (List ℕ)} {able : S → ℕ → Type 0}
     {may_leave : S → S → Type 0} (laws : Laws left able may_leave) {n : ℕ} {old mid : S}
     (counted : ReadsFrom (SpellsNum 64) (Below 64) Same ⊥ left able may_leave old (Ok n) mid) where
-  -- A text was taken that there is no room for.
+  -- A text that is longer than the capacity is a reason to fail with `SerdeDeCustom`.
   pub text_long : {m : ℕ} {u : List ℕ} {new : S} → length u ≡ n → Takes left able mid u new →
       IsUtf8 u → m < length u →
       RefusesFrom WantsText (BadShortText m) left able old SerdeDeCustom new

@@ -9,26 +9,26 @@ use Rattle.postcard_wire.specs.Number.{SpellsNum}
 use Rattle.postcard_wire.proofs.Delimited.{num_front}
 use Rattle.postcard_wire.proofs.Refused.{longer, none_spelled}
 use Rattle.postcard_de_flavors.specs.Source.{Takes, Laws}
-use Rattle.postcard_de_nodes.specs.Reads.{MayAnswer, ReadsFrom}
+use Rattle.postcard_de_nodes.specs.Reads.{IsReadError, ReadsFrom}
 use Rattle.postcard_de_nodes.specs.Refuses.{RefusesFrom, WantsDigit, BadNumber}
 use Rattle.postcard_shape.specs.Values.{Same}
 use Rattle.postcard_de_nodes.specs.TakeLemmas.{nothing_taken, both_taken}
 use Rattle.postcard_de_nodes.specs.ReadLemmas.{Delimits, Excludes, found, refused, refusal}
 use Rattle.postcard_de_nodes.specs.NumberLemmas.{Below}
 
--- No number's spelling begins another's.
+-- The spellings of numbers of w bits are prefix-free.
 number_delimited : (w : ℕ) → Delimits (SpellsNum w) (Below w)
 number_delimited w n m p q x y a b s r e = num_front w n m p q x y s r e
 
--- The reasons to refuse a number stand where there is none.
+-- The reasons to fail to read a number exclude a number at the front.
 pub number_excludes : (w : ℕ) → Excludes ⊥ (WantsDigit w) (BadNumber w) (SpellsNum w) (Below w)
 number_excludes w = record {
   within = λ x p q n y z wanted r s e. omega (arith, longer p q y z wanted.0 s.digits e, wanted.2);
   none = λ x p q f y z bad r s e. absurd (none_spelled w x p q y z bad.1 s r e);
-  named = λ p e bad. subst (MayAnswer ⊥) (sym bad.0) tt;
+  named = λ p e bad. subst (IsReadError ⊥) (sym bad.0) tt;
 }
 
--- The digits so far were taken.
+-- The state within the loop: the digits so far were taken.
 pub record Within {S : Type 0} (w : ℕ) (left : S → Option (List ℕ)) (able : S → ℕ → Type 0)
     (may_leave : S → S → Type 0) (old : S) (digits : Digits) (now : S) : Type 0 where
   pub front : List ℕ
@@ -38,13 +38,13 @@ pub record Within {S : Type 0} (w : ℕ) (left : S → Option (List ℕ)) (able 
 
 module _ {S : Type 0} {left : S → Option (List ℕ)} {able : S → ℕ → Type 0}
     {may_leave : S → S → Type 0} (laws : Laws left able may_leave) where
-  -- None was taken yet.
+  -- Before the loop, no digit was taken.
   pub begun : (w : ℕ) (digits : Digits) (old : S) → HasRead w [] digits →
       Within w left able may_leave old digits old
   begun w digits old h =
       record { front = []; read = h; taken = nothing_taken old; leaves = laws.itself old }
 
-  -- The last was taken.
+  -- Once the last digit was taken, the number was read.
   pub number_read : {w : ℕ} {digits : Digits} {old now new : S} {b n : ℕ} →
       (so : Within w left able may_leave old digits now) → Takes left able now (b ∷ []) new →
       may_leave now new → SpellsNum w n (so.front ++ b ∷ []) → n < 2 ^ w →
@@ -53,7 +53,7 @@ module _ {S : Type 0} {left : S → Option (List ℕ)} {able : S → ℕ → Typ
       found (number_delimited w) n (so.front ++ b ∷ []) n low s refl (both_taken so.taken t)
       (laws.joins old now new so.leaves l)
 
-  -- The source has no further one.
+  -- If the source can't give the next digit, that is a reason to fail.
   pub number_ends : {w : ℕ} {digits : Digits} {old now new : S} {e : Error} →
       Within w left able may_leave old digits now → (able now 1 → ⊥) →
       e ≡ DeserializeUnexpectedEnd → RefusesFrom (WantsDigit w) (BadNumber w) left able old e new
@@ -69,7 +69,7 @@ module _ {S : Type 0} {left : S → Option (List ℕ)} {able : S → ℕ → Typ
     },
   )
 
-  -- The last is too great.
+  -- If the last digit is too great, that is a reason to fail with `DeserializeBadVarint`.
   pub number_bad : {w : ℕ} {digits : Digits} {old now new : S} {b : ℕ} {e : Error} →
       (so : Within w left able may_leave old digits now) → Takes left able now (b ∷ []) new →
       BadNumber w (so.front ++ b ∷ []) e → RefusesFrom (WantsDigit w) (BadNumber w) left able old e
@@ -77,7 +77,7 @@ module _ {S : Type 0} {left : S → Option (List ℕ)} {able : S → ℕ → Typ
   number_bad {b = b} so t bad =
       inr (record { front = so.front ++ b ∷ []; taken = both_taken so.taken t; why = bad })
 
-  -- A refused number, as a number alone.
+  -- A call with a reason to fail to read a number may return its error.
   pub number_refused : {w : ℕ} {old new : S} {e : Error} →
       RefusesFrom (WantsDigit w) (BadNumber w) left able old e new → may_leave old new →
       {V : Type 0} {value : ℕ → V → Type 0} → ReadsFrom (SpellsNum w) (Below w) value ⊥ left able

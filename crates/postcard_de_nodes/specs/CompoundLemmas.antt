@@ -1,5 +1,5 @@
--- Reading a thing and then another behind it, which may depend on the value of the first, as one
--- thing made of both.
+-- Reading a thing and then a second, which may depend on the value of the first, as one thing made
+-- of both.
 use Rattle.std.proofs.Common.{◌≡◌, ℕ, List, ◌++◌, Option, Ok, sym, subst}
 use Rattle.postcard_wire.specs.declared.error.Error.{Error}
 use Rattle.postcard_de_flavors.specs.Source.{Takes, Laws}
@@ -8,8 +8,9 @@ use Rattle.postcard_de_nodes.specs.ErrorLemmas.{wider}
 use Rattle.postcard_de_nodes.specs.TakeLemmas.{both_taken, can_first, can_second}
 use Rattle.postcard_de_nodes.specs.ReadLemmas.{refusal}
 
--- How a thing is made of two: `first` are spelled, read and valued by P, R and I, those behind one
--- of value v are spelled and read by Q and S v, and what is made of both by P' and R'.
+-- How a thing is made of two. The first is spelled, read and valued by P, R and I; the second,
+-- after a first of value v, is spelled and read by Q and S v; what is made of both is spelled and
+-- read by P' and R'.
 pub record Compound {X Y Z V : Type 0} (make : X → Y → Z) (P : X → List ℕ → Type 0) (R : X → Type 0)
     (I : X → V → Type 0) (Q : Y → List ℕ → Type 0) (S : V → Y → Type 0) (P' : Z → List ℕ → Type 0)
     (R' : Z → Type 0) : Type 0 where
@@ -24,7 +25,7 @@ module _ {F : Type 0} {left : F → Option (List ℕ)} {able : F → ℕ → Typ
     {P : X → List ℕ → Type 0} {R : X → Type 0} {I : X → V → Type 0} {Q : Y → List ℕ → Type 0}
     {S : V → Y → Type 0} {P' : Z → List ℕ → Type 0} {R' : Z → Type 0} {K : Z → A → Type 0}
     {G H : Type 0} {make : X → Y → Z} (both : Compound make P R I Q S P' R') where
-  -- The first refuses.
+  -- If reading the first fails, reading the whole fails with its error.
   pub first_refused : {old new : F} {e : Error} → (G → H) →
       ReadsFrom P R I G left able may_leave old (refusal V e) new →
       ReadsFrom P' R' K H left able may_leave old (refusal A e) new
@@ -33,10 +34,10 @@ module _ {F : Type 0} {left : F → Option (List ℕ)} {able : F → ℕ → Typ
     accepts = λ z r a b c. let (x, y, p, q, j, rx, px, qy, e, then) = both.parted z r a b in
         s.accepts x p rx px (can_first laws p q (rw e at c));
     leaves = s.leaves;
-    names = wider grow f s.names;
+    named_error = wider grow f s.named_error;
   }
 
-  -- The first was read, and the second refuses.
+  -- If the first was read and reading the second fails, reading the whole fails with that error.
   pub second_refused : {W : Type 0} {J : Y → W → Type 0} {G' : Type 0} {old mid new : F} {v : V}
       {e : Error} → (G' → H) → ReadsFrom P R I G left able may_leave old (Ok v) mid →
       ReadsFrom Q (S v) J G' left able may_leave mid (refusal W e) new →
@@ -49,10 +50,10 @@ module _ {F : Type 0} {left : F → Option (List ℕ)} {able : F → ℕ → Typ
         let one = s.accepts x p rx px (can_first laws p q c0) in
         t.accepts y q (then v one.0) qy (can_second p q c0 one.1);
     leaves = laws.joins old mid new s.leaves t.leaves;
-    names = wider grow f t.names;
+    named_error = wider grow f t.named_error;
   }
 
-  -- Both were read.
+  -- If both were read, the whole was read.
   pub both_read : {W : Type 0} {J : Y → W → Type 0} {G' : Type 0} {old mid new : F} {v : V} {w : W}
       {a : A} → ((x : X) (y : Y) → I x v → J y w → K (make x y) a) →
       ReadsFrom P R I G left able may_leave old (Ok v) mid →
@@ -82,5 +83,5 @@ module _ {F : Type 0} {left : F → Option (List ℕ)} {able : F → ℕ → Typ
                   (λ (l : List ℕ). Takes left able old l new) (sym e) (both_taken one.1 two.1),
             );
         leaves = laws.joins old mid new s.leaves t.leaves;
-        names = tt;
+        named_error = tt;
       }

@@ -1,4 +1,4 @@
--- Reading a count and then as many trees, as one list.
+-- Reading a count and then that many trees, as one list.
 use Rattle.std.proofs.Common.{◌≡◌, ℕ, List, Option, Ok, refl, sym, ◌∙◌, subst}
 use Rattle.postcard_wire.specs.declared.error.Error.{Error}
 use Rattle.postcard_wire.specs.Number.{SpellsNum}
@@ -14,7 +14,7 @@ use Rattle.postcard_de_nodes.specs.ReadLemmas.{refusal}
 use Rattle.postcard_de_nodes.specs.NumberLemmas.{Below}
 use Rattle.postcard_de_nodes.specs.CompoundLemmas.{Compound, second_refused, both_read}
 
--- A list is a count and as many trees.
+-- A list is made of a count and that many trees.
 pub count_and_parts : (R : Tree → Type 0) → Compound (λ (n : ℕ) ts. Seq ts) (SpellsNum 64)
     (Below 64) Same SpellsAll (λ n ts. AreRead n R ts) Spells (IsSeq R)
 count_and_parts R = record {
@@ -36,14 +36,14 @@ count_and_parts R = record {
 module _ {S V : Type 0} {left : S → Option (List ℕ)} {able : S → ℕ → Type 0}
     {may_leave : S → S → Type 0} (laws : Laws left able may_leave) {R : Tree → Type 0}
     {I : Tree → V → Type 0} {H : Type 0} where
-  -- The count and then the elements were read.
+  -- If the count and then the elements were read, the list was read.
   pub list_read : {A : Type 0} (see : A → List V) {old mid new : S} {n : ℕ} (a : A) →
       ReadsFrom (SpellsNum 64) (Below 64) Same ⊥ left able may_leave old (Ok n) mid →
       ReadsFrom SpellsAll (AreRead n R) (EachIs I) H left able may_leave mid (Ok (see a)) new →
       ReadsFrom Spells (IsSeq R) (λ t x. ListIs I t (see x)) H left able may_leave old (Ok a) new
   list_read see a h k = both_read laws (count_and_parts R) (λ n ts i j. (ts, refl, j)) h k
 
-  -- The count was read, and then the elements refuse.
+  -- If the count was read and reading the elements fails, reading the list fails with that error.
   pub list_refused : {A : Type 0} (see : A → List V) {old mid new : S} {n : ℕ} {e : Error} →
       ReadsFrom (SpellsNum 64) (Below 64) Same ⊥ left able may_leave old (Ok n) mid →
       ReadsFrom SpellsAll (AreRead n R) (EachIs I) H left able may_leave mid
@@ -55,7 +55,7 @@ module _ {S V : Type 0} {left : S → Option (List ℕ)} {able : S → ℕ → T
 module _ {S : Type 0} {left : S → Option (List ℕ)} {able : S → ℕ → Type 0}
     {may_leave : S → S → Type 0} (laws : Laws left able may_leave) {R : Tree → Type 0} {H : Type 0}
   where
-    -- The count was refused.
+    -- If reading the count fails, reading the list fails with its error.
     pub count_refused : {A W : Type 0} {value : ℕ → W → Type 0} {K : Tree → A → Type 0}
         {old new : S} {e : Error} →
         ReadsFrom (SpellsNum 64) (Below 64) value ⊥ left able may_leave old (refusal W e) new →
@@ -65,5 +65,5 @@ module _ {S : Type 0} {left : S → Option (List ℕ)} {able : S → ℕ → Typ
       accepts = λ t p a s c. let q : Spells (Seq a.0) p = rw a.1 at s in
           r.accepts (count a.0) q.0 a.2 q.2 (can_first laws q.0 q.1 (rw q.4 at c));
       leaves = r.leaves;
-      names = wider (λ z. absurd z) e r.names;
+      named_error = wider (λ z. absurd z) e r.named_error;
     }

@@ -1,4 +1,4 @@
--- A number that was read, alone and as a tree.
+-- A number that was read, by itself and as a tree.
 use Rattle.std.proofs.Common.{◌≡◌, ℕ, ◌<◌, ◌^◌, List, Option, Ok, ℤ, refl, sym, ◌∙◌, subst}
 use Rattle.postcard_wire.specs.Number.{SpellsNum, zigzag}
 use Rattle.postcard_wire.specs.Tree.{Num, Int, IsWidth}
@@ -22,14 +22,14 @@ module _ {S : Type 0} {left : S → Option (List ℕ)} {able : S → ℕ → Typ
       ReadsFrom (SpellsNum w) (Below w) Same ⊥ left able may_leave old (Ok n) new → n < 2 ^ w
   number_below {w} r = subst (Below w) r.gives.has r.gives.is_read
 
-  -- And spelled by the front that was taken.
+  -- The front that was taken spells the number that was read.
   pub number_spelled : {w n : ℕ} {old new : S} →
       (r : ReadsFrom (SpellsNum w) (Below w) Same ⊥ left able may_leave old (Ok n) new) →
       SpellsNum w n r.gives.front
   number_spelled {w} r =
       subst (λ (m : ℕ). SpellsNum w m r.gives.front) r.gives.has r.gives.is_spelled
 
-  -- A number that was read, as a tree.
+  -- A call that read a number has read the tree `Num` of it.
   pub num_read : {w n : ℕ} {old new : S} → ReadsFrom (SpellsNum w) (Below w) Same ⊥ left able
       may_leave old (Ok n) new → ReadsFrom Spells (IsNum w) (λ t v. t ≡ Num w v) ⊥ left able
       may_leave old (Ok n) new
@@ -38,7 +38,7 @@ module _ {S : Type 0} {left : S → Option (List ℕ)} {able : S → ℕ → Typ
       found (num_delimited w) (Num w n) g.front n (n, refl, number_below r) (number_spelled r) refl
       g.taken r.leaves
 
-  -- As a signed number's tree.
+  -- A call that read the zigzag form of z has read the tree `Int` of z.
   pub int_read : {w n : ℕ} {old new : S} (z : ℤ) → IsWidth w → zigzag z ≡ n →
       ReadsFrom (SpellsNum w) (Below w) Same ⊥ left able may_leave old (Ok n) new →
       ReadsFrom Spells (IsInt w) (λ t v. t ≡ Int w v) ⊥ left able may_leave old (Ok z) new

@@ -1,32 +1,33 @@
--- Reading one node: what is found in front, and that nothing is where a call refuses.
+-- Reading one node: what holds if a front was read, and that there is no such front if the call
+-- fails.
 use Rattle.std.proofs.Common.{◌≡◌, ℕ, ◌+◌, ◌≤◌, inl, inr, List, ◌++◌, length, Option, Ok, Err}
 use Rattle.std.proofs.Common.{Result, IsErrAnd, refl, sym, ap, subst}
 use Rattle.postcard_wire.specs.declared.error.Error.{Error}
 use Rattle.postcard_wire.specs.declared.error.Error.TheVariants.{OutOfMemory}
 use Rattle.postcard_wire.specs.declared.error.Error.TheVariants.{DeserializeUnexpectedEnd}
 use Rattle.postcard_de_flavors.specs.Source.{CanTake, Takes, Laws}
-use Rattle.postcard_de_nodes.specs.Reads.{MayAnswer, ReadsFrom}
+use Rattle.postcard_de_nodes.specs.Reads.{IsReadError, ReadsFrom}
 use Rattle.postcard_de_nodes.specs.Refuses.{RefusesFrom}
 use Rattle.postcard_de_nodes.specs.TakeLemmas.{faces}
 
--- A refusal as a result.
+-- The error e as a result.
 abbrev pub refusal : (A : Type 0) → Error → Result A Error
 refusal A e = Err e
 
--- What `?` passes on is the refusal.
+-- A result that is the error e, as `?` passes it on, is `refusal` of it.
 pub is_refusal : {W : Type 0} (r : Result W Error) (e : Error) → IsErrAnd r (λ x. x ≡ e) →
     r ≡ refusal W e
 is_refusal (Ok x) e h = absurd h
 is_refusal (Err d) e h = ap Err h
 
--- Where two fronts of one list spell things that are read, they are one front and one thing.
+-- If two fronts of one list spell things that are read, the fronts are equal and so are the things.
 abbrev pub Delimits : {X : Type 0} → (X → List ℕ → Type 0) → (X → Type 0) → Type 0
 Delimits {X} spelled reads = (t s : X) (p q x y : List ℕ) → reads t → reads s → spelled t p →
     spelled s q → p ++ x ≡ q ++ y → (p ≡ q) × (t ≡ s)
 
--- Reasons to refuse that only stand where no front is read: more bytes are wanted only within such
--- a front, and bad bytes begin none, but for want of memory; and are refused with an error that may
--- be answered.
+-- The reasons for a failure exclude a front that is read: more bytes are wanted only within such a
+-- front; bad bytes begin no such front, unless an allocation failed; and their error is one that a
+-- reading call may return.
 pub record Excludes {X : Type 0} (grows : Type 0) (wants : List ℕ → ℕ → Type 0)
     (bad : List ℕ → Error → Type 0) (spelled : X → List ℕ → Type 0) (reads : X → Type 0) : Type 0
   where
@@ -34,10 +35,10 @@ pub record Excludes {X : Type 0} (grows : Type 0) (wants : List ℕ → ℕ → 
         p ++ y ≡ q ++ z → length p + n ≤ length q
     pub none : (x : X) (p q : List ℕ) (e : Error) (y z : List ℕ) → bad p e → reads x → spelled x q →
         p ++ y ≡ q ++ z → e ≡ OutOfMemory
-    pub named : (p : List ℕ) (e : Error) → bad p e → MayAnswer grows e
+    pub named : (p : List ℕ) (e : Error) → bad p e → IsReadError grows e
 
 module _ {S : Type 0} {left : S → Option (List ℕ)} {able : S → ℕ → Type 0} where
-  -- A reason to refuse, told in wider words.
+  -- A reason for a failure may be weakened.
   pub widened : {wants wants' : List ℕ → ℕ → Type 0} {bad bad' : List ℕ → Error → Type 0}
       {old new : S} {e : Error} → ((p : List ℕ) (n : ℕ) → wants p n → wants' p n) →
       ((p : List ℕ) → bad p e → bad' p e) → RefusesFrom wants bad left able old e new →
@@ -56,7 +57,8 @@ module _ {S : Type 0} {left : S → Option (List ℕ)} {able : S → ℕ → Typ
   widened wide bad (inr b) =
       inr (record { front = b.front; taken = b.taken; why = bad b.front b.why })
 
-  -- More bytes are wanted behind a front that was taken.
+  -- If a front was taken after which n more bytes are wanted, and the source isn't able to give
+  -- them, that is a reason to fail with `DeserializeUnexpectedEnd`.
   pub behind_front : {wants : List ℕ → ℕ → Type 0} {bad : List ℕ → Error → Type 0} {old mid new : S}
       {p : List ℕ} {n : ℕ} {e : Error} → Takes left able old p mid → wants p n → (able mid n → ⊥) →
       e ≡ DeserializeUnexpectedEnd → RefusesFrom wants bad left able old e new
@@ -75,7 +77,7 @@ module _ {S : Type 0} {left : S → Option (List ℕ)} {able : S → ℕ → Typ
 
 module _ {S : Type 0} {left : S → Option (List ℕ)} {able : S → ℕ → Type 0}
     {may_leave : S → S → Type 0} where
-  -- A front that spells something that is read was taken.
+  -- If a front was taken that spells a thing that is read, the call may return that thing's value.
   pub found : {X V : Type 0} {spelled : X → List ℕ → Type 0} {reads : X → Type 0}
       {value : X → V → Type 0} {grows : Type 0} {old new : S} →
       Delimits spelled reads → (x : X) (p : List ℕ) (v : V) → reads x → spelled x p → value x v →
@@ -88,10 +90,10 @@ module _ {S : Type 0} {left : S → Option (List ℕ)} {able : S → ℕ → Typ
         let e = law x y p q f.0 f.1 r a s b f.2 in
         (subst (λ z. value z v) e.1 h, subst (λ z. Takes left able old z new) e.0 t);
     leaves = l;
-    names = tt;
+    named_error = tt;
   }
 
-  -- A front that can be taken and read isn't where a call refuses, unless memory ran out.
+  -- If there is a reason for a failure, no front can be taken and read, unless memory ran out.
   no_front : {X : Type 0} {spelled : X → List ℕ → Type 0} {reads : X → Type 0} {grows : Type 0}
       {wants : List ℕ → ℕ → Type 0} {bad : List ℕ → Error → Type 0} {old new : S} {e : Error} →
       Laws left able may_leave → Excludes grows wants bad spelled reads →
@@ -106,7 +108,7 @@ module _ {S : Type 0} {left : S → Option (List ℕ)} {able : S → ℕ → Typ
       let f = faces bad.taken c in
       excludes.none x bad.front q e f.0 f.1 bad.why r s f.2
 
-  -- A call that refuses for such a reason.
+  -- A call with a reason for a failure may return its error.
   pub refused : {X V : Type 0} {spelled : X → List ℕ → Type 0} {reads : X → Type 0}
       {value : X → V → Type 0} {grows : Type 0} {wants : List ℕ → ℕ → Type 0}
       {bad : List ℕ → Error → Type 0} {old new : S} {e : Error} →
@@ -118,15 +120,15 @@ module _ {S : Type 0} {left : S → Option (List ℕ)} {able : S → ℕ → Typ
         gives = tt;
         accepts = no_front laws excludes why;
         leaves = l;
-        names = named why;
+        named_error = named why;
       }
     where
-      named : RefusesFrom wants bad left able old e new → MayAnswer grows e
-      named (inl (is, ends)) = subst (MayAnswer grows) (sym is) tt
+      named : RefusesFrom wants bad left able old e new → IsReadError grows e
+      named (inl (is, ends)) = subst (IsReadError grows) (sym is) tt
       named (inr b) = excludes.named b.front e b.why
 
-  -- Memory ran out.
+  -- A call may return `OutOfMemory` if the type grows.
   pub out_of_memory : {X V : Type 0} {spelled : X → List ℕ → Type 0} {reads : X → Type 0}
       {value : X → V → Type 0} {grows : Type 0} {old new : S} → may_leave old new → grows →
       ReadsFrom spelled reads value grows left able may_leave old (refusal V OutOfMemory) new
-  out_of_memory l h = record { gives = tt; accepts = λ x p a b c. refl; leaves = l; names = h }
+  out_of_memory l h = record { gives = tt; accepts = λ x p a b c. refl; leaves = l; named_error = h }

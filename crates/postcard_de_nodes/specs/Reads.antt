@@ -1,4 +1,4 @@
--- What a reading call does, told of whatever kind of thing is spelled: a tree, trees in a row, or a
+-- What a reading call does, for any kind of thing that is spelled: a tree, trees in a row, or a
 -- number alone.
 use Rattle.std.specs.Prelude.{◌≡◌, ℕ, List, Option, Result, IfOk, IfErr, MatchResult, ⊤}
 use Rattle.postcard_wire.specs.declared.error.Error.{Error}
@@ -13,40 +13,40 @@ use Rattle.postcard_wire.specs.declared.error.Error.TheVariants.{SerdeDeCustom, 
 use Rattle.postcard_de_flavors.specs.Source.{CanTake, Takes}
 use Rattle.postcard_de_flavors.specs.declared.flavor.Flavor.{Ghosts}
 
--- The errors that a reading call may answer (behaviour of postcard 1.1.3): the bytes end, a node is
--- bad, a type refuses what was read, the call isn't supported; and that memory runs out, where the
--- type grows.
-abbrev pub MayAnswer : Type 0 → Error → Type 0
-MayAnswer grows WontImplement = ⊤
-MayAnswer grows DeserializeUnexpectedEnd = ⊤
-MayAnswer grows DeserializeBadVarint = ⊤
-MayAnswer grows DeserializeBadBool = ⊤
-MayAnswer grows DeserializeBadChar = ⊤
-MayAnswer grows DeserializeBadUtf8 = ⊤
-MayAnswer grows DeserializeBadOption = ⊤
-MayAnswer grows SerdeDeCustom = ⊤
-MayAnswer grows OutOfMemory = grows
-MayAnswer grows _ = ⊥
+-- The errors that a reading call may return (behaviour of postcard 1.1.3): the bytes end, a node is
+-- bad, a type refuses what was read, the call isn't supported; and memory runs out, if the type
+-- grows.
+abbrev pub IsReadError : Type 0 → Error → Type 0
+IsReadError grows WontImplement = ⊤
+IsReadError grows DeserializeUnexpectedEnd = ⊤
+IsReadError grows DeserializeBadVarint = ⊤
+IsReadError grows DeserializeBadBool = ⊤
+IsReadError grows DeserializeBadChar = ⊤
+IsReadError grows DeserializeBadUtf8 = ⊤
+IsReadError grows DeserializeBadOption = ⊤
+IsReadError grows SerdeDeCustom = ⊤
+IsReadError grows OutOfMemory = grows
+IsReadError grows _ = ⊥
 
--- A thing is read that `told` tells of, whose spelling was taken from the front. The value itself
--- doesn't occur, so that two values of which the same is told are given alike.
-pub record Gives {X S : Type 0} (spelled : X → List ℕ → Type 0) (reads told : X → Type 0)
+-- A thing is read for which `claim` holds, and its spelling was taken from the front. The value
+-- itself doesn't occur, so two values with the same `claim` are treated alike.
+pub record Gives {X S : Type 0} (spelled : X → List ℕ → Type 0) (reads claim : X → Type 0)
     (left : S → Option (List ℕ)) (able : S → ℕ → Type 0) (old new : S) : Type 0 where
   pub thing : X
   pub front : List ℕ
   pub is_read : reads thing
   pub is_spelled : spelled thing front
-  pub has : told thing
+  pub has : claim thing
   pub taken : Takes left able old front new
 
--- A reading call over a source that has `left s` left and is `able` to give so many bytes, from its
+-- A reading call over a source that has `left s` left and is `able s n` to give n bytes, from its
 -- state `old` to `new`:
--- what it answers is the value of a front that spells a thing that it reads, and just that front
--- was taken;
--- where such a front can be taken, it answers that thing's value and takes just that front, unless
--- memory runs out;
--- what it leaves is what takes may leave; an error that it answers is one that a reading call may
--- answer.
+-- if it succeeds, it returns the value of a front that spells a thing that it reads, and has taken
+-- just that front;
+-- if such a front can be taken, it succeeds with that thing's value and takes just that front,
+-- unless memory runs out for a type that grows;
+-- it leaves a state that takes may leave, and an error that it returns is one that a reading call
+-- may return.
 pub record ReadsFrom {X S V : Type 0} (spelled : X → List ℕ → Type 0) (reads : X → Type 0)
     (value : X → V → Type 0) (grows : Type 0) (left : S → Option (List ℕ))
     (able : S → ℕ → Type 0) (may_leave : S → S → Type 0) (old : S) (result : Result V Error)
@@ -55,7 +55,7 @@ pub record ReadsFrom {X S V : Type 0} (spelled : X → List ℕ → Type 0) (rea
   pub accepts : (x : X) (p : List ℕ) → reads x → spelled x p → CanTake left able old p →
       MatchResult result (λ v. value x v × Takes left able old p new) (λ e. e ≡ OutOfMemory)
   pub leaves : may_leave old new
-  pub names : IfErr result (MayAnswer grows)
+  pub named_error : IfErr result (IsReadError grows)
 
 -- A reading call over a source of a flavor with the ghosts F, from its state `old` to `new`: what
 -- `ReadsFrom` says.

@@ -1,6 +1,6 @@
--- Why a reading call refuses, of one node (behaviour of postcard 1.1.3: the errors of its
--- `deserialize_*` calls). Over a source whose every refusal is for want of bytes, as the one over a
--- slice, each reason is exact.
+-- Why a call that reads one node fails (behaviour of postcard 1.1.3: the errors of its
+-- `deserialize_*` calls). Over a source that fails only if too few bytes are left, as the one over
+-- a slice, each reason is exact.
 use Rattle.std.specs.Prelude.{◌≡◌, ℕ, ◌<◌, ◌^◌, ◌⊎◌, List, [], ◌++◌, length, Option, IsUtf8}
 use Rattle.postcard_wire.specs.declared.error.Error.{Error}
 use Rattle.postcard_wire.specs.declared.error.Error.TheVariants.{DeserializeUnexpectedEnd}
@@ -10,7 +10,7 @@ use Rattle.postcard_wire.specs.Number.{max_digits, GoesOn, SpellsNum, SpellsNone
 use Rattle.postcard_de_flavors.specs.Source.{Takes}
 use Rattle.postcard_de_flavors.specs.declared.flavor.Flavor.{Ghosts}
 
--- Once a front was taken, behind which n bytes more are wanted, the source isn't able to give them.
+-- A front was taken after which n more bytes are wanted, and the source isn't able to give them.
 pub record Ends {S : Type 0} (wants : List ℕ → ℕ → Type 0) (left : S → Option (List ℕ))
     (able : S → ℕ → Type 0) (old : S) : Type 0 where
   pub front : List ℕ
@@ -27,15 +27,15 @@ pub record IsBad {S : Type 0} (bad : List ℕ → Error → Type 0) (left : S �
   pub taken : Takes left able old front new
   pub why : bad front e
 
--- A call over a source that has `left s` left and is `able` to give so many bytes refuses with the
--- error e: the bytes end where more are wanted, or a front is refused for what it is.
+-- A call over a source that has `left s` left and is `able s n` to give n bytes fails with the
+-- error e: the bytes end although more are wanted, or a front was taken that is bad.
 abbrev pub RefusesFrom : {S : Type 0} → (List ℕ → ℕ → Type 0) → (List ℕ → Error → Type 0) →
     (S → Option (List ℕ)) → (S → ℕ → Type 0) → S → Error → S → Type 0
 RefusesFrom wants bad left able old e new =
     ((e ≡ DeserializeUnexpectedEnd) × Ends wants left able old) ⊎ IsBad bad left able old e new
 
--- A call over a source of a flavor with the ghosts F refuses with the error e: the bytes end where
--- more are wanted, or a front is refused for what it is.
+-- A call over a source of a flavor with the ghosts F fails with the error e: the bytes end although
+-- more are wanted, or a front was taken that is bad.
 abbrev pub Refuses : {S M O : Type 0} → Ghosts S M O → (List ℕ → ℕ → Type 0) →
     (List ℕ → Error → Type 0) → S → Error → S → Type 0
 Refuses F wants bad old e new = RefusesFrom wants bad F.left F.able old e new
@@ -48,20 +48,20 @@ WantsByte p n = (p ≡ []) × (n ≡ 1)
 abbrev pub NoneBad : List ℕ → Error → Type 0
 NoneBad p e = ⊥
 
--- One byte more is wanted behind bytes that begin a number of w bits and don't end it.
+-- One more byte is wanted after bytes that begin a number of w bits and don't end it.
 abbrev pub WantsDigit : ℕ → List ℕ → ℕ → Type 0
 WantsDigit w p n = GoesOn p × (length p < max_digits w) × (n ≡ 1)
 
--- A number's full length of bytes that spell none of w bits.
+-- Bytes of the greatest length of a number of w bits that spell no such number.
 abbrev pub BadNumber : ℕ → List ℕ → Error → Type 0
 BadNumber w p e = (e ≡ DeserializeBadVarint) × SpellsNone w p
 
--- A digit of the length is wanted, or behind the length as many bytes as it says.
+-- The next byte of the length is wanted, or, after the length, the number of bytes that it says.
 abbrev pub WantsText : List ℕ → ℕ → Type 0
 WantsText p n = WantsDigit 64 p n ⊎ (SpellsNum 64 n p × (n < 2 ^ 64))
 
--- The length is refused, or the bytes behind it are no text, or they are and there is no memory for
--- a copy.
+-- The length is bad, or the bytes after it aren't UTF-8, or they are and there is no memory for a
+-- copy.
 abbrev pub BadText : Type 0 → List ℕ → Error → Type 0
 BadText grows p e = BadNumber 64 p e ⊎ ((q : List ℕ) × (u : List ℕ) × SpellsNum 64 (length u) q
     × (p ≡ q ++ u)

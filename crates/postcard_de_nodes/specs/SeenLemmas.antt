@@ -1,10 +1,10 @@
--- A value that was read and is then seen otherwise, or refused; and a thing behind which no second
--- may follow.
+-- A value that was read and is then turned into another, or refused; and a thing after which no
+-- second may follow.
 use Rattle.std.proofs.Common.{◌≡◌, ℕ, List, Option, Ok, Result, IsErrAnd, refl}
 use Rattle.postcard_wire.specs.declared.error.Error.{Error}
 use Rattle.postcard_wire.specs.declared.error.Error.TheVariants.{OutOfMemory}
 use Rattle.postcard_de_flavors.specs.Source.{Laws}
-use Rattle.postcard_de_nodes.specs.Reads.{MayAnswer, ReadsFrom}
+use Rattle.postcard_de_nodes.specs.Reads.{IsReadError, ReadsFrom}
 use Rattle.postcard_de_nodes.specs.ErrorLemmas.{wider}
 use Rattle.postcard_de_nodes.specs.ReadLemmas.{refusal, is_refusal}
 use Rattle.postcard_de_nodes.specs.TakeLemmas.{can_first}
@@ -13,7 +13,8 @@ use Rattle.postcard_de_nodes.specs.CompoundLemmas.{Compound}
 module _ {S : Type 0} {left : S → Option (List ℕ)} {able : S → ℕ → Type 0}
     {may_leave : S → S → Type 0} {X V : Type 0} {P : X → List ℕ → Type 0} {R : X → Type 0}
     {I : X → V → Type 0} {G : Type 0} {old new : S} where
-  -- What was read is answered as w, a value of fewer things.
+  -- A call that read v may return w instead, if w is the value of the same thing in a smaller set
+  -- of things.
   pub seen_as : {W : Type 0} {R' : X → Type 0} {I' : X → W → Type 0} {H : Type 0} {v : V} {w : W} →
       ((x : X) → R' x → R x) → ((x : X) → R x → I x v → R' x × I' x w) →
       ReadsFrom P R I G left able may_leave old (Ok v) new →
@@ -31,34 +32,34 @@ module _ {S : Type 0} {left : S → Option (List ℕ)} {able : S → ℕ → Typ
     accepts = λ x p a b c. let k = r.accepts x p (fewer x a) b c in
         ((fits x (fewer x a) k.0).1, k.1);
     leaves = r.leaves;
-    names = tt;
+    named_error = tt;
   }
 
-  -- The same where all that was read is answered.
+  -- A call that read v may return w instead, if w is a value of each thing that v is a value of.
   pub recast : {W : Type 0} {I' : X → W → Type 0} {H : Type 0} {v : V} {w : W} →
       ((x : X) → I x v → I' x w) → ReadsFrom P R I G left able may_leave old (Ok v) new →
       ReadsFrom P R I' H left able may_leave old (Ok w) new
   recast has r = seen_as (λ x a. a) (λ x a h. (a, has x h)) r
 
-  -- What was read is none of those that are answered.
+  -- A call that read v may fail with e if v is the value of no thing in the smaller set.
   pub unfit : {W : Type 0} {R' : X → Type 0} {I' : X → W → Type 0} {H : Type 0} {v : V} {e : Error}
-      → MayAnswer H e → ((x : X) → R' x → R x) → ((x : X) → R' x → I x v → ⊥) →
+      → IsReadError H e → ((x : X) → R' x → R x) → ((x : X) → R' x → I x v → ⊥) →
       ReadsFrom P R I G left able may_leave old (Ok v) new →
       ReadsFrom P R' I' H left able may_leave old (refusal W e) new
   unfit named fewer bad r = record {
     gives = tt;
     accepts = λ x p a b c. let k = r.accepts x p (fewer x a) b c in absurd (bad x a k.0);
     leaves = r.leaves;
-    names = named;
+    named_error = named;
   }
 
-  -- Memory runs out for what was read.
+  -- A call that read a value may still return `OutOfMemory` if the type grows.
   pub no_room : {W : Type 0} {R' : X → Type 0} {I' : X → W → Type 0} {H : Type 0} {v : V} → H →
       ReadsFrom P R I G left able may_leave old (Ok v) new →
       ReadsFrom P R' I' H left able may_leave old (refusal W OutOfMemory) new
-  no_room h r = record { gives = tt; accepts = λ x p a b c. refl; leaves = r.leaves; names = h }
+  no_room h r = record { gives = tt; accepts = λ x p a b c. refl; leaves = r.leaves; named_error = h }
 
-  -- What refuses all refuses fewer.
+  -- A failure to read one set of things is a failure to read a smaller set.
   pub refused_too : {W : Type 0} {R' : X → Type 0} {I' : X → W → Type 0} {H : Type 0} {e : Error} →
       ((x : X) → R' x → R x) → (G → H) → ReadsFrom P R I G left able may_leave old (refusal V e) new
       → ReadsFrom P R' I' H left able may_leave old (refusal W e) new
@@ -66,10 +67,10 @@ module _ {S : Type 0} {left : S → Option (List ℕ)} {able : S → ℕ → Typ
     gives = tt;
     accepts = λ x p a b c. r.accepts x p (fewer x a) b c;
     leaves = r.leaves;
-    names = wider grow e r.names;
+    named_error = wider grow e r.named_error;
   }
 
-  -- And `?` passes it on.
+  -- The same of the error that `?` passes on.
   pub passed_on : {W : Type 0} {R' : X → Type 0} {I' : X → W → Type 0} {H : Type 0}
       {r : Result W Error} {e : Error} → ((x : X) → R' x → R x) → (G → H) →
       IsErrAnd r (λ x. x ≡ e) → ReadsFrom P R I G left able may_leave old (refusal V e) new →
@@ -81,8 +82,8 @@ module _ {F : Type 0} {left : F → Option (List ℕ)} {able : F → ℕ → Typ
     {P : X → List ℕ → Type 0} {R : X → Type 0} {I : X → V → Type 0} {Q : Y → List ℕ → Type 0}
     {S : V → Y → Type 0} {P' : Z → List ℕ → Type 0} {R' : Z → Type 0} {K : Z → A → Type 0}
     {G H : Type 0} {make : X → Y → Z} (both : Compound make P R I Q S P' R') where
-  -- The first was read, and no second may follow it.
-  pub none_follows : {old mid new : F} {v : V} {e : Error} → MayAnswer H e → ((y : Y) → S v y → ⊥) →
+  -- If the first was read and no second may follow it, the call may fail with e.
+  pub none_follows : {old mid new : F} {v : V} {e : Error} → IsReadError H e → ((y : Y) → S v y → ⊥) →
       may_leave mid new → ReadsFrom P R I G left able may_leave old (Ok v) mid →
       ReadsFrom P' R' K H left able may_leave old (refusal A e) new
   none_follows {old = old} {mid = mid} {new = new} {v = v} named none l s = record {
@@ -92,5 +93,5 @@ module _ {F : Type 0} {left : F → Option (List ℕ)} {able : F → ℕ → Typ
         let one = s.accepts x p rx px (can_first laws p q (rw e at c)) in
         absurd (none y (then v one.0));
     leaves = laws.joins old mid new s.leaves l;
-    names = named;
+    named_error = named;
   }

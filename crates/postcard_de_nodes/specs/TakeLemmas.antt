@@ -5,7 +5,7 @@ use Rattle.std.proofs.lemmas.List.{append_cancel_left}
 use Rattle.std.specs.Io.KnownBytes.{Consumes}
 use Rattle.postcard_de_flavors.specs.Source.{Begins, CanTake, Takes, Laws}
 
--- The bytes told after two takes.
+-- Consuming x and then y is consuming x ++ y.
 consumes_joined : (a b c : Option (List ℕ)) (x y : List ℕ) → Consumes a b x → Consumes b c y →
     Consumes a c (x ++ y)
 consumes_joined None b c x y h k = tt
@@ -14,17 +14,17 @@ consumes_joined (Some xs) (Some ys) None x y h k = absurd k
 consumes_joined (Some xs) (Some ys) (Some zs) x y h k =
     h ∙ (ap (λ (r : List ℕ). x ++ r) k ∙ sym (append_assoc x y zs))
 
--- The bytes told after no take.
+-- Consuming nothing leaves the bytes as they are.
 consumes_none : (a : Option (List ℕ)) → Consumes a a []
 consumes_none None = tt
 consumes_none (Some xs) = refl
 
--- Of two fronts that the bytes told begin with, they begin with the first.
+-- Bytes that begin with x ++ y begin with x.
 begins_front : (a : Option (List ℕ)) (x y : List ℕ) → Begins a (x ++ y) → Begins a x
 begins_front None x y h = absurd h
 begins_front (Some xs) x y h = (y ++ h.0, h.1 ∙ append_assoc x y h.0)
 
--- And once it was taken, with the second.
+-- If bytes begin with x ++ y, then those left after x begin with y.
 begins_rest : (a b : Option (List ℕ)) (x y : List ℕ) → Begins a (x ++ y) → Consumes a b x →
     Begins b y
 begins_rest None b x y h d = absurd h
@@ -32,7 +32,7 @@ begins_rest (Some xs) None x y h d = absurd d
 begins_rest (Some xs) (Some ys) x y h d =
     (h.0, append_cancel_left x ys (y ++ h.0) (sym d ∙ (h.1 ∙ append_assoc x y h.0)))
 
--- What was taken from the bytes told and what they begin with are fronts of one list.
+-- What was taken from known bytes, and what they begin with, are fronts of one list.
 facing : (a b : Option (List ℕ)) (p q : List ℕ) → Consumes a b p → Begins a q →
     (x : List ℕ) × (y : List ℕ) × (p ++ x ≡ q ++ y)
 facing None b p q c d = absurd d
@@ -40,14 +40,14 @@ facing (Some xs) None p q c d = absurd c
 facing (Some xs) (Some ys) p q c d = (ys, d.0, sym c ∙ d.1)
 
 module _ {S : Type 0} {left : S → Option (List ℕ)} {able : S → ℕ → Type 0} where
-  -- No bytes were taken.
+  -- Taking no bytes leaves the source as it is.
   pub nothing_taken : (s : S) → Takes left able s [] s
   nothing_taken s = record {
     drops = consumes_none (left s);
     keeps = λ n h. let e : 0 + n ≡ n = omega arith in rw e at h;
   }
 
-  -- Two fronts were taken, one behind the other.
+  -- Taking x and then y is taking x ++ y.
   pub both_taken : {s t u : S} {x y : List ℕ} → Takes left able s x t → Takes left able t y u →
       Takes left able s (x ++ y) u
   both_taken {s} {t} {u} {x} {y} a b = record {
@@ -62,7 +62,7 @@ module _ {S : Type 0} {left : S → Option (List ℕ)} {able : S → ℕ → Typ
       (x : List ℕ) × (y : List ℕ) × (p ++ x ≡ q ++ y)
   faces {s} {t} {p} {q} a c = facing (left s) (left t) p q a.drops c.begins
 
-  -- Of two fronts that can be taken, the first can be.
+  -- If x ++ y can be taken, x can be.
   pub can_first : {may_leave : S → S → Type 0} → Laws left able may_leave → {s : S} (x y : List ℕ) →
       CanTake left able s (x ++ y) → CanTake left able s x
   can_first laws {s} x y c = record {
@@ -70,7 +70,7 @@ module _ {S : Type 0} {left : S → Option (List ℕ)} {able : S → ℕ → Typ
     enough = laws.fewer s (length x) (length (x ++ y)) (omega (arith, length-append x y)) c.enough;
   }
 
-  -- And once it was, the second can be.
+  -- If x ++ y can be taken and x was taken, y can be.
   pub can_second : {s t : S} (x y : List ℕ) → CanTake left able s (x ++ y) → Takes left able s x t →
       CanTake left able t y
   can_second {s} {t} x y c a = record {

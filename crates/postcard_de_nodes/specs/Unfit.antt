@@ -1,5 +1,5 @@
--- Why a single node is refused, for the nodes that aren't numbers or texts (behaviour of postcard
--- 1.1.3).
+-- Why reading a single node fails, for the nodes that aren't numbers or texts (behaviour of
+-- postcard 1.1.3).
 use Rattle.std.specs.Prelude.{◌≡◌, ℕ, ◌<◌, ◌≤◌, ◌^◌, ◌⊎◌, List, [], ◌∷◌, ◌++◌, length, Err}
 use Rattle.std.specs.Prelude.{IsUtf8}
 use Rattle.postcard_wire.specs.declared.error.Error.{Error}
@@ -19,15 +19,15 @@ use Rattle.postcard_de_nodes.specs.Refuses.{WantsDigit, BadNumber, BadText}
 abbrev pub NotABit : List ℕ → Type 0
 NotABit p = (b : ℕ) × (p ≡ b ∷ []) × (1 < b)
 
--- So it is no truth value.
+-- A byte that is neither 0 nor 1 is no boolean.
 abbrev pub BadBool : List ℕ → Error → Type 0
 BadBool p e = (e ≡ DeserializeBadBool) × NotABit p
 
--- So it begins no option.
+-- A byte that is neither 0 nor 1 begins no option.
 abbrev pub BadOption : List ℕ → Error → Type 0
 BadOption p e = (e ≡ DeserializeBadOption) × NotABit p
 
--- A digit of a character's length is wanted, or behind a length of at most 4 as many bytes.
+-- The next byte of a character's length is wanted, or, after a length n of at most 4, n bytes.
 abbrev pub WantsChar : List ℕ → ℕ → Type 0
 WantsChar p n = WantsDigit 64 p n ⊎ (SpellsNum 64 n p × (n ≤ 4))
 
@@ -35,21 +35,22 @@ WantsChar p n = WantsDigit 64 p n ⊎ (SpellsNum 64 n p × (n ≤ 4))
 abbrev pub TooLong : List ℕ → Type 0
 TooLong p = (n : ℕ) × SpellsNum 64 n p × (n < 2 ^ 64) × (4 < n)
 
--- A length of at most 4 and as many bytes were taken, which begin with no character.
+-- A length of at most 4 and that many bytes were taken, and these don't begin with a character or
+-- aren't UTF-8.
 abbrev pub NoChar : List ℕ → Type 0
 NoChar p = (q : List ℕ) × (u : List ℕ) × SpellsNum 64 (length u) q × (p ≡ q ++ u)
     × (length u ≤ 4) × ((c : ℕ) → BeginsWithChar c u → ⊥)
 
--- The length is refused, or is above 4, or the bytes behind it are no character.
+-- The length is bad or above 4, or the bytes after it are no character.
 abbrev pub BadChar : List ℕ → Error → Type 0
 BadChar p e = BadNumber 64 p e ⊎ ((e ≡ DeserializeBadChar) × (TooLong p ⊎ NoChar p))
 
--- The length of bytes is refused, or there is no memory for a copy of those behind it.
+-- The length of a byte string is bad, or there is no memory for a copy of the bytes after it.
 abbrev pub BadBytes : List ℕ → Error → Type 0
 BadBytes p e = BadNumber 64 p e ⊎ ((e ≡ OutOfMemory)
     × ((q : List ℕ) × (u : List ℕ) × SpellsNum 64 (length u) q × (p ≡ q ++ u)))
 
--- The byte 1 was taken, and what stands behind it is refused as the content.
+-- The byte 1 was taken, and reading the content after it fails with the error e.
 abbrev pub ContentRefuses : {S M O V : Type 0} → Ghosts S M O → (Tree → Type 0) →
     (Tree → V → Type 0) → Type 0 → S → Error → S → Type 0
 ContentRefuses {S} F reads value grows old e new = (mid : S) × Takes F.left F.able old (1 ∷ []) mid
@@ -60,6 +61,6 @@ abbrev pub LongText : ℕ → List ℕ → Type 0
 LongText n p = (q : List ℕ) × (u : List ℕ) × SpellsNum 64 (length u) q × (p ≡ q ++ u) × IsUtf8 u
     × (n < length u)
 
--- The bytes are refused as those of a text, or are a text of more than n bytes.
+-- The bytes are no text, or are a text of more than n bytes.
 abbrev pub BadShortText : ℕ → List ℕ → Error → Type 0
 BadShortText n p e = BadText ⊥ p e ⊎ ((e ≡ SerdeDeCustom) × LongText n p)

@@ -1,4 +1,4 @@
-//! Byte strings: a count and the bytes, lent or copied.
+//! Byte strings: a length and the bytes, lent or copied.
 
 ghost use Rattle.std.specs.Prelude.{◌≡◌, ℕ, ◌<◌, IfErr, slice_index, ⊤};
 ghost use Rattle.postcard_wire.specs.Tree.{Byte};
@@ -22,13 +22,13 @@ fn in_range(bytes: &[u8]) -> &[u8]
     bytes
 }
 
-/// Reads bytes that the source holds: their count, and the bytes (wire format 1.0, "byte array").
-/// The slice is valid as long as what the source reads from.
+/// Reads a byte string: its length as a varint, and that many bytes (wire format 1.0, "byte
+/// array"). The slice borrows from what the source borrows, and stays valid after later calls.
 ///
 /// # Errors
 ///
-/// Fails as [`numbers::count`] for the count, and with `DeserializeUnexpectedEnd` if fewer bytes
-/// are left.
+/// Fails as [`numbers::count`] if the length can't be read, and with `DeserializeUnexpectedEnd` if
+/// the source can't give that many bytes.
 pub fn bytes<'de, F: Flavor>(flavor: &mut F) -> Result<&'de [u8]>
 where
     F: 'de,
@@ -44,11 +44,13 @@ where
     Ok(bytes)
 }
 
-/// Reads bytes and copies them into a new `Vec`, once they were taken.
+/// Reads a byte string, and returns a copy of its bytes in a new `Vec`, which is allocated once the
+/// bytes were taken.
 ///
 /// # Errors
 ///
-/// As [`bytes`], and fails with `OutOfMemory` if the allocation fails.
+/// Fails as [`bytes`], and with `OutOfMemory` if the allocation fails; the length and the bytes are
+/// taken then.
 pub fn bytes_copy<F: Flavor>(alloc: Global, flavor: &mut F) -> Result<Vec<u8>>
     ensures reads { Reads F.Flavor Spells (IsSeq IsByte)
         (λ t v. ListIs (λ s b. s ≡ Byte b) t v.items) ⊤

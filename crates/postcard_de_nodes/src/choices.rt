@@ -1,4 +1,4 @@
-//! Truth values.
+//! Booleans.
 
 ghost use Rattle.std.specs.Prelude.{◌≡◌, IfErr};
 ghost use Rattle.postcard_wire.specs.Tree.{Boolean};
@@ -11,12 +11,12 @@ ghost use Rattle.postcard_de_nodes.specs.Unfit.{BadBool};
 use postcard_de_flavors::Flavor;
 use postcard_wire::{Error, Result};
 
-/// Reads a truth value: the byte 0 for `false`, or 1 for `true` (wire format 1.0, "bool").
+/// Reads a boolean: the byte 0 for `false`, or 1 for `true` (wire format 1.0, "bool").
 ///
 /// # Errors
 ///
-/// Fails with `DeserializeUnexpectedEnd` if no byte is left, and with `DeserializeBadBool` at any
-/// other byte, which is taken.
+/// Fails with `DeserializeUnexpectedEnd` if the source can't give a byte, and with
+/// `DeserializeBadBool` for any other byte, which is taken.
 pub fn boolean<F: Flavor>(flavor: &mut F) -> Result<bool>
     ensures reads { Reads F.Flavor Spells IsBoolean (λ t v. t ≡ Boolean v) ⊥
         flavor.old result flavor.new }

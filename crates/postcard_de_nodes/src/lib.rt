@@ -1,15 +1,17 @@
-//! Reading one node of a message from a source: a number, a truth value, a text, bytes.
+//! Reading one node of a message from a source: a number, a boolean, a text, a byte string.
 //!
 //! Each function takes its node from the front of what the source has left. Its contract has two
 //! clauses. `reads` says with `Reads` (`specs/Reads.antt`) that the result is the value of a front
-//! that spells such a node, that such a front is always read if the source can give it, what is
-//! left, and which errors may be returned. `refused` gives the exact reason of an error
-//! (`specs/Refuses.antt`, `specs/Unfit.antt`). A byte is read by `Flavor::pop` itself.
+//! that spells such a node, that such a front is always read if the source is able to give it and
+//! no allocation fails, what is left, and which errors may be returned. `refused` states the exact
+//! reason of an error (`specs/Refuses.antt`, `specs/Unfit.antt`). A single byte is read by
+//! `Flavor::pop` itself.
 //!
-//! The layer above is `Deserializer`, whose calls for one node are calls of these functions. They
-//! know nothing of it, nor of the types that are read.
+//! The layer above is `Deserializer`, whose calls for one node are calls of these functions. This
+//! crate depends neither on it nor on the types that are read.
 //!
-//! In reading order: [`numbers`] (the varint loop is here), [`choices`], [`texts`], [`bytes`].
+//! In reading order: [`numbers`] (the varint loop is here), [`choices`], [`texts`], [`bytes`],
+//! [`lists`].
 #![tactic(auto)]
 
 pub mod bytes;

@@ -1,4 +1,4 @@
-//! Lists whose bytes are in memory: read at once.
+//! Lists whose elements are one byte each and in memory: read at once.
 
 ghost use Rattle.std.specs.Prelude.{◌≡◌, IfErr, IfOk, IfSome, Ok, ⊤};
 ghost use Rattle.std.specs.Option.{IfNone};
@@ -12,8 +12,8 @@ use postcard_wire::{Error, Result};
 use std::alloc::Global;
 
 /// Reads the next `count` elements of a list at once, by one copy. Returns `None`, and takes
-/// nothing, if their bytes aren't in memory, or if the type is read element by element
-/// ([`Shaped::list_of_bytes`]).
+/// nothing, if `count` is 0, if the source has fewer bytes in memory ([`Flavor::at_hand`]), or if
+/// the type has to be read element by element ([`Shaped::list_of_bytes`]).
 ///
 /// # Errors
 ///
@@ -26,7 +26,7 @@ pub fn list_at_hand<T: Shaped + Drop, F: Flavor>(
     ensures reads { IfOk result (λ list. IfSome list (λ v. Reads F.Flavor SpellsAll
         (AreRead count T.shape.reads) (EachIs T.shape.value) ⊤
         flavor.old (Ok v.items) flavor.new)) }
-    ensures none { IfOk result (λ list. IfNone list (flavor.new ≡ flavor.old)) }
+    ensures unchanged_if_none { IfOk result (λ list. IfNone list (flavor.new ≡ flavor.old)) }
     ensures refused { IfErr result (λ e. (e ≡ Error.OutOfMemory) × (flavor.new ≡ flavor.old)) }
 {
     let at_hand = flavor.at_hand();

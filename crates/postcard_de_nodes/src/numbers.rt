@@ -11,13 +11,14 @@ use postcard_de_flavors::Flavor;
 use postcard_wire::digits::Digits;
 use postcard_wire::{Error, Result};
 
-/// Reads a varint of a number of `bits` bits, which is 16, 32, 64 or 128. It has at most 3, 5, 10
-/// or 19 bytes (wire format 1.0, "varint").
+/// Reads a number of `bits` bits, which must be 16, 32, 64 or 128: a varint of at most 3, 5, 10 or
+/// 19 bytes (wire format 1.0, "varint"). Padded varints are read too.
 ///
 /// # Errors
 ///
-/// Fails with `DeserializeUnexpectedEnd` if the bytes end within the varint, and with
-/// `DeserializeBadVarint` if the varint is longer or the number is greater than `bits` bits allow.
+/// Fails with `DeserializeUnexpectedEnd` if the source can't give the next byte of the varint, and
+/// with `DeserializeBadVarint` if the varint has more bytes than that or the number more than
+/// `bits` bits; the greatest number of bytes is taken then.
 #[inline(always)]
 pub fn number<F: Flavor>(flavor: &mut F, bits: u32) -> Result<u128>
     requires { IsWidth bits }
@@ -27,8 +28,9 @@ pub fn number<F: Flavor>(flavor: &mut F, bits: u32) -> Result<u128>
         flavor.old e flavor.new) }
 {
     let mut digits = Digits::new();
-    // Counted, so that the compiler unrolls it and each place is a constant. The last byte that the
-    // width allows always ends the varint, so what is after the loop is never reached.
+    // A counted loop, so that the compiler unrolls it and each place is a constant. At the last
+    // byte that the width allows, `push` returns the number or an error, so the code after the loop
+    // is never reached.
     for place in 0..(bits + 6) / 7 {
         let byte = flavor.pop()?;
         if let Some(n) = digits.push(bits, byte)? {
@@ -38,12 +40,12 @@ pub fn number<F: Flavor>(flavor: &mut F, bits: u32) -> Result<u128>
     Err(Error::DeserializeBadVarint)
 }
 
-/// Reads the count of a list or a map, or the length of a text or of bytes: a varint of 64 bits, of
-/// at most 10 bytes.
+/// Reads the number of elements of a list or of pairs of a map, or the length in bytes of a text or
+/// a byte string: a number of 64 bits, a varint of at most 10 bytes.
 ///
 /// # Errors
 ///
-/// As [`number`].
+/// Fails as [`number`] of 64 bits.
 #[inline(always)]
 pub fn count<F: Flavor>(flavor: &mut F) -> Result<usize>
     ensures reads { Reads F.Flavor (SpellsNum 64) (λ n. n < 2 ^ 64) Same ⊥

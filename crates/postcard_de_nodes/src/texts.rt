@@ -19,13 +19,14 @@ use std::str;
 /// The greatest length in bytes of a character's UTF-8.
 const LONGEST_CHAR: usize = 4;
 
-/// Reads a text, which is lent from the source: its length in bytes, and that many bytes of UTF-8
-/// (wire format 1.0, "string"). The text is valid as long as what the source reads from.
+/// Reads a text: its length in bytes as a varint, and that many bytes of UTF-8 (wire format 1.0,
+/// "string"). The text borrows from what the source borrows, and stays valid after later calls.
 ///
 /// # Errors
 ///
-/// Fails as [`numbers::count`] for the length, with `DeserializeUnexpectedEnd` if the bytes end
-/// before the text does, and with `DeserializeBadUtf8` if they aren't UTF-8, once they were taken.
+/// Fails as [`numbers::count`] if the length can't be read, with `DeserializeUnexpectedEnd` if the
+/// source can't give that many bytes, and with `DeserializeBadUtf8` if the bytes aren't UTF-8; they
+/// are taken then.
 pub fn text<'de, F: Flavor>(flavor: &mut F) -> Result<&'de str>
 where
     F: 'de,
@@ -42,11 +43,12 @@ where
     }
 }
 
-/// Reads a text and copies it into a new `String`, once its bytes were taken and found to be UTF-8.
+/// Reads a text, and returns a copy of it in a new `String`, which is allocated once the bytes were
+/// taken and found to be UTF-8.
 ///
 /// # Errors
 ///
-/// As [`text`], and fails with `OutOfMemory` if the allocation fails.
+/// Fails as [`text`], and with `OutOfMemory` if the allocation fails; the text is taken then.
 pub fn text_copy<F: Flavor>(alloc: Global, flavor: &mut F) -> Result<String>
     ensures reads { Reads F.Flavor Spells IsText (λ t v. t ≡ Text (string_bytes v)) ⊤
         flavor.old result flavor.new }
@@ -64,12 +66,12 @@ pub fn text_copy<F: Flavor>(alloc: Global, flavor: &mut F) -> Result<String>
     }
 }
 
-/// Reads a text of at most `CAP` bytes and copies it.
+/// Reads a text of at most `CAP` bytes, and returns a copy of it.
 ///
 /// # Errors
 ///
-/// As [`text`], and fails with `SerdeDeCustom` if the text is longer, once its bytes were taken and
-/// found to be UTF-8.
+/// Fails as [`text`], and with `SerdeDeCustom` if the text has more than `CAP` bytes and they are
+/// UTF-8; the text is taken then.
 pub fn short_text<F: Flavor, const CAP: usize>(flavor: &mut F) -> Result<ArrayString<CAP>>
     ensures reads { Reads F.Flavor Spells (IsShortText CAP) (λ t v. t ≡ Text v.bytes) ⊥
         flavor.old result flavor.new }
@@ -87,14 +89,15 @@ pub fn short_text<F: Flavor, const CAP: usize>(flavor: &mut F) -> Result<ArraySt
     }
 }
 
-/// Reads a character: a length of at most 4, and that many bytes of UTF-8, of which the first
-/// character is returned, as in postcard 1.1.3 (wire format 1.0, "char").
+/// Reads a character: a length of at most 4 as a varint, and that many bytes of UTF-8 (wire format
+/// 1.0, "char"). Returns the first character of these, as postcard 1.1.3 does, and ignores others.
 ///
 /// # Errors
 ///
-/// Fails as [`numbers::count`] for the length; with `DeserializeBadChar` if that is above 4, before
-/// the bytes are taken; with `DeserializeUnexpectedEnd` if the bytes end before the text does; with
-/// `DeserializeBadChar` if they aren't UTF-8, or if there are none.
+/// Fails as [`numbers::count`] if the length can't be read, and with `DeserializeBadChar` if it is
+/// above 4; only the length is taken then. Fails with `DeserializeUnexpectedEnd` if the source
+/// can't give that many bytes, and with `DeserializeBadChar` if the bytes aren't UTF-8 or the
+/// length is 0; they are taken then.
 pub fn character<F: Flavor>(flavor: &mut F) -> Result<char>
     ensures reads { Reads F.Flavor Spells IsChar (λ t v. t ≡ Char v) ⊥
         flavor.old result flavor.new }

@@ -1,7 +1,7 @@
-//! Tests of the reading half over a slice: rows worked out outside this code, and each call and
-//! each generic impl once.
+//! Tests of the reading half over a slice: rows that were worked out without this code, and each
+//! call and each generic impl once.
 //!
-//! They stand in a crate of their own, so that what they test is proved without them.
+//! They are in a crate of their own, so that the crates they test are proved without them.
 #![tactic(auto)]
 
 #[cfg(test)]

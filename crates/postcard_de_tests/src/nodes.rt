@@ -1,4 +1,4 @@
-//! What no clause says: rows from outside, and each call once.
+//! Tests of reading numbers, texts and lists: rows that were worked out without this code.
 
 use postcard_de::{Deserialize, Deserializer};
 use postcard_de_flavors::Slice;
@@ -8,13 +8,13 @@ use std::fmt::Debug;
 use std::process::Abort;
 use std::test::Fail;
 
-/// Reads a value from the front of some bytes.
+/// Reads a value from the front of the bytes.
 pub(crate) fn read<'a, T: Deserialize<'a>>(alloc: Global, bytes: &'a [u8]) -> Result<T> {
     T::deserialize(alloc, &mut Deserializer::from_bytes(bytes))
 }
 
-/// Reads a value, and once more where memory was refused: a run with `--fail-alloc N`, which
-/// refuses the Nth request alone, then ends as one without it.
+/// Reads a value, and once more if an allocation failed: a run with `--fail-alloc N`, in which only
+/// the Nth allocation fails, then ends as a run without it.
 pub(crate) fn read_in_two_tries<'a, T: Deserialize<'a>>(
     alloc: Global,
     bytes: &'a [u8],
@@ -25,7 +25,7 @@ pub(crate) fn read_in_two_tries<'a, T: Deserialize<'a>>(
     }
 }
 
-/// Each row's bytes read as its value, or refused by its error.
+/// Asserts that each row's bytes are read as the row's value, or that this fails with its error.
 pub(crate) fn check<'a, T: Deserialize<'a> + PartialEq + Debug>(
     rt: &impl Abort,
     alloc: Global,

@@ -1,4 +1,5 @@
-//! What no clause says: rows from outside, and each generic impl once.
+//! Tests of `DeserializeOwned`: rows that were worked out without this code, and each generic impl
+//! once.
 
 use arrayvec::{ArrayString, ArrayVec};
 use postcard_de::{Deserialize, DeserializeOwned, Deserializer, Error, Owned, Result};
@@ -16,16 +17,16 @@ use std::rc::Rc;
 use std::test::Fail;
 use std::time::Duration;
 
-/// The spelling of 2^64 - 1.
+/// The varint of 2^64 - 1.
 const GREATEST: [u8; 10] = [0xFF, 0xFF, 0xFF, 0xFF, 0xFF, 0xFF, 0xFF, 0xFF, 0xFF, 0x01];
 
-/// Reads a value from the front of some bytes.
+/// Reads a value from the front of the bytes.
 fn read<T: DeserializeOwned>(alloc: Global, bytes: &[u8]) -> Result<T> {
     T::deserialize_owned(alloc, &mut Deserializer::from_bytes(bytes))
 }
 
-/// Reads a value, and once more where memory was refused: a run with `--fail-alloc N`, which
-/// refuses the Nth request alone, then ends as one without it.
+/// Reads a value, and once more if an allocation failed: a run with `--fail-alloc N`, in which only
+/// the Nth allocation fails, then ends as a run without it.
 fn read_in_two_tries<T: DeserializeOwned>(alloc: Global, bytes: &[u8]) -> Result<T> {
     match read(alloc, bytes) {
         Err(Error::OutOfMemory) => read(alloc, bytes),
@@ -33,7 +34,7 @@ fn read_in_two_tries<T: DeserializeOwned>(alloc: Global, bytes: &[u8]) -> Result
     }
 }
 
-/// Bytes are read as this value, and no bytes are refused.
+/// Asserts that the bytes are read as this value, and that reading from no bytes fails.
 fn check_value<T: DeserializeOwned + PartialEq + Debug>(
     rt: &impl Abort,
     alloc: Global,
@@ -47,7 +48,7 @@ fn check_value<T: DeserializeOwned + PartialEq + Debug>(
     );
 }
 
-/// Bytes are read as this number, and the byte 0 is refused.
+/// Asserts that the bytes are read as this number, and that the byte 0 is refused.
 fn check_nonzero<T: DeserializeOwned + PartialEq + Debug>(
     rt: &impl Abort,
     alloc: Global,
@@ -58,7 +59,7 @@ fn check_nonzero<T: DeserializeOwned + PartialEq + Debug>(
     assert_eq!(rt; read::<T>(alloc, &[0x00]).err(), Some(Error::SerdeDeCustom));
 }
 
-/// Each row's bytes read as its value, or refused by its error.
+/// Asserts that each row's bytes are read as the row's value, or that this fails with its error.
 fn check<T: DeserializeOwned + PartialEq + Debug>(
     rt: &impl Abort,
     alloc: Global,
@@ -223,7 +224,7 @@ fn reads_into_fixed_room(rt: HostRuntime) -> std::result::Result<(), Fail> {
     Ok(())
 }
 
-/// Reads by `Deserialize`, in at most two tries.
+/// Reads a value by `Owned`'s `Deserialize`, and once more if an allocation failed.
 fn lead_back<T: DeserializeOwned>(alloc: Global, bytes: &[u8]) -> Result<Owned<T>> {
     match Owned::deserialize(alloc, &mut Deserializer::from_bytes(bytes)) {
         Err(Error::OutOfMemory) => {

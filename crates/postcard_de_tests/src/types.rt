@@ -1,4 +1,5 @@
-//! What no clause says of the other types and calls: rows from outside, and each call once.
+//! Tests of the other types and calls: rows that were worked out without this code, and each call
+//! once.
 
 use crate::nodes::{check, read, read_in_two_tries};
 use arrayvec::{ArrayString, ArrayVec};
@@ -19,7 +20,7 @@ use std::rc::Rc;
 use std::test::Fail;
 use std::time::Duration;
 
-/// The spelling of 2^64 - 1.
+/// The varint of 2^64 - 1.
 const GREATEST: [u8; 10] = [0xFF, 0xFF, 0xFF, 0xFF, 0xFF, 0xFF, 0xFF, 0xFF, 0xFF, 0x01];
 
 #[test]
@@ -86,7 +87,7 @@ fn reads_other_numbers(rt: HostRuntime) {
     check(&rt, alloc, &[(&[0x07], Ok(Wrapping(7u8)))]);
 }
 
-/// Bytes are read as this number, and the byte 0 is refused.
+/// Asserts that the bytes are read as this number, and that the byte 0 is refused.
 fn check_nonzero<'a, T: Deserialize<'a> + PartialEq + Debug>(
     rt: &impl Abort,
     alloc: Global,
@@ -207,7 +208,7 @@ fn reads_parts_in_a_row(rt: HostRuntime) {
     );
 }
 
-/// Copies the bytes that stand in front.
+/// Reads a list of bytes from the front of `bytes`, as a vector.
 fn copy_bytes(alloc: Global, bytes: &[u8]) -> postcard_wire::Result<Vec<u8>> {
     Deserializer::from_bytes(bytes).deserialize_byte_buf(alloc)
 }
@@ -291,8 +292,8 @@ fn reads_maps(rt: HostRuntime) -> Result<(), Fail> {
     Ok(())
 }
 
-/// A count that was announced asks for no memory: these answer the same where the first request is
-/// refused.
+/// An announced count requests no memory, so these results are the same if the first allocation
+/// fails.
 #[test]
 fn asks_for_what_was_read_alone(rt: HostRuntime) {
     let alloc = rt.alloc();

@@ -1,4 +1,4 @@
--- Values that are read part by part: a count, the parts of a group, an option, the variant at an index.
+-- Lemmas on values that are read part by part: a count, elements, the parts of a group, an option.
 use Rattle.std.proofs.Common.{◌≡◌, ℕ, List, [], ◌∷◌, ◌++◌, map, Option, Ok, Err, Result, refl, sym, ◌∙◌, ap, ap₂, subst, arith, inl, inr, append_assoc, append-nil}
 use Rattle.std.specs.Prelude.{⊤}
 use Rattle.postcard_wire.specs.declared.error.Error.{Error}
@@ -16,18 +16,18 @@ use Rattle.postcard_dyn_schema.specs.Meaning.{MessageType, MessageTypes, no_type
 use Rattle.postcard_dyn.specs.declared.value.Value.{Value}
 use Rattle.postcard_dyn.specs.Tree.{tree, IsTree}
 
--- Trees of values, one each, are those of the list.
+-- If each tree is that of its value, the trees are those of the list of values.
 pub each_tree : (ts : Trees) (vs : List Value) → EachIs IsTree ts vs → ts ≡ trees (map tree vs)
 each_tree NoTrees [] h = refl
 each_tree NoTrees (v ∷ vs) h = absurd h
 each_tree (Then t ts) [] h = absurd h
 each_tree (Then t ts) (v ∷ vs) h = ap₂ Then h.0 (each_tree ts vs h.1)
 
--- A list of values is the list of their trees.
+-- The tree of a list of values is the list of their trees.
 pub list_tree : (t : Tree) (vs : List Value) → ListIs IsTree t vs → t ≡ Seq (trees (map tree vs))
 list_tree t vs h = h.1 ∙ ap Seq (each_tree h.0 vs h.2)
 
--- Bytes that were read as the elements of a list are its trees.
+-- If each tree is that of its byte, the trees are those of the list of bytes.
 pub each_byte : (ts : Trees) (bs : List ℕ) → EachIs (λ s b. s ≡ Byte b) ts bs → ts ≡ trees (map Byte bs)
 each_byte NoTrees [] h = refl
 each_byte NoTrees (b ∷ bs) h = absurd h
@@ -37,55 +37,55 @@ each_byte (Then t ts) (b ∷ bs) h = ap₂ Then h.0 (each_byte ts bs h.1)
 pub bytes_tree : (t : Tree) (bs : List ℕ) → ListIs (λ s b. s ≡ Byte b) t bs → t ≡ Seq (trees (map Byte bs))
 bytes_tree t bs h = h.1 ∙ ap Seq (each_byte h.0 bs h.2)
 
--- The number of a number's tree.
+-- Equal trees of numbers have equal numbers.
 num_same : (w n m : ℕ) → Num w n ≡ Num w m → n ≡ m
 num_same w n m e = cc
 
 module _ {S : Type 0} {left : S → Option (List ℕ)} {able : S → ℕ → Type 0} {may_leave : S → S → Type 0} where
-  -- A number of 64 bits was read, as a count.
+  -- Reading a number of 64 bits reads a count.
   pub as_count : {old new : S} {n : ℕ} → ReadsFrom Spells (IsNum 64) (λ t v. t ≡ Num 64 v) ⊥ left able may_leave old (Ok n) new → ReadsFrom (SpellsNum 64) (Below 64) Same ⊥ left able may_leave old (Ok n) new
   as_count {n = n} r = let g = r.gives in record {
     gives = record { thing = g.is_read.0; front = g.front; is_read = g.is_read.2; is_spelled = rw g.is_read.1 at g.is_spelled; has = num_same 64 g.is_read.0 n (sym g.is_read.1 ∙ g.has); taken = g.taken };
     accepts = λ m p a b c. let k = r.accepts (Num 64 m) p (m, refl, a) b c in (num_same 64 m n k.0, k.1);
     leaves = r.leaves;
-    names = tt;
+    named_error = tt;
   }
 
-  -- It was refused.
+  -- If reading a number of 64 bits fails, reading a count fails.
   pub no_count : {W : Type 0} {I : Tree → W → Type 0} {old new : S} {e : Error} → ReadsFrom Spells (IsNum 64) I ⊥ left able may_leave old (refusal W e) new → ReadsFrom (SpellsNum 64) (Below 64) Same ⊥ left able may_leave old (refusal ℕ e) new
   no_count r = record {
     gives = tt;
     accepts = λ m p a b c. r.accepts (Num 64 m) p (m, refl, a) b c;
     leaves = r.leaves;
-    names = r.names;
+    named_error = r.named_error;
   }
 
-  -- The elements of an array were read.
+  -- Reading the elements of an array reads the array.
   pub array_read : {R : Tree → Type 0} {n : ℕ} {old new : S} {vs : List Value} (v : Value) → tree v ≡ Group (trees (map tree vs)) →
       ReadsFrom SpellsAll (AreRead n R) (EachIs IsTree) ⊤ left able may_leave old (Ok vs) new → ReadsFrom Spells (IsArray n R) IsTree ⊤ left able may_leave old (Ok v) new
   array_read {vs = vs} v seen r = let g = r.gives in record {
     gives = record { thing = Group g.thing; front = g.front; is_read = (g.thing, refl, g.is_read.0, g.is_read.1); is_spelled = g.is_spelled; has = ap Group (each_tree g.thing vs g.has) ∙ sym seen; taken = g.taken };
     accepts = λ t p a b c. let k = r.accepts a.0 p (a.2, a.3) (rw a.1 at b) c in (a.1 ∙ (ap Group (each_tree a.0 vs k.0) ∙ sym seen), k.1);
     leaves = r.leaves;
-    names = tt;
+    named_error = tt;
   }
 
-  -- They refuse.
+  -- If an element is refused, the array is refused.
   pub array_refused : {R : Tree → Type 0} {n : ℕ} {old new : S} {e : Error} →
       ReadsFrom SpellsAll (AreRead n R) (EachIs IsTree) ⊤ left able may_leave old (refusal (List Value) e) new → ReadsFrom Spells (IsArray n R) IsTree ⊤ left able may_leave old (refusal Value e) new
   array_refused r = record {
     gives = tt;
     accepts = λ t p a b c. r.accepts a.0 p (a.2, a.3) (rw a.1 at b) c;
     leaves = r.leaves;
-    names = r.names;
+    named_error = r.named_error;
   }
 
--- What reading the parts that are left would give is what reading all gives.
+-- The result of reading the parts that are left is the result of reading all parts.
 pub record GoingParts {S : Type 0} (left : S → Option (List ℕ)) (able : S → ℕ → Type 0) (may_leave : S → S → Type 0) (start : S) (all : MessageTypes) (items : List Value) (now : S) (rest : MessageTypes) : Type 0 where
   pub ends : (r : Result (List Value) Error) (new : S) → ReadsFrom SpellsAll (reads_all rest) (EachIs IsTree) ⊤ left able may_leave now r new → ReadsFrom SpellsAll (reads_all all) (EachIs IsTree) ⊤ left able may_leave start (behind items r) new
 
 module _ {S : Type 0} {left : S → Option (List ℕ)} {able : S → ℕ → Type 0} {may_leave : S → S → Type 0} (laws : Laws left able may_leave) where
-  -- None was read yet.
+  -- It holds before the first part is read.
   pub parts_begin : {start : S} {all : MessageTypes} → GoingParts left able may_leave start all [] start all
   parts_begin {start} {all} = record { ends = ends }
     where
@@ -93,7 +93,7 @@ module _ {S : Type 0} {left : S → Option (List ℕ)} {able : S → ℕ → Typ
       ends (Ok vs) new h = h
       ends (Err e) new h = h
 
-  -- One more was read.
+  -- It holds after one more part is read.
   pub part_read : {start now mid : S} {all : MessageTypes} {t : MessageType} {rest : MessageTypes} {items : List Value} {v : Value} → GoingParts left able may_leave start all items now (then_type t rest) →
       ReadsFrom Spells (reads t) IsTree ⊤ left able may_leave now (Ok v) mid → GoingParts left able may_leave start all (items ++ v ∷ []) mid rest
   part_read {start = start} {mid = mid} {all = all} {t = t} {rest = rest} {items = items} {v = v} so h = record { ends = ends }
@@ -102,51 +102,51 @@ module _ {S : Type 0} {left : S → Option (List ℕ)} {able : S → ℕ → Typ
       ends (Ok vs) new k = rw (append_assoc items (v ∷ []) vs) (so.ends (Ok (v ∷ vs)) new (both_read laws (part_and_rest (reads t) IsTree (reads_all rest)) (λ t ts i j. (i, j)) h k))
       ends (Err e) new k = so.ends (Err e) new (second_refused laws (part_and_rest (reads t) IsTree (reads_all rest)) (λ g. g) h k)
 
-  -- The next one refuses.
+  -- If the next part is refused, reading all parts fails with its error.
   pub part_stops : {start now new : S} {all : MessageTypes} {t : MessageType} {rest : MessageTypes} {items : List Value} {e : Error} → GoingParts left able may_leave start all items now (then_type t rest) →
       ReadsFrom Spells (reads t) IsTree ⊤ left able may_leave now (refusal Value e) new → ReadsFrom SpellsAll (reads_all all) (EachIs IsTree) ⊤ left able may_leave start (refusal (List Value) e) new
   part_stops {new = new} {t = t} {rest = rest} {e = e} so h = so.ends (Err e) new (first_refused laws (part_and_rest (reads t) IsTree (reads_all rest)) (λ g. g) h)
 
-  -- Memory ran out.
+  -- If an allocation fails, reading all parts fails with `OutOfMemory`.
   pub parts_full : {start now new : S} {all rest : MessageTypes} {items : List Value} → GoingParts left able may_leave start all items now rest → may_leave now new →
       ReadsFrom SpellsAll (reads_all all) (EachIs IsTree) ⊤ left able may_leave start (refusal (List Value) OutOfMemory) new
   parts_full {new = new} so l = so.ends (Err OutOfMemory) new (out_of_memory l tt)
 
-  -- None is left.
+  -- If no part is left, all parts are read.
   pub parts_done : {start now : S} {all : MessageTypes} {items : List Value} → GoingParts left able may_leave start all items now no_types →
       ReadsFrom SpellsAll (reads_all all) (EachIs IsTree) ⊤ left able may_leave start (Ok items) now
   parts_done {now = now} so = rw append-nil at (so.ends (Ok []) now (record {
     gives = record { thing = NoTrees; front = []; is_read = refl; is_spelled = refl; has = tt; taken = nothing_taken now };
     accepts = λ ts p a b c. (rw a tt, let k : SpellsAll NoTrees p = rw a at b in rw k (nothing_taken now));
     leaves = laws.itself now;
-    names = tt;
+    named_error = tt;
   }))
 
-  -- All parts of a group were read.
+  -- Reading all parts of a group reads the group.
   pub group_read : (ts : MessageTypes) {old new : S} {vs : List Value} (v : Value) → tree v ≡ Group (trees (map tree vs)) →
       ReadsFrom SpellsAll (reads_all ts) (EachIs IsTree) ⊤ left able may_leave old (Ok vs) new → ReadsFrom Spells (IsGroup (reads_all ts)) IsTree ⊤ left able may_leave old (Ok v) new
   group_read ts {vs = vs} v seen r = let g = r.gives in record {
     gives = record { thing = Group g.thing; front = g.front; is_read = (g.thing, refl, g.is_read); is_spelled = g.is_spelled; has = ap Group (each_tree g.thing vs g.has) ∙ sym seen; taken = g.taken };
     accepts = λ t p a b c. let k = r.accepts a.0 p a.2 (rw a.1 at b) c in (a.1 ∙ (ap Group (each_tree a.0 vs k.0) ∙ sym seen), k.1);
     leaves = r.leaves;
-    names = tt;
+    named_error = tt;
   }
 
-  -- The parts refuse.
+  -- If its parts are refused, a group is refused.
   pub group_refused : (ts : MessageTypes) {old new : S} {e : Error} →
       ReadsFrom SpellsAll (reads_all ts) (EachIs IsTree) ⊤ left able may_leave old (refusal (List Value) e) new → ReadsFrom Spells (IsGroup (reads_all ts)) IsTree ⊤ left able may_leave old (refusal Value e) new
   group_refused ts r = record {
     gives = tt;
     accepts = λ t p a b c. r.accepts a.0 p a.2 (rw a.1 at b) c;
     leaves = r.leaves;
-    names = r.names;
+    named_error = r.named_error;
   }
 
 first_byte : (b c : ℕ) (q y z : List ℕ) → (b ∷ []) ++ y ≡ (c ∷ q) ++ z → b ≡ c
 first_byte b c q y z e = cc
 
 module _ {S : Type 0} {left : S → Option (List ℕ)} {able : S → ℕ → Type 0} {may_leave : S → S → Type 0} where
-  -- The byte 1 was read, so it was taken.
+  -- If a byte was read and is 1, the byte 1 was taken.
   pub one_taken : {old mid : S} {b : ℕ} → ReadsFrom Spells IsByte (λ t v. t ≡ Byte v) ⊥ left able may_leave old (Ok b) mid → b ≡ 1 → Takes left able old (1 ∷ []) mid
   one_taken {old = old} {mid = mid} {b = b} r e =
       let g = r.gives in
@@ -154,20 +154,20 @@ module _ {S : Type 0} {left : S → Option (List ℕ)} {able : S → ℕ → Typ
       subst (λ (l : List ℕ). Takes left able old l mid) (s ∙ ap (λ (n : ℕ). n ∷ []) e) g.taken
 
 module _ {S : Type 0} {left : S → Option (List ℕ)} {able : S → ℕ → Type 0} {may_leave : S → S → Type 0} (laws : Laws left able may_leave) {old mid : S} (t : Takes left able old (1 ∷ []) mid) (l : may_leave old mid) where
-  -- No front of the byte 0 stands where the byte 1 was taken.
+  -- If the byte 1 was taken, the byte 0 could not have been taken.
   not_absent : (p : List ℕ) → p ≡ 0 ∷ [] → CanTake left able old p → ⊥
   not_absent p k c =
       let f = faces t c in
       let d : 1 ≡ 0 = first_byte 1 0 [] f.0 f.1 (f.2 ∙ ap (λ (l : List ℕ). l ++ f.1) k) in
       absurd (omega (arith, d))
 
-  -- The byte 1 was taken, and the content refuses.
+  -- If the byte 1 was taken and the content is refused, the option is refused.
   pub some_stops : {R : Tree → Type 0} {new : S} {e : Error} → ReadsFrom Spells R IsTree ⊤ left able may_leave mid (refusal Value e) new → ReadsFrom Spells (IsOption R) IsTree ⊤ left able may_leave old (refusal Value e) new
   some_stops {R = R} {new = new} {e = e} r = record {
     gives = tt;
     accepts = accepts;
     leaves = laws.joins old mid new l r.leaves;
-    names = r.names;
+    named_error = r.named_error;
   }
     where
       accepts : (x : Tree) (p : List ℕ) → IsOption R x → Spells x p → CanTake left able old p → e ≡ OutOfMemory
@@ -177,7 +177,7 @@ module _ {S : Type 0} {left : S → Option (List ℕ)} {able : S → ℕ → Typ
           let j : p ≡ (1 ∷ []) ++ k.1 = k.4 ∙ ap (λ (l : List ℕ). l ++ k.1) k.2 in
           r.accepts a.0 k.1 a.2 k.3 (can_second (1 ∷ []) k.1 (rw j at c) t)
 
-  -- The byte 1 was taken, and the content read.
+  -- If the byte 1 was taken and the content was read, the option was read.
   pub some_read : {R : Tree → Type 0} {new : S} {u : Value} (v : Value) → tree v ≡ nodes.Present (tree u) → ReadsFrom Spells R IsTree ⊤ left able may_leave mid (Ok u) new → ReadsFrom Spells (IsOption R) IsTree ⊤ left able may_leave old (Ok v) new
   some_read {R = R} {new = new} {u = u} v seen r = let g = r.gives in record {
     gives = record {
@@ -190,7 +190,7 @@ module _ {S : Type 0} {left : S → Option (List ℕ)} {able : S → ℕ → Typ
     };
     accepts = accepts;
     leaves = laws.joins old mid new l r.leaves;
-    names = tt;
+    named_error = tt;
   }
     where
       accepts : (x : Tree) (p : List ℕ) → IsOption R x → Spells x p → CanTake left able old p → IsTree x v × Takes left able old p new

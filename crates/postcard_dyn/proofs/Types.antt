@@ -1,4 +1,4 @@
--- What holds of every type: no message begins another, and each tree is well formed.
+-- Laws of every type: its encodings are prefix-free, and its trees are well formed.
 use Rattle.std.proofs.Common.{ℕ, zero, suc, inl, inr, refl}
 use Rattle.postcard_wire.specs.Reading.{IsDelimited, AreDelimited, ReadsWellFormed, PartsWellFormed}
 use Rattle.postcard.specs.Lemmas as lemmas

@@ -6,7 +6,8 @@ use Rattle.postcard_wire.specs.Tree as nodes
 use Rattle.postcard_dyn.specs.declared.value.Value.{Value, fold-Value}
 use Rattle.postcard_dyn.specs.declared.value.Value.TheOpen.{Value-F}
 
--- One level, with the tree of each value inside. An `i8` is a byte in two's complement, bytes are a list of them.
+-- One step of the fold `tree`: the tree of a value whose parts are already trees. An `i8` is a byte in two's
+-- complement, and a byte string is a list of bytes.
 abbrev pub tree_step : Value-F Tree → Tree
 tree_step (Value-F.Bool x) = Boolean x
 tree_step (Value-F.U8 n) = Byte n
@@ -28,10 +29,10 @@ tree_step (Value-F.Seq v) = nodes.Seq (trees v.items)
 tree_step (Value-F.Group v) = nodes.Group (trees v.items)
 tree_step (Value-F.Variant i t) = nodes.Variant i (box_value t)
 
--- The tree that a value is written as.
+-- The tree of a value, as which it is written.
 abbrev pub tree : Value → Tree
 tree = fold-Value Tree tree_step
 
--- A value of a tree: one that is written as it.
+-- The value has this tree.
 abbrev pub IsTree : Tree → Value → Type 0
 IsTree t v = t ≡ tree v

@@ -1,10 +1,10 @@
-//! Whole messages: decoding from a slice of bytes, and encoding into a flavor.
+//! Calls for whole messages: decoding from a slice of bytes, and encoding into a flavor.
 
 ghost use Rattle.std.specs.Prelude.{◌≡◌, ℕ, List, ◌++◌, IfOk, IfErr, IsOk, MatchResult, ⊤};
 ghost use Rattle.postcard_wire.specs.Tree.{Tree};
-ghost use Rattle.postcard_wire.specs.Spelling.{Spells, bytes as canonical};
-ghost use Rattle.postcard_ser.specs.Writing.{AnswersRefusal};
-ghost use Rattle.postcard_de.specs.Reads.{MayAnswer};
+ghost use Rattle.postcard_wire.specs.Spelling.{Spells, canonical};
+ghost use Rattle.postcard_ser.specs.Writing.{IsWriteError};
+ghost use Rattle.postcard_de.specs.Reads.{IsReadError};
 ghost use Rattle.postcard_frame.specs.Front.{ReadsFront};
 ghost use Rattle.postcard.specs.Finished.{Finished};
 ghost use Rattle.postcard_dyn_schema.specs.Meaning.{type_of, reads};
@@ -23,13 +23,13 @@ use std::alloc::Global;
 /// Decodes a value of the schema from the front of some bytes, and returns it with the bytes after
 /// that front.
 ///
-/// It succeeds exactly if a front spells a tree of the schema, padded numbers included, unless an
-/// allocation fails; there is one such front at most. The encoding of a value of the schema,
-/// whatever follows it, gives a value of the same tree.
+/// It succeeds exactly if a front of the bytes spells a tree of the schema, padded numbers
+/// included, unless an allocation fails. There is at most one such front. If the bytes begin with
+/// the encoding of a value of the schema, a value with the same tree is returned, whatever follows.
 ///
 /// # Errors
 ///
-/// As [`read_value`].
+/// Fails as [`read_value`] does.
 pub fn take_from_bytes<'a>(
     alloc: Global,
     schema: &Schema,
@@ -45,7 +45,7 @@ pub fn take_from_bytes<'a>(
         → reads (type_of schema.now) (tree v) → bytes.now ≡ canonical (tree v) ++ rest →
         MatchResult result (λ read. (tree v ≡ tree read.0) × (read.1.now ≡ rest))
         (λ e. e ≡ Error.OutOfMemory) }
-    ensures names { IfErr result (MayAnswer ⊤) }
+    ensures named_error { IfErr result (IsReadError ⊤) }
 {
     let mut deserializer = Deserializer::from_bytes(bytes);
     let value = read_value(alloc, schema, &mut deserializer)?;
@@ -53,17 +53,17 @@ pub fn take_from_bytes<'a>(
     Ok((value, rest))
 }
 
-/// Encodes a value into a flavor, ends the flavor, and returns its output: the canonical encoding of
-/// the value's tree, as the flavor keeps it.
+/// Encodes a value into a flavor, ends the flavor, and returns its output: the canonical encoding
+/// of the value's tree, in the form that the flavor makes of it.
 ///
 /// # Errors
 ///
-/// Fails with `SerializeBufferFull` if the flavor refuses a piece or its end. The flavor is then
-/// dropped.
+/// Fails with `SerializeBufferFull` if the flavor refuses bytes or can't end. The flavor is then
+/// dropped. It doesn't fail if the flavor has room for the whole encoding.
 pub fn to_flavor<S: Flavor<Output = O> + Drop, O>(value: &Value, storage: S) -> Result<O>
     ensures gives { IfOk result (Finished S.Flavor storage (canonical (tree value.now))) }
     ensures has_room { S.room storage (canonical (tree value.now)) → IsOk result }
-    ensures names { IfErr result (λ e. e ≡ Error.SerializeBufferFull) }
+    ensures named_error { IfErr result (λ e. e ≡ Error.SerializeBufferFull) }
 {
     let mut serializer = Serializer { output: storage };
     write_value(value, &mut serializer)?;

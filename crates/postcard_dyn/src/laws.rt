@@ -1,10 +1,10 @@
-//! What holds of every type that is given at run time, as contracts of functions that do nothing.
+//! Laws of every type that is known only at run time, as contracts of functions that do nothing.
 
 ghost use Rattle.postcard_wire.specs.Reading.{IsDelimited, ReadsWellFormed};
 ghost use Rattle.postcard_dyn_schema.specs.Meaning.{MessageType, reads};
 
-/// The encodings of each type are prefix-free: of two fronts of the same bytes that spell trees of
-/// the type, one is not longer than the other, and the trees are the same.
+/// The encodings of each type are prefix-free: if two fronts of the same bytes spell trees of the
+/// type, they are the same front, and the trees are the same.
 pub fn prefix_free()
     ensures { (t : MessageType) → IsDelimited (reads t) }
 {}

@@ -1,8 +1,8 @@
-//! Messages of a type that is given at run time, as a [`Schema`].
+//! Messages of a type that is known only at run time, as a [`Schema`].
 //!
-//! [`read_value`] reads a [`Value`] of a schema from any source, and [`write_value`] writes one into
-//! any flavor; [`take_from_bytes`] and [`to_flavor`] do so from end to end. [`laws`] says that the
-//! encodings of each schema are prefix-free.
+//! [`read_value`] reads a [`Value`] of a schema from any source, and [`write_value`] writes one
+//! into any flavor. [`take_from_bytes`] decodes a value from a slice, and [`to_flavor`] encodes one
+//! and returns the flavor's output. By the [`laws`], the encodings of each schema are prefix-free.
 #![tactic(auto)]
 
 pub mod calls;

@@ -1,4 +1,4 @@
-//! Where in a message a part was refused.
+//! The place in a message where reading fails: [`refused_at`].
 
 ghost use Rattle.std.specs.Prelude.{◌≡◌, ◌≤◌, length, IfOk, IfErr};
 
@@ -7,10 +7,12 @@ use postcard_dyn_schema::Schema;
 use postcard_wire::{Error, Result};
 use std::alloc::Global;
 
-/// Returns the offset in bytes of the part that [`take_from_bytes`] refuses: of the leaf, the option's
-/// byte, the count or the index that it can't read.
+/// Returns the offset in bytes of the part at which [`take_from_bytes`] fails: a value without
+/// parts, the first byte of an option, the count of a list or a map, or the index of an enum's
+/// variant.
 ///
-/// The bytes are such that `take_from_bytes` fails with another error than `OutOfMemory`.
+/// The caller must know that `take_from_bytes` fails on these bytes, and not with `OutOfMemory`;
+/// this is not checked. In any case the offset is at most the number of bytes.
 ///
 /// # Errors
 ///
@@ -35,7 +37,8 @@ pub fn refused_at(alloc: Global, schema: &Schema, bytes: &[u8]) -> Result<usize>
     }
 }
 
-/// Returns the offset of what is refused of a list.
+/// Returns the offset of the refused part in the bytes of a list: the count, or a part of an
+/// element.
 #[cycle(locate)]
 fn refused_behind_count(alloc: Global, element: &Schema, bytes: &[u8]) -> Result<usize>
     ensures within { IfOk result (λ place. place ≤ length bytes.now) }
@@ -50,7 +53,7 @@ fn refused_behind_count(alloc: Global, element: &Schema, bytes: &[u8]) -> Result
     }
 }
 
-/// Returns the offset of what is refused of elements in a row.
+/// Returns the offset of the refused part in the bytes of elements in a row.
 #[cycle(locate)]
 fn refused_element(alloc: Global, element: &Schema, bytes: &[u8]) -> Result<usize>
     ensures within { IfOk result (λ place. place ≤ length bytes.now) }
@@ -70,7 +73,7 @@ fn refused_element(alloc: Global, element: &Schema, bytes: &[u8]) -> Result<usiz
     Ok(bytes.len())
 }
 
-/// Returns the offset of what is refused of parts in a row.
+/// Returns the offset of the refused part in the bytes of a group.
 #[cycle(locate)]
 fn refused_part(alloc: Global, parts: &Vec<Schema>, bytes: &[u8]) -> Result<usize>
     ensures within { IfOk result (λ place. place ≤ length bytes.now) }
@@ -90,7 +93,8 @@ fn refused_part(alloc: Global, parts: &Vec<Schema>, bytes: &[u8]) -> Result<usiz
     Ok(bytes.len())
 }
 
-/// Returns the offset of what is refused of an enum.
+/// Returns the offset of the refused part in the bytes of an enum: the index, or a part of the
+/// content.
 #[cycle(locate)]
 fn refused_content(alloc: Global, variants: &Vec<Schema>, bytes: &[u8]) -> Result<usize>
     ensures within { IfOk result (λ place. place ≤ length bytes.now) }
@@ -108,7 +112,7 @@ fn refused_content(alloc: Global, variants: &Vec<Schema>, bytes: &[u8]) -> Resul
     }
 }
 
-/// Returns an offset within the end `rest` of some bytes as one within all of them.
+/// Converts an offset in `rest`, the last of the bytes, to an offset in all of them.
 fn behind(bytes: &[u8], rest: &[u8], offset: usize) -> usize
     ensures { result ≤ length bytes.now }
 {

@@ -1,4 +1,4 @@
-//! Reading a value of a schema.
+//! Reading a value of a schema from a source: [`read_value`].
 
 ghost use Rattle.std.specs.Prelude.{⊤};
 ghost use Rattle.postcard_wire.specs.Spelling.{Spells};
@@ -14,14 +14,16 @@ use postcard_de::{Deserializer, Error, Flavor, Result};
 use postcard_dyn_schema::{Leaf, Schema};
 use std::alloc::Global;
 
-/// Reads a value of the schema from the front of what is left, as `Deserialize::deserialize` does
-/// for a type that is known.
+/// Reads a value of the schema from the front of the bytes that are left in the source, as
+/// `Deserialize::deserialize` does for a type of the program.
 ///
 /// # Errors
 ///
-/// Fails with the error of the first part that refuses: `DeserializeUnexpectedEnd` if the bytes end,
-/// an error of the `deserialize_*` calls, or `SerdeDeCustom` for an index without a variant. Fails
-/// with `OutOfMemory` if an allocation fails. No memory is asked for by an announced length.
+/// Fails with the error of the first part that can't be read: with `DeserializeUnexpectedEnd` if
+/// the bytes end in it, with an error of the `deserialize_*` calls of [`Deserializer`], with
+/// `DeserializeBadOption` if the first byte of an option is neither 0 nor 1, or with
+/// `SerdeDeCustom` if an index has no variant. Fails with `OutOfMemory` if an allocation fails. A
+/// count or a length in the message alone never decides how much memory is requested.
 #[cycle(read)]
 pub fn read_value<'de, F: Flavor>(
     alloc: Global,
@@ -43,7 +45,7 @@ pub fn read_value<'de, F: Flavor>(
     }
 }
 
-/// Reads an option: a byte, and after the byte 1 its content.
+/// Reads an option: the byte 0, or the byte 1 and then the content.
 #[cycle(read)]
 fn read_option<'de, F: Flavor>(
     alloc: Global,
@@ -66,7 +68,7 @@ fn read_option<'de, F: Flavor>(
     }
 }
 
-/// Reads a list: its count, and that many elements.
+/// Reads a list or a map: the number of its elements, and then the elements.
 #[cycle(read)]
 fn read_list<'de, F: Flavor>(
     alloc: Global,
@@ -87,7 +89,7 @@ fn read_list<'de, F: Flavor>(
     Ok(Value::Seq(items))
 }
 
-/// Reads an array: its elements, without a count.
+/// Reads an array: its `count` elements. The message has no count.
 #[cycle(read)]
 fn read_array<'de, F: Flavor>(
     alloc: Global,
@@ -108,7 +110,7 @@ fn read_array<'de, F: Flavor>(
     Ok(Value::Group(items))
 }
 
-/// Reads a value of each of the types, in order.
+/// Reads a tuple or a struct: a value of each of the types, in order.
 #[cycle(read)]
 fn read_group<'de, F: Flavor>(
     alloc: Global,
@@ -128,7 +130,7 @@ fn read_group<'de, F: Flavor>(
     Ok(Value::Group(items))
 }
 
-/// Reads an enum: the index of a variant, and its content.
+/// Reads an enum: the index of a variant, and then the variant's content.
 #[cycle(read)]
 fn read_variant<'de, F: Flavor>(
     alloc: Global,

@@ -1,11 +1,11 @@
-//! Messages from end to end.
+//! Tests of whole messages.
 
 use crate::{parse, take_from_bytes, to_flavor};
 use postcard::ser_flavors::AllocVec;
 use std::process::Abort;
 use std::test::Fail;
 
-/// Expressions, and bytes of a value that are read and written again.
+/// Type expressions, each beside a message. It is read, and written again as the same bytes.
 #[test]
 fn reads_and_writes(rt: HostRuntime) -> Result<(), Fail> {
     let rows: [(&str, &[u8]); 6] = [

@@ -1,21 +1,21 @@
-//! A value of a type that is given at run time.
+//! Values of a type that is known only at run time.
 
 /// A value of some [`Schema`](postcard_dyn_schema::Schema).
 ///
-/// It has no names: those of fields and variants are in the schema.
+/// The names of fields and variants are in the schema, and not in the value.
 #[derive(Debug, Drop)]
 pub enum Value {
     Bool(bool),
     U8(u8),
     U16(u16),
     U32(u32),
-    /// Also a `usize`.
+    /// A number of the type `u64` or `usize`.
     U64(u64),
     U128(u128),
     I8(i8),
     I16(i16),
     I32(i32),
-    /// Also an `isize`.
+    /// A number of the type `i64` or `isize`.
     I64(i64),
     I128(i128),
     Char(char),
@@ -25,7 +25,8 @@ pub enum Value {
     Absent,
     /// An option with a value.
     Present(Box<Value>),
-    /// The elements of a list, or the entries of a map, each a [`Value::Group`] of two.
+    /// The elements of a list, or the entries of a map. An entry is a [`Value::Group`] of its key
+    /// and its value.
     Seq(Vec<Value>),
     /// The parts of a tuple, a struct or an array.
     Group(Vec<Value>),

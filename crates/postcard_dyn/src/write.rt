@@ -1,7 +1,7 @@
-//! Writing a value.
+//! Writing a value into a flavor: [`write_value`].
 
 ghost use Rattle.std.specs.Prelude.{map};
-ghost use Rattle.postcard_wire.specs.Spelling.{bytes, bytes_all};
+ghost use Rattle.postcard_wire.specs.Spelling.{canonical, canonical_all};
 ghost use Rattle.postcard_wire.specs.Tree.{trees};
 ghost use Rattle.postcard_ser.specs.Writing.{Wrote};
 ghost use Rattle.postcard_dyn.specs.Tree.{tree};
@@ -11,19 +11,19 @@ use postcard_ser::Serializer;
 use postcard_ser_flavors::Flavor;
 use postcard_wire::Result;
 
-/// Writes the canonical encoding of the value's tree, as `Serialize::serialize` does for a type that
-/// is known.
+/// Writes the canonical encoding of the value's tree, as `Serialize::serialize` does for a type
+/// of the program.
 ///
-/// [`Value`] does not implement `Serialize`, since the encodings of all values together are not
-/// prefix-free, as those of each type are.
+/// [`Value`] does not implement `Serialize`: a type that does must have prefix-free encodings, and
+/// those of all values together are not.
 ///
 /// # Errors
 ///
-/// Fails with `SerializeBufferFull` if the flavor refuses a piece. What the flavor took before the
-/// error stays in it.
+/// Fails with `SerializeBufferFull` if the flavor refuses bytes. The bytes that the flavor took
+/// before the error stay in it.
 #[cycle(write)]
 pub fn write_value<F: Flavor>(value: &Value, serializer: &mut Serializer<F>) -> Result<()>
-    ensures { Wrote F.Flavor serializer.old.output (bytes (tree value.now)) ⊥ ⊥ result
+    ensures { Wrote F.Flavor serializer.old.output (canonical (tree value.now)) ⊥ ⊥ result
         serializer.new.output }
 {
     match value {
@@ -58,10 +58,11 @@ pub fn write_value<F: Flavor>(value: &Value, serializer: &mut Serializer<F>) -> 
     }
 }
 
-/// Writes the values in order.
+/// Writes the values in order, without a count.
 #[cycle(write)]
 fn write_all<F: Flavor>(items: &Vec<Value>, serializer: &mut Serializer<F>) -> Result<()>
-    ensures { Wrote F.Flavor serializer.old.output (bytes_all (trees (map tree items.now.items)))
+    ensures { Wrote F.Flavor serializer.old.output
+        (canonical_all (trees (map tree items.now.items)))
         ⊥ ⊥ result serializer.new.output }
 {
     for item in items {

@@ -1,4 +1,4 @@
--- Each text of the grammar says a type whose lists have elements with bytes, and which nests at most so deep.
+-- The bounds of `specs/Bounds.antt` hold of each type that a text of the grammar spells.
 use Rattle.std.proofs.Common.{◌≡◌, ℕ, zero, suc, ◌+◌, ◌*◌, ◌≤◌, true, List, [], ◌∷◌, Vec, Box, arith, rules, inl, inr}
 use Rattle.std.specs.declared.alloc.Global.{Global}
 use Rattle.std.specs.declared.string.String.{String}
@@ -10,7 +10,7 @@ use Rattle.postcard_dyn_schema.specs.Meaning.{MessageType, MessageTypes, leaf, o
 use Rattle.postcard_dyn_schema.specs.Bounds.{ElementsHaveBytes, AllElementsHaveBytes, depth, greatest_depth}
 use Rattle.postcard_dyn_schema.specs.Grammar.{Separated, IsLeaf, IsListRest, IsTupleRest, IsField, IsFieldsRest, IsMapRest, IsPlain, IsOptions, IsContent, IsVariantText, IsEnumText, IsType}
 
--- Both at once.
+-- The elements of the type have bytes, and its depth is at most n.
 pub record Bounded (n : ℕ) (t : MessageType) : Type 0 where
   pub full : ElementsHaveBytes t
   pub low : depth t ≤ n
@@ -19,7 +19,7 @@ pub record AllBounded (n : ℕ) (ts : MessageTypes) : Type 0 where
   pub full : AllElementsHaveBytes ts
   pub low : greatest_depth ts ≤ n
 
--- The type of each kind of schema.
+-- The type of a schema, by its kind.
 type_of_leaf : (l : Leaf) → type_of (schemas.Leaf l) ≡ leaf l
 type_of_leaf l = search (rules, the_lemmas)
 
@@ -44,11 +44,11 @@ type_of_enum v = search (rules, the_lemmas)
 type_of_named : (s : String Global) (b : Box Schema Global) → type_of (Named s b) ≡ type_of b.value
 type_of_named s b = search (rules, the_lemmas)
 
--- A greater bound is one too.
+-- A type that is bounded by n is bounded by each greater number.
 more : (n m : ℕ) (t : MessageType) → n ≤ m → Bounded n t → Bounded m t
 more n m t le b = record { full = b.full; low = omega (arith, le, b.low) }
 
--- A list or a map of elements with bytes.
+-- A list or a map of bounded elements that have bytes is bounded, one level deeper.
 bounded_seq : (n : ℕ) (t : MessageType) → has_bytes t ≡ true → Bounded n t → Bounded (n + 1) (seq t)
 bounded_seq n t full b = record { full = (full, b.full); low = omega (arith, b.low) }
 
@@ -67,7 +67,7 @@ none n = record { full = tt; low = omega arith }
 one : (n : ℕ) (t : MessageType) (ts : MessageTypes) → Bounded n t → AllBounded n ts → AllBounded n (then_type t ts)
 one n t ts b bs = record { full = (b.full, bs.full); low = omega (arith, b.low, bs.low) }
 
--- What each text of T says is bounded.
+-- Each schema that T spells has a type bounded by n.
 abbrev Bounds : ℕ → (Schema → List ℕ → Type 0) → Type 0
 Bounds n T = (s : Schema) (t : List ℕ) → T s t → Bounded n (type_of s)
 
@@ -125,7 +125,7 @@ of_enum : (n : ℕ) (T : Schema → List ℕ → Type 0) → Bounds n T → Boun
 of_enum n T each s t (v, is, (x, y, lead, h, e)) = rw (is, type_of_enum v)
     (more (n + 1 + 1) (n + 2) (choice (types_of v.items)) (omega arith) (bounded_choice (n + 1) (types_of v.items) (row (n + 1) (IsVariantText T) 124 v.items y (of_variant n T each) h)))
 
--- At most six levels a bracket: four options, a map and its entries.
+-- Each level of brackets adds at most six levels of types: four options, a map and its entries.
 pub type_bounded : (d : ℕ) (s : Schema) (t : List ℕ) → IsType d s t → Bounded (6 * d) (type_of s)
 unfolding IsType
 type_bounded zero s t h = absurd h

@@ -1,13 +1,13 @@
--- Types in a row of a text, with a sign between two of them.
+-- Lemmas on types in a row, with a sign between two of them.
 use Rattle.std.proofs.Common.{◌≡◌, ℕ, ◌<◌, List, [], ◌∷◌, ◌++◌, length, refl, sym, ap, ◌∙◌, arith, ◌⊎◌, inl, inr}
 use Rattle.std.proofs.lemmas.Grind.{common_steps}
 use Rattle.std.proofs.lemmas.List.{append_assoc}
 use Rattle.postcard_dyn_schema.specs.declared.schema.Schema.{Schema}
-use Rattle.postcard_dyn_schema.specs.Text.{Then, Takes, IsSign}
+use Rattle.postcard_dyn_schema.specs.Text.{Then, TakesPhrase, IsSign}
 use Rattle.postcard_dyn_schema.specs.Grammar.{Separated}
 use Rattle.postcard_dyn_schema.proofs.Phrases.{takes_two}
 
--- One more in the row.
+-- A row, the sign and one more type are a row.
 pub separated_more : (P : Schema → List ℕ → Type 0) (sign : ℕ) (ss : List Schema) (x : Schema) (a b : List ℕ)
     → Separated P sign ss a → Then (IsSign sign) (P x) b → Separated P sign (ss ++ x ∷ []) (a ++ b)
 separated_more P sign [] x a b row more = absurd row
@@ -20,25 +20,25 @@ separated_more P sign (s ∷ u ∷ ss) x a b (f, r, first, (g, q, between, rest,
   ap (λ t. t ++ b) whole ∙ append_assoc f r b,
 )
 
--- The row is taken with one more.
+-- Taking a row, the sign and one more type takes the longer row.
 pub row_more : (P : Schema → List ℕ → Type 0) (sign : ℕ) (ss : List Schema) (x : Schema) (a b c d : List ℕ)
-    → Takes (Separated P sign ss) a b → Takes (IsSign sign) b c → Takes (P x) c d → Takes (Separated P sign (ss ++ x ∷ [])) a d
+    → TakesPhrase (Separated P sign ss) a b → TakesPhrase (IsSign sign) b c → TakesPhrase (P x) c d → TakesPhrase (Separated P sign (ss ++ x ∷ [])) a d
 row_more P sign ss x a b c d (front, row, e) between more =
     let both = takes_two (IsSign sign) (P x) b c d between more in
     (front ++ both.0, separated_more P sign ss x front both.0 row both.1, e ∙ ap (λ t. front ++ t) both.2 ∙ sym (append_assoc front both.0 d))
 
--- A row has a type at least.
+-- A row has at least one type.
 pub row_filled : (P : Schema → List ℕ → Type 0) (sign : ℕ) (ss : List Schema) (a : List ℕ) → Separated P sign ss a → 0 < length ss
 row_filled P sign [] a row = absurd row
 row_filled P sign (s ∷ ss) a row = grind (arith, common_steps)
 
--- Nothing is taken yet, or a row and the sign behind it.
+-- Nothing is taken yet, or a row and the sign after it.
 abbrev pub Begun : (Schema → List ℕ → Type 0) → ℕ → List Schema → List ℕ → List ℕ → Type 0
-Begun P sign ss a b = ((ss ≡ []) × (b ≡ a)) ⊎ Takes (Then (Separated P sign ss) (IsSign sign)) a b
+Begun P sign ss a b = ((ss ≡ []) × (b ≡ a)) ⊎ TakesPhrase (Then (Separated P sign ss) (IsSign sign)) a b
 
--- One more behind what was begun.
+-- Taking one more type after what was begun takes the row with it.
 pub begun_more : (P : Schema → List ℕ → Type 0) (sign : ℕ) (ss : List Schema) (x : Schema) (a b c : List ℕ)
-    → Begun P sign ss a b → Takes (P x) b c → Takes (Separated P sign (ss ++ x ∷ [])) a c
+    → Begun P sign ss a b → TakesPhrase (P x) b c → TakesPhrase (Separated P sign (ss ++ x ∷ [])) a c
 begun_more P sign ss x a b c (inl none) more = rw (none.0, ← none.1) more
 begun_more P sign ss x a b c (inr (front, (f, g, row, between, e), whole)) more =
     row_more P sign ss x a (g ++ b) b c (f, row, whole ∙ ap (λ t. t ++ b) e ∙ append_assoc f g b) (g, between, refl) more

@@ -1,4 +1,4 @@
--- Each kind of type from the phrases that are taken for it.
+-- Each kind of type is taken by taking its phrases one after another.
 use Rattle.std.proofs.Common.{◌≡◌, ℕ, zero, suc, ◌<◌, ◌≤◌, Bool, true, false, List, [], ◌∷◌, ◌++◌, length, Vec, Box, string_bytes, refl, sym, ap, ◌∙◌, ◌⊎◌, inl, inr}
 use Rattle.std.specs.Prelude.{slice_index, Result, Ok, Err, IfOk}
 use Rattle.std.specs.declared.alloc.Global.{Global}
@@ -9,133 +9,133 @@ use Rattle.std.proofs.lemmas.List.{append_assoc}
 use Rattle.postcard_dyn_schema.specs.declared.schema.Schema.{Schema}
 use Rattle.postcard_dyn_schema.specs.declared.schema.Schema.TheVariants.{Option, Seq, Map, Array, Group, Enum, Named}
 use Rattle.postcard_dyn_schema.specs.Meaning.{has_bytes, type_of}
-use Rattle.postcard_dyn_schema.specs.Text.{Led, Then, Takes, IsSign, IsMaybe, IsWord, IsCount}
+use Rattle.postcard_dyn_schema.specs.Text.{Led, Then, TakesPhrase, IsSign, IsMaybe, IsWord, IsCount}
 use Rattle.postcard_dyn_schema.specs.Grammar.{Separated, IsListRest, IsTupleEnd, IsTupleRest, IsField, IsFieldsRest, IsMapRest, IsPlain, IsOptions, IsContent, IsVariantText, IsLead, IsEnumText, IsType}
 use Rattle.postcard_dyn_schema.proofs.Phrases.{takes_two, takes_as, led, led_more, trim_takes}
 
--- What an answer is, it is in other words.
+-- If P implies Q, a result that is an error or has P is an error or has Q.
 pub if_ok_as : {A F : Type 0} (P Q : A → Type 0) (r : Result A F) → ((x : A) → P x → Q x) → IfOk r P → IfOk r Q
 if_ok_as P Q (Ok x) f h = f x h
 if_ok_as P Q (Err e) f h = tt
 
--- A type behind more blanks.
-pub type_more : (d : ℕ) (s : Schema) (a b c : List ℕ) → IsTrimAsciiStart a b → Takes (IsType d s) b c → Takes (IsType d s) a c
+-- Taking blanks and then a type takes the type.
+pub type_more : (d : ℕ) (s : Schema) (a b c : List ℕ) → IsTrimAsciiStart a b → TakesPhrase (IsType d s) b c → TakesPhrase (IsType d s) a c
 unfolding IsType
 type_more zero s a b c trim (x, none, e) = absurd none
 type_more (suc d) s a b c trim h = led_more _ a b c (trim_takes a b trim) h
 
--- A word behind more blanks.
-pub word_more : (word a b c : List ℕ) → IsTrimAsciiStart a b → Takes (IsWord word) b c → Takes (IsWord word) a c
+-- Taking blanks and then a word takes the word.
+pub word_more : (word a b c : List ℕ) → IsTrimAsciiStart a b → TakesPhrase (IsWord word) b c → TakesPhrase (IsWord word) a c
 word_more word a b c trim (x, (pass, h), e) =
     takes_as (Led (λ phrase. phrase ≡ word)) (IsWord word) a c (λ t k. (pass, k)) (led_more (λ phrase. phrase ≡ word) a b c (trim_takes a b trim) (x, h, e))
 
--- A type from an enum.
-pub type_enum : (d e : ℕ) (s : Schema) (a b c : List ℕ) → d ≡ suc e → IsTrimAsciiStart a b → Takes (IsEnumText (IsType e) s) b c → Takes (IsType d s) a c
+-- Taking an enum takes a type.
+pub type_enum : (d e : ℕ) (s : Schema) (a b c : List ℕ) → d ≡ suc e → IsTrimAsciiStart a b → TakesPhrase (IsEnumText (IsType e) s) b c → TakesPhrase (IsType d s) a c
 unfolding IsType
 type_enum d e s a b c deep trim h = rw deep (led _ a b c (trim_takes a b trim) (takes_as (IsEnumText (IsType e) s) (λ t. IsEnumText (IsType e) s t ⊎ ((n : ℕ) × (n ≤ 4) × IsOptions n (IsPlain (IsType e)) s t)) b c (λ t k. inl k) h))
 
--- A type from a plain one and its `?`.
-pub type_options : (d e n : ℕ) (s : Schema) (a c : List ℕ) → d ≡ suc e → n ≤ 4 → Takes (Led (IsOptions n (IsPlain (IsType e)) s)) a c → Takes (IsType d s) a c
+-- Taking a plain type and up to four `?` takes a type.
+pub type_options : (d e n : ℕ) (s : Schema) (a c : List ℕ) → d ≡ suc e → n ≤ 4 → TakesPhrase (Led (IsOptions n (IsPlain (IsType e)) s)) a c → TakesPhrase (IsType d s) a c
 unfolding IsType
 type_options d e n s a c deep few (x, (u, v, blank, h, f), g) = rw deep (x, (u, v, blank, inr (n, few, h), f), g)
 
--- One more `?`.
+-- Taking one more `?` takes one more option.
 pub options_more : (P : Schema → List ℕ → Type 0) (n m : ℕ) (s : Schema) (held : Box Schema Global) (a b c : List ℕ) → m ≡ suc n → held.value ≡ s
-    → Takes (Led (IsOptions n P s)) a b → Takes (IsSign 63) b c → Takes (Led (IsOptions m P (Option held))) a c
+    → TakesPhrase (Led (IsOptions n P s)) a b → TakesPhrase (IsSign 63) b c → TakesPhrase (Led (IsOptions m P (Option held))) a c
 options_more P n m s held a b c next is (x, (u, v, blank, h, f), g) (w, sign, k) =
     rw next (x ++ w, (u, v ++ w, blank, (held, refl, (v, w, rw is h, sign, refl)), ap (λ t. t ++ w) f ∙ append_assoc u v w), g ∙ ap (λ t. x ++ t) k ∙ sym (append_assoc x w c))
 
--- What stands before variants.
-lead_takes : (n : ℕ) (leads : Bool) (a b : List ℕ) → ((leads ≡ true) ⊎ (1 < n)) → (leads ≡ true → Takes (IsSign 124) a b) → (leads ≡ false → b ≡ a) → Takes (IsLead n) a b
+-- Taking a `|`, or nothing before two variants or more, takes what may stand before variants.
+lead_takes : (n : ℕ) (leads : Bool) (a b : List ℕ) → ((leads ≡ true) ⊎ (1 < n)) → (leads ≡ true → TakesPhrase (IsSign 124) a b) → (leads ≡ false → b ≡ a) → TakesPhrase (IsLead n) a b
 lead_takes n true a b many given none = takes_as (IsSign 124) (IsLead n) a b (λ t h. inl h) (given refl)
 lead_takes n false a b (inl h) given none = cc h
 lead_takes n false a b (inr many) given none = ([], inr (many, refl), sym (none refl))
 
--- An enum from its variants.
+-- Taking what may stand before variants and then the variants takes an enum.
 pub enum_takes : (T : Schema → List ℕ → Type 0) (v : Vec Schema Global) (leads : Bool) (a b c : List ℕ)
-    → (leads ≡ true → Takes (IsSign 124) a b) → (leads ≡ false → b ≡ a) → ((leads ≡ true) ⊎ (1 < length v.items))
-    → Takes (Separated (IsVariantText T) 124 v.items) b c → Takes (IsEnumText T (Enum v)) a c
+    → (leads ≡ true → TakesPhrase (IsSign 124) a b) → (leads ≡ false → b ≡ a) → ((leads ≡ true) ⊎ (1 < length v.items))
+    → TakesPhrase (Separated (IsVariantText T) 124 v.items) b c → TakesPhrase (IsEnumText T (Enum v)) a c
 enum_takes T v leads a b c given none many row =
     takes_as (Then (IsLead (length v.items)) (Separated (IsVariantText T) 124 v.items)) (IsEnumText T (Enum v)) a c (λ t h. (v, refl, h))
     (takes_two (IsLead (length v.items)) (Separated (IsVariantText T) 124 v.items) a b c (lead_takes (length v.items) leads a b many given none) row)
 
--- A struct from its fields.
+-- Taking the fields, a comma or none, and `}` takes what follows the `{` of a struct.
 pub fields_take : (T : Schema → List ℕ → Type 0) (v : Vec Schema Global) (a b c d : List ℕ)
-    → Takes (Separated (IsField T) 44 v.items) a b → Takes (IsMaybe 44) b c → Takes (IsSign 125) c d → Takes (IsFieldsRest T (Group v)) a d
+    → TakesPhrase (Separated (IsField T) 44 v.items) a b → TakesPhrase (IsMaybe 44) b c → TakesPhrase (IsSign 125) c d → TakesPhrase (IsFieldsRest T (Group v)) a d
 fields_take T v a b c d row comma close =
     takes_as _ _ a d (λ t h. (v, refl, h)) (takes_two (Separated (IsField T) 44 v.items) (Then (IsMaybe 44) (IsSign 125)) a b d row (takes_two (IsMaybe 44) (IsSign 125) b c d comma close))
 
--- What `named` gives.
+-- The result x of `named`: the type s with this name.
 abbrev pub HasName : Schema → List ℕ → Schema → Type 0
 HasName x name s = (n : String Global) × (b : Box Schema Global) × (x ≡ Named n b) × (string_bytes n ≡ name) × (b.value ≡ s)
 
--- A field from its name and its type.
-pub field_takes : (T : Schema → List ℕ → Type 0) (x s : Schema) (name a b c d e : List ℕ) → IsTrimAsciiStart a b → Takes (IsWord name) b c
-    → Takes (IsSign 58) c d → Takes (T s) d e → HasName x name s → 0 < length name → is_ascii_digit (slice_index name 0) ≡ false → Takes (IsField T x) a e
+-- Taking a name, `:` and a type takes a field.
+pub field_takes : (T : Schema → List ℕ → Type 0) (x s : Schema) (name a b c d e : List ℕ) → IsTrimAsciiStart a b → TakesPhrase (IsWord name) b c
+    → TakesPhrase (IsSign 58) c d → TakesPhrase (T s) d e → HasName x name s → 0 < length name → is_ascii_digit (slice_index name 0) ≡ false → TakesPhrase (IsField T x) a e
 field_takes T x s name a b c d e trim word colon content (n, held, is, text, value) filled letter =
     takes_as _ _ a e (λ t h. (n, held, is, rw text filled, rw text letter, rw (text, value) h))
     (takes_two (IsWord name) (Then (IsSign 58) (T s)) a c e (word_more name a b c trim word) (takes_two (IsSign 58) (T s) c d e colon content))
 
--- A variant from its name and its content.
-pub variant_takes : (T : Schema → List ℕ → Type 0) (x s : Schema) (name a b c d : List ℕ) → IsTrimAsciiStart a b → Takes (IsWord name) b c
-    → Takes (IsContent T s) c d → HasName x name s → 0 < length name → is_ascii_uppercase (slice_index name 0) ≡ true → Takes (IsVariantText T x) a d
+-- Taking a name and a content takes a variant.
+pub variant_takes : (T : Schema → List ℕ → Type 0) (x s : Schema) (name a b c d : List ℕ) → IsTrimAsciiStart a b → TakesPhrase (IsWord name) b c
+    → TakesPhrase (IsContent T s) c d → HasName x name s → 0 < length name → is_ascii_uppercase (slice_index name 0) ≡ true → TakesPhrase (IsVariantText T x) a d
 variant_takes T x s name a b c d trim word content (n, held, is, text, value) filled letter =
     takes_as _ _ a d (λ t h. (n, held, is, rw text filled, rw text letter, rw (text, value) h))
     (takes_two (IsWord name) (IsContent T s) a c d (word_more name a b c trim word) content)
 
--- A list from its element type.
-pub seq_takes : (d : ℕ) (s : Schema) (held : Box Schema Global) (a b c e : List ℕ) → IsTrimAsciiStart a b → Takes (IsType d s) b c → held.value ≡ s
-    → has_bytes (type_of s) ≡ true → Takes (IsSign 93) c e → Takes (IsListRest (IsType d) (Seq held)) a e
+-- Taking an element type with bytes and `]` takes what follows the `[` of a list.
+pub seq_takes : (d : ℕ) (s : Schema) (held : Box Schema Global) (a b c e : List ℕ) → IsTrimAsciiStart a b → TakesPhrase (IsType d s) b c → held.value ≡ s
+    → has_bytes (type_of s) ≡ true → TakesPhrase (IsSign 93) c e → TakesPhrase (IsListRest (IsType d) (Seq held)) a e
 seq_takes d s held a b c e trim element is full close =
     takes_as _ _ a e (λ t h. inl (held, refl, rw is full, rw is h)) (takes_two (IsType d s) (IsSign 93) a c e (type_more d s a b c trim element) close)
 
--- An array from its element type and its count.
-pub array_takes : (d n : ℕ) (s : Schema) (held : Box Schema Global) (a b c e f g : List ℕ) → IsTrimAsciiStart a b → Takes (IsType d s) b c → held.value ≡ s
-    → has_bytes (type_of s) ≡ true → Takes (IsSign 59) c e → Takes (IsCount n) e f → Takes (IsSign 93) f g → Takes (IsListRest (IsType d) (Array held n)) a g
+-- Taking an element type with bytes, `;`, a count and `]` takes what follows the `[` of an array.
+pub array_takes : (d n : ℕ) (s : Schema) (held : Box Schema Global) (a b c e f g : List ℕ) → IsTrimAsciiStart a b → TakesPhrase (IsType d s) b c → held.value ≡ s
+    → has_bytes (type_of s) ≡ true → TakesPhrase (IsSign 59) c e → TakesPhrase (IsCount n) e f → TakesPhrase (IsSign 93) f g → TakesPhrase (IsListRest (IsType d) (Array held n)) a g
 array_takes d n s held a b c e f g trim element is full semicolon count close =
     takes_as _ _ a g (λ t h. inr (held, n, refl, rw is full, rw is h)) (takes_two (IsType d s) (Then (IsSign 59) (Then (IsCount n) (IsSign 93))) a c g
     (type_more d s a b c trim element) (takes_two (IsSign 59) (Then (IsCount n) (IsSign 93)) c e g semicolon (takes_two (IsCount n) (IsSign 93) e f g count close)))
 
--- A map from its key type and its value type.
+-- Taking a key type, `=>`, a value type and `}` takes what follows the `{` of a map.
 pub map_takes : (d : ℕ) (k v : Schema) (parts : Vec Schema Global) (held : Box Schema Global) (a b c e f g h : List ℕ) → IsTrimAsciiStart a b
-    → Takes (IsType d k) b c → Takes (IsSign 61) c e → Takes (IsSign 62) e f → Takes (IsType d v) f g → Takes (IsSign 125) g h
-    → parts.items ≡ k ∷ v ∷ [] → held.value ≡ Group parts → has_bytes (type_of held.value) ≡ true → Takes (IsMapRest (IsType d) (Map held)) a h
+    → TakesPhrase (IsType d k) b c → TakesPhrase (IsSign 61) c e → TakesPhrase (IsSign 62) e f → TakesPhrase (IsType d v) f g → TakesPhrase (IsSign 125) g h
+    → parts.items ≡ k ∷ v ∷ [] → held.value ≡ Group parts → has_bytes (type_of held.value) ≡ true → TakesPhrase (IsMapRest (IsType d) (Map held)) a h
 map_takes d k v parts held a b c e f g h trim key equals greater value close items is full =
     takes_as _ _ a h (λ t m. (held, parts, k, v, refl, is, items, full, m))
     (takes_two (IsType d k) (Then (IsSign 61) (Then (IsSign 62) (Then (IsType d v) (IsSign 125)))) a c h (type_more d k a b c trim key)
     (takes_two (IsSign 61) (Then (IsSign 62) (Then (IsType d v) (IsSign 125))) c e h equals
     (takes_two (IsSign 62) (Then (IsType d v) (IsSign 125)) e f h greater (takes_two (IsType d v) (IsSign 125) f g h value close))))
 
--- A plain type behind its bracket.
-pub plain_list : (T : Schema → List ℕ → Type 0) (s : Schema) (a b c : List ℕ) → Takes (IsSign 91) a b → Takes (IsListRest T s) b c → Takes (IsPlain T s) a c
+-- Taking `[` and what follows it in a list takes a plain type.
+pub plain_list : (T : Schema → List ℕ → Type 0) (s : Schema) (a b c : List ℕ) → TakesPhrase (IsSign 91) a b → TakesPhrase (IsListRest T s) b c → TakesPhrase (IsPlain T s) a c
 plain_list T s a b c sign h = takes_as (Then (IsSign 91) (IsListRest T s)) (IsPlain T s) a c (λ t k. inr (inl k)) (takes_two (IsSign 91) (IsListRest T s) a b c sign h)
 
-pub plain_tuple : (T : Schema → List ℕ → Type 0) (s : Schema) (a b c : List ℕ) → Takes (IsSign 40) a b → Takes (IsTupleRest T s) b c → Takes (IsPlain T s) a c
+pub plain_tuple : (T : Schema → List ℕ → Type 0) (s : Schema) (a b c : List ℕ) → TakesPhrase (IsSign 40) a b → TakesPhrase (IsTupleRest T s) b c → TakesPhrase (IsPlain T s) a c
 plain_tuple T s a b c sign h = takes_as (Then (IsSign 40) (IsTupleRest T s)) (IsPlain T s) a c (λ t k. inr (inr (inl k))) (takes_two (IsSign 40) (IsTupleRest T s) a b c sign h)
 
-pub plain_braces : (T : Schema → List ℕ → Type 0) (s : Schema) (a b c : List ℕ) → Takes (IsSign 123) a b → (Takes (IsFieldsRest T s) b c ⊎ Takes (IsMapRest T s) b c) → Takes (IsPlain T s) a c
+pub plain_braces : (T : Schema → List ℕ → Type 0) (s : Schema) (a b c : List ℕ) → TakesPhrase (IsSign 123) a b → (TakesPhrase (IsFieldsRest T s) b c ⊎ TakesPhrase (IsMapRest T s) b c) → TakesPhrase (IsPlain T s) a c
 plain_braces T s a b c sign (inl h) = takes_as (Then (IsSign 123) (IsFieldsRest T s)) (IsPlain T s) a c
     (λ t k. inr (inr (inr (k.0, k.1, k.2, inl k.3, k.4)))) (takes_two (IsSign 123) (IsFieldsRest T s) a b c sign h)
 plain_braces T s a b c sign (inr h) = takes_as (Then (IsSign 123) (IsMapRest T s)) (IsPlain T s) a c
     (λ t k. inr (inr (inr (k.0, k.1, k.2, inr k.3, k.4)))) (takes_two (IsSign 123) (IsMapRest T s) a b c sign h)
 
--- A variant's content behind its bracket.
-pub content_tuple : (T : Schema → List ℕ → Type 0) (s : Schema) (a b c : List ℕ) → Takes (IsSign 40) a b → Takes (IsTupleRest T s) b c → Takes (IsContent T s) a c
+-- Taking `(` and what follows it in a tuple takes a variant's content.
+pub content_tuple : (T : Schema → List ℕ → Type 0) (s : Schema) (a b c : List ℕ) → TakesPhrase (IsSign 40) a b → TakesPhrase (IsTupleRest T s) b c → TakesPhrase (IsContent T s) a c
 content_tuple T s a b c sign h = takes_as (Then (IsSign 40) (IsTupleRest T s)) (IsContent T s) a c (λ t k. inl k) (takes_two (IsSign 40) (IsTupleRest T s) a b c sign h)
 
-pub content_fields : (T : Schema → List ℕ → Type 0) (s : Schema) (a b c : List ℕ) → Takes (IsSign 123) a b → Takes (IsFieldsRest T s) b c → Takes (IsContent T s) a c
+pub content_fields : (T : Schema → List ℕ → Type 0) (s : Schema) (a b c : List ℕ) → TakesPhrase (IsSign 123) a b → TakesPhrase (IsFieldsRest T s) b c → TakesPhrase (IsContent T s) a c
 content_fields T s a b c sign h = takes_as (Then (IsSign 123) (IsFieldsRest T s)) (IsContent T s) a c (λ t k. inr (inl k)) (takes_two (IsSign 123) (IsFieldsRest T s) a b c sign h)
 
--- The end of a tuple of two parts or more.
-pub tuple_end : (n : ℕ) (a b : List ℕ) → 1 < n → Takes (IsSign 41) a b → Takes (IsTupleEnd n) a b
+-- Taking `)` takes the end of a tuple of two parts or more.
+pub tuple_end : (n : ℕ) (a b : List ℕ) → 1 < n → TakesPhrase (IsSign 41) a b → TakesPhrase (IsTupleEnd n) a b
 tuple_end n a b many h = takes_as (IsSign 41) (IsTupleEnd n) a b (λ t k. inr (many, k)) h
 
--- The end of a tuple behind a comma.
-pub tuple_end_comma : (n : ℕ) (a b c : List ℕ) → Takes (IsSign 44) a b → Takes (IsSign 41) b c → Takes (IsTupleEnd n) a c
+-- Taking `,` and `)` takes the end of a tuple.
+pub tuple_end_comma : (n : ℕ) (a b c : List ℕ) → TakesPhrase (IsSign 44) a b → TakesPhrase (IsSign 41) b c → TakesPhrase (IsTupleEnd n) a c
 tuple_end_comma n a b c comma h = takes_as (Then (IsSign 44) (IsSign 41)) (IsTupleEnd n) a c (λ t k. inl k) (takes_two (IsSign 44) (IsSign 41) a b c comma h)
 
--- A tuple from its parts.
-pub tuple_takes : (T : Schema → List ℕ → Type 0) (v : Vec Schema Global) (a b c : List ℕ) → Takes (Separated T 44 v.items) a b → Takes (IsTupleEnd (length v.items)) b c
-    → Takes (IsTupleRest T (Group v)) a c
+-- Taking the parts and the end of a tuple takes what follows the `(` of a tuple.
+pub tuple_takes : (T : Schema → List ℕ → Type 0) (v : Vec Schema Global) (a b c : List ℕ) → TakesPhrase (Separated T 44 v.items) a b → TakesPhrase (IsTupleEnd (length v.items)) b c
+    → TakesPhrase (IsTupleRest T (Group v)) a c
 tuple_takes T v a b c row end =
     takes_as _ _ a c (λ t h. inr (inr (v, refl, h))) (takes_two (Separated T 44 v.items) (IsTupleEnd (length v.items)) a b c row end)

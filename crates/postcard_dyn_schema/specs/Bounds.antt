@@ -1,8 +1,8 @@
--- What holds of each type that an expression says: lists have elements with bytes, and types nest at most so deep.
+-- Bounds that hold of each type that is read from an expression: elements have bytes, and nesting has a limit.
 use Rattle.std.specs.Prelude.{◌≡◌, ℕ, ◌+◌, true, max}
 use Rattle.postcard_dyn_schema.specs.Meaning.{MessageType, MessageTypes, leaf, option, seq, array, group, choice, no_types, then_type, has_bytes}
 
--- Each element of a list or an array, wherever it stands in the type, has at least one byte. A map is a list of its entries.
+-- Everywhere in the type, each element of a list or an array has at least one byte. A map is a list of its entries.
 abbrev mutual
   pub ElementsHaveBytes : MessageType → Type 0
   ElementsHaveBytes (leaf l) = Unit {0}
@@ -16,7 +16,7 @@ abbrev mutual
   AllElementsHaveBytes no_types = Unit {0}
   AllElementsHaveBytes (then_type t ts) = ElementsHaveBytes t × AllElementsHaveBytes ts
 
--- How deep types stand within one another: an option, a list, a group and an enum are one level each.
+-- How deep types are nested: an option, a list, an array, a group and an enum are one level each.
 abbrev mutual
   pub depth : MessageType → ℕ
   depth (leaf l) = 0

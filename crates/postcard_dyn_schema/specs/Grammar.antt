@@ -1,4 +1,4 @@
--- The grammar of type expressions: which texts spell a schema, at most so many brackets deep.
+-- The grammar of type expressions: which texts spell a schema, with types nested up to a given depth.
 use Rattle.std.specs.Prelude.{◌≡◌, ℕ, zero, suc, ◌<◌, ◌≤◌, true, false, ◌⊎◌, List, [], ◌∷◌, length, slice_index, Vec, Box, string_bytes}
 use Rattle.std.specs.declared.alloc.Global.{Global}
 use Rattle.std.specs.Char.{is_ascii_digit, is_ascii_uppercase}
@@ -10,7 +10,7 @@ use Rattle.postcard_dyn_schema.specs.declared.schema.Leaf.{Leaf}
 use Rattle.postcard_dyn_schema.specs.Meaning.{IsNameOf, has_bytes, type_of}
 use Rattle.postcard_dyn_schema.specs.Text.{AreBlank, Led, Then, IsSign, IsMaybe, IsWord, IsCount}
 
--- One or more types in a row, with a sign between two of them.
+-- One type or more in a row, each spelled by P, with a sign between two of them.
 abbrev pub Separated : (Schema → List ℕ → Type 0) → ℕ → List Schema → List ℕ → Type 0
 Separated P sign [] text = ⊥
 Separated P sign (s ∷ []) text = P s text
@@ -20,7 +20,7 @@ Separated P sign (s ∷ u ∷ ss) text = Then (P s) (Then (IsSign sign) (Separat
 abbrev pub IsLeaf : Schema → List ℕ → Type 0
 IsLeaf s text = (leaf : Leaf) × (word : List ℕ) × (s ≡ schemas.Leaf leaf) × IsNameOf word leaf × IsWord word text
 
--- Behind a `[`: an element type, which has bytes, and a `]`, or for an array `;`, a count and a `]`.
+-- What follows a `[`: an element type, which has bytes, and then `]`, or for an array `;`, a count and `]`.
 abbrev pub IsSeqRest : (Schema → List ℕ → Type 0) → Schema → List ℕ → Type 0
 IsSeqRest T s text = (b : Box Schema Global) × (s ≡ Seq b) × (has_bytes (type_of b.value) ≡ true) × Then (T b.value) (IsSign 93) text
 
@@ -30,28 +30,28 @@ IsArrayRest T s text = (b : Box Schema Global) × (n : ℕ) × (s ≡ Array b n)
 abbrev pub IsListRest : (Schema → List ℕ → Type 0) → Schema → List ℕ → Type 0
 IsListRest T s text = IsSeqRest T s text ⊎ IsArrayRest T s text
 
--- The end of a tuple of n parts: one part alone wants a comma.
+-- The end of a tuple of n parts: `,` and `)`, or `)` alone if there are two parts or more.
 abbrev pub IsTupleEnd : ℕ → List ℕ → Type 0
 IsTupleEnd n text = Then (IsSign 44) (IsSign 41) text ⊎ ((1 < n) × IsSign 41 text)
 
--- Behind a `(`: nothing, one type, which is then the type itself, or the parts of a tuple; and a `)`.
+-- What follows a `(`: nothing, one type, which is then the type itself, or the parts of a tuple; and then `)`.
 abbrev pub IsTupleRest : (Schema → List ℕ → Type 0) → Schema → List ℕ → Type 0
 IsTupleRest T s text =
     ((v : Vec Schema Global) × (s ≡ Group v) × (v.items ≡ []) × IsSign 41 text)
     ⊎ (Then (T s) (IsSign 41) text
     ⊎ ((v : Vec Schema Global) × (s ≡ Group v) × Then (Separated T 44 v.items) (IsTupleEnd (length v.items)) text))
 
--- A field: its name, which doesn't begin with a digit, `:` and its type.
+-- A field: a name that doesn't begin with a digit, `:` and a type.
 abbrev pub IsField : (Schema → List ℕ → Type 0) → Schema → List ℕ → Type 0
 IsField T s text = (n : String Global) × (b : Box Schema Global) × (s ≡ Named n b)
     × (0 < length (string_bytes n)) × (is_ascii_digit (slice_index (string_bytes n) 0) ≡ false)
     × Then (IsWord (string_bytes n)) (Then (IsSign 58) (T b.value)) text
 
--- Behind a `{`: fields and a `}`. A comma may stand behind the last.
+-- What follows a `{` in a struct: fields and then `}`. A comma may follow the last field.
 abbrev pub IsFieldsRest : (Schema → List ℕ → Type 0) → Schema → List ℕ → Type 0
 IsFieldsRest T s text = (v : Vec Schema Global) × (s ≡ Group v) × Then (Separated (IsField T) 44 v.items) (Then (IsMaybe 44) (IsSign 125)) text
 
--- Behind a `{`: a key type, `=>` and a value type, which have bytes together, and a `}`.
+-- What follows a `{` in a map: a key type, `=>` and a value type, of which at least one has bytes, and then `}`.
 abbrev pub IsMapRest : (Schema → List ℕ → Type 0) → Schema → List ℕ → Type 0
 IsMapRest T s text = (b : Box Schema Global) × (v : Vec Schema Global) × (key : Schema) × (value : Schema)
     × (s ≡ Map b) × (b.value ≡ Group v) × (v.items ≡ key ∷ value ∷ []) × (has_bytes (type_of b.value) ≡ true)
@@ -65,42 +65,42 @@ IsPlain T s text =
     ⊎ (Then (IsSign 40) (IsTupleRest T s) text
     ⊎ Then (IsSign 123) (λ rest. IsFieldsRest T s rest ⊎ IsMapRest T s rest) text))
 
--- A type with n times `?` behind it.
+-- A type spelled by P, followed by n times `?`.
 abbrev pub IsOptions : ℕ → (Schema → List ℕ → Type 0) → Schema → List ℕ → Type 0
 IsOptions zero P s text = P s text
 IsOptions (suc n) P s text = (b : Box Schema Global) × (s ≡ Option b) × Then (IsOptions n P b.value) (IsSign 63) text
 
--- What a variant has behind its name: a tuple, fields, or nothing.
+-- The content of a variant, after its name: a tuple, fields, or nothing.
 abbrev pub IsContent : (Schema → List ℕ → Type 0) → Schema → List ℕ → Type 0
 IsContent T s text =
     Then (IsSign 40) (IsTupleRest T s) text
     ⊎ (Then (IsSign 123) (IsFieldsRest T s) text
     ⊎ ((v : Vec Schema Global) × (s ≡ Group v) × (v.items ≡ []) × (text ≡ [])))
 
--- A variant: its name, which begins with a capital letter, and its content.
+-- A variant: a name that begins with a capital letter, and the content.
 abbrev pub IsVariantText : (Schema → List ℕ → Type 0) → Schema → List ℕ → Type 0
 IsVariantText T s text = (n : String Global) × (b : Box Schema Global) × (s ≡ Named n b)
     × (0 < length (string_bytes n)) × (is_ascii_uppercase (slice_index (string_bytes n) 0) ≡ true)
     × Then (IsWord (string_bytes n)) (IsContent T b.value) text
 
--- What stands before n variants: one variant alone wants a `|`.
+-- The text before n variants: `|`, or nothing if there are two variants or more.
 abbrev pub IsLead : ℕ → List ℕ → Type 0
 IsLead n text = IsSign 124 text ⊎ ((1 < n) × (text ≡ []))
 
--- An enum.
+-- An enum: its variants, with `|` between two of them.
 abbrev pub IsEnumText : (Schema → List ℕ → Type 0) → Schema → List ℕ → Type 0
 IsEnumText T s text = (v : Vec Schema Global) × (s ≡ Enum v)
     × Then (IsLead (length v.items)) (Separated (IsVariantText T) 124 v.items) text
 
--- Any type after blanks, whose brackets hold types of T.
+-- Any type, after blanks, where the types in its brackets are spelled by T.
 abbrev pub IsTypeOver : (Schema → List ℕ → Type 0) → Schema → List ℕ → Type 0
 IsTypeOver T s text = Led (λ phrase. IsEnumText T s phrase ⊎ ((n : ℕ) × (n ≤ 4) × IsOptions n (IsPlain T) s phrase)) text
 
--- The text spells the type, with at most so many brackets within one another.
+-- The text spells the type, with types nested at most n deep in brackets, where the type itself has depth 1.
 unfoldable pub IsType : ℕ → Schema → List ℕ → Type 0
 IsType zero s text = ⊥
 IsType (suc depth) s text = IsTypeOver (IsType depth) s text
 
--- The text is an expression of the type: blanks may stand behind it too.
+-- The text is an expression of the type, with types nested at most 64 deep. Blanks may follow it.
 abbrev pub IsExpression : Schema → List ℕ → Type 0
 IsExpression s text = Then (IsType 64 s) AreBlank text

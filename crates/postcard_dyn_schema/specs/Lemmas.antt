@@ -1,16 +1,16 @@
--- The lemmas for proofs of programs that read or make values of a schema.
+-- Lemmas for proofs of programs that read or build values of a schema.
 use Rattle.std.proofs.Common.{◌≡◌, ℕ, zero, suc, ◌<◌, List, [], ◌∷◌, get_or, length, sym, ap, arith}
 use Rattle.postcard_wire.specs.Tree.{Tree}
 use Rattle.postcard_dyn_schema.specs.declared.schema.Schema.{Schema}
 use Rattle.postcard_dyn_schema.specs.Meaning.{reads, reads_at, type_of, types_of}
 
--- The variant at an index has its content's type there.
+-- The trees at an index of a list of types are those of the schema at that index.
 pub type_at : (ss : List Schema) (i : ℕ) (s : Schema) → i < length ss → s ≡ get_or ss i s → reads_at (types_of ss) i ≡ reads (type_of s)
 type_at [] i s low e = absurd (omega (arith, low))
 type_at (x ∷ xs) zero s low e = ap (λ z. reads (type_of z)) (sym e)
 type_at (x ∷ xs) (suc i) s low e = type_at xs i s (omega (arith, low)) e
 
--- There is no type at an index behind the last.
+-- An index past the last type has no trees.
 pub none_at : (ss : List Schema) (i : ℕ) (t : Tree) → (i < length ss → ⊥) → reads_at (types_of ss) i t → ⊥
 none_at [] i t high r = r
 none_at (x ∷ xs) zero t high r = high (omega arith)

@@ -1,4 +1,4 @@
--- What a type means: the set of trees that its messages say (wire format 1.0, chapter "the serde data model").
+-- The meaning of a schema: the set of trees of its messages (wire format 1.0, chapter "the serde data model").
 use Rattle.std.specs.Prelude.{◌≡◌, ℕ, zero, suc, nat_lt, Bool, true, false, if◌then◌else◌, ◌⊎◌, List, [], ◌∷◌, map, codes, box_value}
 use Rattle.postcard_wire.specs.Tree.{Tree, Trees}
 use Rattle.postcard_wire.specs.Reading.{IsByte, IsBoolean, IsNum, IsInt, IsChar, IsText, IsOption, IsEnd, IsThen, IsGroup, IsSeq, IsArray, IsVariant}
@@ -8,7 +8,7 @@ use Rattle.postcard_dyn_schema.specs.declared.schema.Leaf.TheVariants as leaves
 use Rattle.postcard_dyn_schema.specs.declared.schema.Schema.{Schema, fold-Schema}
 use Rattle.postcard_dyn_schema.specs.declared.schema.Schema.TheOpen.{Schema-F}
 
--- The words that name a type without parts. A `usize` is a number of 64 bits (wire format 1.0, "varint encoded integers").
+-- The word names the type without parts. A `usize` is a number of 64 bits (wire format 1.0, "varint encoded integers").
 abbrev pub IsNameOf : List ℕ → Leaf → Type 0
 IsNameOf word leaves.Bool = word ≡ codes "bool"
 IsNameOf word U8 = word ≡ codes "u8"
@@ -39,7 +39,7 @@ mutual
     no_types : MessageTypes
     then_type : MessageType → MessageTypes → MessageTypes
 
--- The trees of a type without parts. An `i8` is a byte, and `bytes` a counted list of bytes.
+-- The trees of a type without parts. An `i8` is a byte, and `bytes` is a counted list of bytes.
 abbrev pub leaf_reads : Leaf → Tree → Type 0
 leaf_reads leaves.Bool = IsBoolean
 leaf_reads U8 = IsByte
@@ -56,7 +56,7 @@ leaf_reads Char = IsChar
 leaf_reads Str = IsText
 leaf_reads Bytes = IsSeq IsByte
 
--- The trees of a type: just those that its messages say.
+-- The trees of a type's messages.
 abbrev mutual
   pub reads : MessageType → Tree → Type 0
   reads (leaf l) = leaf_reads l
@@ -71,18 +71,18 @@ abbrev mutual
   reads_all no_types = IsEnd
   reads_all (then_type t ts) = IsThen (reads t) (reads_all ts)
 
-  -- The trees of the type at a place, counted from 0.
+  -- The trees of the type at an index, counted from 0. An index past the last type has none.
   pub reads_at : MessageTypes → ℕ → Tree → Type 0
   reads_at no_types i = λ s. ⊥
   reads_at (then_type t ts) zero = reads t
   reads_at (then_type t ts) (suc i) = reads_at ts i
 
--- Types of a list, in order.
+-- The types of a list, in the same order.
 abbrev pub row_of : List MessageType → MessageTypes
 row_of [] = no_types
 row_of (t ∷ ts) = then_type t (row_of ts)
 
--- One level, with each type inside already seen.
+-- One step of the fold `type_of`: the type of a schema whose parts are already types.
 abbrev pub type_step : Schema-F MessageType → MessageType
 type_step (Schema-F.Leaf l) = leaf l
 type_step (Schema-F.Option t) = option (box_value t)
@@ -93,11 +93,11 @@ type_step (Schema-F.Group v) = group (row_of v.items)
 type_step (Schema-F.Enum v) = choice (row_of v.items)
 type_step (Schema-F.Named s t) = box_value t
 
--- The type that a schema says.
+-- The type of a schema: the schema without names.
 abbrev pub type_of : Schema → MessageType
 type_of = fold-Schema MessageType type_step
 
--- The types that schemas say.
+-- The types of a list of schemas, in the same order.
 abbrev pub types_of : List Schema → MessageTypes
 types_of ss = row_of (map type_of ss)
 
@@ -111,7 +111,7 @@ abbrev mutual
   has_bytes (group ts) = some_has_bytes ts
   has_bytes (choice ts) = true
 
-  -- Whether one of the types has at least one byte in each message.
+  -- Whether at least one of the types has a byte or more in each message.
   pub some_has_bytes : MessageTypes → Bool
   some_has_bytes no_types = false
   some_has_bytes (then_type t ts) = if has_bytes t then true else some_has_bytes ts

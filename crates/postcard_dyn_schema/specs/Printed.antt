@@ -1,11 +1,11 @@
--- What is printed of a refusal.
+-- The texts as which errors of type expressions are printed.
 use Rattle.std.specs.Prelude.{ℕ, List, ◌++◌, codes}
 use Rattle.std.specs.Fmt.{decimal}
 use Rattle.postcard_dyn_schema.specs.declared.error.Problem.{Problem}
 use Rattle.postcard_dyn_schema.specs.declared.error.Problem.TheVariants.{TypeExpected, UnknownType, VariantExpected, FieldExpected, NameTwice, CommaOrParenthesis, CommaOrBrace, SemicolonOrBracket, BracketExpected, ColonExpected, ArrowExpected, BraceExpected, CountExpected, CountTooLarge, NoBytes, TooDeep, EndExpected, OutOfMemory}
 use Rattle.postcard_dyn_schema.specs.declared.error.ExpressionError.{ExpressionError}
 
--- The words for a problem, in ASCII.
+-- The text of a problem, in ASCII.
 abbrev pub problem_text : Problem → List ℕ
 problem_text TypeExpected = codes "expected a type"
 problem_text UnknownType = codes "unknown type"
@@ -26,6 +26,6 @@ problem_text TooDeep = codes "nested too deeply"
 problem_text EndExpected = codes "expected the end of the type"
 problem_text OutOfMemory = codes "out of memory"
 
--- The problem and its place, as in `unknown type at character 5`.
-abbrev pub error_text : ExpressionError → List ℕ
-error_text e = problem_text e.problem ++ (codes " at character " ++ decimal e.character)
+-- The text of an error: the problem and its place, as in `unknown type at character 5`.
+abbrev pub expression_error_text : ExpressionError → List ℕ
+expression_error_text e = problem_text e.problem ++ (codes " at character " ++ decimal e.character)

@@ -3,51 +3,51 @@ use Rattle.std.specs.Prelude.{◌≡◌, ℕ, ◌+◌, ◌*◌, ◌-◌, ◌<◌
 use Rattle.std.specs.List.{count_by, AllPass}
 use Rattle.std.specs.Char.{is_ascii_whitespace, is_ascii_alphanumeric, is_ascii_digit}
 
--- Whether a byte of UTF-8 is the first of a character: it is none of 0b10xx_xxxx.
+-- Whether a byte of UTF-8 is the first of a character, so not of the form 0b10xx_xxxx.
 abbrev pub begins_character : ℕ → Bool
 begins_character b = not (nat_eq (bit_and b 0xC0) 0x80)
 
--- The number of characters of a text in UTF-8.
+-- The number of characters of a text in UTF-8: of the bytes that are the first of a character.
 abbrev pub characters : List ℕ → ℕ
 characters text = count_by begins_character text
 
--- Blanks, maybe none: the white space of ASCII.
+-- The text is blanks alone, or empty. Blanks are the white space of ASCII.
 abbrev pub AreBlank : List ℕ → Type 0
 AreBlank text = AllPass is_ascii_whitespace text
 
--- Some phrase after blanks.
+-- The text is blanks, or none, and then a phrase of P.
 abbrev pub Led : (List ℕ → Type 0) → List ℕ → Type 0
 Led P text = (blanks : List ℕ) × (phrase : List ℕ) × AreBlank blanks × P phrase × (text ≡ blanks ++ phrase)
 
--- Two phrases in a row.
+-- The text is a phrase of P and then a phrase of Q.
 abbrev pub Then : (List ℕ → Type 0) → (List ℕ → Type 0) → List ℕ → Type 0
 Then P Q text = (front : List ℕ) × (back : List ℕ) × P front × Q back × (text ≡ front ++ back)
 
--- The phrase is the front of the text, and the rest is left.
-abbrev pub Takes : (List ℕ → Type 0) → List ℕ → List ℕ → Type 0
-Takes P text rest = (front : List ℕ) × P front × (text ≡ front ++ rest)
+-- The text is a phrase of P and then `rest`.
+abbrev pub TakesPhrase : (List ℕ → Type 0) → List ℕ → List ℕ → Type 0
+TakesPhrase P text rest = (front : List ℕ) × P front × (text ≡ front ++ rest)
 
--- A sign of one byte after blanks.
+-- The text is blanks, or none, and then the byte `sign`.
 abbrev pub IsSign : ℕ → List ℕ → Type 0
 IsSign sign text = Led (λ phrase. phrase ≡ sign ∷ []) text
 
--- A sign or none.
+-- The text is empty, or blanks and then the byte `sign`.
 abbrev pub IsMaybe : ℕ → List ℕ → Type 0
 IsMaybe sign text = (text ≡ []) ⊎ IsSign sign text
 
--- A letter, a digit or `_`.
+-- Whether a byte may be part of a word: a letter or a digit of ASCII, or `_`.
 abbrev pub is_of_word : ℕ → Bool
 is_of_word b = is_ascii_alphanumeric b || nat_eq b 95
 
--- A word of such bytes after blanks.
+-- The text is blanks, or none, and then `word`, whose bytes may all be part of a word.
 abbrev pub IsWord : List ℕ → List ℕ → Type 0
 IsWord word text = AllPass is_of_word word × Led (λ phrase. phrase ≡ word) text
 
--- The number that decimal digits say behind others that say n.
+-- The number that is spelled by the decimal digits of n followed by these.
 abbrev pub decimal : ℕ → List ℕ → ℕ
 decimal n [] = n
 decimal n (d ∷ ds) = decimal (n * 10 + (d - 48)) ds
 
--- A number in decimal digits after blanks.
+-- The text is blanks, or none, and then the number n in decimal digits, at least one. Leading zeros are allowed.
 abbrev pub IsCount : ℕ → List ℕ → Type 0
 IsCount n text = (digits : List ℕ) × (0 < length digits) × AllPass is_ascii_digit digits × (n ≡ decimal 0 digits) × Led (λ phrase. phrase ≡ digits) text

@@ -1,48 +1,48 @@
-//! Why a text is no type expression.
+//! The errors of reading a type expression.
 
 ghost use Rattle.std.specs.Prelude.{Some};
-ghost use Rattle.postcard_dyn_schema.specs.Printed.{problem_text, error_text};
+ghost use Rattle.postcard_dyn_schema.specs.Printed.{problem_text, expression_error_text};
 
 use std::fmt;
 
 /// What is wrong with a type expression.
 #[derive(Clone, Copy, Debug, PartialEq, Eq)]
 pub enum Problem {
-    /// Something else is where a type is to begin, or the text ends there.
+    /// A type is expected, and the text ends here or goes on with something else.
     TypeExpected,
-    /// A word that names no type, or a single variant with no `|`.
+    /// The word names no type, or is the only variant of an enum without the `|` before it.
     UnknownType,
-    /// A variant's name is missing; it begins with a capital letter.
+    /// The name of a variant is expected, which begins with a capital letter.
     VariantExpected,
-    /// A field's name is missing.
+    /// The name of a field is expected, which doesn't begin with a digit.
     FieldExpected,
     /// Two fields of a struct, or two variants of an enum, have the same name.
     NameTwice,
-    /// A tuple goes on neither with `,` nor with `)`.
+    /// After a type in a tuple, neither `,` nor `)` follows.
     CommaOrParenthesis,
-    /// A struct goes on neither with `,` nor with `}`.
+    /// After a field of a struct, neither `,` nor `}` follows.
     CommaOrBrace,
-    /// A list's or an array's element type is followed neither by `;` nor by `]`.
+    /// After the element type of a list or an array, neither `;` nor `]` follows.
     SemicolonOrBracket,
-    /// An array's count is followed by something else than `]`.
+    /// After the count of an array, no `]` follows.
     BracketExpected,
-    /// A field's name is followed by something else than `:`.
+    /// After the name of a field, no `:` follows.
     ColonExpected,
-    /// A map's key type is followed by something else than `=>`.
+    /// After the key type of a map, no `=>` follows.
     ArrowExpected,
-    /// A map's value type is followed by something else than `}`.
+    /// After the value type of a map, no `}` follows.
     BraceExpected,
-    /// An array's count is missing.
+    /// The count of an array is expected, in decimal digits.
     CountExpected,
-    /// An array's count is 2^64 or more.
+    /// The count of an array is 2^64 or more.
     CountTooLarge,
-    /// The elements of a list, an array or a map would take no bytes.
+    /// The elements of a list or an array, or the entries of a map, have no bytes.
     NoBytes,
-    /// Types nest more than 64 deep, or more than 4 `?` are in a row.
+    /// Types are nested more than 64 deep in brackets, or more than 4 `?` follow a type.
     TooDeep,
-    /// The expression is whole, and more text follows it.
+    /// The type expression is complete, and more text follows it.
     EndExpected,
-    /// Memory was refused.
+    /// An allocation failed.
     OutOfMemory,
 }
 
@@ -73,19 +73,20 @@ impl fmt::Display for Problem {
     }
 }
 
-/// Why a text is no type expression, and where.
+/// The error of reading a type expression: what is wrong, and where.
 ///
-/// It prints as `unknown type at character 5`.
+/// It is printed as `unknown type at character 5`.
 #[derive(Clone, Copy, Debug, PartialEq, Eq)]
 pub struct ExpressionError {
     /// What is wrong.
     pub problem: Problem,
-    /// The character at which it is, counted from 1.
+    /// The place of the problem in characters, counted from 1. At the end of the text it is the
+    /// number of characters plus 1.
     pub character: usize,
 }
 
 impl fmt::Display for ExpressionError {
-    ghost output = { λ e. Some (error_text e) };
+    ghost output = { λ e. Some (expression_error_text e) };
 
     fn fmt<W: fmt::Write>(&self, f: &mut fmt::Formatter<W>) -> fmt::Result {
         write!(f, "{} at character {}", self.problem, self.character)

@@ -1,20 +1,21 @@
-//! Reading a type expression.
+//! Reading a type expression: [`parse`] and its parts.
 //!
-//! The grammar, where blanks may be between any two words or signs:
+//! The grammar, in which white space may stand before any word or sign and at the end:
 //!
 //! ```text
 //! type    = plain {"?"} | ["|"] variant {"|" variant}
-//! plain   = word | "[" type "]" | "[" type ";" count "]" | tuple | "{" fields "}" | "{" type "=>" type "}"
+//! plain   = word | "[" type "]" | "[" type ";" count "]" | tuple
+//!         | "{" fields "}" | "{" type "=>" type "}"
 //! tuple   = "(" [type {"," type} [","]] ")"
 //! fields  = name ":" type {"," name ":" type} [","]
 //! variant = Name [tuple | "{" fields "}"]
 //! ```
 //!
-//! An enum has two variants or more, or a `|` before its only one. `(T)` is `T`, and `(T,)` a tuple
-//! of one part, as in Rust.
+//! An enum with a single variant needs the leading `|`. As in Rust, `(T)` is the type `T`, and
+//! `(T,)` is a tuple of one part.
 
 ghost use Rattle.std.specs.Prelude.{◌≡◌, ◌+◌, ◌≤◌, ◌++◌, ◌⊎◌, [], ◌∷◌, length, IfOk, IfErr, OnOk};
-ghost use Rattle.postcard_dyn_schema.specs.Text.{characters, Takes};
+ghost use Rattle.postcard_dyn_schema.specs.Text.{characters, TakesPhrase};
 ghost use Rattle.postcard_dyn_schema.specs.Meaning.{type_of};
 ghost use Rattle.postcard_dyn_schema.specs.Names.{IsNewTo, IsTakenIn};
 ghost use Rattle.postcard_dyn_schema.specs.Bounds.{ElementsHaveBytes, depth as depth_of};
@@ -29,22 +30,24 @@ use crate::scan::{
 use crate::schema::{Leaf, Schema};
 use std::alloc::Global;
 
-/// How deep brackets may nest.
+/// How deep types may nest in brackets, where the outermost type has depth 1.
 const MAX_DEPTH: usize = 64;
 
-/// The greatest number of `?` in a row.
+/// The greatest number of `?` after a type.
 const MAX_OPTIONS: usize = 4;
 
-/// Reads a type expression.
+/// Reads a type expression, such as `{id: u16, label: str, samples: [i32]}`, and returns its type.
 ///
 /// # Errors
 ///
-/// Says what is wrong and at which character, counted from 1. Fails with `NoBytes` if the elements
-/// of a list, an array or a map would have no bytes, since a short message could then hold any
-/// number of them, and with `TooDeep` if types nest more than 64 deep.
+/// Fails with what is wrong, one of [`Problem`], and the character where it is, counted from 1.
+///
+/// `NoBytes` comes if the elements of a list or an array, or the entries of a map, have no bytes,
+/// since a short message could then hold any number of them. `TooDeep` comes if types are nested
+/// more than 64 deep in brackets, or if more than 4 `?` follow a type.
 pub fn parse(alloc: Global, text: &str) -> Result<Schema, ExpressionError>
     ensures spelled { IfOk result (λ schema. IsExpression schema text.now) }
-    ensures full { IfOk result (λ schema. ElementsHaveBytes (type_of schema)) }
+    ensures elements_have_bytes { IfOk result (λ schema. ElementsHaveBytes (type_of schema)) }
     ensures deep { IfOk result (λ schema. depth_of (type_of schema) ≤ 384) }
     ensures place { IfErr result (λ e. (1 ≤ e.character)
         × (e.character ≤ characters text.now + 1)) }
@@ -59,7 +62,7 @@ pub fn parse(alloc: Global, text: &str) -> Result<Schema, ExpressionError>
     }
 }
 
-/// Reads a type that is the whole text.
+/// Reads a type, after which only blanks may follow.
 fn read_whole(alloc: Global, rest: &mut &[u8]) -> Result<Schema, Fault>
     ensures { IfOk result (λ schema. IsExpression schema rest.old.now) }
 {
@@ -71,10 +74,10 @@ fn read_whole(alloc: Global, rest: &mut &[u8]) -> Result<Schema, Fault>
     Ok(schema)
 }
 
-/// Reads a type: an enum, or another type and any `?` after it.
+/// Reads a type: an enum, or another type with up to `MAX_OPTIONS` `?` after it.
 #[cycle(expression)]
 fn read_type(alloc: Global, rest: &mut &[u8], depth: usize) -> Result<Schema, Fault>
-    ensures { IfOk result (λ schema. Takes (IsType depth schema) rest.old.now rest.new.now) }
+    ensures { IfOk result (λ schema. TakesPhrase (IsType depth schema) rest.old.now rest.new.now) }
 {
     skip_blanks(rest);
     if depth == 0 {
@@ -99,10 +102,10 @@ fn read_type(alloc: Global, rest: &mut &[u8], depth: usize) -> Result<Schema, Fa
     Ok(schema)
 }
 
-/// Reads a type that begins with a bracket or a word.
+/// Reads a type that is no enum and no option: it begins with a bracket, or is a word.
 #[cycle(expression)]
 fn read_plain(alloc: Global, rest: &mut &[u8], depth: usize) -> Result<Schema, Fault>
-    ensures { IfOk result (λ schema. Takes (IsPlain (IsType depth) schema)
+    ensures { IfOk result (λ schema. TakesPhrase (IsPlain (IsType depth) schema)
         rest.old.now rest.new.now) }
 {
     if take(rest, b'[') {
@@ -128,7 +131,7 @@ fn read_plain(alloc: Global, rest: &mut &[u8], depth: usize) -> Result<Schema, F
 /// Reads a list or an array after its `[`.
 #[cycle(expression)]
 fn read_list(alloc: Global, rest: &mut &[u8], depth: usize) -> Result<Schema, Fault>
-    ensures { IfOk result (λ schema. Takes (IsListRest (IsType depth) schema)
+    ensures { IfOk result (λ schema. TakesPhrase (IsListRest (IsType depth) schema)
         rest.old.now rest.new.now) }
 {
     skip_blanks(rest);
@@ -147,10 +150,10 @@ fn read_list(alloc: Global, rest: &mut &[u8], depth: usize) -> Result<Schema, Fa
     Ok(Schema::Seq(element))
 }
 
-/// Reads a tuple after its `(`. One type with no `,` is that type.
+/// Reads a tuple after its `(`. A single type without `,` is returned as that type.
 #[cycle(expression)]
 fn read_tuple(alloc: Global, rest: &mut &[u8], depth: usize) -> Result<Schema, Fault>
-    ensures { IfOk result (λ schema. Takes (IsTupleRest (IsType depth) schema)
+    ensures { IfOk result (λ schema. TakesPhrase (IsTupleRest (IsType depth) schema)
         rest.old.now rest.new.now) }
 {
     let mut parts = Vec::new(alloc);
@@ -176,12 +179,12 @@ fn read_tuple(alloc: Global, rest: &mut &[u8], depth: usize) -> Result<Schema, F
     Err(fault_at(Problem::CommaOrParenthesis, rest))
 }
 
-/// Reads a struct or a map after its `{`. In a struct, `:` follows the first word.
+/// Reads a struct or a map after its `{`. It is a struct if a word and `:` come first.
 #[cycle(expression)]
 fn read_braces(alloc: Global, rest: &mut &[u8], depth: usize) -> Result<Schema, Fault>
     ensures { IfOk result (λ schema.
-        Takes (IsFieldsRest (IsType depth) schema) rest.old.now rest.new.now
-        ⊎ Takes (IsMapRest (IsType depth) schema) rest.old.now rest.new.now) }
+        TakesPhrase (IsFieldsRest (IsType depth) schema) rest.old.now rest.new.now
+        ⊎ TakesPhrase (IsMapRest (IsType depth) schema) rest.old.now rest.new.now) }
 {
     let start = *rest;
     let word = take_word(rest);
@@ -194,10 +197,10 @@ fn read_braces(alloc: Global, rest: &mut &[u8], depth: usize) -> Result<Schema, 
     }
 }
 
-/// Reads the fields of a struct and the `}` after them.
+/// Reads the fields of a struct after its `{`, and the `}`.
 #[cycle(expression)]
 fn read_fields(alloc: Global, rest: &mut &[u8], depth: usize) -> Result<Schema, Fault>
-    ensures { IfOk result (λ schema. Takes (IsFieldsRest (IsType depth) schema)
+    ensures { IfOk result (λ schema. TakesPhrase (IsFieldsRest (IsType depth) schema)
         rest.old.now rest.new.now) }
 {
     let mut fields = Vec::new(alloc);
@@ -223,10 +226,10 @@ fn read_fields(alloc: Global, rest: &mut &[u8], depth: usize) -> Result<Schema, 
     Err(fault_at(Problem::FieldExpected, rest))
 }
 
-/// Reads the key and the value type of a map and the `}` after them.
+/// Reads the key type and the value type of a map after its `{`, and the `}`.
 #[cycle(expression)]
 fn read_map(alloc: Global, rest: &mut &[u8], depth: usize) -> Result<Schema, Fault>
-    ensures { IfOk result (λ schema. Takes (IsMapRest (IsType depth) schema)
+    ensures { IfOk result (λ schema. TakesPhrase (IsMapRest (IsType depth) schema)
         rest.old.now rest.new.now) }
 {
     skip_blanks(rest);
@@ -246,10 +249,10 @@ fn read_map(alloc: Global, rest: &mut &[u8], depth: usize) -> Result<Schema, Fau
     Ok(Schema::Map(boxed(alloc, entry, rest)?))
 }
 
-/// Reads an enum.
+/// Reads an enum: its variants, with `|` between them.
 #[cycle(expression)]
 fn read_enum(alloc: Global, rest: &mut &[u8], depth: usize) -> Result<Schema, Fault>
-    ensures { IfOk result (λ schema. Takes (IsEnumText (IsType depth) schema)
+    ensures { IfOk result (λ schema. TakesPhrase (IsEnumText (IsType depth) schema)
         rest.old.now rest.new.now) }
 {
     let start = *rest;
@@ -268,7 +271,7 @@ fn read_enum(alloc: Global, rest: &mut &[u8], depth: usize) -> Result<Schema, Fa
     Err(fault_at(Problem::VariantExpected, rest))
 }
 
-/// Reads a variant, whose name is none of those before it.
+/// Reads a variant, whose name must differ from those of the variants before it.
 #[cycle(expression)]
 fn read_variant(
     alloc: Global,
@@ -276,7 +279,7 @@ fn read_variant(
     rest: &mut &[u8],
     depth: usize,
 ) -> Result<Schema, Fault>
-    ensures { IfOk result (λ schema. Takes (IsVariantText (IsType depth) schema)
+    ensures { IfOk result (λ schema. TakesPhrase (IsVariantText (IsType depth) schema)
         rest.old.now rest.new.now) }
 {
     skip_blanks(rest);
@@ -290,10 +293,10 @@ fn read_variant(
     named(alloc, name, content, start)
 }
 
-/// Reads what a variant has after its name: a tuple, a struct or nothing.
+/// Reads the content of a variant: a tuple, a struct, or nothing.
 #[cycle(expression)]
 fn read_content(alloc: Global, rest: &mut &[u8], depth: usize) -> Result<Schema, Fault>
-    ensures { IfOk result (λ schema. Takes (IsContent (IsType depth) schema)
+    ensures { IfOk result (λ schema. TakesPhrase (IsContent (IsType depth) schema)
         rest.old.now rest.new.now) }
 {
     if take(rest, b'(') {
@@ -305,7 +308,7 @@ fn read_content(alloc: Global, rest: &mut &[u8], depth: usize) -> Result<Schema,
     Ok(Schema::Group(Vec::new(alloc)))
 }
 
-/// Refuses a name that one of the types has already.
+/// Fails with `NameTwice` at `start` if one of the fields or variants has the name already.
 fn check_new(before: &Vec<Schema>, name: &[u8], start: &[u8]) -> Result<(), Fault>
     ensures new { OnOk result (IsNewTo before.now.items name.now) }
     ensures twice { IfErr result (λ fault. (fault.problem ≡ Problem.NameTwice)
@@ -321,7 +324,7 @@ fn check_new(before: &Vec<Schema>, name: &[u8], start: &[u8]) -> Result<(), Faul
     Ok(())
 }
 
-/// Adds a type to the others.
+/// Adds a type to the end of the list.
 fn push(schemas: &mut Vec<Schema>, schema: Schema, rest: &[u8]) -> Result<(), Fault>
     ensures { OnOk result (schemas.new.items ≡ schemas.old.items ++ schema ∷ []) }
 {

@@ -1,8 +1,8 @@
-//! Types of messages that are given at run time: [`Schema`], and the expression that says one.
+//! Types of messages that are known only at run time: [`Schema`], and the text that describes one.
 //!
-//! [`parse`] reads an expression such as `{id: u16, label: str, samples: [i32]}`. What a schema
-//! means is the set of trees that a message of the type may say (`specs/Meaning.antt`). The crates
-//! `postcard_dyn` and `postcard_dyn_text` read and write values of a schema, and print them.
+//! [`parse`] reads an expression such as `{id: u16, label: str, samples: [i32]}`. A schema stands
+//! for a set of trees, those of the messages of its type (`specs/Meaning.antt`). The crate
+//! `postcard_dyn` reads and writes values of a schema, and `postcard_dyn_text` their texts.
 #![tactic(auto)]
 
 pub mod error;

@@ -1,4 +1,7 @@
-//! Taking the parts of an expression from the front of a text.
+//! Functions that take signs, words and counts from the front of a text.
+//!
+//! The parameter `rest` is the part of the text that isn't read yet; what a function takes is
+//! dropped from its front. Blanks are the white space of ASCII.
 
 ghost use Rattle.std.specs.Prelude.{◌≡◌, ◌+◌, ◌-◌, ◌≤◌, true, false, take, length, string_bytes};
 ghost use Rattle.std.specs.Prelude.{Box, IfOk, IfErr, OnOk};
@@ -7,21 +10,21 @@ ghost use Rattle.std.specs.declared.alloc.Global.{Global};
 ghost use Rattle.std.specs.declared.string.String.{String};
 ghost use Rattle.postcard_dyn_schema.specs.declared.schema.Schema.{Schema};
 ghost use Rattle.postcard_dyn_schema.specs.declared.schema.Schema.TheVariants.{Named};
-ghost use Rattle.postcard_dyn_schema.specs.Text.{characters, Takes, IsSign, IsWord, IsCount};
+ghost use Rattle.postcard_dyn_schema.specs.Text.{characters, TakesPhrase, IsSign, IsWord, IsCount};
 ghost use Rattle.postcard_dyn_schema.specs.Text.{is_of_word as is_of_word_byte};
 
 use crate::error::Problem;
 use crate::schema::Schema;
 use std::alloc::Global;
 
-/// What is wrong, and how many bytes of the text are left from there.
+/// What is wrong, and where: the number of bytes from there to the end of the text.
 #[derive(Clone, Copy)]
 pub struct Fault {
     pub problem: Problem,
     pub left: usize,
 }
 
-/// Returns the problem as one at the front of `rest`.
+/// Returns the fault of this problem at the front of `rest`.
 pub fn fault_at(problem: Problem, rest: &[u8]) -> Fault
     ensures problem { result.problem ≡ problem }
     ensures left { result.left ≡ length rest.now }
@@ -32,7 +35,8 @@ pub fn fault_at(problem: Problem, rest: &[u8]) -> Fault
     }
 }
 
-/// Returns the number, from 1, of the character at which `left` bytes of the text are left.
+/// Returns the number, counted from 1, of the character that begins `left` bytes before the end of
+/// the text. At the end of the text, it is the number of characters plus 1.
 pub fn character_of(text: &[u8], left: usize) -> usize
     ensures first { 1 ≤ result }
     ensures counted { result ≡ characters (take (length text.now - left) text.now) + 1 }
@@ -41,16 +45,17 @@ pub fn character_of(text: &[u8], left: usize) -> usize
     before.iter().filter(|byte| **byte & 0xC0 != 0x80).count() + 1
 }
 
-/// Takes the blanks in front.
+/// Takes all blanks at the front.
 pub fn skip_blanks(rest: &mut &[u8])
     ensures { IsTrimAsciiStart rest.old.now rest.new.now }
 {
     *rest = rest.trim_ascii_start();
 }
 
-/// Takes the blanks in front and this byte, if it is next, or else nothing. Returns whether it was.
+/// Takes the blanks at the front and then `byte`, and returns `true`. If another byte follows the
+/// blanks, or none, it takes nothing and returns `false`.
 pub fn take(rest: &mut &[u8], byte: u8) -> bool
-    ensures taken { result ≡ true → Takes (IsSign byte) rest.old.now rest.new.now }
+    ensures taken { result ≡ true → TakesPhrase (IsSign byte) rest.old.now rest.new.now }
     ensures left { result ≡ false → rest.new.now ≡ rest.old.now }
 {
     match rest.trim_ascii_start().split_first() {
@@ -62,9 +67,14 @@ pub fn take(rest: &mut &[u8], byte: u8) -> bool
     }
 }
 
-/// Takes this byte as `take` does, or fails with the problem at what is next instead.
+/// Takes the blanks at the front and then `byte`.
+///
+/// # Errors
+///
+/// Fails with `problem` if another byte follows the blanks, or none. The blanks are taken, and the
+/// fault is at what follows them.
 pub fn expect(rest: &mut &[u8], byte: u8, problem: Problem) -> Result<(), Fault>
-    ensures taken { OnOk result (Takes (IsSign byte) rest.old.now rest.new.now) }
+    ensures taken { OnOk result (TakesPhrase (IsSign byte) rest.old.now rest.new.now) }
     ensures refused { IfErr result (λ fault. (fault.problem ≡ problem)
         × (fault.left ≡ length rest.new.now) × IsTrimAsciiStart rest.old.now rest.new.now) }
 {
@@ -75,9 +85,10 @@ pub fn expect(rest: &mut &[u8], byte: u8, problem: Problem) -> Result<(), Fault>
     Err(fault_at(problem, rest))
 }
 
-/// Takes the blanks in front and then a word of letters, digits and `_`, which may be empty.
+/// Takes the blanks at the front and then a word, and returns the word: all letters and digits of
+/// ASCII and `_` up to another byte. It may be empty.
 pub fn take_word<'a>(rest: &mut &'a [u8]) -> &'a [u8]
-    ensures { Takes (IsWord result.now) rest.old.now rest.new.now }
+    ensures { TakesPhrase (IsWord result.now) rest.old.now rest.new.now }
 {
     skip_blanks(rest);
     let all = *rest;
@@ -90,16 +101,21 @@ pub fn take_word<'a>(rest: &mut &'a [u8]) -> &'a [u8]
     word
 }
 
-/// Returns whether a byte may be in a word.
+/// Returns whether a byte may be part of a word: a letter or a digit of ASCII, or `_`.
 fn is_of_word(byte: u8) -> bool
     ensures { result ≡ is_of_word_byte byte }
 {
     byte.is_ascii_alphanumeric() || byte == b'_'
 }
 
-/// Takes the decimal digits of an array's count.
+/// Takes the blanks at the front and then the decimal digits of an array's count, which it returns.
+///
+/// # Errors
+///
+/// Fails with `CountExpected` if the next word isn't digits alone, and with `CountTooLarge` if the
+/// count doesn't fit in a `usize`.
 pub fn take_count(rest: &mut &[u8]) -> Result<usize, Fault>
-    ensures { IfOk result (λ count. Takes (IsCount count) rest.old.now rest.new.now) }
+    ensures { IfOk result (λ count. TakesPhrase (IsCount count) rest.old.now rest.new.now) }
 {
     skip_blanks(rest);
     let start = *rest;
@@ -121,7 +137,11 @@ pub fn take_count(rest: &mut &[u8]) -> Result<usize, Fault>
     Ok(count)
 }
 
-/// Puts a type into memory of its own.
+/// Puts a type into a `Box`.
+///
+/// # Errors
+///
+/// Fails with `OutOfMemory` at the front of `rest` if the allocation fails.
 pub fn boxed(alloc: Global, schema: Schema, rest: &[u8]) -> Result<Box<Schema>, Fault>
     ensures held { IfOk result (λ held. held.value ≡ schema) }
     ensures refused { IfErr result (λ fault. fault.problem ≡ Problem.OutOfMemory) }
@@ -132,7 +152,12 @@ pub fn boxed(alloc: Global, schema: Schema, rest: &[u8]) -> Result<Box<Schema>, 
     }
 }
 
-/// Gives a type a name.
+/// Returns a [`Schema::Named`] of the name and the type.
+///
+/// # Errors
+///
+/// Fails at the front of `rest`: with `OutOfMemory` if an allocation fails, and with
+/// `FieldExpected` if the name is not UTF-8.
 pub fn named(alloc: Global, name: &[u8], schema: Schema, rest: &[u8]) -> Result<Schema, Fault>
     ensures { IfOk result (λ whole. (text : String Global) × (held : Box Schema Global)
         × (whole ≡ Named text held) × (string_bytes text ≡ name.now) × (held.value ≡ schema)) }

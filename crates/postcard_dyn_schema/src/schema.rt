@@ -1,10 +1,11 @@
-//! A type, as a value.
+//! Types of messages, as values of a program.
 
 ghost use Rattle.std.specs.Prelude.{◌≡◌, IfSome, IfNone};
-ghost use Rattle.postcard_dyn_schema.specs.Meaning.{IsNameOf, has_bytes, type_of, types_of, some_has_bytes};
+ghost use Rattle.postcard_dyn_schema.specs.Meaning.{IsNameOf, has_bytes, type_of, types_of};
+ghost use Rattle.postcard_dyn_schema.specs.Meaning.{some_has_bytes};
 ghost use Rattle.postcard_dyn_schema.specs.declared.schema.Leaf.{Leaf};
 
-/// A type that has no parts. Each is read and written by one call of the serde data model.
+/// A type without parts. Each is read and written by one call of the serde data model.
 ///
 /// `usize` and `isize` are numbers of 64 bits in the format, and so are `U64` and `I64` here.
 #[derive(Clone, Copy, Debug, PartialEq, Eq)]
@@ -26,7 +27,8 @@ pub enum Leaf {
 }
 
 impl Leaf {
-    /// Returns the type of this name, as `u16`, or `None` if it names no type.
+    /// Returns the type with this name, such as `u16`, or `None` if no type without parts has it.
+    /// `usize` names the same type as `u64`, and `isize` the same as `i64`.
     pub fn from_name(name: &[u8]) -> Option<Leaf>
         ensures found { IfSome result (λ leaf. IsNameOf name.now leaf) }
         ensures none { IfNone result ((leaf : Leaf) → IsNameOf name.now leaf → ⊥) }
@@ -53,32 +55,35 @@ impl Leaf {
 
 /// The type of a message.
 ///
-/// Names are kept for printing and take no bytes in the format.
+/// Names of fields and variants are kept for printing. They take no bytes in the format.
 #[derive(Debug, Drop)]
 pub enum Schema {
     /// A type without parts.
     Leaf(Leaf),
-    /// `T?`: no value, or one of the type.
+    /// `T?`: no value, or a value of `T`.
     Option(Box<Schema>),
-    /// `[T]`: a count, and that many elements.
+    /// `[T]`: a list, written as the number of elements and then the elements.
     Seq(Box<Schema>),
-    /// `{K => V}`: a count, and that many entries, each a [`Schema::Group`] of the key and the
-    /// value. Entries keep their order, and equal keys may occur.
+    /// `{K => V}`: a map, written as the number of entries and then the entries. The box has the
+    /// type of an entry, a [`Schema::Group`] of the types of key and value. Entries keep their
+    /// order, and equal keys may occur.
     Map(Box<Schema>),
-    /// `[T; N]`: `N` elements, without a count.
+    /// `[T; N]`: an array, written as its `N` elements without a count.
     Array(Box<Schema>, usize),
-    /// A tuple `(T, U)`, the unit `()`, or a struct `{name: T, ..}`, whose parts are
-    /// [`Schema::Named`].
+    /// A tuple `(T, U)`, the unit `()`, or a struct `{name: T, ..}`, written as its parts in order.
+    /// The parts of a struct are [`Schema::Named`].
     Group(Vec<Schema>),
-    /// `Boot | Reading(u16, i32)`: the index of a variant, and its content. Each variant is a
-    /// [`Schema::Named`]. One without content has the unit for it.
+    /// `Boot | Reading(u16, i32)`: an enum, written as the index of the variant, counted from 0,
+    /// and then the variant's content. Each variant is a [`Schema::Named`]. The content of a
+    /// variant such as `Boot` is the unit.
     Enum(Vec<Schema>),
-    /// A field of a struct or a variant of an enum, with its name.
+    /// A field of a struct or a variant of an enum: its name, and the type of its content.
     Named(String, Box<Schema>),
 }
 
 impl Schema {
-    /// Returns whether every message of the type has at least one byte.
+    /// Returns `true` if every message of the type has at least one byte, and `false` if the type's
+    /// only message is empty, as for `()`.
     #[cycle(has_bytes)]
     pub fn has_bytes(&self) -> bool
         ensures { result ≡ has_bytes (type_of self.now) }
@@ -92,7 +97,7 @@ impl Schema {
     }
 }
 
-/// Returns whether one of the types has at least one byte in each of its messages.
+/// Returns whether at least one of the types has only messages of one byte or more.
 #[cycle(has_bytes)]
 fn any_has_bytes(parts: &Vec<Schema>) -> bool
     ensures { result ≡ some_has_bytes (types_of parts.now.items) }

@@ -1,10 +1,10 @@
-//! Expressions and the types that they say.
+//! Tests of type expressions.
 
 use crate::{Schema, parse};
 use std::process::Abort;
 use std::test::Fail;
 
-/// Expressions that are types, beside others that say the same type.
+/// Expressions, each beside the schema that is read from it, printed by `Debug`.
 #[test]
 fn reads_expressions(rt: HostRuntime) -> Result<(), Fail> {
     let rows = [
@@ -53,7 +53,7 @@ fn reads_expressions(rt: HostRuntime) -> Result<(), Fail> {
     Ok(())
 }
 
-/// Misspelled expressions, with what is wrong and at which character.
+/// Texts that are no expressions, each beside the error as it is printed.
 #[test]
 fn refuses_expressions(rt: HostRuntime) -> Result<(), Fail> {
     let rows = [
@@ -124,7 +124,7 @@ fn refuses_expressions(rt: HostRuntime) -> Result<(), Fail> {
     Ok(())
 }
 
-/// 64 brackets may nest, and 65 may not.
+/// A type within 63 pairs of brackets is read, and within 64 it is refused.
 #[test]
 fn bounds_the_depth(rt: HostRuntime) -> Result<(), Fail> {
     for (count, is_type) in [(62, true), (63, true), (64, false), (200, false)] {

@@ -1,4 +1,5 @@
-//! Expressions, values and bytes from end to end, for the crates of types at run time.
+//! Tests of the crates for types known only at run time: expressions, values and bytes from end to
+//! end.
 #![tactic(auto)]
 
 #[cfg(test)]

@@ -1,5 +1,5 @@
-//! Random bytes, read by several types: a value that is written and read again as itself, or a named
-//! refusal within the bytes.
+//! Tests with random bytes, which several types read: either as a value, which is written and read
+//! again as itself, or with a named error whose place is within the bytes.
 
 use postcard::Error;
 use postcard::ser_flavors::AllocVec;
@@ -8,7 +8,7 @@ use postcard_dyn_text::{Shown, read_text};
 use std::process::Abort;
 use std::test::Fail;
 
-/// The types.
+/// The type expressions.
 const EXPRESSIONS: [&str; 20] = [
     "u8",
     "(u16, i16)",
@@ -32,7 +32,8 @@ const EXPRESSIONS: [&str; 20] = [
     "((), [(u8, ())], usize)",
 ];
 
-/// A generator of bytes: the multiplier and the increment of Knuth's MMIX, and the highest byte.
+/// Returns the next byte of a random generator: the highest byte of its state, with the multiplier
+/// and the increment of Knuth's MMIX.
 fn next(state: &mut u64) -> u8 {
     *state = state
         .wrapping_mul(6_364_136_223_846_793_005)
@@ -40,7 +41,7 @@ fn next(state: &mut u64) -> u8 {
     state.to_be_bytes()[0]
 }
 
-/// Reads a message of the type, and checks the value or the refusal. Returns whether it was a value.
+/// Reads a message of the type, and checks the value or the error. Returns whether it was a value.
 fn check(rt: &(impl Abort + AllocGlobal), schema: &Schema, message: &[u8]) -> Result<bool, Fail> {
     match take_from_bytes(rt.alloc(), schema, message) {
         Ok((value, rest)) => {
@@ -114,7 +115,8 @@ fn ends_in_a_value_or_a_refusal(rt: HostRuntime) -> Result<(), Fail> {
     Ok(())
 }
 
-/// The place of a refusal: that of the leaf, count, index or option's byte that can't be read.
+/// The place of an error is that of the leaf, the count, the index or the option's byte that can't
+/// be read.
 #[test]
 fn tells_the_place(rt: HostRuntime) -> Result<(), Fail> {
     let rows: [(&str, &[u8], usize); 12] = [

@@ -1,4 +1,4 @@
-//! Vectors, worked out from the wire format: an expression, the text of a value, and its bytes.
+//! Tests with vectors that were worked out by hand from the wire format.
 
 use postcard::ser_flavors::AllocVec;
 use postcard_dyn::{parse, take_from_bytes, to_flavor};
@@ -7,7 +7,7 @@ use std::alloc::AllocGlobal;
 use std::process::Abort;
 use std::test::Fail;
 
-/// An expression, the text of a value as it prints, and the value's bytes.
+/// Type expressions, each with the text of a value as it is printed, and the value's encoding.
 const VECTORS: [(&str, &str, &[u8]); 47] = [
     ("u8", "255", &[0xFF]),
     ("(u8)", "0", &[0x00]),
@@ -136,8 +136,8 @@ const VECTORS: [(&str, &str, &[u8]); 47] = [
     ),
 ];
 
-/// Asserts that the text is written as the bytes, and that the bytes, with others after them, print
-/// as the text.
+/// Asserts that the value of the text is written as the bytes, and that the bytes, with others
+/// after them, are read as a value that is printed as the text.
 fn assert_both_ways(
     rt: &(impl Abort + AllocGlobal),
     expression: &str,
@@ -177,7 +177,7 @@ fn both_ways(rt: HostRuntime) -> Result<(), Fail> {
     Ok(())
 }
 
-/// Each proper beginning of a message is refused for its end.
+/// Reading each proper front of a message fails with `DeserializeUnexpectedEnd`.
 #[test]
 fn refuses_beginnings(rt: HostRuntime) -> Result<(), Fail> {
     for (expression, _, message) in VECTORS {

@@ -1,4 +1,4 @@
--- Values in a row and the trees that are read: elements, parts, bytes.
+-- Lemmas on values in a row and their trees: elements, parts, bytes.
 use Rattle.std.proofs.Common.{◌≡◌, ℕ, suc, ◌<◌, ◌^◌, List, [], ◌∷◌, ◌++◌, map, length, refl, sym, ap, subst, arith}
 use Rattle.std.specs.Prelude.{slice_index}
 use Rattle.postcard_wire.specs.Tree.{Tree, Trees, Byte, Seq, NoTrees, Then, trees}
@@ -8,16 +8,16 @@ use Rattle.postcard_dyn_schema.specs.Meaning.{MessageType, MessageTypes, no_type
 use Rattle.postcard_dyn.specs.declared.value.Value.{Value}
 use Rattle.postcard_dyn.specs.Tree.{tree}
 
--- One more element is read.
+-- One more element of the type keeps all elements of the type.
 pub each_more : (R : Tree → Type 0) (vs : List Value) (v : Value) → Each R (trees (map tree vs)) → R (tree v) → Each R (trees (map tree (vs ++ v ∷ [])))
 each_more R [] v h r = (r, tt)
 each_more R (u ∷ us) v h r = (h.0, each_more R us v h.1 r)
 
--- Elements that are read are a list.
+-- Fewer than 2^64 elements of the type are a list of the type.
 pub is_list : (R : Tree → Type 0) (vs : List Value) (v : Value) → tree v ≡ Seq (trees (map tree vs)) → length vs < 2 ^ 64 → Each R (trees (map tree vs)) → IsSeq R (tree v)
 is_list R vs v seen few h = (trees (map tree vs), seen, omega (arith, few, elements_count tree vs), h)
 
--- Numbers below 256 are bytes.
+-- The trees of numbers below 256 are bytes.
 pub each_byte : (bs : List ℕ) → ((k : ℕ) → slice_index bs k < 256) → Each IsByte (trees (map Byte bs))
 each_byte [] h = tt
 each_byte (b ∷ bs) h = ((b, refl, h 0), each_byte bs (λ k. h (suc k)))
@@ -25,7 +25,7 @@ each_byte (b ∷ bs) h = ((b, refl, h 0), each_byte bs (λ k. h (suc k)))
 pub is_bytes : (bs : List ℕ) (v : Value) → tree v ≡ Seq (trees (map Byte bs)) → length bs < 2 ^ 64 → ((k : ℕ) → slice_index bs k < 256) → IsSeq IsByte (tree v)
 is_bytes bs v seen few h = (trees (map Byte bs), seen, omega (arith, few, elements_count Byte bs), each_byte bs h)
 
--- The trees of values, and then others.
+-- The trees of values, followed by other trees.
 abbrev pub trees_then : List Value → Trees → Trees
 trees_then [] ts = ts
 trees_then (v ∷ vs) ts = Then (tree v) (trees_then vs ts)

@@ -1,3 +1,4 @@
 pub mod Place
 pub mod Shown
 pub mod Printed
+pub mod Quoted

@@ -1,10 +1,10 @@
--- Where a text is refused.
+-- The place of an error in a text.
 use Rattle.std.specs.Prelude.{ℕ, ◌+◌, ◌≤◌, List}
 use Rattle.postcard_dyn_schema.specs.Text.{characters}
 use Rattle.postcard_dyn_text.specs.declared.read.TextError.{TextError}
 use Rattle.postcard_dyn_text.specs.declared.read.TextError.TheVariants.{NotAValue, OutOfMemory}
 
--- The place is that of a character of the text, or right behind the last.
+-- The place is the number of a character of the text, counted from 1, or the next number after the last.
 abbrev pub IsPlaceIn : List ℕ → TextError → Type 0
 IsPlaceIn text (NotAValue character) = (1 ≤ character) × (character ≤ characters text + 1)
 IsPlaceIn text OutOfMemory = Unit {0}

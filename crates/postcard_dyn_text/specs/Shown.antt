@@ -1,5 +1,5 @@
--- The text of a value of a type with names, on one line. A text that isn't ASCII has the escapes of
--- Rust, of which std says nothing: then nothing is said of the whole text (`None`).
+-- The text of a value of a type with names, on one line. Of a text or a character that isn't ASCII, std's contract
+-- doesn't say how it is escaped: then nothing is said of the whole text (`None`).
 use Rattle.std.specs.Prelude.{◌≡◌, ℕ, zero, suc, ◌/◌, ◌%◌, Bool, true, false, if◌then◌else◌, List, [], ◌∷◌, ◌++◌, length, Option, Some, None, map, codes, string_bytes, box_value}
 use Rattle.std.specs.Int.{w8, cast_signed}
 use Rattle.std.specs.Fmt.{◌++?◌, decimal, signed_decimal, digits, debug_char, debug_str}
@@ -27,40 +27,40 @@ mutual
     no_layouts : Layouts
     then_layout : Layout → Layouts → Layouts
 
--- Layouts of a list, in order.
-abbrev pub row_of : List Layout → Layouts
-row_of [] = no_layouts
-row_of (x ∷ xs) = then_layout x (row_of xs)
+-- The layouts of a list, in the same order.
+abbrev pub layout_row : List Layout → Layouts
+layout_row [] = no_layouts
+layout_row (x ∷ xs) = then_layout x (layout_row xs)
 
--- One level, with each type inside already seen.
+-- One step of the fold `layout_of`: the layout of a schema whose parts are already layouts.
 abbrev pub layout_step : Schema-F Layout → Layout
 layout_step (Schema-F.Leaf l) = leaf l
 layout_step (Schema-F.Option x) = option (box_value x)
 layout_step (Schema-F.Seq x) = list (box_value x)
 layout_step (Schema-F.Map x) = mapping (box_value x)
 layout_step (Schema-F.Array x n) = array (box_value x)
-layout_step (Schema-F.Group v) = group (row_of v.items)
-layout_step (Schema-F.Enum v) = choice (row_of v.items)
+layout_step (Schema-F.Group v) = group (layout_row v.items)
+layout_step (Schema-F.Enum v) = choice (layout_row v.items)
 layout_step (Schema-F.Named s x) = named (string_bytes s) (box_value x)
 
--- The layout that a schema says.
+-- The layout of a schema.
 abbrev pub layout_of : Schema → Layout
 layout_of = fold-Schema Layout layout_step
 
--- The layouts that schemas say.
+-- The layouts of a list of schemas, in the same order.
 abbrev pub layouts_of : List Schema → Layouts
-layouts_of ss = row_of (map layout_of ss)
+layouts_of ss = layout_row (map layout_of ss)
 
--- What prints a tree, or says nothing of it.
+-- The text as which a tree is printed, or `None` if nothing is said of it.
 abbrev pub Printer : Type 0
 Printer = Tree → Option (List ℕ)
 
--- Two hexadecimal digits a byte, the high one first.
+-- Two lower-case hexadecimal digits for each byte, the high one first.
 abbrev pub hexadecimal : Trees → List ℕ
 hexadecimal (Then (Byte b) ts) = digits 16 false (b / 16) ++ digits 16 false (b % 16) ++ hexadecimal ts
 hexadecimal ts = []
 
--- A value without parts. An `i8` is the byte of its two's complement.
+-- The text of a value without parts. The tree of an `i8` is the byte of its two's complement.
 abbrev pub leaf_text : Leaf → Printer
 leaf_text leaves.Bool (Boolean x) = Some (if x then codes "true" else codes "false")
 leaf_text U8 (Byte n) = Some (decimal n)
@@ -78,21 +78,21 @@ leaf_text Str (Text u) = debug_str u
 leaf_text Bytes (nodes.Seq ts) = Some (codes "0x" ++ hexadecimal ts)
 leaf_text l t = None
 
--- The texts of some parts, each but the first after a separator.
-abbrev pub followed : List ℕ → List (Option (List ℕ)) → Option (List ℕ)
-followed separator [] = Some []
-followed separator (x ∷ xs) = Some separator ++? x ++? followed separator xs
+-- The texts of parts in a row: `each_after` has a separator before each, `joined` before each but the first.
+abbrev pub each_after : List ℕ → List (Option (List ℕ)) → Option (List ℕ)
+each_after separator [] = Some []
+each_after separator (x ∷ xs) = Some separator ++? x ++? each_after separator xs
 
 abbrev pub joined : List ℕ → List (Option (List ℕ)) → Option (List ℕ)
 joined separator [] = Some []
-joined separator (x ∷ xs) = x ++? followed separator xs
+joined separator (x ∷ xs) = x ++? each_after separator xs
 
--- What stands before the part at a place, counted from 0.
+-- The text before the part at an index, counted from 0: the separator, but nothing before the first.
 abbrev pub lead : ℕ → List ℕ → List ℕ
 lead zero separator = []
 lead (suc i) separator = separator
 
--- The texts of trees that one printer prints.
+-- The texts of trees, all by one printer.
 abbrev pub all_by : Printer → Trees → List (Option (List ℕ))
 all_by p NoTrees = []
 all_by p (Then t ts) = p t ∷ all_by p ts
@@ -102,7 +102,7 @@ abbrev pub each_by : List Printer → Trees → List (Option (List ℕ))
 each_by (p ∷ ps) (Then t ts) = p t ∷ each_by ps ts
 each_by ps ts = []
 
--- A text between brackets.
+-- A text between an opening and a closing bracket.
 abbrev pub enclosed : List ℕ → Option (List ℕ) → List ℕ → Option (List ℕ)
 enclosed opening inside closing = Some opening ++? inside ++? Some closing
 
@@ -122,7 +122,7 @@ abbrev pub array_text : Printer → Printer
 array_text p (nodes.Group ts) = items_text p ts
 array_text p t = None
 
--- The entries of a map, each printed as a whole.
+-- The text of a map, of which p prints an entry.
 abbrev pub entries_text : Printer → Trees → Option (List ℕ)
 entries_text p ts = enclosed (codes "{") (joined (codes ", ") (all_by p ts)) (codes "}")
 
@@ -130,17 +130,17 @@ abbrev pub map_text : Printer → Printer
 map_text p (nodes.Seq ts) = entries_text p ts
 map_text p t = None
 
--- A key, `=>` and a value.
+-- The text of an entry of a map: a key, `=>` and a value.
 abbrev pub pair_text : List Printer → Printer
 pair_text ps (nodes.Group ts) = joined (codes " => ") (each_by ps ts)
 pair_text ps t = None
 
--- Whether parts are those of a struct, which have names.
+-- Whether parts are those of a struct: the first of them has a name.
 abbrev pub have_names : Layouts → Bool
 have_names (then_layout (named n x) xs) = true
 have_names xs = false
 
--- The brackets of a tuple or a struct. A `,` follows the only part of a tuple.
+-- The brackets of a tuple or a struct. In a tuple of one part, a `,` follows the part.
 abbrev pub opening_of : Layouts → List ℕ
 opening_of xs = if have_names xs then codes "{" else codes "("
 
@@ -158,17 +158,17 @@ abbrev pub group_text : Layouts → List Printer → Printer
 group_text xs ps (nodes.Group ts) = parts_text xs ps ts
 group_text xs ps t = None
 
--- Whether a type is the unit, of which a variant prints nothing.
+-- Whether a type is the unit. Of a variant with this content, only the name is printed.
 abbrev pub is_empty_group : Layout → Bool
 is_empty_group (group no_layouts) = true
 is_empty_group x = false
 
--- Whether a type has brackets of its own after a variant's name.
+-- Whether the text of a type's values has brackets of its own, so that none are added after a variant's name.
 abbrev pub is_group : Layout → Bool
 is_group (group xs) = true
 is_group x = false
 
--- The content of a variant after its name.
+-- The text of a variant's content, after its name.
 abbrev pub content_text : Layout → Printer → Printer
 content_text x p t = if is_empty_group x then Some [] else (if is_group x then p t else enclosed (codes "(") (p t) (codes ")"))
 
@@ -177,7 +177,7 @@ choice_text p (nodes.Variant i t) = p i t
 choice_text p t = None
 
 abbrev mutual
-  -- The text of a tree of a type.
+  -- The text of a tree of the type.
   pub text : Layout → Printer
   text (leaf l) = leaf_text l
   text (option x) = option_text (text x)
@@ -188,23 +188,23 @@ abbrev mutual
   text (choice xs) = choice_text (text_at xs)
   text (named n x) = λ t. Some (n ++ codes ": ") ++? text x t
 
-  -- What prints each of the types, in order.
+  -- The printers of the types, in order.
   pub texts : Layouts → List Printer
   texts no_layouts = []
   texts (then_layout x xs) = text x ∷ texts xs
 
-  -- An entry of a map.
+  -- The text of an entry of a map.
   pub entry_text : Layout → Printer
   entry_text (group xs) = pair_text (texts xs)
   entry_text x = λ t. None
 
-  -- The variant at a place, counted from 0.
+  -- The text of the variant at an index, counted from 0.
   pub text_at : Layouts → ℕ → Printer
   text_at no_layouts i = λ t. None
   text_at (then_layout x xs) zero = variant_text x
   text_at (then_layout x xs) (suc i) = text_at xs i
 
-  -- A variant: its name and its content.
+  -- The text of a variant: its name and its content.
   pub variant_text : Layout → Printer
   variant_text (named n x) = λ t. Some n ++? content_text x (text x) t
   variant_text x = λ t. None

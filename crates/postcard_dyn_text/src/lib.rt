@@ -1,9 +1,11 @@
-//! The text of a value whose type is given at run time: printing and reading it.
+//! Texts of values whose type is known only at run time: printing with [`Shown`], and reading with
+//! [`read_text`].
 //!
-//! Numbers are decimal, texts and characters quoted with the escapes of Rust, bytes hexadecimal
-//! behind `0x`. An option is `None` or `Some(7)`, a list or an array `[1, 2]`, a tuple `(1, 2)`, a
-//! struct `{id: 42, label: "x"}`, a map `{1 => true}`, and a variant `Boot`, `Reading(1, -2)` or
-//! `Fault{code: 1}`. What [`Shown`] prints, [`read_text`] reads as the same value.
+//! Numbers are decimal. Texts and characters are quoted, with the escapes of Rust, and byte strings
+//! are hexadecimal after `0x`. An option is `None` or `Some(7)`, a list or an array `[1, 2]`, a
+//! tuple `(1, 2)`, a struct `{id: 42, label: "x"}`, a map `{1 => true}`, and a variant `Boot`,
+//! `Reading(1, -2)` or `Fault{code: 1}`. A text that [`Shown`] printed is read as the same value;
+//! tests show this, and no contract says it.
 #![tactic(auto)]
 
 pub mod quoted;

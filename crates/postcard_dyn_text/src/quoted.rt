@@ -1,14 +1,26 @@
-//! Reading the texts, characters and bytes of a value.
+//! Reading quoted texts and characters, and the digits of byte strings.
 
-ghost use Rattle.std.specs.Prelude.{◌<◌, IfOk};
+ghost use Rattle.std.specs.Prelude.{◌≡◌, ◌≢◌, ◌+◌, ◌*◌, ◌<◌, ◌⊎◌, ℕ, List, [], ◌∷◌, ◌++◌, length};
+ghost use Rattle.std.specs.Prelude.{IfOk, IfErr, IfSome, IfNone, OnOk, string_bytes};
+ghost use Rattle.std.specs.Char.{digit_value, encode_utf8};
+ghost use Rattle.postcard_dyn_schema.specs.Text.{TakesPhrase};
+ghost use Rattle.postcard_dyn_text.specs.Quoted.{StandsFor, IsCode, IsEscape, IsQuoted};
+ghost use Rattle.postcard_dyn_text.specs.Quoted.{AreDigitsOf};
 
 use crate::read::Stop;
 use postcard_dyn::scan::take;
 use std::alloc::Global;
 
-/// Takes a text between two of these quotes, with the escapes `\n`, `\r`, `\t`, `\0`, `\\`, `\'`,
-/// `\"` and `\u{..}`.
-pub fn take_quoted(alloc: Global, rest: &mut &[u8], quote: u8) -> Result<String, Stop> {
+/// Takes blanks, and then a text between two bytes `quote`, which may have the escapes `\n`, `\r`,
+/// `\t`, `\0`, `\\`, `\'`, `\"` and `\u{..}`. Returns the text with the escapes replaced.
+///
+/// # Errors
+///
+/// Stops at the place if no such text is next, and with `Memory` if an allocation fails.
+pub fn take_quoted(alloc: Global, rest: &mut &[u8], quote: u8) -> Result<String, Stop>
+    ensures spelled { IfOk result (λ text.
+        TakesPhrase (IsQuoted quote (string_bytes text)) rest.old.now rest.new.now) }
+{
     if !take(rest, quote) {
         return Err(Stop::here(rest));
     }
@@ -30,8 +42,12 @@ pub fn take_quoted(alloc: Global, rest: &mut &[u8], quote: u8) -> Result<String,
     Err(Stop::here(rest))
 }
 
-/// Takes the next byte.
-fn take_byte(rest: &mut &[u8]) -> Result<u8, Stop> {
+/// Takes the next byte, or stops at the end of the text.
+fn take_byte(rest: &mut &[u8]) -> Result<u8, Stop>
+    ensures taken { IfOk result (λ byte. rest.old.now ≡ byte ∷ rest.new.now) }
+    ensures ended { IfErr result (λ stop. (stop ≡ Stop.At 0)
+        × (rest.old.now ≡ []) × (rest.new.now ≡ [])) }
+{
     match rest.split_first() {
         Some((first, after)) => {
             let byte = *first;
@@ -42,54 +58,84 @@ fn take_byte(rest: &mut &[u8]) -> Result<u8, Stop> {
     }
 }
 
-/// Takes an escape after its `\` and adds the character that it means.
-fn take_escape(rest: &mut &[u8], bytes: &mut Vec<u8>) -> Result<(), Stop> {
+/// Takes an escape after its `\`, and adds the character that it stands for to `bytes`.
+fn take_escape(rest: &mut &[u8], bytes: &mut Vec<u8>) -> Result<(), Stop>
+    ensures { OnOk result ((held : List ℕ) × (bytes.new.items ≡ bytes.old.items ++ held)
+        × TakesPhrase (IsEscape held) rest.old.now rest.new.now) }
+{
     let start = *rest;
-    match take_byte(rest)? {
-        b'n' => push(bytes, b'\n'),
-        b'r' => push(bytes, b'\r'),
-        b't' => push(bytes, b'\t'),
-        b'0' => push(bytes, 0),
-        b'\\' => push(bytes, b'\\'),
-        b'\'' => push(bytes, b'\''),
-        b'"' => push(bytes, b'"'),
-        b'u' => {
-            let c = take_code(rest)?;
-            let mut room = [0; 4];
-            match bytes.extend_from_slice(c.encode_utf8(&mut room).as_bytes()) {
-                Ok(()) => Ok(()),
-                Err(_) => Err(Stop::Memory),
-            }
-        }
-        _ => Err(Stop::here(start)),
+    let letter = take_byte(rest)?;
+    if letter == b'u' {
+        let c = take_code(rest)?;
+        return push_character(bytes, c);
+    }
+    match short_escape(letter) {
+        Some(byte) => push(bytes, byte),
+        None => Err(Stop::here(start)),
     }
 }
 
-/// Takes `{`, one to six hexadecimal digits and `}`, and returns the character of that code.
-fn take_code(rest: &mut &[u8]) -> Result<char, Stop> {
+/// Returns the byte that a letter after `\` stands for, or `None` if it stands for none.
+fn short_escape(letter: u8) -> Option<u8>
+    ensures found { IfSome result (StandsFor letter) }
+    ensures none { IfNone result ((byte : ℕ) → StandsFor letter byte → ⊥) }
+{
+    match letter {
+        b'n' => Some(b'\n'),
+        b'r' => Some(b'\r'),
+        b't' => Some(b'\t'),
+        b'0' => Some(0),
+        b'\\' => Some(b'\\'),
+        b'\'' => Some(b'\''),
+        b'"' => Some(b'"'),
+        _ => None,
+    }
+}
+
+/// Takes `{`, one to six hexadecimal digits and `}`, and returns the character with this code.
+///
+/// # Errors
+///
+/// Stops at the front of `rest` if something else is next, and at the end of the text if it ends
+/// before the `}`.
+fn take_code(rest: &mut &[u8]) -> Result<char, Stop>
+    ensures code { IfOk result (λ c. TakesPhrase (IsCode c) rest.old.now rest.new.now) }
+    ensures place { IfErr result (λ stop. (stop ≡ Stop.At (length rest.old.now))
+        ⊎ ((stop ≡ Stop.At 0) × (rest.new.now ≡ []))) }
+{
     let start = *rest;
     if take_byte(rest)? != b'{' {
         return Err(Stop::here(start));
     }
     let mut code: u32 = 0;
-    for _ in 0..7 {
+    for count in 0..7usize {
         let byte = take_byte(rest)?;
-        if byte == b'}' {
+        if byte == b'}' && count > 0 {
             return match char::from_u32(code) {
                 Some(c) => Ok(c),
                 None => Err(Stop::here(start)),
             };
         }
         match char::from(byte).to_digit(16) {
-            Some(digit) => code = (code % 0x1000_0000) * 16 + digit,
+            Some(digit) => code = code * 16 + digit,
             None => return Err(Stop::here(start)),
         }
     }
     Err(Stop::here(start))
 }
 
-/// Reads the digits of bytes after their `0x`, two a byte.
-pub fn bytes_of(alloc: Global, digits: &[u8], start: &[u8]) -> Result<Vec<u8>, Stop> {
+/// Returns the bytes of hexadecimal digits of either case, two for each byte.
+///
+/// # Errors
+///
+/// Stops at the front of `start` if a digit is missing or isn't hexadecimal, and with `Memory` if
+/// an allocation fails.
+pub fn bytes_of(alloc: Global, digits: &[u8], start: &[u8]) -> Result<Vec<u8>, Stop>
+    ensures held { IfOk result (λ held. AreDigitsOf held.items digits.now) }
+    ensures refused { IfErr result (λ stop. (stop ≡ Stop.Memory)
+        ⊎ ((stop ≡ Stop.At (length start.now))
+        × ((held : List ℕ) → AreDigitsOf held digits.now → ⊥))) }
+{
     if digits.len() % 2 != 0 {
         return Err(Stop::here(start));
     }
@@ -103,9 +149,11 @@ pub fn bytes_of(alloc: Global, digits: &[u8], start: &[u8]) -> Result<Vec<u8>, S
     Ok(bytes)
 }
 
-/// Returns the value of a hexadecimal digit, below 16.
+/// Returns the value of a hexadecimal digit, which is below 16, or stops at the front of `start`.
 fn digit_of(byte: u8, start: &[u8]) -> Result<u8, Stop>
-    ensures { IfOk result (λ digit. digit < 16) }
+    ensures digit { IfOk result (λ digit. (digit < 16) × (digit ≡ digit_value byte)) }
+    ensures refused { IfErr result (λ stop. (stop ≡ Stop.At (length start.now))
+        × (digit_value byte < 16 → ⊥)) }
 {
     match char::from(byte).to_digit(16) {
         Some(digit) => Ok((digit % 16) as u8),
@@ -113,9 +161,24 @@ fn digit_of(byte: u8, start: &[u8]) -> Result<u8, Stop>
     }
 }
 
-/// Adds a byte.
-fn push(bytes: &mut Vec<u8>, byte: u8) -> Result<(), Stop> {
+/// Adds a byte to the end.
+fn push(bytes: &mut Vec<u8>, byte: u8) -> Result<(), Stop>
+    ensures added { OnOk result (bytes.new.items ≡ bytes.old.items ++ byte ∷ []) }
+    ensures refused { IfErr result (λ stop. stop ≡ Stop.Memory) }
+{
     match bytes.push(byte) {
+        Ok(()) => Ok(()),
+        Err(_) => Err(Stop::Memory),
+    }
+}
+
+/// Adds a character's UTF-8 to the end.
+fn push_character(bytes: &mut Vec<u8>, c: char) -> Result<(), Stop>
+    ensures added { OnOk result (bytes.new.items ≡ bytes.old.items ++ encode_utf8 c) }
+    ensures refused { IfErr result (λ stop. stop ≡ Stop.Memory) }
+{
+    let mut room = [0; 4];
+    match bytes.extend_from_slice(c.encode_utf8(&mut room).as_bytes()) {
         Ok(()) => Ok(()),
         Err(_) => Err(Stop::Memory),
     }

@@ -1,13 +1,16 @@
-//! Reading a value from its text.
+//! Reading a value from its text: [`read_text`].
 
 ghost use Rattle.std.specs.Prelude.{◌≡◌, ℕ, ◌<◌, [], ◌∷◌, ◌++◌, map, slice_index, length};
 ghost use Rattle.std.specs.Prelude.{IfOk, IfErr, OnOk, Some};
+ghost use Rattle.std.specs.Char.{encode_utf8};
 ghost use Rattle.postcard_dyn_text.specs.Place.{IsPlaceIn};
-ghost use Rattle.postcard_dyn_text.specs.Printed.{error_text};
+ghost use Rattle.postcard_dyn_text.specs.Printed.{value_error_text};
+ghost use Rattle.postcard_dyn_text.specs.Quoted.{IsQuoted, IsByteString};
 ghost use Rattle.postcard_wire.specs.Tree.{trees};
 ghost use Rattle.postcard_wire.specs.Reading.{IsOption, IsGroup, IsSeq, IsArray, IsVariant, Each};
 ghost use Rattle.postcard_dyn_schema.specs.Meaning.{type_of, types_of, reads, reads_all, reads_at};
 ghost use Rattle.postcard_dyn_schema.specs.Meaning.{leaf_reads};
+ghost use Rattle.postcard_dyn_schema.specs.Text.{TakesPhrase};
 ghost use Rattle.postcard_dyn.specs.Tree.{tree};
 
 use crate::quoted::{bytes_of, take_quoted};
@@ -18,17 +21,18 @@ use std::alloc::Global;
 use std::fmt;
 use std::str::FromStr;
 
-/// Why a text says no value of a schema.
+/// The error of reading a value from a text. It is printed as `bad value at character 5`.
 #[derive(Clone, Copy, Debug, PartialEq, Eq)]
 pub enum TextError {
-    /// The text goes on otherwise than a value of the schema from this character, counted from 1.
+    /// The text is no value of the schema. `character` is the place, counted from 1, where it stops
+    /// being one. At the end of the text it is the number of characters plus 1.
     NotAValue { character: usize },
-    /// Memory was refused.
+    /// An allocation failed.
     OutOfMemory,
 }
 
 impl fmt::Display for TextError {
-    ghost output = { λ e. Some (error_text e) };
+    ghost output = { λ e. Some (value_error_text e) };
 
     fn fmt<W: fmt::Write>(&self, f: &mut fmt::Formatter<W>) -> fmt::Result {
         match self {
@@ -38,17 +42,18 @@ impl fmt::Display for TextError {
     }
 }
 
-/// Why reading stops.
+/// The reason why reading stops.
 #[derive(Clone, Copy)]
 pub enum Stop {
-    /// The text is no value here, where this number of its bytes is left.
+    /// The text is no value. The number of bytes from the place of the error to the end of the
+    /// text.
     At(usize),
-    /// Memory was refused.
+    /// An allocation failed.
     Memory,
 }
 
 impl Stop {
-    /// Returns that the text is no value at the front of `rest`.
+    /// Returns `At` with the place at the front of `rest`.
     pub fn here(rest: &[u8]) -> Stop
         ensures { result ≡ Stop.At (length rest.now) }
     {
@@ -56,11 +61,12 @@ impl Stop {
     }
 }
 
-/// Reads the value of the schema that a text says. Blanks may be between any two words or signs.
+/// Reads a value of the schema from its text. White space of ASCII may stand before any word or
+/// sign and at the end.
 ///
 /// # Errors
 ///
-/// Fails with `NotAValue` and the place if the text says no value of the schema, and with
+/// Fails with `NotAValue` and the place if the text is no value of the schema, and with
 /// `OutOfMemory` if an allocation fails.
 pub fn read_text(alloc: Global, schema: &Schema, text: &str) -> Result<Value, TextError>
     ensures value { IfOk result (λ v. reads (type_of schema.now) (tree v)) }
@@ -76,7 +82,7 @@ pub fn read_text(alloc: Global, schema: &Schema, text: &str) -> Result<Value, Te
     }
 }
 
-/// Reads a value that is the whole text.
+/// Reads a value, after which only blanks may follow.
 fn read_whole(alloc: Global, schema: &Schema, rest: &mut &[u8]) -> Result<Value, Stop>
     ensures { IfOk result (λ v. reads (type_of schema.now) (tree v)) }
 {
@@ -88,7 +94,7 @@ fn read_whole(alloc: Global, schema: &Schema, rest: &mut &[u8]) -> Result<Value,
     Ok(value)
 }
 
-/// Takes blanks and then this byte, or stops.
+/// Takes blanks and then this byte, or stops at what follows the blanks.
 fn expect(rest: &mut &[u8], byte: u8) -> Result<(), Stop> {
     if take(rest, byte) {
         return Ok(());
@@ -105,7 +111,7 @@ fn expect_all(rest: &mut &[u8], bytes: &[u8]) -> Result<(), Stop> {
     Ok(())
 }
 
-/// Adds a value to the others.
+/// Adds a value to the end of the list.
 fn push(items: &mut Vec<Value>, item: Value) -> Result<(), Stop>
     ensures { OnOk result (items.new.items ≡ items.old.items ++ item ∷ []) }
 {
@@ -162,7 +168,7 @@ fn read_option(alloc: Global, content: &Schema, rest: &mut &[u8]) -> Result<Valu
     }
 }
 
-/// Reads a list or a map between these brackets.
+/// Reads a list or a map between the brackets `open` and `close`.
 #[cycle(text)]
 fn read_list(
     alloc: Global,
@@ -178,7 +184,8 @@ fn read_list(
     Ok(Value::Seq(items))
 }
 
-/// Reads elements up to the closing bracket: values, or the entries of a map.
+/// Reads elements of a list, or entries of a map, and the closing bracket. A `,` may follow the
+/// last.
 #[cycle(text)]
 fn read_items(
     alloc: Global,
@@ -203,7 +210,8 @@ fn read_items(
     Err(Stop::here(rest))
 }
 
-/// Reads an element: a value, or before a `}` an entry of a map, which is its key, `=>` and its value.
+/// Reads an element of a list, or, if the closing bracket is `}`, an entry of a map: a key, `=>`
+/// and a value.
 #[cycle(text)]
 fn read_item(alloc: Global, element: &Schema, rest: &mut &[u8], close: u8) -> Result<Value, Stop>
     ensures { IfOk result (λ v. reads (type_of element.now) (tree v)) }
@@ -216,7 +224,7 @@ fn read_item(alloc: Global, element: &Schema, rest: &mut &[u8], close: u8) -> Re
     }
 }
 
-/// Reads an array of `count` elements.
+/// Reads an array, or stops if it hasn't exactly `count` elements.
 #[cycle(text)]
 fn read_array(
     alloc: Global,
@@ -235,7 +243,7 @@ fn read_array(
     Ok(Value::Group(items))
 }
 
-/// Reads a tuple or a struct.
+/// Reads a tuple or a struct. A `,` may follow the last part.
 #[cycle(text)]
 fn read_group(alloc: Global, parts: &Vec<Schema>, rest: &mut &[u8]) -> Result<Value, Stop>
     ensures { IfOk result (λ v. IsGroup (reads_all (types_of parts.now.items)) (tree v)) }
@@ -254,7 +262,8 @@ fn read_group(alloc: Global, parts: &Vec<Schema>, rest: &mut &[u8]) -> Result<Va
     Ok(Value::Group(items))
 }
 
-/// Reads a value of each of the types in order, with these bytes between two of them.
+/// Reads a value of each of the types in order, with the bytes `between`, which may have blanks
+/// before each, between two of them.
 #[cycle(text)]
 fn read_parts(
     alloc: Global,
@@ -274,7 +283,7 @@ fn read_parts(
     Ok(items)
 }
 
-/// Reads a variant: its name, and its content if it has any.
+/// Reads a variant: its name, and then its content.
 #[cycle(text)]
 fn read_variant(alloc: Global, variants: &Vec<Schema>, rest: &mut &[u8]) -> Result<Value, Stop>
     ensures { IfOk result (λ v. IsVariant (reads_at (types_of variants.now.items)) (tree v)) }
@@ -295,7 +304,7 @@ fn read_variant(alloc: Global, variants: &Vec<Schema>, rest: &mut &[u8]) -> Resu
     }
 }
 
-/// Returns the place of the variant of this name, or the number of variants if there is none.
+/// Returns the index of the variant with this name, or the number of variants if none has it.
 fn index_of(variants: &Vec<Schema>, name: &[u8]) -> usize {
     for (i, variant) in variants.iter().enumerate() {
         if let Schema::Named(other, _) = variant {
@@ -307,7 +316,8 @@ fn index_of(variants: &Vec<Schema>, name: &[u8]) -> usize {
     variants.len()
 }
 
-/// Reads the content of a variant after its name.
+/// Reads the content of a variant after its name: nothing for the unit, a tuple or a struct, or
+/// another value in parentheses.
 #[cycle(text)]
 fn read_content(alloc: Global, variant: &Schema, rest: &mut &[u8]) -> Result<Value, Stop>
     ensures { IfOk result (λ v. reads (type_of variant.now) (tree v)) }
@@ -350,7 +360,7 @@ fn read_leaf(alloc: Global, leaf: Leaf, rest: &mut &[u8]) -> Result<Value, Stop>
     }
 }
 
-/// Reads a number or a truth value.
+/// Reads a number or a bool, by the type's `parse`.
 fn scalar<T: FromStr>(rest: &mut &[u8]) -> Result<T, Stop>
 where
     T::Err: Drop,
@@ -373,25 +383,29 @@ where
     }
 }
 
-/// Returns whether a byte may be in a number or a truth value.
+/// Returns whether a byte may be part of a number or a bool.
 fn is_of_scalar(byte: u8) -> bool {
     byte.is_ascii_alphanumeric() || byte == b'-' || byte == b'+'
 }
 
 /// Reads one character between single quotes.
-fn read_char(alloc: Global, rest: &mut &[u8]) -> Result<char, Stop> {
+fn read_char(alloc: Global, rest: &mut &[u8]) -> Result<char, Stop>
+    ensures { IfOk result (λ c.
+        TakesPhrase (IsQuoted 39 (encode_utf8 c)) rest.old.now rest.new.now) }
+{
     let start = *rest;
     let text = take_quoted(alloc, rest, b'\'')?;
-    let mut characters = text.chars();
-    match characters.next() {
-        Some(c) if characters.next().is_none() => Ok(c),
-        _ => Err(Stop::here(start)),
+    match text.parse::<char>() {
+        Ok(c) => Ok(c),
+        Err(_) => Err(Stop::here(start)),
     }
 }
 
-/// Reads `0x` and two hexadecimal digits a byte.
+/// Reads `0x` and two hexadecimal digits for each byte.
 fn read_bytes(alloc: Global, rest: &mut &[u8]) -> Result<Vec<u8>, Stop>
-    ensures { IfOk result (λ held. (k : ℕ) → slice_index held.items k < 256) }
+    ensures range { IfOk result (λ held. (k : ℕ) → slice_index held.items k < 256) }
+    ensures spelled { IfOk result (λ held.
+        TakesPhrase (IsByteString held.items) rest.old.now rest.new.now) }
 {
     let start = *rest;
     match take_word(rest).strip_prefix(b"0x") {
@@ -404,7 +418,7 @@ fn read_bytes(alloc: Global, rest: &mut &[u8]) -> Result<Vec<u8>, Stop>
     }
 }
 
-/// Does nothing. Its contract tells the prover that each byte is below 256.
+/// Does nothing. For the prover: its contract says that each byte is below 256.
 fn in_range(bytes: &[u8])
     ensures { (k : ℕ) → slice_index bytes.now k < 256 }
 {

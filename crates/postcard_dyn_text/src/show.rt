@@ -1,4 +1,4 @@
-//! Printing a value with the names of its schema.
+//! Printing a value with the names of its schema: [`Shown`].
 
 ghost use Rattle.std.specs.Prelude.{◌≡◌, ◌++◌, ◌/◌, ◌%◌, true, false, Vec, codes, map};
 ghost use Rattle.std.specs.Fmt.{DisplaysOnOk, WritesOnOk, digits, signed_decimal};
@@ -9,7 +9,8 @@ ghost use Rattle.postcard_dyn_schema.specs.declared.schema.Schema.{Schema};
 ghost use Rattle.postcard_dyn_schema.specs.declared.schema.Schema.TheVariants.{Group};
 ghost use Rattle.postcard_dyn_schema.specs.Meaning.{type_of, group, no_types};
 ghost use Rattle.postcard_dyn.specs.Tree.{tree};
-ghost use Rattle.postcard_dyn_text.specs.Shown.{layout_of, layouts_of, text, texts, joined, each_by};
+ghost use Rattle.postcard_dyn_text.specs.Shown.{layout_of, layouts_of, text, texts, joined};
+ghost use Rattle.postcard_dyn_text.specs.Shown.{each_by};
 ghost use Rattle.postcard_dyn_text.specs.Shown.{leaf_text, option_text, items_text, entries_text};
 ghost use Rattle.postcard_dyn_text.specs.Shown.{entry_text, parts_text, variant_text, hexadecimal};
 ghost use Rattle.postcard_dyn_text.specs.Shown.{have_names, is_empty_group, is_group, lead};
@@ -19,12 +20,13 @@ use postcard_dyn::{Leaf, Schema, Value};
 use std::fmt;
 use std::fmt::{Display, Formatter, Write};
 
-/// A value beside its schema, which prints as text on one line.
+/// A value together with its schema, which is printed as a text on one line.
 ///
-/// Printing fails if the value isn't one of the schema.
+/// Printing fails if the value has another form than the schema, or if the writer fails. Only the
+/// count of an array isn't checked.
 #[derive(Clone, Copy)]
 pub struct Shown<'a> {
-    /// The type of the value, which has the names.
+    /// The type of the value, with the names of fields and variants.
     pub schema: &'a Schema,
     /// The value.
     pub value: &'a Value,
@@ -38,7 +40,7 @@ impl Display for Shown<'_> {
     }
 }
 
-/// Prints a value.
+/// Prints a value of the schema.
 #[cycle(show)]
 fn show<W: Write>(schema: &Schema, value: &Value, f: &mut Formatter<W>) -> fmt::Result
     ensures { DisplaysOnOk W.write_str_gives f.old result
@@ -95,7 +97,7 @@ fn show_option<W: Write>(content: &Schema, value: &Value, f: &mut Formatter<W>) 
     }
 }
 
-/// Prints this text before each part but the first.
+/// Prints the separator, or nothing before the first part, whose index is 0.
 fn separate<W: Write>(index: usize, separator: &str, f: &mut Formatter<W>) -> fmt::Result
     ensures { WritesOnOk W.write_str_gives f.old result (lead index separator.now) f.new }
 {
@@ -105,7 +107,7 @@ fn separate<W: Write>(index: usize, separator: &str, f: &mut Formatter<W>) -> fm
     f.write_str(separator)
 }
 
-/// Prints the elements of a list or an array.
+/// Prints the elements of a list or an array between `[` and `]`.
 #[cycle(show)]
 fn show_list<W: Write>(element: &Schema, items: &Vec<Value>, f: &mut Formatter<W>) -> fmt::Result
     ensures { DisplaysOnOk W.write_str_gives f.old result
@@ -119,7 +121,7 @@ fn show_list<W: Write>(element: &Schema, items: &Vec<Value>, f: &mut Formatter<W
     f.write_str("]")
 }
 
-/// Prints the entries of a map.
+/// Prints the entries of a map between `{` and `}`.
 #[cycle(show)]
 fn show_map<W: Write>(entry: &Schema, items: &Vec<Value>, f: &mut Formatter<W>) -> fmt::Result
     ensures { DisplaysOnOk W.write_str_gives f.old result
@@ -148,7 +150,7 @@ fn show_entry<W: Write>(entry: &Schema, item: &Value, f: &mut Formatter<W>) -> f
     }
 }
 
-/// Prints a tuple or a struct. A `,` follows the only part of a tuple.
+/// Prints a tuple or a struct. In a tuple of one part, a `,` follows the part.
 #[cycle(show)]
 fn show_group<W: Write>(
     parts: &Vec<Schema>,
@@ -163,15 +165,14 @@ fn show_group<W: Write>(
     f.write_str(closing_of(parts))
 }
 
-/// Returns the bracket before the parts of a tuple or a struct.
+/// Returns the bracket before the parts of a tuple, `(`, or a struct, `{`.
 fn opening_of(parts: &Vec<Schema>) -> &'static str
     ensures { result.now ≡ opening_of (layouts_of parts.now.items) }
 {
     if is_struct(parts) { "{" } else { "(" }
 }
 
-/// Returns the bracket after the parts of a tuple or a struct, behind a `,` if it is the only part of
-/// a tuple.
+/// Returns the text after the parts of a struct, `}`, or a tuple: `)`, or `,)` if it has one part.
 fn closing_of(parts: &Vec<Schema>) -> &'static str
     ensures { result.now ≡ closing_of (layouts_of parts.now.items) }
 {
@@ -184,7 +185,8 @@ fn closing_of(parts: &Vec<Schema>) -> &'static str
     }
 }
 
-/// Prints the parts in order, with this text between two of them.
+/// Prints the parts in order, with the text `between` between two of them. Fails if the numbers of
+/// types and values differ.
 #[cycle(show)]
 fn show_parts<W: Write>(
     parts: &Vec<Schema>,
@@ -208,7 +210,7 @@ fn show_parts<W: Write>(
     Ok(())
 }
 
-/// Prints a variant's name and its content.
+/// Prints the name and the content of a variant.
 #[cycle(show)]
 fn show_variant<W: Write>(variant: &Schema, content: &Value, f: &mut Formatter<W>) -> fmt::Result
     ensures { DisplaysOnOk W.write_str_gives f.old result
@@ -229,14 +231,14 @@ fn show_variant<W: Write>(variant: &Schema, content: &Value, f: &mut Formatter<W
     f.write_str(")")
 }
 
-/// Returns whether parts are those of a struct, which have names.
+/// Returns whether parts are those of a struct: the first of them has a name.
 pub fn is_struct(parts: &Vec<Schema>) -> bool
     ensures { result ≡ have_names (layouts_of parts.now.items) }
 {
     matches!(parts.first(), Some(Schema::Named(_, _)))
 }
 
-/// Returns whether a variant's content of this type prints no text.
+/// Returns whether the type is the unit. Of a variant with this content, only the name is printed.
 pub fn is_unit(schema: &Schema) -> bool
     ensures empty { result ≡ is_empty_group (layout_of schema.now) }
     ensures unit { result ≡ true → type_of schema.now ≡ group no_types }
@@ -247,7 +249,8 @@ pub fn is_unit(schema: &Schema) -> bool
     }
 }
 
-/// Returns whether values of the type are in brackets of their own after a variant's name.
+/// Returns whether the text of such values has brackets of its own, so that none are added to it
+/// after the name of a variant: whether the type is a tuple or a struct.
 pub fn has_brackets(schema: &Schema) -> bool
     ensures brackets { result ≡ is_group (layout_of schema.now) }
     ensures group { result ≡ true → (parts : Vec Schema Global) × (schema.now ≡ Group parts) }
@@ -282,7 +285,7 @@ fn show_leaf<W: Write>(leaf: Leaf, value: &Value, f: &mut Formatter<W>) -> fmt::
     }
 }
 
-/// Prints a number of 8 bits, whose tree is the byte of its two's complement.
+/// Prints a signed number of 8 bits, whose tree is the byte of its two's complement.
 fn show_i8<W: Write>(n: i8, f: &mut Formatter<W>) -> fmt::Result
     ensures { WritesOnOk W.write_str_gives f.old result
         (signed_decimal (cast_signed w8 (cast_unsigned w8 n))) f.new }
@@ -290,7 +293,7 @@ fn show_i8<W: Write>(n: i8, f: &mut Formatter<W>) -> fmt::Result
     write!(f, "{n}")
 }
 
-/// Prints bytes as `0x` and two lower-case digits a byte.
+/// Prints a byte string as `0x` and two lower-case hexadecimal digits for each byte.
 fn show_bytes<W: Write>(held: &Vec<u8>, f: &mut Formatter<W>) -> fmt::Result
     ensures { WritesOnOk W.write_str_gives f.old result
         (codes "0x" ++ hexadecimal (trees (map Byte held.now.items))) f.new }

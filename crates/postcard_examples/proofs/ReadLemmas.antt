@@ -1,4 +1,4 @@
--- How a link is read, from how its parts are.
+-- Lemmas on reading a link, from the reading of its parts.
 use Rattle.std.proofs.Common.{◌≡◌, ℕ, zero, suc, List, Option, Ok, Result, IsErrAnd, refl}
 use Rattle.postcard.specs.Lemmas.{Below, AllAre, NoneIs, refusal, content_refused, no_room}
 use Rattle.postcard.specs.Lemmas.{struct_fails, struct_read, variant_read}
@@ -16,18 +16,18 @@ use Rattle.postcard_de.specs.Reads.{ReadsFrom}
 use Rattle.postcard_examples.specs.declared.chain.Chain.{Chain}
 use Rattle.postcard_examples.specs.Links.{chain_shape, chain_cases}
 
--- The parts of a link: a number, and a chain of less than m links.
+-- The parts of a link: a number, and a chain of fewer than m links.
 abbrev pub LinkReads : ℕ → Trees → Type 0
 LinkReads m = IsThen (IsNum 16) (IsThen (chain_shape m).reads IsEnd)
 
--- They are those of the number n and the chain w.
+-- The parts are those of the number n and the chain w.
 abbrev pub LinkIs : ℕ → ℕ → Chain → Trees → Type 0
 LinkIs m n w = IsThen (λ t. t ≡ Num 16 n) (IsThen (λ t. (chain_shape m).value t w) IsEnd)
 
 module _ {S : Type 0} {left : S → Option (List ℕ)} {able : S → ℕ → Type 0}
     {may_leave : S → S → Type 0} (laws : Laws left able may_leave) {G : Type 0} {old mid new : S}
     (d m : ℕ) (deeper : d ≡ suc m) where
-  -- The index 1 was read, and the parts behind it refuse.
+  -- If the index 1 was read and the parts after it are refused, the link is refused.
   pub link_refused : {i : ℕ} {r : Result Chain Error} {e : Error} →
       i ≡ 1 → IsErrAnd r (λ x. x ≡ e) →
       ReadsFrom (SpellsNum 32) (Below 32) Same ⊥ left able may_leave old (Ok i) mid →
@@ -37,7 +37,7 @@ module _ {S : Type 0} {left : S → Option (List ℕ)} {able : S → ℕ → Typ
   link_refused {e = e} one h s parts = rw deeper (content_refused laws (λ k. tt) h (rw one at s)
       (struct_fails laws {A = Unit {0}} {value = λ t v. ⊥} {r = refusal (Unit {0}) e} refl parts))
 
-  -- The index 1 was read, and so were the parts behind it, of which the link is made.
+  -- If the index 1 was read and the parts after it were read, the link of these parts was read.
   pub link_read : {i n : ℕ} {v w : Chain} → i ≡ 1 → chain_cases v ≡ Next (This (n, (w, tt))) →
       ReadsFrom (SpellsNum 32) (Below 32) Same ⊥ left able may_leave old (Ok i) mid →
       ReadsFrom SpellsAll (LinkReads m) (AllAre (LinkIs m n w)) G left able may_leave
@@ -49,7 +49,7 @@ module _ {S : Type 0} {left : S → Option (List ℕ)} {able : S → ℕ → Typ
       (struct_read laws {A = Unit {0}} {value = λ t u. IsGroup (LinkIs m n w) t} {K = LinkIs m n w}
       {a = tt} (λ t h. h) parts))
 
-  -- There is no memory for the link.
+  -- If an allocation for the link fails, reading it fails with `OutOfMemory`.
   pub link_too_big : {i n : ℕ} (w : Chain) → i ≡ 1 →
       ReadsFrom (SpellsNum 32) (Below 32) Same ⊥ left able may_leave old (Ok i) mid →
       ReadsFrom SpellsAll (LinkReads m) (AllAre (LinkIs m n w)) G left able may_leave
@@ -60,7 +60,7 @@ module _ {S : Type 0} {left : S → Option (List ℕ)} {able : S → ℕ → Typ
       (no_room {W = Unit {0}} {R' = IsGroup (LinkReads m)} {I' = λ t v. ⊥} {H = Unit {0}} tt
       (struct_read laws {A = Unit {0}} {value = λ t u. Unit {0}} {a = tt} (λ t h. tt) parts)))
 
--- There is no index but 0 and 1.
+-- Only the indices 0 and 1 have trees.
 pub no_other : (Q R : Tree → Type 0) (i : ℕ) → (i ≡ 0 → ⊥) → (i ≡ 1 → ⊥) → (t : Tree) →
     case_reads Q (case_reads R (λ j u. ⊥)) i t → ⊥
 no_other Q R zero a b t r = a refl

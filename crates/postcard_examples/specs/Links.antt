@@ -1,4 +1,4 @@
--- The shape of a chain of less than a number of links, by recursion on that number.
+-- The shape of a chain of fewer than n links, by recursion on n.
 use Rattle.std.specs.Prelude.{ℕ, zero, suc, ⊤}
 use Rattle.std.proofs.Common.{refl, inl}
 use Rattle.postcard_wire.specs.Tree.{Absent}
@@ -12,12 +12,12 @@ use Rattle.postcard_shape.specs.declared.cases.Case.TheVariants.{This, Next}
 use Rattle.postcard_shape.specs.declared.cases.NoCase.{NoCase}
 use Rattle.postcard_examples.specs.declared.chain.Chain.{Chain, End, Link'}
 
--- What a chain is seen as: nothing, or an item and a chain.
+-- The variants of a chain in a row: nothing, or a number and a chain.
 abbrev pub chain_cases : Chain → Case (Unit {0}) (Case (ℕ × (Chain × Unit {0})) NoCase)
 chain_cases End = This tt
 chain_cases (Link' n p c) = Next (This (n, (c, tt)))
 
--- The shape of no chain: each refuses itself, and none is read.
+-- The shape without values: each value refuses itself, and no tree is read.
 abbrev pub too_long : {V : Type 0} → Shape V
 too_long {V} = record {
   tree = λ v. Absent;
@@ -34,7 +34,7 @@ too_long {V} = record {
   again = λ v f. absurd f;
 }
 
--- A chain of less than n links.
+-- The shape of a chain of fewer than n links.
 abbrev pub chain_shape : ℕ → Shape Chain
 chain_shape zero = too_long
 chain_shape (suc n) = growing (via chain_cases (variants (case (group none)

@@ -1,7 +1,7 @@
-//! A recursive type: a list of links, written and read to a depth.
+//! A recursive type: a chain of links, with a limit on their number.
 
 ghost use Rattle.std.specs.Prelude.{OnOk};
-ghost use Rattle.postcard_wire.specs.Spelling.{Spells, bytes};
+ghost use Rattle.postcard_wire.specs.Spelling.{Spells, canonical};
 ghost use Rattle.postcard_de.specs.Deserializer.{source_of};
 ghost use Rattle.postcard_de.specs.Reads.{Reads};
 ghost use Rattle.postcard_ser.specs.Writing.{Wrote};
@@ -15,20 +15,21 @@ use postcard::{
 };
 use std::alloc::Global;
 
-/// A list of numbers. One of 32 numbers or more refuses to be written, and isn't read.
+/// A list of numbers. Writing or reading one of 32 numbers or more fails.
 #[derive(Debug, Drop, PartialEq)]
 pub enum Chain {
     /// No number.
     End,
-    /// A number, and those after it.
+    /// A number, and the chain of the numbers after it.
     Link(u16, Box<Chain>),
 }
 
-/// Writes a chain of less than `limit` links. Fails with `SerdeSerCustom` if it has more; what the
-/// flavor took before stays in it.
+/// Writes a chain of fewer than `limit` links. Fails with `SerdeSerCustom` if it has `limit` links
+/// or more, and with `SerializeBufferFull` if the flavor refuses bytes. The bytes that the flavor
+/// took before stay in it.
 fn write_links<F: Flavor>(chain: &Chain, limit: u32, serializer: &mut Serializer<F>) -> Result<()>
     ensures wrote { Wrote F.Flavor serializer.old.output
-        (bytes ((chain_shape limit).tree chain.now)) ((chain_shape limit).refuses chain.now)
+        (canonical ((chain_shape limit).tree chain.now)) ((chain_shape limit).refuses chain.now)
         (chain_shape limit).text result serializer.new.output }
     ensures fits { OnOk result ((chain_shape limit).fits chain.now) }
 {
@@ -45,8 +46,8 @@ fn write_links<F: Flavor>(chain: &Chain, limit: u32, serializer: &mut Serializer
     }
 }
 
-/// Reads a chain of less than `limit` links. Fails with `SerdeDeCustom` if it has more, or another
-/// variant than these two.
+/// Reads a chain of fewer than `limit` links. Fails with `SerdeDeCustom` if it has `limit` links or
+/// more, or if an index is neither 0 nor 1, and with `OutOfMemory` if an allocation fails.
 fn read_links<F: Source>(limit: u32, alloc: Global, d: &mut Deserializer<'_, F>) -> Result<Chain>
     ensures { Reads F.Flavor Spells (chain_shape limit).reads (chain_shape limit).value
         (chain_shape limit).grows (source_of d.old) result (source_of d.new) }

@@ -1,4 +1,4 @@
-//! An enum, with a variant without content, one that holds a struct, and one with fields.
+//! An enum with three variants: one without content, one of a struct, and one with fields.
 
 ghost use Rattle.postcard_examples.specs.declared.event.Event.{Event};
 
@@ -8,18 +8,18 @@ use postcard::{
     Case, FromRepr, NoCase, Repr, Result, SerializeRepr, Serializer, serialize_variant,
 };
 
-/// What a device reports.
+/// A report of a device.
 #[derive(Debug, Drop, PartialEq)]
 pub enum Event<'a> {
-    /// It started.
+    /// The device started.
     Boot,
-    /// It measured.
+    /// The device took this measurement.
     Reading(Reading<'a>),
-    /// It failed.
+    /// The device failed.
     Fault {
         /// The number of the fault.
         code: u8,
-        /// The fault in words.
+        /// A description of the fault.
         text: String,
     },
 }

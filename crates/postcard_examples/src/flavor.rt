@@ -1,14 +1,16 @@
-//! A writing flavor of one's own, which writes to two others.
+//! A user's own writing flavor, which writes to two others.
 
 use postcard::Result;
 use postcard::ser_flavors::Flavor;
 
-/// Writes each piece to two flavors, and ends as both outputs.
+/// Writes all bytes to two flavors. Its output is the pair of their outputs.
+///
+/// It fails as soon as one of the two fails. The first may then have bytes that the second hasn't.
 #[derive(Drop)]
 pub struct Both<F, G> {
-    /// The flavor that gets each piece first.
+    /// The flavor that is written to first.
     pub first: F,
-    /// The flavor that gets it second.
+    /// The flavor that is written to second.
     pub second: G,
 }
 
@@ -22,7 +24,7 @@ where
 
     ghost room = { λ s x. F.room s.first x × G.room s.second x };
 
-    // A piece that the second refused is already in the first.
+    // Bytes that the second flavor refuses are already in the first.
     ghost tidy = { ⊥ };
 
     ghost reaches = { λ s t. F.reaches s.first t.first × G.reaches s.second t.second };

@@ -1,4 +1,4 @@
-//! A type of which a value may refuse to be written.
+//! A type some of whose values can't be written.
 
 ghost use Rattle.std.specs.Prelude.{◌<◌};
 ghost use Rattle.postcard_shape.specs.Shape.{via};
@@ -10,19 +10,20 @@ use postcard::{Error, Result, Serialize, Serializer, Shaped};
 /// The numbers from `start` to `end`, both included.
 #[derive(Debug, Drop, PartialEq)]
 pub struct Interval {
-    /// The least number.
+    /// The least number of the interval.
     pub start: u16,
-    /// The greatest number.
+    /// The greatest number of the interval.
     pub end: u16,
 }
 
-/// An interval is seen as the tuple of its ends, and refuses itself if it ends before it starts.
+/// An interval is encoded as the tuple of its ends, and refuses itself if it ends before it starts.
 impl Shaped for Interval {
     ghost shape = { refusing (λ v. v.end < v.start)
         (via (λ v. (v.start, v.end)) ⟦<(u16, u16) as Shaped>⟧.shape) };
 }
 
-/// Fails with `SerdeSerCustom` if the interval ends before it starts. Nothing is written then.
+/// Writing fails with `SerdeSerCustom` if the interval ends before it starts. Nothing is written
+/// then.
 impl Serialize for Interval {
     fn serialize<F: Flavor>(&self, serializer: &mut Serializer<F>) -> Result<()> {
         if self.end < self.start {

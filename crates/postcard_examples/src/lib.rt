@@ -1,16 +1,16 @@
-//! A user's own types, flavors and theorems, each a page of the guide `docs/TYPES.md`.
+//! Examples of a user's own types, flavors and theorems, which the guide `docs/TYPES.md` shows.
 //!
-//! - [`reading`], [`numbers`], [`station`], [`pair`]: structs, which are seen as the tuple of their
-//!   fields. The first borrows from the message, the second has more than six fields, the third a
-//!   struct within, and the last a type parameter.
-//! - [`event`]: an enum, which is seen as its variants in a row.
-//! - [`percent`], [`interval`]: types that say their shape themselves. One refuses values that are
-//!   read, the other values that are written.
-//! - [`chain`]: a recursive type, written to a depth.
+//! - [`reading`], [`numbers`], [`station`], [`pair`]: structs, which are encoded as the tuple of
+//!   their fields. The first borrows from the message, the second has more than six fields, the
+//!   third a struct as a field, and the last a type parameter.
+//! - [`event`]: an enum, which is described as its variants in a row.
+//! - [`percent`], [`interval`]: types with a shape of their own. One refuses values when they are
+//!   read, the other when they are written.
+//! - [`chain`]: a recursive type, with a limit on its depth.
 //! - [`tally`]: a list of lists of elements without bytes, with a capacity.
 //! - [`store`]: a struct and an enum that have a greatest size, and a store of that size.
 //! - [`flavor`], [`trailer`]: writing flavors. [`source`]: a reading source.
-//! - [`theorems`]: what a caller proves of its own functions.
+//! - [`theorems`]: theorems that a caller proves of its own functions.
 #![tactic(auto)]
 
 pub mod chain;

@@ -1,26 +1,26 @@
-//! A struct of more than six fields, numbers of both signs.
+//! A struct of more than six fields: numbers with and without a sign.
 
 use postcard::ser_flavors::Flavor;
 use postcard::{FromRepr, Repr, Result, Serialize, SerializeRepr, Serializer};
 
-/// A number of each width and sign.
+/// A number of each width from 8 to 64 bits, with and without a sign.
 #[derive(Debug, Drop, PartialEq)]
 pub struct Numbers {
-    /// Of 8 bits.
+    /// A number of 8 bits without a sign: one byte.
     pub byte: u8,
-    /// Of 8 bits, signed.
+    /// A number of 8 bits with a sign: one byte in two's complement.
     pub signed_byte: i8,
-    /// Of 16 bits.
+    /// A number of 16 bits without a sign: a varint.
     pub short: u16,
-    /// Of 16 bits, signed.
+    /// A number of 16 bits with a sign: zigzag, and then a varint.
     pub signed_short: i16,
-    /// Of 32 bits.
+    /// A number of 32 bits without a sign.
     pub word: u32,
-    /// Of 32 bits, signed.
+    /// A number of 32 bits with a sign.
     pub signed_word: i32,
-    /// Of 64 bits.
+    /// A number of 64 bits without a sign.
     pub long: u64,
-    /// Of 64 bits, signed.
+    /// A number of 64 bits with a sign.
     pub signed_long: i64,
 }
 

@@ -6,9 +6,9 @@ use postcard::{FromRepr, Repr, Result, Serialize, SerializeRepr, Serializer, Sha
 /// Two values of one type.
 #[derive(Debug, Drop, PartialEq)]
 pub struct Pair<T> {
-    /// The first.
+    /// The value that is written first.
     pub left: T,
-    /// The second.
+    /// The value that is written second.
     pub right: T,
 }
 

@@ -12,7 +12,7 @@ use postcard::{
 };
 use std::alloc::Global;
 
-/// A share of a hundred: 0 to 100.
+/// A percentage, from 0 to 100.
 #[derive(Debug, Drop, PartialEq)]
 pub struct Percent {
     value: u8,
@@ -20,7 +20,7 @@ pub struct Percent {
 }
 
 impl Percent {
-    /// Returns this share, or `None` if `value` is above 100.
+    /// Returns the percentage, or `None` if `value` is above 100.
     pub fn new(value: u8) -> Option<Percent>
         ensures accepts { IsSome result ↔ (value ≤ 100) }
         ensures keeps { IfSome result (λ percent. percent.value ≡ value) }
@@ -32,7 +32,7 @@ impl Percent {
         }
     }
 
-    /// Returns the share as a number from 0 to 100.
+    /// Returns the percentage as a number from 0 to 100.
     pub fn get(&self) -> u8
         ensures { result ≡ self.now.value }
     {
@@ -50,7 +50,7 @@ impl Serialize for Percent {
     }
 }
 
-/// Fails with `SerdeDeCustom` if the byte is above 100.
+/// Reading fails with `SerdeDeCustom` if the byte is above 100.
 impl<'de> Deserialize<'de> for Percent {
     fn deserialize<F: Source>(alloc: Global, d: &mut Deserializer<'de, F>) -> Result<Self> {
         let value = u8::deserialize(alloc, d)?;

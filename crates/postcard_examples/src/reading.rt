@@ -3,16 +3,16 @@
 use postcard::ser_flavors::Flavor;
 use postcard::{FromRepr, Repr, Result, Serialize, SerializeRepr, Serializer};
 
-/// What a sensor measured.
+/// A measurement of a sensor.
 #[derive(Debug, Drop, PartialEq)]
 pub struct Reading<'a> {
-    /// The sensor.
+    /// The number of the sensor.
     pub id: u16,
     /// The temperature, in hundredths of a degree Celsius.
     pub temperature: i32,
-    /// The place, borrowed from the message.
+    /// The name of the place, borrowed from the message.
     pub label: &'a str,
-    /// The raw samples, in a vector of their own.
+    /// The raw samples, in a vector of the reading's own.
     pub samples: Vec<u16>,
 }
 

@@ -1,19 +1,20 @@
-//! A reading source of one's own: it counts the bytes that are read from another.
+//! A user's own source: it counts the bytes that are read from another source.
 
 use postcard::de_flavors::Source;
 use std::io;
 use std::io::Read;
 
-/// A reader that counts the bytes that it gives.
+/// A reader that counts the bytes that are read from it.
 #[derive(Drop)]
 pub struct Counted<R> {
-    /// Where the bytes come from.
+    /// The reader from which the bytes come.
     pub inner: R,
-    /// The number of bytes read so far; stays at `u64::MAX` once it is reached.
+    /// The number of bytes read so far, or `u64::MAX` if there were more than that. The bytes of a
+    /// read that failed aren't counted.
     pub count: u64,
 }
 
-/// It has the bytes of the reader within.
+/// The bytes that are left are those of the inner reader.
 impl<R: Read> Read for Counted<R> {
     ghost remaining = { λ s. R.remaining s.inner };
 
@@ -24,7 +25,7 @@ impl<R: Read> Read for Counted<R> {
     }
 }
 
-/// It is steady if the reader within is: no read fails while bytes are left.
+/// It is steady if the inner reader is, which means that no read fails while bytes are left.
 impl<R: Source> Source for Counted<R> {
     ghost steady = { λ s. R.steady s.inner };
 

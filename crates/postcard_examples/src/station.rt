@@ -1,4 +1,4 @@
-//! A struct within another.
+//! A struct that has another struct as a field.
 
 use postcard::ser_flavors::Flavor;
 use postcard::{FromRepr, Repr, Result, Serialize, SerializeRepr, Serializer};
@@ -36,11 +36,11 @@ impl SerializeRepr for Position {
 /// A weather station.
 #[derive(Debug, Drop, PartialEq)]
 pub struct Station {
-    /// Its name.
+    /// The name of the station.
     pub name: String,
-    /// Where it stands.
+    /// The place of the station.
     pub position: Position,
-    /// The height above the sea in metres, if it was measured.
+    /// The height above the sea in metres, or `None` if it wasn't measured.
     pub height: Option<i16>,
 }
 

@@ -1,4 +1,4 @@
-//! A settings store in small memory: a buffer of the greatest size that settings take.
+//! A store of settings: a buffer of the greatest size that encoded settings can have.
 
 ghost use Rattle.postcard_examples.specs.declared.store.Mode.{Mode};
 ghost use Rattle.std.specs.Prelude.{◌≡◌, Some, IsOk};
@@ -12,12 +12,12 @@ use postcard::{
 };
 use std::alloc::Global;
 
-/// When the lamp is on.
+/// The times at which the lamp is on.
 #[derive(Debug, Drop, PartialEq)]
 pub enum Mode {
     /// Never.
     Off,
-    /// Always, at a brightness.
+    /// Always, at this brightness.
     On(u16),
     /// Between two hours of the day.
     Timer {
@@ -74,11 +74,11 @@ impl MaxSizeRepr for Mode {
 /// The settings of a lamp.
 #[derive(Debug, Drop, PartialEq)]
 pub struct Settings {
-    /// What it is called: at most 16 bytes of UTF-8.
+    /// The name of the lamp, at most 16 bytes of UTF-8.
     pub name: ArrayString<16>,
-    /// The color temperature in kelvins, if it isn't the lamp's own.
+    /// The color temperature in kelvins, or `None` for the lamp's own.
     pub color: Option<u16>,
-    /// When it is on.
+    /// The times at which the lamp is on.
     pub mode: Mode,
 }
 
@@ -106,43 +106,44 @@ impl MaxSizeRepr for Settings {
     }
 }
 
-/// The greatest size of the settings in bytes: 17 of the name, 4 of the color, 4 of the mode.
+/// The greatest size of encoded settings in bytes: 17 of the name, 4 of the color, 4 of the mode.
 pub const SETTINGS_SIZE: usize = 25;
 
-/// Returns the greatest size of the settings, which is [`SETTINGS_SIZE`].
+/// Returns the greatest size of encoded settings, which is [`SETTINGS_SIZE`].
 pub fn settings_size() -> Option<usize>
     ensures { result ≡ Some 25 }
 {
     Settings::postcard_max_size()
 }
 
-/// Settings as bytes, in memory of a fixed size.
+/// Encoded settings, in a buffer of a fixed size.
 #[derive(Drop)]
 pub struct Store {
     memory: [u8; SETTINGS_SIZE],
 }
 
 impl Store {
-    /// Returns a store whose memory is all zeros: settings without a name, whose lamp is off.
+    /// Returns a store whose memory is all zeros: the encoding of settings with an empty name, no
+    /// color and the mode [`Mode::Off`].
     pub fn new() -> Store {
         Store {
             memory: [0; SETTINGS_SIZE],
         }
     }
 
-    /// Saves the settings over those before, and returns the number of bytes written. The memory is
-    /// always enough.
+    /// Overwrites the store with these settings, and returns the number of bytes written. It never
+    /// fails, since the memory is always large enough.
     pub fn save(&mut self, settings: &Settings) -> Result<usize>
         ensures { IsOk result }
     {
         fill_max_size(settings, &mut self.memory)
     }
 
-    /// Returns the settings that were saved last.
+    /// Returns the settings that were saved last, or those of [`Store::new`] if none were.
     ///
     /// # Errors
     ///
-    /// As `from_bytes`, if the memory holds no settings.
+    /// Fails as `from_bytes` does if the memory holds no settings.
     pub fn load(&self, alloc: Global) -> Result<Settings> {
         from_bytes(alloc, &self.memory)
     }

@@ -1,4 +1,4 @@
-//! A list of lists whose elements have no bytes, bounded by the capacities.
+//! A list of lists whose elements have no bytes, with capacities as bounds.
 
 use arrayvec::ArrayVec;
 use postcard::ser_flavors::Flavor;
@@ -7,9 +7,9 @@ use postcard::{FromRepr, Repr, Result, Serialize, SerializeRepr, Serializer};
 /// The strokes of a tally, in rows.
 #[derive(Debug, Drop, PartialEq)]
 pub struct Tally {
-    /// At most 8 rows of at most 5 strokes. A stroke has no bytes, so a message of any length can
-    /// announce 2^64 - 1 of them: with the capacity the 6th is refused, where a `Vec` would take
-    /// them all.
+    /// At most 8 rows of at most 5 strokes. A stroke has no bytes, so even a short message can
+    /// announce a row of 2^64 - 1 of them. With the capacity the 6th is refused, where a `Vec`
+    /// would take them all.
     pub rows: ArrayVec<ArrayVec<(), 5>, 8>,
 }
 

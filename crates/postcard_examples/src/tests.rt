@@ -1,4 +1,5 @@
-//! Each type there and back, and each flavor and source at work, with bytes worked out by hand.
+//! Tests that write and read each type, and use each flavor and source, with bytes worked out by
+//! hand.
 
 use crate::chain::Chain;
 use crate::event::Event;
@@ -24,7 +25,7 @@ use std::fmt::Debug;
 use std::process::Abort;
 use std::test::Fail;
 
-/// The value is written as these bytes, and they are read as the value.
+/// Asserts that the value is written as these bytes, and that they are read as the value.
 fn is_there_and_back<'a, T: Serialize + Deserialize<'a> + PartialEq + Debug>(
     rt: &(impl Abort + AllocGlobal),
     value: T,
@@ -37,7 +38,7 @@ fn is_there_and_back<'a, T: Serialize + Deserialize<'a> + PartialEq + Debug>(
     assert_eq!(rt; from_bytes(rt.alloc(), bytes), Ok(value));
 }
 
-/// The bytes are read as the value by a type that borrows nothing.
+/// Asserts that the bytes are read as the value by `DeserializeOwned`.
 fn is_owned<T: DeserializeOwned + PartialEq + Debug>(
     rt: &(impl Abort + AllocGlobal),
     value: T,
@@ -49,7 +50,7 @@ fn is_owned<T: DeserializeOwned + PartialEq + Debug>(
     }
 }
 
-/// The reading 300, -2 at "ab" with the samples 1 and 128.
+/// The encoding of [`reading`].
 const READING: [u8; 10] = [0xAC, 0x02, 0x03, 2, b'a', b'b', 2, 1, 0x80, 0x01];
 
 fn reading(rt: &impl AllocGlobal) -> Result<Reading<'static>> {
@@ -89,7 +90,7 @@ fn structs(rt: HostRuntime) -> std::result::Result<(), Fail> {
     Ok(())
 }
 
-/// The station "x" at 1 north, 1 west, 3 metres high.
+/// The encoding of [`station`].
 const STATION: [u8; 6] = [1, b'x', 2, 1, 1, 6];
 
 fn station(rt: &impl AllocGlobal) -> Result<Station> {
@@ -229,7 +230,7 @@ fn settings_in_a_buffer_of_the_greatest_size(rt: HostRuntime) -> std::result::Re
     Ok(())
 }
 
-/// The chain of these numbers.
+/// Returns the chain of these numbers.
 fn links(rt: &impl AllocGlobal, numbers: &[u16]) -> Result<Chain> {
     let mut chain = Chain::End;
     for number in numbers.iter().rev() {
@@ -268,7 +269,7 @@ fn a_chain_to_a_depth(rt: HostRuntime) -> std::result::Result<(), Fail> {
     Ok(())
 }
 
-/// A row of strokes.
+/// Returns a row of `count` strokes, at most 5.
 fn strokes(count: usize) -> ArrayVec<(), 5> {
     let mut row = ArrayVec::new();
     for _ in 0..count {

@@ -1,4 +1,5 @@
-//! Theorems of a caller: a struct comes back, and five bytes are enough for a `u32`.
+//! Theorems of a caller: structs are read as they were written, and five bytes are enough for a
+//! `u32`.
 
 ghost use Rattle.std.specs.Prelude.{◌≡◌, IfOk, IsOk, string_bytes};
 ghost use Rattle.postcard_shape.specs.Options.{SameOption};
@@ -10,7 +11,7 @@ use postcard::laws::comes_back;
 use postcard::{Result, fill_slice, from_bytes, to_allocvec};
 use std::alloc::Global;
 
-/// Writes a reading to `message` and reads it back: all fields come back as they were.
+/// Encodes a reading into `message` and decodes it again. All fields come back as they were.
 ///
 /// # Errors
 ///
@@ -30,7 +31,7 @@ pub fn reading_comes_back<'a>(
     from_bytes(alloc, message)
 }
 
-/// Writes a station and reads it back: all fields come back as they were.
+/// Encodes a station and decodes it again. All fields come back as they were.
 ///
 /// # Errors
 ///
@@ -47,8 +48,8 @@ pub fn station_comes_back(alloc: Global, station: &Station) -> Result<Station>
     comes_back(alloc, station)
 }
 
-/// Writes a `u32` into a buffer of five bytes, which is always enough, and returns the number of
-/// bytes written.
+/// Encodes a `u32` into a buffer of five bytes, and returns the number of bytes written. It never
+/// fails, since five bytes are always enough.
 #[tactic(auto, using(postcard::specs::Lemmas::u32_len))]
 pub fn u32_fits_five_bytes(number: u32, buffer: &mut [u8; 5]) -> Result<usize>
     ensures { IsOk result }

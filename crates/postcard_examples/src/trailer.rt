@@ -1,4 +1,4 @@
-//! A writing flavor that ends each message with a byte more.
+//! A writing flavor that adds a byte at the end of a message.
 
 ghost use Rattle.std.specs.Prelude.{[], ◌∷◌};
 ghost use Rattle.postcard_examples.specs.Trailer.{HasRoom, Ends, front_has_room, rest_has_room};
@@ -6,12 +6,12 @@ ghost use Rattle.postcard_examples.specs.Trailer.{HasRoom, Ends, front_has_room,
 use postcard::Result;
 use postcard::ser_flavors::Flavor;
 
-/// Writes to another flavor, and ends the message with a byte 0.
+/// Writes to another flavor, and adds a byte 0 at the end of the message.
 ///
-/// It has room for a message only if the flavor within has room for its bytes and one more.
+/// It has room for a message if the inner flavor has room for the message's bytes and one more.
 #[derive(Drop)]
 pub struct Trailed<F> {
-    /// The flavor that gets all bytes.
+    /// The flavor to which all bytes are written.
     pub inner: F,
 }
 
@@ -46,8 +46,8 @@ impl<F: Flavor + Drop> Flavor for Trailed<F> {
         self.inner.try_extend(bytes)
     }
 
-    /// Writes the byte 0, and ends the flavor within. Fails with `SerializeBufferFull` if that
-    /// refuses the byte.
+    /// Writes the byte 0, ends the inner flavor, and returns its output. Fails with the inner
+    /// flavor's error, such as `SerializeBufferFull`, if that refuses the byte or can't end.
     fn finalize(self) -> Result<F::Output> {
         let mut inner = self.inner;
         inner.try_push(0)?;

@@ -1,4 +1,4 @@
--- std's bytes of a number, at every width, are those of base 256, also where the number is signed.
+-- std's bytes of a number are those of base 256, at every width, also for signed numbers.
 use Rattle.std.proofs.Common.{◌≡◌, ℕ, zero, suc, ◌-◌, ◌/◌, ◌%◌, ◌<◌, ◌^◌, List, [], ◌∷◌, length}
 use Rattle.std.proofs.Common.{get_or, ℤ, pos, negsuc, refl, sym, ap, ap₂, subst, ◌∙◌, arith}
 use Rattle.std.specs.Prelude.{reverse}
@@ -12,12 +12,12 @@ use Rattle.postcard_fixint.specs.Base256.{low_first, low_value, AreBytes, revers
 use Rattle.postcard_fixint.specs.Fixed.{twos_complement}
 use Rattle.postcard_fixint.proofs.Sums.{little_sum, big_sum}
 
--- The byte at a place.
+-- The byte at place i is the digit of 256 ^ i.
 place : (i n : ℕ) → byte_at i n ≡ n / 256 ^ i % 256
 place zero n = omega arith
 place (suc i) n = refl
 
--- The bytes from a place on.
+-- The bytes from place i on are those of the number divided by 256 ^ i.
 places : (i k n : ℕ) → bytes_low_first i k n ≡ low_first k (n / 256 ^ i)
 places i zero n = refl
 places i (suc k) n =
@@ -26,11 +26,11 @@ places i (suc k) n =
     power ∙ sym (div-div-eq-div-mul n (256 ^ i) 256) in
     ap₂ (λ b bs. b ∷ bs) (place i n) (places (suc i) k n ∙ ap (low_first k) next)
 
--- The lowest k bytes.
+-- std's lowest k bytes of a number are its k bytes in base 256.
 pub little_bytes : (k n : ℕ) → bytes_low_first 0 k n ≡ low_first k n
 little_bytes k n = places 0 k n ∙ ap (low_first k) (omega arith)
 
--- The value of bytes is below the power of 256 that they count to.
+-- The value of bytes is below 256 to the power of their number.
 value_below : (bs : List ℕ) → AreBytes bs → low_value bs < 256 ^ length bs
 value_below [] small = omega arith
 value_below (b ∷ bs) small =
@@ -43,7 +43,7 @@ are_bytes : (bs : List ℕ) → ((i : ℕ) → get_or bs i 0 < 256) → AreBytes
 are_bytes [] small = tt
 are_bytes (b ∷ bs) small = (small 0, are_bytes bs (λ i. small (suc i)))
 
--- As many bytes as bits.
+-- The bytes of a width have as many values as its bits.
 powers : (w : Width) → 256 ^ byte_len w ≡ 2 ^ bits w
 powers w8 = refl
 powers w16 = refl
@@ -65,7 +65,8 @@ module _ (w : Width) where
   as_cast (pos n) = refl
   as_cast (negsuc n) = rw (powers w) refl
 
-  -- The number that n is cast to has n as its two's complement, also as the code sees it.
+  -- The signed number that n is cast to has the two's complement n, also after a cast there and
+  -- back.
   cast_back : (z : ℤ) (n : ℕ) → n < 2 ^ bits w → z ≡ cast_signed w n
       → twos_complement (byte_len w) (cast_signed w (cast_unsigned w z)) ≡ n
   cast_back z n f e =
@@ -73,7 +74,7 @@ module _ (w : Width) where
       let seen = ap (λ y. cast_signed w (cast_unsigned w y)) e ∙ ap (cast_signed w) back in
       ap (twos_complement (byte_len w)) seen ∙ as_cast (cast_signed w n) ∙ back
 
-  -- The same where n is the value of as many bytes as the width has.
+  -- The same if n is the value of as many bytes as the width has.
   value_back : (z : ℤ) (n : ℕ) (bs : List ℕ) → length bs ≡ byte_len w → AreBytes bs
       → n ≡ low_value bs → z ≡ cast_signed w n
       → twos_complement (byte_len w) (cast_signed w (cast_unsigned w z)) ≡ low_value bs
@@ -82,7 +83,7 @@ module _ (w : Width) where
       let below = subst (λ m. m < 256 ^ length bs) (sym e) (value_below bs small) in
       cast_back z n (subst (λ m. n < m) power below) c ∙ e
 
-  -- The lowest bytes of a signed number.
+  -- The bytes of a signed number, the lowest first, are those of its two's complement.
   pub little_signed : (z : ℤ) → SFits w z
       → bytes_low_first 0 (byte_len w) (cast_unsigned w (cast_signed w (cast_unsigned w z)))
       ≡ low_first (byte_len w) (twos_complement (byte_len w) z)
@@ -90,7 +91,7 @@ module _ (w : Width) where
       let seen = ap (cast_unsigned w) (to_z-of_z w z f) ∙ sym (as_cast z) in
       little_bytes (byte_len w) _ ∙ ap (low_first (byte_len w)) seen
 
-  -- A signed number has the value of the bytes that it was made of, the lowest first,
+  -- The two's complement of a signed number made of bytes, the lowest first, is their value.
   pub little_value : (z : ℤ) (bs : List ℕ) → length bs ≡ byte_len w
       → ((i : ℕ) → get_or bs i 0 < 256) → z ≡ cast_signed w (from_le_bytes w bs)
       → twos_complement (byte_len w) (cast_signed w (cast_unsigned w z)) ≡ low_value bs
@@ -98,7 +99,7 @@ module _ (w : Width) where
       let sum = little_sum bs (byte_len w - 1) (l ∙ one_byte w) in
       value_back z (from_le_bytes w bs) bs l (are_bytes bs small) sum c
 
-  -- or the highest first.
+  -- The two's complement of a signed number made of bytes, the highest first, is their value.
   pub big_value : (z : ℤ) (bs : List ℕ) → length bs ≡ byte_len w
       → ((i : ℕ) → get_or bs i 0 < 256) → z ≡ cast_signed w (from_be_bytes w bs)
       → twos_complement (byte_len w) (cast_signed w (cast_unsigned w z)) ≡ low_value (reverse bs)

@@ -1,16 +1,16 @@
--- What the bytes of an array are spelled as, and which bytes are a number.
+-- How the bytes of an array are encoded, and which bytes are those of a number.
 use Rattle.std.proofs.Common.{◌≡◌, ◌↔◌, ℕ, ◌<◌, ◌^◌, List, [], ◌∷◌, length, refl, sym, ap, ◌∙◌, subst}
 use Rattle.std.specs.Prelude.{map}
 use Rattle.postcard_wire.specs.Tree.{Byte, trees}
-use Rattle.postcard_wire.specs.Spelling.{bytes_all}
+use Rattle.postcard_wire.specs.Spelling.{canonical_all}
 use Rattle.postcard_fixint.specs.Base256.{AreNumber, Order}
 
--- Bytes in a row are spelled as themselves.
-pub bytes_of_bytes : (bs : List ℕ) → bytes_all (trees (map Byte bs)) ≡ bs
+-- The encoding of bytes in a row is those bytes.
+pub bytes_of_bytes : (bs : List ℕ) → canonical_all (trees (map Byte bs)) ≡ bs
 bytes_of_bytes [] = refl
 bytes_of_bytes (b ∷ bs) = ap (λ (x : List ℕ). b ∷ x) (bytes_of_bytes bs)
 
--- The bytes of a number are that number, and no others are.
+-- The bytes p are the number n if and only if they are `order.spell k n`.
 pub only_bytes : (order : Order) (k n : ℕ) (p : List ℕ) → n < 256 ^ k
     → AreNumber order.value k n p ↔ (p ≡ order.spell k n)
 only_bytes order k n p f =
@@ -22,7 +22,7 @@ only_bytes order k n p f =
     (h.value_is ∙ sym made.value_is) in
     (only, λ e. subst (AreNumber order.value k n) (sym e) made)
 
--- They are as many as its type has, in either order.
+-- The encoding of a number of k bytes has k bytes, in either order.
 pub encoded_length : (order : Order) (k n : ℕ)
-    → length (bytes_all (trees (map Byte (order.spell k n)))) ≡ k
+    → length (canonical_all (trees (map Byte (order.spell k n)))) ≡ k
 encoded_length order k n = ap length (bytes_of_bytes (order.spell k n)) ∙ order.counts k n

@@ -1,4 +1,4 @@
--- The value of bytes as std sums it up, at every width, is that in base 256.
+-- The value of bytes as std defines it, a sum over the places, is that in base 256, at every width.
 use Rattle.std.proofs.Common.{◌≡◌, ℕ, zero, suc, ◌+◌, ◌-◌, ◌*◌, ◌^◌, List, [], ◌∷◌, ◌++◌, length}
 use Rattle.std.proofs.Common.{refl, sym, ap, ap₂, ◌∙◌, arith}
 use Rattle.std.specs.Prelude.{reverse, slice_index}
@@ -7,29 +7,30 @@ use Rattle.std.proofs.Math.Nat.{pow-suc, mul_assoc, mul_comm}
 use Rattle.std.proofs.lemmas.List.{reverse-append, length-reverse}
 use Rattle.postcard_fixint.specs.Base256.{low_value}
 
--- The first of the terms of a sum, and then the others.
+-- A sum is its first term plus the sum of the others.
 first_term : (f : ℕ → ℕ) (k : ℕ) → sum_through f (suc k) ≡ f 0 + sum_through (λ i. f (suc i)) k
 first_term f zero = refl
 first_term f (suc k) = let e = first_term f k in omega (arith, e)
 
--- Terms alike make one sum.
+-- Sums of equal terms are equal.
 same_terms : (f g : ℕ → ℕ) (k : ℕ) → ((i : ℕ) → f i ≡ g i) → sum_through f k ≡ sum_through g k
 same_terms f g zero e = e 0
 same_terms f g (suc k) e = ap₂ (λ n m. n + m) (same_terms f g k e) (e (suc k))
 
--- Each term times 256.
+-- The sum of 256 times each term is 256 times the sum.
 scaled : (f : ℕ → ℕ) (k : ℕ) → sum_through (λ i. 256 * f i) k ≡ 256 * sum_through f k
 scaled f zero = refl
 scaled f (suc k) = let e = scaled f k in omega (arith, e)
 
--- A byte is worth 256 times what it is worth a place below.
+-- A byte is worth 256 times what it is worth one place below.
 next_place : (i b : ℕ) → byte_worth (suc i) b ≡ 256 * byte_worth i b
 next_place zero b = omega arith
 next_place (suc i) b =
     let power = ap (λ p. b * p) (pow-suc 256 (suc i)) in
     power ∙ sym (mul_assoc b (256 ^ suc i) 256) ∙ mul_comm (b * 256 ^ suc i) 256
 
--- The sum of bytes, each worth what it is at its place, the lowest first.
+-- With the lowest byte first, the sum of what each byte is worth at its place is the value in base
+-- 256.
 pub little_sum : (bs : List ℕ) (k : ℕ) → length bs ≡ suc k
     → sum_through (λ i. byte_worth i (slice_index bs i)) k ≡ low_value bs
 little_sum [] k l = absurd (omega arith)
@@ -44,7 +45,7 @@ little_sum (b ∷ c ∷ bs) (suc k) l =
     let higher = same_terms (λ i. f (suc i)) (λ i. 256 * g i) k up ∙ scaled g k ∙ rest in
     first_term f k ∙ ap (λ n. b + n) higher
 
--- A byte after others counts by their number.
+-- A byte after others is worth that byte times 256 to the power of their number.
 low_value-push : (bs : List ℕ) (b : ℕ)
     → low_value (bs ++ b ∷ []) ≡ low_value bs + b * 256 ^ length bs
 low_value-push [] b = omega arith
@@ -55,7 +56,8 @@ low_value-push (c ∷ bs) b =
     let high : 256 * (b * 256 ^ length bs) ≡ b * 256 ^ suc (length bs) = turn ∙ power in
     omega (arith, rest, high)
 
--- The first byte, the highest, and then the others.
+-- With the highest byte first, the value is the first byte at the highest place plus the value of
+-- the others.
 highest : (b : ℕ) (bs : List ℕ)
     → low_value (reverse (b ∷ bs)) ≡ b * 256 ^ length bs + low_value (reverse bs)
 highest b bs =
@@ -64,11 +66,12 @@ highest b bs =
     let e = turned ∙ count in
     omega (arith, e)
 
--- The highest place.
+-- What a byte is worth at the highest place.
 top_place : (k b : ℕ) → byte_worth (suc k - 0) b ≡ b * 256 ^ suc k
 top_place k b = let e : suc k - 0 ≡ suc k = omega arith in ap (λ i. byte_worth i b) e
 
--- The sum of bytes, each worth what it is at its place, the highest first.
+-- With the highest byte first, the sum of what each byte is worth at its place is the value in base
+-- 256.
 pub big_sum : (bs : List ℕ) (k : ℕ) → length bs ≡ suc k
     → sum_through (λ i. byte_worth (k - i) (slice_index bs i)) k ≡ low_value (reverse bs)
 big_sum [] k l = absurd (omega arith)

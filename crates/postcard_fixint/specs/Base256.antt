@@ -18,7 +18,7 @@ abbrev pub low_first : ℕ → ℕ → List ℕ
 low_first zero n = []
 low_first (suc k) n = n % 256 ∷ low_first k (n / 256)
 
--- Each is below 256.
+-- Each element is below 256.
 abbrev pub AreBytes : List ℕ → Type 0
 AreBytes = AllFit byte.fits
 
@@ -28,30 +28,30 @@ pub record AreNumber (value : List ℕ → ℕ) (k n : ℕ) (p : List ℕ) : Typ
   pub bytes : AreBytes p
   pub value_is : value p ≡ n
 
--- An order of bytes.
+-- An order of bytes: the lowest first, or the highest first.
 pub record Order : Type 0 where
   -- The k bytes of a number below 256 ^ k.
   pub spell : ℕ → ℕ → List ℕ
   -- The value of bytes in base 256.
   pub value : List ℕ → ℕ
-  -- The bytes of a number are that number, and no others are.
+  -- `spell k n` is k bytes whose value is n, and no other k bytes have that value.
   pub counts : (k n : ℕ) → length (spell k n) ≡ k
   pub bytes : (k n : ℕ) → AreBytes (spell k n)
   pub worth : (k n : ℕ) → n < 256 ^ k → value (spell k n) ≡ n
   pub one : (p q : List ℕ) → length p ≡ length q → AreBytes p → AreBytes q → value p ≡ value q
       → p ≡ q
 
--- There are k of them,
+-- `low_first k n` has k elements.
 pub low_counts : (k n : ℕ) → length (low_first k n) ≡ k
 low_counts zero n = refl
 low_counts (suc k) n = ap (λ i. suc i) (low_counts k (n / 256))
 
--- each is a byte,
+-- Each element of `low_first k n` is a byte.
 pub low_bytes : (k n : ℕ) → AreBytes (low_first k n)
 low_bytes zero n = tt
 low_bytes (suc k) n = (omega arith, low_bytes k (n / 256))
 
--- their value is the number,
+-- The value of `low_first k n` is n, if n is below 256 ^ k.
 pub low_worth : (k n : ℕ) → n < 256 ^ k → low_value (low_first k n) ≡ n
 low_worth zero n f = omega arith
 low_worth (suc k) n f =
@@ -60,7 +60,7 @@ low_worth (suc k) n f =
     let rest = low_worth k (n / 256) below in
     omega arith
 
--- and no other bytes have that value.
+-- No other bytes of the same count have the same value.
 pub low_one : (p q : List ℕ) → length p ≡ length q → AreBytes p → AreBytes q
     → low_value p ≡ low_value q → p ≡ q
 low_one [] [] l f g e = refl
@@ -86,14 +86,14 @@ joined_bytes : (xs ys : List ℕ) → AreBytes xs → AreBytes ys → AreBytes (
 joined_bytes [] ys h f = f
 joined_bytes (x ∷ xs) ys h f = (h.0, joined_bytes xs ys h.1 f)
 
--- Bytes turned round are bytes.
+-- Reversed bytes are bytes.
 pub reversed_bytes : (xs : List ℕ) → AreBytes xs → AreBytes (reverse xs)
 reversed_bytes [] h = tt
 reversed_bytes (x ∷ xs) h =
     let turned = joined_bytes (reverse xs) (x ∷ []) (reversed_bytes xs h.1) (h.0, tt) in
     subst AreBytes (sym (reverse-append (x ∷ []) xs)) turned
 
--- Turned round too, no other bytes have their value.
+-- The same with the highest byte first: no other bytes of the same count have the same value.
 pub high_one : (p q : List ℕ) → length p ≡ length q → AreBytes p → AreBytes q
     → low_value (reverse p) ≡ low_value (reverse q) → p ≡ q
 high_one p q l f g e =

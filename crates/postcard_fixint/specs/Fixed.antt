@@ -13,13 +13,13 @@ use Rattle.postcard_fixint.specs.Base256.{Order}
 
 -- A type of numbers of a fixed width.
 pub record FixedWidth (V : Type 0) : Type 1 where
-  -- How many bytes a number has.
+  -- The number of bytes that a number has.
   pub size : ℕ
   -- A number modulo 256 ^ size.
   pub modulo : V → ℕ
   -- The number is one of the type.
   pub fits : V → Type 0
-  -- Modulo 256 ^ size, no two numbers of the type are one.
+  -- Different numbers of the type are different modulo 256 ^ size.
   pub below : (v : V) → fits v → modulo v < 256 ^ size
   pub one : (v w : V) → fits v → fits w → modulo v ≡ modulo w → v ≡ w
 
@@ -44,7 +44,7 @@ module _ (k w : ℕ) (halves : 256 ^ k ≡ 2 * 2 ^ (w - 1)) where
   signed_below (pos n) f = omega (arith, ints, halves, f.0, f.1)
   signed_below (negsuc n) f = omega (arith, ints, halves, f.0, f.1)
 
-  -- No two such numbers have one two's complement.
+  -- Different numbers of w bits have different two's complements.
   pub signed_one : (y z : ℤ) → InRange w y → InRange w z
       → twos_complement k y ≡ twos_complement k z → y ≡ z
   signed_one (pos n) (pos m) f g e = ap pos e
@@ -70,19 +70,19 @@ same_list [] (y ∷ ys) h = absurd h
 same_list (x ∷ xs) [] h = absurd h
 same_list (x ∷ xs) (y ∷ ys) h = ap₂ (λ n ns. n ∷ ns) h.0 (same_list xs ys h.1)
 
--- The tree is the array of some bytes, and the number is one of the type that has their value.
+-- The tree is the array of some bytes, and v is the number of the type that has their value.
 abbrev pub IsFixed : {V : Type 0} → Order → FixedWidth V → Tree → V → Type 0
 IsFixed order width t v = (p : List ℕ) × (array width.size byte).value t p
     × (order.value p ≡ width.modulo v) × width.fits v
 
 module _ {V : Type 0} (order : Order) (width : FixedWidth V) where
-  -- A tree has one number.
+  -- A tree is that of at most one number.
   pub fixed_one : HasOne (IsFixed order width) (λ v w. v ≡ w)
   fixed_one t v w (p, a, h, f) (q, b, k, g) =
       let e : p ≡ q = same_list p q ((array width.size byte).one_value t p q a b) in
       width.one v w f g (sym h ∙ (ap order.value e ∙ k))
 
-  -- What a number is written as is read again.
+  -- The tree that a number is written as is read, and as that number.
   pub fixed_again : (v : V) → width.fits v
       → let t = (array width.size byte).tree (order.spell width.size (width.modulo v)) in
       (array width.size byte).reads t × IsFixed order width t v
@@ -111,7 +111,7 @@ fixed order width = record {
   again = fixed_again order width;
 }
 
--- The shape is that of arrays of k bytes, where `list` is what is seen of one.
+-- The shape s is that of arrays of k bytes, if `list` returns an array's bytes.
 pub record IsByteArray {B : Type 0} (s : Shape B) (list : B → List ℕ) (k : ℕ) : Type 0 where
   pub tree : (b : B) → s.tree b ≡ (array k byte).tree (list b)
   pub reads : (t : Tree) → s.reads t → (array k byte).reads t
@@ -121,7 +121,7 @@ pub record IsByteArray {B : Type 0} (s : Shape B) (list : B → List ℕ) (k : �
   pub silent : s.text → ⊥
   pub fixed : s.grows → ⊥
 
--- An array of k bytes is one.
+-- The shape of arrays of k bytes is such a shape.
 pub byte_array : (k : ℕ) → IsByteArray (array k byte) (λ xs. xs) k
 byte_array k = record {
   tree = λ b. refl;

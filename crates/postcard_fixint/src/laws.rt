@@ -1,14 +1,14 @@
 //! What holds of the bytes of numbers. The functions do nothing: their contracts are the laws.
 
 ghost use Rattle.std.specs.Prelude.{◌≡◌, ◌↔◌, ◌<◌, ◌^◌, ℕ, List, length};
-ghost use Rattle.postcard_wire.specs.Spelling.{bytes};
+ghost use Rattle.postcard_wire.specs.Spelling.{canonical};
 ghost use Rattle.postcard_fixint.specs.Base256.{AreNumber, little, big};
 ghost use Rattle.postcard_fixint.specs.Fixed.{fixed};
 
 use crate::number::FixInt;
 
-/// The `k` bytes of a number below `256^k` are those `k` bytes, and no others, whose value in base
-/// 256 it is: with the lowest byte first, and with the highest first.
+/// For a number below `256^k` there is exactly one list of `k` bytes whose value in base 256 is the
+/// number: with the lowest byte first, and likewise with the highest first.
 pub fn base_256()
     ensures lowest_first { (k n : ℕ) (p : List ℕ) → n < 256 ^ k →
         AreNumber little.value k n p ↔ (p ≡ little.spell k n) }
@@ -16,13 +16,13 @@ pub fn base_256()
         AreNumber big.value k n p ↔ (p ≡ big.spell k n) }
 {}
 
-/// What [`crate::LE`] and [`crate::BE`] write is just the bytes of the number, as many as its type
-/// has.
+/// [`crate::LE`] and [`crate::BE`] write exactly the bytes of the number, as many as its type has.
 pub fn encoded<T: FixInt>()
-    ensures lowest_first { (v : T) → bytes ((fixed little T.width).tree v)
+    ensures lowest_first { (v : T) → canonical ((fixed little T.width).tree v)
         ≡ little.spell T.width.size (T.width.modulo v) }
-    ensures highest_first { (v : T) → bytes ((fixed big T.width).tree v)
+    ensures highest_first { (v : T) → canonical ((fixed big T.width).tree v)
         ≡ big.spell T.width.size (T.width.modulo v) }
-    ensures little_len { (v : T) → length (bytes ((fixed little T.width).tree v)) ≡ T.width.size }
-    ensures big_len { (v : T) → length (bytes ((fixed big T.width).tree v)) ≡ T.width.size }
+    ensures little_len { (v : T) → length (canonical ((fixed little T.width).tree v))
+        ≡ T.width.size }
+    ensures big_len { (v : T) → length (canonical ((fixed big T.width).tree v)) ≡ T.width.size }
 {}

@@ -18,11 +18,11 @@ use postcard_wire::Result;
 use std::alloc::Global;
 use std::marker::Model;
 
-/// A number that is written as its bytes, the lowest first: 2, 4, 8 or 16 of them, with nothing
-/// before them. A signed number is written in two's complement.
+/// A number that is written as its 2, 4, 8 or 16 bytes, the lowest first, without a length. A
+/// signed number is written in two's complement.
 ///
-/// It takes the number's place in a value that is made of others: in the tuple of a struct's
-/// fields, in a list, in an option. A contract sees it as the number.
+/// It stands for the number in a value that is made of others: in the tuple of a struct's fields,
+/// in a list, in an option. In contracts it is the number.
 #[derive(Drop)]
 pub struct LE<T>(T);
 
@@ -33,14 +33,14 @@ impl<T> Model for LE<T> {
 }
 
 impl<T: FixInt> LE<T> {
-    /// Returns the number, to be written lowest byte first.
+    /// Wraps a number, to be written with the lowest byte first.
     pub fn new(value: T) -> LE<T>
         ensures { result ≡ value }
     {
         LE(value)
     }
 
-    /// Returns the number.
+    /// Returns the wrapped number.
     pub fn get(self) -> T
         ensures { result ≡ self }
     {
@@ -96,11 +96,12 @@ pub fn serialize<T: FixInt, F: postcard_ser::Flavor>(
 }
 
 /// Reads a number from the next 2, 4, 8 or 16 bytes, the lowest first, as [`LE`] does (behaviour
-/// of postcard 1.1.3). No memory is asked for.
+/// of postcard 1.1.3). Nothing is allocated.
 ///
 /// # Errors
 ///
-/// Fails with `DeserializeUnexpectedEnd` if fewer bytes are left.
+/// Fails with `DeserializeUnexpectedEnd` if the source can't give that many bytes. Some of them may
+/// have been taken then.
 pub fn deserialize<'de, T: FixInt, F: postcard_de::Flavor>(
     alloc: Global,
     d: &mut Deserializer<'de, F>,

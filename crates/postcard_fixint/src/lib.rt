@@ -1,14 +1,14 @@
 //! Numbers at their full width: 2, 4, 8 or 16 bytes, the lowest or the highest first, in place of a
 //! varint (behaviour of postcard 1.1.3, module `fixint`).
 //!
-//! A varint is shorter for small numbers. At its full width a number takes the same room whatever
-//! it is: a random `u64`, as a hash or an identifier, 8 bytes in place of 9 or 10.
+//! A varint is shorter for small numbers. At its full width a number always has the same length: a
+//! random `u64`, as a hash or an identifier, has 8 bytes in place of 9 or 10.
 //!
-//! `specs/Base256.antt` says what the bytes of a number are: those, as many as its type has, whose
-//! value in base 256 it is. `specs/Fixed.antt` makes a shape of it, laws included: what was written
-//! is read back as the same number, and any bytes of that count are read.
+//! `specs/Base256.antt` defines the bytes of a number: those, as many as its type has, whose value
+//! in base 256 is the number. `specs/Fixed.antt` defines the shape and proves its laws: what was
+//! written is read back as the same number, and any bytes of that count are read.
 //!
-//! In a struct, the tuple of the fields has a [`LE`] or [`BE`] for the number:
+//! In a struct, the tuple of the fields has an [`LE`] or [`BE`] for the number:
 //!
 //! ```text
 //! impl Repr for Header {
@@ -30,8 +30,8 @@
 //! }
 //! ```
 //!
-//! In reading order: [`FixInt`] are the numbers, [`le`] and [`be`] write and read them, and
-//! [`laws`] has what holds of their bytes.
+//! In reading order: [`FixInt`] is the trait of the numbers, [`le`] and [`be`] write and read them,
+//! and [`laws`] has what holds of their bytes.
 #![tactic(auto)]
 
 pub mod be;

@@ -9,24 +9,24 @@ use postcard_de::DeserializeOwned;
 use postcard_ser::Serialize;
 use sealed::Sealed;
 
-/// The door to [`FixInt`], which only this file opens.
+/// Seals [`FixInt`]: only types of this file can implement it.
 mod sealed {
-    /// A type of numbers of this crate.
+    /// The supertrait of `FixInt`, which other crates can't name.
     pub trait Sealed {}
 }
 
 /// A type of numbers that can be written at its full width: `u16`, `u32`, `u64`, `u128`, `i16`,
 /// `i32`, `i64` and `i128`.
 ///
-/// No other type is one. The trait asks for a trait of a private module, which no other crate can
-/// name and so none can implement. What contracts rest on doesn't hang on that: an implementation
-/// must prove that its bytes are those of the number, in base 256.
+/// The trait is sealed: its supertrait is in a private module, so no other crate can implement it.
+/// The contracts don't rely on that: an implementation must prove that its bytes are those of the
+/// number, in base 256.
 pub trait FixInt: Sealed + Copy + Drop {
-    /// An array of as many bytes as the number has.
+    /// An array of the bytes of a number: `[u8; 2]`, `[u8; 4]`, `[u8; 8]` or `[u8; 16]`.
     type Bytes: Serialize + DeserializeOwned;
 
-    /// The number of bytes, and each number modulo 256 to that power: itself, or in two's
-    /// complement.
+    /// The number of bytes, and each number modulo 256 to that power: an unsigned number is itself,
+    /// and a signed one is its two's complement.
     ghost width: { FixedWidth Self };
 
     /// The bytes of an array.
@@ -37,7 +37,7 @@ pub trait FixInt: Sealed + Copy + Drop {
         ensures bytes { list result ≡ little.spell width.size (width.modulo self) }
         ensures fits { width.fits self };
 
-    /// Returns the number of these bytes, the lowest of which is the first.
+    /// Returns the number of which `bytes` are the bytes, the lowest first.
     fn decode_le(bytes: Self::Bytes) -> Self
         ensures value { width.modulo result ≡ little.value (list bytes) }
         ensures fits { width.fits result };
@@ -47,7 +47,7 @@ pub trait FixInt: Sealed + Copy + Drop {
         ensures bytes { list result ≡ big.spell width.size (width.modulo self) }
         ensures fits { width.fits self };
 
-    /// Returns the number of these bytes, the highest of which is the first.
+    /// Returns the number of which `bytes` are the bytes, the highest first.
     fn decode_be(bytes: Self::Bytes) -> Self
         ensures value { width.modulo result ≡ big.value (list bytes) }
         ensures fits { width.fits result };

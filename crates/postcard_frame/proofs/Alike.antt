@@ -1,4 +1,4 @@
--- Two readings of the front of the same bytes are alike.
+-- Two readings of the front of the same bytes agree.
 use Rattle.std.proofs.Common.{◌≡◌, List, ℕ, ◌++◌, sym, ◌∙◌, ap, subst}
 use Rattle.std.proofs.lemmas.List.{append_cancel_left}
 use Rattle.postcard_wire.specs.Tree.{Tree}
@@ -6,8 +6,8 @@ use Rattle.postcard_wire.specs.Reading.{IsDelimited}
 use Rattle.postcard_shape.specs.Same.{HasOne}
 use Rattle.postcard_frame.specs.Front.{ReadsFront}
 
--- Both fronts are one and spell one tree, and a tree has one value. So the values look alike, and
--- the rests are one.
+-- Both fronts are equal and spell one tree, and two values of one tree look alike. So the values
+-- look alike, and the rests are equal.
 pub fronts_alike : {V : Type 0} {reads : Tree → Type 0} {value : Tree → V → Type 0}
     {same : V → V → Type 0} {all rest left : List ℕ} {v w : V}
     → IsDelimited reads → HasOne value same

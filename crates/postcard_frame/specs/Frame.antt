@@ -2,13 +2,13 @@
 use Rattle.std.specs.Prelude.{◌≡◌, ◌⊎◌, ℕ, List, ◌++◌, Result, MatchResult}
 use Rattle.postcard_cobs.specs.Groups.{Groups, before_zero, made}
 use Rattle.postcard_wire.specs.Tree.{Tree}
-use Rattle.postcard_wire.specs.Spelling.{Spells, bytes}
+use Rattle.postcard_wire.specs.Spelling.{Spells, canonical}
 use Rattle.postcard_wire.specs.declared.error.Error.{Error}
 use Rattle.postcard_wire.specs.declared.error.Error.TheVariants.{OutOfMemory}
 use Rattle.postcard_shape.specs.Shape.{Shape}
 use Rattle.postcard_frame.specs.Front.{ReadsFront}
 
--- The frame has data of which a front spells a tree that is read, and v is its value.
+-- The frame has data of which a front spells a tree that is read, and v is that tree's value.
 pub record ReadsFrame {V : Type 0} (reads : Tree → Type 0) (value : Tree → V → Type 0)
     (frame : List ℕ) (v : V) : Type 0 where
   pub content : List ℕ
@@ -16,17 +16,18 @@ pub record ReadsFrame {V : Type 0} (reads : Tree → Type 0) (value : Tree → V
   pub rest : List ℕ
   pub is_read : ReadsFront reads value content v rest
 
--- The bytes are the frame of no data: a group runs past their end, or there is none.
+-- The bytes are a frame of no data: they are empty, or a group runs past their end.
 abbrev pub HasNoData : List ℕ → Type 0
 HasNoData frame = (content : List ℕ) → Groups frame content → ⊥
 
 module _ {V R : Type 0} (shape : Shape V) (value : R → V) (frame : List ℕ)
     (r : Result R Error) where
-  -- The call succeeds with a value of which P holds, want of memory for a type that grows aside.
+  -- The call succeeds with a value of which P holds, or fails with `OutOfMemory` for a type that
+  -- grows.
   abbrev pub SucceedsWith : (V → Type 0) → Type 0
   SucceedsWith P = MatchResult r (λ read. P (value read)) (λ e. (e ≡ OutOfMemory) × shape.grows)
 
-  -- The call succeeds where a front of the frame's data spells a tree that the type reads.
+  -- The call succeeds if a front of the frame's data spells a tree that the type reads.
   abbrev pub AcceptsFrame : Type 0
   AcceptsFrame = (content : List ℕ) (t : Tree) (front rest : List ℕ) → Groups frame content
       → shape.reads t → Spells t front → content ≡ front ++ rest → SucceedsWith (shape.value t)
@@ -34,5 +35,5 @@ module _ {V R : Type 0} (shape : Shape V) (value : R → V) (frame : List ℕ)
   -- The made frame of a value that fits, with its sentinel or without, reads back as a value that
   -- looks like it.
   abbrev pub ReadsBackFrame : Type 0
-  ReadsBackFrame = (x : V) → shape.fits x → frame ≡ before_zero (made (bytes (shape.tree x)))
+  ReadsBackFrame = (x : V) → shape.fits x → frame ≡ before_zero (made (canonical (shape.tree x)))
       → SucceedsWith (λ v. shape.same v x)

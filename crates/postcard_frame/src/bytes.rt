@@ -2,24 +2,26 @@
 
 ghost use Rattle.std.specs.Prelude.{◌≡◌, ℕ, List, ◌++◌, Err, IfOk, IfErr, MatchResult};
 ghost use Rattle.postcard_wire.specs.Tree.{Tree};
-ghost use Rattle.postcard_wire.specs.Spelling.{Spells, bytes as canonical};
-ghost use Rattle.postcard_de.specs.Reads.{MayAnswer};
+ghost use Rattle.postcard_wire.specs.Spelling.{Spells, canonical};
+ghost use Rattle.postcard_de.specs.Reads.{IsReadError};
 ghost use Rattle.postcard_frame.specs.Front.{ReadsFront};
 
 use postcard_de::{Deserialize, Deserializer};
 use postcard_wire::{Error, Result};
 use std::alloc::Global;
 
-/// Decodes a value from the front of some bytes, and returns it with the bytes after that front.
+/// Decodes a value from the front of `bytes`, and returns it with the bytes after that front.
 ///
-/// It succeeds exactly where a front spells a tree that the type reads, padded numbers included;
-/// there is one such front at most. What is lent to the value, as a `&str`, is lent from `bytes`.
+/// It succeeds if and only if a front of `bytes` spells a tree that the type reads, padded varints
+/// included, and no allocation fails. There is at most one such front. Slices and texts in the
+/// value, as a `&str`, borrow from `bytes`.
 ///
 /// # Errors
 ///
 /// Fails with the error of the first part that can't be read: with `DeserializeUnexpectedEnd` if
-/// the bytes end before the value does, and with the errors of `Deserializer`'s calls. Fails with
-/// `OutOfMemory` only if an allocation fails, for a type that grows.
+/// the bytes end before the value does, with the errors of `Deserializer`'s calls, and with
+/// `SerdeDeCustom` if a type refuses what was read. Fails with `OutOfMemory` if an allocation
+/// fails, and only for a type that grows.
 pub fn take_from_bytes<'a, T: Deserialize<'a>>(
     alloc: Global,
     bytes: &'a [u8],
@@ -35,7 +37,7 @@ pub fn take_from_bytes<'a, T: Deserialize<'a>>(
         MatchResult result (λ read. T.shape.same read.0 x × (read.1.now ≡ rest))
         (λ e. (e ≡ Error.OutOfMemory) × T.shape.grows) }
     ensures grows { result ≡ Err Error.OutOfMemory → T.shape.grows }
-    ensures names { IfErr result (MayAnswer T.shape.grows) }
+    ensures named_error { IfErr result (IsReadError T.shape.grows) }
 {
     let mut deserializer = Deserializer::from_bytes(bytes);
     let value = T::deserialize(alloc, &mut deserializer)?;
@@ -43,11 +45,12 @@ pub fn take_from_bytes<'a, T: Deserialize<'a>>(
     Ok((value, rest))
 }
 
-/// Decodes a value from the front of some bytes. Bytes after that front are ignored.
+/// Decodes a value from the front of `bytes`. Bytes after that front are ignored. Slices and texts
+/// in the value, as a `&str`, borrow from `bytes`.
 ///
 /// # Errors
 ///
-/// As `take_from_bytes`.
+/// Fails as [`take_from_bytes`].
 pub fn from_bytes<'a, T: Deserialize<'a>>(alloc: Global, bytes: &'a [u8]) -> Result<T>
     ensures gives { IfOk result (λ value. (rest : List ℕ)
         × ReadsFront T.shape.reads T.shape.value bytes.now value rest) }
@@ -60,7 +63,7 @@ pub fn from_bytes<'a, T: Deserialize<'a>>(alloc: Global, bytes: &'a [u8]) -> Res
         MatchResult result (λ value. T.shape.same value x)
         (λ e. (e ≡ Error.OutOfMemory) × T.shape.grows) }
     ensures grows { result ≡ Err Error.OutOfMemory → T.shape.grows }
-    ensures names { IfErr result (MayAnswer T.shape.grows) }
+    ensures named_error { IfErr result (IsReadError T.shape.grows) }
 {
     let (value, _) = take_from_bytes(alloc, bytes)?;
     Ok(value)

@@ -1,4 +1,4 @@
-//! Values read from bytes that are at hand: from the front of a slice, and from a frame in the
+//! Reading values from bytes in memory: from the front of a slice, and from a COBS frame in the
 //! buffer that holds it.
 //!
 //! - `from_bytes` and `take_from_bytes` read a value from the front of a slice (module `bytes`).

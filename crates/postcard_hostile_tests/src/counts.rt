@@ -1,4 +1,4 @@
-//! Counts of more than there is, each of which ends in a named refusal: memory is asked for by what
+//! Tests of counts of more than there is. Each ends in a named error: memory is requested by what
 //! was read, and never by a count.
 
 use arrayvec::ArrayVec;
@@ -15,7 +15,7 @@ const CUSTOM: Error = Error::SerdeDeCustom;
 /// The greatest count, 2^64 - 1.
 const GREATEST: [u8; 10] = [0xFF, 0xFF, 0xFF, 0xFF, 0xFF, 0xFF, 0xFF, 0xFF, 0xFF, 0x01];
 
-/// These bytes, then the greatest count, and then others.
+/// Returns the bytes `front`, then the greatest count, and then the bytes `rest`.
 fn announced(alloc: Global, front: &[u8], rest: &[u8]) -> postcard::Result<Vec<u8>> {
     let mut bytes = Vec::new(alloc);
     bytes.extend_from_slice(front)?;
@@ -24,7 +24,7 @@ fn announced(alloc: Global, front: &[u8], rest: &[u8]) -> postcard::Result<Vec<u
     Ok(bytes)
 }
 
-/// No value is read from the bytes, for this reason.
+/// Asserts that reading a value from the bytes fails with this error.
 fn assert_refused<'a, T: Deserialize<'a>>(
     rt: &(impl Abort + AllocGlobal),
     bytes: &'a [u8],

@@ -1,5 +1,5 @@
-//! What a value's bytes have to withstand: each byte changed, buffers of each length, and each byte
-//! of its frame changed.
+//! Checks that a value and its bytes have to withstand: each byte changed, buffers of each length,
+//! and each byte of the frame changed.
 
 use postcard::experimental::serialized_size;
 use postcard::{
@@ -10,10 +10,10 @@ use std::alloc::{AllocError, AllocGlobal, Global};
 use std::process::Abort;
 use std::test::Fail;
 
-/// The bytes of a buffer that weren't written.
+/// The bytes of a buffer before anything is written.
 const OLD: u8 = 0xAA;
 
-/// Whether reading a value from a slice may fail with this error.
+/// Returns whether reading a value from a slice may fail with this error.
 fn is_named(error: &Error) -> bool {
     matches!(
         error,
@@ -27,7 +27,7 @@ fn is_named(error: &Error) -> bool {
     )
 }
 
-/// The bytes, with the byte at one place changed.
+/// Returns a copy of the bytes in which the byte at `place` is `byte`.
 fn with_byte(alloc: Global, bytes: &[u8], place: usize, byte: u8) -> Result<Vec<u8>, AllocError> {
     let mut copy = bytes.to_vec(alloc)?;
     if let Some(changed) = copy.get_mut(place) {
@@ -36,7 +36,8 @@ fn with_byte(alloc: Global, bytes: &[u8], place: usize, byte: u8) -> Result<Vec<
     Ok(copy)
 }
 
-/// Copies of the bytes, each with one byte changed: at each place, to each of the 255 others.
+/// Returns copies of the bytes, each with one byte changed: at each place, to each of the 255 other
+/// values.
 pub(crate) fn changes(alloc: Global, bytes: &[u8]) -> Result<Vec<Vec<u8>>, AllocError> {
     let mut copies = Vec::new(alloc);
     for (place, old) in bytes.iter().enumerate() {
@@ -49,8 +50,8 @@ pub(crate) fn changes(alloc: Global, bytes: &[u8]) -> Result<Vec<Vec<u8>>, Alloc
     Ok(copies)
 }
 
-/// The frame of fewer than 254 bytes: before each run of bytes other than zero, one more than its
-/// length, and a zero at the end.
+/// Returns the frame of fewer than 254 bytes: each run of bytes other than zero after its length
+/// plus one, and a zero at the end.
 fn frame(alloc: Global, bytes: &[u8]) -> Result<Vec<u8>, AllocError> {
     let mut frame = Vec::new(alloc);
     for run in bytes.split(|byte| *byte == 0) {
@@ -61,15 +62,16 @@ fn frame(alloc: Global, bytes: &[u8]) -> Result<Vec<u8>, AllocError> {
     Ok(frame)
 }
 
-/// Copies of a value's frame with four bytes after it, each with one byte changed.
+/// Returns copies of a value's frame with four bytes after it, each with one byte changed.
 pub(crate) fn changed_frames(alloc: Global, bytes: &[u8]) -> Result<Vec<Vec<u8>>, AllocError> {
     let mut buffer = frame(alloc, bytes)?;
     buffer.extend_from_slice(&[0x77; 4])?;
     changes(alloc, &buffer)
 }
 
-/// Writes a value into a buffer of each length up to three bytes more than it needs. It succeeds
-/// just where its bytes fit. A beginning of them is written, and the rest of the buffer stays.
+/// Writes a value into buffers of each length up to three bytes more than it needs. Asserts that
+/// this succeeds exactly if its bytes fit, and that in each case a beginning of them is written and
+/// the other bytes of the buffer are unchanged.
 fn takes_its_room<T: Serialize>(rt: &impl Abort, value: &T, want: &[u8]) {
     for room in 0..=want.len().saturating_add(3) {
         let mut buffer = [OLD; 48];
@@ -92,8 +94,8 @@ fn takes_its_room<T: Serialize>(rt: &impl Abort, value: &T, want: &[u8]) {
     }
 }
 
-/// Writes a value as a frame, into a buffer of each length up to three bytes more than it needs. It
-/// succeeds just where the frame fits.
+/// Writes a value as a frame into buffers of each length up to three bytes more than it needs.
+/// Asserts that this succeeds exactly if the frame fits.
 fn frame_takes_its_room<T: Serialize>(rt: &impl Abort, value: &T, want: &[u8]) {
     for room in 0..=want.len().saturating_add(3) {
         let mut buffer = [OLD; 48];
@@ -114,8 +116,8 @@ fn frame_takes_its_room<T: Serialize>(rt: &impl Abort, value: &T, want: &[u8]) {
     }
 }
 
-/// The copy is refused by a named error, or read as a value whose own bytes are at most as many as
-/// were read.
+/// Asserts that reading the copy failed with a named error, or returned a value whose encoding is
+/// at most as long as the bytes that were read.
 fn is_answer<T: Serialize + Drop>(
     rt: &impl Abort,
     copy: &[u8],
@@ -139,7 +141,7 @@ fn take_owned<T: DeserializeOwned>(alloc: Global, bytes: &[u8]) -> postcard::Res
     Ok((value, rest))
 }
 
-/// Each copy is refused or read as a value.
+/// Asserts that reading each copy fails with a named error or returns a value.
 pub(crate) fn copies_are_answered<'a, T: Serialize + Deserialize<'a>>(
     rt: &(impl Abort + AllocGlobal),
     copies: &'a [Vec<u8>],
@@ -149,7 +151,7 @@ pub(crate) fn copies_are_answered<'a, T: Serialize + Deserialize<'a>>(
     }
 }
 
-/// Each frame is refused by a named error, or read as a value.
+/// Asserts that reading each frame fails with a named error or returns a value.
 pub(crate) fn frames_are_answered<'a, T: Deserialize<'a>>(
     rt: &(impl Abort + AllocGlobal),
     frames: &'a mut [Vec<u8>],
@@ -162,8 +164,8 @@ pub(crate) fn frames_are_answered<'a, T: Deserialize<'a>>(
     }
 }
 
-/// Once the changed frames of these bytes were read: from its first zero on each buffer is as it
-/// was before.
+/// Asserts, after the changed frames of these bytes were read, that each buffer is unchanged from
+/// its first zero on.
 pub(crate) fn frames_are_kept(
     rt: &(impl Abort + AllocGlobal),
     bytes: &[u8],
@@ -179,7 +181,7 @@ pub(crate) fn frames_are_kept(
     Ok(())
 }
 
-/// Writes a value and its frame into buffers of each length.
+/// Writes a value and its frame into buffers of each length, and checks the results.
 pub(crate) fn take_their_room<T: Serialize>(
     rt: &(impl Abort + AllocGlobal),
     value: &T,
@@ -190,8 +192,8 @@ pub(crate) fn take_their_room<T: Serialize>(
     Ok(())
 }
 
-/// Writes a value that borrows nothing into buffers of each length, and reads its bytes and its
-/// frame with each byte changed.
+/// Writes a value that borrows nothing into buffers of each length, reads its bytes and its frame
+/// with each byte changed, and checks the results.
 pub(crate) fn withstands<T: Serialize + DeserializeOwned>(
     rt: &(impl Abort + AllocGlobal),
     value: T,

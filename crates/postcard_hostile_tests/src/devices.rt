@@ -1,5 +1,5 @@
-//! Readers and writers that fail at each of their calls, with interruptions in between, streams
-//! that are cut in each way, and scratch buffers of each length.
+//! Tests of readers and writers that fail at each of their calls, with interruptions in between, of
+//! streams that are cut in each way, and of scratch buffers of each length.
 
 use postcard::accumulator::CobsAccumulator;
 use postcard::de_flavors::Plain;
@@ -17,8 +17,8 @@ use std::test::Fail;
 
 const END: Error = Error::DeserializeUnexpectedEnd;
 
-/// A reader of these bytes, one at a time, of which every other call is interrupted, and of the
-/// others one fails.
+/// Returns a reader of these bytes, one with each read. Every other call is interrupted, and one of
+/// the others fails.
 fn failing(bytes: &[u8], fails_at: usize) -> InterruptedReader<FailingReader<Pieces<'_>>> {
     InterruptedReader {
         inner: FailingReader {
@@ -30,8 +30,8 @@ fn failing(bytes: &[u8], fails_at: usize) -> InterruptedReader<FailingReader<Pie
     }
 }
 
-/// The value is read through interruptions, and refused where one of the reads that it needs fails
-/// or the bytes end too early.
+/// Asserts that the value is read through interruptions, and that this fails if one of the reads
+/// that it needs fails or the bytes end too early.
 fn is_read_or_refused<T: DeserializeOwned + PartialEq + Debug>(
     rt: &(impl Abort + AllocGlobal),
     value: &T,
@@ -59,8 +59,8 @@ fn is_read_or_refused<T: DeserializeOwned + PartialEq + Debug>(
     }
 }
 
-/// The value is written through interruptions. Where a write or the flush fails, it is refused, and
-/// a beginning of the bytes was written.
+/// Asserts that the value is written through interruptions, and that this fails if a write or the
+/// flush fails. A beginning of the bytes is then written.
 fn is_written_or_refused<T: Serialize>(rt: &(impl Abort + AllocGlobal), value: &T, bytes: &[u8]) {
     for fails_at in 0..=bytes.len().saturating_add(1) {
         for flush_fails in [false, true] {
@@ -93,7 +93,7 @@ fn is_written_or_refused<T: Serialize>(rt: &(impl Abort + AllocGlobal), value: &
     }
 }
 
-/// Both.
+/// Runs both of these checks.
 fn survives<T: Serialize + DeserializeOwned + PartialEq + Debug>(
     rt: &(impl Abort + AllocGlobal),
     value: &T,
@@ -124,7 +124,7 @@ fn each_call_fails_in_turn(rt: HostRuntime) -> Result<(), Fail> {
     Ok(())
 }
 
-/// Buffers of each length up to this one.
+/// Returns buffers of each length up to `longest`.
 fn buffers(alloc: Global, longest: usize) -> Result<Vec<Vec<u8>>, AllocError> {
     let mut all = Vec::new(alloc);
     let mut buffer = Vec::new(alloc);
@@ -135,8 +135,8 @@ fn buffers(alloc: Global, longest: usize) -> Result<Vec<Vec<u8>>, AllocError> {
     Ok(all)
 }
 
-/// The value is read with each scratch of at least `needed` bytes, of which `kept` are not given
-/// back, and refused with each shorter one.
+/// Asserts that the value is read with each scratch of at least `needed` bytes, of which `kept` are
+/// used up, and that reading fails with each shorter one.
 fn needs_scratch<'a, T: Deserialize<'a> + PartialEq + Debug>(
     rt: &(impl Abort + AllocGlobal),
     bytes: &'a [u8],
@@ -193,10 +193,11 @@ fn scratch_of_each_length(rt: HostRuntime) -> Result<(), Fail> {
     Ok(())
 }
 
-/// A stream with an oversized frame for four bytes, and one that has room.
+/// A stream of two frames, of which the first has no room in four bytes and the second has.
 const STREAM: [u8; 9] = [5, 1, 1, 1, 1, 0, 2, 7, 0];
 
-/// The lengths of the pieces of the stream where it is cut so: after a place whose bit is set.
+/// Returns the lengths of the pieces of the stream if it is cut after each place whose bit is set
+/// in `cuts`.
 fn lengths(alloc: Global, cuts: u32) -> Result<Vec<usize>, AllocError> {
     let mut all = Vec::new(alloc);
     let mut length = 0usize;
@@ -210,7 +211,7 @@ fn lengths(alloc: Global, cuts: u32) -> Result<Vec<usize>, AllocError> {
     Ok(all)
 }
 
-/// The number of answers of this many bytes of the stream.
+/// Returns the number of answers to the first `count` bytes of the stream.
 fn answered(count: usize) -> usize {
     match count {
         0..5 => 0,
@@ -219,8 +220,9 @@ fn answered(count: usize) -> usize {
     }
 }
 
-/// Reads the stream in pieces of these lengths, of which one read fails, if there are so many. A
-/// call then has the answers of the bytes before, and the next one goes on.
+/// Reads the stream in pieces of these lengths, where the read with the number `fails_at` fails, if
+/// there are that many. Asserts that the call returns the answers to the bytes before, and that the
+/// next call goes on.
 fn read_through(
     rt: &(impl Abort + AllocGlobal),
     lengths: &[usize],
@@ -256,8 +258,8 @@ fn read_through(
     Ok(())
 }
 
-/// Reads the stream in pieces of these lengths, where every other read is interrupted: such a read
-/// is one that failed, and the next call goes on.
+/// Reads the stream in pieces of these lengths, where every other read is interrupted. Asserts that
+/// an interrupted read counts as one that failed, and that the next call goes on.
 fn read_interrupted(rt: &(impl Abort + AllocGlobal), lengths: &[usize]) -> Result<(), Fail> {
     let both = [Answer::OverFull, Answer::Success(7u8)];
     let mut reader = Plain::new(InterruptedReader {

@@ -1,7 +1,7 @@
 //! Tests of hostile use: damaged input, counts of more than there is, buffers that are too short,
-//! and devices that fail.
+//! and readers and writers that fail.
 //!
-//! They stand in a crate of their own, so that what they test is proved without them.
+//! They are in a crate of their own, so that the crates they test are proved without them.
 #![tactic(auto)]
 
 #[cfg(test)]

@@ -1,4 +1,4 @@
-//! Values of each type, and their bytes by the wire format.
+//! Tests of damage and short buffers, with values of each type and their bytes by the wire format.
 
 use crate::damage::{
     changed_frames, changes, copies_are_answered, frames_are_answered, frames_are_kept,
@@ -12,7 +12,7 @@ use postcard_vectors::types::{
 use std::collections::BTreeMap;
 use std::test::Fail;
 
-/// The same for a value that borrows from its bytes, which outlive it here.
+/// Does the same as `withstands` for a value that borrows from its bytes, which outlive it here.
 macro_rules! withstands_lent {
     ($rt:expr, $t:ty, $value:expr, $bytes:expr) => {
         take_their_room(&$rt, &$value, $bytes)?;

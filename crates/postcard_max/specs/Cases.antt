@@ -1,29 +1,28 @@
--- The greatest sizes of enums: the greatest of the variants', each with its index (wire format 1.0, "newtype_variant").
+-- The greatest sizes of enums: that of the greatest variant, each with its index (wire format 1.0,
+-- "newtype_variant").
 use Rattle.std.proofs.Common.{◌≡◌, ℕ, zero, suc, ◌+◌, ◌<◌, ◌≤◌, ◌^◌, inl, inr, Option, Some, None, true, false, refl, ap, subst, arith, length-append, nat_lt, sym, ◌∙◌}
 use Rattle.std.specs.Prelude.{max, if◌then◌else◌, IfSome}
 use Rattle.std.proofs.lemmas.Bool.{cases_lt}
 use Rattle.postcard_wire.specs.Number.{digits}
 use Rattle.postcard_wire.specs.Tree.{Tree, Variant}
-use Rattle.postcard_wire.specs.Spelling.{bytes}
+use Rattle.postcard_wire.specs.Spelling.{canonical}
 use Rattle.postcard_wire.specs.Reading.{IsVariant}
 use Rattle.postcard_shape.specs.Cases.{case_reads}
 use Rattle.postcard_max.specs.Sizes.{sum_of, greater_of, varint_len, index_len, limited}
+use Rattle.postcard_max.specs.SizeLimit.{IsIndex, no_case_greatest, case_greatest}
 use Rattle.postcard_max.specs.Limits.{AreBounded, IsReached, tree_len}
 use Rattle.postcard_max.specs.Counts.{some_count, count_len}
 
--- The greatest size of the variants from the index i on, from that of the first one's content and those after it.
-abbrev pub case_greatest : Option ℕ → (Option ℕ → Option ℕ) → Option ℕ → Option ℕ
-case_greatest first others i = greater_of (sum_of (index_len i) first) (others (sum_of i (Some 1)))
-
--- The variants from the index i on, each with its index, take at most so many bytes.
+-- Each of the variants from the index i on, with its index, takes at most g bytes, if g is a
+-- number.
 abbrev pub FromBounded : ℕ → Option ℕ → (ℕ → Tree → Type 0) → Type 0
 FromBounded i g reads = IfSome g (λ m. (j : ℕ) (t : Tree) → reads j t → tree_len (Variant (i + j) t) ≤ m)
 
--- One of them takes as many, if that is any byte at all.
+-- One of the variants from the index i on takes g bytes, if g is a number and not 0.
 abbrev pub FromReached : ℕ → Option ℕ → (ℕ → Tree → Type 0) → Type 0
 FromReached i g reads = IfSome g (λ m. 1 ≤ m → (j : ℕ) × (t : Tree) × reads j t × (i + j < 2 ^ 32) × (tree_len (Variant (i + j) t) ≡ m))
 
--- The same, where the index may take more than 64 bits: then there is no greatest size.
+-- `FromBounded`, if the index fits 64 bits; otherwise there is no greatest size.
 abbrev pub CasesBounded : Option ℕ → Option ℕ → (ℕ → Tree → Type 0) → Type 0
 CasesBounded None g reads = g ≡ None
 CasesBounded (Some i) g reads = FromBounded i g reads
@@ -32,20 +31,11 @@ abbrev pub CasesReached : Option ℕ → Option ℕ → (ℕ → Tree → Type 0
 CasesReached None g reads = g ≡ None
 CasesReached (Some i) g reads = FromReached i g reads
 
--- The index is one of 32 bits, as that of a variant is.
-abbrev pub IsIndex : Option ℕ → Type 0
-IsIndex None = Unit {0}
-IsIndex (Some i) = i < 2 ^ 32
-
--- 0 is one.
+-- The index 0 fits 32 bits.
 pub zero_index : IsIndex (Some 0)
 zero_index = omega arith
 
--- No variant takes no byte.
-abbrev pub no_case_greatest : Option ℕ → Option ℕ
-no_case_greatest None = None
-no_case_greatest (Some i) = Some 0
-
+-- The greatest size of no variants is 0.
 pub no_case_bounded : (i : Option ℕ) → CasesBounded i (no_case_greatest i) (λ j t. ⊥)
 no_case_bounded None = refl
 no_case_bounded (Some i) = λ j t r. absurd r
@@ -54,11 +44,11 @@ pub no_case_reached : (i : Option ℕ) → CasesReached i (no_case_greatest i) (
 no_case_reached None = refl
 no_case_reached (Some i) = λ h. absurd (omega (arith, h))
 
--- A variant takes its index and its content.
+-- The encoding of a variant is as long as its index and its content together.
 variant_len : (i : ℕ) (t : Tree) → tree_len (Variant i t) ≡ varint_len i + tree_len t
-variant_len i t = omega (arith, count_len i, length-append (digits i) (bytes t))
+variant_len i t = omega (arith, count_len i, length-append (digits i) (canonical t))
 
--- Those after the first.
+-- The variants after the first, at indices one higher, have their own greatest size.
 later_bounded : (i : ℕ) (g : Option ℕ → Option ℕ) (reads : ℕ → Tree → Type 0) → ((k : Option ℕ) → CasesBounded k (g k) reads) → FromBounded (i + 1) (g (limited (i + 1))) reads
 later_bounded i g reads h = elim (nat_lt (i + 1) (2 ^ 64)) as (λ v. FromBounded (i + 1) (g (if v then Some (i + 1) else None)) reads) [
   | true ↦ h (Some (i + 1))
@@ -90,7 +80,7 @@ first_bounded i a q s r h k = elim (nat_lt (varint_len i + a) (2 ^ 64)) as (λ v
     with_others None k = tt
     with_others (Some b) k = longest_case i a b s r h k
 
--- A variant before others.
+-- The greatest size of a variant and those after it is the greater of the two.
 pub case_bounded : (a : Option ℕ) (g : Option ℕ → Option ℕ) (s : Tree → Type 0) (r : ℕ → Tree → Type 0) → AreBounded a s → ((k : Option ℕ) → CasesBounded k (g k) r)
     → (i : Option ℕ) → CasesBounded i (case_greatest a g i) (case_reads s r)
 case_bounded a g s r h k None = refl
@@ -131,7 +121,7 @@ case_reached (Some a) g s r (Some i) few h k = first_reached i a (g (limited (i 
 from_zero : (j : ℕ) → 0 + j ≡ j
 from_zero j = omega arith
 
--- An enum, whose first variant has the index 0.
+-- The greatest size of an enum is that of its variants from index 0 on.
 pub variants_bounded : (g : Option ℕ) (reads : ℕ → Tree → Type 0) → CasesBounded (Some 0) g reads → AreBounded g (IsVariant reads)
 variants_bounded None reads h = tt
 variants_bounded (Some m) reads h = λ t (j, s, e, few, r). rw e (subst (λ (n : ℕ). tree_len (Variant n s) ≤ m) (from_zero j) (h j s r))

@@ -1,62 +1,35 @@
 //! The greatest size of an enum: that of its greatest variant, the index and the content.
 
-ghost use Rattle.std.specs.Prelude.{◌≡◌, ℕ, Option, Some, ⊤};
-ghost use Rattle.postcard_max.specs.Willing.{Never, case_never};
-ghost use Rattle.postcard_max.specs.Sizes.{sum_of, index_len as len_of};
-ghost use Rattle.postcard_max.specs.Cases.{
-  CasesBounded,
-  CasesReached,
-  IsIndex,
-  zero_index,
-  no_case_greatest,
-  no_case_bounded,
-  no_case_reached,
-  case_greatest,
-  case_bounded,
-  case_reached,
-  variants_bounded,
-  variants_reached,
-};
+ghost use Rattle.std.specs.Prelude.{◌≡◌, ℕ, Option};
+ghost use Rattle.postcard_max.specs.Sizes.{index_len as len_of};
+ghost use Rattle.postcard_max.specs.SizeLimit.{SizeLimit, no_case_limit, case_limit};
+ghost use Rattle.postcard_max.specs.SizeLimit.{variants_limit};
+ghost use Rattle.postcard_max.specs.CasesLimit.{IsCasesLimit, no_case_lawful, case_lawful};
+ghost use Rattle.postcard_max.specs.CasesLimit.{variants_lawful};
 
 use crate::max_size::{MaxSize, SizeBound};
 use crate::sizes::{greater, sum, varint_len};
 use postcard_shape::{Case, Cased, NoCase};
 
 /// Variants in a row whose contents each have a greatest size: `NoCase`, or a `Case` of a type with
-/// [`MaxSize`] and of variants. They may be the last variants of an enum, so their sizes are said
-/// from the index of the first of them on, which is none where it does not fit `usize`.
+/// [`MaxSize`], followed by other variants. They may be the last variants of an enum, so their
+/// sizes depend on the index of the first of them, which is none if it does not fit `usize`.
 pub trait MaxCases: Cased {
-    /// The greatest size in bytes of a variant with its index, or none where it does not fit
-    /// `usize`.
-    ghost greatest: { Option ℕ → Option ℕ };
+    /// The greatest size in bytes of a variant with its index, and conditions under which some
+    /// encoding is as long and no content refuses itself when it is written.
+    ghost limit: { Option ℕ → SizeLimit };
 
-    /// Whether the encoding of some variant is as long.
-    ghost reached: { Option ℕ → Type 0 };
-
-    /// Whether no content refuses itself when it is written.
-    ghost willing: { Type 0 };
-
-    /// Returns the greatest size in bytes of a variant with its index, where the first variant has
-    /// the index `index`, or `None` if it does not fit `usize`.
+    /// Returns the greatest size in bytes of a variant with its index, if the first variant has the
+    /// index `index`, or `None` if it does not fit `usize`.
     fn cases_size(index: Option<usize>) -> Option<usize>
-        ensures { result ≡ greatest index };
+        ensures { result ≡ (limit index).greatest };
 
-    /// No canonical encoding of a variant with a content that is read is longer.
-    ghost bounded: { (i : Option ℕ) → CasesBounded i (greatest i) Self.cases.reads };
-
-    /// If `reached` holds, that of some variant with a content that is read is as long.
-    ghost is_reached: { (i : Option ℕ) → reached i → CasesReached i (greatest i) Self.cases.reads };
-
-    /// If `willing` holds, no content refuses itself.
-    ghost never_refuses: { willing → Never Self.cases.refuses };
+    /// `limit` holds of the variants whose content is read, and of their values.
+    ghost lawful: { (i : Option ℕ) → IsCasesLimit limit Self.cases.reads Self.cases.refuses i };
 }
 
 impl MaxCases for NoCase {
-    ghost greatest = { no_case_greatest };
-
-    ghost reached = { λ _. ⊤ };
-
-    ghost willing = { ⊤ };
+    ghost limit = { no_case_limit };
 
     fn cases_size(index: Option<usize>) -> Option<usize> {
         match index {
@@ -65,19 +38,11 @@ impl MaxCases for NoCase {
         }
     }
 
-    ghost bounded = { no_case_bounded };
-
-    ghost is_reached = { λ i _. no_case_reached i };
-
-    ghost never_refuses = { λ _ _ refuses. refuses };
+    ghost lawful = { no_case_lawful };
 }
 
 impl<A: MaxSize, R: MaxCases> MaxCases for Case<A, R> {
-    ghost greatest = { case_greatest A.greatest R.greatest };
-
-    ghost reached = { λ i. IsIndex i × A.reached × R.reached (sum_of i (Some 1)) };
-
-    ghost willing = { A.willing × R.willing };
+    ghost limit = { case_limit A.limit R.limit };
 
     fn cases_size(index: Option<usize>) -> Option<usize> {
         greater(
@@ -86,16 +51,10 @@ impl<A: MaxSize, R: MaxCases> MaxCases for Case<A, R> {
         )
     }
 
-    ghost bounded = { case_bounded A.greatest R.greatest _ _ A.bounded R.bounded };
-
-    ghost is_reached = { λ i r. case_reached A.greatest R.greatest _ _ i
-        r.0 (A.is_reached r.1) (R.is_reached (sum_of i (Some 1)) r.2) };
-
-    ghost never_refuses = { λ w. case_never A.shape.refuses R.cases.refuses
-        (A.never_refuses w.0) (R.never_refuses w.1) };
+    ghost lawful = { case_lawful A.lawful R.lawful };
 }
 
-/// Returns the number of bytes of a variant's index.
+/// Returns the number of bytes of the varint of a variant's index, or `None` if there is no index.
 fn index_len(index: Option<usize>) -> Option<usize>
     ensures { result ≡ len_of index }
 {
@@ -106,23 +65,11 @@ fn index_len(index: Option<usize>) -> Option<usize>
 }
 
 impl<A: MaxSize, R: MaxCases> SizeBound for Case<A, R> {
-    ghost greatest = { case_greatest A.greatest R.greatest (Some 0) };
-
-    ghost reached = { A.reached × R.reached (sum_of (Some 0) (Some 1)) };
-
-    ghost willing = { A.willing × R.willing };
+    ghost limit = { variants_limit A.limit R.limit };
 
     fn size_bound() -> Option<usize> {
         <Case<A, R> as MaxCases>::cases_size(Some(0))
     }
 
-    ghost bounded = { variants_bounded _ _
-        (case_bounded A.greatest R.greatest _ _ A.bounded R.bounded (Some 0)) };
-
-    ghost is_reached = { λ r. variants_reached A.greatest R.greatest _
-        (case_reached A.greatest R.greatest _ _ (Some 0)
-        zero_index (A.is_reached r.0) (R.is_reached (sum_of (Some 0) (Some 1)) r.1)) };
-
-    ghost never_refuses = { λ w. case_never A.shape.refuses R.cases.refuses
-        (A.never_refuses w.0) (R.never_refuses w.1) };
+    ghost lawful = { variants_lawful A.lawful R.lawful };
 }

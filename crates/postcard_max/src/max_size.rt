@@ -1,98 +1,69 @@
-//! The traits by which a type says its greatest size: directly, or as what it is seen as.
+//! The traits by which a type says its greatest size: directly, or as that of another type.
 
-ghost use Rattle.std.specs.Prelude.{◌≡◌, ℕ, Option};
-ghost use Rattle.postcard_max.specs.Limits.{AreBounded, IsReached};
-ghost use Rattle.postcard_max.specs.Willing.{Never};
+ghost use Rattle.std.specs.Prelude.{◌≡◌};
+ghost use Rattle.postcard_max.specs.SizeLimit.{SizeLimit};
+ghost use Rattle.postcard_max.specs.Limits.{IsLimit, via_lawful};
 
 use postcard_shape::{Repr, Shaped};
 
 /// A type whose encodings have a greatest size.
 ///
-/// A struct or an enum of one's own implements [`MaxSizeRepr`], and has this trait by that. Types
-/// that hold any number of elements, as `Vec<T>`, `String` and `&str`, have no greatest size.
+/// A struct or an enum of a user implements [`MaxSizeRepr`], and has this trait by that. Types that
+/// hold any number of elements, such as `Vec<T>`, `String` and `&str`, have no greatest size.
 pub trait MaxSize: Shaped {
-    /// The greatest size in bytes, or none where there is none that fits `usize`.
-    ghost greatest: { Option ℕ };
+    /// The greatest size in bytes, and conditions under which some encoding is as long and no value
+    /// refuses itself when it is written.
+    ghost limit: { SizeLimit };
 
-    /// Whether some encoding is as long as the greatest size.
-    ghost reached: { Type 0 };
-
-    /// Whether no value refuses itself when it is written.
-    ghost willing: { Type 0 };
-
-    /// Returns the number of bytes of the longest encoding of this type's values, or `None` if that
-    /// number does not fit `usize`.
+    /// Returns the greatest size of an encoding of this type's values, in bytes, or `None` if none
+    /// is known that fits `usize`. No encoding is longer and, if `reached` holds, one is as long.
     fn postcard_max_size() -> Option<usize>
-        ensures { result ≡ greatest };
+        ensures { result ≡ limit.greatest };
 
-    /// Does nothing. Its contract tells the prover that this value is one of those that the type
-    /// reads, so that its encoding has at most the type's greatest size.
+    /// Does nothing. Its contract tells the prover that this value fits and that the type reads its
+    /// tree, so that its encoding has at most the type's greatest size.
     fn in_forms(&self)
         ensures fits { Self.shape.fits self.now }
         ensures in_forms { Self.shape.reads (Self.shape.tree self.now) };
 
-    /// No canonical encoding of a tree that the type reads is longer than the greatest size.
-    ghost bounded: { AreBounded greatest Self.shape.reads };
-
-    /// If `reached` holds, the canonical encoding of some tree that the type reads is as long.
-    ghost is_reached: { reached → IsReached greatest Self.shape.reads };
-
-    /// If `willing` holds, no value refuses itself.
-    ghost never_refuses: { willing → Never Self.shape.refuses };
+    /// `limit` holds of the trees that the type reads, and of its values.
+    ghost lawful: { IsLimit limit Self.shape.reads Self.shape.refuses };
 }
 
-/// What a type with a greatest size may be seen as: a type with [`MaxSize`], parts in a row
+/// A type with a greatest size that a [`Repr`] may name: a type with [`MaxSize`], parts in a row
 /// (`Part`), or the variants of an enum (`Case`).
 ///
-/// It is [`MaxSize`] without `in_forms`, which a `Case` can't have: that the index of a variant has
-/// 32 bits is known of a concrete enum alone.
+/// It is [`MaxSize`] without `in_forms`, which a `Case` can't have: that the index of a variant
+/// fits 32 bits is known only of a concrete enum.
 pub trait SizeBound: Shaped {
-    /// The greatest size in bytes, or none where there is none that fits `usize`.
-    ghost greatest: { Option ℕ };
+    /// The greatest size in bytes, and conditions under which some encoding is as long and no value
+    /// refuses itself when it is written.
+    ghost limit: { SizeLimit };
 
-    /// Whether some encoding is as long as the greatest size.
-    ghost reached: { Type 0 };
-
-    /// Whether no value refuses itself when it is written.
-    ghost willing: { Type 0 };
-
-    /// Returns the greatest size in bytes, or `None` if it does not fit `usize`.
+    /// Returns the greatest size in bytes, or `None` if none is known that fits `usize`.
     fn size_bound() -> Option<usize>
-        ensures { result ≡ greatest };
+        ensures { result ≡ limit.greatest };
 
-    /// No canonical encoding of a tree that the type reads is longer than the greatest size.
-    ghost bounded: { AreBounded greatest Self.shape.reads };
-
-    /// If `reached` holds, the canonical encoding of some tree that the type reads is as long.
-    ghost is_reached: { reached → IsReached greatest Self.shape.reads };
-
-    /// If `willing` holds, no value refuses itself.
-    ghost never_refuses: { willing → Never Self.shape.refuses };
+    /// `limit` holds of the trees that the type reads, and of its values.
+    ghost lawful: { IsLimit limit Self.shape.reads Self.shape.refuses };
 }
 
 impl<T: MaxSize> SizeBound for T {
-    ghost greatest = { T.greatest };
-
-    ghost reached = { T.reached };
-
-    ghost willing = { T.willing };
+    ghost limit = { T.limit };
 
     fn size_bound() -> Option<usize> {
         T::postcard_max_size()
     }
 
-    ghost bounded = { T.bounded };
-
-    ghost is_reached = { T.is_reached };
-
-    ghost never_refuses = { T.never_refuses };
+    ghost lawful = { T.lawful };
 }
 
-/// A type that has the greatest size of what it is seen as, by its `Repr`: a struct that of the
-/// tuple of its fields, an enum that of the greatest of its variants.
+/// A type that has the greatest size of its [`Repr`]: a struct that of the tuple of its fields, an
+/// enum that of the greatest of its variants.
 pub trait MaxSizeRepr: Repr {
-    /// Does nothing. It calls `in_forms` on each field, as by
-    /// `(&self.name, self.count).in_forms()`, and in an enum on each field of the variant at hand.
+    /// Does nothing. An impl calls `in_forms` on each field, as by
+    /// `(&self.name, self.count).in_forms()`, and in an enum on each field of the value's variant.
+    /// Its contract tells the prover that the value fits.
     fn in_forms_repr(&self)
         ensures { Self.As.shape.fits (Self.repr self.now) };
 }
@@ -101,11 +72,7 @@ impl<T: MaxSizeRepr> MaxSize for T
 where
     T::As: SizeBound,
 {
-    ghost greatest = { T.As.greatest };
-
-    ghost reached = { T.As.reached };
-
-    ghost willing = { T.As.willing };
+    ghost limit = { T.As.limit };
 
     fn postcard_max_size() -> Option<usize> {
         T::As::size_bound()
@@ -115,9 +82,5 @@ where
         self.in_forms_repr();
     }
 
-    ghost bounded = { T.As.bounded };
-
-    ghost is_reached = { T.As.is_reached };
-
-    ghost never_refuses = { λ w v. T.As.never_refuses w (T.repr v) };
+    ghost lawful = { via_lawful T.repr T.As.lawful };
 }

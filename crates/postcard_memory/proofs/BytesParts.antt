@@ -1,7 +1,7 @@
 -- The data fields of a `Bytes`. Assumes `Logic`.
 use Rattle.std.proofs.Common.{◌≡◌, List, [], ◌∷◌, ◌++◌, refl, ap, ◌∙◌}
 use seplogic.Ra.Ura.{Ura}
-use mir.Val.{Val, of_list, vstruct, vnil}
+use mir.Val.{Val, of_list, vstruct, vcons, vnil}
 use base.Logic.{ent, emp}
 use types.Logic.{Logic, sem}
 use denote.Builtin.{u8}
@@ -18,7 +18,9 @@ use denote.Shadow.{makes_shadow}
 use denote.Struct.Struct.{Struct}
 use denote.Struct.Owning.{shape}
 use Rattle.postcard_memory.specs.contracts.bytes.Bytes as inside
-use Rattle.postcard_memory.proofs.Parts.{words}
+
+abbrev pub words : Ptr → Val
+words p = vstruct (vcons (ptr_val p) (vcons (vstruct vnil) vnil))
 
 module _ (a : NamedLft) where
   abbrev pub Words : RattleType
@@ -27,8 +29,8 @@ module _ (a : NamedLft) where
   pub made : {M : Type 1} {𝓤 : Ura M} (𝓛 : Logic 𝓤) (p : Ptr) → ent 𝓤 (emp 𝓤) (sem 𝓛 (Words.own_val (p, (tt, tt)) (words p ∷ [])))
   made 𝓛 p = makes_shadow 𝓛 (Words.own_val (p, (tt, tt)) (words p ∷ [])) (λ vss. (tt, (tt, ((λ u. (tt, tt)), tt)))) ((ptr_val p ∷ [], (vstruct vnil ∷ [], tt)), (refl, (refl, ((tt, (refl, tt)), tt))))
 
-  pub told : (p : Ptr) (vs : List Val) → Is Words (p, (tt, tt)) vs → vs ≡ words p ∷ []
-  told p vs is = is.1.0 ∙ ap (λ (ws : List Val). vstruct (of_list (ws ++ (is.0.1.0 ++ []))) ∷ []) is.1.1.0 ∙ ap (λ (ws : List Val). vstruct (of_list (ptr_val p ∷ (ws ++ []))) ∷ []) is.1.1.1.0.1.0
+  pub as_words : (p : Ptr) (vs : List Val) → Is Words (p, (tt, tt)) vs → vs ≡ words p ∷ []
+  as_words p vs is = is.1.0 ∙ ap (λ (ws : List Val). vstruct (of_list (ws ++ (is.0.1.0 ++ []))) ∷ []) is.1.1.0 ∙ ap (λ (ws : List Val). vstruct (of_list (ptr_val p ∷ (ws ++ []))) ∷ []) is.1.1.1.0.1.0
 
   pub opened : {M : Type 1} {𝓤 : Ura M} (𝓛 : Logic 𝓤) → Opens 𝓛 Words
   opened {M} {𝓤 = 𝓤} 𝓛 = (Struct-Copied 𝓛 (shape (inside.the_type a)) (refl, (refl, tt)) (RawPtr-copy.copied M 𝓤 𝓛, ((field_copy (marker.the_type (shr_ref_field a u8 tt).row) tt).copied M 𝓤 𝓛, tt))).opens

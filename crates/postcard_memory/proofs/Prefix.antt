@@ -1,5 +1,5 @@
--- The front of a `&mut [u8]` is lent for as long as the whole had left, and the whole follows what becomes of it.
--- Assumes `Logic`.
+-- The front of a `&mut [u8]` is lent for as long as the whole was, and the whole follows what
+-- becomes of the front. Assumes `Logic`.
 use Rattle.std.proofs.Common.{◌≡◌, ℕ, ◌+◌, List, [], ◌∷◌, ◌++◌, length, refl, sym, arith}
 use lib.ListN.{length-append}
 use seplogic.Ra.Ura.{Ura}
@@ -29,11 +29,11 @@ module _ {M : Type 1} {𝓤 : Ura M} (𝓛 : Logic 𝓤) (ℓ : Lifetime) (κ : 
   abbrev L : ℕ → types.SemTy.SemTy
   L n = Arr (mem u8) n
 
-  -- the whole, where the front ends as w
+  -- The whole, if the front ends as w.
   abbrev onto : List ℕ → List ℕ
   onto w = w ++ back
 
-  -- where the back begins
+  -- The place at which the back begins.
   abbrev p : ℕ
   p = at o (mem u8).size (length front)
 
@@ -41,7 +41,7 @@ module _ {M : Type 1} {𝓤 : Ura M} (𝓛 : Logic 𝓤) (ℓ : Lifetime) (κ : 
   abbrev pub FrontLent : GName → SProp 𝓤
   FrontLent δ = sep 𝓤 (sem 𝓛 ((MutSlice ℓ κ u8).own_val (record { ref_ptr = (b, o); ghost_name = δ; now = front }) (slice_val (b, o) (length front) ∷ []))) (sep 𝓤 (A.lft κ q) (sem 𝓛 (follows (Array u8 0) (Array u8 0) γ δ onto)))
 
-  -- a front and the back make a whole
+  -- A front and the back make a whole.
   put : (ws : List ℕ) → ent 𝓤 (sep 𝓤 (sem 𝓛 ((L (length front)).own_at ws b o)) (sem 𝓛 (cells (mem u8) back b p))) (sem 𝓛 ((L (length (front ++ back))).own_at (ws ++ back) b o))
   put ws = qed 𝓛 (‵ ((L (length front)).own_at ws b o) ∷ ‵ (cells (mem u8) back b p) ∷ []) ∵ fsplit ! $ feq_l ! (λ e.
       let whole : length (front ++ back) ≡ length front + length back = length-append front back in
@@ -50,7 +50,7 @@ module _ {M : Type 1} {𝓤 : Ura M} (𝓛 : Logic 𝓤) (ℓ : Lifetime) (κ : 
       use2 𝓛 (‵ (cells (mem u8) (ws ++ back) b o)) (join_app 𝓛 (mem u8) ws back b o) $
       feq_i ! ℕ (length (ws ++ back)) (length (front ++ back)) (omega arith) $ fjoin ! $ done !)
 
-  -- what a caller holds of the whole may be given for the front under a new name
+  -- What a caller holds of the whole may be exchanged for the front under a new name.
   pub lends_front : Room u8 (length front) → (vs : List Val)
       → ent 𝓤 (sep 𝓤 (sem 𝓛 ((MutSlice ℓ κ u8).own_val (record { ref_ptr = (b, o); ghost_name = γ; now = front ++ back }) vs)) (A.lft κ q)) (H.⇛ (ex 𝓤 FrontLent))
   lends_front rm vs = qed 𝓛 (‵ ((MutSlice ℓ κ u8).own_val (record { ref_ptr = (b, o); ghost_name = γ; now = front ++ back }) vs) ∷ ‵ (flft κ q) ∷ []) ∵ updating ! $ fsplit3 ! $ kit.drop ! $

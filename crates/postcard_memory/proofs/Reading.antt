@@ -1,4 +1,5 @@
--- What a `&` to a `Bytes` has of the bytes is made of a borrow of it; and it is split in two at a place. Assumes `Logic`.
+-- What a `&` to a `Bytes` has of the bytes is made from a borrow of the `Bytes`, and is split in
+-- two at a place. Assumes `Logic`.
 use Rattle.std.proofs.Common.{◌≡◌, ℕ, ◌+◌, ◌<◌, ◌≤◌, ◌^◌, List, [], ◌∷◌, length, take, drop as drop_list, get_or, refl, subst, ap, ◌∙◌, w8}
 use seplogic.Ra.Ura.{Ura}
 use base.Logic.{ent, sep, wand, apply∗}
@@ -32,7 +33,7 @@ read_laws κ' null_ptr xs = said_shr_laws base.Fml.ffalse tt
 module _ {M : Type 1} {𝓤 : Ura M} (𝓛 : Logic 𝓤) where
   open 𝓛 use {H, A}
 
-  -- a borrow of what can be had twice gives it
+  -- A borrow of what may be had twice lends it.
   Lends-held : (t : Lft → Fml) → ShrLaws t → (κ' l : Lft) → Lends 𝓛 (fhide (t κ')) (held κ' t) l
   Lends-held t law κ' l κ ts inc sp = let P : Fml = fhide (t κ') in qed 𝓛 (‵ (fbor κ P) ∷ raw (lfts 𝓛 ts) ∷ []) {P = H.⇛ (sep 𝓤 (sem 𝓛 (held κ' t κ)) (lfts 𝓛 ts))} (
       updating ! $ use2 𝓛 (later (‵ P ⊛ raw (wand 𝓤 (sem 𝓛 P) (H.⇛ (sep 𝓤 (A.bor κ P) (lfts 𝓛 ts)))))) (𝓛.more.bor_acc_by κ ts P sp) $ await ! tt $ split ! $
@@ -45,21 +46,21 @@ module _ {M : Type 1} {𝓤 : Ura M} (𝓛 : Logic 𝓤) where
       Lends-both 𝓛 (most xs) (fhide (elements_shared u8 xs b o κ')) (said (most xs)) (held κ' (elements_shared u8 xs b o)) l (Lends-said 𝓛 (most xs) tt l) (Lends-held (elements_shared u8 xs b o) (each_law xs b o) κ' l) κ ts inc sp
 
   module _ (xs : List ℕ) (b o : ℕ) (κ : Lft) where
-    -- the first n of them
+    -- What is shared of the bytes is shared of the first n of them.
     pub front : (n : ℕ) → ent 𝓤 (sem 𝓛 (fhide (elements_shared u8 xs b o κ))) (sem 𝓛 (fhide (elements_shared u8 (take n xs) b o κ)))
     front n = each_take 𝓛 (shared_of u8) (mem u8).size κ b n xs o
 
-    -- those behind the first n
+    -- What is shared of the bytes is shared of those after the first n.
     pub back : (n : ℕ) → n ≤ length xs → ent 𝓤 (sem 𝓛 (fhide (elements_shared u8 xs b o κ))) (sem 𝓛 (fhide (elements_shared u8 (drop_list n xs) b (n + o) κ)))
     back n inside =
         let place : at o (mem u8).size (length (take n xs)) ≡ n + o = at_byte o (length (take n xs)) ∙ ap (λ (k : ℕ). k + o) (length-take-le n xs inside) in
         subst (λ (k : ℕ). ent 𝓤 (sem 𝓛 (elements_shared u8 xs b o κ)) (sem 𝓛 (elements_shared u8 (drop_list n xs) b k κ))) place (each-drop 𝓛 (shared_of u8) (mem u8).size κ b n xs o)
 
-    -- the first
+    -- What is shared of the bytes is shared of the first byte.
     pub first_of : 0 < length xs → ent 𝓤 (sem 𝓛 (fhide (elements_shared u8 xs b o κ))) (sem 𝓛 (hidden_shr u8 κ (get_or xs 0 0) b o))
     first_of some = each-one 𝓛 (shared_of u8) (mem u8).size κ b xs 0 0 o some
 
--- A list that is not empty is its first and the rest.
+-- A list that is not empty is its first element and the rest.
 pub first_and_rest : (xs : List ℕ) → 0 < length xs → xs ≡ get_or xs 0 0 ∷ drop_list 1 xs
 first_and_rest [] some = absurd (not-suc-le-zero some)
 first_and_rest (x ∷ xs) some = refl

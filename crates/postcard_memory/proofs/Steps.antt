@@ -1,4 +1,4 @@
--- The words in which the walks of this crate are written, from the logic and std, in one place.
+-- The names from the logic and from std that the proofs of this crate use, in one place.
 pub use Rattle.std.proofs.Common.{◌≡◌, ℕ, ◌≤◌, List, [], ◌∷◌, refl, sym, ap, ◌∙◌, lit<, nltb→le, w8, w64, MutBor, arith}
 pub use Rattle.std.proofs.raw_atomic.Walks.{proved}
 pub use base.Fraction.{full_share}

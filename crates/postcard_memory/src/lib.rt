@@ -1,9 +1,11 @@
 //! Bytes that a caller lent, reached by a pointer.
 //!
-//! The other crates see the bytes as lists, by the contracts here. [`Memory`] has bytes that are written and
-//! [`Bytes`] bytes that are read. Both hold one pointer and no slice: the caller keeps the length, and
-//! [`Bytes`] moves its pointer on. [`front`] lends the front of a slice for as long as the whole was lent.
-//! No pointer becomes a number, and none is compared.
+//! The other crates see the bytes as lists, by the contracts here. [`Memory`] has bytes that are
+//! written and [`Bytes`] bytes that are read. Both hold one pointer and no slice: the caller keeps
+//! the length, and [`Bytes`] moves its pointer on. A [`Memory`] has no lifetime: the `&` to a
+//! [`Life`] that is made with it shows for how long the bytes are lent, and each of its functions
+//! takes that `&`. [`front`] lends the front of a slice for as long as the whole was lent. No
+//! pointer becomes a number, and none is compared.
 #![tactic(auto)]
 
 pub mod bytes;
@@ -12,4 +14,4 @@ pub mod memory;
 
 pub use bytes::Bytes;
 pub use cut::front;
-pub use memory::Memory;
+pub use memory::{Life, Memory};

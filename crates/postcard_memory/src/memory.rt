@@ -2,49 +2,56 @@
 
 ghost use Rattle.std.specs.Prelude.{◌≡◌, List, ℕ, length};
 ghost use Rattle.std.specs.Borrow.{GName};
+ghost use base.Fml.{Lft};
 
-use std::marker::{Model, PhantomData};
+use std::marker::Model;
 use std::slice;
 
 mod lends;
+mod life;
 
-/// The bytes of a `&'a mut [u8]`. A contract sees the loan and the bytes.
+pub use life::Life;
+
+/// The bytes of a `&mut [u8]`. A contract sees the loan, the bytes, and the time that they are lent
+/// for, which is that of the [`Life`] that was made with the memory.
 #[derive(Drop)]
-pub struct Memory<'a> {
+pub struct Memory {
     /// Where the first byte lies.
-    pub start: *mut u8,
-    mark: PhantomData<&'a mut u8>,
+    start: *mut u8,
+    /// The time that the bytes are lent for.
+    pub ghost time: { Lft },
     /// The loan that the bytes are lent by.
     pub ghost loan: { GName },
     /// The bytes.
     pub ghost items: { List ℕ },
 }
 
-impl<'a> Model for Memory<'a> {
+impl Model for Memory {
     ghost use Rattle.postcard_memory.specs.Lent.{lent_bytes, bytes_shared};
 
-    ghost also_owns = { λ s. lent_bytes 'a s.start s.loan s.items };
+    ghost also_owns = { λ s. lent_bytes s.time s.start s.loan s.items };
 
-    ghost also_shares = { λ s p κ. bytes_shared 'a s.start s.items κ };
+    ghost also_shares = { λ s p κ. bytes_shared s.time s.start s.loan s.items κ };
 }
 
-impl<'a> Memory<'a> {
-    /// Takes a caller's bytes.
-    pub fn new(buf: &'a mut [u8]) -> Memory<'a>
-        ensures { (result.loan ≡ buf.entry.ghost_name) × (result.items ≡ buf.old) }
+impl Memory {
+    /// Takes a caller's bytes. The [`Life`] shows for how long they are lent.
+    pub fn new<'a>(buf: &'a mut [u8]) -> (Memory, &'a Life)
+        ensures taken { (result.0.loan ≡ buf.entry.ghost_name) × (result.0.items ≡ buf.old) }
+        ensures lasts { result.0.time ≡ result.1.now }
     {
-        Memory {
-            start: buf.as_mut_ptr(),
-            mark: PhantomData,
-        }
+        let start = buf.as_mut_ptr();
+        // SAFETY: a `Life` has no bytes, so any place is one.
+        let life = unsafe { &*(start as *const Life) };
+        (Memory { start }, life)
     }
 
-    /// The reference that was lent, with the bytes as they are.
-    pub fn whole(self, len: usize) -> &'a mut [u8]
-        requires { len ≡ length self.items }
-        ensures { (result.ghost_name ≡ self.entry.loan) × (result.now ≡ self.entry.items) }
+    /// Returns the reference that was lent, with the bytes as they are.
+    pub fn whole<'a>(self, _life: &'a Life, len: usize) -> &'a mut [u8]
+        requires { (self.time ≡ _life.now) × (len ≡ length self.items) }
+        ensures { (result.ghost_name ≡ self.loan) × (result.now ≡ self.items) }
     {
-        let Memory { start, mark: _ } = self;
+        let Memory { start } = self;
         // SAFETY: `len` bytes lie at `start`, lent for 'a, and `self` is gone.
         unsafe { slice::from_raw_parts_mut(start, len) }
     }

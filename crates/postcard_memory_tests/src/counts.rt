@@ -1,5 +1,5 @@
-//! Counts of more than there is: none asks for memory, so the answer is the same where each request
-//! is refused.
+//! Tests of counts of more than there is: none requests memory, so the result is the same if every
+//! allocation fails.
 
 use arrayvec::ArrayString;
 use postcard::{Deserialize, DeserializeOwned, Error, Owned, from_bytes, from_io};
@@ -14,12 +14,12 @@ const BYTES: [u8; 13] = [
 
 const END: Error = Error::DeserializeUnexpectedEnd;
 
-/// These bytes end before what they announce.
+/// Asserts that reading the bytes fails with `DeserializeUnexpectedEnd`.
 fn assert_ends<'a, T: Deserialize<'a>>(rt: &(impl Abort + AllocGlobal), bytes: &'a [u8]) {
     assert_eq!(rt; from_bytes::<T>(rt.alloc(), bytes).err(), Some(END));
 }
 
-/// The same from a reader, with 8 bytes of scratch.
+/// Asserts the same for a reader of the bytes, with 8 bytes of scratch.
 fn assert_reader_ends<T: DeserializeOwned>(rt: &(impl Abort + AllocGlobal), bytes: &[u8]) {
     let mut scratch = [0; 8];
     let outcome = from_io::<Owned<T>, _>(rt.alloc(), (bytes, &mut scratch));

@@ -1,4 +1,4 @@
-//! Lists, texts and maps of each length up to 600: no call gives up past some length.
+//! Tests of lists, texts and maps of each length up to 600: no call fails past some length.
 
 use postcard::accumulator::{CobsAccumulator, FeedResult};
 use postcard::{
@@ -10,7 +10,7 @@ use std::fmt::Debug;
 use std::process::Abort;
 use std::test::Fail;
 
-/// The value is read from its bytes, from a reader of them, and from its frame.
+/// Asserts that the value is read from its bytes, from a reader of them, and from its frame.
 fn comes_back<T: Serialize + DeserializeOwned + PartialEq + Debug>(
     rt: &(impl Abort + AllocGlobal),
     acc: &mut CobsAccumulator<4096>,
@@ -30,7 +30,8 @@ fn comes_back<T: Serialize + DeserializeOwned + PartialEq + Debug>(
     Ok(())
 }
 
-/// The value is written as the count of these bytes and the bytes, and comes back.
+/// Asserts that the value is written as the number of these bytes and the bytes, and is read from
+/// them.
 fn counts_bytes<T: Serialize + DeserializeOwned + PartialEq + Debug>(
     rt: &(impl Abort + AllocGlobal),
     acc: &mut CobsAccumulator<4096>,

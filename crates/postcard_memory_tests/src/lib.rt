@@ -1,8 +1,9 @@
-//! Tests of refused memory: each call that asks for memory, with each of its requests refused.
+//! Tests of failing allocations: each call that allocates, with each of its allocations refused.
 //!
-//! A refusal is named, and the same call then gives the right answer. `checks/memory` refuses the Nth
-//! request of each test named `refused`, for each N, once the tests are built. Before any proof,
-//! `rt try --test --fail-alloc N` does so; a test that meets a refusal prints a line.
+//! Such a call fails with a named error, and when it is made again it has the right result. Once
+//! the tests are built, `checks/memory` refuses the Nth allocation of each test whose name has
+//! `refused` in it, for each N. Before any proof, `rt try --test --fail-alloc N` does so. A test in
+//! which an allocation fails prints a line.
 #![tactic(auto)]
 
 #[cfg(test)]

@@ -1,4 +1,4 @@
-//! Values of the types that grow, read from a slice, a reader and a frame.
+//! Tests of reading values of growing types from a slice, a reader and a frame.
 
 use postcard::{DeserializeOwned, Error, Owned, Result, Serialize, from_bytes, from_io, to_slice};
 use std::alloc::AllocGlobal;
@@ -7,7 +7,7 @@ use std::process::Abort;
 use std::rc::Rc;
 use std::test::Fail;
 
-/// The value has these bytes.
+/// Asserts that the value has this encoding.
 fn assert_written<T: Serialize>(rt: &impl Abort, value: &T, bytes: &[u8]) {
     let mut buffer = [0; 64];
     match to_slice(value, &mut buffer) {
@@ -16,7 +16,8 @@ fn assert_written<T: Serialize>(rt: &impl Abort, value: &T, bytes: &[u8]) {
     }
 }
 
-/// The answer is a value of these bytes. Returns whether memory was refused in its place.
+/// Asserts that the result is a value with this encoding or a failed allocation, and returns
+/// whether it is the latter.
 fn is_refused<T: Serialize + Drop>(rt: &impl Abort, answer: Result<T>, bytes: &[u8]) -> bool {
     match answer {
         Ok(value) => {
@@ -43,8 +44,8 @@ fn from_reader<T: DeserializeOwned>(rt: &impl AllocGlobal, bytes: &[u8]) -> Resu
     Ok(value)
 }
 
-/// The bytes are read as a value that has these bytes, or memory is refused and they are read so
-/// the next time.
+/// Asserts that the bytes are read as a value that has them as its encoding, or that an allocation
+/// fails and they are read so the next time.
 fn is_read<T: DeserializeOwned + Serialize>(
     rt: &(impl Abort + AllocGlobal + Print),
     bytes: &[u8],

@@ -1,4 +1,4 @@
-//! Frames of values that grow, fed and read.
+//! Tests of feeding and reading frames of values of growing types.
 
 use postcard::accumulator::{CobsAccumulator, FeedResult};
 use postcard::{Answer, DeserializeOwned, ReadEnd, Serialize, read_frames, to_slice};
@@ -7,7 +7,8 @@ use std::collections::BTreeMap;
 use std::process::Abort;
 use std::test::Fail;
 
-/// Feeds a frame, whose value has these bytes. Returns whether memory was refused in its place.
+/// Feeds a frame. Asserts that the result is a value with this encoding or a failed allocation, and
+/// returns whether it is the latter.
 fn is_refused<T: DeserializeOwned + Serialize>(
     rt: &(impl Abort + AllocGlobal),
     acc: &mut CobsAccumulator<32>,
@@ -32,8 +33,8 @@ fn is_refused<T: DeserializeOwned + Serialize>(
     }
 }
 
-/// The frame is answered by the value of these bytes, or memory is refused: the accumulator then
-/// holds nothing, and the frame is answered so the next time.
+/// Asserts that feeding the frame returns the value with this encoding, or that an allocation
+/// fails. The accumulator is then empty, and feeding the frame returns the value the next time.
 fn is_fed<T: DeserializeOwned + Serialize>(
     rt: &(impl Abort + AllocGlobal + Print),
     frame: &[u8],
@@ -55,8 +56,8 @@ fn refused_values_of_frames(rt: HostRuntime) -> Result<(), Fail> {
     is_fed::<BTreeMap<u8, Box<u8>>>(&rt, &[6, 2, 1, 5, 2, 6, 0], &[2, 1, 5, 2, 6])
 }
 
-/// An oversized frame for four bytes, and one that has room: where there is no memory for an
-/// answer, all bytes of the chunk are left for the next call, and it gives both.
+/// A stream of a frame without room in four bytes and one with room. If the allocation for an
+/// answer fails, all bytes of the chunk are left for the next call, which returns both answers.
 #[test]
 fn refused_first_answer(rt: HostRuntime) -> Result<(), Fail> {
     let stream = [5, 1, 1, 1, 1, 0, 2, 7, 0];

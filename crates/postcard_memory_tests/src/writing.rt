@@ -1,4 +1,4 @@
-//! Calls that write into memory which grows.
+//! Tests of the calls that write into growing memory.
 
 use postcard::{
     Error, Result, to_allocvec, to_allocvec_cobs, to_allocvec_cobs_after, to_extend, to_io,
@@ -7,7 +7,8 @@ use postcard::{
 use std::process::Abort;
 use std::test::Fail;
 
-/// The answer is these bytes. Returns whether memory was refused in their place.
+/// Asserts that the result is these bytes or a failed allocation, and returns whether it is the
+/// latter.
 fn is_refused(rt: &impl Abort, answer: Result<Vec<u8>>, bytes: &[u8]) -> bool {
     match answer {
         Ok(written) => {
@@ -21,7 +22,8 @@ fn is_refused(rt: &impl Abort, answer: Result<Vec<u8>>, bytes: &[u8]) -> bool {
     }
 }
 
-/// The call gives these bytes, or memory is refused and it gives them the next time.
+/// Asserts that the call returns these bytes, or that an allocation fails and it returns them the
+/// next time.
 fn is_written<F: Fn() -> Result<Vec<u8>>>(
     rt: &(impl Abort + Print),
     write: F,
@@ -36,17 +38,17 @@ fn is_written<F: Fn() -> Result<Vec<u8>>>(
     Ok(())
 }
 
-/// Numbers of a byte each, written one by one: a vector grows on the way.
+/// Numbers of one byte each, which are written one by one, so that a vector grows on the way.
 const LONG: [u16; 300] = [7; 300];
 
-/// The bytes of `true` and of the long list.
+/// Returns the encodings of `true` and of [`LONG`], in a row.
 fn long_bytes() -> [u8; 303] {
     let mut bytes = [7; 303];
     bytes[..3].copy_from_slice(&[1, 0xAC, 0x02]);
     bytes
 }
 
-/// The frames of `true` and of the long list.
+/// Returns the frames of `true` and of [`LONG`], in a row.
 fn long_frames() -> [u8; 308] {
     let mut frames = [7; 308];
     frames[..6].copy_from_slice(&[2, 1, 0, 0xFF, 0xAC, 0x02]);

@@ -1,4 +1,4 @@
-//! A value there and back through each call.
+//! Checks that a value is written and read back by each call.
 
 use crate::source::Source;
 use postcard::experimental::serialized_size;
@@ -12,10 +12,11 @@ use std::fmt::Debug;
 use std::process::Abort;
 use std::test::Fail;
 
-/// The bytes behind a value, which no call takes for it.
+/// The bytes after a value, which no call reads as a part of it.
 const BEHIND: [u8; 4] = [0x00, 0xFF, 0x80, 0x01];
 
-/// Each call that writes gives these bytes, and a buffer of their number is enough.
+/// Asserts that each call that writes the value writes these bytes, and that a buffer of their
+/// length is enough.
 fn is_written<T: Serialize>(
     rt: &(impl Abort + AllocGlobal),
     value: &T,
@@ -31,8 +32,8 @@ fn is_written<T: Serialize>(
     Ok(())
 }
 
-/// The value is read from a reader that gives pieces of these lengths. The bytes behind it are left,
-/// and so is the scratch.
+/// Asserts that the value is read from a reader with pieces of these lengths. The bytes after it
+/// and the whole scratch are left.
 fn is_read_in_pieces<'a, T: DeserializeOwned + PartialEq + Debug>(
     rt: &(impl Abort + AllocGlobal),
     value: &T,
@@ -49,7 +50,8 @@ fn is_read_in_pieces<'a, T: DeserializeOwned + PartialEq + Debug>(
     Ok(())
 }
 
-/// The value is read from a slice and from a reader, with other bytes behind it, which are left.
+/// Asserts that the value is read from a slice and from a reader, and that the bytes after it are
+/// left.
 fn is_read<T: DeserializeOwned + PartialEq + Debug>(
     rt: &(impl Abort + AllocGlobal),
     value: &T,
@@ -66,7 +68,7 @@ fn is_read<T: DeserializeOwned + PartialEq + Debug>(
     is_read_in_pieces(rt, value, &bytes, lengths, &mut [0; 64])
 }
 
-/// The value is written as the same frame by both calls, and read from it by both.
+/// Asserts that the value is written as the same frame by both calls, and read from it by both.
 fn is_framed<T: Serialize + DeserializeOwned + PartialEq + Debug>(
     rt: &(impl Abort + AllocGlobal),
     value: &T,
@@ -85,7 +87,7 @@ fn is_framed<T: Serialize + DeserializeOwned + PartialEq + Debug>(
     Ok(())
 }
 
-/// The value is there and back through each call.
+/// Asserts that the value is written and read back by each call.
 pub(crate) fn comes_back<T: Serialize + DeserializeOwned + PartialEq + Debug>(
     rt: &(impl Abort + AllocGlobal),
     source: &mut Source,

@@ -1,7 +1,8 @@
-//! Tests with random values: a hundred thousand, of some twenty types, there and back through
-//! each call, and in streams of frames between which lie damaged ones.
+//! Tests with a hundred thousand random values of some twenty types, which are written and read
+//! back by each call, and sent in streams with damaged frames between theirs.
 //!
-//! The values come from a generator with a fixed seed for each type, so each run has the same ones.
+//! The values come from a generator with a fixed seed for each type, so they are the same in each
+//! run.
 #![tactic(auto)]
 
 #[cfg(test)]

@@ -1,4 +1,4 @@
-//! Random values of each type.
+//! The generation of random values of each type.
 
 use crate::source::Source;
 use arrayvec::{ArrayString, ArrayVec};
@@ -8,9 +8,9 @@ use std::collections::BTreeMap;
 use std::rc::Rc;
 use std::time::Duration;
 
-/// A type with random values.
+/// A type of which random values can be generated.
 pub(crate) trait Random: Drop + Sized {
-    /// A value that the source determines.
+    /// Returns the next random value, which the generator determines.
     fn random(source: &mut Source) -> Result<Self, AllocError>;
 }
 

@@ -2,21 +2,21 @@
 
 use std::alloc::Global;
 
-/// A source of random numbers, which are the same for the same seed.
+/// A generator of random numbers, which are the same for the same seed.
 #[derive(Drop)]
 pub(crate) struct Source {
     state: u64,
-    /// Where values that grow get their memory.
+    /// The allocator for values of growing types.
     pub(crate) alloc: Global,
 }
 
 impl Source {
-    /// A source with this seed.
+    /// Returns a generator with this seed.
     pub(crate) fn new(alloc: Global, seed: u64) -> Source {
         Source { state: seed, alloc }
     }
 
-    /// The next 64 random bits.
+    /// Returns the next 64 random bits.
     pub(crate) fn next(&mut self) -> u64 {
         self.state = self.state.wrapping_add(0x9E37_79B9_7F4A_7C15);
         let mut mixed = self.state;
@@ -25,30 +25,30 @@ impl Source {
         mixed ^ (mixed >> 31)
     }
 
-    /// A number below `end`, or 0 if `end` is 0.
+    /// Returns a random number below `end`, or 0 if `end` is 0.
     pub(crate) fn below(&mut self, end: usize) -> usize {
         let random = self.next() as usize;
         random.checked_rem(end).unwrap_or(0)
     }
 
-    /// Whether a throw with one chance in `count` succeeds.
+    /// Returns `true` in one of `count` cases, at random.
     pub(crate) fn one_in(&mut self, count: usize) -> bool {
         self.below(count) == 0
     }
 
-    /// A number of a random length in bits, or the complement of such a number.
+    /// Returns a number of a random length in bits, or the complement of such a number.
     pub(crate) fn number(&mut self) -> u128 {
         let all = (u128::from(self.next()) << 64) | u128::from(self.next());
         let number = all >> (self.next() % 128);
         if self.one_in(2) { number } else { !number }
     }
 
-    /// The low 64 bits of such a number.
+    /// Returns the low 64 bits of such a number.
     pub(crate) fn word(&mut self) -> u64 {
         (self.number() & 0xFFFF_FFFF_FFFF_FFFF) as u64
     }
 
-    /// The low 8 bits of such a number.
+    /// Returns the low 8 bits of such a number.
     pub(crate) fn byte(&mut self) -> u8 {
         (self.number() & 0xFF) as u8
     }

@@ -1,4 +1,5 @@
-//! Frames of values in a stream, between which lie damaged ones, fed in random pieces.
+//! Checks of streams that are fed in random pieces: frames of values, with damaged frames between
+//! them.
 
 use crate::random::Random;
 use crate::source::Source;
@@ -10,7 +11,7 @@ use std::process::Abort;
 use std::slice::Iter;
 use std::test::Fail;
 
-/// A stream, and what each frame of it holds: its value, or nothing that is known.
+/// A stream, and the value of each of its frames, or `None` for a damaged frame.
 #[derive(Drop)]
 struct Stream<T> {
     bytes: Vec<u8>,
@@ -24,7 +25,7 @@ impl<T: Drop> Stream<T> {
         Ok(self.frames.push(Some(value))?)
     }
 
-    /// Adds bytes that may be anything, and a zero after them.
+    /// Adds bytes that may be anything, and a zero after them. Each zero ends a damaged frame.
     fn add_damaged(&mut self, bytes: &[u8]) -> Result<(), AllocError> {
         for byte in bytes {
             self.bytes.push(*byte)?;
@@ -37,8 +38,8 @@ impl<T: Drop> Stream<T> {
     }
 }
 
-/// The frame with a few of its bytes changed, lost or doubled, and sometimes more bytes behind it
-/// than there is room for.
+/// Returns the frame with a few of its bytes changed, lost or doubled, and sometimes with more
+/// bytes after it than there is room for.
 fn damaged(source: &mut Source, frame: &[u8]) -> Result<Vec<u8>, AllocError> {
     let mut bytes = Vec::new(source.alloc);
     for byte in frame {
@@ -55,7 +56,7 @@ fn damaged(source: &mut Source, frame: &[u8]) -> Result<Vec<u8>, AllocError> {
     Ok(bytes)
 }
 
-/// A stream of a few values, with damaged frames between.
+/// Returns a stream of ten values, with damaged frames between theirs.
 fn random_stream<T: Random + Serialize>(source: &mut Source) -> Result<Stream<T>, Fail> {
     let mut stream = Stream {
         bytes: Vec::new(source.alloc),
@@ -72,7 +73,7 @@ fn random_stream<T: Random + Serialize>(source: &mut Source) -> Result<Stream<T>
     Ok(stream)
 }
 
-/// What was fed is answered by the frame's value, or by anything if it was damaged.
+/// Asserts that the answer is the frame's value, or any answer if the frame is damaged.
 fn is_answer<T: PartialEq + Debug>(rt: &impl Abort, frame: Option<&Option<T>>, answer: &Option<T>) {
     match frame {
         Some(None) => {}
@@ -81,7 +82,7 @@ fn is_answer<T: PartialEq + Debug>(rt: &impl Abort, frame: Option<&Option<T>>, a
     }
 }
 
-/// Feeds a piece, and again what is left of it. Each answer is that of the next frame.
+/// Feeds a piece, and then what is left of it. Asserts that each answer is that of the next frame.
 fn feed_piece<T: DeserializeOwned + PartialEq + Debug>(
     rt: &(impl Abort + AllocGlobal),
     acc: &mut CobsAccumulator<512>,
@@ -102,7 +103,8 @@ fn feed_piece<T: DeserializeOwned + PartialEq + Debug>(
     panic!(rt; "a piece isn't consumed");
 }
 
-/// Feeds a stream in random pieces: each frame that wasn't damaged gives its value.
+/// Feeds a stream in random pieces, and asserts that each frame that isn't damaged is answered with
+/// its value.
 fn arrives<T: DeserializeOwned + PartialEq + Debug>(
     rt: &(impl Abort + AllocGlobal),
     source: &mut Source,
@@ -113,14 +115,14 @@ fn arrives<T: DeserializeOwned + PartialEq + Debug>(
     let mut left = stream.bytes.as_slice();
     for _ in 0..stream.bytes.len() {
         let count = source.below(40).saturating_add(1).min(left.len());
-        let (piece, behind) = left.split_at(count);
+        let (piece, later) = left.split_at(count);
         feed_piece(rt, acc, piece, &mut frames);
-        left = behind;
+        left = later;
     }
     assert!(rt; frames.next().is_none(), "a frame has no answer");
 }
 
-/// A hundred streams of ten values each arrive.
+/// Asserts that a hundred streams of ten values each arrive.
 pub(crate) fn arrive<T: Random + Serialize + DeserializeOwned + PartialEq + Debug>(
     rt: &(impl Abort + AllocGlobal),
     source: &mut Source,

@@ -1,4 +1,4 @@
-//! The types whose random values are tested, each with a seed of its own.
+//! Tests of the random values of each type, each type with a seed of its own.
 
 use crate::calls::comes_back;
 use crate::random::Random;
@@ -15,7 +15,8 @@ use std::rc::Rc;
 use std::test::Fail;
 use std::time::Duration;
 
-/// Five thousand values of a type come back, and a thousand arrive in streams.
+/// Asserts that five thousand values of a type are read back, and that a thousand arrive in
+/// streams.
 fn check<T: Random + Serialize + DeserializeOwned + PartialEq + Debug>(
     rt: &(impl Abort + AllocGlobal),
     seed: u64,

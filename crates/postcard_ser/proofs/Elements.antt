@@ -1,36 +1,37 @@
--- The bytes of a list's elements, one after the other.
+-- The encodings of a list's elements, one after the other.
 use Rattle.std.proofs.Common.{◌≡◌, ℕ, ◌+◌, ◌<◌, List, [], ◌∷◌, ◌++◌, length, take, drop, get_or, refl, sym, ap, suc, ◌∙◌, append_assoc, append-nil, arith}
 use Rattle.std.proofs.lemmas.Grind.{common_steps}
 use Rattle.std.specs.Prelude.{Any, map}
 use Rattle.std.proofs.lemmas.List.{take_more}
-use Rattle.postcard_wire.specs.Spelling.{bytes, bytes_all}
+use Rattle.postcard_wire.specs.Spelling.{canonical, canonical_all}
 use Rattle.postcard_wire.specs.Tree.{Tree, trees, count}
 
 module _ {A : Type 0} (f : A → Tree) where
-  -- The bytes of two lists joined are those of the first and then those of the second.
-  pub elements_append : (xs ys : List A) → bytes_all (trees (map f (xs ++ ys))) ≡ bytes_all (trees (map f xs)) ++ bytes_all (trees (map f ys))
+  -- The encodings of two lists joined are those of the first list, followed by those of the second.
+  pub elements_append : (xs ys : List A) → canonical_all (trees (map f (xs ++ ys))) ≡ canonical_all (trees (map f xs)) ++ canonical_all (trees (map f ys))
   elements_append [] ys = refl
-  elements_append (x ∷ xs) ys = ap (λ z. bytes (f x) ++ z) (elements_append xs ys) ∙ sym (append_assoc (bytes (f x)) (bytes_all (trees (map f xs))) (bytes_all (trees (map f ys))))
+  elements_append (x ∷ xs) ys = ap (λ z. canonical (f x) ++ z) (elements_append xs ys) ∙ sym (append_assoc (canonical (f x)) (canonical_all (trees (map f xs))) (canonical_all (trees (map f ys))))
 
-  -- There are as many trees as elements.
+  -- A list has as many trees as elements.
   pub elements_count : (xs : List A) → count (trees (map f xs)) ≡ length xs
   elements_count [] = refl
   elements_count (x ∷ xs) = ap (λ n. suc n) (elements_count xs)
 
-  -- One more element is written.
-  pub elements_more : (xs : List A) (k : ℕ) (d : A) → k < length xs → d ≡ get_or xs k d → bytes_all (trees (map f (take k xs))) ++ bytes (f d) ≡ bytes_all (trees (map f (take (k + 1) xs)))
+  -- The encoding of the element at place k follows those of the elements before it.
+  pub elements_more : (xs : List A) (k : ℕ) (d : A) → k < length xs → d ≡ get_or xs k d → canonical_all (trees (map f (take k xs))) ++ canonical (f d) ≡ canonical_all (trees (map f (take (k + 1) xs)))
   elements_more xs k d h e =
-      sym (ap (λ z. bytes_all (trees (map f z))) (take_more xs k d h ∙ ap (λ z. take k xs ++ z ∷ []) (sym e)) ∙ elements_append (take k xs) (d ∷ []) ∙ ap (λ z. bytes_all (trees (map f (take k xs))) ++ z) (append-nil (bytes (f d))))
+      sym (ap (λ z. canonical_all (trees (map f z))) (take_more xs k d h ∙ ap (λ z. take k xs ++ z ∷ []) (sym e)) ∙ elements_append (take k xs) (d ∷ []) ∙ ap (λ z. canonical_all (trees (map f (take k xs))) ++ z) (append-nil (canonical (f d))))
 
   -- A list is the elements before a place, the one there, and those after it.
   pub list_cut : (xs : List A) (k : ℕ) (d : A) → k < length xs → xs ≡ take k xs ++ (get_or xs k d ∷ drop (k + 1) xs)
   list_cut xs k d h = grind (arith, common_steps)
 
-  -- So are its bytes.
-  pub elements_cut : (xs : List A) (k : ℕ) (d : A) → k < length xs → d ≡ get_or xs k d → bytes_all (trees (map f (take k xs))) ++ (bytes (f d) ++ bytes_all (trees (map f (drop (k + 1) xs)))) ≡ bytes_all (trees (map f xs))
+  -- The encodings of a list are those before a place, that of the element there, and those after
+  -- it.
+  pub elements_cut : (xs : List A) (k : ℕ) (d : A) → k < length xs → d ≡ get_or xs k d → canonical_all (trees (map f (take k xs))) ++ (canonical (f d) ++ canonical_all (trees (map f (drop (k + 1) xs)))) ≡ canonical_all (trees (map f xs))
   elements_cut xs k d h e =
-      sym (ap (λ z. bytes_all (trees (map f z))) (list_cut xs k d h ∙ ap (λ z. take k xs ++ z ∷ drop (k + 1) xs) (sym e)) ∙ elements_append (take k xs) (d ∷ drop (k + 1) xs))
+      sym (ap (λ z. canonical_all (trees (map f z))) (list_cut xs k d h ∙ ap (λ z. take k xs ++ z ∷ drop (k + 1) xs) (sym e)) ∙ elements_append (take k xs) (d ∷ drop (k + 1) xs))
 
--- Some element has what the one at this place has.
+-- If P holds of the element at a place, it holds of some element.
 pub any_at : {A : Type 0} {P : A → Type 0} (xs : List A) (k : ℕ) (d : A) → k < length xs → d ≡ get_or xs k d → P d → Any P xs
 any_at xs k d h e p = (k, d, h, sym e, p)

@@ -1,3 +1,4 @@
+-- The lemmas, by subject.
 pub mod PartByPart
 pub mod Elements
 pub mod Entries

@@ -1,7 +1,7 @@
-//! The variants of an enum: the index, and then the content.
+//! The variants of an enum: the index, followed by the content.
 
 ghost use Rattle.std.specs.Prelude.{OnOk, ◌<◌, ◌^◌};
-ghost use Rattle.postcard_wire.specs.Spelling.{bytes};
+ghost use Rattle.postcard_wire.specs.Spelling.{canonical};
 ghost use Rattle.postcard_wire.specs.Tree.{Variant};
 ghost use Rattle.postcard_ser.specs.Writing.{Wrote};
 
@@ -10,17 +10,18 @@ use crate::serializer::Serializer;
 use postcard_ser_flavors::Flavor;
 use postcard_wire::Result;
 
-/// Writes a variant of an enum: its index as a varint of 1 to 5 bytes, and then its content, which
-/// is `&()` for a variant without fields.
+/// Writes a variant of an enum: its index as a varint of 1 to 5 bytes, followed by its content,
+/// which is `&()` for a variant without fields.
 ///
-/// Fails as the content does, and with `SerializeBufferFull` if the flavor refuses the index.
+/// Fails with `SerializeBufferFull` if the flavor refuses the index, and otherwise as the
+/// `serialize` of the content does.
 pub fn serialize_variant<T: Serialize, F: Flavor>(
     index: u32,
     content: &T,
     serializer: &mut Serializer<F>,
 ) -> Result<()>
     ensures wrote { Wrote F.Flavor serializer.old.output
-        (bytes (Variant index (T.shape.tree content.now)))
+        (canonical (Variant index (T.shape.tree content.now)))
         (T.shape.refuses content.now) T.shape.text result serializer.new.output }
     ensures fits { OnOk result ((index < 2 ^ 32) × T.shape.fits content.now) }
 {

@@ -4,10 +4,10 @@
 ghost use Rattle.std.specs.Prelude.{◌≡◌, ◌↔◌, ◌+◌, ◌^◌, ◌<◌, length, ⊤, IsOk, OnOk, IfOk, IfErr};
 ghost use Rattle.std.specs.Prelude.{IsErrOf, IsUtf8, IfSome};
 ghost use Rattle.postcard_wire.specs.Number.{digits};
-ghost use Rattle.postcard_wire.specs.Spelling.{bytes};
+ghost use Rattle.postcard_wire.specs.Spelling.{canonical};
 ghost use Rattle.postcard_wire.specs.Tree.{Text};
-ghost use Rattle.postcard_ser_flavors.specs.Flavor.{Begins};
-ghost use Rattle.postcard_ser.specs.Writing.{Wrote, AnswersRefusal};
+ghost use Rattle.postcard_ser_flavors.specs.Flavor.{AppendsFront};
+ghost use Rattle.postcard_ser.specs.Writing.{Wrote, IsWriteError};
 
 use crate::serializer::Serializer;
 use core::mem::replace_with;
@@ -17,7 +17,7 @@ use std::fmt;
 use std::fmt::{Display, Formatter, Write};
 use std::marker::{Brand, PhantomData};
 
-/// Counts the bytes of a text. A count above `usize::MAX` is an error of the formatting.
+/// Counts the bytes of a text. A count above `usize::MAX` is a formatting error.
 #[derive(Drop)]
 struct CountWriter {
     count: usize,
@@ -27,7 +27,7 @@ impl fmt::Write for CountWriter {
     ghost write_str_gives = { λ s x t. (t.count ≡ s.count + length x) × IsUtf8 x };
 
     fn write_str(&mut self, s: &str) -> fmt::Result
-        ensures ok { IsOk result → (self.new.count ≡ self.old.count + length s.now)
+        ensures counts { IsOk result → (self.new.count ≡ self.old.count + length s.now)
             × IsUtf8 s.now }
         ensures fits { IsOk result ↔ (self.old.count + length s.now < 2 ^ 64) }
     {
@@ -41,7 +41,7 @@ impl fmt::Write for CountWriter {
     }
 }
 
-/// What holds of a flavor after any number of pushes. The call of `write_text` picks it.
+/// What holds of a flavor after any number of pushes. The caller of `write_text` chooses it.
 trait Lasting<F> {
     ghost lasts: { F → Type 0 };
 }
@@ -50,7 +50,7 @@ impl<F> Lasting<F> for Brand {
     ghost lasts = { λ _. ⊤ };
 }
 
-/// Writes the pieces of a text to a flavor. A failure is an error of the formatting.
+/// Writes the pieces of a text to a flavor. A refused piece is a formatting error.
 struct FmtWriter<F: Flavor, K: Lasting<F>> {
     output: F,
     of: PhantomData<K>,
@@ -62,7 +62,7 @@ impl<F: Flavor, K: Lasting<F>> fmt::Write for FmtWriter<F, K> {
     ghost write_str_gives = { λ s x t. F.appended s.output x t.output };
 
     fn write_str(&mut self, s: &str) -> fmt::Result
-        ensures ok { IsOk result → F.appended self.old.output s.now self.new.output }
+        ensures appends { IsOk result → F.appended self.old.output s.now self.new.output }
         ensures has_room { F.room self.old.output s.now → IsOk result }
     {
         match self.output.try_extend(s.as_bytes()) {
@@ -72,7 +72,8 @@ impl<F: Flavor, K: Lasting<F>> fmt::Write for FmtWriter<F, K> {
     }
 }
 
-/// Returns the number of bytes that a value prints.
+/// Returns the number of bytes that a value prints. Fails if the value fails to format, or prints
+/// more than `usize::MAX` bytes.
 fn count_text<T: Display>(value: &T) -> std::result::Result<usize, fmt::Error>
     ensures { IfOk result
         (λ n. IfSome (T.output value.now) (λ u. (n ≡ length u) × IsUtf8 u)) }
@@ -82,7 +83,8 @@ fn count_text<T: Display>(value: &T) -> std::result::Result<usize, fmt::Error>
     Ok(writer.count)
 }
 
-/// Writes what a value prints, and returns the flavor, of which what lasts still holds.
+/// Writes what a value prints, and returns the flavor, of which `lasts` still holds, with the
+/// result.
 fn write_text<T: Display, F: Flavor, K: Lasting<F>>(output: F, value: &T) -> (F, fmt::Result)
     requires lasts { K.lasts output }
     requires kept { (s t : F) → K.lasts s → F.Flavor.reaches s t → K.lasts t }
@@ -100,7 +102,7 @@ fn write_text<T: Display, F: Flavor, K: Lasting<F>>(output: F, value: &T) -> (F,
     (output, result)
 }
 
-/// Writes what a value prints, and returns the flavor, which is one that pushes may leave.
+/// Writes what a value prints, and returns the flavor, which pushes reach, with the result.
 fn print<T: Display, F: Flavor>(output: F, value: &T) -> (F, fmt::Result)
     ensures appends { OnOk result.1
         (IfSome (T.output value.now) (λ u. F.appended output u result.0)) }
@@ -110,22 +112,23 @@ fn print<T: Display, F: Flavor>(output: F, value: &T) -> (F, fmt::Result)
 }
 
 impl<F: Flavor> Serializer<F> {
-    /// Writes the text that a value prints: the count of its bytes as a varint, and then its bytes.
-    /// The value is formatted twice, first to count.
+    /// Writes the text that a value prints: the number of its bytes as a varint of 1 to 10 bytes,
+    /// and then the bytes. The value is formatted twice, first to count. Both passes must print the
+    /// same text, which the prover knows if the `Display` impl says its text (`output`).
     ///
     /// Fails with `CollectStrError` if the text fails to format, is longer than `usize::MAX` bytes,
     /// or is refused by the flavor, and with `SerializeBufferFull` if the flavor refuses the count.
     pub fn collect_str<T: Display>(&mut self, value: &T) -> Result<()>
         ensures writes { IfSome (T.output value.now)
-            (λ u. Wrote F.Flavor self.old.output (bytes (Text u)) ⊤ ⊤ result self.new.output) }
+            (λ u. Wrote F.Flavor self.old.output (canonical (Text u)) ⊤ ⊤ result self.new.output) }
         ensures fits { OnOk result
             (IfSome (T.output value.now) (λ u. IsUtf8 u × (length u < 2 ^ 64))) }
-        ensures names { IfErr result (AnswersRefusal ⊤) }
-        ensures full { IfSome (T.output value.now)
+        ensures named_error { IfErr result (IsWriteError ⊤) }
+        ensures room_suffices { IfSome (T.output value.now)
             (λ u. F.room self.old.output (digits (length u)) → ¬ IsErrOf result
             Error.SerializeBufferFull) }
-        ensures front { IfSome (T.output value.now)
-            (λ u. IsErrOf result Error.SerializeBufferFull → F.tidy → Begins F.appended
+        ensures leaves_beginning { IfSome (T.output value.now)
+            (λ u. IsErrOf result Error.SerializeBufferFull → F.tidy → AppendsFront F.appended
             self.old.output (digits (length u)) self.new.output) }
         ensures leaves { F.reaches self.old.output self.new.output }
     {

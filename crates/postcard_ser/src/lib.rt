@@ -1,13 +1,13 @@
-//! Values as bytes: a type writes itself into a flavor, piece after piece.
+//! Values as bytes: a type writes itself into a flavor, piece by piece.
 //!
 //! The one contract is that of [`Serialize`]: a call of `serialize` has `Wrote` the bytes of the
 //! value's tree, which the type's shape says (`Shaped`, of the crate `postcard_shape`). After an
-//! `Ok` just these bytes are appended, and the value `fits`, by which they are read again. A value
+//! `Ok` just these bytes are appended, and the value `fits`, so that they are read again. A value
 //! that doesn't refuse itself is refused only if the flavor has no room for them, with
 //! `SerializeBufferFull` (or with `CollectStrError`, if it may fail to print); a tidy flavor then
-//! holds a beginning of them. The layer above cites nothing else.
+//! has appended a beginning of them. The layer above cites nothing else.
 //!
-//! A struct of one's own needs three impls, of which the third, `FromRepr` of `postcard_de`, is for
+//! A struct of a user needs three impls, of which the third, `FromRepr` of `postcard_de`, is for
 //! reading, and one ghost line:
 //!
 //! ```text
@@ -24,8 +24,8 @@
 //! }
 //! ```
 //!
-//! An enum is seen as its variants in a row, and writes each by [`serialize_variant`]. A type that
-//! calls the [`Serializer`] more than once itself joins what each call wrote by the lemmas of
+//! An enum is written as its variants in a row, each by [`serialize_variant`]. A type that itself
+//! calls the [`Serializer`] more than once joins what each call wrote by the lemmas of
 //! `proofs/PartByPart.antt`.
 //!
 //! In reading order:

@@ -1,7 +1,7 @@
 //! The trait of all types that are written.
 
 ghost use Rattle.std.specs.Prelude.{OnOk};
-ghost use Rattle.postcard_wire.specs.Spelling.{bytes};
+ghost use Rattle.postcard_wire.specs.Spelling.{canonical};
 ghost use Rattle.postcard_ser.specs.Writing.{Wrote};
 
 use crate::serializer::Serializer;
@@ -11,19 +11,21 @@ use postcard_wire::Result;
 
 /// A type whose values are written, as their shape says.
 ///
-/// A struct or an enum of one's own implements `SerializeRepr`, and has this trait by that. A type
-/// implements this trait itself if it says its shape itself, by `Shaped`: one that refuses values,
-/// as one whose text may fail to print.
+/// A struct or an enum of a user implements `SerializeRepr`, and has this trait by that. A type
+/// implements this trait itself if it implements `Shaped` itself, as one that refuses values or
+/// whose text may fail to print.
 pub trait Serialize: Shaped {
     /// Writes the canonical encoding of the value's tree.
     ///
     /// # Errors
     ///
-    /// Fails with `SerializeBufferFull` if the flavor refuses a piece. A type whose values refuse
-    /// themselves, or whose texts may fail to print, may also fail with an error of its own, or
-    /// with `CollectStrError`. What the flavor took before the error stays in it.
+    /// Fails with `SerializeBufferFull` if the flavor refuses a piece. A type that is written as
+    /// the text that it prints may fail with `CollectStrError` instead, also if it fails to print,
+    /// and a type whose values refuse themselves with an error of its own. What the flavor took
+    /// before the error stays in it: over a tidy flavor a beginning of the encoding, or nothing,
+    /// unless the value refuses itself.
     fn serialize<F: Flavor>(&self, serializer: &mut Serializer<F>) -> Result<()>
-        ensures wrote { Wrote F.Flavor serializer.old.output (bytes (Self.shape.tree self.now))
+        ensures wrote { Wrote F.Flavor serializer.old.output (canonical (Self.shape.tree self.now))
             (Self.shape.refuses self.now) Self.shape.text result serializer.new.output }
         ensures fits { OnOk result (Self.shape.fits self.now) };
 }

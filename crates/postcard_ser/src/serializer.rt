@@ -1,12 +1,12 @@
-//! The calls by which a type writes itself, each a node of the wire format. Here are those for
-//! numbers, texts and lists.
+//! The calls by which a type writes itself, one for each node of the wire format. Here are those
+//! for numbers, texts and lists.
 
 ghost use Rattle.std.specs.Prelude.{◌≡◌, [], ◌∷◌, ◌++◌, length, map, false, IsOk, IsErrOf, IfSome};
 ghost use Rattle.std.specs.Prelude.{OnOk};
 ghost use Rattle.std.specs.Option.{IfNone};
 ghost use Rattle.std.specs.Int.{w8, cast_unsigned};
 ghost use Rattle.postcard_wire.specs.Number.{digits};
-ghost use Rattle.postcard_wire.specs.Spelling.{bytes};
+ghost use Rattle.postcard_wire.specs.Spelling.{canonical};
 ghost use Rattle.postcard_wire.specs.Tree.{Byte, Num, Int, Text, Seq, trees};
 ghost use Rattle.postcard_ser.specs.Writing.{Wrote};
 
@@ -23,15 +23,18 @@ use postcard_wire::{Error, Result};
 
 /// Writes values into a flavor.
 ///
-/// Each call fails with `SerializeBufferFull` if the flavor refuses a piece, whatever the flavor's
-/// own error is. The output then holds the pieces that were taken before.
+/// If the flavor refuses a piece, a call fails with `SerializeBufferFull`, whatever the flavor's
+/// own error is; only in the text of `collect_str` the error is `CollectStrError`. A call that
+/// writes another value also fails as the `serialize` of that value does. What the flavor took
+/// before the error stays in it: over a tidy flavor a beginning of what the call writes, or
+/// nothing, unless the value refuses itself.
 #[derive(Drop)]
 pub struct Serializer<F: Flavor> {
     /// The flavor that the bytes go to.
     pub output: F,
 }
 
-// The error of a call whose flavor refused a piece, whatever the flavor's own.
+// Returns the error of a call whose flavor refused a piece, whatever the flavor's own error is.
 fn refusal(_of_flavor: Error) -> Error
     ensures { result ≡ Error.SerializeBufferFull }
 {
@@ -60,7 +63,7 @@ impl<F: Flavor> Serializer<F> {
         self.output.try_varint(n).map_err(refusal)
     }
 
-    // Writes the count of the bytes, and then the bytes.
+    // Writes the count of the bytes as a varint, and then the bytes.
     fn extend_counted(&mut self, piece: &[u8]) -> Result<()>
         ensures { Wrote F.Flavor self.old.output (digits (length piece.now) ++ piece.now) ⊥ ⊥
             result self.new.output }
@@ -69,96 +72,110 @@ impl<F: Flavor> Serializer<F> {
         self.extend(piece)
     }
 
-    /// Always `false`: the format is binary.
+    /// Returns `false`: the format is binary.
     pub fn is_human_readable(&self) -> bool
         ensures { result ≡ false }
     {
         false
     }
 
-    /// Writes one byte.
+    /// Writes a `u8` as one byte. Fails with `SerializeBufferFull` if the flavor refuses a piece.
     pub fn serialize_u8(&mut self, v: u8) -> Result<()>
-        ensures { Wrote F.Flavor self.old.output (bytes (Byte v)) ⊥ ⊥ result self.new.output }
+        ensures { Wrote F.Flavor self.old.output (canonical (Byte v)) ⊥ ⊥ result self.new.output }
     {
         self.push(v)
     }
 
-    /// Writes a varint of 1 to 3 bytes.
+    /// Writes a `u16` as a varint of 1 to 3 bytes. Fails with `SerializeBufferFull` if the flavor
+    /// refuses a piece.
     pub fn serialize_u16(&mut self, v: u16) -> Result<()>
-        ensures { Wrote F.Flavor self.old.output (bytes (Num 16 v)) ⊥ ⊥ result self.new.output }
+        ensures { Wrote F.Flavor self.old.output (canonical (Num 16 v)) ⊥ ⊥ result self.new.output }
     {
         self.serialize_u32(u32::from(v))
     }
 
-    /// Writes a varint of 1 to 5 bytes.
+    /// Writes a `u32` as a varint of 1 to 5 bytes. Fails with `SerializeBufferFull` if the flavor
+    /// refuses a piece.
     pub fn serialize_u32(&mut self, v: u32) -> Result<()>
-        ensures { Wrote F.Flavor self.old.output (bytes (Num 32 v)) ⊥ ⊥ result self.new.output }
+        ensures { Wrote F.Flavor self.old.output (canonical (Num 32 v)) ⊥ ⊥ result self.new.output }
     {
         self.varint(u64::from(v))
     }
 
-    /// Writes a varint of 1 to 10 bytes.
+    /// Writes a `u64` as a varint of 1 to 10 bytes. Fails with `SerializeBufferFull` if the flavor
+    /// refuses a piece.
     pub fn serialize_u64(&mut self, v: u64) -> Result<()>
-        ensures { Wrote F.Flavor self.old.output (bytes (Num 64 v)) ⊥ ⊥ result self.new.output }
+        ensures { Wrote F.Flavor self.old.output (canonical (Num 64 v)) ⊥ ⊥ result self.new.output }
     {
         self.varint(v)
     }
 
-    /// Writes a varint of 1 to 19 bytes.
+    /// Writes a `u128` as a varint of 1 to 19 bytes. Fails with `SerializeBufferFull` if the flavor
+    /// refuses a piece.
     pub fn serialize_u128(&mut self, v: u128) -> Result<()>
-        ensures { Wrote F.Flavor self.old.output (bytes (Num 128 v)) ⊥ ⊥ result self.new.output }
+        ensures { Wrote F.Flavor self.old.output
+            (canonical (Num 128 v)) ⊥ ⊥ result self.new.output }
     {
         let mut out = [0; VARINT_MAX_128];
         self.extend(varint_u128(v, &mut out))
     }
 
-    /// Writes one byte, in two's complement.
+    /// Writes an `i8` as one byte, in two's complement. Fails with `SerializeBufferFull` if the
+    /// flavor refuses a piece.
     pub fn serialize_i8(&mut self, v: i8) -> Result<()>
-        ensures { Wrote F.Flavor self.old.output (bytes (Byte (cast_unsigned w8 v))) ⊥ ⊥
+        ensures { Wrote F.Flavor self.old.output (canonical (Byte (cast_unsigned w8 v))) ⊥ ⊥
             result self.new.output }
     {
         self.push(v.cast_unsigned())
     }
 
-    /// Writes the zigzag number of `v` as a varint of 1 to 3 bytes.
+    /// Writes the zigzag encoding of an `i16` as a varint of 1 to 3 bytes. Fails with
+    /// `SerializeBufferFull` if the flavor refuses a piece.
     pub fn serialize_i16(&mut self, v: i16) -> Result<()>
-        ensures { Wrote F.Flavor self.old.output (bytes (Int 16 v)) ⊥ ⊥ result self.new.output }
+        ensures { Wrote F.Flavor self.old.output (canonical (Int 16 v)) ⊥ ⊥ result self.new.output }
     {
         self.serialize_u16(zig_zag_i16(v))
     }
 
-    /// Writes the zigzag number of `v` as a varint of 1 to 5 bytes.
+    /// Writes the zigzag encoding of an `i32` as a varint of 1 to 5 bytes. Fails with
+    /// `SerializeBufferFull` if the flavor refuses a piece.
     pub fn serialize_i32(&mut self, v: i32) -> Result<()>
-        ensures { Wrote F.Flavor self.old.output (bytes (Int 32 v)) ⊥ ⊥ result self.new.output }
+        ensures { Wrote F.Flavor self.old.output (canonical (Int 32 v)) ⊥ ⊥ result self.new.output }
     {
         self.serialize_u32(zig_zag_i32(v))
     }
 
-    /// Writes the zigzag number of `v` as a varint of 1 to 10 bytes.
+    /// Writes the zigzag encoding of an `i64` as a varint of 1 to 10 bytes. Fails with
+    /// `SerializeBufferFull` if the flavor refuses a piece.
     pub fn serialize_i64(&mut self, v: i64) -> Result<()>
-        ensures { Wrote F.Flavor self.old.output (bytes (Int 64 v)) ⊥ ⊥ result self.new.output }
+        ensures { Wrote F.Flavor self.old.output (canonical (Int 64 v)) ⊥ ⊥ result self.new.output }
     {
         self.serialize_u64(zig_zag_i64(v))
     }
 
-    /// Writes the zigzag number of `v` as a varint of 1 to 19 bytes.
+    /// Writes the zigzag encoding of an `i128` as a varint of 1 to 19 bytes. Fails with
+    /// `SerializeBufferFull` if the flavor refuses a piece.
     pub fn serialize_i128(&mut self, v: i128) -> Result<()>
-        ensures { Wrote F.Flavor self.old.output (bytes (Int 128 v)) ⊥ ⊥ result self.new.output }
+        ensures { Wrote F.Flavor self.old.output
+            (canonical (Int 128 v)) ⊥ ⊥ result self.new.output }
     {
         self.serialize_u128(zig_zag_i128(v))
     }
 
-    /// Writes the count of the text's bytes as a varint, and then its bytes.
+    /// Writes the number of the text's bytes as a varint of 1 to 10 bytes, and then the bytes.
+    /// Fails with `SerializeBufferFull` if the flavor refuses a piece.
     pub fn serialize_str(&mut self, v: &str) -> Result<()>
-        ensures { Wrote F.Flavor self.old.output (bytes (Text v.now)) ⊥ ⊥ result self.new.output }
+        ensures { Wrote F.Flavor self.old.output
+            (canonical (Text v.now)) ⊥ ⊥ result self.new.output }
     {
         self.extend_counted(v.as_bytes())
     }
 
-    /// Writes the count of the bytes as a varint, and then the bytes: those of a list of `u8`.
+    /// Writes the number of the bytes as a varint of 1 to 10 bytes, and then the bytes, as of a
+    /// list of `u8`. Fails with `SerializeBufferFull` if the flavor refuses a piece.
     #[tactic(auto, using(crate::proofs::Elements::elements_count, postcard_shape::proofs::Bytes::bytes_of_bytes))]
     pub fn serialize_bytes(&mut self, v: &[u8]) -> Result<()>
-        ensures { Wrote F.Flavor self.old.output (bytes (Seq (trees (map Byte v.now)))) ⊥ ⊥
+        ensures { Wrote F.Flavor self.old.output (canonical (Seq (trees (map Byte v.now)))) ⊥ ⊥
             result self.new.output }
     {
         self.extend_counted(v)
@@ -166,9 +183,10 @@ impl<F: Flavor> Serializer<F> {
 
     /// Begins a list: writes the number of its elements as a varint of 1 to 10 bytes. The caller
     /// must write exactly `len` elements by `serialize_element`; this is not checked. Fails with
-    /// `SerializeSeqLengthUnknown` if `len` is `None`, before anything is written.
+    /// `SerializeSeqLengthUnknown` if `len` is `None`, before anything is written, and with
+    /// `SerializeBufferFull` if the flavor refuses the number.
     pub fn serialize_seq(&mut self, len: Option<usize>) -> Result<()>
-        ensures known { IfSome len (λ n. Wrote F.Flavor self.old.output (bytes (Num 64 n)) ⊥ ⊥
+        ensures known { IfSome len (λ n. Wrote F.Flavor self.old.output (canonical (Num 64 n)) ⊥ ⊥
             result self.new.output) }
         ensures unknown { IfNone len (IsErrOf result Error.SerializeSeqLengthUnknown
             × (self.new ≡ self.old)) }
@@ -179,19 +197,20 @@ impl<F: Flavor> Serializer<F> {
         }
     }
 
-    /// Writes an element of a list, or any part of a value.
+    /// Writes an element of a list, or any part of a value, as its `serialize` does, and fails as
+    /// that does.
     pub fn serialize_element<T: Serialize>(&mut self, value: &T) -> Result<()>
-        ensures wrote { Wrote F.Flavor self.old.output (bytes (T.shape.tree value.now))
+        ensures wrote { Wrote F.Flavor self.old.output (canonical (T.shape.tree value.now))
             (T.shape.refuses value.now) T.shape.text result self.new.output }
         ensures fits { OnOk result (T.shape.fits value.now) }
     {
         value.serialize(self)
     }
 
-    /// Ends a list: nothing is written.
+    /// Ends a list. Writes nothing and never fails.
     pub fn end(&mut self) -> Result<()>
         ensures wrote { Wrote F.Flavor self.old.output [] ⊥ ⊥ result self.new.output }
-        ensures always { IsOk result }
+        ensures succeeds { IsOk result }
         ensures unchanged { self.new ≡ self.old }
     {
         Ok(())

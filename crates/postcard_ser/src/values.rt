@@ -1,4 +1,4 @@
-//! The types that are written, each beside those like it.
+//! The types of std and of `arrayvec` that are written, a module for each kind.
 
 mod error;
 mod fixed;

@@ -1,3 +1,4 @@
+-- The lemmas, by subject.
 pub mod StepLemmas
 pub mod RunLemmas
 pub mod PieceLemmas

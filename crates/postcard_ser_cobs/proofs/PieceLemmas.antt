@@ -11,7 +11,7 @@ use Rattle.postcard_ser_cobs.specs.Framing.{HoldsOpen, HoldsThen}
 use Rattle.postcard_ser_cobs.proofs.StepLemmas.{code_below, set_behind}
 
 module _ {S : Type 0} {held : S → List ℕ} where
-  -- A byte behind the open frame that has no code set is taken where it stands.
+  -- A byte after the open frame for which no code is set is taken as it is.
   pub taken_as_it_is : {s : S} {start : ℕ} {at at' : Standing} {b : ℕ} {before d x : List ℕ} (r : PushResult) → r ≡ AddSingle b
       → ((L d : List ℕ) → IsOpen L at d → IsOpen (changed L r) at' (d ++ b ∷ []))
       → HoldsThen held s start at before d (b ∷ x) → HoldsThen held s start at' before (d ++ b ∷ []) x
@@ -22,7 +22,7 @@ module _ {S : Type 0} {held : S → List ℕ} where
     stands = subst (λ z. IsOpen (changed h.frame z) at' (d ++ b ∷ [])) is (push h.frame d h.stands);
   }
 
-  -- A zero behind the open frame is the place of the next code, once the code in front is set.
+  -- A zero after the open frame is the place of the next code, once the code before it is set.
   pub taken_as_place : {s t : S} {start : ℕ} {at at' : Standing} {b : ℕ} {before d x : List ℕ} (r : PushResult) (place code : ℕ) → r ≡ ModifyFromStartAndSkip (place, code)
       → b ≡ 0 → place ≡ at.code_at → held t ≡ slice_set (held s) (start + place) code
       → ((L d : List ℕ) → IsOpen L at d → IsOpen (changed L r) at' (d ++ b ∷ []))
@@ -39,7 +39,7 @@ module _ {S : Type 0} {held : S → List ℕ} where
         stands = subst (λ z. IsOpen (changed h.frame z) at' (d ++ b ∷ [])) is (push h.frame d h.stands);
       }
 
-  -- The next byte of a piece is the one at the place.
+  -- The next byte of a piece is the one at the current place.
   pub next_taken : {s t : S} {start : ℕ} {at at' : Standing} (before d xs : List ℕ) (i : ℕ) → i < length xs
       → ((x : List ℕ) → HoldsThen held s start at before (d ++ take i xs) (get_or xs i 0 ∷ x) → HoldsThen held t start at' before ((d ++ take i xs) ++ get_or xs i 0 ∷ []) x)
       → HoldsThen held s start at before (d ++ take i xs) (drop i xs) → HoldsThen held t start at' before (d ++ take (i + 1) xs) (drop (i + 1) xs)
@@ -47,7 +47,7 @@ module _ {S : Type 0} {held : S → List ℕ} where
       subst (λ z. HoldsThen held t start at' before z (drop (i + 1) xs)) (append_assoc d (take i xs) (get_or xs i 0 ∷ []) ∙ ap (λ z. d ++ z) (sym (take_more xs i 0 l)))
       (one (drop (i + 1) xs) (subst (λ z. HoldsThen held s start at before (d ++ take i xs) z) (drop_more xs i 0 l) h))
 
-  -- A piece pushed behind an open frame, and its codes set, is data of the open frame.
+  -- A piece pushed after an open frame, with its codes set, is data of the open frame.
   pub piece_holds : {s t u : S} {start : ℕ} {at mid at' : Standing} {f f' : Bool} (piece : List ℕ) {before d : List ℕ} → IsFalse f' → held t ≡ held s ++ piece → mid ≡ at
       → ((before d : List ℕ) → HoldsThen held t start mid before d piece → HoldsThen held u start at' before (d ++ piece) [])
       → HoldsOpen held s start at f before d → HoldsOpen held u start at' f' before (d ++ piece)
@@ -67,6 +67,6 @@ module _ {S : Type 0} {held : S → List ℕ} where
         stands = r.stands;
       }
 
-  -- The number of bytes that a storage holds, by the place of the encoder.
+  -- The storage holds at least the bytes up to the encoder's place.
   pub holds_length : {s : S} {start : ℕ} {at : Standing} {f : Bool} {before d : List ℕ} → HoldsOpen held s start at f before d → start + (at.code_at + at.code) ≤ length (held s)
   holds_length {at = at} {before = before} {d = d} h = omega (arith, h.starts, ap length h.behind, length-append before h.frame, open_length h.frame d at h.stands)

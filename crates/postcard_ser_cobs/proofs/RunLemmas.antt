@@ -9,7 +9,7 @@ use Rattle.postcard_ser_cobs.specs.Framing.{HoldsOpen, HasFrameRoom, LeavesFrame
 use Rattle.postcard_ser_cobs.specs.FramingLaws.{open_made, not_both, room_of_front}
 
 module _ {S : Type 0} {held : S → List ℕ} where
-  -- A piece makes the frame longer by its own length.
+  -- A piece makes the frame longer by the piece's length.
   pub made_piece : {s : S} {start : ℕ} {at : Standing} {f : Bool} {before d : List ℕ} (piece : List ℕ) → length piece + at.code < 255
       → HoldsOpen held s start at f before d → length (made (d ++ piece)) ≡ length (made d) + length piece
   made_piece {at = at} {d = d} piece short h =
@@ -28,7 +28,7 @@ module _ {S : Type 0} {held : S → List ℕ} where
   }
 
   module _ {free : S → ℕ → Type 0} where
-    -- Where a piece has room, its length is free.
+    -- If a piece has room, as many bytes as it has are free.
     pub piece_free : {s : S} {start : ℕ} {at : Standing} {f : Bool} (piece : List ℕ) → length piece + at.code < 255
         → ((s : S) (m n : ℕ) → free s (m + n) → free s m) → HasFrameRoom held free s start at f piece → free s (length piece)
     piece_free {s = s} piece short fewer room =
@@ -36,13 +36,13 @@ module _ {S : Type 0} {held : S → List ℕ} where
         let e : length (made (room.d ++ piece)) - length (made room.d) + 1 ≡ length piece + 1 = omega arith in
         fewer s (length piece) 1 (subst (λ n. free s n) e room.enough)
 
-    -- Where a piece has room, the encoder can count its place after it.
+    -- If a piece has room, the encoder can count its place after it.
     pub piece_small : {s : S} {start : ℕ} {at : Standing} {f : Bool} (piece : List ℕ) → length piece + at.code < 255 → HasFrameRoom held free s start at f piece
         → at.code_at + at.code + length piece < 2 ^ 64 - 1 - 2
     piece_small {at = at} piece short room =
         omega (arith, made_piece piece short room.holds, open_made room.holds.frame room.d at room.holds.stands, open_length room.holds.frame room.d at room.holds.stands, room.few)
 
--- A storage that grew by as many bytes as are no longer free is left as pushes may leave it.
+-- A storage that grew by as many bytes as are no longer free is one that pushes may leave.
 pub grown_leaves : {S : Type 0} {held : S → List ℕ} {free : S → ℕ → Type 0} {reaches : S → S → Type 0} {s t : S} {f : Bool} (m : ℕ) → IsFalse f → reaches s t
     → length (held t) ≡ length (held s) + m → ((n : ℕ) → free s (m + n) → free t n) → LeavesFrame held free reaches s f t false
 grown_leaves {free = free} {s = s} m going inner l keeps = record {
@@ -52,7 +52,7 @@ grown_leaves {free = free} {s = s} m going inner l keeps = record {
   keeps_free = λ _ k n e h. let z : k + n ≡ m + n = omega (arith, l, e) in keeps n (subst (λ i. free s i) z h);
 }
 
--- Where the rest from a place has room, so has a front of it.
+-- If the rest from a place on has room, so has a front of that rest.
 pub room_of_next : {S : Type 0} {held : S → List ℕ} {free : S → ℕ → Type 0} {s : S} {start : ℕ} {at : Standing} {f : Bool} → ((s : S) (m n : ℕ) → free s (m + n) → free s m)
     → (xs : List ℕ) (i n : ℕ) → HasFrameRoom held free s start at f (drop i xs) → HasFrameRoom held free s start at f (take n (take (length xs - i) (drop i xs)))
 room_of_next {held = held} {free = free} {s = s} {start = start} {at = at} {f = f} fewer xs i n r =
@@ -64,11 +64,12 @@ pub first_and_rest : (xs : List ℕ) → 0 < length xs → xs ≡ (get_or xs 0 0
 first_and_rest [] l = absurd (omega (arith, l))
 first_and_rest (x ∷ xs) l = refl
 
--- The front up to a place and the bytes from there up to a later one are the front up to that.
+-- The bytes before place i, followed by those from i up to j, are the bytes before place j.
 pub take_further : (xs : List ℕ) (i j : ℕ) → i < j → take i xs ++ take (j - i) (drop i xs) ≡ take j xs
 take_further xs i j l = let e : i + (j - i) ≡ j = omega (arith, l) in sym (take-add i (j - i) xs) ∙ ap (λ k. take k xs) e
 
--- The data up to a place and the bytes from there on are the data up to a later place.
+-- An open frame of the data up to place i and the bytes from there up to j is one of the data up to
+-- place j.
 pub holds_further : {S : Type 0} {held : S → List ℕ} {s : S} {start : ℕ} {at : Standing} {f : Bool} (before d xs : List ℕ) (i j : ℕ) → i < j
     → HoldsOpen held s start at f before ((d ++ take i xs) ++ take (j - i) (drop i xs)) → HoldsOpen held s start at f before (d ++ take j xs)
 holds_further {held = held} {s = s} {start = start} {at = at} {f = f} before d xs i j l h =

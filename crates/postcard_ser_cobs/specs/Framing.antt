@@ -1,11 +1,11 @@
--- What the flavor of frames holds, has room for, and leaves. The frames are those of Cheshire and
--- Baker 1999, by the definitions of postcard_cobs.
+-- What the frame flavor holds, has room for, and leaves. The frames are those of Cheshire and Baker
+-- 1999, by the definitions of postcard_cobs.
 use Rattle.std.specs.Prelude.{◌≡◌, ℕ, ◌+◌, ◌-◌, ◌^◌, ◌≤◌, List, ◌++◌, length, Bool, IsFalse, IsTrue}
 use Rattle.postcard_cobs.specs.Groups.{IsOpen, Standing, made}
 
 module _ {S : Type 0} (held : S → List ℕ) where
-  -- No byte was refused, and the storage s holds the bytes `before`, whose number is `start`, and
-  -- then an open frame of the data d, at whose state the encoder is.
+  -- No byte was refused, and the storage s holds the bytes `before`, whose number is `start`,
+  -- followed by an open frame of the data d, in whose state the encoder is.
   pub record HoldsOpen (s : S) (start : ℕ) (at : Standing) (failed : Bool) (before d : List ℕ) : Type 0 where
     pub going : IsFalse failed
     pub frame : List ℕ
@@ -13,8 +13,8 @@ module _ {S : Type 0} (held : S → List ℕ) where
     pub starts : start ≡ length before
     pub stands : IsOpen frame at d
 
-  -- The storage s holds the bytes `before`, whose number is `start`, then an open frame of the data d,
-  -- at whose state the encoder is, and then the bytes x.
+  -- The storage s holds the bytes `before`, whose number is `start`, followed by an open frame of
+  -- the data d, in whose state the encoder is, and then by the bytes x.
   pub record HoldsThen (s : S) (start : ℕ) (at : Standing) (before d x : List ℕ) : Type 0 where
     pub frame : List ℕ
     pub behind : held s ≡ before ++ (frame ++ x)
@@ -22,8 +22,8 @@ module _ {S : Type 0} (held : S → List ℕ) where
     pub stands : IsOpen frame at d
 
   module _ (free : S → ℕ → Type 0) where
-    -- The data x has room: the storage has as many bytes free as the frame grows by, and one for the
-    -- sentinel, and the length of the whole frame can be counted.
+    -- The data x has room: the storage has as many bytes free as the frame grows by, and one more
+    -- for the sentinel, and the length of the whole frame can be counted.
     pub record HasFrameRoom (s : S) (start : ℕ) (at : Standing) (failed : Bool) (x : List ℕ) : Type 0 where
       pub before : List ℕ
       pub d : List ℕ
@@ -31,8 +31,8 @@ module _ {S : Type 0} (held : S → List ℕ) where
       pub enough : free s (length (made (d ++ x)) - length (made d) + 1)
       pub few : length (made (d ++ x)) ≤ 2 ^ 64 - 1 - 2
 
-    -- What pushes leave, refused ones among them: the storage is one that its pushes may leave, a
-    -- refusal stays, and without one the storage has grown and has the rest of its bytes free.
+    -- What pushes leave, also refused ones: the storage is one that its pushes may leave, a refusal
+    -- stays, and without one the storage has grown and has the rest of its bytes free.
     pub record LeavesFrame (reaches : S → S → Type 0) (s : S) (failed : Bool) (t : S) (failed' : Bool) : Type 0 where
       pub inner : reaches s t
       pub stays_failed : IsTrue failed → IsTrue failed'

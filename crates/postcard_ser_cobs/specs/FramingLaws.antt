@@ -1,5 +1,4 @@
--- Why the words of the flavor of frames are lawful. The lemmas stand here since its ghost members
--- cite them.
+-- Why the frame flavor is lawful. The lemmas are here since its ghost members cite them.
 use Rattle.std.proofs.Common.{◌≡◌, ℕ, ◌+◌, ◌-◌, ◌≤◌, List, [], ◌∷◌, ◌++◌, length, Bool, true, false, IsTrue, IsFalse, cond, eqb, refl, ap, subst, append_assoc, append-nil, length-append, length-set, arith}
 use Rattle.std.specs.Prelude.{slice_set}
 use Rattle.std.specs.Coded.{le_prop}
@@ -8,7 +7,7 @@ use Rattle.postcard_cobs.specs.Groups.{IsOpen, Standing, made, made_from, coded}
 use Rattle.postcard_cobs.proofs.Encoding.{open_finishes}
 use Rattle.postcard_ser_cobs.specs.Framing.{HoldsOpen, HasFrameRoom, LeavesFrame}
 
--- A made frame has the bytes of its open group, a code byte and a sentinel.
+-- A made frame has at least the bytes of its open group, a code byte and a sentinel.
 pub made_least : (g x : List ℕ) → length g + 2 ≤ length (made_from g x)
 made_least g [] = omega (arith, length-append (coded g) (0 ∷ []))
 made_least g (b ∷ x) =
@@ -20,7 +19,7 @@ made_least g (b ∷ x) =
       ]
     ]
 
--- More data makes no shorter frame.
+-- A frame of more data is not shorter, after any open group.
 pub made_grows_from : (g d x : List ℕ) → length (made_from g d) ≤ length (made_from g (d ++ x))
 made_grows_from g [] x = omega (arith, length-append (coded g) (0 ∷ []), made_least g x)
 made_grows_from g (b ∷ d) x =
@@ -33,11 +32,11 @@ made_grows_from g (b ∷ d) x =
       ]
     ]
 
--- The same from no open group.
+-- A frame of more data is not shorter.
 pub made_grows : (d x : List ℕ) → length (made d) ≤ length (made (d ++ x))
 made_grows d x = made_grows_from [] d x
 
--- The made frame is longer than the open one by its sentinel.
+-- A made frame is longer than the open one by its sentinel.
 pub open_made : (L d : List ℕ) (at : Standing) → IsOpen L at d → length (made d) ≡ length L + 1
 open_made L d at h = omega (arith, ap length (open_finishes L d at h), length-append (slice_set L at.code_at at.code) (0 ∷ []), length-set L at.code_at at.code)
 
@@ -45,26 +44,26 @@ open_made L d at h = omega (arith, ap length (open_finishes L d at h), length-ap
 pub not_both : {b : Bool} → IsTrue b → IsFalse b → ⊥
 not_both t f = cc
 
--- Where a refusal stays, no refusal now is none before.
+-- If a refusal stays and there is none now, there was none before.
 pub still_going : (f f' : Bool) → (IsTrue f → IsTrue f') → IsFalse f' → IsFalse f
 still_going false f' i g = refl
 still_going true f' i g = absurd (not_both (i refl) g)
 
--- The number of bytes of a storage that holds an open frame after others.
+-- The number of bytes of a storage that holds an open frame after other bytes.
 pub holds_made : {S : Type 0} {held : S → List ℕ} {s : S} {start : ℕ} {at : Standing} {f : Bool} {before d : List ℕ} → HoldsOpen held s start at f before d → length (held s) + 1 ≡ length before + length (made d)
 holds_made {before = before} {d = d} h = omega (arith, ap length h.behind, length-append before h.frame, open_made h.frame d _ h.stands)
 
 module _ {S : Type 0} {held : S → List ℕ} where
-  -- No data more is the same data.
+  -- An open frame of some data is one of that data followed by nothing.
   pub holds_none : {s : S} {start : ℕ} {at : Standing} {f : Bool} {before d : List ℕ} → HoldsOpen held s start at f before d → HoldsOpen held s start at f before (d ++ [])
   holds_none h = rw append-nil h
 
-  -- Data that is taken in two parts is taken.
+  -- An open frame of data that was taken in two parts is one of that data.
   pub holds_join : {s : S} {start : ℕ} {at : Standing} {f : Bool} (before d x y : List ℕ) → HoldsOpen held s start at f before ((d ++ x) ++ y) → HoldsOpen held s start at f before (d ++ (x ++ y))
   holds_join {s} {start} {at} {f} before d x y h = subst (λ z. HoldsOpen held s start at f before z) (append_assoc d x y) h
 
   module _ {free : S → ℕ → Type 0} where
-    -- Where data has room, so has a front of it.
+    -- If data has room, so has a front of it.
     pub room_of_front : ((s : S) (m n : ℕ) → free s (m + n) → free s m) → {s : S} {start : ℕ} {at : Standing} {f : Bool} (x y : List ℕ) → HasFrameRoom held free s start at f (x ++ y) → HasFrameRoom held free s start at f x
     room_of_front fewer {s} {start} {at} {f} x y r =
         let a = made_grows r.d x in
@@ -78,7 +77,7 @@ module _ {S : Type 0} {held : S → List ℕ} where
           few = omega (arith, r.few);
         }
 
-    -- Where data has room, so has its rest once the front is taken.
+    -- If data has room, so has its rest once a front of it is taken.
     pub room_of_rest : {reaches : S → S → Type 0} {s t : S} {start start' : ℕ} {at at' : Standing} {f f' : Bool} (x y : List ℕ) (r : HasFrameRoom held free s start at f (x ++ y)) → HoldsOpen held t start' at' f' r.before (r.d ++ x) → LeavesFrame held free reaches s f t f' → HasFrameRoom held free t start' at' f' y
     room_of_rest {reaches} {s} {t} {start} {start'} {at} {at'} {f} {f'} x y r h l =
         let a = made_grows r.d x in
@@ -98,7 +97,7 @@ module _ {S : Type 0} {held : S → List ℕ} where
         }
 
     module _ {reaches : S → S → Type 0} where
-      -- No push leaves the storage as it is.
+      -- No push leaves the storage unchanged.
       pub leaves_self : ((s : S) → reaches s s) → (s : S) (f : Bool) → LeavesFrame held free reaches s f s f
       leaves_self r s f = record {
         inner = r s;
@@ -107,7 +106,7 @@ module _ {S : Type 0} {held : S → List ℕ} where
         keeps_free = λ _ k n e h. let z : k + n ≡ n = omega arith in subst (λ m. free s m) z h;
       }
 
-      -- Pushes after pushes are pushes.
+      -- Pushes followed by pushes are pushes.
       pub leaves_join : ((s t u : S) → reaches s t → reaches t u → reaches s u) → {s t u : S} {f f' f'' : Bool} → LeavesFrame held free reaches s f t f' → LeavesFrame held free reaches t f' u f'' → LeavesFrame held free reaches s f u f''
       leaves_join join {s} {t} {u} {f} {f'} {f''} p q = record {
         inner = join s t u p.inner q.inner;
@@ -124,6 +123,6 @@ module _ {S : Type 0} {held : S → List ℕ} where
             q.keeps_free g j n d (p.keeps_free g' i (j + n) c (subst (λ m. free s m) z h));
       }
 
-      -- Two proofs of what pushes leave are one.
+      -- Two proofs of what pushes leave are equal.
       pub leaves_prop : ((s t : S) → IsProp (reaches s t)) → ((s : S) (n : ℕ) → IsProp (free s n)) → (s : S) (f : Bool) (t : S) (g : Bool) → IsProp (LeavesFrame held free reaches s f t g)
       leaves_prop p q s f t g = hlevel (p, q, le_prop, Bool-set)

@@ -4,7 +4,7 @@ ghost use Rattle.std.specs.Prelude.{◌≡◌, ℕ, ◌+◌, ◌<◌, List, [], 
 ghost use Rattle.std.specs.Prelude.{IfErr, OnOk, OnErr, IsOk, IsTrue, IsErrOf};
 ghost use Rattle.postcard_cobs.specs.Groups.{made};
 ghost use Rattle.postcard_ser_cobs.specs.Framing.{HoldsOpen, HasFrameRoom, LeavesFrame};
-ghost use Rattle.postcard_ser_flavors.specs.Flavor.{Begins};
+ghost use Rattle.postcard_ser_flavors.specs.Flavor.{AppendsFront};
 
 use crate::steps::{push_one, set_code, take_step};
 use postcard_cobs::EncoderState;
@@ -16,23 +16,25 @@ mod runs;
 /// Encodes the bytes that it takes by COBS, and writes the frame into a storage, after the bytes
 /// that the storage already holds.
 ///
-/// Data of `n` bytes becomes a frame of at most `n + n / 254 + 2` bytes, its sentinel among them.
-/// While the frame is open, the storage holds what it held before and then the frame without its
-/// last code byte and its sentinel; `finalize` writes both.
+/// Data of `n` bytes becomes a frame of at most `n + n / 254 + 2` bytes, its sentinel included.
+/// While the frame is open, the storage holds what it held before, followed by the frame without
+/// its sentinel, in which the last code byte is still to be set; `finalize` sets it and writes the
+/// sentinel.
 ///
 /// # Errors
 ///
-/// Each call fails with `SerializeBufferFull` alone: where the storage fails, by whatever error,
-/// and where the frame would have more bytes than a `usize` counts. A `Cobs` that has failed once
-/// fails at every further byte and at `finalize`, so that no frame is closed that lacks bytes. The
-/// `Cobs` of the Rust crate goes on.
+/// Each call fails with `SerializeBufferFull` and no other error: if the storage fails, by whatever
+/// error, and if the frame would have more bytes than a `usize` counts. A `Cobs` that has failed
+/// once fails at every further byte and at `finalize`, so that no frame is closed that lacks bytes.
+/// The `Cobs` of the Rust crate goes on.
 #[derive(Drop)]
 pub struct Cobs<B: Storage> {
     storage: B,
-    // The number of bytes that the storage held before the frame, and so the place of its first.
+    // The number of bytes that the storage held before the frame: the place of the frame's first
+    // byte.
     start: usize,
     encoder: EncoderState,
-    // Whether a byte was refused. The storage may then hold a part of what was asked for.
+    // Whether a byte was refused. The storage may then hold a part of what it was asked to write.
     failed: bool,
     ghost stands: { ∥ (IsFalse failed → (before : List ℕ) × (d : List ℕ)
         × HoldsOpen B.held storage start encoder failed before d) ∥₁ },
@@ -44,10 +46,10 @@ impl<B: Storage + Drop> Cobs<B> {
     ///
     /// # Errors
     ///
-    /// Fails with `SerializeBufferFull` where the storage has no room for a byte. The storage is
+    /// Fails with `SerializeBufferFull` if the storage has no room for one byte. The storage is
     /// then dropped; [`open`](Cobs::open) keeps it.
     pub fn try_new(bee: B) -> Result<Cobs<B>>
-        ensures opens_behind_held { IfOk result (λ c.
+        ensures opens_after_held { IfOk result (λ c.
             HoldsOpen B.held c.storage c.start c.encoder c.failed (B.held bee) []) }
         ensures leaves { IfOk result (λ c. B.reaches bee c.storage) }
         ensures keeps_free { IfOk result
@@ -63,12 +65,12 @@ impl<B: Storage + Drop> Cobs<B> {
     }
 
     /// Opens a frame as [`try_new`](Cobs::try_new) does, for a caller that wants its storage back
-    /// whatever happens. The Rust crate has no such call.
+    /// in any case. The Rust crate has no such call.
     ///
-    /// If the storage has no room for a byte, the `Cobs` has failed: each byte pushed and
+    /// If the storage has no room for one byte, the `Cobs` has failed: each byte pushed and
     /// [`close`](Cobs::close) fail with `SerializeBufferFull`.
     pub fn open(storage: B) -> Cobs<B>
-        ensures opens_behind_held { IsFalse result.failed → HoldsOpen B.held result.storage
+        ensures opens_after_held { IsFalse result.failed → HoldsOpen B.held result.storage
             result.start result.encoder result.failed (B.held storage) [] }
         ensures leaves { B.reaches storage result.storage }
         ensures keeps_free { IsFalse result.failed
@@ -87,14 +89,14 @@ impl<B: Storage + Drop> Cobs<B> {
     }
 
     /// Closes the frame with its last code byte and the sentinel, and returns the storage, which
-    /// then holds what it held before the frame and then the whole frame. The Rust crate has no
+    /// then holds what it held before the frame, followed by the whole frame. The Rust crate has no
     /// such call.
     ///
     /// # Errors
     ///
-    /// The second part is `SerializeBufferFull` where the storage has no room for the sentinel, and
-    /// after any earlier failure. The storage then holds what it held before the frame and then
-    /// part of a frame.
+    /// The second part is `SerializeBufferFull` if the storage has no room for the sentinel, and
+    /// after any earlier failure. A storage of `postcard_ser_flavors` then holds what it held
+    /// before the frame, followed by part of a frame.
     pub fn close(self) -> (B, Result<()>)
         ensures closes { OnOk result.1 ((before d : List ℕ)
             → HoldsOpen B.held self.storage self.start self.encoder self.failed before d
@@ -122,8 +124,8 @@ impl<B: Storage + Drop> Cobs<B> {
         (storage, closed)
     }
 
-    /// Gives the frame up, and returns the storage with what it holds: what it held before the
-    /// frame, and then part of a frame, with no sentinel. The Rust crate has no such call.
+    /// Gives up the frame, and returns the storage as it is: with what it held before the frame,
+    /// followed by part of a frame, with no sentinel. The Rust crate has no such call.
     pub fn into_storage(self) -> B
         ensures { result ≡ self.storage }
     {
@@ -144,7 +146,7 @@ impl<B: Storage + Drop> Flavor for Cobs<B> {
 
     ghost room = { λ s x. HasFrameRoom B.held B.free s.storage s.start s.encoder s.failed x };
 
-    // Refused, a byte may have set a code or pushed a part of what the encoder asked for.
+    // A byte that is refused may have set a code, or pushed a part of what the encoder returned.
     ghost tidy = { ⊥ };
 
     ghost reaches = { λ s t.
@@ -171,15 +173,15 @@ impl<B: Storage + Drop> Flavor for Cobs<B> {
     ///
     /// # Errors
     ///
-    /// Fails with `SerializeBufferFull` where the storage has no room for what the frame grows by,
-    /// 1 or 2 bytes, where the frame would get too long to count, and after any earlier failure.
+    /// Fails with `SerializeBufferFull` if the storage has no room for what the frame grows by, 1
+    /// or 2 bytes, if the frame would get too long to count, and after any earlier failure.
     #[inline(always)]
     fn try_push(&mut self, byte: u8) -> Result<()>
         ensures appends { OnOk result
             (⟦<Cobs<B> as Flavor>⟧.appended self.old (byte ∷ []) self.new) }
         ensures has_room { ⟦<Cobs<B> as Flavor>⟧.room self.old (byte ∷ []) → IsOk result }
         ensures refused { OnErr result (⟦<Cobs<B> as Flavor>⟧.tidy
-            → Begins ⟦<Cobs<B> as Flavor>⟧.appended self.old (byte ∷ []) self.new) }
+            → AppendsFront ⟦<Cobs<B> as Flavor>⟧.appended self.old (byte ∷ []) self.new) }
         ensures leaves { ⟦<Cobs<B> as Flavor>⟧.reaches self.old self.new }
         ensures stays_refused { IsTrue self.old.failed → IsErrOf result Error.SerializeBufferFull }
         ensures remembers_refusal { OnErr result (IsTrue self.new.failed) }
@@ -203,15 +205,15 @@ impl<B: Storage + Drop> Flavor for Cobs<B> {
     ///
     /// # Errors
     ///
-    /// Fails with `SerializeBufferFull` where the storage has no room for what the frame grows by,
-    /// where the frame would get too long to count, and, unless `bytes` is empty, after any earlier
+    /// Fails with `SerializeBufferFull` if the storage has no room for what the frame grows by, if
+    /// the frame would get too long to count, and, unless `bytes` is empty, after any earlier
     /// failure.
     fn try_extend(&mut self, bytes: &[u8]) -> Result<()>
         ensures appends { OnOk result
             (⟦<Cobs<B> as Flavor>⟧.appended self.old bytes.now self.new) }
         ensures has_room { ⟦<Cobs<B> as Flavor>⟧.room self.old bytes.now → IsOk result }
         ensures refused { OnErr result (⟦<Cobs<B> as Flavor>⟧.tidy
-            → Begins ⟦<Cobs<B> as Flavor>⟧.appended self.old bytes.now self.new) }
+            → AppendsFront ⟦<Cobs<B> as Flavor>⟧.appended self.old bytes.now self.new) }
         ensures leaves { ⟦<Cobs<B> as Flavor>⟧.reaches self.old self.new }
         ensures stays_refused { IsTrue self.old.failed → 0 < length bytes.now
             → IsErrOf result Error.SerializeBufferFull }
@@ -226,13 +228,12 @@ impl<B: Storage + Drop> Flavor for Cobs<B> {
     }
 
     /// Closes the frame with its last code byte and the sentinel, and returns the output of the
-    /// storage, which then holds what it held before the frame and then the whole frame.
+    /// storage, which then holds what it held before the frame, followed by the whole frame.
     ///
     /// # Errors
     ///
-    /// Fails with `SerializeBufferFull` where the storage has no room for the sentinel, where the
-    /// storage's own `finalize` fails, and after any earlier failure. What the storage holds is
-    /// then dropped.
+    /// Fails with `SerializeBufferFull` if the storage has no room for the sentinel, if the
+    /// storage's own `finalize` fails, and after any earlier failure. The storage is then dropped.
     fn finalize(self) -> Result<<B as Flavor>::Output>
         ensures gives { IfOk result (λ output. ⟦<Cobs<B> as Flavor>⟧.finishes self output) }
         ensures closes { ⟦<Cobs<B> as Flavor>⟧.room self [] → IsOk result }

@@ -1,18 +1,18 @@
 //! Frames: the flavor [`Cobs`] encodes the bytes that it takes by COBS, and writes the frame into a
-//! storage: a `Slice`, an `HVec`, an `AllocVec`, or one of your own.
+//! storage: a `Slice`, an `HVec`, an `AllocVec`, or a user's own.
 //!
 //! COBS (Cheshire and Baker 1999) turns any data into a frame whose one zero is its last byte, the
-//! sentinel, so that a receiver finds where each frame ends. The data is cut into groups, and in
-//! front of each group is its code byte, which is the number of its bytes plus one:
+//! sentinel, so that a receiver finds where each frame ends. The data is cut into groups, and
+//! before each group is its code byte, which is the number of its bytes plus one:
 //!
 //! ```text
 //! data        01  00  20 30
 //! frame   02  01  03  20 30  00
 //! ```
 //!
-//! A code byte is known only where its group ends, and so the flavor goes back and sets it. It
-//! counts its places from the first byte of the frame, and therefore a frame can be written after
-//! bytes that the storage already holds:
+//! A code byte is known only at the end of its group, so the flavor goes back and sets it. It
+//! counts places from the first byte of the frame, so a frame can be written after bytes that the
+//! storage already holds:
 //!
 //! ```text
 //! let mut frame = Cobs::try_new(AllocVec::from_vec(vec))?;
@@ -21,7 +21,7 @@
 //! ```
 //!
 //! The contracts speak of frames by the definitions of `postcard_cobs`: `made d` is the frame of
-//! the data `d`. To be read in this order:
+//! the data `d`. In reading order:
 //! - `cobs`: the flavor, and in `cobs/runs` how bytes are taken many at once.
 //! - `steps`: what a storage is asked to do.
 #![tactic(auto)]

@@ -9,7 +9,7 @@ use postcard_cobs::{EncoderState, PushResult};
 use postcard_ser_flavors::{Flavor, Storage};
 use postcard_wire::{Error, Result};
 
-/// Appends a byte. Fails with `SerializeBufferFull` where the storage fails, by whatever error.
+/// Appends a byte. Fails with `SerializeBufferFull` if the storage fails, by whatever error.
 pub(crate) fn push_one<B: Storage>(storage: &mut B, byte: u8) -> Result<()>
     ensures appends { OnOk result (B.held storage.new ≡ B.held storage.old ++ byte ∷ []) }
     ensures has_room { B.free storage.old 1 → IsOk result }
@@ -24,8 +24,8 @@ pub(crate) fn push_one<B: Storage>(storage: &mut B, byte: u8) -> Result<()>
     }
 }
 
-/// Appends bytes in one piece. Fails with `SerializeBufferFull` where the storage fails, by
-/// whatever error.
+/// Appends bytes in one piece. Fails with `SerializeBufferFull` if the storage fails, by whatever
+/// error.
 pub(crate) fn push_piece<B: Storage>(storage: &mut B, bytes: &[u8]) -> Result<()>
     ensures appends { OnOk result (B.held storage.new ≡ B.held storage.old ++ bytes.now) }
     ensures has_room { B.free storage.old (length bytes.now) → IsOk result }
@@ -40,8 +40,8 @@ pub(crate) fn push_piece<B: Storage>(storage: &mut B, bytes: &[u8]) -> Result<()
     }
 }
 
-/// Sets a code byte at a place that is counted from the first byte of the frame, which is at
-/// the place `start` of the storage.
+/// Sets a code byte at a place that is counted from the first byte of the frame, which is at the
+/// place `start` of the storage.
 pub(crate) fn set_code<B: Storage>(storage: &mut B, start: usize, place: usize, code: u8)
     requires { start + place < length (B.held storage.old) }
     ensures sets { B.held storage.new ≡ slice_set (B.held storage.old) (start + place) code }
@@ -53,11 +53,11 @@ pub(crate) fn set_code<B: Storage>(storage: &mut B, start: usize, place: usize, 
     storage.set(start + place, code);
 }
 
-/// Takes a piece of data whose bytes the storage holds already, as its last, behind an open frame:
+/// Takes a piece of data whose bytes the storage already holds, as its last, after an open frame:
 /// sets the code of each group that a zero of the piece ends. The zero is then the place of the
 /// next code. Returns the state of the encoder after the piece.
 ///
-/// The piece is too short to make a group full, and the frame with it can be counted.
+/// The piece must be too short to make a group full, and the frame with it must be countable.
 #[inline(always)]
 pub(crate) fn set_codes<B: Storage>(
     storage: &mut B,
@@ -85,8 +85,8 @@ pub(crate) fn set_codes<B: Storage>(
     encoder
 }
 
-/// Does what the encoder asks for. Fails with `SerializeBufferFull` where the storage fails; of two
-/// bytes the first may then be in.
+/// Does what the encoder returned for a byte. Fails with `SerializeBufferFull` if the storage
+/// fails; of two bytes the first may then be appended.
 pub(crate) fn take_step<B: Storage>(storage: &mut B, start: usize, step: PushResult) -> Result<()>
     requires { SetsBelow start (length (B.held storage.old)) step }
     ensures changes { OnOk result

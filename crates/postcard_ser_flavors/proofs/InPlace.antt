@@ -1,4 +1,4 @@
--- A number's digits written over the front of what is free.
+-- The digits of a number written over the front of the free bytes.
 use Rattle.std.proofs.Common.{◌≡◌, ℕ, ◌+◌, ◌-◌, ◌<◌, ◌≤◌, ◌^◌, List, [], ◌++◌, length, take, drop, sym, ap, ◌∙◌, append-nil, arith}
 use Rattle.std.proofs.lemmas.List.{length-take-le, length-drop, take_all, take-append-le, drop-append-le, drop-drop}
 use Rattle.std.proofs.Math.ListN.{drop_of_length-le}
@@ -6,15 +6,16 @@ use Rattle.std.proofs.Math.Seq.{take-append-add, drop-append-add}
 use Rattle.postcard_wire.specs.Number.{digits}
 use Rattle.postcard_wire.proofs.Writing.{few_64}
 
--- All of what is free.
+-- The free bytes are all bytes from their place on.
 all_free : (pos : ℕ) (all : List ℕ) → take (length all - pos) (drop pos all) ≡ drop pos all
 all_free pos all = take_all (length all - pos) (drop pos all) (omega (arith, length-drop pos all))
 
--- Where ten bytes are free, the digits of any number of 64 bits fit.
+-- If ten bytes are free, the digits of any number of 64 bits fit.
 pub fits_here : (n pos : ℕ) (all : List ℕ) → n < 2 ^ 64 → 10 ≤ length all - pos → length (digits n) ≤ length (take (length all - pos) (drop pos all))
 fits_here n pos all h r = rw (all_free pos all) (omega (arith, length-drop pos all, few_64 n h))
 
--- Over the front of what is free k bytes are written, which are d; held are count bytes of the buffer.
+-- Here k bytes, which are d, are written over the front of the free bytes, and count bytes of the
+-- buffer were held.
 module _ (pos k : ℕ) (all out buffer d : List ℕ) (count : ℕ) (within : pos ≤ length all) (few : k ≤ length out) (same : all ≡ buffer) (place : pos ≡ count) (written : take k out ≡ d) where
   abbrev pub after : List ℕ
   after = take pos all ++ (out ++ drop (length all - pos) (drop pos all))
@@ -22,7 +23,7 @@ module _ (pos k : ℕ) (all out buffer d : List ℕ) (count : ℕ) (within : pos
   long : length (take pos all) ≡ pos
   long = length-take-le pos all within
 
-  -- What is held then.
+  -- The bytes then held are those held before, followed by d.
   pub held_here : take (pos + k) after ≡ take count buffer ++ d
   held_here =
       let post = drop (length all - pos) (drop pos all) in
@@ -30,7 +31,7 @@ module _ (pos k : ℕ) (all out buffer d : List ℕ) (count : ℕ) (within : pos
       let f : take k (out ++ post) ≡ take k out = take-append-le k out post few in
       (rw long at e) ∙ cc
 
-  -- What is behind stays.
+  -- The bytes after those written are unchanged.
   pub behind_here : drop k out ≡ drop k (take (length all - pos) (drop pos all)) → drop (pos + k) after ≡ drop (pos + k) buffer
   behind_here stays =
       let post = drop (length all - pos) (drop pos all) in
@@ -42,7 +43,7 @@ module _ (pos k : ℕ) (all out buffer d : List ℕ) (count : ℕ) (within : pos
       let j : drop k (drop pos all) ≡ drop (pos + k) all = drop-drop k pos all in
       (rw long at e) ∙ cc
 
-  -- And so what is free then.
+  -- The bytes then free are those free before, without as many as d has.
   pub free_here : drop k out ≡ drop k (take (length all - pos) (drop pos all)) → drop (pos + k) after ≡ drop (length d) (drop count buffer)
   free_here stays =
       let n : length d ≡ k = ap length (sym written) ∙ length-take-le k out few in

@@ -3,11 +3,11 @@ use Rattle.std.proofs.Common.{◌≡◌, ℕ, ◌+◌, ◌^◌, ◌<◌, ◌≤�
 use Rattle.std.specs.Coded.{le_prop}
 use Rattle.postcard_ser_flavors.specs.Flavor.{IsFlavor}
 
--- n counts the bytes x behind those that m counts.
+-- The count n is the count m and the number of the bytes x.
 abbrev pub Counts : ℕ → List ℕ → ℕ → Type 0
 Counts m x n = n ≡ m + length x
 
--- With x the count still fits a `usize`.
+-- The count still fits a `usize` with x.
 abbrev pub CanCount : ℕ → List ℕ → Type 0
 CanCount m x = m + length x < 2 ^ 64
 
@@ -15,7 +15,7 @@ CanCount m x = m + length x < 2 ^ 64
 abbrev pub Rises : ℕ → ℕ → Type 0
 Rises m n = m ≤ n
 
--- Counting is a flavor.
+-- The counting flavor is lawful.
 pub count_lawful : IsFlavor Counts CanCount Rises
 count_lawful = record {
   appended_none = λ m. omega arith;

@@ -1,17 +1,18 @@
--- The words of a writing flavor, in terms of those that it tells (own definitions; the Rust crate leaves
--- them to its documentation).
+-- What the words of a writing flavor mean and which laws they keep (own definitions; the Rust crate
+-- leaves them to its documentation).
 use Rattle.std.specs.Prelude.{◌≡◌, ℕ, List, [], ◌++◌}
 
--- t is s with a beginning of xs appended, which may be none of it or all.
-pub record Begins {S : Type 0} (appended : S → List ℕ → S → Type 0) (s : S) (xs : List ℕ) (t : S) : Type 0 where
+-- State t is state s with a beginning of xs appended, which may be none of it or all.
+pub record AppendsFront {S : Type 0} (appended : S → List ℕ → S → Type 0) (s : S) (xs : List ℕ) (t : S) : Type 0 where
   pub front : List ℕ
   pub rest : List ℕ
   pub joins : xs ≡ front ++ rest
   pub given : appended s front t
 
--- Nothing appended changes nothing, and what is appended joins. Room for a list is room for its front,
--- and for its rest once the front is in. No push reaches the same state, pushes in a row reach the last,
--- and two proofs that a state is reached are one.
+-- The laws of a flavor. Appending nothing changes nothing, and two lists appended are their join
+-- appended. Room for a list is room for its front, and for its rest once the front is appended. No
+-- push reaches the same state, pushes in a row reach the last state, and two proofs that a state is
+-- reached are equal.
 pub record IsFlavor {S : Type 0} (appended : S → List ℕ → S → Type 0) (room : S → List ℕ → Type 0) (reaches : S → S → Type 0) : Type 0 where
   pub appended_none : (s : S) → appended s [] s
   pub appended_join : (s t u : S) (x y : List ℕ) → appended s x t → appended t y u → appended s (x ++ y) u

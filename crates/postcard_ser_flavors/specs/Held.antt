@@ -1,5 +1,5 @@
 -- What a contract sees of the flavors that hold a list of bytes, and why they are lawful. The
--- lemmas stand here since ghost members cite them.
+-- lemmas are here since ghost members cite them.
 use Rattle.std.proofs.Common.{◌≡◌, ℕ, ◌+◌, ◌<◌, ◌≤◌, List, ◌++◌, length, sym, ap, append-nil, length-append, arith}
 use Rattle.std.specs.Coded.{le_prop}
 use Rattle.std.specs.Prelude.{⊤, slice_index}
@@ -8,47 +8,47 @@ use Rattle.postcard_ser_flavors.specs.SliceLaws.{held_join, fits_front, fits_res
 use Rattle.postcard_ser_flavors.specs.Storage.{IsFree, IsStorage, IsIndexed}
 
 module _ {S : Type 0} (held : S → List ℕ) where
-  -- t holds what s did, and then x.
+  -- State t holds what s did, followed by x.
   abbrev pub Appended : S → List ℕ → S → Type 0
   Appended s x t = held t ≡ held s ++ x
 
-  -- With x it holds at most this many bytes.
+  -- With x the flavor holds at most `capacity` bytes.
   abbrev pub HasRoom : ℕ → S → List ℕ → Type 0
   HasRoom capacity s x = length (held s) + length x ≤ capacity
 
-  -- With n bytes more it holds at most this many.
+  -- With n more bytes the flavor holds at most `capacity` bytes.
   abbrev pub CanTake : ℕ → S → ℕ → Type 0
   CanTake capacity s n = length (held s) + n ≤ capacity
 
--- Room is never told.
+-- The flavor never promises room.
 abbrev pub NoRoom : {S : Type 0} → S → List ℕ → Type 0
 NoRoom s x = ⊥
 
--- No byte is surely free.
+-- The storage never promises that bytes are free, not even 0.
 abbrev pub NoneFree : {S : Type 0} → S → ℕ → Type 0
 NoneFree s n = ⊥
 
--- Where none is free, none of fewer is.
+-- A storage that never promises free bytes keeps the laws of `free`.
 pub none_free : {S : Type 0} → IsFree (λ (s : S) n. NoneFree s n)
 none_free = record {
   free_fewer = λ s m n h. h;
   free_prop = λ s n. hlevel tt;
 }
 
--- Pushes may leave whatever they like.
+-- Pushes may leave any state.
 abbrev pub AnyReached : {S : Type 0} → S → S → Type 0
 AnyReached s t = ⊤
 
--- Fewer bytes fit where more do.
+-- If more bytes fit, so do fewer.
 pub fewer_fit : (k m n capacity : ℕ) → k + (m + n) ≤ capacity → k + m ≤ capacity
 fewer_fit k m n capacity h = omega arith
 
--- Once x is in, the bytes that fitted behind it still do.
+-- Once x is appended, the bytes that fitted after it still do.
 pub rest_fits : (h i x : List ℕ) (n capacity : ℕ) → i ≡ h ++ x → length h + (length x + n) ≤ capacity → length i + n ≤ capacity
 rest_fits h i x n capacity e r = omega (arith, ap length e, length-append h x)
 
 module _ {S : Type 0} (held : S → List ℕ) where
-  -- What grows by the allocator is a flavor.
+  -- A flavor that grows by the allocator is lawful.
   pub grows_lawful : IsFlavor (Appended held) NoRoom AnyReached
   grows_lawful = record {
     appended_none = λ s. sym (append-nil (held s));
@@ -60,7 +60,7 @@ module _ {S : Type 0} (held : S → List ℕ) where
     reaches_prop = λ s t. hlevel tt;
   }
 
-  -- What grows by the allocator is a storage.
+  -- A flavor that grows by the allocator is a lawful storage.
   pub grows_storage : IsStorage (Appended held) NoRoom AnyReached held NoneFree
   grows_storage = record {
     held_more = λ s t x p. p;
@@ -68,7 +68,7 @@ module _ {S : Type 0} (held : S → List ℕ) where
     free_rest = λ s t x n h p v. h;
   }
 
-  -- What holds up to a capacity is a flavor.
+  -- A flavor that holds up to a capacity is lawful.
   pub fixed_lawful : (capacity : ℕ) → IsFlavor (Appended held) (HasRoom held capacity) AnyReached
   fixed_lawful capacity = record {
     appended_none = λ s. sym (append-nil (held s));
@@ -80,14 +80,14 @@ module _ {S : Type 0} (held : S → List ℕ) where
     reaches_prop = λ s t. hlevel tt;
   }
 
-  -- Up to a capacity, where bytes are free, fewer are.
+  -- The free bytes of a flavor that holds up to a capacity keep the laws of `free`.
   pub fixed_free : (capacity : ℕ) → IsFree (CanTake held capacity)
   fixed_free capacity = record {
     free_fewer = λ s m n h. fewer_fit (length (held s)) m n capacity h;
     free_prop = λ s n. hlevel le_prop;
   }
 
-  -- What holds up to a capacity is a storage.
+  -- A flavor that holds up to a capacity is a lawful storage.
   pub fixed_storage : (capacity : ℕ) → IsStorage (Appended held) (HasRoom held capacity) AnyReached held (CanTake held capacity)
   fixed_storage capacity = record {
     held_more = λ s t x p. p;
@@ -95,7 +95,7 @@ module _ {S : Type 0} (held : S → List ℕ) where
     free_rest = λ s t x n h p v. rest_fits (held s) (held t) x n capacity p h;
   }
 
--- A list is indexed where it has a place.
+-- A list may be read at each of its places, and shows the byte there.
 pub list_indexed : IsIndexed (λ (s : List ℕ) place. place < length s) (λ s place byte. byte ≡ slice_index s place) (λ s. s)
 list_indexed = record {
   can_read = λ s place h. h;

@@ -1,3 +1,4 @@
+-- The definitions that contracts cite, and the lemmas that ghost members cite.
 pub mod Counted
 pub mod Flavor
 pub mod Held
@@ -5,4 +6,4 @@ pub mod Slice
 pub mod SliceLaws
 pub mod SliceStorage
 pub mod Storage
-pub mod Told
+pub mod WriterLaws

@@ -1,4 +1,4 @@
--- Why a slice that is filled is a storage. The lemmas stand here since ghost members cite them.
+-- Why a slice that is filled is a storage. The lemmas are here since ghost members cite them.
 use Rattle.std.proofs.Common.{◌≡◌, ℕ, ◌+◌, ◌<◌, ◌≤◌, List, length, take, sym, ◌∙◌, length-take, arith}
 use Rattle.std.proofs.lemmas.List.{get_or-take}
 use Rattle.std.specs.Coded.{le_prop}
@@ -7,30 +7,30 @@ use Rattle.postcard_ser_flavors.specs.Held.{fewer_fit, rest_fits}
 use Rattle.postcard_ser_flavors.specs.Slice.{Written, held, Appended, HasRoom, Reaches}
 use Rattle.postcard_ser_flavors.specs.Storage.{IsFree, IsStorage, IsIndexed}
 
--- Behind the bytes held there are at least n.
-abbrev pub CanTake : Written → ℕ → Type 0
-CanTake s n = length (held s) + n ≤ length s.buffer
+-- After the bytes held there are at least n.
+abbrev pub HasFree : Written → ℕ → Type 0
+HasFree s n = length (held s) + n ≤ length s.buffer
 
--- Where bytes are free, fewer are.
-pub slice_free : IsFree CanTake
+-- The free bytes of a slice keep the laws of `free`.
+pub slice_free : IsFree HasFree
 slice_free = record {
   free_fewer = λ s m n h. fewer_fit (length (held s)) m n (length s.buffer) h;
   free_prop = λ s n. hlevel le_prop;
 }
 
--- The slice is a storage.
-pub slice_storage : IsStorage Appended HasRoom Reaches held CanTake
+-- A slice that is filled is a lawful storage.
+pub slice_storage : IsStorage Appended HasRoom Reaches held HasFree
 slice_storage = record {
   held_more = λ s t x p. p;
   free_room = λ s x h. h;
   free_rest = λ s t x n h p v. rw v.same_length (rest_fits (held s) (held t) x n (length s.buffer) p h);
 }
 
--- A place in the front of a list is below the front's end.
+-- A place in a front of n elements is below n.
 pub below : (n i : ℕ) (xs : List ℕ) → i < length (take n xs) → i < n
 below n i xs h = omega (arith, length-take n xs)
 
--- A place in the front of a list is one of the list.
+-- A place in a front of a list is a place of the list.
 pub inside : (n i : ℕ) (xs : List ℕ) → i < length (take n xs) → i < length xs
 inside n i xs h = omega (arith, length-take n xs)
 

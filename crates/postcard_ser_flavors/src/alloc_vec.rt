@@ -1,8 +1,11 @@
 //! The flavor that appends to a growing vector.
 
-ghost use Rattle.std.specs.Prelude.{◌≡◌, ◌+◌, ◌<◌, [], ◌∷◌, ◌++◌, length, slice_index, slice_set, ⊤, IsOk, OnOk, OnErr, IfOk, IfErr};
-ghost use Rattle.postcard_ser_flavors.specs.Flavor.{Begins};
-ghost use Rattle.postcard_ser_flavors.specs.Held.{Appended, NoRoom, NoneFree, AnyReached, grows_lawful, none_free, grows_storage, list_indexed};
+ghost use Rattle.std.specs.Prelude.{◌≡◌, ◌+◌, ◌<◌, [], ◌∷◌, ◌++◌, length, slice_index, slice_set};
+ghost use Rattle.std.specs.Prelude.{⊤, IsOk, OnOk, OnErr, IfOk, IfErr};
+ghost use Rattle.postcard_ser_flavors.specs.Flavor.{AppendsFront};
+ghost use Rattle.postcard_ser_flavors.specs.Held.{Appended, NoRoom, NoneFree, AnyReached};
+ghost use Rattle.postcard_ser_flavors.specs.Held.{grows_lawful, none_free, grows_storage};
+ghost use Rattle.postcard_ser_flavors.specs.Held.{list_indexed};
 
 use crate::flavor::Flavor;
 use crate::storage::Storage;
@@ -12,7 +15,7 @@ use std::marker::Model;
 use std::ops::{Index, IndexMut};
 
 /// Appends to a vector that grows by the allocator, to a multiple of its capacity at a time. A
-/// piece is written whole, in one copy, or not at all. It fails only if an allocation fails.
+/// piece is written whole, in one copy, or not at all. A call fails only if an allocation fails.
 ///
 /// A contract sees the bytes that it holds.
 #[derive(Drop)]
@@ -20,7 +23,7 @@ pub struct AllocVec {
     vec: Vec<u8>,
 }
 
-/// The same under the name that users of `std` know.
+/// [`AllocVec`] under the name that users of `std` know.
 pub type StdVec = AllocVec;
 
 impl Model for AllocVec {
@@ -41,7 +44,8 @@ impl AllocVec {
         }
     }
 
-    /// Starts with the bytes of `vec`, and appends to them. Nothing is allocated or copied.
+    /// Returns a flavor that holds the bytes of `vec`, and appends to them. Nothing is allocated or
+    /// copied.
     pub fn from_vec(vec: Vec<u8>) -> AllocVec
         ensures { result ≡ vec.items }
     {
@@ -71,9 +75,9 @@ impl Flavor for AllocVec {
             (⟦<AllocVec as Flavor>⟧.appended self.old (byte ∷ []) self.new) }
         ensures has_room { ⟦<AllocVec as Flavor>⟧.room self.old (byte ∷ []) → IsOk result }
         ensures refused { OnErr result (⟦<AllocVec as Flavor>⟧.tidy
-            → Begins ⟦<AllocVec as Flavor>⟧.appended self.old (byte ∷ []) self.new) }
+            → AppendsFront ⟦<AllocVec as Flavor>⟧.appended self.old (byte ∷ []) self.new) }
         ensures leaves { ⟦<AllocVec as Flavor>⟧.reaches self.old self.new }
-        ensures full { IfErr result (λ e. e ≡ Error.SerializeBufferFull) }
+        ensures refuses_by_buffer_full { IfErr result (λ e. e ≡ Error.SerializeBufferFull) }
         ensures unchanged { OnErr result (self.new ≡ self.old) }
     {
         self.vec.push(byte).map_err(|_| Error::SerializeBufferFull)
@@ -86,9 +90,9 @@ impl Flavor for AllocVec {
             (⟦<AllocVec as Flavor>⟧.appended self.old bytes.now self.new) }
         ensures has_room { ⟦<AllocVec as Flavor>⟧.room self.old bytes.now → IsOk result }
         ensures refused { OnErr result (⟦<AllocVec as Flavor>⟧.tidy
-            → Begins ⟦<AllocVec as Flavor>⟧.appended self.old bytes.now self.new) }
+            → AppendsFront ⟦<AllocVec as Flavor>⟧.appended self.old bytes.now self.new) }
         ensures leaves { ⟦<AllocVec as Flavor>⟧.reaches self.old self.new }
-        ensures full { IfErr result (λ e. e ≡ Error.SerializeBufferFull) }
+        ensures refuses_by_buffer_full { IfErr result (λ e. e ≡ Error.SerializeBufferFull) }
         ensures unchanged { OnErr result (self.new ≡ self.old) }
     {
         self.vec
@@ -100,7 +104,7 @@ impl Flavor for AllocVec {
     fn finalize(self) -> Result<Vec<u8>>
         ensures gives { IfOk result (λ output. ⟦<AllocVec as Flavor>⟧.finishes self output) }
         ensures closes { ⟦<AllocVec as Flavor>⟧.room self [] → IsOk result }
-        ensures always { IsOk result }
+        ensures succeeds { IsOk result }
     {
         Ok(self.vec)
     }
@@ -113,7 +117,7 @@ impl Index<usize> for AllocVec {
 
     ghost index_gives = { λ s place byte. byte ≡ slice_index s place };
 
-    /// The byte at a place that is held, counted from 0.
+    /// Returns the byte at `place`, counted from 0, which must be held.
     fn index(&self, place: usize) -> &u8 {
         &self.vec[place]
     }
@@ -123,7 +127,8 @@ impl IndexMut<usize> for AllocVec {
     ghost use Rattle.std.specs.Borrow.{sem, Lends, u8 as byte_row};
     ghost use Rattle.postcard_ser_flavors.specs.contracts.alloc_vec.AllocVec.{the_row};
 
-    /// The byte at a place that is held, counted from 0, to be written. Nothing else changes.
+    /// Returns the byte at `place`, counted from 0, which must be held, to be changed. Nothing else
+    /// changes.
     fn index_mut(&mut self, place: usize) -> &mut u8
         requires { place < length self.old }
         ensures* writes_back { sem 𝓛
@@ -146,7 +151,8 @@ impl Storage for AllocVec {
         self.vec[place] = byte;
     }
 
-    /// Returns the number of bytes held, those of [`AllocVec::from_vec`] among them.
+    /// Returns the number of bytes held, those of the vector passed to [`AllocVec::from_vec`]
+    /// included.
     fn held_len(&self) -> usize {
         self.vec.len()
     }

@@ -1,7 +1,7 @@
-//! The flavor over what can be extended by bytes.
+//! The flavor that appends to a target, such as a vector.
 
 ghost use Rattle.std.specs.Prelude.{◌≡◌, ℕ, List, [], ◌∷◌, ◌++◌, ⊤, IsOk, OnOk, OnErr, IfOk, IfErr};
-ghost use Rattle.postcard_ser_flavors.specs.Flavor.{Begins};
+ghost use Rattle.postcard_ser_flavors.specs.Flavor.{AppendsFront};
 ghost use Rattle.postcard_ser_flavors.specs.Held.{Appended, NoRoom, AnyReached, grows_lawful};
 
 use crate::flavor::Flavor;
@@ -26,16 +26,16 @@ impl ExtendBytes for Vec<u8> {
     fn extend(&mut self, data: &[u8]) -> Result<()>
         ensures appends { OnOk result (self.new.items ≡ self.old.items ++ «data».now) }
         ensures unchanged { OnErr result (self.new.items ≡ self.old.items) }
-        ensures full { IfErr result (λ e. e ≡ Error.SerializeBufferFull) }
+        ensures refuses_by_buffer_full { IfErr result (λ e. e ≡ Error.SerializeBufferFull) }
     {
         self.extend_from_slice(data)
             .map_err(|_| Error::SerializeBufferFull)
     }
 }
 
-/// Appends each piece to what can be extended, and ends as that.
+/// Appends each piece to a target, which is also the output.
 ///
-/// A contract sees what is extended, as it is.
+/// A contract sees the target.
 #[derive(Drop)]
 pub struct ExtendFlavor<T: ExtendBytes> {
     target: T,
@@ -50,7 +50,7 @@ impl<T: ExtendBytes> Model for ExtendFlavor<T> {
 }
 
 impl<T: ExtendBytes + Drop> ExtendFlavor<T> {
-    /// Starts after what the target holds.
+    /// Returns a flavor that appends to what `target` holds.
     pub fn new(target: T) -> ExtendFlavor<T>
         ensures { result ≡ target }
     {
@@ -80,9 +80,9 @@ impl<T: ExtendBytes + Drop> Flavor for ExtendFlavor<T> {
             (⟦<ExtendFlavor<T> as Flavor>⟧.appended self.old (byte ∷ []) self.new) }
         ensures has_room { ⟦<ExtendFlavor<T> as Flavor>⟧.room self.old (byte ∷ []) → IsOk result }
         ensures refused { OnErr result (⟦<ExtendFlavor<T> as Flavor>⟧.tidy
-            → Begins ⟦<ExtendFlavor<T> as Flavor>⟧.appended self.old (byte ∷ []) self.new) }
+            → AppendsFront ⟦<ExtendFlavor<T> as Flavor>⟧.appended self.old (byte ∷ []) self.new) }
         ensures leaves { ⟦<ExtendFlavor<T> as Flavor>⟧.reaches self.old self.new }
-        ensures full { IfErr result (λ e. e ≡ Error.SerializeBufferFull) }
+        ensures refuses_by_buffer_full { IfErr result (λ e. e ≡ Error.SerializeBufferFull) }
         ensures unchanged { OnErr result (T.content self.new ≡ T.content self.old) }
     {
         self.try_extend(&[byte])
@@ -95,9 +95,9 @@ impl<T: ExtendBytes + Drop> Flavor for ExtendFlavor<T> {
             (⟦<ExtendFlavor<T> as Flavor>⟧.appended self.old bytes.now self.new) }
         ensures has_room { ⟦<ExtendFlavor<T> as Flavor>⟧.room self.old bytes.now → IsOk result }
         ensures refused { OnErr result (⟦<ExtendFlavor<T> as Flavor>⟧.tidy
-            → Begins ⟦<ExtendFlavor<T> as Flavor>⟧.appended self.old bytes.now self.new) }
+            → AppendsFront ⟦<ExtendFlavor<T> as Flavor>⟧.appended self.old bytes.now self.new) }
         ensures leaves { ⟦<ExtendFlavor<T> as Flavor>⟧.reaches self.old self.new }
-        ensures full { IfErr result (λ e. e ≡ Error.SerializeBufferFull) }
+        ensures refuses_by_buffer_full { IfErr result (λ e. e ≡ Error.SerializeBufferFull) }
         ensures unchanged { OnErr result (T.content self.new ≡ T.content self.old) }
     {
         self.target
@@ -109,7 +109,7 @@ impl<T: ExtendBytes + Drop> Flavor for ExtendFlavor<T> {
     fn finalize(self) -> Result<T>
         ensures gives { IfOk result (λ output. ⟦<ExtendFlavor<T> as Flavor>⟧.finishes self output) }
         ensures closes { ⟦<ExtendFlavor<T> as Flavor>⟧.room self [] → IsOk result }
-        ensures always { IsOk result }
+        ensures succeeds { IsOk result }
     {
         Ok(self.target)
     }

@@ -2,24 +2,24 @@
 
 ghost use Rattle.std.specs.Prelude.{ℕ, List, [], ◌∷◌, OnOk, OnErr, IfOk, IsOk};
 ghost use Rattle.postcard_wire.specs.Number.{digits};
-ghost use Rattle.postcard_ser_flavors.specs.Flavor.{Begins, IsFlavor};
+ghost use Rattle.postcard_ser_flavors.specs.Flavor.{AppendsFront, IsFlavor};
 
 use postcard_wire::Result;
 use postcard_wire::varint::{VARINT_MAX_64, varint_u64};
 
-/// A writing flavor: takes the bytes of a message, and ends as its output.
+/// A writing flavor: takes the bytes of a message, and returns its output at the end.
 ///
 /// An impl defines these members:
-/// - `appended old bytes new`: `new` holds what `old` did, and then these bytes. A flavor that holds no
-///   bytes says it of what it has instead, as a count.
+/// - `appended old bytes new`: `new` holds what `old` did, followed by these bytes. A flavor that
+///   holds no bytes says this of what it has instead, such as a count.
 /// - `room state bytes`: pushing these bytes succeeds, in whatever pieces. Room for no bytes says
 ///   that `finalize` succeeds.
 /// - `tidy`: a call that fails has appended a beginning of its bytes, or nothing.
 /// - `reaches old new`: calls that push may make `new` of `old`, also calls that fail.
-/// - `finishes last output`: the output of a flavor whose last state this is.
+/// - `finishes last output`: `output` is the output of a flavor whose last state is `last`.
 /// - `lawful`: what holds of these words in each flavor.
 pub trait Flavor {
-    /// What the flavor ends as.
+    /// The type of the output.
     type Output;
 
     ghost appended: { Self → List ℕ → Self → Type 0 };
@@ -35,18 +35,22 @@ pub trait Flavor {
     // Above the last function, so that a quote at a concrete type reaches it.
     ghost lawful: { IsFlavor appended room reaches };
 
-    /// Takes a byte.
+    /// Takes a byte. Succeeds if the flavor has `room` for it. May else fail with any error; a tidy
+    /// flavor has then appended the byte or nothing.
     fn try_push(&mut self, byte: u8) -> Result<()>
         ensures appends { OnOk result (appended self.old (byte ∷ []) self.new) }
         ensures has_room { room self.old (byte ∷ []) → IsOk result }
-        ensures refused { OnErr result (tidy → Begins appended self.old (byte ∷ []) self.new) }
+        ensures refused { OnErr result (tidy → AppendsFront appended self.old (byte
+            ∷ []) self.new) }
         ensures leaves { reaches self.old self.new };
 
-    /// Takes bytes in a row. A flavor that can take them at once overrides this.
+    /// Takes bytes in a row, by default one by one. A flavor that can take them at once overrides
+    /// this. Succeeds if the flavor has `room` for all. May else fail with any error; a tidy flavor
+    /// has then appended a beginning of the bytes or nothing.
     fn try_extend(&mut self, bytes: &[u8]) -> Result<()>
         ensures appends { OnOk result (appended self.old bytes.now self.new) }
         ensures has_room { room self.old bytes.now → IsOk result }
-        ensures refused { OnErr result (tidy → Begins appended self.old bytes.now self.new) }
+        ensures refused { OnErr result (tidy → AppendsFront appended self.old bytes.now self.new) }
         ensures leaves { reaches self.old self.new }
     {
         for byte in bytes {
@@ -55,19 +59,21 @@ pub trait Flavor {
         Ok(())
     }
 
-    /// Takes the varint of a number of at most 64 bits, 1 to 10 bytes. A flavor that can write it in
-    /// place overrides this.
+    /// Takes the varint of a number of at most 64 bits, 1 to 10 bytes. A flavor that can write it
+    /// in place overrides this. Succeeds if the flavor has `room` for it. May else fail with any
+    /// error; a tidy flavor has then appended a beginning of the varint or nothing.
     fn try_varint(&mut self, n: u64) -> Result<()>
         ensures appends { OnOk result (appended self.old (digits n) self.new) }
         ensures has_room { room self.old (digits n) → IsOk result }
-        ensures refused { OnErr result (tidy → Begins appended self.old (digits n) self.new) }
+        ensures refused { OnErr result (tidy → AppendsFront appended self.old (digits n) self.new) }
         ensures leaves { reaches self.old self.new }
     {
         let mut out = [0; VARINT_MAX_64];
         self.try_extend(varint_u64(n, &mut out))
     }
 
-    /// Ends the message, and returns the output.
+    /// Ends the message, and returns the output. Succeeds if the flavor has `room` for no bytes,
+    /// and may else fail with any error.
     fn finalize(self) -> Result<Self::Output>
         ensures gives { IfOk result (λ output. finishes self output) }
         ensures closes { room self [] → IsOk result };
@@ -79,7 +85,7 @@ mod tests {
     use crate::slice::Slice;
     use postcard_wire::Error;
 
-    /// Takes single bytes alone, as a user's flavor may, and hands them on.
+    /// Takes only single bytes, as a user's flavor may, and passes them on.
     #[derive(Drop)]
     struct Bytewise<F> {
         inner: F,

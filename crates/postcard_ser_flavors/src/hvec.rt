@@ -1,8 +1,11 @@
 //! The flavor that fills a vector of a fixed capacity.
 
-ghost use Rattle.std.specs.Prelude.{◌≡◌, ◌+◌, ◌≤◌, ◌<◌, ◌↔◌, [], ◌∷◌, ◌++◌, length, slice_index, slice_set, ⊤, IsOk, OnOk, OnErr, IfOk, IfErr};
-ghost use Rattle.postcard_ser_flavors.specs.Flavor.{Begins};
-ghost use Rattle.postcard_ser_flavors.specs.Held.{Appended, HasRoom, CanTake, AnyReached, fixed_lawful, fixed_free, fixed_storage, list_indexed};
+ghost use Rattle.std.specs.Prelude.{◌≡◌, ◌+◌, ◌≤◌, ◌<◌, ◌↔◌, [], ◌∷◌, ◌++◌, length, slice_index};
+ghost use Rattle.std.specs.Prelude.{slice_set, ⊤, IsOk, OnOk, OnErr, IfOk, IfErr};
+ghost use Rattle.postcard_ser_flavors.specs.Flavor.{AppendsFront};
+ghost use Rattle.postcard_ser_flavors.specs.Held.{Appended, HasRoom, CanTake, AnyReached};
+ghost use Rattle.postcard_ser_flavors.specs.Held.{fixed_lawful, fixed_free, fixed_storage};
+ghost use Rattle.postcard_ser_flavors.specs.Held.{list_indexed};
 ghost use Rattle.std.specs.Borrow.{sem, Lends, u8 as byte_row, unit as unit_row};
 ghost use Rattle.arrayvec.specs.Lends.{lends_item};
 
@@ -13,8 +16,8 @@ use postcard_wire::{Error, Result};
 use std::marker::Model;
 use std::ops::{Index, IndexMut};
 
-/// Appends to a vector with room for `B` bytes that lies in the value itself. A piece is written
-/// whole or not at all, and no memory is asked for.
+/// Appends to a vector with room for `B` bytes, which are in the value itself. A piece is written
+/// whole or not at all, and nothing is allocated.
 ///
 /// A contract sees the bytes that it holds.
 #[derive(Drop)]
@@ -72,10 +75,10 @@ impl<const B: usize> Flavor for HVec<B> {
             (⟦<HVec<B> as Flavor>⟧.appended self.old (byte ∷ []) self.new) }
         ensures has_room { ⟦<HVec<B> as Flavor>⟧.room self.old (byte ∷ []) → IsOk result }
         ensures refused { OnErr result (⟦<HVec<B> as Flavor>⟧.tidy
-            → Begins ⟦<HVec<B> as Flavor>⟧.appended self.old (byte ∷ []) self.new) }
+            → AppendsFront ⟦<HVec<B> as Flavor>⟧.appended self.old (byte ∷ []) self.new) }
         ensures leaves { ⟦<HVec<B> as Flavor>⟧.reaches self.old self.new }
         ensures fits { IsOk result ↔ (length self.old + 1 ≤ B) }
-        ensures full { IfErr result (λ e. e ≡ Error.SerializeBufferFull) }
+        ensures refuses_by_buffer_full { IfErr result (λ e. e ≡ Error.SerializeBufferFull) }
         ensures unchanged { OnErr result (self.new ≡ self.old) }
     {
         self.vec
@@ -89,10 +92,10 @@ impl<const B: usize> Flavor for HVec<B> {
         ensures appends { OnOk result (⟦<HVec<B> as Flavor>⟧.appended self.old bytes.now self.new) }
         ensures has_room { ⟦<HVec<B> as Flavor>⟧.room self.old bytes.now → IsOk result }
         ensures refused { OnErr result (⟦<HVec<B> as Flavor>⟧.tidy
-            → Begins ⟦<HVec<B> as Flavor>⟧.appended self.old bytes.now self.new) }
+            → AppendsFront ⟦<HVec<B> as Flavor>⟧.appended self.old bytes.now self.new) }
         ensures leaves { ⟦<HVec<B> as Flavor>⟧.reaches self.old self.new }
         ensures fits { IsOk result ↔ (length self.old + length bytes.now ≤ B) }
-        ensures full { IfErr result (λ e. e ≡ Error.SerializeBufferFull) }
+        ensures refuses_by_buffer_full { IfErr result (λ e. e ≡ Error.SerializeBufferFull) }
         ensures unchanged { OnErr result (self.new ≡ self.old) }
     {
         self.vec
@@ -104,7 +107,7 @@ impl<const B: usize> Flavor for HVec<B> {
     fn finalize(self) -> Result<ArrayVec<u8, B>>
         ensures gives { IfOk result (λ output. ⟦<HVec<B> as Flavor>⟧.finishes self.entry output) }
         ensures closes { ⟦<HVec<B> as Flavor>⟧.room self.entry [] → IsOk result }
-        ensures always { IsOk result }
+        ensures succeeds { IsOk result }
     {
         Ok(self.vec)
     }
@@ -117,13 +120,13 @@ impl<const B: usize> Index<usize> for HVec<B> {
 
     ghost index_gives = { λ s place byte. byte ≡ slice_index s place };
 
-    /// The byte at a place that is held, counted from 0.
+    /// Returns the byte at `place`, counted from 0, which must be held.
     fn index(&self, place: usize) -> &u8 {
         &self.vec[place]
     }
 }
 
-// The byte at a place of a vector, to be written.
+// Returns the byte at a place of a vector, to be changed.
 fn byte_at<const B: usize>(vec: &mut ArrayVec<u8, B>, place: usize) -> &mut u8
     requires { place < length vec.old.items }
     ensures* writes_back { sem 𝓛 (lends_item byte_row B.row unit_row vec.entry place result) }
@@ -138,7 +141,8 @@ fn byte_at<const B: usize>(vec: &mut ArrayVec<u8, B>, place: usize) -> &mut u8
 impl<const B: usize> IndexMut<usize> for HVec<B> {
     ghost use Rattle.postcard_ser_flavors.specs.contracts.hvec.HVec.{the_row};
 
-    /// The byte at a place that is held, counted from 0, to be written. Nothing else changes.
+    /// Returns the byte at `place`, counted from 0, which must be held, to be changed. Nothing else
+    /// changes.
     fn index_mut(&mut self, place: usize) -> &mut u8
         requires { place < length self.old }
         ensures* writes_back { sem 𝓛

@@ -1,10 +1,10 @@
-//! The flavor over a writer of `std`.
+//! The flavor that writes to a writer of `std`.
 
 ghost use Rattle.std.specs.Prelude.{◌≡◌, [], ◌∷◌, ⊤, IsOk, OnOk, OnErr, IfOk, IfErr};
 ghost use Rattle.std.specs.Io.KnownBytes.{Keeps};
-ghost use Rattle.postcard_ser_flavors.specs.Flavor.{Begins};
+ghost use Rattle.postcard_ser_flavors.specs.Flavor.{AppendsFront};
 ghost use Rattle.postcard_ser_flavors.specs.Held.{NoRoom, AnyReached};
-ghost use Rattle.postcard_ser_flavors.specs.Told.{Told, told_lawful};
+ghost use Rattle.postcard_ser_flavors.specs.WriterLaws.{AppendsKnown, writer_lawful};
 
 use crate::flavor::Flavor;
 use postcard_wire::{Error, Result};
@@ -29,7 +29,7 @@ impl<T: Write> Model for WriteFlavor<T> {
 }
 
 impl<T: Write + Drop> WriteFlavor<T> {
-    /// Starts after what was written to the writer before.
+    /// Returns a flavor that writes to `writer`, after what was written to it before.
     pub fn new(writer: T) -> WriteFlavor<T>
         ensures { result ≡ writer }
     {
@@ -40,7 +40,7 @@ impl<T: Write + Drop> WriteFlavor<T> {
 impl<T: Write + Drop> Flavor for WriteFlavor<T> {
     type Output = T;
 
-    ghost appended = { Told T.contents };
+    ghost appended = { AppendsKnown T.contents };
 
     ghost room = { NoRoom };
 
@@ -50,31 +50,31 @@ impl<T: Write + Drop> Flavor for WriteFlavor<T> {
 
     ghost finishes = { λ s output. Keeps (T.contents s) (T.contents output) };
 
-    ghost lawful = { told_lawful T.contents };
+    ghost lawful = { writer_lawful T.contents };
 
-    /// Passes a byte on. Fails with `SerializeBufferFull` if the writer fails.
+    /// Writes a byte to the writer. Fails with `SerializeBufferFull` if the writer fails.
     fn try_push(&mut self, byte: u8) -> Result<()>
         ensures appends { OnOk result
             (⟦<WriteFlavor<T> as Flavor>⟧.appended self.old (byte ∷ []) self.new) }
         ensures has_room { ⟦<WriteFlavor<T> as Flavor>⟧.room self.old (byte ∷ []) → IsOk result }
         ensures refused { OnErr result (⟦<WriteFlavor<T> as Flavor>⟧.tidy
-            → Begins ⟦<WriteFlavor<T> as Flavor>⟧.appended self.old (byte ∷ []) self.new) }
+            → AppendsFront ⟦<WriteFlavor<T> as Flavor>⟧.appended self.old (byte ∷ []) self.new) }
         ensures leaves { ⟦<WriteFlavor<T> as Flavor>⟧.reaches self.old self.new }
-        ensures full { IfErr result (λ e. e ≡ Error.SerializeBufferFull) }
+        ensures refuses_by_buffer_full { IfErr result (λ e. e ≡ Error.SerializeBufferFull) }
     {
         self.try_extend(&[byte])
     }
 
-    /// Passes bytes on in one piece, by `write_all`. Fails with `SerializeBufferFull` if the writer
-    /// fails.
+    /// Writes bytes to the writer in one piece, by `write_all`. Fails with `SerializeBufferFull` if
+    /// the writer fails, which may then have got some of the bytes.
     fn try_extend(&mut self, bytes: &[u8]) -> Result<()>
         ensures appends { OnOk result
             (⟦<WriteFlavor<T> as Flavor>⟧.appended self.old bytes.now self.new) }
         ensures has_room { ⟦<WriteFlavor<T> as Flavor>⟧.room self.old bytes.now → IsOk result }
         ensures refused { OnErr result (⟦<WriteFlavor<T> as Flavor>⟧.tidy
-            → Begins ⟦<WriteFlavor<T> as Flavor>⟧.appended self.old bytes.now self.new) }
+            → AppendsFront ⟦<WriteFlavor<T> as Flavor>⟧.appended self.old bytes.now self.new) }
         ensures leaves { ⟦<WriteFlavor<T> as Flavor>⟧.reaches self.old self.new }
-        ensures full { IfErr result (λ e. e ≡ Error.SerializeBufferFull) }
+        ensures refuses_by_buffer_full { IfErr result (λ e. e ≡ Error.SerializeBufferFull) }
     {
         self.writer
             .write_all(bytes)
@@ -86,7 +86,7 @@ impl<T: Write + Drop> Flavor for WriteFlavor<T> {
     fn finalize(self) -> Result<T>
         ensures gives { IfOk result (λ output. ⟦<WriteFlavor<T> as Flavor>⟧.finishes self output) }
         ensures closes { ⟦<WriteFlavor<T> as Flavor>⟧.room self [] → IsOk result }
-        ensures full { IfErr result (λ e. e ≡ Error.SerializeBufferFull) }
+        ensures refuses_by_buffer_full { IfErr result (λ e. e ≡ Error.SerializeBufferFull) }
     {
         let WriteFlavor { mut writer } = self;
         writer.flush().map_err(|_| Error::SerializeBufferFull)?;
@@ -100,7 +100,8 @@ mod tests {
     use std::io;
     use std::test::Fail;
 
-    /// Takes a byte a call, after an interruption, and fails in one of the calls or in the flush.
+    /// Takes one byte in each call, after an interruption, and fails in one of the calls or in the
+    /// flush.
     #[derive(Drop)]
     struct Fragile {
         taken: Vec<u8>,

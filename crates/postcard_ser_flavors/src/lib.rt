@@ -1,15 +1,16 @@
-//! Where written bytes go: a flavor takes them one by one or many at once, and ends as its output.
+//! Where written bytes go: a flavor takes them one by one or many at once, and returns its output
+//! at the end.
 //!
 //! The one contract is that of [`Flavor`]. After an `Ok` the bytes that were passed are `appended`;
 //! bytes that it has `room` for are taken; `reaches` says what a call leaves, also one that fails.
 //! The laws of these words are its member `lawful`. The layer above cites nothing else, but for a
-//! `Slice`, whose `into_parts` says what a caller's buffer ends as.
+//! `Slice`, whose `into_parts` says what a caller's buffer holds in the end.
 //!
 //! Which flavor for what:
 //!
-//! | A message goes | Flavor | Ends as | Fails |
+//! | A message goes | Flavor | Output | Fails |
 //! |---|---|---|---|
-//! | into bytes that the caller has | [`Slice`] | the part that was written | if a piece doesn't fit |
+//! | into bytes that the caller has | [`Slice`] | the part written | if a piece doesn't fit |
 //! | into a value, with nothing allocated | [`HVec`] | an `ArrayVec` | if a piece doesn't fit |
 //! | into memory that grows | [`AllocVec`], also [`StdVec`] | a `Vec` | if an allocation fails |
 //! | after what a target holds | [`ExtendFlavor`] | the target | if the target does |

@@ -1,8 +1,9 @@
 //! The flavor that only counts.
 
-ghost use Rattle.std.specs.Prelude.{◌≡◌, ◌+◌, ◌^◌, ◌<◌, ◌↔◌, [], ◌∷◌, length, ⊤, IsOk, OnOk, OnErr, IfOk, IfErr};
+ghost use Rattle.std.specs.Prelude.{◌≡◌, ◌+◌, ◌^◌, ◌<◌, ◌↔◌, [], ◌∷◌, length, ⊤, IsOk, OnOk, OnErr};
+ghost use Rattle.std.specs.Prelude.{IfOk, IfErr};
 ghost use Rattle.postcard_ser_flavors.specs.Counted.{Counts, CanCount, Rises, count_lawful};
-ghost use Rattle.postcard_ser_flavors.specs.Flavor.{Begins};
+ghost use Rattle.postcard_ser_flavors.specs.Flavor.{AppendsFront};
 
 use crate::flavor::Flavor;
 use postcard_wire::{Error, Result};
@@ -37,7 +38,7 @@ impl Size {
     fn add(&mut self, len: usize) -> Result<()>
         ensures counts { OnOk result (self.new ≡ self.old + len) }
         ensures fits { IsOk result ↔ (self.old + len < 2 ^ 64) }
-        ensures full { IfErr result (λ e. e ≡ Error.SerializeBufferFull) }
+        ensures refuses_by_buffer_full { IfErr result (λ e. e ≡ Error.SerializeBufferFull) }
         ensures unchanged { OnErr result (self.new ≡ self.old) }
     {
         match self.count.checked_add(len) {
@@ -71,10 +72,10 @@ impl Flavor for Size {
         ensures appends { OnOk result (⟦<Size as Flavor>⟧.appended self.old (byte ∷ []) self.new) }
         ensures has_room { ⟦<Size as Flavor>⟧.room self.old (byte ∷ []) → IsOk result }
         ensures refused { OnErr result (⟦<Size as Flavor>⟧.tidy
-            → Begins ⟦<Size as Flavor>⟧.appended self.old (byte ∷ []) self.new) }
+            → AppendsFront ⟦<Size as Flavor>⟧.appended self.old (byte ∷ []) self.new) }
         ensures leaves { ⟦<Size as Flavor>⟧.reaches self.old self.new }
         ensures fits { IsOk result ↔ (self.old + 1 < 2 ^ 64) }
-        ensures full { IfErr result (λ e. e ≡ Error.SerializeBufferFull) }
+        ensures refuses_by_buffer_full { IfErr result (λ e. e ≡ Error.SerializeBufferFull) }
         ensures unchanged { OnErr result (self.new ≡ self.old) }
     {
         let _ = byte;
@@ -87,10 +88,10 @@ impl Flavor for Size {
         ensures appends { OnOk result (⟦<Size as Flavor>⟧.appended self.old bytes.now self.new) }
         ensures has_room { ⟦<Size as Flavor>⟧.room self.old bytes.now → IsOk result }
         ensures refused { OnErr result (⟦<Size as Flavor>⟧.tidy
-            → Begins ⟦<Size as Flavor>⟧.appended self.old bytes.now self.new) }
+            → AppendsFront ⟦<Size as Flavor>⟧.appended self.old bytes.now self.new) }
         ensures leaves { ⟦<Size as Flavor>⟧.reaches self.old self.new }
         ensures fits { IsOk result ↔ (self.old + length bytes.now < 2 ^ 64) }
-        ensures full { IfErr result (λ e. e ≡ Error.SerializeBufferFull) }
+        ensures refuses_by_buffer_full { IfErr result (λ e. e ≡ Error.SerializeBufferFull) }
         ensures unchanged { OnErr result (self.new ≡ self.old) }
     {
         self.add(bytes.len())
@@ -100,7 +101,7 @@ impl Flavor for Size {
     fn finalize(self) -> Result<usize>
         ensures gives { IfOk result (λ output. ⟦<Size as Flavor>⟧.finishes self output) }
         ensures closes { ⟦<Size as Flavor>⟧.room self [] → IsOk result }
-        ensures always { IsOk result }
+        ensures succeeds { IsOk result }
     {
         Ok(self.count)
     }

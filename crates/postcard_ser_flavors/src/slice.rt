@@ -1,13 +1,14 @@
 //! The flavor that fills a caller's slice from its front.
 
-ghost use Rattle.std.specs.Prelude.{◌≡◌, ◌≤◌, ◌↔◌, [], ◌∷◌, length, drop, ⊤, IsOk, OnOk, OnErr, IfOk, IfErr};
+ghost use Rattle.std.specs.Prelude.{◌≡◌, ◌≤◌, ◌↔◌, [], ◌∷◌, length, drop, ⊤, IsOk, OnOk, OnErr};
+ghost use Rattle.std.specs.Prelude.{IfOk, IfErr};
 ghost use Rattle.postcard_wire.specs.Number.{digits};
-ghost use Rattle.postcard_ser_flavors.specs.Flavor.{Begins};
+ghost use Rattle.postcard_ser_flavors.specs.Flavor.{AppendsFront};
 ghost use Rattle.postcard_ser_flavors.specs.Slice.{held, free, Appended, HasRoom, Reaches};
 ghost use Rattle.postcard_ser_flavors.specs.SliceLaws.{slice_lawful};
 
 use crate::flavor::Flavor;
-use postcard_memory::Memory;
+use postcard_memory::{Life, Memory};
 use postcard_wire::varint::{VARINT_MAX_64, varint_u64, write_u64};
 use postcard_wire::{Error, Result};
 use std::marker::Model;
@@ -21,7 +22,8 @@ mod storage;
 /// of those at the front that are held (`count`).
 #[derive(Drop)]
 pub struct Slice<'a> {
-    memory: Memory<'a>,
+    memory: Memory,
+    life: &'a Life,
     len: usize,
     position: usize,
 }
@@ -39,26 +41,28 @@ impl<'a> Model for Slice<'a> {
     } };
 
     ghost invariant = { λ s. (s.position ≤ s.len) × (s.len ≡ length s.memory.items)
-        × (s.len < 2 ^ 63) };
+        × (s.len < 2 ^ 63) × (s.memory.time ≡ s.life.now) };
 }
 
 impl<'a> Slice<'a> {
-    /// Starts at the front of the slice.
+    /// Returns a flavor that writes to `buf` from its front, and has written nothing.
     pub fn new(buf: &'a mut [u8]) -> Slice<'a>
         ensures same_loan { result.loan ≡ buf.entry.ghost_name }
-        ensures all { (result.buffer ≡ buf.old) × (result.count ≡ 0) }
+        ensures starts_empty { (result.buffer ≡ buf.old) × (result.count ≡ 0) }
     {
         let len = buf.len();
+        let (memory, life) = Memory::new(buf);
         Slice {
-            memory: Memory::new(buf),
+            memory,
+            life,
             len,
             position: 0,
         }
     }
 
     /// Returns the whole slice that was lent, and the number of bytes written at its front. The
-    /// Rust crate has no such call: with it a caller can say what its buffer ends as, also after a
-    /// failure.
+    /// Rust crate has no such call: with it a caller can say what its buffer holds in the end, also
+    /// after a failure.
     pub fn into_parts(self) -> (&'a mut [u8], usize)
         ensures same_loan { result.0.ghost_name ≡ self.entry.loan }
         ensures parts { (result.0.now ≡ self.entry.buffer) × (result.1 ≡ self.entry.count) }
@@ -66,10 +70,11 @@ impl<'a> Slice<'a> {
     {
         let Slice {
             memory,
+            life,
             len,
             position,
         } = self;
-        (memory.whole(len), position)
+        (memory.whole(life, len), position)
     }
 }
 
@@ -95,18 +100,18 @@ impl<'a> Flavor for Slice<'a> {
             (⟦<Slice<'static> as Flavor>⟧.appended self.old (byte ∷ []) self.new) }
         ensures has_room { ⟦<Slice<'static> as Flavor>⟧.room self.old (byte ∷ []) → IsOk result }
         ensures refused { OnErr result (⟦<Slice<'static> as Flavor>⟧.tidy
-            → Begins ⟦<Slice<'static> as Flavor>⟧.appended self.old (byte ∷ []) self.new) }
+            → AppendsFront ⟦<Slice<'static> as Flavor>⟧.appended self.old (byte ∷ []) self.new) }
         ensures leaves { ⟦<Slice<'static> as Flavor>⟧.reaches self.old self.new }
         ensures fits { IsOk result ↔ (1 ≤ length (free self.old)) }
-        ensures rest { OnOk result (free self.new ≡ drop 1 (free self.old)) }
-        ensures full { IfErr result (λ e. e ≡ Error.SerializeBufferFull) }
+        ensures rest_unchanged { OnOk result (free self.new ≡ drop 1 (free self.old)) }
+        ensures refuses_by_buffer_full { IfErr result (λ e. e ≡ Error.SerializeBufferFull) }
         ensures unchanged { OnErr result (self.new ≡ self.old) }
     {
         if self.position == self.len {
             return Err(Error::SerializeBufferFull);
         }
         let place = self.position;
-        *self.memory.at(place) = byte;
+        *self.memory.at(self.life, place) = byte;
         self.position += 1;
         Ok(())
     }
@@ -118,11 +123,12 @@ impl<'a> Flavor for Slice<'a> {
             (⟦<Slice<'static> as Flavor>⟧.appended self.old bytes.now self.new) }
         ensures has_room { ⟦<Slice<'static> as Flavor>⟧.room self.old bytes.now → IsOk result }
         ensures refused { OnErr result (⟦<Slice<'static> as Flavor>⟧.tidy
-            → Begins ⟦<Slice<'static> as Flavor>⟧.appended self.old bytes.now self.new) }
+            → AppendsFront ⟦<Slice<'static> as Flavor>⟧.appended self.old bytes.now self.new) }
         ensures leaves { ⟦<Slice<'static> as Flavor>⟧.reaches self.old self.new }
         ensures fits { IsOk result ↔ (length bytes.now ≤ length (free self.old)) }
-        ensures rest { OnOk result (free self.new ≡ drop (length bytes.now) (free self.old)) }
-        ensures full { IfErr result (λ e. e ≡ Error.SerializeBufferFull) }
+        ensures rest_unchanged { OnOk result (free self.new
+            ≡ drop (length bytes.now) (free self.old)) }
+        ensures refuses_by_buffer_full { IfErr result (λ e. e ≡ Error.SerializeBufferFull) }
         ensures unchanged { OnErr result (self.new ≡ self.old) }
     {
         if self.len - self.position < bytes.len() {
@@ -130,25 +136,26 @@ impl<'a> Flavor for Slice<'a> {
         }
         let len = self.len;
         let start = self.position;
-        let all = self.memory.lend(len);
+        let all = self.memory.lend(self.life, len);
         all[start..start + bytes.len()].copy_from_slice(bytes);
         self.position += bytes.len();
         Ok(())
     }
 
-    /// Writes a varint, in place where 10 bytes are free. Fails with `SerializeBufferFull` if it has
-    /// more bytes than are free, and is then unchanged.
+    /// Writes a varint, in place if 10 bytes are free. Fails with `SerializeBufferFull` if and only
+    /// if it has more bytes than are free, and is then unchanged.
     #[inline]
     fn try_varint(&mut self, n: u64) -> Result<()>
         ensures appends { OnOk result
             (⟦<Slice<'static> as Flavor>⟧.appended self.old (digits n) self.new) }
         ensures has_room { ⟦<Slice<'static> as Flavor>⟧.room self.old (digits n) → IsOk result }
         ensures refused { OnErr result (⟦<Slice<'static> as Flavor>⟧.tidy
-            → Begins ⟦<Slice<'static> as Flavor>⟧.appended self.old (digits n) self.new) }
+            → AppendsFront ⟦<Slice<'static> as Flavor>⟧.appended self.old (digits n) self.new) }
         ensures leaves { ⟦<Slice<'static> as Flavor>⟧.reaches self.old self.new }
         ensures fits { IsOk result ↔ (length (digits n) ≤ length (free self.old)) }
-        ensures rest { OnOk result (free self.new ≡ drop (length (digits n)) (free self.old)) }
-        ensures full { IfErr result (λ e. e ≡ Error.SerializeBufferFull) }
+        ensures rest_unchanged { OnOk result (free self.new
+            ≡ drop (length (digits n)) (free self.old)) }
+        ensures refuses_by_buffer_full { IfErr result (λ e. e ≡ Error.SerializeBufferFull) }
         ensures unchanged { OnErr result (self.new ≡ self.old) }
     {
         if self.len - self.position < VARINT_MAX_64 {
@@ -157,18 +164,18 @@ impl<'a> Flavor for Slice<'a> {
         }
         let len = self.len;
         let start = self.position;
-        let all = self.memory.lend(len);
+        let all = self.memory.lend(self.life, len);
         let count = write_u64(n, &mut all[start..]);
         self.position += count;
         Ok(())
     }
 
-    /// Returns the bytes written. Never fails.
+    /// Returns the front of the slice, with the bytes written. Never fails.
     fn finalize(self) -> Result<&'a mut [u8]>
         ensures gives { IfOk result
             (λ output. ⟦<Slice<'static> as Flavor>⟧.finishes self.entry output) }
         ensures closes { ⟦<Slice<'static> as Flavor>⟧.room self.entry [] → IsOk result }
-        ensures always { IsOk result }
+        ensures succeeds { IsOk result }
     {
         let (all, count) = self.into_parts();
         let (front, _) = all.split_at_mut(count);

@@ -6,8 +6,8 @@ ghost use Rattle.postcard_ser_flavors.specs.Storage.{IsFree, IsStorage, IsIndexe
 use crate::flavor::Flavor;
 use std::ops::IndexMut;
 
-/// A flavor whose bytes are at hand: each can be changed until `finalize`. A frame needs this,
-/// since the code in front of a group is known only at the group's end.
+/// A flavor that keeps its bytes: each can be read and changed until `finalize`. A frame needs
+/// this, since the code byte before a group is known only at the group's end.
 ///
 /// An impl defines these members beside those of [`Flavor`]:
 /// - `held state`: the bytes written so far, from the first on. Bytes from before a frame are among

@@ -40,8 +40,8 @@ fn each_flavor_has_the_bytes(rt: HostRuntime) -> std::result::Result<(), Fail> {
     Ok(())
 }
 
-/// Writes 03 05 07 behind what is held, changes the first byte of all to 09 by `set` and the second
-/// to 06 by the index, and answers the first two as they were in between.
+/// Writes 03 05 07 after what is held, changes the first byte of all to 09 by `set` and the second
+/// to 06 by the index, and returns the first two as they were between these changes.
 fn change_two<B: Storage>(storage: &mut B) -> Result<(u8, u8)> {
     storage.try_extend(&[3, 5, 7])?;
     storage.set(0, 9);
@@ -98,7 +98,7 @@ fn each_storage_counts_held_bytes(rt: HostRuntime) -> std::result::Result<(), Fa
     Ok(())
 }
 
-/// Writes 231 bytes 07 in three pieces, each once more where it is refused.
+/// Writes 231 bytes 07 in three pieces, each of which is written again if it is refused.
 fn retried<F: Flavor + Drop>(flavor: F) -> Result<F::Output> {
     let mut flavor = flavor;
     for piece in [[7; 1].as_slice(), [7; 30].as_slice(), [7; 200].as_slice()] {
@@ -109,8 +109,8 @@ fn retried<F: Flavor + Drop>(flavor: F) -> Result<F::Output> {
     flavor.finalize()
 }
 
-// Also run with `rt try --test --fail-alloc N` for N from 1 on: then a piece is refused, and nothing of it
-// stays.
+// Also run with `rt try --test --fail-alloc N` for N from 1 on: then a piece is refused, and
+// nothing of it is left.
 #[test]
 fn a_piece_refused_for_want_of_memory_can_be_written_again(
     rt: HostRuntime,
@@ -147,7 +147,7 @@ where
 
     ghost room = { λ s x. F.room s.first x × G.room s.second x };
 
-    // Refused by the second, a piece is in the first.
+    // If the second refuses a piece, the first has it.
     ghost tidy = { ⊥ };
 
     ghost reaches = { λ s t. F.reaches s.first t.first × G.reaches s.second t.second };

@@ -1,7 +1,7 @@
-//! Tests of the writing half: values and each call of the serializer, against bytes worked out by
+//! Tests of the writing half: values and each call of the serializer, with bytes worked out by
 //! hand.
 //!
-//! They stand in a crate of their own, so that what they test is proved without them.
+//! They are in a crate of their own, so that the crates they test are proved without them.
 #![tactic(auto)]
 
 #[cfg(test)]

@@ -1,4 +1,4 @@
-//! Values as bytes, against those worked out by hand from the wire format.
+//! Tests of values, with bytes worked out by hand from the wire format.
 
 ghost use Rattle.std.specs.Prelude.{◌≡◌, ◌%◌, [], ◌∷◌};
 ghost use Rattle.postcard_shape.specs.Leaves.{byte};
@@ -18,7 +18,7 @@ use postcard_wire::{Error, Result};
 use std::process::Abort;
 use std::test::Fail;
 
-/// A user's struct, written as the tuple of its fields: so it needs no proof of its own.
+/// A user's struct. It is written as the tuple of its fields, so it needs no proof of its own.
 #[derive(Drop)]
 struct Reading<'a> {
     name: &'a str,
@@ -37,8 +37,8 @@ impl SerializeRepr for Reading<'_> {
     }
 }
 
-/// A user's enum, of which each variant is written by its index and its content: so it needs no
-/// proof of its own.
+/// A user's enum. A variant is written as its index and its content, so it needs no proof of its
+/// own.
 #[derive(Drop)]
 enum Event<'a> {
     Boot,
@@ -68,7 +68,7 @@ impl SerializeRepr for Event<'_> {
     }
 }
 
-/// A user's list, which calls the serializer by itself.
+/// A user's list, which calls the serializer itself.
 struct Both(u32, u32);
 
 impl Shaped for Both {
@@ -84,7 +84,7 @@ impl Serialize for Both {
     }
 }
 
-/// A user's type that has no bytes for its odd numbers.
+/// A user's type whose odd numbers refuse themselves.
 struct Even(u8);
 
 impl Shaped for Even {
@@ -100,7 +100,7 @@ impl Serialize for Even {
     }
 }
 
-/// Takes so many pieces, and then refuses with an error of its own.
+/// A flavor that takes `left` pieces, and then fails with an error of its own.
 #[derive(Drop)]
 struct Pieces<F> {
     inner: F,
@@ -159,7 +159,7 @@ impl<F: Flavor + Drop> Flavor for Pieces<F> {
     }
 }
 
-/// Writes a value into a slice, and returns its bytes.
+/// Writes a value into a slice, and returns its encoding.
 fn written<'a, T: Serialize>(value: &T, buffer: &'a mut [u8]) -> Result<&'a [u8]> {
     let mut serializer = Serializer {
         output: Slice::new(buffer),
@@ -169,14 +169,14 @@ fn written<'a, T: Serialize>(value: &T, buffer: &'a mut [u8]) -> Result<&'a [u8]
     Ok(front)
 }
 
-/// The value is written as these bytes.
+/// Asserts that the value is written as these bytes.
 fn assert_written<T: Serialize>(rt: &impl Abort, value: &T, want: &[u8]) {
     let mut buffer = [0xAA; 32];
     assert_eq!(rt; written(value, &mut buffer), Ok(want));
 }
 
-/// Over a flavor that refuses its first piece, its second and so on, the value is refused and so
-/// many of its bytes are held.
+/// Asserts that writing the value fails over flavors that refuse their first piece, their second
+/// piece and so on, and that they then hold `held` of its bytes.
 fn assert_refused<T: Serialize>(rt: &impl Abort, value: &T, want: &[u8], held: &[usize]) {
     for (i, count) in held.iter().enumerate() {
         let mut buffer = [0xAA; 32];
@@ -293,7 +293,7 @@ fn refusals(rt: HostRuntime) {
     let mut buffer = [0xAA; 1];
     assert_eq!(rt; written(&Even(3), &mut buffer), Err(Error::SerdeSerCustom));
     assert_eq!(rt; written(&Even(4), &mut buffer), Ok([0x04].as_slice()));
-    // Of parts the first that fails names the error.
+    // If several parts fail, the error is that of the first.
     assert_eq!(rt;
         written(&(Even(4), Even(3)), &mut buffer),
         Err(Error::SerdeSerCustom)

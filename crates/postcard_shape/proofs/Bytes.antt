@@ -1,26 +1,26 @@
--- Bytes as a list of trees, one for each.
+-- Bytes as a list of trees, one for each byte.
 use Rattle.std.proofs.Common.{◌≡◌, ℕ, suc, ◌<◌, List, [], ◌∷◌, length, get_or, refl, ap}
 use Rattle.std.specs.Prelude.{map}
 use Rattle.postcard_wire.specs.Tree.{Tree, Trees, Byte, NoTrees, Then, trees, count}
-use Rattle.postcard_wire.specs.Spelling.{SpellsAll, bytes_all}
+use Rattle.postcard_wire.specs.Spelling.{SpellsAll, canonical_all}
 use Rattle.postcard_wire.specs.Reading.{IsByte, Each}
 use Rattle.postcard_shape.specs.Values.{EachIs, AreOfBytes}
 
--- The bytes of a list of bytes are its elements.
-pub bytes_of_bytes : (xs : List ℕ) → bytes_all (trees (map Byte xs)) ≡ xs
+-- The canonical encoding of a list of bytes, without its count, is those bytes.
+pub bytes_of_bytes : (xs : List ℕ) → canonical_all (trees (map Byte xs)) ≡ xs
 bytes_of_bytes [] = refl
 bytes_of_bytes (x ∷ xs) = ap (λ z. x ∷ z) (bytes_of_bytes xs)
 
--- A byte is its tree's value.
+-- The value is the byte of its tree.
 abbrev pub ByteIs : Tree → ℕ → Type 0
 ByteIs t v = t ≡ Byte v
 
--- A tree for each byte.
+-- The row of a tree for each byte.
 pub bytes_trees : List ℕ → Trees
 bytes_trees [] = NoTrees
 bytes_trees (b ∷ u) = Then (Byte b) (bytes_trees u)
 
--- Bytes spell their trees, and are their values.
+-- Bytes spell the row of their trees, and are its values.
 pub trees_are : (u : List ℕ) → ((k : ℕ) → get_or u k 0 < 256) →
     (count (bytes_trees u) ≡ length u) × Each IsByte (bytes_trees u) × SpellsAll (bytes_trees u) u
     × EachIs ByteIs (bytes_trees u) u

@@ -1,3 +1,4 @@
+-- The lemmas, by subject.
 pub mod Fitting
 pub mod Ordered
 pub mod Again

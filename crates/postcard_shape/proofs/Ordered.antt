@@ -1,4 +1,4 @@
--- Entries in the order of their keys are those that putting them in one after another makes.
+-- The entries of an ordered map are those that inserting them one after another makes.
 use Rattle.std.specs.Prelude.{◌≡◌, List, [], ◌∷◌, ◌++◌}
 use Rattle.std.specs.Cmp.{IsTotalOrder}
 use Rattle.std.specs.List.{AllByRecursion}
@@ -13,14 +13,14 @@ use Rattle.std.proofs.lemmas.Map.Keys.{sorted_head, sorted_tail}
 use Rattle.postcard_shape.specs.Maps.{inserted}
 
 module _ {A B : Type 0} (cmp : A → A → Ordering) (o : IsTotalOrder cmp) where
-  -- An entry whose key is above all others goes last.
+  -- An entry whose key is above all others is inserted last.
   insert_above : (es : List (A × B)) (k : A) (v : B) → AllByRecursion (λ y. cmp y k ≡ Less) (keys_of es) → insert_entry cmp es k v ≡ es ++ ((k, v) ∷ [])
   insert_above [] k v a = refl
   insert_above (e ∷ es) k v a =
       let above : cmp k e.0 ≡ Greater = o.antisymm k e.0 ∙ ap ordering_reverse a.0 in
       rw above (ap (λ (z : List (A × B)). e ∷ z) (insert_above es k v a.1))
 
-  -- What all keys have the key of an entry in the middle has.
+  -- What holds of all keys holds of the key of an entry in the middle.
   middle_key : (P : A → Type 0) (es : List (A × B)) (p : A × B) (ps : List (A × B)) → AllByRecursion P (keys_of (es ++ (p ∷ ps))) → P p.0
   middle_key P [] p ps a = a.0
   middle_key P (e ∷ es) p ps a = middle_key P es p ps a.1
@@ -30,7 +30,7 @@ module _ {A B : Type 0} (cmp : A → A → Ordering) (o : IsTotalOrder cmp) wher
   keys_below [] p ps s = tt
   keys_below (e ∷ es) p ps s = (middle_key (λ y. cmp e.0 y ≡ Less) es p ps (sorted_head cmp e.0 (keys_of (es ++ (p ∷ ps))) s), keys_below es p ps (sorted_tail cmp e.0 (keys_of (es ++ (p ∷ ps))) s))
 
-  -- Entries above those of a map are appended in their order.
+  -- Inserting entries above those of a map appends them in their order.
   inserted_onto : (ps es : List (A × B)) → IsStrictlySortedBy cmp (keys_of (es ++ ps)) → inserted cmp ps es ≡ es ++ ps
   inserted_onto [] es s = sym (append-nil es)
   inserted_onto (p ∷ ps) es s =
@@ -38,6 +38,6 @@ module _ {A B : Type 0} (cmp : A → A → Ordering) (o : IsTotalOrder cmp) wher
       let moved : (es ++ (p ∷ [])) ++ ps ≡ es ++ (p ∷ ps) = append_assoc es (p ∷ []) ps in
       rw one (inserted_onto ps (es ++ (p ∷ [])) (subst (λ (z : List (A × B)). IsStrictlySortedBy cmp (keys_of z)) (sym moved) s) ∙ moved)
 
-  -- Ordered entries are those that putting them into an empty map makes.
+  -- Inserting ordered entries into an empty map makes just these entries.
   pub inserted_itself : (es : List (A × B)) → IsStrictlySortedBy cmp (keys_of es) → es ≡ inserted cmp es []
   inserted_itself es s = sym (inserted_onto es [] s)

@@ -1,4 +1,5 @@
--- What an enum says: of each variant its index, and of the content at each index a shape.
+-- The shape of an enum, from the shapes of its variants' contents: each variant is an index and a
+-- content.
 use Rattle.std.specs.Prelude.{◌≡◌, ℕ, zero, suc, ◌<◌, ◌^◌, ◌⊎◌}
 use Rattle.std.proofs.Common.{refl}
 use Rattle.postcard_wire.specs.Tree.{Tree, Variant, Absent}
@@ -11,7 +12,8 @@ use Rattle.postcard_shape.specs.Shape.{Shape}
 use Rattle.postcard_shape.specs.declared.cases.Case.{Case}
 use Rattle.postcard_shape.specs.declared.cases.Case.TheVariants.{This, Next}
 
--- What the variants of an enum say.
+-- What a `Shape` says, said of the variants of an enum: the index and the content of each value,
+-- and at each index what is read.
 pub record Cases (V : Type 0) : Type 1 where
   pub index : V → ℕ
   pub content : V → Tree
@@ -27,7 +29,7 @@ pub record Cases (V : Type 0) : Type 1 where
   pub one_value : (i : ℕ) → HasOne (value i) same
   pub again : (v : V) → fits v → reads (index v) (content v) × value (index v) (content v) v
 
--- No variant.
+-- The row of no variants.
 abbrev pub no_case : {V : Type 0} → Cases V
 no_case {V} = record {
   index = λ v. 0;
@@ -88,7 +90,7 @@ pub case_again : {A R : Type 0} (s : Shape A) (r : Cases R) (v : Case A R) → c
 case_again s r (This a) f = s.again a f
 case_again s r (Next v) f = r.again v f
 
--- A variant before others.
+-- A variant of the shape s, followed by the variants r, whose indices are one higher here.
 abbrev pub case : {A R : Type 0} → Shape A → Cases R → Cases (Case A R)
 case s r = record {
   index = case_index r.index;
@@ -106,7 +108,7 @@ case s r = record {
   again = case_again s r;
 }
 
--- An enum.
+-- The shape of an enum of these variants.
 abbrev pub variants : {V : Type 0} → Cases V → Shape V
 variants c = record {
   tree = λ v. Variant (c.index v) (c.content v);

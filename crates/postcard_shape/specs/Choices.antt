@@ -8,7 +8,7 @@ use Rattle.postcard_shape.specs.Compound.{option_tree, result_tree}
 use Rattle.postcard_shape.specs.Options.{OptionIs, SameOption, option_one, ResultReads, ResultIs, SameResult, result_delimited, result_well_formed, result_one, VariantIs, variant_one}
 use Rattle.postcard_shape.specs.Shape.{Shape}
 
--- What is in an option fits.
+-- The value in an option, if there is one, fits.
 abbrev pub OptionFits : {V : Type 0} → (V → Type 0) → Option V → Type 0
 OptionFits fits None = ⊤
 OptionFits fits (Some v) = fits v
@@ -17,7 +17,7 @@ pub option_again : {V : Type 0} (s : Shape V) (v : Option V) → OptionFits s.fi
 option_again s None f = (inl refl, refl)
 option_again s (Some v) f = let k = s.again v f in (inr (s.tree v, refl, k.0), (s.tree v, refl, k.1))
 
--- An option.
+-- The shape of an option of a value of this shape.
 abbrev pub option : {V : Type 0} → Shape V → Shape (Option V)
 option s = record {
   tree = option_tree s.tree;
@@ -34,7 +34,7 @@ option s = record {
   again = option_again s;
 }
 
--- What is in a result fits.
+-- The value in a result, of either variant, fits.
 abbrev pub ResultFits : {V W : Type 0} → (V → Type 0) → (W → Type 0) → Result V W → Type 0
 ResultFits good bad (Ok v) = good v
 ResultFits good bad (Err w) = bad w
@@ -43,7 +43,7 @@ pub result_again : {V W : Type 0} (s : Shape V) (e : Shape W) (v : Result V W) �
 result_again s e (Ok v) f = let k = s.again v f in ((0, s.tree v, refl, omega arith, k.0), (0, s.tree v, refl, k.1))
 result_again s e (Err w) f = let k = e.again w f in ((1, e.tree w, refl, omega arith, k.0), (1, e.tree w, refl, k.1))
 
--- A result.
+-- The shape of a result of values of these shapes.
 abbrev pub result : {V W : Type 0} → Shape V → Shape W → Shape (Result V W)
 result s e = record {
   tree = result_tree s.tree e.tree;

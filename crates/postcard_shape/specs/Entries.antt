@@ -11,7 +11,8 @@ use Rattle.postcard_shape.specs.Maps.{IsEntry, EntryIs, MapIs, SameMap, map_one,
 use Rattle.postcard_shape.specs.Lists.{AllFit, each_read, each_is}
 use Rattle.postcard_shape.specs.Shape.{Shape}
 
--- The entries are those of a map: putting them in one after another makes them.
+-- The entries of a map that fits are read again: its tree is one that a map reads, and the map is a
+-- value of that tree.
 pub map_again : {A B : Type 0} (cmp : A → A → Ordering) (k : Shape A) (s : Shape B) (es : List (A × B)) → (length es < 2 ^ 64) × AllFit (λ e. k.fits e.0 × s.fits e.1) es × (es ≡ inserted cmp es []) →
     IsSeq (IsEntry k.reads s.reads) (Seq (trees (map (entry_tree k.tree s.tree) es))) × MapIs cmp k.value s.value (Seq (trees (map (entry_tree k.tree s.tree) es))) es
 map_again {A} {B} cmp k s es (n, f, e) =
@@ -22,7 +23,7 @@ map_again {A} {B} cmp k s es (n, f, e) =
       (es, (trees (map tree es), refl, each_is tree (EntryIs k.value s.value) fits (λ x q. (Then (k.tree x.0) (Then (s.tree x.1) NoTrees), refl, (k.tree x.0, Then (s.tree x.1) NoTrees, refl, (k.again x.0 q.0).1, (s.tree x.1, NoTrees, refl, (s.again x.1 q.1).1, refl)))) es f), e),
     )
 
--- A map, as its entries.
+-- The shape of a map, seen as the list of its entries.
 abbrev pub entries : {A B : Type 0} → (A → A → Ordering) → Shape A → Shape B → Shape (List (A × B))
 entries cmp k s = record {
   tree = λ m. Seq (trees (map (entry_tree k.tree s.tree) m));

@@ -1,5 +1,5 @@
--- The shape of an enum without content, each variant of which is seen by its index (wire format
--- 1.0, "unit_variant").
+-- The shape of an enum without content, each variant of which is its index (wire format 1.0,
+-- "unit_variant").
 use Rattle.std.specs.Prelude.{◌≡◌, ℕ, ◌<◌, ◌^◌}
 use Rattle.std.proofs.Common.{refl, sym, ap, ◌∙◌}
 use Rattle.postcard_wire.specs.Tree.{Tree, Group, NoTrees}
@@ -11,7 +11,7 @@ use Rattle.postcard_shape.specs.Compound.{unit_variant}
 use Rattle.postcard_shape.specs.Same.{HasOne}
 use Rattle.postcard_shape.specs.Shape.{Shape}
 
--- The index is one of n, and nothing is its content.
+-- The index i is below n, and the content is an empty group.
 abbrev pub IsUnit : ℕ → ℕ → Tree → Type 0
 IsUnit n i t = (i < n) × IsGroup IsEnd t
 
@@ -31,7 +31,8 @@ pub unit_one : {V : Type 0} (index : V → ℕ) (at : ℕ → V) → ((v : V) �
 unit_one index at back t v w h k =
     sym (back v) ∙ ap at (index_same (index v) (index w) (sym h ∙ k)) ∙ back w
 
--- An enum of n variants without content, by the index of each, and the variant at each index.
+-- The shape of an enum of n variants without content, given the index of each variant and the
+-- variant at each index.
 abbrev pub enumeration : {V : Type 0} → (n : ℕ) (index : V → ℕ) (at : ℕ → V)
     → ((v : V) → at (index v) ≡ v) → Shape V
 enumeration n index at back = record {

@@ -1,4 +1,4 @@
--- The errors as an enum without content: the index of each is its place in `Error`.
+-- The errors as an enum without content: the index of each is its position in `Error`.
 use Rattle.std.specs.Prelude.{◌≡◌, ℕ, List, [], ◌∷◌, get_or}
 use Rattle.std.proofs.Common.{refl}
 use Rattle.postcard_wire.specs.declared.error.Error.{Error}
@@ -17,7 +17,7 @@ use Rattle.postcard_wire.specs.declared.error.Error.TheVariants.{DeserializeBadC
 use Rattle.postcard_wire.specs.declared.error.Error.TheVariants.{SerdeDeCustom, CollectStrError}
 use Rattle.postcard_wire.specs.declared.error.Error.TheVariants.{OutOfMemory}
 
--- The errors in the order of their indexes: those of postcard 1.1.3 in its order, and then this
+-- The errors in the order of their indices: those of postcard 1.1.3 in its order, and then this
 -- port's own.
 abbrev pub errors : List Error
 errors =
@@ -26,7 +26,7 @@ errors =
     ∷ DeserializeBadUtf8 ∷ DeserializeBadOption ∷ DeserializeBadEnum ∷ DeserializeBadEncoding
     ∷ DeserializeBadCrc ∷ SerdeSerCustom ∷ SerdeDeCustom ∷ CollectStrError ∷ OutOfMemory ∷ []
 
--- The error of an index.
+-- The error at an index below 17, and `OutOfMemory` at any other.
 abbrev pub error_at : ℕ → Error
 error_at i = get_or errors i OutOfMemory
 

@@ -1,5 +1,5 @@
--- The shapes of values that are one node: bytes, truth values, numbers, characters and texts (wire format 1.0, "the serde data
--- model" and "varint encoded integers").
+-- The shapes of values that are a single node: bytes, truth values, numbers, characters and texts
+-- (wire format 1.0, "the serde data model" and "varint encoded integers").
 use Rattle.std.specs.Prelude.{◌≡◌, ◌≢◌, ℕ, ◌<◌, ◌≤◌, ◌^◌, List, length, Bool, ℤ, IsUtf8, ⊤}
 use Rattle.std.specs.Char.{IsScalar}
 use Rattle.std.specs.Int.{w8, cast_unsigned}
@@ -15,7 +15,7 @@ use Rattle.postcard_shape.specs.One.{byte_one, num_one, int_one, text_one, signe
 use Rattle.postcard_shape.specs.Options.{boolean_one, char_one}
 use Rattle.postcard_shape.specs.Shape.{Shape}
 
--- A byte.
+-- The shape of a byte.
 abbrev pub byte : Shape ℕ
 byte = record {
   tree = Byte;
@@ -32,7 +32,7 @@ byte = record {
   again = λ v f. ((v, refl, f), refl);
 }
 
--- A signed number of one byte, in two's complement.
+-- The shape of a signed number of one byte, in two's complement.
 abbrev pub signed_byte : Shape ℤ
 signed_byte = record {
   tree = λ v. Byte (cast_unsigned w8 v);
@@ -49,7 +49,7 @@ signed_byte = record {
   again = λ v f. ((cast_unsigned w8 v, refl, f), refl);
 }
 
--- An unsigned number of w bits.
+-- The shape of an unsigned number of w bits.
 abbrev pub num : (w : ℕ) → IsWidth w → Shape ℕ
 num w width = record {
   tree = Num w;
@@ -66,7 +66,7 @@ num w width = record {
   again = λ v f. ((v, refl, f), refl);
 }
 
--- A signed number of w bits.
+-- The shape of a signed number of w bits.
 abbrev pub int : (w : ℕ) → IsWidth w → Shape ℤ
 int w width = record {
   tree = Int w;
@@ -83,7 +83,7 @@ int w width = record {
   again = λ v f. ((v, refl, f), refl);
 }
 
--- A truth value.
+-- The shape of a truth value.
 abbrev pub boolean : Shape Bool
 boolean = record {
   tree = Boolean;
@@ -100,7 +100,7 @@ boolean = record {
   again = λ v f. ((v, refl), refl);
 }
 
--- A character.
+-- The shape of a character.
 abbrev pub character : Shape ℕ
 character = record {
   tree = Char;
@@ -117,7 +117,7 @@ character = record {
   again = λ v f. ((v, refl, f), refl);
 }
 
--- A text.
+-- The shape of a text.
 abbrev pub text : Shape (List ℕ)
 text = record {
   tree = Text;
@@ -134,7 +134,7 @@ text = record {
   again = λ v f. ((v, refl, f.0, f.1), refl);
 }
 
--- A text of at most n bytes.
+-- The shape of a text of at most n bytes.
 abbrev pub short_text : ℕ → Shape (List ℕ)
 short_text n = record {
   tree = Text;
@@ -151,7 +151,7 @@ short_text n = record {
   again = λ v f. ((v, refl, f.0, f.1, f.2), refl);
 }
 
--- The same shape without the values of one tree, as the numbers but 0.
+-- The shape s without the values of the tree `one`, as for the numbers that aren't 0.
 abbrev pub without : {V : Type 0} → Tree → Shape V → Shape V
 without one s = record {
   tree = s.tree;

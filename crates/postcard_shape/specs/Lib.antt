@@ -1,3 +1,4 @@
+-- The definitions that contracts cite, and the lemmas that ghost members cite.
 pub mod Values
 pub mod Same
 pub mod One

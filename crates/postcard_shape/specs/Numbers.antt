@@ -1,4 +1,4 @@
--- Sets of trees that lack one, as the number 0, and spans of time.
+-- Sets of trees without one tree, as the numbers without 0, and the trees of spans of time.
 use Rattle.std.specs.Prelude.{◌≡◌, ◌≢◌, ℕ, ◌+◌, ◌*◌, ◌/◌, ◌<◌, ◌^◌}
 use Rattle.std.proofs.Common.{sym, ◌∙◌, ap, refl}
 use Rattle.std.specs.Duration.{as_nanos}
@@ -8,7 +8,7 @@ use Rattle.postcard_wire.specs.Reading.{IsDelimited, ReadsWellFormed, IsNum, IsE
 use Rattle.postcard_wire.proofs.Delimited.{fewer_delimited}
 use Rattle.postcard_shape.specs.Same.{HasOne}
 
--- Those of the set but one tree.
+-- The trees of the set other than `one`.
 abbrev pub Without : Tree → (Tree → Type 0) → Tree → Type 0
 Without one reads t = reads t × (t ≢ one)
 
@@ -18,28 +18,29 @@ without_delimited one reads law = fewer_delimited (Without one reads) reads (λ 
 pub without_well_formed : (one : Tree) (reads : Tree → Type 0) → ReadsWellFormed reads → ReadsWellFormed (Without one reads)
 without_well_formed one reads law t r = law t r.0
 
--- A tree that is made of what is seen of a value, by a constructor that loses nothing, has one value.
+-- If a node is made by an injective constructor of what is seen of a value, the values of one tree
+-- look alike.
 pub node_one : {V A : Type 0} (node : A → Tree) (see : V → A) → ((a b : A) → node a ≡ node b → a ≡ b) → HasOne (λ t v. t ≡ node (see v)) (λ v w. see v ≡ see w)
 node_one node see injective t v w h k = injective (see v) (see w) (sym h ∙ k)
 
--- So many seconds, and then so many nanoseconds.
+-- The tree of s seconds followed by n nanoseconds.
 abbrev pub span : ℕ → ℕ → Tree
 span s n = Group (Then (Num 64 s) (Then (Num 32 n) NoTrees))
 
--- Seconds and nanoseconds, of which a second's worth and more is carried into the seconds, and those fit 64 bits
--- (behaviour of serde's reader of `Duration`).
+-- The tree is a number of seconds and one of nanoseconds. Whole seconds of the nanoseconds are
+-- carried, and the seconds then fit 64 bits (behaviour of serde's reader of `Duration`).
 abbrev pub IsSpan : Tree → Type 0
 IsSpan t = (s : ℕ) × (n : ℕ) × (t ≡ span s n) × (s < 2 ^ 64) × (n < 2 ^ 32) × (s + n / 1_000_000_000 < 2 ^ 64)
 
--- The length of the span in nanoseconds.
+-- The duration has the length in nanoseconds that the tree says.
 abbrev pub SpanIs : Tree → Duration → Type 0
 SpanIs t v = (s : ℕ) × (n : ℕ) × (t ≡ span s n) × (as_nanos v ≡ s * 1_000_000_000 + n)
 
--- The parts of any span.
+-- The tree has the parts of a span, whether their sum fits or not.
 abbrev pub AnySpan : Tree → Type 0
 AnySpan = IsGroup (IsThen (IsNum 64) (IsThen (IsNum 32) IsEnd))
 
--- A span has these parts.
+-- The tree of a span has the parts of a span.
 pub span_parts : (t : Tree) → IsSpan t → AnySpan t
 span_parts t (s, n, e, low, few, fits) = (Then (Num 64 s) (Then (Num 32 n) NoTrees), e, (Num 64 s, Then (Num 32 n) NoTrees, refl, (s, refl, low), (Num 32 n, NoTrees, refl, (n, refl, few), refl)))
 
@@ -49,7 +50,7 @@ seconds_same s n r m e = cc
 nanos_same : (s n r m : ℕ) → span s n ≡ span r m → n ≡ m
 nanos_same s n r m e = cc
 
--- A span has one length.
+-- The durations of one tree have the same length.
 pub span_one : HasOne SpanIs (λ v w. as_nanos v ≡ as_nanos w)
 span_one t v w (s, n, e, a) (r, m, f, b) =
     let x = seconds_same s n r m (sym e ∙ f) in

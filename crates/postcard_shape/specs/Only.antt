@@ -1,16 +1,17 @@
--- The shape of a type that has only some of another's values, as the bytes up to 100: reading refuses the others.
+-- The shape of a type that has only some of another type's values, as the bytes up to 100: reading
+-- refuses the others.
 use Rattle.postcard_wire.specs.Tree.{Tree}
 use Rattle.postcard_wire.proofs.Delimited.{fewer_delimited}
 use Rattle.postcard_shape.specs.Shape.{Shape}
 
--- A tree that is read, of which a value passes the test.
+-- The tree is one that is read, and one of its values passes the test.
 abbrev pub IsOnly : {V : Type 0} → (V → Type 0) → (Tree → Type 0) → (Tree → V → Type 0) → Tree → Type 0
 IsOnly {V} test reads value t = reads t × ((v : V) × value t v × test v)
 
 pub only_inside : {V : Type 0} (test : V → Type 0) (reads : Tree → Type 0) (value : Tree → V → Type 0) (t : Tree) → IsOnly test reads value t → reads t
 only_inside test reads value t r = r.0
 
--- The same shape with the values that pass the test alone.
+-- The shape s with only the values that pass the test.
 abbrev pub only : {V : Type 0} → (V → Type 0) → Shape V → Shape V
 only test s = record {
   tree = s.tree;

@@ -2,7 +2,8 @@
 use Rattle.std.specs.Prelude.{⊤}
 use Rattle.postcard_shape.specs.Shape.{Shape}
 
--- The same shape, of a type of which a value may be refused for a reason of its own, with any error, where `refuses` holds of it.
+-- The shape s, for a type whose values may be refused for a reason of their own, with any error, if
+-- `refuses` holds of them.
 abbrev pub refusing : {V : Type 0} → (V → Type 0) → Shape V → Shape V
 refusing refuses s = record {
   tree = s.tree;
@@ -19,8 +20,8 @@ refusing refuses s = record {
   again = s.again;
 }
 
--- The same shape, of a type that is written as the text that it prints: printing may fail by itself, and any value may then be
--- refused with `CollectStrError`.
+-- The shape s, for a type that is written as the text that it prints: printing may fail by itself,
+-- and any value may then be refused with `CollectStrError`.
 abbrev pub printed : {V : Type 0} → Shape V → Shape V
 printed s = record {
   tree = s.tree;

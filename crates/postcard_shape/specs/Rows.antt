@@ -8,7 +8,8 @@ use Rattle.postcard_wire.proofs.WellFormed.{end_well_formed, then_well_formed, g
 use Rattle.postcard_shape.specs.Parts.{end_one, then_one, group_one}
 use Rattle.postcard_shape.specs.Shape.{Shape}
 
--- What parts in a row say, as a type says its shape.
+-- What a `Shape` says, said of parts in a row: the trees of the parts, in order, and the laws that
+-- tie them.
 pub record Row (V : Type 0) : Type 1 where
   pub trees : V → Trees
   pub refuses : V → Type 0
@@ -23,7 +24,7 @@ pub record Row (V : Type 0) : Type 1 where
   pub one_value : (v w : V) (ts : Trees) → value v ts → value w ts → same v w
   pub again : (v : V) → fits v → reads (trees v) × value v (trees v)
 
--- No part.
+-- The row of no parts.
 abbrev pub none : {V : Type 0} → Row V
 none {V} = record {
   trees = λ v. NoTrees;
@@ -40,7 +41,7 @@ none {V} = record {
   again = λ v f. (refl, refl);
 }
 
--- A part, and those after it.
+-- A part of the shape s, followed by the parts r.
 abbrev pub then : {A B : Type 0} → Shape A → Row B → Row (A × B)
 then s r = record {
   trees = λ v. Then (s.tree v.0) (r.trees v.1);
@@ -57,7 +58,7 @@ then s r = record {
   again = λ v f. let k = s.again v.0 f.0 in let m = r.again v.1 f.1 in ((s.tree v.0, r.trees v.1, refl, k.0, m.0), (s.tree v.0, r.trees v.1, refl, k.1, m.1));
 }
 
--- The parts of a value that is seen as another.
+-- The row r, for a type whose values are seen as those of r by `see`.
 abbrev pub along : {V W : Type 0} → (V → W) → Row W → Row V
 along see r = record {
   trees = λ v. r.trees (see v);
@@ -74,7 +75,7 @@ along see r = record {
   again = λ v. r.again (see v);
 }
 
--- A tuple or a struct.
+-- The shape of a tuple or a struct of these parts.
 abbrev pub group : {V : Type 0} → Row V → Shape V
 group r = record {
   tree = λ v. Group (r.trees v);

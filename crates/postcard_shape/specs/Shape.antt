@@ -1,5 +1,5 @@
--- What a type says of its values, once for both directions: the tree that each is written as, the trees that are read and their
--- values, when two values look alike, and the laws that tie them.
+-- What a type says of its values, once for both directions: the tree that each is written as, the
+-- trees that are read and their values, when two values look alike, and the laws that tie them.
 use Rattle.std.specs.Prelude.{⊤}
 use Rattle.postcard_wire.specs.Tree.{Tree}
 use Rattle.postcard_wire.specs.Reading.{IsDelimited, ReadsWellFormed}
@@ -11,28 +11,31 @@ pub record Shape (V : Type 0) : Type 1 where
   pub tree : V → Tree
   -- The value may be refused for a reason of its own when it is written, with any error.
   pub refuses : V → Type 0
-  -- Any other value may be refused with `CollectStrError`, by the text that it prints.
+  -- Any other value may be refused with `CollectStrError`, since the text that it prints may fail
+  -- to print.
   pub text : Type 0
   -- The trees that are read.
   pub reads : Tree → Type 0
-  -- The values of a tree.
+  -- The value is one of the tree.
   pub value : Tree → V → Type 0
   -- Two values look alike to contracts.
   pub same : V → V → Type 0
   -- Reading may ask for memory.
   pub grows : Type 0
-  -- What holds of every value that a program has: numbers in their range, texts that are UTF-8, lengths below 2^64, maps in order.
+  -- What holds of every value that a program has: numbers in their range, texts that are UTF-8,
+  -- lengths below 2 ^ 64, maps in order.
   pub fits : V → Type 0
-  -- No encoding begins another: a front of some bytes spells one of the trees at most.
+  -- The encodings are prefix-free: at most one front of some bytes spells one of the trees.
   pub delimited : IsDelimited reads
   -- Every tree that is read is well formed.
   pub well_formed : ReadsWellFormed reads
   -- All values of one tree look alike.
   pub one_value : HasOne value same
-  -- What a value is written as is read, and the value is one of that tree: what was written comes back.
+  -- The tree of a value that fits is one that is read, and the value is one of that tree: what was
+  -- written is read again.
   pub again : (v : V) → fits v → reads (tree v) × value (tree v) v
 
--- The shape of a type that is seen as another.
+-- The shape of a type whose values are seen as those of the shape s by `see`.
 abbrev pub via : {V W : Type 0} → (V → W) → Shape W → Shape V
 via see s = record {
   tree = λ v. s.tree (see v);
@@ -49,7 +52,7 @@ via see s = record {
   again = λ v. s.again (see v);
 }
 
--- The same shape, of a type that asks for memory when it is read.
+-- The shape s, for a type that asks for memory when it is read.
 abbrev pub growing : {V : Type 0} → Shape V → Shape V
 growing s = record {
   tree = s.tree;

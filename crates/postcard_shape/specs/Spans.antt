@@ -18,7 +18,7 @@ parts n = omega arith
 pub span_again : (v : Duration) (n : ℕ) → as_nanos v ≡ n → n / 1_000_000_000 < 2 ^ 64 → IsSpan (duration_tree n) × SpanIs (duration_tree n) v
 span_again v n e f = ((n / 1_000_000_000, n % 1_000_000_000, refl, f, omega arith, omega arith), (n / 1_000_000_000, n % 1_000_000_000, refl, e ∙ parts n))
 
--- A span of time.
+-- The shape of a span of time.
 abbrev pub span_of_time : Shape Duration
 span_of_time = record {
   tree = λ v. duration_tree (as_nanos v);

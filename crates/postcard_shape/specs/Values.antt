@@ -1,16 +1,17 @@
--- The values of trees, for types that read them: relations between a tree and what a contract sees of a value.
+-- The values of trees, for the types that read them: relations between a tree and what a contract
+-- sees of a value.
 use Rattle.std.specs.Prelude.{◌≡◌, ℕ, List, [], ◌∷◌, length, Option, None, Some}
 use Rattle.postcard_wire.specs.Tree.{Tree, Trees, Seq, NoTrees, Then, count}
 use Rattle.postcard_wire.specs.Reading.{Each}
 use Rattle.postcard_wire.specs.Spelling.{SpellsAll}
 
--- Each value is one of its tree, in order.
+-- Each value of the list is one of its tree in the row, in order.
 abbrev pub EachIs : {V : Type 0} → (Tree → V → Type 0) → Trees → List V → Type 0
 EachIs value NoTrees [] = Unit {0}
 EachIs value (Then t ts) (v ∷ vs) = value t v × EachIs value ts vs
 EachIs value _ _ = ⊥
 
--- A list's values are those of its parts.
+-- The list's elements are the values of the parts of the tree, which is a list.
 abbrev pub ListIs : {V : Type 0} → (Tree → V → Type 0) → Tree → List V → Type 0
 ListIs value t vs = (ts : Trees) × (t ≡ Seq ts) × EachIs value ts vs
 
@@ -19,15 +20,16 @@ abbrev pub SomeIs : {V : Type 0} → (Tree → V → Type 0) → Tree → Option
 SomeIs value t None = ⊥
 SomeIs value t (Some v) = value t v
 
--- Trees in a row, n of them, each of which is read.
+-- The row has n trees, each of the set.
 abbrev pub AreRead : ℕ → (Tree → Type 0) → Trees → Type 0
 AreRead n reads ts = (count ts ≡ n) × Each reads ts
 
--- The number is the value.
+-- The number is equal to the value.
 abbrev pub Same : ℕ → ℕ → Type 0
 Same n v = n ≡ v
 
--- The bytes spell as many trees as they are, each of which is read, and the list has their values.
+-- The bytes spell as many trees as there are bytes, each of which is read, and the elements of the
+-- list are their values.
 abbrev pub AreOfBytes : {V : Type 0} → (Tree → Type 0) → (Tree → V → Type 0) → List ℕ → List V →
     Type 0
 AreOfBytes reads value bytes vs = (ts : Trees) × AreRead (length bytes) reads ts

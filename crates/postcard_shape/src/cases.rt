@@ -1,4 +1,4 @@
-//! The variants of an enum in a row, as a type: what enums are seen as.
+//! The variants of an enum in a row, as a type: what enums are written and read as.
 
 ghost use Rattle.postcard_shape.specs.Cases.{Cases, no_case, case, variants};
 
@@ -21,9 +21,9 @@ pub enum Case<A, R> {
 #[derive(Drop)]
 pub enum NoCase {}
 
-/// Variants in a row: [`NoCase`], or a [`Case`] of a type that says its shape and of variants.
+/// Variants in a row: [`NoCase`], or a [`Case`] of a type that is [`Shaped`], followed by others.
 pub trait Cased {
-    /// What the variants say.
+    /// The index and the content of each value, and the laws that tie them to the value.
     ghost cases: { Cases Self };
 }
 

@@ -2,14 +2,14 @@
 //!
 //! A shape (`specs/Shape.antt`) is the tree of each value, the trees that are read and their
 //! values, when two values look alike, whether reading asks for memory, what holds of every value
-//! in hand, and the laws: no encoding begins another, what is read is well formed, a tree has one
-//! value, and what was written is read again. Each combinator (`specs/Leaves.antt`, `Lists.antt`,
-//! `Choices.antt`, `Rows.antt`, `Cases.antt`, `Enumerations.antt`, `Entries.antt`, `Spans.antt`,
-//! `Refusing.antt`) makes a shape from those of its parts, laws included, so that a type says it in
-//! one line.
+//! that a program has, and the laws: the encodings are prefix-free, what is read is well formed, a
+//! tree has one value, and what was written is read again. Each combinator (`specs/Leaves.antt`,
+//! `Lists.antt`, `Choices.antt`, `Rows.antt`, `Cases.antt`, `Enumerations.antt`, `Entries.antt`,
+//! `Spans.antt`, `Refusing.antt`) makes a shape from those of its parts, laws included, so that a
+//! type says its shape in one line.
 //!
 //! In reading order: [`shape`] has the traits, [`rows`] and [`cases`] what tuples and enums are
-//! seen as, `values` the types of std and of `arrayvec`.
+//! written and read as, `values` the types of std and of `arrayvec`.
 #![tactic(auto)]
 
 pub mod cases;

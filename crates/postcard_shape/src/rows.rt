@@ -1,16 +1,16 @@
-//! Parts in a row, as a type: what tuples of any length are seen as.
+//! Parts in a row, as a type: what tuples of any length are written and read as.
 
 ghost use Rattle.postcard_shape.specs.Rows.{Row, none, then, along, group};
 
 use crate::shape::Shaped;
 
-/// A part, and those after it. The last is followed by `()`.
+/// A part, followed by the other parts. The last is followed by `()`.
 #[derive(Drop)]
 pub struct Part<A, R>(pub A, pub R);
 
-/// Parts in a row: `()`, or a [`Part`] of a type that says its shape and of parts.
+/// Parts in a row: `()`, or a [`Part`] of a type that is [`Shaped`], followed by other parts.
 pub trait Parts {
-    /// What the parts say.
+    /// The trees of the parts, in order, and the laws that tie them to the values.
     ghost parts: { Row Self };
 }
 

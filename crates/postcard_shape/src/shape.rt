@@ -1,7 +1,7 @@
-//! The traits by which a type says its shape: directly, or as what it is seen as.
+//! The traits by which a type says its shape: directly, or as that of another type.
 
 ghost use Rattle.std.specs.Prelude.{◌≡◌, map, IfErr, IfOk, IfSome};
-ghost use Rattle.postcard_wire.specs.Spelling.{bytes_all};
+ghost use Rattle.postcard_wire.specs.Spelling.{canonical_all};
 ghost use Rattle.postcard_wire.specs.Tree.{trees};
 ghost use Rattle.postcard_shape.specs.Lists.{AllFit};
 ghost use Rattle.postcard_shape.specs.Shape.{Shape, via};
@@ -18,26 +18,27 @@ pub trait Shaped {
     /// The tree of each value, the trees that are read, their values, and the laws that tie them.
     ghost shape: { Shape Self };
 
-    /// Returns the encodings of `items` one after the other if just these bytes are in memory, as
-    /// those of a slice of `u8` do, which is then written as one piece. Returns `None` otherwise.
+    /// Returns the encodings of `items` one after the other, if they are just these bytes in
+    /// memory, as those of a slice of `u8` are. A slice is then written as one piece. With `None`,
+    /// which any type may return and which is the default, its elements are written one by one.
     fn slice_bytes(items: &[Self]) -> Option<&[u8]>
     where
         Self: Sized,
         ensures gives { IfSome result
-            (λ b. b.now ≡ bytes_all (trees (map shape.tree items.now))) }
+            (λ b. b.now ≡ canonical_all (trees (map shape.tree items.now))) }
         ensures fits { IfSome result (λ _. AllFit shape.fits items.now) }
     {
         let _ = items;
         None
     }
 
-    /// Returns the list whose elements `bytes` encode, one byte each, if the values of the type are
-    /// bytes as they are in memory, as those of `u8`. Returns `None` for every other type, whose
-    /// lists are read element by element.
+    /// Returns the list that `bytes` encode, one byte for each element, if a value of the type is a
+    /// byte in memory, as that of `u8` is. With `None`, which any type may return and which is the
+    /// default, a list of the type is read element by element.
     ///
     /// # Errors
     ///
-    /// Fails with `OutOfMemory` only if an allocation fails.
+    /// Fails with `OutOfMemory` if an allocation fails, and with no other error.
     fn list_of_bytes(alloc: Global, bytes: &[u8]) -> Result<Option<Vec<Self>>>
     where
         Self: Sized,
@@ -51,13 +52,13 @@ pub trait Shaped {
     }
 }
 
-/// A type whose values are seen as those of another on the wire: a struct as the tuple of its
+/// A type whose values are written and read as those of another: a struct as the tuple of its
 /// fields, an enum as its variants in a row (`Case`).
 pub trait Repr {
-    /// What the values are seen as.
+    /// The type that the values are written and read as.
     type As: Shaped;
 
-    /// What a value is seen as.
+    /// The value of that type for each value of this one.
     ghost repr: { Self → Self.As };
 }
 

@@ -1,4 +1,5 @@
-//! Readers and writers for tests: short of room, cut in pieces, failing at a stated call.
+//! Readers and writers for tests: with little room, with short pieces, failing at a given call, or
+//! interrupted.
 
 pub mod readers;
 pub mod writers;

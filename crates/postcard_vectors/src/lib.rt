@@ -1,9 +1,6 @@
-//! Published and hand-made vectors over the calls of `postcard`: types written as a user would
-//! write them, devices that give and take bytes badly, and tests that compare each call with bytes
-//! worked out outside this code.
+//! What the crates of tests share: the types of the published vectors as a user would write them,
+//! and readers and writers that misbehave.
 #![tactic(auto)]
 
 pub mod devices;
-#[cfg(test)]
-mod tests;
 pub mod types;

@@ -1,7 +1,7 @@
-//! The types of the vectors, implemented by hand as a user of the library would.
+//! The types of the vectors, implemented by hand as a user of the library would implement them.
 //!
-//! A struct is seen as the tuple of its fields, and an enum as its variants in a row: three short
-//! impls each, of which one line, or one a variant, is ghost.
+//! A struct is described as the tuple of its fields, and an enum as its variants in a row. Each has
+//! three short impls, in which one line, or one line for each variant, is ghost.
 //!
 //! - [`ref_struct`]: a struct that borrows from the input.
 //! - [`basic_u8s`], [`wide_u8s`]: structs of numbers.

@@ -1,4 +1,4 @@
--- Zigzag as the code computes it, by shifts and exclusive or.
+-- Zigzag as the code computes it, with shifts and exclusive or.
 use Rattle.std.proofs.Common.{◌≡◌, ℕ, zero, suc, ◌+◌, ◌-◌, ◌*◌, ◌/◌, ◌%◌, ◌<◌, ◌^◌, ℤ, pos, negsuc, ◌-ℤ◌, bit_xor, bit_and, refl, ap, ◌∙◌, arith}
 use Rattle.std.proofs.Math.Nat.{mod-eq_of_lt, div-eq_of_lt, add-mod_left}
 use Rattle.std.proofs.lemmas.Nat.{and_mask}
@@ -9,7 +9,7 @@ use mir.Syntax.{Width, w8, w16, w32, w64, w128}
 use mir.Val.{SFits, of_z, to_z, bits, hbits}
 use Rattle.postcard_wire.specs.Number.{zigzag}
 
--- A width has twice the numbers that its signed half has.
+-- A width has twice as many numbers as its non-negative half.
 doubled : (w : Width) → 2 ^ bits w ≡ 2 * 2 ^ hbits w
 doubled w8 = refl
 doubled w16 = refl
@@ -17,14 +17,14 @@ doubled w32 = refl
 doubled w64 = refl
 doubled w128 = refl
 
--- Exclusive or with ones alone turns each bit.
+-- Exclusive or with all ones flips each bit.
 flipped : (k x : ℕ) → x < 2 ^ k → bit_xor x (2 ^ k - 1) ≡ 2 ^ k - 1 - x
 flipped k x h =
     let a = xor_add_and x (2 ^ k - 1) in
     let b : bit_and x (2 ^ k - 1) ≡ x = and_mask x k ∙ mod-eq_of_lt h in
     omega arith
 
--- Twice a number, with each bit turned where it is below 0, is its zigzag.
+-- Twice a number, with each bit flipped if the number is negative, is its zigzag.
 zig_bits : (w : Width) (z : ℤ) → SFits w z → bit_xor (of_z w z * 2 % 2 ^ bits w) (of_z w (shr_z z (2 ^ hbits w))) ≡ zigzag z
 zig_bits w (pos a) f =
     let h : a < 2 ^ hbits w = f.sfits in
@@ -41,7 +41,7 @@ zig_bits w (negsuc a) f =
     let q : a / 2 ^ hbits w ≡ 0 = div-eq_of_lt h in
     rw (k, q) (flipped (bits w) (2 ^ bits w - (2 * a + 2)) m ∙ omega arith)
 
--- What the code computes of a signed number is its zigzag.
+-- What the code computes from a signed number is its zigzag.
 pub folded : (w : Width) (z : ℤ) (r : ℕ) → SFits w z
     → r ≡ of_z w (to_z w (bit_xor (of_z w z * 2 % 2 ^ bits w) (of_z w (shr_z (to_z w (of_z w z)) (2 ^ hbits w))))) → r ≡ zigzag z
 folded w z r f e =
@@ -54,7 +54,7 @@ folded w z r f e =
     zig_fits w (pos a) f = omega (arith, f.sfits, doubled w)
     zig_fits w (negsuc a) f = omega (arith, f.sfits, doubled w)
 
--- 1 is 1 with a sign too.
+-- 1 is the same number with a sign.
 small_one : (w : Width) → to_z w 1 ≡ pos 1
 small_one w8 = refl
 small_one w16 = refl
@@ -62,7 +62,7 @@ small_one w32 = refl
 small_one w64 = refl
 small_one w128 = refl
 
--- 0 is 0 with a sign too.
+-- 0 is the same number with a sign.
 small_zero : (w : Width) → to_z w 0 ≡ pos 0
 small_zero w8 = refl
 small_zero w16 = refl
@@ -75,7 +75,7 @@ unfold_even : (w : Width) (a : ℕ) → a < 2 ^ hbits w → zigzag (to_z w (bit_
 unfold_even w a h =
     rw (small_zero w, small_zero w, xor_zero_r, to_z_pos w a h) refl
 
--- An odd number is the zigzag of its half with each bit turned.
+-- An odd number is the zigzag of its half with each bit flipped.
 unfold_odd : (w : Width) (a : ℕ) → a < 2 ^ hbits w → zigzag (to_z w (bit_xor a (of_z w (pos 0 -ℤ to_z w (of_z w (to_z w 1)))))) ≡ 2 * a + 1
 unfold_odd w a h =
     let d = doubled w in
@@ -83,7 +83,7 @@ unfold_odd w a h =
     let k : 2 ^ bits w - 1 - a ≡ 2 ^ bits w - suc a = omega arith in
     rw (small_one w, small_one w, flipped (bits w) a (omega arith), k) (ap zigzag (to_z-of_z w (negsuc a) f))
 
--- What the code computes of an unsigned number has it as its zigzag.
+-- What the code computes from an unsigned number has it as its zigzag.
 pub unfolded : (w : Width) (n : ℕ) (a b : ℤ) → n < 2 ^ bits w → a ≡ to_z w (n / 2) → b ≡ to_z w (bit_and n 1)
     → zigzag (to_z w (bit_xor (of_z w a) (of_z w (pos 0 -ℤ to_z w (of_z w b))))) ≡ n
 unfolded w n a b h e f =
@@ -99,22 +99,22 @@ unfolded w n a b h e f =
     by_rest w n l (suc zero) e = unfold_odd w (n / 2) l ∙ omega arith
     by_rest w n l (suc (suc r)) e = absurd (omega arith)
 
--- The same at 16 bits, where a tactic finds it.
+-- The lemma `folded` at 16 bits, in the form that the prover looks for.
 pub folded_16 : (z : ℤ) (r : ℕ) → SFits w16 z
     → r ≡ of_z w16 (to_z w16 (bit_xor (of_z w16 z * 2 % 2 ^ 16) (of_z w16 (shr_z (to_z w16 (of_z w16 z)) (2 ^ 15))))) → r ≡ zigzag z
 folded_16 = folded w16
 
--- At 32 bits.
+-- The lemma `folded` at 32 bits.
 pub folded_32 : (z : ℤ) (r : ℕ) → SFits w32 z
     → r ≡ of_z w32 (to_z w32 (bit_xor (of_z w32 z * 2 % 2 ^ 32) (of_z w32 (shr_z (to_z w32 (of_z w32 z)) (2 ^ 31))))) → r ≡ zigzag z
 folded_32 = folded w32
 
--- At 64 bits.
+-- The lemma `folded` at 64 bits.
 pub folded_64 : (z : ℤ) (r : ℕ) → SFits w64 z
     → r ≡ of_z w64 (to_z w64 (bit_xor (of_z w64 z * 2 % 2 ^ 64) (of_z w64 (shr_z (to_z w64 (of_z w64 z)) (2 ^ 63))))) → r ≡ zigzag z
 folded_64 = folded w64
 
--- At 128 bits.
+-- The lemma `folded` at 128 bits.
 pub folded_128 : (z : ℤ) (r : ℕ) → SFits w128 z
     → r ≡ of_z w128 (to_z w128 (bit_xor (of_z w128 z * 2 % 2 ^ 128) (of_z w128 (shr_z (to_z w128 (of_z w128 z)) (2 ^ 127))))) → r ≡ zigzag z
 folded_128 = folded w128

@@ -1,4 +1,5 @@
--- A signed number is in its range exactly where its zigzag is below the power of two of its width.
+-- A signed number is in the range of a width if and only if its zigzag is below the power of two of
+-- the width.
 use Rattle.std.proofs.Common.{◌≡◌, ℕ, zero, suc, ◌-◌, ◌*◌, ◌/◌, ◌%◌, ◌<◌, ◌^◌, inl, inr, ℤ, pos, negsuc, refl, arith}
 use Rattle.std.proofs.lemmas.Int.{ints}
 use mir.Syntax.{Width, w8, w16, w32, w64, w128}
@@ -6,24 +7,24 @@ use mir.Val.{SFits, bits, hbits}
 use Rattle.postcard_wire.specs.Number.{zigzag, InRange}
 use Rattle.postcard_wire.specs.Tree.{IsWidth}
 
--- A width has twice the numbers of one bit less.
+-- A width has twice as many numbers as one bit less.
 one_bit_more : (w : ℕ) → IsWidth w → 2 ^ w ≡ 2 * 2 ^ (w - 1)
 one_bit_more w (inl e) = rw e refl
 one_bit_more w (inr (inl e)) = rw e refl
 one_bit_more w (inr (inr (inl e))) = rw e refl
 one_bit_more w (inr (inr (inr e))) = rw e refl
 
--- A number in its range has a zigzag of its width.
+-- A signed number in the range of a width has a zigzag of that width.
 pub zig_below : (w : ℕ) (z : ℤ) → IsWidth w → InRange w z → zigzag z < 2 ^ w
 zig_below w (pos n) wide h = omega (arith, ints, one_bit_more w wide, h.0, h.1)
 zig_below w (negsuc n) wide h = omega (arith, ints, one_bit_more w wide, h.0, h.1)
 
--- A number whose zigzag has the width is in its range.
+-- A signed number whose zigzag has a width is in the range of that width.
 pub in_range : (w : ℕ) (z : ℤ) → IsWidth w → zigzag z < 2 ^ w → InRange w z
 in_range w (pos n) wide h = let e = one_bit_more w wide in (omega (arith, ints), omega (arith, ints))
 in_range w (negsuc n) wide h = let e = one_bit_more w wide in (omega (arith, ints), omega (arith, ints))
 
--- Each unsigned number is the zigzag of one that is signed.
+-- Each unsigned number is the zigzag of some signed number.
 unzigzag : (n : ℕ) → (z : ℤ) × (zigzag z ≡ n)
 unzigzag n = by_rest (n % 2) refl
   where
@@ -38,7 +39,7 @@ zig_onto w n wide h =
     let u = unzigzag n in
     (u.0, in_range w u.0 wide (rw u.1 h), u.1)
 
--- Half the numbers of a width of the code are below 0.
+-- Half of the numbers of a machine width are negative.
 halves : (w : Width) → 2 ^ (bits w - 1) ≡ 2 ^ hbits w
 halves w8 = refl
 halves w16 = refl
@@ -46,11 +47,11 @@ halves w32 = refl
 halves w64 = refl
 halves w128 = refl
 
--- A signed value of the code is in the range of its width.
+-- A signed value of a machine width is in the range of that width.
 pub ranged : (w : Width) (z : ℤ) → SFits w z → InRange (bits w) z
 ranged w (pos n) f = let e = halves w in (omega (arith, ints, f.sfits), omega (arith, ints, f.sfits))
 ranged w (negsuc n) f = let e = halves w in (omega (arith, ints, f.sfits), omega (arith, ints, f.sfits))
 
--- The same at 16 bits.
+-- A signed value of 16 bits is in the range of 16 bits.
 pub ranged_16 : (z : ℤ) → SFits w16 z → InRange 16 z
 ranged_16 = ranged w16

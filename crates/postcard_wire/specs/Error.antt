@@ -1,4 +1,4 @@
--- What an error prints: the texts of postcard 1.1.3, and one of this port for `OutOfMemory`.
+-- The texts that errors print: those of postcard 1.1.3, and one of this port for `OutOfMemory`.
 use Rattle.std.specs.Prelude.{ℕ, List, codes}
 use Rattle.postcard_wire.specs.declared.error.Error.{Error}
 use Rattle.postcard_wire.specs.declared.error.Error.TheVariants.{WontImplement, NotYetImplemented, SerializeBufferFull, SerializeSeqLengthUnknown, DeserializeUnexpectedEnd, DeserializeBadVarint, DeserializeBadBool, DeserializeBadChar, DeserializeBadUtf8, DeserializeBadOption, DeserializeBadEnum, DeserializeBadEncoding, DeserializeBadCrc, SerdeSerCustom, SerdeDeCustom, CollectStrError, OutOfMemory}

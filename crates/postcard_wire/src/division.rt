@@ -3,7 +3,7 @@
 
 ghost use Rattle.std.specs.Prelude.{◌≡◌, ◌<◌, ◌^◌, IfOk};
 ghost use Rattle.postcard_wire.specs.Number.{SpellsNum, zigzag};
-ghost use Rattle.postcard_wire.specs.Spelling.{bytes};
+ghost use Rattle.postcard_wire.specs.Spelling.{canonical};
 ghost use Rattle.postcard_wire.specs.Tree.{Num, IsWidth};
 
 use std::alloc::{AllocError, Global};
@@ -17,7 +17,7 @@ pub fn spell(alloc: Global, bits: u32, n: u128) -> Result<Vec<u8>, AllocError>
     requires width { IsWidth bits }
     requires fits { n < 2 ^ bits }
     ensures spells { IfOk result (λ v. SpellsNum bits n v.items) }
-    ensures shortest { IfOk result (λ v. v.items ≡ bytes (Num bits n)) }
+    ensures shortest { IfOk result (λ v. v.items ≡ canonical (Num bits n)) }
 {
     let mut spelling = Vec::new(alloc);
     let mut rest = n;

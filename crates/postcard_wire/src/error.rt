@@ -29,7 +29,7 @@ pub enum Error {
     /// A list or a map was begun without a length. Nothing was written.
     SerializeSeqLengthUnknown,
     /// The bytes end before the value does. Over a reader also: the reader failed, or the scratch
-    /// buffer is too short for what is lent.
+    /// buffer is too short for the bytes to be borrowed from it.
     DeserializeUnexpectedEnd,
     /// A varint has its full length, 3, 5, 10 or 19 bytes for 16, 32, 64 or 128 bits, and its last
     /// byte says that another follows or exceeds the width. Also for a variant's index above 32

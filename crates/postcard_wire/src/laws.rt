@@ -7,8 +7,8 @@ ghost use Rattle.std.specs.Prelude.{◌≡◌, ℕ, ℤ, ◌+◌, ◌-◌, ◌�
 ghost use Rattle.std.specs.Prelude.{[], List, length};
 ghost use Rattle.postcard_wire.specs.Number.{number, zigzag, max_digits, InRange};
 ghost use Rattle.postcard_wire.specs.Tree.{Tree, Trees, Num, WellFormed, IsWidth};
-ghost use Rattle.postcard_wire.specs.Spelling.{Spells, bytes};
-ghost use Rattle.postcard_wire.specs.Digits.{ReadsNum, Refuses};
+ghost use Rattle.postcard_wire.specs.Spelling.{Spells, canonical};
+ghost use Rattle.postcard_wire.specs.Digits.{ReadsNum, RefusesNum};
 ghost use Rattle.postcard_wire.specs.declared.error.Error.{Error};
 ghost use Rattle.postcard_wire.specs.Reading.{IsDelimited, AreDelimited, ReadsWellFormed};
 ghost use Rattle.postcard_wire.specs.Reading.{PartsWellFormed, IsByte, IsBoolean, IsNum, IsInt};
@@ -32,9 +32,9 @@ pub trait ContentSet {
 
 /// Each tree has one shortest spelling, and every other is longer.
 pub fn shortest()
-    ensures spelled { (t : Tree) → WellFormed t → Spells t (bytes t) }
+    ensures spelled { (t : Tree) → WellFormed t → Spells t (canonical t) }
     ensures alone { (t : Tree) (p : List ℕ) → Spells t p
-        → (p ≡ bytes t) ⊎ (length (bytes t) < length p) }
+        → (p ≡ canonical t) ⊎ (length (canonical t) < length p) }
 {}
 
 /// The spellings of the nodes of one kind are prefix-free: none is a proper prefix of another.
@@ -112,17 +112,18 @@ pub fn well_formed_subsets<S: TreeSet, T: TreeSet>()
 /// front that spells a tree of the set, and it spells only this tree.
 pub fn read_again<S: TreeSet>()
     ensures { IsDelimited S.has → ReadsWellFormed S.has → (t s : Tree) (p rest left : List ℕ)
-        → S.has t → S.has s → Spells s p → p ++ left ≡ bytes t ++ rest
-        → (p ≡ bytes t) × (s ≡ t) × (left ≡ rest) }
+        → S.has t → S.has s → Spells s p → p ++ left ≡ canonical t ++ rest
+        → (p ≡ canonical t) × (s ≡ t) × (left ≡ rest) }
 {}
 
-/// Bytes that are refused as a number don't begin with one.
+/// Bytes that are refused as a number of a width don't begin with a number of that width.
 pub fn refused()
     ensures { (w n : ℕ) (bytes rest : List ℕ) (e : Error)
-        → Refuses w bytes e → ReadsNum w bytes n rest → ⊥ }
+        → RefusesNum w bytes e → ReadsNum w bytes n rest → ⊥ }
 {}
 
-/// What digits say: each counts by its place. No two signed numbers have the same zigzag encoding.
+/// The value of a list of digits: each digit counts by its place. No two signed numbers have the
+/// same zigzag encoding.
 pub fn numbers()
     ensures none { number [] ≡ 0 }
     ensures by_place { (p : List ℕ) (b : ℕ)
@@ -140,6 +141,6 @@ pub fn zigzags()
 
 /// No number takes more bytes than its width allows, and the greatest takes just that many.
 pub fn lengths()
-    ensures most { (w n : ℕ) → IsWidth w → n < 2 ^ w → length (bytes (Num w n)) ≤ max_digits w }
-    ensures reached { (w : ℕ) → IsWidth w → length (bytes (Num w (2 ^ w - 1))) ≡ max_digits w }
+    ensures most { (w n : ℕ) → IsWidth w → n < 2 ^ w → length (canonical (Num w n)) ≤ max_digits w }
+    ensures reached { (w : ℕ) → IsWidth w → length (canonical (Num w (2 ^ w - 1))) ≡ max_digits w }
 {}

@@ -11,7 +11,7 @@ use std::test::Fail;
 
 type Tested = std::result::Result<(), Fail>;
 
-/// The number of so many bits at the front, and how many bytes it took.
+/// Reads a number of `bits` bits from the front of `bytes`. Returns it with its count of bytes.
 fn read(bits: u32, bytes: &[u8]) -> Result<(u128, usize)>
     requires { IsWidth bits }
 {
@@ -24,9 +24,9 @@ fn read(bits: u32, bytes: &[u8]) -> Result<(u128, usize)>
     Err(Error::DeserializeUnexpectedEnd)
 }
 
-/// Numbers of 128 bits: each power of two, and so of 128, with its neighbours, the greatest, and
-/// 300 of a multiplicative generator. Taken modulo a width they are edges and samples of that
-/// width.
+/// Returns numbers of 128 bits: each power of two with its neighbours, so each power of 128 too,
+/// the greatest number, and 300 of a multiplicative generator. Modulo the power of two of a width
+/// they are edges and samples of that width.
 fn numbers(alloc: Global) -> std::result::Result<Vec<u128>, AllocError> {
     let mut numbers = Vec::new(alloc);
     let mut power = 1u128;
@@ -60,7 +60,8 @@ macro_rules! compare {
         assert_eq!($rt; $zig_zag(signed), $n);
         let signed = $n.cast_signed();
         let folded = $zig_zag(signed);
-        assert_eq!($rt; u128::from(folded), division::zig_zag(i128::from(signed)), "{signed} folded");
+        let want = division::zig_zag(i128::from(signed));
+        assert_eq!($rt; u128::from(folded), want, "{signed} folded");
         assert_eq!($rt; $de_zig_zag(folded), signed);
     }};
 }
@@ -183,7 +184,7 @@ fn writes_the_vectors(rt: HostRuntime) {
     assert_eq!(rt; written, [0x01].as_slice());
 }
 
-/// The greatest number of a width: its most bytes, and its greatest last byte.
+/// The greatest number of each width has the most bytes, and the greatest last byte.
 #[test]
 fn has_its_most_bytes_at_the_greatest(rt: HostRuntime) {
     let mut buffer = [0; varint::VARINT_MAX_16];
@@ -245,7 +246,7 @@ fn refuses_numbers_past_the_width(rt: HostRuntime) {
     }
 }
 
-/// Of 64 and 128 bits a full length whose last byte is one more than the greatest, or goes on.
+/// A full length of 64 or 128 bits is refused if its last byte exceeds the greatest or goes on.
 #[test]
 fn refuses_a_great_last_byte(rt: HostRuntime) {
     for last in [varint::MAX_OF_LAST_BYTE_64 + 1, 0x80] {

@@ -1,7 +1,10 @@
-//! The greatest size of a type's encodings (all of `postcard_max`), and that a buffer of that size
-//! is enough.
+//! The greatest size of a type's encodings (all of `postcard_max`), and a call for a buffer of that
+//! size.
 
-ghost use Rattle.std.specs.Prelude.{◌≤◌, length, IfSome, IsOk};
+ghost use Rattle.std.specs.Prelude.{◌≡◌, ◌≤◌, ◌↔◌, length, IfSome, IfOk, IfErr, IsOk, OnOk, OnErr};
+ghost use Rattle.postcard_wire.specs.Spelling.{canonical};
+ghost use Rattle.postcard_ser.specs.Writing.{IsWriteError};
+ghost use Rattle.postcard.specs.Buffers.{Fills, FillsFront};
 
 use crate::ser::fill_slice;
 pub use postcard_max::{MaxSize, MaxSizeRepr, SizeBound, cases, laws, rows, sizes};
@@ -9,17 +12,27 @@ use postcard_ser::Serialize;
 use postcard_wire::Result;
 
 /// Encodes a value into the front of a buffer, as `fill_slice` does, and returns the number of
-/// bytes written. A buffer of `T::postcard_max_size()` bytes refuses no value, but one that refuses
-/// itself.
+/// bytes written. If `T::postcard_max_size()` is `Some(n)`, a buffer of at least `n` bytes is
+/// enough for every value that doesn't refuse itself.
 ///
 /// # Errors
 ///
-/// As `fill_slice`: fails with `SerializeBufferFull` if the encoding is longer than the buffer.
+/// Fails as `fill_slice`: with `SerializeBufferFull` if the encoding is longer than the buffer, or
+/// with `CollectStrError` for a type whose text may fail to print.
 pub fn fill_max_size<T: Serialize + MaxSize>(value: &T, buffer: &mut [u8]) -> Result<usize>
+    ensures count_is_length { IfOk result (λ count. count
+        ≡ length (canonical (T.shape.tree value.now))) }
+    ensures fills { OnOk result (Fills (canonical (T.shape.tree value.now)) buffer.old buffer.new) }
+    ensures refused { OnErr result (¬ T.shape.refuses value.now
+        → FillsFront (canonical (T.shape.tree value.now)) buffer.old buffer.new) }
+    ensures fits_iff { ¬ T.shape.refuses value.now
+        → (IsOk result ↔ (length (canonical (T.shape.tree value.now)) ≤ length buffer.old)) }
+    ensures named_error { ¬ T.shape.refuses value.now → IfErr result (IsWriteError T.shape.text) }
+    ensures fits { OnOk result (T.shape.fits value.now) }
     ensures enough { ¬ T.shape.refuses value.now
-        → IfSome T.greatest (λ m. m ≤ length buffer.old → IsOk result) }
-    ensures always_enough { T.willing
-        → IfSome T.greatest (λ m. m ≤ length buffer.old → IsOk result) }
+        → IfSome T.limit.greatest (λ m. m ≤ length buffer.old → IsOk result) }
+    ensures always_enough { T.limit.willing
+        → IfSome T.limit.greatest (λ m. m ≤ length buffer.old → IsOk result) }
 {
     laws::within_max_size(value);
     fill_slice(value, buffer)

@@ -19,16 +19,16 @@ use postcard_wire::{Error, Result};
 use std::alloc::Global;
 use std::collections::BTreeMap;
 
-/// Appends an element to a list of which `announced` elements are still to come, this one among
-/// them.
+/// Appends an element to a list that is to get `announced` more elements, this one included.
 ///
-/// A full list asks for room for `first` elements at first and then for three times the number that
-/// it has, but never for more than are announced. So a few requests for memory serve a list, and
-/// none is large for what was read, whatever count a damaged message announces.
+/// If the list is full, it first asks for room for `first` more elements, or for three times the
+/// number that it has if that is greater, but never for more than `announced`. So a list takes few
+/// requests for memory, and none is for more than `first` elements or three times those that were
+/// read, whatever count a damaged message announces.
 ///
 /// # Errors
 ///
-/// Fails with `OutOfMemory` if an allocation fails.
+/// Fails with `OutOfMemory` if the allocation fails.
 fn push_announced<T: Drop>(
     items: &mut Vec<T>,
     item: T,
@@ -51,12 +51,12 @@ fn push_announced<T: Drop>(
 }
 
 impl<'de, F: Flavor> Deserializer<'de, F> {
-    /// Reads a list: its count, and that many elements.
+    /// Reads a list: a count, and that many elements.
     ///
     /// # Errors
     ///
-    /// For the count as `deserialize_u64`, and those of an element. Fails with `OutOfMemory` if an
-    /// allocation fails.
+    /// Fails as `deserialize_u64` if the count can't be read, as reading the first element that
+    /// can't be read does, and with `OutOfMemory` if an allocation fails.
     pub(crate) fn list<T: Shaped + Drop, E: Element<'de, T>>(
         &mut self,
         alloc: Global,
@@ -69,7 +69,7 @@ impl<'de, F: Flavor> Deserializer<'de, F> {
         if let Some(items) = lists::list_at_hand(alloc, &mut self.flavor, count)? {
             return Ok(items);
         }
-        // An element has a byte at least, but for types whose elements take no memory either.
+        // Each element has at least one byte, except for types whose elements take no memory.
         let first = self.flavor.at_hand().len().clamp(16, 128);
         let mut items = Vec::new(alloc);
         for i in 0..count {
@@ -79,12 +79,13 @@ impl<'de, F: Flavor> Deserializer<'de, F> {
         Ok(items)
     }
 
-    /// Reads a list of at most `CAP` elements: its count, and that many elements.
+    /// Reads a list of at most `CAP` elements: a count, and that many elements.
     ///
     /// # Errors
     ///
-    /// For the count as `deserialize_u64`, and those of an element. Fails with `SerdeDeCustom` once
-    /// the first element that doesn't fit has been read.
+    /// Fails as `deserialize_u64` if the count can't be read, and as reading the first element that
+    /// can't be read does. Fails with `SerdeDeCustom` if there are more than `CAP` elements, once
+    /// `CAP + 1` of them have been read.
     pub(crate) fn few<T: Shaped + Drop + Default, E: Element<'de, T>, const CAP: usize>(
         &mut self,
         alloc: Global,
@@ -108,7 +109,7 @@ impl<'de, F: Flavor> Deserializer<'de, F> {
     ///
     /// # Errors
     ///
-    /// Those of an element.
+    /// Fails as reading the first element that can't be read does.
     pub(crate) fn array<T: Shaped + Drop + Copy + Default, E: Element<'de, T>, const N: usize>(
         &mut self,
         alloc: Global,
@@ -124,13 +125,13 @@ impl<'de, F: Flavor> Deserializer<'de, F> {
         Ok(items)
     }
 
-    /// Reads a map: a count, and that many pairs of a key and a value. Of two values of equal keys
-    /// the later wins.
+    /// Reads a map: a count, and that many pairs of a key and a value, in any order of the keys. If
+    /// a key is repeated, its last value is kept.
     ///
     /// # Errors
     ///
-    /// For the count as `deserialize_u64`, and those of a key or a value. Fails with `OutOfMemory`
-    /// if an allocation fails.
+    /// Fails as `deserialize_u64` if the count can't be read, as reading the first key or value
+    /// that can't be read does, and with `OutOfMemory` if an allocation fails.
     pub(crate) fn map<
         K: Shaped + Ord + Drop,
         V: Shaped + Drop,

@@ -1,4 +1,5 @@
-//! The calls that the format can't serve, since a message doesn't say of which type it is.
+//! The calls that the format can't serve, since a message doesn't say what type it has. They are
+//! refused as in postcard 1.1.3.
 
 ghost use Rattle.std.specs.Prelude.{◌≡◌, Err};
 

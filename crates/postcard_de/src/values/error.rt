@@ -1,4 +1,4 @@
-//! Errors as values: by their index.
+//! Errors as values: read by their index.
 
 ghost use Rattle.std.specs.Prelude.{◌≡◌, ◌<◌, ◌≤◌, IfSome, IfNone};
 ghost use Rattle.postcard_shape.specs.Errors.{error_index};
@@ -10,8 +10,9 @@ use postcard_de_flavors::Flavor;
 use postcard_wire::{Error, Result};
 use std::alloc::Global;
 
-/// An enum without content: the index of the error as a varint. 16 is [`Error::OutOfMemory`], and
-/// any greater index is refused with `SerdeDeCustom`.
+/// Reads an enum without content: the index of the error, a varint of at most 5 bytes. The index 16
+/// is [`Error::OutOfMemory`]. Fails as `deserialize_enum`, and with `SerdeDeCustom` if the index is
+/// above 16.
 impl<'de> Deserialize<'de> for Error {
     fn deserialize<F: Flavor>(_alloc: Global, d: &mut Deserializer<'de, F>) -> Result<Self> {
         let index = d.deserialize_enum("Error", &[])?;
@@ -34,7 +35,8 @@ impl DeserializeOwned for Error {
     }
 }
 
-/// Returns the error of an index, its place in the order of [`Error`], or `None` if there is none.
+/// Returns the error of an index, its place in the list of [`Error`] from 0 on, or `None` if there
+/// is no such error.
 fn error_of(index: u32) -> Option<Error>
     ensures known { IfSome result (λ e. error_index e ≡ index) }
     ensures few { IfSome result (λ _. index < 17) }

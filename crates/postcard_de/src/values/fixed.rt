@@ -34,7 +34,7 @@ impl<T: DeserializeOwned + Copy + Default, const N: usize> DeserializeOwned for 
     }
 }
 
-/// A list of more elements than the capacity is refused with `SerdeDeCustom`, once the first
+/// Fails with `SerdeDeCustom` if the list has more elements than the capacity, once the first
 /// element that doesn't fit has been read.
 impl<'de, T: Deserialize<'de> + Default, const CAP: usize> Deserialize<'de> for ArrayVec<T, CAP> {
     fn deserialize<F: Flavor>(alloc: Global, d: &mut Deserializer<'de, F>) -> Result<Self> {
@@ -51,7 +51,7 @@ impl<T: DeserializeOwned + Default, const CAP: usize> DeserializeOwned for Array
     }
 }
 
-/// A text of more bytes than the capacity is refused with `SerdeDeCustom`, once its bytes were
+/// Fails with `SerdeDeCustom` if the text has more bytes than the capacity, once its bytes were
 /// taken and found to be UTF-8.
 impl<'de, const CAP: usize> Deserialize<'de> for ArrayString<CAP> {
     fn deserialize<F: Flavor>(_alloc: Global, d: &mut Deserializer<'de, F>) -> Result<Self>

@@ -1,4 +1,4 @@
-//! Lists.
+//! Lists of any length: `Vec<T>`, and `&[u8]`, which is lent from the source.
 
 ghost use Rattle.std.specs.Prelude.{◌≡◌, IfErr};
 ghost use Rattle.postcard_wire.specs.Tree.{Byte};

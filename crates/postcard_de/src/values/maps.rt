@@ -1,4 +1,4 @@
-//! Maps.
+//! Maps: `BTreeMap<K, V>`, read as a list of its pairs.
 
 use crate::deserialize::Deserialize;
 use crate::deserializer::Deserializer;

@@ -1,4 +1,4 @@
-//! Numbers that aren't 0.
+//! Numbers that aren't 0: read as the number, of which 0 is refused with `SerdeDeCustom`.
 
 use crate::deserialize::Deserialize;
 use crate::deserializer::Deserializer;

@@ -1,4 +1,4 @@
-//! Numbers of a fixed width.
+//! Numbers of a fixed width, from 8 to 128 bits.
 
 ghost use Rattle.std.specs.Prelude.{◌≡◌, IfErr};
 ghost use Rattle.std.specs.Int.{w8, cast_unsigned};

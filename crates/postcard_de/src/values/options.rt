@@ -1,4 +1,4 @@
-//! Options and results.
+//! Options, and results, which are read as an enum of two variants.
 
 use crate::deserialize::Deserialize;
 use crate::deserializer::Deserializer;

@@ -10,8 +10,8 @@ impl<T: Shaped + Drop> FromRepr for Range<T> {
     }
 }
 
-/// Whether a range was iterated to its end isn't written, so a range that was read is not
-/// exhausted.
+/// Whether a range was iterated to its end isn't written, so a range that was read is never
+/// exhausted by iteration.
 impl<T: Shaped + Drop> FromRepr for RangeInclusive<T> {
     fn from_repr((start, end): Self::As) -> Self {
         RangeInclusive::new(start, end)

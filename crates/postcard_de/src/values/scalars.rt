@@ -1,5 +1,4 @@
-//! Truth values, characters, and numbers as wide as an address, which are read as numbers of 64
-//! bits.
+//! Booleans, characters, and numbers as wide as an address, which are read as numbers of 64 bits.
 
 ghost use Rattle.std.specs.Prelude.{◌≡◌, IfErr};
 ghost use Rattle.postcard_wire.specs.Tree.{Boolean, Char, Num, Int};

@@ -1,4 +1,4 @@
-//! Texts.
+//! Texts: `&str`, which is lent from the source, and `String`.
 
 ghost use Rattle.std.specs.Prelude.{◌≡◌, IfErr, string_bytes, ⊤};
 ghost use Rattle.postcard_wire.specs.Tree.{Text};

@@ -1,4 +1,4 @@
-//! Spans of time.
+//! Spans of time: `Duration`.
 
 use crate::deserialize::Deserialize;
 use crate::deserializer::Deserializer;

@@ -1,4 +1,4 @@
-//! Types that hold one value of another: read as that value.
+//! Types that hold one value of another, as `Box<T>`: read as that value.
 
 use crate::deserialize::Deserialize;
 use crate::deserializer::Deserializer;

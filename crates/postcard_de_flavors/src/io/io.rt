@@ -1,28 +1,31 @@
 //! The source over a reader.
 
-ghost use Rattle.std.specs.Prelude.{◌≡◌, ◌<◌, ◌≤◌, [], ◌∷◌, length, drop, None, IfOk, IfErr, IsOk, IsErr, MatchResult};
+ghost use Rattle.std.specs.Prelude.{◌≡◌, ◌<◌, ◌≤◌, [], ◌∷◌, length, drop, None, IfOk, IfErr, IsOk};
+ghost use Rattle.std.specs.Prelude.{IsErr, MatchResult};
 ghost use Rattle.std.specs.Borrow.{sem};
 ghost use Rattle.std.specs.Io.BufRead.{Rests};
 ghost use Rattle.postcard_de_flavors.specs.contracts.io.io.IOReader.{the_row};
 ghost use mir.Syntax.{named};
 ghost use Rattle.postcard_de_flavors.specs.Source.{Takes};
 ghost use Rattle.postcard_de_flavors.specs.Reader.{AtLeast};
-ghost use Rattle.postcard_de_flavors.specs.IOReader.{reader_of, scratch_of, CanRead, MayBecome, LendsScratch, reader_laws};
+ghost use Rattle.postcard_de_flavors.specs.IOReader.{reader_of, scratch_of, CanRead, MayBecome};
+ghost use Rattle.postcard_de_flavors.specs.IOReader.{LendsScratch, reader_laws};
 
 use super::sliding_buffer::SlidingBuffer;
 use crate::flavor::Flavor;
 use crate::source::Source;
 use postcard_wire::{Error, Result};
 
-/// Reads from a reader, and lends what it has read from a scratch buffer.
+/// A source that reads from a reader into a scratch buffer, from which it lends the bytes.
 ///
-/// No byte is read before it is asked for, so what follows a message stays unread. A single byte needs
-/// no scratch. Bytes that are lent are read into the front of the scratch: `try_take_n` uses up as much
-/// of it as it is asked for, also if the read then fails, and `try_take_n_temp` gives it back.
+/// No byte is read before it is asked for, so what follows a message stays unread. `pop` needs no
+/// scratch. The takes read into the front of the scratch and lend that: `try_take_n` uses up `ct`
+/// bytes of scratch, even if the read fails, and `try_take_n_temp` leaves them free for the next
+/// call.
 ///
-/// A contract sees the reader, `reader_of`, and the scratch left, `scratch_of`. Calls succeed if the
-/// reader is steady and has enough bytes left, and enough scratch is left too. Over any reader that
-/// knows its bytes, what is given was their front.
+/// In contracts it is a reader, `reader_of`, and the scratch left, `scratch_of`. A call succeeds if
+/// the reader is steady and has enough bytes left, and enough scratch is left. If the reader knows
+/// its bytes, steady or not, the bytes returned are the next of them.
 #[derive(Drop)]
 pub struct IOReader<'de, T: Source> {
     reader: T,
@@ -53,7 +56,8 @@ impl<'de, T: Source> Flavor for IOReader<'de, T> {
 
     ghost may_leave = { MayBecome T.steady };
 
-    ghost finishes = { λ s r. MatchResult r (λ rest. (rest.0 ≡ reader_of s) × (rest.1.now ≡ scratch_of s)) (λ e. ⊥) };
+    ghost finishes = { λ s r. MatchResult r (λ rest. (rest.0 ≡ reader_of s)
+        × (rest.1.now ≡ scratch_of s)) (λ e. ⊥) };
 
     ghost hint = { λ _. None };
 
@@ -63,13 +67,16 @@ impl<'de, T: Source> Flavor for IOReader<'de, T> {
     ///
     /// # Errors
     ///
-    /// Fails with `DeserializeUnexpectedEnd` if no byte is left or the reader fails.
+    /// Fails with `DeserializeUnexpectedEnd` if no byte is left or the reader fails. The scratch is
+    /// unchanged.
     fn pop(&mut self) -> Result<u8>
-        ensures gives { IfOk result (λ b. Takes ⟦<IOReader<'de, T> as Flavor>⟧.left ⟦<IOReader<'de, T> as Flavor>⟧.able self.old (b ∷ []) self.new) }
+        ensures gives { IfOk result (λ b. Takes ⟦<IOReader<'de, T> as Flavor>⟧.left
+            ⟦<IOReader<'de, T> as Flavor>⟧.able self.old (b ∷ []) self.new) }
         ensures leaves { ⟦<IOReader<'de, T> as Flavor>⟧.may_leave self.old self.new }
         ensures refuses { IfErr result (λ e. e ≡ Error.DeserializeUnexpectedEnd) }
         ensures accepts { ⟦<IOReader<'de, T> as Flavor>⟧.able self.old 1 → IsOk result }
-        ensures succeeds { T.steady (reader_of self.old) → AtLeast (T.remaining (reader_of self.old)) 1 → IsOk result }
+        ensures succeeds { T.steady (reader_of self.old)
+            → AtLeast (T.remaining (reader_of self.old)) 1 → IsOk result }
         ensures no_scratch { scratch_of self.new ≡ scratch_of self.old }
     {
         let mut byte = [0];
@@ -86,23 +93,27 @@ impl<'de, T: Source> Flavor for IOReader<'de, T> {
         None
     }
 
-    /// Reads the next `ct` bytes into the front of the scratch, and uses that up.
+    /// Reads the next `ct` bytes into the first `ct` bytes of the scratch, which are used up. The
+    /// slice is valid as long as the scratch buffer.
     ///
     /// # Errors
     ///
-    /// Fails with `DeserializeUnexpectedEnd` if less scratch is left; the reader isn't called then, and
-    /// nothing is changed. Also if fewer bytes are left or the reader fails; the scratch is used up
-    /// then, and the reader may have given some of the bytes.
+    /// Fails with `DeserializeUnexpectedEnd` if fewer than `ct` bytes of scratch are left; the
+    /// reader isn't called then, and nothing is changed. Fails with the same error if fewer than
+    /// `ct` bytes are left to read or the reader fails; the `ct` bytes of scratch are used up then,
+    /// and some bytes of the reader may be lost.
     fn try_take_n<'a>(&mut self, ct: usize) -> Result<&'a [u8]>
     where
         Self: 'a,
         ensures length { IfOk result (λ front. length front.now ≡ ct) }
-        ensures gives { IfOk result (λ front. Takes ⟦<IOReader<'de, T> as Flavor>⟧.left ⟦<IOReader<'de, T> as Flavor>⟧.able self.old front.now self.new) }
+        ensures gives { IfOk result (λ front. Takes ⟦<IOReader<'de, T> as Flavor>⟧.left
+            ⟦<IOReader<'de, T> as Flavor>⟧.able self.old front.now self.new) }
         ensures accepts { ⟦<IOReader<'de, T> as Flavor>⟧.able self.old ct → IsOk result }
         ensures leaves { ⟦<IOReader<'de, T> as Flavor>⟧.may_leave self.old self.new }
         ensures refuses { IfErr result (λ e. e ≡ Error.DeserializeUnexpectedEnd) }
         ensures short { length (scratch_of self.old) < ct → IsErr result × (self.new ≡ self.old) }
-        ensures uses { ct ≤ length (scratch_of self.old) → scratch_of self.new ≡ drop ct (scratch_of self.old) }
+        ensures uses { ct ≤ length (scratch_of self.old) → scratch_of self.new
+            ≡ drop ct (scratch_of self.old) }
     {
         let front = self.scratch.take_n(ct)?;
         match self.reader.read_full(front) {
@@ -111,17 +122,20 @@ impl<'de, T: Source> Flavor for IOReader<'de, T> {
         }
     }
 
-    /// Reads the next `ct` bytes into the front of the scratch. The slice is valid until the next call,
-    /// which can use the same scratch again.
+    /// Reads the next `ct` bytes into the first `ct` bytes of the scratch. The slice is valid until
+    /// the next call, which can use the same scratch again.
     ///
     /// # Errors
     ///
-    /// Fails with `DeserializeUnexpectedEnd` if less scratch is left; the reader isn't called then, and
-    /// nothing is changed. Also if fewer bytes are left or the reader fails; the scratch is kept then,
-    /// and the reader may have given some of the bytes.
+    /// Fails with `DeserializeUnexpectedEnd` if fewer than `ct` bytes of scratch are left; the
+    /// reader isn't called then, and nothing is changed. Fails with the same error if fewer than
+    /// `ct` bytes are left to read or the reader fails; no scratch is used up then, but some bytes
+    /// of the reader may be lost.
     fn try_take_n_temp(&mut self, ct: usize) -> Result<&[u8]>
         ensures length { IfOk result (λ front. length front.now ≡ ct) }
-        ensures* gives { sem 𝓛 (Rests (the_row (record { mir = named 1; lft = [] }) T.row) self.entry (LendsScratch T.remaining T.steady ct self.old result)) }
+        ensures* gives { sem 𝓛 (Rests (the_row
+            (record { mir = named 1; lft = [] }) T.row) self.entry
+            (LendsScratch T.remaining T.steady ct self.old result)) }
         ensures accepts { ⟦<IOReader<'de, T> as Flavor>⟧.able self.old ct → IsOk result }
         ensures refuses { IfErr result (λ e. e ≡ Error.DeserializeUnexpectedEnd) }
         ensures short { length (scratch_of self.old) < ct → IsErr result }

@@ -1,19 +1,22 @@
-//! The scratch buffer of a source: its front is used up, or used for a while.
+//! The scratch buffer of a source over a reader: bytes at its front are used up, or lent until the
+//! next call.
 
-ghost use Rattle.std.specs.Prelude.{◌≡◌, ◌<◌, ◌≤◌, ◌^◌, ◌++◌, length, take, drop, IfOk, IfErr, OnOk, OnErr, IsOk, IsErr};
+ghost use Rattle.std.specs.Prelude.{◌≡◌, ◌<◌, ◌≤◌, ◌^◌, ◌++◌, length, take, drop, IfOk, IfErr};
+ghost use Rattle.std.specs.Prelude.{OnOk, OnErr, IsOk, IsErr};
 ghost use Rattle.std.specs.Io.KnownBytes.{Consumes};
 ghost use Rattle.postcard_de_flavors.specs.Reader.{AtLeast};
 
 use crate::source::Source;
-use postcard_memory::Memory;
+use postcard_memory::{Life, Memory};
 use postcard_wire::{Error, Result};
 use std::marker::Model;
 use std::mem;
 
-/// The free part of a scratch buffer. A contract sees it as the list of its bytes.
+/// The free part of a scratch buffer. In contracts it is the list of its bytes.
 #[derive(Drop)]
 pub struct SlidingBuffer<'de> {
-    memory: Memory<'de>,
+    memory: Memory,
+    life: &'de Life,
     len: usize,
 }
 
@@ -24,63 +27,71 @@ impl<'de> Model for SlidingBuffer<'de> {
 
     ghost view = { λ s. s.memory.items };
 
-    ghost invariant = { λ s. (s.len ≡ length s.memory.items) × (s.len < 2 ^ 63) };
+    ghost invariant = { λ s. (s.len ≡ length s.memory.items) × (s.len < 2 ^ 63)
+        × (s.memory.time ≡ s.life.now) };
 }
 
 impl<'de> SlidingBuffer<'de> {
-    /// Returns all of `scratch`, free.
+    /// Returns a buffer of which all of `scratch` is free.
     pub fn new(scratch: &'de mut [u8]) -> SlidingBuffer<'de>
         ensures { result ≡ scratch.old }
     {
         let len = scratch.len();
-        SlidingBuffer {
-            memory: Memory::new(scratch),
-            len,
-        }
+        let (memory, life) = Memory::new(scratch);
+        SlidingBuffer { memory, life, len }
     }
 
-    /// Takes the first `n` bytes, which are used up.
+    /// Takes the first `n` free bytes for good.
     ///
     /// # Errors
     ///
-    /// Fails with `DeserializeUnexpectedEnd` if and only if fewer are free; nothing is changed then.
+    /// Fails with `DeserializeUnexpectedEnd` if and only if fewer than `n` bytes are free; nothing
+    /// is changed then.
     pub fn take_n(&mut self, n: usize) -> Result<&'de mut [u8]>
-        ensures taken { IfOk result (λ front. (length front.now ≡ n) × (self.old ≡ front.now ++ self.new)) }
+        ensures taken { IfOk result (λ front. (length front.now ≡ n)
+            × (self.old ≡ front.now ++ self.new)) }
         ensures refused { OnErr result ((self.new ≡ self.old) × (length self.old < n)) }
-        ensures error { IfErr result (λ e. e ≡ Error.DeserializeUnexpectedEnd) }
+        ensures refuses { IfErr result (λ e. e ≡ Error.DeserializeUnexpectedEnd) }
     {
         if self.len < n {
             return Err(Error::DeserializeUnexpectedEnd);
         }
         let len = self.len;
-        let old = mem::replace(&mut self.memory, Memory::new(&mut []));
-        let (front, rest) = old.whole(len).split_at_mut(n);
+        let (none, _) = Memory::new(&mut []);
+        let old = mem::replace(&mut self.memory, none);
+        let (front, rest) = old.whole(self.life, len).split_at_mut(n);
         self.len = rest.len();
-        self.memory = Memory::new(rest);
+        (self.memory, self.life) = Memory::new(rest);
         Ok(front)
     }
 
-    /// Fills the first `n` bytes from a reader. They stay free.
+    /// Reads the next `n` bytes of a reader into the first `n` free bytes, which stay free. The
+    /// bytes after them are unchanged, also after a failure.
     ///
     /// # Errors
     ///
-    /// Fails with `DeserializeUnexpectedEnd` if fewer are free, and nothing is changed then; also if the
-    /// read fails.
+    /// Fails with `DeserializeUnexpectedEnd` if fewer than `n` bytes are free, and nothing is
+    /// changed then. Fails with the same error if the read fails; the first `n` bytes are
+    /// unspecified then.
     pub fn fill<R: Source>(&mut self, reader: &mut R, n: usize) -> Result<()>
         ensures length { length self.new ≡ length self.old }
-        ensures rest { drop n self.new ≡ drop n self.old }
+        ensures rest_unchanged { drop n self.new ≡ drop n self.old }
         ensures room { OnOk result (n ≤ length self.old) }
-        ensures bytes { OnOk result (Consumes (R.remaining reader.old) (R.remaining reader.new) (take n self.new)) }
-        ensures succeeds { R.steady reader.old → AtLeast (R.remaining reader.old) n → n ≤ length self.old → IsOk result }
+        ensures bytes { OnOk result (Consumes (R.remaining reader.old) (R.remaining reader.new)
+            (take n self.new)) }
+        ensures succeeds { R.steady reader.old → AtLeast (R.remaining reader.old) n
+            → n ≤ length self.old → IsOk result }
         ensures stays_steady { R.steady reader.old → R.steady reader.new }
-        ensures short { length self.old < n → IsErr result × (self.new ≡ self.old) × (reader.new ≡ reader.old) }
-        ensures error { IfErr result (λ e. e ≡ Error.DeserializeUnexpectedEnd) }
+        ensures short { length self.old < n → IsErr result × (self.new ≡ self.old)
+            × (reader.new ≡ reader.old) }
+        ensures refuses { IfErr result (λ e. e ≡ Error.DeserializeUnexpectedEnd) }
     {
         if self.len < n {
             return Err(Error::DeserializeUnexpectedEnd);
         }
         let len = self.len;
-        let all = self.memory.lend(len);
+        let life = self.life;
+        let all = self.memory.lend(life, len);
         let (front, _) = all.split_at_mut(n);
         match reader.read_full(front) {
             Ok(()) => Ok(()),
@@ -88,19 +99,19 @@ impl<'de> SlidingBuffer<'de> {
         }
     }
 
-    /// Returns the first `n` bytes.
+    /// Returns the first `n` free bytes, of which there must be that many.
     pub fn front(&self, n: usize) -> &[u8]
         requires { n ≤ length self.now }
         ensures { result.now ≡ take n self.now }
     {
-        &self.memory.view(self.len)[..n]
+        &self.memory.view(self.life, self.len)[..n]
     }
 
-    /// Returns all that is free.
+    /// Returns all free bytes.
     pub fn complete(self) -> &'de mut [u8]
         ensures { result.now ≡ self.entry }
     {
-        let SlidingBuffer { memory, len } = self;
-        memory.whole(len)
+        let SlidingBuffer { memory, life, len } = self;
+        memory.whole(life, len)
     }
 }

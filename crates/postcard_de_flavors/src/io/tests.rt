@@ -1,5 +1,5 @@
-//! The source over a reader: what it takes of its reader and of its scratch, over readers that give many bytes a call, one,
-//! or fail.
+//! Tests of the source over a reader: what it takes from its reader and from its scratch. The
+//! readers read many bytes a call, read one byte a call, or fail.
 
 ghost use Rattle.std.specs.Prelude.{◌≡◌, ◌<◌, ◌≤◌, [], ◌++◌, length, take, Some, IsOk, ⊤};
 ghost use Rattle.postcard_de_flavors.specs.IOReader.{scratch_of};
@@ -16,7 +16,8 @@ use std::io::{ErrorKind, Read};
 use std::process::Abort;
 use std::test::Fail;
 
-/// Moves the first byte into the front of `buf`. Answers how many it moved: none where either is empty.
+/// Moves the first byte of `bytes` into the front of `buf`. Returns the number of bytes moved: 1,
+/// or 0 if either is empty.
 fn move_first(bytes: &mut &[u8], buf: &mut [u8]) -> usize
     ensures moved { bytes.old.now ≡ take result buf.new ++ bytes.new.now }
     ensures fits { result ≤ length buf.new }
@@ -33,7 +34,7 @@ fn move_first(bytes: &mut &[u8], buf: &mut [u8]) -> usize
     1
 }
 
-/// A steady reader that gives one byte a call.
+/// A steady reader that reads one byte a call.
 #[derive(Drop)]
 struct OneByte<'a> {
     bytes: &'a [u8],
@@ -44,7 +45,8 @@ impl Read for OneByte<'_> {
 
     fn read(&mut self, buf: &mut [u8]) -> io::Result<usize>
         ensures bound { ReadsAtMost result buf.new }
-        ensures bytes { ReadConsumes (Some self.old.bytes.now) (Some self.new.bytes.now) result buf.new }
+        ensures bytes { ReadConsumes (Some self.old.bytes.now)
+            (Some self.new.bytes.now) result buf.new }
         ensures succeeds { IsOk result }
     {
         Ok(move_first(&mut self.bytes, buf))
@@ -70,7 +72,7 @@ impl Source for OneByte<'_> {
     }
 }
 
-/// A reader that gives one byte a read, and fails once the reads left are none.
+/// A reader that reads one byte a call, and fails once no calls are left.
 #[derive(Drop)]
 struct Failing<'a> {
     bytes: &'a [u8],
@@ -89,7 +91,8 @@ impl Read for Failing<'_> {
     }
 }
 
-/// Whether a take for a while succeeds. A caller knows that it costs no scratch, and that one with too little changes nothing.
+/// Returns whether `try_take_n_temp` succeeds. It uses up no scratch, and with too little scratch
+/// it changes nothing.
 fn looks<T: Source>(source: &mut IOReader<'_, T>, count: usize) -> bool
     ensures room { length (scratch_of source.new) ≡ length (scratch_of source.old) }
     ensures short { length (scratch_of source.old) < count → source.new ≡ source.old }
@@ -120,7 +123,7 @@ impl Over for Plain<&'static [u8]> {
     }
 }
 
-/// What is left of a source: these bytes and no more, and so much scratch.
+/// Asserts that a source has just the bytes `unread` left, and `room` bytes of scratch.
 fn assert_left<T: Source>(rt: &impl Abort, source: IOReader<'_, T>, unread: &[u8], room: usize) {
     let Ok((reader, scratch)) = source.finalize() else {
         unreachable!()
@@ -133,7 +136,7 @@ fn assert_left<T: Source>(rt: &impl Abort, source: IOReader<'_, T>, unread: &[u8
     assert!(rt; rest.pop().is_err());
 }
 
-/// Both takes, with enough of everything.
+/// Both takes, with enough bytes and enough scratch.
 fn takes<T: Over>(rt: &impl Abort) -> Result<(), Fail> {
     let mut memory = [0; 8];
     let mut source = IOReader::new(T::over(&[0xaa, 0xbb, 0xcc, 0xdd, 0xee]), &mut memory);
@@ -153,7 +156,7 @@ fn takes<T: Over>(rt: &impl Abort) -> Result<(), Fail> {
     Ok(())
 }
 
-/// Single bytes, with no scratch.
+/// Single bytes, which need no scratch.
 fn pops<T: Over>(rt: &impl Abort) {
     let mut source = IOReader::new(T::over(&[0xaa, 0xbb, 0xcc]), &mut []);
     for byte in [0xaa, 0xbb, 0xcc] {
@@ -162,7 +165,8 @@ fn pops<T: Over>(rt: &impl Abort) {
     assert_eq!(rt; source.pop(), Err(Error::DeserializeUnexpectedEnd));
 }
 
-/// An input too short: 3 bytes of 01 02, with 4 of scratch, of which so much is left.
+/// An input too short: to take 3 bytes of `01 02` with 4 bytes of scratch fails, and leaves `room`
+/// bytes of scratch.
 fn input_too_short<T: Over>(rt: &impl Abort, for_good: bool, room: usize) {
     let mut memory = [0; 4];
     let mut source = IOReader::new(T::over(&[1, 2]), &mut memory);
@@ -177,7 +181,7 @@ fn input_too_short<T: Over>(rt: &impl Abort, for_good: bool, room: usize) {
     assert_eq!(rt; scratch.len(), room, "for good: {for_good}");
 }
 
-/// A scratch too short, and the reader isn't asked.
+/// A scratch too short: both takes fail, and the reader isn't called.
 fn scratch_too_short<T: Over>(rt: &impl Abort) {
     let mut memory = [0; 1];
     let mut source = IOReader::new(T::over(&[1, 2]), &mut memory);
@@ -186,7 +190,7 @@ fn scratch_too_short<T: Over>(rt: &impl Abort) {
     assert_left(rt, source, &[1, 2], 1);
 }
 
-/// All of these.
+/// All the tests above, over one kind of reader.
 fn all_rows<T: Over>(rt: &impl Abort) -> Result<(), Fail> {
     takes::<T>(rt)?;
     pops::<T>(rt);

@@ -1,22 +1,16 @@
 //! The greatest sizes of arrays, and of vectors and texts of a fixed capacity.
 
-ghost use Rattle.std.specs.Prelude.{Some, ⊤, ◌<◌, ◌^◌};
 ghost use Rattle.postcard_shape.specs.Lists.{AllFit};
-ghost use Rattle.postcard_max.specs.Containers.{
-  array_bounded,
-  array_reached,
-  few_bounded,
-  few_reached,
-};
-ghost use Rattle.postcard_max.specs.Leaves.{short_bounded, short_reached};
-ghost use Rattle.postcard_max.specs.Willing.{any_never};
-ghost use Rattle.postcard_max.specs.Sizes.{sum_of, times, varint_len as len_of};
+ghost use Rattle.postcard_max.specs.SizeLimit.{array_limit, few_limit, short_text_limit};
+ghost use Rattle.postcard_max.specs.Limits.{via_lawful};
+ghost use Rattle.postcard_max.specs.Containers.{array_lawful, few_lawful};
+ghost use Rattle.postcard_max.specs.Leaves.{short_text_lawful};
 
 use crate::max_size::MaxSize;
 use crate::sizes::{product, sum, varint_len};
 use arrayvec::{ArrayString, ArrayVec};
 
-/// Does nothing. Each element is one of those that its type reads.
+/// Does nothing. Its contract tells the prover that each element of the slice fits its type.
 fn each_in_forms<T: MaxSize>(items: &[T])
     ensures { AllFit T.shape.fits items.now }
 {
@@ -25,13 +19,9 @@ fn each_in_forms<T: MaxSize>(items: &[T])
     }
 }
 
-/// `N` times the size of an element.
+/// The greatest size is `N` times that of an element.
 impl<T: MaxSize, const N: usize> MaxSize for [T; N] {
-    ghost greatest = { times N T.greatest };
-
-    ghost reached = { T.reached };
-
-    ghost willing = { T.willing };
+    ghost limit = { array_limit N T.limit };
 
     fn postcard_max_size() -> Option<usize> {
         product(N, T::postcard_max_size())
@@ -41,20 +31,12 @@ impl<T: MaxSize, const N: usize> MaxSize for [T; N] {
         each_in_forms(self);
     }
 
-    ghost bounded = { array_bounded N T.greatest T.shape.reads T.bounded };
-
-    ghost is_reached = { λ r. array_reached N T.greatest T.shape.reads (T.is_reached r) };
-
-    ghost never_refuses = { λ w. any_never T.shape.refuses (T.never_refuses w) };
+    ghost lawful = { array_lawful N T.lawful };
 }
 
-/// `CAP` times the size of an element, and the count `CAP` as a varint.
+/// The greatest size is `CAP` times that of an element, and that of the count `CAP` as a varint.
 impl<T: MaxSize, const CAP: usize> MaxSize for ArrayVec<T, CAP> {
-    ghost greatest = { sum_of (times CAP T.greatest) (Some (len_of CAP)) };
-
-    ghost reached = { T.reached × (CAP < 2 ^ 64) };
-
-    ghost willing = { T.willing };
+    ghost limit = { few_limit CAP T.limit };
 
     fn postcard_max_size() -> Option<usize> {
         sum(product(CAP, T::postcard_max_size()), Some(varint_len(CAP)))
@@ -65,20 +47,12 @@ impl<T: MaxSize, const CAP: usize> MaxSize for ArrayVec<T, CAP> {
         each_in_forms(self.as_slice());
     }
 
-    ghost bounded = { few_bounded CAP T.greatest T.shape.reads T.bounded };
-
-    ghost is_reached = { λ r. few_reached CAP r.1 T.greatest T.shape.reads (T.is_reached r.0) };
-
-    ghost never_refuses = { λ w v. any_never T.shape.refuses (T.never_refuses w) v.items };
+    ghost lawful = { via_lawful (λ v. v.items) (few_lawful CAP T.lawful) };
 }
 
-/// `CAP` bytes, and the count `CAP` as a varint.
+/// The greatest size is `CAP` bytes, and that of the count `CAP` as a varint.
 impl<const CAP: usize> MaxSize for ArrayString<CAP> {
-    ghost greatest = { sum_of (Some CAP) (Some (len_of CAP)) };
-
-    ghost reached = { CAP < 2 ^ 64 };
-
-    ghost willing = { ⊤ };
+    ghost limit = { short_text_limit CAP };
 
     fn postcard_max_size() -> Option<usize> {
         sum(Some(CAP), Some(varint_len(CAP)))
@@ -89,9 +63,5 @@ impl<const CAP: usize> MaxSize for ArrayString<CAP> {
         let _text = self.as_str();
     }
 
-    ghost bounded = { short_bounded CAP };
-
-    ghost is_reached = { λ r. short_reached CAP r };
-
-    ghost never_refuses = { λ _ _ refuses. refuses };
+    ghost lawful = { short_text_lawful CAP };
 }

@@ -1,15 +1,10 @@
-//! The greatest sizes of numbers that aren't 0: as the number.
+//! The greatest sizes of numbers that aren't 0: those of the numbers.
 
-ghost use Rattle.std.specs.Prelude.{Some, ⊤, refl};
+ghost use Rattle.std.specs.Prelude.{refl};
 ghost use Rattle.std.proofs.Common.{inl, inr};
-ghost use Rattle.postcard_max.specs.Leaves.{
-  nonzero_byte_bounded,
-  nonzero_byte_reached,
-  nonzero_num_bounded,
-  nonzero_num_reached,
-  nonzero_int_bounded,
-  nonzero_int_reached,
-};
+ghost use Rattle.postcard_max.specs.SizeLimit.{exactly};
+ghost use Rattle.postcard_max.specs.Leaves.{nonzero_byte_lawful, nonzero_num_lawful};
+ghost use Rattle.postcard_max.specs.Leaves.{nonzero_int_lawful};
 
 use crate::max_size::MaxSize;
 use std::num::{
@@ -17,13 +12,9 @@ use std::num::{
     NonZeroU16, NonZeroU32, NonZeroU64, NonZeroU128, NonZeroUsize,
 };
 
-/// As the `u8`.
+/// The greatest size is 1 byte, as of a `u8`.
 impl MaxSize for NonZeroU8 {
-    ghost greatest = { Some 1 };
-
-    ghost reached = { ⊤ };
-
-    ghost willing = { ⊤ };
+    ghost limit = { exactly 1 };
 
     fn postcard_max_size() -> Option<usize> {
         Some(1)
@@ -33,20 +24,12 @@ impl MaxSize for NonZeroU8 {
         let _value = self.get();
     }
 
-    ghost bounded = { nonzero_byte_bounded };
-
-    ghost is_reached = { λ _. nonzero_byte_reached };
-
-    ghost never_refuses = { λ _ _ refuses. refuses };
+    ghost lawful = { nonzero_byte_lawful };
 }
 
-/// As the `u16`.
+/// The greatest size is 3 bytes, as of a `u16`.
 impl MaxSize for NonZeroU16 {
-    ghost greatest = { Some 3 };
-
-    ghost reached = { ⊤ };
-
-    ghost willing = { ⊤ };
+    ghost limit = { exactly 3 };
 
     fn postcard_max_size() -> Option<usize> {
         Some(3)
@@ -56,20 +39,12 @@ impl MaxSize for NonZeroU16 {
         let _value = self.get();
     }
 
-    ghost bounded = { nonzero_num_bounded 16 (inl refl) };
-
-    ghost is_reached = { λ _. nonzero_num_reached 16 (inl refl) };
-
-    ghost never_refuses = { λ _ _ refuses. refuses };
+    ghost lawful = { nonzero_num_lawful 16 (inl refl) };
 }
 
-/// As the `u32`.
+/// The greatest size is 5 bytes, as of a `u32`.
 impl MaxSize for NonZeroU32 {
-    ghost greatest = { Some 5 };
-
-    ghost reached = { ⊤ };
-
-    ghost willing = { ⊤ };
+    ghost limit = { exactly 5 };
 
     fn postcard_max_size() -> Option<usize> {
         Some(5)
@@ -79,20 +54,12 @@ impl MaxSize for NonZeroU32 {
         let _value = self.get();
     }
 
-    ghost bounded = { nonzero_num_bounded 32 (inr (inl refl)) };
-
-    ghost is_reached = { λ _. nonzero_num_reached 32 (inr (inl refl)) };
-
-    ghost never_refuses = { λ _ _ refuses. refuses };
+    ghost lawful = { nonzero_num_lawful 32 (inr (inl refl)) };
 }
 
-/// As the `u64`.
+/// The greatest size is 10 bytes, as of a `u64`.
 impl MaxSize for NonZeroU64 {
-    ghost greatest = { Some 10 };
-
-    ghost reached = { ⊤ };
-
-    ghost willing = { ⊤ };
+    ghost limit = { exactly 10 };
 
     fn postcard_max_size() -> Option<usize> {
         Some(10)
@@ -102,20 +69,12 @@ impl MaxSize for NonZeroU64 {
         let _value = self.get();
     }
 
-    ghost bounded = { nonzero_num_bounded 64 (inr (inr (inl refl))) };
-
-    ghost is_reached = { λ _. nonzero_num_reached 64 (inr (inr (inl refl))) };
-
-    ghost never_refuses = { λ _ _ refuses. refuses };
+    ghost lawful = { nonzero_num_lawful 64 (inr (inr (inl refl))) };
 }
 
-/// As the `u128`.
+/// The greatest size is 19 bytes, as of a `u128`.
 impl MaxSize for NonZeroU128 {
-    ghost greatest = { Some 19 };
-
-    ghost reached = { ⊤ };
-
-    ghost willing = { ⊤ };
+    ghost limit = { exactly 19 };
 
     fn postcard_max_size() -> Option<usize> {
         Some(19)
@@ -125,20 +84,12 @@ impl MaxSize for NonZeroU128 {
         let _value = self.get();
     }
 
-    ghost bounded = { nonzero_num_bounded 128 (inr (inr (inr refl))) };
-
-    ghost is_reached = { λ _. nonzero_num_reached 128 (inr (inr (inr refl))) };
-
-    ghost never_refuses = { λ _ _ refuses. refuses };
+    ghost lawful = { nonzero_num_lawful 128 (inr (inr (inr refl))) };
 }
 
-/// As the `usize`.
+/// The greatest size is 10 bytes, as of a `usize`.
 impl MaxSize for NonZeroUsize {
-    ghost greatest = { Some 10 };
-
-    ghost reached = { ⊤ };
-
-    ghost willing = { ⊤ };
+    ghost limit = { exactly 10 };
 
     fn postcard_max_size() -> Option<usize> {
         Some(10)
@@ -148,20 +99,12 @@ impl MaxSize for NonZeroUsize {
         let _value = self.get();
     }
 
-    ghost bounded = { nonzero_num_bounded 64 (inr (inr (inl refl))) };
-
-    ghost is_reached = { λ _. nonzero_num_reached 64 (inr (inr (inl refl))) };
-
-    ghost never_refuses = { λ _ _ refuses. refuses };
+    ghost lawful = { nonzero_num_lawful 64 (inr (inr (inl refl))) };
 }
 
-/// As the `i8`.
+/// The greatest size is 1 byte, as of an `i8`.
 impl MaxSize for NonZeroI8 {
-    ghost greatest = { Some 1 };
-
-    ghost reached = { ⊤ };
-
-    ghost willing = { ⊤ };
+    ghost limit = { exactly 1 };
 
     fn postcard_max_size() -> Option<usize> {
         Some(1)
@@ -171,20 +114,12 @@ impl MaxSize for NonZeroI8 {
         let _value = self.get();
     }
 
-    ghost bounded = { nonzero_byte_bounded };
-
-    ghost is_reached = { λ _. nonzero_byte_reached };
-
-    ghost never_refuses = { λ _ _ refuses. refuses };
+    ghost lawful = { nonzero_byte_lawful };
 }
 
-/// As the `i16`.
+/// The greatest size is 3 bytes, as of an `i16`.
 impl MaxSize for NonZeroI16 {
-    ghost greatest = { Some 3 };
-
-    ghost reached = { ⊤ };
-
-    ghost willing = { ⊤ };
+    ghost limit = { exactly 3 };
 
     fn postcard_max_size() -> Option<usize> {
         Some(3)
@@ -194,20 +129,12 @@ impl MaxSize for NonZeroI16 {
         let _value = self.get();
     }
 
-    ghost bounded = { nonzero_int_bounded 16 (inl refl) };
-
-    ghost is_reached = { λ _. nonzero_int_reached 16 (inl refl) };
-
-    ghost never_refuses = { λ _ _ refuses. refuses };
+    ghost lawful = { nonzero_int_lawful 16 (inl refl) };
 }
 
-/// As the `i32`.
+/// The greatest size is 5 bytes, as of an `i32`.
 impl MaxSize for NonZeroI32 {
-    ghost greatest = { Some 5 };
-
-    ghost reached = { ⊤ };
-
-    ghost willing = { ⊤ };
+    ghost limit = { exactly 5 };
 
     fn postcard_max_size() -> Option<usize> {
         Some(5)
@@ -217,20 +144,12 @@ impl MaxSize for NonZeroI32 {
         let _value = self.get();
     }
 
-    ghost bounded = { nonzero_int_bounded 32 (inr (inl refl)) };
-
-    ghost is_reached = { λ _. nonzero_int_reached 32 (inr (inl refl)) };
-
-    ghost never_refuses = { λ _ _ refuses. refuses };
+    ghost lawful = { nonzero_int_lawful 32 (inr (inl refl)) };
 }
 
-/// As the `i64`.
+/// The greatest size is 10 bytes, as of an `i64`.
 impl MaxSize for NonZeroI64 {
-    ghost greatest = { Some 10 };
-
-    ghost reached = { ⊤ };
-
-    ghost willing = { ⊤ };
+    ghost limit = { exactly 10 };
 
     fn postcard_max_size() -> Option<usize> {
         Some(10)
@@ -240,20 +159,12 @@ impl MaxSize for NonZeroI64 {
         let _value = self.get();
     }
 
-    ghost bounded = { nonzero_int_bounded 64 (inr (inr (inl refl))) };
-
-    ghost is_reached = { λ _. nonzero_int_reached 64 (inr (inr (inl refl))) };
-
-    ghost never_refuses = { λ _ _ refuses. refuses };
+    ghost lawful = { nonzero_int_lawful 64 (inr (inr (inl refl))) };
 }
 
-/// As the `i128`.
+/// The greatest size is 19 bytes, as of an `i128`.
 impl MaxSize for NonZeroI128 {
-    ghost greatest = { Some 19 };
-
-    ghost reached = { ⊤ };
-
-    ghost willing = { ⊤ };
+    ghost limit = { exactly 19 };
 
     fn postcard_max_size() -> Option<usize> {
         Some(19)
@@ -263,20 +174,12 @@ impl MaxSize for NonZeroI128 {
         let _value = self.get();
     }
 
-    ghost bounded = { nonzero_int_bounded 128 (inr (inr (inr refl))) };
-
-    ghost is_reached = { λ _. nonzero_int_reached 128 (inr (inr (inr refl))) };
-
-    ghost never_refuses = { λ _ _ refuses. refuses };
+    ghost lawful = { nonzero_int_lawful 128 (inr (inr (inr refl))) };
 }
 
-/// As the `isize`.
+/// The greatest size is 10 bytes, as of an `isize`.
 impl MaxSize for NonZeroIsize {
-    ghost greatest = { Some 10 };
-
-    ghost reached = { ⊤ };
-
-    ghost willing = { ⊤ };
+    ghost limit = { exactly 10 };
 
     fn postcard_max_size() -> Option<usize> {
         Some(10)
@@ -286,9 +189,5 @@ impl MaxSize for NonZeroIsize {
         let _value = self.get();
     }
 
-    ghost bounded = { nonzero_int_bounded 64 (inr (inr (inl refl))) };
-
-    ghost is_reached = { λ _. nonzero_int_reached 64 (inr (inr (inl refl))) };
-
-    ghost never_refuses = { λ _ _ refuses. refuses };
+    ghost lawful = { nonzero_int_lawful 64 (inr (inr (inl refl))) };
 }

@@ -3,26 +3,16 @@
 //! In each `in_forms` the value is read for the prover, which learns from it that the number has
 //! its width.
 
-ghost use Rattle.std.specs.Prelude.{Some, ⊤, refl};
+ghost use Rattle.std.specs.Prelude.{refl};
 ghost use Rattle.std.proofs.Common.{inl, inr};
-ghost use Rattle.postcard_max.specs.Leaves.{
-  byte_bounded,
-  byte_reached,
-  num_bounded,
-  num_reached,
-  int_bounded,
-  int_reached,
-};
+ghost use Rattle.postcard_max.specs.SizeLimit.{exactly};
+ghost use Rattle.postcard_max.specs.Leaves.{byte_lawful, num_lawful, int_lawful};
 
 use crate::max_size::MaxSize;
 
-/// One byte.
+/// The greatest size is 1 byte: a `u8` is not a varint.
 impl MaxSize for u8 {
-    ghost greatest = { Some 1 };
-
-    ghost reached = { ⊤ };
-
-    ghost willing = { ⊤ };
+    ghost limit = { exactly 1 };
 
     fn postcard_max_size() -> Option<usize> {
         Some(1)
@@ -32,20 +22,12 @@ impl MaxSize for u8 {
         let _value = *self;
     }
 
-    ghost bounded = { byte_bounded };
-
-    ghost is_reached = { λ _. byte_reached };
-
-    ghost never_refuses = { λ _ _ refuses. refuses };
+    ghost lawful = { byte_lawful };
 }
 
-/// Three bytes, the most of a varint of 16 bits.
+/// The greatest size is 3 bytes, that of a varint of 16 bits.
 impl MaxSize for u16 {
-    ghost greatest = { Some 3 };
-
-    ghost reached = { ⊤ };
-
-    ghost willing = { ⊤ };
+    ghost limit = { exactly 3 };
 
     fn postcard_max_size() -> Option<usize> {
         Some(3)
@@ -55,20 +37,12 @@ impl MaxSize for u16 {
         let _value = *self;
     }
 
-    ghost bounded = { num_bounded 16 (inl refl) };
-
-    ghost is_reached = { λ _. num_reached 16 (inl refl) };
-
-    ghost never_refuses = { λ _ _ refuses. refuses };
+    ghost lawful = { num_lawful 16 (inl refl) };
 }
 
-/// Five bytes, the most of a varint of 32 bits.
+/// The greatest size is 5 bytes, that of a varint of 32 bits.
 impl MaxSize for u32 {
-    ghost greatest = { Some 5 };
-
-    ghost reached = { ⊤ };
-
-    ghost willing = { ⊤ };
+    ghost limit = { exactly 5 };
 
     fn postcard_max_size() -> Option<usize> {
         Some(5)
@@ -78,20 +52,12 @@ impl MaxSize for u32 {
         let _value = *self;
     }
 
-    ghost bounded = { num_bounded 32 (inr (inl refl)) };
-
-    ghost is_reached = { λ _. num_reached 32 (inr (inl refl)) };
-
-    ghost never_refuses = { λ _ _ refuses. refuses };
+    ghost lawful = { num_lawful 32 (inr (inl refl)) };
 }
 
-/// Ten bytes, the most of a varint of 64 bits.
+/// The greatest size is 10 bytes, that of a varint of 64 bits.
 impl MaxSize for u64 {
-    ghost greatest = { Some 10 };
-
-    ghost reached = { ⊤ };
-
-    ghost willing = { ⊤ };
+    ghost limit = { exactly 10 };
 
     fn postcard_max_size() -> Option<usize> {
         Some(10)
@@ -101,20 +67,12 @@ impl MaxSize for u64 {
         let _value = *self;
     }
 
-    ghost bounded = { num_bounded 64 (inr (inr (inl refl))) };
-
-    ghost is_reached = { λ _. num_reached 64 (inr (inr (inl refl))) };
-
-    ghost never_refuses = { λ _ _ refuses. refuses };
+    ghost lawful = { num_lawful 64 (inr (inr (inl refl))) };
 }
 
-/// Nineteen bytes, the most of a varint of 128 bits.
+/// The greatest size is 19 bytes, that of a varint of 128 bits.
 impl MaxSize for u128 {
-    ghost greatest = { Some 19 };
-
-    ghost reached = { ⊤ };
-
-    ghost willing = { ⊤ };
+    ghost limit = { exactly 19 };
 
     fn postcard_max_size() -> Option<usize> {
         Some(19)
@@ -124,20 +82,12 @@ impl MaxSize for u128 {
         let _value = *self;
     }
 
-    ghost bounded = { num_bounded 128 (inr (inr (inr refl))) };
-
-    ghost is_reached = { λ _. num_reached 128 (inr (inr (inr refl))) };
-
-    ghost never_refuses = { λ _ _ refuses. refuses };
+    ghost lawful = { num_lawful 128 (inr (inr (inr refl))) };
 }
 
-/// One byte.
+/// The greatest size is 1 byte: an `i8` is not a varint.
 impl MaxSize for i8 {
-    ghost greatest = { Some 1 };
-
-    ghost reached = { ⊤ };
-
-    ghost willing = { ⊤ };
+    ghost limit = { exactly 1 };
 
     fn postcard_max_size() -> Option<usize> {
         Some(1)
@@ -147,20 +97,12 @@ impl MaxSize for i8 {
         let _value = *self;
     }
 
-    ghost bounded = { byte_bounded };
-
-    ghost is_reached = { λ _. byte_reached };
-
-    ghost never_refuses = { λ _ _ refuses. refuses };
+    ghost lawful = { byte_lawful };
 }
 
-/// Three bytes, the most of a varint of 16 bits.
+/// The greatest size is 3 bytes, that of a varint of 16 bits.
 impl MaxSize for i16 {
-    ghost greatest = { Some 3 };
-
-    ghost reached = { ⊤ };
-
-    ghost willing = { ⊤ };
+    ghost limit = { exactly 3 };
 
     fn postcard_max_size() -> Option<usize> {
         Some(3)
@@ -170,20 +112,12 @@ impl MaxSize for i16 {
         let _value = *self;
     }
 
-    ghost bounded = { int_bounded 16 (inl refl) };
-
-    ghost is_reached = { λ _. int_reached 16 (inl refl) };
-
-    ghost never_refuses = { λ _ _ refuses. refuses };
+    ghost lawful = { int_lawful 16 (inl refl) };
 }
 
-/// Five bytes, the most of a varint of 32 bits.
+/// The greatest size is 5 bytes, that of a varint of 32 bits.
 impl MaxSize for i32 {
-    ghost greatest = { Some 5 };
-
-    ghost reached = { ⊤ };
-
-    ghost willing = { ⊤ };
+    ghost limit = { exactly 5 };
 
     fn postcard_max_size() -> Option<usize> {
         Some(5)
@@ -193,20 +127,12 @@ impl MaxSize for i32 {
         let _value = *self;
     }
 
-    ghost bounded = { int_bounded 32 (inr (inl refl)) };
-
-    ghost is_reached = { λ _. int_reached 32 (inr (inl refl)) };
-
-    ghost never_refuses = { λ _ _ refuses. refuses };
+    ghost lawful = { int_lawful 32 (inr (inl refl)) };
 }
 
-/// Ten bytes, the most of a varint of 64 bits.
+/// The greatest size is 10 bytes, that of a varint of 64 bits.
 impl MaxSize for i64 {
-    ghost greatest = { Some 10 };
-
-    ghost reached = { ⊤ };
-
-    ghost willing = { ⊤ };
+    ghost limit = { exactly 10 };
 
     fn postcard_max_size() -> Option<usize> {
         Some(10)
@@ -216,20 +142,12 @@ impl MaxSize for i64 {
         let _value = *self;
     }
 
-    ghost bounded = { int_bounded 64 (inr (inr (inl refl))) };
-
-    ghost is_reached = { λ _. int_reached 64 (inr (inr (inl refl))) };
-
-    ghost never_refuses = { λ _ _ refuses. refuses };
+    ghost lawful = { int_lawful 64 (inr (inr (inl refl))) };
 }
 
-/// Nineteen bytes, the most of a varint of 128 bits.
+/// The greatest size is 19 bytes, that of a varint of 128 bits.
 impl MaxSize for i128 {
-    ghost greatest = { Some 19 };
-
-    ghost reached = { ⊤ };
-
-    ghost willing = { ⊤ };
+    ghost limit = { exactly 19 };
 
     fn postcard_max_size() -> Option<usize> {
         Some(19)
@@ -239,9 +157,5 @@ impl MaxSize for i128 {
         let _value = *self;
     }
 
-    ghost bounded = { int_bounded 128 (inr (inr (inr refl))) };
-
-    ghost is_reached = { λ _. int_reached 128 (inr (inr (inr refl))) };
-
-    ghost never_refuses = { λ _ _ refuses. refuses };
+    ghost lawful = { int_lawful 128 (inr (inr (inr refl))) };
 }

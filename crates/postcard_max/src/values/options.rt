@@ -1,25 +1,14 @@
 //! The greatest sizes of options and results.
 
-ghost use Rattle.std.specs.Prelude.{Some};
-ghost use Rattle.postcard_max.specs.Containers.{
-  option_bounded,
-  option_reached,
-  result_bounded,
-  result_reached,
-};
-ghost use Rattle.postcard_max.specs.Willing.{option_never, result_never};
-ghost use Rattle.postcard_max.specs.Sizes.{sum_of, greater_of};
+ghost use Rattle.postcard_max.specs.SizeLimit.{option_limit, result_limit};
+ghost use Rattle.postcard_max.specs.Containers.{option_lawful, result_lawful};
 
 use crate::max_size::MaxSize;
 use crate::sizes::{greater, sum};
 
-/// One byte, and the size of what is in it.
+/// The greatest size is 1 byte, and that of the value in the option.
 impl<T: MaxSize> MaxSize for Option<T> {
-    ghost greatest = { sum_of (Some 1) T.greatest };
-
-    ghost reached = { T.reached };
-
-    ghost willing = { T.willing };
+    ghost limit = { option_limit T.limit };
 
     fn postcard_max_size() -> Option<usize> {
         sum(Some(1), T::postcard_max_size())
@@ -31,20 +20,12 @@ impl<T: MaxSize> MaxSize for Option<T> {
         }
     }
 
-    ghost bounded = { option_bounded T.greatest T.shape.reads T.bounded };
-
-    ghost is_reached = { λ r. option_reached T.greatest T.shape.reads (T.is_reached r) };
-
-    ghost never_refuses = { λ w. option_never T.shape.refuses (T.never_refuses w) };
+    ghost lawful = { option_lawful T.lawful };
 }
 
-/// One byte, and the greater of the sizes of what may be in it.
+/// The greatest size is 1 byte, and the greater of those of the values in `Ok` and in `Err`.
 impl<T: MaxSize, E: MaxSize> MaxSize for Result<T, E> {
-    ghost greatest = { sum_of (Some 1) (greater_of T.greatest E.greatest) };
-
-    ghost reached = { T.reached × E.reached };
-
-    ghost willing = { T.willing × E.willing };
+    ghost limit = { result_limit T.limit E.limit };
 
     fn postcard_max_size() -> Option<usize> {
         sum(
@@ -60,12 +41,5 @@ impl<T: MaxSize, E: MaxSize> MaxSize for Result<T, E> {
         }
     }
 
-    ghost bounded = { result_bounded T.greatest E.greatest T.shape.reads E.shape.reads
-        T.bounded E.bounded };
-
-    ghost is_reached = { λ r. result_reached T.greatest E.greatest T.shape.reads E.shape.reads
-        (T.is_reached r.0) (E.is_reached r.1) };
-
-    ghost never_refuses = { λ w. result_never T.shape.refuses E.shape.refuses
-        (T.never_refuses w.0) (E.never_refuses w.1) };
+    ghost lawful = { result_lawful T.lawful E.lawful };
 }

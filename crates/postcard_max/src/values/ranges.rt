@@ -1,9 +1,9 @@
-//! The greatest sizes of ranges: as the tuple of their ends.
+//! The greatest sizes of ranges: that of the tuple of their ends.
 
 use crate::max_size::{MaxSize, MaxSizeRepr};
 use std::ops::{Range, RangeFrom, RangeInclusive, RangeTo};
 
-/// Twice the size of an end.
+/// The greatest size is twice that of an end.
 impl<T: MaxSize> MaxSizeRepr for Range<T> {
     fn in_forms_repr(&self) {
         self.start.in_forms();
@@ -11,7 +11,7 @@ impl<T: MaxSize> MaxSizeRepr for Range<T> {
     }
 }
 
-/// Twice the size of an end.
+/// The greatest size is twice that of an end.
 impl<T: MaxSize> MaxSizeRepr for RangeInclusive<T> {
     fn in_forms_repr(&self) {
         self.start().in_forms();
@@ -19,14 +19,14 @@ impl<T: MaxSize> MaxSizeRepr for RangeInclusive<T> {
     }
 }
 
-/// The size of the start.
+/// The greatest size is that of the start.
 impl<T: MaxSize> MaxSizeRepr for RangeFrom<T> {
     fn in_forms_repr(&self) {
         self.start.in_forms();
     }
 }
 
-/// The size of the end.
+/// The greatest size is that of the end.
 impl<T: MaxSize> MaxSizeRepr for RangeTo<T> {
     fn in_forms_repr(&self) {
         self.end.in_forms();

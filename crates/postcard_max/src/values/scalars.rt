@@ -1,31 +1,19 @@
-//! The greatest sizes of truth values, characters, and numbers as wide as an address, which are
-//! numbers of 64 bits.
+//! The greatest sizes of truth values, of characters, and of `usize` and `isize` as numbers of 64
+//! bits.
 //!
 //! In the `in_forms` of a number or a character the value is read for the prover, which learns its
 //! range from that.
 
-ghost use Rattle.std.specs.Prelude.{Some, ⊤, refl};
+ghost use Rattle.std.specs.Prelude.{refl};
 ghost use Rattle.std.proofs.Common.{inl, inr};
-ghost use Rattle.postcard_max.specs.Leaves.{
-  boolean_bounded,
-  boolean_reached,
-  char_bounded,
-  char_reached,
-  num_bounded,
-  num_reached,
-  int_bounded,
-  int_reached,
-};
+ghost use Rattle.postcard_max.specs.SizeLimit.{exactly};
+ghost use Rattle.postcard_max.specs.Leaves.{boolean_lawful, char_lawful, num_lawful, int_lawful};
 
 use crate::max_size::MaxSize;
 
-/// One byte.
+/// The greatest size is 1 byte.
 impl MaxSize for bool {
-    ghost greatest = { Some 1 };
-
-    ghost reached = { ⊤ };
-
-    ghost willing = { ⊤ };
+    ghost limit = { exactly 1 };
 
     fn postcard_max_size() -> Option<usize> {
         Some(1)
@@ -33,20 +21,12 @@ impl MaxSize for bool {
 
     fn in_forms(&self) {}
 
-    ghost bounded = { boolean_bounded };
-
-    ghost is_reached = { λ _. boolean_reached };
-
-    ghost never_refuses = { λ _ _ refuses. refuses };
+    ghost lawful = { boolean_lawful };
 }
 
-/// Five bytes: a count, and at most four bytes of UTF-8.
+/// The greatest size is 5 bytes: a count of one byte, and at most four bytes of UTF-8.
 impl MaxSize for char {
-    ghost greatest = { Some 5 };
-
-    ghost reached = { ⊤ };
-
-    ghost willing = { ⊤ };
+    ghost limit = { exactly 5 };
 
     fn postcard_max_size() -> Option<usize> {
         Some(5)
@@ -56,20 +36,12 @@ impl MaxSize for char {
         let _value = *self;
     }
 
-    ghost bounded = { char_bounded };
-
-    ghost is_reached = { λ _. char_reached };
-
-    ghost never_refuses = { λ _ _ refuses. refuses };
+    ghost lawful = { char_lawful };
 }
 
-/// Ten bytes, the most of a varint of 64 bits.
+/// The greatest size is 10 bytes, that of a varint of 64 bits.
 impl MaxSize for usize {
-    ghost greatest = { Some 10 };
-
-    ghost reached = { ⊤ };
-
-    ghost willing = { ⊤ };
+    ghost limit = { exactly 10 };
 
     fn postcard_max_size() -> Option<usize> {
         Some(10)
@@ -79,20 +51,12 @@ impl MaxSize for usize {
         let _value = *self;
     }
 
-    ghost bounded = { num_bounded 64 (inr (inr (inl refl))) };
-
-    ghost is_reached = { λ _. num_reached 64 (inr (inr (inl refl))) };
-
-    ghost never_refuses = { λ _ _ refuses. refuses };
+    ghost lawful = { num_lawful 64 (inr (inr (inl refl))) };
 }
 
-/// Ten bytes, the most of a varint of 64 bits.
+/// The greatest size is 10 bytes, that of a varint of 64 bits.
 impl MaxSize for isize {
-    ghost greatest = { Some 10 };
-
-    ghost reached = { ⊤ };
-
-    ghost willing = { ⊤ };
+    ghost limit = { exactly 10 };
 
     fn postcard_max_size() -> Option<usize> {
         Some(10)
@@ -102,9 +66,5 @@ impl MaxSize for isize {
         let _value = *self;
     }
 
-    ghost bounded = { int_bounded 64 (inr (inr (inl refl))) };
-
-    ghost is_reached = { λ _. int_reached 64 (inr (inr (inl refl))) };
-
-    ghost never_refuses = { λ _ _ refuses. refuses };
+    ghost lawful = { int_lawful 64 (inr (inr (inl refl))) };
 }

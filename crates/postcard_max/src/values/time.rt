@@ -1,18 +1,14 @@
 //! The greatest size of spans of time.
 
-ghost use Rattle.std.specs.Prelude.{Some, ⊤};
-ghost use Rattle.postcard_max.specs.Leaves.{span_bounded, span_reached};
+ghost use Rattle.postcard_max.specs.SizeLimit.{exactly};
+ghost use Rattle.postcard_max.specs.Leaves.{span_lawful};
 
 use crate::max_size::MaxSize;
 use std::time::Duration;
 
-/// Fifteen bytes: the most of the seconds, of 64 bits, and of the nanoseconds, of 32 bits.
+/// The greatest size is 15 bytes: 10 for the seconds, of 64 bits, and 5 for the nanoseconds, of 32.
 impl MaxSize for Duration {
-    ghost greatest = { Some 15 };
-
-    ghost reached = { ⊤ };
-
-    ghost willing = { ⊤ };
+    ghost limit = { exactly 15 };
 
     fn postcard_max_size() -> Option<usize> {
         Some(15)
@@ -22,9 +18,5 @@ impl MaxSize for Duration {
         let _seconds = self.as_secs();
     }
 
-    ghost bounded = { span_bounded };
-
-    ghost is_reached = { λ _. span_reached };
-
-    ghost never_refuses = { λ _ _ refuses. refuses };
+    ghost lawful = { span_lawful };
 }

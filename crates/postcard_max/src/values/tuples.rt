@@ -1,15 +1,15 @@
-//! The greatest sizes of tuples of one to twelve parts: as parts in a row.
+//! The greatest sizes of tuples of one to twelve parts: that of the parts in a row.
 
 use crate::max_size::{MaxSize, MaxSizeRepr};
 
-/// The size of the part.
+/// The greatest size is that of the part.
 impl<A: MaxSize> MaxSizeRepr for (A,) {
     fn in_forms_repr(&self) {
         self.0.in_forms();
     }
 }
 
-/// The sum of the sizes of the parts.
+/// The greatest size is the sum of those of the parts.
 impl<A: MaxSize, B: MaxSize> MaxSizeRepr for (A, B) {
     fn in_forms_repr(&self) {
         self.0.in_forms();
@@ -17,7 +17,7 @@ impl<A: MaxSize, B: MaxSize> MaxSizeRepr for (A, B) {
     }
 }
 
-/// The sum of the sizes of the parts.
+/// The greatest size is the sum of those of the parts.
 impl<A: MaxSize, B: MaxSize, C: MaxSize> MaxSizeRepr for (A, B, C) {
     fn in_forms_repr(&self) {
         self.0.in_forms();
@@ -26,7 +26,7 @@ impl<A: MaxSize, B: MaxSize, C: MaxSize> MaxSizeRepr for (A, B, C) {
     }
 }
 
-/// The sum of the sizes of the parts.
+/// The greatest size is the sum of those of the parts.
 impl<A: MaxSize, B: MaxSize, C: MaxSize, D: MaxSize> MaxSizeRepr for (A, B, C, D) {
     fn in_forms_repr(&self) {
         self.0.in_forms();
@@ -36,7 +36,7 @@ impl<A: MaxSize, B: MaxSize, C: MaxSize, D: MaxSize> MaxSizeRepr for (A, B, C, D
     }
 }
 
-/// The sum of the sizes of the parts.
+/// The greatest size is the sum of those of the parts.
 impl<A: MaxSize, B: MaxSize, C: MaxSize, D: MaxSize, E: MaxSize> MaxSizeRepr for (A, B, C, D, E) {
     fn in_forms_repr(&self) {
         self.0.in_forms();
@@ -47,7 +47,7 @@ impl<A: MaxSize, B: MaxSize, C: MaxSize, D: MaxSize, E: MaxSize> MaxSizeRepr for
     }
 }
 
-/// The sum of the sizes of the parts.
+/// The greatest size is the sum of those of the parts.
 impl<A: MaxSize, B: MaxSize, C: MaxSize, D: MaxSize, E: MaxSize, G: MaxSize> MaxSizeRepr
     for (A, B, C, D, E, G) {
     fn in_forms_repr(&self) {
@@ -60,7 +60,7 @@ impl<A: MaxSize, B: MaxSize, C: MaxSize, D: MaxSize, E: MaxSize, G: MaxSize> Max
     }
 }
 
-/// The sum of the sizes of the parts.
+/// The greatest size is the sum of those of the parts.
 impl<A: MaxSize, B: MaxSize, C: MaxSize, D: MaxSize, E: MaxSize, G: MaxSize, H: MaxSize> MaxSizeRepr
     for (A, B, C, D, E, G, H) {
     fn in_forms_repr(&self) {
@@ -74,7 +74,7 @@ impl<A: MaxSize, B: MaxSize, C: MaxSize, D: MaxSize, E: MaxSize, G: MaxSize, H: 
     }
 }
 
-/// The sum of the sizes of the parts.
+/// The greatest size is the sum of those of the parts.
 impl<
     A: MaxSize,
     B: MaxSize,
@@ -97,7 +97,7 @@ impl<
     }
 }
 
-/// The sum of the sizes of the parts.
+/// The greatest size is the sum of those of the parts.
 impl<
     A: MaxSize,
     B: MaxSize,
@@ -122,7 +122,7 @@ impl<
     }
 }
 
-/// The sum of the sizes of the parts.
+/// The greatest size is the sum of those of the parts.
 impl<
     A: MaxSize,
     B: MaxSize,
@@ -149,7 +149,7 @@ impl<
     }
 }
 
-/// The sum of the sizes of the parts.
+/// The greatest size is the sum of those of the parts.
 impl<
     A: MaxSize,
     B: MaxSize,
@@ -178,7 +178,7 @@ impl<
     }
 }
 
-/// The sum of the sizes of the parts.
+/// The greatest size is the sum of those of the parts.
 impl<
     A: MaxSize,
     B: MaxSize,

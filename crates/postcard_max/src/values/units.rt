@@ -1,18 +1,14 @@
-//! The greatest size of types with one value, of which nothing is written: 0.
+//! The greatest size of types with one value, for which nothing is written: 0.
 
-ghost use Rattle.std.specs.Prelude.{Some, ⊤};
-ghost use Rattle.postcard_max.specs.Rows.{end_bounded, end_reached, group_bounded, group_reached};
+ghost use Rattle.postcard_max.specs.SizeLimit.{exactly};
+ghost use Rattle.postcard_max.specs.Rows.{end_lawful, group_lawful};
 
 use crate::max_size::MaxSize;
 use std::marker::PhantomData;
 
-/// No byte.
+/// The greatest size is 0 bytes.
 impl MaxSize for () {
-    ghost greatest = { Some 0 };
-
-    ghost reached = { ⊤ };
-
-    ghost willing = { ⊤ };
+    ghost limit = { exactly 0 };
 
     fn postcard_max_size() -> Option<usize> {
         Some(0)
@@ -20,20 +16,12 @@ impl MaxSize for () {
 
     fn in_forms(&self) {}
 
-    ghost bounded = { group_bounded (Some 0) _ end_bounded };
-
-    ghost is_reached = { λ _. group_reached (Some 0) _ end_reached };
-
-    ghost never_refuses = { λ _ _ refuses. refuses };
+    ghost lawful = { group_lawful end_lawful };
 }
 
-/// No byte.
+/// The greatest size is 0 bytes.
 impl<T> MaxSize for PhantomData<T> {
-    ghost greatest = { Some 0 };
-
-    ghost reached = { ⊤ };
-
-    ghost willing = { ⊤ };
+    ghost limit = { exactly 0 };
 
     fn postcard_max_size() -> Option<usize> {
         Some(0)
@@ -41,9 +29,5 @@ impl<T> MaxSize for PhantomData<T> {
 
     fn in_forms(&self) {}
 
-    ghost bounded = { group_bounded (Some 0) _ end_bounded };
-
-    ghost is_reached = { λ _. group_reached (Some 0) _ end_reached };
-
-    ghost never_refuses = { λ _ _ refuses. refuses };
+    ghost lawful = { group_lawful end_lawful };
 }

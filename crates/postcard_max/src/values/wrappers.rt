@@ -1,30 +1,28 @@
-//! The greatest sizes of types that hold one value of another, or point to it: as that value.
+//! The greatest sizes of types that hold one value of another, or point to it: that of the value.
+
+ghost use Rattle.postcard_max.specs.Limits.{via_lawful};
 
 use crate::max_size::{MaxSize, MaxSizeRepr};
 use std::num::Wrapping;
 use std::rc::Rc;
 
-/// As what it points to.
+/// The greatest size is that of the value pointed to.
 impl<T: MaxSize> MaxSizeRepr for &T {
     fn in_forms_repr(&self) {
         (**self).in_forms();
     }
 }
 
-/// As what it points to.
+/// The greatest size is that of the value pointed to.
 impl<T: MaxSize> MaxSizeRepr for &mut T {
     fn in_forms_repr(&self) {
         (**self).in_forms();
     }
 }
 
-/// As the value in it.
+/// The greatest size is that of the value in the box.
 impl<T: MaxSize> MaxSize for Box<T> {
-    ghost greatest = { T.greatest };
-
-    ghost reached = { T.reached };
-
-    ghost willing = { T.willing };
+    ghost limit = { T.limit };
 
     fn postcard_max_size() -> Option<usize> {
         T::postcard_max_size()
@@ -34,20 +32,12 @@ impl<T: MaxSize> MaxSize for Box<T> {
         self.as_ref().in_forms();
     }
 
-    ghost bounded = { T.bounded };
-
-    ghost is_reached = { T.is_reached };
-
-    ghost never_refuses = { λ w v. T.never_refuses w v.value };
+    ghost lawful = { via_lawful (λ v. v.value) T.lawful };
 }
 
-/// As the value in it.
+/// The greatest size is that of the value in the `Rc`.
 impl<T: MaxSize> MaxSize for Rc<T> {
-    ghost greatest = { T.greatest };
-
-    ghost reached = { T.reached };
-
-    ghost willing = { T.willing };
+    ghost limit = { T.limit };
 
     fn postcard_max_size() -> Option<usize> {
         T::postcard_max_size()
@@ -58,14 +48,10 @@ impl<T: MaxSize> MaxSize for Rc<T> {
         shared.in_forms();
     }
 
-    ghost bounded = { T.bounded };
-
-    ghost is_reached = { T.is_reached };
-
-    ghost never_refuses = { λ w v. T.never_refuses w v.value };
+    ghost lawful = { via_lawful (λ v. v.value) T.lawful };
 }
 
-/// As the number in it.
+/// The greatest size is that of the number.
 impl<T: MaxSize> MaxSizeRepr for Wrapping<T> {
     fn in_forms_repr(&self) {
         self.0.in_forms();

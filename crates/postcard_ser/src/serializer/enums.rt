@@ -1,7 +1,7 @@
-//! The calls for enums: the variant's index as a varint, and then its content.
+//! The calls for enums: the variant's index as a varint, followed by its content.
 
 ghost use Rattle.std.specs.Prelude.{OnOk};
-ghost use Rattle.postcard_wire.specs.Spelling.{bytes};
+ghost use Rattle.postcard_wire.specs.Spelling.{canonical};
 ghost use Rattle.postcard_wire.specs.Tree.{Num, Variant};
 ghost use Rattle.postcard_shape.specs.Compound.{unit_variant};
 ghost use Rattle.postcard_ser.specs.Writing.{Wrote};
@@ -12,16 +12,18 @@ use postcard_ser_flavors::Flavor;
 use postcard_wire::Result;
 
 impl<F: Flavor> Serializer<F> {
-    /// Writes the index as a varint of 1 to 5 bytes: the variant has no content. The names aren't
-    /// written.
+    /// Writes a variant without content: its index as a varint of 1 to 5 bytes. The names aren't
+    /// written. Fails with `SerializeBufferFull` if the flavor refuses a piece.
     pub fn serialize_unit_variant(&mut self, name: &str, index: u32, variant: &str) -> Result<()>
-        ensures { Wrote F.Flavor self.old.output (bytes (unit_variant index)) ⊥ ⊥ result
+        ensures { Wrote F.Flavor self.old.output (canonical (unit_variant index)) ⊥ ⊥ result
             self.new.output }
     {
         self.serialize_tuple_variant(name, index, variant, 0)
     }
 
-    /// Writes the index as a varint of 1 to 5 bytes, and then the value. The names aren't written.
+    /// Writes a variant with one field: its index as a varint of 1 to 5 bytes, and then the value.
+    /// The names aren't written. Fails with `SerializeBufferFull` if the flavor refuses the index,
+    /// and otherwise as the `serialize` of the value does.
     pub fn serialize_newtype_variant<T: Serialize>(
         &mut self,
         name: &str,
@@ -30,7 +32,7 @@ impl<F: Flavor> Serializer<F> {
         value: &T,
     ) -> Result<()>
         ensures wrote { Wrote F.Flavor self.old.output
-            (bytes (Variant index (T.shape.tree value.now)))
+            (canonical (Variant index (T.shape.tree value.now)))
             (T.shape.refuses value.now) T.shape.text result self.new.output }
         ensures fits { OnOk result (T.shape.fits value.now) }
     {
@@ -38,9 +40,10 @@ impl<F: Flavor> Serializer<F> {
         value.serialize(self)
     }
 
-    /// Begins a variant with `len` fields: writes the index as a varint of 1 to 5 bytes. Neither
+    /// Begins a variant with `len` fields: writes its index as a varint of 1 to 5 bytes. Neither
     /// the number of fields nor the names are written. The caller must write exactly `len` fields
-    /// by `serialize_field`; this is not checked.
+    /// by `serialize_field`; this is not checked. Fails with `SerializeBufferFull` if the flavor
+    /// refuses the index.
     pub fn serialize_tuple_variant(
         &mut self,
         _name: &str,
@@ -48,14 +51,16 @@ impl<F: Flavor> Serializer<F> {
         _variant: &str,
         _len: usize,
     ) -> Result<()>
-        ensures { Wrote F.Flavor self.old.output (bytes (Num 32 index)) ⊥ ⊥ result self.new.output }
+        ensures { Wrote F.Flavor self.old.output
+            (canonical (Num 32 index)) ⊥ ⊥ result self.new.output }
     {
         self.serialize_u32(index)
     }
 
-    /// Begins a variant with `len` named fields: writes the index as a varint of 1 to 5 bytes.
+    /// Begins a variant with `len` named fields: writes its index as a varint of 1 to 5 bytes.
     /// Neither the number of fields nor the names are written. The caller must write exactly `len`
-    /// fields by `serialize_struct_field`; this is not checked.
+    /// fields by `serialize_struct_field`; this is not checked. Fails with `SerializeBufferFull` if
+    /// the flavor refuses the index.
     pub fn serialize_struct_variant(
         &mut self,
         name: &str,
@@ -63,7 +68,8 @@ impl<F: Flavor> Serializer<F> {
         variant: &str,
         len: usize,
     ) -> Result<()>
-        ensures { Wrote F.Flavor self.old.output (bytes (Num 32 index)) ⊥ ⊥ result self.new.output }
+        ensures { Wrote F.Flavor self.old.output
+            (canonical (Num 32 index)) ⊥ ⊥ result self.new.output }
     {
         self.serialize_tuple_variant(name, index, variant, len)
     }

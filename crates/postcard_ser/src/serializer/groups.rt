@@ -2,7 +2,7 @@
 
 ghost use Rattle.std.specs.Prelude.{◌≡◌, [], IsOk, IsErrOf, IfSome, OnOk};
 ghost use Rattle.std.specs.Option.{IfNone};
-ghost use Rattle.postcard_wire.specs.Spelling.{bytes};
+ghost use Rattle.postcard_wire.specs.Spelling.{canonical};
 ghost use Rattle.postcard_wire.specs.Tree.{Num};
 ghost use Rattle.postcard_ser.specs.Writing.{Wrote};
 
@@ -12,31 +12,31 @@ use postcard_ser_flavors::Flavor;
 use postcard_wire::{Error, Result};
 
 impl<F: Flavor> Serializer<F> {
-    /// Begins a tuple or an array of `len` elements: writes nothing. The caller must write exactly
-    /// `len` elements by `serialize_element`; this is not checked.
+    /// Begins a tuple or an array of `len` elements. Writes nothing and never fails. The caller
+    /// must write exactly `len` elements by `serialize_element`; this is not checked.
     pub fn serialize_tuple(&mut self, _len: usize) -> Result<()>
         ensures wrote { Wrote F.Flavor self.old.output [] ⊥ ⊥ result self.new.output }
-        ensures always { IsOk result }
+        ensures succeeds { IsOk result }
         ensures unchanged { self.new ≡ self.old }
     {
         Ok(())
     }
 
-    /// Begins a struct of `len` fields without names: writes nothing. The caller must write exactly
-    /// `len` fields by `serialize_field`; this is not checked.
+    /// Begins a struct of `len` fields without names. Writes nothing and never fails. The caller
+    /// must write exactly `len` fields by `serialize_field`; this is not checked.
     pub fn serialize_tuple_struct(&mut self, _name: &str, len: usize) -> Result<()>
         ensures wrote { Wrote F.Flavor self.old.output [] ⊥ ⊥ result self.new.output }
-        ensures always { IsOk result }
+        ensures succeeds { IsOk result }
         ensures unchanged { self.new ≡ self.old }
     {
         self.serialize_tuple(len)
     }
 
-    /// Begins a struct of `len` fields: writes nothing. The caller must write exactly `len` fields
-    /// by `serialize_struct_field`; this is not checked.
+    /// Begins a struct of `len` named fields. Writes nothing and never fails. The caller must write
+    /// exactly `len` fields by `serialize_struct_field`; this is not checked.
     pub fn serialize_struct(&mut self, name: &str, len: usize) -> Result<()>
         ensures wrote { Wrote F.Flavor self.old.output [] ⊥ ⊥ result self.new.output }
-        ensures always { IsOk result }
+        ensures succeeds { IsOk result }
         ensures unchanged { self.new ≡ self.old }
     {
         self.serialize_tuple_struct(name, len)
@@ -45,9 +45,9 @@ impl<F: Flavor> Serializer<F> {
     /// Begins a map: writes the number of its entries as a varint of 1 to 10 bytes. The caller must
     /// write exactly `len` entries, each by `serialize_key` and `serialize_value`; this is not
     /// checked. Fails with `SerializeSeqLengthUnknown` if `len` is `None`, before anything is
-    /// written.
+    /// written, and with `SerializeBufferFull` if the flavor refuses the number.
     pub fn serialize_map(&mut self, len: Option<usize>) -> Result<()>
-        ensures known { IfSome len (λ n. Wrote F.Flavor self.old.output (bytes (Num 64 n)) ⊥ ⊥
+        ensures known { IfSome len (λ n. Wrote F.Flavor self.old.output (canonical (Num 64 n)) ⊥ ⊥
             result self.new.output) }
         ensures unknown { IfNone len (IsErrOf result Error.SerializeSeqLengthUnknown ×
             (self.new ≡ self.old)) }
@@ -55,36 +55,39 @@ impl<F: Flavor> Serializer<F> {
         self.serialize_seq(len)
     }
 
-    /// Writes the key of an entry of a map.
+    /// Writes the key of a map's entry, as its `serialize` does, and fails as that does.
     pub fn serialize_key<T: Serialize>(&mut self, key: &T) -> Result<()>
-        ensures wrote { Wrote F.Flavor self.old.output (bytes (T.shape.tree key.now))
+        ensures wrote { Wrote F.Flavor self.old.output (canonical (T.shape.tree key.now))
             (T.shape.refuses key.now) T.shape.text result self.new.output }
         ensures fits { OnOk result (T.shape.fits key.now) }
     {
         key.serialize(self)
     }
 
-    /// Writes the value of an entry of a map, after its key.
+    /// Writes the value of a map's entry, after its key, as its `serialize` does, and fails as that
+    /// does.
     pub fn serialize_value<T: Serialize>(&mut self, value: &T) -> Result<()>
-        ensures wrote { Wrote F.Flavor self.old.output (bytes (T.shape.tree value.now))
+        ensures wrote { Wrote F.Flavor self.old.output (canonical (T.shape.tree value.now))
             (T.shape.refuses value.now) T.shape.text result self.new.output }
         ensures fits { OnOk result (T.shape.fits value.now) }
     {
         value.serialize(self)
     }
 
-    /// Writes a field that has no name, of a struct or a variant.
+    /// Writes a field without a name, of a struct or a variant, as its `serialize` does, and fails
+    /// as that does.
     pub fn serialize_field<T: Serialize>(&mut self, value: &T) -> Result<()>
-        ensures wrote { Wrote F.Flavor self.old.output (bytes (T.shape.tree value.now))
+        ensures wrote { Wrote F.Flavor self.old.output (canonical (T.shape.tree value.now))
             (T.shape.refuses value.now) T.shape.text result self.new.output }
         ensures fits { OnOk result (T.shape.fits value.now) }
     {
         self.serialize_element(value)
     }
 
-    /// Writes a field that has a name, of a struct or a variant. The name isn't written.
+    /// Writes a named field, of a struct or a variant, as its `serialize` does, and fails as that
+    /// does. The name isn't written.
     pub fn serialize_struct_field<T: Serialize>(&mut self, _key: &str, value: &T) -> Result<()>
-        ensures wrote { Wrote F.Flavor self.old.output (bytes (T.shape.tree value.now))
+        ensures wrote { Wrote F.Flavor self.old.output (canonical (T.shape.tree value.now))
             (T.shape.refuses value.now) T.shape.text result self.new.output }
         ensures fits { OnOk result (T.shape.fits value.now) }
     {

@@ -1,7 +1,7 @@
-//! The calls for options and for values within another.
+//! The calls for options and for structs of one value.
 
 ghost use Rattle.std.specs.Prelude.{OnOk};
-ghost use Rattle.postcard_wire.specs.Spelling.{bytes};
+ghost use Rattle.postcard_wire.specs.Spelling.{canonical};
 ghost use Rattle.postcard_wire.specs.Tree.{Absent, Present};
 ghost use Rattle.postcard_ser.specs.Writing.{Wrote};
 
@@ -11,16 +11,20 @@ use postcard_ser_flavors::Flavor;
 use postcard_wire::Result;
 
 impl<F: Flavor> Serializer<F> {
-    /// Writes one byte, 0: there is no value.
+    /// Writes an option without a value: the byte 0. Fails with `SerializeBufferFull` if the flavor
+    /// refuses a piece.
     pub fn serialize_none(&mut self) -> Result<()>
-        ensures { Wrote F.Flavor self.old.output (bytes Absent) ⊥ ⊥ result self.new.output }
+        ensures { Wrote F.Flavor self.old.output (canonical Absent) ⊥ ⊥ result self.new.output }
     {
         self.serialize_u8(0)
     }
 
-    /// Writes one byte, 1, and then the value.
+    /// Writes an option with a value: the byte 1, and then the value. Fails with
+    /// `SerializeBufferFull` if the flavor refuses the byte, and otherwise as the `serialize` of
+    /// the value does.
     pub fn serialize_some<T: Serialize>(&mut self, value: &T) -> Result<()>
-        ensures wrote { Wrote F.Flavor self.old.output (bytes (Present (T.shape.tree value.now)))
+        ensures wrote { Wrote F.Flavor self.old.output
+            (canonical (Present (T.shape.tree value.now)))
             (T.shape.refuses value.now) T.shape.text result self.new.output }
         ensures fits { OnOk result (T.shape.fits value.now) }
     {
@@ -28,9 +32,10 @@ impl<F: Flavor> Serializer<F> {
         value.serialize(self)
     }
 
-    /// Writes the value alone. The name isn't written.
+    /// Writes a struct of one value, as the value's `serialize` does, and fails as that does. The
+    /// name isn't written.
     pub fn serialize_newtype_struct<T: Serialize>(&mut self, _name: &str, value: &T) -> Result<()>
-        ensures wrote { Wrote F.Flavor self.old.output (bytes (T.shape.tree value.now))
+        ensures wrote { Wrote F.Flavor self.old.output (canonical (T.shape.tree value.now))
             (T.shape.refuses value.now) T.shape.text result self.new.output }
         ensures fits { OnOk result (T.shape.fits value.now) }
     {

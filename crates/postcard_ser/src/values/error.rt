@@ -1,4 +1,4 @@
-//! Errors as values: by their index.
+//! Errors as values: written as their index.
 
 ghost use Rattle.std.specs.Prelude.{◌≡◌, ◌<◌};
 ghost use Rattle.postcard_shape.specs.Errors.{error_index};
@@ -9,14 +9,14 @@ use crate::serializer::Serializer;
 use postcard_ser_flavors::Flavor;
 use postcard_wire::{Error, Result};
 
-/// An enum without content: the index of the error, 0 to 16, as a varint.
+/// Written as an enum without content: the index of the error, 0 to 16, as a varint of 1 byte.
 impl Serialize for Error {
     fn serialize<F: Flavor>(&self, serializer: &mut Serializer<F>) -> Result<()> {
         serialize_variant(index_of(self), &(), serializer)
     }
 }
 
-/// Returns the index of an error: its place in the order of [`Error`].
+/// Returns the index of an error: its position in [`Error`].
 fn index_of(error: &Error) -> u32
     ensures index { result ≡ error_index error.now }
     ensures few { result < 17 }

@@ -1,7 +1,7 @@
-//! Lists: the count of the elements, and the elements.
+//! Lists: the number of the elements, and then the elements.
 
 ghost use Rattle.std.specs.Prelude.{Any, map, OnOk};
-ghost use Rattle.postcard_wire.specs.Spelling.{bytes_all};
+ghost use Rattle.postcard_wire.specs.Spelling.{canonical_all};
 ghost use Rattle.postcard_wire.specs.Tree.{trees};
 ghost use Rattle.postcard_shape.specs.Lists.{AllFit};
 ghost use Rattle.postcard_ser.specs.Writing.{Wrote};
@@ -11,13 +11,14 @@ use crate::serializer::Serializer;
 use postcard_ser_flavors::Flavor;
 use postcard_wire::Result;
 
-/// Writes the elements in order, with no count before them: in one piece if they are bytes already.
+/// Writes the elements in order, with no count before them: in one piece if `slice_bytes` returns
+/// it.
 pub(crate) fn serialize_all<T: Serialize, F: Flavor>(
     items: &[T],
     serializer: &mut Serializer<F>,
 ) -> Result<()>
     ensures wrote { Wrote F.Flavor serializer.old.output
-        (bytes_all (trees (map T.shape.tree items.now)))
+        (canonical_all (trees (map T.shape.tree items.now)))
         (Any T.shape.refuses items.now) T.shape.text result serializer.new.output }
     ensures fits { OnOk result (AllFit T.shape.fits items.now) }
 {
@@ -33,7 +34,7 @@ fn serialize_each<T: Serialize, F: Flavor>(
     serializer: &mut Serializer<F>,
 ) -> Result<()>
     ensures wrote { Wrote F.Flavor serializer.old.output
-        (bytes_all (trees (map T.shape.tree items.now)))
+        (canonical_all (trees (map T.shape.tree items.now)))
         (Any T.shape.refuses items.now) T.shape.text result serializer.new.output }
     ensures fits { OnOk result (AllFit T.shape.fits items.now) }
 {
@@ -43,7 +44,8 @@ fn serialize_each<T: Serialize, F: Flavor>(
     Ok(())
 }
 
-/// The count of the elements, and these. The list refuses itself if an element does.
+/// Written as the number of elements, a varint, and then the elements. The list refuses itself if
+/// an element does.
 impl<T: Serialize> Serialize for &[T] {
     fn serialize<F: Flavor>(&self, serializer: &mut Serializer<F>) -> Result<()> {
         serializer.serialize_seq(Some(self.len()))?;
@@ -51,7 +53,8 @@ impl<T: Serialize> Serialize for &[T] {
     }
 }
 
-/// The count of the elements, and these. The list refuses itself if an element does.
+/// Written as the number of elements, a varint, and then the elements. The list refuses itself if
+/// an element does.
 impl<T: Serialize> Serialize for Vec<T> {
     fn serialize<F: Flavor>(&self, serializer: &mut Serializer<F>) -> Result<()> {
         self.as_slice().serialize(serializer)

@@ -1,7 +1,7 @@
-//! Maps: the count of the entries, and the entries in the order of their keys.
+//! Maps: the number of the entries, and then the entries in the order of their keys.
 
 ghost use Rattle.std.specs.Prelude.{◌⊎◌, Any, map, OnOk};
-ghost use Rattle.postcard_wire.specs.Spelling.{bytes_all};
+ghost use Rattle.postcard_wire.specs.Spelling.{canonical_all};
 ghost use Rattle.postcard_wire.specs.Tree.{trees};
 ghost use Rattle.postcard_shape.specs.Compound.{entry_tree};
 ghost use Rattle.postcard_shape.specs.Lists.{AllFit};
@@ -19,7 +19,7 @@ fn serialize_entries<K: Serialize + Ord, V: Serialize, F: Flavor>(
     serializer: &mut Serializer<F>,
 ) -> Result<()>
     ensures wrote { Wrote F.Flavor serializer.old.output
-        (bytes_all (trees (map (entry_tree K.shape.tree V.shape.tree) entries.now.entries)))
+        (canonical_all (trees (map (entry_tree K.shape.tree V.shape.tree) entries.now.entries)))
         (Any (λ e. K.shape.refuses e.0 ⊎ V.shape.refuses e.1) entries.now.entries)
         (K.shape.text ⊎ V.shape.text) result serializer.new.output }
     ensures fits { OnOk result
@@ -31,7 +31,8 @@ fn serialize_entries<K: Serialize + Ord, V: Serialize, F: Flavor>(
     Ok(())
 }
 
-/// The count of the entries, and these. The map refuses itself if a key or a value does.
+/// Written as the number of entries, a varint, and then each key and its value. The map refuses
+/// itself if a key or a value does.
 impl<K: Serialize + Ord, V: Serialize> Serialize for BTreeMap<K, V> {
     fn serialize<F: Flavor>(&self, serializer: &mut Serializer<F>) -> Result<()> {
         serializer.serialize_map(Some(self.len()))?;

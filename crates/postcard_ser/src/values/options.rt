@@ -5,7 +5,7 @@ use crate::serializer::Serializer;
 use postcard_ser_flavors::Flavor;
 use postcard_wire::Result as WireResult;
 
-/// The byte 0, or the byte 1 and the value.
+/// Written as the byte 0, or as the byte 1 and the value.
 impl<T: Serialize> Serialize for Option<T> {
     fn serialize<F: Flavor>(&self, serializer: &mut Serializer<F>) -> WireResult<()> {
         match self {
@@ -15,7 +15,7 @@ impl<T: Serialize> Serialize for Option<T> {
     }
 }
 
-/// An enum: `Ok` at index 0, `Err` at index 1.
+/// Written as an enum: `Ok` at index 0, `Err` at index 1.
 impl<T: Serialize, E: Serialize> Serialize for Result<T, E> {
     fn serialize<F: Flavor>(&self, serializer: &mut Serializer<F>) -> WireResult<()> {
         match self {

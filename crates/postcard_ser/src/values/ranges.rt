@@ -1,4 +1,4 @@
-//! Ranges: their bounds, as a tuple of them.
+//! Ranges: written as the tuple of their ends.
 
 use crate::repr::SerializeRepr;
 use crate::serialize::Serialize;
@@ -7,28 +7,28 @@ use postcard_ser_flavors::Flavor;
 use postcard_wire::Result;
 use std::ops::{Range, RangeFrom, RangeInclusive, RangeTo};
 
-/// The start, and then the end.
+/// Written as the start, and then the end.
 impl<T: Serialize> SerializeRepr for Range<T> {
     fn serialize_repr<F: Flavor>(&self, serializer: &mut Serializer<F>) -> Result<()> {
         (&self.start, &self.end).serialize(serializer)
     }
 }
 
-/// The start, and then the end. Whether the range was iterated to its end isn't written.
+/// Written as the start, and then the end. Whether the range is exhausted isn't written.
 impl<T: Serialize> SerializeRepr for RangeInclusive<T> {
     fn serialize_repr<F: Flavor>(&self, serializer: &mut Serializer<F>) -> Result<()> {
         (self.start(), self.end()).serialize(serializer)
     }
 }
 
-/// The start.
+/// Written as the start.
 impl<T: Serialize> SerializeRepr for RangeFrom<T> {
     fn serialize_repr<F: Flavor>(&self, serializer: &mut Serializer<F>) -> Result<()> {
         (&self.start,).serialize(serializer)
     }
 }
 
-/// The end.
+/// Written as the end.
 impl<T: Serialize> SerializeRepr for RangeTo<T> {
     fn serialize_repr<F: Flavor>(&self, serializer: &mut Serializer<F>) -> Result<()> {
         (&self.end,).serialize(serializer)

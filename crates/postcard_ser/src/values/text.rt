@@ -5,14 +5,14 @@ use crate::serializer::Serializer;
 use postcard_ser_flavors::Flavor;
 use postcard_wire::Result;
 
-/// The count of the bytes, and the bytes.
+/// Written as the number of the bytes, a varint, and then the bytes.
 impl Serialize for &str {
     fn serialize<F: Flavor>(&self, serializer: &mut Serializer<F>) -> Result<()> {
         serializer.serialize_str(self)
     }
 }
 
-/// The count of the bytes, and the bytes.
+/// Written as the number of the bytes, a varint, and then the bytes.
 impl Serialize for String {
     fn serialize<F: Flavor>(&self, serializer: &mut Serializer<F>) -> Result<()> {
         serializer.serialize_str(self.as_str())

@@ -1,7 +1,7 @@
-//! Tuples of one to twelve parts: the parts from left to right, with no count before them.
+//! Tuples of one to twelve parts: written as the parts in order, with no count before them.
 
 ghost use Rattle.std.specs.Prelude.{◌⊎◌, ◌++◌, OnOk};
-ghost use Rattle.postcard_wire.specs.Spelling.{bytes};
+ghost use Rattle.postcard_wire.specs.Spelling.{canonical};
 ghost use Rattle.postcard_ser.specs.Writing.{Wrote};
 
 use crate::serialize::Serialize;
@@ -16,7 +16,7 @@ fn serialize_both<P: Serialize, Q: Serialize, F: Flavor>(
     serializer: &mut Serializer<F>,
 ) -> Result<()>
     ensures wrote { Wrote F.Flavor serializer.old.output
-        (bytes (P.shape.tree first.now) ++ bytes (Q.shape.tree second.now))
+        (canonical (P.shape.tree first.now) ++ canonical (Q.shape.tree second.now))
         (P.shape.refuses first.now ⊎ Q.shape.refuses second.now)
         (P.shape.text ⊎ Q.shape.text) result serializer.new.output }
     ensures fits { OnOk result (P.shape.fits first.now × Q.shape.fits second.now) }
@@ -25,8 +25,8 @@ fn serialize_both<P: Serialize, Q: Serialize, F: Flavor>(
     second.serialize(serializer)
 }
 
-/// Writes a value, another, and what follows them. A long tuple goes by two parts at a time, since
-/// the prover's work for a tuple within a tuple grows with its length.
+/// Writes a value, another, and then a tuple of what follows them. A long tuple is written in twos,
+/// since the prover's work for a tuple within a tuple grows with its length.
 fn serialize_three<P: Serialize, Q: Serialize, R: Serialize, F: Flavor>(
     first: &P,
     second: &Q,
@@ -34,8 +34,8 @@ fn serialize_three<P: Serialize, Q: Serialize, R: Serialize, F: Flavor>(
     serializer: &mut Serializer<F>,
 ) -> Result<()>
     ensures wrote { Wrote F.Flavor serializer.old.output
-        (bytes (P.shape.tree first.now)
-        ++ (bytes (Q.shape.tree second.now) ++ bytes (R.shape.tree others.now)))
+        (canonical (P.shape.tree first.now)
+        ++ (canonical (Q.shape.tree second.now) ++ canonical (R.shape.tree others.now)))
         (P.shape.refuses first.now ⊎ (Q.shape.refuses second.now ⊎ R.shape.refuses others.now))
         (P.shape.text ⊎ (Q.shape.text ⊎ R.shape.text)) result serializer.new.output }
     ensures fits { OnOk result (P.shape.fits first.now
@@ -45,35 +45,35 @@ fn serialize_three<P: Serialize, Q: Serialize, R: Serialize, F: Flavor>(
     serialize_both(second, others, serializer)
 }
 
-/// The part.
+/// Written as the part.
 impl<A: Serialize> Serialize for (A,) {
     fn serialize<F: Flavor>(&self, serializer: &mut Serializer<F>) -> Result<()> {
         serializer.serialize_element(&self.0)
     }
 }
 
-/// The two parts.
+/// Written as the two parts in order.
 impl<A: Serialize, B: Serialize> Serialize for (A, B) {
     fn serialize<F: Flavor>(&self, serializer: &mut Serializer<F>) -> Result<()> {
         serialize_both(&self.0, &self.1, serializer)
     }
 }
 
-/// The three parts.
+/// Written as the three parts in order.
 impl<A: Serialize, B: Serialize, C: Serialize> Serialize for (A, B, C) {
     fn serialize<F: Flavor>(&self, serializer: &mut Serializer<F>) -> Result<()> {
         serialize_three(&self.0, &self.1, &self.2, serializer)
     }
 }
 
-/// The first two parts, and then the others.
+/// Written as the four parts in order.
 impl<A: Serialize, B: Serialize, C: Serialize, D: Serialize> Serialize for (A, B, C, D) {
     fn serialize<F: Flavor>(&self, serializer: &mut Serializer<F>) -> Result<()> {
         serialize_three(&self.0, &self.1, &(&self.2, &self.3), serializer)
     }
 }
 
-/// The first two parts, and then the others.
+/// Written as the five parts in order.
 impl<A: Serialize, B: Serialize, C: Serialize, D: Serialize, E: Serialize> Serialize
     for (A, B, C, D, E) {
     fn serialize<F: Flavor>(&self, serializer: &mut Serializer<F>) -> Result<()> {
@@ -81,7 +81,7 @@ impl<A: Serialize, B: Serialize, C: Serialize, D: Serialize, E: Serialize> Seria
     }
 }
 
-/// The first two parts, and then the others.
+/// Written as the six parts in order.
 impl<A: Serialize, B: Serialize, C: Serialize, D: Serialize, E: Serialize, G: Serialize> Serialize
     for (A, B, C, D, E, G) {
     fn serialize<F: Flavor>(&self, serializer: &mut Serializer<F>) -> Result<()> {
@@ -94,7 +94,7 @@ impl<A: Serialize, B: Serialize, C: Serialize, D: Serialize, E: Serialize, G: Se
     }
 }
 
-/// The first two parts, and then the others.
+/// Written as the seven parts in order.
 impl<
     A: Serialize,
     B: Serialize,
@@ -114,7 +114,7 @@ impl<
     }
 }
 
-/// The first two parts, and then the others.
+/// Written as the eight parts in order.
 impl<
     A: Serialize,
     B: Serialize,
@@ -135,7 +135,7 @@ impl<
     }
 }
 
-/// The first two parts, and then the others.
+/// Written as the nine parts in order.
 impl<
     A: Serialize,
     B: Serialize,
@@ -159,7 +159,7 @@ impl<
     }
 }
 
-/// The first two parts, and then the others.
+/// Written as the ten parts in order.
 impl<
     A: Serialize,
     B: Serialize,
@@ -184,7 +184,7 @@ impl<
     }
 }
 
-/// The first two parts, and then the others.
+/// Written as the eleven parts in order.
 impl<
     A: Serialize,
     B: Serialize,
@@ -210,7 +210,7 @@ impl<
     }
 }
 
-/// The first two parts, and then the others.
+/// Written as the twelve parts in order.
 impl<
     A: Serialize,
     B: Serialize,

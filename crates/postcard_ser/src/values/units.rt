@@ -1,4 +1,4 @@
-//! Types with one value: nothing is written.
+//! Types with one value, for which nothing is written.
 
 use crate::serialize::Serialize;
 use crate::serializer::Serializer;
@@ -6,14 +6,14 @@ use postcard_ser_flavors::Flavor;
 use postcard_wire::Result;
 use std::marker::PhantomData;
 
-/// No bytes.
+/// Written as no bytes.
 impl Serialize for () {
     fn serialize<F: Flavor>(&self, serializer: &mut Serializer<F>) -> Result<()> {
         serializer.serialize_unit()
     }
 }
 
-/// No bytes.
+/// Written as no bytes.
 impl<T> Serialize for PhantomData<T> {
     fn serialize<F: Flavor>(&self, serializer: &mut Serializer<F>) -> Result<()> {
         serializer.serialize_unit_struct("PhantomData")

@@ -1,4 +1,4 @@
-//! Types that hold one value of another: as that value.
+//! Types that hold one value of another, or point to it: written as that value.
 
 use crate::repr::SerializeRepr;
 use crate::serialize::Serialize;
@@ -8,28 +8,28 @@ use postcard_wire::Result;
 use std::num::Wrapping;
 use std::rc::Rc;
 
-/// As what it points to.
+/// Written as the value pointed to.
 impl<T: Serialize> SerializeRepr for &T {
     fn serialize_repr<F: Flavor>(&self, serializer: &mut Serializer<F>) -> Result<()> {
         T::serialize(self, serializer)
     }
 }
 
-/// As what it points to.
+/// Written as the value pointed to.
 impl<T: Serialize> SerializeRepr for &mut T {
     fn serialize_repr<F: Flavor>(&self, serializer: &mut Serializer<F>) -> Result<()> {
         (**self).serialize(serializer)
     }
 }
 
-/// As the value in it.
+/// Written as the value in the box.
 impl<T: Serialize> Serialize for Box<T> {
     fn serialize<F: Flavor>(&self, serializer: &mut Serializer<F>) -> Result<()> {
         self.as_ref().serialize(serializer)
     }
 }
 
-/// As the value in it. What is shared is written each time.
+/// Written as the value in the `Rc`. A shared value is written each time.
 impl<T: Serialize> Serialize for Rc<T> {
     fn serialize<F: Flavor>(&self, serializer: &mut Serializer<F>) -> Result<()> {
         let shared: &T = self;
@@ -37,7 +37,7 @@ impl<T: Serialize> Serialize for Rc<T> {
     }
 }
 
-/// As the number in it.
+/// Written as the number.
 impl<T: Serialize> SerializeRepr for Wrapping<T> {
     fn serialize_repr<F: Flavor>(&self, serializer: &mut Serializer<F>) -> Result<()> {
         self.0.serialize(serializer)

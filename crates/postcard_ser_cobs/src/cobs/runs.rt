@@ -1,5 +1,5 @@
-//! Runs: bytes other than zero, which go to the storage many at once, and pieces that are dense
-//! with zeros, which do as well.
+//! How bytes go to the storage many at once: runs, which have no zeros, and pieces that are dense
+//! with zeros.
 
 ghost use Rattle.std.specs.Prelude.{◌≡◌, ◌≤◌, ◌+◌, ◌-◌, ◌<◌, length, take, drop, slice_index, IfOk};
 ghost use Rattle.std.specs.Prelude.{IfErr, OnOk, OnErr, IsOk, IsTrue, IsErrOf};
@@ -12,15 +12,15 @@ use postcard_ser_flavors::{Flavor, Storage};
 use postcard_wire::{Error, Result};
 use std::mem;
 
-/// The number of bytes that are looked at for more zeros where the first zero is near.
+/// The number of bytes that are searched for more zeros if the first zero is near.
 const WINDOW: usize = 16;
 
 /// The number of zeros among them from which on it is cheaper to take the bytes with their zeros
 /// than run by run.
 const MANY_ZEROS: u8 = 2;
 
-/// Returns how many bytes to take together with their zeros, at most `most`: none if zeros are rare
-/// among the first bytes, of which `run` come before the first zero.
+/// Returns the number of bytes to take together with their zeros, at most `most`, or 0 if zeros are
+/// rare among the first bytes, of which `run` come before the first zero.
 #[inline(always)]
 fn dense_len(bytes: &[u8], run: usize, most: usize) -> usize
     ensures within { result ≤ length bytes.now }
@@ -40,7 +40,8 @@ fn dense_len(bytes: &[u8], run: usize, most: usize) -> usize
     few
 }
 
-/// Returns the number of bytes before the first zero, but at most `most`.
+/// Returns the number of bytes before the first zero, or of all bytes if there is none, but at most
+/// `most`.
 #[inline(always)]
 fn run_len(bytes: &[u8], most: usize) -> usize
     ensures within { result ≤ length bytes.now }
@@ -57,7 +58,7 @@ fn run_len(bytes: &[u8], most: usize) -> usize
 }
 
 impl<B: Storage + Drop> Cobs<B> {
-    /// Takes a run in one piece. It holds no zero, and doesn't make the open group full.
+    /// Takes a run in one piece. It must have no zero, and not make the open group full.
     fn push_run(&mut self, run: &[u8]) -> Result<()>
         requires no_zero { NoZero run.now }
         requires short { length run.now < 255 - self.old.encoder.code }
@@ -81,10 +82,10 @@ impl<B: Storage + Drop> Cobs<B> {
         Ok(())
     }
 
-    /// Takes a piece in one, zeros included. It is too short to make the open group full.
+    /// Takes a piece at once, zeros included. It must be too short to make the open group full.
     ///
-    /// A zero of the data stands where the frame has the place of the next code, so the piece is
-    /// pushed as it is, and the codes are set after that.
+    /// A zero of the data is at the place of the next code in the frame, so the piece is pushed as
+    /// it is, and the codes are set after that.
     #[inline(never)]
     fn push_dense(&mut self, piece: &[u8]) -> Result<()>
         requires short { length piece.now < 255 - self.old.encoder.code }
@@ -109,8 +110,8 @@ impl<B: Storage + Drop> Cobs<B> {
         Ok(())
     }
 
-    /// Takes the run that starts at a place of `bytes`, or a piece with zeros where many are near,
-    /// or the one byte there, and returns the place after it.
+    /// Takes the run that starts at `place` of `bytes`, or a piece with its zeros if many are near,
+    /// or the one byte there, and returns the place after it. Fails as `try_push` does.
     pub(super) fn push_next(&mut self, bytes: &[u8], place: usize) -> Result<usize>
         requires { place < length bytes.now }
         ensures advances { IfOk result (λ n. (place < n) × (n ≤ length bytes.now)) }

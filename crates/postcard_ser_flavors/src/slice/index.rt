@@ -1,4 +1,4 @@
-//! The bytes of the whole slice by their place: read, written, and set.
+//! The bytes of the whole slice by their place, to be read or changed.
 
 ghost use Rattle.std.specs.Prelude.{◌≡◌, ◌<◌, [], length, slice_index, slice_set};
 
@@ -12,10 +12,10 @@ impl<'a> Index<usize> for Slice<'a> {
 
     ghost index_gives = { λ s place byte. byte ≡ slice_index s.buffer place };
 
-    /// The byte at a place inside the whole slice, counted from 0, also one that was not written
-    /// yet.
+    /// Returns the byte at `place`, counted from 0 and inside the whole slice, also one that was
+    /// not written yet.
     fn index(&self, place: usize) -> &u8 {
-        let all = self.memory.view(self.len);
+        let all = self.memory.view(self.life, self.len);
         &all[place]
     }
 }
@@ -25,8 +25,8 @@ impl<'a> IndexMut<usize> for Slice<'a> {
     ghost use Rattle.postcard_ser_flavors.specs.contracts.slice.Slice.{the_row};
     ghost use mir.Syntax.{named};
 
-    /// The byte at a place inside the whole slice, counted from 0, to be written. Nothing else
-    /// changes.
+    /// Returns the byte at `place`, counted from 0 and inside the whole slice, to be changed.
+    /// Nothing else changes.
     fn index_mut(&mut self, place: usize) -> &mut u8
         requires { place < length self.old.buffer }
         ensures* writes_back { sem 𝓛 (Lends (the_row (record { mir = named 1; lft = [] }))
@@ -34,9 +34,6 @@ impl<'a> IndexMut<usize> for Slice<'a> {
             (λ w. record self.old { buffer = slice_set self.old.buffer place w })) }
         ensures value { result.now ≡ slice_index self.old.buffer place }
     {
-        // SAFETY: the place is one of the bytes at `start`, and `self` is borrowed for as long as the
-        // result lives. Not by `Memory::at`: for the prover, a memory that is lent for that long may
-        // end as another, of another length.
-        unsafe { &mut *self.memory.start.add(place) }
+        self.memory.at(self.life, place)
     }
 }

@@ -2,7 +2,8 @@
 
 ghost use Rattle.std.specs.Prelude.{◌≡◌, ℕ, ◌^◌, ◌<◌, List, length, slice_set};
 ghost use Rattle.postcard_ser_flavors.specs.Slice.{held};
-ghost use Rattle.postcard_ser_flavors.specs.SliceStorage.{CanTake, slice_free, slice_storage, slice_indexed};
+ghost use Rattle.postcard_ser_flavors.specs.SliceStorage.{HasFree, slice_free, slice_storage};
+ghost use Rattle.postcard_ser_flavors.specs.SliceStorage.{slice_indexed};
 
 use crate::flavor::Flavor;
 use crate::slice::Slice;
@@ -11,7 +12,7 @@ use crate::storage::Storage;
 impl<'a> Storage for Slice<'a> {
     ghost held = { held };
 
-    ghost free = { CanTake };
+    ghost free = { HasFree };
 
     ghost free_lawful = { slice_free };
 
@@ -27,9 +28,10 @@ impl<'a> Storage for Slice<'a> {
             → ⟦<Slice<'static> as Storage>⟧.free self.new n }
         ensures leaves { ⟦<Slice<'static> as Flavor>⟧.reaches self.old self.new }
         ensures countable { length (⟦<Slice<'static> as Storage>⟧.held self.new) < 2 ^ 64 }
-        ensures alone { self.new ≡ record self.old { buffer = slice_set self.old.buffer place byte } }
+        ensures alone { self.new
+            ≡ record self.old { buffer = slice_set self.old.buffer place byte } }
     {
-        *self.memory.at(place) = byte;
+        *self.memory.at(self.life, place) = byte;
     }
 
     /// Returns the number of bytes written at the front of the slice.

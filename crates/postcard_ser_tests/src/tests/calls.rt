@@ -1,4 +1,4 @@
-//! Each call of the serializer, at values whose bytes were worked out by hand.
+//! Tests of each call of the serializer, with values whose bytes were worked out by hand.
 
 use postcard_ser::{Serializer, serialize_variant};
 use postcard_ser_flavors::Slice;

@@ -1,4 +1,5 @@
-//! Texts that values print, which no clause says to succeed.
+//! Tests of values that are written as the text as which they are printed: no contract says that
+//! this succeeds.
 
 ghost use Rattle.std.specs.Prelude.{◌∷◌, Some};
 ghost use Rattle.std.specs.Fmt.{decimal};
@@ -15,7 +16,7 @@ use std::fmt;
 use std::fmt::Display;
 use std::process::Abort;
 
-/// Prints a beginning of a text, and then fails.
+/// A value whose printing writes `front` and then fails.
 #[derive(Drop)]
 struct Broken {
     front: &'static str,
@@ -28,7 +29,7 @@ impl Display for Broken {
     }
 }
 
-/// A user's type that is written as the text that it prints.
+/// A user's type that is written as the text as which it is printed.
 #[derive(Drop)]
 struct Shown(u32);
 
@@ -50,7 +51,8 @@ impl Serialize for Shown {
     }
 }
 
-/// What a value prints is answered so, into a buffer of which this is then written.
+/// Asserts the result of writing the text of a value into a buffer of `room` bytes, and the bytes
+/// that are then written.
 fn assert_collected<T: Display>(
     rt: &impl Abort,
     value: &T,

@@ -1,4 +1,4 @@
-//! Each type that is written, at a value whose bytes were worked out by hand.
+//! Tests of each type that is written, with values whose bytes were worked out by hand.
 
 use super::{Pieces, assert_written};
 use arrayvec::{ArrayString, ArrayVec};
@@ -61,7 +61,7 @@ fn numbers_that_are_not_zero(rt: HostRuntime) {
     assert_nonzero(&rt, NonZeroIsize::new(-3), &[0x05]);
 }
 
-/// The number is there, and is written as these bytes.
+/// Asserts that there is a number, and that it is written as these bytes.
 fn assert_nonzero<T: Serialize + Drop>(rt: &impl Abort, number: Option<T>, want: &[u8]) {
     match number {
         Some(number) => assert_written(rt, &number, want),
@@ -199,7 +199,7 @@ fn fixed_capacities(rt: HostRuntime) -> std::result::Result<(), Fail> {
     Ok(())
 }
 
-/// Writes a value into a flavor that takes so many pieces.
+/// Writes a value into a flavor that takes `pieces` pieces and refuses the next.
 fn written_in<T: Serialize>(value: &T, pieces: usize) -> Result<()> {
     let mut buffer = [0; 8];
     let mut serializer = Serializer {

@@ -1,4 +1,4 @@
-//! Errors as values: by their index, with no content.
+//! The shape of errors: an enum without content, by the index of each.
 
 ghost use Rattle.postcard_shape.specs.Enumerations.{enumeration};
 ghost use Rattle.postcard_shape.specs.Errors.{error_index, error_at, error_back};

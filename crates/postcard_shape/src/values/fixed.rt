@@ -1,4 +1,4 @@
-//! Arrays, and vectors and texts of a fixed capacity.
+//! The shapes of arrays, and of vectors and texts of a fixed capacity.
 
 ghost use Rattle.postcard_shape.specs.Shape.{via};
 ghost use Rattle.postcard_shape.specs.Leaves.{short_text};

@@ -1,4 +1,4 @@
-//! Lists.
+//! The shapes of lists.
 
 ghost use Rattle.postcard_shape.specs.Shape.{via, growing};
 ghost use Rattle.postcard_shape.specs.Lists.{seq};

@@ -1,4 +1,4 @@
-//! Maps.
+//! The shapes of maps.
 
 ghost use Rattle.postcard_shape.specs.Shape.{via};
 ghost use Rattle.postcard_shape.specs.Entries.{entries};

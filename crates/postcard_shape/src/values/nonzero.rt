@@ -1,4 +1,4 @@
-//! Numbers that aren't 0.
+//! The shapes of numbers that aren't 0.
 
 ghost use Rattle.std.specs.Prelude.{refl, pos};
 ghost use Rattle.std.specs.Int.NonZero.{non_zero_u8_get, non_zero_u16_get, non_zero_u32_get};

@@ -1,9 +1,9 @@
-//! Numbers of a fixed width.
+//! The shapes of numbers of a fixed width.
 
 ghost use Rattle.std.specs.Prelude.{◌≡◌, ℕ, ◌<◌, map, refl, IfErr, IfOk, IfSome, IsSome};
 ghost use Rattle.std.specs.Prelude.{slice_index};
 ghost use Rattle.std.proofs.Common.{inl, inr};
-ghost use Rattle.postcard_wire.specs.Spelling.{bytes_all};
+ghost use Rattle.postcard_wire.specs.Spelling.{canonical_all};
 ghost use Rattle.postcard_wire.specs.Tree.{Byte, trees};
 ghost use Rattle.postcard_shape.specs.Leaves.{byte, signed_byte, num, int};
 ghost use Rattle.postcard_shape.specs.Lists.{AllFit};
@@ -26,7 +26,7 @@ impl Shaped for u8 {
 
     #[tactic(auto, using(crate::proofs::Bytes::bytes_of_bytes))]
     fn slice_bytes(items: &[u8]) -> Option<&[u8]>
-        ensures gives { IfSome result (λ b. b.now ≡ bytes_all (trees (map Byte items.now))) }
+        ensures gives { IfSome result (λ b. b.now ≡ canonical_all (trees (map Byte items.now))) }
         ensures fits { IfSome result (λ _. AllFit byte.fits items.now) }
         ensures always { IsSome result }
     {

@@ -1,4 +1,4 @@
-//! Options and results.
+//! The shapes of options and results.
 
 ghost use Rattle.postcard_shape.specs.Choices.{option, result};
 

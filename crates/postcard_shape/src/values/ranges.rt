@@ -1,4 +1,4 @@
-//! Ranges: as the tuple of their ends.
+//! The shapes of ranges: that of the tuple of their ends.
 
 ghost use Rattle.std.specs.Range.{range_inclusive_start, range_inclusive_end};
 
@@ -11,7 +11,7 @@ impl<T: Shaped> Repr for Range<T> {
     ghost repr = { λ v. (v.start, v.end) };
 }
 
-/// Whether the range was walked to its end isn't seen.
+/// The shape has the start and the end. Whether the range is exhausted is not written.
 impl<T: Shaped> Repr for RangeInclusive<T> {
     type As = (T, T);
 

@@ -1,4 +1,4 @@
-//! Truth values, characters, and numbers as wide as an address, which are numbers of 64 bits.
+//! The shapes of truth values, of characters, and of `usize` and `isize` as numbers of 64 bits.
 
 ghost use Rattle.std.specs.Prelude.{refl};
 ghost use Rattle.std.proofs.Common.{inl, inr};

@@ -1,4 +1,4 @@
-//! Texts.
+//! The shapes of texts.
 
 ghost use Rattle.std.specs.Prelude.{string_bytes};
 ghost use Rattle.postcard_shape.specs.Shape.{via, growing};

@@ -1,4 +1,4 @@
-//! Spans of time.
+//! The shape of spans of time.
 
 ghost use Rattle.postcard_shape.specs.Spans.{span_of_time};
 

@@ -1,4 +1,4 @@
-//! Tuples of one to twelve parts: as parts in a row.
+//! The shapes of tuples of one to twelve parts: that of the parts in a row.
 
 use crate::rows::Part;
 use crate::shape::{Repr, Shaped};

@@ -1,4 +1,4 @@
-//! Types with one value, of which nothing is written.
+//! The shapes of types with one value, for which nothing is written.
 
 ghost use Rattle.postcard_shape.specs.Rows.{none, group};
 

@@ -1,4 +1,4 @@
-//! Types that hold one value of another, or point to it: as that value.
+//! The shapes of types that hold one value of another, or point to it: that of the value.
 
 ghost use Rattle.postcard_shape.specs.Shape.{via, growing};
 

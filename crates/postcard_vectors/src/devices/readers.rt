@@ -1,5 +1,5 @@
-//! Readers for tests: one that gives its bytes in stated pieces, one that fails at a stated call,
-//! and one of which every other call is interrupted.
+//! Readers for tests: one with pieces of given lengths, one that fails at a given call, and one of
+//! which every other call is interrupted.
 
 ghost use Rattle.std.specs.Prelude.{◌≡◌, ◌+◌, ◌-◌, ◌^◌, ◌≤◌, ◌<◌, ◌++◌, [], length, min, take, Ok};
 ghost use Rattle.std.specs.Prelude.{Some, IsErr, ⊤};
@@ -11,9 +11,9 @@ use postcard::de_flavors::Source;
 use std::io;
 use std::io::{ErrorKind, Read};
 
-/// A steady reader that gives its bytes in pieces: no read gives more than the next of the stated
-/// lengths. These are used in turn, from the first on again once they are over; where there are
-/// none, each read gives one byte. A length of 0 counts as 1.
+/// A steady reader that reads from a slice in pieces: each read is at most as long as the next of
+/// the given lengths. They are used in turn, and from the first on again after the last. If there
+/// are none, each read is of one byte. A length of 0 counts as 1.
 #[derive(Drop)]
 pub struct Pieces<'a> {
     bytes: &'a [u8],
@@ -22,7 +22,7 @@ pub struct Pieces<'a> {
 }
 
 impl<'a> Pieces<'a> {
-    /// A reader of `bytes` in pieces of `lengths`.
+    /// Returns a reader of `bytes` in pieces of at most `lengths` bytes.
     pub fn new(bytes: &'a [u8], lengths: &'a [usize]) -> Pieces<'a>
         ensures bytes { result.bytes.now ≡ bytes.now }
         ensures lengths { result.lengths.now ≡ lengths.now }
@@ -35,14 +35,14 @@ impl<'a> Pieces<'a> {
         }
     }
 
-    /// The bytes that weren't read yet.
+    /// Returns the bytes that weren't read yet.
     pub fn unread(&self) -> &'a [u8]
         ensures { result.now ≡ self.now.bytes.now }
     {
         self.bytes
     }
 
-    /// How many bytes the next read gives at most.
+    /// Returns the greatest number of bytes of the next read, and goes on to the length after it.
     fn next_length(&mut self) -> usize
         ensures stated { result ≡ piece_length self.old.lengths.now self.old.place }
         ensures turns { self.new.place ≡ turn self.old.lengths.now self.old.place + 1 }
@@ -56,8 +56,8 @@ impl<'a> Pieces<'a> {
         length.max(1)
     }
 
-    /// Moves the next piece, or as much of it as there is and fits, into the front of `buf`, and
-    /// answers its length.
+    /// Moves the next piece, or as much of it as is left and fits, into the front of `buf`, and
+    /// returns the number of its bytes.
     fn give(&mut self, buf: &mut [u8]) -> usize
         ensures counts { result
             ≡ min (min (piece_length self.old.lengths.now self.old.place) (length buf.old))
@@ -112,14 +112,15 @@ impl Source for Pieces<'_> {
     }
 }
 
-/// Hands on to another reader, but for one read, which fails as a broken pipe does.
+/// Reads from another reader. One of the reads fails with [`ErrorKind::BrokenPipe`], and reads
+/// nothing.
 #[derive(Drop)]
 pub struct FailingReader<R> {
-    /// Where the bytes come from.
+    /// The reader from which the bytes come.
     pub inner: R,
-    /// How many reads were asked for.
+    /// The number of reads so far.
     pub reads: usize,
-    /// Which of them fails, counted from 0.
+    /// The number of the read that fails, counted from 0.
     pub fails_at: usize,
 }
 
@@ -143,11 +144,11 @@ impl<R: Read> Read for FailingReader<R> {
     }
 }
 
-/// Reads from another reader at every other call. The calls between fail with
-/// [`ErrorKind::Interrupted`] and read nothing, as a system call does that a signal cuts short.
+/// Reads from another reader at every other call. The other calls fail with
+/// [`ErrorKind::Interrupted`] and read nothing, as a system call that is cut short by a signal.
 #[derive(Drop)]
 pub struct InterruptedReader<R> {
-    /// Where the bytes come from.
+    /// The reader from which the bytes come.
     pub inner: R,
     /// Whether the next call is interrupted.
     pub interrupts: bool,

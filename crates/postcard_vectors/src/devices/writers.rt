@@ -1,5 +1,5 @@
-//! Writers for tests: one that is short of room, one that fails at a stated call, and one of which
-//! every other call is interrupted.
+//! Writers for tests: one with little room, one that fails at a given call, and one of which every
+//! other call is interrupted.
 
 ghost use Rattle.std.specs.Prelude.{◌≡◌, ◌+◌, ◌-◌, ◌^◌, [], length, min, true, Ok, Some, IsErr};
 ghost use Rattle.std.specs.Prelude.{IsOk, OnOk, OnErr};
@@ -10,16 +10,16 @@ use arrayvec::ArrayVec;
 use std::io;
 use std::io::{ErrorKind, Write};
 
-/// A writer with room for `N` bytes. It takes of each piece what it has room for, and once it is
-/// full nothing more, which `write_all` answers with an error.
+/// A writer with room for `N` bytes. Each write takes as many bytes as there is room for. Once it
+/// is full, a write takes none, so that `write_all` fails.
 #[derive(Drop)]
 pub struct Bounded<const N: usize> {
-    /// The bytes that it was given.
+    /// The bytes that were written.
     pub held: ArrayVec<u8, N>,
 }
 
 impl<const N: usize> Bounded<N> {
-    /// Holds nothing.
+    /// Returns an empty writer.
     pub fn new() -> Bounded<N>
         ensures { result.held.items ≡ [] }
     {
@@ -32,7 +32,7 @@ impl<const N: usize> Bounded<N> {
 impl<const N: usize> Write for Bounded<N> {
     ghost contents = { λ s. Some s.held.items };
 
-    /// Takes the front that there is room for.
+    /// Takes the front of `buf` that there is room for, and returns the number of its bytes.
     fn write(&mut self, buf: &[u8]) -> io::Result<usize>
         ensures bound { WritesAtMost result buf.now }
         ensures bytes { WriteAppends (Some self.old.held.items) (Some self.new.held.items)
@@ -46,7 +46,7 @@ impl<const N: usize> Write for Bounded<N> {
         }
     }
 
-    /// There is nothing to flush.
+    /// Does nothing.
     fn flush(&mut self) -> io::Result<()>
         ensures bytes { Keeps (Some self.old.held.items) (Some self.new.held.items) }
         ensures ok { IsOk result }
@@ -55,18 +55,19 @@ impl<const N: usize> Write for Bounded<N> {
     }
 }
 
-/// Hands on to another writer, but for one write, or the flush, which fails as a broken pipe does.
+/// Writes to another writer. One of the writes, or the flush, fails with [`ErrorKind::BrokenPipe`],
+/// and writes nothing.
 #[derive(Drop)]
 pub struct FailingWriter<W> {
-    /// What the bytes go to.
+    /// The writer to which the bytes go.
     pub inner: W,
-    /// How many writes were asked for.
+    /// The number of writes so far.
     pub writes: usize,
-    /// Which of them fails, counted from 0.
+    /// The number of the write that fails, counted from 0.
     pub fails_at: usize,
-    /// Whether the flush fails.
+    /// Whether flushing fails.
     pub flush_fails: bool,
-    /// Whether it was flushed.
+    /// Whether it was flushed with success.
     pub flushed: bool,
 }
 
@@ -104,11 +105,11 @@ impl<W: Write> Write for FailingWriter<W> {
     }
 }
 
-/// Writes to another writer at every other call. The calls between fail with
-/// [`ErrorKind::Interrupted`] and write nothing, as a system call does that a signal cuts short.
+/// Writes to another writer at every other call. The other calls fail with
+/// [`ErrorKind::Interrupted`] and write nothing, as a system call that is cut short by a signal.
 #[derive(Drop)]
 pub struct InterruptedWriter<W> {
-    /// What the bytes go to.
+    /// The writer to which the bytes go.
     pub inner: W,
     /// Whether the next call is interrupted.
     pub interrupts: bool,
@@ -135,7 +136,7 @@ impl<W: Write> Write for InterruptedWriter<W> {
         }
     }
 
-    /// Flushes the other writer, and is never interrupted.
+    /// Flushes the other writer. This is never interrupted.
     fn flush(&mut self) -> io::Result<()>
         ensures bytes { Keeps (W.contents self.old.inner) (W.contents self.new.inner) }
         ensures turns_not { self.new.interrupts ≡ self.old.interrupts }

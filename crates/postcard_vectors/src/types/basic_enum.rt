@@ -1,4 +1,4 @@
-//! An enum without content: its index alone.
+//! An enum whose variants have no content, so that only the index is written.
 
 ghost use Rattle.postcard_vectors.specs.declared.types.basic_enum.BasicEnum.{BasicEnum};
 
@@ -7,14 +7,14 @@ use postcard::{
     Case, FromRepr, NoCase, Repr, Result, SerializeRepr, Serializer, serialize_variant,
 };
 
-/// One of three.
+/// One of three variants.
 #[derive(Clone, Debug, Drop, PartialEq)]
 pub enum BasicEnum {
-    /// The first.
+    /// The variant with the index 0.
     Bib,
-    /// The second.
+    /// The variant with the index 1.
     Bim,
-    /// The third.
+    /// The variant with the index 2.
     Bap,
 }
 

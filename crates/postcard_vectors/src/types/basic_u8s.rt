@@ -1,18 +1,18 @@
-//! A struct with a number of each unsigned width but the greatest.
+//! A struct with an unsigned number of each width but 128 bits.
 
 use postcard::ser_flavors::Flavor;
 use postcard::{FromRepr, Repr, Result, Serialize, SerializeRepr, Serializer};
 
-/// A number of each unsigned width but the greatest.
+/// An unsigned number of each width but 128 bits.
 #[derive(Clone, Debug, Drop, PartialEq)]
 pub struct BasicU8S {
-    /// Of 16 bits.
+    /// A number of 16 bits.
     pub st: u16,
-    /// Of 8 bits.
+    /// A number of 8 bits.
     pub ei: u8,
-    /// Of 64 bits.
+    /// A number of 64 bits.
     pub sf: u64,
-    /// Of 32 bits.
+    /// A number of 32 bits.
     pub tt: u32,
 }
 

@@ -1,4 +1,4 @@
-//! An enum with content of every kind, and the struct that one of its variants holds.
+//! An enum with content of every kind, and the struct that is the content of one of its variants.
 
 ghost use Rattle.postcard_vectors.specs.declared.types.data_enum.DataEnum.{DataEnum};
 
@@ -7,12 +7,12 @@ use postcard::{
     Case, FromRepr, NoCase, Repr, Result, Serialize, SerializeRepr, Serializer, serialize_variant,
 };
 
-/// A struct within an enum.
+/// The struct that is the content of a variant.
 #[derive(Clone, Debug, Drop, PartialEq)]
 pub struct EnumStruct {
-    /// Of 8 bits.
+    /// A number of 8 bits.
     pub eight: u8,
-    /// Of 16 bits.
+    /// A number of 16 bits.
     pub sixt: u16,
 }
 
@@ -34,7 +34,7 @@ impl SerializeRepr for EnumStruct {
     }
 }
 
-/// An enum with content of each kind: one value, a struct, fields with names and without.
+/// An enum with content of every kind: one value, a struct, and fields with and without names.
 #[derive(Clone, Debug, Drop, PartialEq)]
 pub enum DataEnum {
     /// A number of 16 bits.
@@ -47,16 +47,16 @@ pub enum DataEnum {
     Kim(EnumStruct),
     /// Fields with names.
     Chi {
-        /// Of 8 bits.
+        /// A number of 8 bits.
         a: u8,
-        /// Of 32 bits.
+        /// A number of 32 bits.
         b: u32,
     },
     /// Fields without names.
     Sho(u16, u8),
 }
 
-/// The three variants behind the first three.
+/// The last three of the six variants.
 type Behind = Case<EnumStruct, Case<(u8, u32), Case<(u16, u8), NoCase>>>;
 
 impl Repr for DataEnum {
@@ -80,7 +80,7 @@ impl FromRepr for DataEnum {
             Case::This(n) => DataEnum::Bib(n),
             Case::Next(Case::This(n)) => DataEnum::Bim(n),
             Case::Next(Case::Next(Case::This(n))) => DataEnum::Bap(n),
-            Case::Next(Case::Next(Case::Next(behind))) => match behind {
+            Case::Next(Case::Next(Case::Next(others))) => match others {
                 Case::This(v) => DataEnum::Kim(v),
                 Case::Next(Case::This((a, b))) => DataEnum::Chi { a, b },
                 Case::Next(Case::Next(Case::This((x, y)))) => DataEnum::Sho(x, y),

@@ -4,7 +4,7 @@ use postcard::fixint::{BE, LE};
 use postcard::ser_flavors::Flavor;
 use postcard::{FromRepr, Repr, Result, Serialize, SerializeRepr, Serializer};
 
-/// Where a device is reached.
+/// The address of a device in a network.
 #[derive(Clone, Debug, Drop, PartialEq)]
 pub struct Endpoint {
     /// The address, written as 4 bytes, the highest first.

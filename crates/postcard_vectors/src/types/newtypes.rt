@@ -3,7 +3,7 @@
 use postcard::ser_flavors::Flavor;
 use postcard::{FromRepr, Repr, Result, Serialize, SerializeRepr, Serializer};
 
-/// A number under a name of its own.
+/// A struct of a number, which is written as the number alone.
 #[derive(Clone, Debug, Drop, PartialEq)]
 pub struct NewTypeStruct(pub u32);
 
@@ -25,7 +25,7 @@ impl SerializeRepr for NewTypeStruct {
     }
 }
 
-/// A tuple under a name of its own.
+/// A struct of a tuple, which is written as the tuple alone.
 #[derive(Clone, Debug, Drop, PartialEq)]
 pub struct TupleStruct(pub (u8, u16));
 
@@ -47,7 +47,7 @@ impl SerializeRepr for TupleStruct {
     }
 }
 
-/// Two fields without names.
+/// A struct of two fields without names.
 #[derive(Clone, Debug, Drop, PartialEq)]
 pub struct DualTupleStruct(pub u8, pub u16);
 

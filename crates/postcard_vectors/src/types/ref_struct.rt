@@ -1,9 +1,9 @@
-//! A struct with borrowed fields: both are lent from the input when it is read.
+//! A struct with borrowed fields: when it is read, both borrow from the input.
 
 use postcard::ser_flavors::Flavor;
 use postcard::{FromRepr, Repr, Result, Serialize, SerializeRepr, Serializer};
 
-/// Bytes and a text that stand elsewhere.
+/// Borrowed bytes and a borrowed text.
 #[derive(Clone, Debug, Drop, PartialEq)]
 pub struct RefStruct<'a> {
     /// Some bytes.

@@ -1,20 +1,20 @@
-//! A struct with a number of each unsigned width.
+//! A struct with an unsigned number of each width.
 
 use postcard::ser_flavors::Flavor;
 use postcard::{FromRepr, Repr, Result, Serialize, SerializeRepr, Serializer};
 
-/// A number of each unsigned width.
+/// An unsigned number of each width.
 #[derive(Clone, Debug, Drop, PartialEq)]
 pub struct WideU8S {
-    /// Of 16 bits.
+    /// A number of 16 bits.
     pub st: u16,
-    /// Of 8 bits.
+    /// A number of 8 bits.
     pub ei: u8,
-    /// Of 128 bits.
+    /// A number of 128 bits.
     pub ote: u128,
-    /// Of 64 bits.
+    /// A number of 64 bits.
     pub sf: u64,
-    /// Of 32 bits.
+    /// A number of 32 bits.
     pub tt: u32,
 }
 

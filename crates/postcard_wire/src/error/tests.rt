@@ -4,7 +4,7 @@ use super::*;
 use std::alloc::Global;
 use std::test::Fail;
 
-/// Each case with its name and its text: those of postcard 1.1.3, and the last this port's own.
+/// Each error with its name and its text: those of postcard 1.1.3, and last this port's own.
 fn table() -> [(Error, &'static str, &'static str); 17] {
     [
         (
@@ -119,7 +119,7 @@ fn is_made_of_any_message(rt: HostRuntime) {
     assert_eq!(rt; Error::de_custom(7u8), Error::SerdeDeCustom);
 }
 
-/// What any error of the standard library's kind prints.
+/// Returns what an error prints, by the standard library's trait of errors.
 fn text_of<E: error::Error>(rt: &HostRuntime, error: &E) -> std::result::Result<String, Fail> {
     Ok(error.to_string(rt.alloc())?)
 }
@@ -131,7 +131,7 @@ fn is_an_error_of_std(rt: HostRuntime) -> std::result::Result<(), Fail> {
     Ok(())
 }
 
-/// A reader's steps that ask for memory, with `?` alone.
+/// Allocates as a reader of a user's type does, with `?` alone.
 fn grown(alloc: Global) -> Result<(String, Vec<u8>)> {
     let text = String::from_str(alloc, "Hi!")?;
     let mut items = Vec::new(alloc);

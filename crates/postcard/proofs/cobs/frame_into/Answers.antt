@@ -1,6 +1,6 @@
--- The bytes of a value are the data of one frame, which is closed if all of them are in.
+-- The encoding of a value is the data of one frame, which is closed once all of it was pushed.
 use Rattle.postcard_ser.proofs.PartByPart.{wrote_closes}
-use Rattle.postcard_wire.specs.Spelling.{bytes}
+use Rattle.postcard_wire.specs.Spelling.{canonical}
 use Rattle.postcard.proofs.Framed.{one_free, data_room}
 use Rattle.postcard.proofs.cobs.frame_into.Goals as goal
 
@@ -15,13 +15,13 @@ returns-in-Err-clause-leaves g c =
 
 pub returns-in-Ok-clause-has_room : goal.returns-in-Ok-clause-has_room
 returns-in-Ok-clause-has_room g c n few free =
-    let xs = bytes (g.T.Shaped.shape.tree c.args.value.now) in
+    let xs = canonical (g.T.Shaped.shape.tree c.args.value.now) in
     let going = c.open.ensures.has_room (one_free g.B.Storage.free_lawful.free_fewer _ xs free) in
-    let room = data_room _ xs (c.open.ensures.opens_behind_held going) (c.open.ensures.keeps_free going) few free in
+    let room = data_room _ xs (c.open.ensures.opens_after_held going) (c.open.ensures.keeps_free going) few free in
     c.close.ensures.has_room (wrote_closes xs room c.in-Ok.ensures.wrote)
 
 pub returns-in-Err-clause-has_room : goal.returns-in-Err-clause-has_room
 returns-in-Err-clause-has_room g c n few free =
-    let xs = bytes (g.T.Shaped.shape.tree c.args.value.now) in
+    let xs = canonical (g.T.Shaped.shape.tree c.args.value.now) in
     let going = c.open.ensures.has_room (one_free g.B.Storage.free_lawful.free_fewer _ xs free) in
-    c.in-Err.ensures.wrote.has_room n (data_room _ xs (c.open.ensures.opens_behind_held going) (c.open.ensures.keeps_free going) few free)
+    c.in-Err.ensures.wrote.has_room n (data_room _ xs (c.open.ensures.opens_after_held going) (c.open.ensures.keeps_free going) few free)

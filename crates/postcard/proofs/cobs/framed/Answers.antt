@@ -1,13 +1,13 @@
--- A frame that fits after what a storage holds is made there.
+-- If the frame fits after what a storage holds, it is made there.
 use Rattle.std.proofs.Common.{[]}
 use Rattle.std.proofs.lemmas.Result.{err_from_is_err_and, IfOk-weaker}
-use Rattle.postcard_wire.specs.Spelling.{bytes}
+use Rattle.postcard_wire.specs.Spelling.{canonical}
 use Rattle.postcard.proofs.Framed.{one_free, data_room}
 use Rattle.postcard.proofs.cobs.framed.Goals as goal
 
 pub returns-in_err-try_new-clause-has_room : goal.returns-in_err-try_new-clause-has_room
 returns-in_err-try_new-clause-has_room g c n few free =
-    let xs = bytes (g.T.Shaped.shape.tree c.args.value.now) in
+    let xs = canonical (g.T.Shaped.shape.tree c.args.value.now) in
     let p = err_from_is_err_and c.from_residual.result c.from_residual.ensures.1 in
     let no = c.in_err-try_new.ensures.has_room (one_free g.B.Storage.free_lawful.free_fewer _ xs free) in
     absurd (cc)
@@ -17,12 +17,12 @@ returns-clause-gives g c =
     let before = g.B.Storage.held c.args.storage in
     IfOk-weaker c.serialize_with_flavor.result _ _
     (λ o fin.
-    let b = fin.ended before (bytes (g.T.Shaped.shape.tree c.args.value.now)) (fin.appended before [] c.in_ok-try_new.ensures.opens_behind_held) in
+    let b = fin.ended before (canonical (g.T.Shaped.shape.tree c.args.value.now)) (fin.appended before [] c.in_ok-try_new.ensures.opens_after_held) in
     (b.0, b.1, g.B.Flavor.lawful.reaches_join _ _ _ c.in_ok-try_new.ensures.leaves (g.B.Flavor.lawful.reaches_join _ _ _ fin.reached.inner b.2), b.3))
     c.serialize_with_flavor.ensures.gives
 
 pub returns-clause-has_room : goal.returns-clause-has_room
 returns-clause-has_room g c n few free =
-    let xs = bytes (g.T.Shaped.shape.tree c.args.value.now) in
+    let xs = canonical (g.T.Shaped.shape.tree c.args.value.now) in
     c.serialize_with_flavor.ensures.has_room n
-    (data_room _ xs c.in_ok-try_new.ensures.opens_behind_held c.in_ok-try_new.ensures.keeps_free few free)
+    (data_room _ xs c.in_ok-try_new.ensures.opens_after_held c.in_ok-try_new.ensures.keeps_free few free)

@@ -1,4 +1,4 @@
--- What was encoded fits, and its bytes read back.
+-- A value that was encoded fits, and its encoding is read back.
 use Rattle.std.proofs.Common.{[], sym, ◌∙◌, append-nil}
 use Rattle.postcard.proofs.laws.comes_back.Goals as goal
 

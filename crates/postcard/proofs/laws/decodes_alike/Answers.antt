@@ -1,4 +1,4 @@
--- Two decodings of the same bytes are alike.
+-- Two decodings of the same bytes agree.
 use Rattle.postcard_frame.proofs.Alike.{fronts_alike}
 use Rattle.postcard.proofs.laws.decodes_alike.Goals as goal
 

@@ -1,12 +1,13 @@
--- The tree is well formed, so its shortest spelling spells it, and no other front of those bytes spells a tree of the set.
+-- The tree is well formed, so its canonical encoding spells it, and no other front of those bytes
+-- spells a tree that the type reads.
 use Rattle.std.proofs.Common.{sym, subst}
 use Rattle.postcard_wire.specs.Tree.{Tree}
-use Rattle.postcard_wire.proofs.Shortest.{Spells-bytes}
+use Rattle.postcard_wire.proofs.Shortest.{Spells-canonical}
 use Rattle.postcard_wire.proofs.WellFormed.{read_again}
 use Rattle.postcard.proofs.laws.decodes_encoded.Goals as goal
 
 pub returns-clause-spelled : goal.returns-clause-spelled
-returns-clause-spelled g c t is_read = Spells-bytes t (g.T.Shaped.shape.well_formed t is_read)
+returns-clause-spelled g c t is_read = Spells-canonical t (g.T.Shaped.shape.well_formed t is_read)
 
 pub returns-clause-decoded : goal.returns-clause-decoded
 returns-clause-decoded g c t rest left v is_read r =

@@ -1,4 +1,4 @@
--- What was framed fits, and its frame reads back.
+-- A value that was framed fits, and its frame is read back.
 use Rattle.std.proofs.Common.{ap, ◌∙◌}
 use Rattle.postcard_cobs.specs.Groups.{before_zero}
 use Rattle.postcard.proofs.laws.frame_comes_back.Goals as goal

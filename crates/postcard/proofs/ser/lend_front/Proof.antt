@@ -1,5 +1,5 @@
--- `lend_front` lends the front by a call, or gives the whole up with the refusal. Assumes `Logic`.
-use Rattle.postcard.proofs.Steps.{ℕ, MutBor, List, [], ◌∷◌, ◌≡◌, ap, refl, lit<, ‵, raw, ◌⊛◌, some, later, await, pick, tables, ftrue, flft, named, Val, ◌$◌, ◌∵◌, !, qed, move, keep, split, drop, join, fsplit, fsplit3, fjoin, fpick, rewrite, done, enter, alloc_all, pass_all, free_all, look_at, look_in_at, get, get_in, sets, fld, hop, from, stop, agg, lit, addr, and_then, no_more, of_opd, first, branches, skips, exec, at_ret, returns, returns_within, sub, whole, env, plain, no, u8, heard, peeks, shows, use1, use2, Stays, walk_of, stay_dropped, suffices, nothing, MutSlice, slice_val, mut_slice_vals, fact, proved, id⊢, w64, vint, owned, uint_Makes, lands_as, only, calls_at, lasts, triple_of, framed}
+-- `lend_front` lends the front by a call, or returns the error and ends the loan. Assumes `Logic`.
+use Rattle.postcard_memory.proofs.Steps.{ℕ, MutBor, List, [], ◌∷◌, ◌≡◌, ap, refl, lit<, ‵, raw, ◌⊛◌, some, later, await, pick, tables, ftrue, flft, named, Val, ◌$◌, ◌∵◌, !, qed, move, keep, split, drop, join, fsplit, fsplit3, fjoin, fpick, rewrite, done, enter, alloc_all, pass_all, free_all, look_at, look_in_at, get, get_in, sets, fld, hop, from, stop, agg, lit, addr, and_then, no_more, of_opd, first, branches, skips, exec, at_ret, returns, returns_within, sub, whole, env, plain, no, u8, heard, peeks, shows, use1, use2, Stays, walk_of, stay_dropped, suffices, nothing, MutSlice, slice_val, mut_slice_vals, fact, proved, id⊢, w64, vint, owned, uint_Makes, lands_as, only, calls_at, lasts, triple_of, framed}
 use Rattle.std.proofs.Common.{◌≤◌, ◌<◌, ◌*◌, ◌^◌, ◌++◌, length, take, drop as drop_list, subst, Ok, Err}
 use Rattle.std.proofs.raw_atomic.Walks.{leaves}
 use Rattle.std.proofs.VecSteps.Shapes.{after}
@@ -33,7 +33,7 @@ use Rattle.postcard.proofs.ser.Attempt.TheLaws.{lowers, lowered}
 use Rattle.postcard.specs.contracts.ser.lend_front as f
 use Rattle.postcard.proofs.ser.lend_front.Statement.{statement}
 use Rattle.postcard.proofs.ser.lend_front.Code as code
-use Rattle.postcard.specs.Attempt.{LendsFront}
+use Rattle.postcard.specs.Attempt.{LendsAttempt}
 use Rattle.postcard_memory.specs.contracts.cut.front as g
 use Rattle.postcard_memory.proofs.cut.front.Met as g-thm
 
@@ -75,7 +75,7 @@ lend_front_spec 𝓤 𝓛 𝓜 𝓡 wired =
     move ! (2 ∷ []) $
     use1 𝓛 (‵ (Out.own_val (Err e) (live 1 (of_list (ev ∷ [])) ∷ []))) (err_of 𝓛 Own Er e ev) $
     let r : Out.Denot = Err e in
-    suffices ! _ (leaves 𝓛 f.ended stayed c y (live 1 (of_list (ev ∷ []))) r ((tt, tt), tt) (tt, tt)) $ use0 𝓛 (raw (fact 𝓤 (LendsFront d r))) (fact_i 𝓤 _ (emp 𝓤) (record { front = tt; sorts = ((λ t. never_true t), λ z. absurd (subst T z yes')); error = refl })) $ nothing ! $ move ! (4 ∷ 0 ∷ []) $ join ! $ nothing ! $ nothing ! $ fjoin ! $ move ! (1 ∷ 0 ∷ 3 ∷ 4 ∷ 2 ∷ []) $ done !)
+    suffices ! _ (leaves 𝓛 f.ended stayed c y (live 1 (of_list (ev ∷ []))) r ((tt, tt), tt) (tt, tt)) $ use0 𝓛 (raw (fact 𝓤 (LendsAttempt d r))) (fact_i 𝓤 _ (emp 𝓤) (record { front = tt; sorts = ((λ t. never_true t), λ z. absurd (subst T z yes')); error = refl })) $ nothing ! $ move ! (4 ∷ 0 ∷ []) $ join ! $ nothing ! $ nothing ! $ fjoin ! $ move ! (1 ∷ 0 ∷ 3 ∷ 4 ∷ 2 ∷ []) $ done !)
     (λ no'. skips ! $ exec ! 𝓣.C 𝓣.Λ (env (code.function).locals l) (after 6 (code.function).body) (at_ret (env (code.function).locals l) (W.post y)) $
     sets ! (addr ! (from ! (fld ! refl (hop ! (look_in_at ! 2 (sub ! 0 refl (whole !))) (stop !))))) refl (tt, tt) $
     sets ! (agg ! (and_then ! (get ! refl) (and_then ! (get_in ! (fld ! refl (stop !)) (sub ! 1 refl (whole !))) (no_more !)))) refl (tt, (tt, (record { fits = long }, tt))) $
@@ -102,6 +102,6 @@ lend_front_spec 𝓤 𝓛 𝓜 𝓡 wired =
     returns ! (look_at ! 0 refl) $ free_all ! refl $
     let out : Out.Denot = Ok r in
     use1 𝓛 (‵ (Out.own_val out (live 0 (of_list (w ∷ [])) ∷ []))) (ok_of 𝓛 Own Er r w) $
-    use0 𝓛 (raw (fact 𝓤 (LendsFront d out))) (fact_i 𝓤 _ (emp 𝓤) (record { front = gave; sorts = ((λ _. is_false d.failed no'), λ _. refl); error = tt })) $
+    use0 𝓛 (raw (fact 𝓤 (LendsAttempt d out))) (fact_i 𝓤 _ (emp 𝓤) (record { front = gave; sorts = ((λ _. is_false d.failed no'), λ _. refl); error = tt })) $
     -- [what is shown; the result; what the whole follows; the tokens]
     suffices ! _ (leaves 𝓛 f.ended stayed c y (live 0 (of_list (w ∷ []))) out ((tt, tt), tt) (tt, tt)) $ nothing ! $ nothing ! $ fjoin ! $ move ! (4 ∷ 0 ∷ 2 ∷ 3 ∷ 1 ∷ []) $ done !))))))))))))

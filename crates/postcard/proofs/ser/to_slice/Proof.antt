@@ -1,5 +1,5 @@
 -- `to_slice`: two calls, after which the buffer follows what the second lends. Assumes `Logic`.
-use Rattle.postcard.proofs.Steps.{ℕ, MutBor, List, [], ◌∷◌, ◌≡◌, refl, id⊢, ‵, raw, ◌⊛◌, some, later, await, pick, tables, ftrue, flft, named, ◌$◌, ◌∵◌, !, qed, move, split, drop, join, fjoin, rewrite, done, enter, alloc_all, pass_all, free_all, look_at, look_in_at, get, get_in, sets, fld, hop, from, stop, agg, addr, and_then, no_more, returns, sub, whole, plain, yes, no, u8, heard, peeks, shows, lands_as, use1, use2, Stays, walk_of, stay_dropped, Goes-dropped, Goes-spent_slice, suffices, nothing, MutSlice, mut_slice_vals, mut_slice_Tells, fact, proved, calls_at, lasts, triple_of, framed}
+use Rattle.postcard_memory.proofs.Steps.{ℕ, MutBor, List, [], ◌∷◌, ◌≡◌, refl, id⊢, ‵, raw, ◌⊛◌, some, later, await, pick, tables, ftrue, flft, named, ◌$◌, ◌∵◌, !, qed, move, split, drop, join, fjoin, rewrite, done, enter, alloc_all, pass_all, free_all, look_at, look_in_at, get, get_in, sets, fld, hop, from, stop, agg, addr, and_then, no_more, returns, sub, whole, plain, yes, no, u8, heard, peeks, shows, lands_as, use1, use2, Stays, walk_of, stay_dropped, Goes-dropped, Goes-spent_slice, suffices, nothing, MutSlice, mut_slice_vals, mut_slice_Tells, fact, proved, calls_at, lasts, triple_of, framed}
 use Rattle.std.proofs.Common.{◌≤◌, ◌<◌, ◌⊎◌, ◌^◌, ◌++◌, length, drop as drop_list}
 use Rattle.std.proofs.raw_atomic.Walks.{leaves}
 use base.Logic.{emp}
@@ -17,10 +17,10 @@ use Rattle.postcard_wire.specs.contracts.error.Error.{the_row as err_row}
 use Rattle.postcard_wire.proofs.error.Error.TheLaws.{the_row_laws as err_laws}
 use Rattle.std.specs.Result.{IsOk, OnOk, OnErr}
 use Rattle.std.specs.contracts.result.Result as RS
-use Rattle.postcard.specs.Buffers.{Begins}
-use Rattle.postcard.specs.Attempt.{IsAttempt, LendsFront}
-use Rattle.postcard_wire.specs.Spelling.{bytes, Spells}
-use Rattle.postcard_ser.specs.Writing.{AnswersRefusal}
+use Rattle.postcard.specs.Buffers.{FillsFront}
+use Rattle.postcard.specs.Attempt.{IsAttempt, LendsAttempt}
+use Rattle.postcard_wire.specs.Spelling.{canonical, Spells}
+use Rattle.postcard_ser.specs.Writing.{IsWriteError}
 use Rattle.std.specs.Prelude.{IfErr}
 use Rattle.std.specs.Borrow.{name_if_ok}
 use Rattle.std.proofs.Common.{IfOk}
@@ -64,9 +64,9 @@ to_slice_spec 𝓤 𝓛 𝓜 𝓡 wired X L gs dict sh dict2 met met2 =
     (λ κs. (shr_vals, (mut_slice_vals, tt))) (λ κs. (shr_Tells (named 0) κs.0 (param 0 X), (mut_slice_Tells (named 1) κs.1.0 u8, tt))) (λ κs qs bounds a _ are.
     let b = a.1.0.ref_ptr.0 in let o = a.1.0.ref_ptr.1 in let γ = a.1.0.ghost_name in let xs : List ℕ = a.1.0.now in
     let y : W.Ghost = ((κs, qs, bounds, a, (shr_vals a.0, (mut_slice_vals a.1.0, tt))), tt) in
-    let κ = κs.1.0 in let q = qs.1.0 in let ℓ = named_lft 3 1 tt κs in let D : RattleType = the_row ℓ in let ys : List ℕ = bytes (sh.shape.tree a.0.now) in let Refuses : Type 0 = sh.shape.refuses a.0.now in let Text : Type 0 = sh.shape.text in let Fits : Type 0 = sh.shape.fits a.0.now in
+    let κ = κs.1.0 in let q = qs.1.0 in let ℓ = named_lft 3 1 tt κs in let D : RattleType = the_row ℓ in let ys : List ℕ = canonical (sh.shape.tree a.0.now) in let Refuses : Type 0 = sh.shape.refuses a.0.now in let Text : Type 0 = sh.shape.text in let Fits : Type 0 = sh.shape.fits a.0.now in
     let Own : RattleType = MutSlice (named 1) κ u8 in let Out : RattleType = RS.the_row Own err_row in
-    let Begun : List ℕ → Type 0 = λ n. ¬ Refuses → Begins ys xs n in
+    let Begun : List ℕ → Type 0 = λ n. ¬ Refuses → FillsFront ys xs n in
     let long : length xs < 2 ^ 64 = are.1.0.0.1.0 in
     let G = triple_of 𝓛 (g.signature X) (g.spec X gs dict sh dict2 𝓛 𝓜.mem 𝓡.returns) in
     let z : G.Ghost = ((κs, qs, bounds, a, (shr_vals a.0, (mut_slice_vals a.1.0, tt))), tt) in
@@ -86,11 +86,11 @@ to_slice_spec 𝓤 𝓛 𝓜 𝓡 wired X L gs dict sh dict2 met met2 =
     let j : K.Ghost = (((κ, tt), (q, tt), tt, (r, tt), (v ∷ [], tt)), tt) in
     move ! (1 ∷ []) $ split ! $ move ! (1 ∷ []) $ split ! $ nothing ! $ move ! (1 ∷ 0 ∷ []) $ join ! $ nothing ! $ move ! (4 ∷ 0 ∷ []) $ fjoin ! $ move ! (1 ∷ 0 ∷ []) $ join ! $
     use0 𝓛 (raw (fact 𝓤 (r.count ≤ length r.all.now))) (fact_i 𝓤 _ (emp 𝓤) made.within) $ move ! (1 ∷ 0 ∷ []) $ use2 𝓛 (raw (K.pre j)) (id⊢ 𝓤 _) $
-    -- [what `lend_front` asks; the other tokens, in two; the locals]
+    -- [what `lend_front` requires; the other tokens, in two; the locals]
     calls_at ! (framed 𝓤 𝓛.H 𝓜 𝓣) K (h-thm.met 𝓤 𝓛 𝓜 𝓡 (code.calls-postcard::ser::lend_front 𝓡.env wired)) j (and_then ! (get ! refl) (no_more !)) (λ v'.
     use1 𝓛 (later (some (λ (w : Out.Denot). ((‵ (flft κ q) ⊛ ‵ ftrue) ⊛ ‵ (Out.own_val w (v' ∷ []))) ⊛
     some (λ (ws : Lasts h.ended (κ, tt) (r, tt)). ‵ (lasts h.ended (κ, tt) (r, tt) ws) ⊛ ‵ (follows_if (Array u8 0) (Array u8 0) r.all.ghost_name (name_if_ok (λ x. x.ghost_name) w) (λ n. n ++ drop_list r.count r.all.now) r.all.now) ⊛
-    raw (fact 𝓤 (LendsFront r w)))))) (id⊢ 𝓤 _) $
+    raw (fact 𝓤 (LendsAttempt r w)))))) (id⊢ 𝓤 _) $
     await ! tt $ pick ! (λ w. split ! $ split ! $ move ! (2 ∷ []) $ pick ! (λ ws'. split ! $ drop ! $ split ! $ move ! (1 ∷ []) $ heard ! _ (λ front.
     -- [what the buffer follows; the token; the result; the other tokens, in two; the locals]
     move ! (2 ∷ []) $ peeks ! Out _ (shows 𝓛 Out) w (v' ∷ []) (λ is'.
@@ -106,7 +106,7 @@ to_slice_spec 𝓤 𝓛 𝓜 𝓡 wired X L gs dict sh dict2 met met2 =
     (λ x ok. follows_front ys Refuses Text Fits xs r w made front x ok) (follows_old ys Refuses Text Fits xs r w made front)) $
     use0 𝓛 (raw (fact 𝓤 (IfOk w (λ x. Spells (sh.shape.tree a.0.now) x.now)))) (fact_i 𝓤 _ (emp 𝓤) (spelled ys Refuses Text Fits xs r w made front (sh.shape.tree a.0.now) refl (λ f. is_spelled sh.shape a.0.now f))) $
     use0 𝓛 (raw (fact 𝓤 (OnOk w Fits))) (fact_i 𝓤 _ (emp 𝓤) (fits ys Refuses Text Fits xs r w made front)) $
-    use0 𝓛 (raw (fact 𝓤 (¬ Refuses → IfErr w (AnswersRefusal Text)))) (fact_i 𝓤 _ (emp 𝓤) (named_error ys Refuses Text Fits xs r w made front)) $
+    use0 𝓛 (raw (fact 𝓤 (¬ Refuses → IfErr w (IsWriteError Text)))) (fact_i 𝓤 _ (emp 𝓤) (named_error ys Refuses Text Fits xs r w made front)) $
     use0 𝓛 (raw (fact 𝓤 (¬ Refuses → IsOk w ↔ (length ys ≤ length xs)))) (fact_i 𝓤 _ (emp 𝓤) (fits_iff ys Refuses Text Fits xs r w made front)) $
     use0 𝓛 (raw (fact 𝓤 (IfOk w (λ x. (p : List ℕ) → Spells (sh.shape.tree a.0.now) p → (p ≡ x.now) ⊎ (length x.now < length p))))) (fact_i 𝓤 _ (emp 𝓤) (shortest ys Refuses Text Fits xs r w made front (sh.shape.tree a.0.now) refl)) $
     use0 𝓛 (raw (fact 𝓤 (IfOk w (λ x. x.now ≡ ys)))) (fact_i 𝓤 _ (emp 𝓤) (gives ys Refuses Text Fits xs r w made front)) $

@@ -1,4 +1,4 @@
--- A flavor that had room for the whole closes once the whole is in.
+-- A flavor that had room for the whole encoding can end once it has taken it.
 use Rattle.postcard_ser.proofs.PartByPart.{wrote_closes}
 use Rattle.postcard.proofs.with_flavor.serialize_with_flavor.Goals as goal
 

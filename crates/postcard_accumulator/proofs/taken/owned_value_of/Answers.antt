@@ -1,4 +1,4 @@
--- A value that borrows nothing is seen as its own type.
+-- A value in `Owned` is seen as itself.
 use Rattle.std.proofs.Common.{refl}
 use Rattle.postcard_accumulator.proofs.Holding.{read_seen, read_refused_seen}
 use Rattle.postcard_accumulator.proofs.taken.owned_value_of.Goals as goal

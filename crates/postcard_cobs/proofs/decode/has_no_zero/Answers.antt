@@ -1,4 +1,4 @@
--- One byte more that is no zero.
+-- One more byte was read, which is not zero.
 use Rattle.std.proofs.Common.{◌≡◌, arith, refl, subst, sym, slice_index_or, nat_eq}
 use Rattle.std.specs.Prelude.{IsTrue}
 use Rattle.postcard_cobs.proofs.Decoding.{both, one_more}

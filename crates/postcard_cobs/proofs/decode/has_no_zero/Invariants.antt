@@ -1,4 +1,4 @@
--- The bytes looked at have no zero, if none was found.
+-- The bytes read so far have no zero, if none was found.
 use Rattle.std.proofs.Common.{◌≤◌, length, take}
 use Rattle.std.specs.Prelude.{IsTrue}
 use Rattle.postcard_cobs.specs.Groups.{NoZero}

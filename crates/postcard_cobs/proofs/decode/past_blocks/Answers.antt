@@ -1,4 +1,4 @@
--- A block more that has no zero.
+-- One more block was passed, which has no zero.
 use Rattle.std.proofs.Common.{arith, subst, take, drop, ◌≡◌, ◌+◌, ◌-◌}
 use Rattle.postcard_cobs.specs.Groups.{NoZero}
 use Rattle.postcard_cobs.proofs.Decoding.{past_block}

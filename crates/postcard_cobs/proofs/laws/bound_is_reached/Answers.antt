@@ -1,3 +1,4 @@
+-- The laws are lemmas of `Made`.
 use Rattle.postcard_cobs.proofs.Made as laws
 use Rattle.postcard_cobs.proofs.laws.bound_is_reached.Goals as goal
 

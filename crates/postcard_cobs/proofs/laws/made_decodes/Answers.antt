@@ -1,3 +1,4 @@
+-- The law is a lemma of `Made`.
 use Rattle.postcard_cobs.proofs.Made as laws
 use Rattle.postcard_cobs.proofs.laws.made_decodes.Goals as goal
 

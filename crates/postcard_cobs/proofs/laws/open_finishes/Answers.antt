@@ -1,3 +1,4 @@
+-- The law is a lemma of `Encoding`.
 use Rattle.postcard_cobs.proofs.Encoding as laws
 use Rattle.postcard_cobs.proofs.laws.open_finishes.Goals as goal
 

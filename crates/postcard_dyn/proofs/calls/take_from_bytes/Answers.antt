@@ -1,16 +1,15 @@
--- Where a front of the input spells a tree of the type, that front can be taken, and what is left
--- behind it is the rest.
+-- If a front of the input spells a tree of the type, that front can be taken, and the bytes after it are left.
 use Rattle.std.proofs.Common.{◌≡◌, ◌≤◌, ℕ, List, ◌++◌, length}
 use Rattle.std.proofs.Common.{sym, ◌∙◌, ap, arith, length-append}
 use Rattle.std.proofs.lemmas.List.{append_cancel_left}
-use Rattle.postcard_wire.specs.Spelling.{bytes}
+use Rattle.postcard_wire.specs.Spelling.{canonical}
 use Rattle.postcard.specs.Lemmas.{is_refusal, canonical_spells}
 use Rattle.postcard_dyn_schema.specs.Meaning.{type_of}
 use Rattle.postcard_dyn.specs.Tree.{tree}
 use Rattle.postcard_dyn.proofs.Types.{type_well_formed}
 use Rattle.postcard_dyn.proofs.calls.take_from_bytes.Goals as goal
 
--- a list has at least the bytes of its front
+-- A list has at least as many bytes as its front.
 long_enough : (bytes front rest : List ℕ) → bytes ≡ front ++ rest → length front ≤ length bytes
 long_enough bytes front rest e = omega (arith, ap length e, length-append front rest)
 
@@ -27,11 +26,11 @@ returns-in_err-value-clause-reads_back c x rest r e =
     let all = c.from_bytes-deserializer.ensures ∙ e in
     let t = tree x in
     let refused = c.in_err-value in
-    let found = refused.ensures.accepts t (bytes t) r (canonical_spells t (type_well_formed (type_of c.args.schema.now) t r))
-    (record { begins = (rest, all); enough = long_enough _ (bytes t) rest all }) in
+    let found = refused.ensures.accepts t (canonical t) r (canonical_spells t (type_well_formed (type_of c.args.schema.now) t r))
+    (record { begins = (rest, all); enough = long_enough _ (canonical t) rest all }) in
     rw (is_refusal c.from_residual.result refused.field-0.0 c.from_residual.ensures.1) found
 
 pub returns-clause-reads_back : goal.returns-clause-reads_back
 returns-clause-reads_back c x rest r e =
     let t = tree x in
-    returns-clause-accepts c t (bytes t) rest r (canonical_spells t (type_well_formed (type_of c.args.schema.now) t r)) e
+    returns-clause-accepts c t (canonical t) rest r (canonical_spells t (type_well_formed (type_of c.args.schema.now) t r)) e

@@ -1,4 +1,4 @@
--- A flavor that had room for the whole closes once the whole is in.
+-- A flavor that had room for the whole encoding can be finalized after it was written.
 use Rattle.postcard.specs.Lemmas.{wrote_closes}
 use Rattle.postcard_dyn.proofs.calls.to_flavor.Goals as goal
 

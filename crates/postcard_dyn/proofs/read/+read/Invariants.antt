@@ -1,4 +1,4 @@
--- What was read so far, and what reading the rest would give.
+-- What each loop has read so far, and how the result of reading the rest makes the result of reading all.
 use Rattle.std.proofs.Common.{◌-◌, drop}
 use Rattle.std.specs.Prelude.{⊤}
 use Rattle.postcard_de.specs.Deserializer.{source_of}

@@ -4,7 +4,7 @@ use Rattle.std.proofs.lemmas.Grind.{common_steps}
 use Rattle.postcard_wire.specs.Number.{digits}
 use Rattle.postcard_wire.specs.Tree.{Tree, trees}
 use Rattle.postcard_wire.specs.Tree as nodes
-use Rattle.postcard_wire.specs.Spelling.{bytes}
+use Rattle.postcard_wire.specs.Spelling.{canonical}
 use Rattle.postcard_ser.specs.Writing.{Wrote}
 use Rattle.postcard.specs.Lemmas.{elements_more, elements_cut, elements_count, wrote_then, wrote_stop, wrote_err, wrote_ok}
 use Rattle.postcard_dyn.specs.Tree.{tree}
@@ -31,21 +31,21 @@ pub write_value-returns-in_err-serialize_u8-in-Present : goal.write_value-return
 write_value-returns-in_err-serialize_u8-in-Present g t c =
     let b = c.in-Present.content in
     let seen : tree (Present b) ≡ nodes.Present (tree b.value) = search (rules, the_lemmas) in
-    rw (c.in-Present.is, seen) (wrote_err _ c.from_residual.ensures.1 (wrote_stop (1 ∷ []) (bytes (tree b.value)) c.in_err-serialize_u8-in-Present.ensures absurd absurd))
+    rw (c.in-Present.is, seen) (wrote_err _ c.from_residual.ensures.1 (wrote_stop (1 ∷ []) (canonical (tree b.value)) c.in_err-serialize_u8-in-Present.ensures absurd absurd))
 
 pub write_value-returns-in_ok-serialize_u8-in-Present : goal.write_value-returns-in_ok-serialize_u8-in-Present
 write_value-returns-in_ok-serialize_u8-in-Present g t c =
     let b = c.in-Present.content in
     let seen : tree (Present b) ≡ nodes.Present (tree b.value) = search (rules, the_lemmas) in
     let d : c.deref-in-Present.result.now ≡ b.value = grind (arith, common_steps) in
-    rw (c.in-Present.is, seen) (wrote_then (1 ∷ []) (bytes (tree b.value)) c.in_ok-serialize_u8-in-Present.ensures (rw d at c.write_value.ensures) (λ q. q) (λ t. t))
+    rw (c.in-Present.is, seen) (wrote_then (1 ∷ []) (canonical (tree b.value)) c.in_ok-serialize_u8-in-Present.ensures (rw d at c.write_value.ensures) (λ q. q) (λ t. t))
 
 pub write_value-returns-in_err-serialize_tuple_variant-in-Variant : goal.write_value-returns-in_err-serialize_tuple_variant-in-Variant
 write_value-returns-in_err-serialize_tuple_variant-in-Variant g t c =
     let i = c.in-Variant.index in
     let b = c.in-Variant.content in
     let seen : tree (Variant i b) ≡ nodes.Variant i (tree b.value) = search (rules, the_lemmas) in
-    rw (c.in-Variant.is, seen) (wrote_err _ c.from_residual-in_err-serialize_tuple_variant-in-Variant.ensures.1 (wrote_stop (digits i) (bytes (tree b.value)) c.in_err-serialize_tuple_variant-in-Variant.ensures absurd absurd))
+    rw (c.in-Variant.is, seen) (wrote_err _ c.from_residual-in_err-serialize_tuple_variant-in-Variant.ensures.1 (wrote_stop (digits i) (canonical (tree b.value)) c.in_err-serialize_tuple_variant-in-Variant.ensures absurd absurd))
 
 pub write_value-returns-in_ok-serialize_tuple_variant-in-Variant : goal.write_value-returns-in_ok-serialize_tuple_variant-in-Variant
 write_value-returns-in_ok-serialize_tuple_variant-in-Variant g t c =
@@ -53,7 +53,7 @@ write_value-returns-in_ok-serialize_tuple_variant-in-Variant g t c =
     let b = c.in-Variant.content in
     let seen : tree (Variant i b) ≡ nodes.Variant i (tree b.value) = search (rules, the_lemmas) in
     let d : c.deref-in-Variant.result.now ≡ b.value = grind (arith, common_steps) in
-    rw (c.in-Variant.is, seen) (wrote_then (digits i) (bytes (tree b.value)) c.in_ok-serialize_tuple_variant-in-Variant.ensures (rw d at c.write_value-in-Variant.ensures) (λ q. q) (λ t. t))
+    rw (c.in-Variant.is, seen) (wrote_then (digits i) (canonical (tree b.value)) c.in_ok-serialize_tuple_variant-in-Variant.ensures (rw d at c.write_value-in-Variant.ensures) (λ q. q) (λ t. t))
 
 pub write_value-returns-in_err-serialize_seq-in-Seq : goal.write_value-returns-in_err-serialize_seq-in-Seq
 write_value-returns-in_err-serialize_seq-in-Seq g t c =

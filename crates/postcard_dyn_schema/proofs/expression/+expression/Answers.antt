@@ -4,7 +4,7 @@ use Rattle.postcard_dyn_schema.specs.declared.schema.Schema.TheVariants.{Group}
 use Rattle.std.specs.Prelude.{slice_index}
 use Rattle.std.specs.Char.{is_ascii_digit, is_ascii_uppercase}
 use Rattle.postcard_dyn_schema.specs.Meaning.{has_bytes, type_of}
-use Rattle.postcard_dyn_schema.specs.Text.{Then, Takes, IsSign, IsMaybe}
+use Rattle.postcard_dyn_schema.specs.Text.{Then, TakesPhrase, IsSign, IsMaybe}
 use Rattle.postcard_dyn_schema.specs.Grammar.{Separated, IsListRest, IsTupleRest, IsField, IsFieldsRest, IsMapRest, IsPlain, IsContent, IsVariantText, IsEnumText, IsType}
 use Rattle.postcard_dyn_schema.proofs.Phrases.{takes_two, takes_as, led, trim_takes}
 use Rattle.postcard_dyn_schema.proofs.Rows.{row_more, row_filled, begun_more}
@@ -99,14 +99,14 @@ pub read_plain-returns-then-take : goal.read_plain-returns-then-take
 read_plain-returns-then-take t c =
     let T = IsType c.args.depth in
     let a = c.args.rest.now.now in let b = c.take.new.rest.now in let d = c.read_list.new.rest.now in
-    if_ok_as (λ s. Takes (IsListRest T s) b d) (λ s. Takes (IsPlain T s) a d) c.read_list.result (λ s h. plain_list T s a b d (c.take.ensures.taken c.if-take.true) h) c.read_list.ensures
+    if_ok_as (λ s. TakesPhrase (IsListRest T s) b d) (λ s. TakesPhrase (IsPlain T s) a d) c.read_list.result (λ s h. plain_list T s a b d (c.take.ensures.taken c.if-take.true) h) c.read_list.ensures
 
 pub read_plain-returns-then-take-2 : goal.read_plain-returns-then-take-2
 read_plain-returns-then-take-2 t c =
     let T = IsType c.args.depth in
     let a = c.args.rest.now.now in let b = c.take-2.new.rest.now in let d = c.read_tuple.new.rest.now in
     let sign = rw (c.take.ensures.left c.if-take.false) at (c.take-2.ensures.taken c.if-take-2.true) in
-    if_ok_as (λ s. Takes (IsTupleRest T s) b d) (λ s. Takes (IsPlain T s) a d) c.read_tuple.result (λ s h. plain_tuple T s a b d sign h) c.read_tuple.ensures
+    if_ok_as (λ s. TakesPhrase (IsTupleRest T s) b d) (λ s. TakesPhrase (IsPlain T s) a d) c.read_tuple.result (λ s h. plain_tuple T s a b d sign h) c.read_tuple.ensures
 
 pub read_plain-returns-then-take-3 : goal.read_plain-returns-then-take-3
 read_plain-returns-then-take-3 t c =
@@ -114,20 +114,20 @@ read_plain-returns-then-take-3 t c =
     let a = c.args.rest.now.now in let b = c.take-3.new.rest.now in let d = c.read_braces.new.rest.now in
     let same = c.take-2.ensures.left c.if-take-2.false ∙ c.take.ensures.left c.if-take.false in
     let sign = rw same at (c.take-3.ensures.taken c.if-take-3.true) in
-    if_ok_as (λ s. Takes (IsFieldsRest T s) b d ⊎ Takes (IsMapRest T s) b d) (λ s. Takes (IsPlain T s) a d) c.read_braces.result (λ s h. plain_braces T s a b d sign h) c.read_braces.ensures
+    if_ok_as (λ s. TakesPhrase (IsFieldsRest T s) b d ⊎ TakesPhrase (IsMapRest T s) b d) (λ s. TakesPhrase (IsPlain T s) a d) c.read_braces.result (λ s h. plain_braces T s a b d sign h) c.read_braces.ensures
 
 pub read_content-returns-then-take : goal.read_content-returns-then-take
 read_content-returns-then-take t c =
     let T = IsType c.args.depth in
     let a = c.args.rest.now.now in let b = c.take.new.rest.now in let d = c.read_tuple.new.rest.now in
-    if_ok_as (λ s. Takes (IsTupleRest T s) b d) (λ s. Takes (IsContent T s) a d) c.read_tuple.result (λ s h. content_tuple T s a b d (c.take.ensures.taken c.if-take.true) h) c.read_tuple.ensures
+    if_ok_as (λ s. TakesPhrase (IsTupleRest T s) b d) (λ s. TakesPhrase (IsContent T s) a d) c.read_tuple.result (λ s h. content_tuple T s a b d (c.take.ensures.taken c.if-take.true) h) c.read_tuple.ensures
 
 pub read_content-returns-then-take-2 : goal.read_content-returns-then-take-2
 read_content-returns-then-take-2 t c =
     let T = IsType c.args.depth in
     let a = c.args.rest.now.now in let b = c.take-2.new.rest.now in let d = c.read_fields.new.rest.now in
     let sign = rw (c.take.ensures.left c.if-take.false) at (c.take-2.ensures.taken c.if-take-2.true) in
-    if_ok_as (λ s. Takes (IsFieldsRest T s) b d) (λ s. Takes (IsContent T s) a d) c.read_fields.result (λ s h. content_fields T s a b d sign h) c.read_fields.ensures
+    if_ok_as (λ s. TakesPhrase (IsFieldsRest T s) b d) (λ s. TakesPhrase (IsContent T s) a d) c.read_fields.result (λ s h. content_fields T s a b d sign h) c.read_fields.ensures
 
 pub read_content-returns : goal.read_content-returns
 read_content-returns t c =
@@ -178,7 +178,7 @@ read_type-returns-then-first-eq124 t c =
     let e = c.args.depth - 1 in
     let deep : c.args.depth ≡ suc e = omega (arith, c.if-depth-eq0.false) in
     let a = c.args.rest.now.now in let b = c.skip_blanks.new.rest.now in let d = c.read_enum.new.rest.now in
-    if_ok_as (λ s. Takes (IsEnumText (IsType e) s) b d) (λ s. Takes (IsType c.args.depth s) a d) c.read_enum.result
+    if_ok_as (λ s. TakesPhrase (IsEnumText (IsType e) s) b d) (λ s. TakesPhrase (IsType c.args.depth s) a d) c.read_enum.result
     (λ s h. type_enum c.args.depth e s a b d deep c.skip_blanks.ensures h) c.read_enum.ensures
 
 pub read_type-loop-init : goal.read_type-loop-init
@@ -212,5 +212,5 @@ read_variant-returns t c =
     let a = c.args.rest.now.now in let b = c.skip_blanks.new.rest.now in let d = c.take_word-name.new.rest.now in let e = c.read_content.new.rest.now in
     let filled : 0 < length name = grind (arith, common_steps) in
     let letter : is_ascii_uppercase (slice_index name 0) ≡ true = grind (arith, common_steps) in
-    if_ok_as (λ x. HasName x name s) (λ x. Takes (IsVariantText T x) a e) c.named.result
+    if_ok_as (λ x. HasName x name s) (λ x. TakesPhrase (IsVariantText T x) a e) c.named.result
     (λ x h. variant_takes T x s name a b d e c.skip_blanks.ensures c.take_word-name.ensures c.in_ok-content.ensures h filled letter) c.named.ensures

@@ -1,6 +1,6 @@
--- How deep types may still nest, and the order of the functions at one depth; and what each loop has taken.
+-- Why the functions end: the depth that is left, and their order at one depth; and what each loop has taken.
 use Rattle.std.proofs.Common.{◌+◌, ◌*◌, ◌-◌}
-use Rattle.postcard_dyn_schema.specs.Text.{Led, Takes}
+use Rattle.postcard_dyn_schema.specs.Text.{Led, TakesPhrase}
 use Rattle.postcard_dyn_schema.specs.Grammar.{Separated, IsField, IsPlain, IsOptions, IsVariantText, IsType}
 use Rattle.postcard_dyn_schema.proofs.Rows.{Begun}
 use Rattle.postcard_dyn_schema.proofs.expression.+expression.Given as goal
@@ -42,7 +42,7 @@ abbrev pub invariant-read_fields-loop : goal.invariant-read_fields-loop
 invariant-read_fields-loop l = Begun (IsField (IsType l.depth)) 44 l.fields.items l.initial.rest.now l.rest.now
 
 abbrev pub invariant-read_tuple-loop : goal.invariant-read_tuple-loop
-invariant-read_tuple-loop l = Takes (Separated (IsType l.depth) 44 l.parts.items) l.fn.rest.now l.rest.now
+invariant-read_tuple-loop l = TakesPhrase (Separated (IsType l.depth) 44 l.parts.items) l.fn.rest.now l.rest.now
 
 abbrev pub invariant-read_type-loop : goal.invariant-read_type-loop
-invariant-read_type-loop l = Takes (Led (IsOptions l.counter (IsPlain (IsType (l.depth - 1))) l.schema)) l.fn.rest.now l.rest.now
+invariant-read_type-loop l = TakesPhrase (Led (IsOptions l.counter (IsPlain (IsType (l.depth - 1))) l.schema)) l.fn.rest.now l.rest.now

@@ -1,4 +1,4 @@
--- None of the types before the place has the name.
+-- None of the fields or variants before the loop's place has the name.
 use Rattle.std.proofs.Common.{take}
 use Rattle.postcard_dyn_schema.specs.Names.{IsNewTo}
 use Rattle.postcard_dyn_schema.proofs.expression.check_new.Given as goal

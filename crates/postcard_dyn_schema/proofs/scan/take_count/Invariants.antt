@@ -1,4 +1,4 @@
--- The digits so far say the count.
+-- The count so far is the number of the digits so far.
 use Rattle.std.proofs.Common.{◌≡◌, drop}
 use Rattle.postcard_dyn_schema.specs.Text.{decimal}
 use Rattle.postcard_dyn_schema.proofs.scan.take_count.Given as goal

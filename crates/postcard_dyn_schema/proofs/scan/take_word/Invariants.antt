@@ -1,4 +1,4 @@
--- The bytes so far may stand in a word.
+-- Each of the bytes so far may be part of a word.
 use Rattle.std.proofs.Common.{◌≡◌, ℕ, true, ◌-◌, ◌<◌, ◌≤◌, length, get_or}
 use Rattle.postcard_dyn_schema.specs.Text.{is_of_word}
 use Rattle.postcard_dyn_schema.proofs.scan.take_word.Given as goal

@@ -3,7 +3,7 @@ use Rattle.std.proofs.lemmas.List.{drop_more}
 use Rattle.postcard_dyn_schema.specs.Meaning.{MessageType, MessageTypes, has_bytes, some_has_bytes, type_of, types_of, then_type}
 use Rattle.postcard_dyn_schema.proofs.schema.+has_bytes.Goals as goal
 
--- A type that may have no bytes says nothing of those after it.
+-- If the first type may have no bytes, the types after it decide.
 first_lacks : (t : MessageType) (ts : MessageTypes) → has_bytes t ≡ false → some_has_bytes (then_type t ts) ≡ some_has_bytes ts
 first_lacks t ts e = rw e refl
 

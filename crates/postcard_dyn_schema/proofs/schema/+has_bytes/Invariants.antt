@@ -1,4 +1,4 @@
--- None of the types before the place has a byte in each message, so those from it on say it.
+-- None of the types before the loop's place has bytes in every message, so the types from it on decide.
 use Rattle.std.proofs.Common.{◌≡◌, drop}
 use Rattle.postcard_dyn_schema.specs.Meaning.{types_of, some_has_bytes}
 use Rattle.postcard_dyn_schema.proofs.schema.+has_bytes.Given as goal

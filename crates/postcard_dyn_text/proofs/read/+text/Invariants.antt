@@ -1,4 +1,4 @@
--- What was read so far is of the types.
+-- The values read so far are of the types.
 use Rattle.std.proofs.Common.{drop, map}
 use Rattle.postcard_wire.specs.Tree.{trees}
 use Rattle.postcard_wire.specs.Reading.{Each}

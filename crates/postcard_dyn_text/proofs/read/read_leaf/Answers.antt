@@ -19,4 +19,4 @@ returns-in_ok-read_bytes-in-Bytes c =
     let v = c.in_ok-read_bytes-in-Bytes.field-0 in
     let seen : tree (Bytes v) ≡ Seq (trees (map Byte v.items)) = search (rules, the_lemmas) in
     let few : length v.items < 2 ^ 64 = omega (arith, v.small) in
-    rw c.in-Bytes.is (is_bytes v.items (Bytes v) seen few c.in_ok-read_bytes-in-Bytes.ensures)
+    rw c.in-Bytes.is (is_bytes v.items (Bytes v) seen few c.in_ok-read_bytes-in-Bytes.ensures.range)

@@ -1,4 +1,4 @@
--- Each exit read the index, the number and the rest as far as it came.
+-- Each exit of the function read the index, the number and the other links as far as it came.
 use Rattle.std.proofs.Common.{◌≡◌, suc, ◌-◌, arith, rules, refl}
 use Rattle.postcard_wire.specs.declared.error.Error.TheVariants.{SerdeDeCustom}
 use Rattle.postcard_wire.specs.Reading.{IsEnd, IsGroup}

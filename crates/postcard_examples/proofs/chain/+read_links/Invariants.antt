@@ -1,4 +1,4 @@
--- A chain is read to one link less.
+-- The limit decreases with each link.
 use Rattle.postcard_examples.proofs.chain.+read_links.Given as goal
 
 abbrev pub decreases-read_links : goal.decreases-read_links

@@ -1,4 +1,4 @@
--- Each exit wrote the index, the number and the rest as far as it came.
+-- Each exit of the function wrote the index, the number and the other links as far as it came.
 use Rattle.std.proofs.Common.{arith, ◌-◌, ap}
 use Rattle.postcard_examples.specs.Links.{chain_cases}
 use Rattle.postcard.specs.Lemmas.{wrote_then, wrote_stop, wrote_err, wrote_last}

@@ -1,4 +1,4 @@
--- The laws are one lemma, of each order.
+-- Both laws are one lemma, applied to each order.
 use Rattle.postcard_fixint.specs.Base256.{little, big}
 use Rattle.postcard_fixint.proofs.Spelled.{only_bytes}
 use Rattle.postcard_fixint.proofs.laws.base_256.Goals as goal

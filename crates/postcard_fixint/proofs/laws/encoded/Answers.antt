@@ -1,4 +1,4 @@
--- The bytes of an array are spelled as themselves.
+-- The encoding of an array of bytes is those bytes.
 use Rattle.postcard_fixint.specs.Base256.{little, big}
 use Rattle.postcard_fixint.proofs.Spelled.{bytes_of_bytes, encoded_length}
 use Rattle.postcard_fixint.proofs.laws.encoded.Goals as goal

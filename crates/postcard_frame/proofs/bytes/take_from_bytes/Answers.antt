@@ -1,15 +1,15 @@
--- Where a front of the input spells a tree of the type, that front can be taken, and what is left
--- after it is the rest.
+-- If a front of the input spells a tree that the type reads, that front can be taken, and what is
+-- left is the rest.
 use Rattle.std.proofs.Common.{◌≡◌, ◌≤◌, ℕ, List, ◌++◌, length}
 use Rattle.std.proofs.Common.{sym, ◌∙◌, ap, arith, length-append}
 use Rattle.std.proofs.lemmas.List.{append_cancel_left}
 use Rattle.postcard_de_nodes.specs.ReadLemmas.{is_refusal}
 use Rattle.postcard_de_nodes.specs.ErrorLemmas.{only_grown}
-use Rattle.postcard_wire.specs.Spelling.{bytes}
+use Rattle.postcard_wire.specs.Spelling.{canonical}
 use Rattle.postcard_shape.proofs.Again.{is_spelled, is_same}
 use Rattle.postcard_frame.proofs.bytes.take_from_bytes.Goals as goal
 
--- a list has at least the bytes of its front
+-- A list is at least as long as its front.
 long_enough : (bytes front rest : List ℕ) → bytes ≡ front ++ rest → length front ≤ length bytes
 long_enough bytes front rest e = omega (arith, ap length e, length-append front rest)
 
@@ -27,14 +27,14 @@ returns-in_err-value-clause-reads_back g c x rest f e =
     let all = c.from_bytes-deserializer.ensures ∙ e in
     let t = s.tree x in
     let refused = c.in_err-value in
-    let found = refused.ensures.accepts t (bytes t) (s.again x f).0 (is_spelled s x f)
-    (record { begins = (rest, all); enough = long_enough _ (bytes t) rest all }) in
+    let found = refused.ensures.accepts t (canonical t) (s.again x f).0 (is_spelled s x f)
+    (record { begins = (rest, all); enough = long_enough _ (canonical t) rest all }) in
     let passed = is_refusal c.from_residual.result refused.field-0.0 c.from_residual.ensures.1 in
-    rw passed (found, only_grown s.grows _ refused.ensures.names found)
+    rw passed (found, only_grown s.grows _ refused.ensures.named_error found)
 
 pub returns-clause-reads_back : goal.returns-clause-reads_back
 returns-clause-reads_back g c x rest f e =
     let s = g.T.Shaped.shape in
     let t = s.tree x in
-    let found = returns-clause-accepts g c t (bytes t) rest (s.again x f).0 (is_spelled s x f) e in
+    let found = returns-clause-accepts g c t (canonical t) rest (s.again x f).0 (is_spelled s x f) e in
     (is_same s x c.in_ok-value.value f found.0, found.1)

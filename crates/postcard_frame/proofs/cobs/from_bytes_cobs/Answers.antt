@@ -1,6 +1,6 @@
--- The data that decoding left in front is that of the frame, and a value is read from there.
+-- The data that decoding left at the front is that of the frame, and the value is read from it.
 use Rattle.std.proofs.Common.{◌∙◌, [], sym, append-nil}
-use Rattle.postcard_wire.specs.Spelling.{bytes}
+use Rattle.postcard_wire.specs.Spelling.{canonical}
 use Rattle.postcard_frame.proofs.Decoded.{made_is_frame, content_is}
 use Rattle.postcard_frame.proofs.cobs.from_bytes_cobs.Goals as goal
 
@@ -10,7 +10,7 @@ returns-in_err-used-clause-accepts g c content t front rest is _ _ _ =
 
 pub returns-in_err-used-clause-reads_back : goal.returns-in_err-used-clause-reads_back
 returns-in_err-used-clause-reads_back g c x f is =
-    let d = bytes (g.T.Shaped.shape.tree x) in
+    let d = canonical (g.T.Shaped.shape.tree x) in
     absurd (c.in_err-used.ensures.no_groups d (made_is_frame c.args.s.now d is))
 
 pub returns-clause-accepts : goal.returns-clause-accepts
@@ -20,7 +20,7 @@ returns-clause-accepts g c content t front rest is read spelled e =
 
 pub returns-clause-reads_back : goal.returns-clause-reads_back
 returns-clause-reads_back g c x f is =
-    let d = bytes (g.T.Shaped.shape.tree x) in
+    let d = canonical (g.T.Shaped.shape.tree x) in
     let framed = made_is_frame c.args.s.now d is in
     let at_front = content_is _ _ d _ c.in_ok-used.ensures.gives framed in
     c.from_bytes.ensures.reads_back x [] f (at_front ∙ sym (append-nil d))

@@ -1,7 +1,7 @@
--- The data that decoding left in front is that of the frame, and a value is read from there.
+-- The data that decoding left at the front is that of the frame, and the value is read from it.
 use Rattle.std.proofs.Common.{[], sym, ◌∙◌, append-nil}
 use Rattle.std.proofs.lemmas.Result.{err_from_is_err_and}
-use Rattle.postcard_wire.specs.Spelling.{bytes}
+use Rattle.postcard_wire.specs.Spelling.{canonical}
 use Rattle.postcard_frame.proofs.Decoded.{made_is_frame, content_front}
 use Rattle.postcard_frame.proofs.cobs.take_from_bytes_cobs.Goals as goal
 
@@ -11,7 +11,7 @@ returns-in_err-report-clause-accepts g c content t front rest is _ _ _ =
 
 pub returns-in_err-report-clause-reads_back : goal.returns-in_err-report-clause-reads_back
 returns-in_err-report-clause-reads_back g c x f is =
-    let d = bytes (g.T.Shaped.shape.tree x) in
+    let d = canonical (g.T.Shaped.shape.tree x) in
     absurd (c.in_err-report.ensures.no_groups d (made_is_frame c.args.s.now d is))
 
 pub returns-in_err-value-clause-no_frame : goal.returns-in_err-value-clause-no_frame
@@ -40,7 +40,7 @@ returns-in_err-value-clause-accepts g c content t front rest is read spelled e =
 
 pub returns-clause-reads_back : goal.returns-clause-reads_back
 returns-clause-reads_back g c x f is =
-    let d = bytes (g.T.Shaped.shape.tree x) in
+    let d = canonical (g.T.Shaped.shape.tree x) in
     let r = c.in_ok-report.ensures in
     let framed = made_is_frame c.args.s.now d is in
     let split = c.split_at_mut-front.ensures.front in
@@ -49,7 +49,7 @@ returns-clause-reads_back g c x f is =
 
 pub returns-in_err-value-clause-reads_back : goal.returns-in_err-value-clause-reads_back
 returns-in_err-value-clause-reads_back g c x f is =
-    let d = bytes (g.T.Shaped.shape.tree x) in
+    let d = canonical (g.T.Shaped.shape.tree x) in
     let r = c.in_ok-report.ensures in
     let framed = made_is_frame c.args.s.now d is in
     let split = c.split_at_mut-front.ensures.front in

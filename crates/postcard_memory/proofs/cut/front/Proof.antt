@@ -1,4 +1,4 @@
--- `front` gives up the whole for its front. Assumes `Logic`.
+-- `front` exchanges the whole slice for its front. Assumes `Logic`.
 use Rattle.postcard_memory.proofs.Steps.{ℕ, MutBor, List, [], ◌∷◌, ◌≡◌, ◌≤◌, sym, refl, w64, ‵, raw, ◌⊛◌, some, later, await, pick, tables, ftrue, flft, named, vint, ◌$◌, ◌∵◌, !, qed, move, keep, split, join, fsplit, fjoin, rewrite, done, enter, alloc_all, pass_all, free_all, look_at, look_in_at, get, sets, sets_last, fld, hop, from, stop, agg, addr, and_then, no_more, of_opd, first, blocks, exec, at_ret, returns, sub, whole, env, plain, yes, no, u8, heard, use2, Stays, walk_of, stay_dropped, Goes-dropped, Goes-spent_slice, suffices, nothing, MutSlice, mut_slice_vals, mut_slice_Tells, slice_val, Room, uint_vals, uint_Tells, fact, proved}
 use Rattle.std.proofs.Common.{◌<◌, ◌*◌, ◌^◌, ◌++◌, length, take, drop as drop_list, arith}
 use Rattle.std.proofs.raw_atomic.Walks.{leaves}

@@ -1,4 +1,4 @@
--- The count began with 0.
+-- The count starts at 0.
 use Rattle.std.proofs.Common.{refl}
 use Rattle.postcard_ser.proofs.Printed.{text_counted}
 use Rattle.postcard_ser.proofs.collect_str.count_text.Goals as goal

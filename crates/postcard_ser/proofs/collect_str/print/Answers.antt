@@ -1,4 +1,4 @@
--- Pushes reach the flavor itself, and what they reach from there.
+-- Pushes reach the flavor itself, and whatever they reach from there.
 use Rattle.std.proofs.Math.Logic.{∥∥₁_elim}
 use Rattle.postcard_ser.proofs.collect_str.print.Goals as goal
 

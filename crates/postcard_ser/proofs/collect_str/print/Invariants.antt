@@ -1,4 +1,4 @@
--- What lasts: that pushes reach it from the flavor as it was given.
+-- What lasts is that pushes reach the state from the flavor that was passed.
 use Rattle.postcard_ser.proofs.collect_str.print.Given as goal
 
 abbrev pub ghosts-write_text : goal.ghosts-write_text

@@ -1,4 +1,4 @@
--- What the formatter's writer took, the flavor has appended.
+-- The flavor has appended what the formatter's writer took.
 use Rattle.postcard_ser.proofs.Printed.{printed}
 use Rattle.postcard_ser.proofs.collect_str.write_text.Goals as goal
 

@@ -1,4 +1,5 @@
--- What is appended is held after what was, and the other free bytes stay free: laws of each storage.
+-- What is appended is held after what was held, and the other free bytes stay free, by the laws of
+-- each storage.
 use Rattle.postcard_ser_cobs.proofs.steps.push_piece.Goals as goal
 
 pub returns-in-Ok-clause-keeps_free : goal.returns-in-Ok-clause-keeps_free

@@ -1,4 +1,4 @@
--- A byte of the piece stays where it stands; if it is a zero, the code in front is set.
+-- A byte of the piece stays where it is; if it is a zero, the code before it is set.
 use Rattle.std.proofs.Common.{◌≡◌, ◌+◌, ◌<◌, ◌++◌, [], length, take, drop, get_or, append-nil, length-set, ap, subst, sym, ◌∙◌, arith}
 use Rattle.std.proofs.lemmas.List.{take_all, drop_all}
 use Rattle.postcard_cobs.specs.Groups.{Standing}

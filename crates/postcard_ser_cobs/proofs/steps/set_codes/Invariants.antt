@@ -1,4 +1,5 @@
--- The codes are set of the groups that the bytes before the place end; the other bytes still follow.
+-- The codes are set of the groups that the bytes before the current place end; the other bytes
+-- still follow.
 use Rattle.std.proofs.Common.{◌≡◌, ℕ, ◌+◌, ◌-◌, ◌<◌, List, ◌++◌, length, take, drop}
 use Rattle.postcard_ser_cobs.specs.Framing.{HoldsThen}
 use Rattle.postcard_ser_cobs.proofs.steps.set_codes.Given as goal

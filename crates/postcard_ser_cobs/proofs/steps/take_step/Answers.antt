@@ -1,4 +1,5 @@
--- Where two bytes are pushed: the second is free once the first is in, and three calls leave what one may.
+-- If two bytes are pushed, the second is free once the first is appended, and three calls leave
+-- what one may.
 use Rattle.postcard_ser_cobs.proofs.steps.take_step.Goals as goal
 
 pub returns-in_err-push_one-in-ModifyFromStartAndPushAndSkip-clause-has_room :

@@ -1,4 +1,4 @@
--- What is written in the end are the digits of the number, which spell it.
+-- The bytes written at the end are the digits of the number, which spell it.
 use Rattle.std.proofs.Common.{◌≡◌, ◌∙◌}
 use Rattle.postcard_wire.specs.Number.{digits}
 use Rattle.postcard_wire.proofs.Shortest.{SpellsNum-digits}

@@ -1,4 +1,4 @@
--- What is written so far are the first digits of the number, and the rest shrinks.
+-- The bytes written so far are the first digits of the number, and the rest shrinks.
 use Rattle.postcard_wire.proofs.Writing.{IsPartly}
 use Rattle.postcard_wire.proofs.division.spell.Given as goal
 

@@ -1,6 +1,6 @@
 -- The laws are lemmas of `Shortest`.
-use Rattle.postcard_wire.proofs.Shortest.{least, Spells-bytes}
+use Rattle.postcard_wire.proofs.Shortest.{least, Spells-canonical}
 use Rattle.postcard_wire.proofs.laws.shortest.Goals as goal
 
 pub returns : goal.returns
-returns c = record { spelled = Spells-bytes; alone = least }
+returns c = record { spelled = Spells-canonical; alone = least }

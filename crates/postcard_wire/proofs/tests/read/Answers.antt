@@ -1,4 +1,4 @@
--- At first no byte was passed.
+-- At the start no byte was read.
 use Rattle.postcard_wire.proofs.tests.read.Goals as goal
 
 pub loop-i-init : goal.loop-i-init

@@ -1,4 +1,4 @@
--- A turn writes one digit more.
+-- Each turn writes one more digit.
 use Rattle.postcard_wire.proofs.Writing.{one_written_bits}
 use Rattle.postcard_wire.proofs.varint.write_u128.Goals as goal
 

@@ -1,4 +1,4 @@
--- A turn writes one digit more.
+-- Each turn writes one more digit.
 use Rattle.std.proofs.Common.{bit_and, bit_or}
 use Rattle.postcard_wire.proofs.Writing.{one_written_bits, behind_kept}
 use Rattle.postcard_wire.proofs.varint.write_u64.Goals as goal

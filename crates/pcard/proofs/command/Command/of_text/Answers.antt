@@ -1,6 +1,6 @@
--- A word that says no type is in no call of three words.
+-- If the second of three words stands for no type, they are no call.
 use Rattle.std.proofs.Common.{◌≡◌, ℕ, List, [], ◌∷◌, sym, subst}
-use Rattle.pcard.specs.Command.{IsCallOf, IsExpression, IsWordOf}
+use Rattle.pcard.specs.Command.{IsCallOf, LooksLikeExpression, IsWordOf}
 use Rattle.pcard.specs.declared.command.TypeWord.{TypeWord}
 use Rattle.pcard.specs.declared.command.TypeWord.TheVariants.{Expression}
 use Rattle.pcard.specs.declared.command.Command.{Command}
@@ -19,7 +19,7 @@ no_two a k t b w e = cc
 none_of : (a k t : List ℕ) → ((kind : TypeWord) → IsWordOf k kind → ⊥) → (command : Command) → IsCallOf (a ∷ k ∷ t ∷ []) command → ⊥
 none_of a k t none (Encode kind value) (word, is, e) = none kind (subst (λ w. IsWordOf w kind) (sym (second a k t _ word value.now e)) is)
 none_of a k t none (Decode kind hex) (word, is, e) = none kind (subst (λ w. IsWordOf w kind) (sym (second a k t _ word hex.now e)) is)
-none_of a k t none (DecodeAll x hex) (is, e) = let same = second a k t _ x.now hex.now e in none (Expression x) (same, subst IsExpression (sym same) is)
+none_of a k t none (DecodeAll x hex) (is, e) = let same = second a k t _ x.now hex.now e in none (Expression x) (same, subst LooksLikeExpression (sym same) is)
 none_of a k t none Frames e = no_one a k t _ e
 none_of a k t none (FramesOf x) (is, e) = no_two a k t _ x.now e
 none_of a k t none Types e = no_one a k t _ e

@@ -10,10 +10,10 @@ returns-in_err-n g c =
     let p = err_from_is_err_and c.from_residual.result c.from_residual.ensures.1 in (
       (refl, (λ x. tt), rw s.0 refl),
       record {
-        ok = rw p.1 tt;
-        err =
+        decodes = rw p.1 tt;
+        no_groups =
             rw (p.1, ← s.1) (rw (before_zero_all
-            (take c.self.inside.idx c.self.inside.buf) c.self.invariant.1) at c.in_err-n.ensures.err);
+            (take c.self.inside.idx c.self.inside.buf) c.self.invariant.1) at c.in_err-n.ensures.no_groups);
         held = tt;
       },
     )
@@ -23,10 +23,10 @@ returns g c =
     let s = not_skipping _ _ _ c.self.view_is c.requires in (
       (refl, (λ x. tt), rw s.0 refl),
       record {
-        ok = rw (← s.1)
+        decodes = rw (← s.1)
             (rw (before_zero_all (take c.self.inside.idx c.self.inside.buf) c.self.invariant.1)
-            at c.in_ok-n.ensures.ok.1);
-        err = tt;
+            at c.in_ok-n.ensures.decodes.1);
+        no_groups = tt;
         held = tt;
       },
     )

@@ -72,7 +72,7 @@ one τ (v ∷ w ∷ vs) t = absurd t.1
 
 module _ {M : Type 1} {𝓤 : Ura M} (𝓛 : Logic 𝓤) (R : RattleType) (γ : GName)
     (P Q : R.Denot → Type 0) where
-  -- what is known of a lender's last value may be weakened
+  -- What is known of a lender's value after the loan may be weakened.
   weaker : ((v : R.Denot) → P v → Q v)
       → ent 𝓤 (sem 𝓛 (follows_so R R γ none (λ _ _. ⊤) P))
       (sem 𝓛 (follows_so R R γ none (λ _ _. ⊤) Q))
@@ -139,7 +139,7 @@ feed_ref_spec 𝓤 𝓛 𝓜 𝓡 wired N T fits L Gh D Sh Ds Dd P met shaped gl
     enter ! 𝓣.C 𝓣.Λ fn (vptr b o ∷ h ∷ w ∷ []) Post $
     alloc_all ! (λ l. pass_all ! refl ((tt, tt), (goth.2, (gotw.2, tt))) $
     sets ! (addr ! (through ! refl (stop !))) refl (tt, tt) $
-    -- what the first call asks
+    -- What the first call requires.
     let G = triple_of 𝓛 (first.signature N') (first.spec N' 𝓛 𝓜.mem 𝓡.returns) in
     let κs₁ : Lfts 3 = (κ, (α, (ν, tt))) in let a₁ : Args (first.signature N') κs₁ =
     (a.0, (a.1.1.0, tt)) in
@@ -156,21 +156,21 @@ feed_ref_spec 𝓤 𝓛 𝓜 𝓡 wired N T fits L Gh D Sh Ds Dd P met shaped gl
     z
     (and_then ! (get ! refl) (and_then ! (get ! refl) (no_more !))) (λ v.
     let Tk : RattleType = taken.the_row (named_lft 3 0 tt κs₁) (named_lft 3 1 tt κs₁) in
-    let Told : Taken → Type 0 = λ t. (after : State) × IsTaken N a.0.now a.1.1.0.now t after in
+    let Known : Taken → Type 0 = λ t. (after : State) × IsTaken N a.0.now a.1.1.0.now t after in
     use1 𝓛 (later (some (λ (t : Taken).
     ((‵ (flft κ q0) ⊛ ‵ (flft α q1) ⊛ ‵ (flft ν q2) ⊛ ‵ ftrue) ⊛ ‵ (Tk.own_val t (v ∷ []))) ⊛
     some (λ (ws : Lasts (first.ended N') κs₁ a₁). ‵ (lasts (first.ended N') κs₁ a₁ ws)
-    ⊛ raw (fact 𝓤 (Told t))
+    ⊛ raw (fact 𝓤 (Known t))
     ⊛ ‵ (follows_so Row Row γ none (λ _ _. ⊤) (IsTaken N a.0.now a.1.1.0.now t)))))) (id⊢ 𝓤 _) $
     await ! tt $ pick ! (λ t. split ! $ split ! $ move ! (2 ∷ []) $
-    pick ! (λ ws. split3 ! $ drop ! $ heard ! (Told t) (λ told.
+    pick ! (λ ws. split3 ! $ drop ! $ heard ! (Known t) (λ known.
     -- [what follows; the tokens; what was taken; alloc; the token of T]
     move ! (2 ∷ []) $ peeks ! Tk (Is Tk) (shows 𝓛 Tk) t (v ∷ [])
     (λ is-t. let good = ((taken_laws.the_row_laws (named_lft 3 0 tt κs₁)
     (named_lft 3 1 tt κs₁)).lawful 𝓛).typed t (v ∷ []) is-t in
     lands_as ! refl refl good.0 $
     sets ! (of_opd ! (get ! refl)) refl good.0 $
-    -- what the second call asks
+    -- What the second call requires.
     let P₂ : Lfts 3 → Type 0 = λ κs'. κs'.0 ≡ κ in
     let G₂ = triple_of 𝓛 (second.signature T) (second.spec T Gh D Sh Ds Dd P₂ 𝓛 𝓜.mem 𝓡.returns) in
     let κs₂ : Lfts 3 = (κ, (α, (τ, tt))) in let a₂ : Args (second.signature T) κs₂ =
@@ -210,7 +210,7 @@ feed_ref_spec 𝓤 𝓛 𝓜 𝓡 wired N T fits L Gh D Sh Ds Dd P met shaped gl
     (λ e. read N a.0.now a.1.1.0.now e)) $
     let Answer : Type 0 = (after : State) × IsFed N Sh.shape a.0.now a.1.1.0.now r after in
     use0 𝓛 (raw (fact 𝓤 Answer))
-    (fact_i 𝓤 Answer (emp 𝓤) (told.0, read N a.0.now a.1.1.0.now told.0 told.1)) $ join ! $
+    (fact_i 𝓤 Answer (emp 𝓤) (known.0, read N a.0.now a.1.1.0.now known.0 known.1)) $ join ! $
     move ! (2 ∷ []) $ split3 ! $ move ! (2 ∷ []) $ move ! (5 ∷ 0 ∷ []) $ join ! $
     move ! (2 ∷ 0 ∷ []) $ join ! $ move ! (1 ∷ 0 ∷ []) $ join ! $
     nothing ! $ nothing ! $ fjoin ! $ nothing ! $ fjoin ! $ nothing ! $ fjoin ! $

@@ -48,7 +48,7 @@ returns-in-Err g c =
     let held = ap length s.1 in
     let cut = length-take-le c.self-2.inside.idx c.self-2.inside.buf (omega arith) in
     let part = length-take-le c.frame_len-n.result c.args.input.now c.frame_len-n.ensures.within in
-    let none = rw c.extend-2.ensures at c.in-Err.ensures.err in
+    let none = rw c.extend-2.ensures at c.in-Err.ensures.no_groups in
     rw (take_rest c.args.input.now (c.frame_len-n.result + 1)) (
       (
         refl,

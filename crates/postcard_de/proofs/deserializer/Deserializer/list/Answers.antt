@@ -25,7 +25,7 @@ pub returns-in_err-item : goal.returns-in_err-item
 returns-in_err-item g c =
     let laws = g.F.Flavor.lawful in
     let counted =
-    not_moved (at_none c.in_default.is c.in_ok-items.ensures.none) c.in_ok-count.ensures.reads in
+    not_moved (at_none c.in_default.is c.in_ok-items.ensures.unchanged_if_none) c.in_ok-count.ensures.reads in
     let n = c.in_ok-count.count in
     let i = c.loop-i.i in
     let more : n - i ≡ suc (n - (i + 1)) = omega (arith, c.loop-i-test.true) in
@@ -38,7 +38,7 @@ pub returns-in_err-push_announced : goal.returns-in_err-push_announced
 returns-in_err-push_announced g c =
     let laws = g.F.Flavor.lawful in
     let counted =
-    not_moved (at_none c.in_default.is c.in_ok-items.ensures.none) c.in_ok-count.ensures.reads in
+    not_moved (at_none c.in_default.is c.in_ok-items.ensures.unchanged_if_none) c.in_ok-count.ensures.reads in
     let n = c.in_ok-count.count in
     let i = c.loop-i.i in
     let more : n - i ≡ suc (n - (i + 1)) = omega (arith, c.loop-i-test.true) in
@@ -63,7 +63,7 @@ pub returns : goal.returns
 returns g c =
     let laws = g.F.Flavor.lawful in
     let counted =
-    not_moved (at_none c.in_default.is c.in_ok-items.ensures.none) c.in_ok-count.ensures.reads in
+    not_moved (at_none c.in_default.is c.in_ok-items.ensures.unchanged_if_none) c.in_ok-count.ensures.reads in
     let none : c.in_ok-count.count - c.loop-i.i ≡ 0 = omega (arith, c.loop-i-test.false) in
     list_read laws (λ (v : Vec g.row.T.Denot Global). v.items) c.loop-i.items
     counted (going_done laws (rw none at c.loop-i.invariant))

@@ -1,7 +1,8 @@
 use Rattle.std.proofs.Common.{◌≡◌, ℕ, ◌<◌, List, [], ◌∷◌, length, take, slice_set, refl, arith}
 use Rattle.postcard_de_flavors.proofs.io.tests.move_first.Goals as goal
 
--- The front of a buffer that isn't empty, once its first byte is written.
+-- After `byte` is written to the first place of a buffer that isn't empty, the buffer begins with
+-- it.
 first_written : (buf : List ℕ) (byte : ℕ) → 0 < length buf → take 1 (slice_set buf 0 byte) ≡ byte ∷ []
 first_written [] byte some = absurd (omega (arith, some))
 first_written (old ∷ rest) byte some = refl

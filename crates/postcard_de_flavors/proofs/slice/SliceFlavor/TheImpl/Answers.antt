@@ -13,10 +13,10 @@ use Rattle.postcard_de_flavors.specs.contracts.slice.SliceFlavor.TheImpl as the_
 use Rattle.postcard_de_flavors.specs.contracts.slice.SliceFlavor.try_take_n_temp as own
 use Rattle.postcard_de_flavors.specs.contracts.flavor.Flavor.try_take_n_temp as its_trait
 use Rattle.postcard_de_flavors.proofs.Cut.{taken}
-use Rattle.postcard_de_flavors.proofs.Weaker.{rests_less, reordered, turns}
+use Rattle.postcard_de_flavors.proofs.Weakening.{rests_less, reordered, turns}
 use Rattle.postcard_de_flavors.proofs.slice.SliceFlavor.TheImpl.Goals as goal
 
--- A source that is left with the rest, or whole, lent a front as any source does.
+-- `LeavesRest` implies `LendsFront` for a source over a list.
 lends : (old : List ℕ) (r : Result (Bor (List ℕ)) Error) (new : List ℕ) → LeavesRest old r new → LendsFront (λ (s : List ℕ). Some s) (λ s n. n ≤ length s) (λ s t. IsEndOf t s) old r new
 lends old (Ok front) new h = (taken old front.now new h.0, (front.now, h.0))
 lends old (Err e) new h = (tt, ([], sym h.1))

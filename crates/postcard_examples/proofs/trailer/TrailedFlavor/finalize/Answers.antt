@@ -1,4 +1,4 @@
--- Room for no bytes is room for the trailer, and behind it for no more.
+-- With room for no bytes, there is room for the byte at the end, and after it room to end.
 use Rattle.postcard_examples.specs.Trailer.{end_has_room}
 use Rattle.postcard_examples.proofs.trailer.TrailedFlavor.finalize.Goals as goal
 

@@ -1,4 +1,4 @@
--- The flavor within has room for the bytes.
+-- The inner flavor has room for the bytes.
 use Rattle.postcard_examples.specs.Trailer.{bytes_have_room}
 use Rattle.postcard_examples.proofs.trailer.TrailedFlavor.try_extend.Goals as goal
 

@@ -1,4 +1,4 @@
--- The flavor within has room for the byte.
+-- The inner flavor has room for the byte.
 use Rattle.std.proofs.Common.{[], ◌∷◌}
 use Rattle.postcard_examples.specs.Trailer.{bytes_have_room}
 use Rattle.postcard_examples.proofs.trailer.TrailedFlavor.try_push.Goals as goal

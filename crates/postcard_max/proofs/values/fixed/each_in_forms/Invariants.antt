@@ -1,4 +1,4 @@
--- The elements before the one at hand fit.
+-- The elements before the current one fit.
 use Rattle.std.proofs.Common.{take}
 use Rattle.postcard_shape.specs.Lists.{AllFit}
 use Rattle.postcard_max.proofs.values.fixed.each_in_forms.Given as goal

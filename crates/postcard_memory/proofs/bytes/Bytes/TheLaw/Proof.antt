@@ -1,4 +1,4 @@
--- A `&` to a `Bytes` has what the `Bytes` has. Assumes `Logic`.
+-- A `&` to a `Bytes` has of the bytes what the `Bytes` has. Assumes `Logic`.
 use denote.Builtin.{u8}
 use denote.Ref.{NamedLft}
 use denote.Param.Shared.{copy_shared}

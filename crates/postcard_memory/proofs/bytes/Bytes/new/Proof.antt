@@ -1,4 +1,4 @@
--- `new` keeps the pointer to the bytes and what a `&[u8]` owns of them. Assumes `Logic`.
+-- `new` keeps the pointer to the bytes, and what a `&[u8]` owns of them. Assumes `Logic`.
 use Rattle.postcard_memory.proofs.Steps.{[], ◌∷◌, refl, proved, ‵, raw, ◌⊛◌, tables, ftrue, flft, named, ◌$◌, ◌∵◌, !, qed, move, keep, split, drop, fsplit, enter, alloc_all, pass_all, free_all, look_at, look_in_at, get, sets, addr, from, fld, hop, stop, agg, and_then, no_more, returns, sub, whole, plain, yes, u8, Stays, walk_of, stay_dropped, Goes-dropped, suffices, ends_at, block_ptr, nothing, join}
 use denote.Builtin.{SliceRefOf}
 use Rattle.postcard_memory.specs.contracts.bytes.Bytes.new as f
@@ -12,7 +12,7 @@ use types.Kit.{group, done}
 use types.Kit.{flt_i, use0, fjoin}
 use Rattle.std.proofs.Common.{length}
 use Rattle.postcard_memory.specs.declared.bytes.Bytes.{Bytes}
-use Rattle.postcard_memory.proofs.Parts.{words}
+use Rattle.postcard_memory.proofs.BytesParts.{words}
 use Rattle.postcard_memory.proofs.BytesParts.{Words, made}
 use denote.Slice.{ShrSlice, shr_slice_vals, shr_slice_Tells}
 

@@ -1,4 +1,4 @@
--- `pop` reads the byte at the pointer, and moves the pointer on. Assumes `Logic`.
+-- `pop` reads the byte at the pointer, and moves the pointer one byte forward. Assumes `Logic`.
 use Rattle.postcard_memory.proofs.Steps.{ℕ, List, [], ◌∷◌, ◌≡◌, ◌∙◌, ap, sym, refl, w8, named, ‵, raw, ◌⊛◌, tables, ftrue, flft, Val, vint, ◌$◌, ◌∵◌, !, qed, move, keep, split, drop, join, fsplit, fsplit3, fjoin, rewrite, done, enter, alloc_all, pass_all, free_all, look_at, get, through, sets, sets_last, load, fld, stop, bin, lit, look, of_opd, first, blocks, assigns, exec, at_ret, returns, look_in, sub, whole, env, plain, u8, full_share, opens, closes, peeks, heard, shows, in_a_block, id⊢, use1, Stays, walk_of, stay_ref, Goes-ref, suffices, nothing, mut_vals, mut_Tells, Ptr, block_ptr, fact, proved}
 use Rattle.std.proofs.Common.{◌+◌, ◌<◌, ◌^◌, length, get_or, drop as drop_list, arith}
 use Rattle.std.proofs.VecSteps.Shapes.{after}
@@ -26,7 +26,7 @@ use Rattle.postcard_memory.proofs.bytes.Bytes.TheLaws.{lowers}
 use Rattle.postcard_memory.specs.contracts.bytes.Bytes.pop as f
 use Rattle.postcard_memory.proofs.bytes.Bytes.pop.Statement.{statement}
 use Rattle.postcard_memory.proofs.bytes.Bytes.pop.Code as code
-use Rattle.postcard_memory.proofs.Parts.{words}
+use Rattle.postcard_memory.proofs.BytesParts.{words}
 use Rattle.postcard_memory.proofs.BytesParts.{Words, made}
 use Rattle.postcard_memory.proofs.Reading.{back, first_of, first_and_rest}
 

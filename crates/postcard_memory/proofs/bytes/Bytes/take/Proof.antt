@@ -1,4 +1,4 @@
--- `take` moves the pointer on, and shares the bytes before it. Assumes `Logic`.
+-- `take` moves the pointer n bytes forward, and shares the bytes that it passes. Assumes `Logic`.
 use Rattle.postcard_memory.proofs.Steps.{ℕ, List, [], ◌∷◌, ◌≡◌, ◌∙◌, ◌≤◌, ap, sym, refl, w64, w8, named, ‵, raw, ◌⊛◌, tables, ftrue, flft, Val, vint, ◌$◌, ◌∵◌, !, qed, move, keep, split, drop, join, fsplit, fsplit3, fjoin, rewrite, done, enter, alloc_all, pass_all, free_all, look_at, get, through, sets, sets_last, load, fld, stop, agg, bin, and_then, no_more, of_opd, first, blocks, assigns, exec, at_ret, returns, look_in, sub, whole, env, plain, yes, u8, full_share, opens, closes, peeks, heard, shows, in_a_block, id⊢, use1, Stays, walk_of, stay_dropped, stay_ref, Goes-dropped, Goes-ref, suffices, nothing, mut_vals, mut_Tells, uint_vals, uint_Tells, Ptr, block_ptr, slice_val, Room, fact, proved}
 use Rattle.std.proofs.Common.{◌+◌, ◌<◌, ◌^◌, length, take, drop as drop_list, arith}
 use Rattle.std.proofs.VecSteps.Shapes.{after}
@@ -27,7 +27,7 @@ use Rattle.postcard_memory.proofs.bytes.Bytes.TheLaws.{lowers}
 use Rattle.postcard_memory.specs.contracts.bytes.Bytes.take as f
 use Rattle.postcard_memory.proofs.bytes.Bytes.take.Statement.{statement}
 use Rattle.postcard_memory.proofs.bytes.Bytes.take.Code as code
-use Rattle.postcard_memory.proofs.Parts.{words}
+use Rattle.postcard_memory.proofs.BytesParts.{words}
 use Rattle.postcard_memory.proofs.BytesParts.{Words, made}
 use Rattle.postcard_memory.proofs.Reading.{front, back}
 

@@ -1,4 +1,4 @@
--- `view` shares all bytes, for as long as the `&` to the `Bytes` has left. Assumes `Logic`.
+-- `view` shares all bytes for as long as the `&` to the `Bytes` has left. Assumes `Logic`.
 use Rattle.postcard_memory.proofs.Steps.{ℕ, List, [], ◌∷◌, ◌≡◌, ◌∙◌, ap, sym, refl, w64, w8, named, ‵, raw, ◌⊛◌, tables, ftrue, flft, Val, vint, ◌$◌, ◌∵◌, !, qed, move, keep, split, join, fsplit, fjoin, rewrite, done, enter, alloc_all, pass_all, free_all, look_at, get, through, sets, sets_last, load, fld, stop, agg, and_then, no_more, of_opd, first, blocks, exec, at_ret, returns, look_in, sub, whole, env, plain, yes, u8, peeks, heard, shows, in_a_block, id⊢, use1, Stays, walk_of, stay_dropped, Goes-dropped, suffices, nothing, uint_vals, uint_Tells, Ptr, slice_val, Room, fact, proved}
 use Rattle.std.proofs.Common.{◌<◌, ◌^◌, length, arith}
 use Rattle.std.proofs.VecSteps.Shapes.{after}
@@ -29,8 +29,8 @@ use Rattle.postcard_memory.specs.contracts.bytes.Bytes as C
 use Rattle.postcard_memory.specs.contracts.bytes.Bytes.view as f
 use Rattle.postcard_memory.proofs.bytes.Bytes.view.Statement.{statement}
 use Rattle.postcard_memory.proofs.bytes.Bytes.view.Code as code
-use Rattle.postcard_memory.proofs.Parts.{words}
-use Rattle.postcard_memory.proofs.BytesParts.{Words, told, opened}
+use Rattle.postcard_memory.proofs.BytesParts.{words}
+use Rattle.postcard_memory.proofs.BytesParts.{Words, as_words, opened}
 
 abbrev stayed : Stays f.ended.signature.params f.ended.kept
 stayed = (stay_dropped (RefOf (0 ∷ []) tt (plain (λ κs. C.the_row (named_lft 2 1 tt κs))) (λ _. tt)) yes, (stay_dropped (plain (λ _. usize)) yes, tt))
@@ -55,7 +55,7 @@ view_spec 𝓤 𝓛 𝓜 𝓡 wired =
     fsplit ! $ flt_l ! (λ most.
     use1 𝓛 (‵ (elements_shared u8 xs b' o' κ)) (shortens 𝓛 (elements_shared u8 xs b' o') (elements_shr_laws u8 (uint_row_laws w8) xs b' o') β κ bounds.0) $ move ! (1 ∷ 2 ∷ []) $
     looks ! tt D (opened ℓ 𝓛) (d.start, (tt, tt)) b o (λ q vs. move ! (1 ∷ []) $ peeks ! D (Is D) (shows 𝓛 D) (d.start, (tt, tt)) vs (λ is.
-    let ev = told ℓ d.start vs is ∙ ap (λ (p : Ptr). words p ∷ []) e in
+    let ev = as_words ℓ d.start vs is ∙ ap (λ (p : Ptr). words p ∷ []) e in
     rewrite ! 1 (λ (ws : List Val). ‵ (cell_at q D.mir ws b o)) ev refl $ first ! $ blocks ! $
     sets ! (of_opd ! (load ! (through ! refl (fld ! refl (stop !))) (look_in ! 1 (sub ! 0 refl (whole !))))) refl (tt, tt) $
     sets_last ! (agg ! (and_then ! (get ! refl) (and_then ! (get ! refl) (no_more !)))) refl (tt, (tt, (record { fits = fits }, tt))) $

@@ -1,4 +1,4 @@
--- `whole` makes the `&[u8]` again of the pointer and what is owned. Assumes `Logic`.
+-- `whole` makes the `&[u8]` again from the pointer and from what is owned. Assumes `Logic`.
 use Rattle.postcard_memory.proofs.Steps.{ℕ, List, [], ◌∷◌, ◌≡◌, ◌∙◌, ap, refl, w64, ‵, raw, ◌⊛◌, tables, ftrue, flft, prop, Val, vint, ◌$◌, ◌∵◌, !, qed, move, keep, split, join, fsplit, fjoin, regoal, done, enter, alloc_all, pass_all, free_all, look_at, get, get_in, sets, sets_last, fld, stop, agg, and_then, no_more, of_opd, first, blocks, exec, at_ret, returns, sub, whole, env, plain, yes, no, u8, peeks, heard, shows, in_a_block, id⊢, Stays, walk_of, stay_dropped, Goes-dropped, suffices, nothing, Ptr, block_ptr, slice_val, Room, fact}
 use Rattle.std.proofs.Common.{◌<◌, ◌^◌, length, arith}
 use Rattle.std.proofs.VecSteps.Shapes.{after}
@@ -20,7 +20,7 @@ use Rattle.postcard_memory.proofs.bytes.Bytes.TheLaws.{lowers}
 use Rattle.postcard_memory.specs.contracts.bytes.Bytes.whole as f
 use Rattle.postcard_memory.proofs.bytes.Bytes.whole.Statement.{statement}
 use Rattle.postcard_memory.proofs.bytes.Bytes.whole.Code as code
-use Rattle.postcard_memory.proofs.Parts.{words}
+use Rattle.postcard_memory.proofs.BytesParts.{words}
 
 abbrev stayed : Stays f.ended.signature.params f.ended.kept
 stayed = (stay_dropped (plain (λ κs. the_row (named_lft 1 0 tt κs))) no, (stay_dropped (plain (λ _. usize)) yes, tt))

@@ -1,5 +1,5 @@
 -- `lend` lends all bytes, for as long as the `&mut` to the `Memory` has left. Assumes `Logic`.
-use Rattle.postcard_memory.proofs.Steps.{ℕ, MutBor, List, [], ◌∷◌, ◌≡◌, ◌∙◌, ap, sym, refl, w64, named, ‵, raw, ◌⊛◌, some, later, await, pick, tables, ftrue, flft, Val, vint, ◌$◌, ◌∵◌, !, qed, move, keep, split, join, fsplit, fsplit3, fjoin, rewrite, done, enter, alloc_all, pass_all, free_all, look_at, get, through, sets, sets_last, load, fld, stop, agg, and_then, no_more, of_opd, first, blocks, exec, at_ret, returns, look_in, sub, whole, env, plain, yes, no, u8, full_share, opens, closes, peeks, heard, shows, in_a_block, id⊢, use2, use3, Stays, walk_of, stay_dropped, Goes-dropped, suffices, nothing, mut_vals, mut_Tells, uint_vals, uint_Tells, Ptr, slice_val, Room, MutSlice, fact, proved}
+use Rattle.postcard_memory.proofs.Steps.{ℕ, MutBor, List, [], ◌∷◌, ◌≡◌, ◌∙◌, ap, sym, refl, w64, named, ‵, raw, ◌⊛◌, some, later, await, pick, tables, ftrue, flft, Val, vint, ◌$◌, ◌∵◌, !, qed, move, keep, split, join, fsplit, fsplit3, fjoin, rewrite, done, enter, alloc_all, pass_all, free_all, look_at, get, through, sets, sets_last, load, fld, stop, agg, and_then, no_more, of_opd, first, blocks, exec, at_ret, returns, look_in, sub, whole, env, plain, yes, no, u8, full_share, opens, closes, peeks, heard, shows, in_a_block, id⊢, use2, Stays, walk_of, stay_dropped, Goes-dropped, suffices, nothing, mut_vals, mut_Tells, uint_vals, uint_Tells, Ptr, slice_val, Room, MutSlice, fact, proved}
 use Rattle.std.proofs.Common.{◌<◌, ◌^◌, length, arith}
 use Rattle.std.proofs.VecSteps.Shapes.{after}
 use Rattle.std.proofs.raw_atomic.Walks.{leaves}
@@ -10,12 +10,18 @@ use contract.Monad.{fact_i}
 use types.Kit.{use0, split3, flt_l, flt_i}
 use types.SemTy.{Body, Arr}
 use denote.Array.{Array}
-use denote.Builtin.{usize, RefMutOf}
+use denote.Builtin.{usize, RefMutOf, RefOf}
+use denote.Ref.{shr_vals, shr_Tells}
+use denote.Opens.{unhide}
+use base.Fml.{Lft}
+use base.Before.{before}
+use types.Kit.{group, use1}
+use Rattle.postcard_memory.specs.contracts.memory.life.Life as L
 use denote.Follow.{follows}
 use denote.FollowSlice.{slice_of}
 use denote.Memory.{mem, cell_at}
 use denote.RattleType.{RattleType, owns}
-use denote.Signature.{named_lft, types_at}
+use denote.Signature.{types_at}
 use denote.Triple.Walked.{Goes-spent_ref}
 use Rattle.postcard_memory.specs.declared.memory.Memory.{Memory}
 use Rattle.postcard_memory.specs.Lent.{lent_bytes}
@@ -28,24 +34,24 @@ use Rattle.postcard_memory.proofs.Parts.{words}
 use Rattle.postcard_memory.proofs.Lending.{lends, with_items}
 
 abbrev stayed : Stays f.ended.signature.params f.ended.kept
-stayed = (stay_dropped (RefMutOf (0 ∷ []) tt (plain (λ κs. the_row (named_lft 2 1 tt κs))) (λ _. tt)) no, (stay_dropped (plain (λ _. usize)) yes, tt))
+stayed = (stay_dropped (RefMutOf (0 ∷ []) tt (plain (λ _. the_row)) (λ _. tt)) no, (stay_dropped (RefOf (0 ∷ []) tt (plain (λ _. L.the_row)) (λ _. tt)) yes, (stay_dropped (plain (λ _. usize)) yes, tt)))
 
 pub lend_spec : {M : Type 1} → statement M
 lend_spec 𝓤 𝓛 𝓜 𝓡 wired =
     let c = f.clauses 𝓛 𝓜.mem 𝓡.returns in let W = walk_of 𝓛 f.ended stayed c in let 𝓣 = tables 𝓤 𝓛.H 𝓜 𝓡 𝓡.env in
-    proved 𝓛 f.ended stayed c 𝓜 𝓡 (Goes-spent_ref 𝓛 2 (0 ∷ []) tt (plain (λ κs. the_row (named_lft 2 1 tt κs))), (Goes-dropped 𝓛 2 (plain (λ _. usize)) yes (λ κs x w. refl), tt))
+    proved 𝓛 f.ended stayed c 𝓜 𝓡 (Goes-spent_ref 𝓛 1 (0 ∷ []) tt (plain (λ _. the_row)), (Goes-dropped 𝓛 1 (RefOf (0 ∷ []) tt (plain (λ _. L.the_row)) (λ _. tt)) yes (λ κs x w. refl), (Goes-dropped 𝓛 1 (plain (λ _. usize)) yes (λ κs x w. refl), tt)))
     f.Key.name code.function (code.unfolded 𝓤 𝓛.H 𝓜 𝓡 wired)
-    (λ κs. (mut_vals, (uint_vals w64, tt))) (λ κs. (mut_Tells (named 0) κs.0 (the_row (named_lft 2 1 tt κs)), (uint_Tells w64, tt))) (λ κs qs bounds a _ are.
-    let ℓ = named_lft 2 1 tt κs in let R : RattleType = the_row ℓ in let κ = κs.0 in
-    let b = a.0.ref_ptr.0 in let o = a.0.ref_ptr.1 in let γ = a.0.ghost_name in let d : Memory = a.0.now in let xs : List ℕ = d.items in let n : ℕ = a.1.0 in let fits : n < 2 ^ 64 = are.1.0.1 in
-    let y : W.Ghost = ((κs, qs, bounds, a, (mut_vals a.0, (vint w64 n ∷ [], tt))), tt) in
-    qed 𝓛 (((‵ (flft κ qs.0) ⊛ ‵ (flft κs.1.0 qs.1.0) ⊛ ‵ ftrue) ⊛ ‵ (owns (types_at f.ended.signature.params κs) a y.0.4)) ∷ raw (fact 𝓤 (n ≡ length xs)) ∷ []) ∵
-    move ! (1 ∷ []) $ heard ! _ (λ asked. split ! $ split3 ! $ move ! (3 ∷ []) $ fsplit ! $ keep ! (0 ∷ 2 ∷ 3 ∷ []) $
-    enter ! _ _ _ _ _ $ alloc_all ! (λ l. pass_all ! refl ((tt, tt), ((tt, record { fits = fits }), tt)) $
+    (λ κs. (mut_vals, (shr_vals, (uint_vals w64, tt)))) (λ κs. (mut_Tells (named 0) κs.0 the_row, (shr_Tells (named 0) κs.0 L.the_row, (uint_Tells w64, tt)))) (λ κs qs bounds a _ are.
+    let R : RattleType = the_row in let κ = κs.0 in
+    let b = a.0.ref_ptr.0 in let o = a.0.ref_ptr.1 in let γ = a.0.ghost_name in let d : Memory = a.0.now in let xs : List ℕ = d.items in let n : ℕ = a.1.1.0 in let fits : n < 2 ^ 64 = are.1.1.0.1 in
+    let y : W.Ghost = ((κs, qs, bounds, a, (mut_vals a.0, (shr_vals a.1.0, (vint w64 n ∷ [], tt)))), tt) in
+    qed 𝓛 (((‵ (flft κ qs.0) ⊛ ‵ ftrue) ⊛ ‵ (owns (types_at f.ended.signature.params κs) a y.0.4)) ∷ raw (fact 𝓤 ((d.time ≡ a.1.0.now) × (n ≡ length xs))) ∷ []) ∵
+    move ! (1 ∷ []) $ heard ! _ (λ both. let asked = both.1 in split ! $ split ! $ move ! (2 ∷ []) $ fsplit3 ! $ move ! (1 ∷ []) $ fsplit ! $ keep ! (2 ∷ 4 ∷ 1 ∷ []) $
+    enter ! _ _ _ _ _ $ alloc_all ! (λ l. pass_all ! refl ((tt, tt), ((tt, tt), ((tt, record { fits = fits }), tt))) $
     -- [self; its token; the token of 'a]
     fsplit3 ! $ move ! (1 ∷ 2 ∷ 3 ∷ []) $ opens ! tt R b o (λ us. move ! (1 ∷ []) $ peeks ! R _ (shows 𝓛 R) d us (λ is. fsplit ! $ move ! (1 ∷ []) $
-    in_a_block ! d.start (λ p. lent_bytes κs.1.0 p d.loan xs) (id⊢ 𝓤 _) (λ b' o' e. fsplit ! $ flt_l ! (λ most. flt_i ! (length xs) (2 ^ 63) most $ fjoin ! $
-    let word = (lowers ℓ).val_is d us is ∙ ap (λ (p : Ptr). words p ∷ []) e in
+    in_a_block ! d.start (λ p. lent_bytes d.time p d.loan xs) (id⊢ 𝓤 _) (λ b' o' e. fsplit ! $ flt_l ! (λ most. flt_i ! (length xs) (2 ^ 63) most $ fjoin ! $
+    let word = lowers.val_is d us is ∙ ap (λ (p : Ptr). words p ∷ []) e in
     let Cell = λ (ws : List Val). ‵ (cell_at full_share R.mir ws b o) in
     -- [the bytes; the fields; the struct's cell; self's borrow, in three; its equation; the token of 'a]
     rewrite ! 2 Cell word refl $
@@ -54,19 +60,19 @@ lend_spec 𝓤 𝓛 𝓜 𝓡 wired =
     sets_last ! (agg ! (and_then ! (get ! refl) (and_then ! (get ! refl) (no_more !)))) refl (tt, (tt, (record { fits = fits }, tt))) $
     exec ! 𝓣.C 𝓣.Λ (env code.Mir.locals l) (after 1 (code.function).body) (at_ret _ (W.post y)) $
     sets ! (of_opd ! (get ! refl)) refl (tt, (tt, (record { fits = fits }, tt))) $
-    rewrite ! 2 Cell (sym word) refl $ rewrite ! 0 (λ (p : Ptr). ‵ (lent_bytes κs.1.0 p d.loan xs)) (sym e) refl $
+    rewrite ! 2 Cell (sym word) refl $ rewrite ! 0 (λ (p : Ptr). ‵ (lent_bytes d.time p d.loan xs)) (sym e) refl $
     move ! (1 ∷ 0 ∷ []) $ fjoin ! $ move ! (1 ∷ 0 ∷ []) $ closes ! tt R d us b o $
     -- [self's borrow; its token; its equation; the token of 'a]
     let At : Ptr → Memory = λ p. record d { start = p } in
-    rewrite ! 0 (λ (p : Ptr). ‵ (fobs γ (R.coded.code (At p)))) e refl $
-    use3 𝓛 (later (some (λ (δ : GName). ‵ (fobs δ ((coded_list u8.coded).code xs)) ⊛ ‵ (fbor κ (Body (Arr (mem u8) (length xs)) b' o' δ)) ⊛ ‵ (flft κ qs.0) ⊛ ‵ (follows R (Array u8 0) γ δ (with_items 𝓛 ℓ b o b' o' d)))))
-    (lends 𝓛 ℓ b o b' o' d κ bounds.0 qs.0 γ) $ await ! tt $ pick ! (λ δ. split3 ! $ move ! (2 ∷ []) $ split ! $
+    rewrite ! 0 (λ (p : Ptr). ‵ (fobs γ (R.coded.code (At p)))) e refl $ move ! (4 ∷ []) $ unhide ! $ rewrite ! 0 (λ (t : Lft). ‵ (before κ t)) (sym both.0) refl $ move ! (1 ∷ 2 ∷ 3 ∷ 0 ∷ []) $ group ! 4 $
+    use1 𝓛 (later (some (λ (δ : GName). ‵ (fobs δ ((coded_list u8.coded).code xs)) ⊛ ‵ (fbor κ (Body (Arr (mem u8) (length xs)) b' o' δ)) ⊛ ‵ (flft κ qs.0) ⊛ ‵ (follows R (Array u8 0) γ δ (with_items 𝓛 b o b' o' d)))))
+    (lends 𝓛 b o b' o' d κ qs.0 γ) $ await ! tt $ pick ! (λ δ. split3 ! $ move ! (2 ∷ []) $ split ! $
     -- [the token; what self follows; the new loan; its borrow; self's equation; the token of 'a]
     let r : MutBor (List ℕ) = record { ref_ptr = (b', o'); ghost_name = δ; now = xs } in let v : Val = slice_val (b', o') n in let room : Room u8 (length xs) = (omega arith, omega arith) in
     move ! (2 ∷ 3 ∷ []) $ use2 𝓛 (‵ ((MutSlice (named 0) κ u8).own_val r (slice_val (b', o') (length xs) ∷ []))) (slice_of 𝓛 u8 (named 0) κ b' o' δ xs room) $
     rewrite ! 0 (λ (k : ℕ). ‵ ((MutSlice (named 0) κ u8).own_val r (slice_val (b', o') k ∷ []))) (sym asked) refl $
-    rewrite ! 2 (λ (p : Ptr). ‵ (follows R (Array u8 0) γ δ (λ (w : List ℕ). record { start = p; mark = d.mark; loan = d.loan; items = w }))) (sym e) refl $
-    returns ! (look_at ! 0 refl) $ free_all ! refl $ keep ! (0 ∷ 1 ∷ 2 ∷ 4 ∷ []) $
-    nothing ! $ move ! (4 ∷ 0 ∷ []) $ join ! $ move ! (2 ∷ 0 ∷ []) $ join ! $ nothing ! $ nothing ! $ fjoin ! $ nothing ! $ fjoin ! $
+    rewrite ! 2 (λ (p : Ptr). ‵ (follows R (Array u8 0) γ δ (λ (w : List ℕ). record { start = p; time = d.time; loan = d.loan; items = w }))) (sym e) refl $
+    returns ! (look_at ! 0 refl) $ free_all ! refl $ keep ! (0 ∷ 1 ∷ 2 ∷ []) $
+    nothing ! $ move ! (2 ∷ 0 ∷ []) $ join ! $ nothing ! $ nothing ! $ fjoin ! $ nothing ! $ fjoin ! $ nothing ! $ fjoin ! $
     use0 𝓛 (raw (fact 𝓤 (xs ≡ xs))) (fact_i 𝓤 _ (emp 𝓤) refl) $
-    suffices ! _ (leaves 𝓛 f.ended stayed c y v r (tt, (tt, tt)) (tt, (tt, tt))) $ move ! (2 ∷ 1 ∷ 3 ∷ 4 ∷ 0 ∷ []) $ done !))))))))
+    suffices ! _ (leaves 𝓛 f.ended stayed c y v r (tt, (tt, (tt, tt))) (tt, (tt, (tt, tt)))) $ move ! (2 ∷ 1 ∷ 3 ∷ 4 ∷ 0 ∷ []) $ done !))))))))

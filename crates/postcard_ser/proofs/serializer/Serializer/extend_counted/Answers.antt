@@ -1,4 +1,4 @@
--- The count, and then the bytes.
+-- The count is written, and then the bytes.
 use Rattle.postcard_ser.proofs.PartByPart.{wrote_then}
 use Rattle.postcard_ser.proofs.serializer.Serializer.extend_counted.Goals as goal
 

@@ -1,4 +1,4 @@
--- The index, and then the value.
+-- The index is written, and then the value.
 use Rattle.postcard_ser.proofs.PartByPart.{wrote_then}
 use Rattle.postcard_ser.proofs.serializer.Serializer.serialize_newtype_variant.Goals as goal
 

@@ -1,4 +1,4 @@
--- The byte 1, and then the value.
+-- The byte 1 is written, and then the value.
 use Rattle.std.proofs.Common.{[], ◌∷◌}
 use Rattle.postcard_ser.proofs.PartByPart.{wrote_then, wrote_stop, wrote_err}
 use Rattle.postcard_ser.proofs.serializer.Serializer.serialize_some.Goals as goal

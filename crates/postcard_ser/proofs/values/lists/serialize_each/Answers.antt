@@ -1,4 +1,4 @@
--- One more element is written and fits, or it is refused and so is the list.
+-- One more element is written and fits, or it is refused, and so is the list.
 use Rattle.std.proofs.Common.{◌<◌, length, Err, Ok, arith, subst}
 use Rattle.std.specs.Prelude.{Any}
 use Rattle.postcard_shape.proofs.Fitting.{one_more_fits}

@@ -1,7 +1,7 @@
--- One more entry is written and fits, or it is refused and so are the entries.
+-- One more entry is written and fits, or it is refused, and so are the entries.
 use Rattle.std.proofs.Common.{[], ◌∷◌, ◌++◌, ◌≡◌, ◌⊎◌, List, Ok, Err, sym, ap, subst, refl, ◌∙◌, append_assoc, append-nil}
 use Rattle.std.specs.Prelude.{map, Any}
-use Rattle.postcard_wire.specs.Spelling.{bytes_all}
+use Rattle.postcard_wire.specs.Spelling.{canonical_all}
 use Rattle.postcard_wire.specs.Tree.{trees}
 use Rattle.postcard_shape.proofs.Fitting.{all_append}
 use Rattle.postcard_shape.specs.Compound.{entry_tree}
@@ -38,7 +38,7 @@ returns-in_err-serialize-clause-wrote g c =
     let all : done ++ (e ∷ rest) ≡ c.args.entries.now.entries = ap (λ z. done ++ z) (sym c.in-Some.ensures.steps) ∙ c.loop-entry.invariant.is in
     let T = k.text ⊎ v.text in
     wrote_err _ c.from_residual.ensures.1
-    (subst (λ z. Wrote g.F.Flavor c.args.serializer.now.output (bytes_all (trees (map f z))) (Any R z) T (Err c.in_err-serialize.field-0.0) c.serialize.new.serializer.output) all
+    (subst (λ z. Wrote g.F.Flavor c.args.serializer.now.output (canonical_all (trees (map f z))) (Any R z) T (Err c.in_err-serialize.field-0.0) c.serialize.new.serializer.output) all
     (subst (λ z. Wrote g.F.Flavor c.args.serializer.now.output z (Any R (done ++ (e ∷ rest))) T (Err c.in_err-serialize.field-0.0) c.serialize.new.serializer.output)
     (sym (elements_append f done (e ∷ rest)))
     (wrote_then _ _ c.loop-entry.invariant.wrote (wrote_stop _ _ c.in_err-serialize.ensures.wrote (λ q. any_mid {P = R} done e rest _ refl (either_part q)) either_part) (λ q. q) (λ t. t))))

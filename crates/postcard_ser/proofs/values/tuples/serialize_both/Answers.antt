@@ -1,4 +1,4 @@
--- The first value, and then the other.
+-- The first value is written, and then the other.
 use Rattle.std.proofs.Common.{inl, inr}
 use Rattle.postcard_ser.proofs.PartByPart.{wrote_then, wrote_stop, wrote_err}
 use Rattle.postcard_ser.proofs.values.tuples.serialize_both.Goals as goal

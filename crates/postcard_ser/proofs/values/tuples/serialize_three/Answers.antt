@@ -1,4 +1,4 @@
--- The first value, and then the others.
+-- The first value is written, and then the others.
 use Rattle.std.proofs.Common.{inl, inr}
 use Rattle.postcard_ser.proofs.PartByPart.{wrote_then, wrote_stop, wrote_err}
 use Rattle.postcard_ser.proofs.values.tuples.serialize_three.Goals as goal

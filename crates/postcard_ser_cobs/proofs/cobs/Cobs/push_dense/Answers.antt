@@ -1,4 +1,5 @@
--- A piece goes into the frame as it is, and then its codes; it is refused only without room, or after a refusal.
+-- A piece is pushed as it is, and then its codes are set; it is refused only without room, or after
+-- a refusal.
 use Rattle.std.proofs.Common.{◌++◌, length, length-append, refl, ap, ◌∙◌, arith}
 use Rattle.std.proofs.Math.Logic.{∥∥₁_elim, ∥∥₁_map}
 use Rattle.std.specs.Coded.{le_prop}

@@ -1,4 +1,4 @@
--- A piece, a run or a byte is a front of the bytes that are left, so it has room where they do.
+-- A piece, a run or a byte is a front of the bytes that are left, so it has room if they have.
 use Rattle.std.proofs.Common.{◌-◌, ◌<◌, [], ◌∷◌, length, take, drop, subst, sym, ◌∙◌, arith, get_or}
 use Rattle.std.proofs.lemmas.List.{take_rest, length-drop}
 use Rattle.postcard_ser_cobs.specs.Framing.{HasFrameRoom}

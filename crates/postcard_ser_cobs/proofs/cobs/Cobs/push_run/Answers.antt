@@ -1,4 +1,4 @@
--- A run goes into the open group; it is refused only without room, or after a refusal.
+-- A run becomes data of the open group; it is refused only without room, or after a refusal.
 use Rattle.std.proofs.Common.{◌++◌, length, length-append, refl, ap, ◌∙◌, arith}
 use Rattle.std.proofs.Math.Logic.{∥∥₁_map}
 use Rattle.postcard_ser_cobs.specs.FramingLaws.{not_both}

@@ -1,4 +1,4 @@
--- One more run or byte goes on from the data up to this place.
+-- One more piece, run or byte continues the data up to the current place.
 use Rattle.std.proofs.Common.{take, drop, subst, sym}
 use Rattle.std.proofs.lemmas.List.{take-append-drop}
 use Rattle.postcard_ser_cobs.specs.Framing.{HasFrameRoom}

@@ -1,4 +1,4 @@
--- The data up to this place is taken, and after a refusal no byte is.
+-- The data up to the current place is taken, and no byte is taken after a refusal.
 use Rattle.std.specs.Prelude.{IsTrue}
 use Rattle.std.proofs.Common.{◌≡◌, ℕ, List, ◌≤◌, ◌-◌, ◌++◌, length, take}
 use Rattle.postcard_ser_cobs.specs.Framing.{HoldsOpen, LeavesFrame}

@@ -1,4 +1,5 @@
--- The answer of the encoder keeps the frame open; it is refused only without room, or after a refusal.
+-- The encoder's result keeps the frame open; the byte is refused only without room, or after a
+-- refusal.
 use Rattle.std.proofs.Common.{◌++◌, [], ◌∷◌, refl, arith}
 use Rattle.std.proofs.Math.Logic.{∥∥₁_elim, ∥∥₁_map}
 use Rattle.std.specs.Coded.{le_prop}

@@ -1,7 +1,8 @@
--- Where a byte is refused: there was no room for all, and what stands is a beginning of all.
+-- If a byte is refused, there was no room for all bytes, and what was appended is a beginning of
+-- them.
 use Rattle.std.proofs.Common.{subst, sym, arith}
 use Rattle.std.proofs.lemmas.Result.{err_from_is_err_and}
-use Rattle.postcard_ser_flavors.specs.Flavor.{Begins}
+use Rattle.postcard_ser_flavors.specs.Flavor.{AppendsFront}
 use Rattle.postcard_ser_flavors.proofs.Parts.{cut_at, begins_then, begins_more}
 use Rattle.postcard_ser_flavors.proofs.flavor.Flavor.try_extend.Goals as goal
 
@@ -19,6 +20,6 @@ returns-in_err-try_push-clause-refused g c =
     let law = g.Self.Flavor.lawful in
     let cut = cut_at c.args.bytes.now c.loop-byte.byte-index (omega arith) in
     rw same.1 (λ tidy.
-    subst (λ z. Begins g.Self.Flavor.appended c.args.self.now z c.try_push.new.self) (sym cut)
+    subst (λ z. AppendsFront g.Self.Flavor.appended c.args.self.now z c.try_push.new.self) (sym cut)
     (begins_then law.appended_join _ _ c.loop-byte.invariant.done
     (begins_more _ _ (c.in_err-try_push.ensures.refused tidy))))

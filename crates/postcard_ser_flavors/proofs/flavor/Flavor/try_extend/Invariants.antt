@@ -1,4 +1,4 @@
--- The bytes before the place are appended, by pushes.
+-- The bytes before the current place are appended, by pushes.
 use Rattle.std.proofs.Common.{take}
 use Rattle.postcard_ser_flavors.proofs.flavor.Flavor.try_extend.Given as goal
 

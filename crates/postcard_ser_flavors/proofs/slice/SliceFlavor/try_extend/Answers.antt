@@ -1,4 +1,4 @@
--- The bytes behind those written are the old ones.
+-- The bytes after those written are unchanged.
 use Rattle.std.proofs.Common.{rules}
 use Rattle.std.proofs.lemmas.Slice.{overwrites}
 use Rattle.postcard_ser_flavors.proofs.slice.SliceFlavor.try_extend.Goals as goal
@@ -11,5 +11,5 @@ returns-clause-leaves c = record {
   old_behind = search (rules, overwrites);
 }
 
-pub returns-clause-rest : goal.returns-clause-rest
-returns-clause-rest c = search (rules, overwrites)
+pub returns-clause-rest_unchanged : goal.returns-clause-rest_unchanged
+returns-clause-rest_unchanged c = search (rules, overwrites)

@@ -1,4 +1,4 @@
--- The digits stand behind what was held, and the bytes past them are the old ones.
+-- The digits follow what was held, and the bytes after them are unchanged.
 use Rattle.std.proofs.Common.{length, ap, ◌∙◌, rules, arith}
 use Rattle.postcard_ser_flavors.specs.Slice.{Written}
 use Rattle.postcard_ser_flavors.proofs.InPlace.{fits_here, held_here, behind_here, free_here}
@@ -21,7 +21,7 @@ returns-clause-leaves c = record {
       (c.lend-all.ensures.all ∙ ap (λ (w : Written). w.buffer) c.self.view_is) (ap (λ (w : Written). w.count) c.self.view_is) c.write_u64-count.ensures.digits c.write_u64-count.ensures.behind;
 }
 
-pub returns-clause-rest : goal.returns-clause-rest
-returns-clause-rest c =
+pub returns-clause-rest_unchanged : goal.returns-clause-rest_unchanged
+returns-clause-rest_unchanged c =
     free_here c.self.inside.position c.write_u64-count.result c.lend-all.result.now c.write_u64-count.new.out _ _ _ (omega (arith, ap length c.lend-all.ensures.all, c.self.invariant)) c.write_u64-count.ensures.within
     (c.lend-all.ensures.all ∙ ap (λ (w : Written). w.buffer) c.self.view_is) (ap (λ (w : Written). w.count) c.self.view_is) c.write_u64-count.ensures.digits c.write_u64-count.ensures.behind

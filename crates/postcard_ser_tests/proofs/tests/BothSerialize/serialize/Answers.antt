@@ -1,4 +1,4 @@
--- The count, and then each element.
+-- The count is written, and then each element.
 use Rattle.postcard_ser.proofs.PartByPart.{wrote_then, wrote_stop, wrote_err}
 use Rattle.postcard_ser_tests.proofs.tests.BothSerialize.serialize.Goals as goal
 

@@ -1,4 +1,4 @@
--- What a further byte makes of the digits read so far, by the lemmas of `Pushed`.
+-- The result of one more byte after the digits read so far, by the lemmas of `Pushed`.
 use Rattle.std.proofs.Common.{ℕ, ◌∙◌, sym, subst, refl, arith, ◌∷◌, [], length-append}
 use Rattle.postcard_wire.specs.Digits.{Within}
 use Rattle.postcard_wire.proofs.Pushed.{last_byte, next_fewer, too_great, GoesOn-more, number_more, sum_read, sum_in_range}

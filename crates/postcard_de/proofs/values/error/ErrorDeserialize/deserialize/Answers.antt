@@ -1,4 +1,4 @@
--- An index that is known is followed by nothing; an unknown one is refused.
+-- An index of an error has no content after it; any other index is refused.
 use Rattle.std.proofs.Common.{◌≡◌, ℕ, ◌<◌, ◌≤◌, List, Option, Ok, refl, sym, ap, ap₂, ◌∙◌, arith, rules}
 use Rattle.postcard_wire.specs.Tree.{Variant, Group, NoTrees}
 use Rattle.postcard_wire.specs.Spelling.{Spells}
@@ -12,7 +12,7 @@ use Rattle.postcard_de.proofs.Enums.{variant_read, unknown_index}
 use Rattle.postcard_de_nodes.specs.SeenLemmas.{seen_as}
 use Rattle.postcard_de.proofs.values.error.ErrorDeserialize.deserialize.Goals as goal
 
--- The content of a variant that has none: nothing is taken.
+-- A variant without content: reading the content takes nothing.
 unit_read : {S : Type 0} {left : S → Option (List ℕ)} {able : S → ℕ → Type 0}
     {may_leave : S → S → Type 0} (laws : Laws left able may_leave) {i : ℕ} {s t : S} → i < 17 →
     t ≡ s → ReadsFrom {V = Unit {0}} Spells (IsUnit 17 i) (λ u v. u ≡ Group NoTrees) ⊥ left able

@@ -1,6 +1,6 @@
 use Rattle.std.proofs.Common.{◌≡◌, ◌≤◌, ◌<◌, length, refl, arith, length-take}
 use Rattle.std.specs.Io.KnownBytes.{Consumes}
-use Rattle.postcard_de_flavors.proofs.Told.{at_least_behind}
+use Rattle.postcard_de_flavors.proofs.AtLeastLemmas.{at_least_after}
 use Rattle.postcard_de_flavors.proofs.io.io.IOReaderFlavor.try_take_n_temp.Goals as goal
 
 pub returns : goal.returns
@@ -20,11 +20,11 @@ returns g c =
           (
             record {
               drops = took;
-              keeps = λ n able. (did.stays_steady able.0, at_least_behind old new c.front.result.now n took able.1, omega (arith, able.2, count, kept));
+              keeps = λ n able. (did.stays_steady able.0, at_least_after old new c.front.result.now n took able.1, omega (arith, able.2, count, kept));
             },
             (did.stays_steady, omega (arith, kept)),
           ),
-          (kept, did.rest, λ short. absurd (not_short short)),
+          (kept, did.rest_unchanged, λ short. absurd (not_short short)),
         ),
       ),
       record { length = count; gives = tt; accepts = λ _. refl; refuses = tt; short = λ short. absurd (not_short short) },

@@ -1,4 +1,4 @@
--- The count, and then the elements.
+-- The count is written, and then the elements.
 use Rattle.postcard_ser.proofs.Elements.{elements_count}
 use Rattle.postcard_ser.proofs.PartByPart.{wrote_then, wrote_stop, wrote_err}
 use Rattle.postcard_ser.proofs.values.lists.RefSliceSerialize.serialize.Goals as goal

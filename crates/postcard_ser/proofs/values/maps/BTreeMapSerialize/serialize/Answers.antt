@@ -1,4 +1,4 @@
--- The count, and then the entries, which are those of a map in hand: in the order of their keys.
+-- The count is written, and then the entries, which are those of a map, in the order of their keys.
 use Rattle.std.proofs.Common.{arith}
 use Rattle.std.proofs.lemmas.Result.{on_ok_weaker}
 use Rattle.postcard_shape.proofs.Ordered.{inserted_itself}

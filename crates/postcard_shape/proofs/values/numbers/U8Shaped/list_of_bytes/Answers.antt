@@ -1,3 +1,4 @@
+-- The copy of the bytes has the same elements, so it is the list that they encode.
 use Rattle.std.proofs.Common.{◌≡◌, ◌∙◌}
 use Rattle.postcard_shape.proofs.Bytes.{are_bytes}
 use Rattle.postcard_shape.proofs.values.numbers.U8Shaped.list_of_bytes.Goals as goal

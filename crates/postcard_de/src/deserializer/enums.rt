@@ -1,0 +1,76 @@
+//! The calls for enums: the index of a variant, and the content of each kind of variant.
+
+ghost use Rattle.std.specs.Prelude.{◌≡◌, ◌<◌, ◌^◌, length, IfErr, Ok};
+ghost use Rattle.postcard_wire.specs.Number.{SpellsNum};
+ghost use Rattle.postcard_wire.specs.Spelling.{Spells};
+ghost use Rattle.postcard_de.specs.Reads.{Reads};
+ghost use Rattle.postcard_de.specs.Refuses.{Refuses, WantsDigit, BadNumber};
+ghost use Rattle.postcard_shape.specs.Values.{Same};
+ghost use Rattle.postcard_de.specs.Deserializer.{source_of};
+
+use crate::access::SeqAccess;
+use crate::deserialize::Deserialize;
+use crate::deserializer::Deserializer;
+use postcard_de_flavors::Flavor;
+use postcard_de_nodes::numbers;
+use postcard_wire::Result;
+use std::alloc::Global;
+
+impl<'de, F: Flavor> Deserializer<'de, F> {
+    /// Reads the index of an enum's variant: a varint of at most 5 bytes. The content is then read
+    /// by the call for its kind. The names aren't used.
+    ///
+    /// # Errors
+    ///
+    /// Fails with `DeserializeUnexpectedEnd` if the bytes end within the index, and with
+    /// `DeserializeBadVarint` if it has more than 5 bytes or 32 bits; 5 bytes are taken then. The
+    /// caller has to refuse an index that has no variant.
+    pub fn deserialize_enum(&mut self, _name: &str, _variants: &[&str]) -> Result<u32>
+        ensures reads { Reads F.Flavor (SpellsNum 32) (λ n. n < 2 ^ 32) Same ⊥
+            (source_of self.old) result (source_of self.new) }
+        ensures refused { IfErr result (λ e. Refuses F.Flavor (WantsDigit 32) (BadNumber 32)
+            (source_of self.old) e (source_of self.new)) }
+    {
+        let n = numbers::number(&mut self.flavor, 32)?;
+        Ok(n as u32)
+    }
+
+    /// Reads the content of a variant without content: nothing. Never fails.
+    pub fn unit_variant(&mut self) -> Result<()>
+        ensures reads { result ≡ Ok tt }
+        ensures unchanged { self.new ≡ self.old }
+    {
+        Ok(())
+    }
+
+    /// Reads the content of a variant that has one part.
+    ///
+    /// # Errors
+    ///
+    /// Fails as reading the content does.
+    pub fn newtype_variant<T: Deserialize<'de>>(&mut self, alloc: Global) -> Result<T>
+        ensures { Reads F.Flavor Spells T.shape.reads T.shape.value T.shape.grows
+            (source_of self.old) result (source_of self.new) }
+    {
+        T::deserialize(alloc, self)
+    }
+
+    /// Begins the content of a variant of `len` parts, which are then read by
+    /// [`next_element`](SeqAccess::next_element). Reads nothing, and never fails.
+    pub fn tuple_variant(&mut self, len: usize) -> Result<SeqAccess>
+        ensures parts { result ≡ Ok len }
+        ensures unchanged { self.new ≡ self.old }
+    {
+        Ok(SeqAccess::new(len))
+    }
+
+    /// Begins the content of a variant with these fields, which are then read by
+    /// [`next_element`](SeqAccess::next_element). Their names aren't used, only their number. Reads
+    /// nothing, and never fails.
+    pub fn struct_variant(&mut self, fields: &[&str]) -> Result<SeqAccess>
+        ensures parts { result ≡ Ok (length fields.now) }
+        ensures unchanged { self.new ≡ self.old }
+    {
+        Ok(SeqAccess::new(fields.len()))
+    }
+}

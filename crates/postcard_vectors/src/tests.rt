@@ -1,6 +1,0 @@
-//! The vectors and the rows.
-
-mod calls;
-mod examples;
-mod rows;
-mod vectors;
