@@ -2,6 +2,7 @@
 use Rattle.std.proofs.Common.{◌≡◌, ℕ, ◌+◌, ◌*◌, ◌%◌, ◌≤◌, arith, inl, inr, List, [], ◌∷◌, ◌++◌, Option, Some, None, length, take, drop, slice_index, refl, sym, ap, ◌∙◌}
 use Rattle.std.proofs.lemmas.List.{append_assoc, append-nil, take-append-drop}
 use Rattle.std.specs.Io.KnownBytes.{Appends}
+use Rattle.std.proofs.KnownBytes.{Appends-trans}
 use Rattle.std.specs.Prelude.{Result, Ok, Err, IsErr}
 use Rattle.std.specs.Result.{result_unwrap_or}
 use Rattle.std.proofs.lemmas.Bool.{cases_eq}
@@ -22,23 +23,11 @@ unfolding encode_with
 encode_with-append t [] ys = refl
 encode_with-append t (x ∷ xs) ys = rw (encode_with-append t xs ys) refl
 
--- A writer that is unchanged has written nothing.
-pub appends-none : (held : Option (List ℕ)) → Appends held held []
-appends-none None = tt
-appends-none (Some xs) = sym (append-nil xs)
-
--- Two writes in a row write both texts.
-pub appends-join : (a b c : Option (List ℕ)) (xs ys : List ℕ) → Appends a b xs → Appends b c ys → Appends a c (xs ++ ys)
-appends-join None b c xs ys first second = tt
-appends-join (Some front) None c xs ys first second = absurd first
-appends-join (Some front) (Some more) None xs ys first second = absurd second
-appends-join (Some front) (Some more) (Some all) xs ys first second = rw (second, first) (append_assoc front xs ys)
-
 -- Writing the digits of a piece after those before it writes the digits of both.
 pub appends-piece : (a b c : Option (List ℕ)) (xs ys : List ℕ) → Appends a b (encode_lower xs)
     → Appends b c (encode_lower ys) → Appends a c (encode_lower (xs ++ ys))
 appends-piece a b c xs ys first second =
-    rw (encode_with-append lower_digits xs ys) (appends-join a b c (encode_lower xs) (encode_lower ys) first second)
+    rw (encode_with-append lower_digits xs ys) (Appends-trans a b c (encode_lower xs) (encode_lower ys) first second)
 
 -- A list that is cut into a front done and a rest is cut further by cutting the rest.
 pub cut_again : (xs done rest front back : List ℕ) (n : ℕ) → xs ≡ done ++ rest → front ≡ take n rest → back ≡ drop n rest

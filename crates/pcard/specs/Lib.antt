@@ -2,4 +2,6 @@ pub mod Command
 pub mod Failure
 pub mod Frames
 pub mod Hexadecimal
+pub mod Message
+pub mod Stream
 pub mod Value

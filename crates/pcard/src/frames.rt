@@ -22,14 +22,14 @@ pub const CHUNK: usize = 16;
 pub const READS: usize = 65_536;
 
 /// Reads frames of lists of bytes until the input ends, and prints a line for each: `ok` and the
-/// bytes as hexadecimal, `error` for a frame with no such list, or `overfull` for a frame of more
-/// than 64 bytes, its zero included.
+/// bytes as hexadecimal, `error` for a frame with no such list or if the allocation for its bytes
+/// fails, or `overfull` for a frame of more than 64 bytes, its zero included.
 ///
 /// # Errors
 ///
 /// Fails with `Limit` if the input doesn't end within 65,536 reads, with `ReadFailed` if a read
-/// fails, and with `OutOfMemory` if an allocation fails; the lines of the frames until then are
-/// printed. Fails with `Output` if the output can't be written.
+/// fails, and with `OutOfMemory` if an allocation for an answer fails; the lines of the frames
+/// until then are printed. Fails with `Output` if the output can't be written.
 pub fn print<R: Source, W: Write>(
     alloc: Global,
     input: &mut R,

@@ -1,10 +1,11 @@
 //! Reading and writing bytes as hexadecimal digits, two for each byte, the high one first.
 
 ghost use Rattle.std.specs.Prelude.{◌≡◌, ◌≢◌, ◌≤◌, ◌⊎◌, length, IfOk, IfErr, OnOk, IsErr};
-ghost use Rattle.std.specs.Io.KnownBytes.{Appends};
+ghost use Rattle.std.specs.Io.KnownBytes.{Appends, Consumes, IsAtEnd};
 ghost use Rattle.hex.specs.Hex.{decode_of, encode_lower};
 ghost use Rattle.postcard_wire.specs.declared.error.Error.TheVariants.{OutOfMemory};
 ghost use Rattle.pcard.specs.Hexadecimal.{words_of, AreBytesOf, HasBadWord};
+ghost use Rattle.pcard.specs.Message.{StandsFor};
 
 use crate::failure::Failure;
 use crate::frames::READS;
@@ -54,7 +55,9 @@ pub fn read(alloc: Global, text: &str) -> Result<Vec<u8>, Failure>
 /// `Library(OutOfMemory)` if an allocation fails, with `ReadFailed` if a read of the input fails,
 /// and with `Limit` if the input doesn't end within [`READS`] reads.
 pub fn read_loose<R: Source>(alloc: Global, text: &str, input: &mut R) -> Result<Vec<u8>, Failure>
-    ensures { IfErr result (λ e. e ≢ Failure.Usage) }
+    ensures value { IfOk result (λ bytes. StandsFor text.now (R.remaining input.old)
+        (R.remaining input.new) bytes.items) }
+    ensures refused { IfErr result (λ e. e ≢ Failure.Usage) }
 {
     if text != "-" {
         return read_words(alloc, text);
@@ -86,11 +89,13 @@ fn read_words(alloc: Global, text: &str) -> Result<Vec<u8>, Failure>
 
 /// Returns all bytes of the input.
 fn read_input<R: Source>(alloc: Global, input: &mut R) -> Result<Vec<u8>, Failure>
-    ensures { IfErr result (λ e. e ≢ Failure.Usage) }
+    ensures all { IfOk result (λ held. Consumes (R.remaining input.old) (R.remaining input.new)
+        held.items × IsAtEnd (R.remaining input.new)) }
+    ensures refused { IfErr result (λ e. e ≢ Failure.Usage) }
 {
     let mut held = Vec::new(alloc);
     let mut chunk = [0; PIECE];
-    for _ in 0..READS {
+    'reads: for _ in 0..READS {
         let count = match input.read_some(&mut chunk) {
             Ok(count) => count,
             Err(_) => return Err(Failure::ReadFailed),
@@ -98,9 +103,7 @@ fn read_input<R: Source>(alloc: Global, input: &mut R) -> Result<Vec<u8>, Failur
         if count == 0 {
             return Ok(held);
         }
-        for byte in chunk.iter().take(count) {
-            held.push(*byte)?;
-        }
+        held.extend_from_slice(&chunk[..count])?;
     }
     Err(Failure::Limit)
 }

@@ -9,6 +9,7 @@ ghost use Rattle.postcard_dyn_schema.specs.Meaning.{type_of, reads};
 ghost use Rattle.postcard_dyn_schema.specs.declared.schema.Schema.{Schema};
 ghost use Rattle.postcard_dyn.specs.Tree.{tree};
 ghost use Rattle.postcard_dyn.specs.declared.value.Value.{Value};
+ghost use Rattle.pcard.specs.Message.{line_of, Prints, PrintsAll, PrintsFirst, ReadsValue};
 
 use crate::failure::Failure;
 use crate::hexadecimal;
@@ -16,7 +17,7 @@ use crate::program::BUFFER;
 use postcard::Error;
 use postcard::de_flavors::Source;
 use postcard::ser_flavors::HVec;
-use postcard_dyn::{Problem, Schema, parse, refused_at, take_from_bytes, to_flavor};
+use postcard_dyn::{Problem, Schema, Value, parse, refused_at, take_from_bytes, to_flavor};
 use postcard_dyn_text::{Shown, TextError, read_text};
 use std::alloc::Global;
 use std::io::Write;
@@ -93,7 +94,9 @@ pub fn decode<R: Source, W: Write>(
     input: &mut R,
     output: &mut W,
 ) -> Result<(), Failure>
-    ensures { IfErr result (λ e. e ≢ Failure.Usage) }
+    ensures printed { OnOk result (PrintsFirst expression.now hex.now (R.remaining input.old)
+        (R.remaining input.new) (W.contents output.old) (W.contents output.new)) }
+    ensures refused { IfErr result (λ e. e ≢ Failure.Usage) }
 {
     let schema = schema_of(alloc, expression, output)?;
     let bytes = hexadecimal::read_loose(alloc, hex, input)?;
@@ -116,7 +119,9 @@ pub fn decode_all<R: Source, W: Write>(
     input: &mut R,
     output: &mut W,
 ) -> Result<(), Failure>
-    ensures { IfErr result (λ e. e ≢ Failure.Usage) }
+    ensures printed { OnOk result (PrintsAll expression.now hex.now (R.remaining input.old)
+        (R.remaining input.new) (W.contents output.old) (W.contents output.new)) }
+    ensures refused { IfErr result (λ e. e ≢ Failure.Usage) }
 {
     let schema = schema_of(alloc, expression, output)?;
     if !schema.has_bytes() {
@@ -126,10 +131,7 @@ pub fn decode_all<R: Source, W: Write>(
     let bytes = hexadecimal::read_loose(alloc, hex, input)?;
     let all = bytes.as_slice();
     let mut rest = all;
-    for _ in 0..all.len() {
-        if rest.is_empty() {
-            break;
-        }
+    'values: while !rest.is_empty() {
         rest = print_front(alloc, &schema, all, rest, output)?;
     }
     Ok(())
@@ -145,15 +147,14 @@ fn print_front<'a, W: Write>(
     rest: &'a [u8],
     output: &mut W,
 ) -> Result<&'a [u8], Failure>
-    ensures { IfErr result (λ e. e ≢ Failure.Usage) }
+    ensures printed { IfOk result (λ after. (value : Value)
+        × ReadsValue schema.now rest.now value after.now
+        × Prints (line_of schema.now value) (W.contents output.old) (W.contents output.new)) }
+    ensures refused { IfErr result (λ e. e ≢ Failure.Usage) }
 {
     match take_from_bytes(alloc, schema, rest) {
         Ok((value, after)) => {
-            let shown = Shown {
-                schema,
-                value: &value,
-            };
-            writeln!(output, "{shown}")?;
+            print_value(schema, &value, output)?;
             Ok(after)
         }
         Err(error) => {
@@ -163,4 +164,15 @@ fn print_front<'a, W: Write>(
             Err(Failure::from(error))
         }
     }
+}
+
+/// Prints a value on a line.
+pub fn print_value<W: Write>(schema: &Schema, value: &Value, output: &mut W) -> Result<(), Failure>
+    ensures printed { OnOk result (Prints (line_of schema.now value.now)
+        (W.contents output.old) (W.contents output.new)) }
+    ensures refused { IfErr result (λ e. e ≡ Failure.Output) }
+{
+    let shown = Shown { schema, value };
+    writeln!(output, "{shown}")?;
+    Ok(())
 }

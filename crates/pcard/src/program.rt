@@ -37,8 +37,8 @@ enum Task<'a> {
 /// - 1 if the library fails to encode or decode, or if an allocation fails, except one for the
 ///   frames of `frames`;
 /// - 2 if the words are no call, or if TYPE, VALUE or HEX is wrong;
-/// - 3 if the input isn't read to its end, if an allocation for the frames of `frames` fails, or,
-///   whatever else happened, if the output can't be written.
+/// - 3 if the input isn't read to its end, if an allocation for an answer or a value of `frames`
+///   fails, or, whatever else happened, if the output can't be written.
 ///
 /// The input is read by `frames`, and for a HEX of `-` if TYPE is an expression.
 pub fn run<R: Source, W: Write>(

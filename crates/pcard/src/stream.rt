@@ -1,25 +1,22 @@
 //! The command `frames TYPE`, which prints the values of a stream of frames, each on a line.
 
-ghost use Rattle.std.specs.Prelude.{◌≢◌, IfErr};
+ghost use Rattle.std.specs.Prelude.{◌≡◌, ◌≢◌, IfOk, IfErr, OnOk};
+ghost use Rattle.postcard_accumulator.specs.Feeding.{IsFed, IsReadOf};
+ghost use Rattle.postcard_dyn_schema.specs.Grammar.{IsExpression};
+ghost use Rattle.postcard_dyn_schema.specs.Meaning.{type_of};
+ghost use Rattle.postcard_dyn_schema.specs.declared.schema.Schema.{Schema};
+ghost use Rattle.postcard_dyn.specs.Shape.{shape_of};
+ghost use Rattle.pcard.specs.Stream.{PrintsPiece, PrintsValues};
 
 use crate::failure::Failure;
 use crate::frames::{CHUNK, LONGEST_FRAME, READS};
-use crate::message::schema_of;
+use crate::message::{print_value, schema_of};
 use postcard::Error;
 use postcard::de_flavors::Source;
-use postcard_cobs::decode_in_place;
-use postcard_dyn::{Schema, take_from_bytes};
-use postcard_dyn_text::Shown;
+use postcard_accumulator::{CobsAccumulator, FeedResult, Taken};
+use postcard_dyn::{Schema, Value, take_from_bytes};
 use std::alloc::Global;
 use std::io::Write;
-
-/// The state of the receiver: the bytes held of a frame that hasn't ended, and whether an oversized
-/// frame is being skipped.
-#[derive(Drop)]
-struct Receiver {
-    held: Vec<u8>,
-    skips: bool,
-}
 
 /// Reads frames of messages of the type until the input ends, and prints a line for each: its
 /// value, `error` for a frame with no such message, or `overfull` for a frame of more than 64
@@ -28,23 +25,23 @@ struct Receiver {
 /// # Errors
 ///
 /// Fails with `BadType` if the expression is misspelled, with `Library(OutOfMemory)` if an
-/// allocation fails while it is read, and else as [`crate::frames::print`] does. The lines of the
-/// frames before an error are printed.
+/// allocation fails while it is read, with `OutOfMemory` if one for a value fails, and else as
+/// [`crate::frames::print`] does. The lines of the frames before an error are printed.
 pub fn print<R: Source, W: Write>(
     alloc: Global,
     expression: &str,
     input: &mut R,
     output: &mut W,
 ) -> Result<(), Failure>
-    ensures { IfErr result (λ e. e ≢ Failure.Usage) }
+    ensures printed { OnOk result ((schema : Schema) × IsExpression schema expression.now
+        × PrintsValues schema (R.remaining input.old) (R.remaining input.new)
+        (W.contents output.old) (W.contents output.new)) }
+    ensures refused { IfErr result (λ e. e ≢ Failure.Usage) }
 {
     let schema = schema_of(alloc, expression, output)?;
-    let mut receiver = Receiver {
-        held: Vec::new(alloc),
-        skips: false,
-    };
+    let mut accumulator = CobsAccumulator::<LONGEST_FRAME>::new();
     let mut chunk = [0; CHUNK];
-    for _ in 0..READS {
+    'reads: for _ in 0..READS {
         let count = match input.read_some(&mut chunk) {
             Ok(count) => count,
             Err(_) => return Err(Failure::ReadFailed),
@@ -52,68 +49,93 @@ pub fn print<R: Source, W: Write>(
         if count == 0 {
             return Ok(());
         }
-        for byte in chunk.iter().take(count) {
-            feed(alloc, &schema, *byte, &mut receiver, output)?;
-        }
+        print_piece(alloc, &schema, &chunk[..count], &mut accumulator, output)?;
     }
     Err(Failure::Limit)
 }
 
-/// Takes one byte of the stream, and prints a line if the frame ends or has no room.
-fn feed<W: Write>(
+/// Feeds a piece of the stream, and prints a line for each answer.
+fn print_piece<W: Write>(
     alloc: Global,
     schema: &Schema,
-    byte: u8,
-    receiver: &mut Receiver,
+    piece: &[u8],
+    accumulator: &mut CobsAccumulator<LONGEST_FRAME>,
     output: &mut W,
 ) -> Result<(), Failure>
-    ensures { IfErr result (λ e. e ≢ Failure.Usage) }
+    ensures printed { OnOk result (PrintsPiece schema.now accumulator.old piece.now
+        accumulator.new (W.contents output.old) (W.contents output.new)) }
+    ensures refused { IfErr result (λ e. e ≢ Failure.Usage) }
 {
-    if receiver.skips {
-        receiver.skips = byte != 0;
-        return Ok(());
+    accumulator.held_fits();
+    let mut rest = piece;
+    'feeds: while !rest.is_empty() {
+        accumulator.held_fits();
+        match feed(alloc, schema, rest, accumulator)? {
+            FeedResult::Consumed => {
+                return Ok(());
+            }
+            FeedResult::OverFull(after) => {
+                output.write_all(b"overfull\n")?;
+                rest = after;
+            }
+            FeedResult::DeserError(after) => {
+                output.write_all(b"error\n")?;
+                rest = after;
+            }
+            FeedResult::Success { value, remaining } => {
+                print_value(schema, &value, output)?;
+                rest = remaining;
+            }
+        }
     }
-    if receiver.held.len() >= LONGEST_FRAME {
-        receiver.held.clear();
-        receiver.skips = byte != 0;
-        output.write_all(b"overfull\n")?;
-        return Ok(());
-    }
-    if byte != 0 {
-        return match receiver.held.push(byte) {
-            Ok(()) => Ok(()),
-            Err(_) => Err(Failure::OutOfMemory),
-        };
-    }
-    print_frame(alloc, schema, &mut receiver.held, output)?;
-    receiver.held.clear();
     Ok(())
 }
 
-/// Prints the value of a frame, which is given without its zero, or `error` if it has none. Fails
-/// with `OutOfMemory` if an allocation for the value fails.
-fn print_frame<W: Write>(
+/// Takes in a piece of the stream up to the end of a frame, and reads that frame's value.
+///
+/// # Errors
+///
+/// Fails with `OutOfMemory` if an allocation for the value fails.
+fn feed<'a>(
     alloc: Global,
     schema: &Schema,
-    frame: &mut Vec<u8>,
-    output: &mut W,
-) -> Result<(), Failure>
-    ensures { IfErr result (λ e. e ≢ Failure.Usage) }
+    piece: &'a [u8],
+    accumulator: &mut CobsAccumulator<LONGEST_FRAME>,
+) -> Result<FeedResult<'a, Value>, Failure>
+    ensures fed { IfOk result (λ answer. IsFed 64 (shape_of (type_of schema.now))
+        accumulator.old piece.now answer accumulator.new) }
+    ensures refused { IfErr result (λ e. e ≡ Failure.OutOfMemory) }
 {
-    if let Ok(length) = decode_in_place(frame) {
-        match take_from_bytes(alloc, schema, &frame[..length]) {
-            Ok((value, _)) => {
-                let shown = Shown {
-                    schema,
-                    value: &value,
-                };
-                writeln!(output, "{shown}")?;
-                return Ok(());
-            }
-            Err(Error::OutOfMemory) => return Err(Failure::OutOfMemory),
-            Err(_) => {}
-        }
+    let taken = accumulator.take_in(piece);
+    value_of(alloc, schema, taken)
+}
+
+/// Reads the value of what a piece completed: `DeserError` if it is no frame, or if its data begins
+/// with no message of the type.
+///
+/// # Errors
+///
+/// Fails with `OutOfMemory` if an allocation for the value fails.
+fn value_of<'a>(
+    alloc: Global,
+    schema: &Schema,
+    taken: Taken<'_, 'a>,
+) -> Result<FeedResult<'a, Value>, Failure>
+    ensures read { IfOk result (λ answer.
+        IsReadOf (shape_of (type_of schema.now)) taken.entry answer) }
+    ensures refused { IfErr result (λ e. e ≡ Failure.OutOfMemory) }
+{
+    match taken {
+        Taken::Consumed => Ok(FeedResult::Consumed),
+        Taken::OverFull(rest) => Ok(FeedResult::OverFull(rest)),
+        Taken::Refused(rest) => Ok(FeedResult::DeserError(rest)),
+        Taken::Message(data, rest) => match take_from_bytes(alloc, schema, data) {
+            Ok((value, _)) => Ok(FeedResult::Success {
+                value,
+                remaining: rest,
+            }),
+            Err(Error::OutOfMemory) => Err(Failure::OutOfMemory),
+            Err(_) => Ok(FeedResult::DeserError(rest)),
+        },
     }
-    output.write_all(b"error\n")?;
-    Ok(())
 }

@@ -384,7 +384,7 @@ fn reads_frames(rt: HostRuntime) -> Result<(), Fail> {
 }
 
 #[test]
-fn stops_after_so_many_reads(rt: HostRuntime) -> Result<(), Fail> {
+fn stops_after_65536_reads(rt: HostRuntime) -> Result<(), Fail> {
     let mut long = Vec::new(rt.alloc());
     for _ in 0..65_535u32 {
         long.extend_from_slice(&[1; 16])?;

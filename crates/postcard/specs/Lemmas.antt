@@ -33,7 +33,7 @@ pub use Rattle.postcard_de_nodes.specs.CompoundLemmas.{Compound, first_refused, 
 pub use Rattle.postcard_de_nodes.specs.SeenLemmas.{recast, refused_too, passed_on}
 pub use Rattle.postcard_de_nodes.specs.ReadLemmas.{out_of_memory}
 -- Elements that are read one by one, after their count or without one.
-pub use Rattle.postcard_de.proofs.Lists.{behind, Going, going, goes_on, going_stops, going_full, going_done}
+pub use Rattle.postcard_de.proofs.Lists.{prefixed, Going, going, goes_on, going_stops, going_full, going_done}
 pub use Rattle.postcard_de_nodes.specs.CountLemmas.{list_read, list_refused, count_refused}
 pub use Rattle.postcard_de.proofs.Parts.{part_and_rest}
 -- How a value that is made of others is read: its parts from left to right, of which the first that
@@ -45,6 +45,11 @@ pub use Rattle.postcard_de.proofs.Parts.{struct_read, struct_fails}
 pub use Rattle.postcard_de.proofs.Enums.{index_refused, content_refused, variant_read}
 pub use Rattle.postcard_de.proofs.Enums.{unknown_index}
 pub use Rattle.postcard_de_nodes.specs.SeenLemmas.{no_room}
+-- A reading loop of a caller: the state within a piece that is fed, the answers of bytes in a row,
+-- and when a feed may return `DeserError`.
+pub use Rattle.postcard_accumulator.proofs.ReadLoop.{AtWindow, at_start, at_next, at_end, shorter}
+pub use Rattle.postcard_accumulator.proofs.Joining.{joined_law}
+pub use Rattle.postcard_accumulator.proofs.Holding.{read_refused, read_err}
 
 -- A `u16`, that is, a number below 2^16, takes at most 3 bytes.
 pub u16_len : (n : ℕ) → n < 2 ^ 16 → length (digits n) ≤ 3

@@ -57,7 +57,8 @@ pub fn to_vec_cobs<T: Serialize, const B: usize>(value: &T) -> Result<ArrayVec<u
 }
 
 /// Encodes a value as a frame into the front of `buf`, and returns that front, which is the frame
-/// with its sentinel. The bytes after it are unchanged. Nothing is allocated.
+/// with its sentinel. Nothing is allocated. The bytes after it are unchanged: tests show this, and
+/// [`fill_slice_cobs`] says it in its contract.
 ///
 /// # Errors
 ///

@@ -22,7 +22,7 @@
 //!   and `take_from_bytes_cobs` from a frame in place (all of `postcard_frame`); `from_io` reads it
 //!   from a reader (module `de`).
 //! - `CobsAccumulator` puts frames together from the pieces of a stream (module `accumulator`), and
-//!   `read_frames` reads all frames of a reader (both of `postcard_accumulator`).
+//!   `read_frames` reads the frames of a reader (both of `postcard_accumulator`).
 //! - `fixint` writes and reads numbers at their full width, the lowest or the highest byte first
 //!   (all of `postcard_fixint`).
 //! - `laws` has the laws that tie both directions together.

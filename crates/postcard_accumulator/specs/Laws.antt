@@ -49,6 +49,7 @@ AnswersAreOne {T} shape = ¬ shape.grows →
     (n : ℕ) (c d e : State) (s : List ℕ) (a b : List (Answer T))
     → Answers n shape c s a d → Answers n shape c s b e → AreAlike shape a b × (d ≡ e)
 
+-- There are no bytes, or the last is zero.
 abbrev pub EndsInZero : List ℕ → Type 0
 EndsInZero s = (s ≡ []) ⊎ ((w : List ℕ) × (s ≡ w ++ 0 ∷ []))
 

@@ -78,8 +78,8 @@ impl<const N: usize> CobsAccumulator<N> {
         }
     }
 
-    /// Returns `true` if an oversized frame is being skipped: `OverFull` was returned, and its
-    /// zero hasn't come yet.
+    /// Returns `true` if an oversized frame is being skipped: `OverFull` was returned, and the
+    /// frame's zero hasn't come yet.
     pub fn skipping(&self) -> bool
         ensures { result ≡ is_skipping self.now }
     {
@@ -98,7 +98,7 @@ impl<const N: usize> CobsAccumulator<N> {
     /// Adds the bytes of `input` to those held. They must have room and no zero among them, and the
     /// accumulator must not be skipping a frame.
     fn extend(&mut self, input: &[u8])
-        requires holds { is_skipping self.old ≡ false }
+        requires not_skipping { is_skipping self.old ≡ false }
         requires room { length (held_of self.old) + length input.now ≤ N }
         requires no_zero { NoZero input.now }
         ensures { self.new ≡ holding (held_of self.old ++ input.now) }

@@ -6,7 +6,7 @@
 /// Feed them next.
 #[derive(Drop)]
 pub enum FeedResult<'a, T> {
-    /// All of the piece was consumed, and no frame ended.
+    /// All of the piece was consumed, and no frame ended except one that was being skipped.
     Consumed,
     /// A frame has no room in the accumulator. It is dropped up to and including the zero that ends
     /// it, which may come in a later piece.

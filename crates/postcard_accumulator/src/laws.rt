@@ -18,8 +18,8 @@ pub fn joined<T: DeserializeOwned>()
     ensures { Joined T.shape }
 {}
 
-/// If `u` and `x` are each empty or end in a zero, the answers of `u`, `x` and `v` in a row are
-/// those of `u`, of `x` and of `v`.
+/// If `u` and `x` are each empty or end in a zero, then in an accumulator that holds nothing the
+/// answers of `u`, `x` and `v` in a row are those of `u`, of `x` and of `v`.
 pub fn split<T: DeserializeOwned>()
     ensures { Split T.shape }
 {}
@@ -46,14 +46,15 @@ pub fn nothing_after_zero<T: DeserializeOwned>()
     ensures { NothingAfterZero T.shape }
 {}
 
-/// Every stream is frames, each ended by a zero, and a rest without a zero, in one way.
+/// Every stream is frames, each ended by a zero, and a rest without a zero, in exactly one
+/// way.
 pub fn frames_are_one()
     ensures { FramesAreOne }
 {}
 
-/// Values that were encoded as frames that have room come back in order, whatever oversized frames
-/// are between them: the answer to each is `Success` with a value that looks like it, or
-/// `DeserError` if its type grows.
+/// In an accumulator that holds nothing, values that were encoded as frames that have room come
+/// back in order, whatever oversized frames are between them: the answer to each is `Success` with
+/// a value that looks like it, or `DeserError` if its type grows.
 pub fn messages_arrive<T: DeserializeOwned>()
     ensures { MessagesArrive T.shape }
 {}

@@ -11,7 +11,7 @@ use std::alloc::Global;
 /// are the bytes of the piece that weren't taken in.
 #[derive(Drop)]
 pub enum Taken<'de, 'a> {
-    /// All of the piece was consumed, and no frame ended.
+    /// All of the piece was consumed, and no frame ended except one that was being skipped.
     Consumed,
     /// A frame has no room in the accumulator.
     OverFull(&'a [u8]),

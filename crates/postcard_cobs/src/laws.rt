@@ -5,7 +5,7 @@ ghost use Rattle.postcard_cobs.specs.Laws.{DataIsOne, HasNoZero, MadeIsMade, Mad
 ghost use Rattle.postcard_cobs.specs.Laws.{MadeLength, BoundIsReached, ReachesBound, MadeDecodes};
 ghost use Rattle.postcard_cobs.specs.Laws.{OpenFinishes, OpenLength, MadeByLastCode, OpenByParts};
 
-/// A frame is the frame of one data only.
+/// No frame is a frame of two different data.
 pub fn data_is_one()
     ensures { DataIsOne }
 {}
@@ -57,7 +57,7 @@ pub fn open_length()
     ensures { OpenLength }
 {}
 
-/// A frame with a zero added is the made frame of its data exactly if its last code isn't 255.
+/// A frame with a zero added is the made frame of its data if and only if its last code isn't 255.
 pub fn made_by_last_code()
     ensures { MadeByLastCode }
 {}

@@ -16,9 +16,9 @@ use Rattle.postcard_de_nodes.specs.CompoundLemmas.{Compound, first_refused, seco
 use Rattle.postcard_de_nodes.specs.CompoundLemmas.{both_read}
 
 -- The values us, read before, in front of those that the result has, or its error.
-abbrev pub behind : {V : Type 0} → List V → Result (List V) Error → Result (List V) Error
-behind us (Ok vs) = Ok (us ++ vs)
-behind us (Err e) = Err e
+abbrev pub prefixed : {V : Type 0} → List V → Result (List V) Error → Result (List V) Error
+prefixed us (Ok vs) = Ok (us ++ vs)
+prefixed us (Err e) = Err e
 
 -- Trees in a row are made of one and the rest.
 pub one_and_rest : {V : Type 0} (R : Tree → Type 0) (I : Tree → V → Type 0) (n : ℕ) →
@@ -42,7 +42,7 @@ pub record Going {S V : Type 0} (left : S → Option (List ℕ)) (able : S → �
     (start : S) (all : ℕ) (items : List V) (now : S) (rest : ℕ) : Type 0 where
   pub ends : (r : Result (List V) Error) (new : S) →
       ReadsFrom SpellsAll (AreRead rest R) (EachIs I) H left able may_leave now r new →
-      ReadsFrom SpellsAll (AreRead all R) (EachIs I) H left able may_leave start (behind items r)
+      ReadsFrom SpellsAll (AreRead all R) (EachIs I) H left able may_leave start (prefixed items r)
       new
 
 module _ {S V : Type 0} {left : S → Option (List ℕ)} {able : S → ℕ → Type 0}
@@ -54,7 +54,7 @@ module _ {S V : Type 0} {left : S → Option (List ℕ)} {able : S → ℕ → T
     where
       ends : (r : Result (List V) Error) (new : S) →
           ReadsFrom SpellsAll (AreRead all R) (EachIs I) H left able may_leave start r new →
-          ReadsFrom SpellsAll (AreRead all R) (EachIs I) H left able may_leave start (behind [] r)
+          ReadsFrom SpellsAll (AreRead all R) (EachIs I) H left able may_leave start (prefixed [] r)
           new
       ends (Ok vs) new h = h
       ends (Err e) new h = h
@@ -70,7 +70,7 @@ module _ {S V : Type 0} {left : S → Option (List ℕ)} {able : S → ℕ → T
       ends : (r : Result (List V) Error) (new : S) →
           ReadsFrom SpellsAll (AreRead rest R) (EachIs I) H left able may_leave mid r new →
           ReadsFrom SpellsAll (AreRead all R) (EachIs I) H left able may_leave start
-          (behind (items ++ v ∷ []) r) new
+          (prefixed (items ++ v ∷ []) r) new
       ends (Ok vs) new k = rw (append_assoc items (v ∷ []) vs)
           (so.ends (Ok (v ∷ vs)) new (both_read laws (one_and_rest R I rest) (λ t ts i j. (i, j)) h
           k))

@@ -67,8 +67,8 @@ impl SeqAccess {
         Ok(Some(value))
     }
 
-    /// Returns the number of elements left, or `None` if the source is known to have fewer bytes
-    /// than that.
+    /// Returns the number of elements left, or `None` if the source's `size_hint` is less than
+    /// that.
     pub fn size_hint<'de, F: Flavor>(&self, d: &Deserializer<'de, F>) -> Option<usize>
         ensures few { (bytes : ℕ) → F.hint (source_of d.now) ≡ Some bytes → bytes < self.now →
             result ≡ None }

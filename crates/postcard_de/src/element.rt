@@ -25,18 +25,18 @@ pub(crate) trait Element<'de, T: Shaped + Drop> {
 }
 
 /// Reads a `T` by [`Deserialize`].
-pub(crate) struct Lent;
+pub(crate) struct ByDeserialize;
 
-impl<'de, T: Deserialize<'de>> Element<'de, T> for Lent {
+impl<'de, T: Deserialize<'de>> Element<'de, T> for ByDeserialize {
     fn element<F: Flavor>(alloc: Global, d: &mut Deserializer<'de, F>) -> Result<T> {
         T::deserialize(alloc, d)
     }
 }
 
 /// Reads a `T` by [`DeserializeOwned`].
-pub(crate) struct Kept;
+pub(crate) struct ByDeserializeOwned;
 
-impl<'de, T: DeserializeOwned> Element<'de, T> for Kept {
+impl<'de, T: DeserializeOwned> Element<'de, T> for ByDeserializeOwned {
     fn element<F: Flavor>(alloc: Global, d: &mut Deserializer<'de, F>) -> Result<T> {
         T::deserialize_owned(alloc, d)
     }

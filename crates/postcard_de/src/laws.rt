@@ -19,6 +19,6 @@ pub fn one_message<'de, T: Deserialize<'de>>()
 /// no other front spells a tree that the type reads, and it spells no other such tree.
 pub fn read_again<'de, T: Deserialize<'de>>()
     ensures spelled { (t : Tree) → T.shape.reads t → Spells t (canonical t) }
-    ensures only { (t s : Tree) (p rest left : List ℕ) → T.shape.reads t → T.shape.reads s →
-        Spells s p → p ++ left ≡ canonical t ++ rest → (s ≡ t) × (p ≡ canonical t) × (left ≡ rest) }
+    ensures no_other_front { (t s : Tree) (p rest left : List ℕ) → T.shape.reads t →
+        T.shape.reads s → Spells s p → p ++ left ≡ canonical t ++ rest → (s ≡ t) × (p ≡ canonical t) × (left ≡ rest) }
 {}

@@ -10,10 +10,11 @@
 //! A struct is read as the tuple of its fields and an enum as its variants in a row ([`FromRepr`]),
 //! with no proof of their own.
 //!
-//! In reading order: [`deserialize`] has the trait, [`deserializer`] the calls for one node, which
-//! are made of the functions of `postcard_de_nodes`, [`access`] and [`map_access`] those for the
-//! elements of a list and the pairs of a map, [`values`] the types, [`laws`] what holds of every
-//! type that is read.
+//! In reading order: [`deserialize`] has the trait, [`owned`] that of types that borrow nothing,
+//! [`repr`] how a type is read as another, [`rows`] and [`cases`] what tuples and enums are read
+//! as; [`deserializer`] the calls for one node, which are made of the functions of
+//! `postcard_de_nodes`, [`access`] and [`map_access`] those for the elements of a list and the
+//! pairs of a map, [`values`] the types, [`laws`] what holds of every type that is read.
 #![tactic(auto)]
 
 pub mod access;

@@ -11,10 +11,10 @@ use postcard_shape::Repr;
 use postcard_wire::Result;
 use std::alloc::Global;
 
-/// A type that is read as another, `Repr::As`, of whose values its own are made. It has
+/// A type that is read as another, `Repr::As`, and is made from a value of that. It has
 /// `Deserialize` if `As` has it, and `DeserializeOwned` likewise.
 pub trait FromRepr: Repr<As: Drop> + Sized + Drop {
-    /// Returns a value that is seen as `repr`.
+    /// Makes a value from the one that was read, as which it is seen.
     fn from_repr(repr: Self::As) -> Self
         ensures { Self.repr result ≡ repr };
 }

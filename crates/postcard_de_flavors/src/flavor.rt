@@ -48,9 +48,10 @@ pub trait Flavor: Drop {
         ensures gives { IfOk result (λ b. Takes left able self.old (b ∷ []) self.new) }
         ensures accepts { able self.old 1 → IsOk result }
         ensures leaves { may_leave self.old self.new }
-        ensures refuses { IfErr result (λ e. e ≡ Error.DeserializeUnexpectedEnd) };
+        ensures refuses_by_unexpected_end { IfErr result
+            (λ e. e ≡ Error.DeserializeUnexpectedEnd) };
 
-    /// Returns the number of bytes left, or `None` if the source doesn't know it.
+    /// Returns a hint of the number of bytes left, or `None`. No law ties it to the bytes.
     fn size_hint(&self) -> Option<usize>
         ensures { result ≡ hint self.now };
 
@@ -77,7 +78,8 @@ pub trait Flavor: Drop {
         ensures gives { IfOk result (λ front. Takes left able self.old front.now self.new) }
         ensures accepts { able self.old ct → IsOk result }
         ensures leaves { may_leave self.old self.new }
-        ensures refuses { IfErr result (λ e. e ≡ Error.DeserializeUnexpectedEnd) };
+        ensures refuses_by_unexpected_end { IfErr result
+            (λ e. e ≡ Error.DeserializeUnexpectedEnd) };
 
     /// Takes the next `ct` bytes. The slice is valid until the next call on this source.
     ///
@@ -90,7 +92,8 @@ pub trait Flavor: Drop {
         ensures* gives { sem 𝓛 (Rests Self.row self.entry
             (LendsFront left able may_leave self.old result)) }
         ensures accepts { able self.old ct → IsOk result }
-        ensures refuses { IfErr result (λ e. e ≡ Error.DeserializeUnexpectedEnd) };
+        ensures refuses_by_unexpected_end { IfErr result
+            (λ e. e ≡ Error.DeserializeUnexpectedEnd) };
 
     /// Ends reading, and returns what is left of the source, or an error, as `finishes` says.
     fn finalize(self) -> Result<Self::Remainder>

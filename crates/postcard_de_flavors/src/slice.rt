@@ -71,7 +71,7 @@ impl<'de> Flavor for Slice<'de> {
         ensures gives { IfOk result (λ b. Takes ⟦<Slice<'de> as Flavor>⟧.left
             ⟦<Slice<'de> as Flavor>⟧.able self.old (b ∷ []) self.new) }
         ensures leaves { ⟦<Slice<'de> as Flavor>⟧.may_leave self.old self.new }
-        ensures refuses { IfErr result (λ e. e ≡ Error.DeserializeUnexpectedEnd) }
+        ensures refuses_by_unexpected_end { IfErr result (λ e. e ≡ Error.DeserializeUnexpectedEnd) }
         ensures succeeds_iff_enough { IsOk result ↔ (1 ≤ length self.old) }
         ensures unchanged { OnErr result (self.new ≡ self.old) }
     {
@@ -111,7 +111,7 @@ impl<'de> Flavor for Slice<'de> {
         ensures gives { IfOk result (λ front. Takes ⟦<Slice<'de> as Flavor>⟧.left
             ⟦<Slice<'de> as Flavor>⟧.able self.old front.now self.new) }
         ensures leaves { ⟦<Slice<'de> as Flavor>⟧.may_leave self.old self.new }
-        ensures refuses { IfErr result (λ e. e ≡ Error.DeserializeUnexpectedEnd) }
+        ensures refuses_by_unexpected_end { IfErr result (λ e. e ≡ Error.DeserializeUnexpectedEnd) }
         ensures succeeds_iff_enough { IsOk result ↔ (ct ≤ length self.old) }
         ensures unchanged { OnErr result (self.new ≡ self.old) }
     {
@@ -132,7 +132,7 @@ impl<'de> Flavor for Slice<'de> {
         ensures length { IfOk result (λ front. length front.now ≡ ct) }
         ensures* gives { sem 𝓛 (Rests (the_row (record { mir = named 1; lft = [] })) self.entry
             (LeavesRest self.old result)) }
-        ensures refuses { IfErr result (λ e. e ≡ Error.DeserializeUnexpectedEnd) }
+        ensures refuses_by_unexpected_end { IfErr result (λ e. e ≡ Error.DeserializeUnexpectedEnd) }
         ensures succeeds_iff_enough { IsOk result ↔ (ct ≤ length self.old) }
     {
         // The code of `try_take_n`, once more for the prover: through a call of it, the prover

@@ -20,7 +20,7 @@ use Rattle.postcard_de_nodes.specs.Unfit.{WantsChar, BadChar}
 use Rattle.postcard_shape.specs.Values.{Same}
 use Rattle.postcard_de_nodes.specs.TakeLemmas.{both_taken}
 use Rattle.postcard_de_nodes.specs.ReadLemmas.{Excludes, found, refused, refusal, widened}
-use Rattle.postcard_de_nodes.specs.ReadLemmas.{behind_front}
+use Rattle.postcard_de_nodes.specs.ReadLemmas.{ends_after_front}
 use Rattle.postcard_de_nodes.specs.NumberLemmas.{Below, number_below, number_spelled}
 use Rattle.postcard_de_nodes.proofs.TextLemmas.{facing_length}
 
@@ -103,7 +103,7 @@ module _ {S : Type 0} {left : S → Option (List ℕ)} {able : S → ℕ → Typ
   pub char_ends : {new : S} {e : Error} → n ≤ 4 → (able mid n → ⊥) → e ≡ DeserializeUnexpectedEnd →
       RefusesFrom WantsChar BadChar left able old e new
   char_ends few lacks is =
-      behind_front counted.gives.taken (inr (number_spelled laws counted, few)) lacks is
+      ends_after_front counted.gives.taken (inr (number_spelled laws counted, few)) lacks is
 
   module _ {u : List ℕ} {new : S} (few : n ≤ 4) (long : length u ≡ n)
       (t : Takes left able mid u new) where

@@ -19,7 +19,7 @@ use Rattle.postcard_de_nodes.specs.Refuses.{RefusesFrom, WantsDigit, BadNumber, 
 use Rattle.postcard_shape.specs.Values.{Same}
 use Rattle.postcard_de_nodes.specs.TakeLemmas.{both_taken}
 use Rattle.postcard_de_nodes.specs.ReadLemmas.{Excludes, found, refused, refusal, widened}
-use Rattle.postcard_de_nodes.specs.ReadLemmas.{behind_front}
+use Rattle.postcard_de_nodes.specs.ReadLemmas.{ends_after_front}
 use Rattle.postcard_de_nodes.specs.NumberLemmas.{Below, number_below, number_spelled}
 
 -- If q is the length a and the bytes u, what begins with q begins with a and then with u.
@@ -87,7 +87,7 @@ module _ {S : Type 0} {left : S → Option (List ℕ)} {able : S → ℕ → Typ
   -- If the bytes after the length can't be taken, that is a reason to fail.
   pub text_ends : {G : Type 0} {new : S} {e : Error} → (able mid n → ⊥) →
       e ≡ DeserializeUnexpectedEnd → RefusesFrom WantsText (BadText G) left able old e new
-  text_ends lacks is = behind_front counted.gives.taken
+  text_ends lacks is = ends_after_front counted.gives.taken
       (inr (number_spelled laws counted, number_below laws counted)) lacks is
 
   module _ {u : List ℕ} {new : S} (long : length u ≡ n) (t : Takes left able mid u new) where

@@ -61,7 +61,7 @@ module _ {S : Type 0} {left : S → Option (List ℕ)} {able : S → ℕ → Typ
     is,
     record {
       front = so.front;
-      behind = now;
+      after_front = now;
       taken = so.taken;
       count = 1;
       wanted = (so.read.high, so.read.fewer, refl);

@@ -47,7 +47,7 @@ module _ {S : Type 0} {left : S → Option (List ℕ)} {able : S → ℕ → Typ
     is,
     record {
       front = ends.front;
-      behind = ends.behind;
+      after_front = ends.after_front;
       taken = ends.taken;
       count = ends.count;
       wanted = wide ends.front ends.count ends.wanted;
@@ -59,15 +59,15 @@ module _ {S : Type 0} {left : S → Option (List ℕ)} {able : S → ℕ → Typ
 
   -- If a front was taken after which n more bytes are wanted, and the source isn't able to give
   -- them, that is a reason to fail with `DeserializeUnexpectedEnd`.
-  pub behind_front : {wants : List ℕ → ℕ → Type 0} {bad : List ℕ → Error → Type 0} {old mid new : S}
+  pub ends_after_front : {wants : List ℕ → ℕ → Type 0} {bad : List ℕ → Error → Type 0} {old mid new : S}
       {p : List ℕ} {n : ℕ} {e : Error} → Takes left able old p mid → wants p n → (able mid n → ⊥) →
       e ≡ DeserializeUnexpectedEnd → RefusesFrom wants bad left able old e new
-  behind_front {mid = mid} {p = p} {n = n} t wanted lacks is =
+  ends_after_front {mid = mid} {p = p} {n = n} t wanted lacks is =
       inl (
         is,
         record {
           front = p;
-          behind = mid;
+          after_front = mid;
           taken = t;
           count = n;
           wanted = wanted;

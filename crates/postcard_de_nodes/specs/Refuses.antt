@@ -14,11 +14,11 @@ use Rattle.postcard_de_flavors.specs.declared.flavor.Flavor.{Ghosts}
 pub record Ends {S : Type 0} (wants : List ℕ → ℕ → Type 0) (left : S → Option (List ℕ))
     (able : S → ℕ → Type 0) (old : S) : Type 0 where
   pub front : List ℕ
-  pub behind : S
-  pub taken : Takes left able old front behind
+  pub after_front : S
+  pub taken : Takes left able old front after_front
   pub count : ℕ
   pub wanted : wants front count
-  pub lacks : able behind count → ⊥
+  pub lacks : able after_front count → ⊥
 
 -- A front was taken that is refused with the error e.
 pub record IsBad {S : Type 0} (bad : List ℕ → Error → Type 0) (left : S → Option (List ℕ))

@@ -28,7 +28,7 @@ fn in_range(bytes: &[u8]) -> &[u8]
 /// # Errors
 ///
 /// Fails as [`numbers::count`] if the length can't be read, and with `DeserializeUnexpectedEnd` if
-/// the source can't give that many bytes.
+/// the source can't give that many bytes; the length is taken then.
 pub fn bytes<'de, F: Flavor>(flavor: &mut F) -> Result<&'de [u8]>
 where
     F: 'de,

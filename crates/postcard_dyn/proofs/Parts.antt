@@ -11,7 +11,7 @@ use Rattle.postcard_wire.specs.Reading.{IsByte, IsNum, IsOption, IsGroup, IsArra
 use Rattle.postcard_de_flavors.specs.Source.{CanTake, Takes, Laws}
 use Rattle.postcard_de.specs.Reads.{ReadsFrom}
 use Rattle.postcard_shape.specs.Values.{Same, EachIs, ListIs, AreRead}
-use Rattle.postcard.specs.Lemmas.{refusal, out_of_memory, Below, behind, nothing_taken, both_taken, faces, can_second, part_and_rest, first_refused, second_refused, both_read}
+use Rattle.postcard.specs.Lemmas.{refusal, out_of_memory, Below, prefixed, nothing_taken, both_taken, faces, can_second, part_and_rest, first_refused, second_refused, both_read}
 use Rattle.postcard_dyn_schema.specs.Meaning.{MessageType, MessageTypes, no_types, then_type, reads, reads_all}
 use Rattle.postcard_dyn.specs.declared.value.Value.{Value}
 use Rattle.postcard_dyn.specs.Tree.{tree, IsTree}
@@ -82,14 +82,14 @@ module _ {S : Type 0} {left : S → Option (List ℕ)} {able : S → ℕ → Typ
 
 -- The result of reading the parts that are left is the result of reading all parts.
 pub record GoingParts {S : Type 0} (left : S → Option (List ℕ)) (able : S → ℕ → Type 0) (may_leave : S → S → Type 0) (start : S) (all : MessageTypes) (items : List Value) (now : S) (rest : MessageTypes) : Type 0 where
-  pub ends : (r : Result (List Value) Error) (new : S) → ReadsFrom SpellsAll (reads_all rest) (EachIs IsTree) ⊤ left able may_leave now r new → ReadsFrom SpellsAll (reads_all all) (EachIs IsTree) ⊤ left able may_leave start (behind items r) new
+  pub ends : (r : Result (List Value) Error) (new : S) → ReadsFrom SpellsAll (reads_all rest) (EachIs IsTree) ⊤ left able may_leave now r new → ReadsFrom SpellsAll (reads_all all) (EachIs IsTree) ⊤ left able may_leave start (prefixed items r) new
 
 module _ {S : Type 0} {left : S → Option (List ℕ)} {able : S → ℕ → Type 0} {may_leave : S → S → Type 0} (laws : Laws left able may_leave) where
   -- It holds before the first part is read.
   pub parts_begin : {start : S} {all : MessageTypes} → GoingParts left able may_leave start all [] start all
   parts_begin {start} {all} = record { ends = ends }
     where
-      ends : (r : Result (List Value) Error) (new : S) → ReadsFrom SpellsAll (reads_all all) (EachIs IsTree) ⊤ left able may_leave start r new → ReadsFrom SpellsAll (reads_all all) (EachIs IsTree) ⊤ left able may_leave start (behind [] r) new
+      ends : (r : Result (List Value) Error) (new : S) → ReadsFrom SpellsAll (reads_all all) (EachIs IsTree) ⊤ left able may_leave start r new → ReadsFrom SpellsAll (reads_all all) (EachIs IsTree) ⊤ left able may_leave start (prefixed [] r) new
       ends (Ok vs) new h = h
       ends (Err e) new h = h
 
@@ -98,7 +98,7 @@ module _ {S : Type 0} {left : S → Option (List ℕ)} {able : S → ℕ → Typ
       ReadsFrom Spells (reads t) IsTree ⊤ left able may_leave now (Ok v) mid → GoingParts left able may_leave start all (items ++ v ∷ []) mid rest
   part_read {start = start} {mid = mid} {all = all} {t = t} {rest = rest} {items = items} {v = v} so h = record { ends = ends }
     where
-      ends : (r : Result (List Value) Error) (new : S) → ReadsFrom SpellsAll (reads_all rest) (EachIs IsTree) ⊤ left able may_leave mid r new → ReadsFrom SpellsAll (reads_all all) (EachIs IsTree) ⊤ left able may_leave start (behind (items ++ v ∷ []) r) new
+      ends : (r : Result (List Value) Error) (new : S) → ReadsFrom SpellsAll (reads_all rest) (EachIs IsTree) ⊤ left able may_leave mid r new → ReadsFrom SpellsAll (reads_all all) (EachIs IsTree) ⊤ left able may_leave start (prefixed (items ++ v ∷ []) r) new
       ends (Ok vs) new k = rw (append_assoc items (v ∷ []) vs) (so.ends (Ok (v ∷ vs)) new (both_read laws (part_and_rest (reads t) IsTree (reads_all rest)) (λ t ts i j. (i, j)) h k))
       ends (Err e) new k = so.ends (Err e) new (second_refused laws (part_and_rest (reads t) IsTree (reads_all rest)) (λ g. g) h k)
 

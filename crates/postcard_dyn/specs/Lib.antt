@@ -1,1 +1,3 @@
 pub mod Tree
+pub mod TypeLaws
+pub mod Shape

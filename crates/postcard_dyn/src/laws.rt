@@ -1,7 +1,10 @@
 //! Laws of every type that is known only at run time, as contracts of functions that do nothing.
 
+ghost use Rattle.std.specs.Prelude.{◌≡◌, ◌<◌, ℕ, List, length, true};
+ghost use Rattle.postcard_wire.specs.Tree.{Tree};
 ghost use Rattle.postcard_wire.specs.Reading.{IsDelimited, ReadsWellFormed};
-ghost use Rattle.postcard_dyn_schema.specs.Meaning.{MessageType, reads};
+ghost use Rattle.postcard_wire.specs.Spelling.{Spells};
+ghost use Rattle.postcard_dyn_schema.specs.Meaning.{MessageType, has_bytes, reads};
 
 /// The encodings of each type are prefix-free: if two fronts of the same bytes spell trees of the
 /// type, they are the same front, and the trees are the same.
@@ -12,4 +15,12 @@ pub fn prefix_free()
 /// Every tree of a type is well formed: each number is in its range, and each text is UTF-8.
 pub fn well_formed()
     ensures { (t : MessageType) → ReadsWellFormed (reads t) }
+{}
+
+/// Each message of a type whose messages have bytes ([`Schema::has_bytes`]) has at least one.
+///
+/// [`Schema::has_bytes`]: postcard_dyn_schema::Schema::has_bytes
+pub fn at_least_one_byte()
+    ensures { (t : MessageType) → has_bytes t ≡ true → (s : Tree) (p : List ℕ)
+        → reads t s → Spells s p → 0 < length p }
 {}

@@ -28,8 +28,8 @@ pub fn refused_at(alloc: Global, schema: &Schema, bytes: &[u8]) -> Result<usize>
             [1, rest @ ..] => Ok(refused_at(alloc, content, rest)? + 1),
             _ => Ok(0),
         },
-        Schema::Seq(element) => refused_behind_count(alloc, element, bytes),
-        Schema::Map(entry) => refused_behind_count(alloc, entry, bytes),
+        Schema::Seq(element) => refused_after_count(alloc, element, bytes),
+        Schema::Map(entry) => refused_after_count(alloc, entry, bytes),
         Schema::Array(element, _) => refused_element(alloc, element, bytes),
         Schema::Group(parts) => refused_part(alloc, parts, bytes),
         Schema::Enum(variants) => refused_content(alloc, variants, bytes),
@@ -40,14 +40,14 @@ pub fn refused_at(alloc: Global, schema: &Schema, bytes: &[u8]) -> Result<usize>
 /// Returns the offset of the refused part in the bytes of a list: the count, or a part of an
 /// element.
 #[cycle(locate)]
-fn refused_behind_count(alloc: Global, element: &Schema, bytes: &[u8]) -> Result<usize>
+fn refused_after_count(alloc: Global, element: &Schema, bytes: &[u8]) -> Result<usize>
     ensures within { IfOk result (λ place. place ≤ length bytes.now) }
     ensures refused { IfErr result (λ e. e ≡ Error.OutOfMemory) }
 {
     match postcard::take_from_bytes::<u64>(alloc, bytes) {
         Ok((_, rest)) => {
             let offset = refused_element(alloc, element, rest)?;
-            Ok(behind(bytes, rest, offset))
+            Ok(offset_after(bytes, rest, offset))
         }
         Err(_) => Ok(0),
     }
@@ -66,7 +66,7 @@ fn refused_element(alloc: Global, element: &Schema, bytes: &[u8]) -> Result<usiz
             Err(Error::OutOfMemory) => return Err(Error::OutOfMemory),
             Err(_) => {
                 let offset = refused_at(alloc, element, rest)?;
-                return Ok(behind(bytes, rest, offset));
+                return Ok(offset_after(bytes, rest, offset));
             }
         }
     }
@@ -86,7 +86,7 @@ fn refused_part(alloc: Global, parts: &Vec<Schema>, bytes: &[u8]) -> Result<usiz
             Err(Error::OutOfMemory) => return Err(Error::OutOfMemory),
             Err(_) => {
                 let offset = refused_at(alloc, part, rest)?;
-                return Ok(behind(bytes, rest, offset));
+                return Ok(offset_after(bytes, rest, offset));
             }
         }
     }
@@ -104,7 +104,7 @@ fn refused_content(alloc: Global, variants: &Vec<Schema>, bytes: &[u8]) -> Resul
         Ok((index, rest)) => match variants.get(index as usize) {
             Some(variant) => {
                 let offset = refused_at(alloc, variant, rest)?;
-                Ok(behind(bytes, rest, offset))
+                Ok(offset_after(bytes, rest, offset))
             }
             None => Ok(0),
         },
@@ -113,7 +113,7 @@ fn refused_content(alloc: Global, variants: &Vec<Schema>, bytes: &[u8]) -> Resul
 }
 
 /// Converts an offset in `rest`, the last of the bytes, to an offset in all of them.
-fn behind(bytes: &[u8], rest: &[u8], offset: usize) -> usize
+fn offset_after(bytes: &[u8], rest: &[u8], offset: usize) -> usize
     ensures { result ≤ length bytes.now }
 {
     let before = bytes.len().saturating_sub(rest.len());

@@ -1,6 +1,6 @@
 //! Reading a type expression: [`parse`] and its parts.
 //!
-//! The grammar, in which white space may stand before any word or sign and at the end:
+//! The grammar, in which white space may come before any word or sign and at the end:
 //!
 //! ```text
 //! type    = plain {"?"} | ["|"] variant {"|" variant}
@@ -42,9 +42,9 @@ const MAX_OPTIONS: usize = 4;
 ///
 /// Fails with what is wrong, one of [`Problem`], and the character where it is, counted from 1.
 ///
-/// `NoBytes` comes if the elements of a list or an array, or the entries of a map, have no bytes,
-/// since a short message could then hold any number of them. `TooDeep` comes if types are nested
-/// more than 64 deep in brackets, or if more than 4 `?` follow a type.
+/// The problem is `NoBytes` if the elements of a list or an array, or the entries of a map, have no
+/// bytes, since a short message could then hold any number of them. It is `TooDeep` if types are
+/// nested more than 64 deep in brackets, or if more than 4 `?` follow a type.
 pub fn parse(alloc: Global, text: &str) -> Result<Schema, ExpressionError>
     ensures spelled { IfOk result (λ schema. IsExpression schema text.now) }
     ensures elements_have_bytes { IfOk result (λ schema. ElementsHaveBytes (type_of schema)) }

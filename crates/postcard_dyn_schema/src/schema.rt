@@ -5,9 +5,10 @@ ghost use Rattle.postcard_dyn_schema.specs.Meaning.{IsNameOf, has_bytes, type_of
 ghost use Rattle.postcard_dyn_schema.specs.Meaning.{some_has_bytes};
 ghost use Rattle.postcard_dyn_schema.specs.declared.schema.Leaf.{Leaf};
 
-/// A type without parts. Each is read and written by one call of the serde data model.
+/// A type without parts. Each is read by one call of `Deserializer` and written by one of
+/// `Serializer`.
 ///
-/// `usize` and `isize` are numbers of 64 bits in the format, and so are `U64` and `I64` here.
+/// `usize` and `isize` are `U64` and `I64` here, since the format writes them as numbers of 64 bits.
 #[derive(Clone, Copy, Debug, PartialEq, Eq)]
 pub enum Leaf {
     Bool,

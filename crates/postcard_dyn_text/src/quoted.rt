@@ -16,7 +16,7 @@ use std::alloc::Global;
 ///
 /// # Errors
 ///
-/// Stops at the place if no such text is next, and with `Memory` if an allocation fails.
+/// Stops where the text stops being one, and with `Memory` if an allocation fails.
 pub fn take_quoted(alloc: Global, rest: &mut &[u8], quote: u8) -> Result<String, Stop>
     ensures spelled { IfOk result (λ text.
         TakesPhrase (IsQuoted quote (string_bytes text)) rest.old.now rest.new.now) }

@@ -61,7 +61,7 @@ impl Stop {
     }
 }
 
-/// Reads a value of the schema from its text. White space of ASCII may stand before any word or
+/// Reads a value of the schema from its text. White space of ASCII may come before any word or
 /// sign and at the end.
 ///
 /// # Errors

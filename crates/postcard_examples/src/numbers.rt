@@ -1,4 +1,4 @@
-//! A struct of more than six fields: numbers with and without a sign.
+//! A struct of eight fields: numbers with and without a sign.
 
 use postcard::ser_flavors::Flavor;
 use postcard::{FromRepr, Repr, Result, Serialize, SerializeRepr, Serializer};

@@ -21,8 +21,8 @@ use std::marker::Model;
 /// A number that is written as its 2, 4, 8 or 16 bytes, the highest first, without a length. A
 /// signed number is written in two's complement.
 ///
-/// It stands for the number in a value that is made of others: in the tuple of a struct's fields,
-/// in a list, in an option. In contracts it is the number.
+/// Use it in place of the number inside a larger value: in the tuple of a struct's fields, in a
+/// list, in an option. In contracts it is the number.
 #[derive(Drop)]
 pub struct BE<T>(T);
 

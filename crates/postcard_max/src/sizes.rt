@@ -1,13 +1,13 @@
 //! Sizes from those of parts: sums, products, the greater of two, and the length of a varint.
 //!
-//! Each is `None` if a size is, or if the number does not fit `usize`.
+//! A sum, a product or a greater size is `None` if a size is, or if it does not fit `usize`.
 
 ghost use Rattle.std.specs.Prelude.{◌≡◌};
 ghost use Rattle.postcard_max.specs.Sizes.{sum_of, times, greater_of, varint_len as len_of};
 
 use postcard_wire::varint::varint_usize;
 
-/// Returns the sum of two sizes.
+/// Returns the sum of two sizes, or `None` if one is `None` or the sum does not fit `usize`.
 pub fn sum(first: Option<usize>, second: Option<usize>) -> Option<usize>
     ensures { result ≡ sum_of first second }
 {
@@ -17,7 +17,7 @@ pub fn sum(first: Option<usize>, second: Option<usize>) -> Option<usize>
     }
 }
 
-/// Returns `count` times a size.
+/// Returns `count` times a size, or `None` if that is `None` or the product exceeds `usize`.
 pub fn product(count: usize, size: Option<usize>) -> Option<usize>
     ensures { result ≡ times count size }
 {
@@ -27,7 +27,7 @@ pub fn product(count: usize, size: Option<usize>) -> Option<usize>
     }
 }
 
-/// Returns the greater of two sizes.
+/// Returns the greater of two sizes, or `None` if one is `None`.
 pub fn greater(first: Option<usize>, second: Option<usize>) -> Option<usize>
     ensures { result ≡ greater_of first second }
 {

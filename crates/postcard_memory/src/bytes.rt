@@ -1,4 +1,4 @@
-//! Bytes that a caller lent to be read, behind a pointer that moves on.
+//! Bytes that a caller lent to be read, reached by a pointer that moves on.
 
 ghost use Rattle.std.specs.Prelude.{◌≡◌, ◌<◌, ◌≤◌, List, ℕ, ◌∷◌, length, take, drop};
 
@@ -23,7 +23,7 @@ impl<'de> Model for Bytes<'de> {
 }
 
 impl<'de> Bytes<'de> {
-    /// The bytes of this slice.
+    /// Returns a reader of the bytes of this slice.
     pub fn new(bytes: &'de [u8]) -> Bytes<'de>
         ensures { result.items ≡ bytes.now }
     {
@@ -33,7 +33,7 @@ impl<'de> Bytes<'de> {
         }
     }
 
-    /// Takes the first byte.
+    /// Takes the first byte and returns it. At least one must be left.
     pub fn pop(&mut self) -> u8
         requires { 0 < length self.old.items }
         ensures { self.old.items ≡ result ∷ self.new.items }
@@ -45,7 +45,7 @@ impl<'de> Bytes<'de> {
         unsafe { *start }
     }
 
-    /// Takes the first `count` bytes.
+    /// Takes the first `count` bytes and returns them. At least that many must be left.
     pub fn take(&mut self, count: usize) -> &'de [u8]
         requires { count ≤ length self.old.items }
         ensures taken { result.now ≡ take count self.old.items }
@@ -58,7 +58,7 @@ impl<'de> Bytes<'de> {
         unsafe { slice::from_raw_parts(start, count) }
     }
 
-    /// All `len` bytes.
+    /// Returns all bytes left; `len` must be their number.
     pub fn view(&self, len: usize) -> &[u8]
         requires { len ≡ length self.now.items }
         ensures { result.now ≡ self.now.items }
@@ -67,7 +67,7 @@ impl<'de> Bytes<'de> {
         unsafe { slice::from_raw_parts(self.start, len) }
     }
 
-    /// All `len` bytes, for as long as they were lent.
+    /// Returns all bytes left, for as long as they were lent; `len` must be their number.
     pub fn whole(self, len: usize) -> &'de [u8]
         requires { len ≡ length self.items }
         ensures { result.now ≡ self.entry.items }

@@ -5,7 +5,7 @@ ghost use Rattle.std.specs.Borrow.{sem, Lends, Array, u8};
 
 use std::slice;
 
-/// Returns the first `count` bytes. The bytes after them stay as they are.
+/// Returns the first `count` of at least that many bytes. Those after them stay as they are.
 pub fn front<'a>(all: &'a mut [u8], count: usize) -> &'a mut [u8]
     requires { count ≤ length all.old }
     ensures* writes_back { sem 𝓛 (Lends (Array u8 0) (Array u8 0) all.entry result

@@ -1,4 +1,4 @@
-//! Bytes that a caller lent to be written, behind a pointer.
+//! Bytes that a caller lent to be written, reached by a pointer.
 
 ghost use Rattle.std.specs.Prelude.{◌≡◌, List, ℕ, length};
 ghost use Rattle.std.specs.Borrow.{GName};

@@ -29,7 +29,7 @@ impl fmt::Write for CountWriter {
     fn write_str(&mut self, s: &str) -> fmt::Result
         ensures counts { IsOk result → (self.new.count ≡ self.old.count + length s.now)
             × IsUtf8 s.now }
-        ensures fits { IsOk result ↔ (self.old.count + length s.now < 2 ^ 64) }
+        ensures fits_iff { IsOk result ↔ (self.old.count + length s.now < 2 ^ 64) }
     {
         match self.count.checked_add(s.as_bytes().len()) {
             Some(count) => {
@@ -118,6 +118,7 @@ impl<F: Flavor> Serializer<F> {
     ///
     /// Fails with `CollectStrError` if the text fails to format, is longer than `usize::MAX` bytes,
     /// or is refused by the flavor, and with `SerializeBufferFull` if the flavor refuses the count.
+    /// After `CollectStrError` the flavor may have taken the count and some bytes of the text.
     pub fn collect_str<T: Display>(&mut self, value: &T) -> Result<()>
         ensures writes { IfSome (T.output value.now)
             (λ u. Wrote F.Flavor self.old.output (canonical (Text u)) ⊤ ⊤ result self.new.output) }

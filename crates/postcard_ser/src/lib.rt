@@ -29,8 +29,8 @@
 //! `proofs/PartByPart.antt`.
 //!
 //! In reading order:
-//! - the crates `postcard_ser_flavors`, passed on here, for where the bytes go, and
-//!   `postcard_shape`, for what a type says of its values.
+//! - the crates `postcard_ser_flavors`, for where the bytes go, of which [`Flavor`] and [`Slice`]
+//!   are re-exported here, and `postcard_shape`, for what a type says of its values.
 //! - `serializer`: the calls by which a type writes itself; `collect_str`: that for texts that
 //!   values print.
 //! - `serialize`: the trait of all types that are written; `repr` and `cases`: how structs and

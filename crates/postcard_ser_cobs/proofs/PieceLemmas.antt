@@ -17,7 +17,7 @@ module _ {S : Type 0} {held : S → List ℕ} where
       → HoldsThen held s start at before d (b ∷ x) → HoldsThen held s start at' before (d ++ b ∷ []) x
   taken_as_it_is {at' = at'} {b = b} {before = before} {d = d} {x = x} r is push h = record {
     frame = h.frame ++ b ∷ [];
-    behind = h.behind ∙ ap (λ z. before ++ z) (sym (append_assoc h.frame (b ∷ []) x));
+    held_is = h.held_is ∙ ap (λ z. before ++ z) (sym (append_assoc h.frame (b ∷ []) x));
     starts = h.starts;
     stands = subst (λ z. IsOpen (changed h.frame z) at' (d ++ b ∷ [])) is (push h.frame d h.stands);
   }
@@ -34,7 +34,7 @@ module _ {S : Type 0} {held : S → List ℕ} where
       ∙ sym (append_assoc (slice_set h.frame place code) (0 ∷ []) x) in
       record {
         frame = slice_set h.frame place code ++ 0 ∷ [];
-        behind = sets ∙ (λ i. slice_set (h.behind i) (h.starts i + place) code) ∙ set_behind before (h.frame ++ b ∷ x) place code ∙ ap (λ z. before ++ z) inside;
+        held_is = sets ∙ (λ i. slice_set (h.held_is i) (h.starts i + place) code) ∙ set_behind before (h.frame ++ b ∷ x) place code ∙ ap (λ z. before ++ z) inside;
         starts = h.starts;
         stands = subst (λ z. IsOpen (changed h.frame z) at' (d ++ b ∷ [])) is (push h.frame d h.stands);
       }
@@ -54,7 +54,7 @@ module _ {S : Type 0} {held : S → List ℕ} where
   piece_holds {s} {t} {u} {start} {at} {mid} {at'} piece {before} {d} going is same codes h =
       let pushed : HoldsThen held t start mid before d piece = record {
         frame = h.frame;
-        behind = is ∙ ap (λ z. z ++ piece) h.behind ∙ append_assoc before h.frame piece;
+        held_is = is ∙ ap (λ z. z ++ piece) h.held_is ∙ append_assoc before h.frame piece;
         starts = h.starts;
         stands = subst (λ z. IsOpen h.frame z d) (sym same) h.stands;
       } in
@@ -62,11 +62,11 @@ module _ {S : Type 0} {held : S → List ℕ} where
       record {
         going = going;
         frame = r.frame;
-        behind = r.behind ∙ ap (λ z. before ++ z) (append-nil r.frame);
+        held_is = r.held_is ∙ ap (λ z. before ++ z) (append-nil r.frame);
         starts = r.starts;
         stands = r.stands;
       }
 
   -- The storage holds at least the bytes up to the encoder's place.
   pub holds_length : {s : S} {start : ℕ} {at : Standing} {f : Bool} {before d : List ℕ} → HoldsOpen held s start at f before d → start + (at.code_at + at.code) ≤ length (held s)
-  holds_length {at = at} {before = before} {d = d} h = omega (arith, h.starts, ap length h.behind, length-append before h.frame, open_length h.frame d at h.stands)
+  holds_length {at = at} {before = before} {d = d} h = omega (arith, h.starts, ap length h.held_is, length-append before h.frame, open_length h.frame d at h.stands)

@@ -22,7 +22,7 @@ module _ {S : Type 0} {held : S → List ℕ} where
   run_holds run {before = before} {d = d} going is push h = record {
     going = going;
     frame = h.frame ++ run;
-    behind = is ∙ ap (λ z. z ++ run) h.behind ∙ append_assoc before h.frame run;
+    held_is = is ∙ ap (λ z. z ++ run) h.held_is ∙ append_assoc before h.frame run;
     starts = h.starts;
     stands = push h.frame d h.stands;
   }

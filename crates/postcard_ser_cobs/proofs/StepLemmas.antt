@@ -29,7 +29,7 @@ code_below L d at h = omega (arith, h.code_at_is, ap length h.frame_is, length-a
 
 -- A storage that holds an open frame after other bytes holds the place of the open code.
 pub code_held : {S : Type 0} {held : S → List ℕ} {s : S} {start : ℕ} {at : Standing} {f : Bool} {before d : List ℕ} → HoldsOpen held s start at f before d → start + at.code_at < length (held s)
-code_held {before = before} {d = d} h = omega (arith, h.starts, ap length h.behind, length-append before h.frame, code_below h.frame d _ h.stands)
+code_held {before = before} {d = d} h = omega (arith, h.starts, ap length h.held_is, length-append before h.frame, code_below h.frame d _ h.stands)
 
 -- If a byte of data has room, as many bytes as its result adds are free.
 pub step_free : {S : Type 0} {held : S → List ℕ} {free : S → ℕ → Type 0} {s : S} {start : ℕ} {at at' : Standing} {f : Bool} {b : ℕ} (r : PushResult)
@@ -76,7 +76,7 @@ pub step_holds : {S : Type 0} {held : S → List ℕ} {s t : S} {start : ℕ} {a
 step_holds r {before = before} {d = d} going is push h = record {
   going = going;
   frame = changed h.frame r;
-  behind = is ∙ (λ i. changed_from (h.starts i) (h.behind i) r) ∙ changed_behind before h.frame r;
+  held_is = is ∙ (λ i. changed_from (h.starts i) (h.held_is i) r) ∙ changed_behind before h.frame r;
   starts = h.starts;
   stands = push h.frame d h.stands;
 }
@@ -86,7 +86,7 @@ pub ends : {S : Type 0} {held : S → List ℕ} {s : S} {start : ℕ} {at : Stan
     → slice_set (held s) (start + at.code_at) at.code ++ 0 ∷ [] ≡ before ++ made d
 ends {at = at} {before = before} {d = d} h =
     let e : slice_set (before ++ h.frame) (length before + at.code_at) at.code ≡ before ++ slice_set h.frame at.code_at at.code = set_behind before h.frame at.code_at at.code in
-    (λ i. slice_set (h.behind i) (h.starts i + at.code_at) at.code ++ 0 ∷ []) ∙ ap (λ z. z ++ 0 ∷ []) e
+    (λ i. slice_set (h.held_is i) (h.starts i + at.code_at) at.code ++ 0 ∷ []) ∙ ap (λ z. z ++ 0 ∷ []) e
     ∙ append_assoc before (slice_set h.frame at.code_at at.code) (0 ∷ []) ∙ ap (λ z. before ++ z) (open_finishes h.frame d at h.stands)
 
 -- What a success promises holds if the result is no error.

@@ -9,7 +9,7 @@ module _ {S : Type 0} (held : S → List ℕ) where
   pub record HoldsOpen (s : S) (start : ℕ) (at : Standing) (failed : Bool) (before d : List ℕ) : Type 0 where
     pub going : IsFalse failed
     pub frame : List ℕ
-    pub behind : held s ≡ before ++ frame
+    pub held_is : held s ≡ before ++ frame
     pub starts : start ≡ length before
     pub stands : IsOpen frame at d
 
@@ -17,7 +17,7 @@ module _ {S : Type 0} (held : S → List ℕ) where
   -- the data d, in whose state the encoder is, and then by the bytes x.
   pub record HoldsThen (s : S) (start : ℕ) (at : Standing) (before d x : List ℕ) : Type 0 where
     pub frame : List ℕ
-    pub behind : held s ≡ before ++ (frame ++ x)
+    pub held_is : held s ≡ before ++ (frame ++ x)
     pub starts : start ≡ length before
     pub stands : IsOpen frame at d
 

@@ -51,7 +51,7 @@ still_going true f' i g = absurd (not_both (i refl) g)
 
 -- The number of bytes of a storage that holds an open frame after other bytes.
 pub holds_made : {S : Type 0} {held : S → List ℕ} {s : S} {start : ℕ} {at : Standing} {f : Bool} {before d : List ℕ} → HoldsOpen held s start at f before d → length (held s) + 1 ≡ length before + length (made d)
-holds_made {before = before} {d = d} h = omega (arith, ap length h.behind, length-append before h.frame, open_made h.frame d _ h.stands)
+holds_made {before = before} {d = d} h = omega (arith, ap length h.held_is, length-append before h.frame, open_made h.frame d _ h.stands)
 
 module _ {S : Type 0} {held : S → List ℕ} where
   -- An open frame of some data is one of that data followed by nothing.
@@ -97,7 +97,7 @@ module _ {S : Type 0} {held : S → List ℕ} where
         }
 
     module _ {reaches : S → S → Type 0} where
-      -- No push leaves the storage unchanged.
+      -- Without a push the storage is unchanged.
       pub leaves_self : ((s : S) → reaches s s) → (s : S) (f : Bool) → LeavesFrame held free reaches s f s f
       leaves_self r s f = record {
         inner = r s;

@@ -98,7 +98,7 @@ impl<B: Storage + Drop> Cobs<B> {
     /// after any earlier failure. A storage of `postcard_ser_flavors` then holds what it held
     /// before the frame, followed by part of a frame.
     pub fn close(self) -> (B, Result<()>)
-        ensures closes { OnOk result.1 ((before d : List ℕ)
+        ensures holds_frame { OnOk result.1 ((before d : List ℕ)
             → HoldsOpen B.held self.storage self.start self.encoder self.failed before d
             → B.held result.0 ≡ before ++ made d) }
         ensures leaves { B.reaches self.storage result.0 }
@@ -124,8 +124,9 @@ impl<B: Storage + Drop> Cobs<B> {
         (storage, closed)
     }
 
-    /// Gives up the frame, and returns the storage as it is: with what it held before the frame,
-    /// followed by part of a frame, with no sentinel. The Rust crate has no such call.
+    /// Gives up the frame, and returns the storage as it is: if no call has failed, with what it
+    /// held before the frame, and then the frame so far, with no sentinel. The Rust crate has no
+    /// such call.
     pub fn into_storage(self) -> B
         ensures { result ≡ self.storage }
     {

@@ -53,9 +53,9 @@ pub(crate) fn set_code<B: Storage>(storage: &mut B, start: usize, place: usize, 
     storage.set(start + place, code);
 }
 
-/// Takes a piece of data whose bytes the storage already holds, as its last, after an open frame:
-/// sets the code of each group that a zero of the piece ends. The zero is then the place of the
-/// next code. Returns the state of the encoder after the piece.
+/// Takes a piece of data that the storage already holds at its end, after an open frame: sets the
+/// code of each group that a zero of the piece ends. The zero is then the place of the next code.
+/// Returns the state of the encoder after the piece.
 ///
 /// The piece must be too short to make a group full, and the frame with it must be countable.
 #[inline(always)]

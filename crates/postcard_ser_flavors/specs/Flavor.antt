@@ -10,8 +10,8 @@ pub record AppendsFront {S : Type 0} (appended : S → List ℕ → S → Type 0
   pub given : appended s front t
 
 -- The laws of a flavor. Appending nothing changes nothing, and two lists appended are their join
--- appended. Room for a list is room for its front, and for its rest once the front is appended. No
--- push reaches the same state, pushes in a row reach the last state, and two proofs that a state is
+-- appended. Room for a list is room for its front, and for its rest once the front is appended.
+-- Without a push the state stays the same, pushes in a row reach the last state, and two proofs that a state is
 -- reached are equal.
 pub record IsFlavor {S : Type 0} (appended : S → List ℕ → S → Type 0) (room : S → List ℕ → Type 0) (reaches : S → S → Type 0) : Type 0 where
   pub appended_none : (s : S) → appended s [] s

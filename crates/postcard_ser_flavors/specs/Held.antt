@@ -17,8 +17,8 @@ module _ {S : Type 0} (held : S → List ℕ) where
   HasRoom capacity s x = length (held s) + length x ≤ capacity
 
   -- With n more bytes the flavor holds at most `capacity` bytes.
-  abbrev pub CanTake : ℕ → S → ℕ → Type 0
-  CanTake capacity s n = length (held s) + n ≤ capacity
+  abbrev pub HasFreeUpTo : ℕ → S → ℕ → Type 0
+  HasFreeUpTo capacity s n = length (held s) + n ≤ capacity
 
 -- The flavor never promises room.
 abbrev pub NoRoom : {S : Type 0} → S → List ℕ → Type 0
@@ -81,14 +81,14 @@ module _ {S : Type 0} (held : S → List ℕ) where
   }
 
   -- The free bytes of a flavor that holds up to a capacity keep the laws of `free`.
-  pub fixed_free : (capacity : ℕ) → IsFree (CanTake held capacity)
+  pub fixed_free : (capacity : ℕ) → IsFree (HasFreeUpTo held capacity)
   fixed_free capacity = record {
     free_fewer = λ s m n h. fewer_fit (length (held s)) m n capacity h;
     free_prop = λ s n. hlevel le_prop;
   }
 
   -- A flavor that holds up to a capacity is a lawful storage.
-  pub fixed_storage : (capacity : ℕ) → IsStorage (Appended held) (HasRoom held capacity) AnyReached held (CanTake held capacity)
+  pub fixed_storage : (capacity : ℕ) → IsStorage (Appended held) (HasRoom held capacity) AnyReached held (HasFreeUpTo held capacity)
   fixed_storage capacity = record {
     held_more = λ s t x p. p;
     free_room = λ s x h. h;

@@ -32,4 +32,4 @@ pub record Reaches (s t : Written) : Type 0 where
   pub same_loan : t.loan ≡ s.loan
   pub same_length : length t.buffer ≡ length s.buffer
   pub grows : s.count ≤ t.count
-  pub old_behind : drop t.count t.buffer ≡ drop t.count s.buffer
+  pub bytes_after_unchanged : drop t.count t.buffer ≡ drop t.count s.buffer

@@ -30,9 +30,9 @@ agree_later j k b c h e =
 pub reaches_prop : (s t : Written) → IsProp (Reaches s t)
 reaches_prop s t = hlevel (le_prop, ℕ_set, props)
 
--- The same state is reached by no push.
+-- Without a push the state stays the same.
 pub reaches_self : (s : Written) → Reaches s s
-reaches_self s = record { same_loan = refl; same_length = refl; grows = omega arith; old_behind = refl }
+reaches_self s = record { same_loan = refl; same_length = refl; grows = omega arith; bytes_after_unchanged = refl }
 
 -- What is reached from a reached state is reached.
 pub reaches_join : (s t u : Written) → Reaches s t → Reaches t u → Reaches s u
@@ -40,7 +40,7 @@ reaches_join s t u p q = record {
   same_loan = q.same_loan ∙ p.same_loan;
   same_length = q.same_length ∙ p.same_length;
   grows = omega arith;
-  old_behind = q.old_behind ∙ agree_later t.count u.count s.buffer t.buffer q.grows p.old_behind;
+  bytes_after_unchanged = q.bytes_after_unchanged ∙ agree_later t.count u.count s.buffer t.buffer q.grows p.bytes_after_unchanged;
 }
 
 -- The flavor that fills a slice is lawful.

@@ -15,7 +15,7 @@ use postcard_wire::varint::{VARINT_MAX_64, varint_u64};
 /// - `room state bytes`: pushing these bytes succeeds, in whatever pieces. Room for no bytes says
 ///   that `finalize` succeeds.
 /// - `tidy`: a call that fails has appended a beginning of its bytes, or nothing.
-/// - `reaches old new`: calls that push may make `new` of `old`, also calls that fail.
+/// - `reaches old new`: a push, also one that fails, may turn `old` into `new`.
 /// - `finishes last output`: `output` is the output of a flavor whose last state is `last`.
 /// - `lawful`: what holds of these words in each flavor.
 pub trait Flavor {
@@ -35,8 +35,8 @@ pub trait Flavor {
     // Above the last function, so that a quote at a concrete type reaches it.
     ghost lawful: { IsFlavor appended room reaches };
 
-    /// Takes a byte. Succeeds if the flavor has `room` for it. May else fail with any error; a tidy
-    /// flavor has then appended the byte or nothing.
+    /// Takes a byte. Succeeds if the flavor has `room` for it, and may otherwise fail with any
+    /// error; a tidy flavor has then appended the byte or nothing.
     fn try_push(&mut self, byte: u8) -> Result<()>
         ensures appends { OnOk result (appended self.old (byte ∷ []) self.new) }
         ensures has_room { room self.old (byte ∷ []) → IsOk result }
@@ -45,8 +45,8 @@ pub trait Flavor {
         ensures leaves { reaches self.old self.new };
 
     /// Takes bytes in a row, by default one by one. A flavor that can take them at once overrides
-    /// this. Succeeds if the flavor has `room` for all. May else fail with any error; a tidy flavor
-    /// has then appended a beginning of the bytes or nothing.
+    /// this. Succeeds if the flavor has `room` for all, and may otherwise fail with any error; a
+    /// tidy flavor has then appended a beginning of the bytes or nothing.
     fn try_extend(&mut self, bytes: &[u8]) -> Result<()>
         ensures appends { OnOk result (appended self.old bytes.now self.new) }
         ensures has_room { room self.old bytes.now → IsOk result }
@@ -60,8 +60,8 @@ pub trait Flavor {
     }
 
     /// Takes the varint of a number of at most 64 bits, 1 to 10 bytes. A flavor that can write it
-    /// in place overrides this. Succeeds if the flavor has `room` for it. May else fail with any
-    /// error; a tidy flavor has then appended a beginning of the varint or nothing.
+    /// in place overrides this. Succeeds if the flavor has `room` for it, and may otherwise fail
+    /// with any error; a tidy flavor has then appended a beginning of the varint or nothing.
     fn try_varint(&mut self, n: u64) -> Result<()>
         ensures appends { OnOk result (appended self.old (digits n) self.new) }
         ensures has_room { room self.old (digits n) → IsOk result }
@@ -73,7 +73,7 @@ pub trait Flavor {
     }
 
     /// Ends the message, and returns the output. Succeeds if the flavor has `room` for no bytes,
-    /// and may else fail with any error.
+    /// and may otherwise fail with any error.
     fn finalize(self) -> Result<Self::Output>
         ensures gives { IfOk result (λ output. finishes self output) }
         ensures closes { room self [] → IsOk result };

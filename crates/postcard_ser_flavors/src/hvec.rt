@@ -3,7 +3,7 @@
 ghost use Rattle.std.specs.Prelude.{◌≡◌, ◌+◌, ◌≤◌, ◌<◌, ◌↔◌, [], ◌∷◌, ◌++◌, length, slice_index};
 ghost use Rattle.std.specs.Prelude.{slice_set, ⊤, IsOk, OnOk, OnErr, IfOk, IfErr};
 ghost use Rattle.postcard_ser_flavors.specs.Flavor.{AppendsFront};
-ghost use Rattle.postcard_ser_flavors.specs.Held.{Appended, HasRoom, CanTake, AnyReached};
+ghost use Rattle.postcard_ser_flavors.specs.Held.{Appended, HasRoom, HasFreeUpTo, AnyReached};
 ghost use Rattle.postcard_ser_flavors.specs.Held.{fixed_lawful, fixed_free, fixed_storage};
 ghost use Rattle.postcard_ser_flavors.specs.Held.{list_indexed};
 ghost use Rattle.std.specs.Borrow.{sem, Lends, u8 as byte_row, unit as unit_row};
@@ -77,7 +77,7 @@ impl<const B: usize> Flavor for HVec<B> {
         ensures refused { OnErr result (⟦<HVec<B> as Flavor>⟧.tidy
             → AppendsFront ⟦<HVec<B> as Flavor>⟧.appended self.old (byte ∷ []) self.new) }
         ensures leaves { ⟦<HVec<B> as Flavor>⟧.reaches self.old self.new }
-        ensures fits { IsOk result ↔ (length self.old + 1 ≤ B) }
+        ensures fits_iff { IsOk result ↔ (length self.old + 1 ≤ B) }
         ensures refuses_by_buffer_full { IfErr result (λ e. e ≡ Error.SerializeBufferFull) }
         ensures unchanged { OnErr result (self.new ≡ self.old) }
     {
@@ -94,7 +94,7 @@ impl<const B: usize> Flavor for HVec<B> {
         ensures refused { OnErr result (⟦<HVec<B> as Flavor>⟧.tidy
             → AppendsFront ⟦<HVec<B> as Flavor>⟧.appended self.old bytes.now self.new) }
         ensures leaves { ⟦<HVec<B> as Flavor>⟧.reaches self.old self.new }
-        ensures fits { IsOk result ↔ (length self.old + length bytes.now ≤ B) }
+        ensures fits_iff { IsOk result ↔ (length self.old + length bytes.now ≤ B) }
         ensures refuses_by_buffer_full { IfErr result (λ e. e ≡ Error.SerializeBufferFull) }
         ensures unchanged { OnErr result (self.new ≡ self.old) }
     {
@@ -156,7 +156,7 @@ impl<const B: usize> IndexMut<usize> for HVec<B> {
 impl<const B: usize> Storage for HVec<B> {
     ghost held = { λ s. s };
 
-    ghost free = { CanTake (λ s. s) B };
+    ghost free = { HasFreeUpTo (λ s. s) B };
 
     ghost free_lawful = { fixed_free (λ s. s) B };
 

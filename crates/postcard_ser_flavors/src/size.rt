@@ -37,7 +37,7 @@ impl Default for Size {
 impl Size {
     fn add(&mut self, len: usize) -> Result<()>
         ensures counts { OnOk result (self.new ≡ self.old + len) }
-        ensures fits { IsOk result ↔ (self.old + len < 2 ^ 64) }
+        ensures fits_iff { IsOk result ↔ (self.old + len < 2 ^ 64) }
         ensures refuses_by_buffer_full { IfErr result (λ e. e ≡ Error.SerializeBufferFull) }
         ensures unchanged { OnErr result (self.new ≡ self.old) }
     {
@@ -74,7 +74,7 @@ impl Flavor for Size {
         ensures refused { OnErr result (⟦<Size as Flavor>⟧.tidy
             → AppendsFront ⟦<Size as Flavor>⟧.appended self.old (byte ∷ []) self.new) }
         ensures leaves { ⟦<Size as Flavor>⟧.reaches self.old self.new }
-        ensures fits { IsOk result ↔ (self.old + 1 < 2 ^ 64) }
+        ensures fits_iff { IsOk result ↔ (self.old + 1 < 2 ^ 64) }
         ensures refuses_by_buffer_full { IfErr result (λ e. e ≡ Error.SerializeBufferFull) }
         ensures unchanged { OnErr result (self.new ≡ self.old) }
     {
@@ -90,7 +90,7 @@ impl Flavor for Size {
         ensures refused { OnErr result (⟦<Size as Flavor>⟧.tidy
             → AppendsFront ⟦<Size as Flavor>⟧.appended self.old bytes.now self.new) }
         ensures leaves { ⟦<Size as Flavor>⟧.reaches self.old self.new }
-        ensures fits { IsOk result ↔ (self.old + length bytes.now < 2 ^ 64) }
+        ensures fits_iff { IsOk result ↔ (self.old + length bytes.now < 2 ^ 64) }
         ensures refuses_by_buffer_full { IfErr result (λ e. e ≡ Error.SerializeBufferFull) }
         ensures unchanged { OnErr result (self.new ≡ self.old) }
     {

@@ -102,7 +102,7 @@ impl<'a> Flavor for Slice<'a> {
         ensures refused { OnErr result (⟦<Slice<'static> as Flavor>⟧.tidy
             → AppendsFront ⟦<Slice<'static> as Flavor>⟧.appended self.old (byte ∷ []) self.new) }
         ensures leaves { ⟦<Slice<'static> as Flavor>⟧.reaches self.old self.new }
-        ensures fits { IsOk result ↔ (1 ≤ length (free self.old)) }
+        ensures fits_iff { IsOk result ↔ (1 ≤ length (free self.old)) }
         ensures rest_unchanged { OnOk result (free self.new ≡ drop 1 (free self.old)) }
         ensures refuses_by_buffer_full { IfErr result (λ e. e ≡ Error.SerializeBufferFull) }
         ensures unchanged { OnErr result (self.new ≡ self.old) }
@@ -125,7 +125,7 @@ impl<'a> Flavor for Slice<'a> {
         ensures refused { OnErr result (⟦<Slice<'static> as Flavor>⟧.tidy
             → AppendsFront ⟦<Slice<'static> as Flavor>⟧.appended self.old bytes.now self.new) }
         ensures leaves { ⟦<Slice<'static> as Flavor>⟧.reaches self.old self.new }
-        ensures fits { IsOk result ↔ (length bytes.now ≤ length (free self.old)) }
+        ensures fits_iff { IsOk result ↔ (length bytes.now ≤ length (free self.old)) }
         ensures rest_unchanged { OnOk result (free self.new
             ≡ drop (length bytes.now) (free self.old)) }
         ensures refuses_by_buffer_full { IfErr result (λ e. e ≡ Error.SerializeBufferFull) }
@@ -152,7 +152,7 @@ impl<'a> Flavor for Slice<'a> {
         ensures refused { OnErr result (⟦<Slice<'static> as Flavor>⟧.tidy
             → AppendsFront ⟦<Slice<'static> as Flavor>⟧.appended self.old (digits n) self.new) }
         ensures leaves { ⟦<Slice<'static> as Flavor>⟧.reaches self.old self.new }
-        ensures fits { IsOk result ↔ (length (digits n) ≤ length (free self.old)) }
+        ensures fits_iff { IsOk result ↔ (length (digits n) ≤ length (free self.old)) }
         ensures rest_unchanged { OnOk result (free self.new
             ≡ drop (length (digits n)) (free self.old)) }
         ensures refuses_by_buffer_full { IfErr result (λ e. e ≡ Error.SerializeBufferFull) }

@@ -121,5 +121,5 @@ reached w (inr (inr (inl e))) = rw e refl
 reached w (inr (inr (inr e))) = rw e refl
 
 -- Writing the byte at a place leaves the bytes after it unchanged.
-pub behind_kept : (out old : List ℕ) (len x : ℕ) → drop len out ≡ drop len old → drop (len + 1) (set out len x) ≡ drop (len + 1) old
-behind_kept out old len x e = drop-set-lt (len + 1) out len x (omega arith) ∙ (sym (drop-drop 1 len out) ∙ (ap (λ (l : List ℕ). drop 1 l) e ∙ drop-drop 1 len old))
+pub after_kept : (out old : List ℕ) (len x : ℕ) → drop len out ≡ drop len old → drop (len + 1) (set out len x) ≡ drop (len + 1) old
+after_kept out old len x e = drop-set-lt (len + 1) out len x (omega arith) ∙ (sym (drop-drop 1 len out) ∙ (ap (λ (l : List ℕ). drop 1 l) e ∙ drop-drop 1 len old))

@@ -16,10 +16,10 @@ pub record HasRead (w : ℕ) (p : List ℕ) (digits : Digits) : Type 0 where
 -- The result of `Digits::push` once the bytes p are read: `None` if more bytes follow, the number
 -- that p spells, or `DeserializeBadVarint` if p has the full length of a number and spells none of
 -- w bits.
-abbrev pub PushAnswers : ℕ → List ℕ → Digits → Result (Option ℕ) Error → Type 0
-PushAnswers w p digits (Ok None) = HasRead w p digits
-PushAnswers w p digits (Ok (Some n)) = SpellsNum w n p × (n < 2 ^ w)
-PushAnswers w p digits (Err e) = (e ≡ DeserializeBadVarint) × SpellsNone w p
+abbrev pub PushReturns : ℕ → List ℕ → Digits → Result (Option ℕ) Error → Type 0
+PushReturns w p digits (Ok None) = HasRead w p digits
+PushReturns w p digits (Ok (Some n)) = SpellsNum w n p × (n < 2 ^ w)
+PushReturns w p digits (Err e) = (e ≡ DeserializeBadVarint) × SpellsNone w p
 
 -- The digit of the byte b at place i, counted from 0, fits in w bits. A byte of 128 or more doesn't
 -- fit at the last place.

@@ -6,7 +6,7 @@
 ghost use Rattle.std.specs.Prelude.{◌≡◌, ◌≤◌, ◌*◌, ◌++◌, ◌∷◌, [], ℕ, List, MatchBool};
 ghost use Rattle.postcard_wire.specs.Digits.{Within};
 ghost use Rattle.postcard_wire.specs.Tree.{IsWidth};
-ghost use Rattle.postcard_wire.specs.Digits.{HasRead, PushAnswers};
+ghost use Rattle.postcard_wire.specs.Digits.{HasRead, PushReturns};
 
 use crate::error::{Error, Result};
 
@@ -38,7 +38,7 @@ impl Digits {
         requires width { IsWidth bits }
         requires begun { (p : List ℕ) × HasRead bits p self.old }
         ensures { (p : List ℕ) → HasRead bits p self.old
-            → PushAnswers bits (p ++ byte ∷ []) self.new result }
+            → PushReturns bits (p ++ byte ∷ []) self.new result }
     {
         if !is_within(bits, self.count, byte) {
             return Err(Error::DeserializeBadVarint);

@@ -29,7 +29,7 @@ pub fn spell(alloc: Global, bits: u32, n: u128) -> Result<Vec<u8>, AllocError>
     Ok(spelling)
 }
 
-/// Returns the zigzag encoding of a signed number of any width: `2 * n`, or `-2 * n - 1` if `n` is
+/// Returns the zigzag encoding of a signed number of any width: `2 * z`, or `-2 * z - 1` if `z` is
 /// negative (wire format 1.0, "signed integer encoding").
 pub fn zig_zag(z: i128) -> u128
     ensures { result ≡ zigzag z }

@@ -30,10 +30,10 @@ pub trait ContentSet {
     ghost holds: { ℕ → Tree → Type 0 };
 }
 
-/// Each tree has one shortest spelling, and every other is longer.
+/// Each well-formed tree has one shortest spelling, and every other is longer.
 pub fn shortest()
     ensures spelled { (t : Tree) → WellFormed t → Spells t (canonical t) }
-    ensures alone { (t : Tree) (p : List ℕ) → Spells t p
+    ensures shortest_or_longer { (t : Tree) (p : List ℕ) → Spells t p
         → (p ≡ canonical t) ⊎ (length (canonical t) < length p) }
 {}
 
@@ -108,8 +108,8 @@ pub fn well_formed_subsets<S: TreeSet, T: TreeSet>()
     ensures { ((t : Tree) → S.has t → T.has t) → ReadsWellFormed T.has → ReadsWellFormed S.has }
 {}
 
-/// What is written is read again: if bytes begin with a tree's shortest spelling, that is the only
-/// front that spells a tree of the set, and it spells only this tree.
+/// What is written is read again: if bytes begin with the shortest spelling of a tree of the set,
+/// that is the only front that spells a tree of the set, and it spells only this tree.
 pub fn read_again<S: TreeSet>()
     ensures { IsDelimited S.has → ReadsWellFormed S.has → (t s : Tree) (p rest left : List ℕ)
         → S.has t → S.has s → Spells s p → p ++ left ≡ canonical t ++ rest

@@ -69,7 +69,7 @@ impl<'de, F: Flavor> Deserializer<'de, F> {
         if let Some(items) = lists::list_at_hand(alloc, &mut self.flavor, count)? {
             return Ok(items);
         }
-        // Each element has at least one byte, except for types whose elements take no memory.
+        // Each element has at least one byte, except for types that write nothing.
         let first = self.flavor.at_hand().len().clamp(16, 128);
         let mut items = Vec::new(alloc);
         for i in 0..count {

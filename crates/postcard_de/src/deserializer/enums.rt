@@ -37,7 +37,7 @@ impl<'de, F: Flavor> Deserializer<'de, F> {
 
     /// Reads the content of a variant without content: nothing. Never fails.
     pub fn unit_variant(&mut self) -> Result<()>
-        ensures reads { result ≡ Ok tt }
+        ensures succeeds { result ≡ Ok tt }
         ensures unchanged { self.new ≡ self.old }
     {
         Ok(())

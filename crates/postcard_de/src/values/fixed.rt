@@ -11,7 +11,7 @@ ghost use Rattle.postcard_de.specs.Deserializer.{source_of};
 
 use crate::deserialize::Deserialize;
 use crate::deserializer::Deserializer;
-use crate::element::{Kept, Lent};
+use crate::element::{ByDeserialize, ByDeserializeOwned};
 use crate::owned::DeserializeOwned;
 use arrayvec::{ArrayString, ArrayVec};
 use postcard_de_flavors::Flavor;
@@ -21,7 +21,7 @@ use std::alloc::Global;
 
 impl<'de, T: Deserialize<'de> + Copy + Default, const N: usize> Deserialize<'de> for [T; N] {
     fn deserialize<F: Flavor>(alloc: Global, d: &mut Deserializer<'de, F>) -> Result<Self> {
-        d.array::<T, Lent, N>(alloc)
+        d.array::<T, ByDeserialize, N>(alloc)
     }
 }
 
@@ -30,7 +30,7 @@ impl<T: DeserializeOwned + Copy + Default, const N: usize> DeserializeOwned for 
         alloc: Global,
         d: &mut Deserializer<'de, F>,
     ) -> Result<Self> {
-        d.array::<T, Kept, N>(alloc)
+        d.array::<T, ByDeserializeOwned, N>(alloc)
     }
 }
 
@@ -38,7 +38,7 @@ impl<T: DeserializeOwned + Copy + Default, const N: usize> DeserializeOwned for 
 /// element that doesn't fit has been read.
 impl<'de, T: Deserialize<'de> + Default, const CAP: usize> Deserialize<'de> for ArrayVec<T, CAP> {
     fn deserialize<F: Flavor>(alloc: Global, d: &mut Deserializer<'de, F>) -> Result<Self> {
-        d.few::<T, Lent, CAP>(alloc)
+        d.few::<T, ByDeserialize, CAP>(alloc)
     }
 }
 
@@ -47,7 +47,7 @@ impl<T: DeserializeOwned + Default, const CAP: usize> DeserializeOwned for Array
         alloc: Global,
         d: &mut Deserializer<'de, F>,
     ) -> Result<Self> {
-        d.few::<T, Kept, CAP>(alloc)
+        d.few::<T, ByDeserializeOwned, CAP>(alloc)
     }
 }
 

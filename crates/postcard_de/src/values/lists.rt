@@ -11,7 +11,7 @@ ghost use Rattle.postcard_de.specs.Deserializer.{source_of};
 
 use crate::deserialize::Deserialize;
 use crate::deserializer::Deserializer;
-use crate::element::{Kept, Lent};
+use crate::element::{ByDeserialize, ByDeserializeOwned};
 use crate::owned::DeserializeOwned;
 use postcard_de_flavors::Flavor;
 use postcard_wire::Result;
@@ -31,7 +31,7 @@ impl<'de> Deserialize<'de> for &'de [u8] {
 
 impl<'de, T: Deserialize<'de>> Deserialize<'de> for Vec<T> {
     fn deserialize<F: Flavor>(alloc: Global, d: &mut Deserializer<'de, F>) -> Result<Self> {
-        d.list::<T, Lent>(alloc)
+        d.list::<T, ByDeserialize>(alloc)
     }
 }
 
@@ -40,6 +40,6 @@ impl<T: DeserializeOwned> DeserializeOwned for Vec<T> {
         alloc: Global,
         d: &mut Deserializer<'de, F>,
     ) -> Result<Self> {
-        d.list::<T, Kept>(alloc)
+        d.list::<T, ByDeserializeOwned>(alloc)
     }
 }

@@ -2,16 +2,18 @@
 
 use crate::deserialize::Deserialize;
 use crate::deserializer::Deserializer;
-use crate::element::{Kept, Lent};
+use crate::element::{ByDeserialize, ByDeserializeOwned};
 use crate::owned::DeserializeOwned;
 use postcard_de_flavors::Flavor;
 use postcard_wire::Result;
 use std::alloc::Global;
 use std::collections::BTreeMap;
 
+/// Reads the pairs in any order; of equal keys the last value is kept. Fails with `OutOfMemory` if
+/// an allocation fails.
 impl<'de, K: Deserialize<'de> + Ord, V: Deserialize<'de>> Deserialize<'de> for BTreeMap<K, V> {
     fn deserialize<F: Flavor>(alloc: Global, d: &mut Deserializer<'de, F>) -> Result<Self> {
-        d.map::<K, V, Lent>(alloc)
+        d.map::<K, V, ByDeserialize>(alloc)
     }
 }
 
@@ -20,6 +22,6 @@ impl<K: DeserializeOwned + Ord, V: DeserializeOwned> DeserializeOwned for BTreeM
         alloc: Global,
         d: &mut Deserializer<'de, F>,
     ) -> Result<Self> {
-        d.map::<K, V, Kept>(alloc)
+        d.map::<K, V, ByDeserializeOwned>(alloc)
     }
 }

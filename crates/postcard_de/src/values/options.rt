@@ -7,6 +7,8 @@ use postcard_de_flavors::Flavor;
 use postcard_wire::Error;
 use std::alloc::Global;
 
+/// Reads the byte 0 as `None`, and the byte 1 and then a value as `Some`. Fails with
+/// `DeserializeBadOption` at any other byte.
 impl<'de, T: Deserialize<'de>> Deserialize<'de> for Option<T> {
     fn deserialize<F: Flavor>(
         alloc: Global,
@@ -29,6 +31,7 @@ impl<T: DeserializeOwned> DeserializeOwned for Option<T> {
     }
 }
 
+/// Reads an enum: `Ok` at index 0, and `Err` at 1. Fails with `SerdeDeCustom` at any other index.
 impl<'de, T: Deserialize<'de>, E: Deserialize<'de>> Deserialize<'de> for Result<T, E> {
     fn deserialize<F: Flavor>(
         alloc: Global,

@@ -1,4 +1,4 @@
-//! Booleans, characters, and numbers as wide as an address, which are read as numbers of 64 bits.
+//! Truth values, characters, and `usize` and `isize` as numbers of 64 bits.
 
 ghost use Rattle.std.specs.Prelude.{◌≡◌, IfErr};
 ghost use Rattle.postcard_wire.specs.Tree.{Boolean, Char, Num, Int};

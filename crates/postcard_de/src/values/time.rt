@@ -10,6 +10,8 @@ use std::time::Duration;
 
 const NANOSECONDS_PER_SECOND: u32 = 1_000_000_000;
 
+/// Reads the seconds and the nanoseconds, numbers of 64 and 32 bits; whole seconds of the
+/// nanoseconds are carried. Fails with `SerdeDeCustom` if the seconds then exceed 64 bits.
 impl<'de> Deserialize<'de> for Duration {
     fn deserialize<F: Flavor>(alloc: Global, d: &mut Deserializer<'de, F>) -> Result<Self> {
         let parts: (u64, u32) = <(u64, u32)>::deserialize(alloc, d)?;

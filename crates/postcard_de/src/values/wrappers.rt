@@ -11,6 +11,7 @@ use std::alloc::Global;
 use std::num::Wrapping;
 use std::rc::Rc;
 
+/// Reads the value. Fails as that does, and with `OutOfMemory` if the allocation fails.
 impl<'de, T: Deserialize<'de>> Deserialize<'de> for Box<T> {
     fn deserialize<F: Flavor>(alloc: Global, d: &mut Deserializer<'de, F>) -> Result<Self> {
         let value = T::deserialize(alloc, d)?;
@@ -34,6 +35,7 @@ impl<T: DeserializeOwned> DeserializeOwned for Box<T> {
     }
 }
 
+/// Reads the value. Fails as that does, and with `OutOfMemory` if the allocation fails.
 impl<'de, T: Deserialize<'de>> Deserialize<'de> for Rc<T> {
     fn deserialize<F: Flavor>(alloc: Global, d: &mut Deserializer<'de, F>) -> Result<Self> {
         let value = T::deserialize(alloc, d)?;

@@ -73,7 +73,7 @@ impl<'de, T: Source> Flavor for IOReader<'de, T> {
         ensures gives { IfOk result (λ b. Takes ⟦<IOReader<'de, T> as Flavor>⟧.left
             ⟦<IOReader<'de, T> as Flavor>⟧.able self.old (b ∷ []) self.new) }
         ensures leaves { ⟦<IOReader<'de, T> as Flavor>⟧.may_leave self.old self.new }
-        ensures refuses { IfErr result (λ e. e ≡ Error.DeserializeUnexpectedEnd) }
+        ensures refuses_by_unexpected_end { IfErr result (λ e. e ≡ Error.DeserializeUnexpectedEnd) }
         ensures accepts { ⟦<IOReader<'de, T> as Flavor>⟧.able self.old 1 → IsOk result }
         ensures succeeds { T.steady (reader_of self.old)
             → AtLeast (T.remaining (reader_of self.old)) 1 → IsOk result }
@@ -110,8 +110,9 @@ impl<'de, T: Source> Flavor for IOReader<'de, T> {
             ⟦<IOReader<'de, T> as Flavor>⟧.able self.old front.now self.new) }
         ensures accepts { ⟦<IOReader<'de, T> as Flavor>⟧.able self.old ct → IsOk result }
         ensures leaves { ⟦<IOReader<'de, T> as Flavor>⟧.may_leave self.old self.new }
-        ensures refuses { IfErr result (λ e. e ≡ Error.DeserializeUnexpectedEnd) }
-        ensures short { length (scratch_of self.old) < ct → IsErr result × (self.new ≡ self.old) }
+        ensures refuses_by_unexpected_end { IfErr result (λ e. e ≡ Error.DeserializeUnexpectedEnd) }
+        ensures short_scratch_refused { length (scratch_of self.old) < ct → IsErr result
+            × (self.new ≡ self.old) }
         ensures uses { ct ≤ length (scratch_of self.old) → scratch_of self.new
             ≡ drop ct (scratch_of self.old) }
     {
@@ -137,8 +138,8 @@ impl<'de, T: Source> Flavor for IOReader<'de, T> {
             (record { mir = named 1; lft = [] }) T.row) self.entry
             (LendsScratch T.remaining T.steady ct self.old result)) }
         ensures accepts { ⟦<IOReader<'de, T> as Flavor>⟧.able self.old ct → IsOk result }
-        ensures refuses { IfErr result (λ e. e ≡ Error.DeserializeUnexpectedEnd) }
-        ensures short { length (scratch_of self.old) < ct → IsErr result }
+        ensures refuses_by_unexpected_end { IfErr result (λ e. e ≡ Error.DeserializeUnexpectedEnd) }
+        ensures short_scratch_refused { length (scratch_of self.old) < ct → IsErr result }
     {
         self.scratch.fill(&mut self.reader, ct)?;
         Ok(self.scratch.front(ct))

@@ -50,8 +50,8 @@ impl<'de> SlidingBuffer<'de> {
     pub fn take_n(&mut self, n: usize) -> Result<&'de mut [u8]>
         ensures taken { IfOk result (λ front. (length front.now ≡ n)
             × (self.old ≡ front.now ++ self.new)) }
-        ensures refused { OnErr result ((self.new ≡ self.old) × (length self.old < n)) }
-        ensures refuses { IfErr result (λ e. e ≡ Error.DeserializeUnexpectedEnd) }
+        ensures unchanged_if_short { OnErr result ((self.new ≡ self.old) × (length self.old < n)) }
+        ensures refuses_by_unexpected_end { IfErr result (λ e. e ≡ Error.DeserializeUnexpectedEnd) }
     {
         if self.len < n {
             return Err(Error::DeserializeUnexpectedEnd);
@@ -82,9 +82,9 @@ impl<'de> SlidingBuffer<'de> {
         ensures succeeds { R.steady reader.old → AtLeast (R.remaining reader.old) n
             → n ≤ length self.old → IsOk result }
         ensures stays_steady { R.steady reader.old → R.steady reader.new }
-        ensures short { length self.old < n → IsErr result × (self.new ≡ self.old)
+        ensures short_scratch_refused { length self.old < n → IsErr result × (self.new ≡ self.old)
             × (reader.new ≡ reader.old) }
-        ensures refuses { IfErr result (λ e. e ≡ Error.DeserializeUnexpectedEnd) }
+        ensures refuses_by_unexpected_end { IfErr result (λ e. e ≡ Error.DeserializeUnexpectedEnd) }
     {
         if self.len < n {
             return Err(Error::DeserializeUnexpectedEnd);

@@ -17,7 +17,7 @@ impl MaxSize for NonZeroU8 {
     ghost limit = { exactly 1 };
 
     fn postcard_max_size() -> Option<usize> {
-        Some(1)
+        u8::postcard_max_size()
     }
 
     fn in_forms(&self) {
@@ -32,7 +32,7 @@ impl MaxSize for NonZeroU16 {
     ghost limit = { exactly 3 };
 
     fn postcard_max_size() -> Option<usize> {
-        Some(3)
+        u16::postcard_max_size()
     }
 
     fn in_forms(&self) {
@@ -47,7 +47,7 @@ impl MaxSize for NonZeroU32 {
     ghost limit = { exactly 5 };
 
     fn postcard_max_size() -> Option<usize> {
-        Some(5)
+        u32::postcard_max_size()
     }
 
     fn in_forms(&self) {
@@ -62,7 +62,7 @@ impl MaxSize for NonZeroU64 {
     ghost limit = { exactly 10 };
 
     fn postcard_max_size() -> Option<usize> {
-        Some(10)
+        u64::postcard_max_size()
     }
 
     fn in_forms(&self) {
@@ -77,7 +77,7 @@ impl MaxSize for NonZeroU128 {
     ghost limit = { exactly 19 };
 
     fn postcard_max_size() -> Option<usize> {
-        Some(19)
+        u128::postcard_max_size()
     }
 
     fn in_forms(&self) {
@@ -92,7 +92,7 @@ impl MaxSize for NonZeroUsize {
     ghost limit = { exactly 10 };
 
     fn postcard_max_size() -> Option<usize> {
-        Some(10)
+        usize::postcard_max_size()
     }
 
     fn in_forms(&self) {
@@ -107,7 +107,7 @@ impl MaxSize for NonZeroI8 {
     ghost limit = { exactly 1 };
 
     fn postcard_max_size() -> Option<usize> {
-        Some(1)
+        i8::postcard_max_size()
     }
 
     fn in_forms(&self) {
@@ -122,7 +122,7 @@ impl MaxSize for NonZeroI16 {
     ghost limit = { exactly 3 };
 
     fn postcard_max_size() -> Option<usize> {
-        Some(3)
+        i16::postcard_max_size()
     }
 
     fn in_forms(&self) {
@@ -137,7 +137,7 @@ impl MaxSize for NonZeroI32 {
     ghost limit = { exactly 5 };
 
     fn postcard_max_size() -> Option<usize> {
-        Some(5)
+        i32::postcard_max_size()
     }
 
     fn in_forms(&self) {
@@ -152,7 +152,7 @@ impl MaxSize for NonZeroI64 {
     ghost limit = { exactly 10 };
 
     fn postcard_max_size() -> Option<usize> {
-        Some(10)
+        i64::postcard_max_size()
     }
 
     fn in_forms(&self) {
@@ -167,7 +167,7 @@ impl MaxSize for NonZeroI128 {
     ghost limit = { exactly 19 };
 
     fn postcard_max_size() -> Option<usize> {
-        Some(19)
+        i128::postcard_max_size()
     }
 
     fn in_forms(&self) {
@@ -182,7 +182,7 @@ impl MaxSize for NonZeroIsize {
     ghost limit = { exactly 10 };
 
     fn postcard_max_size() -> Option<usize> {
-        Some(10)
+        isize::postcard_max_size()
     }
 
     fn in_forms(&self) {

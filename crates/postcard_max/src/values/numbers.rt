@@ -90,7 +90,7 @@ impl MaxSize for i8 {
     ghost limit = { exactly 1 };
 
     fn postcard_max_size() -> Option<usize> {
-        Some(1)
+        u8::postcard_max_size()
     }
 
     fn in_forms(&self) {
@@ -105,7 +105,7 @@ impl MaxSize for i16 {
     ghost limit = { exactly 3 };
 
     fn postcard_max_size() -> Option<usize> {
-        Some(3)
+        u16::postcard_max_size()
     }
 
     fn in_forms(&self) {
@@ -120,7 +120,7 @@ impl MaxSize for i32 {
     ghost limit = { exactly 5 };
 
     fn postcard_max_size() -> Option<usize> {
-        Some(5)
+        u32::postcard_max_size()
     }
 
     fn in_forms(&self) {
@@ -135,7 +135,7 @@ impl MaxSize for i64 {
     ghost limit = { exactly 10 };
 
     fn postcard_max_size() -> Option<usize> {
-        Some(10)
+        u64::postcard_max_size()
     }
 
     fn in_forms(&self) {
@@ -150,7 +150,7 @@ impl MaxSize for i128 {
     ghost limit = { exactly 19 };
 
     fn postcard_max_size() -> Option<usize> {
-        Some(19)
+        u128::postcard_max_size()
     }
 
     fn in_forms(&self) {

@@ -44,7 +44,7 @@ impl MaxSize for usize {
     ghost limit = { exactly 10 };
 
     fn postcard_max_size() -> Option<usize> {
-        Some(10)
+        u64::postcard_max_size()
     }
 
     fn in_forms(&self) {
@@ -59,7 +59,7 @@ impl MaxSize for isize {
     ghost limit = { exactly 10 };
 
     fn postcard_max_size() -> Option<usize> {
-        Some(10)
+        i64::postcard_max_size()
     }
 
     fn in_forms(&self) {

@@ -24,7 +24,7 @@ impl<T> MaxSize for PhantomData<T> {
     ghost limit = { exactly 0 };
 
     fn postcard_max_size() -> Option<usize> {
-        Some(0)
+        <()>::postcard_max_size()
     }
 
     fn in_forms(&self) {}

@@ -8,20 +8,20 @@ use super::{Life, Memory};
 use std::slice;
 
 impl Memory {
-    /// Returns all `len` bytes, to be changed. What they end as, the memory holds.
+    /// Returns all `len` bytes, to be changed. The memory then holds what the borrower left there.
     pub fn lend<'a>(&'a mut self, _life: &'a Life, len: usize) -> &'a mut [u8]
         requires { (self.old.time ≡ _life.now) × (len ≡ length self.old.items) }
         ensures* writes_back { sem 𝓛 (Lends the_row
             (Array u8 0) self.entry result (λ w. record self.old { items = w })) }
-        ensures all { result.now ≡ self.old.items }
+        ensures value { result.now ≡ self.old.items }
     {
         // SAFETY: `len` bytes lie at `start`, and `self` is borrowed for as long as the result
         // lives.
         unsafe { slice::from_raw_parts_mut(self.start, len) }
     }
 
-    /// Returns the byte at `place`, counted from 0, to be changed. What it ends as, the memory
-    /// holds there.
+    /// Returns the byte at `place`, counted from 0, to be changed. The memory then holds there what
+    /// the borrower left.
     pub fn at<'a>(&'a mut self, _life: &'a Life, place: usize) -> &'a mut u8
         requires { (self.old.time ≡ _life.now) × (place < length self.old.items) }
         ensures* writes_back { sem 𝓛 (Lends the_row u8

@@ -2,7 +2,7 @@
 
 use std::marker::{Move, Owns};
 
-/// A `&'a Life` shows that a time lasts as long as 'a. There is no `Life` but behind a `&`.
+/// A `&'a Life` shows that the bytes are lent for `'a`. No `Life` exists except by reference.
 pub struct Life {}
 
 impl Owns for Life {

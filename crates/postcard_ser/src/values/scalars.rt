@@ -1,4 +1,4 @@
-//! Truth values, characters, and numbers as wide as an address.
+//! Truth values, characters, and `usize` and `isize` as numbers of 64 bits.
 
 use crate::serialize::Serialize;
 use crate::serializer::Serializer;

@@ -28,7 +28,7 @@ impl<'a> Storage for Slice<'a> {
             → ⟦<Slice<'static> as Storage>⟧.free self.new n }
         ensures leaves { ⟦<Slice<'static> as Flavor>⟧.reaches self.old self.new }
         ensures countable { length (⟦<Slice<'static> as Storage>⟧.held self.new) < 2 ^ 64 }
-        ensures alone { self.new
+        ensures only_byte_changed { self.new
             ≡ record self.old { buffer = slice_set self.old.buffer place byte } }
     {
         *self.memory.at(self.life, place) = byte;

@@ -28,7 +28,7 @@ impl Shaped for u8 {
     fn slice_bytes(items: &[u8]) -> Option<&[u8]>
         ensures gives { IfSome result (λ b. b.now ≡ canonical_all (trees (map Byte items.now))) }
         ensures fits { IfSome result (λ _. AllFit byte.fits items.now) }
-        ensures always { IsSome result }
+        ensures returns_some { IsSome result }
     {
         Some(items)
     }
@@ -37,7 +37,7 @@ impl Shaped for u8 {
         ensures reads { IfOk result
             (λ list. IfSome list (λ v. AreOfBytes byte.reads byte.value bytes.now v.items)) }
         ensures refused { IfErr result (λ e. e ≡ Error.OutOfMemory) }
-        ensures always { IfOk result (λ list. IsSome list) }
+        ensures returns_some { IfOk result (λ list. IsSome list) }
     {
         let bytes = in_range(bytes);
         match bytes.to_vec(alloc) {

@@ -2,14 +2,14 @@ use Rattle.std.proofs.Common.{◌≡◌, ◌++◌, take, ap, ◌∙◌, arith}
 use Rattle.std.proofs.lemmas.Grind.{common_steps}
 use Rattle.std.proofs.lemmas.List.{append-nil}
 use Rattle.postcard_accumulator.specs.Reading.{unfed}
-use Rattle.pcard.proofs.Digits.{appends-join}
+use Rattle.std.proofs.KnownBytes.{Appends-trans}
 use Rattle.pcard.proofs.Lines.{lines_more}
 use Rattle.pcard.proofs.frames.print.Goals as goal
 
 pub loop-answer-preserved : goal.loop-answer-preserved
 loop-answer-preserved g c =
     rw (lines_more c.deref-answer-items.result.now c.loop-answer.answer-index c.answer-item.result (omega arith) c.answer-item.is)
-    (appends-join _ _ _ _ _ c.loop-answer.invariant c.in_ok-print_answer.ensures.printed)
+    (Appends-trans _ _ _ _ _ c.loop-answer.invariant c.in_ok-print_answer.ensures.printed)
 
 pub returns-in-End-clause-printed : goal.returns-in-End-clause-printed
 returns-in-End-clause-printed g c =

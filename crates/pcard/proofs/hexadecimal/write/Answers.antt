@@ -1,9 +1,10 @@
 use Rattle.std.proofs.Common.{[], ◌++◌, refl}
-use Rattle.pcard.proofs.Digits.{encode_lower-nil, appends-none, appends-piece, cut_again}
+use Rattle.std.proofs.KnownBytes.{Appends-nil}
+use Rattle.pcard.proofs.Digits.{encode_lower-nil, appends-piece, cut_again}
 use Rattle.pcard.proofs.hexadecimal.write.Goals as goal
 
 pub pieces-init : goal.pieces-init
-pieces-init g c = ([], refl, rw encode_lower-nil (appends-none _))
+pieces-init g c = ([], refl, rw encode_lower-nil (Appends-nil _))
 
 pub pieces-preserved : goal.pieces-preserved
 pieces-preserved g c =

@@ -7,7 +7,7 @@ use Rattle.postcard_de.proofs.laws.read_again.Goals as goal
 pub returns : goal.returns
 returns g c = let type = g.T.Shaped.shape in record {
   spelled = λ t r. Spells-canonical t (type.well_formed t r);
-  only = λ t s p rest left r k e f.
+  no_other_front = λ t s p rest left r k e f.
       let d = type.delimited s t p (canonical t) left rest k r e (Spells-canonical t (type.well_formed t r))
       f in (
         d.1,

@@ -1,5 +1,5 @@
 use Rattle.std.proofs.Common.{ℕ, List, Bor, inl, inr}
-use Rattle.postcard_de_nodes.specs.ReadLemmas.{is_refusal, widened, behind_front}
+use Rattle.postcard_de_nodes.specs.ReadLemmas.{is_refusal, widened, ends_after_front}
 use Rattle.postcard_de_nodes.specs.CountLemmas.{list_read, list_refused, count_refused}
 use Rattle.postcard_de_nodes.specs.NumberLemmas.{number_below, number_spelled}
 use Rattle.postcard_de_nodes.proofs.ByteLemmas.{bytes_read, bytes_end}
@@ -22,20 +22,20 @@ returns-in_err-lent-clause-reads g c =
     c.from_residual-in_err-lent.ensures.1)
     (list_refused laws (λ (b : Bor (List ℕ)). b.now) c.in_ok-count.ensures.reads
     (bytes_end laws (λ a. let bad = c.in_err-lent.ensures.accepts a in cc)
-    c.in_err-lent.ensures.leaves c.in_err-lent.ensures.refuses))
+    c.in_err-lent.ensures.leaves c.in_err-lent.ensures.refuses_by_unexpected_end))
 
 pub returns-in_err-lent-clause-refused : goal.returns-in_err-lent-clause-refused
 returns-in_err-lent-clause-refused g c =
     let laws = g.F.Flavor.lawful in
     rw (is_refusal c.from_residual-in_err-lent.result c.in_err-lent.field-0.0
     c.from_residual-in_err-lent.ensures.1)
-    (behind_front c.in_ok-count.ensures.reads.gives.taken
+    (ends_after_front c.in_ok-count.ensures.reads.gives.taken
     (inr (
       number_spelled laws c.in_ok-count.ensures.reads,
       number_below laws
           c.in_ok-count.ensures.reads,
     )) (λ a. let bad = c.in_err-lent.ensures.accepts a in cc)
-    c.in_err-lent.ensures.refuses)
+    c.in_err-lent.ensures.refuses_by_unexpected_end)
 
 pub returns-clause-reads : goal.returns-clause-reads
 returns-clause-reads g c =

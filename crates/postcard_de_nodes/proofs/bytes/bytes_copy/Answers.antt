@@ -18,7 +18,7 @@ returns-in_err-lent-clause-reads g c =
     passed_on (λ x a. a) (λ h. absurd h) c.from_residual-in_err-lent.ensures.1
     (list_refused laws (λ (v : Vec ℕ Global). v.items) c.in_ok-count.ensures.reads
     (bytes_end laws (λ a. let bad = c.in_err-lent.ensures.accepts a in cc) lent.1
-    c.in_err-lent.ensures.refuses))
+    c.in_err-lent.ensures.refuses_by_unexpected_end))
 
 pub returns-in-Ok-clause-reads : goal.returns-in-Ok-clause-reads
 returns-in-Ok-clause-reads g c =

@@ -14,7 +14,7 @@ returns-in_err-byte-clause-reads g c =
     let so = c.loop-place.invariant.0 in
     rw (is_refusal c.from_residual.result c.in_err-byte.field-0.0 c.from_residual.ensures.1)
     (number_refused laws (number_ends laws so (λ a. let bad = c.in_err-byte.ensures.accepts a in cc)
-    c.in_err-byte.ensures.refuses) (laws.joins _ _ _ so.leaves c.in_err-byte.ensures.leaves))
+    c.in_err-byte.ensures.refuses_by_unexpected_end) (laws.joins _ _ _ so.leaves c.in_err-byte.ensures.leaves))
 
 pub returns-in_err-n-clause-reads : goal.returns-in_err-n-clause-reads
 returns-in_err-n-clause-reads g c =

@@ -34,7 +34,7 @@ returns-in_err-bytes-clause-reads g c =
     rw (is_refusal c.from_residual-in_err-bytes.result c.in_err-bytes.field-0.0
     c.from_residual-in_err-bytes.ensures.1)
     (char_refused laws (char_ends laws c.in_ok-length.ensures.reads few
-    (λ a. let bad = c.in_err-bytes.ensures.accepts a in cc) c.in_err-bytes.ensures.refuses)
+    (λ a. let bad = c.in_err-bytes.ensures.accepts a in cc) c.in_err-bytes.ensures.refuses_by_unexpected_end)
     (laws.joins _ _ _ c.in_ok-length.ensures.reads.leaves lent.1))
 
 pub returns-in-Ok-clause-reads : goal.returns-in-Ok-clause-reads

@@ -23,7 +23,7 @@ returns-in_err-bytes-clause-reads g c =
     passed_on (short_text_inside g.row.CAP) (λ h. h) c.from_residual-in_err-bytes.ensures.1
     (text_refused laws {V = ℕ} {value = λ t v. ⊥} {G = ⊥}
     (text_ends laws c.in_ok-count.ensures.reads
-    (λ a. let bad = c.in_err-bytes.ensures.accepts a in cc) c.in_err-bytes.ensures.refuses)
+    (λ a. let bad = c.in_err-bytes.ensures.accepts a in cc) c.in_err-bytes.ensures.refuses_by_unexpected_end)
     (laws.joins _ _ _ c.in_ok-count.ensures.reads.leaves lent.1))
 
 pub returns-in-Ok-from-clause-reads : goal.returns-in-Ok-from-clause-reads

@@ -19,7 +19,7 @@ returns-in_err-lent-clause-reads g c =
     rw (is_refusal c.from_residual-in_err-lent.result c.in_err-lent.field-0.0
     c.from_residual-in_err-lent.ensures.1)
     (text_refused laws (text_ends laws c.in_ok-count.ensures.reads
-    (λ a. let bad = c.in_err-lent.ensures.accepts a in cc) c.in_err-lent.ensures.refuses)
+    (λ a. let bad = c.in_err-lent.ensures.accepts a in cc) c.in_err-lent.ensures.refuses_by_unexpected_end)
     (laws.joins _ _ _ c.in_ok-count.ensures.reads.leaves lent.1))
 
 pub returns-in-Ok-from_str-clause-reads : goal.returns-in-Ok-from_str-clause-reads

@@ -6,7 +6,7 @@ use Rattle.postcard_wire.specs.Spelling.{canonical}
 use Rattle.postcard.specs.Lemmas.{is_refusal, canonical_spells}
 use Rattle.postcard_dyn_schema.specs.Meaning.{type_of}
 use Rattle.postcard_dyn.specs.Tree.{tree}
-use Rattle.postcard_dyn.proofs.Types.{type_well_formed}
+use Rattle.postcard_dyn.specs.TypeLaws.{type_well_formed}
 use Rattle.postcard_dyn.proofs.calls.take_from_bytes.Goals as goal
 
 -- A list has at least as many bytes as its front.

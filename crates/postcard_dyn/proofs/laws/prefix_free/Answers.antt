@@ -1,4 +1,4 @@
-use Rattle.postcard_dyn.proofs.Types.{type_delimited}
+use Rattle.postcard_dyn.specs.TypeLaws.{type_delimited}
 use Rattle.postcard_dyn.proofs.laws.prefix_free.Goals as goal
 
 pub returns : goal.returns

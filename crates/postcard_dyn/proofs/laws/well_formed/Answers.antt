@@ -1,4 +1,4 @@
-use Rattle.postcard_dyn.proofs.Types.{type_well_formed}
+use Rattle.postcard_dyn.specs.TypeLaws.{type_well_formed}
 use Rattle.postcard_dyn.proofs.laws.well_formed.Goals as goal
 
 pub returns : goal.returns

@@ -3,4 +3,4 @@ use Rattle.postcard_wire.proofs.Shortest.{least, Spells-canonical}
 use Rattle.postcard_wire.proofs.laws.shortest.Goals as goal
 
 pub returns : goal.returns
-returns c = record { spelled = Spells-canonical; alone = least }
+returns c = record { spelled = Spells-canonical; shortest_or_longer = least }

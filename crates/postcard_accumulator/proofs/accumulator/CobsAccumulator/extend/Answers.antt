@@ -7,7 +7,7 @@ use Rattle.postcard_accumulator.proofs.accumulator.CobsAccumulator.extend.Goals 
 
 pub invariant_of-self : goal.invariant_of-self
 invariant_of-self g c =
-    let s = not_skipping _ _ _ c.self.view_is c.requires.holds in
+    let s = not_skipping _ _ _ c.self.view_is c.requires.not_skipping in
     let old = c.self.invariant in
     let low = old.0 in
     let more = NoZero-append _ _ old.1 c.requires.no_zero in

@@ -11,7 +11,7 @@ invariant_of-result g c = record {
     record {
       going = going;
       frame = 0 ∷ [];
-      behind = succeeded c.push_one.result (sym c.is_err-failed.ensures.value ∙ going) c.push_one.ensures.appends;
+      held_is = succeeded c.push_one.result (sym c.is_err-failed.ensures.value ∙ going) c.push_one.ensures.appends;
       starts = c.held_len-start.ensures;
       stands = c.default.ensures.open 0;
     },

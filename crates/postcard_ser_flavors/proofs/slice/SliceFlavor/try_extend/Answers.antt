@@ -8,7 +8,7 @@ returns-clause-leaves c = record {
   same_loan = search rules;
   same_length = search rules;
   grows = search rules;
-  old_behind = search (rules, overwrites);
+  bytes_after_unchanged = search (rules, overwrites);
 }
 
 pub returns-clause-rest_unchanged : goal.returns-clause-rest_unchanged

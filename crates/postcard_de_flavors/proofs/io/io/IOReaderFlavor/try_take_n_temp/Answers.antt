@@ -27,5 +27,5 @@ returns g c =
           (kept, did.rest_unchanged, λ short. absurd (not_short short)),
         ),
       ),
-      record { length = count; gives = tt; accepts = λ _. refl; refuses = tt; short = λ short. absurd (not_short short) },
+      record { length = count; gives = tt; accepts = λ _. refl; refuses_by_unexpected_end = tt; short_scratch_refused = λ short. absurd (not_short short) },
     )
