@@ -1,11 +1,9 @@
 -- Lemmas on the lines of values, one after another.
-use Rattle.std.proofs.Common.{◌≡◌, ℕ, ◌<◌, List, [], ◌∷◌, ◌++◌, length, arith, Option, Some, None, Bool, true, refl, sym, ap, subst, ◌∙◌, length-append}
+use Rattle.std.proofs.Common.{◌≡◌, ℕ, ◌<◌, List, [], ◌∷◌, ◌++◌, length, arith, Option, Some, None, true, refl, sym, ap, subst, ◌∙◌, length-append}
 use Rattle.std.specs.Fmt.{◌++?◌}
-use Rattle.std.specs.Io.KnownBytes.{Appends}
 use Rattle.std.proofs.KnownBytes.{Appends-nil, Appends-trans}
 use Rattle.std.proofs.Output.{then_text_assoc}
 use Rattle.std.proofs.lemmas.List.{append-nil}
-use Rattle.postcard_frame.specs.Front.{ReadsFront}
 use Rattle.postcard_dyn_schema.specs.declared.schema.Schema.{Schema}
 use Rattle.postcard_dyn_schema.specs.Meaning.{type_of, has_bytes}
 use Rattle.postcard_dyn.specs.declared.value.Value.{Value}

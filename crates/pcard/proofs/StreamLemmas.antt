@@ -16,7 +16,7 @@ use Rattle.postcard_dyn_schema.specs.declared.schema.Schema.{Schema}
 use Rattle.postcard_dyn_schema.specs.Meaning.{type_of}
 use Rattle.postcard_dyn.specs.Shape.{shape_of}
 use Rattle.postcard_dyn.specs.declared.value.Value.{Value}
-use Rattle.pcard.specs.Stream.{value_line, value_lines, PrintsLines, PrintsPiece}
+use Rattle.pcard.specs.Stream.{value_line, value_lines, PrintsLines, PrintsPiece, PrintsValues}
 use Rattle.pcard.specs.Message.{Prints}
 use Rattle.pcard.proofs.MessageLemmas.{nothing_before, nothing_after, prints_both}
 
@@ -94,4 +94,14 @@ one_read s known now left c k old mid new piece f took p = record {
     are = joined_law (shape_of (type_of s)) 64 (holding []) c k f.given piece f.lines.answers p.answers f.lines.are p.are;
     printed = prints_more s f.lines.answers p.answers old mid new f.lines.printed p.printed;
   };
+}
+
+-- At the end of the input, the lines of all that was read are printed.
+pub all_read : (s : Schema) (known now left : Option (List ℕ)) (c : State) (old new : Option (List ℕ))
+    → Read s known now c old new → Consumes now left [] → PrintsValues s known left old new
+all_read s known now left c old new f none = record {
+  given = f.given;
+  after = c;
+  reader = subst (λ (x : List ℕ). Consumes known left x) (append-nil f.given) (Consumes-trans known now left f.given [] f.reader none);
+  lines = f.lines;
 }

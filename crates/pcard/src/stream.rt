@@ -2,11 +2,12 @@
 
 ghost use Rattle.std.specs.Prelude.{◌≡◌, ◌≢◌, IfOk, IfErr, OnOk};
 ghost use Rattle.postcard_accumulator.specs.Feeding.{IsFed, IsReadOf};
+ghost use Rattle.postcard_accumulator.specs.Streams.{answers_of, left_of};
 ghost use Rattle.postcard_dyn_schema.specs.Grammar.{IsExpression};
 ghost use Rattle.postcard_dyn_schema.specs.Meaning.{type_of};
 ghost use Rattle.postcard_dyn_schema.specs.declared.schema.Schema.{Schema};
 ghost use Rattle.postcard_dyn.specs.Shape.{shape_of};
-ghost use Rattle.pcard.specs.Stream.{PrintsPiece, PrintsValues};
+ghost use Rattle.pcard.specs.Stream.{PrintsLines, PrintsPiece, PrintsValues};
 
 use crate::failure::Failure;
 use crate::frames::{CHUNK, LONGEST_FRAME, READS};
@@ -70,25 +71,39 @@ fn print_piece<W: Write>(
     let mut rest = piece;
     'feeds: while !rest.is_empty() {
         accumulator.held_fits();
-        match feed(alloc, schema, rest, accumulator)? {
-            FeedResult::Consumed => {
-                return Ok(());
-            }
-            FeedResult::OverFull(after) => {
-                output.write_all(b"overfull\n")?;
-                rest = after;
-            }
-            FeedResult::DeserError(after) => {
-                output.write_all(b"error\n")?;
-                rest = after;
-            }
-            FeedResult::Success { value, remaining } => {
-                print_value(schema, &value, output)?;
-                rest = remaining;
-            }
-        }
+        let answer = feed(alloc, schema, rest, accumulator)?;
+        rest = print_answer(schema, answer, output)?;
     }
     Ok(())
+}
+
+/// Prints the line of an answer, if there is one. Returns the bytes of the piece that weren't taken
+/// in.
+fn print_answer<'a, W: Write>(
+    schema: &Schema,
+    answer: FeedResult<'a, Value>,
+    output: &mut W,
+) -> Result<&'a [u8], Failure>
+    ensures printed { IfOk result (λ rest. (rest.now ≡ left_of answer.entry)
+        × PrintsLines schema.now (answers_of answer.entry)
+        (W.contents output.old) (W.contents output.new)) }
+    ensures refused { IfErr result (λ e. e ≢ Failure.Usage) }
+{
+    match answer {
+        FeedResult::Consumed => Ok(&[]),
+        FeedResult::OverFull(rest) => {
+            output.write_all(b"overfull\n")?;
+            Ok(rest)
+        }
+        FeedResult::DeserError(rest) => {
+            output.write_all(b"error\n")?;
+            Ok(rest)
+        }
+        FeedResult::Success { value, remaining } => {
+            print_value(schema, &value, output)?;
+            Ok(remaining)
+        }
+    }
 }
 
 /// Takes in a piece of the stream up to the end of a frame, and reads that frame's value.
@@ -134,8 +149,10 @@ fn value_of<'a>(
                 value,
                 remaining: rest,
             }),
-            Err(Error::OutOfMemory) => Err(Failure::OutOfMemory),
-            Err(_) => Ok(FeedResult::DeserError(rest)),
+            Err(error) => match error {
+                Error::OutOfMemory => Err(Failure::OutOfMemory),
+                _ => Ok(FeedResult::DeserError(rest)),
+            },
         },
     }
 }
