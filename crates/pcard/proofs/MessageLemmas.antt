@@ -3,21 +3,12 @@ use Rattle.std.proofs.Common.{◌≡◌, ℕ, ◌<◌, List, [], ◌∷◌, ◌+
 use Rattle.std.specs.Fmt.{◌++?◌}
 use Rattle.std.proofs.KnownBytes.{Appends-nil, Appends-trans}
 use Rattle.std.proofs.Output.{then_text_assoc}
-use Rattle.std.proofs.lemmas.List.{append-nil}
 use Rattle.postcard_dyn_schema.specs.declared.schema.Schema.{Schema}
 use Rattle.postcard_dyn_schema.specs.Meaning.{type_of, has_bytes}
 use Rattle.postcard_dyn.specs.declared.value.Value.{Value}
 use Rattle.postcard_dyn.proofs.Bytes.{type_some}
+use Rattle.postcard_dyn_text.proofs.Joined.{none_after, none_before}
 use Rattle.pcard.specs.Message.{line_of, lines_of, Prints, ReadsValue, ReadsValues}
-
--- A text before or after which there is nothing.
-pub nothing_before : (o : Option (List ℕ)) → Some [] ++? o ≡ o
-nothing_before None = refl
-nothing_before (Some x) = refl
-
-pub nothing_after : (o : Option (List ℕ)) → o ++? Some [] ≡ o
-nothing_after None = refl
-nothing_after (Some x) = ap Some (append-nil x)
 
 -- Two texts in a row are printed if each is.
 pub prints_both : (o p : Option (List ℕ)) (a b c : Option (List ℕ)) → Prints o a b → Prints p b c → Prints (o ++? p) a c
@@ -27,7 +18,7 @@ prints_both (Some x) (Some y) a b c h k = Appends-trans a b c x y h k
 
 -- One more value is one more line.
 lines_more : (s : Schema) (vs : List Value) (v : Value) → lines_of s (vs ++ v ∷ []) ≡ lines_of s vs ++? line_of s v
-lines_more s [] v = nothing_after (line_of s v) ∙ sym (nothing_before (line_of s v))
+lines_more s [] v = none_after (line_of s v) ∙ sym (none_before (line_of s v))
 lines_more s (x ∷ xs) v =
     ap (λ o. line_of s x ++? o) (lines_more s xs v) ∙ sym (then_text_assoc (line_of s x) (lines_of s xs) (line_of s v))
 

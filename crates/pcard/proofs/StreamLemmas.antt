@@ -18,11 +18,12 @@ use Rattle.postcard_dyn.specs.Shape.{shape_of}
 use Rattle.postcard_dyn.specs.declared.value.Value.{Value}
 use Rattle.pcard.specs.Stream.{value_line, value_lines, PrintsLines, PrintsPiece, PrintsValues}
 use Rattle.pcard.specs.Message.{Prints}
-use Rattle.pcard.proofs.MessageLemmas.{nothing_before, nothing_after, prints_both}
+use Rattle.postcard_dyn_text.proofs.Joined.{none_after, none_before}
+use Rattle.pcard.proofs.MessageLemmas.{prints_both}
 
 -- The lines of two lists of answers in a row.
 lines_join : (s : Schema) (xs ys : List (Answer Value)) → value_lines s (xs ++ ys) ≡ value_lines s xs ++? value_lines s ys
-lines_join s [] ys = sym (nothing_before (value_lines s ys))
+lines_join s [] ys = sym (none_before (value_lines s ys))
 lines_join s (x ∷ xs) ys =
     ap (λ o. value_line s x ++? o) (lines_join s xs ys) ∙ sym (then_text_assoc (value_line s x) (value_lines s xs) (value_lines s ys))
 
@@ -69,7 +70,7 @@ fed_all s c piece k w old new e f =
 
 -- The line of one answer is printed.
 pub one_line : (s : Schema) (a : Answer Value) (old new : Option (List ℕ)) → Prints (value_line s a) old new → PrintsLines s (a ∷ []) old new
-one_line s a old new p = subst (λ (o : Option (List ℕ)). Prints o old new) (sym (nothing_after (value_line s a))) p
+one_line s a old new p = subst (λ (o : Option (List ℕ)). Prints o old new) (sym (none_after (value_line s a))) p
 
 -- The state between reads: the lines of the answers to the bytes read so far are printed.
 pub record Read (schema : Schema) (known left : Option (List ℕ)) (after : State) (old new : Option (List ℕ)) : Type 0 where

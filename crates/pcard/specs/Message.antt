@@ -3,6 +3,7 @@ use Rattle.std.specs.Prelude.{◌≡◌, ◌≢◌, ℕ, List, [], ◌∷◌, �
 use Rattle.std.specs.Fmt.{◌++?◌}
 use Rattle.std.specs.Io.KnownBytes.{Consumes, IsAtEnd, Appends}
 use Rattle.hex.specs.Hex.{encode_lower}
+use Rattle.postcard_wire.specs.Spelling.{canonical}
 use Rattle.postcard_frame.specs.Front.{ReadsFront}
 use Rattle.postcard_dyn_schema.specs.declared.schema.Schema.{Schema}
 use Rattle.postcard_dyn_schema.specs.Grammar.{IsExpression}
@@ -35,6 +36,12 @@ abbrev pub ReadsValues : Schema → List ℕ → List Value → List ℕ → Typ
 ReadsValues schema bytes [] rest = bytes ≡ rest
 ReadsValues schema bytes (v ∷ more) rest =
     (after : List ℕ) × ReadsValue schema bytes v after × ReadsValues schema after more rest
+
+-- The encoding of a value of the expression is printed, in hexadecimal on a line.
+abbrev pub PrintsEncoded : List ℕ → Option (List ℕ) → Option (List ℕ) → Type 0
+PrintsEncoded expression old new =
+    (schema : Schema) × (encoded : Value) × IsExpression schema expression × reads (type_of schema) (tree encoded)
+    × Appends old new (encode_lower (canonical (tree encoded)) ++ 10 ∷ [])
 
 -- The bytes that the word HEX stands for: those of its own digits, or, if it is `-`, of the digits
 -- in the whole input.

@@ -1,5 +1,8 @@
 //! The texts of lists.
 
+ghost use Rattle.std.specs.Prelude.{codes, map};
+ghost use Rattle.postcard_dyn_text.specs.Shown.{joined};
+
 use std::fmt;
 
 /// A list that is printed as its elements with commas between them.
@@ -7,12 +10,12 @@ use std::fmt;
 pub struct Joined<'a, T>(pub &'a [T]);
 
 impl<T: fmt::Display> fmt::Display for Joined<'_, T> {
+    ghost output = { λ list. joined (codes ",") (map T.output list.0.now) };
+
     fn fmt<W: fmt::Write>(&self, f: &mut fmt::Formatter<W>) -> fmt::Result {
         for (i, item) in self.0.iter().enumerate() {
-            if i > 0 {
-                f.write_str(",")?;
-            }
-            write!(f, "{item}")?;
+            let before = if i > 0 { "," } else { "" };
+            write!(f, "{before}{item}")?;
         }
         Ok(())
     }

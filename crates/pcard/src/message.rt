@@ -9,7 +9,7 @@ ghost use Rattle.postcard_dyn_schema.specs.Meaning.{type_of, reads};
 ghost use Rattle.postcard_dyn_schema.specs.declared.schema.Schema.{Schema};
 ghost use Rattle.postcard_dyn.specs.Tree.{tree};
 ghost use Rattle.postcard_dyn.specs.declared.value.Value.{Value};
-ghost use Rattle.pcard.specs.Message.{line_of, Prints, PrintsAll, PrintsFirst, ReadsValue};
+ghost use Rattle.pcard.specs.Message.{line_of, Prints, PrintsAll, PrintsEncoded, PrintsFirst, ReadsValue};
 
 use crate::failure::Failure;
 use crate::hexadecimal;
@@ -59,10 +59,8 @@ pub fn encode<W: Write>(
     value: &str,
     output: &mut W,
 ) -> Result<(), Failure>
-    ensures printed { OnOk result ((schema : Schema) × (encoded : Value)
-        × IsExpression schema expression.now × reads (type_of schema) (tree encoded)
-        × Appends (W.contents output.old) (W.contents output.new)
-        (encode_lower (canonical (tree encoded)) ++ 10 ∷ [])) }
+    ensures printed { OnOk result (PrintsEncoded expression.now (W.contents output.old)
+        (W.contents output.new)) }
     ensures refused { IfErr result (λ e. e ≢ Failure.Usage) }
 {
     let schema = schema_of(alloc, expression, output)?;

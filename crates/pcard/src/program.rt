@@ -7,10 +7,21 @@ ghost use Rattle.hex.specs.Hex.{encode_lower};
 ghost use Rattle.postcard_wire.specs.Spelling.{canonical};
 ghost use Rattle.pcard.specs.Command.{IsNoCall};
 ghost use Rattle.pcard.specs.Failure.{AnswersFailure, exit_status, last_line};
+ghost use Rattle.pcard.specs.Program.{
+  Does,
+  PrintsCall,
+  PrintsDecode,
+  PrintsEncode,
+  form_of,
+  list_of,
+  one_word,
+  whole_word,
+};
 
 use crate::command::{Command, TypeWord, ValueType};
 use crate::failure::Failure;
 use crate::joined::Joined;
+use crate::syntax::SYNTAX;
 use crate::{frames, hexadecimal, message, stream, syntax, value};
 use postcard::de_flavors::Source;
 use postcard::{Deserialize, Serialize};
@@ -50,6 +61,9 @@ pub fn run<R: Source, W: Write>(
     ensures status { result ≤ 3 }
     ensures usage { IsNoCall (map string_bytes words.now)
         → AnswersFailure Failure.Usage (W.contents output.old) (W.contents output.new) result }
+    ensures printed { result ≡ 0 → PrintsCall SYNTAX.now (map string_bytes words.now)
+        (R.remaining input.old) (R.remaining input.new)
+        (W.contents output.old) (W.contents output.new) }
 {
     let outcome = perform(alloc, words, input, output);
     report(outcome, output)
@@ -82,6 +96,9 @@ fn perform<R: Source, W: Write>(
 ) -> Result<(), Failure>
     ensures usage { IsErrOf result Failure.Usage ↔ IsNoCall (map string_bytes words.now) }
     ensures untouched { result ≡ Err Failure.Usage → output.new ≡ output.old }
+    ensures printed { OnOk result (PrintsCall SYNTAX.now (map string_bytes words.now)
+        (R.remaining input.old) (R.remaining input.new)
+        (W.contents output.old) (W.contents output.new)) }
 {
     match Command::from_words(words) {
         Some(Command::Encode { kind, value }) => encode(alloc, kind, value, output),
@@ -105,7 +122,9 @@ fn encode<W: Write>(
     value: &str,
     output: &mut W,
 ) -> Result<(), Failure>
-    ensures { IfErr result (λ e. e ≢ Failure.Usage) }
+    ensures printed { OnOk result (PrintsEncode kind.entry value.now (W.contents output.old)
+        (W.contents output.new)) }
+    ensures refused { IfErr result (λ e. e ≢ Failure.Usage) }
 {
     match kind {
         TypeWord::Named(kind) => convert(alloc, kind, Task::Encode(value), output),
@@ -121,7 +140,9 @@ fn decode<R: Source, W: Write>(
     input: &mut R,
     output: &mut W,
 ) -> Result<(), Failure>
-    ensures { IfErr result (λ e. e ≢ Failure.Usage) }
+    ensures printed { OnOk result (PrintsDecode kind.entry hex.now (R.remaining input.old)
+        (R.remaining input.new) (W.contents output.old) (W.contents output.new)) }
+    ensures refused { IfErr result (λ e. e ≢ Failure.Usage) }
 {
     match kind {
         TypeWord::Named(kind) => {
@@ -139,7 +160,9 @@ fn convert<W: Write>(
     task: Task<'_>,
     output: &mut W,
 ) -> Result<(), Failure>
-    ensures { IfErr result (λ e. e ≢ Failure.Usage) }
+    ensures printed { OnOk result (Does task.entry (form_of kind)
+        (W.contents output.old) (W.contents output.new)) }
+    ensures refused { IfErr result (λ e. e ≢ Failure.Usage) }
 {
     match kind {
         ValueType::U8 => convert_scalar::<u8, W>(alloc, task, output),
@@ -169,7 +192,9 @@ fn convert_scalar<'a, T, W: Write>(
 where
     T: FromStr + Display + Serialize + Deserialize<'a> + Drop,
     T::Err: Drop,
-    ensures { IfErr result (λ e. e ≢ Failure.Usage) }
+    ensures printed { OnOk result (Does task.entry (one_word T.shape T.from_str_gives T.output)
+        (W.contents output.old) (W.contents output.new)) }
+    ensures refused { IfErr result (λ e. e ≢ Failure.Usage) }
 {
     match task {
         Task::Encode(word) => print_encoded(&value::scalar::<T>(word)?, output),
@@ -182,7 +207,9 @@ where
 
 /// Encodes or decodes a text.
 fn convert_text<W: Write>(alloc: Global, task: Task<'_>, output: &mut W) -> Result<(), Failure>
-    ensures { IfErr result (λ e. e ≢ Failure.Usage) }
+    ensures printed { OnOk result (Does task.entry whole_word
+        (W.contents output.old) (W.contents output.new)) }
+    ensures refused { IfErr result (λ e. e ≢ Failure.Usage) }
 {
     match task {
         Task::Encode(word) => print_encoded(&word, output),
@@ -202,7 +229,9 @@ fn convert_list<'a, T, W: Write>(
 where
     T: FromStr + Display + Serialize + Deserialize<'a> + Drop,
     T::Err: Drop,
-    ensures { IfErr result (λ e. e ≢ Failure.Usage) }
+    ensures printed { OnOk result (Does task.entry (list_of T.shape T.from_str_gives T.output)
+        (W.contents output.old) (W.contents output.new)) }
+    ensures refused { IfErr result (λ e. e ≢ Failure.Usage) }
 {
     match task {
         Task::Encode(word) => print_encoded(&value::list::<T>(alloc, word)?, output),

@@ -7,7 +7,7 @@ use crate::failure::Failure;
 use std::io::Write;
 
 /// The forms of an expression, each on a line with an example.
-const SYNTAX: &str = "\
+pub const SYNTAX: &str = "\
 u8 u16 u32 u64 u128 usize   a number without a sign: 42
 i8 i16 i32 i64 i128 isize   a number with a sign: -42
 bool                        a truth value: true

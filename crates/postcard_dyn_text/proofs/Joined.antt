@@ -46,14 +46,21 @@ map_length h (u ∷ us) zero low = refl
 map_length h (u ∷ us) (suc i) low = ap suc (map_length h us i (omega (arith, low)))
 
 -- The text of one element more is the text so far, what leads the element, and the element's text.
+pub elements_more : {X : Type 0} (b : List ℕ) (h : X → Option (List ℕ)) (vs : List X) (i : ℕ) (v : X) → i < length vs → v ≡ get_or vs i v
+    → joined b (map h (take (i + 1) vs)) ≡ joined b (map h (take i vs)) ++? (Some (lead i b) ++? h v)
+elements_more b h vs i v low is =
+    rw (add-one i) (ap (joined b) (map_more h vs i v low is)
+    ∙ joined_more b (map h (take i vs)) (h v)
+    ∙ ap (λ n. joined b (map h (take i vs)) ++? (Some (lead n b) ++? h v)) (map_length h vs i low))
+
+-- The same of elements whose trees are printed.
 pub items_more : {X : Type 0} (b : List ℕ) (see : X → Tree) (p : Printer) (vs : List X) (i : ℕ) (v : X) → i < length vs → v ≡ get_or vs i v
     → joined b (all_by p (trees (map see (take (i + 1) vs)))) ≡ joined b (all_by p (trees (map see (take i vs)))) ++? (Some (lead i b) ++? p (see v))
 items_more {X} b see p vs i v low is =
     let h : X → Option (List ℕ) = λ x. p (see x) in
-    rw (add-one i) (ap (joined b) (all_by_trees see p (take (suc i) vs) ∙ map_more h vs i v low is)
-    ∙ joined_more b (map h (take i vs)) (h v)
-    ∙ ap (λ n. joined b (map h (take i vs)) ++? (Some (lead n b) ++? h v)) (map_length h vs i low)
-    ∙ ap (λ ts. joined b ts ++? (Some (lead i b) ++? h v)) (sym (all_by_trees see p (take i vs))))
+    ap (joined b) (all_by_trees see p (take (i + 1) vs))
+    ∙ elements_more b h vs i v low is
+    ∙ ap (λ ts. joined b ts ++? (Some (lead i b) ++? h v)) (sym (all_by_trees see p (take i vs)))
 
 -- No trees have no texts.
 each_none : (ps : List Printer) → each_by ps NoTrees ≡ []
