@@ -63,7 +63,7 @@ decoded_no_more form bytes old mid new d none = record {
 
 encode_no_more : (kind : TypeWord) (value : List ℕ) (old mid new : Option (List ℕ)) → PrintsEncode kind value old mid → Appends mid new [] → PrintsEncode kind value old new
 encode_no_more (Named kind) value old mid new d none = record { value = d.value; said = d.said; printed = appends_no_more old mid new _ d.printed none }
-encode_no_more (Expression text) value old mid new d none = (d.0, d.1, d.2, d.3, appends_no_more old mid new _ d.4 none)
+encode_no_more (Expression text) value old mid new d none = (d.0, d.1, d.2, d.3, d.4, appends_no_more old mid new _ d.5 none)
 
 decode_no_more : (kind : TypeWord) (hex : List ℕ) (known left old mid new : Option (List ℕ)) → PrintsDecode kind hex known left old mid → Appends mid new [] → PrintsDecode kind hex known left old new
 decode_no_more (Named kind) hex known left old mid new d none = (d.0, d.1, decoded_no_more (form_of kind) d.0 old mid new d.2 none)

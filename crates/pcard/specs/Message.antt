@@ -11,6 +11,7 @@ use Rattle.postcard_dyn_schema.specs.Meaning.{type_of, reads}
 use Rattle.postcard_dyn.specs.Tree.{tree, IsTree}
 use Rattle.postcard_dyn.specs.declared.value.Value.{Value}
 use Rattle.postcard_dyn_text.specs.Shown.{layout_of, text}
+use Rattle.postcard_dyn_text.specs.Spelled.{SpellsValue}
 use Rattle.pcard.specs.Hexadecimal.{words_of, AreBytesOf}
 
 -- The line of a value, or `None` if nothing is said of its text.
@@ -37,11 +38,11 @@ ReadsValues schema bytes [] rest = bytes ≡ rest
 ReadsValues schema bytes (v ∷ more) rest =
     (after : List ℕ) × ReadsValue schema bytes v after × ReadsValues schema after more rest
 
--- The encoding of a value of the expression is printed, in hexadecimal on a line.
-abbrev pub PrintsEncoded : List ℕ → Option (List ℕ) → Option (List ℕ) → Type 0
-PrintsEncoded expression old new =
-    (schema : Schema) × (encoded : Value) × IsExpression schema expression × reads (type_of schema) (tree encoded)
-    × Appends old new (encode_lower (canonical (tree encoded)) ++ 10 ∷ [])
+-- The encoding of the value that the word spells, of the expression, is printed, in hexadecimal on a line.
+abbrev pub PrintsEncoded : List ℕ → List ℕ → Option (List ℕ) → Option (List ℕ) → Type 0
+PrintsEncoded expression word old new =
+    (schema : Schema) × (encoded : Value) × IsExpression schema expression × SpellsValue schema encoded word
+    × reads (type_of schema) (tree encoded) × Appends old new (encode_lower (canonical (tree encoded)) ++ 10 ∷ [])
 
 -- The bytes that the word HEX stands for: those of its own digits, or, if it is `-`, of the digits
 -- in the whole input.

@@ -134,7 +134,7 @@ Does (tasks.Decode bytes) form old new = PrintsDecoded form bytes.now old new
 -- What `enc TYPE VALUE` prints.
 abbrev pub PrintsEncode : TypeWord → List ℕ → Option (List ℕ) → Option (List ℕ) → Type 0
 PrintsEncode (Named kind) value old new = PrintsEncoding (form_of kind) value old new
-PrintsEncode (Expression expression) value old new = PrintsEncoded expression.now old new
+PrintsEncode (Expression expression) value old new = PrintsEncoded expression.now value old new
 
 -- What `dec TYPE HEX` prints. A type that has a name takes a HEX of digits alone.
 abbrev pub PrintsDecode : TypeWord → List ℕ → Option (List ℕ) → Option (List ℕ) → Option (List ℕ) → Option (List ℕ) → Type 0

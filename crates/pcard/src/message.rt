@@ -1,15 +1,10 @@
 //! The commands `enc`, `dec` and `decs` for messages whose type is an expression.
 
-ghost use Rattle.std.specs.Prelude.{◌≡◌, ◌≢◌, ◌⊎◌, [], ◌∷◌, ◌++◌, IfOk, IfErr, OnOk};
-ghost use Rattle.std.specs.Io.KnownBytes.{Appends};
-ghost use Rattle.hex.specs.Hex.{encode_lower};
-ghost use Rattle.postcard_wire.specs.Spelling.{canonical};
+ghost use Rattle.std.specs.Prelude.{◌≡◌, ◌≢◌, ◌⊎◌, IfOk, IfErr, OnOk};
 ghost use Rattle.postcard_dyn_schema.specs.Grammar.{IsExpression};
-ghost use Rattle.postcard_dyn_schema.specs.Meaning.{type_of, reads};
-ghost use Rattle.postcard_dyn_schema.specs.declared.schema.Schema.{Schema};
-ghost use Rattle.postcard_dyn.specs.Tree.{tree};
 ghost use Rattle.postcard_dyn.specs.declared.value.Value.{Value};
-ghost use Rattle.pcard.specs.Message.{line_of, Prints, PrintsAll, PrintsEncoded, PrintsFirst, ReadsValue};
+ghost use Rattle.pcard.specs.Message.{line_of, Prints, PrintsAll, PrintsEncoded, PrintsFirst};
+ghost use Rattle.pcard.specs.Message.{ReadsValue};
 
 use crate::failure::Failure;
 use crate::hexadecimal;
@@ -59,8 +54,8 @@ pub fn encode<W: Write>(
     value: &str,
     output: &mut W,
 ) -> Result<(), Failure>
-    ensures printed { OnOk result (PrintsEncoded expression.now (W.contents output.old)
-        (W.contents output.new)) }
+    ensures printed { OnOk result (PrintsEncoded expression.now value.now
+        (W.contents output.old) (W.contents output.new)) }
     ensures refused { IfErr result (λ e. e ≢ Failure.Usage) }
 {
     let schema = schema_of(alloc, expression, output)?;
@@ -136,8 +131,8 @@ pub fn decode_all<R: Source, W: Write>(
 }
 
 /// Decodes a value from the front of `rest`, the last of the bytes `all`, and prints it on a line.
-/// Returns the bytes after it. If that fails, prints the offset in `all` of the part that can't be
-/// read.
+/// Returns the bytes after it. If the bytes are refused, prints the offset in `all` of the part that
+/// can't be read.
 fn print_front<'a, W: Write>(
     alloc: Global,
     schema: &Schema,
@@ -155,6 +150,7 @@ fn print_front<'a, W: Write>(
             print_value(schema, &value, output)?;
             Ok(after)
         }
+        Err(Error::OutOfMemory) => Err(Failure::from(Error::OutOfMemory)),
         Err(error) => {
             let before = all.len().saturating_sub(rest.len());
             let offset = before.saturating_add(refused_at(alloc, schema, rest)?);

@@ -42,6 +42,8 @@ fn encodes(rt: HostRuntime) -> Result<(), Fail> {
         ("(u8)", " 7 ", "07\n", 0),
         ("u8?", "None", "00\n", 0),
         ("[bytes]", "[0x00ff, 0x]", "020200ff00\n", 0),
+        ("(u8,)", "(1,)", "01\n", 0),
+        ("| Reading(u16, i32)", "Reading(1, -2)", "000103\n", 0),
         ("(u8)", "256", "at character 1: bad value\n", 2),
         ("(u8, u8)", "(1, x)", "at character 5: bad value\n", 2),
         (
@@ -59,6 +61,7 @@ fn encodes(rt: HostRuntime) -> Result<(), Fail> {
         ("u9?", "1", "unknown type at character 1: bad type\n", 2),
         ("usize", "1", USAGE, 2),
         ("bytes", "0x", USAGE, 2),
+        ("u8? ", "1", USAGE, 2),
         ("u8 ", "1", USAGE, 2),
         (" (u8)", "1", USAGE, 2),
     ];

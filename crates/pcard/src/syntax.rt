@@ -19,9 +19,11 @@ T?                          an option, (u8?): None or Some(7)
 [T; N]                      an array, [u8; 3]: [1, 2, 3]
 ()                          nothing: ()
 (T, U)                      a tuple, (u8, str): (1, \"x\")
+(T,)                        a tuple of one part, (u8,): (1,)
 {name: T, ..}               a struct, {id: u32, label: str}: {id: 42, label: \"x\"}
 {K => V}                    a map, {u8 => bool}: {1 => true}
 A | B(T, U) | C{name: T}    an enum, Boot | Reading(u16, i32) | Fault{code: u8}: Reading(1, -2)
+| A(T, U)                   an enum with one variant, | Reading(u16, i32): Reading(1, -2)
 Where a type is asked for, an expression begins with ( [ or {, ends with ?, or holds |.
 So (u8) is the expression u8. HEX may have blanks and 0x, and - reads it from the input.
 ";

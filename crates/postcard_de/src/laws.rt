@@ -20,5 +20,6 @@ pub fn one_message<'de, T: Deserialize<'de>>()
 pub fn read_again<'de, T: Deserialize<'de>>()
     ensures spelled { (t : Tree) → T.shape.reads t → Spells t (canonical t) }
     ensures no_other_front { (t s : Tree) (p rest left : List ℕ) → T.shape.reads t →
-        T.shape.reads s → Spells s p → p ++ left ≡ canonical t ++ rest → (s ≡ t) × (p ≡ canonical t) × (left ≡ rest) }
+        T.shape.reads s → Spells s p → p ++ left ≡ canonical t ++ rest →
+        (s ≡ t) × (p ≡ canonical t) × (left ≡ rest) }
 {}

@@ -9,8 +9,6 @@ pub mod calls;
 pub mod laws;
 pub mod locate;
 pub mod read;
-#[cfg(test)]
-mod tests;
 pub mod value;
 pub mod write;
 

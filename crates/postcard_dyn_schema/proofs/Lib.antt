@@ -1,4 +1,3 @@
-pub mod Phrases
 pub mod Rows
 pub mod Types
 pub mod Bounded

@@ -5,7 +5,7 @@ use Rattle.std.proofs.lemmas.List.{append_assoc}
 use Rattle.postcard_dyn_schema.specs.declared.schema.Schema.{Schema}
 use Rattle.postcard_dyn_schema.specs.Text.{Then, TakesPhrase, IsSign}
 use Rattle.postcard_dyn_schema.specs.Grammar.{Separated}
-use Rattle.postcard_dyn_schema.proofs.Phrases.{takes_two}
+use Rattle.postcard_dyn_schema.specs.Phrases.{takes_two}
 
 -- A row, the sign and one more type are a row.
 pub separated_more : (P : Schema → List ℕ → Type 0) (sign : ℕ) (ss : List Schema) (x : Schema) (a b : List ℕ)

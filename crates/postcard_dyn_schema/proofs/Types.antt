@@ -11,7 +11,7 @@ use Rattle.postcard_dyn_schema.specs.declared.schema.Schema.TheVariants.{Option,
 use Rattle.postcard_dyn_schema.specs.Meaning.{has_bytes, type_of}
 use Rattle.postcard_dyn_schema.specs.Text.{Led, Then, TakesPhrase, IsSign, IsMaybe, IsWord, IsCount}
 use Rattle.postcard_dyn_schema.specs.Grammar.{Separated, IsListRest, IsTupleEnd, IsTupleRest, IsField, IsFieldsRest, IsMapRest, IsPlain, IsOptions, IsContent, IsVariantText, IsLead, IsEnumText, IsType}
-use Rattle.postcard_dyn_schema.proofs.Phrases.{takes_two, takes_as, led, led_more, trim_takes}
+use Rattle.postcard_dyn_schema.specs.Phrases.{takes_two, takes_as, led, led_more, trim_takes, word_more}
 
 -- If P implies Q, a result that is an error or has P is an error or has Q.
 pub if_ok_as : {A F : Type 0} (P Q : A → Type 0) (r : Result A F) → ((x : A) → P x → Q x) → IfOk r P → IfOk r Q
@@ -23,11 +23,6 @@ pub type_more : (d : ℕ) (s : Schema) (a b c : List ℕ) → IsTrimAsciiStart a
 unfolding IsType
 type_more zero s a b c trim (x, none, e) = absurd none
 type_more (suc d) s a b c trim h = led_more _ a b c (trim_takes a b trim) h
-
--- Taking blanks and then a word takes the word.
-pub word_more : (word a b c : List ℕ) → IsTrimAsciiStart a b → TakesPhrase (IsWord word) b c → TakesPhrase (IsWord word) a c
-word_more word a b c trim (x, (pass, h), e) =
-    takes_as (Led (λ phrase. phrase ≡ word)) (IsWord word) a c (λ t k. (pass, k)) (led_more (λ phrase. phrase ≡ word) a b c (trim_takes a b trim) (x, h, e))
 
 -- Taking an enum takes a type.
 pub type_enum : (d e : ℕ) (s : Schema) (a b c : List ℕ) → d ≡ suc e → IsTrimAsciiStart a b → TakesPhrase (IsEnumText (IsType e) s) b c → TakesPhrase (IsType d s) a c

@@ -9,8 +9,6 @@ pub mod error;
 pub mod expression;
 pub mod scan;
 pub mod schema;
-#[cfg(test)]
-mod tests;
 
 pub use error::{ExpressionError, Problem};
 pub use expression::parse;

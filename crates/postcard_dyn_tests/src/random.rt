@@ -115,6 +115,27 @@ fn ends_in_a_value_or_a_refusal(rt: HostRuntime) -> Result<(), Fail> {
     Ok(())
 }
 
+/// A count of 2^64 - 1 elements doesn't make reading run out of memory: memory is requested only for
+/// elements that were read.
+#[test]
+fn ends_after_a_great_count(rt: HostRuntime) -> Result<(), Fail> {
+    let message = [
+        0xFF, 0xFF, 0xFF, 0xFF, 0xFF, 0xFF, 0xFF, 0xFF, 0xFF, 0x01, 1,
+    ];
+    for expression in ["[u128]", "[[u8]]", "[u8?]", "{u8 => u8}", "str", "bytes"] {
+        let Ok(schema) = parse(rt.alloc(), expression) else {
+            panic!(rt; "{expression}");
+        };
+        let error = take_from_bytes(rt.alloc(), &schema, &message).err();
+        assert_eq!(rt;
+            error,
+            Some(Error::DeserializeUnexpectedEnd),
+            "{expression}"
+        );
+    }
+    Ok(())
+}
+
 /// The place of an error is that of the leaf, the count, the index or the option's byte that can't
 /// be read.
 #[test]

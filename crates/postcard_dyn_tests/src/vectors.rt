@@ -8,7 +8,7 @@ use std::process::Abort;
 use std::test::Fail;
 
 /// Type expressions, each with the text of a value as it is printed, and the value's encoding.
-const VECTORS: [(&str, &str, &[u8]); 47] = [
+const VECTORS: [(&str, &str, &[u8]); 50] = [
     ("u8", "255", &[0xFF]),
     ("(u8)", "0", &[0x00]),
     ("u16", "300", &[0xAC, 0x02]),
@@ -133,6 +133,21 @@ const VECTORS: [(&str, &str, &[u8]); 47] = [
         "{state: On | Off, raw: bytes}",
         "{state: On, raw: 0x0a}",
         &[0x00, 0x01, 0x0A],
+    ),
+    (
+        "|Pair((u8, u16))",
+        "Pair(1, 300)",
+        &[0x00, 0x01, 0xAC, 0x02],
+    ),
+    (
+        "Rest(()) | At({x: i16, y: char})",
+        "At{x: -65, y: 'x'}",
+        &[0x01, 0x81, 0x01, 0x01, 0x78],
+    ),
+    (
+        "[{u16 => (i8, bool)}; 2]",
+        "[{128 => (-2, true)}, {}]",
+        &[0x01, 0x80, 0x01, 0xFE, 0x01, 0x00],
     ),
 ];
 

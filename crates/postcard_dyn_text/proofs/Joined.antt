@@ -1,13 +1,13 @@
 -- Lemmas on texts that are joined one by one, and on writing them.
 use Rattle.std.proofs.Common.{◌≡◌, ℕ, zero, suc, ◌+◌, ◌/◌, ◌%◌, ◌<◌, false, List, [], ◌∷◌, ◌++◌, map, length, take, get_or, Option, Some, None, refl, sym, ap, ◌∙◌, arith}
 use native.Mathlib.Numerals.{add-one}
-use Rattle.std.proofs.Output.{then_text_assoc, displays_on_IsOk_append, displays_on_ok_weaken, displays_on_ok_of_eq, displays_on_ok_of_all, writes_on_IsOk-append}
+use Rattle.std.proofs.Output.{then_text_assoc, displays_on_IsOk_append, displays_on_ok_of_eq, displays_on_ok_of_all, writes_on_IsOk-append}
 use Rattle.std.proofs.lemmas.List.{append-nil, append_assoc}
 use Rattle.std.specs.Fmt.{◌++?◌, digits, WritesOnOk, DisplaysOnOk}
-use Rattle.std.specs.Prelude.{Result, Ok, Err, IsOk, IsErr}
+use Rattle.std.specs.Prelude.{Result, Ok, Err, IsErr}
 use Rattle.std.specs.declared.fmt.Error.{Error}
 use Rattle.std.specs.declared.fmt.Formatter.{Formatter}
-use Rattle.postcard_wire.specs.Tree.{Tree, Trees, Byte, NoTrees, Then, trees}
+use Rattle.postcard_wire.specs.Tree.{Tree, Byte, NoTrees, trees}
 use Rattle.postcard_dyn_text.specs.Shown.{Printer, lead, each_after, joined, all_by, each_by, hexadecimal, enclosed}
 
 -- An empty text before or after another changes nothing.

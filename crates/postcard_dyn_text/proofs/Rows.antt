@@ -1,12 +1,17 @@
 -- Lemmas on values in a row and their trees: elements, parts, bytes.
-use Rattle.std.proofs.Common.{◌≡◌, ℕ, suc, ◌<◌, ◌^◌, List, [], ◌∷◌, ◌++◌, map, length, refl, sym, ap, subst, arith}
+use Rattle.std.proofs.Common.{◌≡◌, ℕ, suc, ◌+◌, ◌<◌, ◌^◌, List, [], ◌∷◌, ◌++◌, map, length, refl, sym, ap, subst, arith}
 use Rattle.std.specs.Prelude.{slice_index}
+use Rattle.std.proofs.lemmas.Grind.{common_steps}
 use Rattle.postcard_wire.specs.Tree.{Tree, Trees, Byte, Seq, NoTrees, Then, trees}
 use Rattle.postcard_wire.specs.Reading.{IsByte, IsSeq, Each}
 use Rattle.postcard.specs.Lemmas.{elements_count}
 use Rattle.postcard_dyn_schema.specs.Meaning.{MessageType, MessageTypes, no_types, then_type, reads, reads_all}
 use Rattle.postcard_dyn.specs.declared.value.Value.{Value}
 use Rattle.postcard_dyn.specs.Tree.{tree}
+
+-- One value more.
+pub longer : (vs : List Value) (v : Value) (n : ℕ) → length vs ≡ n → length (vs ++ v ∷ []) ≡ n + 1
+longer vs v n long = grind (arith, common_steps, long)
 
 -- One more element of the type keeps all elements of the type.
 pub each_more : (R : Tree → Type 0) (vs : List Value) (v : Value) → Each R (trees (map tree vs)) → R (tree v) → Each R (trees (map tree (vs ++ v ∷ [])))

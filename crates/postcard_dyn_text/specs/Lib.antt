@@ -2,3 +2,4 @@ pub mod Place
 pub mod Shown
 pub mod Printed
 pub mod Quoted
+pub mod Spelled

@@ -4,15 +4,14 @@
 //! Numbers are decimal. Texts and characters are quoted, with the escapes of Rust, and byte strings
 //! are hexadecimal after `0x`. An option is `None` or `Some(7)`, a list or an array `[1, 2]`, a
 //! tuple `(1, 2)`, a struct `{id: 42, label: "x"}`, a map `{1 => true}`, and a variant `Boot`,
-//! `Reading(1, -2)` or `Fault{code: 1}`. A text that [`Shown`] printed is read as the same value;
-//! tests show this, and no contract says it.
+//! `Reading(1, -2)` or `Fault{code: 1}`. The contract of [`read_text`] says that the text spells
+//! the value, and that of [`Shown`] which text it prints. That a printed text is read as the same
+//! value is shown by tests; no contract says it.
 #![tactic(auto)]
 
 pub mod quoted;
 pub mod read;
 pub mod show;
-#[cfg(test)]
-mod tests;
 
 pub use read::{TextError, read_text};
 pub use show::Shown;

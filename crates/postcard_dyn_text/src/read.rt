@@ -1,16 +1,26 @@
 //! Reading a value from its text: [`read_text`].
 
 ghost use Rattle.std.specs.Prelude.{◌≡◌, ℕ, ◌<◌, [], ◌∷◌, ◌++◌, map, slice_index, length};
-ghost use Rattle.std.specs.Prelude.{IfOk, IfErr, OnOk, Some};
+ghost use Rattle.std.specs.Prelude.{IfOk, IfErr, OnOk, Ok, Some, get_or};
+ghost use Rattle.std.specs.Bool.{◌==◌};
 ghost use Rattle.std.specs.Char.{encode_utf8};
 ghost use Rattle.postcard_dyn_text.specs.Place.{IsPlaceIn};
 ghost use Rattle.postcard_dyn_text.specs.Printed.{value_error_text};
 ghost use Rattle.postcard_dyn_text.specs.Quoted.{IsQuoted, IsByteString};
+ghost use Rattle.postcard_dyn_text.specs.Shown.{layout_of, layouts_of};
+ghost use Rattle.postcard_dyn_text.specs.Spelled.{SpellsValue, SpellsTree, SpellsLeaf, SpellsItem};
+ghost use Rattle.postcard_dyn_text.specs.Spelled.{SpellsOption, SpellsList, SpellsArray};
+ghost use Rattle.postcard_dyn_text.specs.Spelled.{SpellsGroup, SpellsChoice, SpellsAt};
+ghost use Rattle.postcard_dyn_text.specs.Spelled.{SpellsContent, AreSigns, Row, AreClosed};
+ghost use Rattle.postcard_dyn_text.specs.Spelled.{phrases, part_phrases};
+ghost use Rattle.postcard_dyn_text.specs.Spelled.{Unless, opening_sign, closing_sign};
 ghost use Rattle.postcard_wire.specs.Tree.{trees};
 ghost use Rattle.postcard_wire.specs.Reading.{IsOption, IsGroup, IsSeq, IsArray, IsVariant, Each};
 ghost use Rattle.postcard_dyn_schema.specs.Meaning.{type_of, types_of, reads, reads_all, reads_at};
 ghost use Rattle.postcard_dyn_schema.specs.Meaning.{leaf_reads};
-ghost use Rattle.postcard_dyn_schema.specs.Text.{TakesPhrase};
+ghost use Rattle.postcard_dyn_schema.specs.Text.{TakesPhrase, Then, IsSign, IsMaybe};
+ghost use Rattle.postcard_dyn_schema.specs.Names.{IsCalled};
+ghost use Rattle.postcard_dyn_schema.specs.declared.schema.Schema.{Schema};
 ghost use Rattle.postcard_dyn.specs.Tree.{tree};
 
 use crate::quoted::{bytes_of, take_quoted};
@@ -61,8 +71,8 @@ impl Stop {
     }
 }
 
-/// Reads a value of the schema from its text. White space of ASCII may come before any word or
-/// sign and at the end.
+/// Reads the value of the schema that the text spells: each name, number, text and bracket, in
+/// order. White space of ASCII may come before any word or sign and at the end.
 ///
 /// # Errors
 ///
@@ -70,6 +80,7 @@ impl Stop {
 /// `OutOfMemory` if an allocation fails.
 pub fn read_text(alloc: Global, schema: &Schema, text: &str) -> Result<Value, TextError>
     ensures value { IfOk result (λ v. reads (type_of schema.now) (tree v)) }
+    ensures spelled { IfOk result (λ v. SpellsValue schema.now v text.now) }
     ensures place { IfErr result (IsPlaceIn text.now) }
 {
     let mut rest = text.as_bytes();
@@ -84,7 +95,8 @@ pub fn read_text(alloc: Global, schema: &Schema, text: &str) -> Result<Value, Te
 
 /// Reads a value, after which only blanks may follow.
 fn read_whole(alloc: Global, schema: &Schema, rest: &mut &[u8]) -> Result<Value, Stop>
-    ensures { IfOk result (λ v. reads (type_of schema.now) (tree v)) }
+    ensures value { IfOk result (λ v. reads (type_of schema.now) (tree v)) }
+    ensures spelled { IfOk result (λ v. SpellsValue schema.now v rest.old.now) }
 {
     let value = read(alloc, schema, rest)?;
     skip_blanks(rest);
@@ -95,7 +107,9 @@ fn read_whole(alloc: Global, schema: &Schema, rest: &mut &[u8]) -> Result<Value,
 }
 
 /// Takes blanks and then this byte, or stops at what follows the blanks.
-fn expect(rest: &mut &[u8], byte: u8) -> Result<(), Stop> {
+fn expect(rest: &mut &[u8], byte: u8) -> Result<(), Stop>
+    ensures { OnOk result (TakesPhrase (IsSign byte) rest.old.now rest.new.now) }
+{
     if take(rest, byte) {
         return Ok(());
     }
@@ -104,11 +118,24 @@ fn expect(rest: &mut &[u8], byte: u8) -> Result<(), Stop> {
 }
 
 /// Takes these bytes in order, each after blanks, or stops.
-fn expect_all(rest: &mut &[u8], bytes: &[u8]) -> Result<(), Stop> {
+fn expect_all(rest: &mut &[u8], bytes: &[u8]) -> Result<(), Stop>
+    ensures { OnOk result (TakesPhrase (AreSigns bytes.now) rest.old.now rest.new.now) }
+{
     for byte in bytes {
         expect(rest, *byte)?;
     }
     Ok(())
+}
+
+/// Takes the bytes `between`, each after blanks, or nothing before the first part.
+fn separate(rest: &mut &[u8], is_first: bool, between: &[u8]) -> Result<(), Stop>
+    ensures { OnOk result (TakesPhrase (Unless is_first (AreSigns between.now))
+        rest.old.now rest.new.now) }
+{
+    if is_first {
+        return Ok(());
+    }
+    expect_all(rest, between)
 }
 
 /// Adds a value to the end of the list.
@@ -124,7 +151,9 @@ fn push(items: &mut Vec<Value>, item: Value) -> Result<(), Stop>
 /// Reads a value.
 #[cycle(text)]
 fn read(alloc: Global, schema: &Schema, rest: &mut &[u8]) -> Result<Value, Stop>
-    ensures { IfOk result (λ v. reads (type_of schema.now) (tree v)) }
+    ensures value { IfOk result (λ v. reads (type_of schema.now) (tree v)) }
+    ensures spelled { IfOk result (λ v. TakesPhrase (SpellsTree (layout_of schema.now) (tree v))
+        rest.old.now rest.new.now) }
 {
     match schema {
         Schema::Leaf(leaf) => read_leaf(alloc, *leaf, rest),
@@ -149,38 +178,45 @@ fn read(alloc: Global, schema: &Schema, rest: &mut &[u8]) -> Result<Value, Stop>
 /// Reads `None` or `Some(..)`.
 #[cycle(text)]
 fn read_option(alloc: Global, content: &Schema, rest: &mut &[u8]) -> Result<Value, Stop>
-    ensures { IfOk result (λ v. IsOption (reads (type_of content.now)) (tree v)) }
+    ensures value { IfOk result (λ v. IsOption (reads (type_of content.now)) (tree v)) }
+    ensures spelled { IfOk result (λ v.
+        TakesPhrase (SpellsOption (SpellsTree (layout_of content.now)) (tree v))
+        rest.old.now rest.new.now) }
 {
     skip_blanks(rest);
     let start = *rest;
-    match take_word(rest) {
-        b"None" => Ok(Value::Absent),
-        b"Some" => {
-            expect(rest, b'(')?;
-            let value = read(alloc, content, rest)?;
-            expect(rest, b')')?;
-            match Box::new(alloc, value) {
-                Ok(held) => Ok(Value::Present(held)),
-                Err(_) => Err(Stop::Memory),
-            }
-        }
-        _ => Err(Stop::here(start)),
+    let word = take_word(rest);
+    if word == b"None".as_slice() {
+        return Ok(Value::Absent);
+    }
+    if word != b"Some".as_slice() {
+        return Err(Stop::here(start));
+    }
+    expect(rest, b'(')?;
+    let value = read(alloc, content, rest)?;
+    expect(rest, b')')?;
+    match Box::new(alloc, value) {
+        Ok(held) => Ok(Value::Present(held)),
+        Err(_) => Err(Stop::Memory),
     }
 }
 
-/// Reads a list or a map between the brackets `open` and `close`.
+/// Reads a list or a map between the brackets `opening` and `closing`.
 #[cycle(text)]
 fn read_list(
     alloc: Global,
     element: &Schema,
     rest: &mut &[u8],
-    open: u8,
-    close: u8,
+    opening: u8,
+    closing: u8,
 ) -> Result<Value, Stop>
-    ensures { IfOk result (λ v. IsSeq (reads (type_of element.now)) (tree v)) }
+    ensures value { IfOk result (λ v. IsSeq (reads (type_of element.now)) (tree v)) }
+    ensures spelled { IfOk result (λ v. TakesPhrase
+        (SpellsList opening closing (SpellsItem (closing == 125) (layout_of element.now)) (tree v))
+        rest.old.now rest.new.now) }
 {
-    expect(rest, open)?;
-    let items = read_items(alloc, element, rest, close)?;
+    expect(rest, opening)?;
+    let items = read_items(alloc, element, rest, closing)?;
     Ok(Value::Seq(items))
 }
 
@@ -191,19 +227,23 @@ fn read_items(
     alloc: Global,
     element: &Schema,
     rest: &mut &[u8],
-    close: u8,
+    closing: u8,
 ) -> Result<Vec<Value>, Stop>
-    ensures { IfOk result (λ v. Each (reads (type_of element.now)) (trees (map tree v.items))) }
+    ensures value { IfOk result (λ v.
+        Each (reads (type_of element.now)) (trees (map tree v.items))) }
+    ensures spelled { IfOk result (λ v. TakesPhrase (AreClosed closing
+        (phrases (SpellsItem (closing == 125) (layout_of element.now)) (trees (map tree v.items))))
+        rest.old.now rest.new.now) }
 {
     let mut items = Vec::new(alloc);
     for _ in 0..rest.len() {
-        if take(rest, close) {
+        if take(rest, closing) {
             return Ok(items);
         }
-        let item = read_item(alloc, element, rest, close)?;
+        let item = read_item(alloc, element, rest, closing)?;
         push(&mut items, item)?;
         if !take(rest, b',') {
-            expect(rest, close)?;
+            expect(rest, closing)?;
             return Ok(items);
         }
     }
@@ -213,15 +253,19 @@ fn read_items(
 /// Reads an element of a list, or, if the closing bracket is `}`, an entry of a map: a key, `=>`
 /// and a value.
 #[cycle(text)]
-fn read_item(alloc: Global, element: &Schema, rest: &mut &[u8], close: u8) -> Result<Value, Stop>
-    ensures { IfOk result (λ v. reads (type_of element.now) (tree v)) }
+fn read_item(alloc: Global, element: &Schema, rest: &mut &[u8], closing: u8) -> Result<Value, Stop>
+    ensures value { IfOk result (λ v. reads (type_of element.now) (tree v)) }
+    ensures spelled { IfOk result (λ v.
+        TakesPhrase (SpellsItem (closing == 125) (layout_of element.now) (tree v))
+        rest.old.now rest.new.now) }
 {
-    match element {
-        Schema::Group(parts) if close == b'}' => {
-            Ok(Value::Group(read_parts(alloc, parts, rest, b"=>")?))
-        }
-        _ => read(alloc, element, rest),
+    if closing != b'}' {
+        return read(alloc, element, rest);
     }
+    let Schema::Group(parts) = element else {
+        return Err(Stop::here(rest));
+    };
+    Ok(Value::Group(read_parts(alloc, parts, rest, b"=>")?))
 }
 
 /// Reads an array, or stops if it hasn't exactly `count` elements.
@@ -232,7 +276,10 @@ fn read_array(
     count: usize,
     rest: &mut &[u8],
 ) -> Result<Value, Stop>
-    ensures { IfOk result (λ v. IsArray count (reads (type_of element.now)) (tree v)) }
+    ensures value { IfOk result (λ v. IsArray count (reads (type_of element.now)) (tree v)) }
+    ensures spelled { IfOk result (λ v.
+        TakesPhrase (SpellsArray (SpellsTree (layout_of element.now)) (tree v))
+        rest.old.now rest.new.now) }
 {
     expect(rest, b'[')?;
     let start = *rest;
@@ -246,20 +293,38 @@ fn read_array(
 /// Reads a tuple or a struct. A `,` may follow the last part.
 #[cycle(text)]
 fn read_group(alloc: Global, parts: &Vec<Schema>, rest: &mut &[u8]) -> Result<Value, Stop>
-    ensures { IfOk result (λ v. IsGroup (reads_all (types_of parts.now.items)) (tree v)) }
+    ensures value { IfOk result (λ v. IsGroup (reads_all (types_of parts.now.items)) (tree v)) }
+    ensures spelled { IfOk result (λ v. TakesPhrase (SpellsGroup (layouts_of parts.now.items)
+        (part_phrases (layouts_of parts.now.items)) (tree v)) rest.old.now rest.new.now) }
 {
-    let (open, close) = if is_struct(parts) {
+    let (opening, closing) = brackets_of(parts);
+    expect(rest, opening)?;
+    let items = read_parts(alloc, parts, rest, b",")?;
+    close_parts(rest, items.is_empty(), closing)?;
+    Ok(Value::Group(items))
+}
+
+/// Returns the brackets around the parts of a struct, `{` and `}`, or of a tuple, `(` and `)`.
+fn brackets_of(parts: &Vec<Schema>) -> (u8, u8)
+    ensures opening { result.0 ≡ opening_sign (layouts_of parts.now.items) }
+    ensures closing { result.1 ≡ closing_sign (layouts_of parts.now.items) }
+{
+    if is_struct(parts) {
         (b'{', b'}')
     } else {
         (b'(', b')')
-    };
-    expect(rest, open)?;
-    let items = read_parts(alloc, parts, rest, b",")?;
-    if !items.is_empty() {
+    }
+}
+
+/// Takes the `,` that may follow the last part, if there is a part, and the closing bracket.
+fn close_parts(rest: &mut &[u8], are_none: bool, closing: u8) -> Result<(), Stop>
+    ensures { OnOk result (TakesPhrase (Then (Unless are_none (IsMaybe 44)) (IsSign closing))
+        rest.old.now rest.new.now) }
+{
+    if !are_none {
         let _ = take(rest, b',');
     }
-    expect(rest, close)?;
-    Ok(Value::Group(items))
+    expect(rest, closing)
 }
 
 /// Reads a value of each of the types in order, with the bytes `between`, which may have blanks
@@ -271,13 +336,15 @@ fn read_parts(
     rest: &mut &[u8],
     between: &[u8],
 ) -> Result<Vec<Value>, Stop>
-    ensures { IfOk result (λ v. reads_all (types_of parts.now.items) (trees (map tree v.items))) }
+    ensures value { IfOk result (λ v.
+        reads_all (types_of parts.now.items) (trees (map tree v.items))) }
+    ensures spelled { IfOk result (λ v. TakesPhrase (Row (AreSigns between.now)
+        (part_phrases (layouts_of parts.now.items) (trees (map tree v.items))))
+        rest.old.now rest.new.now) }
 {
     let mut items = Vec::new(alloc);
     for part in parts {
-        if !items.is_empty() {
-            expect_all(rest, between)?;
-        }
+        separate(rest, items.is_empty(), between)?;
         push(&mut items, read(alloc, part, rest)?)?;
     }
     Ok(items)
@@ -286,18 +353,22 @@ fn read_parts(
 /// Reads a variant: its name, and then its content.
 #[cycle(text)]
 fn read_variant(alloc: Global, variants: &Vec<Schema>, rest: &mut &[u8]) -> Result<Value, Stop>
-    ensures { IfOk result (λ v. IsVariant (reads_at (types_of variants.now.items)) (tree v)) }
+    ensures value { IfOk result (λ v.
+        IsVariant (reads_at (types_of variants.now.items)) (tree v)) }
+    ensures spelled { IfOk result (λ v.
+        TakesPhrase (SpellsChoice (SpellsAt (layouts_of variants.now.items)) (tree v))
+        rest.old.now rest.new.now) }
 {
     skip_blanks(rest);
     let start = *rest;
     let index = index_of(variants, take_word(rest));
-    let Some(variant) = variants.get(index) else {
+    let Some(Schema::Named(_, content)) = variants.get(index) else {
         return Err(Stop::here(start));
     };
     let Ok(index) = u32::try_from(index) else {
         return Err(Stop::here(start));
     };
-    let content = read_content(alloc, variant, rest)?;
+    let content = read_content(alloc, content, rest)?;
     match Box::new(alloc, content) {
         Ok(held) => Ok(Value::Variant(index, held)),
         Err(_) => Err(Stop::Memory),
@@ -305,7 +376,10 @@ fn read_variant(alloc: Global, variants: &Vec<Schema>, rest: &mut &[u8]) -> Resu
 }
 
 /// Returns the index of the variant with this name, or the number of variants if none has it.
-fn index_of(variants: &Vec<Schema>, name: &[u8]) -> usize {
+fn index_of(variants: &Vec<Schema>, name: &[u8]) -> usize
+    ensures { result < length variants.now.items →
+        (s : Schema) × (s ≡ get_or variants.now.items result s) × IsCalled name.now s }
+{
     for (i, variant) in variants.iter().enumerate() {
         if let Schema::Named(other, _) = variant {
             if other.as_bytes() == name {
@@ -319,12 +393,12 @@ fn index_of(variants: &Vec<Schema>, name: &[u8]) -> usize {
 /// Reads the content of a variant after its name: nothing for the unit, a tuple or a struct, or
 /// another value in parentheses.
 #[cycle(text)]
-fn read_content(alloc: Global, variant: &Schema, rest: &mut &[u8]) -> Result<Value, Stop>
-    ensures { IfOk result (λ v. reads (type_of variant.now) (tree v)) }
+fn read_content(alloc: Global, content: &Schema, rest: &mut &[u8]) -> Result<Value, Stop>
+    ensures value { IfOk result (λ v. reads (type_of content.now) (tree v)) }
+    ensures spelled { IfOk result (λ v. TakesPhrase
+        (SpellsContent (layout_of content.now) (SpellsTree (layout_of content.now)) (tree v))
+        rest.old.now rest.new.now) }
 {
-    let Schema::Named(_, content) = variant else {
-        return Err(Stop::here(rest));
-    };
     if is_unit(content) {
         return Ok(Value::Group(Vec::new(alloc)));
     }
@@ -339,7 +413,9 @@ fn read_content(alloc: Global, variant: &Schema, rest: &mut &[u8]) -> Result<Val
 
 /// Reads a value without parts.
 fn read_leaf(alloc: Global, leaf: Leaf, rest: &mut &[u8]) -> Result<Value, Stop>
-    ensures { IfOk result (λ v. leaf_reads leaf (tree v)) }
+    ensures value { IfOk result (λ v. leaf_reads leaf (tree v)) }
+    ensures spelled { IfOk result (λ v. TakesPhrase (SpellsLeaf leaf (tree v))
+        rest.old.now rest.new.now) }
 {
     skip_blanks(rest);
     match leaf {
@@ -364,6 +440,8 @@ fn read_leaf(alloc: Global, leaf: Leaf, rest: &mut &[u8]) -> Result<Value, Stop>
 fn scalar<T: FromStr>(rest: &mut &[u8]) -> Result<T, Stop>
 where
     T::Err: Drop,
+    ensures { IfOk result (λ x. TakesPhrase (λ word. T.from_str_gives word (Ok x))
+        rest.old.now rest.new.now) }
 {
     let start = *rest;
     let count = match start.iter().position(|byte| !is_of_scalar(*byte)) {

@@ -7,7 +7,7 @@ ghost use Rattle.postcard_de.specs.Reads.{Reads};
 ghost use Rattle.postcard_ser.specs.Writing.{Wrote};
 ghost use Rattle.postcard_examples.specs.Links.{chain_shape};
 
-use postcard::de_flavors::Flavor as Source;
+use postcard::de_flavors::Flavor as DeFlavor;
 use postcard::ser_flavors::Flavor;
 use postcard::{
     Deserialize, DeserializeOwned, Deserializer, Error, Result, Serialize, Serializer, Shaped,
@@ -48,7 +48,7 @@ fn write_links<F: Flavor>(chain: &Chain, limit: u32, serializer: &mut Serializer
 
 /// Reads a chain of fewer than `limit` links. Fails with `SerdeDeCustom` if it has `limit` links or
 /// more, or if an index is neither 0 nor 1, and with `OutOfMemory` if an allocation fails.
-fn read_links<F: Source>(limit: u32, alloc: Global, d: &mut Deserializer<'_, F>) -> Result<Chain>
+fn read_links<F: DeFlavor>(limit: u32, alloc: Global, d: &mut Deserializer<'_, F>) -> Result<Chain>
     ensures { Reads F.Flavor Spells (chain_shape limit).reads (chain_shape limit).value
         (chain_shape limit).grows (source_of d.old) result (source_of d.new) }
 {
@@ -80,13 +80,13 @@ impl Serialize for Chain {
 }
 
 impl<'de> Deserialize<'de> for Chain {
-    fn deserialize<F: Source>(alloc: Global, d: &mut Deserializer<'de, F>) -> Result<Self> {
+    fn deserialize<F: DeFlavor>(alloc: Global, d: &mut Deserializer<'de, F>) -> Result<Self> {
         read_links(32, alloc, d)
     }
 }
 
 impl DeserializeOwned for Chain {
-    fn deserialize_owned<'de, F: Source>(
+    fn deserialize_owned<'de, F: DeFlavor>(
         alloc: Global,
         d: &mut Deserializer<'de, F>,
     ) -> Result<Self> {

@@ -10,6 +10,7 @@
 //! - [`tally`]: a list of lists of elements without bytes, with a capacity.
 //! - [`store`]: a struct and an enum that have a greatest size, and a store of that size.
 //! - [`flavor`], [`trailer`]: writing flavors. [`source`]: a reading source.
+//! - [`limited`]: a reading flavor.
 //! - [`theorems`]: theorems that a caller proves of its own functions.
 #![tactic(auto)]
 
@@ -17,6 +18,7 @@ pub mod chain;
 pub mod event;
 pub mod flavor;
 pub mod interval;
+pub mod limited;
 pub mod numbers;
 pub mod pair;
 pub mod percent;

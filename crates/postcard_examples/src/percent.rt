@@ -5,7 +5,7 @@ ghost use Rattle.postcard_shape.specs.Leaves.{byte};
 ghost use Rattle.postcard_shape.specs.Only.{only};
 ghost use Rattle.std.specs.Prelude.{◌≡◌, ◌≤◌, ◌↔◌, IsSome, IfSome};
 
-use postcard::de_flavors::Flavor as Source;
+use postcard::de_flavors::Flavor as DeFlavor;
 use postcard::ser_flavors::Flavor;
 use postcard::{
     Deserialize, DeserializeOwned, Deserializer, Error, Result, Serialize, Serializer, Shaped,
@@ -52,7 +52,7 @@ impl Serialize for Percent {
 
 /// Reading fails with `SerdeDeCustom` if the byte is above 100.
 impl<'de> Deserialize<'de> for Percent {
-    fn deserialize<F: Source>(alloc: Global, d: &mut Deserializer<'de, F>) -> Result<Self> {
+    fn deserialize<F: DeFlavor>(alloc: Global, d: &mut Deserializer<'de, F>) -> Result<Self> {
         let value = u8::deserialize(alloc, d)?;
         if value > 100 {
             return Err(Error::de_custom("above 100"));
@@ -62,7 +62,7 @@ impl<'de> Deserialize<'de> for Percent {
 }
 
 impl DeserializeOwned for Percent {
-    fn deserialize_owned<'de, F: Source>(
+    fn deserialize_owned<'de, F: DeFlavor>(
         alloc: Global,
         d: &mut Deserializer<'de, F>,
     ) -> Result<Self> {

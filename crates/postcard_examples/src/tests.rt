@@ -5,6 +5,7 @@ use crate::chain::Chain;
 use crate::event::Event;
 use crate::flavor::Both;
 use crate::interval::Interval;
+use crate::limited::Limited;
 use crate::numbers::Numbers;
 use crate::pair::Pair;
 use crate::percent::Percent;
@@ -16,10 +17,12 @@ use crate::tally::Tally;
 use crate::theorems::{reading_comes_back, station_comes_back, u32_fits_five_bytes};
 use crate::trailer::Trailed;
 use arrayvec::{ArrayString, ArrayVec};
+use postcard::de_flavors::io::io::IOReader;
+use postcard::de_flavors::{Flavor, Slice};
 use postcard::ser_flavors::{AllocVec, HVec, Size};
 use postcard::{
-    Deserialize, DeserializeOwned, Error, Owned, Result, Serialize, from_bytes, from_io,
-    serialize_with_flavor, to_allocvec,
+    Deserialize, DeserializeOwned, Deserializer, Error, Owned, Result, Serialize, from_bytes,
+    from_io, serialize_with_flavor, to_allocvec,
 };
 use std::fmt::Debug;
 use std::process::Abort;
@@ -82,11 +85,12 @@ fn structs(rt: HostRuntime) -> std::result::Result<(), Fail> {
     let bytes = [200, 0xFF, 0x80, 0x01, 1, 127, 2, 0x80, 0x80, 0x01, 127];
     is_there_and_back(&rt, numbers(), &bytes);
     is_owned(&rt, numbers(), &bytes);
-    let pair = Pair {
+    let pair = || Pair {
         left: 1u8,
         right: 2u8,
     };
-    is_there_and_back(&rt, pair, &[1, 2]);
+    is_there_and_back(&rt, pair(), &[1, 2]);
+    is_owned(&rt, pair(), &[1, 2]);
     Ok(())
 }
 
@@ -137,14 +141,21 @@ fn enums(rt: HostRuntime) -> std::result::Result<(), Fail> {
 #[test]
 fn values_that_are_refused(rt: HostRuntime) {
     for value in [0, 100] {
-        match Percent::new(value) {
-            Some(percent) => is_there_and_back(&rt, percent, &[value]),
-            None => panic!(rt; "{value} is a percent"),
+        match (Percent::new(value), Percent::new(value)) {
+            (Some(percent), Some(again)) => {
+                is_there_and_back(&rt, percent, &[value]);
+                is_owned(&rt, again, &[value]);
+            }
+            _ => panic!(rt; "{value} is a percent"),
         }
     }
     assert_eq!(rt;
         from_bytes::<Percent>(rt.alloc(), &[101]),
         Err(Error::SerdeDeCustom)
+    );
+    assert_eq!(rt;
+        from_bytes::<Owned<Percent>>(rt.alloc(), &[101]).err(),
+        Some(Error::SerdeDeCustom)
     );
     let interval = Interval { start: 1, end: 300 };
     assert_eq!(rt; serialize_with_flavor(&interval, Size::default()), Ok(3));
@@ -190,6 +201,58 @@ fn a_source(rt: HostRuntime) -> std::result::Result<(), Fail> {
     let (value, (reader, _)) = from_io::<u16, _>(rt.alloc(), (counted, &mut scratch))?;
     assert_eq!(rt; value, 300);
     assert_eq!(rt; reader.count, 2);
+    Ok(())
+}
+
+#[test]
+fn a_reading_flavor(rt: HostRuntime) -> std::result::Result<(), Fail> {
+    let bytes = [0xAC, 0x02, 2, b'a', b'b', 7];
+    let limited = Limited {
+        inner: Slice::new(&bytes),
+        limit: 5,
+    };
+    let mut deserializer = Deserializer::from_flavor(limited);
+    let read = <(u16, &str)>::deserialize(rt.alloc(), &mut deserializer);
+    assert_eq!(rt; read, Ok((300, "ab")));
+    let refused = u8::deserialize(rt.alloc(), &mut deserializer);
+    assert_eq!(rt; refused, Err(Error::DeserializeUnexpectedEnd));
+    assert_eq!(rt; deserializer.finalize()?, [7].as_slice());
+    let limited = Limited {
+        inner: Slice::new(&bytes),
+        limit: 4,
+    };
+    let mut deserializer = Deserializer::from_flavor(limited);
+    let refused = <(u16, &str)>::deserialize(rt.alloc(), &mut deserializer);
+    assert_eq!(rt; refused, Err(Error::DeserializeUnexpectedEnd));
+    assert_eq!(rt; deserializer.finalize()?, [b'a', b'b', 7].as_slice());
+    Ok(())
+}
+
+#[test]
+fn each_call_of_a_reading_flavor(rt: HostRuntime) -> std::result::Result<(), Fail> {
+    let end = Err(Error::DeserializeUnexpectedEnd);
+    let mut scratch = [0; 8];
+    let reader: &[u8] = &[1, 2, 3, 4, 5, 6];
+    let mut limited = Limited {
+        inner: IOReader::new(reader, &mut scratch),
+        limit: 4,
+    };
+    assert_eq!(rt; limited.size_hint(), None);
+    assert_eq!(rt; limited.try_take_n(5), end);
+    assert_eq!(rt; limited.try_take_n_temp(5), end);
+    assert_eq!(rt; limited.pop(), Ok(1));
+    assert_eq!(rt; limited.try_take_n(2)?, [2, 3].as_slice());
+    assert_eq!(rt; limited.try_take_n_temp(1)?, [4].as_slice());
+    assert_eq!(rt; limited.limit, 0);
+    assert_eq!(rt; limited.pop(), Err(Error::DeserializeUnexpectedEnd));
+    assert_eq!(rt; limited.finalize()?.0, [5, 6].as_slice());
+    for (limit, hint) in [(1, 1), (9, 2)] {
+        let limited = Limited {
+            inner: Slice::new(&[1, 2]),
+            limit,
+        };
+        assert_eq!(rt; limited.size_hint(), Some(hint));
+    }
     Ok(())
 }
 

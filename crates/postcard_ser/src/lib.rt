@@ -26,7 +26,7 @@
 //!
 //! An enum is written as its variants in a row, each by [`serialize_variant`]. A type that itself
 //! calls the [`Serializer`] more than once joins what each call wrote by the lemmas of
-//! `proofs/PartByPart.antt`.
+//! `postcard::specs::Lemmas` whose names begin with `wrote_`.
 //!
 //! In reading order:
 //! - the crates `postcard_ser_flavors`, for where the bytes go, of which [`Flavor`] and [`Slice`]

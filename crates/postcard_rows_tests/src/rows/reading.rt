@@ -4,7 +4,7 @@ use super::{assert_reads, assert_refused, assert_written, read};
 use arrayvec::{ArrayString, ArrayVec};
 use postcard::{Error, Owned, from_bytes};
 use std::collections::BTreeMap;
-use std::num::NonZeroU8;
+use std::num::{NonZeroU8, NonZeroU16};
 use std::rc::Rc;
 use std::test::Fail;
 use std::time::Duration;
@@ -28,6 +28,9 @@ fn numbers(rt: HostRuntime) {
     assert_refused::<u16>(&rt, &[0x80, 0x80, 0x04], VARINT);
     assert_refused::<u16>(&rt, &[0x80, 0x80, 0x80, 0x00], VARINT);
     assert_refused::<NonZeroU8>(&rt, &[0x00], CUSTOM);
+    assert_refused::<NonZeroU16>(&rt, &[0x80, 0x00], CUSTOM);
+    assert_refused::<NonZeroU16>(&rt, &[0x80, 0x80, 0x04], VARINT);
+    assert_refused::<NonZeroU16>(&rt, &[0x80], END);
     let number = -19490127978232325886905073712831i128;
     let mut buffer = [0; 19];
     match postcard::to_slice(&number, &mut buffer) {
@@ -45,6 +48,10 @@ fn characters(rt: HostRuntime) {
     assert_refused::<char>(&rt, &[0x05], CHAR);
     assert_refused::<char>(&rt, &[0x01, 0xC3], CHAR);
     assert_refused::<char>(&rt, &[0x04, 0x61], END);
+    // A length of ten bytes, of which the last has bits beyond the 64th.
+    let mut length = [0xFF; 10];
+    length[9] = 0x7F;
+    assert_refused::<char>(&rt, &length, VARINT);
 }
 
 #[test]

@@ -6,7 +6,7 @@ use Rattle.std.specs.Char.{is_ascii_digit, is_ascii_uppercase}
 use Rattle.postcard_dyn_schema.specs.Meaning.{has_bytes, type_of}
 use Rattle.postcard_dyn_schema.specs.Text.{Then, TakesPhrase, IsSign, IsMaybe}
 use Rattle.postcard_dyn_schema.specs.Grammar.{Separated, IsListRest, IsTupleRest, IsField, IsFieldsRest, IsMapRest, IsPlain, IsContent, IsVariantText, IsEnumText, IsType}
-use Rattle.postcard_dyn_schema.proofs.Phrases.{takes_two, takes_as, led, trim_takes}
+use Rattle.postcard_dyn_schema.specs.Phrases.{takes_two, takes_as, led, trim_takes}
 use Rattle.postcard_dyn_schema.proofs.Rows.{row_more, row_filled, begun_more}
 use Rattle.postcard_dyn_schema.proofs.Types.{HasName, type_enum, type_options, options_more, if_ok_as, plain_list, plain_tuple, plain_braces, content_tuple, content_fields, tuple_end, tuple_end_comma, enum_takes, fields_take, field_takes, variant_takes, seq_takes, array_takes, map_takes, tuple_takes}
 use Rattle.postcard_dyn_schema.proofs.expression.+expression.Goals.{read_enum-else-len-eq1-via-then-len-eq1+else-not-leads, read_enum-else-len-eq1-via-else-len-eq1}

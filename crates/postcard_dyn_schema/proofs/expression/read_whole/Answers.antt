@@ -3,7 +3,7 @@ use Rattle.std.proofs.lemmas.Grind.{common_steps}
 use Rattle.std.proofs.lemmas.List.{append-nil}
 use Rattle.postcard_dyn_schema.specs.Text.{AreBlank}
 use Rattle.postcard_dyn_schema.specs.Grammar.{IsType}
-use Rattle.postcard_dyn_schema.proofs.Phrases.{takes_two, trim_takes}
+use Rattle.postcard_dyn_schema.specs.Phrases.{takes_two, trim_takes}
 use Rattle.postcard_dyn_schema.proofs.expression.read_whole.Goals as goal
 
 pub returns : goal.returns

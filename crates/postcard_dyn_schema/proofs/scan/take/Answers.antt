@@ -1,6 +1,6 @@
 use Rattle.std.proofs.Common.{◌≡◌, ◌∷◌, arith}
 use Rattle.std.proofs.lemmas.Grind.{common_steps}
-use Rattle.postcard_dyn_schema.proofs.Phrases.{sign_takes}
+use Rattle.postcard_dyn_schema.specs.Phrases.{sign_takes}
 use Rattle.postcard_dyn_schema.proofs.scan.take.Goals as goal
 
 pub returns-in-Some-clause-taken : goal.returns-in-Some-clause-taken

@@ -4,7 +4,7 @@ use Rattle.std.proofs.lemmas.List.{drop_all}
 use Rattle.std.specs.List.{AllPass}
 use Rattle.std.specs.Char.{is_ascii_digit}
 use Rattle.postcard_dyn_schema.specs.Text.{decimal, Led, IsWord, IsCount}
-use Rattle.postcard_dyn_schema.proofs.Phrases.{trim_takes, led_more, takes_as}
+use Rattle.postcard_dyn_schema.specs.Phrases.{trim_takes, led_more, takes_as}
 use Rattle.postcard_dyn_schema.proofs.scan.take_count.Goals as goal
 
 pub returns : goal.returns

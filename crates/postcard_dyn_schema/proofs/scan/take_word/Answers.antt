@@ -1,7 +1,7 @@
 use Rattle.std.proofs.Common.{◌≡◌, refl}
 use Rattle.std.specs.List.{AllPass}
 use Rattle.postcard_dyn_schema.specs.Text.{is_of_word, Led, IsWord}
-use Rattle.postcard_dyn_schema.proofs.Phrases.{all_take, trim_takes, led, takes_as}
+use Rattle.postcard_dyn_schema.specs.Phrases.{all_take, trim_takes, led, takes_as}
 use Rattle.postcard_dyn_schema.proofs.scan.take_word.Goals as goal
 
 pub returns : goal.returns

@@ -1,4 +1,4 @@
-use Rattle.std.proofs.Common.{◌≡◌, ◌∷◌, ◌≤◌, [], refl, ap, ◌∙◌, arith}
+use Rattle.std.proofs.Common.{◌∷◌, ◌≤◌, [], refl, ap, ◌∙◌, arith}
 use Rattle.postcard_dyn_text.proofs.Quotes.{digit_more, code_small, code_takes}
 use Rattle.postcard_dyn_text.proofs.quoted.take_code.Goals.{in-Some, in-None}
 use Rattle.postcard_dyn_text.proofs.quoted.take_code.Goals as goal

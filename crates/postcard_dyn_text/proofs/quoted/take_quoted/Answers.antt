@@ -1,7 +1,5 @@
-use Rattle.std.proofs.Common.{◌≡◌, ◌++◌, ◌∷◌, [], refl, sym, ap, ◌∙◌, arith, rules, inl, inr}
-use Rattle.std.specs.Prelude.{string_bytes}
-use Rattle.std.proofs.lemmas.Grind.{common_steps}
-use Rattle.postcard_dyn_text.proofs.Quotes.{quote_takes, quoted_end, plain_more, escape_more}
+use Rattle.std.proofs.Common.{◌∷◌, ap, ◌∙◌}
+use Rattle.postcard_dyn_text.proofs.Quotes.{quoted_end, plain_more, escape_more}
 use Rattle.postcard_dyn_text.proofs.quoted.take_quoted.Goals.{then-first-eq92+in_ok-take_escape, else-first-eq92+in_ok-push, in-Ok, in-Err}
 use Rattle.postcard_dyn_text.proofs.quoted.take_quoted.Goals as goal
 

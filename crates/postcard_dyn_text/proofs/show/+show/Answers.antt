@@ -1,7 +1,7 @@
 use Rattle.std.proofs.Common.{◌≡◌, ◌+◌, ◌<◌, ◌++◌, false, true, [], ◌∷◌, map, take, length, refl, sym, ap, ◌∙◌, arith, rules, Some, Ok, Err}
 use Rattle.std.specs.Prelude.{string_bytes}
 use Rattle.std.proofs.lemmas.Grind.{common_steps}
-use Rattle.std.proofs.Output.{then_text_assoc, displays_on_ok_of_eq}
+use Rattle.std.proofs.Output.{displays_on_ok_of_eq}
 use Rattle.std.specs.Fmt.{◌++?◌}
 use Rattle.postcard_wire.specs.Tree.{trees}
 use Rattle.postcard_wire.specs.Tree as nodes
@@ -10,7 +10,7 @@ use Rattle.postcard_dyn_schema.specs.declared.schema.Schema as schemas
 use Rattle.postcard_dyn.specs.Tree.{tree}
 use Rattle.postcard_dyn.specs.declared.value.Value.{Present, Variant}
 use Rattle.postcard_dyn.specs.declared.value.Value as values
-use Rattle.postcard_dyn_text.specs.Shown.{layout_of, layouts_of, text, texts, text_at, variant_text, entry_text, option_text, content_text, is_empty_group, is_group, enclosed, joined, all_by, each_by, choice, named, lead, opening_of, closing_of}
+use Rattle.postcard_dyn_text.specs.Shown.{layout_of, layouts_of, text, texts, text_at, variant_text, entry_text, option_text, is_empty_group, is_group, enclosed, joined, all_by, each_by, choice, named, lead, opening_of, closing_of}
 use Rattle.postcard_dyn_text.proofs.Joined.{items_more, item_more, part_more, displays_failed, two_then, one_then, encloses}
 use Rattle.postcard_dyn_text.proofs.Layouts.{row_more, variant_at, content_group, content_other}
 use Rattle.postcard_dyn_text.proofs.show.+show.Goals as goal

@@ -1,4 +1,4 @@
-use Rattle.std.proofs.Common.{◌≡◌, true, false, length, refl, sym, ◌∙◌, arith}
+use Rattle.std.proofs.Common.{◌≡◌, false, length, refl, sym, ◌∙◌, arith}
 use Rattle.std.proofs.lemmas.Grind.{common_steps}
 use Rattle.postcard_dyn_text.specs.Shown.{have_names, layouts_of}
 use Rattle.postcard_dyn_text.proofs.Layouts.{is_one, is_not_one}

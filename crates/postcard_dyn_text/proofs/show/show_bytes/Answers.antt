@@ -1,10 +1,6 @@
-use Rattle.std.proofs.Common.{◌≡◌, ◌++◌, ◌/◌, ◌%◌, ◌<◌, false, map, take, length, refl, sym, arith}
-use Rattle.std.proofs.lemmas.Grind.{common_steps}
+use Rattle.std.proofs.Common.{◌<◌, length, refl, sym, arith}
 use Rattle.std.proofs.Output.{has_written_append, has_written_of_eq}
-use Rattle.postcard_wire.specs.Tree.{Byte, trees}
-use Rattle.postcard_dyn_text.specs.Shown.{hexadecimal}
-use Rattle.postcard_dyn_text.proofs.Joined.{hexadecimal_more, displays_failed}
-use Rattle.postcard_dyn_text.proofs.Layouts.{row_more}
+use Rattle.postcard_dyn_text.proofs.Joined.{hexadecimal_more}
 use Rattle.postcard_dyn_text.proofs.show.show_bytes.Goals as goal
 
 pub loop-byte-preserved : goal.loop-byte-preserved

@@ -1,5 +1,5 @@
 -- The digits of the bytes so far are written.
-use Rattle.std.proofs.Common.{◌++◌, codes, map, take, Ok}
+use Rattle.std.proofs.Common.{map, take, Ok}
 use Rattle.std.specs.Fmt.{WritesOnOk}
 use Rattle.postcard_wire.specs.Tree.{Byte, trees}
 use Rattle.postcard_dyn_text.specs.Shown.{hexadecimal}

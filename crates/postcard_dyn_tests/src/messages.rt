@@ -1,7 +1,7 @@
 //! Tests of whole messages.
 
-use crate::{parse, take_from_bytes, to_flavor};
 use postcard::ser_flavors::AllocVec;
+use postcard_dyn::{parse, take_from_bytes, to_flavor};
 use std::process::Abort;
 use std::test::Fail;
 

@@ -1,7 +1,7 @@
 //! Tests of reading and printing the texts of values.
 
-use crate::{Shown, read_text};
 use postcard_dyn::{Value, parse};
+use postcard_dyn_text::{Shown, read_text};
 use std::alloc::AllocGlobal;
 use std::process::Abort;
 use std::test::Fail;

@@ -6,7 +6,7 @@ use Rattle.std.proofs.lemmas.List.Sums.{sum_by-take-le}
 use Rattle.std.specs.List.{AllPass}
 use Rattle.std.specs.Str.{IsTrimAsciiStart}
 use Rattle.std.specs.Char.{is_ascii_whitespace}
-use Rattle.postcard_dyn_schema.specs.Text.{characters, AreBlank, Led, Then, TakesPhrase, IsSign}
+use Rattle.postcard_dyn_schema.specs.Text.{characters, AreBlank, Led, Then, TakesPhrase, IsSign, IsWord}
 
 -- If each of the first n elements passes, the list of them passes.
 pub all_take : (p : ℕ → Bool) (n : ℕ) (xs : List ℕ) → n ≤ length xs → ((i : ℕ) → i < n → p (get_or xs i 0) ≡ true) → AllPass p (take n xs)
@@ -47,6 +47,11 @@ led_more P a b c (x, blank, e) (y, (u, v, more, p, f), g) =
 -- Taking blanks and then a phrase takes the phrase after blanks.
 pub led : (P : List ℕ → Type 0) (a b c : List ℕ) → TakesPhrase AreBlank a b → TakesPhrase P b c → TakesPhrase (Led P) a c
 led P a b c (x, blank, e) (y, p, f) = (x ++ y, (x, y, blank, p, refl), e ∙ ap (λ r. x ++ r) f ∙ sym (append_assoc x y c))
+
+-- Taking blanks and then a word takes the word.
+pub word_more : (word a b c : List ℕ) → IsTrimAsciiStart a b → TakesPhrase (IsWord word) b c → TakesPhrase (IsWord word) a c
+word_more word a b c trim (x, (pass, h), e) =
+    takes_as (Led (λ phrase. phrase ≡ word)) (IsWord word) a c (λ t k. (pass, k)) (led_more (λ phrase. phrase ≡ word) a b c (trim_takes a b trim) (x, h, e))
 
 -- If a sign follows the blanks at the start of a text, it is taken after them.
 pub sign_takes : (sign : ℕ) (s r after : List ℕ) → IsTrimAsciiStart s r → r ≡ sign ∷ after → TakesPhrase (IsSign sign) s after

@@ -1,6 +1,6 @@
 //! Tests of type expressions.
 
-use crate::{Schema, parse};
+use postcard_dyn_schema::{Schema, parse};
 use std::process::Abort;
 use std::test::Fail;
 
