@@ -2,5 +2,3 @@
 
 pub mod io;
 mod sliding_buffer;
-#[cfg(test)]
-mod tests;

@@ -37,8 +37,6 @@ pub mod io;
 pub mod size;
 pub mod slice;
 pub mod storage;
-#[cfg(test)]
-mod tests;
 
 pub use alloc_vec::{AllocVec, StdVec};
 pub use extend::{ExtendBytes, ExtendFlavor};

@@ -136,6 +136,3 @@ impl<T: Drop> From<AllocFailed<T>> for Error {
         Error::OutOfMemory
     }
 }
-
-#[cfg(test)]
-mod tests;

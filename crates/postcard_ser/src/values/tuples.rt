@@ -25,24 +25,263 @@ fn serialize_both<P: Serialize, Q: Serialize, F: Flavor>(
     second.serialize(serializer)
 }
 
-/// Writes a value, another, and then a tuple of what follows them. A long tuple is written in twos,
-/// since the prover's work for a tuple within a tuple grows with its length.
+/// Writes three values in order. A tuple passes its parts to such a function, one parameter each,
+/// since the prover's work for a tuple within a tuple grows fast with its length.
 fn serialize_three<P: Serialize, Q: Serialize, R: Serialize, F: Flavor>(
     first: &P,
     second: &Q,
-    others: &R,
+    third: &R,
     serializer: &mut Serializer<F>,
 ) -> Result<()>
     ensures wrote { Wrote F.Flavor serializer.old.output
         (canonical (P.shape.tree first.now)
-        ++ (canonical (Q.shape.tree second.now) ++ canonical (R.shape.tree others.now)))
-        (P.shape.refuses first.now ⊎ (Q.shape.refuses second.now ⊎ R.shape.refuses others.now))
+        ++ (canonical (Q.shape.tree second.now) ++ canonical (R.shape.tree third.now)))
+        (P.shape.refuses first.now ⊎ (Q.shape.refuses second.now ⊎ R.shape.refuses third.now))
         (P.shape.text ⊎ (Q.shape.text ⊎ R.shape.text)) result serializer.new.output }
     ensures fits { OnOk result (P.shape.fits first.now
-        × (Q.shape.fits second.now × R.shape.fits others.now)) }
+        × (Q.shape.fits second.now × R.shape.fits third.now)) }
 {
     first.serialize(serializer)?;
-    serialize_both(second, others, serializer)
+    serialize_both(second, third, serializer)
+}
+
+/// Writes four values in order.
+fn serialize_four<P: Serialize, Q: Serialize, R: Serialize, S: Serialize, F: Flavor>(
+    first: &P,
+    second: &Q,
+    third: &R,
+    fourth: &S,
+    serializer: &mut Serializer<F>,
+) -> Result<()>
+    ensures wrote { Wrote F.Flavor serializer.old.output
+        (canonical (P.shape.tree first.now)
+        ++ (canonical (Q.shape.tree second.now)
+        ++ (canonical (R.shape.tree third.now)
+        ++ canonical (S.shape.tree fourth.now))))
+        (P.shape.refuses first.now
+        ⊎ (Q.shape.refuses second.now
+        ⊎ (R.shape.refuses third.now
+        ⊎ S.shape.refuses fourth.now)))
+        (P.shape.text
+        ⊎ (Q.shape.text
+        ⊎ (R.shape.text
+        ⊎ S.shape.text)))
+        result serializer.new.output }
+    ensures fits { OnOk result
+        (P.shape.fits first.now
+        × (Q.shape.fits second.now
+        × (R.shape.fits third.now
+        × S.shape.fits fourth.now))) }
+{
+    first.serialize(serializer)?;
+    serialize_three(second, third, fourth, serializer)
+}
+
+/// Writes five values in order.
+fn serialize_five<P: Serialize, Q: Serialize, R: Serialize, S: Serialize, T: Serialize, F: Flavor>(
+    first: &P,
+    second: &Q,
+    third: &R,
+    fourth: &S,
+    fifth: &T,
+    serializer: &mut Serializer<F>,
+) -> Result<()>
+    ensures wrote { Wrote F.Flavor serializer.old.output
+        (canonical (P.shape.tree first.now)
+        ++ (canonical (Q.shape.tree second.now)
+        ++ (canonical (R.shape.tree third.now)
+        ++ (canonical (S.shape.tree fourth.now)
+        ++ canonical (T.shape.tree fifth.now)))))
+        (P.shape.refuses first.now
+        ⊎ (Q.shape.refuses second.now
+        ⊎ (R.shape.refuses third.now
+        ⊎ (S.shape.refuses fourth.now
+        ⊎ T.shape.refuses fifth.now))))
+        (P.shape.text
+        ⊎ (Q.shape.text
+        ⊎ (R.shape.text
+        ⊎ (S.shape.text
+        ⊎ T.shape.text))))
+        result serializer.new.output }
+    ensures fits { OnOk result
+        (P.shape.fits first.now
+        × (Q.shape.fits second.now
+        × (R.shape.fits third.now
+        × (S.shape.fits fourth.now
+        × T.shape.fits fifth.now)))) }
+{
+    first.serialize(serializer)?;
+    serialize_four(second, third, fourth, fifth, serializer)
+}
+
+/// Writes six values in order.
+fn serialize_six<
+    P: Serialize,
+    Q: Serialize,
+    R: Serialize,
+    S: Serialize,
+    T: Serialize,
+    U: Serialize,
+    F: Flavor,
+>(
+    first: &P,
+    second: &Q,
+    third: &R,
+    fourth: &S,
+    fifth: &T,
+    sixth: &U,
+    serializer: &mut Serializer<F>,
+) -> Result<()>
+    ensures wrote { Wrote F.Flavor serializer.old.output
+        (canonical (P.shape.tree first.now)
+        ++ (canonical (Q.shape.tree second.now)
+        ++ (canonical (R.shape.tree third.now)
+        ++ (canonical (S.shape.tree fourth.now)
+        ++ (canonical (T.shape.tree fifth.now)
+        ++ canonical (U.shape.tree sixth.now))))))
+        (P.shape.refuses first.now
+        ⊎ (Q.shape.refuses second.now
+        ⊎ (R.shape.refuses third.now
+        ⊎ (S.shape.refuses fourth.now
+        ⊎ (T.shape.refuses fifth.now
+        ⊎ U.shape.refuses sixth.now)))))
+        (P.shape.text
+        ⊎ (Q.shape.text
+        ⊎ (R.shape.text
+        ⊎ (S.shape.text
+        ⊎ (T.shape.text
+        ⊎ U.shape.text)))))
+        result serializer.new.output }
+    ensures fits { OnOk result
+        (P.shape.fits first.now
+        × (Q.shape.fits second.now
+        × (R.shape.fits third.now
+        × (S.shape.fits fourth.now
+        × (T.shape.fits fifth.now
+        × U.shape.fits sixth.now))))) }
+{
+    first.serialize(serializer)?;
+    serialize_five(second, third, fourth, fifth, sixth, serializer)
+}
+
+/// Writes seven values in order.
+fn serialize_seven<
+    P: Serialize,
+    Q: Serialize,
+    R: Serialize,
+    S: Serialize,
+    T: Serialize,
+    U: Serialize,
+    V: Serialize,
+    F: Flavor,
+>(
+    first: &P,
+    second: &Q,
+    third: &R,
+    fourth: &S,
+    fifth: &T,
+    sixth: &U,
+    seventh: &V,
+    serializer: &mut Serializer<F>,
+) -> Result<()>
+    ensures wrote { Wrote F.Flavor serializer.old.output
+        (canonical (P.shape.tree first.now)
+        ++ (canonical (Q.shape.tree second.now)
+        ++ (canonical (R.shape.tree third.now)
+        ++ (canonical (S.shape.tree fourth.now)
+        ++ (canonical (T.shape.tree fifth.now)
+        ++ (canonical (U.shape.tree sixth.now)
+        ++ canonical (V.shape.tree seventh.now)))))))
+        (P.shape.refuses first.now
+        ⊎ (Q.shape.refuses second.now
+        ⊎ (R.shape.refuses third.now
+        ⊎ (S.shape.refuses fourth.now
+        ⊎ (T.shape.refuses fifth.now
+        ⊎ (U.shape.refuses sixth.now
+        ⊎ V.shape.refuses seventh.now))))))
+        (P.shape.text
+        ⊎ (Q.shape.text
+        ⊎ (R.shape.text
+        ⊎ (S.shape.text
+        ⊎ (T.shape.text
+        ⊎ (U.shape.text
+        ⊎ V.shape.text))))))
+        result serializer.new.output }
+    ensures fits { OnOk result
+        (P.shape.fits first.now
+        × (Q.shape.fits second.now
+        × (R.shape.fits third.now
+        × (S.shape.fits fourth.now
+        × (T.shape.fits fifth.now
+        × (U.shape.fits sixth.now
+        × V.shape.fits seventh.now)))))) }
+{
+    first.serialize(serializer)?;
+    serialize_six(second, third, fourth, fifth, sixth, seventh, serializer)
+}
+
+/// Writes eight values in order.
+fn serialize_eight<
+    P: Serialize,
+    Q: Serialize,
+    R: Serialize,
+    S: Serialize,
+    T: Serialize,
+    U: Serialize,
+    V: Serialize,
+    W: Serialize,
+    F: Flavor,
+>(
+    first: &P,
+    second: &Q,
+    third: &R,
+    fourth: &S,
+    fifth: &T,
+    sixth: &U,
+    seventh: &V,
+    eighth: &W,
+    serializer: &mut Serializer<F>,
+) -> Result<()>
+    ensures wrote { Wrote F.Flavor serializer.old.output
+        (canonical (P.shape.tree first.now)
+        ++ (canonical (Q.shape.tree second.now)
+        ++ (canonical (R.shape.tree third.now)
+        ++ (canonical (S.shape.tree fourth.now)
+        ++ (canonical (T.shape.tree fifth.now)
+        ++ (canonical (U.shape.tree sixth.now)
+        ++ (canonical (V.shape.tree seventh.now)
+        ++ canonical (W.shape.tree eighth.now))))))))
+        (P.shape.refuses first.now
+        ⊎ (Q.shape.refuses second.now
+        ⊎ (R.shape.refuses third.now
+        ⊎ (S.shape.refuses fourth.now
+        ⊎ (T.shape.refuses fifth.now
+        ⊎ (U.shape.refuses sixth.now
+        ⊎ (V.shape.refuses seventh.now
+        ⊎ W.shape.refuses eighth.now)))))))
+        (P.shape.text
+        ⊎ (Q.shape.text
+        ⊎ (R.shape.text
+        ⊎ (S.shape.text
+        ⊎ (T.shape.text
+        ⊎ (U.shape.text
+        ⊎ (V.shape.text
+        ⊎ W.shape.text)))))))
+        result serializer.new.output }
+    ensures fits { OnOk result
+        (P.shape.fits first.now
+        × (Q.shape.fits second.now
+        × (R.shape.fits third.now
+        × (S.shape.fits fourth.now
+        × (T.shape.fits fifth.now
+        × (U.shape.fits sixth.now
+        × (V.shape.fits seventh.now
+        × W.shape.fits eighth.now))))))) }
+{
+    first.serialize(serializer)?;
+    serialize_seven(
+        second, third, fourth, fifth, sixth, seventh, eighth, serializer,
+    )
 }
 
 /// Written as the part.
@@ -69,7 +308,7 @@ impl<A: Serialize, B: Serialize, C: Serialize> Serialize for (A, B, C) {
 /// Written as the four parts in order.
 impl<A: Serialize, B: Serialize, C: Serialize, D: Serialize> Serialize for (A, B, C, D) {
     fn serialize<F: Flavor>(&self, serializer: &mut Serializer<F>) -> Result<()> {
-        serialize_three(&self.0, &self.1, &(&self.2, &self.3), serializer)
+        serialize_four(&self.0, &self.1, &self.2, &self.3, serializer)
     }
 }
 
@@ -77,7 +316,7 @@ impl<A: Serialize, B: Serialize, C: Serialize, D: Serialize> Serialize for (A, B
 impl<A: Serialize, B: Serialize, C: Serialize, D: Serialize, E: Serialize> Serialize
     for (A, B, C, D, E) {
     fn serialize<F: Flavor>(&self, serializer: &mut Serializer<F>) -> Result<()> {
-        serialize_three(&self.0, &self.1, &(&self.2, &self.3, &self.4), serializer)
+        serialize_five(&self.0, &self.1, &self.2, &self.3, &self.4, serializer)
     }
 }
 
@@ -85,11 +324,8 @@ impl<A: Serialize, B: Serialize, C: Serialize, D: Serialize, E: Serialize> Seria
 impl<A: Serialize, B: Serialize, C: Serialize, D: Serialize, E: Serialize, G: Serialize> Serialize
     for (A, B, C, D, E, G) {
     fn serialize<F: Flavor>(&self, serializer: &mut Serializer<F>) -> Result<()> {
-        serialize_three(
-            &self.0,
-            &self.1,
-            &(&self.2, &self.3, &self.4, &self.5),
-            serializer,
+        serialize_six(
+            &self.0, &self.1, &self.2, &self.3, &self.4, &self.5, serializer,
         )
     }
 }
@@ -105,11 +341,8 @@ impl<
     H: Serialize,
 > Serialize for (A, B, C, D, E, G, H) {
     fn serialize<F: Flavor>(&self, serializer: &mut Serializer<F>) -> Result<()> {
-        serialize_three(
-            &self.0,
-            &self.1,
-            &(&self.2, &self.3, &self.4, &self.5, &self.6),
-            serializer,
+        serialize_seven(
+            &self.0, &self.1, &self.2, &self.3, &self.4, &self.5, &self.6, serializer,
         )
     }
 }
@@ -126,11 +359,8 @@ impl<
     I: Serialize,
 > Serialize for (A, B, C, D, E, G, H, I) {
     fn serialize<F: Flavor>(&self, serializer: &mut Serializer<F>) -> Result<()> {
-        serialize_three(
-            &self.0,
-            &self.1,
-            &(&self.2, &self.3, &self.4, &self.5, &self.6, &self.7),
-            serializer,
+        serialize_eight(
+            &self.0, &self.1, &self.2, &self.3, &self.4, &self.5, &self.6, &self.7, serializer,
         )
     }
 }
@@ -148,12 +378,15 @@ impl<
     J: Serialize,
 > Serialize for (A, B, C, D, E, G, H, I, J) {
     fn serialize<F: Flavor>(&self, serializer: &mut Serializer<F>) -> Result<()> {
-        serialize_three(
+        serialize_eight(
             &self.0,
             &self.1,
-            &(
-                &self.2, &self.3, &self.4, &self.5, &self.6, &self.7, &self.8,
-            ),
+            &self.2,
+            &self.3,
+            &self.4,
+            &self.5,
+            &self.6,
+            &(&self.7, &self.8),
             serializer,
         )
     }
@@ -173,12 +406,15 @@ impl<
     K: Serialize,
 > Serialize for (A, B, C, D, E, G, H, I, J, K) {
     fn serialize<F: Flavor>(&self, serializer: &mut Serializer<F>) -> Result<()> {
-        serialize_three(
+        serialize_eight(
             &self.0,
             &self.1,
-            &(
-                &self.2, &self.3, &self.4, &self.5, &self.6, &self.7, &self.8, &self.9,
-            ),
+            &self.2,
+            &self.3,
+            &self.4,
+            &self.5,
+            &self.6,
+            &(&self.7, &self.8, &self.9),
             serializer,
         )
     }
@@ -199,12 +435,15 @@ impl<
     L: Serialize,
 > Serialize for (A, B, C, D, E, G, H, I, J, K, L) {
     fn serialize<F: Flavor>(&self, serializer: &mut Serializer<F>) -> Result<()> {
-        serialize_three(
+        serialize_eight(
             &self.0,
             &self.1,
-            &(
-                &self.2, &self.3, &self.4, &self.5, &self.6, &self.7, &self.8, &self.9, &self.10,
-            ),
+            &self.2,
+            &self.3,
+            &self.4,
+            &self.5,
+            &self.6,
+            &(&self.7, &self.8, &self.9, &self.10),
             serializer,
         )
     }
@@ -226,13 +465,15 @@ impl<
     M: Serialize,
 > Serialize for (A, B, C, D, E, G, H, I, J, K, L, M) {
     fn serialize<F: Flavor>(&self, serializer: &mut Serializer<F>) -> Result<()> {
-        serialize_three(
+        serialize_eight(
             &self.0,
             &self.1,
-            &(
-                &self.2, &self.3, &self.4, &self.5, &self.6, &self.7, &self.8, &self.9, &self.10,
-                &self.11,
-            ),
+            &self.2,
+            &self.3,
+            &self.4,
+            &self.5,
+            &self.6,
+            &(&self.7, &self.8, &self.9, &self.10, &self.11),
             serializer,
         )
     }
