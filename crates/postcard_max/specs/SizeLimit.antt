@@ -1,7 +1,7 @@
 -- The size limit of a type: the greatest size of its encodings, computed from the limits of its
 -- parts (wire format 1.0).
-use Rattle.std.specs.Prelude.{ℕ, ◌<◌, ◌^◌, Option, Some, None, ⊤}
-use Rattle.postcard_max.specs.Sizes.{sum_of, times, greater_of, varint_len, index_len}
+use Rattle.std.specs.Prelude.{ℕ, ◌≡◌, ◌<◌, ◌^◌, List, Option, Some, None, ⊤}
+use Rattle.postcard_max.specs.Sizes.{sum_of, sum_all, times, greater_of, varint_len, index_len}
 
 -- The limit that a type states, or that parts in a row state. That what it states holds is the law
 -- `IsLimitOf`.
@@ -12,6 +12,15 @@ pub record SizeLimit : Type 1 where
   pub reached : Type 0
   -- A condition under which no value refuses itself when it is written.
   pub willing : Type 0
+
+-- The limit has the greatest size n, which is reached if `parts` holds: that the sizes of the type's
+-- parts are.
+abbrev pub IsSize : SizeLimit → Option ℕ → Type 0 → Type 0
+IsSize l n parts = (l.greatest ≡ n) × (parts → l.reached)
+
+-- The limit has the sum of these sizes as its greatest size, which is reached if `parts` holds.
+abbrev pub IsSum : SizeLimit → List (Option ℕ) → Type 0 → Type 0
+IsSum l sizes parts = IsSize l (sum_all sizes) parts
 
 -- The limit of a type some encoding of which has the greatest size n, and no value of which refuses
 -- itself.
