@@ -40,7 +40,7 @@ impl<T: MaxSize> MaxSize for Rc<T> {
     ghost limit = { T.limit };
 
     fn postcard_max_size() -> Option<usize> {
-        T::postcard_max_size()
+        <T as MaxSize>::postcard_max_size()
     }
 
     fn in_forms(&self) {
