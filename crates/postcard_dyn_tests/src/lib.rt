@@ -3,7 +3,11 @@
 #![tactic(auto)]
 
 #[cfg(test)]
+mod calls;
+#[cfg(test)]
 mod expressions;
+#[cfg(test)]
+mod message_calls;
 #[cfg(test)]
 mod messages;
 #[cfg(test)]

@@ -1,7 +1,7 @@
 //! Tests of whole messages.
 
-use postcard::ser_flavors::AllocVec;
 use postcard_dyn::{parse, take_from_bytes, to_flavor};
+use postcard_ser_flavors::AllocVec;
 use std::process::Abort;
 use std::test::Fail;
 

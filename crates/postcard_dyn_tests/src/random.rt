@@ -1,10 +1,10 @@
 //! Tests with random bytes, which several types read: either as a value, which is written and read
 //! again as itself, or with a named error whose place is within the bytes.
 
-use postcard::Error;
-use postcard::ser_flavors::AllocVec;
 use postcard_dyn::{Schema, parse, refused_at, take_from_bytes, to_flavor};
 use postcard_dyn_text::{Shown, read_text};
+use postcard_ser_flavors::AllocVec;
+use postcard_wire::Error;
 use std::process::Abort;
 use std::test::Fail;
 

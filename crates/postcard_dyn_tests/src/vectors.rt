@@ -1,8 +1,8 @@
 //! Tests with vectors that were worked out by hand from the wire format.
 
-use postcard::ser_flavors::AllocVec;
 use postcard_dyn::{parse, take_from_bytes, to_flavor};
 use postcard_dyn_text::{Shown, read_text};
+use postcard_ser_flavors::AllocVec;
 use std::alloc::AllocGlobal;
 use std::process::Abort;
 use std::test::Fail;
@@ -205,7 +205,7 @@ fn refuses_beginnings(rt: HostRuntime) -> Result<(), Fail> {
                 Err(error) => {
                     assert_eq!(rt;
                         error,
-                        postcard::Error::DeserializeUnexpectedEnd,
+                        postcard_wire::Error::DeserializeUnexpectedEnd,
                         "{expression}"
                     );
                 }
