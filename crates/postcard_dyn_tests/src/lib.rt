@@ -1,5 +1,5 @@
 //! Tests of the crates for types known only at run time: expressions, messages, the texts of
-//! values, and all three from end to end.
+//! values, all three from end to end, and the calls of `pcard`.
 #![tactic(auto)]
 
 #[cfg(test)]
@@ -7,11 +7,15 @@ mod calls;
 #[cfg(test)]
 mod expressions;
 #[cfg(test)]
-mod message_calls;
+mod frames;
 #[cfg(test)]
-mod messages;
+mod helpers;
+#[cfg(test)]
+mod output;
 #[cfg(test)]
 mod random;
+#[cfg(test)]
+mod refused;
 #[cfg(test)]
 mod texts;
 #[cfg(test)]
