@@ -1,28 +1,13 @@
 //! The program `pcard`, which encodes a value in the Postcard format, or decodes bytes or a stream
-//! of frames. Its work is done by `program`.
+//! of frames. The library `postcard_cli` does its work.
 #![tactic(auto)]
 
-use failure::Failure;
-use postcard::de_flavors::Plain;
+use postcard_cli::{Failure, report, run};
+use postcard_de_flavors::Plain;
 use std::alloc::AllocError;
 use std::io::{BufWriter, Write};
 use std::process::ExitCode;
 use std::{env, io};
-
-mod command;
-mod failure;
-mod frames;
-mod hexadecimal;
-mod joined;
-mod message;
-#[cfg(test)]
-mod message_tests;
-mod program;
-mod stream;
-mod syntax;
-#[cfg(test)]
-mod tests;
-mod value;
 
 /// Returns the words after the program's name.
 fn words(rt: &HostRuntime) -> Result<Vec<String>, Failure> {
@@ -40,8 +25,8 @@ fn words(rt: &HostRuntime) -> Result<Vec<String>, Failure> {
 fn answer<W: Write>(rt: &HostRuntime, output: &mut W) -> u8 {
     let mut input = Plain::new(rt.stdin());
     match words(rt) {
-        Ok(words) => program::run(rt.alloc(), words.as_slice(), &mut input, output),
-        Err(failure) => program::report(Err(failure), output),
+        Ok(words) => run(rt.alloc(), words.as_slice(), &mut input, output),
+        Err(failure) => report(Err(failure), output),
     }
 }
 

@@ -11,7 +11,12 @@ use Rattle.postcard_wire.specs.Reading.{IsByte, IsNum, IsOption, IsGroup, IsArra
 use Rattle.postcard_de_flavors.specs.Source.{CanTake, Takes, Laws}
 use Rattle.postcard_de.specs.Reads.{ReadsFrom}
 use Rattle.postcard_shape.specs.Values.{Same, EachIs, ListIs, AreRead}
-use Rattle.postcard.specs.Lemmas.{refusal, out_of_memory, Below, prefixed, nothing_taken, both_taken, faces, can_second, part_and_rest, first_refused, second_refused, both_read}
+use Rattle.postcard_de.proofs.Lists.{prefixed}
+use Rattle.postcard_de.proofs.Parts.{part_and_rest}
+use Rattle.postcard_de_nodes.specs.CompoundLemmas.{first_refused, second_refused, both_read}
+use Rattle.postcard_de_nodes.specs.NumberLemmas.{Below}
+use Rattle.postcard_de_nodes.specs.ReadLemmas.{refusal, out_of_memory}
+use Rattle.postcard_de_nodes.specs.TakeLemmas.{nothing_taken, both_taken, faces, can_second}
 use Rattle.postcard_dyn_schema.specs.Meaning.{MessageType, MessageTypes, no_types, then_type, reads, reads_all}
 use Rattle.postcard_dyn.specs.declared.value.Value.{Value}
 use Rattle.postcard_dyn.specs.Tree.{tree, IsTree}

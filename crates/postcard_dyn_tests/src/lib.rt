@@ -1,13 +1,21 @@
 //! Tests of the crates for types known only at run time: expressions, messages, the texts of
-//! values, and all three from end to end.
+//! values, all three from end to end, and the calls of `pcard`.
 #![tactic(auto)]
 
 #[cfg(test)]
+mod calls;
+#[cfg(test)]
 mod expressions;
 #[cfg(test)]
-mod messages;
+mod frames;
+#[cfg(test)]
+mod helpers;
+#[cfg(test)]
+mod output;
 #[cfg(test)]
 mod random;
+#[cfg(test)]
+mod refused;
 #[cfg(test)]
 mod texts;
 #[cfg(test)]

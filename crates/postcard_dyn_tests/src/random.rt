@@ -1,12 +1,10 @@
 //! Tests with random bytes, which several types read: either as a value, which is written and read
 //! again as itself, or with a named error whose place is within the bytes.
 
-use postcard::Error;
-use postcard::ser_flavors::AllocVec;
-use postcard_dyn::{Schema, parse, refused_at, take_from_bytes, to_flavor};
-use postcard_dyn_text::{Shown, read_text};
+use crate::helpers::{decoded, encoded, text_of, type_of, value_of};
+use postcard_dyn::{Schema, Value, refused_at, take_from_bytes};
+use postcard_wire::Error;
 use std::process::Abort;
-use std::test::Fail;
 
 /// The type expressions.
 const EXPRESSIONS: [&str; 20] = [
@@ -41,132 +39,81 @@ fn next(state: &mut u64) -> u8 {
     state.to_be_bytes()[0]
 }
 
-/// Reads a message of the type, and checks the value or the error. Returns whether it was a value.
-fn check(rt: &(impl Abort + AllocGlobal), schema: &Schema, message: &[u8]) -> Result<bool, Fail> {
+/// Asserts that the value, which a message of `length` bytes begins with, is read again from its
+/// text and from its encoding.
+fn check_value(rt: &(impl Abort + AllocGlobal), schema: &Schema, value: &Value, length: usize) {
+    let text = text_of(rt, schema, value);
+    let direct = encoded(rt, value);
+    let written = encoded(rt, &value_of(rt, schema, text.as_str()));
+    assert_eq!(rt; written.as_slice(), direct.as_slice(), "{text}");
+    assert!(rt; written.len() <= length, "{text}");
+    let (back, none) = decoded(rt, schema, &written);
+    assert!(rt; none.is_empty(), "{text}");
+    assert_eq!(rt; text_of(rt, schema, &back).as_str(), text.as_str());
+}
+
+/// Asserts that the error with which a message is refused is one of reading, and that its place is
+/// within the message.
+fn check_error(rt: &(impl Abort + AllocGlobal), schema: &Schema, message: &[u8], error: Error) {
+    let named = matches!(
+        error,
+        Error::DeserializeUnexpectedEnd
+            | Error::DeserializeBadVarint
+            | Error::DeserializeBadBool
+            | Error::DeserializeBadChar
+            | Error::DeserializeBadUtf8
+            | Error::DeserializeBadOption
+            | Error::SerdeDeCustom
+    );
+    assert!(rt; named, "{error}");
+    let place = refused_at(rt.alloc(), schema, message).expect(rt, "memory");
+    assert!(rt; place <= message.len());
+}
+
+/// Reads a message of the type, and checks the value or the error. Returns 1 if it was a value, and
+/// else 0.
+fn check(rt: &(impl Abort + AllocGlobal), schema: &Schema, message: &[u8]) -> u32 {
     match take_from_bytes(rt.alloc(), schema, message) {
         Ok((value, rest)) => {
-            let shown = Shown {
-                schema,
-                value: &value,
-            };
-            let text = format!(in rt.alloc(); "{shown}")?;
-            let Ok(read) = read_text(rt.alloc(), schema, text.as_str()) else {
-                panic!(rt; "{text} is not read");
-            };
-            let Ok(written) = to_flavor(&read, AllocVec::new(rt.alloc())) else {
-                panic!(rt; "{text} is not written");
-            };
-            let Ok(direct) = to_flavor(&value, AllocVec::new(rt.alloc())) else {
-                panic!(rt; "the value of {text} is not written");
-            };
-            assert_eq!(rt; written.as_slice(), direct.as_slice(), "{text}");
-            assert!(rt; written.len() <= message.len() - rest.len(), "{text}");
-            let Ok((back, none)) = take_from_bytes(rt.alloc(), schema, &written) else {
-                panic!(rt; "{text} doesn't come back");
-            };
-            assert!(rt; none.is_empty());
-            let again = Shown {
-                schema,
-                value: &back,
-            };
-            let printed = format!(in rt.alloc(); "{again}")?;
-            assert_eq!(rt; printed.as_str(), text.as_str());
-            Ok(true)
+            check_value(rt, schema, &value, message.len() - rest.len());
+            1
         }
         Err(error) => {
-            let named = matches!(
-                &error,
-                Error::DeserializeUnexpectedEnd
-                    | Error::DeserializeBadVarint
-                    | Error::DeserializeBadBool
-                    | Error::DeserializeBadChar
-                    | Error::DeserializeBadUtf8
-                    | Error::DeserializeBadOption
-                    | Error::SerdeDeCustom
-            );
-            assert!(rt; named, "{error}");
-            let place = refused_at(rt.alloc(), schema, message)?;
-            assert!(rt; place <= message.len());
-            Ok(false)
+            check_error(rt, schema, message, error);
+            0
         }
     }
 }
 
+/// Returns `length` random bytes: of any value, or if they are to be `small`, below 6.
+fn bytes(rt: &(impl Abort + AllocGlobal), state: &mut u64, length: u8, small: bool) -> Vec<u8> {
+    let mut bytes = Vec::new(rt.alloc());
+    for _ in 0..length {
+        let byte = next(state);
+        bytes
+            .push(if small { byte % 6 } else { byte })
+            .expect(rt, "memory");
+    }
+    bytes
+}
+
+/// Checks 200 random messages of the type. Returns the number of those that begin with a value.
+fn rounds(rt: &(impl Abort + AllocGlobal), state: &mut u64, expression: &str) -> u32 {
+    let schema = type_of(rt, expression);
+    let mut values = 0u32;
+    for round in 0..200u8 {
+        let message = bytes(rt, state, round % 24, round % 2 == 1);
+        values = values.saturating_add(check(rt, &schema, &message));
+    }
+    values
+}
+
 #[test]
-fn ends_in_a_value_or_a_refusal(rt: HostRuntime) -> Result<(), Fail> {
+fn ends_in_a_value_or_a_refusal(rt: HostRuntime) {
     let mut state = 1;
     let mut values = 0u32;
     for expression in EXPRESSIONS {
-        let Ok(schema) = parse(rt.alloc(), expression) else {
-            panic!(rt; "{expression}");
-        };
-        for round in 0..200u8 {
-            let mut message = Vec::new(rt.alloc());
-            for _ in 0..round % 24 {
-                let byte = next(&mut state);
-                message.push(if round % 2 == 0 { byte } else { byte % 6 })?;
-            }
-            if check(&rt, &schema, &message)? {
-                values = values.saturating_add(1);
-            }
-        }
+        values = values.saturating_add(rounds(&rt, &mut state, expression));
     }
     assert!(rt; values > 500, "{values}");
-    Ok(())
-}
-
-/// A count of 2^64 - 1 elements doesn't make reading run out of memory: memory is requested only for
-/// elements that were read.
-#[test]
-fn ends_after_a_great_count(rt: HostRuntime) -> Result<(), Fail> {
-    let message = [
-        0xFF, 0xFF, 0xFF, 0xFF, 0xFF, 0xFF, 0xFF, 0xFF, 0xFF, 0x01, 1,
-    ];
-    for expression in ["[u128]", "[[u8]]", "[u8?]", "{u8 => u8}", "str", "bytes"] {
-        let Ok(schema) = parse(rt.alloc(), expression) else {
-            panic!(rt; "{expression}");
-        };
-        let error = take_from_bytes(rt.alloc(), &schema, &message).err();
-        assert_eq!(rt;
-            error,
-            Some(Error::DeserializeUnexpectedEnd),
-            "{expression}"
-        );
-    }
-    Ok(())
-}
-
-/// The place of an error is that of the leaf, the count, the index or the option's byte that can't
-/// be read.
-#[test]
-fn tells_the_place(rt: HostRuntime) -> Result<(), Fail> {
-    let rows: [(&str, &[u8], usize); 12] = [
-        ("u16", &[0x80], 0),
-        ("(u16, bool)", &[0x80, 0x01, 2], 2),
-        ("(u8, str)", &[1, 5, 0x61], 1),
-        ("[bool]", &[3, 1, 0, 7], 3),
-        ("[bool]", &[3, 1, 0], 3),
-        ("[u8]", &[0x80], 0),
-        ("[u8; 3]", &[1, 2], 2),
-        ("u8?", &[2], 0),
-        ("(u8, u16?)", &[9, 1, 0x80], 2),
-        ("A | B(u8)", &[2], 0),
-        ("A | B(u8)", &[1], 1),
-        ("{u8 => bool}", &[2, 1, 1, 2, 5], 4),
-    ];
-    for (expression, message, wanted) in rows {
-        let Ok(schema) = parse(rt.alloc(), expression) else {
-            panic!(rt; "{expression}");
-        };
-        assert!(rt;
-            take_from_bytes(rt.alloc(), &schema, message).is_err(),
-            "{expression}"
-        );
-        assert_eq!(rt;
-            refused_at(rt.alloc(), &schema, message),
-            Ok(wanted),
-            "{expression}"
-        );
-    }
-    Ok(())
 }

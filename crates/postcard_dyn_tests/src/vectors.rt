@@ -1,14 +1,12 @@
 //! Tests with vectors that were worked out by hand from the wire format.
 
-use postcard::ser_flavors::AllocVec;
-use postcard_dyn::{parse, take_from_bytes, to_flavor};
-use postcard_dyn_text::{Shown, read_text};
-use std::alloc::AllocGlobal;
+use crate::helpers::{decoded, encoded, text_of, type_of, value_of};
+use postcard_dyn::{Schema, take_from_bytes};
+use postcard_wire::Error;
 use std::process::Abort;
-use std::test::Fail;
 
 /// Type expressions, each with the text of a value as it is printed, and the value's encoding.
-const VECTORS: [(&str, &str, &[u8]); 50] = [
+const VECTORS: [(&str, &str, &[u8]); 55] = [
     ("u8", "255", &[0xFF]),
     ("(u8)", "0", &[0x00]),
     ("u16", "300", &[0xAC, 0x02]),
@@ -149,68 +147,57 @@ const VECTORS: [(&str, &str, &[u8]); 50] = [
         "[{128 => (-2, true)}, {}]",
         &[0x01, 0x80, 0x01, 0xFE, 0x01, 0x00],
     ),
+    ("u16", "128", &[0x80, 0x01]),
+    (
+        "(u16, i32, str, [u16], u8?)",
+        "(42, -2, \"x\", [1, 2], Some(7))",
+        &[42, 3, 1, 120, 2, 1, 2, 1, 7],
+    ),
+    (
+        "{a: [i8; 3], b: {char => bytes}}",
+        "{a: [-1, -128, 127], b: {'a' => 0x090a}}",
+        &[0xFF, 0x80, 0x7F, 1, 1, 0x61, 2, 9, 10],
+    ),
+    (
+        "Boot | Reading(u16, i32) | Fault{code: u8, text: str}",
+        "Fault{code: 5, text: \"x\"}",
+        &[2, 5, 1, 0x78],
+    ),
+    ("[A | B(u8)]", "[B(9), A, A]", &[3, 1, 9, 0, 0]),
 ];
 
-/// Asserts that the value of the text is written as the bytes, and that the bytes, with others
-/// after them, are read as a value that is printed as the text.
-fn assert_both_ways(
-    rt: &(impl Abort + AllocGlobal),
-    expression: &str,
-    text: &str,
-    message: &[u8],
-) -> Result<(), Fail> {
-    let Ok(schema) = parse(rt.alloc(), expression) else {
-        panic!(rt; "{expression}");
-    };
-    let Ok(value) = read_text(rt.alloc(), &schema, text) else {
-        panic!(rt; "{expression}: {text}");
-    };
-    let Ok(written) = to_flavor(&value, AllocVec::new(rt.alloc())) else {
-        panic!(rt; "{expression}: {text}");
-    };
-    assert_eq!(rt; written.as_slice(), message, "{expression}: {text}");
-    let mut longer = written;
-    longer.push(0xFF)?;
-    let Ok((back, rest)) = take_from_bytes(rt.alloc(), &schema, &longer) else {
-        panic!(rt; "{expression}: {text}");
-    };
-    let shown = Shown {
-        schema: &schema,
-        value: &back,
-    };
-    let printed = format!(in rt.alloc(); "{shown}")?;
-    assert_eq!(rt; printed.as_str(), text, "{expression}");
-    assert_eq!(rt; rest, [0xFF].as_slice(), "{expression}");
-    Ok(())
+/// Asserts that the value of the text is written as the message, that the message is read as a value
+/// that is written as the same message, and that the message, with a byte after it, is read as a
+/// value that is printed as the text.
+fn check(rt: &(impl Abort + AllocGlobal), schema: &Schema, text: &str, message: &[u8]) {
+    let mut longer = encoded(rt, &value_of(rt, schema, text));
+    assert_eq!(rt; longer.as_slice(), message, "{text}");
+    let (same, none) = decoded(rt, schema, message);
+    assert!(rt; none.is_empty(), "{text}");
+    assert_eq!(rt; encoded(rt, &same).as_slice(), message, "{text}");
+    longer.push(0xFF).expect(rt, "memory");
+    let (back, rest) = decoded(rt, schema, &longer);
+    assert_eq!(rt; text_of(rt, schema, &back).as_str(), text);
+    assert_eq!(rt; rest, [0xFF].as_slice(), "{text}");
+}
+
+/// Asserts that reading each proper front of the message fails with `DeserializeUnexpectedEnd`.
+fn check_fronts(rt: &(impl Abort + AllocGlobal), schema: &Schema, message: &[u8]) {
+    for length in 0..message.len() {
+        let error = take_from_bytes(rt.alloc(), schema, &message[..length]).err();
+        assert_eq!(rt;
+            error,
+            Some(Error::DeserializeUnexpectedEnd),
+            "{length} of {message:?}"
+        );
+    }
 }
 
 #[test]
-fn both_ways(rt: HostRuntime) -> Result<(), Fail> {
+fn both_ways(rt: HostRuntime) {
     for (expression, text, message) in VECTORS {
-        assert_both_ways(&rt, expression, text, message)?;
+        let schema = type_of(&rt, expression);
+        check(&rt, &schema, text, message);
+        check_fronts(&rt, &schema, message);
     }
-    Ok(())
-}
-
-/// Reading each proper front of a message fails with `DeserializeUnexpectedEnd`.
-#[test]
-fn refuses_beginnings(rt: HostRuntime) -> Result<(), Fail> {
-    for (expression, _, message) in VECTORS {
-        let Ok(schema) = parse(rt.alloc(), expression) else {
-            panic!(rt; "{expression}");
-        };
-        for length in 0..message.len() {
-            match take_from_bytes(rt.alloc(), &schema, &message[..length]) {
-                Ok(_) => panic!(rt; "{expression}: {length}"),
-                Err(error) => {
-                    assert_eq!(rt;
-                        error,
-                        postcard::Error::DeserializeUnexpectedEnd,
-                        "{expression}"
-                    );
-                }
-            }
-        }
-    }
-    Ok(())
 }

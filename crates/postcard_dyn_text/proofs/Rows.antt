@@ -4,7 +4,7 @@ use Rattle.std.specs.Prelude.{slice_index}
 use Rattle.std.proofs.lemmas.Grind.{common_steps}
 use Rattle.postcard_wire.specs.Tree.{Tree, Trees, Byte, Seq, NoTrees, Then, trees}
 use Rattle.postcard_wire.specs.Reading.{IsByte, IsSeq, Each}
-use Rattle.postcard.specs.Lemmas.{elements_count}
+use Rattle.postcard_ser.proofs.Elements.{elements_count}
 use Rattle.postcard_dyn_schema.specs.Meaning.{MessageType, MessageTypes, no_types, then_type, reads, reads_all}
 use Rattle.postcard_dyn.specs.declared.value.Value.{Value}
 use Rattle.postcard_dyn.specs.Tree.{tree}

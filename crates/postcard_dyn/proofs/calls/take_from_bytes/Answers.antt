@@ -3,7 +3,8 @@ use Rattle.std.proofs.Common.{◌≡◌, ◌≤◌, ℕ, List, ◌++◌, length}
 use Rattle.std.proofs.Common.{sym, ◌∙◌, ap, arith, length-append}
 use Rattle.std.proofs.lemmas.List.{append_cancel_left}
 use Rattle.postcard_wire.specs.Spelling.{canonical}
-use Rattle.postcard.specs.Lemmas.{is_refusal, canonical_spells}
+use Rattle.postcard_wire.proofs.Shortest.{Spells-canonical}
+use Rattle.postcard_de_nodes.specs.ReadLemmas.{is_refusal}
 use Rattle.postcard_dyn_schema.specs.Meaning.{type_of}
 use Rattle.postcard_dyn.specs.Tree.{tree}
 use Rattle.postcard_dyn.specs.TypeLaws.{type_well_formed}
@@ -26,11 +27,11 @@ returns-in_err-value-clause-reads_back c x rest r e =
     let all = c.from_bytes-deserializer.ensures ∙ e in
     let t = tree x in
     let refused = c.in_err-value in
-    let found = refused.ensures.accepts t (canonical t) r (canonical_spells t (type_well_formed (type_of c.args.schema.now) t r))
+    let found = refused.ensures.accepts t (canonical t) r (Spells-canonical t (type_well_formed (type_of c.args.schema.now) t r))
     (record { begins = (rest, all); enough = long_enough _ (canonical t) rest all }) in
     rw (is_refusal c.from_residual.result refused.field-0.0 c.from_residual.ensures.1) found
 
 pub returns-clause-reads_back : goal.returns-clause-reads_back
 returns-clause-reads_back c x rest r e =
     let t = tree x in
-    returns-clause-accepts c t (canonical t) rest r (canonical_spells t (type_well_formed (type_of c.args.schema.now) t r)) e
+    returns-clause-accepts c t (canonical t) rest r (Spells-canonical t (type_well_formed (type_of c.args.schema.now) t r)) e

@@ -1,5 +1,5 @@
 -- A flavor that had room for the whole encoding can be finalized after it was written.
-use Rattle.postcard.specs.Lemmas.{wrote_closes}
+use Rattle.postcard_ser.proofs.PartByPart.{wrote_closes}
 use Rattle.postcard_dyn.proofs.calls.to_flavor.Goals as goal
 
 pub returns-in-Err-clause-has_room : goal.returns-in-Err-clause-has_room

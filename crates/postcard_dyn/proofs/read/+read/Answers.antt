@@ -3,8 +3,11 @@ use Rattle.std.proofs.lemmas.Grind.{common_steps}
 use Rattle.std.proofs.lemmas.List.{drop_more, drop_all}
 use Rattle.postcard_wire.specs.Tree.{Tree, trees}
 use Rattle.postcard_wire.specs.Tree as nodes
-use Rattle.postcard.specs.Lemmas.{is_refusal, recast, refused_too, passed_on, going, goes_on, going_stops, going_full, going_done, list_read, list_refused, count_refused}
-use Rattle.postcard.specs.Lemmas.{index_refused, content_refused, variant_read, unknown_index}
+use Rattle.postcard_de_nodes.specs.CountLemmas.{list_read, list_refused, count_refused}
+use Rattle.postcard_de_nodes.specs.ReadLemmas.{is_refusal}
+use Rattle.postcard_de_nodes.specs.SeenLemmas.{recast, refused_too, passed_on}
+use Rattle.postcard_de.proofs.Enums.{index_refused, content_refused, variant_read, unknown_index}
+use Rattle.postcard_de.proofs.Lists.{going, goes_on, going_stops, going_full, going_done}
 use Rattle.postcard_dyn_schema.specs.Meaning.{type_of, types_of, no_types, then_type, reads, reads_at}
 use Rattle.postcard_dyn_schema.specs.Lemmas.{type_at, none_at}
 use Rattle.postcard_dyn.specs.Tree.{tree}

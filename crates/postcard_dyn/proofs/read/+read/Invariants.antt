@@ -2,7 +2,7 @@
 use Rattle.std.proofs.Common.{◌-◌, drop}
 use Rattle.std.specs.Prelude.{⊤}
 use Rattle.postcard_de.specs.Deserializer.{source_of}
-use Rattle.postcard.specs.Lemmas.{Going}
+use Rattle.postcard_de.proofs.Lists.{Going}
 use Rattle.postcard_dyn_schema.specs.Meaning.{type_of, types_of, reads}
 use Rattle.postcard_dyn.specs.Tree.{IsTree}
 use Rattle.postcard_dyn.proofs.Parts.{GoingParts}

@@ -1,6 +1,6 @@
 use Rattle.std.proofs.Common.{◌≡◌, map, sym, ◌∙◌, rules}
 use Rattle.postcard_wire.specs.Tree.{Byte, Seq, trees}
-use Rattle.postcard.specs.Lemmas.{recast}
+use Rattle.postcard_de_nodes.specs.SeenLemmas.{recast}
 use Rattle.postcard_dyn.specs.Tree.{tree}
 use Rattle.postcard_dyn.specs.declared.value.Value.{Bytes, the_lemmas}
 use Rattle.postcard_dyn.proofs.Parts.{bytes_tree}

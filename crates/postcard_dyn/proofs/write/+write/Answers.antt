@@ -6,7 +6,8 @@ use Rattle.postcard_wire.specs.Tree.{Tree, trees}
 use Rattle.postcard_wire.specs.Tree as nodes
 use Rattle.postcard_wire.specs.Spelling.{canonical}
 use Rattle.postcard_ser.specs.Writing.{Wrote}
-use Rattle.postcard.specs.Lemmas.{elements_more, elements_cut, elements_count, wrote_then, wrote_stop, wrote_err, wrote_ok}
+use Rattle.postcard_ser.proofs.Elements.{elements_more, elements_cut, elements_count}
+use Rattle.postcard_ser.proofs.PartByPart.{wrote_then, wrote_stop, wrote_err, wrote_ok}
 use Rattle.postcard_dyn.specs.Tree.{tree}
 use Rattle.postcard_dyn.specs.declared.value.Value.{Present, Seq, Variant, the_lemmas}
 use Rattle.postcard_dyn.proofs.write.+write.Goals as goal

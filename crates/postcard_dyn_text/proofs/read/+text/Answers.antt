@@ -7,7 +7,7 @@ use Rattle.std.proofs.lemmas.Result.{IfOk-weaker}
 use Rattle.std.proofs.lemmas.Slice.Eq.{slice_eq-Decides}
 use Rattle.postcard_wire.specs.Tree.{trees}
 use Rattle.postcard_wire.specs.Tree as nodes
-use Rattle.postcard.specs.Lemmas.{elements_count}
+use Rattle.postcard_ser.proofs.Elements.{elements_count}
 use Rattle.postcard_dyn_schema.specs.declared.schema.Schema.TheVariants.{Named}
 use Rattle.postcard_dyn_schema.specs.declared.schema.Schema as schemas
 use Rattle.postcard_dyn_schema.specs.Lemmas.{type_at}

@@ -1,8 +1,0 @@
--- A call whose status is 0 succeeded, and nothing was printed after it.
-use Rattle.pcard.proofs.ProgramLemmas.{zero_prints}
-use Rattle.pcard.proofs.program.run.Goals as goal
-
-pub returns-clause-printed : goal.returns-clause-printed
-returns-clause-printed g c zero =
-    zero_prints c.perform-outcome.result c.report.result _ _ _ _ _ (g.W.Write.contents c.perform-outcome.new.output) _ zero c.report.ensures.status
-    c.report.ensures.printed c.perform-outcome.ensures.printed

@@ -1,0 +1,10 @@
+-- The lines of the answers to the bytes read so far are printed.
+use Rattle.std.proofs.Common.{◌≡◌}
+use Rattle.postcard_cli.proofs.StreamLemmas.{Read}
+use Rattle.postcard_cli.proofs.stream.print.Given as goal
+
+abbrev pub invariant-reads : goal.invariant-reads
+invariant-reads g l = record {
+  same : l.schema ≡ l.initial.schema;
+  lines : Read l.schema (g.R.Read.remaining l.fn.input) (g.R.Read.remaining l.input) l.accumulator (g.W.Write.contents l.initial.output) (g.W.Write.contents l.output);
+}

@@ -1,0 +1,57 @@
+-- Which words are a call, and of which command.
+use Rattle.std.specs.Prelude.{◌≡◌, ℕ, nat_eq, Bool as TruthValue, true, if◌then◌else◌, List, [], ◌∷◌, codes}
+use Rattle.std.specs.List.{starts_with, ends_with, list_any}
+use Rattle.postcard_cli.specs.declared.command.ValueType.{ValueType}
+use Rattle.postcard_cli.specs.declared.command.ValueType.TheVariants.{U8, U16, U32, U64, U128, I8, I16, I32, I64, I128, Bool, Char, Str, ListU8, ListU32}
+use Rattle.postcard_cli.specs.declared.command.TypeWord.{TypeWord}
+use Rattle.postcard_cli.specs.declared.command.TypeWord.TheVariants.{Named, Expression}
+use Rattle.postcard_cli.specs.declared.command.Command.{Command}
+use Rattle.postcard_cli.specs.declared.command.Command.TheVariants.{Encode, Decode, DecodeAll, Frames, FramesOf, Types}
+
+-- The word that names a type.
+abbrev pub name_of : ValueType → List ℕ
+name_of U8 = codes "u8"
+name_of U16 = codes "u16"
+name_of U32 = codes "u32"
+name_of U64 = codes "u64"
+name_of U128 = codes "u128"
+name_of I8 = codes "i8"
+name_of I16 = codes "i16"
+name_of I32 = codes "i32"
+name_of I64 = codes "i64"
+name_of I128 = codes "i128"
+name_of Bool = codes "bool"
+name_of Char = codes "char"
+name_of Str = codes "str"
+name_of ListU8 = codes "list-u8"
+name_of ListU32 = codes "list-u32"
+
+-- Whether the word begins with `(`, `[` or `{`, ends with `?`, or holds a `|`.
+abbrev pub looks_like_expression : List ℕ → TruthValue
+looks_like_expression word =
+    if starts_with nat_eq word (40 ∷ []) then true else
+    if starts_with nat_eq word (91 ∷ []) then true else
+    if starts_with nat_eq word (123 ∷ []) then true else
+    if ends_with nat_eq word (63 ∷ []) then true else list_any (λ b. nat_eq b 124) word
+
+-- The word counts as a type expression.
+abbrev pub LooksLikeExpression : List ℕ → Type 0
+LooksLikeExpression word = looks_like_expression word ≡ true
+
+-- The word stands for this type: it is the name, or a type expression.
+abbrev pub IsWordOf : List ℕ → TypeWord → Type 0
+IsWordOf word (Named kind) = word ≡ name_of kind
+IsWordOf word (Expression text) = (word ≡ text.now) × LooksLikeExpression word
+
+-- The words are a call of this command.
+abbrev pub IsCallOf : List (List ℕ) → Command → Type 0
+IsCallOf words (Encode kind value) = (word : List ℕ) × IsWordOf word kind × (words ≡ codes "enc" ∷ word ∷ value.now ∷ [])
+IsCallOf words (Decode kind hex) = (word : List ℕ) × IsWordOf word kind × (words ≡ codes "dec" ∷ word ∷ hex.now ∷ [])
+IsCallOf words (DecodeAll expression hex) = LooksLikeExpression expression.now × (words ≡ codes "decs" ∷ expression.now ∷ hex.now ∷ [])
+IsCallOf words Frames = words ≡ codes "frames" ∷ []
+IsCallOf words (FramesOf expression) = LooksLikeExpression expression.now × (words ≡ codes "frames" ∷ expression.now ∷ [])
+IsCallOf words Types = words ≡ codes "types" ∷ []
+
+-- The words are a call of no command.
+abbrev pub IsNoCall : List (List ℕ) → Type 0
+IsNoCall words = (command : Command) → IsCallOf words command → ⊥

@@ -1,0 +1,176 @@
+//! The commands, and how they are read from the words of a call.
+
+ghost use Rattle.std.specs.Prelude.{◌≡◌, ◌≢◌, [], ◌∷◌, IfSome, IfNone, map, string_bytes};
+ghost use Rattle.postcard_cli.specs.Command.{IsCallOf, IsNoCall, IsWordOf, looks_like_expression, name_of};
+ghost use Rattle.postcard_cli.specs.declared.command.TypeWord.{TypeWord};
+ghost use Rattle.postcard_cli.specs.declared.command.ValueType.{ValueType};
+
+/// The types that have a name.
+#[derive(Clone, Copy, Debug, PartialEq, Eq)]
+pub enum ValueType {
+    U8,
+    U16,
+    U32,
+    U64,
+    U128,
+    I8,
+    I16,
+    I32,
+    I64,
+    I128,
+    Bool,
+    Char,
+    Str,
+    ListU8,
+    ListU32,
+}
+
+impl ValueType {
+    /// Returns the type with this name, or `None` if no type has it.
+    pub fn from_name(name: &str) -> Option<ValueType>
+        ensures found { IfSome result (λ kind. name.now ≡ name_of kind) }
+        ensures none { IfNone result ((kind : ValueType) → name.now ≢ name_of kind) }
+    {
+        match name {
+            "u8" => Some(ValueType::U8),
+            "u16" => Some(ValueType::U16),
+            "u32" => Some(ValueType::U32),
+            "u64" => Some(ValueType::U64),
+            "u128" => Some(ValueType::U128),
+            "i8" => Some(ValueType::I8),
+            "i16" => Some(ValueType::I16),
+            "i32" => Some(ValueType::I32),
+            "i64" => Some(ValueType::I64),
+            "i128" => Some(ValueType::I128),
+            "bool" => Some(ValueType::Bool),
+            "char" => Some(ValueType::Char),
+            "str" => Some(ValueType::Str),
+            "list-u8" => Some(ValueType::ListU8),
+            "list-u32" => Some(ValueType::ListU32),
+            _ => None,
+        }
+    }
+}
+
+/// Returns whether a word counts as a type expression: whether it begins with `(`, `[` or `{`, ends
+/// with `?`, or has a `|` in it. No name of a type does.
+pub fn is_expression(word: &str) -> bool
+    ensures { result ≡ looks_like_expression word.now }
+{
+    let bytes = word.as_bytes();
+    bytes.starts_with(b"(")
+        || bytes.starts_with(b"[")
+        || bytes.starts_with(b"{")
+        || bytes.ends_with(b"?")
+        || bytes.contains(&b'|')
+}
+
+/// The type that the word TYPE stands for.
+#[derive(Clone, Copy, Debug, PartialEq, Eq)]
+pub enum TypeWord<'a> {
+    /// A type by its name.
+    Named(ValueType),
+    /// A type expression, which isn't read yet.
+    Expression(&'a str),
+}
+
+impl<'a> TypeWord<'a> {
+    /// Returns the type of a word, or `None` if the word is neither a name nor an expression.
+    pub fn from_word(word: &'a str) -> Option<TypeWord<'a>>
+        ensures found { IfSome result (λ kind. IsWordOf word.now kind) }
+        ensures none { IfNone result ((kind : TypeWord) → IsWordOf word.now kind → ⊥) }
+    {
+        if is_expression(word) {
+            return Some(TypeWord::Expression(word));
+        }
+        match ValueType::from_name(word) {
+            Some(kind) => Some(TypeWord::Named(kind)),
+            None => None,
+        }
+    }
+}
+
+/// A call with a known command, the right number of words, and a TYPE that is a name or counts as
+/// an expression. The expression, VALUE and HEX aren't read yet.
+#[derive(Clone, Copy, Debug, PartialEq, Eq)]
+pub enum Command<'a> {
+    /// `enc TYPE VALUE`.
+    Encode { kind: TypeWord<'a>, value: &'a str },
+    /// `dec TYPE HEX`.
+    Decode { kind: TypeWord<'a>, hex: &'a str },
+    /// `decs TYPE HEX`, where TYPE is an expression.
+    DecodeAll { expression: &'a str, hex: &'a str },
+    /// `frames`.
+    Frames,
+    /// `frames TYPE`, where TYPE is an expression.
+    FramesOf { expression: &'a str },
+    /// `types`.
+    Types,
+}
+
+impl<'a> Command<'a> {
+    /// Returns the command of these words, or `None` if they are no call: if the command or the
+    /// type is unknown, or if there are too few or too many words.
+    pub fn from_words(words: &'a [String]) -> Option<Command<'a>>
+        ensures found { IfSome result (λ command. IsCallOf (map string_bytes words.now) command) }
+        ensures none { IfNone result (IsNoCall (map string_bytes words.now)) }
+    {
+        match words {
+            [command] => Command::alone(command.as_str()),
+            [command, kind] => Command::of_type(command.as_str(), kind.as_str()),
+            [command, kind, text] => {
+                Command::of_text(command.as_str(), kind.as_str(), text.as_str())
+            }
+            _ => None,
+        }
+    }
+
+    /// Returns the command of a call of one word.
+    fn alone(command: &'a str) -> Option<Command<'a>>
+        ensures found { IfSome result (λ found. IsCallOf (command.now ∷ []) found) }
+        ensures none { IfNone result (IsNoCall (command.now ∷ [])) }
+    {
+        match command {
+            "frames" => Some(Command::Frames),
+            "types" => Some(Command::Types),
+            _ => None,
+        }
+    }
+
+    /// Returns the command of a call of two words, the second of which is a type.
+    fn of_type(command: &'a str, kind: &'a str) -> Option<Command<'a>>
+        ensures found { IfSome result (λ found. IsCallOf (command.now ∷ kind.now ∷ []) found) }
+        ensures none { IfNone result (IsNoCall (command.now ∷ kind.now ∷ [])) }
+    {
+        match command {
+            "frames" if is_expression(kind) => Some(Command::FramesOf { expression: kind }),
+            _ => None,
+        }
+    }
+
+    /// Returns the command of a call of three words: a command, a type and a text.
+    fn of_text(command: &'a str, kind: &'a str, text: &'a str) -> Option<Command<'a>>
+        ensures found { IfSome result
+            (λ found. IsCallOf (command.now ∷ kind.now ∷ text.now ∷ []) found) }
+        ensures none { IfNone result (IsNoCall (command.now ∷ kind.now ∷ text.now ∷ [])) }
+    {
+        let Some(word) = TypeWord::from_word(kind) else {
+            return None;
+        };
+        match command {
+            "enc" => Some(Command::Encode {
+                kind: word,
+                value: text,
+            }),
+            "dec" => Some(Command::Decode {
+                kind: word,
+                hex: text,
+            }),
+            "decs" if is_expression(kind) => Some(Command::DecodeAll {
+                expression: kind,
+                hex: text,
+            }),
+            _ => None,
+        }
+    }
+}

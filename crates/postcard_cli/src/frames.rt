@@ -1,0 +1,79 @@
+//! The command `frames`, which prints the frames of a stream, each on a line.
+
+ghost use Rattle.std.specs.Prelude.{◌≢◌, IfErr, OnOk};
+ghost use Rattle.std.specs.Io.KnownBytes.{Appends};
+ghost use Rattle.postcard_cli.specs.Frames.{answer_line, PrintsAnswers};
+
+use crate::failure::Failure;
+use crate::hexadecimal;
+use postcard_accumulator::{Answer, CobsAccumulator, ReadEnd, read_frames};
+use postcard_de_flavors::Source;
+use std::alloc::Global;
+use std::io::Write;
+
+/// The greatest number of bytes of a frame, its zero included.
+pub const LONGEST_FRAME: usize = 64;
+
+/// The greatest number of bytes of one read.
+pub const CHUNK: usize = 16;
+
+/// The greatest number of reads.
+pub const READS: usize = 65_536;
+
+/// Reads frames of lists of bytes until the input ends, and prints a line for each: `ok` and the
+/// bytes as hexadecimal, `error` for a frame with no such list or if the allocation for its bytes
+/// fails, or `overfull` for a frame of more than 64 bytes, its zero included.
+///
+/// # Errors
+///
+/// Fails with `Limit` if the input doesn't end within 65,536 reads, with `ReadFailed` if a read
+/// fails, and with `OutOfMemory` if an allocation for an answer fails; the lines of the frames
+/// until then are printed. Fails with `Output` if the output can't be written.
+pub fn print<R: Source, W: Write>(
+    alloc: Global,
+    input: &mut R,
+    output: &mut W,
+) -> Result<(), Failure>
+    ensures printed { OnOk result (PrintsAnswers (R.remaining input.old) (R.remaining input.new)
+        (W.contents output.old) (W.contents output.new)) }
+    ensures refused { IfErr result (λ e. e ≢ Failure.Usage) }
+{
+    let mut accumulator = CobsAccumulator::<LONGEST_FRAME>::new();
+    let mut chunk = [0; CHUNK];
+    let mut answers = Vec::new(alloc);
+    let end = read_frames(
+        alloc,
+        input,
+        &mut chunk,
+        READS,
+        &mut accumulator,
+        &mut answers,
+    );
+    for answer in answers.iter() {
+        print_answer(answer, output)?;
+    }
+    match end {
+        ReadEnd::End => Ok(()),
+        ReadEnd::Limit => Err(Failure::Limit),
+        ReadEnd::ReadFailed => Err(Failure::ReadFailed),
+        ReadEnd::OutOfMemory { .. } => Err(Failure::OutOfMemory),
+    }
+}
+
+/// Prints the answer to a frame on a line.
+fn print_answer<W: Write>(answer: &Answer<Vec<u8>>, output: &mut W) -> Result<(), Failure>
+    ensures printed { OnOk result (Appends (W.contents output.old) (W.contents output.new)
+        (answer_line answer.now)) }
+    ensures refused { IfErr result (λ e. e ≢ Failure.Usage) }
+{
+    match answer {
+        Answer::OverFull => output.write_all(b"overfull\n")?,
+        Answer::DeserError => output.write_all(b"error\n")?,
+        Answer::Success(bytes) => {
+            output.write_all(b"ok ")?;
+            hexadecimal::write(bytes, output)?;
+            output.write_all(b"\n")?;
+        }
+    }
+    Ok(())
+}

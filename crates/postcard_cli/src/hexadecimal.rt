@@ -1,0 +1,136 @@
+//! Reading and writing bytes as hexadecimal digits, two for each byte, the high one first.
+
+ghost use Rattle.std.specs.Prelude.{◌≡◌, ◌≢◌, ◌≤◌, ◌⊎◌, length, IfOk, IfErr, OnOk, IsErr};
+ghost use Rattle.std.specs.Io.KnownBytes.{Appends, Consumes, IsAtEnd};
+ghost use Rattle.hex.specs.Hex.{decode_of, encode_lower};
+ghost use Rattle.postcard_wire.specs.declared.error.Error.TheVariants.{OutOfMemory};
+ghost use Rattle.postcard_cli.specs.Hexadecimal.{words_of, AreBytesOf, HasBadWord};
+ghost use Rattle.postcard_cli.specs.Message.{StandsFor};
+
+use crate::failure::Failure;
+use crate::frames::READS;
+use hex::FromHex;
+use postcard_de_flavors::Source;
+use std::alloc::Global;
+use std::io;
+use std::io::Write;
+
+/// The greatest number of bytes that are read or written at once.
+const PIECE: usize = 64;
+
+/// Returns the bytes of a text of hexadecimal digits, of either case.
+///
+/// # Errors
+///
+/// Fails with `BadHex` if the text has another character or an odd number of digits, and with
+/// `Library(OutOfMemory)` if an allocation fails.
+pub fn read(alloc: Global, text: &str) -> Result<Vec<u8>, Failure>
+    ensures value { IfOk result (λ bytes. decode_of text.now ≡ Ok bytes.items) }
+    ensures refused { IfErr result (λ e. ((e ≡ Failure.BadHex) × IsErr (decode_of text.now))
+        ⊎ (e ≡ Failure.Library OutOfMemory)) }
+{
+    let mut bytes = Vec::new(alloc);
+    let mut rest = text.as_bytes();
+    'pairs: while rest.len() >= 2 {
+        let (pair, after) = rest.split_at(2);
+        let Ok(byte) = <[u8; 1]>::from_hex(pair) else {
+            return Err(Failure::BadHex);
+        };
+        bytes.push(byte[0])?;
+        rest = after;
+    }
+    if !rest.is_empty() {
+        return Err(Failure::BadHex);
+    }
+    Ok(bytes)
+}
+
+/// Returns the bytes of a text of words of hexadecimal digits, of either case, with blanks between
+/// the words. A word may begin with `0x`. For the text `-`, the input is read to its end and is the
+/// text.
+///
+/// # Errors
+///
+/// Fails with `BadHex` if a word isn't an even number of digits or the input isn't UTF-8, with
+/// `Library(OutOfMemory)` if an allocation fails, with `ReadFailed` if a read of the input fails,
+/// and with `Limit` if the input doesn't end within [`READS`] reads.
+pub fn read_loose<R: Source>(alloc: Global, text: &str, input: &mut R) -> Result<Vec<u8>, Failure>
+    ensures value { IfOk result (λ bytes. StandsFor text.now (R.remaining input.old)
+        (R.remaining input.new) bytes.items) }
+    ensures refused { IfErr result (λ e. e ≢ Failure.Usage) }
+{
+    if text != "-" {
+        return read_words(alloc, text);
+    }
+    let held = read_input(alloc, input)?;
+    match str::from_utf8(&held) {
+        Ok(text) => read_words(alloc, text),
+        Err(_) => Err(Failure::BadHex),
+    }
+}
+
+/// Returns the bytes of the words of a text, each with `0x` before it or without.
+fn read_words(alloc: Global, text: &str) -> Result<Vec<u8>, Failure>
+    ensures value { IfOk result (λ bytes. AreBytesOf (words_of text.now) bytes.items) }
+    ensures refused { IfErr result (λ e. ((e ≡ Failure.BadHex) × HasBadWord (words_of text.now))
+        ⊎ (e ≡ Failure.Library OutOfMemory)) }
+    ensures no_usage { IfErr result (λ e. e ≢ Failure.Usage) }
+{
+    let mut bytes = Vec::new(alloc);
+    for word in text.split_ascii_whitespace() {
+        let digits = match word.strip_prefix("0x") {
+            Some(digits) => digits,
+            None => word,
+        };
+        bytes.extend_from_slice(&read(alloc, digits)?)?;
+    }
+    Ok(bytes)
+}
+
+/// Returns all bytes of the input.
+fn read_input<R: Source>(alloc: Global, input: &mut R) -> Result<Vec<u8>, Failure>
+    ensures all { IfOk result (λ held. Consumes (R.remaining input.old) (R.remaining input.new)
+        held.items × IsAtEnd (R.remaining input.new)) }
+    ensures refused { IfErr result (λ e. e ≢ Failure.Usage) }
+{
+    let mut held = Vec::new(alloc);
+    let mut chunk = [0; PIECE];
+    'reads: for _ in 0..READS {
+        let count = match input.read_some(&mut chunk) {
+            Ok(count) => count,
+            Err(_) => return Err(Failure::ReadFailed),
+        };
+        if count == 0 {
+            return Ok(held);
+        }
+        held.extend_from_slice(&chunk[..count])?;
+    }
+    Err(Failure::Limit)
+}
+
+/// Writes the bytes as lower-case digits. Nothing is allocated. Fails if the output can't be
+/// written.
+pub fn write<W: Write>(bytes: &[u8], output: &mut W) -> io::Result<()>
+    ensures { OnOk result (Appends (W.contents output.old) (W.contents output.new)
+        (encode_lower bytes.now)) }
+{
+    let mut rest = bytes;
+    'pieces: while !rest.is_empty() {
+        let (piece, after) = rest.split_at(rest.len().min(PIECE));
+        write_piece(piece, output)?;
+        rest = after;
+    }
+    Ok(())
+}
+
+/// Writes at most [`PIECE`] bytes at once.
+fn write_piece<W: Write>(piece: &[u8], output: &mut W) -> io::Result<()>
+    requires { length piece.now ≤ PIECE }
+    ensures { OnOk result (Appends (W.contents output.old) (W.contents output.new)
+        (encode_lower piece.now)) }
+{
+    let mut room = [0; 2 * PIECE];
+    let digits = &mut room[..2 * piece.len()];
+    hex::encode_to_slice(piece, digits).unwrap();
+    output.write_all(digits)
+}

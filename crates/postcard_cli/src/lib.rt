@@ -1,0 +1,20 @@
+//! What the program `pcard` does: it encodes a value in the Postcard format, or decodes bytes or a
+//! stream of frames.
+//!
+//! [`program::run`] does the call of some words, which reads its input from any source and prints to
+//! any writer.
+#![tactic(auto)]
+
+pub mod command;
+pub mod failure;
+pub mod frames;
+pub mod hexadecimal;
+pub mod joined;
+pub mod message;
+pub mod program;
+pub mod stream;
+pub mod syntax;
+pub mod value;
+
+pub use failure::Failure;
+pub use program::{report, run};

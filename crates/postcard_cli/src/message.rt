@@ -1,0 +1,172 @@
+//! The commands `enc`, `dec` and `decs` for messages whose type is an expression.
+
+ghost use Rattle.std.specs.Prelude.{◌≡◌, ◌≢◌, ◌⊎◌, IfOk, IfErr, OnOk};
+ghost use Rattle.postcard_dyn_schema.specs.Grammar.{IsExpression};
+ghost use Rattle.postcard_dyn.specs.declared.value.Value.{Value};
+ghost use Rattle.postcard_cli.specs.Message.{line_of, Prints, PrintsAll, PrintsEncoded, PrintsFirst};
+ghost use Rattle.postcard_cli.specs.Message.{ReadsValue};
+
+use crate::failure::Failure;
+use crate::hexadecimal;
+use crate::program::BUFFER;
+use postcard_de_flavors::Source;
+use postcard_dyn::{Problem, Schema, Value, parse, refused_at, take_from_bytes, to_flavor};
+use postcard_dyn_text::{Shown, TextError, read_text};
+use postcard_ser_flavors::HVec;
+use postcard_wire::Error;
+use std::alloc::Global;
+use std::io::Write;
+
+/// Reads a type expression. If it is misspelled, prints what is wrong and where.
+///
+/// # Errors
+///
+/// Fails with `BadType` if it is misspelled, with `Library(OutOfMemory)` if an allocation fails,
+/// and with `Output` if the output can't be written.
+pub fn schema_of<W: Write>(alloc: Global, text: &str, output: &mut W) -> Result<Schema, Failure>
+    ensures spelled { IfOk result (λ schema. IsExpression schema text.now) }
+    ensures untouched { OnOk result (output.new ≡ output.old) }
+    ensures refused { IfErr result (λ e. (e ≡ Failure.BadType) ⊎ (e ≡ Failure.Output)
+        ⊎ (e ≡ Failure.Library Error.OutOfMemory)) }
+{
+    match parse(alloc, text) {
+        Ok(schema) => Ok(schema),
+        Err(error) => match error.problem {
+            Problem::OutOfMemory => Err(Failure::from(Error::OutOfMemory)),
+            _ => {
+                write!(output, "{error}: ")?;
+                Err(Failure::BadType)
+            }
+        },
+    }
+}
+
+/// Encodes the value of a text, and prints its encoding as hexadecimal on a line.
+///
+/// # Errors
+///
+/// Fails as [`schema_of`] does, with `BadValue` if the text is no value of the type, after the
+/// place of the error is printed, and with `Library(SerializeBufferFull)` if the encoding is longer
+/// than 4,096 bytes.
+pub fn encode<W: Write>(
+    alloc: Global,
+    expression: &str,
+    value: &str,
+    output: &mut W,
+) -> Result<(), Failure>
+    ensures printed { OnOk result (PrintsEncoded expression.now value.now
+        (W.contents output.old) (W.contents output.new)) }
+    ensures refused { IfErr result (λ e. e ≢ Failure.Usage) }
+{
+    let schema = schema_of(alloc, expression, output)?;
+    let value = match read_text(alloc, &schema, value) {
+        Ok(value) => value,
+        Err(TextError::NotAValue { character }) => {
+            write!(output, "at character {character}: ")?;
+            return Err(Failure::BadValue);
+        }
+        Err(TextError::OutOfMemory) => return Err(Failure::from(Error::OutOfMemory)),
+    };
+    let message = to_flavor(&value, HVec::<BUFFER>::new())?;
+    hexadecimal::write(&message, output)?;
+    writeln!(output)?;
+    Ok(())
+}
+
+/// Decodes a value from the front of the bytes of HEX, and prints it on a line, and the bytes after
+/// it as hexadecimal on a second.
+///
+/// # Errors
+///
+/// Fails as [`schema_of`] and [`hexadecimal::read_loose`] do, and with `Library` if the bytes begin
+/// with no message of the type, after the place of the error is printed.
+pub fn decode<R: Source, W: Write>(
+    alloc: Global,
+    expression: &str,
+    hex: &str,
+    input: &mut R,
+    output: &mut W,
+) -> Result<(), Failure>
+    ensures printed { OnOk result (PrintsFirst expression.now hex.now (R.remaining input.old)
+        (R.remaining input.new) (W.contents output.old) (W.contents output.new)) }
+    ensures refused { IfErr result (λ e. e ≢ Failure.Usage) }
+{
+    let schema = schema_of(alloc, expression, output)?;
+    let bytes = hexadecimal::read_loose(alloc, hex, input)?;
+    let rest = print_front(alloc, &schema, &bytes, &bytes, output)?;
+    hexadecimal::write(rest, output)?;
+    writeln!(output)?;
+    Ok(())
+}
+
+/// Decodes values one after another until no byte of HEX is left, and prints each on a line.
+///
+/// # Errors
+///
+/// Fails as [`decode`] does, and with `BadType` if messages of the type have no bytes. The values
+/// before an error are printed.
+pub fn decode_all<R: Source, W: Write>(
+    alloc: Global,
+    expression: &str,
+    hex: &str,
+    input: &mut R,
+    output: &mut W,
+) -> Result<(), Failure>
+    ensures printed { OnOk result (PrintsAll expression.now hex.now (R.remaining input.old)
+        (R.remaining input.new) (W.contents output.old) (W.contents output.new)) }
+    ensures refused { IfErr result (λ e. e ≢ Failure.Usage) }
+{
+    let schema = schema_of(alloc, expression, output)?;
+    if !schema.has_bytes() {
+        output.write_all(b"messages of this type have no bytes: ")?;
+        return Err(Failure::BadType);
+    }
+    let bytes = hexadecimal::read_loose(alloc, hex, input)?;
+    let all = bytes.as_slice();
+    let mut rest = all;
+    'values: while !rest.is_empty() {
+        rest = print_front(alloc, &schema, all, rest, output)?;
+    }
+    Ok(())
+}
+
+/// Decodes a value from the front of `rest`, the last of the bytes `all`, and prints it on a line.
+/// Returns the bytes after it. If the bytes are refused, prints the offset in `all` of the part that
+/// can't be read.
+fn print_front<'a, W: Write>(
+    alloc: Global,
+    schema: &Schema,
+    all: &[u8],
+    rest: &'a [u8],
+    output: &mut W,
+) -> Result<&'a [u8], Failure>
+    ensures printed { IfOk result (λ after. (value : Value)
+        × ReadsValue schema.now rest.now value after.now
+        × Prints (line_of schema.now value) (W.contents output.old) (W.contents output.new)) }
+    ensures refused { IfErr result (λ e. e ≢ Failure.Usage) }
+{
+    match take_from_bytes(alloc, schema, rest) {
+        Ok((value, after)) => {
+            print_value(schema, &value, output)?;
+            Ok(after)
+        }
+        Err(Error::OutOfMemory) => Err(Failure::from(Error::OutOfMemory)),
+        Err(error) => {
+            let before = all.len().saturating_sub(rest.len());
+            let offset = before.saturating_add(refused_at(alloc, schema, rest)?);
+            write!(output, "at byte {offset}: ")?;
+            Err(Failure::from(error))
+        }
+    }
+}
+
+/// Prints a value on a line.
+pub fn print_value<W: Write>(schema: &Schema, value: &Value, output: &mut W) -> Result<(), Failure>
+    ensures printed { OnOk result (Prints (line_of schema.now value.now)
+        (W.contents output.old) (W.contents output.new)) }
+    ensures refused { IfErr result (λ e. e ≡ Failure.Output) }
+{
+    let shown = Shown { schema, value };
+    writeln!(output, "{shown}")?;
+    Ok(())
+}

@@ -1,0 +1,279 @@
+//! The work of the program: from the words of a call to its output and exit status.
+
+ghost use Rattle.std.specs.Prelude.{◌≡◌, ◌≢◌, ◌≤◌, ◌⊎◌, ◌↔◌, ℕ, List, [], ◌∷◌, ◌++◌, map};
+ghost use Rattle.std.specs.Prelude.{string_bytes, IfSome, IfErr, OnOk, IsErrOf};
+ghost use Rattle.std.specs.Io.KnownBytes.{Appends};
+ghost use Rattle.hex.specs.Hex.{encode_lower};
+ghost use Rattle.postcard_wire.specs.Spelling.{canonical};
+ghost use Rattle.postcard_cli.specs.Command.{IsNoCall};
+ghost use Rattle.postcard_cli.specs.Failure.{AnswersFailure, exit_status, last_line};
+ghost use Rattle.postcard_cli.specs.Program.{
+  Does,
+  PrintsCall,
+  PrintsDecode,
+  PrintsEncode,
+  form_of,
+  list_of,
+  one_word,
+  whole_word,
+};
+
+use crate::command::{Command, TypeWord, ValueType};
+use crate::failure::Failure;
+use crate::joined::Joined;
+use crate::syntax::SYNTAX;
+use crate::{frames, hexadecimal, message, stream, syntax, value};
+use postcard_de::Deserialize;
+use postcard_de_flavors::Source;
+use postcard_frame::take_from_bytes;
+use postcard_ser::{Serialize, Serializer};
+use postcard_ser_flavors::{Flavor, HVec};
+use std::alloc::Global;
+use std::fmt::Display;
+use std::io::Write;
+use std::str::FromStr;
+
+/// The greatest size in bytes of an encoding that `enc` prints.
+pub const BUFFER: usize = 4096;
+
+/// What to do with a type.
+#[derive(Clone, Copy)]
+enum Task<'a> {
+    /// Encode the value of this word.
+    Encode(&'a str),
+    /// Decode a value from the front of these bytes.
+    Decode(&'a [u8]),
+}
+
+/// Runs the call of these words, which come after the program's name, and returns the exit status:
+///
+/// - 0 if it succeeds;
+/// - 1 if the library fails to encode or decode, or if an allocation fails, except one for the
+///   frames of `frames`;
+/// - 2 if the words are no call, or if TYPE, VALUE or HEX is wrong;
+/// - 3 if the input isn't read to its end, if an allocation for an answer or a value of `frames`
+///   fails, or, whatever else happened, if the output can't be written.
+///
+/// The input is read by `frames`, and for a HEX of `-` if TYPE is an expression.
+pub fn run<R: Source, W: Write>(
+    alloc: Global,
+    words: &[String],
+    input: &mut R,
+    output: &mut W,
+) -> u8
+    ensures status { result ≤ 3 }
+    ensures usage { IsNoCall (map string_bytes words.now)
+        → AnswersFailure Failure.Usage (W.contents output.old) (W.contents output.new) result }
+    ensures printed { result ≡ 0 → PrintsCall SYNTAX.now (map string_bytes words.now)
+        (R.remaining input.old) (R.remaining input.new)
+        (W.contents output.old) (W.contents output.new) }
+{
+    let outcome = perform(alloc, words, input, output);
+    report(outcome, output)
+}
+
+/// Ends a call: prints the text of its failure on a line, if it failed, flushes the output, and
+/// returns the exit status, which is 3 if the output can't be written.
+pub fn report<W: Write>(outcome: Result<(), Failure>, output: &mut W) -> u8
+    ensures status { (result ≡ 3) ⊎ (result ≡ exit_status outcome) }
+    ensures printed { result ≢ 3 → Appends (W.contents output.old) (W.contents output.new)
+        (last_line outcome) }
+{
+    let (printed, status) = match outcome {
+        Ok(()) => (Ok(()), 0),
+        Err(failure) => (writeln!(output, "{failure}"), failure.status()),
+    };
+    match printed.and(output.flush()) {
+        Ok(()) => status,
+        Err(_) => Failure::Output.status(),
+    }
+}
+
+/// Runs the call of these words. Fails with `Usage`, and prints nothing, exactly if they are no
+/// call.
+fn perform<R: Source, W: Write>(
+    alloc: Global,
+    words: &[String],
+    input: &mut R,
+    output: &mut W,
+) -> Result<(), Failure>
+    ensures usage { IsErrOf result Failure.Usage ↔ IsNoCall (map string_bytes words.now) }
+    ensures untouched { result ≡ Err Failure.Usage → output.new ≡ output.old }
+    ensures printed { OnOk result (PrintsCall SYNTAX.now (map string_bytes words.now)
+        (R.remaining input.old) (R.remaining input.new)
+        (W.contents output.old) (W.contents output.new)) }
+{
+    match Command::from_words(words) {
+        Some(Command::Encode { kind, value }) => encode(alloc, kind, value, output),
+        Some(Command::Decode { kind, hex }) => decode(alloc, kind, hex, input, output),
+        Some(Command::DecodeAll { expression, hex }) => {
+            message::decode_all(alloc, expression, hex, input, output)
+        }
+        Some(Command::Frames) => frames::print(alloc, input, output),
+        Some(Command::FramesOf { expression }) => {
+            stream::print(alloc, expression, input, output)
+        }
+        Some(Command::Types) => syntax::print(output),
+        None => Err(Failure::Usage),
+    }
+}
+
+/// Encodes the value of the word VALUE.
+fn encode<W: Write>(
+    alloc: Global,
+    kind: TypeWord<'_>,
+    value: &str,
+    output: &mut W,
+) -> Result<(), Failure>
+    ensures printed { OnOk result (PrintsEncode kind.entry value.now (W.contents output.old)
+        (W.contents output.new)) }
+    ensures refused { IfErr result (λ e. e ≢ Failure.Usage) }
+{
+    match kind {
+        TypeWord::Named(kind) => convert(alloc, kind, Task::Encode(value), output),
+        TypeWord::Expression(text) => message::encode(alloc, text, value, output),
+    }
+}
+
+/// Decodes a value from the front of the bytes of the word HEX.
+fn decode<R: Source, W: Write>(
+    alloc: Global,
+    kind: TypeWord<'_>,
+    hex: &str,
+    input: &mut R,
+    output: &mut W,
+) -> Result<(), Failure>
+    ensures printed { OnOk result (PrintsDecode kind.entry hex.now (R.remaining input.old)
+        (R.remaining input.new) (W.contents output.old) (W.contents output.new)) }
+    ensures refused { IfErr result (λ e. e ≢ Failure.Usage) }
+{
+    match kind {
+        TypeWord::Named(kind) => {
+            let bytes = hexadecimal::read(alloc, hex)?;
+            convert(alloc, kind, Task::Decode(bytes.as_slice()), output)
+        }
+        TypeWord::Expression(text) => message::decode(alloc, text, hex, input, output),
+    }
+}
+
+/// Does the task with a type that has a name. This is the only table of these types.
+fn convert<W: Write>(
+    alloc: Global,
+    kind: ValueType,
+    task: Task<'_>,
+    output: &mut W,
+) -> Result<(), Failure>
+    ensures printed { OnOk result (Does task.entry (form_of kind)
+        (W.contents output.old) (W.contents output.new)) }
+    ensures refused { IfErr result (λ e. e ≢ Failure.Usage) }
+{
+    match kind {
+        ValueType::U8 => convert_scalar::<u8, W>(alloc, task, output),
+        ValueType::U16 => convert_scalar::<u16, W>(alloc, task, output),
+        ValueType::U32 => convert_scalar::<u32, W>(alloc, task, output),
+        ValueType::U64 => convert_scalar::<u64, W>(alloc, task, output),
+        ValueType::U128 => convert_scalar::<u128, W>(alloc, task, output),
+        ValueType::I8 => convert_scalar::<i8, W>(alloc, task, output),
+        ValueType::I16 => convert_scalar::<i16, W>(alloc, task, output),
+        ValueType::I32 => convert_scalar::<i32, W>(alloc, task, output),
+        ValueType::I64 => convert_scalar::<i64, W>(alloc, task, output),
+        ValueType::I128 => convert_scalar::<i128, W>(alloc, task, output),
+        ValueType::Bool => convert_scalar::<bool, W>(alloc, task, output),
+        ValueType::Char => convert_scalar::<char, W>(alloc, task, output),
+        ValueType::Str => convert_text(alloc, task, output),
+        ValueType::ListU8 => convert_list::<u8, W>(alloc, task, output),
+        ValueType::ListU32 => convert_list::<u32, W>(alloc, task, output),
+    }
+}
+
+/// Encodes or decodes a value that is one word: a number, a bool or a character.
+fn convert_scalar<'a, T, W: Write>(
+    alloc: Global,
+    task: Task<'a>,
+    output: &mut W,
+) -> Result<(), Failure>
+where
+    T: FromStr + Display + Serialize + Deserialize<'a> + Drop,
+    T::Err: Drop,
+    ensures printed { OnOk result (Does task.entry (one_word T.shape T.from_str_gives T.output)
+        (W.contents output.old) (W.contents output.new)) }
+    ensures refused { IfErr result (λ e. e ≢ Failure.Usage) }
+{
+    match task {
+        Task::Encode(word) => print_encoded(&value::scalar::<T>(word)?, output),
+        Task::Decode(bytes) => {
+            let (value, rest) = take_from_bytes::<T>(alloc, bytes)?;
+            print_decoded(&value, rest, output)
+        }
+    }
+}
+
+/// Encodes or decodes a text.
+fn convert_text<W: Write>(alloc: Global, task: Task<'_>, output: &mut W) -> Result<(), Failure>
+    ensures printed { OnOk result (Does task.entry whole_word
+        (W.contents output.old) (W.contents output.new)) }
+    ensures refused { IfErr result (λ e. e ≢ Failure.Usage) }
+{
+    match task {
+        Task::Encode(word) => print_encoded(&word, output),
+        Task::Decode(bytes) => {
+            let (text, rest) = take_from_bytes::<&str>(alloc, bytes)?;
+            print_decoded(text, rest, output)
+        }
+    }
+}
+
+/// Encodes or decodes a list of numbers.
+fn convert_list<'a, T, W: Write>(
+    alloc: Global,
+    task: Task<'a>,
+    output: &mut W,
+) -> Result<(), Failure>
+where
+    T: FromStr + Display + Serialize + Deserialize<'a> + Drop,
+    T::Err: Drop,
+    ensures printed { OnOk result (Does task.entry (list_of T.shape T.from_str_gives T.output)
+        (W.contents output.old) (W.contents output.new)) }
+    ensures refused { IfErr result (λ e. e ≢ Failure.Usage) }
+{
+    match task {
+        Task::Encode(word) => print_encoded(&value::list::<T>(alloc, word)?, output),
+        Task::Decode(bytes) => {
+            let (numbers, rest) = take_from_bytes::<Vec<T>>(alloc, bytes)?;
+            print_decoded(Joined(numbers.as_slice()), rest, output)
+        }
+    }
+}
+
+/// Prints the encoding of a value as hexadecimal on a line.
+fn print_encoded<T: Serialize, W: Write>(value: &T, output: &mut W) -> Result<(), Failure>
+    ensures printed { OnOk result (Appends (W.contents output.old) (W.contents output.new)
+        (encode_lower (canonical (T.shape.tree value.now)) ++ 10 ∷ [])) }
+    ensures refused { IfErr result (λ e. e ≢ Failure.Usage) }
+{
+    let mut serializer = Serializer {
+        output: HVec::<BUFFER>::new(),
+    };
+    value.serialize(&mut serializer)?;
+    let encoding = serializer.output.finalize()?;
+    hexadecimal::write(&encoding, output)?;
+    writeln!(output)?;
+    Ok(())
+}
+
+/// Prints a value on a line, and the bytes after it as hexadecimal on a second.
+fn print_decoded<D: Display + Drop, W: Write>(
+    value: D,
+    rest: &[u8],
+    output: &mut W,
+) -> Result<(), Failure>
+    ensures printed { OnOk result (IfSome (D.output value)
+        (λ text. Appends (W.contents output.old) (W.contents output.new)
+        (text ++ 10 ∷ encode_lower rest.now ++ 10 ∷ []))) }
+    ensures refused { IfErr result (λ e. e ≡ Failure.Output) }
+{
+    writeln!(output, "{value}")?;
+    hexadecimal::write(rest, output)?;
+    writeln!(output)?;
+    Ok(())
+}

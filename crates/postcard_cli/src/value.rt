@@ -1,0 +1,52 @@
+//! Reading the word VALUE of a type that has a name.
+
+ghost use Rattle.std.specs.Prelude.{IfOk, IfErr};
+ghost use Rattle.postcard_cli.specs.Value.{ReadsScalar, SayEach, RefusesList, parts};
+
+use crate::failure::Failure;
+use std::alloc::Global;
+use std::str::FromStr;
+
+/// Returns the value of a word by the type's `parse`: of a number, the decimal digits, which may
+/// have a `+` before them, or for a signed type a `-`; of a bool, `true` or `false`; of a `char`,
+/// one character.
+///
+/// # Errors
+///
+/// Fails with `BadValue` if the word is no value of the type.
+pub fn scalar<T: FromStr>(word: &str) -> Result<T, Failure>
+where
+    T::Err: Drop,
+    ensures { ReadsScalar T.from_str_gives word.now result }
+{
+    match word.parse::<T>() {
+        Ok(value) => Ok(value),
+        Err(_) => Err(Failure::BadValue),
+    }
+}
+
+/// Returns the numbers of a word, in which they have commas between them. The empty word has none.
+///
+/// # Errors
+///
+/// Fails with `BadValue` if a part of the word is no number of the type, and with
+/// `Library(OutOfMemory)` if an allocation fails.
+pub fn list<T: FromStr + Drop>(alloc: Global, word: &str) -> Result<Vec<T>, Failure>
+where
+    T::Err: Drop,
+    ensures value { IfOk result (λ numbers. SayEach T.from_str_gives
+        (parts word.now) numbers.items) }
+    ensures refused { IfErr result (λ e. RefusesList T.from_str_gives word.now e) }
+{
+    let mut numbers = Vec::new(alloc);
+    if word.is_empty() {
+        return Ok(numbers);
+    }
+    let mut rest = word;
+    'parts: while let Some((part, after)) = rest.split_once(',') {
+        numbers.push(scalar(part)?)?;
+        rest = after;
+    }
+    numbers.push(scalar(rest)?)?;
+    Ok(numbers)
+}

@@ -1,0 +1,88 @@
+//! Tests of calls of `pcard` whose output fails.
+
+use crate::calls::words;
+use postcard_cli::run;
+use std::io;
+use std::io::{ErrorKind, Write};
+use std::process::Abort;
+
+/// The words of calls, each with the number of bytes that it prints, and its exit status.
+const CALLS: [(&[&str], usize, u8); 7] = [
+    (&["enc", "u32", "4294967295"], 11, 0),
+    (&["dec", "u32", "ffffffff0f99"], 14, 0),
+    (&["dec", "list-u32", "0201ac02"], 7, 0),
+    (&["dec", "str", "034869"], 42, 1),
+    (&["enc", "u8", "256"], 10, 2),
+    (&["dec", "u8", "7"], 8, 2),
+    (&["frames"], 12, 0),
+];
+
+/// A writer that takes one byte with each write, and fails once `writes_left` is 0, or at its
+/// flush.
+#[derive(Drop)]
+struct Failing {
+    writes_left: usize,
+    flushes: bool,
+    finished: bool,
+}
+
+impl Write for Failing {
+    fn write(&mut self, buf: &[u8]) -> io::Result<usize> {
+        if self.writes_left == 0 {
+            return Err(io::Error::from(ErrorKind::BrokenPipe));
+        }
+        self.writes_left -= 1;
+        Ok(buf.len().min(1))
+    }
+
+    fn flush(&mut self) -> io::Result<()> {
+        if !self.flushes {
+            return Err(io::Error::from(ErrorKind::BrokenPipe));
+        }
+        self.finished = true;
+        Ok(())
+    }
+}
+
+/// Asserts that the call of these words, over an output that takes so many writes, has this status,
+/// and that it flushes the output.
+fn check(
+    rt: &(impl Abort + AllocGlobal),
+    words: &[String],
+    writes_left: usize,
+    flushes: bool,
+    status: u8,
+) {
+    let mut output = Failing {
+        writes_left,
+        flushes,
+        finished: false,
+    };
+    let mut input: &[u8] = &[0x03, 0x01, 0x07, 0x00, 0x00];
+    let answer = run(rt.alloc(), words, &mut input, &mut output);
+    assert_eq!(rt; answer, status, "{words:?} after {writes_left} writes");
+    assert_eq!(rt; output.finished, flushes, "{words:?} is flushed");
+}
+
+/// Asserts that a call which prints `length` bytes has this status if its output takes them all and
+/// flushes, and else 3.
+fn check_each(rt: &(impl Abort + AllocGlobal), call: &[&str], length: usize, status: u8) {
+    let words = words(rt, call);
+    for writes in 0..=length {
+        check(rt, &words, writes, false, 3);
+        check(
+            rt,
+            &words,
+            writes,
+            true,
+            if writes == length { status } else { 3 },
+        );
+    }
+}
+
+#[test]
+fn answers_failed_output(rt: HostRuntime) {
+    for (call, length, status) in CALLS {
+        check_each(&rt, call, length, status);
+    }
+}

@@ -1,0 +1,82 @@
+//! Tests of messages that are refused: the error, and its place.
+
+use crate::helpers::type_of;
+use postcard_dyn::{refused_at, take_from_bytes};
+use postcard_wire::Error;
+use std::process::Abort;
+
+/// A count of 2^64 - 1, and a byte more.
+const GREAT_COUNT: [u8; 11] = [
+    0xFF, 0xFF, 0xFF, 0xFF, 0xFF, 0xFF, 0xFF, 0xFF, 0xFF, 0x01, 1,
+];
+
+/// Type expressions, each with a message that is refused, the error, and its place: the offset of
+/// the leaf, the count, the index or the option's byte that can't be read. A great count doesn't
+/// make reading run out of memory, since memory is requested only for elements that were read.
+const REFUSED: [(&str, &[u8], Error, usize); 18] = [
+    ("u16", &[0x80], Error::DeserializeUnexpectedEnd, 0),
+    (
+        "(u16, bool)",
+        &[0x80, 0x01, 2],
+        Error::DeserializeBadBool,
+        2,
+    ),
+    (
+        "(u8, str)",
+        &[1, 5, 0x61],
+        Error::DeserializeUnexpectedEnd,
+        1,
+    ),
+    ("[bool]", &[3, 1, 0, 7], Error::DeserializeBadBool, 3),
+    ("[bool]", &[3, 1, 0], Error::DeserializeUnexpectedEnd, 3),
+    ("[u8]", &[0x80], Error::DeserializeUnexpectedEnd, 0),
+    ("[u8; 3]", &[1, 2], Error::DeserializeUnexpectedEnd, 2),
+    ("u8?", &[2], Error::DeserializeBadOption, 0),
+    (
+        "(u8, u16?)",
+        &[9, 1, 0x80],
+        Error::DeserializeUnexpectedEnd,
+        2,
+    ),
+    ("A | B(u8)", &[2], Error::SerdeDeCustom, 0),
+    ("A | B(u8)", &[1], Error::DeserializeUnexpectedEnd, 1),
+    (
+        "{u8 => bool}",
+        &[2, 1, 1, 2, 5],
+        Error::DeserializeBadBool,
+        4,
+    ),
+    ("[u128]", &GREAT_COUNT, Error::DeserializeUnexpectedEnd, 11),
+    ("[[u8]]", &GREAT_COUNT, Error::DeserializeUnexpectedEnd, 11),
+    ("[u8?]", &GREAT_COUNT, Error::DeserializeUnexpectedEnd, 11),
+    (
+        "{u8 => u8}",
+        &GREAT_COUNT,
+        Error::DeserializeUnexpectedEnd,
+        11,
+    ),
+    ("str", &GREAT_COUNT, Error::DeserializeUnexpectedEnd, 0),
+    ("bytes", &GREAT_COUNT, Error::DeserializeUnexpectedEnd, 0),
+];
+
+/// Asserts that the message is refused with the error at the place.
+fn check(
+    rt: &(impl Abort + AllocGlobal),
+    expression: &str,
+    message: &[u8],
+    error: Error,
+    place: usize,
+) {
+    let schema = type_of(rt, expression);
+    let read = take_from_bytes(rt.alloc(), &schema, message).err();
+    assert_eq!(rt; read, Some(error), "{expression}: {message:?}");
+    let found = refused_at(rt.alloc(), &schema, message);
+    assert_eq!(rt; found, Ok(place), "{expression}: {message:?}");
+}
+
+#[test]
+fn tells_the_error_and_its_place(rt: HostRuntime) {
+    for (expression, message, error, place) in REFUSED {
+        check(&rt, expression, message, error, place);
+    }
+}
