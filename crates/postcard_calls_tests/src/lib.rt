@@ -8,6 +8,8 @@ mod asserts;
 #[cfg(test)]
 mod deserializer;
 #[cfg(test)]
+mod devices;
+#[cfg(test)]
 mod examples;
 #[cfg(test)]
 mod fixint;
