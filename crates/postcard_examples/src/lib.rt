@@ -27,7 +27,5 @@ pub mod source;
 pub mod station;
 pub mod store;
 pub mod tally;
-#[cfg(test)]
-mod tests;
 pub mod theorems;
 pub mod trailer;

@@ -1,0 +1,18 @@
+//! A test of the writer of `postcard_vectors` of which every other call is interrupted.
+
+use arrayvec::ArrayVec;
+use postcard_vectors::devices::writers::InterruptedWriter;
+use std::io::Write;
+
+#[test]
+fn a_flush_between_interrupted_writes(rt: HostRuntime) {
+    let mut writer = InterruptedWriter {
+        inner: ArrayVec::<u8, 1>::new(),
+        interrupts: true,
+    };
+    assert!(rt; writer.flush().is_ok());
+    assert!(rt; writer.write(&[7]).is_err());
+    assert!(rt; writer.flush().is_ok());
+    assert!(rt; writer.write(&[7]).is_ok());
+    assert_eq!(rt; writer.inner.as_slice(), [7].as_slice());
+}

@@ -1,0 +1,29 @@
+//! Tests of the calls of `postcard` beside the rows of `postcard_rows`: each call at a concrete type,
+//! the calls of a `Serializer` and of a `Deserializer`, numbers at their full width, greatest sizes,
+//! the examples of the pages, and the types, flavors and theorems of `postcard_examples`.
+#![tactic(auto)]
+
+#[cfg(test)]
+mod asserts;
+#[cfg(test)]
+mod deserializer;
+#[cfg(test)]
+mod devices;
+#[cfg(test)]
+mod examples;
+#[cfg(test)]
+mod fixint;
+#[cfg(test)]
+mod reading;
+#[cfg(test)]
+mod refusals;
+#[cfg(test)]
+mod serializer;
+#[cfg(test)]
+mod sizes;
+#[cfg(test)]
+mod users_flavors;
+#[cfg(test)]
+mod users_types;
+#[cfg(test)]
+mod writing;

@@ -1,0 +1,31 @@
+//! Tests of the calls that read.
+
+use postcard::{from_io, take_from_bytes};
+
+#[test]
+fn a_tuple_from_a_reader(rt: HostRuntime) {
+    let bytes = [0x03, 0x48, 0x69, 0x21, 0xAC, 0x02, 0x99];
+    let mut scratch = [0; 4];
+    match from_io::<(&str, u16), _>(rt.alloc(), (bytes.as_slice(), &mut scratch)) {
+        Ok((value, (reader, left))) => {
+            assert_eq!(rt; value, ("Hi!", 300));
+            assert_eq!(rt; reader, [0x99].as_slice());
+            assert_eq!(rt; left.len(), 1);
+        }
+        Err(e) => panic!(rt; "{e}"),
+    }
+}
+
+#[test]
+fn no_more_memory_than_twice_what_is_read(rt: HostRuntime) {
+    let mut bytes = [0x07; 101];
+    bytes[0] = 100;
+    match take_from_bytes::<Vec<u64>>(rt.alloc(), &bytes) {
+        Ok((list, rest)) => {
+            assert_eq!(rt; list.as_slice(), [7; 100].as_slice());
+            assert!(rt; list.capacity() <= 200);
+            assert_eq!(rt; rest.len(), 0);
+        }
+        Err(e) => panic!(rt; "{e}"),
+    }
+}

@@ -1,0 +1,121 @@
+//! Tests of the flavors and the source of `postcard_examples`, with bytes worked out by hand.
+
+use postcard::de_flavors::io::io::IOReader;
+use postcard::de_flavors::{Flavor, Slice};
+use postcard::ser_flavors::{AllocVec, HVec, Size};
+use postcard::{Deserialize, Deserializer, Error, from_io, serialize_with_flavor};
+use postcard_examples::flavor::Both;
+use postcard_examples::limited::Limited;
+use postcard_examples::source::Counted;
+use postcard_examples::trailer::Trailed;
+
+const END: Error = Error::DeserializeUnexpectedEnd;
+
+#[test]
+fn two_flavors_at_once(rt: HostRuntime) {
+    let both = Both {
+        first: Size::default(),
+        second: AllocVec::new(rt.alloc()),
+    };
+    match serialize_with_flavor(&300u16, both) {
+        Ok((count, written)) => {
+            assert_eq!(rt; count, 2);
+            assert_eq!(rt; written.as_slice(), [0xAC, 0x02].as_slice());
+        }
+        Err(e) => panic!(rt; "{e}"),
+    }
+}
+
+#[test]
+fn a_byte_at_the_end(rt: HostRuntime) {
+    let trailed = Trailed {
+        inner: HVec::<3>::new(),
+    };
+    match serialize_with_flavor(&300u16, trailed) {
+        Ok(written) => assert_eq!(rt; written.as_slice(), [0xAC, 0x02, 0].as_slice()),
+        Err(e) => panic!(rt; "{e}"),
+    }
+    let short = Trailed {
+        inner: HVec::<2>::new(),
+    };
+    let refused = serialize_with_flavor(&300u16, short).err();
+    assert_eq!(rt; refused, Some(Error::SerializeBufferFull));
+}
+
+#[test]
+fn a_source(rt: HostRuntime) {
+    let mut scratch = [0; 8];
+    let bytes: &[u8] = &[0xAC, 0x02, 9];
+    let counted = Counted {
+        inner: bytes,
+        count: 0,
+    };
+    match from_io::<u16, _>(rt.alloc(), (counted, &mut scratch)) {
+        Ok((value, (reader, _))) => {
+            assert_eq!(rt; value, 300);
+            assert_eq!(rt; reader.count, 2);
+        }
+        Err(e) => panic!(rt; "{e}"),
+    }
+}
+
+/// The encoding of `(300u16, "ab")`, and a byte after it.
+const BYTES: [u8; 6] = [0xAC, 0x02, 2, b'a', b'b', 7];
+
+/// Returns a reading flavor over [`BYTES`] that reads at most `limit` of them.
+fn limited(limit: usize) -> Limited<Slice<'static>> {
+    Limited {
+        inner: Slice::new(&BYTES),
+        limit,
+    }
+}
+
+#[test]
+fn a_reading_flavor(rt: HostRuntime) {
+    let mut deserializer = Deserializer::from_flavor(limited(5));
+    let read = <(u16, &str)>::deserialize(rt.alloc(), &mut deserializer);
+    assert_eq!(rt; read, Ok((300, "ab")));
+    assert_eq!(rt; u8::deserialize(rt.alloc(), &mut deserializer), Err(END));
+    assert_eq!(rt; deserializer.finalize(), Ok([7].as_slice()));
+    let mut deserializer = Deserializer::from_flavor(limited(4));
+    let refused = <(u16, &str)>::deserialize(rt.alloc(), &mut deserializer);
+    assert_eq!(rt; refused, Err(END));
+    assert_eq!(rt; deserializer.finalize(), Ok([b'a', b'b', 7].as_slice()));
+}
+
+#[test]
+fn each_call_of_a_reading_flavor(rt: HostRuntime) {
+    let mut scratch = [0; 8];
+    let reader: &[u8] = &[1, 2, 3, 4, 5, 6];
+    let mut limited = Limited {
+        inner: IOReader::new(reader, &mut scratch),
+        limit: 4,
+    };
+    assert_eq!(rt; limited.size_hint(), None);
+    assert_eq!(rt; limited.try_take_n(5), Err(END));
+    assert_eq!(rt; limited.try_take_n_temp(5), Err(END));
+    assert_eq!(rt; limited.pop(), Ok(1));
+    assert_eq!(rt; limited.try_take_n(2), Ok([2, 3].as_slice()));
+    assert_eq!(rt; limited.try_take_n_temp(1), Ok([4].as_slice()));
+    assert_eq!(rt; limited.limit, 0);
+    assert_eq!(rt; limited.pop(), Err(END));
+    match limited.finalize() {
+        Ok((rest, _)) => assert_eq!(rt; rest, [5, 6].as_slice()),
+        Err(e) => panic!(rt; "{e}"),
+    }
+}
+
+/// Returns the hint of a reading flavor over two bytes that reads at most `limit` of them.
+fn hint(limit: usize) -> Option<usize> {
+    let limited = Limited {
+        inner: Slice::new(&[1, 2]),
+        limit,
+    };
+    limited.size_hint()
+}
+
+#[test]
+fn the_lower_of_two_hints(rt: HostRuntime) {
+    assert_eq!(rt; hint(1), Some(1));
+    assert_eq!(rt; hint(9), Some(2));
+}

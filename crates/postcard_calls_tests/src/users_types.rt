@@ -1,0 +1,216 @@
+//! Tests of the types of `postcard_examples`, with bytes worked out by hand.
+
+use crate::asserts::{assert_owned, assert_refused, assert_there_and_back};
+use arrayvec::{ArrayString, ArrayVec};
+use postcard::ser_flavors::Size;
+use postcard::{Error, Owned, serialize_with_flavor};
+use postcard_examples::chain::Chain;
+use postcard_examples::event::Event;
+use postcard_examples::interval::Interval;
+use postcard_examples::numbers::Numbers;
+use postcard_examples::pair::Pair;
+use postcard_examples::percent::Percent;
+use postcard_examples::reading::Reading;
+use postcard_examples::station::{Position, Station};
+use postcard_examples::store::{Mode, SETTINGS_SIZE, Settings, Store, settings_size};
+use postcard_examples::tally::Tally;
+use postcard_examples::theorems::{reading_comes_back, station_comes_back, u32_fits_five_bytes};
+use std::alloc::{AllocError, AllocGlobal, Global};
+use std::process::Abort;
+
+/// The encoding of [`reading`].
+const READING: [u8; 10] = [0xAC, 0x02, 0x03, 2, b'a', b'b', 2, 1, 0x80, 0x01];
+
+fn reading(rt: &(impl Abort + AllocGlobal)) -> Reading<'static> {
+    match [1, 128].to_vec(rt.alloc()) {
+        Ok(samples) => Reading {
+            id: 300,
+            temperature: -2,
+            label: "ab",
+            samples,
+        },
+        Err(e) => panic!(rt; "{e}"),
+    }
+}
+
+fn numbers() -> Numbers {
+    Numbers {
+        byte: 200,
+        signed_byte: -1,
+        short: 128,
+        signed_short: -1,
+        word: 127,
+        signed_word: 1,
+        long: 16384,
+        signed_long: -64,
+    }
+}
+
+#[test]
+fn structs(rt: HostRuntime) {
+    assert_there_and_back(&rt, reading(&rt), &READING);
+    let bytes = [200, 0xFF, 0x80, 0x01, 1, 127, 2, 0x80, 0x80, 0x01, 127];
+    assert_owned(&rt, numbers(), &bytes);
+    let pair = Pair {
+        left: 1u8,
+        right: 2u8,
+    };
+    assert_owned(&rt, pair, &[1, 2]);
+}
+
+/// The encoding of [`station`].
+const STATION: [u8; 6] = [1, b'x', 2, 1, 1, 6];
+
+/// Returns a string in memory.
+fn text(rt: &(impl Abort + AllocGlobal), text: &str) -> String {
+    match String::from_str(rt.alloc(), text) {
+        Ok(text) => text,
+        Err(e) => panic!(rt; "{e}"),
+    }
+}
+
+fn station(rt: &(impl Abort + AllocGlobal)) -> Station {
+    Station {
+        name: text(rt, "x"),
+        position: Position {
+            latitude: 1,
+            longitude: -1,
+        },
+        height: Some(3),
+    }
+}
+
+#[test]
+fn a_struct_within_a_struct(rt: HostRuntime) {
+    assert_owned(&rt, station(&rt), &STATION);
+}
+
+#[test]
+fn enums(rt: HostRuntime) {
+    assert_there_and_back(&rt, Event::Boot, &[0]);
+    let bytes = [1, 0xAC, 0x02, 0x03, 2, b'a', b'b', 2, 1, 0x80, 0x01];
+    assert_there_and_back(&rt, Event::Reading(reading(&rt)), &bytes);
+    let fault = Event::Fault {
+        code: 7,
+        text: text(&rt, "hot"),
+    };
+    assert_there_and_back(&rt, fault, &[2, 7, 3, b'h', b'o', b't']);
+    assert_refused::<Event>(&rt, &[3], Error::SerdeDeCustom);
+}
+
+#[test]
+fn values_that_are_refused(rt: HostRuntime) {
+    for value in [0, 100] {
+        match Percent::new(value) {
+            Some(percent) => assert_owned(&rt, percent, &[value]),
+            None => panic!(rt; "{value} is a percent"),
+        }
+    }
+    assert_refused::<Percent>(&rt, &[101], Error::SerdeDeCustom);
+    assert_refused::<Owned<Percent>>(&rt, &[101], Error::SerdeDeCustom);
+    let interval = Interval { start: 1, end: 300 };
+    assert_eq!(rt; serialize_with_flavor(&interval, Size::default()), Ok(3));
+    let reversed = Interval { start: 2, end: 1 };
+    let refused = serialize_with_flavor(&reversed, Size::default());
+    assert_eq!(rt; refused, Err(Error::SerdeSerCustom));
+}
+
+#[test]
+fn what_is_written_comes_back(rt: HostRuntime) {
+    let mut message = Vec::new(rt.alloc());
+    let back = reading_comes_back(rt.alloc(), &reading(&rt), &mut message);
+    assert_eq!(rt; back, Ok(reading(&rt)));
+    let back = station_comes_back(rt.alloc(), &station(&rt));
+    assert_eq!(rt; back, Ok(station(&rt)));
+    let mut buffer = [0; 5];
+    assert_eq!(rt; u32_fits_five_bytes(u32::MAX, &mut buffer), Ok(5));
+    assert_eq!(rt; buffer, [0xFF, 0xFF, 0xFF, 0xFF, 0x0F]);
+}
+
+/// Returns settings with this name, which has at most 16 bytes.
+fn settings(rt: &impl Abort, name: &str, color: Option<u16>, mode: Mode) -> Settings {
+    match ArrayString::from(name) {
+        Ok(name) => Settings { name, color, mode },
+        Err(_) => panic!(rt; "{name} is too long"),
+    }
+}
+
+#[test]
+fn settings_in_a_buffer_of_the_greatest_size(rt: HostRuntime) {
+    let timer = Mode::Timer { from: 7, to: 22 };
+    assert_there_and_back(&rt, settings(&rt, "", None, timer), &[0, 0, 2, 7, 22]);
+    let mut store = Store::new();
+    assert_eq!(rt; settings_size(), Some(SETTINGS_SIZE));
+    let off = settings(&rt, "", None, Mode::Off);
+    assert_eq!(rt; store.load(rt.alloc()), Ok(off));
+    let on = settings(&rt, "kitchen (window)", Some(u16::MAX), Mode::On(u16::MAX));
+    assert_eq!(rt; store.save(&on), Ok(25));
+    assert_eq!(rt; store.load(rt.alloc()), Ok(on));
+}
+
+/// Returns the chain of these numbers.
+fn links(alloc: Global, numbers: &[u16]) -> Result<Chain, AllocError> {
+    let mut chain = Chain::End;
+    for number in numbers.iter().rev() {
+        chain = Chain::Link(*number, Box::new(alloc, chain)?);
+    }
+    Ok(chain)
+}
+
+/// Returns the chain of these numbers.
+fn chain(rt: &(impl Abort + AllocGlobal), numbers: &[u16]) -> Chain {
+    match links(rt.alloc(), numbers) {
+        Ok(chain) => chain,
+        Err(e) => panic!(rt; "{e}"),
+    }
+}
+
+/// The encoding of a chain of 32 zeros.
+fn zeros() -> [u8; 65] {
+    let mut zeros = [0; 65];
+    for link in 0..32usize {
+        zeros[2 * link] = 1;
+    }
+    zeros
+}
+
+#[test]
+fn a_chain_to_a_depth(rt: HostRuntime) {
+    assert_owned(&rt, chain(&rt, &[1, 300]), &[1, 1, 1, 0xAC, 0x02, 0]);
+    let zeros = zeros();
+    assert_there_and_back(&rt, chain(&rt, &[0; 31]), &zeros[2..]);
+    let longer = serialize_with_flavor(&chain(&rt, &[0; 32]), Size::default());
+    assert_eq!(rt; longer, Err(Error::SerdeSerCustom));
+    assert_refused::<Chain>(&rt, &zeros, Error::SerdeDeCustom);
+    assert_refused::<Chain>(&rt, &[2], Error::SerdeDeCustom);
+    assert_refused::<Chain>(&rt, &[1, 0x80, 0x80, 0x04, 0], Error::DeserializeBadVarint);
+    assert_refused::<Chain>(&rt, &[1, 7, 1, 8], Error::DeserializeUnexpectedEnd);
+}
+
+/// Returns a row of `count` strokes, at most 5.
+fn strokes(count: usize) -> ArrayVec<(), 5> {
+    let mut row = ArrayVec::new();
+    for _ in 0..count {
+        let _ = row.try_push(());
+    }
+    row
+}
+
+#[test]
+fn strokes_up_to_the_capacity(rt: HostRuntime) {
+    let mut tally = Tally {
+        rows: ArrayVec::new(),
+    };
+    for count in [5, 0, 2] {
+        assert!(rt; tally.rows.try_push(strokes(count)).is_ok());
+    }
+    assert_owned(&rt, tally, &[3, 5, 0, 2]);
+    let greatest = [0xFF, 0xFF, 0xFF, 0xFF, 0xFF, 0xFF, 0xFF, 0xFF, 0xFF, 0x01];
+    let mut row = [2; 12];
+    row[2..].copy_from_slice(&greatest);
+    let mut rows = [5; 20];
+    rows[..10].copy_from_slice(&greatest);
+    assert_refused::<Tally>(&rt, &[1, 6], Error::SerdeDeCustom);
+    assert_refused::<Tally>(&rt, &row, Error::SerdeDeCustom);
+    assert_refused::<Tally>(&rt, &rows, Error::SerdeDeCustom);
+}

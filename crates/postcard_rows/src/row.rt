@@ -1,0 +1,120 @@
+//! A row of the table.
+
+use crate::fault::Fault;
+use hex::FromHexError;
+use std::alloc::Global;
+
+/// What a row says of its bytes.
+#[derive(Clone, Copy, PartialEq)]
+pub enum Mark {
+    /// They are read as the value, which is written as them: `=`.
+    Same,
+    /// They are read as the value, which is written as other bytes: `reads`.
+    Reads,
+    /// As `Same`, and no value of the type has a longer encoding: `greatest`.
+    Greatest,
+    /// They are refused with an error: `error`.
+    Refused,
+}
+
+/// A row of the table.
+#[derive(Drop)]
+pub struct Row<'a> {
+    /// The type.
+    pub name: &'a str,
+    /// The bytes of the value, and those after them.
+    pub bytes: Vec<u8>,
+    /// The number of bytes of the value.
+    pub count: usize,
+    /// What the row says of them.
+    pub mark: Mark,
+    /// The result of reading a value, as text.
+    pub value: String,
+    /// The result of reading a value and what is after it, as text.
+    pub front: String,
+    /// Whether the row must fail.
+    pub fails: bool,
+}
+
+/// Returns the bytes of a text of hexadecimal digits, or of `-`, which has none.
+fn bytes_of(alloc: Global, text: &str) -> Result<Vec<u8>, Fault> {
+    if text == "-" {
+        return Ok(Vec::new(alloc));
+    }
+    match hex::decode(alloc, text) {
+        Ok(bytes) => Ok(bytes),
+        Err(FromHexError::OutOfMemory) => Err(Fault::OutOfMemory),
+        Err(_) => Err(Fault::NotARow("the bytes are not hexadecimal digits")),
+    }
+}
+
+/// Returns the mark of this spelling.
+fn mark_of(word: &str) -> Result<Mark, Fault> {
+    match word {
+        "=" => Ok(Mark::Same),
+        "reads" => Ok(Mark::Reads),
+        "greatest" => Ok(Mark::Greatest),
+        "error" => Ok(Mark::Refused),
+        _ => Err(Fault::NotARow("no =, reads, greatest or error")),
+    }
+}
+
+/// Returns the three parts of `TYPE: BYTES MARK TEXT` after the type, with `TYPE`.
+fn parts_of(line: &str) -> Option<(&str, &str, &str, &str)> {
+    let (name, others) = line.split_once(": ")?;
+    let (bytes, others) = others.split_once(' ')?;
+    let (mark, text) = others.split_once(' ')?;
+    Some((name, bytes, mark, text))
+}
+
+impl<'a> Row<'a> {
+    /// Returns the row of this line, or `None` if the line is empty or a comment.
+    pub fn read(alloc: Global, line: &'a str) -> Result<Option<Row<'a>>, Fault> {
+        if line.is_empty() || line.starts_with('#') {
+            return Ok(None);
+        }
+        let (fails, line) = match line.strip_prefix("not ") {
+            Some(line) => (true, line),
+            None => (false, line),
+        };
+        let Some((name, digits, word, text)) = parts_of(line) else {
+            return Err(Fault::NotARow("it is not TYPE: BYTES MARK TEXT"));
+        };
+        let mark = mark_of(word)?;
+        let (front, after) = digits.split_once('+').unwrap_or((digits, "-"));
+        let mut bytes = bytes_of(alloc, front)?;
+        let count = bytes.len();
+        let after = bytes_of(alloc, after)?;
+        bytes.extend_from_slice(&after)?;
+        let (value, front) = if mark == Mark::Refused {
+            let refused = format!(in alloc; "Err({text})")?;
+            (refused.clone()?, refused)
+        } else {
+            let value = format!(in alloc; "Ok({text})")?;
+            (value, format!(in alloc; "Ok(({text}, {after:?}))")?)
+        };
+        Ok(Some(Row {
+            name,
+            bytes,
+            count,
+            mark,
+            value,
+            front,
+            fails,
+        }))
+    }
+
+    /// Returns the bytes of the value.
+    pub fn encoding(&self) -> &[u8] {
+        self.bytes.get(..self.count).unwrap_or(&[])
+    }
+
+    /// Turns the outcome of a row that must fail.
+    pub fn judge(&self, outcome: Result<(), Fault>) -> Result<(), Fault> {
+        match outcome {
+            Ok(()) if self.fails => Err(Fault::Passes),
+            Err(Fault::Other { .. }) if self.fails => Ok(()),
+            _ => outcome,
+        }
+    }
+}
