@@ -2,13 +2,18 @@
 //! back by each call, and sent in streams with damaged frames between theirs.
 //!
 //! The values come from a generator with a fixed seed for each type, so they are the same in each
-//! run.
+//! run. What bytes and damaged frames are to be read as is worked out by a plain decoder of the
+//! tests' own, which calls nothing of the library.
 #![tactic(auto)]
 
 #[cfg(test)]
 mod calls;
 #[cfg(test)]
-mod random;
+mod choices;
+#[cfg(test)]
+mod made;
+#[cfg(test)]
+mod plain;
 #[cfg(test)]
 mod source;
 #[cfg(test)]

@@ -1,13 +1,14 @@
-//! A generator of random numbers, by the method splitmix64.
+//! A generator of random choices, by the method splitmix64.
 
+use crate::choices::Choices;
 use std::alloc::Global;
+use std::time::Duration;
 
-/// A generator of random numbers, which are the same for the same seed.
+/// A generator of random choices, which are the same for the same seed.
 #[derive(Drop)]
 pub(crate) struct Source {
     state: u64,
-    /// The allocator for values of growing types.
-    pub(crate) alloc: Global,
+    alloc: Global,
 }
 
 impl Source {
@@ -17,7 +18,7 @@ impl Source {
     }
 
     /// Returns the next 64 random bits.
-    pub(crate) fn next(&mut self) -> u64 {
+    fn next(&mut self) -> u64 {
         self.state = self.state.wrapping_add(0x9E37_79B9_7F4A_7C15);
         let mut mixed = self.state;
         mixed = (mixed ^ (mixed >> 30)).wrapping_mul(0xBF58_476D_1CE4_E5B9);
@@ -37,19 +38,68 @@ impl Source {
     }
 
     /// Returns a number of a random length in bits, or the complement of such a number.
-    pub(crate) fn number(&mut self) -> u128 {
+    fn bits(&mut self) -> u128 {
         let all = (u128::from(self.next()) << 64) | u128::from(self.next());
         let number = all >> (self.next() % 128);
         if self.one_in(2) { number } else { !number }
     }
 
-    /// Returns the low 64 bits of such a number.
-    pub(crate) fn word(&mut self) -> u64 {
-        (self.number() & 0xFFFF_FFFF_FFFF_FFFF) as u64
+    /// Returns the low 8 bits of such a number.
+    pub(crate) fn low_byte(&mut self) -> u8 {
+        (self.bits() & 0xFF) as u8
     }
 
-    /// Returns the low 8 bits of such a number.
-    pub(crate) fn byte(&mut self) -> u8 {
-        (self.number() & 0xFF) as u8
+    /// Returns a random character, whose code has a random length in bits.
+    fn any_character(&mut self) -> char {
+        let code = (self.bits() & 0xFFFF_FFFF) as u32 % 0x11_0000;
+        char::from_u32(code).unwrap_or('ß')
+    }
+}
+
+impl Choices for Source {
+    fn alloc(&self) -> Global {
+        self.alloc
+    }
+
+    fn byte(&mut self) -> Option<u8> {
+        Some(self.low_byte())
+    }
+
+    fn number(&mut self, most: u128) -> Option<u128> {
+        Some(self.bits() & most)
+    }
+
+    fn flag(&mut self) -> Option<bool> {
+        Some(self.one_in(2))
+    }
+
+    fn variant(&mut self, count: u32) -> Option<u32> {
+        let random = (self.next() & 0xFFFF_FFFF) as u32;
+        random.checked_rem(count)
+    }
+
+    fn count(&mut self, most: usize) -> Option<usize> {
+        Some(self.below(6).min(most))
+    }
+
+    fn character(&mut self) -> Option<char> {
+        Some(self.any_character())
+    }
+
+    fn text(&mut self, most: usize) -> Option<String> {
+        let mut text = String::new(self.alloc);
+        for _ in 0..self.below(12) {
+            let next = self.any_character();
+            if text.len().saturating_add(next.len_utf8()) <= most {
+                text.push(next).ok()?;
+            }
+        }
+        Some(text)
+    }
+
+    fn duration(&mut self) -> Option<Duration> {
+        let nanos = (self.bits() & 0xFFFF_FFFF) as u32 % 1_000_000_000;
+        let secs = (self.bits() & 0xFFFF_FFFF_FFFF_FFFF) as u64;
+        Some(Duration::new(secs, nanos))
     }
 }

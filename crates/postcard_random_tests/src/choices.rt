@@ -1,0 +1,35 @@
+//! What values are made of, wherever it comes from.
+
+use std::alloc::Global;
+use std::time::Duration;
+
+/// Where values come from: random choices, or bytes that spell them. Each method returns `None` if
+/// there is no such part, or if an allocation fails.
+pub(crate) trait Choices {
+    /// Returns the allocator for values of growing types.
+    fn alloc(&self) -> Global;
+
+    /// Returns a byte.
+    fn byte(&mut self) -> Option<u8>;
+
+    /// Returns a number of at most `most`, which is the greatest of its type.
+    fn number(&mut self, most: u128) -> Option<u128>;
+
+    /// Returns a truth value.
+    fn flag(&mut self) -> Option<bool>;
+
+    /// Returns the index of one of `count` variants.
+    fn variant(&mut self, count: u32) -> Option<u32>;
+
+    /// Returns a number of elements, of which at most `most` have room.
+    fn count(&mut self, most: usize) -> Option<usize>;
+
+    /// Returns a character.
+    fn character(&mut self) -> Option<char>;
+
+    /// Returns a text of at most `most` bytes.
+    fn text(&mut self, most: usize) -> Option<String>;
+
+    /// Returns a duration.
+    fn duration(&mut self) -> Option<Duration>;
+}
