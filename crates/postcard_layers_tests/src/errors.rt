@@ -1,8 +1,9 @@
-//! The texts and the names of the errors.
+//! The texts and the names of the errors, and what errors are made from.
 
-use super::*;
-use std::alloc::Global;
-use std::test::Fail;
+use postcard_wire::{Error, Result};
+use std::alloc::{AllocError, Global};
+use std::error;
+use std::process::Abort;
 
 /// Each error with its name and its text: those of postcard 1.1.3, and last this port's own.
 fn table() -> [(Error, &'static str, &'static str); 17] {
@@ -91,24 +92,33 @@ fn table() -> [(Error, &'static str, &'static str); 17] {
     ]
 }
 
-#[test]
-fn prints_its_text_and_its_name(rt: HostRuntime) -> std::result::Result<(), Fail> {
-    for (error, name, text) in &table() {
-        assert_eq!(rt; error.to_string(rt.alloc())?.as_str(), *text);
-        assert_eq!(rt; format!(in rt.alloc(); "{error:?}")?.as_str(), *name);
-    }
-    Ok(())
+/// Returns what an error prints, by the standard library's trait of errors.
+fn text_of<E: error::Error>(rt: &impl Abort, alloc: Global, error: &E) -> String {
+    error.to_string(alloc).expect(rt, "memory is left")
 }
 
 #[test]
-fn equals_its_clone_alone(rt: HostRuntime) -> std::result::Result<(), Fail> {
-    for (i, (error, ..)) in table().iter().enumerate() {
-        let copy = error.clone()?;
-        for (j, (other, name, _)) in table().iter().enumerate() {
-            assert_eq!(rt; copy == *other, i == j, "at {name}");
-        }
+fn prints_its_text_and_its_name(rt: HostRuntime) {
+    for (error, name, text) in &table() {
+        assert_eq!(rt; text_of(&rt, rt.alloc(), error).as_str(), *text);
+        let shown = format!(in rt.alloc(); "{error:?}").expect(&rt, "memory is left");
+        assert_eq!(rt; shown.as_str(), *name);
     }
-    Ok(())
+}
+
+/// Asserts that the error at this place of the table, or its clone, equals no other of the table.
+fn assert_single(rt: &impl Abort, place: usize, error: &Error) {
+    let copy = error.clone().expect(rt, "memory is left");
+    for (i, (other, name, _)) in table().iter().enumerate() {
+        assert_eq!(rt; copy == *other, i == place, "at {name}");
+    }
+}
+
+#[test]
+fn equals_its_clone_alone(rt: HostRuntime) {
+    for (i, (error, ..)) in table().iter().enumerate() {
+        assert_single(&rt, i, error);
+    }
 }
 
 #[test]
@@ -117,18 +127,6 @@ fn is_made_of_any_message(rt: HostRuntime) {
     assert_eq!(rt; Error::ser_custom(7u8), Error::SerdeSerCustom);
     assert_eq!(rt; Error::de_custom("no such colour"), Error::SerdeDeCustom);
     assert_eq!(rt; Error::de_custom(7u8), Error::SerdeDeCustom);
-}
-
-/// Returns what an error prints, by the standard library's trait of errors.
-fn text_of<E: error::Error>(rt: &HostRuntime, error: &E) -> std::result::Result<String, Fail> {
-    Ok(error.to_string(rt.alloc())?)
-}
-
-#[test]
-fn is_an_error_of_std(rt: HostRuntime) -> std::result::Result<(), Fail> {
-    let text = text_of(&rt, &Error::DeserializeBadUtf8)?;
-    assert_eq!(rt; text.as_str(), "Tried to parse invalid utf-8");
-    Ok(())
 }
 
 /// Allocates as a reader of a user's type does, with `?` alone.
@@ -140,7 +138,7 @@ fn grown(alloc: Global) -> Result<(String, Vec<u8>)> {
 }
 
 #[test]
-fn is_made_of_a_refused_allocation(rt: HostRuntime) -> std::result::Result<(), Fail> {
+fn is_made_of_a_refused_allocation(rt: HostRuntime) {
     assert_eq!(rt; Error::from(AllocError), Error::OutOfMemory);
     match grown(rt.alloc()) {
         Ok((text, items)) => {
@@ -149,5 +147,4 @@ fn is_made_of_a_refused_allocation(rt: HostRuntime) -> std::result::Result<(), F
         }
         Err(error) => assert_eq!(rt; error, Error::OutOfMemory),
     }
-    Ok(())
 }

@@ -3,13 +3,10 @@
 
 ghost use Rattle.postcard_wire.specs.Tree.{IsWidth};
 
-use crate::digits::Digits;
-use crate::error::{Error, Result};
-use crate::{division, text, varint, zigzag};
-use std::alloc::{AllocError, Global};
-use std::test::Fail;
-
-type Tested = std::result::Result<(), Fail>;
+use postcard_wire::digits::Digits;
+use postcard_wire::{Error, Result, division, text, varint, zigzag};
+use std::alloc::Global;
+use std::process::Abort;
 
 /// Reads a number of `bits` bits from the front of `bytes`. Returns it with its count of bytes.
 fn read(bits: u32, bytes: &[u8]) -> Result<(u128, usize)>
@@ -24,31 +21,14 @@ fn read(bits: u32, bytes: &[u8]) -> Result<(u128, usize)>
     Err(Error::DeserializeUnexpectedEnd)
 }
 
-/// Returns numbers of 128 bits: each power of two with its neighbours, so each power of 128 too,
-/// the greatest number, and 300 of a multiplicative generator. Modulo the power of two of a width
-/// they are edges and samples of that width.
-fn numbers(alloc: Global) -> std::result::Result<Vec<u128>, AllocError> {
-    let mut numbers = Vec::new(alloc);
-    let mut power = 1u128;
-    for _ in 0..129 {
-        numbers.extend_from_slice(&[power.wrapping_sub(1), power, power.wrapping_add(1)])?;
-        power = power.wrapping_mul(2);
-    }
-    let mut sample = 1u128;
-    for _ in 0..300 {
-        sample = sample.wrapping_mul(0x2360_ED05_1FC6_5DA4_4385_DF64_9FCC_F645);
-        numbers.push(sample)?;
-    }
-    Ok(numbers)
-}
-
 /// Compares what is written, read and folded of one number of a width.
 macro_rules! compare {
     (
-        $rt:ident, $bits:literal, $n:ident, $varint:path, $most:path, $zig_zag:path,
+        $rt:ident, $alloc:ident, $bits:literal, $n:ident, $varint:path, $most:path, $zig_zag:path,
         $de_zig_zag:path
     ) => {{
-        let spelling = division::spell($rt.alloc(), $bits, u128::from($n))?;
+        let spelling = division::spell($alloc, $bits, u128::from($n))
+            .expect($rt, "memory is left");
         let mut buffer = [0; $most];
         let written: &[u8] = $varint($n, &mut buffer);
         assert_eq!($rt; written, spelling.as_slice(), "the digits of {}", $n);
@@ -66,84 +46,101 @@ macro_rules! compare {
     }};
 }
 
-#[test]
-fn agrees_with_division_at_16_bits(rt: HostRuntime) -> Tested {
-    for number in numbers(rt.alloc())?.iter() {
-        let n = (*number & 0xFFFF) as u16;
-        compare!(
-            rt,
-            16,
-            n,
-            varint::varint_u16,
-            varint::VARINT_MAX_16,
-            zigzag::zig_zag_i16,
-            zigzag::de_zig_zag_i16
-        );
-    }
-    Ok(())
+fn compare_16(rt: &impl Abort, alloc: Global, number: u128) {
+    let n = (number & 0xFFFF) as u16;
+    compare!(
+        rt,
+        alloc,
+        16,
+        n,
+        varint::varint_u16,
+        varint::VARINT_MAX_16,
+        zigzag::zig_zag_i16,
+        zigzag::de_zig_zag_i16
+    );
 }
 
-#[test]
-fn agrees_with_division_at_32_bits(rt: HostRuntime) -> Tested {
-    for number in numbers(rt.alloc())?.iter() {
-        let n = (*number & 0xFFFF_FFFF) as u32;
-        compare!(
-            rt,
-            32,
-            n,
-            varint::varint_u32,
-            varint::VARINT_MAX_32,
-            zigzag::zig_zag_i32,
-            zigzag::de_zig_zag_i32
-        );
-    }
-    Ok(())
+fn compare_32(rt: &impl Abort, alloc: Global, number: u128) {
+    let n = (number & 0xFFFF_FFFF) as u32;
+    compare!(
+        rt,
+        alloc,
+        32,
+        n,
+        varint::varint_u32,
+        varint::VARINT_MAX_32,
+        zigzag::zig_zag_i32,
+        zigzag::de_zig_zag_i32
+    );
 }
 
-#[test]
-fn agrees_with_division_at_64_bits(rt: HostRuntime) -> Tested {
-    for number in numbers(rt.alloc())?.iter() {
-        let n = (*number & 0xFFFF_FFFF_FFFF_FFFF) as u64;
-        compare!(
-            rt,
-            64,
-            n,
-            varint::varint_u64,
-            varint::VARINT_MAX_64,
-            zigzag::zig_zag_i64,
-            zigzag::de_zig_zag_i64
-        );
-    }
-    Ok(())
+fn compare_64(rt: &impl Abort, alloc: Global, number: u128) {
+    let n = (number & 0xFFFF_FFFF_FFFF_FFFF) as u64;
+    compare!(
+        rt,
+        alloc,
+        64,
+        n,
+        varint::varint_u64,
+        varint::VARINT_MAX_64,
+        zigzag::zig_zag_i64,
+        zigzag::de_zig_zag_i64
+    );
 }
 
-#[test]
-fn agrees_with_division_at_128_bits(rt: HostRuntime) -> Tested {
-    for number in numbers(rt.alloc())?.iter() {
-        let n = *number;
-        compare!(
-            rt,
-            128,
-            n,
-            varint::varint_u128,
-            varint::VARINT_MAX_128,
-            zigzag::zig_zag_i128,
-            zigzag::de_zig_zag_i128
-        );
-    }
-    Ok(())
+fn compare_128(rt: &impl Abort, alloc: Global, number: u128) {
+    let n = number;
+    compare!(
+        rt,
+        alloc,
+        128,
+        n,
+        varint::varint_u128,
+        varint::VARINT_MAX_128,
+        zigzag::zig_zag_i128,
+        zigzag::de_zig_zag_i128
+    );
 }
 
+fn compare_length(rt: &impl Abort, alloc: Global, number: u128) {
+    let n = (number & 0xFFFF_FFFF_FFFF_FFFF) as usize;
+    let spelling = division::spell(alloc, 64, n as u128).expect(rt, "memory is left");
+    let mut buffer = [0; varint::VARINT_MAX_64];
+    let written: &[u8] = varint::varint_usize(n, &mut buffer);
+    assert_eq!(rt; written, spelling.as_slice(), "the digits of {n}");
+}
+
+/// Compares the calls of each width, for the number modulo the power of two of that width. A length
+/// is written as a number of 64 bits.
+fn compare_at_each_width(rt: &impl Abort, alloc: Global, number: u128) {
+    compare_16(rt, alloc, number);
+    compare_32(rt, alloc, number);
+    compare_64(rt, alloc, number);
+    compare_128(rt, alloc, number);
+    compare_length(rt, alloc, number);
+}
+
+/// Each power of two with its neighbours, so each power of 128 too, and the greatest number of each
+/// width.
 #[test]
-fn writes_a_length_as_64_bits(rt: HostRuntime) -> Tested {
-    for number in numbers(rt.alloc())?.iter() {
-        let n = (*number & 0xFFFF_FFFF_FFFF_FFFF) as usize;
-        let spelling = division::spell(rt.alloc(), 64, n as u128)?;
-        let mut buffer = [0; varint::VARINT_MAX_64];
-        let written: &[u8] = varint::varint_usize(n, &mut buffer);
-        assert_eq!(rt; written, spelling.as_slice(), "the digits of {n}");
+fn agrees_with_division_at_edges(rt: HostRuntime) {
+    let mut power = 1u128;
+    for _ in 0..129 {
+        compare_at_each_width(&rt, rt.alloc(), power.wrapping_sub(1));
+        compare_at_each_width(&rt, rt.alloc(), power);
+        compare_at_each_width(&rt, rt.alloc(), power.wrapping_add(1));
+        power = power.wrapping_mul(2);
     }
-    Ok(())
+}
+
+/// 300 numbers of a multiplicative generator.
+#[test]
+fn agrees_with_division_at_samples(rt: HostRuntime) {
+    let mut sample = 1u128;
+    for _ in 0..300 {
+        sample = sample.wrapping_mul(0x2360_ED05_1FC6_5DA4_4385_DF64_9FCC_F645);
+        compare_at_each_width(&rt, rt.alloc(), sample);
+    }
 }
 
 #[test]
