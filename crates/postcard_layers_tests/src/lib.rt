@@ -9,4 +9,8 @@ mod errors;
 #[cfg(test)]
 mod numbers;
 #[cfg(test)]
+mod reading_flavors;
+#[cfg(test)]
+mod writing;
+#[cfg(test)]
 mod writing_flavors;
