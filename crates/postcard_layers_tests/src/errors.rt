@@ -1,5 +1,6 @@
 //! The texts and the names of the errors, and what errors are made from.
 
+use crate::asserts::{same, same_bytes, value};
 use postcard_wire::{Error, Result};
 use std::alloc::{AllocError, Global};
 use std::error;
@@ -94,21 +95,33 @@ fn table() -> [(Error, &'static str, &'static str); 17] {
 
 /// Returns what an error prints, by the standard library's trait of errors.
 fn text_of<E: error::Error>(rt: &impl Abort, alloc: Global, error: &E) -> String {
-    error.to_string(alloc).expect(rt, "memory is left")
+    value(rt, error.to_string(alloc))
+}
+
+/// Returns what an error prints for programmers.
+fn name_of(rt: &impl Abort, alloc: Global, error: &Error) -> String {
+    value(rt, format!(in alloc; "{error:?}"))
 }
 
 #[test]
 fn prints_its_text_and_its_name(rt: HostRuntime) {
     for (error, name, text) in &table() {
-        assert_eq!(rt; text_of(&rt, rt.alloc(), error).as_str(), *text);
-        let shown = format!(in rt.alloc(); "{error:?}").expect(&rt, "memory is left");
-        assert_eq!(rt; shown.as_str(), *name);
+        same_bytes(
+            &rt,
+            text_of(&rt, rt.alloc(), error).as_bytes(),
+            text.as_bytes(),
+        );
+        same_bytes(
+            &rt,
+            name_of(&rt, rt.alloc(), error).as_bytes(),
+            name.as_bytes(),
+        );
     }
 }
 
 /// Asserts that the error at this place of the table, or its clone, equals no other of the table.
 fn assert_single(rt: &impl Abort, place: usize, error: &Error) {
-    let copy = error.clone().expect(rt, "memory is left");
+    let copy = value(rt, error.clone());
     for (i, (other, name, _)) in table().iter().enumerate() {
         assert_eq!(rt; copy == *other, i == place, "at {name}");
     }
@@ -123,10 +136,18 @@ fn equals_its_clone_alone(rt: HostRuntime) {
 
 #[test]
 fn is_made_of_any_message(rt: HostRuntime) {
-    assert_eq!(rt; Error::ser_custom("no such colour"), Error::SerdeSerCustom);
-    assert_eq!(rt; Error::ser_custom(7u8), Error::SerdeSerCustom);
-    assert_eq!(rt; Error::de_custom("no such colour"), Error::SerdeDeCustom);
-    assert_eq!(rt; Error::de_custom(7u8), Error::SerdeDeCustom);
+    same(
+        &rt,
+        Error::ser_custom("no such colour"),
+        Error::SerdeSerCustom,
+    );
+    same(&rt, Error::ser_custom(7u8), Error::SerdeSerCustom);
+    same(
+        &rt,
+        Error::de_custom("no such colour"),
+        Error::SerdeDeCustom,
+    );
+    same(&rt, Error::de_custom(7u8), Error::SerdeDeCustom);
 }
 
 /// Allocates as a reader of a user's type does, with `?` alone.
@@ -139,12 +160,12 @@ fn grown(alloc: Global) -> Result<(String, Vec<u8>)> {
 
 #[test]
 fn is_made_of_a_refused_allocation(rt: HostRuntime) {
-    assert_eq!(rt; Error::from(AllocError), Error::OutOfMemory);
+    same(&rt, Error::from(AllocError), Error::OutOfMemory);
     match grown(rt.alloc()) {
         Ok((text, items)) => {
-            assert_eq!(rt; text.as_str(), "Hi!");
-            assert_eq!(rt; items.as_slice(), [7].as_slice());
+            same_bytes(&rt, text.as_bytes(), b"Hi!");
+            same_bytes(&rt, &items, &[7]);
         }
-        Err(error) => assert_eq!(rt; error, Error::OutOfMemory),
+        Err(error) => same(&rt, error, Error::OutOfMemory),
     }
 }

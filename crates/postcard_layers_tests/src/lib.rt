@@ -5,9 +5,13 @@
 #![tactic(auto)]
 
 #[cfg(test)]
+mod asserts;
+#[cfg(test)]
 mod errors;
 #[cfg(test)]
 mod numbers;
+#[cfg(test)]
+mod reading;
 #[cfg(test)]
 mod reading_flavors;
 #[cfg(test)]

@@ -7,6 +7,7 @@ ghost use Rattle.postcard_de_flavors.specs.IOReader.{scratch_of};
 ghost use Rattle.std.specs.Io.{ReadsAtMost};
 ghost use Rattle.std.specs.Io.KnownBytes.{ReadConsumes};
 
+use crate::asserts::{same, same_bytes};
 use postcard_de_flavors::io::io::IOReader;
 use postcard_de_flavors::{Flavor, Plain, Slice, Source};
 use postcard_wire::Error;
@@ -17,29 +18,34 @@ use std::process::Abort;
 #[test]
 fn a_slice_gives_fronts_until_too_few_bytes_are_left(rt: HostRuntime) {
     let mut source = Slice::new(&[1, 2, 3, 4]);
-    assert_eq!(rt; source.pop(), Ok(1));
-    assert_eq!(rt; source.try_take_n(2), Ok([2, 3].as_slice()));
-    assert_eq!(rt; source.try_take_n(2), Err(Error::DeserializeUnexpectedEnd));
-    assert_eq!(rt; source.size_hint(), Some(1));
-    assert_eq!(rt;
-        source.try_take_n_temp(2),
-        Err(Error::DeserializeUnexpectedEnd)
+    same(&rt, source.pop(), Ok(1));
+    same(&rt, source.try_take_n(2), Ok([2, 3].as_slice()));
+    same(
+        &rt,
+        source.try_take_n(2),
+        Err(Error::DeserializeUnexpectedEnd),
     );
-    assert_eq!(rt; source.try_take_n_temp(1), Ok([4].as_slice()));
-    assert_eq!(rt; source.pop(), Err(Error::DeserializeUnexpectedEnd));
-    assert_eq!(rt; source.finalize(), Ok([].as_slice()));
+    same(&rt, source.size_hint(), Some(1));
+    same(
+        &rt,
+        source.try_take_n_temp(2),
+        Err(Error::DeserializeUnexpectedEnd),
+    );
+    same(&rt, source.try_take_n_temp(1), Ok([4].as_slice()));
+    same(&rt, source.pop(), Err(Error::DeserializeUnexpectedEnd));
+    same(&rt, source.finalize(), Ok([].as_slice()));
 }
 
 /// Asserts that a source that has given all of these bytes gives no bytes, and no byte.
 fn assert_gives_none_at_the_end(rt: &impl Abort, bytes: &[u8]) {
     let mut source = Slice::new(bytes);
-    assert_eq!(rt; source.try_take_n(bytes.len()), Ok(bytes));
-    assert_eq!(rt; source.try_take_n(0), Ok([].as_slice()));
-    assert_eq!(rt; source.try_take_n_temp(0), Ok([].as_slice()));
-    assert_eq!(rt; source.at_hand(), [].as_slice());
-    assert_eq!(rt; source.size_hint(), Some(0));
-    assert_eq!(rt; source.pop(), Err(Error::DeserializeUnexpectedEnd));
-    assert_eq!(rt; source.finalize(), Ok([].as_slice()));
+    same(rt, source.try_take_n(bytes.len()), Ok(bytes));
+    same(rt, source.try_take_n(0), Ok([].as_slice()));
+    same(rt, source.try_take_n_temp(0), Ok([].as_slice()));
+    same_bytes(rt, source.at_hand(), &[]);
+    same(rt, source.size_hint(), Some(0));
+    same(rt, source.pop(), Err(Error::DeserializeUnexpectedEnd));
+    same(rt, source.finalize(), Ok([].as_slice()));
 }
 
 #[test]
@@ -160,22 +166,22 @@ fn assert_left<T: Source>(rt: &impl Abort, source: IOReader<'_, T>, unread: &[u8
     let Ok((reader, scratch)) = source.finalize() else {
         unreachable!()
     };
-    assert_eq!(rt; scratch.len(), room);
+    same(rt, scratch.len(), room);
     let mut rest = IOReader::new(reader, &mut []);
     for byte in unread {
-        assert_eq!(rt; rest.pop(), Ok(*byte));
+        same(rt, rest.pop(), Ok(*byte));
     }
-    assert!(rt; rest.pop().is_err());
+    same(rt, rest.pop().is_err(), true);
 }
 
 /// Both takes, with enough bytes and enough scratch.
 fn takes<T: Over>(rt: &impl Abort) {
     let mut memory = [0; 8];
     let mut source = IOReader::new(T::over(&[0xaa, 0xbb, 0xcc, 0xdd, 0xee]), &mut memory);
-    assert_eq!(rt; source.size_hint(), None);
+    same(rt, source.size_hint(), None);
     let first = source.try_take_n(2);
-    assert_eq!(rt; source.try_take_n_temp(2), Ok([0xcc, 0xdd].as_slice()));
-    assert_eq!(rt; first, Ok([0xaa, 0xbb].as_slice()));
+    same(rt, source.try_take_n_temp(2), Ok([0xcc, 0xdd].as_slice()));
+    same(rt, first, Ok([0xaa, 0xbb].as_slice()));
     assert_left(rt, source, &[0xee], 6);
 }
 
@@ -185,18 +191,18 @@ fn takes_for_good<T: Over>(rt: &impl Abort) {
     let mut source = IOReader::new(T::over(&[0xaa, 0xbb, 0xcc, 0xdd, 0xee]), &mut memory);
     let first = source.try_take_n(2);
     let second = source.try_take_n(2);
-    assert!(rt; source.try_take_n(2).is_err());
-    assert_eq!(rt; first, Ok([0xaa, 0xbb].as_slice()));
-    assert_eq!(rt; second, Ok([0xcc, 0xdd].as_slice()));
+    same(rt, source.try_take_n(2).is_err(), true);
+    same(rt, first, Ok([0xaa, 0xbb].as_slice()));
+    same(rt, second, Ok([0xcc, 0xdd].as_slice()));
 }
 
 /// Single bytes, which need no scratch.
 fn pops<T: Over>(rt: &impl Abort) {
     let mut source = IOReader::new(T::over(&[0xaa, 0xbb, 0xcc]), &mut []);
     for byte in [0xaa, 0xbb, 0xcc] {
-        assert_eq!(rt; source.pop(), Ok(byte));
+        same(rt, source.pop(), Ok(byte));
     }
-    assert_eq!(rt; source.pop(), Err(Error::DeserializeUnexpectedEnd));
+    same(rt, source.pop(), Err(Error::DeserializeUnexpectedEnd));
 }
 
 /// An input too short: to take 3 bytes of `01 02` with 4 bytes of scratch fails, and leaves `room`
@@ -205,21 +211,21 @@ fn input_too_short<T: Over>(rt: &impl Abort, for_good: bool, room: usize) {
     let mut memory = [0; 4];
     let mut source = IOReader::new(T::over(&[1, 2]), &mut memory);
     if for_good {
-        assert!(rt; source.try_take_n(3).is_err());
+        same(rt, source.try_take_n(3).is_err(), true);
     } else {
-        assert!(rt; source.try_take_n_temp(3).is_err());
+        same(rt, source.try_take_n_temp(3).is_err(), true);
     }
     let Ok((_reader, scratch)) = source.finalize() else {
         unreachable!()
     };
-    assert_eq!(rt; scratch.len(), room, "for good: {for_good}");
+    same(rt, scratch.len(), room);
 }
 
 /// A scratch too short: both takes fail, and the reader isn't called.
 fn scratch_too_short<T: Over>(rt: &impl Abort) {
     let mut memory = [0; 1];
     let mut source = IOReader::new(T::over(&[1, 2]), &mut memory);
-    assert!(rt; source.try_take_n(2).is_err());
+    same(rt, source.try_take_n(2).is_err(), true);
     assert!(rt; !looks(&mut source, 2));
     assert_left(rt, source, &[1, 2], 1);
 }
@@ -260,12 +266,12 @@ fn take_three(rt: &impl Abort, reads: usize, succeeds: bool, left: usize) {
     };
     let mut source = IOReader::new(Plain::new(failing), &mut memory);
     let taken = source.try_take_n(3);
-    assert_eq!(rt; taken.is_ok(), succeeds, "{reads} reads");
+    same(rt, taken.is_ok(), succeeds);
     let Ok((reader, scratch)) = source.finalize() else {
         unreachable!()
     };
-    assert_eq!(rt; scratch.len(), 1);
-    assert_eq!(rt; reader.into_inner().bytes.len(), left);
+    same(rt, scratch.len(), 1);
+    same(rt, reader.into_inner().bytes.len(), left);
 }
 
 #[test]
@@ -282,16 +288,16 @@ fn readers(rt: HostRuntime) {
     let mut slice = bytes.as_slice();
     let mut plain = Plain::new(bytes.as_slice());
     let mut buf = [0; 2];
-    assert_eq!(rt; slice.read_some(&mut buf).ok(), Some(2));
-    assert_eq!(rt; buf, [1, 2]);
+    same(&rt, slice.read_some(&mut buf).ok(), Some(2));
+    same_bytes(&rt, &buf, &[1, 2]);
     let mut buf = [0; 2];
-    assert_eq!(rt; plain.read_some(&mut buf).ok(), Some(2));
-    assert_eq!(rt; buf, [1, 2]);
-    assert!(rt; slice.read_full(&mut buf).is_err());
-    assert!(rt; plain.read_full(&mut buf).is_err());
-    assert_eq!(rt; plain.into_inner().len(), 0);
+    same(&rt, plain.read_some(&mut buf).ok(), Some(2));
+    same_bytes(&rt, &buf, &[1, 2]);
+    same(&rt, slice.read_full(&mut buf).is_err(), true);
+    same(&rt, plain.read_full(&mut buf).is_err(), true);
+    same(&rt, plain.into_inner().len(), 0);
     let mut buf = [0; 1];
-    assert!(rt; slice.read_full(&mut buf).is_ok());
-    assert_eq!(rt; buf, [3]);
-    assert_eq!(rt; slice.read_some(&mut buf).ok(), Some(0));
+    same(&rt, slice.read_full(&mut buf).is_ok(), true);
+    same_bytes(&rt, &buf, &[3]);
+    same(&rt, slice.read_some(&mut buf).ok(), Some(0));
 }

@@ -12,6 +12,7 @@ mod calls;
 mod printed;
 mod values;
 
+use crate::asserts::{same, same_bytes, value};
 use postcard_ser::{Serialize, SerializeRepr, Serializer, serialize_variant};
 use postcard_ser_flavors::{Flavor, Slice};
 use postcard_shape::{Case, NoCase, Repr, Shaped};
@@ -85,6 +86,7 @@ impl Serialize for Both {
 }
 
 /// A user's type whose odd numbers refuse themselves.
+#[derive(Drop)]
 struct Even(u8);
 
 impl Shaped for Even {
@@ -172,7 +174,7 @@ fn written<'a, T: Serialize>(value: &T, buffer: &'a mut [u8]) -> Result<&'a [u8]
 /// Asserts that the value is written as these bytes.
 fn assert_written<T: Serialize>(rt: &impl Abort, value: &T, want: &[u8]) {
     let mut buffer = [0xAA; 32];
-    assert_eq!(rt; written(value, &mut buffer), Ok(want));
+    same(rt, written(value, &mut buffer), Ok(want));
 }
 
 /// Asserts that writing the value fails over flavors that refuse their first piece, their second
@@ -224,11 +226,11 @@ fn numbers(rt: HostRuntime) {
 fn texts_and_lists(rt: HostRuntime) {
     let text = [0x03, 0x48, 0x69, 0x21];
     assert_written(&rt, &"Hi!", &text);
-    let owned = String::from_str(rt.alloc(), "Hi!").expect(&rt, "memory is left");
+    let owned = value(&rt, String::from_str(rt.alloc(), "Hi!"));
     assert_written(&rt, &owned, &text);
     let list = [0x02, 0x01, 0xAC, 0x02];
     assert_written(&rt, &[1u32, 300].as_slice(), &list);
-    let owned = vec![in rt.alloc(); 1u32, 300].expect(&rt, "memory is left");
+    let owned = value(&rt, vec![in rt.alloc(); 1u32, 300]);
     assert_written(&rt, &owned, &list);
     assert_written(&rt, &Both(1, 300), &list);
     assert_written(
@@ -261,11 +263,12 @@ fn enums(rt: HostRuntime) {
 #[test]
 fn refusals(rt: HostRuntime) {
     let mut short = [0xAA; 3];
-    assert_eq!(rt;
+    same(
+        &rt,
         written(&"Hi!", &mut short),
-        Err(Error::SerializeBufferFull)
+        Err(Error::SerializeBufferFull),
     );
-    assert_eq!(rt; short, [0x03, 0xAA, 0xAA]);
+    same_bytes(&rt, &short, &[0x03, 0xAA, 0xAA]);
     assert_refused(&rt, &"Hi!", &[0x03, 0x48, 0x69, 0x21], &[0, 1]);
     assert_refused(
         &rt,
@@ -274,21 +277,26 @@ fn refusals(rt: HostRuntime) {
         &[0, 1, 2],
     );
     assert_refused(&rt, &Even(4), &[0x04], &[0]);
+}
+
+#[test]
+fn values_that_refuse_themselves(rt: HostRuntime) {
     let mut buffer = [0xAA; 1];
-    assert_eq!(rt; written(&Even(3), &mut buffer), Err(Error::SerdeSerCustom));
-    assert_eq!(rt; written(&Even(4), &mut buffer), Ok([0x04].as_slice()));
+    same(
+        &rt,
+        written(&Even(3), &mut buffer),
+        Err(Error::SerdeSerCustom),
+    );
+    same(&rt, written(&Even(4), &mut buffer), Ok([0x04].as_slice()));
     // If several parts fail, the error is that of the first.
-    assert_eq!(rt;
-        written(&(Even(4), Even(3)), &mut buffer),
-        Err(Error::SerdeSerCustom)
-    );
+    let last = (Even(4), Even(3));
+    same(&rt, written(&last, &mut buffer), Err(Error::SerdeSerCustom));
     let mut none = [0; 0];
-    assert_eq!(rt;
-        written(&(Even(4), Even(3)), &mut none),
-        Err(Error::SerializeBufferFull)
+    same(
+        &rt,
+        written(&last, &mut none),
+        Err(Error::SerializeBufferFull),
     );
-    assert_eq!(rt;
-        written(&(Even(3), Even(4)), &mut none),
-        Err(Error::SerdeSerCustom)
-    );
+    let first = (Even(3), Even(4));
+    same(&rt, written(&first, &mut none), Err(Error::SerdeSerCustom));
 }

@@ -3,6 +3,7 @@
 
 ghost use Rattle.std.specs.Prelude.{◌≡◌, ◌∷◌, [], ⊤};
 
+use crate::asserts::{same, same_bytes, value};
 use postcard_ser_flavors::io::WriteFlavor;
 use postcard_ser_flavors::{
     AllocVec, ExtendBytes, ExtendFlavor, Flavor, HVec, Size, Slice, StdVec, Storage,
@@ -13,175 +14,213 @@ use std::io;
 use std::io::Write;
 use std::process::Abort;
 
-/// Has a flavor take 01, then 02 03 04, then nothing. Returns its output.
-fn one_to_four<F: Flavor + Drop>(rt: &impl Abort, flavor: F) -> Result<F::Output> {
-    let mut flavor = flavor;
-    assert_eq!(rt; flavor.try_push(1), Ok(()));
-    assert_eq!(rt; flavor.try_extend(&[2, 3, 4]), Ok(()));
-    assert_eq!(rt; flavor.try_extend(&[]), Ok(()));
-    flavor.finalize()
+/// A row: a piece that a flavor is to take, and the result of that.
+type Row<'a> = (&'a [u8], Result<()>);
+
+/// Asserts the result of each row, one after the other. A row of one byte is pushed, and any other
+/// is taken as a piece.
+fn assert_rows<F: Flavor>(rt: &impl Abort, flavor: &mut F, rows: &[Row]) {
+    for (piece, want) in rows {
+        let result = match piece {
+            [byte] => flavor.try_push(*byte),
+            _ => flavor.try_extend(piece),
+        };
+        assert_eq!(rt; &result, want, "{piece:?}");
+    }
+}
+
+/// Ends a flavor that is to succeed. Returns its output.
+fn end<F: Flavor + Drop>(rt: &impl Abort, flavor: F) -> F::Output {
+    flavor.finalize().expect(rt, "the end succeeds")
 }
 
 /// Returns a vector that holds these bytes.
 fn vec_of(rt: &impl Abort, alloc: Global, bytes: &[u8]) -> Vec<u8> {
-    bytes.to_vec(alloc).expect(rt, "memory is left")
+    value(rt, bytes.to_vec(alloc))
+}
+
+/// Has a flavor take 01, then 02 03 04, then nothing. Returns its output.
+fn one_to_four<F: Flavor + Drop>(rt: &impl Abort, flavor: F) -> F::Output {
+    let mut flavor = flavor;
+    assert_rows(
+        rt,
+        &mut flavor,
+        &[(&[1], Ok(())), (&[2, 3, 4], Ok(())), (&[], Ok(()))],
+    );
+    end(rt, flavor)
 }
 
 #[test]
 fn each_flavor_has_the_bytes(rt: HostRuntime) {
     let mut buffer = [0xAA; 6];
-    let front: &[u8] = one_to_four(&rt, Slice::new(&mut buffer)).expect(&rt, "it fits");
-    assert_eq!(rt; front, [1, 2, 3, 4].as_slice());
-    let fixed = one_to_four(&rt, HVec::<4>::default()).expect(&rt, "it fits");
-    assert_eq!(rt; fixed.as_slice(), [1, 2, 3, 4].as_slice());
-    let grown = one_to_four(&rt, StdVec::new(rt.alloc())).expect(&rt, "it grows");
-    assert_eq!(rt; grown.as_slice(), [1, 2, 3, 4].as_slice());
+    let front: &[u8] = one_to_four(&rt, Slice::new(&mut buffer));
+    same_bytes(&rt, front, &[1, 2, 3, 4]);
+    let fixed = one_to_four(&rt, HVec::<4>::default());
+    same_bytes(&rt, &fixed, &[1, 2, 3, 4]);
+    let grown = one_to_four(&rt, StdVec::new(rt.alloc()));
+    same_bytes(&rt, &grown, &[1, 2, 3, 4]);
     let target = vec_of(&rt, rt.alloc(), &[9, 8]);
-    let extended = one_to_four(&rt, ExtendFlavor::new(target)).expect(&rt, "it grows");
-    assert_eq!(rt; extended.as_slice(), [9, 8, 1, 2, 3, 4].as_slice());
+    let extended = one_to_four(&rt, ExtendFlavor::new(target));
+    same_bytes(&rt, &extended, &[9, 8, 1, 2, 3, 4]);
     let target = vec_of(&rt, rt.alloc(), &[9, 8]);
-    let written = one_to_four(&rt, WriteFlavor::new(target)).expect(&rt, "it grows");
-    assert_eq!(rt; written.as_slice(), [9, 8, 1, 2, 3, 4].as_slice());
-    assert_eq!(rt; one_to_four(&rt, Size::default()), Ok(4));
+    let written = one_to_four(&rt, WriteFlavor::new(target));
+    same_bytes(&rt, &written, &[9, 8, 1, 2, 3, 4]);
+    same(&rt, one_to_four(&rt, Size::default()), 4);
 }
 
 /// Writes 03 05 07 after what is held, changes the first byte of all to 09 by `set` and the second
-/// to 06 by the index, and returns the first two as they were between these changes.
-fn change_two<B: Storage>(rt: &impl Abort, storage: &mut B) -> (u8, u8) {
+/// to 06 by the index. Asserts that the second was `second` before that.
+fn change_two<B: Storage>(rt: &impl Abort, storage: &mut B, second: u8) {
     assert!(rt; storage.try_extend(&[3, 5, 7]).is_ok());
     storage.set(0, 9);
-    let shown = (storage[0], storage[1]);
+    same(rt, (storage[0], storage[1]), (9, second));
     storage[1] = 6;
-    shown
+}
+
+/// Asserts the number of bytes held at first, and after pushing 01.
+fn assert_counts<B: Storage>(rt: &impl Abort, storage: &mut B, before: usize, after: usize) {
+    same(rt, storage.held_len(), before);
+    same(rt, storage.try_push(1), Ok(()));
+    same(rt, storage.held_len(), after);
 }
 
 #[test]
-fn each_storage_changes_held_bytes_alone(rt: HostRuntime) {
+fn a_slice_changes_held_bytes_alone(rt: HostRuntime) {
     let mut buffer = [0xAA; 5];
     let mut slice = Slice::new(&mut buffer);
     slice[4] = 0xBB;
-    assert_eq!(rt; slice[4], 0xBB);
-    assert_eq!(rt; change_two(&rt, &mut slice), (9, 5));
-    let front: &[u8] = slice.finalize().expect(&rt, "it never fails");
-    assert_eq!(rt; front, [9, 6, 7].as_slice());
-    assert_eq!(rt; buffer, [9, 6, 7, 0xAA, 0xBB]);
-
-    let mut fixed = HVec::<4>::new();
-    assert_eq!(rt; fixed.try_push(1), Ok(()));
-    assert_eq!(rt; change_two(&rt, &mut fixed), (9, 3));
-    let fixed = fixed.finalize().expect(&rt, "it never fails");
-    assert_eq!(rt; fixed.as_slice(), [9, 6, 5, 7].as_slice());
-
-    let mut grown = AllocVec::new(rt.alloc());
-    assert_eq!(rt; grown.try_push(1), Ok(()));
-    assert_eq!(rt; change_two(&rt, &mut grown), (9, 3));
-    let grown = grown.finalize().expect(&rt, "it never fails");
-    assert_eq!(rt; grown.as_slice(), [9, 6, 5, 7].as_slice());
+    same(&rt, slice[4], 0xBB);
+    change_two(&rt, &mut slice, 5);
+    let front: &[u8] = end(&rt, slice);
+    same_bytes(&rt, front, &[9, 6, 7]);
+    same_bytes(&rt, &buffer, &[9, 6, 7, 0xAA, 0xBB]);
 }
 
-/// Asserts the number of bytes held at first, and one more after pushing 07.
-fn assert_counts<B: Storage>(rt: &impl Abort, storage: &mut B, before: usize, after: usize) {
-    assert_eq!(rt; storage.held_len(), before);
-    assert_eq!(rt; storage.try_push(7), Ok(()));
-    assert_eq!(rt; storage.held_len(), after);
+#[test]
+fn a_fixed_vector_changes_held_bytes_alone(rt: HostRuntime) {
+    let mut fixed = HVec::<4>::new();
+    assert_counts(&rt, &mut fixed, 0, 1);
+    change_two(&rt, &mut fixed, 3);
+    same_bytes(&rt, &end(&rt, fixed), &[9, 6, 5, 7]);
+}
+
+#[test]
+fn a_growing_vector_changes_held_bytes_alone(rt: HostRuntime) {
+    let mut grown = AllocVec::new(rt.alloc());
+    assert_counts(&rt, &mut grown, 0, 1);
+    change_two(&rt, &mut grown, 3);
+    same_bytes(&rt, &end(&rt, grown), &[9, 6, 5, 7]);
 }
 
 #[test]
 fn each_storage_counts_held_bytes(rt: HostRuntime) {
     let mut buffer = [0xAA; 5];
     assert_counts(&rt, &mut Slice::new(&mut buffer), 0, 1);
-    assert_counts(&rt, &mut HVec::<4>::new(), 0, 1);
-    assert_counts(&rt, &mut AllocVec::new(rt.alloc()), 0, 1);
     let mut grown = AllocVec::from_vec(vec_of(&rt, rt.alloc(), &[9, 8]));
     assert_counts(&rt, &mut grown, 2, 3);
-    let grown = grown.finalize().expect(&rt, "it never fails");
-    assert_eq!(rt; grown.as_slice(), [9, 8, 7].as_slice());
+    same_bytes(&rt, &end(&rt, grown), &[9, 8, 1]);
 }
 
 /// Writes 231 bytes 07 in three pieces, each of which is written again if it is refused.
-fn retried<F: Flavor + Drop>(rt: &impl Abort, flavor: F) -> Result<F::Output> {
+fn retried<F: Flavor + Drop>(rt: &impl Abort, flavor: F) -> F::Output {
     let mut flavor = flavor;
     for piece in [[7; 1].as_slice(), [7; 30].as_slice(), [7; 200].as_slice()] {
         if flavor.try_extend(piece).is_err() {
-            assert_eq!(rt; flavor.try_extend(piece), Ok(()));
+            assert!(rt; flavor.try_extend(piece).is_ok());
         }
     }
-    flavor.finalize()
+    end(rt, flavor)
 }
 
 // Also run with `rt try --test --fail-alloc N` for N from 1 on: then a piece is refused, and
 // nothing of it is left.
 #[test]
 fn a_piece_refused_for_want_of_memory_can_be_written_again(rt: HostRuntime) {
-    let grown = retried(&rt, AllocVec::new(rt.alloc())).expect(&rt, "it never fails");
-    assert_eq!(rt; grown.as_slice(), [7; 231].as_slice());
-    let target = ExtendFlavor::new(Vec::new(rt.alloc()));
-    let extended = retried(&rt, target).expect(&rt, "it never fails");
-    assert_eq!(rt; extended.as_slice(), [7; 231].as_slice());
+    let grown = retried(&rt, AllocVec::new(rt.alloc()));
+    same_bytes(&rt, &grown, &[7; 231]);
+    let extended = retried(&rt, ExtendFlavor::new(Vec::new(rt.alloc())));
+    same_bytes(&rt, &extended, &[7; 231]);
 }
 
 #[test]
 fn a_vector_extends(rt: HostRuntime) {
     let mut target = vec_of(&rt, rt.alloc(), &[1]);
-    assert_eq!(rt; ExtendBytes::extend(&mut target, &[2, 3]), Ok(()));
-    assert_eq!(rt; target.as_slice(), [1, 2, 3].as_slice());
+    same(&rt, ExtendBytes::extend(&mut target, &[2, 3]), Ok(()));
+    same_bytes(&rt, &target, &[1, 2, 3]);
 }
 
 #[test]
 fn a_slice_fills_from_the_front(rt: HostRuntime) {
     let mut buffer = [0xAA; 6];
     let mut slice = Slice::new(&mut buffer);
-    assert_eq!(rt; slice.try_push(0x03), Ok(()));
-    assert_eq!(rt; slice.try_extend(b"Hi!"), Ok(()));
-    let front: &[u8] = slice.finalize().expect(&rt, "it never fails");
-    assert_eq!(rt; front, [0x03, 0x48, 0x69, 0x21].as_slice());
+    assert_rows(&rt, &mut slice, &[(&[0x03], Ok(())), (b"Hi!", Ok(()))]);
+    let front: &[u8] = end(&rt, slice);
+    same_bytes(&rt, front, &[0x03, 0x48, 0x69, 0x21]);
 }
 
 #[test]
 fn a_slice_refuses_a_piece_whole(rt: HostRuntime) {
     let mut buffer = [0xAA; 3];
     let mut slice = Slice::new(&mut buffer);
-    assert_eq!(rt; slice.try_push(0x03), Ok(()));
-    assert_eq!(rt; slice.try_extend(b"Hi!"), Err(Error::SerializeBufferFull));
-    assert_eq!(rt; slice.try_extend(b"Hi"), Ok(()));
-    assert_eq!(rt; slice.try_push(0x21), Err(Error::SerializeBufferFull));
-    assert_eq!(rt; slice.try_extend(b""), Ok(()));
+    assert_rows(
+        &rt,
+        &mut slice,
+        &[
+            (&[0x03], Ok(())),
+            (b"Hi!", Err(Error::SerializeBufferFull)),
+            (b"Hi", Ok(())),
+            (&[0x21], Err(Error::SerializeBufferFull)),
+            (b"", Ok(())),
+        ],
+    );
     let (all, count) = slice.into_parts();
-    assert_eq!(rt; count, 3);
-    assert_eq!(rt; &*all, [0x03, 0x48, 0x69].as_slice());
+    same(&rt, count, 3);
+    same_bytes(&rt, all, &[0x03, 0x48, 0x69]);
 }
 
 #[test]
 fn a_slice_of_no_bytes_takes_nothing(rt: HostRuntime) {
     let mut none = [0; 0];
     let mut slice = Slice::new(&mut none);
-    assert_eq!(rt; slice.try_push(0x00), Err(Error::SerializeBufferFull));
-    assert_eq!(rt; slice.try_varint(0), Err(Error::SerializeBufferFull));
-    assert_eq!(rt; slice.try_extend(b"H"), Err(Error::SerializeBufferFull));
-    assert_eq!(rt; slice.try_extend(b""), Ok(()));
-    let front: &[u8] = slice.finalize().expect(&rt, "it never fails");
-    assert_eq!(rt; front.len(), 0);
+    same(&rt, slice.try_varint(0), Err(Error::SerializeBufferFull));
+    same(&rt, slice.try_extend(b"H"), Err(Error::SerializeBufferFull));
+    assert_rows(
+        &rt,
+        &mut slice,
+        &[(&[0x00], Err(Error::SerializeBufferFull)), (b"", Ok(()))],
+    );
+    let front: &[u8] = end(&rt, slice);
+    same_bytes(&rt, front, &[]);
 }
 
 #[test]
 fn a_fixed_vector_takes_a_piece_whole_or_not(rt: HostRuntime) {
     let mut vec = HVec::<4>::new();
-    assert_eq!(rt; vec.try_extend(&[1, 2]), Ok(()));
-    assert_eq!(rt; vec.try_extend(&[3, 4, 5]), Err(Error::SerializeBufferFull));
-    assert_eq!(rt; vec.held_len(), 2);
-    assert_eq!(rt; (vec[0], vec[1]), (1, 2));
-    assert_eq!(rt; vec.try_extend(&[3, 4]), Ok(()));
-    assert_eq!(rt; vec.try_push(5), Err(Error::SerializeBufferFull));
+    assert_rows(
+        &rt,
+        &mut vec,
+        &[
+            (&[1, 2], Ok(())),
+            (&[3, 4, 5], Err(Error::SerializeBufferFull)),
+        ],
+    );
+    same(&rt, vec.held_len(), 2);
+    same(&rt, (vec[0], vec[1]), (1, 2));
+    assert_rows(
+        &rt,
+        &mut vec,
+        &[(&[3, 4], Ok(())), (&[5], Err(Error::SerializeBufferFull))],
+    );
+    assert!(rt; vec.held_len() == 4);
     vec.set(1, 9);
-    let vec = vec.finalize().expect(&rt, "it never fails");
-    assert_eq!(rt; vec.as_slice(), [1, 9, 3, 4].as_slice());
+    same_bytes(&rt, &end(&rt, vec), &[1, 9, 3, 4]);
 }
 
 /// Has a flavor over this vector push a byte. Returns the vector that it has then.
 fn pushed(rt: &impl Abort, vec: Vec<u8>) -> Vec<u8> {
     let mut flavor = AllocVec::from_vec(vec);
-    assert_eq!(rt; flavor.try_push(7), Ok(()));
-    flavor.finalize().expect(rt, "it never fails")
+    assert!(rt; flavor.try_push(7).is_ok());
+    end(rt, flavor)
 }
 
 #[test]
@@ -195,7 +234,7 @@ fn a_vector_grows_seldom(rt: HostRuntime) {
             growths = growths.saturating_add(1);
         }
     }
-    assert_eq!(rt; vec.len(), 4000);
+    same(&rt, vec.len(), 4000);
     assert!(rt; growths <= 12, "{growths} times");
 }
 
@@ -238,8 +277,12 @@ impl Write for Fragile {
 /// Writes 03, then 48 69 21, and ends.
 fn hand<T: Write + Drop>(writer: T) -> Result<T> {
     let mut flavor = WriteFlavor::new(writer);
-    flavor.try_push(0x03)?;
-    flavor.try_extend(b"Hi!")?;
+    if let Err(error) = flavor.try_push(0x03) {
+        return Err(error);
+    }
+    if let Err(error) = flavor.try_extend(b"Hi!") {
+        return Err(error);
+    }
     flavor.finalize()
 }
 
@@ -261,9 +304,9 @@ fn assert_handed(
         flushed: false,
     };
     let flushed = error.is_none();
-    assert_eq!(rt; hand(&mut writer).err(), error, "at {fails_behind}");
-    assert_eq!(rt; writer.flushed, flushed, "at {fails_behind}");
-    assert_eq!(rt; writer.taken.as_slice(), want, "at {fails_behind}");
+    same(rt, hand(&mut writer).err(), error);
+    same(rt, writer.flushed, flushed);
+    same_bytes(rt, &writer.taken, want);
 }
 
 #[test]
@@ -301,9 +344,8 @@ fn memory_without_room_refuses(rt: HostRuntime) {
         (5, true, [0x03, 0x48, 0x69, 0x21, 0xAA]),
     ] {
         let mut memory = [0xAA; 5];
-        let answer = hand(&mut memory[..room]);
-        assert_eq!(rt; answer.is_ok(), succeeds, "at {room}");
-        assert_eq!(rt; memory, want, "at {room}");
+        same(&rt, hand(&mut memory[..room]).is_ok(), succeeds);
+        same_bytes(&rt, &memory, &want);
     }
 }
 
@@ -351,11 +393,17 @@ fn a_flavor_without_pieces_takes_them_byte_by_byte(rt: HostRuntime) {
     let mut flavor = Bytewise {
         inner: Slice::new(&mut buffer),
     };
-    assert_eq!(rt; flavor.try_extend(&[1, 0, 3]), Ok(()));
-    assert_eq!(rt; flavor.try_extend(&[4, 5]), Err(Error::SerializeBufferFull));
+    assert_rows(
+        &rt,
+        &mut flavor,
+        &[
+            (&[1, 0, 3], Ok(())),
+            (&[4, 5], Err(Error::SerializeBufferFull)),
+        ],
+    );
     let (all, count) = flavor.inner.into_parts();
-    assert_eq!(rt; count, 4);
-    assert_eq!(rt; &*all, [1, 0, 3, 4].as_slice());
+    same(&rt, count, 4);
+    same_bytes(&rt, all, &[1, 0, 3, 4]);
 }
 
 /// A user's flavor over two others: each piece goes to both, and its output is the two outputs.
@@ -426,16 +474,19 @@ fn a_user_writes_to_two_flavors(rt: HostRuntime) {
         first: Size::default(),
         second: HVec::<4>::new(),
     };
-    let (count, vec) = one_to_four(&rt, both).expect(&rt, "it fits");
-    assert_eq!(rt; count, 4);
-    assert_eq!(rt; vec.as_slice(), [1, 2, 3, 4].as_slice());
+    let (count, vec) = one_to_four(&rt, both);
+    same(&rt, count, 4);
+    same_bytes(&rt, &vec, &[1, 2, 3, 4]);
     let mut short = Both {
         first: AllocVec::new(rt.alloc()),
         second: HVec::<3>::new(),
     };
-    assert_eq!(rt; short.try_push(1), Ok(()));
-    assert_eq!(rt;
-        short.try_extend(&[2, 3, 4]),
-        Err(Error::SerializeBufferFull)
+    assert_rows(
+        &rt,
+        &mut short,
+        &[
+            (&[1], Ok(())),
+            (&[2, 3, 4], Err(Error::SerializeBufferFull)),
+        ],
     );
 }

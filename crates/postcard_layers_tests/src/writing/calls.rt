@@ -1,5 +1,6 @@
 //! Tests of each call of the serializer, with values whose bytes were worked out by hand.
 
+use crate::asserts::{same, same_bytes};
 use postcard_ser::{Serializer, serialize_variant};
 use postcard_ser_flavors::Slice;
 use postcard_wire::{Error, Result};
@@ -43,8 +44,8 @@ fn calls_for_leaves_and_parts(rt: HostRuntime) {
         0x01, 0x02, 0xC2, 0xA2, 0x00, 0x01, 0xAC, 0x02, 0xAC, 0x02, 0x07, 0x08, 0x09, 0x01, 0x01,
         0xAC, 0x02,
     ];
-    assert_eq!(rt; used, 17);
-    assert_eq!(rt; all.get(..used), want.get(..));
+    same(&rt, used, 17);
+    same(&rt, all.get(..used), want.get(..));
 }
 
 #[test]
@@ -69,8 +70,8 @@ fn calls_for_enums(rt: HostRuntime) {
         0xAC, 0x02, 0x01, 0xAC, 0x02, 0x02, 0x07, 0x08, 0xFF, 0xFF, 0xFF, 0xFF, 0x0F, 0x09, 0x80,
         0x01, 0x07,
     ];
-    assert_eq!(rt; used, 17);
-    assert_eq!(rt; all.get(..used), want.get(..));
+    same(&rt, used, 17);
+    same(&rt, all.get(..used), want.get(..));
 }
 
 #[test]
@@ -79,13 +80,14 @@ fn a_map_of_unknown_length(rt: HostRuntime) {
     let mut serializer = Serializer {
         output: Slice::new(&mut buffer),
     };
-    assert_eq!(rt;
+    same(
+        &rt,
         serializer.serialize_map(None),
-        Err(Error::SerializeSeqLengthUnknown)
+        Err(Error::SerializeSeqLengthUnknown),
     );
     let (all, used) = serializer.output.into_parts();
-    assert_eq!(rt; used, 0);
-    assert_eq!(rt; &*all, [0xAA, 0xAA].as_slice());
+    same(&rt, used, 0);
+    same_bytes(&rt, all, &[0xAA, 0xAA]);
 }
 
 #[test]
@@ -94,13 +96,14 @@ fn bytes_and_a_list_of_unknown_length(rt: HostRuntime) {
     let mut serializer = Serializer {
         output: Slice::new(&mut buffer),
     };
-    assert!(rt; !serializer.is_human_readable());
-    assert_eq!(rt; serializer.serialize_bytes(&[7, 0]), Ok(()));
-    assert_eq!(rt;
+    same(&rt, serializer.is_human_readable(), false);
+    same(&rt, serializer.serialize_bytes(&[7, 0]), Ok(()));
+    same(
+        &rt,
         serializer.serialize_seq(None),
-        Err(Error::SerializeSeqLengthUnknown)
+        Err(Error::SerializeSeqLengthUnknown),
     );
     let (all, used) = serializer.output.into_parts();
-    assert_eq!(rt; used, 3);
-    assert_eq!(rt; &*all, [0x02, 0x07, 0x00, 0xAA].as_slice());
+    same(&rt, used, 3);
+    same_bytes(&rt, all, &[0x02, 0x07, 0x00, 0xAA]);
 }

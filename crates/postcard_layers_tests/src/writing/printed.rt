@@ -8,6 +8,7 @@ ghost use Rattle.postcard_shape.specs.Shape.{via};
 ghost use Rattle.postcard_shape.specs.Refusing.{printed};
 
 use super::assert_written;
+use crate::asserts::same;
 use postcard_ser::{Serialize, Serializer};
 use postcard_ser_flavors::{Flavor, Slice};
 use postcard_shape::Shaped;
@@ -65,9 +66,9 @@ fn assert_collected<T: Display>(
     let mut serializer = Serializer {
         output: Slice::new(front),
     };
-    assert_eq!(rt; serializer.collect_str(value), answer);
+    same(rt, serializer.collect_str(value), answer);
     let (all, used) = serializer.output.into_parts();
-    assert_eq!(rt; all.get(..used), Some(want));
+    same(rt, all.get(..used), Some(want));
 }
 
 #[test]

@@ -1,6 +1,7 @@
 //! Tests of each type that is written, with values whose bytes were worked out by hand.
 
 use super::{Pieces, assert_written};
+use crate::asserts::{same, value};
 use arrayvec::{ArrayString, ArrayVec};
 use postcard_ser::{Serialize, Serializer};
 use postcard_ser_flavors::Slice;
@@ -145,8 +146,8 @@ fn options_and_results(rt: HostRuntime) {
 #[test]
 fn wrappers(rt: HostRuntime) {
     let mut number = 300u16;
-    let boxed = Box::new(rt.alloc(), 300u16).expect(&rt, "memory is left");
-    let shared = Rc::new(rt.alloc(), 300u16).expect(&rt, "memory is left");
+    let boxed = value(&rt, Box::new(rt.alloc(), 300u16));
+    let shared = value(&rt, Rc::new(rt.alloc(), 300u16));
     assert_written(&rt, &&number, &[0xAC, 0x02]);
     assert_written(&rt, &&mut number, &[0xAC, 0x02]);
     assert_written(&rt, &boxed, &[0xAC, 0x02]);
@@ -162,22 +163,16 @@ fn ranges(rt: HostRuntime) {
     assert_written(&rt, &(..300u16), &[0xAC, 0x02]);
 }
 
-/// Puts a pair into a map.
-fn insert(rt: &impl Abort, map: &mut BTreeMap<u8, u8>, key: u8, value: u8) {
-    let old: std::result::Result<_, _> = map.insert(key, value);
-    assert!(rt; old.is_ok());
-}
-
 #[test]
 fn maps(rt: HostRuntime) {
     let mut map: BTreeMap<u8, u8> = BTreeMap::new(rt.alloc());
     assert_written(&rt, &map, &[0x00]);
-    insert(&rt, &mut map, 2, 6);
-    insert(&rt, &mut map, 1, 5);
+    let _ = value(&rt, map.insert(2, 6));
+    let _ = value(&rt, map.insert(1, 5));
     assert_written(&rt, &map, &[0x02, 0x01, 0x05, 0x02, 0x06]);
     let mut map: BTreeMap<u8, u8> = BTreeMap::new(rt.alloc());
-    insert(&rt, &mut map, 1, 5);
-    insert(&rt, &mut map, 1, 6);
+    let _ = value(&rt, map.insert(1, 5));
+    let _ = value(&rt, map.insert(1, 6));
     assert_written(&rt, &map, &[0x01, 0x01, 0x06]);
 }
 
@@ -193,15 +188,9 @@ fn spans_of_time(rt: HostRuntime) {
 
 #[test]
 fn fixed_capacities(rt: HostRuntime) {
-    let numbers: ArrayVec<u16, 4> = ArrayVec::from_iter(rt.alloc(), [1u16, 300]).expect(
-        &rt,
-        "memory is left",
-    );
-    let bytes: ArrayVec<u8, 4> = ArrayVec::from_iter(rt.alloc(), [1u8, 2, 3, 4]).expect(
-        &rt,
-        "memory is left",
-    );
-    let text: ArrayString<6> = ArrayString::from("helLO!").expect(&rt, "it fits");
+    let numbers: ArrayVec<u16, 4> = value(&rt, ArrayVec::from_iter(rt.alloc(), [1u16, 300]));
+    let bytes: ArrayVec<u8, 4> = value(&rt, ArrayVec::from_iter(rt.alloc(), [1u8, 2, 3, 4]));
+    let text: ArrayString<6> = value(&rt, ArrayString::from("helLO!"));
     assert_written(&rt, &numbers, &[0x02, 0x01, 0xAC, 0x02]);
     assert_written(&rt, &bytes, &[0x04, 0x01, 0x02, 0x03, 0x04]);
     assert_written(&rt, &text, &[0x06, 0x68, 0x65, 0x6C, 0x4C, 0x4F, 0x21]);
@@ -223,15 +212,16 @@ fn written_in<T: Serialize>(value: &T, pieces: usize) -> Result<()> {
 
 #[test]
 fn bytes_go_as_one_piece(rt: HostRuntime) {
-    let list: ArrayVec<u8, 4> = ArrayVec::from_iter(rt.alloc(), [1u8, 2, 3, 4]).expect(
+    let list: ArrayVec<u8, 4> = value(&rt, ArrayVec::from_iter(rt.alloc(), [1u8, 2, 3, 4]));
+    same(&rt, written_in(&[1u8, 2, 3, 4], 1), Ok(()));
+    same(&rt, written_in(&[1u8, 2, 3, 4].as_slice(), 2), Ok(()));
+    let grown = value(&rt, vec![in rt.alloc(); 1u8, 2, 3, 4]);
+    same(&rt, written_in(&grown, 2), Ok(()));
+    same(&rt, written_in(&list, 2), Ok(()));
+    same(
         &rt,
-        "memory is left",
+        written_in(&[1u16, 2], 1),
+        Err(Error::SerializeBufferFull),
     );
-    assert_eq!(rt; written_in(&[1u8, 2, 3, 4], 1), Ok(()));
-    assert_eq!(rt; written_in(&[1u8, 2, 3, 4].as_slice(), 2), Ok(()));
-    let grown = vec![in rt.alloc(); 1u8, 2, 3, 4].expect(&rt, "memory is left");
-    assert_eq!(rt; written_in(&grown, 2), Ok(()));
-    assert_eq!(rt; written_in(&list, 2), Ok(()));
-    assert_eq!(rt; written_in(&[1u16, 2], 1), Err(Error::SerializeBufferFull));
-    assert_eq!(rt; written_in(&[1u16, 2], 2), Ok(()));
+    same(&rt, written_in(&[1u16, 2], 2), Ok(()));
 }
