@@ -1,8 +1,10 @@
-//! The texts and the names of the errors.
+//! The texts and the names of the errors, and what errors are made from.
 
-use super::*;
-use std::alloc::Global;
-use std::test::Fail;
+use crate::asserts::{same, same_bytes, value};
+use postcard_wire::{Error, Result};
+use std::alloc::{AllocError, Global};
+use std::error;
+use std::process::Abort;
 
 /// Each error with its name and its text: those of postcard 1.1.3, and last this port's own.
 fn table() -> [(Error, &'static str, &'static str); 17] {
@@ -91,44 +93,61 @@ fn table() -> [(Error, &'static str, &'static str); 17] {
     ]
 }
 
-#[test]
-fn prints_its_text_and_its_name(rt: HostRuntime) -> std::result::Result<(), Fail> {
-    for (error, name, text) in &table() {
-        assert_eq!(rt; error.to_string(rt.alloc())?.as_str(), *text);
-        assert_eq!(rt; format!(in rt.alloc(); "{error:?}")?.as_str(), *name);
-    }
-    Ok(())
+/// Returns what an error prints, by the standard library's trait of errors.
+fn text_of<E: error::Error>(rt: &impl Abort, alloc: Global, error: &E) -> String {
+    value(rt, error.to_string(alloc))
+}
+
+/// Returns what an error prints for programmers.
+fn name_of(rt: &impl Abort, alloc: Global, error: &Error) -> String {
+    value(rt, format!(in alloc; "{error:?}"))
 }
 
 #[test]
-fn equals_its_clone_alone(rt: HostRuntime) -> std::result::Result<(), Fail> {
-    for (i, (error, ..)) in table().iter().enumerate() {
-        let copy = error.clone()?;
-        for (j, (other, name, _)) in table().iter().enumerate() {
-            assert_eq!(rt; copy == *other, i == j, "at {name}");
-        }
+fn prints_its_text_and_its_name(rt: HostRuntime) {
+    for (error, name, text) in &table() {
+        same_bytes(
+            &rt,
+            text_of(&rt, rt.alloc(), error).as_bytes(),
+            text.as_bytes(),
+        );
+        same_bytes(
+            &rt,
+            name_of(&rt, rt.alloc(), error).as_bytes(),
+            name.as_bytes(),
+        );
     }
-    Ok(())
+}
+
+/// Asserts that the error at this place of the table, or its clone, equals no other of the table.
+fn assert_single(rt: &impl Abort, place: usize, error: &Error) {
+    let copy = value(rt, error.clone());
+    for (i, (other, name, _)) in table().iter().enumerate() {
+        assert_eq!(rt; copy == *other, i == place, "at {name}");
+    }
+}
+
+#[test]
+fn equals_its_clone_alone(rt: HostRuntime) {
+    for (i, (error, ..)) in table().iter().enumerate() {
+        assert_single(&rt, i, error);
+    }
 }
 
 #[test]
 fn is_made_of_any_message(rt: HostRuntime) {
-    assert_eq!(rt; Error::ser_custom("no such colour"), Error::SerdeSerCustom);
-    assert_eq!(rt; Error::ser_custom(7u8), Error::SerdeSerCustom);
-    assert_eq!(rt; Error::de_custom("no such colour"), Error::SerdeDeCustom);
-    assert_eq!(rt; Error::de_custom(7u8), Error::SerdeDeCustom);
-}
-
-/// Returns what an error prints, by the standard library's trait of errors.
-fn text_of<E: error::Error>(rt: &HostRuntime, error: &E) -> std::result::Result<String, Fail> {
-    Ok(error.to_string(rt.alloc())?)
-}
-
-#[test]
-fn is_an_error_of_std(rt: HostRuntime) -> std::result::Result<(), Fail> {
-    let text = text_of(&rt, &Error::DeserializeBadUtf8)?;
-    assert_eq!(rt; text.as_str(), "Tried to parse invalid utf-8");
-    Ok(())
+    same(
+        &rt,
+        Error::ser_custom("no such colour"),
+        Error::SerdeSerCustom,
+    );
+    same(&rt, Error::ser_custom(7u8), Error::SerdeSerCustom);
+    same(
+        &rt,
+        Error::de_custom("no such colour"),
+        Error::SerdeDeCustom,
+    );
+    same(&rt, Error::de_custom(7u8), Error::SerdeDeCustom);
 }
 
 /// Allocates as a reader of a user's type does, with `?` alone.
@@ -140,14 +159,13 @@ fn grown(alloc: Global) -> Result<(String, Vec<u8>)> {
 }
 
 #[test]
-fn is_made_of_a_refused_allocation(rt: HostRuntime) -> std::result::Result<(), Fail> {
-    assert_eq!(rt; Error::from(AllocError), Error::OutOfMemory);
+fn is_made_of_a_refused_allocation(rt: HostRuntime) {
+    same(&rt, Error::from(AllocError), Error::OutOfMemory);
     match grown(rt.alloc()) {
         Ok((text, items)) => {
-            assert_eq!(rt; text.as_str(), "Hi!");
-            assert_eq!(rt; items.as_slice(), [7].as_slice());
+            same_bytes(&rt, text.as_bytes(), b"Hi!");
+            same_bytes(&rt, &items, &[7]);
         }
-        Err(error) => assert_eq!(rt; error, Error::OutOfMemory),
+        Err(error) => same(&rt, error, Error::OutOfMemory),
     }
-    Ok(())
 }

@@ -1,15 +1,14 @@
-//! The fast calls against those by division over edges and samples of each width, and both against
-//! vectors worked out by hand.
+//! Numbers and characters of the wire: the fast calls against those by division over edges and
+//! samples of each width, and both against vectors worked out by hand.
 
 ghost use Rattle.postcard_wire.specs.Tree.{IsWidth};
+ghost use Rattle.std.specs.Prelude.{◌<◌, ◌≤◌, ◌^◌, length};
 
-use crate::digits::Digits;
-use crate::error::{Error, Result};
-use crate::{division, text, varint, zigzag};
-use std::alloc::{AllocError, Global};
-use std::test::Fail;
-
-type Tested = std::result::Result<(), Fail>;
+use crate::asserts::{same, same_bytes, value};
+use postcard_wire::digits::Digits;
+use postcard_wire::{Error, Result, division, text, varint, zigzag};
+use std::alloc::Global;
+use std::process::Abort;
 
 /// Reads a number of `bits` bits from the front of `bytes`. Returns it with its count of bytes.
 fn read(bits: u32, bytes: &[u8]) -> Result<(u128, usize)>
@@ -17,290 +16,334 @@ fn read(bits: u32, bytes: &[u8]) -> Result<(u128, usize)>
 {
     let mut digits = Digits::new();
     for (i, byte) in bytes.iter().enumerate() {
-        if let Some(n) = digits.push(bits, *byte)? {
-            return Ok((n, i + 1));
+        match digits.push(bits, *byte) {
+            Ok(Some(n)) => return Ok((n, i + 1)),
+            Ok(None) => {}
+            Err(error) => return Err(error),
         }
     }
     Err(Error::DeserializeUnexpectedEnd)
 }
 
-/// Returns numbers of 128 bits: each power of two with its neighbours, so each power of 128 too,
-/// the greatest number, and 300 of a multiplicative generator. Modulo the power of two of a width
-/// they are edges and samples of that width.
-fn numbers(alloc: Global) -> std::result::Result<Vec<u128>, AllocError> {
-    let mut numbers = Vec::new(alloc);
+/// Asserts that `written` is the shortest spelling of a number, and is read as that number.
+fn assert_digits(rt: &impl Abort, alloc: Global, bits: u32, n: u128, written: &[u8])
+    requires width { IsWidth bits }
+    requires fits { n < 2 ^ bits }
+{
+    same_bytes(rt, written, &value(rt, division::spell(alloc, bits, n)));
+    same(rt, read(bits, written), Ok((n, written.len())));
+}
+
+/// Asserts that `n` unfolded is its signed number, and that `folded`, which is this folded again,
+/// is `n`.
+fn assert_folds(rt: &impl Abort, unfolded: i128, folded: u128, n: u128) {
+    same(rt, (unfolded, folded), (division::de_zig_zag(n), n));
+}
+
+/// Asserts that `signed` folded is its encoding, and that `unfolded`, which is this unfolded again,
+/// is `signed`.
+fn assert_unfolds(rt: &impl Abort, folded: u128, unfolded: i128, signed: i128) {
+    same(rt, (unfolded, folded), (signed, division::zig_zag(signed)));
+}
+
+fn compare_16(rt: &impl Abort, alloc: Global, number: u128) {
+    let n = (number & 0xFFFF) as u16;
+    assert_digits(
+        rt,
+        alloc,
+        16,
+        n.into(),
+        varint::varint_u16(n, &mut [0; varint::VARINT_MAX_16]),
+    );
+    let unfolded = zigzag::de_zig_zag_i16(n);
+    let folded = zigzag::zig_zag_i16(unfolded);
+    assert_folds(rt, unfolded.into(), folded.into(), n.into());
+    let signed = n.cast_signed();
+    let folded = zigzag::zig_zag_i16(signed);
+    let unfolded = zigzag::de_zig_zag_i16(folded);
+    assert_unfolds(rt, folded.into(), unfolded.into(), signed.into());
+}
+
+fn compare_32(rt: &impl Abort, alloc: Global, number: u128) {
+    let n = (number & 0xFFFF_FFFF) as u32;
+    assert_digits(
+        rt,
+        alloc,
+        32,
+        n.into(),
+        varint::varint_u32(n, &mut [0; varint::VARINT_MAX_32]),
+    );
+    let unfolded = zigzag::de_zig_zag_i32(n);
+    let folded = zigzag::zig_zag_i32(unfolded);
+    assert_folds(rt, unfolded.into(), folded.into(), n.into());
+    let signed = n.cast_signed();
+    let folded = zigzag::zig_zag_i32(signed);
+    let unfolded = zigzag::de_zig_zag_i32(folded);
+    assert_unfolds(rt, folded.into(), unfolded.into(), signed.into());
+}
+
+fn compare_64(rt: &impl Abort, alloc: Global, number: u128) {
+    let n = (number & 0xFFFF_FFFF_FFFF_FFFF) as u64;
+    assert_digits(
+        rt,
+        alloc,
+        64,
+        n.into(),
+        varint::varint_u64(n, &mut [0; varint::VARINT_MAX_64]),
+    );
+    let unfolded = zigzag::de_zig_zag_i64(n);
+    let folded = zigzag::zig_zag_i64(unfolded);
+    assert_folds(rt, unfolded.into(), folded.into(), n.into());
+    let signed = n.cast_signed();
+    let folded = zigzag::zig_zag_i64(signed);
+    let unfolded = zigzag::de_zig_zag_i64(folded);
+    assert_unfolds(rt, folded.into(), unfolded.into(), signed.into());
+}
+
+fn compare_128(rt: &impl Abort, alloc: Global, n: u128) {
+    assert_digits(
+        rt,
+        alloc,
+        128,
+        n,
+        varint::varint_u128(n, &mut [0; varint::VARINT_MAX_128]),
+    );
+    let unfolded = zigzag::de_zig_zag_i128(n);
+    let folded = zigzag::zig_zag_i128(unfolded);
+    assert_folds(rt, unfolded, folded, n);
+    let signed = n.cast_signed();
+    let folded = zigzag::zig_zag_i128(signed);
+    let unfolded = zigzag::de_zig_zag_i128(folded);
+    assert_unfolds(rt, folded, unfolded, signed);
+}
+
+fn compare_length(rt: &impl Abort, alloc: Global, number: u128) {
+    let n = (number & 0xFFFF_FFFF_FFFF_FFFF) as usize;
+    assert_digits(
+        rt,
+        alloc,
+        64,
+        n as u128,
+        varint::varint_usize(n, &mut [0; varint::VARINT_MAX_64]),
+    );
+}
+
+/// Compares the calls of each width with those by division, for the number modulo the power of two
+/// of that width. A length is written as a number of 64 bits.
+fn compare(rt: &impl Abort, alloc: Global, number: u128) {
+    compare_16(rt, alloc, number);
+    compare_32(rt, alloc, number);
+    compare_64(rt, alloc, number);
+    compare_128(rt, alloc, number);
+    compare_length(rt, alloc, number);
+}
+
+/// Each power of two with its neighbours, so each power of 128 too, and the greatest number of each
+/// width.
+#[test]
+fn agrees_with_division_at_edges(rt: HostRuntime) {
     let mut power = 1u128;
     for _ in 0..129 {
-        numbers.extend_from_slice(&[power.wrapping_sub(1), power, power.wrapping_add(1)])?;
+        compare(&rt, rt.alloc(), power.wrapping_sub(1));
+        compare(&rt, rt.alloc(), power);
+        compare(&rt, rt.alloc(), power.wrapping_add(1));
         power = power.wrapping_mul(2);
     }
+}
+
+/// 300 numbers of a multiplicative generator.
+#[test]
+fn agrees_with_division_at_samples(rt: HostRuntime) {
     let mut sample = 1u128;
     for _ in 0..300 {
         sample = sample.wrapping_mul(0x2360_ED05_1FC6_5DA4_4385_DF64_9FCC_F645);
-        numbers.push(sample)?;
+        compare(&rt, rt.alloc(), sample);
     }
-    Ok(numbers)
-}
-
-/// Compares what is written, read and folded of one number of a width.
-macro_rules! compare {
-    (
-        $rt:ident, $bits:literal, $n:ident, $varint:path, $most:path, $zig_zag:path,
-        $de_zig_zag:path
-    ) => {{
-        let spelling = division::spell($rt.alloc(), $bits, u128::from($n))?;
-        let mut buffer = [0; $most];
-        let written: &[u8] = $varint($n, &mut buffer);
-        assert_eq!($rt; written, spelling.as_slice(), "the digits of {}", $n);
-        let whole = Ok((u128::from($n), written.len()));
-        assert_eq!($rt; read($bits, written), whole, "{} read again", $n);
-        let signed = $de_zig_zag($n);
-        let want = division::de_zig_zag(u128::from($n));
-        assert_eq!($rt; i128::from(signed), want, "the sign of {}", $n);
-        assert_eq!($rt; $zig_zag(signed), $n);
-        let signed = $n.cast_signed();
-        let folded = $zig_zag(signed);
-        let want = division::zig_zag(i128::from(signed));
-        assert_eq!($rt; u128::from(folded), want, "{signed} folded");
-        assert_eq!($rt; $de_zig_zag(folded), signed);
-    }};
-}
-
-#[test]
-fn agrees_with_division_at_16_bits(rt: HostRuntime) -> Tested {
-    for number in numbers(rt.alloc())?.iter() {
-        let n = (*number & 0xFFFF) as u16;
-        compare!(
-            rt,
-            16,
-            n,
-            varint::varint_u16,
-            varint::VARINT_MAX_16,
-            zigzag::zig_zag_i16,
-            zigzag::de_zig_zag_i16
-        );
-    }
-    Ok(())
-}
-
-#[test]
-fn agrees_with_division_at_32_bits(rt: HostRuntime) -> Tested {
-    for number in numbers(rt.alloc())?.iter() {
-        let n = (*number & 0xFFFF_FFFF) as u32;
-        compare!(
-            rt,
-            32,
-            n,
-            varint::varint_u32,
-            varint::VARINT_MAX_32,
-            zigzag::zig_zag_i32,
-            zigzag::de_zig_zag_i32
-        );
-    }
-    Ok(())
-}
-
-#[test]
-fn agrees_with_division_at_64_bits(rt: HostRuntime) -> Tested {
-    for number in numbers(rt.alloc())?.iter() {
-        let n = (*number & 0xFFFF_FFFF_FFFF_FFFF) as u64;
-        compare!(
-            rt,
-            64,
-            n,
-            varint::varint_u64,
-            varint::VARINT_MAX_64,
-            zigzag::zig_zag_i64,
-            zigzag::de_zig_zag_i64
-        );
-    }
-    Ok(())
-}
-
-#[test]
-fn agrees_with_division_at_128_bits(rt: HostRuntime) -> Tested {
-    for number in numbers(rt.alloc())?.iter() {
-        let n = *number;
-        compare!(
-            rt,
-            128,
-            n,
-            varint::varint_u128,
-            varint::VARINT_MAX_128,
-            zigzag::zig_zag_i128,
-            zigzag::de_zig_zag_i128
-        );
-    }
-    Ok(())
-}
-
-#[test]
-fn writes_a_length_as_64_bits(rt: HostRuntime) -> Tested {
-    for number in numbers(rt.alloc())?.iter() {
-        let n = (*number & 0xFFFF_FFFF_FFFF_FFFF) as usize;
-        let spelling = division::spell(rt.alloc(), 64, n as u128)?;
-        let mut buffer = [0; varint::VARINT_MAX_64];
-        let written: &[u8] = varint::varint_usize(n, &mut buffer);
-        assert_eq!(rt; written, spelling.as_slice(), "the digits of {n}");
-    }
-    Ok(())
 }
 
 #[test]
 fn writes_the_vectors(rt: HostRuntime) {
-    let mut buffer = [0; varint::VARINT_MAX_16];
-    let written: &[u8] = varint::varint_u16(0xA5C7, &mut buffer);
-    assert_eq!(rt; written, [0xC7, 0xCB, 0x02].as_slice());
-    let mut buffer = [0; varint::VARINT_MAX_32];
-    let written: &[u8] = varint::varint_u32(0xCDAB_3412, &mut buffer);
-    assert_eq!(rt; written, [0x92, 0xE8, 0xAC, 0xED, 0x0C].as_slice());
-    let mut buffer = [0; varint::VARINT_MAX_64];
-    let written: &[u8] = varint::varint_u64(0x1234_5678_90AB_CDEF, &mut buffer);
-    assert_eq!(rt;
-        written,
-        [0xEF, 0x9B, 0xAF, 0x85, 0x89, 0xCF, 0x95, 0x9A, 0x12].as_slice()
+    same_bytes(
+        &rt,
+        varint::varint_u16(0xA5C7, &mut [0; varint::VARINT_MAX_16]),
+        &[0xC7, 0xCB, 0x02],
     );
-    let mut buffer = [0; varint::VARINT_MAX_128];
-    let written: &[u8] = varint::varint_u128(
-        0x1234_5678_90AB_CDEF_1234_5678_90AB_CDEF,
-        &mut buffer,
+    same_bytes(
+        &rt,
+        varint::varint_u32(0xCDAB_3412, &mut [0; varint::VARINT_MAX_32]),
+        &[0x92, 0xE8, 0xAC, 0xED, 0x0C],
     );
-    assert_eq!(rt;
-        written,
-        [
-            0xEF, 0x9B, 0xAF, 0x85, 0x89, 0xCF, 0x95, 0x9A, 0x92, 0xDE, 0xB7, 0xDE, 0x8A, 0x92,
-            0x9E, 0xAB, 0xB4, 0x24,
-        ]
-        .as_slice()
+    let want = [0xEF, 0x9B, 0xAF, 0x85, 0x89, 0xCF, 0x95, 0x9A, 0x12];
+    same_bytes(
+        &rt,
+        varint::varint_u64(0x1234_5678_90AB_CDEF, &mut [0; varint::VARINT_MAX_64]),
+        &want,
     );
-    let mut buffer = [0; varint::VARINT_MAX_64];
-    let written: &[u8] = varint::varint_usize(usize::MAX, &mut buffer);
-    assert_eq!(rt;
-        written,
-        [0xFF, 0xFF, 0xFF, 0xFF, 0xFF, 0xFF, 0xFF, 0xFF, 0xFF, 0x01].as_slice()
+    let want = [
+        0xEF, 0x9B, 0xAF, 0x85, 0x89, 0xCF, 0x95, 0x9A, 0x92, 0xDE, 0xB7, 0xDE, 0x8A, 0x92, 0x9E,
+        0xAB, 0xB4, 0x24,
+    ];
+    same_bytes(
+        &rt,
+        varint::varint_u128(
+            0x1234_5678_90AB_CDEF_1234_5678_90AB_CDEF,
+            &mut [0; varint::VARINT_MAX_128],
+        ),
+        &want,
     );
-    let mut buffer = [0; varint::VARINT_MAX_64];
-    let written: &[u8] = varint::varint_usize(1, &mut buffer);
-    assert_eq!(rt; written, [0x01].as_slice());
+    let want = [0xFF, 0xFF, 0xFF, 0xFF, 0xFF, 0xFF, 0xFF, 0xFF, 0xFF, 0x01];
+    same_bytes(
+        &rt,
+        varint::varint_usize(usize::MAX, &mut [0; varint::VARINT_MAX_64]),
+        &want,
+    );
+    same_bytes(
+        &rt,
+        varint::varint_usize(1, &mut [0; varint::VARINT_MAX_64]),
+        &[0x01],
+    );
+}
+
+/// Asserts the number of bytes of the greatest number of a width, and the last of them.
+fn assert_ends(rt: &impl Abort, written: &[u8], count: usize, last: u8) {
+    same(
+        rt,
+        (written.len(), written.last().copied()),
+        (count, Some(last)),
+    );
 }
 
 /// The greatest number of each width has the most bytes, and the greatest last byte.
 #[test]
 fn has_its_most_bytes_at_the_greatest(rt: HostRuntime) {
-    let mut buffer = [0; varint::VARINT_MAX_16];
-    let written: &[u8] = varint::varint_u16(u16::MAX, &mut buffer);
-    assert_eq!(rt; written.len(), 3);
-    assert_eq!(rt; written.last().copied(), Some(varint::MAX_OF_LAST_BYTE_16));
-    let mut buffer = [0; varint::VARINT_MAX_32];
-    let written: &[u8] = varint::varint_u32(u32::MAX, &mut buffer);
-    assert_eq!(rt; written.len(), 5);
-    assert_eq!(rt; written.last().copied(), Some(varint::MAX_OF_LAST_BYTE_32));
-    let mut buffer = [0; varint::VARINT_MAX_64];
-    let written: &[u8] = varint::varint_u64(u64::MAX, &mut buffer);
-    assert_eq!(rt; written.len(), 10);
-    assert_eq!(rt; written.last().copied(), Some(varint::MAX_OF_LAST_BYTE_64));
-    let mut buffer = [0; varint::VARINT_MAX_128];
-    let written: &[u8] = varint::varint_u128(u128::MAX, &mut buffer);
-    assert_eq!(rt; written.len(), 19);
-    assert_eq!(rt; written.last().copied(), Some(varint::MAX_OF_LAST_BYTE_128));
+    assert_ends(
+        &rt,
+        varint::varint_u16(u16::MAX, &mut [0; varint::VARINT_MAX_16]),
+        3,
+        varint::MAX_OF_LAST_BYTE_16,
+    );
+    assert_ends(
+        &rt,
+        varint::varint_u32(u32::MAX, &mut [0; varint::VARINT_MAX_32]),
+        5,
+        varint::MAX_OF_LAST_BYTE_32,
+    );
+    assert_ends(
+        &rt,
+        varint::varint_u64(u64::MAX, &mut [0; varint::VARINT_MAX_64]),
+        10,
+        varint::MAX_OF_LAST_BYTE_64,
+    );
+    assert_ends(
+        &rt,
+        varint::varint_u128(u128::MAX, &mut [0; varint::VARINT_MAX_128]),
+        19,
+        varint::MAX_OF_LAST_BYTE_128,
+    );
+}
+
+/// Asserts what is read from the front of these bytes.
+fn assert_read(rt: &impl Abort, bits: u32, bytes: &[u8], want: Result<(u128, usize)>)
+    requires { IsWidth bits }
+{
+    same(rt, read(bits, bytes), want);
 }
 
 #[test]
 fn reads_padded_numbers(rt: HostRuntime) {
-    assert_eq!(rt; read(16, &[0x80, 0x00]), Ok((0, 2)));
-    assert_eq!(rt; read(16, &[0x80, 0x80, 0x00, 0x07]), Ok((0, 3)));
-    assert_eq!(rt;
-        read(32, &[0xFF, 0xFF, 0xFF, 0xFF, 0x0F]),
-        Ok((0xFFFF_FFFF, 5))
+    assert_read(&rt, 16, &[0x80, 0x00], Ok((0, 2)));
+    assert_read(&rt, 16, &[0x80, 0x80, 0x00, 0x07], Ok((0, 3)));
+    assert_read(
+        &rt,
+        32,
+        &[0xFF, 0xFF, 0xFF, 0xFF, 0x0F],
+        Ok((0xFFFF_FFFF, 5)),
+    );
+}
+
+/// A full length is refused if its last byte exceeds the greatest of its width or says that another
+/// follows.
+#[test]
+fn refuses_numbers_past_the_width(rt: HostRuntime) {
+    assert_read(
+        &rt,
+        16,
+        &[0x80, 0x80, 0x04],
+        Err(Error::DeserializeBadVarint),
+    );
+    assert_read(
+        &rt,
+        16,
+        &[0x80, 0x80, 0x80, 0x00],
+        Err(Error::DeserializeBadVarint),
+    );
+    assert_read(
+        &rt,
+        32,
+        &[0xFF, 0xFF, 0xFF, 0xFF, 0x1F],
+        Err(Error::DeserializeBadVarint),
+    );
+    assert_read(
+        &rt,
+        32,
+        &[0xFF, 0xFF, 0xFF, 0xFF, 0xFF, 0x01],
+        Err(Error::DeserializeBadVarint),
+    );
+    let mut bytes = [0x80; varint::VARINT_MAX_64];
+    assert_read(&rt, 64, &bytes, Err(Error::DeserializeBadVarint));
+    bytes[9] = varint::MAX_OF_LAST_BYTE_64 + 1;
+    assert_read(&rt, 64, &bytes, Err(Error::DeserializeBadVarint));
+    let mut bytes = [0x80; varint::VARINT_MAX_128];
+    assert_read(&rt, 128, &bytes, Err(Error::DeserializeBadVarint));
+    bytes[18] = varint::MAX_OF_LAST_BYTE_128 + 1;
+    assert_read(&rt, 128, &bytes, Err(Error::DeserializeBadVarint));
+}
+
+#[test]
+fn refuses_numbers_that_do_not_end(rt: HostRuntime) {
+    assert_read(&rt, 32, &[], Err(Error::DeserializeUnexpectedEnd));
+    assert_read(
+        &rt,
+        32,
+        &[0xFF, 0xFF, 0xFF, 0xFF],
+        Err(Error::DeserializeUnexpectedEnd),
     );
 }
 
 #[test]
-fn refuses_numbers_past_the_width(rt: HostRuntime) {
-    for bytes in [
-        [0x80, 0x80, 0x04].as_slice(),
-        [0x80, 0x80, 0x80, 0x00].as_slice(),
-    ] {
-        assert_eq!(rt;
-            read(16, bytes),
-            Err(Error::DeserializeBadVarint),
-            "{bytes:?}"
-        );
-    }
-    for bytes in [
-        [0xFF, 0xFF, 0xFF, 0xFF, 0x1F].as_slice(),
-        [0xFF, 0xFF, 0xFF, 0xFF, 0xFF, 0x01].as_slice(),
-    ] {
-        assert_eq!(rt;
-            read(32, bytes),
-            Err(Error::DeserializeBadVarint),
-            "{bytes:?}"
-        );
-    }
-    for bytes in [[].as_slice(), [0xFF, 0xFF, 0xFF, 0xFF].as_slice()] {
-        assert_eq!(rt;
-            read(32, bytes),
-            Err(Error::DeserializeUnexpectedEnd),
-            "{bytes:?}"
-        );
-    }
-}
-
-/// A full length of 64 or 128 bits is refused if its last byte exceeds the greatest or goes on.
-#[test]
-fn refuses_a_great_last_byte(rt: HostRuntime) {
-    for last in [varint::MAX_OF_LAST_BYTE_64 + 1, 0x80] {
-        let mut bytes = [0x80; varint::VARINT_MAX_64];
-        bytes[9] = last;
-        assert_eq!(rt;
-            read(64, &bytes),
-            Err(Error::DeserializeBadVarint),
-            "{last}"
-        );
-    }
-    for last in [varint::MAX_OF_LAST_BYTE_128 + 1, 0x80] {
-        let mut bytes = [0x80; varint::VARINT_MAX_128];
-        bytes[18] = last;
-        assert_eq!(rt;
-            read(128, &bytes),
-            Err(Error::DeserializeBadVarint),
-            "{last}"
-        );
-    }
-}
-
-#[test]
 fn folds_the_vectors(rt: HostRuntime) {
-    for (z, n) in [
-        (0, 0),
-        (-1, 1),
-        (1, 2),
-        (-2, 3),
-        (i16::MAX, 0xFFFE),
-        (i16::MIN, 0xFFFF),
+    for (folded, want) in [
+        (zigzag::zig_zag_i16(0).into(), 0),
+        (zigzag::zig_zag_i16(-1).into(), 1),
+        (zigzag::zig_zag_i16(1).into(), 2),
+        (zigzag::zig_zag_i16(-2).into(), 3),
+        (zigzag::zig_zag_i16(i16::MAX).into(), 0xFFFE),
+        (zigzag::zig_zag_i16(i16::MIN).into(), 0xFFFF),
+        (zigzag::zig_zag_i32(i32::MIN).into(), u128::from(u32::MAX)),
+        (zigzag::zig_zag_i64(i64::MIN).into(), u128::from(u64::MAX)),
+        (zigzag::zig_zag_i128(i128::MIN), u128::MAX),
+        (division::zig_zag(i128::MIN), u128::MAX),
     ] {
-        assert_eq!(rt; zigzag::zig_zag_i16(z), n, "{z}");
+        same(&rt, folded, want);
     }
-    assert_eq!(rt; zigzag::zig_zag_i32(i32::MIN), u32::MAX);
-    assert_eq!(rt; zigzag::zig_zag_i64(i64::MIN), u64::MAX);
-    assert_eq!(rt; zigzag::zig_zag_i128(i128::MIN), u128::MAX);
-    assert_eq!(rt; division::zig_zag(i128::MIN), u128::MAX);
-    assert_eq!(rt; division::de_zig_zag(u128::MAX), i128::MIN);
+    same(&rt, division::de_zig_zag(u128::MAX), i128::MIN);
+}
+
+/// Asserts which character a text of at most four bytes begins with.
+fn assert_first(rt: &impl Abort, bytes: &[u8], want: Result<char>)
+    requires { length bytes.now ≤ 4 }
+{
+    same(rt, text::first_char(bytes), want);
 }
 
 #[test]
 fn takes_the_first_character(rt: HostRuntime) {
-    for (bytes, wanted) in [
-        (b"z".as_slice(), Ok('z')),
-        (b"ab".as_slice(), Ok('a')),
-        ([0xC2, 0xA2].as_slice(), Ok('¢')),
-        ([0xF0, 0x90, 0x8D, 0x88].as_slice(), Ok('𐍈')),
-        ([0xC2, 0xA2, 0x61].as_slice(), Ok('¢')),
-        (b"".as_slice(), Err(Error::DeserializeBadChar)),
-        ([0xC3].as_slice(), Err(Error::DeserializeBadChar)),
-        ([0x61, 0xC3].as_slice(), Err(Error::DeserializeBadChar)),
-    ] {
-        assert!(rt; bytes.len() <= 4);
-        assert_eq!(rt; text::first_char(bytes), wanted);
-    }
+    assert_first(&rt, b"z", Ok('z'));
+    assert_first(&rt, b"ab", Ok('a'));
+    assert_first(&rt, &[0xC2, 0xA2], Ok('¢'));
+    assert_first(&rt, &[0xF0, 0x90, 0x8D, 0x88], Ok('𐍈'));
+    assert_first(&rt, &[0xC2, 0xA2, 0x61], Ok('¢'));
+    assert_first(&rt, b"", Err(Error::DeserializeBadChar));
+    assert_first(&rt, &[0xC3], Err(Error::DeserializeBadChar));
+    assert_first(&rt, &[0x61, 0xC3], Err(Error::DeserializeBadChar));
 }

@@ -1,0 +1,20 @@
+//! What the tests assert with. A test is proved like any function, and each kind of assertion in it
+//! takes a while; so an assertion is made here once, for all types.
+
+use std::fmt::Debug;
+use std::process::Abort;
+
+/// Asserts that a value is the wanted one.
+pub(crate) fn same<T: PartialEq + Debug + Drop>(rt: &impl Abort, value: T, want: T) {
+    assert_eq!(rt; value, want);
+}
+
+/// Asserts that these are the wanted bytes.
+pub(crate) fn same_bytes(rt: &impl Abort, bytes: &[u8], want: &[u8]) {
+    assert_eq!(rt; bytes, want);
+}
+
+/// Returns the value of a call that is to succeed.
+pub(crate) fn value<T: Drop, E: Debug + Drop>(rt: &impl Abort, answer: Result<T, E>) -> T {
+    answer.expect(rt, "the call succeeds")
+}

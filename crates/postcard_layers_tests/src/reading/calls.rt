@@ -1,0 +1,97 @@
+//! Each call of the deserializer and of what it returns for values with parts, and laws.
+
+use crate::asserts::{same, same_bytes, value};
+use postcard_de::laws::{one_message, read_again};
+use postcard_de::{Deserialize, Deserializer, Error};
+use postcard_de_flavors::Slice;
+
+#[test]
+fn counts_elements(rt: HostRuntime) {
+    let alloc = rt.alloc();
+    let mut few = Deserializer::from_bytes(&[0x03, 0x01, 0x02]);
+    let access = value(&rt, few.deserialize_seq());
+    same(&rt, access.size_hint(&few), None);
+
+    let mut all = Deserializer::from_flavor(Slice::new(&[0x03, 0x01, 0x02, 0x03]));
+    let mut access = value(&rt, all.deserialize_seq());
+    same(&rt, access.size_hint(&all), Some(3));
+    same(
+        &rt,
+        access.next_element::<u8, _>(alloc, &mut all),
+        Ok(Some(1)),
+    );
+    same(&rt, access.size_hint(&all), Some(2));
+    same(&rt, all.is_human_readable(), false);
+    same_bytes(&rt, value(&rt, all.finalize()), &[0x02, 0x03]);
+}
+
+#[test]
+fn has_no_elements_after_one_that_ends_early(rt: HostRuntime) {
+    let alloc = rt.alloc();
+    let mut ends = Deserializer::from_bytes(&[0x02, 0x01, 0x80]);
+    let mut access = value(&rt, ends.deserialize_seq());
+    for want in [
+        Ok(Some(1u16)),
+        Err(Error::DeserializeUnexpectedEnd),
+        Ok(None),
+    ] {
+        same(&rt, access.next_element(alloc, &mut ends), want);
+    }
+}
+
+#[test]
+fn takes_just_the_front(rt: HostRuntime) {
+    one_message::<u16>();
+    read_again::<u16>();
+    let mut d = Deserializer::from_bytes(&[0xAC, 0x02, 0x99]);
+    same(&rt, u16::deserialize(rt.alloc(), &mut d), Ok(300));
+    same_bytes(&rt, value(&rt, d.finalize()), &[0x99]);
+}
+
+#[test]
+fn gives_keys_and_values(rt: HostRuntime) {
+    let alloc = rt.alloc();
+    let mut d = Deserializer::from_bytes(&[0x03, 0x01, 0x02]);
+    let mut pairs = value(&rt, d.deserialize_map());
+    same(&rt, pairs.size_hint(), Some(3));
+    same(&rt, pairs.next_key::<u8, _>(alloc, &mut d), Ok(Some(1)));
+    same(&rt, pairs.next_value::<u8, _>(alloc, &mut d), Ok(2));
+    same(&rt, pairs.size_hint(), Some(2));
+}
+
+#[test]
+fn begins_what_has_parts(rt: HostRuntime) {
+    let alloc = rt.alloc();
+    let mut d = Deserializer::from_bytes(&[0x05]);
+    for answer in [
+        d.deserialize_any(),
+        d.deserialize_identifier(),
+        d.deserialize_ignored_any(),
+    ] {
+        same(&rt, answer, Err(Error::WontImplement));
+    }
+    for parts in [
+        d.deserialize_tuple(3),
+        d.deserialize_tuple_struct("T", 3),
+        d.deserialize_struct("S", &["a", "b", "c"]),
+        d.tuple_variant(3),
+        d.struct_variant(&["a", "b", "c"]),
+    ] {
+        same(&rt, value(&rt, parts).size_hint(&d), None);
+    }
+    for answer in [
+        d.deserialize_unit(),
+        d.deserialize_unit_struct("U"),
+        d.unit_variant(),
+    ] {
+        same(&rt, answer, Ok(()));
+    }
+    same(&rt, d.deserialize_newtype_struct::<u8>(alloc, "N"), Ok(5));
+}
+
+#[test]
+fn begins_enums(rt: HostRuntime) {
+    let mut d = Deserializer::from_bytes(&[0x04, 0x07]);
+    same(&rt, d.deserialize_enum("E", &["A", "B"]), Ok(4));
+    same(&rt, d.newtype_variant::<u8>(rt.alloc()), Ok(7));
+}

@@ -1,0 +1,199 @@
+//! Types whose values allocate, or hold what was read in a fixed room.
+
+use super::{GREATEST, check, read, read_owned};
+use crate::asserts::{same, same_bytes, value};
+use arrayvec::{ArrayString, ArrayVec};
+use postcard_de::{Deserialize, DeserializeOwned, Deserializer, Error, Owned, Result};
+use std::alloc::Global;
+use std::collections::BTreeMap;
+use std::convert::AsSlice;
+use std::process::Abort;
+use std::rc::Rc;
+
+// A run with `rt try --test --fail-alloc N`, in which only the Nth allocation fails, ends as a run
+// without it: what is read is read once more if an allocation failed.
+
+/// Reads a value that is to be read, in two tries.
+fn read_well<'a, T: Deserialize<'a>>(rt: &impl Abort, alloc: Global, bytes: &'a [u8]) -> T {
+    let answer = match read(alloc, bytes) {
+        Err(Error::OutOfMemory) => read(alloc, bytes),
+        answer => answer,
+    };
+    value(rt, answer)
+}
+
+/// Reads a value that is to be read, by `DeserializeOwned`, in two tries.
+fn read_owned_well<T: DeserializeOwned>(rt: &impl Abort, alloc: Global, bytes: &[u8]) -> T {
+    let answer = match read_owned(alloc, bytes) {
+        Err(Error::OutOfMemory) => read_owned(alloc, bytes),
+        answer => answer,
+    };
+    value(rt, answer)
+}
+
+/// Reads a value that is to be read, by the `Deserialize` of `Owned`, in two tries.
+fn lead_back<T: DeserializeOwned>(rt: &impl Abort, alloc: Global, bytes: &[u8]) -> T {
+    let Owned(read) = read_well::<Owned<T>>(rt, alloc, bytes);
+    read
+}
+
+/// Reads a list of bytes from the front of `bytes`, as a vector.
+fn copy_bytes(alloc: Global, bytes: &[u8]) -> Result<Vec<u8>> {
+    Deserializer::from_bytes(bytes).deserialize_byte_buf(alloc)
+}
+
+/// Asserts the bytes of a text or a list that is read by both traits.
+fn check_bytes<'a, T: Deserialize<'a> + DeserializeOwned + AsSlice<u8>>(
+    rt: &impl Abort,
+    alloc: Global,
+    bytes: &'a [u8],
+    want: &[u8],
+) {
+    same_bytes(rt, read_well::<T>(rt, alloc, bytes).as_slice(), want);
+    same_bytes(rt, read_owned_well::<T>(rt, alloc, bytes).as_slice(), want);
+}
+
+/// Asserts that reading by both traits is refused with this error. Nothing is allocated before.
+fn check_refused<'a, T: Deserialize<'a> + DeserializeOwned>(
+    rt: &impl Abort,
+    alloc: Global,
+    bytes: &'a [u8],
+    want: Error,
+) {
+    let errors = (
+        read::<T>(alloc, bytes).err(),
+        read_owned::<T>(alloc, bytes).err(),
+    );
+    match errors {
+        (Some(error), Some(owned)) => {
+            assert_eq!(rt; error, want, "{bytes:?}");
+            assert_eq!(rt; owned, want, "{bytes:?} owned");
+        }
+        _ => assert!(rt; false, "{bytes:?} is read"),
+    }
+}
+
+#[test]
+fn reads_texts_and_lists_of_bytes(rt: HostRuntime) {
+    let alloc = rt.alloc();
+    check_bytes::<String>(&rt, alloc, &[0x02, 0x48, 0x69], b"Hi");
+    check_bytes::<Vec<u8>>(&rt, alloc, &[0x02, 0x05, 0x06], &[5, 6]);
+    let eight = [0x08, 0xFF, 0xFF, 0xFF, 0x00, 0x00, 0x00, 0x00, 0x00];
+    check_bytes::<Vec<u8>>(&rt, alloc, &eight, &eight[1..]);
+    let copy = match copy_bytes(alloc, &[0x02, 0x05, 0x06]) {
+        Err(Error::OutOfMemory) => copy_bytes(alloc, &[0x02, 0x05, 0x06]),
+        answer => answer,
+    };
+    same_bytes(&rt, &value(&rt, copy), &[5, 6]);
+}
+
+/// An announced count requests no memory, so these results are the same if the first allocation
+/// fails.
+#[test]
+fn asks_for_what_was_read_alone(rt: HostRuntime) {
+    let alloc = rt.alloc();
+    let announced = [
+        0xFF, 0xFF, 0xFF, 0xFF, 0xFF, 0xFF, 0xFF, 0xFF, 0xFF, 0x01, 0x61, 0x62, 0x63,
+    ];
+    let many = [0x88, 0xFF, 0xFF, 0xFF, 0x00, 0x00, 0x00, 0x00, 0x00];
+    check_refused::<String>(&rt, alloc, &announced, Error::DeserializeUnexpectedEnd);
+    check_refused::<Vec<u8>>(&rt, alloc, &GREATEST, Error::DeserializeUnexpectedEnd);
+    check_refused::<Vec<u8>>(&rt, alloc, &many, Error::DeserializeUnexpectedEnd);
+    check_refused::<BTreeMap<u8, u8>>(&rt, alloc, &GREATEST, Error::DeserializeUnexpectedEnd);
+    check_refused::<String>(&rt, alloc, &[0x01, 0xFF], Error::DeserializeBadUtf8);
+    let short = copy_bytes(alloc, &[0x02, 0x05]).err();
+    same(&rt, short, Some(Error::DeserializeUnexpectedEnd));
+    let announced = copy_bytes(alloc, &announced).err();
+    same(&rt, announced, Some(Error::DeserializeUnexpectedEnd));
+}
+
+#[test]
+fn reads_into_fixed_room(rt: HostRuntime) {
+    let alloc = rt.alloc();
+    let two: ArrayVec<u8, 2> = ArrayVec::from([1, 2]);
+    check(
+        &rt,
+        alloc,
+        &[
+            (&[0x02, 0x01, 0x02], Ok(two)),
+            (&[0x03, 0x01, 0x02, 0x03], Err(Error::SerdeDeCustom)),
+            (&[0x03, 0x01, 0x02], Err(Error::DeserializeUnexpectedEnd)),
+        ],
+    );
+    check_refused::<ArrayVec<(), 3>>(&rt, alloc, &GREATEST, Error::SerdeDeCustom);
+    let text = read::<ArrayString<2>>(alloc, &[0x02, 0x61, 0x62]);
+    same_bytes(&rt, value(&rt, text).as_str().as_bytes(), b"ab");
+    let text = read_owned::<ArrayString<2>>(alloc, &[0x02, 0x48, 0x69]);
+    same_bytes(&rt, value(&rt, text).as_str().as_bytes(), b"Hi");
+    let long = [0x03, 0x61, 0x62, 0x63];
+    check_refused::<ArrayString<2>>(&rt, alloc, &long, Error::SerdeDeCustom);
+    let long = [0x03, 0x61, 0x62, 0xFF];
+    check_refused::<ArrayString<2>>(&rt, alloc, &long, Error::DeserializeBadUtf8);
+}
+
+/// Asserts the pairs of a map.
+fn assert_pairs(rt: &impl Abort, map: &BTreeMap<u8, u8>, want: &[(u8, u8)]) {
+    assert_eq!(rt; map.len(), want.len());
+    for (key, value) in want {
+        assert_eq!(rt; map.get(key), Some(value), "at {key}");
+    }
+}
+
+/// Asserts the pairs of a map that is read by both traits.
+fn check_map(rt: &impl Abort, alloc: Global, bytes: &[u8], want: &[(u8, u8)]) {
+    assert_pairs(rt, &read_well(rt, alloc, bytes), want);
+    assert_pairs(rt, &read_owned_well(rt, alloc, bytes), want);
+}
+
+#[test]
+fn reads_maps(rt: HostRuntime) {
+    let alloc = rt.alloc();
+    check_map(&rt, alloc, &[0x02, 0x01, 0x05, 0x01, 0x06], &[(1, 6)]);
+    check_map(
+        &rt,
+        alloc,
+        &[0x02, 0x02, 0x06, 0x01, 0x05],
+        &[(1, 5), (2, 6)],
+    );
+    check_map(&rt, alloc, &[0x00], &[]);
+}
+
+#[test]
+fn reads_pointers(rt: HostRuntime) {
+    let alloc = rt.alloc();
+    same(&rt, *read_well::<Box<u8>>(&rt, alloc, &[0x07]), 7);
+    same(&rt, *read_owned_well::<Box<u8>>(&rt, alloc, &[0x07]), 7);
+    same(&rt, *lead_back::<Box<u8>>(&rt, alloc, &[0x07]), 7);
+    same(&rt, *read_well::<Rc<u8>>(&rt, alloc, &[0x07]), 7);
+    same(&rt, *read_owned_well::<Rc<u8>>(&rt, alloc, &[0x07]), 7);
+    same(&rt, *lead_back::<Rc<u8>>(&rt, alloc, &[0x07]), 7);
+    same(
+        &rt,
+        lead_back::<(u8, u32)>(&rt, alloc, &[0x01, 0x0A]),
+        (1, 10),
+    );
+}
+
+/// Asserts that there is a number in the box, and that it is 7.
+fn assert_some_seven(rt: &impl Abort, some: Option<Box<u8>>) {
+    match some {
+        Some(boxed) => assert_eq!(rt; *boxed, 7),
+        None => assert!(rt; false, "there is none"),
+    }
+}
+
+#[test]
+fn reads_what_has_parts_that_grow(rt: HostRuntime) {
+    let alloc = rt.alloc();
+    let texts = read_well::<Vec<String>>(&rt, alloc, &[0x02, 0x01, 0x61, 0x01, 0x62]);
+    same(&rt, texts.len(), 2);
+    for (text, want) in texts.iter().zip([b"a", b"b"]) {
+        same_bytes(&rt, text.as_str().as_bytes(), want);
+    }
+    assert_some_seven(&rt, read_well(&rt, alloc, &[0x01, 0x07]));
+    assert_some_seven(&rt, read_owned_well(&rt, alloc, &[0x01, 0x07]));
+    let (number, text) = read_well::<(Rc<u8>, String)>(&rt, alloc, &[0x07, 0x01, 0x61]);
+    same(&rt, *number, 7);
+    same_bytes(&rt, text.as_str().as_bytes(), b"a");
+    same(&rt, read_well::<Vec<()>>(&rt, alloc, &[0x03]).len(), 3);
+}

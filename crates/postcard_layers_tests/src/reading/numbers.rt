@@ -1,0 +1,182 @@
+//! Numbers: rows of each width and sign, and numbers that are never zero.
+
+use super::{GREATEST, check};
+use postcard_de::{Deserialize, DeserializeOwned, Error};
+use std::alloc::Global;
+use std::fmt::Debug;
+use std::num::{
+    NonZeroI8, NonZeroI16, NonZeroI32, NonZeroI64, NonZeroI128, NonZeroIsize, NonZeroU8,
+    NonZeroU16, NonZeroU32, NonZeroU64, NonZeroU128, NonZeroUsize, Wrapping,
+};
+use std::process::Abort;
+
+#[test]
+fn reads_numbers_without_a_sign(rt: HostRuntime) {
+    let alloc = rt.alloc();
+    check(
+        &rt,
+        alloc,
+        &[
+            (&[0x07], Ok(7u8)),
+            (&[], Err(Error::DeserializeUnexpectedEnd)),
+        ],
+    );
+    check(
+        &rt,
+        alloc,
+        &[
+            (&[0xAC, 0x02], Ok(300u16)),
+            (&[0x80, 0x00], Ok(0)),
+            (&[0x80, 0x80, 0x00], Ok(0)),
+            (&[0x80, 0x80, 0x04], Err(Error::DeserializeBadVarint)),
+            (&[0x80, 0x80, 0x80, 0x00], Err(Error::DeserializeBadVarint)),
+            (&[], Err(Error::DeserializeUnexpectedEnd)),
+        ],
+    );
+    check(
+        &rt,
+        alloc,
+        &[
+            (&[0xAC, 0x02], Ok(300u32)),
+            (&[0xFF, 0xFF, 0xFF, 0xFF, 0x0F], Ok(u32::MAX)),
+            (
+                &[0xFF, 0xFF, 0xFF, 0xFF, 0x1F],
+                Err(Error::DeserializeBadVarint),
+            ),
+            (
+                &[0xFF, 0xFF, 0xFF, 0xFF, 0xFF, 0x01],
+                Err(Error::DeserializeBadVarint),
+            ),
+            (
+                &[0xFF, 0xFF, 0xFF, 0xFF],
+                Err(Error::DeserializeUnexpectedEnd),
+            ),
+            (&[], Err(Error::DeserializeUnexpectedEnd)),
+        ],
+    );
+    check(
+        &rt,
+        alloc,
+        &[
+            (&[0xAC, 0x02], Ok(300u64)),
+            (&[], Err(Error::DeserializeUnexpectedEnd)),
+        ],
+    );
+    let mut greatest = [0xFF; 19];
+    greatest[18] = 0x03;
+    check(
+        &rt,
+        alloc,
+        &[
+            (&[0xAC, 0x02], Ok(300u128)),
+            (&greatest, Ok(u128::MAX)),
+            (&[], Err(Error::DeserializeUnexpectedEnd)),
+        ],
+    );
+    check(
+        &rt,
+        alloc,
+        &[
+            (&[0xAC, 0x02], Ok(300usize)),
+            (&GREATEST, Ok(usize::MAX)),
+            (&[], Err(Error::DeserializeUnexpectedEnd)),
+        ],
+    );
+    check(&rt, alloc, &[(&[0x07], Ok(Wrapping(7u8)))]);
+}
+
+#[test]
+fn reads_numbers_with_a_sign(rt: HostRuntime) {
+    let alloc = rt.alloc();
+    check(
+        &rt,
+        alloc,
+        &[
+            (&[0x07], Ok(7i8)),
+            (&[0x80], Ok(-128)),
+            (&[0xFF], Ok(-1)),
+            (&[], Err(Error::DeserializeUnexpectedEnd)),
+        ],
+    );
+    check(
+        &rt,
+        alloc,
+        &[
+            (&[0xFF, 0xFF, 0x03], Ok(-32768i16)),
+            (&[0xFE, 0xFF, 0x03], Ok(32767)),
+            (&[0x01], Ok(-1)),
+            (&[], Err(Error::DeserializeUnexpectedEnd)),
+        ],
+    );
+    check(
+        &rt,
+        alloc,
+        &[
+            (&[0x03], Ok(-2i32)),
+            (&[], Err(Error::DeserializeUnexpectedEnd)),
+        ],
+    );
+    check(
+        &rt,
+        alloc,
+        &[
+            (&[0x04], Ok(2i64)),
+            (&GREATEST, Ok(i64::MIN)),
+            (&[], Err(Error::DeserializeUnexpectedEnd)),
+        ],
+    );
+    check(
+        &rt,
+        alloc,
+        &[
+            (&[0x01], Ok(-1i128)),
+            (&[0x03], Ok(-2)),
+            (&[], Err(Error::DeserializeUnexpectedEnd)),
+        ],
+    );
+    check(
+        &rt,
+        alloc,
+        &[
+            (&GREATEST, Ok(isize::MIN)),
+            (&[], Err(Error::DeserializeUnexpectedEnd)),
+        ],
+    );
+}
+
+/// Asserts that the bytes are read as this number, and that the byte 0 is refused.
+fn check_nonzero<'a, T: Deserialize<'a> + DeserializeOwned + PartialEq + Debug>(
+    rt: &impl Abort,
+    alloc: Global,
+    bytes: &'a [u8],
+    want: Option<T>,
+) {
+    let want = want.ok_or(Error::OutOfMemory);
+    check(
+        rt,
+        alloc,
+        &[(bytes, want), (&[0x00], Err(Error::SerdeDeCustom))],
+    );
+}
+
+#[test]
+fn reads_numbers_but_zero(rt: HostRuntime) {
+    let alloc = rt.alloc();
+    check_nonzero(&rt, alloc, &[0x05], NonZeroU8::new(5));
+    check_nonzero(&rt, alloc, &[0xAC, 0x02], NonZeroU16::new(300));
+    check_nonzero(&rt, alloc, &[0xAC, 0x02], NonZeroU32::new(300));
+    check_nonzero(&rt, alloc, &GREATEST, NonZeroU64::new(u64::MAX));
+    check_nonzero(&rt, alloc, &[0xAC, 0x02], NonZeroU128::new(300));
+    check_nonzero(&rt, alloc, &GREATEST, NonZeroUsize::new(usize::MAX));
+    check_nonzero(&rt, alloc, &[0x80], NonZeroI8::new(-128));
+    check_nonzero(&rt, alloc, &[0x05], NonZeroI16::new(-3));
+    check_nonzero(&rt, alloc, &[0x05], NonZeroI32::new(-3));
+    check_nonzero(&rt, alloc, &GREATEST, NonZeroI64::new(i64::MIN));
+    check_nonzero(&rt, alloc, &[0x05], NonZeroI128::new(-3));
+    check_nonzero(&rt, alloc, &GREATEST, NonZeroIsize::new(isize::MIN));
+    check(
+        &rt,
+        alloc,
+        &[(&[0x80, 0x00], Err::<NonZeroI32, _>(Error::SerdeDeCustom))],
+    );
+}

@@ -1,0 +1,303 @@
+//! The reading flavors: the source over a slice, and the source over a reader, by what it takes
+//! from its reader and from its scratch. The readers read many bytes a call, read one byte a call,
+//! or fail.
+
+ghost use Rattle.std.specs.Prelude.{◌≡◌, ◌<◌, ◌≤◌, [], ◌++◌, length, take, Some, IsOk, ⊤};
+ghost use Rattle.postcard_de_flavors.specs.IOReader.{scratch_of};
+ghost use Rattle.std.specs.Io.{ReadsAtMost};
+ghost use Rattle.std.specs.Io.KnownBytes.{ReadConsumes};
+
+use crate::asserts::{same, same_bytes};
+use postcard_de_flavors::io::io::IOReader;
+use postcard_de_flavors::{Flavor, Plain, Slice, Source};
+use postcard_wire::Error;
+use std::io;
+use std::io::{ErrorKind, Read};
+use std::process::Abort;
+
+#[test]
+fn a_slice_gives_fronts_until_too_few_bytes_are_left(rt: HostRuntime) {
+    let mut source = Slice::new(&[1, 2, 3, 4]);
+    same(&rt, source.pop(), Ok(1));
+    same(&rt, source.try_take_n(2), Ok([2, 3].as_slice()));
+    same(
+        &rt,
+        source.try_take_n(2),
+        Err(Error::DeserializeUnexpectedEnd),
+    );
+    same(&rt, source.size_hint(), Some(1));
+    same(
+        &rt,
+        source.try_take_n_temp(2),
+        Err(Error::DeserializeUnexpectedEnd),
+    );
+    same(&rt, source.try_take_n_temp(1), Ok([4].as_slice()));
+    same(&rt, source.pop(), Err(Error::DeserializeUnexpectedEnd));
+    same(&rt, source.finalize(), Ok([].as_slice()));
+}
+
+/// Asserts that a source that has given all of these bytes gives no bytes, and no byte.
+fn assert_gives_none_at_the_end(rt: &impl Abort, bytes: &[u8]) {
+    let mut source = Slice::new(bytes);
+    same(rt, source.try_take_n(bytes.len()), Ok(bytes));
+    same(rt, source.try_take_n(0), Ok([].as_slice()));
+    same(rt, source.try_take_n_temp(0), Ok([].as_slice()));
+    same_bytes(rt, source.at_hand(), &[]);
+    same(rt, source.size_hint(), Some(0));
+    same(rt, source.pop(), Err(Error::DeserializeUnexpectedEnd));
+    same(rt, source.finalize(), Ok([].as_slice()));
+}
+
+#[test]
+fn a_slice_gives_no_bytes_at_the_end(rt: HostRuntime) {
+    assert_gives_none_at_the_end(&rt, &[]);
+    assert_gives_none_at_the_end(&rt, &[7]);
+}
+
+/// Moves the first byte of `bytes` into the front of `buf`. Returns the number of bytes moved: 1,
+/// or 0 if either is empty.
+fn move_first(bytes: &mut &[u8], buf: &mut [u8]) -> usize
+    ensures moved { bytes.old.now ≡ take result buf.new ++ bytes.new.now }
+    ensures fits { result ≤ length buf.new }
+    ensures ends { result ≡ 0 → 0 < length buf.new → bytes.new.now ≡ [] }
+{
+    if buf.is_empty() {
+        return 0;
+    }
+    let Some((first, rest)) = bytes.split_first() else {
+        return 0;
+    };
+    buf[0] = *first;
+    *bytes = rest;
+    1
+}
+
+/// A steady reader that reads one byte a call.
+#[derive(Drop)]
+struct OneByte<'a> {
+    bytes: &'a [u8],
+}
+
+impl Read for OneByte<'_> {
+    ghost remaining = { λ s. Some s.bytes.now };
+
+    fn read(&mut self, buf: &mut [u8]) -> io::Result<usize>
+        ensures bound { ReadsAtMost result buf.new }
+        ensures bytes { ReadConsumes (Some self.old.bytes.now)
+            (Some self.new.bytes.now) result buf.new }
+        ensures succeeds { IsOk result }
+    {
+        Ok(move_first(&mut self.bytes, buf))
+    }
+}
+
+impl Source for OneByte<'_> {
+    ghost steady = { λ _. ⊤ };
+
+    fn read_some(&mut self, buf: &mut [u8]) -> io::Result<usize> {
+        self.read(buf)
+    }
+
+    fn read_full(&mut self, buf: &mut [u8]) -> io::Result<()> {
+        for at in 0..buf.len() {
+            let Some((first, rest)) = self.bytes.split_first() else {
+                return Err(io::Error::from(ErrorKind::UnexpectedEof));
+            };
+            buf[at] = *first;
+            self.bytes = rest;
+        }
+        Ok(())
+    }
+}
+
+/// A reader that reads one byte a call, and fails once no calls are left.
+#[derive(Drop)]
+struct Failing<'a> {
+    bytes: &'a [u8],
+    reads: usize,
+}
+
+impl Read for Failing<'_> {
+    ghost remaining = { λ s. Some s.bytes.now };
+
+    fn read(&mut self, buf: &mut [u8]) -> io::Result<usize> {
+        if self.reads == 0 {
+            return Err(io::Error::from(ErrorKind::Other));
+        }
+        self.reads -= 1;
+        Ok(move_first(&mut self.bytes, buf))
+    }
+}
+
+/// Returns whether `try_take_n_temp` succeeds. It uses up no scratch, and with too little scratch
+/// it changes nothing.
+fn looks<T: Source>(source: &mut IOReader<'_, T>, count: usize) -> bool
+    ensures room { length (scratch_of source.new) ≡ length (scratch_of source.old) }
+    ensures short { length (scratch_of source.old) < count → source.new ≡ source.old }
+{
+    source.try_take_n_temp(count).is_ok()
+}
+
+/// A reader over given bytes.
+trait Over: Source {
+    fn over(bytes: &'static [u8]) -> Self;
+}
+
+impl Over for &'static [u8] {
+    fn over(bytes: &'static [u8]) -> Self {
+        bytes
+    }
+}
+
+impl Over for OneByte<'static> {
+    fn over(bytes: &'static [u8]) -> Self {
+        OneByte { bytes }
+    }
+}
+
+impl Over for Plain<&'static [u8]> {
+    fn over(bytes: &'static [u8]) -> Self {
+        Plain::new(bytes)
+    }
+}
+
+/// Asserts that a source has just the bytes `unread` left, and `room` bytes of scratch.
+fn assert_left<T: Source>(rt: &impl Abort, source: IOReader<'_, T>, unread: &[u8], room: usize) {
+    let Ok((reader, scratch)) = source.finalize() else {
+        unreachable!()
+    };
+    same(rt, scratch.len(), room);
+    let mut rest = IOReader::new(reader, &mut []);
+    for byte in unread {
+        same(rt, rest.pop(), Ok(*byte));
+    }
+    same(rt, rest.pop().is_err(), true);
+}
+
+/// Both takes, with enough bytes and enough scratch.
+fn takes<T: Over>(rt: &impl Abort) {
+    let mut memory = [0; 8];
+    let mut source = IOReader::new(T::over(&[0xaa, 0xbb, 0xcc, 0xdd, 0xee]), &mut memory);
+    same(rt, source.size_hint(), None);
+    let first = source.try_take_n(2);
+    same(rt, source.try_take_n_temp(2), Ok([0xcc, 0xdd].as_slice()));
+    same(rt, first, Ok([0xaa, 0xbb].as_slice()));
+    assert_left(rt, source, &[0xee], 6);
+}
+
+/// Takes that last, one after the other, until too few bytes are left.
+fn takes_for_good<T: Over>(rt: &impl Abort) {
+    let mut memory = [0; 8];
+    let mut source = IOReader::new(T::over(&[0xaa, 0xbb, 0xcc, 0xdd, 0xee]), &mut memory);
+    let first = source.try_take_n(2);
+    let second = source.try_take_n(2);
+    same(rt, source.try_take_n(2).is_err(), true);
+    same(rt, first, Ok([0xaa, 0xbb].as_slice()));
+    same(rt, second, Ok([0xcc, 0xdd].as_slice()));
+}
+
+/// Single bytes, which need no scratch.
+fn pops<T: Over>(rt: &impl Abort) {
+    let mut source = IOReader::new(T::over(&[0xaa, 0xbb, 0xcc]), &mut []);
+    for byte in [0xaa, 0xbb, 0xcc] {
+        same(rt, source.pop(), Ok(byte));
+    }
+    same(rt, source.pop(), Err(Error::DeserializeUnexpectedEnd));
+}
+
+/// An input too short: to take 3 bytes of `01 02` with 4 bytes of scratch fails, and leaves `room`
+/// bytes of scratch.
+fn input_too_short<T: Over>(rt: &impl Abort, for_good: bool, room: usize) {
+    let mut memory = [0; 4];
+    let mut source = IOReader::new(T::over(&[1, 2]), &mut memory);
+    if for_good {
+        same(rt, source.try_take_n(3).is_err(), true);
+    } else {
+        same(rt, source.try_take_n_temp(3).is_err(), true);
+    }
+    let Ok((_reader, scratch)) = source.finalize() else {
+        unreachable!()
+    };
+    same(rt, scratch.len(), room);
+}
+
+/// A scratch too short: both takes fail, and the reader isn't called.
+fn scratch_too_short<T: Over>(rt: &impl Abort) {
+    let mut memory = [0; 1];
+    let mut source = IOReader::new(T::over(&[1, 2]), &mut memory);
+    same(rt, source.try_take_n(2).is_err(), true);
+    assert!(rt; !looks(&mut source, 2));
+    assert_left(rt, source, &[1, 2], 1);
+}
+
+/// All the tests above, over one kind of reader.
+fn all_rows<T: Over>(rt: &impl Abort) {
+    takes::<T>(rt);
+    takes_for_good::<T>(rt);
+    pops::<T>(rt);
+    input_too_short::<T>(rt, true, 1);
+    input_too_short::<T>(rt, false, 4);
+    scratch_too_short::<T>(rt);
+}
+
+#[test]
+fn a_reader_of_a_slice(rt: HostRuntime) {
+    all_rows::<&[u8]>(&rt);
+}
+
+#[test]
+fn a_reader_of_single_bytes(rt: HostRuntime) {
+    all_rows::<OneByte>(&rt);
+}
+
+#[test]
+fn any_reader(rt: HostRuntime) {
+    all_rows::<Plain<&[u8]>>(&rt);
+}
+
+/// Takes 3 bytes of a reader that fails after `reads` of its calls. Asserts whether that succeeds,
+/// and how many bytes the reader has left.
+fn take_three(rt: &impl Abort, reads: usize, succeeds: bool, left: usize) {
+    let bytes = [0xaa, 0xbb, 0xcc];
+    let mut memory = [0; 4];
+    let failing = Failing {
+        bytes: &bytes,
+        reads,
+    };
+    let mut source = IOReader::new(Plain::new(failing), &mut memory);
+    let taken = source.try_take_n(3);
+    same(rt, taken.is_ok(), succeeds);
+    let Ok((reader, scratch)) = source.finalize() else {
+        unreachable!()
+    };
+    same(rt, scratch.len(), 1);
+    same(rt, reader.into_inner().bytes.len(), left);
+}
+
+#[test]
+fn a_failing_reader(rt: HostRuntime) {
+    take_three(&rt, 0, false, 3);
+    take_three(&rt, 1, false, 2);
+    take_three(&rt, 2, false, 1);
+    take_three(&rt, 3, true, 0);
+}
+
+#[test]
+fn readers(rt: HostRuntime) {
+    let bytes = [1, 2, 3];
+    let mut slice = bytes.as_slice();
+    let mut plain = Plain::new(bytes.as_slice());
+    let mut buf = [0; 2];
+    same(&rt, slice.read_some(&mut buf).ok(), Some(2));
+    same_bytes(&rt, &buf, &[1, 2]);
+    let mut buf = [0; 2];
+    same(&rt, plain.read_some(&mut buf).ok(), Some(2));
+    same_bytes(&rt, &buf, &[1, 2]);
+    same(&rt, slice.read_full(&mut buf).is_err(), true);
+    same(&rt, plain.read_full(&mut buf).is_err(), true);
+    same(&rt, plain.into_inner().len(), 0);
+    let mut buf = [0; 1];
+    same(&rt, slice.read_full(&mut buf).is_ok(), true);
+    same_bytes(&rt, &buf, &[3]);
+    same(&rt, slice.read_some(&mut buf).ok(), Some(0));
+}
