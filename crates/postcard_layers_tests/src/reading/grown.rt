@@ -1,6 +1,6 @@
 //! Types whose values allocate, or hold what was read in a fixed room.
 
-use super::{GREATEST, check, read, read_owned};
+use super::{GREATEST, check, check_refused, read, read_owned};
 use crate::asserts::{same, same_bytes, value};
 use arrayvec::{ArrayString, ArrayVec};
 use postcard_de::{Deserialize, DeserializeOwned, Deserializer, Error, Owned, Result};
@@ -51,17 +51,6 @@ fn check_bytes<'a, T: Deserialize<'a> + DeserializeOwned + AsSlice<u8>>(
 ) {
     same_bytes(rt, read_well::<T>(rt, alloc, bytes).as_slice(), want);
     same_bytes(rt, read_owned_well::<T>(rt, alloc, bytes).as_slice(), want);
-}
-
-/// Asserts that reading by both traits fails with this error. Nothing is allocated before that.
-fn check_refused<'a, T: Deserialize<'a> + DeserializeOwned>(
-    rt: &impl Abort,
-    alloc: Global,
-    bytes: &'a [u8],
-    want: &Error,
-) {
-    same(rt, read::<T>(alloc, bytes).err().as_ref(), Some(want));
-    same(rt, read_owned::<T>(alloc, bytes).err().as_ref(), Some(want));
 }
 
 #[test]
