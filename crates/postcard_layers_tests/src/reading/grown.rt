@@ -102,9 +102,9 @@ fn reads_into_fixed_room(rt: HostRuntime) {
     );
     check_refused::<ArrayVec<(), 3>>(&rt, alloc, &GREATEST, &Error::SerdeDeCustom);
     let text = read::<ArrayString<2>>(alloc, &[0x02, 0x61, 0x62]);
-    same_bytes(&rt, value(&rt, text).as_str().as_bytes(), b"ab");
+    same_bytes(&rt, value(&rt, text).as_bytes(), b"ab");
     let text = read_owned::<ArrayString<2>>(alloc, &[0x02, 0x48, 0x69]);
-    same_bytes(&rt, value(&rt, text).as_str().as_bytes(), b"Hi");
+    same_bytes(&rt, value(&rt, text).as_bytes(), b"Hi");
     let long = [0x03, 0x61, 0x62, 0x63];
     check_refused::<ArrayString<2>>(&rt, alloc, &long, &Error::SerdeDeCustom);
     let long = [0x03, 0x61, 0x62, 0xFF];
@@ -162,14 +162,26 @@ fn number_in(some: Option<Box<u8>>) -> u8 {
     }
 }
 
+/// Returns the bytes of the text, or none if there is no text.
+fn bytes_of(text: Option<&String>) -> &[u8] {
+    match text {
+        Some(text) => text.as_bytes(),
+        None => &[],
+    }
+}
+
+#[test]
+fn reads_lists_of_texts(rt: HostRuntime) {
+    let bytes = [0x02, 0x01, 0x61, 0x01, 0x62];
+    let texts = read_well::<Vec<String>>(&rt, rt.alloc(), &bytes);
+    same(&rt, texts.len(), 2);
+    same_bytes(&rt, bytes_of(texts.first()), b"a");
+    same_bytes(&rt, bytes_of(texts.get(1)), b"b");
+}
+
 #[test]
 fn reads_what_has_parts_that_grow(rt: HostRuntime) {
     let alloc = rt.alloc();
-    let texts = read_well::<Vec<String>>(&rt, alloc, &[0x02, 0x01, 0x61, 0x01, 0x62]);
-    same(&rt, texts.len(), 2);
-    for (text, want) in texts.iter().zip([b"a", b"b"]) {
-        same_bytes(&rt, text.as_str().as_bytes(), want);
-    }
     same(&rt, number_in(read_well(&rt, alloc, &[0x01, 0x07])), 7);
     same(
         &rt,
@@ -178,6 +190,6 @@ fn reads_what_has_parts_that_grow(rt: HostRuntime) {
     );
     let (number, text) = read_well::<(Rc<u8>, String)>(&rt, alloc, &[0x07, 0x01, 0x61]);
     same(&rt, *number, 7);
-    same_bytes(&rt, text.as_str().as_bytes(), b"a");
+    same_bytes(&rt, text.as_bytes(), b"a");
     same(&rt, read_well::<Vec<()>>(&rt, alloc, &[0x03]).len(), 3);
 }
