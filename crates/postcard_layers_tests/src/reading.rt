@@ -7,6 +7,7 @@ mod grown;
 mod numbers;
 mod types;
 
+use crate::asserts::same;
 use postcard_de::{Deserialize, DeserializeOwned, Deserializer, Error, Result};
 use std::alloc::Global;
 use std::fmt::Debug;
@@ -49,4 +50,15 @@ fn check<'a, T: Deserialize<'a> + DeserializeOwned + PartialEq + Debug>(
         assert_eq!(rt; &read::<T>(alloc, bytes), want, "{bytes:?}");
         assert_eq!(rt; &read_owned::<T>(alloc, bytes), want, "{bytes:?} owned");
     }
+}
+
+/// Asserts that reading by both traits fails with this error.
+fn check_refused<'a, T: Deserialize<'a> + DeserializeOwned>(
+    rt: &impl Abort,
+    alloc: Global,
+    bytes: &'a [u8],
+    want: &Error,
+) {
+    same(rt, read::<T>(alloc, bytes).err().as_ref(), Some(want));
+    same(rt, read_owned::<T>(alloc, bytes).err().as_ref(), Some(want));
 }

@@ -177,6 +177,12 @@ fn assert_written<T: Serialize>(rt: &impl Abort, value: &T, want: &[u8]) {
     same(rt, written(value, &mut buffer), Ok(want));
 }
 
+/// Asserts that the bytes written so far are these.
+fn assert_holds(rt: &impl Abort, serializer: Serializer<Slice>, want: &[u8]) {
+    let (all, used) = serializer.output.into_parts();
+    same(rt, all.get(..used), Some(want));
+}
+
 /// Asserts that writing the value fails over flavors that refuse their first piece, their second
 /// piece and so on, and that they then hold `held` of its bytes.
 fn assert_refused<T: Serialize>(rt: &impl Abort, value: &T, want: &[u8], held: &[usize]) {
@@ -188,14 +194,10 @@ fn assert_refused<T: Serialize>(rt: &impl Abort, value: &T, want: &[u8], held: &
                 left: i,
             },
         };
-        assert_eq!(rt;
-            value.serialize(&mut serializer),
-            Err(Error::SerializeBufferFull),
-            "{i}"
-        );
+        let answer = value.serialize(&mut serializer);
+        same(rt, answer, Err(Error::SerializeBufferFull));
         let (all, used) = serializer.output.inner.into_parts();
-        assert_eq!(rt; used, *count, "{i}");
-        assert_eq!(rt; all.get(..used), want.get(..used), "{i}");
+        same(rt, all.get(..used), want.get(..*count));
     }
 }
 

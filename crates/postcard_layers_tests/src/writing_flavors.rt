@@ -244,7 +244,7 @@ fn a_vector_grows_seldom(rt: HostRuntime) {
 struct Fragile {
     taken: Vec<u8>,
     interrupted: bool,
-    fails_behind: usize,
+    fails_after: usize,
     flush_fails: bool,
     flushed: bool,
 }
@@ -258,7 +258,7 @@ impl Write for Fragile {
         if self.interrupted {
             return Err(io::ErrorKind::Interrupted.into());
         }
-        if self.taken.len() == self.fails_behind {
+        if self.taken.len() == self.fails_after {
             return Err(io::ErrorKind::BrokenPipe.into());
         }
         self.taken.push(buf[0])?;
@@ -286,12 +286,12 @@ fn hand<T: Write + Drop>(writer: T) -> Result<T> {
     flavor.finalize()
 }
 
-/// Writes to a writer that fails after `fails_behind` bytes, or in its flush. Asserts the result,
+/// Writes to a writer that fails after `fails_after` bytes, or in its flush. Asserts the result,
 /// whether the writer was flushed, and the bytes that it took.
 fn assert_handed(
     rt: &impl Abort,
     alloc: Global,
-    fails_behind: usize,
+    fails_after: usize,
     flush_fails: bool,
     error: Option<Error>,
     want: &[u8],
@@ -299,7 +299,7 @@ fn assert_handed(
     let mut writer = Fragile {
         taken: Vec::new(alloc),
         interrupted: false,
-        fails_behind,
+        fails_after,
         flush_fails,
         flushed: false,
     };

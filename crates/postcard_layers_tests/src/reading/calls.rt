@@ -2,8 +2,9 @@
 
 use crate::asserts::{same, same_bytes, value};
 use postcard_de::laws::{one_message, read_again};
-use postcard_de::{Deserialize, Deserializer, Error};
+use postcard_de::{Deserialize, Deserializer, Error, Result, SeqAccess};
 use postcard_de_flavors::Slice;
+use std::process::Abort;
 
 #[test]
 fn counts_elements(rt: HostRuntime) {
@@ -59,34 +60,36 @@ fn gives_keys_and_values(rt: HostRuntime) {
     same(&rt, pairs.size_hint(), Some(2));
 }
 
+/// Asserts that the parts begin, and that no hint tells how many of them are left: there are more
+/// than the bytes left.
+fn assert_begins(rt: &impl Abort, parts: Result<SeqAccess>, d: &Deserializer<Slice>) {
+    same(rt, value(rt, parts).size_hint(d), None);
+}
+
 #[test]
 fn begins_what_has_parts(rt: HostRuntime) {
-    let alloc = rt.alloc();
     let mut d = Deserializer::from_bytes(&[0x05]);
-    for answer in [
-        d.deserialize_any(),
-        d.deserialize_identifier(),
-        d.deserialize_ignored_any(),
-    ] {
-        same(&rt, answer, Err(Error::WontImplement));
-    }
-    for parts in [
-        d.deserialize_tuple(3),
-        d.deserialize_tuple_struct("T", 3),
-        d.deserialize_struct("S", &["a", "b", "c"]),
-        d.tuple_variant(3),
-        d.struct_variant(&["a", "b", "c"]),
-    ] {
-        same(&rt, value(&rt, parts).size_hint(&d), None);
-    }
-    for answer in [
-        d.deserialize_unit(),
-        d.deserialize_unit_struct("U"),
-        d.unit_variant(),
-    ] {
-        same(&rt, answer, Ok(()));
-    }
-    same(&rt, d.deserialize_newtype_struct::<u8>(alloc, "N"), Ok(5));
+    assert_begins(&rt, d.deserialize_tuple(3), &d);
+    assert_begins(&rt, d.deserialize_tuple_struct("T", 3), &d);
+    assert_begins(&rt, d.deserialize_struct("S", &["a", "b", "c"]), &d);
+    assert_begins(&rt, d.tuple_variant(3), &d);
+    assert_begins(&rt, d.struct_variant(&["a", "b", "c"]), &d);
+}
+
+#[test]
+fn reads_what_has_no_bytes_of_its_own(rt: HostRuntime) {
+    let mut d = Deserializer::from_bytes(&[0x05]);
+    same(&rt, d.deserialize_any(), Err(Error::WontImplement));
+    same(&rt, d.deserialize_identifier(), Err(Error::WontImplement));
+    same(&rt, d.deserialize_ignored_any(), Err(Error::WontImplement));
+    same(&rt, d.deserialize_unit(), Ok(()));
+    same(&rt, d.deserialize_unit_struct("U"), Ok(()));
+    same(&rt, d.unit_variant(), Ok(()));
+    same(
+        &rt,
+        d.deserialize_newtype_struct::<u8>(rt.alloc(), "N"),
+        Ok(5),
+    );
 }
 
 #[test]

@@ -1,6 +1,6 @@
 //! Types whose values allocate, or hold what was read in a fixed room.
 
-use super::{GREATEST, check, read, read_owned};
+use super::{GREATEST, check, check_refused, read, read_owned};
 use crate::asserts::{same, same_bytes, value};
 use arrayvec::{ArrayString, ArrayVec};
 use postcard_de::{Deserialize, DeserializeOwned, Deserializer, Error, Owned, Result};
@@ -53,26 +53,6 @@ fn check_bytes<'a, T: Deserialize<'a> + DeserializeOwned + AsSlice<u8>>(
     same_bytes(rt, read_owned_well::<T>(rt, alloc, bytes).as_slice(), want);
 }
 
-/// Asserts that reading by both traits is refused with this error. Nothing is allocated before.
-fn check_refused<'a, T: Deserialize<'a> + DeserializeOwned>(
-    rt: &impl Abort,
-    alloc: Global,
-    bytes: &'a [u8],
-    want: Error,
-) {
-    let errors = (
-        read::<T>(alloc, bytes).err(),
-        read_owned::<T>(alloc, bytes).err(),
-    );
-    match errors {
-        (Some(error), Some(owned)) => {
-            assert_eq!(rt; error, want, "{bytes:?}");
-            assert_eq!(rt; owned, want, "{bytes:?} owned");
-        }
-        _ => assert!(rt; false, "{bytes:?} is read"),
-    }
-}
-
 #[test]
 fn reads_texts_and_lists_of_bytes(rt: HostRuntime) {
     let alloc = rt.alloc();
@@ -96,11 +76,11 @@ fn asks_for_what_was_read_alone(rt: HostRuntime) {
         0xFF, 0xFF, 0xFF, 0xFF, 0xFF, 0xFF, 0xFF, 0xFF, 0xFF, 0x01, 0x61, 0x62, 0x63,
     ];
     let many = [0x88, 0xFF, 0xFF, 0xFF, 0x00, 0x00, 0x00, 0x00, 0x00];
-    check_refused::<String>(&rt, alloc, &announced, Error::DeserializeUnexpectedEnd);
-    check_refused::<Vec<u8>>(&rt, alloc, &GREATEST, Error::DeserializeUnexpectedEnd);
-    check_refused::<Vec<u8>>(&rt, alloc, &many, Error::DeserializeUnexpectedEnd);
-    check_refused::<BTreeMap<u8, u8>>(&rt, alloc, &GREATEST, Error::DeserializeUnexpectedEnd);
-    check_refused::<String>(&rt, alloc, &[0x01, 0xFF], Error::DeserializeBadUtf8);
+    check_refused::<String>(&rt, alloc, &announced, &Error::DeserializeUnexpectedEnd);
+    check_refused::<Vec<u8>>(&rt, alloc, &GREATEST, &Error::DeserializeUnexpectedEnd);
+    check_refused::<Vec<u8>>(&rt, alloc, &many, &Error::DeserializeUnexpectedEnd);
+    check_refused::<BTreeMap<u8, u8>>(&rt, alloc, &GREATEST, &Error::DeserializeUnexpectedEnd);
+    check_refused::<String>(&rt, alloc, &[0x01, 0xFF], &Error::DeserializeBadUtf8);
     let short = copy_bytes(alloc, &[0x02, 0x05]).err();
     same(&rt, short, Some(Error::DeserializeUnexpectedEnd));
     let announced = copy_bytes(alloc, &announced).err();
@@ -120,22 +100,22 @@ fn reads_into_fixed_room(rt: HostRuntime) {
             (&[0x03, 0x01, 0x02], Err(Error::DeserializeUnexpectedEnd)),
         ],
     );
-    check_refused::<ArrayVec<(), 3>>(&rt, alloc, &GREATEST, Error::SerdeDeCustom);
+    check_refused::<ArrayVec<(), 3>>(&rt, alloc, &GREATEST, &Error::SerdeDeCustom);
     let text = read::<ArrayString<2>>(alloc, &[0x02, 0x61, 0x62]);
-    same_bytes(&rt, value(&rt, text).as_str().as_bytes(), b"ab");
+    same_bytes(&rt, value(&rt, text).as_bytes(), b"ab");
     let text = read_owned::<ArrayString<2>>(alloc, &[0x02, 0x48, 0x69]);
-    same_bytes(&rt, value(&rt, text).as_str().as_bytes(), b"Hi");
+    same_bytes(&rt, value(&rt, text).as_bytes(), b"Hi");
     let long = [0x03, 0x61, 0x62, 0x63];
-    check_refused::<ArrayString<2>>(&rt, alloc, &long, Error::SerdeDeCustom);
+    check_refused::<ArrayString<2>>(&rt, alloc, &long, &Error::SerdeDeCustom);
     let long = [0x03, 0x61, 0x62, 0xFF];
-    check_refused::<ArrayString<2>>(&rt, alloc, &long, Error::DeserializeBadUtf8);
+    check_refused::<ArrayString<2>>(&rt, alloc, &long, &Error::DeserializeBadUtf8);
 }
 
 /// Asserts the pairs of a map.
 fn assert_pairs(rt: &impl Abort, map: &BTreeMap<u8, u8>, want: &[(u8, u8)]) {
-    assert_eq!(rt; map.len(), want.len());
+    same(rt, map.len(), want.len());
     for (key, value) in want {
-        assert_eq!(rt; map.get(key), Some(value), "at {key}");
+        same(rt, map.get(key), Some(value));
     }
 }
 
@@ -174,26 +154,42 @@ fn reads_pointers(rt: HostRuntime) {
     );
 }
 
-/// Asserts that there is a number in the box, and that it is 7.
-fn assert_some_seven(rt: &impl Abort, some: Option<Box<u8>>) {
+/// Returns the number in the box, or 0 if there is no box.
+fn number_in(some: Option<Box<u8>>) -> u8 {
     match some {
-        Some(boxed) => assert_eq!(rt; *boxed, 7),
-        None => assert!(rt; false, "there is none"),
+        Some(boxed) => *boxed,
+        None => 0,
     }
+}
+
+/// Returns the bytes of the text, or none if there is no text.
+fn bytes_of(text: Option<&String>) -> &[u8] {
+    match text {
+        Some(text) => text.as_bytes(),
+        None => &[],
+    }
+}
+
+#[test]
+fn reads_lists_of_texts(rt: HostRuntime) {
+    let bytes = [0x02, 0x01, 0x61, 0x01, 0x62];
+    let texts = read_well::<Vec<String>>(&rt, rt.alloc(), &bytes);
+    same(&rt, texts.len(), 2);
+    same_bytes(&rt, bytes_of(texts.first()), b"a");
+    same_bytes(&rt, bytes_of(texts.get(1)), b"b");
 }
 
 #[test]
 fn reads_what_has_parts_that_grow(rt: HostRuntime) {
     let alloc = rt.alloc();
-    let texts = read_well::<Vec<String>>(&rt, alloc, &[0x02, 0x01, 0x61, 0x01, 0x62]);
-    same(&rt, texts.len(), 2);
-    for (text, want) in texts.iter().zip([b"a", b"b"]) {
-        same_bytes(&rt, text.as_str().as_bytes(), want);
-    }
-    assert_some_seven(&rt, read_well(&rt, alloc, &[0x01, 0x07]));
-    assert_some_seven(&rt, read_owned_well(&rt, alloc, &[0x01, 0x07]));
+    same(&rt, number_in(read_well(&rt, alloc, &[0x01, 0x07])), 7);
+    same(
+        &rt,
+        number_in(read_owned_well(&rt, alloc, &[0x01, 0x07])),
+        7,
+    );
     let (number, text) = read_well::<(Rc<u8>, String)>(&rt, alloc, &[0x07, 0x01, 0x61]);
     same(&rt, *number, 7);
-    same_bytes(&rt, text.as_str().as_bytes(), b"a");
+    same_bytes(&rt, text.as_bytes(), b"a");
     same(&rt, read_well::<Vec<()>>(&rt, alloc, &[0x03]).len(), 3);
 }

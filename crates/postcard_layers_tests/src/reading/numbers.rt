@@ -1,6 +1,7 @@
 //! Numbers: rows of each width and sign, and numbers that are never zero.
 
-use super::{GREATEST, check};
+use super::{GREATEST, check, check_refused, read, read_owned};
+use crate::asserts::same;
 use postcard_de::{Deserialize, DeserializeOwned, Error};
 use std::alloc::Global;
 use std::fmt::Debug;
@@ -151,12 +152,13 @@ fn check_nonzero<'a, T: Deserialize<'a> + DeserializeOwned + PartialEq + Debug>(
     bytes: &'a [u8],
     want: Option<T>,
 ) {
-    let want = want.ok_or(Error::OutOfMemory);
-    check(
+    same(rt, read::<T>(alloc, bytes).ok().as_ref(), want.as_ref());
+    same(
         rt,
-        alloc,
-        &[(bytes, want), (&[0x00], Err(Error::SerdeDeCustom))],
+        read_owned::<T>(alloc, bytes).ok().as_ref(),
+        want.as_ref(),
     );
+    check_refused::<T>(rt, alloc, &[0x00], &Error::SerdeDeCustom);
 }
 
 #[test]

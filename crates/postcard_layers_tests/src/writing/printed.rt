@@ -7,7 +7,7 @@ ghost use Rattle.postcard_shape.specs.Leaves.{text};
 ghost use Rattle.postcard_shape.specs.Shape.{via};
 ghost use Rattle.postcard_shape.specs.Refusing.{printed};
 
-use super::assert_written;
+use super::{assert_holds, assert_written};
 use crate::asserts::same;
 use postcard_ser::{Serialize, Serializer};
 use postcard_ser_flavors::{Flavor, Slice};
@@ -67,8 +67,7 @@ fn assert_collected<T: Display>(
         output: Slice::new(front),
     };
     same(rt, serializer.collect_str(value), answer);
-    let (all, used) = serializer.output.into_parts();
-    same(rt, all.get(..used), Some(want));
+    assert_holds(rt, serializer, want);
 }
 
 #[test]
