@@ -3,7 +3,7 @@
 ghost use Rattle.std.specs.Prelude.{IsTrue};
 ghost use Rattle.postcard_cobs.specs.Groups.{NoZero};
 
-use crate::rows::{FRAMES, FULL_LESS_ONE, LONG, joined};
+use crate::rows::{FRAMES, FULL_LESS_ONE, LONG, first_zero, joined};
 use postcard_cobs::{
     DecodeReport, EncoderState, PushResult, decode_in_place, decode_in_place_report, frame_len,
 };
@@ -208,17 +208,17 @@ const REPORTS: [(&[u8], usize, usize, &[u8]); 7] = [
     ),
 ];
 
+/// Asserts that decoding these bytes in place has this report, and leaves the bytes `after`.
+fn is_reported(rt: &(impl Abort + AllocGlobal), before: &[u8], report: DecodeReport, after: &[u8]) {
+    let mut buffer = joined(rt, &[before]);
+    assert_eq!(rt; decode_in_place_report(&mut buffer), Ok(report));
+    assert_eq!(rt; buffer.as_slice(), after);
+}
+
 #[test]
 fn frames_are_reported(rt: HostRuntime) {
     for (before, src_used, dst_used, after) in REPORTS {
-        let mut buffer = joined(&rt, &[before]);
-        let report = decode_in_place_report(&mut buffer);
-        assert_eq!(rt;
-            report,
-            Ok(DecodeReport { src_used, dst_used }),
-            "{before:?}"
-        );
-        assert_eq!(rt; buffer.as_slice(), after, "what {before:?} becomes");
+        is_reported(&rt, before, DecodeReport { src_used, dst_used }, after);
     }
 }
 
@@ -234,14 +234,19 @@ const NO_FRAMES: [&[u8]; 8] = [
     &[2, 7, 0xFF, 0, 8],
 ];
 
+/// Asserts that these bytes aren't decoded, and that each from the first zero on stays as it was.
+fn is_not_decoded(rt: &(impl Abort + AllocGlobal), before: &[u8]) {
+    let mut buffer = joined(rt, &[before]);
+    let report = decode_in_place_report(&mut buffer);
+    assert_eq!(rt; report, Err(Error::DeserializeBadEncoding));
+    let end = first_zero(before);
+    assert_eq!(rt; buffer.get(end..), before.get(end..), "{before:?}");
+}
+
 #[test]
 fn what_is_no_frame_is_not_decoded(rt: HostRuntime) {
-    let refused = Err(Error::DeserializeBadEncoding);
     for before in NO_FRAMES {
-        let mut buffer = joined(&rt, &[before]);
-        assert_eq!(rt; decode_in_place_report(&mut buffer), refused, "{before:?}");
-        let end = frame_len(before);
-        assert_eq!(rt; buffer.get(end..), before.get(end..), "after {before:?}");
+        is_not_decoded(&rt, before);
     }
 }
 
@@ -249,10 +254,7 @@ fn what_is_no_frame_is_not_decoded(rt: HostRuntime) {
 /// ends at the first zero, and that each byte from there on stays as it was.
 fn survives(rt: &(impl Abort + AllocGlobal), before: &[u8]) {
     let mut after = joined(rt, &[before]);
-    let end = before
-        .iter()
-        .position(|byte| *byte == 0)
-        .unwrap_or(before.len());
+    let end = first_zero(before);
     match decode_in_place_report(&mut after) {
         Ok(report) => assert_eq!(rt; report.src_used, end, "{before:?}"),
         Err(e) => assert_eq!(rt; e, Error::DeserializeBadEncoding, "{before:?}"),

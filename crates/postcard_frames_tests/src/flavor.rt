@@ -162,7 +162,7 @@ fn comes_back(rt: &impl Abort, place: &mut [u8]) {
     if closed.is_ok() {
         let frame = [0x09, 0x03, 0x01, 0x31, 0x00];
         assert_eq!(rt; all.get(..count), Some(frame.as_slice()), "{room}");
-        assert!(rt; all.iter().skip(count).all(|byte| *byte == OLD), "{room}");
+        assert_eq!(rt; all.get(count..), [OLD; 6].get(count..room), "{room}");
     }
 }
 

@@ -1,6 +1,6 @@
 //! Tests of reading values from frames: frames worked out by hand, and damaged frames.
 
-use crate::rows::{FULL, joined};
+use crate::rows::{FULL, first_zero, joined};
 use postcard::{
     DeserializeOwned, Error, Owned, Result, Serialize, from_bytes_cobs, take_from_bytes_cobs,
     to_allocvec_cobs, to_slice_cobs,
@@ -156,10 +156,7 @@ fn survives<T: DeserializeOwned>(rt: &(impl Abort + AllocGlobal), before: &[u8])
     if let Err(e) = from_bytes_cobs::<Owned<T>>(rt.alloc(), &mut after) {
         assert_ne!(rt; e, Error::OutOfMemory, "{before:?}");
     }
-    let end = before
-        .iter()
-        .position(|byte| *byte == 0)
-        .unwrap_or(before.len());
+    let end = first_zero(before);
     assert_eq!(rt; after.get(end..), before.get(end..), "{before:?}");
 }
 

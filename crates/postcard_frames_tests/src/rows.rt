@@ -54,3 +54,13 @@ pub fn joined(rt: &(impl Abort + AllocGlobal), pieces: &[&[u8]]) -> Vec<u8> {
     }
     all
 }
+
+/// Returns the place of the first zero, or the number of bytes if none is zero.
+pub fn first_zero(bytes: &[u8]) -> usize {
+    for (place, byte) in bytes.iter().enumerate() {
+        if *byte == 0 {
+            return place;
+        }
+    }
+    bytes.len()
+}
