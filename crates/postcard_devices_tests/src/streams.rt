@@ -1,0 +1,59 @@
+//! Tests of a user's values, written to a writer and read back from a reader.
+
+use postcard::{Error, Serialize, from_io, to_io};
+use postcard_vectors::devices::readers::Pieces;
+use postcard_vectors::devices::writers::Bounded;
+use postcard_vectors::types::{BasicU8S, DataEnum, RefStruct};
+use std::process::Abort;
+
+/// Asserts that the value is written to a writer as these bytes, for which there is just room.
+fn is_sent<T: Serialize, const N: usize>(rt: &impl Abort, value: &T, bytes: [u8; N]) {
+    let sent = to_io(value, Bounded::<N>::new()).expect(rt, "the value has room");
+    assert_eq!(rt; sent.held.as_slice(), bytes.as_slice());
+}
+
+#[test]
+fn an_enum(rt: HostRuntime) {
+    let mut scratch = [0; 2048];
+    let bytes = [0x05, 0xE9, 0xD2, 0x01, 0x07];
+    let choice = DataEnum::Sho(0x6969, 0x07);
+    is_sent(&rt, &choice, bytes);
+    let read = from_io::<DataEnum, _>(rt.alloc(), (bytes.as_slice(), &mut scratch));
+    let (value, _) = read.expect(&rt, "a value is read");
+    assert_eq!(rt; value, choice);
+}
+
+#[test]
+fn a_struct(rt: HostRuntime) {
+    let mut scratch = [0; 2048];
+    let bytes = [
+        0xCD, 0xD7, 0x02, 0xFE, 0xBA, 0xB9, 0xB7, 0xDE, 0x9A, 0xE4, 0x90, 0x9A, 0x12, 0xAC, 0xD9,
+        0xB2, 0xE5, 0x0A,
+    ];
+    let record = BasicU8S {
+        st: 0xABCD,
+        ei: 0xFE,
+        sf: 0x12344321ABCDDCBA,
+        tt: 0xACACACAC,
+    };
+    is_sent(&rt, &record, bytes);
+    let read = from_io::<BasicU8S, _>(rt.alloc(), (bytes.as_slice(), &mut scratch));
+    let (value, _) = read.expect(&rt, "a value is read");
+    assert_eq!(rt; value, record);
+}
+
+#[test]
+fn lent_fields(rt: HostRuntime) {
+    let bytes = [
+        0x04, 0x01, 0x10, 0x02, 0x20, 0x05, 0x68, 0x45, 0x6C, 0x4C, 0x6F,
+    ];
+    let mut scratch = [0; 9];
+    let read = from_io::<RefStruct, _>(rt.alloc(), (Pieces::new(&bytes, &[1]), &mut scratch));
+    let (lent, (_, left)) = read.expect(&rt, "a value is read");
+    assert_eq!(rt; lent.bytes, [0x01, 0x10, 0x02, 0x20].as_slice());
+    assert_eq!(rt; lent.str_s, "hElLo");
+    assert_eq!(rt; left.len(), 0);
+    let mut short = [0; 8];
+    let refused = from_io::<RefStruct, _>(rt.alloc(), (Pieces::new(&bytes, &[1]), &mut short));
+    assert_eq!(rt; refused.err(), Some(Error::DeserializeUnexpectedEnd));
+}

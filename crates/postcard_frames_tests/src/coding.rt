@@ -1,0 +1,277 @@
+//! Tests of encoding and decoding frames, by the steps of the encoder and in place.
+
+ghost use Rattle.std.specs.Prelude.{IsTrue};
+ghost use Rattle.postcard_cobs.specs.Groups.{NoZero};
+
+use crate::rows::{FRAMES, FULL_LESS_ONE, LONG, first_zero, joined};
+use postcard_cobs::{
+    DecodeReport, EncoderState, PushResult, decode_in_place, decode_in_place_report, frame_len,
+};
+use postcard_wire::Error;
+use std::alloc::AllocGlobal;
+use std::process::Abort;
+
+/// Returns whether no byte is zero.
+fn has_no_zero(bytes: &[u8]) -> bool
+    ensures { IsTrue result → NoZero bytes.now }
+{
+    frame_len(bytes) == bytes.len()
+}
+
+/// Sets the byte at a place, or does nothing if there are fewer bytes.
+fn set(bytes: &mut [u8], place: usize, byte: u8) {
+    if let Some(old) = bytes.get_mut(place) {
+        *old = byte;
+    }
+}
+
+/// Adds a byte at the end.
+fn push(rt: &impl Abort, bytes: &mut Vec<u8>, byte: u8) {
+    bytes.push(byte).expect(rt, "there is memory");
+}
+
+/// Changes the frame as the result of a push says.
+fn apply(rt: &impl Abort, frame: &mut Vec<u8>, asked: PushResult) {
+    match asked {
+        PushResult::AddSingle(byte) => push(rt, frame, byte),
+        PushResult::ModifyFromStartAndSkip((place, code)) => {
+            set(frame, place, code);
+            push(rt, frame, 0);
+        }
+        PushResult::ModifyFromStartAndPushAndSkip((place, code, byte)) => {
+            set(frame, place, code);
+            push(rt, frame, byte);
+            push(rt, frame, 0);
+        }
+    }
+}
+
+/// Sets the last code byte, and adds the zero at the end.
+fn end(rt: &impl Abort, frame: &mut Vec<u8>, state: EncoderState) {
+    let (place, code) = state.finalize();
+    set(frame, place, code);
+    push(rt, frame, 0);
+}
+
+/// Returns the made frame of the data, with one push for each byte.
+fn made(rt: &(impl Abort + AllocGlobal), content: &[u8]) -> Vec<u8> {
+    let mut frame = joined(rt, &[&[0]]);
+    let mut state = EncoderState::default();
+    for byte in content {
+        assert!(rt; state.place() == frame.len() && frame.len() < 1000);
+        apply(rt, &mut frame, state.push(*byte));
+    }
+    end(rt, &mut frame, state);
+    frame
+}
+
+/// Takes a run that is as long as possible from the front of the data, and adds it to the frame.
+/// Returns what is left of the data.
+fn push_run<'a>(
+    rt: &impl Abort,
+    frame: &mut Vec<u8>,
+    state: &mut EncoderState,
+    content: &'a [u8],
+) -> &'a [u8] {
+    let (run, rest) = content.split_at(frame_len(content).min(state.run_room() - 1));
+    assert!(rt; state.place() == frame.len() && frame.len() < 1000 && run.len() < 1000);
+    assert!(rt; has_no_zero(run));
+    state.push_run(run);
+    frame.extend_from_slice(run).expect(rt, "there is memory");
+    rest
+}
+
+/// Returns the made frame of the data, with runs as long as possible and a push after each.
+fn made_by_runs(rt: &(impl Abort + AllocGlobal), content: &[u8]) -> Vec<u8> {
+    let mut frame = joined(rt, &[&[0]]);
+    let mut state = EncoderState::default();
+    let mut rest = content;
+    for _ in 0..content.len() {
+        rest = push_run(rt, &mut frame, &mut state, rest);
+        if let Some((byte, more)) = rest.split_first() {
+            assert!(rt; state.place() == frame.len() && frame.len() < 1000);
+            apply(rt, &mut frame, state.push(*byte));
+            rest = more;
+        }
+    }
+    end(rt, &mut frame, state);
+    frame
+}
+
+#[test]
+fn a_new_state(rt: HostRuntime) {
+    let mut state = EncoderState::default();
+    assert_eq!(rt; state.place(), 1);
+    assert_eq!(rt; state.push(0x01), PushResult::AddSingle(0x01));
+    assert_eq!(rt;
+        state.push(0x00),
+        PushResult::ModifyFromStartAndSkip((0, 2))
+    );
+    assert_eq!(rt; state.push(0x20), PushResult::AddSingle(0x20));
+    assert_eq!(rt; state.place(), 4);
+    assert_eq!(rt; state.finalize(), (2, 2));
+}
+
+/// Asserts that the state is that after 253 bytes of the first group, which one byte more fills.
+fn is_filled_by_one(rt: &impl Abort, state: EncoderState) {
+    let mut state = state;
+    assert_eq!(rt; (state.run_room(), state.place()), (1, 254));
+    let full = PushResult::ModifyFromStartAndPushAndSkip((0, 255, 0x11));
+    assert_eq!(rt; state.push(0x11), full);
+    assert_eq!(rt; (state.run_room(), state.place()), (254, 256));
+    assert_eq!(rt; state.finalize(), (255, 1));
+}
+
+#[test]
+fn a_group_is_full_at_254_bytes(rt: HostRuntime) {
+    let mut pushed = EncoderState::default();
+    for byte in FULL_LESS_ONE {
+        assert!(rt; pushed.place() < 1000);
+        assert_eq!(rt; pushed.push(byte), PushResult::AddSingle(0x11));
+    }
+    is_filled_by_one(&rt, pushed);
+    let mut run = EncoderState::default();
+    assert_eq!(rt; run.run_room(), 254);
+    assert!(rt; has_no_zero(&FULL_LESS_ONE));
+    run.push_run(&FULL_LESS_ONE);
+    is_filled_by_one(&rt, run);
+}
+
+/// Asserts that the frame is decoded in place, to this data.
+fn is_decoded(rt: &impl Abort, frame: &mut [u8], content: &[u8]) {
+    match decode_in_place(frame) {
+        Ok(used) => assert_eq!(rt; frame.get(..used), Some(content)),
+        Err(e) => panic!(rt; "{e:?}: no frame of {content:?}"),
+    }
+}
+
+/// Asserts that the data has this made frame, which is decoded to it.
+fn is_framed(rt: &(impl Abort + AllocGlobal), content: &[u8], frame: &[u8]) {
+    let mut buffer = made(rt, content);
+    assert_eq!(rt; buffer.as_slice(), frame, "the frame of {content:?}");
+    is_decoded(rt, &mut buffer, content);
+}
+
+#[test]
+fn the_frames_of_the_table(rt: HostRuntime) {
+    for (content, frame) in FRAMES {
+        is_framed(&rt, content, frame);
+    }
+}
+
+#[test]
+fn long_groups(rt: HostRuntime) {
+    for (content, frame) in LONG {
+        is_framed(&rt, &joined(&rt, content), &joined(&rt, frame));
+    }
+}
+
+/// Asserts that the data has a made frame which is longer by `more` bytes, the same by runs, and is
+/// decoded to the data.
+pub fn comes_back(rt: &(impl Abort + AllocGlobal), content: &[u8], more: usize) {
+    let mut buffer = made(rt, content);
+    assert_eq!(rt; buffer.len().checked_sub(more), Some(content.len()));
+    assert_eq!(rt; made_by_runs(rt, content), buffer);
+    is_decoded(rt, &mut buffer, content);
+}
+
+#[test]
+fn a_full_group_at_the_end(rt: HostRuntime) {
+    let refused = Err(Error::DeserializeBadEncoding);
+    for end in [[].as_slice(), &[0]] {
+        let mut whole = joined(&rt, &[&[0xFF, 0x11], &FULL_LESS_ONE, end]);
+        assert_eq!(rt; decode_in_place(&mut whole), Ok(254));
+        let mut short = joined(&rt, &[&[0xFF], &FULL_LESS_ONE, end]);
+        assert_eq!(rt; decode_in_place(&mut short), refused);
+    }
+}
+
+/// Frames, each beside the numbers of bytes that its decoding uses in the source and for the data,
+/// and the bytes after it.
+const REPORTS: [(&[u8], usize, usize, &[u8]); 7] = [
+    (&[1, 0], 1, 0, &[1, 0]),
+    (&[2, 7], 2, 1, &[7, 7]),
+    (&[2, 7, 0, 0, 9], 2, 1, &[7, 7, 0, 0, 9]),
+    (&[3, 7, 8, 0, 5], 3, 2, &[7, 8, 8, 0, 5]),
+    (&[1, 1, 1, 0, 4], 3, 2, &[0, 0, 1, 0, 4]),
+    (
+        &[3, 4, 1, 3, 0x20, 0x30],
+        6,
+        5,
+        &[4, 1, 0, 0x20, 0x30, 0x30],
+    ),
+    (
+        &[3, 4, 1, 3, 0x20, 0x30, 0, 0x77],
+        6,
+        5,
+        &[4, 1, 0, 0x20, 0x30, 0x30, 0, 0x77],
+    ),
+];
+
+/// Asserts that decoding these bytes in place has this report, and leaves the bytes `after`.
+fn is_reported(rt: &(impl Abort + AllocGlobal), before: &[u8], report: DecodeReport, after: &[u8]) {
+    let mut buffer = joined(rt, &[before]);
+    assert_eq!(rt; decode_in_place_report(&mut buffer), Ok(report));
+    assert_eq!(rt; buffer.as_slice(), after);
+}
+
+#[test]
+fn frames_are_reported(rt: HostRuntime) {
+    for (before, src_used, dst_used, after) in REPORTS {
+        is_reported(&rt, before, DecodeReport { src_used, dst_used }, after);
+    }
+}
+
+/// Bytes that aren't a frame.
+const NO_FRAMES: [&[u8]; 8] = [
+    &[],
+    &[0],
+    &[0, 9],
+    &[3, 0x11],
+    &[2],
+    &[5, 1, 0],
+    &[1, 3, 1, 0, 4],
+    &[2, 7, 0xFF, 0, 8],
+];
+
+/// Asserts that these bytes aren't decoded, and that each from the first zero on stays as it was.
+fn is_not_decoded(rt: &(impl Abort + AllocGlobal), before: &[u8]) {
+    let mut buffer = joined(rt, &[before]);
+    let report = decode_in_place_report(&mut buffer);
+    assert_eq!(rt; report, Err(Error::DeserializeBadEncoding));
+    let end = first_zero(before);
+    assert_eq!(rt; buffer.get(end..), before.get(end..), "{before:?}");
+}
+
+#[test]
+fn what_is_no_frame_is_not_decoded(rt: HostRuntime) {
+    for before in NO_FRAMES {
+        is_not_decoded(&rt, before);
+    }
+}
+
+/// Decodes the frame at the front of the bytes, which may succeed or fail. Asserts that a frame
+/// ends at the first zero, and that each byte from there on stays as it was.
+fn survives(rt: &(impl Abort + AllocGlobal), before: &[u8]) {
+    let mut after = joined(rt, &[before]);
+    let end = first_zero(before);
+    match decode_in_place_report(&mut after) {
+        Ok(report) => assert_eq!(rt; report.src_used, end, "{before:?}"),
+        Err(e) => assert_eq!(rt; e, Error::DeserializeBadEncoding, "{before:?}"),
+    }
+    assert_eq!(rt; after.get(end..), before.get(end..), "after {before:?}");
+}
+
+#[test]
+fn a_changed_byte_is_decoded_or_not(rt: HostRuntime) {
+    for (_, frame) in FRAMES {
+        let whole = joined(&rt, &[frame, &[0x77, 0x78]]);
+        for place in 0..frame.len() {
+            for byte in 0..=255 {
+                let mut changed = joined(&rt, &[&whole]);
+                set(&mut changed, place, byte);
+                survives(&rt, &changed);
+            }
+        }
+    }
+}

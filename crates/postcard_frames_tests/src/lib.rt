@@ -1,0 +1,24 @@
+//! Tests of frames of COBS, with frames worked out by hand: encoding and decoding them, the flavor
+//! that writes them, values as frames, and the accumulator that finds them in a stream.
+#![tactic(auto)]
+
+#[cfg(test)]
+mod coding;
+#[cfg(test)]
+mod feeds;
+#[cfg(test)]
+mod flavor;
+#[cfg(test)]
+mod lengths;
+#[cfg(test)]
+mod reading;
+#[cfg(test)]
+mod rows;
+#[cfg(test)]
+mod streams;
+#[cfg(test)]
+mod values;
+
+/// The bytes of a buffer before anything is written.
+#[cfg(test)]
+const OLD: u8 = 0xAA;
