@@ -8,7 +8,6 @@ use postcard::{
 };
 use std::alloc::{AllocError, AllocGlobal, Global};
 use std::process::Abort;
-use std::test::Fail;
 
 /// The bytes of a buffer before anything is written.
 const OLD: u8 = 0xAA;
@@ -27,46 +26,56 @@ fn is_named(error: &Error) -> bool {
     )
 }
 
-/// Returns a copy of the bytes in which the byte at `place` is `byte`.
-fn with_byte(alloc: Global, bytes: &[u8], place: usize, byte: u8) -> Result<Vec<u8>, AllocError> {
-    let mut copy = bytes.to_vec(alloc)?;
-    if let Some(changed) = copy.get_mut(place) {
-        *changed = byte;
-    }
-    Ok(copy)
-}
-
 /// Returns copies of the bytes, each with one byte changed: at each place, to each of the 255 other
 /// values.
-pub(crate) fn changes(alloc: Global, bytes: &[u8]) -> Result<Vec<Vec<u8>>, AllocError> {
+fn copies(alloc: Global, bytes: &[u8]) -> Result<Vec<Vec<u8>>, AllocError> {
     let mut copies = Vec::new(alloc);
-    for (place, old) in bytes.iter().enumerate() {
-        for byte in 0..=255 {
-            if byte != *old {
-                copies.push(with_byte(alloc, bytes, place, byte)?)?;
+    for place in 0..bytes.len() {
+        for change in 1..=255 {
+            let mut copy = bytes.to_vec(alloc)?;
+            if let Some(changed) = copy.get_mut(place) {
+                *changed ^= change;
             }
+            copies.push(copy)?;
         }
     }
     Ok(copies)
 }
 
-/// Returns the frame of fewer than 254 bytes: each run of bytes other than zero after its length
-/// plus one, and a zero at the end.
-fn frame(alloc: Global, bytes: &[u8]) -> Result<Vec<u8>, AllocError> {
+/// Returns such copies of the bytes.
+pub(crate) fn changes(rt: &(impl Abort + AllocGlobal), bytes: &[u8]) -> Vec<Vec<u8>> {
+    copies(rt.alloc(), bytes).expect(rt, "copies")
+}
+
+/// Returns the frame of fewer than 254 bytes, and then `more`: each run of bytes other than zero
+/// after its length plus one, and a zero at the end.
+fn framed(alloc: Global, bytes: &[u8], more: &[u8]) -> Result<Vec<u8>, AllocError> {
     let mut frame = Vec::new(alloc);
     for run in bytes.split(|byte| *byte == 0) {
         frame.push(u8::try_from(run.len().saturating_add(1)).unwrap_or(0))?;
         frame.extend_from_slice(run)?;
     }
     frame.push(0)?;
+    frame.extend_from_slice(more)?;
     Ok(frame)
 }
 
-/// Returns copies of a value's frame with four bytes after it, each with one byte changed.
-pub(crate) fn changed_frames(alloc: Global, bytes: &[u8]) -> Result<Vec<Vec<u8>>, AllocError> {
-    let mut buffer = frame(alloc, bytes)?;
-    buffer.extend_from_slice(&[0x77; 4])?;
-    changes(alloc, &buffer)
+/// Returns copies of the frame of these bytes with four bytes after it, each with one byte changed.
+pub(crate) fn frame_changes(rt: &(impl Abort + AllocGlobal), bytes: &[u8]) -> Vec<Vec<u8>> {
+    let frame = framed(rt.alloc(), bytes, &[0x77; 4]).expect(rt, "a frame");
+    changes(rt, &frame)
+}
+
+/// Asserts that a call wrote `want` into the front of a buffer of `room` bytes, or that it failed
+/// because there is no room for it.
+fn is_room(rt: &impl Abort, answer: postcard::Result<&mut [u8]>, room: usize, want: &[u8]) {
+    match answer {
+        Ok(front) => assert_eq!(rt; &*front, want, "into {room} bytes"),
+        Err(e) => {
+            assert_eq!(rt; e, Error::SerializeBufferFull, "into {room} bytes");
+            assert!(rt; room < want.len(), "into {room} bytes");
+        }
+    }
 }
 
 /// Writes a value into buffers of each length up to three bytes more than it needs. Asserts that
@@ -75,15 +84,9 @@ pub(crate) fn changed_frames(alloc: Global, bytes: &[u8]) -> Result<Vec<Vec<u8>>
 fn takes_its_room<T: Serialize>(rt: &impl Abort, value: &T, want: &[u8]) {
     for room in 0..=want.len().saturating_add(3) {
         let mut buffer = [OLD; 48];
-        let Some(place) = buffer.get_mut(..room) else {
-            panic!(rt; "the test's buffer is too short");
-        };
-        match to_slice(value, place) {
-            Ok(front) => assert_eq!(rt; &*front, want, "into {room} bytes"),
-            Err(e) => {
-                assert_eq!(rt; e, Error::SerializeBufferFull, "into {room} bytes");
-                assert!(rt; room < want.len(), "into {room} bytes");
-            }
+        match buffer.get_mut(..room) {
+            Some(place) => is_room(rt, to_slice(value, place), room, want),
+            None => panic!(rt; "the test's buffer is too short"),
         }
         let same = buffer.iter().zip(want).take_while(|(a, b)| a == b);
         let written = same.count().min(room);
@@ -99,15 +102,9 @@ fn takes_its_room<T: Serialize>(rt: &impl Abort, value: &T, want: &[u8]) {
 fn frame_takes_its_room<T: Serialize>(rt: &impl Abort, value: &T, want: &[u8]) {
     for room in 0..=want.len().saturating_add(3) {
         let mut buffer = [OLD; 48];
-        let Some(place) = buffer.get_mut(..room) else {
-            panic!(rt; "the test's buffer is too short");
-        };
-        match to_slice_cobs(value, place) {
-            Ok(front) => assert_eq!(rt; &*front, want, "into {room} bytes"),
-            Err(e) => {
-                assert_eq!(rt; e, Error::SerializeBufferFull, "into {room} bytes");
-                assert!(rt; room < want.len(), "into {room} bytes");
-            }
+        match buffer.get_mut(..room) {
+            Some(place) => is_room(rt, to_slice_cobs(value, place), room, want),
+            None => panic!(rt; "the test's buffer is too short"),
         }
         assert!(rt;
             buffer.iter().skip(room).all(|byte| *byte == OLD),
@@ -118,36 +115,38 @@ fn frame_takes_its_room<T: Serialize>(rt: &impl Abort, value: &T, want: &[u8]) {
 
 /// Asserts that reading the copy failed with a named error, or returned a value whose encoding is
 /// at most as long as the bytes that were read.
-fn is_answer<T: Serialize + Drop>(
-    rt: &impl Abort,
-    copy: &[u8],
-    answer: postcard::Result<(T, &[u8])>,
-) {
-    match answer {
-        Ok((value, rest)) => {
-            let consumed = copy.len().saturating_sub(rest.len());
-            match serialized_size(&value) {
-                Ok(size) => assert!(rt; size <= consumed, "{copy:?}"),
-                Err(e) => panic!(rt; "{e} of {copy:?}"),
-            }
-        }
-        Err(e) => assert!(rt; is_named(&e), "{e} of {copy:?}"),
+fn is_answer<T: Serialize + Drop>(rt: &impl Abort, copy: &[u8], value: &T, rest: &[u8]) {
+    let consumed = copy.len().saturating_sub(rest.len());
+    match serialized_size(value) {
+        Ok(size) => assert!(rt; size <= consumed, "{copy:?}"),
+        Err(e) => panic!(rt; "{e} of {copy:?}"),
     }
 }
 
-/// Reads a value that borrows nothing.
-fn take_owned<T: DeserializeOwned>(alloc: Global, bytes: &[u8]) -> postcard::Result<(T, &[u8])> {
-    let (Owned(value), rest) = take_from_bytes::<Owned<T>>(alloc, bytes)?;
-    Ok((value, rest))
-}
-
-/// Asserts that reading each copy fails with a named error or returns a value.
+/// Asserts that reading each copy fails with a named error, or returns a value whose encoding is at
+/// most as long as the bytes that were read.
 pub(crate) fn copies_are_answered<'a, T: Serialize + Deserialize<'a>>(
     rt: &(impl Abort + AllocGlobal),
     copies: &'a [Vec<u8>],
 ) {
     for copy in copies {
-        is_answer(rt, copy, take_from_bytes::<T>(rt.alloc(), copy));
+        match take_from_bytes::<T>(rt.alloc(), copy) {
+            Ok((value, rest)) => is_answer(rt, copy, &value, rest),
+            Err(e) => assert!(rt; is_named(&e), "{e} of {copy:?}"),
+        }
+    }
+}
+
+/// Asserts the same of a type that borrows nothing.
+fn copies_are_owned<T: Serialize + DeserializeOwned>(
+    rt: &(impl Abort + AllocGlobal),
+    copies: &[Vec<u8>],
+) {
+    for copy in copies {
+        match take_from_bytes::<Owned<T>>(rt.alloc(), copy) {
+            Ok((Owned(value), rest)) => is_answer(rt, copy, &value, rest),
+            Err(e) => assert!(rt; is_named(&e), "{e} of {copy:?}"),
+        }
     }
 }
 
@@ -166,19 +165,14 @@ pub(crate) fn frames_are_answered<'a, T: Deserialize<'a>>(
 
 /// Asserts, after the changed frames of these bytes were read, that each buffer is unchanged from
 /// its first zero on.
-pub(crate) fn frames_are_kept(
-    rt: &(impl Abort + AllocGlobal),
-    bytes: &[u8],
-    frames: &[Vec<u8>],
-) -> Result<(), AllocError> {
-    let changed = changed_frames(rt.alloc(), bytes)?;
+pub(crate) fn frames_are_kept(rt: &(impl Abort + AllocGlobal), bytes: &[u8], frames: &[Vec<u8>]) {
+    let changed = frame_changes(rt, bytes);
     assert_eq!(rt; changed.len(), frames.len());
     for (before, after) in changed.iter().zip(frames) {
         let end = before.iter().position(|byte| *byte == 0);
         let end = end.unwrap_or(before.len());
         assert_eq!(rt; after.get(end..), before.get(end..), "{before:?}");
     }
-    Ok(())
 }
 
 /// Writes a value and its frame into buffers of each length, and checks the results.
@@ -186,10 +180,10 @@ pub(crate) fn take_their_room<T: Serialize>(
     rt: &(impl Abort + AllocGlobal),
     value: &T,
     bytes: &[u8],
-) -> Result<(), AllocError> {
+) {
     takes_its_room(rt, value, bytes);
-    frame_takes_its_room(rt, value, &frame(rt.alloc(), bytes)?);
-    Ok(())
+    let frame = framed(rt.alloc(), bytes, &[]).expect(rt, "a frame");
+    frame_takes_its_room(rt, value, &frame);
 }
 
 /// Writes a value that borrows nothing into buffers of each length, reads its bytes and its frame
@@ -198,13 +192,10 @@ pub(crate) fn withstands<T: Serialize + DeserializeOwned>(
     rt: &(impl Abort + AllocGlobal),
     value: T,
     bytes: &[u8],
-) -> Result<(), Fail> {
-    take_their_room(rt, &value, bytes)?;
-    for copy in &changes(rt.alloc(), bytes)? {
-        is_answer(rt, copy, take_owned::<T>(rt.alloc(), copy));
-    }
-    let mut frames = changed_frames(rt.alloc(), bytes)?;
+) {
+    take_their_room(rt, &value, bytes);
+    copies_are_owned::<T>(rt, &changes(rt, bytes));
+    let mut frames = frame_changes(rt, bytes);
     frames_are_answered::<Owned<T>>(rt, &mut frames);
-    frames_are_kept(rt, bytes, &frames)?;
-    Ok(())
+    frames_are_kept(rt, bytes, &frames);
 }

@@ -1,0 +1,81 @@
+//! Tests of reading values of growing types from a slice and from a reader. Each call is made twice,
+//! of which one may have its allocation refused.
+
+use postcard::{DeserializeOwned, Error, Owned, Result, Serialize, from_bytes, from_io, to_slice};
+use std::alloc::{AllocGlobal, Global};
+use std::collections::BTreeMap;
+use std::process::Abort;
+use std::rc::Rc;
+
+/// Asserts that the value has this encoding.
+pub(crate) fn assert_written<T: Serialize>(rt: &impl Abort, value: &T, bytes: &[u8]) {
+    let mut buffer = [0; 64];
+    match to_slice(value, &mut buffer) {
+        Ok(front) => assert_eq!(rt; &*front, bytes),
+        Err(e) => panic!(rt; "{e}"),
+    }
+}
+
+/// Asserts that the result is a value with this encoding or a failed allocation, and returns
+/// whether it is the former.
+fn is_value<T: DeserializeOwned + Serialize>(
+    rt: &impl Abort,
+    answer: Result<Owned<T>>,
+    bytes: &[u8],
+) -> bool {
+    match answer {
+        Ok(Owned(value)) => {
+            assert_written(rt, &value, bytes);
+            true
+        }
+        Err(e) => {
+            assert_eq!(rt; e, Error::OutOfMemory, "{bytes:?}");
+            false
+        }
+    }
+}
+
+/// Reads a value from a reader.
+fn from_reader<T: DeserializeOwned>(alloc: Global, bytes: &[u8]) -> Result<Owned<T>> {
+    let mut scratch = [0; 16];
+    let (value, _) = from_io::<Owned<T>, _>(alloc, (bytes, &mut scratch))?;
+    Ok(value)
+}
+
+/// Asserts that the bytes are read as a value that has them as its encoding, or that an allocation
+/// fails and they are read so the other time.
+fn is_read<T: DeserializeOwned + Serialize>(rt: &(impl Abort + AllocGlobal), bytes: &[u8]) {
+    let alloc = rt.alloc();
+    let first = is_value::<T>(rt, from_bytes(alloc, bytes), bytes);
+    let second = is_value::<T>(rt, from_bytes(alloc, bytes), bytes);
+    assert!(rt; first || second, "{bytes:?}");
+    let first = is_value::<T>(rt, from_reader(alloc, bytes), bytes);
+    let second = is_value::<T>(rt, from_reader(alloc, bytes), bytes);
+    assert!(rt; first || second, "{bytes:?}");
+}
+
+#[test]
+fn refused_texts(rt: HostRuntime) {
+    is_read::<String>(&rt, b"\x10hello, postcard!");
+    is_read::<Vec<String>>(&rt, b"\x02\x01a\x02bc");
+}
+
+#[test]
+fn refused_lists(rt: HostRuntime) {
+    is_read::<Vec<u8>>(&rt, &[8, 1, 2, 3, 4, 5, 6, 7, 8]);
+    is_read::<Vec<u16>>(&rt, &[2, 0xAC, 0x02, 7]);
+    is_read::<Vec<Vec<u8>>>(&rt, &[2, 1, 7, 2, 8, 9]);
+}
+
+#[test]
+fn refused_maps(rt: HostRuntime) {
+    is_read::<BTreeMap<u8, u8>>(&rt, &[4, 1, 5, 2, 6, 3, 7, 4, 8]);
+    is_read::<BTreeMap<u8, Vec<u8>>>(&rt, &[2, 1, 1, 5, 2, 2, 6, 7]);
+}
+
+#[test]
+fn refused_pointers(rt: HostRuntime) {
+    is_read::<Box<u8>>(&rt, &[7]);
+    is_read::<Rc<u8>>(&rt, &[7]);
+    is_read::<(Option<Box<u8>>, Box<(u8, Rc<u16>)>)>(&rt, &[1, 7, 8, 0xAC, 0x02]);
+}

@@ -1,0 +1,133 @@
+//! Tests of the calls that write into growing memory. Each is made twice, of which one may have its
+//! allocation refused.
+
+use postcard::{
+    Error, Result, to_allocvec, to_allocvec_cobs, to_allocvec_cobs_after, to_extend, to_io,
+    to_stdvec, to_stdvec_cobs,
+};
+use std::alloc::Global;
+use std::process::Abort;
+
+/// Asserts that the result is these bytes or a failed allocation, and returns whether it is the
+/// former.
+fn is_whole(rt: &impl Abort, answer: Result<Vec<u8>>, bytes: &[u8]) -> bool {
+    match answer {
+        Ok(written) => {
+            assert_eq!(rt; written.as_slice(), bytes);
+            true
+        }
+        Err(e) => {
+            assert_eq!(rt; e, Error::SerializeBufferFull);
+            false
+        }
+    }
+}
+
+/// Asserts that both calls return these bytes, or one of them fails because an allocation does.
+fn is_written(rt: &impl Abort, call: Result<Vec<u8>>, again: Result<Vec<u8>>, bytes: &[u8]) {
+    let first = is_whole(rt, call, bytes);
+    let second = is_whole(rt, again, bytes);
+    assert!(rt; first || second);
+}
+
+/// Numbers of one byte each, which are written one by one, so that a vector grows on the way.
+const LONG: &[u16] = &[7; 300];
+
+/// Returns the encodings of `true` and of [`LONG`], in a row.
+fn long_bytes() -> [u8; 303] {
+    let mut bytes = [7; 303];
+    bytes[..3].copy_from_slice(&[1, 0xAC, 0x02]);
+    bytes
+}
+
+/// Returns the frames of `true` and of [`LONG`], in a row.
+fn long_frames() -> [u8; 308] {
+    let mut frames = [7; 308];
+    frames[..6].copy_from_slice(&[2, 1, 0, 0xFF, 0xAC, 0x02]);
+    frames[258] = 0x31;
+    frames[307] = 0;
+    frames
+}
+
+/// Writes `true` and [`LONG`] into a vector, one after the other.
+fn extended(alloc: Global) -> Result<Vec<u8>> {
+    to_extend(&LONG, to_extend(&true, Vec::new(alloc))?)
+}
+
+/// Writes `true` and [`LONG`] to a writer, one after the other.
+fn written(alloc: Global) -> Result<Vec<u8>> {
+    to_io(&LONG, to_io(&true, Vec::new(alloc))?)
+}
+
+/// Writes `true` and [`LONG`] as frames, one after the other.
+fn framed(alloc: Global) -> Result<Vec<u8>> {
+    to_allocvec_cobs_after(&LONG, to_allocvec_cobs(alloc, &true)?)
+}
+
+#[test]
+fn refused_vectors(rt: HostRuntime) {
+    let alloc = rt.alloc();
+    let bytes = long_bytes();
+    is_written(
+        &rt,
+        to_allocvec(alloc, &LONG),
+        to_allocvec(alloc, &LONG),
+        &bytes[1..],
+    );
+}
+
+#[test]
+fn refused_standard_vectors(rt: HostRuntime) {
+    let alloc = rt.alloc();
+    let bytes = long_bytes();
+    is_written(
+        &rt,
+        to_stdvec(alloc, &LONG),
+        to_stdvec(alloc, &LONG),
+        &bytes[1..],
+    );
+}
+
+#[test]
+fn refused_extensions(rt: HostRuntime) {
+    is_written(
+        &rt,
+        extended(rt.alloc()),
+        extended(rt.alloc()),
+        &long_bytes(),
+    );
+}
+
+#[test]
+fn refused_writers(rt: HostRuntime) {
+    is_written(&rt, written(rt.alloc()), written(rt.alloc()), &long_bytes());
+}
+
+#[test]
+fn refused_frames(rt: HostRuntime) {
+    let alloc = rt.alloc();
+    let bytes = long_frames();
+    is_written(
+        &rt,
+        to_allocvec_cobs(alloc, &LONG),
+        to_allocvec_cobs(alloc, &LONG),
+        &bytes[3..],
+    );
+}
+
+#[test]
+fn refused_standard_frames(rt: HostRuntime) {
+    let alloc = rt.alloc();
+    let bytes = long_frames();
+    is_written(
+        &rt,
+        to_stdvec_cobs(alloc, &LONG),
+        to_stdvec_cobs(alloc, &LONG),
+        &bytes[3..],
+    );
+}
+
+#[test]
+fn refused_frames_in_a_row(rt: HostRuntime) {
+    is_written(&rt, framed(rt.alloc()), framed(rt.alloc()), &long_frames());
+}
