@@ -275,12 +275,16 @@ const VALUES: [(&str, &str, &str); 29] = [
     ("list-u32", "0,4294967295", "0200ffffffff0f"),
 ];
 
+/// Returns a text that owns its bytes.
+fn owned(rt: &(impl Abort + AllocGlobal), text: &str) -> String {
+    String::from_str(rt.alloc(), text).expect(rt, "memory")
+}
+
 /// Returns the words of a call.
 pub fn words(rt: &(impl Abort + AllocGlobal), call: &[&str]) -> Vec<String> {
     let mut words = Vec::new(rt.alloc());
     for word in call {
-        let word = String::from_str(rt.alloc(), word).expect(rt, "memory");
-        words.push(word).expect(rt, "memory");
+        words.push(owned(rt, word)).expect(rt, "memory");
     }
     words
 }

@@ -97,14 +97,18 @@ const REFUSED: [(&str, &str); 39] = [
     ("?", "expected a type at character 1"),
 ];
 
+/// Returns the schema of a text, or its error, as it is printed.
+fn printed(rt: &(impl Abort + AllocGlobal), text: &str) -> String {
+    match parse(rt.alloc(), text) {
+        Ok(schema) => format!(in rt.alloc(); "{schema:?}").expect(rt, text),
+        Err(error) => format!(in rt.alloc(); "{error}").expect(rt, text),
+    }
+}
+
 /// Asserts that each text is read as the schema, or refused with the error, that is printed so.
 fn check(rt: &(impl Abort + AllocGlobal), rows: &[(&str, &str)]) {
     for (text, wanted) in rows {
-        let printed = match parse(rt.alloc(), text) {
-            Ok(schema) => format!(in rt.alloc(); "{schema:?}"),
-            Err(error) => format!(in rt.alloc(); "{error}"),
-        };
-        assert_eq!(rt; printed.expect(rt, text).as_str(), *wanted, "{text}");
+        assert_eq!(rt; printed(rt, text).as_str(), *wanted, "{text}");
     }
 }
 

@@ -64,19 +64,30 @@ fn check(
     assert_eq!(rt; output.finished, flushes, "{words:?} is flushed");
 }
 
-/// Asserts that a call which prints `length` bytes has this status if its output takes them all and
-/// flushes, and else 3.
+/// Asserts that the call of these words, which prints `length` bytes, has this status if its output
+/// takes them all and flushes, and else 3.
+fn check_both(
+    rt: &(impl Abort + AllocGlobal),
+    words: &[String],
+    writes: usize,
+    length: usize,
+    status: u8,
+) {
+    check(rt, words, writes, false, 3);
+    check(
+        rt,
+        words,
+        writes,
+        true,
+        if writes == length { status } else { 3 },
+    );
+}
+
+/// Asserts this after each number of writes.
 fn check_each(rt: &(impl Abort + AllocGlobal), call: &[&str], length: usize, status: u8) {
     let words = words(rt, call);
     for writes in 0..=length {
-        check(rt, &words, writes, false, 3);
-        check(
-            rt,
-            &words,
-            writes,
-            true,
-            if writes == length { status } else { 3 },
-        );
+        check_both(rt, &words, writes, length, status);
     }
 }
 

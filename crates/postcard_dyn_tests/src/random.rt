@@ -97,13 +97,23 @@ fn bytes(rt: &(impl Abort + AllocGlobal), state: &mut u64, length: u8, small: bo
     bytes
 }
 
+/// Checks a random message of the type. Returns 1 if it begins with a value, and else 0.
+fn check_random(
+    rt: &(impl Abort + AllocGlobal),
+    state: &mut u64,
+    schema: &Schema,
+    round: u8,
+) -> u32 {
+    let message = bytes(rt, state, round % 24, round % 2 == 1);
+    check(rt, schema, &message)
+}
+
 /// Checks 200 random messages of the type. Returns the number of those that begin with a value.
-fn rounds(rt: &(impl Abort + AllocGlobal), state: &mut u64, expression: &str) -> u32 {
+fn check_type(rt: &(impl Abort + AllocGlobal), state: &mut u64, expression: &str) -> u32 {
     let schema = type_of(rt, expression);
     let mut values = 0u32;
-    for round in 0..200u8 {
-        let message = bytes(rt, state, round % 24, round % 2 == 1);
-        values = values.saturating_add(check(rt, &schema, &message));
+    for round in 0..200 {
+        values = values.saturating_add(check_random(rt, state, &schema, round));
     }
     values
 }
@@ -113,7 +123,7 @@ fn ends_in_a_value_or_a_refusal(rt: HostRuntime) {
     let mut state = 1;
     let mut values = 0u32;
     for expression in EXPRESSIONS {
-        values = values.saturating_add(rounds(&rt, &mut state, expression));
+        values = values.saturating_add(check_type(&rt, &mut state, expression));
     }
     assert!(rt; values > 500, "{values}");
 }

@@ -181,23 +181,29 @@ fn check(rt: &(impl Abort + AllocGlobal), schema: &Schema, text: &str, message: 
     assert_eq!(rt; rest, [0xFF].as_slice(), "{text}");
 }
 
-/// Asserts that reading each proper front of the message fails with `DeserializeUnexpectedEnd`.
+/// Asserts that reading the bytes fails with `DeserializeUnexpectedEnd`.
+fn check_front(rt: &(impl Abort + AllocGlobal), schema: &Schema, front: &[u8]) {
+    let error = take_from_bytes(rt.alloc(), schema, front).err();
+    assert_eq!(rt; error, Some(Error::DeserializeUnexpectedEnd), "{front:?}");
+}
+
+/// Asserts this of each proper front of the message.
 fn check_fronts(rt: &(impl Abort + AllocGlobal), schema: &Schema, message: &[u8]) {
     for length in 0..message.len() {
-        let error = take_from_bytes(rt.alloc(), schema, &message[..length]).err();
-        assert_eq!(rt;
-            error,
-            Some(Error::DeserializeUnexpectedEnd),
-            "{length} of {message:?}"
-        );
+        check_front(rt, schema, &message[..length]);
     }
+}
+
+/// Asserts what a row says.
+fn check_row(rt: &(impl Abort + AllocGlobal), expression: &str, text: &str, message: &[u8]) {
+    let schema = type_of(rt, expression);
+    check(rt, &schema, text, message);
+    check_fronts(rt, &schema, message);
 }
 
 #[test]
 fn both_ways(rt: HostRuntime) {
     for (expression, text, message) in VECTORS {
-        let schema = type_of(&rt, expression);
-        check(&rt, &schema, text, message);
-        check_fronts(&rt, &schema, message);
+        check_row(&rt, expression, text, message);
     }
 }
