@@ -204,14 +204,14 @@ fn a_fixed_vector_takes_a_piece_whole_or_not(rt: HostRuntime) {
             (&[3, 4, 5], Err(Error::SerializeBufferFull)),
         ],
     );
-    same(&rt, vec.held_len(), 2);
+    assert_eq!(rt; vec.held_len(), 2);
     same(&rt, (vec[0], vec[1]), (1, 2));
     assert_rows(
         &rt,
         &mut vec,
         &[(&[3, 4], Ok(())), (&[5], Err(Error::SerializeBufferFull))],
     );
-    assert!(rt; vec.held_len() == 4);
+    assert_eq!(rt; vec.held_len(), 4);
     vec.set(1, 9);
     same_bytes(&rt, &end(&rt, vec), &[1, 9, 3, 4]);
 }

@@ -13,22 +13,30 @@ use std::rc::Rc;
 // A run with `rt try --test --fail-alloc N`, in which only the Nth allocation fails, ends as a run
 // without it: what is read is read once more if an allocation failed.
 
-/// Reads a value that is to be read, in two tries.
-fn read_well<'a, T: Deserialize<'a>>(rt: &impl Abort, alloc: Global, bytes: &'a [u8]) -> T {
-    let answer = match read(alloc, bytes) {
+/// Reads a value in two tries.
+fn read_twice<'a, T: Deserialize<'a>>(alloc: Global, bytes: &'a [u8]) -> Result<T> {
+    match read(alloc, bytes) {
         Err(Error::OutOfMemory) => read(alloc, bytes),
         answer => answer,
-    };
-    value(rt, answer)
+    }
+}
+
+/// Reads a value by `DeserializeOwned`, in two tries.
+fn read_owned_twice<T: DeserializeOwned>(alloc: Global, bytes: &[u8]) -> Result<T> {
+    match read_owned(alloc, bytes) {
+        Err(Error::OutOfMemory) => read_owned(alloc, bytes),
+        answer => answer,
+    }
+}
+
+/// Reads a value that is to be read, in two tries.
+fn read_well<'a, T: Deserialize<'a>>(rt: &impl Abort, alloc: Global, bytes: &'a [u8]) -> T {
+    value(rt, read_twice(alloc, bytes))
 }
 
 /// Reads a value that is to be read, by `DeserializeOwned`, in two tries.
 fn read_owned_well<T: DeserializeOwned>(rt: &impl Abort, alloc: Global, bytes: &[u8]) -> T {
-    let answer = match read_owned(alloc, bytes) {
-        Err(Error::OutOfMemory) => read_owned(alloc, bytes),
-        answer => answer,
-    };
-    value(rt, answer)
+    value(rt, read_owned_twice(alloc, bytes))
 }
 
 /// Reads a value that is to be read, by the `Deserialize` of `Owned`, in two tries.
@@ -67,6 +75,29 @@ fn reads_texts_and_lists_of_bytes(rt: HostRuntime) {
     same_bytes(&rt, &value(&rt, copy), &[5, 6]);
 }
 
+/// Asserts that reading by both traits, in two tries, fails with this error.
+fn check_refused_twice<'a, T: Deserialize<'a> + DeserializeOwned>(
+    rt: &impl Abort,
+    alloc: Global,
+    bytes: &'a [u8],
+    want: &Error,
+) {
+    same(rt, read_twice::<T>(alloc, bytes).err().as_ref(), Some(want));
+    same(
+        rt,
+        read_owned_twice::<T>(alloc, bytes).err().as_ref(),
+        Some(want),
+    );
+}
+
+#[test]
+fn refuses_texts_and_lists_of_bytes(rt: HostRuntime) {
+    let alloc = rt.alloc();
+    check_refused_twice::<String>(&rt, alloc, &[0x01, 0xFF], &Error::DeserializeBadUtf8);
+    let many = [0x88, 0xFF, 0xFF, 0xFF, 0x00, 0x00, 0x00, 0x00, 0x00];
+    check_refused_twice::<Vec<u8>>(&rt, alloc, &many, &Error::DeserializeUnexpectedEnd);
+}
+
 /// An announced count requests no memory, so these results are the same if the first allocation
 /// fails.
 #[test]
@@ -75,12 +106,9 @@ fn asks_for_what_was_read_alone(rt: HostRuntime) {
     let announced = [
         0xFF, 0xFF, 0xFF, 0xFF, 0xFF, 0xFF, 0xFF, 0xFF, 0xFF, 0x01, 0x61, 0x62, 0x63,
     ];
-    let many = [0x88, 0xFF, 0xFF, 0xFF, 0x00, 0x00, 0x00, 0x00, 0x00];
     check_refused::<String>(&rt, alloc, &announced, &Error::DeserializeUnexpectedEnd);
     check_refused::<Vec<u8>>(&rt, alloc, &GREATEST, &Error::DeserializeUnexpectedEnd);
-    check_refused::<Vec<u8>>(&rt, alloc, &many, &Error::DeserializeUnexpectedEnd);
     check_refused::<BTreeMap<u8, u8>>(&rt, alloc, &GREATEST, &Error::DeserializeUnexpectedEnd);
-    check_refused::<String>(&rt, alloc, &[0x01, 0xFF], &Error::DeserializeBadUtf8);
     let short = copy_bytes(alloc, &[0x02, 0x05]).err();
     same(&rt, short, Some(Error::DeserializeUnexpectedEnd));
     let announced = copy_bytes(alloc, &announced).err();
