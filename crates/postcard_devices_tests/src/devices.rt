@@ -1,5 +1,6 @@
 //! Tests of the readers and writers of `devices` themselves, call by call.
 
+use crate::same::same;
 use postcard::de_flavors::Source;
 use postcard_vectors::devices::readers::{FailingReader, Pieces};
 use postcard_vectors::devices::writers::{Bounded, FailingWriter};
@@ -11,17 +12,17 @@ fn pieces_of_stated_lengths(rt: HostRuntime) {
     let mut reader = Pieces::new(&[1, 2, 3, 4, 5, 6, 7], &[2, 0, 3]);
     for count in [2, 1, 3, 1, 0] {
         let read = reader.read_some(&mut buffer).expect(&rt, "no read fails");
-        assert_eq!(rt; read, count);
+        same(&rt, read, count);
     }
     let mut reader = Pieces::new(&[1, 2, 3, 4, 5], &[2, 5]);
     assert!(rt; reader.read_full(&mut buffer).is_ok());
-    assert_eq!(rt; buffer, [1, 2, 3, 4]);
-    assert_eq!(rt; reader.unread(), [5].as_slice());
+    same(&rt, buffer, [1, 2, 3, 4]);
+    same(&rt, reader.unread(), [5].as_slice());
     assert!(rt; reader.read_full(&mut buffer).is_err());
     let mut reader = Pieces::new(&[1, 2], &[]);
     let read = reader.read(&mut buffer).expect(&rt, "no read fails");
-    assert_eq!(rt; read, 1);
-    assert_eq!(rt; reader.unread(), [2].as_slice());
+    same(&rt, read, 1);
+    same(&rt, reader.unread(), [2].as_slice());
 }
 
 #[test]
@@ -29,9 +30,9 @@ fn a_writer_gets_full(rt: HostRuntime) {
     let mut writer = Bounded::<3>::new();
     for (piece, count) in [([1, 2], 2), ([3, 4], 1), ([5, 6], 0)] {
         let written = writer.write(&piece).expect(&rt, "no write fails");
-        assert_eq!(rt; written, count);
+        same(&rt, written, count);
     }
-    assert_eq!(rt; writer.held.as_slice(), [1, 2, 3].as_slice());
+    same(&rt, writer.held.as_slice(), [1, 2, 3].as_slice());
 }
 
 #[test]
@@ -49,11 +50,11 @@ fn one_call_fails(rt: HostRuntime) {
         fails_at: 1,
     };
     for (turn, byte) in [7, 8, 9].into_iter().enumerate() {
-        assert_eq!(rt; writer.write(&[byte]).is_ok(), turn != 1);
-        assert_eq!(rt; reader.read(&mut [0]).is_ok(), turn != 1);
+        same(&rt, writer.write(&[byte]).is_ok(), turn != 1);
+        same(&rt, reader.read(&mut [0]).is_ok(), turn != 1);
     }
-    assert_eq!(rt; writer.inner.held.as_slice(), [7, 9].as_slice());
-    assert_eq!(rt; reader.inner, [3].as_slice());
+    same(&rt, writer.inner.held.as_slice(), [7, 9].as_slice());
+    same(&rt, reader.inner, [3].as_slice());
     assert!(rt; !writer.flushed);
     assert!(rt; writer.flush().is_ok());
     assert!(rt; writer.flushed);

@@ -2,6 +2,7 @@
 //! and nothing is lost.
 
 use crate::OLD;
+use crate::same::same;
 use postcard::de_flavors::io::io::IOReader;
 use postcard::de_flavors::{Flavor, Plain, Source};
 use postcard::{Error, from_io, to_io};
@@ -28,28 +29,28 @@ fn every_other_call(rt: HostRuntime) {
     let mut byte = [OLD];
     for want in [1, 2] {
         let refused = reader.read(&mut byte).err().map(|e| e.kind());
-        assert_eq!(rt; refused, Some(ErrorKind::Interrupted));
-        assert_eq!(rt; reader.read(&mut byte).ok(), Some(1));
-        assert_eq!(rt; byte, [want]);
+        same(&rt, refused, Some(ErrorKind::Interrupted));
+        same(&rt, reader.read(&mut byte).ok(), Some(1));
+        same(&rt, byte, [want]);
         let refused = writer.write(&byte).err().map(|e| e.kind());
-        assert_eq!(rt; refused, Some(ErrorKind::Interrupted));
-        assert_eq!(rt; writer.write(&byte).ok(), Some(1));
+        same(&rt, refused, Some(ErrorKind::Interrupted));
+        same(&rt, writer.write(&byte).ok(), Some(1));
     }
     assert!(rt; writer.flush().is_ok());
-    assert_eq!(rt; writer.inner.held.as_slice(), [1, 2].as_slice());
+    same(&rt, writer.inner.held.as_slice(), [1, 2].as_slice());
 }
 
 /// Takes the bytes from 1 to 5 in each way that a source has. Then no byte is left.
 fn takes_each_way<'b, R: Source + 'b>(rt: &impl Abort, reader: R) {
     let mut scratch = [OLD; 3];
     let mut source = IOReader::new(reader, &mut scratch);
-    assert_eq!(rt; source.pop(), Ok(1));
-    assert_eq!(rt; source.try_take_n(2), Ok([2, 3].as_slice()));
-    assert_eq!(rt; source.try_take_n_temp(1), Ok([4].as_slice()));
-    assert_eq!(rt; source.pop(), Ok(5));
-    assert_eq!(rt; source.pop(), Err(Error::DeserializeUnexpectedEnd));
+    same(rt, source.pop(), Ok(1));
+    same(rt, source.try_take_n(2), Ok([2, 3].as_slice()));
+    same(rt, source.try_take_n_temp(1), Ok([4].as_slice()));
+    same(rt, source.pop(), Ok(5));
+    same(rt, source.pop(), Err(Error::DeserializeUnexpectedEnd));
     let (_, left) = source.finalize().expect(rt, "the source comes back");
-    assert_eq!(rt; left.len(), 1);
+    same(rt, left.len(), 1);
 }
 
 #[test]
@@ -65,11 +66,11 @@ fn of_a_value(rt: HostRuntime) {
     let reader = Plain::new(interrupted(&bytes));
     let read = from_io::<(u8, u32, &str), _>(rt.alloc(), (reader, &mut scratch));
     let (value, _) = read.expect(&rt, "a value is read");
-    assert_eq!(rt; value, tuple);
+    same(&rt, value, tuple);
     let writer = InterruptedWriter {
         inner: Bounded::<9>::new(),
         interrupts: true,
     };
     let written = to_io(&tuple, writer).expect(&rt, "the value has room");
-    assert_eq!(rt; written.inner.held.as_slice(), bytes.as_slice());
+    same(&rt, written.inner.held.as_slice(), bytes.as_slice());
 }

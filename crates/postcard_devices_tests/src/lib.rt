@@ -13,6 +13,8 @@ mod interruptions;
 #[cfg(test)]
 mod readers;
 #[cfg(test)]
+mod same;
+#[cfg(test)]
 mod scratch;
 #[cfg(test)]
 mod streams;

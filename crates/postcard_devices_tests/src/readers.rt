@@ -2,6 +2,7 @@
 //! fails.
 
 use crate::OLD;
+use crate::same::same;
 use postcard::de_flavors::io::io::IOReader;
 use postcard::de_flavors::{Flavor, Plain, Source};
 use postcard::{Error, from_io};
@@ -28,9 +29,9 @@ const RECORDS: [u8; 11] = [
 fn assert_unread<R: Source>(rt: &impl Abort, reader: R, unread: &[u8]) {
     let mut rest = IOReader::new(reader, &mut []);
     for byte in unread {
-        assert_eq!(rt; rest.pop(), Ok(*byte));
+        same(rt, rest.pop(), Ok(*byte));
     }
-    assert_eq!(rt; rest.pop(), Err(Error::DeserializeUnexpectedEnd));
+    same(rt, rest.pop(), Err(Error::DeserializeUnexpectedEnd));
 }
 
 /// Reads two texts that borrow from a scratch buffer with just room for them, to the reader's end.
@@ -38,7 +39,7 @@ fn lends_all<'b, R: Source + 'b>(rt: &(impl Abort + AllocGlobal), reader: R) {
     let mut memory = [OLD; 3];
     let read = from_io::<(&str, &str), _>(rt.alloc(), (reader, &mut memory));
     let (texts, (reader, left)) = read.expect(rt, "texts are read");
-    assert_eq!(rt; (texts, left.len()), (("ab", "c"), 0));
+    same(rt, (texts, left.len()), (("ab", "c"), 0));
     assert_unread(rt, reader, &[]);
 }
 
@@ -47,7 +48,7 @@ fn lends_one<'b, R: Source + 'b>(rt: &(impl Abort + AllocGlobal), reader: R) {
     let mut memory = [OLD; 2];
     let read = from_io::<&str, _>(rt.alloc(), (reader, &mut memory));
     let (text, (reader, left)) = read.expect(rt, "a text is read");
-    assert_eq!(rt; (text, left.len()), ("z", 1));
+    same(rt, (text, left.len()), ("z", 1));
     assert_unread(rt, reader, &[0x99]);
 }
 
@@ -57,7 +58,7 @@ fn lends_around<'b, R: Source + 'b>(rt: &(impl Abort + AllocGlobal), reader: R) 
     let mut memory = [OLD; 3];
     let read = from_io::<(&str, char, &str), _>(rt.alloc(), (reader, &mut memory));
     let (mixed, (_, left)) = read.expect(rt, "texts are read");
-    assert_eq!(rt; (mixed, left.len()), (("ab", 'c', "d"), 0));
+    same(rt, (mixed, left.len()), (("ab", 'c', "d"), 0));
 }
 
 /// Reads texts for which the scratch is too short.
@@ -69,10 +70,10 @@ fn refuses_texts<'b, R: Source + 'b, F: Fn(&'b [u8]) -> R>(
 {
     let mut memory = [OLD; 2];
     let short = from_io::<(&str, &str), _>(rt.alloc(), (over(&TEXTS), &mut memory));
-    assert_eq!(rt; short.err(), Some(Error::DeserializeUnexpectedEnd));
+    same(rt, short.err(), Some(Error::DeserializeUnexpectedEnd));
     let mut memory = [OLD; 0];
     let none = from_io::<&str, _>(rt.alloc(), (over(&LETTER), &mut memory));
-    assert_eq!(rt; none.err(), Some(Error::DeserializeUnexpectedEnd));
+    same(rt, none.err(), Some(Error::DeserializeUnexpectedEnd));
 }
 
 /// Reads texts as `String`s, which need the scratch only for a while.
@@ -80,7 +81,11 @@ fn copies_texts<'b, R: Source + 'b>(rt: &(impl Abort + AllocGlobal), reader: R) 
     let mut memory = [OLD; 2];
     let read = from_io::<(String, String), _>(rt.alloc(), (reader, &mut memory));
     let ((first, last), (reader, left)) = read.expect(rt, "texts are read");
-    assert_eq!(rt; (first.as_str(), last.as_str(), left.len()), ("ab", "c", 2));
+    same(
+        rt,
+        (first.as_str(), last.as_str(), left.len()),
+        ("ab", "c", 2),
+    );
     assert_unread(rt, reader, &[]);
 }
 
@@ -88,9 +93,13 @@ fn copies_texts<'b, R: Source + 'b>(rt: &(impl Abort + AllocGlobal), reader: R) 
 fn takes<'b, R: Source + 'b>(rt: &impl Abort, reader: R) {
     let mut memory = [OLD; 8];
     let mut source = IOReader::new(reader, &mut memory);
-    assert_eq!(rt; source.try_take_n(2), Ok([0xAA, 0xBB].as_slice()));
-    assert_eq!(rt; source.try_take_n(2), Ok([0xCC, 0xDD].as_slice()));
-    assert_eq!(rt; source.try_take_n(2), Err(Error::DeserializeUnexpectedEnd));
+    same(rt, source.try_take_n(2), Ok([0xAA, 0xBB].as_slice()));
+    same(rt, source.try_take_n(2), Ok([0xCC, 0xDD].as_slice()));
+    same(
+        rt,
+        source.try_take_n(2),
+        Err(Error::DeserializeUnexpectedEnd),
+    );
 }
 
 /// Takes more bytes than the reader has, which is one call for all of them.
@@ -99,24 +108,32 @@ fn refuses_takes<'b, R: Source + 'b, F: Fn(&'b [u8]) -> R>(rt: &impl Abort, over
 {
     let mut memory = [OLD; 4];
     let mut source = IOReader::new(over(&[0x01, 0x02]), &mut memory);
-    assert_eq!(rt; source.try_take_n(3), Err(Error::DeserializeUnexpectedEnd));
+    same(
+        rt,
+        source.try_take_n(3),
+        Err(Error::DeserializeUnexpectedEnd),
+    );
     let (_, left) = source.finalize().expect(rt, "the source comes back");
-    assert_eq!(rt; left.len(), 1);
+    same(rt, left.len(), 1);
     let mut memory = [OLD; 4];
     let mut source = IOReader::new(over(&[0x01, 0x02]), &mut memory);
     let refused = source.try_take_n_temp(3);
-    assert_eq!(rt; refused, Err(Error::DeserializeUnexpectedEnd));
+    same(rt, refused, Err(Error::DeserializeUnexpectedEnd));
     let (_, left) = source.finalize().expect(rt, "the source comes back");
-    assert_eq!(rt; left.len(), 4);
+    same(rt, left.len(), 4);
 }
 
 /// Takes more bytes than the scratch has room for. They stay in the reader.
 fn lacks_scratch<'b, R: Source + 'b>(rt: &impl Abort, reader: R) {
     let mut memory = [OLD; 1];
     let mut source = IOReader::new(reader, &mut memory);
-    assert_eq!(rt; source.try_take_n(2), Err(Error::DeserializeUnexpectedEnd));
+    same(
+        rt,
+        source.try_take_n(2),
+        Err(Error::DeserializeUnexpectedEnd),
+    );
     let (reader, left) = source.finalize().expect(rt, "the source comes back");
-    assert_eq!(rt; left.len(), 1);
+    same(rt, left.len(), 1);
     assert_unread(rt, reader, &[0x01, 0x02]);
 }
 
@@ -130,8 +147,8 @@ fn reads_records<'b, R: Source + 'b>(rt: &(impl Abort + AllocGlobal), reader: R)
     let (number, from) = read.expect(rt, "a number is read");
     let read = from_io::<(u8, &str), _>(rt.alloc(), from);
     let (pair, (reader, left)) = read.expect(rt, "a pair is read");
-    assert_eq!(rt; (text, number, pair), ("Hi!", 300, (5, "z")));
-    assert_eq!(rt; left.len(), 2);
+    same(rt, (text, number, pair), ("Hi!", 300, (5, "z")));
+    same(rt, left.len(), 2);
     assert_unread(rt, reader, &[0x99, 0x98]);
 }
 
@@ -181,15 +198,19 @@ fn read_through(rt: &(impl Abort + AllocGlobal), fails_at: usize) {
     );
     match outcome {
         Ok((value, _)) => {
-            assert_eq!(rt; value, (5, 300, "Hi!"));
+            same(rt, value, (5, 300, "Hi!"));
             assert!(rt; fails_at >= 7);
         }
         Err(e) => {
-            assert_eq!(rt; e, Error::DeserializeUnexpectedEnd);
+            same(rt, e, Error::DeserializeUnexpectedEnd);
             assert!(rt; fails_at < 7);
         }
     }
-    assert_eq!(rt; Some(failing.inner.unread()), bytes.get(fails_at.min(7)..));
+    same(
+        rt,
+        Some(failing.inner.unread()),
+        bytes.get(fails_at.min(7)..),
+    );
 }
 
 #[test]

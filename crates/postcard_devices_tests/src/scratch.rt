@@ -2,6 +2,7 @@
 //! out of it need it only for a while.
 
 use crate::OLD;
+use crate::same::same;
 use arrayvec::ArrayString;
 use postcard::de_flavors::io::io::IOReader;
 use postcard::{Deserializer, Error, from_io};
@@ -19,9 +20,13 @@ fn none_for_numbers_and_lists(rt: HostRuntime) {
     let read = from_io::<Parts, _>(rt.alloc(), (PARTS.as_slice(), &mut []));
     let (parts, _) = read.expect(&rt, "the parts are read");
     let (byte, signed, truth, short, word, (choice, list)) = parts;
-    assert_eq!(rt; (byte, signed, truth, short, word), (7, -1, true, 300, -2));
-    assert_eq!(rt; choice, Some(9));
-    assert_eq!(rt; list.as_slice(), [5, 6].as_slice());
+    same(
+        &rt,
+        (byte, signed, truth, short, word),
+        (7, -1, true, 300, -2),
+    );
+    same(&rt, choice, Some(9));
+    same(&rt, list.as_slice(), [5, 6].as_slice());
 }
 
 /// The text "Hi!".
@@ -32,11 +37,11 @@ fn given_back_after_a_text_is_copied(rt: HostRuntime) {
     let mut scratch = [OLD; 3];
     let read = from_io::<ArrayString<4>, _>(rt.alloc(), (TEXT.as_slice(), &mut scratch));
     let (text, (_, left)) = read.expect(&rt, "a text is read");
-    assert_eq!(rt; text.as_str(), "Hi!");
-    assert_eq!(rt; left.len(), 3);
+    same(&rt, text.as_str(), "Hi!");
+    same(&rt, left.len(), 3);
     let mut scratch = [OLD; 2];
     let short = from_io::<ArrayString<4>, _>(rt.alloc(), (TEXT.as_slice(), &mut scratch));
-    assert_eq!(rt; short.err(), Some(Error::DeserializeUnexpectedEnd));
+    same(&rt, short.err(), Some(Error::DeserializeUnexpectedEnd));
 }
 
 #[test]
@@ -45,10 +50,11 @@ fn given_back_after_bytes_are_copied(rt: HostRuntime) {
     let source = IOReader::new([0x02, 0x05, 0x06].as_slice(), &mut scratch);
     let mut deserializer = Deserializer::from_flavor(source);
     let bytes = deserializer.deserialize_byte_buf(rt.alloc());
-    assert_eq!(rt;
+    same(
+        &rt,
         bytes.expect(&rt, "bytes are read").as_slice(),
-        [5, 6].as_slice()
+        [5, 6].as_slice(),
     );
     let (_, left) = deserializer.finalize().expect(&rt, "the source comes back");
-    assert_eq!(rt; left.len(), 3);
+    same(&rt, left.len(), 3);
 }

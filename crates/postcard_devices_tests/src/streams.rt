@@ -1,5 +1,6 @@
 //! Tests of a user's values, written to a writer and read back from a reader.
 
+use crate::same::same;
 use postcard::{Error, Serialize, from_io, to_io};
 use postcard_vectors::devices::readers::Pieces;
 use postcard_vectors::devices::writers::Bounded;
@@ -9,7 +10,7 @@ use std::process::Abort;
 /// Asserts that the value is written to a writer as these bytes, for which there is just room.
 fn is_sent<T: Serialize, const N: usize>(rt: &impl Abort, value: &T, bytes: [u8; N]) {
     let sent = to_io(value, Bounded::<N>::new()).expect(rt, "the value has room");
-    assert_eq!(rt; sent.held.as_slice(), bytes.as_slice());
+    same(rt, sent.held.as_slice(), bytes.as_slice());
 }
 
 #[test]
@@ -20,7 +21,7 @@ fn an_enum(rt: HostRuntime) {
     is_sent(&rt, &choice, bytes);
     let read = from_io::<DataEnum, _>(rt.alloc(), (bytes.as_slice(), &mut scratch));
     let (value, _) = read.expect(&rt, "a value is read");
-    assert_eq!(rt; value, choice);
+    same(&rt, value, choice);
 }
 
 #[test]
@@ -39,7 +40,7 @@ fn a_struct(rt: HostRuntime) {
     is_sent(&rt, &record, bytes);
     let read = from_io::<BasicU8S, _>(rt.alloc(), (bytes.as_slice(), &mut scratch));
     let (value, _) = read.expect(&rt, "a value is read");
-    assert_eq!(rt; value, record);
+    same(&rt, value, record);
 }
 
 #[test]
@@ -50,10 +51,10 @@ fn lent_fields(rt: HostRuntime) {
     let mut scratch = [0; 9];
     let read = from_io::<RefStruct, _>(rt.alloc(), (Pieces::new(&bytes, &[1]), &mut scratch));
     let (lent, (_, left)) = read.expect(&rt, "a value is read");
-    assert_eq!(rt; lent.bytes, [0x01, 0x10, 0x02, 0x20].as_slice());
-    assert_eq!(rt; lent.str_s, "hElLo");
-    assert_eq!(rt; left.len(), 0);
+    same(&rt, lent.bytes, [0x01, 0x10, 0x02, 0x20].as_slice());
+    same(&rt, lent.str_s, "hElLo");
+    same(&rt, left.len(), 0);
     let mut short = [0; 8];
     let refused = from_io::<RefStruct, _>(rt.alloc(), (Pieces::new(&bytes, &[1]), &mut short));
-    assert_eq!(rt; refused.err(), Some(Error::DeserializeUnexpectedEnd));
+    same(&rt, refused.err(), Some(Error::DeserializeUnexpectedEnd));
 }

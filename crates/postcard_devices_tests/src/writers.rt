@@ -3,6 +3,7 @@
 ghost use Rattle.std.specs.Prelude.{◌≡◌, IfOk};
 ghost use Rattle.postcard_wire.specs.Spelling.{canonical};
 
+use crate::same::same;
 use postcard::{Error, Serialize, to_io};
 use postcard_vectors::devices::writers::{Bounded, FailingWriter};
 use std::process::Abort;
@@ -17,9 +18,13 @@ fn sent<T: Serialize, const N: usize>(value: &T) -> postcard::Result<Bounded<N>>
 #[test]
 fn short_of_room(rt: HostRuntime) {
     let writer = sent::<_, 4>(&"Hi!").expect(&rt, "the text has room");
-    assert_eq!(rt; writer.held.as_slice(), [0x03, 0x48, 0x69, 0x21].as_slice());
+    same(
+        &rt,
+        writer.held.as_slice(),
+        [0x03, 0x48, 0x69, 0x21].as_slice(),
+    );
     let refused = sent::<_, 3>(&"Hi!").err();
-    assert_eq!(rt; refused, Some(Error::SerializeBufferFull));
+    same(&rt, refused, Some(Error::SerializeBufferFull));
 }
 
 /// Writes a tuple of four pieces to a writer of which one write, or the flush, fails, if the tuple
@@ -34,11 +39,11 @@ fn write_through(rt: &impl Abort, fails_at: usize, flush_fails: bool) {
     };
     let refused = to_io(&(1u8, 10u32, "Hello!"), &mut writer).err();
     let fails = fails_at < 4 || flush_fails;
-    assert_eq!(rt; refused, fails.then_some(Error::SerializeBufferFull));
-    assert_eq!(rt; writer.flushed, !fails);
+    same(rt, refused, fails.then_some(Error::SerializeBufferFull));
+    same(rt, writer.flushed, !fails);
     let want = [0x01, 0x0A, 0x06, 0x48, 0x65, 0x6C, 0x6C, 0x6F, 0x21];
     assert!(rt; want.starts_with(writer.inner.held.as_slice()));
-    assert_eq!(rt; writer.writes, fails_at.saturating_add(1).min(4));
+    same(rt, writer.writes, fails_at.saturating_add(1).min(4));
 }
 
 #[test]

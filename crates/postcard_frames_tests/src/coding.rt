@@ -4,6 +4,7 @@ ghost use Rattle.std.specs.Prelude.{IsTrue};
 ghost use Rattle.postcard_cobs.specs.Groups.{NoZero};
 
 use crate::rows::{FRAMES, FULL_LESS_ONE, LONG, first_zero, joined};
+use crate::same::{same, same_at};
 use postcard_cobs::{
     DecodeReport, EncoderState, PushResult, decode_in_place, decode_in_place_report, frame_len,
 };
@@ -101,25 +102,27 @@ fn made_by_runs(rt: &(impl Abort + AllocGlobal), content: &[u8]) -> Vec<u8> {
 #[test]
 fn a_new_state(rt: HostRuntime) {
     let mut state = EncoderState::default();
-    assert_eq!(rt; state.place(), 1);
-    assert_eq!(rt; state.push(0x01), PushResult::AddSingle(0x01));
-    assert_eq!(rt;
+    same(&rt, state.place(), 1);
+    same(&rt, state.push(0x01), PushResult::AddSingle(0x01));
+    same(
+        &rt,
         state.push(0x00),
-        PushResult::ModifyFromStartAndSkip((0, 2))
+        PushResult::ModifyFromStartAndSkip((0, 2)),
     );
-    assert_eq!(rt; state.push(0x20), PushResult::AddSingle(0x20));
-    assert_eq!(rt; state.place(), 4);
-    assert_eq!(rt; state.finalize(), (2, 2));
+    same(&rt, state.push(0x20), PushResult::AddSingle(0x20));
+    same(&rt, state.place(), 4);
+    same(&rt, state.finalize(), (2, 2));
 }
 
 /// Asserts that the state is that after 253 bytes of the first group, which one byte more fills.
 fn is_filled_by_one(rt: &impl Abort, state: EncoderState) {
     let mut state = state;
-    assert_eq!(rt; (state.run_room(), state.place()), (1, 254));
+    assert!(rt; state.place() == 254);
+    same(rt, state.run_room(), 1);
     let full = PushResult::ModifyFromStartAndPushAndSkip((0, 255, 0x11));
-    assert_eq!(rt; state.push(0x11), full);
-    assert_eq!(rt; (state.run_room(), state.place()), (254, 256));
-    assert_eq!(rt; state.finalize(), (255, 1));
+    same(rt, state.push(0x11), full);
+    same(rt, (state.run_room(), state.place()), (254, 256));
+    same(rt, state.finalize(), (255, 1));
 }
 
 #[test]
@@ -127,11 +130,11 @@ fn a_group_is_full_at_254_bytes(rt: HostRuntime) {
     let mut pushed = EncoderState::default();
     for byte in FULL_LESS_ONE {
         assert!(rt; pushed.place() < 1000);
-        assert_eq!(rt; pushed.push(byte), PushResult::AddSingle(0x11));
+        same(&rt, pushed.push(byte), PushResult::AddSingle(0x11));
     }
     is_filled_by_one(&rt, pushed);
     let mut run = EncoderState::default();
-    assert_eq!(rt; run.run_room(), 254);
+    same(&rt, run.run_room(), 254);
     assert!(rt; has_no_zero(&FULL_LESS_ONE));
     run.push_run(&FULL_LESS_ONE);
     is_filled_by_one(&rt, run);
@@ -140,7 +143,7 @@ fn a_group_is_full_at_254_bytes(rt: HostRuntime) {
 /// Asserts that the frame is decoded in place, to this data.
 fn is_decoded(rt: &impl Abort, frame: &mut [u8], content: &[u8]) {
     match decode_in_place(frame) {
-        Ok(used) => assert_eq!(rt; frame.get(..used), Some(content)),
+        Ok(used) => same(rt, frame.get(..used), Some(content)),
         Err(e) => panic!(rt; "{e:?}: no frame of {content:?}"),
     }
 }
@@ -148,7 +151,7 @@ fn is_decoded(rt: &impl Abort, frame: &mut [u8], content: &[u8]) {
 /// Asserts that the data has this made frame, which is decoded to it.
 fn is_framed(rt: &(impl Abort + AllocGlobal), content: &[u8], frame: &[u8]) {
     let mut buffer = made(rt, content);
-    assert_eq!(rt; buffer.as_slice(), frame, "the frame of {content:?}");
+    same_at(rt, buffer.as_slice(), frame, content);
     is_decoded(rt, &mut buffer, content);
 }
 
@@ -170,19 +173,19 @@ fn long_groups(rt: HostRuntime) {
 /// decoded to the data.
 pub fn comes_back(rt: &(impl Abort + AllocGlobal), content: &[u8], more: usize) {
     let mut buffer = made(rt, content);
-    assert_eq!(rt; buffer.len().checked_sub(more), Some(content.len()));
-    assert_eq!(rt; made_by_runs(rt, content), buffer);
+    same(rt, buffer.len().checked_sub(more), Some(content.len()));
+    same(rt, made_by_runs(rt, content).as_slice(), buffer.as_slice());
     is_decoded(rt, &mut buffer, content);
 }
 
 #[test]
 fn a_full_group_at_the_end(rt: HostRuntime) {
-    let refused = Err(Error::DeserializeBadEncoding);
     for end in [[].as_slice(), &[0]] {
         let mut whole = joined(&rt, &[&[0xFF, 0x11], &FULL_LESS_ONE, end]);
-        assert_eq!(rt; decode_in_place(&mut whole), Ok(254));
+        same(&rt, decode_in_place(&mut whole), Ok(254));
         let mut short = joined(&rt, &[&[0xFF], &FULL_LESS_ONE, end]);
-        assert_eq!(rt; decode_in_place(&mut short), refused);
+        let refused = decode_in_place(&mut short);
+        same(&rt, refused, Err(Error::DeserializeBadEncoding));
     }
 }
 
@@ -211,8 +214,8 @@ const REPORTS: [(&[u8], usize, usize, &[u8]); 7] = [
 /// Asserts that decoding these bytes in place has this report, and leaves the bytes `after`.
 fn is_reported(rt: &(impl Abort + AllocGlobal), before: &[u8], report: DecodeReport, after: &[u8]) {
     let mut buffer = joined(rt, &[before]);
-    assert_eq!(rt; decode_in_place_report(&mut buffer), Ok(report));
-    assert_eq!(rt; buffer.as_slice(), after);
+    same(rt, decode_in_place_report(&mut buffer), Ok(report));
+    same(rt, buffer.as_slice(), after);
 }
 
 #[test]
@@ -238,9 +241,9 @@ const NO_FRAMES: [&[u8]; 8] = [
 fn is_not_decoded(rt: &(impl Abort + AllocGlobal), before: &[u8]) {
     let mut buffer = joined(rt, &[before]);
     let report = decode_in_place_report(&mut buffer);
-    assert_eq!(rt; report, Err(Error::DeserializeBadEncoding));
+    same(rt, report, Err(Error::DeserializeBadEncoding));
     let end = first_zero(before);
-    assert_eq!(rt; buffer.get(end..), before.get(end..), "{before:?}");
+    same_at(rt, buffer.get(end..), before.get(end..), before);
 }
 
 #[test]
@@ -256,10 +259,10 @@ fn survives(rt: &(impl Abort + AllocGlobal), before: &[u8]) {
     let mut after = joined(rt, &[before]);
     let end = first_zero(before);
     match decode_in_place_report(&mut after) {
-        Ok(report) => assert_eq!(rt; report.src_used, end, "{before:?}"),
-        Err(e) => assert_eq!(rt; e, Error::DeserializeBadEncoding, "{before:?}"),
+        Ok(report) => same_at(rt, report.src_used, end, before),
+        Err(e) => same_at(rt, e, Error::DeserializeBadEncoding, before),
     }
-    assert_eq!(rt; after.get(end..), before.get(end..), "after {before:?}");
+    same_at(rt, after.get(end..), before.get(end..), before);
 }
 
 #[test]

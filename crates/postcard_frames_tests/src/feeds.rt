@@ -1,5 +1,6 @@
 //! Tests of the results of `feed`, piece by piece.
 
+use crate::same::{same, same_at};
 use postcard_accumulator::{CobsAccumulator, FeedResult};
 use std::alloc::AllocGlobal;
 use std::process::Abort;
@@ -59,7 +60,7 @@ fn is_fed<const N: usize>(
     for piece in pieces {
         feed_piece(rt, acc, piece, &mut all);
     }
-    assert_eq!(rt; all.as_slice(), expected, "{pieces:?}");
+    same_at(rt, all.as_slice(), expected, pieces);
     feed_once(rt, acc, &[0]);
 }
 
@@ -144,8 +145,8 @@ fn cut_in_each_way(rt: HostRuntime) {
         let mut answers = all.iter().filter(|fed| **fed != Fed::Consumed);
         let first = answers.next();
         assert!(rt; matches!(first, Some(Fed::OverFull(_))), "{cuts:b}");
-        assert_eq!(rt; answers.next(), Some(&Fed::Success(7, 0)), "{cuts:b}");
-        assert_eq!(rt; answers.next(), None, "{cuts:b}");
+        same_at(&rt, answers.next(), Some(&Fed::Success(7, 0)), cuts);
+        same_at(&rt, answers.next(), None, cuts);
     }
 }
 
@@ -163,7 +164,7 @@ fn exact_room(rt: HostRuntime) {
     let mut long = CobsAccumulator::<12>::new();
     match long.feed::<[u8; 10]>(rt.alloc(), &frame) {
         FeedResult::Success { value, remaining } => {
-            assert_eq!(rt; (value, remaining.len()), ([0xCC; 10], 0));
+            same(&rt, (value, remaining.len()), ([0xCC; 10], 0));
         }
         _ => panic!(rt; "the frame has room"),
     }
@@ -182,7 +183,7 @@ fn lent_texts(rt: HostRuntime) {
     for expected in [(10, 20, "test"), (256_854_231, 115, "different test")] {
         match acc.feed_ref::<(u32, u8, &str)>(rt.alloc(), window) {
             FeedResult::Success { value, remaining } => {
-                assert_eq!(rt; value, expected);
+                same(&rt, value, expected);
                 window = remaining;
             }
             _ => panic!(rt; "each frame has a value"),

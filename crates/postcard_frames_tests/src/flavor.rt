@@ -5,6 +5,7 @@ ghost use Rattle.std.specs.Prelude.{◌<◌};
 
 use crate::OLD;
 use crate::rows::{FRAMES, FULL, LONG, joined};
+use crate::same::{same, same_at};
 use postcard::ser_flavors::{AllocVec, Cobs, Flavor, HVec, Slice, Storage};
 use postcard::{Error, Result};
 use std::alloc::AllocGlobal;
@@ -33,17 +34,17 @@ fn framed_bytewise<B: Storage + Drop>(storage: B, data: &[u8]) -> Result<<B as F
 /// Asserts that the data has this frame in a vector and in a buffer of fixed capacity.
 fn fills_vectors(rt: &(impl Abort + AllocGlobal), data: &[u8], frame: &[u8]) {
     let grown = framed(AllocVec::new(rt.alloc()), data, 1000).expect(rt, "a vector grows");
-    assert_eq!(rt; grown.as_slice(), frame);
+    same(rt, grown.as_slice(), frame);
     let fixed = framed(HVec::<512>::new(), data, 1000).expect(rt, "the frame has room");
-    assert_eq!(rt; fixed.as_slice(), frame);
+    same(rt, fixed.as_slice(), frame);
 }
 
 /// Asserts that the data has this frame in a slice, whose other bytes stay as they were.
 fn fills_a_slice(rt: &impl Abort, data: &[u8], frame: &[u8]) {
     let mut buffer = [OLD; 513];
     let front: &[u8] = framed(Slice::new(&mut buffer), data, 1000).expect(rt, "the frame has room");
-    assert_eq!(rt; front, frame);
-    assert_eq!(rt; buffer.get(frame.len()), Some(&OLD));
+    same(rt, front, frame);
+    same(rt, buffer.get(frame.len()), Some(&OLD));
 }
 
 #[test]
@@ -61,19 +62,23 @@ fn each_storage_gets_the_frame(rt: HostRuntime) {
 #[test]
 fn once_full_it_stays_full(rt: HostRuntime) {
     let mut cobs = Cobs::try_new(HVec::<2>::new()).expect(&rt, "a code byte has room");
-    assert_eq!(rt; cobs.try_push(0x01), Ok(()));
-    assert_eq!(rt; cobs.try_push(0x00), Err(Error::SerializeBufferFull));
-    assert_eq!(rt; cobs.try_push(0x02), Err(Error::SerializeBufferFull));
-    assert_eq!(rt; cobs.try_extend(&[0x02]), Err(Error::SerializeBufferFull));
-    assert_eq!(rt; cobs.finalize().err(), Some(Error::SerializeBufferFull));
+    same(&rt, cobs.try_push(0x01), Ok(()));
+    same(&rt, cobs.try_push(0x00), Err(Error::SerializeBufferFull));
+    same(&rt, cobs.try_push(0x02), Err(Error::SerializeBufferFull));
+    same(
+        &rt,
+        cobs.try_extend(&[0x02]),
+        Err(Error::SerializeBufferFull),
+    );
+    same(&rt, cobs.finalize().err(), Some(Error::SerializeBufferFull));
 }
 
 /// Asserts that a slice has room for a frame of the data if and only if `has_room`.
 fn fits(rt: &impl Abort, data: &[u8], place: &mut [u8], has_room: bool) {
     let room = place.len();
     match framed(Slice::new(place), data, 10) {
-        Ok(front) => assert_eq!(rt; (front.len(), has_room), (room, true)),
-        Err(e) => assert_eq!(rt; (e, has_room), (Error::SerializeBufferFull, false)),
+        Ok(front) => same(rt, (front.len(), has_room), (room, true)),
+        Err(e) => same(rt, (e, has_room), (Error::SerializeBufferFull, false)),
     }
 }
 
@@ -97,7 +102,7 @@ fn short_of_room(rt: HostRuntime) {
 /// holds these pieces then.
 fn goes_after(rt: &(impl Abort + AllocGlobal), held: Vec<u8>, data: &[u8], after: &[&[u8]]) {
     let vec = framed(AllocVec::from_vec(held), data, 1000).expect(rt, "a vector grows");
-    assert_eq!(rt; vec, joined(rt, after));
+    same(rt, vec, joined(rt, after));
 }
 
 /// The bytes in a vector before, the data, and the pieces of the vector's bytes then.
@@ -137,14 +142,14 @@ fn a_frame_goes_after_held_bytes(rt: HostRuntime) {
 fn a_frame_goes_after_a_byte_of_a_slice(rt: HostRuntime) {
     let mut buffer = [OLD; 8];
     let mut slice = Slice::new(&mut buffer);
-    assert_eq!(rt; slice.try_push(0x09), Ok(()));
+    same(&rt, slice.try_push(0x09), Ok(()));
     let front: &[u8] = framed(slice, &[0x01, 0x31], 2).expect(&rt, "the frame has room");
-    assert_eq!(rt; front, [0x09, 0x03, 0x01, 0x31, 0x00].as_slice());
-    assert_eq!(rt; buffer, [0x09, 0x03, 0x01, 0x31, 0x00, OLD, OLD, OLD]);
+    same(&rt, front, [0x09, 0x03, 0x01, 0x31, 0x00].as_slice());
+    same(&rt, buffer, [0x09, 0x03, 0x01, 0x31, 0x00, OLD, OLD, OLD]);
     let mut short = Slice::new(&mut buffer[..4]);
-    assert_eq!(rt; short.try_push(0x09), Ok(()));
+    same(&rt, short.try_push(0x09), Ok(()));
     let full = framed(short, &[0x01, 0x31], 2).err();
-    assert_eq!(rt; full, Some(Error::SerializeBufferFull));
+    same(&rt, full, Some(Error::SerializeBufferFull));
 }
 
 /// Writes a byte and a frame of two bytes into a slice, of which the frame has five bytes. Asserts
@@ -152,17 +157,17 @@ fn a_frame_goes_after_a_byte_of_a_slice(rt: HostRuntime) {
 fn comes_back(rt: &impl Abort, place: &mut [u8]) {
     let room = place.len();
     let mut slice = Slice::new(place);
-    assert_eq!(rt; slice.try_push(0x09), Ok(()));
+    same(rt, slice.try_push(0x09), Ok(()));
     let mut cobs = Cobs::open(slice);
     let pushed = cobs.try_extend(&[0x01, 0x31]);
     let (slice, closed) = cobs.close();
     let (all, count) = slice.into_parts();
     let expected = (room >= 4, room >= 5, room);
-    assert_eq!(rt; (pushed.is_ok(), closed.is_ok(), all.len()), expected);
+    same(rt, (pushed.is_ok(), closed.is_ok(), all.len()), expected);
     if closed.is_ok() {
         let frame = [0x09, 0x03, 0x01, 0x31, 0x00];
-        assert_eq!(rt; all.get(..count), Some(frame.as_slice()), "{room}");
-        assert_eq!(rt; all.get(count..), [OLD; 6].get(count..room), "{room}");
+        same_at(rt, all.get(..count), Some(frame.as_slice()), room);
+        same_at(rt, all.get(count..), [OLD; 6].get(count..room), room);
     }
 }
 
@@ -174,13 +179,13 @@ fn the_storage_comes_back(rt: HostRuntime) {
         comes_back(&rt, &mut place);
     }
     let mut cobs = Cobs::open(AllocVec::from_vec(joined(&rt, &[&[0x09]])));
-    assert_eq!(rt; cobs.try_push(0x31), Ok(()));
+    same(&rt, cobs.try_push(0x31), Ok(()));
     let held = cobs
         .into_storage()
         .finalize()
         .expect(&rt, "a vector comes back");
-    assert_eq!(rt; held.len(), 3);
-    assert_eq!(rt; (held.first(), held.last()), (Some(&0x09), Some(&0x31)));
+    same(&rt, held.len(), 3);
+    same(&rt, (held.first(), held.last()), (Some(&0x09), Some(&0x31)));
 }
 
 /// Asserts that data that is taken byte by byte, and in pieces of up to 7 bytes, has the frame that
@@ -189,9 +194,9 @@ pub fn pieces_make_the_same_frame(rt: &(impl Abort + AllocGlobal), data: &[u8]) 
     let len = data.len();
     let whole = framed(AllocVec::new(rt.alloc()), data, 600).expect(rt, "a vector grows");
     let bytewise = framed_bytewise(AllocVec::new(rt.alloc()), data).expect(rt, "a vector grows");
-    assert_eq!(rt; bytewise, whole, "{len} bytes, one by one");
+    same_at(rt, bytewise.as_slice(), whole.as_slice(), len);
     for size in 1..8 {
         let cut = framed(AllocVec::new(rt.alloc()), data, size).expect(rt, "a vector grows");
-        assert_eq!(rt; cut, whole, "{len} bytes by {size}");
+        same_at(rt, cut.as_slice(), whole.as_slice(), (len, size));
     }
 }

@@ -1,6 +1,7 @@
 //! Tests of reading values from frames: frames worked out by hand, and damaged frames.
 
 use crate::rows::{FULL, first_zero, joined};
+use crate::same::{same, same_at};
 use postcard::{
     DeserializeOwned, Error, Owned, Result, Serialize, from_bytes_cobs, take_from_bytes_cobs,
     to_allocvec_cobs, to_slice_cobs,
@@ -9,34 +10,45 @@ use postcard_vectors::types::RefStruct;
 use std::alloc::AllocGlobal;
 use std::process::Abort;
 
-/// Bytes, each beside the byte that is read from the frame at their front, and the bytes after that
-/// frame.
-const BYTES: [(&[u8], Result<(u8, &[u8])>); 7] = [
-    (&[0x02, 0x07], Ok((7, &[]))),
-    (&[0x03, 0x07, 0x08, 0x00], Ok((7, &[]))),
-    (&[0x03, 0x07, 0x08, 0x00, 0x05], Ok((7, &[0x05]))),
-    (&[0x02, 0x07, 0x00, 0x00, 0x09], Ok((7, &[0x00, 0x09]))),
-    (&[], Err(Error::DeserializeBadEncoding)),
-    (&[0x00], Err(Error::DeserializeBadEncoding)),
-    (&[0x05, 0x01, 0x00], Err(Error::DeserializeBadEncoding)),
+/// Bytes, each beside the bytes after the frame at their front, which holds the byte 7.
+const BYTES: [(&[u8], &[u8]); 4] = [
+    (&[0x02, 0x07], &[]),
+    (&[0x03, 0x07, 0x08, 0x00], &[]),
+    (&[0x03, 0x07, 0x08, 0x00, 0x05], &[0x05]),
+    (&[0x02, 0x07, 0x00, 0x00, 0x09], &[0x00, 0x09]),
 ];
 
-/// Asserts that reading a byte from the frame at the front of these bytes has this result.
-fn is_read(rt: &(impl Abort + AllocGlobal), bytes: &[u8], expected: Result<(u8, &[u8])>) {
+/// Bytes that aren't a frame.
+const NO_FRAMES: [&[u8]; 3] = [&[], &[0x00], &[0x05, 0x01, 0x00]];
+
+/// Reads a byte from the frame at the front of these bytes. Asserts that these bytes are left.
+fn front_of(rt: &(impl Abort + AllocGlobal), bytes: &[u8], left: &[u8]) -> Result<u8> {
     let mut buffer = joined(rt, &[bytes]);
-    match take_from_bytes_cobs::<u8>(rt.alloc(), &mut buffer) {
-        Ok((value, rest)) => assert_eq!(rt; Ok((value, &*rest)), expected, "{bytes:?}"),
-        Err(e) => assert_eq!(rt; Err(e), expected, "{bytes:?}"),
-    }
+    let (value, rest) = take_from_bytes_cobs::<u8>(rt.alloc(), &mut buffer)?;
+    same_at(rt, &*rest, left, bytes);
+    Ok(value)
+}
+
+/// Asserts that reading a byte from the frame at the front of these bytes has this result, and
+/// leaves these bytes if it succeeds.
+fn is_read(rt: &(impl Abort + AllocGlobal), bytes: &[u8], left: &[u8], expected: &Result<u8>) {
+    same_at(rt, &front_of(rt, bytes, left), expected, bytes);
     let mut buffer = joined(rt, &[bytes]);
-    let whole = from_bytes_cobs::<u8>(rt.alloc(), &mut buffer);
-    assert_eq!(rt; whole, expected.map(|(value, _)| value), "{bytes:?}");
+    same_at(
+        rt,
+        &from_bytes_cobs(rt.alloc(), &mut buffer),
+        expected,
+        bytes,
+    );
 }
 
 #[test]
 fn frames_of_a_byte(rt: HostRuntime) {
-    for (bytes, expected) in BYTES {
-        is_read(&rt, bytes, expected);
+    for (bytes, left) in BYTES {
+        is_read(&rt, bytes, left, &Ok(7));
+    }
+    for bytes in NO_FRAMES {
+        is_read(&rt, bytes, &[], &Err(Error::DeserializeBadEncoding));
     }
 }
 
@@ -46,19 +58,19 @@ fn zeros_inside_and_after(rt: HostRuntime) {
     for frame in rows {
         let mut buffer = joined(&rt, &[frame]);
         match take_from_bytes_cobs::<(i32, u8, u64)>(rt.alloc(), &mut buffer) {
-            Ok((value, rest)) => assert_eq!(rt; (value, rest.len()), ((4, 0, 4), 0)),
+            Ok((value, rest)) => same(&rt, (value, rest.len()), ((4, 0, 4), 0)),
             Err(e) => panic!(rt; "{e:?}"),
         }
     }
     let refused = from_bytes_cobs::<bool>(rt.alloc(), &mut [0x02, 0x05, 0x00]);
-    assert_eq!(rt; refused, Err(Error::DeserializeBadBool));
+    same(&rt, refused, Err(Error::DeserializeBadBool));
 }
 
 /// Asserts that the struct is read from this frame, with parts that borrow from it.
 fn is_lent(rt: &(impl Abort + AllocGlobal), frame: &mut [u8]) {
     let lent = from_bytes_cobs::<RefStruct>(rt.alloc(), frame).expect(rt, "the frame has a value");
-    assert_eq!(rt; lent.bytes, [0x01, 0x00, 0x02, 0x20].as_slice());
-    assert_eq!(rt; lent.str_s, "hElLo");
+    same(rt, lent.bytes, [0x01, 0x00, 0x02, 0x20].as_slice());
+    same(rt, lent.str_s, "hElLo");
 }
 
 #[test]
@@ -75,7 +87,7 @@ fn lent_parts_of_frames(rt: HostRuntime) {
     let (first, rest) = front.expect(&rt, "the first frame has a text");
     let front = take_from_bytes_cobs::<&str>(rt.alloc(), rest);
     let (second, rest) = front.expect(&rt, "the second frame has a text");
-    assert_eq!(rt; (first, second, rest.len()), ("a", "b", 0));
+    same(&rt, (first, second, rest.len()), ("a", "b", 0));
 }
 
 #[test]
@@ -84,7 +96,7 @@ fn a_full_group_is_read(rt: HostRuntime) {
     for end in ends {
         let mut frame = joined(&rt, &[&[0xFF], &FULL, end]);
         let value = from_bytes_cobs::<[u8; 254]>(rt.alloc(), &mut frame);
-        assert_eq!(rt; value, Ok(FULL), "{end:?}");
+        same_at(&rt, value, Ok(FULL), end);
     }
 }
 
@@ -114,7 +126,7 @@ fn what_was_framed_comes_back(rt: HostRuntime) {
 pub fn list_comes_back(rt: &(impl Abort + AllocGlobal), list: &[u8]) {
     let mut frame = to_allocvec_cobs(rt.alloc(), &list).expect(rt, "a vector grows");
     let read = from_bytes_cobs::<&[u8]>(rt.alloc(), &mut frame);
-    assert_eq!(rt; read, Ok(list), "{} bytes", list.len());
+    same_at(rt, read, Ok(list), list.len());
 }
 
 /// Frames of values of many types.
@@ -157,7 +169,7 @@ fn survives<T: DeserializeOwned>(rt: &(impl Abort + AllocGlobal), before: &[u8])
         assert_ne!(rt; e, Error::OutOfMemory, "{before:?}");
     }
     let end = first_zero(before);
-    assert_eq!(rt; after.get(end..), before.get(end..), "{before:?}");
+    same_at(rt, after.get(end..), before.get(end..), before);
 }
 
 /// Changes the byte at this place of a frame to each of the 256 values, and reads the frame with

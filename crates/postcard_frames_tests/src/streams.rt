@@ -1,6 +1,7 @@
 //! Tests of the answers of `read_frames` to whole streams.
 
 use crate::rows::joined;
+use crate::same::{same, same_at};
 use postcard_accumulator::{Answer, CobsAccumulator, ReadEnd, read_frames};
 use postcard_de::DeserializeOwned;
 use postcard_de_flavors::{Plain, Source};
@@ -47,7 +48,7 @@ fn is_answered(
     let mut acc = CobsAccumulator::<4>::new();
     let mut out = Vec::new(rt.alloc());
     let ended = read(rt, &mut STREAM.as_slice(), size, reads, &mut acc, &mut out);
-    assert_eq!(rt; (out.as_slice(), ended), (expected, end), "{size} {reads}");
+    same_at(rt, (out.as_slice(), ended), (expected, end), (size, reads));
 }
 
 #[test]
@@ -71,7 +72,7 @@ fn check<T: DeserializeOwned + PartialEq + Debug, const N: usize>(
     for size in 1..=32 {
         let mut out = Vec::new(rt.alloc());
         let end = read(rt, &mut &*stream, size, 1000, acc, &mut out);
-        assert_eq!(rt; (out.as_slice(), end), (expected, ReadEnd::End), "{size}");
+        same_at(rt, (out.as_slice(), end), (expected, ReadEnd::End), size);
         let _ = acc.feed::<u8>(rt.alloc(), &[0]);
     }
 }
@@ -123,7 +124,7 @@ fn a_long_record(rt: HostRuntime) {
             &[0x01, 0x00],
         ],
     );
-    assert_eq!(rt; frame.len(), 145);
+    same(&rt, frame.len(), 145);
     check::<(u32, [u32; 32], u64), 256>(
         &rt,
         &mut CobsAccumulator::new(),
@@ -167,11 +168,11 @@ fn goes_on(rt: &(impl Abort + AllocGlobal), fails_at: usize, count: usize) {
     let mut acc = CobsAccumulator::<4>::new();
     let mut out = Vec::new(rt.alloc());
     let failed = read(rt, &mut reader, 1, 20, &mut acc, &mut out);
-    assert_eq!(rt; failed, ReadEnd::ReadFailed, "{fails_at}");
-    assert_eq!(rt; Some(out.as_slice()), BOTH.get(..count), "{fails_at}");
+    same_at(rt, failed, ReadEnd::ReadFailed, fails_at);
+    same_at(rt, Some(out.as_slice()), BOTH.get(..count), fails_at);
     let ended = read(rt, &mut reader, 1, 20, &mut acc, &mut out);
-    assert_eq!(rt; ended, ReadEnd::End, "{fails_at}");
-    assert_eq!(rt; out.as_slice(), BOTH.as_slice(), "{fails_at}");
+    same_at(rt, ended, ReadEnd::End, fails_at);
+    same_at(rt, out.as_slice(), BOTH.as_slice(), fails_at);
 }
 
 #[test]
@@ -193,14 +194,14 @@ fn read_on<T: DeserializeOwned, const N: usize>(
     let mut reader = stream;
     let first = read_frames(rt.alloc(), &mut reader, &mut chunk, 5, acc, out);
     let ReadEnd::OutOfMemory { from, to } = first else {
-        assert_eq!(rt; first, ReadEnd::End);
+        same(rt, first, ReadEnd::End);
         return false;
     };
     let Some(mut unfed) = chunk.get(from..to) else {
         panic!(rt; "bytes that weren't fed lie outside the chunk");
     };
     let ended = read_frames(rt.alloc(), &mut unfed, &mut [0; 32], 5, acc, out);
-    assert_eq!(rt; ended, ReadEnd::End);
+    same(rt, ended, ReadEnd::End);
     true
 }
 
@@ -213,7 +214,7 @@ fn refused_answers(rt: HostRuntime) {
     if read_on(&rt, &STREAM, &mut acc, &mut out) {
         println!(rt; "refused").expect(&rt, "a line is printed");
     }
-    assert_eq!(rt; out.as_slice(), BOTH.as_slice());
+    same(&rt, out.as_slice(), BOTH.as_slice());
 }
 
 /// If an allocation for a list fails, its frame is answered `DeserError`, and no other answer
@@ -223,12 +224,12 @@ fn refused_lists(rt: HostRuntime) {
     let mut acc = CobsAccumulator::<8>::new();
     let mut out = Vec::<Answer<Vec<u8>>>::new(rt.alloc());
     let mut refused = read_on(&rt, &[4, 2, 9, 8, 0, 3, 1, 7, 0], &mut acc, &mut out);
-    assert_eq!(rt; out.len(), 2);
+    same(&rt, out.len(), 2);
     for (answer, list) in out.iter().zip([[9, 8].as_slice(), [7].as_slice()]) {
         match answer {
-            Answer::Success(read) => assert_eq!(rt; read.as_slice(), list),
+            Answer::Success(read) => same(&rt, read.as_slice(), list),
             other => {
-                assert_eq!(rt; (other, refused), (&Answer::DeserError, false));
+                same(&rt, (other, refused), (&Answer::DeserError, false));
                 refused = true;
             }
         }

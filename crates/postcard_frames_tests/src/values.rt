@@ -2,6 +2,7 @@
 
 use crate::OLD;
 use crate::rows::{FULL, FULL_LESS_ONE, LONG, joined};
+use crate::same::same;
 use postcard::{
     Error, Result, Serialize, fill_slice_cobs, to_allocvec_cobs, to_allocvec_cobs_after,
     to_slice_cobs, to_stdvec_cobs, to_vec_cobs,
@@ -21,13 +22,13 @@ fn is_written(
 ) {
     let len = frame.len();
     if len <= room {
-        assert_eq!(rt; outcome, Ok(len));
+        same(rt, outcome, Ok(len));
         assert!(rt; buffer.starts_with(frame));
     } else {
-        assert_eq!(rt; outcome, Err(Error::SerializeBufferFull));
+        same(rt, outcome, Err(Error::SerializeBufferFull));
     }
     let end = len.min(room);
-    assert_eq!(rt; buffer.get(end..), [OLD; 16].get(end..));
+    same(rt, buffer.get(end..), [OLD; 16].get(end..));
 }
 
 /// Asserts that the value has this frame in each buffer that is as long or longer, whose other
@@ -37,7 +38,7 @@ fn is_framed_in_slices<T: Serialize>(rt: &impl Abort, value: &T, frame: &[u8]) {
         let mut buffer = [OLD; 16];
         let written = match to_slice_cobs(value, &mut buffer[..room]) {
             Ok(front) => {
-                assert_eq!(rt; &*front, frame);
+                same(rt, &*front, frame);
                 Ok(front.len())
             }
             Err(e) => Err(e),
@@ -52,11 +53,11 @@ fn is_framed_in_slices<T: Serialize>(rt: &impl Abort, value: &T, frame: &[u8]) {
 /// Asserts that the value has this frame in a vector of fixed capacity, and in one that grows.
 fn is_framed_in_vectors<T: Serialize>(rt: &(impl Abort + AllocGlobal), value: &T, frame: &[u8]) {
     let fixed = to_vec_cobs::<_, 16>(value).expect(rt, "the frame has room");
-    assert_eq!(rt; fixed.as_slice(), frame);
+    same(rt, fixed.as_slice(), frame);
     let grown = to_allocvec_cobs(rt.alloc(), value).expect(rt, "a vector grows");
-    assert_eq!(rt; grown.as_slice(), frame);
+    same(rt, grown.as_slice(), frame);
     let grown = to_stdvec_cobs(rt.alloc(), value).expect(rt, "a vector grows");
-    assert_eq!(rt; grown.as_slice(), frame);
+    same(rt, grown.as_slice(), frame);
 }
 
 /// Asserts that the value has this frame, in a slice and in each vector.
@@ -89,9 +90,9 @@ fn a_frame_of_lent_parts(rt: HostRuntime) {
     ];
     is_framed(&rt, &lent, &frame);
     let fixed = to_vec_cobs::<_, 13>(&lent).expect(&rt, "the frame has room");
-    assert_eq!(rt; fixed.as_slice(), frame.as_slice());
+    same(&rt, fixed.as_slice(), frame.as_slice());
     let full = to_vec_cobs::<_, 12>(&lent).err();
-    assert_eq!(rt; full, Some(Error::SerializeBufferFull));
+    same(&rt, full, Some(Error::SerializeBufferFull));
 }
 
 /// Writes a frame of the value into a vector after the bytes that it holds, and asserts that it
@@ -103,7 +104,7 @@ fn goes_after<T: Serialize>(
     after: &[&[u8]],
 ) -> Vec<u8> {
     let vec = to_allocvec_cobs_after(value, held).expect(rt, "a vector grows");
-    assert_eq!(rt; vec, joined(rt, after));
+    same(rt, vec.as_slice(), &joined(rt, after));
     vec
 }
 
@@ -111,11 +112,11 @@ fn goes_after<T: Serialize>(
 fn frames_with_full_groups(rt: HostRuntime) {
     let [(_, least), (_, full), (_, more), ..] = LONG;
     let frame = to_allocvec_cobs(rt.alloc(), &FULL_LESS_ONE).expect(&rt, "a vector grows");
-    assert_eq!(rt; frame, joined(&rt, least));
+    same(&rt, frame, joined(&rt, least));
     let frame = to_allocvec_cobs(rt.alloc(), &FULL).expect(&rt, "a vector grows");
-    assert_eq!(rt; frame, joined(&rt, full));
+    same(&rt, frame, joined(&rt, full));
     let frame = to_allocvec_cobs(rt.alloc(), &[0x11u8; 255]).expect(&rt, "a vector grows");
-    assert_eq!(rt; frame, joined(&rt, more));
+    same(&rt, frame, joined(&rt, more));
 }
 
 #[test]
