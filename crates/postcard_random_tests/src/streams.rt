@@ -31,20 +31,6 @@ fn add_damaged(source: &mut Source, stream: &mut Vec<u8>, frame: &[u8]) -> Resul
     Ok(stream.push(0)?)
 }
 
-/// Returns a stream of ten values, with damaged frames between theirs.
-fn random_stream<T: Made + Serialize>(rt: &impl Abort, source: &mut Source) -> Vec<u8> {
-    let mut stream = Vec::new(source.alloc());
-    for _ in 0..10 {
-        let value = T::made(source).expect(rt, "a value");
-        let frame = to_allocvec_cobs(source.alloc(), &value).expect(rt, "a frame");
-        if source.one_in(2) {
-            add_damaged(source, &mut stream, &frame).expect(rt, "a stream");
-        }
-        stream.extend_from_slice(&frame).expect(rt, "a stream");
-    }
-    stream
-}
-
 /// Returns the right answer to a frame, given without its zero.
 fn answer<T: Made>(alloc: Global, frame: &[u8]) -> Answer<T> {
     if frame.len() >= ROOM {
@@ -67,6 +53,24 @@ fn right_answers<T: Made>(rt: &impl Abort, alloc: Global, stream: &[u8]) -> Vec<
     }
     let _ = answers.pop();
     answers
+}
+
+/// Returns a stream of ten values, with damaged frames between theirs. Asserts that the right answer
+/// to a value's frame is the value.
+fn random_stream<T: Made + Serialize + PartialEq>(rt: &impl Abort, source: &mut Source) -> Vec<u8> {
+    let mut stream = Vec::new(source.alloc());
+    for _ in 0..10 {
+        let value = T::made(source).expect(rt, "a value");
+        let frame = to_allocvec_cobs(source.alloc(), &value).expect(rt, "a frame");
+        if source.one_in(2) {
+            add_damaged(source, &mut stream, &frame).expect(rt, "a stream");
+        }
+        stream.extend_from_slice(&frame).expect(rt, "a stream");
+        let answers = right_answers::<T>(rt, source.alloc(), &frame);
+        let sent = [Answer::Success(value)];
+        assert!(rt; answers.as_slice() == sent.as_slice(), "{frame:?}");
+    }
+    stream
 }
 
 /// Feeds a stream in random pieces, each until nothing is left of it, and returns the answers.

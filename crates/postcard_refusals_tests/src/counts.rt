@@ -19,7 +19,7 @@ const CUSTOM: Error = Error::SerdeDeCustom;
 /// Asserts that reading a value from the bytes fails with this error.
 fn fails<'a, T: Deserialize<'a>>(rt: &(impl Abort + AllocGlobal), bytes: &'a [u8], error: Error) {
     let outcome = from_bytes::<T>(rt.alloc(), bytes).err();
-    assert_eq!(rt; outcome, Some(error), "{bytes:?}");
+    assert!(rt; outcome == Some(error), "{bytes:?}");
 }
 
 /// Asserts that reading a value from the bytes fails with `DeserializeUnexpectedEnd`.

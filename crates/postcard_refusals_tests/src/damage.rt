@@ -66,15 +66,12 @@ pub(crate) fn frame_changes(rt: &(impl Abort + AllocGlobal), bytes: &[u8]) -> Ve
     changes(rt, &frame)
 }
 
-/// Asserts that a call wrote `want` into the front of a buffer of `room` bytes, or that it failed
-/// because there is no room for it.
-fn is_room(rt: &impl Abort, answer: postcard::Result<&mut [u8]>, room: usize, want: &[u8]) {
+/// Returns whether a call wrote `want` into the front of a buffer of `room` bytes, or failed because
+/// there is no room for it.
+fn is_room(answer: postcard::Result<&mut [u8]>, room: usize, want: &[u8]) -> bool {
     match answer {
-        Ok(front) => assert_eq!(rt; &*front, want, "into {room} bytes"),
-        Err(e) => {
-            assert_eq!(rt; e, Error::SerializeBufferFull, "into {room} bytes");
-            assert!(rt; room < want.len(), "into {room} bytes");
-        }
+        Ok(front) => &*front == want,
+        Err(e) => e == Error::SerializeBufferFull && room < want.len(),
     }
 }
 
@@ -84,42 +81,36 @@ fn is_room(rt: &impl Abort, answer: postcard::Result<&mut [u8]>, room: usize, wa
 fn takes_its_room<T: Serialize>(rt: &impl Abort, value: &T, want: &[u8]) {
     for room in 0..=want.len().saturating_add(3) {
         let mut buffer = [OLD; 48];
-        match buffer.get_mut(..room) {
-            Some(place) => is_room(rt, to_slice(value, place), room, want),
-            None => panic!(rt; "the test's buffer is too short"),
-        }
+        let right = match buffer.get_mut(..room) {
+            Some(place) => is_room(to_slice(value, place), room, want),
+            None => false,
+        };
         let same = buffer.iter().zip(want).take_while(|(a, b)| a == b);
         let written = same.count().min(room);
-        assert!(rt;
-            buffer.iter().skip(written).all(|byte| *byte == OLD),
-            "into {room} bytes"
-        );
+        let kept = buffer.get(written..) == [OLD; 48].get(written..);
+        assert!(rt; right && kept, "into {room} bytes");
     }
 }
 
 /// Writes a value as a frame into buffers of each length up to three bytes more than it needs.
-/// Asserts that this succeeds exactly if the frame fits.
+/// Asserts that this succeeds exactly if the frame fits, and that the other bytes are unchanged.
 fn frame_takes_its_room<T: Serialize>(rt: &impl Abort, value: &T, want: &[u8]) {
     for room in 0..=want.len().saturating_add(3) {
         let mut buffer = [OLD; 48];
-        match buffer.get_mut(..room) {
-            Some(place) => is_room(rt, to_slice_cobs(value, place), room, want),
-            None => panic!(rt; "the test's buffer is too short"),
-        }
-        assert!(rt;
-            buffer.iter().skip(room).all(|byte| *byte == OLD),
-            "into {room} bytes"
-        );
+        let right = match buffer.get_mut(..room) {
+            Some(place) => is_room(to_slice_cobs(value, place), room, want),
+            None => false,
+        };
+        let kept = buffer.get(room..) == [OLD; 48].get(room..);
+        assert!(rt; right && kept, "into {room} bytes");
     }
 }
 
-/// Asserts that reading the copy failed with a named error, or returned a value whose encoding is
-/// at most as long as the bytes that were read.
-fn is_answer<T: Serialize + Drop>(rt: &impl Abort, copy: &[u8], value: &T, rest: &[u8]) {
-    let consumed = copy.len().saturating_sub(rest.len());
+/// Returns whether the encoding of the value is at most as long as the bytes that were read.
+fn is_no_longer<T: Serialize>(value: &T, copy: &[u8], rest: &[u8]) -> bool {
     match serialized_size(value) {
-        Ok(size) => assert!(rt; size <= consumed, "{copy:?}"),
-        Err(e) => panic!(rt; "{e} of {copy:?}"),
+        Ok(size) => size <= copy.len().saturating_sub(rest.len()),
+        Err(_) => false,
     }
 }
 
@@ -130,10 +121,11 @@ pub(crate) fn copies_are_answered<'a, T: Serialize + Deserialize<'a>>(
     copies: &'a [Vec<u8>],
 ) {
     for copy in copies {
-        match take_from_bytes::<T>(rt.alloc(), copy) {
-            Ok((value, rest)) => is_answer(rt, copy, &value, rest),
-            Err(e) => assert!(rt; is_named(&e), "{e} of {copy:?}"),
-        }
+        let right = match take_from_bytes::<T>(rt.alloc(), copy) {
+            Ok((value, rest)) => is_no_longer(&value, copy, rest),
+            Err(e) => is_named(&e),
+        };
+        assert!(rt; right, "{copy:?}");
     }
 }
 
@@ -143,10 +135,11 @@ fn copies_are_owned<T: Serialize + DeserializeOwned>(
     copies: &[Vec<u8>],
 ) {
     for copy in copies {
-        match take_from_bytes::<Owned<T>>(rt.alloc(), copy) {
-            Ok((Owned(value), rest)) => is_answer(rt, copy, &value, rest),
-            Err(e) => assert!(rt; is_named(&e), "{e} of {copy:?}"),
-        }
+        let right = match take_from_bytes::<Owned<T>>(rt.alloc(), copy) {
+            Ok((Owned(value), rest)) => is_no_longer(&value, copy, rest),
+            Err(e) => is_named(&e),
+        };
+        assert!(rt; right, "{copy:?}");
     }
 }
 
@@ -171,7 +164,8 @@ pub(crate) fn frames_are_kept(rt: &(impl Abort + AllocGlobal), bytes: &[u8], fra
     for (before, after) in changed.iter().zip(frames) {
         let end = before.iter().position(|byte| *byte == 0);
         let end = end.unwrap_or(before.len());
-        assert_eq!(rt; after.get(end..), before.get(end..), "{before:?}");
+        let kept = after.get(end..) == before.get(end..);
+        assert!(rt; kept, "{before:?}");
     }
 }
 

@@ -7,7 +7,6 @@ use postcard_vectors::devices::readers::{FailingReader, InterruptedReader, Piece
 use postcard_vectors::devices::writers::{FailingWriter, InterruptedWriter};
 use postcard_vectors::types::{DataEnum, RefStruct};
 use std::alloc::{AllocError, AllocGlobal, Global};
-use std::fmt::Debug;
 use std::process::Abort;
 
 const END: Error = Error::DeserializeUnexpectedEnd;
@@ -27,21 +26,19 @@ fn failing(bytes: &[u8], fails_at: usize) -> InterruptedReader<FailingReader<Pie
 
 /// Asserts that the value is read through interruptions, and that this fails if one of the reads
 /// that it needs fails or the bytes end too early.
-fn is_read_or_refused<T: DeserializeOwned + PartialEq + Debug>(
+fn is_read_or_refused<T: DeserializeOwned + PartialEq>(
     rt: &(impl Abort + AllocGlobal),
     value: &T,
     bytes: &[u8],
 ) {
-    for place in 0..=bytes.len().saturating_add(1) {
+    for fails_at in 0..=bytes.len().saturating_add(1) {
         let mut scratch = [0; 16];
-        let reader = Plain::new(failing(bytes, place));
-        match from_io::<Owned<T>, _>(rt.alloc(), (reader, &mut scratch)) {
-            Ok((Owned(read), _)) => {
-                assert_eq!(rt; &read, value, "{place}");
-                assert!(rt; bytes.len() <= place, "{place}");
-            }
-            Err(e) => assert_eq!(rt; (e, place < bytes.len()), (END, true), "{place}"),
-        }
+        let reader = Plain::new(failing(bytes, fails_at));
+        let right = match from_io::<Owned<T>, _>(rt.alloc(), (reader, &mut scratch)) {
+            Ok((Owned(read), _)) => read == *value && bytes.len() <= fails_at,
+            Err(e) => e == END && fails_at < bytes.len(),
+        };
+        assert!(rt; right, "{fails_at}");
     }
 }
 
@@ -50,11 +47,29 @@ fn is_cut<T: DeserializeOwned>(rt: &(impl Abort + AllocGlobal), bytes: &[u8]) {
     for end in 0..bytes.len() {
         let front = bytes.get(..end).unwrap_or(bytes);
         let mut scratch = [0; 16];
-        let cut = from_io::<Owned<T>, _>(rt.alloc(), (front, &mut scratch)).err();
-        assert_eq!(rt; cut, Some(END), "{end}");
-        let pieces = Plain::new(Pieces::new(front, &[3, 1]));
-        let cut = from_io::<Owned<T>, _>(rt.alloc(), (pieces, &mut scratch)).err();
-        assert_eq!(rt; cut, Some(END), "{end}");
+        let slice = from_io::<Owned<T>, _>(rt.alloc(), (front, &mut scratch)).err();
+        let reader = Plain::new(Pieces::new(front, &[3, 1]));
+        let pieces = from_io::<Owned<T>, _>(rt.alloc(), (reader, &mut scratch)).err();
+        let right = slice == Some(END) && pieces == Some(END);
+        assert!(rt; right, "{end}");
+    }
+}
+
+/// Returns a writer into a vector. Every other call is interrupted, and one of the others fails.
+fn failing_writer(
+    alloc: Global,
+    fails_at: usize,
+    flush_fails: bool,
+) -> InterruptedWriter<FailingWriter<Vec<u8>>> {
+    InterruptedWriter {
+        inner: FailingWriter {
+            inner: Vec::new(alloc),
+            writes: 0,
+            fails_at,
+            flush_fails,
+            flushed: false,
+        },
+        interrupts: true,
     }
 }
 
@@ -67,30 +82,21 @@ fn is_written_or_refused<T: Serialize>(
     flush_fails: bool,
 ) {
     for fails_at in 0..=bytes.len().saturating_add(1) {
-        let mut writer = InterruptedWriter {
-            inner: FailingWriter {
-                inner: Vec::new(rt.alloc()),
-                writes: 0,
-                fails_at,
-                flush_fails,
-                flushed: false,
-            },
-            interrupts: true,
-        };
-        let outcome = to_io(value, &mut writer).err();
+        let mut writer = failing_writer(rt.alloc(), fails_at, flush_fails);
+        let error = to_io(value, &mut writer).err();
         let device = writer.inner;
         let fails = fails_at < device.writes || flush_fails;
-        let error = fails.then_some(Error::SerializeBufferFull);
-        assert_eq!(rt; outcome, error, "{fails_at}");
-        assert_eq!(rt; device.flushed, !fails, "{fails_at}");
-        assert!(rt; bytes.starts_with(&device.inner), "{fails_at}");
         let whole = device.inner.len() == bytes.len();
-        assert_eq!(rt; whole, device.writes <= fails_at, "{fails_at}");
+        let right = error == fails.then_some(Error::SerializeBufferFull)
+            && device.flushed != fails
+            && bytes.starts_with(&device.inner)
+            && whole == (device.writes <= fails_at);
+        assert!(rt; right, "{fails_at}");
     }
 }
 
 /// Runs these checks.
-fn survives<T: Serialize + DeserializeOwned + PartialEq + Debug>(
+fn survives<T: Serialize + DeserializeOwned + PartialEq>(
     rt: &(impl Abort + AllocGlobal),
     value: &T,
     bytes: &[u8],
@@ -133,7 +139,7 @@ fn buffers(rt: &(impl Abort + AllocGlobal), longest: usize) -> Vec<Vec<u8>> {
 
 /// Asserts that the value is read with each scratch of at least `needed` bytes, of which `kept` are
 /// used up, and that reading fails with each shorter one.
-fn needs_scratch<'a, T: Deserialize<'a> + PartialEq + Debug>(
+fn needs_scratch<'a, T: Deserialize<'a> + PartialEq>(
     rt: &(impl Abort + AllocGlobal),
     bytes: &'a [u8],
     scratches: &'a mut [Vec<u8>],
@@ -142,15 +148,16 @@ fn needs_scratch<'a, T: Deserialize<'a> + PartialEq + Debug>(
 ) {
     for scratch in scratches {
         let room = scratch.len();
-        match from_io::<T, _>(rt.alloc(), (Pieces::new(bytes, &[2, 1]), scratch)) {
+        let right = match from_io::<T, _>(rt.alloc(), (Pieces::new(bytes, &[2, 1]), scratch)) {
             Ok((read, (reader, left))) => {
-                assert_eq!(rt; &read, value, "{room}");
-                assert!(rt; needed <= room, "{room}");
-                assert_eq!(rt; left.len(), room.saturating_sub(kept), "{room}");
-                assert_eq!(rt; reader.unread(), [0x99].as_slice(), "{room}");
+                read == *value
+                    && needed <= room
+                    && left.len() == room.saturating_sub(kept)
+                    && reader.unread() == [0x99].as_slice()
             }
-            Err(e) => assert_eq!(rt; (e, room < needed), (END, true), "{room}"),
-        }
+            Err(e) => e == END && room < needed,
+        };
+        assert!(rt; right, "{room}");
     }
 }
 

@@ -6,7 +6,6 @@ use postcard::{
 };
 use std::alloc::{AllocError, AllocGlobal, Global};
 use std::collections::BTreeMap;
-use std::fmt::Debug;
 use std::process::Abort;
 
 /// Adds the varint of a number below 2^14.
@@ -28,42 +27,49 @@ fn counted(alloc: Global, count: u16, content: &[u8]) -> Result<Vec<u8>, AllocEr
     Ok(bytes)
 }
 
-/// Asserts that a call wrote these bytes.
-fn wrote(rt: &impl Abort, answer: postcard::Result<Vec<u8>>, bytes: &[u8]) {
+/// Returns whether a call wrote these bytes.
+fn wrote(answer: postcard::Result<Vec<u8>>, bytes: &[u8]) -> bool {
     match answer {
-        Ok(written) => assert_eq!(rt; written.as_slice(), bytes),
-        Err(e) => panic!(rt; "{e} in place of {bytes:?}"),
+        Ok(written) => written.as_slice() == bytes,
+        Err(_) => false,
     }
 }
 
-/// Asserts that a call read this value.
-fn gave<T: DeserializeOwned + PartialEq + Debug>(
-    rt: &impl Abort,
-    answer: postcard::Result<Owned<T>>,
-    value: &T,
-) {
+/// Returns whether a call read this value.
+fn gave<T: DeserializeOwned + PartialEq>(answer: postcard::Result<Owned<T>>, value: &T) -> bool {
     match answer {
-        Ok(Owned(read)) => assert_eq!(rt; &read, value),
-        Err(e) => panic!(rt; "{e} in place of {value:?}"),
+        Ok(Owned(read)) => read == *value,
+        Err(_) => false,
     }
 }
 
-/// Asserts that the value is read from its frame.
-fn is_fed<T: Serialize + DeserializeOwned + PartialEq + Debug>(
-    rt: &(impl Abort + AllocGlobal),
+/// Returns whether the value is read from a reader of these bytes.
+fn is_read<T: DeserializeOwned + PartialEq>(alloc: Global, value: &T, bytes: &[u8]) -> bool {
+    let mut scratch = [0; 600];
+    match from_io::<Owned<T>, _>(alloc, (bytes, &mut scratch)) {
+        Ok((read, _)) => gave(Ok(read), value),
+        Err(_) => false,
+    }
+}
+
+/// Returns whether the value is written as a frame, and read from it.
+fn is_fed<T: Serialize + DeserializeOwned + PartialEq>(
+    alloc: Global,
     acc: &mut CobsAccumulator<4096>,
     value: &T,
-) {
-    let frame = to_stdvec_cobs(rt.alloc(), value).expect(rt, "a frame");
-    match acc.feed::<T>(rt.alloc(), &frame) {
-        FeedResult::Success { value: read, .. } => assert_eq!(rt; &read, value),
-        _ => panic!(rt; "the frame of {value:?} isn't read"),
+) -> bool {
+    let Ok(frame) = to_stdvec_cobs(alloc, value) else {
+        return false;
+    };
+    match acc.feed::<T>(alloc, &frame) {
+        FeedResult::Success { value: read, .. } => read == *value,
+        _ => false,
     }
 }
 
 /// Asserts that the value is written as its length and the bytes `content`, and is read from these
 /// bytes, from a reader of them, and from its frame.
-fn comes_back<T: Serialize + DeserializeOwned + PartialEq + Debug>(
+fn comes_back<T: Serialize + DeserializeOwned + PartialEq>(
     rt: &(impl Abort + AllocGlobal),
     acc: &mut CobsAccumulator<4096>,
     value: &T,
@@ -72,15 +78,14 @@ fn comes_back<T: Serialize + DeserializeOwned + PartialEq + Debug>(
 ) {
     let alloc = rt.alloc();
     let bytes = counted(alloc, count, content).expect(rt, "bytes");
-    wrote(rt, to_allocvec(alloc, value), &bytes);
-    wrote(rt, to_extend(value, Vec::new(alloc)), &bytes);
-    gave(rt, from_bytes(alloc, &bytes), value);
-    let mut scratch = [0; 600];
-    match from_io(alloc, (bytes.as_slice(), &mut scratch)) {
-        Ok((read, _)) => gave(rt, Ok(read), value),
-        Err(e) => panic!(rt; "{e} in place of {value:?}"),
-    }
-    is_fed(rt, acc, value);
+    let checks = [
+        wrote(to_allocvec(alloc, value), &bytes),
+        wrote(to_extend(value, Vec::new(alloc)), &bytes),
+        gave(from_bytes(alloc, &bytes), value),
+        is_read(alloc, value, &bytes),
+        is_fed(alloc, acc, value),
+    ];
+    assert_eq!(rt; checks, [true; 5], "{count}");
 }
 
 #[test]

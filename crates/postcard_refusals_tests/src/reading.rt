@@ -7,31 +7,29 @@ use std::collections::BTreeMap;
 use std::process::Abort;
 use std::rc::Rc;
 
-/// Asserts that the value has this encoding.
-pub(crate) fn assert_written<T: Serialize>(rt: &impl Abort, value: &T, bytes: &[u8]) {
+/// Returns whether the value has this encoding.
+pub(crate) fn has_encoding<T: Serialize>(value: &T, bytes: &[u8]) -> bool {
     let mut buffer = [0; 64];
     match to_slice(value, &mut buffer) {
-        Ok(front) => assert_eq!(rt; &*front, bytes),
-        Err(e) => panic!(rt; "{e}"),
+        Ok(front) => &*front == bytes,
+        Err(_) => false,
     }
 }
 
-/// Asserts that the result is a value with this encoding or a failed allocation, and returns
-/// whether it is the former.
-fn is_value<T: DeserializeOwned + Serialize>(
-    rt: &impl Abort,
-    answer: Result<Owned<T>>,
-    bytes: &[u8],
-) -> bool {
+/// Returns `Some(true)` for a value with this encoding, `Some(false)` for a failed allocation, and
+/// `None` for any other answer.
+fn judged<T: DeserializeOwned + Serialize>(answer: Result<Owned<T>>, bytes: &[u8]) -> Option<bool> {
     match answer {
-        Ok(Owned(value)) => {
-            assert_written(rt, &value, bytes);
-            true
-        }
-        Err(e) => {
-            assert_eq!(rt; e, Error::OutOfMemory, "{bytes:?}");
-            false
-        }
+        Ok(Owned(value)) => has_encoding(&value, bytes).then_some(true),
+        Err(e) => (e == Error::OutOfMemory).then_some(false),
+    }
+}
+
+/// Returns whether both answers are right, or one is and an allocation failed for the other.
+pub(crate) fn one_is_right(first: Option<bool>, second: Option<bool>) -> bool {
+    match (first, second) {
+        (Some(a), Some(b)) => a || b,
+        _ => false,
     }
 }
 
@@ -46,12 +44,12 @@ fn from_reader<T: DeserializeOwned>(alloc: Global, bytes: &[u8]) -> Result<Owned
 /// fails and they are read so the other time.
 fn is_read<T: DeserializeOwned + Serialize>(rt: &(impl Abort + AllocGlobal), bytes: &[u8]) {
     let alloc = rt.alloc();
-    let first = is_value::<T>(rt, from_bytes(alloc, bytes), bytes);
-    let second = is_value::<T>(rt, from_bytes(alloc, bytes), bytes);
-    assert!(rt; first || second, "{bytes:?}");
-    let first = is_value::<T>(rt, from_reader(alloc, bytes), bytes);
-    let second = is_value::<T>(rt, from_reader(alloc, bytes), bytes);
-    assert!(rt; first || second, "{bytes:?}");
+    let first = judged::<T>(from_bytes(alloc, bytes), bytes);
+    let second = judged::<T>(from_bytes(alloc, bytes), bytes);
+    assert!(rt; one_is_right(first, second), "{bytes:?}");
+    let first = judged::<T>(from_reader(alloc, bytes), bytes);
+    let second = judged::<T>(from_reader(alloc, bytes), bytes);
+    assert!(rt; one_is_right(first, second), "{bytes:?} of a reader");
 }
 
 #[test]

@@ -52,14 +52,13 @@ fn read_through(rt: &(impl Abort + AllocGlobal), lengths: &[usize], fails_at: us
     let mut chunk = [0; 16];
     let mut end = read_frames(rt.alloc(), &mut reader, &mut chunk, 20, &mut acc, &mut out);
     if fails_at <= lengths.len() {
-        assert_eq!(rt; end, ReadEnd::ReadFailed, "{lengths:?}, {fails_at}");
         let before = BOTH.get(..answered(lengths, fails_at));
-        assert_eq!(rt; Some(out.as_slice()), before, "{lengths:?}, {fails_at}");
+        let right = end == ReadEnd::ReadFailed && Some(out.as_slice()) == before;
+        assert!(rt; right, "{lengths:?}, {fails_at}");
         end = read_frames(rt.alloc(), &mut reader, &mut chunk, 20, &mut acc, &mut out);
     }
-    assert_eq!(rt; end, ReadEnd::End, "{lengths:?}");
-    assert_eq!(rt; out.as_slice(), BOTH.as_slice(), "{lengths:?}");
-    assert!(rt; !acc.skipping());
+    let right = end == ReadEnd::End && out.as_slice() == BOTH.as_slice() && !acc.skipping();
+    assert!(rt; right, "{lengths:?}, {fails_at}");
 }
 
 /// Reads the stream in pieces of these lengths, where every other read is interrupted. Asserts that
@@ -74,11 +73,11 @@ fn read_interrupted(rt: &(impl Abort + AllocGlobal), lengths: &[usize]) {
     let mut chunk = [0; 16];
     for _ in 0..=lengths.len() {
         let end = read_frames(rt.alloc(), &mut reader, &mut chunk, 20, &mut acc, &mut out);
-        assert_eq!(rt; end, ReadEnd::ReadFailed, "{lengths:?}");
+        assert!(rt; end == ReadEnd::ReadFailed);
     }
     let end = read_frames(rt.alloc(), &mut reader, &mut chunk, 20, &mut acc, &mut out);
-    assert_eq!(rt; end, ReadEnd::End, "{lengths:?}");
-    assert_eq!(rt; out.as_slice(), BOTH.as_slice(), "{lengths:?}");
+    let right = end == ReadEnd::End && out.as_slice() == BOTH.as_slice();
+    assert!(rt; right, "{lengths:?}");
 }
 
 /// Runs these checks with the stream cut so.

@@ -8,26 +8,27 @@ use postcard::{
 use std::alloc::Global;
 use std::process::Abort;
 
-/// Asserts that the result is these bytes or a failed allocation, and returns whether it is the
-/// former.
-fn is_whole(rt: &impl Abort, answer: Result<Vec<u8>>, bytes: &[u8]) -> bool {
+/// Returns whether the result is these bytes.
+fn is_whole(answer: &Result<Vec<u8>>, bytes: &[u8]) -> bool {
     match answer {
-        Ok(written) => {
-            assert_eq!(rt; written.as_slice(), bytes);
-            true
-        }
-        Err(e) => {
-            assert_eq!(rt; e, Error::SerializeBufferFull);
-            false
-        }
+        Ok(written) => written.as_slice() == bytes,
+        Err(_) => false,
     }
 }
 
-/// Asserts that both calls return these bytes, or one of them fails because an allocation does.
+/// Returns whether the result is these bytes or a failed allocation.
+fn is_answer(answer: &Result<Vec<u8>>, bytes: &[u8]) -> bool {
+    match answer {
+        Ok(written) => written.as_slice() == bytes,
+        Err(e) => *e == Error::SerializeBufferFull,
+    }
+}
+
+/// Asserts that both calls return these bytes, or that one of them does and an allocation fails for
+/// the other.
 fn is_written(rt: &impl Abort, call: Result<Vec<u8>>, again: Result<Vec<u8>>, bytes: &[u8]) {
-    let first = is_whole(rt, call, bytes);
-    let second = is_whole(rt, again, bytes);
-    assert!(rt; first || second);
+    assert!(rt; is_answer(&call, bytes) && is_answer(&again, bytes));
+    assert!(rt; is_whole(&call, bytes) || is_whole(&again, bytes));
 }
 
 /// Numbers of one byte each, which are written one by one, so that a vector grows on the way.
