@@ -5,6 +5,7 @@ ghost use Rattle.postcard_wire.specs.declared.error.Error.TheVariants.{OutOfMemo
 ghost use Rattle.postcard_cli.specs.Failure.{failure_status, failure_text};
 ghost use Rattle.postcard_cli.specs.declared.failure.Failure.TheVariants.{Library, Output};
 
+use postcard_wire::Error;
 use std::alloc::{AllocError, AllocFailed};
 use std::{fmt, io};
 
@@ -21,7 +22,7 @@ pub enum Failure {
     BadHex,
     /// The library failed to encode or decode the value, or an allocation failed while TYPE, VALUE
     /// or HEX was read.
-    Library(postcard_wire::Error),
+    Library(Error),
     /// The output can't be written.
     Output,
     /// The input didn't end within the greatest number of reads.
@@ -63,10 +64,10 @@ impl fmt::Display for Failure {
     }
 }
 
-impl From<postcard_wire::Error> for Failure {
+impl From<Error> for Failure {
     ghost from_gives = { λ error failure. failure ≡ Library error };
 
-    fn from(error: postcard_wire::Error) -> Failure {
+    fn from(error: Error) -> Failure {
         Failure::Library(error)
     }
 }
@@ -75,7 +76,7 @@ impl From<AllocError> for Failure {
     ghost from_gives = { λ _ failure. failure ≡ Library OutOfMemory };
 
     fn from(_error: AllocError) -> Failure {
-        Failure::Library(postcard_wire::Error::OutOfMemory)
+        Failure::Library(Error::OutOfMemory)
     }
 }
 
@@ -83,7 +84,7 @@ impl<T: Drop> From<AllocFailed<T>> for Failure {
     ghost from_gives = { λ _ failure. failure ≡ Library OutOfMemory };
 
     fn from(_error: AllocFailed<T>) -> Failure {
-        Failure::Library(postcard_wire::Error::OutOfMemory)
+        Failure::Library(Error::OutOfMemory)
     }
 }
 
