@@ -1,6 +1,6 @@
 //! The checks of a row, for any type.
 
-use crate::fault::Fault;
+use crate::fault::{Fault, Reason};
 use crate::row::{Mark, Row};
 use postcard::experimental::max_size::{MaxSize, fill_max_size};
 use postcard::experimental::serialized_size;
@@ -21,20 +21,22 @@ const OLD: u8 = 0xAA;
 const ENDS: &str = "Err(DeserializeUnexpectedEnd)";
 
 /// Requires that the result of the call is printed as this text.
-fn same<R: Debug>(alloc: Global, call: &'static str, found: &R, want: &str) -> Outcome {
+fn same<R: Debug>(alloc: Global, call: &str, found: &R, want: &str) -> Outcome {
     let got = format!(in alloc; "{found:?}")?;
     if got.as_str() == want {
         return Ok(());
     }
+    let call = String::from_str(alloc, call)?;
     let want = String::from_str(alloc, want)?;
     Err(Fault::Other { call, want, got })
 }
 
 /// Requires that the call returned just this.
-fn equal<R: Debug + PartialEq>(alloc: Global, call: &'static str, found: &R, want: &R) -> Outcome {
+fn equal<R: Debug + PartialEq>(alloc: Global, call: &str, found: &R, want: &R) -> Outcome {
     if found == want {
         return Ok(());
     }
+    let call = String::from_str(alloc, call)?;
     let got = format!(in alloc; "{found:?}")?;
     let want = format!(in alloc; "{want:?}")?;
     Err(Fault::Other { call, want, got })
@@ -217,7 +219,7 @@ pub fn borrowed<'a, T: Serialize + Deserialize<'a> + Debug>(
 ) -> Outcome {
     match row.mark {
         Mark::Same | Mark::Refused => check::<T>(alloc, row, scratch),
-        _ => Err(Fault::NotARow("a type that borrows has = or error")),
+        _ => Err(Fault::NotARow(Reason::Borrows)),
     }
 }
 
@@ -233,7 +235,7 @@ pub fn owned<'a, T: Serialize + Deserialize<'a> + DeserializeOwned + Debug>(
     match row.mark {
         Mark::Same | Mark::Refused => Ok(()),
         Mark::Reads => rewritten::<T>(alloc, row),
-        Mark::Greatest => Err(Fault::NotARow("the type has no greatest size")),
+        Mark::Greatest => Err(Fault::NotARow(Reason::NoSize)),
     }
 }
 

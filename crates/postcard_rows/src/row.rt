@@ -1,6 +1,6 @@
 //! A row of the table.
 
-use crate::fault::Fault;
+use crate::fault::{Fault, Reason};
 use hex::FromHexError;
 use std::alloc::Global;
 
@@ -44,7 +44,7 @@ fn bytes_of(alloc: Global, text: &str) -> Result<Vec<u8>, Fault> {
     match hex::decode(alloc, text) {
         Ok(bytes) => Ok(bytes),
         Err(FromHexError::OutOfMemory) => Err(Fault::OutOfMemory),
-        Err(_) => Err(Fault::NotARow("the bytes are not hexadecimal digits")),
+        Err(_) => Err(Fault::NotARow(Reason::Bytes)),
     }
 }
 
@@ -55,7 +55,7 @@ fn mark_of(word: &str) -> Result<Mark, Fault> {
         "reads" => Ok(Mark::Reads),
         "greatest" => Ok(Mark::Greatest),
         "error" => Ok(Mark::Refused),
-        _ => Err(Fault::NotARow("no =, reads, greatest or error")),
+        _ => Err(Fault::NotARow(Reason::Mark)),
     }
 }
 
@@ -78,7 +78,7 @@ impl<'a> Row<'a> {
             None => (false, line),
         };
         let Some((name, digits, word, text)) = parts_of(line) else {
-            return Err(Fault::NotARow("it is not TYPE: BYTES MARK TEXT"));
+            return Err(Fault::NotARow(Reason::Form));
         };
         let mark = mark_of(word)?;
         let (front, after) = digits.split_once('+').unwrap_or((digits, "-"));
