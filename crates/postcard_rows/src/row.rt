@@ -22,10 +22,10 @@ pub enum Mark {
 pub struct Row<'a> {
     /// The type.
     pub name: &'a str,
+    /// The bytes of the value, or those that are refused.
+    pub encoding: Vec<u8>,
     /// The bytes of the value, and those after them.
     pub bytes: Vec<u8>,
-    /// The number of bytes of the value.
-    pub count: usize,
     /// What the row says of them.
     pub mark: Mark,
     /// The result of reading a value, as text.
@@ -82,9 +82,9 @@ impl<'a> Row<'a> {
         };
         let mark = mark_of(word)?;
         let (front, after) = digits.split_once('+').unwrap_or((digits, "-"));
-        let mut bytes = bytes_of(alloc, front)?;
-        let count = bytes.len();
+        let encoding = bytes_of(alloc, front)?;
         let after = bytes_of(alloc, after)?;
+        let mut bytes = encoding.clone()?;
         bytes.extend_from_slice(&after)?;
         let (value, front) = if mark == Mark::Refused {
             let refused = format!(in alloc; "Err({text})")?;
@@ -95,18 +95,13 @@ impl<'a> Row<'a> {
         };
         Ok(Some(Row {
             name,
+            encoding,
             bytes,
-            count,
             mark,
             value,
             front,
             fails,
         }))
-    }
-
-    /// Returns the bytes of the value.
-    pub fn encoding(&self) -> &[u8] {
-        self.bytes.get(..self.count).unwrap_or(&[])
     }
 
     /// Turns the outcome of a row that must fail.
