@@ -1,6 +1,6 @@
 //! The checks of a row, for any type.
 
-use crate::fault::Fault;
+use crate::fault::{Fault, Reason};
 use crate::row::{Mark, Row};
 use postcard::experimental::max_size::{MaxSize, fill_max_size};
 use postcard::experimental::serialized_size;
@@ -21,23 +21,20 @@ const OLD: u8 = 0xAA;
 const ENDS: &str = "Err(DeserializeUnexpectedEnd)";
 
 /// Requires that the result of the call is printed as this text.
-fn same<R: Debug>(alloc: Global, call: &'static str, found: &R, want: &str) -> Outcome {
+fn same<R: Debug>(alloc: Global, call: &str, found: &R, want: &str) -> Outcome {
     let got = format!(in alloc; "{found:?}")?;
     if got.as_str() == want {
         return Ok(());
     }
+    let call = String::from_str(alloc, call)?;
     let want = String::from_str(alloc, want)?;
     Err(Fault::Other { call, want, got })
 }
 
-/// Requires that the call returned just this.
-fn equal<R: Debug + PartialEq>(alloc: Global, call: &'static str, found: &R, want: &R) -> Outcome {
-    if found == want {
-        return Ok(());
-    }
-    let got = format!(in alloc; "{found:?}")?;
+/// Requires that the result of the call is printed as this value is.
+fn equal<R: Debug>(alloc: Global, call: &str, found: &R, want: &R) -> Outcome {
     let want = format!(in alloc; "{want:?}")?;
-    Err(Fault::Other { call, want, got })
+    same(alloc, call, found, &want)
 }
 
 /// Reads a value from a reader of these bytes, and returns it with the bytes after it.
@@ -144,7 +141,7 @@ fn check<'a, T: Serialize + Deserialize<'a> + Debug>(
     scratch: &'a mut [u8],
 ) -> Outcome {
     let bytes: &'a [u8] = row.bytes.as_slice();
-    let encoding: &'a [u8] = row.encoding();
+    let encoding: &'a [u8] = row.encoding.as_slice();
     same(
         alloc,
         "take_from_bytes",
@@ -172,13 +169,13 @@ fn check<'a, T: Serialize + Deserialize<'a> + Debug>(
 
 /// Requires that the value of the row is written as other bytes, which are read as the same value.
 fn rewritten<T: Serialize + DeserializeOwned + Debug>(alloc: Global, row: &Row<'_>) -> Outcome {
-    let answer = match from_owned::<T>(alloc, row.encoding()) {
+    let answer = match from_owned::<T>(alloc, row.encoding.as_slice()) {
         Ok(value) => to_allocvec(alloc, &value),
         Err(error) => Err(error),
     };
     match answer {
         Ok(bytes) => {
-            let is_other = bytes.as_slice() != row.encoding();
+            let is_other = bytes.as_slice() != row.encoding.as_slice();
             equal(
                 alloc,
                 "the value is written as other bytes",
@@ -198,7 +195,7 @@ fn rewritten<T: Serialize + DeserializeOwned + Debug>(alloc: Global, row: &Row<'
 
 /// Requires that the value of the row has the greatest size of its type.
 fn greatest<T: Serialize + DeserializeOwned + MaxSize>(alloc: Global, row: &Row<'_>) -> Outcome {
-    let bytes = row.encoding();
+    let bytes = row.encoding.as_slice();
     let size = T::postcard_max_size();
     equal(alloc, "postcard_max_size", &size, &Some(bytes.len()))?;
     let mut buffer = bytes.to_vec(alloc)?;
@@ -217,8 +214,23 @@ pub fn borrowed<'a, T: Serialize + Deserialize<'a> + Debug>(
 ) -> Outcome {
     match row.mark {
         Mark::Same | Mark::Refused => check::<T>(alloc, row, scratch),
-        _ => Err(Fault::NotARow("a type that borrows has = or error")),
+        _ => Err(Fault::NotARow(Reason::Borrows)),
     }
+}
+
+/// Checks a row of this type, which borrows nothing, but for its greatest size.
+fn check_owned<'a, T: Serialize + Deserialize<'a> + DeserializeOwned + Debug>(
+    alloc: Global,
+    row: &'a Row<'_>,
+    scratch: &'a mut [u8],
+) -> Outcome {
+    let answer = from_owned::<T>(alloc, row.bytes.as_slice());
+    same(alloc, "from_bytes of an Owned", &answer, &row.value)?;
+    check::<T>(alloc, row, scratch)?;
+    if row.mark == Mark::Reads {
+        return rewritten::<T>(alloc, row);
+    }
+    Ok(())
 }
 
 /// Checks a row of this type, which borrows nothing.
@@ -227,13 +239,9 @@ pub fn owned<'a, T: Serialize + Deserialize<'a> + DeserializeOwned + Debug>(
     row: &'a Row<'_>,
     scratch: &'a mut [u8],
 ) -> Outcome {
-    let answer = from_owned::<T>(alloc, &row.bytes);
-    same(alloc, "from_bytes of an Owned", &answer, &row.value)?;
-    check::<T>(alloc, row, scratch)?;
     match row.mark {
-        Mark::Same | Mark::Refused => Ok(()),
-        Mark::Reads => rewritten::<T>(alloc, row),
-        Mark::Greatest => Err(Fault::NotARow("the type has no greatest size")),
+        Mark::Greatest => Err(Fault::NotARow(Reason::NoSize)),
+        _ => check_owned::<T>(alloc, row, scratch),
     }
 }
 
@@ -243,9 +251,9 @@ pub fn sized<'a, T: Serialize + Deserialize<'a> + DeserializeOwned + MaxSize + D
     row: &'a Row<'_>,
     scratch: &'a mut [u8],
 ) -> Outcome {
-    if row.mark != Mark::Greatest {
-        return owned::<T>(alloc, row, scratch);
+    check_owned::<T>(alloc, row, scratch)?;
+    match row.mark {
+        Mark::Greatest => greatest::<T>(alloc, row),
+        _ => Ok(()),
     }
-    check::<T>(alloc, row, scratch)?;
-    greatest::<T>(alloc, row)
 }

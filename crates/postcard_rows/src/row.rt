@@ -1,6 +1,6 @@
 //! A row of the table.
 
-use crate::fault::Fault;
+use crate::fault::{Fault, Reason};
 use hex::FromHexError;
 use std::alloc::Global;
 
@@ -22,10 +22,10 @@ pub enum Mark {
 pub struct Row<'a> {
     /// The type.
     pub name: &'a str,
+    /// The bytes of the value, or those that are refused.
+    pub encoding: Vec<u8>,
     /// The bytes of the value, and those after them.
     pub bytes: Vec<u8>,
-    /// The number of bytes of the value.
-    pub count: usize,
     /// What the row says of them.
     pub mark: Mark,
     /// The result of reading a value, as text.
@@ -44,7 +44,7 @@ fn bytes_of(alloc: Global, text: &str) -> Result<Vec<u8>, Fault> {
     match hex::decode(alloc, text) {
         Ok(bytes) => Ok(bytes),
         Err(FromHexError::OutOfMemory) => Err(Fault::OutOfMemory),
-        Err(_) => Err(Fault::NotARow("the bytes are not hexadecimal digits")),
+        Err(_) => Err(Fault::NotARow(Reason::Bytes)),
     }
 }
 
@@ -55,7 +55,7 @@ fn mark_of(word: &str) -> Result<Mark, Fault> {
         "reads" => Ok(Mark::Reads),
         "greatest" => Ok(Mark::Greatest),
         "error" => Ok(Mark::Refused),
-        _ => Err(Fault::NotARow("no =, reads, greatest or error")),
+        _ => Err(Fault::NotARow(Reason::Mark)),
     }
 }
 
@@ -78,13 +78,13 @@ impl<'a> Row<'a> {
             None => (false, line),
         };
         let Some((name, digits, word, text)) = parts_of(line) else {
-            return Err(Fault::NotARow("it is not TYPE: BYTES MARK TEXT"));
+            return Err(Fault::NotARow(Reason::Form));
         };
         let mark = mark_of(word)?;
         let (front, after) = digits.split_once('+').unwrap_or((digits, "-"));
-        let mut bytes = bytes_of(alloc, front)?;
-        let count = bytes.len();
+        let encoding = bytes_of(alloc, front)?;
         let after = bytes_of(alloc, after)?;
+        let mut bytes = encoding.clone()?;
         bytes.extend_from_slice(&after)?;
         let (value, front) = if mark == Mark::Refused {
             let refused = format!(in alloc; "Err({text})")?;
@@ -95,18 +95,13 @@ impl<'a> Row<'a> {
         };
         Ok(Some(Row {
             name,
+            encoding,
             bytes,
-            count,
             mark,
             value,
             front,
             fails,
         }))
-    }
-
-    /// Returns the bytes of the value.
-    pub fn encoding(&self) -> &[u8] {
-        self.bytes.get(..self.count).unwrap_or(&[])
     }
 
     /// Turns the outcome of a row that must fail.

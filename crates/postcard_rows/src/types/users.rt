@@ -1,7 +1,7 @@
 //! Structs and enums of a user.
 
 use crate::checks::{Outcome, borrowed, owned};
-use crate::fault::Fault;
+use crate::fault::{Fault, Reason};
 use crate::row::Row;
 use postcard_vectors::types::{
     BasicEnum, BasicU8S, DataEnum, DualTupleStruct, Endpoint, EnumStruct, NewTypeStruct, RefStruct,
@@ -22,6 +22,6 @@ pub fn check<'a>(alloc: Global, row: &'a Row<'_>, scratch: &'a mut [u8]) -> Outc
         "WideU8S" => owned::<WideU8S>(alloc, row, scratch),
         "Endpoint" => owned::<Endpoint>(alloc, row, scratch),
         "RefStruct" => borrowed::<RefStruct<'a>>(alloc, row, scratch),
-        _ => Err(Fault::NotARow("an unknown type")),
+        _ => Err(Fault::NotARow(Reason::Type)),
     }
 }
