@@ -156,16 +156,20 @@ fn frames_are_answered<'a, T: Deserialize<'a>>(
     }
 }
 
+/// Returns whether a buffer is unchanged from its first zero on.
+fn is_kept(before: &[u8], after: &[u8]) -> bool {
+    let end = before.iter().position(|byte| *byte == 0);
+    let end = end.unwrap_or(before.len());
+    after.get(end..) == before.get(end..)
+}
+
 /// Asserts, after the changed frames of these bytes were read, that each buffer is unchanged from
 /// its first zero on.
 pub(crate) fn frames_are_kept(rt: &(impl Abort + AllocGlobal), bytes: &[u8], frames: &[Vec<u8>]) {
     let changed = frame_changes(rt, bytes);
-    assert_eq!(rt; changed.len(), frames.len());
+    assert!(rt; changed.len() == frames.len());
     for (before, after) in changed.iter().zip(frames) {
-        let end = before.iter().position(|byte| *byte == 0);
-        let end = end.unwrap_or(before.len());
-        let kept = after.get(end..) == before.get(end..);
-        assert!(rt; kept, "{before:?}");
+        assert!(rt; is_kept(before, after), "{before:?}");
     }
 }
 
