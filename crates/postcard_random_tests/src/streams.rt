@@ -45,6 +45,17 @@ fn answer<T: Made>(alloc: Global, frame: &[u8]) -> Answer<T> {
     }
 }
 
+/// Returns whether the right answer to a frame, given with its zero, is this value.
+fn is_sent<T: Made + PartialEq>(alloc: Global, frame: &[u8], value: &T) -> bool {
+    let Some((0, front)) = frame.split_last() else {
+        return false;
+    };
+    match answer::<T>(alloc, front) {
+        Answer::Success(sent) => sent == *value,
+        _ => false,
+    }
+}
+
 /// Returns the right answers to the frames of a stream. What is after its last zero is no frame.
 fn right_answers<T: Made>(rt: &impl Abort, alloc: Global, stream: &[u8]) -> Vec<Answer<T>> {
     let mut answers = Vec::new(alloc);
@@ -66,9 +77,7 @@ fn random_stream<T: Made + Serialize + PartialEq>(rt: &impl Abort, source: &mut 
             add_damaged(source, &mut stream, &frame).expect(rt, "a stream");
         }
         stream.extend_from_slice(&frame).expect(rt, "a stream");
-        let answers = right_answers::<T>(rt, source.alloc(), &frame);
-        let sent = [Answer::Success(value)];
-        assert!(rt; answers.as_slice() == sent.as_slice(), "{frame:?}");
+        assert!(rt; is_sent(source.alloc(), &frame, &value), "{frame:?}");
     }
     stream
 }

@@ -116,7 +116,7 @@ fn is_no_longer<T: Serialize>(value: &T, copy: &[u8], rest: &[u8]) -> bool {
 
 /// Asserts that reading each copy fails with a named error, or returns a value whose encoding is at
 /// most as long as the bytes that were read.
-pub(crate) fn copies_are_answered<'a, T: Serialize + Deserialize<'a>>(
+fn copies_are_answered<'a, T: Serialize + Deserialize<'a>>(
     rt: &(impl Abort + AllocGlobal),
     copies: &'a [Vec<u8>],
 ) {
@@ -144,7 +144,7 @@ fn copies_are_owned<T: Serialize + DeserializeOwned>(
 }
 
 /// Asserts that reading each frame fails with a named error or returns a value.
-pub(crate) fn frames_are_answered<'a, T: Deserialize<'a>>(
+fn frames_are_answered<'a, T: Deserialize<'a>>(
     rt: &(impl Abort + AllocGlobal),
     frames: &'a mut [Vec<u8>],
 ) {
@@ -156,28 +156,42 @@ pub(crate) fn frames_are_answered<'a, T: Deserialize<'a>>(
     }
 }
 
+/// Returns whether a buffer is unchanged from its first zero on.
+fn is_kept(before: &[u8], after: &[u8]) -> bool {
+    let end = before.iter().position(|byte| *byte == 0);
+    let end = end.unwrap_or(before.len());
+    after.get(end..) == before.get(end..)
+}
+
 /// Asserts, after the changed frames of these bytes were read, that each buffer is unchanged from
 /// its first zero on.
 pub(crate) fn frames_are_kept(rt: &(impl Abort + AllocGlobal), bytes: &[u8], frames: &[Vec<u8>]) {
     let changed = frame_changes(rt, bytes);
-    assert_eq!(rt; changed.len(), frames.len());
+    assert!(rt; changed.len() == frames.len());
     for (before, after) in changed.iter().zip(frames) {
-        let end = before.iter().position(|byte| *byte == 0);
-        let end = end.unwrap_or(before.len());
-        let kept = after.get(end..) == before.get(end..);
-        assert!(rt; kept, "{before:?}");
+        assert!(rt; is_kept(before, after), "{before:?}");
     }
 }
 
 /// Writes a value and its frame into buffers of each length, and checks the results.
-pub(crate) fn take_their_room<T: Serialize>(
-    rt: &(impl Abort + AllocGlobal),
-    value: &T,
-    bytes: &[u8],
-) {
+fn take_their_room<T: Serialize>(rt: &(impl Abort + AllocGlobal), value: &T, bytes: &[u8]) {
     takes_its_room(rt, value, bytes);
     let frame = framed(rt.alloc(), bytes, &[]).expect(rt, "a frame");
     frame_takes_its_room(rt, value, &frame);
+}
+
+/// Writes a value that may borrow into buffers of each length, reads changed copies of its bytes and
+/// of its frame, and checks the results.
+pub(crate) fn withstands_lent<'a, T: Serialize + Deserialize<'a>>(
+    rt: &(impl Abort + AllocGlobal),
+    value: &T,
+    bytes: &[u8],
+    copies: &'a [Vec<u8>],
+    frames: &'a mut [Vec<u8>],
+) {
+    take_their_room(rt, value, bytes);
+    copies_are_answered::<T>(rt, copies);
+    frames_are_answered::<T>(rt, frames);
 }
 
 /// Writes a value that borrows nothing into buffers of each length, reads its bytes and its frame

@@ -1,9 +1,6 @@
 //! Tests of damage and short buffers, with values of each type and their bytes by the wire format.
 
-use crate::damage::{
-    changes, copies_are_answered, frame_changes, frames_are_answered, frames_are_kept,
-    take_their_room, withstands,
-};
+use crate::damage::{changes, frame_changes, frames_are_kept, withstands, withstands_lent};
 use arrayvec::{ArrayString, ArrayVec};
 use postcard_vectors::types::{
     BasicEnum, BasicU8S, DataEnum, DualTupleStruct, EnumStruct, NewTypeStruct, RefStruct,
@@ -14,10 +11,9 @@ use std::collections::BTreeMap;
 /// Does the same as `withstands` for a value that borrows from its bytes, which outlive it here.
 macro_rules! withstands_lent {
     ($rt:expr, $t:ty, $value:expr, $bytes:expr) => {
-        take_their_room(&$rt, &$value, $bytes);
-        copies_are_answered::<$t>(&$rt, &changes(&$rt, $bytes));
+        let copies = changes(&$rt, $bytes);
         let mut frames = frame_changes(&$rt, $bytes);
-        frames_are_answered::<$t>(&$rt, &mut frames);
+        withstands_lent::<$t>(&$rt, &$value, $bytes, &copies, &mut frames);
         frames_are_kept(&$rt, $bytes, &frames);
     };
 }
