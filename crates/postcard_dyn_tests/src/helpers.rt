@@ -34,3 +34,22 @@ pub fn decoded<'a>(
 ) -> (Value, &'a [u8]) {
     take_from_bytes(rt.alloc(), schema, message).expect(rt, "a message is not read")
 }
+
+/// Asserts that the value of the text is written as the message.
+pub fn check_written(rt: &(impl Abort + AllocGlobal), schema: &Schema, text: &str, message: &[u8]) {
+    let value = value_of(rt, schema, text);
+    assert_eq!(rt; encoded(rt, &value).as_slice(), message, "{text}");
+}
+
+/// Asserts that a value that is printed as the text is read from the bytes, and that `rest` is left.
+pub fn check_read(
+    rt: &(impl Abort + AllocGlobal),
+    schema: &Schema,
+    bytes: &[u8],
+    text: &str,
+    rest: &[u8],
+) {
+    let (value, left) = decoded(rt, schema, bytes);
+    assert_eq!(rt; text_of(rt, schema, &value).as_str(), text);
+    assert_eq!(rt; left, rest, "{text}");
+}

@@ -1,7 +1,7 @@
 //! Tests with random bytes, which several types read: either as a value, which is written and read
 //! again as itself, or with a named error whose place is within the bytes.
 
-use crate::helpers::{decoded, encoded, text_of, type_of, value_of};
+use crate::helpers::{check_read, check_written, encoded, text_of, type_of};
 use postcard_dyn::{Schema, Value, refused_at, take_from_bytes};
 use postcard_wire::Error;
 use std::process::Abort;
@@ -43,13 +43,10 @@ fn next(state: &mut u64) -> u8 {
 /// text and from its encoding.
 fn check_value(rt: &(impl Abort + AllocGlobal), schema: &Schema, value: &Value, length: usize) {
     let text = text_of(rt, schema, value);
-    let direct = encoded(rt, value);
-    let written = encoded(rt, &value_of(rt, schema, text.as_str()));
-    assert_eq!(rt; written.as_slice(), direct.as_slice(), "{text}");
-    assert!(rt; written.len() <= length, "{text}");
-    let (back, none) = decoded(rt, schema, &written);
-    assert!(rt; none.is_empty(), "{text}");
-    assert_eq!(rt; text_of(rt, schema, &back).as_str(), text.as_str());
+    let message = encoded(rt, value);
+    assert!(rt; message.len() <= length, "{text}");
+    check_written(rt, schema, text.as_str(), &message);
+    check_read(rt, schema, &message, text.as_str(), &[]);
 }
 
 /// Asserts that the error with which a message is refused is one of reading, and that its place is

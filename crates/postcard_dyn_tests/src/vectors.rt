@@ -1,6 +1,6 @@
 //! Tests with vectors that were worked out by hand from the wire format.
 
-use crate::helpers::{decoded, encoded, text_of, type_of, value_of};
+use crate::helpers::{check_read, check_written, decoded, encoded, type_of};
 use postcard_dyn::{Schema, take_from_bytes};
 use postcard_wire::Error;
 use std::process::Abort;
@@ -166,19 +166,18 @@ const VECTORS: [(&str, &str, &[u8]); 55] = [
     ("[A | B(u8)]", "[B(9), A, A]", &[3, 1, 9, 0, 0]),
 ];
 
-/// Asserts that the value of the text is written as the message, that the message is read as a value
-/// that is written as the same message, and that the message, with a byte after it, is read as a
-/// value that is printed as the text.
-fn check(rt: &(impl Abort + AllocGlobal), schema: &Schema, text: &str, message: &[u8]) {
-    let mut longer = encoded(rt, &value_of(rt, schema, text));
-    assert_eq!(rt; longer.as_slice(), message, "{text}");
-    let (same, none) = decoded(rt, schema, message);
-    assert!(rt; none.is_empty(), "{text}");
-    assert_eq!(rt; encoded(rt, &same).as_slice(), message, "{text}");
+/// Asserts that the value that is read from the message is written as the message.
+fn check_comes_back(rt: &(impl Abort + AllocGlobal), schema: &Schema, message: &[u8]) {
+    let (value, rest) = decoded(rt, schema, message);
+    assert!(rt; rest.is_empty(), "{message:?}");
+    assert_eq!(rt; encoded(rt, &value).as_slice(), message);
+}
+
+/// Asserts that the message, with a byte after it, is read as a value that is printed as the text.
+fn check_longer(rt: &(impl Abort + AllocGlobal), schema: &Schema, text: &str, message: &[u8]) {
+    let mut longer = message.to_vec(rt.alloc()).expect(rt, "memory");
     longer.push(0xFF).expect(rt, "memory");
-    let (back, rest) = decoded(rt, schema, &longer);
-    assert_eq!(rt; text_of(rt, schema, &back).as_str(), text);
-    assert_eq!(rt; rest, [0xFF].as_slice(), "{text}");
+    check_read(rt, schema, &longer, text, &[0xFF]);
 }
 
 /// Asserts that reading the bytes fails with `DeserializeUnexpectedEnd`.
@@ -194,10 +193,13 @@ fn check_fronts(rt: &(impl Abort + AllocGlobal), schema: &Schema, message: &[u8]
     }
 }
 
-/// Asserts what a row says.
+/// Asserts that the value of the text is written as the message, and that this value is read from it,
+/// and from no proper front of it.
 fn check_row(rt: &(impl Abort + AllocGlobal), expression: &str, text: &str, message: &[u8]) {
     let schema = type_of(rt, expression);
-    check(rt, &schema, text, message);
+    check_written(rt, &schema, text, message);
+    check_comes_back(rt, &schema, message);
+    check_longer(rt, &schema, text, message);
     check_fronts(rt, &schema, message);
 }
 
