@@ -197,14 +197,12 @@ fn read_through(rt: &(impl Abort + AllocGlobal), fails_at: usize) {
         (Plain::new(&mut failing), &mut memory),
     );
     match outcome {
-        Ok((value, _)) => {
-            same(rt, value, (5, 300, "Hi!"));
-            assert!(rt; fails_at >= 7);
-        }
-        Err(e) => {
-            same(rt, e, Error::DeserializeUnexpectedEnd);
-            assert!(rt; fails_at < 7);
-        }
+        Ok((value, _)) => same(rt, (value, fails_at >= 7), ((5, 300, "Hi!"), true)),
+        Err(e) => same(
+            rt,
+            (e, fails_at < 7),
+            (Error::DeserializeUnexpectedEnd, true),
+        ),
     }
     same(
         rt,

@@ -20,11 +20,8 @@ fn none_for_numbers_and_lists(rt: HostRuntime) {
     let read = from_io::<Parts, _>(rt.alloc(), (PARTS.as_slice(), &mut []));
     let (parts, _) = read.expect(&rt, "the parts are read");
     let (byte, signed, truth, short, word, (choice, list)) = parts;
-    same(
-        &rt,
-        (byte, signed, truth, short, word),
-        (7, -1, true, 300, -2),
-    );
+    same(&rt, (byte, signed), (7, -1));
+    same(&rt, (truth, short, word), (true, 300, -2));
     same(&rt, choice, Some(9));
     same(&rt, list.as_slice(), [5, 6].as_slice());
 }

@@ -1,24 +1,18 @@
 //! Tests of a user's values, written to a writer and read back from a reader.
 
 use crate::same::same;
-use postcard::{Error, Serialize, from_io, to_io};
+use crate::writers::sent;
+use postcard::{Error, from_io};
 use postcard_vectors::devices::readers::Pieces;
-use postcard_vectors::devices::writers::Bounded;
 use postcard_vectors::types::{BasicU8S, DataEnum, RefStruct};
-use std::process::Abort;
-
-/// Asserts that the value is written to a writer as these bytes, for which there is just room.
-fn is_sent<T: Serialize, const N: usize>(rt: &impl Abort, value: &T, bytes: [u8; N]) {
-    let sent = to_io(value, Bounded::<N>::new()).expect(rt, "the value has room");
-    same(rt, sent.held.as_slice(), bytes.as_slice());
-}
 
 #[test]
 fn an_enum(rt: HostRuntime) {
     let mut scratch = [0; 2048];
     let bytes = [0x05, 0xE9, 0xD2, 0x01, 0x07];
     let choice = DataEnum::Sho(0x6969, 0x07);
-    is_sent(&rt, &choice, bytes);
+    let writer = sent::<_, 5>(&choice).expect(&rt, "the value has room");
+    same(&rt, writer.held.as_slice(), bytes.as_slice());
     let read = from_io::<DataEnum, _>(rt.alloc(), (bytes.as_slice(), &mut scratch));
     let (value, _) = read.expect(&rt, "a value is read");
     same(&rt, value, choice);
@@ -37,7 +31,8 @@ fn a_struct(rt: HostRuntime) {
         sf: 0x12344321ABCDDCBA,
         tt: 0xACACACAC,
     };
-    is_sent(&rt, &record, bytes);
+    let writer = sent::<_, 18>(&record).expect(&rt, "the value has room");
+    same(&rt, writer.held.as_slice(), bytes.as_slice());
     let read = from_io::<BasicU8S, _>(rt.alloc(), (bytes.as_slice(), &mut scratch));
     let (value, _) = read.expect(&rt, "a value is read");
     same(&rt, value, record);

@@ -9,7 +9,7 @@ use postcard_vectors::devices::writers::{Bounded, FailingWriter};
 use std::process::Abort;
 
 /// Writes a value to a writer, and returns the writer. The contract says which bytes it then holds.
-fn sent<T: Serialize, const N: usize>(value: &T) -> postcard::Result<Bounded<N>>
+pub fn sent<T: Serialize, const N: usize>(value: &T) -> postcard::Result<Bounded<N>>
     ensures { IfOk result (λ writer. writer.held.items ≡ canonical (T.shape.tree value.now)) }
 {
     to_io(value, Bounded::new())

@@ -142,10 +142,8 @@ fn a_group_is_full_at_254_bytes(rt: HostRuntime) {
 
 /// Asserts that the frame is decoded in place, to this data.
 fn is_decoded(rt: &impl Abort, frame: &mut [u8], content: &[u8]) {
-    match decode_in_place(frame) {
-        Ok(used) => same(rt, frame.get(..used), Some(content)),
-        Err(e) => panic!(rt; "{e:?}: no frame of {content:?}"),
-    }
+    same_at(rt, decode_in_place(frame), Ok(content.len()), content);
+    same(rt, frame.get(..content.len()), Some(content));
 }
 
 /// Asserts that the data has this made frame, which is decoded to it.
@@ -157,14 +155,14 @@ fn is_framed(rt: &(impl Abort + AllocGlobal), content: &[u8], frame: &[u8]) {
 
 #[test]
 fn the_frames_of_the_table(rt: HostRuntime) {
-    for (content, frame) in FRAMES {
+    for (content, frame) in &FRAMES {
         is_framed(&rt, content, frame);
     }
 }
 
 #[test]
 fn long_groups(rt: HostRuntime) {
-    for (content, frame) in LONG {
+    for (content, frame) in &LONG {
         is_framed(&rt, &joined(&rt, content), &joined(&rt, frame));
     }
 }
@@ -243,12 +241,13 @@ fn is_not_decoded(rt: &(impl Abort + AllocGlobal), before: &[u8]) {
     let report = decode_in_place_report(&mut buffer);
     same(rt, report, Err(Error::DeserializeBadEncoding));
     let end = first_zero(before);
+    same(rt, frame_len(before), end);
     same_at(rt, buffer.get(end..), before.get(end..), before);
 }
 
 #[test]
 fn what_is_no_frame_is_not_decoded(rt: HostRuntime) {
-    for before in NO_FRAMES {
+    for before in &NO_FRAMES {
         is_not_decoded(&rt, before);
     }
 }
@@ -267,7 +266,7 @@ fn survives(rt: &(impl Abort + AllocGlobal), before: &[u8]) {
 
 #[test]
 fn a_changed_byte_is_decoded_or_not(rt: HostRuntime) {
-    for (_, frame) in FRAMES {
+    for (_, frame) in &FRAMES {
         let whole = joined(&rt, &[frame, &[0x77, 0x78]]);
         for place in 0..frame.len() {
             for byte in 0..=255 {

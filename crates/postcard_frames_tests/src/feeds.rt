@@ -110,11 +110,11 @@ const NONE: [(&[&[u8]], &[Fed]); 3] = [
 #[test]
 fn pieces(rt: HostRuntime) {
     let mut four = CobsAccumulator::<4>::new();
-    for (pieces, expected) in FOUR {
+    for (pieces, expected) in &FOUR {
         is_fed(&rt, &mut four, pieces, expected);
     }
     let mut none = CobsAccumulator::<0>::default();
-    for (pieces, expected) in NONE {
+    for (pieces, expected) in &NONE {
         is_fed(&rt, &mut none, pieces, expected);
     }
 }

@@ -49,11 +49,11 @@ fn fills_a_slice(rt: &impl Abort, data: &[u8], frame: &[u8]) {
 
 #[test]
 fn each_storage_gets_the_frame(rt: HostRuntime) {
-    for (data, frame) in FRAMES {
+    for (data, frame) in &FRAMES {
         fills_vectors(&rt, data, frame);
         fills_a_slice(&rt, data, frame);
     }
-    for (data, frame) in LONG {
+    for (data, frame) in &LONG {
         fills_vectors(&rt, &joined(&rt, data), &joined(&rt, frame));
         fills_a_slice(&rt, &joined(&rt, data), &joined(&rt, frame));
     }
@@ -126,7 +126,7 @@ const AFTER: [(&[u8], &[u8], &[&[u8]]); 4] = [
 
 #[test]
 fn a_frame_goes_after_held_bytes(rt: HostRuntime) {
-    for (held, data, after) in AFTER {
+    for (held, data, after) in &AFTER {
         goes_after(&rt, joined(&rt, &[held]), data, after);
     }
     let first = framed(AllocVec::new(rt.alloc()), &[0x01], 1).expect(&rt, "a vector grows");

@@ -44,10 +44,10 @@ fn is_read(rt: &(impl Abort + AllocGlobal), bytes: &[u8], left: &[u8], expected:
 
 #[test]
 fn frames_of_a_byte(rt: HostRuntime) {
-    for (bytes, left) in BYTES {
+    for (bytes, left) in &BYTES {
         is_read(&rt, bytes, left, &Ok(7));
     }
-    for bytes in NO_FRAMES {
+    for bytes in &NO_FRAMES {
         is_read(&rt, bytes, &[], &Err(Error::DeserializeBadEncoding));
     }
 }
@@ -166,7 +166,7 @@ const FRAMES: [&[u8]; 20] = [
 fn survives<T: DeserializeOwned>(rt: &(impl Abort + AllocGlobal), before: &[u8]) {
     let mut after = joined(rt, &[before]);
     if let Err(e) = from_bytes_cobs::<Owned<T>>(rt.alloc(), &mut after) {
-        assert_ne!(rt; e, Error::OutOfMemory, "{before:?}");
+        same_at(rt, e == Error::OutOfMemory, false, before);
     }
     let end = first_zero(before);
     same_at(rt, after.get(end..), before.get(end..), before);
@@ -187,7 +187,7 @@ fn place_survives(rt: &(impl Abort + AllocGlobal), frame: &[u8], place: usize) {
 
 #[test]
 fn changed_frames_are_read_or_not(rt: HostRuntime) {
-    for frame in FRAMES {
+    for frame in &FRAMES {
         for place in 0..frame.len() {
             place_survives(&rt, frame, place);
         }
