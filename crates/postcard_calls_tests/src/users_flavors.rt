@@ -3,7 +3,7 @@
 use postcard::de_flavors::io::io::IOReader;
 use postcard::de_flavors::{Flavor, Slice};
 use postcard::ser_flavors::{AllocVec, HVec, Size};
-use postcard::{Deserialize, Deserializer, Error, from_io, serialize_with_flavor};
+use postcard::{Deserialize, Deserializer, Error, Result, from_io, serialize_with_flavor};
 use postcard_examples::flavor::Both;
 use postcard_examples::limited::Limited;
 use postcard_examples::source::Counted;
@@ -83,6 +83,14 @@ fn a_reading_flavor(rt: HostRuntime) {
     assert_eq!(rt; deserializer.finalize(), Ok([b'a', b'b', 7].as_slice()));
 }
 
+/// Returns the reader of what a reading flavor over a reader leaves.
+fn unread<'a>(left: Result<(&'a [u8], &'a mut [u8])>) -> Result<&'a [u8]> {
+    match left {
+        Ok((reader, _)) => Ok(reader),
+        Err(error) => Err(error),
+    }
+}
+
 #[test]
 fn each_call_of_a_reading_flavor(rt: HostRuntime) {
     let mut scratch = [0; 8];
@@ -96,16 +104,10 @@ fn each_call_of_a_reading_flavor(rt: HostRuntime) {
     assert_eq!(rt; limited.try_take_n_temp(5), Err(END));
     assert_eq!(rt; limited.pop(), Ok(1));
     assert_eq!(rt; limited.try_take_n(2), Ok([2, 3].as_slice()));
-    match limited.try_take_n_temp(1) {
-        Ok(byte) => assert_eq!(rt; byte, [4].as_slice()),
-        Err(e) => panic!(rt; "{e}"),
-    }
+    assert_eq!(rt; limited.try_take_n_temp(1), Ok([4].as_slice()));
     assert_eq!(rt; limited.limit, 0);
     assert_eq!(rt; limited.pop(), Err(END));
-    match limited.finalize() {
-        Ok((rest, _)) => assert_eq!(rt; rest, [5, 6].as_slice()),
-        Err(e) => panic!(rt; "{e}"),
-    }
+    assert_eq!(rt; unread(limited.finalize()), Ok([5, 6].as_slice()));
 }
 
 /// Returns the hint of a reading flavor over two bytes that reads at most `limit` of them.
