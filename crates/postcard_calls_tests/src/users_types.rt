@@ -3,7 +3,7 @@
 use crate::asserts::{assert_owned, assert_refused, assert_there_and_back};
 use arrayvec::{ArrayString, ArrayVec};
 use postcard::ser_flavors::Size;
-use postcard::{Error, Owned, serialize_with_flavor};
+use postcard::{Error, Owned, from_bytes, serialize_with_flavor};
 use postcard_examples::chain::Chain;
 use postcard_examples::event::Event;
 use postcard_examples::interval::Interval;
@@ -11,10 +11,14 @@ use postcard_examples::numbers::Numbers;
 use postcard_examples::pair::Pair;
 use postcard_examples::percent::Percent;
 use postcard_examples::reading::Reading;
+use postcard_examples::sample::{Sample, Survey};
 use postcard_examples::station::{Position, Station};
 use postcard_examples::store::{Mode, SETTINGS_SIZE, Settings, Store, settings_size};
 use postcard_examples::tally::Tally;
-use postcard_examples::theorems::{reading_comes_back, station_comes_back, u32_fits_five_bytes};
+use postcard_examples::theorems::{
+    reading_comes_back, sample_comes_back, sample_fits_28_bytes, station_comes_back,
+    survey_comes_back, u32_fits_five_bytes,
+};
 use std::alloc::{AllocError, AllocGlobal, Global};
 use std::process::Abort;
 
@@ -213,4 +217,50 @@ fn strokes_up_to_the_capacity(rt: HostRuntime) {
     assert_refused::<Tally>(&rt, &[1, 6], Error::SerdeDeCustom);
     assert_refused::<Tally>(&rt, &row, Error::SerdeDeCustom);
     assert_refused::<Tally>(&rt, &rows, Error::SerdeDeCustom);
+}
+
+/// A sample, and its bytes: 21.5 is 1.34375 * 2^4, and 101325 is 1.546... * 2^16.
+const SAMPLE: Sample = Sample {
+    sensor: 300,
+    temperature: 21.5,
+    pressure: Some(101325.0),
+    wind: [0.5, -1.0, 2.25],
+};
+
+/// The bytes of the sample, a line for each field.
+const SAMPLE_BYTES: [u8; 27] = [
+    0xAC, 0x02, //
+    0x00, 0x00, 0xAC, 0x41, //
+    0x01, 0x00, 0x00, 0x00, 0x00, 0xD0, 0xBC, 0xF8, 0x40, //
+    0x00, 0x00, 0x00, 0x3F, 0x00, 0x00, 0x80, 0xBF, 0x00, 0x00, 0x10, 0x40,
+];
+
+#[test]
+fn numbers_with_a_point(rt: HostRuntime) {
+    assert_there_and_back(&rt, SAMPLE, &SAMPLE_BYTES);
+    assert_owned(&rt, SAMPLE, &SAMPLE_BYTES);
+    let back = sample_comes_back(rt.alloc(), &SAMPLE);
+    assert_eq!(rt; back, Ok(SAMPLE));
+    let mut buffer = [0; 28];
+    let widest = Sample { sensor: u16::MAX, ..SAMPLE };
+    assert_eq!(rt; sample_fits_28_bytes(&widest, &mut buffer), Ok(28));
+}
+
+#[test]
+fn a_list_and_a_set(rt: HostRuntime) {
+    let bytes = [
+        0x01, 0x00, 0x00, 0x18, 0x41, // 9.5
+        0x01, 0x00, 0x00, 0x00, 0x00, 0x00, 0x00, 0xE0, 0x3F, // 0.5
+        0x02, 0x01, 0xAC, 0x02,
+    ];
+    match from_bytes::<Owned<Survey>>(rt.alloc(), &bytes) {
+        Ok(Owned(survey)) => {
+            assert_eq!(rt; survey.greatest, Some(9.5));
+            assert_eq!(rt; survey.hours.as_slice(), [0.5].as_slice());
+            assert!(rt; survey.sensors.contains(&1) && survey.sensors.contains(&300));
+            let back = survey_comes_back(rt.alloc(), &survey);
+            assert_eq!(rt; back, Ok(survey));
+        }
+        Err(e) => panic!(rt; "{e}"),
+    }
 }

@@ -1,17 +1,18 @@
--- Reading a pair of a map, arrays, and lists of few elements.
+-- Reading a pair of a map, and lists of few elements.
 use Rattle.std.proofs.Common.{◌≡◌, ℕ, ◌≤◌, ◌⊎◌, List, [], ◌∷◌, ◌++◌, Option, Ok, refl, sym, ◌∙◌}
 use Rattle.std.proofs.Common.{subst}
 use Rattle.std.specs.declared.cmp.Ordering.{Ordering}
 use Rattle.std.specs.BTreeMap.{insert_entry}
+use Rattle.std.specs.BTreeSet.{insert_key}
 use Rattle.postcard_wire.specs.declared.error.Error.{Error}
 use Rattle.postcard_wire.specs.Number.{SpellsNum}
-use Rattle.postcard_wire.specs.Tree.{Tree, Group, Seq, count}
+use Rattle.postcard_wire.specs.Tree.{Tree, Seq, count}
 use Rattle.postcard_wire.specs.Spelling.{Spells, SpellsAll}
-use Rattle.postcard_wire.specs.Reading.{IsGroup, IsArray}
 use Rattle.postcard_de_flavors.specs.Source.{Laws}
 use Rattle.postcard_de_nodes.specs.Reads.{IsReadError, ReadsFrom}
 use Rattle.postcard_shape.specs.Values.{Same, EachIs, ListIs, AreRead}
 use Rattle.postcard_shape.specs.Maps.{IsEntry, EntryIs, inserted}
+use Rattle.postcard_shape.specs.Sets.{keys_inserted}
 use Rattle.postcard_shape.specs.Fixed.{IsFewSeq}
 use Rattle.postcard_de_nodes.specs.ReadLemmas.{refusal}
 use Rattle.postcard_de_nodes.specs.NumberLemmas.{Below}
@@ -25,6 +26,12 @@ pub inserted_last : {A B : Type 0} (cmp : A → A → Ordering) (ps es : List (A
     inserted cmp (ps ++ ((a, b) ∷ [])) es ≡ insert_entry cmp (inserted cmp ps es) a b
 inserted_last cmp [] es a b = refl
 inserted_last cmp (p ∷ ps) es a b = inserted_last cmp ps (insert_entry cmp es p.0 p.1) a b
+
+-- Inserting keys and one more at their end is inserting the keys and then that one.
+pub keys_inserted_last : {A : Type 0} (cmp : A → A → Ordering) (xs ks : List A) (a : A) →
+    keys_inserted cmp (xs ++ (a ∷ [])) ks ≡ insert_key cmp (keys_inserted cmp xs ks) a
+keys_inserted_last cmp [] ks a = refl
+keys_inserted_last cmp (x ∷ xs) ks a = keys_inserted_last cmp xs (insert_key cmp ks x) a
 
 -- A list of at most m elements is made of a count of at most m and that many trees.
 pub count_and_few : (m : ℕ) (R : Tree → Type 0) →
@@ -80,38 +87,6 @@ module _ {S : Type 0} {left : S → Option (List ℕ)} {able : S → ℕ → Typ
     entry_read r s = struct_read laws (λ t h. h) (and_part laws r (and_part laws s (no_more laws)))
 
   module _ {V : Type 0} {R : Tree → Type 0} {I : Tree → V → Type 0} {H : Type 0} where
-    -- If all elements of an array were read, the array was read.
-    pub array_read : {n : ℕ} {old new : S} {vs : List V} →
-        ReadsFrom SpellsAll (AreRead n R) (EachIs I) H left able may_leave old (Ok vs) new →
-        ReadsFrom Spells (IsArray n R) (λ t v. IsGroup (λ ts. EachIs I ts v) t) H left able
-        may_leave old (Ok vs) new
-    array_read r = let g = r.gives in record {
-      gives = record {
-        thing = Group g.thing;
-        front = g.front;
-        is_read = (g.thing, refl, g.is_read.0, g.is_read.1);
-        is_spelled = g.is_spelled;
-        has = (g.thing, refl, g.has);
-        taken = g.taken;
-      };
-      accepts = λ t p a b c. let k = r.accepts a.0 p (a.2, a.3) (rw a.1 at b) c in
-          ((a.0, a.1, k.0), k.1);
-      leaves = r.leaves;
-      named_error = tt;
-    }
-
-    -- If reading the elements fails, reading the array fails with that error.
-    pub array_refused : {n : ℕ} {old new : S} {e : Error} →
-        ReadsFrom SpellsAll (AreRead n R) (EachIs I) H left able may_leave old (refusal (List V) e)
-        new → ReadsFrom Spells (IsArray n R) (λ t v. IsGroup (λ ts. EachIs I ts v) t) H left able
-        may_leave old (refusal (List V) e) new
-    array_refused r = record {
-      gives = tt;
-      accepts = λ t p a b c. r.accepts a.0 p (a.2, a.3) (rw a.1 at b) c;
-      leaves = r.leaves;
-      named_error = r.named_error;
-    }
-
     module _ {A : Type 0} {see : A → List V} {m n : ℕ} {old mid new : S}
         (counted : ReadsFrom (SpellsNum 64) (Below 64) Same ⊥ left able may_leave old (Ok n) mid)
       where

@@ -5,3 +5,4 @@ pub mod Options
 pub mod Entries
 pub mod Groups
 pub mod Mapped
+mod Addresses

@@ -15,6 +15,7 @@ ghost use Rattle.postcard_de.specs.Deserializer.{source_of};
 
 mod elements;
 pub mod enums;
+pub mod floats;
 pub mod groups;
 pub mod leaves;
 pub mod options;

@@ -3,13 +3,16 @@
 
 pub mod error;
 pub mod fixed;
+pub mod floats;
 pub mod lists;
 pub mod maps;
+pub mod net;
 pub mod nonzero;
 pub mod numbers;
 pub mod options;
 pub mod ranges;
 pub mod scalars;
+pub mod sets;
 pub mod text;
 pub mod time;
 pub mod tuples;

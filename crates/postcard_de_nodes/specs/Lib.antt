@@ -8,3 +8,4 @@ pub mod NumberLemmas
 pub mod CompoundLemmas
 pub mod SeenLemmas
 pub mod CountLemmas
+pub mod ArrayLemmas

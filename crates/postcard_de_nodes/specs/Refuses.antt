@@ -44,6 +44,10 @@ Refuses F wants bad old e new = RefusesFrom wants bad F.left F.able old e new
 abbrev pub WantsByte : List ℕ → ℕ → Type 0
 WantsByte p n = (p ≡ []) × (n ≡ 1)
 
+-- n bytes are wanted before anything else.
+abbrev pub WantsBytes : ℕ → List ℕ → ℕ → Type 0
+WantsBytes n p m = (p ≡ []) × (m ≡ n)
+
 -- No front is refused.
 abbrev pub NoneBad : List ℕ → Error → Type 0
 NoneBad p e = ⊥

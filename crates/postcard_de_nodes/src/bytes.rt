@@ -15,7 +15,7 @@ use postcard_wire::{Error, Result};
 use std::alloc::Global;
 
 /// Returns the same slice. For the prover: the contract says that each element is below 256.
-fn in_range(bytes: &[u8]) -> &[u8]
+pub(crate) fn in_range(bytes: &[u8]) -> &[u8]
     ensures same { result.now ≡ bytes.now }
     ensures range { (k : ℕ) → slice_index bytes.now k < 256 }
 {

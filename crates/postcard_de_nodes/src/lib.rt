@@ -11,11 +11,12 @@
 //! crate depends neither on it nor on the types that are read.
 //!
 //! In reading order: [`numbers`] (the varint loop is here), [`choices`], [`texts`], [`bytes`],
-//! [`lists`].
+//! [`floats`], [`lists`].
 #![tactic(auto)]
 
 pub mod bytes;
 pub mod choices;
+pub mod floats;
 pub mod lists;
 pub mod numbers;
 pub mod texts;

@@ -4,6 +4,8 @@
 //!   their fields. The first borrows from the message, the second has more than six fields, the
 //!   third a struct as a field, and the last a type parameter.
 //! - [`event`]: an enum, which is described as its variants in a row.
+//! - [`sample`]: structs with floating-point numbers, one of which has a greatest size, and the other
+//!   a list and a set.
 //! - [`percent`], [`interval`]: types with a shape of their own. One refuses values when they are
 //!   read, the other when they are written.
 //! - [`chain`]: a recursive type, with a limit on its depth.
@@ -23,6 +25,7 @@ pub mod numbers;
 pub mod pair;
 pub mod percent;
 pub mod reading;
+pub mod sample;
 pub mod source;
 pub mod station;
 pub mod store;

@@ -8,27 +8,9 @@ use Rattle.std.proofs.lemmas.Int.{of_z-to_z, to_z-of_z}
 use Rattle.std.specs.Int.{Width, w8, w16, w32, w64, w128, byte_at, byte_len, bytes_low_first}
 use Rattle.std.specs.Int.{cast_signed, cast_unsigned, from_le_bytes, from_be_bytes}
 use mir.Val.{bits, SFits}
-use Rattle.postcard_fixint.specs.Base256.{low_first, low_value, AreBytes, reversed_bytes}
+use Rattle.postcard_shape.specs.Base256.{low_first, low_value, AreBytes, reversed_bytes}
 use Rattle.postcard_fixint.specs.Fixed.{twos_complement}
-use Rattle.postcard_fixint.proofs.Sums.{little_sum, big_sum}
-
--- The byte at place i is the digit of 256 ^ i.
-place : (i n : ℕ) → byte_at i n ≡ n / 256 ^ i % 256
-place zero n = omega arith
-place (suc i) n = refl
-
--- The bytes from place i on are those of the number divided by 256 ^ i.
-places : (i k n : ℕ) → bytes_low_first i k n ≡ low_first k (n / 256 ^ i)
-places i zero n = refl
-places i (suc k) n =
-    let power = ap (λ m. n / m) (pow-suc 256 i) in
-    let next : n / 256 ^ suc i ≡ n / 256 ^ i / 256 =
-    power ∙ sym (div-div-eq-div-mul n (256 ^ i) 256) in
-    ap₂ (λ b bs. b ∷ bs) (place i n) (places (suc i) k n ∙ ap (low_first k) next)
-
--- std's lowest k bytes of a number are its k bytes in base 256.
-pub little_bytes : (k n : ℕ) → bytes_low_first 0 k n ≡ low_first k n
-little_bytes k n = places 0 k n ∙ ap (low_first k) (omega arith)
+use Rattle.postcard_shape.proofs.Sums.{little_bytes, little_sum, big_sum}
 
 -- The value of bytes is below 256 to the power of their number.
 value_below : (bs : List ℕ) → AreBytes bs → low_value bs < 256 ^ length bs

@@ -3,7 +3,7 @@ use Rattle.std.proofs.Common.{◌≡◌, ◌↔◌, ℕ, ◌<◌, ◌^◌, List,
 use Rattle.std.specs.Prelude.{map}
 use Rattle.postcard_wire.specs.Tree.{Byte, trees}
 use Rattle.postcard_wire.specs.Spelling.{canonical_all}
-use Rattle.postcard_fixint.specs.Base256.{AreNumber, Order}
+use Rattle.postcard_shape.specs.Base256.{AreNumber, Order}
 
 -- The encoding of bytes in a row is those bytes.
 pub bytes_of_bytes : (bs : List ℕ) → canonical_all (trees (map Byte bs)) ≡ bs

@@ -7,9 +7,9 @@ use Rattle.postcard_wire.specs.Number.{InRange}
 use Rattle.postcard_wire.specs.Tree.{Tree}
 use Rattle.postcard_shape.specs.Leaves.{byte}
 use Rattle.postcard_shape.specs.Lists.{array}
-use Rattle.postcard_shape.specs.Same.{HasOne, SameList}
+use Rattle.postcard_shape.specs.Same.{HasOne, same_list}
 use Rattle.postcard_shape.specs.Shape.{Shape}
-use Rattle.postcard_fixint.specs.Base256.{Order}
+use Rattle.postcard_shape.specs.Base256.{Order}
 
 -- A type of numbers of a fixed width.
 pub record FixedWidth (V : Type 0) : Type 1 where
@@ -63,12 +63,6 @@ signed k w halves = record {
   below = signed_below k w halves;
   one = signed_one k w halves;
 }
-
-same_list : (xs ys : List ℕ) → SameList (λ n m. n ≡ m) xs ys → xs ≡ ys
-same_list [] [] h = refl
-same_list [] (y ∷ ys) h = absurd h
-same_list (x ∷ xs) [] h = absurd h
-same_list (x ∷ xs) (y ∷ ys) h = ap₂ (λ n ns. n ∷ ns) h.0 (same_list xs ys h.1)
 
 -- The tree is the array of some bytes, and v is the number of the type that has their value.
 abbrev pub IsFixed : {V : Type 0} → Order → FixedWidth V → Tree → V → Type 0

@@ -2,7 +2,7 @@
 
 ghost use Rattle.std.specs.Prelude.{◌≡◌, ◌↔◌, ◌<◌, ◌^◌, ℕ, List, length};
 ghost use Rattle.postcard_wire.specs.Spelling.{canonical};
-ghost use Rattle.postcard_fixint.specs.Base256.{AreNumber, little, big};
+ghost use Rattle.postcard_shape.specs.Base256.{AreNumber, little, big};
 ghost use Rattle.postcard_fixint.specs.Fixed.{fixed};
 
 use crate::number::FixInt;

@@ -7,7 +7,7 @@ ghost use Rattle.postcard_shape.specs.Lists.{array};
 ghost use Rattle.postcard_ser.specs.Writing.{Wrote};
 ghost use Rattle.postcard_de.specs.Deserializer.{source_of};
 ghost use Rattle.postcard_de.specs.Reads.{Reads};
-ghost use Rattle.postcard_fixint.specs.Base256.{little};
+ghost use Rattle.postcard_shape.specs.Base256.{little};
 ghost use Rattle.postcard_fixint.specs.Fixed.{IsFixed, fixed};
 
 use crate::number::FixInt;

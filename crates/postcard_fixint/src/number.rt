@@ -1,7 +1,7 @@
 //! The numbers that can be written at their full width.
 
 ghost use Rattle.std.specs.Prelude.{◌≡◌, ℕ, List, refl};
-ghost use Rattle.postcard_fixint.specs.Base256.{little, big};
+ghost use Rattle.postcard_shape.specs.Base256.{little, big};
 ghost use Rattle.postcard_fixint.specs.Fixed.{FixedWidth, unsigned, signed};
 ghost use Rattle.postcard_fixint.specs.Fixed.{IsByteArray, byte_array};
 

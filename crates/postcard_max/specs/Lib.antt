@@ -6,6 +6,7 @@ pub mod Limits
 pub mod Counts
 pub mod Leaves
 pub mod Containers
+pub mod Floats
 pub mod Rows
 pub mod Cases
 pub mod CasesLimit

@@ -9,13 +9,16 @@ ghost use Rattle.postcard_max.specs.SizeLimit.{IsSize, IsSum};
 
 use crate::max_size::MaxSize;
 use arrayvec::{ArrayString, ArrayVec};
+use std::cmp::Reverse;
 use std::marker::PhantomData;
+use std::net::{IpAddr, Ipv4Addr, Ipv6Addr, SocketAddr, SocketAddrV4, SocketAddrV6};
 use std::num::{
     NonZeroI8, NonZeroI16, NonZeroI32, NonZeroI64, NonZeroI128, NonZeroIsize, NonZeroU8,
-    NonZeroU16, NonZeroU32, NonZeroU64, NonZeroU128, NonZeroUsize, Wrapping,
+    NonZeroU16, NonZeroU32, NonZeroU64, NonZeroU128, NonZeroUsize, Saturating, Wrapping,
 };
-use std::ops::{Range, RangeFrom, RangeInclusive, RangeTo};
+use std::ops::{Bound, Range, RangeFrom, RangeInclusive, RangeTo};
 use std::rc::Rc;
+use std::sync::Arc;
 use std::time::Duration;
 
 /// No canonical encoding of a tree that a type reads is longer than the type's greatest size, and
@@ -68,6 +71,8 @@ pub fn table<
     ensures of_u128 { IsSize ⟦<u128 as MaxSize>⟧.limit (Some 19) ⊤ }
     ensures of_i128 { IsSize ⟦<i128 as MaxSize>⟧.limit (Some 19) ⊤ }
     ensures of_char { IsSize ⟦<char as MaxSize>⟧.limit (Some 5) ⊤ }
+    ensures of_f32 { IsSize ⟦<f32 as MaxSize>⟧.limit (Some 4) ⊤ }
+    ensures of_f64 { IsSize ⟦<f64 as MaxSize>⟧.limit (Some 8) ⊤ }
     ensures unit { IsSize ⟦<() as MaxSize>⟧.limit (Some 0) ⊤ }
     ensures phantom { IsSize ⟦<PhantomData<A> as MaxSize>⟧.limit (Some 0) ⊤ }
     ensures option { IsSize ⟦<Option<A> as MaxSize>⟧.limit (sum_of (Some 1) A.limit.greatest)
@@ -142,9 +147,15 @@ pub fn table<
         (A.limit.greatest ∷ []) A.limit.reached }
     ensures range_to { IsSum ⟦<RangeTo<A> as MaxSize>⟧.limit
         (A.limit.greatest ∷ []) A.limit.reached }
+    ensures bound { IsSize ⟦<Bound<A> as MaxSize>⟧.limit
+        (sum_of (Some 1) A.limit.greatest) A.limit.reached }
     ensures wrapping { IsSize ⟦<Wrapping<A> as MaxSize>⟧.limit A.limit.greatest A.limit.reached }
+    ensures saturating { IsSize ⟦<Saturating<A> as MaxSize>⟧.limit A.limit.greatest A.limit.reached }
+    ensures reverse { IsSize ⟦<Reverse<A> as MaxSize>⟧.limit A.limit.greatest A.limit.reached }
     ensures boxed { IsSize ⟦<Box<A> as MaxSize>⟧.limit A.limit.greatest A.limit.reached }
     ensures shared { IsSize ⟦<Rc<A> as MaxSize>⟧.limit A.limit.greatest A.limit.reached }
+    ensures shared_by_threads { IsSize ⟦<Arc<A> as MaxSize>⟧.limit A.limit.greatest
+        A.limit.reached }
     ensures reference { IsSize ⟦<&'static A as MaxSize>⟧.limit A.limit.greatest A.limit.reached }
     ensures mutable { IsSize ⟦<&'static mut A as MaxSize>⟧.limit A.limit.greatest A.limit.reached }
     ensures nonzero_u8 { IsSize ⟦<NonZeroU8 as MaxSize>⟧.limit (Some 1) ⊤ }
@@ -159,6 +170,12 @@ pub fn table<
     ensures nonzero_i64 { IsSize ⟦<NonZeroI64 as MaxSize>⟧.limit (Some 10) ⊤ }
     ensures nonzero_i128 { IsSize ⟦<NonZeroI128 as MaxSize>⟧.limit (Some 19) ⊤ }
     ensures nonzero_isize { IsSize ⟦<NonZeroIsize as MaxSize>⟧.limit (Some 10) ⊤ }
+    ensures ipv4 { IsSize ⟦<Ipv4Addr as MaxSize>⟧.limit (Some 4) ⊤ }
+    ensures ipv6 { IsSize ⟦<Ipv6Addr as MaxSize>⟧.limit (Some 16) ⊤ }
+    ensures ip { IsSize ⟦<IpAddr as MaxSize>⟧.limit (Some 17) ⊤ }
+    ensures socket_v4 { IsSize ⟦<SocketAddrV4 as MaxSize>⟧.limit (Some 7) ⊤ }
+    ensures socket_v6 { IsSize ⟦<SocketAddrV6 as MaxSize>⟧.limit (Some 19) ⊤ }
+    ensures socket { IsSize ⟦<SocketAddr as MaxSize>⟧.limit (Some 20) ⊤ }
     ensures vector { IsSize ⟦<ArrayVec<A, N> as MaxSize>⟧.limit
         (sum_of (times N A.limit.greatest) (Some (varint_len N))) A.limit.reached }
     ensures short_text { IsSize ⟦<ArrayString<N> as MaxSize>⟧.limit

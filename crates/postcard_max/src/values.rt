@@ -1,6 +1,8 @@
 //! The greatest sizes of the types of std and of `arrayvec`, a module for each kind.
 
 mod fixed;
+mod floats;
+mod net;
 mod nonzero;
 mod numbers;
 mod options;

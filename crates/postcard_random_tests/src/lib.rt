@@ -11,6 +11,8 @@ mod calls;
 #[cfg(test)]
 mod choices;
 #[cfg(test)]
+mod floats;
+#[cfg(test)]
 mod made;
 #[cfg(test)]
 mod plain;

@@ -4,7 +4,9 @@
 //! The scratch buffer is for what is borrowed from a reader. Types that need none are read with an
 //! empty one.
 
+mod floats;
 mod lists;
+mod net;
 mod nonzero;
 mod numbers;
 mod pointers;

@@ -1,8 +1,8 @@
 -- The encodings of a list's elements, one after the other.
-use Rattle.std.proofs.Common.{◌≡◌, ℕ, ◌+◌, ◌<◌, List, [], ◌∷◌, ◌++◌, length, take, drop, get_or, refl, sym, ap, suc, ◌∙◌, append_assoc, append-nil, arith}
+use Rattle.std.proofs.Common.{◌≡◌, ℕ, ◌+◌, ◌<◌, List, [], ◌∷◌, ◌++◌, length, take, drop, get_or, refl, sym, ap, suc, ◌∙◌, append_assoc, append-nil, length-append, arith}
 use Rattle.std.proofs.lemmas.Grind.{common_steps}
 use Rattle.std.specs.Prelude.{Any, map}
-use Rattle.std.proofs.lemmas.List.{take_more}
+use Rattle.std.proofs.lemmas.List.{take_more, get_or_append_left}
 use Rattle.postcard_wire.specs.Spelling.{canonical, canonical_all}
 use Rattle.postcard_wire.specs.Tree.{Tree, trees, count}
 
@@ -35,3 +35,12 @@ module _ {A : Type 0} (f : A → Tree) where
 -- If P holds of the element at a place, it holds of some element.
 pub any_at : {A : Type 0} {P : A → Type 0} (xs : List A) (k : ℕ) (d : A) → k < length xs → d ≡ get_or xs k d → P d → Any P xs
 any_at xs k d h e p = (k, d, h, sym e, p)
+
+-- If P holds of some element of one of two lists, it holds of some element of both joined.
+pub any_left : {A : Type 0} {P : A → Type 0} (xs ys : List A) → Any P xs → Any P (xs ++ ys)
+any_left xs ys (i, x, low, is, p) = (i, x, omega (arith, length-append xs ys, low), get_or_append_left xs ys x i low ∙ is, p)
+
+pub any_right : {A : Type 0} {P : A → Type 0} (xs ys : List A) → Any P ys → Any P (xs ++ ys)
+any_right xs ys (i, x, low, is, p) =
+    let there : get_or (xs ++ ys) (length xs + i) x ≡ x = grind (arith, common_steps, is, low) in
+    (length xs + i, x, omega (arith, length-append xs ys, low), there, p)

@@ -11,6 +11,7 @@ ghost use Rattle.postcard_wire.specs.Tree.{Byte, Num, Int, Text, Seq, trees};
 ghost use Rattle.postcard_ser.specs.Writing.{Wrote};
 
 mod enums;
+mod floats;
 mod groups;
 mod leaves;
 mod options;

@@ -2,13 +2,16 @@
 
 mod error;
 mod fixed;
+mod floats;
 mod lists;
 mod maps;
+mod net;
 mod nonzero;
 mod numbers;
 mod options;
 mod ranges;
 mod scalars;
+mod sets;
 mod text;
 mod time;
 mod tuples;

@@ -106,6 +106,7 @@ impl<B: Storage + Drop> Cobs<B> {
             ((n : ℕ) → B.free self.storage (1 + n) → B.free result.0 n) }
         ensures has_room { ⟦<Cobs<B> as Flavor>⟧.room self [] → IsOk result.1 }
         ensures stays_refused { IsTrue self.failed → IsErrOf result.1 Error.SerializeBufferFull }
+        ensures storage_kept { IsTrue self.failed → result.0 ≡ self.storage }
         ensures refuses_by_buffer_full { IfErr result.1 (λ e. e ≡ Error.SerializeBufferFull) }
     {
         let Cobs {
@@ -185,6 +186,7 @@ impl<B: Storage + Drop> Flavor for Cobs<B> {
             → AppendsFront ⟦<Cobs<B> as Flavor>⟧.appended self.old (byte ∷ []) self.new) }
         ensures leaves { ⟦<Cobs<B> as Flavor>⟧.reaches self.old self.new }
         ensures stays_refused { IsTrue self.old.failed → IsErrOf result Error.SerializeBufferFull }
+        ensures storage_kept { IsTrue self.old.failed → self.new.storage ≡ self.old.storage }
         ensures remembers_refusal { OnErr result (IsTrue self.new.failed) }
         ensures refuses_by_buffer_full { IfErr result (λ e. e ≡ Error.SerializeBufferFull) }
     {
@@ -218,6 +220,7 @@ impl<B: Storage + Drop> Flavor for Cobs<B> {
         ensures leaves { ⟦<Cobs<B> as Flavor>⟧.reaches self.old self.new }
         ensures stays_refused { IsTrue self.old.failed → 0 < length bytes.now
             → IsErrOf result Error.SerializeBufferFull }
+        ensures storage_kept { IsTrue self.old.failed → self.new.storage ≡ self.old.storage }
         ensures remembers_refusal { OnErr result (IsTrue self.new.failed) }
         ensures refuses_by_buffer_full { IfErr result (λ e. e ≡ Error.SerializeBufferFull) }
     {

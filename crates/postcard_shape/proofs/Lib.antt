@@ -3,3 +3,5 @@ pub mod Fitting
 pub mod Ordered
 pub mod Again
 pub mod Bytes
+pub mod Sums
+pub mod Floats

@@ -11,9 +11,12 @@ pub mod Compound
 pub mod Shape
 pub mod Leaves
 pub mod Lists
+pub mod Base256
+pub mod Floats
 pub mod Choices
 pub mod Spans
 pub mod Entries
+pub mod Sets
 pub mod Rows
 pub mod Cases
 pub mod Refusing

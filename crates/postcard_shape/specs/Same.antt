@@ -1,6 +1,6 @@
 -- When two values look alike to contracts, and the law that all values of one tree do.
 use Rattle.std.specs.Prelude.{◌≡◌, List, [], ◌∷◌}
-use Rattle.std.proofs.Common.{sym, ◌∙◌, subst}
+use Rattle.std.proofs.Common.{refl, sym, ap₂, ◌∙◌, subst}
 use Rattle.postcard_wire.specs.Tree.{Tree, Trees, Seq, NoTrees, Then}
 use Rattle.postcard_shape.specs.Values.{EachIs, ListIs}
 
@@ -13,6 +13,13 @@ abbrev pub SameList : {V : Type 0} → (V → V → Type 0) → List V → List 
 SameList same [] [] = Unit {0}
 SameList same (v ∷ vs) (w ∷ ws) = same v w × SameList same vs ws
 SameList same _ _ = ⊥
+
+-- Lists whose elements are equal, one by one, are equal.
+pub same_list : {V : Type 0} (vs ws : List V) → SameList (λ v w. v ≡ w) vs ws → vs ≡ ws
+same_list [] [] h = refl
+same_list [] (w ∷ ws) h = absurd h
+same_list (v ∷ vs) [] h = absurd h
+same_list {V} (v ∷ vs) (w ∷ ws) h = ap₂ (λ (x : V) (xs : List V). x ∷ xs) h.0 (same_list vs ws h.1)
 
 -- If the values of one tree look alike, so do the lists of values of trees in a row.
 pub each_one : {V : Type 0} (value : Tree → V → Type 0) (same : V → V → Type 0) → HasOne value same → (ts : Trees) (vs ws : List V) → EachIs value ts vs → EachIs value ts ws → SameList same vs ws

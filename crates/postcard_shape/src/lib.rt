@@ -14,6 +14,7 @@
 #![tactic(auto)]
 
 pub mod cases;
+pub mod formats;
 pub mod rows;
 pub mod shape;
 mod values;

@@ -8,6 +8,7 @@ ghost use Rattle.postcard_de.specs.Deserializer.{source_of};
 ghost use Rattle.postcard_shape.specs.Values.{EachIs, ListIs};
 ghost use Rattle.postcard_shape.specs.Fixed.{IsFewSeq};
 ghost use Rattle.postcard_shape.specs.Maps.{IsEntry, MapIs};
+ghost use Rattle.postcard_shape.specs.Sets.{SetIs};
 
 use crate::deserializer::Deserializer;
 use crate::element::Element;
@@ -17,7 +18,7 @@ use postcard_de_nodes::{lists, numbers};
 use postcard_shape::Shaped;
 use postcard_wire::{Error, Result};
 use std::alloc::Global;
-use std::collections::BTreeMap;
+use std::collections::{BTreeMap, BTreeSet};
 
 /// Appends an element to a list that is to get `announced` more elements, this one included.
 ///
@@ -151,5 +152,31 @@ impl<'de, F: Flavor> Deserializer<'de, F> {
             }
         }
         Ok(map)
+    }
+
+    /// Reads a set: a count, and that many keys, in any order. If a key is repeated, the first is
+    /// kept.
+    ///
+    /// # Errors
+    ///
+    /// Fails as `deserialize_u64` if the count can't be read, as reading the first key that can't be
+    /// read does, and with `OutOfMemory` if an allocation fails.
+    pub(crate) fn set<K: Shaped + Ord + Drop, E: Element<'de, K>>(
+        &mut self,
+        alloc: Global,
+    ) -> Result<BTreeSet<K>>
+        ensures { Reads F.Flavor Spells (IsSeq K.shape.reads)
+            (λ t s. SetIs K.cmp K.shape.value t s.keys) ⊤
+            (source_of self.old) result (source_of self.new) }
+    {
+        let count = numbers::count(&mut self.flavor)?;
+        let mut set = BTreeSet::new(alloc);
+        for _ in 0..count {
+            let key = E::element(alloc, self)?;
+            if set.insert(key).is_err() {
+                return Err(Error::OutOfMemory);
+            }
+        }
+        Ok(set)
     }
 }

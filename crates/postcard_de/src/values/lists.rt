@@ -16,6 +16,7 @@ use crate::owned::DeserializeOwned;
 use postcard_de_flavors::Flavor;
 use postcard_wire::Result;
 use std::alloc::Global;
+use std::collections::VecDeque;
 
 impl<'de> Deserialize<'de> for &'de [u8] {
     fn deserialize<F: Flavor>(_alloc: Global, d: &mut Deserializer<'de, F>) -> Result<Self>
@@ -41,5 +42,22 @@ impl<T: DeserializeOwned> DeserializeOwned for Vec<T> {
         d: &mut Deserializer<'de, F>,
     ) -> Result<Self> {
         d.list::<T, ByDeserializeOwned>(alloc)
+    }
+}
+
+impl<'de, T: Deserialize<'de>> Deserialize<'de> for VecDeque<T> {
+    fn deserialize<F: Flavor>(alloc: Global, d: &mut Deserializer<'de, F>) -> Result<Self> {
+        let items = <Vec<T>>::deserialize(alloc, d)?;
+        Ok(VecDeque::from_vec(items))
+    }
+}
+
+impl<T: DeserializeOwned> DeserializeOwned for VecDeque<T> {
+    fn deserialize_owned<'de, F: Flavor>(
+        alloc: Global,
+        d: &mut Deserializer<'de, F>,
+    ) -> Result<Self> {
+        let items = <Vec<T>>::deserialize_owned(alloc, d)?;
+        Ok(VecDeque::from_vec(items))
     }
 }

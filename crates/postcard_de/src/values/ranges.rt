@@ -1,8 +1,9 @@
-//! Ranges: read as the tuple of their ends.
+//! Ranges, read as the tuple of their ends, and one end of a range.
 
 use crate::repr::FromRepr;
 use postcard_shape::Shaped;
-use std::ops::{Range, RangeFrom, RangeInclusive, RangeTo};
+use postcard_shape::cases::Case;
+use std::ops::{Bound, Range, RangeFrom, RangeInclusive, RangeTo};
 
 impl<T: Shaped + Drop> FromRepr for Range<T> {
     fn from_repr((start, end): Self::As) -> Self {
@@ -27,5 +28,16 @@ impl<T: Shaped + Drop> FromRepr for RangeFrom<T> {
 impl<T: Shaped + Drop> FromRepr for RangeTo<T> {
     fn from_repr((end,): Self::As) -> Self {
         RangeTo { end }
+    }
+}
+
+impl<T: Shaped + Drop> FromRepr for Bound<T> {
+    fn from_repr(repr: Self::As) -> Self {
+        match repr {
+            Case::This(()) => Bound::Unbounded,
+            Case::Next(Case::This(value)) => Bound::Included(value),
+            Case::Next(Case::Next(Case::This(value))) => Bound::Excluded(value),
+            Case::Next(Case::Next(Case::Next(never))) => match never {},
+        }
     }
 }

@@ -8,8 +8,10 @@ use postcard_de_flavors::Flavor;
 use postcard_shape::Shaped;
 use postcard_wire::{Error, Result};
 use std::alloc::Global;
-use std::num::Wrapping;
+use std::cmp::Reverse;
+use std::num::{Saturating, Wrapping};
 use std::rc::Rc;
+use std::sync::Arc;
 
 /// Reads the value. Fails as that does, and with `OutOfMemory` if the allocation fails.
 impl<'de, T: Deserialize<'de>> Deserialize<'de> for Box<T> {
@@ -62,5 +64,41 @@ impl<T: DeserializeOwned> DeserializeOwned for Rc<T> {
 impl<T: Shaped + Drop> FromRepr for Wrapping<T> {
     fn from_repr(value: Self::As) -> Self {
         Wrapping(value)
+    }
+}
+
+impl<T: Shaped + Drop> FromRepr for Reverse<T> {
+    fn from_repr(value: Self::As) -> Self {
+        Reverse(value)
+    }
+}
+
+impl<T: Shaped + Drop> FromRepr for Saturating<T> {
+    fn from_repr(value: Self::As) -> Self {
+        Saturating(value)
+    }
+}
+
+/// Reads the value. Fails as that does, and with `OutOfMemory` if the allocation fails.
+impl<'de, T: Deserialize<'de>> Deserialize<'de> for Arc<T> {
+    fn deserialize<F: Flavor>(alloc: Global, d: &mut Deserializer<'de, F>) -> Result<Self> {
+        let value = T::deserialize(alloc, d)?;
+        match Arc::new(alloc, value) {
+            Ok(shared) => Ok(shared),
+            Err(_) => Err(Error::OutOfMemory),
+        }
+    }
+}
+
+impl<T: DeserializeOwned> DeserializeOwned for Arc<T> {
+    fn deserialize_owned<'de, F: Flavor>(
+        alloc: Global,
+        d: &mut Deserializer<'de, F>,
+    ) -> Result<Self> {
+        let content = T::deserialize_owned(alloc, d)?;
+        match Arc::new(alloc, content) {
+            Ok(shared) => Ok(shared),
+            Err(_) => Err(Error::OutOfMemory),
+        }
     }
 }

@@ -1,7 +1,7 @@
-//! The greatest sizes of ranges: that of the tuple of their ends.
+//! The greatest sizes of ranges, that of the tuple of their ends, and of one end of a range.
 
 use crate::max_size::{MaxSize, MaxSizeRepr};
-use std::ops::{Range, RangeFrom, RangeInclusive, RangeTo};
+use std::ops::{Bound, Range, RangeFrom, RangeInclusive, RangeTo};
 
 /// The greatest size is twice that of an end.
 impl<T: MaxSize> MaxSizeRepr for Range<T> {
@@ -30,5 +30,16 @@ impl<T: MaxSize> MaxSizeRepr for RangeFrom<T> {
 impl<T: MaxSize> MaxSizeRepr for RangeTo<T> {
     fn in_forms_repr(&self) {
         self.end.in_forms();
+    }
+}
+
+/// The greatest size is 1 byte, the index, and that of the end.
+impl<T: MaxSize> MaxSizeRepr for Bound<T> {
+    fn in_forms_repr(&self) {
+        match self {
+            Bound::Unbounded => {}
+            Bound::Included(value) => value.in_forms(),
+            Bound::Excluded(value) => value.in_forms(),
+        }
     }
 }

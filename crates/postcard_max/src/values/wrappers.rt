@@ -3,8 +3,10 @@
 ghost use Rattle.postcard_max.specs.Limits.{via_lawful};
 
 use crate::max_size::{MaxSize, MaxSizeRepr};
-use std::num::Wrapping;
+use std::cmp::Reverse;
+use std::num::{Saturating, Wrapping};
 use std::rc::Rc;
+use std::sync::Arc;
 
 /// The greatest size is that of the value pointed to.
 impl<T: MaxSize> MaxSizeRepr for &T {
@@ -56,4 +58,36 @@ impl<T: MaxSize> MaxSizeRepr for Wrapping<T> {
     fn in_forms_repr(&self) {
         self.0.in_forms();
     }
+}
+
+/// The greatest size is that of the value.
+impl<T: MaxSize> MaxSizeRepr for Reverse<T> {
+    fn in_forms_repr(&self) {
+        let Reverse(value) = self;
+        value.in_forms();
+    }
+}
+
+/// The greatest size is that of the value.
+impl<T: MaxSize> MaxSizeRepr for Saturating<T> {
+    fn in_forms_repr(&self) {
+        let Saturating(number) = self;
+        number.in_forms();
+    }
+}
+
+/// The greatest size is that of the value in the `Arc`.
+impl<T: MaxSize> MaxSize for Arc<T> {
+    ghost limit = { T.limit };
+
+    fn postcard_max_size() -> Option<usize> {
+        <T>::postcard_max_size()
+    }
+
+    fn in_forms(&self) {
+        let held: &T = self;
+        held.in_forms();
+    }
+
+    ghost lawful = { via_lawful (λ v. v.value) T.lawful };
 }

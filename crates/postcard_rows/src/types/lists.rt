@@ -1,11 +1,11 @@
-//! Lists, arrays and maps.
+//! Lists, arrays, maps and sets.
 
 use super::pointers;
 use crate::checks::{Outcome, owned, sized};
 use crate::row::Row;
 use arrayvec::ArrayVec;
 use std::alloc::Global;
-use std::collections::BTreeMap;
+use std::collections::{BTreeMap, BTreeSet, VecDeque};
 
 /// Checks a row of a type of this group or of those after it.
 pub fn check<'a>(alloc: Global, row: &'a Row<'_>, scratch: &'a mut [u8]) -> Outcome {
@@ -40,6 +40,10 @@ fn maps<'a>(alloc: Global, row: &'a Row<'_>, scratch: &'a mut [u8]) -> Outcome {
     match row.name {
         "BTreeMap<u8, u8>" => owned::<BTreeMap<u8, u8>>(alloc, row, &mut []),
         "BTreeMap<u8, u64>" => owned::<BTreeMap<u8, u64>>(alloc, row, &mut []),
+        "BTreeSet<u8>" => owned::<BTreeSet<u8>>(alloc, row, &mut []),
+        "BTreeSet<String>" => owned::<BTreeSet<String>>(alloc, row, scratch),
+        "VecDeque<u8>" => owned::<VecDeque<u8>>(alloc, row, scratch),
+        "VecDeque<u16>" => owned::<VecDeque<u16>>(alloc, row, &mut []),
         _ => pointers::check(alloc, row, scratch),
     }
 }

@@ -1,11 +1,11 @@
 //! Tuples and ranges.
 
-use super::users;
+use super::floats;
 use crate::checks::{Outcome, borrowed, owned, sized};
 use crate::row::Row;
 use postcard::Error;
 use std::alloc::Global;
-use std::ops::{Range, RangeFrom, RangeInclusive, RangeTo};
+use std::ops::{Bound, Range, RangeFrom, RangeInclusive, RangeTo};
 
 /// Checks a row of a type of this group or of those after it.
 pub fn check<'a>(alloc: Global, row: &'a Row<'_>, scratch: &'a mut [u8]) -> Outcome {
@@ -32,11 +32,12 @@ fn longer<'a>(alloc: Global, row: &'a Row<'_>, scratch: &'a mut [u8]) -> Outcome
 
 fn ranges<'a>(alloc: Global, row: &'a Row<'_>, scratch: &'a mut [u8]) -> Outcome {
     match row.name {
+        "Bound<u16>" => sized::<Bound<u16>>(alloc, row, &mut []),
         "Range<i16>" => sized::<Range<i16>>(alloc, row, &mut []),
         "RangeFrom<u16>" => sized::<RangeFrom<u16>>(alloc, row, &mut []),
         "RangeInclusive<i8>" => sized::<RangeInclusive<i8>>(alloc, row, &mut []),
         "RangeInclusive<u16>" => sized::<RangeInclusive<u16>>(alloc, row, &mut []),
         "RangeTo<u16>" => sized::<RangeTo<u16>>(alloc, row, &mut []),
-        _ => users::check(alloc, row, scratch),
+        _ => floats::check(alloc, row, scratch),
     }
 }

@@ -10,6 +10,7 @@ use crate::serialize::Serialize;
 use crate::serializer::Serializer;
 use postcard_ser_flavors::Flavor;
 use postcard_wire::Result;
+use std::collections::VecDeque;
 
 /// Writes the elements in order, with no count before them: in one piece if `slice_bytes` returns
 /// it.
@@ -58,5 +59,16 @@ impl<T: Serialize> Serialize for &[T] {
 impl<T: Serialize> Serialize for Vec<T> {
     fn serialize<F: Flavor>(&self, serializer: &mut Serializer<F>) -> Result<()> {
         self.as_slice().serialize(serializer)
+    }
+}
+
+/// Written as the number of elements, a varint, and then the elements. The list refuses itself if
+/// an element does.
+impl<T: Serialize> Serialize for VecDeque<T> {
+    fn serialize<F: Flavor>(&self, serializer: &mut Serializer<F>) -> Result<()> {
+        let (front, back) = self.as_slices();
+        serializer.serialize_seq(Some(self.len()))?;
+        serialize_all(front, serializer)?;
+        serialize_all(back, serializer)
     }
 }

@@ -5,8 +5,10 @@ use crate::serialize::Serialize;
 use crate::serializer::Serializer;
 use postcard_ser_flavors::Flavor;
 use postcard_wire::Result;
-use std::num::Wrapping;
+use std::cmp::Reverse;
+use std::num::{Saturating, Wrapping};
 use std::rc::Rc;
+use std::sync::Arc;
 
 /// Written as the value pointed to.
 impl<T: Serialize> SerializeRepr for &T {
@@ -41,5 +43,29 @@ impl<T: Serialize> Serialize for Rc<T> {
 impl<T: Serialize> SerializeRepr for Wrapping<T> {
     fn serialize_repr<F: Flavor>(&self, serializer: &mut Serializer<F>) -> Result<()> {
         self.0.serialize(serializer)
+    }
+}
+
+/// Written as the value.
+impl<T: Serialize> SerializeRepr for Reverse<T> {
+    fn serialize_repr<F: Flavor>(&self, serializer: &mut Serializer<F>) -> Result<()> {
+        let Reverse(value) = self;
+        value.serialize(serializer)
+    }
+}
+
+/// Written as the value.
+impl<T: Serialize> SerializeRepr for Saturating<T> {
+    fn serialize_repr<F: Flavor>(&self, serializer: &mut Serializer<F>) -> Result<()> {
+        let number = &self.0;
+        number.serialize(serializer)
+    }
+}
+
+/// Written as the value in the `Arc`. A shared value is written each time.
+impl<T: Serialize> Serialize for Arc<T> {
+    fn serialize<F: Flavor>(&self, serializer: &mut Serializer<F>) -> Result<()> {
+        let held: &T = self;
+        held.serialize(serializer)
     }
 }

@@ -67,6 +67,7 @@ impl<B: Storage + Drop> Cobs<B> {
         ensures has_room { ⟦<Cobs<B> as Flavor>⟧.room self.old run.now → IsOk result }
         ensures leaves { ⟦<Cobs<B> as Flavor>⟧.reaches self.old self.new }
         ensures stays_refused { IsTrue self.old.failed → IsErrOf result Error.SerializeBufferFull }
+        ensures storage_kept { IsTrue self.old.failed → self.new.storage ≡ self.old.storage }
         ensures remembers_refusal { OnErr result (IsTrue self.new.failed) }
         ensures refuses_by_buffer_full { IfErr result (λ e. e ≡ Error.SerializeBufferFull) }
     {
@@ -94,6 +95,7 @@ impl<B: Storage + Drop> Cobs<B> {
         ensures has_room { ⟦<Cobs<B> as Flavor>⟧.room self.old piece.now → IsOk result }
         ensures leaves { ⟦<Cobs<B> as Flavor>⟧.reaches self.old self.new }
         ensures stays_refused { IsTrue self.old.failed → IsErrOf result Error.SerializeBufferFull }
+        ensures storage_kept { IsTrue self.old.failed → self.new.storage ≡ self.old.storage }
         ensures remembers_refusal { OnErr result (IsTrue self.new.failed) }
         ensures refuses_by_buffer_full { IfErr result (λ e. e ≡ Error.SerializeBufferFull) }
     {
@@ -121,6 +123,7 @@ impl<B: Storage + Drop> Cobs<B> {
             → IsOk result }
         ensures leaves { ⟦<Cobs<B> as Flavor>⟧.reaches self.old self.new }
         ensures stays_refused { IsTrue self.old.failed → IsErrOf result Error.SerializeBufferFull }
+        ensures storage_kept { IsTrue self.old.failed → self.new.storage ≡ self.old.storage }
         ensures remembers_refusal { OnErr result (IsTrue self.new.failed) }
         ensures refuses_by_buffer_full { IfErr result (λ e. e ≡ Error.SerializeBufferFull) }
     {

@@ -4,11 +4,16 @@ ghost use Rattle.postcard_shape.specs.Shape.{via, growing};
 ghost use Rattle.postcard_shape.specs.Lists.{seq};
 
 use crate::shape::Shaped;
+use std::collections::VecDeque;
 
 impl<T: Shaped> Shaped for &[T] {
     ghost shape = { via (λ v. v.now) (seq T.shape) };
 }
 
 impl<T: Shaped> Shaped for Vec<T> {
+    ghost shape = { via (λ v. v.items) (growing (seq T.shape)) };
+}
+
+impl<T: Shaped> Shaped for VecDeque<T> {
     ghost shape = { via (λ v. v.items) (growing (seq T.shape)) };
 }

@@ -1,9 +1,12 @@
-//! The shapes of ranges: that of the tuple of their ends.
+//! The shapes of ranges, that of the tuple of their ends, and of one end.
 
 ghost use Rattle.std.specs.Range.{range_inclusive_start, range_inclusive_end};
+ghost use Rattle.std.specs.declared.ops.Bound.TheVariants as End;
+ghost use Rattle.postcard_shape.specs.declared.cases.Case.TheVariants.{This, Next};
 
+use crate::cases::{Case, NoCase};
 use crate::shape::{Repr, Shaped};
-use std::ops::{Range, RangeFrom, RangeInclusive, RangeTo};
+use std::ops::{Bound, Range, RangeFrom, RangeInclusive, RangeTo};
 
 impl<T: Shaped> Repr for Range<T> {
     type As = (T, T);
@@ -28,4 +31,15 @@ impl<T: Shaped> Repr for RangeTo<T> {
     type As = (T,);
 
     ghost repr = { λ v. record { 0 = v.end } };
+}
+
+/// The variants are in the order of serde: `Unbounded` at index 0, `Included` at 1 and `Excluded` at 2.
+impl<T: Shaped> Repr for Bound<T> {
+    type As = Case<(), Case<T, Case<T, NoCase>>>;
+
+    ghost repr = { elim [
+      | End.Unbounded ↦ This tt
+      | End.Included v ↦ Next (This v)
+      | End.Excluded v ↦ Next (Next (This v))
+    ] };
 }

@@ -3,8 +3,10 @@
 ghost use Rattle.postcard_shape.specs.Shape.{via, growing};
 
 use crate::shape::{Repr, Shaped};
-use std::num::Wrapping;
+use std::cmp::Reverse;
+use std::num::{Saturating, Wrapping};
 use std::rc::Rc;
+use std::sync::Arc;
 
 impl<T: Shaped> Repr for &T {
     type As = T;
@@ -30,4 +32,20 @@ impl<T: Shaped> Repr for Wrapping<T> {
     type As = T;
 
     ghost repr = { λ v. v.0 };
+}
+
+impl<T: Shaped> Repr for Reverse<T> {
+    type As = T;
+
+    ghost repr = { λ v. v.0 };
+}
+
+impl<T: Shaped> Repr for Saturating<T> {
+    type As = T;
+
+    ghost repr = { λ v. v.0 };
+}
+
+impl<T: Shaped> Shaped for Arc<T> {
+    ghost shape = { via (λ v. v.value) (growing T.shape) };
 }

@@ -1,5 +1,5 @@
 -- The encoding of an array of bytes is those bytes.
-use Rattle.postcard_fixint.specs.Base256.{little, big}
+use Rattle.postcard_shape.specs.Base256.{little, big}
 use Rattle.postcard_fixint.proofs.Spelled.{bytes_of_bytes, encoded_length}
 use Rattle.postcard_fixint.proofs.laws.encoded.Goals as goal
 

@@ -3,7 +3,7 @@ use Rattle.std.proofs.Math.ListN.{length-set}
 use Rattle.std.proofs.Math.Seq.{take-suc-set}
 use Rattle.std.proofs.lemmas.List.{take_all, length-replicate}
 use Rattle.postcard_de_nodes.specs.ReadLemmas.{is_refusal}
-use Rattle.postcard_de.proofs.Entries.{array_read, array_refused}
+use Rattle.postcard_de_nodes.specs.ArrayLemmas.{array_read, array_refused}
 use Rattle.postcard_de.proofs.Lists.{going, goes_on, going_stops, going_done}
 use Rattle.postcard_de.proofs.deserializer.Deserializer.array.Goals as goal
 
@@ -22,7 +22,7 @@ returns-in_err-items g c =
     let i = c.loop-i.i in
     let more : n - i ≡ suc (n - (i + 1)) = omega arith in
     rw (is_refusal c.from_residual.result c.in_err-items.field-0.0 c.from_residual.ensures.1)
-    (array_refused laws
+    (array_refused
     (going_stops laws (λ h. h) (rw more at c.loop-i.invariant.going) c.in_err-items.ensures))
 
 pub loop-i-preserved : goal.loop-i-preserved
@@ -46,4 +46,4 @@ returns g c =
     let i = c.loop-i.i in
     let none : g.row.N - i ≡ 0 = omega arith in
     let all : take i c.loop-i.items ≡ c.loop-i.items = take_all i c.loop-i.items (omega arith) in
-    array_read laws (going_done laws (rw (none, all) at c.loop-i.invariant.going))
+    array_read (going_done laws (rw (none, all) at c.loop-i.invariant.going))

@@ -1,6 +1,6 @@
 use Rattle.std.proofs.Common.{◌∙◌, ap}
 use Rattle.std.specs.Prelude.{reverse}
-use Rattle.postcard_fixint.proofs.Bytes.{little_bytes}
+use Rattle.postcard_shape.proofs.Sums.{little_bytes}
 use Rattle.postcard_fixint.proofs.number.U128FixInt.encode_be.Goals as goal
 
 pub returns-clause-bytes : goal.returns-clause-bytes

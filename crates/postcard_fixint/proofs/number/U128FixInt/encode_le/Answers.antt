@@ -1,5 +1,5 @@
 use Rattle.std.proofs.Common.{◌∙◌}
-use Rattle.postcard_fixint.proofs.Bytes.{little_bytes}
+use Rattle.postcard_shape.proofs.Sums.{little_bytes}
 use Rattle.postcard_fixint.proofs.number.U128FixInt.encode_le.Goals as goal
 
 pub returns-clause-bytes : goal.returns-clause-bytes

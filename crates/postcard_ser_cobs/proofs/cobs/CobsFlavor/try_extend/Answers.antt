@@ -9,6 +9,7 @@ use Rattle.postcard_ser_cobs.proofs.cobs.CobsFlavor.try_extend.Goals as goal
 pub loop-place-preserved : goal.loop-place-preserved
 loop-place-preserved g c = let so = c.loop-place.invariant in record {
   stuck = λ failed. let no = c.in_ok-place.ensures.stays_refused (so.left.stays_failed failed) in absurd (cc);
+  kept = λ failed. let no = c.in_ok-place.ensures.stays_refused (so.left.stays_failed failed) in absurd (cc);
   within = c.in_ok-place.ensures.advances.1;
   done = λ before d h. holds_further before d c.args.bytes.now _ _ c.in_ok-place.ensures.advances.0 (c.in_ok-place.ensures.appends before _ (so.done before d h));
   left = leaves_join g.B.Flavor.lawful.reaches_join so.left c.in_ok-place.ensures.leaves;

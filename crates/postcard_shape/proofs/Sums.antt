@@ -1,11 +1,30 @@
--- The value of bytes as std defines it, a sum over the places, is that in base 256, at every width.
-use Rattle.std.proofs.Common.{◌≡◌, ℕ, zero, suc, ◌+◌, ◌-◌, ◌*◌, ◌^◌, List, [], ◌∷◌, ◌++◌, length}
+-- The bytes of a number as std defines them are those of base 256, and so is their value, which std
+-- defines as a sum over the places; at every width.
+use Rattle.std.proofs.Common.{◌≡◌, ℕ, zero, suc, ◌+◌, ◌-◌, ◌*◌, ◌/◌, ◌%◌, ◌^◌, List, [], ◌∷◌, ◌++◌, length}
 use Rattle.std.proofs.Common.{refl, sym, ap, ap₂, ◌∙◌, arith}
 use Rattle.std.specs.Prelude.{reverse, slice_index}
-use Rattle.std.specs.Int.{byte_worth, sum_through}
-use Rattle.std.proofs.Math.Nat.{pow-suc, mul_assoc, mul_comm}
+use Rattle.std.specs.Int.{byte_at, bytes_low_first, byte_worth, sum_through}
+use Rattle.std.proofs.Math.Nat.{pow-suc, mul_assoc, mul_comm, div-div-eq-div-mul}
 use Rattle.std.proofs.lemmas.List.{reverse-append, length-reverse}
-use Rattle.postcard_fixint.specs.Base256.{low_value}
+use Rattle.postcard_shape.specs.Base256.{low_first, low_value}
+
+-- The byte at place i is the digit of 256 ^ i.
+place : (i n : ℕ) → byte_at i n ≡ n / 256 ^ i % 256
+place zero n = omega arith
+place (suc i) n = refl
+
+-- The bytes from place i on are those of the number divided by 256 ^ i.
+places : (i k n : ℕ) → bytes_low_first i k n ≡ low_first k (n / 256 ^ i)
+places i zero n = refl
+places i (suc k) n =
+    let power = ap (λ m. n / m) (pow-suc 256 i) in
+    let next : n / 256 ^ suc i ≡ n / 256 ^ i / 256 =
+    power ∙ sym (div-div-eq-div-mul n (256 ^ i) 256) in
+    ap₂ (λ b bs. b ∷ bs) (place i n) (places (suc i) k n ∙ ap (low_first k) next)
+
+-- std's lowest k bytes of a number are its k bytes in base 256.
+pub little_bytes : (k n : ℕ) → bytes_low_first 0 k n ≡ low_first k n
+little_bytes k n = places 0 k n ∙ ap (low_first k) (omega arith)
 
 -- A sum is its first term plus the sum of the others.
 first_term : (f : ℕ → ℕ) (k : ℕ) → sum_through f (suc k) ≡ f 0 + sum_through (λ i. f (suc i)) k

@@ -1,0 +1,27 @@
+//! Sets: `BTreeSet<K>`, read as a list of its keys.
+
+use crate::deserialize::Deserialize;
+use crate::deserializer::Deserializer;
+use crate::element::{ByDeserialize, ByDeserializeOwned};
+use crate::owned::DeserializeOwned;
+use postcard_de_flavors::Flavor;
+use postcard_wire::Result;
+use std::alloc::Global;
+use std::collections::BTreeSet;
+
+/// Reads the keys in any order; of equal keys the first is kept. Fails with `OutOfMemory` if an
+/// allocation fails.
+impl<'de, K: Deserialize<'de> + Ord> Deserialize<'de> for BTreeSet<K> {
+    fn deserialize<F: Flavor>(alloc: Global, d: &mut Deserializer<'de, F>) -> Result<Self> {
+        d.set::<K, ByDeserialize>(alloc)
+    }
+}
+
+impl<K: DeserializeOwned + Ord> DeserializeOwned for BTreeSet<K> {
+    fn deserialize_owned<'de, F: Flavor>(
+        alloc: Global,
+        d: &mut Deserializer<'de, F>,
+    ) -> Result<Self> {
+        d.set::<K, ByDeserializeOwned>(alloc)
+    }
+}

@@ -1,0 +1,21 @@
+//! Floating-point numbers, alone and in other values.
+
+use super::net;
+use crate::checks::{Outcome, owned, sized};
+use crate::row::Row;
+use std::alloc::Global;
+use std::collections::BTreeMap;
+
+/// Checks a row of a type of this group or of those after it.
+pub fn check<'a>(alloc: Global, row: &'a Row<'_>, scratch: &'a mut [u8]) -> Outcome {
+    match row.name {
+        "f32" => sized::<f32>(alloc, row, scratch),
+        "f64" => sized::<f64>(alloc, row, scratch),
+        "Option<f32>" => sized::<Option<f32>>(alloc, row, scratch),
+        "[f32; 3]" => sized::<[f32; 3]>(alloc, row, scratch),
+        "(u8, f64, f32)" => sized::<(u8, f64, f32)>(alloc, row, scratch),
+        "Vec<f32>" => owned::<Vec<f32>>(alloc, row, scratch),
+        "BTreeMap<u8, f64>" => owned::<BTreeMap<u8, f64>>(alloc, row, scratch),
+        _ => net::check(alloc, row, scratch),
+    }
+}

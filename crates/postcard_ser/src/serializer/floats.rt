@@ -1,0 +1,36 @@
+//! The calls for floating-point numbers: the bytes of their bits, the lowest first.
+
+ghost use Rattle.std.specs.Float.{binary32, binary64};
+ghost use Rattle.postcard_wire.specs.Spelling.{canonical};
+ghost use Rattle.postcard_shape.specs.Floats.{float_tree};
+ghost use Rattle.postcard_ser.specs.Writing.{Wrote};
+
+use crate::serializer::Serializer;
+use postcard_ser_flavors::Flavor;
+use postcard_wire::Result;
+use std::num::{f32_to_bits_with_nan, f64_to_bits_with_nan};
+
+impl<F: Flavor> Serializer<F> {
+    /// Writes an `f32` as the 4 bytes of its bits, the lowest first. Every NaN is written as the
+    /// same bytes, `00 00 C0 7F`. Fails with `SerializeBufferFull` if the flavor refuses a piece.
+    #[tactic(auto, using(postcard_shape::proofs::Floats::f32_encoded))]
+    pub fn serialize_f32(&mut self, v: f32) -> Result<()>
+        ensures { Wrote F.Flavor self.old.output (canonical (float_tree binary32 v)) ⊥ ⊥ result
+            self.new.output }
+    {
+        let bytes = f32_to_bits_with_nan(v).to_le_bytes();
+        self.extend(&bytes)
+    }
+
+    /// Writes an `f64` as the 8 bytes of its bits, the lowest first. Every NaN is written as the
+    /// same bytes, `00 00 00 00 00 00 F8 7F`. Fails with `SerializeBufferFull` if the flavor refuses
+    /// a piece.
+    #[tactic(auto, using(postcard_shape::proofs::Floats::f64_encoded))]
+    pub fn serialize_f64(&mut self, v: f64) -> Result<()>
+        ensures { Wrote F.Flavor self.old.output (canonical (float_tree binary64 v)) ⊥ ⊥ result
+            self.new.output }
+    {
+        let bytes = f64_to_bits_with_nan(v).to_le_bytes();
+        self.extend(&bytes)
+    }
+}

@@ -1,0 +1,21 @@
+//! Floating-point numbers.
+
+use crate::serialize::Serialize;
+use crate::serializer::Serializer;
+use postcard_ser_flavors::Flavor;
+use postcard_shape::formats::{known_f32, known_f64};
+use postcard_wire::Result;
+
+/// Written as the 4 bytes of its bits, the lowest first. Every NaN is written as the same bytes.
+impl Serialize for f32 {
+    fn serialize<F: Flavor>(&self, serializer: &mut Serializer<F>) -> Result<()> {
+        serializer.serialize_f32(known_f32(*self))
+    }
+}
+
+/// Written as the 8 bytes of its bits, the lowest first. Every NaN is written as the same bytes.
+impl Serialize for f64 {
+    fn serialize<F: Flavor>(&self, serializer: &mut Serializer<F>) -> Result<()> {
+        serializer.serialize_f64(known_f64(*self))
+    }
+}

@@ -1,0 +1,61 @@
+//! Addresses of the Internet: the bytes of an address in network order, the highest first, and the
+//! port of a socket.
+
+use crate::cases::serialize_variant;
+use crate::repr::SerializeRepr;
+use crate::serialize::Serialize;
+use crate::serializer::Serializer;
+use postcard_ser_flavors::Flavor;
+use postcard_wire::Result;
+use std::net::{IpAddr, Ipv4Addr, Ipv6Addr, SocketAddr, SocketAddrV4, SocketAddrV6};
+
+/// Written as its 4 bytes, with no count before them.
+impl SerializeRepr for Ipv4Addr {
+    fn serialize_repr<F: Flavor>(&self, serializer: &mut Serializer<F>) -> Result<()> {
+        self.octets().serialize(serializer)
+    }
+}
+
+/// Written as its 16 bytes, with no count before them.
+impl SerializeRepr for Ipv6Addr {
+    fn serialize_repr<F: Flavor>(&self, serializer: &mut Serializer<F>) -> Result<()> {
+        let octets: [u8; 16] = self.octets();
+        octets.serialize(serializer)
+    }
+}
+
+/// Written as an enum: `V4` at index 0, `V6` at index 1.
+impl SerializeRepr for IpAddr {
+    fn serialize_repr<F: Flavor>(&self, serializer: &mut Serializer<F>) -> Result<()> {
+        match self {
+            IpAddr::V4(address) => serialize_variant(0, address, serializer),
+            IpAddr::V6(address) => serialize_variant(1, address, serializer),
+        }
+    }
+}
+
+/// Written as the address, and then the port, a number of 16 bits.
+impl SerializeRepr for SocketAddrV4 {
+    fn serialize_repr<F: Flavor>(&self, serializer: &mut Serializer<F>) -> Result<()> {
+        (self.ip(), self.port()).serialize(serializer)
+    }
+}
+
+/// Written as the address, and then the port, a number of 16 bits. The flow information and the
+/// scope aren't written.
+impl SerializeRepr for SocketAddrV6 {
+    fn serialize_repr<F: Flavor>(&self, serializer: &mut Serializer<F>) -> Result<()> {
+        let parts = (self.ip(), self.port());
+        parts.serialize(serializer)
+    }
+}
+
+/// Written as an enum: `V4` at index 0, `V6` at index 1.
+impl SerializeRepr for SocketAddr {
+    fn serialize_repr<F: Flavor>(&self, serializer: &mut Serializer<F>) -> Result<()> {
+        match self {
+            SocketAddr::V4(address) => serialize_variant(0, address, serializer),
+            SocketAddr::V6(address) => serialize_variant(1, address, serializer),
+        }
+    }
+}

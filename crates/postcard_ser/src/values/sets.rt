@@ -1,0 +1,37 @@
+//! Sets: the number of the keys, and then the keys in their order.
+
+ghost use Rattle.std.specs.Prelude.{Any, map, OnOk};
+ghost use Rattle.postcard_wire.specs.Spelling.{canonical_all};
+ghost use Rattle.postcard_wire.specs.Tree.{trees};
+ghost use Rattle.postcard_shape.specs.Lists.{AllFit};
+ghost use Rattle.postcard_ser.specs.Writing.{Wrote};
+
+use crate::serialize::Serialize;
+use crate::serializer::Serializer;
+use postcard_ser_flavors::Flavor;
+use postcard_wire::Result;
+use std::collections::BTreeSet;
+
+/// Writes the keys in order, with no count before them.
+fn serialize_keys<K: Serialize + Ord, F: Flavor>(
+    keys: &BTreeSet<K>,
+    serializer: &mut Serializer<F>,
+) -> Result<()>
+    ensures wrote { Wrote F.Flavor serializer.old.output
+        (canonical_all (trees (map K.shape.tree keys.now.keys)))
+        (Any K.shape.refuses keys.now.keys) K.shape.text result serializer.new.output }
+    ensures fits { OnOk result (AllFit K.shape.fits keys.now.keys) }
+{
+    for key in keys {
+        key.serialize(serializer)?;
+    }
+    Ok(())
+}
+
+/// Written as the number of keys, a varint, and then each key. The set refuses itself if a key does.
+impl<K: Serialize + Ord> Serialize for BTreeSet<K> {
+    fn serialize<F: Flavor>(&self, serializer: &mut Serializer<F>) -> Result<()> {
+        serializer.serialize_seq(Some(self.len()))?;
+        serialize_keys(self, serializer)
+    }
+}

@@ -1,0 +1,11 @@
+//! The shapes of sets.
+
+ghost use Rattle.postcard_shape.specs.Shape.{via};
+ghost use Rattle.postcard_shape.specs.Sets.{keys};
+
+use crate::shape::Shaped;
+use std::collections::BTreeSet;
+
+impl<K: Shaped + Ord> Shaped for BTreeSet<K> {
+    ghost shape = { via (λ s. s.keys) (keys K.cmp K.shape) };
+}
