@@ -1,10 +1,12 @@
 -- What a decoding call returns for the frame at the front of its buffer.
-use Rattle.std.specs.Prelude.{◌≡◌, ◌⊎◌, ℕ, List, ◌++◌, Result, MatchResult}
+use Rattle.std.specs.Prelude.{◌≡◌, ◌⊎◌, ℕ, List, ◌++◌, Result, Err, MatchResult, IfOk, IfErr, IsErrOf}
 use Rattle.postcard_cobs.specs.Groups.{Groups, before_zero, made}
 use Rattle.postcard_wire.specs.Tree.{Tree}
 use Rattle.postcard_wire.specs.Spelling.{Spells, canonical}
 use Rattle.postcard_wire.specs.declared.error.Error.{Error}
 use Rattle.postcard_wire.specs.declared.error.Error.TheVariants.{OutOfMemory}
+use Rattle.postcard_wire.specs.declared.error.Error.TheVariants.{DeserializeBadEncoding}
+use Rattle.postcard_de.specs.Reads.{IsReadError}
 use Rattle.postcard_shape.specs.Shape.{Shape}
 use Rattle.postcard_frame.specs.Front.{ReadsFront}
 
@@ -37,3 +39,13 @@ module _ {V R : Type 0} (shape : Shape V) (value : R → V) (frame : List ℕ)
   abbrev pub ReadsBackFrame : Type 0
   ReadsBackFrame = (x : V) → shape.fits x → frame ≡ before_zero (made (canonical (shape.tree x)))
       → SucceedsWith (λ v. shape.same v x)
+
+  -- All that is said of what a call returns for the frame.
+  pub record IsReadOf : Type 0 where
+    pub gives : IfOk r (λ read. ReadsFrame shape.reads shape.value frame (value read))
+    pub accepts : AcceptsFrame
+    pub reads_back : ReadsBackFrame
+    pub no_frame : HasNoData frame → IsErrOf r DeserializeBadEncoding
+    pub bad_only_if_no_data : r ≡ Err DeserializeBadEncoding → HasNoData frame
+    pub out_of_memory_only_if_grows : r ≡ Err OutOfMemory → shape.grows
+    pub named_error : IfErr r (λ e. (e ≡ DeserializeBadEncoding) ⊎ IsReadError shape.grows e)

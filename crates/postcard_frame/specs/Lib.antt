@@ -1,2 +1,4 @@
 pub mod Front
 pub mod Frame
+pub mod Buffer
+pub mod Parts

@@ -1,13 +1,20 @@
 //! Decoding a value from a COBS frame, in the buffer that holds it.
 
-ghost use Rattle.std.specs.Prelude.{◌≡◌, ◌+◌, ◌⊎◌, length, drop, Err, IfOk, IfErr, IsErrOf};
+ghost use Rattle.std.specs.Prelude.{◌≡◌, ◌+◌, ◌≤◌, ◌⊎◌, ⊤, List, ℕ, length, drop, Err};
+ghost use Rattle.std.specs.Prelude.{IfOk, IfErr, IsErrOf, OnOk, OnErr};
+ghost use Rattle.std.specs.Borrow.{sem, follows_if, follows_so, name_if_ok, Array, u8};
+ghost use mathlib.Core.Option.{none};
 ghost use Rattle.postcard_cobs.specs.Groups.{before_zero};
 ghost use Rattle.postcard_de.specs.Reads.{IsReadError};
 ghost use Rattle.postcard_frame.specs.Frame.{ReadsFrame, HasNoData, AcceptsFrame, ReadsBackFrame};
+ghost use Rattle.postcard_frame.specs.Frame.{IsReadOf};
+ghost use Rattle.postcard_frame.specs.Buffer.{KeepsFromZero, KeepsZero, HasDataOf};
+ghost use Rattle.postcard_frame.specs.Parts.{IsDecoded, IsBeside};
 
 use crate::bytes::from_bytes;
-use postcard_cobs::{decode_in_place, decode_in_place_report};
+use postcard_cobs::decode_in_place_report;
 use postcard_de::Deserialize;
+use postcard_memory::split_front;
 use postcard_wire::{Error, Result};
 use std::alloc::Global;
 
@@ -15,7 +22,8 @@ use std::alloc::Global;
 ///
 /// The frame is the bytes before the first zero, or all bytes if there is no zero. Its data is
 /// written over its front, and slices and texts in the value, as a `&str`, borrow from there. Bytes
-/// of the data after the value are ignored.
+/// of the data after the value are ignored. Each byte from the first zero on stays as it is,
+/// whatever the result: the clause `writes_back` says so of the buffer once the loan has ended.
 ///
 /// It succeeds if and only if the frame has data of which a front spells a tree that the type
 /// reads, and no allocation fails. So the made frame of a value that fits, with its sentinel or
@@ -24,9 +32,12 @@ use std::alloc::Global;
 /// # Errors
 ///
 /// Fails with `DeserializeBadEncoding` if and only if the frame has no data: it is empty, or a
-/// group runs past its end. Otherwise fails as [`from_bytes`] of the frame's data. The content of
-/// the buffer is unspecified then.
+/// group runs past its end. Otherwise fails as [`from_bytes`] of the frame's data. The bytes before
+/// the first zero are unspecified then.
 pub fn from_bytes_cobs<'a, T: Deserialize<'a>>(alloc: Global, s: &'a mut [u8]) -> Result<T>
+    // Once the loan has ended, each byte from the first zero on is as it was, also after a failure.
+    ensures* writes_back { sem 𝓛 (follows_so (Array u8 0) (Array u8 0) s.entry.ghost_name none
+        (λ _ _. ⊤) (KeepsFromZero s.old)) }
     ensures gives { IfOk result (ReadsFrame T.shape.reads T.shape.value (before_zero s.old)) }
     ensures accepts { AcceptsFrame T.shape (λ value. value) (before_zero s.old) result }
     ensures reads_back { ReadsBackFrame T.shape (λ value. value) (before_zero s.old) result }
@@ -38,8 +49,9 @@ pub fn from_bytes_cobs<'a, T: Deserialize<'a>>(alloc: Global, s: &'a mut [u8]) -
     ensures named_error { IfErr result
         (λ e. (e ≡ Error.DeserializeBadEncoding) ⊎ IsReadError T.shape.grows e) }
 {
-    let used = decode_in_place(s)?;
-    from_bytes(alloc, &s[..used])
+    let Decoded { all, end, len } = decode(s);
+    let (front, _) = split_front(all, end);
+    read_data(alloc, front, len)
 }
 
 /// Decodes a value from the frame at the front of the buffer `s`, in place, and returns it with the
@@ -47,15 +59,22 @@ pub fn from_bytes_cobs<'a, T: Deserialize<'a>>(alloc: Global, s: &'a mut [u8]) -
 /// if there is no zero.
 ///
 /// Otherwise it does the same as [`from_bytes_cobs`]. The value can be used beside the bytes
-/// returned, from which the next call can read the next frame.
+/// returned, from which the next call can read the next frame. Once the loan has ended, the buffer
+/// holds the zero as it was, and then what the caller made of the bytes returned (`writes_back`).
 ///
 /// # Errors
 ///
-/// Fails as [`from_bytes_cobs`].
+/// Fails as [`from_bytes_cobs`], and leaves the buffer as that does.
 pub fn take_from_bytes_cobs<'a, T: Deserialize<'a>>(
     alloc: Global,
     s: &'a mut [u8],
 ) -> Result<(T, &'a mut [u8])>
+    // Once the loan has ended, the zero is as it was, and what the caller made of the bytes
+    // returned follows; after a failure, each byte from the first zero on is as it was.
+    ensures* writes_back { sem 𝓛 (follows_so (Array u8 0) (Array u8 0) s.entry.ghost_name
+        (name_if_ok (λ read. read.1.ghost_name) result)
+        (λ rest all. OnOk result (KeepsZero s.old rest all))
+        (λ all. OnErr result (KeepsFromZero s.old all))) }
     ensures gives { IfOk result
         (λ read. ReadsFrame T.shape.reads T.shape.value (before_zero s.old) read.0) }
     ensures remaining_unchanged { IfOk result (λ read. read.1.now
@@ -70,11 +89,66 @@ pub fn take_from_bytes_cobs<'a, T: Deserialize<'a>>(
     ensures named_error { IfErr result
         (λ e. (e ≡ Error.DeserializeBadEncoding) ⊎ IsReadError T.shape.grows e) }
 {
-    let report = decode_in_place_report(s)?;
-    let (front, rest) = s.split_at_mut(report.src_used);
-    let front: &'a [u8] = front;
-    let value = from_bytes(alloc, &front[..report.dst_used])?;
-    let zero = if rest.is_empty() { 0 } else { 1 };
-    let (_, rest) = rest.split_at_mut(zero);
-    Ok((value, rest))
+    let Decoded { all, end, len } = decode(s);
+    let (front, rest) = split_front(all, end);
+    let value = read_data(alloc, front, len);
+    beside(value, rest)
+}
+
+/// What decoding in place leaves: the whole buffer, and where the parts of the frame end.
+struct Decoded<'a> {
+    /// The whole buffer, the same loan.
+    all: &'a mut [u8],
+    /// The length of the frame with the zero that ends it, if there is one; 0 if the frame has no
+    /// data.
+    end: usize,
+    /// The length of the data, which is at the front of the buffer.
+    len: usize,
+}
+
+/// Decodes the frame at the front of a buffer in place, and returns the whole buffer.
+fn decode<'a>(s: &'a mut [u8]) -> Decoded<'a>
+    ensures same_loan { result.all.ghost_name ≡ s.entry.ghost_name }
+    ensures decodes { IsDecoded s.old result }
+{
+    match decode_in_place_report(s) {
+        Ok(report) => {
+            let zero = if report.src_used < s.len() { 1 } else { 0 };
+            Decoded {
+                all: s,
+                end: report.src_used + zero,
+                len: report.dst_used,
+            }
+        }
+        Err(_) => Decoded {
+            all: s,
+            end: 0,
+            len: 0,
+        },
+    }
+}
+
+/// Reads a value from the first `len` bytes of `front`, the data of a frame; `front` is empty if
+/// the frame has no data.
+fn read_data<'a, T: Deserialize<'a>>(alloc: Global, front: &'a [u8], len: usize) -> Result<T>
+    requires { len ≤ length front.now }
+    ensures reads { (frame : List ℕ) → HasDataOf frame front.now len
+        → IsReadOf T.shape (λ value. value) frame result }
+{
+    if front.is_empty() {
+        return Err(Error::DeserializeBadEncoding);
+    }
+    from_bytes(alloc, &front[..len])
+}
+
+/// Returns the value with the bytes after its frame, or the error.
+fn beside<'a, T>(value: Result<T>, rest: &'a mut [u8]) -> Result<(T, &'a mut [u8])>
+    ensures* writes_back { sem 𝓛 (follows_if (Array u8 0) (Array u8 0) rest.entry.ghost_name
+        (name_if_ok (λ read. read.1.ghost_name) result) (λ w. w) rest.old) }
+    ensures same { IsBeside value rest.old result }
+{
+    match value {
+        Ok(value) => Ok((value, rest)),
+        Err(error) => Err(error),
+    }
 }

@@ -5,3 +5,4 @@ pub mod Lending
 pub mod Sharing
 pub mod Reading
 pub mod Prefix
+pub mod Suffix
