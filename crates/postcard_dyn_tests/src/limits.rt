@@ -47,7 +47,11 @@ const DIGITS: [(&str, usize); 10] = [
 fn check(rt: &(impl Abort + AllocGlobal), kind: &str, text: &str, printed: &str) {
     let schema = type_of(rt, kind);
     let value = value_of(rt, &schema, text);
-    assert_eq!(rt; text_of(rt, &schema, &value).as_str(), printed, "{kind}: {text}");
+    assert_eq!(rt;
+        text_of(rt, &schema, &value).as_str(),
+        printed,
+        "{kind}: {text}"
+    );
 }
 
 /// Returns `before`, `count` times `part`, and `after`.
@@ -83,7 +87,11 @@ fn check_digits(rt: &(impl Abort + AllocGlobal), kind: &str, count: usize, is_nu
 /// Asserts whether a count of `count` digits is that of an array.
 fn check_count(rt: &(impl Abort + AllocGlobal), count: usize, is_count: bool) {
     let text = text_with(rt, "[u8; ", "1", count, "]");
-    assert_eq!(rt; parse(rt.alloc(), text.as_str()).is_ok(), is_count, "{text}");
+    assert_eq!(rt;
+        parse(rt.alloc(), text.as_str()).is_ok(),
+        is_count,
+        "{text}"
+    );
 }
 
 #[test]
