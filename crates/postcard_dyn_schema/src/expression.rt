@@ -12,7 +12,8 @@
 //! ```
 //!
 //! An enum with a single variant needs the leading `|`. As in Rust, `(T)` is the type `T`, and
-//! `(T,)` is a tuple of one part.
+//! `(T,)` is a tuple of one part. The fields of a struct have different names, and so have the
+//! variants of an enum; a count is below 2^64.
 
 ghost use Rattle.std.specs.Prelude.{◌≡◌, ℕ, List, ◌+◌, ◌≤◌, ◌++◌, ◌⊎◌, [], ◌∷◌, length, Decides, IfOk, IfErr, OnOk};
 ghost use Rattle.postcard_dyn_schema.specs.Text.{characters, TakesPhrase, EndsWord, GoesOnBy};
@@ -41,6 +42,7 @@ const MAX_DEPTH: usize = 64;
 const MAX_OPTIONS: usize = 4;
 
 /// Reads a type expression, such as `{id: u16, label: str, samples: [i32]}`, and returns its type.
+/// Each text of the grammar of this module is accepted, within the limits below, if no allocation fails.
 ///
 /// # Errors
 ///
@@ -145,7 +147,7 @@ fn read_plain(alloc: Global, rest: &mut &[u8], depth: usize) -> Result<Schema, F
     if take(rest, b'{') {
         return read_braces(alloc, rest, depth);
     }
-    let start = *rest;
+    let start = rest.trim_ascii_start();
     let word = take_word(rest);
     if word.is_empty() {
         return Err(fault_at(Problem::TypeExpected, start));
@@ -308,7 +310,7 @@ fn read_enum(alloc: Global, rest: &mut &[u8], depth: usize) -> Result<Schema, Fa
     ensures refused { IfErr result (λ fault.
         IsRefusal fault.problem (HasFront (GoesOnBy follows_type) (IsEnumText (IsType depth)) rest.old.now)) }
 {
-    let start = *rest;
+    let start = rest.trim_ascii_start();
     let leads = take(rest, b'|');
     let mut variants = Vec::new(alloc);
     for _ in 0..rest.len() {

@@ -5,9 +5,10 @@ use Rattle.std.specs.Prelude.{slice_index}
 use Rattle.std.specs.Char.{is_ascii_digit, is_ascii_uppercase}
 use Rattle.postcard_dyn_schema.specs.declared.schema.Schema.{Schema}
 use Rattle.postcard_dyn_schema.specs.declared.schema.Schema.TheVariants.{Option, Group}
+use Rattle.postcard_dyn_schema.specs.declared.schema.Schema.TheVariants as schemas
 use Rattle.postcard_dyn_schema.specs.Meaning.{leaf, option, seq, array, group, choice, has_bytes, type_of, types_of}
 use Rattle.postcard_dyn_schema.specs.Names.{IsNewTo, HasNamesOf}
-use Rattle.postcard_dyn_schema.specs.Text.{Then, TakesPhrase, IsSign, IsMaybe, EndsWord, GoesOnBy}
+use Rattle.postcard_dyn_schema.specs.Text.{Then, TakesPhrase, IsSign, IsWord, IsMaybe, EndsWord, GoesOnBy}
 use Rattle.postcard_dyn_schema.specs.Grammar.{Separated, IsListRest, IsTupleRest, IsField, IsFieldsRest, IsMapRest, IsBracesRest, IsPlain, IsContent, IsVariantText, IsNewVariant, IsEnumText, IsType}
 use Rattle.postcard_dyn_schema.specs.Fronts.{follows_type, follows_variant, Anything, HasFront, IsOnlyFront, IsRefusal}
 use Rattle.postcard_dyn_schema.specs.Phrases.{takes_two, takes_as}
@@ -228,6 +229,15 @@ read_plain-returns-then-is_empty-clause-refused t c =
     (λ b sign. c.take-2.ensures.none c.if-take-2.false refl b (subst (λ z. TakesPhrase (IsSign 40) z b) (sym one) sign))
     (λ b sign. c.take-3.ensures.none c.if-take-3.false refl b (subst (λ z. TakesPhrase (IsSign 123) z b) (sym two) sign)) h in
     inr (λ (s, r, h, ends). let filled = (left s r h ends).filled in grind (arith, common_steps, filled))
+
+pub read_plain-returns-in-Some-clause-spelled : goal.read_plain-returns-in-Some-clause-spelled
+read_plain-returns-in-Some-clause-spelled t c =
+    let T = IsType c.args.depth in
+    let a = c.args.rest.now.now in
+    let same = c.take-3.ensures.left c.if-take-3.false ∙ (c.take-2.ensures.left c.if-take-2.false ∙ c.take.ensures.left c.if-take.false) in
+    let word = c.take_word-word in
+    takes_as (IsWord word.result.now) (IsPlain T (schemas.Leaf c.in-Some.leaf)) a word.new.rest.now (λ z h. inl (c.in-Some.leaf, word.result.now, refl, c.in-Some.ensures.found, h))
+    (subst (λ z. TakesPhrase (IsWord word.result.now) z word.new.rest.now) same word.ensures.taken)
 
 pub read_plain-returns-in-Some-clause-one : goal.read_plain-returns-in-Some-clause-one
 read_plain-returns-in-Some-clause-one t c s r h ends =
