@@ -1,12 +1,8 @@
 -- The bounds of `specs/Bounds.antt` hold of each type that a text of the grammar spells.
-use Rattle.std.proofs.Common.{◌≡◌, ℕ, zero, suc, ◌+◌, ◌*◌, ◌≤◌, true, List, [], ◌∷◌, Vec, Box, arith, rules, inl, inr}
-use Rattle.std.specs.declared.alloc.Global.{Global}
-use Rattle.std.specs.declared.string.String.{String}
-use Rattle.postcard_dyn_schema.specs.declared.schema.Schema.{Schema, the_lemmas}
-use Rattle.postcard_dyn_schema.specs.declared.schema.Schema.TheVariants.{Option, Seq, Map, Array, Group, Enum, Named}
-use Rattle.postcard_dyn_schema.specs.declared.schema.Schema.TheVariants as schemas
-use Rattle.postcard_dyn_schema.specs.declared.schema.Leaf.{Leaf}
-use Rattle.postcard_dyn_schema.specs.Meaning.{MessageType, MessageTypes, leaf, option, seq, array, group, choice, no_types, then_type, has_bytes, type_of, types_of}
+use Rattle.std.proofs.Common.{◌≡◌, ℕ, zero, suc, ◌+◌, ◌*◌, ◌≤◌, true, List, [], ◌∷◌, arith, inl, inr}
+use Rattle.postcard_dyn_schema.specs.declared.schema.Schema.{Schema}
+use Rattle.postcard_dyn_schema.specs.Meaning.{MessageType, MessageTypes, seq, array, group, choice, no_types, then_type, has_bytes, type_of, types_of}
+use Rattle.postcard_dyn_schema.proofs.TypeOf.{type_of_leaf, type_of_option, type_of_seq, type_of_map, type_of_array, type_of_group, type_of_enum, type_of_named}
 use Rattle.postcard_dyn_schema.specs.Bounds.{ElementsHaveBytes, AllElementsHaveBytes, depth, greatest_depth}
 use Rattle.postcard_dyn_schema.specs.Grammar.{Separated, IsLeaf, IsListRest, IsTupleRest, IsField, IsFieldsRest, IsMapRest, IsPlain, IsOptions, IsContent, IsVariantText, IsEnumText, IsType}
 
@@ -18,31 +14,6 @@ pub record Bounded (n : ℕ) (t : MessageType) : Type 0 where
 pub record AllBounded (n : ℕ) (ts : MessageTypes) : Type 0 where
   pub full : AllElementsHaveBytes ts
   pub low : greatest_depth ts ≤ n
-
--- The type of a schema, by its kind.
-type_of_leaf : (l : Leaf) → type_of (schemas.Leaf l) ≡ leaf l
-type_of_leaf l = search (rules, the_lemmas)
-
-type_of_option : (b : Box Schema Global) → type_of (Option b) ≡ option (type_of b.value)
-type_of_option b = search (rules, the_lemmas)
-
-type_of_seq : (b : Box Schema Global) → type_of (Seq b) ≡ seq (type_of b.value)
-type_of_seq b = search (rules, the_lemmas)
-
-type_of_map : (b : Box Schema Global) → type_of (Map b) ≡ seq (type_of b.value)
-type_of_map b = search (rules, the_lemmas)
-
-type_of_array : (b : Box Schema Global) (n : ℕ) → type_of (Array b n) ≡ array n (type_of b.value)
-type_of_array b n = search (rules, the_lemmas)
-
-type_of_group : (v : Vec Schema Global) → type_of (Group v) ≡ group (types_of v.items)
-type_of_group v = search (rules, the_lemmas)
-
-type_of_enum : (v : Vec Schema Global) → type_of (Enum v) ≡ choice (types_of v.items)
-type_of_enum v = search (rules, the_lemmas)
-
-type_of_named : (s : String Global) (b : Box Schema Global) → type_of (Named s b) ≡ type_of b.value
-type_of_named s b = search (rules, the_lemmas)
 
 -- A type that is bounded by n is bounded by each greater number.
 more : (n m : ℕ) (t : MessageType) → n ≤ m → Bounded n t → Bounded m t
@@ -89,7 +60,7 @@ of_field : (n : ℕ) (T : Schema → List ℕ → Type 0) → Bounds n T → Bou
 of_field n T each s t (name, b, is, filled, letter, (x, y, word, (u, v, colon, h, e), f)) = rw (is, type_of_named name b) (each b.value v h)
 
 of_fields : (n : ℕ) (T : Schema → List ℕ → Type 0) → Bounds n T → Bounds (n + 1) (IsFieldsRest T)
-of_fields n T each s t (v, is, (x, y, h, end, e)) = rw (is, type_of_group v) (bounded_group n (types_of v.items) (row n (IsField T) 44 v.items x (of_field n T each) h))
+of_fields n T each s t (v, is, differ, (x, y, h, end, e)) = rw (is, type_of_group v) (bounded_group n (types_of v.items) (row n (IsField T) 44 v.items x (of_field n T each) h))
 
 of_map : (n : ℕ) (T : Schema → List ℕ → Type 0) → Bounds n T → Bounds (n + 2) (IsMapRest T)
 of_map n T each s t (b, v, key, value, is, entry, items, full, (x, y, h, (x2, y2, equals, (x3, y3, greater, (x4, y4, g, close, e4), e3), e2), e)) =
@@ -122,13 +93,13 @@ of_variant : (n : ℕ) (T : Schema → List ℕ → Type 0) → Bounds n T → B
 of_variant n T each s t (name, b, is, filled, letter, (x, y, word, h, e)) = rw (is, type_of_named name b) (of_content n T each b.value y h)
 
 of_enum : (n : ℕ) (T : Schema → List ℕ → Type 0) → Bounds n T → Bounds (n + 2) (IsEnumText T)
-of_enum n T each s t (v, is, (x, y, lead, h, e)) = rw (is, type_of_enum v)
+of_enum n T each s t (v, is, differ, (x, y, lead, h, e)) = rw (is, type_of_enum v)
     (more (n + 1 + 1) (n + 2) (choice (types_of v.items)) (omega arith) (bounded_choice (n + 1) (types_of v.items) (row (n + 1) (IsVariantText T) 124 v.items y (of_variant n T each) h)))
 
 -- Each level of brackets adds at most six levels of types: four options, a map and its entries.
 pub type_bounded : (d : ℕ) (s : Schema) (t : List ℕ) → IsType d s t → Bounded (6 * d) (type_of s)
 unfolding IsType
 type_bounded zero s t h = absurd h
-type_bounded (suc d) s t (x, y, blank, inl h, e) = more (6 * d + 2) (6 * suc d) (type_of s) (omega arith) (of_enum (6 * d) (IsType d) (type_bounded d) s y h)
-type_bounded (suc d) s t (x, y, blank, inr (k, few, h), e) =
-    more (6 * d + 2 + k) (6 * suc d) (type_of s) (omega (arith, few)) (of_options (6 * d + 2) k (IsPlain (IsType d)) (of_plain (6 * d) (IsType d) (type_bounded d)) s y h)
+type_bounded (suc d) s t (inl h) = more (6 * d + 2) (6 * suc d) (type_of s) (omega arith) (of_enum (6 * d) (IsType d) (type_bounded d) s t h)
+type_bounded (suc d) s t (inr (k, few, h)) =
+    more (6 * d + 2 + k) (6 * suc d) (type_of s) (omega (arith, few)) (of_options (6 * d + 2) k (IsPlain (IsType d)) (of_plain (6 * d) (IsType d) (type_bounded d)) s t h)

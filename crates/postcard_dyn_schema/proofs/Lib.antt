@@ -1,3 +1,12 @@
 pub mod Rows
 pub mod Types
+pub mod TypeOf
 pub mod Bounded
+pub mod Heads
+pub mod Left
+pub mod LeftOfList
+pub mod LeftOfFields
+pub mod LeftOfTuple
+pub mod LeftOfEnum
+pub mod LeftOfType
+pub mod Refusals

@@ -1,44 +1,36 @@
 -- Each kind of type is taken by taking its phrases one after another.
-use Rattle.std.proofs.Common.{◌≡◌, ℕ, zero, suc, ◌<◌, ◌≤◌, Bool, true, false, List, [], ◌∷◌, ◌++◌, length, Vec, Box, string_bytes, refl, sym, ap, ◌∙◌, ◌⊎◌, inl, inr}
+use Rattle.std.proofs.Common.{◌≡◌, ℕ, suc, ◌<◌, ◌≤◌, Bool, true, false, List, [], ◌∷◌, length, Vec, Box, string_bytes, refl, sym, ◌⊎◌, inl, inr}
 use Rattle.std.specs.Prelude.{slice_index, Result, Ok, Err, IfOk}
 use Rattle.std.specs.declared.alloc.Global.{Global}
 use Rattle.std.specs.declared.string.String.{String}
-use Rattle.std.specs.Str.{IsTrimAsciiStart}
 use Rattle.std.specs.Char.{is_ascii_digit, is_ascii_uppercase}
-use Rattle.std.proofs.lemmas.List.{append_assoc}
 use Rattle.postcard_dyn_schema.specs.declared.schema.Schema.{Schema}
 use Rattle.postcard_dyn_schema.specs.declared.schema.Schema.TheVariants.{Option, Seq, Map, Array, Group, Enum, Named}
 use Rattle.postcard_dyn_schema.specs.Meaning.{has_bytes, type_of}
-use Rattle.postcard_dyn_schema.specs.Text.{Led, Then, TakesPhrase, IsSign, IsMaybe, IsWord, IsCount}
-use Rattle.postcard_dyn_schema.specs.Grammar.{Separated, IsListRest, IsTupleEnd, IsTupleRest, IsField, IsFieldsRest, IsMapRest, IsPlain, IsOptions, IsContent, IsVariantText, IsLead, IsEnumText, IsType}
-use Rattle.postcard_dyn_schema.specs.Phrases.{takes_two, takes_as, led, led_more, trim_takes, word_more}
+use Rattle.postcard_dyn_schema.specs.Text.{Then, TakesPhrase, IsSign, IsMaybe, IsWord, IsCount}
+use Rattle.postcard_dyn_schema.specs.Grammar.{Separated, IsListRest, IsTupleEnd, IsTupleRest, IsField, IsFieldsRest, IsMapRest, IsBracesRest, IsPlain, IsOptions, IsContent, IsVariantText, IsLead, IsEnumText, IsType}
+use Rattle.postcard_dyn_schema.specs.Phrases.{takes_two, takes_as}
+use Rattle.postcard_dyn_schema.specs.Names.{NamesDiffer}
 
 -- If P implies Q, a result that is an error or has P is an error or has Q.
 pub if_ok_as : {A F : Type 0} (P Q : A → Type 0) (r : Result A F) → ((x : A) → P x → Q x) → IfOk r P → IfOk r Q
 if_ok_as P Q (Ok x) f h = f x h
 if_ok_as P Q (Err e) f h = tt
 
--- Taking blanks and then a type takes the type.
-pub type_more : (d : ℕ) (s : Schema) (a b c : List ℕ) → IsTrimAsciiStart a b → TakesPhrase (IsType d s) b c → TakesPhrase (IsType d s) a c
-unfolding IsType
-type_more zero s a b c trim (x, none, e) = absurd none
-type_more (suc d) s a b c trim h = led_more _ a b c (trim_takes a b trim) h
-
 -- Taking an enum takes a type.
-pub type_enum : (d e : ℕ) (s : Schema) (a b c : List ℕ) → d ≡ suc e → IsTrimAsciiStart a b → TakesPhrase (IsEnumText (IsType e) s) b c → TakesPhrase (IsType d s) a c
+pub type_enum : (d e : ℕ) (s : Schema) (a c : List ℕ) → d ≡ suc e → TakesPhrase (IsEnumText (IsType e) s) a c → TakesPhrase (IsType d s) a c
 unfolding IsType
-type_enum d e s a b c deep trim h = rw deep (led _ a b c (trim_takes a b trim) (takes_as (IsEnumText (IsType e) s) (λ t. IsEnumText (IsType e) s t ⊎ ((n : ℕ) × (n ≤ 4) × IsOptions n (IsPlain (IsType e)) s t)) b c (λ t k. inl k) h))
+type_enum d e s a c deep (x, h, g) = rw deep (x, inl h, g)
 
 -- Taking a plain type and up to four `?` takes a type.
-pub type_options : (d e n : ℕ) (s : Schema) (a c : List ℕ) → d ≡ suc e → n ≤ 4 → TakesPhrase (Led (IsOptions n (IsPlain (IsType e)) s)) a c → TakesPhrase (IsType d s) a c
+pub type_options : (d e n : ℕ) (s : Schema) (a c : List ℕ) → d ≡ suc e → n ≤ 4 → TakesPhrase (IsOptions n (IsPlain (IsType e)) s) a c → TakesPhrase (IsType d s) a c
 unfolding IsType
-type_options d e n s a c deep few (x, (u, v, blank, h, f), g) = rw deep (x, (u, v, blank, inr (n, few, h), f), g)
+type_options d e n s a c deep few (x, h, g) = rw deep (x, inr (n, few, h), g)
 
 -- Taking one more `?` takes one more option.
 pub options_more : (P : Schema → List ℕ → Type 0) (n m : ℕ) (s : Schema) (held : Box Schema Global) (a b c : List ℕ) → m ≡ suc n → held.value ≡ s
-    → TakesPhrase (Led (IsOptions n P s)) a b → TakesPhrase (IsSign 63) b c → TakesPhrase (Led (IsOptions m P (Option held))) a c
-options_more P n m s held a b c next is (x, (u, v, blank, h, f), g) (w, sign, k) =
-    rw next (x ++ w, (u, v ++ w, blank, (held, refl, (v, w, rw is h, sign, refl)), ap (λ t. t ++ w) f ∙ append_assoc u v w), g ∙ ap (λ t. x ++ t) k ∙ sym (append_assoc x w c))
+    → TakesPhrase (IsOptions n P s) a b → TakesPhrase (IsSign 63) b c → TakesPhrase (IsOptions m P (Option held)) a c
+options_more P n m s held a b c next is options sign = rw next (takes_as _ _ a c (λ t h. (held, refl, rw is h)) (takes_two (IsOptions n P s) (IsSign 63) a b c options sign))
 
 -- Taking a `|`, or nothing before two variants or more, takes what may stand before variants.
 lead_takes : (n : ℕ) (leads : Bool) (a b : List ℕ) → ((leads ≡ true) ⊎ (1 < n)) → (leads ≡ true → TakesPhrase (IsSign 124) a b) → (leads ≡ false → b ≡ a) → TakesPhrase (IsLead n) a b
@@ -49,55 +41,55 @@ lead_takes n false a b (inr many) given none = ([], inr (many, refl), sym (none 
 -- Taking what may stand before variants and then the variants takes an enum.
 pub enum_takes : (T : Schema → List ℕ → Type 0) (v : Vec Schema Global) (leads : Bool) (a b c : List ℕ)
     → (leads ≡ true → TakesPhrase (IsSign 124) a b) → (leads ≡ false → b ≡ a) → ((leads ≡ true) ⊎ (1 < length v.items))
-    → TakesPhrase (Separated (IsVariantText T) 124 v.items) b c → TakesPhrase (IsEnumText T (Enum v)) a c
-enum_takes T v leads a b c given none many row =
-    takes_as (Then (IsLead (length v.items)) (Separated (IsVariantText T) 124 v.items)) (IsEnumText T (Enum v)) a c (λ t h. (v, refl, h))
+    → NamesDiffer v.items → TakesPhrase (Separated (IsVariantText T) 124 v.items) b c → TakesPhrase (IsEnumText T (Enum v)) a c
+enum_takes T v leads a b c given none many differ row =
+    takes_as (Then (IsLead (length v.items)) (Separated (IsVariantText T) 124 v.items)) (IsEnumText T (Enum v)) a c (λ t h. (v, refl, differ, h))
     (takes_two (IsLead (length v.items)) (Separated (IsVariantText T) 124 v.items) a b c (lead_takes (length v.items) leads a b many given none) row)
 
 -- Taking the fields, a comma or none, and `}` takes what follows the `{` of a struct.
 pub fields_take : (T : Schema → List ℕ → Type 0) (v : Vec Schema Global) (a b c d : List ℕ)
-    → TakesPhrase (Separated (IsField T) 44 v.items) a b → TakesPhrase (IsMaybe 44) b c → TakesPhrase (IsSign 125) c d → TakesPhrase (IsFieldsRest T (Group v)) a d
-fields_take T v a b c d row comma close =
-    takes_as _ _ a d (λ t h. (v, refl, h)) (takes_two (Separated (IsField T) 44 v.items) (Then (IsMaybe 44) (IsSign 125)) a b d row (takes_two (IsMaybe 44) (IsSign 125) b c d comma close))
+    → NamesDiffer v.items → TakesPhrase (Separated (IsField T) 44 v.items) a b → TakesPhrase (IsMaybe 44) b c → TakesPhrase (IsSign 125) c d → TakesPhrase (IsFieldsRest T (Group v)) a d
+fields_take T v a b c d differ row comma close =
+    takes_as _ _ a d (λ t h. (v, refl, differ, h)) (takes_two (Separated (IsField T) 44 v.items) (Then (IsMaybe 44) (IsSign 125)) a b d row (takes_two (IsMaybe 44) (IsSign 125) b c d comma close))
 
 -- The result x of `named`: the type s with this name.
 abbrev pub HasName : Schema → List ℕ → Schema → Type 0
 HasName x name s = (n : String Global) × (b : Box Schema Global) × (x ≡ Named n b) × (string_bytes n ≡ name) × (b.value ≡ s)
 
 -- Taking a name, `:` and a type takes a field.
-pub field_takes : (T : Schema → List ℕ → Type 0) (x s : Schema) (name a b c d e : List ℕ) → IsTrimAsciiStart a b → TakesPhrase (IsWord name) b c
+pub field_takes : (T : Schema → List ℕ → Type 0) (x s : Schema) (name a c d e : List ℕ) → TakesPhrase (IsWord name) a c
     → TakesPhrase (IsSign 58) c d → TakesPhrase (T s) d e → HasName x name s → 0 < length name → is_ascii_digit (slice_index name 0) ≡ false → TakesPhrase (IsField T x) a e
-field_takes T x s name a b c d e trim word colon content (n, held, is, text, value) filled letter =
+field_takes T x s name a c d e word colon content (n, held, is, text, value) filled letter =
     takes_as _ _ a e (λ t h. (n, held, is, rw text filled, rw text letter, rw (text, value) h))
-    (takes_two (IsWord name) (Then (IsSign 58) (T s)) a c e (word_more name a b c trim word) (takes_two (IsSign 58) (T s) c d e colon content))
+    (takes_two (IsWord name) (Then (IsSign 58) (T s)) a c e word (takes_two (IsSign 58) (T s) c d e colon content))
 
 -- Taking a name and a content takes a variant.
-pub variant_takes : (T : Schema → List ℕ → Type 0) (x s : Schema) (name a b c d : List ℕ) → IsTrimAsciiStart a b → TakesPhrase (IsWord name) b c
+pub variant_takes : (T : Schema → List ℕ → Type 0) (x s : Schema) (name a c d : List ℕ) → TakesPhrase (IsWord name) a c
     → TakesPhrase (IsContent T s) c d → HasName x name s → 0 < length name → is_ascii_uppercase (slice_index name 0) ≡ true → TakesPhrase (IsVariantText T x) a d
-variant_takes T x s name a b c d trim word content (n, held, is, text, value) filled letter =
+variant_takes T x s name a c d word content (n, held, is, text, value) filled letter =
     takes_as _ _ a d (λ t h. (n, held, is, rw text filled, rw text letter, rw (text, value) h))
-    (takes_two (IsWord name) (IsContent T s) a c d (word_more name a b c trim word) content)
+    (takes_two (IsWord name) (IsContent T s) a c d word content)
 
 -- Taking an element type with bytes and `]` takes what follows the `[` of a list.
-pub seq_takes : (d : ℕ) (s : Schema) (held : Box Schema Global) (a b c e : List ℕ) → IsTrimAsciiStart a b → TakesPhrase (IsType d s) b c → held.value ≡ s
+pub seq_takes : (d : ℕ) (s : Schema) (held : Box Schema Global) (a c e : List ℕ) → TakesPhrase (IsType d s) a c → held.value ≡ s
     → has_bytes (type_of s) ≡ true → TakesPhrase (IsSign 93) c e → TakesPhrase (IsListRest (IsType d) (Seq held)) a e
-seq_takes d s held a b c e trim element is full close =
-    takes_as _ _ a e (λ t h. inl (held, refl, rw is full, rw is h)) (takes_two (IsType d s) (IsSign 93) a c e (type_more d s a b c trim element) close)
+seq_takes d s held a c e element is full close =
+    takes_as _ _ a e (λ t h. inl (held, refl, rw is full, rw is h)) (takes_two (IsType d s) (IsSign 93) a c e element close)
 
 -- Taking an element type with bytes, `;`, a count and `]` takes what follows the `[` of an array.
-pub array_takes : (d n : ℕ) (s : Schema) (held : Box Schema Global) (a b c e f g : List ℕ) → IsTrimAsciiStart a b → TakesPhrase (IsType d s) b c → held.value ≡ s
+pub array_takes : (d n : ℕ) (s : Schema) (held : Box Schema Global) (a c e f g : List ℕ) → TakesPhrase (IsType d s) a c → held.value ≡ s
     → has_bytes (type_of s) ≡ true → TakesPhrase (IsSign 59) c e → TakesPhrase (IsCount n) e f → TakesPhrase (IsSign 93) f g → TakesPhrase (IsListRest (IsType d) (Array held n)) a g
-array_takes d n s held a b c e f g trim element is full semicolon count close =
+array_takes d n s held a c e f g element is full semicolon count close =
     takes_as _ _ a g (λ t h. inr (held, n, refl, rw is full, rw is h)) (takes_two (IsType d s) (Then (IsSign 59) (Then (IsCount n) (IsSign 93))) a c g
-    (type_more d s a b c trim element) (takes_two (IsSign 59) (Then (IsCount n) (IsSign 93)) c e g semicolon (takes_two (IsCount n) (IsSign 93) e f g count close)))
+    element (takes_two (IsSign 59) (Then (IsCount n) (IsSign 93)) c e g semicolon (takes_two (IsCount n) (IsSign 93) e f g count close)))
 
 -- Taking a key type, `=>`, a value type and `}` takes what follows the `{` of a map.
-pub map_takes : (d : ℕ) (k v : Schema) (parts : Vec Schema Global) (held : Box Schema Global) (a b c e f g h : List ℕ) → IsTrimAsciiStart a b
-    → TakesPhrase (IsType d k) b c → TakesPhrase (IsSign 61) c e → TakesPhrase (IsSign 62) e f → TakesPhrase (IsType d v) f g → TakesPhrase (IsSign 125) g h
+pub map_takes : (d : ℕ) (k v : Schema) (parts : Vec Schema Global) (held : Box Schema Global) (a c e f g h : List ℕ)
+    → TakesPhrase (IsType d k) a c → TakesPhrase (IsSign 61) c e → TakesPhrase (IsSign 62) e f → TakesPhrase (IsType d v) f g → TakesPhrase (IsSign 125) g h
     → parts.items ≡ k ∷ v ∷ [] → held.value ≡ Group parts → has_bytes (type_of held.value) ≡ true → TakesPhrase (IsMapRest (IsType d) (Map held)) a h
-map_takes d k v parts held a b c e f g h trim key equals greater value close items is full =
+map_takes d k v parts held a c e f g h key equals greater value close items is full =
     takes_as _ _ a h (λ t m. (held, parts, k, v, refl, is, items, full, m))
-    (takes_two (IsType d k) (Then (IsSign 61) (Then (IsSign 62) (Then (IsType d v) (IsSign 125)))) a c h (type_more d k a b c trim key)
+    (takes_two (IsType d k) (Then (IsSign 61) (Then (IsSign 62) (Then (IsType d v) (IsSign 125)))) a c h key
     (takes_two (IsSign 61) (Then (IsSign 62) (Then (IsType d v) (IsSign 125))) c e h equals
     (takes_two (IsSign 62) (Then (IsType d v) (IsSign 125)) e f h greater (takes_two (IsType d v) (IsSign 125) f g h value close))))
 
@@ -108,11 +100,8 @@ plain_list T s a b c sign h = takes_as (Then (IsSign 91) (IsListRest T s)) (IsPl
 pub plain_tuple : (T : Schema → List ℕ → Type 0) (s : Schema) (a b c : List ℕ) → TakesPhrase (IsSign 40) a b → TakesPhrase (IsTupleRest T s) b c → TakesPhrase (IsPlain T s) a c
 plain_tuple T s a b c sign h = takes_as (Then (IsSign 40) (IsTupleRest T s)) (IsPlain T s) a c (λ t k. inr (inr (inl k))) (takes_two (IsSign 40) (IsTupleRest T s) a b c sign h)
 
-pub plain_braces : (T : Schema → List ℕ → Type 0) (s : Schema) (a b c : List ℕ) → TakesPhrase (IsSign 123) a b → (TakesPhrase (IsFieldsRest T s) b c ⊎ TakesPhrase (IsMapRest T s) b c) → TakesPhrase (IsPlain T s) a c
-plain_braces T s a b c sign (inl h) = takes_as (Then (IsSign 123) (IsFieldsRest T s)) (IsPlain T s) a c
-    (λ t k. inr (inr (inr (k.0, k.1, k.2, inl k.3, k.4)))) (takes_two (IsSign 123) (IsFieldsRest T s) a b c sign h)
-plain_braces T s a b c sign (inr h) = takes_as (Then (IsSign 123) (IsMapRest T s)) (IsPlain T s) a c
-    (λ t k. inr (inr (inr (k.0, k.1, k.2, inr k.3, k.4)))) (takes_two (IsSign 123) (IsMapRest T s) a b c sign h)
+pub plain_braces : (T : Schema → List ℕ → Type 0) (s : Schema) (a b c : List ℕ) → TakesPhrase (IsSign 123) a b → TakesPhrase (IsBracesRest T s) b c → TakesPhrase (IsPlain T s) a c
+plain_braces T s a b c sign h = takes_as (Then (IsSign 123) (IsBracesRest T s)) (IsPlain T s) a c (λ t k. inr (inr (inr k))) (takes_two (IsSign 123) (IsBracesRest T s) a b c sign h)
 
 -- Taking `(` and what follows it in a tuple takes a variant's content.
 pub content_tuple : (T : Schema → List ℕ → Type 0) (s : Schema) (a b c : List ℕ) → TakesPhrase (IsSign 40) a b → TakesPhrase (IsTupleRest T s) b c → TakesPhrase (IsContent T s) a c

@@ -8,7 +8,8 @@ use Rattle.postcard_dyn_schema.specs.declared.schema.Schema.TheVariants.{Option,
 use Rattle.postcard_dyn_schema.specs.declared.schema.Schema.TheVariants as schemas
 use Rattle.postcard_dyn_schema.specs.declared.schema.Leaf.{Leaf}
 use Rattle.postcard_dyn_schema.specs.Meaning.{IsNameOf, has_bytes, type_of}
-use Rattle.postcard_dyn_schema.specs.Text.{AreBlank, Led, Then, IsSign, IsMaybe, IsWord, IsCount}
+use Rattle.postcard_dyn_schema.specs.Names.{NamesDiffer, HasNewName}
+use Rattle.postcard_dyn_schema.specs.Text.{AreBlank, Then, IsSign, IsMaybe, IsWord, IsCount}
 
 -- One type or more in a row, each spelled by P, with a sign between two of them.
 abbrev pub Separated : (Schema → List ℕ → Type 0) → ℕ → List Schema → List ℕ → Type 0
@@ -47,9 +48,9 @@ IsField T s text = (n : String Global) × (b : Box Schema Global) × (s ≡ Name
     × (0 < length (string_bytes n)) × (is_ascii_digit (slice_index (string_bytes n) 0) ≡ false)
     × Then (IsWord (string_bytes n)) (Then (IsSign 58) (T b.value)) text
 
--- What follows a `{` in a struct: fields and then `}`. A comma may follow the last field.
+-- What follows a `{` in a struct: fields with different names and then `}`. A comma may follow the last field.
 abbrev pub IsFieldsRest : (Schema → List ℕ → Type 0) → Schema → List ℕ → Type 0
-IsFieldsRest T s text = (v : Vec Schema Global) × (s ≡ Group v) × Then (Separated (IsField T) 44 v.items) (Then (IsMaybe 44) (IsSign 125)) text
+IsFieldsRest T s text = (v : Vec Schema Global) × (s ≡ Group v) × NamesDiffer v.items × Then (Separated (IsField T) 44 v.items) (Then (IsMaybe 44) (IsSign 125)) text
 
 -- What follows a `{` in a map: a key type, `=>` and a value type, of which at least one has bytes, and then `}`.
 abbrev pub IsMapRest : (Schema → List ℕ → Type 0) → Schema → List ℕ → Type 0
@@ -57,13 +58,17 @@ IsMapRest T s text = (b : Box Schema Global) × (v : Vec Schema Global) × (key 
     × (s ≡ Map b) × (b.value ≡ Group v) × (v.items ≡ key ∷ value ∷ []) × (has_bytes (type_of b.value) ≡ true)
     × Then (T key) (Then (IsSign 61) (Then (IsSign 62) (Then (T value) (IsSign 125)))) text
 
+-- What follows a `{`.
+abbrev pub IsBracesRest : (Schema → List ℕ → Type 0) → Schema → List ℕ → Type 0
+IsBracesRest T s text = IsFieldsRest T s text ⊎ IsMapRest T s text
+
 -- A type that is no enum and no option.
 abbrev pub IsPlain : (Schema → List ℕ → Type 0) → Schema → List ℕ → Type 0
 IsPlain T s text =
     IsLeaf s text
     ⊎ (Then (IsSign 91) (IsListRest T s) text
     ⊎ (Then (IsSign 40) (IsTupleRest T s) text
-    ⊎ Then (IsSign 123) (λ rest. IsFieldsRest T s rest ⊎ IsMapRest T s rest) text))
+    ⊎ Then (IsSign 123) (IsBracesRest T s) text))
 
 -- A type spelled by P, followed by n times `?`.
 abbrev pub IsOptions : ℕ → (Schema → List ℕ → Type 0) → Schema → List ℕ → Type 0
@@ -83,18 +88,22 @@ IsVariantText T s text = (n : String Global) × (b : Box Schema Global) × (s �
     × (0 < length (string_bytes n)) × (is_ascii_uppercase (slice_index (string_bytes n) 0) ≡ true)
     × Then (IsWord (string_bytes n)) (IsContent T b.value) text
 
+-- A variant with another name than each of `before`.
+abbrev pub IsNewVariant : List Schema → (Schema → List ℕ → Type 0) → Schema → List ℕ → Type 0
+IsNewVariant before T s text = HasNewName before s × IsVariantText T s text
+
 -- The text before n variants: `|`, or nothing if there are two variants or more.
 abbrev pub IsLead : ℕ → List ℕ → Type 0
 IsLead n text = IsSign 124 text ⊎ ((1 < n) × (text ≡ []))
 
--- An enum: its variants, with `|` between two of them.
+-- An enum: its variants, with different names and `|` between two of them.
 abbrev pub IsEnumText : (Schema → List ℕ → Type 0) → Schema → List ℕ → Type 0
-IsEnumText T s text = (v : Vec Schema Global) × (s ≡ Enum v)
+IsEnumText T s text = (v : Vec Schema Global) × (s ≡ Enum v) × NamesDiffer v.items
     × Then (IsLead (length v.items)) (Separated (IsVariantText T) 124 v.items) text
 
--- Any type, after blanks, where the types in its brackets are spelled by T.
+-- Any type, where the types in its brackets are spelled by T.
 abbrev pub IsTypeOver : (Schema → List ℕ → Type 0) → Schema → List ℕ → Type 0
-IsTypeOver T s text = Led (λ phrase. IsEnumText T s phrase ⊎ ((n : ℕ) × (n ≤ 4) × IsOptions n (IsPlain T) s phrase)) text
+IsTypeOver T s text = IsEnumText T s text ⊎ ((n : ℕ) × (n ≤ 4) × IsOptions n (IsPlain T) s text)
 
 -- The text spells the type, with types nested at most n deep in brackets, where the type itself has depth 1.
 unfoldable pub IsType : ℕ → Schema → List ℕ → Type 0

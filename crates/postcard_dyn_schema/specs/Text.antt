@@ -1,5 +1,5 @@
 -- Texts of type expressions as lists of bytes: their characters, blanks, signs and words.
-use Rattle.std.specs.Prelude.{◌≡◌, ℕ, ◌+◌, ◌*◌, ◌-◌, ◌<◌, nat_eq, Bool, not, ◌||◌, ◌⊎◌, List, [], ◌∷◌, ◌++◌, length, bit_and}
+use Rattle.std.specs.Prelude.{◌≡◌, ℕ, ◌+◌, ◌*◌, ◌-◌, ◌^◌, ◌<◌, nat_eq, Bool, true, false, cond, not, ◌||◌, ◌⊎◌, List, [], ◌∷◌, ◌++◌, length, bit_and}
 use Rattle.std.specs.List.{count_by, AllPass}
 use Rattle.std.specs.Char.{is_ascii_whitespace, is_ascii_alphanumeric, is_ascii_digit}
 
@@ -43,11 +43,25 @@ is_of_word b = is_ascii_alphanumeric b || nat_eq b 95
 abbrev pub IsWord : List ℕ → List ℕ → Type 0
 IsWord word text = AllPass is_of_word word × Led (λ phrase. phrase ≡ word) text
 
+-- The text without the blanks at its start.
+abbrev pub unblank : List ℕ → List ℕ
+unblank [] = []
+unblank (b ∷ text) = cond (is_ascii_whitespace b) (unblank text) (b ∷ text)
+
+-- The text is empty, or its first byte may not be part of a word.
+abbrev pub EndsWord : List ℕ → Type 0
+EndsWord [] = Unit {0}
+EndsWord (b ∷ text) = is_of_word b ≡ false
+
+-- The text is blanks alone, or empty, or its first byte after blanks passes the test.
+abbrev pub GoesOnBy : (ℕ → Bool) → List ℕ → Type 0
+GoesOnBy passes text = AreBlank text ⊎ ((sign : ℕ) × (after : List ℕ) × (passes sign ≡ true) × TakesPhrase (IsSign sign) text after)
+
 -- The number that is spelled by the decimal digits of n followed by these.
 abbrev pub decimal : ℕ → List ℕ → ℕ
 decimal n [] = n
 decimal n (d ∷ ds) = decimal (n * 10 + (d - 48)) ds
 
--- The text is blanks, or none, and then the number n in decimal digits, at least one. Leading zeros are allowed.
+-- The text is blanks, or none, and then the number n, below 2 ^ 64, in decimal digits, at least one. Leading zeros are allowed.
 abbrev pub IsCount : ℕ → List ℕ → Type 0
-IsCount n text = (digits : List ℕ) × (0 < length digits) × AllPass is_ascii_digit digits × (n ≡ decimal 0 digits) × Led (λ phrase. phrase ≡ digits) text
+IsCount n text = (digits : List ℕ) × (0 < length digits) × AllPass is_ascii_digit digits × (n ≡ decimal 0 digits) × (n < 2 ^ 64) × Led (λ phrase. phrase ≡ digits) text

@@ -12,16 +12,21 @@
 //! ```
 //!
 //! An enum with a single variant needs the leading `|`. As in Rust, `(T)` is the type `T`, and
-//! `(T,)` is a tuple of one part.
+//! `(T,)` is a tuple of one part. The fields of a struct have different names, and so have the
+//! variants of an enum; a count is below 2^64.
 
-ghost use Rattle.std.specs.Prelude.{◌≡◌, ◌+◌, ◌≤◌, ◌++◌, ◌⊎◌, [], ◌∷◌, length, IfOk, IfErr, OnOk};
-ghost use Rattle.postcard_dyn_schema.specs.Text.{characters, TakesPhrase};
+ghost use Rattle.std.specs.Prelude.{◌≡◌, ℕ, List, ◌+◌, ◌≤◌, ◌++◌, ◌⊎◌, [], ◌∷◌, length, Decides, IfOk, IfErr, OnOk};
+ghost use Rattle.postcard_dyn_schema.specs.Text.{characters, TakesPhrase, EndsWord, GoesOnBy};
+ghost use Rattle.postcard_dyn_schema.specs.Fronts.{HasFront, IsOnlyFront, IsRefusal, IsNamed, Anything};
+ghost use Rattle.postcard_dyn_schema.specs.Fronts.{Starts, starts_enum};
+ghost use Rattle.postcard_dyn_schema.specs.Fronts.{follows_type, follows_variant};
+ghost use Rattle.postcard_dyn_schema.specs.declared.schema.Schema.{Schema};
 ghost use Rattle.postcard_dyn_schema.specs.Meaning.{type_of};
-ghost use Rattle.postcard_dyn_schema.specs.Names.{IsNewTo, IsTakenIn};
+ghost use Rattle.postcard_dyn_schema.specs.Names.{IsNewTo, IsTakenIn, HasNamesOf};
 ghost use Rattle.postcard_dyn_schema.specs.Bounds.{ElementsHaveBytes, depth as depth_of};
 ghost use Rattle.postcard_dyn_schema.specs.Grammar.{IsType, IsPlain, IsListRest, IsTupleRest};
-ghost use Rattle.postcard_dyn_schema.specs.Grammar.{IsFieldsRest, IsMapRest, IsEnumText};
-ghost use Rattle.postcard_dyn_schema.specs.Grammar.{IsVariantText, IsContent, IsExpression};
+ghost use Rattle.postcard_dyn_schema.specs.Grammar.{IsFieldsRest, IsMapRest, IsBracesRest, IsEnumText};
+ghost use Rattle.postcard_dyn_schema.specs.Grammar.{IsVariantText, IsNewVariant, IsContent, IsExpression};
 
 use crate::error::{ExpressionError, Problem};
 use crate::scan::{
@@ -37,6 +42,7 @@ const MAX_DEPTH: usize = 64;
 const MAX_OPTIONS: usize = 4;
 
 /// Reads a type expression, such as `{id: u16, label: str, samples: [i32]}`, and returns its type.
+/// Each text of the grammar of this module is accepted, within the limits below, if no allocation fails.
 ///
 /// # Errors
 ///
@@ -47,6 +53,10 @@ const MAX_OPTIONS: usize = 4;
 /// nested more than 64 deep in brackets, or if more than 4 `?` follow a type.
 pub fn parse(alloc: Global, text: &str) -> Result<Schema, ExpressionError>
     ensures spelled { IfOk result (λ schema. IsExpression schema text.now) }
+    ensures one { IfOk result (λ schema. (other : Schema)
+        → IsExpression other text.now → type_of other ≡ type_of schema) }
+    ensures refused { IfErr result (λ e. IsRefusal e.problem
+        ((other : Schema) × IsExpression other text.now)) }
     ensures elements_have_bytes { IfOk result (λ schema. ElementsHaveBytes (type_of schema)) }
     ensures deep { IfOk result (λ schema. depth_of (type_of schema) ≤ 384) }
     ensures place { IfErr result (λ e. (1 ≤ e.character)
@@ -64,7 +74,11 @@ pub fn parse(alloc: Global, text: &str) -> Result<Schema, ExpressionError>
 
 /// Reads a type, after which only blanks may follow.
 fn read_whole(alloc: Global, rest: &mut &[u8]) -> Result<Schema, Fault>
-    ensures { IfOk result (λ schema. IsExpression schema rest.old.now) }
+    ensures spelled { IfOk result (λ schema. IsExpression schema rest.old.now) }
+    ensures one { IfOk result (λ schema. (other : Schema)
+        → IsExpression other rest.old.now → type_of other ≡ type_of schema) }
+    ensures refused { IfErr result (λ fault. IsRefusal fault.problem
+        ((other : Schema) × IsExpression other rest.old.now)) }
 {
     let schema = read_type(alloc, rest, MAX_DEPTH)?;
     skip_blanks(rest);
@@ -77,16 +91,18 @@ fn read_whole(alloc: Global, rest: &mut &[u8]) -> Result<Schema, Fault>
 /// Reads a type: an enum, or another type with up to `MAX_OPTIONS` `?` after it.
 #[cycle(expression)]
 fn read_type(alloc: Global, rest: &mut &[u8], depth: usize) -> Result<Schema, Fault>
-    ensures { IfOk result (λ schema. TakesPhrase (IsType depth schema) rest.old.now rest.new.now) }
+    ensures spelled { IfOk result (λ schema. TakesPhrase (IsType depth schema) rest.old.now rest.new.now) }
+    ensures one { IfOk result (λ schema.
+        IsOnlyFront (GoesOnBy follows_type) (IsType depth) schema rest.old.now rest.new.now) }
+    ensures refused { IfErr result (λ fault.
+        IsRefusal fault.problem (HasFront (GoesOnBy follows_type) (IsType depth) rest.old.now)) }
 {
-    skip_blanks(rest);
+    let start = rest.trim_ascii_start();
     if depth == 0 {
-        return Err(fault_at(Problem::TooDeep, rest));
+        return Err(fault_at(Problem::TooDeep, start));
     }
-    if let Some(first) = rest.first() {
-        if *first == b'|' || first.is_ascii_uppercase() {
-            return read_enum(alloc, rest, depth - 1);
-        }
+    if begins_enum(rest) {
+        return read_enum(alloc, rest, depth - 1);
     }
     let mut schema = read_plain(alloc, rest, depth - 1)?;
     for _ in 0..MAX_OPTIONS {
@@ -95,18 +111,32 @@ fn read_type(alloc: Global, rest: &mut &[u8], depth: usize) -> Result<Schema, Fa
         }
         schema = Schema::Option(boxed(alloc, schema, rest)?);
     }
-    if rest.trim_ascii_start().starts_with(b"?") {
-        skip_blanks(rest);
-        return Err(fault_at(Problem::TooDeep, rest));
+    let start = rest.trim_ascii_start();
+    if take(rest, b'?') {
+        return Err(fault_at(Problem::TooDeep, start));
     }
     Ok(schema)
+}
+
+/// Returns whether `|` or a capital letter comes next.
+fn begins_enum(text: &[u8]) -> bool
+    ensures { Decides result (Starts starts_enum text.now) }
+{
+    match text.trim_ascii_start().split_first() {
+        Some((first, _)) => *first == b'|' || first.is_ascii_uppercase(),
+        None => false,
+    }
 }
 
 /// Reads a type that is no enum and no option: it begins with a bracket, or is a word.
 #[cycle(expression)]
 fn read_plain(alloc: Global, rest: &mut &[u8], depth: usize) -> Result<Schema, Fault>
-    ensures { IfOk result (λ schema. TakesPhrase (IsPlain (IsType depth) schema)
+    ensures spelled { IfOk result (λ schema. TakesPhrase (IsPlain (IsType depth) schema)
         rest.old.now rest.new.now) }
+    ensures one { IfOk result (λ schema.
+        IsOnlyFront EndsWord (IsPlain (IsType depth)) schema rest.old.now rest.new.now) }
+    ensures refused { IfErr result (λ fault.
+        IsRefusal fault.problem (HasFront EndsWord (IsPlain (IsType depth)) rest.old.now)) }
 {
     if take(rest, b'[') {
         return read_list(alloc, rest, depth);
@@ -117,7 +147,7 @@ fn read_plain(alloc: Global, rest: &mut &[u8], depth: usize) -> Result<Schema, F
     if take(rest, b'{') {
         return read_braces(alloc, rest, depth);
     }
-    let start = *rest;
+    let start = rest.trim_ascii_start();
     let word = take_word(rest);
     if word.is_empty() {
         return Err(fault_at(Problem::TypeExpected, start));
@@ -131,11 +161,14 @@ fn read_plain(alloc: Global, rest: &mut &[u8], depth: usize) -> Result<Schema, F
 /// Reads a list or an array after its `[`.
 #[cycle(expression)]
 fn read_list(alloc: Global, rest: &mut &[u8], depth: usize) -> Result<Schema, Fault>
-    ensures { IfOk result (λ schema. TakesPhrase (IsListRest (IsType depth) schema)
+    ensures spelled { IfOk result (λ schema. TakesPhrase (IsListRest (IsType depth) schema)
         rest.old.now rest.new.now) }
+    ensures one { IfOk result (λ schema.
+        IsOnlyFront Anything (IsListRest (IsType depth)) schema rest.old.now rest.new.now) }
+    ensures refused { IfErr result (λ fault.
+        IsRefusal fault.problem (HasFront Anything (IsListRest (IsType depth)) rest.old.now)) }
 {
-    skip_blanks(rest);
-    let start = *rest;
+    let start = rest.trim_ascii_start();
     let element = read_type(alloc, rest, depth)?;
     if !element.has_bytes() {
         return Err(fault_at(Problem::NoBytes, start));
@@ -153,8 +186,12 @@ fn read_list(alloc: Global, rest: &mut &[u8], depth: usize) -> Result<Schema, Fa
 /// Reads a tuple after its `(`. A single type without `,` is returned as that type.
 #[cycle(expression)]
 fn read_tuple(alloc: Global, rest: &mut &[u8], depth: usize) -> Result<Schema, Fault>
-    ensures { IfOk result (λ schema. TakesPhrase (IsTupleRest (IsType depth) schema)
+    ensures spelled { IfOk result (λ schema. TakesPhrase (IsTupleRest (IsType depth) schema)
         rest.old.now rest.new.now) }
+    ensures one { IfOk result (λ schema.
+        IsOnlyFront Anything (IsTupleRest (IsType depth)) schema rest.old.now rest.new.now) }
+    ensures refused { IfErr result (λ fault.
+        IsRefusal fault.problem (HasFront Anything (IsTupleRest (IsType depth)) rest.old.now)) }
 {
     let mut parts = Vec::new(alloc);
     if take(rest, b')') {
@@ -182,31 +219,42 @@ fn read_tuple(alloc: Global, rest: &mut &[u8], depth: usize) -> Result<Schema, F
 /// Reads a struct or a map after its `{`. It is a struct if a word and `:` come first.
 #[cycle(expression)]
 fn read_braces(alloc: Global, rest: &mut &[u8], depth: usize) -> Result<Schema, Fault>
-    ensures { IfOk result (λ schema.
-        TakesPhrase (IsFieldsRest (IsType depth) schema) rest.old.now rest.new.now
-        ⊎ TakesPhrase (IsMapRest (IsType depth) schema) rest.old.now rest.new.now) }
+    ensures spelled { IfOk result (λ schema.
+        TakesPhrase (IsBracesRest (IsType depth) schema) rest.old.now rest.new.now) }
+    ensures one { IfOk result (λ schema.
+        IsOnlyFront Anything (IsBracesRest (IsType depth)) schema rest.old.now rest.new.now) }
+    ensures refused { IfErr result (λ fault.
+        IsRefusal fault.problem (HasFront Anything (IsBracesRest (IsType depth)) rest.old.now)) }
 {
-    let start = *rest;
-    let word = take_word(rest);
-    let is_struct = !word.is_empty() && take(rest, b':');
-    *rest = start;
-    if is_struct {
+    if begins_field(rest) {
         read_fields(alloc, rest, depth)
     } else {
         read_map(alloc, rest, depth)
     }
 }
 
+/// Returns whether a word that isn't empty comes next, and then `:`.
+fn begins_field(text: &[u8]) -> bool
+    ensures { Decides result (IsNamed text.now) }
+{
+    let mut rest = text;
+    let word = take_word(&mut rest);
+    !word.is_empty() && take(&mut rest, b':')
+}
+
 /// Reads the fields of a struct after its `{`, and the `}`.
 #[cycle(expression)]
 fn read_fields(alloc: Global, rest: &mut &[u8], depth: usize) -> Result<Schema, Fault>
-    ensures { IfOk result (λ schema. TakesPhrase (IsFieldsRest (IsType depth) schema)
+    ensures spelled { IfOk result (λ schema. TakesPhrase (IsFieldsRest (IsType depth) schema)
         rest.old.now rest.new.now) }
+    ensures one { IfOk result (λ schema.
+        IsOnlyFront Anything (IsFieldsRest (IsType depth)) schema rest.old.now rest.new.now) }
+    ensures refused { IfErr result (λ fault.
+        IsRefusal fault.problem (HasFront Anything (IsFieldsRest (IsType depth)) rest.old.now)) }
 {
     let mut fields = Vec::new(alloc);
     for _ in 0..rest.len() {
-        skip_blanks(rest);
-        let start = *rest;
+        let start = rest.trim_ascii_start();
         let name = take_word(rest);
         if name.is_empty() || name[0].is_ascii_digit() {
             return Err(fault_at(Problem::FieldExpected, start));
@@ -229,11 +277,14 @@ fn read_fields(alloc: Global, rest: &mut &[u8], depth: usize) -> Result<Schema, 
 /// Reads the key type and the value type of a map after its `{`, and the `}`.
 #[cycle(expression)]
 fn read_map(alloc: Global, rest: &mut &[u8], depth: usize) -> Result<Schema, Fault>
-    ensures { IfOk result (λ schema. TakesPhrase (IsMapRest (IsType depth) schema)
+    ensures spelled { IfOk result (λ schema. TakesPhrase (IsMapRest (IsType depth) schema)
         rest.old.now rest.new.now) }
+    ensures one { IfOk result (λ schema.
+        IsOnlyFront Anything (IsMapRest (IsType depth)) schema rest.old.now rest.new.now) }
+    ensures refused { IfErr result (λ fault.
+        IsRefusal fault.problem (HasFront Anything (IsMapRest (IsType depth)) rest.old.now)) }
 {
-    skip_blanks(rest);
-    let start = *rest;
+    let start = rest.trim_ascii_start();
     let mut parts = Vec::new(alloc);
     let key = read_type(alloc, rest, depth)?;
     push(&mut parts, key, rest)?;
@@ -252,10 +303,14 @@ fn read_map(alloc: Global, rest: &mut &[u8], depth: usize) -> Result<Schema, Fau
 /// Reads an enum: its variants, with `|` between them.
 #[cycle(expression)]
 fn read_enum(alloc: Global, rest: &mut &[u8], depth: usize) -> Result<Schema, Fault>
-    ensures { IfOk result (λ schema. TakesPhrase (IsEnumText (IsType depth) schema)
+    ensures spelled { IfOk result (λ schema. TakesPhrase (IsEnumText (IsType depth) schema)
         rest.old.now rest.new.now) }
+    ensures one { IfOk result (λ schema.
+        IsOnlyFront (GoesOnBy follows_type) (IsEnumText (IsType depth)) schema rest.old.now rest.new.now) }
+    ensures refused { IfErr result (λ fault.
+        IsRefusal fault.problem (HasFront (GoesOnBy follows_type) (IsEnumText (IsType depth)) rest.old.now)) }
 {
-    let start = *rest;
+    let start = rest.trim_ascii_start();
     let leads = take(rest, b'|');
     let mut variants = Vec::new(alloc);
     for _ in 0..rest.len() {
@@ -279,11 +334,17 @@ fn read_variant(
     rest: &mut &[u8],
     depth: usize,
 ) -> Result<Schema, Fault>
-    ensures { IfOk result (λ schema. TakesPhrase (IsVariantText (IsType depth) schema)
+    ensures spelled { IfOk result (λ schema. TakesPhrase (IsNewVariant before.now.items (IsType depth) schema)
         rest.old.now rest.new.now) }
+    ensures one { IfOk result (λ schema.
+        IsOnlyFront (GoesOnBy follows_variant) (IsNewVariant before.now.items (IsType depth)) schema rest.old.now rest.new.now) }
+    ensures called { IfOk result (λ schema. (other : Schema) (after : List ℕ)
+        → TakesPhrase (IsNewVariant before.now.items (IsType depth) other) rest.old.now after
+        → GoesOnBy follows_variant after → HasNamesOf other schema) }
+    ensures refused { IfErr result (λ fault.
+        IsRefusal fault.problem (HasFront (GoesOnBy follows_variant) (IsNewVariant before.now.items (IsType depth)) rest.old.now)) }
 {
-    skip_blanks(rest);
-    let start = *rest;
+    let start = rest.trim_ascii_start();
     let name = take_word(rest);
     if name.is_empty() || !name[0].is_ascii_uppercase() {
         return Err(fault_at(Problem::VariantExpected, start));
@@ -296,8 +357,12 @@ fn read_variant(
 /// Reads the content of a variant: a tuple, a struct, or nothing.
 #[cycle(expression)]
 fn read_content(alloc: Global, rest: &mut &[u8], depth: usize) -> Result<Schema, Fault>
-    ensures { IfOk result (λ schema. TakesPhrase (IsContent (IsType depth) schema)
+    ensures spelled { IfOk result (λ schema. TakesPhrase (IsContent (IsType depth) schema)
         rest.old.now rest.new.now) }
+    ensures one { IfOk result (λ schema.
+        IsOnlyFront (GoesOnBy follows_variant) (IsContent (IsType depth)) schema rest.old.now rest.new.now) }
+    ensures refused { IfErr result (λ fault.
+        IsRefusal fault.problem (HasFront (GoesOnBy follows_variant) (IsContent (IsType depth)) rest.old.now)) }
 {
     if take(rest, b'(') {
         return read_tuple(alloc, rest, depth);
@@ -326,7 +391,8 @@ fn check_new(before: &Vec<Schema>, name: &[u8], start: &[u8]) -> Result<(), Faul
 
 /// Adds a type to the end of the list.
 fn push(schemas: &mut Vec<Schema>, schema: Schema, rest: &[u8]) -> Result<(), Fault>
-    ensures { OnOk result (schemas.new.items ≡ schemas.old.items ++ schema ∷ []) }
+    ensures added { OnOk result (schemas.new.items ≡ schemas.old.items ++ schema ∷ []) }
+    ensures refused { IfErr result (λ fault. fault.problem ≡ Problem.OutOfMemory) }
 {
     match schemas.push(schema) {
         Ok(()) => Ok(()),

@@ -3,15 +3,17 @@
 //! The parameter `rest` is the part of the text that isn't read yet; what a function takes is
 //! dropped from its front. Blanks are the white space of ASCII.
 
-ghost use Rattle.std.specs.Prelude.{◌≡◌, ◌+◌, ◌-◌, ◌≤◌, true, false, take, length, string_bytes};
-ghost use Rattle.std.specs.Prelude.{Box, IfOk, IfErr, OnOk};
+ghost use Rattle.std.specs.Prelude.{◌≡◌, ◌⊎◌, ℕ, ◌+◌, ◌-◌, ◌*◌, ◌^◌, ◌<◌, ◌++◌, ◌≤◌, List, true, false, take, length};
+ghost use Rattle.std.specs.Prelude.{Box, Decides, SomeIff, IfOk, IfErr, OnErr, OnOk, string_bytes};
+ghost use Rattle.std.specs.Char.{is_ascii_digit, is_ascii_whitespace};
+ghost use Rattle.std.specs.List.{AllPass};
 ghost use Rattle.std.specs.Str.{IsTrimAsciiStart};
 ghost use Rattle.std.specs.declared.alloc.Global.{Global};
 ghost use Rattle.std.specs.declared.string.String.{String};
 ghost use Rattle.postcard_dyn_schema.specs.declared.schema.Schema.{Schema};
 ghost use Rattle.postcard_dyn_schema.specs.declared.schema.Schema.TheVariants.{Named};
 ghost use Rattle.postcard_dyn_schema.specs.Text.{characters, TakesPhrase, IsSign, IsWord, IsCount};
-ghost use Rattle.postcard_dyn_schema.specs.Text.{is_of_word as is_of_word_byte};
+ghost use Rattle.postcard_dyn_schema.specs.Text.{is_of_word as is_of_word_byte, EndsWord};
 
 use crate::error::Problem;
 use crate::schema::Schema;
@@ -57,6 +59,8 @@ pub fn skip_blanks(rest: &mut &[u8])
 pub fn take(rest: &mut &[u8], byte: u8) -> bool
     ensures taken { result ≡ true → TakesPhrase (IsSign byte) rest.old.now rest.new.now }
     ensures left { result ≡ false → rest.new.now ≡ rest.old.now }
+    ensures none { result ≡ false → is_ascii_whitespace byte ≡ false → (after : List ℕ)
+        → TakesPhrase (IsSign byte) rest.old.now after → ⊥ }
 {
     match rest.trim_ascii_start().split_first() {
         Some((first, after)) if *first == byte => {
@@ -77,6 +81,8 @@ pub fn expect(rest: &mut &[u8], byte: u8, problem: Problem) -> Result<(), Fault>
     ensures taken { OnOk result (TakesPhrase (IsSign byte) rest.old.now rest.new.now) }
     ensures refused { IfErr result (λ fault. (fault.problem ≡ problem)
         × (fault.left ≡ length rest.new.now) × IsTrimAsciiStart rest.old.now rest.new.now) }
+    ensures none { OnErr result (is_ascii_whitespace byte ≡ false → (after : List ℕ)
+        → TakesPhrase (IsSign byte) rest.old.now after → ⊥) }
 {
     if take(rest, byte) {
         return Ok(());
@@ -88,7 +94,10 @@ pub fn expect(rest: &mut &[u8], byte: u8, problem: Problem) -> Result<(), Fault>
 /// Takes the blanks at the front and then a word, and returns the word: all letters and digits of
 /// ASCII and `_` up to another byte. It may be empty.
 pub fn take_word<'a>(rest: &mut &'a [u8]) -> &'a [u8]
-    ensures { TakesPhrase (IsWord result.now) rest.old.now rest.new.now }
+    ensures taken { TakesPhrase (IsWord result.now) rest.old.now rest.new.now }
+    ensures first { (text : List ℕ) × IsTrimAsciiStart rest.old.now text
+        × (text ≡ result.now ++ rest.new.now) }
+    ensures whole { EndsWord rest.new.now }
 {
     skip_blanks(rest);
     let all = *rest;
@@ -115,26 +124,42 @@ fn is_of_word(byte: u8) -> bool
 /// Fails with `CountExpected` if the next word isn't digits alone, and with `CountTooLarge` if the
 /// count doesn't fit in a `usize`.
 pub fn take_count(rest: &mut &[u8]) -> Result<usize, Fault>
-    ensures { IfOk result (λ count. TakesPhrase (IsCount count) rest.old.now rest.new.now) }
+    ensures taken { IfOk result (λ count. TakesPhrase (IsCount count) rest.old.now rest.new.now) }
+    ensures one { IfOk result (λ count. (n : ℕ) (after : List ℕ)
+        → TakesPhrase (IsCount n) rest.old.now after → EndsWord after
+        → (n ≡ count) × (after ≡ rest.new.now)) }
+    ensures none { OnErr result ((n : ℕ) (after : List ℕ)
+        → TakesPhrase (IsCount n) rest.old.now after → EndsWord after → ⊥) }
 {
-    skip_blanks(rest);
-    let start = *rest;
+    let start = rest.trim_ascii_start();
     let digits = take_word(rest);
-    if digits.is_empty() || !digits.iter().all(|byte| byte.is_ascii_digit()) {
+    if digits.is_empty() || !are_digits(digits) {
         return Err(fault_at(Problem::CountExpected, start));
     }
     let mut count: usize = 0;
     for digit in digits {
-        let value = usize::from(digit.wrapping_sub(b'0'));
-        count = match count
-            .checked_mul(10)
-            .and_then(|tens| tens.checked_add(value))
-        {
+        count = match with_digit(count, *digit) {
             Some(count) => count,
             None => return Err(fault_at(Problem::CountTooLarge, start)),
         };
     }
     Ok(count)
+}
+
+/// Returns the number with one more decimal digit, or `None` if it doesn't fit in a `usize`.
+fn with_digit(count: usize, digit: u8) -> Option<usize>
+    ensures { SomeIff result (count * 10 + (digit - 48) < 2 ^ 64) (count * 10 + (digit - 48)) }
+{
+    count
+        .checked_mul(10)?
+        .checked_add(usize::from(digit.saturating_sub(b'0')))
+}
+
+/// Returns whether each byte is a decimal digit.
+fn are_digits(word: &[u8]) -> bool
+    ensures { Decides result (AllPass is_ascii_digit word.now) }
+{
+    word.iter().all(|byte| byte.is_ascii_digit())
 }
 
 /// Puts a type into a `Box`.
@@ -159,8 +184,10 @@ pub fn boxed(alloc: Global, schema: Schema, rest: &[u8]) -> Result<Box<Schema>, 
 /// Fails at the front of `rest`: with `OutOfMemory` if an allocation fails, and with
 /// `FieldExpected` if the name is not UTF-8.
 pub fn named(alloc: Global, name: &[u8], schema: Schema, rest: &[u8]) -> Result<Schema, Fault>
-    ensures { IfOk result (λ whole. (text : String Global) × (held : Box Schema Global)
+    ensures held { IfOk result (λ whole. (text : String Global) × (held : Box Schema Global)
         × (whole ≡ Named text held) × (string_bytes text ≡ name.now) × (held.value ≡ schema)) }
+    ensures refused { IfErr result (λ fault. (fault.problem ≡ Problem.OutOfMemory)
+        ⊎ (AllPass is_of_word_byte name.now → ⊥)) }
 {
     let Ok(text) = str::from_utf8(name) else {
         return Err(fault_at(Problem::FieldExpected, rest));

@@ -11,6 +11,8 @@ mod frames;
 #[cfg(test)]
 mod helpers;
 #[cfg(test)]
+mod limits;
+#[cfg(test)]
 mod output;
 #[cfg(test)]
 mod random;

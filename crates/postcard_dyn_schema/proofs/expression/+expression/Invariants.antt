@@ -1,7 +1,15 @@
 -- Why the functions end: the depth that is left, and their order at one depth; and what each loop has taken.
-use Rattle.std.proofs.Common.{◌+◌, ◌*◌, ◌-◌}
-use Rattle.postcard_dyn_schema.specs.Text.{Led, TakesPhrase}
-use Rattle.postcard_dyn_schema.specs.Grammar.{Separated, IsField, IsPlain, IsOptions, IsVariantText, IsType}
+use Rattle.std.proofs.Common.{ℕ, ◌+◌, ◌*◌, ◌-◌, ◌≤◌, List, length}
+use Rattle.postcard_dyn_schema.specs.declared.schema.Schema.{Schema}
+use Rattle.postcard_dyn_schema.specs.Meaning.{type_of}
+use Rattle.postcard_dyn_schema.specs.Names.{NamesDiffer}
+use Rattle.postcard_dyn_schema.specs.Text.{TakesPhrase, IsSign, GoesOnBy}
+use Rattle.postcard_dyn_schema.specs.Grammar.{Separated, IsTupleRest, IsField, IsFieldsRest, IsPlain, IsOptions, IsVariantText, IsEnumText, IsType}
+use Rattle.postcard_dyn_schema.specs.Fronts.{follows_type}
+use Rattle.postcard_dyn_schema.proofs.LeftOfFields.{FieldsLeft}
+use Rattle.postcard_dyn_schema.proofs.LeftOfTuple.{TupleAfter}
+use Rattle.postcard_dyn_schema.proofs.LeftOfEnum.{EnumLeft}
+use Rattle.postcard_dyn_schema.proofs.LeftOfType.{OptionsLeft}
 use Rattle.postcard_dyn_schema.proofs.Rows.{Begun}
 use Rattle.postcard_dyn_schema.proofs.expression.+expression.Given as goal
 
@@ -36,13 +44,31 @@ abbrev pub decreases-read_content : goal.decreases-read_content
 decreases-read_content l = 8 * l.depth + 2
 
 abbrev pub invariant-read_enum-loop : goal.invariant-read_enum-loop
-invariant-read_enum-loop l = Begun (IsVariantText (IsType l.depth)) 124 l.variants.items l.initial.rest.now l.rest.now
+invariant-read_enum-loop l = record {
+  begun : Begun (IsVariantText (IsType l.depth)) 124 l.variants.items l.initial.rest.now l.rest.now;
+  differ : NamesDiffer l.variants.items;
+  short : length l.rest.now + l.counter ≤ length l.initial.rest.now;
+  left : (s : Schema) (r : List ℕ) → TakesPhrase (IsEnumText (IsType l.depth) s) l.fn.rest.now r → GoesOnBy follows_type r → EnumLeft (IsType l.depth) l.variants.items l.leads s l.rest.now r;
+}
 
 abbrev pub invariant-read_fields-loop : goal.invariant-read_fields-loop
-invariant-read_fields-loop l = Begun (IsField (IsType l.depth)) 44 l.fields.items l.initial.rest.now l.rest.now
+invariant-read_fields-loop l = record {
+  begun : Begun (IsField (IsType l.depth)) 44 l.fields.items l.initial.rest.now l.rest.now;
+  differ : NamesDiffer l.fields.items;
+  short : length l.rest.now + l.counter ≤ length l.initial.rest.now;
+  left : (s : Schema) (r : List ℕ) → TakesPhrase (IsFieldsRest (IsType l.depth) s) l.fn.rest.now r → FieldsLeft (IsType l.depth) l.fields.items s l.rest.now r;
+}
 
 abbrev pub invariant-read_tuple-loop : goal.invariant-read_tuple-loop
-invariant-read_tuple-loop l = TakesPhrase (Separated (IsType l.depth) 44 l.parts.items) l.fn.rest.now l.rest.now
+invariant-read_tuple-loop l = record {
+  taken : TakesPhrase (Separated (IsType l.depth) 44 l.parts.items) l.fn.rest.now l.rest.now;
+  short : length l.rest.now + l.counter ≤ length l.initial.rest.now;
+  unclosed : (e : List ℕ) → TakesPhrase (IsSign 41) l.rest.now e → ⊥;
+  left : (s : Schema) (r : List ℕ) → TakesPhrase (IsTupleRest (IsType l.depth) s) l.fn.rest.now r → TupleAfter l.depth l.parts.items s l.rest.now r;
+}
 
 abbrev pub invariant-read_type-loop : goal.invariant-read_type-loop
-invariant-read_type-loop l = TakesPhrase (Led (IsOptions l.counter (IsPlain (IsType (l.depth - 1))) l.schema)) l.fn.rest.now l.rest.now
+invariant-read_type-loop l = record {
+  taken : TakesPhrase (IsOptions l.counter (IsPlain (IsType (l.depth - 1))) l.schema) l.fn.rest.now l.rest.now;
+  left : (s : Schema) (r : List ℕ) → TakesPhrase (IsType l.depth s) l.fn.rest.now r → GoesOnBy follows_type r → OptionsLeft s (type_of l.schema) l.counter l.rest.now r;
+}

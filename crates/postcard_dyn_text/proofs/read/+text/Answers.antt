@@ -98,7 +98,7 @@ read-returns-in_ok-expect-in-Named-clause-spelled t c =
     let x = layout_of c.deref-in-Named.result.now in
     let kind : layout_of c.args.schema.now ≡ named (string_bytes n) x = rw (c.in-Named.is, c.deref-in-Named.ensures) (search (rules, schemas.the_lemmas)) in
     let name : c.take_word.result.now ≡ string_bytes n = same_words c.take_word.result.now c.as_bytes.result.now c.ne.result c.ne.ensures c.if-ne.false ∙ c.as_bytes.ensures.value in
-    let word = word_more (string_bytes n) a c.skip_blanks.new.rest.now c.take_word.new.rest.now c.skip_blanks.ensures (rw name at c.take_word.ensures) in
+    let word = word_more (string_bytes n) a c.skip_blanks.new.rest.now c.take_word.new.rest.now c.skip_blanks.ensures (rw name at c.take_word.ensures.taken) in
     rw kind (IfOk-weaker c.read.result (λ v. TakesPhrase (SpellsTree x (tree v)) c.expect.new.rest.now d) (λ v. TakesPhrase (SpellsTree (named (string_bytes n) x) (tree v)) a d)
     (λ v h. takes_two (IsWord (string_bytes n)) (Then (IsSign 58) (SpellsTree x (tree v))) a c.take_word.new.rest.now d word
     (takes_two (IsSign 58) (SpellsTree x (tree v)) c.take_word.new.rest.now c.expect.new.rest.now d c.in_ok-expect-in-Named.ensures h)) c.read.ensures.spelled)
@@ -181,7 +181,7 @@ pub read_option-returns-then-eq-clause-spelled : goal.read_option-returns-then-e
 read_option-returns-then-eq-clause-spelled t c =
     let word : c.take_word-word.result.now ≡ codes "None" = (slice_eq-Decides Decides-eqb _ _ _ c.eq.ensures).0 c.if-eq.true ∙ c.as_slice.ensures in
     let seen : tree Absent ≡ nodes.Absent = search (rules, the_lemmas) in
-    rw seen (word_more (codes "None") c.args.rest.now.now c.skip_blanks.new.rest.now c.take_word-word.new.rest.now c.skip_blanks.ensures (rw word at c.take_word-word.ensures))
+    rw seen (word_more (codes "None") c.args.rest.now.now c.skip_blanks.new.rest.now c.take_word-word.new.rest.now c.skip_blanks.ensures (rw word at c.take_word-word.ensures.taken))
 
 pub read_option-returns-in-Ok-clause-spelled : goal.read_option-returns-in-Ok-clause-spelled
 read_option-returns-in-Ok-clause-spelled t c =
@@ -191,7 +191,7 @@ read_option-returns-in-Ok-clause-spelled t c =
     let held : c.in-Ok.held.value ≡ v = c.in-Ok.ensures.ok in
     let seen : tree (Present c.in-Ok.held) ≡ nodes.Present (tree v) = rw (← held) (search (rules, the_lemmas)) in
     rw seen (takes_two (IsWord (codes "Some")) (Then (IsSign 40) (Then P (IsSign 41))) c.args.rest.now.now c.take_word-word.new.rest.now c.expect-2.new.rest.now
-    (word_more (codes "Some") c.args.rest.now.now c.skip_blanks.new.rest.now c.take_word-word.new.rest.now c.skip_blanks.ensures (rw word at c.take_word-word.ensures))
+    (word_more (codes "Some") c.args.rest.now.now c.skip_blanks.new.rest.now c.take_word-word.new.rest.now c.skip_blanks.ensures (rw word at c.take_word-word.ensures.taken))
     (in_parentheses P c.take_word-word.new.rest.now c.expect.new.rest.now c.read.new.rest.now c.expect-2.new.rest.now c.in_ok-expect.ensures c.in_ok-value.ensures.spelled c.in_ok-expect-2.ensures))
 
 pub read_parts-returns-clause-spelled : goal.read_parts-returns-clause-spelled
@@ -221,7 +221,7 @@ read_variant-returns-in-Ok-new-clause-spelled t c =
     let seen : tree (Variant n c.in-Ok-new.held) ≡ nodes.Variant n (tree v) = rw (← held) (search (rules, the_lemmas)) in
     let a = c.args.rest.now.now in let d = c.read_content.new.rest.now in
     let x = layout_of c.deref-2.result.now in
-    let word = word_more (string_bytes c.in-Some-Named.field-0-0) a c.skip_blanks.new.rest.now c.take_word.new.rest.now c.skip_blanks.ensures (rw (← name) at c.take_word.ensures) in
+    let word = word_more (string_bytes c.in-Some-Named.field-0-0) a c.skip_blanks.new.rest.now c.take_word.new.rest.now c.skip_blanks.ensures (rw (← name) at c.take_word.ensures.taken) in
     let two = takes_two (IsWord (string_bytes c.in-Some-Named.field-0-0)) (SpellsContent x (SpellsTree x) (tree v)) a c.take_word.new.rest.now d word c.in_ok-content.ensures.spelled in
     let here : SpellsAt (layouts_of xs) i ≡ SpellsVariant (named (string_bytes c.in-Some-Named.field-0-0) x) = spells_at xs i s low c.in-Some-Named.ensures.lookup.1 ∙ ap SpellsVariant kind in
     rw (← c.deref.ensures.value, seen, same) (subst (λ S. TakesPhrase (S (tree v)) a d) (sym here) two)

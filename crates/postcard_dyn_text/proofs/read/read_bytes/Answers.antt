@@ -10,4 +10,4 @@ returns-in_ok-held-in-Some-clause-spelled c =
     let word = c.take_word.result.now in
     let digits = c.in-Some.digits in
     let is = strip_prefix_is Decides-eqb word (48 ∷ 120 ∷ []) (Some digits) c.in-Some.ensures.cases in
-    bytes_take c.in_ok-held-in-Some.held.items digits.now word c.args.rest.now.now c.take_word.new.rest.now c.take_word.ensures is c.in_ok-held-in-Some.ensures.held
+    bytes_take c.in_ok-held-in-Some.held.items digits.now word c.args.rest.now.now c.take_word.new.rest.now c.take_word.ensures.taken is c.in_ok-held-in-Some.ensures.held

@@ -1,0 +1,198 @@
+-- The first byte of a type, a variant and a field, after blanks.
+use Rattle.std.proofs.Common.{◌≡◌, ℕ, zero, suc, ◌<◌, nat_eq, Bool, true, false, Decides, ◌||◌, List, [], ◌∷◌, ◌++◌, length, Some, Option, codes, bytes_eq, string_bytes, refl, sym, ap, subst, ◌∙◌, true≢false, arith, inl, inr}
+use Rattle.std.specs.Prelude.{slice_index, if◌then◌else◌}
+use Rattle.std.specs.Str.{IsTrimAsciiStart}
+use Rattle.std.specs.Char.{is_ascii_lowercase, is_ascii_uppercase, is_ascii_whitespace}
+use Rattle.postcard_dyn_schema.specs.declared.schema.Schema.{Schema}
+use Rattle.postcard_dyn_schema.specs.declared.schema.Leaf.{Leaf}
+use Rattle.postcard_dyn_schema.specs.declared.schema.Leaf.TheVariants.{U8, U16, U32, U64, U128, I8, I16, I32, I64, I128, Char, Str, Bytes}
+use Rattle.postcard_dyn_schema.specs.declared.schema.Leaf.TheVariants as leaves
+use Rattle.postcard_dyn_schema.specs.Meaning.{MessageType, option, type_of, IsNameOf}
+use Rattle.postcard_dyn_schema.specs.Text.{unblank, Then, TakesPhrase, IsSign, IsWord}
+use Rattle.postcard_dyn_schema.specs.Grammar.{Separated, IsField, IsPlain, IsOptions, IsVariantText, IsLead, IsEnumText, IsType}
+use Rattle.postcard_dyn_schema.specs.Fronts.{Starts, starts_enum}
+use Rattle.postcard_dyn_schema.specs.FrontLemmas.{trim_is, sign_unblank, word_unblank, takes_split, same_first, not_empty}
+use Rattle.postcard_dyn_schema.proofs.TypeOf.{type_of_option}
+
+-- The first byte of a word.
+pub word_head : (w a r : List ℕ) → 0 < length w → TakesPhrase (IsWord w) a r → (t : List ℕ) × (unblank a ≡ slice_index w 0 ∷ t)
+word_head [] a r filled h = absurd (omega (arith, filled))
+word_head (x ∷ w) a r filled h = (w ++ r, word_unblank x w a r h)
+
+-- The names of types begin with small letters.
+pub leaf_head : (w : List ℕ) (l : Leaf) → IsNameOf w l → (x : ℕ) × (t : List ℕ) × (w ≡ x ∷ t) × (is_ascii_lowercase x ≡ true)
+leaf_head w leaves.Bool h = (98, codes "ool", h, refl)
+leaf_head w U8 h = (117, codes "8", h, refl)
+leaf_head w U16 h = (117, codes "16", h, refl)
+leaf_head w U32 h = (117, codes "32", h, refl)
+leaf_head w U64 (inl h) = (117, codes "64", h, refl)
+leaf_head w U64 (inr h) = (117, codes "size", h, refl)
+leaf_head w U128 h = (117, codes "128", h, refl)
+leaf_head w I8 h = (105, codes "8", h, refl)
+leaf_head w I16 h = (105, codes "16", h, refl)
+leaf_head w I32 h = (105, codes "32", h, refl)
+leaf_head w I64 (inl h) = (105, codes "64", h, refl)
+leaf_head w I64 (inr h) = (105, codes "size", h, refl)
+leaf_head w I128 h = (105, codes "128", h, refl)
+leaf_head w Char h = (99, codes "har", h, refl)
+leaf_head w Str h = (115, codes "tr", h, refl)
+leaf_head w Bytes h = (98, codes "ytes", h, refl)
+
+-- The type that a word names, if it names one.
+abbrev leaf_named : List ℕ → Option Leaf
+leaf_named w =
+    if bytes_eq w (codes "bool") then Some leaves.Bool else
+    (if bytes_eq w (codes "u8") then Some U8 else
+    (if bytes_eq w (codes "u16") then Some U16 else
+    (if bytes_eq w (codes "u32") then Some U32 else
+    (if bytes_eq w (codes "u64") then Some U64 else
+    (if bytes_eq w (codes "usize") then Some U64 else
+    (if bytes_eq w (codes "u128") then Some U128 else
+    (if bytes_eq w (codes "i8") then Some I8 else
+    (if bytes_eq w (codes "i16") then Some I16 else
+    (if bytes_eq w (codes "i32") then Some I32 else
+    (if bytes_eq w (codes "i64") then Some I64 else
+    (if bytes_eq w (codes "isize") then Some I64 else
+    (if bytes_eq w (codes "i128") then Some I128 else
+    (if bytes_eq w (codes "char") then Some Char else
+    (if bytes_eq w (codes "str") then Some Str else Some Bytes))))))))))))))
+
+named_is : (w : List ℕ) (l : Leaf) → IsNameOf w l → leaf_named w ≡ Some l
+named_is w leaves.Bool h = ap leaf_named h
+named_is w U8 h = ap leaf_named h
+named_is w U16 h = ap leaf_named h
+named_is w U32 h = ap leaf_named h
+named_is w U64 (inl h) = ap leaf_named h
+named_is w U64 (inr h) = ap leaf_named h
+named_is w U128 h = ap leaf_named h
+named_is w I8 h = ap leaf_named h
+named_is w I16 h = ap leaf_named h
+named_is w I32 h = ap leaf_named h
+named_is w I64 (inl h) = ap leaf_named h
+named_is w I64 (inr h) = ap leaf_named h
+named_is w I128 h = ap leaf_named h
+named_is w Char h = ap leaf_named h
+named_is w Str h = ap leaf_named h
+named_is w Bytes h = ap leaf_named h
+
+-- A word names at most one type.
+pub one_leaf : (w : List ℕ) (l m : Leaf) → IsNameOf w l → IsNameOf w m → l ≡ m
+one_leaf w l m h k = let e : Some l ≡ Some m = sym (named_is w l h) ∙ named_is w m k in cc
+
+or_left : (x y : Bool) → x ≡ true → x || y ≡ true
+or_left x y e = rw e refl
+
+-- The first byte of a type that is no enum.
+abbrev pub starts_plain : ℕ → Bool
+starts_plain x = is_ascii_lowercase x || (nat_eq x 91 || (nat_eq x 40 || nat_eq x 123))
+
+pub plain_head : (T : Schema → List ℕ → Type 0) (s : Schema) (a r : List ℕ) → TakesPhrase (IsPlain T s) a r → Starts starts_plain a
+plain_head T s a r (front, inl (l, w, is, named, word), whole) =
+    let head = leaf_head w l named in
+    (head.0, head.1 ++ r, word_unblank head.0 head.1 a r (front, subst (λ z. IsWord z front) head.2 word, whole), or_left (is_ascii_lowercase head.0) _ head.3)
+plain_head T s a r (front, inr (inl h), whole) = let k = takes_split _ _ a r (front, h, whole) in (91, k.0, sign_unblank 91 a k.0 refl k.1, refl)
+plain_head T s a r (front, inr (inr (inl h)), whole) = let k = takes_split _ _ a r (front, h, whole) in (40, k.0, sign_unblank 40 a k.0 refl k.1, refl)
+plain_head T s a r (front, inr (inr (inr h)), whole) = let k = takes_split _ _ a r (front, h, whole) in (123, k.0, sign_unblank 123 a k.0 refl k.1, refl)
+
+pub variant_head : (T : Schema → List ℕ → Type 0) (s : Schema) (a r : List ℕ) → TakesPhrase (IsVariantText T s) a r → Starts is_ascii_uppercase a
+variant_head T s a r (front, (n, b, is, filled, letter, h), whole) =
+    let k = takes_split _ _ a r (front, h, whole) in
+    let head = word_head (string_bytes n) a k.0 filled k.1 in
+    (slice_index (string_bytes n) 0, head.0, head.1, letter)
+
+pub field_head : (T : Schema → List ℕ → Type 0) (s : Schema) (a r : List ℕ) → TakesPhrase (IsField T s) a r
+    → (w t : List ℕ) × (m : List ℕ) × (0 < length w) × TakesPhrase (IsWord w) a m × (unblank a ≡ slice_index w 0 ∷ t)
+field_head T s a r (front, (n, b, is, filled, letter, h), whole) =
+    let k = takes_split _ _ a r (front, h, whole) in
+    let head = word_head (string_bytes n) a k.0 filled k.1 in
+    (string_bytes n, head.0, k.0, filled, k.1, head.1)
+
+-- What follows the first of types in a row: nothing, or the sign and the others.
+abbrev pub After : (Schema → List ℕ → Type 0) → ℕ → List Schema → List ℕ → List ℕ → Type 0
+After P sign [] m r = m ≡ r
+After P sign (u ∷ us) m r = (k : List ℕ) × TakesPhrase (IsSign sign) m k × TakesPhrase (Separated P sign (u ∷ us)) k r
+
+pub separated_first : (P : Schema → List ℕ → Type 0) (sign : ℕ) (ss : List Schema) (a r : List ℕ) → TakesPhrase (Separated P sign ss) a r
+    → (x : Schema) × (more : List Schema) × (m : List ℕ) × (ss ≡ x ∷ more) × TakesPhrase (P x) a m × After P sign more m r
+separated_first P sign [] a r (front, none, whole) = absurd none
+separated_first P sign (x ∷ []) a r h = (x, [], r, refl, h, refl)
+separated_first P sign (x ∷ u ∷ us) a r h =
+    let first = takes_split (P x) (Then (IsSign sign) (Separated P sign (u ∷ us))) a r h in
+    let second = takes_split (IsSign sign) (Separated P sign (u ∷ us)) first.0 r first.2 in
+    (x, u ∷ us, first.0, refl, first.1, (second.0, second.1, second.2))
+
+or_right : (x y : Bool) → y ≡ true → x || y ≡ true
+or_right true y e = refl
+or_right false y e = e
+
+pub enum_head : (T : Schema → List ℕ → Type 0) (s : Schema) (a r : List ℕ) → TakesPhrase (IsEnumText T s) a r → Starts starts_enum a
+enum_head T s a r (front, (v, is, differ, h), whole) = by_lead (takes_split _ _ a r (front, h, whole))
+  where
+    by_lead : (b : List ℕ) × TakesPhrase (λ t. IsLead (length v.items) t) a b × TakesPhrase (Separated (IsVariantText T) 124 v.items) b r → Starts starts_enum a
+    by_lead (b, (f, inl sign, e), row) = (124, b, sign_unblank 124 a b refl (f, sign, e), refl)
+    by_lead (b, (f, inr (many, none), e), row) =
+        let first = separated_first (IsVariantText T) 124 v.items b r row in
+        let head = variant_head T first.0 b first.2 first.4 in
+        let same : a ≡ b = e ∙ ap (λ t. t ++ b) none in
+        (head.0, head.1, ap unblank same ∙ head.2, or_right (nat_eq head.0 124) (is_ascii_uppercase head.0) head.3)
+
+-- A type in n options.
+abbrev pub in_options : ℕ → MessageType → MessageType
+in_options zero t = t
+in_options (suc n) t = in_options n (option t)
+
+in_option : (n : ℕ) (t : MessageType) → option (in_options n t) ≡ in_options (suc n) t
+in_option zero t = refl
+in_option (suc n) t = in_option n (option t)
+
+-- The sign n times in a row.
+abbrev pub Signs : ℕ → ℕ → List ℕ → List ℕ → Type 0
+Signs sign zero a r = a ≡ r
+Signs sign (suc n) a r = (m : List ℕ) × TakesPhrase (IsSign sign) a m × Signs sign n m r
+
+signs_more : (sign n : ℕ) (a b r : List ℕ) → Signs sign n a b → TakesPhrase (IsSign sign) b r → Signs sign (suc n) a r
+signs_more sign zero a b r e h = (r, rw e h, refl)
+signs_more sign (suc n) a b r (m, first, more) h = (m, first, signs_more sign n m b r more h)
+
+-- Options are the type without `?`, and then each `?`.
+pub options_split : (P : Schema → List ℕ → Type 0) (n : ℕ) (s : Schema) (a r : List ℕ) → TakesPhrase (IsOptions n P s) a r
+    → (x : Schema) × (m : List ℕ) × TakesPhrase (P x) a m × (type_of s ≡ in_options n (type_of x)) × Signs 63 n m r
+options_split P zero s a r h = (s, r, h, refl, refl)
+options_split P (suc n) s a r (front, (b, is, h), whole) =
+    let k = takes_split (IsOptions n P b.value) (IsSign 63) a r (front, h, whole) in
+    let inside = options_split P n b.value a k.0 k.1 in (
+      inside.0,
+      inside.1,
+      inside.2,
+      ap type_of is ∙ type_of_option b ∙ ap option inside.3 ∙ in_option n (type_of inside.0),
+      signs_more 63 n inside.1 k.0 r inside.4 k.2,
+    )
+
+-- The first byte of a type.
+abbrev pub starts_type : ℕ → Bool
+starts_type x = starts_plain x || starts_enum x
+
+pub type_head : (d : ℕ) (s : Schema) (a r : List ℕ) → TakesPhrase (IsType d s) a r → Starts starts_type a
+unfolding IsType
+type_head zero s a r (front, none, whole) = absurd none
+type_head (suc d) s a r (front, inl h, whole) =
+    let head = enum_head (IsType d) s a r (front, h, whole) in (head.0, head.1, head.2, or_right (starts_plain head.0) (starts_enum head.0) head.3)
+type_head (suc d) s a r (front, inr (n, few, h), whole) =
+    let split = options_split (IsPlain (IsType d)) n s a r (front, h, whole) in
+    let head = plain_head (IsType d) split.0 a split.1 split.2 in
+    (head.0, head.1, head.2, or_left (starts_plain head.0) (starts_enum head.0) head.3)
+
+-- What begins with a byte that passes begins with no sign that doesn't.
+pub starts_not_by : (passes : ℕ → Bool) (sign : ℕ) (a r : List ℕ) → is_ascii_whitespace sign ≡ false → passes sign ≡ false → Starts passes a → TakesPhrase (IsSign sign) a r → ⊥
+starts_not_by passes sign a r black none (x, t, e, pass) h =
+    let same = same_first (sym e ∙ sign_unblank sign a r black h) in
+    true≢false (sym pass ∙ ap passes same ∙ none)
+
+-- Whether an enum is next, by the first byte of the trimmed text.
+pub enum_if : (text trimmed : List ℕ) (first : ℕ) (after : List ℕ) (r : Bool) → IsTrimAsciiStart text trimmed → trimmed ≡ first ∷ after → r ≡ starts_enum first → Decides r (Starts starts_enum text)
+enum_if text trimmed first after r trim whole is =
+    let here = sym (trim_is text trimmed trim) ∙ whole in
+    (λ e. (first, after, here, sym is ∙ e), λ (x, t, e, pass). is ∙ ap starts_enum (same_first (sym here ∙ e)) ∙ pass)
+
+pub enum_unless : (text trimmed : List ℕ) → IsTrimAsciiStart text trimmed → trimmed ≡ [] → Decides false (Starts starts_enum text)
+enum_unless text trimmed trim none = (λ e. absurd (true≢false (sym e)), λ (x, t, e, pass). absurd (not_empty (sym none ∙ trim_is text trimmed trim ∙ e)))
