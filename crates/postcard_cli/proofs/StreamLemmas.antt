@@ -1,8 +1,8 @@
 -- Lemmas on the lines of a stream's answers, piece by piece and read by read.
-use Rattle.std.proofs.Common.{◌≡◌, ℕ, ◌≤◌, List, [], ◌∷◌, ◌++◌, length, arith, Option, refl, sym, ap, subst, ◌∙◌}
+use Rattle.std.proofs.Common.{◌≡◌, ℕ, ◌+◌, ◌<◌, ◌≤◌, length-append, List, [], ◌∷◌, ◌++◌, length, arith, Option, refl, sym, ap, subst, ◌∙◌}
 use Rattle.std.specs.Fmt.{◌++?◌}
-use Rattle.std.specs.Io.KnownBytes.{Consumes}
-use Rattle.std.proofs.KnownBytes.{Appends-nil, Consumes-nil, Consumes-trans}
+use Rattle.std.specs.Io.KnownBytes.{Consumes, IsAtEnd, Keeps}
+use Rattle.std.proofs.KnownBytes.{Appends-nil, Consumes-nil, Consumes-trans, Consumes-kept}
 use Rattle.std.proofs.lemmas.List.{append-nil}
 use Rattle.std.proofs.Output.{then_text_assoc}
 use Rattle.postcard_accumulator.proofs.Joining.{joined_law}
@@ -17,7 +17,7 @@ use Rattle.postcard_dyn_schema.specs.declared.schema.Schema.{Schema}
 use Rattle.postcard_dyn_schema.specs.Meaning.{type_of}
 use Rattle.postcard_dyn.specs.Shape.{shape_of}
 use Rattle.postcard_dyn.specs.declared.value.Value.{Value}
-use Rattle.postcard_cli.specs.Stream.{value_line, value_lines, PrintsLines, PrintsPiece, PrintsValues}
+use Rattle.postcard_cli.specs.Stream.{value_line, value_lines, PrintsLines, PrintsPiece, PrintsSoFar, PrintsValues}
 use Rattle.postcard_cli.specs.Message.{Prints}
 use Rattle.postcard_dyn_text.proofs.Joined.{none_after, none_before}
 use Rattle.postcard_cli.proofs.MessageLemmas.{prints_both}
@@ -73,37 +73,66 @@ fed_all s c piece k w old new e f =
 pub one_line : (s : Schema) (a : Answer Value) (old new : Option (List ℕ)) → Prints (value_line s a) old new → PrintsLines s (a ∷ []) old new
 one_line s a old new p = subst (λ (o : Option (List ℕ)). Prints o old new) (sym (none_after (value_line s a))) p
 
--- The state between reads: the lines of the answers to the bytes read so far are printed.
-pub record Read (schema : Schema) (known left : Option (List ℕ)) (after : State) (old new : Option (List ℕ)) : Type 0 where
+-- The state after so many reads: the lines of the answers to the bytes read so far are printed.
+pub record Read (reads : ℕ) (schema : Schema) (known left : Option (List ℕ)) (after : State) (old new : Option (List ℕ)) : Type 0 where
   pub given : List ℕ
-  pub reader : Consumes known left given
-  pub lines : PrintsPiece schema (holding []) given after old new
+  pub count : reads ≤ length given
+  pub so_far : PrintsSoFar schema given known left old new
+  pub after_is : so_far.after ≡ after
 
-pub none_read : (s : Schema) (known held : Option (List ℕ)) → Read s known known (holding []) held held
+pub none_read : (s : Schema) (known held : Option (List ℕ)) → Read 0 s known known (holding []) held held
 none_read s known held = record {
   given = [];
-  reader = Consumes-nil known;
-  lines = fed_all s (holding []) [] (holding []) [] held held refl (fed_start s (holding []) [] held tt (omega arith));
+  count = omega arith;
+  so_far = record {
+    after = holding [];
+    reader = Consumes-nil known;
+    lines = fed_all s (holding []) [] (holding []) [] held held refl (fed_start s (holding []) [] held tt (omega arith));
+  };
+  after_is = refl;
 }
 
-pub one_read : (s : Schema) (known now left : Option (List ℕ)) (c k : State) (old mid new : Option (List ℕ)) (piece : List ℕ)
-    → Read s known now c old mid → Consumes now left piece → PrintsPiece s c piece k mid new → Read s known left k old new
-one_read s known now left c k old mid new piece f took p = record {
-  given = f.given ++ piece;
-  reader = Consumes-trans known now left f.given piece f.reader took;
-  lines = record {
-    answers = f.lines.answers ++ p.answers;
-    are = joined_law (shape_of (type_of s)) 64 (holding []) c k f.given piece f.lines.answers p.answers f.lines.are p.are;
-    printed = prints_more s f.lines.answers p.answers old mid new f.lines.printed p.printed;
-  };
+pub one_read : (s : Schema) (n : ℕ) (known now left : Option (List ℕ)) (c k : State) (old mid new : Option (List ℕ)) (piece : List ℕ)
+    → Read n s known now c old mid → Consumes now left piece → 0 < length piece → PrintsPiece s c piece k mid new → Read (n + 1) s known left k old new
+one_read s n known now left c k old mid new piece f took some p =
+    let q = subst (λ (x : State). PrintsPiece s x piece k mid new) (sym f.after_is) p in
+    record {
+      given = f.given ++ piece;
+      count = (let l = length-append f.given piece in let m = f.count in omega arith);
+      so_far = record {
+        after = k;
+        reader = Consumes-trans known now left f.given piece f.so_far.reader took;
+        lines = record {
+          answers = f.so_far.lines.answers ++ q.answers;
+          are = joined_law (shape_of (type_of s)) 64 (holding []) f.so_far.after k f.given piece f.so_far.lines.answers q.answers f.so_far.lines.are q.are;
+          printed = prints_more s f.so_far.lines.answers q.answers old mid new f.so_far.lines.printed q.printed;
+        };
+      };
+      after_is = refl;
+    }
+
+-- A read that gives nothing changes nothing.
+read_none : (s : Schema) (given : List ℕ) (known now left old new : Option (List ℕ)) → PrintsSoFar s given known now old new → Consumes now left [] → PrintsSoFar s given known left old new
+read_none s given known now left old new f none = record {
+  after = f.after;
+  reader = subst (λ (x : List ℕ). Consumes known left x) (append-nil given) (Consumes-trans known now left given [] f.reader none);
+  lines = f.lines;
 }
 
 -- At the end of the input, the lines of all that was read are printed.
-pub all_read : (s : Schema) (known now left : Option (List ℕ)) (c : State) (old new : Option (List ℕ))
-    → Read s known now c old new → Consumes now left [] → PrintsValues s known left old new
-all_read s known now left c old new f none = record {
+pub all_read : (s : Schema) (n : ℕ) (known now left : Option (List ℕ)) (c : State) (old new : Option (List ℕ))
+    → Read n s known now c old new → Consumes now left [] → IsAtEnd left → PrintsValues s known left old new
+all_read s n known now left c old new f none at_end = record {
   given = f.given;
-  after = c;
-  reader = subst (λ (x : List ℕ). Consumes known left x) (append-nil f.given) (Consumes-trans known now left f.given [] f.reader none);
+  all = read_none s f.given known now left old new f.so_far none;
+  at_end = at_end;
+}
+
+-- A read that fails takes nothing.
+pub failed_read : (s : Schema) (given : List ℕ) (known now left old new : Option (List ℕ)) → PrintsSoFar s given known now old new → Keeps now left
+    → PrintsSoFar s given known left old new
+failed_read s given known now left old new f same = record {
+  after = f.after;
+  reader = Consumes-kept known now left given f.reader same;
   lines = f.lines;
 }

@@ -2,7 +2,7 @@
 -- an expression.
 use Rattle.std.specs.Prelude.{ℕ, List, [], ◌∷◌, ◌++◌, codes, Option, Some}
 use Rattle.std.specs.Fmt.{◌++?◌}
-use Rattle.std.specs.Io.KnownBytes.{Consumes}
+use Rattle.std.specs.Io.KnownBytes.{Consumes, IsAtEnd}
 use Rattle.postcard_accumulator.specs.State.{State, holding}
 use Rattle.postcard_accumulator.specs.Streams.{Answers}
 use Rattle.postcard_accumulator.specs.declared.answers.Answer.{Answer}
@@ -36,10 +36,15 @@ pub record PrintsPiece (schema : Schema) (before : State) (piece : List ℕ) (af
   pub are : Answers 64 (shape_of (type_of schema)) before piece answers after
   pub printed : PrintsLines schema answers old new
 
--- The answers to the bytes that were read, where frames have at most 64 bytes, are those whose
--- lines are printed.
-pub record PrintsValues (schema : Schema) (known left old new : Option (List ℕ)) : Type 0 where
-  pub given : List ℕ
+-- The bytes `given` were read, and the lines of the answers to them are printed, where frames have at
+-- most 64 bytes.
+pub record PrintsSoFar (schema : Schema) (given : List ℕ) (known left old new : Option (List ℕ)) : Type 0 where
   pub after : State
   pub reader : Consumes known left given
   pub lines : PrintsPiece schema (holding []) given after old new
+
+-- All of the input was read, and the lines of the answers to it are printed.
+pub record PrintsValues (schema : Schema) (known left old new : Option (List ℕ)) : Type 0 where
+  pub given : List ℕ
+  pub all : PrintsSoFar schema given known left old new
+  pub at_end : IsAtEnd left

@@ -1,11 +1,12 @@
 //! Reading and writing bytes as hexadecimal digits, two for each byte, the high one first.
 
-ghost use Rattle.std.specs.Prelude.{◌≡◌, ◌≢◌, ◌≤◌, ◌⊎◌, length, IfOk, IfErr, OnOk, IsErr};
+ghost use Rattle.std.specs.Prelude.{◌≡◌, ◌≤◌, ◌⊎◌, length, IfOk, IfErr, OnOk, IsErr};
 ghost use Rattle.std.specs.Io.KnownBytes.{Appends, Consumes, IsAtEnd};
 ghost use Rattle.hex.specs.Hex.{decode_of, encode_lower};
 ghost use Rattle.postcard_wire.specs.declared.error.Error.TheVariants.{OutOfMemory};
 ghost use Rattle.postcard_cli.specs.Hexadecimal.{words_of, AreBytesOf, HasBadWord};
 ghost use Rattle.postcard_cli.specs.Message.{StandsFor};
+ghost use Rattle.postcard_cli.specs.Refusal.{HexFails, InputFails};
 
 use crate::failure::Failure;
 use crate::frames::READS;
@@ -57,7 +58,8 @@ pub fn read(alloc: Global, text: &str) -> Result<Vec<u8>, Failure>
 pub fn read_loose<R: Source>(alloc: Global, text: &str, input: &mut R) -> Result<Vec<u8>, Failure>
     ensures value { IfOk result (λ bytes. StandsFor text.now (R.remaining input.old)
         (R.remaining input.new) bytes.items) }
-    ensures refused { IfErr result (λ e. e ≢ Failure.Usage) }
+    ensures refused { IfErr result (HexFails READS (R.steady input.old) text.now
+        (R.remaining input.old) (R.remaining input.new)) }
 {
     if text != "-" {
         return read_words(alloc, text);
@@ -74,7 +76,6 @@ fn read_words(alloc: Global, text: &str) -> Result<Vec<u8>, Failure>
     ensures value { IfOk result (λ bytes. AreBytesOf (words_of text.now) bytes.items) }
     ensures refused { IfErr result (λ e. ((e ≡ Failure.BadHex) × HasBadWord (words_of text.now))
         ⊎ (e ≡ Failure.Library OutOfMemory)) }
-    ensures no_usage { IfErr result (λ e. e ≢ Failure.Usage) }
 {
     let mut bytes = Vec::new(alloc);
     for word in text.split_ascii_whitespace() {
@@ -91,7 +92,8 @@ fn read_words(alloc: Global, text: &str) -> Result<Vec<u8>, Failure>
 fn read_input<R: Source>(alloc: Global, input: &mut R) -> Result<Vec<u8>, Failure>
     ensures all { IfOk result (λ held. Consumes (R.remaining input.old) (R.remaining input.new)
         held.items × IsAtEnd (R.remaining input.new)) }
-    ensures refused { IfErr result (λ e. e ≢ Failure.Usage) }
+    ensures refused { IfErr result (InputFails READS (R.steady input.old)
+        (R.remaining input.old) (R.remaining input.new)) }
 {
     let mut held = Vec::new(alloc);
     let mut chunk = [0; PIECE];

@@ -1,12 +1,13 @@
 //! The command `frames TYPE`, which prints the values of a stream of frames, each on a line.
 
-ghost use Rattle.std.specs.Prelude.{◌≡◌, ◌≢◌, IfOk, IfErr, OnOk};
+ghost use Rattle.std.specs.Prelude.{◌≡◌, ◌⊎◌, IfOk, IfErr, OnOk};
 ghost use Rattle.postcard_accumulator.specs.Feeding.{IsFed, IsReadOf};
 ghost use Rattle.postcard_accumulator.specs.Streams.{answers_of, left_of};
 ghost use Rattle.postcard_dyn_schema.specs.Grammar.{IsExpression};
 ghost use Rattle.postcard_dyn_schema.specs.Meaning.{type_of};
 ghost use Rattle.postcard_dyn_schema.specs.declared.schema.Schema.{Schema};
 ghost use Rattle.postcard_dyn.specs.Shape.{shape_of};
+ghost use Rattle.postcard_cli.specs.Refusal.{StreamFails};
 ghost use Rattle.postcard_cli.specs.Stream.{PrintsLines, PrintsPiece, PrintsValues};
 
 use crate::failure::Failure;
@@ -37,7 +38,9 @@ pub fn print<R: Source, W: Write>(
     ensures printed { OnOk result ((schema : Schema) × IsExpression schema expression.now
         × PrintsValues schema (R.remaining input.old) (R.remaining input.new)
         (W.contents output.old) (W.contents output.new)) }
-    ensures refused { IfErr result (λ e. e ≢ Failure.Usage) }
+    ensures refused { IfErr result (StreamFails (R.steady input.old) expression.now
+        (R.remaining input.old) (R.remaining input.new)
+        (W.contents output.old) (W.contents output.new)) }
 {
     let schema = schema_of(alloc, expression, output)?;
     let mut accumulator = CobsAccumulator::<LONGEST_FRAME>::new();
@@ -65,7 +68,7 @@ fn print_piece<W: Write>(
 ) -> Result<(), Failure>
     ensures printed { OnOk result (PrintsPiece schema.now accumulator.old piece.now
         accumulator.new (W.contents output.old) (W.contents output.new)) }
-    ensures refused { IfErr result (λ e. e ≢ Failure.Usage) }
+    ensures refused { IfErr result (λ e. (e ≡ Failure.OutOfMemory) ⊎ (e ≡ Failure.Output)) }
 {
     accumulator.held_fits();
     let mut rest = piece;
@@ -87,7 +90,7 @@ fn print_answer<'a, W: Write>(
     ensures printed { IfOk result (λ rest. (rest.now ≡ left_of answer.entry)
         × PrintsLines schema.now (answers_of answer.entry)
         (W.contents output.old) (W.contents output.new)) }
-    ensures refused { IfErr result (λ e. e ≢ Failure.Usage) }
+    ensures refused { IfErr result (λ e. e ≡ Failure.Output) }
 {
     match answer {
         FeedResult::Consumed => Ok(&[]),

@@ -65,6 +65,16 @@ fn check_frames(
     check(rt, &["frames"], &mut input, printed, status);
 }
 
+/// Asserts that `frames TYPE` over the bytes of [`SENSORS`], where `reads` reads succeed, prints
+/// `printed` and then that a read failed.
+fn check_failed_read(rt: &(impl Abort + AllocGlobal), reads: usize, printed: &str) {
+    let mut input = Plain::new(Breaking {
+        bytes: &SENSORS,
+        reads_left: reads,
+    });
+    check(rt, &["frames", SENSOR], &mut input, printed, 3);
+}
+
 /// Returns 70 bytes without a zero, a zero, and the frame of a list of one byte.
 fn frame_after_long() -> [u8; 75] {
     let mut bytes = [1; 75];
@@ -79,6 +89,13 @@ fn reads_frames(rt: HostRuntime) {
     for (bytes, reads, printed, status) in STREAMS {
         check_frames(&rt, bytes, reads, printed, status);
     }
+}
+
+#[test]
+fn reports_a_failed_read_of_a_typed_stream(rt: HostRuntime) {
+    check_failed_read(&rt, 0, "read failed\n");
+    let first = "{id: 42, label: \"x\", samples: [1, 2]}\nerror\nread failed\n";
+    check_failed_read(&rt, 1, first);
 }
 
 #[test]
