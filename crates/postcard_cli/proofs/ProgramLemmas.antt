@@ -130,15 +130,21 @@ performs_no_more syntax (DecodeAll expression hex) known left old mid new d none
   printed = prints_no_more _ old mid new d.printed none;
 }
 performs_no_more syntax Frames known left old mid new d none = (d.0, (d.1.0, d.1.1, d.1.2, d.1.3, appends_no_more old mid new _ d.1.4 none), d.2)
-performs_no_more syntax (FramesOf expression) known left old mid new d none = (
+performs_no_more syntax (FramesOf expression longest) known left old mid new d none = (
   d.0,
   d.1,
   record {
     given = d.2.given;
     all = record {
-      after = d.2.all.after;
       reader = d.2.all.reader;
-      lines = record { answers = d.2.all.lines.answers; are = d.2.all.lines.are; printed = prints_no_more _ old mid new d.2.all.lines.printed none };
+      lines = record {
+        answered = d.2.all.lines.answered;
+        rest = d.2.all.lines.rest;
+        cut = d.2.all.lines.cut;
+        are = d.2.all.lines.are;
+        rest_no_zero = d.2.all.lines.rest_no_zero;
+        printed = prints_no_more _ old mid new d.2.all.lines.printed none;
+      };
     };
     at_end = d.2.at_end;
   },

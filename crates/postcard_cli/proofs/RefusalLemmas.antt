@@ -79,7 +79,7 @@ no_usage reads steady (Decode (Named kind) hex) known left old new h = h
 no_usage reads steady (Decode (Expression text) hex) known left old new h = h
 no_usage reads steady (DecodeAll expression hex) known left old new h = h
 no_usage reads steady Frames known left old new h = h
-no_usage reads steady (FramesOf expression) known left old new h = h
+no_usage reads steady (FramesOf expression longest) known left old new h = h
 no_usage reads steady Types known left old new h = cc h
 
 -- A failure of a command is one of each call of it.

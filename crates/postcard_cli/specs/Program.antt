@@ -154,8 +154,8 @@ Performs syntax (Encode kind value) known left old new = PrintsEncode kind value
 Performs syntax (Decode kind hex) known left old new = PrintsDecode kind hex.now known left old new
 Performs syntax (DecodeAll expression hex) known left old new = PrintsAll expression.now hex.now known left old new
 Performs syntax Frames known left old new = PrintsAnswers known left old new
-Performs syntax (FramesOf expression) known left old new =
-    (schema : Schema) × IsExpression schema expression.now × PrintsValues schema known left old new
+Performs syntax (FramesOf expression longest) known left old new =
+    (schema : Schema) × IsExpression schema expression.now × PrintsValues schema longest known left old new
 Performs syntax Types known left old new = Appends old new syntax
 
 -- The words are a call of a command, and what it prints is printed.

@@ -234,17 +234,18 @@ FramesFail steady known left old new failed.OutOfMemory = ⊤
 FramesFail steady known left old new Output = ⊤
 FramesFail steady known left old new failure = ⊥
 
--- The failures of `frames TYPE`.
-abbrev pub StreamFails : Type 0 → List ℕ → Option (List ℕ) → Option (List ℕ) → Option (List ℕ) → Option (List ℕ) → Failure → Type 0
-StreamFails steady expression known left old new BadType = IsTypeRefused expression old new
-StreamFails steady expression known left old new (Library e) = e ≡ OutOfMemory
-StreamFails steady expression known left old new Limit =
-    (schema : Schema) × IsExpression schema expression × ((given : List ℕ) × (65536 ≤ length given) × PrintsSoFar schema given known left old new)
-StreamFails steady expression known left old new ReadFailed =
-    (steady → ⊥) × ((schema : Schema) × IsExpression schema expression × ((given : List ℕ) × PrintsSoFar schema given known left old new))
-StreamFails steady expression known left old new failed.OutOfMemory = IsType expression
-StreamFails steady expression known left old new Output = ⊤
-StreamFails steady expression known left old new failure = ⊥
+-- The failures of `frames TYPE`. The lines of all that was read were printed before a read failed.
+abbrev pub StreamFails : Type 0 → List ℕ → ℕ → Option (List ℕ) → Option (List ℕ) → Option (List ℕ) → Option (List ℕ) → Failure → Type 0
+StreamFails steady expression longest known left old new BadType = IsTypeRefused expression old new
+StreamFails steady expression longest known left old new (Library e) = e ≡ OutOfMemory
+StreamFails steady expression longest known left old new Limit =
+    (schema : Schema) × IsExpression schema expression
+    × ((given : List ℕ) × (2 ^ 64 - 1 ≤ length given) × PrintsSoFar schema longest given known left old new)
+StreamFails steady expression longest known left old new ReadFailed =
+    (steady → ⊥) × ((schema : Schema) × IsExpression schema expression × ((given : List ℕ) × PrintsSoFar schema longest given known left old new))
+StreamFails steady expression longest known left old new failed.OutOfMemory = IsType expression
+StreamFails steady expression longest known left old new Output = ⊤
+StreamFails steady expression longest known left old new failure = ⊥
 
 -- ---- calls
 
@@ -265,7 +266,7 @@ CommandFails reads steady (Encode kind value) known left old new failure = Encod
 CommandFails reads steady (Decode kind hex) known left old new failure = DecodeWordFails reads steady kind hex.now known left old new failure
 CommandFails reads steady (DecodeAll expression hex) known left old new failure = DecodeAllFails reads steady expression.now hex.now known left old new failure
 CommandFails reads steady Frames known left old new failure = FramesFail steady known left old new failure
-CommandFails reads steady (FramesOf expression) known left old new failure = StreamFails steady expression.now known left old new failure
+CommandFails reads steady (FramesOf expression longest) known left old new failure = StreamFails steady expression.now longest known left old new failure
 CommandFails reads steady Types known left old new failure = failure ≡ Output
 
 -- The failures of a call of these words: `Usage` if and only if they are no call, and else one of

@@ -9,14 +9,14 @@ ghost use Rattle.postcard_cli.specs.Message.{StandsFor};
 ghost use Rattle.postcard_cli.specs.Refusal.{HexFails, InputFails};
 
 use crate::failure::Failure;
-use crate::frames::READS;
+use crate::stream::{CHUNK, READS};
 use hex::FromHex;
 use postcard_de_flavors::Source;
 use std::alloc::Global;
 use std::io;
 use std::io::Write;
 
-/// The greatest number of bytes that are read or written at once.
+/// The greatest number of bytes that are written at once.
 const PIECE: usize = 64;
 
 /// Returns the bytes of a text of hexadecimal digits, of either case.
@@ -54,7 +54,7 @@ pub fn read(alloc: Global, text: &str) -> Result<Vec<u8>, Failure>
 ///
 /// Fails with `BadHex` if a word isn't an even number of digits or the input isn't UTF-8, with
 /// `Library(OutOfMemory)` if an allocation fails, with `ReadFailed` if a read of the input fails,
-/// and with `Limit` if the input doesn't end within [`READS`] reads.
+/// and with `Limit` if the input doesn't end within [`READS`] reads, which no input does.
 pub fn read_loose<R: Source>(alloc: Global, text: &str, input: &mut R) -> Result<Vec<u8>, Failure>
     ensures value { IfOk result (λ bytes. StandsFor text.now (R.remaining input.old)
         (R.remaining input.new) bytes.items) }
@@ -96,7 +96,7 @@ fn read_input<R: Source>(alloc: Global, input: &mut R) -> Result<Vec<u8>, Failur
         (R.remaining input.old) (R.remaining input.new)) }
 {
     let mut held = Vec::new(alloc);
-    let mut chunk = [0; PIECE];
+    let mut chunk = [0; CHUNK];
     'reads: for _ in 0..READS {
         let count = match input.read_some(&mut chunk) {
             Ok(count) => count,

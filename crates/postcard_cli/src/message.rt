@@ -9,9 +9,9 @@ ghost use Rattle.postcard_cli.specs.Refusal.{DecodeAllFails, DecodeFails, Encode
 ghost use Rattle.postcard_cli.specs.Refusal.{TypeFails};
 
 use crate::failure::Failure;
-use crate::frames::READS;
 use crate::hexadecimal;
 use crate::program::BUFFER;
+use crate::stream::READS;
 use postcard_de_flavors::Source;
 use postcard_dyn::{Problem, Schema, Value, parse, refused_at, take_from_bytes, to_flavor};
 use postcard_dyn_text::{Shown, TextError, read_text};

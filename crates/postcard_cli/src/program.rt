@@ -30,8 +30,8 @@ ghost use Rattle.postcard_cli.specs.Program.{
 
 use crate::command::{Command, TypeWord, ValueType};
 use crate::failure::Failure;
-use crate::frames::READS;
 use crate::joined::Joined;
+use crate::stream::READS;
 use crate::syntax::SYNTAX;
 use crate::{frames, hexadecimal, message, stream, syntax, value};
 use postcard_de::Deserialize;
@@ -145,7 +145,10 @@ fn carry_out<R: Source, W: Write>(
             message::decode_all(alloc, expression, hex, input, output)
         }
         Command::Frames => frames::print(alloc, input, output),
-        Command::FramesOf { expression } => stream::print(alloc, expression, input, output),
+        Command::FramesOf {
+            expression,
+            longest,
+        } => { stream::print(alloc, expression, longest, input, output) }
         Command::Types => syntax::print(output),
     }
 }
