@@ -1,5 +1,5 @@
 -- Lemmas on what a call prints: under words that say less, and followed by nothing.
-use Rattle.std.proofs.Common.{◌≡◌, ◌≢◌, ◌⊎◌, inl, inr, sym, ◌∙◌, arith, ℕ, List, [], ◌∷◌, ◌++◌, Option, Result, Ok, Err, OnOk, subst}
+use Rattle.std.proofs.Common.{◌≡◌, inl, inr, sym, ◌∙◌, arith, ℕ, List, [], ◌∷◌, ◌++◌, Option, Result, Ok, Err, OnOk, subst}
 use Rattle.std.specs.Io.KnownBytes.{Appends}
 use Rattle.std.proofs.KnownBytes.{Appends-trans}
 use Rattle.std.proofs.lemmas.List.{append-nil}
@@ -7,9 +7,10 @@ use Rattle.std.proofs.Output.{if_some_weaken}
 use Rattle.hex.specs.Hex.{encode_lower}
 use Rattle.postcard_shape.specs.Shape.{Shape}
 use Rattle.postcard_cli.specs.Failure.{exit_status, last_line}
-use Rattle.postcard_cli.specs.Program.{Does, Form, form_of, list_of, PrintsCall, PrintsDecode, PrintsDecoded, PrintsEncode, Performs}
+use Rattle.postcard_cli.specs.Program.{Does, Form, form_of, list_of, one_word, PrintsCall, PrintsDecode, PrintsDecoded, PrintsEncode, Performs}
 use Rattle.postcard_cli.specs.Message.{Prints}
-use Rattle.postcard_cli.specs.Value.{parts, SayEach}
+use Rattle.postcard_cli.specs.Refusal.{Converts, DecodingFails, EncodingFails, Reports, TaskFails}
+use Rattle.postcard_cli.specs.Value.{parts, SayEach, SomeSaysNone}
 use Rattle.postcard_cli.specs.declared.program.Task.{Task}
 use Rattle.postcard_cli.specs.declared.program.Task.TheVariants as tasks
 use Rattle.postcard_cli.specs.declared.failure.Failure.{Failure}
@@ -20,16 +21,51 @@ use Rattle.postcard_cli.specs.declared.command.TypeWord.TheVariants.{Named, Expr
 use Rattle.postcard_cli.specs.declared.command.Command.{Command}
 use Rattle.postcard_cli.specs.declared.command.Command.TheVariants.{Encode, Decode, DecodeAll, Frames, FramesOf, Types}
 
--- The values of a type, whose words are those of `says`.
-abbrev spoken : {T : Type 0} → Shape T → (T → Option (List ℕ)) → (List ℕ → T → Type 0) → Form
-spoken {T = T} shape text_of says = record { values = T; shape = shape; says = says; text_of = text_of }
+-- The values of a type, whose words are those of `says`, and which `none` says not to be one.
+abbrev spoken : {T : Type 0} → Shape T → (T → Option (List ℕ)) → (List ℕ → T → Type 0) → (List ℕ → Type 0) → Form
+spoken {T = T} shape text_of says none = record { values = T; shape = shape; says = says; says_none = none; text_of = text_of }
 
--- What is done of a value that a word says is done of it too where the word has to say less.
-pub said : {T : Type 0} (shape : Shape T) (text_of : T → Option (List ℕ)) (p q : List ℕ → T → Type 0) (r : Result (Unit {0}) Failure) (task : Task) (old new : Option (List ℕ))
-    → OnOk r (Does task (spoken shape text_of p) old new) → ((word : List ℕ) (v : T) → p word v → q word v) → OnOk r (Does task (spoken shape text_of q) old new)
-said shape text_of p q (Err e) task old new d less = tt
-said shape text_of p q (Ok done) (tasks.Encode word) old new d less = record { value = d.value; said = less word.now d.value d.said; printed = d.printed }
-said shape text_of p q (Ok done) (tasks.Decode bytes) old new d less = record { value = d.value; rest = d.rest; is = d.is; printed = d.printed }
+module _ {T : Type 0} (shape : Shape T) (text_of : T → Option (List ℕ)) (p q : List ℕ → T → Type 0) (a b : List ℕ → Type 0) (old new : Option (List ℕ))
+    (less : (word : List ℕ) (v : T) → p word v → q word v) (fewer : (word : List ℕ) → a word → b word) where
+  -- What is done of a value that a word says is done of it too where the word has to say less.
+  does_said : (task : Task) → Does task (spoken shape text_of p a) old new → Does task (spoken shape text_of q b) old new
+  does_said (tasks.Encode word) d = record { value = d.value; said = less word.now d.value d.said; printed = d.printed }
+  does_said (tasks.Decode bytes) d = record { value = d.value; rest = d.rest; is = d.is; printed = d.printed }
+
+  -- A failure where a word has to say less.
+  encoding_said : (word : List ℕ) (failure : Failure) → EncodingFails (spoken shape text_of p a) word failure → EncodingFails (spoken shape text_of q b) word failure
+  encoding_said word BadValue h = fewer word h
+  encoding_said word (Library e) (inl memory) = inl memory
+  encoding_said word (Library e) (inr (v, says, long)) = inr (v, less word v says, long)
+  encoding_said word Output h = tt
+  encoding_said word failure h = absurd h
+
+  decoding_said : (bytes : List ℕ) (failure : Failure) → DecodingFails (spoken shape text_of p a) bytes failure → DecodingFails (spoken shape text_of q b) bytes failure
+  decoding_said bytes (Library e) h = h
+  decoding_said bytes Output h = tt
+  decoding_said bytes failure h = absurd h
+
+  fails_said : (task : Task) (failure : Failure) → TaskFails task (spoken shape text_of p a) failure → TaskFails task (spoken shape text_of q b) failure
+  fails_said (tasks.Encode word) failure h = encoding_said word.now failure h
+  fails_said (tasks.Decode bytes) failure h = decoding_said bytes.now failure h
+
+  converts_said : (r : Result (Unit {0}) Failure) (task : Task) → Converts task (spoken shape text_of p a) old new r → Converts task (spoken shape text_of q b) old new r
+  converts_said (Ok done) task d = does_said task d
+  converts_said (Err failure) task h = fails_said task failure h
+
+-- What is done of a task is done of it too where a word has to say less, and to be refused for less.
+pub said : {T : Type 0} (shape : Shape T) (text_of : T → Option (List ℕ)) (p q : List ℕ → T → Type 0) (a b : List ℕ → Type 0) (old new : Option (List ℕ))
+    (r : Result (Unit {0}) Failure) (task : Task) → Converts task (spoken shape text_of p a) old new r → ((word : List ℕ) (v : T) → p word v → q word v)
+    → ((word : List ℕ) → a word → b word) → Converts task (spoken shape text_of q b) old new r
+said shape text_of p q a b old new r task d less fewer = converts_said shape text_of p q a b old new less fewer r task d
+
+-- The same where std's `parse` reads the word, and another relation says less of it.
+pub scalar_said : {T E F : Type 0} (shape : Shape T) (p : List ℕ → Result T E → Type 0) (q : List ℕ → Result T F → Type 0) (text_of : T → Option (List ℕ)) (old new : Option (List ℕ))
+    (r : Result (Unit {0}) Failure) (task : Task) → ((word : List ℕ) (v : T) → p word (Ok v) → q word (Ok v)) → ((word : List ℕ) (e : E) → p word (Err e) → (f : F) × q word (Err f))
+    → Converts task (one_word shape p text_of) old new r → Converts task (one_word shape q text_of) old new r
+scalar_said {T = T} {E = E} {F = F} shape p q text_of old new r task less fewer d =
+    said shape text_of (λ word v. p word (Ok v)) (λ word v. q word (Ok v)) (λ word. (e : E) × p word (Err e)) (λ word. (f : F) × q word (Err f)) old new r task d less
+    (λ word h. fewer word h.0 h.1)
 
 -- The same of lists: what is asked of each word.
 each_said : {T E F : Type 0} (p : List ℕ → Result T E → Type 0) (q : List ℕ → Result T F → Type 0) (words : List (List ℕ)) (vs : List T) → SayEach p words vs
@@ -39,10 +75,12 @@ each_said p q [] (v ∷ vs) h less = h
 each_said p q (word ∷ words) [] h less = h
 each_said p q (word ∷ words) (v ∷ vs) h less = (less word v h.0, each_said p q words vs h.1 less)
 
-pub list_said : {T E F : Type 0} (shape : Shape T) (p : List ℕ → Result T E → Type 0) (q : List ℕ → Result T F → Type 0) (text_of : T → Option (List ℕ)) (r : Result (Unit {0}) Failure)
-    (task : Task) (old new : Option (List ℕ)) → OnOk r (Does task (list_of shape p text_of) old new) → ((word : List ℕ) (v : T) → p word (Ok v) → q word (Ok v))
-    → OnOk r (Does task (list_of shape q text_of) old new)
-list_said shape p q text_of r task old new d less = said _ _ _ _ r task old new d (λ word vs h. each_said p q (parts word) vs h less)
+pub list_said : {T E F : Type 0} (shape : Shape T) (p : List ℕ → Result T E → Type 0) (q : List ℕ → Result T F → Type 0) (text_of : T → Option (List ℕ)) (old new : Option (List ℕ))
+    (r : Result (Unit {0}) Failure) (task : Task) → ((word : List ℕ) (v : T) → p word (Ok v) → q word (Ok v)) → ((word : List ℕ) (e : E) → p word (Err e) → (f : F) × q word (Err f))
+    → Converts task (list_of shape p text_of) old new r → Converts task (list_of shape q text_of) old new r
+list_said {T = T} {E = E} {F = F} shape p q text_of old new r task less fewer d =
+    said _ _ (λ word vs. SayEach p (parts word) vs) (λ word vs. SayEach q (parts word) vs) (λ word. SomeSaysNone p (parts word)) (λ word. SomeSaysNone q (parts word)) old new
+    r task d (λ word vs h. each_said p q (parts word) vs h less) (λ word h. let f = fewer h.1 h.3 h.5 in (h.0, h.1, h.2, f.0, h.4, f.1))
 
 -- A text is appended, and then nothing.
 appends_no_more : (old mid new : Option (List ℕ)) (shown : List ℕ) → Appends old mid shown → Appends mid new [] → Appends old new shown
@@ -91,15 +129,24 @@ performs_no_more syntax (DecodeAll expression hex) known left old mid new d none
   are = d.are;
   printed = prints_no_more _ old mid new d.printed none;
 }
-performs_no_more syntax Frames known left old mid new d none = (d.0, d.1, d.2, d.3, d.4, appends_no_more old mid new _ d.5 none)
-performs_no_more syntax (FramesOf expression) known left old mid new d none = (
+performs_no_more syntax Frames known left old mid new d none = (d.0, (d.1.0, d.1.1, d.1.2, d.1.3, appends_no_more old mid new _ d.1.4 none), d.2)
+performs_no_more syntax (FramesOf expression longest) known left old mid new d none = (
   d.0,
   d.1,
   record {
     given = d.2.given;
-    after = d.2.after;
-    reader = d.2.reader;
-    lines = record { answers = d.2.lines.answers; are = d.2.lines.are; printed = prints_no_more _ old mid new d.2.lines.printed none };
+    all = record {
+      reader = d.2.all.reader;
+      lines = record {
+        answered = d.2.all.lines.answered;
+        rest = d.2.all.lines.rest;
+        cut = d.2.all.lines.cut;
+        are = d.2.all.lines.are;
+        rest_no_zero = d.2.all.lines.rest_no_zero;
+        printed = prints_no_more _ old mid new d.2.all.lines.printed none;
+      };
+    };
+    at_end = d.2.at_end;
   },
 )
 performs_no_more syntax Types known left old mid new d none = appends_no_more old mid new syntax d none
@@ -125,9 +172,8 @@ zero_is_success (Err failed.OutOfMemory) P old new zero h printed = cc zero
 
 -- A call that ends with the status 0 printed what it prints, and nothing after it.
 pub zero_prints : (outcome : Result (Unit {0}) Failure) (status : ℕ) (syntax : List ℕ) (words : List (List ℕ)) (known left old mid new : Option (List ℕ)) → status ≡ 0
-    → (status ≡ 3) ⊎ (status ≡ exit_status outcome) → (status ≢ 3 → Appends mid new (last_line outcome)) → OnOk outcome (PrintsCall syntax words known left old mid)
-    → PrintsCall syntax words known left old new
-zero_prints outcome status syntax words known left old mid new zero (inl three) after d = absurd (omega (arith, zero, three))
-zero_prints outcome status syntax words known left old mid new zero (inr is) after d =
-    let both = zero_is_success outcome (PrintsCall syntax words known left old mid) mid new (sym is ∙ zero) d (after (λ three. omega (arith, zero, three))) in
+    → Reports outcome mid new status → OnOk outcome (PrintsCall syntax words known left old mid) → PrintsCall syntax words known left old new
+zero_prints outcome status syntax words known left old mid new zero (inl three) d = absurd (omega (arith, zero, three))
+zero_prints outcome status syntax words known left old mid new zero (inr (is, after)) d =
+    let both = zero_is_success outcome (PrintsCall syntax words known left old mid) mid new (sym is ∙ zero) d after in
     call_no_more syntax words known left old mid new both.0 both.1

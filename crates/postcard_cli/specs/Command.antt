@@ -1,6 +1,7 @@
 -- Which words are a call, and of which command.
-use Rattle.std.specs.Prelude.{◌≡◌, ℕ, nat_eq, Bool as TruthValue, true, if◌then◌else◌, List, [], ◌∷◌, codes}
+use Rattle.std.specs.Prelude.{◌≡◌, ◌⊎◌, ◌≤◌, ℕ, nat_eq, Bool as TruthValue, true, if◌then◌else◌, List, [], ◌∷◌, codes}
 use Rattle.std.specs.List.{starts_with, ends_with, list_any}
+use Rattle.std.specs.Str.Parse.{IsNumeral, digits_value, without_leading_plus}
 use Rattle.postcard_cli.specs.declared.command.ValueType.{ValueType}
 use Rattle.postcard_cli.specs.declared.command.ValueType.TheVariants.{U8, U16, U32, U64, U128, I8, I16, I32, I64, I128, Bool, Char, Str, ListU8, ListU32}
 use Rattle.postcard_cli.specs.declared.command.TypeWord.{TypeWord}
@@ -43,13 +44,25 @@ abbrev pub IsWordOf : List ℕ → TypeWord → Type 0
 IsWordOf word (Named kind) = word ≡ name_of kind
 IsWordOf word (Expression text) = (word ≡ text.now) × LooksLikeExpression word
 
+-- The word is a number from 1 to 65,536, in decimal digits.
+abbrev pub SaysLongest : List ℕ → ℕ → Type 0
+SaysLongest word longest =
+    IsNumeral 10 (without_leading_plus word) × (longest ≡ digits_value 10 (without_leading_plus word)) × (1 ≤ longest) × (longest ≤ 65536)
+
+-- The words are `frames` and the expression, and the longest frame has 65,536 bytes, or a `--longest`
+-- before the expression says how many.
+abbrev pub IsStreamCall : List (List ℕ) → List ℕ → ℕ → Type 0
+IsStreamCall words expression longest =
+    ((words ≡ codes "frames" ∷ expression ∷ []) × (longest ≡ 65536))
+    ⊎ ((number : List ℕ) × SaysLongest number longest × (words ≡ codes "frames" ∷ codes "--longest" ∷ number ∷ expression ∷ []))
+
 -- The words are a call of this command.
 abbrev pub IsCallOf : List (List ℕ) → Command → Type 0
 IsCallOf words (Encode kind value) = (word : List ℕ) × IsWordOf word kind × (words ≡ codes "enc" ∷ word ∷ value.now ∷ [])
 IsCallOf words (Decode kind hex) = (word : List ℕ) × IsWordOf word kind × (words ≡ codes "dec" ∷ word ∷ hex.now ∷ [])
 IsCallOf words (DecodeAll expression hex) = LooksLikeExpression expression.now × (words ≡ codes "decs" ∷ expression.now ∷ hex.now ∷ [])
 IsCallOf words Frames = words ≡ codes "frames" ∷ []
-IsCallOf words (FramesOf expression) = LooksLikeExpression expression.now × (words ≡ codes "frames" ∷ expression.now ∷ [])
+IsCallOf words (FramesOf expression longest) = LooksLikeExpression expression.now × IsStreamCall words expression.now longest
 IsCallOf words Types = words ≡ codes "types" ∷ []
 
 -- The words are a call of no command.

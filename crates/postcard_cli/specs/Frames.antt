@@ -1,7 +1,7 @@
 -- The lines that are printed for the answers of a stream.
 use Rattle.std.specs.Prelude.{ℕ, List, [], ◌∷◌, ◌++◌, codes, Vec, Option}
 use Rattle.std.specs.List.{flat_map}
-use Rattle.std.specs.Io.KnownBytes.{Consumes, Appends}
+use Rattle.std.specs.Io.KnownBytes.{Consumes, IsAtEnd, Appends}
 use Rattle.std.specs.declared.alloc.Global.{Global}
 use Rattle.hex.specs.Hex.{encode_lower}
 use Rattle.postcard_shape.specs.Shape.{Shape, via, growing}
@@ -27,9 +27,12 @@ answer_lines answers = flat_map answer_line answers
 abbrev pub byte_list : Shape (Vec ℕ Global)
 byte_list = via (λ v. v.items) (growing (seq byte))
 
--- The answers to the bytes that were read, where frames have at most 64 bytes, are those whose lines are printed.
+-- The bytes `given` were read, and the lines of the answers to them are printed, where frames have at most 64 bytes.
+abbrev pub PrintsAnswersSoFar : List ℕ → Option (List ℕ) → Option (List ℕ) → Option (List ℕ) → Option (List ℕ) → Type 0
+PrintsAnswersSoFar given known left old new =
+    (answers : List (Answer (Vec ℕ Global))) × (after : State) × Consumes known left given
+    × Answers 64 byte_list (holding []) given answers after × Appends old new (answer_lines answers)
+
+-- All of the input was read, and the lines of the answers to it are printed.
 abbrev pub PrintsAnswers : Option (List ℕ) → Option (List ℕ) → Option (List ℕ) → Option (List ℕ) → Type 0
-PrintsAnswers known left old new =
-    (given : List ℕ) × (answers : List (Answer (Vec ℕ Global))) × (after : State)
-    × Consumes known left given × Answers 64 byte_list (holding []) given answers after
-    × Appends old new (answer_lines answers)
+PrintsAnswers known left old new = (given : List ℕ) × PrintsAnswersSoFar given known left old new × IsAtEnd left

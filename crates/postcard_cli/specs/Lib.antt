@@ -4,5 +4,7 @@ pub mod Frames
 pub mod Hexadecimal
 pub mod Message
 pub mod Program
+pub mod Receiving
+pub mod Refusal
 pub mod Stream
 pub mod Value

@@ -1,5 +1,5 @@
 -- What a call that succeeds prints.
-use Rattle.std.specs.Prelude.{◌≡◌, ℕ, ℤ, Bool as TruthValue, if◌then◌else◌, List, [], ◌∷◌, ◌++◌, map, codes, Option, Some, IfSome, Result, Ok}
+use Rattle.std.specs.Prelude.{◌≡◌, ℕ, ℤ, Bool as TruthValue, if◌then◌else◌, List, [], ◌∷◌, ◌++◌, map, codes, Option, Some, IfSome, Result, Ok, Err}
 use Rattle.std.specs.Char.{encode_utf8}
 use Rattle.std.specs.Int.{w8, w16, w32, w64, w128, Width}
 use Rattle.std.specs.Fmt.{decimal, signed_decimal}
@@ -19,7 +19,7 @@ use Rattle.postcard_cli.specs.Command.{IsCallOf}
 use Rattle.postcard_cli.specs.Frames.{PrintsAnswers}
 use Rattle.postcard_cli.specs.Message.{PrintsEncoded, PrintsFirst, PrintsAll}
 use Rattle.postcard_cli.specs.Stream.{PrintsValues}
-use Rattle.postcard_cli.specs.Value.{parts, SayEach}
+use Rattle.postcard_cli.specs.Value.{parts, SayEach, SomeSaysNone}
 use Rattle.postcard_cli.specs.declared.failure.Failure.{Failure}
 use Rattle.postcard_cli.specs.declared.program.Task.{Task}
 use Rattle.postcard_cli.specs.declared.program.Task.TheVariants as tasks
@@ -36,15 +36,18 @@ pub record Form : Type 1 where
   pub shape : Shape values
   -- The word says the value.
   pub says : List ℕ → values → Type 0
+  -- The word says no value.
+  pub says_none : List ℕ → Type 0
   -- The text as which a value is printed, or `None` if nothing is said of it.
   pub text_of : values → Option (List ℕ)
 
 -- The form of values of one word, which `parses` reads.
 abbrev pub one_word : {T E : Type 0} → Shape T → (List ℕ → Result T E → Type 0) → (T → Option (List ℕ)) → Form
-one_word {T = T} shape parses text_of = record {
+one_word {T = T} {E = E} shape parses text_of = record {
   values = T;
   shape = shape;
   says = λ word v. parses word (Ok v);
+  says_none = λ word. (e : E) × parses word (Err e);
   text_of = text_of;
 }
 
@@ -54,6 +57,7 @@ list_of {T = T} shape parses text_of = record {
   values = List T;
   shape = growing (seq shape);
   says = λ word vs. SayEach parses (parts word) vs;
+  says_none = λ word. SomeSaysNone parses (parts word);
   text_of = λ vs. joined (codes ",") (map text_of vs);
 }
 
@@ -63,6 +67,7 @@ whole_word = record {
   values = List ℕ;
   shape = text;
   says = λ word v. v ≡ word;
+  says_none = λ word. ⊥;
   text_of = λ v. Some v;
 }
 
@@ -149,8 +154,8 @@ Performs syntax (Encode kind value) known left old new = PrintsEncode kind value
 Performs syntax (Decode kind hex) known left old new = PrintsDecode kind hex.now known left old new
 Performs syntax (DecodeAll expression hex) known left old new = PrintsAll expression.now hex.now known left old new
 Performs syntax Frames known left old new = PrintsAnswers known left old new
-Performs syntax (FramesOf expression) known left old new =
-    (schema : Schema) × IsExpression schema expression.now × PrintsValues schema known left old new
+Performs syntax (FramesOf expression longest) known left old new =
+    (schema : Schema) × IsExpression schema expression.now × PrintsValues schema longest known left old new
 Performs syntax Types known left old new = Appends old new syntax
 
 -- The words are a call of a command, and what it prints is printed.

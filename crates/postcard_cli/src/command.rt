@@ -1,9 +1,12 @@
 //! The commands, and how they are read from the words of a call.
 
-ghost use Rattle.std.specs.Prelude.{◌≡◌, ◌≢◌, [], ◌∷◌, IfSome, IfNone, map, string_bytes};
-ghost use Rattle.postcard_cli.specs.Command.{IsCallOf, IsNoCall, IsWordOf, looks_like_expression, name_of};
+ghost use Rattle.std.specs.Prelude.{◌≡◌, ◌≢◌, ℕ, [], ◌∷◌, IfSome, IfNone, map, string_bytes};
+ghost use Rattle.postcard_cli.specs.Command.{IsCallOf, IsNoCall, IsWordOf, SaysLongest};
+ghost use Rattle.postcard_cli.specs.Command.{looks_like_expression, name_of};
 ghost use Rattle.postcard_cli.specs.declared.command.TypeWord.{TypeWord};
 ghost use Rattle.postcard_cli.specs.declared.command.ValueType.{ValueType};
+
+use crate::stream::LONGEST;
 
 /// The types that have a name.
 #[derive(Clone, Copy, Debug, PartialEq, Eq)]
@@ -102,8 +105,9 @@ pub enum Command<'a> {
     DecodeAll { expression: &'a str, hex: &'a str },
     /// `frames`.
     Frames,
-    /// `frames TYPE`, where TYPE is an expression.
-    FramesOf { expression: &'a str },
+    /// `frames TYPE` or `frames --longest N TYPE`, where TYPE is an expression, and a frame has at
+    /// most `longest` bytes, its zero included: N, which is 1 to 65,536, or 65,536.
+    FramesOf { expression: &'a str, longest: usize },
     /// `types`.
     Types,
 }
@@ -121,6 +125,12 @@ impl<'a> Command<'a> {
             [command, kind, text] => {
                 Command::of_text(command.as_str(), kind.as_str(), text.as_str())
             }
+            [command, option, number, kind] => Command::with_option(
+                command.as_str(),
+                option.as_str(),
+                number.as_str(),
+                kind.as_str(),
+            ),
             _ => None,
         }
     }
@@ -143,7 +153,10 @@ impl<'a> Command<'a> {
         ensures none { IfNone result (IsNoCall (command.now ∷ kind.now ∷ [])) }
     {
         match command {
-            "frames" if is_expression(kind) => Some(Command::FramesOf { expression: kind }),
+            "frames" if is_expression(kind) => Some(Command::FramesOf {
+                expression: kind,
+                longest: LONGEST,
+            }),
             _ => None,
         }
     }
@@ -172,5 +185,40 @@ impl<'a> Command<'a> {
             }),
             _ => None,
         }
+    }
+
+    /// Returns the command of a call of four words: a command, an option and its value, and a type.
+    fn with_option(
+        command: &'a str,
+        option: &'a str,
+        number: &'a str,
+        kind: &'a str,
+    ) -> Option<Command<'a>>
+        ensures found { IfSome result (λ found.
+            IsCallOf (command.now ∷ option.now ∷ number.now ∷ kind.now ∷ []) found) }
+        ensures none { IfNone result
+            (IsNoCall (command.now ∷ option.now ∷ number.now ∷ kind.now ∷ [])) }
+    {
+        if command != "frames" || option != "--longest" || !is_expression(kind) {
+            return None;
+        }
+        match longest(number) {
+            Some(longest) => Some(Command::FramesOf {
+                expression: kind,
+                longest,
+            }),
+            None => None,
+        }
+    }
+}
+
+/// Returns the number of a word, or `None` if it isn't a number from 1 to 65,536.
+fn longest(number: &str) -> Option<usize>
+    ensures found { IfSome result (SaysLongest number.now) }
+    ensures none { IfNone result ((n : ℕ) → SaysLongest number.now n → ⊥) }
+{
+    match number.parse::<usize>() {
+        Ok(longest) if 1 <= longest && longest <= LONGEST => Some(longest),
+        _ => None,
     }
 }

@@ -1,8 +1,9 @@
 //! The command `frames`, which prints the frames of a stream, each on a line.
 
-ghost use Rattle.std.specs.Prelude.{◌≢◌, IfErr, OnOk};
+ghost use Rattle.std.specs.Prelude.{◌≡◌, IfErr, OnOk};
 ghost use Rattle.std.specs.Io.KnownBytes.{Appends};
 ghost use Rattle.postcard_cli.specs.Frames.{answer_line, PrintsAnswers};
+ghost use Rattle.postcard_cli.specs.Refusal.{FramesFail};
 
 use crate::failure::Failure;
 use crate::hexadecimal;
@@ -36,7 +37,8 @@ pub fn print<R: Source, W: Write>(
 ) -> Result<(), Failure>
     ensures printed { OnOk result (PrintsAnswers (R.remaining input.old) (R.remaining input.new)
         (W.contents output.old) (W.contents output.new)) }
-    ensures refused { IfErr result (λ e. e ≢ Failure.Usage) }
+    ensures refused { IfErr result (FramesFail (R.steady input.old) (R.remaining input.old)
+        (R.remaining input.new) (W.contents output.old) (W.contents output.new)) }
 {
     let mut accumulator = CobsAccumulator::<LONGEST_FRAME>::new();
     let mut chunk = [0; CHUNK];
@@ -64,7 +66,7 @@ pub fn print<R: Source, W: Write>(
 fn print_answer<W: Write>(answer: &Answer<Vec<u8>>, output: &mut W) -> Result<(), Failure>
     ensures printed { OnOk result (Appends (W.contents output.old) (W.contents output.new)
         (answer_line answer.now)) }
-    ensures refused { IfErr result (λ e. e ≢ Failure.Usage) }
+    ensures refused { IfErr result (λ e. e ≡ Failure.Output) }
 {
     match answer {
         Answer::OverFull => output.write_all(b"overfull\n")?,

@@ -1,21 +1,22 @@
 //! Reading and writing bytes as hexadecimal digits, two for each byte, the high one first.
 
-ghost use Rattle.std.specs.Prelude.{◌≡◌, ◌≢◌, ◌≤◌, ◌⊎◌, length, IfOk, IfErr, OnOk, IsErr};
+ghost use Rattle.std.specs.Prelude.{◌≡◌, ◌≤◌, ◌⊎◌, length, IfOk, IfErr, OnOk, IsErr};
 ghost use Rattle.std.specs.Io.KnownBytes.{Appends, Consumes, IsAtEnd};
 ghost use Rattle.hex.specs.Hex.{decode_of, encode_lower};
 ghost use Rattle.postcard_wire.specs.declared.error.Error.TheVariants.{OutOfMemory};
 ghost use Rattle.postcard_cli.specs.Hexadecimal.{words_of, AreBytesOf, HasBadWord};
 ghost use Rattle.postcard_cli.specs.Message.{StandsFor};
+ghost use Rattle.postcard_cli.specs.Refusal.{HexFails, InputFails};
 
 use crate::failure::Failure;
-use crate::frames::READS;
+use crate::stream::{CHUNK, READS};
 use hex::FromHex;
 use postcard_de_flavors::Source;
 use std::alloc::Global;
 use std::io;
 use std::io::Write;
 
-/// The greatest number of bytes that are read or written at once.
+/// The greatest number of bytes that are written at once.
 const PIECE: usize = 64;
 
 /// Returns the bytes of a text of hexadecimal digits, of either case.
@@ -53,11 +54,12 @@ pub fn read(alloc: Global, text: &str) -> Result<Vec<u8>, Failure>
 ///
 /// Fails with `BadHex` if a word isn't an even number of digits or the input isn't UTF-8, with
 /// `Library(OutOfMemory)` if an allocation fails, with `ReadFailed` if a read of the input fails,
-/// and with `Limit` if the input doesn't end within [`READS`] reads.
+/// and with `Limit` if the input doesn't end within [`READS`] reads, which no input does.
 pub fn read_loose<R: Source>(alloc: Global, text: &str, input: &mut R) -> Result<Vec<u8>, Failure>
     ensures value { IfOk result (λ bytes. StandsFor text.now (R.remaining input.old)
         (R.remaining input.new) bytes.items) }
-    ensures refused { IfErr result (λ e. e ≢ Failure.Usage) }
+    ensures refused { IfErr result (HexFails READS (R.steady input.old) text.now
+        (R.remaining input.old) (R.remaining input.new)) }
 {
     if text != "-" {
         return read_words(alloc, text);
@@ -74,7 +76,6 @@ fn read_words(alloc: Global, text: &str) -> Result<Vec<u8>, Failure>
     ensures value { IfOk result (λ bytes. AreBytesOf (words_of text.now) bytes.items) }
     ensures refused { IfErr result (λ e. ((e ≡ Failure.BadHex) × HasBadWord (words_of text.now))
         ⊎ (e ≡ Failure.Library OutOfMemory)) }
-    ensures no_usage { IfErr result (λ e. e ≢ Failure.Usage) }
 {
     let mut bytes = Vec::new(alloc);
     for word in text.split_ascii_whitespace() {
@@ -91,10 +92,11 @@ fn read_words(alloc: Global, text: &str) -> Result<Vec<u8>, Failure>
 fn read_input<R: Source>(alloc: Global, input: &mut R) -> Result<Vec<u8>, Failure>
     ensures all { IfOk result (λ held. Consumes (R.remaining input.old) (R.remaining input.new)
         held.items × IsAtEnd (R.remaining input.new)) }
-    ensures refused { IfErr result (λ e. e ≢ Failure.Usage) }
+    ensures refused { IfErr result (InputFails READS (R.steady input.old)
+        (R.remaining input.old) (R.remaining input.new)) }
 {
     let mut held = Vec::new(alloc);
-    let mut chunk = [0; PIECE];
+    let mut chunk = [0; CHUNK];
     'reads: for _ in 0..READS {
         let count = match input.read_some(&mut chunk) {
             Ok(count) => count,

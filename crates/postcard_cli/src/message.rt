@@ -1,14 +1,17 @@
 //! The commands `enc`, `dec` and `decs` for messages whose type is an expression.
 
-ghost use Rattle.std.specs.Prelude.{◌≡◌, ◌≢◌, ◌⊎◌, IfOk, IfErr, OnOk};
+ghost use Rattle.std.specs.Prelude.{◌≡◌, IfOk, IfErr, OnOk};
 ghost use Rattle.postcard_dyn_schema.specs.Grammar.{IsExpression};
 ghost use Rattle.postcard_dyn.specs.declared.value.Value.{Value};
 ghost use Rattle.postcard_cli.specs.Message.{line_of, Prints, PrintsAll, PrintsEncoded, PrintsFirst};
 ghost use Rattle.postcard_cli.specs.Message.{ReadsValue};
+ghost use Rattle.postcard_cli.specs.Refusal.{DecodeAllFails, DecodeFails, EncodeFails, FrontFails};
+ghost use Rattle.postcard_cli.specs.Refusal.{TypeFails};
 
 use crate::failure::Failure;
 use crate::hexadecimal;
 use crate::program::BUFFER;
+use crate::stream::READS;
 use postcard_de_flavors::Source;
 use postcard_dyn::{Problem, Schema, Value, parse, refused_at, take_from_bytes, to_flavor};
 use postcard_dyn_text::{Shown, TextError, read_text};
@@ -26,8 +29,8 @@ use std::io::Write;
 pub fn schema_of<W: Write>(alloc: Global, text: &str, output: &mut W) -> Result<Schema, Failure>
     ensures spelled { IfOk result (λ schema. IsExpression schema text.now) }
     ensures untouched { OnOk result (output.new ≡ output.old) }
-    ensures refused { IfErr result (λ e. (e ≡ Failure.BadType) ⊎ (e ≡ Failure.Output)
-        ⊎ (e ≡ Failure.Library Error.OutOfMemory)) }
+    ensures refused { IfErr result (TypeFails text.now (W.contents output.old)
+        (W.contents output.new)) }
 {
     match parse(alloc, text) {
         Ok(schema) => Ok(schema),
@@ -56,7 +59,8 @@ pub fn encode<W: Write>(
 ) -> Result<(), Failure>
     ensures printed { OnOk result (PrintsEncoded expression.now value.now
         (W.contents output.old) (W.contents output.new)) }
-    ensures refused { IfErr result (λ e. e ≢ Failure.Usage) }
+    ensures refused { IfErr result (EncodeFails expression.now value.now
+        (W.contents output.old) (W.contents output.new)) }
 {
     let schema = schema_of(alloc, expression, output)?;
     let value = match read_text(alloc, &schema, value) {
@@ -89,7 +93,9 @@ pub fn decode<R: Source, W: Write>(
 ) -> Result<(), Failure>
     ensures printed { OnOk result (PrintsFirst expression.now hex.now (R.remaining input.old)
         (R.remaining input.new) (W.contents output.old) (W.contents output.new)) }
-    ensures refused { IfErr result (λ e. e ≢ Failure.Usage) }
+    ensures refused { IfErr result (DecodeFails READS (R.steady input.old) expression.now hex.now
+        (R.remaining input.old) (R.remaining input.new)
+        (W.contents output.old) (W.contents output.new)) }
 {
     let schema = schema_of(alloc, expression, output)?;
     let bytes = hexadecimal::read_loose(alloc, hex, input)?;
@@ -114,7 +120,9 @@ pub fn decode_all<R: Source, W: Write>(
 ) -> Result<(), Failure>
     ensures printed { OnOk result (PrintsAll expression.now hex.now (R.remaining input.old)
         (R.remaining input.new) (W.contents output.old) (W.contents output.new)) }
-    ensures refused { IfErr result (λ e. e ≢ Failure.Usage) }
+    ensures refused { IfErr result (DecodeAllFails READS (R.steady input.old) expression.now hex.now
+        (R.remaining input.old) (R.remaining input.new)
+        (W.contents output.old) (W.contents output.new)) }
 {
     let schema = schema_of(alloc, expression, output)?;
     if !schema.has_bytes() {
@@ -143,7 +151,8 @@ fn print_front<'a, W: Write>(
     ensures printed { IfOk result (λ after. (value : Value)
         × ReadsValue schema.now rest.now value after.now
         × Prints (line_of schema.now value) (W.contents output.old) (W.contents output.new)) }
-    ensures refused { IfErr result (λ e. e ≢ Failure.Usage) }
+    ensures refused { IfErr result (FrontFails schema.now all.now rest.now
+        (W.contents output.old) (W.contents output.new)) }
 {
     match take_from_bytes(alloc, schema, rest) {
         Ok((value, after)) => {

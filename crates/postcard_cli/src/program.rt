@@ -6,9 +6,19 @@ ghost use Rattle.std.specs.Io.KnownBytes.{Appends};
 ghost use Rattle.hex.specs.Hex.{encode_lower};
 ghost use Rattle.postcard_wire.specs.Spelling.{canonical};
 ghost use Rattle.postcard_cli.specs.Command.{IsNoCall};
-ghost use Rattle.postcard_cli.specs.Failure.{AnswersFailure, exit_status, last_line};
+ghost use Rattle.postcard_cli.specs.Failure.{AnswersFailure};
+ghost use Rattle.postcard_cli.specs.Refusal.{
+  Answers,
+  CallFails,
+  CommandFails,
+  Converts,
+  DecodeWordFails,
+  EncodeWordFails,
+  PrintingFails,
+  Reports,
+};
 ghost use Rattle.postcard_cli.specs.Program.{
-  Does,
+  Performs,
   PrintsCall,
   PrintsDecode,
   PrintsEncode,
@@ -21,6 +31,7 @@ ghost use Rattle.postcard_cli.specs.Program.{
 use crate::command::{Command, TypeWord, ValueType};
 use crate::failure::Failure;
 use crate::joined::Joined;
+use crate::stream::READS;
 use crate::syntax::SYNTAX;
 use crate::{frames, hexadecimal, message, stream, syntax, value};
 use postcard_de::Deserialize;
@@ -62,6 +73,9 @@ pub fn run<R: Source, W: Write>(
     output: &mut W,
 ) -> u8
     ensures status { result ≤ 3 }
+    ensures answers { Answers SYNTAX.now READS (R.steady input.old) (map string_bytes words.now)
+        (R.remaining input.old) (R.remaining input.new)
+        (W.contents output.old) (W.contents output.new) result }
     ensures usage { IsNoCall (map string_bytes words.now)
         → AnswersFailure Failure.Usage (W.contents output.old) (W.contents output.new) result }
     ensures printed { result ≡ 0 → PrintsCall SYNTAX.now (map string_bytes words.now)
@@ -75,9 +89,7 @@ pub fn run<R: Source, W: Write>(
 /// Ends a call: prints the text of its failure on a line, if it failed, flushes the output, and
 /// returns the exit status, which is 3 if the output can't be written.
 pub fn report<W: Write>(outcome: Result<(), Failure>, output: &mut W) -> u8
-    ensures status { (result ≡ 3) ⊎ (result ≡ exit_status outcome) }
-    ensures printed { result ≢ 3 → Appends (W.contents output.old) (W.contents output.new)
-        (last_line outcome) }
+    ensures { Reports outcome (W.contents output.old) (W.contents output.new) result }
 {
     let (printed, status) = match outcome {
         Ok(()) => (Ok(()), 0),
@@ -102,19 +114,42 @@ fn perform<R: Source, W: Write>(
     ensures printed { OnOk result (PrintsCall SYNTAX.now (map string_bytes words.now)
         (R.remaining input.old) (R.remaining input.new)
         (W.contents output.old) (W.contents output.new)) }
+    ensures refused { IfErr result (CallFails READS (R.steady input.old)
+        (map string_bytes words.now) (R.remaining input.old) (R.remaining input.new)
+        (W.contents output.old) (W.contents output.new)) }
 {
     match Command::from_words(words) {
-        Some(Command::Encode { kind, value }) => encode(alloc, kind, value, output),
-        Some(Command::Decode { kind, hex }) => decode(alloc, kind, hex, input, output),
-        Some(Command::DecodeAll { expression, hex }) => {
+        Some(command) => carry_out(alloc, command, input, output),
+        None => Err(Failure::Usage),
+    }
+}
+
+/// Does what a command asks for.
+fn carry_out<R: Source, W: Write>(
+    alloc: Global,
+    command: Command<'_>,
+    input: &mut R,
+    output: &mut W,
+) -> Result<(), Failure>
+    ensures printed { OnOk result (Performs SYNTAX.now command.entry
+        (R.remaining input.old) (R.remaining input.new)
+        (W.contents output.old) (W.contents output.new)) }
+    ensures refused { IfErr result (CommandFails READS (R.steady input.old) command.entry
+        (R.remaining input.old) (R.remaining input.new)
+        (W.contents output.old) (W.contents output.new)) }
+{
+    match command {
+        Command::Encode { kind, value } => encode(alloc, kind, value, output),
+        Command::Decode { kind, hex } => decode(alloc, kind, hex, input, output),
+        Command::DecodeAll { expression, hex } => {
             message::decode_all(alloc, expression, hex, input, output)
         }
-        Some(Command::Frames) => frames::print(alloc, input, output),
-        Some(Command::FramesOf { expression }) => {
-            stream::print(alloc, expression, input, output)
-        }
-        Some(Command::Types) => syntax::print(output),
-        None => Err(Failure::Usage),
+        Command::Frames => frames::print(alloc, input, output),
+        Command::FramesOf {
+            expression,
+            longest,
+        } => { stream::print(alloc, expression, longest, input, output) }
+        Command::Types => syntax::print(output),
     }
 }
 
@@ -127,7 +162,8 @@ fn encode<W: Write>(
 ) -> Result<(), Failure>
     ensures printed { OnOk result (PrintsEncode kind.entry value.now (W.contents output.old)
         (W.contents output.new)) }
-    ensures refused { IfErr result (λ e. e ≢ Failure.Usage) }
+    ensures refused { IfErr result (EncodeWordFails kind.entry value.now
+        (W.contents output.old) (W.contents output.new)) }
 {
     match kind {
         TypeWord::Named(kind) => convert(alloc, kind, Task::Encode(value), output),
@@ -145,7 +181,9 @@ fn decode<R: Source, W: Write>(
 ) -> Result<(), Failure>
     ensures printed { OnOk result (PrintsDecode kind.entry hex.now (R.remaining input.old)
         (R.remaining input.new) (W.contents output.old) (W.contents output.new)) }
-    ensures refused { IfErr result (λ e. e ≢ Failure.Usage) }
+    ensures refused { IfErr result (DecodeWordFails READS (R.steady input.old) kind.entry hex.now
+        (R.remaining input.old) (R.remaining input.new)
+        (W.contents output.old) (W.contents output.new)) }
 {
     match kind {
         TypeWord::Named(kind) => {
@@ -163,9 +201,8 @@ fn convert<W: Write>(
     task: Task<'_>,
     output: &mut W,
 ) -> Result<(), Failure>
-    ensures printed { OnOk result (Does task.entry (form_of kind)
-        (W.contents output.old) (W.contents output.new)) }
-    ensures refused { IfErr result (λ e. e ≢ Failure.Usage) }
+    ensures { Converts task.entry (form_of kind)
+        (W.contents output.old) (W.contents output.new) result }
 {
     match kind {
         ValueType::U8 => convert_scalar::<u8, W>(alloc, task, output),
@@ -195,9 +232,8 @@ fn convert_scalar<'a, T, W: Write>(
 where
     T: FromStr + Display + Serialize + Deserialize<'a> + Drop,
     T::Err: Drop,
-    ensures printed { OnOk result (Does task.entry (one_word T.shape T.from_str_gives T.output)
-        (W.contents output.old) (W.contents output.new)) }
-    ensures refused { IfErr result (λ e. e ≢ Failure.Usage) }
+    ensures { Converts task.entry (one_word T.shape T.from_str_gives T.output)
+        (W.contents output.old) (W.contents output.new) result }
 {
     match task {
         Task::Encode(word) => print_encoded(&value::scalar::<T>(word)?, output),
@@ -210,9 +246,8 @@ where
 
 /// Encodes or decodes a text.
 fn convert_text<W: Write>(alloc: Global, task: Task<'_>, output: &mut W) -> Result<(), Failure>
-    ensures printed { OnOk result (Does task.entry whole_word
-        (W.contents output.old) (W.contents output.new)) }
-    ensures refused { IfErr result (λ e. e ≢ Failure.Usage) }
+    ensures { Converts task.entry whole_word
+        (W.contents output.old) (W.contents output.new) result }
 {
     match task {
         Task::Encode(word) => print_encoded(&word, output),
@@ -232,9 +267,8 @@ fn convert_list<'a, T, W: Write>(
 where
     T: FromStr + Display + Serialize + Deserialize<'a> + Drop,
     T::Err: Drop,
-    ensures printed { OnOk result (Does task.entry (list_of T.shape T.from_str_gives T.output)
-        (W.contents output.old) (W.contents output.new)) }
-    ensures refused { IfErr result (λ e. e ≢ Failure.Usage) }
+    ensures { Converts task.entry (list_of T.shape T.from_str_gives T.output)
+        (W.contents output.old) (W.contents output.new) result }
 {
     match task {
         Task::Encode(word) => print_encoded(&value::list::<T>(alloc, word)?, output),
@@ -249,7 +283,7 @@ where
 fn print_encoded<T: Serialize, W: Write>(value: &T, output: &mut W) -> Result<(), Failure>
     ensures printed { OnOk result (Appends (W.contents output.old) (W.contents output.new)
         (encode_lower (canonical (T.shape.tree value.now)) ++ 10 ∷ [])) }
-    ensures refused { IfErr result (λ e. e ≢ Failure.Usage) }
+    ensures refused { IfErr result (PrintingFails T.shape value.now) }
 {
     let mut serializer = Serializer {
         output: HVec::<BUFFER>::new(),

@@ -1,158 +1,440 @@
-//! The command `frames TYPE`, which prints the values of a stream of frames, each on a line.
+//! The command `frames TYPE`, which prints the values of a stream of frames, each on a line as soon
+//! as its frame has ended.
 
-ghost use Rattle.std.specs.Prelude.{◌≡◌, ◌≢◌, IfOk, IfErr, OnOk};
-ghost use Rattle.postcard_accumulator.specs.Feeding.{IsFed, IsReadOf};
-ghost use Rattle.postcard_accumulator.specs.Streams.{answers_of, left_of};
+ghost use Rattle.std.specs.Prelude.{◌≡◌, ◌+◌, ◌-◌, ◌^◌, ◌<◌, ◌≤◌, ◌⊎◌, ℕ, List, [], ◌∷◌, ◌++◌, length, codes};
+ghost use Rattle.std.specs.Prelude.{Some, IfOk, IfErr, OnOk, false, min};
+ghost use Rattle.std.specs.Fmt.{decimal, ◌++?◌};
+ghost use Rattle.std.specs.Io.KnownBytes.{Appends};
+ghost use Rattle.hex.specs.Hex.{encode_lower};
+ghost use Rattle.postcard_cobs.specs.Groups.{NoZero};
 ghost use Rattle.postcard_dyn_schema.specs.Grammar.{IsExpression};
-ghost use Rattle.postcard_dyn_schema.specs.Meaning.{type_of};
 ghost use Rattle.postcard_dyn_schema.specs.declared.schema.Schema.{Schema};
-ghost use Rattle.postcard_dyn.specs.Shape.{shape_of};
-ghost use Rattle.postcard_cli.specs.Stream.{PrintsLines, PrintsPiece, PrintsValues};
+ghost use Rattle.postcard_dyn.specs.Tree.{tree};
+ghost use Rattle.postcard_dyn_text.specs.Shown.{layout_of, text};
+ghost use Rattle.postcard_cli.specs.Message.{Prints};
+ghost use Rattle.postcard_cli.specs.Receiving.{Continues, IsSame, PrintsAnswer, PrintsMessage};
+ghost use Rattle.postcard_cli.specs.Receiving.{ReadFails, Reads};
+ghost use Rattle.postcard_cli.specs.Refusal.{StreamFails};
+ghost use Rattle.postcard_cli.specs.Stream.{PrintsValues, more_text, noun_of, reason_text};
 
 use crate::failure::Failure;
-use crate::frames::{CHUNK, LONGEST_FRAME, READS};
-use crate::message::{print_value, schema_of};
-use postcard_accumulator::{CobsAccumulator, FeedResult, Taken};
+use crate::hexadecimal;
+use crate::message::schema_of;
+use crate::place::place_of;
+use crate::reason::reason;
+use postcard_cobs::{decode_in_place, frame_len};
 use postcard_de_flavors::Source;
 use postcard_dyn::{Schema, Value, take_from_bytes};
+use postcard_dyn_text::Shown;
 use postcard_wire::Error;
 use std::alloc::Global;
 use std::io::Write;
 
-/// Reads frames of messages of the type until the input ends, and prints a line for each: its
-/// value, `error` for a frame with no such message, or `overfull` for a frame of more than 64
-/// bytes, its zero included.
+/// The greatest length in bytes of a frame of a typed stream, its zero included, if no smaller one
+/// is asked for.
+pub const LONGEST: usize = 65_536;
+
+/// The greatest number of bytes of one read of an input that is read to its end.
+pub const CHUNK: usize = 65_536;
+
+/// The greatest number of such reads. It only ends the loop: no input has so many bytes.
+pub const READS: u64 = u64::MAX;
+
+/// Reads frames of messages of the type until the input ends, and prints a line for each once its
+/// zero was read:
+///
+/// - its value, and behind it the bytes of its data that come after the value, if there are some;
+/// - `error`, where in the stream it begins, and why, for a frame that begins with no such message
+///   or is no COBS frame;
+/// - `overfull` and where it begins for a frame of more than `longest` bytes, its zero included,
+///   once it has that many.
+///
+/// The output is flushed after each read. Memory is used for one frame and
+/// its value only.
 ///
 /// # Errors
 ///
 /// Fails with `BadType` if the expression is misspelled, with `Library(OutOfMemory)` if an
-/// allocation fails while it is read, with `OutOfMemory` if one for a value fails, and else as
-/// [`crate::frames::print`] does. The lines of the frames before an error are printed.
+/// allocation fails while it is read, with `OutOfMemory` if another allocation fails, with
+/// `ReadFailed` if a read fails, with `Output` if the output can't be written, and with `Limit`
+/// after 2^64 - 1 reads. The lines of what was read before are printed.
 pub fn print<R: Source, W: Write>(
     alloc: Global,
     expression: &str,
+    longest: usize,
     input: &mut R,
     output: &mut W,
 ) -> Result<(), Failure>
     ensures printed { OnOk result ((schema : Schema) × IsExpression schema expression.now
-        × PrintsValues schema (R.remaining input.old) (R.remaining input.new)
+        × PrintsValues schema longest (R.remaining input.old) (R.remaining input.new)
         (W.contents output.old) (W.contents output.new)) }
-    ensures refused { IfErr result (λ e. e ≢ Failure.Usage) }
+    ensures refused { IfErr result (StreamFails (R.steady input.old) expression.now longest
+        (R.remaining input.old) (R.remaining input.new)
+        (W.contents output.old) (W.contents output.new)) }
 {
     let schema = schema_of(alloc, expression, output)?;
-    let mut accumulator = CobsAccumulator::<LONGEST_FRAME>::new();
     let mut chunk = [0; CHUNK];
+    let mut stream = Stream::new(alloc, longest);
     'reads: for _ in 0..READS {
-        let count = match input.read_some(&mut chunk) {
-            Ok(count) => count,
-            Err(_) => return Err(Failure::ReadFailed),
-        };
-        if count == 0 {
+        let more = stream.read(alloc, &schema, &mut chunk, input, output)?;
+        if !more {
             return Ok(());
         }
-        print_piece(alloc, &schema, &chunk[..count], &mut accumulator, output)?;
     }
     Err(Failure::Limit)
 }
 
-/// Feeds a piece of the stream, and prints a line for each answer.
-fn print_piece<W: Write>(
+/// What is kept of a stream between two reads.
+#[derive(Drop)]
+struct Stream {
+    /// The greatest length of a frame, its zero included.
+    longest: usize,
+    /// The bytes so far of the frame that hasn't ended, but none while it is being skipped.
+    held: Vec<u8>,
+    /// Whether that frame is being skipped, since it is too long. Its line is printed.
+    skipping: bool,
+    /// The offset in the stream of that frame.
+    start: u64,
+    /// The number of bytes of the stream so far.
+    count: u64,
+    /// The data of the frame that ended last.
+    message: Vec<u8>,
+}
+
+impl Stream {
+    /// Returns the state before the first byte of a stream.
+    fn new(alloc: Global, longest: usize) -> Stream
+        ensures limit { result.longest ≡ longest }
+        ensures held { result.held.items ≡ [] }
+        ensures skipping { result.skipping ≡ false }
+        ensures start { result.start ≡ 0 }
+        ensures count { result.count ≡ 0 }
+    {
+        Stream {
+            longest,
+            held: Vec::new(alloc),
+            skipping: false,
+            start: 0,
+            count: 0,
+            message: Vec::new(alloc),
+        }
+    }
+
+    /// Reads once, prints the lines of what was read, and flushes them. Returns `false` at the end
+    /// of the input.
+    fn read<R: Source, W: Write>(
+        &mut self,
+        alloc: Global,
+        schema: &Schema,
+        chunk: &mut [u8],
+        input: &mut R,
+        output: &mut W,
+    ) -> Result<bool, Failure>
+        requires { 0 < length chunk.old }
+        ensures read { IfOk result (Reads schema.now self.old self.new
+            (R.remaining input.old) (R.remaining input.new)
+            (W.contents output.old) (W.contents output.new)) }
+        ensures stays_steady { R.steady input.old → R.steady input.new }
+        ensures refused { IfErr result (ReadFails (R.steady input.old)
+            (R.remaining input.old) (R.remaining input.new)
+            (W.contents output.old) (W.contents output.new)) }
+    {
+        let count = match input.read_some(chunk) {
+            Ok(count) => count,
+            Err(_) => return Err(Failure::ReadFailed),
+        };
+        self.take(alloc, schema, &chunk[..count], output)?;
+        output.flush()?;
+        Ok(count > 0)
+    }
+
+    /// Takes a piece of the stream, and prints the lines of the frames that end in it.
+    fn take<W: Write>(
+        &mut self,
+        alloc: Global,
+        schema: &Schema,
+        piece: &[u8],
+        output: &mut W,
+    ) -> Result<(), Failure>
+        ensures printed { OnOk result (Continues schema.now self.old piece.now self.new
+            (W.contents output.old) (W.contents output.new)) }
+        ensures refused { IfErr result (λ e. (e ≡ Failure.OutOfMemory) ⊎ (e ≡ Failure.Output)) }
+    {
+        let mut rest = piece;
+        'parts: while !rest.is_empty() {
+            let end = frame_len(rest);
+            let (part, after) = rest.split_at(end);
+            self.hold(schema, part, output)?;
+            if end == rest.len() {
+                return Ok(());
+            }
+            self.end_frame(alloc, schema, output)?;
+            let (_, more) = after.split_at(1);
+            rest = more;
+        }
+        Ok(())
+    }
+
+    /// Takes bytes without a zero. Prints the line of their frame if it becomes too long.
+    fn hold<W: Write>(
+        &mut self,
+        schema: &Schema,
+        part: &[u8],
+        output: &mut W,
+    ) -> Result<(), Failure>
+        ensures printed { OnOk result (NoZero part.now
+            → Continues schema.now self.old part.now self.new
+            (W.contents output.old) (W.contents output.new)) }
+        ensures refused { IfErr result (λ e. (e ≡ Failure.OutOfMemory) ⊎ (e ≡ Failure.Output)) }
+    {
+        let _ = schema;
+        self.count = self.count.saturating_add(part.len() as u64);
+        if self.skipping {
+            return Ok(());
+        }
+        if part.len() > self.longest.saturating_sub(self.held.len()) {
+            self.held.clear();
+            self.skipping = true;
+            print_overfull(self.start, output)?;
+            return Ok(());
+        }
+        match self.held.extend_from_slice(part) {
+            Ok(()) => Ok(()),
+            Err(_) => Err(Failure::OutOfMemory),
+        }
+    }
+
+    /// Takes the zero that ends a frame, and prints the frame's line, unless it is printed.
+    fn end_frame<W: Write>(
+        &mut self,
+        alloc: Global,
+        schema: &Schema,
+        output: &mut W,
+    ) -> Result<(), Failure>
+        ensures printed { OnOk result (Continues schema.now self.old (0 ∷ []) self.new
+            (W.contents output.old) (W.contents output.new)) }
+        ensures refused { IfErr result (λ e. (e ≡ Failure.OutOfMemory) ⊎ (e ≡ Failure.Output)) }
+    {
+        if self.skipping {
+            self.begin_frame();
+            return Ok(());
+        }
+        self.print_frame(alloc, schema, output)?;
+        self.begin_frame();
+        Ok(())
+    }
+
+    /// Begins the frame after the zero that comes next.
+    fn begin_frame(&mut self)
+        ensures longest { self.new.longest ≡ self.old.longest }
+        ensures held { self.new.held.items ≡ [] }
+        ensures skipping { self.new.skipping ≡ false }
+        ensures count { self.new.count ≡ min (self.old.count + 1) (2 ^ 64 - 1) }
+        ensures start { self.new.start ≡ self.new.count }
+    {
+        self.held.clear();
+        self.skipping = false;
+        self.count = self.count.saturating_add(1);
+        self.start = self.count;
+    }
+
+    /// Prints the line of the frame that is held, to which its zero has come.
+    fn print_frame<W: Write>(
+        &mut self,
+        alloc: Global,
+        schema: &Schema,
+        output: &mut W,
+    ) -> Result<(), Failure>
+        ensures printed { OnOk result (NoZero self.old.held.items
+            → PrintsAnswer schema.now self.old.longest self.old.start self.old.held.items
+            (W.contents output.old) (W.contents output.new)) }
+        ensures kept { OnOk result (IsSame self.old self.new) }
+        ensures refused { IfErr result (λ e. (e ≡ Failure.OutOfMemory) ⊎ (e ≡ Failure.Output)) }
+    {
+        if self.held.len() >= self.longest {
+            print_overfull(self.start, output)?;
+            return Ok(());
+        }
+        print_answer(
+            alloc,
+            schema,
+            self.start,
+            &self.held,
+            &mut self.message,
+            output,
+        )?;
+        Ok(())
+    }
+}
+
+/// Prints that the frame at this offset is too long.
+fn print_overfull<W: Write>(start: u64, output: &mut W) -> Result<(), Failure>
+    ensures printed { OnOk result (Appends (W.contents output.old) (W.contents output.new)
+        (codes "overfull at byte " ++ (decimal start ++ 10 ∷ []))) }
+    ensures refused { IfErr result (λ e. e ≡ Failure.Output) }
+{
+    writeln!(output, "overfull at byte {start}")?;
+    Ok(())
+}
+
+/// Prints the line of the frame at this offset, whose data is put into `message`.
+fn print_answer<W: Write>(
     alloc: Global,
     schema: &Schema,
-    piece: &[u8],
-    accumulator: &mut CobsAccumulator<LONGEST_FRAME>,
+    start: u64,
+    frame: &[u8],
+    message: &mut Vec<u8>,
     output: &mut W,
 ) -> Result<(), Failure>
-    ensures printed { OnOk result (PrintsPiece schema.now accumulator.old piece.now
-        accumulator.new (W.contents output.old) (W.contents output.new)) }
-    ensures refused { IfErr result (λ e. e ≢ Failure.Usage) }
+    ensures printed { OnOk result (NoZero frame.now → (longest : ℕ)
+        → length frame.now + 1 ≤ longest → PrintsAnswer schema.now longest start frame.now
+        (W.contents output.old) (W.contents output.new)) }
+    ensures refused { IfErr result (λ e. (e ≡ Failure.OutOfMemory) ⊎ (e ≡ Failure.Output)) }
 {
-    accumulator.held_fits();
-    let mut rest = piece;
-    'feeds: while !rest.is_empty() {
-        accumulator.held_fits();
-        let answer = feed(alloc, schema, rest, accumulator)?;
-        rest = print_answer(schema, answer, output)?;
+    message.clear();
+    if message.extend_from_slice(frame).is_err() {
+        return Err(Failure::OutOfMemory);
+    }
+    print_decoded(alloc, schema, start, frame, message, output)
+}
+
+/// Prints the line of the frame at this offset, of which `buffer` is a copy, in which it is decoded.
+fn print_decoded<W: Write>(
+    alloc: Global,
+    schema: &Schema,
+    start: u64,
+    frame: &[u8],
+    buffer: &mut [u8],
+    output: &mut W,
+) -> Result<(), Failure>
+    requires { buffer.old ≡ frame.now }
+    ensures printed { OnOk result (NoZero frame.now → (longest : ℕ)
+        → length frame.now + 1 ≤ longest → PrintsAnswer schema.now longest start frame.now
+        (W.contents output.old) (W.contents output.new)) }
+    ensures refused { IfErr result (λ e. (e ≡ Failure.OutOfMemory) ⊎ (e ≡ Failure.Output)) }
+{
+    match decode_in_place(buffer) {
+        Ok(count) => print_message(alloc, schema, start, &buffer[..count], output)?,
+        Err(_) => print_damaged(start, frame, output)?,
     }
     Ok(())
 }
 
-/// Prints the line of an answer, if there is one. Returns the bytes of the piece that weren't taken
-/// in.
-fn print_answer<'a, W: Write>(
+/// Prints that the frame at this offset is no COBS frame, and its bytes.
+fn print_damaged<W: Write>(start: u64, frame: &[u8], output: &mut W) -> Result<(), Failure>
+    ensures printed { OnOk result (Appends (W.contents output.old) (W.contents output.new)
+        ((codes "error at byte " ++ (decimal start ++ codes ": no COBS frame: "))
+        ++ (encode_lower frame.now ++ 10 ∷ []))) }
+    ensures refused { IfErr result (λ e. e ≡ Failure.Output) }
+{
+    write!(output, "error at byte {start}: no COBS frame: ")?;
+    hexadecimal::write(frame, output)?;
+    writeln!(output)?;
+    Ok(())
+}
+
+/// Prints the line of the frame at this offset with this data.
+fn print_message<W: Write>(
+    alloc: Global,
     schema: &Schema,
-    answer: FeedResult<'a, Value>,
+    start: u64,
+    message: &[u8],
     output: &mut W,
-) -> Result<&'a [u8], Failure>
-    ensures printed { IfOk result (λ rest. (rest.now ≡ left_of answer.entry)
-        × PrintsLines schema.now (answers_of answer.entry)
+) -> Result<(), Failure>
+    ensures printed { OnOk result (PrintsMessage schema.now start message.now
         (W.contents output.old) (W.contents output.new)) }
-    ensures refused { IfErr result (λ e. e ≢ Failure.Usage) }
+    ensures refused { IfErr result (λ e. (e ≡ Failure.OutOfMemory) ⊎ (e ≡ Failure.Output)) }
 {
-    match answer {
-        FeedResult::Consumed => Ok(&[]),
-        FeedResult::OverFull(rest) => {
-            output.write_all(b"overfull\n")?;
-            Ok(rest)
-        }
-        FeedResult::DeserError(rest) => {
-            output.write_all(b"error\n")?;
-            Ok(rest)
-        }
-        FeedResult::Success { value, remaining } => {
-            print_value(schema, &value, output)?;
-            Ok(remaining)
-        }
-    }
-}
-
-/// Takes in a piece of the stream up to the end of a frame, and reads that frame's value.
-///
-/// # Errors
-///
-/// Fails with `OutOfMemory` if an allocation for the value fails.
-fn feed<'a>(
-    alloc: Global,
-    schema: &Schema,
-    piece: &'a [u8],
-    accumulator: &mut CobsAccumulator<LONGEST_FRAME>,
-) -> Result<FeedResult<'a, Value>, Failure>
-    ensures fed { IfOk result (λ answer. IsFed 64 (shape_of (type_of schema.now))
-        accumulator.old piece.now answer accumulator.new) }
-    ensures refused { IfErr result (λ e. e ≡ Failure.OutOfMemory) }
-{
-    let taken = accumulator.take_in(piece);
-    value_of(alloc, schema, taken)
-}
-
-/// Reads the value of what a piece completed: `DeserError` if it is no frame, or if its data begins
-/// with no message of the type.
-///
-/// # Errors
-///
-/// Fails with `OutOfMemory` if an allocation for the value fails.
-fn value_of<'a>(
-    alloc: Global,
-    schema: &Schema,
-    taken: Taken<'_, 'a>,
-) -> Result<FeedResult<'a, Value>, Failure>
-    ensures read { IfOk result (λ answer.
-        IsReadOf (shape_of (type_of schema.now)) taken.entry answer) }
-    ensures refused { IfErr result (λ e. e ≡ Failure.OutOfMemory) }
-{
-    match taken {
-        Taken::Consumed => Ok(FeedResult::Consumed),
-        Taken::OverFull(rest) => Ok(FeedResult::OverFull(rest)),
-        Taken::Refused(rest) => Ok(FeedResult::DeserError(rest)),
-        Taken::Message(data, rest) => match take_from_bytes(alloc, schema, data) {
-            Ok((value, _)) => Ok(FeedResult::Success {
-                value,
-                remaining: rest,
-            }),
-            Err(error) => match error {
-                Error::OutOfMemory => Err(Failure::OutOfMemory),
-                _ => Ok(FeedResult::DeserError(rest)),
-            },
+    match take_from_bytes(alloc, schema, message) {
+        Ok((value, rest)) => print_value(schema, &value, rest, output),
+        Err(error) => match error {
+            Error::OutOfMemory => Err(Failure::OutOfMemory),
+            _ => print_unread(alloc, schema, start, message, &error, output),
         },
     }
+}
+
+/// Prints at which place this data of the frame at this offset is refused, and why, and the data.
+fn print_unread<W: Write>(
+    alloc: Global,
+    schema: &Schema,
+    start: u64,
+    message: &[u8],
+    error: &Error,
+    output: &mut W,
+) -> Result<(), Failure>
+    ensures printed { OnOk result ((place : List ℕ)
+        × Appends (W.contents output.old) (W.contents output.new)
+        ((codes "error at byte " ++ (decimal start ++ (codes ": " ++ (place
+        ++ (reason_text error.now ++ codes ": ")))))
+        ++ (encode_lower message.now ++ 10 ∷ []))) }
+    ensures refused { IfErr result (λ e. (e ≡ Failure.OutOfMemory) ⊎ (e ≡ Failure.Output)) }
+{
+    let Ok(place) = place_of(alloc, schema, message) else {
+        return Err(Failure::OutOfMemory);
+    };
+    print_refused(start, &place, error, message, output)?;
+    Ok(())
+}
+
+/// Prints a value, and the bytes of the frame's data after it.
+fn print_value<W: Write>(
+    schema: &Schema,
+    value: &Value,
+    rest: &[u8],
+    output: &mut W,
+) -> Result<(), Failure>
+    ensures printed { OnOk result (Prints (text (layout_of schema.now) (tree value.now)
+        ++? Some (more_text rest.now ++ 10 ∷ [])) (W.contents output.old) (W.contents output.new)) }
+    ensures refused { IfErr result (λ e. e ≡ Failure.Output) }
+{
+    let shown = Shown { schema, value };
+    write!(output, "{shown}")?;
+    print_rest(rest, output)?;
+    writeln!(output)?;
+    Ok(())
+}
+
+/// Prints the bytes of the frame's data after a value, if there are some.
+fn print_rest<W: Write>(rest: &[u8], output: &mut W) -> Result<(), Failure>
+    ensures printed { OnOk result (Appends (W.contents output.old) (W.contents output.new)
+        (more_text rest.now)) }
+    ensures refused { IfErr result (λ e. e ≡ Failure.Output) }
+{
+    if rest.is_empty() {
+        return Ok(());
+    }
+    let count = rest.len();
+    let noun = noun(count);
+    write!(output, " and {count} {noun} more: ")?;
+    hexadecimal::write(rest, output)?;
+    Ok(())
+}
+
+/// Returns the word for this number of bytes.
+fn noun(count: usize) -> &'static str
+    ensures { result.now ≡ noun_of count }
+{
+    if count == 1 { "byte" } else { "bytes" }
+}
+
+/// Prints that the data of the frame at this offset is refused at this place.
+fn print_refused<W: Write>(
+    start: u64,
+    place: &str,
+    error: &Error,
+    message: &[u8],
+    output: &mut W,
+) -> Result<(), Failure>
+    ensures printed { OnOk result (Appends (W.contents output.old) (W.contents output.new)
+        ((codes "error at byte " ++ (decimal start ++ (codes ": " ++ (place.now
+        ++ (reason_text error.now ++ codes ": ")))))
+        ++ (encode_lower message.now ++ 10 ∷ []))) }
+    ensures refused { IfErr result (λ e. e ≡ Failure.Output) }
+{
+    let why = reason(error);
+    write!(output, "error at byte {start}: {place}{why}: ")?;
+    hexadecimal::write(message, output)?;
+    writeln!(output)?;
+    Ok(())
 }

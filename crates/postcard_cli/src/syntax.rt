@@ -1,6 +1,6 @@
 //! The command `types`, which prints how a type expression is written.
 
-ghost use Rattle.std.specs.Prelude.{◌≢◌, IfErr, OnOk};
+ghost use Rattle.std.specs.Prelude.{◌≡◌, IfErr, OnOk};
 ghost use Rattle.std.specs.Io.KnownBytes.{Appends};
 
 use crate::failure::Failure;
@@ -32,7 +32,7 @@ So (u8) is the expression u8. HEX may have blanks and 0x, and - reads it from th
 pub fn print<W: Write>(output: &mut W) -> Result<(), Failure>
     ensures printed { OnOk result (Appends (W.contents output.old) (W.contents output.new)
         SYNTAX.now) }
-    ensures refused { IfErr result (λ e. e ≢ Failure.Usage) }
+    ensures refused { IfErr result (λ e. e ≡ Failure.Output) }
 {
     output.write_all(SYNTAX.as_bytes())?;
     Ok(())

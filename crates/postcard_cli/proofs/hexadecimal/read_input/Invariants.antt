@@ -1,6 +1,11 @@
--- All bytes read so far are held.
+-- All bytes read so far are held, at least one for each read.
+use Rattle.std.proofs.Common.{◌≤◌, length}
 use Rattle.std.specs.Io.KnownBytes.{Consumes}
 use Rattle.postcard_cli.proofs.hexadecimal.read_input.Given as goal
 
 abbrev pub invariant-reads : goal.invariant-reads
-invariant-reads g l = Consumes (g.R.Read.remaining l.fn.input) (g.R.Read.remaining l.input) l.held.items
+invariant-reads g l = record {
+  reader : Consumes (g.R.Read.remaining l.fn.input) (g.R.Read.remaining l.input) l.held.items;
+  steady : g.R.Source.steady l.fn.input → g.R.Source.steady l.input;
+  count : l.counter ≤ length l.held.items;
+}

@@ -1,5 +1,7 @@
 use Rattle.std.proofs.Common.{sym, ◌∙◌, eqb-true, refl}
 use Rattle.std.proofs.lemmas.List.{nil_from_length}
+use Rattle.std.proofs.lemmas.Result.{err_from_is_err_and}
+use Rattle.postcard_cli.proofs.RefusalLemmas.{later_fails}
 use Rattle.postcard_cli.proofs.MessageLemmas.{none_decoded, one_decoded, takes_some}
 use Rattle.postcard_cli.proofs.message.decode_all.Goals as goal
 
@@ -28,3 +30,11 @@ returns-clause-printed g c =
       are = rw (none, c.as_slice-all.ensures.value, c.values.invariant.same) at all.are;
       printed = rw (c.values.invariant.same, c.in_ok-schema.ensures.untouched) at all.printed;
     }
+
+pub returns-in_err-rest-clause-refused : goal.returns-in_err-rest-clause-refused
+returns-in_err-rest-clause-refused g c =
+    let p = err_from_is_err_and c.from_residual-in_err-rest.result c.from_residual-in_err-rest.ensures.1 in
+    rw (p.1, p.2)
+    (later_fails _ _ _ _ _ _ _ _ _ c.in_ok-schema.schema c.in_ok-bytes.bytes.items c.values.rest.now c.in_err-rest.field-0.0 c.in_ok-schema.ensures.spelled c.in_ok-bytes.ensures.value
+    (rw (c.as_slice-all.ensures.value, c.values.invariant.same, c.in_ok-schema.ensures.untouched) at c.values.invariant.lines)
+    (rw (c.as_slice-all.ensures.value, c.values.invariant.same) at c.in_err-rest.ensures.refused))

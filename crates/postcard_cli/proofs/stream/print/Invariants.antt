@@ -1,10 +1,15 @@
--- The lines of the answers to the bytes read so far are printed.
-use Rattle.std.proofs.Common.{◌≡◌}
-use Rattle.postcard_cli.proofs.StreamLemmas.{Read}
+-- The lines of the bytes read so far are printed.
+use Rattle.std.proofs.Common.{◌≡◌, ◌≤◌, ℕ, List, length}
+use Rattle.std.specs.Io.KnownBytes.{Consumes}
+use Rattle.postcard_cli.specs.Receiving.{IsAfter}
 use Rattle.postcard_cli.proofs.stream.print.Given as goal
 
 abbrev pub invariant-reads : goal.invariant-reads
 invariant-reads g l = record {
   same : l.schema ≡ l.initial.schema;
-  lines : Read l.schema (g.R.Read.remaining l.fn.input) (g.R.Read.remaining l.input) l.accumulator (g.W.Write.contents l.initial.output) (g.W.Write.contents l.output);
+  given : List ℕ;
+  count : l.counter ≤ length given;
+  reader : Consumes (g.R.Read.remaining l.fn.input) (g.R.Read.remaining l.input) given;
+  steady : g.R.Source.steady l.fn.input → g.R.Source.steady l.input;
+  lines : IsAfter l.schema l.fn.longest given l.stream (g.W.Write.contents l.initial.output) (g.W.Write.contents l.output);
 }

@@ -1,5 +1,5 @@
 -- If the second of three words stands for no type, they are no call.
-use Rattle.std.proofs.Common.{◌≡◌, ℕ, List, [], ◌∷◌, sym, subst}
+use Rattle.std.proofs.Common.{◌≡◌, ℕ, List, [], ◌∷◌, sym, subst, inl, inr}
 use Rattle.postcard_cli.specs.Command.{IsCallOf, LooksLikeExpression, IsWordOf}
 use Rattle.postcard_cli.specs.declared.command.TypeWord.{TypeWord}
 use Rattle.postcard_cli.specs.declared.command.TypeWord.TheVariants.{Expression}
@@ -16,12 +16,16 @@ no_one a k t b e = cc
 no_two : (a k t b w : List ℕ) → a ∷ k ∷ t ∷ [] ≡ b ∷ w ∷ [] → ⊥
 no_two a k t b w e = cc
 
+no_four : (a k t b w v u : List ℕ) → a ∷ k ∷ t ∷ [] ≡ b ∷ w ∷ v ∷ u ∷ [] → ⊥
+no_four a k t b w v u e = cc
+
 none_of : (a k t : List ℕ) → ((kind : TypeWord) → IsWordOf k kind → ⊥) → (command : Command) → IsCallOf (a ∷ k ∷ t ∷ []) command → ⊥
 none_of a k t none (Encode kind value) (word, is, e) = none kind (subst (λ w. IsWordOf w kind) (sym (second a k t _ word value.now e)) is)
 none_of a k t none (Decode kind hex) (word, is, e) = none kind (subst (λ w. IsWordOf w kind) (sym (second a k t _ word hex.now e)) is)
 none_of a k t none (DecodeAll x hex) (is, e) = let same = second a k t _ x.now hex.now e in none (Expression x) (same, subst LooksLikeExpression (sym same) is)
 none_of a k t none Frames e = no_one a k t _ e
-none_of a k t none (FramesOf x) (is, e) = no_two a k t _ x.now e
+none_of a k t none (FramesOf x longest) (is, inl e) = no_two a k t _ x.now e.0
+none_of a k t none (FramesOf x longest) (is, inr e) = no_four a k t _ _ _ _ e.2
 none_of a k t none Types e = no_one a k t _ e
 
 pub returns-in_default-clause-none : goal.returns-in_default-clause-none

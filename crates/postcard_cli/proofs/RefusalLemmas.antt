@@ -1,0 +1,146 @@
+-- Lemmas on which failure comes when.
+use Rattle.std.proofs.Common.{◌≡◌, ◌≢◌, ◌⊎◌, inl, inr, sym, subst, refl, arith, ℕ, ◌≤◌, ◌<◌, List, [], ◌∷◌, ◌++◌, length, Option, Some, Bor, Result, Ok, Err, OnOk, codes}
+use Rattle.std.specs.Prelude.{IfErr, IfSome, MatchResult}
+use Rattle.std.specs.Io.KnownBytes.{Appends}
+use Rattle.hex.specs.Hex.{decode_of, encode_lower}
+use Rattle.postcard_wire.specs.Spelling.{canonical}
+use Rattle.postcard_wire.specs.declared.error.Error.{Error}
+use Rattle.postcard_wire.specs.declared.error.Error.TheVariants.{OutOfMemory, SerializeBufferFull}
+use Rattle.postcard_shape.specs.Shape.{Shape}
+use Rattle.postcard_frame.specs.Front.{ReadsFront}
+use Rattle.postcard_ser.specs.Writing.{IsWriteError}
+use Rattle.postcard_de.specs.Reads.{IsReadError}
+use Rattle.postcard_cli.specs.Command.{IsCallOf}
+use Rattle.postcard_cli.specs.Program.{Form}
+use Rattle.postcard_cli.specs.Hexadecimal.{words_of, HasBadWord}
+use Rattle.postcard_cli.specs.Message.{lines_of, StandsFor}
+use Rattle.postcard_cli.proofs.MessageLemmas.{Decoded, prints_both}
+use Rattle.postcard_dyn_schema.specs.declared.schema.Schema.{Schema}
+use Rattle.postcard_dyn_schema.specs.Grammar.{IsExpression}
+use Rattle.postcard_cli.specs.Refusal.{IsTooLong, PrintingFails, DecodingFails, NamedDecodeFails, Converts, CommandFails, CallFails, HexFails, FrontFails, DecodeFails, DecodeAllFails}
+use Rattle.postcard_cli.specs.declared.program.Task.TheVariants as tasks
+use Rattle.postcard_cli.specs.declared.failure.Failure.{Failure}
+use Rattle.postcard_cli.specs.declared.failure.Failure.TheVariants.{Usage, BadHex, Library, Output}
+use Rattle.postcard_cli.specs.declared.command.TypeWord.TheVariants.{Named, Expression}
+use Rattle.postcard_cli.specs.declared.command.Command.{Command}
+use Rattle.postcard_cli.specs.declared.command.Command.TheVariants.{Encode, Decode, DecodeAll, Frames, FramesOf, Types}
+
+-- A number that isn't at most another is above it.
+pub above : (m n : ℕ) → (m ≤ n → ⊥) → n < m
+above m n none = omega arith
+
+-- A value that doesn't refuse itself is too long if it is refused where each value of at most 4,096 bytes is taken.
+pub too_long : {T : Type 0} (shape : Shape T) (v : T) (e : Error)
+    → ((shape.refuses v → ⊥) → length (canonical (shape.tree v)) ≤ 4096 → ⊥) → ((shape.refuses v → ⊥) → IsWriteError shape.text e)
+    → IsTooLong shape v e
+too_long shape v e full named takes prints = (
+  buffer_full (named takes),
+  above (length (canonical (shape.tree v))) 4096 (full takes),
+) where
+  buffer_full : IsWriteError shape.text e → e ≡ SerializeBufferFull
+  buffer_full (inl is) = is
+  buffer_full (inr text) = absurd (prints text.0)
+
+-- The library's error is that memory is lacking, or else no value is there.
+pub memory_or_none : (grows none : Type 0) (e : Error) → IsReadError grows e → (e ≢ OutOfMemory → none)
+    → ((e ≡ OutOfMemory) × grows) ⊎ (IsReadError grows e × none)
+memory_or_none grows none OutOfMemory h f = inl (refl, h)
+memory_or_none grows none e h f = inr (h, f (λ is. cc is))
+
+-- What is printed of the value that a word says, or the failure of printing it, is what the task does.
+pub encodes : (form : Form) (word : Bor (List ℕ)) (v : form.values) (r : Result (Unit {0}) Failure) (old new : Option (List ℕ)) → form.says word.now v
+    → OnOk r (Appends old new (encode_lower (canonical (form.shape.tree v)) ++ 10 ∷ [])) → IfErr r (PrintingFails form.shape v)
+    → Converts (tasks.Encode word) form old new r
+encodes form word v (Ok done) old new says printed fails = record { value = v; said = says; printed = printed }
+encodes form word v (Err (Library e)) old new says printed fails = inr (v, says, fails)
+encodes form word v (Err Output) old new says printed fails = tt
+encodes form word v (Err failure) old new says printed fails = absurd fails
+
+-- The same of a value at the front of bytes.
+pub decodes : (form : Form) (bytes : Bor (List ℕ)) (v : form.values) (rest : List ℕ) (r : Result (Unit {0}) Failure) (old new : Option (List ℕ))
+    → ReadsFront form.shape.reads form.shape.value bytes.now v rest
+    → OnOk r (IfSome (form.text_of v) (λ shown. Appends old new (shown ++ 10 ∷ encode_lower rest ++ 10 ∷ []))) → IfErr r (λ e. e ≡ Output)
+    → Converts (tasks.Decode bytes) form old new r
+decodes form bytes v rest (Ok done) old new is printed fails = record { value = v; rest = rest; is = is; printed = printed }
+decodes form bytes v rest (Err failure) old new is printed fails =
+    let F : Failure → Type 0 = λ f. DecodingFails form bytes.now f in subst F (sym fails) tt
+
+-- A failure of decoding is one of `dec` with the HEX that spells the bytes.
+pub named_fails : (form : Form) (hex bytes : List ℕ) (failure : Failure) → decode_of hex ≡ Ok bytes → DecodingFails form bytes failure → NamedDecodeFails form hex failure
+named_fails form hex bytes (Library e) spelled h = inr (bytes, spelled, h)
+named_fails form hex bytes Output spelled h = tt
+named_fails form hex bytes failure spelled h = absurd h
+
+-- No command fails with `Usage`.
+pub no_usage : (reads : ℕ) (steady : Type 0) (command : Command) (known left old new : Option (List ℕ)) → CommandFails reads steady command known left old new Usage → ⊥
+no_usage reads steady (Encode (Named kind) value) known left old new h = h
+no_usage reads steady (Encode (Expression text) value) known left old new h = h
+no_usage reads steady (Decode (Named kind) hex) known left old new h = h
+no_usage reads steady (Decode (Expression text) hex) known left old new h = h
+no_usage reads steady (DecodeAll expression hex) known left old new h = h
+no_usage reads steady Frames known left old new h = h
+no_usage reads steady (FramesOf expression longest) known left old new h = h
+no_usage reads steady Types known left old new h = cc h
+
+-- A failure of a command is one of each call of it.
+pub call_fails : (reads : ℕ) (steady : Type 0) (words : List (List ℕ)) (command : Command) (known left old new : Option (List ℕ)) (failure : Failure)
+    → IsCallOf words command → CommandFails reads steady command known left old new failure → CallFails reads steady words known left old new failure
+call_fails reads steady words command known left old new Usage is h = absurd (no_usage reads steady command known left old new h)
+call_fails reads steady words command known left old new failure is h = (command, is, h)
+
+-- A success and a failure of an outcome are what it ends with.
+pub ends_with : (r : Result (Unit {0}) Failure) (P : Type 0) (Q : Failure → Type 0) → OnOk r P → IfErr r Q → MatchResult r (λ done. P) Q
+ends_with (Ok done) P Q p q = p
+ends_with (Err failure) P Q p q = q
+
+-- The failures of reading the words of HEX itself are failures of reading HEX.
+pub words_fail : {T : Type 0} (reads : ℕ) (steady : Type 0) (hex : List ℕ) (known : Option (List ℕ)) (r : Result T Failure)
+    → IfErr r (λ e. ((e ≡ BadHex) × HasBadWord (words_of hex)) ⊎ (e ≡ Library OutOfMemory)) → hex ≢ codes "-"
+    → IfErr r (HexFails reads steady hex known known)
+words_fail reads steady hex known (Ok bytes) h own = tt
+words_fail reads steady hex known (Err e) (inl (is, bad)) own =
+    subst (HexFails reads steady hex known known) (sym is) (hex, record { own = λ _. refl; input = λ input. absurd (own input) }, inl bad)
+words_fail reads steady hex known (Err e) (inr is) own = subst (HexFails reads steady hex known known) (sym is) refl
+
+-- A failure at the first message, for `dec`.
+pub first_fails : (reads : ℕ) (steady : Type 0) (expression hex : List ℕ) (known left old new : Option (List ℕ)) (schema : Schema) (bytes : List ℕ) (e : Failure)
+    → IsExpression schema expression → StandsFor hex known left bytes → FrontFails schema bytes bytes old new e
+    → DecodeFails reads steady expression hex known left old new e
+first_fails reads steady expression hex known left old new schema bytes (Library e) spelled stands (inl memory) = inl memory
+first_fails reads steady expression hex known left old new schema bytes (Library e) spelled stands (inr (shown, refused, printed)) = inr (
+  record {
+    schema = schema;
+    spelled = spelled;
+    bytes = bytes;
+    stands = stands;
+    values = [];
+    rest = bytes;
+    are = refl;
+    shown = shown;
+    refused = refused;
+    printed = printed;
+  },
+  refl,
+)
+first_fails reads steady expression hex known left old new schema bytes Output spelled stands h = tt
+first_fails reads steady expression hex known left old new schema bytes failure spelled stands h = absurd h
+
+-- The same at a later message, for `decs`: the values before it are printed.
+pub later_fails : (reads : ℕ) (steady : Type 0) (expression hex : List ℕ) (known left old mid new : Option (List ℕ)) (schema : Schema) (bytes rest : List ℕ) (e : Failure)
+    → IsExpression schema expression → StandsFor hex known left bytes → Decoded schema bytes rest old mid → FrontFails schema bytes rest mid new e
+    → DecodeAllFails reads steady expression hex known left old new e
+later_fails reads steady expression hex known left old mid new schema bytes rest (Library e) spelled stands d (inl memory) = inl memory
+later_fails reads steady expression hex known left old mid new schema bytes rest (Library e) spelled stands d (inr (shown, refused, printed)) = inr (record {
+  schema = schema;
+  spelled = spelled;
+  bytes = bytes;
+  stands = stands;
+  values = d.values;
+  rest = rest;
+  are = d.are;
+  shown = shown;
+  refused = refused;
+  printed = prints_both (lines_of schema d.values) (Some shown) old mid new d.printed printed;
+})
+later_fails reads steady expression hex known left old mid new schema bytes rest Output spelled stands d h = tt
+later_fails reads steady expression hex known left old mid new schema bytes rest failure spelled stands d h = absurd h

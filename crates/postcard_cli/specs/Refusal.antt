@@ -1,0 +1,292 @@
+-- Which failure comes when, and what a command has printed before the line of its failure.
+use Rattle.std.specs.Prelude.{◌≡◌, ◌≢◌, ℕ, ◌+◌, ◌-◌, ◌^◌, ◌<◌, ◌≤◌, ◌⊎◌, ⊤, min, false, List, [], ◌++◌, length, codes, Option, Some, Result, Ok, IsErr, MatchResult}
+use Rattle.std.specs.Fmt.{decimal, ◌++?◌}
+use Rattle.std.specs.Str.{IsUtf8}
+use Rattle.std.specs.Io.KnownBytes.{Consumes, IsAtEnd, Appends}
+use Rattle.hex.specs.Hex.{decode_of}
+use Rattle.postcard_wire.specs.Spelling.{canonical}
+use Rattle.postcard_wire.specs.declared.error.Error.{Error}
+use Rattle.postcard_wire.specs.declared.error.Error.TheVariants.{OutOfMemory, SerializeBufferFull}
+use Rattle.postcard_shape.specs.Shape.{Shape}
+use Rattle.postcard_frame.specs.Front.{ReadsFront}
+use Rattle.postcard_de.specs.Reads.{IsReadError}
+use Rattle.postcard_dyn_schema.specs.declared.schema.Schema.{Schema}
+use Rattle.postcard_dyn_schema.specs.declared.error.ExpressionError.{ExpressionError}
+use Rattle.postcard_dyn_schema.specs.declared.error.Problem.TheVariants as problems
+use Rattle.postcard_dyn_schema.specs.Grammar.{IsExpression}
+use Rattle.postcard_dyn_schema.specs.Meaning.{type_of, has_bytes}
+use Rattle.postcard_dyn_schema.specs.Printed.{expression_error_text}
+use Rattle.postcard_dyn_schema.specs.Text.{characters}
+use Rattle.postcard_dyn.specs.Tree.{tree}
+use Rattle.postcard_dyn.specs.declared.value.Value.{Value}
+use Rattle.postcard_dyn_text.specs.Place.{IsPlaceIn}
+use Rattle.postcard_dyn_text.specs.Spelled.{SpellsValue}
+use Rattle.postcard_dyn_text.specs.declared.read.TextError.TheVariants.{NotAValue}
+use Rattle.postcard_cli.specs.Command.{IsCallOf, IsNoCall}
+use Rattle.postcard_cli.specs.Failure.{exit_status, last_line}
+use Rattle.postcard_cli.specs.Frames.{PrintsAnswersSoFar}
+use Rattle.postcard_cli.specs.Hexadecimal.{words_of, HasBadWord}
+use Rattle.postcard_cli.specs.Message.{lines_of, Prints, ReadsValue, ReadsValues, StandsFor}
+use Rattle.postcard_cli.specs.Program.{Does, Form, form_of, PrintsCall}
+use Rattle.postcard_cli.specs.Stream.{PrintsSoFar}
+use Rattle.postcard_cli.specs.declared.program.Task.{Task}
+use Rattle.postcard_cli.specs.declared.program.Task.TheVariants as tasks
+use Rattle.postcard_cli.specs.declared.command.TypeWord.{TypeWord}
+use Rattle.postcard_cli.specs.declared.command.TypeWord.TheVariants.{Named, Expression}
+use Rattle.postcard_cli.specs.declared.command.Command.{Command}
+use Rattle.postcard_cli.specs.declared.command.Command.TheVariants.{Encode, Decode, DecodeAll, Frames, FramesOf, Types}
+use Rattle.postcard_cli.specs.declared.failure.Failure.{Failure}
+use Rattle.postcard_cli.specs.declared.failure.Failure.TheVariants.{Usage, BadType, BadValue, BadHex, Library, Output, Limit, ReadFailed}
+use Rattle.postcard_cli.specs.declared.failure.Failure.TheVariants as failed
+
+-- ---- TYPE
+
+-- The expression is refused, and what is wrong with it and where was printed. The place is that of
+-- a character, counted from 1, or the next after the last.
+pub record IsTypeRefused (expression : List ℕ) (old new : Option (List ℕ)) : Type 0 where
+  pub error : ExpressionError
+  pub not_memory : error.problem ≢ problems.OutOfMemory
+  pub least : 1 ≤ error.character
+  pub most : error.character ≤ characters expression + 1
+  pub printed : Appends old new (expression_error_text error ++ codes ": ")
+
+-- The expression is refused since messages of its type have no bytes.
+abbrev pub HasNoBytes : List ℕ → Type 0
+HasNoBytes expression = (schema : Schema) × IsExpression schema expression × (has_bytes (type_of schema) ≡ false)
+
+-- The text is a type expression.
+abbrev pub IsType : List ℕ → Type 0
+IsType expression = (schema : Schema) × IsExpression schema expression
+
+-- The failures of reading a type expression.
+abbrev pub TypeFails : List ℕ → Option (List ℕ) → Option (List ℕ) → Failure → Type 0
+TypeFails expression old new BadType = IsTypeRefused expression old new
+TypeFails expression old new (Library e) = e ≡ OutOfMemory
+TypeFails expression old new Output = ⊤
+TypeFails expression old new failure = ⊥
+
+-- ---- HEX
+
+-- The text whose words are the digits of HEX: HEX itself, or, if it is `-`, the whole input.
+pub record IsDigitText (hex : List ℕ) (known left : Option (List ℕ)) (digits : List ℕ) : Type 0 where
+  pub own : hex ≢ codes "-" → digits ≡ hex
+  pub input : hex ≡ codes "-" → Consumes known left digits × IsAtEnd left
+
+-- At least `count` bytes of the input were read.
+abbrev pub ReadsAtLeast : ℕ → Option (List ℕ) → Option (List ℕ) → Type 0
+ReadsAtLeast count known left = (given : List ℕ) × Consumes known left given × (count ≤ length given)
+
+-- The failures of reading all of the input, if no read of a steady input fails and `reads` reads
+-- are made at most. Each read but the last gives a byte or more.
+abbrev pub InputFails : ℕ → Type 0 → Option (List ℕ) → Option (List ℕ) → Failure → Type 0
+InputFails reads steady known left ReadFailed = steady → ⊥
+InputFails reads steady known left Limit = ReadsAtLeast reads known left
+InputFails reads steady known left (Library e) = e ≡ OutOfMemory
+InputFails reads steady known left failure = ⊥
+
+-- The failures of reading HEX. It is bad if a word of its text spells no bytes, or, of the input,
+-- if it isn't UTF-8. The input fails only if HEX is `-`.
+abbrev pub HexFails : ℕ → Type 0 → List ℕ → Option (List ℕ) → Option (List ℕ) → Failure → Type 0
+HexFails reads steady hex known left BadHex =
+    (digits : List ℕ) × IsDigitText hex known left digits × (HasBadWord (words_of digits) ⊎ (IsUtf8 digits → ⊥))
+HexFails reads steady hex known left ReadFailed = (hex ≡ codes "-") × (steady → ⊥)
+HexFails reads steady hex known left Limit = (hex ≡ codes "-") × ReadsAtLeast reads known left
+HexFails reads steady hex known left (Library e) = e ≡ OutOfMemory
+HexFails reads steady hex known left failure = ⊥
+
+-- ---- messages whose type is an expression
+
+-- The text is refused as a value, and the place was printed.
+pub record IsValueRefused (value : List ℕ) (old new : Option (List ℕ)) : Type 0 where
+  pub character : ℕ
+  pub within : IsPlaceIn value (NotAValue character)
+  pub printed : Appends old new (codes "at character " ++ (decimal character ++ codes ": "))
+
+-- The word spells a value of the expression whose encoding has more than 4,096 bytes.
+pub record HasLongEncoding (expression word : List ℕ) : Type 0 where
+  pub schema : Schema
+  pub spelled : IsExpression schema expression
+  pub value : Value
+  pub is : SpellsValue schema value word
+  pub long : 4096 < length (canonical (tree value))
+
+-- The failures of `enc` with an expression.
+abbrev pub EncodeFails : List ℕ → List ℕ → Option (List ℕ) → Option (List ℕ) → Failure → Type 0
+EncodeFails expression word old new BadType = IsTypeRefused expression old new
+EncodeFails expression word old new BadValue = IsType expression × IsValueRefused word old new
+EncodeFails expression word old new (Library e) = (e ≡ OutOfMemory) ⊎ ((e ≡ SerializeBufferFull) × HasLongEncoding expression word)
+EncodeFails expression word old new Output = ⊤
+EncodeFails expression word old new failure = ⊥
+
+-- No front of `rest`, which are the last of the bytes `all`, spells a value of the schema; the
+-- library's error is `e`, and the text of the place in `all` of the part that can't be read is
+-- `shown`.
+pub record IsRefusedAt (schema : Schema) (all rest : List ℕ) (e : Error) (shown : List ℕ) : Type 0 where
+  pub no_value : (v : Value) (more : List ℕ) → ReadsValue schema rest v more → ⊥
+  pub named : IsReadError ⊤ e
+  pub offset : ℕ
+  pub within : offset ≤ length rest
+  pub is : shown ≡ codes "at byte " ++ (decimal (min ((length all - length rest) + offset) (2 ^ 64 - 1)) ++ codes ": ")
+
+-- The failures of reading and printing the value at the front of `rest`.
+abbrev pub FrontFails : Schema → List ℕ → List ℕ → Option (List ℕ) → Option (List ℕ) → Failure → Type 0
+FrontFails schema all rest old new (Library e) =
+    (e ≡ OutOfMemory) ⊎ ((shown : List ℕ) × IsRefusedAt schema all rest e shown × Appends old new shown)
+FrontFails schema all rest old new Output = ⊤
+FrontFails schema all rest old new failure = ⊥
+
+-- The bytes of HEX are values of the expression, and then bytes of which no front is one: the lines
+-- of the values and the place were printed. For `dec` there are no values before.
+pub record IsMessageRefused (expression hex : List ℕ) (known left old new : Option (List ℕ)) (e : Error) : Type 0 where
+  pub schema : Schema
+  pub spelled : IsExpression schema expression
+  pub bytes : List ℕ
+  pub stands : StandsFor hex known left bytes
+  pub values : List Value
+  pub rest : List ℕ
+  pub are : ReadsValues schema bytes values rest
+  pub shown : List ℕ
+  pub refused : IsRefusedAt schema bytes rest e shown
+  pub printed : Prints (lines_of schema values ++? Some shown) old new
+
+-- The failures of `dec` with an expression.
+abbrev pub DecodeFails : ℕ → Type 0 → List ℕ → List ℕ → Option (List ℕ) → Option (List ℕ) → Option (List ℕ) → Option (List ℕ) → Failure → Type 0
+DecodeFails reads steady expression hex known left old new BadType = IsTypeRefused expression old new
+DecodeFails reads steady expression hex known left old new BadHex = IsType expression × HexFails reads steady hex known left BadHex
+DecodeFails reads steady expression hex known left old new ReadFailed = IsType expression × HexFails reads steady hex known left ReadFailed
+DecodeFails reads steady expression hex known left old new Limit = IsType expression × HexFails reads steady hex known left Limit
+DecodeFails reads steady expression hex known left old new (Library e) =
+    (e ≡ OutOfMemory)
+    ⊎ ((refused : IsMessageRefused expression hex known left old new e) × (refused.values ≡ []))
+DecodeFails reads steady expression hex known left old new Output = ⊤
+DecodeFails reads steady expression hex known left old new failure = ⊥
+
+-- The failures of `decs`.
+abbrev pub DecodeAllFails : ℕ → Type 0 → List ℕ → List ℕ → Option (List ℕ) → Option (List ℕ) → Option (List ℕ) → Option (List ℕ) → Failure → Type 0
+DecodeAllFails reads steady expression hex known left old new BadType = IsTypeRefused expression old new ⊎ HasNoBytes expression
+DecodeAllFails reads steady expression hex known left old new BadHex = IsType expression × HexFails reads steady hex known left BadHex
+DecodeAllFails reads steady expression hex known left old new ReadFailed = IsType expression × HexFails reads steady hex known left ReadFailed
+DecodeAllFails reads steady expression hex known left old new Limit = IsType expression × HexFails reads steady hex known left Limit
+DecodeAllFails reads steady expression hex known left old new (Library e) = (e ≡ OutOfMemory) ⊎ IsMessageRefused expression hex known left old new e
+DecodeAllFails reads steady expression hex known left old new Output = ⊤
+DecodeAllFails reads steady expression hex known left old new failure = ⊥
+
+-- ---- types that have a name
+
+-- The value's encoding has more than 4,096 bytes, and the library's error `e` says so. No value of a
+-- type that has a name refuses itself, so neither premise is one there.
+abbrev pub IsTooLong : {T : Type 0} → Shape T → T → Error → Type 0
+IsTooLong shape value e =
+    (shape.refuses value → ⊥) → (shape.text → ⊥) → (e ≡ SerializeBufferFull) × (4096 < length (canonical (shape.tree value)))
+
+-- The failures of printing the encoding of a value.
+abbrev pub PrintingFails : {T : Type 0} → Shape T → T → Failure → Type 0
+PrintingFails shape value (Library e) = IsTooLong shape value e
+PrintingFails shape value Output = ⊤
+PrintingFails shape value failure = ⊥
+
+-- The word says a value that is too long.
+abbrev pub SaysLong : Form → List ℕ → Error → Type 0
+SaysLong form word e = (value : form.values) × form.says word value × IsTooLong form.shape value e
+
+-- No front of the bytes spells a value.
+abbrev pub HasNoValue : Form → List ℕ → Type 0
+HasNoValue form bytes = (v : form.values) (rest : List ℕ) → ReadsFront form.shape.reads form.shape.value bytes v rest → ⊥
+
+-- The failures of encoding the value of a word.
+abbrev pub EncodingFails : Form → List ℕ → Failure → Type 0
+EncodingFails form word BadValue = form.says_none word
+EncodingFails form word (Library e) = (e ≡ OutOfMemory) ⊎ SaysLong form word e
+EncodingFails form word Output = ⊤
+EncodingFails form word failure = ⊥
+
+-- The failures of decoding a value from the front of bytes.
+abbrev pub DecodingFails : Form → List ℕ → Failure → Type 0
+DecodingFails form bytes (Library e) = ((e ≡ OutOfMemory) × form.shape.grows) ⊎ (IsReadError form.shape.grows e × HasNoValue form bytes)
+DecodingFails form bytes Output = ⊤
+DecodingFails form bytes failure = ⊥
+
+-- The failures of a task.
+abbrev pub TaskFails : Task → Form → Failure → Type 0
+TaskFails (tasks.Encode word) form failure = EncodingFails form word.now failure
+TaskFails (tasks.Decode bytes) form failure = DecodingFails form bytes.now failure
+
+-- What a task prints, or its failure.
+abbrev pub Converts : Task → Form → Option (List ℕ) → Option (List ℕ) → Result Unit Failure → Type 0
+Converts task form old new result = MatchResult result (λ done. Does task form old new) (λ failure. TaskFails task form failure)
+
+-- The failures of `dec` with a name: HEX is bad if it spells no bytes, and else decoding fails.
+abbrev pub NamedDecodeFails : Form → List ℕ → Failure → Type 0
+NamedDecodeFails form hex BadHex = IsErr (decode_of hex)
+NamedDecodeFails form hex (Library e) =
+    (e ≡ OutOfMemory) ⊎ ((bytes : List ℕ) × (decode_of hex ≡ Ok bytes) × DecodingFails form bytes (Library e))
+NamedDecodeFails form hex Output = ⊤
+NamedDecodeFails form hex failure = ⊥
+
+-- ---- streams
+
+-- The failures of `frames`, whose lines until then were printed. At `Limit` at least one byte was
+-- read for each of the 65,536 reads.
+abbrev pub FramesFail : Type 0 → Option (List ℕ) → Option (List ℕ) → Option (List ℕ) → Option (List ℕ) → Failure → Type 0
+FramesFail steady known left old new Limit = (given : List ℕ) × (65536 ≤ length given) × PrintsAnswersSoFar given known left old new
+FramesFail steady known left old new ReadFailed = (steady → ⊥) × ((given : List ℕ) × PrintsAnswersSoFar given known left old new)
+FramesFail steady known left old new failed.OutOfMemory = ⊤
+FramesFail steady known left old new Output = ⊤
+FramesFail steady known left old new failure = ⊥
+
+-- The failures of `frames TYPE`. The lines of all that was read were printed before a read failed.
+abbrev pub StreamFails : Type 0 → List ℕ → ℕ → Option (List ℕ) → Option (List ℕ) → Option (List ℕ) → Option (List ℕ) → Failure → Type 0
+StreamFails steady expression longest known left old new BadType = IsTypeRefused expression old new
+StreamFails steady expression longest known left old new (Library e) = e ≡ OutOfMemory
+StreamFails steady expression longest known left old new Limit =
+    (schema : Schema) × IsExpression schema expression
+    × ((given : List ℕ) × (2 ^ 64 - 1 ≤ length given) × PrintsSoFar schema longest given known left old new)
+StreamFails steady expression longest known left old new ReadFailed =
+    (steady → ⊥) × ((schema : Schema) × IsExpression schema expression × ((given : List ℕ) × PrintsSoFar schema longest given known left old new))
+StreamFails steady expression longest known left old new failed.OutOfMemory = IsType expression
+StreamFails steady expression longest known left old new Output = ⊤
+StreamFails steady expression longest known left old new failure = ⊥
+
+-- ---- calls
+
+-- The failures of `enc TYPE VALUE`.
+abbrev pub EncodeWordFails : TypeWord → List ℕ → Option (List ℕ) → Option (List ℕ) → Failure → Type 0
+EncodeWordFails (Named kind) value old new failure = EncodingFails (form_of kind) value failure
+EncodeWordFails (Expression expression) value old new failure = EncodeFails expression.now value old new failure
+
+-- The failures of `dec TYPE HEX`.
+abbrev pub DecodeWordFails : ℕ → Type 0 → TypeWord → List ℕ → Option (List ℕ) → Option (List ℕ) → Option (List ℕ) → Option (List ℕ) → Failure → Type 0
+DecodeWordFails reads steady (Named kind) hex known left old new failure = NamedDecodeFails (form_of kind) hex failure
+DecodeWordFails reads steady (Expression expression) hex known left old new failure = DecodeFails reads steady expression.now hex known left old new failure
+
+-- The failures of a command, where the input has the bytes `known` before the call and `left` after
+-- it, and the output has `old` and `new`. A steady input's reads don't fail.
+abbrev pub CommandFails : ℕ → Type 0 → Command → Option (List ℕ) → Option (List ℕ) → Option (List ℕ) → Option (List ℕ) → Failure → Type 0
+CommandFails reads steady (Encode kind value) known left old new failure = EncodeWordFails kind value.now old new failure
+CommandFails reads steady (Decode kind hex) known left old new failure = DecodeWordFails reads steady kind hex.now known left old new failure
+CommandFails reads steady (DecodeAll expression hex) known left old new failure = DecodeAllFails reads steady expression.now hex.now known left old new failure
+CommandFails reads steady Frames known left old new failure = FramesFail steady known left old new failure
+CommandFails reads steady (FramesOf expression longest) known left old new failure = StreamFails steady expression.now longest known left old new failure
+CommandFails reads steady Types known left old new failure = failure ≡ Output
+
+-- The failures of a call of these words: `Usage` if and only if they are no call, and else one of
+-- the command.
+abbrev pub CallFails : ℕ → Type 0 → List (List ℕ) → Option (List ℕ) → Option (List ℕ) → Option (List ℕ) → Option (List ℕ) → Failure → Type 0
+CallFails reads steady words known left old new Usage = IsNoCall words
+CallFails reads steady words known left old new failure =
+    (command : Command) × IsCallOf words command × CommandFails reads steady command known left old new failure
+
+-- What a call of these words did that ended so: it printed what its command prints, or failed.
+abbrev pub Ends : List ℕ → ℕ → Type 0 → List (List ℕ) → Option (List ℕ) → Option (List ℕ) → Option (List ℕ) → Option (List ℕ) → Result Unit Failure → Type 0
+Ends syntax reads steady words known left old new outcome =
+    MatchResult outcome (λ done. PrintsCall syntax words known left old new) (λ failure. CallFails reads steady words known left old new failure)
+
+-- The outcome of a call is reported: the line of its failure is printed, if it failed, and the status
+-- is that of the outcome; or else the status is 3.
+abbrev pub Reports : Result Unit Failure → Option (List ℕ) → Option (List ℕ) → ℕ → Type 0
+Reports outcome old new status = (status ≡ 3) ⊎ ((status ≡ exit_status outcome) × Appends old new (last_line outcome))
+
+-- A call of these words ended in some way, which was then reported by its status.
+abbrev pub Answers : List ℕ → ℕ → Type 0 → List (List ℕ) → Option (List ℕ) → Option (List ℕ) → Option (List ℕ) → Option (List ℕ) → ℕ → Type 0
+Answers syntax reads steady words known left old new status =
+    (outcome : Result Unit Failure) × (mid : Option (List ℕ)) × Ends syntax reads steady words known left old mid outcome × Reports outcome mid new status

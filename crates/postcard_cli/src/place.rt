@@ -1,0 +1,152 @@
+//! The place in a value where reading fails, as a path of names and numbers: [`place_of`].
+
+ghost use Rattle.std.specs.Prelude.{◌≡◌, IfErr};
+
+use postcard_dyn::{Schema, take_from_bytes};
+use postcard_wire::{Error, Result};
+use std::alloc::Global;
+
+/// Returns the path of the part at which [`take_from_bytes`] fails, and `: ` after it, as
+/// `samples[1]: `. The path is empty if the whole value can't be read, and then so is the text.
+///
+/// A field is its name, a part of a tuple its number, counted from 0, after a `.`, an element of a
+/// list or an array its number in brackets, and a variant its name. Of an entry of a map, the key is
+/// part 0, and the value part 1.
+///
+/// The caller must know that `take_from_bytes` fails on these bytes, and not with `OutOfMemory`;
+/// this is not checked.
+///
+/// # Errors
+///
+/// Fails with `OutOfMemory` if an allocation fails.
+pub fn place_of(alloc: Global, schema: &Schema, message: &[u8]) -> Result<String>
+    ensures { IfErr result (λ e. e ≡ Error.OutOfMemory) }
+{
+    let mut path = String::new(alloc);
+    push_path(alloc, schema, message, &mut path)?;
+    if !path.is_empty() {
+        path.push_str(": ")?;
+    }
+    Ok(path)
+}
+
+/// Appends a `.`, unless the path is empty.
+fn push_dot(path: &mut String) -> Result<()>
+    ensures { IfErr result (λ e. e ≡ Error.OutOfMemory) }
+{
+    if !path.is_empty() {
+        path.push_str(".")?;
+    }
+    Ok(())
+}
+
+/// Appends the path in a value of the schema.
+#[cycle(place)]
+fn push_path(alloc: Global, schema: &Schema, bytes: &[u8], path: &mut String) -> Result<()>
+    ensures { IfErr result (λ e. e ≡ Error.OutOfMemory) }
+{
+    match schema {
+        Schema::Leaf(_) => Ok(()),
+        Schema::Option(content) => match bytes {
+            [1, rest @ ..] => push_path(alloc, content, rest, path),
+            _ => Ok(()),
+        },
+        Schema::Seq(element) => push_in_list(alloc, element, bytes, path),
+        Schema::Map(entry) => push_in_list(alloc, entry, bytes, path),
+        Schema::Array(element, _) => push_in_elements(alloc, element, bytes, path),
+        Schema::Group(parts) => push_in_group(alloc, parts, bytes, path),
+        Schema::Enum(variants) => push_in_variant(alloc, variants, bytes, path),
+        Schema::Named(name, content) => {
+            push_dot(path)?;
+            path.push_str(name)?;
+            push_path(alloc, content, bytes, path)
+        }
+    }
+}
+
+/// Appends the path in a list, of which the count is read first.
+#[cycle(place)]
+fn push_in_list(alloc: Global, element: &Schema, bytes: &[u8], path: &mut String) -> Result<()>
+    ensures { IfErr result (λ e. e ≡ Error.OutOfMemory) }
+{
+    match postcard_frame::take_from_bytes::<u64>(alloc, bytes) {
+        Ok((_, rest)) => push_in_elements(alloc, element, rest, path),
+        Err(_) => Ok(()),
+    }
+}
+
+/// Appends the number of the element that is refused, and the path in it. Each element has at least
+/// one byte.
+#[cycle(place)]
+fn push_in_elements(alloc: Global, element: &Schema, bytes: &[u8], path: &mut String) -> Result<()>
+    ensures { IfErr result (λ e. e ≡ Error.OutOfMemory) }
+{
+    let mut rest = bytes;
+    for i in 0..bytes.len() {
+        match take_from_bytes(alloc, element, rest) {
+            Ok((_, after)) => rest = after,
+            Err(Error::OutOfMemory) => return Err(Error::OutOfMemory),
+            Err(_) => {
+                write!(path, "[{i}]")?;
+                return push_path(alloc, element, rest, path);
+            }
+        }
+    }
+    let count = bytes.len();
+    write!(path, "[{count}]")?;
+    push_path(alloc, element, rest, path)
+}
+
+/// Appends the number of the part that is refused, unless it has a name, and the path in it.
+#[cycle(place)]
+fn push_in_group(alloc: Global, parts: &Vec<Schema>, bytes: &[u8], path: &mut String) -> Result<()>
+    ensures { IfErr result (λ e. e ≡ Error.OutOfMemory) }
+{
+    let mut rest = bytes;
+    let mut number = 0usize;
+    for part in parts {
+        match take_from_bytes(alloc, part, rest) {
+            Ok((_, after)) => rest = after,
+            Err(Error::OutOfMemory) => return Err(Error::OutOfMemory),
+            Err(_) => {
+                push_number(part, number, path)?;
+                return push_path(alloc, part, rest, path);
+            }
+        }
+        number = number.saturating_add(1);
+    }
+    Ok(())
+}
+
+/// Appends the number of a part that has no name.
+fn push_number(part: &Schema, number: usize, path: &mut String) -> Result<()>
+    ensures { IfErr result (λ e. e ≡ Error.OutOfMemory) }
+{
+    match part {
+        Schema::Named(_, _) => Ok(()),
+        _ => {
+            push_dot(path)?;
+            write!(path, "{number}")?;
+            Ok(())
+        }
+    }
+}
+
+/// Appends the path in an enum, of which the index of the variant is read first.
+#[cycle(place)]
+fn push_in_variant(
+    alloc: Global,
+    variants: &Vec<Schema>,
+    bytes: &[u8],
+    path: &mut String,
+) -> Result<()>
+    ensures { IfErr result (λ e. e ≡ Error.OutOfMemory) }
+{
+    match postcard_frame::take_from_bytes::<u32>(alloc, bytes) {
+        Ok((index, rest)) => match variants.get(index as usize) {
+            Some(variant) => push_path(alloc, variant, rest, path),
+            None => Ok(()),
+        },
+        Err(_) => Ok(()),
+    }
+}
