@@ -23,6 +23,8 @@
 //!   from a reader (module `de`).
 //! - `CobsAccumulator` puts frames together from the pieces of a stream (module `accumulator`), and
 //!   `read_frames` reads the frames of a reader (both of `postcard_accumulator`).
+//! - `to_slice_crc32` and the calls of `ser_flavors::checksum` write a value with a checksum after it, and
+//!   `from_bytes_crc32` and the calls of `de_flavors::checksum` check it (all of `postcard_crc`).
 //! - `fixint` writes and reads numbers at their full width, the lowest or the highest byte first
 //!   (all of `postcard_fixint`).
 //! - `laws` has the laws that tie both directions together.
@@ -31,6 +33,7 @@
 pub mod accumulator;
 mod cobs;
 mod de;
+pub mod de_flavors;
 pub mod experimental;
 pub mod laws;
 mod ser;
@@ -43,11 +46,17 @@ pub use cobs::{
 };
 pub use de::from_io;
 pub use postcard_accumulator::{Answer, ReadEnd, read_frames};
+pub use postcard_crc::de::{
+    from_bytes as from_bytes_crc32, take_from_bytes as take_from_bytes_crc32,
+};
+pub use postcard_crc::ser::{
+    to_allocvec as to_allocvec_crc32, to_allocvec as to_stdvec_crc32, to_slice as to_slice_crc32,
+    to_vec as to_vec_crc32,
+};
 pub use postcard_de::{
     Case, Deserialize, DeserializeOwned, Deserializer, FromRepr, MapAccess, NoCase, Owned, Repr,
     SeqAccess, Shaped,
 };
-pub use postcard_de_flavors as de_flavors;
 pub use postcard_fixint as fixint;
 pub use postcard_frame::{from_bytes, from_bytes_cobs, take_from_bytes, take_from_bytes_cobs};
 pub use postcard_ser::{Serialize, SerializeRepr, Serializer, serialize_variant};

@@ -1,0 +1,8 @@
+-- The lemmas, by subject.
+pub mod PolynomialLemmas
+pub mod ReflectionLemmas
+pub mod RegisterLemmas
+pub mod MessageLemmas
+pub mod CrcLemmas
+pub mod DigestLemmas
+pub mod FrameLemmas

@@ -1,0 +1,8 @@
+-- The definitions that contracts cite.
+pub mod Polynomial
+pub mod Crc
+pub mod Frame
+pub mod Algorithm
+pub mod Register
+pub mod Digest
+pub mod Damage

@@ -1,0 +1,189 @@
+//! Algorithms by their names in Koopman's and Cook's catalogue of parametrised CRC algorithms.
+//!
+//! The checksum of the text `123456789` is each algorithm's `check`, and the remainder of a message
+//! with its checksum is its `residue`. Where a frame is a message and then its checksum lowest byte
+//! first, as `postcard` sends it, take an algorithm whose `refin` and `refout` are true: it sees
+//! every burst of changed bits that is not longer than the checksum, also across the end of the
+//! message.
+
+use crate::algorithm::Algorithm;
+
+/// CRC-8/SMBUS: the system management bus.
+pub const CRC_8_SMBUS: Algorithm<u8> = Algorithm {
+    width: 8,
+    poly: 0x07,
+    init: 0x00,
+    refin: false,
+    refout: false,
+    xorout: 0x00,
+    check: 0xf4,
+    residue: 0x00,
+};
+
+/// CRC-8/MAXIM-DOW: 1-Wire devices.
+pub const CRC_8_MAXIM_DOW: Algorithm<u8> = Algorithm {
+    width: 8,
+    poly: 0x31,
+    init: 0x00,
+    refin: true,
+    refout: true,
+    xorout: 0x00,
+    check: 0xa1,
+    residue: 0x00,
+};
+
+/// CRC-16/IBM-SDLC: HDLC, X.25 and PPP.
+pub const CRC_16_IBM_SDLC: Algorithm<u16> = Algorithm {
+    width: 16,
+    poly: 0x1021,
+    init: 0xffff,
+    refin: true,
+    refout: true,
+    xorout: 0xffff,
+    check: 0x906e,
+    residue: 0xf0b8,
+};
+
+/// CRC-16/XMODEM: file transfer by XMODEM. Not reflected: see the head of this module.
+pub const CRC_16_XMODEM: Algorithm<u16> = Algorithm {
+    width: 16,
+    poly: 0x1021,
+    init: 0x0000,
+    refin: false,
+    refout: false,
+    xorout: 0x0000,
+    check: 0x31c3,
+    residue: 0x0000,
+};
+
+/// CRC-16/MODBUS: Modbus over serial lines.
+pub const CRC_16_MODBUS: Algorithm<u16> = Algorithm {
+    width: 16,
+    poly: 0x8005,
+    init: 0xffff,
+    refin: true,
+    refout: true,
+    xorout: 0x0000,
+    check: 0x4b37,
+    residue: 0x0000,
+};
+
+/// CRC-16/USB: data packets of USB.
+pub const CRC_16_USB: Algorithm<u16> = Algorithm {
+    width: 16,
+    poly: 0x8005,
+    init: 0xffff,
+    refin: true,
+    refout: true,
+    xorout: 0xffff,
+    check: 0xb4c8,
+    residue: 0xb001,
+};
+
+/// CRC-16/KERMIT: file transfer by Kermit, and V.41.
+pub const CRC_16_KERMIT: Algorithm<u16> = Algorithm {
+    width: 16,
+    poly: 0x1021,
+    init: 0x0000,
+    refin: true,
+    refout: true,
+    xorout: 0x0000,
+    check: 0x2189,
+    residue: 0x0000,
+};
+
+/// CRC-24/OPENPGP: armored messages of OpenPGP. Not reflected.
+pub const CRC_24_OPENPGP: Algorithm<u32> = Algorithm {
+    width: 24,
+    poly: 0x86_4cfb,
+    init: 0xb7_04ce,
+    refin: false,
+    refout: false,
+    xorout: 0x00_0000,
+    check: 0x21_cf02,
+    residue: 0x00_0000,
+};
+
+/// CRC-32/ISO-HDLC: Ethernet, ZIP and PNG; often called just CRC-32.
+pub const CRC_32_ISO_HDLC: Algorithm<u32> = Algorithm {
+    width: 32,
+    poly: 0x04c1_1db7,
+    init: 0xffff_ffff,
+    refin: true,
+    refout: true,
+    xorout: 0xffff_ffff,
+    check: 0xcbf4_3926,
+    residue: 0xdebb_20e3,
+};
+
+/// CRC-32/ISCSI: iSCSI, SCTP and ext4; also called CRC-32C.
+pub const CRC_32_ISCSI: Algorithm<u32> = Algorithm {
+    width: 32,
+    poly: 0x1edc_6f41,
+    init: 0xffff_ffff,
+    refin: true,
+    refout: true,
+    xorout: 0xffff_ffff,
+    check: 0xe306_9283,
+    residue: 0xb798_b438,
+};
+
+/// CRC-32/BZIP2: bzip2. Not reflected.
+pub const CRC_32_BZIP2: Algorithm<u32> = Algorithm {
+    width: 32,
+    poly: 0x04c1_1db7,
+    init: 0xffff_ffff,
+    refin: false,
+    refout: false,
+    xorout: 0xffff_ffff,
+    check: 0xfc89_1918,
+    residue: 0xc704_dd7b,
+};
+
+/// CRC-32/MPEG-2: transport streams of MPEG-2. Not reflected.
+pub const CRC_32_MPEG_2: Algorithm<u32> = Algorithm {
+    width: 32,
+    poly: 0x04c1_1db7,
+    init: 0xffff_ffff,
+    refin: false,
+    refout: false,
+    xorout: 0x0000_0000,
+    check: 0x0376_e6e7,
+    residue: 0x0000_0000,
+};
+
+/// CRC-64/XZ: the format xz.
+pub const CRC_64_XZ: Algorithm<u64> = Algorithm {
+    width: 64,
+    poly: 0x42f0_e1eb_a9ea_3693,
+    init: 0xffff_ffff_ffff_ffff,
+    refin: true,
+    refout: true,
+    xorout: 0xffff_ffff_ffff_ffff,
+    check: 0x995d_c9bb_df19_39fa,
+    residue: 0x4995_8c9a_bd7d_353f,
+};
+
+/// CRC-64/ECMA-182: tape cartridges. Not reflected.
+pub const CRC_64_ECMA_182: Algorithm<u64> = Algorithm {
+    width: 64,
+    poly: 0x42f0_e1eb_a9ea_3693,
+    init: 0x0000_0000_0000_0000,
+    refin: false,
+    refout: false,
+    xorout: 0x0000_0000_0000_0000,
+    check: 0x6c40_df5f_0b49_7347,
+    residue: 0x0000_0000_0000_0000,
+};
+
+/// CRC-82/DARC: data radio channels.
+pub const CRC_82_DARC: Algorithm<u128> = Algorithm {
+    width: 82,
+    poly: 0x0_308c_0111_0114_0144_0411,
+    init: 0x0_0000_0000_0000_0000_0000,
+    refin: true,
+    refout: true,
+    xorout: 0x0_0000_0000_0000_0000_0000,
+    check: 0x0_9ea8_3f62_5023_801f_d612,
+    residue: 0x0_0000_0000_0000_0000_0000,
+};

@@ -1,0 +1,86 @@
+//! Check values of the catalogue, and what the theorems on bursts leave out.
+
+use crate::catalog::{
+    CRC_8_MAXIM_DOW, CRC_8_SMBUS, CRC_16_IBM_SDLC, CRC_16_KERMIT, CRC_16_MODBUS, CRC_16_USB,
+    CRC_16_XMODEM, CRC_24_OPENPGP, CRC_32_BZIP2, CRC_32_ISCSI, CRC_32_ISO_HDLC, CRC_32_MPEG_2,
+    CRC_64_ECMA_182, CRC_64_XZ, CRC_82_DARC,
+};
+use crate::{Crc, Width};
+use std::process::Abort;
+
+const TEXT: &[u8] = b"123456789";
+
+/// Asserts that the checksum of `bytes` is `want`, whole and in two pieces.
+fn same<W: Width>(rt: &impl Abort, crc: &Crc<W>, bytes: &[u8], want: W) {
+    let middle = bytes.len() / 2;
+    let mut digest = crc.digest();
+    digest.update(&bytes[..middle]);
+    digest.update(&bytes[middle..]);
+    let pieces = digest.finalize().to_u128();
+    let whole = crc.checksum(bytes).to_u128();
+    assert!(rt; whole == want.to_u128());
+    assert!(rt; pieces == want.to_u128());
+}
+
+#[test]
+fn check_values_of_8_and_16_bits(rt: HostRuntime) {
+    same(&rt, &Crc::new(&CRC_8_SMBUS), TEXT, CRC_8_SMBUS.check);
+    same(
+        &rt,
+        &Crc::new(&CRC_8_MAXIM_DOW),
+        TEXT,
+        CRC_8_MAXIM_DOW.check,
+    );
+    same(
+        &rt,
+        &Crc::new(&CRC_16_IBM_SDLC),
+        TEXT,
+        CRC_16_IBM_SDLC.check,
+    );
+    same(&rt, &Crc::new(&CRC_16_XMODEM), TEXT, CRC_16_XMODEM.check);
+    same(&rt, &Crc::new(&CRC_16_MODBUS), TEXT, CRC_16_MODBUS.check);
+    same(&rt, &Crc::new(&CRC_16_USB), TEXT, CRC_16_USB.check);
+    same(&rt, &Crc::new(&CRC_16_KERMIT), TEXT, CRC_16_KERMIT.check);
+}
+
+#[test]
+fn check_values_of_more_bits(rt: HostRuntime) {
+    same(&rt, &Crc::new(&CRC_24_OPENPGP), TEXT, CRC_24_OPENPGP.check);
+    same(
+        &rt,
+        &Crc::new(&CRC_32_ISO_HDLC),
+        TEXT,
+        CRC_32_ISO_HDLC.check,
+    );
+    same(&rt, &Crc::new(&CRC_32_ISCSI), TEXT, CRC_32_ISCSI.check);
+    same(&rt, &Crc::new(&CRC_32_BZIP2), TEXT, CRC_32_BZIP2.check);
+    same(&rt, &Crc::new(&CRC_32_MPEG_2), TEXT, CRC_32_MPEG_2.check);
+    same(&rt, &Crc::new(&CRC_64_XZ), TEXT, CRC_64_XZ.check);
+    same(
+        &rt,
+        &Crc::new(&CRC_64_ECMA_182),
+        TEXT,
+        CRC_64_ECMA_182.check,
+    );
+    same(&rt, &Crc::new(&CRC_82_DARC), TEXT, CRC_82_DARC.check);
+}
+
+/// With another initial value, CRC-16/XMODEM is CRC-16/IBM-3740, whose check value is 29b1.
+#[test]
+fn another_initial_value(rt: HostRuntime) {
+    let crc: Crc<u16> = Crc::new(&CRC_16_XMODEM);
+    let mut digest = crc.digest_with_initial(0xffff);
+    digest.update(TEXT);
+    let got = digest.finalize();
+    assert!(rt; got == 0x29b1);
+}
+
+/// The checksum 31c3 of the text comes lowest byte first, and CRC-16/XMODEM is not reflected: a
+/// change within 13 bits in a row, across the end of the message, is another message with its own
+/// checksum.
+#[test]
+fn a_burst_across_the_end_passes_unreflected(rt: HostRuntime) {
+    let crc: Crc<u16> = Crc::new(&CRC_16_XMODEM);
+    same(&rt, &crc, b"123456789", 0x31c3);
+    same(&rt, &crc, b"123456788", 0x21e2);
+}

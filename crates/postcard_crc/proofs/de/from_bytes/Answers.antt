@@ -1,0 +1,12 @@
+-- The value that was read, or why none was.
+use Rattle.postcard_de_nodes.specs.ReadLemmas.{is_refusal}
+use Rattle.postcard_crc.proofs.de.from_bytes.Goals as goal
+
+pub returns-in_err-value-clause-reads_back : goal.returns-in_err-value-clause-reads_back
+returns-in_err-value-clause-reads_back g c x a m rest crc fits sound took is e =
+    let refused = c.in_err-value in
+    let found = refused.ensures.reads_back x a m rest crc fits sound took is e in
+    rw (is_refusal c.from_residual.result refused.field-0.0 c.from_residual.ensures.1) found
+
+pub returns-clause-reads_back : goal.returns-clause-reads_back
+returns-clause-reads_back g c x a m rest crc fits sound took is e = (c.in_ok-value.ensures.reads_back x a m rest crc fits sound took is e).0

@@ -1,0 +1,32 @@
+-- The value that was read, with nothing after its checksum.
+use Rattle.std.proofs.Common.{◌≡◌, ◌++◌, [], ap, sym, ◌∙◌, append-nil}
+use Rattle.postcard_de_nodes.specs.ReadLemmas.{is_refusal}
+use Rattle.postcard_wire.specs.Spelling.{canonical}
+use Rattle.crc.specs.Frame.{low_bytes}
+use Rattle.postcard_crc.proofs.de.from_bytes_whole.Goals as goal
+
+pub returns-in_err-value-clause-reads_back : goal.returns-in_err-value-clause-reads_back
+returns-in_err-value-clause-reads_back g c x a m crc fits sound took is e =
+    let refused = c.in_err-value in
+    let low = low_bytes g.W.Width.size crc in
+    let front = canonical (g.T.Shaped.shape.tree x) in
+    let found = refused.ensures.reads_back x a m [] crc fits sound took is (e ∙ ap (λ z. front ++ z) (sym (append-nil low))) in
+    rw (is_refusal c.from_residual.result refused.field-0.0 c.from_residual.ensures.1) found
+
+pub returns-then-is_end-clause-reads_back : goal.returns-then-is_end-clause-reads_back
+returns-then-is_end-clause-reads_back g c x a m crc fits sound took is e =
+    let low = low_bytes g.W.Width.size crc in
+    let front = canonical (g.T.Shaped.shape.tree x) in
+    (c.in_ok-value.ensures.reads_back x a m [] crc fits sound took is (e ∙ ap (λ z. front ++ z) (sym (append-nil low)))).0
+
+pub returns-then-is_end-clause-refuses_damage : goal.returns-then-is_end-clause-refuses_damage
+returns-then-is_end-clause-refuses_damage g c a sent took damage =
+    c.in_ok-value.ensures.refuses_damage a sent took damage (c.is_end.ensures.0 c.if-is_end.true)
+
+pub returns-else-is_end-clause-reads_back : goal.returns-else-is_end-clause-reads_back
+returns-else-is_end-clause-reads_back g c x a m crc fits sound took is e =
+    let low = low_bytes g.W.Width.size crc in
+    let front = canonical (g.T.Shaped.shape.tree x) in
+    let end = c.is_end.ensures.1 ((c.in_ok-value.ensures.reads_back x a m [] crc fits sound took is (e ∙ ap (λ z. front ++ z) (sym (append-nil low)))).1) in
+    let more = c.if-is_end.false in
+    absurd (cc)

@@ -1,0 +1,47 @@
+-- The front is followed by its checksum, so the check succeeds; what was read to its end is a frame.
+use Rattle.std.proofs.Common.{◌≡◌, List, ◌++◌, sym, ap, ◌∙◌, append_assoc}
+use Rattle.postcard_wire.specs.Spelling.{canonical}
+use Rattle.crc.specs.Frame.{low_bytes}
+use Rattle.postcard_crc.proofs.Damage.{are_bytes, not_damaged}
+use Rattle.postcard_crc.proofs.de.take_from_bytes.Goals as goal
+
+pub returns-in_err-rest-clause-accepts : goal.returns-in_err-rest-clause-accepts
+returns-in_err-rest-clause-accepts g c t a m front rest crc is_read is_spelled sound took is e =
+    let at = c.in_ok-value.ensures.accepts t front (low_bytes g.W.Width.size crc ++ rest) is_read is_spelled e in
+    absurd (c.in_err-rest.ensures.accepts a m front rest crc sound took (e ∙ ap (λ z. front ++ z) (sym at.1)) is at.1)
+
+pub returns-in_err-rest-clause-reads_back : goal.returns-in_err-rest-clause-reads_back
+returns-in_err-rest-clause-reads_back g c x a m rest crc fits sound took is e =
+    let front = canonical (g.T.Shaped.shape.tree x) in
+    let at = c.in_ok-value.ensures.reads_back x (low_bytes g.W.Width.size crc ++ rest) fits e in
+    absurd (c.in_err-rest.ensures.accepts a m front rest crc sound took (e ∙ ap (λ z. front ++ z) (sym at.1)) is at.1)
+
+pub returns-clause-accepts : goal.returns-clause-accepts
+returns-clause-accepts g c t a m front rest crc is_read is_spelled sound took is e =
+    let at = c.in_ok-value.ensures.accepts t front (low_bytes g.W.Width.size crc ++ rest) is_read is_spelled e in
+    (at.0, c.in_ok-rest.ensures.accepts a m front rest crc sound took (e ∙ ap (λ z. front ++ z) (sym at.1)) is at.1)
+
+pub returns-clause-reads_back : goal.returns-clause-reads_back
+returns-clause-reads_back g c x a m rest crc fits sound took is e =
+    let front = canonical (g.T.Shaped.shape.tree x) in
+    let at = c.in_ok-value.ensures.reads_back x (low_bytes g.W.Width.size crc ++ rest) fits e in
+    (at.0, c.in_ok-rest.ensures.accepts a m front rest crc sound took (e ∙ ap (λ z. front ++ z) (sym at.1)) is at.1)
+
+pub returns-clause-refuses_damage : goal.returns-clause-refuses_damage
+returns-clause-refuses_damage g c =
+    let f = c.in_ok-value.ensures.gives in
+    let h = c.in_ok-rest.ensures.gives f.front f.joins in
+    let rest = c.in_ok-rest.rest.now in
+    let k = g.W.Width.size in
+    not_damaged g.T.Shaped.shape.reads g.T.Shaped.shape.value k c.args.digest c.args.bytes.now c.in_ok-value.value rest
+    (record {
+      tree = f.tree;
+      front = f.front;
+      crc = h.0;
+      is_read = f.is_read;
+      is_spelled = f.is_spelled;
+      has = f.has;
+      is_crc = h.1;
+      joins = f.joins ∙ ap (λ z. f.front ++ z) h.2 ∙ sym (append_assoc f.front (low_bytes k h.0) rest);
+    })
+    (are_bytes c.args.bytes.now (λ i. (c.type_inv.bytes i).fits))

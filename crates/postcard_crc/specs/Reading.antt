@@ -1,0 +1,48 @@
+-- Messages with their checksum after them, as they are read.
+use Rattle.std.specs.Prelude.{◌≡◌, ℕ, ◌*◌, ◌≤◌, List, [], ◌++◌, length, true, bit_xor}
+use Rattle.crc.specs.Crc.{Parameters, IsSound, message}
+use Rattle.crc.specs.Digest.{Progress}
+use Rattle.crc.specs.Frame.{low_bytes, AreBytes, IsChecked}
+use Rattle.crc.specs.Damage.{IsBurst}
+use Rattle.postcard_cobs.specs.Groups.{Groups}
+use Rattle.postcard_wire.specs.Tree.{Tree}
+use Rattle.postcard_wire.specs.Spelling.{Spells}
+use Rattle.postcard_crc.specs.Writing.{IsCrcAfter}
+
+-- The output is the bytes, and then the k bytes of their checksum.
+pub record IsWithCrc (k : ℕ) (d : Progress) (bytes output : List ℕ) : Type 0 where
+  pub crc : ℕ
+  pub is_crc : IsCrcAfter d bytes crc
+  pub joins : output ≡ bytes ++ low_bytes k crc
+
+-- A front of the bytes spells a tree that is read, and is followed by the k bytes of its checksum; v
+-- is that tree's value, and `rest` is the bytes after the checksum.
+pub record ReadsChecked {V : Type 0} (reads : Tree → Type 0) (value : Tree → V → Type 0)
+    (k : ℕ) (d : Progress) (bytes : List ℕ) (v : V) (rest : List ℕ) : Type 0 where
+  pub tree : Tree
+  pub front : List ℕ
+  pub crc : ℕ
+  pub is_read : reads tree
+  pub is_spelled : Spells tree front
+  pub has : value tree v
+  pub is_crc : IsCrcAfter d front crc
+  pub joins : bytes ≡ front ++ low_bytes k crc ++ rest
+
+-- What was sent is a message with its checksum in k bytes, by a sound algorithm whose message and
+-- checksum come lowest bit first; of it at most `width` bits in a row were changed into the bytes that came.
+pub record IsDamaged (k : ℕ) (a : Parameters) (sent came : List ℕ) : Type 0 where
+  pub sound : IsSound a
+  pub narrow : a.width ≤ 8 * k
+  pub refin : a.refin ≡ true
+  pub refout : a.refout ≡ true
+  pub is_frame : IsChecked a k sent
+  pub are_bytes : AreBytes sent
+  pub length : length sent ≡ length came
+  pub burst : IsBurst a.width (bit_xor (message true sent) (message true came))
+
+-- The frame's data is a front that spells a tree that is read, and then just its checksum.
+pub record ReadsFrameChecked {V : Type 0} (reads : Tree → Type 0) (value : Tree → V → Type 0)
+    (k : ℕ) (d : Progress) (frame : List ℕ) (v : V) : Type 0 where
+  pub content : List ℕ
+  pub decodes : Groups frame content
+  pub is_read : ReadsChecked reads value k d content v []

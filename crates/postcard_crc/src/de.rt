@@ -1,0 +1,215 @@
+//! Decoding with a checksum.
+//!
+//! A decoding call reads the value first, and then compares the bytes after it with the checksum of
+//! the bytes of the value. So a value that can't be read is refused by its own error, whatever its
+//! checksum.
+
+ghost use Rattle.std.specs.Prelude.{◌≡◌, ◌≢◌, ◌≤◌, ◌<◌, ◌*◌, ◌⊎◌, ◌↔◌, IsTrue, [], ◌++◌, length, take};
+ghost use Rattle.std.specs.Prelude.{ℕ, List, IfOk, IfErr, IsErrOf, OnOk, MatchResult};
+ghost use Rattle.crc.specs.Crc.{Parameters, IsCrc, IsSound};
+ghost use Rattle.crc.specs.Digest.{Took};
+ghost use Rattle.crc.specs.Frame.{low_bytes};
+ghost use Rattle.postcard_cobs.specs.Groups.{Groups, before_zero};
+ghost use Rattle.postcard_wire.specs.Tree.{Tree};
+ghost use Rattle.postcard_wire.specs.Spelling.{Spells, canonical};
+ghost use Rattle.postcard_de.specs.Reads.{IsReadError};
+ghost use Rattle.postcard_crc.specs.Writing.{IsCrcAfter};
+ghost use Rattle.postcard_crc.specs.Reading.{ReadsChecked, ReadsFrameChecked, IsDamaged};
+
+use crate::trailer::trailer_of;
+use crc::{Digest, Implementation, Width};
+use postcard_cobs::decode_in_place;
+use postcard_de::Deserialize;
+use postcard_wire::{Error, Result};
+use std::alloc::Global;
+
+mod modifier;
+
+pub use modifier::CrcModifier;
+
+/// Decodes a value from the front of `bytes`, after which its checksum stands, and returns it with
+/// the bytes after the checksum. The checksum is that of what `digest` has taken, and then the bytes
+/// of the value.
+///
+/// It succeeds if and only if a front of `bytes` spells a tree that the type reads, the bytes of its
+/// checksum follow, and no allocation fails.
+///
+/// A caller that wants just one message has to see that the rest is empty, or calls
+/// [`from_bytes_whole`]: of damage, only a success with an empty rest says anything.
+///
+/// # Errors
+///
+/// Fails as [`take_from_bytes`](postcard_frame::take_from_bytes) if no value can be read. Otherwise
+/// fails with `DeserializeUnexpectedEnd` if fewer bytes follow the value than a checksum has, and
+/// with `DeserializeBadCrc` if they are not its checksum.
+pub fn take_from_bytes<'a, T: Deserialize<'a>, W: Width, I: Implementation<W>>(
+    alloc: Global,
+    bytes: &'a [u8],
+    digest: Digest<'a, W, I>,
+) -> Result<(T, &'a [u8])>
+    ensures gives { IfOk result (λ read. ReadsChecked T.shape.reads T.shape.value W.size
+        digest.entry bytes.now read.0 read.1.now) }
+    ensures accepts { (t : Tree) (a : Parameters) (m front rest : List ℕ) (crc : ℕ)
+        → T.shape.reads t → Spells t front → IsSound a → Took digest.entry a m
+        → IsCrc a (m ++ front) crc → bytes.now ≡ front ++ (low_bytes W.size crc ++ rest) →
+        MatchResult result (λ read. T.shape.value t read.0 × (read.1.now ≡ rest))
+        (λ e. (e ≡ Error.OutOfMemory) × T.shape.grows) }
+    ensures reads_back { (x : T) (a : Parameters) (m rest : List ℕ) (crc : ℕ)
+        → T.shape.fits x → IsSound a → Took digest.entry a m
+        → IsCrc a (m ++ canonical (T.shape.tree x)) crc
+        → bytes.now ≡ canonical (T.shape.tree x) ++ (low_bytes W.size crc ++ rest) →
+        MatchResult result (λ read. T.shape.same read.0 x × (read.1.now ≡ rest))
+        (λ e. (e ≡ Error.OutOfMemory) × T.shape.grows) }
+    ensures refuses_damage { (a : Parameters) (sent : List ℕ) → Took digest.entry a []
+        → IsDamaged W.size a sent bytes.now
+        → IfOk result (λ read. read.1.now ≡ [] → sent ≡ bytes.now) }
+    ensures named_error { IfErr result
+        (λ e. IsReadError T.shape.grows e ⊎ (e ≡ Error.DeserializeBadCrc)) }
+{
+    let (value, rest) = postcard_frame::take_from_bytes(alloc, bytes)?;
+    let rest = checked(bytes, rest, digest)?;
+    Ok((value, rest))
+}
+
+/// Decodes a value from the front of `bytes`, after which its checksum stands, as
+/// [`take_from_bytes`]. Bytes after the checksum are ignored.
+///
+/// # Errors
+///
+/// Fails as [`take_from_bytes`].
+pub fn from_bytes<'a, T: Deserialize<'a>, W: Width, I: Implementation<W>>(
+    alloc: Global,
+    bytes: &'a [u8],
+    digest: Digest<'a, W, I>,
+) -> Result<T>
+    ensures gives { IfOk result (λ value. (rest : List ℕ) × ReadsChecked T.shape.reads
+        T.shape.value W.size digest.entry bytes.now value rest) }
+    ensures reads_back { (x : T) (a : Parameters) (m rest : List ℕ) (crc : ℕ)
+        → T.shape.fits x → IsSound a → Took digest.entry a m
+        → IsCrc a (m ++ canonical (T.shape.tree x)) crc
+        → bytes.now ≡ canonical (T.shape.tree x) ++ (low_bytes W.size crc ++ rest) →
+        MatchResult result (λ value. T.shape.same value x)
+        (λ e. (e ≡ Error.OutOfMemory) × T.shape.grows) }
+    ensures named_error { IfErr result
+        (λ e. IsReadError T.shape.grows e ⊎ (e ≡ Error.DeserializeBadCrc)) }
+{
+    let (value, _) = take_from_bytes(alloc, bytes, digest)?;
+    Ok(value)
+}
+
+/// Decodes a value that, with its checksum after it, is the whole of `bytes`. The Rust crate has no
+/// such call: its `from_bytes_crc32` ignores what follows the checksum.
+///
+/// If `bytes` is a message with its checksum in which at most as many bits in a row were changed as
+/// the checksum has, those of the checksum included, it fails: the clause `refuses_damage`. The
+/// algorithm's `refin` and `refout` must be true for that.
+///
+/// # Errors
+///
+/// Fails as [`take_from_bytes`], and with `DeserializeBadEncoding` if bytes follow the checksum.
+pub fn from_bytes_whole<'a, T: Deserialize<'a>, W: Width, I: Implementation<W>>(
+    alloc: Global,
+    bytes: &'a [u8],
+    digest: Digest<'a, W, I>,
+) -> Result<T>
+    ensures gives { IfOk result (λ value. ReadsChecked T.shape.reads T.shape.value W.size
+        digest.entry bytes.now value []) }
+    ensures reads_back { (x : T) (a : Parameters) (m : List ℕ) (crc : ℕ)
+        → T.shape.fits x → IsSound a → Took digest.entry a m
+        → IsCrc a (m ++ canonical (T.shape.tree x)) crc
+        → bytes.now ≡ canonical (T.shape.tree x) ++ low_bytes W.size crc →
+        MatchResult result (λ value. T.shape.same value x)
+        (λ e. (e ≡ Error.OutOfMemory) × T.shape.grows) }
+    ensures refuses_damage { (a : Parameters) (sent : List ℕ) → Took digest.entry a []
+        → IsDamaged W.size a sent bytes.now → OnOk result (sent ≡ bytes.now) }
+    ensures named_error { IfErr result (λ e. IsReadError T.shape.grows e
+        ⊎ ((e ≡ Error.DeserializeBadCrc) ⊎ (e ≡ Error.DeserializeBadEncoding))) }
+{
+    let (value, rest) = take_from_bytes(alloc, bytes, digest)?;
+    if is_end(rest) {
+        Ok(value)
+    } else {
+        Err(Error::DeserializeBadEncoding)
+    }
+}
+
+/// Decodes a value from the frame at the front of the buffer `s`, in place, as
+/// [`from_bytes_cobs`](postcard_frame::from_bytes_cobs): the frame's data is the value's encoding,
+/// and then just its checksum. The Rust crate has no such call.
+///
+/// If the frame's data is a message with its checksum in which at most as many bits in a row were
+/// changed as the checksum has, it fails: the clause `refuses_damage`. A damaged code byte of the
+/// frame moves zeros of the data, which need not be such a change.
+///
+/// # Errors
+///
+/// Fails with `DeserializeBadEncoding` if the frame has no data, and otherwise as
+/// [`from_bytes_whole`] of the frame's data. The content of the buffer is unspecified then.
+pub fn from_bytes_cobs<'a, T: Deserialize<'a>, W: Width, I: Implementation<W>>(
+    alloc: Global,
+    s: &'a mut [u8],
+    digest: Digest<'a, W, I>,
+) -> Result<T>
+    ensures gives { IfOk result (ReadsFrameChecked T.shape.reads T.shape.value W.size
+        digest.entry (before_zero s.old)) }
+    ensures reads_back { (x : T) (a : Parameters) (m : List ℕ) (crc : ℕ)
+        → T.shape.fits x → IsSound a → Took digest.entry a m
+        → IsCrc a (m ++ canonical (T.shape.tree x)) crc
+        → Groups (before_zero s.old) (canonical (T.shape.tree x) ++ low_bytes W.size crc) →
+        MatchResult result (λ value. T.shape.same value x)
+        (λ e. (e ≡ Error.OutOfMemory) × T.shape.grows) }
+    ensures refuses_damage { (a : Parameters) (sent came : List ℕ) → Took digest.entry a []
+        → Groups (before_zero s.old) came → IsDamaged W.size a sent came
+        → OnOk result (sent ≡ came) }
+    ensures named_error { IfErr result (λ e. IsReadError T.shape.grows e
+        ⊎ ((e ≡ Error.DeserializeBadCrc) ⊎ (e ≡ Error.DeserializeBadEncoding))) }
+{
+    let used = decode_in_place(s)?;
+    from_bytes_whole(alloc, &s[..used], digest)
+}
+
+// Returns what follows the checksum of the bytes before `rest`, with which `rest` begins.
+fn checked<'a, W: Width, I: Implementation<W>>(
+    bytes: &'a [u8],
+    rest: &'a [u8],
+    digest: Digest<'a, W, I>,
+) -> Result<&'a [u8]>
+    requires { length rest.now ≤ length bytes.now }
+    ensures gives { IfOk result (λ after. (front : List ℕ) → bytes.now ≡ front ++ rest.now
+        → (crc : ℕ) × IsCrcAfter digest.entry front crc
+        × (rest.now ≡ low_bytes W.size crc ++ after.now)) }
+    ensures accepts { (a : Parameters) (m front after : List ℕ) (crc : ℕ) → IsSound a
+        → Took digest.entry a m → bytes.now ≡ front ++ rest.now
+        → IsCrc a (m ++ front) crc → rest.now ≡ low_bytes W.size crc ++ after
+        → MatchResult result (λ r. r.now ≡ after) (λ _. ⊥) }
+    ensures short { length rest.now < W.size → IsErrOf result Error.DeserializeUnexpectedEnd }
+    ensures long { W.size ≤ length rest.now → IfErr result (λ e. e ≡ Error.DeserializeBadCrc) }
+    ensures named { IfErr result (λ e. (e ≡ Error.DeserializeUnexpectedEnd)
+        ⊎ (e ≡ Error.DeserializeBadCrc)) }
+{
+    let size = (W::bits() / 8) as usize;
+    if rest.len() < size {
+        return Err(Error::DeserializeUnexpectedEnd);
+    }
+    let mut digest = digest;
+    digest.update(&bytes[..bytes.len() - rest.len()]);
+    let wanted = trailer_of(digest.finalize());
+    let (found, after) = rest.split_at(size);
+    if are_same(found, &wanted.bytes[..wanted.len]) {
+        Ok(after)
+    } else {
+        Err(Error::DeserializeBadCrc)
+    }
+}
+
+fn is_end(rest: &[u8]) -> bool
+    ensures { IsTrue result ↔ (rest.now ≡ []) }
+{
+    rest.is_empty()
+}
+
+fn are_same(found: &[u8], wanted: &[u8]) -> bool
+    ensures { IsTrue result ↔ (found.now ≡ wanted.now) }
+{
+    *found == *wanted
+}

@@ -1,0 +1,12 @@
+//! The reading flavor that checks a checksum, and the calls that decode messages with one, under
+//! the names that the Rust crate has for each width.
+//!
+//! The names of a call are one function: the width is that of the digest.
+
+pub use crate::de::{
+    CrcModifier, from_bytes as from_bytes_u8, from_bytes as from_bytes_u16,
+    from_bytes as from_bytes_u32, from_bytes as from_bytes_u64, from_bytes as from_bytes_u128,
+    from_bytes_cobs, from_bytes_whole, take_from_bytes as take_from_bytes_u8,
+    take_from_bytes as take_from_bytes_u16, take_from_bytes as take_from_bytes_u32,
+    take_from_bytes as take_from_bytes_u64, take_from_bytes as take_from_bytes_u128,
+};

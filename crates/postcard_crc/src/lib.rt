@@ -1,0 +1,19 @@
+//! Messages with a checksum after them: the flavors that write and check it, and the calls over
+//! them.
+//!
+//! A message with its checksum is the encoding of a value, and then the checksum of the encoding in
+//! as many bytes as the checksum's type has, the lowest first.
+//!
+//! - [`ser`] has the writing flavor, and the calls that encode.
+//! - [`de`] has the reading flavor, and the calls that decode.
+//! - [`ser_flavors`] and [`de_flavors`] have the names of the Rust crate for each width, as the modules
+//!   `checksum` of `postcard::ser_flavors` and `postcard::de_flavors`.
+#![tactic(auto)]
+
+pub mod de;
+pub mod de_flavors;
+pub mod ser;
+pub mod ser_flavors;
+#[cfg(test)]
+mod tests;
+mod trailer;

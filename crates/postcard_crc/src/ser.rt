@@ -1,0 +1,194 @@
+//! Encoding with a checksum.
+
+ghost use Rattle.std.specs.Prelude.{◌≡◌, ◌+◌, ◌-◌, ◌≤◌, ◌++◌, ℕ, List, length};
+ghost use Rattle.std.specs.Prelude.{IfOk, IfErr, IsOk, OnOk};
+ghost use Rattle.crc.specs.Frame.{low_bytes};
+ghost use Rattle.postcard_cobs.specs.Groups.{made};
+ghost use Rattle.postcard_wire.specs.Spelling.{canonical};
+ghost use Rattle.postcard_ser.specs.Writing.{IsWriteError};
+ghost use Rattle.postcard_crc.specs.Reading.{IsWithCrc};
+ghost use Rattle.postcard_crc.specs.Writing.{FinishedWithCrc, HasRoom, IsCrcAfter};
+ghost use Rattle.postcard_crc.specs.Writing.{IsFrameWithCrc, FrameFits};
+
+use arrayvec::ArrayVec;
+use crc::{Digest, Implementation, Width};
+use postcard_ser::{Serialize, Serializer};
+use postcard_ser_cobs::Cobs;
+use postcard_ser_flavors::{AllocVec, Flavor, HVec, Slice, Storage};
+use postcard_wire::{Error, Result};
+use std::alloc::Global;
+
+mod modifier;
+
+pub use modifier::CrcModifier;
+
+/// Encodes a value into a flavor, and its checksum after it, ends the flavor, and returns its
+/// output. The checksum is that of what `digest` has taken, and then the encoding.
+///
+/// # Errors
+///
+/// Fails with `SerializeBufferFull`, or with `CollectStrError` for a type whose text may fail to
+/// print, if the flavor refuses bytes or can't end; never if it has room for the encoding and the
+/// checksum. For a value that refuses itself, the call may fail in any case and with another error.
+/// After a failure the flavor is dropped.
+pub fn serialize_with_checksum<
+    T: Serialize,
+    S: Flavor<Output = O> + Drop,
+    O,
+    W: Width,
+    I: Implementation<W>,
+>(value: &T, storage: S, digest: Digest<'_, W, I>) -> Result<O>
+    ensures gives { IfOk result (FinishedWithCrc S.Flavor W.size digest.entry storage
+        (canonical (T.shape.tree value.now))) }
+    ensures has_room { ¬ T.shape.refuses value.now
+        → HasRoom W.size S.room storage (canonical (T.shape.tree value.now)) → IsOk result }
+    ensures named_error { ¬ T.shape.refuses value.now → IfErr result (IsWriteError T.shape.text) }
+    ensures fits { OnOk result (T.shape.fits value.now) }
+{
+    let mut serializer = Serializer {
+        output: CrcModifier::new(storage, digest),
+    };
+    value.serialize(&mut serializer)?;
+    match serializer.output.finalize() {
+        Ok(output) => Ok(output),
+        Err(_) => Err(Error::SerializeBufferFull),
+    }
+}
+
+/// Encodes a value into the front of `buf`, and its checksum after it, and returns that front.
+/// Nothing is allocated.
+///
+/// # Errors
+///
+/// Fails with `SerializeBufferFull`, or with `CollectStrError` for a type whose text may fail to
+/// print; never if `buf` has room for the encoding and the checksum. For a value that refuses
+/// itself, the call may fail in any case and with another error. After a failure the content of the
+/// buffer is unspecified.
+pub fn to_slice<'a, T: Serialize, W: Width, I: Implementation<W>>(
+    value: &T,
+    buf: &'a mut [u8],
+    digest: Digest<'_, W, I>,
+) -> Result<&'a mut [u8]>
+    ensures gives { IfOk result (λ front. IsWithCrc W.size digest.entry
+        (canonical (T.shape.tree value.now)) front.now) }
+    ensures has_room { ¬ T.shape.refuses value.now
+        → length (canonical (T.shape.tree value.now)) + W.size ≤ length buf.old → IsOk result }
+    ensures named_error { ¬ T.shape.refuses value.now → IfErr result (IsWriteError T.shape.text) }
+    ensures fits { OnOk result (T.shape.fits value.now) }
+{
+    serialize_with_checksum(value, Slice::new(buf), digest)
+}
+
+/// Encodes a value into an `ArrayVec` with room for `B` bytes, and its checksum after it, and
+/// returns it. Nothing is allocated.
+///
+/// # Errors
+///
+/// Fails with `SerializeBufferFull`, or with `CollectStrError` for a type whose text may fail to
+/// print; never if the encoding and the checksum have at most `B` bytes. For a value that refuses
+/// itself, the call may fail in any case and with another error.
+pub fn to_vec<T: Serialize, W: Width, I: Implementation<W>, const B: usize>(
+    value: &T,
+    digest: Digest<'_, W, I>,
+) -> Result<ArrayVec<u8, B>>
+    ensures gives { IfOk result (λ vec. IsWithCrc W.size digest.entry
+        (canonical (T.shape.tree value.now)) vec.items) }
+    ensures has_room { ¬ T.shape.refuses value.now
+        → length (canonical (T.shape.tree value.now)) + W.size ≤ B → IsOk result }
+    ensures named_error { ¬ T.shape.refuses value.now → IfErr result (IsWriteError T.shape.text) }
+    ensures fits { OnOk result (T.shape.fits value.now) }
+{
+    serialize_with_checksum(value, HVec::new(), digest)
+}
+
+/// Encodes a value into a new `Vec`, and its checksum after it.
+///
+/// # Errors
+///
+/// Fails only if an allocation fails: with `SerializeBufferFull`, or with `CollectStrError` for a
+/// type whose text may fail to print. For a value that refuses itself, the call may fail in any
+/// case and with another error.
+pub fn to_allocvec<T: Serialize, W: Width, I: Implementation<W>>(
+    alloc: Global,
+    value: &T,
+    digest: Digest<'_, W, I>,
+) -> Result<Vec<u8>>
+    ensures gives { IfOk result (λ vec. IsWithCrc W.size digest.entry
+        (canonical (T.shape.tree value.now)) vec.items) }
+    ensures named_error { ¬ T.shape.refuses value.now → IfErr result (IsWriteError T.shape.text) }
+    ensures fits { OnOk result (T.shape.fits value.now) }
+{
+    serialize_with_checksum(value, AllocVec::new(alloc), digest)
+}
+
+/// Encodes a value and its checksum as a frame after the bytes that a storage holds, ends the
+/// storage, and returns its output.
+fn framed<T: Serialize, B: Storage + Drop, W: Width, I: Implementation<W>>(
+    value: &T,
+    storage: B,
+    digest: Digest<'_, W, I>,
+) -> Result<<B as Flavor>::Output>
+    ensures gives { IfOk result (λ output. (crc : ℕ)
+        × IsCrcAfter digest.entry (canonical (T.shape.tree value.now)) crc × ((last : B)
+        × (B.held last ≡ B.held storage
+        ++ made (canonical (T.shape.tree value.now) ++ low_bytes W.size crc))
+        × B.reaches storage last × B.finishes last output)) }
+    ensures has_room { ¬ T.shape.refuses value.now
+        → FrameFits W.size (canonical (T.shape.tree value.now)) (usize.MAX - 2)
+        → ((ys : List ℕ) → length ys ≡ length (canonical (T.shape.tree value.now)) + W.size
+        → B.free storage (length (made ys))) → IsOk result }
+    ensures named_error { ¬ T.shape.refuses value.now
+        → IfErr result (IsWriteError T.shape.text) }
+    ensures fits { OnOk result (T.shape.fits value.now) }
+{
+    serialize_with_checksum(value, Cobs::try_new(storage)?, digest)
+}
+
+/// Encodes a value and its checksum as a frame into the front of `buf`, and returns that front,
+/// which is the frame with its sentinel. Nothing is allocated. The Rust crate has no such call.
+///
+/// # Errors
+///
+/// Fails with `SerializeBufferFull`, or with `CollectStrError` for a type whose text may fail to
+/// print; never if `buf` has room for the frame of the encoding and any checksum. For a value that
+/// refuses itself, the call may fail in any case and with another error. After a failure the content
+/// of the buffer is unspecified.
+pub fn to_slice_cobs<'a, T: Serialize, W: Width, I: Implementation<W>>(
+    value: &T,
+    buf: &'a mut [u8],
+    digest: Digest<'_, W, I>,
+) -> Result<&'a mut [u8]>
+    ensures gives { IfOk result (λ front. IsFrameWithCrc W.size digest.entry
+        (canonical (T.shape.tree value.now)) front.now) }
+    ensures has_room { ¬ T.shape.refuses value.now
+        → FrameFits W.size (canonical (T.shape.tree value.now)) (length buf.old) → IsOk result }
+    ensures named_error { ¬ T.shape.refuses value.now
+        → IfErr result (IsWriteError T.shape.text) }
+    ensures fits { OnOk result (T.shape.fits value.now) }
+{
+    // For the prover: a slice has fewer than 2^63 bytes, so the frame's length can be counted.
+    let _len = buf.len();
+    framed(value, Slice::new(buf), digest)
+}
+
+/// Encodes a value and its checksum as a frame into a new `Vec`, the sentinel included. The Rust
+/// crate has no such call.
+///
+/// # Errors
+///
+/// Fails only if an allocation fails: with `SerializeBufferFull`, or with `CollectStrError` for a
+/// type whose text may fail to print. For a value that refuses itself, the call may fail in any
+/// case and with another error.
+pub fn to_allocvec_cobs<T: Serialize, W: Width, I: Implementation<W>>(
+    alloc: Global,
+    value: &T,
+    digest: Digest<'_, W, I>,
+) -> Result<Vec<u8>>
+    ensures gives { IfOk result (λ vec. IsFrameWithCrc W.size digest.entry
+        (canonical (T.shape.tree value.now)) vec.items) }
+    ensures named_error { ¬ T.shape.refuses value.now
+        → IfErr result (IsWriteError T.shape.text) }
+    ensures fits { OnOk result (T.shape.fits value.now) }
+{
+    framed(value, AllocVec::new(alloc), digest)
+}
