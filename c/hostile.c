@@ -1,6 +1,6 @@
-/* Hostile input: random streams, bytes and fields, the latter also as C must not leave them, in buffers with guard bytes around them. What
- * must hold whatever happens: a call returns, touches only its memory, and lends only bytes of its reader. It prints one line, and ends
- * with 1 at the first check that fails. */
+/* Hostile input: random streams, bytes and fields, the latter also as C must not leave them, in buffers with guard bytes
+ * around them. What must hold whatever happens: a call returns, touches only its memory, and lends only bytes of its
+ * reader. It prints one line, and ends with 1 at the first check that fails. */
 #include <stdio.h>
 #include <stdlib.h>
 #include <string.h>

@@ -1,15 +1,15 @@
 /* Postcard (wire format 1.0) for C: a writer, a reader, COBS frames and an accumulator, over memory that the caller owns.
  *
- * Nothing here allocates or keeps a state of its own, and of the C library only memcpy, memmove and memset are needed. Each function
- * that isn't `inline` is proved against its contract (crates/postcard_c/src), which holds for all arguments. docs/C.md says what C
- * owes in return; in short:
- *   - a pointer with a size points to that many bytes for as long as the call lasts, or the writer, reader or accumulator that was
- *     made over them; NULL is allowed with size 0, and nowhere else;
- *   - what a call writes overlaps nothing else that it is given;
+ * Nothing here allocates or keeps a state of its own, and of the C library only memcpy, memmove and memset are needed. Each
+ * function that isn't `inline` is proved against its contract (crates/postcard_c/src), which holds for all arguments.
+ * docs/C.md says what C owes in return; in short:
+ *   - a pointer with a size points to that many bytes for as long as the call lasts, or the writer, reader or accumulator
+ *     that was made over them; NULL is allowed with size 0, and nowhere else;
+ *   - what a call writes overlaps nothing else that it is given, and what it writes a value to is initialized;
  *   - a struct is made by its function `postcard_.._over`, and its fields are changed only as said below.
  *
- * A status is 0 for success. Once a writer or a reader has failed, its calls return the same status again, so that one test after the
- * last call is enough. C99 and C++. */
+ * A status is 0 for success. Once a writer or a reader has failed, its calls return the same status again, so that one test
+ * after the last call is enough. C99 and C++. */
 #ifndef POSTCARD_H
 #define POSTCARD_H
 #include <stdbool.h>
@@ -43,9 +43,9 @@ typedef struct postcard_slice {
     size_t size;
 } postcard_slice;
 
-/* Writing. The message so far is buffer[0] to buffer[used - 1]. `needed` is the number of bytes that the whole message needs: it goes on
- * counting where there is no room, so a writer over NULL and 0 measures. To write another message, set `used`, `needed` and `status` to
- * 0. */
+/* Writing. The message so far is buffer[0] to buffer[used - 1]. `needed` is the number of bytes that the whole message
+ * needs: it goes on counting where there is no room, so a writer over NULL and 0 measures. To write another message, set
+ * `used`, `needed` and `status` to 0. */
 typedef struct postcard_writer {
     uint8_t *buffer;
     size_t size;
@@ -71,11 +71,11 @@ postcard_status postcard_put_i8(postcard_writer *w, int8_t value);
 postcard_status postcard_put_i16(postcard_writer *w, int16_t value);
 postcard_status postcard_put_i32(postcard_writer *w, int32_t value);
 postcard_status postcard_put_i64(postcard_writer *w, int64_t value);
-postcard_status postcard_put_i128(postcard_writer *w, uint64_t low, uint64_t high);        /* the halves of its two's complement */
-postcard_status postcard_put_char(postcard_writer *w, uint32_t code);                      /* or POSTCARD_BAD_CHAR */
-postcard_status postcard_put_str(postcard_writer *w, const char *text, size_t size);       /* UTF-8, or POSTCARD_BAD_UTF8 */
-postcard_status postcard_put_bytes(postcard_writer *w, const void *bytes, size_t size);    /* a count, then the bytes */
-postcard_status postcard_put_raw(postcard_writer *w, const void *bytes, size_t size);      /* the bytes alone, as [u8; N] */
+postcard_status postcard_put_i128(postcard_writer *w, uint64_t low, uint64_t high);     /* the halves of its two's complement */
+postcard_status postcard_put_char(postcard_writer *w, uint32_t code);                   /* or POSTCARD_BAD_CHAR */
+postcard_status postcard_put_str(postcard_writer *w, const char *text, size_t size);    /* UTF-8, or POSTCARD_BAD_UTF8 */
+postcard_status postcard_put_bytes(postcard_writer *w, const void *bytes, size_t size); /* a count, then the bytes */
+postcard_status postcard_put_raw(postcard_writer *w, const void *bytes, size_t size);   /* the bytes alone, as [u8; N] */
 postcard_status postcard_put_none(postcard_writer *w);
 postcard_status postcard_put_some(postcard_writer *w);                    /* and then the value */
 postcard_status postcard_put_variant(postcard_writer *w, uint32_t index); /* and then its content */
@@ -91,8 +91,8 @@ postcard_status postcard_put_u32_be(postcard_writer *w, uint32_t value);
 postcard_status postcard_put_u64_be(postcard_writer *w, uint64_t value);
 postcard_status postcard_put_u128_be(postcard_writer *w, uint64_t low, uint64_t high);
 
-/* Reading. The bytes before bytes[at] are read. After a failure `at` is the place of the first byte of what can't be read, and what the
- * last pointers point to is unchanged. */
+/* Reading. The bytes before bytes[at] are read. After a failure `at` is the place of the first byte of what can't be read,
+ * and what the last pointers point to is unchanged. */
 typedef struct postcard_reader {
     const uint8_t *bytes;
     size_t size;
@@ -154,10 +154,11 @@ POSTCARD_SIGNED_(32, be)
 POSTCARD_SIGNED_(64, be)
 #undef POSTCARD_SIGNED_
 
-/* Frames. The frame of n bytes has at most POSTCARD_FRAME_SIZE(n), the zero that ends it included. */
+/* Frames. The frame of n bytes has at most POSTCARD_FRAME_SIZE(n), the zero that ends it included. Decoding is in place: the
+ * data is then frame[0] to frame[*count - 1]. */
 #define POSTCARD_FRAME_SIZE(n) ((n) + (n) / 254 + 2)
 postcard_status postcard_cobs_encode(const void *message, size_t size, uint8_t *frame, size_t frame_size, size_t *count);
-postcard_status postcard_cobs_decode(uint8_t *frame, size_t size, size_t *count); /* in place: the data is frame[0] to frame[*count - 1] */
+postcard_status postcard_cobs_decode(uint8_t *frame, size_t size, size_t *count);
 
 /* Frames from a stream, in pieces as they come. */
 typedef struct postcard_accumulator {

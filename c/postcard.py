@@ -11,7 +11,7 @@ POSTCARD_LIBRARY.
 """
 import ctypes
 import os
-from ctypes import POINTER, Structure, byref, c_bool, c_char_p, c_size_t, c_uint8, c_uint32
+from ctypes import POINTER, Structure, byref, c_bool, c_char_p, c_size_t, c_uint8, c_uint32, c_void_p
 
 __all__ = ["Error", "check", "dec", "dec_all", "enc", "frame", "Frames"]
 
@@ -35,8 +35,8 @@ _PROBLEMS = {
 class Error(ValueError):
     """A message, a text or a type that is refused.
 
-    `status` is the number of postcard.h, and `place` says where: the offset in bytes of the part of a message that can't be read, or the
-    number of the character of a type or a text, counted from 1, or 0 if it is not UTF-8.
+    `status` is the number of postcard.h, and `place` says where: the offset in bytes of the part of a message that can't be
+    read, or the number of the character of a type or a text, counted from 1, or 0 if it is not UTF-8.
     """
 
     def __init__(self, status, place):
@@ -53,13 +53,13 @@ def _declared():
     """The library, with the types of the functions that are called."""
     folder = os.path.dirname(os.path.abspath(__file__))
     library = ctypes.CDLL(os.environ.get("POSTCARD_LIBRARY") or os.path.join(folder, "libpostcard.so"))
-    text, out = [c_char_p, c_size_t], POINTER(c_size_t)
+    sized, out = [c_void_p, c_size_t], POINTER(c_size_t)
     for name, arguments in {
-        "postcard_to_text": [*text, *text, *text, out, out],
-        "postcard_from_text": [*text, *text, *text, out, out],
-        "postcard_check": [*text, *text, out],
-        "postcard_cobs_encode": [*text, *text, out],
-        "postcard_feed": [POINTER(_Accumulator), *text, out, out],
+        "postcard_to_text": [*sized, *sized, *sized, out, out],
+        "postcard_from_text": [*sized, *sized, *sized, out, out],
+        "postcard_check": [*sized, *sized, out],
+        "postcard_cobs_encode": [*sized, *sized, out],
+        "postcard_feed": [POINTER(_Accumulator), *sized, out, out],
     }.items():
         function = getattr(library, name)
         function.argtypes, function.restype = arguments, c_uint32
@@ -69,40 +69,48 @@ def _declared():
 _library = _declared()
 
 
-def _sized(call, first, second, guess):
-    """What a call that fills a buffer returns, with its place; again with a larger buffer if it says that it needs one."""
-    place, count, size = c_size_t(), c_size_t(), guess
+def _address(content):
+    """The address of the first of some bytes, which must be kept for as long as it is used."""
+    return ctypes.cast(c_char_p(content), c_void_p).value
+
+
+def _filled(call, type, content, at=0):
+    """What a call that fills a buffer returns, and its place, for a content from the offset `at` on; once more with a larger buffer if
+    the call says that it needs one."""
+    type, place, count, size = type.encode(), c_size_t(), c_size_t(), 256
     while True:
         room = ctypes.create_string_buffer(size)
-        status = call(first, len(first), second, len(second), room, size, byref(place), byref(count))
+        arguments = type, len(type), _address(content) + at, len(content) - at, room, size
+        status = call(*arguments, byref(place), byref(count))
         if status == 0:
             return room.raw[: count.value], place.value
         if status != _BUFFER_FULL:
-            raise Error(status, place.value)
+            raise Error(status, place.value + at if status not in (_BAD_TYPE, _BAD_TEXT) else place.value)
         size = count.value
 
 
 def dec(type, message):
     """The text of the value of the type that the bytes begin with, and the bytes after it."""
-    shown, taken = _sized(_library.postcard_to_text, type.encode(), bytes(message), 256)
-    return shown.decode(), bytes(message)[taken:]
+    message = bytes(message)
+    shown, taken = _filled(_library.postcard_to_text, type, message)
+    return shown.decode(), message[taken:]
 
 
 def dec_all(type, messages):
-    """The texts of the values that the bytes consist of. A type without bytes has no end: it raises `ValueError`."""
-    rest, texts = bytes(messages), []
-    while rest:
-        text, after = dec(type, rest)
-        if len(after) == len(rest):
+    """The texts of the values that the bytes consist of. Raises `ValueError` if the messages of the type have no bytes."""
+    messages, texts, at = bytes(messages), [], 0
+    while at < len(messages):
+        shown, taken = _filled(_library.postcard_to_text, type, messages, at)
+        if taken == 0:
             raise ValueError("messages of this type have no bytes")
-        texts.append(text)
-        rest = after
+        texts.append(shown.decode())
+        at += taken
     return texts
 
 
 def enc(type, text):
     """The message of the value of the type that the text spells."""
-    return _sized(_library.postcard_from_text, type.encode(), text.encode(), 256)[0]
+    return _filled(_library.postcard_from_text, type, text.encode())[0]
 
 
 def check(type, message):
@@ -127,18 +135,19 @@ def frame(message):
 class Frames:
     """Reads frames from a stream that comes in pieces.
 
-    `feed` returns an answer for each frame that a piece completes: the text of its value, or an `Error` if it has none. A frame of more
-    than `size` bytes, its zero included, is skipped and has the error with status 2. Bytes after the value in a frame are ignored.
+    `feed` returns an answer for each frame that a piece completes: the text of its value, or an `Error` if it has none. A
+    frame of more than `size` bytes, its zero included, is skipped and has the error with status 2. Bytes after the value in a
+    frame are ignored.
     """
 
     def __init__(self, type, size=1024):
         self._type = type
         self._room = (c_uint8 * max(size, 1))()
         self._accumulator = _Accumulator(ctypes.cast(self._room, POINTER(c_uint8)), size, 0, False)
-        check_type = c_size_t()
-        status = _library.postcard_check(type.encode(), len(type.encode()), b"", 0, byref(check_type))
+        place = c_size_t()
+        status = _library.postcard_check(type.encode(), len(type.encode()), b"", 0, byref(place))
         if status == _BAD_TYPE:
-            raise Error(status, check_type.value)
+            raise Error(status, place.value)
 
     def _answer(self, status, count):
         if status == 1:
@@ -149,11 +158,12 @@ class Frames:
         return Error(_BUFFER_FULL if status == 2 else 11, 0)
 
     def feed(self, piece):
-        piece, answers = bytes(piece), []
+        piece, answers, at = bytes(piece), [], 0
         taken, count = c_size_t(), c_size_t()
-        while piece:
-            status = _library.postcard_feed(byref(self._accumulator), piece, len(piece), byref(taken), byref(count))
+        while at < len(piece):
+            left = _address(piece) + at, len(piece) - at
+            status = _library.postcard_feed(byref(self._accumulator), *left, byref(taken), byref(count))
             if status:
                 answers.append(self._answer(status, count.value))
-            piece = piece[taken.value :]
+            at += taken.value
         return answers

@@ -1,5 +1,6 @@
-/* The rows of crates/postcard_rows/stdin, which say how a row is written, by the calls of postcard.h: those of numbers, booleans, characters
- * and texts without escapes. It reads them from its standard input and prints one line, or each row that is wrong. */
+/* The rows of crates/postcard_rows/stdin, which say how a row is written, by the calls of postcard.h: those of numbers,
+ * booleans, characters and texts without escapes. It reads them from its standard input and prints one line, or each row
+ * that is wrong. */
 #include <stdio.h>
 #include <stdlib.h>
 #include <string.h>

@@ -82,6 +82,7 @@ class Calls(unittest.TestCase):
             (postcard.dec, ("(u8, bool)", b"\x07\x02"), 6, 1),
             (postcard.dec, ("[u16]", b"\x02\x07\xff\xff\x07"), 5, 2),
             (postcard.check, ("str", b"\x05ab"), 4, 0),
+            (postcard.dec_all, ("(u8, bool)", b"\x07\x01\x07\x02"), 6, 3),
         ]:
             with self.subTest(arguments), self.assertRaises(postcard.Error) as caught:
                 call(*arguments)

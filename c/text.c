@@ -1,5 +1,5 @@
-/* Messages as texts and back, by the calls of postcard_text.h, and what they say where they fail. It prints one line, and ends with 1 at the
- * first check that fails. */
+/* Messages as texts and back, by the calls of postcard_text.h, and what they say where they fail. It prints one line, and
+ * ends with 1 at the first check that fails. */
 #include <stdio.h>
 #include <stdlib.h>
 #include <string.h>

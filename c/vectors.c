@@ -1,5 +1,5 @@
-/* The published vectors of the format, and values worked out by hand, by the calls of postcard.h: written and read back; failures; frames;
- * streams cut at every place. It prints one line, and ends with 1 at the first check that fails. */
+/* The published vectors of the format, and values worked out by hand, by the calls of postcard.h: written and read back;
+ * failures; frames; streams cut at every place. It prints one line, and ends with 1 at the first check that fails. */
 #include <string.h>
 #include "postcard.h"
 #ifdef FREESTANDING

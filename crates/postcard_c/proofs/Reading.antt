@@ -1,7 +1,7 @@
 -- A node that was read from what a reader had not read yet.
-use Rattle.std.proofs.Common.{◌≡◌, ◌≢◌, ◌∙◌, ◌<◌, ◌≤◌, ◌+◌, ◌-◌, ℕ, List, ◌++◌, length, take, drop}
+use Rattle.std.proofs.Common.{◌≡◌, ◌≢◌, ◌∙◌, ◌≤◌, ◌-◌, ℕ, List, ◌++◌, length, take, drop}
 use Rattle.std.proofs.Common.{sym, ap, ap₂, subst, refl, ◌⊎◌, inl, inr, Some, arith, length-append, append_assoc}
-use Rattle.std.proofs.Common.{Result, Ok, Err, IfErr, IfOk, MatchResult, Bor, zero, suc}
+use Rattle.std.proofs.Common.{Result, Ok, Err, IfErr, Bor, zero, suc}
 use Rattle.std.proofs.lemmas.List.{take-append-drop, drop_at, append_cancel_left}
 use Rattle.std.proofs.Common.{ℤ, pos, negsuc}
 use Rattle.std.proofs.lemmas.Int.{ints}
@@ -16,9 +16,7 @@ use Rattle.postcard_wire.specs.declared.error.Error.{Error}
 use Rattle.postcard_de_flavors.specs.Source.{IsEndOf}
 use Rattle.postcard_de.specs.Reads.{ReadsFrom, IsReadError}
 use Rattle.postcard_de.specs.Refuses.{RefusesFrom}
-use Rattle.postcard_frame.specs.Front.{ReadsFront}
 use Rattle.postcard_c_status.proofs.Numbers.{is_failure}
-use Rattle.postcard_c_status.specs.Numbers.{number_of}
 use Rattle.postcard_c.specs.declared.reader.Reader.{Reader}
 use Rattle.postcard_c.specs.Reading.{Gets, Settles, IsRefused, AreBytesOf, rest_of}
 

@@ -1,5 +1,5 @@
 -- What one feed of an accumulator of C returns and leaves, in the words of `postcard_accumulator`.
-use Rattle.std.specs.Prelude.{◌≡◌, ◌≢◌, ℕ, ◌≤◌, ◌⊎◌, List, [], ◌++◌, length, take, drop, IsTrue}
+use Rattle.std.specs.Prelude.{◌≡◌, ℕ, ◌≤◌, ◌⊎◌, List, [], ◌++◌, length, take, drop, IsTrue}
 use Rattle.postcard_cobs.specs.Groups.{NoZero, Groups, EndsFrame}
 use Rattle.postcard_accumulator.specs.State.{State, holding, skipping, state_of}
 use Rattle.postcard_accumulator.specs.Feeding.{EndsFitting, Overflows, IsHeld}

@@ -169,7 +169,9 @@ pub extern "C" fn postcard_get_variant(reader: &mut Reader<'_>, value: &mut u32)
     ensures { Gets (IsNum 32) (λ t v. t ≡ Num 32 v) (WantsDigit 32) (BadNumber 32)
         reader.old reader.new value.old value.new result }
 {
-    postcard_get_u32(reader, value)
+    let mut source = open(reader);
+    let index = source.deserialize_u32();
+    settle(reader, source, index, value)
 }
 
 /// Reads the number of elements of a list or of pairs of a map, which are read next. Nothing says that
@@ -183,10 +185,19 @@ pub extern "C" fn postcard_get_count(reader: &mut Reader<'_>, value: &mut usize)
     ensures { Gets (IsNum 64) (λ t v. t ≡ Num 64 v) (WantsDigit 64) (BadNumber 64)
         reader.old reader.new value.old value.new result }
 {
-    let mut count = *value as u64;
-    let status = postcard_get_u64(reader, &mut count);
-    *value = count as usize;
-    status
+    let mut source = open(reader);
+    let read = count_of(source.deserialize_u64());
+    settle(reader, source, read, value)
+}
+
+/// Returns a number of 64 bits that was read as a count, or the error.
+fn count_of(read: Result<u64>) -> Result<usize>
+    ensures { result ≡ read }
+{
+    match read {
+        Ok(count) => Ok(count as usize),
+        Err(error) => Err(error),
+    }
 }
 
 /// Reads a number of 128 bits as its lower and its higher 64 bits.

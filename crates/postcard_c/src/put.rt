@@ -38,7 +38,7 @@ pub extern "C" fn postcard_put_u8(writer: &mut Writer<'_>, value: u8) -> u32
 pub extern "C" fn postcard_put_u16(writer: &mut Writer<'_>, value: u16) -> u32
     ensures { Puts (canonical (Num 16 value)) writer.old writer.new result }
 {
-    postcard_put_u32(writer, u32::from(value))
+    put_number(writer, value.into())
 }
 
 /// Appends a number of 32 bits as a varint.
@@ -191,7 +191,7 @@ pub extern "C" fn postcard_put_some(writer: &mut Writer<'_>) -> u32
 pub extern "C" fn postcard_put_variant(writer: &mut Writer<'_>, index: u32) -> u32
     ensures { Puts (canonical (Num 32 index)) writer.old writer.new result }
 {
-    postcard_put_u32(writer, index)
+    put_number(writer, index.into())
 }
 
 /// Begins a list or a map, by the number of its elements or of its pairs, which are written next.
@@ -199,5 +199,5 @@ pub extern "C" fn postcard_put_variant(writer: &mut Writer<'_>, index: u32) -> u
 pub extern "C" fn postcard_put_count(writer: &mut Writer<'_>, count: usize) -> u32
     ensures { Puts (canonical (Num 64 count)) writer.old writer.new result }
 {
-    postcard_put_u64(writer, count as u64)
+    put_number(writer, count as u64)
 }

@@ -26,7 +26,7 @@ pub struct Reader<'a> {
 }
 
 /// Returns the bytes from a place on, or none if the place is after their end.
-pub fn rest_at(bytes: &[u8], place: usize) -> &[u8]
+pub(crate) fn rest_at(bytes: &[u8], place: usize) -> &[u8]
     ensures { result.now ≡ drop place bytes.now }
 {
     if place > bytes.len() {
@@ -36,7 +36,7 @@ pub fn rest_at(bytes: &[u8], place: usize) -> &[u8]
 }
 
 /// Returns a source of the bytes that aren't read yet.
-pub fn open<'a>(reader: &Reader<'a>) -> Deserializer<'a, Slice<'a>>
+pub(crate) fn open<'a>(reader: &Reader<'a>) -> Deserializer<'a, Slice<'a>>
     ensures { source_of result ≡ rest_of reader.now }
 {
     Deserializer::from_bytes(rest_at(reader.bytes, reader.at))
@@ -56,7 +56,7 @@ fn place_before<'a>(bytes: &[u8], source: Deserializer<'a, Slice<'a>>) -> usize
 /// to where the caller wants it, and moves the reader on to what the source has left. After an error
 /// the reader has failed with its number, and nothing else is changed. A reader that has failed
 /// before is not changed.
-pub fn settle<'a, T: Drop>(
+pub(crate) fn settle<'a, T: Drop>(
     reader: &mut Reader<'a>,
     source: Deserializer<'a, Slice<'a>>,
     read: Result<T>,

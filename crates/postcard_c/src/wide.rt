@@ -6,14 +6,14 @@ ghost use Rattle.std.specs.Prelude.{◌≡◌, ◌+◌, ◌*◌, ◌^◌, ◌<�
 const HALF: u128 = 1 << 64;
 
 /// Returns the number whose lower and higher 64 bits these are.
-pub fn joined(low: u64, high: u64) -> u128
+pub(crate) fn joined(low: u64, high: u64) -> u128
     ensures { result ≡ low + 2 ^ 64 * high }
 {
     u128::from(low) + (u128::from(high) << 64)
 }
 
 /// Returns the lower and the higher 64 bits of a number.
-pub fn halves(number: u128) -> (u64, u64)
+pub(crate) fn halves(number: u128) -> (u64, u64)
     ensures { number ≡ result.0 + 2 ^ 64 * result.1 }
 {
     ((number % HALF) as u64, (number / HALF) as u64)

@@ -31,7 +31,7 @@ pub struct Writer<'a> {
 ///
 /// Fails with `SerializeBufferFull` if and only if both have no room together, and as before if the
 /// writer has failed before.
-pub fn append(writer: &mut Writer<'_>, head: &[u8], tail: &[u8]) -> u32
+pub(crate) fn append(writer: &mut Writer<'_>, head: &[u8], tail: &[u8]) -> u32
     ensures { Puts (head.now ++ tail.now) writer.old writer.new result }
 {
     let size = head.len() + tail.len();
@@ -74,7 +74,7 @@ fn copy_at(buffer: &mut [u8], place: usize, bytes: &[u8])
 /// # Errors
 ///
 /// Fails as [`append`].
-pub fn put_number(writer: &mut Writer<'_>, number: u64) -> u32
+pub(crate) fn put_number(writer: &mut Writer<'_>, number: u64) -> u32
     ensures { Puts (digits number) writer.old writer.new result }
 {
     if writer.status != 0 || !surely_fits(writer, 0) {
@@ -91,7 +91,7 @@ pub fn put_number(writer: &mut Writer<'_>, number: u64) -> u32
 /// # Errors
 ///
 /// Fails as [`append`].
-pub fn put_counted(writer: &mut Writer<'_>, number: u64, bytes: &[u8]) -> u32
+pub(crate) fn put_counted(writer: &mut Writer<'_>, number: u64, bytes: &[u8]) -> u32
     ensures { Puts (digits number ++ bytes.now) writer.old writer.new result }
 {
     if writer.status != 0 || !surely_fits(writer, bytes.len()) {
@@ -148,7 +148,7 @@ fn put_if_it_fits(writer: &mut Writer<'_>, number: u64, bytes: &[u8]) -> u32
 }
 
 /// Fails with a status, unless the writer has failed before.
-pub fn refuse(writer: &mut Writer<'_>, status: u32) -> u32
+pub(crate) fn refuse(writer: &mut Writer<'_>, status: u32) -> u32
     ensures { Refuses status writer.old writer.new result }
 {
     if writer.status == 0 {

@@ -11,7 +11,7 @@ use postcard_c_status::BUFFER_FULL;
 ///
 /// Fails with the status 2 if and only if they have no room. The buffer is then unchanged, and
 /// `count` is the size that it would need.
-pub fn copy_out(bytes: &[u8], buffer: &mut [u8], count: &mut usize) -> u32
+pub(crate) fn copy_out(bytes: &[u8], buffer: &mut [u8], count: &mut usize) -> u32
     ensures copies { CopiesOut bytes.now buffer.old buffer.new count.new result }
     ensures full_or_not { (result ≡ 0) ⊎ (result ≡ 2) }
 {

@@ -20,7 +20,7 @@ use std::alloc::Global;
 /// Fails with `BAD_TYPE` if the text is no type expression, and writes the number of the character
 /// where it isn't, counted from 1, into `place`; or 0 if the text is not UTF-8. Fails with
 /// `OUT_OF_MEMORY` if an allocation fails.
-pub fn schema_of(alloc: Global, expression: &[u8], place: &mut usize) -> Result<Schema, u32>
+pub(crate) fn schema_of(alloc: Global, expression: &[u8], place: &mut usize) -> Result<Schema, u32>
     ensures spelled { IfOk result (λ schema. IsExpression schema expression.now) }
     ensures named { IfErr result (λ status. (status ≡ 16) ⊎ (status ≡ 17)) }
     ensures within { IfErr result (λ status. place.new ≤ characters expression.now + 1) }
@@ -49,7 +49,7 @@ pub fn schema_of(alloc: Global, expression: &[u8], place: &mut usize) -> Result<
 /// Fails with the number of an error of reading if no front of the bytes is a message of the type, and
 /// writes the offset in bytes of the part that can't be read into `place`. Fails with `OUT_OF_MEMORY`
 /// if an allocation fails.
-pub fn message_of(
+pub(crate) fn message_of(
     alloc: Global,
     schema: &Schema,
     bytes: &[u8],
