@@ -1,0 +1,5 @@
+pub mod Bytes
+pub mod Framed
+pub mod Places
+pub mod Reading
+pub mod Taking

@@ -1,0 +1,7 @@
+use Rattle.postcard_c.proofs.Reading.{settled}
+use Rattle.postcard_c.proofs.get.postcard_get_i16.Goals as goal
+
+pub returns : goal.returns
+returns c =
+    settled _ _ _ _ c.settle.ensures c.open-source.ensures c.deserialize_i16-read.ensures.reads
+    c.deserialize_i16-read.ensures.refused

@@ -1,0 +1,7 @@
+use Rattle.postcard_c.proofs.Reading.{settled}
+use Rattle.postcard_c.proofs.get.postcard_get_u64.Goals as goal
+
+pub returns : goal.returns
+returns c =
+    settled _ _ _ _ c.settle.ensures c.open-source.ensures c.deserialize_u64-read.ensures.reads
+    c.deserialize_u64-read.ensures.refused

@@ -1,0 +1,4 @@
+-- The definitions that contracts cite.
+pub mod Writing
+pub mod Reading
+pub mod Feeding

@@ -1,0 +1,189 @@
+//! Frames from a stream that comes in pieces, in the caller's memory.
+
+ghost use Rattle.std.specs.Prelude.{◌≡◌, ◌≢◌, ◌+◌, ◌≤◌, ◌++◌, [], List, ℕ, length, take, drop, IsTrue};
+ghost use Rattle.std.specs.Prelude.{false, IfOk, OnErr};
+ghost use Rattle.postcard_cobs.specs.Groups.{Groups, NoZero, before_zero};
+ghost use Rattle.postcard_accumulator.specs.State.{State, holding, state_of};
+ghost use Rattle.postcard_c.specs.Feeding.{Takes, Stands, Feeds};
+
+use postcard_cobs::{decode_in_place, frame_len};
+use postcard_wire::Result;
+
+/// All of the piece was taken, and no frame ended except one that was being skipped.
+const CONSUMED: u32 = 0;
+/// A frame ended, and its data is at the front of the buffer.
+const FRAME: u32 = 1;
+/// A frame has no room.
+const OVERSIZED: u32 = 2;
+/// A frame ended that is no COBS frame: it is empty, or one of its groups runs past its end.
+const DAMAGED: u32 = 3;
+
+/// Puts COBS frames together from the pieces of a stream.
+///
+/// `buffer[..held]` is the front of a frame that hasn't ended yet. A frame has room if it has at most
+/// as many bytes as the buffer, its zero included. An oversized frame is skipped through its zero, and
+/// meanwhile nothing is held.
+#[repr(C)]
+#[derive(Drop)]
+pub struct Accumulator<'a> {
+    /// The whole buffer.
+    pub buffer: &'a mut [u8],
+    /// The number of bytes held at the front of the buffer.
+    pub held: usize,
+    /// Whether an oversized frame is being skipped.
+    pub skipping: bool,
+}
+
+/// What a piece completes.
+///
+/// `answer` is one of the four constants, `taken` the number of bytes of the piece that were taken,
+/// and `size` that of a frame's data; `held` and `skipping` are what the accumulator carries on.
+#[derive(Clone, Copy)]
+pub struct Outcome {
+    answer: u32,
+    taken: usize,
+    size: usize,
+    held: usize,
+    skipping: bool,
+}
+
+/// Decodes the frame at the front of the first `end` bytes of a buffer in place, and returns the
+/// length of its data. Fails if and only if the frame has no data.
+fn decode_front(buf: &mut [u8], end: usize) -> Result<usize>
+    requires { end ≤ length buf.old }
+    ensures decodes { IfOk result (λ n. (n ≤ length buf.new)
+        × Groups (before_zero (take end buf.old)) (take n buf.new)) }
+    ensures no_groups { OnErr result
+        ((d : List ℕ) → Groups (before_zero (take end buf.old)) d → ⊥) }
+{
+    decode_in_place(&mut buf[..end])
+}
+
+/// Writes a piece of a frame after the bytes held.
+fn extend(buf: &mut [u8], held: usize, piece: &[u8])
+    requires { held + length piece.now ≤ length buf.old }
+    ensures { take (held + length piece.now) buf.new ≡ take held buf.old ++ piece.now }
+{
+    let end = held + piece.len();
+    buf[held..end].copy_from_slice(piece);
+}
+
+/// Takes in a piece up to the end of a frame, while no frame is skipped.
+fn take_held(buf: &mut [u8], held: usize, piece: &[u8]) -> Outcome
+    requires { held ≤ length buf.old }
+    ensures { NoZero (take held buf.old)
+        → Takes (length buf.old) (holding (take held buf.old)) piece.now buf.new result }
+{
+    let n = frame_len(piece);
+    let room = buf.len() - held;
+    if n == piece.len() {
+        if n > room {
+            return Outcome {
+                answer: OVERSIZED,
+                taken: n,
+                size: 0,
+                held: 0,
+                skipping: true,
+            };
+        }
+        extend(buf, held, piece);
+        return Outcome {
+            answer: CONSUMED,
+            taken: n,
+            size: 0,
+            held: held + n,
+            skipping: false,
+        };
+    }
+    if n >= room {
+        return Outcome {
+            answer: OVERSIZED,
+            taken: n + 1,
+            size: 0,
+            held: 0,
+            skipping: false,
+        };
+    }
+    extend(buf, held, &piece[..n]);
+    match decode_front(buf, held + n) {
+        Ok(size) => Outcome {
+            answer: FRAME,
+            taken: n + 1,
+            size,
+            held: 0,
+            skipping: false,
+        },
+        Err(_) => Outcome {
+            answer: DAMAGED,
+            taken: n + 1,
+            size: 0,
+            held: 0,
+            skipping: false,
+        },
+    }
+}
+
+/// Takes in a piece up to the end of a frame. A frame that is skipped has no answer of its own.
+fn take_in(buf: &mut [u8], held: usize, skipping: bool, piece: &[u8]) -> Outcome
+    requires { held ≤ length buf.old }
+    ensures { NoZero (take held buf.old) → (IsTrue skipping → held ≡ 0)
+        → Takes (length buf.old) (state_of skipping (take held buf.old)) piece.now buf.new result }
+{
+    if !skipping {
+        return take_held(buf, held, piece);
+    }
+    let n = frame_len(piece);
+    if n == piece.len() {
+        return Outcome {
+            answer: CONSUMED,
+            taken: n,
+            size: 0,
+            held: 0,
+            skipping: true,
+        };
+    }
+    let outcome = take_held(buf, 0, &piece[n + 1..]);
+    Outcome {
+        answer: outcome.answer,
+        taken: n + 1 + outcome.taken,
+        size: outcome.size,
+        held: outcome.held,
+        skipping: outcome.skipping,
+    }
+}
+
+/// Takes in a piece of a stream up to the end of a frame, and returns what that completed: 0 if no
+/// frame ended, 1 for a frame, 2 for one that has no room, 3 for one that is no COBS frame.
+///
+/// Writes the number of bytes of the piece that were taken into `taken`; the caller feeds the others
+/// next. Writes the number of bytes of a frame's data into `count`, and 0 without a frame; the data is
+/// at the front of the buffer until the next feed. The crate `postcard_accumulator` has the rule as a
+/// table.
+///
+/// If C changes the fields between two feeds to what no feed leaves, the answer may be any, but nothing
+/// outside of the buffer is touched.
+#[unsafe(no_mangle)]
+pub extern "C" fn postcard_feed(
+    accumulator: &mut Accumulator<'_>,
+    piece: &[u8],
+    taken: &mut usize,
+    count: &mut usize,
+) -> u32
+    ensures { Stands accumulator.old
+        → Feeds accumulator.old accumulator.new piece.now result taken.new count.new }
+{
+    let held = accumulator.held;
+    if held > accumulator.buffer.len() {
+        accumulator.held = 0;
+        *taken = piece.len();
+        *count = 0;
+        return OVERSIZED;
+    }
+    let skipping = accumulator.skipping;
+    let outcome = take_in(accumulator.buffer, held, skipping, piece);
+    accumulator.held = outcome.held;
+    accumulator.skipping = outcome.skipping;
+    *taken = outcome.taken;
+    *count = outcome.size;
+    outcome.answer
+}

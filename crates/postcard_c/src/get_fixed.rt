@@ -1,0 +1,183 @@
+//! The calls that read numbers at their full width: 2, 4, 8 or 16 bytes, the lowest first (`_le`) or
+//! the highest first (`_be`), in place of a varint.
+//!
+//! A signed number is the unsigned number of its two's complement; `c/postcard.h` has the casts.
+
+ghost use Rattle.std.specs.Prelude.{◌≡◌, ◌+◌, ◌*◌, ◌^◌, length};
+ghost use Rattle.postcard_fixint.specs.Base256.{little, big};
+ghost use Rattle.postcard_c.specs.Reading.{GetsBytes, GetsFixed};
+
+use crate::reader::{Reader, rest_at};
+use crate::wide::halves;
+use postcard_c_status::UNEXPECTED_END;
+use postcard_fixint::FixInt;
+
+/// Reads as many bytes as `bytes` has, and copies them there.
+///
+/// # Errors
+///
+/// Fails with `DeserializeUnexpectedEnd` if fewer bytes are left.
+fn fill(reader: &mut Reader<'_>, bytes: &mut [u8]) -> u32
+    ensures { GetsBytes (length bytes.old) reader.old reader.new bytes.old bytes.new result }
+{
+    if reader.status != 0 {
+        return reader.status;
+    }
+    let rest = rest_at(reader.bytes, reader.at);
+    let size = bytes.len();
+    if size > rest.len() {
+        reader.status = UNEXPECTED_END;
+        return UNEXPECTED_END;
+    }
+    bytes.copy_from_slice(&rest[..size]);
+    reader.at += size;
+    0
+}
+
+/// Reads a number of 16 bits from its 2 bytes, the lowest first.
+///
+/// # Errors
+///
+/// Fails with `DeserializeUnexpectedEnd` if fewer bytes are left.
+#[unsafe(no_mangle)]
+pub extern "C" fn postcard_get_u16_le(reader: &mut Reader<'_>, value: &mut u16) -> u32
+    ensures { GetsFixed little.value 2 reader.old reader.new value.old value.new result }
+{
+    let mut bytes = [0; 2];
+    let status = fill(reader, &mut bytes);
+    if status == 0 {
+        *value = u16::decode_le(bytes);
+    }
+    status
+}
+
+/// Reads a number of 16 bits from its 2 bytes, the highest first.
+///
+/// # Errors
+///
+/// Fails with `DeserializeUnexpectedEnd` if fewer bytes are left.
+#[unsafe(no_mangle)]
+pub extern "C" fn postcard_get_u16_be(reader: &mut Reader<'_>, value: &mut u16) -> u32
+    ensures { GetsFixed big.value 2 reader.old reader.new value.old value.new result }
+{
+    let mut bytes = [0; 2];
+    let status = fill(reader, &mut bytes);
+    if status == 0 {
+        *value = u16::decode_be(bytes);
+    }
+    status
+}
+
+/// Reads a number of 32 bits from its 4 bytes, the lowest first.
+///
+/// # Errors
+///
+/// Fails with `DeserializeUnexpectedEnd` if fewer bytes are left.
+#[unsafe(no_mangle)]
+pub extern "C" fn postcard_get_u32_le(reader: &mut Reader<'_>, value: &mut u32) -> u32
+    ensures { GetsFixed little.value 4 reader.old reader.new value.old value.new result }
+{
+    let mut bytes = [0; 4];
+    let status = fill(reader, &mut bytes);
+    if status == 0 {
+        *value = u32::decode_le(bytes);
+    }
+    status
+}
+
+/// Reads a number of 32 bits from its 4 bytes, the highest first.
+///
+/// # Errors
+///
+/// Fails with `DeserializeUnexpectedEnd` if fewer bytes are left.
+#[unsafe(no_mangle)]
+pub extern "C" fn postcard_get_u32_be(reader: &mut Reader<'_>, value: &mut u32) -> u32
+    ensures { GetsFixed big.value 4 reader.old reader.new value.old value.new result }
+{
+    let mut bytes = [0; 4];
+    let status = fill(reader, &mut bytes);
+    if status == 0 {
+        *value = u32::decode_be(bytes);
+    }
+    status
+}
+
+/// Reads a number of 64 bits from its 8 bytes, the lowest first.
+///
+/// # Errors
+///
+/// Fails with `DeserializeUnexpectedEnd` if fewer bytes are left.
+#[unsafe(no_mangle)]
+pub extern "C" fn postcard_get_u64_le(reader: &mut Reader<'_>, value: &mut u64) -> u32
+    ensures { GetsFixed little.value 8 reader.old reader.new value.old value.new result }
+{
+    let mut bytes = [0; 8];
+    let status = fill(reader, &mut bytes);
+    if status == 0 {
+        *value = u64::decode_le(bytes);
+    }
+    status
+}
+
+/// Reads a number of 64 bits from its 8 bytes, the highest first.
+///
+/// # Errors
+///
+/// Fails with `DeserializeUnexpectedEnd` if fewer bytes are left.
+#[unsafe(no_mangle)]
+pub extern "C" fn postcard_get_u64_be(reader: &mut Reader<'_>, value: &mut u64) -> u32
+    ensures { GetsFixed big.value 8 reader.old reader.new value.old value.new result }
+{
+    let mut bytes = [0; 8];
+    let status = fill(reader, &mut bytes);
+    if status == 0 {
+        *value = u64::decode_be(bytes);
+    }
+    status
+}
+
+/// Reads a number of 128 bits from its 16 bytes, the lowest first, as its lower and its higher 64
+/// bits.
+///
+/// # Errors
+///
+/// Fails with `DeserializeUnexpectedEnd` if fewer bytes are left.
+#[unsafe(no_mangle)]
+pub extern "C" fn postcard_get_u128_le(
+    reader: &mut Reader<'_>,
+    low: &mut u64,
+    high: &mut u64,
+) -> u32
+    ensures { GetsFixed little.value 16 reader.old reader.new (low.old + 2 ^ 64 * high.old)
+        (low.new + 2 ^ 64 * high.new) result }
+{
+    let mut bytes = [0; 16];
+    let status = fill(reader, &mut bytes);
+    if status == 0 {
+        (*low, *high) = halves(u128::decode_le(bytes));
+    }
+    status
+}
+
+/// Reads a number of 128 bits from its 16 bytes, the highest first, as its lower and its higher 64
+/// bits.
+///
+/// # Errors
+///
+/// Fails with `DeserializeUnexpectedEnd` if fewer bytes are left.
+#[unsafe(no_mangle)]
+pub extern "C" fn postcard_get_u128_be(
+    reader: &mut Reader<'_>,
+    low: &mut u64,
+    high: &mut u64,
+) -> u32
+    ensures { GetsFixed big.value 16 reader.old reader.new (low.old + 2 ^ 64 * high.old)
+        (low.new + 2 ^ 64 * high.new) result }
+{
+    let mut bytes = [0; 16];
+    let status = fill(reader, &mut bytes);
+    if status == 0 {
+        (*low, *high) = halves(u128::decode_be(bytes));
+    }
+    status
+}

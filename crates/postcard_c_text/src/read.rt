@@ -1,0 +1,88 @@
+//! The type of an expression, and a message of that type at the front of some bytes.
+
+ghost use Rattle.std.specs.Prelude.{◌≡◌, ◌≢◌, ◌⊎◌, ◌+◌, ◌≤◌, length, drop, IfOk, IfErr};
+ghost use Rattle.postcard_frame.specs.Front.{ReadsFront};
+ghost use Rattle.postcard_dyn_schema.specs.Meaning.{type_of, reads};
+ghost use Rattle.postcard_dyn_schema.specs.Text.{characters};
+ghost use Rattle.postcard_dyn_schema.specs.Grammar.{IsExpression};
+ghost use Rattle.postcard_dyn.specs.Tree.{IsTree};
+ghost use Rattle.postcard_c_text.specs.Messages.{IsRefused};
+
+use postcard_c_status::{BAD_TYPE, OUT_OF_MEMORY, status_of};
+use postcard_dyn::{Problem, Schema, Value, parse, refused_at, take_from_bytes};
+use postcard_wire::Error;
+use std::alloc::Global;
+
+/// Reads a type expression.
+///
+/// # Errors
+///
+/// Fails with `BAD_TYPE` if the text is no type expression, and writes the number of the character
+/// where it isn't, counted from 1, into `place`; or 0 if the text is not UTF-8. Fails with
+/// `OUT_OF_MEMORY` if an allocation fails.
+pub(crate) fn schema_of(alloc: Global, expression: &[u8], place: &mut usize) -> Result<Schema, u32>
+    ensures spelled { IfOk result (λ schema. IsExpression schema expression.now) }
+    ensures named { IfErr result (λ status. (status ≡ 16) ⊎ (status ≡ 17)) }
+    ensures within { IfErr result (λ status. place.new ≤ characters expression.now + 1) }
+{
+    *place = 0;
+    let Ok(expression) = str::from_utf8(expression) else {
+        return Err(BAD_TYPE);
+    };
+    match parse(alloc, expression) {
+        Ok(schema) => Ok(schema),
+        Err(error) => {
+            *place = error.character;
+            match error.problem {
+                Problem::OutOfMemory => Err(OUT_OF_MEMORY),
+                _ => Err(BAD_TYPE),
+            }
+        }
+    }
+}
+
+/// Reads the message of a type that some bytes begin with, and writes the number of its bytes into
+/// `place`.
+///
+/// # Errors
+///
+/// Fails with the number of an error of reading if no front of the bytes is a message of the type, and
+/// writes the offset in bytes of the part that can't be read into `place`. Fails with `OUT_OF_MEMORY`
+/// if an allocation fails.
+pub(crate) fn message_of(
+    alloc: Global,
+    schema: &Schema,
+    bytes: &[u8],
+    place: &mut usize,
+) -> Result<Value, u32>
+    ensures read { IfOk result (λ value. ReadsFront (reads (type_of schema.now)) IsTree bytes.now value
+        (drop place.new bytes.now)) }
+    ensures refused { IfErr result
+        (λ status. (status ≡ 16) ⊎ IsRefused (reads (type_of schema.now)) bytes.now status) }
+    ensures within { place.new ≤ length bytes.now }
+{
+    match take_from_bytes(alloc, schema, bytes) {
+        Ok((value, rest)) => {
+            *place = bytes.len().saturating_sub(rest.len());
+            Ok(value)
+        }
+        Err(Error::OutOfMemory) => {
+            *place = 0;
+            Err(OUT_OF_MEMORY)
+        }
+        Err(error) => {
+            *place = refused_place(alloc, schema, bytes);
+            Err(status_of(&error))
+        }
+    }
+}
+
+/// Returns the offset of the part that can't be read, or 0 if an allocation fails.
+fn refused_place(alloc: Global, schema: &Schema, bytes: &[u8]) -> usize
+    ensures { result ≤ length bytes.now }
+{
+    match refused_at(alloc, schema, bytes) {
+        Ok(place) => place,
+        Err(_) => 0,
+    }
+}
