@@ -3,3 +3,4 @@ pub mod Bytes
 pub mod Damage
 pub mod Split
 pub mod Framed
+mod Decoding

@@ -130,3 +130,13 @@ fn frames_after_bytes_that_are_there(rt: HostRuntime) {
     let frames = goes_after(&rt, Vec::new(rt.alloc()), &true, &[one]);
     goes_after(&rt, frames, &false, &[one, none]);
 }
+
+#[test]
+fn a_frame_after_any_number_of_bytes(rt: HostRuntime) {
+    let bytes = [0xAA; 300];
+    let one = [0x02, 0x01, 0x00].as_slice();
+    for count in 0..=300 {
+        let held = &bytes[..count];
+        goes_after(&rt, joined(&rt, &[held]), &true, &[held, one]);
+    }
+}

@@ -1,7 +1,7 @@
 -- The data that decoding left at the front is that of the frame, and the value is read from it.
 use Rattle.std.proofs.Common.{◌≡◌, ◌++◌, [], sym, subst, OnOk}
 use Rattle.std.proofs.lemmas.Result.{IfOk-weaker}
-use Rattle.postcard_frame.proofs.Decoded.{content_is}
+use Rattle.postcard_crc.proofs.Decoding.{content_is}
 use Rattle.postcard_wire.specs.Spelling.{canonical}
 use Rattle.crc.specs.Frame.{low_bytes}
 use Rattle.postcard_crc.specs.Reading.{IsDamaged, ReadsChecked, ReadsFrameChecked}
