@@ -242,7 +242,10 @@ fn numbers_with_a_point(rt: HostRuntime) {
     let back = sample_comes_back(rt.alloc(), &SAMPLE);
     assert_eq!(rt; back, Ok(SAMPLE));
     let mut buffer = [0; 28];
-    let widest = Sample { sensor: u16::MAX, ..SAMPLE };
+    let widest = Sample {
+        sensor: u16::MAX,
+        ..SAMPLE
+    };
     assert_eq!(rt; sample_fits_28_bytes(&widest, &mut buffer), Ok(28));
 }
 
