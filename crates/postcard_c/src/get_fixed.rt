@@ -4,7 +4,7 @@
 //! A signed number is the unsigned number of its two's complement; `c/postcard.h` has the casts.
 
 ghost use Rattle.std.specs.Prelude.{◌≡◌, ◌+◌, ◌*◌, ◌^◌, length};
-ghost use Rattle.postcard_fixint.specs.Base256.{little, big};
+ghost use Rattle.postcard_shape.specs.Base256.{little, big};
 ghost use Rattle.postcard_c.specs.Reading.{GetsBytes, GetsFixed};
 
 use crate::reader::{Reader, rest_at};

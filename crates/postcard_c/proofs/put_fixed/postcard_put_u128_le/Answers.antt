@@ -1,5 +1,5 @@
 use Rattle.std.proofs.Common.{subst}
-use Rattle.postcard_fixint.specs.Base256.{little}
+use Rattle.postcard_shape.specs.Base256.{little}
 use Rattle.postcard_c.specs.Writing.{Puts}
 use Rattle.postcard_c.proofs.put_fixed.postcard_put_u128_le.Goals as goal
 
