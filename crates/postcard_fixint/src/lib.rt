@@ -4,9 +4,10 @@
 //! A varint is shorter for small numbers. At its full width a number always has the same length: a
 //! random `u64`, as a hash or an identifier, has 8 bytes in place of 9 or 10.
 //!
-//! `specs/Base256.antt` defines the bytes of a number: those, as many as its type has, whose value
-//! in base 256 is the number. `specs/Fixed.antt` defines the shape and proves its laws: what was
-//! written is read back as the same number, and any bytes of that count are read.
+//! `specs/Base256.antt` of `postcard_shape` defines the bytes of a number: those, as many as its
+//! type has, whose value in base 256 is the number. `specs/Fixed.antt` defines the shape and proves
+//! its laws: what was written is read back as the same number, and any bytes of that count are
+//! read.
 //!
 //! In a struct, the tuple of the fields has an [`LE`] or [`BE`] for the number:
 //!
