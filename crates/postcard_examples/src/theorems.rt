@@ -1,7 +1,8 @@
 //! Theorems of a caller: structs are read as they were written, five bytes are enough for a `u32`,
 //! and 28 for a sample.
 
-ghost use Rattle.std.specs.Prelude.{◌≡◌, IfOk, IsOk, nat_cmp, string_bytes};
+ghost use Rattle.std.specs.Ordering.{nat_cmp};
+ghost use Rattle.std.specs.Prelude.{◌≡◌, IfOk, IsOk, string_bytes};
 ghost use Rattle.postcard_shape.specs.Options.{SameOption};
 ghost use Rattle.postcard_shape.specs.Same.{SameList};
 ghost use Rattle.postcard_shape.specs.Sets.{SameSet};

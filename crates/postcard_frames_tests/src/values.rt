@@ -131,12 +131,16 @@ fn frames_after_bytes_that_are_there(rt: HostRuntime) {
     goes_after(&rt, frames, &false, &[one, none]);
 }
 
+/// Asserts that a frame is written after these bytes.
+fn true_goes_after(rt: &(impl Abort + AllocGlobal), held: &[u8]) {
+    let one = [0x02, 0x01, 0x00].as_slice();
+    goes_after(rt, joined(rt, &[held]), &true, &[held, one]);
+}
+
 #[test]
 fn a_frame_after_any_number_of_bytes(rt: HostRuntime) {
     let bytes = [0xAA; 300];
-    let one = [0x02, 0x01, 0x00].as_slice();
     for count in 0..=300 {
-        let held = &bytes[..count];
-        goes_after(&rt, joined(&rt, &[held]), &true, &[held, one]);
+        true_goes_after(&rt, &bytes[..count]);
     }
 }

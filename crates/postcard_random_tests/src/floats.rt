@@ -26,7 +26,8 @@ fn f32_comes_back(alloc: Global, bits: u32) -> bool {
     };
     let mut buffer = [0; 5];
     match to_slice(&value, &mut buffer) {
-        Ok(front) => f32_to_bits_with_nan(value) == want && *front == want.to_le_bytes(),
+        Ok(front) => f32_to_bits_with_nan(value) == want
+            && &*front == want.to_le_bytes().as_slice(),
         Err(_) => false,
     }
 }
@@ -39,7 +40,8 @@ fn f64_comes_back(alloc: Global, bits: u64) -> bool {
     };
     let mut buffer = [0; 9];
     match to_slice(&value, &mut buffer) {
-        Ok(front) => f64_to_bits_with_nan(value) == want && *front == want.to_le_bytes(),
+        Ok(front) => f64_to_bits_with_nan(value) == want
+            && &*front == want.to_le_bytes().as_slice(),
         Err(_) => false,
     }
 }
