@@ -14,8 +14,6 @@ pub mod digest;
 pub mod implementation;
 pub mod laws;
 mod table;
-#[cfg(test)]
-mod tests;
 pub mod width;
 
 pub use algorithm::Algorithm;

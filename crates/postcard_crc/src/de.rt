@@ -191,11 +191,35 @@ fn checked<'a, W: Width, I: Implementation<W>>(
     if rest.len() < size {
         return Err(Error::DeserializeUnexpectedEnd);
     }
+    let wanted = trailer_of(crc_before(bytes, rest, digest));
+    after_checksum(rest, &wanted.bytes[..wanted.len])
+}
+
+// Returns the checksum of what the digest has taken, and then the bytes before `rest`.
+fn crc_before<W: Width, I: Implementation<W>>(
+    bytes: &[u8],
+    rest: &[u8],
+    digest: Digest<'_, W, I>,
+) -> W
+    requires { length rest.now ≤ length bytes.now }
+    ensures { (front : List ℕ) → bytes.now ≡ front ++ rest.now
+        → IsCrcAfter digest.entry front (W.number result) }
+{
     let mut digest = digest;
     digest.update(&bytes[..bytes.len() - rest.len()]);
-    let wanted = trailer_of(digest.finalize());
-    let (found, after) = rest.split_at(size);
-    if are_same(found, &wanted.bytes[..wanted.len]) {
+    digest.finalize()
+}
+
+// Returns what follows the checksum `wanted`, with which `rest` is to begin.
+fn after_checksum<'a>(rest: &'a [u8], wanted: &[u8]) -> Result<&'a [u8]>
+    requires { length wanted.now ≤ length rest.now }
+    ensures gives { IfOk result (λ after. rest.now ≡ wanted.now ++ after.now) }
+    ensures accepts { (after : List ℕ) → rest.now ≡ wanted.now ++ after
+        → MatchResult result (λ r. r.now ≡ after) (λ _. ⊥) }
+    ensures named { IfErr result (λ e. e ≡ Error.DeserializeBadCrc) }
+{
+    let (found, after) = rest.split_at(wanted.len());
+    if are_same(found, wanted) {
         Ok(after)
     } else {
         Err(Error::DeserializeBadCrc)

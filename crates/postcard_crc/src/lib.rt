@@ -14,6 +14,4 @@ pub mod de;
 pub mod de_flavors;
 pub mod ser;
 pub mod ser_flavors;
-#[cfg(test)]
-mod tests;
 mod trailer;

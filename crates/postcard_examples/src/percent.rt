@@ -3,7 +3,7 @@
 ghost use Rattle.postcard_shape.specs.Shape.{via};
 ghost use Rattle.postcard_shape.specs.Leaves.{byte};
 ghost use Rattle.postcard_shape.specs.Only.{only};
-ghost use Rattle.std.specs.Prelude.{◌≡◌, ◌≤◌, ◌↔◌, IsSome, IfSome};
+ghost use Rattle.std.specs.Prelude.{◌≡◌, ◌≤◌, ◌↔◌, IsSome, IfSome, IsTrue};
 
 use postcard::de_flavors::Flavor as DeFlavor;
 use postcard::ser_flavors::Flavor;
@@ -19,13 +19,20 @@ pub struct Percent {
     ghost in_range: { value ≤ 100 },
 }
 
+/// Returns whether a number is at most 100.
+fn is_percent(value: u8) -> bool
+    ensures { IsTrue result ↔ (value ≤ 100) }
+{
+    value <= 100
+}
+
 impl Percent {
     /// Returns the percentage, or `None` if `value` is above 100.
     pub fn new(value: u8) -> Option<Percent>
         ensures accepts { IsSome result ↔ (value ≤ 100) }
         ensures keeps { IfSome result (λ percent. percent.value ≡ value) }
     {
-        if value <= 100 {
+        if is_percent(value) {
             Some(Percent { value })
         } else {
             None
@@ -54,7 +61,7 @@ impl Serialize for Percent {
 impl<'de> Deserialize<'de> for Percent {
     fn deserialize<F: DeFlavor>(alloc: Global, d: &mut Deserializer<'de, F>) -> Result<Self> {
         let value = u8::deserialize(alloc, d)?;
-        if value > 100 {
+        if !is_percent(value) {
             return Err(Error::de_custom("above 100"));
         }
         Ok(Percent { value })

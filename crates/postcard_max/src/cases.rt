@@ -1,7 +1,7 @@
 //! The greatest size of an enum: that of its greatest variant, the index and the content.
 
 ghost use Rattle.std.specs.Prelude.{◌≡◌, ℕ, Option};
-ghost use Rattle.postcard_max.specs.Sizes.{index_len as len_of};
+ghost use Rattle.postcard_max.specs.Sizes.{index_len as len_of, sum_of};
 ghost use Rattle.postcard_max.specs.SizeLimit.{SizeLimit, no_case_limit, case_limit};
 ghost use Rattle.postcard_max.specs.SizeLimit.{variants_limit};
 ghost use Rattle.postcard_max.specs.CasesLimit.{IsCasesLimit, no_case_lawful, case_lawful};
@@ -45,13 +45,18 @@ impl<A: MaxSize, R: MaxCases> MaxCases for Case<A, R> {
     ghost limit = { case_limit A.limit R.limit };
 
     fn cases_size(index: Option<usize>) -> Option<usize> {
-        greater(
-            sum(index_len(index), A::postcard_max_size()),
-            R::cases_size(sum(index, Some(1))),
-        )
+        greater(case_size::<A>(index), R::cases_size(sum(index, Some(1))))
     }
 
     ghost lawful = { case_lawful A.lawful R.lawful };
+}
+
+/// Returns the greatest size in bytes of a variant with its index, or `None` if there is no index or
+/// the size does not fit `usize`.
+fn case_size<A: MaxSize>(index: Option<usize>) -> Option<usize>
+    ensures { result ≡ sum_of (len_of index) A.limit.greatest }
+{
+    sum(index_len(index), A::postcard_max_size())
 }
 
 /// Returns the number of bytes of the varint of a variant's index, or `None` if there is no index.

@@ -1,5 +1,5 @@
 -- The byte is added to the bits that leave the register, and their entry to those that stay.
-use Rattle.std.proofs.Common.{◌≡◌, ◌*◌, ◌-◌, ◌/◌, ◌%◌, ◌^◌, ◌<◌, ◌≤◌, ap, subst, subst₂, sym, refl, ◌∙◌, bit_xor, bit_and}
+use Rattle.std.proofs.Common.{◌≡◌, ◌*◌, ◌-◌, ◌/◌, ◌%◌, ◌^◌, ◌<◌, ◌≤◌, ap, subst, subst₂, sym, refl, ◌∙◌, bit_xor, bit_and, arith}
 use Rattle.std.specs.Int.Bits.{mask_lt}
 use lib.Bits.{xor_lt}
 use Rattle.crc.specs.Algorithm.{parameters}
@@ -7,6 +7,21 @@ use Rattle.crc.specs.Crc.{in_order}
 use Rattle.crc.specs.Register.{Takes}
 use Rattle.crc.proofs.CrcLemmas.{byte_reflected, byte_plain, sum_below, quotient_below}
 use Rattle.crc.proofs.implementation.step.Goals as goal
+
+pub look_up-entry-requires : goal.look_up-entry-requires
+look_up-entry-requires g c =
+    let r = c.to_u128-register.result in
+    let byte : bit_xor (bit_and r 255) c.args.byte < 256 = xor_lt 8 (bit_and r 255) c.args.byte (mask_lt r 8) c.ranges.byte.fits in
+    omega (arith, byte, c.requires.enough)
+
+pub look_up-entry-requires-else-algorithm : goal.look_up-entry-requires-else-algorithm
+look_up-entry-requires-else-algorithm g c =
+    let byte : bit_xor c.top_byte.result c.args.byte < 256 = xor_lt 8 c.top_byte.result c.args.byte c.top_byte.type_inv c.ranges.byte.fits in
+    omega (arith, byte, c.requires.enough)
+
+pub top_byte-requires-clause-fits : goal.top_byte-requires-clause-fits
+top_byte-requires-clause-fits g c =
+    subst (λ k. c.to_u128-register.result < 2 ^ k) (sym c.bits-bits.ensures.bits) c.to_u128-register.ensures.fits
 
 pub from_u128-requires : goal.from_u128-requires
 from_u128-requires g c =

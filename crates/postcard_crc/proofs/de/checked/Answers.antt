@@ -1,45 +1,44 @@
--- The bytes before the rest are the front, and those that the rest begins with are their checksum.
-use Rattle.std.proofs.Common.{◌≡◌, ℕ, ◌-◌, ◌+◌, ◌*◌, ◌/◌, ◌<◌, ◌≤◌, List, ◌++◌, length, take, drop, refl, sym, ap, ap₂, subst, ◌∙◌, length-append, take-append-drop, take_all, arith}
-use Rattle.std.proofs.lemmas.List.{take-append-le}
-use Rattle.crc.specs.Crc.{Parameters, IsCrc}
-use Rattle.crc.specs.Digest.{Took}
+-- The rest begins with the checksum of the bytes before it.
+use Rattle.std.proofs.Common.{◌≡◌, ◌⊎◌, ℕ, List, ◌++◌, take, ap, sym, ◌∙◌, inr, Result, Ok, Err, IfErr, Bor}
+use Rattle.std.specs.Result.{IfOk}
+use Rattle.crc.specs.Digest.{Progress}
 use Rattle.crc.specs.Frame.{low_bytes}
-use Rattle.crc.proofs.FrameLemmas.{one_crc, length_low}
-use Rattle.postcard_crc.proofs.Split.{front_of, too_short, checksum_front, checksum_rest}
-use Rattle.postcard_crc.proofs.de.checked.Given as given
+use Rattle.crc.proofs.FrameLemmas.{one_crc}
+use Rattle.postcard_wire.specs.declared.error.Error.{Error}
+use Rattle.postcard_wire.specs.declared.error.Error.TheVariants.{DeserializeUnexpectedEnd, DeserializeBadCrc}
+use Rattle.postcard_crc.specs.Writing.{IsCrcAfter}
+use Rattle.postcard_crc.proofs.Split.{too_short}
 use Rattle.postcard_crc.proofs.de.checked.Goals as goal
-use Rattle.postcard_crc.proofs.de.checked.Goals.{After-finalize}
 
-is_crc : (g : given.Over) (c : After-finalize g) → (front : List ℕ) → c.args.bytes.now ≡ front ++ c.args.rest.now
-    → (a : Parameters) (m : List ℕ) → Took c.args.digest a m → IsCrc a (m ++ front) (g.W.Width.number c.finalize.result)
-is_crc g c front e a m h =
-    c.finalize.ensures a (m ++ front)
-    (subst (λ y. Took c.update.new.self a (m ++ y)) (front_of c.args.bytes.now front c.args.rest.now e) (c.update.ensures a m h))
+-- What follows the bytes of the checksum follows the checksum.
+with_crc : (r : Result (Bor (List ℕ)) Error) (k crc : ℕ) (d : Progress) (bytes rest wanted : List ℕ) → wanted ≡ low_bytes k crc
+    → ((front : List ℕ) → bytes ≡ front ++ rest → IsCrcAfter d front crc)
+    → IfOk r (λ after. rest ≡ wanted ++ after.now)
+    → IfOk r (λ after. (front : List ℕ) → bytes ≡ front ++ rest → (n : ℕ) × IsCrcAfter d front n × (rest ≡ low_bytes k n ++ after.now))
+with_crc (Ok after) k crc d bytes rest wanted e is h = λ front b. (crc, is front b, h ∙ ap (λ (l : List ℕ). l ++ after.now) e)
+with_crc (Err x) k crc d bytes rest wanted e is h = tt
+
+either : (r : Result (Bor (List ℕ)) Error) → IfErr r (λ e. e ≡ DeserializeBadCrc)
+    → IfErr r (λ e. (e ≡ DeserializeUnexpectedEnd) ⊎ (e ≡ DeserializeBadCrc))
+either (Ok after) h = tt
+either (Err e) h = inr h
 
 pub returns-then-rest-size-clause-accepts : goal.returns-then-rest-size-clause-accepts
 returns-then-rest-size-clause-accepts g c a m front after crc sound took e is rest_is =
     too_short g.W.Width.size c.bits.result c.args.rest.now after crc c.bits.ensures.bits c.if-rest-size.true rest_is
 
-pub returns-then-are_same-clause-gives : goal.returns-then-are_same-clause-gives
-returns-then-are_same-clause-gives g c front e =
-    let crc = g.W.Width.number c.finalize.result in
-    let found : c.split_at.result.0.now ≡ low_bytes g.W.Width.size crc = c.are_same.ensures.0 c.if-are_same.true ∙ c.trailer_of-wanted.ensures.bytes in (
-      crc,
-      is_crc g (goal.at.returns-then-are_same-clause-gives g c).After-finalize front e,
-      sym (take-append-drop (c.bits.result / 8) c.args.rest.now) ∙ ap₂ (λ (x y : List ℕ). x ++ y) (sym c.split_at.ensures.front ∙ found) (sym c.split_at.ensures.back),
-    )
+pub returns-clause-gives : goal.returns-clause-gives
+returns-clause-gives g c =
+    with_crc c.after_checksum.result g.W.Width.size (g.W.Width.number c.crc_before.result) c.args.digest c.args.bytes.now c.args.rest.now
+    (take c.trailer_of-wanted.result.len c.trailer_of-wanted.result.bytes) c.trailer_of-wanted.ensures.bytes c.crc_before.ensures c.after_checksum.ensures.gives
 
-pub returns-then-are_same-clause-accepts : goal.returns-then-are_same-clause-accepts
-returns-then-are_same-clause-accepts g c a m front after crc sound took e is rest_is =
-    c.split_at.ensures.back ∙ checksum_rest g.W.Width.size c.bits.result c.args.rest.now after crc c.bits.ensures.bits rest_is
-
-pub returns-else-are_same-clause-accepts : goal.returns-else-are_same-clause-accepts
-returns-else-are_same-clause-accepts g c a m front after crc sound took e is rest_is =
+pub returns-clause-accepts : goal.returns-clause-accepts
+returns-clause-accepts g c a m front after crc sound took e is rest_is =
     let k = g.W.Width.size in
-    let got = g.W.Width.number c.finalize.result in
-    let one : crc ≡ got = one_crc a sound (m ++ front) crc got is (is_crc g (goal.at.returns-else-are_same-clause-accepts g c).After-finalize front e a m took) in
-    let found : c.split_at.result.0.now ≡ low_bytes k crc = c.split_at.ensures.front ∙ checksum_front k c.bits.result c.args.rest.now after crc c.bits.ensures.bits rest_is in
-    let wanted : take c.trailer_of-wanted.result.len c.trailer_of-wanted.result.bytes ≡ low_bytes k crc = c.trailer_of-wanted.ensures.bytes ∙ ap (low_bytes k) (sym one) in
-    let same = c.are_same.ensures.1 (found ∙ sym wanted) in
-    let other = c.if-are_same.false in
-    cc
+    let got = g.W.Width.number c.crc_before.result in
+    let one : crc ≡ got = one_crc a sound (m ++ front) crc got is (c.crc_before.ensures front e a m took) in
+    let wanted : low_bytes k crc ≡ take c.trailer_of-wanted.result.len c.trailer_of-wanted.result.bytes = ap (low_bytes k) one ∙ sym c.trailer_of-wanted.ensures.bytes in
+    c.after_checksum.ensures.accepts after (rest_is ∙ ap (λ (l : List ℕ). l ++ after) wanted)
+
+pub returns-clause-named : goal.returns-clause-named
+returns-clause-named g c = either c.after_checksum.result c.after_checksum.ensures.named

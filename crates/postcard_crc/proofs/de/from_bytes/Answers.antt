@@ -10,3 +10,6 @@ returns-in_err-value-clause-reads_back g c x a m rest crc fits sound took is e =
 
 pub returns-clause-reads_back : goal.returns-clause-reads_back
 returns-clause-reads_back g c x a m rest crc fits sound took is e = (c.in_ok-value.ensures.reads_back x a m rest crc fits sound took is e).0
+
+pub returns-clause-gives : goal.returns-clause-gives
+returns-clause-gives g c = (_, c.in_ok-value.ensures.gives)

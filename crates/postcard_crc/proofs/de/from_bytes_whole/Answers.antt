@@ -1,8 +1,9 @@
 -- The value that was read, with nothing after its checksum.
-use Rattle.std.proofs.Common.{◌≡◌, ◌++◌, [], ap, sym, ◌∙◌, append-nil}
+use Rattle.std.proofs.Common.{◌≡◌, ◌++◌, [], ap, subst, sym, ◌∙◌, append-nil}
 use Rattle.postcard_de_nodes.specs.ReadLemmas.{is_refusal}
 use Rattle.postcard_wire.specs.Spelling.{canonical}
 use Rattle.crc.specs.Frame.{low_bytes}
+use Rattle.postcard_crc.specs.Reading.{ReadsChecked}
 use Rattle.postcard_crc.proofs.de.from_bytes_whole.Goals as goal
 
 pub returns-in_err-value-clause-reads_back : goal.returns-in_err-value-clause-reads_back
@@ -12,6 +13,11 @@ returns-in_err-value-clause-reads_back g c x a m crc fits sound took is e =
     let front = canonical (g.T.Shaped.shape.tree x) in
     let found = refused.ensures.reads_back x a m [] crc fits sound took is (e ∙ ap (λ z. front ++ z) (sym (append-nil low))) in
     rw (is_refusal c.from_residual.result refused.field-0.0 c.from_residual.ensures.1) found
+
+pub returns-then-is_end-clause-gives : goal.returns-then-is_end-clause-gives
+returns-then-is_end-clause-gives g c =
+    subst (λ r. ReadsChecked g.T.Shaped.shape.reads g.T.Shaped.shape.value g.W.Width.size c.args.digest c.args.bytes.now c.in_ok-value.value r)
+    (c.is_end.ensures.0 c.if-is_end.true) c.in_ok-value.ensures.gives
 
 pub returns-then-is_end-clause-reads_back : goal.returns-then-is_end-clause-reads_back
 returns-then-is_end-clause-reads_back g c x a m crc fits sound took is e =

@@ -27,14 +27,11 @@ returns-clause-reads_back g c x a m rest crc fits sound took is e =
     let at = c.in_ok-value.ensures.reads_back x (low_bytes g.W.Width.size crc ++ rest) fits e in
     (at.0, c.in_ok-rest.ensures.accepts a m front rest crc sound took (e ∙ ap (λ z. front ++ z) (sym at.1)) is at.1)
 
-pub returns-clause-refuses_damage : goal.returns-clause-refuses_damage
-returns-clause-refuses_damage g c =
+pub returns-clause-gives : goal.returns-clause-gives
+returns-clause-gives g c =
     let f = c.in_ok-value.ensures.gives in
     let h = c.in_ok-rest.ensures.gives f.front f.joins in
-    let rest = c.in_ok-rest.rest.now in
-    let k = g.W.Width.size in
-    not_damaged g.T.Shaped.shape.reads g.T.Shaped.shape.value k c.args.digest c.args.bytes.now c.in_ok-value.value rest
-    (record {
+    record {
       tree = f.tree;
       front = f.front;
       crc = h.0;
@@ -42,6 +39,10 @@ returns-clause-refuses_damage g c =
       is_spelled = f.is_spelled;
       has = f.has;
       is_crc = h.1;
-      joins = f.joins ∙ ap (λ z. f.front ++ z) h.2 ∙ sym (append_assoc f.front (low_bytes k h.0) rest);
-    })
-    (are_bytes c.args.bytes.now (λ i. (c.type_inv.bytes i).fits))
+      joins = f.joins ∙ ap (λ z. f.front ++ z) h.2 ∙ sym (append_assoc f.front (low_bytes g.W.Width.size h.0) c.in_ok-rest.rest.now);
+    }
+
+pub returns-clause-refuses_damage : goal.returns-clause-refuses_damage
+returns-clause-refuses_damage g c =
+    not_damaged g.T.Shaped.shape.reads g.T.Shaped.shape.value g.W.Width.size c.args.digest c.args.bytes.now c.in_ok-value.value c.in_ok-rest.rest.now
+    (returns-clause-gives g c) (are_bytes c.args.bytes.now (λ i. (c.type_inv.bytes i).fits))

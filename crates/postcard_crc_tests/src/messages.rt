@@ -1,15 +1,15 @@
 //! Messages worked out by hand, refusals, and bursts tried one by one.
 
-use crate::de::{
-    from_bytes, from_bytes as from_bytes_crc32, from_bytes_cobs, from_bytes_whole, take_from_bytes,
-};
-use crate::ser::{
-    to_allocvec, to_allocvec_cobs, to_slice, to_slice as to_slice_crc32, to_slice_cobs, to_vec,
-};
 use arrayvec::ArrayVec;
 use crc::{
     CRC_8_MAXIM_DOW, CRC_16_IBM_SDLC, CRC_16_KERMIT, CRC_16_MODBUS, CRC_16_USB, CRC_16_XMODEM,
     CRC_32_ISCSI, Crc,
+};
+use postcard_crc::de::{
+    from_bytes, from_bytes as from_bytes_crc32, from_bytes_cobs, from_bytes_whole, take_from_bytes,
+};
+use postcard_crc::ser::{
+    to_allocvec, to_allocvec_cobs, to_slice, to_slice as to_slice_crc32, to_slice_cobs, to_vec,
 };
 use postcard_wire::Error;
 use std::alloc::Global;

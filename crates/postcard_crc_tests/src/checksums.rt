@@ -1,11 +1,10 @@
 //! Check values of the catalogue, and what the theorems on bursts leave out.
 
-use crate::catalog::{
+use crc::{
     CRC_8_MAXIM_DOW, CRC_8_SMBUS, CRC_16_IBM_SDLC, CRC_16_KERMIT, CRC_16_MODBUS, CRC_16_USB,
     CRC_16_XMODEM, CRC_24_OPENPGP, CRC_32_BZIP2, CRC_32_ISCSI, CRC_32_ISO_HDLC, CRC_32_MPEG_2,
-    CRC_64_ECMA_182, CRC_64_XZ, CRC_82_DARC,
+    CRC_64_ECMA_182, CRC_64_XZ, CRC_82_DARC, Crc, Width,
 };
-use crate::{Crc, Width};
 use std::process::Abort;
 
 const TEXT: &[u8] = b"123456789";
