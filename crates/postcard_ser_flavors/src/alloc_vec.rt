@@ -2,6 +2,7 @@
 
 ghost use Rattle.std.specs.Prelude.{◌≡◌, ◌+◌, ◌<◌, [], ◌∷◌, ◌++◌, length, slice_index, slice_set};
 ghost use Rattle.std.specs.Prelude.{⊤, IsOk, OnOk, OnErr, IfOk, IfErr};
+ghost use Rattle.postcard_wire.specs.Number.{digits};
 ghost use Rattle.postcard_ser_flavors.specs.Flavor.{AppendsFront};
 ghost use Rattle.postcard_ser_flavors.specs.Held.{Appended, NoRoom, NoneFree, AnyReached};
 ghost use Rattle.postcard_ser_flavors.specs.Held.{grows_lawful, none_free, grows_storage};
@@ -9,6 +10,7 @@ ghost use Rattle.postcard_ser_flavors.specs.Held.{list_indexed};
 
 use crate::flavor::Flavor;
 use crate::storage::Storage;
+use postcard_wire::varint::{VARINT_MAX_64, varint_u64};
 use postcard_wire::{Error, Result};
 use std::alloc::Global;
 use std::marker::Model;
@@ -98,6 +100,22 @@ impl Flavor for AllocVec {
         self.vec
             .extend_from_slice(bytes)
             .map_err(|_| Error::SerializeBufferFull)
+    }
+
+    /// Writes the varint of a number. Fails with `SerializeBufferFull` if an allocation fails, and is
+    /// then unchanged.
+    fn try_varint(&mut self, n: u64) -> Result<()>
+        ensures appends { OnOk result
+            (⟦<AllocVec as Flavor>⟧.appended self.old (digits n) self.new) }
+        ensures has_room { ⟦<AllocVec as Flavor>⟧.room self.old (digits n) → IsOk result }
+        ensures refused { OnErr result (⟦<AllocVec as Flavor>⟧.tidy
+            → AppendsFront ⟦<AllocVec as Flavor>⟧.appended self.old (digits n) self.new) }
+        ensures leaves { ⟦<AllocVec as Flavor>⟧.reaches self.old self.new }
+        ensures refuses_by_buffer_full { IfErr result (λ e. e ≡ Error.SerializeBufferFull) }
+        ensures unchanged { OnErr result (self.new ≡ self.old) }
+    {
+        let mut out = [0; VARINT_MAX_64];
+        self.try_extend(varint_u64(n, &mut out))
     }
 
     /// Returns the vector. Never fails.

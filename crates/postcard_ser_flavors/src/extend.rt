@@ -1,10 +1,12 @@
 //! The flavor that appends to a target, such as a vector.
 
 ghost use Rattle.std.specs.Prelude.{◌≡◌, ℕ, List, [], ◌∷◌, ◌++◌, ⊤, IsOk, OnOk, OnErr, IfOk, IfErr};
+ghost use Rattle.postcard_wire.specs.Number.{digits};
 ghost use Rattle.postcard_ser_flavors.specs.Flavor.{AppendsFront};
 ghost use Rattle.postcard_ser_flavors.specs.Held.{Appended, NoRoom, AnyReached, grows_lawful};
 
 use crate::flavor::Flavor;
+use postcard_wire::varint::{VARINT_MAX_64, varint_u64};
 use postcard_wire::{Error, Result};
 use std::marker::Model;
 
@@ -103,6 +105,22 @@ impl<T: ExtendBytes + Drop> Flavor for ExtendFlavor<T> {
         self.target
             .extend(bytes)
             .map_err(|_| Error::SerializeBufferFull)
+    }
+
+    /// Passes the varint of a number on in one piece. Fails with `SerializeBufferFull` if the target
+    /// fails, whose content is then unchanged.
+    fn try_varint(&mut self, n: u64) -> Result<()>
+        ensures appends { OnOk result
+            (⟦<ExtendFlavor<T> as Flavor>⟧.appended self.old (digits n) self.new) }
+        ensures has_room { ⟦<ExtendFlavor<T> as Flavor>⟧.room self.old (digits n) → IsOk result }
+        ensures refused { OnErr result (⟦<ExtendFlavor<T> as Flavor>⟧.tidy
+            → AppendsFront ⟦<ExtendFlavor<T> as Flavor>⟧.appended self.old (digits n) self.new) }
+        ensures leaves { ⟦<ExtendFlavor<T> as Flavor>⟧.reaches self.old self.new }
+        ensures refuses_by_buffer_full { IfErr result (λ e. e ≡ Error.SerializeBufferFull) }
+        ensures unchanged { OnErr result (T.content self.new ≡ T.content self.old) }
+    {
+        let mut out = [0; VARINT_MAX_64];
+        self.try_extend(varint_u64(n, &mut out))
     }
 
     /// Returns the target. Never fails.

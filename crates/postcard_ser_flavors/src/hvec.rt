@@ -2,6 +2,7 @@
 
 ghost use Rattle.std.specs.Prelude.{◌≡◌, ◌+◌, ◌≤◌, ◌<◌, ◌↔◌, [], ◌∷◌, ◌++◌, length, slice_index};
 ghost use Rattle.std.specs.Prelude.{slice_set, ⊤, IsOk, OnOk, OnErr, IfOk, IfErr};
+ghost use Rattle.postcard_wire.specs.Number.{digits};
 ghost use Rattle.postcard_ser_flavors.specs.Flavor.{AppendsFront};
 ghost use Rattle.postcard_ser_flavors.specs.Held.{Appended, HasRoom, HasFreeUpTo, AnyReached};
 ghost use Rattle.postcard_ser_flavors.specs.Held.{fixed_lawful, fixed_free, fixed_storage};
@@ -12,6 +13,7 @@ ghost use Rattle.arrayvec.specs.Lends.{lends_item};
 use crate::flavor::Flavor;
 use crate::storage::Storage;
 use arrayvec::ArrayVec;
+use postcard_wire::varint::{VARINT_MAX_64, varint_u64};
 use postcard_wire::{Error, Result};
 use std::marker::Model;
 use std::ops::{Index, IndexMut};
@@ -101,6 +103,23 @@ impl<const B: usize> Flavor for HVec<B> {
         self.vec
             .try_extend_from_slice(bytes)
             .map_err(|_| Error::SerializeBufferFull)
+    }
+
+    /// Writes the varint of a number. Fails with `SerializeBufferFull` if and only if more than `B`
+    /// bytes would be held, and is then unchanged.
+    fn try_varint(&mut self, n: u64) -> Result<()>
+        ensures appends { OnOk result
+            (⟦<HVec<B> as Flavor>⟧.appended self.old (digits n) self.new) }
+        ensures has_room { ⟦<HVec<B> as Flavor>⟧.room self.old (digits n) → IsOk result }
+        ensures refused { OnErr result (⟦<HVec<B> as Flavor>⟧.tidy
+            → AppendsFront ⟦<HVec<B> as Flavor>⟧.appended self.old (digits n) self.new) }
+        ensures leaves { ⟦<HVec<B> as Flavor>⟧.reaches self.old self.new }
+        ensures fits_iff { IsOk result ↔ (length self.old + length (digits n) ≤ B) }
+        ensures refuses_by_buffer_full { IfErr result (λ e. e ≡ Error.SerializeBufferFull) }
+        ensures unchanged { OnErr result (self.new ≡ self.old) }
+    {
+        let mut out = [0; VARINT_MAX_64];
+        self.try_extend(varint_u64(n, &mut out))
     }
 
     /// Returns the vector. Never fails.

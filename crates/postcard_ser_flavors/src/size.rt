@@ -2,10 +2,12 @@
 
 ghost use Rattle.std.specs.Prelude.{◌≡◌, ◌+◌, ◌^◌, ◌<◌, ◌↔◌, [], ◌∷◌, length, ⊤, IsOk, OnOk, OnErr};
 ghost use Rattle.std.specs.Prelude.{IfOk, IfErr};
+ghost use Rattle.postcard_wire.specs.Number.{digits};
 ghost use Rattle.postcard_ser_flavors.specs.Counted.{Counts, CanCount, Rises, count_lawful};
 ghost use Rattle.postcard_ser_flavors.specs.Flavor.{AppendsFront};
 
 use crate::flavor::Flavor;
+use postcard_wire::varint::{VARINT_MAX_64, varint_u64};
 use postcard_wire::{Error, Result};
 use std::marker::Model;
 
@@ -95,6 +97,23 @@ impl Flavor for Size {
         ensures unchanged { OnErr result (self.new ≡ self.old) }
     {
         self.add(bytes.len())
+    }
+
+    /// Counts the bytes of a varint. Fails with `SerializeBufferFull` if and only if the count would
+    /// pass `usize::MAX`, and is then unchanged.
+    fn try_varint(&mut self, n: u64) -> Result<()>
+        ensures appends { OnOk result
+            (⟦<Size as Flavor>⟧.appended self.old (digits n) self.new) }
+        ensures has_room { ⟦<Size as Flavor>⟧.room self.old (digits n) → IsOk result }
+        ensures refused { OnErr result (⟦<Size as Flavor>⟧.tidy
+            → AppendsFront ⟦<Size as Flavor>⟧.appended self.old (digits n) self.new) }
+        ensures leaves { ⟦<Size as Flavor>⟧.reaches self.old self.new }
+        ensures fits_iff { IsOk result ↔ (self.old + length (digits n) < 2 ^ 64) }
+        ensures refuses_by_buffer_full { IfErr result (λ e. e ≡ Error.SerializeBufferFull) }
+        ensures unchanged { OnErr result (self.new ≡ self.old) }
+    {
+        let mut out = [0; VARINT_MAX_64];
+        self.try_extend(varint_u64(n, &mut out))
     }
 
     /// Returns the count. Never fails.

@@ -284,6 +284,323 @@ fn serialize_eight<
     )
 }
 
+/// Writes nine values in order.
+fn serialize_nine<
+    P: Serialize,
+    Q: Serialize,
+    R: Serialize,
+    S: Serialize,
+    T: Serialize,
+    U: Serialize,
+    V: Serialize,
+    W: Serialize,
+    X: Serialize,
+    F: Flavor,
+>(
+    first: &P,
+    second: &Q,
+    third: &R,
+    fourth: &S,
+    fifth: &T,
+    sixth: &U,
+    seventh: &V,
+    eighth: &W,
+    ninth: &X,
+    serializer: &mut Serializer<F>,
+) -> Result<()>
+    ensures wrote { Wrote F.Flavor serializer.old.output
+        (canonical (P.shape.tree first.now)
+        ++ (canonical (Q.shape.tree second.now)
+        ++ (canonical (R.shape.tree third.now)
+        ++ (canonical (S.shape.tree fourth.now)
+        ++ (canonical (T.shape.tree fifth.now)
+        ++ (canonical (U.shape.tree sixth.now)
+        ++ (canonical (V.shape.tree seventh.now)
+        ++ (canonical (W.shape.tree eighth.now)
+        ++ canonical (X.shape.tree ninth.now)))))))))
+        (P.shape.refuses first.now
+        ⊎ (Q.shape.refuses second.now
+        ⊎ (R.shape.refuses third.now
+        ⊎ (S.shape.refuses fourth.now
+        ⊎ (T.shape.refuses fifth.now
+        ⊎ (U.shape.refuses sixth.now
+        ⊎ (V.shape.refuses seventh.now
+        ⊎ (W.shape.refuses eighth.now
+        ⊎ X.shape.refuses ninth.now))))))))
+        (P.shape.text
+        ⊎ (Q.shape.text
+        ⊎ (R.shape.text
+        ⊎ (S.shape.text
+        ⊎ (T.shape.text
+        ⊎ (U.shape.text
+        ⊎ (V.shape.text
+        ⊎ (W.shape.text
+        ⊎ X.shape.text))))))))
+        result serializer.new.output }
+    ensures fits { OnOk result
+        (P.shape.fits first.now
+        × (Q.shape.fits second.now
+        × (R.shape.fits third.now
+        × (S.shape.fits fourth.now
+        × (T.shape.fits fifth.now
+        × (U.shape.fits sixth.now
+        × (V.shape.fits seventh.now
+        × (W.shape.fits eighth.now
+        × X.shape.fits ninth.now)))))))) }
+{
+    first.serialize(serializer)?;
+    serialize_eight(
+        second, third, fourth, fifth, sixth, seventh, eighth, ninth, serializer,
+    )
+}
+
+/// Writes ten values in order.
+fn serialize_ten<
+    P: Serialize,
+    Q: Serialize,
+    R: Serialize,
+    S: Serialize,
+    T: Serialize,
+    U: Serialize,
+    V: Serialize,
+    W: Serialize,
+    X: Serialize,
+    Y: Serialize,
+    F: Flavor,
+>(
+    first: &P,
+    second: &Q,
+    third: &R,
+    fourth: &S,
+    fifth: &T,
+    sixth: &U,
+    seventh: &V,
+    eighth: &W,
+    ninth: &X,
+    tenth: &Y,
+    serializer: &mut Serializer<F>,
+) -> Result<()>
+    ensures wrote { Wrote F.Flavor serializer.old.output
+        (canonical (P.shape.tree first.now)
+        ++ (canonical (Q.shape.tree second.now)
+        ++ (canonical (R.shape.tree third.now)
+        ++ (canonical (S.shape.tree fourth.now)
+        ++ (canonical (T.shape.tree fifth.now)
+        ++ (canonical (U.shape.tree sixth.now)
+        ++ (canonical (V.shape.tree seventh.now)
+        ++ (canonical (W.shape.tree eighth.now)
+        ++ (canonical (X.shape.tree ninth.now)
+        ++ canonical (Y.shape.tree tenth.now))))))))))
+        (P.shape.refuses first.now
+        ⊎ (Q.shape.refuses second.now
+        ⊎ (R.shape.refuses third.now
+        ⊎ (S.shape.refuses fourth.now
+        ⊎ (T.shape.refuses fifth.now
+        ⊎ (U.shape.refuses sixth.now
+        ⊎ (V.shape.refuses seventh.now
+        ⊎ (W.shape.refuses eighth.now
+        ⊎ (X.shape.refuses ninth.now
+        ⊎ Y.shape.refuses tenth.now)))))))))
+        (P.shape.text
+        ⊎ (Q.shape.text
+        ⊎ (R.shape.text
+        ⊎ (S.shape.text
+        ⊎ (T.shape.text
+        ⊎ (U.shape.text
+        ⊎ (V.shape.text
+        ⊎ (W.shape.text
+        ⊎ (X.shape.text
+        ⊎ Y.shape.text)))))))))
+        result serializer.new.output }
+    ensures fits { OnOk result
+        (P.shape.fits first.now
+        × (Q.shape.fits second.now
+        × (R.shape.fits third.now
+        × (S.shape.fits fourth.now
+        × (T.shape.fits fifth.now
+        × (U.shape.fits sixth.now
+        × (V.shape.fits seventh.now
+        × (W.shape.fits eighth.now
+        × (X.shape.fits ninth.now
+        × Y.shape.fits tenth.now))))))))) }
+{
+    first.serialize(serializer)?;
+    serialize_nine(
+        second, third, fourth, fifth, sixth, seventh, eighth, ninth, tenth, serializer,
+    )
+}
+
+/// Writes eleven values in order.
+fn serialize_eleven<
+    P: Serialize,
+    Q: Serialize,
+    R: Serialize,
+    S: Serialize,
+    T: Serialize,
+    U: Serialize,
+    V: Serialize,
+    W: Serialize,
+    X: Serialize,
+    Y: Serialize,
+    Z: Serialize,
+    F: Flavor,
+>(
+    first: &P,
+    second: &Q,
+    third: &R,
+    fourth: &S,
+    fifth: &T,
+    sixth: &U,
+    seventh: &V,
+    eighth: &W,
+    ninth: &X,
+    tenth: &Y,
+    eleventh: &Z,
+    serializer: &mut Serializer<F>,
+) -> Result<()>
+    ensures wrote { Wrote F.Flavor serializer.old.output
+        (canonical (P.shape.tree first.now)
+        ++ (canonical (Q.shape.tree second.now)
+        ++ (canonical (R.shape.tree third.now)
+        ++ (canonical (S.shape.tree fourth.now)
+        ++ (canonical (T.shape.tree fifth.now)
+        ++ (canonical (U.shape.tree sixth.now)
+        ++ (canonical (V.shape.tree seventh.now)
+        ++ (canonical (W.shape.tree eighth.now)
+        ++ (canonical (X.shape.tree ninth.now)
+        ++ (canonical (Y.shape.tree tenth.now)
+        ++ canonical (Z.shape.tree eleventh.now)))))))))))
+        (P.shape.refuses first.now
+        ⊎ (Q.shape.refuses second.now
+        ⊎ (R.shape.refuses third.now
+        ⊎ (S.shape.refuses fourth.now
+        ⊎ (T.shape.refuses fifth.now
+        ⊎ (U.shape.refuses sixth.now
+        ⊎ (V.shape.refuses seventh.now
+        ⊎ (W.shape.refuses eighth.now
+        ⊎ (X.shape.refuses ninth.now
+        ⊎ (Y.shape.refuses tenth.now
+        ⊎ Z.shape.refuses eleventh.now))))))))))
+        (P.shape.text
+        ⊎ (Q.shape.text
+        ⊎ (R.shape.text
+        ⊎ (S.shape.text
+        ⊎ (T.shape.text
+        ⊎ (U.shape.text
+        ⊎ (V.shape.text
+        ⊎ (W.shape.text
+        ⊎ (X.shape.text
+        ⊎ (Y.shape.text
+        ⊎ Z.shape.text))))))))))
+        result serializer.new.output }
+    ensures fits { OnOk result
+        (P.shape.fits first.now
+        × (Q.shape.fits second.now
+        × (R.shape.fits third.now
+        × (S.shape.fits fourth.now
+        × (T.shape.fits fifth.now
+        × (U.shape.fits sixth.now
+        × (V.shape.fits seventh.now
+        × (W.shape.fits eighth.now
+        × (X.shape.fits ninth.now
+        × (Y.shape.fits tenth.now
+        × Z.shape.fits eleventh.now)))))))))) }
+{
+    first.serialize(serializer)?;
+    serialize_ten(
+        second, third, fourth, fifth, sixth, seventh, eighth, ninth, tenth, eleventh, serializer,
+    )
+}
+
+/// Writes twelve values in order.
+fn serialize_twelve<
+    P: Serialize,
+    Q: Serialize,
+    R: Serialize,
+    S: Serialize,
+    T: Serialize,
+    U: Serialize,
+    V: Serialize,
+    W: Serialize,
+    X: Serialize,
+    Y: Serialize,
+    Z: Serialize,
+    A: Serialize,
+    F: Flavor,
+>(
+    first: &P,
+    second: &Q,
+    third: &R,
+    fourth: &S,
+    fifth: &T,
+    sixth: &U,
+    seventh: &V,
+    eighth: &W,
+    ninth: &X,
+    tenth: &Y,
+    eleventh: &Z,
+    twelfth: &A,
+    serializer: &mut Serializer<F>,
+) -> Result<()>
+    ensures wrote { Wrote F.Flavor serializer.old.output
+        (canonical (P.shape.tree first.now)
+        ++ (canonical (Q.shape.tree second.now)
+        ++ (canonical (R.shape.tree third.now)
+        ++ (canonical (S.shape.tree fourth.now)
+        ++ (canonical (T.shape.tree fifth.now)
+        ++ (canonical (U.shape.tree sixth.now)
+        ++ (canonical (V.shape.tree seventh.now)
+        ++ (canonical (W.shape.tree eighth.now)
+        ++ (canonical (X.shape.tree ninth.now)
+        ++ (canonical (Y.shape.tree tenth.now)
+        ++ (canonical (Z.shape.tree eleventh.now)
+        ++ canonical (A.shape.tree twelfth.now))))))))))))
+        (P.shape.refuses first.now
+        ⊎ (Q.shape.refuses second.now
+        ⊎ (R.shape.refuses third.now
+        ⊎ (S.shape.refuses fourth.now
+        ⊎ (T.shape.refuses fifth.now
+        ⊎ (U.shape.refuses sixth.now
+        ⊎ (V.shape.refuses seventh.now
+        ⊎ (W.shape.refuses eighth.now
+        ⊎ (X.shape.refuses ninth.now
+        ⊎ (Y.shape.refuses tenth.now
+        ⊎ (Z.shape.refuses eleventh.now
+        ⊎ A.shape.refuses twelfth.now)))))))))))
+        (P.shape.text
+        ⊎ (Q.shape.text
+        ⊎ (R.shape.text
+        ⊎ (S.shape.text
+        ⊎ (T.shape.text
+        ⊎ (U.shape.text
+        ⊎ (V.shape.text
+        ⊎ (W.shape.text
+        ⊎ (X.shape.text
+        ⊎ (Y.shape.text
+        ⊎ (Z.shape.text
+        ⊎ A.shape.text)))))))))))
+        result serializer.new.output }
+    ensures fits { OnOk result
+        (P.shape.fits first.now
+        × (Q.shape.fits second.now
+        × (R.shape.fits third.now
+        × (S.shape.fits fourth.now
+        × (T.shape.fits fifth.now
+        × (U.shape.fits sixth.now
+        × (V.shape.fits seventh.now
+        × (W.shape.fits eighth.now
+        × (X.shape.fits ninth.now
+        × (Y.shape.fits tenth.now
+        × (Z.shape.fits eleventh.now
+        × A.shape.fits twelfth.now))))))))))) }
+{
+    first.serialize(serializer)?;
+    serialize_eleven(
+        second, third, fourth, fifth, sixth, seventh, eighth, ninth, tenth, eleventh, twelfth,
+        serializer,
+    )
+}
+
 /// Written as the part.
 impl<A: Serialize> Serialize for (A,) {
     fn serialize<F: Flavor>(&self, serializer: &mut Serializer<F>) -> Result<()> {
@@ -378,16 +695,9 @@ impl<
     J: Serialize,
 > Serialize for (A, B, C, D, E, G, H, I, J) {
     fn serialize<F: Flavor>(&self, serializer: &mut Serializer<F>) -> Result<()> {
-        serialize_eight(
-            &self.0,
-            &self.1,
-            &self.2,
-            &self.3,
-            &self.4,
-            &self.5,
-            &self.6,
-            &(&self.7, &self.8),
-            serializer,
+        let (first, second, third, fourth, fifth, sixth, seventh, eighth, ninth) = self;
+        serialize_nine(
+            first, second, third, fourth, fifth, sixth, seventh, eighth, ninth, serializer,
         )
     }
 }
@@ -406,16 +716,9 @@ impl<
     K: Serialize,
 > Serialize for (A, B, C, D, E, G, H, I, J, K) {
     fn serialize<F: Flavor>(&self, serializer: &mut Serializer<F>) -> Result<()> {
-        serialize_eight(
-            &self.0,
-            &self.1,
-            &self.2,
-            &self.3,
-            &self.4,
-            &self.5,
-            &self.6,
-            &(&self.7, &self.8, &self.9),
-            serializer,
+        let (first, second, third, fourth, fifth, sixth, seventh, eighth, ninth, tenth) = self;
+        serialize_ten(
+            first, second, third, fourth, fifth, sixth, seventh, eighth, ninth, tenth, serializer,
         )
     }
 }
@@ -435,15 +738,10 @@ impl<
     L: Serialize,
 > Serialize for (A, B, C, D, E, G, H, I, J, K, L) {
     fn serialize<F: Flavor>(&self, serializer: &mut Serializer<F>) -> Result<()> {
-        serialize_eight(
-            &self.0,
-            &self.1,
-            &self.2,
-            &self.3,
-            &self.4,
-            &self.5,
-            &self.6,
-            &(&self.7, &self.8, &self.9, &self.10),
+        let (first, second, third, fourth, fifth, sixth, seventh, eighth, ninth, tenth, eleventh) =
+            self;
+        serialize_eleven(
+            first, second, third, fourth, fifth, sixth, seventh, eighth, ninth, tenth, eleventh,
             serializer,
         )
     }
@@ -465,16 +763,23 @@ impl<
     M: Serialize,
 > Serialize for (A, B, C, D, E, G, H, I, J, K, L, M) {
     fn serialize<F: Flavor>(&self, serializer: &mut Serializer<F>) -> Result<()> {
-        serialize_eight(
-            &self.0,
-            &self.1,
-            &self.2,
-            &self.3,
-            &self.4,
-            &self.5,
-            &self.6,
-            &(&self.7, &self.8, &self.9, &self.10, &self.11),
-            serializer,
+        let (
+            first,
+            second,
+            third,
+            fourth,
+            fifth,
+            sixth,
+            seventh,
+            eighth,
+            ninth,
+            tenth,
+            eleventh,
+            twelfth,
+        ) = self;
+        serialize_twelve(
+            first, second, third, fourth, fifth, sixth, seventh, eighth, ninth, tenth, eleventh,
+            twelfth, serializer,
         )
     }
 }
