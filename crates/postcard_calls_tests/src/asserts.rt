@@ -10,6 +10,12 @@ use std::process::Abort;
 /// A byte of a buffer before anything is written.
 pub const OLD: u8 = 0xAA;
 
+/// Asserts that the two are equal. A function, since each macro that asserts is proved where it
+/// stands.
+pub fn same<T: PartialEq + Debug + Drop>(rt: &impl Abort, got: T, want: T) {
+    assert_eq!(rt; got, want);
+}
+
 /// Asserts that a vector with these bytes was written.
 pub fn assert_bytes(rt: &impl Abort, answer: Result<Vec<u8>>, want: &[u8]) {
     match answer {

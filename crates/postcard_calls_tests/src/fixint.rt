@@ -1,7 +1,7 @@
 //! Tests of numbers at their full width. The bytes were worked out by hand: the digits of each
 //! number in base 16, two for each byte, the highest byte first as on paper, or the lowest first.
 
-use crate::asserts::{OLD, assert_refused, assert_written};
+use crate::asserts::{OLD, assert_refused, assert_written, same};
 use postcard::fixint::{BE, FixInt, LE, be, le};
 use postcard::ser_flavors::{Flavor, Slice};
 use postcard::{
@@ -188,8 +188,8 @@ fn too_few_bytes(rt: HostRuntime) {
 fn too_little_room(rt: HostRuntime) {
     let mut buffer = [OLD; 3];
     let refused = to_slice(&BE::new(7u32), &mut buffer).err();
-    assert_eq!(rt; refused, Some(Error::SerializeBufferFull));
-    assert_eq!(rt; buffer, [OLD; 3]);
+    same(&rt, refused, Some(Error::SerializeBufferFull));
+    same(&rt, buffer, [OLD; 3]);
 }
 
 #[test]
@@ -201,15 +201,15 @@ fn in_other_values(rt: HostRuntime) {
     let bytes = [0x82, 0x00, 0x01, 0x00, 0x03, 0x02, 0x09];
     match take_from_bytes::<Vec<LE<u16>>>(rt.alloc(), &bytes) {
         Ok((mut numbers, rest)) => {
-            assert_eq!(rt; rest, [0x09].as_slice());
-            assert_eq!(rt; numbers.pop().map(LE::get), Some(0x0203));
-            assert_eq!(rt; numbers.pop().map(LE::get), Some(1));
-            assert!(rt; numbers.is_empty());
+            same(&rt, rest, [0x09].as_slice());
+            same(&rt, numbers.pop().map(LE::get), Some(0x0203));
+            same(&rt, numbers.pop().map(LE::get), Some(1));
+            same(&rt, numbers.is_empty(), true);
         }
         Err(e) => panic!(rt; "{e}"),
     }
     match from_bytes::<Option<BE<i16>>>(rt.alloc(), &[0x01, 0x00, 0x05]) {
-        Ok(number) => assert_eq!(rt; number.map(BE::get), Some(5)),
+        Ok(number) => same(&rt, number.map(BE::get), Some(5)),
         Err(e) => panic!(rt; "{e}"),
     }
 }
