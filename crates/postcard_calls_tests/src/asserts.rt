@@ -19,7 +19,7 @@ pub fn same<T: PartialEq + Debug + Drop>(rt: &impl Abort, got: T, want: T) {
 /// Asserts that a vector with these bytes was written.
 pub fn assert_bytes(rt: &impl Abort, answer: Result<Vec<u8>>, want: &[u8]) {
     match answer {
-        Ok(bytes) => assert_eq!(rt; bytes.as_slice(), want),
+        Ok(bytes) => same(rt, bytes.as_slice(), want),
         Err(e) => panic!(rt; "{e}"),
     }
 }
@@ -28,7 +28,7 @@ pub fn assert_bytes(rt: &impl Abort, answer: Result<Vec<u8>>, want: &[u8]) {
 pub fn assert_written<T: Serialize>(rt: &impl Abort, value: &T, want: &[u8]) {
     let mut buffer = [OLD; 80];
     match to_slice(value, &mut buffer) {
-        Ok(front) => assert_eq!(rt; &*front, want),
+        Ok(front) => same(rt, &*front, want),
         Err(e) => panic!(rt; "{e}"),
     }
 }
