@@ -10,10 +10,16 @@ use std::process::Abort;
 /// A byte of a buffer before anything is written.
 pub const OLD: u8 = 0xAA;
 
+/// Asserts that the two are equal. A function, since each macro that asserts is proved where it
+/// stands.
+pub fn same<T: PartialEq + Debug + Drop>(rt: &impl Abort, got: T, want: T) {
+    assert_eq!(rt; got, want);
+}
+
 /// Asserts that a vector with these bytes was written.
 pub fn assert_bytes(rt: &impl Abort, answer: Result<Vec<u8>>, want: &[u8]) {
     match answer {
-        Ok(bytes) => assert_eq!(rt; bytes.as_slice(), want),
+        Ok(bytes) => same(rt, bytes.as_slice(), want),
         Err(e) => panic!(rt; "{e}"),
     }
 }
@@ -22,7 +28,7 @@ pub fn assert_bytes(rt: &impl Abort, answer: Result<Vec<u8>>, want: &[u8]) {
 pub fn assert_written<T: Serialize>(rt: &impl Abort, value: &T, want: &[u8]) {
     let mut buffer = [OLD; 80];
     match to_slice(value, &mut buffer) {
-        Ok(front) => assert_eq!(rt; &*front, want),
+        Ok(front) => same(rt, &*front, want),
         Err(e) => panic!(rt; "{e}"),
     }
 }

@@ -1,28 +1,28 @@
 //! Tests of the calls of a `Deserializer`, one by one.
 
-use crate::asserts::assert_bytes;
+use crate::asserts::{assert_bytes, same};
 use postcard::{Deserialize, Deserializer, Error};
 
 #[test]
 fn counts_left(rt: HostRuntime) {
     let mut short = Deserializer::from_bytes(&[0x03, 0x01, 0x02]);
     match short.deserialize_seq() {
-        Ok(elements) => assert_eq!(rt; elements.size_hint(&short), None),
+        Ok(elements) => same(&rt, elements.size_hint(&short), None),
         Err(e) => panic!(rt; "{e}"),
     }
     let mut whole = Deserializer::from_bytes(&[0x03, 0x01, 0x02, 0x03]);
     match whole.deserialize_seq() {
         Ok(mut elements) => {
-            assert_eq!(rt; elements.size_hint(&whole), Some(3));
+            same(&rt, elements.size_hint(&whole), Some(3));
             let first = elements.next_element::<u8, _>(rt.alloc(), &mut whole);
-            assert_eq!(rt; first, Ok(Some(1)));
-            assert_eq!(rt; elements.size_hint(&whole), Some(2));
+            same(&rt, first, Ok(Some(1)));
+            same(&rt, elements.size_hint(&whole), Some(2));
         }
         Err(e) => panic!(rt; "{e}"),
     }
     let mut map = Deserializer::from_bytes(&[0x03, 0x01, 0x02]);
     match map.deserialize_map() {
-        Ok(entries) => assert_eq!(rt; entries.size_hint(), Some(3)),
+        Ok(entries) => same(&rt, entries.size_hint(), Some(3)),
         Err(e) => panic!(rt; "{e}"),
     }
 }
@@ -33,11 +33,11 @@ fn an_element_refused_is_counted(rt: HostRuntime) {
     match deserializer.deserialize_seq() {
         Ok(mut elements) => {
             let first = elements.next_element(rt.alloc(), &mut deserializer);
-            assert_eq!(rt; first, Ok(Some(1u16)));
+            same(&rt, first, Ok(Some(1u16)));
             let second = elements.next_element::<u16, _>(rt.alloc(), &mut deserializer);
-            assert_eq!(rt; second, Err(Error::DeserializeUnexpectedEnd));
+            same(&rt, second, Err(Error::DeserializeUnexpectedEnd));
             let third = elements.next_element::<u16, _>(rt.alloc(), &mut deserializer);
-            assert_eq!(rt; third, Ok(None));
+            same(&rt, third, Ok(None));
         }
         Err(e) => panic!(rt; "{e}"),
     }
@@ -53,14 +53,22 @@ fn bytes_in_memory(rt: HostRuntime) {
 #[test]
 fn unsupported_calls_change_nothing(rt: HostRuntime) {
     let mut deserializer = Deserializer::from_bytes(&[0x05]);
-    assert_eq!(rt; deserializer.deserialize_any(), Err(Error::WontImplement));
-    assert_eq!(rt; deserializer.deserialize_u8(), Ok(5));
+    same(
+        &rt,
+        deserializer.deserialize_any(),
+        Err(Error::WontImplement),
+    );
+    same(&rt, deserializer.deserialize_u8(), Ok(5));
 }
 
 #[test]
 fn bytes_after_a_value(rt: HostRuntime) {
     let mut deserializer = Deserializer::from_bytes(&[0x04, 0x00, 0x04, 0x01, 0x02, 0x03]);
     let value = <(u8, u8, u8)>::deserialize(rt.alloc(), &mut deserializer);
-    assert_eq!(rt; value, Ok((4, 0, 4)));
-    assert_eq!(rt; deserializer.finalize(), Ok([0x01, 0x02, 0x03].as_slice()));
+    same(&rt, value, Ok((4, 0, 4)));
+    same(
+        &rt,
+        deserializer.finalize(),
+        Ok([0x01, 0x02, 0x03].as_slice()),
+    );
 }

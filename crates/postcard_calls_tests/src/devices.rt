@@ -1,5 +1,6 @@
 //! A test of the writer of `postcard_vectors` of which every other call is interrupted.
 
+use crate::asserts::same;
 use arrayvec::ArrayVec;
 use postcard_vectors::devices::writers::InterruptedWriter;
 use std::io::Write;
@@ -10,9 +11,9 @@ fn a_flush_between_interrupted_writes(rt: HostRuntime) {
         inner: ArrayVec::<u8, 1>::new(),
         interrupts: true,
     };
-    assert!(rt; writer.flush().is_ok());
-    assert!(rt; writer.write(&[7]).is_err());
-    assert!(rt; writer.flush().is_ok());
-    assert!(rt; writer.write(&[7]).is_ok());
-    assert_eq!(rt; writer.inner.as_slice(), [7].as_slice());
+    same(&rt, writer.flush().is_ok(), true);
+    same(&rt, writer.write(&[7]).is_err(), true);
+    same(&rt, writer.flush().is_ok(), true);
+    same(&rt, writer.write(&[7]).is_ok(), true);
+    same(&rt, writer.inner.as_slice(), [7].as_slice());
 }

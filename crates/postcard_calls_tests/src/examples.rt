@@ -1,5 +1,6 @@
 //! The examples of `README.md` and `docs/CALLING.md`, line by line.
 
+use crate::asserts::same;
 use postcard::experimental::serialized_size;
 use postcard::{
     Result, from_bytes, from_io, take_from_bytes, to_allocvec, to_extend, to_io, to_slice,
@@ -15,7 +16,7 @@ const TUPLE: [u8; 9] = [0x01, 0x0A, 0x06, 0x48, 0x65, 0x6C, 0x6C, 0x6F, 0x21];
 fn encoding(rt: HostRuntime) -> Result<()> {
     let mut buffer = [0; 16];
     let used = to_slice(&[1u32, 300].as_slice(), &mut buffer)?;
-    assert_eq!(rt; &*used, [0x02, 0x01, 0xAC, 0x02].as_slice());
+    same(&rt, &*used, [0x02, 0x01, 0xAC, 0x02].as_slice());
 
     let tuple = (1u8, 10u32, "Hello!");
     let fixed = to_vec::<_, 9>(&tuple)?;
@@ -23,12 +24,12 @@ fn encoding(rt: HostRuntime) -> Result<()> {
     let longer = to_extend(&true, to_allocvec(rt.alloc(), &tuple)?)?;
     let written = to_io(&tuple, Vec::new(rt.alloc()))?;
     let size = serialized_size(&tuple)?;
-    assert_eq!(rt; fixed.as_slice(), TUPLE.as_slice());
-    assert_eq!(rt; growing.as_slice(), TUPLE.as_slice());
-    assert_eq!(rt; longer.get(..9), Some(TUPLE.as_slice()));
-    assert_eq!(rt; longer.get(9..), Some([0x01].as_slice()));
-    assert_eq!(rt; written.as_slice(), TUPLE.as_slice());
-    assert_eq!(rt; size, 9);
+    same(&rt, fixed.as_slice(), TUPLE.as_slice());
+    same(&rt, growing.as_slice(), TUPLE.as_slice());
+    same(&rt, longer.get(..9), Some(TUPLE.as_slice()));
+    same(&rt, longer.get(9..), Some([0x01].as_slice()));
+    same(&rt, written.as_slice(), TUPLE.as_slice());
+    same(&rt, size, 9);
     Ok(())
 }
 
@@ -36,9 +37,9 @@ fn encoding(rt: HostRuntime) -> Result<()> {
 fn decoding(rt: HostRuntime) -> Result<()> {
     let bytes = [0x03, 0x48, 0x69, 0x21, 0x07];
     let (text, rest) = take_from_bytes::<&str>(rt.alloc(), &bytes)?;
-    assert_eq!(rt; text, "Hi!");
+    same(&rt, text, "Hi!");
     let seven: u8 = from_bytes(rt.alloc(), rest)?;
-    assert_eq!(rt; seven, 7);
+    same(&rt, seven, 7);
     Ok(())
 }
 
@@ -48,8 +49,8 @@ fn records(rt: HostRuntime) -> Result<()> {
     let mut scratch = [0; 8];
     let (name, from) = from_io::<&str, _>(rt.alloc(), (records.as_slice(), &mut scratch))?;
     let (number, (reader, left)) = from_io::<u32, _>(rt.alloc(), from)?;
-    assert_eq!(rt; (name, number), ("a", 300));
-    assert_eq!(rt; (reader, left.len()), ([0x99].as_slice(), 7));
+    same(&rt, (name, number), ("a", 300));
+    same(&rt, (reader, left.len()), ([0x99].as_slice(), 7));
     Ok(())
 }
 
@@ -59,16 +60,17 @@ fn framing(rt: HostRuntime) -> Result<()> {
 
     let mut buffer = [0; 16];
     let frame = to_slice_cobs(&[0x01u8, 0x00, 0x20, 0x30].as_slice(), &mut buffer)?;
-    assert_eq!(rt;
+    same(
+        &rt,
         &*frame,
-        [0x03, 0x04, 0x01, 0x03, 0x20, 0x30, 0x00].as_slice()
+        [0x03, 0x04, 0x01, 0x03, 0x20, 0x30, 0x00].as_slice(),
     );
     let mut two = to_allocvec_cobs_after(&5u8, frame.to_vec(rt.alloc())?)?; // after the first frame
-    assert_eq!(rt; two.get(7..), Some([0x02, 0x05, 0x00].as_slice()));
+    same(&rt, two.get(7..), Some([0x02, 0x05, 0x00].as_slice()));
 
     let (list, rest) = take_from_bytes_cobs::<&[u8]>(rt.alloc(), &mut two)?;
     let five: u8 = from_bytes_cobs(rt.alloc(), rest)?;
-    assert_eq!(rt; (list, five), ([0x01, 0x00, 0x20, 0x30].as_slice(), 5));
+    same(&rt, (list, five), ([0x01, 0x00, 0x20, 0x30].as_slice(), 5));
     Ok(())
 }
 
@@ -93,6 +95,6 @@ fn streams(rt: HostRuntime) -> std::result::Result<(), Fail> {
             };
         }
     }
-    assert_eq!(rt; readings.as_slice(), [(7, 42), (8, 43)].as_slice());
+    same(&rt, readings.as_slice(), [(7, 42), (8, 43)].as_slice());
     Ok(())
 }

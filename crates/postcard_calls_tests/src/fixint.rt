@@ -1,7 +1,7 @@
 //! Tests of numbers at their full width. The bytes were worked out by hand: the digits of each
 //! number in base 16, two for each byte, the highest byte first as on paper, or the lowest first.
 
-use crate::asserts::{OLD, assert_refused, assert_written};
+use crate::asserts::{OLD, assert_refused, assert_written, same};
 use postcard::fixint::{BE, FixInt, LE, be, le};
 use postcard::ser_flavors::{Flavor, Slice};
 use postcard::{
@@ -33,9 +33,9 @@ const LEAST: [u8; 16] = [0x80, 0, 0, 0, 0, 0, 0, 0, 0, 0, 0, 0, 0, 0, 0, 0];
 
 /// Asserts that the result is a success, ends the flavor, and asserts that it has these bytes.
 fn assert_given(rt: &impl Abort, answer: Result<()>, output: Slice<'_>, want: &[u8]) {
-    assert_eq!(rt; answer, Ok(()));
+    same(rt, answer, Ok(()));
     match output.finalize() {
-        Ok(front) => assert_eq!(rt; &*front, want),
+        Ok(front) => same(rt, &*front, want),
         Err(e) => panic!(rt; "{e}"),
     }
 }
@@ -53,8 +53,12 @@ fn assert_low_first<T: FixInt + PartialEq + Debug>(
     let answer = le::serialize(&number, &mut serializer);
     assert_given(rt, answer, serializer.output, bytes);
     let mut source = Deserializer::from_bytes(bytes);
-    assert_eq!(rt; le::deserialize(rt.alloc(), &mut source), Ok(number));
-    assert_eq!(rt; le::deserialize::<T, _>(rt.alloc(), &mut source), Err(END));
+    same(rt, le::deserialize(rt.alloc(), &mut source), Ok(number));
+    same(
+        rt,
+        le::deserialize::<T, _>(rt.alloc(), &mut source),
+        Err(END),
+    );
 }
 
 /// Asserts that `be` writes the number as these bytes, and reads it from just these bytes.
@@ -70,8 +74,12 @@ fn assert_high_first<T: FixInt + PartialEq + Debug>(
     let answer = be::serialize(&number, &mut serializer);
     assert_given(rt, answer, serializer.output, bytes);
     let mut source = Deserializer::from_bytes(bytes);
-    assert_eq!(rt; be::deserialize(rt.alloc(), &mut source), Ok(number));
-    assert_eq!(rt; be::deserialize::<T, _>(rt.alloc(), &mut source), Err(END));
+    same(rt, be::deserialize(rt.alloc(), &mut source), Ok(number));
+    same(
+        rt,
+        be::deserialize::<T, _>(rt.alloc(), &mut source),
+        Err(END),
+    );
 }
 
 /// Asserts that `le` and `be` write the number as these bytes, and read it from just these bytes.
@@ -83,6 +91,38 @@ fn assert_calls<T: FixInt + PartialEq + Debug>(
 ) {
     assert_low_first(rt, number, low_first);
     assert_high_first(rt, number, high_first);
+}
+
+/// Returns the number of an owned `LE`.
+fn owned_le<T: FixInt>(owned: Owned<LE<T>>) -> T {
+    owned.0.get()
+}
+
+/// Asserts that the number as an `LE` is written as these bytes and read from them by both traits.
+fn assert_le<T: FixInt + PartialEq + Debug>(
+    rt: &(impl Abort + AllocGlobal),
+    number: T,
+    bytes: &[u8],
+) {
+    assert_written(rt, &LE::new(number), bytes);
+    same(rt, from_bytes(rt.alloc(), bytes).map(LE::get), Ok(number));
+    same(rt, from_bytes(rt.alloc(), bytes).map(owned_le), Ok(number));
+}
+
+/// Returns the number of an owned `BE`.
+fn owned_be<T: FixInt>(owned: Owned<BE<T>>) -> T {
+    owned.0.get()
+}
+
+/// Asserts that the number as a `BE` is written as these bytes and read from them by both traits.
+fn assert_be<T: FixInt + PartialEq + Debug>(
+    rt: &(impl Abort + AllocGlobal),
+    number: T,
+    bytes: &[u8],
+) {
+    assert_written(rt, &BE::new(number), bytes);
+    same(rt, from_bytes(rt.alloc(), bytes).map(BE::get), Ok(number));
+    same(rt, from_bytes(rt.alloc(), bytes).map(owned_be), Ok(number));
 }
 
 /// Asserts that the number is written as these bytes and read from them, by `le` and `be` and by
@@ -98,16 +138,8 @@ fn assert_both_ways<T: FixInt + PartialEq + Debug>(
         *to = *from;
     }
     assert_calls(rt, number, low_first, high_first);
-    assert_written(rt, &LE::new(number), low_first);
-    assert_written(rt, &BE::new(number), high_first);
-    let low: Result<LE<T>> = from_bytes(rt.alloc(), low_first);
-    assert_eq!(rt; low.map(LE::get), Ok(number));
-    let high: Result<BE<T>> = from_bytes(rt.alloc(), high_first);
-    assert_eq!(rt; high.map(BE::get), Ok(number));
-    let low: Result<Owned<LE<T>>> = from_bytes(rt.alloc(), low_first);
-    assert_eq!(rt; low.map(|owned| owned.0.get()), Ok(number));
-    let high: Result<Owned<BE<T>>> = from_bytes(rt.alloc(), high_first);
-    assert_eq!(rt; high.map(|owned| owned.0.get()), Ok(number));
+    assert_le(rt, number, low_first);
+    assert_be(rt, number, high_first);
 }
 
 /// Returns the first `width` bytes, at most 16.
@@ -188,8 +220,8 @@ fn too_few_bytes(rt: HostRuntime) {
 fn too_little_room(rt: HostRuntime) {
     let mut buffer = [OLD; 3];
     let refused = to_slice(&BE::new(7u32), &mut buffer).err();
-    assert_eq!(rt; refused, Some(Error::SerializeBufferFull));
-    assert_eq!(rt; buffer, [OLD; 3]);
+    same(&rt, refused, Some(Error::SerializeBufferFull));
+    same(&rt, buffer, [OLD; 3]);
 }
 
 #[test]
@@ -201,15 +233,15 @@ fn in_other_values(rt: HostRuntime) {
     let bytes = [0x82, 0x00, 0x01, 0x00, 0x03, 0x02, 0x09];
     match take_from_bytes::<Vec<LE<u16>>>(rt.alloc(), &bytes) {
         Ok((mut numbers, rest)) => {
-            assert_eq!(rt; rest, [0x09].as_slice());
-            assert_eq!(rt; numbers.pop().map(LE::get), Some(0x0203));
-            assert_eq!(rt; numbers.pop().map(LE::get), Some(1));
-            assert!(rt; numbers.is_empty());
+            same(&rt, rest, [0x09].as_slice());
+            same(&rt, numbers.pop().map(LE::get), Some(0x0203));
+            same(&rt, numbers.pop().map(LE::get), Some(1));
+            same(&rt, numbers.is_empty(), true);
         }
         Err(e) => panic!(rt; "{e}"),
     }
     match from_bytes::<Option<BE<i16>>>(rt.alloc(), &[0x01, 0x00, 0x05]) {
-        Ok(number) => assert_eq!(rt; number.map(BE::get), Some(5)),
+        Ok(number) => same(&rt, number.map(BE::get), Some(5)),
         Err(e) => panic!(rt; "{e}"),
     }
 }

@@ -1,5 +1,6 @@
 //! Tests of the calls that read.
 
+use crate::asserts::same;
 use postcard::{from_io, take_from_bytes};
 
 #[test]
@@ -8,9 +9,9 @@ fn a_tuple_from_a_reader(rt: HostRuntime) {
     let mut scratch = [0; 4];
     match from_io::<(&str, u16), _>(rt.alloc(), (bytes.as_slice(), &mut scratch)) {
         Ok((value, (reader, left))) => {
-            assert_eq!(rt; value, ("Hi!", 300));
-            assert_eq!(rt; reader, [0x99].as_slice());
-            assert_eq!(rt; left.len(), 1);
+            same(&rt, value, ("Hi!", 300));
+            same(&rt, reader, [0x99].as_slice());
+            same(&rt, left.len(), 1);
         }
         Err(e) => panic!(rt; "{e}"),
     }
@@ -22,9 +23,9 @@ fn no_more_memory_than_twice_what_is_read(rt: HostRuntime) {
     bytes[0] = 100;
     match take_from_bytes::<Vec<u64>>(rt.alloc(), &bytes) {
         Ok((list, rest)) => {
-            assert_eq!(rt; list.as_slice(), [7; 100].as_slice());
-            assert!(rt; list.capacity() <= 200);
-            assert_eq!(rt; rest.len(), 0);
+            same(&rt, list.as_slice(), [7; 100].as_slice());
+            same(&rt, list.capacity() <= 200, true);
+            same(&rt, rest.len(), 0);
         }
         Err(e) => panic!(rt; "{e}"),
     }

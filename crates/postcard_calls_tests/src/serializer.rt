@@ -1,7 +1,7 @@
 //! Tests of the calls of a `Serializer` that no type of the library makes: with an unknown length,
 //! and with the text as which a value is printed.
 
-use crate::asserts::OLD;
+use crate::asserts::{OLD, same};
 use postcard::ser_flavors::Slice;
 use postcard::{Error, Result, Serializer};
 use std::fmt;
@@ -31,9 +31,9 @@ fn assert_collected<T: Display>(
     let mut serializer = Serializer {
         output: Slice::new(front),
     };
-    assert_eq!(rt; serializer.collect_str(value), answer);
+    same(rt, serializer.collect_str(value), answer);
     let (all, used) = serializer.output.into_parts();
-    assert_eq!(rt; all.get(..used), Some(want));
+    same(rt, all.get(..used), Some(want));
 }
 
 #[test]
@@ -54,10 +54,10 @@ fn an_unknown_length(rt: HostRuntime) {
     let mut serializer = Serializer {
         output: Slice::new(&mut buffer),
     };
-    assert_eq!(rt; serializer.serialize_u8(7), Ok(()));
+    same(&rt, serializer.serialize_u8(7), Ok(()));
     let refused = serializer.serialize_seq(None);
-    assert_eq!(rt; refused, Err(Error::SerializeSeqLengthUnknown));
+    same(&rt, refused, Err(Error::SerializeSeqLengthUnknown));
     let (all, used) = serializer.output.into_parts();
-    assert_eq!(rt; used, 1);
-    assert_eq!(rt; &*all, [0x07, OLD].as_slice());
+    same(&rt, used, 1);
+    same(&rt, &*all, [0x07, OLD].as_slice());
 }

@@ -3,6 +3,7 @@
 
 ghost use Rattle.postcard_calls_tests.specs.declared.sizes.Choice.{Choice};
 
+use crate::asserts::same;
 use arrayvec::ArrayVec;
 use postcard::experimental::max_size::sizes::{greater, product, sum, varint_len};
 use postcard::experimental::max_size::{MaxSize, MaxSizeRepr, fill_max_size, laws};
@@ -97,10 +98,10 @@ impl MaxSizeRepr for Choice {
 /// size: it fits in the buffer, and not in one that is a byte shorter.
 fn assert_takes<T: Serialize + MaxSize>(rt: &impl Abort, value: &T, buffer: &mut [u8]) {
     let size = buffer.len();
-    assert_eq!(rt; T::postcard_max_size(), Some(size));
+    same(rt, T::postcard_max_size(), Some(size));
     value.in_forms();
     laws::within_max_size(value);
-    assert_eq!(rt; fill_max_size(value, buffer), Ok(size));
+    same(rt, fill_max_size(value, buffer), Ok(size));
     if let Some((_, shorter)) = buffer.split_first_mut() {
         assert_eq!(rt;
             to_slice(value, shorter).err(),
@@ -119,7 +120,7 @@ fn of_a_user(rt: HostRuntime) {
     assert_takes(&rt, &parts, &mut [0; 5]);
     assert_takes(&rt, &One, &mut [0; 1]);
     assert_takes(&rt, &Choice::Wide(u16::MAX), &mut [0; 4]);
-    assert_eq!(rt; fill_max_size(&Choice::Narrow(7), &mut [0; 4]), Ok(2));
+    same(&rt, fill_max_size(&Choice::Narrow(7), &mut [0; 4]), Ok(2));
 }
 
 #[test]
@@ -132,25 +133,25 @@ fn of_what_is_not_read(rt: HostRuntime) {
 
 #[test]
 fn of_long_lists(rt: HostRuntime) {
-    assert_eq!(rt; ArrayVec::<u8, 16383>::postcard_max_size(), Some(16385));
-    assert_eq!(rt; ArrayVec::<u8, 16384>::postcard_max_size(), Some(16387));
-    assert_eq!(rt; ArrayVec::<u8, 16385>::postcard_max_size(), Some(16388));
+    same(&rt, ArrayVec::<u8, 16383>::postcard_max_size(), Some(16385));
+    same(&rt, ArrayVec::<u8, 16384>::postcard_max_size(), Some(16387));
+    same(&rt, ArrayVec::<u8, 16385>::postcard_max_size(), Some(16388));
 }
 
 #[test]
 fn past_the_greatest_number(rt: HostRuntime) {
     type Most = [One; usize::MAX];
     type Wide = std::result::Result<u8, (Most, One)>;
-    assert_eq!(rt; Most::postcard_max_size(), Some(usize::MAX));
-    assert_eq!(rt; <(Most, One)>::postcard_max_size(), None);
-    assert_eq!(rt; Option::<Most>::postcard_max_size(), None);
-    assert_eq!(rt; Wide::postcard_max_size(), None);
+    same(&rt, Most::postcard_max_size(), Some(usize::MAX));
+    same(&rt, <(Most, One)>::postcard_max_size(), None);
+    same(&rt, Option::<Most>::postcard_max_size(), None);
+    same(&rt, Wide::postcard_max_size(), None);
 }
 
 #[test]
 fn put_together(rt: HostRuntime) {
-    assert_eq!(rt; sum(Some(2), Some(3)), Some(5));
-    assert_eq!(rt; product(2, Some(3)), Some(6));
-    assert_eq!(rt; greater(Some(2), Some(3)), Some(3));
-    assert_eq!(rt; varint_len(128), 2);
+    same(&rt, sum(Some(2), Some(3)), Some(5));
+    same(&rt, product(2, Some(3)), Some(6));
+    same(&rt, greater(Some(2), Some(3)), Some(3));
+    same(&rt, varint_len(128), 2);
 }

@@ -1,5 +1,6 @@
 //! Tests of the flavors and the source of `postcard_examples`, with bytes worked out by hand.
 
+use crate::asserts::same;
 use postcard::de_flavors::io::io::IOReader;
 use postcard::de_flavors::{Flavor, Slice};
 use postcard::ser_flavors::{AllocVec, HVec, Size};
@@ -19,8 +20,8 @@ fn two_flavors_at_once(rt: HostRuntime) {
     };
     match serialize_with_flavor(&300u16, both) {
         Ok((count, written)) => {
-            assert_eq!(rt; count, 2);
-            assert_eq!(rt; written.as_slice(), [0xAC, 0x02].as_slice());
+            same(&rt, count, 2);
+            same(&rt, written.as_slice(), [0xAC, 0x02].as_slice());
         }
         Err(e) => panic!(rt; "{e}"),
     }
@@ -32,14 +33,14 @@ fn a_byte_at_the_end(rt: HostRuntime) {
         inner: HVec::<3>::new(),
     };
     match serialize_with_flavor(&300u16, trailed) {
-        Ok(written) => assert_eq!(rt; written.as_slice(), [0xAC, 0x02, 0].as_slice()),
+        Ok(written) => same(&rt, written.as_slice(), [0xAC, 0x02, 0].as_slice()),
         Err(e) => panic!(rt; "{e}"),
     }
     let short = Trailed {
         inner: HVec::<2>::new(),
     };
     let refused = serialize_with_flavor(&300u16, short).err();
-    assert_eq!(rt; refused, Some(Error::SerializeBufferFull));
+    same(&rt, refused, Some(Error::SerializeBufferFull));
 }
 
 #[test]
@@ -52,8 +53,8 @@ fn a_source(rt: HostRuntime) {
     };
     match from_io::<u16, _>(rt.alloc(), (counted, &mut scratch)) {
         Ok((value, (reader, _))) => {
-            assert_eq!(rt; value, 300);
-            assert_eq!(rt; reader.count, 2);
+            same(&rt, value, 300);
+            same(&rt, reader.count, 2);
         }
         Err(e) => panic!(rt; "{e}"),
     }
@@ -74,13 +75,17 @@ fn limited(limit: usize) -> Limited<Slice<'static>> {
 fn a_reading_flavor(rt: HostRuntime) {
     let mut deserializer = Deserializer::from_flavor(limited(5));
     let read = <(u16, &str)>::deserialize(rt.alloc(), &mut deserializer);
-    assert_eq!(rt; read, Ok((300, "ab")));
-    assert_eq!(rt; u8::deserialize(rt.alloc(), &mut deserializer), Err(END));
-    assert_eq!(rt; deserializer.finalize(), Ok([7].as_slice()));
+    same(&rt, read, Ok((300, "ab")));
+    same(
+        &rt,
+        u8::deserialize(rt.alloc(), &mut deserializer),
+        Err(END),
+    );
+    same(&rt, deserializer.finalize(), Ok([7].as_slice()));
     let mut deserializer = Deserializer::from_flavor(limited(4));
     let refused = <(u16, &str)>::deserialize(rt.alloc(), &mut deserializer);
-    assert_eq!(rt; refused, Err(END));
-    assert_eq!(rt; deserializer.finalize(), Ok([b'a', b'b', 7].as_slice()));
+    same(&rt, refused, Err(END));
+    same(&rt, deserializer.finalize(), Ok([b'a', b'b', 7].as_slice()));
 }
 
 /// Returns the reader of what a reading flavor over a reader leaves.
@@ -99,15 +104,15 @@ fn each_call_of_a_reading_flavor(rt: HostRuntime) {
         inner: IOReader::new(reader, &mut scratch),
         limit: 4,
     };
-    assert_eq!(rt; limited.size_hint(), None);
-    assert_eq!(rt; limited.try_take_n(5), Err(END));
-    assert_eq!(rt; limited.try_take_n_temp(5), Err(END));
-    assert_eq!(rt; limited.pop(), Ok(1));
-    assert_eq!(rt; limited.try_take_n(2), Ok([2, 3].as_slice()));
-    assert_eq!(rt; limited.try_take_n_temp(1), Ok([4].as_slice()));
-    assert_eq!(rt; limited.limit, 0);
-    assert_eq!(rt; limited.pop(), Err(END));
-    assert_eq!(rt; unread(limited.finalize()), Ok([5, 6].as_slice()));
+    same(&rt, limited.size_hint(), None);
+    same(&rt, limited.try_take_n(5), Err(END));
+    same(&rt, limited.try_take_n_temp(5), Err(END));
+    same(&rt, limited.pop(), Ok(1));
+    same(&rt, limited.try_take_n(2), Ok([2, 3].as_slice()));
+    same(&rt, limited.try_take_n_temp(1), Ok([4].as_slice()));
+    same(&rt, limited.limit, 0);
+    same(&rt, limited.pop(), Err(END));
+    same(&rt, unread(limited.finalize()), Ok([5, 6].as_slice()));
 }
 
 /// Returns the hint of a reading flavor over two bytes that reads at most `limit` of them.
@@ -121,6 +126,6 @@ fn hint(limit: usize) -> Option<usize> {
 
 #[test]
 fn the_lower_of_two_hints(rt: HostRuntime) {
-    assert_eq!(rt; hint(1), Some(1));
-    assert_eq!(rt; hint(9), Some(2));
+    same(&rt, hint(1), Some(1));
+    same(&rt, hint(9), Some(2));
 }

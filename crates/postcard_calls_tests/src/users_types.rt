@@ -1,6 +1,6 @@
 //! Tests of the types of `postcard_examples`, with bytes worked out by hand.
 
-use crate::asserts::{assert_owned, assert_refused, assert_there_and_back};
+use crate::asserts::{assert_owned, assert_refused, assert_there_and_back, same};
 use arrayvec::{ArrayString, ArrayVec};
 use postcard::ser_flavors::Size;
 use postcard::{Error, Owned, from_bytes, serialize_with_flavor};
@@ -113,22 +113,26 @@ fn values_that_are_refused(rt: HostRuntime) {
     assert_refused::<Percent>(&rt, &[101], Error::SerdeDeCustom);
     assert_refused::<Owned<Percent>>(&rt, &[101], Error::SerdeDeCustom);
     let interval = Interval { start: 1, end: 300 };
-    assert_eq!(rt; serialize_with_flavor(&interval, Size::default()), Ok(3));
+    same(
+        &rt,
+        serialize_with_flavor(&interval, Size::default()),
+        Ok(3),
+    );
     let reversed = Interval { start: 2, end: 1 };
     let refused = serialize_with_flavor(&reversed, Size::default());
-    assert_eq!(rt; refused, Err(Error::SerdeSerCustom));
+    same(&rt, refused, Err(Error::SerdeSerCustom));
 }
 
 #[test]
 fn what_is_written_comes_back(rt: HostRuntime) {
     let mut message = Vec::new(rt.alloc());
     let back = reading_comes_back(rt.alloc(), &reading(&rt), &mut message);
-    assert_eq!(rt; back, Ok(reading(&rt)));
+    same(&rt, back, Ok(reading(&rt)));
     let back = station_comes_back(rt.alloc(), &station(&rt));
-    assert_eq!(rt; back, Ok(station(&rt)));
+    same(&rt, back, Ok(station(&rt)));
     let mut buffer = [0; 5];
-    assert_eq!(rt; u32_fits_five_bytes(u32::MAX, &mut buffer), Ok(5));
-    assert_eq!(rt; buffer, [0xFF, 0xFF, 0xFF, 0xFF, 0x0F]);
+    same(&rt, u32_fits_five_bytes(u32::MAX, &mut buffer), Ok(5));
+    same(&rt, buffer, [0xFF, 0xFF, 0xFF, 0xFF, 0x0F]);
 }
 
 /// Returns settings with this name, which has at most 16 bytes.
@@ -144,12 +148,12 @@ fn settings_in_a_buffer_of_the_greatest_size(rt: HostRuntime) {
     let timer = Mode::Timer { from: 7, to: 22 };
     assert_there_and_back(&rt, settings(&rt, "", None, timer), &[0, 0, 2, 7, 22]);
     let mut store = Store::new();
-    assert_eq!(rt; settings_size(), Some(SETTINGS_SIZE));
+    same(&rt, settings_size(), Some(SETTINGS_SIZE));
     let off = settings(&rt, "", None, Mode::Off);
-    assert_eq!(rt; store.load(rt.alloc()), Ok(off));
+    same(&rt, store.load(rt.alloc()), Ok(off));
     let on = settings(&rt, "kitchen (window)", Some(u16::MAX), Mode::On(u16::MAX));
-    assert_eq!(rt; store.save(&on), Ok(25));
-    assert_eq!(rt; store.load(rt.alloc()), Ok(on));
+    same(&rt, store.save(&on), Ok(25));
+    same(&rt, store.load(rt.alloc()), Ok(on));
 }
 
 /// Returns the chain of these numbers.
@@ -184,7 +188,7 @@ fn a_chain_to_a_depth(rt: HostRuntime) {
     let zeros = zeros();
     assert_there_and_back(&rt, chain(&rt, &[0; 31]), &zeros[2..]);
     let longer = serialize_with_flavor(&chain(&rt, &[0; 32]), Size::default());
-    assert_eq!(rt; longer, Err(Error::SerdeSerCustom));
+    same(&rt, longer, Err(Error::SerdeSerCustom));
     assert_refused::<Chain>(&rt, &zeros, Error::SerdeDeCustom);
     assert_refused::<Chain>(&rt, &[2], Error::SerdeDeCustom);
     assert_refused::<Chain>(&rt, &[1, 0x80, 0x80, 0x04, 0], Error::DeserializeBadVarint);
@@ -206,7 +210,7 @@ fn strokes_up_to_the_capacity(rt: HostRuntime) {
         rows: ArrayVec::new(),
     };
     for count in [5, 0, 2] {
-        assert!(rt; tally.rows.try_push(strokes(count)).is_ok());
+        same(&rt, tally.rows.try_push(strokes(count)).is_ok(), true);
     }
     assert_owned(&rt, tally, &[3, 5, 0, 2]);
     let greatest = [0xFF, 0xFF, 0xFF, 0xFF, 0xFF, 0xFF, 0xFF, 0xFF, 0xFF, 0x01];
@@ -240,13 +244,13 @@ fn numbers_with_a_point(rt: HostRuntime) {
     assert_there_and_back(&rt, SAMPLE, &SAMPLE_BYTES);
     assert_owned(&rt, SAMPLE, &SAMPLE_BYTES);
     let back = sample_comes_back(rt.alloc(), &SAMPLE);
-    assert_eq!(rt; back, Ok(SAMPLE));
+    same(&rt, back, Ok(SAMPLE));
     let mut buffer = [0; 28];
     let widest = Sample {
         sensor: u16::MAX,
         ..SAMPLE
     };
-    assert_eq!(rt; sample_fits_28_bytes(&widest, &mut buffer), Ok(28));
+    same(&rt, sample_fits_28_bytes(&widest, &mut buffer), Ok(28));
 }
 
 #[test]
@@ -258,11 +262,15 @@ fn a_list_and_a_set(rt: HostRuntime) {
     ];
     match from_bytes::<Owned<Survey>>(rt.alloc(), &bytes) {
         Ok(Owned(survey)) => {
-            assert_eq!(rt; survey.greatest, Some(9.5));
-            assert_eq!(rt; survey.hours.as_slice(), [0.5].as_slice());
-            assert!(rt; survey.sensors.contains(&1) && survey.sensors.contains(&300));
+            same(&rt, survey.greatest, Some(9.5));
+            same(&rt, survey.hours.as_slice(), [0.5].as_slice());
+            same(
+                &rt,
+                survey.sensors.contains(&1) && survey.sensors.contains(&300),
+                true,
+            );
             let back = survey_comes_back(rt.alloc(), &survey);
-            assert_eq!(rt; back, Ok(survey));
+            same(&rt, back, Ok(survey));
         }
         Err(e) => panic!(rt; "{e}"),
     }

@@ -1,6 +1,6 @@
 //! Tests of the calls that write.
 
-use crate::asserts::{OLD, assert_bytes};
+use crate::asserts::{OLD, assert_bytes, same};
 use arrayvec::ArrayVec;
 use postcard::experimental::serialized_size;
 use postcard::ser_flavors::Size;
@@ -16,15 +16,16 @@ const TUPLE: [u8; 9] = [0x01, 0x0A, 0x06, 0x48, 0x65, 0x6C, 0x6C, 0x6F, 0x21];
 #[test]
 fn into_each_flavor(rt: HostRuntime) {
     let tuple = (1u8, 10u32, "Hello!");
-    assert_eq!(rt; to_vec::<_, 9>(&tuple), Ok(ArrayVec::from(TUPLE)));
-    assert_eq!(rt;
+    same(&rt, to_vec::<_, 9>(&tuple), Ok(ArrayVec::from(TUPLE)));
+    same(
+        &rt,
         to_vec::<_, 8>(&tuple).err(),
-        Some(Error::SerializeBufferFull)
+        Some(Error::SerializeBufferFull),
     );
     assert_bytes(&rt, to_stdvec(rt.alloc(), &tuple), &TUPLE);
     assert_bytes(&rt, to_allocvec(rt.alloc(), &tuple), &TUPLE);
-    assert_eq!(rt; serialized_size(&tuple), Ok(9));
-    assert_eq!(rt; serialize_with_flavor(&false, Size::default()), Ok(1));
+    same(&rt, serialized_size(&tuple), Ok(9));
+    same(&rt, serialize_with_flavor(&false, Size::default()), Ok(1));
 }
 
 #[test]
@@ -58,8 +59,8 @@ fn assert_full(rt: &impl Abort, room: usize, left: [u8; 4]) {
     let mut buffer = [OLD; 4];
     let (front, _) = buffer.split_at_mut(room.min(4));
     let answer = fill_slice(&[1u32, 300].as_slice(), front);
-    assert_eq!(rt; answer, Err(Error::SerializeBufferFull));
-    assert_eq!(rt; buffer, left);
+    same(rt, answer, Err(Error::SerializeBufferFull));
+    same(rt, buffer, left);
 }
 
 #[test]
@@ -69,22 +70,23 @@ fn a_borrowed_list_into_each_room(rt: HostRuntime) {
     assert_full(&rt, 2, [0x02, 0x01, OLD, OLD]);
     assert_full(&rt, 3, [0x02, 0x01, OLD, OLD]);
     let mut buffer = [OLD; 4];
-    assert_eq!(rt; fill_slice(&[1u32, 300].as_slice(), &mut buffer), Ok(4));
-    assert_eq!(rt; buffer, [0x02, 0x01, 0xAC, 0x02]);
+    same(&rt, fill_slice(&[1u32, 300].as_slice(), &mut buffer), Ok(4));
+    same(&rt, buffer, [0x02, 0x01, 0xAC, 0x02]);
     let mut buffer = [OLD; 7];
-    assert_eq!(rt; fill_slice(&[1u32, 300].as_slice(), &mut buffer), Ok(4));
-    assert_eq!(rt; buffer, [0x02, 0x01, 0xAC, 0x02, OLD, OLD, OLD]);
+    same(&rt, fill_slice(&[1u32, 300].as_slice(), &mut buffer), Ok(4));
+    same(&rt, buffer, [0x02, 0x01, 0xAC, 0x02, OLD, OLD, OLD]);
 }
 
 #[test]
 fn a_text_into_as_much_room_as_needed(rt: HostRuntime) {
     let mut buffer = [OLD; 4];
-    assert!(rt; to_slice(&"Hi!", &mut buffer).is_ok());
-    assert_eq!(rt; buffer, [0x03, 0x48, 0x69, 0x21]);
+    same(&rt, to_slice(&"Hi!", &mut buffer).is_ok(), true);
+    same(&rt, buffer, [0x03, 0x48, 0x69, 0x21]);
     let mut buffer = [OLD; 3];
-    assert_eq!(rt;
+    same(
+        &rt,
         to_slice(&"Hi!", &mut buffer).err(),
-        Some(Error::SerializeBufferFull)
+        Some(Error::SerializeBufferFull),
     );
-    assert_eq!(rt; buffer, [0x03, OLD, OLD]);
+    same(&rt, buffer, [0x03, OLD, OLD]);
 }

@@ -29,6 +29,9 @@ fn short_of_room(rt: HostRuntime) {
 
 /// Writes a tuple of four pieces to a writer of which one write, or the flush, fails, if the tuple
 /// needs it.
+///
+/// No clause says that `to_io` flushes its writer: only this and `is_written_or_refused` of
+/// `postcard_refusals_tests` would catch one that doesn't.
 fn write_through(rt: &impl Abort, fails_at: usize, flush_fails: bool) {
     let mut writer = FailingWriter {
         inner: Bounded::<9>::new(),

@@ -282,6 +282,8 @@ fn a_failing_reader(rt: HostRuntime) {
     take_three(&rt, 3, true, 0);
 }
 
+/// No clause says what a slice keeps after a read of too many bytes: this is the only test that
+/// would catch one that then loses the bytes that it has.
 #[test]
 fn readers(rt: HostRuntime) {
     let bytes = [1, 2, 3];

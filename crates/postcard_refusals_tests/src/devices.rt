@@ -75,6 +75,9 @@ fn failing_writer(
 
 /// Asserts that the value is written through interruptions, and that this fails if a write or the
 /// flush fails. A beginning of the bytes is then written.
+///
+/// No clause says that `to_io` flushes its writer: only this and `write_through` of
+/// `postcard_devices_tests` would catch one that doesn't.
 fn is_written_or_refused<T: Serialize>(
     rt: &(impl Abort + AllocGlobal),
     value: &T,

@@ -1,8 +1,13 @@
 //! Tests of lists, texts and maps of each length up to 600: no call fails past some length.
+//!
+//! No clause says this of memory that grows or of a writer, since they may always fail. Beside the
+//! long rows of `postcard_rows`, these are the only tests that would catch an `AllocVec`, an
+//! `ExtendFlavor` or a `WriteFlavor` that refuses a longer message though memory is left.
 
 use postcard::accumulator::{CobsAccumulator, FeedResult};
 use postcard::{
-    DeserializeOwned, Owned, Serialize, from_bytes, from_io, to_allocvec, to_extend, to_stdvec_cobs,
+    DeserializeOwned, Owned, Serialize, from_bytes, from_io, to_allocvec, to_extend, to_io,
+    to_stdvec_cobs,
 };
 use std::alloc::{AllocError, AllocGlobal, Global};
 use std::collections::BTreeMap;
@@ -81,11 +86,12 @@ fn comes_back<T: Serialize + DeserializeOwned + PartialEq>(
     let checks = [
         wrote(to_allocvec(alloc, value), &bytes),
         wrote(to_extend(value, Vec::new(alloc)), &bytes),
+        wrote(to_io(value, Vec::new(alloc)), &bytes),
         gave(from_bytes(alloc, &bytes), value),
         is_read(alloc, value, &bytes),
         is_fed(alloc, acc, value),
     ];
-    assert_eq!(rt; checks, [true; 5], "{count}");
+    assert_eq!(rt; checks, [true; 6], "{count}");
 }
 
 #[test]

@@ -1,6 +1,6 @@
 -- Runs and pieces: bytes in a row that don't make the open group full. A run has no zero.
 use Rattle.std.proofs.Common.{◌≡◌, ℕ, refl, take, drop, get_or, ◌+◌, ◌-◌, ◌^◌, ◌<◌, List, [], ◌∷◌, ◌++◌, length, Bool, false, IsFalse, sym, ap, subst, ◌∙◌, append_assoc, arith}
-use Rattle.std.proofs.lemmas.List.{take-append-drop, take_rest}
+use Rattle.std.proofs.lemmas.List.{take-append-drop, take_rest, length-drop}
 use Rattle.std.proofs.Math.Seq.{take-add}
 use Rattle.postcard_cobs.specs.Groups.{IsOpen, Standing, made}
 use Rattle.postcard_cobs.proofs.Encoding.{open_length}
@@ -74,3 +74,14 @@ pub holds_further : {S : Type 0} {held : S → List ℕ} {s : S} {start : ℕ} {
     → HoldsOpen held s start at f before ((d ++ take i xs) ++ take (j - i) (drop i xs)) → HoldsOpen held s start at f before (d ++ take j xs)
 holds_further {held = held} {s = s} {start = start} {at = at} {f = f} before d xs i j l h =
     subst (λ z. HoldsOpen held s start at f before z) (append_assoc d (take i xs) (take (j - i) (drop i xs)) ∙ ap (λ z. d ++ z) (take_further xs i j l)) h
+
+-- The bytes from a place up to the place after so many, and a front of the rest of that length.
+pub front_of_rest : (xs : List ℕ) (i n : ℕ) → take ((i + n) - i) (drop i xs) ≡ take n (take (length xs - i) (drop i xs))
+front_of_rest xs i n = let e : (i + n) - i ≡ n = omega arith in rw (e, take_rest xs i) refl
+
+-- The bytes from a place up to the next, and the first byte of the rest.
+pub first_of_rest : (xs : List ℕ) (i : ℕ) → i < length xs → take ((i + 1) - i) (drop i xs) ≡ get_or (take (length xs - i) (drop i xs)) 0 0 ∷ []
+first_of_rest xs i l =
+    let e : (i + 1) - i ≡ 1 = omega arith in
+    let n : 0 < length (drop i xs) = omega (arith, length-drop i xs) in
+    rw (e, take_rest xs i) (ap (take 1) (first_and_rest (drop i xs) n))

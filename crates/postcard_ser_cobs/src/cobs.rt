@@ -5,10 +5,12 @@ ghost use Rattle.std.specs.Prelude.{IfErr, OnOk, OnErr, IsOk, IsTrue, IsErrOf};
 ghost use Rattle.postcard_cobs.specs.Groups.{made};
 ghost use Rattle.postcard_ser_cobs.specs.Framing.{HoldsOpen, HasFrameRoom, LeavesFrame};
 ghost use Rattle.postcard_ser_flavors.specs.Flavor.{AppendsFront};
+ghost use Rattle.postcard_wire.specs.Number.{digits};
 
 use crate::steps::{push_one, set_code, take_step};
 use postcard_cobs::EncoderState;
 use postcard_ser_flavors::{Flavor, Storage};
+use postcard_wire::varint::{VARINT_MAX_64, varint_u64};
 use postcard_wire::{Error, Result};
 
 mod runs;
@@ -229,6 +231,27 @@ impl<B: Storage + Drop> Flavor for Cobs<B> {
             place = self.push_next(bytes, place)?;
         }
         Ok(())
+    }
+
+    /// Takes the varint of a number of at most 64 bits, 1 to 10 bytes.
+    ///
+    /// # Errors
+    ///
+    /// Fails with `SerializeBufferFull` if the storage has no room for what the frame grows by, if
+    /// the frame would get too long to count, and after any earlier failure.
+    fn try_varint(&mut self, n: u64) -> Result<()>
+        ensures appends { OnOk result (⟦<Cobs<B> as Flavor>⟧.appended self.old (digits n) self.new) }
+        ensures has_room { ⟦<Cobs<B> as Flavor>⟧.room self.old (digits n) → IsOk result }
+        ensures refused { OnErr result (⟦<Cobs<B> as Flavor>⟧.tidy
+            → AppendsFront ⟦<Cobs<B> as Flavor>⟧.appended self.old (digits n) self.new) }
+        ensures leaves { ⟦<Cobs<B> as Flavor>⟧.reaches self.old self.new }
+        ensures stays_refused { IsTrue self.old.failed → IsErrOf result Error.SerializeBufferFull }
+        ensures storage_kept { IsTrue self.old.failed → self.new.storage ≡ self.old.storage }
+        ensures remembers_refusal { OnErr result (IsTrue self.new.failed) }
+        ensures refuses_by_buffer_full { IfErr result (λ e. e ≡ Error.SerializeBufferFull) }
+    {
+        let mut out = [0; VARINT_MAX_64];
+        self.try_extend(varint_u64(n, &mut out))
     }
 
     /// Closes the frame with its last code byte and the sentinel, and returns the output of the

@@ -3,7 +3,7 @@ use Rattle.std.proofs.Common.{◌-◌, ◌<◌, [], ◌∷◌, length, take, dro
 use Rattle.std.proofs.lemmas.List.{take_rest, length-drop}
 use Rattle.postcard_ser_cobs.specs.Framing.{HasFrameRoom}
 use Rattle.postcard_ser_cobs.specs.FramingLaws.{room_of_front}
-use Rattle.postcard_ser_cobs.proofs.RunLemmas.{first_and_rest, room_of_next}
+use Rattle.postcard_ser_cobs.proofs.RunLemmas.{first_and_rest, first_of_rest, front_of_rest, room_of_next}
 use Rattle.postcard_ser_cobs.proofs.cobs.Cobs.push_next.Goals as goal
 
 pub returns-in_err-try_push-clause-has_room : goal.returns-in_err-try_push-clause-has_room
@@ -26,3 +26,12 @@ pub returns-in_err-push_dense-clause-has_room : goal.returns-in_err-push_dense-c
 returns-in_err-push_dense-clause-has_room g c r =
     let no = c.in_err-push_dense.ensures.has_room (room_of_next g.B.Storage.free_lawful.free_fewer c.args.bytes.now c.args.place c.dense_len-dense.result r) in
     absurd (cc)
+
+pub returns-then-dense-gt0-clause-appends : goal.returns-then-dense-gt0-clause-appends
+returns-then-dense-gt0-clause-appends g c = rw (front_of_rest c.args.bytes.now c.args.place c.dense_len-dense.result) c.in_ok-push_dense.ensures.appends
+
+pub returns-then-count-eq0-clause-appends : goal.returns-then-count-eq0-clause-appends
+returns-then-count-eq0-clause-appends g c = rw (first_of_rest c.args.bytes.now c.args.place c.requires) c.in_ok-try_push.ensures.appends
+
+pub returns-clause-appends : goal.returns-clause-appends
+returns-clause-appends g c = rw (front_of_rest c.args.bytes.now c.args.place c.run_len-count.result) c.in_ok-push_run.ensures.appends

@@ -1,6 +1,6 @@
 -- One more piece, run or byte continues the data up to the current place.
-use Rattle.std.proofs.Common.{take, drop, subst, sym}
-use Rattle.std.proofs.lemmas.List.{take-append-drop}
+use Rattle.std.proofs.Common.{take, drop, subst, sym, arith}
+use Rattle.std.proofs.lemmas.List.{take-append-drop, take_all}
 use Rattle.postcard_ser_cobs.specs.Framing.{HasFrameRoom}
 use Rattle.postcard_ser_cobs.specs.FramingLaws.{room_of_rest, leaves_join}
 use Rattle.postcard_ser_cobs.proofs.RunLemmas.{holds_further}
@@ -22,3 +22,11 @@ returns-in_err-place-clause-has_room g c r =
     let all = subst (λ z. HasFrameRoom g.B.Storage.held g.B.Storage.free s.storage s.start s.encoder s.failed z) (sym (take-append-drop c.loop-place.place c.args.bytes.now)) r in
     let no = c.in_err-place.ensures.has_room (room_of_rest (take c.loop-place.place c.args.bytes.now) (drop c.loop-place.place c.args.bytes.now) all (so.done all.before all.d all.holds) so.left) in
     absurd (cc)
+
+pub returns-clause-appends : goal.returns-clause-appends
+returns-clause-appends g c =
+    let all = take_all c.loop-place.place c.args.bytes.now (omega arith) in
+    rw all at c.loop-place.invariant.done
+
+pub returns-clause-stays_refused : goal.returns-clause-stays_refused
+returns-clause-stays_refused g c failed some = let none = c.loop-place.invariant.stuck failed in absurd (omega arith)
