@@ -1,4 +1,4 @@
-use Rattle.std.proofs.Common.{◌≡◌, ◌+◌, ◌<◌, ◌^◌, [], ◌∷◌, ◌++◌, map, take, drop, length, codes, string_bytes, vec_len, get_or, sym, ap, subst, ◌∙◌, arith, rules}
+use Rattle.std.proofs.Common.{◌≡◌, ◌+◌, ◌<◌, ◌^◌, [], ◌∷◌, ◌++◌, map, take, drop, length, codes, string_bytes, vec_len, get_or, sym, ap, subst, ◌∙◌, arith, rules, inl}
 use Rattle.std.specs.Bool.{◌==◌}
 use Rattle.std.proofs.lemmas.Grind.{common_steps}
 use Rattle.std.proofs.lemmas.List.{drop_more, drop_all, take_more}
@@ -130,6 +130,12 @@ read_content-returns-clause-spelled t c =
     parentheses_taken x S (tree v) c.args.rest.now.now c.expect-2.new.rest.now (sym c.has_brackets.ensures.brackets ∙ c.if-has_brackets.false)
     (in_parentheses (S (tree v)) c.args.rest.now.now c.expect.new.rest.now c.read-2.new.rest.now c.expect-2.new.rest.now c.in_ok-expect.ensures c.in_ok-value.ensures.spelled c.in_ok-expect-2.ensures)
 
+pub read_group-returns-clause-value : goal.read_group-returns-clause-value
+read_group-returns-clause-value t c =
+    let v = c.in_ok-items.items in
+    let seen : tree (Group v) ≡ nodes.Group (trees (map tree v.items)) = search (rules, the_lemmas) in
+    (trees (map tree v.items), seen, c.in_ok-items.ensures.value)
+
 pub read_group-returns-clause-spelled : goal.read_group-returns-clause-spelled
 read_group-returns-clause-spelled t c =
     let v = c.in_ok-items.items in
@@ -173,6 +179,11 @@ read_list-returns-clause-spelled t c =
     let seen : tree (Seq v) ≡ nodes.Seq (trees (map tree v.items)) = search (rules, the_lemmas) in
     rw seen (takes_two (IsSign c.args.opening) (AreClosed c.args.closing (phrases S (trees (map tree v.items)))) c.args.rest.now.now c.expect.new.rest.now c.read_items.new.rest.now
     c.in_ok-expect.ensures c.in_ok-items.ensures.spelled)
+
+pub read_option-returns-then-take_name-clause-value : goal.read_option-returns-then-take_name-clause-value
+read_option-returns-then-take_name-clause-value t c =
+    let seen : tree Absent ≡ nodes.Absent = search (rules, the_lemmas) in
+    inl seen
 
 pub read_option-returns-then-take_name-clause-spelled : goal.read_option-returns-then-take_name-clause-spelled
 read_option-returns-then-take_name-clause-spelled t c =
