@@ -1,5 +1,5 @@
 -- Each message of a type whose messages have bytes has at least one.
-use Rattle.std.proofs.Common.{◌≡◌, ℕ, zero, suc, ◌<◌, inl, inr, Bool, true, false, List, [], ◌∷◌, ◌++◌, length, refl, sym, ap, ◌∙◌, arith, length-append}
+use Rattle.std.proofs.Common.{◌≡◌, ℕ, zero, suc, ◌<◌, inl, inr, Bool, true, false, List, [], ◌∷◌, ◌++◌, length, refl, ap, ◌∙◌, arith, length-append}
 use Rattle.std.specs.Prelude.{nat_lt, if◌then◌else◌}
 use Rattle.postcard_wire.specs.Number.{AreDigits, SpellsNum}
 use Rattle.postcard_wire.specs.Tree.{Tree, Trees, NoTrees, Then, count}

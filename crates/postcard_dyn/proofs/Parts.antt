@@ -1,6 +1,7 @@
 -- Lemmas on values that are read part by part: a count, elements, the parts of a group, an option.
-use Rattle.std.proofs.Common.{◌≡◌, ℕ, List, [], ◌∷◌, ◌++◌, map, Option, Ok, Err, Result, refl, sym, ◌∙◌, ap, ap₂, subst, arith, inl, inr, append_assoc, append-nil}
-use Rattle.std.specs.Prelude.{⊤}
+use Rattle.std.proofs.Common.{◌≡◌, ℕ, List, [], ◌∷◌, ◌++◌, map, Option, Ok, Err, Result, IsErrAnd, refl, sym, ◌∙◌, ap, ap₂, subst, arith, inl, inr, append_assoc, append-nil}
+use Rattle.std.specs.Prelude.{⊤, Vec}
+use Rattle.std.specs.declared.alloc.Global.{Global}
 use Rattle.postcard_wire.specs.declared.error.Error.{Error}
 use Rattle.postcard_wire.specs.declared.error.Error.TheVariants.{OutOfMemory}
 use Rattle.postcard_wire.specs.Number.{SpellsNum}
@@ -15,11 +16,12 @@ use Rattle.postcard_de.proofs.Lists.{prefixed}
 use Rattle.postcard_de.proofs.Parts.{part_and_rest}
 use Rattle.postcard_de_nodes.specs.CompoundLemmas.{first_refused, second_refused, both_read}
 use Rattle.postcard_de_nodes.specs.NumberLemmas.{Below}
-use Rattle.postcard_de_nodes.specs.ReadLemmas.{refusal, out_of_memory}
+use Rattle.postcard_de_nodes.specs.ReadLemmas.{refusal, is_refusal, out_of_memory}
+use Rattle.postcard_de_nodes.specs.SeenLemmas.{recast, refused_too}
 use Rattle.postcard_de_nodes.specs.TakeLemmas.{nothing_taken, both_taken, faces, can_second}
 use Rattle.postcard_dyn_schema.specs.Meaning.{MessageType, MessageTypes, no_types, then_type, reads, reads_all}
 use Rattle.postcard_dyn.specs.declared.value.Value.{Value}
-use Rattle.postcard_dyn.specs.Tree.{tree, IsTree}
+use Rattle.postcard_dyn.specs.Tree.{tree, IsTree, AreTrees}
 
 -- If each tree is that of its value, the trees are those of the list of values.
 pub each_tree : (ts : Trees) (vs : List Value) → EachIs IsTree ts vs → ts ≡ trees (map tree vs)
@@ -64,6 +66,21 @@ module _ {S : Type 0} {left : S → Option (List ℕ)} {able : S → ℕ → Typ
     leaves = r.leaves;
     named_error = r.named_error;
   }
+
+  -- Elements that are read into a vector are read as its list.
+  pub as_list : {R : Tree → Type 0} {n : ℕ} {old new : S} {v : Vec Value Global} →
+      ReadsFrom SpellsAll (AreRead n R) AreTrees ⊤ left able may_leave old (Ok v) new → ReadsFrom SpellsAll (AreRead n R) (EachIs IsTree) ⊤ left able may_leave old (Ok v.items) new
+  as_list r = recast (λ x h. h) r
+
+  -- If elements are refused for a vector, they are refused as a list.
+  pub no_list : {R : Tree → Type 0} {n : ℕ} {old new : S} {e : Error} →
+      ReadsFrom SpellsAll (AreRead n R) AreTrees ⊤ left able may_leave old (refusal (Vec Value Global) e) new → ReadsFrom SpellsAll (AreRead n R) (EachIs IsTree) ⊤ left able may_leave old (refusal (List Value) e) new
+  no_list r = refused_too (λ x a. a) (λ h. h) r
+
+  -- If memory runs out, reading fails with the error that `?` passes on.
+  pub no_memory : {X V : Type 0} {P : X → List ℕ → Type 0} {R : X → Type 0} {I : X → V → Type 0} {old new : S} {r : Result V Error} {e : Error} →
+      IsErrAnd r (λ x. x ≡ e) → e ≡ OutOfMemory → may_leave old new → ReadsFrom P R I ⊤ left able may_leave old r new
+  no_memory {r = r} {e = e} h full l = rw (is_refusal r e h, full) (out_of_memory l tt)
 
   -- Reading the elements of an array reads the array.
   pub array_read : {R : Tree → Type 0} {n : ℕ} {old new : S} {vs : List Value} (v : Value) → tree v ≡ Group (trees (map tree vs)) →

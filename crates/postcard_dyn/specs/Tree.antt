@@ -1,8 +1,10 @@
 -- The tree of a value (wire format 1.0, chapter "the serde data model").
-use Rattle.std.specs.Prelude.{◌≡◌, map, string_bytes, box_value}
+use Rattle.std.specs.Prelude.{◌≡◌, Vec, map, string_bytes, box_value}
 use Rattle.std.specs.Int.{w8, cast_unsigned}
-use Rattle.postcard_wire.specs.Tree.{Tree, Byte, Boolean, Num, Int, Text, trees}
+use Rattle.std.specs.declared.alloc.Global.{Global}
+use Rattle.postcard_wire.specs.Tree.{Tree, Trees, Byte, Boolean, Num, Int, Text, trees}
 use Rattle.postcard_wire.specs.Tree as nodes
+use Rattle.postcard_shape.specs.Values.{EachIs}
 use Rattle.postcard_dyn.specs.declared.value.Value.{Value, fold-Value}
 use Rattle.postcard_dyn.specs.declared.value.Value.TheOpen.{Value-F}
 
@@ -36,3 +38,7 @@ tree = fold-Value Tree tree_step
 -- The value has this tree.
 abbrev pub IsTree : Tree → Value → Type 0
 IsTree t v = t ≡ tree v
+
+-- Each of the values has its tree, in order.
+abbrev pub AreTrees : Trees → Vec Value Global → Type 0
+AreTrees ts v = EachIs IsTree ts v.items

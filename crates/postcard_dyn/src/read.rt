@@ -1,13 +1,14 @@
 //! Reading a value of a schema from a source: [`read_value`].
 
-ghost use Rattle.std.specs.Prelude.{⊤};
-ghost use Rattle.postcard_wire.specs.Spelling.{Spells};
+ghost use Rattle.std.specs.Prelude.{◌≡◌, ◌++◌, ◌∷◌, [], IfOk, IfErr, OnOk, ⊤};
+ghost use Rattle.postcard_wire.specs.Spelling.{Spells, SpellsAll};
 ghost use Rattle.postcard_wire.specs.Reading.{IsOption, IsSeq, IsArray, IsGroup, IsVariant};
+ghost use Rattle.postcard_shape.specs.Values.{AreRead};
 ghost use Rattle.postcard_de.specs.Reads.{Reads};
 ghost use Rattle.postcard_de.specs.Deserializer.{source_of};
 ghost use Rattle.postcard_dyn_schema.specs.Meaning.{type_of, types_of, reads, reads_all, reads_at};
 ghost use Rattle.postcard_dyn_schema.specs.Meaning.{leaf_reads};
-ghost use Rattle.postcard_dyn.specs.Tree.{IsTree};
+ghost use Rattle.postcard_dyn.specs.Tree.{IsTree, AreTrees};
 
 use crate::value::Value;
 use postcard_de::{Deserializer, Error, Flavor, Result};
@@ -59,10 +60,8 @@ fn read_option<'de, F: Flavor>(
         0 => Ok(Value::Absent),
         1 => {
             let value = read_value(alloc, content, d)?;
-            match Box::new(alloc, value) {
-                Ok(held) => Ok(Value::Present(held)),
-                Err(_) => Err(Error::OutOfMemory),
-            }
+            let held = boxed(alloc, value)?;
+            Ok(Value::Present(held))
         }
         _ => Err(Error::DeserializeBadOption),
     }
@@ -79,13 +78,7 @@ fn read_list<'de, F: Flavor>(
         (source_of d.old) result (source_of d.new) }
 {
     let count = d.deserialize_u64()?;
-    let mut items = Vec::new(alloc);
-    for _ in 0..count {
-        let item = read_value(alloc, element, d)?;
-        if items.push(item).is_err() {
-            return Err(Error::OutOfMemory);
-        }
-    }
+    let items = read_elements(alloc, element, count, d)?;
     Ok(Value::Seq(items))
 }
 
@@ -100,14 +93,27 @@ fn read_array<'de, F: Flavor>(
     ensures { Reads F.Flavor Spells (IsArray count (reads (type_of element.now))) IsTree ⊤
         (source_of d.old) result (source_of d.new) }
 {
+    let items = read_elements(alloc, element, count as u64, d)?;
+    Ok(Value::Group(items))
+}
+
+/// Reads `count` values of the type in a row.
+#[cycle(read)]
+fn read_elements<'de, F: Flavor>(
+    alloc: Global,
+    element: &Schema,
+    count: u64,
+    d: &mut Deserializer<'de, F>,
+) -> Result<Vec<Value>>
+    ensures { Reads F.Flavor SpellsAll (AreRead count (reads (type_of element.now))) AreTrees ⊤
+        (source_of d.old) result (source_of d.new) }
+{
     let mut items = Vec::new(alloc);
     for _ in 0..count {
         let item = read_value(alloc, element, d)?;
-        if items.push(item).is_err() {
-            return Err(Error::OutOfMemory);
-        }
+        push(&mut items, item)?;
     }
-    Ok(Value::Group(items))
+    Ok(items)
 }
 
 /// Reads a tuple or a struct: a value of each of the types, in order.
@@ -123,9 +129,7 @@ fn read_group<'de, F: Flavor>(
     let mut items = Vec::new(alloc);
     for part in parts {
         let item = read_value(alloc, part, d)?;
-        if items.push(item).is_err() {
-            return Err(Error::OutOfMemory);
-        }
+        push(&mut items, item)?;
     }
     Ok(Value::Group(items))
 }
@@ -145,8 +149,28 @@ fn read_variant<'de, F: Flavor>(
         return Err(Error::SerdeDeCustom);
     };
     let content = read_value(alloc, variant, d)?;
-    match Box::new(alloc, content) {
-        Ok(held) => Ok(Value::Variant(index, held)),
+    let held = boxed(alloc, content)?;
+    Ok(Value::Variant(index, held))
+}
+
+/// Adds a value to the end of the list.
+fn push(items: &mut Vec<Value>, item: Value) -> Result<()>
+    ensures added { OnOk result (items.new.items ≡ items.old.items ++ item ∷ []) }
+    ensures refused { IfErr result (λ e. e ≡ Error.OutOfMemory) }
+{
+    match items.push(item) {
+        Ok(()) => Ok(()),
+        Err(_) => Err(Error::OutOfMemory),
+    }
+}
+
+/// Puts a value into a `Box`.
+fn boxed(alloc: Global, value: Value) -> Result<Box<Value>>
+    ensures held { IfOk result (λ held. held.value ≡ value) }
+    ensures refused { IfErr result (λ e. e ≡ Error.OutOfMemory) }
+{
+    match Box::new(alloc, value) {
+        Ok(held) => Ok(held),
         Err(_) => Err(Error::OutOfMemory),
     }
 }

@@ -90,8 +90,13 @@ digit_at [] x after all = all.0
 digit_at (y ∷ ys) x after all = digit_at ys x after all.1
 
 -- Digits of bytes have no other byte among them.
-pub not_digit : (bytes front : List ℕ) (x : ℕ) (after digits : List ℕ) → digits ≡ front ++ x ∷ after → AreDigitsOf bytes digits → digit_value x < 16
+not_digit : (bytes front : List ℕ) (x : ℕ) (after digits : List ℕ) → digits ≡ front ++ x ∷ after → AreDigitsOf bytes digits → digit_value x < 16
 not_digit bytes front x after digits whole held = digit_at front x after (rw whole at (all_hexadecimal bytes digits held))
+
+-- Where no digit can be taken from the bytes that are left, the text isn't the digits of bytes.
+pub no_bytes : (bytes front rest digits : List ℕ) → digits ≡ front ++ rest → 0 < length rest → ((x : ℕ) (after : List ℕ) → rest ≡ x ∷ after → digit_value x < 16 → ⊥) → AreDigitsOf bytes digits → ⊥
+no_bytes bytes front [] digits whole some none held = absurd (omega (arith, some))
+no_bytes bytes front (x ∷ after) digits whole some none held = none x after refl (not_digit bytes front x after digits whole held)
 
 all_pieces : (q : ℕ) (ps : List (List ℕ × List ℕ)) (p : List ℕ × List ℕ) → AllByRecursion (λ p. IsPiece q p.0 p.1) ps → IsPiece q p.0 p.1 → AllByRecursion (λ p. IsPiece q p.0 p.1) (ps ++ p ∷ [])
 all_pieces q [] p all one = (one, tt)

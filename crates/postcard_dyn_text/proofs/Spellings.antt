@@ -1,11 +1,9 @@
 -- Lemmas on phrases in a row, and on the texts that spell values.
-use Rattle.std.proofs.Common.{◌≡◌, ℕ, zero, suc, ◌<◌, Bool, true, false, not, eqb, List, [], ◌∷◌, ◌++◌, map, length, get_or, refl, sym, ap, subst, ◌∙◌, arith, inl, inr}
+use Rattle.std.proofs.Common.{◌≡◌, ℕ, zero, suc, ◌<◌, Bool, true, false, List, [], ◌∷◌, ◌++◌, map, length, get_or, refl, sym, ap, subst, ◌∙◌, arith, inl, inr}
 use Rattle.std.proofs.Math.Dec.{eqb-suc-zero}
-use Rattle.std.proofs.lemmas.Bool.Decides.{Decides-eqb, eqb_tells}
+use Rattle.std.proofs.lemmas.Bool.Decides.{eqb_tells}
 use Rattle.std.proofs.lemmas.List.{append_assoc, append-nil}
-use Rattle.std.proofs.lemmas.Slice.Eq.{slice_eq-Decides}
 use Rattle.std.specs.Bool.{◌==◌}
-use Rattle.std.specs.Cmp.Lexicographic.{pointwise}
 use Rattle.std.specs.Str.{IsTrimAsciiStart}
 use Rattle.postcard_wire.specs.Tree.{Tree, NoTrees, trees}
 use Rattle.postcard_wire.specs.Tree as nodes
@@ -235,11 +233,3 @@ unequal a b other = elim (eqb_tells a b) [
   | inl same ↦ absurd (other same.1)
   | inr none ↦ none.0
 ]
-
-not_false : (b : Bool) → not b ≡ false → b ≡ true
-not_false true e = refl
-not_false false e = sym e
-
--- Two words are the same if the test for a difference is false.
-pub same_words : (xs ys : List ℕ) (differ : Bool) → differ ≡ not (pointwise eqb xs ys) → differ ≡ false → xs ≡ ys
-same_words xs ys differ is none = (slice_eq-Decides Decides-eqb xs ys (pointwise eqb xs ys) refl).0 (not_false (pointwise eqb xs ys) (sym is ∙ none))

@@ -2,7 +2,7 @@
 
 ghost use Rattle.std.specs.Prelude.{◌≡◌, ◌≢◌, ◌+◌, ◌*◌, ◌<◌, ◌⊎◌, ℕ, List, [], ◌∷◌, ◌++◌, length};
 ghost use Rattle.std.specs.Prelude.{IfOk, IfErr, IfSome, IfNone, OnOk, string_bytes};
-ghost use Rattle.std.specs.Char.{digit_value, encode_utf8};
+ghost use Rattle.std.specs.Char.{IsScalar, digit_value, encode_utf8};
 ghost use Rattle.postcard_dyn_schema.specs.Text.{TakesPhrase};
 ghost use Rattle.postcard_dyn_text.specs.Quoted.{StandsFor, IsCode, IsEscape, IsQuoted};
 ghost use Rattle.postcard_dyn_text.specs.Quoted.{AreDigitsOf};
@@ -110,18 +110,28 @@ fn take_code(rest: &mut &[u8]) -> Result<char, Stop>
     let mut code: u32 = 0;
     for count in 0..7usize {
         let byte = take_byte(rest)?;
-        if byte == b'}' && count > 0 {
-            return match char::from_u32(code) {
-                Some(c) => Ok(c),
-                None => Err(Stop::here(start)),
-            };
+        if byte == b'}' {
+            return character(code, count, start);
         }
-        match char::from(byte).to_digit(16) {
-            Some(digit) => code = code * 16 + digit,
-            None => return Err(Stop::here(start)),
-        }
+        let digit = digit_of(byte, start)?;
+        code = code * 16 + u32::from(digit);
     }
     Err(Stop::here(start))
+}
+
+/// Returns the character of a code of `count` digits, or stops at the front of `start` if there is
+/// no digit, or no such character.
+fn character(code: u32, count: usize, start: &[u8]) -> Result<char, Stop>
+    ensures found { IfOk result (λ c. (0 < count) × IsScalar code × (c ≡ code)) }
+    ensures refused { IfErr result (λ stop. stop ≡ Stop.At (length start.now)) }
+{
+    if count == 0 {
+        return Err(Stop::here(start));
+    }
+    match char::from_u32(code) {
+        Some(c) => Ok(c),
+        None => Err(Stop::here(start)),
+    }
 }
 
 /// Returns the bytes of hexadecimal digits of either case, two for each byte.
@@ -142,11 +152,29 @@ pub fn bytes_of(alloc: Global, digits: &[u8], start: &[u8]) -> Result<Vec<u8>, S
     let mut bytes = Vec::new(alloc);
     let mut rest = digits;
     for _ in 0..digits.len() / 2 {
-        let high = digit_of(take_byte(&mut rest)?, start)?;
-        let low = digit_of(take_byte(&mut rest)?, start)?;
+        let high = take_digit(&mut rest, start)?;
+        let low = take_digit(&mut rest, start)?;
         push(&mut bytes, high * 16 + low)?;
     }
     Ok(bytes)
+}
+
+/// Takes the next hexadecimal digit and returns its value, which is below 16, or stops at the front
+/// of `start` if there is none.
+fn take_digit(rest: &mut &[u8], start: &[u8]) -> Result<u8, Stop>
+    ensures taken { IfOk result (λ digit. (byte : ℕ) × (rest.old.now ≡ byte ∷ rest.new.now)
+        × (digit_value byte < 16) × (digit ≡ digit_value byte)) }
+    ensures refused { IfErr result (λ stop. (stop ≡ Stop.At (length start.now))
+        × ((byte : ℕ) (after : List ℕ) → rest.old.now ≡ byte ∷ after → digit_value byte < 16 → ⊥)) }
+{
+    match rest.split_first() {
+        Some((first, after)) => {
+            let digit = digit_of(*first, start)?;
+            *rest = after;
+            Ok(digit)
+        }
+        None => Err(Stop::here(start)),
+    }
 }
 
 /// Returns the value of a hexadecimal digit, which is below 16, or stops at the front of `start`.

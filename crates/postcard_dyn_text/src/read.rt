@@ -1,7 +1,7 @@
 //! Reading a value from its text: [`read_text`].
 
 ghost use Rattle.std.specs.Prelude.{◌≡◌, ℕ, ◌<◌, [], ◌∷◌, ◌++◌, map, slice_index, length};
-ghost use Rattle.std.specs.Prelude.{IfOk, IfErr, OnOk, Ok, Some, get_or};
+ghost use Rattle.std.specs.Prelude.{IfOk, IfErr, OnOk, Ok, Some, true, false, get_or};
 ghost use Rattle.std.specs.Bool.{◌==◌};
 ghost use Rattle.std.specs.Char.{encode_utf8};
 ghost use Rattle.postcard_dyn_text.specs.Place.{IsPlaceIn};
@@ -18,7 +18,7 @@ ghost use Rattle.postcard_wire.specs.Tree.{trees};
 ghost use Rattle.postcard_wire.specs.Reading.{IsOption, IsGroup, IsSeq, IsArray, IsVariant, Each};
 ghost use Rattle.postcard_dyn_schema.specs.Meaning.{type_of, types_of, reads, reads_all, reads_at};
 ghost use Rattle.postcard_dyn_schema.specs.Meaning.{leaf_reads};
-ghost use Rattle.postcard_dyn_schema.specs.Text.{TakesPhrase, Then, IsSign, IsMaybe};
+ghost use Rattle.postcard_dyn_schema.specs.Text.{TakesPhrase, Then, IsSign, IsWord, IsMaybe};
 ghost use Rattle.postcard_dyn_schema.specs.Names.{IsCalled};
 ghost use Rattle.postcard_dyn_schema.specs.declared.schema.Schema.{Schema};
 ghost use Rattle.postcard_dyn.specs.Tree.{tree};
@@ -86,10 +86,19 @@ pub fn read_text(alloc: Global, schema: &Schema, text: &str) -> Result<Value, Te
     let mut rest = text.as_bytes();
     match read_whole(alloc, schema, &mut rest) {
         Ok(value) => Ok(value),
-        Err(Stop::At(left)) => Err(TextError::NotAValue {
+        Err(stop) => Err(error_in(text, stop)),
+    }
+}
+
+/// Returns the error for a text in which reading stops.
+fn error_in(text: &str, stop: Stop) -> TextError
+    ensures { IsPlaceIn text.now result }
+{
+    match stop {
+        Stop::At(left) => TextError::NotAValue {
             character: character_of(text.as_bytes(), left),
-        }),
-        Err(Stop::Memory) => Err(TextError::OutOfMemory),
+        },
+        Stop::Memory => TextError::OutOfMemory,
     }
 }
 
@@ -125,6 +134,19 @@ fn expect_all(rest: &mut &[u8], bytes: &[u8]) -> Result<(), Stop>
         expect(rest, *byte)?;
     }
     Ok(())
+}
+
+/// Takes the next word if it is `name`, and returns whether it is. Else it takes nothing.
+fn take_name(rest: &mut &[u8], name: &[u8]) -> bool
+    ensures taken { result ≡ true → TakesPhrase (IsWord name.now) rest.old.now rest.new.now }
+    ensures left { result ≡ false → rest.new.now ≡ rest.old.now }
+{
+    let start = *rest;
+    if take_word(rest) == name {
+        return true;
+    }
+    *rest = start;
+    false
 }
 
 /// Takes the bytes `between`, each after blanks, or nothing before the first part.
@@ -165,9 +187,8 @@ fn read(alloc: Global, schema: &Schema, rest: &mut &[u8]) -> Result<Value, Stop>
         Schema::Enum(variants) => read_variant(alloc, variants, rest),
         Schema::Named(name, content) => {
             skip_blanks(rest);
-            let start = *rest;
-            if take_word(rest) != name.as_bytes() {
-                return Err(Stop::here(start));
+            if !take_name(rest, name.as_bytes()) {
+                return Err(Stop::here(rest));
             }
             expect(rest, b':')?;
             read(alloc, content, rest)
@@ -184,13 +205,11 @@ fn read_option(alloc: Global, content: &Schema, rest: &mut &[u8]) -> Result<Valu
         rest.old.now rest.new.now) }
 {
     skip_blanks(rest);
-    let start = *rest;
-    let word = take_word(rest);
-    if word == b"None".as_slice() {
+    if take_name(rest, b"None".as_slice()) {
         return Ok(Value::Absent);
     }
-    if word != b"Some".as_slice() {
-        return Err(Stop::here(start));
+    if !take_name(rest, b"Some".as_slice()) {
+        return Err(Stop::here(rest));
     }
     expect(rest, b'(')?;
     let value = read(alloc, content, rest)?;

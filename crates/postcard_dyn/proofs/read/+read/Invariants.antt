@@ -12,10 +12,6 @@ abbrev pub invariant-read_group-loop-part : goal.invariant-read_group-loop-part
 invariant-read_group-loop-part g l = let f = g.F.Flavor in
     GoingParts f.left f.able f.may_leave (source_of l.initial.d) (types_of l.part-items) l.items.items (source_of l.d) (types_of (drop l.part-index l.part-items))
 
-abbrev pub invariant-read_list-loop : goal.invariant-read_list-loop
-invariant-read_list-loop g l = let f = g.F.Flavor in
-    Going f.left f.able f.may_leave (reads (type_of l.element)) IsTree ⊤ (source_of l.initial.d) l.count l.items.items (source_of l.d) (l.count - l.counter)
-
-abbrev pub invariant-read_array-loop : goal.invariant-read_array-loop
-invariant-read_array-loop g l = let f = g.F.Flavor in
+abbrev pub invariant-read_elements-loop : goal.invariant-read_elements-loop
+invariant-read_elements-loop g l = let f = g.F.Flavor in
     Going f.left f.able f.may_leave (reads (type_of l.element)) IsTree ⊤ (source_of l.initial.d) l.count l.items.items (source_of l.d) (l.count - l.counter)

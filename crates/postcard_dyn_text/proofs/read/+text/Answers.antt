@@ -1,10 +1,8 @@
-use Rattle.std.proofs.Common.{◌≡◌, ◌+◌, ◌<◌, ◌^◌, [], ◌∷◌, ◌++◌, map, take, drop, length, codes, string_bytes, vec_len, get_or, sym, ap, subst, ◌∙◌, arith, rules}
+use Rattle.std.proofs.Common.{◌≡◌, ◌+◌, ◌<◌, ◌^◌, [], ◌∷◌, ◌++◌, map, take, drop, length, codes, string_bytes, vec_len, get_or, sym, ap, subst, ◌∙◌, arith, rules, inl}
 use Rattle.std.specs.Bool.{◌==◌}
-use Rattle.std.proofs.lemmas.Bool.Decides.{Decides-eqb}
 use Rattle.std.proofs.lemmas.Grind.{common_steps}
 use Rattle.std.proofs.lemmas.List.{drop_more, drop_all, take_more}
 use Rattle.std.proofs.lemmas.Result.{IfOk-weaker}
-use Rattle.std.proofs.lemmas.Slice.Eq.{slice_eq-Decides}
 use Rattle.postcard_wire.specs.Tree.{trees}
 use Rattle.postcard_wire.specs.Tree as nodes
 use Rattle.postcard_ser.proofs.Elements.{elements_count}
@@ -19,7 +17,7 @@ use Rattle.postcard_dyn.specs.declared.value.Value.{Absent, Present, Seq, Group,
 use Rattle.postcard_dyn_text.specs.Shown.{layout_of, layouts_of, group, named, list, mapping, array}
 use Rattle.postcard_dyn_text.specs.Spelled.{SpellsTree, SpellsItem, SpellsContent, SpellsAt, SpellsVariant, AreSigns, AreClosed, phrases}
 use Rattle.postcard_dyn_text.proofs.Rows.{is_list, each_more, one_more, complete, longer}
-use Rattle.postcard_dyn_text.proofs.Spellings.{begun_closed, row_closed, element_taken, element_next, part_taken, group_taken, unit_taken, brackets_taken, parentheses_taken, in_parentheses, spells_at, unequal, same_words}
+use Rattle.postcard_dyn_text.proofs.Spellings.{begun_closed, row_closed, element_taken, element_next, part_taken, group_taken, unit_taken, brackets_taken, parentheses_taken, in_parentheses, spells_at, unequal}
 use Rattle.postcard_dyn_text.proofs.read.+text.Goals as goal
 
 pub read_list-returns-clause-value : goal.read_list-returns-clause-value
@@ -97,11 +95,10 @@ read-returns-in_ok-expect-in-Named-clause-spelled t c =
     let a = c.args.rest.now.now in let d = c.read.new.rest.now in
     let x = layout_of c.deref-in-Named.result.now in
     let kind : layout_of c.args.schema.now ≡ named (string_bytes n) x = rw (c.in-Named.is, c.deref-in-Named.ensures) (search (rules, schemas.the_lemmas)) in
-    let name : c.take_word.result.now ≡ string_bytes n = same_words c.take_word.result.now c.as_bytes.result.now c.ne.result c.ne.ensures c.if-ne.false ∙ c.as_bytes.ensures.value in
-    let word = word_more (string_bytes n) a c.skip_blanks.new.rest.now c.take_word.new.rest.now c.skip_blanks.ensures (rw name at c.take_word.ensures.taken) in
+    let word = word_more (string_bytes n) a c.skip_blanks.new.rest.now c.take_name.new.rest.now c.skip_blanks.ensures (rw c.as_bytes.ensures.value at (c.take_name.ensures.taken c.if-not-take_name.false)) in
     rw kind (IfOk-weaker c.read.result (λ v. TakesPhrase (SpellsTree x (tree v)) c.expect.new.rest.now d) (λ v. TakesPhrase (SpellsTree (named (string_bytes n) x) (tree v)) a d)
-    (λ v h. takes_two (IsWord (string_bytes n)) (Then (IsSign 58) (SpellsTree x (tree v))) a c.take_word.new.rest.now d word
-    (takes_two (IsSign 58) (SpellsTree x (tree v)) c.take_word.new.rest.now c.expect.new.rest.now d c.in_ok-expect-in-Named.ensures h)) c.read.ensures.spelled)
+    (λ v h. takes_two (IsWord (string_bytes n)) (Then (IsSign 58) (SpellsTree x (tree v))) a c.take_name.new.rest.now d word
+    (takes_two (IsSign 58) (SpellsTree x (tree v)) c.take_name.new.rest.now c.expect.new.rest.now d c.in_ok-expect-in-Named.ensures h)) c.read.ensures.spelled)
 
 pub read_array-returns-clause-spelled : goal.read_array-returns-clause-spelled
 read_array-returns-clause-spelled t c =
@@ -132,6 +129,12 @@ read_content-returns-clause-spelled t c =
     let v = c.in_ok-value.value in
     parentheses_taken x S (tree v) c.args.rest.now.now c.expect-2.new.rest.now (sym c.has_brackets.ensures.brackets ∙ c.if-has_brackets.false)
     (in_parentheses (S (tree v)) c.args.rest.now.now c.expect.new.rest.now c.read-2.new.rest.now c.expect-2.new.rest.now c.in_ok-expect.ensures c.in_ok-value.ensures.spelled c.in_ok-expect-2.ensures)
+
+pub read_group-returns-clause-value : goal.read_group-returns-clause-value
+read_group-returns-clause-value t c =
+    let v = c.in_ok-items.items in
+    let seen : tree (Group v) ≡ nodes.Group (trees (map tree v.items)) = search (rules, the_lemmas) in
+    (trees (map tree v.items), seen, c.in_ok-items.ensures.value)
 
 pub read_group-returns-clause-spelled : goal.read_group-returns-clause-spelled
 read_group-returns-clause-spelled t c =
@@ -177,22 +180,26 @@ read_list-returns-clause-spelled t c =
     rw seen (takes_two (IsSign c.args.opening) (AreClosed c.args.closing (phrases S (trees (map tree v.items)))) c.args.rest.now.now c.expect.new.rest.now c.read_items.new.rest.now
     c.in_ok-expect.ensures c.in_ok-items.ensures.spelled)
 
-pub read_option-returns-then-eq-clause-spelled : goal.read_option-returns-then-eq-clause-spelled
-read_option-returns-then-eq-clause-spelled t c =
-    let word : c.take_word-word.result.now ≡ codes "None" = (slice_eq-Decides Decides-eqb _ _ _ c.eq.ensures).0 c.if-eq.true ∙ c.as_slice.ensures in
+pub read_option-returns-then-take_name-clause-value : goal.read_option-returns-then-take_name-clause-value
+read_option-returns-then-take_name-clause-value t c =
     let seen : tree Absent ≡ nodes.Absent = search (rules, the_lemmas) in
-    rw seen (word_more (codes "None") c.args.rest.now.now c.skip_blanks.new.rest.now c.take_word-word.new.rest.now c.skip_blanks.ensures (rw word at c.take_word-word.ensures.taken))
+    inl seen
+
+pub read_option-returns-then-take_name-clause-spelled : goal.read_option-returns-then-take_name-clause-spelled
+read_option-returns-then-take_name-clause-spelled t c =
+    let seen : tree Absent ≡ nodes.Absent = search (rules, the_lemmas) in
+    rw seen (word_more (codes "None") c.args.rest.now.now c.skip_blanks.new.rest.now c.take_name.new.rest.now c.skip_blanks.ensures (rw c.as_slice.ensures at (c.take_name.ensures.taken c.if-take_name.true)))
 
 pub read_option-returns-in-Ok-clause-spelled : goal.read_option-returns-in-Ok-clause-spelled
 read_option-returns-in-Ok-clause-spelled t c =
     let v = c.in_ok-value.value in
     let P = SpellsTree (layout_of c.args.content.now) (tree v) in
-    let word : c.take_word-word.result.now ≡ codes "Some" = same_words c.take_word-word.result.now c.as_slice-2.result.now c.ne.result c.ne.ensures c.if-ne.false ∙ c.as_slice-2.ensures in
+    let some = rw (c.as_slice-2.ensures, c.take_name.ensures.left c.if-take_name.false) at (c.take_name-2.ensures.taken c.if-not-take_name.false) in
     let held : c.in-Ok.held.value ≡ v = c.in-Ok.ensures.ok in
     let seen : tree (Present c.in-Ok.held) ≡ nodes.Present (tree v) = rw (← held) (search (rules, the_lemmas)) in
-    rw seen (takes_two (IsWord (codes "Some")) (Then (IsSign 40) (Then P (IsSign 41))) c.args.rest.now.now c.take_word-word.new.rest.now c.expect-2.new.rest.now
-    (word_more (codes "Some") c.args.rest.now.now c.skip_blanks.new.rest.now c.take_word-word.new.rest.now c.skip_blanks.ensures (rw word at c.take_word-word.ensures.taken))
-    (in_parentheses P c.take_word-word.new.rest.now c.expect.new.rest.now c.read.new.rest.now c.expect-2.new.rest.now c.in_ok-expect.ensures c.in_ok-value.ensures.spelled c.in_ok-expect-2.ensures))
+    rw seen (takes_two (IsWord (codes "Some")) (Then (IsSign 40) (Then P (IsSign 41))) c.args.rest.now.now c.take_name-2.new.rest.now c.expect-2.new.rest.now
+    (word_more (codes "Some") c.args.rest.now.now c.skip_blanks.new.rest.now c.take_name-2.new.rest.now c.skip_blanks.ensures some)
+    (in_parentheses P c.take_name-2.new.rest.now c.expect.new.rest.now c.read.new.rest.now c.expect-2.new.rest.now c.in_ok-expect.ensures c.in_ok-value.ensures.spelled c.in_ok-expect-2.ensures))
 
 pub read_parts-returns-clause-spelled : goal.read_parts-returns-clause-spelled
 read_parts-returns-clause-spelled t c =

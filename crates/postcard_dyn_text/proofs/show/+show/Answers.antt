@@ -82,6 +82,11 @@ show_map-loop-i-preserved g t c =
     (joined (44 ∷ 32 ∷ []) (all_by p (trees (map tree (take i xs))))) (p (tree x)) (joined (44 ∷ 32 ∷ []) (all_by p (trees (map tree (take (i + 1) xs)))))
     (items_more (44 ∷ 32 ∷ []) tree p xs i x low c.item-item.is) c.loop-i.invariant c.in_ok-separate.ensures c.in_ok-show_entry.ensures
 
+pub show_option-returns-in-Absent : goal.show_option-returns-in-Absent
+show_option-returns-in-Absent g t c =
+    let seen : tree values.Absent ≡ nodes.Absent = search (rules, values.the_lemmas) in
+    rw (c.in-Absent.is, seen) c.write_str.ensures.writes
+
 pub show_option-returns-in_err-write_str-in-Present : goal.show_option-returns-in_err-write_str-in-Present
 show_option-returns-in_err-write_str-in-Present g t c = displays_failed g.W.Write.write_str_gives _ _ _ _ c.from_residual.ensures.0
 
