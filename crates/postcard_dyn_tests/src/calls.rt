@@ -1,11 +1,14 @@
 //! Tests of whole calls of `pcard`: what they print, and their exit status.
 
+use crate::helpers::{joined, text_with};
+use crate::same::same;
 use postcard_cli::run;
 use postcard_de_flavors::Source;
+use std::io::Write;
 use std::process::Abort;
 
 /// The words of a call, its input, what it prints, and its exit status.
-type Call<'a> = (&'a [&'a str], &'a [u8], &'a str, u8);
+pub type Call<'a> = (&'a [&'a str], &'a [u8], &'a str, u8);
 
 pub const USAGE: &str = "usage: pcard enc TYPE VALUE, dec TYPE HEX, frames\n";
 
@@ -52,7 +55,7 @@ const NAMED: [Call; 19] = [
 ];
 
 /// Calls that are refused: no call, a bad value, or bad digits.
-const REFUSED: [Call; 33] = [
+const REFUSED: [Call; 34] = [
     (&[], b"", USAGE, 2),
     (&["enc"], b"", USAGE, 2),
     (&["frames", "u8"], b"", USAGE, 2),
@@ -63,6 +66,7 @@ const REFUSED: [Call; 33] = [
     (&["enc", "U8", "1"], b"", USAGE, 2),
     (&["code", "u8", "1"], b"", USAGE, 2),
     (&["dec", "list-u16", "0"], b"", USAGE, 2),
+    (&["types", "u8"], b"", USAGE, 2),
     (&["enc", "u8", "256"], b"", BAD_VALUE, 2),
     (&["enc", "u8", "-0"], b"", BAD_VALUE, 2),
     (&["enc", "u8", ""], b"", BAD_VALUE, 2),
@@ -275,18 +279,31 @@ const VALUES: [(&str, &str, &str); 29] = [
     ("list-u32", "0,4294967295", "0200ffffffff0f"),
 ];
 
-/// Returns a text that owns its bytes.
-fn owned(rt: &(impl Abort + AllocGlobal), text: &str) -> String {
-    String::from_str(rt.alloc(), text).expect(rt, "memory")
-}
+/// The first line of what `types` prints.
+const FIRST: &[u8] = b"u8 u16 u32 u64 u128 usize   a number without a sign: 42\n";
+
+/// The end of its last line.
+const LAST: &[u8] = b"and - reads it from the input.\n";
 
 /// Returns the words of a call.
-pub fn words(rt: &(impl Abort + AllocGlobal), call: &[&str]) -> Vec<String> {
+fn words(rt: &(impl Abort + AllocGlobal), call: &[&str]) -> Vec<String> {
     let mut words = Vec::new(rt.alloc());
     for word in call {
-        words.push(owned(rt, word)).expect(rt, "memory");
+        let word = String::from_str(rt.alloc(), word).expect(rt, "memory");
+        words.push(word).expect(rt, "memory");
     }
     words
+}
+
+/// Does the call of these words, and returns its exit status.
+pub fn answer<R: Source, W: Write>(
+    rt: &(impl Abort + AllocGlobal),
+    call: &[&str],
+    input: &mut R,
+    output: &mut W,
+) -> u8 {
+    let words = words(rt, call);
+    run(rt.alloc(), words.as_slice(), input, output)
 }
 
 /// Asserts that a call over this input prints `printed` and has this status.
@@ -297,11 +314,10 @@ pub fn check<R: Source>(
     printed: &str,
     status: u8,
 ) {
-    let words = words(rt, call);
     let mut output = Vec::new(rt.alloc());
-    let answer = run(rt.alloc(), words.as_slice(), input, &mut output);
-    assert_eq!(rt; output.as_slice(), printed.as_bytes(), "{call:?}");
-    assert_eq!(rt; answer, status, "{call:?}");
+    let found = answer(rt, call, input, &mut output);
+    same(rt, output.as_slice(), printed.as_bytes(), call);
+    same(rt, found, status, call);
 }
 
 /// Asserts the same of a call over some bytes.
@@ -316,7 +332,7 @@ pub fn check_over(
 }
 
 /// Asserts the same of each row.
-fn check_all(rt: &(impl Abort + AllocGlobal), calls: &[Call]) {
+pub fn check_all(rt: &(impl Abort + AllocGlobal), calls: &[Call]) {
     for (call, input, printed, status) in calls {
         check_over(rt, call, input, printed, *status);
     }
@@ -354,10 +370,10 @@ fn decodes_all(rt: HostRuntime) {
 
 /// Asserts that a value is encoded as the digits, and is decoded from these with a byte after them.
 fn check_value(rt: &(impl Abort + AllocGlobal), kind: &str, value: &str, digits: &str) {
-    let printed = format!(in rt.alloc(); "{digits}\n").expect(rt, "memory");
+    let printed = joined(rt, digits, "\n");
     check_over(rt, &["enc", kind, value], &[], printed.as_str(), 0);
-    let longer = format!(in rt.alloc(); "{digits}07").expect(rt, "memory");
-    let printed = format!(in rt.alloc(); "{value}\n07\n").expect(rt, "memory");
+    let longer = joined(rt, digits, "07");
+    let printed = joined(rt, value, "\n07\n");
     check_over(
         rt,
         &["dec", kind, longer.as_str()],
@@ -369,7 +385,7 @@ fn check_value(rt: &(impl Abort + AllocGlobal), kind: &str, value: &str, digits:
 
 #[test]
 fn converts_each_type(rt: HostRuntime) {
-    for (kind, value, digits) in VALUES {
+    for (kind, value, digits) in &VALUES {
         check_value(&rt, kind, value, digits);
     }
 }
@@ -377,9 +393,8 @@ fn converts_each_type(rt: HostRuntime) {
 /// A text of 4,094 bytes is encoded in 4,096 bytes, which `enc` has room for.
 #[test]
 fn encodes_into_4096_bytes(rt: HostRuntime) {
-    let fits = "a".repeat(rt.alloc(), 4094).expect(&rt, "memory");
-    let digits = "61".repeat(rt.alloc(), 4094).expect(&rt, "memory");
-    let printed = format!(in rt.alloc(); "fe1f{digits}\n").expect(&rt, "memory");
+    let fits = text_with(&rt, "", "a", 4094, "");
+    let printed = text_with(&rt, "fe1f", "61", 4094, "\n");
     check_over(
         &rt,
         &["enc", "str", fits.as_str()],
@@ -387,7 +402,7 @@ fn encodes_into_4096_bytes(rt: HostRuntime) {
         printed.as_str(),
         0,
     );
-    let long = "a".repeat(rt.alloc(), 4095).expect(&rt, "memory");
+    let long = text_with(&rt, "", "a", 4095, "");
     let printed = "The serialize buffer is full\n";
     check_over(&rt, &["enc", "str", long.as_str()], &[], printed, 1);
 }
@@ -396,14 +411,8 @@ fn encodes_into_4096_bytes(rt: HostRuntime) {
 fn prints_the_syntax(rt: HostRuntime) {
     let mut output = Vec::new(rt.alloc());
     let mut input: &[u8] = &[];
-    let answer = run(
-        rt.alloc(),
-        words(&rt, &["types"]).as_slice(),
-        &mut input,
-        &mut output,
-    );
-    assert_eq!(rt; answer, 0);
-    assert!(rt; output.starts_with(b"u8 u16 u32 u64 u128 usize   a number without a sign: 42\n"));
-    assert!(rt; output.ends_with(b"and - reads it from the input.\n"));
-    check_over(&rt, &["types", "u8"], &[], USAGE, 2);
+    let status = answer(&rt, &["types"], &mut input, &mut output);
+    same(&rt, status, 0, "the status");
+    same(&rt, output.starts_with(FIRST), true, "the first line");
+    same(&rt, output.ends_with(LAST), true, "the last line");
 }

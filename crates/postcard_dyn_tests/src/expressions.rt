@@ -1,5 +1,7 @@
 //! Tests of type expressions.
 
+use crate::helpers::{check_type, nested};
+use crate::same::same;
 use postcard_dyn_schema::parse;
 use std::process::Abort;
 
@@ -108,7 +110,7 @@ fn printed(rt: &(impl Abort + AllocGlobal), text: &str) -> String {
 /// Asserts that each text is read as the schema, or refused with the error, that is printed so.
 fn check(rt: &(impl Abort + AllocGlobal), rows: &[(&str, &str)]) {
     for (text, wanted) in rows {
-        assert_eq!(rt; printed(rt, text).as_str(), *wanted, "{text}");
+        same(rt, printed(rt, text).as_str(), *wanted, *text);
     }
 }
 
@@ -122,23 +124,11 @@ fn refuses_expressions(rt: HostRuntime) {
     check(&rt, &REFUSED);
 }
 
-/// Asserts whether a type within `count` pairs of brackets is read.
-fn check_depth(rt: &(impl Abort + AllocGlobal), count: usize, is_type: bool) {
-    let open = "[".repeat(rt.alloc(), count).expect(rt, "memory");
-    let close = "]".repeat(rt.alloc(), count).expect(rt, "memory");
-    let text = format!(in rt.alloc(); "{open}u8{close}").expect(rt, "memory");
-    assert_eq!(rt;
-        parse(rt.alloc(), text.as_str()).is_ok(),
-        is_type,
-        "{count}"
-    );
-}
-
 /// A type within 63 pairs of brackets is read, and within 64 it is refused.
 #[test]
 fn bounds_the_depth(rt: HostRuntime) {
-    check_depth(&rt, 62, true);
-    check_depth(&rt, 63, true);
-    check_depth(&rt, 64, false);
-    check_depth(&rt, 200, false);
+    check_type(&rt, nested(&rt, 62, "u8").as_str(), true);
+    check_type(&rt, nested(&rt, 63, "u8").as_str(), true);
+    check_type(&rt, nested(&rt, 64, "u8").as_str(), false);
+    check_type(&rt, nested(&rt, 200, "u8").as_str(), false);
 }

@@ -19,6 +19,8 @@ mod random;
 #[cfg(test)]
 mod refused;
 #[cfg(test)]
+mod same;
+#[cfg(test)]
 mod texts;
 #[cfg(test)]
 mod vectors;

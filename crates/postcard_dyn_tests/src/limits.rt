@@ -1,7 +1,7 @@
 //! Tests of texts at their limits: lengths, digits, nesting, blanks and long names.
 
-use crate::helpers::{text_of, type_of, value_of};
-use postcard_dyn_schema::parse;
+use crate::helpers::{check_text, check_texts, check_type, nested, text_with, type_of};
+use crate::same::same;
 use postcard_dyn_text::read_text;
 use std::process::Abort;
 
@@ -43,62 +43,45 @@ const DIGITS: [(&str, usize); 10] = [
     ("i128", 39),
 ];
 
-/// Asserts that the text is read as a value of the type, which is printed as `printed`.
-fn check(rt: &(impl Abort + AllocGlobal), kind: &str, text: &str, printed: &str) {
-    let schema = type_of(rt, kind);
-    let value = value_of(rt, &schema, text);
-    assert_eq!(rt;
-        text_of(rt, &schema, &value).as_str(),
-        printed,
-        "{kind}: {text}"
-    );
-}
-
-/// Returns `before`, `count` times `part`, and `after`.
-fn text_with(
+/// Asserts that a text with `count` times `part` is read, and printed as it is.
+fn check_parts(
     rt: &(impl Abort + AllocGlobal),
+    kind: &str,
     before: &str,
     part: &str,
     count: usize,
     after: &str,
-) -> String {
-    let parts = part.repeat(rt.alloc(), count).expect(rt, "memory");
-    format!(in rt.alloc(); "{before}{parts}{after}").expect(rt, "memory")
+) {
+    let text = text_with(rt, before, part, count, after);
+    check_text(rt, kind, text.as_str(), text.as_str());
 }
 
 /// Asserts that texts with `count` parts are read: a text, a byte string, a list and a number.
 fn check_length(rt: &(impl Abort + AllocGlobal), count: usize) {
-    let text = text_with(rt, "\"", "a", count, "\"");
-    check(rt, "str", text.as_str(), text.as_str());
-    let bytes = text_with(rt, "0x", "5a", count, "");
-    check(rt, "bytes", bytes.as_str(), bytes.as_str());
-    let list = text_with(rt, "[", "1, ", count, "2]");
-    check(rt, "[u8]", list.as_str(), list.as_str());
-    check(rt, "u8", text_with(rt, "", "0", count, "7").as_str(), "7");
+    check_parts(rt, "str", "\"", "a", count, "\"");
+    check_parts(rt, "bytes", "0x", "5a", count, "");
+    check_parts(rt, "[u8]", "[", "1, ", count, "2]");
+    check_text(rt, "u8", text_with(rt, "", "0", count, "7").as_str(), "7");
 }
 
 /// Asserts whether `count` digits are a number of the type.
 fn check_digits(rt: &(impl Abort + AllocGlobal), kind: &str, count: usize, is_number: bool) {
     let text = text_with(rt, "", "1", count, "");
     let is_read = read_text(rt.alloc(), &type_of(rt, kind), text.as_str()).is_ok();
-    assert_eq!(rt; is_read, is_number, "{kind}: {text}");
+    same(rt, is_read, is_number, (kind, text.as_str()));
 }
 
-/// Asserts whether a count of `count` digits is that of an array.
-fn check_count(rt: &(impl Abort + AllocGlobal), count: usize, is_count: bool) {
-    let text = text_with(rt, "[u8; ", "1", count, "]");
-    assert_eq!(rt;
-        parse(rt.alloc(), text.as_str()).is_ok(),
-        is_count,
-        "{text}"
-    );
+/// Asserts of each number of digits up to that of the greatest type, and one more, that those of the
+/// type have from 1 to `most`.
+fn check_counts(rt: &(impl Abort + AllocGlobal), kind: &str, most: usize) {
+    for count in 0..41 {
+        check_digits(rt, kind, count, 0 < count && count <= most);
+    }
 }
 
 #[test]
 fn reads_blanks_and_long_names(rt: HostRuntime) {
-    for (kind, text, printed) in &READ {
-        check(&rt, kind, text, printed);
-    }
+    check_texts(&rt, &READ);
 }
 
 #[test]
@@ -108,16 +91,14 @@ fn reads_each_length(rt: HostRuntime) {
     }
 }
 
-/// Each number of digits up to that of the greatest type, and one more.
 #[test]
 fn reads_each_number_of_digits(rt: HostRuntime) {
     for (kind, most) in &DIGITS {
-        for count in 0..41 {
-            check_digits(&rt, kind, count, 0 < count && count <= *most);
-        }
+        check_counts(&rt, kind, *most);
     }
     for count in 0..22 {
-        check_count(&rt, count, 0 < count && count <= 20);
+        let text = text_with(&rt, "[u8; ", "1", count, "]");
+        check_type(&rt, text.as_str(), 0 < count && count <= 20);
     }
 }
 
@@ -125,10 +106,8 @@ fn reads_each_number_of_digits(rt: HostRuntime) {
 #[test]
 fn reads_each_depth(rt: HostRuntime) {
     for count in 0..64 {
-        let opening = text_with(&rt, "", "[", count, "u8");
-        let kind = text_with(&rt, opening.as_str(), "]", count, "");
-        let opened = text_with(&rt, "", "[", count, "7");
-        let text = text_with(&rt, opened.as_str(), "]", count, "");
-        check(&rt, kind.as_str(), text.as_str(), text.as_str());
+        let kind = nested(&rt, count, "u8");
+        let text = nested(&rt, count, "7");
+        check_text(&rt, kind.as_str(), text.as_str(), text.as_str());
     }
 }

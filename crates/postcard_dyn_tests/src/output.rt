@@ -1,7 +1,7 @@
 //! Tests of calls of `pcard` whose output fails.
 
-use crate::calls::words;
-use postcard_cli::run;
+use crate::calls::answer;
+use crate::same::same;
 use std::io;
 use std::io::{ErrorKind, Write};
 use std::process::Abort;
@@ -48,7 +48,7 @@ impl Write for Failing {
 /// and that it flushes the output.
 fn check(
     rt: &(impl Abort + AllocGlobal),
-    words: &[String],
+    call: &[&str],
     writes_left: usize,
     flushes: bool,
     status: u8,
@@ -59,41 +59,25 @@ fn check(
         finished: false,
     };
     let mut input: &[u8] = &[0x03, 0x01, 0x07, 0x00, 0x00];
-    let answer = run(rt.alloc(), words, &mut input, &mut output);
-    assert_eq!(rt; answer, status, "{words:?} after {writes_left} writes");
-    assert_eq!(rt; output.finished, flushes, "{words:?} is flushed");
+    let found = answer(rt, call, &mut input, &mut output);
+    same(rt, found, status, (call, writes_left));
+    same(rt, output.finished, flushes, (call, writes_left));
 }
 
 /// Asserts that the call of these words, which prints `length` bytes, has this status if its output
-/// takes them all and flushes, and else 3.
-fn check_both(
-    rt: &(impl Abort + AllocGlobal),
-    words: &[String],
-    writes: usize,
-    length: usize,
-    status: u8,
-) {
-    check(rt, words, writes, false, 3);
-    check(
-        rt,
-        words,
-        writes,
-        true,
-        if writes == length { status } else { 3 },
-    );
-}
-
-/// Asserts this after each number of writes.
+/// takes them all and flushes, and else 3, after each number of writes.
 fn check_each(rt: &(impl Abort + AllocGlobal), call: &[&str], length: usize, status: u8) {
-    let words = words(rt, call);
-    for writes in 0..=length {
-        check_both(rt, &words, writes, length, status);
+    for writes in 0..length {
+        check(rt, call, writes, false, 3);
+        check(rt, call, writes, true, 3);
     }
+    check(rt, call, length, false, 3);
+    check(rt, call, length, true, status);
 }
 
 #[test]
 fn answers_failed_output(rt: HostRuntime) {
-    for (call, length, status) in CALLS {
-        check_each(&rt, call, length, status);
+    for (call, length, status) in &CALLS {
+        check_each(&rt, call, *length, *status);
     }
 }

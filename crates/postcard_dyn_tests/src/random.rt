@@ -2,6 +2,7 @@
 //! again as itself, or with a named error whose place is within the bytes.
 
 use crate::helpers::{check_read, check_written, encoded, text_of, type_of};
+use crate::same::same;
 use postcard_dyn::{Schema, Value, refused_at, take_from_bytes};
 use postcard_wire::Error;
 use std::process::Abort;
@@ -44,15 +45,14 @@ fn next(state: &mut u64) -> u8 {
 fn check_value(rt: &(impl Abort + AllocGlobal), schema: &Schema, value: &Value, length: usize) {
     let text = text_of(rt, schema, value);
     let message = encoded(rt, value);
-    assert!(rt; message.len() <= length, "{text}");
+    same(rt, message.len() <= length, true, text.as_str());
     check_written(rt, schema, text.as_str(), &message);
     check_read(rt, schema, &message, text.as_str(), &[]);
 }
 
-/// Asserts that the error with which a message is refused is one of reading, and that its place is
-/// within the message.
-fn check_error(rt: &(impl Abort + AllocGlobal), schema: &Schema, message: &[u8], error: Error) {
-    let named = matches!(
+/// Returns whether the error is one of reading.
+fn is_of_reading(error: &Error) -> bool {
+    matches!(
         error,
         Error::DeserializeUnexpectedEnd
             | Error::DeserializeBadVarint
@@ -61,10 +61,15 @@ fn check_error(rt: &(impl Abort + AllocGlobal), schema: &Schema, message: &[u8],
             | Error::DeserializeBadUtf8
             | Error::DeserializeBadOption
             | Error::SerdeDeCustom
-    );
-    assert!(rt; named, "{error}");
+    )
+}
+
+/// Asserts that the error with which a message is refused is one of reading, and that its place is
+/// within the message.
+fn check_error(rt: &(impl Abort + AllocGlobal), schema: &Schema, message: &[u8], error: &Error) {
+    same(rt, is_of_reading(error), true, error);
     let place = refused_at(rt.alloc(), schema, message).expect(rt, "memory");
-    assert!(rt; place <= message.len());
+    same(rt, place <= message.len(), true, message);
 }
 
 /// Reads a message of the type, and checks the value or the error. Returns 1 if it was a value, and
@@ -76,7 +81,7 @@ fn check(rt: &(impl Abort + AllocGlobal), schema: &Schema, message: &[u8]) -> u3
             1
         }
         Err(error) => {
-            check_error(rt, schema, message, error);
+            check_error(rt, schema, message, &error);
             0
         }
     }
@@ -94,23 +99,13 @@ fn bytes(rt: &(impl Abort + AllocGlobal), state: &mut u64, length: u8, small: bo
     bytes
 }
 
-/// Checks a random message of the type. Returns 1 if it begins with a value, and else 0.
-fn check_random(
-    rt: &(impl Abort + AllocGlobal),
-    state: &mut u64,
-    schema: &Schema,
-    round: u8,
-) -> u32 {
-    let message = bytes(rt, state, round % 24, round % 2 == 1);
-    check(rt, schema, &message)
-}
-
 /// Checks 200 random messages of the type. Returns the number of those that begin with a value.
 fn check_type(rt: &(impl Abort + AllocGlobal), state: &mut u64, expression: &str) -> u32 {
     let schema = type_of(rt, expression);
     let mut values = 0u32;
     for round in 0..200 {
-        values = values.saturating_add(check_random(rt, state, &schema, round));
+        let message = bytes(rt, state, round % 24, round % 2 == 1);
+        values = values.saturating_add(check(rt, &schema, &message));
     }
     values
 }
@@ -119,8 +114,8 @@ fn check_type(rt: &(impl Abort + AllocGlobal), state: &mut u64, expression: &str
 fn ends_in_a_value_or_a_refusal(rt: HostRuntime) {
     let mut state = 1;
     let mut values = 0u32;
-    for expression in EXPRESSIONS {
+    for expression in &EXPRESSIONS {
         values = values.saturating_add(check_type(&rt, &mut state, expression));
     }
-    assert!(rt; values > 500, "{values}");
+    same(&rt, values > 500, true, values);
 }

@@ -1,7 +1,8 @@
 //! Tests of messages that are refused: the error, and its place.
 
-use crate::helpers::type_of;
-use postcard_dyn::{refused_at, take_from_bytes};
+use crate::helpers::{check_refused, type_of};
+use crate::same::same;
+use postcard_dyn::refused_at;
 use postcard_wire::Error;
 use std::process::Abort;
 
@@ -64,19 +65,18 @@ fn check(
     rt: &(impl Abort + AllocGlobal),
     expression: &str,
     message: &[u8],
-    error: Error,
+    error: &Error,
     place: usize,
 ) {
     let schema = type_of(rt, expression);
-    let read = take_from_bytes(rt.alloc(), &schema, message).err();
-    assert_eq!(rt; read, Some(error), "{expression}: {message:?}");
-    let found = refused_at(rt.alloc(), &schema, message);
-    assert_eq!(rt; found, Ok(place), "{expression}: {message:?}");
+    check_refused(rt, &schema, message, error);
+    let found = refused_at(rt.alloc(), &schema, message).expect(rt, "memory");
+    same(rt, found, place, (expression, message));
 }
 
 #[test]
 fn tells_the_error_and_its_place(rt: HostRuntime) {
-    for (expression, message, error, place) in REFUSED {
-        check(&rt, expression, message, error, place);
+    for (expression, message, error, place) in &REFUSED {
+        check(&rt, expression, message, error, *place);
     }
 }

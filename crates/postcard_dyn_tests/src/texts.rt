@@ -1,8 +1,8 @@
 //! Tests of reading and printing the texts of values.
 
-use crate::helpers::{text_of, type_of, value_of};
+use crate::helpers::{check_text, check_texts, type_of, value_of};
+use crate::same::same;
 use postcard_dyn::Value;
-use postcard_dyn_text::read_text;
 use std::process::Abort;
 
 /// Types, each beside the text of a value as it is printed.
@@ -115,65 +115,52 @@ const REFUSED: [(&str, &str, &str); 32] = [
     ),
 ];
 
-/// Asserts that what is read from a text of a type, a value or an error, is printed as `wanted`.
-fn check(rt: &(impl Abort + AllocGlobal), kind: &str, text: &str, wanted: &str) {
-    let schema = type_of(rt, kind);
-    let printed = match read_text(rt.alloc(), &schema, text) {
-        Ok(value) => text_of(rt, &schema, &value),
-        Err(error) => format!(in rt.alloc(); "{error}").expect(rt, "memory"),
-    };
-    assert_eq!(rt; printed.as_str(), wanted, "{kind}: {text}");
-}
-
-/// Asserts the same of each row.
-fn check_all(rt: &(impl Abort + AllocGlobal), rows: &[(&str, &str, &str)]) {
-    for (kind, text, wanted) in rows {
-        check(rt, kind, text, wanted);
-    }
-}
+/// Quoted texts with characters of two, three and four bytes of UTF-8, as themselves and as escapes,
+/// each with the bytes of the text, and the text as it is printed.
+const CHARACTERS: [(&str, &[u8], &str); 7] = [
+    ("\"\u{e9}\"", b"\xc3\xa9", "\"\u{e9}\""),
+    ("\"\\u{e9}\"", b"\xc3\xa9", "\"\u{e9}\""),
+    ("\"\u{20ac}\"", b"\xe2\x82\xac", "\"\u{20ac}\""),
+    ("\"\\u{20AC}\"", b"\xe2\x82\xac", "\"\u{20ac}\""),
+    ("\"\u{1f600}\"", b"\xf0\x9f\x98\x80", "\"\u{1f600}\""),
+    ("\"\\u{01F600}\"", b"\xf0\x9f\x98\x80", "\"\u{1f600}\""),
+    (
+        "\"a\u{fc}\\n\\u{6f22}\u{1d11e}\\\\\"",
+        b"a\xc3\xbc\n\xe6\xbc\xa2\xf0\x9d\x84\x9e\\",
+        "\"a\u{fc}\\n\u{6f22}\u{1d11e}\\\\\"",
+    ),
+];
 
 #[test]
 fn prints_what_it_reads(rt: HostRuntime) {
-    for (kind, text) in PRINTED {
-        check(&rt, kind, text, text);
+    for (kind, text) in &PRINTED {
+        check_text(&rt, kind, text, text);
     }
 }
 
 #[test]
 fn reads_other_texts(rt: HostRuntime) {
-    check_all(&rt, &READ);
+    check_texts(&rt, &READ);
 }
 
 #[test]
 fn refuses_texts(rt: HostRuntime) {
-    check_all(&rt, &REFUSED);
+    check_texts(&rt, &REFUSED);
 }
 
-/// Asserts that the quoted text is read as the text with these bytes, and that this is printed as
-/// `printed`.
-fn check_bytes(rt: &(impl Abort + AllocGlobal), text: &str, bytes: &[u8], printed: &str) {
-    let schema = type_of(rt, "str");
-    let value = value_of(rt, &schema, text);
+/// Asserts that the quoted text is read as the text with these bytes.
+fn check_bytes(rt: &(impl Abort + AllocGlobal), text: &str, bytes: &[u8]) {
+    let value = value_of(rt, &type_of(rt, "str"), text);
     match &value {
-        Value::Str(held) => assert_eq!(rt; held.as_bytes(), bytes, "{text}"),
+        Value::Str(held) => same(rt, held.as_bytes(), bytes, text),
         _ => panic!(rt; "{text} is no text"),
     }
-    assert_eq!(rt; text_of(rt, &schema, &value).as_str(), printed, "{text}");
 }
 
-/// Texts with characters of two, three and four bytes of UTF-8, as themselves and as escapes.
 #[test]
 fn reads_characters_outside_ascii(rt: HostRuntime) {
-    check_bytes(&rt, "\"\u{e9}\"", b"\xc3\xa9", "\"\u{e9}\"");
-    check_bytes(&rt, "\"\\u{e9}\"", b"\xc3\xa9", "\"\u{e9}\"");
-    check_bytes(&rt, "\"\u{20ac}\"", b"\xe2\x82\xac", "\"\u{20ac}\"");
-    check_bytes(&rt, "\"\\u{20AC}\"", b"\xe2\x82\xac", "\"\u{20ac}\"");
-    check_bytes(&rt, "\"\u{1f600}\"", b"\xf0\x9f\x98\x80", "\"\u{1f600}\"");
-    check_bytes(&rt, "\"\\u{01F600}\"", b"\xf0\x9f\x98\x80", "\"\u{1f600}\"");
-    check_bytes(
-        &rt,
-        "\"a\u{fc}\\n\\u{6f22}\u{1d11e}\\\\\"",
-        b"a\xc3\xbc\n\xe6\xbc\xa2\xf0\x9d\x84\x9e\\",
-        "\"a\u{fc}\\n\u{6f22}\u{1d11e}\\\\\"",
-    );
+    for (text, bytes, printed) in &CHARACTERS {
+        check_bytes(&rt, text, bytes);
+        check_text(&rt, "str", text, printed);
+    }
 }

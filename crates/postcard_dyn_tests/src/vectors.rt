@@ -1,7 +1,8 @@
 //! Tests with vectors that were worked out by hand from the wire format.
 
-use crate::helpers::{check_read, check_written, decoded, encoded, type_of};
-use postcard_dyn::{Schema, take_from_bytes};
+use crate::helpers::{check_read, check_refused, check_written, decoded, encoded, type_of};
+use crate::same::same;
+use postcard_dyn::Schema;
 use postcard_wire::Error;
 use std::process::Abort;
 
@@ -166,13 +167,6 @@ const VECTORS: [(&str, &str, &[u8]); 55] = [
     ("[A | B(u8)]", "[B(9), A, A]", &[3, 1, 9, 0, 0]),
 ];
 
-/// Asserts that the value that is read from the message is written as the message.
-fn check_comes_back(rt: &(impl Abort + AllocGlobal), schema: &Schema, message: &[u8]) {
-    let (value, rest) = decoded(rt, schema, message);
-    assert!(rt; rest.is_empty(), "{message:?}");
-    assert_eq!(rt; encoded(rt, &value).as_slice(), message);
-}
-
 /// Asserts that the message, with a byte after it, is read as a value that is printed as the text.
 fn check_longer(rt: &(impl Abort + AllocGlobal), schema: &Schema, text: &str, message: &[u8]) {
     let mut longer = message.to_vec(rt.alloc()).expect(rt, "memory");
@@ -180,32 +174,29 @@ fn check_longer(rt: &(impl Abort + AllocGlobal), schema: &Schema, text: &str, me
     check_read(rt, schema, &longer, text, &[0xFF]);
 }
 
-/// Asserts that reading the bytes fails with `DeserializeUnexpectedEnd`.
-fn check_front(rt: &(impl Abort + AllocGlobal), schema: &Schema, front: &[u8]) {
-    let error = take_from_bytes(rt.alloc(), schema, front).err();
-    assert_eq!(rt; error, Some(Error::DeserializeUnexpectedEnd), "{front:?}");
-}
-
-/// Asserts this of each proper front of the message.
+/// Asserts that reading each proper front of the message fails with `DeserializeUnexpectedEnd`.
 fn check_fronts(rt: &(impl Abort + AllocGlobal), schema: &Schema, message: &[u8]) {
     for length in 0..message.len() {
-        check_front(rt, schema, &message[..length]);
+        let front = &message[..length];
+        check_refused(rt, schema, front, &Error::DeserializeUnexpectedEnd);
     }
 }
 
-/// Asserts that the value of the text is written as the message, and that this value is read from it,
-/// and from no proper front of it.
+/// Asserts that the value of the text is written as the message, that a value that is written so is
+/// read from it, with or without a byte after it, and none from a proper front of it.
 fn check_row(rt: &(impl Abort + AllocGlobal), expression: &str, text: &str, message: &[u8]) {
     let schema = type_of(rt, expression);
     check_written(rt, &schema, text, message);
-    check_comes_back(rt, &schema, message);
+    let (value, rest) = decoded(rt, &schema, message);
+    same(rt, rest.len(), 0, text);
+    same(rt, encoded(rt, &value).as_slice(), message, text);
     check_longer(rt, &schema, text, message);
     check_fronts(rt, &schema, message);
 }
 
 #[test]
 fn both_ways(rt: HostRuntime) {
-    for (expression, text, message) in VECTORS {
+    for (expression, text, message) in &VECTORS {
         check_row(&rt, expression, text, message);
     }
 }
