@@ -1,9 +1,9 @@
 //! Tests of encoding and decoding frames, by the steps of the encoder and in place.
 
-ghost use Rattle.std.specs.Prelude.{IsTrue};
+ghost use Rattle.std.specs.Prelude.{◌+◌, ◌<◌, IsTrue, length};
 ghost use Rattle.postcard_cobs.specs.Groups.{NoZero};
 
-use crate::rows::{FRAMES, FULL_LESS_ONE, LONG, first_zero, joined};
+use crate::rows::{FRAMES, FULL_LESS_ONE, LONG, first_zero, joined, set};
 use crate::same::{same, same_at};
 use postcard_cobs::{
     DecodeReport, EncoderState, PushResult, decode_in_place, decode_in_place_report, frame_len,
@@ -19,11 +19,21 @@ fn has_no_zero(bytes: &[u8]) -> bool
     frame_len(bytes) == bytes.len()
 }
 
-/// Sets the byte at a place, or does nothing if there are fewer bytes.
-fn set(bytes: &mut [u8], place: usize, byte: u8) {
-    if let Some(old) = bytes.get_mut(place) {
-        *old = byte;
-    }
+/// Asserts that no byte is zero, and that there are fewer than 1000 bytes.
+fn is_run(rt: &impl Abort, bytes: &[u8])
+    ensures no_zero { NoZero bytes.now }
+    ensures short { length bytes.now < 1000 }
+{
+    assert!(rt; bytes.len() < 1000);
+    assert!(rt; has_no_zero(bytes));
+}
+
+/// Asserts that the state has counted this many bytes of a frame, and that they are fewer than
+/// 1000.
+fn stands_at(rt: &impl Abort, state: &EncoderState, len: usize)
+    ensures { state.now.code_at + state.now.code < 1000 }
+{
+    assert!(rt; state.place() == len && len < 1000);
 }
 
 /// Adds a byte at the end.
@@ -47,6 +57,13 @@ fn apply(rt: &impl Abort, frame: &mut Vec<u8>, asked: PushResult) {
     }
 }
 
+/// Pushes a byte of data, and changes the frame as the result says. Asserts that the state has
+/// counted the frame's bytes.
+fn push_data(rt: &impl Abort, frame: &mut Vec<u8>, state: &mut EncoderState, byte: u8) {
+    stands_at(rt, &*state, frame.len());
+    apply(rt, frame, state.push(byte));
+}
+
 /// Sets the last code byte, and adds the zero at the end.
 fn end(rt: &impl Abort, frame: &mut Vec<u8>, state: EncoderState) {
     let (place, code) = state.finalize();
@@ -59,15 +76,14 @@ fn made(rt: &(impl Abort + AllocGlobal), content: &[u8]) -> Vec<u8> {
     let mut frame = joined(rt, &[&[0]]);
     let mut state = EncoderState::default();
     for byte in content {
-        assert!(rt; state.place() == frame.len() && frame.len() < 1000);
-        apply(rt, &mut frame, state.push(*byte));
+        push_data(rt, &mut frame, &mut state, *byte);
     }
     end(rt, &mut frame, state);
     frame
 }
 
 /// Takes a run that is as long as possible from the front of the data, and adds it to the frame.
-/// Returns what is left of the data.
+/// Then pushes the next byte, if there is one. Returns what is left of the data.
 fn push_run<'a>(
     rt: &impl Abort,
     frame: &mut Vec<u8>,
@@ -75,11 +91,15 @@ fn push_run<'a>(
     content: &'a [u8],
 ) -> &'a [u8] {
     let (run, rest) = content.split_at(frame_len(content).min(state.run_room() - 1));
-    assert!(rt; state.place() == frame.len() && frame.len() < 1000 && run.len() < 1000);
-    assert!(rt; has_no_zero(run));
+    stands_at(rt, &*state, frame.len());
+    is_run(rt, run);
     state.push_run(run);
     frame.extend_from_slice(run).expect(rt, "there is memory");
-    rest
+    let Some((byte, more)) = rest.split_first() else {
+        return rest;
+    };
+    push_data(rt, frame, state, *byte);
+    more
 }
 
 /// Returns the made frame of the data, with runs as long as possible and a push after each.
@@ -89,11 +109,6 @@ fn made_by_runs(rt: &(impl Abort + AllocGlobal), content: &[u8]) -> Vec<u8> {
     let mut rest = content;
     for _ in 0..content.len() {
         rest = push_run(rt, &mut frame, &mut state, rest);
-        if let Some((byte, more)) = rest.split_first() {
-            assert!(rt; state.place() == frame.len() && frame.len() < 1000);
-            apply(rt, &mut frame, state.push(*byte));
-            rest = more;
-        }
     }
     end(rt, &mut frame, state);
     frame
@@ -117,7 +132,7 @@ fn a_new_state(rt: HostRuntime) {
 /// Asserts that the state is that after 253 bytes of the first group, which one byte more fills.
 fn is_filled_by_one(rt: &impl Abort, state: EncoderState) {
     let mut state = state;
-    assert!(rt; state.place() == 254);
+    stands_at(rt, &state, 254);
     same(rt, state.run_room(), 1);
     let full = PushResult::ModifyFromStartAndPushAndSkip((0, 255, 0x11));
     same(rt, state.push(0x11), full);
@@ -125,17 +140,26 @@ fn is_filled_by_one(rt: &impl Abort, state: EncoderState) {
     same(rt, state.finalize(), (255, 1));
 }
 
+/// Pushes the byte that is at this place of a frame, which is a byte of the open group.
+fn push_single(rt: &impl Abort, state: &mut EncoderState, place: usize) {
+    stands_at(rt, &*state, place);
+    same(rt, state.push(0x11), PushResult::AddSingle(0x11));
+}
+
 #[test]
 fn a_group_is_full_at_254_bytes(rt: HostRuntime) {
     let mut pushed = EncoderState::default();
-    for byte in FULL_LESS_ONE {
-        assert!(rt; pushed.place() < 1000);
-        same(&rt, pushed.push(byte), PushResult::AddSingle(0x11));
+    for place in 1..254 {
+        push_single(&rt, &mut pushed, place);
     }
     is_filled_by_one(&rt, pushed);
+}
+
+#[test]
+fn a_group_is_full_after_a_run_and_a_byte(rt: HostRuntime) {
     let mut run = EncoderState::default();
     same(&rt, run.run_room(), 254);
-    assert!(rt; has_no_zero(&FULL_LESS_ONE));
+    is_run(&rt, &FULL_LESS_ONE);
     run.push_run(&FULL_LESS_ONE);
     is_filled_by_one(&rt, run);
 }
@@ -176,15 +200,20 @@ pub fn comes_back(rt: &(impl Abort + AllocGlobal), content: &[u8], more: usize) 
     is_decoded(rt, &mut buffer, content);
 }
 
+/// Asserts that a group of 254 bytes is decoded, and one that is a byte shorter than its code says
+/// isn't, with these bytes after the group.
+fn is_whole_or_short(rt: &(impl Abort + AllocGlobal), end: &[u8]) {
+    let mut whole = joined(rt, &[&[0xFF, 0x11], &FULL_LESS_ONE, end]);
+    same(rt, decode_in_place(&mut whole), Ok(254));
+    let mut short = joined(rt, &[&[0xFF], &FULL_LESS_ONE, end]);
+    let refused = decode_in_place(&mut short);
+    same(rt, refused, Err(Error::DeserializeBadEncoding));
+}
+
 #[test]
 fn a_full_group_at_the_end(rt: HostRuntime) {
-    for end in [[].as_slice(), &[0]] {
-        let mut whole = joined(&rt, &[&[0xFF, 0x11], &FULL_LESS_ONE, end]);
-        same(&rt, decode_in_place(&mut whole), Ok(254));
-        let mut short = joined(&rt, &[&[0xFF], &FULL_LESS_ONE, end]);
-        let refused = decode_in_place(&mut short);
-        same(&rt, refused, Err(Error::DeserializeBadEncoding));
-    }
+    is_whole_or_short(&rt, &[]);
+    is_whole_or_short(&rt, &[0]);
 }
 
 /// Frames, each beside the numbers of bytes that its decoding uses in the source and for the data,
@@ -218,8 +247,12 @@ fn is_reported(rt: &(impl Abort + AllocGlobal), before: &[u8], report: DecodeRep
 
 #[test]
 fn frames_are_reported(rt: HostRuntime) {
-    for (before, src_used, dst_used, after) in REPORTS {
-        is_reported(&rt, before, DecodeReport { src_used, dst_used }, after);
+    for (before, src_used, dst_used, after) in &REPORTS {
+        let report = DecodeReport {
+            src_used: *src_used,
+            dst_used: *dst_used,
+        };
+        is_reported(&rt, before, report, after);
     }
 }
 
@@ -264,16 +297,21 @@ fn survives(rt: &(impl Abort + AllocGlobal), before: &[u8]) {
     same_at(rt, after.get(end..), before.get(end..), before);
 }
 
+/// Changes the byte at this place of a frame to each of the 256 values, and decodes the frame with
+/// two other bytes after it.
+fn place_survives(rt: &(impl Abort + AllocGlobal), frame: &[u8], place: usize) {
+    for byte in 0..=255 {
+        let mut changed = joined(rt, &[frame, &[0x77, 0x78]]);
+        set(&mut changed, place, byte);
+        survives(rt, &changed);
+    }
+}
+
 #[test]
 fn a_changed_byte_is_decoded_or_not(rt: HostRuntime) {
     for (_, frame) in &FRAMES {
-        let whole = joined(&rt, &[frame, &[0x77, 0x78]]);
         for place in 0..frame.len() {
-            for byte in 0..=255 {
-                let mut changed = joined(&rt, &[&whole]);
-                set(&mut changed, place, byte);
-                survives(&rt, &changed);
-            }
+            place_survives(&rt, frame, place);
         }
     }
 }

@@ -5,13 +5,20 @@ use postcard_accumulator::{CobsAccumulator, FeedResult};
 use std::alloc::AllocGlobal;
 use std::process::Abort;
 
-/// The result of a feed, with the number of bytes that are left after it.
-#[derive(Clone, Copy, Debug, PartialEq, Drop)]
-enum Fed {
-    Consumed,
-    OverFull(usize),
-    DeserError(usize),
-    Success(u8, usize),
+/// The kind of a result, its value if it has one, and the number of bytes that are left after it.
+type Fed = (&'static str, Option<u8>, usize);
+
+/// The result of a piece of which all is consumed.
+const CONSUMED: Fed = ("consumed", None, 0);
+
+/// Returns the kind of a result, its value if it has one, and the bytes that are left after it.
+fn parts<'a, T>(fed: FeedResult<'a, T>) -> (&'static str, Option<T>, &'a [u8]) {
+    match fed {
+        FeedResult::Consumed => ("consumed", None, &[]),
+        FeedResult::OverFull(rest) => ("over full", None, rest),
+        FeedResult::DeserError(rest) => ("no value", None, rest),
+        FeedResult::Success { value, remaining } => ("value", Some(value), remaining),
+    }
 }
 
 /// Feeds a piece, and returns the result and the bytes that are left after it.
@@ -20,14 +27,8 @@ fn feed_once<'a, const N: usize>(
     acc: &mut CobsAccumulator<N>,
     piece: &'a [u8],
 ) -> (Fed, &'a [u8]) {
-    match acc.feed::<u8>(rt.alloc(), piece) {
-        FeedResult::Consumed => (Fed::Consumed, &[]),
-        FeedResult::OverFull(rest) => (Fed::OverFull(rest.len()), rest),
-        FeedResult::DeserError(rest) => (Fed::DeserError(rest.len()), rest),
-        FeedResult::Success { value, remaining } => {
-            (Fed::Success(value, remaining.len()), remaining)
-        }
-    }
+    let (kind, value, rest) = parts(acc.feed::<u8>(rt.alloc(), piece));
+    ((kind, value, rest.len()), rest)
 }
 
 /// Feeds a piece, and then what is left of it, until nothing is. Adds the results to `all`.
@@ -66,44 +67,48 @@ fn is_fed<const N: usize>(
 
 /// Pieces for an accumulator of four bytes, each beside the results.
 const FOUR: [(&[&[u8]], &[Fed]); 11] = [
-    (&[&[]], &[Fed::Consumed]),
-    (&[&[0]], &[Fed::DeserError(0)]),
-    (&[&[2, 7, 0, 9, 9]], &[Fed::Success(7, 2), Fed::Consumed]),
+    (&[&[]], &[CONSUMED]),
+    (&[&[0]], &[("no value", None, 0)]),
+    (&[&[2, 7, 0, 9, 9]], &[("value", Some(7), 2), CONSUMED]),
     (
         &[&[2], &[7], &[0]],
-        &[Fed::Consumed, Fed::Consumed, Fed::Success(7, 0)],
+        &[CONSUMED, CONSUMED, ("value", Some(7), 0)],
     ),
-    (&[&[5, 1, 1, 1], &[0]], &[Fed::Consumed, Fed::OverFull(0)]),
+    (&[&[5, 1, 1, 1], &[0]], &[CONSUMED, ("over full", None, 0)]),
     (
         &[&[5, 1, 1, 1], &[1], &[0, 2, 7, 0]],
-        &[Fed::Consumed, Fed::OverFull(0), Fed::Success(7, 0)],
+        &[CONSUMED, ("over full", None, 0), ("value", Some(7), 0)],
     ),
     (
         &[&[9, 9, 9, 9, 2], &[7, 0], &[2, 7, 0]],
-        &[Fed::OverFull(0), Fed::Consumed, Fed::Success(7, 0)],
+        &[("over full", None, 0), CONSUMED, ("value", Some(7), 0)],
     ),
     (
         &[&[5, 1, 1, 1, 1, 0, 2, 7, 0]],
-        &[Fed::OverFull(3), Fed::Success(7, 0)],
+        &[("over full", None, 3), ("value", Some(7), 0)],
     ),
     // A code byte that runs past its frame, and the frame after it.
     (
         &[&[3, 7, 0, 2, 7, 0]],
-        &[Fed::DeserError(3), Fed::Success(7, 0)],
+        &[("no value", None, 3), ("value", Some(7), 0)],
     ),
     // A frame without data has no value.
-    (&[&[1, 0]], &[Fed::DeserError(0)]),
+    (&[&[1, 0]], &[("no value", None, 0)]),
     // Bytes after the value are ignored.
-    (&[&[3, 7, 8, 0]], &[Fed::Success(7, 0)]),
+    (&[&[3, 7, 8, 0]], &[("value", Some(7), 0)]),
 ];
 
 /// Pieces for an accumulator of no bytes, each beside the results.
 const NONE: [(&[&[u8]], &[Fed]); 3] = [
-    (&[&[1], &[0]], &[Fed::OverFull(0), Fed::Consumed]),
-    (&[&[0]], &[Fed::OverFull(0)]),
+    (&[&[1], &[0]], &[("over full", None, 0), CONSUMED]),
+    (&[&[0]], &[("over full", None, 0)]),
     (
         &[&[1, 0, 0, 1]],
-        &[Fed::OverFull(2), Fed::OverFull(1), Fed::OverFull(0)],
+        &[
+            ("over full", None, 2),
+            ("over full", None, 1),
+            ("over full", None, 0),
+        ],
     ),
 ];
 
@@ -137,16 +142,31 @@ fn fed_in_pieces(rt: &(impl Abort + AllocGlobal), stream: &[u8], cuts: u32) -> V
     all
 }
 
+/// Returns the kinds and the values of the results, without those that consumed a whole piece.
+fn answers(rt: &(impl Abort + AllocGlobal), all: &[Fed]) -> Vec<(&'static str, Option<u8>)> {
+    let mut answers = Vec::new(rt.alloc());
+    for (kind, value, _) in all {
+        if *kind != "consumed" {
+            answers.push((*kind, *value)).expect(rt, "there is memory");
+        }
+    }
+    answers
+}
+
+/// Asserts that a stream of an oversized frame and one that has room has an answer to each if it is
+/// cut as the bits say, and that no bytes are left after the last.
+fn is_cut(rt: &(impl Abort + AllocGlobal), cuts: u32) {
+    let all = fed_in_pieces(rt, &[5, 1, 1, 1, 1, 0, 2, 7, 0], cuts);
+    let expected = [("over full", None), ("value", Some(7))];
+    same_at(rt, answers(rt, &all).as_slice(), expected.as_slice(), cuts);
+    same_at(rt, all.last(), Some(&("value", Some(7), 0)), cuts);
+}
+
 /// A stream of an oversized frame and one that has room has the same answers, however it is cut.
 #[test]
 fn cut_in_each_way(rt: HostRuntime) {
     for cuts in 256..512 {
-        let all = fed_in_pieces(&rt, &[5, 1, 1, 1, 1, 0, 2, 7, 0], cuts);
-        let mut answers = all.iter().filter(|fed| **fed != Fed::Consumed);
-        let first = answers.next();
-        assert!(rt; matches!(first, Some(Fed::OverFull(_))), "{cuts:b}");
-        same_at(&rt, answers.next(), Some(&Fed::Success(7, 0)), cuts);
-        same_at(&rt, answers.next(), None, cuts);
+        is_cut(&rt, cuts);
     }
 }
 
@@ -158,16 +178,13 @@ fn exact_room(rt: HostRuntime) {
         0x0B, 0xCC, 0xCC, 0xCC, 0xCC, 0xCC, 0xCC, 0xCC, 0xCC, 0xCC, 0xCC, 0,
     ];
     let mut short = CobsAccumulator::<11>::new();
-    let result = short.feed::<[u8; 10]>(rt.alloc(), &frame);
-    assert!(rt; matches!(result, FeedResult::OverFull(&[])));
-    assert!(rt; !short.skipping());
+    let (kind, value, rest) = parts(short.feed::<[u8; 10]>(rt.alloc(), &frame));
+    same(&rt, (kind, value, rest.len()), ("over full", None, 0));
+    same(&rt, short.skipping(), false);
     let mut long = CobsAccumulator::<12>::new();
-    match long.feed::<[u8; 10]>(rt.alloc(), &frame) {
-        FeedResult::Success { value, remaining } => {
-            same(&rt, (value, remaining.len()), ([0xCC; 10], 0));
-        }
-        _ => panic!(rt; "the frame has room"),
-    }
+    let (kind, value, rest) = parts(long.feed::<[u8; 10]>(rt.alloc(), &frame));
+    let expected = ("value", Some([0xCC; 10]), 0);
+    same(&rt, (kind, value, rest.len()), expected);
 }
 
 /// A value may borrow from the accumulator, which can be used again once the value is dropped.
@@ -179,15 +196,10 @@ fn lent_texts(rt: HostRuntime) {
         0x00,
     ];
     let mut acc = CobsAccumulator::<64>::new();
-    let mut window = stream.as_slice();
-    for expected in [(10, 20, "test"), (256_854_231, 115, "different test")] {
-        match acc.feed_ref::<(u32, u8, &str)>(rt.alloc(), window) {
-            FeedResult::Success { value, remaining } => {
-                same(&rt, value, expected);
-                window = remaining;
-            }
-            _ => panic!(rt; "each frame has a value"),
-        }
-    }
-    assert!(rt; window.is_empty());
+    let (_, value, rest) = parts(acc.feed_ref::<(u32, u8, &str)>(rt.alloc(), &stream));
+    same(&rt, value, Some((10, 20, "test")));
+    let (_, value, rest) = parts(acc.feed_ref::<(u32, u8, &str)>(rt.alloc(), rest));
+    let expected = Some((256_854_231, 115, "different test"));
+    same(&rt, value, expected);
+    same(&rt, rest.is_empty(), true);
 }

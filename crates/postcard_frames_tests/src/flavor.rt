@@ -47,15 +47,23 @@ fn fills_a_slice(rt: &impl Abort, data: &[u8], frame: &[u8]) {
     same(rt, buffer.get(frame.len()), Some(&OLD));
 }
 
+/// Asserts that the data has this frame in each storage.
+fn fills(rt: &(impl Abort + AllocGlobal), data: &[u8], frame: &[u8]) {
+    fills_vectors(rt, data, frame);
+    fills_a_slice(rt, data, frame);
+}
+
 #[test]
 fn each_storage_gets_the_frame(rt: HostRuntime) {
     for (data, frame) in &FRAMES {
-        fills_vectors(&rt, data, frame);
-        fills_a_slice(&rt, data, frame);
+        fills(&rt, data, frame);
     }
+}
+
+#[test]
+fn each_storage_gets_a_long_frame(rt: HostRuntime) {
     for (data, frame) in &LONG {
-        fills_vectors(&rt, &joined(&rt, data), &joined(&rt, frame));
-        fills_a_slice(&rt, &joined(&rt, data), &joined(&rt, frame));
+        fills(&rt, &joined(&rt, data), &joined(&rt, frame));
     }
 }
 
@@ -82,20 +90,20 @@ fn fits(rt: &impl Abort, data: &[u8], place: &mut [u8], has_room: bool) {
     }
 }
 
+/// Asserts that a slice of `need` bytes has room for a frame of the data, and no shorter one has.
+fn needs(rt: &(impl Abort + AllocGlobal), data: &[u8], need: usize) {
+    for room in 0..=need {
+        let mut place = joined(rt, &[&[OLD; 7]]);
+        place.truncate(room);
+        fits(rt, data, &mut place, room == need);
+    }
+}
+
 #[test]
 fn short_of_room(rt: HostRuntime) {
-    let counted = [0x04, 0x01, 0x00, 0x20, 0x30];
-    for (data, need) in [
-        (counted.as_slice(), 7),
-        ([0x00].as_slice(), 3),
-        ([].as_slice(), 2),
-    ] {
-        for room in 0..=need {
-            let mut place = joined(&rt, &[&[OLD; 7]]);
-            place.truncate(room);
-            fits(&rt, data, &mut place, room == need);
-        }
-    }
+    needs(&rt, &[0x04, 0x01, 0x00, 0x20, 0x30], 7);
+    needs(&rt, &[0x00], 3);
+    needs(&rt, &[], 2);
 }
 
 /// Writes a frame of the data after the bytes that the vector holds, and asserts that the vector
@@ -129,6 +137,10 @@ fn a_frame_goes_after_held_bytes(rt: HostRuntime) {
     for (held, data, after) in &AFTER {
         goes_after(&rt, joined(&rt, &[held]), data, after);
     }
+}
+
+#[test]
+fn a_frame_goes_after_a_frame(rt: HostRuntime) {
     let first = framed(AllocVec::new(rt.alloc()), &[0x01], 1).expect(&rt, "a vector grows");
     goes_after(
         &rt,
@@ -146,7 +158,12 @@ fn a_frame_goes_after_a_byte_of_a_slice(rt: HostRuntime) {
     let front: &[u8] = framed(slice, &[0x01, 0x31], 2).expect(&rt, "the frame has room");
     same(&rt, front, [0x09, 0x03, 0x01, 0x31, 0x00].as_slice());
     same(&rt, buffer, [0x09, 0x03, 0x01, 0x31, 0x00, OLD, OLD, OLD]);
-    let mut short = Slice::new(&mut buffer[..4]);
+}
+
+#[test]
+fn a_frame_has_no_room_after_a_byte_of_a_slice(rt: HostRuntime) {
+    let mut buffer = [OLD; 4];
+    let mut short = Slice::new(&mut buffer);
     same(&rt, short.try_push(0x09), Ok(()));
     let full = framed(short, &[0x01, 0x31], 2).err();
     same(&rt, full, Some(Error::SerializeBufferFull));
@@ -178,6 +195,10 @@ fn the_storage_comes_back(rt: HostRuntime) {
         place.truncate(room);
         comes_back(&rt, &mut place);
     }
+}
+
+#[test]
+fn a_vector_comes_back(rt: HostRuntime) {
     let mut cobs = Cobs::open(AllocVec::from_vec(joined(&rt, &[&[0x09]])));
     same(&rt, cobs.try_push(0x31), Ok(()));
     let held = cobs

@@ -4,13 +4,12 @@ use crate::coding::comes_back;
 use crate::flavor::pieces_make_the_same_frame;
 use crate::reading::list_comes_back;
 
-/// Returns 600 bytes: zeros at the places that leave `rest` when divided by `step`, and 11
-/// elsewhere.
-fn long_data(step: usize, rest: usize) -> [u8; 600] {
+/// Returns 600 bytes: zeros at the places that leave `rest` when divided by 10, and 11 elsewhere.
+fn some_zeros(rest: usize) -> [u8; 600] {
     let mut data = [0x11; 600];
-    for (place, byte) in data.iter_mut().enumerate() {
-        if place.checked_rem(step) == Some(rest) {
-            *byte = 0;
+    for place in 0..600 {
+        if place % 10 == rest {
+            data[place] = 0;
         }
     }
     data
@@ -18,33 +17,37 @@ fn long_data(step: usize, rest: usize) -> [u8; 600] {
 
 #[test]
 fn made_frames_come_back(rt: HostRuntime) {
-    // Each row is data, and whether a frame has a byte more for each full group.
-    for (data, has_full_groups) in [
-        (long_data(1, 0), false),
-        (long_data(10, 9), false),
-        ([0x11; 600], true),
-    ] {
-        for len in 0..=600 {
-            let more = if has_full_groups { 2 + len / 254 } else { 2 };
-            comes_back(&rt, &data[..len], more);
-        }
+    let zeros = [0; 600];
+    let some = some_zeros(9);
+    let full = [0x11; 600];
+    for len in 0..=600 {
+        comes_back(&rt, &zeros[..len], 2);
+        comes_back(&rt, &some[..len], 2);
+        // A frame has a byte more for each full group.
+        comes_back(&rt, &full[..len], 2 + len / 254);
     }
 }
 
 #[test]
 fn pieces_of_any_length_make_the_same_frame(rt: HostRuntime) {
-    for data in [[0x11; 600], long_data(10, 0), long_data(1, 0)] {
-        for len in 0..=600 {
-            pieces_make_the_same_frame(&rt, &data[..len]);
-        }
+    let full = [0x11; 600];
+    let some = some_zeros(0);
+    let zeros = [0; 600];
+    for len in 0..=600 {
+        pieces_make_the_same_frame(&rt, &full[..len]);
+        pieces_make_the_same_frame(&rt, &some[..len]);
+        pieces_make_the_same_frame(&rt, &zeros[..len]);
     }
 }
 
 #[test]
 fn lists_come_back(rt: HostRuntime) {
-    for data in [long_data(1, 0), long_data(10, 9), [0x11; 600]] {
-        for len in 0..=600 {
-            list_comes_back(&rt, &data[..len]);
-        }
+    let zeros = [0; 600];
+    let some = some_zeros(9);
+    let full = [0x11; 600];
+    for len in 0..=600 {
+        list_comes_back(&rt, &zeros[..len]);
+        list_comes_back(&rt, &some[..len]);
+        list_comes_back(&rt, &full[..len]);
     }
 }

@@ -1,9 +1,9 @@
 //! Tests of reading values from frames: frames worked out by hand, and damaged frames.
 
-use crate::rows::{FULL, first_zero, joined};
+use crate::rows::{FULL, first_zero, joined, set};
 use crate::same::{same, same_at};
 use postcard::{
-    DeserializeOwned, Error, Owned, Result, Serialize, from_bytes_cobs, take_from_bytes_cobs,
+    DeserializeOwned, Error, Owned, Serialize, from_bytes_cobs, take_from_bytes_cobs,
     to_allocvec_cobs, to_slice_cobs,
 };
 use postcard_vectors::types::RefStruct;
@@ -21,47 +21,54 @@ const BYTES: [(&[u8], &[u8]); 4] = [
 /// Bytes that aren't a frame.
 const NO_FRAMES: [&[u8]; 3] = [&[], &[0x00], &[0x05, 0x01, 0x00]];
 
-/// Reads a byte from the frame at the front of these bytes. Asserts that these bytes are left.
-fn front_of(rt: &(impl Abort + AllocGlobal), bytes: &[u8], left: &[u8]) -> Result<u8> {
+/// Asserts that the byte 7 is read from the frame at the front of these bytes, which leaves these.
+fn is_read(rt: &(impl Abort + AllocGlobal), bytes: &[u8], left: &[u8]) {
     let mut buffer = joined(rt, &[bytes]);
-    let (value, rest) = take_from_bytes_cobs::<u8>(rt.alloc(), &mut buffer)?;
-    same_at(rt, &*rest, left, bytes);
-    Ok(value)
+    let front = take_from_bytes_cobs::<u8>(rt.alloc(), &mut buffer);
+    let (value, rest) = front.expect(rt, "the frame has a byte");
+    same_at(rt, (value, &*rest), (7, left), bytes);
+    let mut buffer = joined(rt, &[bytes]);
+    let value = from_bytes_cobs::<u8>(rt.alloc(), &mut buffer);
+    same_at(rt, value, Ok(7), bytes);
 }
 
-/// Asserts that reading a byte from the frame at the front of these bytes has this result, and
-/// leaves these bytes if it succeeds.
-fn is_read(rt: &(impl Abort + AllocGlobal), bytes: &[u8], left: &[u8], expected: &Result<u8>) {
-    same_at(rt, &front_of(rt, bytes, left), expected, bytes);
+/// Asserts that these bytes aren't a frame.
+fn is_refused(rt: &(impl Abort + AllocGlobal), bytes: &[u8]) {
     let mut buffer = joined(rt, &[bytes]);
-    same_at(
-        rt,
-        &from_bytes_cobs(rt.alloc(), &mut buffer),
-        expected,
-        bytes,
-    );
+    let front = take_from_bytes_cobs::<u8>(rt.alloc(), &mut buffer).err();
+    same_at(rt, front, Some(Error::DeserializeBadEncoding), bytes);
+    let mut buffer = joined(rt, &[bytes]);
+    let value = from_bytes_cobs::<u8>(rt.alloc(), &mut buffer);
+    same_at(rt, value, Err(Error::DeserializeBadEncoding), bytes);
 }
 
 #[test]
 fn frames_of_a_byte(rt: HostRuntime) {
     for (bytes, left) in &BYTES {
-        is_read(&rt, bytes, left, &Ok(7));
-    }
-    for bytes in &NO_FRAMES {
-        is_read(&rt, bytes, &[], &Err(Error::DeserializeBadEncoding));
+        is_read(&rt, bytes, left);
     }
 }
 
 #[test]
-fn zeros_inside_and_after(rt: HostRuntime) {
-    let rows: [&[u8]; 2] = [&[0x02, 0x08, 0x02, 0x04], &[0x02, 0x08, 0x02, 0x04, 0x00]];
-    for frame in rows {
-        let mut buffer = joined(&rt, &[frame]);
-        match take_from_bytes_cobs::<(i32, u8, u64)>(rt.alloc(), &mut buffer) {
-            Ok((value, rest)) => same(&rt, (value, rest.len()), ((4, 0, 4), 0)),
-            Err(e) => panic!(rt; "{e:?}"),
-        }
+fn no_frames_of_a_byte(rt: HostRuntime) {
+    for bytes in &NO_FRAMES {
+        is_refused(&rt, bytes);
     }
+}
+
+/// Asserts that three numbers are read from this frame, one of them zero, and that no bytes are
+/// left.
+fn numbers_are_read(rt: &(impl Abort + AllocGlobal), frame: &[u8]) {
+    let mut buffer = joined(rt, &[frame]);
+    let front = take_from_bytes_cobs::<(i32, u8, u64)>(rt.alloc(), &mut buffer);
+    let (value, rest) = front.expect(rt, "the frame has three numbers");
+    same(rt, (value, rest.len()), ((4, 0, 4), 0));
+}
+
+#[test]
+fn zeros_inside_and_after(rt: HostRuntime) {
+    numbers_are_read(&rt, &[0x02, 0x08, 0x02, 0x04]);
+    numbers_are_read(&rt, &[0x02, 0x08, 0x02, 0x04, 0x00]);
     let refused = from_bytes_cobs::<bool>(rt.alloc(), &mut [0x02, 0x05, 0x00]);
     same(&rt, refused, Err(Error::DeserializeBadBool));
 }
@@ -82,6 +89,10 @@ fn lent_parts_of_frames(rt: HostRuntime) {
     is_lent(&rt, &mut without_zero[..12]);
     let mut with_zero = frame;
     is_lent(&rt, &mut with_zero);
+}
+
+#[test]
+fn lent_texts_of_two_frames(rt: HostRuntime) {
     let mut buffer = [0x03, 0x01, 0x61, 0x00, 0x03, 0x01, 0x62, 0x00];
     let front = take_from_bytes_cobs::<&str>(rt.alloc(), &mut buffer);
     let (first, rest) = front.expect(&rt, "the first frame has a text");
@@ -90,14 +101,19 @@ fn lent_parts_of_frames(rt: HostRuntime) {
     same(&rt, (first, second, rest.len()), ("a", "b", 0));
 }
 
+/// Asserts that a full group is read with these bytes after it.
+fn full_is_read(rt: &(impl Abort + AllocGlobal), end: &[u8]) {
+    let mut frame = joined(rt, &[&[0xFF], &FULL, end]);
+    let value = from_bytes_cobs::<[u8; 254]>(rt.alloc(), &mut frame);
+    same_at(rt, value, Ok(FULL), end);
+}
+
 #[test]
 fn a_full_group_is_read(rt: HostRuntime) {
-    let ends: [&[u8]; 4] = [&[], &[0x00], &[0x01], &[0x01, 0x00]];
-    for end in ends {
-        let mut frame = joined(&rt, &[&[0xFF], &FULL, end]);
-        let value = from_bytes_cobs::<[u8; 254]>(rt.alloc(), &mut frame);
-        same_at(&rt, value, Ok(FULL), end);
-    }
+    full_is_read(&rt, &[]);
+    full_is_read(&rt, &[0x00]);
+    full_is_read(&rt, &[0x01]);
+    full_is_read(&rt, &[0x01, 0x00]);
 }
 
 /// Asserts that the value is written as a frame into a buffer, and is read back from it.
@@ -107,10 +123,9 @@ fn comes_back<T: Serialize + DeserializeOwned + PartialEq>(
 ) {
     let mut buffer = [0xAA; 32];
     let frame = to_slice_cobs(value, &mut buffer).expect(rt, "the frame has room");
-    match from_bytes_cobs::<Owned<T>>(rt.alloc(), frame) {
-        Ok(Owned(back)) => assert!(rt; back == *value),
-        Err(e) => panic!(rt; "{e:?}"),
-    }
+    let read = from_bytes_cobs::<Owned<T>>(rt.alloc(), frame);
+    let Owned(back) = read.expect(rt, "the frame has a value");
+    same(rt, back == *value, true);
 }
 
 #[test]
@@ -165,9 +180,8 @@ const FRAMES: [&[u8]; 20] = [
 /// from the first zero on is then as it was.
 fn survives<T: DeserializeOwned>(rt: &(impl Abort + AllocGlobal), before: &[u8]) {
     let mut after = joined(rt, &[before]);
-    if let Err(e) = from_bytes_cobs::<Owned<T>>(rt.alloc(), &mut after) {
-        same_at(rt, e == Error::OutOfMemory, false, before);
-    }
+    let error = from_bytes_cobs::<Owned<T>>(rt.alloc(), &mut after).err();
+    same_at(rt, error == Some(Error::OutOfMemory), false, before);
     let end = first_zero(before);
     same_at(rt, after.get(end..), before.get(end..), before);
 }
@@ -177,9 +191,7 @@ fn survives<T: DeserializeOwned>(rt: &(impl Abort + AllocGlobal), before: &[u8])
 fn place_survives(rt: &(impl Abort + AllocGlobal), frame: &[u8], place: usize) {
     for byte in 0..=255 {
         let mut changed = joined(rt, &[frame, &[0x77; 4]]);
-        if let Some(old) = changed.get_mut(place) {
-            *old = byte;
-        }
+        set(&mut changed, place, byte);
         survives::<u32>(rt, &changed);
         survives::<(u8, Option<u16>)>(rt, &changed);
     }

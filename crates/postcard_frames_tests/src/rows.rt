@@ -57,10 +57,17 @@ pub fn joined(rt: &(impl Abort + AllocGlobal), pieces: &[&[u8]]) -> Vec<u8> {
 
 /// Returns the place of the first zero, or the number of bytes if none is zero.
 pub fn first_zero(bytes: &[u8]) -> usize {
-    for (place, byte) in bytes.iter().enumerate() {
-        if *byte == 0 {
+    for place in 0..bytes.len() {
+        if bytes[place] == 0 {
             return place;
         }
     }
     bytes.len()
+}
+
+/// Sets the byte at a place, or does nothing if there are fewer bytes.
+pub fn set(bytes: &mut [u8], place: usize, byte: u8) {
+    if let Some(old) = bytes.get_mut(place) {
+        *old = byte;
+    }
 }

@@ -1,14 +1,15 @@
 //! Tests of the answers of `read_frames` to whole streams.
 
+ghost use Rattle.std.specs.Prelude.{◌<◌, ◌≤◌};
+
 use crate::rows::joined;
 use crate::same::{same, same_at};
 use postcard_accumulator::{Answer, CobsAccumulator, ReadEnd, read_frames};
 use postcard_de::DeserializeOwned;
 use postcard_de_flavors::{Plain, Source};
+use postcard_vectors::devices::readers::FailingReader;
 use std::alloc::AllocGlobal;
 use std::fmt::Debug;
-use std::io;
-use std::io::{ErrorKind, Read};
 use std::process::Abort;
 
 /// A stream of two frames, of which the first has no room in four bytes and the second has.
@@ -19,21 +20,18 @@ const BOTH: [Answer<u8>; 2] = [Answer::OverFull, Answer::Success(7)];
 
 /// Reads a stream by at most `reads` reads, with a chunk of `size` bytes.
 fn read<R: Source, T: DeserializeOwned, const N: usize>(
-    rt: &(impl Abort + AllocGlobal),
+    rt: &impl AllocGlobal,
     reader: &mut R,
     size: usize,
     reads: usize,
     acc: &mut CobsAccumulator<N>,
     out: &mut Vec<Answer<T>>,
-) -> ReadEnd {
-    let mut room = [0; 32];
-    let Some(chunk) = room.get_mut(..size) else {
-        panic!(rt; "the test's chunk is too short");
-    };
-    if chunk.is_empty() {
-        panic!(rt; "the test's chunk is empty");
-    }
-    read_frames(rt.alloc(), reader, chunk, reads, acc, out)
+) -> ReadEnd
+    requires not_empty { 0 < size }
+    requires fits { size ≤ 32 }
+{
+    let mut chunk = [0; 32];
+    read_frames(rt.alloc(), reader, &mut chunk[..size], reads, acc, out)
 }
 
 /// Asserts that the stream has these answers, and this end, with a chunk of `size` bytes and at most
@@ -44,7 +42,10 @@ fn is_answered(
     reads: usize,
     expected: &[Answer<u8>],
     end: ReadEnd,
-) {
+)
+    requires not_empty { 0 < size }
+    requires fits { size ≤ 32 }
+{
     let mut acc = CobsAccumulator::<4>::new();
     let mut out = Vec::new(rt.alloc());
     let ended = read(rt, &mut STREAM.as_slice(), size, reads, &mut acc, &mut out);
@@ -69,7 +70,7 @@ fn check<T: DeserializeOwned + PartialEq + Debug, const N: usize>(
     stream: &[u8],
     expected: &[Answer<T>],
 ) {
-    for size in 1..=32 {
+    for size in 1..33 {
         let mut out = Vec::new(rt.alloc());
         let end = read(rt, &mut &*stream, size, 1000, acc, &mut out);
         same_at(rt, (out.as_slice(), end), (expected, ReadEnd::End), size);
@@ -81,13 +82,17 @@ fn check<T: DeserializeOwned + PartialEq + Debug, const N: usize>(
 fn whole_streams(rt: HostRuntime) {
     let mut none = CobsAccumulator::<0>::new();
     let mut four = CobsAccumulator::<4>::new();
-    let mut many = CobsAccumulator::<64>::new();
     let over = [Answer::<u8>::OverFull, Answer::OverFull];
     check(&rt, &mut four, &[9; 8], &over[..1]);
     check(&rt, &mut four, &[9; 9], &over[..1]);
     check(&rt, &mut none, &[2, 7, 0, 0], &over);
     let truths = [Answer::Success(true), Answer::Success(false)];
     check(&rt, &mut four, &[2, 1, 0, 1, 1, 0], &truths);
+}
+
+#[test]
+fn streams_of_pairs(rt: HostRuntime) {
+    let mut many = CobsAccumulator::<64>::new();
     let pairs = [
         Answer::Success((10u32, 20u8)),
         Answer::Success((256_854_231, 115)),
@@ -133,37 +138,14 @@ fn a_long_record(rt: HostRuntime) {
     );
 }
 
-/// A reader of which one read fails, after `reads` reads.
-#[derive(Drop)]
-struct FailsOnce<'a> {
-    bytes: &'a [u8],
-    reads: Option<usize>,
-}
-
-impl Read for FailsOnce<'_> {
-    ghost use Rattle.std.specs.Prelude.{None};
-
-    ghost remaining = { λ _. None };
-
-    fn read(&mut self, buf: &mut [u8]) -> io::Result<usize> {
-        match self.reads {
-            Some(0) => {
-                self.reads = None;
-                return Err(ErrorKind::BrokenPipe.into());
-            }
-            Some(reads) => self.reads = Some(reads - 1),
-            None => {}
-        }
-        self.bytes.read(buf)
-    }
-}
-
 /// Reads the stream by single bytes from a reader of which one read fails. Asserts that `out` then
 /// has the first `count` answers, and that the next call goes on.
 fn goes_on(rt: &(impl Abort + AllocGlobal), fails_at: usize, count: usize) {
-    let mut reader = Plain::new(FailsOnce {
-        bytes: &STREAM,
-        reads: Some(fails_at),
+    let bytes: &[u8] = &STREAM;
+    let mut reader = Plain::new(FailingReader {
+        inner: bytes,
+        reads: 0,
+        fails_at,
     });
     let mut acc = CobsAccumulator::<4>::new();
     let mut out = Vec::new(rt.alloc());
@@ -175,10 +157,13 @@ fn goes_on(rt: &(impl Abort + AllocGlobal), fails_at: usize, count: usize) {
     same_at(rt, out.as_slice(), BOTH.as_slice(), fails_at);
 }
 
+/// The number of answers before the read that fails, for each of the reads by single bytes.
+const COUNTS: [usize; 10] = [0, 0, 0, 0, 0, 1, 1, 1, 1, 2];
+
 #[test]
 fn failing_reads(rt: HostRuntime) {
-    for (fails_at, count) in [0, 0, 0, 0, 0, 1, 1, 1, 1, 2].into_iter().enumerate() {
-        goes_on(&rt, fails_at, count);
+    for fails_at in 0..10 {
+        goes_on(&rt, fails_at, COUNTS[fails_at]);
     }
 }
 
@@ -197,24 +182,43 @@ fn read_on<T: DeserializeOwned, const N: usize>(
         same(rt, first, ReadEnd::End);
         return false;
     };
-    let Some(mut unfed) = chunk.get(from..to) else {
-        panic!(rt; "bytes that weren't fed lie outside the chunk");
-    };
+    let unfed = chunk.get(from..to);
+    let mut unfed = unfed.expect(rt, "the bytes that weren't fed lie in the chunk");
     let ended = read_frames(rt.alloc(), &mut unfed, &mut [0; 32], 5, acc, out);
     same(rt, ended, ReadEnd::End);
     true
 }
 
-/// No answer is lost, whichever allocation fails. A test in which one fails prints a line, which
-/// `rt try --test --fail-alloc N` shows.
+/// Prints a line if an allocation failed, which `rt try --test --fail-alloc N` shows.
+fn tell(rt: &(impl Abort + Print), refused: bool) {
+    if refused {
+        println!(rt; "refused").expect(rt, "a line is printed");
+    }
+}
+
+/// No answer is lost, whichever allocation fails.
 #[test]
 fn refused_answers(rt: HostRuntime) {
     let mut acc = CobsAccumulator::<4>::new();
     let mut out = Vec::new(rt.alloc());
-    if read_on(&rt, &STREAM, &mut acc, &mut out) {
-        println!(rt; "refused").expect(&rt, "a line is printed");
-    }
+    let refused = read_on(&rt, &STREAM, &mut acc, &mut out);
+    tell(&rt, refused);
     same(&rt, out.as_slice(), BOTH.as_slice());
+}
+
+/// Asserts that the answer is this list. It is `DeserError` if the allocation for the list failed,
+/// unless one was `refused` before. Returns whether one was refused by now.
+fn is_list(rt: &impl Abort, answer: Option<&Answer<Vec<u8>>>, list: &[u8], refused: bool) -> bool {
+    match answer {
+        Some(Answer::Success(read)) => {
+            same(rt, read.as_slice(), list);
+            refused
+        }
+        other => {
+            same(rt, (other, refused), (Some(&Answer::DeserError), false));
+            true
+        }
+    }
 }
 
 /// If an allocation for a list fails, its frame is answered `DeserError`, and no other answer
@@ -223,18 +227,9 @@ fn refused_answers(rt: HostRuntime) {
 fn refused_lists(rt: HostRuntime) {
     let mut acc = CobsAccumulator::<8>::new();
     let mut out = Vec::<Answer<Vec<u8>>>::new(rt.alloc());
-    let mut refused = read_on(&rt, &[4, 2, 9, 8, 0, 3, 1, 7, 0], &mut acc, &mut out);
+    let refused = read_on(&rt, &[4, 2, 9, 8, 0, 3, 1, 7, 0], &mut acc, &mut out);
     same(&rt, out.len(), 2);
-    for (answer, list) in out.iter().zip([[9, 8].as_slice(), [7].as_slice()]) {
-        match answer {
-            Answer::Success(read) => same(&rt, read.as_slice(), list),
-            other => {
-                same(&rt, (other, refused), (&Answer::DeserError, false));
-                refused = true;
-            }
-        }
-    }
-    if refused {
-        println!(rt; "refused").expect(&rt, "a line is printed");
-    }
+    let refused = is_list(&rt, out.first(), &[9, 8], refused);
+    let refused = is_list(&rt, out.get(1), &[7], refused);
+    tell(&rt, refused);
 }

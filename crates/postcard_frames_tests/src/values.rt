@@ -23,7 +23,7 @@ fn is_written(
     let len = frame.len();
     if len <= room {
         same(rt, outcome, Ok(len));
-        assert!(rt; buffer.starts_with(frame));
+        same(rt, buffer.get(..len), Some(frame));
     } else {
         same(rt, outcome, Err(Error::SerializeBufferFull));
     }
@@ -31,18 +31,23 @@ fn is_written(
     same(rt, buffer.get(end..), [OLD; 16].get(end..));
 }
 
+/// Asserts that this was written, if it was with success, and returns its length.
+fn written_len(rt: &impl Abort, written: Result<&mut [u8]>, frame: &[u8]) -> Result<usize> {
+    match written {
+        Ok(front) => {
+            same(rt, &*front, frame);
+            Ok(front.len())
+        }
+        Err(e) => Err(e),
+    }
+}
+
 /// Asserts that the value has this frame in each buffer that is as long or longer, whose other
 /// bytes stay as they were. In a shorter buffer, writing it fails.
 fn is_framed_in_slices<T: Serialize>(rt: &impl Abort, value: &T, frame: &[u8]) {
     for room in 0..=16 {
         let mut buffer = [OLD; 16];
-        let written = match to_slice_cobs(value, &mut buffer[..room]) {
-            Ok(front) => {
-                same(rt, &*front, frame);
-                Ok(front.len())
-            }
-            Err(e) => Err(e),
-        };
+        let written = written_len(rt, to_slice_cobs(value, &mut buffer[..room]), frame);
         is_written(rt, &buffer, room, written, frame);
         let mut buffer = [OLD; 16];
         let written = fill_slice_cobs(value, &mut buffer[..room]);
@@ -108,15 +113,17 @@ fn goes_after<T: Serialize>(
     vec
 }
 
+/// Asserts that the value's frame consists of these pieces.
+fn has_pieces<T: Serialize>(rt: &(impl Abort + AllocGlobal), value: &T, pieces: &[&[u8]]) {
+    let frame = to_allocvec_cobs(rt.alloc(), value).expect(rt, "a vector grows");
+    same(rt, frame, joined(rt, pieces));
+}
+
 #[test]
 fn frames_with_full_groups(rt: HostRuntime) {
-    let [(_, least), (_, full), (_, more), ..] = LONG;
-    let frame = to_allocvec_cobs(rt.alloc(), &FULL_LESS_ONE).expect(&rt, "a vector grows");
-    same(&rt, frame, joined(&rt, least));
-    let frame = to_allocvec_cobs(rt.alloc(), &FULL).expect(&rt, "a vector grows");
-    same(&rt, frame, joined(&rt, full));
-    let frame = to_allocvec_cobs(rt.alloc(), &[0x11u8; 255]).expect(&rt, "a vector grows");
-    same(&rt, frame, joined(&rt, more));
+    has_pieces(&rt, &FULL_LESS_ONE, LONG[0].1);
+    has_pieces(&rt, &FULL, LONG[1].1);
+    has_pieces(&rt, &[0x11u8; 255], LONG[2].1);
 }
 
 #[test]
