@@ -1,7 +1,7 @@
 //! Tests of a user's values, written to a writer and read back from a reader.
 
 use crate::asserts::{assert_read, assert_refused, same, same_bytes};
-use crate::writers::assert_sent;
+use crate::writers::sent;
 use postcard_vectors::devices::readers::Pieces;
 use postcard_vectors::types::{BasicU8S, DataEnum, RefStruct};
 
@@ -10,7 +10,8 @@ fn an_enum(rt: HostRuntime) {
     let mut scratch = [0; 2048];
     let bytes = [0x05, 0xE9, 0xD2, 0x01, 0x07];
     let choice = DataEnum::Sho(0x6969, 0x07);
-    assert_sent::<_, 5>(&rt, &choice, &bytes);
+    let writer = sent::<_, 5>(&choice).expect(&rt, "the value has room");
+    same_bytes(&rt, writer.held.as_slice(), &bytes);
     let (value, _) = assert_read::<DataEnum, _>(&rt, (bytes.as_slice(), &mut scratch));
     same(&rt, value, choice);
 }
@@ -28,7 +29,8 @@ fn a_struct(rt: HostRuntime) {
         sf: 0x12344321ABCDDCBA,
         tt: 0xACACACAC,
     };
-    assert_sent::<_, 18>(&rt, &record, &bytes);
+    let writer = sent::<_, 18>(&record).expect(&rt, "the value has room");
+    same_bytes(&rt, writer.held.as_slice(), &bytes);
     let (value, _) = assert_read::<BasicU8S, _>(&rt, (bytes.as_slice(), &mut scratch));
     same(&rt, value, record);
 }

@@ -9,21 +9,16 @@ use postcard_vectors::devices::writers::{Bounded, FailingWriter};
 use std::process::Abort;
 
 /// Writes a value to a writer, and returns the writer. The contract says which bytes it then holds.
-fn sent<T: Serialize, const N: usize>(value: &T) -> postcard::Result<Bounded<N>>
+pub fn sent<T: Serialize, const N: usize>(value: &T) -> postcard::Result<Bounded<N>>
     ensures { IfOk result (λ writer. writer.held.items ≡ canonical (T.shape.tree value.now)) }
 {
     to_io(value, Bounded::new())
 }
 
-/// Asserts that a writer with room for `N` bytes holds just these bytes once the value is written.
-pub fn assert_sent<T: Serialize, const N: usize>(rt: &impl Abort, value: &T, want: &[u8]) {
-    let writer = sent::<T, N>(value).expect(rt, "the value has room");
-    same_bytes(rt, writer.held.as_slice(), want);
-}
-
 #[test]
 fn short_of_room(rt: HostRuntime) {
-    assert_sent::<_, 4>(&rt, &"Hi!", &[0x03, 0x48, 0x69, 0x21]);
+    let writer = sent::<_, 4>(&"Hi!").expect(&rt, "the text has room");
+    same_bytes(&rt, writer.held.as_slice(), &[0x03, 0x48, 0x69, 0x21]);
     let refused = sent::<_, 3>(&"Hi!").err();
     same(&rt, refused, Some(Error::SerializeBufferFull));
 }
