@@ -2,7 +2,7 @@
 //! them in a buffer, and those of another buffer that is filled in turn.
 
 use crate::OLD;
-use crate::same::same;
+use crate::asserts::{same, same_bytes};
 use postcard::ser_flavors::{Flavor, Slice};
 use postcard::{Error, Serialize, to_extend, to_slice};
 use std::process::Abort;
@@ -18,7 +18,7 @@ fn bytes_that_are_zero(rt: HostRuntime) {
     let bytes = extended(&rt, &"\0", bytes);
     let bytes = extended(&rt, &(), bytes);
     let bytes = extended(&rt, &[false, true, false].as_slice(), bytes);
-    same(&rt, bytes.as_slice(), [0, 0, 1, 0, 3, 0, 1, 0].as_slice());
+    same_bytes(&rt, bytes.as_slice(), &[0, 0, 1, 0, 3, 0, 1, 0]);
 }
 
 #[test]
@@ -28,12 +28,12 @@ fn bytes_after_a_slice(rt: HostRuntime) {
     same(&rt, slice.try_push(1), Ok(()));
     same(&rt, slice.try_extend(&[2, 3]), Ok(()));
     let front = slice.finalize().expect(&rt, "a slice comes back");
-    same(&rt, &*front, [1, 2, 3].as_slice());
+    same_bytes(&rt, &*front, &[1, 2, 3]);
     front.reverse();
-    same(&rt, buffer, [3, 2, 1, OLD, OLD]);
+    same_bytes(&rt, &buffer, &[3, 2, 1, OLD, OLD]);
     let front = to_slice(&300u16, &mut buffer).expect(&rt, "the number has room");
     front.reverse();
-    same(&rt, buffer, [0x02, 0xAC, 1, OLD, OLD]);
+    same_bytes(&rt, &buffer, &[0x02, 0xAC, 1, OLD, OLD]);
 }
 
 #[test]
@@ -42,16 +42,20 @@ fn two_buffers_in_turn(rt: HostRuntime) {
     let mut high = [OLD; 3];
     let mut lows = Slice::new(&mut low);
     let mut highs = Slice::new(&mut high);
-    assert!(rt; lows.try_push(1).is_ok());
-    assert!(rt; highs.try_extend(&[0xF1, 0xF2]).is_ok());
-    assert!(rt; lows.try_varint(300).is_ok());
-    assert!(rt; highs.try_extend(&[0xF3, 0xF4]) == Err(Error::SerializeBufferFull));
+    lows.try_push(1).expect(&rt, "a byte has room");
+    let pushed = highs.try_extend(&[0xF1, 0xF2]);
+    pushed.expect(&rt, "two bytes have room");
+    lows.try_varint(300).expect(&rt, "two more have room");
+    let full = highs.try_extend(&[0xF3, 0xF4]);
+    let error = full.expect_err(&rt, "two more have no room");
+    same(&rt, error, Error::SerializeBufferFull);
     lows[0] = 9;
     highs[1] = 0xF9;
     let front = lows.finalize().expect(&rt, "a slice comes back");
-    same(&rt, &*front, [9, 0xAC, 0x02].as_slice());
+    same_bytes(&rt, &*front, &[9, 0xAC, 0x02]);
     same(&rt, highs.try_push(0xF3), Ok(()));
     let front = highs.finalize().expect(&rt, "a slice comes back");
     same(&rt, front.len(), 3);
-    same(&rt, (low, high), ([9, 0xAC, 0x02, OLD], [0xF1, 0xF9, 0xF3]));
+    same_bytes(&rt, &low, &[9, 0xAC, 0x02, OLD]);
+    same_bytes(&rt, &high, &[0xF1, 0xF9, 0xF3]);
 }

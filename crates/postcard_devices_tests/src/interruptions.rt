@@ -2,12 +2,13 @@
 //! and nothing is lost.
 
 use crate::OLD;
-use crate::same::same;
+use crate::asserts::{assert_read, assert_scratch, same, same_bytes};
 use postcard::de_flavors::io::io::IOReader;
 use postcard::de_flavors::{Flavor, Plain, Source};
-use postcard::{Error, from_io, to_io};
+use postcard::{Error, to_io};
 use postcard_vectors::devices::readers::{InterruptedReader, Pieces};
 use postcard_vectors::devices::writers::{Bounded, InterruptedWriter};
+use std::io;
 use std::io::{ErrorKind, Read, Write};
 use std::process::Abort;
 
@@ -19,6 +20,29 @@ fn interrupted(bytes: &[u8]) -> InterruptedReader<Pieces<'_>> {
     }
 }
 
+/// Asserts that a call was interrupted.
+fn assert_interrupted(rt: &impl Abort, answer: io::Result<usize>) {
+    match answer {
+        Ok(count) => panic!(rt; "{count} bytes"),
+        Err(e) => same(rt, e.kind(), ErrorKind::Interrupted),
+    }
+}
+
+/// Reads this byte and writes it. Asserts that each of the two is interrupted once.
+fn passes_on(
+    rt: &impl Abort,
+    reader: &mut InterruptedReader<Pieces<'_>>,
+    writer: &mut InterruptedWriter<Bounded<2>>,
+    want: u8,
+) {
+    let mut byte = [OLD];
+    assert_interrupted(rt, reader.read(&mut byte));
+    same(rt, reader.read(&mut byte).ok(), Some(1));
+    same_bytes(rt, &byte, &[want]);
+    assert_interrupted(rt, writer.write(&byte));
+    same(rt, writer.write(&byte).ok(), Some(1));
+}
+
 #[test]
 fn every_other_call(rt: HostRuntime) {
     let mut reader = interrupted(&[1, 2]);
@@ -26,18 +50,10 @@ fn every_other_call(rt: HostRuntime) {
         inner: Bounded::<2>::new(),
         interrupts: true,
     };
-    let mut byte = [OLD];
-    for want in [1, 2] {
-        let refused = reader.read(&mut byte).err().map(|e| e.kind());
-        same(&rt, refused, Some(ErrorKind::Interrupted));
-        same(&rt, reader.read(&mut byte).ok(), Some(1));
-        same(&rt, byte, [want]);
-        let refused = writer.write(&byte).err().map(|e| e.kind());
-        same(&rt, refused, Some(ErrorKind::Interrupted));
-        same(&rt, writer.write(&byte).ok(), Some(1));
-    }
-    assert!(rt; writer.flush().is_ok());
-    same(&rt, writer.inner.held.as_slice(), [1, 2].as_slice());
+    passes_on(&rt, &mut reader, &mut writer, 1);
+    passes_on(&rt, &mut reader, &mut writer, 2);
+    same(&rt, writer.flush().is_ok(), true);
+    same_bytes(&rt, writer.inner.held.as_slice(), &[1, 2]);
 }
 
 /// Takes the bytes from 1 to 5 in each way that a source has. Then no byte is left.
@@ -49,8 +65,7 @@ fn takes_each_way<'b, R: Source + 'b>(rt: &impl Abort, reader: R) {
     same(rt, source.try_take_n_temp(1), Ok([4].as_slice()));
     same(rt, source.pop(), Ok(5));
     same(rt, source.pop(), Err(Error::DeserializeUnexpectedEnd));
-    let (_, left) = source.finalize().expect(rt, "the source comes back");
-    same(rt, left.len(), 1);
+    assert_scratch(rt, source, 1);
 }
 
 #[test]
@@ -58,19 +73,27 @@ fn of_a_source(rt: HostRuntime) {
     takes_each_way(&rt, Plain::new(interrupted(&[1, 2, 3, 4, 5])));
 }
 
+/// The encoding of 1 as a `u8`, 10 as a `u32` and the text "Hello!".
+const TUPLE: [u8; 9] = [0x01, 0x0A, 0x06, 0x48, 0x65, 0x6C, 0x6C, 0x6F, 0x21];
+
 #[test]
 fn of_a_value(rt: HostRuntime) {
-    let bytes = [0x01, 0x0A, 0x06, 0x48, 0x65, 0x6C, 0x6C, 0x6F, 0x21];
-    let tuple = (1u8, 10u32, "Hello!");
     let mut scratch = [OLD; 6];
-    let reader = Plain::new(interrupted(&bytes));
-    let read = from_io::<(u8, u32, &str), _>(rt.alloc(), (reader, &mut scratch));
-    let (value, _) = read.expect(&rt, "a value is read");
-    same(&rt, value, tuple);
+    let reader = Plain::new(interrupted(&TUPLE));
+    let (value, _) = assert_read::<(u8, u32, &str), _>(&rt, (reader, &mut scratch));
+    let (byte, number, text) = value;
+    same(&rt, byte, 1);
+    same(&rt, number, 10);
+    same(&rt, text, "Hello!");
+}
+
+#[test]
+fn of_a_writer(rt: HostRuntime) {
     let writer = InterruptedWriter {
         inner: Bounded::<9>::new(),
         interrupts: true,
     };
-    let written = to_io(&tuple, writer).expect(&rt, "the value has room");
-    same(&rt, written.inner.held.as_slice(), bytes.as_slice());
+    let written = to_io(&(1u8, 10u32, "Hello!"), writer);
+    let writer = written.expect(&rt, "the value has room");
+    same_bytes(&rt, writer.inner.held.as_slice(), &TUPLE);
 }

@@ -5,6 +5,8 @@
 #[cfg(test)]
 mod appended;
 #[cfg(test)]
+mod asserts;
+#[cfg(test)]
 mod devices;
 #[cfg(test)]
 mod flavors;
@@ -12,8 +14,6 @@ mod flavors;
 mod interruptions;
 #[cfg(test)]
 mod readers;
-#[cfg(test)]
-mod same;
 #[cfg(test)]
 mod scratch;
 #[cfg(test)]

@@ -2,7 +2,7 @@
 //! fails.
 
 use crate::OLD;
-use crate::same::same;
+use crate::asserts::{assert_read, assert_refused, assert_scratch, same, same_bytes};
 use postcard::de_flavors::io::io::IOReader;
 use postcard::de_flavors::{Flavor, Plain, Source};
 use postcard::{Error, from_io};
@@ -25,6 +25,36 @@ const RECORDS: [u8; 11] = [
     0x03, 0x48, 0x69, 0x21, 0xAC, 0x02, 0x05, 0x01, 0x7A, 0x99, 0x98,
 ];
 
+/// A reader over given bytes.
+trait Over: Source {
+    /// Returns a reader of these bytes, in pieces of these lengths if it reads in pieces.
+    fn over(bytes: &'static [u8], lengths: &'static [usize]) -> Self;
+}
+
+impl Over for &'static [u8] {
+    fn over(bytes: &'static [u8], _lengths: &'static [usize]) -> Self {
+        bytes
+    }
+}
+
+impl Over for Pieces<'static> {
+    fn over(bytes: &'static [u8], lengths: &'static [usize]) -> Self {
+        Pieces::new(bytes, lengths)
+    }
+}
+
+impl Over for Plain<&'static [u8]> {
+    fn over(bytes: &'static [u8], _lengths: &'static [usize]) -> Self {
+        Plain::new(bytes)
+    }
+}
+
+impl Over for Plain<Pieces<'static>> {
+    fn over(bytes: &'static [u8], lengths: &'static [usize]) -> Self {
+        Plain::new(Pieces::new(bytes, lengths))
+    }
+}
+
 /// Asserts that just these bytes are left in the reader, which gives them with no scratch.
 fn assert_unread<R: Source>(rt: &impl Abort, reader: R, unread: &[u8]) {
     let mut rest = IOReader::new(reader, &mut []);
@@ -37,18 +67,19 @@ fn assert_unread<R: Source>(rt: &impl Abort, reader: R, unread: &[u8]) {
 /// Reads two texts that borrow from a scratch buffer with just room for them, to the reader's end.
 fn lends_all<'b, R: Source + 'b>(rt: &(impl Abort + AllocGlobal), reader: R) {
     let mut memory = [OLD; 3];
-    let read = from_io::<(&str, &str), _>(rt.alloc(), (reader, &mut memory));
-    let (texts, (reader, left)) = read.expect(rt, "texts are read");
-    same(rt, (texts, left.len()), (("ab", "c"), 0));
+    let ((first, last), (reader, left)) = assert_read::<(&str, &str), _>(rt, (reader, &mut memory));
+    same(rt, first, "ab");
+    same(rt, last, "c");
+    same(rt, left.len(), 0);
     assert_unread(rt, reader, &[]);
 }
 
 /// Reads a text that borrows from a part of the scratch buffer. A byte is left in the reader.
 fn lends_one<'b, R: Source + 'b>(rt: &(impl Abort + AllocGlobal), reader: R) {
     let mut memory = [OLD; 2];
-    let read = from_io::<&str, _>(rt.alloc(), (reader, &mut memory));
-    let (text, (reader, left)) = read.expect(rt, "a text is read");
-    same(rt, (text, left.len()), ("z", 1));
+    let (text, (reader, left)) = assert_read::<&str, _>(rt, (reader, &mut memory));
+    same(rt, text, "z");
+    same(rt, left.len(), 1);
     assert_unread(rt, reader, &[0x99]);
 }
 
@@ -56,36 +87,38 @@ fn lends_one<'b, R: Source + 'b>(rt: &(impl Abort + AllocGlobal), reader: R) {
 /// between them, which doesn't.
 fn lends_around<'b, R: Source + 'b>(rt: &(impl Abort + AllocGlobal), reader: R) {
     let mut memory = [OLD; 3];
-    let read = from_io::<(&str, char, &str), _>(rt.alloc(), (reader, &mut memory));
-    let (mixed, (_, left)) = read.expect(rt, "texts are read");
-    same(rt, (mixed, left.len()), (("ab", 'c', "d"), 0));
+    let ((first, letter, last), (_, left)) = assert_read::<(&str, char, &str), _>(
+        rt,
+        (reader, &mut memory),
+    );
+    same(rt, first, "ab");
+    same(rt, letter, 'c');
+    same(rt, last, "d");
+    same(rt, left.len(), 0);
 }
 
-/// Reads texts for which the scratch is too short.
-fn refuses_texts<'b, R: Source + 'b, F: Fn(&'b [u8]) -> R>(
-    rt: &(impl Abort + AllocGlobal),
-    over: &F,
-)
-    requires { F.IsAlwaysCallable over.now }
-{
+/// Reads two texts for which the scratch is too short.
+fn refuses_texts<'b, R: Source + 'b>(rt: &(impl Abort + AllocGlobal), reader: R) {
     let mut memory = [OLD; 2];
-    let short = from_io::<(&str, &str), _>(rt.alloc(), (over(&TEXTS), &mut memory));
-    same(rt, short.err(), Some(Error::DeserializeUnexpectedEnd));
+    assert_refused::<(&str, &str), _>(rt, (reader, &mut memory));
+}
+
+/// Reads a text with no scratch.
+fn refuses_a_text<'b, R: Source + 'b>(rt: &(impl Abort + AllocGlobal), reader: R) {
     let mut memory = [OLD; 0];
-    let none = from_io::<&str, _>(rt.alloc(), (over(&LETTER), &mut memory));
-    same(rt, none.err(), Some(Error::DeserializeUnexpectedEnd));
+    assert_refused::<&str, _>(rt, (reader, &mut memory));
 }
 
 /// Reads texts as `String`s, which need the scratch only for a while.
 fn copies_texts<'b, R: Source + 'b>(rt: &(impl Abort + AllocGlobal), reader: R) {
     let mut memory = [OLD; 2];
-    let read = from_io::<(String, String), _>(rt.alloc(), (reader, &mut memory));
-    let ((first, last), (reader, left)) = read.expect(rt, "texts are read");
-    same(
+    let ((first, last), (reader, left)) = assert_read::<(String, String), _>(
         rt,
-        (first.as_str(), last.as_str(), left.len()),
-        ("ab", "c", 2),
+        (reader, &mut memory),
     );
+    same(rt, first.as_str(), "ab");
+    same(rt, last.as_str(), "c");
+    same(rt, left.len(), 2);
     assert_unread(rt, reader, &[]);
 }
 
@@ -102,25 +135,26 @@ fn takes<'b, R: Source + 'b>(rt: &impl Abort, reader: R) {
     );
 }
 
-/// Takes more bytes than the reader has, which is one call for all of them.
-fn refuses_takes<'b, R: Source + 'b, F: Fn(&'b [u8]) -> R>(rt: &impl Abort, over: &F)
-    requires { F.IsAlwaysCallable over.now }
-{
+/// Takes more bytes than the reader has, which is one call for all of them. Their scratch is used
+/// up.
+fn refuses_a_take<'b, R: Source + 'b>(rt: &impl Abort, reader: R) {
     let mut memory = [OLD; 4];
-    let mut source = IOReader::new(over(&[0x01, 0x02]), &mut memory);
+    let mut source = IOReader::new(reader, &mut memory);
     same(
         rt,
         source.try_take_n(3),
         Err(Error::DeserializeUnexpectedEnd),
     );
-    let (_, left) = source.finalize().expect(rt, "the source comes back");
-    same(rt, left.len(), 1);
+    assert_scratch(rt, source, 1);
+}
+
+/// Takes more bytes than the reader has, for a while, which uses up no scratch.
+fn refuses_a_temporary_take<'b, R: Source + 'b>(rt: &impl Abort, reader: R) {
     let mut memory = [OLD; 4];
-    let mut source = IOReader::new(over(&[0x01, 0x02]), &mut memory);
+    let mut source = IOReader::new(reader, &mut memory);
     let refused = source.try_take_n_temp(3);
     same(rt, refused, Err(Error::DeserializeUnexpectedEnd));
-    let (_, left) = source.finalize().expect(rt, "the source comes back");
-    same(rt, left.len(), 4);
+    assert_scratch(rt, source, 4);
 }
 
 /// Takes more bytes than the scratch has room for. They stay in the reader.
@@ -132,8 +166,7 @@ fn lacks_scratch<'b, R: Source + 'b>(rt: &impl Abort, reader: R) {
         source.try_take_n(2),
         Err(Error::DeserializeUnexpectedEnd),
     );
-    let (reader, left) = source.finalize().expect(rt, "the source comes back");
-    same(rt, left.len(), 1);
+    let reader = assert_scratch(rt, source, 1);
     assert_unread(rt, reader, &[0x01, 0x02]);
 }
 
@@ -141,46 +174,57 @@ fn lacks_scratch<'b, R: Source + 'b>(rt: &impl Abort, reader: R) {
 /// the records aren't read.
 fn reads_records<'b, R: Source + 'b>(rt: &(impl Abort + AllocGlobal), reader: R) {
     let mut memory = [OLD; 6];
-    let read = from_io::<&str, _>(rt.alloc(), (reader, &mut memory));
-    let (text, from) = read.expect(rt, "a text is read");
-    let read = from_io::<u16, _>(rt.alloc(), from);
-    let (number, from) = read.expect(rt, "a number is read");
-    let read = from_io::<(u8, &str), _>(rt.alloc(), from);
-    let (pair, (reader, left)) = read.expect(rt, "a pair is read");
-    same(rt, (text, number, pair), ("Hi!", 300, (5, "z")));
+    let (text, from) = assert_read::<&str, _>(rt, (reader, &mut memory));
+    let (number, from) = assert_read::<u16, _>(rt, from);
+    let ((byte, letter), (reader, left)) = assert_read::<(u8, &str), _>(rt, from);
+    same(rt, text, "Hi!");
+    same(rt, number, 300);
+    same(rt, byte, 5);
+    same(rt, letter, "z");
     same(rt, left.len(), 2);
     assert_unread(rt, reader, &[0x99, 0x98]);
 }
 
-/// Runs all of these tests over readers that `over` makes.
-fn all_rows<'b, R: Source + 'b, F: Fn(&'b [u8]) -> R>(rt: &(impl Abort + AllocGlobal), over: F)
-    requires { F.IsAlwaysCallable over }
-{
-    lends_all(rt, over(&TEXTS));
-    lends_one(rt, over(&LETTER));
-    lends_around(rt, over(&MIXED));
-    refuses_texts(rt, &over);
-    copies_texts(rt, over(&TEXTS));
-    takes(rt, over(&[0xAA, 0xBB, 0xCC, 0xDD, 0xEE]));
-    assert_unread(rt, over(&[0xAA, 0xBB, 0xCC]), &[0xAA, 0xBB, 0xCC]);
-    refuses_takes(rt, &over);
-    lacks_scratch(rt, over(&[0x01, 0x02]));
-    reads_records(rt, over(&RECORDS));
+/// Runs all of these tests that read values, over readers of one kind.
+fn all_values<'b, R: Over + 'b>(rt: &(impl Abort + AllocGlobal), lengths: &'static [usize]) {
+    lends_all(rt, R::over(&TEXTS, lengths));
+    lends_one(rt, R::over(&LETTER, lengths));
+    lends_around(rt, R::over(&MIXED, lengths));
+    refuses_texts(rt, R::over(&TEXTS, lengths));
+    refuses_a_text(rt, R::over(&LETTER, lengths));
+    copies_texts(rt, R::over(&TEXTS, lengths));
+    reads_records(rt, R::over(&RECORDS, lengths));
+}
+
+/// Runs all of these tests that take bytes, over readers of one kind.
+fn all_takes<'b, R: Over + 'b>(rt: &impl Abort, lengths: &'static [usize]) {
+    takes(rt, R::over(&[0xAA, 0xBB, 0xCC, 0xDD, 0xEE], lengths));
+    let reader = R::over(&[0xAA, 0xBB, 0xCC], lengths);
+    assert_unread(rt, reader, &[0xAA, 0xBB, 0xCC]);
+    refuses_a_take(rt, R::over(&[0x01, 0x02], lengths));
+    refuses_a_temporary_take(rt, R::over(&[0x01, 0x02], lengths));
+    lacks_scratch(rt, R::over(&[0x01, 0x02], lengths));
+}
+
+/// Runs all of these tests over readers of one kind.
+fn all_rows<'b, R: Over + 'b>(rt: &(impl Abort + AllocGlobal), lengths: &'static [usize]) {
+    all_values::<R>(rt, lengths);
+    all_takes::<R>(rt, lengths);
 }
 
 #[test]
 fn over_steady_readers(rt: HostRuntime) {
-    all_rows(&rt, |bytes| bytes);
-    all_rows(&rt, |bytes| Pieces::new(bytes, &[1]));
-    all_rows(&rt, |bytes| Pieces::new(bytes, &[2, 3]));
-    all_rows(&rt, |bytes| Pieces::new(bytes, &[4, 1, 9]));
+    all_rows::<&[u8]>(&rt, &[]);
+    all_rows::<Pieces>(&rt, &[1]);
+    all_rows::<Pieces>(&rt, &[2, 3]);
+    all_rows::<Pieces>(&rt, &[4, 1, 9]);
 }
 
 #[test]
 fn over_any_reader(rt: HostRuntime) {
-    all_rows(&rt, |bytes| Plain::new(bytes));
-    all_rows(&rt, |bytes| Plain::new(Pieces::new(bytes, &[1])));
-    all_rows(&rt, |bytes| Plain::new(Pieces::new(bytes, &[2, 3])));
+    all_rows::<Plain<&[u8]>>(&rt, &[]);
+    all_rows::<Plain<Pieces>>(&rt, &[1]);
+    all_rows::<Plain<Pieces>>(&rt, &[2, 3]);
 }
 
 /// Reads `(5u8, 300u32, "Hi!")` from a reader of which one read fails, if the value needs it.
@@ -197,18 +241,19 @@ fn read_through(rt: &(impl Abort + AllocGlobal), fails_at: usize) {
         (Plain::new(&mut failing), &mut memory),
     );
     match outcome {
-        Ok((value, _)) => same(rt, (value, fails_at >= 7), ((5, 300, "Hi!"), true)),
-        Err(e) => same(
-            rt,
-            (e, fails_at < 7),
-            (Error::DeserializeUnexpectedEnd, true),
-        ),
+        Ok(((byte, number, text), _)) => {
+            same(rt, byte, 5);
+            same(rt, number, 300);
+            same(rt, text, "Hi!");
+            same(rt, fails_at >= 7, true);
+        }
+        Err(e) => {
+            same(rt, e, Error::DeserializeUnexpectedEnd);
+            same(rt, fails_at < 7, true);
+        }
     }
-    same(
-        rt,
-        Some(failing.inner.unread()),
-        bytes.get(fails_at.min(7)..),
-    );
+    let (_, unread) = bytes.split_at(fails_at.min(7));
+    same_bytes(rt, failing.inner.unread(), unread);
 }
 
 #[test]

@@ -2,10 +2,10 @@
 //! out of it need it only for a while.
 
 use crate::OLD;
-use crate::same::same;
+use crate::asserts::{assert_read, assert_refused, same, same_bytes};
 use arrayvec::ArrayString;
+use postcard::Deserializer;
 use postcard::de_flavors::io::io::IOReader;
-use postcard::{Deserializer, Error, from_io};
 
 /// A value of each kind that is read byte by byte.
 type Parts = (u8, i8, bool, u16, i32, (Option<u8>, Vec<u8>));
@@ -17,13 +17,15 @@ const PARTS: [u8; 11] = [
 
 #[test]
 fn none_for_numbers_and_lists(rt: HostRuntime) {
-    let read = from_io::<Parts, _>(rt.alloc(), (PARTS.as_slice(), &mut []));
-    let (parts, _) = read.expect(&rt, "the parts are read");
+    let (parts, _) = assert_read::<Parts, _>(&rt, (PARTS.as_slice(), &mut []));
     let (byte, signed, truth, short, word, (choice, list)) = parts;
-    same(&rt, (byte, signed), (7, -1));
-    same(&rt, (truth, short, word), (true, 300, -2));
+    same(&rt, byte, 7);
+    same(&rt, signed, -1);
+    same(&rt, truth, true);
+    same(&rt, short, 300);
+    same(&rt, word, -2);
     same(&rt, choice, Some(9));
-    same(&rt, list.as_slice(), [5, 6].as_slice());
+    same_bytes(&rt, list.as_slice(), &[5, 6]);
 }
 
 /// The text "Hi!".
@@ -32,13 +34,11 @@ const TEXT: [u8; 4] = [0x03, 0x48, 0x69, 0x21];
 #[test]
 fn given_back_after_a_text_is_copied(rt: HostRuntime) {
     let mut scratch = [OLD; 3];
-    let read = from_io::<ArrayString<4>, _>(rt.alloc(), (TEXT.as_slice(), &mut scratch));
-    let (text, (_, left)) = read.expect(&rt, "a text is read");
+    let (text, (_, left)) = assert_read::<ArrayString<4>, _>(&rt, (TEXT.as_slice(), &mut scratch));
     same(&rt, text.as_str(), "Hi!");
     same(&rt, left.len(), 3);
     let mut scratch = [OLD; 2];
-    let short = from_io::<ArrayString<4>, _>(rt.alloc(), (TEXT.as_slice(), &mut scratch));
-    same(&rt, short.err(), Some(Error::DeserializeUnexpectedEnd));
+    assert_refused::<ArrayString<4>, _>(&rt, (TEXT.as_slice(), &mut scratch));
 }
 
 #[test]
@@ -46,12 +46,9 @@ fn given_back_after_bytes_are_copied(rt: HostRuntime) {
     let mut scratch = [OLD; 3];
     let source = IOReader::new([0x02, 0x05, 0x06].as_slice(), &mut scratch);
     let mut deserializer = Deserializer::from_flavor(source);
-    let bytes = deserializer.deserialize_byte_buf(rt.alloc());
-    same(
-        &rt,
-        bytes.expect(&rt, "bytes are read").as_slice(),
-        [5, 6].as_slice(),
-    );
+    let answer = deserializer.deserialize_byte_buf(rt.alloc());
+    let bytes = answer.expect(&rt, "bytes are read");
+    same_bytes(&rt, bytes.as_slice(), &[5, 6]);
     let (_, left) = deserializer.finalize().expect(&rt, "the source comes back");
     same(&rt, left.len(), 3);
 }

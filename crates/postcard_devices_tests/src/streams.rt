@@ -1,8 +1,7 @@
 //! Tests of a user's values, written to a writer and read back from a reader.
 
-use crate::same::same;
+use crate::asserts::{assert_read, assert_refused, same, same_bytes};
 use crate::writers::sent;
-use postcard::{Error, from_io};
 use postcard_vectors::devices::readers::Pieces;
 use postcard_vectors::types::{BasicU8S, DataEnum, RefStruct};
 
@@ -12,9 +11,8 @@ fn an_enum(rt: HostRuntime) {
     let bytes = [0x05, 0xE9, 0xD2, 0x01, 0x07];
     let choice = DataEnum::Sho(0x6969, 0x07);
     let writer = sent::<_, 5>(&choice).expect(&rt, "the value has room");
-    same(&rt, writer.held.as_slice(), bytes.as_slice());
-    let read = from_io::<DataEnum, _>(rt.alloc(), (bytes.as_slice(), &mut scratch));
-    let (value, _) = read.expect(&rt, "a value is read");
+    same_bytes(&rt, writer.held.as_slice(), &bytes);
+    let (value, _) = assert_read::<DataEnum, _>(&rt, (bytes.as_slice(), &mut scratch));
     same(&rt, value, choice);
 }
 
@@ -32,9 +30,8 @@ fn a_struct(rt: HostRuntime) {
         tt: 0xACACACAC,
     };
     let writer = sent::<_, 18>(&record).expect(&rt, "the value has room");
-    same(&rt, writer.held.as_slice(), bytes.as_slice());
-    let read = from_io::<BasicU8S, _>(rt.alloc(), (bytes.as_slice(), &mut scratch));
-    let (value, _) = read.expect(&rt, "a value is read");
+    same_bytes(&rt, writer.held.as_slice(), &bytes);
+    let (value, _) = assert_read::<BasicU8S, _>(&rt, (bytes.as_slice(), &mut scratch));
     same(&rt, value, record);
 }
 
@@ -44,12 +41,12 @@ fn lent_fields(rt: HostRuntime) {
         0x04, 0x01, 0x10, 0x02, 0x20, 0x05, 0x68, 0x45, 0x6C, 0x4C, 0x6F,
     ];
     let mut scratch = [0; 9];
-    let read = from_io::<RefStruct, _>(rt.alloc(), (Pieces::new(&bytes, &[1]), &mut scratch));
-    let (lent, (_, left)) = read.expect(&rt, "a value is read");
-    same(&rt, lent.bytes, [0x01, 0x10, 0x02, 0x20].as_slice());
+    let reader = Pieces::new(&bytes, &[1]);
+    let (lent, (_, left)) = assert_read::<RefStruct, _>(&rt, (reader, &mut scratch));
+    same_bytes(&rt, lent.bytes, &[0x01, 0x10, 0x02, 0x20]);
     same(&rt, lent.str_s, "hElLo");
     same(&rt, left.len(), 0);
     let mut short = [0; 8];
-    let refused = from_io::<RefStruct, _>(rt.alloc(), (Pieces::new(&bytes, &[1]), &mut short));
-    same(&rt, refused.err(), Some(Error::DeserializeUnexpectedEnd));
+    let reader = Pieces::new(&bytes, &[1]);
+    assert_refused::<RefStruct, _>(&rt, (reader, &mut short));
 }

@@ -3,7 +3,7 @@
 ghost use Rattle.std.specs.Prelude.{◌≡◌, IfOk};
 ghost use Rattle.postcard_wire.specs.Spelling.{canonical};
 
-use crate::same::same;
+use crate::asserts::{same, same_bytes};
 use postcard::{Error, Serialize, to_io};
 use postcard_vectors::devices::writers::{Bounded, FailingWriter};
 use std::process::Abort;
@@ -18,11 +18,7 @@ pub fn sent<T: Serialize, const N: usize>(value: &T) -> postcard::Result<Bounded
 #[test]
 fn short_of_room(rt: HostRuntime) {
     let writer = sent::<_, 4>(&"Hi!").expect(&rt, "the text has room");
-    same(
-        &rt,
-        writer.held.as_slice(),
-        [0x03, 0x48, 0x69, 0x21].as_slice(),
-    );
+    same_bytes(&rt, writer.held.as_slice(), &[0x03, 0x48, 0x69, 0x21]);
     let refused = sent::<_, 3>(&"Hi!").err();
     same(&rt, refused, Some(Error::SerializeBufferFull));
 }
@@ -45,7 +41,8 @@ fn write_through(rt: &impl Abort, fails_at: usize, flush_fails: bool) {
     same(rt, refused, fails.then_some(Error::SerializeBufferFull));
     same(rt, writer.flushed, !fails);
     let want = [0x01, 0x0A, 0x06, 0x48, 0x65, 0x6C, 0x6C, 0x6F, 0x21];
-    assert!(rt; want.starts_with(writer.inner.held.as_slice()));
+    let begun = want.starts_with(writer.inner.held.as_slice());
+    same(rt, begun, true);
     same(rt, writer.writes, fails_at.saturating_add(1).min(4));
 }
 
