@@ -23,43 +23,41 @@ fn assert_popped<F: Flavor>(rt: &impl Abort, source: &mut F, want: Result<u8>) {
     same(rt, source.pop(), want);
 }
 
-/// Asserts that these are the next bytes, which are taken for good.
-fn assert_taken<F: Flavor>(rt: &impl Abort, source: &mut F, want: &[u8]) {
-    same(rt, source.try_take_n(want.len()), Ok(want));
-}
-
 /// Asserts that these are the next bytes, which are taken until the next call.
 fn assert_lent<F: Flavor>(rt: &impl Abort, source: &mut F, want: &[u8]) {
     same(rt, source.try_take_n_temp(want.len()), Ok(want));
 }
 
-/// Asserts that a source has too few bytes left for both takes, and what its hint then is.
-fn assert_too_few<F: Flavor>(rt: &impl Abort, source: &mut F, count: usize, hint: Option<usize>) {
-    same(rt, source.try_take_n(count), Err(END));
-    same(rt, source.size_hint(), hint);
-    same(rt, source.try_take_n_temp(count), Err(END));
-}
-
 #[test]
 fn a_slice_gives_fronts_until_too_few_bytes_are_left(rt: HostRuntime) {
     let mut source = Slice::new(&[1, 2, 3, 4]);
-    assert_popped(&rt, &mut source, Ok(1));
-    assert_taken(&rt, &mut source, &[2, 3]);
-    assert_too_few(&rt, &mut source, 2, Some(1));
-    assert_lent(&rt, &mut source, &[4]);
-    assert_popped(&rt, &mut source, Err(END));
+    same(&rt, source.pop(), Ok(1));
+    same(&rt, source.try_take_n(2), Ok([2, 3].as_slice()));
+    same(
+        &rt,
+        source.try_take_n(2),
+        Err(Error::DeserializeUnexpectedEnd),
+    );
+    same(&rt, source.size_hint(), Some(1));
+    same(
+        &rt,
+        source.try_take_n_temp(2),
+        Err(Error::DeserializeUnexpectedEnd),
+    );
+    same(&rt, source.try_take_n_temp(1), Ok([4].as_slice()));
+    same(&rt, source.pop(), Err(Error::DeserializeUnexpectedEnd));
     same(&rt, source.finalize(), Ok([].as_slice()));
 }
 
 /// Asserts that a source that has given all of these bytes gives no bytes, and no byte.
 fn assert_gives_none_at_the_end(rt: &impl Abort, bytes: &[u8]) {
     let mut source = Slice::new(bytes);
-    assert_taken(rt, &mut source, bytes);
-    assert_taken(rt, &mut source, &[]);
-    assert_lent(rt, &mut source, &[]);
+    same(rt, source.try_take_n(bytes.len()), Ok(bytes));
+    same(rt, source.try_take_n(0), Ok([].as_slice()));
+    same(rt, source.try_take_n_temp(0), Ok([].as_slice()));
     same_bytes(rt, source.at_hand(), &[]);
     same(rt, source.size_hint(), Some(0));
-    assert_popped(rt, &mut source, Err(END));
+    same(rt, source.pop(), Err(Error::DeserializeUnexpectedEnd));
     same(rt, source.finalize(), Ok([].as_slice()));
 }
 
