@@ -9,6 +9,16 @@ pub(crate) fn same<T: PartialEq + Debug + Drop>(rt: &impl Abort, value: T, want:
     assert_eq!(rt; value, want);
 }
 
+/// Asserts that a value is the wanted one. A failure prints `at` too, which says where in a table.
+pub(crate) fn same_at<T: PartialEq + Debug + Drop, A: Debug + Drop>(
+    rt: &impl Abort,
+    value: T,
+    want: T,
+    at: A,
+) {
+    assert_eq!(rt; value, want, "{at:?}");
+}
+
 /// Asserts that these are the wanted bytes.
 pub(crate) fn same_bytes(rt: &impl Abort, bytes: &[u8], want: &[u8]) {
     assert_eq!(rt; bytes, want);

@@ -173,29 +173,30 @@ fn writes_the_vectors(rt: HostRuntime) {
         varint::varint_u32(0xCDAB_3412, &mut [0; varint::VARINT_MAX_32]),
         &[0x92, 0xE8, 0xAC, 0xED, 0x0C],
     );
-    let want = [0xEF, 0x9B, 0xAF, 0x85, 0x89, 0xCF, 0x95, 0x9A, 0x12];
     same_bytes(
         &rt,
         varint::varint_u64(0x1234_5678_90AB_CDEF, &mut [0; varint::VARINT_MAX_64]),
-        &want,
+        &[0xEF, 0x9B, 0xAF, 0x85, 0x89, 0xCF, 0x95, 0x9A, 0x12],
     );
-    let want = [
-        0xEF, 0x9B, 0xAF, 0x85, 0x89, 0xCF, 0x95, 0x9A, 0x92, 0xDE, 0xB7, 0xDE, 0x8A, 0x92, 0x9E,
-        0xAB, 0xB4, 0x24,
-    ];
     same_bytes(
         &rt,
         varint::varint_u128(
             0x1234_5678_90AB_CDEF_1234_5678_90AB_CDEF,
             &mut [0; varint::VARINT_MAX_128],
         ),
-        &want,
+        &[
+            0xEF, 0x9B, 0xAF, 0x85, 0x89, 0xCF, 0x95, 0x9A, 0x92, 0xDE, 0xB7, 0xDE, 0x8A, 0x92,
+            0x9E, 0xAB, 0xB4, 0x24,
+        ],
     );
-    let want = [0xFF, 0xFF, 0xFF, 0xFF, 0xFF, 0xFF, 0xFF, 0xFF, 0xFF, 0x01];
+}
+
+#[test]
+fn writes_the_vectors_of_lengths(rt: HostRuntime) {
     same_bytes(
         &rt,
         varint::varint_usize(usize::MAX, &mut [0; varint::VARINT_MAX_64]),
-        &want,
+        &[0xFF, 0xFF, 0xFF, 0xFF, 0xFF, 0xFF, 0xFF, 0xFF, 0xFF, 0x01],
     );
     same_bytes(
         &rt,
@@ -261,42 +262,41 @@ fn reads_padded_numbers(rt: HostRuntime) {
     );
 }
 
+/// Asserts that no number is read from the front of these bytes.
+fn assert_bad(rt: &impl Abort, bits: u32, bytes: &[u8])
+    requires { IsWidth bits }
+{
+    same(rt, read(bits, bytes), Err(Error::DeserializeBadVarint));
+}
+
 /// A full length is refused if its last byte exceeds the greatest of its width or says that another
 /// follows.
 #[test]
 fn refuses_numbers_past_the_width(rt: HostRuntime) {
-    assert_read(
+    assert_bad(&rt, 16, &[0x80, 0x80, 0x04]);
+    assert_bad(&rt, 16, &[0x80, 0x80, 0x80, 0x00]);
+    assert_bad(&rt, 32, &[0xFF, 0xFF, 0xFF, 0xFF, 0x1F]);
+    assert_bad(&rt, 32, &[0xFF, 0xFF, 0xFF, 0xFF, 0xFF, 0x01]);
+}
+
+/// The greatest last byte of 64 bits is 01, and that of 128 bits is 03.
+#[test]
+fn refuses_numbers_past_the_great_widths(rt: HostRuntime) {
+    assert_bad(&rt, 64, &[0x80; 10]);
+    assert_bad(
         &rt,
-        16,
-        &[0x80, 0x80, 0x04],
-        Err(Error::DeserializeBadVarint),
+        64,
+        &[0x80, 0x80, 0x80, 0x80, 0x80, 0x80, 0x80, 0x80, 0x80, 0x02],
     );
-    assert_read(
+    assert_bad(&rt, 128, &[0x80; 19]);
+    assert_bad(
         &rt,
-        16,
-        &[0x80, 0x80, 0x80, 0x00],
-        Err(Error::DeserializeBadVarint),
+        128,
+        &[
+            0x80, 0x80, 0x80, 0x80, 0x80, 0x80, 0x80, 0x80, 0x80, 0x80, 0x80, 0x80, 0x80, 0x80,
+            0x80, 0x80, 0x80, 0x80, 0x04,
+        ],
     );
-    assert_read(
-        &rt,
-        32,
-        &[0xFF, 0xFF, 0xFF, 0xFF, 0x1F],
-        Err(Error::DeserializeBadVarint),
-    );
-    assert_read(
-        &rt,
-        32,
-        &[0xFF, 0xFF, 0xFF, 0xFF, 0xFF, 0x01],
-        Err(Error::DeserializeBadVarint),
-    );
-    let mut bytes = [0x80; varint::VARINT_MAX_64];
-    assert_read(&rt, 64, &bytes, Err(Error::DeserializeBadVarint));
-    bytes[9] = varint::MAX_OF_LAST_BYTE_64 + 1;
-    assert_read(&rt, 64, &bytes, Err(Error::DeserializeBadVarint));
-    let mut bytes = [0x80; varint::VARINT_MAX_128];
-    assert_read(&rt, 128, &bytes, Err(Error::DeserializeBadVarint));
-    bytes[18] = varint::MAX_OF_LAST_BYTE_128 + 1;
-    assert_read(&rt, 128, &bytes, Err(Error::DeserializeBadVarint));
 }
 
 #[test]
@@ -310,22 +310,29 @@ fn refuses_numbers_that_do_not_end(rt: HostRuntime) {
     );
 }
 
+/// Numbers of 16 bits beside these folded.
+const FOLDED: [(i16, u16); 6] = [
+    (0, 0),
+    (-1, 1),
+    (1, 2),
+    (-2, 3),
+    (i16::MAX, 0xFFFE),
+    (i16::MIN, 0xFFFF),
+];
+
 #[test]
 fn folds_the_vectors(rt: HostRuntime) {
-    for (folded, want) in [
-        (zigzag::zig_zag_i16(0).into(), 0),
-        (zigzag::zig_zag_i16(-1).into(), 1),
-        (zigzag::zig_zag_i16(1).into(), 2),
-        (zigzag::zig_zag_i16(-2).into(), 3),
-        (zigzag::zig_zag_i16(i16::MAX).into(), 0xFFFE),
-        (zigzag::zig_zag_i16(i16::MIN).into(), 0xFFFF),
-        (zigzag::zig_zag_i32(i32::MIN).into(), u128::from(u32::MAX)),
-        (zigzag::zig_zag_i64(i64::MIN).into(), u128::from(u64::MAX)),
-        (zigzag::zig_zag_i128(i128::MIN), u128::MAX),
-        (division::zig_zag(i128::MIN), u128::MAX),
-    ] {
-        same(&rt, folded, want);
+    for (signed, folded) in &FOLDED {
+        same(&rt, zigzag::zig_zag_i16(*signed), *folded);
     }
+}
+
+#[test]
+fn folds_the_least_of_each_width(rt: HostRuntime) {
+    same(&rt, zigzag::zig_zag_i32(i32::MIN), u32::MAX);
+    same(&rt, zigzag::zig_zag_i64(i64::MIN), u64::MAX);
+    same(&rt, zigzag::zig_zag_i128(i128::MIN), u128::MAX);
+    same(&rt, division::zig_zag(i128::MIN), u128::MAX);
     same(&rt, division::de_zig_zag(u128::MAX), i128::MIN);
 }
 
@@ -343,6 +350,10 @@ fn takes_the_first_character(rt: HostRuntime) {
     assert_first(&rt, &[0xC2, 0xA2], Ok('¢'));
     assert_first(&rt, &[0xF0, 0x90, 0x8D, 0x88], Ok('𐍈'));
     assert_first(&rt, &[0xC2, 0xA2, 0x61], Ok('¢'));
+}
+
+#[test]
+fn refuses_a_first_character(rt: HostRuntime) {
     assert_first(&rt, b"", Err(Error::DeserializeBadChar));
     assert_first(&rt, &[0xC3], Err(Error::DeserializeBadChar));
     assert_first(&rt, &[0x61, 0xC3], Err(Error::DeserializeBadChar));

@@ -7,7 +7,7 @@ mod grown;
 mod numbers;
 mod types;
 
-use crate::asserts::same;
+use crate::asserts::{same, same_at};
 use postcard_de::{Deserialize, DeserializeOwned, Deserializer, Error, Result};
 use std::alloc::Global;
 use std::fmt::Debug;
@@ -29,26 +29,35 @@ fn read_owned<T: DeserializeOwned>(alloc: Global, bytes: &[u8]) -> Result<T> {
     T::deserialize_owned(alloc, &mut Deserializer::from_bytes(bytes))
 }
 
-/// Asserts the result of reading each row.
-fn check_borrowed<'a, T: Deserialize<'a> + PartialEq + Debug>(
+/// Asserts the result of reading, by `Deserialize`.
+fn assert_lent<'a, T: Deserialize<'a> + PartialEq + Debug>(
     rt: &impl Abort,
     alloc: Global,
-    rows: &[Row<'a, T>],
+    bytes: &'a [u8],
+    want: &Result<T>,
 ) {
-    for (bytes, want) in rows {
-        assert_eq!(rt; &read::<T>(alloc, bytes), want, "{bytes:?}");
-    }
+    same_at(rt, &read::<T>(alloc, bytes), want, bytes);
 }
 
-/// Asserts the result of reading each row by both traits.
+/// Asserts the result of reading, by both traits.
+fn assert_read<'a, T: Deserialize<'a> + DeserializeOwned + PartialEq + Debug>(
+    rt: &impl Abort,
+    alloc: Global,
+    bytes: &'a [u8],
+    want: &Result<T>,
+) {
+    assert_lent(rt, alloc, bytes, want);
+    same_at(rt, &read_owned::<T>(alloc, bytes), want, (bytes, "owned"));
+}
+
+/// Asserts the result of reading each row, by both traits.
 fn check<'a, T: Deserialize<'a> + DeserializeOwned + PartialEq + Debug>(
     rt: &impl Abort,
     alloc: Global,
     rows: &[Row<'a, T>],
 ) {
     for (bytes, want) in rows {
-        assert_eq!(rt; &read::<T>(alloc, bytes), want, "{bytes:?}");
-        assert_eq!(rt; &read_owned::<T>(alloc, bytes), want, "{bytes:?} owned");
+        assert_read(rt, alloc, bytes, want);
     }
 }
 

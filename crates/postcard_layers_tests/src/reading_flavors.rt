@@ -10,10 +10,23 @@ ghost use Rattle.std.specs.Io.KnownBytes.{ReadConsumes};
 use crate::asserts::{same, same_bytes};
 use postcard_de_flavors::io::io::IOReader;
 use postcard_de_flavors::{Flavor, Plain, Slice, Source};
-use postcard_wire::Error;
+use postcard_wire::{Error, Result};
 use std::io;
 use std::io::{ErrorKind, Read};
 use std::process::Abort;
+
+/// The error at the end of the bytes.
+const END: Error = Error::DeserializeUnexpectedEnd;
+
+/// Asserts the result of taking the next byte.
+fn assert_popped<F: Flavor>(rt: &impl Abort, source: &mut F, want: Result<u8>) {
+    same(rt, source.pop(), want);
+}
+
+/// Asserts that these are the next bytes, which are taken until the next call.
+fn assert_lent<F: Flavor>(rt: &impl Abort, source: &mut F, want: &[u8]) {
+    same(rt, source.try_take_n_temp(want.len()), Ok(want));
+}
 
 #[test]
 fn a_slice_gives_fronts_until_too_few_bytes_are_left(rt: HostRuntime) {
@@ -161,6 +174,13 @@ impl Over for Plain<&'static [u8]> {
     }
 }
 
+/// Asserts that these are the next bytes, one after the other.
+fn assert_all_popped<F: Flavor>(rt: &impl Abort, source: &mut F, bytes: &[u8]) {
+    for byte in bytes {
+        assert_popped(rt, source, Ok(*byte));
+    }
+}
+
 /// Asserts that a source has just the bytes `unread` left, and `room` bytes of scratch.
 fn assert_left<T: Source>(rt: &impl Abort, source: IOReader<'_, T>, unread: &[u8], room: usize) {
     let Ok((reader, scratch)) = source.finalize() else {
@@ -168,10 +188,16 @@ fn assert_left<T: Source>(rt: &impl Abort, source: IOReader<'_, T>, unread: &[u8
     };
     same(rt, scratch.len(), room);
     let mut rest = IOReader::new(reader, &mut []);
-    for byte in unread {
-        same(rt, rest.pop(), Ok(*byte));
-    }
-    same(rt, rest.pop().is_err(), true);
+    assert_all_popped(rt, &mut rest, unread);
+    assert_popped(rt, &mut rest, Err(END));
+}
+
+/// Asserts that a source has `room` bytes of scratch left.
+fn assert_room<T: Source>(rt: &impl Abort, source: IOReader<'_, T>, room: usize) {
+    let Ok((_reader, scratch)) = source.finalize() else {
+        unreachable!()
+    };
+    same(rt, scratch.len(), room);
 }
 
 /// Both takes, with enough bytes and enough scratch.
@@ -180,7 +206,7 @@ fn takes<T: Over>(rt: &impl Abort) {
     let mut source = IOReader::new(T::over(&[0xaa, 0xbb, 0xcc, 0xdd, 0xee]), &mut memory);
     same(rt, source.size_hint(), None);
     let first = source.try_take_n(2);
-    same(rt, source.try_take_n_temp(2), Ok([0xcc, 0xdd].as_slice()));
+    assert_lent(rt, &mut source, &[0xcc, 0xdd]);
     same(rt, first, Ok([0xaa, 0xbb].as_slice()));
     assert_left(rt, source, &[0xee], 6);
 }
@@ -199,26 +225,26 @@ fn takes_for_good<T: Over>(rt: &impl Abort) {
 /// Single bytes, which need no scratch.
 fn pops<T: Over>(rt: &impl Abort) {
     let mut source = IOReader::new(T::over(&[0xaa, 0xbb, 0xcc]), &mut []);
-    for byte in [0xaa, 0xbb, 0xcc] {
-        same(rt, source.pop(), Ok(byte));
-    }
-    same(rt, source.pop(), Err(Error::DeserializeUnexpectedEnd));
+    assert_all_popped(rt, &mut source, &[0xaa, 0xbb, 0xcc]);
+    assert_popped(rt, &mut source, Err(END));
 }
 
-/// An input too short: to take 3 bytes of `01 02` with 4 bytes of scratch fails, and leaves `room`
-/// bytes of scratch.
-fn input_too_short<T: Over>(rt: &impl Abort, for_good: bool, room: usize) {
+/// An input too short: to take 3 bytes of `01 02` for good with 4 bytes of scratch fails, and
+/// leaves 1 byte of scratch.
+fn input_too_short<T: Over>(rt: &impl Abort) {
     let mut memory = [0; 4];
     let mut source = IOReader::new(T::over(&[1, 2]), &mut memory);
-    if for_good {
-        same(rt, source.try_take_n(3).is_err(), true);
-    } else {
-        same(rt, source.try_take_n_temp(3).is_err(), true);
-    }
-    let Ok((_reader, scratch)) = source.finalize() else {
-        unreachable!()
-    };
-    same(rt, scratch.len(), room);
+    same(rt, source.try_take_n(3).is_err(), true);
+    assert_room(rt, source, 1);
+}
+
+/// An input too short: to take 3 bytes of `01 02` until the next call with 4 bytes of scratch
+/// fails, and leaves the scratch whole.
+fn input_too_short_to_lend<T: Over>(rt: &impl Abort) {
+    let mut memory = [0; 4];
+    let mut source = IOReader::new(T::over(&[1, 2]), &mut memory);
+    same(rt, source.try_take_n_temp(3).is_err(), true);
+    assert_room(rt, source, 4);
 }
 
 /// A scratch too short: both takes fail, and the reader isn't called.
@@ -226,7 +252,7 @@ fn scratch_too_short<T: Over>(rt: &impl Abort) {
     let mut memory = [0; 1];
     let mut source = IOReader::new(T::over(&[1, 2]), &mut memory);
     same(rt, source.try_take_n(2).is_err(), true);
-    assert!(rt; !looks(&mut source, 2));
+    same(rt, looks(&mut source, 2), false);
     assert_left(rt, source, &[1, 2], 1);
 }
 
@@ -235,8 +261,8 @@ fn all_rows<T: Over>(rt: &impl Abort) {
     takes::<T>(rt);
     takes_for_good::<T>(rt);
     pops::<T>(rt);
-    input_too_short::<T>(rt, true, 1);
-    input_too_short::<T>(rt, false, 4);
+    input_too_short::<T>(rt);
+    input_too_short_to_lend::<T>(rt);
     scratch_too_short::<T>(rt);
 }
 
@@ -282,24 +308,38 @@ fn a_failing_reader(rt: HostRuntime) {
     take_three(&rt, 3, true, 0);
 }
 
+/// Asserts that a read of two bytes gives these.
+fn assert_gives_two<T: Source>(rt: &impl Abort, reader: &mut T, want: &[u8]) {
+    let mut buf = [0; 2];
+    same(rt, reader.read_some(&mut buf).ok(), Some(2));
+    same_bytes(rt, &buf, want);
+}
+
+/// Asserts that a read of just two bytes fails.
+fn assert_has_no_two<T: Source>(rt: &impl Abort, reader: &mut T) {
+    let mut buf = [0; 2];
+    same(rt, reader.read_full(&mut buf).is_err(), true);
+}
+
 /// No clause says what a slice keeps after a read of too many bytes: this is the only test that
 /// would catch one that then loses the bytes that it has.
 #[test]
-fn readers(rt: HostRuntime) {
+fn a_slice_as_a_reader(rt: HostRuntime) {
     let bytes = [1, 2, 3];
     let mut slice = bytes.as_slice();
-    let mut plain = Plain::new(bytes.as_slice());
-    let mut buf = [0; 2];
-    same(&rt, slice.read_some(&mut buf).ok(), Some(2));
-    same_bytes(&rt, &buf, &[1, 2]);
-    let mut buf = [0; 2];
-    same(&rt, plain.read_some(&mut buf).ok(), Some(2));
-    same_bytes(&rt, &buf, &[1, 2]);
-    same(&rt, slice.read_full(&mut buf).is_err(), true);
-    same(&rt, plain.read_full(&mut buf).is_err(), true);
-    same(&rt, plain.into_inner().len(), 0);
+    assert_gives_two(&rt, &mut slice, &[1, 2]);
+    assert_has_no_two(&rt, &mut slice);
     let mut buf = [0; 1];
     same(&rt, slice.read_full(&mut buf).is_ok(), true);
     same_bytes(&rt, &buf, &[3]);
     same(&rt, slice.read_some(&mut buf).ok(), Some(0));
+}
+
+#[test]
+fn a_plain_reader(rt: HostRuntime) {
+    let bytes = [1, 2, 3];
+    let mut plain = Plain::new(bytes.as_slice());
+    assert_gives_two(&rt, &mut plain, &[1, 2]);
+    assert_has_no_two(&rt, &mut plain);
+    same(&rt, plain.into_inner().len(), 0);
 }

@@ -19,6 +19,12 @@ use postcard_shape::{Case, NoCase, Repr, Shaped};
 use postcard_wire::{Error, Result};
 use std::process::Abort;
 
+/// The varint of 2^128 - 1.
+const GREATEST_128: [u8; 19] = [
+    0xFF, 0xFF, 0xFF, 0xFF, 0xFF, 0xFF, 0xFF, 0xFF, 0xFF, 0xFF, 0xFF, 0xFF, 0xFF, 0xFF, 0xFF, 0xFF,
+    0xFF, 0xFF, 0x03,
+];
+
 /// A user's struct. It is written as the tuple of its fields, so it needs no proof of its own.
 #[derive(Drop)]
 struct Reading<'a> {
@@ -147,13 +153,17 @@ impl<F: Flavor + Drop> Flavor for Pieces<F> {
     } };
 
     fn try_push(&mut self, byte: u8) -> Result<()> {
-        self.take()?;
-        self.inner.try_push(byte)
+        match self.take() {
+            Ok(()) => self.inner.try_push(byte),
+            Err(error) => Err(error),
+        }
     }
 
     fn try_extend(&mut self, bytes: &[u8]) -> Result<()> {
-        self.take()?;
-        self.inner.try_extend(bytes)
+        match self.take() {
+            Ok(()) => self.inner.try_extend(bytes),
+            Err(error) => Err(error),
+        }
     }
 
     fn finalize(self) -> Result<F::Output> {
@@ -166,9 +176,16 @@ fn written<'a, T: Serialize>(value: &T, buffer: &'a mut [u8]) -> Result<&'a [u8]
     let mut serializer = Serializer {
         output: Slice::new(buffer),
     };
-    value.serialize(&mut serializer)?;
-    let front: &'a [u8] = serializer.output.finalize()?;
-    Ok(front)
+    if let Err(error) = value.serialize(&mut serializer) {
+        return Err(error);
+    }
+    match serializer.output.finalize() {
+        Ok(front) => {
+            let front: &'a [u8] = front;
+            Ok(front)
+        }
+        Err(error) => Err(error),
+    }
 }
 
 /// Asserts that the value is written as these bytes.
@@ -183,26 +200,24 @@ fn assert_holds(rt: &impl Abort, serializer: Serializer<Slice>, want: &[u8]) {
     same(rt, all.get(..used), Some(want));
 }
 
-/// Asserts that writing the value fails over flavors that refuse their first piece, their second
-/// piece and so on, and that they then hold `held` of its bytes.
-fn assert_refused<T: Serialize>(rt: &impl Abort, value: &T, want: &[u8], held: &[usize]) {
-    for (i, count) in held.iter().enumerate() {
-        let mut buffer = [0xAA; 32];
-        let mut serializer = Serializer {
-            output: Pieces {
-                inner: Slice::new(&mut buffer),
-                left: i,
-            },
-        };
-        let answer = value.serialize(&mut serializer);
-        same(rt, answer, Err(Error::SerializeBufferFull));
-        let (all, used) = serializer.output.inner.into_parts();
-        same(rt, all.get(..used), want.get(..*count));
-    }
+/// Asserts that writing the value fails over a flavor that refuses the piece after `pieces`, and
+/// that it then holds these bytes.
+fn assert_stopped<T: Serialize>(rt: &impl Abort, value: &T, pieces: usize, held: &[u8]) {
+    let mut buffer = [0xAA; 32];
+    let mut serializer = Serializer {
+        output: Pieces {
+            inner: Slice::new(&mut buffer),
+            left: pieces,
+        },
+    };
+    let answer = value.serialize(&mut serializer);
+    same(rt, answer, Err(Error::SerializeBufferFull));
+    let (all, used) = serializer.output.inner.into_parts();
+    same(rt, all.get(..used), Some(held));
 }
 
 #[test]
-fn numbers(rt: HostRuntime) {
+fn numbers_without_a_sign(rt: HostRuntime) {
     assert_written(&rt, &200u8, &[0xC8]);
     assert_written(&rt, &u16::MAX, &[0xFF, 0xFF, 0x03]);
     assert_written(&rt, &u32::MAX, &[0xFF, 0xFF, 0xFF, 0xFF, 0x0F]);
@@ -211,6 +226,11 @@ fn numbers(rt: HostRuntime) {
         &(1u64 << 63),
         &[0x80, 0x80, 0x80, 0x80, 0x80, 0x80, 0x80, 0x80, 0x80, 0x01],
     );
+    assert_written(&rt, &u128::MAX, &GREATEST_128);
+}
+
+#[test]
+fn numbers_with_a_sign(rt: HostRuntime) {
     assert_written(&rt, &-1i8, &[0xFF]);
     assert_written(&rt, &-128i8, &[0x80]);
     assert_written(&rt, &-1i16, &[0x01]);
@@ -218,87 +238,90 @@ fn numbers(rt: HostRuntime) {
     assert_written(&rt, &-32768i16, &[0xFF, 0xFF, 0x03]);
     assert_written(&rt, &64i32, &[0x80, 0x01]);
     assert_written(&rt, &-65i64, &[0x81, 0x01]);
-    let mut greatest = [0xFF; 19];
-    greatest[18] = 0x03;
-    assert_written(&rt, &u128::MAX, &greatest);
-    assert_written(&rt, &i128::MIN, &greatest);
+    assert_written(&rt, &i128::MIN, &GREATEST_128);
 }
 
 #[test]
-fn texts_and_lists(rt: HostRuntime) {
-    let text = [0x03, 0x48, 0x69, 0x21];
-    assert_written(&rt, &"Hi!", &text);
+fn texts(rt: HostRuntime) {
+    assert_written(&rt, &"Hi!", &[0x03, 0x48, 0x69, 0x21]);
     let owned = value(&rt, String::from_str(rt.alloc(), "Hi!"));
-    assert_written(&rt, &owned, &text);
-    let list = [0x02, 0x01, 0xAC, 0x02];
-    assert_written(&rt, &[1u32, 300].as_slice(), &list);
-    let owned = value(&rt, vec![in rt.alloc(); 1u32, 300]);
-    assert_written(&rt, &owned, &list);
-    assert_written(&rt, &Both(1, 300), &list);
-    assert_written(
-        &rt,
-        &Reading {
-            name: "Hi!",
-            value: 300,
-        },
-        &[0x03, 0x48, 0x69, 0x21, 0xAC, 0x02],
-    );
+    assert_written(&rt, &owned, &[0x03, 0x48, 0x69, 0x21]);
 }
 
 #[test]
-fn enums(rt: HostRuntime) {
-    let reading = Reading {
-        name: "Hi!",
-        value: 300,
-    };
-    let fault = Event::Fault { code: 7, text: "z" };
+fn lists(rt: HostRuntime) {
+    assert_written(&rt, &[1u32, 300].as_slice(), &[0x02, 0x01, 0xAC, 0x02]);
+    let owned = value(&rt, vec![in rt.alloc(); 1u32, 300]);
+    assert_written(&rt, &owned, &[0x02, 0x01, 0xAC, 0x02]);
+    assert_written(&rt, &Both(1, 300), &[0x02, 0x01, 0xAC, 0x02]);
+}
+
+/// The reading that the tests write.
+const READING: Reading<'static> = Reading {
+    name: "Hi!",
+    value: 300,
+};
+
+/// The fault that the tests write.
+const FAULT: Event<'static> = Event::Fault { code: 7, text: "z" };
+
+#[test]
+fn structs_and_enums(rt: HostRuntime) {
+    assert_written(&rt, &READING, &[0x03, 0x48, 0x69, 0x21, 0xAC, 0x02]);
     assert_written(&rt, &Event::Boot, &[0x00]);
     assert_written(
         &rt,
-        &Event::Reading(reading),
+        &Event::Reading(READING),
         &[0x01, 0x03, 0x48, 0x69, 0x21, 0xAC, 0x02],
     );
-    assert_written(&rt, &fault, &[0x02, 0x07, 0x01, 0x7A]);
-    assert_refused(&rt, &fault, &[0x02, 0x07, 0x01, 0x7A], &[0, 1, 2, 3]);
+    assert_written(&rt, &FAULT, &[0x02, 0x07, 0x01, 0x7A]);
 }
 
 #[test]
-fn refusals(rt: HostRuntime) {
+fn refused_enums(rt: HostRuntime) {
+    assert_stopped(&rt, &FAULT, 0, &[]);
+    assert_stopped(&rt, &FAULT, 1, &[0x02]);
+    assert_stopped(&rt, &FAULT, 2, &[0x02, 0x07]);
+    assert_stopped(&rt, &FAULT, 3, &[0x02, 0x07, 0x01]);
+}
+
+#[test]
+fn refusals_of_a_slice(rt: HostRuntime) {
     let mut short = [0xAA; 3];
-    same(
-        &rt,
-        written(&"Hi!", &mut short),
-        Err(Error::SerializeBufferFull),
-    );
+    let refused = written(&"Hi!", &mut short);
+    same(&rt, refused, Err(Error::SerializeBufferFull));
     same_bytes(&rt, &short, &[0x03, 0xAA, 0xAA]);
-    assert_refused(&rt, &"Hi!", &[0x03, 0x48, 0x69, 0x21], &[0, 1]);
-    assert_refused(
-        &rt,
-        &[1u32, 300].as_slice(),
-        &[0x02, 0x01, 0xAC, 0x02],
-        &[0, 1, 2],
-    );
-    assert_refused(&rt, &Even(4), &[0x04], &[0]);
+}
+
+#[test]
+fn refused_pieces(rt: HostRuntime) {
+    assert_stopped(&rt, &"Hi!", 0, &[]);
+    assert_stopped(&rt, &"Hi!", 1, &[0x03]);
+    assert_stopped(&rt, &[1u32, 300].as_slice(), 0, &[]);
+    assert_stopped(&rt, &[1u32, 300].as_slice(), 1, &[0x02]);
+    assert_stopped(&rt, &[1u32, 300].as_slice(), 2, &[0x02, 0x01]);
+    assert_stopped(&rt, &Even(4), 0, &[]);
+}
+
+/// Asserts the result of writing the value into this many bytes, at most one.
+fn assert_answer<T: Serialize>(rt: &impl Abort, value: &T, room: usize, want: Result<&[u8]>) {
+    let mut buffer = [0xAA; 1];
+    let (front, _) = buffer.split_at_mut(room.min(1));
+    same(rt, written(value, front), want);
 }
 
 #[test]
 fn values_that_refuse_themselves(rt: HostRuntime) {
-    let mut buffer = [0xAA; 1];
-    same(
-        &rt,
-        written(&Even(3), &mut buffer),
-        Err(Error::SerdeSerCustom),
-    );
-    same(&rt, written(&Even(4), &mut buffer), Ok([0x04].as_slice()));
-    // If several parts fail, the error is that of the first.
+    assert_answer(&rt, &Even(3), 1, Err(Error::SerdeSerCustom));
+    assert_answer(&rt, &Even(4), 1, Ok([0x04].as_slice()));
+}
+
+/// If several parts fail, the error is that of the first.
+#[test]
+fn pairs_that_refuse_themselves(rt: HostRuntime) {
     let last = (Even(4), Even(3));
-    same(&rt, written(&last, &mut buffer), Err(Error::SerdeSerCustom));
-    let mut none = [0; 0];
-    same(
-        &rt,
-        written(&last, &mut none),
-        Err(Error::SerializeBufferFull),
-    );
+    assert_answer(&rt, &last, 1, Err(Error::SerdeSerCustom));
+    assert_answer(&rt, &last, 0, Err(Error::SerializeBufferFull));
     let first = (Even(3), Even(4));
-    same(&rt, written(&first, &mut none), Err(Error::SerdeSerCustom));
+    assert_answer(&rt, &first, 0, Err(Error::SerdeSerCustom));
 }

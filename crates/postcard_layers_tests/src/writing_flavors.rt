@@ -1,9 +1,9 @@
 //! The writing flavors and storages through their traits, against bytes worked out by hand: each
 //! where it takes a piece and where it refuses one, and users' flavors over others.
 
-ghost use Rattle.std.specs.Prelude.{◌≡◌, ◌∷◌, [], ⊤};
+ghost use Rattle.std.specs.Prelude.{◌≡◌, ◌∷◌, [], ⊤, length};
 
-use crate::asserts::{same, same_bytes, value};
+use crate::asserts::{same, same_at, same_bytes, value};
 use postcard_ser_flavors::io::WriteFlavor;
 use postcard_ser_flavors::{
     AllocVec, ExtendBytes, ExtendFlavor, Flavor, HVec, Size, Slice, StdVec, Storage,
@@ -17,15 +17,19 @@ use std::process::Abort;
 /// A row: a piece that a flavor is to take, and the result of that.
 type Row<'a> = (&'a [u8], Result<()>);
 
-/// Asserts the result of each row, one after the other. A row of one byte is pushed, and any other
-/// is taken as a piece.
+/// Asserts the result of a row. A row of one byte is pushed, and any other is taken as a piece.
+fn assert_row<F: Flavor>(rt: &impl Abort, flavor: &mut F, piece: &[u8], want: &Result<()>) {
+    let result = match piece {
+        [byte] => flavor.try_push(*byte),
+        _ => flavor.try_extend(piece),
+    };
+    same_at(rt, &result, want, piece);
+}
+
+/// Asserts the result of each row, one after the other.
 fn assert_rows<F: Flavor>(rt: &impl Abort, flavor: &mut F, rows: &[Row]) {
     for (piece, want) in rows {
-        let result = match piece {
-            [byte] => flavor.try_push(*byte),
-            _ => flavor.try_extend(piece),
-        };
-        assert_eq!(rt; &result, want, "{piece:?}");
+        assert_row(rt, flavor, piece, want);
     }
 }
 
@@ -39,24 +43,28 @@ fn vec_of(rt: &impl Abort, alloc: Global, bytes: &[u8]) -> Vec<u8> {
     value(rt, bytes.to_vec(alloc))
 }
 
+/// The rows of [`one_to_four`].
+const ONE_TO_FOUR: [Row<'static>; 3] = [(&[1], Ok(())), (&[2, 3, 4], Ok(())), (&[], Ok(()))];
+
 /// Has a flavor take 01, then 02 03 04, then nothing. Returns its output.
 fn one_to_four<F: Flavor + Drop>(rt: &impl Abort, flavor: F) -> F::Output {
     let mut flavor = flavor;
-    assert_rows(
-        rt,
-        &mut flavor,
-        &[(&[1], Ok(())), (&[2, 3, 4], Ok(())), (&[], Ok(()))],
-    );
+    assert_rows(rt, &mut flavor, &ONE_TO_FOUR);
     end(rt, flavor)
 }
 
 #[test]
-fn each_flavor_has_the_bytes(rt: HostRuntime) {
+fn each_flavor_of_fixed_room_has_the_bytes(rt: HostRuntime) {
     let mut buffer = [0xAA; 6];
     let front: &[u8] = one_to_four(&rt, Slice::new(&mut buffer));
     same_bytes(&rt, front, &[1, 2, 3, 4]);
     let fixed = one_to_four(&rt, HVec::<4>::default());
     same_bytes(&rt, &fixed, &[1, 2, 3, 4]);
+    same(&rt, one_to_four(&rt, Size::default()), 4);
+}
+
+#[test]
+fn each_flavor_that_grows_has_the_bytes(rt: HostRuntime) {
     let grown = one_to_four(&rt, StdVec::new(rt.alloc()));
     same_bytes(&rt, &grown, &[1, 2, 3, 4]);
     let target = vec_of(&rt, rt.alloc(), &[9, 8]);
@@ -65,7 +73,6 @@ fn each_flavor_has_the_bytes(rt: HostRuntime) {
     let target = vec_of(&rt, rt.alloc(), &[9, 8]);
     let written = one_to_four(&rt, WriteFlavor::new(target));
     same_bytes(&rt, &written, &[9, 8, 1, 2, 3, 4]);
-    same(&rt, one_to_four(&rt, Size::default()), 4);
 }
 
 /// Writes 03 05 07 after what is held, changes the first byte of all to 09 by `set` and the second
@@ -75,6 +82,13 @@ fn change_two<B: Storage>(rt: &impl Abort, storage: &mut B, second: u8) {
     storage.set(0, 9);
     same(rt, (storage[0], storage[1]), (9, second));
     storage[1] = 6;
+}
+
+/// Asserts the number of bytes held.
+fn assert_held<B: Storage>(rt: &impl Abort, storage: &B, count: usize)
+    ensures { length (B.held storage.now) ≡ count }
+{
+    assert_eq!(rt; storage.held_len(), count);
 }
 
 /// Asserts the number of bytes held at first, and after pushing 01.
@@ -121,14 +135,19 @@ fn each_storage_counts_held_bytes(rt: HostRuntime) {
     same_bytes(&rt, &end(&rt, grown), &[9, 8, 1]);
 }
 
+/// Writes a piece, and once more if it is refused.
+fn retry<F: Flavor>(rt: &impl Abort, flavor: &mut F, piece: &[u8]) {
+    if flavor.try_extend(piece).is_err() {
+        value(rt, flavor.try_extend(piece));
+    }
+}
+
 /// Writes 231 bytes 07 in three pieces, each of which is written again if it is refused.
 fn retried<F: Flavor + Drop>(rt: &impl Abort, flavor: F) -> F::Output {
     let mut flavor = flavor;
-    for piece in [[7; 1].as_slice(), [7; 30].as_slice(), [7; 200].as_slice()] {
-        if flavor.try_extend(piece).is_err() {
-            assert!(rt; flavor.try_extend(piece).is_ok());
-        }
-    }
+    retry(rt, &mut flavor, &[7; 1]);
+    retry(rt, &mut flavor, &[7; 30]);
+    retry(rt, &mut flavor, &[7; 200]);
     end(rt, flavor)
 }
 
@@ -149,34 +168,39 @@ fn a_vector_extends(rt: HostRuntime) {
     same_bytes(&rt, &target, &[1, 2, 3]);
 }
 
+/// Pieces that fit six bytes.
+const FILLS: [Row<'static>; 2] = [(&[0x03], Ok(())), (b"Hi!", Ok(()))];
+
 #[test]
 fn a_slice_fills_from_the_front(rt: HostRuntime) {
     let mut buffer = [0xAA; 6];
     let mut slice = Slice::new(&mut buffer);
-    assert_rows(&rt, &mut slice, &[(&[0x03], Ok(())), (b"Hi!", Ok(()))]);
+    assert_rows(&rt, &mut slice, &FILLS);
     let front: &[u8] = end(&rt, slice);
     same_bytes(&rt, front, &[0x03, 0x48, 0x69, 0x21]);
 }
+
+/// Pieces for three bytes.
+const WHOLE_OR_NOT: [Row<'static>; 5] = [
+    (&[0x03], Ok(())),
+    (b"Hi!", Err(Error::SerializeBufferFull)),
+    (b"Hi", Ok(())),
+    (&[0x21], Err(Error::SerializeBufferFull)),
+    (b"", Ok(())),
+];
 
 #[test]
 fn a_slice_refuses_a_piece_whole(rt: HostRuntime) {
     let mut buffer = [0xAA; 3];
     let mut slice = Slice::new(&mut buffer);
-    assert_rows(
-        &rt,
-        &mut slice,
-        &[
-            (&[0x03], Ok(())),
-            (b"Hi!", Err(Error::SerializeBufferFull)),
-            (b"Hi", Ok(())),
-            (&[0x21], Err(Error::SerializeBufferFull)),
-            (b"", Ok(())),
-        ],
-    );
+    assert_rows(&rt, &mut slice, &WHOLE_OR_NOT);
     let (all, count) = slice.into_parts();
     same(&rt, count, 3);
     same_bytes(&rt, all, &[0x03, 0x48, 0x69]);
 }
+
+/// Pieces for no bytes.
+const NOTHING: [Row<'static>; 2] = [(&[0x00], Err(Error::SerializeBufferFull)), (b"", Ok(()))];
 
 #[test]
 fn a_slice_of_no_bytes_takes_nothing(rt: HostRuntime) {
@@ -184,34 +208,31 @@ fn a_slice_of_no_bytes_takes_nothing(rt: HostRuntime) {
     let mut slice = Slice::new(&mut none);
     same(&rt, slice.try_varint(0), Err(Error::SerializeBufferFull));
     same(&rt, slice.try_extend(b"H"), Err(Error::SerializeBufferFull));
-    assert_rows(
-        &rt,
-        &mut slice,
-        &[(&[0x00], Err(Error::SerializeBufferFull)), (b"", Ok(()))],
-    );
+    assert_rows(&rt, &mut slice, &NOTHING);
     let front: &[u8] = end(&rt, slice);
     same_bytes(&rt, front, &[]);
 }
 
+/// Pieces for four bytes, of which two are taken.
+const TWO_OF_FOUR: [Row<'static>; 2] = [
+    (&[1, 2], Ok(())),
+    (&[3, 4, 5], Err(Error::SerializeBufferFull)),
+];
+
+/// Pieces for the two bytes left.
+const FOUR_OF_FOUR: [Row<'static>; 2] = [
+    (&[3, 4], Ok(())),
+    (&[5], Err(Error::SerializeBufferFull)),
+];
+
 #[test]
 fn a_fixed_vector_takes_a_piece_whole_or_not(rt: HostRuntime) {
     let mut vec = HVec::<4>::new();
-    assert_rows(
-        &rt,
-        &mut vec,
-        &[
-            (&[1, 2], Ok(())),
-            (&[3, 4, 5], Err(Error::SerializeBufferFull)),
-        ],
-    );
-    assert_eq!(rt; vec.held_len(), 2);
+    assert_rows(&rt, &mut vec, &TWO_OF_FOUR);
+    assert_held(&rt, &vec, 2);
     same(&rt, (vec[0], vec[1]), (1, 2));
-    assert_rows(
-        &rt,
-        &mut vec,
-        &[(&[3, 4], Ok(())), (&[5], Err(Error::SerializeBufferFull))],
-    );
-    assert_eq!(rt; vec.held_len(), 4);
+    assert_rows(&rt, &mut vec, &FOUR_OF_FOUR);
+    assert_held(&rt, &vec, 4);
     vec.set(1, 9);
     same_bytes(&rt, &end(&rt, vec), &[1, 9, 3, 4]);
 }
@@ -219,7 +240,7 @@ fn a_fixed_vector_takes_a_piece_whole_or_not(rt: HostRuntime) {
 /// Has a flavor over this vector push a byte. Returns the vector that it has then.
 fn pushed(rt: &impl Abort, vec: Vec<u8>) -> Vec<u8> {
     let mut flavor = AllocVec::from_vec(vec);
-    assert!(rt; flavor.try_push(7).is_ok());
+    value(rt, flavor.try_push(7));
     end(rt, flavor)
 }
 
@@ -235,7 +256,7 @@ fn a_vector_grows_seldom(rt: HostRuntime) {
         }
     }
     same(&rt, vec.len(), 4000);
-    assert!(rt; growths <= 12, "{growths} times");
+    same_at(&rt, growths <= 12, true, growths);
 }
 
 /// Takes one byte in each call, after an interruption, and fails in one of the calls or in the
@@ -335,18 +356,21 @@ fn a_writer_refuses_where_it_fails(rt: HostRuntime) {
     );
 }
 
+/// Writes to the first `room` bytes of five, and asserts whether that succeeds, and what the bytes
+/// are then.
+fn assert_hand_fills(rt: &impl Abort, room: usize, succeeds: bool, want: &[u8; 5]) {
+    let mut memory = [0xAA; 5];
+    let (front, _) = memory.split_at_mut(room.min(5));
+    same(rt, hand(front).is_ok(), succeeds);
+    same_bytes(rt, &memory, want);
+}
+
 #[test]
 fn memory_without_room_refuses(rt: HostRuntime) {
-    for (room, succeeds, want) in [
-        (0usize, false, [0xAA, 0xAA, 0xAA, 0xAA, 0xAA]),
-        (3, false, [0x03, 0x48, 0x69, 0xAA, 0xAA]),
-        (4, true, [0x03, 0x48, 0x69, 0x21, 0xAA]),
-        (5, true, [0x03, 0x48, 0x69, 0x21, 0xAA]),
-    ] {
-        let mut memory = [0xAA; 5];
-        same(&rt, hand(&mut memory[..room]).is_ok(), succeeds);
-        same_bytes(&rt, &memory, &want);
-    }
+    assert_hand_fills(&rt, 0, false, &[0xAA, 0xAA, 0xAA, 0xAA, 0xAA]);
+    assert_hand_fills(&rt, 3, false, &[0x03, 0x48, 0x69, 0xAA, 0xAA]);
+    assert_hand_fills(&rt, 4, true, &[0x03, 0x48, 0x69, 0x21, 0xAA]);
+    assert_hand_fills(&rt, 5, true, &[0x03, 0x48, 0x69, 0x21, 0xAA]);
 }
 
 /// Takes only single bytes, as a user's flavor may, and passes them on.
@@ -387,20 +411,19 @@ impl<F: Flavor + Drop> Flavor for Bytewise<F> {
     }
 }
 
+/// Pieces for four bytes, of which the second is taken in part.
+const BYTE_BY_BYTE: [Row<'static>; 2] = [
+    (&[1, 0, 3], Ok(())),
+    (&[4, 5], Err(Error::SerializeBufferFull)),
+];
+
 #[test]
 fn a_flavor_without_pieces_takes_them_byte_by_byte(rt: HostRuntime) {
     let mut buffer = [0xAA; 4];
     let mut flavor = Bytewise {
         inner: Slice::new(&mut buffer),
     };
-    assert_rows(
-        &rt,
-        &mut flavor,
-        &[
-            (&[1, 0, 3], Ok(())),
-            (&[4, 5], Err(Error::SerializeBufferFull)),
-        ],
-    );
+    assert_rows(&rt, &mut flavor, &BYTE_BY_BYTE);
     let (all, count) = flavor.inner.into_parts();
     same(&rt, count, 4);
     same_bytes(&rt, all, &[1, 0, 3, 4]);
@@ -453,18 +476,28 @@ where
     } };
 
     fn try_push(&mut self, byte: u8) -> Result<()> {
-        self.first.try_push(byte)?;
-        self.second.try_push(byte)
+        match self.first.try_push(byte) {
+            Ok(()) => self.second.try_push(byte),
+            Err(error) => Err(error),
+        }
     }
 
     fn try_extend(&mut self, bytes: &[u8]) -> Result<()> {
-        self.first.try_extend(bytes)?;
-        self.second.try_extend(bytes)
+        match self.first.try_extend(bytes) {
+            Ok(()) => self.second.try_extend(bytes),
+            Err(error) => Err(error),
+        }
     }
 
     fn finalize(self) -> Result<(F::Output, G::Output)> {
         let Both { first, second } = self;
-        Ok((first.finalize()?, second.finalize()?))
+        match first.finalize() {
+            Ok(first) => match second.finalize() {
+                Ok(second) => Ok((first, second)),
+                Err(error) => Err(error),
+            },
+            Err(error) => Err(error),
+        }
     }
 }
 
@@ -477,16 +510,19 @@ fn a_user_writes_to_two_flavors(rt: HostRuntime) {
     let (count, vec) = one_to_four(&rt, both);
     same(&rt, count, 4);
     same_bytes(&rt, &vec, &[1, 2, 3, 4]);
+}
+
+/// Pieces for three bytes.
+const SECOND_REFUSES: [Row<'static>; 2] = [
+    (&[1], Ok(())),
+    (&[2, 3, 4], Err(Error::SerializeBufferFull)),
+];
+
+#[test]
+fn the_second_of_two_flavors_refuses(rt: HostRuntime) {
     let mut short = Both {
         first: AllocVec::new(rt.alloc()),
         second: HVec::<3>::new(),
     };
-    assert_rows(
-        &rt,
-        &mut short,
-        &[
-            (&[1], Ok(())),
-            (&[2, 3, 4], Err(Error::SerializeBufferFull)),
-        ],
-    );
+    assert_rows(&rt, &mut short, &SECOND_REFUSES);
 }

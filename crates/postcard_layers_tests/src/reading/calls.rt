@@ -4,40 +4,48 @@ use crate::asserts::{same, same_bytes, value};
 use postcard_de::laws::{one_message, read_again};
 use postcard_de::{Deserialize, Deserializer, Error, Result, SeqAccess};
 use postcard_de_flavors::Slice;
+use std::alloc::Global;
 use std::process::Abort;
 
 #[test]
-fn counts_elements(rt: HostRuntime) {
-    let alloc = rt.alloc();
+fn counts_no_elements_past_the_bytes(rt: HostRuntime) {
     let mut few = Deserializer::from_bytes(&[0x03, 0x01, 0x02]);
     let access = value(&rt, few.deserialize_seq());
     same(&rt, access.size_hint(&few), None);
+}
 
+#[test]
+fn counts_elements(rt: HostRuntime) {
     let mut all = Deserializer::from_flavor(Slice::new(&[0x03, 0x01, 0x02, 0x03]));
     let mut access = value(&rt, all.deserialize_seq());
     same(&rt, access.size_hint(&all), Some(3));
-    same(
-        &rt,
-        access.next_element::<u8, _>(alloc, &mut all),
-        Ok(Some(1)),
-    );
+    let first = access.next_element::<u8, _>(rt.alloc(), &mut all);
+    same(&rt, first, Ok(Some(1)));
     same(&rt, access.size_hint(&all), Some(2));
     same(&rt, all.is_human_readable(), false);
     same_bytes(&rt, value(&rt, all.finalize()), &[0x02, 0x03]);
 }
 
+/// Asserts the result of reading the next element, a `u16`.
+fn assert_next(
+    rt: &impl Abort,
+    alloc: Global,
+    access: &mut SeqAccess,
+    d: &mut Deserializer<Slice>,
+    want: Result<Option<u16>>,
+) {
+    same(rt, access.next_element(alloc, d), want);
+}
+
 #[test]
 fn has_no_elements_after_one_that_ends_early(rt: HostRuntime) {
     let alloc = rt.alloc();
-    let mut ends = Deserializer::from_bytes(&[0x02, 0x01, 0x80]);
-    let mut access = value(&rt, ends.deserialize_seq());
-    for want in [
-        Ok(Some(1u16)),
-        Err(Error::DeserializeUnexpectedEnd),
-        Ok(None),
-    ] {
-        same(&rt, access.next_element(alloc, &mut ends), want);
-    }
+    let mut d = Deserializer::from_bytes(&[0x02, 0x01, 0x80]);
+    let mut access = value(&rt, d.deserialize_seq());
+    assert_next(&rt, alloc, &mut access, &mut d, Ok(Some(1)));
+    let ended = Err(Error::DeserializeUnexpectedEnd);
+    assert_next(&rt, alloc, &mut access, &mut d, ended);
+    assert_next(&rt, alloc, &mut access, &mut d, Ok(None));
 }
 
 #[test]
@@ -77,19 +85,22 @@ fn begins_what_has_parts(rt: HostRuntime) {
 }
 
 #[test]
-fn reads_what_has_no_bytes_of_its_own(rt: HostRuntime) {
+fn refuses_what_tells_no_type(rt: HostRuntime) {
     let mut d = Deserializer::from_bytes(&[0x05]);
     same(&rt, d.deserialize_any(), Err(Error::WontImplement));
     same(&rt, d.deserialize_identifier(), Err(Error::WontImplement));
     same(&rt, d.deserialize_ignored_any(), Err(Error::WontImplement));
+    same(&rt, d.deserialize_u8(), Ok(5));
+}
+
+#[test]
+fn reads_what_has_no_bytes_of_its_own(rt: HostRuntime) {
+    let mut d = Deserializer::from_bytes(&[0x05]);
     same(&rt, d.deserialize_unit(), Ok(()));
     same(&rt, d.deserialize_unit_struct("U"), Ok(()));
     same(&rt, d.unit_variant(), Ok(()));
-    same(
-        &rt,
-        d.deserialize_newtype_struct::<u8>(rt.alloc(), "N"),
-        Ok(5),
-    );
+    let number = d.deserialize_newtype_struct::<u8>(rt.alloc(), "N");
+    same(&rt, number, Ok(5));
 }
 
 #[test]

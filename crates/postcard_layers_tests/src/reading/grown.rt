@@ -1,6 +1,6 @@
 //! Types whose values allocate, or hold what was read in a fixed room.
 
-use super::{GREATEST, check, check_refused, read, read_owned};
+use super::{GREATEST, assert_read, check_refused, read, read_owned};
 use crate::asserts::{same, same_bytes, value};
 use arrayvec::{ArrayString, ArrayVec};
 use postcard_de::{Deserialize, DeserializeOwned, Deserializer, Error, Owned, Result};
@@ -61,18 +61,27 @@ fn check_bytes<'a, T: Deserialize<'a> + DeserializeOwned + AsSlice<u8>>(
     same_bytes(rt, read_owned_well::<T>(rt, alloc, bytes).as_slice(), want);
 }
 
+/// Reads a list of bytes that is to be read, as a vector, in two tries.
+fn copy_well(rt: &impl Abort, alloc: Global, bytes: &[u8]) -> Vec<u8> {
+    let copy = match copy_bytes(alloc, bytes) {
+        Err(Error::OutOfMemory) => copy_bytes(alloc, bytes),
+        answer => answer,
+    };
+    value(rt, copy)
+}
+
 #[test]
 fn reads_texts_and_lists_of_bytes(rt: HostRuntime) {
     let alloc = rt.alloc();
     check_bytes::<String>(&rt, alloc, &[0x02, 0x48, 0x69], b"Hi");
     check_bytes::<Vec<u8>>(&rt, alloc, &[0x02, 0x05, 0x06], &[5, 6]);
-    let eight = [0x08, 0xFF, 0xFF, 0xFF, 0x00, 0x00, 0x00, 0x00, 0x00];
-    check_bytes::<Vec<u8>>(&rt, alloc, &eight, &eight[1..]);
-    let copy = match copy_bytes(alloc, &[0x02, 0x05, 0x06]) {
-        Err(Error::OutOfMemory) => copy_bytes(alloc, &[0x02, 0x05, 0x06]),
-        answer => answer,
-    };
-    same_bytes(&rt, &value(&rt, copy), &[5, 6]);
+    check_bytes::<Vec<u8>>(
+        &rt,
+        alloc,
+        &[0x08, 0xFF, 0xFF, 0xFF, 0x00, 0x00, 0x00, 0x00, 0x00],
+        &[0xFF, 0xFF, 0xFF, 0x00, 0x00, 0x00, 0x00, 0x00],
+    );
+    same_bytes(&rt, &copy_well(&rt, alloc, &[0x02, 0x05, 0x06]), &[5, 6]);
 }
 
 /// Asserts that reading by both traits, in two tries, fails with this error.
@@ -94,8 +103,23 @@ fn check_refused_twice<'a, T: Deserialize<'a> + DeserializeOwned>(
 fn refuses_texts_and_lists_of_bytes(rt: HostRuntime) {
     let alloc = rt.alloc();
     check_refused_twice::<String>(&rt, alloc, &[0x01, 0xFF], &Error::DeserializeBadUtf8);
-    let many = [0x88, 0xFF, 0xFF, 0xFF, 0x00, 0x00, 0x00, 0x00, 0x00];
-    check_refused_twice::<Vec<u8>>(&rt, alloc, &many, &Error::DeserializeUnexpectedEnd);
+    check_refused_twice::<Vec<u8>>(
+        &rt,
+        alloc,
+        &[0x88, 0xFF, 0xFF, 0xFF, 0x00, 0x00, 0x00, 0x00, 0x00],
+        &Error::DeserializeUnexpectedEnd,
+    );
+}
+
+/// A count of 2^64 - 1, and three bytes.
+const ANNOUNCED: [u8; 13] = [
+    0xFF, 0xFF, 0xFF, 0xFF, 0xFF, 0xFF, 0xFF, 0xFF, 0xFF, 0x01, 0x61, 0x62, 0x63,
+];
+
+/// Asserts that a list of bytes is not read, since the bytes end.
+fn assert_copy_ends(rt: &impl Abort, alloc: Global, bytes: &[u8]) {
+    let refused = copy_bytes(alloc, bytes).err();
+    same(rt, refused, Some(Error::DeserializeUnexpectedEnd));
 }
 
 /// An announced count requests no memory, so these results are the same if the first allocation
@@ -103,32 +127,28 @@ fn refuses_texts_and_lists_of_bytes(rt: HostRuntime) {
 #[test]
 fn asks_for_what_was_read_alone(rt: HostRuntime) {
     let alloc = rt.alloc();
-    let announced = [
-        0xFF, 0xFF, 0xFF, 0xFF, 0xFF, 0xFF, 0xFF, 0xFF, 0xFF, 0x01, 0x61, 0x62, 0x63,
-    ];
-    check_refused::<String>(&rt, alloc, &announced, &Error::DeserializeUnexpectedEnd);
+    check_refused::<String>(&rt, alloc, &ANNOUNCED, &Error::DeserializeUnexpectedEnd);
     check_refused::<Vec<u8>>(&rt, alloc, &GREATEST, &Error::DeserializeUnexpectedEnd);
     check_refused::<BTreeMap<u8, u8>>(&rt, alloc, &GREATEST, &Error::DeserializeUnexpectedEnd);
-    let short = copy_bytes(alloc, &[0x02, 0x05]).err();
-    same(&rt, short, Some(Error::DeserializeUnexpectedEnd));
-    let announced = copy_bytes(alloc, &announced).err();
-    same(&rt, announced, Some(Error::DeserializeUnexpectedEnd));
+    assert_copy_ends(&rt, alloc, &[0x02, 0x05]);
+    assert_copy_ends(&rt, alloc, &ANNOUNCED);
 }
 
 #[test]
 fn reads_into_fixed_room(rt: HostRuntime) {
     let alloc = rt.alloc();
     let two: ArrayVec<u8, 2> = ArrayVec::from([1, 2]);
-    check(
-        &rt,
-        alloc,
-        &[
-            (&[0x02, 0x01, 0x02], Ok(two)),
-            (&[0x03, 0x01, 0x02, 0x03], Err(Error::SerdeDeCustom)),
-            (&[0x03, 0x01, 0x02], Err(Error::DeserializeUnexpectedEnd)),
-        ],
-    );
+    assert_read(&rt, alloc, &[0x02, 0x01, 0x02], &Ok(two));
+    let long = [0x03, 0x01, 0x02, 0x03];
+    check_refused::<ArrayVec<u8, 2>>(&rt, alloc, &long, &Error::SerdeDeCustom);
+    let ends = [0x03, 0x01, 0x02];
+    check_refused::<ArrayVec<u8, 2>>(&rt, alloc, &ends, &Error::DeserializeUnexpectedEnd);
     check_refused::<ArrayVec<(), 3>>(&rt, alloc, &GREATEST, &Error::SerdeDeCustom);
+}
+
+#[test]
+fn reads_texts_into_fixed_room(rt: HostRuntime) {
+    let alloc = rt.alloc();
     let text = read::<ArrayString<2>>(alloc, &[0x02, 0x61, 0x62]);
     same_bytes(&rt, value(&rt, text).as_bytes(), b"ab");
     let text = read_owned::<ArrayString<2>>(alloc, &[0x02, 0x48, 0x69]);
@@ -167,19 +187,25 @@ fn reads_maps(rt: HostRuntime) {
 }
 
 #[test]
-fn reads_pointers(rt: HostRuntime) {
+fn reads_boxes(rt: HostRuntime) {
     let alloc = rt.alloc();
     same(&rt, *read_well::<Box<u8>>(&rt, alloc, &[0x07]), 7);
     same(&rt, *read_owned_well::<Box<u8>>(&rt, alloc, &[0x07]), 7);
     same(&rt, *lead_back::<Box<u8>>(&rt, alloc, &[0x07]), 7);
+}
+
+#[test]
+fn reads_shared_pointers(rt: HostRuntime) {
+    let alloc = rt.alloc();
     same(&rt, *read_well::<Rc<u8>>(&rt, alloc, &[0x07]), 7);
     same(&rt, *read_owned_well::<Rc<u8>>(&rt, alloc, &[0x07]), 7);
     same(&rt, *lead_back::<Rc<u8>>(&rt, alloc, &[0x07]), 7);
-    same(
-        &rt,
-        lead_back::<(u8, u32)>(&rt, alloc, &[0x01, 0x0A]),
-        (1, 10),
-    );
+}
+
+#[test]
+fn reads_an_owned_pair(rt: HostRuntime) {
+    let pair = lead_back::<(u8, u32)>(&rt, rt.alloc(), &[0x01, 0x0A]);
+    same(&rt, pair, (1, 10));
 }
 
 /// Returns the number in the box, or 0 if there is no box.
@@ -208,7 +234,7 @@ fn reads_lists_of_texts(rt: HostRuntime) {
 }
 
 #[test]
-fn reads_what_has_parts_that_grow(rt: HostRuntime) {
+fn reads_options_of_boxes(rt: HostRuntime) {
     let alloc = rt.alloc();
     same(&rt, number_in(read_well(&rt, alloc, &[0x01, 0x07])), 7);
     same(
@@ -216,6 +242,11 @@ fn reads_what_has_parts_that_grow(rt: HostRuntime) {
         number_in(read_owned_well(&rt, alloc, &[0x01, 0x07])),
         7,
     );
+}
+
+#[test]
+fn reads_what_has_parts_that_grow(rt: HostRuntime) {
+    let alloc = rt.alloc();
     let (number, text) = read_well::<(Rc<u8>, String)>(&rt, alloc, &[0x07, 0x01, 0x61]);
     same(&rt, *number, 7);
     same_bytes(&rt, text.as_bytes(), b"a");

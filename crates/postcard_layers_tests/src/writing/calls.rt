@@ -14,12 +14,8 @@ fn assert_done(rt: &impl Abort, answers: &[Result<()>]) {
     }
 }
 
-#[test]
-fn calls_for_leaves_and_parts(rt: HostRuntime) {
-    let mut buffer = [0xAA; 24];
-    let mut serializer = Serializer {
-        output: Slice::new(&mut buffer),
-    };
+/// Calls for a leaf each.
+fn call_for_leaves(rt: &impl Abort, serializer: &mut Serializer<Slice>) {
     let answers = [
         serializer.serialize_bool(true),
         serializer.serialize_char('¢'),
@@ -27,6 +23,13 @@ fn calls_for_leaves_and_parts(rt: HostRuntime) {
         serializer.serialize_some(&300u16),
         serializer.serialize_unit(),
         serializer.serialize_unit_struct("Unit"),
+    ];
+    assert_done(rt, &answers);
+}
+
+/// Calls for a struct, a tuple and their parts.
+fn call_for_structs(rt: &impl Abort, serializer: &mut Serializer<Slice>) {
+    let answers = [
         serializer.serialize_newtype_struct("Meters", &300u16),
         serializer.serialize_tuple(1),
         serializer.serialize_element(&7u8),
@@ -34,17 +37,57 @@ fn calls_for_leaves_and_parts(rt: HostRuntime) {
         serializer.serialize_field(&8u8),
         serializer.serialize_struct("Point", 1),
         serializer.serialize_struct_field("x", &9u8),
+    ];
+    assert_done(rt, &answers);
+}
+
+/// Calls for a map and its end.
+fn call_for_a_map(rt: &impl Abort, serializer: &mut Serializer<Slice>) {
+    let answers = [
         serializer.serialize_map(Some(1)),
         serializer.serialize_key(&1u8),
         serializer.serialize_value(&300u16),
         serializer.end(),
     ];
-    assert_done(&rt, &answers);
+    assert_done(rt, &answers);
+}
+
+#[test]
+fn calls_for_leaves_and_parts(rt: HostRuntime) {
+    let mut buffer = [0xAA; 24];
+    let mut serializer = Serializer {
+        output: Slice::new(&mut buffer),
+    };
+    call_for_leaves(&rt, &mut serializer);
+    call_for_structs(&rt, &mut serializer);
+    call_for_a_map(&rt, &mut serializer);
     let want = [
         0x01, 0x02, 0xC2, 0xA2, 0x00, 0x01, 0xAC, 0x02, 0xAC, 0x02, 0x07, 0x08, 0x09, 0x01, 0x01,
         0xAC, 0x02,
     ];
     assert_holds(&rt, serializer, &want);
+}
+
+/// Calls for variants without named fields, and their parts.
+fn call_for_variants(rt: &impl Abort, serializer: &mut Serializer<Slice>) {
+    let answers = [
+        serializer.serialize_unit_variant("Kind", 300, "Unit"),
+        serializer.serialize_newtype_variant("Kind", 1, "One", &300u16),
+        serializer.serialize_tuple_variant("Kind", 2, "Two", 2),
+        serializer.serialize_field(&7u8),
+        serializer.serialize_field(&8u8),
+    ];
+    assert_done(rt, &answers);
+}
+
+/// Calls for a variant with named fields, and the call that the impl of a user's enum makes.
+fn call_for_struct_variants(rt: &impl Abort, serializer: &mut Serializer<Slice>) {
+    let answers = [
+        serializer.serialize_struct_variant("Kind", u32::MAX, "Last", 1),
+        serializer.serialize_struct_field("x", &9u8),
+        serialize_variant(128, &7u8, serializer),
+    ];
+    assert_done(rt, &answers);
 }
 
 #[test]
@@ -53,22 +96,20 @@ fn calls_for_enums(rt: HostRuntime) {
     let mut serializer = Serializer {
         output: Slice::new(&mut buffer),
     };
-    let answers = [
-        serializer.serialize_unit_variant("Kind", 300, "Unit"),
-        serializer.serialize_newtype_variant("Kind", 1, "One", &300u16),
-        serializer.serialize_tuple_variant("Kind", 2, "Two", 2),
-        serializer.serialize_field(&7u8),
-        serializer.serialize_field(&8u8),
-        serializer.serialize_struct_variant("Kind", u32::MAX, "Last", 1),
-        serializer.serialize_struct_field("x", &9u8),
-        serialize_variant(128, &7u8, &mut serializer),
-    ];
-    assert_done(&rt, &answers);
+    call_for_variants(&rt, &mut serializer);
+    call_for_struct_variants(&rt, &mut serializer);
     let want = [
         0xAC, 0x02, 0x01, 0xAC, 0x02, 0x02, 0x07, 0x08, 0xFF, 0xFF, 0xFF, 0xFF, 0x0F, 0x09, 0x80,
         0x01, 0x07,
     ];
     assert_holds(&rt, serializer, &want);
+}
+
+/// Asserts the number of bytes written, and all bytes of the buffer.
+fn assert_parts(rt: &impl Abort, serializer: Serializer<Slice>, count: usize, want: &[u8]) {
+    let (all, used) = serializer.output.into_parts();
+    same(rt, used, count);
+    same_bytes(rt, all, want);
 }
 
 #[test]
@@ -82,9 +123,7 @@ fn a_map_of_unknown_length(rt: HostRuntime) {
         serializer.serialize_map(None),
         Err(Error::SerializeSeqLengthUnknown),
     );
-    let (all, used) = serializer.output.into_parts();
-    same(&rt, used, 0);
-    same_bytes(&rt, all, &[0xAA, 0xAA]);
+    assert_parts(&rt, serializer, 0, &[0xAA, 0xAA]);
 }
 
 #[test]
@@ -100,7 +139,5 @@ fn bytes_and_a_list_of_unknown_length(rt: HostRuntime) {
         serializer.serialize_seq(None),
         Err(Error::SerializeSeqLengthUnknown),
     );
-    let (all, used) = serializer.output.into_parts();
-    same(&rt, used, 3);
-    same_bytes(&rt, all, &[0x02, 0x07, 0x00, 0xAA]);
+    assert_parts(&rt, serializer, 3, &[0x02, 0x07, 0x00, 0xAA]);
 }

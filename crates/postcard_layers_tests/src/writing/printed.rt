@@ -25,7 +25,7 @@ struct Broken {
 
 impl Display for Broken {
     fn fmt<W: fmt::Write>(&self, f: &mut fmt::Formatter<W>) -> fmt::Result {
-        f.write_str(self.front)?;
+        let _ = f.write_str(self.front);
         Err(fmt::Error)
     }
 }

@@ -46,13 +46,17 @@ fn characters(rt: HostRuntime) {
 }
 
 #[test]
-fn numbers_that_are_not_zero(rt: HostRuntime) {
+fn numbers_without_a_sign_but_zero(rt: HostRuntime) {
     assert_nonzero(&rt, NonZeroU8::new(200), &[0xC8]);
     assert_nonzero(&rt, NonZeroU16::new(300), &[0xAC, 0x02]);
     assert_nonzero(&rt, NonZeroU32::new(300), &[0xAC, 0x02]);
     assert_nonzero(&rt, NonZeroU64::new(300), &[0xAC, 0x02]);
     assert_nonzero(&rt, NonZeroU128::new(300), &[0xAC, 0x02]);
     assert_nonzero(&rt, NonZeroUsize::new(300), &[0xAC, 0x02]);
+}
+
+#[test]
+fn numbers_with_a_sign_but_zero(rt: HostRuntime) {
     assert_nonzero(&rt, NonZeroI8::new(-2), &[0xFE]);
     assert_nonzero(&rt, NonZeroI16::new(-3), &[0x05]);
     assert_nonzero(&rt, NonZeroI32::new(-3), &[0x05]);
@@ -65,18 +69,17 @@ fn numbers_that_are_not_zero(rt: HostRuntime) {
 fn assert_nonzero<T: Serialize + Drop>(rt: &impl Abort, number: Option<T>, want: &[u8]) {
     match number {
         Some(number) => assert_written(rt, &number, want),
-        None => assert!(rt; false),
+        None => panic!(rt; "the number is 0"),
     }
 }
 
 #[test]
 fn tuples(rt: HostRuntime) {
-    let text = "Hello!";
     assert_written(&rt, &(300u16,), &[0xAC, 0x02]);
     assert_written(&rt, &(0x12u8, 0xC7A5u16), &[0x12, 0xA5, 0x8F, 0x03]);
     assert_written(
         &rt,
-        &(1u8, 10u32, text),
+        &(1u8, 10u32, "Hello!"),
         &[0x01, 0x0A, 0x06, 0x48, 0x65, 0x6C, 0x6C, 0x6F, 0x21],
     );
     assert_written(
@@ -84,6 +87,10 @@ fn tuples(rt: HostRuntime) {
         &(1u8, true, 300u16, -1i16),
         &[0x01, 0x01, 0xAC, 0x02, 0x01],
     );
+}
+
+#[test]
+fn tuples_of_five_and_six(rt: HostRuntime) {
     assert_written(
         &rt,
         &(1u8, true, 300u16, -1i16, 'z'),
@@ -113,6 +120,10 @@ fn long_tuples(rt: HostRuntime) {
         &(1u8, 2u8, 3u8, 4u8, 5u8, 6u8, 7u8, 8u8, 9u8),
         &[1, 2, 3, 4, 5, 6, 7, 8, 9],
     );
+}
+
+#[test]
+fn tuples_of_ten_to_twelve(rt: HostRuntime) {
     assert_written(
         &rt,
         &(1u8, 2u8, 3u8, 4u8, 5u8, 6u8, 7u8, 8u8, 9u8, 10u8),
@@ -134,13 +145,10 @@ fn long_tuples(rt: HostRuntime) {
 
 #[test]
 fn options_and_results(rt: HostRuntime) {
-    let none: Option<u8> = None;
-    let ok: std::result::Result<u8, u8> = Ok(7);
-    let err: std::result::Result<u8, u8> = Err(7);
-    assert_written(&rt, &none, &[0x00]);
+    assert_written(&rt, &None::<u8>, &[0x00]);
     assert_written(&rt, &Some(Some(0u8)), &[0x01, 0x01, 0x00]);
-    assert_written(&rt, &ok, &[0x00, 0x07]);
-    assert_written(&rt, &err, &[0x01, 0x07]);
+    assert_written(&rt, &Ok::<u8, u8>(7), &[0x00, 0x07]);
+    assert_written(&rt, &Err::<u8, u8>(7), &[0x01, 0x07]);
 }
 
 #[test]
@@ -170,6 +178,10 @@ fn maps(rt: HostRuntime) {
     let _ = value(&rt, map.insert(2, 6));
     let _ = value(&rt, map.insert(1, 5));
     assert_written(&rt, &map, &[0x02, 0x01, 0x05, 0x02, 0x06]);
+}
+
+#[test]
+fn maps_whose_value_was_replaced(rt: HostRuntime) {
     let mut map: BTreeMap<u8, u8> = BTreeMap::new(rt.alloc());
     let _ = value(&rt, map.insert(1, 5));
     let _ = value(&rt, map.insert(1, 6));
@@ -189,11 +201,15 @@ fn spans_of_time(rt: HostRuntime) {
 #[test]
 fn fixed_capacities(rt: HostRuntime) {
     let numbers: ArrayVec<u16, 4> = value(&rt, ArrayVec::from_iter(rt.alloc(), [1u16, 300]));
-    let bytes: ArrayVec<u8, 4> = value(&rt, ArrayVec::from_iter(rt.alloc(), [1u8, 2, 3, 4]));
-    let text: ArrayString<6> = value(&rt, ArrayString::from("helLO!"));
     assert_written(&rt, &numbers, &[0x02, 0x01, 0xAC, 0x02]);
+    let bytes: ArrayVec<u8, 4> = value(&rt, ArrayVec::from_iter(rt.alloc(), [1u8, 2, 3, 4]));
     assert_written(&rt, &bytes, &[0x04, 0x01, 0x02, 0x03, 0x04]);
+    let text: ArrayString<6> = value(&rt, ArrayString::from("helLO!"));
     assert_written(&rt, &text, &[0x06, 0x68, 0x65, 0x6C, 0x4C, 0x4F, 0x21]);
+}
+
+#[test]
+fn arrays(rt: HostRuntime) {
     assert_written(&rt, &[1u16, 300], &[0x01, 0xAC, 0x02]);
     assert_written(&rt, &[0u8; 32], &[0; 32]);
 }
@@ -210,18 +226,27 @@ fn written_in<T: Serialize>(value: &T, pieces: usize) -> Result<()> {
     value.serialize(&mut serializer)
 }
 
+/// Asserts that a value is written in this many pieces.
+fn assert_pieces<T: Serialize>(rt: &impl Abort, value: &T, pieces: usize) {
+    same(rt, written_in(value, pieces), Ok(()));
+}
+
 #[test]
 fn bytes_go_as_one_piece(rt: HostRuntime) {
-    let list: ArrayVec<u8, 4> = value(&rt, ArrayVec::from_iter(rt.alloc(), [1u8, 2, 3, 4]));
-    same(&rt, written_in(&[1u8, 2, 3, 4], 1), Ok(()));
-    same(&rt, written_in(&[1u8, 2, 3, 4].as_slice(), 2), Ok(()));
+    assert_pieces(&rt, &[1u8, 2, 3, 4], 1);
+    assert_pieces(&rt, &[1u8, 2, 3, 4].as_slice(), 2);
     let grown = value(&rt, vec![in rt.alloc(); 1u8, 2, 3, 4]);
-    same(&rt, written_in(&grown, 2), Ok(()));
-    same(&rt, written_in(&list, 2), Ok(()));
+    assert_pieces(&rt, &grown, 2);
+    let list: ArrayVec<u8, 4> = value(&rt, ArrayVec::from_iter(rt.alloc(), [1u8, 2, 3, 4]));
+    assert_pieces(&rt, &list, 2);
+}
+
+#[test]
+fn numbers_go_one_by_one(rt: HostRuntime) {
     same(
         &rt,
         written_in(&[1u16, 2], 1),
         Err(Error::SerializeBufferFull),
     );
-    same(&rt, written_in(&[1u16, 2], 2), Ok(()));
+    assert_pieces(&rt, &[1u16, 2], 2);
 }
