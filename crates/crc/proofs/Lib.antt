@@ -6,3 +6,5 @@ pub mod MessageLemmas
 pub mod CrcLemmas
 pub mod DigestLemmas
 pub mod FrameLemmas
+pub mod EightLemmas
+pub mod OrderLemmas

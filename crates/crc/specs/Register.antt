@@ -1,7 +1,7 @@
 -- A register of n bits, and the polynomial in it.
 use Rattle.std.specs.Prelude.{◌≡◌, ℕ, zero, suc, ◌+◌, ◌-◌, ◌*◌, ◌/◌, ◌%◌, ◌^◌, ◌<◌, ◌==◌, List, Bool, true, false, bit_xor, if◌then◌else◌, slice_index}
 use Rattle.crc.specs.Polynomial.{Congruent}
-use Rattle.crc.specs.Crc.{Parameters, in_order, generator, dividend}
+use Rattle.crc.specs.Crc.{Parameters, in_order, message, generator, dividend}
 
 -- How far the register's polynomial is above the remainder: an algorithm of fewer bits than the
 -- register has its generator, and all else, times x^gap.
@@ -46,6 +46,19 @@ pub record Holds (n : ℕ) (a : Parameters) (register : ℕ) (bytes : List ℕ) 
 -- congruent to that of r times x^k, and p times x^n.
 abbrev pub Takes : ℕ → Parameters → ℕ → ℕ → ℕ → ℕ → Type 0
 Takes n a k r p t = Congruent (generator a * 2 ^ gap n a) (in_order a.refin n t) (bit_xor (in_order a.refin n r * 2 ^ k) (p * 2 ^ n))
+
+-- The k bits that leave a register of n bits when k bits come, and what is left of it.
+abbrev pub leaving : Bool → ℕ → ℕ → ℕ → ℕ
+leaving true n k r = r % 2 ^ k
+leaving false n k r = r * 2 ^ k / 2 ^ n
+
+abbrev pub staying : Bool → ℕ → ℕ → ℕ → ℕ
+staying true n k r = r / 2 ^ k
+staying false n k r = r * 2 ^ k % 2 ^ n
+
+-- The polynomial in the number t is congruent to that of the bytes, times x^n.
+abbrev pub IsSumFor : ℕ → Parameters → List ℕ → ℕ → Type 0
+IsSumFor n a bytes t = Congruent (generator a * 2 ^ gap n a) (in_order a.refin n t) (message a.refin bytes * 2 ^ n)
 
 -- What is read from a register at the end: the remainder, in reverse order if `refout`.
 abbrev pub read : Bool → Bool → ℕ → ℕ → ℕ → ℕ

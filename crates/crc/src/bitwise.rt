@@ -41,8 +41,8 @@ pub fn top_byte(register: u128, bits: u32) -> u8
     (register >> (bits - 8)) as u8
 }
 
-// The register after one more power of x.
-fn next(refin: bool, bits: u32, feedback: u128, register: u128) -> u128
+/// Returns the register after one more power of x.
+pub fn next(refin: bool, bits: u32, feedback: u128, register: u128) -> u128
     requires some { 1 ≤ bits }
     requires few { bits ≤ 128 }
     ensures { result ≡ next refin bits feedback register }

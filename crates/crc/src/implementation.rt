@@ -65,8 +65,13 @@ fn step<W: Width>(algorithm: &Algorithm<W>, entries: &[W], register: W, byte: u8
     }
 }
 
-// The register after more bytes.
-fn by_bytes<W: Width>(algorithm: &Algorithm<W>, entries: &[W], register: W, bytes: &[u8]) -> W
+/// Returns the register after more bytes, by the first of the tables.
+pub(crate) fn by_bytes<W: Width>(
+    algorithm: &Algorithm<W>,
+    entries: &[W],
+    register: W,
+    bytes: &[u8],
+) -> W
     requires valid { IsValid (8 * W.size) (parameters W.number algorithm.now) }
     requires enough { 256 ≤ length entries.now }
     requires served { AreEntries (8 * W.size) (parameters W.number algorithm.now) 256

@@ -11,8 +11,10 @@ mod bitwise;
 pub mod catalog;
 mod crc;
 pub mod digest;
+mod eights;
 pub mod implementation;
 pub mod laws;
+mod order;
 mod table;
 pub mod width;
 
@@ -24,5 +26,7 @@ pub use catalog::{
 };
 pub use crc::Crc;
 pub use digest::Digest;
+pub use eights::Slice8;
 pub use implementation::{Implementation, Table};
+pub use order::order_from;
 pub use width::Width;

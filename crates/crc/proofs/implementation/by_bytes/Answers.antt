@@ -1,5 +1,5 @@
 -- One byte more.
-use Rattle.std.proofs.Common.{◌≡◌, ◌*◌, ◌+◌, [], ◌∷◌, ◌++◌, take, get_or, length, ap, subst, sym, ◌∙◌, append_assoc, append-nil, take_all}
+use Rattle.std.proofs.Common.{◌≡◌, ◌*◌, ◌+◌, [], ◌∷◌, ◌++◌, take, get_or, ap, subst, sym, ◌∙◌, append_assoc, append-nil, take_all}
 use Rattle.std.proofs.lemmas.List.{take_more}
 use Rattle.crc.specs.Algorithm.{parameters}
 use Rattle.crc.specs.Register.{Holds}

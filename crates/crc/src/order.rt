@@ -1,0 +1,40 @@
+//! The order of x modulo a generator, which says how far apart two changed bits may be.
+
+ghost use Rattle.std.specs.Prelude.{◌≡◌, ◌<◌, ◌≤◌, ◌*◌, ◌^◌};
+ghost use Rattle.crc.specs.Algorithm.{parameters};
+ghost use Rattle.crc.specs.Crc.{IsValid, generator};
+ghost use Rattle.crc.specs.Damage.{HasOrderFrom};
+ghost use Rattle.crc.specs.Polynomial.{Congruent};
+
+use crate::algorithm::Algorithm;
+use crate::bitwise;
+use crate::width::Width;
+
+/// Returns the order of x modulo the generator of an algorithm, which is the least d above 0 with
+/// x^d congruent to 1; or `limit` if the order isn't below that. Two messages of one length and one
+/// checksum don't differ in just two bits that are less than the order apart
+/// ([`two_in_message`](crate::laws::two_in_message)).
+///
+/// It makes as many steps as the result has, of a nanosecond or two each. The order is at most
+/// 2^width - 1. If the generator has no constant term, as no algorithm of the catalogue, there is no
+/// such d. The Rust crate has no such call.
+pub fn order_from<W: Width>(algorithm: &Algorithm<W>, limit: u64) -> u64
+    requires { IsValid (8 * W.size) (parameters W.number algorithm.now) }
+    ensures at_most_limit { result ≤ limit }
+    ensures none_below { HasOrderFrom result (parameters W.number algorithm.now) }
+    ensures is_order { result < limit
+        → Congruent (generator (parameters W.number algorithm.now)) (2 ^ result) 1 }
+{
+    // For the prover: no width is above 128.
+    let _bits = W::bits();
+    let width = u32::from(algorithm.width);
+    let poly = algorithm.poly.to_u128();
+    let mut power = 1;
+    for d in 1..limit {
+        power = bitwise::next(false, width, poly, power);
+        if power == 1 {
+            return d;
+        }
+    }
+    limit
+}
