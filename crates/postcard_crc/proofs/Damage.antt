@@ -1,8 +1,8 @@
 -- What was read to its end is a frame, so that a burst is seen.
-use Rattle.std.proofs.Common.{◌≡◌, ℕ, zero, suc, ◌+◌, ◌-◌, ◌*◌, ◌<◌, ◌≤◌, List, [], ◌∷◌, ◌++◌, length, get_or, Bool, true, refl, sym, ap, subst, ◌∙◌, append-nil, bit_xor, arith}
-use Rattle.crc.specs.Crc.{Parameters, message, IsCrc}
+use Rattle.std.proofs.Common.{◌≡◌, ℕ, suc, ◌+◌, ◌-◌, ◌*◌, ◌<◌, List, [], ◌∷◌, ◌++◌, get_or, sym, ap, subst, ◌∙◌, append-nil, bit_xor, arith}
+use Rattle.crc.specs.Crc.{Parameters, message}
 use Rattle.crc.specs.Digest.{Progress, Took}
-use Rattle.crc.specs.Frame.{low_bytes, IsChecked, AreBytes}
+use Rattle.crc.specs.Frame.{low_bytes, AreBytes}
 use Rattle.crc.specs.Damage.{IsBurst}
 use Rattle.crc.proofs.FrameLemmas.{no_burst_in_frame}
 use Rattle.postcard_wire.specs.Tree.{Tree}

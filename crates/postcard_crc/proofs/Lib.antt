@@ -1,6 +1,9 @@
 -- The lemmas, by subject.
 pub mod Bytes
 pub mod Damage
+pub mod Ending
+pub mod Errors
 pub mod Split
+pub mod Room
 pub mod Framed
 mod Decoding

@@ -1,5 +1,5 @@
 -- A message, cut where its checksum begins.
-use Rattle.std.proofs.Common.{◌≡◌, ℕ, ◌-◌, ◌+◌, ◌*◌, ◌/◌, ◌<◌, ◌≤◌, List, [], ◌++◌, length, take, drop, refl, sym, ap, ◌∙◌, length-append, take_all, arith}
+use Rattle.std.proofs.Common.{◌≡◌, ℕ, ◌-◌, ◌<◌, ◌≤◌, List, ◌++◌, length, take, drop, ap, ◌∙◌, length-append, take_all, arith}
 use Rattle.std.proofs.lemmas.List.{take-append-le}
 use Rattle.std.proofs.Math.Seq.{drop-append_seam}
 use Rattle.crc.specs.Frame.{low_bytes}
@@ -22,5 +22,5 @@ begins_with wanted after rest e =
 pub follows : (wanted after rest : List ℕ) → rest ≡ wanted ++ after → drop (length wanted) rest ≡ after
 follows wanted after rest e = ap (drop (length wanted)) e ∙ drop-append_seam wanted after
 
-pub too_short : (k b : ℕ) (rest after : List ℕ) (crc : ℕ) → b ≡ 8 * k → length rest < b / 8 → rest ≡ low_bytes k crc ++ after → ⊥
-too_short k b rest after crc bits short is = omega (arith, ap length is, length-append (low_bytes k crc) after, length_low k crc)
+pub too_short : (k n : ℕ) (rest after : List ℕ) (crc : ℕ) → n ≡ k → length rest < n → rest ≡ low_bytes k crc ++ after → ⊥
+too_short k n rest after crc size short is = omega (arith, ap length is, length-append (low_bytes k crc) after, length_low k crc)

@@ -1,8 +1,8 @@
 -- What a source that checks a checksum does, over a source whose bytes are known.
-use Rattle.std.specs.Prelude.{◌≡◌, ◌⊎◌, ℕ, ◌+◌, ◌≤◌, ◌<◌, List, [], ◌++◌, length, Some, Result, MatchResult}
-use Rattle.std.proofs.Common.{refl, sym, ap, subst, ◌∙◌, append_assoc, append-nil, arith}
+use Rattle.std.specs.Prelude.{◌≡◌, ◌⊎◌, ℕ, ◌≤◌, ◌<◌, List, [], ◌++◌, length, Some, Result, MatchResult}
+use Rattle.std.proofs.Common.{refl, sym, ap, ◌∙◌, append_assoc, arith}
 use Rattle.std.specs.Borrow.{Bor}
-use Rattle.crc.specs.Crc.{Parameters, IsCrc}
+use Rattle.crc.specs.Crc.{Parameters, IsCrc, IsSound}
 use Rattle.crc.specs.Digest.{Progress, Took}
 use Rattle.crc.specs.Frame.{low_bytes}
 use Rattle.postcard_wire.specs.declared.error.Error.{Error}
@@ -22,10 +22,22 @@ pub record IsRest (k : ℕ) (left : List ℕ) (d : Progress) (rest : List ℕ) :
   pub is_crc : (a : Parameters) (m : List ℕ) → Took d a m → IsCrc a m crc
   pub joins : left ≡ low_bytes k crc ++ rest
 
--- What `finalize` returns: the rest, or which error.
+-- The bytes left begin with the k bytes of the checksum of what the digest has taken.
+pub record Follows (k : ℕ) (left : List ℕ) (d : Progress) : Type 0 where
+  pub algorithm : Parameters
+  pub taken : List ℕ
+  pub crc : ℕ
+  pub rest : List ℕ
+  pub sound : IsSound algorithm
+  pub took : Took d algorithm taken
+  pub is_crc : IsCrc algorithm taken crc
+  pub joins : left ≡ low_bytes k crc ++ rest
+
+-- What `finalize` returns: the rest, or which error. It succeeds if the checksum follows.
 abbrev pub Finishes : ℕ → List ℕ → Progress → Result (Bor (List ℕ)) Error → Type 0
 Finishes k left d r = MatchResult r (λ rest. IsRest k left d rest.now)
-    (λ e. ((e ≡ DeserializeUnexpectedEnd) × (length left < k)) ⊎ ((e ≡ DeserializeBadCrc) × (k ≤ length left)))
+    (λ e. ((e ≡ DeserializeUnexpectedEnd) × (length left < k))
+    ⊎ ((e ≡ DeserializeBadCrc) × (k ≤ length left) × (Follows k left d → ⊥)))
 
 -- The laws of a source.
 pub crc_laws : {S : Type 0} (left : S → List ℕ) (digest : S → Progress)

@@ -5,7 +5,7 @@
 //! checksum.
 
 ghost use Rattle.std.specs.Prelude.{◌≡◌, ◌≢◌, ◌≤◌, ◌<◌, ◌*◌, ◌⊎◌, ◌↔◌, IsTrue, [], ◌++◌, length, take};
-ghost use Rattle.std.specs.Prelude.{ℕ, List, IfOk, IfErr, IsErrOf, OnOk, MatchResult};
+ghost use Rattle.std.specs.Prelude.{ℕ, List, IfOk, IfErr, IsErrOf, IsErrAnd, OnOk, MatchResult};
 ghost use Rattle.crc.specs.Crc.{Parameters, IsCrc, IsSound};
 ghost use Rattle.crc.specs.Digest.{Took};
 ghost use Rattle.crc.specs.Frame.{low_bytes};
@@ -14,7 +14,9 @@ ghost use Rattle.postcard_wire.specs.Tree.{Tree};
 ghost use Rattle.postcard_wire.specs.Spelling.{Spells, canonical};
 ghost use Rattle.postcard_de.specs.Reads.{IsReadError};
 ghost use Rattle.postcard_crc.specs.Writing.{IsCrcAfter};
+ghost use Rattle.postcard_frame.specs.Frame.{HasNoData};
 ghost use Rattle.postcard_crc.specs.Reading.{ReadsChecked, ReadsFrameChecked, IsDamaged};
+ghost use Rattle.postcard_crc.specs.Reading.{HasExactErrors};
 
 use crate::trailer::trailer_of;
 use crc::{Digest, Implementation, Width};
@@ -63,6 +65,7 @@ pub fn take_from_bytes<'a, T: Deserialize<'a>, W: Width, I: Implementation<W>>(
     ensures refuses_damage { (a : Parameters) (sent : List ℕ) → Took digest.entry a []
         → IsDamaged W.size a sent bytes.now
         → IfOk result (λ read. read.1.now ≡ [] → sent ≡ bytes.now) }
+    ensures exact_errors { HasExactErrors T.shape W.size digest.entry bytes.now result }
     ensures named_error { IfErr result
         (λ e. IsReadError T.shape.grows e ⊎ (e ≡ Error.DeserializeBadCrc)) }
 {
@@ -84,12 +87,18 @@ pub fn from_bytes<'a, T: Deserialize<'a>, W: Width, I: Implementation<W>>(
 ) -> Result<T>
     ensures gives { IfOk result (λ value. (rest : List ℕ) × ReadsChecked T.shape.reads
         T.shape.value W.size digest.entry bytes.now value rest) }
+    ensures accepts { (t : Tree) (a : Parameters) (m front rest : List ℕ) (crc : ℕ)
+        → T.shape.reads t → Spells t front → IsSound a → Took digest.entry a m
+        → IsCrc a (m ++ front) crc → bytes.now ≡ front ++ (low_bytes W.size crc ++ rest) →
+        MatchResult result (λ value. T.shape.value t value)
+        (λ e. (e ≡ Error.OutOfMemory) × T.shape.grows) }
     ensures reads_back { (x : T) (a : Parameters) (m rest : List ℕ) (crc : ℕ)
         → T.shape.fits x → IsSound a → Took digest.entry a m
         → IsCrc a (m ++ canonical (T.shape.tree x)) crc
         → bytes.now ≡ canonical (T.shape.tree x) ++ (low_bytes W.size crc ++ rest) →
         MatchResult result (λ value. T.shape.same value x)
         (λ e. (e ≡ Error.OutOfMemory) × T.shape.grows) }
+    ensures exact_errors { HasExactErrors T.shape W.size digest.entry bytes.now result }
     ensures named_error { IfErr result
         (λ e. IsReadError T.shape.grows e ⊎ (e ≡ Error.DeserializeBadCrc)) }
 {
@@ -114,6 +123,11 @@ pub fn from_bytes_whole<'a, T: Deserialize<'a>, W: Width, I: Implementation<W>>(
 ) -> Result<T>
     ensures gives { IfOk result (λ value. ReadsChecked T.shape.reads T.shape.value W.size
         digest.entry bytes.now value []) }
+    ensures accepts { (t : Tree) (a : Parameters) (m front : List ℕ) (crc : ℕ)
+        → T.shape.reads t → Spells t front → IsSound a → Took digest.entry a m
+        → IsCrc a (m ++ front) crc → bytes.now ≡ front ++ low_bytes W.size crc →
+        MatchResult result (λ value. T.shape.value t value)
+        (λ e. (e ≡ Error.OutOfMemory) × T.shape.grows) }
     ensures reads_back { (x : T) (a : Parameters) (m : List ℕ) (crc : ℕ)
         → T.shape.fits x → IsSound a → Took digest.entry a m
         → IsCrc a (m ++ canonical (T.shape.tree x)) crc
@@ -122,6 +136,12 @@ pub fn from_bytes_whole<'a, T: Deserialize<'a>, W: Width, I: Implementation<W>>(
         (λ e. (e ≡ Error.OutOfMemory) × T.shape.grows) }
     ensures refuses_damage { (a : Parameters) (sent : List ℕ) → Took digest.entry a []
         → IsDamaged W.size a sent bytes.now → OnOk result (sent ≡ bytes.now) }
+    ensures exact_errors { HasExactErrors T.shape W.size digest.entry bytes.now result }
+    ensures bytes_after { (t : Tree) (a : Parameters) (m front rest : List ℕ) (crc : ℕ)
+        → T.shape.reads t → Spells t front → IsSound a → Took digest.entry a m
+        → IsCrc a (m ++ front) crc → bytes.now ≡ front ++ (low_bytes W.size crc ++ rest)
+        → rest ≢ [] → IsErrAnd result (λ e. (e ≡ Error.DeserializeBadEncoding)
+        ⊎ ((e ≡ Error.OutOfMemory) × T.shape.grows)) }
     ensures named_error { IfErr result (λ e. IsReadError T.shape.grows e
         ⊎ ((e ≡ Error.DeserializeBadCrc) ⊎ (e ≡ Error.DeserializeBadEncoding))) }
 {
@@ -152,6 +172,12 @@ pub fn from_bytes_cobs<'a, T: Deserialize<'a>, W: Width, I: Implementation<W>>(
 ) -> Result<T>
     ensures gives { IfOk result (ReadsFrameChecked T.shape.reads T.shape.value W.size
         digest.entry (before_zero s.old)) }
+    ensures accepts { (t : Tree) (a : Parameters) (m front : List ℕ) (crc : ℕ)
+        → T.shape.reads t → Spells t front → IsSound a → Took digest.entry a m
+        → IsCrc a (m ++ front) crc
+        → Groups (before_zero s.old) (front ++ low_bytes W.size crc) →
+        MatchResult result (λ value. T.shape.value t value)
+        (λ e. (e ≡ Error.OutOfMemory) × T.shape.grows) }
     ensures reads_back { (x : T) (a : Parameters) (m : List ℕ) (crc : ℕ)
         → T.shape.fits x → IsSound a → Took digest.entry a m
         → IsCrc a (m ++ canonical (T.shape.tree x)) crc
@@ -161,6 +187,10 @@ pub fn from_bytes_cobs<'a, T: Deserialize<'a>, W: Width, I: Implementation<W>>(
     ensures refuses_damage { (a : Parameters) (sent came : List ℕ) → Took digest.entry a []
         → Groups (before_zero s.old) came → IsDamaged W.size a sent came
         → OnOk result (sent ≡ came) }
+    ensures no_frame { HasNoData (before_zero s.old)
+        → IsErrOf result Error.DeserializeBadEncoding }
+    ensures exact_errors { (content : List ℕ) → Groups (before_zero s.old) content
+        → HasExactErrors T.shape W.size digest.entry content result }
     ensures named_error { IfErr result (λ e. IsReadError T.shape.grows e
         ⊎ ((e ≡ Error.DeserializeBadCrc) ⊎ (e ≡ Error.DeserializeBadEncoding))) }
 {
@@ -168,7 +198,7 @@ pub fn from_bytes_cobs<'a, T: Deserialize<'a>, W: Width, I: Implementation<W>>(
     from_bytes_whole(alloc, &s[..used], digest)
 }
 
-// Returns what follows the checksum of the bytes before `rest`, with which `rest` begins.
+// Returns what follows the checksum of the bytes before `rest`, with which `rest` is to begin.
 fn checked<'a, W: Width, I: Implementation<W>>(
     bytes: &'a [u8],
     rest: &'a [u8],
@@ -184,15 +214,8 @@ fn checked<'a, W: Width, I: Implementation<W>>(
         → MatchResult result (λ r. r.now ≡ after) (λ _. ⊥) }
     ensures short { length rest.now < W.size → IsErrOf result Error.DeserializeUnexpectedEnd }
     ensures long { W.size ≤ length rest.now → IfErr result (λ e. e ≡ Error.DeserializeBadCrc) }
-    ensures named { IfErr result (λ e. (e ≡ Error.DeserializeUnexpectedEnd)
-        ⊎ (e ≡ Error.DeserializeBadCrc)) }
 {
-    let size = (W::bits() / 8) as usize;
-    if rest.len() < size {
-        return Err(Error::DeserializeUnexpectedEnd);
-    }
-    let wanted = trailer_of(crc_before(bytes, rest, digest));
-    after_checksum(rest, &wanted.bytes[..wanted.len])
+    after_crc(rest, crc_before(bytes, rest, digest))
 }
 
 // Returns the checksum of what the digest has taken, and then the bytes before `rest`.
@@ -208,6 +231,22 @@ fn crc_before<W: Width, I: Implementation<W>>(
     let mut digest = digest;
     digest.update(&bytes[..bytes.len() - rest.len()]);
     digest.finalize()
+}
+
+// Returns what follows the bytes of a checksum, with which `rest` is to begin.
+fn after_crc<W: Width>(rest: &[u8], crc: W) -> Result<&[u8]>
+    ensures gives { IfOk result (λ after. rest.now
+        ≡ low_bytes W.size (W.number crc) ++ after.now) }
+    ensures accepts { (after : List ℕ) → rest.now ≡ low_bytes W.size (W.number crc) ++ after
+        → MatchResult result (λ r. r.now ≡ after) (λ _. ⊥) }
+    ensures short { length rest.now < W.size → IsErrOf result Error.DeserializeUnexpectedEnd }
+    ensures long { W.size ≤ length rest.now → IfErr result (λ e. e ≡ Error.DeserializeBadCrc) }
+{
+    let wanted = trailer_of(crc);
+    if rest.len() < wanted.len {
+        return Err(Error::DeserializeUnexpectedEnd);
+    }
+    after_checksum(rest, &wanted.bytes[..wanted.len])
 }
 
 // Returns what follows the checksum `wanted`, with which `rest` is to begin.

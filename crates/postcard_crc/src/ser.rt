@@ -1,6 +1,6 @@
 //! Encoding with a checksum.
 
-ghost use Rattle.std.specs.Prelude.{◌≡◌, ◌+◌, ◌-◌, ◌≤◌, ◌++◌, ℕ, List, length};
+ghost use Rattle.std.specs.Prelude.{◌≡◌, ◌+◌, ◌-◌, ◌≤◌, ◌↔◌, ◌++◌, ℕ, List, length};
 ghost use Rattle.std.specs.Prelude.{IfOk, IfErr, IsOk, OnOk};
 ghost use Rattle.crc.specs.Frame.{low_bytes};
 ghost use Rattle.postcard_cobs.specs.Groups.{made};
@@ -60,10 +60,10 @@ pub fn serialize_with_checksum<
 ///
 /// # Errors
 ///
-/// Fails with `SerializeBufferFull`, or with `CollectStrError` for a type whose text may fail to
-/// print; never if `buf` has room for the encoding and the checksum. For a value that refuses
-/// itself, the call may fail in any case and with another error. After a failure the content of the
-/// buffer is unspecified.
+/// Fails if and only if `buf` has no room for the encoding and the checksum: with
+/// `SerializeBufferFull`, or with `CollectStrError` for a type whose text may fail to print. For a
+/// value that refuses itself, the call may fail in any case and with another error. After a failure
+/// the content of the buffer is unspecified.
 pub fn to_slice<'a, T: Serialize, W: Width, I: Implementation<W>>(
     value: &T,
     buf: &'a mut [u8],
@@ -71,8 +71,8 @@ pub fn to_slice<'a, T: Serialize, W: Width, I: Implementation<W>>(
 ) -> Result<&'a mut [u8]>
     ensures gives { IfOk result (λ front. IsWithCrc W.size digest.entry
         (canonical (T.shape.tree value.now)) front.now) }
-    ensures has_room { ¬ T.shape.refuses value.now
-        → length (canonical (T.shape.tree value.now)) + W.size ≤ length buf.old → IsOk result }
+    ensures fits_iff { ¬ T.shape.refuses value.now → (IsOk result
+        ↔ (length (canonical (T.shape.tree value.now)) + W.size ≤ length buf.old)) }
     ensures named_error { ¬ T.shape.refuses value.now → IfErr result (IsWriteError T.shape.text) }
     ensures fits { OnOk result (T.shape.fits value.now) }
 {
@@ -84,17 +84,17 @@ pub fn to_slice<'a, T: Serialize, W: Width, I: Implementation<W>>(
 ///
 /// # Errors
 ///
-/// Fails with `SerializeBufferFull`, or with `CollectStrError` for a type whose text may fail to
-/// print; never if the encoding and the checksum have at most `B` bytes. For a value that refuses
-/// itself, the call may fail in any case and with another error.
+/// Fails if and only if the encoding and the checksum have more than `B` bytes: with
+/// `SerializeBufferFull`, or with `CollectStrError` for a type whose text may fail to print. For a
+/// value that refuses itself, the call may fail in any case and with another error.
 pub fn to_vec<T: Serialize, W: Width, I: Implementation<W>, const B: usize>(
     value: &T,
     digest: Digest<'_, W, I>,
 ) -> Result<ArrayVec<u8, B>>
     ensures gives { IfOk result (λ vec. IsWithCrc W.size digest.entry
         (canonical (T.shape.tree value.now)) vec.items) }
-    ensures has_room { ¬ T.shape.refuses value.now
-        → length (canonical (T.shape.tree value.now)) + W.size ≤ B → IsOk result }
+    ensures fits_iff { ¬ T.shape.refuses value.now → (IsOk result
+        ↔ (length (canonical (T.shape.tree value.now)) + W.size ≤ B)) }
     ensures named_error { ¬ T.shape.refuses value.now → IfErr result (IsWriteError T.shape.text) }
     ensures fits { OnOk result (T.shape.fits value.now) }
 {

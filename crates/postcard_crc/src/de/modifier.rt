@@ -3,11 +3,10 @@
 ghost use Rattle.std.specs.Prelude.{◌≡◌, ◌≤◌, Some, length};
 ghost use Rattle.postcard_crc.specs.Source.{TookBoth, Finishes, crc_laws};
 
-use super::are_same;
-use crate::trailer::trailer_of;
+use super::after_crc;
 use crc::{Digest, Implementation, Table, Width};
 use postcard_de_flavors::{Flavor, Slice};
-use postcard_wire::{Error, Result};
+use postcard_wire::Result;
 
 /// Reads from a slice, and checks at the end that the bytes after the message are its checksum: as
 /// many as its type has, the lowest first.
@@ -86,15 +85,6 @@ impl<'de, W: Width, I: Implementation<W>> Flavor for CrcModifier<'de, Slice<'de>
     fn finalize(self) -> Result<&'de [u8]> {
         let CrcModifier { flavor, digest } = self;
         let rest = flavor.finalize()?;
-        let wanted = trailer_of(digest.finalize());
-        if rest.len() < wanted.len {
-            return Err(Error::DeserializeUnexpectedEnd);
-        }
-        let (found, after) = rest.split_at(wanted.len);
-        if are_same(found, &wanted.bytes[..wanted.len]) {
-            Ok(after)
-        } else {
-            Err(Error::DeserializeBadCrc)
-        }
+        after_crc(rest, digest.finalize())
     }
 }

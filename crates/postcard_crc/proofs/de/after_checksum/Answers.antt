@@ -1,5 +1,5 @@
 -- The rest is what it begins with, and then what follows.
-use Rattle.std.proofs.Common.{◌≡◌, ℕ, ◌≤◌, List, ◌++◌, length, take, sym, ap, ap₂, ◌∙◌, take-append-drop}
+use Rattle.std.proofs.Common.{ℕ, List, ◌++◌, length, sym, ap₂, ◌∙◌, take-append-drop}
 use Rattle.postcard_crc.proofs.Split.{begins_with, follows}
 use Rattle.postcard_crc.proofs.de.after_checksum.Goals as goal
 

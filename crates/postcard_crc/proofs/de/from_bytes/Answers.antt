@@ -13,3 +13,12 @@ returns-clause-reads_back g c x a m rest crc fits sound took is e = (c.in_ok-val
 
 pub returns-clause-gives : goal.returns-clause-gives
 returns-clause-gives g c = (_, c.in_ok-value.ensures.gives)
+
+pub returns-in_err-value-clause-accepts : goal.returns-in_err-value-clause-accepts
+returns-in_err-value-clause-accepts g c t a m front rest crc read spelled sound took is e =
+    let refused = c.in_err-value in
+    let found = refused.ensures.accepts t a m front rest crc read spelled sound took is e in
+    rw (is_refusal c.from_residual.result refused.field-0.0 c.from_residual.ensures.1) found
+
+pub returns-clause-accepts : goal.returns-clause-accepts
+returns-clause-accepts g c t a m front rest crc read spelled sound took is e = (c.in_ok-value.ensures.accepts t a m front rest crc read spelled sound took is e).0

@@ -1,5 +1,5 @@
 -- The value that was read, with nothing after its checksum.
-use Rattle.std.proofs.Common.{◌≡◌, ◌++◌, [], ap, subst, sym, ◌∙◌, append-nil}
+use Rattle.std.proofs.Common.{◌++◌, [], inr, ap, subst, sym, ◌∙◌, append-nil}
 use Rattle.postcard_de_nodes.specs.ReadLemmas.{is_refusal}
 use Rattle.postcard_wire.specs.Spelling.{canonical}
 use Rattle.crc.specs.Frame.{low_bytes}
@@ -34,5 +34,30 @@ returns-else-is_end-clause-reads_back g c x a m crc fits sound took is e =
     let low = low_bytes g.W.Width.size crc in
     let front = canonical (g.T.Shaped.shape.tree x) in
     let end = c.is_end.ensures.1 ((c.in_ok-value.ensures.reads_back x a m [] crc fits sound took is (e ∙ ap (λ z. front ++ z) (sym (append-nil low)))).1) in
+    let more = c.if-is_end.false in
+    absurd (cc)
+
+pub returns-in_err-value-clause-accepts : goal.returns-in_err-value-clause-accepts
+returns-in_err-value-clause-accepts g c t a m front crc read spelled sound took is e =
+    let refused = c.in_err-value in
+    let low = low_bytes g.W.Width.size crc in
+    let found = refused.ensures.accepts t a m front [] crc read spelled sound took is (e ∙ ap (λ z. front ++ z) (sym (append-nil low))) in
+    rw (is_refusal c.from_residual.result refused.field-0.0 c.from_residual.ensures.1) found
+
+pub returns-in_err-value-clause-bytes_after : goal.returns-in_err-value-clause-bytes_after
+returns-in_err-value-clause-bytes_after g c t a m front rest crc read spelled sound took is e some =
+    let refused = c.in_err-value in
+    let found = refused.ensures.accepts t a m front rest crc read spelled sound took is e in
+    rw (is_refusal c.from_residual.result refused.field-0.0 c.from_residual.ensures.1) (inr found)
+
+pub returns-then-is_end-clause-bytes_after : goal.returns-then-is_end-clause-bytes_after
+returns-then-is_end-clause-bytes_after g c t a m front rest crc read spelled sound took is e some =
+    let at = (c.in_ok-value.ensures.accepts t a m front rest crc read spelled sound took is e).1 in
+    some (sym at ∙ c.is_end.ensures.0 c.if-is_end.true)
+
+pub returns-else-is_end-clause-accepts : goal.returns-else-is_end-clause-accepts
+returns-else-is_end-clause-accepts g c t a m front crc read spelled sound took is e =
+    let low = low_bytes g.W.Width.size crc in
+    let end = c.is_end.ensures.1 ((c.in_ok-value.ensures.accepts t a m front [] crc read spelled sound took is (e ∙ ap (λ z. front ++ z) (sym (append-nil low)))).1) in
     let more = c.if-is_end.false in
     absurd (cc)

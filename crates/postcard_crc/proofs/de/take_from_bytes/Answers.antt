@@ -1,7 +1,9 @@
 -- The front is followed by its checksum, so the check succeeds; what was read to its end is a frame.
-use Rattle.std.proofs.Common.{◌≡◌, List, ◌++◌, sym, ap, ◌∙◌, append_assoc}
+use Rattle.std.proofs.Common.{◌++◌, sym, ap, ◌∙◌, append_assoc}
 use Rattle.postcard_wire.specs.Spelling.{canonical}
 use Rattle.crc.specs.Frame.{low_bytes}
+use Rattle.postcard_de_nodes.specs.ReadLemmas.{is_refusal}
+use Rattle.postcard_crc.proofs.Errors.{of_check, of_success}
 use Rattle.postcard_crc.proofs.Damage.{are_bytes, not_damaged}
 use Rattle.postcard_crc.proofs.de.take_from_bytes.Goals as goal
 
@@ -46,3 +48,24 @@ pub returns-clause-refuses_damage : goal.returns-clause-refuses_damage
 returns-clause-refuses_damage g c =
     not_damaged g.T.Shaped.shape.reads g.T.Shaped.shape.value g.W.Width.size c.args.digest c.args.bytes.now c.in_ok-value.value c.in_ok-rest.rest.now
     (returns-clause-gives g c) (are_bytes c.args.bytes.now (λ i. (c.type_inv.bytes i).fits))
+
+pub returns-in_err-rest-clause-exact_errors : goal.returns-in_err-rest-clause-exact_errors
+returns-in_err-rest-clause-exact_errors g c =
+    let s = g.T.Shaped.shape in
+    let f = c.in_ok-value.ensures.gives in
+    let h = c.in_err-rest.ensures in
+    let e = c.in_err-rest.field-0.0 in
+    rw (is_refusal c.from_residual-in_err-rest.result e c.from_residual-in_err-rest.ensures.1)
+    (of_check s.reads s.grows g.W.Width.size c.args.digest c.args.bytes.now f.tree f.front c.in_ok-value.rest.now f.is_read f.is_spelled f.joins
+    (λ t p q read spelled j. (c.in_ok-value.ensures.accepts t p q read spelled j).1) e (λ few. let is = h.short few in cc) h.long
+    (λ a m after crc sound took is j. h.accepts a m f.front after crc sound took f.joins is j))
+
+pub returns-clause-exact_errors : goal.returns-clause-exact_errors
+returns-clause-exact_errors g c =
+    let s = g.T.Shaped.shape in
+    let h = c.in_ok-rest.ensures in
+    of_success s.reads s.grows g.W.Width.size c.args.digest c.args.bytes.now
+    (λ t p q read spelled j.
+    let at = c.in_ok-value.ensures.accepts t p q read spelled j in
+    let follows = h.gives p (j ∙ ap (λ z. p ++ z) (sym at.1)) in
+    (c.in_ok-value.rest.now, at.1, (λ few. let no = h.short few in cc), λ a m took. (follows.0, c.in_ok-rest.rest.now, follows.1 a m took, follows.2)))

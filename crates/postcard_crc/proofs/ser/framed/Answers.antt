@@ -1,5 +1,5 @@
 -- If the frame fits after what a storage holds, it is made there.
-use Rattle.std.proofs.Common.{◌≡◌, ◌+◌, [], ◌++◌, length, ap, ◌∙◌, length-append, arith}
+use Rattle.std.proofs.Common.{◌≡◌, ◌+◌, [], ◌++◌, length, ap, ◌∙◌, length-append}
 use Rattle.std.proofs.lemmas.Result.{err_from_is_err_and, IfOk-weaker}
 use Rattle.postcard_wire.specs.Spelling.{canonical}
 use Rattle.crc.specs.Frame.{low_bytes}

@@ -1,5 +1,5 @@
 -- The flavor took the encoding, and at its end the checksum.
-use Rattle.std.proofs.Common.{◌≡◌, ◌++◌, List, sym, subst}
+use Rattle.std.proofs.Common.{◌++◌, sym, subst}
 use Rattle.postcard_wire.specs.Spelling.{canonical}
 use Rattle.postcard_ser.proofs.PartByPart.{wrote_closes}
 use Rattle.crc.specs.Digest.{Took}

@@ -1,5 +1,4 @@
 -- The inner flavor takes the bytes, as the digest did, and has room for them.
-use Rattle.std.proofs.Common.{refl}
 use Rattle.std.proofs.lemmas.Result.{on_ok_weaker}
 use Rattle.crc.specs.Frame.{low_bytes}
 use Rattle.crc.proofs.FrameLemmas.{length_low}
