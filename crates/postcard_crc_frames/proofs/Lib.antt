@@ -1,0 +1,5 @@
+-- Lemmas, in reading order.
+pub mod Own
+pub mod Feeds
+pub mod Joining
+pub mod ReadLoop

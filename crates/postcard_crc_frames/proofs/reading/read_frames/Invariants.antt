@@ -1,0 +1,13 @@
+-- All bytes read were fed.
+use Rattle.std.proofs.Common.{length}
+use Rattle.postcard_crc_frames.specs.Checked.{IsOwn}
+use Rattle.postcard_crc_frames.proofs.ReadLoop.{ReadSoFar}
+use Rattle.postcard_crc_frames.proofs.reading.read_frames.Given as goal
+
+abbrev pub invariant-loop : goal.invariant-loop
+invariant-loop g l = record {
+  so_far : ReadSoFar g.row.N (IsOwn g.T.Shaped.shape g.W.Width.size l.fn.crc) (g.R.Read.remaining l.fn.reader)
+      (g.R.Read.remaining l.reader) l.fn.acc l.acc l.fn.out.items l.out.items l.counter
+      (length l.fn.chunk);
+  steady : g.R.Source.steady l.fn.reader → g.R.Source.steady l.reader;
+}

@@ -1,0 +1,5 @@
+-- The definitions that contracts cite, in reading order.
+pub mod Checked
+pub mod Answering
+pub mod Reading
+pub mod Laws

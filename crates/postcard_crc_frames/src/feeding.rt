@@ -1,0 +1,54 @@
+//! One feed of an accumulator, with the checksum of the frame that it completes.
+
+ghost use Rattle.postcard_crc_frames.specs.Answering.{IsFed, IsReadOf};
+ghost use Rattle.postcard_crc_frames.specs.Checked.{IsOwn};
+
+use crc::{Crc, Implementation, Width};
+use postcard_accumulator::{CobsAccumulator, FeedResult, Taken};
+use postcard_crc::de::from_bytes_whole;
+use postcard_de::{DeserializeOwned, Owned};
+use std::alloc::Global;
+
+/// Takes in a piece of a stream up to the end of a frame, and decodes that frame's value if just its
+/// checksum follows it. The Rust crate has no such call.
+///
+/// The result is that of [`feed`](CobsAccumulator::feed), but `DeserError` also for a frame whose
+/// checksum is wrong or isn't whole, and for one whose data goes on after the checksum.
+pub fn feed<'a, T: DeserializeOwned, W: Width, I: Implementation<W>, const N: usize>(
+    alloc: Global,
+    acc: &mut CobsAccumulator<N>,
+    input: &'a [u8],
+    crc: &Crc<W, I>,
+) -> FeedResult<'a, T>
+    ensures { IsFed N (IsOwn T.shape W.size crc.now) acc.old input.now result acc.new }
+{
+    let taken = acc.take_in(input);
+    value_of(alloc, taken, crc)
+}
+
+// Reads the value of what a piece completed, and checks its checksum.
+fn value_of<'a, T: DeserializeOwned, W: Width, I: Implementation<W>>(
+    alloc: Global,
+    taken: Taken<'_, 'a>,
+    crc: &Crc<W, I>,
+) -> FeedResult<'a, T>
+    ensures { IsReadOf (IsOwn T.shape W.size crc.now) taken.entry result }
+{
+    match taken {
+        Taken::Consumed => FeedResult::Consumed,
+        Taken::OverFull(rest) => FeedResult::OverFull(rest),
+        Taken::Refused(rest) => FeedResult::DeserError(rest),
+        Taken::Message(data, rest) => {
+            match from_bytes_whole::<Owned<T>, W, I>(alloc, data, crc.digest()) {
+                Ok(owned) => {
+                    let Owned(value) = owned;
+                    FeedResult::Success {
+                        value,
+                        remaining: rest,
+                    }
+                }
+                Err(_) => FeedResult::DeserError(rest),
+            }
+        }
+    }
+}

@@ -1,0 +1,18 @@
+//! What holds of every frame with a checksum. The functions do nothing: their contracts are the laws,
+//! whose statements are in `specs/Laws.antt`.
+
+ghost use Rattle.postcard_crc_frames.specs.Laws.{DamageRefused, MessageArrives};
+
+use postcard_de::DeserializeOwned;
+
+/// The own answer of the frame of a value that fits, with its checksum, is `Success` with a value that
+/// looks like it, or `DeserError` if its type grows.
+pub fn message_arrives<T: DeserializeOwned>()
+    ensures { MessageArrives T.shape }
+{}
+
+/// A frame whose data was damaged within as many bits in a row as the checksum has is never
+/// answered by a value, unless nothing was changed; the algorithm's `refin` and `refout` are true.
+pub fn damage_refused<T: DeserializeOwned>()
+    ensures { DamageRefused T.shape }
+{}

@@ -1,0 +1,112 @@
+//! The reading loop: reads all frames of a reader by an accumulator, and checks their checksums.
+
+ghost use Rattle.std.specs.Prelude.{◌≡◌, ◌≢◌, ◌<◌, ◌++◌, ◌∷◌, [], length};
+ghost use Rattle.std.specs.Prelude.{vec_len, vec_capacity};
+ghost use Rattle.std.specs.Io.KnownBytes.{IsAtEnd};
+ghost use Rattle.postcard_crc_frames.specs.Checked.{IsOwn};
+ghost use Rattle.postcard_crc_frames.specs.Reading.{IsFedAll, IsReading};
+
+use crate::feeding::feed;
+use crc::{Crc, Implementation, Width};
+use postcard_accumulator::{Answer, CobsAccumulator, FeedResult, ReadEnd};
+use postcard_de::DeserializeOwned;
+use postcard_de_flavors::Source;
+use std::alloc::Global;
+
+// Appends an answer to a vector, which must have capacity for it.
+fn keep<T: Drop>(out: &mut Vec<Answer<T>>, answer: Answer<T>)
+    requires { vec_len out.old < vec_capacity out.old }
+    ensures { out.new.items ≡ out.old.items ++ answer ∷ [] }
+{
+    let _ = out.push(answer);
+}
+
+// Feeds a piece and appends the answers to `out`. Returns the number of bytes at the end of the
+// piece that weren't fed, which is above 0 only if an allocation for an answer failed.
+fn feed_all<T: DeserializeOwned, W: Width, I: Implementation<W>, const N: usize>(
+    alloc: Global,
+    piece: &[u8],
+    acc: &mut CobsAccumulator<N>,
+    out: &mut Vec<Answer<T>>,
+    crc: &Crc<W, I>,
+) -> usize
+    ensures { IsFedAll N (IsOwn T.shape W.size crc.now) acc.old piece.now out.old.items
+        out.new.items acc.new result }
+{
+    acc.held_fits();
+    let mut window = piece;
+    'feeds: while !window.is_empty() {
+        if out.reserve(1).is_err() {
+            return window.len();
+        }
+        acc.held_fits();
+        match feed(alloc, acc, window, crc) {
+            FeedResult::Consumed => {
+                return 0;
+            }
+            FeedResult::OverFull(rest) => {
+                window = rest;
+                keep(out, Answer::OverFull);
+            }
+            FeedResult::DeserError(rest) => {
+                window = rest;
+                keep(out, Answer::DeserError);
+            }
+            FeedResult::Success { value, remaining } => {
+                window = remaining;
+                keep(out, Answer::Success(value));
+            }
+        }
+    }
+    0
+}
+
+/// Reads a stream of frames of values with a checksum, and appends the answers to `out`. The Rust
+/// crate has no such call.
+///
+/// It does the same as [`read_frames`](postcard_accumulator::read_frames) in all else: it makes at
+/// most `reads` reads, each into `chunk`, which must not be empty; however it ends, `out` keeps the
+/// answers and `acc` its state, so another call continues there; and after `OutOfMemory` the caller
+/// must feed `chunk[from..to]` next.
+///
+/// The answers are one for each frame of the stream, in order, however the reader cuts it: the value,
+/// if the frame's data is its encoding and then just its checksum; otherwise `DeserError`, or
+/// `OverFull` for a frame that has no room. What holds of damaged frames is in
+/// [`laws`](crate::laws).
+pub fn read_frames<R: Source, T: DeserializeOwned, W: Width, I: Implementation<W>, const N: usize>(
+    alloc: Global,
+    reader: &mut R,
+    chunk: &mut [u8],
+    reads: usize,
+    acc: &mut CobsAccumulator<N>,
+    out: &mut Vec<Answer<T>>,
+    crc: &Crc<W, I>,
+) -> ReadEnd
+    requires { 0 < length chunk.old }
+    ensures stream { IsReading N (IsOwn T.shape W.size crc.now) reads (R.remaining reader.old)
+        (R.remaining reader.new) chunk.new acc.old acc.new out.old.items out.new.items result }
+    ensures at_end { result ≡ ReadEnd.End → IsAtEnd (R.remaining reader.new) }
+    ensures steady_never_fails { R.steady reader.old → result ≢ ReadEnd.ReadFailed }
+    ensures stays_steady { R.steady reader.old → R.steady reader.new }
+{
+    acc.held_fits();
+    for _ in 0..reads {
+        let n = match reader.read_some(chunk) {
+            Ok(n) => n,
+            Err(_) => {
+                return ReadEnd::ReadFailed;
+            }
+        };
+        if n == 0 {
+            return ReadEnd::End;
+        }
+        let left = feed_all(alloc, &chunk[..n], acc, out, crc);
+        if left > 0 {
+            return ReadEnd::OutOfMemory {
+                from: n - left,
+                to: n,
+            };
+        }
+    }
+    ReadEnd::Limit
+}
