@@ -3,7 +3,7 @@
 use crc::{
     CRC_8_MAXIM_DOW, CRC_8_SMBUS, CRC_16_IBM_SDLC, CRC_16_KERMIT, CRC_16_MODBUS, CRC_16_USB,
     CRC_16_XMODEM, CRC_24_OPENPGP, CRC_32_BZIP2, CRC_32_ISCSI, CRC_32_ISO_HDLC, CRC_32_MPEG_2,
-    CRC_64_ECMA_182, CRC_64_XZ, CRC_82_DARC, Crc, Width,
+    CRC_64_ECMA_182, CRC_64_XZ, CRC_82_DARC, Crc, Slice8, Width, order_from,
 };
 use std::process::Abort;
 
@@ -82,4 +82,31 @@ fn a_burst_across_the_end_passes_unreflected(rt: HostRuntime) {
     let crc: Crc<u16> = Crc::new(&CRC_16_XMODEM);
     same(&rt, &crc, b"123456789", 0x31c3);
     same(&rt, &crc, b"123456788", 0x21e2);
+}
+
+/// Asserts that the checksum of a text of 43 bytes, by eight tables, is `want`.
+fn by_eights<W: Width>(rt: &impl Abort, crc: &Crc<W, Slice8<W>>, want: W) {
+    let got = crc
+        .checksum(b"The quick brown fox jumps over the lazy dog")
+        .to_u128();
+    assert!(rt; got == want.to_u128());
+}
+
+#[test]
+fn checksums_by_eight_tables(rt: HostRuntime) {
+    by_eights(&rt, &Crc::new(&CRC_16_XMODEM), 0xf0c8);
+    by_eights(&rt, &Crc::new(&CRC_24_OPENPGP), 0xa2_618c);
+    by_eights(&rt, &Crc::new(&CRC_32_ISO_HDLC), 0x414f_a339);
+    by_eights(&rt, &Crc::new(&CRC_82_DARC), 0x2_3f7c_05ad_c93e_2ade_9630);
+}
+
+fn has_order(rt: &impl Abort, got: u64, want: u64) {
+    assert!(rt; got == want);
+}
+
+#[test]
+fn orders_of_x(rt: HostRuntime) {
+    has_order(&rt, order_from(&CRC_8_SMBUS, 256), 127);
+    has_order(&rt, order_from(&CRC_16_IBM_SDLC, 40_000), 32_767);
+    has_order(&rt, order_from(&CRC_16_MODBUS, 100), 100);
 }

@@ -7,3 +7,5 @@
 mod checksums;
 #[cfg(test)]
 mod messages;
+#[cfg(test)]
+mod streams;
