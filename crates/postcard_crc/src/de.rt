@@ -164,7 +164,9 @@ pub fn from_bytes_whole<'a, T: Deserialize<'a>, W: Width, I: Implementation<W>>(
 /// # Errors
 ///
 /// Fails with `DeserializeBadEncoding` if the frame has no data, and otherwise as
-/// [`from_bytes_whole`] of the frame's data. The content of the buffer is unspecified then.
+/// [`from_bytes_whole`] of the frame's data. The content of the buffer is unspecified then. A caller
+/// with proofs of its own about the buffer calls [`decode_in_place`](postcard_cobs::decode_in_place)
+/// and then [`from_bytes_whole`].
 pub fn from_bytes_cobs<'a, T: Deserialize<'a>, W: Width, I: Implementation<W>>(
     alloc: Global,
     s: &'a mut [u8],
