@@ -58,3 +58,13 @@ module _ (reads : Tree → Type 0) (grows : Type 0) (k : ℕ) (d : Progress) (by
         let f = at.3 a m took in
         o.other f.0 f.1 f.2 (sym at.1 ∙ f.3);
   }
+
+  -- Another error, of bytes that have no such fault.
+  pub of_faultless : (e : Error) → IsFaultless reads grows k d bytes → (e ≡ DeserializeUnexpectedEnd → ⊥) → (e ≡ DeserializeBadCrc → ⊥)
+      → IsFaultOf reads grows k d bytes e
+  of_faultless e none not_end not_bad = record {
+    short = λ s. absurd (none.not_short s);
+    only_short = λ is t front rest r s j. absurd (not_end is);
+    other = λ a m took o. absurd (none.not_other a m took o);
+    only_other = λ is a m sound took. absurd (not_bad is);
+  }

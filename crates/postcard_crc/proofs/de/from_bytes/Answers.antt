@@ -22,3 +22,10 @@ returns-in_err-value-clause-accepts g c t a m front rest crc read spelled sound 
 
 pub returns-clause-accepts : goal.returns-clause-accepts
 returns-clause-accepts g c t a m front rest crc read spelled sound took is e = (c.in_ok-value.ensures.accepts t a m front rest crc read spelled sound took is e).0
+
+pub returns-in_err-value-clause-exact_errors : goal.returns-in_err-value-clause-exact_errors
+returns-in_err-value-clause-exact_errors g c =
+    rw (is_refusal c.from_residual.result c.in_err-value.field-0.0 c.from_residual.ensures.1) c.in_err-value.ensures.exact_errors
+
+pub returns-clause-exact_errors : goal.returns-clause-exact_errors
+returns-clause-exact_errors g c = c.in_ok-value.ensures.exact_errors

@@ -1,8 +1,10 @@
 -- The value that was read, with nothing after its checksum.
-use Rattle.std.proofs.Common.{◌++◌, [], inr, ap, subst, sym, ◌∙◌, append-nil}
+use Rattle.std.proofs.Common.{◌++◌, [], inl, inr, refl, ap, subst, sym, ◌∙◌, append-nil}
 use Rattle.postcard_de_nodes.specs.ReadLemmas.{is_refusal}
 use Rattle.postcard_wire.specs.Spelling.{canonical}
 use Rattle.crc.specs.Frame.{low_bytes}
+use Rattle.postcard_wire.specs.declared.error.Error.TheVariants.{DeserializeBadEncoding}
+use Rattle.postcard_crc.proofs.Errors.{of_faultless}
 use Rattle.postcard_crc.specs.Reading.{ReadsChecked}
 use Rattle.postcard_crc.proofs.de.from_bytes_whole.Goals as goal
 
@@ -61,3 +63,23 @@ returns-else-is_end-clause-accepts g c t a m front crc read spelled sound took i
     let end = c.is_end.ensures.1 ((c.in_ok-value.ensures.accepts t a m front [] crc read spelled sound took is (e ∙ ap (λ z. front ++ z) (sym (append-nil low)))).1) in
     let more = c.if-is_end.false in
     absurd (cc)
+
+pub returns-in_err-value-clause-exact_errors : goal.returns-in_err-value-clause-exact_errors
+returns-in_err-value-clause-exact_errors g c =
+    rw (is_refusal c.from_residual.result c.in_err-value.field-0.0 c.from_residual.ensures.1) c.in_err-value.ensures.exact_errors
+
+pub returns-then-is_end-clause-exact_errors : goal.returns-then-is_end-clause-exact_errors
+returns-then-is_end-clause-exact_errors g c = c.in_ok-value.ensures.exact_errors
+
+pub returns-else-is_end-clause-exact_errors : goal.returns-else-is_end-clause-exact_errors
+returns-else-is_end-clause-exact_errors g c =
+    let s = g.T.Shaped.shape in
+    of_faultless s.reads s.grows g.W.Width.size c.args.digest c.args.bytes.now DeserializeBadEncoding c.in_ok-value.ensures.exact_errors (λ e. cc) (λ e. cc)
+
+pub returns-else-is_end-clause-bytes_after : goal.returns-else-is_end-clause-bytes_after
+returns-else-is_end-clause-bytes_after g c t a m front rest crc read spelled sound took is e some = inl refl
+
+pub returns-then-is_end-clause-accepts : goal.returns-then-is_end-clause-accepts
+returns-then-is_end-clause-accepts g c t a m front crc read spelled sound took is e =
+    let low = low_bytes g.W.Width.size crc in
+    (c.in_ok-value.ensures.accepts t a m front [] crc read spelled sound took is (e ∙ ap (λ z. front ++ z) (sym (append-nil low)))).0

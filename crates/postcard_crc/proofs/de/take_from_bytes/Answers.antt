@@ -3,7 +3,7 @@ use Rattle.std.proofs.Common.{◌++◌, sym, ap, ◌∙◌, append_assoc}
 use Rattle.postcard_wire.specs.Spelling.{canonical}
 use Rattle.crc.specs.Frame.{low_bytes}
 use Rattle.postcard_de_nodes.specs.ReadLemmas.{is_refusal}
-use Rattle.postcard_crc.proofs.Errors.{of_check, of_success}
+use Rattle.postcard_crc.proofs.Errors.{of_value, of_check, of_success}
 use Rattle.postcard_crc.proofs.Damage.{are_bytes, not_damaged}
 use Rattle.postcard_crc.proofs.de.take_from_bytes.Goals as goal
 
@@ -69,3 +69,11 @@ returns-clause-exact_errors g c =
     let at = c.in_ok-value.ensures.accepts t p q read spelled j in
     let follows = h.gives p (j ∙ ap (λ z. p ++ z) (sym at.1)) in
     (c.in_ok-value.rest.now, at.1, (λ few. let no = h.short few in cc), λ a m took. (follows.0, c.in_ok-rest.rest.now, follows.1 a m took, follows.2)))
+
+pub returns-in_err-value-clause-exact_errors : goal.returns-in_err-value-clause-exact_errors
+returns-in_err-value-clause-exact_errors g c =
+    let s = g.T.Shaped.shape in
+    let h = c.in_err-value.ensures in
+    let e = c.in_err-value.field-0.0 in
+    rw (is_refusal c.from_residual.result e c.from_residual.ensures.1)
+    (of_value s.reads s.grows g.W.Width.size c.args.digest c.args.bytes.now e h.accepts h.named_error)
