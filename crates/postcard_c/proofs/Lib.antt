@@ -1,4 +1,5 @@
 pub mod Bytes
+pub mod Checksums
 pub mod Framed
 pub mod Places
 pub mod Reading
