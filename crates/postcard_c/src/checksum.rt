@@ -59,6 +59,7 @@ fn taken(generator: u32, register: u32, bytes: &[u8]) -> u32
 
 /// Returns the checksum of a message that goes on with these bytes, where `so_far` is that of the
 /// bytes before them.
+#[inline(never)]
 fn continued(generator: u32, added: u32, so_far: u32, bytes: &[u8]) -> u32
     ensures { (a : Parameters) (m : List ℕ) → Reflects a generator added
         → IsCrc a m so_far → IsCrc a (m ++ bytes.now) result }
