@@ -4,7 +4,7 @@
 //! and give the lowest bit first. A register takes a message bit by bit, without a table, so that the
 //! code is small.
 
-ghost use Rattle.std.specs.Prelude.{◌≡◌, ◌↔◌, ◌++◌, ℕ, List, take, true, IsTrue};
+ghost use Rattle.std.specs.Prelude.{◌≡◌, ◌↔◌, ◌++◌, ℕ, List, length, take, true, IsTrue};
 ghost use Rattle.crc.specs.Crc.{Parameters, IsCrc};
 ghost use Rattle.crc.specs.Register.{next, rounds, Holds};
 ghost use Rattle.postcard_c.specs.Checksums.{crc_16, crc_32, Reflects, PutsCrc, GetsCrc, TakesJust};
@@ -125,11 +125,17 @@ pub extern "C" fn postcard_put_crc16(writer: &mut Writer<'_>) -> u32
     postcard_put_u16_le(writer, crc)
 }
 
-/// Returns whether two lists of bytes are the same.
+/// Returns whether two lists of bytes of one length are the same.
 fn are_same(found: &[u8], wanted: &[u8]) -> bool
+    requires { length found.now ≡ length wanted.now }
     ensures { IsTrue result ↔ (found.now ≡ wanted.now) }
 {
-    *found == *wanted
+    for i in 0..wanted.len() {
+        if found[i] != wanted[i] {
+            return false;
+        }
+    }
+    true
 }
 
 /// Takes the next bytes, which must be those that are wanted.
