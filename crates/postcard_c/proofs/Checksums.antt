@@ -1,9 +1,9 @@
 -- Checksums by a register of 32 bits, whose lowest bit is the highest coefficient.
-use Rattle.std.proofs.Common.{◌≡◌, ℕ, zero, suc, ◌+◌, ◌-◌, ◌*◌, ◌^◌, ◌<◌, ◌≤◌, List, [], ◌∷◌, ◌++◌, Bool, true, false, refl, sym, ap, ap₂, subst, subst₂, ◌∙◌, mul_assoc, mul_right_comm, zero-mul, pow_pos, pow-add, arith, bit_xor, if◌then◌else◌, bit_and, mod-eq_of_lt}
+use Rattle.std.proofs.Common.{◌≡◌, ℕ, zero, suc, ◌+◌, ◌*◌, ◌^◌, ◌<◌, List, [], ◌∷◌, ◌++◌, Bool, true, false, refl, sym, ap, ap₂, subst, subst₂, ◌∙◌, mul_assoc, mul_right_comm, zero-mul, pow_pos, pow-add, arith, bit_xor, if◌then◌else◌, bit_and, mod-eq_of_lt}
 use Rattle.std.specs.Int.{reverse_bits_onto}
 use lib.Bits.{xor_assoc, xor_self, xor_zero_r, xor_lt, and_mask}
 use Rattle.crc.specs.Polynomial.{product, Congruent}
-use Rattle.crc.specs.Crc.{Parameters, in_order, generator, dividend, IsCrc, IsValid}
+use Rattle.crc.specs.Crc.{Parameters, in_order, generator, dividend, IsCrc}
 use Rattle.crc.specs.Register.{gap, feedback, rounds, first_byte, Holds, Takes, read}
 use Rattle.crc.proofs.PolynomialLemmas.{sum_shift}
 use Rattle.crc.proofs.ReflectionLemmas.{mirror, is_mirror, mirror_below, mirror_short, mirror_twice}

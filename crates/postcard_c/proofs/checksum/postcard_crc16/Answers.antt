@@ -1,4 +1,4 @@
-use Rattle.std.proofs.Common.{[], ◌++◌, subst, sym, ◌∙◌, refl, ap}
+use Rattle.std.proofs.Common.{[], ◌++◌, subst, sym, ◌∙◌}
 use Rattle.crc.specs.Crc.{IsCrc}
 use Rattle.postcard_c.specs.Checksums.{crc_16}
 use Rattle.postcard_c.proofs.Checksums.{reflects_16, none_16, low_bits_16}
