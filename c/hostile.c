@@ -48,7 +48,8 @@ static void get_one(postcard_reader *r, postcard_slice *lent) {
     int32_t i;
     uint32_t c;
     bool b;
-    switch (next() % 11) {
+    double d;
+    switch (next() % 14) {
         case 0: postcard_get_u64(r, &u); break;
         case 1: postcard_get_u16(r, &h); break;
         case 2: postcard_get_i32(r, &i); break;
@@ -59,6 +60,9 @@ static void get_one(postcard_reader *r, postcard_slice *lent) {
         case 7: u = 0, v = 0, postcard_get_i128(r, &u, &v); break;
         case 8: postcard_get_raw(r, next() % 40, lent); break;
         case 9: postcard_get_u32_be(r, &c); break;
+        case 10: postcard_get_f64(r, &d); break;
+        case 11: postcard_get_crc32(r); break;
+        case 12: postcard_get_crc16(r); break;
         default: postcard_get_option(r, &b); break;
     }
 }
@@ -80,11 +84,14 @@ static void writes(int round) {
     for (int calls = 0; calls < 6; calls++) {
         size_t before = w.used;
         postcard_status failed = w.status;
-        switch (next() % 5) {
+        switch (next() % 8) {
             case 0: postcard_put_u64(&w, next()); break;
             case 1: postcard_put_raw(&w, piece, size); break;
             case 2: postcard_put_str(&w, (const char *)piece, size); break;
             case 3: postcard_put_char(&w, next()); break;
+            case 4: postcard_put_crc32(&w); break;
+            case 5: postcard_put_crc16(&w); break;
+            case 6: postcard_put_f32(&w, 1); break;
             default: postcard_put_u128_le(&w, next(), next()); break;
         }
         require(w.status ? w.used == before : w.used <= room, "a bad place");

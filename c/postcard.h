@@ -1,4 +1,5 @@
-/* Postcard (wire format 1.0) for C: a writer, a reader, COBS frames and an accumulator, over memory that the caller owns.
+/* Postcard (wire format 1.0) for C: a writer, a reader, checksums, COBS frames and an accumulator, over memory that the caller
+ * owns.
  *
  * Nothing here allocates or keeps a state of its own, and of the C library only memcpy, memmove and memset are needed. Each
  * function that isn't `inline` is proved against its contract (crates/postcard_c/src), which holds for all arguments.
@@ -15,6 +16,7 @@
 #include <stdbool.h>
 #include <stddef.h>
 #include <stdint.h>
+#include <string.h>
 #ifdef __cplusplus
 extern "C" {
 #endif
@@ -31,6 +33,7 @@ enum {
     POSTCARD_BAD_UTF8 = 8,       /* a text is not UTF-8 */
     POSTCARD_BAD_OPTION = 9,     /* the first byte of an option is neither 0 nor 1 */
     POSTCARD_BAD_FRAME = 11,     /* not a COBS frame */
+    POSTCARD_BAD_CRC = 12,       /* the bytes after a message are not its checksum */
     POSTCARD_NO_VALUE = 14,      /* only from postcard_text.h: the bytes spell no value of the type */
     POSTCARD_OUT_OF_MEMORY = 16, /* only from postcard_text.h */
     POSTCARD_BAD_TYPE = 17,      /* only from postcard_text.h: not a type expression */
@@ -153,6 +156,36 @@ POSTCARD_SIGNED_(16, be)
 POSTCARD_SIGNED_(32, be)
 POSTCARD_SIGNED_(64, be)
 #undef POSTCARD_SIGNED_
+
+/* Floats of IEEE 754, as their bits at full width, the lowest byte first. Every bit pattern is kept, that of a NaN too. */
+#define POSTCARD_FLOAT_(bits, type)                                                                                   \
+    static inline postcard_status postcard_put_f##bits(postcard_writer *w, type value) {                              \
+        uint##bits##_t bits_of_it;                                                                                    \
+        memcpy(&bits_of_it, &value, sizeof bits_of_it);                                                               \
+        return postcard_put_u##bits##_le(w, bits_of_it);                                                              \
+    }                                                                                                                 \
+    static inline postcard_status postcard_get_f##bits(postcard_reader *r, type *value) {                             \
+        uint##bits##_t bits_of_it = 0;                                                                                \
+        postcard_status status = postcard_get_u##bits##_le(r, &bits_of_it);                                           \
+        if (status == POSTCARD_OK) memcpy(value, &bits_of_it, sizeof bits_of_it);                                     \
+        return status;                                                                                                \
+    }                                                                                                                 \
+    enum { POSTCARD_A_FLOAT_HAS_##bits##_BITS_ = 1 / (sizeof(type) * 8 == bits) };
+POSTCARD_FLOAT_(32, float)
+POSTCARD_FLOAT_(64, double)
+#undef POSTCARD_FLOAT_
+
+/* Checksums of the catalogue of parametrised CRC algorithms: CRC-32/ISO-HDLC, often called just CRC-32, and CRC-16/IBM-SDLC.
+ * The first call for a message has 0 as its `so_far`, and each later one the result for the bytes before its own. */
+uint32_t postcard_crc32(uint32_t so_far, const void *bytes, size_t size);
+uint16_t postcard_crc16(uint16_t so_far, const void *bytes, size_t size);
+
+/* A message with its checksum after it, the lowest byte first. Writing appends the checksum of buffer[0] to buffer[used - 1];
+ * reading takes that of bytes[0] to bytes[at - 1], or fails with POSTCARD_BAD_CRC. */
+postcard_status postcard_put_crc32(postcard_writer *w);
+postcard_status postcard_put_crc16(postcard_writer *w);
+postcard_status postcard_get_crc32(postcard_reader *r);
+postcard_status postcard_get_crc16(postcard_reader *r);
 
 /* Frames. The frame of n bytes has at most POSTCARD_FRAME_SIZE(n), the zero that ends it included. Decoding is in place: the
  * data is then frame[0] to frame[*count - 1]. */

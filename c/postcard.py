@@ -11,11 +11,11 @@ POSTCARD_LIBRARY.
 """
 import ctypes
 import os
-from ctypes import POINTER, Structure, byref, c_bool, c_char_p, c_size_t, c_uint8, c_uint32, c_void_p
+from ctypes import POINTER, Structure, byref, c_bool, c_char_p, c_size_t, c_uint8, c_uint16, c_uint32, c_void_p
 
-__all__ = ["Error", "check", "dec", "dec_all", "enc", "frame", "Frames"]
+__all__ = ["Error", "check", "crc16", "crc32", "dec", "dec_all", "enc", "frame", "Frames"]
 
-_BUFFER_FULL, _BAD_TYPE, _BAD_TEXT = 2, 17, 18
+_BUFFER_FULL, _UNEXPECTED_END, _BAD_FRAME, _BAD_CRC, _BAD_TYPE, _BAD_TEXT = 2, 4, 11, 12, 17, 18
 _PROBLEMS = {
     2: "a frame has no room",
     4: "the bytes end before the value does",
@@ -24,7 +24,8 @@ _PROBLEMS = {
     7: "no Unicode scalar value",
     8: "a text is not UTF-8",
     9: "the first byte of an option is neither 0 nor 1",
-    11: "not a COBS frame",
+    11: "not a COBS frame, or bytes after a checksum",
+    12: "the bytes after a message are not its checksum",
     14: "no value of the type",
     16: "out of memory",
     _BAD_TYPE: "not a type expression",
@@ -63,6 +64,9 @@ def _declared():
     }.items():
         function = getattr(library, name)
         function.argtypes, function.restype = arguments, c_uint32
+    for name, number in {"postcard_crc16": c_uint16, "postcard_crc32": c_uint32}.items():
+        function = getattr(library, name)
+        function.argtypes, function.restype = [number, *sized], number
     return library
 
 
@@ -89,11 +93,37 @@ def _filled(call, type, content, at=0):
         size = count.value
 
 
-def dec(type, message):
-    """The text of the value of the type that the bytes begin with, and the bytes after it."""
+def crc16(content, so_far=0):
+    """The checksum of the bytes by CRC-16/IBM-SDLC; `so_far` is that of the bytes before them, if a message comes in pieces."""
+    return _library.postcard_crc16(so_far, bytes(content), len(content))
+
+
+def crc32(content, so_far=0):
+    """The same by CRC-32/ISO-HDLC, often called just CRC-32."""
+    return _library.postcard_crc32(so_far, bytes(content), len(content))
+
+
+def _checksum(crc, content):
+    """The bytes of the checksum of `crc` bits, 16 or 32, the lowest first."""
+    return {16: crc16, 32: crc32}[crc](content).to_bytes(crc // 8, "little")
+
+
+def _after_checksum(crc, message, taken):
+    """The bytes after the checksum of the first `taken` bytes, which must follow them."""
+    end = taken + crc // 8
+    if end > len(message):
+        raise Error(_UNEXPECTED_END, taken)
+    if message[taken:end] != _checksum(crc, message[:taken]):
+        raise Error(_BAD_CRC, taken)
+    return message[end:]
+
+
+def dec(type, message, crc=None):
+    """The text of the value of the type that the bytes begin with, and the bytes after it. With `crc`, 16 or 32, the message has a
+    checksum of that many bits after it, which is checked and is not among the bytes returned."""
     message = bytes(message)
     shown, taken = _filled(_library.postcard_to_text, type, message)
-    return shown.decode(), message[taken:]
+    return shown.decode(), _after_checksum(crc, message, taken) if crc else message[taken:]
 
 
 def dec_all(type, messages):
@@ -108,9 +138,10 @@ def dec_all(type, messages):
     return texts
 
 
-def enc(type, text):
-    """The message of the value of the type that the text spells."""
-    return _filled(_library.postcard_from_text, type, text.encode())[0]
+def enc(type, text, crc=None):
+    """The message of the value of the type that the text spells. With `crc`, 16 or 32, a checksum of that many bits is after it."""
+    message = _filled(_library.postcard_from_text, type, text.encode())[0]
+    return message + _checksum(crc, message) if crc else message
 
 
 def check(type, message):
@@ -137,11 +168,11 @@ class Frames:
 
     `feed` returns an answer for each frame that a piece completes: the text of its value, or an `Error` if it has none. A
     frame of more than `size` bytes, its zero included, is skipped and has the error with status 2. Bytes after the value in a
-    frame are ignored.
+    frame are ignored. With `crc`, 16 or 32, a frame is a message and its checksum of that many bits, and nothing may follow.
     """
 
-    def __init__(self, type, size=1024):
-        self._type = type
+    def __init__(self, type, size=1024, crc=None):
+        self._type, self._crc = type, crc
         self._room = (c_uint8 * max(size, 1))()
         self._accumulator = _Accumulator(ctypes.cast(self._room, POINTER(c_uint8)), size, 0, False)
         place = c_size_t()
@@ -152,10 +183,11 @@ class Frames:
     def _answer(self, status, count):
         if status == 1:
             try:
-                return dec(self._type, bytes(self._room[:count]))[0]
+                shown, rest = dec(self._type, bytes(self._room[:count]), self._crc)
             except Error as error:
                 return error
-        return Error(_BUFFER_FULL if status == 2 else 11, 0)
+            return Error(_BAD_FRAME, count - len(rest)) if self._crc and rest else shown
+        return Error(_BUFFER_FULL if status == 2 else _BAD_FRAME, 0)
 
     def feed(self, piece):
         piece, answers, at = bytes(piece), [], 0

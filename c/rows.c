@@ -1,19 +1,19 @@
 /* The rows of crates/postcard_rows/stdin, which say how a row is written, by the calls of postcard.h: those of numbers,
- * booleans, characters and texts without escapes. It reads them from its standard input and prints one line, or each row
+ * floats but for a NaN, booleans, characters and texts without escapes. It reads them from its standard input and prints one line, or each row
  * that is wrong. */
 #include <stdio.h>
 #include <stdlib.h>
 #include <string.h>
 #include "postcard.h"
 
-/* A number of at most 128 bits, in two's complement. */
+/* A number of at most 128 bits, in two's complement, or the bits of a float. */
 typedef struct { uint64_t low, high; } number;
 
-enum kind { OTHER, BOOL, U8, U16, U32, U64, U128, I8, I16, I32, I64, I128, CHAR, STR };
+enum kind { OTHER, BOOL, U8, U16, U32, U64, U128, I8, I16, I32, I64, I128, F32, F64, CHAR, STR };
 static enum kind kind_of(const char *name) {
     static const struct { const char *name; enum kind kind; } names[] = {
         {"bool", BOOL}, {"u8", U8}, {"u16", U16}, {"u32", U32}, {"u64", U64}, {"u128", U128}, {"usize", U64}, {"i8", I8}, {"i16", I16},
-        {"i32", I32}, {"i64", I64}, {"i128", I128}, {"isize", I64}, {"char", CHAR}, {"&str", STR}, {"String", STR}};
+        {"i32", I32}, {"i64", I64}, {"i128", I128}, {"isize", I64}, {"f32", F32}, {"f64", F64}, {"char", CHAR}, {"&str", STR}, {"String", STR}};
     for (size_t i = 0; i < sizeof names / sizeof *names; i++)
         if (strcmp(name, names[i].name) == 0) return names[i].kind;
     return OTHER;
@@ -22,6 +22,14 @@ static enum kind kind_of(const char *name) {
 /* What is read of a row: its number, or its text. */
 typedef struct { number n; postcard_slice text; } value;
 
+static uint64_t bits_of_f32(float f) {
+    uint32_t bits;
+    return memcpy(&bits, &f, sizeof bits), bits;
+}
+static uint64_t bits_of_f64(double f) {
+    uint64_t bits;
+    return memcpy(&bits, &f, sizeof bits), bits;
+}
 static number widened(int64_t signed_one) {
     number n = {(uint64_t)signed_one, signed_one < 0 ? UINT64_MAX : 0};
     return n;
@@ -35,6 +43,8 @@ static postcard_status get(postcard_reader *r, enum kind kind, value *v) {
     int16_t i16 = 0;
     int32_t i32 = 0;
     int64_t i64 = 0;
+    float f32 = 0;
+    double f64 = 0;
     v->n.low = v->n.high = 0;
     switch (kind) {
         case BOOL: postcard_get_bool(r, &b), v->n.low = b; break;
@@ -48,6 +58,8 @@ static postcard_status get(postcard_reader *r, enum kind kind, value *v) {
         case I32: postcard_get_i32(r, &i32), v->n = widened(i32); break;
         case I64: postcard_get_i64(r, &i64), v->n = widened(i64); break;
         case I128: postcard_get_i128(r, &v->n.low, &v->n.high); break;
+        case F32: postcard_get_f32(r, &f32), v->n.low = bits_of_f32(f32); break;
+        case F64: postcard_get_f64(r, &f64), v->n.low = bits_of_f64(f64); break;
         case CHAR: postcard_get_char(r, &u32), v->n.low = u32; break;
         default: postcard_get_str(r, &v->text); break;
     }
@@ -55,6 +67,9 @@ static postcard_status get(postcard_reader *r, enum kind kind, value *v) {
 }
 static postcard_status put(postcard_writer *w, enum kind kind, const value *v) {
     uint64_t low = v->n.low;
+    uint32_t low_bits = (uint32_t)low;
+    float f32;
+    double f64;
     switch (kind) {
         case BOOL: return postcard_put_bool(w, low);
         case U8: return postcard_put_u8(w, (uint8_t)low);
@@ -67,6 +82,8 @@ static postcard_status put(postcard_writer *w, enum kind kind, const value *v) {
         case I32: return postcard_put_i32(w, (int32_t)low);
         case I64: return postcard_put_i64(w, (int64_t)low);
         case I128: return postcard_put_i128(w, low, v->n.high);
+        case F32: memcpy(&f32, &low_bits, sizeof f32); return postcard_put_f32(w, f32);
+        case F64: memcpy(&f64, &low, sizeof f64); return postcard_put_f64(w, f64);
         case CHAR: return postcard_put_char(w, (uint32_t)low);
         default: return postcard_put_str(w, (const char *)v->text.bytes, v->text.size);
     }
@@ -88,6 +105,8 @@ static number decimal(const char *text) {
 static bool wanted_of(enum kind kind, char *text, value *v) {
     size_t size = strlen(text);
     if (kind == BOOL) return v->n.low = strcmp(text, "true") == 0, v->n.high = 0, true;
+    if (kind == F32) return v->n.low = bits_of_f32(strtof(text, NULL)), v->n.high = 0, strcmp(text, "NaN") != 0;
+    if (kind == F64) return v->n.low = bits_of_f64(strtod(text, NULL)), v->n.high = 0, strcmp(text, "NaN") != 0;
     if (kind != CHAR && kind != STR) return v->n = decimal(text), true;
     if (strchr(text, '\\') || size < 2) return false;
     v->text.bytes = (const uint8_t *)text + 1, v->text.size = size - 2;

@@ -2,6 +2,7 @@
 import os
 import re
 import unittest
+import zlib
 
 import postcard
 
@@ -92,6 +93,35 @@ class Calls(unittest.TestCase):
         self.assertEqual(postcard.dec_all("u16", bytes.fromhex("05ac02")), ["5", "300"])
         with self.assertRaises(ValueError):
             postcard.dec_all("()", b"\x00")
+
+
+class Checksums(unittest.TestCase):
+    def test_of_bytes(self):
+        self.assertEqual((postcard.crc16(b"123456789"), postcard.crc32(b"123456789")), (0x906E, 0xCBF43926))
+        content = bytes(i * i % 251 for i in range(1000))
+        for cut in (0, 1, 500, 1000):
+            self.assertEqual(postcard.crc32(content[cut:], postcard.crc32(content[:cut])), zlib.crc32(content))
+
+    def test_after_messages(self):
+        self.assertEqual(postcard.enc("u8", "0", crc=16).hex(), "0078f0")
+        self.assertEqual(postcard.dec("u8", bytes.fromhex("0078f099"), crc=16), ("0", b"\x99"))
+        message = b"\x03abc"
+        sent = message + zlib.crc32(message).to_bytes(4, "little")
+        self.assertEqual(postcard.enc("str", '"abc"', crc=32), sent)
+        self.assertEqual(postcard.dec("str", sent, crc=32), ('"abc"', b""))
+
+    def test_refused(self):
+        for message, status, place in [("0078", 4, 1), ("0078f1", 12, 1), ("", 4, 0)]:
+            with self.subTest(message), self.assertRaises(postcard.Error) as caught:
+                postcard.dec("u8", bytes.fromhex(message), crc=16)
+            self.assertEqual((caught.exception.status, caught.exception.place), (status, place))
+
+    def test_in_frames(self):
+        frames = postcard.Frames("u8", crc=16)
+        answers = frames.feed(bytes.fromhex("010378f000" "0103f07800" "01037899f000" "010378f000" "010379f000"))
+        self.assertEqual([answers[0], answers[3]], ["0", "0"])
+        self.assertEqual([(it.status, it.place) for it in (answers[1], answers[2], answers[4])], [(12, 1), (11, 0), (12, 1)])
+        self.assertEqual(frames.feed(postcard.frame(bytes.fromhex("0078f001")))[0].status, 11)
 
 
 class Streams(unittest.TestCase):

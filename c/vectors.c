@@ -1,5 +1,6 @@
 /* The published vectors of the format, and values worked out by hand, by the calls of postcard.h: written and read back;
- * failures; frames; streams cut at every place. It prints one line, and ends with 1 at the first check that fails. */
+ * failures; checksums; frames; streams cut at every place. It prints one line, and ends with 1 at the first check that fails. */
+#include <float.h>
 #include <string.h>
 #include "postcard.h"
 #ifdef FREESTANDING
@@ -90,6 +91,56 @@ static void wide(void) {
     WIDE(u128_be, 0x0706050403020100, 0x0F0E0D0C0B0A0908, "\x0F\x0E\x0D\x0C\x0B\x0A\x09\x08\x07\x06\x05\x04\x03\x02\x01\x00");
 }
 
+/* Floats of a type: one of these bits is written as their bytes, the lowest first, and read from them; so is each power of two
+ * from 1 on and from 1 down, until its bits are those of infinity and of 0. */
+#define FLOATS(name, type, number, fraction, bias)                                   \
+    static void name##_is(type value, number bits) {                                 \
+        uint8_t bytes[sizeof bits];                                                  \
+        type got = 7;                                                                \
+        for (size_t i = 0; i < sizeof bits; i++) bytes[i] = (uint8_t)(bits >> 8 * i); \
+        begin();                                                                     \
+        postcard_put_##name(&w, value);                                              \
+        is((const char *)bytes, sizeof bytes);                                       \
+        postcard_get_##name(&r, &got);                                               \
+        CHECK(memcmp(&got, &value, sizeof got) == 0);                                \
+        ends();                                                                      \
+    }                                                                                \
+    static void name##_powers(void) {                                                \
+        const number one = (number)1 << fraction;                                    \
+        type power = 1;                                                              \
+        for (number bits = bias * one; bits <= (2 * bias + 1) * one; bits += one) name##_is(power, bits), power *= 2; \
+        power = 1;                                                                   \
+        for (number bits = bias * one; bits; bits = bits > one ? bits - one : bits / 2) name##_is(power, bits), power /= 2; \
+        name##_is(power, 0);                                                         \
+    }                                                                                \
+    /* A NaN of these bits keeps them. */                                            \
+    static void name##_keeps(number bits) {                                          \
+        type value = 7;                                                              \
+        begin();                                                                     \
+        for (size_t i = 0; i < sizeof bits; i++) postcard_put_u8(&w, (uint8_t)(bits >> 8 * i)); \
+        r = postcard_reader_over(room, w.used);                                      \
+        CHECK(postcard_get_##name(&r, &value) == 0 && value != value);               \
+        name##_is(value, bits);                                                      \
+    }
+FLOATS(f32, float, uint32_t, 23, 127)
+FLOATS(f64, double, uint64_t, 52, 1023)
+
+static void floats(void) {
+    f32_powers(), f64_powers();
+    f32_is(1.5f, 0x3FC00000), f32_is(-0.0f, 0x80000000), f32_is(-32.00586f, 0xC2000600), f32_is(FLT_MAX, 0x7F7FFFFF);
+    f64_is(1.5, 0x3FF8000000000000), f64_is(-0.0, 0x8000000000000000), f64_is(0.1, 0x3FB999999999999A), f64_is(DBL_MAX, 0x7FEFFFFFFFFFFFFF);
+    f32_keeps(0x7FC00000), f32_keeps(0xFFC01234);
+    f64_keeps(0x7FF8000000000000), f64_keeps(0xFFF8000000001234);
+#ifndef __i386__ /* where C itself may change the bits of a signalling NaN that it passes */
+    f32_keeps(0x7F800001), f64_keeps(0x7FF0000000000001);
+#endif
+    float value = 7;
+    r = postcard_reader_over("\x00\x00\x80", 3);
+    CHECK(postcard_get_f32(&r, &value) == POSTCARD_UNEXPECTED_END && value == 7 && r.at == 0);
+    w = postcard_writer_over(room, 7);
+    CHECK(postcard_put_f64(&w, 1) == POSTCARD_BUFFER_FULL && w.needed == 8);
+}
+
 static void compounds(void) {
     begin(); /* DataEnum::Kim(EnumStruct { eight: 0xF0, sixt: 0xACAC }) */
     postcard_put_variant(&w, 3), postcard_put_u8(&w, 0xF0), postcard_put_u16(&w, 0xACAC);
@@ -178,12 +229,56 @@ static void failures(void) {
     CHECK(postcard_get_u32(&r, &n) == POSTCARD_UNEXPECTED_END);
 }
 
+/* The check values of the catalogue, of a message in two pieces too, and messages with a checksum after them. */
+static void checksums(void) {
+    static const char text[] = "123456789";
+    for (size_t cut = 0; cut <= 9; cut++) {
+        CHECK(postcard_crc32(postcard_crc32(0, text, cut), text + cut, 9 - cut) == 0xCBF43926);
+        CHECK(postcard_crc16(postcard_crc16(0, text, cut), text + cut, 9 - cut) == 0x906E);
+    }
+    CHECK(postcard_crc32(0, NULL, 0) == 0 && postcard_crc16(0, NULL, 0) == 0);
+    uint8_t value = 7;
+    postcard_slice nine = {0, 0};
+    begin(); /* 0u8 by CRC-16/IBM-SDLC */
+    postcard_put_u8(&w, 0), postcard_put_crc16(&w);
+    IS("\x00\x78\xF0");
+    postcard_get_u8(&r, &value), postcard_get_crc16(&r);
+    CHECK(value == 0);
+    ends();
+    begin();
+    postcard_put_raw(&w, text, 9), postcard_put_crc32(&w);
+    IS("123456789\x26\x39\xF4\xCB");
+    postcard_get_raw(&r, 9, &nine), postcard_get_crc32(&r);
+    ends();
+    for (size_t bit = 0; bit < 13 * 8; bit++) { /* each bit that is changed is seen */
+        room[bit / 8] ^= (uint8_t)(1 << bit % 8);
+        r = postcard_reader_over(room, 13);
+        CHECK(postcard_get_raw(&r, 9, &nine) == 0 && postcard_get_crc32(&r) == POSTCARD_BAD_CRC && r.at == 9);
+        room[bit / 8] ^= (uint8_t)(1 << bit % 8);
+    }
+    r = postcard_reader_over(room, 12);
+    CHECK(postcard_get_raw(&r, 9, &nine) == 0 && postcard_get_crc32(&r) == POSTCARD_UNEXPECTED_END && r.at == 9);
+    CHECK(postcard_get_crc16(&r) == POSTCARD_UNEXPECTED_END); /* the failure stays */
+    r = postcard_reader_over(room, 12), r.at = 99;            /* a place past the bytes */
+    CHECK(postcard_get_crc16(&r) == POSTCARD_UNEXPECTED_END && r.at == 99);
+    w = postcard_writer_over(room, 12);
+    CHECK(postcard_put_raw(&w, text, 9) == 0 && postcard_put_crc32(&w) == POSTCARD_BUFFER_FULL && w.used == 9 && w.needed == 13);
+    w = postcard_writer_over(room, 8), w.used = 99;
+    CHECK(postcard_put_crc16(&w) == POSTCARD_BUFFER_FULL && w.used == 99);
+}
+
 static void frames(void) {
     uint8_t frame[64];
     size_t count = 0;
     CHECK(postcard_cobs_encode("\x03Hi!", 4, frame, sizeof frame, &count) == 0);
     CHECK(count == 6 && memcmp(frame, "\x05\x03Hi!\x00", 6) == 0);
     CHECK(postcard_cobs_encode("\x03Hi!", 4, frame, 5, &count) == POSTCARD_BUFFER_FULL);
+    CHECK(postcard_cobs_encode("\x00\x78\xF0", 3, frame, sizeof frame, &count) == 0); /* 0u8 with its checksum of 16 bits */
+    CHECK(count == 5 && memcmp(frame, "\x01\x03\x78\xF0\x00", 5) == 0);
+    CHECK(postcard_cobs_decode(frame, count, &count) == 0 && count == 3);
+    uint8_t value = 7;
+    r = postcard_reader_over(frame, count);
+    CHECK(postcard_get_u8(&r, &value) == 0 && value == 0 && postcard_get_crc16(&r) == 0 && r.at == 3);
     memcpy(frame, "\x03\x04\x01\x09\x02\x20\x05\x68\x45\x6C\x4C\x6F\x00", 13);
     CHECK(postcard_cobs_decode(frame, 13, &count) == 0 && count == 11);
     CHECK(memcmp(frame, "\x04\x01\x00\x02\x20\x05hElLo", 11) == 0);
@@ -223,7 +318,7 @@ static void streams(void) {
 }
 
 int main(void) {
-    numbers(), wide(), compounds(), failures(), frames(), streams();
+    numbers(), wide(), floats(), compounds(), failures(), checksums(), frames(), streams();
     passed();
     return 0;
 }

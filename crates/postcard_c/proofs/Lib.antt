@@ -1,4 +1,6 @@
 pub mod Bytes
+pub mod Checksums
+pub mod Fixed
 pub mod Framed
 pub mod Places
 pub mod Reading

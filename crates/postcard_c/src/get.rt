@@ -169,9 +169,7 @@ pub extern "C" fn postcard_get_variant(reader: &mut Reader<'_>, value: &mut u32)
     ensures { Gets (IsNum 32) (λ t v. t ≡ Num 32 v) (WantsDigit 32) (BadNumber 32)
         reader.old reader.new value.old value.new result }
 {
-    let mut source = open(reader);
-    let index = source.deserialize_u32();
-    settle(reader, source, index, value)
+    postcard_get_u32(reader, value)
 }
 
 /// Reads the number of elements of a list or of pairs of a map, which are read next. Nothing says that

@@ -45,9 +45,10 @@ pub extern "C" fn postcard_get_u16_le(reader: &mut Reader<'_>, value: &mut u16) 
 {
     let mut bytes = [0; 2];
     let status = fill(reader, &mut bytes);
-    if status == 0 {
-        *value = u16::decode_le(bytes);
+    if status != 0 {
+        return status;
     }
+    *value = u16::decode_le(bytes);
     status
 }
 
@@ -62,9 +63,10 @@ pub extern "C" fn postcard_get_u16_be(reader: &mut Reader<'_>, value: &mut u16) 
 {
     let mut bytes = [0; 2];
     let status = fill(reader, &mut bytes);
-    if status == 0 {
-        *value = u16::decode_be(bytes);
+    if status != 0 {
+        return status;
     }
+    *value = u16::decode_be(bytes);
     status
 }
 
@@ -79,9 +81,10 @@ pub extern "C" fn postcard_get_u32_le(reader: &mut Reader<'_>, value: &mut u32) 
 {
     let mut bytes = [0; 4];
     let status = fill(reader, &mut bytes);
-    if status == 0 {
-        *value = u32::decode_le(bytes);
+    if status != 0 {
+        return status;
     }
+    *value = u32::decode_le(bytes);
     status
 }
 
@@ -96,9 +99,10 @@ pub extern "C" fn postcard_get_u32_be(reader: &mut Reader<'_>, value: &mut u32) 
 {
     let mut bytes = [0; 4];
     let status = fill(reader, &mut bytes);
-    if status == 0 {
-        *value = u32::decode_be(bytes);
+    if status != 0 {
+        return status;
     }
+    *value = u32::decode_be(bytes);
     status
 }
 
@@ -113,9 +117,10 @@ pub extern "C" fn postcard_get_u64_le(reader: &mut Reader<'_>, value: &mut u64) 
 {
     let mut bytes = [0; 8];
     let status = fill(reader, &mut bytes);
-    if status == 0 {
-        *value = u64::decode_le(bytes);
+    if status != 0 {
+        return status;
     }
+    *value = u64::decode_le(bytes);
     status
 }
 
@@ -130,9 +135,10 @@ pub extern "C" fn postcard_get_u64_be(reader: &mut Reader<'_>, value: &mut u64) 
 {
     let mut bytes = [0; 8];
     let status = fill(reader, &mut bytes);
-    if status == 0 {
-        *value = u64::decode_be(bytes);
+    if status != 0 {
+        return status;
     }
+    *value = u64::decode_be(bytes);
     status
 }
 
@@ -153,9 +159,10 @@ pub extern "C" fn postcard_get_u128_le(
 {
     let mut bytes = [0; 16];
     let status = fill(reader, &mut bytes);
-    if status == 0 {
-        (*low, *high) = halves(u128::decode_le(bytes));
+    if status != 0 {
+        return status;
     }
+    (*low, *high) = halves(u128::decode_le(bytes));
     status
 }
 
@@ -176,8 +183,9 @@ pub extern "C" fn postcard_get_u128_be(
 {
     let mut bytes = [0; 16];
     let status = fill(reader, &mut bytes);
-    if status == 0 {
-        (*low, *high) = halves(u128::decode_be(bytes));
+    if status != 0 {
+        return status;
     }
+    (*low, *high) = halves(u128::decode_be(bytes));
     status
 }

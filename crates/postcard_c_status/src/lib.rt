@@ -21,6 +21,8 @@ pub const BAD_UTF8: u32 = 8;
 pub const BAD_OPTION: u32 = 9;
 /// The bytes are no COBS frame.
 pub const BAD_FRAME: u32 = 11;
+/// The bytes after a message are not its checksum.
+pub const BAD_CRC: u32 = 12;
 /// An allocation failed.
 pub const OUT_OF_MEMORY: u32 = 16;
 /// A text is no type expression. The library has no such error among those of [`Error`].
@@ -47,7 +49,7 @@ pub fn status_of(error: &Error) -> u32
         Error::DeserializeBadOption => BAD_OPTION,
         Error::DeserializeBadEnum => 10,
         Error::DeserializeBadEncoding => BAD_FRAME,
-        Error::DeserializeBadCrc => 12,
+        Error::DeserializeBadCrc => BAD_CRC,
         Error::SerdeSerCustom => 13,
         Error::SerdeDeCustom => 14,
         Error::CollectStrError => 15,

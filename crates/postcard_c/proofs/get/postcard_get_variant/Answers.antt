@@ -1,7 +1,4 @@
-use Rattle.postcard_c.proofs.Reading.{settled}
 use Rattle.postcard_c.proofs.get.postcard_get_variant.Goals as goal
 
 pub returns : goal.returns
-returns c =
-    settled _ _ _ _ c.settle.ensures c.open-source.ensures c.deserialize_u32-index.ensures.reads
-    c.deserialize_u32-index.ensures.refused
+returns c = c.postcard_get_u32.ensures

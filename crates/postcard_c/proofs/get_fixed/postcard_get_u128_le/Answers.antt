@@ -1,0 +1,12 @@
+use Rattle.std.proofs.Common.{◌∙◌, refl, sym}
+use Rattle.postcard_shape.specs.Base256.{little}
+use Rattle.postcard_c.proofs.Fixed.{number_read, number_refused}
+use Rattle.postcard_c.proofs.get_fixed.postcard_get_u128_le.Goals as goal
+
+pub returns-then-status-ne0 : goal.returns-then-status-ne0
+returns-then-status-ne0 c = number_refused little.value 16 c.fill-status.ensures c.if-status-ne0.true refl
+
+pub returns : goal.returns
+returns c =
+    number_read little.value 16 c.fill-status.ensures c.if-status-ne0.false
+    (sym c.halves.ensures ∙ c.decode_le.ensures.value)

@@ -1,0 +1,4 @@
+use Rattle.postcard_c.proofs.put.postcard_put_some.Goals as goal
+
+pub returns : goal.returns
+returns c = c.append.ensures
