@@ -1,0 +1,100 @@
+//! What a receiver reports each second: a struct of fifteen fields.
+
+use postcard::ser_flavors::Flavor;
+use postcard::{FromRepr, Repr, Result, Serialize, SerializeRepr, Serializer};
+
+/// What a receiver reports each second.
+#[derive(Debug, Drop)]
+pub struct Telemetry {
+    /// The number of the report.
+    pub sequence: u32,
+    /// Milliseconds since the start.
+    pub uptime: u64,
+    /// Millivolts.
+    pub voltage: u16,
+    /// Milliamperes; negative while the battery is charged.
+    pub current: i16,
+    /// Hundredths of a degree Celsius.
+    pub temperature: i16,
+    /// Percent.
+    pub humidity: u8,
+    /// Pascals.
+    pub pressure: u32,
+    /// Degrees north times 10,000,000.
+    pub latitude: i32,
+    /// Degrees east times 10,000,000.
+    pub longitude: i32,
+    /// Metres above the sea.
+    pub altitude: i16,
+    /// Tenths of a degree, clockwise from the north.
+    pub heading: u16,
+    /// Centimetres a second.
+    pub speed: u16,
+    /// The number of satellites in view.
+    pub satellites: u8,
+    /// Whether the position is known.
+    pub fix: bool,
+    /// The name of the receiver.
+    pub label: String,
+}
+
+impl Repr for Telemetry {
+    type As = (
+        (u32, u64, u16, i16, i16, u8, u32, i32),
+        (i32, i16, u16, u16, u8, bool, String),
+    );
+
+    ghost repr = { λ v. (
+      (v.sequence, v.uptime, v.voltage, v.current, v.temperature, v.humidity, v.pressure, v.latitude),
+      (v.longitude, v.altitude, v.heading, v.speed, v.satellites, v.fix, v.label),
+    ) };
+}
+
+impl FromRepr for Telemetry {
+    fn from_repr((first, second): Self::As) -> Self {
+        let (sequence, uptime, voltage, current, temperature, humidity, pressure, latitude) = first;
+        let (longitude, altitude, heading, speed, satellites, fix, label) = second;
+        Telemetry {
+            sequence,
+            uptime,
+            voltage,
+            current,
+            temperature,
+            humidity,
+            pressure,
+            latitude,
+            longitude,
+            altitude,
+            heading,
+            speed,
+            satellites,
+            fix,
+            label,
+        }
+    }
+}
+
+impl SerializeRepr for Telemetry {
+    fn serialize_repr<F: Flavor>(&self, serializer: &mut Serializer<F>) -> Result<()> {
+        let first = (
+            self.sequence,
+            self.uptime,
+            self.voltage,
+            self.current,
+            self.temperature,
+            self.humidity,
+            self.pressure,
+            self.latitude,
+        );
+        let second = (
+            self.longitude,
+            self.altitude,
+            self.heading,
+            self.speed,
+            self.satellites,
+            self.fix,
+            &self.label,
+        );
+        (first, second).serialize(serializer)
+    }
+}
