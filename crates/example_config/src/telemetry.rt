@@ -40,20 +40,23 @@ pub struct Telemetry {
 
 impl Repr for Telemetry {
     type As = (
-        (u32, u64, u16, i16, i16, u8, u32, i32),
-        (i32, i16, u16, u16, u8, bool, String),
+        (u32, u64, u16, i16, i16),
+        (u8, u32, i32, i32, i16),
+        (u16, u16, u8, bool, String),
     );
 
     ghost repr = { λ v. (
-      (v.sequence, v.uptime, v.voltage, v.current, v.temperature, v.humidity, v.pressure, v.latitude),
-      (v.longitude, v.altitude, v.heading, v.speed, v.satellites, v.fix, v.label),
+      (v.sequence, v.uptime, v.voltage, v.current, v.temperature),
+      (v.humidity, v.pressure, v.latitude, v.longitude, v.altitude),
+      (v.heading, v.speed, v.satellites, v.fix, v.label),
     ) };
 }
 
 impl FromRepr for Telemetry {
-    fn from_repr((first, second): Self::As) -> Self {
-        let (sequence, uptime, voltage, current, temperature, humidity, pressure, latitude) = first;
-        let (longitude, altitude, heading, speed, satellites, fix, label) = second;
+    fn from_repr((first, second, third): Self::As) -> Self {
+        let (sequence, uptime, voltage, current, temperature) = first;
+        let (humidity, pressure, latitude, longitude, altitude) = second;
+        let (heading, speed, satellites, fix, label) = third;
         Telemetry {
             sequence,
             uptime,
@@ -82,19 +85,21 @@ impl SerializeRepr for Telemetry {
             self.voltage,
             self.current,
             self.temperature,
+        );
+        let second = (
             self.humidity,
             self.pressure,
             self.latitude,
-        );
-        let second = (
             self.longitude,
             self.altitude,
+        );
+        let third = (
             self.heading,
             self.speed,
             self.satellites,
             self.fix,
             &self.label,
         );
-        (first, second).serialize(serializer)
+        (first, second, third).serialize(serializer)
     }
 }
