@@ -7,6 +7,7 @@ mod config;
 mod counted;
 mod limited;
 mod pair;
+mod parts;
 mod routes;
 mod store;
 mod telemetry;

@@ -1,7 +1,14 @@
 //! What a receiver reports each second: a struct of fifteen fields.
 
+ghost use Rattle.postcard_shape.specs.Shape.{via};
+
+use crate::parts::{FromParts, read_parts};
+use postcard::de_flavors::Flavor as DeFlavor;
 use postcard::ser_flavors::Flavor;
-use postcard::{FromRepr, Repr, Result, Serialize, SerializeRepr, Serializer};
+use postcard::{
+    Deserialize, DeserializeOwned, Deserializer, Result, Serialize, Serializer, Shaped,
+};
+use std::alloc::Global;
 
 /// What a receiver reports each second.
 #[derive(Debug, Drop)]
@@ -38,22 +45,32 @@ pub struct Telemetry {
     pub label: String,
 }
 
-impl Repr for Telemetry {
-    type As = (
-        (u32, u64, u16, i16, i16),
-        (u8, u32, i32, i32, i16),
-        (u16, u16, u8, bool, String),
-    );
+/// The fields, as tuples of five.
+type Parts = (
+    (u32, u64, u16, i16, i16),
+    (u8, u32, i32, i32, i16),
+    (u16, u16, u8, bool, String),
+);
 
-    ghost repr = { λ v. (
+impl Shaped for Telemetry {
+    ghost shape = { via (λ v. (
+      (v.sequence, v.uptime, v.voltage, v.current, v.temperature),
+      (v.humidity, v.pressure, v.latitude, v.longitude, v.altitude),
+      (v.heading, v.speed, v.satellites, v.fix, v.label),
+    )) ⟦<Parts as Shaped>⟧.shape };
+}
+
+impl FromParts for Telemetry {
+    type Parts = Parts;
+
+    ghost seen = { λ v. (
       (v.sequence, v.uptime, v.voltage, v.current, v.temperature),
       (v.humidity, v.pressure, v.latitude, v.longitude, v.altitude),
       (v.heading, v.speed, v.satellites, v.fix, v.label),
     ) };
-}
 
-impl FromRepr for Telemetry {
-    fn from_repr((first, second, third): Self::As) -> Self {
+    fn from_parts(parts: Self::Parts) -> Self {
+        let (first, second, third) = parts;
         let (sequence, uptime, voltage, current, temperature) = first;
         let (humidity, pressure, latitude, longitude, altitude) = second;
         let (heading, speed, satellites, fix, label) = third;
@@ -77,8 +94,8 @@ impl FromRepr for Telemetry {
     }
 }
 
-impl SerializeRepr for Telemetry {
-    fn serialize_repr<F: Flavor>(&self, serializer: &mut Serializer<F>) -> Result<()> {
+impl Serialize for Telemetry {
+    fn serialize<F: Flavor>(&self, serializer: &mut Serializer<F>) -> Result<()> {
         let first = (
             self.sequence,
             self.uptime,
@@ -101,5 +118,17 @@ impl SerializeRepr for Telemetry {
             &self.label,
         );
         (first, second, third).serialize(serializer)
+    }
+}
+
+impl<'de> Deserialize<'de> for Telemetry {
+    fn deserialize<F: DeFlavor>(alloc: Global, d: &mut Deserializer<'de, F>) -> Result<Self> {
+        read_parts(alloc, d)
+    }
+}
+
+impl DeserializeOwned for Telemetry {
+    fn deserialize_owned<F: DeFlavor>(alloc: Global, d: &mut Deserializer<'_, F>) -> Result<Self> {
+        Telemetry::deserialize(alloc, d)
     }
 }
