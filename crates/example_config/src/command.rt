@@ -1,0 +1,88 @@
+//! Commands to a receiver: an enum whose variants hold structs with memory, and lists of them.
+
+ghost use Rattle.example_config.specs.declared.command.Command.{Command};
+ghost use Rattle.postcard_ser.specs.Writing.{Wrote};
+ghost use Rattle.postcard_shape.specs.Shape.{via};
+ghost use Rattle.postcard_shape.specs.declared.cases.Case.TheVariants.{This, Next};
+ghost use Rattle.postcard_wire.specs.Spelling.{canonical};
+ghost use Rattle.std.specs.Prelude.{OnOk};
+
+use crate::config::Config;
+use postcard::de_flavors::Flavor as DeFlavor;
+use postcard::ser_flavors::Flavor;
+use postcard::{
+    Case, Deserialize, DeserializeOwned, Deserializer, NoCase, Result, Serialize, Serializer,
+    Shaped, serialize_variant,
+};
+use std::alloc::Global;
+
+/// A command to a receiver.
+#[derive(Debug, Drop)]
+pub enum Command {
+    /// Answer.
+    Ping,
+    /// Take this configuration.
+    Set(Config),
+    /// Take these configurations, one after another.
+    Batch(Vec<Config>),
+    /// Show a fault.
+    Fault {
+        /// The number of the fault.
+        code: u8,
+        /// A description of the fault.
+        text: String,
+    },
+}
+
+impl Shaped for Command {
+    ghost shape = { via (elim [
+      | Command.Ping ↦ This tt
+      | Command.Set config ↦ Next (This config)
+      | Command.Batch configs ↦ Next (Next (This configs))
+      | Command.Fault code text ↦ Next (Next (Next (This (code, text))))
+    ]) ⟦<Case<(), Case<Config, Case<Vec<Config>, Case<(u8, String), NoCase>>>> as Shaped>⟧.shape };
+}
+
+/// Writes the variant `Set`.
+fn write_set<F: Flavor>(config: &Config, serializer: &mut Serializer<F>) -> Result<()>
+    ensures wrote { Wrote F.Flavor serializer.old.output
+        (canonical (⟦<Command as Shaped>⟧.shape.tree (Command.Set config.now)))
+        (⟦<Command as Shaped>⟧.shape.refuses (Command.Set config.now))
+        ⟦<Command as Shaped>⟧.shape.text result serializer.new.output }
+    ensures fits { OnOk result (⟦<Command as Shaped>⟧.shape.fits (Command.Set config.now)) }
+{
+    serialize_variant(1, config, serializer)
+}
+
+impl Serialize for Command {
+    fn serialize<F: Flavor>(&self, serializer: &mut Serializer<F>) -> Result<()> {
+        match self {
+            Command::Ping => serialize_variant(0, &(), serializer),
+            Command::Set(config) => write_set(config, serializer),
+            Command::Batch(configs) => serialize_variant(2, configs, serializer),
+            Command::Fault { code, text } => serialize_variant(3, &(code, text), serializer),
+        }
+    }
+}
+
+impl<'de> Deserialize<'de> for Command {
+    fn deserialize<F: DeFlavor>(alloc: Global, d: &mut Deserializer<'de, F>) -> Result<Self> {
+        let case: Case<(), Case<Config, Case<Vec<Config>, Case<(u8, String), NoCase>>>> =
+            Deserialize::deserialize(alloc, d)?;
+        Ok(match case {
+            Case::This(()) => Command::Ping,
+            Case::Next(Case::This(config)) => Command::Set(config),
+            Case::Next(Case::Next(Case::This(configs))) => Command::Batch(configs),
+            Case::Next(Case::Next(Case::Next(Case::This((code, text))))) => {
+                Command::Fault { code, text }
+            }
+            Case::Next(Case::Next(Case::Next(Case::Next(never)))) => match never {},
+        })
+    }
+}
+
+impl DeserializeOwned for Command {
+    fn deserialize_owned<F: DeFlavor>(alloc: Global, d: &mut Deserializer<'_, F>) -> Result<Self> {
+        Command::deserialize(alloc, d)
+    }
+}
