@@ -44,8 +44,10 @@ use Rattle.postcard.proofs.ser.to_slice.Statement.{statement}
 use Rattle.postcard.proofs.ser.to_slice.Code as code
 use Rattle.postcard.specs.contracts.ser.write_front as g
 use Rattle.postcard.proofs.ser.write_front.Met as g-thm
+use Rattle.postcard.proofs.ser.write_front.Statement.{statement as write_front_says}
 use Rattle.postcard.specs.contracts.ser.lend_front as h
 use Rattle.postcard.proofs.ser.lend_front.Met as h-thm
+use Rattle.postcard.proofs.ser.lend_front.Statement.{statement as lend_front_says}
 
 byte_laws : Laws u8
 byte_laws = of_field u8-field u8-laws refl (copy_shared u8-field u8-copy)
@@ -53,8 +55,9 @@ byte_laws = of_field u8-field u8-laws refl (copy_shared u8-field u8-copy)
 slice_laws : (a : NamedLft) → Laws (MutSlice a.mir a.lft u8)
 slice_laws a = of_field (mut_slice_field a u8 tt) (mut_slice_laws a u8 tt) refl (mut_slice_shared a u8 tt (row_shared u8 byte_laws))
 
-pub to_slice_spec : {M : Type 1} → statement M
-to_slice_spec 𝓤 𝓛 𝓜 𝓡 wired X L gs dict sh dict2 met met2 =
+-- The walk, by what the functions that it calls promise.
+walk : {M : Type 1} → write_front_says M → lend_front_says M → statement M
+walk writes lends 𝓤 𝓛 𝓜 𝓡 wired X L gs dict sh dict2 met met2 =
     let args : Args = bounded (a_type ∷ []) (X, tt) (dcons dict (dcons dict2 dnil)) in let fn : Fn = inst_fn args code.function in
     let end = f.ended X gs dict sh dict2 in
     let stayed : Stays end.signature.params end.kept = (stay_dropped (RefOf (0 ∷ []) tt (plain (λ _. param 0 X)) (λ _. tt)) yes, (stay_dropped (SliceRefMutOf (1 ∷ []) tt (plain (λ _. u8)) (λ _. tt)) no, tt)) in
@@ -74,7 +77,7 @@ to_slice_spec 𝓤 𝓛 𝓜 𝓡 wired X L gs dict sh dict2 met met2 =
     alloc_all ! (λ l. pass_all ! refl ((tt, tt), ((tt, (tt, (record { fits = long }, tt))), tt)) $
     sets ! (addr ! (from ! (fld ! refl (hop ! (look_in_at ! 2 (sub ! 0 refl (whole !))) (stop !))))) refl (tt, tt) $
     sets ! (agg ! (and_then ! (get ! refl) (and_then ! (get_in ! (fld ! refl (stop !)) (sub ! 1 refl (whole !))) (no_more !)))) refl (tt, (tt, (record { fits = long }, tt))) $
-    calls_at ! (framed 𝓤 𝓛.H 𝓜 𝓣) G (g-thm.met 𝓤 𝓛 𝓜 𝓡 (code.calls-postcard::ser::write_front 𝓡.env wired) X L gs dict sh dict2 met met2) z
+    calls_at ! (framed 𝓤 𝓛.H 𝓜 𝓣) G (writes 𝓤 𝓛 𝓜 𝓡 (code.calls-postcard::ser::write_front 𝓡.env wired) X L gs dict sh dict2 met met2) z
     (and_then ! (get ! refl) (and_then ! (get ! refl) (no_more !))) (λ v.
     use1 𝓛 (later (some (λ (r : Attempt). ((‵ (flft κs.0 qs.0) ⊛ ‵ (flft κ q) ⊛ ‵ (flft κs.1.1.0 qs.1.1.0) ⊛ ‵ ftrue) ⊛ ‵ (D.own_val r (v ∷ []))) ⊛
     some (λ (ws : Lasts (g.ended X gs dict sh dict2) κs a). ‵ (lasts (g.ended X gs dict sh dict2) κs a ws) ⊛ raw (fact 𝓤 (r.all.ghost_name ≡ γ)) ⊛ raw (fact 𝓤 (IsAttempt ys Refuses Text Fits xs r)))))) (id⊢ 𝓤 _) $
@@ -87,7 +90,7 @@ to_slice_spec 𝓤 𝓛 𝓜 𝓡 wired X L gs dict sh dict2 met met2 =
     move ! (1 ∷ []) $ split ! $ move ! (1 ∷ []) $ split ! $ nothing ! $ move ! (1 ∷ 0 ∷ []) $ join ! $ nothing ! $ move ! (4 ∷ 0 ∷ []) $ fjoin ! $ move ! (1 ∷ 0 ∷ []) $ join ! $
     use0 𝓛 (raw (fact 𝓤 (r.count ≤ length r.all.now))) (fact_i 𝓤 _ (emp 𝓤) made.within) $ move ! (1 ∷ 0 ∷ []) $ use2 𝓛 (raw (K.pre j)) (id⊢ 𝓤 _) $
     -- [what `lend_front` requires; the other tokens, in two; the locals]
-    calls_at ! (framed 𝓤 𝓛.H 𝓜 𝓣) K (h-thm.met 𝓤 𝓛 𝓜 𝓡 (code.calls-postcard::ser::lend_front 𝓡.env wired)) j (and_then ! (get ! refl) (no_more !)) (λ v'.
+    calls_at ! (framed 𝓤 𝓛.H 𝓜 𝓣) K (lends 𝓤 𝓛 𝓜 𝓡 (code.calls-postcard::ser::lend_front 𝓡.env wired)) j (and_then ! (get ! refl) (no_more !)) (λ v'.
     use1 𝓛 (later (some (λ (w : Out.Denot). ((‵ (flft κ q) ⊛ ‵ ftrue) ⊛ ‵ (Out.own_val w (v' ∷ []))) ⊛
     some (λ (ws : Lasts h.ended (κ, tt) (r, tt)). ‵ (lasts h.ended (κ, tt) (r, tt) ws) ⊛ ‵ (follows_if (Array u8 0) (Array u8 0) r.all.ghost_name (name_if_ok (λ x. x.ghost_name) w) (λ n. n ++ drop_list r.count r.all.now) r.all.now) ⊛
     raw (fact 𝓤 (LendsAttempt r w)))))) (id⊢ 𝓤 _) $
@@ -111,3 +114,6 @@ to_slice_spec 𝓤 𝓛 𝓜 𝓡 wired X L gs dict sh dict2 met met2 =
     use0 𝓛 (raw (fact 𝓤 (IfOk w (λ x. (p : List ℕ) → Spells (sh.shape.tree a.0.now) p → (p ≡ x.now) ⊎ (length x.now < length p))))) (fact_i 𝓤 _ (emp 𝓤) (shortest ys Refuses Text Fits xs r w made front (sh.shape.tree a.0.now) refl)) $
     use0 𝓛 (raw (fact 𝓤 (IfOk w (λ x. x.now ≡ ys)))) (fact_i 𝓤 _ (emp 𝓤) (gives ys Refuses Text Fits xs r w made front)) $
     suffices ! _ (leaves 𝓛 end stayed c y v' w (tt, (tt, tt)) (tt, (tt, tt))) $ nothing ! $ nothing ! $ fjoin ! $ nothing ! $ fjoin ! $ move ! (8 ∷ 0 ∷ 9 ∷ 7 ∷ 1 ∷ 2 ∷ 3 ∷ 4 ∷ 5 ∷ 6 ∷ []) $ done !)))))))))))))
+
+pub to_slice_spec : {M : Type 1} → statement M
+to_slice_spec = walk g-thm.met h-thm.met

@@ -47,16 +47,19 @@ use Rattle.postcard_frame.proofs.cobs.from_bytes_cobs.Statement.{statement}
 use Rattle.postcard_frame.proofs.cobs.from_bytes_cobs.Code as code
 use Rattle.postcard_frame.specs.contracts.cobs.decode as g
 use Rattle.postcard_frame.proofs.cobs.decode.Met as g-thm
+use Rattle.postcard_frame.proofs.cobs.decode.Statement.{statement as decode_says}
 use Rattle.postcard_memory.specs.contracts.cut.split_front as h
 use Rattle.postcard_memory.proofs.cut.split_front.Met as h-thm
 use Rattle.postcard_frame.specs.contracts.cobs.read_data as r
 use Rattle.postcard_frame.proofs.cobs.read_data.Met as r-thm
+use Rattle.postcard_frame.proofs.cobs.read_data.Statement.{statement as read_data_says}
 use Rattle.postcard_frame.proofs.Decoded.{has_data, data_within, keeps_all}
 use Rattle.postcard_frame.proofs.Follows.{ends_so}
 use Rattle.postcard_frame.proofs.Values.{one, Paired, pair_in}
 
-pub from_bytes_cobs_spec : {M : Type 1} → statement M
-from_bytes_cobs_spec 𝓤 𝓛 𝓜 𝓡 wired T L Gh D Sh Ds Dd P met shaped glue =
+-- The walk, by what the functions that it calls promise.
+walk : {M : Type 1} → decode_says M → read_data_says M → statement M
+walk decodes reads 𝓤 𝓛 𝓜 𝓡 wired T L Gh D Sh Ds Dd P met shaped glue =
     let 𝓣 = tables 𝓤 𝓛.H 𝓜 𝓡 𝓡.env in let En = f.ended T Gh D Sh Ds Dd P in
     let args : Args = bounded (a_type ∷ []) (T, tt) (dcons D (dcons Ds (dcons Dd dnil))) in let fn : Fn = inst_fn args code.function in
     let c = f.clauses T Gh D Sh Ds Dd P 𝓛 𝓜.mem 𝓡.returns in
@@ -85,7 +88,7 @@ from_bytes_cobs_spec 𝓤 𝓛 𝓜 𝓡 wired T L Gh D Sh Ds Dd P met shaped gl
     let G = triple_of 𝓛 g.signature (g.spec 𝓛 𝓜.mem 𝓡.returns) in
     let z : G.Ghost = (((κ, tt), (q, tt), tt, (s, tt), (mut_slice_vals s, tt)), tt) in
     nothing ! $ move ! (1 ∷ 0 ∷ []) $ join ! $ nothing ! $ move ! (3 ∷ 0 ∷ []) $ join ! $ join ! $ nothing ! $ move ! (1 ∷ 0 ∷ []) $ use2 𝓛 (raw (G.pre z)) (id⊢ 𝓤 _) $
-    calls_at ! (framed 𝓤 𝓛.H 𝓜 𝓣) G (g-thm.met 𝓤 𝓛 𝓜 𝓡 (code.calls-postcard_frame::cobs::decode 𝓡.env wired)) z (and_then ! (get ! refl) (no_more !)) (λ v.
+    calls_at ! (framed 𝓤 𝓛.H 𝓜 𝓣) G (decodes 𝓤 𝓛 𝓜 𝓡 (code.calls-postcard_frame::cobs::decode 𝓡.env wired)) z (and_then ! (get ! refl) (no_more !)) (λ v.
     use1 𝓛 (later (some (λ (d : Decoded). ((‵ (flft κ q) ⊛ ‵ ftrue) ⊛ ‵ (Dec.own_val d (v ∷ []))) ⊛
     some (λ (ws : Lasts g.ended (κ, tt) (s, tt)). ‵ (lasts g.ended (κ, tt) (s, tt) ws) ⊛ raw (fact 𝓤 (d.all.ghost_name ≡ γ)) ⊛ raw (fact 𝓤 (IsDecoded xs d)))))) (id⊢ 𝓤 _) $
     await ! tt $ pick ! (λ d. split ! $ split ! $ move ! (2 ∷ []) $ pick ! (λ ws. split ! $ drop ! $ split ! $ heard ! _ (λ same. heard ! _ (λ made.
@@ -134,7 +137,7 @@ from_bytes_cobs_spec 𝓤 𝓛 𝓜 𝓡 wired T L Gh D Sh Ds Dd P met shaped gl
     nothing ! $ owned ! usize _ (uint_Makes 𝓛 w64) d.len _ (refl, fits₂) $ fjoin ! $ move ! (3 ∷ 0 ∷ []) $ fjoin ! $ move ! (3 ∷ 0 ∷ []) $ fjoin ! $ move ! (1 ∷ 0 ∷ []) $ join ! $
     use0 𝓛 (raw (fact 𝓤 (d.len ≤ length p.0.now))) (fact_i 𝓤 _ (emp 𝓤) fits) $ use0 𝓛 (raw (fact 𝓤 (P κs))) (fact_i 𝓤 _ (emp 𝓤) pk) $ join ! $
     use0 𝓛 (raw (fact 𝓤 TL)) (fact_i 𝓤 _ (emp 𝓤) tl) $ join ! $ move ! (1 ∷ 0 ∷ []) $ use2 𝓛 (raw (R.pre k)) (id⊢ 𝓤 _) $
-    calls_at ! (framed 𝓤 𝓛.H 𝓜 𝓣) R (r-thm.met 𝓤 𝓛 𝓜 𝓡 (code.calls-postcard_frame::cobs::read_data 𝓡.env wired) T L Gh D Sh Ds Dd P met shaped glue) k
+    calls_at ! (framed 𝓤 𝓛.H 𝓜 𝓣) R (reads 𝓤 𝓛 𝓜 𝓡 (code.calls-postcard_frame::cobs::read_data 𝓡.env wired) T L Gh D Sh Ds Dd P met shaped glue) k
     (and_then ! (get ! refl) (and_then ! (get ! refl) (and_then ! (get ! refl) (no_more !)))) (λ u.
     let Read : Out.Denot → Type 0 = λ w. (frame : List ℕ) → HasDataOf frame p.0.now d.len → IsReadOf Sh.shape (λ x. x) frame w in
     use1 𝓛 (later (some (λ (w : Out.Denot). ((‵ (flft κ q) ⊛ ‵ (flft τ q') ⊛ ‵ ftrue) ⊛ ‵ (Out.own_val w (u ∷ []))) ⊛
@@ -154,3 +157,6 @@ from_bytes_cobs_spec 𝓤 𝓛 𝓜 𝓡 wired T L Gh D Sh Ds Dd P met shaped gl
     use0 𝓛 (raw (fact 𝓤 (AcceptsFrame Sh.shape (λ x. x) F w))) (fact_i 𝓤 _ (emp 𝓤) is-read.accepts) $
     use0 𝓛 (raw (fact 𝓤 (IfOk w (ReadsFrame Sh.shape.reads Sh.shape.value F)))) (fact_i 𝓤 _ (emp 𝓤) is-read.gives) $
     suffices ! _ (leaves 𝓛 En hs c y u w (tt, (tt, tt)) (tt, (tt, tt))) $ nothing ! $ nothing ! $ fjoin ! $ nothing ! $ fjoin ! $ move ! (9 ∷ 0 ∷ 8 ∷ 10 ∷ 1 ∷ 2 ∷ 3 ∷ 4 ∷ 5 ∷ 6 ∷ 7 ∷ []) $ done !)))))))))))))))))))))))))))
+
+pub from_bytes_cobs_spec : {M : Type 1} → statement M
+from_bytes_cobs_spec = walk g-thm.met r-thm.met

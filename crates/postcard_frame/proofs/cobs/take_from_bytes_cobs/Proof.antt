@@ -49,12 +49,15 @@ use Rattle.postcard_frame.proofs.cobs.take_from_bytes_cobs.Statement.{statement}
 use Rattle.postcard_frame.proofs.cobs.take_from_bytes_cobs.Code as code
 use Rattle.postcard_frame.specs.contracts.cobs.decode as g
 use Rattle.postcard_frame.proofs.cobs.decode.Met as g-thm
+use Rattle.postcard_frame.proofs.cobs.decode.Statement.{statement as decode_says}
 use Rattle.postcard_memory.specs.contracts.cut.split_front as h
 use Rattle.postcard_memory.proofs.cut.split_front.Met as h-thm
 use Rattle.postcard_frame.specs.contracts.cobs.read_data as r
 use Rattle.postcard_frame.proofs.cobs.read_data.Met as r-thm
+use Rattle.postcard_frame.proofs.cobs.read_data.Statement.{statement as read_data_says}
 use Rattle.postcard_frame.specs.contracts.cobs.beside as b
 use Rattle.postcard_frame.proofs.cobs.beside.Met as b-thm
+use Rattle.postcard_frame.proofs.cobs.beside.Statement.{statement as beside_says}
 use Rattle.postcard_frame.proofs.Decoded.{has_data, data_within}
 use Rattle.postcard_frame.proofs.Read.{of_beside, kept_ok, kept_err, remaining}
 use Rattle.postcard_frame.proofs.Follows.{hands_on}
@@ -66,8 +69,9 @@ byte_laws = of_field u8-field u8-laws refl (copy_shared u8-field u8-copy)
 pair_laws : (T : RattleType) → Laws T → (a : NamedLft) → Laws (Tuple (param 0 T ∷ MutSlice a.mir a.lft u8 ∷ []))
 pair_laws T L a = tuple_laws (param 0 T ∷ MutSlice a.mir a.lft u8 ∷ []) (param_laws 0 T L, (of_field (mut_slice_field a u8 tt) (mut_slice_laws a u8 tt) refl (mut_slice_shared a u8 tt (row_shared u8 byte_laws)), tt))
 
-pub take_from_bytes_cobs_spec : {M : Type 1} → statement M
-take_from_bytes_cobs_spec 𝓤 𝓛 𝓜 𝓡 wired T L Gh D Sh Ds Dd P met shaped glue =
+-- The walk, by what the functions that it calls promise.
+walk : {M : Type 1} → decode_says M → read_data_says M → beside_says M → statement M
+walk decodes reads joins 𝓤 𝓛 𝓜 𝓡 wired T L Gh D Sh Ds Dd P met shaped glue =
     let 𝓣 = tables 𝓤 𝓛.H 𝓜 𝓡 𝓡.env in let En = f.ended T Gh D Sh Ds Dd P in
     let args : Args = bounded (a_type ∷ []) (T, tt) (dcons D (dcons Ds (dcons Dd dnil))) in let fn : Fn = inst_fn args code.function in
     let c = f.clauses T Gh D Sh Ds Dd P 𝓛 𝓜.mem 𝓡.returns in
@@ -96,7 +100,7 @@ take_from_bytes_cobs_spec 𝓤 𝓛 𝓜 𝓡 wired T L Gh D Sh Ds Dd P met shap
     let G = triple_of 𝓛 g.signature (g.spec 𝓛 𝓜.mem 𝓡.returns) in
     let z : G.Ghost = (((κ, tt), (q, tt), tt, (s, tt), (mut_slice_vals s, tt)), tt) in
     nothing ! $ move ! (1 ∷ 0 ∷ []) $ join ! $ nothing ! $ move ! (3 ∷ 0 ∷ []) $ join ! $ join ! $ nothing ! $ move ! (1 ∷ 0 ∷ []) $ use2 𝓛 (raw (G.pre z)) (id⊢ 𝓤 _) $
-    calls_at ! (framed 𝓤 𝓛.H 𝓜 𝓣) G (g-thm.met 𝓤 𝓛 𝓜 𝓡 (code.calls-postcard_frame::cobs::decode 𝓡.env wired)) z (and_then ! (get ! refl) (no_more !)) (λ v.
+    calls_at ! (framed 𝓤 𝓛.H 𝓜 𝓣) G (decodes 𝓤 𝓛 𝓜 𝓡 (code.calls-postcard_frame::cobs::decode 𝓡.env wired)) z (and_then ! (get ! refl) (no_more !)) (λ v.
     use1 𝓛 (later (some (λ (d : Decoded). ((‵ (flft κ q) ⊛ ‵ ftrue) ⊛ ‵ (Dec.own_val d (v ∷ []))) ⊛
     some (λ (ws : Lasts g.ended (κ, tt) (s, tt)). ‵ (lasts g.ended (κ, tt) (s, tt) ws) ⊛ raw (fact 𝓤 (d.all.ghost_name ≡ γ)) ⊛ raw (fact 𝓤 (IsDecoded xs d)))))) (id⊢ 𝓤 _) $
     await ! tt $ pick ! (λ d. split ! $ split ! $ move ! (2 ∷ []) $ pick ! (λ ws. split ! $ drop ! $ split ! $ heard ! _ (λ same. heard ! _ (λ made.
@@ -141,7 +145,7 @@ take_from_bytes_cobs_spec 𝓤 𝓛 𝓜 𝓡 wired T L Gh D Sh Ds Dd P met shap
     nothing ! $ owned ! usize _ (uint_Makes 𝓛 w64) d.len _ (refl, fits₂) $ fjoin ! $ move ! (3 ∷ 0 ∷ []) $ fjoin ! $ move ! (3 ∷ 0 ∷ []) $ fjoin ! $ move ! (1 ∷ 0 ∷ []) $ join ! $
     use0 𝓛 (raw (fact 𝓤 (d.len ≤ length p.0.now))) (fact_i 𝓤 _ (emp 𝓤) fits) $ use0 𝓛 (raw (fact 𝓤 (P κs))) (fact_i 𝓤 _ (emp 𝓤) pk) $ join ! $
     use0 𝓛 (raw (fact 𝓤 TL)) (fact_i 𝓤 _ (emp 𝓤) tl) $ join ! $ move ! (1 ∷ 0 ∷ []) $ use2 𝓛 (raw (R.pre k)) (id⊢ 𝓤 _) $
-    calls_at ! (framed 𝓤 𝓛.H 𝓜 𝓣) R (r-thm.met 𝓤 𝓛 𝓜 𝓡 (code.calls-postcard_frame::cobs::read_data 𝓡.env wired) T L Gh D Sh Ds Dd P met shaped glue) k
+    calls_at ! (framed 𝓤 𝓛.H 𝓜 𝓣) R (reads 𝓤 𝓛 𝓜 𝓡 (code.calls-postcard_frame::cobs::read_data 𝓡.env wired) T L Gh D Sh Ds Dd P met shaped glue) k
     (and_then ! (get ! refl) (and_then ! (get ! refl) (and_then ! (get ! refl) (no_more !)))) (λ u.
     let Read : In.Denot → Type 0 = λ w. (frame : List ℕ) → HasDataOf frame p.0.now d.len → IsReadOf Sh.shape (λ x. x) frame w in
     use1 𝓛 (later (some (λ (w : In.Denot). ((‵ (flft κ q) ⊛ ‵ (flft τ q') ⊛ ‵ ftrue) ⊛ ‵ (In.own_val w (u ∷ []))) ⊛
@@ -159,7 +163,7 @@ take_from_bytes_cobs_spec 𝓤 𝓛 𝓜 𝓡 wired T L Gh D Sh Ds Dd P met shap
     -- [the value; the tokens; what the whole follows and the rest]
     move ! (2 ∷ []) $ split ! $ move ! (1 ∷ []) $ nothing ! $ move ! (1 ∷ 0 ∷ []) $ join ! $ move ! (2 ∷ 0 ∷ []) $ join ! $ move ! (2 ∷ 0 ∷ []) $ join ! $
     nothing ! $ use0 𝓛 (raw (fact 𝓤 TL)) (fact_i 𝓤 _ (emp 𝓤) tl) $ join ! $ move ! (1 ∷ 0 ∷ []) $ use2 𝓛 (raw (B.pre m)) (id⊢ 𝓤 _) $
-    calls_at ! (framed 𝓤 𝓛.H 𝓜 𝓣) B (b-thm.met 𝓤 𝓛 𝓜 𝓡 (code.calls-postcard_frame::cobs::beside 𝓡.env wired) T L) m (and_then ! (get ! refl) (and_then ! (get ! refl) (no_more !))) (λ u'.
+    calls_at ! (framed 𝓤 𝓛.H 𝓜 𝓣) B (joins 𝓤 𝓛 𝓜 𝓡 (code.calls-postcard_frame::cobs::beside 𝓡.env wired) T L) m (and_then ! (get ! refl) (and_then ! (get ! refl) (no_more !))) (λ u'.
     let name : Out.Denot → Option GName = λ x. name_if_ok (λ (read : T.Denot × MutBor (List ℕ)). read.1.ghost_name) x in
     use1 𝓛 (later (some (λ (x : Out.Denot). ((‵ (flft κ q) ⊛ ‵ (flft τ q') ⊛ ‵ ftrue) ⊛ ‵ (Out.own_val x (u' ∷ []))) ⊛
     some (λ (ws : Lasts (b.ended T) m.0.0 m.0.3). ‵ (lasts (b.ended T) m.0.0 m.0.3 ws) ⊛ ‵ (follows_if (Array u8 0) (Array u8 0) p.1.ghost_name (name x) (λ n. n) p.1.now) ⊛ raw (fact 𝓤 (IsBeside w p.1.now x)))))) (id⊢ 𝓤 _) $
@@ -188,3 +192,6 @@ take_from_bytes_cobs_spec 𝓤 𝓛 𝓜 𝓡 wired T L Gh D Sh Ds Dd P met shap
     use0 𝓛 (raw (fact 𝓤 (IfOk x (λ read. read.1.now ≡ drop_list (length F + 1) xs)))) (fact_i 𝓤 _ (emp 𝓤) (remaining Sh.shape xs d made x is-read w beside')) $
     use0 𝓛 (raw (fact 𝓤 (IfOk x (λ read. ReadsFrame Sh.shape.reads Sh.shape.value F read.0)))) (fact_i 𝓤 _ (emp 𝓤) is-read.gives) $
     suffices ! _ (leaves 𝓛 En hs c y u' x (tt, (tt, tt)) (tt, (tt, tt))) $ nothing ! $ nothing ! $ fjoin ! $ nothing ! $ fjoin ! $ move ! (10 ∷ 0 ∷ 9 ∷ 11 ∷ 1 ∷ 2 ∷ 3 ∷ 4 ∷ 5 ∷ 6 ∷ 7 ∷ 8 ∷ []) $ done !))))))))))))))))))))))))))))))))
+
+pub take_from_bytes_cobs_spec : {M : Type 1} → statement M
+take_from_bytes_cobs_spec = walk g-thm.met r-thm.met b-thm.met

@@ -55,8 +55,10 @@ use Rattle.postcard_accumulator.proofs.answers.FeedResult.TheLaws as fed_laws
 use Rattle.postcard_de.specs.contracts.deserialize.Deserialize.TheBound as bound
 use Rattle.postcard_accumulator.specs.contracts.accumulator.CobsAccumulator.take_in as first
 use Rattle.postcard_accumulator.proofs.accumulator.CobsAccumulator.take_in.Met as first_met
+use Rattle.postcard_accumulator.proofs.accumulator.CobsAccumulator.take_in.Statement.{statement as take_in_says}
 use Rattle.postcard_accumulator.specs.contracts.taken.value_of as second
 use Rattle.postcard_accumulator.proofs.taken.value_of.Met as second_met
+use Rattle.postcard_accumulator.proofs.taken.value_of.Statement.{statement as value_of_says}
 use Rattle.postcard_accumulator.specs.contracts.accumulator.CobsAccumulator as acc
 use Rattle.postcard_accumulator.specs.contracts.accumulator.CobsAccumulator.feed_ref.{ended}
 use Rattle.postcard_accumulator.specs.contracts.accumulator.CobsAccumulator.feed_ref.{clauses}
@@ -82,8 +84,9 @@ module _ {M : Type 1} {𝓤 : Ura M} (𝓛 : Logic 𝓤) (R : RattleType) (γ : 
       (λ s. follows_by R.Denot R.Denot R.coded.code R.coded.code γ none s.0.0 s.0.1)
       (s.0, s.1, f s.0.1 s.2) $ done !)
 
-pub feed_ref_spec : {M : Type 1} → statement M
-feed_ref_spec 𝓤 𝓛 𝓜 𝓡 wired N T fits L Gh D Sh Ds Dd P met shaped glue =
+-- The walk, by what the functions that it calls promise.
+walk : {M : Type 1} → take_in_says M → value_of_says M → statement M
+walk takes reads 𝓤 𝓛 𝓜 𝓡 wired N T fits L Gh D Sh Ds Dd P met shaped glue =
     let H = 𝓛.H in let 𝓣 = tables 𝓤 H 𝓜 𝓡 𝓡.env in let N' : RattleType = number N in
     let Row : RattleType = acc.the_row (param 0 N') in let En = ended N' T Gh D Sh Ds Dd P in
     let inst = bounded (a_number ∷ a_type ∷ []) (N', (T, tt))
@@ -151,7 +154,7 @@ feed_ref_spec 𝓤 𝓛 𝓜 𝓡 wired N T fits L Gh D Sh Ds Dd P met shaped gl
     use0 𝓛 (raw (fact 𝓤 NL)) (fact_i 𝓤 NL (emp 𝓤) nl) $ join ! $ move ! (1 ∷ 0 ∷ []) $
     use2 𝓛 (raw (G.pre z)) (id⊢ 𝓤 _) $
     calls_at ! (framed 𝓤 𝓛.H 𝓜 𝓣) G
-    (first_met.met 𝓤 𝓛 𝓜 𝓡
+    (takes 𝓤 𝓛 𝓜 𝓡
     (code.calls-postcard_accumulator::accumulator::CobsAccumulator::take_in 𝓡.env wired) N fits)
     z
     (and_then ! (get ! refl) (and_then ! (get ! refl) (no_more !))) (λ v.
@@ -184,7 +187,7 @@ feed_ref_spec 𝓤 𝓛 𝓜 𝓡 wired N T fits L Gh D Sh Ds Dd P met shaped gl
     use0 𝓛 (raw (fact 𝓤 TL)) (fact_i 𝓤 TL (emp 𝓤) tl) $ join ! $ move ! (1 ∷ 0 ∷ []) $
     use2 𝓛 (raw (G₂.pre z₂)) (id⊢ 𝓤 _) $
     calls_at ! (framed 𝓤 𝓛.H 𝓜 𝓣) G₂
-    (second_met.met 𝓤 𝓛 𝓜 𝓡 (code.calls-postcard_accumulator::taken::value_of 𝓡.env wired) T L Gh D
+    (reads 𝓤 𝓛 𝓜 𝓡 (code.calls-postcard_accumulator::taken::value_of 𝓡.env wired) T L Gh D
     Sh Ds Dd P₂ (λ κs' e. subst (λ (l : Lft). bound.Met 𝓛 𝓜 𝓡 𝓡.env l T Gh D Sh Ds) (sym e)
     (met κs pk)) shaped glue) z₂
     (and_then ! (get ! refl) (and_then ! (get ! refl) (no_more !))) (λ u.
@@ -216,3 +219,6 @@ feed_ref_spec 𝓤 𝓛 𝓜 𝓡 wired N T fits L Gh D Sh Ds Dd P met shaped gl
     nothing ! $ nothing ! $ fjoin ! $ nothing ! $ fjoin ! $ nothing ! $ fjoin ! $
     keep ! (1 ∷ 0 ∷ 3 ∷ 2 ∷ []) $
     by ! (leaves 𝓛 En hs c y u r (tt, (tt, (tt, tt))) (tt, (tt, (tt, tt)))))))))))))))))))))
+
+pub feed_ref_spec : {M : Type 1} → statement M
+feed_ref_spec = walk first_met.met second_met.met
