@@ -12,7 +12,7 @@ ghost use Rattle.postcard_dyn.specs.Explained.{Explains, ExplainsElements, Expla
 ghost use Rattle.postcard_dyn.specs.Explained.{ExplainsParts, HasNoFront, IsAt, IsExplained};
 ghost use Rattle.postcard_dyn.specs.Explained.{IsLast, IsNameOf, IsOwn, Opens, Walks, bytes_of};
 ghost use Rattle.postcard_dyn.specs.Explained.{deeper};
-ghost use Rattle.postcard_dyn.specs.declared.explain.Label.TheVariants.{Whole};
+ghost use Rattle.postcard_dyn.specs.declared.explain.Label.TheVariants.{Element, Whole};
 ghost use Rattle.postcard_dyn.specs.declared.explain.Line.{Line};
 
 use crate::calls::take_from_bytes;
@@ -428,38 +428,42 @@ fn explain_elements<'a>(
     if shown == count {
         return Ok(rest);
     }
-    let place = Place {
-        depth,
-        label: Label::Element(shown),
-    };
-    explain_more(walk, element, count - shown, place, rest)
+    explain_more(walk, element, shown, count - shown, depth, rest)
 }
 
-/// Adds one line for `count` elements in a row, of which the first has this place. If one of them
-/// can't be read, the line is that of the elements before it, and the refused element has lines of
-/// its own.
+/// Adds one line for `count` elements in a row, of which the first has the number `first`. If one of
+/// them can't be read, the line is that of the elements before it, and the refused element has lines
+/// of its own.
 #[cycle(explain)]
 fn explain_more<'a>(
     walk: &mut Walk<'a>,
     element: &'a Schema,
+    first: u64,
     count: u64,
-    place: Place<'a>,
+    depth: usize,
     bytes: &'a [u8],
 ) -> Result<&'a [u8]>
-    ensures { Walks (ExplainsMore place.entry.depth place.entry.label element.now count)
+    ensures { Walks (ExplainsMore depth (Element first) element.now count)
         walk.old.lines.items bytes.now walk.new.lines.items result }
 {
+    let label = Label::Element(first);
     let mut rest = bytes;
     for i in 0..count {
         match take_from_bytes(walk.alloc, element, rest) {
             Ok((_, after)) => rest = after,
             Err(error) => {
+                let place = Place { depth, label };
                 push(walk, place, Node::More(i), front_of(bytes, rest))?;
-                let after = explain_part(walk, element, place, rest)?;
-                return refuse(walk, Expected::Element, place, after, error);
+                let refused = Place {
+                    depth,
+                    label: Label::Element(first.saturating_add(i)),
+                };
+                let after = explain_part(walk, element, refused, rest)?;
+                return refuse(walk, Expected::Element, refused, after, error);
             }
         }
     }
+    let place = Place { depth, label };
     push(walk, place, Node::More(count), front_of(bytes, rest))?;
     Ok(rest)
 }

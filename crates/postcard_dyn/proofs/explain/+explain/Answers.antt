@@ -91,10 +91,11 @@ pub explain_more-returns-in-Err : goal.explain_more-returns-in-Err
 explain_more-returns-in-Err t c =
     let so = c.loop-i.invariant in
     let p = c.in_ok-push-in-Err.ensures.added in
-    walks_on (λ ls. ⊤) (λ ls. ⊥) (ExplainsMore c.args.place.depth c.args.place.label c.args.element.now c.args.count) (λ a b x y. absurd y) _ _ _ _ _ c.refuse.result
-    (adds_both (λ ls. ⊤) (Explains c.args.place.depth c.args.place.label c.args.element.now) (λ ls. ⊤) (λ a b x y. tt) _ _ _ _ _ _
+    let a = c.in_ok-after-in-Err.ensures in
+    walks_on (λ ls. ⊤) (λ ls. ⊥) (ExplainsMore c.args.depth (Element c.args.first) c.args.element.now c.args.count) (λ x y p q. absurd q) _ _ _ _ _ c.refuse.result
+    (adds_both (λ ls. ⊤) (λ ls. ⊤) (λ ls. ⊤) (λ x y p q. tt) _ _ _ _ _ _
     (pushed (λ ls. ⊤) p.0 _ _ _ so.0 _ tt (p.1 ∙ ap (λ l. l ++ p.0 ∷ []) so.3) (p.4 ∙ c.front_of.ensures so.0 so.2) so.2)
-    c.in_ok-after-in-Err.ensures)
+    (a.0, tt, a.2, a.3))
     c.refuse.ensures
 
 pub explain_option-returns-in_ok-push-in-0 : goal.explain_option-returns-in_ok-push-in-0
