@@ -1,11 +1,14 @@
 -- Lemmas on what a call prints: under words that say less, and followed by nothing.
-use Rattle.std.proofs.Common.{◌≡◌, inl, inr, sym, ◌∙◌, arith, ℕ, List, [], ◌∷◌, ◌++◌, Option, Result, Ok, Err, OnOk, subst}
+use Rattle.std.proofs.Common.{◌≡◌, inl, inr, sym, ◌∙◌, arith, ℕ, ◌+◌, length, List, [], ◌∷◌, ◌++◌, Option, Result, Ok, Err, OnOk, subst}
 use Rattle.std.specs.Io.KnownBytes.{Appends}
 use Rattle.std.proofs.KnownBytes.{Appends-trans}
 use Rattle.std.proofs.lemmas.List.{append-nil}
 use Rattle.std.proofs.Output.{if_some_weaken}
 use Rattle.hex.specs.Hex.{encode_lower}
 use Rattle.postcard_shape.specs.Shape.{Shape}
+use Rattle.postcard_dyn.specs.declared.explain.Line.{Line}
+use Rattle.postcard_cli.specs.Explain.{PrintsRows}
+use Rattle.postcard_cli.specs.declared.explain.Layout.{Layout}
 use Rattle.postcard_cli.specs.Failure.{exit_status, last_line}
 use Rattle.postcard_cli.specs.Program.{Does, Form, form_of, list_of, one_word, PrintsCall, PrintsDecode, PrintsDecoded, PrintsEncode, Performs}
 use Rattle.postcard_cli.specs.Message.{Prints}
@@ -19,7 +22,7 @@ use Rattle.postcard_cli.specs.declared.failure.Failure.TheVariants as failed
 use Rattle.postcard_cli.specs.declared.command.TypeWord.{TypeWord}
 use Rattle.postcard_cli.specs.declared.command.TypeWord.TheVariants.{Named, Expression}
 use Rattle.postcard_cli.specs.declared.command.Command.{Command}
-use Rattle.postcard_cli.specs.declared.command.Command.TheVariants.{Encode, Decode, DecodeAll, Frames, FramesOf, Types}
+use Rattle.postcard_cli.specs.declared.command.Command.TheVariants.{Encode, Decode, DecodeAll, Frames, FramesOf, Explain, Types}
 
 -- The values of a type, whose words are those of `says`, and which `none` says not to be one.
 abbrev spoken : {T : Type 0} → Shape T → (T → Option (List ℕ)) → (List ℕ → T → Type 0) → (List ℕ → Type 0) → Form
@@ -116,6 +119,11 @@ decode_no_more (Expression text) hex known left old mid new d none = record {
   printed = prints_no_more _ old mid new d.printed none;
 }
 
+rows_no_more : (layout : Layout) (at : ℕ) (lines : List Line) (old mid new : Option (List ℕ)) → PrintsRows layout at lines old mid → Appends mid new []
+    → PrintsRows layout at lines old new
+rows_no_more layout at [] old mid new d none = Appends-trans old mid new [] [] d none
+rows_no_more layout at (line ∷ lines) old mid new d none = (d.0, d.1, rows_no_more layout (at + length line.bytes.now) lines d.0 mid new d.2 none)
+
 performs_no_more : (syntax : List ℕ) (command : Command) (known left old mid new : Option (List ℕ)) → Performs syntax command known left old mid → Appends mid new []
     → Performs syntax command known left old new
 performs_no_more syntax (Encode kind value) known left old mid new d none = encode_no_more kind value.now old mid new d none
@@ -149,6 +157,17 @@ performs_no_more syntax (FramesOf expression longest) known left old mid new d n
     at_end = d.2.at_end;
   },
 )
+performs_no_more syntax (Explain expression hex all) known left old mid new d none = record {
+  schema = d.schema;
+  spelled = d.spelled;
+  bytes = d.bytes;
+  stands = d.stands;
+  lines = d.lines;
+  explained = d.explained;
+  layout = d.layout;
+  uncut = d.uncut;
+  printed = rows_no_more d.layout 0 d.lines old mid new d.printed none;
+}
 performs_no_more syntax Types known left old mid new d none = appends_no_more old mid new syntax d none
 
 -- A call whose output is followed by nothing printed what it prints.

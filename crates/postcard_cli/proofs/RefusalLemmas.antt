@@ -23,7 +23,7 @@ use Rattle.postcard_cli.specs.declared.failure.Failure.{Failure}
 use Rattle.postcard_cli.specs.declared.failure.Failure.TheVariants.{Usage, BadHex, Library, Output}
 use Rattle.postcard_cli.specs.declared.command.TypeWord.TheVariants.{Named, Expression}
 use Rattle.postcard_cli.specs.declared.command.Command.{Command}
-use Rattle.postcard_cli.specs.declared.command.Command.TheVariants.{Encode, Decode, DecodeAll, Frames, FramesOf, Types}
+use Rattle.postcard_cli.specs.declared.command.Command.TheVariants.{Encode, Decode, DecodeAll, Frames, FramesOf, Explain, Types}
 
 -- A number that isn't at most another is above it.
 pub above : (m n : ℕ) → (m ≤ n → ⊥) → n < m
@@ -80,6 +80,7 @@ no_usage reads steady (Decode (Expression text) hex) known left old new h = h
 no_usage reads steady (DecodeAll expression hex) known left old new h = h
 no_usage reads steady Frames known left old new h = h
 no_usage reads steady (FramesOf expression longest) known left old new h = h
+no_usage reads steady (Explain expression hex all) known left old new h = h
 no_usage reads steady Types known left old new h = cc h
 
 -- A failure of a command is one of each call of it.

@@ -1,5 +1,5 @@
 -- Which words are a call, and of which command.
-use Rattle.std.specs.Prelude.{◌≡◌, ◌⊎◌, ◌≤◌, ℕ, nat_eq, Bool as TruthValue, true, if◌then◌else◌, List, [], ◌∷◌, codes}
+use Rattle.std.specs.Prelude.{◌≡◌, ◌⊎◌, ◌≤◌, ℕ, nat_eq, Bool as TruthValue, true, false, if◌then◌else◌, List, [], ◌∷◌, codes}
 use Rattle.std.specs.List.{starts_with, ends_with, list_any}
 use Rattle.std.specs.Str.Parse.{IsNumeral, digits_value, without_leading_plus}
 use Rattle.postcard_cli.specs.declared.command.ValueType.{ValueType}
@@ -7,7 +7,7 @@ use Rattle.postcard_cli.specs.declared.command.ValueType.TheVariants.{U8, U16, U
 use Rattle.postcard_cli.specs.declared.command.TypeWord.{TypeWord}
 use Rattle.postcard_cli.specs.declared.command.TypeWord.TheVariants.{Named, Expression}
 use Rattle.postcard_cli.specs.declared.command.Command.{Command}
-use Rattle.postcard_cli.specs.declared.command.Command.TheVariants.{Encode, Decode, DecodeAll, Frames, FramesOf, Types}
+use Rattle.postcard_cli.specs.declared.command.Command.TheVariants.{Encode, Decode, DecodeAll, Frames, FramesOf, Explain, Types}
 
 -- The word that names a type.
 abbrev pub name_of : ValueType → List ℕ
@@ -56,6 +56,12 @@ IsStreamCall words expression longest =
     ((words ≡ codes "frames" ∷ expression ∷ []) × (longest ≡ 65536))
     ⊎ ((number : List ℕ) × SaysLongest number longest × (words ≡ codes "frames" ∷ codes "--longest" ∷ number ∷ expression ∷ []))
 
+-- The words are `explain`, the expression and HEX, with `--all` before the expression or without.
+abbrev pub IsExplainCall : List (List ℕ) → List ℕ → List ℕ → TruthValue → Type 0
+IsExplainCall words expression hex all =
+    ((all ≡ false) × (words ≡ codes "explain" ∷ expression ∷ hex ∷ []))
+    ⊎ ((all ≡ true) × (words ≡ codes "explain" ∷ codes "--all" ∷ expression ∷ hex ∷ []))
+
 -- The words are a call of this command.
 abbrev pub IsCallOf : List (List ℕ) → Command → Type 0
 IsCallOf words (Encode kind value) = (word : List ℕ) × IsWordOf word kind × (words ≡ codes "enc" ∷ word ∷ value.now ∷ [])
@@ -63,6 +69,7 @@ IsCallOf words (Decode kind hex) = (word : List ℕ) × IsWordOf word kind × (w
 IsCallOf words (DecodeAll expression hex) = LooksLikeExpression expression.now × (words ≡ codes "decs" ∷ expression.now ∷ hex.now ∷ [])
 IsCallOf words Frames = words ≡ codes "frames" ∷ []
 IsCallOf words (FramesOf expression longest) = LooksLikeExpression expression.now × IsStreamCall words expression.now longest
+IsCallOf words (Explain expression hex all) = IsExplainCall words expression.now hex.now all
 IsCallOf words Types = words ≡ codes "types" ∷ []
 
 -- The words are a call of no command.

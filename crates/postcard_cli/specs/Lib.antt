@@ -1,4 +1,5 @@
 pub mod Command
+pub mod Explain
 pub mod Failure
 pub mod Frames
 pub mod Hexadecimal

@@ -16,6 +16,7 @@ use Rattle.postcard_dyn_schema.specs.declared.schema.Schema.{Schema}
 use Rattle.postcard_dyn_schema.specs.Grammar.{IsExpression}
 use Rattle.postcard_dyn_text.specs.Shown.{joined}
 use Rattle.postcard_cli.specs.Command.{IsCallOf}
+use Rattle.postcard_cli.specs.Explain.{PrintsExplained}
 use Rattle.postcard_cli.specs.Frames.{PrintsAnswers}
 use Rattle.postcard_cli.specs.Message.{PrintsEncoded, PrintsFirst, PrintsAll}
 use Rattle.postcard_cli.specs.Stream.{PrintsValues}
@@ -28,7 +29,7 @@ use Rattle.postcard_cli.specs.declared.command.ValueType.TheVariants.{U8, U16, U
 use Rattle.postcard_cli.specs.declared.command.TypeWord.{TypeWord}
 use Rattle.postcard_cli.specs.declared.command.TypeWord.TheVariants.{Named, Expression}
 use Rattle.postcard_cli.specs.declared.command.Command.{Command}
-use Rattle.postcard_cli.specs.declared.command.Command.TheVariants.{Encode, Decode, DecodeAll, Frames, FramesOf, Types}
+use Rattle.postcard_cli.specs.declared.command.Command.TheVariants.{Encode, Decode, DecodeAll, Frames, FramesOf, Explain, Types}
 
 -- The values of a type: what they are on the wire, in a word, and as text.
 pub record Form : Type 1 where
@@ -156,6 +157,7 @@ Performs syntax (DecodeAll expression hex) known left old new = PrintsAll expres
 Performs syntax Frames known left old new = PrintsAnswers known left old new
 Performs syntax (FramesOf expression longest) known left old new =
     (schema : Schema) × IsExpression schema expression.now × PrintsValues schema longest known left old new
+Performs syntax (Explain expression hex all) known left old new = PrintsExplained expression.now hex.now all known left old new
 Performs syntax Types known left old new = Appends old new syntax
 
 -- The words are a call of a command, and what it prints is printed.

@@ -1,12 +1,12 @@
 -- Which failure comes when, and what a command has printed before the line of its failure.
-use Rattle.std.specs.Prelude.{◌≡◌, ◌≢◌, ℕ, ◌+◌, ◌-◌, ◌^◌, ◌<◌, ◌≤◌, ◌⊎◌, ⊤, min, false, List, [], ◌++◌, length, codes, Option, Some, Result, Ok, IsErr, MatchResult}
+use Rattle.std.specs.Prelude.{◌≡◌, ◌≢◌, ℕ, ◌+◌, ◌-◌, ◌^◌, ◌<◌, ◌≤◌, ◌⊎◌, ⊤, min, Bool, false, List, [], ◌++◌, length, codes, Option, Some, Result, Ok, IsErr, MatchResult}
 use Rattle.std.specs.Fmt.{decimal, ◌++?◌}
 use Rattle.std.specs.Str.{IsUtf8}
 use Rattle.std.specs.Io.KnownBytes.{Consumes, IsAtEnd, Appends}
 use Rattle.hex.specs.Hex.{decode_of}
 use Rattle.postcard_wire.specs.Spelling.{canonical}
 use Rattle.postcard_wire.specs.declared.error.Error.{Error}
-use Rattle.postcard_wire.specs.declared.error.Error.TheVariants.{OutOfMemory, SerializeBufferFull}
+use Rattle.postcard_wire.specs.declared.error.Error.TheVariants.{OutOfMemory, SerializeBufferFull, WontImplement}
 use Rattle.postcard_shape.specs.Shape.{Shape}
 use Rattle.postcard_frame.specs.Front.{ReadsFront}
 use Rattle.postcard_de.specs.Reads.{IsReadError}
@@ -23,6 +23,7 @@ use Rattle.postcard_dyn_text.specs.Place.{IsPlaceIn}
 use Rattle.postcard_dyn_text.specs.Spelled.{SpellsValue}
 use Rattle.postcard_dyn_text.specs.declared.read.TextError.TheVariants.{NotAValue}
 use Rattle.postcard_cli.specs.Command.{IsCallOf, IsNoCall}
+use Rattle.postcard_cli.specs.Explain.{IsExplainRefused}
 use Rattle.postcard_cli.specs.Failure.{exit_status, last_line}
 use Rattle.postcard_cli.specs.Frames.{PrintsAnswersSoFar}
 use Rattle.postcard_cli.specs.Hexadecimal.{words_of, HasBadWord}
@@ -34,7 +35,7 @@ use Rattle.postcard_cli.specs.declared.program.Task.TheVariants as tasks
 use Rattle.postcard_cli.specs.declared.command.TypeWord.{TypeWord}
 use Rattle.postcard_cli.specs.declared.command.TypeWord.TheVariants.{Named, Expression}
 use Rattle.postcard_cli.specs.declared.command.Command.{Command}
-use Rattle.postcard_cli.specs.declared.command.Command.TheVariants.{Encode, Decode, DecodeAll, Frames, FramesOf, Types}
+use Rattle.postcard_cli.specs.declared.command.Command.TheVariants.{Encode, Decode, DecodeAll, Frames, FramesOf, Explain, Types}
 use Rattle.postcard_cli.specs.declared.failure.Failure.{Failure}
 use Rattle.postcard_cli.specs.declared.failure.Failure.TheVariants.{Usage, BadType, BadValue, BadHex, Library, Output, Limit, ReadFailed}
 use Rattle.postcard_cli.specs.declared.failure.Failure.TheVariants as failed
@@ -171,6 +172,16 @@ DecodeAllFails reads steady expression hex known left old new (Library e) = (e �
 DecodeAllFails reads steady expression hex known left old new Output = ⊤
 DecodeAllFails reads steady expression hex known left old new failure = ⊥
 
+-- The failures of `explain`.
+abbrev pub ExplainFails : ℕ → Type 0 → List ℕ → List ℕ → Bool → Option (List ℕ) → Option (List ℕ) → Option (List ℕ) → Option (List ℕ) → Failure → Type 0
+ExplainFails reads steady expression hex all known left old new BadType = IsTypeRefused expression old new
+ExplainFails reads steady expression hex all known left old new BadHex = IsType expression × HexFails reads steady hex known left BadHex
+ExplainFails reads steady expression hex all known left old new ReadFailed = IsType expression × HexFails reads steady hex known left ReadFailed
+ExplainFails reads steady expression hex all known left old new Limit = IsType expression × HexFails reads steady hex known left Limit
+ExplainFails reads steady expression hex all known left old new (Library e) = (e ≡ OutOfMemory) ⊎ (e ≡ WontImplement) ⊎ IsExplainRefused expression hex all known left old new e
+ExplainFails reads steady expression hex all known left old new Output = ⊤
+ExplainFails reads steady expression hex all known left old new failure = ⊥
+
 -- ---- types that have a name
 
 -- The value's encoding has more than 4,096 bytes, and the library's error `e` says so. No value of a
@@ -267,6 +278,7 @@ CommandFails reads steady (Decode kind hex) known left old new failure = DecodeW
 CommandFails reads steady (DecodeAll expression hex) known left old new failure = DecodeAllFails reads steady expression.now hex.now known left old new failure
 CommandFails reads steady Frames known left old new failure = FramesFail steady known left old new failure
 CommandFails reads steady (FramesOf expression longest) known left old new failure = StreamFails steady expression.now longest known left old new failure
+CommandFails reads steady (Explain expression hex all) known left old new failure = ExplainFails reads steady expression.now hex.now all known left old new failure
 CommandFails reads steady Types known left old new failure = failure ≡ Output
 
 -- The failures of a call of these words: `Usage` if and only if they are no call, and else one of

@@ -1,6 +1,6 @@
 //! The commands, and how they are read from the words of a call.
 
-ghost use Rattle.std.specs.Prelude.{◌≡◌, ◌≢◌, ℕ, [], ◌∷◌, IfSome, IfNone, map, string_bytes};
+ghost use Rattle.std.specs.Prelude.{◌≡◌, ◌≢◌, ℕ, [], ◌∷◌, codes, IfSome, IfNone, map, string_bytes};
 ghost use Rattle.postcard_cli.specs.Command.{IsCallOf, IsNoCall, IsWordOf, SaysLongest};
 ghost use Rattle.postcard_cli.specs.Command.{looks_like_expression, name_of};
 ghost use Rattle.postcard_cli.specs.declared.command.TypeWord.{TypeWord};
@@ -98,16 +98,35 @@ impl<'a> TypeWord<'a> {
 #[derive(Clone, Copy, Debug, PartialEq, Eq)]
 pub enum Command<'a> {
     /// `enc TYPE VALUE`.
-    Encode { kind: TypeWord<'a>, value: &'a str },
+    Encode {
+        kind: TypeWord<'a>,
+        value: &'a str,
+    },
     /// `dec TYPE HEX`.
-    Decode { kind: TypeWord<'a>, hex: &'a str },
+    Decode {
+        kind: TypeWord<'a>,
+        hex: &'a str,
+    },
     /// `decs TYPE HEX`, where TYPE is an expression.
-    DecodeAll { expression: &'a str, hex: &'a str },
+    DecodeAll {
+        expression: &'a str,
+        hex: &'a str,
+    },
     /// `frames`.
     Frames,
     /// `frames TYPE` or `frames --longest N TYPE`, where TYPE is an expression, and a frame has at
     /// most `longest` bytes, its zero included: N, which is 1 to 65,536, or 65,536.
-    FramesOf { expression: &'a str, longest: usize },
+    FramesOf {
+        expression: &'a str,
+        longest: usize,
+    },
+    /// `explain TYPE HEX` or `explain --all TYPE HEX`, where TYPE is taken as an expression, and `all`
+    /// is whether nothing is cut.
+    Explain {
+        expression: &'a str,
+        hex: &'a str,
+        all: bool,
+    },
     /// `types`.
     Types,
 }
@@ -167,6 +186,24 @@ impl<'a> Command<'a> {
             (λ found. IsCallOf (command.now ∷ kind.now ∷ text.now ∷ []) found) }
         ensures none { IfNone result (IsNoCall (command.now ∷ kind.now ∷ text.now ∷ [])) }
     {
+        match command {
+            "explain" => Some(Command::Explain {
+                expression: kind,
+                hex: text,
+                all: false,
+            }),
+            _ => Command::of_known_type(command, kind, text),
+        }
+    }
+
+    /// Returns the command of a call of three words, the second of which has to be a name or count
+    /// as an expression.
+    fn of_known_type(command: &'a str, kind: &'a str, text: &'a str) -> Option<Command<'a>>
+        ensures found { IfSome result
+            (λ found. IsCallOf (command.now ∷ kind.now ∷ text.now ∷ []) found) }
+        ensures none { IfNone result (command.now ≢ codes "explain"
+            → IsNoCall (command.now ∷ kind.now ∷ text.now ∷ [])) }
+    {
         let Some(word) = TypeWord::from_word(kind) else {
             return None;
         };
@@ -187,19 +224,50 @@ impl<'a> Command<'a> {
         }
     }
 
-    /// Returns the command of a call of four words: a command, an option and its value, and a type.
+    /// Returns the command of a call of four words: a command, an option, and two words more.
     fn with_option(
         command: &'a str,
         option: &'a str,
-        number: &'a str,
-        kind: &'a str,
+        third: &'a str,
+        fourth: &'a str,
     ) -> Option<Command<'a>>
         ensures found { IfSome result (λ found.
-            IsCallOf (command.now ∷ option.now ∷ number.now ∷ kind.now ∷ []) found) }
+            IsCallOf (command.now ∷ option.now ∷ third.now ∷ fourth.now ∷ []) found) }
         ensures none { IfNone result
-            (IsNoCall (command.now ∷ option.now ∷ number.now ∷ kind.now ∷ [])) }
+            (IsNoCall (command.now ∷ option.now ∷ third.now ∷ fourth.now ∷ [])) }
     {
-        if command != "frames" || option != "--longest" || !is_expression(kind) {
+        match command {
+            "explain" => Command::uncut(option, third, fourth),
+            "frames" => Command::limited(option, third, fourth),
+            _ => None,
+        }
+    }
+
+    /// Returns the command of `explain` with three words after it: an option, a type and a text.
+    fn uncut(option: &'a str, kind: &'a str, text: &'a str) -> Option<Command<'a>>
+        ensures found { IfSome result (λ found.
+            IsCallOf (codes "explain" ∷ option.now ∷ kind.now ∷ text.now ∷ []) found) }
+        ensures none { IfNone result
+            (IsNoCall (codes "explain" ∷ option.now ∷ kind.now ∷ text.now ∷ [])) }
+    {
+        if option != "--all" {
+            return None;
+        }
+        Some(Command::Explain {
+            expression: kind,
+            hex: text,
+            all: true,
+        })
+    }
+
+    /// Returns the command of `frames` with three words after it: an option, its value and a type.
+    fn limited(option: &'a str, number: &'a str, kind: &'a str) -> Option<Command<'a>>
+        ensures found { IfSome result (λ found.
+            IsCallOf (codes "frames" ∷ option.now ∷ number.now ∷ kind.now ∷ []) found) }
+        ensures none { IfNone result
+            (IsNoCall (codes "frames" ∷ option.now ∷ number.now ∷ kind.now ∷ [])) }
+    {
+        if option != "--longest" || !is_expression(kind) {
             return None;
         }
         match longest(number) {

@@ -6,6 +6,7 @@
 #![tactic(auto)]
 
 pub mod command;
+pub mod explain;
 pub mod failure;
 pub mod frames;
 pub mod hexadecimal;

@@ -33,7 +33,7 @@ use crate::failure::Failure;
 use crate::joined::Joined;
 use crate::stream::READS;
 use crate::syntax::SYNTAX;
-use crate::{frames, hexadecimal, message, stream, syntax, value};
+use crate::{explain, frames, hexadecimal, message, stream, syntax, value};
 use postcard_de::Deserialize;
 use postcard_de_flavors::Source;
 use postcard_frame::take_from_bytes;
@@ -149,6 +149,11 @@ fn carry_out<R: Source, W: Write>(
             expression,
             longest,
         } => { stream::print(alloc, expression, longest, input, output) }
+        Command::Explain {
+            expression,
+            hex,
+            all,
+        } => explain::print(alloc, expression, hex, all, input, output),
         Command::Types => syntax::print(output),
     }
 }

@@ -1,3 +1,4 @@
 pub mod Tree
 pub mod TypeLaws
 pub mod Shape
+pub mod Explained

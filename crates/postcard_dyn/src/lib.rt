@@ -6,6 +6,7 @@
 #![tactic(auto)]
 
 pub mod calls;
+pub mod explain;
 pub mod laws;
 pub mod locate;
 pub mod read;
@@ -13,6 +14,7 @@ pub mod value;
 pub mod write;
 
 pub use calls::{take_from_bytes, to_flavor};
+pub use explain::{Expected, Explanation, Label, Line, Node};
 pub use locate::refused_at;
 pub use postcard_dyn_schema::{ExpressionError, Leaf, Problem, Schema, parse, scan};
 pub use read::read_value;

@@ -3,6 +3,7 @@
 
 use crate::helpers::{check_read, check_written, encoded, text_of, type_of};
 use crate::same::same;
+use postcard_dyn::explain::explain;
 use postcard_dyn::{Schema, Value, refused_at, take_from_bytes};
 use postcard_wire::Error;
 use std::process::Abort;
@@ -64,12 +65,30 @@ fn is_of_reading(error: &Error) -> bool {
     )
 }
 
+/// Asserts that the lines that explain the message end with the error that reading it returns, if
+/// any. Returns the number of bytes on the last line.
+fn check_lines(
+    rt: &(impl Abort + AllocGlobal),
+    schema: &Schema,
+    message: &[u8],
+    error: Option<&Error>,
+) -> usize {
+    let told = explain(rt.alloc(), schema, 3, message).expect(rt, "it disagrees with reading");
+    same(rt, told.refused.as_ref(), error, message);
+    match told.lines.as_slice() {
+        [.., last] => last.bytes.len(),
+        [] => 0,
+    }
+}
+
 /// Asserts that the error with which a message is refused is one of reading, and that its place is
-/// within the message.
+/// within the message, and that of the last line that explains the message.
 fn check_error(rt: &(impl Abort + AllocGlobal), schema: &Schema, message: &[u8], error: &Error) {
     same(rt, is_of_reading(error), true, error);
     let place = refused_at(rt.alloc(), schema, message).expect(rt, "memory");
     same(rt, place <= message.len(), true, message);
+    let last = check_lines(rt, schema, message, Some(error));
+    same(rt, place.saturating_add(last), message.len(), message);
 }
 
 /// Reads a message of the type, and checks the value or the error. Returns 1 if it was a value, and
@@ -77,6 +96,7 @@ fn check_error(rt: &(impl Abort + AllocGlobal), schema: &Schema, message: &[u8],
 fn check(rt: &(impl Abort + AllocGlobal), schema: &Schema, message: &[u8]) -> u32 {
     match take_from_bytes(rt.alloc(), schema, message) {
         Ok((value, rest)) => {
+            let _ = check_lines(rt, schema, message, None);
             check_value(rt, schema, &value, message.len() - rest.len());
             1
         }

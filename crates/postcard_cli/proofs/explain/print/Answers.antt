@@ -1,0 +1,25 @@
+use Rattle.std.proofs.Common.{inr}
+use Rattle.postcard_cli.proofs.explain.print.Goals as goal
+
+pub returns-clause-refused : goal.returns-clause-refused
+returns-clause-refused g c =
+    let told = c.in_ok-explanation.ensures in
+    let none = rw c.in-Some.is at told.refused in
+    let rows = c.in_ok-print_lines.ensures.printed in
+    rw c.from.ensures
+    (inr (inr (record {
+      schema = c.in_ok-schema.schema;
+      spelled = c.in_ok-schema.ensures.spelled;
+      bytes = c.in_ok-bytes.bytes.items;
+      stands = c.in_ok-bytes.ensures.value;
+      no_value = rw c.deref.ensures.value at none.0;
+      lines = c.in_ok-explanation.explanation.lines.items;
+      every_byte = rw c.deref.ensures.value at told.every_byte;
+      layout = rows.0;
+      uncut = rows.1;
+      mid = g.W.Write.contents c.print_lines.new.output;
+      rows = rw c.in_ok-schema.ensures.untouched at rows.2;
+      offset = c.in_ok-offset-in-Some.offset;
+      within = rw c.deref-in-Some.ensures.value at c.in_ok-offset-in-Some.ensures.within;
+      printed = c.in_ok-write-in-Some.ensures.bytes;
+    })))

@@ -1,0 +1,369 @@
+//! The command `explain`, which prints which bytes of a message are which part of its value.
+
+ghost use Rattle.std.specs.Prelude.{◌≡◌, ◌⊎◌, ◌++◌, ◌∷◌, [], ℕ, List, IfErr, OnOk, codes, min};
+ghost use Rattle.std.specs.Prelude.{replicate};
+ghost use Rattle.std.specs.Fmt.{DisplaysOnOk, WritesOnOk};
+ghost use Rattle.std.specs.Io.KnownBytes.{Appends};
+ghost use Rattle.postcard_wire.specs.declared.error.Error.TheVariants.{OutOfMemory};
+ghost use Rattle.postcard_dyn.specs.Tree.{tree};
+ghost use Rattle.postcard_dyn_text.specs.Shown.{layout_of, text};
+ghost use Rattle.postcard_cli.specs.Explain.{IsCut, PrintsExplained, PrintsRow, PrintsRows};
+ghost use Rattle.postcard_cli.specs.Explain.{bytes_text, elements_text, expected_text, leaf_text, node_text, offset_text};
+ghost use Rattle.postcard_cli.specs.Explain.{separator_text, spaced, title_text, told_text};
+ghost use Rattle.postcard_cli.specs.Refusal.{ExplainFails};
+ghost use Rattle.postcard_cli.specs.declared.explain.Layout.{Layout};
+
+use crate::failure::Failure;
+use crate::hexadecimal;
+use crate::message::schema_of;
+use crate::stream::READS;
+use postcard_de_flavors::Source;
+use postcard_dyn::explain::{Expected, Label, Line, Node, explain};
+use postcard_dyn::{Leaf, Schema, Value, refused_at};
+use postcard_dyn_text::Shown;
+use std::alloc::Global;
+use std::fmt;
+use std::io::Write;
+
+/// The greatest number of columns of a line that is cut.
+pub const COLUMNS: usize = 80;
+
+/// The greatest number of bytes on a line that is cut, and of elements of a list that have lines of
+/// their own then.
+pub const SHOWN: usize = 8;
+
+/// The greatest number of elements of one list that have lines of their own, unless all have.
+pub const ELEMENTS: u64 = 16;
+
+/// The greatest depth to which a line is indented.
+pub const DEEPEST: usize = 12;
+
+/// How the lines of an explanation are laid out.
+#[derive(Clone, Copy)]
+struct Layout {
+    /// The number of bytes of an offset.
+    offset: usize,
+    /// The number of columns of the bytes.
+    column: usize,
+    /// Whether nothing is cut.
+    all: bool,
+}
+
+/// Prints the bytes of HEX line by line: the offset, the bytes, and which part of a value of the
+/// type they are. Lines have at most 80 columns, and lists at most 16 lines of elements, unless
+/// `all` is asked for; what is cut ends with `..`.
+///
+/// # Errors
+///
+/// Fails as `dec` does: if the bytes begin with no message of the type, with `Library`, after the
+/// lines of the parts before the one that can't be read, the line of what was expected there, and
+/// the place.
+pub fn print<R: Source, W: Write>(
+    alloc: Global,
+    expression: &str,
+    hex: &str,
+    all: bool,
+    input: &mut R,
+    output: &mut W,
+) -> Result<(), Failure>
+    ensures printed { OnOk result (PrintsExplained expression.now hex.now all
+        (R.remaining input.old) (R.remaining input.new)
+        (W.contents output.old) (W.contents output.new)) }
+    ensures refused { IfErr result (ExplainFails READS (R.steady input.old) expression.now hex.now
+        all (R.remaining input.old) (R.remaining input.new)
+        (W.contents output.old) (W.contents output.new)) }
+{
+    let schema = schema_of(alloc, expression, output)?;
+    let bytes = hexadecimal::read_loose(alloc, hex, input)?;
+    let most = if all { u64::MAX } else { ELEMENTS };
+    let explanation = explain(alloc, &schema, most, &bytes)?;
+    print_lines(alloc, &explanation.lines, all, output)?;
+    match explanation.refused {
+        None => Ok(()),
+        Some(error) => {
+            let offset = refused_at(alloc, &schema, &bytes)?;
+            write!(output, "at byte {offset}: ")?;
+            Err(Failure::from(error))
+        }
+    }
+}
+
+/// Prints the rows of lines.
+fn print_lines<W: Write>(
+    alloc: Global,
+    lines: &Vec<Line<'_>>,
+    all: bool,
+    output: &mut W,
+) -> Result<(), Failure>
+    ensures printed { OnOk result ((layout : Layout) × (layout.all ≡ all)
+        × PrintsRows layout 0 lines.now.items (W.contents output.old) (W.contents output.new)) }
+    ensures refused { IfErr result (λ e. (e ≡ Failure.Output)
+        ⊎ (e ≡ Failure.Library OutOfMemory)) }
+{
+    let layout = layout_of(lines, all);
+    let mut at = 0u64;
+    for line in lines {
+        print_row(alloc, layout, at, line, output)?;
+        at = at.saturating_add(line.bytes.len() as u64);
+    }
+    Ok(())
+}
+
+/// Returns the layout of lines: offsets of as few bytes as the number of all bytes takes, and a
+/// column of bytes that is as wide as the widest, cut.
+fn layout_of(lines: &Vec<Line<'_>>, all: bool) -> Layout
+    ensures { result.all ≡ all }
+{
+    let mut count = 0usize;
+    let mut longest = 0usize;
+    for line in lines {
+        count = count.saturating_add(line.bytes.len());
+        longest = longest.max(line.bytes.len());
+    }
+    let offset = match count {
+        0..=0x100 => 1,
+        0x101..=0x1_0000 => 2,
+        0x1_0001..=0x1_0000_0000 => 4,
+        _ => 8,
+    };
+    Layout {
+        offset,
+        column: 3 * longest.min(SHOWN + 1),
+        all,
+    }
+}
+
+/// Prints the row of a line whose bytes begin at this offset.
+fn print_row<W: Write>(
+    alloc: Global,
+    layout: Layout,
+    at: u64,
+    line: &Line<'_>,
+    output: &mut W,
+) -> Result<(), Failure>
+    ensures printed { OnOk result (PrintsRow layout at line.now
+        (W.contents output.old) (W.contents output.new)) }
+    ensures refused { IfErr result (λ e. (e ≡ Failure.Output)
+        ⊎ (e ≡ Failure.Library OutOfMemory)) }
+{
+    let told = Told(line);
+    let text = format!(in alloc; "{told}")?;
+    let indent = 2 * line.depth.min(DEEPEST);
+    print_head(layout, at, line.bytes, indent, output)?;
+    print_cut(layout, &text, room_of(layout, indent), output)?;
+    Ok(())
+}
+
+/// Returns the number of bytes of text that a row has room for.
+fn room_of(layout: Layout, indent: usize) -> usize {
+    let head = layout
+        .offset
+        .saturating_mul(2)
+        .saturating_add(layout.column);
+    COLUMNS.saturating_sub(head.saturating_add(3).saturating_add(indent))
+}
+
+/// Prints the offset and the bytes of a row, and blanks up to its text.
+fn print_head<W: Write>(
+    layout: Layout,
+    at: u64,
+    bytes: &[u8],
+    indent: usize,
+    output: &mut W,
+) -> Result<(), Failure>
+    ensures printed { OnOk result ((pad : ℕ) × Appends (W.contents output.old)
+        (W.contents output.new) (offset_text layout at ++ (codes "  "
+        ++ (bytes_text layout bytes.now ++ replicate pad 32)))) }
+    ensures refused { IfErr result (λ e. e ≡ Failure.Output) }
+{
+    let digits = at.to_be_bytes();
+    let (_, shown) = digits.split_at(8usize.saturating_sub(layout.offset));
+    hexadecimal::write(shown, output)?;
+    output.write_all(b"  ")?;
+    print_bytes(layout, bytes, output)?;
+    let width = bytes.len().min(SHOWN + 1).saturating_mul(3);
+    let pad = layout.column.saturating_sub(width).saturating_add(1);
+    print_blanks(pad.saturating_add(indent), output)?;
+    Ok(())
+}
+
+/// Prints the bytes of a row, each with a blank after it.
+fn print_bytes<W: Write>(layout: Layout, bytes: &[u8], output: &mut W) -> Result<(), Failure>
+    ensures printed { OnOk result (Appends (W.contents output.old) (W.contents output.new)
+        (bytes_text layout bytes.now)) }
+    ensures refused { IfErr result (λ e. e ≡ Failure.Output) }
+{
+    if layout.all || bytes.len() <= SHOWN {
+        return print_spaced(bytes, output);
+    }
+    let (front, _) = bytes.split_at(SHOWN);
+    print_spaced(front, output)?;
+    output.write_all(b".. ")?;
+    Ok(())
+}
+
+/// Prints bytes as hexadecimal, each with a blank after it.
+fn print_spaced<W: Write>(bytes: &[u8], output: &mut W) -> Result<(), Failure>
+    ensures printed { OnOk result (Appends (W.contents output.old) (W.contents output.new)
+        (spaced bytes.now)) }
+    ensures refused { IfErr result (λ e. e ≡ Failure.Output) }
+{
+    for byte in bytes {
+        hexadecimal::write(&[*byte], output)?;
+        output.write_all(b" ")?;
+    }
+    Ok(())
+}
+
+/// Prints blanks, at most 64.
+fn print_blanks<W: Write>(count: usize, output: &mut W) -> Result<(), Failure>
+    ensures printed { OnOk result (Appends (W.contents output.old) (W.contents output.new)
+        (replicate (min count 64) 32)) }
+    ensures refused { IfErr result (λ e. e ≡ Failure.Output) }
+{
+    let blanks = [b' '; 64];
+    let (shown, _) = blanks.split_at(count.min(64));
+    output.write_all(shown)?;
+    Ok(())
+}
+
+/// Prints the text of a row and ends it. Of a text that there is no room for, prints a front and
+/// `..`, unless nothing is cut.
+fn print_cut<W: Write>(
+    layout: Layout,
+    text: &str,
+    room: usize,
+    output: &mut W,
+) -> Result<(), Failure>
+    ensures printed { OnOk result ((shown : List ℕ) × IsCut layout text.now shown
+        × Appends (W.contents output.old) (W.contents output.new) (shown ++ 10 ∷ [])) }
+    ensures refused { IfErr result (λ e. e ≡ Failure.Output) }
+{
+    if layout.all || text.len() <= room {
+        output.write_all(text.as_bytes())?;
+        output.write_all(b"\n")?;
+        return Ok(());
+    }
+    let (front, _) = text.split_at(text.floor_char_boundary(room.saturating_sub(2)));
+    output.write_all(front.as_bytes())?;
+    output.write_all(b"..\n")?;
+    Ok(())
+}
+
+/// What a line says of its bytes: what the part is called, and its value.
+#[derive(Clone, Copy)]
+struct Told<'a>(&'a Line<'a>);
+
+impl fmt::Display for Told<'_> {
+    ghost output = { λ told. told_text told.0.now };
+
+    fn fmt<W: fmt::Write>(&self, f: &mut fmt::Formatter<W>) -> fmt::Result {
+        let line = self.0;
+        show_title(line.label, f)?;
+        f.write_str(separator(line.label, &line.node))?;
+        show_node(&line.node, f)
+    }
+}
+
+/// Prints what a part is called.
+fn show_title<W: fmt::Write>(label: Label<'_>, f: &mut fmt::Formatter<W>) -> fmt::Result
+    ensures { WritesOnOk W.write_str_gives f.old result (title_text label.entry) f.new }
+{
+    match label {
+        Label::Whole => Ok(()),
+        Label::Field(name) => f.write_str(name),
+        Label::Part(i) => write!(f, ".{i}"),
+        Label::Element(i) => write!(f, "[{i}]"),
+    }
+}
+
+/// Returns what stands between what a part is called and its value.
+fn separator(label: Label<'_>, node: &Node<'_>) -> &'static str
+    ensures { result.now ≡ separator_text label.entry node.now }
+{
+    match label {
+        Label::Whole => "",
+        _ => match node {
+            Node::Parts => ":",
+            _ => ": ",
+        },
+    }
+}
+
+/// Prints what the bytes of a line are.
+fn show_node<W: fmt::Write>(node: &Node<'_>, f: &mut fmt::Formatter<W>) -> fmt::Result
+    ensures { DisplaysOnOk W.write_str_gives f.old result (node_text node.now) f.new }
+{
+    match node {
+        Node::Value(schema, value) => show_value(schema, value, f),
+        Node::Absent => f.write_str("None"),
+        Node::Present => f.write_str("Some"),
+        Node::Count(count) => {
+            let noun = noun(*count);
+            write!(f, "{count} {noun}")
+        }
+        Node::Variant(index, name) => write!(f, "{name} (variant {index})"),
+        Node::Parts => Ok(()),
+        Node::More(count) => write!(f, "and {count} more"),
+        Node::Refused(expected) => {
+            f.write_str("expected ")?;
+            f.write_str(words_of(*expected))
+        }
+        Node::Rest => f.write_str("after the value"),
+    }
+}
+
+/// Prints a value without parts.
+fn show_value<W: fmt::Write>(
+    schema: &Schema,
+    value: &Value,
+    f: &mut fmt::Formatter<W>,
+) -> fmt::Result
+    ensures { DisplaysOnOk W.write_str_gives f.old result
+        (text (layout_of schema.now) (tree value.now)) f.new }
+{
+    let shown = Shown { schema, value };
+    write!(f, "{shown}")
+}
+
+/// Returns the word for this number of elements.
+fn noun(count: u64) -> &'static str
+    ensures { result.now ≡ elements_text count }
+{
+    if count == 1 { "element" } else { "elements" }
+}
+
+/// Returns what is expected where a part can't be read, in a few words.
+fn words_of(expected: Expected) -> &'static str
+    ensures { result.now ≡ expected_text expected }
+{
+    match expected {
+        Expected::Leaf(leaf) => name_of(leaf),
+        Expected::Option => "an option: 00 or 01",
+        Expected::Count => "the number of elements",
+        Expected::Variant => "the index of a variant",
+        Expected::Element => "an element",
+    }
+}
+
+/// Returns the name of a type without parts.
+fn name_of(leaf: Leaf) -> &'static str
+    ensures { result.now ≡ leaf_text leaf }
+{
+    match leaf {
+        Leaf::Bool => "bool: 00 or 01",
+        Leaf::U8 => "u8",
+        Leaf::U16 => "u16",
+        Leaf::U32 => "u32",
+        Leaf::U64 => "u64",
+        Leaf::U128 => "u128",
+        Leaf::I8 => "i8",
+        Leaf::I16 => "i16",
+        Leaf::I32 => "i32",
+        Leaf::I64 => "i64",
+        Leaf::I128 => "i128",
+        Leaf::Char => "char",
+        Leaf::Str => "str",
+        Leaf::Bytes => "bytes",
+    }
+}

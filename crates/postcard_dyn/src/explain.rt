@@ -1,0 +1,531 @@
+//! Which bytes are which part of a value: [`explain`].
+
+ghost use Rattle.std.specs.Prelude.{◌≡◌, ◌≢◌, ◌⊎◌, ℕ, List, [], ◌∷◌, ◌++◌, Box, None};
+ghost use Rattle.std.specs.Prelude.{IfOk, IfErr, IfSome, OnOk, ⊤};
+ghost use Rattle.std.specs.declared.alloc.Global.{Global};
+ghost use Rattle.postcard_de.specs.Reads.{IsReadError};
+ghost use Rattle.postcard_dyn_schema.specs.declared.schema.Schema.{Schema};
+ghost use Rattle.postcard_dyn_schema.specs.declared.schema.Schema.TheVariants.{Leaf as AsLeaf};
+ghost use Rattle.postcard_dyn_schema.specs.declared.schema.Schema.TheVariants.{Option, Seq, Map};
+ghost use Rattle.postcard_dyn_schema.specs.declared.schema.Schema.TheVariants.{Array, Group, Enum};
+ghost use Rattle.postcard_dyn.specs.Explained.{Explains, ExplainsElements, ExplainsMore};
+ghost use Rattle.postcard_dyn.specs.Explained.{ExplainsParts, HasNoFront, IsAt, IsExplained};
+ghost use Rattle.postcard_dyn.specs.Explained.{IsLast, IsNameOf, IsOwn, Opens, Walks, bytes_of};
+ghost use Rattle.postcard_dyn.specs.Explained.{deeper};
+ghost use Rattle.postcard_dyn.specs.declared.explain.Label.TheVariants.{Element, Whole};
+ghost use Rattle.postcard_dyn.specs.declared.explain.Line.{Line};
+
+use crate::calls::take_from_bytes;
+use crate::value::Value;
+use postcard_dyn_schema::{Leaf, Schema};
+use postcard_wire::{Error, Result};
+use std::alloc::Global;
+
+/// What a part is called in the value around it.
+#[derive(Clone, Copy, Debug)]
+pub enum Label<'a> {
+    /// The value as a whole, or the content of an option or a variant.
+    Whole,
+    /// A field of a struct, by its name.
+    Field(&'a str),
+    /// A part of a tuple, by its number, counted from 0. The key of an entry is part 0, and its
+    /// value part 1.
+    Part(usize),
+    /// An element of a list or an array, or an entry of a map, by its number, counted from 0.
+    Element(u64),
+}
+
+/// What is expected where a part can't be read.
+#[derive(Clone, Copy, Debug)]
+pub enum Expected {
+    /// A value of a type without parts.
+    Leaf(Leaf),
+    /// The first byte of an option.
+    Option,
+    /// The number of elements of a list, or of entries of a map.
+    Count,
+    /// The index of a variant.
+    Variant,
+    /// An element of a list.
+    Element,
+}
+
+/// What the bytes of a line are.
+#[derive(Debug, Drop)]
+pub enum Node<'a> {
+    /// A value without parts, and its type.
+    Value(&'a Schema, Value),
+    /// The byte 0 of an option without a value.
+    Absent,
+    /// The byte 1 of an option, whose value is on the lines after it.
+    Present,
+    /// The number of elements of a list, or of entries of a map.
+    Count(u64),
+    /// The index of a variant, counted from 0, and the variant's name.
+    Variant(u32, &'a str),
+    /// No bytes: a tuple, a struct or an array, whose parts are on the lines after it.
+    Parts,
+    /// This many elements or entries, one after another, of which the line's label is the first.
+    More(u64),
+    /// All bytes from a part on that can't be read, and what was expected.
+    Refused(Expected),
+    /// The bytes after the value.
+    Rest,
+}
+
+/// Some bytes of a message, and what they are.
+#[derive(Debug, Drop)]
+pub struct Line<'a> {
+    /// How many values this part is in that have a line of their own.
+    pub depth: usize,
+    /// What the part is called.
+    pub label: Label<'a>,
+    /// What the bytes are.
+    pub node: Node<'a>,
+    /// The bytes.
+    pub bytes: &'a [u8],
+}
+
+/// Bytes line by line.
+#[derive(Debug, Drop)]
+pub struct Explanation<'a> {
+    /// The lines, in the order of their bytes.
+    pub lines: Vec<Line<'a>>,
+    /// The error of [`take_from_bytes`], or `None` if the bytes begin with a message of the type.
+    pub refused: Option<Error>,
+}
+
+/// The depth and the label of a part.
+#[derive(Clone, Copy)]
+struct Place<'a> {
+    depth: usize,
+    label: Label<'a>,
+}
+
+/// What a walk over bytes needs and makes.
+#[derive(Drop)]
+struct Walk<'a> {
+    alloc: Global,
+    /// The greatest number of elements of one list that have lines of their own.
+    most: u64,
+    lines: Vec<Line<'a>>,
+}
+
+/// Says of bytes line by line which part of a value of the schema they are. Each byte is on one
+/// line, in order, whether a value is read or not.
+///
+/// The lines are those of the value at the front of the bytes, as [`take_from_bytes`] reads it: one
+/// for each value without parts, count, index and byte of an option, and one without bytes for each
+/// tuple, struct or array in another value. The bytes after the value are the last line, if there
+/// are some. If a part can't be read, the lines are those before it, and its line has all bytes from
+/// there on. Of a list, the elements after the first `most` are on one line.
+///
+/// # Errors
+///
+/// Fails with `OutOfMemory` if an allocation fails, and with `WontImplement` if a line says that a
+/// part can't be read while [`take_from_bytes`] reads a value, which is checked and never seen.
+pub fn explain<'a>(
+    alloc: Global,
+    schema: &'a Schema,
+    most: u64,
+    bytes: &'a [u8],
+) -> Result<Explanation<'a>>
+    ensures every_byte { IfOk result (λ told. bytes_of told.lines.items ≡ bytes.now) }
+    ensures read { IfOk result (λ told. told.refused ≡ None
+        → IsExplained schema.now bytes.now told.lines.items) }
+    ensures refused { IfOk result (λ told. IfSome told.refused (λ error.
+        HasNoFront schema.now bytes.now × IsReadError ⊤ error × (error ≢ Error.OutOfMemory))) }
+    ensures named_error { IfErr result
+        (λ e. (e ≡ Error.OutOfMemory) ⊎ (e ≡ Error.WontImplement)) }
+{
+    let mut walk = Walk {
+        alloc,
+        most,
+        lines: Vec::new(alloc),
+    };
+    let place = Place {
+        depth: 0,
+        label: Label::Whole,
+    };
+    match explain_part(&mut walk, schema, place, bytes) {
+        Ok(rest) => {
+            push_rest(&mut walk, rest)?;
+            Ok(Explanation {
+                lines: walk.lines,
+                refused: None,
+            })
+        }
+        Err(Error::OutOfMemory) => Err(Error::OutOfMemory),
+        Err(_) => match take_from_bytes(alloc, schema, bytes) {
+            Ok(_) => Err(Error::WontImplement),
+            Err(Error::OutOfMemory) => Err(Error::OutOfMemory),
+            Err(error) => Ok(Explanation {
+                lines: walk.lines,
+                refused: Some(error),
+            }),
+        },
+    }
+}
+
+/// Adds the line of the bytes after the value, if there are some.
+fn push_rest<'a>(walk: &mut Walk<'a>, rest: &'a [u8]) -> Result<()>
+    ensures added { OnOk result ((last : List Line) × IsLast last
+        × (walk.new.lines.items ≡ walk.old.lines.items ++ last) × (bytes_of last ≡ rest.now)) }
+    ensures refused { IfErr result (λ e. e ≡ Error.OutOfMemory) }
+{
+    if rest.is_empty() {
+        return Ok(());
+    }
+    let place = Place {
+        depth: 0,
+        label: Label::Whole,
+    };
+    push(walk, place, Node::Rest, rest)
+}
+
+/// Adds a line.
+fn push<'a>(walk: &mut Walk<'a>, place: Place<'a>, node: Node<'a>, bytes: &'a [u8]) -> Result<()>
+    ensures added { OnOk result ((line : Line)
+        × (walk.new.lines.items ≡ walk.old.lines.items ++ line ∷ [])
+        × IsAt place.entry.depth place.entry.label line × (line.node ≡ node.entry)
+        × (line.bytes.now ≡ bytes.now)) }
+    ensures refused { IfErr result (λ e. e ≡ Error.OutOfMemory) }
+{
+    let line = Line {
+        depth: place.depth,
+        label: place.label,
+        node,
+        bytes,
+    };
+    match walk.lines.push(line) {
+        Ok(()) => Ok(()),
+        Err(_) => Err(Error::OutOfMemory),
+    }
+}
+
+/// Adds the line of a part that can't be read, with all bytes from there on, and fails with the
+/// error.
+fn refuse<'a>(
+    walk: &mut Walk<'a>,
+    expected: Expected,
+    place: Place<'a>,
+    bytes: &'a [u8],
+    error: Error,
+) -> Result<&'a [u8]>
+    requires { IsReadError ⊤ error }
+    ensures { Walks (λ lines. ⊥)
+        walk.old.lines.items bytes.now walk.new.lines.items result }
+{
+    if error != Error::OutOfMemory {
+        push(walk, place, Node::Refused(expected), bytes)?;
+    }
+    Err(error)
+}
+
+/// Adds the line before the parts of a value, unless it is the whole value, and returns the depth of
+/// the parts.
+fn open_parts<'a>(walk: &mut Walk<'a>, place: Place<'a>) -> Result<usize>
+    ensures added { IfOk result (λ inner. (head : List Line)
+        × Opens place.entry.depth place.entry.label inner head
+        × (walk.new.lines.items ≡ walk.old.lines.items ++ head)) }
+    ensures refused { IfErr result (λ e. e ≡ Error.OutOfMemory) }
+{
+    match place.label {
+        Label::Whole => Ok(place.depth),
+        _ => {
+            push(walk, place, Node::Parts, &[])?;
+            Ok(place.depth.saturating_add(1))
+        }
+    }
+}
+
+/// Returns the bytes before `rest`, the last of the bytes.
+fn front_of<'a>(bytes: &'a [u8], rest: &[u8]) -> &'a [u8]
+    ensures { (front : List ℕ) → bytes.now ≡ front ++ rest.now → result.now ≡ front }
+{
+    let count = bytes.len().saturating_sub(rest.len());
+    &bytes[..count]
+}
+
+/// Returns the place of the content of an option or a variant at this place.
+fn inside<'a>(place: Place<'a>) -> Place<'a>
+    ensures depth { result.depth ≡ deeper place.entry.depth }
+    ensures label { result.label ≡ Whole }
+{
+    Place {
+        depth: place.depth.saturating_add(1),
+        label: Label::Whole,
+    }
+}
+
+/// Returns the place of a part with this name at this place: its label is the name, unless the part
+/// is the whole value, as the content of a variant is.
+fn named<'a>(place: Place<'a>, name: &'a str) -> Place<'a>
+    ensures depth { result.depth ≡ place.entry.depth }
+    ensures label { IsOwn place.entry.label name.now result.label }
+{
+    match place.label {
+        Label::Whole => place,
+        _ => Place {
+            depth: place.depth,
+            label: Label::Field(name),
+        },
+    }
+}
+
+/// Returns the name of a variant, or an empty text if it has none.
+fn name_of(variant: &Schema) -> &str
+    ensures { IsNameOf variant.now result.now }
+{
+    match variant {
+        Schema::Named(name, _) => name,
+        _ => "",
+    }
+}
+
+/// Adds the lines of a value of the schema at the front of the bytes, and returns the bytes after
+/// it. If a part can't be read, its line has all bytes from there on.
+#[cycle(explain)]
+fn explain_part<'a>(
+    walk: &mut Walk<'a>,
+    schema: &'a Schema,
+    place: Place<'a>,
+    bytes: &'a [u8],
+) -> Result<&'a [u8]>
+    ensures { Walks (Explains place.entry.depth place.entry.label schema.now)
+        walk.old.lines.items bytes.now walk.new.lines.items result }
+{
+    match schema {
+        Schema::Leaf(leaf) => explain_leaf(walk, schema, *leaf, place, bytes),
+        Schema::Option(content) => explain_option(walk, content, place, bytes),
+        Schema::Seq(element) => explain_list(walk, element, place, bytes),
+        Schema::Map(entry) => explain_list(walk, entry, place, bytes),
+        Schema::Array(element, count) => explain_array(walk, element, *count, place, bytes),
+        Schema::Group(parts) => explain_group(walk, parts, place, bytes),
+        Schema::Enum(variants) => explain_variant(walk, variants, place, bytes),
+        Schema::Named(name, content) => explain_part(walk, content, named(place, name), bytes),
+    }
+}
+
+/// Adds the line of a value without parts.
+fn explain_leaf<'a>(
+    walk: &mut Walk<'a>,
+    schema: &'a Schema,
+    leaf: Leaf,
+    place: Place<'a>,
+    bytes: &'a [u8],
+) -> Result<&'a [u8]>
+    ensures { schema.now ≡ AsLeaf leaf → Walks (Explains place.entry.depth place.entry.label schema.now)
+        walk.old.lines.items bytes.now walk.new.lines.items result }
+{
+    match take_from_bytes(walk.alloc, schema, bytes) {
+        Ok((value, rest)) => {
+            push(
+                walk,
+                place,
+                Node::Value(schema, value),
+                front_of(bytes, rest),
+            )?;
+            Ok(rest)
+        }
+        Err(error) => refuse(walk, Expected::Leaf(leaf), place, bytes, error),
+    }
+}
+
+/// Adds the lines of an option: that of its first byte, and those of its content.
+#[cycle(explain)]
+fn explain_option<'a>(
+    walk: &mut Walk<'a>,
+    content: &'a Schema,
+    place: Place<'a>,
+    bytes: &'a [u8],
+) -> Result<&'a [u8]>
+    ensures { (s : Schema) (held : Box Schema Global) → s ≡ Option held → held.value ≡ content.now
+        → Walks (Explains place.entry.depth place.entry.label s)
+        walk.old.lines.items bytes.now walk.new.lines.items result }
+{
+    let Some((first, rest)) = bytes.split_first() else {
+        let error = Error::DeserializeUnexpectedEnd;
+        return refuse(walk, Expected::Option, place, bytes, error);
+    };
+    match *first {
+        0 => {
+            push(walk, place, Node::Absent, front_of(bytes, rest))?;
+            Ok(rest)
+        }
+        1 => {
+            push(walk, place, Node::Present, front_of(bytes, rest))?;
+            explain_part(walk, content, inside(place), rest)
+        }
+        _ => {
+            let error = Error::DeserializeBadOption;
+            refuse(walk, Expected::Option, place, bytes, error)
+        }
+    }
+}
+
+/// Adds the lines of a list or a map: that of its count, and those of its elements.
+#[cycle(explain)]
+fn explain_list<'a>(
+    walk: &mut Walk<'a>,
+    element: &'a Schema,
+    place: Place<'a>,
+    bytes: &'a [u8],
+) -> Result<&'a [u8]>
+    ensures { (s : Schema) (held : Box Schema Global) → (s ≡ Seq held) ⊎ (s ≡ Map held)
+        → held.value ≡ element.now
+        → Walks (Explains place.entry.depth place.entry.label s)
+        walk.old.lines.items bytes.now walk.new.lines.items result }
+{
+    match postcard_frame::take_from_bytes::<u64>(walk.alloc, bytes) {
+        Ok((count, rest)) => {
+            push(walk, place, Node::Count(count), front_of(bytes, rest))?;
+            explain_elements(walk, element, count, inside(place).depth, rest)
+        }
+        Err(error) => refuse(walk, Expected::Count, place, bytes, error),
+    }
+}
+
+/// Adds the lines of an array.
+#[cycle(explain)]
+fn explain_array<'a>(
+    walk: &mut Walk<'a>,
+    element: &'a Schema,
+    count: usize,
+    place: Place<'a>,
+    bytes: &'a [u8],
+) -> Result<&'a [u8]>
+    ensures { (s : Schema) (held : Box Schema Global) → s ≡ Array held count
+        → held.value ≡ element.now
+        → Walks (Explains place.entry.depth place.entry.label s)
+        walk.old.lines.items bytes.now walk.new.lines.items result }
+{
+    let depth = open_parts(walk, place)?;
+    explain_elements(walk, element, count as u64, depth, bytes)
+}
+
+/// Adds the lines of `count` elements in a row.
+#[cycle(explain)]
+fn explain_elements<'a>(
+    walk: &mut Walk<'a>,
+    element: &'a Schema,
+    count: u64,
+    depth: usize,
+    bytes: &'a [u8],
+) -> Result<&'a [u8]>
+    ensures { Walks (ExplainsElements depth element.now count)
+        walk.old.lines.items bytes.now walk.new.lines.items result }
+{
+    let shown = count.min(walk.most);
+    let mut rest = bytes;
+    for i in 0..shown {
+        let place = Place {
+            depth,
+            label: Label::Element(i),
+        };
+        rest = explain_part(walk, element, place, rest)?;
+    }
+    if shown == count {
+        return Ok(rest);
+    }
+    explain_more(walk, element, shown, count - shown, depth, rest)
+}
+
+/// Adds one line for `count` elements in a row, of which the first has the number `first`. If one of
+/// them can't be read, the line is that of the elements before it, and the refused element has lines
+/// of its own.
+#[cycle(explain)]
+fn explain_more<'a>(
+    walk: &mut Walk<'a>,
+    element: &'a Schema,
+    first: u64,
+    count: u64,
+    depth: usize,
+    bytes: &'a [u8],
+) -> Result<&'a [u8]>
+    ensures { Walks (ExplainsMore depth (Element first) element.now count)
+        walk.old.lines.items bytes.now walk.new.lines.items result }
+{
+    let label = Label::Element(first);
+    let mut rest = bytes;
+    for i in 0..count {
+        match take_from_bytes(walk.alloc, element, rest) {
+            Ok((_, after)) => rest = after,
+            Err(error) => {
+                let place = Place { depth, label };
+                push(walk, place, Node::More(i), front_of(bytes, rest))?;
+                let refused = Place {
+                    depth,
+                    label: Label::Element(first.saturating_add(i)),
+                };
+                let after = explain_part(walk, element, refused, rest)?;
+                return refuse(walk, Expected::Element, refused, after, error);
+            }
+        }
+    }
+    let place = Place { depth, label };
+    push(walk, place, Node::More(count), front_of(bytes, rest))?;
+    Ok(rest)
+}
+
+/// Adds the lines of a tuple or a struct.
+#[cycle(explain)]
+fn explain_group<'a>(
+    walk: &mut Walk<'a>,
+    parts: &'a Vec<Schema>,
+    place: Place<'a>,
+    bytes: &'a [u8],
+) -> Result<&'a [u8]>
+    ensures { (s : Schema) → s ≡ Group parts.now
+        → Walks (Explains place.entry.depth place.entry.label s)
+        walk.old.lines.items bytes.now walk.new.lines.items result }
+{
+    let depth = open_parts(walk, place)?;
+    explain_parts(walk, parts, depth, bytes)
+}
+
+/// Adds the lines of a value of each type, in order.
+#[cycle(explain)]
+fn explain_parts<'a>(
+    walk: &mut Walk<'a>,
+    parts: &'a Vec<Schema>,
+    depth: usize,
+    bytes: &'a [u8],
+) -> Result<&'a [u8]>
+    ensures { Walks (ExplainsParts depth parts.now.items)
+        walk.old.lines.items bytes.now walk.new.lines.items result }
+{
+    let mut rest = bytes;
+    for (i, part) in parts.iter().enumerate() {
+        let place = Place {
+            depth,
+            label: Label::Part(i),
+        };
+        rest = explain_part(walk, part, place, rest)?;
+    }
+    Ok(rest)
+}
+
+/// Adds the lines of an enum: that of the variant's index, and those of its content.
+#[cycle(explain)]
+fn explain_variant<'a>(
+    walk: &mut Walk<'a>,
+    variants: &'a Vec<Schema>,
+    place: Place<'a>,
+    bytes: &'a [u8],
+) -> Result<&'a [u8]>
+    ensures { (s : Schema) → s ≡ Enum variants.now
+        → Walks (Explains place.entry.depth place.entry.label s)
+        walk.old.lines.items bytes.now walk.new.lines.items result }
+{
+    let (index, rest) = match postcard_frame::take_from_bytes::<u32>(walk.alloc, bytes) {
+        Ok(read) => read,
+        Err(error) => return refuse(walk, Expected::Variant, place, bytes, error),
+    };
+    let Some(variant) = variants.get(index as usize) else {
+        return refuse(walk, Expected::Variant, place, bytes, Error::SerdeDeCustom);
+    };
+    let node = Node::Variant(index, name_of(variant));
+    push(walk, place, node, front_of(bytes, rest))?;
+    explain_part(walk, variant, inside(place), rest)
+}
