@@ -1,7 +1,8 @@
 //! Assertions that the tests share.
 
 use postcard::{
-    Deserialize, DeserializeOwned, Error, Owned, Result, Serialize, from_bytes, to_slice,
+    Deserialize, DeserializeOwned, Error, Owned, Result, Serialize, from_bytes, take_from_bytes,
+    to_slice,
 };
 use std::alloc::AllocGlobal;
 use std::fmt::Debug;
@@ -33,27 +34,53 @@ pub fn assert_written<T: Serialize>(rt: &impl Abort, value: &T, want: &[u8]) {
     }
 }
 
-/// Asserts that the value is written as these bytes, and that they are read as the value.
-pub fn assert_there_and_back<'a, T: Serialize + Deserialize<'a> + PartialEq + Debug>(
+/// Asserts that the bytes are read as this value, which is written as them, or are refused with this
+/// error.
+pub fn assert_read<'a, T: Serialize + Deserialize<'a> + PartialEq + Debug>(
     rt: &(impl Abort + AllocGlobal),
-    value: T,
     bytes: &'a [u8],
+    want: Result<T>,
 ) {
-    assert_written(rt, &value, bytes);
-    assert_eq!(rt; from_bytes(rt.alloc(), bytes), Ok(value));
+    assert_eq!(rt; from_bytes(rt.alloc(), bytes), want, "{bytes:?}");
+    if let Ok(value) = want {
+        assert_written(rt, &value, bytes);
+    }
+}
+
+/// Returns the value at the front of the bytes, and the bytes after it. A function without clauses,
+/// since what the contract of a call says of a type is proved anew wherever it is called.
+pub fn taken<'a, T: Deserialize<'a>>(
+    rt: &(impl Abort + AllocGlobal),
+    bytes: &'a [u8],
+) -> (T, &'a [u8]) {
+    match take_from_bytes(rt.alloc(), bytes) {
+        Ok(read) => read,
+        Err(e) => panic!(rt; "{e}"),
+    }
+}
+
+/// Returns the value that is read from the bytes.
+pub fn read<'a, T: Deserialize<'a>>(rt: &(impl Abort + AllocGlobal), bytes: &'a [u8]) -> T {
+    match from_bytes(rt.alloc(), bytes) {
+        Ok(value) => value,
+        Err(e) => panic!(rt; "{e}"),
+    }
+}
+
+/// Returns the value of an `Owned`.
+fn value_of<T: DeserializeOwned>(owned: Owned<T>) -> T {
+    owned.0
 }
 
 /// Asserts the same, also if the value is read by `DeserializeOwned`.
 pub fn assert_owned<'a, T: Serialize + Deserialize<'a> + DeserializeOwned + PartialEq + Debug>(
     rt: &(impl Abort + AllocGlobal),
-    value: T,
     bytes: &'a [u8],
+    want: Result<T>,
 ) {
-    match from_bytes::<Owned<T>>(rt.alloc(), bytes) {
-        Ok(Owned(read)) => assert_eq!(rt; read, value),
-        Err(e) => panic!(rt; "{e}"),
-    }
-    assert_there_and_back(rt, value, bytes);
+    let owned = from_bytes::<Owned<T>>(rt.alloc(), bytes).map(value_of);
+    assert_eq!(rt; owned, want, "{bytes:?}");
+    assert_read(rt, bytes, want);
 }
 
 /// Asserts that reading a value from the bytes fails with this error.

@@ -1,12 +1,10 @@
 //! Tests of numbers at their full width. The bytes were worked out by hand: the digits of each
 //! number in base 16, two for each byte, the highest byte first as on paper, or the lowest first.
 
-use crate::asserts::{OLD, assert_refused, assert_written, same};
+use crate::asserts::{OLD, assert_refused, assert_written, read, same, taken};
 use postcard::fixint::{BE, FixInt, LE, be, le};
 use postcard::ser_flavors::{Flavor, Slice};
-use postcard::{
-    Deserializer, Error, Owned, Result, Serializer, from_bytes, take_from_bytes, to_slice,
-};
+use postcard::{Deserializer, Error, Owned, Result, Serializer, from_bytes, to_slice};
 use std::alloc::AllocGlobal;
 use std::fmt::Debug;
 use std::process::Abort;
@@ -231,17 +229,11 @@ fn in_other_values(rt: HostRuntime) {
     assert_written(&rt, &Some(BE::new(5i16)), &[0x01, 0x00, 0x05]);
     assert_written(&rt, &None::<BE<i16>>, &[0x00]);
     let bytes = [0x82, 0x00, 0x01, 0x00, 0x03, 0x02, 0x09];
-    match take_from_bytes::<Vec<LE<u16>>>(rt.alloc(), &bytes) {
-        Ok((mut numbers, rest)) => {
-            same(&rt, rest, [0x09].as_slice());
-            same(&rt, numbers.pop().map(LE::get), Some(0x0203));
-            same(&rt, numbers.pop().map(LE::get), Some(1));
-            same(&rt, numbers.is_empty(), true);
-        }
-        Err(e) => panic!(rt; "{e}"),
-    }
-    match from_bytes::<Option<BE<i16>>>(rt.alloc(), &[0x01, 0x00, 0x05]) {
-        Ok(number) => same(&rt, number.map(BE::get), Some(5)),
-        Err(e) => panic!(rt; "{e}"),
-    }
+    let (mut numbers, rest) = taken::<Vec<LE<u16>>>(&rt, &bytes);
+    same(&rt, rest, [0x09].as_slice());
+    same(&rt, numbers.pop().map(LE::get), Some(0x0203));
+    same(&rt, numbers.pop().map(LE::get), Some(1));
+    same(&rt, numbers.is_empty(), true);
+    let number = read::<Option<BE<i16>>>(&rt, &[0x01, 0x00, 0x05]);
+    same(&rt, number.map(BE::get), Some(5));
 }

@@ -1,7 +1,7 @@
 //! Tests of the calls that read.
 
-use crate::asserts::same;
-use postcard::{from_io, take_from_bytes};
+use crate::asserts::{same, taken};
+use postcard::from_io;
 
 #[test]
 fn a_tuple_from_a_reader(rt: HostRuntime) {
@@ -21,12 +21,8 @@ fn a_tuple_from_a_reader(rt: HostRuntime) {
 fn no_more_memory_than_twice_what_is_read(rt: HostRuntime) {
     let mut bytes = [0x07; 101];
     bytes[0] = 100;
-    match take_from_bytes::<Vec<u64>>(rt.alloc(), &bytes) {
-        Ok((list, rest)) => {
-            same(&rt, list.as_slice(), [7; 100].as_slice());
-            same(&rt, list.capacity() <= 200, true);
-            same(&rt, rest.len(), 0);
-        }
-        Err(e) => panic!(rt; "{e}"),
-    }
+    let (list, rest) = taken::<Vec<u64>>(&rt, &bytes);
+    same(&rt, list.as_slice(), [7; 100].as_slice());
+    same(&rt, list.capacity() <= 200, true);
+    same(&rt, rest.len(), 0);
 }

@@ -71,19 +71,24 @@ fn limited(limit: usize) -> Limited<Slice<'static>> {
     }
 }
 
+/// Reads a number and a text.
+fn number_and_text(
+    rt: &HostRuntime,
+    deserializer: &mut Deserializer<'static, Limited<Slice<'static>>>,
+) -> Result<(u16, &'static str)> {
+    Deserialize::deserialize(rt.alloc(), deserializer)
+}
+
 #[test]
 fn a_reading_flavor(rt: HostRuntime) {
     let mut deserializer = Deserializer::from_flavor(limited(5));
-    let read = <(u16, &str)>::deserialize(rt.alloc(), &mut deserializer);
+    let read = number_and_text(&rt, &mut deserializer);
     same(&rt, read, Ok((300, "ab")));
-    same(
-        &rt,
-        u8::deserialize(rt.alloc(), &mut deserializer),
-        Err(END),
-    );
+    let refused = u8::deserialize(rt.alloc(), &mut deserializer);
+    same(&rt, refused, Err(END));
     same(&rt, deserializer.finalize(), Ok([7].as_slice()));
     let mut deserializer = Deserializer::from_flavor(limited(4));
-    let refused = <(u16, &str)>::deserialize(rt.alloc(), &mut deserializer);
+    let refused = number_and_text(&rt, &mut deserializer);
     same(&rt, refused, Err(END));
     same(&rt, deserializer.finalize(), Ok([b'a', b'b', 7].as_slice()));
 }

@@ -1,9 +1,9 @@
 //! Tests of the types of `postcard_examples`, with bytes worked out by hand.
 
-use crate::asserts::{assert_owned, assert_refused, assert_there_and_back, same};
+use crate::asserts::{assert_owned, assert_read, read, same};
 use arrayvec::{ArrayString, ArrayVec};
 use postcard::ser_flavors::Size;
-use postcard::{Error, Owned, from_bytes, serialize_with_flavor};
+use postcard::{Error, Owned, serialize_with_flavor};
 use postcard_examples::chain::Chain;
 use postcard_examples::event::Event;
 use postcard_examples::interval::Interval;
@@ -52,14 +52,14 @@ fn numbers() -> Numbers {
 
 #[test]
 fn structs(rt: HostRuntime) {
-    assert_there_and_back(&rt, reading(&rt), &READING);
+    assert_read(&rt, &READING, Ok(reading(&rt)));
     let bytes = [200, 0xFF, 0x80, 0x01, 1, 127, 2, 0x80, 0x80, 0x01, 127];
-    assert_owned(&rt, numbers(), &bytes);
+    assert_owned(&rt, &bytes, Ok(numbers()));
     let pair = Pair {
         left: 1u8,
         right: 2u8,
     };
-    assert_owned(&rt, pair, &[1, 2]);
+    assert_owned(&rt, &[1, 2], Ok(pair));
 }
 
 /// The encoding of [`station`].
@@ -86,32 +86,31 @@ fn station(rt: &(impl Abort + AllocGlobal)) -> Station {
 
 #[test]
 fn a_struct_within_a_struct(rt: HostRuntime) {
-    assert_owned(&rt, station(&rt), &STATION);
+    assert_owned(&rt, &STATION, Ok(station(&rt)));
 }
 
 #[test]
 fn enums(rt: HostRuntime) {
-    assert_there_and_back(&rt, Event::Boot, &[0]);
+    assert_read(&rt, &[0], Ok(Event::Boot));
     let bytes = [1, 0xAC, 0x02, 0x03, 2, b'a', b'b', 2, 1, 0x80, 0x01];
-    assert_there_and_back(&rt, Event::Reading(reading(&rt)), &bytes);
+    assert_read(&rt, &bytes, Ok(Event::Reading(reading(&rt))));
     let fault = Event::Fault {
         code: 7,
         text: text(&rt, "hot"),
     };
-    assert_there_and_back(&rt, fault, &[2, 7, 3, b'h', b'o', b't']);
-    assert_refused::<Event>(&rt, &[3], Error::SerdeDeCustom);
+    assert_read(&rt, &[2, 7, 3, b'h', b'o', b't'], Ok(fault));
+    assert_read::<Event>(&rt, &[3], Err(Error::SerdeDeCustom));
 }
 
 #[test]
 fn values_that_are_refused(rt: HostRuntime) {
     for value in [0, 100] {
         match Percent::new(value) {
-            Some(percent) => assert_owned(&rt, percent, &[value]),
+            Some(percent) => assert_owned(&rt, &[value], Ok(percent)),
             None => panic!(rt; "{value} is a percent"),
         }
     }
-    assert_refused::<Percent>(&rt, &[101], Error::SerdeDeCustom);
-    assert_refused::<Owned<Percent>>(&rt, &[101], Error::SerdeDeCustom);
+    assert_owned::<Percent>(&rt, &[101], Err(Error::SerdeDeCustom));
     let interval = Interval { start: 1, end: 300 };
     same(
         &rt,
@@ -146,7 +145,7 @@ fn settings(rt: &impl Abort, name: &str, color: Option<u16>, mode: Mode) -> Sett
 #[test]
 fn settings_in_a_buffer_of_the_greatest_size(rt: HostRuntime) {
     let timer = Mode::Timer { from: 7, to: 22 };
-    assert_there_and_back(&rt, settings(&rt, "", None, timer), &[0, 0, 2, 7, 22]);
+    assert_read(&rt, &[0, 0, 2, 7, 22], Ok(settings(&rt, "", None, timer)));
     let mut store = Store::new();
     same(&rt, settings_size(), Some(SETTINGS_SIZE));
     let off = settings(&rt, "", None, Mode::Off);
@@ -184,15 +183,19 @@ fn zeros() -> [u8; 65] {
 
 #[test]
 fn a_chain_to_a_depth(rt: HostRuntime) {
-    assert_owned(&rt, chain(&rt, &[1, 300]), &[1, 1, 1, 0xAC, 0x02, 0]);
+    assert_owned(&rt, &[1, 1, 1, 0xAC, 0x02, 0], Ok(chain(&rt, &[1, 300])));
     let zeros = zeros();
-    assert_there_and_back(&rt, chain(&rt, &[0; 31]), &zeros[2..]);
+    assert_owned(&rt, &zeros[2..], Ok(chain(&rt, &[0; 31])));
     let longer = serialize_with_flavor(&chain(&rt, &[0; 32]), Size::default());
     same(&rt, longer, Err(Error::SerdeSerCustom));
-    assert_refused::<Chain>(&rt, &zeros, Error::SerdeDeCustom);
-    assert_refused::<Chain>(&rt, &[2], Error::SerdeDeCustom);
-    assert_refused::<Chain>(&rt, &[1, 0x80, 0x80, 0x04, 0], Error::DeserializeBadVarint);
-    assert_refused::<Chain>(&rt, &[1, 7, 1, 8], Error::DeserializeUnexpectedEnd);
+    assert_owned::<Chain>(&rt, &zeros, Err(Error::SerdeDeCustom));
+    assert_owned::<Chain>(&rt, &[2], Err(Error::SerdeDeCustom));
+    assert_owned::<Chain>(
+        &rt,
+        &[1, 0x80, 0x80, 0x04, 0],
+        Err(Error::DeserializeBadVarint),
+    );
+    assert_owned::<Chain>(&rt, &[1, 7, 1, 8], Err(Error::DeserializeUnexpectedEnd));
 }
 
 /// Returns a row of `count` strokes, at most 5.
@@ -212,15 +215,15 @@ fn strokes_up_to_the_capacity(rt: HostRuntime) {
     for count in [5, 0, 2] {
         same(&rt, tally.rows.try_push(strokes(count)).is_ok(), true);
     }
-    assert_owned(&rt, tally, &[3, 5, 0, 2]);
+    assert_owned(&rt, &[3, 5, 0, 2], Ok(tally));
     let greatest = [0xFF, 0xFF, 0xFF, 0xFF, 0xFF, 0xFF, 0xFF, 0xFF, 0xFF, 0x01];
     let mut row = [2; 12];
     row[2..].copy_from_slice(&greatest);
     let mut rows = [5; 20];
     rows[..10].copy_from_slice(&greatest);
-    assert_refused::<Tally>(&rt, &[1, 6], Error::SerdeDeCustom);
-    assert_refused::<Tally>(&rt, &row, Error::SerdeDeCustom);
-    assert_refused::<Tally>(&rt, &rows, Error::SerdeDeCustom);
+    assert_owned::<Tally>(&rt, &[1, 6], Err(Error::SerdeDeCustom));
+    assert_owned::<Tally>(&rt, &row, Err(Error::SerdeDeCustom));
+    assert_owned::<Tally>(&rt, &rows, Err(Error::SerdeDeCustom));
 }
 
 /// A sample, and its bytes: 21.5 is 1.34375 * 2^4, and 101325 is 1.546... * 2^16.
@@ -241,8 +244,7 @@ const SAMPLE_BYTES: [u8; 27] = [
 
 #[test]
 fn numbers_with_a_point(rt: HostRuntime) {
-    assert_there_and_back(&rt, SAMPLE, &SAMPLE_BYTES);
-    assert_owned(&rt, SAMPLE, &SAMPLE_BYTES);
+    assert_owned(&rt, &SAMPLE_BYTES, Ok(SAMPLE));
     let back = sample_comes_back(rt.alloc(), &SAMPLE);
     same(&rt, back, Ok(SAMPLE));
     let mut buffer = [0; 28];
@@ -260,18 +262,11 @@ fn a_list_and_a_set(rt: HostRuntime) {
         0x01, 0x00, 0x00, 0x00, 0x00, 0x00, 0x00, 0xE0, 0x3F, // 0.5
         0x02, 0x01, 0xAC, 0x02,
     ];
-    match from_bytes::<Owned<Survey>>(rt.alloc(), &bytes) {
-        Ok(Owned(survey)) => {
-            same(&rt, survey.greatest, Some(9.5));
-            same(&rt, survey.hours.as_slice(), [0.5].as_slice());
-            same(
-                &rt,
-                survey.sensors.contains(&1) && survey.sensors.contains(&300),
-                true,
-            );
-            let back = survey_comes_back(rt.alloc(), &survey);
-            same(&rt, back, Ok(survey));
-        }
-        Err(e) => panic!(rt; "{e}"),
-    }
+    let Owned(survey) = read::<Owned<Survey>>(&rt, &bytes);
+    same(&rt, survey.greatest, Some(9.5));
+    same(&rt, survey.hours.as_slice(), [0.5].as_slice());
+    let sensors = &survey.sensors;
+    same(&rt, sensors.contains(&1) && sensors.contains(&300), true);
+    let back = survey_comes_back(rt.alloc(), &survey);
+    same(&rt, back, Ok(survey));
 }

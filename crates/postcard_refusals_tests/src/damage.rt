@@ -75,35 +75,35 @@ fn is_room(answer: postcard::Result<&mut [u8]>, room: usize, want: &[u8]) -> boo
     }
 }
 
-/// Writes a value into buffers of each length up to three bytes more than it needs. Asserts that
-/// this succeeds exactly if its bytes fit, and that in each case a beginning of them is written and
-/// the other bytes of the buffer are unchanged.
-fn takes_its_room<T: Serialize>(rt: &impl Abort, value: &T, want: &[u8]) {
-    for room in 0..=want.len().saturating_add(3) {
-        let mut buffer = [OLD; 48];
-        let right = match buffer.get_mut(..room) {
-            Some(place) => is_room(to_slice(value, place), room, want),
-            None => false,
-        };
-        let same = buffer.iter().zip(want).take_while(|(a, b)| a == b);
-        let written = same.count().min(room);
-        let kept = buffer.get(written..) == [OLD; 48].get(written..);
-        assert!(rt; right && kept, "into {room} bytes");
-    }
+/// Returns whether the buffer has a beginning of `want`, of at most `room` bytes, and its other bytes
+/// are unchanged.
+fn has_a_beginning(buffer: &[u8; 48], want: &[u8], room: usize) -> bool {
+    let same = buffer.iter().zip(want).take_while(|(a, b)| a == b);
+    let written = same.count().min(room);
+    buffer.get(written..) == [OLD; 48].get(written..)
 }
 
-/// Writes a value as a frame into buffers of each length up to three bytes more than it needs.
-/// Asserts that this succeeds exactly if the frame fits, and that the other bytes are unchanged.
-fn frame_takes_its_room<T: Serialize>(rt: &impl Abort, value: &T, want: &[u8]) {
-    for room in 0..=want.len().saturating_add(3) {
-        let mut buffer = [OLD; 48];
-        let right = match buffer.get_mut(..room) {
-            Some(place) => is_room(to_slice_cobs(value, place), room, want),
-            None => false,
-        };
-        let kept = buffer.get(room..) == [OLD; 48].get(room..);
-        assert!(rt; right && kept, "into {room} bytes");
-    }
+/// Writes a value into a buffer of this length. Returns whether this succeeds exactly if its bytes
+/// fit, and whether in each case a beginning of them is written and the other bytes of the buffer
+/// are unchanged.
+fn takes_room<T: Serialize>(value: &T, want: &[u8], room: usize) -> bool {
+    let mut buffer = [OLD; 48];
+    let right = match buffer.get_mut(..room) {
+        Some(place) => is_room(to_slice(value, place), room, want),
+        None => false,
+    };
+    right && has_a_beginning(&buffer, want, room)
+}
+
+/// Writes a value as a frame into a buffer of this length. Returns whether this succeeds exactly if
+/// the frame fits, and whether the other bytes are unchanged.
+fn frame_takes_room<T: Serialize>(value: &T, want: &[u8], room: usize) -> bool {
+    let mut buffer = [OLD; 48];
+    let right = match buffer.get_mut(..room) {
+        Some(place) => is_room(to_slice_cobs(value, place), room, want),
+        None => false,
+    };
+    right && buffer.get(room..) == [OLD; 48].get(room..)
 }
 
 /// Returns whether the encoding of the value is at most as long as the bytes that were read.
@@ -173,11 +173,14 @@ pub(crate) fn frames_are_kept(rt: &(impl Abort + AllocGlobal), bytes: &[u8], fra
     }
 }
 
-/// Writes a value and its frame into buffers of each length, and checks the results.
+/// Writes a value and its frame into buffers of each length up to three bytes more than its frame
+/// needs, and checks the results.
 fn take_their_room<T: Serialize>(rt: &(impl Abort + AllocGlobal), value: &T, bytes: &[u8]) {
-    takes_its_room(rt, value, bytes);
     let frame = framed(rt.alloc(), bytes, &[]).expect(rt, "a frame");
-    frame_takes_its_room(rt, value, &frame);
+    for room in 0..=frame.len().saturating_add(3) {
+        let right = takes_room(value, bytes, room) && frame_takes_room(value, &frame, room);
+        assert!(rt; right, "into {room} bytes");
+    }
 }
 
 /// Writes a value that may borrow into buffers of each length, reads changed copies of its bytes and

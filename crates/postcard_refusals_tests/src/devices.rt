@@ -1,7 +1,7 @@
 //! Tests of readers and writers that fail at each of their calls, with interruptions in between, and
 //! of scratch buffers of each length.
 
-use postcard::de_flavors::Plain;
+use postcard::de_flavors::{Plain, Source};
 use postcard::{Deserialize, DeserializeOwned, Error, Owned, Serialize, from_io, to_io};
 use postcard_vectors::devices::readers::{FailingReader, InterruptedReader, Pieces};
 use postcard_vectors::devices::writers::{FailingWriter, InterruptedWriter};
@@ -24,35 +24,33 @@ fn failing(bytes: &[u8], fails_at: usize) -> InterruptedReader<FailingReader<Pie
     }
 }
 
-/// Asserts that the value is read through interruptions, and that this fails if one of the reads
-/// that it needs fails or the bytes end too early.
+/// Reads a value through interruptions, where the read with the number `fails_at` fails, if there are
+/// that many. Returns whether this is the value, and reading fails if the value needs that read.
 fn is_read_or_refused<T: DeserializeOwned + PartialEq>(
-    rt: &(impl Abort + AllocGlobal),
+    alloc: Global,
     value: &T,
     bytes: &[u8],
-) {
-    for fails_at in 0..=bytes.len().saturating_add(1) {
-        let mut scratch = [0; 16];
-        let reader = Plain::new(failing(bytes, fails_at));
-        let right = match from_io::<Owned<T>, _>(rt.alloc(), (reader, &mut scratch)) {
-            Ok((Owned(read), _)) => read == *value && bytes.len() <= fails_at,
-            Err(e) => e == END && fails_at < bytes.len(),
-        };
-        assert!(rt; right, "{fails_at}");
+    fails_at: usize,
+) -> bool {
+    let mut scratch = [0; 16];
+    let reader = Plain::new(failing(bytes, fails_at));
+    match from_io::<Owned<T>, _>(alloc, (reader, &mut scratch)) {
+        Ok((Owned(read), _)) => read == *value && bytes.len() <= fails_at,
+        Err(e) => e == END && fails_at < bytes.len(),
     }
 }
 
-/// Asserts that reading the value fails if the bytes end too early, over a slice and in pieces.
-fn is_cut<T: DeserializeOwned>(rt: &(impl Abort + AllocGlobal), bytes: &[u8]) {
-    for end in 0..bytes.len() {
-        let front = bytes.get(..end).unwrap_or(bytes);
-        let mut scratch = [0; 16];
-        let slice = from_io::<Owned<T>, _>(rt.alloc(), (front, &mut scratch)).err();
-        let reader = Plain::new(Pieces::new(front, &[3, 1]));
-        let pieces = from_io::<Owned<T>, _>(rt.alloc(), (reader, &mut scratch)).err();
-        let right = slice == Some(END) && pieces == Some(END);
-        assert!(rt; right, "{end}");
-    }
+/// Returns whether reading a value from this reader fails with `DeserializeUnexpectedEnd`.
+fn ends<T: DeserializeOwned, R: Source>(alloc: Global, reader: R) -> bool {
+    let mut scratch = [0; 16];
+    from_io::<Owned<T>, _>(alloc, (reader, &mut scratch)).err() == Some(END)
+}
+
+/// Returns whether reading a value fails if the bytes end after the first `end`, over a slice and in
+/// pieces.
+fn is_cut<T: DeserializeOwned>(alloc: Global, bytes: &[u8], end: usize) -> bool {
+    let front = bytes.get(..end).unwrap_or(bytes);
+    ends::<T, _>(alloc, front) && ends::<T, _>(alloc, Plain::new(Pieces::new(front, &[3, 1])))
 }
 
 /// Returns a writer into a vector. Every other call is interrupted, and one of the others fails.
@@ -73,41 +71,50 @@ fn failing_writer(
     }
 }
 
-/// Asserts that the value is written through interruptions, and that this fails if a write or the
-/// flush fails. A beginning of the bytes is then written.
+/// Writes a value through interruptions, where the write with the number `fails_at` fails, if there
+/// are that many. Returns whether this fails just if that write or the flush does, and whether a
+/// beginning of the bytes is then written.
 ///
 /// No clause says that `to_io` flushes its writer: only this and `write_through` of
 /// `postcard_devices_tests` would catch one that doesn't.
 fn is_written_or_refused<T: Serialize>(
-    rt: &(impl Abort + AllocGlobal),
+    alloc: Global,
     value: &T,
     bytes: &[u8],
+    fails_at: usize,
     flush_fails: bool,
-) {
-    for fails_at in 0..=bytes.len().saturating_add(1) {
-        let mut writer = failing_writer(rt.alloc(), fails_at, flush_fails);
-        let error = to_io(value, &mut writer).err();
-        let device = writer.inner;
-        let fails = fails_at < device.writes || flush_fails;
-        let whole = device.inner.len() == bytes.len();
-        let right = error == fails.then_some(Error::SerializeBufferFull)
-            && device.flushed != fails
-            && bytes.starts_with(&device.inner)
-            && whole == (device.writes <= fails_at);
-        assert!(rt; right, "{fails_at}");
-    }
+) -> bool {
+    let mut writer = failing_writer(alloc, fails_at, flush_fails);
+    let error = to_io(value, &mut writer).err();
+    let device = writer.inner;
+    let fails = fails_at < device.writes || flush_fails;
+    let whole = device.inner.len() == bytes.len();
+    error == fails.then_some(Error::SerializeBufferFull)
+        && device.flushed != fails
+        && bytes.starts_with(&device.inner)
+        && whole == (device.writes <= fails_at)
 }
 
-/// Runs these checks.
+/// Runs these checks with each read and each write failing in turn, and with the bytes cut after
+/// each.
 fn survives<T: Serialize + DeserializeOwned + PartialEq>(
     rt: &(impl Abort + AllocGlobal),
     value: &T,
     bytes: &[u8],
 ) {
-    is_read_or_refused(rt, value, bytes);
-    is_cut::<T>(rt, bytes);
-    is_written_or_refused(rt, value, bytes, false);
-    is_written_or_refused(rt, value, bytes, true);
+    let alloc = rt.alloc();
+    for place in 0..=bytes.len().saturating_add(1) {
+        let right = is_read_or_refused(alloc, value, bytes, place)
+            && (bytes.len() <= place || is_cut::<T>(alloc, bytes, place))
+            && is_written_or_refused(alloc, value, bytes, place, false)
+            && is_written_or_refused(alloc, value, bytes, place, true);
+        assert!(rt; right, "{place}");
+    }
+}
+
+/// Returns a text in memory.
+fn text(rt: &(impl Abort + AllocGlobal), text: &str) -> String {
+    String::from_str(rt.alloc(), text).expect(rt, "a text")
 }
 
 #[test]
@@ -118,8 +125,7 @@ fn each_call_fails_in_turn(rt: HostRuntime) {
     survives(&rt, &Some(-2i32), &[0x01, 0x03]);
     let variant = DataEnum::Sho(0x6969, 0x07);
     survives(&rt, &variant, &[0x05, 0xE9, 0xD2, 0x01, 0x07]);
-    let text = String::from_str(alloc, "Hi!").expect(&rt, "a text");
-    survives(&rt, &text, b"\x03Hi!");
+    survives(&rt, &text(&rt, "Hi!"), b"\x03Hi!");
     let bytes = vec![in alloc; 1u8, 2, 3].expect(&rt, "a list");
     survives(&rt, &bytes, &[3, 1, 2, 3]);
     let pairs = vec![in alloc; (true, 300u64), (false, 1)].expect(&rt, "a list");
@@ -164,28 +170,27 @@ fn needs_scratch<'a, T: Deserialize<'a> + PartialEq>(
     }
 }
 
+/// The strings "ab" and "c", and a byte after them.
+const TEXTS: &[u8] = b"\x02ab\x01c\x99";
+
 #[test]
 fn scratch_of_each_length(rt: HostRuntime) {
-    let alloc = rt.alloc();
     let lent = RefStruct {
         bytes: &[0x01, 0x10, 0x02, 0x20],
         str_s: "hElLo",
     };
     let bytes = b"\x04\x01\x10\x02\x20\x05hElLo\x99";
     needs_scratch(&rt, bytes, &mut buffers(&rt, 11), &lent, (9, 9));
-    let bytes = b"\x02ab\x01c\x99";
-    needs_scratch(&rt, bytes, &mut buffers(&rt, 5), &("ab", "c"), (3, 3));
-    needs_scratch(&rt, bytes, &mut buffers(&rt, 5), &("ab", 'c'), (3, 2));
-    let first = String::from_str(alloc, "ab").expect(&rt, "a text");
-    let second = String::from_str(alloc, "c").expect(&rt, "a text");
-    needs_scratch(&rt, bytes, &mut buffers(&rt, 4), &(first, second), (2, 0));
-    let list = vec![in alloc; 7u8, 8].expect(&rt, "a list");
-    needs_scratch(
-        &rt,
-        b"\x02\x07\x08\x99",
-        &mut buffers(&rt, 4),
-        &list,
-        (0, 0),
-    );
+    needs_scratch(&rt, TEXTS, &mut buffers(&rt, 5), &("ab", "c"), (3, 3));
+    needs_scratch(&rt, TEXTS, &mut buffers(&rt, 5), &("ab", 'c'), (3, 2));
+}
+
+#[test]
+fn scratch_that_is_given_back(rt: HostRuntime) {
+    let texts = (text(&rt, "ab"), text(&rt, "c"));
+    needs_scratch(&rt, TEXTS, &mut buffers(&rt, 4), &texts, (2, 0));
+    let list = vec![in rt.alloc(); 7u8, 8].expect(&rt, "a list");
+    let bytes = b"\x02\x07\x08\x99";
+    needs_scratch(&rt, bytes, &mut buffers(&rt, 4), &list, (0, 0));
     needs_scratch(&rt, b"\xAC\x02\x99", &mut buffers(&rt, 2), &300u16, (0, 0));
 }

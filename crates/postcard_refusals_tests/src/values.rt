@@ -6,7 +6,9 @@ use postcard_vectors::types::{
     BasicEnum, BasicU8S, DataEnum, DualTupleStruct, EnumStruct, NewTypeStruct, RefStruct,
     TupleStruct, WideU8S,
 };
+use std::alloc::AllocGlobal;
 use std::collections::BTreeMap;
+use std::process::Abort;
 
 /// Does the same as `withstands` for a value that borrows from its bytes, which outlive it here.
 macro_rules! withstands_lent {
@@ -124,26 +126,39 @@ fn parts_in_a_row(rt: HostRuntime) {
     );
 }
 
+/// Does the same for a struct that borrows.
+fn borrowed_parts(rt: &(impl Abort + AllocGlobal), value: RefStruct<'_>, bytes: &[u8]) {
+    withstands_lent!(*rt, RefStruct, value, bytes);
+}
+
+/// Does the same for borrowed bytes.
+fn borrowed_bytes(rt: &(impl Abort + AllocGlobal), value: &[u8], bytes: &[u8]) {
+    withstands_lent!(*rt, &[u8], value, bytes);
+}
+
+/// Does the same for a borrowed text.
+fn borrowed_text(rt: &(impl Abort + AllocGlobal), value: &str, bytes: &[u8]) {
+    withstands_lent!(*rt, &str, value, bytes);
+}
+
 #[test]
 fn bytes_and_texts(rt: HostRuntime) {
     let lent = RefStruct {
         bytes: &[0x01, 0x10, 0x02, 0x20],
         str_s: "hElLo",
     };
-    withstands_lent!(rt, RefStruct, lent, b"\x04\x01\x10\x02\x20\x05hElLo");
+    borrowed_parts(&rt, lent, b"\x04\x01\x10\x02\x20\x05hElLo");
+    borrowed_text(&rt, "hello, postcard!", b"\x10hello, postcard!");
     let eight = [1u8, 2, 3, 4, 5, 6, 7, 8];
-    withstands_lent!(rt, &[u8], eight.as_slice(), &[8, 1, 2, 3, 4, 5, 6, 7, 8]);
-    withstands(
-        &rt,
-        eight.to_vec(rt.alloc()).expect(&rt, "a list"),
-        &[8, 1, 2, 3, 4, 5, 6, 7, 8],
-    );
-    withstands_lent!(rt, &str, "hello, postcard!", b"\x10hello, postcard!");
+    let bytes = [8, 1, 2, 3, 4, 5, 6, 7, 8];
+    borrowed_bytes(&rt, &eight, &bytes);
+    let list = eight.to_vec(rt.alloc()).expect(&rt, "a list");
+    withstands(&rt, list, &bytes);
     let text = String::from_str(rt.alloc(), "Hi!").expect(&rt, "a text");
     withstands(&rt, text, b"\x03Hi!");
     let mut zeros = [0; 33];
     zeros[0] = 0x20;
-    withstands_lent!(rt, &[u8], [0u8; 32].as_slice(), &zeros);
+    borrowed_bytes(&rt, &[0; 32], &zeros);
     withstands(&rt, [0u8; 32], &[0; 32]);
 }
 

@@ -236,8 +236,8 @@ fn check_owned<'a, T: Serialize + Deserialize<'a> + DeserializeOwned + Debug>(
     Ok(())
 }
 
-/// Checks a row of this type, which borrows nothing.
-pub fn owned<'a, T: Serialize + Deserialize<'a> + DeserializeOwned + Debug>(
+/// Checks a row of this type, which borrows nothing, with this scratch for its bytes.
+pub fn owned_with<'a, T: Serialize + Deserialize<'a> + DeserializeOwned + Debug>(
     alloc: Global,
     row: &'a Row<'_>,
     scratch: &'a mut [u8],
@@ -248,8 +248,17 @@ pub fn owned<'a, T: Serialize + Deserialize<'a> + DeserializeOwned + Debug>(
     }
 }
 
-/// Checks a row of this type, which borrows nothing and has a greatest size.
-pub fn sized<'a, T: Serialize + Deserialize<'a> + DeserializeOwned + MaxSize + Debug>(
+/// Checks a row of this type, which borrows nothing and needs no scratch.
+pub fn owned<'a, T: Serialize + Deserialize<'a> + DeserializeOwned + Debug>(
+    alloc: Global,
+    row: &'a Row<'_>,
+) -> Outcome {
+    owned_with::<T>(alloc, row, &mut [])
+}
+
+/// Checks a row of this type, which borrows nothing and has a greatest size, with this scratch for
+/// its bytes.
+pub fn sized_with<'a, T: Serialize + Deserialize<'a> + DeserializeOwned + MaxSize + Debug>(
     alloc: Global,
     row: &'a Row<'_>,
     scratch: &'a mut [u8],
@@ -259,4 +268,12 @@ pub fn sized<'a, T: Serialize + Deserialize<'a> + DeserializeOwned + MaxSize + D
         Mark::Greatest => greatest::<T>(alloc, row),
         _ => Ok(()),
     }
+}
+
+/// Checks a row of this type, which borrows nothing, has a greatest size and needs no scratch.
+pub fn sized<'a, T: Serialize + Deserialize<'a> + DeserializeOwned + MaxSize + Debug>(
+    alloc: Global,
+    row: &'a Row<'_>,
+) -> Outcome {
+    sized_with::<T>(alloc, row, &mut [])
 }

@@ -10,26 +10,26 @@ use std::num::{
 };
 
 /// Checks a row of a type of this group or of those after it.
-pub fn check<'a>(alloc: Global, row: &'a Row<'_>, scratch: &'a mut [u8]) -> Outcome {
+pub fn check(alloc: Global, row: &Row<'_>) -> Outcome {
     match row.name {
-        "NonZeroU8" => sized::<NonZeroU8>(alloc, row, &mut []),
-        "NonZeroU16" => sized::<NonZeroU16>(alloc, row, &mut []),
-        "NonZeroU32" => sized::<NonZeroU32>(alloc, row, &mut []),
-        "NonZeroU64" => sized::<NonZeroU64>(alloc, row, &mut []),
-        "NonZeroU128" => sized::<NonZeroU128>(alloc, row, &mut []),
-        "NonZeroUsize" => sized::<NonZeroUsize>(alloc, row, &mut []),
-        _ => signed(alloc, row, scratch),
+        "NonZeroU8" => sized::<NonZeroU8>(alloc, row),
+        "NonZeroU16" => sized::<NonZeroU16>(alloc, row),
+        "NonZeroU32" => sized::<NonZeroU32>(alloc, row),
+        "NonZeroU64" => sized::<NonZeroU64>(alloc, row),
+        "NonZeroU128" => sized::<NonZeroU128>(alloc, row),
+        "NonZeroUsize" => sized::<NonZeroUsize>(alloc, row),
+        _ => signed(alloc, row),
     }
 }
 
-fn signed<'a>(alloc: Global, row: &'a Row<'_>, scratch: &'a mut [u8]) -> Outcome {
+fn signed(alloc: Global, row: &Row<'_>) -> Outcome {
     match row.name {
-        "NonZeroI8" => sized::<NonZeroI8>(alloc, row, &mut []),
-        "NonZeroI16" => sized::<NonZeroI16>(alloc, row, &mut []),
-        "NonZeroI32" => sized::<NonZeroI32>(alloc, row, &mut []),
-        "NonZeroI64" => sized::<NonZeroI64>(alloc, row, &mut []),
-        "NonZeroI128" => sized::<NonZeroI128>(alloc, row, &mut []),
-        "NonZeroIsize" => sized::<NonZeroIsize>(alloc, row, &mut []),
-        _ => scalars::check(alloc, row, scratch),
+        "NonZeroI8" => sized::<NonZeroI8>(alloc, row),
+        "NonZeroI16" => sized::<NonZeroI16>(alloc, row),
+        "NonZeroI32" => sized::<NonZeroI32>(alloc, row),
+        "NonZeroI64" => sized::<NonZeroI64>(alloc, row),
+        "NonZeroI128" => sized::<NonZeroI128>(alloc, row),
+        "NonZeroIsize" => sized::<NonZeroIsize>(alloc, row),
+        _ => scalars::check(alloc, row),
     }
 }

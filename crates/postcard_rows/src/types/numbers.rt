@@ -6,28 +6,28 @@ use crate::row::Row;
 use std::alloc::Global;
 use std::num::Wrapping;
 
-/// Checks a row of any type.
-pub fn check<'a>(alloc: Global, row: &'a Row<'_>, scratch: &'a mut [u8]) -> Outcome {
+/// Checks a row of a type of this group or of those after it.
+pub fn check(alloc: Global, row: &Row<'_>) -> Outcome {
     match row.name {
-        "u8" => sized::<u8>(alloc, row, &mut []),
-        "u16" => sized::<u16>(alloc, row, &mut []),
-        "u32" => sized::<u32>(alloc, row, &mut []),
-        "u64" => sized::<u64>(alloc, row, &mut []),
-        "u128" => sized::<u128>(alloc, row, &mut []),
-        "usize" => sized::<usize>(alloc, row, &mut []),
-        "Wrapping<u32>" => sized::<Wrapping<u32>>(alloc, row, &mut []),
-        _ => signed(alloc, row, scratch),
+        "u8" => sized::<u8>(alloc, row),
+        "u16" => sized::<u16>(alloc, row),
+        "u32" => sized::<u32>(alloc, row),
+        "u64" => sized::<u64>(alloc, row),
+        "u128" => sized::<u128>(alloc, row),
+        "usize" => sized::<usize>(alloc, row),
+        "Wrapping<u32>" => sized::<Wrapping<u32>>(alloc, row),
+        _ => signed(alloc, row),
     }
 }
 
-fn signed<'a>(alloc: Global, row: &'a Row<'_>, scratch: &'a mut [u8]) -> Outcome {
+fn signed(alloc: Global, row: &Row<'_>) -> Outcome {
     match row.name {
-        "i8" => sized::<i8>(alloc, row, &mut []),
-        "i16" => sized::<i16>(alloc, row, &mut []),
-        "i32" => sized::<i32>(alloc, row, &mut []),
-        "i64" => sized::<i64>(alloc, row, &mut []),
-        "i128" => sized::<i128>(alloc, row, &mut []),
-        "isize" => sized::<isize>(alloc, row, &mut []),
-        _ => nonzero::check(alloc, row, scratch),
+        "i8" => sized::<i8>(alloc, row),
+        "i16" => sized::<i16>(alloc, row),
+        "i32" => sized::<i32>(alloc, row),
+        "i64" => sized::<i64>(alloc, row),
+        "i128" => sized::<i128>(alloc, row),
+        "isize" => sized::<isize>(alloc, row),
+        _ => nonzero::check(alloc, row),
     }
 }
