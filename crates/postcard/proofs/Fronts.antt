@@ -18,7 +18,9 @@ use types.Kit.{‵, ◌$◌, ◌∵◌, !, qed, fpack, done}
 use Rattle.postcard_wire.specs.Tree.{Tree}
 use Rattle.postcard_wire.specs.Spelling.{canonical, Spells}
 use Rattle.postcard_wire.proofs.Shortest.{least}
-use Rattle.postcard_ser.specs.Writing.{IsWriteError}
+use Rattle.postcard_shape.specs.Shape.{Shape, IsWilling}
+use Rattle.postcard_shape.proofs.Again.{is_spelled}
+use Rattle.postcard_ser.specs.Writing.{IsErrorOf}
 use Rattle.postcard.specs.declared.ser.Attempt.{Attempt}
 use Rattle.postcard.specs.Buffers.{FillsFront}
 use Rattle.postcard.specs.Attempt.{IsAttempt, LendsAttempt}
@@ -36,7 +38,11 @@ is_false false t = refl
 in_front : (n : ℕ) (bs xs all : List ℕ) → n ≡ length bs → all ≡ bs ++ drop (length bs) xs → take n all ≡ bs
 in_front n bs xs all long is = (λ i. take (long i) (is i)) ∙ take-append_seam bs (drop (length bs) xs)
 
-module _ (xs : List ℕ) (Refuses Text Fits : Type 0) (old : List ℕ) (d : Attempt) (r : Result (MutBor (List ℕ)) Error) (done : IsAttempt xs Refuses Text Fits old d) (cut : LendsAttempt d r) where
+module _ {V : Type 0} (s : Shape V) (v : V) (old : List ℕ) (d : Attempt) (r : Result (MutBor (List ℕ)) Error) (done : IsAttempt s v old d) (cut : LendsAttempt d r) where
+  -- The bytes that were to be written.
+  xs : List ℕ
+  xs = canonical (s.tree v)
+
   -- What the caller writes through the front is then at the front of the buffer, before the old
   -- bytes.
   pub follows_front : (front : List ℕ) → IsOk r → front ++ drop d.count d.all.now ≡ front ++ drop (length xs) old

@@ -6,7 +6,8 @@ ghost use Rattle.std.specs.Prelude.{◌≡◌, [], ◌-◌, ◌≤◌, ◌↔◌
 ghost use Rattle.std.specs.Prelude.{IfOk, IfErr, IsOk, OnOk};
 ghost use Rattle.postcard_cobs.specs.Groups.{made};
 ghost use Rattle.postcard_wire.specs.Spelling.{canonical};
-ghost use Rattle.postcard_ser.specs.Writing.{IsWriteError};
+ghost use Rattle.postcard_shape.specs.Shape.{IsWilling};
+ghost use Rattle.postcard_ser.specs.Writing.{IsErrorOf};
 ghost use Rattle.postcard.specs.Buffers.{Fills};
 ghost use Rattle.postcard.specs.Frames.{DecodesTo};
 
@@ -24,11 +25,13 @@ fn framed<T: Serialize, B: Storage + Drop>(value: &T, storage: B) -> Result<<B a
     ensures gives { IfOk result (λ output. (last : B)
         × (B.held last ≡ B.held storage ++ made (canonical (T.shape.tree value.now)))
         × B.reaches storage last × B.finishes last output) }
-    ensures has_room { ¬ T.shape.refuses value.now
+    ensures has_room { IsWilling T.shape value.now
         → length (made (canonical (T.shape.tree value.now))) ≤ usize.MAX - 2
         → B.free storage (length (made (canonical (T.shape.tree value.now)))) → IsOk result }
-    ensures named_error { ¬ T.shape.refuses value.now
-        → IfErr result (IsWriteError T.shape.text) }
+    ensures own_error { length (made (canonical (T.shape.tree value.now))) ≤ usize.MAX - 2
+        → B.free storage (length (made (canonical (T.shape.tree value.now))))
+        → IfErr result (T.shape.refusal value.now) }
+    ensures named_error { IfErr result (IsErrorOf T.shape value.now) }
     ensures fits { OnOk result (T.shape.fits value.now) }
 {
     serialize_with_flavor(value, Cobs::try_new(storage)?)
@@ -41,16 +44,19 @@ fn framed<T: Serialize, B: Storage + Drop>(value: &T, storage: B) -> Result<<B a
 ///
 /// If `B` is at most `usize::MAX - 2`, fails if and only if the frame is longer than `B` bytes:
 /// with `SerializeBufferFull`, or with `CollectStrError` for a type whose text may fail to print.
-/// For a value that refuses itself, the call may fail in any case and with another error.
+/// A value that refuses itself may fail in any case, and with an error of its own if the frame has
+/// at most `B` bytes.
 #[tactic(auto, using(crate::specs::Lemmas::frame_decodes))]
 pub fn to_vec_cobs<T: Serialize, const B: usize>(value: &T) -> Result<ArrayVec<u8, B>>
     ensures gives { IfOk result (λ vec. vec.items ≡ made (canonical (T.shape.tree value.now))) }
     ensures decodes { IfOk result
         (λ vec. DecodesTo vec.items (canonical (T.shape.tree value.now))) }
-    ensures fits_iff { ¬ T.shape.refuses value.now → B ≤ usize.MAX - 2
+    ensures fits_iff { IsWilling T.shape value.now → B ≤ usize.MAX - 2
         → (IsOk result ↔ (length (made (canonical (T.shape.tree value.now))) ≤ B)) }
-    ensures named_error { ¬ T.shape.refuses value.now
-        → IfErr result (IsWriteError T.shape.text) }
+    ensures own_error { B ≤ usize.MAX - 2
+        → length (made (canonical (T.shape.tree value.now))) ≤ B
+        → IfErr result (T.shape.refusal value.now) }
+    ensures named_error { IfErr result (IsErrorOf T.shape value.now) }
     ensures fits { OnOk result (T.shape.fits value.now) }
 {
     framed(value, HVec::new())
@@ -63,17 +69,18 @@ pub fn to_vec_cobs<T: Serialize, const B: usize>(value: &T) -> Result<ArrayVec<u
 /// # Errors
 ///
 /// Fails if and only if the frame is longer than `buf`: with `SerializeBufferFull`, or with
-/// `CollectStrError` for a type whose text may fail to print. For a value that refuses itself, the
-/// call may fail in any case and with another error.
+/// `CollectStrError` for a type whose text may fail to print. A value that refuses itself may fail
+/// in any case, and with an error of its own if `buf` has room for the frame.
 #[tactic(auto, using(crate::specs::Lemmas::frame_decodes))]
 pub fn to_slice_cobs<'a, T: Serialize>(value: &T, buf: &'a mut [u8]) -> Result<&'a mut [u8]>
     ensures gives { IfOk result (λ front. front.now ≡ made (canonical (T.shape.tree value.now))) }
     ensures decodes { IfOk result
         (λ front. DecodesTo front.now (canonical (T.shape.tree value.now))) }
-    ensures fits_iff { ¬ T.shape.refuses value.now
+    ensures fits_iff { IsWilling T.shape value.now
         → (IsOk result ↔ (length (made (canonical (T.shape.tree value.now))) ≤ length buf.old)) }
-    ensures named_error { ¬ T.shape.refuses value.now
-        → IfErr result (IsWriteError T.shape.text) }
+    ensures own_error { length (made (canonical (T.shape.tree value.now))) ≤ length buf.old
+        → IfErr result (T.shape.refusal value.now) }
+    ensures named_error { IfErr result (IsErrorOf T.shape value.now) }
     ensures fits { OnOk result (T.shape.fits value.now) }
 {
     // For the prover: a slice has fewer than 2^63 bytes, so the frame's length can be counted.
@@ -87,11 +94,13 @@ fn frame_into<T: Serialize, B: Storage + Drop>(value: &T, storage: B) -> (B, Res
     ensures gives { OnOk result.1
         (B.held result.0 ≡ B.held storage ++ made (canonical (T.shape.tree value.now))) }
     ensures leaves { B.reaches storage result.0 }
-    ensures has_room { ¬ T.shape.refuses value.now
+    ensures has_room { IsWilling T.shape value.now
         → length (made (canonical (T.shape.tree value.now))) ≤ usize.MAX - 2
         → B.free storage (length (made (canonical (T.shape.tree value.now)))) → IsOk result.1 }
-    ensures named_error { ¬ T.shape.refuses value.now
-        → IfErr result.1 (IsWriteError T.shape.text) }
+    ensures own_error { length (made (canonical (T.shape.tree value.now))) ≤ usize.MAX - 2
+        → B.free storage (length (made (canonical (T.shape.tree value.now))))
+        → IfErr result.1 (T.shape.refusal value.now) }
+    ensures named_error { IfErr result.1 (IsErrorOf T.shape value.now) }
     ensures fits { OnOk result.1 (T.shape.fits value.now) }
 {
     let mut serializer = Serializer {
@@ -111,10 +120,11 @@ fn write_frame<'a, T: Serialize>(value: &T, buf: &'a mut [u8]) -> (&'a mut [u8],
         (λ count. count ≡ length (made (canonical (T.shape.tree value.now)))) }
     ensures fills { OnOk result.1
         (Fills (made (canonical (T.shape.tree value.now))) buf.old result.0.now) }
-    ensures fits_iff { ¬ T.shape.refuses value.now → (IsOk result.1
+    ensures fits_iff { IsWilling T.shape value.now → (IsOk result.1
         ↔ (length (made (canonical (T.shape.tree value.now))) ≤ length buf.old)) }
-    ensures named_error { ¬ T.shape.refuses value.now
-        → IfErr result.1 (IsWriteError T.shape.text) }
+    ensures own_error { length (made (canonical (T.shape.tree value.now))) ≤ length buf.old
+        → IfErr result.1 (T.shape.refusal value.now) }
+    ensures named_error { IfErr result.1 (IsErrorOf T.shape value.now) }
     ensures fits { OnOk result.1 (T.shape.fits value.now) }
 {
     let (slice, framed) = frame_into(value, Slice::new(buf));
@@ -134,9 +144,9 @@ fn write_frame<'a, T: Serialize>(value: &T, buf: &'a mut [u8]) -> (&'a mut [u8],
 /// # Errors
 ///
 /// Fails if and only if the frame is longer than `buf`: with `SerializeBufferFull`, or with
-/// `CollectStrError` for a type whose text may fail to print. For a value that refuses itself, the
-/// call may fail in any case and with another error. After a failure the content of the buffer is
-/// unspecified.
+/// `CollectStrError` for a type whose text may fail to print. A value that refuses itself may fail
+/// in any case, and with an error of its own if `buf` has room for the frame. After a failure the
+/// content of the buffer is unspecified.
 #[tactic(auto, using(crate::proofs::Framed::front_decodes))]
 pub fn fill_slice_cobs<T: Serialize>(value: &T, buf: &mut [u8]) -> Result<usize>
     ensures count_is_length { IfOk result
@@ -145,10 +155,11 @@ pub fn fill_slice_cobs<T: Serialize>(value: &T, buf: &mut [u8]) -> Result<usize>
         (Fills (made (canonical (T.shape.tree value.now))) buf.old buf.new) }
     ensures decodes { IfOk result
         (λ count. DecodesTo (take count buf.new) (canonical (T.shape.tree value.now))) }
-    ensures fits_iff { ¬ T.shape.refuses value.now
+    ensures fits_iff { IsWilling T.shape value.now
         → (IsOk result ↔ (length (made (canonical (T.shape.tree value.now))) ≤ length buf.old)) }
-    ensures named_error { ¬ T.shape.refuses value.now
-        → IfErr result (IsWriteError T.shape.text) }
+    ensures own_error { length (made (canonical (T.shape.tree value.now))) ≤ length buf.old
+        → IfErr result (T.shape.refusal value.now) }
+    ensures named_error { IfErr result (IsErrorOf T.shape value.now) }
     ensures fits { OnOk result (T.shape.fits value.now) }
 {
     let (_all, framed) = write_frame(value, buf);
@@ -160,15 +171,14 @@ pub fn fill_slice_cobs<T: Serialize>(value: &T, buf: &mut [u8]) -> Result<usize>
 /// # Errors
 ///
 /// Fails only if an allocation fails: with `SerializeBufferFull`, or with `CollectStrError` for a
-/// type whose text may fail to print. For a value that refuses itself, the call may fail in any
-/// case and with another error.
+/// type whose text may fail to print. A value that refuses itself may fail in any case, also with
+/// an error of its own.
 #[tactic(auto, using(crate::specs::Lemmas::frame_decodes))]
 pub fn to_allocvec_cobs<T: Serialize>(alloc: Global, value: &T) -> Result<Vec<u8>>
     ensures gives { IfOk result (λ vec. vec.items ≡ made (canonical (T.shape.tree value.now))) }
     ensures decodes { IfOk result
         (λ vec. DecodesTo vec.items (canonical (T.shape.tree value.now))) }
-    ensures named_error { ¬ T.shape.refuses value.now
-        → IfErr result (IsWriteError T.shape.text) }
+    ensures named_error { IfErr result (IsErrorOf T.shape value.now) }
     ensures fits { OnOk result (T.shape.fits value.now) }
 {
     framed(value, AllocVec::new(alloc))
@@ -180,8 +190,7 @@ pub fn to_stdvec_cobs<T: Serialize>(alloc: Global, value: &T) -> Result<Vec<u8>>
     ensures gives { IfOk result (λ vec. vec.items ≡ made (canonical (T.shape.tree value.now))) }
     ensures decodes { IfOk result
         (λ vec. DecodesTo vec.items (canonical (T.shape.tree value.now))) }
-    ensures named_error { ¬ T.shape.refuses value.now
-        → IfErr result (IsWriteError T.shape.text) }
+    ensures named_error { IfErr result (IsErrorOf T.shape value.now) }
     ensures fits { OnOk result (T.shape.fits value.now) }
 {
     to_allocvec_cobs(alloc, value)
@@ -193,16 +202,15 @@ pub fn to_stdvec_cobs<T: Serialize>(alloc: Global, value: &T) -> Result<Vec<u8>>
 /// # Errors
 ///
 /// Fails only if an allocation fails: with `SerializeBufferFull`, or with `CollectStrError` for a
-/// type whose text may fail to print. For a value that refuses itself, the call may fail in any
-/// case and with another error. After a failure the vector is dropped.
+/// type whose text may fail to print. A value that refuses itself may fail in any case, also with
+/// an error of its own. After a failure the vector is dropped.
 #[tactic(auto, using(crate::specs::Lemmas::frame_after_decodes))]
 pub fn to_allocvec_cobs_after<T: Serialize>(value: &T, vec: Vec<u8>) -> Result<Vec<u8>>
     ensures gives { IfOk result
         (λ output. output.items ≡ vec.items ++ made (canonical (T.shape.tree value.now))) }
     ensures decodes { IfOk result (λ output. DecodesTo (drop (length vec.items) output.items)
         (canonical (T.shape.tree value.now))) }
-    ensures named_error { ¬ T.shape.refuses value.now
-        → IfErr result (IsWriteError T.shape.text) }
+    ensures named_error { IfErr result (IsErrorOf T.shape value.now) }
     ensures fits { OnOk result (T.shape.fits value.now) }
 {
     framed(value, AllocVec::from_vec(vec))

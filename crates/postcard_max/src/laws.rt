@@ -3,6 +3,7 @@
 
 ghost use Rattle.std.specs.Prelude.{◌≤◌, length, Some, IfSome, [], ◌∷◌, ⊤};
 ghost use Rattle.postcard_wire.specs.Spelling.{canonical};
+ghost use Rattle.postcard_shape.specs.Shape.{IsWilling};
 ghost use Rattle.postcard_max.specs.Limits.{AreBounded, IsReached};
 ghost use Rattle.postcard_max.specs.Sizes.{sum_of, times, greater_of, varint_len};
 ghost use Rattle.postcard_max.specs.SizeLimit.{IsSize, IsSum};
@@ -32,7 +33,7 @@ pub fn sizes<T: MaxSize>()
 /// the type has one, so a buffer of that size has room for it. If `willing` holds of the type, the
 /// value doesn't refuse itself.
 pub fn within_max_size<T: MaxSize>(value: &T)
-    ensures willing { T.limit.willing → ¬ T.shape.refuses value.now }
+    ensures willing { T.limit.willing → IsWilling T.shape value.now }
     ensures bounded { IfSome T.limit.greatest
         (λ m. length (canonical (T.shape.tree value.now)) ≤ m) }
 {

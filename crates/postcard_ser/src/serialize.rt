@@ -26,6 +26,6 @@ pub trait Serialize: Shaped {
     /// unless the value refuses itself.
     fn serialize<F: Flavor>(&self, serializer: &mut Serializer<F>) -> Result<()>
         ensures wrote { Wrote F.Flavor serializer.old.output (canonical (Self.shape.tree self.now))
-            (Self.shape.refuses self.now) Self.shape.text result serializer.new.output }
+            (Self.shape.refusal self.now) Self.shape.text result serializer.new.output }
         ensures fits { OnOk result (Self.shape.fits self.now) };
 }

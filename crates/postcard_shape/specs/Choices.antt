@@ -21,7 +21,7 @@ option_again s (Some v) f = let k = s.again v f in (inr (s.tree v, refl, k.0), (
 abbrev pub option : {V : Type 0} → Shape V → Shape (Option V)
 option s = record {
   tree = option_tree s.tree;
-  refuses = λ v. IsSomeAnd v s.refuses;
+  refusal = λ v e. IsSomeAnd v (λ x. s.refusal x e);
   text = s.text;
   reads = IsOption s.reads;
   value = OptionIs s.value;
@@ -45,17 +45,17 @@ result_again s e (Err w) f = let k = e.again w f in ((1, e.tree w, refl, omega a
 
 -- The shape of a result of values of these shapes.
 abbrev pub result : {V W : Type 0} → Shape V → Shape W → Shape (Result V W)
-result s e = record {
-  tree = result_tree s.tree e.tree;
-  refuses = λ v. IsOkAnd v s.refuses ⊎ IsErrAnd v e.refuses;
-  text = s.text ⊎ e.text;
-  reads = IsVariant (ResultReads s.reads e.reads);
-  value = VariantIs (ResultIs s.value e.value);
-  same = SameResult s.same e.same;
-  grows = s.grows ⊎ e.grows;
-  fits = ResultFits s.fits e.fits;
-  delimited = variant_delimited _ (result_delimited s.reads e.reads s.delimited e.delimited);
-  well_formed = variant_well_formed _ (result_well_formed s.reads e.reads s.well_formed e.well_formed);
-  one_value = variant_one _ _ (result_one s.value e.value s.same e.same s.one_value e.one_value);
-  again = result_again s e;
+result s t = record {
+  tree = result_tree s.tree t.tree;
+  refusal = λ v e. IsOkAnd v (λ x. s.refusal x e) ⊎ IsErrAnd v (λ x. t.refusal x e);
+  text = s.text ⊎ t.text;
+  reads = IsVariant (ResultReads s.reads t.reads);
+  value = VariantIs (ResultIs s.value t.value);
+  same = SameResult s.same t.same;
+  grows = s.grows ⊎ t.grows;
+  fits = ResultFits s.fits t.fits;
+  delimited = variant_delimited _ (result_delimited s.reads t.reads s.delimited t.delimited);
+  well_formed = variant_well_formed _ (result_well_formed s.reads t.reads s.well_formed t.well_formed);
+  one_value = variant_one _ _ (result_one s.value t.value s.same t.same s.one_value t.one_value);
+  again = result_again s t;
 }

@@ -35,7 +35,7 @@ set_one {A} cmp value same one t ks ls (xs, h, a) (ys, k, b) = (xs, ys, list_one
 abbrev pub keys : {A : Type 0} → (A → A → Ordering) → Shape A → Shape (List A)
 keys cmp s = record {
   tree = λ ks. Seq (trees (map s.tree ks));
-  refuses = Any s.refuses;
+  refusal = λ ks e. Any (λ k. s.refusal k e) ks;
   text = s.text;
   reads = IsSeq s.reads;
   value = SetIs cmp s.value;

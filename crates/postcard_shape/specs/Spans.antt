@@ -7,7 +7,7 @@ use Rattle.postcard_wire.proofs.Delimited.{num_delimited, end_delimited, then_de
 use Rattle.postcard_wire.proofs.WellFormed.{num_well_formed, end_well_formed, then_well_formed, group_well_formed}
 use Rattle.postcard_shape.specs.Compound.{duration_tree}
 use Rattle.postcard_shape.specs.Numbers.{IsSpan, SpanIs, AnySpan, span_parts, span_one}
-use Rattle.postcard_shape.specs.Shape.{Shape}
+use Rattle.postcard_shape.specs.Shape.{Shape, never}
 
 whole : (n : ℕ) → (n % 1_000_000_000) / 1_000_000_000 ≡ 0
 whole n = omega arith
@@ -22,7 +22,7 @@ span_again v n e f = ((n / 1_000_000_000, n % 1_000_000_000, refl, f, omega arit
 abbrev pub span_of_time : Shape Duration
 span_of_time = record {
   tree = λ v. duration_tree (as_nanos v);
-  refuses = λ v. ⊥;
+  refusal = λ v. never;
   text = ⊥;
   reads = IsSpan;
   value = SpanIs;

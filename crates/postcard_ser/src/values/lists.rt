@@ -20,7 +20,8 @@ pub(crate) fn serialize_all<T: Serialize, F: Flavor>(
 ) -> Result<()>
     ensures wrote { Wrote F.Flavor serializer.old.output
         (canonical_all (trees (map T.shape.tree items.now)))
-        (Any T.shape.refuses items.now) T.shape.text result serializer.new.output }
+        (λ e. Any (λ x. T.shape.refusal x e) items.now) T.shape.text result
+        serializer.new.output }
     ensures fits { OnOk result (AllFit T.shape.fits items.now) }
 {
     match T::slice_bytes(items) {
@@ -36,7 +37,8 @@ fn serialize_each<T: Serialize, F: Flavor>(
 ) -> Result<()>
     ensures wrote { Wrote F.Flavor serializer.old.output
         (canonical_all (trees (map T.shape.tree items.now)))
-        (Any T.shape.refuses items.now) T.shape.text result serializer.new.output }
+        (λ e. Any (λ x. T.shape.refusal x e) items.now) T.shape.text result
+        serializer.new.output }
     ensures fits { OnOk result (AllFit T.shape.fits items.now) }
 {
     for item in items {

@@ -5,7 +5,7 @@ use Rattle.postcard_wire.specs.Spelling.{canonical_all}
 use Rattle.postcard_wire.specs.Tree.{trees}
 use Rattle.postcard_shape.proofs.Fitting.{all_append}
 use Rattle.postcard_shape.specs.Lists.{AllFit}
-use Rattle.postcard_ser.specs.Writing.{Wrote}
+use Rattle.postcard_ser.specs.Writing.{Wrote, never}
 use Rattle.postcard_ser.proofs.Elements.{elements_append}
 use Rattle.postcard_ser.proofs.Entries.{any_mid}
 use Rattle.postcard_ser.proofs.PartByPart.{wrote_then, wrote_stop, wrote_err, wrote_ok, wrote_last}
@@ -19,9 +19,9 @@ loop-key-preserved g c =
     record {
       done = done ++ k ∷ [];
       is = append_assoc done (k ∷ []) c.next.new.self ∙ ap (λ z. done ++ z) (sym c.in-Some.ensures.steps) ∙ c.loop-key.invariant.is;
-      wrote = subst (λ z. Wrote g.F.Flavor c.args.serializer.now.output z ⊥ ⊥ (Ok tt) c.serialize.new.serializer.output)
+      wrote = subst (λ z. Wrote g.F.Flavor c.args.serializer.now.output z never ⊥ (Ok tt) c.serialize.new.serializer.output)
           (sym (elements_append s.tree done (k ∷ [])))
-          (wrote_then _ _ c.loop-key.invariant.wrote (wrote_last (wrote_ok c.in_ok-serialize.ensures.wrote)) (λ q. q) (λ t. t));
+          (wrote_then _ _ c.loop-key.invariant.wrote (wrote_last (wrote_ok c.in_ok-serialize.ensures.wrote)) (λ e q. q) (λ t. t));
       fits = all_append s.fits done (k ∷ []) c.loop-key.invariant.fits (c.in_ok-serialize.ensures.fits, tt);
     }
 
@@ -33,10 +33,10 @@ returns-in_err-serialize-clause-wrote g c =
     let rest = c.next.new.self in
     let all : done ++ (k ∷ rest) ≡ c.args.keys.now.keys = ap (λ z. done ++ z) (sym c.in-Some.ensures.steps) ∙ c.loop-key.invariant.is in
     wrote_err _ c.from_residual.ensures.1
-    (subst (λ z. Wrote g.F.Flavor c.args.serializer.now.output (canonical_all (trees (map s.tree z))) (Any s.refuses z) s.text (Err c.in_err-serialize.field-0.0) c.serialize.new.serializer.output) all
-    (subst (λ z. Wrote g.F.Flavor c.args.serializer.now.output z (Any s.refuses (done ++ (k ∷ rest))) s.text (Err c.in_err-serialize.field-0.0) c.serialize.new.serializer.output)
+    (subst (λ z. Wrote g.F.Flavor c.args.serializer.now.output (canonical_all (trees (map s.tree z))) (λ e. Any (λ x. s.refusal x e) z) s.text (Err c.in_err-serialize.field-0.0) c.serialize.new.serializer.output) all
+    (subst (λ z. Wrote g.F.Flavor c.args.serializer.now.output z (λ e. Any (λ x. s.refusal x e) (done ++ (k ∷ rest))) s.text (Err c.in_err-serialize.field-0.0) c.serialize.new.serializer.output)
     (sym (elements_append s.tree done (k ∷ rest)))
-    (wrote_then _ _ c.loop-key.invariant.wrote (wrote_stop _ _ c.in_err-serialize.ensures.wrote (λ q. any_mid {P = s.refuses} done k rest _ refl q) (λ t. t)) (λ q. q) (λ t. t))))
+    (wrote_then _ _ c.loop-key.invariant.wrote (wrote_stop _ _ c.in_err-serialize.ensures.wrote (λ e. any_mid {P = λ x. s.refusal x e} done k rest _ refl) (λ t. t)) (λ e q. q) (λ t. t))))
 
 pub returns-clause-fits : goal.returns-clause-fits
 returns-clause-fits g c =
