@@ -16,11 +16,11 @@ use std::process::Abort;
 struct Unwritable;
 
 impl Shaped for Unwritable {
-    ghost use Rattle.std.specs.Prelude.{⊤};
+    ghost use Rattle.std.specs.Prelude.{◌≡◌};
     ghost use Rattle.postcard_shape.specs.Rows.{none, group};
     ghost use Rattle.postcard_shape.specs.Refusing.{refusing};
 
-    ghost shape = { refusing (λ _. ⊤) (group none) };
+    ghost shape = { refusing (λ _ e. e ≡ Error.SerdeSerCustom) (group none) };
 }
 
 impl Serialize for Unwritable {

@@ -96,7 +96,8 @@ impl Serialize for Both {
 struct Even(u8);
 
 impl Shaped for Even {
-    ghost shape = { refusing (λ v. v.0 % 2 ≡ 1) (via (λ v. v.0) byte) };
+    ghost shape = { refusing (λ v e. (v.0 % 2 ≡ 1) × (e ≡ Error.SerdeSerCustom))
+        (via (λ v. v.0) byte) };
 }
 
 impl Serialize for Even {

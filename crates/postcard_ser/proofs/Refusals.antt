@@ -1,0 +1,13 @@
+-- Calls whose error can only be one by which a value refuses itself.
+use Rattle.std.proofs.Common.{Result, Ok, Err, IfErr, refl}
+use Rattle.std.specs.Result.{IsOk}
+
+-- A call that succeeds returns no error.
+pub no_error : {T E : Type 0} {P : E → Type 0} (r : Result T E) → IsOk r → IfErr r P
+no_error (Ok x) ok = tt
+no_error (Err e) ok = absurd (cc)
+
+-- A call whose error could only be one of none succeeds.
+pub succeeds : {T E : Type 0} {P : E → Type 0} (r : Result T E) → ((e : E) → P e → ⊥) → IfErr r P → IsOk r
+succeeds (Ok x) n h = refl
+succeeds (Err e) n h = absurd (n e h)
