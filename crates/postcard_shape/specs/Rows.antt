@@ -42,6 +42,10 @@ none {V} = record {
   again = λ v f. (refl, refl);
 }
 
+-- The same, as the end of a row of parts.
+abbrev pub no_part : Row (Unit {0})
+no_part = none
+
 -- A part of the shape s, followed by the parts r.
 abbrev pub then : {A B : Type 0} → Shape A → Row B → Row (A × B)
 then s r = record {

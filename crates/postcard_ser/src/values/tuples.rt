@@ -1,7 +1,7 @@
 //! Tuples of one to twelve parts: written as the parts in order, with no count before them.
 
 ghost use Rattle.std.specs.Prelude.{OnOk};
-ghost use Rattle.postcard_shape.specs.Rows.{none, then};
+ghost use Rattle.postcard_shape.specs.Rows.{no_part, then};
 ghost use Rattle.postcard_ser.specs.Writing.{WroteRow};
 
 use crate::serialize::Serialize;
@@ -16,11 +16,11 @@ fn serialize_both<P: Serialize, Q: Serialize, F: Flavor>(
     serializer: &mut Serializer<F>,
 ) -> Result<()>
     ensures wrote { WroteRow F.Flavor serializer.old.output
-        (then P.shape (then Q.shape none))
+        (then P.shape (then Q.shape no_part))
         (first.now, (second.now, tt))
         result serializer.new.output }
     ensures fits { OnOk result
-        ((then P.shape (then Q.shape none)).fits
+        ((then P.shape (then Q.shape no_part)).fits
         (first.now, (second.now, tt))) }
 {
     first.serialize(serializer)?;
@@ -36,11 +36,11 @@ fn serialize_three<P: Serialize, Q: Serialize, R: Serialize, F: Flavor>(
     serializer: &mut Serializer<F>,
 ) -> Result<()>
     ensures wrote { WroteRow F.Flavor serializer.old.output
-        (then P.shape (then Q.shape (then R.shape none)))
+        (then P.shape (then Q.shape (then R.shape no_part)))
         (first.now, (second.now, (third.now, tt)))
         result serializer.new.output }
     ensures fits { OnOk result
-        ((then P.shape (then Q.shape (then R.shape none))).fits
+        ((then P.shape (then Q.shape (then R.shape no_part))).fits
         (first.now, (second.now, (third.now, tt)))) }
 {
     first.serialize(serializer)?;
@@ -56,11 +56,11 @@ fn serialize_four<P: Serialize, Q: Serialize, R: Serialize, S: Serialize, F: Fla
     serializer: &mut Serializer<F>,
 ) -> Result<()>
     ensures wrote { WroteRow F.Flavor serializer.old.output
-        (then P.shape (then Q.shape (then R.shape (then S.shape none))))
+        (then P.shape (then Q.shape (then R.shape (then S.shape no_part))))
         (first.now, (second.now, (third.now, (fourth.now, tt))))
         result serializer.new.output }
     ensures fits { OnOk result
-        ((then P.shape (then Q.shape (then R.shape (then S.shape none)))).fits
+        ((then P.shape (then Q.shape (then R.shape (then S.shape no_part)))).fits
         (first.now, (second.now, (third.now, (fourth.now, tt))))) }
 {
     first.serialize(serializer)?;
@@ -77,11 +77,11 @@ fn serialize_five<P: Serialize, Q: Serialize, R: Serialize, S: Serialize, T: Ser
     serializer: &mut Serializer<F>,
 ) -> Result<()>
     ensures wrote { WroteRow F.Flavor serializer.old.output
-        (then P.shape (then Q.shape (then R.shape (then S.shape (then T.shape none)))))
+        (then P.shape (then Q.shape (then R.shape (then S.shape (then T.shape no_part)))))
         (first.now, (second.now, (third.now, (fourth.now, (fifth.now, tt)))))
         result serializer.new.output }
     ensures fits { OnOk result
-        ((then P.shape (then Q.shape (then R.shape (then S.shape (then T.shape none))))).fits
+        ((then P.shape (then Q.shape (then R.shape (then S.shape (then T.shape no_part))))).fits
         (first.now, (second.now, (third.now, (fourth.now, (fifth.now, tt)))))) }
 {
     first.serialize(serializer)?;
@@ -108,12 +108,12 @@ fn serialize_six<
 ) -> Result<()>
     ensures wrote { WroteRow F.Flavor serializer.old.output
         (then P.shape (then Q.shape (then R.shape (then S.shape (then T.shape (then U.shape
-        none))))))
+        no_part))))))
         (first.now, (second.now, (third.now, (fourth.now, (fifth.now, (sixth.now, tt))))))
         result serializer.new.output }
     ensures fits { OnOk result
         ((then P.shape (then Q.shape (then R.shape (then S.shape (then T.shape (then U.shape
-        none)))))).fits
+        no_part)))))).fits
         (first.now, (second.now, (third.now, (fourth.now, (fifth.now, (sixth.now, tt))))))) }
 {
     first.serialize(serializer)?;
@@ -141,14 +141,14 @@ fn serialize_seven<
     serializer: &mut Serializer<F>,
 ) -> Result<()>
     ensures wrote { WroteRow F.Flavor serializer.old.output
-        (then P.shape (then Q.shape (then R.shape (then S.shape (then T.shape (then U.shape (then
-        V.shape none)))))))
+        (then P.shape (then Q.shape (then R.shape (then S.shape (then T.shape (then U.shape
+        (then V.shape no_part)))))))
         (first.now, (second.now, (third.now, (fourth.now, (fifth.now, (sixth.now, (seventh.now,
         tt)))))))
         result serializer.new.output }
     ensures fits { OnOk result
-        ((then P.shape (then Q.shape (then R.shape (then S.shape (then T.shape (then U.shape (then
-        V.shape none))))))).fits
+        ((then P.shape (then Q.shape (then R.shape (then S.shape (then T.shape (then U.shape
+        (then V.shape no_part))))))).fits
         (first.now, (second.now, (third.now, (fourth.now, (fifth.now, (sixth.now, (seventh.now,
         tt)))))))) }
 {
@@ -179,14 +179,14 @@ fn serialize_eight<
     serializer: &mut Serializer<F>,
 ) -> Result<()>
     ensures wrote { WroteRow F.Flavor serializer.old.output
-        (then P.shape (then Q.shape (then R.shape (then S.shape (then T.shape (then U.shape (then
-        V.shape (then W.shape none))))))))
+        (then P.shape (then Q.shape (then R.shape (then S.shape (then T.shape (then U.shape
+        (then V.shape (then W.shape no_part))))))))
         (first.now, (second.now, (third.now, (fourth.now, (fifth.now, (sixth.now, (seventh.now,
         (eighth.now, tt))))))))
         result serializer.new.output }
     ensures fits { OnOk result
-        ((then P.shape (then Q.shape (then R.shape (then S.shape (then T.shape (then U.shape (then
-        V.shape (then W.shape none)))))))).fits
+        ((then P.shape (then Q.shape (then R.shape (then S.shape (then T.shape (then U.shape
+        (then V.shape (then W.shape no_part)))))))).fits
         (first.now, (second.now, (third.now, (fourth.now, (fifth.now, (sixth.now, (seventh.now,
         (eighth.now, tt))))))))) }
 {
@@ -221,14 +221,14 @@ fn serialize_nine<
     serializer: &mut Serializer<F>,
 ) -> Result<()>
     ensures wrote { WroteRow F.Flavor serializer.old.output
-        (then P.shape (then Q.shape (then R.shape (then S.shape (then T.shape (then U.shape (then
-        V.shape (then W.shape (then X.shape none)))))))))
+        (then P.shape (then Q.shape (then R.shape (then S.shape (then T.shape (then U.shape
+        (then V.shape (then W.shape (then X.shape no_part)))))))))
         (first.now, (second.now, (third.now, (fourth.now, (fifth.now, (sixth.now, (seventh.now,
         (eighth.now, (ninth.now, tt)))))))))
         result serializer.new.output }
     ensures fits { OnOk result
-        ((then P.shape (then Q.shape (then R.shape (then S.shape (then T.shape (then U.shape (then
-        V.shape (then W.shape (then X.shape none))))))))).fits
+        ((then P.shape (then Q.shape (then R.shape (then S.shape (then T.shape (then U.shape
+        (then V.shape (then W.shape (then X.shape no_part))))))))).fits
         (first.now, (second.now, (third.now, (fourth.now, (fifth.now, (sixth.now, (seventh.now,
         (eighth.now, (ninth.now, tt)))))))))) }
 {
@@ -265,14 +265,14 @@ fn serialize_ten<
     serializer: &mut Serializer<F>,
 ) -> Result<()>
     ensures wrote { WroteRow F.Flavor serializer.old.output
-        (then P.shape (then Q.shape (then R.shape (then S.shape (then T.shape (then U.shape (then
-        V.shape (then W.shape (then X.shape (then Y.shape none))))))))))
+        (then P.shape (then Q.shape (then R.shape (then S.shape (then T.shape (then U.shape
+        (then V.shape (then W.shape (then X.shape (then Y.shape no_part))))))))))
         (first.now, (second.now, (third.now, (fourth.now, (fifth.now, (sixth.now, (seventh.now,
         (eighth.now, (ninth.now, (tenth.now, tt))))))))))
         result serializer.new.output }
     ensures fits { OnOk result
-        ((then P.shape (then Q.shape (then R.shape (then S.shape (then T.shape (then U.shape (then
-        V.shape (then W.shape (then X.shape (then Y.shape none)))))))))).fits
+        ((then P.shape (then Q.shape (then R.shape (then S.shape (then T.shape (then U.shape
+        (then V.shape (then W.shape (then X.shape (then Y.shape no_part)))))))))).fits
         (first.now, (second.now, (third.now, (fourth.now, (fifth.now, (sixth.now, (seventh.now,
         (eighth.now, (ninth.now, (tenth.now, tt))))))))))) }
 {
@@ -311,14 +311,15 @@ fn serialize_eleven<
     serializer: &mut Serializer<F>,
 ) -> Result<()>
     ensures wrote { WroteRow F.Flavor serializer.old.output
-        (then P.shape (then Q.shape (then R.shape (then S.shape (then T.shape (then U.shape (then
-        V.shape (then W.shape (then X.shape (then Y.shape (then Z.shape none)))))))))))
+        (then P.shape (then Q.shape (then R.shape (then S.shape (then T.shape (then U.shape
+        (then V.shape (then W.shape (then X.shape (then Y.shape (then Z.shape no_part)))))))))))
         (first.now, (second.now, (third.now, (fourth.now, (fifth.now, (sixth.now, (seventh.now,
         (eighth.now, (ninth.now, (tenth.now, (eleventh.now, tt)))))))))))
         result serializer.new.output }
     ensures fits { OnOk result
-        ((then P.shape (then Q.shape (then R.shape (then S.shape (then T.shape (then U.shape (then
-        V.shape (then W.shape (then X.shape (then Y.shape (then Z.shape none))))))))))).fits
+        ((then P.shape (then Q.shape (then R.shape (then S.shape (then T.shape (then U.shape
+        (then V.shape (then W.shape (then X.shape (then Y.shape (then Z.shape
+        no_part))))))))))).fits
         (first.now, (second.now, (third.now, (fourth.now, (fifth.now, (sixth.now, (seventh.now,
         (eighth.now, (ninth.now, (tenth.now, (eleventh.now, tt)))))))))))) }
 {
@@ -359,16 +360,16 @@ fn serialize_twelve<
     serializer: &mut Serializer<F>,
 ) -> Result<()>
     ensures wrote { WroteRow F.Flavor serializer.old.output
-        (then P.shape (then Q.shape (then R.shape (then S.shape (then T.shape (then U.shape (then
-        V.shape (then W.shape (then X.shape (then Y.shape (then Z.shape (then A.shape
-        none))))))))))))
+        (then P.shape (then Q.shape (then R.shape (then S.shape (then T.shape (then U.shape
+        (then V.shape (then W.shape (then X.shape (then Y.shape (then Z.shape (then A.shape
+        no_part))))))))))))
         (first.now, (second.now, (third.now, (fourth.now, (fifth.now, (sixth.now, (seventh.now,
         (eighth.now, (ninth.now, (tenth.now, (eleventh.now, (twelfth.now, tt))))))))))))
         result serializer.new.output }
     ensures fits { OnOk result
-        ((then P.shape (then Q.shape (then R.shape (then S.shape (then T.shape (then U.shape (then
-        V.shape (then W.shape (then X.shape (then Y.shape (then Z.shape (then A.shape
-        none)))))))))))).fits
+        ((then P.shape (then Q.shape (then R.shape (then S.shape (then T.shape (then U.shape
+        (then V.shape (then W.shape (then X.shape (then Y.shape (then Z.shape (then A.shape
+        no_part)))))))))))).fits
         (first.now, (second.now, (third.now, (fourth.now, (fifth.now, (sixth.now, (seventh.now,
         (eighth.now, (ninth.now, (tenth.now, (eleventh.now, (twelfth.now, tt))))))))))))) }
 {
