@@ -35,12 +35,12 @@ pub too_long : {T : Type 0} (shape : Shape T) (v : T) (e : Error)
     → IsTooLong shape v e
 too_long shape v e own named willing prints = (
   buffer_full named,
-  above (length (canonical (shape.tree v))) 4096 (λ fits. willing e (own fits)),
+  above (length (canonical (shape.tree v))) 4096 (λ fits. willing.has_none e (own fits)),
 ) where
   buffer_full : IsErrorOf shape v e → e ≡ SerializeBufferFull
   buffer_full (inl (inl is)) = is
   buffer_full (inl (inr text)) = absurd (prints text.0)
-  buffer_full (inr refused) = absurd (willing e refused)
+  buffer_full (inr refused) = absurd (willing.has_none e refused)
 
 -- The library's error is that memory is lacking, or else no value is there.
 pub memory_or_none : (grows none : Type 0) (e : Error) → IsReadError grows e → (e ≢ OutOfMemory → none)

@@ -122,7 +122,7 @@ byte_array k = record {
   reads = λ t r. r;
   all = λ t r. r;
   value = λ t b h. h;
-  accepted = λ b e h. h.4;
+  accepted = λ b. record { has_none = λ e h. h.4 };
   silent = λ h. h;
   fixed = λ h. h;
 }

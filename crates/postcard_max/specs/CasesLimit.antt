@@ -8,7 +8,7 @@ use Rattle.postcard_shape.specs.declared.cases.Case.{Case}
 use Rattle.postcard_max.specs.Sizes.{sum_of}
 use Rattle.postcard_max.specs.SizeLimit.{SizeLimit, no_case_limit, case_limit, variants_limit}
 use Rattle.postcard_max.specs.Limits.{IsLimit}
-use Rattle.postcard_max.specs.Willing.{Never, case_never}
+use Rattle.postcard_max.specs.Willing.{never_any, Never, case_never}
 use Rattle.postcard_max.specs.Cases.{CasesBounded, CasesReached, zero_index, no_case_bounded, no_case_reached, case_bounded, case_reached, variants_bounded, variants_reached}
 use Rattle.postcard_wire.specs.declared.error.Error.{Error}
 use Rattle.postcard_shape.specs.Shape.{never}
@@ -24,7 +24,7 @@ pub record IsCasesLimit {V : Type 0} (limit : Option ℕ → SizeLimit) (reads :
 
 -- The limit of no variants holds.
 pub no_case_lawful : {V : Type 0} (i : Option ℕ) → IsCasesLimit no_case_limit (λ j t. ⊥) (λ (v : V). never) i
-no_case_lawful i = record { bounded = no_case_bounded i; is_reached = λ _. no_case_reached i; never_refuses = λ _ v e r. r }
+no_case_lawful i = record { bounded = no_case_bounded i; is_reached = λ _. no_case_reached i; never_refuses = λ _. never_any }
 
 -- The limit of a variant and the variants after it holds if those of both do.
 pub case_lawful : {A R : Type 0} {l : SizeLimit} {m : Option ℕ → SizeLimit} {s : Tree → Type 0} {r : ℕ → Tree → Type 0} {f : A → Error → Type 0} {g : R → Error → Type 0} → IsLimit l s f → ((i : Option ℕ) → IsCasesLimit m r g i)

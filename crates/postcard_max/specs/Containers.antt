@@ -1,13 +1,14 @@
 -- The greatest sizes of options, results, arrays and lists of a fixed capacity, from those of what
 -- they hold (wire format 1.0, "option", "newtype_variant", "tuple" and "seq").
 use Rattle.std.proofs.Common.{◌≡◌, ℕ, zero, suc, ◌+◌, ◌*◌, ◌^◌, ◌<◌, ◌≤◌, inl, inr, true, false, Option, Some, None, length, refl, ap, arith, length-append, nat_lt}
-use Rattle.std.specs.Prelude.{◌⊎◌, max, if◌then◌else◌, List, Any, IsSomeAnd, IsOkAnd, IsErrAnd}
+use Rattle.std.specs.Prelude.{◌⊎◌, max, if◌then◌else◌, List, Any, IsSomeAnd}
 use Rattle.std.proofs.lemmas.Bool.{cases_lt}
 use Rattle.std.proofs.Math.Nat.{mul-le-mul_right}
 use Rattle.postcard_wire.specs.Number.{digits}
 use Rattle.postcard_wire.specs.Tree.{Tree, Trees, Group, Seq, Present, Variant, NoTrees, Then, count}
 use Rattle.postcard_wire.specs.Spelling.{canonical, canonical_all}
 use Rattle.postcard_wire.specs.Reading.{IsOption, IsArray, IsVariant, Each}
+use Rattle.postcard_shape.specs.Choices.{result_refusal}
 use Rattle.postcard_shape.specs.Fixed.{IsFewSeq}
 use Rattle.postcard_shape.specs.Options.{ResultReads}
 use Rattle.postcard_max.specs.Sizes.{limited, sum_of, times, greater_of, varint_len}
@@ -59,7 +60,7 @@ result_reached (Some a) (Some b) F G h k = limited_reached tree_len (1 + max a b
 ])
 
 -- The limit of a result holds if those of its contents do.
-pub result_lawful : {V W : Type 0} {l m : SizeLimit} {F G : Tree → Type 0} {good : V → Error → Type 0} {bad : W → Error → Type 0} → IsLimit l F good → IsLimit m G bad → IsLimit (result_limit l m) (IsVariant (ResultReads F G)) (λ v e. IsOkAnd v (λ x. good x e) ⊎ IsErrAnd v (λ x. bad x e))
+pub result_lawful : {V W : Type 0} {l m : SizeLimit} {F G : Tree → Type 0} {good : V → Error → Type 0} {bad : W → Error → Type 0} → IsLimit l F good → IsLimit m G bad → IsLimit (result_limit l m) (IsVariant (ResultReads F G)) (result_refusal good bad)
 result_lawful {l = l} {m = m} {F = F} {G = G} {good = good} {bad = bad} h k = record {
   bounded = result_bounded l.greatest m.greatest F G h.bounded k.bounded;
   is_reached = λ r. result_reached l.greatest m.greatest F G (h.is_reached r.0) (k.is_reached r.1);

@@ -20,11 +20,12 @@ use Rattle.postcard_max.specs.SizeLimit.{exactly, short_text_limit}
 use Rattle.postcard_max.specs.Limits.{AreBounded, IsReached, IsLimit, tree_len, limited_bounded, limited_reached}
 use Rattle.postcard_max.specs.Counts.{longer_counts, count_len, one_count}
 use Rattle.postcard_shape.specs.Shape.{never}
+use Rattle.postcard_max.specs.Willing.{never_any}
 
 -- The limit of a node holds that takes at most n bytes, in some encoding as many, and whose values
 -- never refuse themselves.
 leaf_lawful : {V : Type 0} {n : ℕ} {reads : Tree → Type 0} → AreBounded (Some n) reads → IsReached (Some n) reads → IsLimit (exactly n) reads (λ (v : V). never)
-leaf_lawful h k = record { bounded = h; is_reached = λ _. k; never_refuses = λ _ v e r. r }
+leaf_lawful h k = record { bounded = h; is_reached = λ _. k; never_refuses = λ _. never_any }
 
 -- A byte takes one byte.
 pub byte_lawful : {V : Type 0} → IsLimit (exactly 1) IsByte (λ (v : V). never)
@@ -147,4 +148,4 @@ short_reached cap fits =
 
 -- The limit of a text of at most cap bytes holds.
 pub short_text_lawful : {V : Type 0} (cap : ℕ) → IsLimit (short_text_limit cap) (IsShortText cap) (λ (v : V). never)
-short_text_lawful cap = record { bounded = short_bounded cap; is_reached = short_reached cap; never_refuses = λ _ v e r. r }
+short_text_lawful cap = record { bounded = short_bounded cap; is_reached = short_reached cap; never_refuses = λ _. never_any }

@@ -8,7 +8,7 @@ use Rattle.postcard_wire.specs.Reading.{IsGroup, IsThen, IsEnd}
 use Rattle.postcard_max.specs.Sizes.{sum_of}
 use Rattle.postcard_max.specs.SizeLimit.{SizeLimit, exactly, then_limit}
 use Rattle.postcard_max.specs.Limits.{AreBounded, IsReached, RowBounded, RowReached, IsLimit, IsRowLimit, tree_len, trees_len, limited_bounded, limited_reached}
-use Rattle.postcard_max.specs.Willing.{then_never}
+use Rattle.postcard_max.specs.Willing.{never_any, then_never}
 use Rattle.postcard_wire.specs.declared.error.Error.{Error}
 use Rattle.postcard_shape.specs.Shape.{never}
 
@@ -21,7 +21,7 @@ end_reached = (NoTrees, refl, refl)
 
 -- The limit of the empty row holds.
 pub end_lawful : {V : Type 0} → IsRowLimit (exactly 0) IsEnd (λ (v : V). never)
-end_lawful = record { bounded = end_bounded; is_reached = λ _. end_reached; never_refuses = λ _ v e r. r }
+end_lawful = record { bounded = end_bounded; is_reached = λ _. end_reached; never_refuses = λ _. never_any }
 
 -- The greatest size of a part and those after it is the sum of both.
 longest_then : (a b : ℕ) (F : Tree → Type 0) (G : Trees → Type 0) → ((t : Tree) → F t → tree_len t ≤ a) → ((ts : Trees) → G ts → trees_len ts ≤ b) → (ts : Trees) → IsThen F G ts → trees_len ts ≤ a + b
@@ -43,7 +43,7 @@ pub then_lawful : {A B : Type 0} {l m : SizeLimit} {F : Tree → Type 0} {G : Tr
 then_lawful {l = l} {m = m} {F = F} {G = G} h k = record {
   bounded = then_bounded l.greatest m.greatest F G h.bounded k.bounded;
   is_reached = λ r. then_reached l.greatest m.greatest F G (h.is_reached r.0) (k.is_reached r.1);
-  never_refuses = λ w v e. then_never (h.never_refuses w.0 v.0 e) (k.never_refuses w.1 v.1 e);
+  never_refuses = λ w v. then_never (h.never_refuses w.0 v.0) (k.never_refuses w.1 v.1);
 }
 
 -- The greatest size of a tuple or a struct is that of its parts in a row.

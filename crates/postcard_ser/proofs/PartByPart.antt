@@ -40,7 +40,7 @@ module _ {S O : Type 0} {F : Ghosts S O} where
     appends = tt;
     has_room = λ _. q;
     named_error = inr q;
-    refused = λ n _. absurd (n e q);
+    refused = λ n _. absurd (n.has_none e q);
     leaves = F.lawful.reaches_self s;
   }
 
@@ -62,7 +62,7 @@ module _ {S O : Type 0} {F : Ghosts S O} where
     appends = tt;
     has_room = λ r. i e (w.has_room (F.lawful.room_front s x y r));
     named_error = error_may i j e w.named_error;
-    refused = λ n d. begins_more x y (w.refused (λ e q. n e (i e q)) d);
+    refused = λ n d. begins_more x y (w.refused (record { has_none = λ e q. n.has_none e (i e q) }) d);
     leaves = w.leaves;
   }
 
@@ -79,7 +79,7 @@ module _ {S O : Type 0} {F : Ghosts S O} where
     appends = tt;
     has_room = λ r. i e (v.has_room (F.lawful.room_rest s t x y r w.appends w.leaves));
     named_error = error_may i j e v.named_error;
-    refused = λ n d. begins_then F.lawful.appended_join x y w.appends (v.refused (λ e q. n e (i e q)) d);
+    refused = λ n d. begins_then F.lawful.appended_join x y w.appends (v.refused (record { has_none = λ e q. n.has_none e (i e q) }) d);
     leaves = F.lawful.reaches_join s t u w.leaves v.leaves;
   }
 
@@ -89,7 +89,7 @@ module _ {S O : Type 0} {F : Ghosts S O} where
     appends = w.appends;
     has_room = λ room. IfErr-weaker r Q R i (w.has_room room);
     named_error = IfErr-weaker r (λ e. IsWriteError T e ⊎ Q e) (λ e. IsWriteError U e ⊎ R e) (error_may i j) w.named_error;
-    refused = λ n. w.refused (λ e q. n e (i e q));
+    refused = λ n. w.refused (record { has_none = λ e q. n.has_none e (i e q) });
     leaves = w.leaves;
   }
 

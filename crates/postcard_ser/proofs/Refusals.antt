@@ -1,6 +1,8 @@
 -- Calls whose error can only be one by which a value refuses itself.
 use Rattle.std.proofs.Common.{Result, Ok, Err, IfErr, refl}
 use Rattle.std.specs.Result.{IsOk}
+use Rattle.postcard_shape.specs.Shape.{IsEmpty}
+use Rattle.postcard_wire.specs.declared.error.Error.{Error}
 
 -- A call that succeeds returns no error.
 pub no_error : {T E : Type 0} {P : E → Type 0} (r : Result T E) → IsOk r → IfErr r P
@@ -8,6 +10,6 @@ no_error (Ok x) ok = tt
 no_error (Err e) ok = absurd (cc)
 
 -- A call whose error could only be one of none succeeds.
-pub succeeds : {T E : Type 0} {P : E → Type 0} (r : Result T E) → ((e : E) → P e → ⊥) → IfErr r P → IsOk r
+pub succeeds : {T : Type 0} {errors : Error → Type 0} (r : Result T Error) → IsEmpty errors → IfErr r errors → IsOk r
 succeeds (Ok x) n h = refl
-succeeds (Err e) n h = absurd (n e h)
+succeeds (Err e) n h = absurd (n.has_none e h)

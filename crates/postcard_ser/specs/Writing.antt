@@ -3,7 +3,7 @@ use Rattle.std.specs.Prelude.{◌≡◌, ◌⊎◌, ℕ, List, Result, OnOk, OnE
 use Rattle.postcard_ser_flavors.specs.Flavor.{AppendsFront}
 use Rattle.postcard_ser_flavors.specs.declared.flavor.Flavor.{Ghosts}
 use Rattle.postcard_shape.specs.Rows.{Row}
-use Rattle.postcard_shape.specs.Shape.{Shape}
+use Rattle.postcard_shape.specs.Shape.{Shape, IsEmpty}
 pub use Rattle.postcard_shape.specs.Shape.{never}
 use Rattle.postcard_wire.specs.Spelling.{canonical_all}
 use Rattle.postcard_wire.specs.declared.error.Error.{Error}
@@ -28,7 +28,7 @@ pub record Wrote {S O : Type 0} (F : Ghosts S O) (s : S) (xs : List ℕ) (refusa
   pub appends : OnOk r (F.appended s xs t)
   pub has_room : F.room s xs → IfErr r refusal
   pub named_error : IfErr r (λ e. IsWriteError text e ⊎ refusal e)
-  pub refused : ((e : Error) → refusal e → ⊥) → F.tidy → OnErr r (AppendsFront F.appended s xs t)
+  pub refused : IsEmpty refusal → F.tidy → OnErr r (AppendsFront F.appended s xs t)
   pub leaves : F.reaches s t
 
 -- The call, whose task was to write the parts v of a row one after the other, returned r and left t.

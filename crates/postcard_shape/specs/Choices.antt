@@ -1,7 +1,8 @@
 -- The shapes of options and results (wire format 1.0, "option" and "newtype_variant").
-use Rattle.std.specs.Prelude.{Option, None, Some, Result, Ok, Err, IsSomeAnd, IsOkAnd, IsErrAnd, ◌⊎◌, ⊤}
+use Rattle.std.specs.Prelude.{Option, None, Some, Result, Ok, Err, IsSomeAnd, ◌⊎◌, ⊤}
 use Rattle.std.proofs.Common.{refl, inl, inr, arith}
 use Rattle.postcard_wire.specs.Reading.{IsOption, IsVariant}
+use Rattle.postcard_wire.specs.declared.error.Error.{Error}
 use Rattle.postcard_wire.proofs.Delimited.{option_delimited, variant_delimited}
 use Rattle.postcard_wire.proofs.WellFormed.{option_well_formed, variant_well_formed}
 use Rattle.postcard_shape.specs.Compound.{option_tree, result_tree}
@@ -43,11 +44,16 @@ pub result_again : {V W : Type 0} (s : Shape V) (e : Shape W) (v : Result V W) �
 result_again s e (Ok v) f = let k = s.again v f in ((0, s.tree v, refl, omega arith, k.0), (0, s.tree v, refl, k.1))
 result_again s e (Err w) f = let k = e.again w f in ((1, e.tree w, refl, omega arith, k.0), (1, e.tree w, refl, k.1))
 
+-- The value in a result, of either variant, refuses itself with the error.
+abbrev pub result_refusal : {V W : Type 0} → (V → Error → Type 0) → (W → Error → Type 0) → Result V W → Error → Type 0
+result_refusal good bad (Ok v) = good v
+result_refusal good bad (Err w) = bad w
+
 -- The shape of a result of values of these shapes.
 abbrev pub result : {V W : Type 0} → Shape V → Shape W → Shape (Result V W)
 result s t = record {
   tree = result_tree s.tree t.tree;
-  refusal = λ v e. IsOkAnd v (λ x. s.refusal x e) ⊎ IsErrAnd v (λ x. t.refusal x e);
+  refusal = result_refusal s.refusal t.refusal;
   text = s.text ⊎ t.text;
   reads = IsVariant (ResultReads s.reads t.reads);
   value = VariantIs (ResultIs s.value t.value);

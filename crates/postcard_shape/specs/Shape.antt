@@ -40,9 +40,13 @@ pub record Shape (V : Type 0) : Type 1 where
 abbrev pub never : Error → Type 0
 never e = ⊥
 
+-- None of these errors is one.
+pub record IsEmpty (errors : Error → Type 0) : Type 0 where
+  pub has_none : (e : Error) → errors e → ⊥
+
 -- The value doesn't refuse itself, by any error.
 abbrev pub IsWilling : {V : Type 0} → Shape V → V → Type 0
-IsWilling s v = (e : Error) → s.refusal v e → ⊥
+IsWilling s v = IsEmpty (s.refusal v)
 
 -- The shape of a type whose values are seen as those of the shape s by `see`.
 abbrev pub via : {V W : Type 0} → (V → W) → Shape W → Shape V

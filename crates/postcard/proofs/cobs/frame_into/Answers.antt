@@ -33,4 +33,4 @@ returns-in-Err-clause-own_error g c few free =
 
 pub returns-in-Err-clause-has_room : goal.returns-in-Err-clause-has_room
 returns-in-Err-clause-has_room g c n few free =
-    absurd (n _ (returns-in-Err-clause-own_error g c few free))
+    absurd (n.has_none _ (returns-in-Err-clause-own_error g c few free))
