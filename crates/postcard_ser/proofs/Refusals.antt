@@ -5,9 +5,9 @@ use Rattle.postcard_shape.specs.Shape.{IsEmpty}
 use Rattle.postcard_wire.specs.declared.error.Error.{Error}
 
 -- A call that succeeds returns no error.
-pub no_error : {T E : Type 0} {P : E → Type 0} (r : Result T E) → IsOk r → IfErr r P
-no_error (Ok x) ok = tt
-no_error (Err e) ok = absurd (cc)
+pub no_error : {T : Type 0} (errors : Error → Type 0) (r : Result T Error) → IsOk r → IfErr r errors
+no_error errors (Ok x) ok = tt
+no_error errors (Err e) ok = absurd (cc)
 
 -- A call whose error could only be one of none succeeds.
 pub succeeds : {T : Type 0} {errors : Error → Type 0} (r : Result T Error) → IsEmpty errors → IfErr r errors → IsOk r

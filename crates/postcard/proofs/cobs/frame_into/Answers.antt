@@ -19,7 +19,7 @@ returns-in-Ok-clause-own_error g c few free =
     let xs = canonical (g.T.Shaped.shape.tree c.args.value.now) in
     let going = c.open.ensures.has_room (one_free g.B.Storage.free_lawful.free_fewer _ xs free) in
     let room = data_room _ xs (c.open.ensures.opens_after_held going) (c.open.ensures.keeps_free going) few free in
-    no_error _ (c.close.ensures.has_room (wrote_closes xs room c.in-Ok.ensures.wrote))
+    no_error _ _ (c.close.ensures.has_room (wrote_closes xs room c.in-Ok.ensures.wrote))
 
 pub returns-in-Ok-clause-has_room : goal.returns-in-Ok-clause-has_room
 returns-in-Ok-clause-has_room g c n few free =

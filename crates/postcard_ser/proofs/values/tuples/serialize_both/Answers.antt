@@ -1,5 +1,6 @@
 -- The first value is written, and then the other.
 use Rattle.std.proofs.Common.{inl, inr}
+use Rattle.std.proofs.lemmas.Result.{on_ok_weaker}
 use Rattle.postcard_ser.proofs.PartByPart.{wrote_then, wrote_stop, wrote_err, wrote_end}
 use Rattle.postcard_ser.proofs.values.tuples.serialize_both.Goals as goal
 
@@ -8,3 +9,6 @@ returns-in_err-serialize-clause-wrote g c = wrote_err _ c.from_residual.ensures.
 
 pub returns-clause-wrote : goal.returns-clause-wrote
 returns-clause-wrote g c = wrote_then _ _ c.in_ok-serialize.ensures.wrote (wrote_end c.serialize-2.ensures.wrote) (λ e. inr) inr
+
+pub returns-clause-fits : goal.returns-clause-fits
+returns-clause-fits g c = on_ok_weaker c.serialize-2.result (λ last. (c.in_ok-serialize.ensures.fits, (last, tt))) c.serialize-2.ensures.fits
