@@ -55,11 +55,11 @@ pub record IsLimitOf {X V : Type 0} (measure : X → ℕ) (limit : SizeLimit) (r
   pub never_refuses : limit.willing → Never refusal
 
 -- A limit holds of the trees that a type reads, and of the type's values.
-abbrev pub IsLimit : {V : Type 0} → SizeLimit → (Tree → Type 0) → (V → Type 0) → Type 0
+abbrev pub IsLimit : {V : Type 0} → SizeLimit → (Tree → Type 0) → (V → Error → Type 0) → Type 0
 IsLimit = IsLimitOf tree_len
 
 -- A limit holds of trees in a row, and of the values of parts in a row.
-abbrev pub IsRowLimit : {V : Type 0} → SizeLimit → (Trees → Type 0) → (V → Type 0) → Type 0
+abbrev pub IsRowLimit : {V : Type 0} → SizeLimit → (Trees → Type 0) → (V → Error → Type 0) → Type 0
 IsRowLimit = IsLimitOf trees_len
 
 -- A limit that holds of values holds of the values that are seen as those.
