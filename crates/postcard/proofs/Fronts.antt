@@ -1,8 +1,9 @@
--- What `to_slice` says of its buffer and its result, from what `write_front` and `lend_front` say.
+-- What `to_slice` and `to_slice_cobs` say of their buffer and their result, from what an attempt to write into it and
+-- `lend_front` say.
 use Rattle.std.proofs.Common.{◌≡◌, ◌≤◌, ◌<◌, ◌⊎◌, ℕ, List, [], ◌∷◌, length, take, drop, ◌++◌, refl, sym, ap, subst, ◌∙◌, Ok, Err, IfOk}
 use Rattle.std.proofs.Math.Seq.{drop-append_seam, take-append_seam}
 use Rattle.std.proofs.Flags.{never_true}
-use Rattle.std.specs.Prelude.{◌↔◌, IfErr}
+use Rattle.std.specs.Prelude.{◌↔◌, IfErr, ⊤}
 use mathlib.Core.Bool.{Bool, true, false, not}
 use lib.Dec.{T}
 use Rattle.postcard_wire.specs.declared.error.Error.{Error}
@@ -21,7 +22,9 @@ use Rattle.postcard_shape.specs.Shape.{Shape, IsWilling}
 use Rattle.postcard_shape.proofs.Again.{is_spelled}
 use Rattle.postcard_ser.specs.Writing.{IsErrorOf}
 use Rattle.postcard.specs.declared.ser.Attempt.{Attempt}
-use Rattle.postcard.specs.Buffers.{FillsFront}
+use Rattle.postcard_cobs.specs.Groups.{made}
+use Rattle.postcard.specs.Frames.{DecodesTo}
+use Rattle.postcard.specs.Lemmas.{frame_decodes}
 use Rattle.postcard.specs.Attempt.{IsAttempt, LendsAttempt}
 
 -- A test that holds is true, and one whose negation holds is false.
@@ -37,43 +40,47 @@ is_false false t = refl
 in_front : (n : ℕ) (bs xs all : List ℕ) → n ≡ length bs → all ≡ bs ++ drop (length bs) xs → take n all ≡ bs
 in_front n bs xs all long is = (λ i. take (long i) (is i)) ∙ take-append_seam bs (drop (length bs) xs)
 
-module _ {V : Type 0} (s : Shape V) (v : V) (old : List ℕ) (d : Attempt) (r : Result (MutBor (List ℕ)) Error) (done : IsAttempt s v old d) (cut : LendsAttempt d r) where
+-- Nothing is said of what is left after a failure.
+pub none_left : (r : Result (MutBor (List ℕ)) Error) → OnErr r ⊤
+none_left (Ok x) = tt
+none_left (Err e) = tt
+
+module _ {V : Type 0} (s : Shape V) (v : V) (xs : List ℕ) (left : List ℕ → Type 0) (old : List ℕ) (d : Attempt) (r : Result (MutBor (List ℕ)) Error) (done : IsAttempt s v xs left old d) (cut : LendsAttempt d r) where
   -- What the caller writes through the front is then at the front of the buffer, before the old
   -- bytes.
-  pub follows_front : (front : List ℕ) → IsOk r → front ++ drop d.count d.all.now ≡ front ++ drop (length (canonical (s.tree v))) old
+  pub follows_front : (front : List ℕ) → IsOk r → front ++ drop d.count d.all.now ≡ front ++ drop (length xs) old
   follows_front front ok =
-      let xs = canonical (s.tree v) in
       let w = done.written (cut.sorts.0 ok) in
       let e : drop d.count d.all.now ≡ drop (length xs) old = (λ i. drop (w.0 i) (w.1 i)) ∙ drop-append_seam xs (drop (length xs) old) in
       ap (λ (l : List ℕ). front ++ l) e
 
   -- After a failure, the buffer is a beginning of the bytes and then the old bytes.
-  pub follows_old : OnErr r (IsWilling s v → FillsFront (canonical (s.tree v)) old d.all.now)
+  pub follows_old : OnErr r (IsWilling s v → left d.all.now)
   follows_old = by_answer r d.failed cut.sorts done.refused
     where
-      by_answer : (r : Result (MutBor (List ℕ)) Error) (b : Bool) → IsOk r ↔ (b ≡ false) → (b ≡ true → IsWilling s v → FillsFront (canonical (s.tree v)) old d.all.now) → OnErr r (IsWilling s v → FillsFront (canonical (s.tree v)) old d.all.now)
+      by_answer : (r : Result (MutBor (List ℕ)) Error) (b : Bool) → IsOk r ↔ (b ≡ false) → (b ≡ true → IsWilling s v → left d.all.now) → OnErr r (IsWilling s v → left d.all.now)
       by_answer (Ok x) b sorts k = tt
       by_answer (Err _) true sorts k = k refl
       by_answer (Err _) false sorts k = absurd (never_true (sorts.1 refl))
 
   -- The front that is lent is the bytes that were to be written.
-  pub gives : IfOk r (λ x. x.now ≡ canonical (s.tree v))
-  gives = by_answer r d.failed cut.sorts cut.front (λ z. in_front d.count (canonical (s.tree v)) old d.all.now (done.written z).0 (done.written z).1)
+  pub gives : IfOk r (λ x. x.now ≡ xs)
+  gives = by_answer r d.failed cut.sorts cut.front (λ z. in_front d.count xs old d.all.now (done.written z).0 (done.written z).1)
     where
-      by_answer : (r : Result (MutBor (List ℕ)) Error) (b : Bool) → IsOk r ↔ (b ≡ false) → IfOk r (λ x. x.now ≡ take d.count d.all.now) → (b ≡ false → take d.count d.all.now ≡ canonical (s.tree v)) → IfOk r (λ x. x.now ≡ canonical (s.tree v))
+      by_answer : (r : Result (MutBor (List ℕ)) Error) (b : Bool) → IsOk r ↔ (b ≡ false) → IfOk r (λ x. x.now ≡ take d.count d.all.now) → (b ≡ false → take d.count d.all.now ≡ xs) → IfOk r (λ x. x.now ≡ xs)
       by_answer (Ok x) b sorts w k = w ∙ k (sorts.0 refl)
       by_answer (Err _) b sorts w k = tt
 
-  -- No other spelling of the tree is as short as the front.
-  pub shortest : IfOk r (λ x. (p : List ℕ) → Spells (s.tree v) p → (p ≡ x.now) ⊎ (length x.now < length p))
-  shortest = by_answer r gives
+  -- No other spelling of the tree is as short as the front, if the bytes are its encoding.
+  pub shortest : xs ≡ canonical (s.tree v) → IfOk r (λ x. (p : List ℕ) → Spells (s.tree v) p → (p ≡ x.now) ⊎ (length x.now < length p))
+  shortest is = by_answer r gives
     where
-      by_answer : (r : Result (MutBor (List ℕ)) Error) → IfOk r (λ x. x.now ≡ canonical (s.tree v)) → IfOk r (λ x. (p : List ℕ) → Spells (s.tree v) p → (p ≡ x.now) ⊎ (length x.now < length p))
-      by_answer (Ok x) h = λ p z. subst (λ (l : List ℕ). (p ≡ l) ⊎ (length l < length p)) (sym h) (least (s.tree v) p z)
+      by_answer : (r : Result (MutBor (List ℕ)) Error) → IfOk r (λ x. x.now ≡ xs) → IfOk r (λ x. (p : List ℕ) → Spells (s.tree v) p → (p ≡ x.now) ⊎ (length x.now < length p))
+      by_answer (Ok x) h = λ p z. subst (λ (l : List ℕ). (p ≡ l) ⊎ (length l < length p)) (sym (h ∙ is)) (least (s.tree v) p z)
       by_answer (Err _) h = tt
 
   -- The call succeeds if and only if the bytes fit the buffer.
-  pub fits_iff : IsWilling s v → IsOk r ↔ (length (canonical (s.tree v)) ≤ length old)
+  pub fits_iff : IsWilling s v → IsOk r ↔ (length xs ≤ length old)
   fits_iff n = let e = done.fits_iff n in ((λ ok. e.0 (cut.sorts.0 ok)), (λ fits. cut.sorts.1 (e.1 fits)))
 
   -- The error of the result has the property that that of the attempt has.
@@ -86,7 +93,7 @@ module _ {V : Type 0} (s : Shape V) (v : V) (old : List ℕ) (d : Attempt) (r : 
       by_answer (Err e) false sorts w k = absurd (never_true (sorts.1 refl))
 
   -- If the bytes fit the buffer, the error is one by which the value refuses itself.
-  pub own_error : length (canonical (s.tree v)) ≤ length old → IfErr r (s.refusal v)
+  pub own_error : length xs ≤ length old → IfErr r (s.refusal v)
   own_error room = error_has (s.refusal v) (done.own_error room)
 
   -- In any case it is one of a refusal by the flavor, or one by which the value refuses itself.
@@ -101,13 +108,21 @@ module _ {V : Type 0} (s : Shape V) (v : V) (old : List ℕ) (d : Attempt) (r : 
       by_answer (Ok x) b sorts k = k (sorts.0 refl)
       by_answer (Err _) b sorts k = tt
 
-  -- The front that is lent spells the tree.
-  pub spelled : IfOk r (λ x. Spells (s.tree v) x.now)
-  spelled = by_answer r gives fits
+  -- The front that is lent spells the tree, if the bytes are its encoding.
+  pub spelled : xs ≡ canonical (s.tree v) → IfOk r (λ x. Spells (s.tree v) x.now)
+  spelled is = by_answer r gives fits
     where
-      by_answer : (r : Result (MutBor (List ℕ)) Error) → IfOk r (λ x. x.now ≡ canonical (s.tree v)) → OnOk r (s.fits v) → IfOk r (λ x. Spells (s.tree v) x.now)
-      by_answer (Ok x) h f = subst (λ (l : List ℕ). Spells (s.tree v) l) (sym h) (is_spelled s v f)
+      by_answer : (r : Result (MutBor (List ℕ)) Error) → IfOk r (λ x. x.now ≡ xs) → OnOk r (s.fits v) → IfOk r (λ x. Spells (s.tree v) x.now)
+      by_answer (Ok x) h f = subst (λ (l : List ℕ). Spells (s.tree v) l) (sym (h ∙ is)) (is_spelled s v f)
       by_answer (Err _) h f = tt
+
+  -- The front that is lent decodes to the data, if the bytes are its frame.
+  pub decodes : (content : List ℕ) → xs ≡ made content → IfOk r (λ x. DecodesTo x.now content)
+  decodes content is = by_answer r gives
+    where
+      by_answer : (r : Result (MutBor (List ℕ)) Error) → IfOk r (λ x. x.now ≡ xs) → IfOk r (λ x. DecodesTo x.now content)
+      by_answer (Ok x) h = frame_decodes x.now content (h ∙ is)
+      by_answer (Err _) h = tt
 
 -- If the whole buffer ends as F of the front, it satisfies any relation that F satisfies.
 module _ {M : Type 1} {𝓤 : Ura M} (𝓛 : Logic 𝓤) (R U : RattleType) (γ : GName) (m : Option GName) (F : U.Denot → R.Denot) (v : R.Denot) (P : U.Denot → R.Denot → Type 0) (P₀ : R.Denot → Type 0) where

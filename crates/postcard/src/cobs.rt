@@ -3,20 +3,23 @@
 //! encoding, and then the zero that ends it, the sentinel.
 
 ghost use Rattle.std.specs.Prelude.{◌≡◌, [], ◌-◌, ◌≤◌, ◌↔◌, ◌++◌, length, take, drop};
-ghost use Rattle.std.specs.Prelude.{IfOk, IfErr, IsOk, OnOk};
+ghost use Rattle.std.specs.Prelude.{IfOk, IfErr, IsOk, OnOk, ⊤};
+ghost use Rattle.std.specs.Borrow.{sem, LendsSoOk, Array, u8};
 ghost use Rattle.postcard_cobs.specs.Groups.{made};
 ghost use Rattle.postcard_wire.specs.Spelling.{canonical};
 ghost use Rattle.postcard_shape.specs.Shape.{IsWilling};
 ghost use Rattle.postcard_ser.specs.Writing.{IsErrorOf};
+ghost use Rattle.postcard.specs.Attempt.{IsAttempt};
 ghost use Rattle.postcard.specs.Buffers.{Fills};
 ghost use Rattle.postcard.specs.Frames.{DecodesTo};
 
+use crate::ser::{Attempt, lend_front};
 use crate::with_flavor::serialize_with_flavor;
 use arrayvec::ArrayVec;
 use postcard_ser::{Serialize, Serializer};
 use postcard_ser_cobs::Cobs;
 use postcard_ser_flavors::{AllocVec, Flavor, HVec, Slice, Storage};
-use postcard_wire::Result;
+use postcard_wire::{Error, Result};
 use std::alloc::Global;
 
 /// Encodes a value as a frame after the bytes that a storage holds, ends the storage, and returns
@@ -63,16 +66,23 @@ pub fn to_vec_cobs<T: Serialize, const B: usize>(value: &T) -> Result<ArrayVec<u
 }
 
 /// Encodes a value as a frame into the front of `buf`, and returns that front, which is the frame
-/// with its sentinel. Nothing is allocated. The bytes after it are unchanged: tests show this, and
-/// [`fill_slice_cobs`] says it in its contract.
+/// with its sentinel. The bytes after it are unchanged. Nothing is allocated.
+///
+/// The clause `writes_back` says what the buffer holds once the loan has ended. A caller with
+/// proofs of its own about the buffer uses [`fill_slice_cobs`], whose plain clauses say the same.
 ///
 /// # Errors
 ///
 /// Fails if and only if the frame is longer than `buf`: with `SerializeBufferFull`, or with
 /// `CollectStrError` for a type whose text may fail to print. A value that refuses itself may fail
-/// in any case, and with an error of its own if `buf` has room for the frame.
-#[tactic(auto, using(crate::specs::Lemmas::frame_decodes))]
+/// in any case, and with an error of its own if `buf` has room for the frame. After a failure the
+/// content of the buffer is unspecified.
 pub fn to_slice_cobs<'a, T: Serialize>(value: &T, buf: &'a mut [u8]) -> Result<&'a mut [u8]>
+    // After a success, the buffer holds what the caller made of the frame, and then the old bytes.
+    ensures* writes_back { sem 𝓛 (LendsSoOk (Array u8 0) (Array u8 0) buf.entry result
+        (λ all front. all ≡ front
+        ++ drop (length (made (canonical (T.shape.tree value.now)))) buf.old)
+        (λ _. ⊤)) }
     ensures gives { IfOk result (λ front. front.now ≡ made (canonical (T.shape.tree value.now))) }
     ensures decodes { IfOk result
         (λ front. DecodesTo front.now (canonical (T.shape.tree value.now))) }
@@ -83,9 +93,7 @@ pub fn to_slice_cobs<'a, T: Serialize>(value: &T, buf: &'a mut [u8]) -> Result<&
     ensures named_error { IfErr result (IsErrorOf T.shape value.now) }
     ensures fits { OnOk result (T.shape.fits value.now) }
 {
-    // For the prover: a slice has fewer than 2^63 bytes, so the frame's length can be counted.
-    let _len = buf.len();
-    framed(value, Slice::new(buf))
+    lend_front(write_frame(value, buf))
 }
 
 /// Encodes a value as a frame after the bytes that a storage holds. Returns the storage in any
@@ -112,26 +120,28 @@ fn frame_into<T: Serialize, B: Storage + Drop>(value: &T, storage: B) -> (B, Res
     }
 }
 
-/// Encodes a value as a frame into the front of a buffer. Returns the whole buffer in any case, and
-/// the number of bytes of the frame with its sentinel, or the error.
-fn write_frame<'a, T: Serialize>(value: &T, buf: &'a mut [u8]) -> (&'a mut [u8], Result<usize>)
-    ensures same_loan { result.0.ghost_name ≡ buf.entry.ghost_name }
-    ensures count_is_length { IfOk result.1
-        (λ count. count ≡ length (made (canonical (T.shape.tree value.now)))) }
-    ensures fills { OnOk result.1
-        (Fills (made (canonical (T.shape.tree value.now))) buf.old result.0.now) }
-    ensures fits_iff { IsWilling T.shape value.now → (IsOk result.1
-        ↔ (length (made (canonical (T.shape.tree value.now))) ≤ length buf.old)) }
-    ensures own_error { length (made (canonical (T.shape.tree value.now))) ≤ length buf.old
-        → IfErr result.1 (T.shape.refusal value.now) }
-    ensures named_error { IfErr result.1 (IsErrorOf T.shape value.now) }
-    ensures fits { OnOk result.1 (T.shape.fits value.now) }
+/// Encodes a value as a frame into the front of a buffer. Returns the whole buffer, the same loan,
+/// with the outcome.
+fn write_frame<'a, T: Serialize>(value: &T, buf: &'a mut [u8]) -> Attempt<'a>
+    ensures same_loan { result.all.ghost_name ≡ buf.entry.ghost_name }
+    ensures attempts { IsAttempt T.shape value.now (made (canonical (T.shape.tree value.now)))
+        (λ _. ⊤) buf.old result }
 {
     let (slice, framed) = frame_into(value, Slice::new(buf));
     let (all, count) = slice.into_parts();
     match framed {
-        Ok(()) => (all, Ok(count)),
-        Err(error) => (all, Err(error)),
+        Ok(()) => Attempt {
+            all,
+            count,
+            failed: false,
+            error: Error::SerializeBufferFull,
+        },
+        Err(error) => Attempt {
+            all,
+            count,
+            failed: true,
+            error,
+        },
     }
 }
 
@@ -147,7 +157,6 @@ fn write_frame<'a, T: Serialize>(value: &T, buf: &'a mut [u8]) -> (&'a mut [u8],
 /// `CollectStrError` for a type whose text may fail to print. A value that refuses itself may fail
 /// in any case, and with an error of its own if `buf` has room for the frame. After a failure the
 /// content of the buffer is unspecified.
-#[tactic(auto, using(crate::proofs::Framed::front_decodes))]
 pub fn fill_slice_cobs<T: Serialize>(value: &T, buf: &mut [u8]) -> Result<usize>
     ensures count_is_length { IfOk result
         (λ count. count ≡ length (made (canonical (T.shape.tree value.now)))) }
@@ -162,8 +171,13 @@ pub fn fill_slice_cobs<T: Serialize>(value: &T, buf: &mut [u8]) -> Result<usize>
     ensures named_error { IfErr result (IsErrorOf T.shape value.now) }
     ensures fits { OnOk result (T.shape.fits value.now) }
 {
-    let (_all, framed) = write_frame(value, buf);
-    framed
+    let Attempt {
+        all: _all,
+        count,
+        failed,
+        error,
+    } = write_frame(value, buf);
+    if failed { Err(error) } else { Ok(count) }
 }
 
 /// Encodes a value as a frame into a new `Vec`, the sentinel included.

@@ -83,18 +83,19 @@ pub fn fill_slice<T: Serialize>(value: &T, buf: &mut [u8]) -> Result<usize>
 
 /// What an attempt to write returns: the whole buffer, the number of bytes written, and the error,
 /// which counts only if the attempt `failed`.
-struct Attempt<'a> {
-    all: &'a mut [u8],
-    count: usize,
-    failed: bool,
-    error: Error,
+pub(crate) struct Attempt<'a> {
+    pub(crate) all: &'a mut [u8],
+    pub(crate) count: usize,
+    pub(crate) failed: bool,
+    pub(crate) error: Error,
 }
 
 /// Writes the value into the front of the buffer, and returns the whole buffer, the same loan, with
 /// the outcome.
 fn write_front<'a, T: Serialize>(value: &T, buf: &'a mut [u8]) -> Attempt<'a>
     ensures same_loan { result.all.ghost_name ≡ buf.entry.ghost_name }
-    ensures attempts { IsAttempt T.shape value.now buf.old result }
+    ensures attempts { IsAttempt T.shape value.now (canonical (T.shape.tree value.now))
+        (FillsFront (canonical (T.shape.tree value.now)) buf.old) buf.old result }
 {
     let mut serializer = Serializer {
         output: Slice::new(buf),
@@ -118,7 +119,7 @@ fn write_front<'a, T: Serialize>(value: &T, buf: &'a mut [u8]) -> Attempt<'a>
 }
 
 /// Returns the front of the buffer that was written, or the error if the attempt failed.
-fn lend_front<'a>(attempt: Attempt<'a>) -> Result<&'a mut [u8]>
+pub(crate) fn lend_front<'a>(attempt: Attempt<'a>) -> Result<&'a mut [u8]>
     requires { attempt.count ≤ length attempt.all.now }
     ensures* writes_back { sem 𝓛 (LendsIfOk (Array u8 0) (Array u8 0) attempt.entry.all result
         (λ front. front ++ drop attempt.entry.count attempt.entry.all.now) attempt.entry.all.now) }

@@ -80,7 +80,7 @@ walk writes lends 𝓤 𝓛 𝓜 𝓡 wired X L gs dict sh dict2 met met2 =
     calls_at ! (framed 𝓤 𝓛.H 𝓜 𝓣) G (writes 𝓤 𝓛 𝓜 𝓡 (code.calls-postcard::ser::write_front 𝓡.env wired) X L gs dict sh dict2 met met2) z
     (and_then ! (get ! refl) (and_then ! (get ! refl) (no_more !))) (λ v.
     use1 𝓛 (later (some (λ (r : Attempt). ((‵ (flft κs.0 qs.0) ⊛ ‵ (flft κ q) ⊛ ‵ (flft κs.1.1.0 qs.1.1.0) ⊛ ‵ ftrue) ⊛ ‵ (D.own_val r (v ∷ []))) ⊛
-    some (λ (ws : Lasts (g.ended X gs dict sh dict2) κs a). ‵ (lasts (g.ended X gs dict sh dict2) κs a ws) ⊛ raw (fact 𝓤 (r.all.ghost_name ≡ γ)) ⊛ raw (fact 𝓤 (IsAttempt s a.0.now xs r)))))) (id⊢ 𝓤 _) $
+    some (λ (ws : Lasts (g.ended X gs dict sh dict2) κs a). ‵ (lasts (g.ended X gs dict sh dict2) κs a ws) ⊛ raw (fact 𝓤 (r.all.ghost_name ≡ γ)) ⊛ raw (fact 𝓤 (IsAttempt s a.0.now ys (FillsFront ys xs) xs r)))))) (id⊢ 𝓤 _) $
     await ! tt $ pick ! (λ r. split ! $ split ! $ move ! (2 ∷ []) $ pick ! (λ ws. split ! $ drop ! $ split ! $ heard ! _ (λ same. heard ! _ (λ made.
     move ! (1 ∷ []) $ peeks ! D _ (shows 𝓛 D) r (v ∷ []) (λ is.
     lands_as ! refl refl (((the_row_laws ℓ).lawful 𝓛).typed r _ is).0 $
@@ -106,14 +106,14 @@ walk writes lends 𝓤 𝓛 𝓜 𝓡 wired X L gs dict sh dict2 met met2 =
     let name = name_if_ok (λ (x : MutBor (List ℕ)). x.ghost_name) w in
     let P : List ℕ → List ℕ → Type 0 = λ x n. IsOk w → n ≡ x ++ drop_list (length ys) xs in let P₀ : List ℕ → Type 0 = λ n. OnErr w (Begun n) in
     move ! (2 ∷ []) $ use1 𝓛 (‵ (follows_so (Array u8 0) (Array u8 0) γ name P P₀)) (follows_such 𝓛 (Array u8 0) (Array u8 0) γ name (λ n. n ++ drop_list r.count r.all.now) r.all.now P P₀
-    (λ x ok. follows_front s a.0.now xs r w made front x ok) (follows_old s a.0.now xs r w made front)) $
-    use0 𝓛 (raw (fact 𝓤 (IfOk w (λ x. Spells (s.tree a.0.now) x.now)))) (fact_i 𝓤 _ (emp 𝓤) (spelled s a.0.now xs r w made front)) $
-    use0 𝓛 (raw (fact 𝓤 (OnOk w (s.fits a.0.now)))) (fact_i 𝓤 _ (emp 𝓤) (fits s a.0.now xs r w made front)) $
-    use0 𝓛 (raw (fact 𝓤 (IfErr w (IsErrorOf s a.0.now)))) (fact_i 𝓤 _ (emp 𝓤) (named_error s a.0.now xs r w made front)) $
-    use0 𝓛 (raw (fact 𝓤 (length ys ≤ length xs → IfErr w (s.refusal a.0.now)))) (fact_i 𝓤 _ (emp 𝓤) (own_error s a.0.now xs r w made front)) $
-    use0 𝓛 (raw (fact 𝓤 (IsWilling s a.0.now → IsOk w ↔ (length ys ≤ length xs)))) (fact_i 𝓤 _ (emp 𝓤) (fits_iff s a.0.now xs r w made front)) $
-    use0 𝓛 (raw (fact 𝓤 (IfOk w (λ x. (p : List ℕ) → Spells (s.tree a.0.now) p → (p ≡ x.now) ⊎ (length x.now < length p))))) (fact_i 𝓤 _ (emp 𝓤) (shortest s a.0.now xs r w made front)) $
-    use0 𝓛 (raw (fact 𝓤 (IfOk w (λ x. x.now ≡ ys)))) (fact_i 𝓤 _ (emp 𝓤) (gives s a.0.now xs r w made front)) $
+    (λ x ok. follows_front s a.0.now ys (FillsFront ys xs) xs r w made front x ok) (follows_old s a.0.now ys (FillsFront ys xs) xs r w made front)) $
+    use0 𝓛 (raw (fact 𝓤 (IfOk w (λ x. Spells (s.tree a.0.now) x.now)))) (fact_i 𝓤 _ (emp 𝓤) (spelled s a.0.now ys (FillsFront ys xs) xs r w made front refl)) $
+    use0 𝓛 (raw (fact 𝓤 (OnOk w (s.fits a.0.now)))) (fact_i 𝓤 _ (emp 𝓤) (fits s a.0.now ys (FillsFront ys xs) xs r w made front)) $
+    use0 𝓛 (raw (fact 𝓤 (IfErr w (IsErrorOf s a.0.now)))) (fact_i 𝓤 _ (emp 𝓤) (named_error s a.0.now ys (FillsFront ys xs) xs r w made front)) $
+    use0 𝓛 (raw (fact 𝓤 (length ys ≤ length xs → IfErr w (s.refusal a.0.now)))) (fact_i 𝓤 _ (emp 𝓤) (own_error s a.0.now ys (FillsFront ys xs) xs r w made front)) $
+    use0 𝓛 (raw (fact 𝓤 (IsWilling s a.0.now → IsOk w ↔ (length ys ≤ length xs)))) (fact_i 𝓤 _ (emp 𝓤) (fits_iff s a.0.now ys (FillsFront ys xs) xs r w made front)) $
+    use0 𝓛 (raw (fact 𝓤 (IfOk w (λ x. (p : List ℕ) → Spells (s.tree a.0.now) p → (p ≡ x.now) ⊎ (length x.now < length p))))) (fact_i 𝓤 _ (emp 𝓤) (shortest s a.0.now ys (FillsFront ys xs) xs r w made front refl)) $
+    use0 𝓛 (raw (fact 𝓤 (IfOk w (λ x. x.now ≡ ys)))) (fact_i 𝓤 _ (emp 𝓤) (gives s a.0.now ys (FillsFront ys xs) xs r w made front)) $
     suffices ! _ (leaves 𝓛 end stayed c y v' w (tt, (tt, tt)) (tt, (tt, tt))) $ nothing ! $ nothing ! $ fjoin ! $ nothing ! $ fjoin ! $ move ! (9 ∷ 0 ∷ 10 ∷ 8 ∷ 1 ∷ 2 ∷ 3 ∷ 4 ∷ 5 ∷ 6 ∷ 7 ∷ []) $ done !)))))))))))))
 
 pub to_slice_spec : {M : Type 1} → statement M
