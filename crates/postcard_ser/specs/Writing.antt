@@ -34,3 +34,7 @@ pub record Wrote {S O : Type 0} (F : Ghosts S O) (s : S) (xs : List ℕ) (refusa
 -- The call, whose task was to write the parts v of a row one after the other, returned r and left t.
 abbrev pub WroteRow : {S O V : Type 0} → Ghosts S O → S → Row V → V → Result (Unit {0}) Error → S → Type 0
 WroteRow F s row v r t = Wrote F s (canonical_all (row.trees v)) (row.refusal v) row.text r t
+
+-- A part of a row, followed by the others.
+abbrev pub part : {A B : Type 0} → A → B → A × B
+part first others = (first, others)

@@ -2,7 +2,7 @@
 
 ghost use Rattle.std.specs.Prelude.{OnOk};
 ghost use Rattle.postcard_shape.specs.Rows.{no_part, then};
-ghost use Rattle.postcard_ser.specs.Writing.{WroteRow};
+ghost use Rattle.postcard_ser.specs.Writing.{WroteRow, part};
 
 use crate::serialize::Serialize;
 use crate::serializer::Serializer;
@@ -17,11 +17,11 @@ fn serialize_both<P: Serialize, Q: Serialize, F: Flavor>(
 ) -> Result<()>
     ensures wrote { WroteRow F.Flavor serializer.old.output
         (then P.shape (then Q.shape no_part))
-        (first.now, (second.now, tt))
+        (part first.now (part second.now tt))
         result serializer.new.output }
     ensures fits { OnOk result
         ((then P.shape (then Q.shape no_part)).fits
-        (first.now, (second.now, tt))) }
+        (part first.now (part second.now tt))) }
 {
     first.serialize(serializer)?;
     second.serialize(serializer)
@@ -37,11 +37,11 @@ fn serialize_three<P: Serialize, Q: Serialize, R: Serialize, F: Flavor>(
 ) -> Result<()>
     ensures wrote { WroteRow F.Flavor serializer.old.output
         (then P.shape (then Q.shape (then R.shape no_part)))
-        (first.now, (second.now, (third.now, tt)))
+        (part first.now (part second.now (part third.now tt)))
         result serializer.new.output }
     ensures fits { OnOk result
         ((then P.shape (then Q.shape (then R.shape no_part))).fits
-        (first.now, (second.now, (third.now, tt)))) }
+        (part first.now (part second.now (part third.now tt)))) }
 {
     first.serialize(serializer)?;
     serialize_both(second, third, serializer)
@@ -57,11 +57,11 @@ fn serialize_four<P: Serialize, Q: Serialize, R: Serialize, S: Serialize, F: Fla
 ) -> Result<()>
     ensures wrote { WroteRow F.Flavor serializer.old.output
         (then P.shape (then Q.shape (then R.shape (then S.shape no_part))))
-        (first.now, (second.now, (third.now, (fourth.now, tt))))
+        (part first.now (part second.now (part third.now (part fourth.now tt))))
         result serializer.new.output }
     ensures fits { OnOk result
         ((then P.shape (then Q.shape (then R.shape (then S.shape no_part)))).fits
-        (first.now, (second.now, (third.now, (fourth.now, tt))))) }
+        (part first.now (part second.now (part third.now (part fourth.now tt))))) }
 {
     first.serialize(serializer)?;
     serialize_three(second, third, fourth, serializer)
@@ -78,11 +78,11 @@ fn serialize_five<P: Serialize, Q: Serialize, R: Serialize, S: Serialize, T: Ser
 ) -> Result<()>
     ensures wrote { WroteRow F.Flavor serializer.old.output
         (then P.shape (then Q.shape (then R.shape (then S.shape (then T.shape no_part)))))
-        (first.now, (second.now, (third.now, (fourth.now, (fifth.now, tt)))))
+        (part first.now (part second.now (part third.now (part fourth.now (part fifth.now tt)))))
         result serializer.new.output }
     ensures fits { OnOk result
         ((then P.shape (then Q.shape (then R.shape (then S.shape (then T.shape no_part))))).fits
-        (first.now, (second.now, (third.now, (fourth.now, (fifth.now, tt)))))) }
+        (part first.now (part second.now (part third.now (part fourth.now (part fifth.now tt)))))) }
 {
     first.serialize(serializer)?;
     serialize_four(second, third, fourth, fifth, serializer)
@@ -109,12 +109,14 @@ fn serialize_six<
     ensures wrote { WroteRow F.Flavor serializer.old.output
         (then P.shape (then Q.shape (then R.shape (then S.shape (then T.shape (then U.shape
         no_part))))))
-        (first.now, (second.now, (third.now, (fourth.now, (fifth.now, (sixth.now, tt))))))
+        (part first.now (part second.now (part third.now (part fourth.now (part fifth.now
+        (part sixth.now tt))))))
         result serializer.new.output }
     ensures fits { OnOk result
         ((then P.shape (then Q.shape (then R.shape (then S.shape (then T.shape (then U.shape
         no_part)))))).fits
-        (first.now, (second.now, (third.now, (fourth.now, (fifth.now, (sixth.now, tt))))))) }
+        (part first.now (part second.now (part third.now (part fourth.now (part fifth.now
+        (part sixth.now tt))))))) }
 {
     first.serialize(serializer)?;
     serialize_five(second, third, fourth, fifth, sixth, serializer)
@@ -143,14 +145,14 @@ fn serialize_seven<
     ensures wrote { WroteRow F.Flavor serializer.old.output
         (then P.shape (then Q.shape (then R.shape (then S.shape (then T.shape (then U.shape
         (then V.shape no_part)))))))
-        (first.now, (second.now, (third.now, (fourth.now, (fifth.now, (sixth.now, (seventh.now,
-        tt)))))))
+        (part first.now (part second.now (part third.now (part fourth.now (part fifth.now
+        (part sixth.now (part seventh.now tt)))))))
         result serializer.new.output }
     ensures fits { OnOk result
         ((then P.shape (then Q.shape (then R.shape (then S.shape (then T.shape (then U.shape
         (then V.shape no_part))))))).fits
-        (first.now, (second.now, (third.now, (fourth.now, (fifth.now, (sixth.now, (seventh.now,
-        tt)))))))) }
+        (part first.now (part second.now (part third.now (part fourth.now (part fifth.now
+        (part sixth.now (part seventh.now tt)))))))) }
 {
     first.serialize(serializer)?;
     serialize_six(second, third, fourth, fifth, sixth, seventh, serializer)
@@ -181,14 +183,14 @@ fn serialize_eight<
     ensures wrote { WroteRow F.Flavor serializer.old.output
         (then P.shape (then Q.shape (then R.shape (then S.shape (then T.shape (then U.shape
         (then V.shape (then W.shape no_part))))))))
-        (first.now, (second.now, (third.now, (fourth.now, (fifth.now, (sixth.now, (seventh.now,
-        (eighth.now, tt))))))))
+        (part first.now (part second.now (part third.now (part fourth.now (part fifth.now
+        (part sixth.now (part seventh.now (part eighth.now tt))))))))
         result serializer.new.output }
     ensures fits { OnOk result
         ((then P.shape (then Q.shape (then R.shape (then S.shape (then T.shape (then U.shape
         (then V.shape (then W.shape no_part)))))))).fits
-        (first.now, (second.now, (third.now, (fourth.now, (fifth.now, (sixth.now, (seventh.now,
-        (eighth.now, tt))))))))) }
+        (part first.now (part second.now (part third.now (part fourth.now (part fifth.now
+        (part sixth.now (part seventh.now (part eighth.now tt))))))))) }
 {
     first.serialize(serializer)?;
     serialize_seven(
@@ -223,14 +225,14 @@ fn serialize_nine<
     ensures wrote { WroteRow F.Flavor serializer.old.output
         (then P.shape (then Q.shape (then R.shape (then S.shape (then T.shape (then U.shape
         (then V.shape (then W.shape (then X.shape no_part)))))))))
-        (first.now, (second.now, (third.now, (fourth.now, (fifth.now, (sixth.now, (seventh.now,
-        (eighth.now, (ninth.now, tt)))))))))
+        (part first.now (part second.now (part third.now (part fourth.now (part fifth.now
+        (part sixth.now (part seventh.now (part eighth.now (part ninth.now tt)))))))))
         result serializer.new.output }
     ensures fits { OnOk result
         ((then P.shape (then Q.shape (then R.shape (then S.shape (then T.shape (then U.shape
         (then V.shape (then W.shape (then X.shape no_part))))))))).fits
-        (first.now, (second.now, (third.now, (fourth.now, (fifth.now, (sixth.now, (seventh.now,
-        (eighth.now, (ninth.now, tt)))))))))) }
+        (part first.now (part second.now (part third.now (part fourth.now (part fifth.now
+        (part sixth.now (part seventh.now (part eighth.now (part ninth.now tt)))))))))) }
 {
     first.serialize(serializer)?;
     serialize_eight(
@@ -267,14 +269,16 @@ fn serialize_ten<
     ensures wrote { WroteRow F.Flavor serializer.old.output
         (then P.shape (then Q.shape (then R.shape (then S.shape (then T.shape (then U.shape
         (then V.shape (then W.shape (then X.shape (then Y.shape no_part))))))))))
-        (first.now, (second.now, (third.now, (fourth.now, (fifth.now, (sixth.now, (seventh.now,
-        (eighth.now, (ninth.now, (tenth.now, tt))))))))))
+        (part first.now (part second.now (part third.now (part fourth.now (part fifth.now
+        (part sixth.now (part seventh.now (part eighth.now (part ninth.now (part tenth.now
+        tt))))))))))
         result serializer.new.output }
     ensures fits { OnOk result
         ((then P.shape (then Q.shape (then R.shape (then S.shape (then T.shape (then U.shape
         (then V.shape (then W.shape (then X.shape (then Y.shape no_part)))))))))).fits
-        (first.now, (second.now, (third.now, (fourth.now, (fifth.now, (sixth.now, (seventh.now,
-        (eighth.now, (ninth.now, (tenth.now, tt))))))))))) }
+        (part first.now (part second.now (part third.now (part fourth.now (part fifth.now
+        (part sixth.now (part seventh.now (part eighth.now (part ninth.now (part tenth.now
+        tt))))))))))) }
 {
     first.serialize(serializer)?;
     serialize_nine(
@@ -313,15 +317,17 @@ fn serialize_eleven<
     ensures wrote { WroteRow F.Flavor serializer.old.output
         (then P.shape (then Q.shape (then R.shape (then S.shape (then T.shape (then U.shape
         (then V.shape (then W.shape (then X.shape (then Y.shape (then Z.shape no_part)))))))))))
-        (first.now, (second.now, (third.now, (fourth.now, (fifth.now, (sixth.now, (seventh.now,
-        (eighth.now, (ninth.now, (tenth.now, (eleventh.now, tt)))))))))))
+        (part first.now (part second.now (part third.now (part fourth.now (part fifth.now
+        (part sixth.now (part seventh.now (part eighth.now (part ninth.now (part tenth.now
+        (part eleventh.now tt)))))))))))
         result serializer.new.output }
     ensures fits { OnOk result
         ((then P.shape (then Q.shape (then R.shape (then S.shape (then T.shape (then U.shape
         (then V.shape (then W.shape (then X.shape (then Y.shape (then Z.shape
         no_part))))))))))).fits
-        (first.now, (second.now, (third.now, (fourth.now, (fifth.now, (sixth.now, (seventh.now,
-        (eighth.now, (ninth.now, (tenth.now, (eleventh.now, tt)))))))))))) }
+        (part first.now (part second.now (part third.now (part fourth.now (part fifth.now
+        (part sixth.now (part seventh.now (part eighth.now (part ninth.now (part tenth.now
+        (part eleventh.now tt)))))))))))) }
 {
     first.serialize(serializer)?;
     serialize_ten(
@@ -363,15 +369,17 @@ fn serialize_twelve<
         (then P.shape (then Q.shape (then R.shape (then S.shape (then T.shape (then U.shape
         (then V.shape (then W.shape (then X.shape (then Y.shape (then Z.shape (then A.shape
         no_part))))))))))))
-        (first.now, (second.now, (third.now, (fourth.now, (fifth.now, (sixth.now, (seventh.now,
-        (eighth.now, (ninth.now, (tenth.now, (eleventh.now, (twelfth.now, tt))))))))))))
+        (part first.now (part second.now (part third.now (part fourth.now (part fifth.now
+        (part sixth.now (part seventh.now (part eighth.now (part ninth.now (part tenth.now
+        (part eleventh.now (part twelfth.now tt))))))))))))
         result serializer.new.output }
     ensures fits { OnOk result
         ((then P.shape (then Q.shape (then R.shape (then S.shape (then T.shape (then U.shape
         (then V.shape (then W.shape (then X.shape (then Y.shape (then Z.shape (then A.shape
         no_part)))))))))))).fits
-        (first.now, (second.now, (third.now, (fourth.now, (fifth.now, (sixth.now, (seventh.now,
-        (eighth.now, (ninth.now, (tenth.now, (eleventh.now, (twelfth.now, tt))))))))))))) }
+        (part first.now (part second.now (part third.now (part fourth.now (part fifth.now
+        (part sixth.now (part seventh.now (part eighth.now (part ninth.now (part tenth.now
+        (part eleventh.now (part twelfth.now tt))))))))))))) }
 {
     first.serialize(serializer)?;
     serialize_eleven(
