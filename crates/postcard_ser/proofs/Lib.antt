@@ -3,3 +3,4 @@ pub mod PartByPart
 pub mod Elements
 pub mod Entries
 pub mod Printed
+pub mod Walked

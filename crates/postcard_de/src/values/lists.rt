@@ -1,4 +1,5 @@
-//! Lists of any length: `Vec<T>`, and `&[u8]`, which is lent from the source.
+//! Lists of any length: `Vec<T>`, `VecDeque<T>`, `LinkedList<T>`, and `&[u8]`, which is lent from
+//! the source.
 
 ghost use Rattle.std.specs.Prelude.{◌≡◌, IfErr};
 ghost use Rattle.postcard_wire.specs.Tree.{Byte};
@@ -14,9 +15,9 @@ use crate::deserializer::Deserializer;
 use crate::element::{ByDeserialize, ByDeserializeOwned};
 use crate::owned::DeserializeOwned;
 use postcard_de_flavors::Flavor;
-use postcard_wire::Result;
+use postcard_wire::{Error, Result};
 use std::alloc::Global;
-use std::collections::VecDeque;
+use std::collections::{LinkedList, VecDeque};
 
 impl<'de> Deserialize<'de> for &'de [u8] {
     fn deserialize<F: Flavor>(_alloc: Global, d: &mut Deserializer<'de, F>) -> Result<Self>
@@ -59,5 +60,30 @@ impl<T: DeserializeOwned> DeserializeOwned for VecDeque<T> {
     ) -> Result<Self> {
         let items = <Vec<T>>::deserialize_owned(alloc, d)?;
         Ok(VecDeque::from_vec(items))
+    }
+}
+
+/// Reads the elements, and then moves each into a node. Fails with `OutOfMemory` if an allocation
+/// fails.
+impl<'de, T: Deserialize<'de>> Deserialize<'de> for LinkedList<T> {
+    fn deserialize<F: Flavor>(alloc: Global, d: &mut Deserializer<'de, F>) -> Result<Self> {
+        let items = <Vec<T>>::deserialize(alloc, d)?;
+        match LinkedList::from_iter(alloc, items) {
+            Ok(linked) => Ok(linked),
+            Err(_) => Err(Error::OutOfMemory),
+        }
+    }
+}
+
+impl<T: DeserializeOwned> DeserializeOwned for LinkedList<T> {
+    fn deserialize_owned<'de, F: Flavor>(
+        alloc: Global,
+        d: &mut Deserializer<'de, F>,
+    ) -> Result<Self> {
+        let items = <Vec<T>>::deserialize_owned(alloc, d)?;
+        match LinkedList::from_iter(alloc, items) {
+            Ok(linked) => Ok(linked),
+            Err(_) => Err(Error::OutOfMemory),
+        }
     }
 }
