@@ -9,6 +9,7 @@ ghost use Rattle.postcard_max.specs.SizeLimit.{IsSize, IsSum};
 
 use crate::max_size::MaxSize;
 use arrayvec::{ArrayString, ArrayVec};
+use std::borrow::Cow;
 use std::cmp::Reverse;
 use std::marker::PhantomData;
 use std::net::{IpAddr, Ipv4Addr, Ipv6Addr, SocketAddr, SocketAddrV4, SocketAddrV6};
@@ -152,6 +153,7 @@ pub fn table<
     ensures wrapping { IsSize ⟦<Wrapping<A> as MaxSize>⟧.limit A.limit.greatest A.limit.reached }
     ensures saturating { IsSize ⟦<Saturating<A> as MaxSize>⟧.limit A.limit.greatest A.limit.reached }
     ensures reverse { IsSize ⟦<Reverse<A> as MaxSize>⟧.limit A.limit.greatest A.limit.reached }
+    ensures cow { IsSize ⟦<Cow<'static, A> as MaxSize>⟧.limit A.limit.greatest A.limit.reached }
     ensures boxed { IsSize ⟦<Box<A> as MaxSize>⟧.limit A.limit.greatest A.limit.reached }
     ensures shared { IsSize ⟦<Rc<A> as MaxSize>⟧.limit A.limit.greatest A.limit.reached }
     ensures shared_by_threads { IsSize ⟦<Arc<A> as MaxSize>⟧.limit A.limit.greatest

@@ -27,7 +27,7 @@ impl DeserializeOwned for PathBuf {
         alloc: Global,
         d: &mut Deserializer<'de, F>,
     ) -> Result<Self> {
-        let text = <String>::deserialize_owned(alloc, d)?;
-        Ok(PathBuf::from(text))
+        let content = <String>::deserialize_owned(alloc, d)?;
+        Ok(PathBuf::from(content))
     }
 }

@@ -23,8 +23,8 @@ impl<T: DeserializeOwned> DeserializeOwned for BoxedSlice<T> {
         alloc: Global,
         d: &mut Deserializer<'de, F>,
     ) -> Result<Self> {
-        let items = <Vec<T>>::deserialize_owned(alloc, d)?;
-        Ok(items.into_boxed_slice())
+        let elements = <Vec<T>>::deserialize_owned(alloc, d)?;
+        Ok(elements.into_boxed_slice())
     }
 }
 
@@ -43,8 +43,8 @@ impl<T: DeserializeOwned> DeserializeOwned for RcSlice<T> {
         alloc: Global,
         d: &mut Deserializer<'de, F>,
     ) -> Result<Self> {
-        let items = <Vec<T>>::deserialize_owned(alloc, d)?;
-        match RcSlice::from_vec(items) {
+        let elements = <Vec<T>>::deserialize_owned(alloc, d)?;
+        match RcSlice::from_vec(elements) {
             Ok(shared) => Ok(shared),
             Err(_) => Err(Error::OutOfMemory),
         }
@@ -66,8 +66,8 @@ impl<T: DeserializeOwned> DeserializeOwned for ArcSlice<T> {
         alloc: Global,
         d: &mut Deserializer<'de, F>,
     ) -> Result<Self> {
-        let items = <Vec<T>>::deserialize_owned(alloc, d)?;
-        match ArcSlice::from_vec(items) {
+        let elements = <Vec<T>>::deserialize_owned(alloc, d)?;
+        match ArcSlice::from_vec(elements) {
             Ok(held) => Ok(held),
             Err(_) => Err(Error::OutOfMemory),
         }
@@ -87,7 +87,7 @@ impl<T: DeserializeOwned> DeserializeOwned for CowSlice<'_, T> {
         alloc: Global,
         d: &mut Deserializer<'de, F>,
     ) -> Result<Self> {
-        let items = <Vec<T>>::deserialize_owned(alloc, d)?;
-        Ok(CowSlice::Owned(items))
+        let elements = <Vec<T>>::deserialize_owned(alloc, d)?;
+        Ok(CowSlice::Owned(elements))
     }
 }

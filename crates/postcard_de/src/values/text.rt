@@ -67,8 +67,8 @@ impl DeserializeOwned for BoxedStr {
         alloc: Global,
         d: &mut Deserializer<'de, F>,
     ) -> Result<Self> {
-        let text = <String>::deserialize_owned(alloc, d)?;
-        Ok(text.into_boxed_str())
+        let content = <String>::deserialize_owned(alloc, d)?;
+        Ok(content.into_boxed_str())
     }
 }
 
@@ -87,8 +87,8 @@ impl DeserializeOwned for RcStr {
         alloc: Global,
         d: &mut Deserializer<'de, F>,
     ) -> Result<Self> {
-        let text = <String>::deserialize_owned(alloc, d)?;
-        match RcStr::from_string(text) {
+        let content = <String>::deserialize_owned(alloc, d)?;
+        match RcStr::from_string(content) {
             Ok(shared) => Ok(shared),
             Err(_) => Err(Error::OutOfMemory),
         }
@@ -110,8 +110,8 @@ impl DeserializeOwned for ArcStr {
         alloc: Global,
         d: &mut Deserializer<'de, F>,
     ) -> Result<Self> {
-        let text = <String>::deserialize_owned(alloc, d)?;
-        match ArcStr::from_string(text) {
+        let content = <String>::deserialize_owned(alloc, d)?;
+        match ArcStr::from_string(content) {
             Ok(held) => Ok(held),
             Err(_) => Err(Error::OutOfMemory),
         }
@@ -131,7 +131,7 @@ impl DeserializeOwned for CowStr<'_> {
         alloc: Global,
         d: &mut Deserializer<'de, F>,
     ) -> Result<Self> {
-        let text = <String>::deserialize_owned(alloc, d)?;
-        Ok(CowStr::Owned(text))
+        let content = <String>::deserialize_owned(alloc, d)?;
+        Ok(CowStr::Owned(content))
     }
 }

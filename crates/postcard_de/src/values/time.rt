@@ -37,7 +37,7 @@ impl DeserializeOwned for Duration {
 /// more.
 impl<'de> Deserialize<'de> for SystemTime {
     fn deserialize<F: Flavor>(alloc: Global, d: &mut Deserializer<'de, F>) -> Result<Self> {
-        let since_1970 = Duration::deserialize(alloc, d)?;
+        let since_1970: Duration = Deserialize::deserialize(alloc, d)?;
         match UNIX_EPOCH.checked_add(since_1970) {
             Some(time) => Ok(time),
             None => Err(Error::SerdeDeCustom),

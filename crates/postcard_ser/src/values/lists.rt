@@ -83,8 +83,8 @@ fn serialize_linked<T: Serialize, F: Flavor>(
         (Any T.shape.refuses items.now) T.shape.text result serializer.new.output }
     ensures fits { OnOk result (AllFit T.shape.fits items.now) }
 {
-    for item in items {
-        item.serialize(serializer)?;
+    for element in items {
+        element.serialize(serializer)?;
     }
     Ok(())
 }
@@ -93,7 +93,8 @@ fn serialize_linked<T: Serialize, F: Flavor>(
 /// an element does.
 impl<T: Serialize> Serialize for LinkedList<T> {
     fn serialize<F: Flavor>(&self, serializer: &mut Serializer<F>) -> Result<()> {
-        serializer.serialize_seq(Some(self.len()))?;
+        let count = self.len();
+        serializer.serialize_seq(Some(count))?;
         serialize_linked(self, serializer)
     }
 }

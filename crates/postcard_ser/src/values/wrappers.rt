@@ -75,8 +75,8 @@ impl<T: Serialize> Serialize for Arc<T> {
 impl<T: Serialize> SerializeRepr for Cow<'_, T> {
     fn serialize_repr<F: Flavor>(&self, serializer: &mut Serializer<F>) -> Result<()> {
         match self {
-            Cow::Borrowed(value) => value.serialize(serializer),
-            Cow::Owned(value) => value.serialize(serializer),
+            Cow::Borrowed(lent) => lent.serialize(serializer),
+            Cow::Owned(kept) => kept.serialize(serializer),
         }
     }
 }
