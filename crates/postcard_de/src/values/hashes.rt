@@ -2,12 +2,16 @@
 
 ghost use Rattle.std.specs.Prelude.{◌≡◌, [], IfErr, IfOk};
 ghost use Rattle.postcard_wire.specs.declared.error.Error.{Error};
+ghost use Rattle.postcard_wire.specs.Spelling.{Spells};
 ghost use Rattle.postcard_shape.specs.Puts.{Puts, PutsKey, PutsPair};
+ghost use Rattle.postcard_de.specs.Reads.{Reads};
+ghost use Rattle.postcard_de.specs.Deserializer.{source_of};
 
 use crate::deserialize::Deserialize;
 use crate::deserializer::Deserializer;
 use crate::owned::DeserializeOwned;
 use postcard_de_flavors::Flavor;
+use postcard_shape::Shaped;
 use postcard_wire::Result;
 use std::alloc::Global;
 use std::collections::{HashMap, HashSet};
@@ -55,15 +59,59 @@ fn map_of<K: Eq + Hash + Drop, V: Drop, S: BuildHasher + Drop>(
     Ok(map)
 }
 
-/// Reads the keys in any order; of equal keys the first is kept. The set hashes by the default of
-/// its hasher. That of std has a fixed seed, by which whoever sends the keys may choose them so that
-/// the set becomes slow: read a `BTreeSet` from input that isn't trusted. Fails with `OutOfMemory`
-/// if an allocation fails.
+/// Reads a set that hashes by `hasher`: the keys in any order, of which the first of equal ones is
+/// kept.
+///
+/// The `deserialize` of `HashSet` takes the default of its hasher. That of std has a fixed seed, by
+/// which whoever sends the keys may choose them so that the set becomes slow. From input that isn't
+/// trusted, read a set by this call with a `RandomState`, or a `BTreeSet`.
+///
+/// # Errors
+///
+/// Fails as reading a list of the keys does, and with `OutOfMemory` if an allocation fails.
+pub fn read_hash_set<'de, K: Deserialize<'de> + Eq + Hash, S: BuildHasher + Drop, F: Flavor>(
+    alloc: Global,
+    d: &mut Deserializer<'de, F>,
+    hasher: S,
+) -> Result<HashSet<K, S>>
+    ensures { Reads F.Flavor Spells ⟦<HashSet<K, S> as Shaped>⟧.shape.reads
+        ⟦<HashSet<K, S> as Shaped>⟧.shape.value ⟦<HashSet<K, S> as Shaped>⟧.shape.grows
+        (source_of d.old) result (source_of d.new) }
+{
+    let keys = <Vec<K>>::deserialize(alloc, d)?;
+    set_of(alloc, keys, hasher)
+}
+
+/// Reads a map that hashes by `hasher`: the pairs in any order, of which the last value of equal keys
+/// is kept.
+///
+/// The `deserialize` of `HashMap` takes the default of its hasher. That of std has a fixed seed, by
+/// which whoever sends the keys may choose them so that the map becomes slow. From input that isn't
+/// trusted, read a map by this call with a `RandomState`, or a `BTreeMap`.
+///
+/// # Errors
+///
+/// Fails as reading a list of the pairs does, and with `OutOfMemory` if an allocation fails.
+pub fn read_hash_map<
+    'de,
+    K: Deserialize<'de> + Eq + Hash,
+    V: Deserialize<'de>,
+    S: BuildHasher + Drop,
+    F: Flavor,
+>(alloc: Global, d: &mut Deserializer<'de, F>, hasher: S) -> Result<HashMap<K, V, S>>
+    ensures { Reads F.Flavor Spells ⟦<HashMap<K, V, S> as Shaped>⟧.shape.reads
+        ⟦<HashMap<K, V, S> as Shaped>⟧.shape.value ⟦<HashMap<K, V, S> as Shaped>⟧.shape.grows
+        (source_of d.old) result (source_of d.new) }
+{
+    let pairs = <Vec<(K, V)>>::deserialize(alloc, d)?;
+    map_of(alloc, pairs, hasher)
+}
+
+/// Reads the set by [`read_hash_set`], with the default of its hasher.
 impl<'de, K: Deserialize<'de> + Eq + Hash, S: BuildHasher + Default + Drop> Deserialize<'de>
     for HashSet<K, S> {
     fn deserialize<F: Flavor>(alloc: Global, d: &mut Deserializer<'de, F>) -> Result<Self> {
-        let keys = <Vec<K>>::deserialize(alloc, d)?;
-        set_of(alloc, keys, S::default())
+        read_hash_set(alloc, d, S::default())
     }
 }
 
@@ -78,10 +126,7 @@ impl<K: DeserializeOwned + Eq + Hash, S: BuildHasher + Default + Drop> Deseriali
     }
 }
 
-/// Reads the pairs in any order; of equal keys the last value is kept. The map hashes by the default
-/// of its hasher. That of std has a fixed seed, by which whoever sends the keys may choose them so
-/// that the map becomes slow: read a `BTreeMap` from input that isn't trusted. Fails with
-/// `OutOfMemory` if an allocation fails.
+/// Reads the map by [`read_hash_map`], with the default of its hasher.
 impl<
     'de,
     K: Deserialize<'de> + Eq + Hash,
@@ -89,13 +134,15 @@ impl<
     S: BuildHasher + Default + Drop,
 > Deserialize<'de> for HashMap<K, V, S> {
     fn deserialize<F: Flavor>(alloc: Global, d: &mut Deserializer<'de, F>) -> Result<Self> {
-        let pairs = <Vec<(K, V)>>::deserialize(alloc, d)?;
-        map_of(alloc, pairs, S::default())
+        read_hash_map(alloc, d, S::default())
     }
 }
 
-impl<K: DeserializeOwned + Eq + Hash, V: DeserializeOwned, S: BuildHasher + Default + Drop>
-    DeserializeOwned for HashMap<K, V, S> {
+impl<
+    K: DeserializeOwned + Eq + Hash,
+    V: DeserializeOwned,
+    S: BuildHasher + Default + Drop,
+> DeserializeOwned for HashMap<K, V, S> {
     fn deserialize_owned<'de, F: Flavor>(
         alloc: Global,
         d: &mut Deserializer<'de, F>,

@@ -21,7 +21,10 @@ impl<
     fn from_repr((front, back): Self::As) -> Self {
         let (first, second, third, fourth, fifth, sixth, seventh, eighth) = front;
         let (ninth, tenth, eleventh, twelfth, thirteenth) = back;
-        (first, second, third, fourth, fifth, sixth, seventh, eighth, ninth, tenth, eleventh, twelfth, thirteenth)
+        (
+            first, second, third, fourth, fifth, sixth, seventh, eighth, ninth, tenth, eleventh,
+            twelfth, thirteenth,
+        )
     }
 }
 
@@ -44,7 +47,10 @@ impl<
     fn from_repr((front, back): Self::As) -> Self {
         let (first, second, third, fourth, fifth, sixth, seventh, eighth) = front;
         let (ninth, tenth, eleventh, twelfth, thirteenth, fourteenth) = back;
-        (first, second, third, fourth, fifth, sixth, seventh, eighth, ninth, tenth, eleventh, twelfth, thirteenth, fourteenth)
+        (
+            first, second, third, fourth, fifth, sixth, seventh, eighth, ninth, tenth, eleventh,
+            twelfth, thirteenth, fourteenth,
+        )
     }
 }
 
@@ -68,7 +74,10 @@ impl<
     fn from_repr((front, back): Self::As) -> Self {
         let (first, second, third, fourth, fifth, sixth, seventh, eighth) = front;
         let (ninth, tenth, eleventh, twelfth, thirteenth, fourteenth, fifteenth) = back;
-        (first, second, third, fourth, fifth, sixth, seventh, eighth, ninth, tenth, eleventh, twelfth, thirteenth, fourteenth, fifteenth)
+        (
+            first, second, third, fourth, fifth, sixth, seventh, eighth, ninth, tenth, eleventh,
+            twelfth, thirteenth, fourteenth, fifteenth,
+        )
     }
 }
 
@@ -93,6 +102,9 @@ impl<
     fn from_repr((front, back): Self::As) -> Self {
         let (first, second, third, fourth, fifth, sixth, seventh, eighth) = front;
         let (ninth, tenth, eleventh, twelfth, thirteenth, fourteenth, fifteenth, sixteenth) = back;
-        (first, second, third, fourth, fifth, sixth, seventh, eighth, ninth, tenth, eleventh, twelfth, thirteenth, fourteenth, fifteenth, sixteenth)
+        (
+            first, second, third, fourth, fifth, sixth, seventh, eighth, ninth, tenth, eleventh,
+            twelfth, thirteenth, fourteenth, fifteenth, sixteenth,
+        )
     }
 }

@@ -1,5 +1,5 @@
-//! Texts and lists in a box, an `Rc`, an `Arc` or a `Cow`, linked lists, heaps, paths, texts of C and
-//! points of time.
+//! Texts and lists in a box, an `Rc`, an `Arc` or a `Cow`, linked lists, heaps, hashed sets and maps,
+//! paths, texts of C and points of time.
 
 use super::users;
 use crate::checks::{Outcome, borrowed, owned_with, sized_with};
@@ -7,7 +7,7 @@ use crate::row::Row;
 use std::alloc::Global;
 use std::borrow::{Cow, CowSlice, CowStr};
 use std::boxed::{BoxedSlice, BoxedStr};
-use std::collections::{BinaryHeap, LinkedList};
+use std::collections::{BinaryHeap, HashMap, HashSet, LinkedList};
 use std::ffi::CString;
 use std::path::{Path, PathBuf};
 use std::rc::{RcSlice, RcStr};
@@ -37,6 +37,8 @@ fn lists<'a>(alloc: Global, row: &'a Row<'_>, scratch: &'a mut [u8]) -> Outcome 
         "Cow<[u8]>" => owned_with::<CowSlice<'a, u8>>(alloc, row, scratch),
         "Cow<u16>" => sized_with::<Cow<'a, u16>>(alloc, row, scratch),
         "LinkedList<u16>" => owned_with::<LinkedList<u16>>(alloc, row, scratch),
+        "HashSet<u8>" => owned_with::<HashSet<u8>>(alloc, row, scratch),
+        "HashMap<u8, u16>" => owned_with::<HashMap<u8, u16>>(alloc, row, scratch),
         "BinaryHeap<u8>" => owned_with::<BinaryHeap<u8>>(alloc, row, scratch),
         _ => users::with_scratch(alloc, row, scratch),
     }

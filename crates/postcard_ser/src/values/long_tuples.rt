@@ -23,10 +23,24 @@ impl<
     N: Serialize,
 > SerializeRepr for (A, B, C, D, E, G, H, I, J, K, L, M, N) {
     fn serialize_repr<F: Flavor>(&self, serializer: &mut Serializer<F>) -> Result<()> {
-        let (first, second, third, fourth, fifth, sixth, seventh, eighth, ninth, tenth, eleventh, twelfth, thirteenth) = self;
+        let (
+            first,
+            second,
+            third,
+            fourth,
+            fifth,
+            sixth,
+            seventh,
+            eighth,
+            ninth,
+            tenth,
+            eleventh,
+            twelfth,
+            thirteenth,
+        ) = self;
         let front = (first, second, third, fourth, fifth, sixth, seventh, eighth);
-        let back = (ninth, tenth, eleventh, twelfth, thirteenth);
-        (front, back).serialize(serializer)
+        let five = (ninth, tenth, eleventh, twelfth, thirteenth);
+        (front, five).serialize(serializer)
     }
 }
 
@@ -48,10 +62,25 @@ impl<
     O: Serialize,
 > SerializeRepr for (A, B, C, D, E, G, H, I, J, K, L, M, N, O) {
     fn serialize_repr<F: Flavor>(&self, serializer: &mut Serializer<F>) -> Result<()> {
-        let (first, second, third, fourth, fifth, sixth, seventh, eighth, ninth, tenth, eleventh, twelfth, thirteenth, fourteenth) = self;
+        let (
+            first,
+            second,
+            third,
+            fourth,
+            fifth,
+            sixth,
+            seventh,
+            eighth,
+            ninth,
+            tenth,
+            eleventh,
+            twelfth,
+            thirteenth,
+            fourteenth,
+        ) = self;
         let front = (first, second, third, fourth, fifth, sixth, seventh, eighth);
-        let back = (ninth, tenth, eleventh, twelfth, thirteenth, fourteenth);
-        (front, back).serialize(serializer)
+        let six = (ninth, tenth, eleventh, twelfth, thirteenth, fourteenth);
+        (front, six).serialize(serializer)
     }
 }
 
@@ -74,10 +103,28 @@ impl<
     P: Serialize,
 > SerializeRepr for (A, B, C, D, E, G, H, I, J, K, L, M, N, O, P) {
     fn serialize_repr<F: Flavor>(&self, serializer: &mut Serializer<F>) -> Result<()> {
-        let (first, second, third, fourth, fifth, sixth, seventh, eighth, ninth, tenth, eleventh, twelfth, thirteenth, fourteenth, fifteenth) = self;
+        let (
+            first,
+            second,
+            third,
+            fourth,
+            fifth,
+            sixth,
+            seventh,
+            eighth,
+            ninth,
+            tenth,
+            eleventh,
+            twelfth,
+            thirteenth,
+            fourteenth,
+            fifteenth,
+        ) = self;
         let front = (first, second, third, fourth, fifth, sixth, seventh, eighth);
-        let back = (ninth, tenth, eleventh, twelfth, thirteenth, fourteenth, fifteenth);
-        (front, back).serialize(serializer)
+        let seven = (
+            ninth, tenth, eleventh, twelfth, thirteenth, fourteenth, fifteenth,
+        );
+        (front, seven).serialize(serializer)
     }
 }
 
@@ -101,9 +148,28 @@ impl<
     Q: Serialize,
 > SerializeRepr for (A, B, C, D, E, G, H, I, J, K, L, M, N, O, P, Q) {
     fn serialize_repr<F: Flavor>(&self, serializer: &mut Serializer<F>) -> Result<()> {
-        let (first, second, third, fourth, fifth, sixth, seventh, eighth, ninth, tenth, eleventh, twelfth, thirteenth, fourteenth, fifteenth, sixteenth) = self;
+        let (
+            first,
+            second,
+            third,
+            fourth,
+            fifth,
+            sixth,
+            seventh,
+            eighth,
+            ninth,
+            tenth,
+            eleventh,
+            twelfth,
+            thirteenth,
+            fourteenth,
+            fifteenth,
+            sixteenth,
+        ) = self;
         let front = (first, second, third, fourth, fifth, sixth, seventh, eighth);
-        let back = (ninth, tenth, eleventh, twelfth, thirteenth, fourteenth, fifteenth, sixteenth);
-        (front, back).serialize(serializer)
+        let eight = (
+            ninth, tenth, eleventh, twelfth, thirteenth, fourteenth, fifteenth, sixteenth,
+        );
+        (front, eight).serialize(serializer)
     }
 }

@@ -20,8 +20,10 @@ impl<
 > Repr for (A, B, C, D, E, G, H, I, J, K, L, M, N) {
     type As = ((A, B, C, D, E, G, H, I), (J, K, L, M, N));
 
-    ghost repr = { λ (a, (b, (c, (d, (e, (f, (g, (h, (i, (j, (k, (l, (m, _))))))))))))). ((a, b, c, d, e, f, g, h),
-        (i, j, k, l, m)) };
+    ghost repr = { λ (a, (b, (c, (d, (e, (f, (g, (h, (i, (j, (k, (l, (m, _))))))))))))). (
+      (a, b, c, d, e, f, g, h),
+      (i, j, k, l, m),
+    ) };
 }
 
 impl<
@@ -42,8 +44,10 @@ impl<
 > Repr for (A, B, C, D, E, G, H, I, J, K, L, M, N, O) {
     type As = ((A, B, C, D, E, G, H, I), (J, K, L, M, N, O));
 
-    ghost repr = { λ (a, (b, (c, (d, (e, (f, (g, (h, (i, (j, (k, (l, (m, (n, _)))))))))))))). ((a, b, c, d, e, f, g, h),
-        (i, j, k, l, m, n)) };
+    ghost repr = { λ (a, (b, (c, (d, (e, (f, (g, (h, (i, (j, (k, (l, (m, (n, _)))))))))))))). (
+      (a, b, c, d, e, f, g, h),
+      (i, j, k, l, m, n),
+    ) };
 }
 
 impl<
@@ -65,8 +69,10 @@ impl<
 > Repr for (A, B, C, D, E, G, H, I, J, K, L, M, N, O, P) {
     type As = ((A, B, C, D, E, G, H, I), (J, K, L, M, N, O, P));
 
-    ghost repr = { λ (a, (b, (c, (d, (e, (f, (g, (h, (i, (j, (k, (l, (m, (n, (o, _))))))))))))))). ((a, b, c, d, e, f, g, h),
-        (i, j, k, l, m, n, o)) };
+    ghost repr = { λ (a, (b, (c, (d, (e, (f, (g, (h, (i, (j, (k, (l, (m, (n, (o, _))))))))))))))). (
+      (a, b, c, d, e, f, g, h),
+      (i, j, k, l, m, n, o),
+    ) };
 }
 
 impl<
@@ -89,6 +95,8 @@ impl<
 > Repr for (A, B, C, D, E, G, H, I, J, K, L, M, N, O, P, Q) {
     type As = ((A, B, C, D, E, G, H, I), (J, K, L, M, N, O, P, Q));
 
-    ghost repr = { λ (a, (b, (c, (d, (e, (f, (g, (h, (i, (j, (k, (l, (m, (n, (o, (p, _)))))))))))))))). ((a, b, c, d, e, f, g, h),
-        (i, j, k, l, m, n, o, p)) };
+    ghost repr = { λ (a, (b, (c, (d, (e, (f, (g, (h, (i, (j, (k, (l, (m, (n, (o, (p, _)))))))))))))))). (
+      (a, b, c, d, e, f, g, h),
+      (i, j, k, l, m, n, o, p),
+    ) };
 }

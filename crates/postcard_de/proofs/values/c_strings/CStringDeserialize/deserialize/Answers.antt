@@ -13,6 +13,6 @@ returns-in-None g c =
     let bytes = c.in_ok-bytes.bytes.items in
     unfit tt (λ t a. a.0)
     (λ t (a, (v, h, clean)) k.
-        let one : v ≡ bytes = same_list v bytes (list_one (λ (l : List ℕ). l) (λ s b. s ≡ Byte b) (λ b d. b ≡ d) byte_one t v bytes h k) in
-        at_none c.in-None.is c.in_ok-text.ensures.none (subst (λ (l : List ℕ). HasNoNul l) one clean))
+    let one : v ≡ bytes = same_list v bytes (list_one (λ (l : List ℕ). l) (λ s b. s ≡ Byte b) (λ b d. b ≡ d) byte_one t v bytes h k) in
+    at_none c.in-None.is c.in_ok-text.ensures.none (subst (λ (l : List ℕ). HasNoNul l) one clean))
     c.in_ok-bytes.ensures
