@@ -38,3 +38,4 @@ pub use postcard_de_flavors::{Flavor, Slice, flavor, slice};
 pub use postcard_shape::{Case, NoCase, Part, Repr, Shaped};
 pub use postcard_wire::{Error, Result};
 pub use repr::FromRepr;
+pub use values::hashes::{read_hash_map, read_hash_set};

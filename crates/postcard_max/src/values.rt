@@ -2,6 +2,7 @@
 
 mod fixed;
 mod floats;
+mod long_tuples;
 mod net;
 mod nonzero;
 mod numbers;

@@ -4,3 +4,4 @@ pub mod Refusals
 pub mod Elements
 pub mod Entries
 pub mod Printed
+pub mod Walked
