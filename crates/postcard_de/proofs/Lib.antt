@@ -6,3 +6,4 @@ pub mod Entries
 pub mod Groups
 pub mod Mapped
 mod Addresses
+pub mod Alike
