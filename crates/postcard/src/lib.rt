@@ -57,10 +57,10 @@ pub use postcard_crc::ser::{
 };
 pub use postcard_de::{
     Case, Deserialize, DeserializeOwned, Deserializer, FromRepr, MapAccess, NoCase, Owned, Repr,
-    SeqAccess, Shaped, read_hash_map, read_hash_set,
+    SeqAccess, Shaped, from_bytes, read_hash_map, read_hash_set, take_from_bytes,
 };
 pub use postcard_fixint as fixint;
-pub use postcard_frame::{from_bytes, from_bytes_cobs, take_from_bytes, take_from_bytes_cobs};
+pub use postcard_frame::{from_bytes_cobs, take_from_bytes_cobs};
 pub use postcard_ser::{Serialize, SerializeRepr, Serializer, serialize_variant};
 pub use postcard_wire::{Error, Result};
 pub use ser::{fill_slice, to_slice};

@@ -7,7 +7,7 @@ use Rattle.postcard_wire.specs.Spelling.{canonical}
 use Rattle.postcard_wire.specs.declared.error.Error.{Error}
 use Rattle.postcard_wire.specs.declared.error.Error.TheVariants.{OutOfMemory, SerializeBufferFull}
 use Rattle.postcard_shape.specs.Shape.{Shape}
-use Rattle.postcard_frame.specs.Front.{ReadsFront}
+use Rattle.postcard_de.specs.Front.{ReadsFront}
 use Rattle.postcard_ser.specs.Writing.{IsErrorOf}
 use Rattle.postcard_de.specs.Reads.{IsReadError}
 use Rattle.postcard_cli.specs.Command.{IsCallOf}

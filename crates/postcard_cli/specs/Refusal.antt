@@ -8,7 +8,7 @@ use Rattle.postcard_wire.specs.Spelling.{canonical}
 use Rattle.postcard_wire.specs.declared.error.Error.{Error}
 use Rattle.postcard_wire.specs.declared.error.Error.TheVariants.{OutOfMemory, SerializeBufferFull, WontImplement}
 use Rattle.postcard_shape.specs.Shape.{Shape, IsWilling}
-use Rattle.postcard_frame.specs.Front.{ReadsFront}
+use Rattle.postcard_de.specs.Front.{ReadsFront}
 use Rattle.postcard_de.specs.Reads.{IsReadError}
 use Rattle.postcard_dyn_schema.specs.declared.schema.Schema.{Schema}
 use Rattle.postcard_dyn_schema.specs.declared.error.ExpressionError.{ExpressionError}

@@ -7,3 +7,4 @@ pub mod Groups
 pub mod Mapped
 mod Addresses
 pub mod CStrings
+pub mod Alike

@@ -48,7 +48,7 @@ fn serialize_pairs<K: Serialize + Eq + Hash, V: Serialize, S: BuildHasher, F: Fl
 ) -> Result<()>
     ensures wrote { Wrote F.Flavor serializer.old.output
         (canonical_all (trees (map (pair K.shape V.shape).tree entries.now.entries)))
-        (Any (pair K.shape V.shape).refuses entries.now.entries)
+        (λ e. Any (λ x. (pair K.shape V.shape).refusal x e) entries.now.entries)
         (pair K.shape V.shape).text result serializer.new.output }
     ensures fits { OnOk result (AllFit (pair K.shape V.shape).fits entries.now.entries) }
 {
