@@ -1,7 +1,7 @@
 -- The greatest sizes of options, results, arrays and lists of a fixed capacity, from those of what
 -- they hold (wire format 1.0, "option", "newtype_variant", "tuple" and "seq").
 use Rattle.std.proofs.Common.{◌≡◌, ℕ, zero, suc, ◌+◌, ◌*◌, ◌^◌, ◌<◌, ◌≤◌, inl, inr, true, false, Option, Some, None, length, refl, ap, arith, length-append, nat_lt}
-use Rattle.std.specs.Prelude.{◌⊎◌, max, if◌then◌else◌, List, Any, IsSomeAnd}
+use Rattle.std.specs.Prelude.{max, if◌then◌else◌, List, Any, IsSomeAnd}
 use Rattle.std.proofs.lemmas.Bool.{cases_lt}
 use Rattle.std.proofs.Math.Nat.{mul-le-mul_right}
 use Rattle.postcard_wire.specs.Number.{digits}

@@ -1,5 +1,5 @@
 -- A value that is written part by part: what the calls did together, from what each did.
-use Rattle.std.proofs.Common.{◌≡◌, ◌⊎◌, inl, inr, Result, Ok, Err, IfErr, IsErrAnd, ℕ, List, [], ◌++◌, refl, append-nil}
+use Rattle.std.proofs.Common.{◌≡◌, ◌⊎◌, inl, inr, Result, Ok, Err, IsErrAnd, ℕ, List, [], ◌++◌, append-nil}
 use Rattle.std.proofs.lemmas.Result.{IfErr-weaker, err_from_is_err_and}
 use Rattle.postcard_wire.specs.declared.error.Error.{Error}
 use Rattle.postcard_ser_flavors.specs.declared.flavor.Flavor.{Ghosts}

@@ -1,6 +1,6 @@
 -- `to_slice_cobs`: two calls, after which the buffer follows what the second lends. Assumes `Logic`.
 use Rattle.postcard_memory.proofs.Steps.{ℕ, MutBor, List, [], ◌∷◌, ◌≡◌, refl, id⊢, ‵, raw, ◌⊛◌, some, later, await, pick, tables, ftrue, flft, named, ◌$◌, ◌∵◌, !, qed, move, split, drop, join, fjoin, rewrite, done, enter, alloc_all, pass_all, free_all, look_at, look_in_at, get, get_in, sets, fld, hop, from, stop, agg, addr, and_then, no_more, returns, sub, whole, plain, yes, no, u8, heard, peeks, shows, lands_as, use1, use2, Stays, walk_of, stay_dropped, Goes-dropped, Goes-spent_slice, suffices, nothing, MutSlice, mut_slice_vals, mut_slice_Tells, fact, proved, calls_at, lasts, triple_of, framed}
-use Rattle.std.proofs.Common.{◌≤◌, ◌<◌, ◌⊎◌, ◌^◌, ◌++◌, length, drop as drop_list}
+use Rattle.std.proofs.Common.{◌≤◌, ◌<◌, ◌^◌, ◌++◌, length, drop as drop_list}
 use Rattle.std.proofs.raw_atomic.Walks.{leaves}
 use base.Logic.{emp}
 use contract.Monad.{fact_i}
