@@ -5,9 +5,9 @@
 //! memory, what holds of every value that a program has, and the laws: the encodings are
 //! prefix-free, what is read is well formed, the values of one tree look alike, and what was
 //! written is read again. Each combinator (`specs/Shape.antt`, `Leaves.antt`, `Lists.antt`,
-//! `Choices.antt`, `Rows.antt`, `Cases.antt`, `Enumerations.antt`, `Entries.antt`, `Spans.antt`,
-//! `Refusing.antt`, `Only.antt`) makes a shape from those of its parts, laws included, so that a
-//! type says its shape in one line.
+//! `Choices.antt`, `Rows.antt`, `Cases.antt`, `Enumerations.antt`, `Entries.antt`, `Sets.antt`,
+//! `Puts.antt`, `Heaps.antt`, `Spans.antt`, `Refusing.antt`, `Only.antt`) makes a shape from those
+//! of its parts, laws included, so that a type says its shape in one line.
 //!
 //! In reading order: [`shape`] has the traits, [`rows`] and [`cases`] what tuples and enums are
 //! written and read as, `values` the types of std and of `arrayvec`.
