@@ -79,11 +79,13 @@ fn bytes_after_a_value(rt: HostRuntime) {
 #[test]
 fn a_set_and_a_map_of_random_seeds(rt: HostRuntime) -> std::result::Result<(), Fail> {
     let mut d = Deserializer::from_bytes(&[0x02, 0x05, 0x07, 0x01, 0x06, 0x01]);
-    let set: HashSet<u8, RandomState> =
-        read_hash_set(rt.alloc(), &mut d, RandomState::new(&rt)?)?;
+    let set: HashSet<u8, RandomState> = read_hash_set(rt.alloc(), &mut d, RandomState::new(&rt)?)?;
     same(&rt, (set.len(), set.contains(&7)), (2, true));
-    let map: HashMap<u8, u8, RandomState> =
-        read_hash_map(rt.alloc(), &mut d, RandomState::new(&rt)?)?;
+    let map: HashMap<u8, u8, RandomState> = read_hash_map(
+        rt.alloc(),
+        &mut d,
+        RandomState::new(&rt)?,
+    )?;
     same(&rt, (map.len(), map.get(&6).copied()), (1, Some(1)));
     Ok(())
 }
