@@ -5,7 +5,7 @@ ghost use Rattle.std.specs.Prelude.{◌≤◌, length, Some, IfSome, [], ◌∷�
 ghost use Rattle.postcard_wire.specs.Spelling.{canonical};
 ghost use Rattle.postcard_shape.specs.Shape.{IsWilling};
 ghost use Rattle.postcard_max.specs.Limits.{AreBounded, IsReached};
-ghost use Rattle.postcard_max.specs.Sizes.{sum_of, sum_all, times, greater_of, varint_len};
+ghost use Rattle.postcard_max.specs.Sizes.{sum_of, times, greater_of, varint_len};
 ghost use Rattle.postcard_max.specs.SizeLimit.{IsSize, IsSum};
 
 use crate::max_size::MaxSize;
@@ -57,10 +57,6 @@ pub fn table<
     K: MaxSize,
     L: MaxSize,
     M: MaxSize,
-    O: MaxSize,
-    P: MaxSize,
-    Q: MaxSize,
-    R: MaxSize,
     const N: usize,
 >()
     ensures of_bool { IsSize ⟦<bool as MaxSize>⟧.limit (Some 1) ⊤ }
@@ -144,42 +140,6 @@ pub fn table<
         (A.limit.reached × B.limit.reached × C.limit.reached × D.limit.reached × E.limit.reached
         × G.limit.reached × H.limit.reached × I.limit.reached × J.limit.reached × K.limit.reached
         × L.limit.reached × M.limit.reached) }
-    ensures tuple_of_thirteen { IsSum ⟦<(A, B, C, D, E, G, H, I, J, K, L, M, O) as MaxSize>⟧.limit
-        (sum_all (A.limit.greatest ∷ B.limit.greatest ∷ C.limit.greatest ∷ D.limit.greatest ∷
-        E.limit.greatest ∷ G.limit.greatest ∷ H.limit.greatest ∷ I.limit.greatest ∷ [])
-        ∷ sum_all (J.limit.greatest ∷ K.limit.greatest ∷ L.limit.greatest ∷ M.limit.greatest ∷
-        O.limit.greatest ∷ []) ∷ [])
-        (A.limit.reached × B.limit.reached × C.limit.reached × D.limit.reached
-        × E.limit.reached × G.limit.reached × H.limit.reached × I.limit.reached
-        × J.limit.reached × K.limit.reached × L.limit.reached × M.limit.reached
-        × O.limit.reached) }
-    ensures tuple_of_fourteen { IsSum ⟦<(A, B, C, D, E, G, H, I, J, K, L, M, O, P) as MaxSize>⟧.limit
-        (sum_all (A.limit.greatest ∷ B.limit.greatest ∷ C.limit.greatest ∷ D.limit.greatest ∷
-        E.limit.greatest ∷ G.limit.greatest ∷ H.limit.greatest ∷ I.limit.greatest ∷ [])
-        ∷ sum_all (J.limit.greatest ∷ K.limit.greatest ∷ L.limit.greatest ∷ M.limit.greatest ∷
-        O.limit.greatest ∷ P.limit.greatest ∷ []) ∷ [])
-        (A.limit.reached × B.limit.reached × C.limit.reached × D.limit.reached
-        × E.limit.reached × G.limit.reached × H.limit.reached × I.limit.reached
-        × J.limit.reached × K.limit.reached × L.limit.reached × M.limit.reached
-        × O.limit.reached × P.limit.reached) }
-    ensures tuple_of_fifteen { IsSum ⟦<(A, B, C, D, E, G, H, I, J, K, L, M, O, P, Q) as MaxSize>⟧.limit
-        (sum_all (A.limit.greatest ∷ B.limit.greatest ∷ C.limit.greatest ∷ D.limit.greatest ∷
-        E.limit.greatest ∷ G.limit.greatest ∷ H.limit.greatest ∷ I.limit.greatest ∷ [])
-        ∷ sum_all (J.limit.greatest ∷ K.limit.greatest ∷ L.limit.greatest ∷ M.limit.greatest ∷
-        O.limit.greatest ∷ P.limit.greatest ∷ Q.limit.greatest ∷ []) ∷ [])
-        (A.limit.reached × B.limit.reached × C.limit.reached × D.limit.reached
-        × E.limit.reached × G.limit.reached × H.limit.reached × I.limit.reached
-        × J.limit.reached × K.limit.reached × L.limit.reached × M.limit.reached
-        × O.limit.reached × P.limit.reached × Q.limit.reached) }
-    ensures tuple_of_sixteen { IsSum ⟦<(A, B, C, D, E, G, H, I, J, K, L, M, O, P, Q, R) as MaxSize>⟧.limit
-        (sum_all (A.limit.greatest ∷ B.limit.greatest ∷ C.limit.greatest ∷ D.limit.greatest ∷
-        E.limit.greatest ∷ G.limit.greatest ∷ H.limit.greatest ∷ I.limit.greatest ∷ [])
-        ∷ sum_all (J.limit.greatest ∷ K.limit.greatest ∷ L.limit.greatest ∷ M.limit.greatest ∷
-        O.limit.greatest ∷ P.limit.greatest ∷ Q.limit.greatest ∷ R.limit.greatest ∷ []) ∷ [])
-        (A.limit.reached × B.limit.reached × C.limit.reached × D.limit.reached
-        × E.limit.reached × G.limit.reached × H.limit.reached × I.limit.reached
-        × J.limit.reached × K.limit.reached × L.limit.reached × M.limit.reached
-        × O.limit.reached × P.limit.reached × Q.limit.reached × R.limit.reached) }
     ensures duration { IsSize ⟦<Duration as MaxSize>⟧.limit (Some 15) ⊤ }
     ensures range { IsSum ⟦<Range<A> as MaxSize>⟧.limit
         (A.limit.greatest ∷ A.limit.greatest ∷ []) A.limit.reached }

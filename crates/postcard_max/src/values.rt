@@ -2,7 +2,6 @@
 
 mod fixed;
 mod floats;
-mod long_tuples;
 mod net;
 mod nonzero;
 mod numbers;

@@ -7,8 +7,9 @@
 //! of one tree look alike, and what was written is read again. `specs/` has the shapes of values
 //! that are one node (`Leaves.antt`, `Floats.antt`, `Spans.antt`, `Enumerations.antt`) and the
 //! combinators (`Shape.antt`, `Lists.antt`, `Choices.antt`, `Rows.antt`, `Cases.antt`,
-//! `Entries.antt`, `Sets.antt`, `Refusing.antt`, `Only.antt`), each of which makes a shape from
-//! those of its parts, laws included, so that a type says its shape in one line.
+//! `Entries.antt`, `Sets.antt`, `Puts.antt`, `Heaps.antt`, `Refusing.antt`, `Only.antt`), each of
+//! which makes a shape from those of its parts, laws included, so that a type says its shape in one
+//! line.
 //!
 //! In reading order: [`shape`] has the traits, [`rows`] and [`cases`] what tuples and enums are
 //! written and read as, `values` the types of std and of `arrayvec`.

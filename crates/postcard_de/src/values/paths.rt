@@ -8,6 +8,7 @@ use postcard_wire::Result;
 use std::alloc::Global;
 use std::path::{Path, PathBuf};
 
+/// Reads a text as `&str` does, and fails as that does.
 impl<'de> Deserialize<'de> for Path<'de> {
     fn deserialize<F: Flavor>(alloc: Global, d: &mut Deserializer<'de, F>) -> Result<Self> {
         let text = <&'de str>::deserialize(alloc, d)?;
@@ -15,6 +16,7 @@ impl<'de> Deserialize<'de> for Path<'de> {
     }
 }
 
+/// Reads a text as `String` does, and fails as that does.
 impl<'de> Deserialize<'de> for PathBuf {
     fn deserialize<F: Flavor>(alloc: Global, d: &mut Deserializer<'de, F>) -> Result<Self> {
         let text = <String>::deserialize(alloc, d)?;

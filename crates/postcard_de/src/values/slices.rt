@@ -11,6 +11,7 @@ use std::boxed::BoxedSlice;
 use std::rc::RcSlice;
 use std::sync::ArcSlice;
 
+/// Reads a list as `Vec` does, and fails as that does.
 impl<'de, T: Deserialize<'de>> Deserialize<'de> for BoxedSlice<T> {
     fn deserialize<F: Flavor>(alloc: Global, d: &mut Deserializer<'de, F>) -> Result<Self> {
         let items = <Vec<T>>::deserialize(alloc, d)?;
@@ -28,6 +29,8 @@ impl<T: DeserializeOwned> DeserializeOwned for BoxedSlice<T> {
     }
 }
 
+/// Reads a list as `Vec` does, and fails as that does, and with `OutOfMemory` if an allocation
+/// fails.
 impl<'de, T: Deserialize<'de>> Deserialize<'de> for RcSlice<T> {
     fn deserialize<F: Flavor>(alloc: Global, d: &mut Deserializer<'de, F>) -> Result<Self> {
         let items = <Vec<T>>::deserialize(alloc, d)?;
@@ -51,6 +54,8 @@ impl<T: DeserializeOwned> DeserializeOwned for RcSlice<T> {
     }
 }
 
+/// Reads a list as `Vec` does, and fails as that does, and with `OutOfMemory` if an allocation
+/// fails.
 impl<'de, T: Deserialize<'de>> Deserialize<'de> for ArcSlice<T> {
     fn deserialize<F: Flavor>(alloc: Global, d: &mut Deserializer<'de, F>) -> Result<Self> {
         let items = <Vec<T>>::deserialize(alloc, d)?;
@@ -74,7 +79,7 @@ impl<T: DeserializeOwned> DeserializeOwned for ArcSlice<T> {
     }
 }
 
-/// Reads owned elements.
+/// Reads owned elements as `Vec` does, and fails as that does.
 impl<'de, T: Deserialize<'de>> Deserialize<'de> for CowSlice<'_, T> {
     fn deserialize<F: Flavor>(alloc: Global, d: &mut Deserializer<'de, F>) -> Result<Self> {
         let items = <Vec<T>>::deserialize(alloc, d)?;

@@ -55,6 +55,7 @@ impl DeserializeOwned for String {
     }
 }
 
+/// Reads a text as `String` does, and fails as that does.
 impl<'de> Deserialize<'de> for BoxedStr {
     fn deserialize<F: Flavor>(alloc: Global, d: &mut Deserializer<'de, F>) -> Result<Self> {
         let text = <String>::deserialize(alloc, d)?;
@@ -72,6 +73,8 @@ impl DeserializeOwned for BoxedStr {
     }
 }
 
+/// Reads a text as `String` does, and fails as that does, and with `OutOfMemory` if an allocation
+/// fails.
 impl<'de> Deserialize<'de> for RcStr {
     fn deserialize<F: Flavor>(alloc: Global, d: &mut Deserializer<'de, F>) -> Result<Self> {
         let text = <String>::deserialize(alloc, d)?;
@@ -95,6 +98,8 @@ impl DeserializeOwned for RcStr {
     }
 }
 
+/// Reads a text as `String` does, and fails as that does, and with `OutOfMemory` if an allocation
+/// fails.
 impl<'de> Deserialize<'de> for ArcStr {
     fn deserialize<F: Flavor>(alloc: Global, d: &mut Deserializer<'de, F>) -> Result<Self> {
         let text = <String>::deserialize(alloc, d)?;
@@ -118,7 +123,7 @@ impl DeserializeOwned for ArcStr {
     }
 }
 
-/// Reads an owned text.
+/// Reads an owned text as `String` does, and fails as that does.
 impl<'de> Deserialize<'de> for CowStr<'_> {
     fn deserialize<F: Flavor>(alloc: Global, d: &mut Deserializer<'de, F>) -> Result<Self> {
         let text = <String>::deserialize(alloc, d)?;

@@ -20,15 +20,3 @@ returns-clause-tuple_of_eleven g c = (refl, λ (a, b, d, e, f, h, i, j, k, l, m)
 
 pub returns-clause-tuple_of_twelve : goal.returns-clause-tuple_of_twelve
 returns-clause-tuple_of_twelve g c = (refl, λ (a, b, d, e, f, h, i, j, k, l, m, n). (a, (b, (d, (e, (f, (h, (i, (j, (k, (l, (m, (n, tt)))))))))))))
-
-pub returns-clause-tuple_of_thirteen : goal.returns-clause-tuple_of_thirteen
-returns-clause-tuple_of_thirteen g c = (refl, λ (a, b, d, e, f, h, i, j, k, l, m, n, o). ((a, (b, (d, (e, (f, (h, (i, (j, tt)))))))), ((k, (l, (m, (n, (o, tt))))), tt)))
-
-pub returns-clause-tuple_of_fourteen : goal.returns-clause-tuple_of_fourteen
-returns-clause-tuple_of_fourteen g c = (refl, λ (a, b, d, e, f, h, i, j, k, l, m, n, o, p). ((a, (b, (d, (e, (f, (h, (i, (j, tt)))))))), ((k, (l, (m, (n, (o, (p, tt)))))), tt)))
-
-pub returns-clause-tuple_of_fifteen : goal.returns-clause-tuple_of_fifteen
-returns-clause-tuple_of_fifteen g c = (refl, λ (a, b, d, e, f, h, i, j, k, l, m, n, o, p, q). ((a, (b, (d, (e, (f, (h, (i, (j, tt)))))))), ((k, (l, (m, (n, (o, (p, (q, tt))))))), tt)))
-
-pub returns-clause-tuple_of_sixteen : goal.returns-clause-tuple_of_sixteen
-returns-clause-tuple_of_sixteen g c = (refl, λ (a, b, d, e, f, h, i, j, k, l, m, n, o, p, q, r). ((a, (b, (d, (e, (f, (h, (i, (j, tt)))))))), ((k, (l, (m, (n, (o, (p, (q, (r, tt)))))))), tt)))
