@@ -47,7 +47,7 @@ impl Shaped for Command {
 fn write_set<F: Flavor>(config: &Config, serializer: &mut Serializer<F>) -> Result<()>
     ensures wrote { Wrote F.Flavor serializer.old.output
         (canonical (⟦<Command as Shaped>⟧.shape.tree (Command.Set config.now)))
-        (⟦<Command as Shaped>⟧.shape.refuses (Command.Set config.now))
+        (⟦<Command as Shaped>⟧.shape.refusal (Command.Set config.now))
         ⟦<Command as Shaped>⟧.shape.text result serializer.new.output }
     ensures fits { OnOk result (⟦<Command as Shaped>⟧.shape.fits (Command.Set config.now)) }
 {

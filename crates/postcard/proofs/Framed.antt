@@ -1,7 +1,7 @@
 -- A frame in a storage: the room that it has from the start, and what the front of a buffer decodes
 -- to.
 use Rattle.std.proofs.Common.{◌≡◌, ℕ, ◌+◌, ◌-◌, ◌^◌, ◌≤◌, List, [], length, take, drop, Bool}
-use Rattle.std.proofs.Common.{Result, Ok, Err, IfOk, OnOk, ◌∙◌, subst, arith}
+use Rattle.std.proofs.Common.{◌∙◌, subst, arith}
 use Rattle.std.proofs.Math.Seq.{take-append_seam}
 use Rattle.postcard_cobs.specs.Groups.{Standing, made}
 use Rattle.postcard_ser_cobs.specs.Framing.{HoldsOpen, HasFrameRoom}
@@ -36,10 +36,8 @@ data_room {free = free} s xs holds keeps few room =
     }
 
 -- The front of a buffer that a made frame fills, as many bytes as counted, decodes to the data.
-pub front_decodes : {E : Type 0} (r : Result ℕ E) (all old d : List ℕ)
-    → IfOk r (λ count. count ≡ length (made d)) → OnOk r (Fills (made d) old all)
-    → IfOk r (λ count. DecodesTo (take count all) d)
-front_decodes (Ok count) all old d counts fills =
+pub front_decodes : (count : ℕ) (all old d : List ℕ) → count ≡ length (made d)
+    → Fills (made d) old all → DecodesTo (take count all) d
+front_decodes count all old d counts fills =
     frame_decodes (take count all) d
     ((λ i. take (counts i) (fills i)) ∙ take-append_seam (made d) (drop (length (made d)) old))
-front_decodes (Err e) all old d counts fills = tt

@@ -1,8 +1,9 @@
--- What `to_slice` says of its buffer and its result, from what `write_front` and `lend_front` say.
+-- What `to_slice` and `to_slice_cobs` say of their buffer and their result, from what an attempt to write into it and
+-- `lend_front` say.
 use Rattle.std.proofs.Common.{◌≡◌, ◌≤◌, ◌<◌, ◌⊎◌, ℕ, List, [], ◌∷◌, length, take, drop, ◌++◌, refl, sym, ap, subst, ◌∙◌, Ok, Err, IfOk}
 use Rattle.std.proofs.Math.Seq.{drop-append_seam, take-append_seam}
 use Rattle.std.proofs.Flags.{never_true}
-use Rattle.std.specs.Prelude.{◌↔◌, IfErr}
+use Rattle.std.specs.Prelude.{◌↔◌, IfErr, ⊤}
 use mathlib.Core.Bool.{Bool, true, false, not}
 use lib.Dec.{T}
 use Rattle.postcard_wire.specs.declared.error.Error.{Error}
@@ -15,12 +16,15 @@ use base.Logic.{ent}
 use denote.Follow.{such_by}
 use types.Logic.{Logic, sem}
 use types.Kit.{‵, ◌$◌, ◌∵◌, !, qed, fpack, done}
-use Rattle.postcard_wire.specs.Tree.{Tree}
 use Rattle.postcard_wire.specs.Spelling.{canonical, Spells}
 use Rattle.postcard_wire.proofs.Shortest.{least}
-use Rattle.postcard_ser.specs.Writing.{IsWriteError}
+use Rattle.postcard_shape.specs.Shape.{Shape, IsWilling}
+use Rattle.postcard_shape.proofs.Again.{is_spelled}
+use Rattle.postcard_ser.specs.Writing.{IsErrorOf}
 use Rattle.postcard.specs.declared.ser.Attempt.{Attempt}
-use Rattle.postcard.specs.Buffers.{FillsFront}
+use Rattle.postcard_cobs.specs.Groups.{made}
+use Rattle.postcard.specs.Frames.{DecodesTo}
+use Rattle.postcard.specs.Lemmas.{frame_decodes}
 use Rattle.postcard.specs.Attempt.{IsAttempt, LendsAttempt}
 
 -- A test that holds is true, and one whose negation holds is false.
@@ -36,7 +40,12 @@ is_false false t = refl
 in_front : (n : ℕ) (bs xs all : List ℕ) → n ≡ length bs → all ≡ bs ++ drop (length bs) xs → take n all ≡ bs
 in_front n bs xs all long is = (λ i. take (long i) (is i)) ∙ take-append_seam bs (drop (length bs) xs)
 
-module _ (xs : List ℕ) (Refuses Text Fits : Type 0) (old : List ℕ) (d : Attempt) (r : Result (MutBor (List ℕ)) Error) (done : IsAttempt xs Refuses Text Fits old d) (cut : LendsAttempt d r) where
+-- Nothing is said of what is left after a failure.
+pub none_left : (r : Result (MutBor (List ℕ)) Error) → OnErr r ⊤
+none_left (Ok x) = tt
+none_left (Err e) = tt
+
+module _ {V : Type 0} (s : Shape V) (v : V) (xs : List ℕ) (left : List ℕ → Type 0) (old : List ℕ) (d : Attempt) (r : Result (MutBor (List ℕ)) Error) (done : IsAttempt s v xs left old d) (cut : LendsAttempt d r) where
   -- What the caller writes through the front is then at the front of the buffer, before the old
   -- bytes.
   pub follows_front : (front : List ℕ) → IsOk r → front ++ drop d.count d.all.now ≡ front ++ drop (length xs) old
@@ -46,10 +55,10 @@ module _ (xs : List ℕ) (Refuses Text Fits : Type 0) (old : List ℕ) (d : Atte
       ap (λ (l : List ℕ). front ++ l) e
 
   -- After a failure, the buffer is a beginning of the bytes and then the old bytes.
-  pub follows_old : OnErr r (¬ Refuses → FillsFront xs old d.all.now)
+  pub follows_old : OnErr r (IsWilling s v → left d.all.now)
   follows_old = by_answer r d.failed cut.sorts done.refused
     where
-      by_answer : (r : Result (MutBor (List ℕ)) Error) (b : Bool) → IsOk r ↔ (b ≡ false) → (b ≡ true → ¬ Refuses → FillsFront xs old d.all.now) → OnErr r (¬ Refuses → FillsFront xs old d.all.now)
+      by_answer : (r : Result (MutBor (List ℕ)) Error) (b : Bool) → IsOk r ↔ (b ≡ false) → (b ≡ true → IsWilling s v → left d.all.now) → OnErr r (IsWilling s v → left d.all.now)
       by_answer (Ok x) b sorts k = tt
       by_answer (Err _) true sorts k = k refl
       by_answer (Err _) false sorts k = absurd (never_true (sorts.1 refl))
@@ -62,42 +71,58 @@ module _ (xs : List ℕ) (Refuses Text Fits : Type 0) (old : List ℕ) (d : Atte
       by_answer (Ok x) b sorts w k = w ∙ k (sorts.0 refl)
       by_answer (Err _) b sorts w k = tt
 
-  -- No other spelling of the tree is as short as the front.
-  pub shortest : (t : Tree) → xs ≡ canonical t → IfOk r (λ x. (p : List ℕ) → Spells t p → (p ≡ x.now) ⊎ (length x.now < length p))
-  shortest t is = by_answer r gives
+  -- No other spelling of the tree is as short as the front, if the bytes are its encoding.
+  pub shortest : xs ≡ canonical (s.tree v) → IfOk r (λ x. (p : List ℕ) → Spells (s.tree v) p → (p ≡ x.now) ⊎ (length x.now < length p))
+  shortest is = by_answer r gives
     where
-      by_answer : (r : Result (MutBor (List ℕ)) Error) → IfOk r (λ x. x.now ≡ xs) → IfOk r (λ x. (p : List ℕ) → Spells t p → (p ≡ x.now) ⊎ (length x.now < length p))
-      by_answer (Ok x) h = λ p s. subst (λ (l : List ℕ). (p ≡ l) ⊎ (length l < length p)) (sym (h ∙ is)) (least t p s)
+      by_answer : (r : Result (MutBor (List ℕ)) Error) → IfOk r (λ x. x.now ≡ xs) → IfOk r (λ x. (p : List ℕ) → Spells (s.tree v) p → (p ≡ x.now) ⊎ (length x.now < length p))
+      by_answer (Ok x) h = λ p z. subst (λ (l : List ℕ). (p ≡ l) ⊎ (length l < length p)) (sym (h ∙ is)) (least (s.tree v) p z)
       by_answer (Err _) h = tt
 
   -- The call succeeds if and only if the bytes fit the buffer.
-  pub fits_iff : ¬ Refuses → IsOk r ↔ (length xs ≤ length old)
+  pub fits_iff : IsWilling s v → IsOk r ↔ (length xs ≤ length old)
   fits_iff n = let e = done.fits_iff n in ((λ ok. e.0 (cut.sorts.0 ok)), (λ fits. cut.sorts.1 (e.1 fits)))
 
-  -- Otherwise the error is one of a refusal by the flavor.
-  pub named_error : ¬ Refuses → IfErr r (IsWriteError Text)
-  named_error n = by_answer r d.failed cut.sorts cut.error (done.named_error n)
+  -- The error of the result has the property that that of the attempt has.
+  error_has : (P : Error → Type 0) → (d.failed ≡ true → P d.error) → IfErr r P
+  error_has P = by_answer r d.failed cut.sorts cut.error
     where
-      by_answer : (r : Result (MutBor (List ℕ)) Error) (b : Bool) → IsOk r ↔ (b ≡ false) → IfErr r (λ e. e ≡ d.error) → (b ≡ true → IsWriteError Text d.error) → IfErr r (IsWriteError Text)
+      by_answer : (r : Result (MutBor (List ℕ)) Error) (b : Bool) → IsOk r ↔ (b ≡ false) → IfErr r (λ e. e ≡ d.error) → (b ≡ true → P d.error) → IfErr r P
       by_answer (Ok x) b sorts w k = tt
-      by_answer (Err e) true sorts w k = subst (λ (x : Error). IsWriteError Text x) (sym w) (k refl)
+      by_answer (Err e) true sorts w k = subst P (sym w) (k refl)
       by_answer (Err e) false sorts w k = absurd (never_true (sorts.1 refl))
 
+  -- If the bytes fit the buffer, the error is one by which the value refuses itself.
+  pub own_error : length xs ≤ length old → IfErr r (s.refusal v)
+  own_error room = error_has (s.refusal v) (done.own_error room)
+
+  -- In any case it is one of a refusal by the flavor, or one by which the value refuses itself.
+  pub named_error : IfErr r (IsErrorOf s v)
+  named_error = error_has (IsErrorOf s v) done.named_error
+
   -- A value that was written fits.
-  pub fits : OnOk r Fits
+  pub fits : OnOk r (s.fits v)
   fits = by_answer r d.failed cut.sorts done.fitting
     where
-      by_answer : (r : Result (MutBor (List ℕ)) Error) (b : Bool) → IsOk r ↔ (b ≡ false) → (b ≡ false → Fits) → OnOk r Fits
+      by_answer : (r : Result (MutBor (List ℕ)) Error) (b : Bool) → IsOk r ↔ (b ≡ false) → (b ≡ false → s.fits v) → OnOk r (s.fits v)
       by_answer (Ok x) b sorts k = k (sorts.0 refl)
       by_answer (Err _) b sorts k = tt
 
-  -- The front that is lent spells the tree.
-  pub spelled : (t : Tree) → xs ≡ canonical t → (Fits → Spells t (canonical t)) → IfOk r (λ x. Spells t x.now)
-  spelled t is spell = by_answer r gives fits
+  -- The front that is lent spells the tree, if the bytes are its encoding.
+  pub spelled : xs ≡ canonical (s.tree v) → IfOk r (λ x. Spells (s.tree v) x.now)
+  spelled is = by_answer r gives fits
     where
-      by_answer : (r : Result (MutBor (List ℕ)) Error) → IfOk r (λ x. x.now ≡ xs) → OnOk r Fits → IfOk r (λ x. Spells t x.now)
-      by_answer (Ok x) h f = subst (λ (l : List ℕ). Spells t l) (sym (h ∙ is)) (spell f)
+      by_answer : (r : Result (MutBor (List ℕ)) Error) → IfOk r (λ x. x.now ≡ xs) → OnOk r (s.fits v) → IfOk r (λ x. Spells (s.tree v) x.now)
+      by_answer (Ok x) h f = subst (λ (l : List ℕ). Spells (s.tree v) l) (sym (h ∙ is)) (is_spelled s v f)
       by_answer (Err _) h f = tt
+
+  -- The front that is lent decodes to the data, if the bytes are its frame.
+  pub decodes : (content : List ℕ) → xs ≡ made content → IfOk r (λ x. DecodesTo x.now content)
+  decodes content is = by_answer r gives
+    where
+      by_answer : (r : Result (MutBor (List ℕ)) Error) → IfOk r (λ x. x.now ≡ xs) → IfOk r (λ x. DecodesTo x.now content)
+      by_answer (Ok x) h = frame_decodes x.now content (h ∙ is)
+      by_answer (Err _) h = tt
 
 -- If the whole buffer ends as F of the front, it satisfies any relation that F satisfies.
 module _ {M : Type 1} {𝓤 : Ura M} (𝓛 : Logic 𝓤) (R U : RattleType) (γ : GName) (m : Option GName) (F : U.Denot → R.Denot) (v : R.Denot) (P : U.Denot → R.Denot → Type 0) (P₀ : R.Denot → Type 0) where

@@ -17,7 +17,9 @@ use Rattle.postcard_shape.specs.Shape.{Shape}
 use Rattle.postcard_shape.proofs.Again as again
 use Rattle.postcard.specs.Frames.{DecodesTo}
 -- How a value that is made of others is written: the calls of its `serialize`, one after the other.
-pub use Rattle.postcard_ser.proofs.PartByPart.{wrote_none, wrote_refusal, wrote_err, wrote_ok, wrote_last, wrote_stop, wrote_then, wrote_as, wrote_closes}
+pub use Rattle.postcard_ser.proofs.PartByPart.{wrote_none, wrote_refusal, wrote_err, wrote_ok, wrote_last, wrote_stop, wrote_then, wrote_as, wrote_end, wrote_closes}
+-- A call that had room: its error can only be one by which the value refuses itself.
+pub use Rattle.postcard_ser.proofs.Refusals.{no_error, succeeds}
 -- Sets of trees whose encodings are prefix-free, and whose trees are well formed.
 pub use Rattle.postcard_wire.proofs.Delimited.{byte_delimited, boolean_delimited, num_delimited, int_delimited, char_delimited, text_delimited}
 pub use Rattle.postcard_wire.proofs.Delimited.{option_delimited, end_delimited, then_delimited, group_delimited, seq_delimited, array_delimited, variant_delimited}

@@ -3,19 +3,23 @@
 //! encoding, and then the zero that ends it, the sentinel.
 
 ghost use Rattle.std.specs.Prelude.{◌≡◌, [], ◌-◌, ◌≤◌, ◌↔◌, ◌++◌, length, take, drop};
-ghost use Rattle.std.specs.Prelude.{IfOk, IfErr, IsOk, OnOk};
+ghost use Rattle.std.specs.Prelude.{IfOk, IfErr, IsOk, OnOk, ⊤};
+ghost use Rattle.std.specs.Borrow.{sem, LendsSoOk, Array, u8};
 ghost use Rattle.postcard_cobs.specs.Groups.{made};
 ghost use Rattle.postcard_wire.specs.Spelling.{canonical};
-ghost use Rattle.postcard_ser.specs.Writing.{IsWriteError};
+ghost use Rattle.postcard_shape.specs.Shape.{IsWilling};
+ghost use Rattle.postcard_ser.specs.Writing.{IsErrorOf};
+ghost use Rattle.postcard.specs.Attempt.{IsAttempt};
 ghost use Rattle.postcard.specs.Buffers.{Fills};
 ghost use Rattle.postcard.specs.Frames.{DecodesTo};
 
+use crate::ser::{Attempt, lend_front};
 use crate::with_flavor::serialize_with_flavor;
 use arrayvec::ArrayVec;
 use postcard_ser::{Serialize, Serializer};
 use postcard_ser_cobs::Cobs;
 use postcard_ser_flavors::{AllocVec, Flavor, HVec, Slice, Storage};
-use postcard_wire::Result;
+use postcard_wire::{Error, Result};
 use std::alloc::Global;
 
 /// Encodes a value as a frame after the bytes that a storage holds, ends the storage, and returns
@@ -24,11 +28,13 @@ fn framed<T: Serialize, B: Storage + Drop>(value: &T, storage: B) -> Result<<B a
     ensures gives { IfOk result (λ output. (last : B)
         × (B.held last ≡ B.held storage ++ made (canonical (T.shape.tree value.now)))
         × B.reaches storage last × B.finishes last output) }
-    ensures has_room { ¬ T.shape.refuses value.now
+    ensures has_room { IsWilling T.shape value.now
         → length (made (canonical (T.shape.tree value.now))) ≤ usize.MAX - 2
         → B.free storage (length (made (canonical (T.shape.tree value.now)))) → IsOk result }
-    ensures named_error { ¬ T.shape.refuses value.now
-        → IfErr result (IsWriteError T.shape.text) }
+    ensures own_error { length (made (canonical (T.shape.tree value.now))) ≤ usize.MAX - 2
+        → B.free storage (length (made (canonical (T.shape.tree value.now))))
+        → IfErr result (T.shape.refusal value.now) }
+    ensures named_error { IfErr result (IsErrorOf T.shape value.now) }
     ensures fits { OnOk result (T.shape.fits value.now) }
 {
     serialize_with_flavor(value, Cobs::try_new(storage)?)
@@ -41,44 +47,53 @@ fn framed<T: Serialize, B: Storage + Drop>(value: &T, storage: B) -> Result<<B a
 ///
 /// If `B` is at most `usize::MAX - 2`, fails if and only if the frame is longer than `B` bytes:
 /// with `SerializeBufferFull`, or with `CollectStrError` for a type whose text may fail to print.
-/// For a value that refuses itself, the call may fail in any case and with another error.
+/// A value that refuses itself may fail in any case, and with an error of its own if the frame has
+/// at most `B` bytes.
 #[tactic(auto, using(crate::specs::Lemmas::frame_decodes))]
 pub fn to_vec_cobs<T: Serialize, const B: usize>(value: &T) -> Result<ArrayVec<u8, B>>
     ensures gives { IfOk result (λ vec. vec.items ≡ made (canonical (T.shape.tree value.now))) }
     ensures decodes { IfOk result
         (λ vec. DecodesTo vec.items (canonical (T.shape.tree value.now))) }
-    ensures fits_iff { ¬ T.shape.refuses value.now → B ≤ usize.MAX - 2
+    ensures fits_iff { IsWilling T.shape value.now → B ≤ usize.MAX - 2
         → (IsOk result ↔ (length (made (canonical (T.shape.tree value.now))) ≤ B)) }
-    ensures named_error { ¬ T.shape.refuses value.now
-        → IfErr result (IsWriteError T.shape.text) }
+    ensures own_error { B ≤ usize.MAX - 2
+        → length (made (canonical (T.shape.tree value.now))) ≤ B
+        → IfErr result (T.shape.refusal value.now) }
+    ensures named_error { IfErr result (IsErrorOf T.shape value.now) }
     ensures fits { OnOk result (T.shape.fits value.now) }
 {
     framed(value, HVec::new())
 }
 
 /// Encodes a value as a frame into the front of `buf`, and returns that front, which is the frame
-/// with its sentinel. Nothing is allocated. The bytes after it are unchanged: tests show this, and
-/// [`fill_slice_cobs`] says it in its contract.
+/// with its sentinel. The bytes after it are unchanged. Nothing is allocated.
+///
+/// The clause `writes_back` says what the buffer holds once the loan has ended. A caller with
+/// proofs of its own about the buffer uses [`fill_slice_cobs`], whose plain clauses say the same.
 ///
 /// # Errors
 ///
 /// Fails if and only if the frame is longer than `buf`: with `SerializeBufferFull`, or with
-/// `CollectStrError` for a type whose text may fail to print. For a value that refuses itself, the
-/// call may fail in any case and with another error.
-#[tactic(auto, using(crate::specs::Lemmas::frame_decodes))]
+/// `CollectStrError` for a type whose text may fail to print. A value that refuses itself may fail
+/// in any case, and with an error of its own if `buf` has room for the frame. After a failure the
+/// content of the buffer is unspecified.
 pub fn to_slice_cobs<'a, T: Serialize>(value: &T, buf: &'a mut [u8]) -> Result<&'a mut [u8]>
+    // After a success, the buffer holds what the caller made of the frame, and then the old bytes.
+    ensures* writes_back { sem 𝓛 (LendsSoOk (Array u8 0) (Array u8 0) buf.entry result
+        (λ all front. all ≡ front
+        ++ drop (length (made (canonical (T.shape.tree value.now)))) buf.old)
+        (λ _. ⊤)) }
     ensures gives { IfOk result (λ front. front.now ≡ made (canonical (T.shape.tree value.now))) }
     ensures decodes { IfOk result
         (λ front. DecodesTo front.now (canonical (T.shape.tree value.now))) }
-    ensures fits_iff { ¬ T.shape.refuses value.now
+    ensures fits_iff { IsWilling T.shape value.now
         → (IsOk result ↔ (length (made (canonical (T.shape.tree value.now))) ≤ length buf.old)) }
-    ensures named_error { ¬ T.shape.refuses value.now
-        → IfErr result (IsWriteError T.shape.text) }
+    ensures own_error { length (made (canonical (T.shape.tree value.now))) ≤ length buf.old
+        → IfErr result (T.shape.refusal value.now) }
+    ensures named_error { IfErr result (IsErrorOf T.shape value.now) }
     ensures fits { OnOk result (T.shape.fits value.now) }
 {
-    // For the prover: a slice has fewer than 2^63 bytes, so the frame's length can be counted.
-    let _len = buf.len();
-    framed(value, Slice::new(buf))
+    lend_front(write_frame(value, buf))
 }
 
 /// Encodes a value as a frame after the bytes that a storage holds. Returns the storage in any
@@ -87,11 +102,13 @@ fn frame_into<T: Serialize, B: Storage + Drop>(value: &T, storage: B) -> (B, Res
     ensures gives { OnOk result.1
         (B.held result.0 ≡ B.held storage ++ made (canonical (T.shape.tree value.now))) }
     ensures leaves { B.reaches storage result.0 }
-    ensures has_room { ¬ T.shape.refuses value.now
+    ensures has_room { IsWilling T.shape value.now
         → length (made (canonical (T.shape.tree value.now))) ≤ usize.MAX - 2
         → B.free storage (length (made (canonical (T.shape.tree value.now)))) → IsOk result.1 }
-    ensures named_error { ¬ T.shape.refuses value.now
-        → IfErr result.1 (IsWriteError T.shape.text) }
+    ensures own_error { length (made (canonical (T.shape.tree value.now))) ≤ usize.MAX - 2
+        → B.free storage (length (made (canonical (T.shape.tree value.now))))
+        → IfErr result.1 (T.shape.refusal value.now) }
+    ensures named_error { IfErr result.1 (IsErrorOf T.shape value.now) }
     ensures fits { OnOk result.1 (T.shape.fits value.now) }
 {
     let mut serializer = Serializer {
@@ -103,25 +120,28 @@ fn frame_into<T: Serialize, B: Storage + Drop>(value: &T, storage: B) -> (B, Res
     }
 }
 
-/// Encodes a value as a frame into the front of a buffer. Returns the whole buffer in any case, and
-/// the number of bytes of the frame with its sentinel, or the error.
-fn write_frame<'a, T: Serialize>(value: &T, buf: &'a mut [u8]) -> (&'a mut [u8], Result<usize>)
-    ensures same_loan { result.0.ghost_name ≡ buf.entry.ghost_name }
-    ensures count_is_length { IfOk result.1
-        (λ count. count ≡ length (made (canonical (T.shape.tree value.now)))) }
-    ensures fills { OnOk result.1
-        (Fills (made (canonical (T.shape.tree value.now))) buf.old result.0.now) }
-    ensures fits_iff { ¬ T.shape.refuses value.now → (IsOk result.1
-        ↔ (length (made (canonical (T.shape.tree value.now))) ≤ length buf.old)) }
-    ensures named_error { ¬ T.shape.refuses value.now
-        → IfErr result.1 (IsWriteError T.shape.text) }
-    ensures fits { OnOk result.1 (T.shape.fits value.now) }
+/// Encodes a value as a frame into the front of a buffer. Returns the whole buffer, the same loan,
+/// with the outcome.
+fn write_frame<'a, T: Serialize>(value: &T, buf: &'a mut [u8]) -> Attempt<'a>
+    ensures same_loan { result.all.ghost_name ≡ buf.entry.ghost_name }
+    ensures attempts { IsAttempt T.shape value.now (made (canonical (T.shape.tree value.now)))
+        (λ _. ⊤) buf.old result }
 {
     let (slice, framed) = frame_into(value, Slice::new(buf));
     let (all, count) = slice.into_parts();
     match framed {
-        Ok(()) => (all, Ok(count)),
-        Err(error) => (all, Err(error)),
+        Ok(()) => Attempt {
+            all,
+            count,
+            failed: false,
+            error: Error::SerializeBufferFull,
+        },
+        Err(error) => Attempt {
+            all,
+            count,
+            failed: true,
+            error,
+        },
     }
 }
 
@@ -134,10 +154,9 @@ fn write_frame<'a, T: Serialize>(value: &T, buf: &'a mut [u8]) -> (&'a mut [u8],
 /// # Errors
 ///
 /// Fails if and only if the frame is longer than `buf`: with `SerializeBufferFull`, or with
-/// `CollectStrError` for a type whose text may fail to print. For a value that refuses itself, the
-/// call may fail in any case and with another error. After a failure the content of the buffer is
-/// unspecified.
-#[tactic(auto, using(crate::proofs::Framed::front_decodes))]
+/// `CollectStrError` for a type whose text may fail to print. A value that refuses itself may fail
+/// in any case, and with an error of its own if `buf` has room for the frame. After a failure the
+/// content of the buffer is unspecified.
 pub fn fill_slice_cobs<T: Serialize>(value: &T, buf: &mut [u8]) -> Result<usize>
     ensures count_is_length { IfOk result
         (λ count. count ≡ length (made (canonical (T.shape.tree value.now)))) }
@@ -145,14 +164,20 @@ pub fn fill_slice_cobs<T: Serialize>(value: &T, buf: &mut [u8]) -> Result<usize>
         (Fills (made (canonical (T.shape.tree value.now))) buf.old buf.new) }
     ensures decodes { IfOk result
         (λ count. DecodesTo (take count buf.new) (canonical (T.shape.tree value.now))) }
-    ensures fits_iff { ¬ T.shape.refuses value.now
+    ensures fits_iff { IsWilling T.shape value.now
         → (IsOk result ↔ (length (made (canonical (T.shape.tree value.now))) ≤ length buf.old)) }
-    ensures named_error { ¬ T.shape.refuses value.now
-        → IfErr result (IsWriteError T.shape.text) }
+    ensures own_error { length (made (canonical (T.shape.tree value.now))) ≤ length buf.old
+        → IfErr result (T.shape.refusal value.now) }
+    ensures named_error { IfErr result (IsErrorOf T.shape value.now) }
     ensures fits { OnOk result (T.shape.fits value.now) }
 {
-    let (_all, framed) = write_frame(value, buf);
-    framed
+    let Attempt {
+        all: _all,
+        count,
+        failed,
+        error,
+    } = write_frame(value, buf);
+    if failed { Err(error) } else { Ok(count) }
 }
 
 /// Encodes a value as a frame into a new `Vec`, the sentinel included.
@@ -160,15 +185,14 @@ pub fn fill_slice_cobs<T: Serialize>(value: &T, buf: &mut [u8]) -> Result<usize>
 /// # Errors
 ///
 /// Fails only if an allocation fails: with `SerializeBufferFull`, or with `CollectStrError` for a
-/// type whose text may fail to print. For a value that refuses itself, the call may fail in any
-/// case and with another error.
+/// type whose text may fail to print. A value that refuses itself may fail in any case, also with
+/// an error of its own.
 #[tactic(auto, using(crate::specs::Lemmas::frame_decodes))]
 pub fn to_allocvec_cobs<T: Serialize>(alloc: Global, value: &T) -> Result<Vec<u8>>
     ensures gives { IfOk result (λ vec. vec.items ≡ made (canonical (T.shape.tree value.now))) }
     ensures decodes { IfOk result
         (λ vec. DecodesTo vec.items (canonical (T.shape.tree value.now))) }
-    ensures named_error { ¬ T.shape.refuses value.now
-        → IfErr result (IsWriteError T.shape.text) }
+    ensures named_error { IfErr result (IsErrorOf T.shape value.now) }
     ensures fits { OnOk result (T.shape.fits value.now) }
 {
     framed(value, AllocVec::new(alloc))
@@ -180,8 +204,7 @@ pub fn to_stdvec_cobs<T: Serialize>(alloc: Global, value: &T) -> Result<Vec<u8>>
     ensures gives { IfOk result (λ vec. vec.items ≡ made (canonical (T.shape.tree value.now))) }
     ensures decodes { IfOk result
         (λ vec. DecodesTo vec.items (canonical (T.shape.tree value.now))) }
-    ensures named_error { ¬ T.shape.refuses value.now
-        → IfErr result (IsWriteError T.shape.text) }
+    ensures named_error { IfErr result (IsErrorOf T.shape value.now) }
     ensures fits { OnOk result (T.shape.fits value.now) }
 {
     to_allocvec_cobs(alloc, value)
@@ -193,16 +216,15 @@ pub fn to_stdvec_cobs<T: Serialize>(alloc: Global, value: &T) -> Result<Vec<u8>>
 /// # Errors
 ///
 /// Fails only if an allocation fails: with `SerializeBufferFull`, or with `CollectStrError` for a
-/// type whose text may fail to print. For a value that refuses itself, the call may fail in any
-/// case and with another error. After a failure the vector is dropped.
+/// type whose text may fail to print. A value that refuses itself may fail in any case, also with
+/// an error of its own. After a failure the vector is dropped.
 #[tactic(auto, using(crate::specs::Lemmas::frame_after_decodes))]
 pub fn to_allocvec_cobs_after<T: Serialize>(value: &T, vec: Vec<u8>) -> Result<Vec<u8>>
     ensures gives { IfOk result
         (λ output. output.items ≡ vec.items ++ made (canonical (T.shape.tree value.now))) }
     ensures decodes { IfOk result (λ output. DecodesTo (drop (length vec.items) output.items)
         (canonical (T.shape.tree value.now))) }
-    ensures named_error { ¬ T.shape.refuses value.now
-        → IfErr result (IsWriteError T.shape.text) }
+    ensures named_error { IfErr result (IsErrorOf T.shape value.now) }
     ensures fits { OnOk result (T.shape.fits value.now) }
 {
     framed(value, AllocVec::from_vec(vec))

@@ -3,7 +3,8 @@
 
 ghost use Rattle.std.specs.Prelude.{◌≡◌, ◌<◌, ◌^◌, ◌↔◌, length, IfOk, IfErr, IsOk};
 ghost use Rattle.postcard_wire.specs.Spelling.{canonical};
-ghost use Rattle.postcard_ser.specs.Writing.{IsWriteError};
+ghost use Rattle.postcard_shape.specs.Shape.{IsWilling};
+ghost use Rattle.postcard_ser.specs.Writing.{IsErrorOf};
 
 pub mod max_size;
 
@@ -17,13 +18,15 @@ use postcard_wire::Result;
 /// # Errors
 ///
 /// Fails if and only if the number exceeds `usize::MAX`: with `SerializeBufferFull`, or with
-/// `CollectStrError` for a type whose text may fail to print. For a value that refuses itself, the
-/// call may fail in any case and with another error.
+/// `CollectStrError` for a type whose text may fail to print. A value that refuses itself may fail
+/// in any case, and with an error of its own if the number is at most `usize::MAX`.
 pub fn serialized_size<T: Serialize>(value: &T) -> Result<usize>
     ensures gives { IfOk result (λ count. count ≡ length (canonical (T.shape.tree value.now))) }
-    ensures fits_iff { ¬ T.shape.refuses value.now
+    ensures fits_iff { IsWilling T.shape value.now
         → (IsOk result ↔ (length (canonical (T.shape.tree value.now)) < 2 ^ 64)) }
-    ensures named_error { ¬ T.shape.refuses value.now → IfErr result (IsWriteError T.shape.text) }
+    ensures own_error { length (canonical (T.shape.tree value.now)) < 2 ^ 64
+        → IfErr result (T.shape.refusal value.now) }
+    ensures named_error { IfErr result (IsErrorOf T.shape value.now) }
 {
     serialize_with_flavor(value, Size::default())
 }

@@ -5,14 +5,14 @@ ghost use Rattle.std.specs.Prelude.{◌≡◌, ◌≤◌, ℕ, List, ◌++◌, l
 ghost use Rattle.postcard_wire.specs.Tree.{Tree};
 ghost use Rattle.postcard_wire.specs.Spelling.{Spells, canonical};
 ghost use Rattle.postcard_de_flavors.specs.Source.{Begins};
-ghost use Rattle.postcard_frame.specs.Front.{ReadsFront};
+ghost use Rattle.postcard_de.specs.Front.{ReadsFront};
 ghost use Rattle.postcard.specs.Front.{ReadsReader};
 
 use crate::cobs::to_allocvec_cobs;
 use crate::with_flavor::to_allocvec;
-use postcard_de::{Deserialize, DeserializeOwned, Owned};
+use postcard_de::{Deserialize, DeserializeOwned, Owned, from_bytes};
 use postcard_de_flavors::Source;
-use postcard_frame::{from_bytes, from_bytes_cobs};
+use postcard_frame::from_bytes_cobs;
 use postcard_ser::Serialize;
 use postcard_wire::Result;
 use std::alloc::Global;

@@ -7,7 +7,8 @@
 //!
 //! A value *refuses itself* if its own `Serialize` may fail whatever flavor it is written to: it
 //! breaks a rule of its type, its type begins a list without a length, or it is written as a text
-//! whose `Display` may fail. No value of this library's types does, unless a part of it does. The
+//! whose `Display` may fail. No value of this library's types does, unless a part of it does, but
+//! for a `SystemTime` that std doesn't make. The
 //! shape of a type of your own says which of its values refuse themselves (`refusing` and `printed`
 //! in `specs/Refusing.antt` of the crate `postcard_shape`).
 //!
@@ -56,10 +57,10 @@ pub use postcard_crc::ser::{
 };
 pub use postcard_de::{
     Case, Deserialize, DeserializeOwned, Deserializer, FromRepr, MapAccess, NoCase, Owned, Repr,
-    SeqAccess, Shaped,
+    SeqAccess, Shaped, from_bytes, read_hash_map, read_hash_set, take_from_bytes,
 };
 pub use postcard_fixint as fixint;
-pub use postcard_frame::{from_bytes, from_bytes_cobs, take_from_bytes, take_from_bytes_cobs};
+pub use postcard_frame::{from_bytes_cobs, take_from_bytes_cobs};
 pub use postcard_ser::{Serialize, SerializeRepr, Serializer, serialize_variant};
 pub use postcard_wire::{Error, Result};
 pub use ser::{fill_slice, to_slice};

@@ -4,7 +4,8 @@ ghost use Rattle.std.specs.Prelude.{◌≡◌, ◌<◌, ◌≤◌, ◌↔◌, �
 ghost use Rattle.std.specs.Prelude.{IfErr, IsOk, OnErr, OnOk};
 ghost use Rattle.std.specs.Borrow.{sem, LendsIfOk, LendsSoOk, Array, u8};
 ghost use Rattle.postcard_wire.specs.Spelling.{canonical, Spells};
-ghost use Rattle.postcard_ser.specs.Writing.{IsWriteError};
+ghost use Rattle.postcard_shape.specs.Shape.{IsWilling};
+ghost use Rattle.postcard_ser.specs.Writing.{IsErrorOf};
 ghost use Rattle.postcard.specs.Buffers.{Fills, FillsFront};
 ghost use Rattle.postcard.specs.Attempt.{IsAttempt, LendsAttempt};
 
@@ -24,21 +25,24 @@ use postcard_wire::{Error, Result};
 ///
 /// Fails if and only if the encoding is longer than `buf`: with `SerializeBufferFull`, or with
 /// `CollectStrError` for a type whose text may fail to print. The buffer then holds a beginning of
-/// the encoding, and after it the old bytes. For a value that refuses itself, the call may fail in
-/// any case and with another error; the content of the buffer is then unspecified.
+/// the encoding, and after it the old bytes. A value that refuses itself may fail in any case, and
+/// with an error of its own if `buf` has room for the encoding; the content of the buffer is then
+/// unspecified.
 pub fn to_slice<'a, T: Serialize>(value: &T, buf: &'a mut [u8]) -> Result<&'a mut [u8]>
     // After a success, the buffer holds what the caller made of the front, and then the old bytes;
     // after a failure, a beginning of the encoding, and then the old bytes.
     ensures* writes_back { sem 𝓛 (LendsSoOk (Array u8 0) (Array u8 0) buf.entry result
         (λ all front. all ≡ front ++ drop (length (canonical (T.shape.tree value.now))) buf.old)
-        (λ all. ¬ T.shape.refuses value.now
+        (λ all. IsWilling T.shape value.now
         → FillsFront (canonical (T.shape.tree value.now)) buf.old all)) }
     ensures gives { IfOk result (λ front. front.now ≡ canonical (T.shape.tree value.now)) }
     ensures shortest { IfOk result (λ front. (p : List ℕ) → Spells (T.shape.tree value.now) p
         → (p ≡ front.now) ⊎ (length front.now < length p)) }
-    ensures fits_iff { ¬ T.shape.refuses value.now
+    ensures fits_iff { IsWilling T.shape value.now
         → (IsOk result ↔ (length (canonical (T.shape.tree value.now)) ≤ length buf.old)) }
-    ensures named_error { ¬ T.shape.refuses value.now → IfErr result (IsWriteError T.shape.text) }
+    ensures own_error { length (canonical (T.shape.tree value.now)) ≤ length buf.old
+        → IfErr result (T.shape.refusal value.now) }
+    ensures named_error { IfErr result (IsErrorOf T.shape value.now) }
     ensures fits { OnOk result (T.shape.fits value.now) }
     ensures spelled { IfOk result (λ front. Spells (T.shape.tree value.now) front.now) }
 {
@@ -59,11 +63,13 @@ pub fn fill_slice<T: Serialize>(value: &T, buf: &mut [u8]) -> Result<usize>
     ensures count_is_length { IfOk result (λ count. count
         ≡ length (canonical (T.shape.tree value.now))) }
     ensures fills { OnOk result (Fills (canonical (T.shape.tree value.now)) buf.old buf.new) }
-    ensures refused { OnErr result (¬ T.shape.refuses value.now
+    ensures refused { OnErr result (IsWilling T.shape value.now
         → FillsFront (canonical (T.shape.tree value.now)) buf.old buf.new) }
-    ensures fits_iff { ¬ T.shape.refuses value.now
+    ensures fits_iff { IsWilling T.shape value.now
         → (IsOk result ↔ (length (canonical (T.shape.tree value.now)) ≤ length buf.old)) }
-    ensures named_error { ¬ T.shape.refuses value.now → IfErr result (IsWriteError T.shape.text) }
+    ensures own_error { length (canonical (T.shape.tree value.now)) ≤ length buf.old
+        → IfErr result (T.shape.refusal value.now) }
+    ensures named_error { IfErr result (IsErrorOf T.shape value.now) }
     ensures fits { OnOk result (T.shape.fits value.now) }
 {
     let Attempt {
@@ -77,19 +83,19 @@ pub fn fill_slice<T: Serialize>(value: &T, buf: &mut [u8]) -> Result<usize>
 
 /// What an attempt to write returns: the whole buffer, the number of bytes written, and the error,
 /// which counts only if the attempt `failed`.
-struct Attempt<'a> {
-    all: &'a mut [u8],
-    count: usize,
-    failed: bool,
-    error: Error,
+pub(crate) struct Attempt<'a> {
+    pub(crate) all: &'a mut [u8],
+    pub(crate) count: usize,
+    pub(crate) failed: bool,
+    pub(crate) error: Error,
 }
 
 /// Writes the value into the front of the buffer, and returns the whole buffer, the same loan, with
 /// the outcome.
 fn write_front<'a, T: Serialize>(value: &T, buf: &'a mut [u8]) -> Attempt<'a>
     ensures same_loan { result.all.ghost_name ≡ buf.entry.ghost_name }
-    ensures attempts { IsAttempt (canonical (T.shape.tree value.now)) (T.shape.refuses value.now)
-        T.shape.text (T.shape.fits value.now) buf.old result }
+    ensures attempts { IsAttempt T.shape value.now (canonical (T.shape.tree value.now))
+        (FillsFront (canonical (T.shape.tree value.now)) buf.old) buf.old result }
 {
     let mut serializer = Serializer {
         output: Slice::new(buf),
@@ -113,7 +119,7 @@ fn write_front<'a, T: Serialize>(value: &T, buf: &'a mut [u8]) -> Attempt<'a>
 }
 
 /// Returns the front of the buffer that was written, or the error if the attempt failed.
-fn lend_front<'a>(attempt: Attempt<'a>) -> Result<&'a mut [u8]>
+pub(crate) fn lend_front<'a>(attempt: Attempt<'a>) -> Result<&'a mut [u8]>
     requires { attempt.count ≤ length attempt.all.now }
     ensures* writes_back { sem 𝓛 (LendsIfOk (Array u8 0) (Array u8 0) attempt.entry.all result
         (λ front. front ++ drop attempt.entry.count attempt.entry.all.now) attempt.entry.all.now) }

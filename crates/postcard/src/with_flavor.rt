@@ -3,7 +3,8 @@
 ghost use Rattle.std.specs.Prelude.{◌≡◌, ◌≤◌, ◌↔◌, ◌++◌, length, IfOk, IfErr, IsOk, OnOk};
 ghost use Rattle.std.specs.Io.KnownBytes.{Appends};
 ghost use Rattle.postcard_wire.specs.Spelling.{canonical};
-ghost use Rattle.postcard_ser.specs.Writing.{IsWriteError};
+ghost use Rattle.postcard_shape.specs.Shape.{IsWilling};
+ghost use Rattle.postcard_ser.specs.Writing.{IsErrorOf};
 ghost use Rattle.postcard.specs.Finished.{Finished};
 
 use arrayvec::ArrayVec;
@@ -20,17 +21,19 @@ use std::io::Write;
 /// # Errors
 ///
 /// Fails with `SerializeBufferFull`, or with `CollectStrError` for a type whose text may fail to
-/// print, if the flavor refuses bytes or can't end; never if it has room for the encoding. For a
-/// value that refuses itself, the call may fail in any case and with another error. After a failure
-/// the flavor is dropped.
+/// print, if the flavor refuses bytes or can't end; never if it has room for the encoding. A value
+/// that refuses itself may fail in any case, and with an error of its own if the flavor has room for
+/// the encoding. After a failure the flavor is dropped.
 pub fn serialize_with_flavor<T: Serialize, S: Flavor<Output = O> + Drop, O>(
     value: &T,
     storage: S,
 ) -> Result<O>
     ensures gives { IfOk result (Finished S.Flavor storage (canonical (T.shape.tree value.now))) }
-    ensures has_room { ¬ T.shape.refuses value.now
+    ensures has_room { IsWilling T.shape value.now
         → S.room storage (canonical (T.shape.tree value.now)) → IsOk result }
-    ensures named_error { ¬ T.shape.refuses value.now → IfErr result (IsWriteError T.shape.text) }
+    ensures own_error { S.room storage (canonical (T.shape.tree value.now))
+        → IfErr result (T.shape.refusal value.now) }
+    ensures named_error { IfErr result (IsErrorOf T.shape value.now) }
     ensures fits { OnOk result (T.shape.fits value.now) }
 {
     let mut serializer = Serializer { output: storage };
@@ -47,13 +50,15 @@ pub fn serialize_with_flavor<T: Serialize, S: Flavor<Output = O> + Drop, O>(
 /// # Errors
 ///
 /// Fails if and only if the encoding has more than `B` bytes: with `SerializeBufferFull`, or with
-/// `CollectStrError` for a type whose text may fail to print. For a value that refuses itself, the
-/// call may fail in any case and with another error.
+/// `CollectStrError` for a type whose text may fail to print. A value that refuses itself may fail
+/// in any case, and with an error of its own if the encoding has at most `B` bytes.
 pub fn to_vec<T: Serialize, const B: usize>(value: &T) -> Result<ArrayVec<u8, B>>
     ensures gives { IfOk result (λ vec. vec.items ≡ canonical (T.shape.tree value.now)) }
-    ensures fits_iff { ¬ T.shape.refuses value.now
+    ensures fits_iff { IsWilling T.shape value.now
         → (IsOk result ↔ (length (canonical (T.shape.tree value.now)) ≤ B)) }
-    ensures named_error { ¬ T.shape.refuses value.now → IfErr result (IsWriteError T.shape.text) }
+    ensures own_error { length (canonical (T.shape.tree value.now)) ≤ B
+        → IfErr result (T.shape.refusal value.now) }
+    ensures named_error { IfErr result (IsErrorOf T.shape value.now) }
     ensures fits { OnOk result (T.shape.fits value.now) }
 {
     serialize_with_flavor(value, HVec::new())
@@ -64,11 +69,11 @@ pub fn to_vec<T: Serialize, const B: usize>(value: &T) -> Result<ArrayVec<u8, B>
 /// # Errors
 ///
 /// Fails only if an allocation fails: with `SerializeBufferFull`, or with `CollectStrError` for a
-/// type whose text may fail to print. For a value that refuses itself, the call may fail in any
-/// case and with another error.
+/// type whose text may fail to print. A value that refuses itself may fail in any case, also with
+/// an error of its own.
 pub fn to_allocvec<T: Serialize>(alloc: Global, value: &T) -> Result<Vec<u8>>
     ensures gives { IfOk result (λ vec. vec.items ≡ canonical (T.shape.tree value.now)) }
-    ensures named_error { ¬ T.shape.refuses value.now → IfErr result (IsWriteError T.shape.text) }
+    ensures named_error { IfErr result (IsErrorOf T.shape value.now) }
     ensures fits { OnOk result (T.shape.fits value.now) }
 {
     serialize_with_flavor(value, AllocVec::new(alloc))
@@ -77,7 +82,7 @@ pub fn to_allocvec<T: Serialize>(alloc: Global, value: &T) -> Result<Vec<u8>>
 /// Does the same as [`to_allocvec`], under the name that the Rust crate has for users of `std`.
 pub fn to_stdvec<T: Serialize>(alloc: Global, value: &T) -> Result<Vec<u8>>
     ensures gives { IfOk result (λ vec. vec.items ≡ canonical (T.shape.tree value.now)) }
-    ensures named_error { ¬ T.shape.refuses value.now → IfErr result (IsWriteError T.shape.text) }
+    ensures named_error { IfErr result (IsErrorOf T.shape value.now) }
     ensures fits { OnOk result (T.shape.fits value.now) }
 {
     serialize_with_flavor(value, StdVec::new(alloc))
@@ -88,12 +93,12 @@ pub fn to_stdvec<T: Serialize>(alloc: Global, value: &T) -> Result<Vec<u8>>
 /// # Errors
 ///
 /// Fails with `SerializeBufferFull`, or with `CollectStrError` for a type whose text may fail to
-/// print, if the target refuses bytes. For a value that refuses itself, the call may fail in any
-/// case and with another error. After a failure the target is dropped.
+/// print, if the target refuses bytes. A value that refuses itself may fail in any case, also with
+/// an error of its own. After a failure the target is dropped.
 pub fn to_extend<T: Serialize, W: ExtendBytes + Drop>(value: &T, writer: W) -> Result<W>
     ensures appends { IfOk result
         (λ target. W.content target ≡ W.content writer ++ canonical (T.shape.tree value.now)) }
-    ensures named_error { ¬ T.shape.refuses value.now → IfErr result (IsWriteError T.shape.text) }
+    ensures named_error { IfErr result (IsErrorOf T.shape value.now) }
     ensures fits { OnOk result (T.shape.fits value.now) }
 {
     serialize_with_flavor(value, ExtendFlavor::new(writer))
@@ -104,13 +109,13 @@ pub fn to_extend<T: Serialize, W: ExtendBytes + Drop>(value: &T, writer: W) -> R
 /// # Errors
 ///
 /// Fails with `SerializeBufferFull`, or with `CollectStrError` for a type whose text may fail to
-/// print, if the writer or its flush fails. For a value that refuses itself, the call may fail in
-/// any case and with another error. After a failure the writer is dropped, and may have been given
-/// some of the bytes.
+/// print, if the writer or its flush fails. A value that refuses itself may fail in any case, also
+/// with an error of its own. After a failure the writer is dropped, and may have been given some of
+/// the bytes.
 pub fn to_io<T: Serialize, W: Write + Drop>(value: &T, writer: W) -> Result<W>
     ensures appends { IfOk result (λ output. Appends (W.contents writer) (W.contents output)
         (canonical (T.shape.tree value.now))) }
-    ensures named_error { ¬ T.shape.refuses value.now → IfErr result (IsWriteError T.shape.text) }
+    ensures named_error { IfErr result (IsErrorOf T.shape value.now) }
     ensures fits { OnOk result (T.shape.fits value.now) }
 {
     serialize_with_flavor(value, WriteFlavor::new(writer))

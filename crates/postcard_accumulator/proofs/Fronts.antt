@@ -7,8 +7,8 @@ use Rattle.postcard_wire.specs.Tree.{Tree}
 use Rattle.postcard_wire.specs.Spelling.{Spells}
 use Rattle.postcard_cobs.specs.Groups.{Groups}
 use Rattle.postcard_cobs.proofs.Frames.{data_is_one}
-use Rattle.postcard_frame.specs.Front.{ReadsFront}
-use Rattle.postcard_frame.proofs.Alike.{fronts_alike}
+use Rattle.postcard_de.specs.Front.{ReadsFront}
+use Rattle.postcard_de.proofs.Alike.{fronts_alike}
 use Rattle.postcard_shape.specs.Shape.{Shape}
 use Rattle.postcard_accumulator.specs.Feeding.{IsValueOf, IsRefused}
 

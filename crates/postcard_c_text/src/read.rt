@@ -1,7 +1,7 @@
 //! The type of an expression, and a message of that type at the front of some bytes.
 
 ghost use Rattle.std.specs.Prelude.{◌≡◌, ◌≢◌, ◌⊎◌, ◌+◌, ◌≤◌, length, drop, IfOk, IfErr};
-ghost use Rattle.postcard_frame.specs.Front.{ReadsFront};
+ghost use Rattle.postcard_de.specs.Front.{ReadsFront};
 ghost use Rattle.postcard_dyn_schema.specs.Meaning.{type_of, reads};
 ghost use Rattle.postcard_dyn_schema.specs.Text.{characters};
 ghost use Rattle.postcard_dyn_schema.specs.Grammar.{IsExpression};

@@ -1,7 +1,10 @@
 //! Tests of the calls of a `Deserializer`, one by one.
 
 use crate::asserts::{assert_bytes, same};
-use postcard::{Deserialize, Deserializer, Error};
+use postcard::{Deserialize, Deserializer, Error, read_hash_map, read_hash_set};
+use std::collections::{HashMap, HashSet};
+use std::hash::RandomState;
+use std::test::Fail;
 
 #[test]
 fn counts_left(rt: HostRuntime) {
@@ -71,4 +74,18 @@ fn bytes_after_a_value(rt: HostRuntime) {
         deserializer.finalize(),
         Ok([0x01, 0x02, 0x03].as_slice()),
     );
+}
+
+#[test]
+fn a_set_and_a_map_of_random_seeds(rt: HostRuntime) -> std::result::Result<(), Fail> {
+    let mut d = Deserializer::from_bytes(&[0x02, 0x05, 0x07, 0x01, 0x06, 0x01]);
+    let set: HashSet<u8, RandomState> = read_hash_set(rt.alloc(), &mut d, RandomState::new(&rt)?)?;
+    same(&rt, (set.len(), set.contains(&7)), (2, true));
+    let map: HashMap<u8, u8, RandomState> = read_hash_map(
+        rt.alloc(),
+        &mut d,
+        RandomState::new(&rt)?,
+    )?;
+    same(&rt, (map.len(), map.get(&6).copied()), (1, Some(1)));
+    Ok(())
 }

@@ -16,11 +16,12 @@ use std::process::Abort;
 struct Unwritable;
 
 impl Shaped for Unwritable {
-    ghost use Rattle.std.specs.Prelude.{⊤};
+    ghost use Rattle.std.specs.Prelude.{◌≡◌};
+    ghost use Rattle.postcard_wire.specs.declared.error.Error.TheVariants.{SerdeSerCustom};
     ghost use Rattle.postcard_shape.specs.Rows.{none, group};
     ghost use Rattle.postcard_shape.specs.Refusing.{refusing};
 
-    ghost shape = { refusing (λ _. ⊤) (group none) };
+    ghost shape = { refusing (λ _ e. e ≡ SerdeSerCustom) (group none) };
 }
 
 impl Serialize for Unwritable {

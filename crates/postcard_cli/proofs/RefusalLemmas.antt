@@ -7,8 +7,8 @@ use Rattle.postcard_wire.specs.Spelling.{canonical}
 use Rattle.postcard_wire.specs.declared.error.Error.{Error}
 use Rattle.postcard_wire.specs.declared.error.Error.TheVariants.{OutOfMemory, SerializeBufferFull}
 use Rattle.postcard_shape.specs.Shape.{Shape}
-use Rattle.postcard_frame.specs.Front.{ReadsFront}
-use Rattle.postcard_ser.specs.Writing.{IsWriteError}
+use Rattle.postcard_de.specs.Front.{ReadsFront}
+use Rattle.postcard_ser.specs.Writing.{IsErrorOf}
 use Rattle.postcard_de.specs.Reads.{IsReadError}
 use Rattle.postcard_cli.specs.Command.{IsCallOf}
 use Rattle.postcard_cli.specs.Program.{Form}
@@ -31,15 +31,16 @@ above m n none = omega arith
 
 -- A value that doesn't refuse itself is too long if it is refused where each value of at most 4,096 bytes is taken.
 pub too_long : {T : Type 0} (shape : Shape T) (v : T) (e : Error)
-    → ((shape.refuses v → ⊥) → length (canonical (shape.tree v)) ≤ 4096 → ⊥) → ((shape.refuses v → ⊥) → IsWriteError shape.text e)
+    → (length (canonical (shape.tree v)) ≤ 4096 → shape.refusal v e) → IsErrorOf shape v e
     → IsTooLong shape v e
-too_long shape v e full named takes prints = (
-  buffer_full (named takes),
-  above (length (canonical (shape.tree v))) 4096 (full takes),
+too_long shape v e own named willing prints = (
+  buffer_full named,
+  above (length (canonical (shape.tree v))) 4096 (λ fits. willing.has_none e (own fits)),
 ) where
-  buffer_full : IsWriteError shape.text e → e ≡ SerializeBufferFull
-  buffer_full (inl is) = is
-  buffer_full (inr text) = absurd (prints text.0)
+  buffer_full : IsErrorOf shape v e → e ≡ SerializeBufferFull
+  buffer_full (inl (inl is)) = is
+  buffer_full (inl (inr text)) = absurd (prints text.0)
+  buffer_full (inr refused) = absurd (willing.has_none e refused)
 
 -- The library's error is that memory is lacking, or else no value is there.
 pub memory_or_none : (grows none : Type 0) (e : Error) → IsReadError grows e → (e ≢ OutOfMemory → none)

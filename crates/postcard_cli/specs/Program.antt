@@ -11,7 +11,7 @@ use Rattle.postcard_wire.specs.Spelling.{canonical}
 use Rattle.postcard_shape.specs.Shape.{Shape, growing}
 use Rattle.postcard_shape.specs.Leaves.{byte, signed_byte, num, int, boolean, character, text}
 use Rattle.postcard_shape.specs.Lists.{seq}
-use Rattle.postcard_frame.specs.Front.{ReadsFront}
+use Rattle.postcard_de.specs.Front.{ReadsFront}
 use Rattle.postcard_dyn_schema.specs.declared.schema.Schema.{Schema}
 use Rattle.postcard_dyn_schema.specs.Grammar.{IsExpression}
 use Rattle.postcard_dyn_text.specs.Shown.{joined}

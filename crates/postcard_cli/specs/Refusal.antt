@@ -7,8 +7,8 @@ use Rattle.hex.specs.Hex.{decode_of}
 use Rattle.postcard_wire.specs.Spelling.{canonical}
 use Rattle.postcard_wire.specs.declared.error.Error.{Error}
 use Rattle.postcard_wire.specs.declared.error.Error.TheVariants.{OutOfMemory, SerializeBufferFull, WontImplement}
-use Rattle.postcard_shape.specs.Shape.{Shape}
-use Rattle.postcard_frame.specs.Front.{ReadsFront}
+use Rattle.postcard_shape.specs.Shape.{Shape, IsWilling}
+use Rattle.postcard_de.specs.Front.{ReadsFront}
 use Rattle.postcard_de.specs.Reads.{IsReadError}
 use Rattle.postcard_dyn_schema.specs.declared.schema.Schema.{Schema}
 use Rattle.postcard_dyn_schema.specs.declared.error.ExpressionError.{ExpressionError}
@@ -188,7 +188,7 @@ ExplainFails reads steady expression hex all known left old new failure = ⊥
 -- type that has a name refuses itself, so neither premise is one there.
 abbrev pub IsTooLong : {T : Type 0} → Shape T → T → Error → Type 0
 IsTooLong shape value e =
-    (shape.refuses value → ⊥) → (shape.text → ⊥) → (e ≡ SerializeBufferFull) × (4096 < length (canonical (shape.tree value)))
+    IsWilling shape value → (shape.text → ⊥) → (e ≡ SerializeBufferFull) × (4096 < length (canonical (shape.tree value)))
 
 -- The failures of printing the encoding of a value.
 abbrev pub PrintingFails : {T : Type 0} → Shape T → T → Failure → Type 0

@@ -69,7 +69,7 @@ fn push_path(alloc: Global, schema: &Schema, bytes: &[u8], path: &mut String) ->
 fn push_in_list(alloc: Global, element: &Schema, bytes: &[u8], path: &mut String) -> Result<()>
     ensures { IfErr result (λ e. e ≡ Error.OutOfMemory) }
 {
-    match postcard_frame::take_from_bytes::<u64>(alloc, bytes) {
+    match postcard_de::take_from_bytes::<u64>(alloc, bytes) {
         Ok((_, rest)) => push_in_elements(alloc, element, rest, path),
         Err(_) => Ok(()),
     }
@@ -142,7 +142,7 @@ fn push_in_variant(
 ) -> Result<()>
     ensures { IfErr result (λ e. e ≡ Error.OutOfMemory) }
 {
-    match postcard_frame::take_from_bytes::<u32>(alloc, bytes) {
+    match postcard_de::take_from_bytes::<u32>(alloc, bytes) {
         Ok((index, rest)) => match variants.get(index as usize) {
             Some(variant) => push_path(alloc, variant, rest, path),
             None => Ok(()),

@@ -36,7 +36,7 @@ use crate::syntax::SYNTAX;
 use crate::{explain, frames, hexadecimal, message, stream, syntax, value};
 use postcard_de::Deserialize;
 use postcard_de_flavors::Source;
-use postcard_frame::take_from_bytes;
+use postcard_de::take_from_bytes;
 use postcard_ser::{Serialize, Serializer};
 use postcard_ser_flavors::{Flavor, HVec};
 use std::alloc::Global;

@@ -41,7 +41,7 @@ pub use modifier::CrcModifier;
 ///
 /// # Errors
 ///
-/// Fails as [`take_from_bytes`](postcard_frame::take_from_bytes) if no value can be read. Otherwise
+/// Fails as [`take_from_bytes`](postcard_de::take_from_bytes) if no value can be read. Otherwise
 /// fails with `DeserializeUnexpectedEnd` if fewer bytes follow the value than a checksum has, and
 /// with `DeserializeBadCrc` if they are not its checksum.
 pub fn take_from_bytes<'a, T: Deserialize<'a>, W: Width, I: Implementation<W>>(
@@ -69,7 +69,7 @@ pub fn take_from_bytes<'a, T: Deserialize<'a>, W: Width, I: Implementation<W>>(
     ensures named_error { IfErr result
         (λ e. IsReadError T.shape.grows e ⊎ (e ≡ Error.DeserializeBadCrc)) }
 {
-    let (value, rest) = postcard_frame::take_from_bytes(alloc, bytes)?;
+    let (value, rest) = postcard_de::take_from_bytes(alloc, bytes)?;
     let rest = checked(bytes, rest, digest)?;
     Ok((value, rest))
 }

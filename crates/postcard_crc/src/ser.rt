@@ -5,7 +5,8 @@ ghost use Rattle.std.specs.Prelude.{IfOk, IfErr, IsOk, OnOk};
 ghost use Rattle.crc.specs.Frame.{low_bytes};
 ghost use Rattle.postcard_cobs.specs.Groups.{made};
 ghost use Rattle.postcard_wire.specs.Spelling.{canonical};
-ghost use Rattle.postcard_ser.specs.Writing.{IsWriteError};
+ghost use Rattle.postcard_shape.specs.Shape.{IsWilling};
+ghost use Rattle.postcard_ser.specs.Writing.{IsErrorOf};
 ghost use Rattle.postcard_crc.specs.Reading.{IsWithCrc};
 ghost use Rattle.postcard_crc.specs.Writing.{FinishedWithCrc, HasRoom, IsCrcAfter};
 ghost use Rattle.postcard_crc.specs.Writing.{IsFrameWithCrc, FrameFits};
@@ -29,8 +30,8 @@ pub use modifier::CrcModifier;
 ///
 /// Fails with `SerializeBufferFull`, or with `CollectStrError` for a type whose text may fail to
 /// print, if the flavor refuses bytes or can't end; never if it has room for the encoding and the
-/// checksum. For a value that refuses itself, the call may fail in any case and with another error.
-/// After a failure the flavor is dropped.
+/// checksum. A value that refuses itself may fail in any case, and with an error of its own if there
+/// is such room. After a failure the flavor is dropped.
 pub fn serialize_with_checksum<
     T: Serialize,
     S: Flavor<Output = O> + Drop,
@@ -40,9 +41,11 @@ pub fn serialize_with_checksum<
 >(value: &T, storage: S, digest: Digest<'_, W, I>) -> Result<O>
     ensures gives { IfOk result (FinishedWithCrc S.Flavor W.size digest.entry storage
         (canonical (T.shape.tree value.now))) }
-    ensures has_room { ¬ T.shape.refuses value.now
+    ensures has_room { IsWilling T.shape value.now
         → HasRoom W.size S.room storage (canonical (T.shape.tree value.now)) → IsOk result }
-    ensures named_error { ¬ T.shape.refuses value.now → IfErr result (IsWriteError T.shape.text) }
+    ensures own_error { HasRoom W.size S.room storage (canonical (T.shape.tree value.now))
+        → IfErr result (T.shape.refusal value.now) }
+    ensures named_error { IfErr result (IsErrorOf T.shape value.now) }
     ensures fits { OnOk result (T.shape.fits value.now) }
 {
     let mut serializer = Serializer {
@@ -61,9 +64,9 @@ pub fn serialize_with_checksum<
 /// # Errors
 ///
 /// Fails if and only if `buf` has no room for the encoding and the checksum: with
-/// `SerializeBufferFull`, or with `CollectStrError` for a type whose text may fail to print. For a
-/// value that refuses itself, the call may fail in any case and with another error. After a failure
-/// the content of the buffer is unspecified.
+/// `SerializeBufferFull`, or with `CollectStrError` for a type whose text may fail to print. A value
+/// that refuses itself may fail in any case, and with an error of its own if `buf` has such room.
+/// After a failure the content of the buffer is unspecified.
 pub fn to_slice<'a, T: Serialize, W: Width, I: Implementation<W>>(
     value: &T,
     buf: &'a mut [u8],
@@ -71,9 +74,11 @@ pub fn to_slice<'a, T: Serialize, W: Width, I: Implementation<W>>(
 ) -> Result<&'a mut [u8]>
     ensures gives { IfOk result (λ front. IsWithCrc W.size digest.entry
         (canonical (T.shape.tree value.now)) front.now) }
-    ensures fits_iff { ¬ T.shape.refuses value.now → (IsOk result
+    ensures fits_iff { IsWilling T.shape value.now → (IsOk result
         ↔ (length (canonical (T.shape.tree value.now)) + W.size ≤ length buf.old)) }
-    ensures named_error { ¬ T.shape.refuses value.now → IfErr result (IsWriteError T.shape.text) }
+    ensures own_error { length (canonical (T.shape.tree value.now)) + W.size ≤ length buf.old
+        → IfErr result (T.shape.refusal value.now) }
+    ensures named_error { IfErr result (IsErrorOf T.shape value.now) }
     ensures fits { OnOk result (T.shape.fits value.now) }
 {
     serialize_with_checksum(value, Slice::new(buf), digest)
@@ -85,17 +90,20 @@ pub fn to_slice<'a, T: Serialize, W: Width, I: Implementation<W>>(
 /// # Errors
 ///
 /// Fails if and only if the encoding and the checksum have more than `B` bytes: with
-/// `SerializeBufferFull`, or with `CollectStrError` for a type whose text may fail to print. For a
-/// value that refuses itself, the call may fail in any case and with another error.
+/// `SerializeBufferFull`, or with `CollectStrError` for a type whose text may fail to print. A value
+/// that refuses itself may fail in any case, and with an error of its own if they have at most `B`
+/// bytes.
 pub fn to_vec<T: Serialize, W: Width, I: Implementation<W>, const B: usize>(
     value: &T,
     digest: Digest<'_, W, I>,
 ) -> Result<ArrayVec<u8, B>>
     ensures gives { IfOk result (λ vec. IsWithCrc W.size digest.entry
         (canonical (T.shape.tree value.now)) vec.items) }
-    ensures fits_iff { ¬ T.shape.refuses value.now → (IsOk result
+    ensures fits_iff { IsWilling T.shape value.now → (IsOk result
         ↔ (length (canonical (T.shape.tree value.now)) + W.size ≤ B)) }
-    ensures named_error { ¬ T.shape.refuses value.now → IfErr result (IsWriteError T.shape.text) }
+    ensures own_error { length (canonical (T.shape.tree value.now)) + W.size ≤ B
+        → IfErr result (T.shape.refusal value.now) }
+    ensures named_error { IfErr result (IsErrorOf T.shape value.now) }
     ensures fits { OnOk result (T.shape.fits value.now) }
 {
     serialize_with_checksum(value, HVec::new(), digest)
@@ -106,8 +114,8 @@ pub fn to_vec<T: Serialize, W: Width, I: Implementation<W>, const B: usize>(
 /// # Errors
 ///
 /// Fails only if an allocation fails: with `SerializeBufferFull`, or with `CollectStrError` for a
-/// type whose text may fail to print. For a value that refuses itself, the call may fail in any
-/// case and with another error.
+/// type whose text may fail to print. A value that refuses itself may fail in any case, also with
+/// an error of its own.
 pub fn to_allocvec<T: Serialize, W: Width, I: Implementation<W>>(
     alloc: Global,
     value: &T,
@@ -115,7 +123,7 @@ pub fn to_allocvec<T: Serialize, W: Width, I: Implementation<W>>(
 ) -> Result<Vec<u8>>
     ensures gives { IfOk result (λ vec. IsWithCrc W.size digest.entry
         (canonical (T.shape.tree value.now)) vec.items) }
-    ensures named_error { ¬ T.shape.refuses value.now → IfErr result (IsWriteError T.shape.text) }
+    ensures named_error { IfErr result (IsErrorOf T.shape value.now) }
     ensures fits { OnOk result (T.shape.fits value.now) }
 {
     serialize_with_checksum(value, AllocVec::new(alloc), digest)
@@ -133,12 +141,14 @@ fn framed<T: Serialize, B: Storage + Drop, W: Width, I: Implementation<W>>(
         × (B.held last ≡ B.held storage
         ++ made (canonical (T.shape.tree value.now) ++ low_bytes W.size crc))
         × B.reaches storage last × B.finishes last output)) }
-    ensures has_room { ¬ T.shape.refuses value.now
+    ensures has_room { IsWilling T.shape value.now
         → FrameFits W.size (canonical (T.shape.tree value.now)) (usize.MAX - 2)
         → ((ys : List ℕ) → length ys ≡ length (canonical (T.shape.tree value.now)) + W.size
         → B.free storage (length (made ys))) → IsOk result }
-    ensures named_error { ¬ T.shape.refuses value.now
-        → IfErr result (IsWriteError T.shape.text) }
+    ensures own_error { FrameFits W.size (canonical (T.shape.tree value.now)) (usize.MAX - 2)
+        → ((ys : List ℕ) → length ys ≡ length (canonical (T.shape.tree value.now)) + W.size
+        → B.free storage (length (made ys))) → IfErr result (T.shape.refusal value.now) }
+    ensures named_error { IfErr result (IsErrorOf T.shape value.now) }
     ensures fits { OnOk result (T.shape.fits value.now) }
 {
     serialize_with_checksum(value, Cobs::try_new(storage)?, digest)
@@ -150,9 +160,9 @@ fn framed<T: Serialize, B: Storage + Drop, W: Width, I: Implementation<W>>(
 /// # Errors
 ///
 /// Fails with `SerializeBufferFull`, or with `CollectStrError` for a type whose text may fail to
-/// print; never if `buf` has room for the frame of the encoding and any checksum. For a value that
-/// refuses itself, the call may fail in any case and with another error. After a failure the content
-/// of the buffer is unspecified.
+/// print; never if `buf` has room for the frame of the encoding and any checksum. A value that
+/// refuses itself may fail in any case, and with an error of its own if `buf` has such room. After a
+/// failure the content of the buffer is unspecified.
 pub fn to_slice_cobs<'a, T: Serialize, W: Width, I: Implementation<W>>(
     value: &T,
     buf: &'a mut [u8],
@@ -160,10 +170,11 @@ pub fn to_slice_cobs<'a, T: Serialize, W: Width, I: Implementation<W>>(
 ) -> Result<&'a mut [u8]>
     ensures gives { IfOk result (λ front. IsFrameWithCrc W.size digest.entry
         (canonical (T.shape.tree value.now)) front.now) }
-    ensures has_room { ¬ T.shape.refuses value.now
+    ensures has_room { IsWilling T.shape value.now
         → FrameFits W.size (canonical (T.shape.tree value.now)) (length buf.old) → IsOk result }
-    ensures named_error { ¬ T.shape.refuses value.now
-        → IfErr result (IsWriteError T.shape.text) }
+    ensures own_error { FrameFits W.size (canonical (T.shape.tree value.now)) (length buf.old)
+        → IfErr result (T.shape.refusal value.now) }
+    ensures named_error { IfErr result (IsErrorOf T.shape value.now) }
     ensures fits { OnOk result (T.shape.fits value.now) }
 {
     // For the prover: a slice has fewer than 2^63 bytes, so the frame's length can be counted.
@@ -177,8 +188,8 @@ pub fn to_slice_cobs<'a, T: Serialize, W: Width, I: Implementation<W>>(
 /// # Errors
 ///
 /// Fails only if an allocation fails: with `SerializeBufferFull`, or with `CollectStrError` for a
-/// type whose text may fail to print. For a value that refuses itself, the call may fail in any
-/// case and with another error.
+/// type whose text may fail to print. A value that refuses itself may fail in any case, also with
+/// an error of its own.
 pub fn to_allocvec_cobs<T: Serialize, W: Width, I: Implementation<W>>(
     alloc: Global,
     value: &T,
@@ -186,8 +197,7 @@ pub fn to_allocvec_cobs<T: Serialize, W: Width, I: Implementation<W>>(
 ) -> Result<Vec<u8>>
     ensures gives { IfOk result (λ vec. IsFrameWithCrc W.size digest.entry
         (canonical (T.shape.tree value.now)) vec.items) }
-    ensures named_error { ¬ T.shape.refuses value.now
-        → IfErr result (IsWriteError T.shape.text) }
+    ensures named_error { IfErr result (IsErrorOf T.shape value.now) }
     ensures fits { OnOk result (T.shape.fits value.now) }
 {
     framed(value, AllocVec::new(alloc), digest)

@@ -6,3 +6,5 @@ pub mod Entries
 pub mod Groups
 pub mod Mapped
 mod Addresses
+pub mod CStrings
+pub mod Alike

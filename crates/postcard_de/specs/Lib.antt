@@ -1,4 +1,5 @@
 pub mod Reads
+pub mod Front
 pub mod Refuses
 pub mod Deserializer
 pub mod Unfit

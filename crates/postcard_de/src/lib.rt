@@ -8,7 +8,8 @@
 //! it `refused`, the exact reason of a failure.
 //!
 //! A struct is read as the tuple of its fields and an enum as its variants in a row ([`FromRepr`]),
-//! with no proof of their own.
+//! with no proof of their own. [`from_bytes`] and [`take_from_bytes`] are the calls for bytes in
+//! memory.
 //!
 //! In reading order: [`deserialize`] has the trait, [`owned`] that of types that borrow nothing,
 //! [`repr`] how a type is read as another, [`rows`] and [`cases`] what tuples and enums are read
@@ -18,6 +19,7 @@
 #![tactic(auto)]
 
 pub mod access;
+mod bytes;
 pub mod cases;
 pub mod deserialize;
 pub mod deserializer;
@@ -30,6 +32,7 @@ pub mod rows;
 pub mod values;
 
 pub use access::SeqAccess;
+pub use bytes::{from_bytes, take_from_bytes};
 pub use deserialize::Deserialize;
 pub use deserializer::Deserializer;
 pub use map_access::MapAccess;
@@ -38,3 +41,4 @@ pub use postcard_de_flavors::{Flavor, Slice, flavor, slice};
 pub use postcard_shape::{Case, NoCase, Part, Repr, Shaped};
 pub use postcard_wire::{Error, Result};
 pub use repr::FromRepr;
+pub use values::hashes::{read_hash_map, read_hash_set};

@@ -1,7 +1,8 @@
-//! Reading one node of a message from a source: a number, a boolean, a text, a byte string.
+//! Reading one node of a message from a source: a number, a boolean, a character, a text, a byte
+//! string, a float; and a list whose bytes are at hand.
 //!
 //! Each function takes its node from the front of what the source has left. Its contract has two
-//! clauses. `reads` says with `Reads` (`specs/Reads.antt`) that the result is the value of a front
+//! clauses, and that of a list a third. `reads` says with `Reads` (`specs/Reads.antt`) that the result is the value of a front
 //! that spells such a node, that such a front is always read if the source is able to give it and
 //! no allocation fails, what is left, and which errors may be returned. `refused` states the exact
 //! reason of an error (`specs/Refuses.antt`, `specs/Unfit.antt`). A single byte is read by

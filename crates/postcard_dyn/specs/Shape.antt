@@ -1,7 +1,7 @@
 -- The shape of the values of a type that is known only at run time.
 use Rattle.std.specs.Prelude.{◌≡◌, refl}
 use Rattle.std.proofs.Common.{sym, ◌∙◌}
-use Rattle.postcard_shape.specs.Shape.{Shape}
+use Rattle.postcard_shape.specs.Shape.{Shape, never}
 use Rattle.postcard_dyn_schema.specs.Meaning.{MessageType, reads}
 use Rattle.postcard_dyn.specs.Tree.{tree, IsTree}
 use Rattle.postcard_dyn.specs.declared.value.Value.{Value}
@@ -12,7 +12,7 @@ use Rattle.postcard_dyn.specs.TypeLaws.{type_delimited, type_well_formed}
 abbrev pub shape_of : MessageType → Shape Value
 shape_of t = record {
   tree = tree;
-  refuses = λ v. ⊥;
+  refusal = λ v. never;
   text = ⊥;
   reads = reads t;
   value = IsTree;

@@ -5,7 +5,7 @@ ghost use Rattle.postcard_wire.specs.Tree.{Tree};
 ghost use Rattle.postcard_wire.specs.Spelling.{Spells, canonical};
 ghost use Rattle.postcard_ser.specs.Writing.{IsWriteError};
 ghost use Rattle.postcard_de.specs.Reads.{IsReadError};
-ghost use Rattle.postcard_frame.specs.Front.{ReadsFront};
+ghost use Rattle.postcard_de.specs.Front.{ReadsFront};
 ghost use Rattle.postcard_ser.specs.Finished.{Finished};
 ghost use Rattle.postcard_dyn_schema.specs.Meaning.{type_of, reads};
 ghost use Rattle.postcard_dyn.specs.Tree.{tree, IsTree};

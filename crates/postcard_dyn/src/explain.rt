@@ -377,7 +377,7 @@ fn explain_list<'a>(
         → Walks (Explains place.entry.depth place.entry.label s)
         walk.old.lines.items bytes.now walk.new.lines.items result }
 {
-    match postcard_frame::take_from_bytes::<u64>(walk.alloc, bytes) {
+    match postcard_de::take_from_bytes::<u64>(walk.alloc, bytes) {
         Ok((count, rest)) => {
             push(walk, place, Node::Count(count), front_of(bytes, rest))?;
             explain_elements(walk, element, count, inside(place).depth, rest)
@@ -518,7 +518,7 @@ fn explain_variant<'a>(
         → Walks (Explains place.entry.depth place.entry.label s)
         walk.old.lines.items bytes.now walk.new.lines.items result }
 {
-    let (index, rest) = match postcard_frame::take_from_bytes::<u32>(walk.alloc, bytes) {
+    let (index, rest) = match postcard_de::take_from_bytes::<u32>(walk.alloc, bytes) {
         Ok(read) => read,
         Err(error) => return refuse(walk, Expected::Variant, place, bytes, error),
     };

@@ -44,7 +44,7 @@ fn refused_after_count(alloc: Global, element: &Schema, bytes: &[u8]) -> Result<
     ensures within { IfOk result (λ place. place ≤ length bytes.now) }
     ensures refused { IfErr result (λ e. e ≡ Error.OutOfMemory) }
 {
-    match postcard_frame::take_from_bytes::<u64>(alloc, bytes) {
+    match postcard_de::take_from_bytes::<u64>(alloc, bytes) {
         Ok((_, rest)) => {
             let offset = refused_element(alloc, element, rest)?;
             Ok(offset_after(bytes, rest, offset))
@@ -100,7 +100,7 @@ fn refused_content(alloc: Global, variants: &Vec<Schema>, bytes: &[u8]) -> Resul
     ensures within { IfOk result (λ place. place ≤ length bytes.now) }
     ensures refused { IfErr result (λ e. e ≡ Error.OutOfMemory) }
 {
-    match postcard_frame::take_from_bytes::<u32>(alloc, bytes) {
+    match postcard_de::take_from_bytes::<u32>(alloc, bytes) {
         Ok((index, rest)) => match variants.get(index as usize) {
             Some(variant) => {
                 let offset = refused_at(alloc, variant, rest)?;

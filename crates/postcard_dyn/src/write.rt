@@ -3,7 +3,7 @@
 ghost use Rattle.std.specs.Prelude.{map};
 ghost use Rattle.postcard_wire.specs.Spelling.{canonical, canonical_all};
 ghost use Rattle.postcard_wire.specs.Tree.{trees};
-ghost use Rattle.postcard_ser.specs.Writing.{Wrote};
+ghost use Rattle.postcard_ser.specs.Writing.{Wrote, never};
 ghost use Rattle.postcard_dyn.specs.Tree.{tree};
 
 use crate::value::Value;
@@ -23,7 +23,7 @@ use postcard_wire::Result;
 /// before the error stay in it.
 #[cycle(write)]
 pub fn write_value<F: Flavor>(value: &Value, serializer: &mut Serializer<F>) -> Result<()>
-    ensures { Wrote F.Flavor serializer.old.output (canonical (tree value.now)) ⊥ ⊥ result
+    ensures { Wrote F.Flavor serializer.old.output (canonical (tree value.now)) never ⊥ result
         serializer.new.output }
 {
     match value {
@@ -63,7 +63,7 @@ pub fn write_value<F: Flavor>(value: &Value, serializer: &mut Serializer<F>) -> 
 fn write_all<F: Flavor>(items: &Vec<Value>, serializer: &mut Serializer<F>) -> Result<()>
     ensures { Wrote F.Flavor serializer.old.output
         (canonical_all (trees (map tree items.now.items)))
-        ⊥ ⊥ result serializer.new.output }
+        never ⊥ result serializer.new.output }
 {
     for item in items {
         write_value(item, serializer)?;

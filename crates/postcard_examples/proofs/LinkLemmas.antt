@@ -11,5 +11,5 @@ use Rattle.postcard_shape.specs.declared.cases.Case.TheVariants.{This, Next}
 use Rattle.postcard_examples.specs.Links.{chain_shape, chain_cases}
 
 -- A link is written as its index, its number, and the chain after it, whose limit is one less.
-pub link_wrote : {S O : Type 0} {F : Ghosts S O} {s u : S} {r : Result (Unit {0}) Error} (d m n : ℕ) (v w : Chain) → d ≡ suc m → Wrote F s (digits 1 ++ (digits n ++ (canonical ((chain_shape m).tree w) ++ []))) ((chain_shape m).refuses w) (chain_shape m).text r u → chain_cases v ≡ Next (This (n, (w, tt))) → Wrote F s (canonical ((chain_shape d).tree v)) ((chain_shape d).refuses v) (chain_shape d).text r u
-link_wrote d m n v w e k i = rw e (rw i (wrote_as k (λ q. inr (inl q)) (λ t. inr (inl (inr (inl t))))))
+pub link_wrote : {S O : Type 0} {F : Ghosts S O} {s u : S} {r : Result (Unit {0}) Error} (d m n : ℕ) (v w : Chain) → d ≡ suc m → Wrote F s (digits 1 ++ (digits n ++ (canonical ((chain_shape m).tree w) ++ []))) ((chain_shape m).refusal w) (chain_shape m).text r u → chain_cases v ≡ Next (This (n, (w, tt))) → Wrote F s (canonical ((chain_shape d).tree v)) ((chain_shape d).refusal v) (chain_shape d).text r u
+link_wrote d m n v w e k i = rw e (rw i (wrote_as k (λ e q. inr (inl q)) (λ t. inr (inl (inr (inl t))))))

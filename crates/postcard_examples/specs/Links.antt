@@ -1,7 +1,8 @@
 -- The shape of a chain of fewer than n links, by recursion on n.
-use Rattle.std.specs.Prelude.{ℕ, zero, suc, ⊤}
+use Rattle.std.specs.Prelude.{◌≡◌, ℕ, zero, suc, ⊤}
 use Rattle.std.proofs.Common.{refl, inl}
 use Rattle.postcard_wire.specs.Tree.{Absent}
+use Rattle.postcard_wire.specs.declared.error.Error.TheVariants.{SerdeSerCustom}
 use Rattle.postcard.specs.Lemmas.{none_delimited}
 use Rattle.postcard_shape.specs.Shape.{Shape, via, growing}
 use Rattle.postcard_shape.specs.Leaves.{num}
@@ -17,11 +18,11 @@ abbrev pub chain_cases : Chain → Case (Unit {0}) (Case (ℕ × (Chain × Unit 
 chain_cases End = This tt
 chain_cases (Link' n p c) = Next (This (n, (c, tt)))
 
--- The shape without values: each value refuses itself, and no tree is read.
+-- The shape without values: each value refuses itself with `SerdeSerCustom`, and no tree is read.
 abbrev pub too_long : {V : Type 0} → Shape V
 too_long {V} = record {
   tree = λ v. Absent;
-  refuses = λ v. ⊤;
+  refusal = λ v e. e ≡ SerdeSerCustom;
   text = ⊥;
   reads = λ t. ⊥;
   value = λ t v. ⊥;

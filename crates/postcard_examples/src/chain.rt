@@ -29,7 +29,7 @@ pub enum Chain {
 /// took before stay in it.
 fn write_links<F: Flavor>(chain: &Chain, limit: u32, serializer: &mut Serializer<F>) -> Result<()>
     ensures wrote { Wrote F.Flavor serializer.old.output
-        (canonical ((chain_shape limit).tree chain.now)) ((chain_shape limit).refuses chain.now)
+        (canonical ((chain_shape limit).tree chain.now)) ((chain_shape limit).refusal chain.now)
         (chain_shape limit).text result serializer.new.output }
     ensures fits { OnOk result ((chain_shape limit).fits chain.now) }
 {

@@ -1,6 +1,7 @@
 //! A type some of whose values can't be written.
 
-ghost use Rattle.std.specs.Prelude.{◌<◌};
+ghost use Rattle.std.specs.Prelude.{◌≡◌, ◌<◌};
+ghost use Rattle.postcard_wire.specs.declared.error.Error.TheVariants.{SerdeSerCustom};
 ghost use Rattle.postcard_shape.specs.Shape.{via};
 ghost use Rattle.postcard_shape.specs.Refusing.{refusing};
 
@@ -16,9 +17,10 @@ pub struct Interval {
     pub end: u16,
 }
 
-/// An interval is encoded as the tuple of its ends, and refuses itself if it ends before it starts.
+/// An interval is encoded as the tuple of its ends, and refuses itself with `SerdeSerCustom` if it
+/// ends before it starts.
 impl Shaped for Interval {
-    ghost shape = { refusing (λ v. v.end < v.start)
+    ghost shape = { refusing (λ v e. (v.end < v.start) × (e ≡ SerdeSerCustom))
         (via (λ v. (v.start, v.end)) ⟦<(u16, u16) as Shaped>⟧.shape) };
 }
 

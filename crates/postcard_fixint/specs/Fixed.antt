@@ -1,14 +1,14 @@
 -- The shape of a number that is written as its bytes, as many as its type has (behaviour of
 -- postcard 1.1.3, module `fixint`).
-use Rattle.std.specs.Prelude.{◌≡◌, ℕ, suc, ◌-◌, ◌*◌, ◌<◌, ◌^◌, List, [], ◌∷◌, ℤ, pos, negsuc}
-use Rattle.std.proofs.Common.{refl, sym, ap, ap₂, ◌∙◌, arith}
+use Rattle.std.specs.Prelude.{◌≡◌, ℕ, suc, ◌-◌, ◌*◌, ◌<◌, ◌^◌, List, ℤ, pos, negsuc}
+use Rattle.std.proofs.Common.{refl, sym, ap, ◌∙◌, arith}
 use Rattle.std.proofs.lemmas.Int.{ints}
 use Rattle.postcard_wire.specs.Number.{InRange}
 use Rattle.postcard_wire.specs.Tree.{Tree}
 use Rattle.postcard_shape.specs.Leaves.{byte}
 use Rattle.postcard_shape.specs.Lists.{array}
 use Rattle.postcard_shape.specs.Same.{HasOne, same_list}
-use Rattle.postcard_shape.specs.Shape.{Shape}
+use Rattle.postcard_shape.specs.Shape.{Shape, never, IsWilling}
 use Rattle.postcard_shape.specs.Base256.{Order}
 
 -- A type of numbers of a fixed width.
@@ -92,7 +92,7 @@ module _ {V : Type 0} (order : Order) (width : FixedWidth V) where
 abbrev pub fixed : {V : Type 0} → Order → FixedWidth V → Shape V
 fixed order width = record {
   tree = λ v. (array width.size byte).tree (order.spell width.size (width.modulo v));
-  refuses = λ v. ⊥;
+  refusal = λ v. never;
   text = ⊥;
   reads = (array width.size byte).reads;
   value = IsFixed order width;
@@ -111,7 +111,7 @@ pub record IsByteArray {B : Type 0} (s : Shape B) (list : B → List ℕ) (k : �
   pub reads : (t : Tree) → s.reads t → (array k byte).reads t
   pub all : (t : Tree) → (array k byte).reads t → s.reads t
   pub value : (t : Tree) (b : B) → s.value t b → (array k byte).value t (list b)
-  pub accepted : (b : B) → s.refuses b → ⊥
+  pub accepted : (b : B) → IsWilling s b
   pub silent : s.text → ⊥
   pub fixed : s.grows → ⊥
 
@@ -122,7 +122,7 @@ byte_array k = record {
   reads = λ t r. r;
   all = λ t r. r;
   value = λ t b h. h;
-  accepted = λ b h. h.4;
+  accepted = λ b. record { has_none = λ e h. h.4 };
   silent = λ h. h;
   fixed = λ h. h;
 }

@@ -4,7 +4,7 @@ ghost use Rattle.std.specs.Prelude.{◌≡◌, OnOk};
 ghost use Rattle.postcard_wire.specs.Spelling.{Spells};
 ghost use Rattle.postcard_shape.specs.Leaves.{byte};
 ghost use Rattle.postcard_shape.specs.Lists.{array};
-ghost use Rattle.postcard_ser.specs.Writing.{Wrote};
+ghost use Rattle.postcard_ser.specs.Writing.{Wrote, never};
 ghost use Rattle.postcard_de.specs.Deserializer.{source_of};
 ghost use Rattle.postcard_de.specs.Reads.{Reads};
 ghost use Rattle.postcard_shape.specs.Base256.{little};
@@ -89,7 +89,7 @@ pub fn serialize<T: FixInt, F: postcard_ser::Flavor>(
     serializer: &mut Serializer<F>,
 ) -> Result<()>
     ensures wrote { Wrote F.Flavor serializer.old.output
-        (little.spell T.width.size (T.width.modulo value.now)) ⊥ ⊥ result serializer.new.output }
+        (little.spell T.width.size (T.width.modulo value.now)) never ⊥ result serializer.new.output }
     ensures fits { OnOk result (T.width.fits value.now) }
 {
     LE(*value).serialize(serializer)

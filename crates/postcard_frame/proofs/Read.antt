@@ -11,7 +11,7 @@ use Rattle.postcard_cobs.specs.Groups.{Groups, before_zero}
 use Rattle.postcard_cobs.proofs.Frames.{data_is_one}
 use Rattle.postcard_de.specs.Reads.{IsReadError}
 use Rattle.postcard_shape.specs.Shape.{Shape}
-use Rattle.postcard_frame.specs.Front.{ReadsFront}
+use Rattle.postcard_de.specs.Front.{ReadsFront}
 use Rattle.postcard_frame.specs.Frame.{ReadsFrame, HasNoData, IsReadOf}
 use Rattle.postcard_frame.specs.Buffer.{KeepsFromZero, KeepsZero}
 use Rattle.postcard_frame.specs.Parts.{IsDecoded, IsBeside}

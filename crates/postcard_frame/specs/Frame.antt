@@ -8,7 +8,7 @@ use Rattle.postcard_wire.specs.declared.error.Error.TheVariants.{OutOfMemory}
 use Rattle.postcard_wire.specs.declared.error.Error.TheVariants.{DeserializeBadEncoding}
 use Rattle.postcard_de.specs.Reads.{IsReadError}
 use Rattle.postcard_shape.specs.Shape.{Shape}
-use Rattle.postcard_frame.specs.Front.{ReadsFront}
+use Rattle.postcard_de.specs.Front.{ReadsFront}
 
 -- The frame has data of which a front spells a tree that is read, and v is that tree's value.
 pub record ReadsFrame {V : Type 0} (reads : Tree → Type 0) (value : Tree → V → Type 0)

@@ -1,4 +1,3 @@
-pub mod Front
 pub mod Frame
 pub mod Buffer
 pub mod Parts

@@ -11,9 +11,8 @@ ghost use Rattle.postcard_frame.specs.Frame.{IsReadOf};
 ghost use Rattle.postcard_frame.specs.Buffer.{KeepsFromZero, KeepsZero, HasDataOf};
 ghost use Rattle.postcard_frame.specs.Parts.{IsDecoded, IsBeside};
 
-use crate::bytes::from_bytes;
 use postcard_cobs::decode_in_place_report;
-use postcard_de::Deserialize;
+use postcard_de::{Deserialize, from_bytes};
 use postcard_memory::split_front;
 use postcard_wire::{Error, Result};
 use std::alloc::Global;

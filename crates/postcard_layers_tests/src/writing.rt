@@ -5,6 +5,7 @@ ghost use Rattle.std.specs.Prelude.{◌≡◌, ◌%◌, [], ◌∷◌};
 ghost use Rattle.postcard_shape.specs.Leaves.{byte};
 ghost use Rattle.postcard_shape.specs.Lists.{seq};
 ghost use Rattle.postcard_shape.specs.Shape.{via};
+ghost use Rattle.postcard_wire.specs.declared.error.Error.TheVariants.{SerdeSerCustom};
 ghost use Rattle.postcard_shape.specs.Refusing.{refusing};
 ghost use Rattle.postcard_layers_tests.specs.declared.writing.Event.{Event};
 
@@ -96,7 +97,8 @@ impl Serialize for Both {
 struct Even(u8);
 
 impl Shaped for Even {
-    ghost shape = { refusing (λ v. v.0 % 2 ≡ 1) (via (λ v. v.0) byte) };
+    ghost shape = { refusing (λ v e. (v.0 % 2 ≡ 1) × (e ≡ SerdeSerCustom))
+        (via (λ v. v.0) byte) };
 }
 
 impl Serialize for Even {

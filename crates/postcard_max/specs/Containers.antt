@@ -1,13 +1,14 @@
 -- The greatest sizes of options, results, arrays and lists of a fixed capacity, from those of what
 -- they hold (wire format 1.0, "option", "newtype_variant", "tuple" and "seq").
 use Rattle.std.proofs.Common.{◌≡◌, ℕ, zero, suc, ◌+◌, ◌*◌, ◌^◌, ◌<◌, ◌≤◌, inl, inr, true, false, Option, Some, None, length, refl, ap, arith, length-append, nat_lt}
-use Rattle.std.specs.Prelude.{◌⊎◌, max, if◌then◌else◌, List, Any, IsSomeAnd, IsOkAnd, IsErrAnd}
+use Rattle.std.specs.Prelude.{max, if◌then◌else◌, List, Any, IsSomeAnd}
 use Rattle.std.proofs.lemmas.Bool.{cases_lt}
 use Rattle.std.proofs.Math.Nat.{mul-le-mul_right}
 use Rattle.postcard_wire.specs.Number.{digits}
 use Rattle.postcard_wire.specs.Tree.{Tree, Trees, Group, Seq, Present, Variant, NoTrees, Then, count}
 use Rattle.postcard_wire.specs.Spelling.{canonical, canonical_all}
 use Rattle.postcard_wire.specs.Reading.{IsOption, IsArray, IsVariant, Each}
+use Rattle.postcard_shape.specs.Choices.{result_refusal}
 use Rattle.postcard_shape.specs.Fixed.{IsFewSeq}
 use Rattle.postcard_shape.specs.Options.{ResultReads}
 use Rattle.postcard_max.specs.Sizes.{limited, sum_of, times, greater_of, varint_len}
@@ -15,6 +16,7 @@ use Rattle.postcard_max.specs.SizeLimit.{SizeLimit, option_limit, result_limit, 
 use Rattle.postcard_max.specs.Limits.{AreBounded, IsReached, IsLimit, tree_len, limited_bounded, limited_reached}
 use Rattle.postcard_max.specs.Willing.{option_never, result_never, any_never}
 use Rattle.postcard_max.specs.Counts.{longer_counts, count_len, one_count}
+use Rattle.postcard_wire.specs.declared.error.Error.{Error}
 
 -- The greatest size of an option is 1 byte, and that of its value.
 longest_option : (m : ℕ) (reads : Tree → Type 0) → ((t : Tree) → reads t → tree_len t ≤ m) → (t : Tree) → IsOption reads t → tree_len t ≤ 1 + m
@@ -30,11 +32,11 @@ option_reached None reads h = tt
 option_reached (Some m) reads h = limited_reached tree_len (1 + m) (IsOption reads) (Present h.0, inr (h.0, refl, h.1), omega (arith, h.2))
 
 -- The limit of an option holds if that of its content does.
-pub option_lawful : {V : Type 0} {l : SizeLimit} {reads : Tree → Type 0} {refuses : V → Type 0} → IsLimit l reads refuses → IsLimit (option_limit l) (IsOption reads) (λ v. IsSomeAnd v refuses)
-option_lawful {l = l} {reads = reads} {refuses = refuses} h = record {
+pub option_lawful : {V : Type 0} {l : SizeLimit} {reads : Tree → Type 0} {refusal : V → Error → Type 0} → IsLimit l reads refusal → IsLimit (option_limit l) (IsOption reads) (λ v e. IsSomeAnd v (λ x. refusal x e))
+option_lawful {l = l} {reads = reads} {refusal = refusal} h = record {
   bounded = option_bounded l.greatest reads h.bounded;
   is_reached = λ r. option_reached l.greatest reads (h.is_reached r);
-  never_refuses = λ w. option_never refuses (h.never_refuses w);
+  never_refuses = λ w. option_never refusal (h.never_refuses w);
 }
 
 -- The greatest size of a result is 1 byte for its index, and the greater of the sizes of its
@@ -58,7 +60,7 @@ result_reached (Some a) (Some b) F G h k = limited_reached tree_len (1 + max a b
 ])
 
 -- The limit of a result holds if those of its contents do.
-pub result_lawful : {V W : Type 0} {l m : SizeLimit} {F G : Tree → Type 0} {good : V → Type 0} {bad : W → Type 0} → IsLimit l F good → IsLimit m G bad → IsLimit (result_limit l m) (IsVariant (ResultReads F G)) (λ v. IsOkAnd v good ⊎ IsErrAnd v bad)
+pub result_lawful : {V W : Type 0} {l m : SizeLimit} {F G : Tree → Type 0} {good : V → Error → Type 0} {bad : W → Error → Type 0} → IsLimit l F good → IsLimit m G bad → IsLimit (result_limit l m) (IsVariant (ResultReads F G)) (result_refusal good bad)
 result_lawful {l = l} {m = m} {F = F} {G = G} {good = good} {bad = bad} h k = record {
   bounded = result_bounded l.greatest m.greatest F G h.bounded k.bounded;
   is_reached = λ r. result_reached l.greatest m.greatest F G (h.is_reached r.0) (k.is_reached r.1);
@@ -103,11 +105,11 @@ array_reached n (Some m) reads h =
     limited_reached tree_len (n * m) (IsArray n reads) (Group (copies n h.0), (copies n h.0, refl, copies_count n h.0, copies_each reads n h.0 h.1), copies_length n m h.0 h.2)
 
 -- The limit of an array holds if that of its elements does.
-pub array_lawful : {V : Type 0} {l : SizeLimit} {reads : Tree → Type 0} {refuses : V → Type 0} (n : ℕ) → IsLimit l reads refuses → IsLimit (array_limit n l) (IsArray n reads) (λ (v : List V). Any refuses v)
-array_lawful {l = l} {reads = reads} {refuses = refuses} n h = record {
+pub array_lawful : {V : Type 0} {l : SizeLimit} {reads : Tree → Type 0} {refusal : V → Error → Type 0} (n : ℕ) → IsLimit l reads refusal → IsLimit (array_limit n l) (IsArray n reads) (λ (v : List V) e. Any (λ x. refusal x e) v)
+array_lawful {l = l} {reads = reads} {refusal = refusal} n h = record {
   bounded = array_bounded n l.greatest reads h.bounded;
   is_reached = λ r. array_reached n l.greatest reads (h.is_reached r);
-  never_refuses = λ w. any_never refuses (h.never_refuses w);
+  never_refuses = λ w. any_never refusal (h.never_refuses w);
 }
 
 -- The greatest size of a list of at most cap elements is cap times that of an element, and that of
@@ -138,9 +140,9 @@ few_reached cap fits (Some m) reads h =
     )
 
 -- The limit of a list of at most cap elements holds if that of its elements does.
-pub few_lawful : {V : Type 0} {l : SizeLimit} {reads : Tree → Type 0} {refuses : V → Type 0} (cap : ℕ) → IsLimit l reads refuses → IsLimit (few_limit cap l) (IsFewSeq cap reads) (λ (v : List V). Any refuses v)
-few_lawful {l = l} {reads = reads} {refuses = refuses} cap h = record {
+pub few_lawful : {V : Type 0} {l : SizeLimit} {reads : Tree → Type 0} {refusal : V → Error → Type 0} (cap : ℕ) → IsLimit l reads refusal → IsLimit (few_limit cap l) (IsFewSeq cap reads) (λ (v : List V) e. Any (λ x. refusal x e) v)
+few_lawful {l = l} {reads = reads} {refusal = refusal} cap h = record {
   bounded = few_bounded cap l.greatest reads h.bounded;
   is_reached = λ r. few_reached cap r.1 l.greatest reads (h.is_reached r.0);
-  never_refuses = λ w. any_never refuses (h.never_refuses w);
+  never_refuses = λ w. any_never refusal (h.never_refuses w);
 }

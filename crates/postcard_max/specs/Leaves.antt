@@ -19,18 +19,20 @@ use Rattle.postcard_max.specs.Sizes.{sum_of, varint_len}
 use Rattle.postcard_max.specs.SizeLimit.{exactly, short_text_limit}
 use Rattle.postcard_max.specs.Limits.{AreBounded, IsReached, IsLimit, tree_len, limited_bounded, limited_reached}
 use Rattle.postcard_max.specs.Counts.{longer_counts, count_len, one_count}
+use Rattle.postcard_shape.specs.Shape.{never}
+use Rattle.postcard_max.specs.Willing.{never_any}
 
 -- The limit of a node holds that takes at most n bytes, in some encoding as many, and whose values
 -- never refuse themselves.
-leaf_lawful : {V : Type 0} {n : ℕ} {reads : Tree → Type 0} → AreBounded (Some n) reads → IsReached (Some n) reads → IsLimit (exactly n) reads (λ (v : V). ⊥)
-leaf_lawful h k = record { bounded = h; is_reached = λ _. k; never_refuses = λ _ v r. r }
+leaf_lawful : {V : Type 0} {n : ℕ} {reads : Tree → Type 0} → AreBounded (Some n) reads → IsReached (Some n) reads → IsLimit (exactly n) reads (λ (v : V). never)
+leaf_lawful h k = record { bounded = h; is_reached = λ _. k; never_refuses = λ _. never_any }
 
 -- A byte takes one byte.
-pub byte_lawful : {V : Type 0} → IsLimit (exactly 1) IsByte (λ (v : V). ⊥)
+pub byte_lawful : {V : Type 0} → IsLimit (exactly 1) IsByte (λ (v : V). never)
 byte_lawful = leaf_lawful (λ t f. rw f.1 (omega arith)) (Byte 0, (0, refl, omega arith), refl)
 
 -- A truth value takes one byte.
-pub boolean_lawful : {V : Type 0} → IsLimit (exactly 1) IsBoolean (λ (v : V). ⊥)
+pub boolean_lawful : {V : Type 0} → IsLimit (exactly 1) IsBoolean (λ (v : V). never)
 boolean_lawful = leaf_lawful (λ t f. rw f.1 (omega arith)) (Boolean true, (true, refl), refl)
 
 -- An unsigned number takes at most as many bytes as its width allows, and the greatest number takes
@@ -44,7 +46,7 @@ num_reached w wide =
     (Num w (2 ^ w - 1), (2 ^ w - 1, refl, omega arith), reached w wide)
 
 -- The limit of an unsigned number holds.
-pub num_lawful : {V : Type 0} (w : ℕ) → IsWidth w → IsLimit (exactly (max_digits w)) (IsNum w) (λ (v : V). ⊥)
+pub num_lawful : {V : Type 0} (w : ℕ) → IsWidth w → IsLimit (exactly (max_digits w)) (IsNum w) (λ (v : V). never)
 num_lawful w wide = leaf_lawful (num_bounded w wide) (num_reached w wide)
 
 -- A signed number takes at most as many bytes as its width allows, and some number takes as many,
@@ -59,11 +61,11 @@ int_reached w wide =
     (Int w z, (z, refl, r), ap (λ n. length (digits n)) e ∙ reached w wide)
 
 -- The limit of a signed number holds.
-pub int_lawful : {V : Type 0} (w : ℕ) → IsWidth w → IsLimit (exactly (max_digits w)) (IsInt w) (λ (v : V). ⊥)
+pub int_lawful : {V : Type 0} (w : ℕ) → IsWidth w → IsLimit (exactly (max_digits w)) (IsInt w) (λ (v : V). never)
 int_lawful w wide = leaf_lawful (int_bounded w wide) (int_reached w wide)
 
 -- A set without one tree has the limit of the whole set, if that tree takes fewer bytes.
-without_lawful : {V : Type 0} (one : Tree) (n : ℕ) (reads : Tree → Type 0) → tree_len one < n → AreBounded (Some n) reads → IsReached (Some n) reads → IsLimit (exactly n) (Without one reads) (λ (v : V). ⊥)
+without_lawful : {V : Type 0} (one : Tree) (n : ℕ) (reads : Tree → Type 0) → tree_len one < n → AreBounded (Some n) reads → IsReached (Some n) reads → IsLimit (exactly n) (Without one reads) (λ (v : V). never)
 without_lawful one n reads less h (t, r, e) = leaf_lawful (λ u f. h u f.0) (t, (r, λ same. omega (arith, less, e, ap tree_len same)), e)
 
 -- The numbers of a width without 0 take at most as many bytes as the width allows, and some take as
@@ -75,15 +77,15 @@ one_byte w (inr (inr (inl e))) = rw e (omega arith)
 one_byte w (inr (inr (inr e))) = rw e (omega arith)
 
 -- The limit of an unsigned number other than 0 is that of its width.
-pub nonzero_num_lawful : {V : Type 0} (w : ℕ) → IsWidth w → IsLimit (exactly (max_digits w)) (Without (Num w 0) (IsNum w)) (λ (v : V). ⊥)
+pub nonzero_num_lawful : {V : Type 0} (w : ℕ) → IsWidth w → IsLimit (exactly (max_digits w)) (Without (Num w 0) (IsNum w)) (λ (v : V). never)
 nonzero_num_lawful w wide = without_lawful (Num w 0) (max_digits w) (IsNum w) (omega (arith, one_byte w wide, one_count 0 (omega arith))) (num_bounded w wide) (num_reached w wide)
 
 -- The limit of a signed number other than 0 is that of its width.
-pub nonzero_int_lawful : {V : Type 0} (w : ℕ) → IsWidth w → IsLimit (exactly (max_digits w)) (Without (Int w (pos 0)) (IsInt w)) (λ (v : V). ⊥)
+pub nonzero_int_lawful : {V : Type 0} (w : ℕ) → IsWidth w → IsLimit (exactly (max_digits w)) (Without (Int w (pos 0)) (IsInt w)) (λ (v : V). never)
 nonzero_int_lawful w wide = without_lawful (Int w (pos 0)) (max_digits w) (IsInt w) (omega (arith, one_byte w wide, one_count 0 (omega arith))) (int_bounded w wide) (int_reached w wide)
 
 -- A byte other than 0 takes one byte.
-pub nonzero_byte_lawful : {V : Type 0} → IsLimit (exactly 1) (Without (Byte 0) IsByte) (λ (v : V). ⊥)
+pub nonzero_byte_lawful : {V : Type 0} → IsLimit (exactly 1) (Without (Byte 0) IsByte) (λ (v : V). never)
 nonzero_byte_lawful = leaf_lawful (λ t f. rw f.0.1 (omega arith)) (Byte 1, ((1, refl, omega arith), λ e. omega (arith, byte_same 1 0 e)), refl)
 
 -- A character takes at most four bytes of UTF-8, and one byte for their count.
@@ -97,7 +99,7 @@ unfolding digits encode
 char_reached = (Char 65536, (65536, refl, refl), refl)
 
 -- The limit of a character holds.
-pub char_lawful : {V : Type 0} → IsLimit (exactly 5) IsChar (λ (v : V). ⊥)
+pub char_lawful : {V : Type 0} → IsLimit (exactly 5) IsChar (λ (v : V). never)
 char_lawful = leaf_lawful char_bounded char_reached
 
 -- A span of time takes at most 10 bytes for its seconds and 5 for its nanoseconds.
@@ -110,7 +112,7 @@ unfolding digits
 span_reached = (Group (Then (Num 64 18446744073709551615) (Then (Num 32 999999999) NoTrees)), (18446744073709551615, 999999999, refl, omega arith, omega arith, omega arith), refl)
 
 -- The limit of a span of time holds.
-pub span_lawful : {V : Type 0} → IsLimit (exactly 15) IsSpan (λ (v : V). ⊥)
+pub span_lawful : {V : Type 0} → IsLimit (exactly 15) IsSpan (λ (v : V). never)
 span_lawful = leaf_lawful span_bounded span_reached
 
 -- A text of at most cap bytes takes at most these bytes and those of the count cap.
@@ -145,5 +147,5 @@ short_reached cap fits =
     )
 
 -- The limit of a text of at most cap bytes holds.
-pub short_text_lawful : {V : Type 0} (cap : ℕ) → IsLimit (short_text_limit cap) (IsShortText cap) (λ (v : V). ⊥)
-short_text_lawful cap = record { bounded = short_bounded cap; is_reached = short_reached cap; never_refuses = λ _ v r. r }
+pub short_text_lawful : {V : Type 0} (cap : ℕ) → IsLimit (short_text_limit cap) (IsShortText cap) (λ (v : V). never)
+short_text_lawful cap = record { bounded = short_bounded cap; is_reached = short_reached cap; never_refuses = λ _. never_any }

@@ -6,6 +6,7 @@ use Rattle.postcard_wire.specs.Spelling.{canonical, canonical_all}
 use Rattle.postcard_max.specs.Sizes.{limited}
 use Rattle.postcard_max.specs.SizeLimit.{SizeLimit}
 use Rattle.postcard_max.specs.Willing.{Never}
+use Rattle.postcard_wire.specs.declared.error.Error.{Error}
 
 -- By the measure, nothing in the set has more than `greatest` bytes, if that is a number.
 abbrev pub Bounded : {X : Type 0} → (X → ℕ) → Option ℕ → (X → Type 0) → Type 0
@@ -45,22 +46,22 @@ pub limited_reached : {X : Type 0} (measure : X → ℕ) (n : ℕ) (has : X → 
 limited_reached measure n has h = elim (nat_lt n (2 ^ 64)) as (λ v. Reached measure (if v then Some n else None) has) [ true ↦ h | false ↦ tt ]
 
 -- A limit holds of what a type reads, measured in bytes, and of the type's values.
-pub record IsLimitOf {X V : Type 0} (measure : X → ℕ) (limit : SizeLimit) (reads : X → Type 0) (refuses : V → Type 0) : Type 0 where
+pub record IsLimitOf {X V : Type 0} (measure : X → ℕ) (limit : SizeLimit) (reads : X → Type 0) (refusal : V → Error → Type 0) : Type 0 where
   -- No canonical encoding of what is read is longer than the greatest size.
   pub bounded : Bounded measure limit.greatest reads
   -- If `reached` holds, that of something that is read is as long.
   pub is_reached : limit.reached → Reached measure limit.greatest reads
   -- If `willing` holds, no value refuses itself.
-  pub never_refuses : limit.willing → Never refuses
+  pub never_refuses : limit.willing → Never refusal
 
 -- A limit holds of the trees that a type reads, and of the type's values.
-abbrev pub IsLimit : {V : Type 0} → SizeLimit → (Tree → Type 0) → (V → Type 0) → Type 0
+abbrev pub IsLimit : {V : Type 0} → SizeLimit → (Tree → Type 0) → (V → Error → Type 0) → Type 0
 IsLimit = IsLimitOf tree_len
 
 -- A limit holds of trees in a row, and of the values of parts in a row.
-abbrev pub IsRowLimit : {V : Type 0} → SizeLimit → (Trees → Type 0) → (V → Type 0) → Type 0
+abbrev pub IsRowLimit : {V : Type 0} → SizeLimit → (Trees → Type 0) → (V → Error → Type 0) → Type 0
 IsRowLimit = IsLimitOf trees_len
 
 -- A limit that holds of values holds of the values that are seen as those.
-pub via_lawful : {X V W : Type 0} {measure : X → ℕ} {l : SizeLimit} {reads : X → Type 0} {refuses : V → Type 0} (see : W → V) → IsLimitOf measure l reads refuses → IsLimitOf measure l reads (λ w. refuses (see w))
+pub via_lawful : {X V W : Type 0} {measure : X → ℕ} {l : SizeLimit} {reads : X → Type 0} {refusal : V → Error → Type 0} (see : W → V) → IsLimitOf measure l reads refusal → IsLimitOf measure l reads (λ w. refusal (see w))
 via_lawful see h = record { bounded = h.bounded; is_reached = h.is_reached; never_refuses = λ may w. h.never_refuses may (see w) }

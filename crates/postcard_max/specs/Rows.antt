@@ -8,7 +8,9 @@ use Rattle.postcard_wire.specs.Reading.{IsGroup, IsThen, IsEnd}
 use Rattle.postcard_max.specs.Sizes.{sum_of}
 use Rattle.postcard_max.specs.SizeLimit.{SizeLimit, exactly, then_limit}
 use Rattle.postcard_max.specs.Limits.{AreBounded, IsReached, RowBounded, RowReached, IsLimit, IsRowLimit, tree_len, trees_len, limited_bounded, limited_reached}
-use Rattle.postcard_max.specs.Willing.{then_never}
+use Rattle.postcard_max.specs.Willing.{never_any, then_never}
+use Rattle.postcard_wire.specs.declared.error.Error.{Error}
+use Rattle.postcard_shape.specs.Shape.{never}
 
 -- The greatest size of the empty row is 0.
 end_bounded : RowBounded (Some 0) IsEnd
@@ -18,8 +20,8 @@ end_reached : RowReached (Some 0) IsEnd
 end_reached = (NoTrees, refl, refl)
 
 -- The limit of the empty row holds.
-pub end_lawful : {V : Type 0} → IsRowLimit (exactly 0) IsEnd (λ (v : V). ⊥)
-end_lawful = record { bounded = end_bounded; is_reached = λ _. end_reached; never_refuses = λ _ v r. r }
+pub end_lawful : {V : Type 0} → IsRowLimit (exactly 0) IsEnd (λ (v : V). never)
+end_lawful = record { bounded = end_bounded; is_reached = λ _. end_reached; never_refuses = λ _. never_any }
 
 -- The greatest size of a part and those after it is the sum of both.
 longest_then : (a b : ℕ) (F : Tree → Type 0) (G : Trees → Type 0) → ((t : Tree) → F t → tree_len t ≤ a) → ((ts : Trees) → G ts → trees_len ts ≤ b) → (ts : Trees) → IsThen F G ts → trees_len ts ≤ a + b
@@ -37,7 +39,7 @@ then_reached (Some a) (Some b) F G (s, f, d) (ss, g, e) =
     limited_reached trees_len (a + b) (IsThen F G) (Then s ss, (s, ss, refl, f, g), omega (arith, d, e, length-append (canonical s) (canonical_all ss)))
 
 -- The limit of a part and the parts after it holds if those of both do.
-pub then_lawful : {A B : Type 0} {l m : SizeLimit} {F : Tree → Type 0} {G : Trees → Type 0} {f : A → Type 0} {g : B → Type 0} → IsLimit l F f → IsRowLimit m G g → IsRowLimit (then_limit l m) (IsThen F G) (λ (v : A × B). f v.0 ⊎ g v.1)
+pub then_lawful : {A B : Type 0} {l m : SizeLimit} {F : Tree → Type 0} {G : Trees → Type 0} {f : A → Error → Type 0} {g : B → Error → Type 0} → IsLimit l F f → IsRowLimit m G g → IsRowLimit (then_limit l m) (IsThen F G) (λ (v : A × B) e. f v.0 e ⊎ g v.1 e)
 then_lawful {l = l} {m = m} {F = F} {G = G} h k = record {
   bounded = then_bounded l.greatest m.greatest F G h.bounded k.bounded;
   is_reached = λ r. then_reached l.greatest m.greatest F G (h.is_reached r.0) (k.is_reached r.1);
@@ -54,7 +56,7 @@ group_reached None parts h = tt
 group_reached (Some m) parts (ts, f, e) = (Group ts, (ts, refl, f), e)
 
 -- A tuple or a struct has the limit of its parts in a row.
-pub group_lawful : {V : Type 0} {l : SizeLimit} {reads : Trees → Type 0} {refuses : V → Type 0} → IsRowLimit l reads refuses → IsLimit l (IsGroup reads) refuses
+pub group_lawful : {V : Type 0} {l : SizeLimit} {reads : Trees → Type 0} {refusal : V → Error → Type 0} → IsRowLimit l reads refusal → IsLimit l (IsGroup reads) refusal
 group_lawful {l = l} {reads = reads} h = record {
   bounded = group_bounded l.greatest reads h.bounded;
   is_reached = λ r. group_reached l.greatest reads (h.is_reached r);

@@ -25,7 +25,7 @@ pub trait MaxCases: Cased {
         ensures { result ≡ (limit index).greatest };
 
     /// `limit` holds of the variants whose content is read, and of their values.
-    ghost lawful: { (i : Option ℕ) → IsCasesLimit limit Self.cases.reads Self.cases.refuses i };
+    ghost lawful: { (i : Option ℕ) → IsCasesLimit limit Self.cases.reads Self.cases.refusal i };
 }
 
 impl MaxCases for NoCase {

@@ -3,12 +3,14 @@
 
 ghost use Rattle.std.specs.Prelude.{◌≤◌, length, Some, IfSome, [], ◌∷◌, ⊤};
 ghost use Rattle.postcard_wire.specs.Spelling.{canonical};
+ghost use Rattle.postcard_shape.specs.Shape.{IsWilling};
 ghost use Rattle.postcard_max.specs.Limits.{AreBounded, IsReached};
 ghost use Rattle.postcard_max.specs.Sizes.{sum_of, times, greater_of, varint_len};
 ghost use Rattle.postcard_max.specs.SizeLimit.{IsSize, IsSum};
 
 use crate::max_size::MaxSize;
 use arrayvec::{ArrayString, ArrayVec};
+use std::borrow::Cow;
 use std::cmp::Reverse;
 use std::marker::PhantomData;
 use std::net::{IpAddr, Ipv4Addr, Ipv6Addr, SocketAddr, SocketAddrV4, SocketAddrV6};
@@ -32,7 +34,7 @@ pub fn sizes<T: MaxSize>()
 /// the type has one, so a buffer of that size has room for it. If `willing` holds of the type, the
 /// value doesn't refuse itself.
 pub fn within_max_size<T: MaxSize>(value: &T)
-    ensures willing { T.limit.willing → ¬ T.shape.refuses value.now }
+    ensures willing { T.limit.willing → IsWilling T.shape value.now }
     ensures bounded { IfSome T.limit.greatest
         (λ m. length (canonical (T.shape.tree value.now)) ≤ m) }
 {
@@ -152,6 +154,7 @@ pub fn table<
     ensures wrapping { IsSize ⟦<Wrapping<A> as MaxSize>⟧.limit A.limit.greatest A.limit.reached }
     ensures saturating { IsSize ⟦<Saturating<A> as MaxSize>⟧.limit A.limit.greatest A.limit.reached }
     ensures reverse { IsSize ⟦<Reverse<A> as MaxSize>⟧.limit A.limit.greatest A.limit.reached }
+    ensures cow { IsSize ⟦<Cow<'static, A> as MaxSize>⟧.limit A.limit.greatest A.limit.reached }
     ensures boxed { IsSize ⟦<Box<A> as MaxSize>⟧.limit A.limit.greatest A.limit.reached }
     ensures shared { IsSize ⟦<Rc<A> as MaxSize>⟧.limit A.limit.greatest A.limit.reached }
     ensures shared_by_threads { IsSize ⟦<Arc<A> as MaxSize>⟧.limit A.limit.greatest

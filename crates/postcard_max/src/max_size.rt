@@ -27,7 +27,7 @@ pub trait MaxSize: Shaped {
         ensures in_forms { Self.shape.reads (Self.shape.tree self.now) };
 
     /// `limit` holds of the trees that the type reads, and of its values.
-    ghost lawful: { IsLimit limit Self.shape.reads Self.shape.refuses };
+    ghost lawful: { IsLimit limit Self.shape.reads Self.shape.refusal };
 }
 
 /// A type with a greatest size that a [`Repr`] may name: a type with [`MaxSize`], parts in a row
@@ -45,7 +45,7 @@ pub trait SizeBound: Shaped {
         ensures { result ≡ limit.greatest };
 
     /// `limit` holds of the trees that the type reads, and of its values.
-    ghost lawful: { IsLimit limit Self.shape.reads Self.shape.refuses };
+    ghost lawful: { IsLimit limit Self.shape.reads Self.shape.refusal };
 }
 
 impl<T: MaxSize> SizeBound for T {

@@ -21,7 +21,7 @@ pub trait MaxParts: Parts {
         ensures { result ≡ limit.greatest };
 
     /// `limit` holds of the trees that the parts read, and of their values.
-    ghost lawful: { IsRowLimit limit Self.parts.reads Self.parts.refuses };
+    ghost lawful: { IsRowLimit limit Self.parts.reads Self.parts.refusal };
 }
 
 impl MaxParts for () {

@@ -9,6 +9,7 @@ mod lists;
 mod net;
 mod nonzero;
 mod numbers;
+mod owners;
 mod pointers;
 mod scalars;
 mod texts;

@@ -1,4 +1,4 @@
--- When P holds of some entry of a list, and when it holds of none.
+-- When P holds of some entry of a list.
 use Rattle.std.proofs.Common.{◌≡◌, ◌<◌, List, ◌∷◌, ◌++◌, length, get_or, subst, arith, length-append}
 use Rattle.std.proofs.lemmas.Grind.{common_steps}
 use Rattle.std.specs.Prelude.{Any}
@@ -9,7 +9,3 @@ any_mid {A} {P} before x after all e p =
     let n : length before < length (before ++ (x ∷ after)) = omega (arith, length-append before (x ∷ after)) in
     let a : get_or (before ++ (x ∷ after)) (length before) x ≡ x = grind (arith, common_steps) in
     subst (λ z. Any P z) e (length before, x, n, a, p)
-
--- If no value refuses itself, none of a list does.
-pub none_refuses : {A : Type 0} (xs : List A) → Any (λ x. ⊥) xs → ⊥
-none_refuses xs q = q.4

@@ -1,5 +1,7 @@
 -- The lemmas, by subject.
 pub mod PartByPart
+pub mod Refusals
 pub mod Elements
 pub mod Entries
 pub mod Printed
+pub mod Walked

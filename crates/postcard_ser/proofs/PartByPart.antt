@@ -1,15 +1,16 @@
 -- A value that is written part by part: what the calls did together, from what each did.
-use Rattle.std.proofs.Common.{◌≡◌, ◌⊎◌, inl, inr, Result, Ok, Err, IfErr, IsErrAnd, ℕ, List, [], ◌++◌, refl, append-nil}
-use Rattle.std.proofs.lemmas.Result.{err_from_is_err_and}
+use Rattle.std.proofs.Common.{◌≡◌, ◌⊎◌, inl, inr, Result, Ok, Err, IsErrAnd, ℕ, List, [], ◌++◌, append-nil}
+use Rattle.std.proofs.lemmas.Result.{IfErr-weaker, err_from_is_err_and}
 use Rattle.postcard_wire.specs.declared.error.Error.{Error}
 use Rattle.postcard_ser_flavors.specs.declared.flavor.Flavor.{Ghosts}
 use Rattle.postcard_ser_flavors.proofs.Parts.{begins_then, begins_more}
 use Rattle.postcard_ser.specs.Writing.{Wrote, IsWriteError}
 
 -- The error of a part may be one of the whole, if the whole may fail for the part's reasons.
-pub answer_may : {Q R T U : Type 0} (r : Result (Unit {0}) Error) → (¬ Q → IfErr r (IsWriteError T)) → (Q → R) → (T → U) → ¬ R → IfErr r (IsWriteError U)
-answer_may {Q} {R} {T} {U} (Ok ok) h i j n = tt
-answer_may {Q} {R} {T} {U} (Err e) h i j n = elim (h (λ q. n (i q))) as (λ _. IsWriteError U e) [ inl full ↦ inl full | inr p ↦ inr (j p.0, p.1) ]
+pub error_may : {Q R : Error → Type 0} {T U : Type 0} → ((e : Error) → Q e → R e) → (T → U) → (e : Error) → IsWriteError T e ⊎ Q e → IsWriteError U e ⊎ R e
+error_may i j e (inl (inl full)) = inl (inl full)
+error_may i j e (inl (inr p)) = inl (inr (j p.0, p.1))
+error_may i j e (inr q) = inr (i e q)
 
 -- A statement that holds in either of two equal cases holds.
 pub either : {P : Type 0} → P ⊎ P → P
@@ -24,75 +25,79 @@ either_part (inr (inr none)) = absurd none
 
 module _ {S O : Type 0} {F : Ghosts S O} where
   -- Writing no part appends nothing.
-  pub wrote_none : {Q T : Type 0} (s : S) → Wrote F s [] Q T (Ok tt) s
+  pub wrote_none : {Q : Error → Type 0} {T : Type 0} (s : S) → Wrote F s [] Q T (Ok tt) s
   wrote_none s = record {
     appends = F.lawful.appended_none s;
-    has_room = λ _ _. refl;
-    named_error = λ _. tt;
+    has_room = λ _. tt;
+    named_error = tt;
     refused = λ _ _. tt;
     leaves = F.lawful.reaches_self s;
   }
 
   -- The value refuses itself before any part is written.
-  pub wrote_refusal : {Q T : Type 0} {x : List ℕ} {e : Error} (s : S) → Q → Wrote F s x Q T (Err e) s
-  wrote_refusal s q = record {
+  pub wrote_refusal : {Q : Error → Type 0} {T : Type 0} {x : List ℕ} {e : Error} (s : S) → Q e → Wrote F s x Q T (Err e) s
+  wrote_refusal {e} s q = record {
     appends = tt;
-    has_room = λ n _. absurd (n q);
-    named_error = λ n. absurd (n q);
-    refused = λ n _. absurd (n q);
+    has_room = λ _. q;
+    named_error = inr q;
+    refused = λ n _. absurd (n.has_none e q);
     leaves = F.lawful.reaches_self s;
   }
 
   -- The early return of a `?` returns the error of the call.
-  pub wrote_err : {s t : S} {Q T : Type 0} {x : List ℕ} {e : Error} (r : Result (Unit {0}) Error) → IsErrAnd r (λ y. y ≡ e) → Wrote F s x Q T (Err e) t → Wrote F s x Q T r t
+  pub wrote_err : {s t : S} {Q : Error → Type 0} {T : Type 0} {x : List ℕ} {e : Error} (r : Result (Unit {0}) Error) → IsErrAnd r (λ y. y ≡ e) → Wrote F s x Q T (Err e) t → Wrote F s x Q T r t
   wrote_err {s} {t} {Q} {T} {x} {e} r h w = let p = err_from_is_err_and r h in rw (p.1, p.2) w
 
   -- After a success, it doesn't matter for which reasons the call may fail.
-  pub wrote_ok : {s t : S} {Q T R U : Type 0} {x : List ℕ} → Wrote F s x Q T (Ok tt) t → Wrote F s x R U (Ok tt) t
-  wrote_ok w = record { appends = w.appends; has_room = λ _ _. refl; named_error = λ _. tt; refused = λ _ _. tt; leaves = w.leaves }
+  pub wrote_ok : {s t : S} {Q R : Error → Type 0} {T U : Type 0} {x : List ℕ} → Wrote F s x Q T (Ok tt) t → Wrote F s x R U (Ok tt) t
+  wrote_ok w = record { appends = w.appends; has_room = λ _. tt; named_error = tt; refused = λ _ _. tt; leaves = w.leaves }
 
   -- The last part is followed by nothing.
-  pub wrote_last : {s t : S} {Q T : Type 0} {r : Result (Unit {0}) Error} {x : List ℕ} → Wrote F s x Q T r t → Wrote F s (x ++ []) Q T r t
+  pub wrote_last : {s t : S} {Q : Error → Type 0} {T : Type 0} {r : Result (Unit {0}) Error} {x : List ℕ} → Wrote F s x Q T r t → Wrote F s (x ++ []) Q T r t
   wrote_last {x} w = rw append-nil w
 
   -- If the first part is refused, so is the whole.
-  pub wrote_stop : {s t : S} {Q R T U : Type 0} {e : Error} (x y : List ℕ) → Wrote F s x Q T (Err e) t → (Q → R) → (T → U) → Wrote F s (x ++ y) R U (Err e) t
+  pub wrote_stop : {s t : S} {Q R : Error → Type 0} {T U : Type 0} {e : Error} (x y : List ℕ) → Wrote F s x Q T (Err e) t → ((e : Error) → Q e → R e) → (T → U) → Wrote F s (x ++ y) R U (Err e) t
   wrote_stop {s} {t} {Q} {R} {T} {U} {e} x y w i j = record {
     appends = tt;
-    has_room = λ n r. w.has_room (λ q. n (i q)) (F.lawful.room_front s x y r);
-    named_error = answer_may (Err e) w.named_error i j;
-    refused = λ n d. begins_more x y (w.refused (λ q. n (i q)) d);
+    has_room = λ r. i e (w.has_room (F.lawful.room_front s x y r));
+    named_error = error_may i j e w.named_error;
+    refused = λ n d. begins_more x y (w.refused (record { has_none = λ e q. n.has_none e (i e q) }) d);
     leaves = w.leaves;
   }
 
   -- If the first part is written, the whole goes on with the others.
-  pub wrote_then : {s t u : S} {P Q R T U V : Type 0} {r : Result (Unit {0}) Error} (x y : List ℕ) → Wrote F s x P V (Ok tt) t → Wrote F t y Q T r u → (Q → R) → (T → U) → Wrote F s (x ++ y) R U r u
+  pub wrote_then : {s t u : S} {P Q R : Error → Type 0} {T U V : Type 0} {r : Result (Unit {0}) Error} (x y : List ℕ) → Wrote F s x P V (Ok tt) t → Wrote F t y Q T r u → ((e : Error) → Q e → R e) → (T → U) → Wrote F s (x ++ y) R U r u
   wrote_then {s} {t} {u} {P} {Q} {R} {T} {U} {V} {r = Ok ok} x y w v i j = record {
     appends = F.lawful.appended_join s t u x y w.appends v.appends;
-    has_room = λ n r. refl;
-    named_error = λ n. tt;
+    has_room = λ r. tt;
+    named_error = tt;
     refused = λ n d. tt;
     leaves = F.lawful.reaches_join s t u w.leaves v.leaves;
   }
   wrote_then {s} {t} {u} {P} {Q} {R} {T} {U} {V} {r = Err e} x y w v i j = record {
     appends = tt;
-    has_room = λ n r. v.has_room (λ q. n (i q)) (F.lawful.room_rest s t x y r w.appends w.leaves);
-    named_error = answer_may (Err e) v.named_error i j;
-    refused = λ n d. begins_then F.lawful.appended_join x y w.appends (v.refused (λ q. n (i q)) d);
+    has_room = λ r. i e (v.has_room (F.lawful.room_rest s t x y r w.appends w.leaves));
+    named_error = error_may i j e v.named_error;
+    refused = λ n d. begins_then F.lawful.appended_join x y w.appends (v.refused (record { has_none = λ e q. n.has_none e (i e q) }) d);
     leaves = F.lawful.reaches_join s t u w.leaves v.leaves;
   }
 
   -- A call that writes a part is one of the whole, if the whole may fail for the part's reasons.
-  pub wrote_as : {s t : S} {Q R T U : Type 0} {r : Result (Unit {0}) Error} {x : List ℕ} → Wrote F s x Q T r t → (Q → R) → (T → U) → Wrote F s x R U r t
+  pub wrote_as : {s t : S} {Q R : Error → Type 0} {T U : Type 0} {r : Result (Unit {0}) Error} {x : List ℕ} → Wrote F s x Q T r t → ((e : Error) → Q e → R e) → (T → U) → Wrote F s x R U r t
   wrote_as {s} {t} {Q} {R} {T} {U} {r} {x} w i j = record {
     appends = w.appends;
-    has_room = λ n. w.has_room (λ q. n (i q));
-    named_error = answer_may r w.named_error i j;
-    refused = λ n. w.refused (λ q. n (i q));
+    has_room = λ room. IfErr-weaker r Q R i (w.has_room room);
+    named_error = IfErr-weaker r (λ e. IsWriteError T e ⊎ Q e) (λ e. IsWriteError U e ⊎ R e) (error_may i j) w.named_error;
+    refused = λ n. w.refused (record { has_none = λ e q. n.has_none e (i e q) });
     leaves = w.leaves;
   }
 
+  -- The last part of a row: no part follows it.
+  pub wrote_end : {s t : S} {Q : Error → Type 0} {T : Type 0} {r : Result (Unit {0}) Error} {x : List ℕ} → Wrote F s x Q T r t → Wrote F s (x ++ []) (λ e. Q e ⊎ ⊥) (T ⊎ ⊥) r t
+  wrote_end w = wrote_last (wrote_as w (λ e q. inl q) inl)
+
   -- Once everything that had room is written, there is room for no more bytes, so that `finalize`
   -- succeeds.
-  pub wrote_closes : {s t : S} {Q T : Type 0} (x : List ℕ) → F.room s x → Wrote F s x Q T (Ok tt) t → F.room t []
+  pub wrote_closes : {s t : S} {Q : Error → Type 0} {T : Type 0} (x : List ℕ) → F.room s x → Wrote F s x Q T (Ok tt) t → F.room t []
   wrote_closes {s} {t} x r w = F.lawful.room_rest s t x [] (rw append-nil r) w.appends w.leaves

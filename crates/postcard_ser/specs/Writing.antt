@@ -1,7 +1,11 @@
 -- What a call did whose task was to pass bytes to a flavor.
-use Rattle.std.specs.Prelude.{◌≡◌, ◌⊎◌, ℕ, List, Result, OnOk, OnErr, IfErr, IsOk}
+use Rattle.std.specs.Prelude.{◌≡◌, ◌⊎◌, ℕ, List, Result, OnOk, OnErr, IfErr}
 use Rattle.postcard_ser_flavors.specs.Flavor.{AppendsFront}
 use Rattle.postcard_ser_flavors.specs.declared.flavor.Flavor.{Ghosts}
+use Rattle.postcard_shape.specs.Rows.{Row}
+use Rattle.postcard_shape.specs.Shape.{Shape, IsEmpty}
+pub use Rattle.postcard_shape.specs.Shape.{never}
+use Rattle.postcard_wire.specs.Spelling.{canonical_all}
 use Rattle.postcard_wire.specs.declared.error.Error.{Error}
 use Rattle.postcard_wire.specs.declared.error.Error.TheVariants.{SerializeBufferFull, CollectStrError}
 
@@ -10,13 +14,27 @@ use Rattle.postcard_wire.specs.declared.error.Error.TheVariants.{SerializeBuffer
 abbrev pub IsWriteError : Type 0 → Error → Type 0
 IsWriteError text e = (e ≡ SerializeBufferFull) ⊎ (text × (e ≡ CollectStrError))
 
+-- The error of a call that writes the value v: that of a refused piece, or one by which v refuses
+-- itself.
+abbrev pub IsErrorOf : {V : Type 0} → Shape V → V → Error → Type 0
+IsErrorOf s v e = IsWriteError s.text e ⊎ s.refusal v e
+
 -- The call, whose task was to pass the bytes xs to the flavor s, returned r and left t. After a
--- success, just xs is appended. Unless `refuses` holds, by which a value refuses itself: the call
--- succeeds if s has room for xs, an error is that of a refusal, and over a tidy flavor an error
--- leaves a beginning of xs appended. In any case pushes may leave t.
-pub record Wrote {S O : Type 0} (F : Ghosts S O) (s : S) (xs : List ℕ) (refuses text : Type 0) (r : Result (Unit {0}) Error) (t : S) : Type 0 where
+-- success, just xs is appended. If s has room for xs, an error is one of `refusal`, by which what
+-- is written refuses itself; without room also that of a refused piece. If it refuses itself by no
+-- error, and the flavor is tidy, an error leaves a beginning of xs appended. In any case pushes may
+-- leave t.
+pub record Wrote {S O : Type 0} (F : Ghosts S O) (s : S) (xs : List ℕ) (refusal : Error → Type 0) (text : Type 0) (r : Result (Unit {0}) Error) (t : S) : Type 0 where
   pub appends : OnOk r (F.appended s xs t)
-  pub has_room : ¬ refuses → F.room s xs → IsOk r
-  pub named_error : ¬ refuses → IfErr r (IsWriteError text)
-  pub refused : ¬ refuses → F.tidy → OnErr r (AppendsFront F.appended s xs t)
+  pub has_room : F.room s xs → IfErr r refusal
+  pub named_error : IfErr r (λ e. IsWriteError text e ⊎ refusal e)
+  pub refused : IsEmpty refusal → F.tidy → OnErr r (AppendsFront F.appended s xs t)
   pub leaves : F.reaches s t
+
+-- The call, whose task was to write the parts v of a row one after the other, returned r and left t.
+abbrev pub WroteRow : {S O V : Type 0} → Ghosts S O → S → Row V → V → Result (Unit {0}) Error → S → Type 0
+WroteRow F s row v r t = Wrote F s (canonical_all (row.trees v)) (row.refusal v) row.text r t
+
+-- A part of a row, followed by the others.
+abbrev pub part : {A B : Type 0} → A → B → A × B
+part first others = (first, others)

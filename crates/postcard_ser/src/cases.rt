@@ -22,7 +22,7 @@ pub fn serialize_variant<T: Serialize, F: Flavor>(
 ) -> Result<()>
     ensures wrote { Wrote F.Flavor serializer.old.output
         (canonical (Variant index (T.shape.tree content.now)))
-        (T.shape.refuses content.now) T.shape.text result serializer.new.output }
+        (T.shape.refusal content.now) T.shape.text result serializer.new.output }
     ensures fits { OnOk result ((index < 2 ^ 32) × T.shape.fits content.now) }
 {
     serializer.serialize_newtype_variant("", index, "", content)

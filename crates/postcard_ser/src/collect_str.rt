@@ -121,7 +121,8 @@ impl<F: Flavor> Serializer<F> {
     /// After `CollectStrError` the flavor may have taken the count and some bytes of the text.
     pub fn collect_str<T: Display>(&mut self, value: &T) -> Result<()>
         ensures writes { IfSome (T.output value.now)
-            (λ u. Wrote F.Flavor self.old.output (canonical (Text u)) ⊤ ⊤ result self.new.output) }
+            (λ u. Wrote F.Flavor self.old.output (canonical (Text u))
+            (λ e. e ≡ Error.CollectStrError) ⊤ result self.new.output) }
         ensures fits { OnOk result
             (IfSome (T.output value.now) (λ u. IsUtf8 u × (length u < 2 ^ 64))) }
         ensures named_error { IfErr result (IsWriteError ⊤) }

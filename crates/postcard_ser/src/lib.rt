@@ -2,10 +2,11 @@
 //!
 //! The one contract is that of [`Serialize`]: a call of `serialize` has `Wrote` the bytes of the
 //! value's tree, which the type's shape says (`Shaped`, of the crate `postcard_shape`). After an
-//! `Ok` just these bytes are appended, and the value `fits`, so that they are read again. A value
-//! that doesn't refuse itself is refused only if the flavor has no room for them, with
-//! `SerializeBufferFull` (or with `CollectStrError`, if it may fail to print); a tidy flavor then
-//! has appended a beginning of them. The layer above cites nothing else.
+//! `Ok` just these bytes are appended, and the value `fits`, so that they are read again. If the
+//! flavor has room for them, an error is one by which the value refuses itself; without room also
+//! `SerializeBufferFull`, or `CollectStrError` in a text that a value prints. If the value doesn't
+//! refuse itself, a tidy flavor then has appended a beginning of them. The layer above cites
+//! nothing else.
 //!
 //! A struct of a user needs three impls, of which the third, `FromRepr` of `postcard_de`, is for
 //! reading, and one ghost line:

@@ -22,7 +22,7 @@ pub trait SerializeRepr: Repr {
     fn serialize_repr<F: Flavor>(&self, serializer: &mut Serializer<F>) -> Result<()>
         ensures wrote { Wrote F.Flavor serializer.old.output
             (canonical (Self.As.shape.tree (Self.repr self.now)))
-            (Self.As.shape.refuses (Self.repr self.now)) Self.As.shape.text result
+            (Self.As.shape.refusal (Self.repr self.now)) Self.As.shape.text result
             serializer.new.output }
         ensures fits { OnOk result (Self.As.shape.fits (Self.repr self.now)) };
 }

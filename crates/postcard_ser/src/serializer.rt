@@ -8,7 +8,7 @@ ghost use Rattle.std.specs.Int.{w8, cast_unsigned};
 ghost use Rattle.postcard_wire.specs.Number.{digits};
 ghost use Rattle.postcard_wire.specs.Spelling.{canonical};
 ghost use Rattle.postcard_wire.specs.Tree.{Byte, Num, Int, Text, Seq, trees};
-ghost use Rattle.postcard_ser.specs.Writing.{Wrote};
+ghost use Rattle.postcard_ser.specs.Writing.{Wrote, never};
 
 mod enums;
 mod floats;
@@ -45,28 +45,28 @@ fn refusal(_of_flavor: Error) -> Error
 impl<F: Flavor> Serializer<F> {
     // Writes a byte.
     fn push(&mut self, byte: u8) -> Result<()>
-        ensures { Wrote F.Flavor self.old.output (byte ∷ []) ⊥ ⊥ result self.new.output }
+        ensures { Wrote F.Flavor self.old.output (byte ∷ []) never ⊥ result self.new.output }
     {
         self.output.try_push(byte).map_err(refusal)
     }
 
     // Writes bytes in a row.
     pub(crate) fn extend(&mut self, piece: &[u8]) -> Result<()>
-        ensures { Wrote F.Flavor self.old.output piece.now ⊥ ⊥ result self.new.output }
+        ensures { Wrote F.Flavor self.old.output piece.now never ⊥ result self.new.output }
     {
         self.output.try_extend(piece).map_err(refusal)
     }
 
     // Writes the varint of a number.
     fn varint(&mut self, n: u64) -> Result<()>
-        ensures { Wrote F.Flavor self.old.output (digits n) ⊥ ⊥ result self.new.output }
+        ensures { Wrote F.Flavor self.old.output (digits n) never ⊥ result self.new.output }
     {
         self.output.try_varint(n).map_err(refusal)
     }
 
     // Writes the count of the bytes as a varint, and then the bytes.
     fn extend_counted(&mut self, piece: &[u8]) -> Result<()>
-        ensures { Wrote F.Flavor self.old.output (digits (length piece.now) ++ piece.now) ⊥ ⊥
+        ensures { Wrote F.Flavor self.old.output (digits (length piece.now) ++ piece.now) never ⊥
             result self.new.output }
     {
         self.serialize_u64(piece.len() as u64)?;
@@ -82,7 +82,8 @@ impl<F: Flavor> Serializer<F> {
 
     /// Writes a `u8` as one byte. Fails with `SerializeBufferFull` if the flavor refuses a piece.
     pub fn serialize_u8(&mut self, v: u8) -> Result<()>
-        ensures { Wrote F.Flavor self.old.output (canonical (Byte v)) ⊥ ⊥ result self.new.output }
+        ensures { Wrote F.Flavor self.old.output (canonical (Byte v)) never ⊥
+            result self.new.output }
     {
         self.push(v)
     }
@@ -90,7 +91,8 @@ impl<F: Flavor> Serializer<F> {
     /// Writes a `u16` as a varint of 1 to 3 bytes. Fails with `SerializeBufferFull` if the flavor
     /// refuses a piece.
     pub fn serialize_u16(&mut self, v: u16) -> Result<()>
-        ensures { Wrote F.Flavor self.old.output (canonical (Num 16 v)) ⊥ ⊥ result self.new.output }
+        ensures { Wrote F.Flavor self.old.output (canonical (Num 16 v)) never ⊥
+            result self.new.output }
     {
         self.serialize_u32(u32::from(v))
     }
@@ -98,7 +100,8 @@ impl<F: Flavor> Serializer<F> {
     /// Writes a `u32` as a varint of 1 to 5 bytes. Fails with `SerializeBufferFull` if the flavor
     /// refuses a piece.
     pub fn serialize_u32(&mut self, v: u32) -> Result<()>
-        ensures { Wrote F.Flavor self.old.output (canonical (Num 32 v)) ⊥ ⊥ result self.new.output }
+        ensures { Wrote F.Flavor self.old.output (canonical (Num 32 v)) never ⊥
+            result self.new.output }
     {
         self.varint(u64::from(v))
     }
@@ -106,7 +109,8 @@ impl<F: Flavor> Serializer<F> {
     /// Writes a `u64` as a varint of 1 to 10 bytes. Fails with `SerializeBufferFull` if the flavor
     /// refuses a piece.
     pub fn serialize_u64(&mut self, v: u64) -> Result<()>
-        ensures { Wrote F.Flavor self.old.output (canonical (Num 64 v)) ⊥ ⊥ result self.new.output }
+        ensures { Wrote F.Flavor self.old.output (canonical (Num 64 v)) never ⊥
+            result self.new.output }
     {
         self.varint(v)
     }
@@ -115,7 +119,7 @@ impl<F: Flavor> Serializer<F> {
     /// refuses a piece.
     pub fn serialize_u128(&mut self, v: u128) -> Result<()>
         ensures { Wrote F.Flavor self.old.output
-            (canonical (Num 128 v)) ⊥ ⊥ result self.new.output }
+            (canonical (Num 128 v)) never ⊥ result self.new.output }
     {
         let mut out = [0; VARINT_MAX_128];
         self.extend(varint_u128(v, &mut out))
@@ -124,7 +128,7 @@ impl<F: Flavor> Serializer<F> {
     /// Writes an `i8` as one byte, in two's complement. Fails with `SerializeBufferFull` if the
     /// flavor refuses a piece.
     pub fn serialize_i8(&mut self, v: i8) -> Result<()>
-        ensures { Wrote F.Flavor self.old.output (canonical (Byte (cast_unsigned w8 v))) ⊥ ⊥
+        ensures { Wrote F.Flavor self.old.output (canonical (Byte (cast_unsigned w8 v))) never ⊥
             result self.new.output }
     {
         self.push(v.cast_unsigned())
@@ -133,7 +137,8 @@ impl<F: Flavor> Serializer<F> {
     /// Writes the zigzag encoding of an `i16` as a varint of 1 to 3 bytes. Fails with
     /// `SerializeBufferFull` if the flavor refuses a piece.
     pub fn serialize_i16(&mut self, v: i16) -> Result<()>
-        ensures { Wrote F.Flavor self.old.output (canonical (Int 16 v)) ⊥ ⊥ result self.new.output }
+        ensures { Wrote F.Flavor self.old.output (canonical (Int 16 v)) never ⊥
+            result self.new.output }
     {
         self.serialize_u16(zig_zag_i16(v))
     }
@@ -141,7 +146,8 @@ impl<F: Flavor> Serializer<F> {
     /// Writes the zigzag encoding of an `i32` as a varint of 1 to 5 bytes. Fails with
     /// `SerializeBufferFull` if the flavor refuses a piece.
     pub fn serialize_i32(&mut self, v: i32) -> Result<()>
-        ensures { Wrote F.Flavor self.old.output (canonical (Int 32 v)) ⊥ ⊥ result self.new.output }
+        ensures { Wrote F.Flavor self.old.output (canonical (Int 32 v)) never ⊥
+            result self.new.output }
     {
         self.serialize_u32(zig_zag_i32(v))
     }
@@ -149,7 +155,8 @@ impl<F: Flavor> Serializer<F> {
     /// Writes the zigzag encoding of an `i64` as a varint of 1 to 10 bytes. Fails with
     /// `SerializeBufferFull` if the flavor refuses a piece.
     pub fn serialize_i64(&mut self, v: i64) -> Result<()>
-        ensures { Wrote F.Flavor self.old.output (canonical (Int 64 v)) ⊥ ⊥ result self.new.output }
+        ensures { Wrote F.Flavor self.old.output (canonical (Int 64 v)) never ⊥
+            result self.new.output }
     {
         self.serialize_u64(zig_zag_i64(v))
     }
@@ -158,7 +165,7 @@ impl<F: Flavor> Serializer<F> {
     /// `SerializeBufferFull` if the flavor refuses a piece.
     pub fn serialize_i128(&mut self, v: i128) -> Result<()>
         ensures { Wrote F.Flavor self.old.output
-            (canonical (Int 128 v)) ⊥ ⊥ result self.new.output }
+            (canonical (Int 128 v)) never ⊥ result self.new.output }
     {
         self.serialize_u128(zig_zag_i128(v))
     }
@@ -167,7 +174,7 @@ impl<F: Flavor> Serializer<F> {
     /// Fails with `SerializeBufferFull` if the flavor refuses a piece.
     pub fn serialize_str(&mut self, v: &str) -> Result<()>
         ensures { Wrote F.Flavor self.old.output
-            (canonical (Text v.now)) ⊥ ⊥ result self.new.output }
+            (canonical (Text v.now)) never ⊥ result self.new.output }
     {
         self.extend_counted(v.as_bytes())
     }
@@ -176,7 +183,7 @@ impl<F: Flavor> Serializer<F> {
     /// list of `u8`. Fails with `SerializeBufferFull` if the flavor refuses a piece.
     #[tactic(auto, using(crate::proofs::Elements::elements_count, postcard_shape::proofs::Bytes::bytes_of_bytes))]
     pub fn serialize_bytes(&mut self, v: &[u8]) -> Result<()>
-        ensures { Wrote F.Flavor self.old.output (canonical (Seq (trees (map Byte v.now)))) ⊥ ⊥
+        ensures { Wrote F.Flavor self.old.output (canonical (Seq (trees (map Byte v.now)))) never ⊥
             result self.new.output }
     {
         self.extend_counted(v)
@@ -187,8 +194,8 @@ impl<F: Flavor> Serializer<F> {
     /// `SerializeSeqLengthUnknown` if `len` is `None`, before anything is written, and with
     /// `SerializeBufferFull` if the flavor refuses the number.
     pub fn serialize_seq(&mut self, len: Option<usize>) -> Result<()>
-        ensures known { IfSome len (λ n. Wrote F.Flavor self.old.output (canonical (Num 64 n)) ⊥ ⊥
-            result self.new.output) }
+        ensures known { IfSome len (λ n. Wrote F.Flavor self.old.output (canonical (Num 64 n))
+            never ⊥ result self.new.output) }
         ensures unknown { IfNone len (IsErrOf result Error.SerializeSeqLengthUnknown
             × (self.new ≡ self.old)) }
     {
@@ -202,7 +209,7 @@ impl<F: Flavor> Serializer<F> {
     /// that does.
     pub fn serialize_element<T: Serialize>(&mut self, value: &T) -> Result<()>
         ensures wrote { Wrote F.Flavor self.old.output (canonical (T.shape.tree value.now))
-            (T.shape.refuses value.now) T.shape.text result self.new.output }
+            (T.shape.refusal value.now) T.shape.text result self.new.output }
         ensures fits { OnOk result (T.shape.fits value.now) }
     {
         value.serialize(self)
@@ -210,7 +217,7 @@ impl<F: Flavor> Serializer<F> {
 
     /// Ends a list. Writes nothing and never fails.
     pub fn end(&mut self) -> Result<()>
-        ensures wrote { Wrote F.Flavor self.old.output [] ⊥ ⊥ result self.new.output }
+        ensures wrote { Wrote F.Flavor self.old.output [] never ⊥ result self.new.output }
         ensures succeeds { IsOk result }
         ensures unchanged { self.new ≡ self.old }
     {

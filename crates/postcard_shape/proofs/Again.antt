@@ -1,6 +1,5 @@
 -- The canonical encoding of a value that fits spells its tree, and what is read from it looks like
 -- the value.
-use Rattle.std.proofs.Common.{ℕ, List}
 use Rattle.postcard_wire.specs.Spelling.{Spells, canonical}
 use Rattle.postcard_wire.proofs.Shortest.{Spells-canonical}
 use Rattle.postcard_shape.specs.Shape.{Shape}

@@ -1,12 +1,11 @@
 -- How floats are encoded, and which floats are read, by what std says of the bytes of numbers.
-use Rattle.std.proofs.Common.{◌≡◌, ℕ, List, length, refl, sym, ap, ◌∙◌}
-use Rattle.std.specs.Float.{Float, Format, binary32, binary64}
+use Rattle.std.proofs.Common.{◌≡◌, ℕ, List, length, sym, ap, ◌∙◌}
+use Rattle.std.specs.Float.{Float, binary32, binary64}
 use Rattle.std.specs.Float.Ieee.{to_bits, of_bits}
 use Rattle.std.specs.Int.{w32, w64, to_le_bytes, from_le_bytes}
 use Rattle.postcard_wire.specs.Tree.{Tree}
 use Rattle.postcard_wire.specs.Spelling.{canonical}
 use Rattle.postcard_wire.specs.Reading.{IsGroup}
-use Rattle.postcard_shape.specs.Base256.{low_value}
 use Rattle.postcard_shape.specs.Values.{EachIs}
 use Rattle.postcard_shape.specs.Floats.{float_bytes, float_tree, IsFloat}
 use Rattle.postcard_shape.proofs.Bytes.{bytes_of_bytes, ByteIs}

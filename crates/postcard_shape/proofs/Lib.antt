@@ -5,3 +5,4 @@ pub mod Again
 pub mod Bytes
 pub mod Sums
 pub mod Floats
+pub mod Distinct

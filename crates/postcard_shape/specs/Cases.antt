@@ -1,14 +1,15 @@
 -- The shape of an enum, from the shapes of its variants' contents: each variant is an index and a
 -- content.
-use Rattle.std.specs.Prelude.{◌≡◌, ℕ, zero, suc, ◌<◌, ◌^◌, ◌⊎◌}
+use Rattle.std.specs.Prelude.{ℕ, zero, suc, ◌<◌, ◌^◌, ◌⊎◌}
 use Rattle.std.proofs.Common.{refl}
 use Rattle.postcard_wire.specs.Tree.{Tree, Variant, Absent}
+use Rattle.postcard_wire.specs.declared.error.Error.{Error}
 use Rattle.postcard_wire.specs.Reading.{IsDelimited, ReadsWellFormed, IsVariant}
 use Rattle.postcard_wire.proofs.Delimited.{variant_delimited, none_delimited}
 use Rattle.postcard_wire.proofs.WellFormed.{variant_well_formed}
 use Rattle.postcard_shape.specs.Same.{HasOne}
 use Rattle.postcard_shape.specs.Options.{VariantIs, variant_one}
-use Rattle.postcard_shape.specs.Shape.{Shape}
+use Rattle.postcard_shape.specs.Shape.{Shape, never}
 use Rattle.postcard_shape.specs.declared.cases.Case.{Case}
 use Rattle.postcard_shape.specs.declared.cases.Case.TheVariants.{This, Next}
 
@@ -17,7 +18,7 @@ use Rattle.postcard_shape.specs.declared.cases.Case.TheVariants.{This, Next}
 pub record Cases (V : Type 0) : Type 1 where
   pub index : V → ℕ
   pub content : V → Tree
-  pub refuses : V → Type 0
+  pub refusal : V → Error → Type 0
   pub text : Type 0
   pub reads : ℕ → Tree → Type 0
   pub value : ℕ → Tree → V → Type 0
@@ -34,7 +35,7 @@ abbrev pub no_case : {V : Type 0} → Cases V
 no_case {V} = record {
   index = λ v. 0;
   content = λ v. Absent;
-  refuses = λ v. ⊥;
+  refusal = λ v. never;
   text = ⊥;
   reads = λ i t. ⊥;
   value = λ i t v. ⊥;
@@ -95,7 +96,7 @@ abbrev pub case : {A R : Type 0} → Shape A → Cases R → Cases (Case A R)
 case s r = record {
   index = case_index r.index;
   content = case_of s.tree r.content;
-  refuses = case_of s.refuses r.refuses;
+  refusal = case_of s.refusal r.refusal;
   text = s.text ⊎ r.text;
   reads = case_reads s.reads r.reads;
   value = case_value s.value r.value;
@@ -112,7 +113,7 @@ case s r = record {
 abbrev pub variants : {V : Type 0} → Cases V → Shape V
 variants c = record {
   tree = λ v. Variant (c.index v) (c.content v);
-  refuses = c.refuses;
+  refusal = c.refusal;
   text = c.text;
   reads = IsVariant c.reads;
   value = VariantIs c.value;

@@ -1,7 +1,8 @@
 -- The shapes of options and results (wire format 1.0, "option" and "newtype_variant").
-use Rattle.std.specs.Prelude.{Option, None, Some, Result, Ok, Err, IsSomeAnd, IsOkAnd, IsErrAnd, ◌⊎◌, ⊤}
+use Rattle.std.specs.Prelude.{Option, None, Some, Result, Ok, Err, IsSomeAnd, ◌⊎◌, ⊤}
 use Rattle.std.proofs.Common.{refl, inl, inr, arith}
 use Rattle.postcard_wire.specs.Reading.{IsOption, IsVariant}
+use Rattle.postcard_wire.specs.declared.error.Error.{Error}
 use Rattle.postcard_wire.proofs.Delimited.{option_delimited, variant_delimited}
 use Rattle.postcard_wire.proofs.WellFormed.{option_well_formed, variant_well_formed}
 use Rattle.postcard_shape.specs.Compound.{option_tree, result_tree}
@@ -21,7 +22,7 @@ option_again s (Some v) f = let k = s.again v f in (inr (s.tree v, refl, k.0), (
 abbrev pub option : {V : Type 0} → Shape V → Shape (Option V)
 option s = record {
   tree = option_tree s.tree;
-  refuses = λ v. IsSomeAnd v s.refuses;
+  refusal = λ v e. IsSomeAnd v (λ x. s.refusal x e);
   text = s.text;
   reads = IsOption s.reads;
   value = OptionIs s.value;
@@ -43,19 +44,24 @@ pub result_again : {V W : Type 0} (s : Shape V) (e : Shape W) (v : Result V W) �
 result_again s e (Ok v) f = let k = s.again v f in ((0, s.tree v, refl, omega arith, k.0), (0, s.tree v, refl, k.1))
 result_again s e (Err w) f = let k = e.again w f in ((1, e.tree w, refl, omega arith, k.0), (1, e.tree w, refl, k.1))
 
+-- The value in a result, of either variant, refuses itself with the error.
+abbrev pub result_refusal : {V W : Type 0} → (V → Error → Type 0) → (W → Error → Type 0) → Result V W → Error → Type 0
+result_refusal good bad (Ok v) = good v
+result_refusal good bad (Err w) = bad w
+
 -- The shape of a result of values of these shapes.
 abbrev pub result : {V W : Type 0} → Shape V → Shape W → Shape (Result V W)
-result s e = record {
-  tree = result_tree s.tree e.tree;
-  refuses = λ v. IsOkAnd v s.refuses ⊎ IsErrAnd v e.refuses;
-  text = s.text ⊎ e.text;
-  reads = IsVariant (ResultReads s.reads e.reads);
-  value = VariantIs (ResultIs s.value e.value);
-  same = SameResult s.same e.same;
-  grows = s.grows ⊎ e.grows;
-  fits = ResultFits s.fits e.fits;
-  delimited = variant_delimited _ (result_delimited s.reads e.reads s.delimited e.delimited);
-  well_formed = variant_well_formed _ (result_well_formed s.reads e.reads s.well_formed e.well_formed);
-  one_value = variant_one _ _ (result_one s.value e.value s.same e.same s.one_value e.one_value);
-  again = result_again s e;
+result s t = record {
+  tree = result_tree s.tree t.tree;
+  refusal = result_refusal s.refusal t.refusal;
+  text = s.text ⊎ t.text;
+  reads = IsVariant (ResultReads s.reads t.reads);
+  value = VariantIs (ResultIs s.value t.value);
+  same = SameResult s.same t.same;
+  grows = s.grows ⊎ t.grows;
+  fits = ResultFits s.fits t.fits;
+  delimited = variant_delimited _ (result_delimited s.reads t.reads s.delimited t.delimited);
+  well_formed = variant_well_formed _ (result_well_formed s.reads t.reads s.well_formed t.well_formed);
+  one_value = variant_one _ _ (result_one s.value t.value s.same t.same s.one_value t.one_value);
+  again = result_again s t;
 }

@@ -1,5 +1,5 @@
 -- The shape of a map: its entries in the order of their keys (wire format 1.0, "map").
-use Rattle.std.specs.Prelude.{◌≡◌, ℕ, ◌<◌, ◌^◌, ◌⊎◌, List, [], length, map, Any, ⊤}
+use Rattle.std.specs.Prelude.{◌≡◌, ◌<◌, ◌^◌, ◌⊎◌, List, [], length, map, Any, ⊤}
 use Rattle.std.specs.declared.cmp.Ordering.{Ordering}
 use Rattle.std.proofs.Common.{refl}
 use Rattle.postcard_wire.specs.Tree.{Seq, NoTrees, Then, trees}
@@ -27,7 +27,7 @@ map_again {A} {B} cmp k s es (n, f, e) =
 abbrev pub entries : {A B : Type 0} → (A → A → Ordering) → Shape A → Shape B → Shape (List (A × B))
 entries cmp k s = record {
   tree = λ m. Seq (trees (map (entry_tree k.tree s.tree) m));
-  refuses = Any (λ e. k.refuses e.0 ⊎ s.refuses e.1);
+  refusal = λ m e. Any (λ x. k.refusal x.0 e ⊎ s.refusal x.1 e) m;
   text = k.text ⊎ s.text;
   reads = IsSeq (IsEntry k.reads s.reads);
   value = MapIs cmp k.value s.value;

@@ -9,7 +9,7 @@ use Rattle.postcard_wire.proofs.Delimited.{variant_delimited}
 use Rattle.postcard_wire.proofs.WellFormed.{end_well_formed, group_well_formed, variant_well_formed}
 use Rattle.postcard_shape.specs.Compound.{unit_variant}
 use Rattle.postcard_shape.specs.Same.{HasOne}
-use Rattle.postcard_shape.specs.Shape.{Shape}
+use Rattle.postcard_shape.specs.Shape.{Shape, never}
 
 -- The index i is below n, and the content is an empty group.
 abbrev pub IsUnit : ℕ → ℕ → Tree → Type 0
@@ -37,7 +37,7 @@ abbrev pub enumeration : {V : Type 0} → (n : ℕ) (index : V → ℕ) (at : �
     → ((v : V) → at (index v) ≡ v) → Shape V
 enumeration n index at back = record {
   tree = λ v. unit_variant (index v);
-  refuses = λ v. ⊥;
+  refusal = λ v. never;
   text = ⊥;
   reads = IsVariant (IsUnit n);
   value = λ t v. t ≡ unit_variant (index v);

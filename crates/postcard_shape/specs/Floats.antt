@@ -5,12 +5,12 @@ use Rattle.std.specs.Float.{Float, Format, binary32, binary64}
 use Rattle.std.specs.Float.Ieee.{fits, top, to_bits, of_bits}
 use Rattle.std.proofs.Common.{refl, sym, ap, subst, ◌∙◌}
 use lib.Ieee.Bits.{of_bits-to_bits, to_bits-lt}
-use Rattle.postcard_wire.specs.Tree.{Tree, Byte, Group, trees}
+use Rattle.postcard_wire.specs.Tree.{Tree}
 use Rattle.postcard_shape.specs.Base256.{low_first, low_value, low_counts, low_bytes, low_worth}
 use Rattle.postcard_shape.specs.Leaves.{byte}
 use Rattle.postcard_shape.specs.Lists.{array}
 use Rattle.postcard_shape.specs.Same.{HasOne, same_list}
-use Rattle.postcard_shape.specs.Shape.{Shape}
+use Rattle.postcard_shape.specs.Shape.{Shape, never}
 
 -- The number of bytes of a float: 4 for an `f32`, and 8 for an `f64`.
 abbrev pub float_len : Format → ℕ
@@ -60,7 +60,7 @@ module _ (f : Format) where
 abbrev pub float : Format → Shape Float
 float f = record {
   tree = float_tree f;
-  refuses = λ x. ⊥;
+  refusal = λ x. never;
   text = ⊥;
   reads = (array (float_len f) byte).reads;
   value = IsFloat f;

@@ -13,13 +13,13 @@ use Rattle.postcard_shape.specs.Fixed.{IsShortText, short_text_inside}
 use Rattle.postcard_shape.specs.Numbers.{Without, without_delimited, without_well_formed}
 use Rattle.postcard_shape.specs.One.{byte_one, num_one, int_one, text_one, signed_byte_one}
 use Rattle.postcard_shape.specs.Options.{boolean_one, char_one}
-use Rattle.postcard_shape.specs.Shape.{Shape}
+use Rattle.postcard_shape.specs.Shape.{Shape, never}
 
 -- The shape of a byte.
 abbrev pub byte : Shape ℕ
 byte = record {
   tree = Byte;
-  refuses = λ v. ⊥;
+  refusal = λ v. never;
   text = ⊥;
   reads = IsByte;
   value = λ t v. t ≡ Byte v;
@@ -36,7 +36,7 @@ byte = record {
 abbrev pub signed_byte : Shape ℤ
 signed_byte = record {
   tree = λ v. Byte (cast_unsigned w8 v);
-  refuses = λ v. ⊥;
+  refusal = λ v. never;
   text = ⊥;
   reads = IsByte;
   value = λ t v. t ≡ Byte (cast_unsigned w8 v);
@@ -53,7 +53,7 @@ signed_byte = record {
 abbrev pub num : (w : ℕ) → IsWidth w → Shape ℕ
 num w width = record {
   tree = Num w;
-  refuses = λ v. ⊥;
+  refusal = λ v. never;
   text = ⊥;
   reads = IsNum w;
   value = λ t v. t ≡ Num w v;
@@ -70,7 +70,7 @@ num w width = record {
 abbrev pub int : (w : ℕ) → IsWidth w → Shape ℤ
 int w width = record {
   tree = Int w;
-  refuses = λ v. ⊥;
+  refusal = λ v. never;
   text = ⊥;
   reads = IsInt w;
   value = λ t v. t ≡ Int w v;
@@ -87,7 +87,7 @@ int w width = record {
 abbrev pub boolean : Shape Bool
 boolean = record {
   tree = Boolean;
-  refuses = λ v. ⊥;
+  refusal = λ v. never;
   text = ⊥;
   reads = IsBoolean;
   value = λ t v. t ≡ Boolean v;
@@ -104,7 +104,7 @@ boolean = record {
 abbrev pub character : Shape ℕ
 character = record {
   tree = Char;
-  refuses = λ v. ⊥;
+  refusal = λ v. never;
   text = ⊥;
   reads = IsChar;
   value = λ t v. t ≡ Char v;
@@ -121,7 +121,7 @@ character = record {
 abbrev pub text : Shape (List ℕ)
 text = record {
   tree = Text;
-  refuses = λ v. ⊥;
+  refusal = λ v. never;
   text = ⊥;
   reads = IsText;
   value = λ t v. t ≡ Text v;
@@ -138,7 +138,7 @@ text = record {
 abbrev pub short_text : ℕ → Shape (List ℕ)
 short_text n = record {
   tree = Text;
-  refuses = λ v. ⊥;
+  refusal = λ v. never;
   text = ⊥;
   reads = IsShortText n;
   value = λ t v. t ≡ Text v;
@@ -155,7 +155,7 @@ short_text n = record {
 abbrev pub without : {V : Type 0} → Tree → Shape V → Shape V
 without one s = record {
   tree = s.tree;
-  refuses = s.refuses;
+  refusal = s.refusal;
   text = s.text;
   reads = Without one s.reads;
   value = s.value;

@@ -17,6 +17,8 @@ pub mod Choices
 pub mod Spans
 pub mod Entries
 pub mod Sets
+pub mod Heaps
+pub mod Puts
 pub mod Rows
 pub mod Cases
 pub mod Refusing

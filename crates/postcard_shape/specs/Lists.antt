@@ -2,7 +2,7 @@
 -- 1.0, "seq" and "tuple").
 use Rattle.std.specs.Prelude.{◌≡◌, ℕ, ◌<◌, ◌≤◌, ◌^◌, List, [], ◌∷◌, length, map, Any}
 use Rattle.std.proofs.Common.{refl, ap, suc, subst, sym, ◌∙◌}
-use Rattle.postcard_wire.specs.Tree.{Tree, Trees, Group, Seq, trees, count}
+use Rattle.postcard_wire.specs.Tree.{Tree, Group, Seq, trees, count}
 use Rattle.postcard_wire.specs.Reading.{IsGroup, Each, IsSeq, IsArray}
 use Rattle.postcard_wire.proofs.Delimited.{seq_delimited, array_delimited, fewer_delimited}
 use Rattle.postcard_wire.proofs.WellFormed.{seq_well_formed, array_well_formed}
@@ -41,7 +41,7 @@ each_is tree value fits h (v ∷ vs) f = (h v f.0, each_is tree value fits h vs 
 abbrev pub seq : {V : Type 0} → Shape V → Shape (List V)
 seq s = record {
   tree = λ v. Seq (trees (map s.tree v));
-  refuses = Any s.refuses;
+  refusal = λ v e. Any (λ x. s.refusal x e) v;
   text = s.text;
   reads = IsSeq s.reads;
   value = ListIs s.value;
@@ -58,7 +58,7 @@ seq s = record {
 abbrev pub array : {V : Type 0} → ℕ → Shape V → Shape (List V)
 array n s = record {
   tree = λ v. Group (trees (map s.tree v));
-  refuses = λ v. Any s.refuses v;
+  refusal = λ v e. Any (λ x. s.refusal x e) v;
   text = s.text;
   reads = IsArray n s.reads;
   value = λ t v. IsGroup (λ ts. EachIs s.value ts v) t;
@@ -75,7 +75,7 @@ array n s = record {
 abbrev pub few : {V : Type 0} → ℕ → Shape V → Shape (List V)
 few n s = record {
   tree = λ v. Seq (trees (map s.tree v));
-  refuses = Any s.refuses;
+  refusal = λ v e. Any (λ x. s.refusal x e) v;
   text = s.text;
   reads = IsFewSeq n s.reads;
   value = ListIs s.value;

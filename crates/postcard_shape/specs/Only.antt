@@ -15,7 +15,7 @@ only_inside test reads value t r = r.0
 abbrev pub only : {V : Type 0} → (V → Type 0) → Shape V → Shape V
 only test s = record {
   tree = s.tree;
-  refuses = s.refuses;
+  refusal = s.refusal;
   text = s.text;
   reads = IsOnly test s.reads s.value;
   value = s.value;

@@ -1,13 +1,15 @@
 -- The shapes of types whose values may be refused when they are written.
-use Rattle.std.specs.Prelude.{⊤}
+use Rattle.std.specs.Prelude.{◌≡◌, ⊤}
+use Rattle.postcard_wire.specs.declared.error.Error.{Error}
+use Rattle.postcard_wire.specs.declared.error.Error.TheVariants.{CollectStrError}
 use Rattle.postcard_shape.specs.Shape.{Shape}
 
--- The shape s, for a type whose values may be refused for a reason of their own, with any error, if
--- `refuses` holds of them.
-abbrev pub refusing : {V : Type 0} → (V → Type 0) → Shape V → Shape V
-refusing refuses s = record {
+-- The shape s, for a type whose values may refuse themselves: a value v may be refused with the
+-- error e if `refusal v e` holds.
+abbrev pub refusing : {V : Type 0} → (V → Error → Type 0) → Shape V → Shape V
+refusing refusal s = record {
   tree = s.tree;
-  refuses = refuses;
+  refusal = refusal;
   text = s.text;
   reads = s.reads;
   value = s.value;
@@ -25,7 +27,7 @@ refusing refuses s = record {
 abbrev pub printed : {V : Type 0} → Shape V → Shape V
 printed s = record {
   tree = s.tree;
-  refuses = λ v. ⊤;
+  refusal = λ v e. e ≡ CollectStrError;
   text = ⊤;
   reads = s.reads;
   value = s.value;

@@ -2,17 +2,18 @@
 use Rattle.std.specs.Prelude.{◌⊎◌, ⊤}
 use Rattle.std.proofs.Common.{refl}
 use Rattle.postcard_wire.specs.Tree.{Trees, Group, NoTrees, Then}
+use Rattle.postcard_wire.specs.declared.error.Error.{Error}
 use Rattle.postcard_wire.specs.Reading.{AreDelimited, PartsWellFormed, IsEnd, IsThen, IsGroup}
 use Rattle.postcard_wire.proofs.Delimited.{end_delimited, then_delimited, group_delimited}
 use Rattle.postcard_wire.proofs.WellFormed.{end_well_formed, then_well_formed, group_well_formed}
 use Rattle.postcard_shape.specs.Parts.{end_one, then_one, group_one}
-use Rattle.postcard_shape.specs.Shape.{Shape}
+use Rattle.postcard_shape.specs.Shape.{Shape, never}
 
 -- What a `Shape` says, said of parts in a row: the trees of the parts, in order, and the laws that
 -- tie them.
 pub record Row (V : Type 0) : Type 1 where
   pub trees : V → Trees
-  pub refuses : V → Type 0
+  pub refusal : V → Error → Type 0
   pub text : Type 0
   pub reads : Trees → Type 0
   pub value : V → Trees → Type 0
@@ -28,7 +29,7 @@ pub record Row (V : Type 0) : Type 1 where
 abbrev pub none : {V : Type 0} → Row V
 none {V} = record {
   trees = λ v. NoTrees;
-  refuses = λ v. ⊥;
+  refusal = λ v. never;
   text = ⊥;
   reads = IsEnd;
   value = λ v. IsEnd;
@@ -41,11 +42,15 @@ none {V} = record {
   again = λ v f. (refl, refl);
 }
 
+-- The same, as the end of a row of parts.
+abbrev pub no_part : Row (Unit {0})
+no_part = none
+
 -- A part of the shape s, followed by the parts r.
 abbrev pub then : {A B : Type 0} → Shape A → Row B → Row (A × B)
 then s r = record {
   trees = λ v. Then (s.tree v.0) (r.trees v.1);
-  refuses = λ v. s.refuses v.0 ⊎ r.refuses v.1;
+  refusal = λ v e. s.refusal v.0 e ⊎ r.refusal v.1 e;
   text = s.text ⊎ r.text;
   reads = IsThen s.reads r.reads;
   value = λ v. IsThen (λ t. s.value t v.0) (r.value v.1);
@@ -62,7 +67,7 @@ then s r = record {
 abbrev pub along : {V W : Type 0} → (V → W) → Row W → Row V
 along see r = record {
   trees = λ v. r.trees (see v);
-  refuses = λ v. r.refuses (see v);
+  refusal = λ v. r.refusal (see v);
   text = r.text;
   reads = r.reads;
   value = λ v. r.value (see v);
@@ -79,7 +84,7 @@ along see r = record {
 abbrev pub group : {V : Type 0} → Row V → Shape V
 group r = record {
   tree = λ v. Group (r.trees v);
-  refuses = r.refuses;
+  refusal = r.refusal;
   text = r.text;
   reads = IsGroup r.reads;
   value = λ t v. IsGroup (r.value v) t;

@@ -1,6 +1,6 @@
 -- The shape of a set: a list of its keys in their order. Sets as lists of keys, in which a key that is
 -- equal to an earlier one is left out.
-use Rattle.std.specs.Prelude.{◌≡◌, ℕ, ◌<◌, ◌^◌, List, [], ◌∷◌, length, map, Any, ⊤}
+use Rattle.std.specs.Prelude.{◌≡◌, ◌<◌, ◌^◌, List, [], ◌∷◌, length, map, Any, ⊤}
 use Rattle.std.specs.BTreeSet.{insert_key}
 use Rattle.std.specs.declared.cmp.Ordering.{Ordering}
 use Rattle.std.proofs.Common.{refl}
@@ -35,7 +35,7 @@ set_one {A} cmp value same one t ks ls (xs, h, a) (ys, k, b) = (xs, ys, list_one
 abbrev pub keys : {A : Type 0} → (A → A → Ordering) → Shape A → Shape (List A)
 keys cmp s = record {
   tree = λ ks. Seq (trees (map s.tree ks));
-  refuses = Any s.refuses;
+  refusal = λ ks e. Any (λ k. s.refusal k e) ks;
   text = s.text;
   reads = IsSeq s.reads;
   value = SetIs cmp s.value;

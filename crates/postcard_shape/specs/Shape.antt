@@ -3,16 +3,17 @@
 use Rattle.std.specs.Prelude.{⊤}
 use Rattle.postcard_wire.specs.Tree.{Tree}
 use Rattle.postcard_wire.specs.Reading.{IsDelimited, ReadsWellFormed}
+use Rattle.postcard_wire.specs.declared.error.Error.{Error}
 use Rattle.postcard_shape.specs.Same.{HasOne}
 
 -- The shape of a type: all that a contract says of its values on the wire.
 pub record Shape (V : Type 0) : Type 1 where
   -- The tree that a value is written as.
   pub tree : V → Tree
-  -- The value may be refused for a reason of its own when it is written, with any error.
-  pub refuses : V → Type 0
-  -- Any other value may be refused with `CollectStrError`, since the text that it prints may fail
-  -- to print.
+  -- The value may refuse itself when it is written, with this error, whatever it is written to.
+  pub refusal : V → Error → Type 0
+  -- A value is written as the text that it prints, in which a flavor's refusal is answered with
+  -- `CollectStrError`.
   pub text : Type 0
   -- The trees that are read.
   pub reads : Tree → Type 0
@@ -35,11 +36,23 @@ pub record Shape (V : Type 0) : Type 1 where
   -- written is read again.
   pub again : (v : V) → fits v → reads (tree v) × value (tree v) v
 
+-- No error: the refusal of a value that never refuses itself.
+abbrev pub never : Error → Type 0
+never e = ⊥
+
+-- None of these errors is one.
+pub record IsEmpty (errors : Error → Type 0) : Type 0 where
+  pub has_none : (e : Error) → errors e → ⊥
+
+-- The value doesn't refuse itself, by any error.
+abbrev pub IsWilling : {V : Type 0} → Shape V → V → Type 0
+IsWilling s v = IsEmpty (s.refusal v)
+
 -- The shape of a type whose values are seen as those of the shape s by `see`.
 abbrev pub via : {V W : Type 0} → (V → W) → Shape W → Shape V
 via see s = record {
   tree = λ v. s.tree (see v);
-  refuses = λ v. s.refuses (see v);
+  refusal = λ v. s.refusal (see v);
   text = s.text;
   reads = s.reads;
   value = λ t v. s.value t (see v);
@@ -56,7 +69,7 @@ via see s = record {
 abbrev pub growing : {V : Type 0} → Shape V → Shape V
 growing s = record {
   tree = s.tree;
-  refuses = s.refuses;
+  refusal = s.refusal;
   text = s.text;
   reads = s.reads;
   value = s.value;

@@ -1,17 +1,23 @@
 //! The shapes of the types of std and of `arrayvec`, a module for each kind.
 
+mod c_strings;
 mod error;
 mod fixed;
 mod floats;
+mod hashes;
+mod heaps;
 mod lists;
+mod long_tuples;
 mod maps;
 mod net;
 mod nonzero;
 mod numbers;
 mod options;
+mod paths;
 mod ranges;
 mod scalars;
 mod sets;
+mod slices;
 mod text;
 mod time;
 mod tuples;

@@ -12,8 +12,8 @@ use std::{error, fmt};
 ///
 /// The variants are those of postcard 1.1.3 in its order, and then [`Error::OutOfMemory`], which is
 /// this port's own. An error doesn't say where in the bytes or in which part of a value it arose.
-/// Three variants are there so that a `match` can name them; no call of this port returns them:
-/// [`Error::NotYetImplemented`], [`Error::DeserializeBadEnum`] and [`Error::DeserializeBadCrc`].
+/// Two variants are there so that a `match` can name them; no call of this port returns them:
+/// [`Error::NotYetImplemented`] and [`Error::DeserializeBadEnum`].
 ///
 /// `Display` prints the texts of postcard 1.1.3, and `Debug` the name of the variant.
 #[derive(Clone, Debug, Drop, PartialEq, Eq)]
@@ -48,10 +48,10 @@ pub enum Error {
     DeserializeBadEnum,
     /// A frame is empty, or one of its groups runs past its end.
     DeserializeBadEncoding,
-    /// Never returned by this port, which has no checksums.
+    /// The checksum after a message is not that of the message.
     DeserializeBadCrc,
-    /// A value refuses to be written. No type of this port does; it is for types of a user (see
-    /// [`Error::ser_custom`]).
+    /// A value refuses itself when it is written. None of this port's types does; it is for types
+    /// of a user (see [`Error::ser_custom`]).
     SerdeSerCustom,
     /// The bytes spell no value of the type: an unknown variant, a zero for a type without one, a
     /// duration that is too long, more elements than the capacity. Types of a user return it too

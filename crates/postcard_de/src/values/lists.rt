@@ -1,6 +1,7 @@
-//! Lists of any length: `Vec<T>`, and `&[u8]`, which is lent from the source.
+//! Lists of any length: `Vec<T>`, `VecDeque<T>`, `LinkedList<T>`, and `&[u8]`, which is lent from
+//! the source.
 
-ghost use Rattle.std.specs.Prelude.{◌≡◌, IfErr};
+ghost use Rattle.std.specs.Prelude.{◌≡◌, IfErr, IfOk};
 ghost use Rattle.postcard_wire.specs.Tree.{Byte};
 ghost use Rattle.postcard_wire.specs.Spelling.{Spells};
 ghost use Rattle.postcard_wire.specs.Reading.{IsByte, IsSeq};
@@ -14,9 +15,9 @@ use crate::deserializer::Deserializer;
 use crate::element::{ByDeserialize, ByDeserializeOwned};
 use crate::owned::DeserializeOwned;
 use postcard_de_flavors::Flavor;
-use postcard_wire::Result;
+use postcard_wire::{Error, Result};
 use std::alloc::Global;
-use std::collections::VecDeque;
+use std::collections::{LinkedList, VecDeque};
 
 impl<'de> Deserialize<'de> for &'de [u8] {
     fn deserialize<F: Flavor>(_alloc: Global, d: &mut Deserializer<'de, F>) -> Result<Self>
@@ -59,5 +60,42 @@ impl<T: DeserializeOwned> DeserializeOwned for VecDeque<T> {
     ) -> Result<Self> {
         let items = <Vec<T>>::deserialize_owned(alloc, d)?;
         Ok(VecDeque::from_vec(items))
+    }
+}
+
+/// Moves the elements of a list into the nodes of another, in their order.
+///
+/// # Errors
+///
+/// Fails with `OutOfMemory` if an allocation fails.
+fn linked_of<T: Drop>(alloc: Global, items: Vec<T>) -> Result<LinkedList<T>>
+    ensures same { IfOk result (λ linked. linked ≡ items.items) }
+    ensures refused { IfErr result (λ e. e ≡ Error.OutOfMemory) }
+{
+    let mut linked = LinkedList::new(alloc);
+    for item in items {
+        if linked.push_back(item).is_err() {
+            return Err(Error::OutOfMemory);
+        }
+    }
+    Ok(linked)
+}
+
+/// Reads the elements, and then moves each into a node. Fails with `OutOfMemory` if an allocation
+/// fails.
+impl<'de, T: Deserialize<'de>> Deserialize<'de> for LinkedList<T> {
+    fn deserialize<F: Flavor>(alloc: Global, d: &mut Deserializer<'de, F>) -> Result<Self> {
+        let elements: Vec<T> = Deserialize::deserialize(alloc, d)?;
+        linked_of(alloc, elements)
+    }
+}
+
+impl<T: DeserializeOwned> DeserializeOwned for LinkedList<T> {
+    fn deserialize_owned<'de, F: Flavor>(
+        alloc: Global,
+        d: &mut Deserializer<'de, F>,
+    ) -> Result<Self> {
+        let owned: Vec<T> = DeserializeOwned::deserialize_owned(alloc, d)?;
+        linked_of(alloc, owned)
     }
 }

@@ -1,4 +1,4 @@
-//! Texts: `&str`, which is lent from the source, and `String`.
+//! Texts: `&str`, which is lent from the source, and texts that are owned or shared.
 
 ghost use Rattle.std.specs.Prelude.{◌≡◌, IfErr, string_bytes, ⊤};
 ghost use Rattle.postcard_wire.specs.Tree.{Text};
@@ -12,8 +12,12 @@ use crate::deserialize::Deserialize;
 use crate::deserializer::Deserializer;
 use crate::owned::DeserializeOwned;
 use postcard_de_flavors::Flavor;
-use postcard_wire::Result;
+use postcard_wire::{Error, Result};
 use std::alloc::Global;
+use std::borrow::CowStr;
+use std::boxed::BoxedStr;
+use std::rc::RcStr;
+use std::sync::ArcStr;
 
 impl<'de> Deserialize<'de> for &'de str {
     fn deserialize<F: Flavor>(_alloc: Global, d: &mut Deserializer<'de, F>) -> Result<Self>
@@ -48,5 +52,91 @@ impl DeserializeOwned for String {
             (source_of d.old) e (source_of d.new)) }
     {
         String::deserialize(alloc, d)
+    }
+}
+
+/// Reads a text as `String` does, and fails as that does.
+impl<'de> Deserialize<'de> for BoxedStr {
+    fn deserialize<F: Flavor>(alloc: Global, d: &mut Deserializer<'de, F>) -> Result<Self> {
+        let text = <String>::deserialize(alloc, d)?;
+        Ok(text.into_boxed_str())
+    }
+}
+
+impl DeserializeOwned for BoxedStr {
+    fn deserialize_owned<'de, F: Flavor>(
+        alloc: Global,
+        d: &mut Deserializer<'de, F>,
+    ) -> Result<Self> {
+        let content = <String>::deserialize_owned(alloc, d)?;
+        Ok(content.into_boxed_str())
+    }
+}
+
+/// Reads a text as `String` does, and fails as that does, and with `OutOfMemory` if an allocation
+/// fails.
+impl<'de> Deserialize<'de> for RcStr {
+    fn deserialize<F: Flavor>(alloc: Global, d: &mut Deserializer<'de, F>) -> Result<Self> {
+        let text = <String>::deserialize(alloc, d)?;
+        match RcStr::from_string(text) {
+            Ok(shared) => Ok(shared),
+            Err(_) => Err(Error::OutOfMemory),
+        }
+    }
+}
+
+impl DeserializeOwned for RcStr {
+    fn deserialize_owned<'de, F: Flavor>(
+        alloc: Global,
+        d: &mut Deserializer<'de, F>,
+    ) -> Result<Self> {
+        let content = <String>::deserialize_owned(alloc, d)?;
+        match RcStr::from_string(content) {
+            Ok(shared) => Ok(shared),
+            Err(_) => Err(Error::OutOfMemory),
+        }
+    }
+}
+
+/// Reads a text as `String` does, and fails as that does, and with `OutOfMemory` if an allocation
+/// fails.
+impl<'de> Deserialize<'de> for ArcStr {
+    fn deserialize<F: Flavor>(alloc: Global, d: &mut Deserializer<'de, F>) -> Result<Self> {
+        let text = <String>::deserialize(alloc, d)?;
+        match ArcStr::from_string(text) {
+            Ok(held) => Ok(held),
+            Err(_) => Err(Error::OutOfMemory),
+        }
+    }
+}
+
+impl DeserializeOwned for ArcStr {
+    fn deserialize_owned<'de, F: Flavor>(
+        alloc: Global,
+        d: &mut Deserializer<'de, F>,
+    ) -> Result<Self> {
+        let content = <String>::deserialize_owned(alloc, d)?;
+        match ArcStr::from_string(content) {
+            Ok(held) => Ok(held),
+            Err(_) => Err(Error::OutOfMemory),
+        }
+    }
+}
+
+/// Reads an owned text as `String` does, and fails as that does.
+impl<'de> Deserialize<'de> for CowStr<'_> {
+    fn deserialize<F: Flavor>(alloc: Global, d: &mut Deserializer<'de, F>) -> Result<Self> {
+        let text = <String>::deserialize(alloc, d)?;
+        Ok(CowStr::Owned(text))
+    }
+}
+
+impl DeserializeOwned for CowStr<'_> {
+    fn deserialize_owned<'de, F: Flavor>(
+        alloc: Global,
+        d: &mut Deserializer<'de, F>,
+    ) -> Result<Self> {
+        let content = <String>::deserialize_owned(alloc, d)?;
+        Ok(CowStr::Owned(content))
     }
 }

@@ -1,4 +1,4 @@
-//! Spans of time: `Duration`.
+//! Spans and points of time: `Duration`, `SystemTime`.
 
 use crate::deserialize::Deserialize;
 use crate::deserializer::Deserializer;
@@ -6,7 +6,7 @@ use crate::owned::DeserializeOwned;
 use postcard_de_flavors::Flavor;
 use postcard_wire::{Error, Result};
 use std::alloc::Global;
-use std::time::Duration;
+use std::time::{Duration, SystemTime, UNIX_EPOCH};
 
 const NANOSECONDS_PER_SECOND: u32 = 1_000_000_000;
 
@@ -30,5 +30,26 @@ impl DeserializeOwned for Duration {
         d: &mut Deserializer<'de, F>,
     ) -> Result<Self> {
         Duration::deserialize(alloc, d)
+    }
+}
+
+/// Reads the span since the beginning of 1970. Fails with `SerdeDeCustom` if it is 2^63 seconds or
+/// more.
+impl<'de> Deserialize<'de> for SystemTime {
+    fn deserialize<F: Flavor>(alloc: Global, d: &mut Deserializer<'de, F>) -> Result<Self> {
+        let since_1970: Duration = Deserialize::deserialize(alloc, d)?;
+        match UNIX_EPOCH.checked_add(since_1970) {
+            Some(time) => Ok(time),
+            None => Err(Error::SerdeDeCustom),
+        }
+    }
+}
+
+impl DeserializeOwned for SystemTime {
+    fn deserialize_owned<'de, F: Flavor>(
+        alloc: Global,
+        d: &mut Deserializer<'de, F>,
+    ) -> Result<Self> {
+        SystemTime::deserialize(alloc, d)
     }
 }

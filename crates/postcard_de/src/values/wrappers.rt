@@ -8,6 +8,7 @@ use postcard_de_flavors::Flavor;
 use postcard_shape::Shaped;
 use postcard_wire::{Error, Result};
 use std::alloc::Global;
+use std::borrow::Cow;
 use std::cmp::Reverse;
 use std::num::{Saturating, Wrapping};
 use std::rc::Rc;
@@ -100,5 +101,12 @@ impl<T: DeserializeOwned> DeserializeOwned for Arc<T> {
             Ok(shared) => Ok(shared),
             Err(_) => Err(Error::OutOfMemory),
         }
+    }
+}
+
+/// A value that was read is owned.
+impl<T: Shaped + Drop> FromRepr for Cow<'_, T> {
+    fn from_repr(value: Self::As) -> Self {
+        Cow::Owned(value)
     }
 }

@@ -3,6 +3,7 @@
 ghost use Rattle.postcard_max.specs.Limits.{via_lawful};
 
 use crate::max_size::{MaxSize, MaxSizeRepr};
+use std::borrow::Cow;
 use std::cmp::Reverse;
 use std::num::{Saturating, Wrapping};
 use std::rc::Rc;
@@ -90,4 +91,14 @@ impl<T: MaxSize> MaxSize for Arc<T> {
     }
 
     ghost lawful = { via_lawful (λ v. v.value) T.lawful };
+}
+
+/// The greatest size is that of the value.
+impl<T: MaxSize> MaxSizeRepr for Cow<'_, T> {
+    fn in_forms_repr(&self) {
+        match self {
+            Cow::Borrowed(value) => value.in_forms(),
+            Cow::Owned(value) => value.in_forms(),
+        }
+    }
 }

@@ -1,6 +1,6 @@
 //! Addresses of the Internet.
 
-use super::users;
+use super::owners;
 use crate::checks::{Outcome, sized_with};
 use crate::row::Row;
 use std::alloc::Global;
@@ -15,6 +15,6 @@ pub fn with_scratch<'a>(alloc: Global, row: &'a Row<'_>, scratch: &'a mut [u8]) 
         "SocketAddrV4" => sized_with::<SocketAddrV4>(alloc, row, scratch),
         "SocketAddrV6" => sized_with::<SocketAddrV6>(alloc, row, scratch),
         "SocketAddr" => sized_with::<SocketAddr>(alloc, row, scratch),
-        _ => users::with_scratch(alloc, row, scratch),
+        _ => owners::with_scratch(alloc, row, scratch),
     }
 }

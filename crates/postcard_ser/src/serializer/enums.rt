@@ -4,7 +4,7 @@ ghost use Rattle.std.specs.Prelude.{OnOk};
 ghost use Rattle.postcard_wire.specs.Spelling.{canonical};
 ghost use Rattle.postcard_wire.specs.Tree.{Num, Variant};
 ghost use Rattle.postcard_shape.specs.Compound.{unit_variant};
-ghost use Rattle.postcard_ser.specs.Writing.{Wrote};
+ghost use Rattle.postcard_ser.specs.Writing.{Wrote, never};
 
 use crate::serialize::Serialize;
 use crate::serializer::Serializer;
@@ -15,7 +15,7 @@ impl<F: Flavor> Serializer<F> {
     /// Writes a variant without content: its index as a varint of 1 to 5 bytes. The names aren't
     /// written. Fails with `SerializeBufferFull` if the flavor refuses a piece.
     pub fn serialize_unit_variant(&mut self, name: &str, index: u32, variant: &str) -> Result<()>
-        ensures { Wrote F.Flavor self.old.output (canonical (unit_variant index)) ⊥ ⊥ result
+        ensures { Wrote F.Flavor self.old.output (canonical (unit_variant index)) never ⊥ result
             self.new.output }
     {
         self.serialize_tuple_variant(name, index, variant, 0)
@@ -33,7 +33,7 @@ impl<F: Flavor> Serializer<F> {
     ) -> Result<()>
         ensures wrote { Wrote F.Flavor self.old.output
             (canonical (Variant index (T.shape.tree value.now)))
-            (T.shape.refuses value.now) T.shape.text result self.new.output }
+            (T.shape.refusal value.now) T.shape.text result self.new.output }
         ensures fits { OnOk result (T.shape.fits value.now) }
     {
         self.serialize_tuple_variant(name, index, variant, 1)?;
@@ -52,7 +52,7 @@ impl<F: Flavor> Serializer<F> {
         _len: usize,
     ) -> Result<()>
         ensures { Wrote F.Flavor self.old.output
-            (canonical (Num 32 index)) ⊥ ⊥ result self.new.output }
+            (canonical (Num 32 index)) never ⊥ result self.new.output }
     {
         self.serialize_u32(index)
     }
@@ -69,7 +69,7 @@ impl<F: Flavor> Serializer<F> {
         len: usize,
     ) -> Result<()>
         ensures { Wrote F.Flavor self.old.output
-            (canonical (Num 32 index)) ⊥ ⊥ result self.new.output }
+            (canonical (Num 32 index)) never ⊥ result self.new.output }
     {
         self.serialize_tuple_variant(name, index, variant, len)
     }

@@ -3,7 +3,7 @@
 ghost use Rattle.std.specs.Float.{binary32, binary64};
 ghost use Rattle.postcard_wire.specs.Spelling.{canonical};
 ghost use Rattle.postcard_shape.specs.Floats.{float_tree};
-ghost use Rattle.postcard_ser.specs.Writing.{Wrote};
+ghost use Rattle.postcard_ser.specs.Writing.{Wrote, never};
 
 use crate::serializer::Serializer;
 use postcard_ser_flavors::Flavor;
@@ -15,7 +15,7 @@ impl<F: Flavor> Serializer<F> {
     /// same bytes, `00 00 C0 7F`. Fails with `SerializeBufferFull` if the flavor refuses a piece.
     #[tactic(auto, using(postcard_shape::proofs::Floats::f32_encoded))]
     pub fn serialize_f32(&mut self, v: f32) -> Result<()>
-        ensures { Wrote F.Flavor self.old.output (canonical (float_tree binary32 v)) ⊥ ⊥ result
+        ensures { Wrote F.Flavor self.old.output (canonical (float_tree binary32 v)) never ⊥ result
             self.new.output }
     {
         let bytes = f32_to_bits_with_nan(v).to_le_bytes();
@@ -27,7 +27,7 @@ impl<F: Flavor> Serializer<F> {
     /// a piece.
     #[tactic(auto, using(postcard_shape::proofs::Floats::f64_encoded))]
     pub fn serialize_f64(&mut self, v: f64) -> Result<()>
-        ensures { Wrote F.Flavor self.old.output (canonical (float_tree binary64 v)) ⊥ ⊥ result
+        ensures { Wrote F.Flavor self.old.output (canonical (float_tree binary64 v)) never ⊥ result
             self.new.output }
     {
         let bytes = f64_to_bits_with_nan(v).to_le_bytes();

@@ -4,7 +4,7 @@ ghost use Rattle.std.specs.Prelude.{◌≡◌, [], IsOk, IsErrOf, IfSome, OnOk};
 ghost use Rattle.std.specs.Option.{IfNone};
 ghost use Rattle.postcard_wire.specs.Spelling.{canonical};
 ghost use Rattle.postcard_wire.specs.Tree.{Num};
-ghost use Rattle.postcard_ser.specs.Writing.{Wrote};
+ghost use Rattle.postcard_ser.specs.Writing.{Wrote, never};
 
 use crate::serialize::Serialize;
 use crate::serializer::Serializer;
@@ -15,7 +15,7 @@ impl<F: Flavor> Serializer<F> {
     /// Begins a tuple or an array of `len` elements. Writes nothing and never fails. The caller
     /// must write exactly `len` elements by `serialize_element`; this is not checked.
     pub fn serialize_tuple(&mut self, _len: usize) -> Result<()>
-        ensures wrote { Wrote F.Flavor self.old.output [] ⊥ ⊥ result self.new.output }
+        ensures wrote { Wrote F.Flavor self.old.output [] never ⊥ result self.new.output }
         ensures succeeds { IsOk result }
         ensures unchanged { self.new ≡ self.old }
     {
@@ -25,7 +25,7 @@ impl<F: Flavor> Serializer<F> {
     /// Begins a struct of `len` fields without names. Writes nothing and never fails. The caller
     /// must write exactly `len` fields by `serialize_field`; this is not checked.
     pub fn serialize_tuple_struct(&mut self, _name: &str, len: usize) -> Result<()>
-        ensures wrote { Wrote F.Flavor self.old.output [] ⊥ ⊥ result self.new.output }
+        ensures wrote { Wrote F.Flavor self.old.output [] never ⊥ result self.new.output }
         ensures succeeds { IsOk result }
         ensures unchanged { self.new ≡ self.old }
     {
@@ -35,7 +35,7 @@ impl<F: Flavor> Serializer<F> {
     /// Begins a struct of `len` named fields. Writes nothing and never fails. The caller must write
     /// exactly `len` fields by `serialize_struct_field`; this is not checked.
     pub fn serialize_struct(&mut self, name: &str, len: usize) -> Result<()>
-        ensures wrote { Wrote F.Flavor self.old.output [] ⊥ ⊥ result self.new.output }
+        ensures wrote { Wrote F.Flavor self.old.output [] never ⊥ result self.new.output }
         ensures succeeds { IsOk result }
         ensures unchanged { self.new ≡ self.old }
     {
@@ -47,8 +47,8 @@ impl<F: Flavor> Serializer<F> {
     /// checked. Fails with `SerializeSeqLengthUnknown` if `len` is `None`, before anything is
     /// written, and with `SerializeBufferFull` if the flavor refuses the number.
     pub fn serialize_map(&mut self, len: Option<usize>) -> Result<()>
-        ensures known { IfSome len (λ n. Wrote F.Flavor self.old.output (canonical (Num 64 n)) ⊥ ⊥
-            result self.new.output) }
+        ensures known { IfSome len (λ n. Wrote F.Flavor self.old.output (canonical (Num 64 n))
+            never ⊥ result self.new.output) }
         ensures unknown { IfNone len (IsErrOf result Error.SerializeSeqLengthUnknown ×
             (self.new ≡ self.old)) }
     {
@@ -58,7 +58,7 @@ impl<F: Flavor> Serializer<F> {
     /// Writes the key of a map's entry, as its `serialize` does, and fails as that does.
     pub fn serialize_key<T: Serialize>(&mut self, key: &T) -> Result<()>
         ensures wrote { Wrote F.Flavor self.old.output (canonical (T.shape.tree key.now))
-            (T.shape.refuses key.now) T.shape.text result self.new.output }
+            (T.shape.refusal key.now) T.shape.text result self.new.output }
         ensures fits { OnOk result (T.shape.fits key.now) }
     {
         key.serialize(self)
@@ -68,7 +68,7 @@ impl<F: Flavor> Serializer<F> {
     /// does.
     pub fn serialize_value<T: Serialize>(&mut self, value: &T) -> Result<()>
         ensures wrote { Wrote F.Flavor self.old.output (canonical (T.shape.tree value.now))
-            (T.shape.refuses value.now) T.shape.text result self.new.output }
+            (T.shape.refusal value.now) T.shape.text result self.new.output }
         ensures fits { OnOk result (T.shape.fits value.now) }
     {
         value.serialize(self)
@@ -78,7 +78,7 @@ impl<F: Flavor> Serializer<F> {
     /// as that does.
     pub fn serialize_field<T: Serialize>(&mut self, value: &T) -> Result<()>
         ensures wrote { Wrote F.Flavor self.old.output (canonical (T.shape.tree value.now))
-            (T.shape.refuses value.now) T.shape.text result self.new.output }
+            (T.shape.refusal value.now) T.shape.text result self.new.output }
         ensures fits { OnOk result (T.shape.fits value.now) }
     {
         self.serialize_element(value)
@@ -88,7 +88,7 @@ impl<F: Flavor> Serializer<F> {
     /// does. The name isn't written.
     pub fn serialize_struct_field<T: Serialize>(&mut self, _key: &str, value: &T) -> Result<()>
         ensures wrote { Wrote F.Flavor self.old.output (canonical (T.shape.tree value.now))
-            (T.shape.refuses value.now) T.shape.text result self.new.output }
+            (T.shape.refusal value.now) T.shape.text result self.new.output }
         ensures fits { OnOk result (T.shape.fits value.now) }
     {
         self.serialize_field(value)

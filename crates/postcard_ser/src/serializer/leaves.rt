@@ -3,7 +3,7 @@
 ghost use Rattle.std.specs.Prelude.{◌≡◌, IsOk};
 ghost use Rattle.postcard_wire.specs.Spelling.{canonical};
 ghost use Rattle.postcard_wire.specs.Tree.{Boolean, Char, Group, NoTrees};
-ghost use Rattle.postcard_ser.specs.Writing.{Wrote};
+ghost use Rattle.postcard_ser.specs.Writing.{Wrote, never};
 
 use crate::serializer::Serializer;
 use postcard_ser_flavors::Flavor;
@@ -14,7 +14,7 @@ impl<F: Flavor> Serializer<F> {
     /// `SerializeBufferFull` if the flavor refuses a piece.
     pub fn serialize_bool(&mut self, v: bool) -> Result<()>
         ensures { Wrote F.Flavor self.old.output
-            (canonical (Boolean v)) ⊥ ⊥ result self.new.output }
+            (canonical (Boolean v)) never ⊥ result self.new.output }
     {
         self.serialize_u8(if v { 1 } else { 0 })
     }
@@ -22,7 +22,8 @@ impl<F: Flavor> Serializer<F> {
     /// Writes a character as a text: the number of its bytes of UTF-8, 1 to 4, and then these
     /// bytes. Fails with `SerializeBufferFull` if the flavor refuses a piece.
     pub fn serialize_char(&mut self, v: char) -> Result<()>
-        ensures { Wrote F.Flavor self.old.output (canonical (Char v)) ⊥ ⊥ result self.new.output }
+        ensures { Wrote F.Flavor self.old.output (canonical (Char v)) never ⊥
+            result self.new.output }
     {
         let mut buffer = [0; 4];
         self.serialize_str(v.encode_utf8(&mut buffer))
@@ -30,7 +31,7 @@ impl<F: Flavor> Serializer<F> {
 
     /// Writes the unit value, which has no bytes. Never fails.
     pub fn serialize_unit(&mut self) -> Result<()>
-        ensures wrote { Wrote F.Flavor self.old.output (canonical (Group NoTrees)) ⊥ ⊥ result
+        ensures wrote { Wrote F.Flavor self.old.output (canonical (Group NoTrees)) never ⊥ result
             self.new.output }
         ensures succeeds { IsOk result }
         ensures unchanged { self.new ≡ self.old }
@@ -40,7 +41,7 @@ impl<F: Flavor> Serializer<F> {
 
     /// Writes a struct without fields, which has no bytes. The name isn't written. Never fails.
     pub fn serialize_unit_struct(&mut self, _name: &str) -> Result<()>
-        ensures wrote { Wrote F.Flavor self.old.output (canonical (Group NoTrees)) ⊥ ⊥ result
+        ensures wrote { Wrote F.Flavor self.old.output (canonical (Group NoTrees)) never ⊥ result
             self.new.output }
         ensures succeeds { IsOk result }
         ensures unchanged { self.new ≡ self.old }

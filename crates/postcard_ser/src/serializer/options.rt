@@ -3,7 +3,7 @@
 ghost use Rattle.std.specs.Prelude.{OnOk};
 ghost use Rattle.postcard_wire.specs.Spelling.{canonical};
 ghost use Rattle.postcard_wire.specs.Tree.{Absent, Present};
-ghost use Rattle.postcard_ser.specs.Writing.{Wrote};
+ghost use Rattle.postcard_ser.specs.Writing.{Wrote, never};
 
 use crate::serialize::Serialize;
 use crate::serializer::Serializer;
@@ -14,7 +14,7 @@ impl<F: Flavor> Serializer<F> {
     /// Writes an option without a value: the byte 0. Fails with `SerializeBufferFull` if the flavor
     /// refuses a piece.
     pub fn serialize_none(&mut self) -> Result<()>
-        ensures { Wrote F.Flavor self.old.output (canonical Absent) ⊥ ⊥ result self.new.output }
+        ensures { Wrote F.Flavor self.old.output (canonical Absent) never ⊥ result self.new.output }
     {
         self.serialize_u8(0)
     }
@@ -25,7 +25,7 @@ impl<F: Flavor> Serializer<F> {
     pub fn serialize_some<T: Serialize>(&mut self, value: &T) -> Result<()>
         ensures wrote { Wrote F.Flavor self.old.output
             (canonical (Present (T.shape.tree value.now)))
-            (T.shape.refuses value.now) T.shape.text result self.new.output }
+            (T.shape.refusal value.now) T.shape.text result self.new.output }
         ensures fits { OnOk result (T.shape.fits value.now) }
     {
         self.serialize_u8(1)?;
@@ -36,7 +36,7 @@ impl<F: Flavor> Serializer<F> {
     /// name isn't written.
     pub fn serialize_newtype_struct<T: Serialize>(&mut self, _name: &str, value: &T) -> Result<()>
         ensures wrote { Wrote F.Flavor self.old.output (canonical (T.shape.tree value.now))
-            (T.shape.refuses value.now) T.shape.text result self.new.output }
+            (T.shape.refusal value.now) T.shape.text result self.new.output }
         ensures fits { OnOk result (T.shape.fits value.now) }
     {
         self.serialize_element(value)

@@ -10,7 +10,7 @@ use crate::serialize::Serialize;
 use crate::serializer::Serializer;
 use postcard_ser_flavors::Flavor;
 use postcard_wire::Result;
-use std::collections::VecDeque;
+use std::collections::{LinkedList, VecDeque};
 
 /// Writes the elements in order, with no count before them: in one piece if `slice_bytes` returns
 /// it.
@@ -20,7 +20,8 @@ pub(crate) fn serialize_all<T: Serialize, F: Flavor>(
 ) -> Result<()>
     ensures wrote { Wrote F.Flavor serializer.old.output
         (canonical_all (trees (map T.shape.tree items.now)))
-        (Any T.shape.refuses items.now) T.shape.text result serializer.new.output }
+        (λ e. Any (λ x. T.shape.refusal x e) items.now) T.shape.text result
+        serializer.new.output }
     ensures fits { OnOk result (AllFit T.shape.fits items.now) }
 {
     match T::slice_bytes(items) {
@@ -36,7 +37,8 @@ fn serialize_each<T: Serialize, F: Flavor>(
 ) -> Result<()>
     ensures wrote { Wrote F.Flavor serializer.old.output
         (canonical_all (trees (map T.shape.tree items.now)))
-        (Any T.shape.refuses items.now) T.shape.text result serializer.new.output }
+        (λ e. Any (λ x. T.shape.refusal x e) items.now) T.shape.text result
+        serializer.new.output }
     ensures fits { OnOk result (AllFit T.shape.fits items.now) }
 {
     for item in items {
@@ -70,5 +72,32 @@ impl<T: Serialize> Serialize for VecDeque<T> {
         serializer.serialize_seq(Some(self.len()))?;
         serialize_all(front, serializer)?;
         serialize_all(back, serializer)
+    }
+}
+
+/// Writes the elements of a linked list one by one, with no count before them.
+fn serialize_linked<T: Serialize, F: Flavor>(
+    items: &LinkedList<T>,
+    serializer: &mut Serializer<F>,
+) -> Result<()>
+    ensures wrote { Wrote F.Flavor serializer.old.output
+        (canonical_all (trees (map T.shape.tree items.now)))
+        (λ e. Any (λ x. T.shape.refusal x e) items.now) T.shape.text result
+        serializer.new.output }
+    ensures fits { OnOk result (AllFit T.shape.fits items.now) }
+{
+    for element in items {
+        element.serialize(serializer)?;
+    }
+    Ok(())
+}
+
+/// Written as the number of elements, a varint, and then the elements. The list refuses itself if
+/// an element does.
+impl<T: Serialize> Serialize for LinkedList<T> {
+    fn serialize<F: Flavor>(&self, serializer: &mut Serializer<F>) -> Result<()> {
+        let count = self.len();
+        serializer.serialize_seq(Some(count))?;
+        serialize_linked(self, serializer)
     }
 }

@@ -20,7 +20,7 @@ fn serialize_entries<K: Serialize + Ord, V: Serialize, F: Flavor>(
 ) -> Result<()>
     ensures wrote { Wrote F.Flavor serializer.old.output
         (canonical_all (trees (map (entry_tree K.shape.tree V.shape.tree) entries.now.entries)))
-        (Any (λ e. K.shape.refuses e.0 ⊎ V.shape.refuses e.1) entries.now.entries)
+        (λ e. Any (λ x. K.shape.refusal x.0 e ⊎ V.shape.refusal x.1 e) entries.now.entries)
         (K.shape.text ⊎ V.shape.text) result serializer.new.output }
     ensures fits { OnOk result
         (AllFit (λ e. K.shape.fits e.0 × V.shape.fits e.1) entries.now.entries) }

@@ -19,7 +19,8 @@ fn serialize_keys<K: Serialize + Ord, F: Flavor>(
 ) -> Result<()>
     ensures wrote { Wrote F.Flavor serializer.old.output
         (canonical_all (trees (map K.shape.tree keys.now.keys)))
-        (Any K.shape.refuses keys.now.keys) K.shape.text result serializer.new.output }
+        (λ e. Any (λ k. K.shape.refusal k e) keys.now.keys) K.shape.text result
+        serializer.new.output }
     ensures fits { OnOk result (AllFit K.shape.fits keys.now.keys) }
 {
     for key in keys {

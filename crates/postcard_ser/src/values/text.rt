@@ -1,9 +1,13 @@
-//! Texts.
+//! Texts: borrowed, owned, and shared.
 
 use crate::serialize::Serialize;
 use crate::serializer::Serializer;
 use postcard_ser_flavors::Flavor;
 use postcard_wire::Result;
+use std::borrow::CowStr;
+use std::boxed::BoxedStr;
+use std::rc::RcStr;
+use std::sync::ArcStr;
 
 /// Written as the number of the bytes, a varint, and then the bytes.
 impl Serialize for &str {
@@ -16,5 +20,37 @@ impl Serialize for &str {
 impl Serialize for String {
     fn serialize<F: Flavor>(&self, serializer: &mut Serializer<F>) -> Result<()> {
         serializer.serialize_str(self.as_str())
+    }
+}
+
+/// Written as the number of the bytes, a varint, and then the bytes.
+impl Serialize for BoxedStr {
+    fn serialize<F: Flavor>(&self, serializer: &mut Serializer<F>) -> Result<()> {
+        let boxed = self.as_str();
+        serializer.serialize_str(boxed)
+    }
+}
+
+/// Written as the number of the bytes, a varint, and then the bytes.
+impl Serialize for RcStr {
+    fn serialize<F: Flavor>(&self, serializer: &mut Serializer<F>) -> Result<()> {
+        let shared = self.as_str();
+        serializer.serialize_str(shared)
+    }
+}
+
+/// Written as the number of the bytes, a varint, and then the bytes.
+impl Serialize for ArcStr {
+    fn serialize<F: Flavor>(&self, serializer: &mut Serializer<F>) -> Result<()> {
+        let held = self.as_str();
+        serializer.serialize_str(held)
+    }
+}
+
+/// Written as the number of the bytes, a varint, and then the bytes.
+impl Serialize for CowStr<'_> {
+    fn serialize<F: Flavor>(&self, serializer: &mut Serializer<F>) -> Result<()> {
+        let text = self.as_str();
+        serializer.serialize_str(text)
     }
 }

@@ -1,8 +1,8 @@
 //! Tuples of one to twelve parts: written as the parts in order, with no count before them.
 
-ghost use Rattle.std.specs.Prelude.{◌⊎◌, ◌++◌, OnOk};
-ghost use Rattle.postcard_wire.specs.Spelling.{canonical};
-ghost use Rattle.postcard_ser.specs.Writing.{Wrote};
+ghost use Rattle.std.specs.Prelude.{OnOk};
+ghost use Rattle.postcard_shape.specs.Rows.{no_part, then};
+ghost use Rattle.postcard_ser.specs.Writing.{WroteRow, part};
 
 use crate::serialize::Serialize;
 use crate::serializer::Serializer;
@@ -15,11 +15,13 @@ fn serialize_both<P: Serialize, Q: Serialize, F: Flavor>(
     second: &Q,
     serializer: &mut Serializer<F>,
 ) -> Result<()>
-    ensures wrote { Wrote F.Flavor serializer.old.output
-        (canonical (P.shape.tree first.now) ++ canonical (Q.shape.tree second.now))
-        (P.shape.refuses first.now ⊎ Q.shape.refuses second.now)
-        (P.shape.text ⊎ Q.shape.text) result serializer.new.output }
-    ensures fits { OnOk result (P.shape.fits first.now × Q.shape.fits second.now) }
+    ensures wrote { WroteRow F.Flavor serializer.old.output
+        (then P.shape (then Q.shape no_part))
+        (part first.now (part second.now tt))
+        result serializer.new.output }
+    ensures fits { OnOk result
+        ((then P.shape (then Q.shape no_part)).fits
+        (part first.now (part second.now tt))) }
 {
     first.serialize(serializer)?;
     second.serialize(serializer)
@@ -33,13 +35,13 @@ fn serialize_three<P: Serialize, Q: Serialize, R: Serialize, F: Flavor>(
     third: &R,
     serializer: &mut Serializer<F>,
 ) -> Result<()>
-    ensures wrote { Wrote F.Flavor serializer.old.output
-        (canonical (P.shape.tree first.now)
-        ++ (canonical (Q.shape.tree second.now) ++ canonical (R.shape.tree third.now)))
-        (P.shape.refuses first.now ⊎ (Q.shape.refuses second.now ⊎ R.shape.refuses third.now))
-        (P.shape.text ⊎ (Q.shape.text ⊎ R.shape.text)) result serializer.new.output }
-    ensures fits { OnOk result (P.shape.fits first.now
-        × (Q.shape.fits second.now × R.shape.fits third.now)) }
+    ensures wrote { WroteRow F.Flavor serializer.old.output
+        (then P.shape (then Q.shape (then R.shape no_part)))
+        (part first.now (part second.now (part third.now tt)))
+        result serializer.new.output }
+    ensures fits { OnOk result
+        ((then P.shape (then Q.shape (then R.shape no_part))).fits
+        (part first.now (part second.now (part third.now tt)))) }
 {
     first.serialize(serializer)?;
     serialize_both(second, third, serializer)
@@ -53,25 +55,13 @@ fn serialize_four<P: Serialize, Q: Serialize, R: Serialize, S: Serialize, F: Fla
     fourth: &S,
     serializer: &mut Serializer<F>,
 ) -> Result<()>
-    ensures wrote { Wrote F.Flavor serializer.old.output
-        (canonical (P.shape.tree first.now)
-        ++ (canonical (Q.shape.tree second.now)
-        ++ (canonical (R.shape.tree third.now)
-        ++ canonical (S.shape.tree fourth.now))))
-        (P.shape.refuses first.now
-        ⊎ (Q.shape.refuses second.now
-        ⊎ (R.shape.refuses third.now
-        ⊎ S.shape.refuses fourth.now)))
-        (P.shape.text
-        ⊎ (Q.shape.text
-        ⊎ (R.shape.text
-        ⊎ S.shape.text)))
+    ensures wrote { WroteRow F.Flavor serializer.old.output
+        (then P.shape (then Q.shape (then R.shape (then S.shape no_part))))
+        (part first.now (part second.now (part third.now (part fourth.now tt))))
         result serializer.new.output }
     ensures fits { OnOk result
-        (P.shape.fits first.now
-        × (Q.shape.fits second.now
-        × (R.shape.fits third.now
-        × S.shape.fits fourth.now))) }
+        ((then P.shape (then Q.shape (then R.shape (then S.shape no_part)))).fits
+        (part first.now (part second.now (part third.now (part fourth.now tt))))) }
 {
     first.serialize(serializer)?;
     serialize_three(second, third, fourth, serializer)
@@ -86,29 +76,13 @@ fn serialize_five<P: Serialize, Q: Serialize, R: Serialize, S: Serialize, T: Ser
     fifth: &T,
     serializer: &mut Serializer<F>,
 ) -> Result<()>
-    ensures wrote { Wrote F.Flavor serializer.old.output
-        (canonical (P.shape.tree first.now)
-        ++ (canonical (Q.shape.tree second.now)
-        ++ (canonical (R.shape.tree third.now)
-        ++ (canonical (S.shape.tree fourth.now)
-        ++ canonical (T.shape.tree fifth.now)))))
-        (P.shape.refuses first.now
-        ⊎ (Q.shape.refuses second.now
-        ⊎ (R.shape.refuses third.now
-        ⊎ (S.shape.refuses fourth.now
-        ⊎ T.shape.refuses fifth.now))))
-        (P.shape.text
-        ⊎ (Q.shape.text
-        ⊎ (R.shape.text
-        ⊎ (S.shape.text
-        ⊎ T.shape.text))))
+    ensures wrote { WroteRow F.Flavor serializer.old.output
+        (then P.shape (then Q.shape (then R.shape (then S.shape (then T.shape no_part)))))
+        (part first.now (part second.now (part third.now (part fourth.now (part fifth.now tt)))))
         result serializer.new.output }
     ensures fits { OnOk result
-        (P.shape.fits first.now
-        × (Q.shape.fits second.now
-        × (R.shape.fits third.now
-        × (S.shape.fits fourth.now
-        × T.shape.fits fifth.now)))) }
+        ((then P.shape (then Q.shape (then R.shape (then S.shape (then T.shape no_part))))).fits
+        (part first.now (part second.now (part third.now (part fourth.now (part fifth.now tt)))))) }
 {
     first.serialize(serializer)?;
     serialize_four(second, third, fourth, fifth, serializer)
@@ -132,33 +106,17 @@ fn serialize_six<
     sixth: &U,
     serializer: &mut Serializer<F>,
 ) -> Result<()>
-    ensures wrote { Wrote F.Flavor serializer.old.output
-        (canonical (P.shape.tree first.now)
-        ++ (canonical (Q.shape.tree second.now)
-        ++ (canonical (R.shape.tree third.now)
-        ++ (canonical (S.shape.tree fourth.now)
-        ++ (canonical (T.shape.tree fifth.now)
-        ++ canonical (U.shape.tree sixth.now))))))
-        (P.shape.refuses first.now
-        ⊎ (Q.shape.refuses second.now
-        ⊎ (R.shape.refuses third.now
-        ⊎ (S.shape.refuses fourth.now
-        ⊎ (T.shape.refuses fifth.now
-        ⊎ U.shape.refuses sixth.now)))))
-        (P.shape.text
-        ⊎ (Q.shape.text
-        ⊎ (R.shape.text
-        ⊎ (S.shape.text
-        ⊎ (T.shape.text
-        ⊎ U.shape.text)))))
+    ensures wrote { WroteRow F.Flavor serializer.old.output
+        (then P.shape (then Q.shape (then R.shape (then S.shape (then T.shape (then U.shape
+        no_part))))))
+        (part first.now (part second.now (part third.now (part fourth.now (part fifth.now
+        (part sixth.now tt))))))
         result serializer.new.output }
     ensures fits { OnOk result
-        (P.shape.fits first.now
-        × (Q.shape.fits second.now
-        × (R.shape.fits third.now
-        × (S.shape.fits fourth.now
-        × (T.shape.fits fifth.now
-        × U.shape.fits sixth.now))))) }
+        ((then P.shape (then Q.shape (then R.shape (then S.shape (then T.shape (then U.shape
+        no_part)))))).fits
+        (part first.now (part second.now (part third.now (part fourth.now (part fifth.now
+        (part sixth.now tt))))))) }
 {
     first.serialize(serializer)?;
     serialize_five(second, third, fourth, fifth, sixth, serializer)
@@ -184,37 +142,17 @@ fn serialize_seven<
     seventh: &V,
     serializer: &mut Serializer<F>,
 ) -> Result<()>
-    ensures wrote { Wrote F.Flavor serializer.old.output
-        (canonical (P.shape.tree first.now)
-        ++ (canonical (Q.shape.tree second.now)
-        ++ (canonical (R.shape.tree third.now)
-        ++ (canonical (S.shape.tree fourth.now)
-        ++ (canonical (T.shape.tree fifth.now)
-        ++ (canonical (U.shape.tree sixth.now)
-        ++ canonical (V.shape.tree seventh.now)))))))
-        (P.shape.refuses first.now
-        ⊎ (Q.shape.refuses second.now
-        ⊎ (R.shape.refuses third.now
-        ⊎ (S.shape.refuses fourth.now
-        ⊎ (T.shape.refuses fifth.now
-        ⊎ (U.shape.refuses sixth.now
-        ⊎ V.shape.refuses seventh.now))))))
-        (P.shape.text
-        ⊎ (Q.shape.text
-        ⊎ (R.shape.text
-        ⊎ (S.shape.text
-        ⊎ (T.shape.text
-        ⊎ (U.shape.text
-        ⊎ V.shape.text))))))
+    ensures wrote { WroteRow F.Flavor serializer.old.output
+        (then P.shape (then Q.shape (then R.shape (then S.shape (then T.shape (then U.shape
+        (then V.shape no_part)))))))
+        (part first.now (part second.now (part third.now (part fourth.now (part fifth.now
+        (part sixth.now (part seventh.now tt)))))))
         result serializer.new.output }
     ensures fits { OnOk result
-        (P.shape.fits first.now
-        × (Q.shape.fits second.now
-        × (R.shape.fits third.now
-        × (S.shape.fits fourth.now
-        × (T.shape.fits fifth.now
-        × (U.shape.fits sixth.now
-        × V.shape.fits seventh.now)))))) }
+        ((then P.shape (then Q.shape (then R.shape (then S.shape (then T.shape (then U.shape
+        (then V.shape no_part))))))).fits
+        (part first.now (part second.now (part third.now (part fourth.now (part fifth.now
+        (part sixth.now (part seventh.now tt)))))))) }
 {
     first.serialize(serializer)?;
     serialize_six(second, third, fourth, fifth, sixth, seventh, serializer)
@@ -242,41 +180,17 @@ fn serialize_eight<
     eighth: &W,
     serializer: &mut Serializer<F>,
 ) -> Result<()>
-    ensures wrote { Wrote F.Flavor serializer.old.output
-        (canonical (P.shape.tree first.now)
-        ++ (canonical (Q.shape.tree second.now)
-        ++ (canonical (R.shape.tree third.now)
-        ++ (canonical (S.shape.tree fourth.now)
-        ++ (canonical (T.shape.tree fifth.now)
-        ++ (canonical (U.shape.tree sixth.now)
-        ++ (canonical (V.shape.tree seventh.now)
-        ++ canonical (W.shape.tree eighth.now))))))))
-        (P.shape.refuses first.now
-        ⊎ (Q.shape.refuses second.now
-        ⊎ (R.shape.refuses third.now
-        ⊎ (S.shape.refuses fourth.now
-        ⊎ (T.shape.refuses fifth.now
-        ⊎ (U.shape.refuses sixth.now
-        ⊎ (V.shape.refuses seventh.now
-        ⊎ W.shape.refuses eighth.now)))))))
-        (P.shape.text
-        ⊎ (Q.shape.text
-        ⊎ (R.shape.text
-        ⊎ (S.shape.text
-        ⊎ (T.shape.text
-        ⊎ (U.shape.text
-        ⊎ (V.shape.text
-        ⊎ W.shape.text)))))))
+    ensures wrote { WroteRow F.Flavor serializer.old.output
+        (then P.shape (then Q.shape (then R.shape (then S.shape (then T.shape (then U.shape
+        (then V.shape (then W.shape no_part))))))))
+        (part first.now (part second.now (part third.now (part fourth.now (part fifth.now
+        (part sixth.now (part seventh.now (part eighth.now tt))))))))
         result serializer.new.output }
     ensures fits { OnOk result
-        (P.shape.fits first.now
-        × (Q.shape.fits second.now
-        × (R.shape.fits third.now
-        × (S.shape.fits fourth.now
-        × (T.shape.fits fifth.now
-        × (U.shape.fits sixth.now
-        × (V.shape.fits seventh.now
-        × W.shape.fits eighth.now))))))) }
+        ((then P.shape (then Q.shape (then R.shape (then S.shape (then T.shape (then U.shape
+        (then V.shape (then W.shape no_part)))))))).fits
+        (part first.now (part second.now (part third.now (part fourth.now (part fifth.now
+        (part sixth.now (part seventh.now (part eighth.now tt))))))))) }
 {
     first.serialize(serializer)?;
     serialize_seven(
@@ -308,45 +222,17 @@ fn serialize_nine<
     ninth: &X,
     serializer: &mut Serializer<F>,
 ) -> Result<()>
-    ensures wrote { Wrote F.Flavor serializer.old.output
-        (canonical (P.shape.tree first.now)
-        ++ (canonical (Q.shape.tree second.now)
-        ++ (canonical (R.shape.tree third.now)
-        ++ (canonical (S.shape.tree fourth.now)
-        ++ (canonical (T.shape.tree fifth.now)
-        ++ (canonical (U.shape.tree sixth.now)
-        ++ (canonical (V.shape.tree seventh.now)
-        ++ (canonical (W.shape.tree eighth.now)
-        ++ canonical (X.shape.tree ninth.now)))))))))
-        (P.shape.refuses first.now
-        ⊎ (Q.shape.refuses second.now
-        ⊎ (R.shape.refuses third.now
-        ⊎ (S.shape.refuses fourth.now
-        ⊎ (T.shape.refuses fifth.now
-        ⊎ (U.shape.refuses sixth.now
-        ⊎ (V.shape.refuses seventh.now
-        ⊎ (W.shape.refuses eighth.now
-        ⊎ X.shape.refuses ninth.now))))))))
-        (P.shape.text
-        ⊎ (Q.shape.text
-        ⊎ (R.shape.text
-        ⊎ (S.shape.text
-        ⊎ (T.shape.text
-        ⊎ (U.shape.text
-        ⊎ (V.shape.text
-        ⊎ (W.shape.text
-        ⊎ X.shape.text))))))))
+    ensures wrote { WroteRow F.Flavor serializer.old.output
+        (then P.shape (then Q.shape (then R.shape (then S.shape (then T.shape (then U.shape
+        (then V.shape (then W.shape (then X.shape no_part)))))))))
+        (part first.now (part second.now (part third.now (part fourth.now (part fifth.now
+        (part sixth.now (part seventh.now (part eighth.now (part ninth.now tt)))))))))
         result serializer.new.output }
     ensures fits { OnOk result
-        (P.shape.fits first.now
-        × (Q.shape.fits second.now
-        × (R.shape.fits third.now
-        × (S.shape.fits fourth.now
-        × (T.shape.fits fifth.now
-        × (U.shape.fits sixth.now
-        × (V.shape.fits seventh.now
-        × (W.shape.fits eighth.now
-        × X.shape.fits ninth.now)))))))) }
+        ((then P.shape (then Q.shape (then R.shape (then S.shape (then T.shape (then U.shape
+        (then V.shape (then W.shape (then X.shape no_part))))))))).fits
+        (part first.now (part second.now (part third.now (part fourth.now (part fifth.now
+        (part sixth.now (part seventh.now (part eighth.now (part ninth.now tt)))))))))) }
 {
     first.serialize(serializer)?;
     serialize_eight(
@@ -380,49 +266,19 @@ fn serialize_ten<
     tenth: &Y,
     serializer: &mut Serializer<F>,
 ) -> Result<()>
-    ensures wrote { Wrote F.Flavor serializer.old.output
-        (canonical (P.shape.tree first.now)
-        ++ (canonical (Q.shape.tree second.now)
-        ++ (canonical (R.shape.tree third.now)
-        ++ (canonical (S.shape.tree fourth.now)
-        ++ (canonical (T.shape.tree fifth.now)
-        ++ (canonical (U.shape.tree sixth.now)
-        ++ (canonical (V.shape.tree seventh.now)
-        ++ (canonical (W.shape.tree eighth.now)
-        ++ (canonical (X.shape.tree ninth.now)
-        ++ canonical (Y.shape.tree tenth.now))))))))))
-        (P.shape.refuses first.now
-        ⊎ (Q.shape.refuses second.now
-        ⊎ (R.shape.refuses third.now
-        ⊎ (S.shape.refuses fourth.now
-        ⊎ (T.shape.refuses fifth.now
-        ⊎ (U.shape.refuses sixth.now
-        ⊎ (V.shape.refuses seventh.now
-        ⊎ (W.shape.refuses eighth.now
-        ⊎ (X.shape.refuses ninth.now
-        ⊎ Y.shape.refuses tenth.now)))))))))
-        (P.shape.text
-        ⊎ (Q.shape.text
-        ⊎ (R.shape.text
-        ⊎ (S.shape.text
-        ⊎ (T.shape.text
-        ⊎ (U.shape.text
-        ⊎ (V.shape.text
-        ⊎ (W.shape.text
-        ⊎ (X.shape.text
-        ⊎ Y.shape.text)))))))))
+    ensures wrote { WroteRow F.Flavor serializer.old.output
+        (then P.shape (then Q.shape (then R.shape (then S.shape (then T.shape (then U.shape
+        (then V.shape (then W.shape (then X.shape (then Y.shape no_part))))))))))
+        (part first.now (part second.now (part third.now (part fourth.now (part fifth.now
+        (part sixth.now (part seventh.now (part eighth.now (part ninth.now (part tenth.now
+        tt))))))))))
         result serializer.new.output }
     ensures fits { OnOk result
-        (P.shape.fits first.now
-        × (Q.shape.fits second.now
-        × (R.shape.fits third.now
-        × (S.shape.fits fourth.now
-        × (T.shape.fits fifth.now
-        × (U.shape.fits sixth.now
-        × (V.shape.fits seventh.now
-        × (W.shape.fits eighth.now
-        × (X.shape.fits ninth.now
-        × Y.shape.fits tenth.now))))))))) }
+        ((then P.shape (then Q.shape (then R.shape (then S.shape (then T.shape (then U.shape
+        (then V.shape (then W.shape (then X.shape (then Y.shape no_part)))))))))).fits
+        (part first.now (part second.now (part third.now (part fourth.now (part fifth.now
+        (part sixth.now (part seventh.now (part eighth.now (part ninth.now (part tenth.now
+        tt))))))))))) }
 {
     first.serialize(serializer)?;
     serialize_nine(
@@ -458,53 +314,20 @@ fn serialize_eleven<
     eleventh: &Z,
     serializer: &mut Serializer<F>,
 ) -> Result<()>
-    ensures wrote { Wrote F.Flavor serializer.old.output
-        (canonical (P.shape.tree first.now)
-        ++ (canonical (Q.shape.tree second.now)
-        ++ (canonical (R.shape.tree third.now)
-        ++ (canonical (S.shape.tree fourth.now)
-        ++ (canonical (T.shape.tree fifth.now)
-        ++ (canonical (U.shape.tree sixth.now)
-        ++ (canonical (V.shape.tree seventh.now)
-        ++ (canonical (W.shape.tree eighth.now)
-        ++ (canonical (X.shape.tree ninth.now)
-        ++ (canonical (Y.shape.tree tenth.now)
-        ++ canonical (Z.shape.tree eleventh.now)))))))))))
-        (P.shape.refuses first.now
-        ⊎ (Q.shape.refuses second.now
-        ⊎ (R.shape.refuses third.now
-        ⊎ (S.shape.refuses fourth.now
-        ⊎ (T.shape.refuses fifth.now
-        ⊎ (U.shape.refuses sixth.now
-        ⊎ (V.shape.refuses seventh.now
-        ⊎ (W.shape.refuses eighth.now
-        ⊎ (X.shape.refuses ninth.now
-        ⊎ (Y.shape.refuses tenth.now
-        ⊎ Z.shape.refuses eleventh.now))))))))))
-        (P.shape.text
-        ⊎ (Q.shape.text
-        ⊎ (R.shape.text
-        ⊎ (S.shape.text
-        ⊎ (T.shape.text
-        ⊎ (U.shape.text
-        ⊎ (V.shape.text
-        ⊎ (W.shape.text
-        ⊎ (X.shape.text
-        ⊎ (Y.shape.text
-        ⊎ Z.shape.text))))))))))
+    ensures wrote { WroteRow F.Flavor serializer.old.output
+        (then P.shape (then Q.shape (then R.shape (then S.shape (then T.shape (then U.shape
+        (then V.shape (then W.shape (then X.shape (then Y.shape (then Z.shape no_part)))))))))))
+        (part first.now (part second.now (part third.now (part fourth.now (part fifth.now
+        (part sixth.now (part seventh.now (part eighth.now (part ninth.now (part tenth.now
+        (part eleventh.now tt)))))))))))
         result serializer.new.output }
     ensures fits { OnOk result
-        (P.shape.fits first.now
-        × (Q.shape.fits second.now
-        × (R.shape.fits third.now
-        × (S.shape.fits fourth.now
-        × (T.shape.fits fifth.now
-        × (U.shape.fits sixth.now
-        × (V.shape.fits seventh.now
-        × (W.shape.fits eighth.now
-        × (X.shape.fits ninth.now
-        × (Y.shape.fits tenth.now
-        × Z.shape.fits eleventh.now)))))))))) }
+        ((then P.shape (then Q.shape (then R.shape (then S.shape (then T.shape (then U.shape
+        (then V.shape (then W.shape (then X.shape (then Y.shape (then Z.shape
+        no_part))))))))))).fits
+        (part first.now (part second.now (part third.now (part fourth.now (part fifth.now
+        (part sixth.now (part seventh.now (part eighth.now (part ninth.now (part tenth.now
+        (part eleventh.now tt)))))))))))) }
 {
     first.serialize(serializer)?;
     serialize_ten(
@@ -542,57 +365,21 @@ fn serialize_twelve<
     twelfth: &A,
     serializer: &mut Serializer<F>,
 ) -> Result<()>
-    ensures wrote { Wrote F.Flavor serializer.old.output
-        (canonical (P.shape.tree first.now)
-        ++ (canonical (Q.shape.tree second.now)
-        ++ (canonical (R.shape.tree third.now)
-        ++ (canonical (S.shape.tree fourth.now)
-        ++ (canonical (T.shape.tree fifth.now)
-        ++ (canonical (U.shape.tree sixth.now)
-        ++ (canonical (V.shape.tree seventh.now)
-        ++ (canonical (W.shape.tree eighth.now)
-        ++ (canonical (X.shape.tree ninth.now)
-        ++ (canonical (Y.shape.tree tenth.now)
-        ++ (canonical (Z.shape.tree eleventh.now)
-        ++ canonical (A.shape.tree twelfth.now))))))))))))
-        (P.shape.refuses first.now
-        ⊎ (Q.shape.refuses second.now
-        ⊎ (R.shape.refuses third.now
-        ⊎ (S.shape.refuses fourth.now
-        ⊎ (T.shape.refuses fifth.now
-        ⊎ (U.shape.refuses sixth.now
-        ⊎ (V.shape.refuses seventh.now
-        ⊎ (W.shape.refuses eighth.now
-        ⊎ (X.shape.refuses ninth.now
-        ⊎ (Y.shape.refuses tenth.now
-        ⊎ (Z.shape.refuses eleventh.now
-        ⊎ A.shape.refuses twelfth.now)))))))))))
-        (P.shape.text
-        ⊎ (Q.shape.text
-        ⊎ (R.shape.text
-        ⊎ (S.shape.text
-        ⊎ (T.shape.text
-        ⊎ (U.shape.text
-        ⊎ (V.shape.text
-        ⊎ (W.shape.text
-        ⊎ (X.shape.text
-        ⊎ (Y.shape.text
-        ⊎ (Z.shape.text
-        ⊎ A.shape.text)))))))))))
+    ensures wrote { WroteRow F.Flavor serializer.old.output
+        (then P.shape (then Q.shape (then R.shape (then S.shape (then T.shape (then U.shape
+        (then V.shape (then W.shape (then X.shape (then Y.shape (then Z.shape (then A.shape
+        no_part))))))))))))
+        (part first.now (part second.now (part third.now (part fourth.now (part fifth.now
+        (part sixth.now (part seventh.now (part eighth.now (part ninth.now (part tenth.now
+        (part eleventh.now (part twelfth.now tt))))))))))))
         result serializer.new.output }
     ensures fits { OnOk result
-        (P.shape.fits first.now
-        × (Q.shape.fits second.now
-        × (R.shape.fits third.now
-        × (S.shape.fits fourth.now
-        × (T.shape.fits fifth.now
-        × (U.shape.fits sixth.now
-        × (V.shape.fits seventh.now
-        × (W.shape.fits eighth.now
-        × (X.shape.fits ninth.now
-        × (Y.shape.fits tenth.now
-        × (Z.shape.fits eleventh.now
-        × A.shape.fits twelfth.now))))))))))) }
+        ((then P.shape (then Q.shape (then R.shape (then S.shape (then T.shape (then U.shape
+        (then V.shape (then W.shape (then X.shape (then Y.shape (then Z.shape (then A.shape
+        no_part)))))))))))).fits
+        (part first.now (part second.now (part third.now (part fourth.now (part fifth.now
+        (part sixth.now (part seventh.now (part eighth.now (part ninth.now (part tenth.now
+        (part eleventh.now (part twelfth.now tt))))))))))))) }
 {
     first.serialize(serializer)?;
     serialize_eleven(

@@ -5,6 +5,7 @@ use crate::serialize::Serialize;
 use crate::serializer::Serializer;
 use postcard_ser_flavors::Flavor;
 use postcard_wire::Result;
+use std::borrow::Cow;
 use std::cmp::Reverse;
 use std::num::{Saturating, Wrapping};
 use std::rc::Rc;
@@ -67,5 +68,15 @@ impl<T: Serialize> Serialize for Arc<T> {
     fn serialize<F: Flavor>(&self, serializer: &mut Serializer<F>) -> Result<()> {
         let held: &T = self;
         held.serialize(serializer)
+    }
+}
+
+/// Written as the value.
+impl<T: Serialize> SerializeRepr for Cow<'_, T> {
+    fn serialize_repr<F: Flavor>(&self, serializer: &mut Serializer<F>) -> Result<()> {
+        match self {
+            Cow::Borrowed(lent) => lent.serialize(serializer),
+            Cow::Owned(kept) => kept.serialize(serializer),
+        }
     }
 }

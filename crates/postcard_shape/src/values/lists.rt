@@ -4,7 +4,7 @@ ghost use Rattle.postcard_shape.specs.Shape.{via, growing};
 ghost use Rattle.postcard_shape.specs.Lists.{seq};
 
 use crate::shape::Shaped;
-use std::collections::VecDeque;
+use std::collections::{LinkedList, VecDeque};
 
 impl<T: Shaped> Shaped for &[T] {
     ghost shape = { via (λ v. v.now) (seq T.shape) };
@@ -16,4 +16,8 @@ impl<T: Shaped> Shaped for Vec<T> {
 
 impl<T: Shaped> Shaped for VecDeque<T> {
     ghost shape = { via (λ v. v.items) (growing (seq T.shape)) };
+}
+
+impl<T: Shaped> Shaped for LinkedList<T> {
+    ghost shape = { growing (seq T.shape) };
 }

@@ -1,8 +1,10 @@
 //! The shapes of types that hold one value of another, or point to it: that of the value.
 
+ghost use Rattle.std.specs.Cow.{cow_value};
 ghost use Rattle.postcard_shape.specs.Shape.{via, growing};
 
 use crate::shape::{Repr, Shaped};
+use std::borrow::Cow;
 use std::cmp::Reverse;
 use std::num::{Saturating, Wrapping};
 use std::rc::Rc;
@@ -48,4 +50,10 @@ impl<T: Shaped> Repr for Saturating<T> {
 
 impl<T: Shaped> Shaped for Arc<T> {
     ghost shape = { via (λ v. v.value) (growing T.shape) };
+}
+
+impl<T: Shaped> Repr for Cow<'_, T> {
+    type As = T;
+
+    ghost repr = { λ v. cow_value v };
 }

@@ -1,13 +1,9 @@
+-- The buffer is what the attempt left of it.
+use Rattle.std.proofs.Common.{rules}
+use Rattle.postcard.proofs.Framed.{front_decodes}
 use Rattle.postcard.proofs.cobs.fill_slice_cobs.Goals as goal
 
-pub returns-clause-count_is_length : goal.returns-clause-count_is_length
-returns-clause-count_is_length g c = c.write_frame-all.ensures.count_is_length
-
-pub returns-clause-fits_iff : goal.returns-clause-fits_iff
-returns-clause-fits_iff g c = c.write_frame-all.ensures.fits_iff
-
-pub returns-clause-named_error : goal.returns-clause-named_error
-returns-clause-named_error g c = c.write_frame-all.ensures.named_error
-
-pub returns-clause-fits : goal.returns-clause-fits
-returns-clause-fits g c = c.write_frame-all.ensures.fits
+pub returns-else-failed-clause-decodes : goal.returns-else-failed-clause-decodes
+returns-else-failed-clause-decodes g c =
+    let w = c.write_frame-all.ensures.attempts.written c.if-failed.false in
+    front_decodes _ _ c.args.buf.now _ w.0 (search (rules, w))

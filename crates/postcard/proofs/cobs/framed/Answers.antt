@@ -2,15 +2,20 @@
 use Rattle.std.proofs.Common.{[]}
 use Rattle.std.proofs.lemmas.Result.{err_from_is_err_and, IfOk-weaker}
 use Rattle.postcard_wire.specs.Spelling.{canonical}
+use Rattle.postcard_ser.proofs.Refusals.{succeeds}
 use Rattle.postcard.proofs.Framed.{one_free, data_room}
 use Rattle.postcard.proofs.cobs.framed.Goals as goal
 
-pub returns-in_err-try_new-clause-has_room : goal.returns-in_err-try_new-clause-has_room
-returns-in_err-try_new-clause-has_room g c n few free =
+pub returns-in_err-try_new-clause-own_error : goal.returns-in_err-try_new-clause-own_error
+returns-in_err-try_new-clause-own_error g c few free =
     let xs = canonical (g.T.Shaped.shape.tree c.args.value.now) in
     let p = err_from_is_err_and c.from_residual.result c.from_residual.ensures.1 in
     let no = c.in_err-try_new.ensures.has_room (one_free g.B.Storage.free_lawful.free_fewer _ xs free) in
     absurd (cc)
+
+pub returns-in_err-try_new-clause-has_room : goal.returns-in_err-try_new-clause-has_room
+returns-in_err-try_new-clause-has_room g c n few free =
+    succeeds _ n (returns-in_err-try_new-clause-own_error g c few free)
 
 pub returns-clause-gives : goal.returns-clause-gives
 returns-clause-gives g c =
@@ -21,8 +26,12 @@ returns-clause-gives g c =
     (b.0, b.1, g.B.Flavor.lawful.reaches_join _ _ _ c.in_ok-try_new.ensures.leaves (g.B.Flavor.lawful.reaches_join _ _ _ fin.reached.inner b.2), b.3))
     c.serialize_with_flavor.ensures.gives
 
+pub returns-clause-own_error : goal.returns-clause-own_error
+returns-clause-own_error g c few free =
+    let xs = canonical (g.T.Shaped.shape.tree c.args.value.now) in
+    c.serialize_with_flavor.ensures.own_error
+    (data_room _ xs c.in_ok-try_new.ensures.opens_after_held c.in_ok-try_new.ensures.keeps_free few free)
+
 pub returns-clause-has_room : goal.returns-clause-has_room
 returns-clause-has_room g c n few free =
-    let xs = canonical (g.T.Shaped.shape.tree c.args.value.now) in
-    c.serialize_with_flavor.ensures.has_room n
-    (data_room _ xs c.in_ok-try_new.ensures.opens_after_held c.in_ok-try_new.ensures.keeps_free few free)
+    succeeds _ n (returns-clause-own_error g c few free)

@@ -1,5 +1,5 @@
 -- Two decodings of the same bytes agree.
-use Rattle.postcard_frame.proofs.Alike.{fronts_alike}
+use Rattle.postcard_de.proofs.Alike.{fronts_alike}
 use Rattle.postcard.proofs.laws.decodes_alike.Goals as goal
 
 pub returns : goal.returns

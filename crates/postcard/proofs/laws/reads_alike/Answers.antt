@@ -1,6 +1,6 @@
 -- A value read from a reader that knows its bytes is a decoding of these bytes.
 use Rattle.std.proofs.Common.{Some, ◌∙◌, ap}
-use Rattle.postcard_frame.proofs.Alike.{fronts_alike}
+use Rattle.postcard_de.proofs.Alike.{fronts_alike}
 use Rattle.postcard.proofs.Unread.{unread}
 use Rattle.postcard.proofs.laws.reads_alike.Goals as goal
 

@@ -20,13 +20,13 @@ use Rattle.std.specs.contracts.result.Result as RS
 use Rattle.postcard.specs.Buffers.{FillsFront}
 use Rattle.postcard.specs.Attempt.{IsAttempt, LendsAttempt}
 use Rattle.postcard_wire.specs.Spelling.{canonical, Spells}
-use Rattle.postcard_ser.specs.Writing.{IsWriteError}
+use Rattle.postcard_shape.specs.Shape.{IsWilling}
+use Rattle.postcard_ser.specs.Writing.{IsErrorOf}
 use Rattle.std.specs.Prelude.{IfErr}
 use Rattle.std.specs.Borrow.{name_if_ok}
 use Rattle.std.proofs.Common.{IfOk}
 use Rattle.std.proofs.result.Result.TheLaws.{the_row_laws as result_laws}
-use Rattle.postcard_shape.proofs.Again.{is_spelled}
-use Rattle.postcard.proofs.Fronts.{follows_front, follows_old, gives, shortest, fits_iff, named_error, fits, spelled, follows_such}
+use Rattle.postcard.proofs.Fronts.{follows_front, follows_old, gives, shortest, fits_iff, own_error, named_error, fits, spelled, follows_such}
 use base.Fml.{GName}
 use types.Kit.{use0}
 use denote.Array.{Array}
@@ -67,9 +67,9 @@ walk writes lends 𝓤 𝓛 𝓜 𝓡 wired X L gs dict sh dict2 met met2 =
     (λ κs. (shr_vals, (mut_slice_vals, tt))) (λ κs. (shr_Tells (named 0) κs.0 (param 0 X), (mut_slice_Tells (named 1) κs.1.0 u8, tt))) (λ κs qs bounds a _ are.
     let b = a.1.0.ref_ptr.0 in let o = a.1.0.ref_ptr.1 in let γ = a.1.0.ghost_name in let xs : List ℕ = a.1.0.now in
     let y : W.Ghost = ((κs, qs, bounds, a, (shr_vals a.0, (mut_slice_vals a.1.0, tt))), tt) in
-    let κ = κs.1.0 in let q = qs.1.0 in let ℓ = named_lft 3 1 tt κs in let D : RattleType = the_row ℓ in let ys : List ℕ = canonical (sh.shape.tree a.0.now) in let Refuses : Type 0 = sh.shape.refuses a.0.now in let Text : Type 0 = sh.shape.text in let Fits : Type 0 = sh.shape.fits a.0.now in
+    let κ = κs.1.0 in let q = qs.1.0 in let ℓ = named_lft 3 1 tt κs in let D : RattleType = the_row ℓ in let s = sh.shape in let ys : List ℕ = canonical (s.tree a.0.now) in
     let Own : RattleType = MutSlice (named 1) κ u8 in let Out : RattleType = RS.the_row Own err_row in
-    let Begun : List ℕ → Type 0 = λ n. ¬ Refuses → FillsFront ys xs n in
+    let Begun : List ℕ → Type 0 = λ n. IsWilling s a.0.now → FillsFront ys xs n in
     let long : length xs < 2 ^ 64 = are.1.0.0.1.0 in
     let G = triple_of 𝓛 (g.signature X) (g.spec X gs dict sh dict2 𝓛 𝓜.mem 𝓡.returns) in
     let z : G.Ghost = ((κs, qs, bounds, a, (shr_vals a.0, (mut_slice_vals a.1.0, tt))), tt) in
@@ -80,7 +80,7 @@ walk writes lends 𝓤 𝓛 𝓜 𝓡 wired X L gs dict sh dict2 met met2 =
     calls_at ! (framed 𝓤 𝓛.H 𝓜 𝓣) G (writes 𝓤 𝓛 𝓜 𝓡 (code.calls-postcard::ser::write_front 𝓡.env wired) X L gs dict sh dict2 met met2) z
     (and_then ! (get ! refl) (and_then ! (get ! refl) (no_more !))) (λ v.
     use1 𝓛 (later (some (λ (r : Attempt). ((‵ (flft κs.0 qs.0) ⊛ ‵ (flft κ q) ⊛ ‵ (flft κs.1.1.0 qs.1.1.0) ⊛ ‵ ftrue) ⊛ ‵ (D.own_val r (v ∷ []))) ⊛
-    some (λ (ws : Lasts (g.ended X gs dict sh dict2) κs a). ‵ (lasts (g.ended X gs dict sh dict2) κs a ws) ⊛ raw (fact 𝓤 (r.all.ghost_name ≡ γ)) ⊛ raw (fact 𝓤 (IsAttempt ys Refuses Text Fits xs r)))))) (id⊢ 𝓤 _) $
+    some (λ (ws : Lasts (g.ended X gs dict sh dict2) κs a). ‵ (lasts (g.ended X gs dict sh dict2) κs a ws) ⊛ raw (fact 𝓤 (r.all.ghost_name ≡ γ)) ⊛ raw (fact 𝓤 (IsAttempt s a.0.now ys (FillsFront ys xs) xs r)))))) (id⊢ 𝓤 _) $
     await ! tt $ pick ! (λ r. split ! $ split ! $ move ! (2 ∷ []) $ pick ! (λ ws. split ! $ drop ! $ split ! $ heard ! _ (λ same. heard ! _ (λ made.
     move ! (1 ∷ []) $ peeks ! D _ (shows 𝓛 D) r (v ∷ []) (λ is.
     lands_as ! refl refl (((the_row_laws ℓ).lawful 𝓛).typed r _ is).0 $
@@ -106,14 +106,15 @@ walk writes lends 𝓤 𝓛 𝓜 𝓡 wired X L gs dict sh dict2 met met2 =
     let name = name_if_ok (λ (x : MutBor (List ℕ)). x.ghost_name) w in
     let P : List ℕ → List ℕ → Type 0 = λ x n. IsOk w → n ≡ x ++ drop_list (length ys) xs in let P₀ : List ℕ → Type 0 = λ n. OnErr w (Begun n) in
     move ! (2 ∷ []) $ use1 𝓛 (‵ (follows_so (Array u8 0) (Array u8 0) γ name P P₀)) (follows_such 𝓛 (Array u8 0) (Array u8 0) γ name (λ n. n ++ drop_list r.count r.all.now) r.all.now P P₀
-    (λ x ok. follows_front ys Refuses Text Fits xs r w made front x ok) (follows_old ys Refuses Text Fits xs r w made front)) $
-    use0 𝓛 (raw (fact 𝓤 (IfOk w (λ x. Spells (sh.shape.tree a.0.now) x.now)))) (fact_i 𝓤 _ (emp 𝓤) (spelled ys Refuses Text Fits xs r w made front (sh.shape.tree a.0.now) refl (λ f. is_spelled sh.shape a.0.now f))) $
-    use0 𝓛 (raw (fact 𝓤 (OnOk w Fits))) (fact_i 𝓤 _ (emp 𝓤) (fits ys Refuses Text Fits xs r w made front)) $
-    use0 𝓛 (raw (fact 𝓤 (¬ Refuses → IfErr w (IsWriteError Text)))) (fact_i 𝓤 _ (emp 𝓤) (named_error ys Refuses Text Fits xs r w made front)) $
-    use0 𝓛 (raw (fact 𝓤 (¬ Refuses → IsOk w ↔ (length ys ≤ length xs)))) (fact_i 𝓤 _ (emp 𝓤) (fits_iff ys Refuses Text Fits xs r w made front)) $
-    use0 𝓛 (raw (fact 𝓤 (IfOk w (λ x. (p : List ℕ) → Spells (sh.shape.tree a.0.now) p → (p ≡ x.now) ⊎ (length x.now < length p))))) (fact_i 𝓤 _ (emp 𝓤) (shortest ys Refuses Text Fits xs r w made front (sh.shape.tree a.0.now) refl)) $
-    use0 𝓛 (raw (fact 𝓤 (IfOk w (λ x. x.now ≡ ys)))) (fact_i 𝓤 _ (emp 𝓤) (gives ys Refuses Text Fits xs r w made front)) $
-    suffices ! _ (leaves 𝓛 end stayed c y v' w (tt, (tt, tt)) (tt, (tt, tt))) $ nothing ! $ nothing ! $ fjoin ! $ nothing ! $ fjoin ! $ move ! (8 ∷ 0 ∷ 9 ∷ 7 ∷ 1 ∷ 2 ∷ 3 ∷ 4 ∷ 5 ∷ 6 ∷ []) $ done !)))))))))))))
+    (λ x ok. follows_front s a.0.now ys (FillsFront ys xs) xs r w made front x ok) (follows_old s a.0.now ys (FillsFront ys xs) xs r w made front)) $
+    use0 𝓛 (raw (fact 𝓤 (IfOk w (λ x. Spells (s.tree a.0.now) x.now)))) (fact_i 𝓤 _ (emp 𝓤) (spelled s a.0.now ys (FillsFront ys xs) xs r w made front refl)) $
+    use0 𝓛 (raw (fact 𝓤 (OnOk w (s.fits a.0.now)))) (fact_i 𝓤 _ (emp 𝓤) (fits s a.0.now ys (FillsFront ys xs) xs r w made front)) $
+    use0 𝓛 (raw (fact 𝓤 (IfErr w (IsErrorOf s a.0.now)))) (fact_i 𝓤 _ (emp 𝓤) (named_error s a.0.now ys (FillsFront ys xs) xs r w made front)) $
+    use0 𝓛 (raw (fact 𝓤 (length ys ≤ length xs → IfErr w (s.refusal a.0.now)))) (fact_i 𝓤 _ (emp 𝓤) (own_error s a.0.now ys (FillsFront ys xs) xs r w made front)) $
+    use0 𝓛 (raw (fact 𝓤 (IsWilling s a.0.now → IsOk w ↔ (length ys ≤ length xs)))) (fact_i 𝓤 _ (emp 𝓤) (fits_iff s a.0.now ys (FillsFront ys xs) xs r w made front)) $
+    use0 𝓛 (raw (fact 𝓤 (IfOk w (λ x. (p : List ℕ) → Spells (s.tree a.0.now) p → (p ≡ x.now) ⊎ (length x.now < length p))))) (fact_i 𝓤 _ (emp 𝓤) (shortest s a.0.now ys (FillsFront ys xs) xs r w made front refl)) $
+    use0 𝓛 (raw (fact 𝓤 (IfOk w (λ x. x.now ≡ ys)))) (fact_i 𝓤 _ (emp 𝓤) (gives s a.0.now ys (FillsFront ys xs) xs r w made front)) $
+    suffices ! _ (leaves 𝓛 end stayed c y v' w (tt, (tt, tt)) (tt, (tt, tt))) $ nothing ! $ nothing ! $ fjoin ! $ nothing ! $ fjoin ! $ move ! (9 ∷ 0 ∷ 10 ∷ 8 ∷ 1 ∷ 2 ∷ 3 ∷ 4 ∷ 5 ∷ 6 ∷ 7 ∷ []) $ done !)))))))))))))
 
 pub to_slice_spec : {M : Type 1} → statement M
 to_slice_spec = walk g-thm.met h-thm.met

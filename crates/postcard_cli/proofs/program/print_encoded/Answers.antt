@@ -1,5 +1,4 @@
 use Rattle.std.proofs.Common.{◌≡◌, [], sym, ap, ◌∙◌, arith, length}
-use Rattle.std.proofs.lemmas.Bool.{false≢true}
 use Rattle.std.proofs.lemmas.Result.{err_from_is_err_and}
 use Rattle.postcard_cli.proofs.RefusalLemmas.{too_long}
 use Rattle.std.proofs.KnownBytes.{Appends-trans}
@@ -18,4 +17,4 @@ returns-in_err-serialize-clause-refused g c =
     let empty : c.new.result ≡ [] = c.new.ensures in
     let n = ap length empty in
     rw (p.1, p.2)
-    (too_long g.T.Shaped.shape c.args.value.now _ (λ never fits. false≢true (w.has_room never (omega arith))) (λ never. w.named_error never))
+    (too_long g.T.Shaped.shape c.args.value.now _ (λ fits. w.has_room (omega arith)) w.named_error)

@@ -29,6 +29,11 @@ returns-in-Ok-clause-gives g c =
     }
 
 pub returns-in-Err-clause-has_room : goal.returns-in-Err-clause-has_room
-returns-in-Err-clause-has_room g c refuses room =
+returns-in-Err-clause-has_room g c willing room =
     let enc = canonical (g.T.Shaped.shape.tree c.args.value.now) in
     c.in-Err.ensures.closes (wrote_closes enc (subst (λ z. HasRoom g.W.Width.size g.S.Flavor.room z enc) (sym c.new.ensures.flavor) room) c.in_ok-serialize.ensures.wrote)
+
+pub returns-in-Err-clause-own_error : goal.returns-in-Err-clause-own_error
+returns-in-Err-clause-own_error g c room =
+    let closed = c.in-Err.ensures.closes (wrote_closes _ (subst (λ z. HasRoom g.W.Width.size g.S.Flavor.room z (canonical (g.T.Shaped.shape.tree c.args.value.now))) (sym c.new.ensures.flavor) room) c.in_ok-serialize.ensures.wrote) in
+    absurd (cc)

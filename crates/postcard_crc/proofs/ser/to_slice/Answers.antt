@@ -8,7 +8,7 @@ use Rattle.postcard_crc.proofs.Room.{at_success, slice_within, slice_room}
 use Rattle.postcard_crc.proofs.ser.to_slice.Goals as goal
 
 pub returns-clause-fits_iff : goal.returns-clause-fits_iff
-returns-clause-fits_iff g c refuses =
+returns-clause-fits_iff g c willing =
     let enc = canonical (g.T.Shaped.shape.tree c.args.value.now) in
     let k = g.W.Width.size in
     let s = c.new.result in
@@ -17,9 +17,17 @@ returns-clause-fits_iff g c refuses =
     let r = c.serialize_with_checksum.result in (
       λ ok. at_success _ _ (length enc + k ≤ length c.args.buf.now) r ok c.serialize_with_checksum.ensures.gives c.serialize_with_checksum.ensures.gives
           (λ o f h. subst (λ n. length enc + k ≤ n) size (slice_within k f.crc s f.ended.last enc start.1 f.ended.appended f.ended.reached)),
-      λ few. c.serialize_with_checksum.ensures.has_room refuses
+      λ few. c.serialize_with_checksum.ensures.has_room willing
           (λ ys count. slice_room s ys (length enc + k) start.1 count (subst (λ n. length enc + k ≤ n) (sym size) few)),
     )
+
+pub returns-clause-own_error : goal.returns-clause-own_error
+returns-clause-own_error g c few =
+    let enc = canonical (g.T.Shaped.shape.tree c.args.value.now) in
+    let k = g.W.Width.size in
+    let start = c.new.ensures.starts_empty in
+    c.serialize_with_checksum.ensures.own_error
+    (λ ys count. slice_room c.new.result ys (length enc + k) start.1 count (subst (λ n. length enc + k ≤ n) (sym (ap length start.0)) few))
 
 pub returns-clause-gives : goal.returns-clause-gives
 returns-clause-gives g c =

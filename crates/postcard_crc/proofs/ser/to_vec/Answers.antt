@@ -9,7 +9,7 @@ use Rattle.postcard_crc.proofs.Room.{at_success, list_within}
 use Rattle.postcard_crc.proofs.ser.to_vec.Goals as goal
 
 pub returns-clause-fits_iff : goal.returns-clause-fits_iff
-returns-clause-fits_iff g c refuses =
+returns-clause-fits_iff g c willing =
     let enc = canonical (g.T.Shaped.shape.tree c.args.value.now) in
     let k = g.W.Width.size in
     let r = c.serialize_with_checksum.result in
@@ -17,8 +17,13 @@ returns-clause-fits_iff g c refuses =
     let size = ap length c.new.ensures in (
       λ ok. at_success _ _ (length enc + k ≤ g.row.B) r ok bound c.serialize_with_checksum.ensures.gives
           (λ v few f. list_within k f.crc c.new.result v.items enc g.row.B c.new.ensures (f.ended.ended ∙ f.ended.appended) few),
-      λ few. c.serialize_with_checksum.ensures.has_room refuses (λ ys count. omega (arith, size)),
+      λ few. c.serialize_with_checksum.ensures.has_room willing (λ ys count. omega (arith, size)),
     )
+
+pub returns-clause-own_error : goal.returns-clause-own_error
+returns-clause-own_error g c few =
+    let size = ap length c.new.ensures in
+    c.serialize_with_checksum.ensures.own_error (λ ys count. omega (arith, size))
 
 pub returns-clause-gives : goal.returns-clause-gives
 returns-clause-gives g c =

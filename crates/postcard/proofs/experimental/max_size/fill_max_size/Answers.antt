@@ -12,6 +12,9 @@ returns-clause-refused g c = c.fill_slice.ensures.refused
 pub returns-clause-fits_iff : goal.returns-clause-fits_iff
 returns-clause-fits_iff g c = c.fill_slice.ensures.fits_iff
 
+pub returns-clause-own_error : goal.returns-clause-own_error
+returns-clause-own_error g c = c.fill_slice.ensures.own_error
+
 pub returns-clause-named_error : goal.returns-clause-named_error
 returns-clause-named_error g c = c.fill_slice.ensures.named_error
 

@@ -3,10 +3,11 @@ use Rattle.std.proofs.Common.{[], ◌∷◌, ◌++◌, ◌≡◌, ◌⊎◌, Lis
 use Rattle.std.specs.Prelude.{map, Any}
 use Rattle.postcard_wire.specs.Spelling.{canonical_all}
 use Rattle.postcard_wire.specs.Tree.{trees}
+use Rattle.postcard_wire.specs.declared.error.Error.{Error}
 use Rattle.postcard_shape.proofs.Fitting.{all_append}
 use Rattle.postcard_shape.specs.Compound.{entry_tree}
 use Rattle.postcard_shape.specs.Lists.{AllFit}
-use Rattle.postcard_ser.specs.Writing.{Wrote}
+use Rattle.postcard_ser.specs.Writing.{Wrote, never}
 use Rattle.postcard_ser.proofs.Elements.{elements_append}
 use Rattle.postcard_ser.proofs.Entries.{any_mid}
 use Rattle.postcard_ser.proofs.PartByPart.{wrote_then, wrote_stop, wrote_err, wrote_ok, wrote_last, either_part}
@@ -21,9 +22,9 @@ loop-entry-preserved g c =
     record {
       done = done ++ e ∷ [];
       is = append_assoc done (e ∷ []) c.next.new.self ∙ ap (λ z. done ++ z) (sym c.in-Some.ensures.steps) ∙ c.loop-entry.invariant.is;
-      wrote = subst (λ z. Wrote g.F.Flavor c.args.serializer.now.output z ⊥ ⊥ (Ok tt) c.serialize.new.serializer.output)
+      wrote = subst (λ z. Wrote g.F.Flavor c.args.serializer.now.output z never ⊥ (Ok tt) c.serialize.new.serializer.output)
           (sym (elements_append (entry_tree k.tree v.tree) done (e ∷ [])))
-          (wrote_then _ _ c.loop-entry.invariant.wrote (wrote_last (wrote_ok c.in_ok-serialize.ensures.wrote)) (λ q. q) (λ t. t));
+          (wrote_then _ _ c.loop-entry.invariant.wrote (wrote_last (wrote_ok c.in_ok-serialize.ensures.wrote)) (λ e q. q) (λ t. t));
       fits = all_append (λ (e : g.row.K.Denot × g.row.V.Denot). k.fits e.0 × v.fits e.1) done (e ∷ []) c.loop-entry.invariant.fits ((fit.0, fit.1.0), tt);
     }
 
@@ -31,17 +32,17 @@ pub returns-in_err-serialize-clause-wrote : goal.returns-in_err-serialize-clause
 returns-in_err-serialize-clause-wrote g c =
     let k = g.K.Shaped.shape in let v = g.V.Shaped.shape in
     let f = entry_tree k.tree v.tree in
-    let R : g.row.K.Denot × g.row.V.Denot → Type 0 = λ x. k.refuses x.0 ⊎ v.refuses x.1 in
+    let R : g.row.K.Denot × g.row.V.Denot → Error → Type 0 = λ x y. k.refusal x.0 y ⊎ v.refusal x.1 y in
     let e : g.row.K.Denot × g.row.V.Denot = (c.in-Some.entry.0.now, c.in-Some.entry.1.now) in
     let done = c.loop-entry.invariant.done in
     let rest = c.next.new.self in
     let all : done ++ (e ∷ rest) ≡ c.args.entries.now.entries = ap (λ z. done ++ z) (sym c.in-Some.ensures.steps) ∙ c.loop-entry.invariant.is in
     let T = k.text ⊎ v.text in
     wrote_err _ c.from_residual.ensures.1
-    (subst (λ z. Wrote g.F.Flavor c.args.serializer.now.output (canonical_all (trees (map f z))) (Any R z) T (Err c.in_err-serialize.field-0.0) c.serialize.new.serializer.output) all
-    (subst (λ z. Wrote g.F.Flavor c.args.serializer.now.output z (Any R (done ++ (e ∷ rest))) T (Err c.in_err-serialize.field-0.0) c.serialize.new.serializer.output)
+    (subst (λ z. Wrote g.F.Flavor c.args.serializer.now.output (canonical_all (trees (map f z))) (λ y. Any (λ x. R x y) z) T (Err c.in_err-serialize.field-0.0) c.serialize.new.serializer.output) all
+    (subst (λ z. Wrote g.F.Flavor c.args.serializer.now.output z (λ y. Any (λ x. R x y) (done ++ (e ∷ rest))) T (Err c.in_err-serialize.field-0.0) c.serialize.new.serializer.output)
     (sym (elements_append f done (e ∷ rest)))
-    (wrote_then _ _ c.loop-entry.invariant.wrote (wrote_stop _ _ c.in_err-serialize.ensures.wrote (λ q. any_mid {P = R} done e rest _ refl (either_part q)) either_part) (λ q. q) (λ t. t))))
+    (wrote_then _ _ c.loop-entry.invariant.wrote (wrote_stop _ _ c.in_err-serialize.ensures.wrote (λ y q. any_mid {P = λ x. R x y} done e rest _ refl (either_part q)) either_part) (λ e q. q) (λ t. t))))
 
 pub returns-clause-fits : goal.returns-clause-fits
 returns-clause-fits g c =

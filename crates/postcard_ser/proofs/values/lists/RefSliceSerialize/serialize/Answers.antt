@@ -6,9 +6,9 @@ use Rattle.postcard_ser.proofs.values.lists.RefSliceSerialize.serialize.Goals as
 pub returns-in_err-serialize_seq-clause-wrote : goal.returns-in_err-serialize_seq-clause-wrote
 returns-in_err-serialize_seq-clause-wrote g c =
     wrote_err _ c.from_residual.ensures.1
-    (rw (elements_count g.T.Shaped.shape.tree c.args.self.now.now) (wrote_stop _ _ c.in_err-serialize_seq.ensures.known absurd absurd))
+    (rw (elements_count g.T.Shaped.shape.tree c.args.self.now.now) (wrote_stop _ _ c.in_err-serialize_seq.ensures.known (λ e. absurd) absurd))
 
 pub returns-clause-wrote : goal.returns-clause-wrote
 returns-clause-wrote g c =
     rw (elements_count g.T.Shaped.shape.tree c.args.self.now.now)
-    (wrote_then _ _ c.in_ok-serialize_seq.ensures.known c.serialize_all.ensures.wrote (λ q. q) (λ t. t))
+    (wrote_then _ _ c.in_ok-serialize_seq.ensures.known c.serialize_all.ensures.wrote (λ e q. q) (λ t. t))

@@ -11,12 +11,12 @@ pub returns-in_err-serialize_map-clause-wrote : goal.returns-in_err-serialize_ma
 returns-in_err-serialize_map-clause-wrote g c =
     wrote_err _ c.from_residual.ensures.1
     (rw (elements_count (entry_tree g.K.Shaped.shape.tree g.V.Shaped.shape.tree) c.args.self.now.entries)
-    (wrote_stop _ _ (rw c.len.ensures.len at c.in_err-serialize_map.ensures.known) absurd absurd))
+    (wrote_stop _ _ (rw c.len.ensures.len at c.in_err-serialize_map.ensures.known) (λ e. absurd) absurd))
 
 pub returns-clause-wrote : goal.returns-clause-wrote
 returns-clause-wrote g c =
     rw (elements_count (entry_tree g.K.Shaped.shape.tree g.V.Shaped.shape.tree) c.args.self.now.entries)
-    (wrote_then _ _ (rw c.len.ensures.len at c.in_ok-serialize_map.ensures.known) c.serialize_entries.ensures.wrote (λ q. q) (λ t. t))
+    (wrote_then _ _ (rw c.len.ensures.len at c.in_ok-serialize_map.ensures.known) c.serialize_entries.ensures.wrote (λ e q. q) (λ t. t))
 
 pub returns-clause-fits : goal.returns-clause-fits
 returns-clause-fits g c =

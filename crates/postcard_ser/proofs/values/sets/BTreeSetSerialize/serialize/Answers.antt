@@ -10,12 +10,12 @@ pub returns-in_err-serialize_seq-clause-wrote : goal.returns-in_err-serialize_se
 returns-in_err-serialize_seq-clause-wrote g c =
     wrote_err _ c.from_residual.ensures.1
     (rw (elements_count g.K.Shaped.shape.tree c.args.self.now.keys)
-    (wrote_stop _ _ (rw c.len.ensures.len at c.in_err-serialize_seq.ensures.known) absurd absurd))
+    (wrote_stop _ _ (rw c.len.ensures.len at c.in_err-serialize_seq.ensures.known) (λ e. absurd) absurd))
 
 pub returns-clause-wrote : goal.returns-clause-wrote
 returns-clause-wrote g c =
     rw (elements_count g.K.Shaped.shape.tree c.args.self.now.keys)
-    (wrote_then _ _ (rw c.len.ensures.len at c.in_ok-serialize_seq.ensures.known) c.serialize_keys.ensures.wrote (λ q. q) (λ t. t))
+    (wrote_then _ _ (rw c.len.ensures.len at c.in_ok-serialize_seq.ensures.known) c.serialize_keys.ensures.wrote (λ e q. q) (λ t. t))
 
 pub returns-clause-fits : goal.returns-clause-fits
 returns-clause-fits g c =

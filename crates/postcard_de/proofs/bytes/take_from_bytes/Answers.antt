@@ -7,7 +7,7 @@ use Rattle.postcard_de_nodes.specs.ReadLemmas.{is_refusal}
 use Rattle.postcard_de_nodes.specs.ErrorLemmas.{only_grown}
 use Rattle.postcard_wire.specs.Spelling.{canonical}
 use Rattle.postcard_shape.proofs.Again.{is_spelled, is_same}
-use Rattle.postcard_frame.proofs.bytes.take_from_bytes.Goals as goal
+use Rattle.postcard_de.proofs.bytes.take_from_bytes.Goals as goal
 
 -- A list is at least as long as its front.
 long_enough : (bytes front rest : List ℕ) → bytes ≡ front ++ rest → length front ≤ length bytes

@@ -4,9 +4,10 @@ ghost use Rattle.std.specs.Prelude.{◌≡◌, ℕ, List, ◌++◌, Err, IfOk, I
 ghost use Rattle.postcard_wire.specs.Tree.{Tree};
 ghost use Rattle.postcard_wire.specs.Spelling.{Spells, canonical};
 ghost use Rattle.postcard_de.specs.Reads.{IsReadError};
-ghost use Rattle.postcard_frame.specs.Front.{ReadsFront};
+ghost use Rattle.postcard_de.specs.Front.{ReadsFront};
 
-use postcard_de::{Deserialize, Deserializer};
+use crate::deserialize::Deserialize;
+use crate::deserializer::Deserializer;
 use postcard_wire::{Error, Result};
 use std::alloc::Global;
 

@@ -1,0 +1,12 @@
+-- Putting the pairs before the current one into an empty container makes this one.
+use Rattle.std.proofs.Common.{◌≡◌, ◌++◌, List, []}
+use Rattle.std.specs.Vec.Iter.{into_iter_items}
+use Rattle.postcard_shape.specs.Puts.{Puts, PutsPair}
+use Rattle.postcard_de.proofs.values.hashes.map_of.Given as goal
+
+abbrev pub invariant-loop-key : goal.invariant-loop-key
+invariant-loop-key g l = record {
+  done : List (g.row.K.Denot × g.row.V.Denot);
+  is : done ++ into_iter_items l.key-iterator ≡ l.fn.pairs.items;
+  made : Puts (PutsPair g.K.PartialEq.eq) done [] l.map.entries;
+}

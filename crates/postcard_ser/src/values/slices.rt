@@ -1,0 +1,46 @@
+//! Slices in a box, an `Rc` or an `Arc`, and slices that may be borrowed: written as lists.
+
+use crate::serialize::Serialize;
+use crate::serializer::Serializer;
+use postcard_ser_flavors::Flavor;
+use postcard_wire::Result;
+use std::borrow::CowSlice;
+use std::boxed::BoxedSlice;
+use std::rc::RcSlice;
+use std::sync::ArcSlice;
+
+/// Written as the number of elements, a varint, and then the elements. The list refuses itself if
+/// an element does.
+impl<T: Serialize> Serialize for BoxedSlice<T> {
+    fn serialize<F: Flavor>(&self, serializer: &mut Serializer<F>) -> Result<()> {
+        let boxed = self.as_slice();
+        boxed.serialize(serializer)
+    }
+}
+
+/// Written as the number of elements, a varint, and then the elements. The list refuses itself if
+/// an element does.
+impl<T: Serialize> Serialize for RcSlice<T> {
+    fn serialize<F: Flavor>(&self, serializer: &mut Serializer<F>) -> Result<()> {
+        let shared = self.as_slice();
+        shared.serialize(serializer)
+    }
+}
+
+/// Written as the number of elements, a varint, and then the elements. The list refuses itself if
+/// an element does.
+impl<T: Serialize> Serialize for ArcSlice<T> {
+    fn serialize<F: Flavor>(&self, serializer: &mut Serializer<F>) -> Result<()> {
+        let held = self.as_slice();
+        held.serialize(serializer)
+    }
+}
+
+/// Written as the number of elements, a varint, and then the elements. The list refuses itself if
+/// an element does.
+impl<T: Serialize> Serialize for CowSlice<'_, T> {
+    fn serialize<F: Flavor>(&self, serializer: &mut Serializer<F>) -> Result<()> {
+        let items = self.as_slice();
+        items.serialize(serializer)
+    }
+}

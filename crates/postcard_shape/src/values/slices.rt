@@ -1,0 +1,31 @@
+//! The shapes of slices in a box, an `Rc` or an `Arc`, and of slices that may be borrowed: those of
+//! lists.
+
+ghost use Rattle.std.specs.Arc.{arc_slice_items};
+ghost use Rattle.std.specs.Box.{boxed_slice_items};
+ghost use Rattle.std.specs.Cow.{cow_slice_items};
+ghost use Rattle.std.specs.Rc.{rc_slice_items};
+ghost use Rattle.postcard_shape.specs.Shape.{via, growing};
+ghost use Rattle.postcard_shape.specs.Lists.{seq};
+
+use crate::shape::Shaped;
+use std::borrow::CowSlice;
+use std::boxed::BoxedSlice;
+use std::rc::RcSlice;
+use std::sync::ArcSlice;
+
+impl<T: Shaped> Shaped for BoxedSlice<T> {
+    ghost shape = { via (λ v. boxed_slice_items v) (growing (seq T.shape)) };
+}
+
+impl<T: Shaped> Shaped for RcSlice<T> {
+    ghost shape = { via (λ v. rc_slice_items v) (growing (seq T.shape)) };
+}
+
+impl<T: Shaped> Shaped for ArcSlice<T> {
+    ghost shape = { via (λ v. arc_slice_items v) (growing (seq T.shape)) };
+}
+
+impl<T: Shaped> Shaped for CowSlice<'_, T> {
+    ghost shape = { via (λ v. cow_slice_items v) (growing (seq T.shape)) };
+}
