@@ -28,12 +28,12 @@ stuck (b ∷ bs) h =
     let still : float_scan_step 7 b ≡ 7 = elim (true_or_false (is_ascii_digit b)) [
       | inl d ↦ rw d refl
       | inr d ↦ elim (true_or_false (b == 46)) [
-          | inl p ↦ rw (d, p) refl
-          | inr p ↦ elim (true_or_false (b == 101 || b == 69)) [
-              | inl e ↦ rw (d, p, e) refl
-              | inr e ↦ elim (true_or_false (b == 43 || b == 45)) [ inl s ↦ rw (d, p, e, s) refl | inr s ↦ rw (d, p, e, s) refl ]
-            ]
+        | inl p ↦ rw (d, p) refl
+        | inr p ↦ elim (true_or_false (b == 101 || b == 69)) [
+          | inl e ↦ rw (d, p, e) refl
+          | inr e ↦ elim (true_or_false (b == 43 || b == 45)) [ inl s ↦ rw (d, p, e, s) refl | inr s ↦ rw (d, p, e, s) refl ]
         ]
+      ]
     ] in
     stuck bs (subst (λ s. completes_number s bs ≡ true) still h)
 
@@ -96,12 +96,12 @@ unsigned_all : (bs : List ℕ) → completes_number 0 bs || (is_infinity_text bs
 unsigned_all bs h = elim (or_true (completes_number 0 bs) (is_infinity_text bs || is_nan_text bs) h) [
   | inl n ↦ number_all 0 bs n
   | inr w ↦ elim (or_true (is_infinity_text bs) (is_nan_text bs) w) [
-      | inl i ↦ elim (or_true (lowercases_to bs (codes "inf")) (lowercases_to bs (codes "infinity")) i) [
-          | inl a ↦ word_all bs (codes "inf") small_inf a
-          | inr b ↦ word_all bs (codes "infinity") small_infinity b
-        ]
-      | inr n ↦ word_all bs (codes "nan") small_nan n
+    | inl i ↦ elim (or_true (lowercases_to bs (codes "inf")) (lowercases_to bs (codes "infinity")) i) [
+      | inl a ↦ word_all bs (codes "inf") small_inf a
+      | inr b ↦ word_all bs (codes "infinity") small_infinity b
     ]
+    | inr n ↦ word_all bs (codes "nan") small_nan n
+  ]
 ]
 
 sign_passes : (b : ℕ) → b == 43 || b == 45 ≡ true → is_of_float b ≡ true

@@ -139,8 +139,16 @@ nan_spells f bits are low =
     let num = hex_numeral bits in
     let pass : AllPass is_of_word (48 ∷ 120 ∷ ds) = pass_cons is_of_word 48 (120 ∷ ds) refl (pass_cons is_of_word 120 ds refl (digits_of_word ds num.1)) in
     let code : IsHexadecimal bits (48 ∷ 120 ∷ ds) = (ds, num, sym (hex_value bits low), plain_word _ pass) in
-    inr (are, (codes "nan", 40 ∷ 48 ∷ 120 ∷ (ds ++ 41 ∷ []), plain_word (codes "nan") nan_of_word,
-    (40 ∷ [], 48 ∷ 120 ∷ (ds ++ 41 ∷ []), plain_sign 40, (48 ∷ 120 ∷ ds, 41 ∷ [], code, plain_sign 41, refl), refl), refl))
+    inr (
+      are,
+      (
+        codes "nan",
+        40 ∷ 48 ∷ 120 ∷ (ds ++ 41 ∷ []),
+        plain_word (codes "nan") nan_of_word,
+        (40 ∷ [], 48 ∷ 120 ∷ (ds ++ 41 ∷ []), plain_sign 40, (48 ∷ 120 ∷ ds, 41 ∷ [], code, plain_sign 41, refl), refl),
+        refl,
+      ),
+    )
 
 -- ---- what is read
 

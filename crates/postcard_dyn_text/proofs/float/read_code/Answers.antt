@@ -46,9 +46,10 @@ returns-then-take-clause-reads_back c = λ n after low h.
     let k = code_found n c.args.rest.now.now word c.take_word.new.rest.now after c.take_word.ensures.taken c.take_word.ensures.first c.take_word.ensures.whole h in
     let is = strip_prefix_is Decides-eqb word (48 ∷ 120 ∷ []) (Some c.in-Some.digits) c.in-Some.ensures.cases in
     let same : k.digits ≡ c.in-Ok.text.now = same_rest (same_rest (sym k.is ∙ is)) ∙ sym c.in-Ok.ensures.cases.0 in
-    let plain : without_leading_plus c.in-Ok.text.now ≡ k.digits = ap without_leading_plus (sym same) ∙ unsigned_word k.digits k.all in
-    (c.in-Ok-from_str_radix.ensures.value.1 ∙ ap (digits_value 16) plain ∙ sym k.says,
-    one_rest 41 c.take_word.new.rest.now c.take.new.rest.now after refl (c.take.ensures.taken c.if-take.true) k.close)
+    let plain : without_leading_plus c.in-Ok.text.now ≡ k.digits = ap without_leading_plus (sym same) ∙ unsigned_word k.digits k.all in (
+      c.in-Ok-from_str_radix.ensures.value.1 ∙ ap (digits_value 16) plain ∙ sym k.says,
+      one_rest 41 c.take_word.new.rest.now c.take.new.rest.now after refl (c.take.ensures.taken c.if-take.true) k.close,
+    )
 
 pub returns-clause-reads_back : goal.returns-clause-reads_back
 returns-clause-reads_back c = λ n after low h.
