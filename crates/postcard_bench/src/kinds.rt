@@ -70,7 +70,7 @@ pub extern "C" fn port_read(alloc: Global, kind: u32, bytes: &[u8], rounds: u32)
         2 => read::<Vec<Option<u32>>>(alloc, bytes, rounds),
         3 => read::<Vec<Record>>(alloc, bytes, rounds),
         4 => read::<Vec<Nested>>(alloc, bytes, rounds),
-        5 => read::<Vec<core::result::Result<u8, &str>>>(alloc, bytes, rounds),
+        5 => read::<Vec<Result<u8, &str>>>(alloc, bytes, rounds),
         6 => read::<Vec<LE<u32>>>(alloc, bytes, rounds),
         _ => 0,
     }
@@ -92,7 +92,7 @@ pub extern "C" fn port_write(
         2 => write::<Vec<Option<u32>>>(alloc, bytes, rounds, out),
         3 => write::<Vec<Record>>(alloc, bytes, rounds, out),
         4 => write::<Vec<Nested>>(alloc, bytes, rounds, out),
-        5 => write::<Vec<core::result::Result<u8, &str>>>(alloc, bytes, rounds, out),
+        5 => write::<Vec<Result<u8, &str>>>(alloc, bytes, rounds, out),
         6 => write::<Vec<LE<u32>>>(alloc, bytes, rounds, out),
         _ => 0,
     }
