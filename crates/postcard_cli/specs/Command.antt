@@ -7,7 +7,7 @@ use Rattle.postcard_cli.specs.declared.command.ValueType.TheVariants.{U8, U16, U
 use Rattle.postcard_cli.specs.declared.command.TypeWord.{TypeWord}
 use Rattle.postcard_cli.specs.declared.command.TypeWord.TheVariants.{Named, Expression}
 use Rattle.postcard_cli.specs.declared.command.Command.{Command}
-use Rattle.postcard_cli.specs.declared.command.Command.TheVariants.{Encode, Decode, DecodeAll, Frames, FramesOf, Explain, Types}
+use Rattle.postcard_cli.specs.declared.command.Command.TheVariants.{Encode, Decode, DecodeAll, EncodeChecked, DecodeChecked, Frames, FramesOf, FramesChecked, Explain, Types, Checksum, Catalog}
 
 -- The word that names a type.
 abbrev pub name_of : ValueType → List ℕ
@@ -67,10 +67,15 @@ abbrev pub IsCallOf : List (List ℕ) → Command → Type 0
 IsCallOf words (Encode kind value) = (word : List ℕ) × IsWordOf word kind × (words ≡ codes "enc" ∷ word ∷ value.now ∷ [])
 IsCallOf words (Decode kind hex) = (word : List ℕ) × IsWordOf word kind × (words ≡ codes "dec" ∷ word ∷ hex.now ∷ [])
 IsCallOf words (DecodeAll expression hex) = LooksLikeExpression expression.now × (words ≡ codes "decs" ∷ expression.now ∷ hex.now ∷ [])
+IsCallOf words (EncodeChecked name expression value) = words ≡ codes "enc" ∷ codes "--crc" ∷ name.now ∷ expression.now ∷ value.now ∷ []
+IsCallOf words (DecodeChecked name expression hex) = words ≡ codes "dec" ∷ codes "--crc" ∷ name.now ∷ expression.now ∷ hex.now ∷ []
 IsCallOf words Frames = words ≡ codes "frames" ∷ []
 IsCallOf words (FramesOf expression longest) = LooksLikeExpression expression.now × IsStreamCall words expression.now longest
+IsCallOf words (FramesChecked name expression) = words ≡ codes "frames" ∷ codes "--crc" ∷ name.now ∷ expression.now ∷ []
 IsCallOf words (Explain expression hex all) = IsExplainCall words expression.now hex.now all
 IsCallOf words Types = words ≡ codes "types" ∷ []
+IsCallOf words (Checksum name hex) = words ≡ codes "crc" ∷ name.now ∷ hex.now ∷ []
+IsCallOf words Catalog = words ≡ codes "crc" ∷ []
 
 -- The words are a call of no command.
 abbrev pub IsNoCall : List (List ℕ) → Type 0
