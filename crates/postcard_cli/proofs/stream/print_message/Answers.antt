@@ -1,13 +1,13 @@
 use Rattle.postcard_cli.proofs.StreamLemmas.{message_value, message_refused, message_unchecked}
 use Rattle.postcard_cli.proofs.stream.print_message.Goals as goal
 
-pub returns-in-Ok-Some-clause-printed : goal.returns-in-Ok-Some-clause-printed
-returns-in-Ok-Some-clause-printed g c =
+pub returns-in-Some-clause-printed : goal.returns-in-Some-clause-printed
+returns-in-Some-clause-printed g c =
     message_value c.print_value.result c.args.format.now c.args.start c.args.message.now c.in-Ok.behind.now c.in-Ok.value c.in-Some.rest.now _ _ c.in-Ok.ensures.gives
     c.in-Some.ensures.follows c.print_value.ensures.printed
 
-pub returns-in-Ok-None-clause-printed : goal.returns-in-Ok-None-clause-printed
-returns-in-Ok-None-clause-printed g c =
+pub returns-in-None-clause-printed : goal.returns-in-None-clause-printed
+returns-in-None-clause-printed g c =
     message_unchecked c.print_unchecked.result c.args.format.now c.args.start c.args.message.now c.in-Ok.behind.now c.in-Ok.value _ _ c.in-Ok.ensures.gives
     c.in-None.ensures.lacks c.print_unchecked.ensures.printed
 
