@@ -17,13 +17,13 @@ use Rattle.postcard_de.specs.Reads.{IsReadError}
 use Rattle.postcard_dyn.specs.declared.value.Value.{Value}
 use Rattle.postcard_dyn_text.proofs.Joined.{none_after, none_before}
 use Rattle.postcard_cli.specs.declared.failure.Failure.{Failure}
-use Rattle.postcard_cli.specs.declared.failure.Failure.TheVariants.{OutOfMemory, Output, ReadFailed}
+use Rattle.postcard_cli.specs.declared.failure.Failure.TheVariants.{BadType, Library, OutOfMemory, Output, ReadFailed}
 use Rattle.postcard_cli.specs.declared.stream.Stream.{Stream}
 use Rattle.postcard_cli.specs.Message.{Prints, ReadsValue}
 use Rattle.postcard_cli.specs.Receiving.{IsAfter, Continues, PrintsAnswer, PrintsMessage, Reads, ReadFails}
-use Rattle.postcard_cli.specs.Refusal.{ValuesFail}
+use Rattle.postcard_cli.specs.Refusal.{StreamFails, ValuesFail}
 use Rattle.postcard_cli.specs.declared.stream.Format.{Format}
-use Rattle.postcard_cli.specs.Stream.{Answer, value, refused, unchecked, damaged, overfull, IsBehind, IsUnchecked, LacksChecksum, ReadsData, Answered, AreAnswered, IsAnswerTo, answer_line, answer_lines, bytes_of, more_text, noun_of, offset, rest_line, PrintsLines, PrintsValues}
+use Rattle.postcard_cli.specs.Stream.{Answer, value, refused, unchecked, damaged, overfull, IsBehind, IsPlain, IsUnchecked, LacksChecksum, ReadsData, Answered, AreAnswered, IsAnswerTo, answer_line, answer_lines, bytes_of, more_text, noun_of, offset, rest_line, PrintsLines, PrintsValues}
 use Rattle.postcard_cli.proofs.CheckedLemmas.{front_of}
 use Rattle.postcard_cli.proofs.MessageLemmas.{prints_both}
 
@@ -420,3 +420,11 @@ pub damaged_answer : (s : Format) (longest at : ℕ) (frame : List ℕ) (old new
     → ((d : List ℕ) → Groups (before_zero frame) d → ⊥) → Prints (answer_line s at (damaged frame)) old new → PrintsAnswer s longest at frame old new
 damaged_answer s longest at frame old new fits free none printed =
     (damaged frame, (fits, refl, λ d groups. none d (rw (before_zero_all frame free) groups)), printed)
+
+-- A failure of a stream of messages without a checksum is one of `frames TYPE`.
+pub plain_fails : (steady : Type 0) (expression : List ℕ) (s : Format) (longest : ℕ) (known left old new : Option (List ℕ)) (e : Failure) → IsPlain s expression
+    → ValuesFail steady s longest known left old new e → StreamFails steady expression longest known left old new e
+plain_fails steady expression s longest known left old new BadType plain h = absurd h
+plain_fails steady expression s longest known left old new (Library e) plain h = absurd h
+plain_fails steady expression s longest known left old new Output plain h = tt
+plain_fails steady expression s longest known left old new e plain h = (s, plain, h)

@@ -6,13 +6,13 @@ returns-in-Some-clause-printed g c =
     message_value c.print_value.result c.args.format.now c.args.start c.args.message.now c.in-Ok.behind.now c.in-Ok.value c.in-Some.rest.now _ _ c.in-Ok.ensures.gives
     c.in-Some.ensures.follows c.print_value.ensures.printed
 
-pub returns-in-None-clause-printed : goal.returns-in-None-clause-printed
-returns-in-None-clause-printed g c =
+pub returns-in-Ok-clause-printed : goal.returns-in-Ok-clause-printed
+returns-in-Ok-clause-printed g c =
     message_unchecked c.print_unchecked.result c.args.format.now c.args.start c.args.message.now c.in-Ok.behind.now c.in-Ok.value _ _ c.in-Ok.ensures.gives
     c.in-None.ensures.lacks c.print_unchecked.ensures.printed
 
-pub returns-in_default-clause-printed : goal.returns-in_default-clause-printed
-returns-in_default-clause-printed g c =
+pub returns-clause-printed : goal.returns-clause-printed
+returns-clause-printed g c =
     message_refused c.print_unread.result c.args.format.now c.args.start c.args.message.now c.in-Err.error _ _
     (λ v rest r. c.in_default.not-OutOfMemory (c.in-Err.ensures.accepts r.tree r.front rest r.is_read r.is_spelled r.joins)) c.in-Err.ensures.named_error
     c.in_default.not-OutOfMemory c.print_unread.ensures.printed
