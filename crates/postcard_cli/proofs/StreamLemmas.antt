@@ -17,13 +17,13 @@ use Rattle.postcard_de.specs.Reads.{IsReadError}
 use Rattle.postcard_dyn.specs.declared.value.Value.{Value}
 use Rattle.postcard_dyn_text.proofs.Joined.{none_after, none_before}
 use Rattle.postcard_cli.specs.declared.failure.Failure.{Failure}
-use Rattle.postcard_cli.specs.declared.failure.Failure.TheVariants.{BadType, Library, OutOfMemory, Output, ReadFailed}
+use Rattle.postcard_cli.specs.declared.failure.Failure.TheVariants.{BadType, Library, OutOfMemory, Output, ReadFailed, UnknownChecksum}
 use Rattle.postcard_cli.specs.declared.stream.Stream.{Stream}
 use Rattle.postcard_cli.specs.Message.{Prints, ReadsValue}
 use Rattle.postcard_cli.specs.Receiving.{IsAfter, Continues, PrintsAnswer, PrintsMessage, Reads, ReadFails}
-use Rattle.postcard_cli.specs.Refusal.{StreamFails, ValuesFail}
+use Rattle.postcard_cli.specs.Refusal.{StreamCheckedFails, StreamFails, ValuesFail}
 use Rattle.postcard_cli.specs.declared.stream.Format.{Format}
-use Rattle.postcard_cli.specs.Stream.{Answer, value, refused, unchecked, damaged, overfull, IsBehind, IsPlain, IsUnchecked, LacksChecksum, ReadsData, Answered, AreAnswered, IsAnswerTo, answer_line, answer_lines, bytes_of, more_text, noun_of, offset, rest_line, PrintsLines, PrintsValues}
+use Rattle.postcard_cli.specs.Stream.{Answer, value, refused, unchecked, damaged, overfull, IsBehind, IsNamed, IsPlain, IsUnchecked, LacksChecksum, ReadsData, Answered, AreAnswered, IsAnswerTo, answer_line, answer_lines, bytes_of, more_text, noun_of, offset, rest_line, PrintsLines, PrintsValues}
 use Rattle.postcard_cli.proofs.CheckedLemmas.{front_of}
 use Rattle.postcard_cli.proofs.MessageLemmas.{prints_both}
 
@@ -428,3 +428,12 @@ plain_fails steady expression s longest known left old new BadType plain h = abs
 plain_fails steady expression s longest known left old new (Library e) plain h = absurd h
 plain_fails steady expression s longest known left old new Output plain h = tt
 plain_fails steady expression s longest known left old new e plain h = (s, plain, h)
+
+-- A failure of a stream of messages with a checksum is one of `frames --crc NAME TYPE`.
+pub named_fails : (steady : Type 0) (name expression : List ℕ) (s : Format) (known left old new : Option (List ℕ)) (e : Failure) → IsNamed s name expression
+    → ValuesFail steady s 65536 known left old new e → StreamCheckedFails steady name expression known left old new e
+named_fails steady name expression s known left old new UnknownChecksum named h = absurd h
+named_fails steady name expression s known left old new BadType named h = absurd h
+named_fails steady name expression s known left old new (Library e) named h = absurd h
+named_fails steady name expression s known left old new Output named h = tt
+named_fails steady name expression s known left old new e named h = (s, named, h)
