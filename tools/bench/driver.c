@@ -20,6 +20,19 @@ uint64_t port_cobs_encode(const uint8_t *values, size_t count, uint8_t *out, siz
 uint64_t port_cobs_decode(uint8_t *frame, size_t size);
 uint64_t port_accumulate(const uint8_t *stream, size_t size, size_t piece);
 uint64_t port_hostile(uint32_t kind, const uint8_t *bytes, size_t size);
+uint64_t port_f32s_encode(const float *values, size_t count, uint8_t *out, size_t size);
+uint64_t port_f32s_decode(const uint8_t *bytes, size_t size);
+uint64_t port_f64s_encode(const double *values, size_t count, uint8_t *out, size_t size);
+uint64_t port_f64s_decode(const uint8_t *bytes, size_t size);
+uint64_t port_crc16(const uint8_t *bytes, size_t size);
+uint64_t port_crc32(const uint8_t *bytes, size_t size);
+uint64_t port_crc32_by_eights(const uint8_t *bytes, size_t size);
+uint64_t port_crc64(const uint8_t *bytes, size_t size);
+uint64_t port_crc32_encode(const uint8_t *values, size_t count, uint8_t *out, size_t size);
+uint64_t port_crc32_decode(const uint8_t *bytes, size_t size);
+uint64_t port_read(uint32_t kind, const uint8_t *bytes, size_t size, uint32_t rounds);
+uint64_t port_write(uint32_t kind, const uint8_t *bytes, size_t size, uint32_t rounds, uint8_t *out, size_t room);
+uint64_t port_size(uint32_t kind, const uint8_t *bytes, size_t size, uint32_t rounds);
 
 /* The memory that was requested since `forget`: the number of requests, the bytes of the largest and
  * of all of them, the bytes that are held, and the most that were held at once. */
@@ -99,6 +112,16 @@ static void fill(const char *kind) {
     }
 }
 
+/* Fills `numbers` with numbers whose sizes, 1 to 5 bytes, come in no order that a processor can learn. */
+static void fill_at_random(void) {
+    uint64_t state = 0x9e3779b97f4a7c15u;
+    for (uint32_t i = 0; i < 10000000; i++) {
+        state ^= state << 13, state ^= state >> 7, state ^= state << 17;
+        uint32_t bits = 7 * (1 + (uint32_t)(state >> 32) % 5);
+        numbers[i] = bits >= 32 ? (uint32_t)state | 0x80000000u : ((uint32_t)state >> (32 - bits)) | 1u << (bits - 1);
+    }
+}
+
 static double copying;
 
 static void tell(const char *row, double nanoseconds, const char *unit) { printf("%-44s %8.2f ns %s\n", row, nanoseconds, unit); }
@@ -116,7 +139,8 @@ static void speed_of_numbers(const char *kind) {
     double best;
     char row[64];
     const size_t count = 1000000;
-    fill(kind);
+    if (!strcmp(kind, "random sizes")) fill_at_random();
+    else fill(kind);
     BEST(best, port_u32s_encode(numbers, count, room, 2 * MOST));
     snprintf(row, sizeof row, "a million u32, %s: write", kind);
     tell(row, best / count, "a number");
@@ -174,9 +198,217 @@ static void speed_of_frames(uint8_t zero_every) {
     tell_bytes(row, best);
 }
 
+/* What a program in C without a library does for a list of numbers of `width` bytes: it asks for room before each number, and
+ * copies it. */
+static uint64_t plain_numbers(const uint8_t *from, size_t count, size_t width, uint8_t *out, size_t size) {
+    size_t used = 0;
+    for (size_t i = 0; i < count; i++) {
+        if (size - used < width) return UINT64_MAX;
+        memcpy(out + used, from + i * width, width);
+        used += width;
+    }
+    return used + out[used - 1];
+}
+
+static uint64_t plain_f32s(const uint8_t *from, size_t count, uint8_t *out, size_t size) { return plain_numbers(from, count, 4, out, size); }
+static uint64_t plain_f64s(const uint8_t *from, size_t count, uint8_t *out, size_t size) { return plain_numbers(from, count, 8, out, size); }
+
+static void tell_beside(const char *row, double nanoseconds, const char *unit, double plain) {
+    printf("%-44s %8.2f ns %s, plain C %.2f, ratio %.2f\n", row, nanoseconds, unit, plain, nanoseconds / plain);
+}
+
+static void speed_of_floats(void) {
+    double best, plain;
+    const size_t count = 1000000;
+    float *singles = malloc(count * sizeof *singles);
+    double *doubles = malloc(count * sizeof *doubles);
+    if (!singles || !doubles) fail("too little memory");
+    for (size_t i = 0; i < count; i++) doubles[i] = singles[i] = (float)i * 0.37f + 1;
+    BEST(plain, plain_f32s((const uint8_t *)singles, count, room, MOST));
+    BEST(best, port_f32s_encode(singles, count, room, 2 * MOST));
+    tell_beside("a million f32: write", best / count, "a number", plain / count);
+    size_t size = port_f32s_encode(singles, count, room, 2 * MOST);
+    BEST(plain, plain_f32s(room + 3, count, source, MOST));
+    BEST(best, port_f32s_decode(room, size));
+    tell_beside("a million f32: read", best / count, "a number", plain / count);
+    BEST(plain, plain_f64s((const uint8_t *)doubles, count, room, MOST));
+    BEST(best, port_f64s_encode(doubles, count, room, 2 * MOST));
+    tell_beside("a million f64: write", best / count, "a number", plain / count);
+    size = port_f64s_encode(doubles, count, room, 2 * MOST);
+    BEST(plain, plain_f64s(room + 3, count, source, MOST));
+    BEST(best, port_f64s_decode(room, size));
+    tell_beside("a million f64: read", best / count, "a number", plain / count);
+    free(singles);
+    free(doubles);
+}
+
+static uint32_t table[8][256];
+
+/* The tables of CRC-32/ISO-HDLC, reflected: of a byte, and of a byte that up to seven zeros follow. */
+static void make_tables(void) {
+    for (uint32_t i = 0; i < 256; i++) {
+        uint32_t value = i;
+        for (int bit = 0; bit < 8; bit++) value = value >> 1 ^ (value & 1 ? 0xedb88320u : 0);
+        table[0][i] = value;
+    }
+    for (int k = 1; k < 8; k++)
+        for (int i = 0; i < 256; i++) table[k][i] = table[k - 1][i] >> 8 ^ table[0][table[k - 1][i] & 0xff];
+}
+
+static uint64_t plain_crc32(const uint8_t *bytes, size_t size) {
+    uint32_t value = ~0u;
+    for (size_t i = 0; i < size; i++) value = value >> 8 ^ table[0][(value ^ bytes[i]) & 0xff];
+    return (uint32_t)~value;
+}
+
+static uint64_t plain_crc32_by_eights(const uint8_t *bytes, size_t size) {
+    uint32_t value = ~0u, low, high;
+    size_t i = 0;
+    for (; i + 8 <= size; i += 8) {
+        memcpy(&low, bytes + i, 4);
+        memcpy(&high, bytes + i + 4, 4);
+        low ^= value;
+        value = table[7][low & 0xff] ^ table[6][low >> 8 & 0xff] ^ table[5][low >> 16 & 0xff] ^ table[4][low >> 24] ^
+                table[3][high & 0xff] ^ table[2][high >> 8 & 0xff] ^ table[1][high >> 16 & 0xff] ^ table[0][high >> 24];
+    }
+    for (; i < size; i++) value = value >> 8 ^ table[0][(value ^ bytes[i]) & 0xff];
+    return (uint32_t)~value;
+}
+
+static void speed_of_checksums(void) {
+    double best, plain;
+    const size_t most = 1 << 20;
+    make_tables();
+    for (size_t i = 0; i < most; i++) source[i] = (uint8_t)(i * 2654435761u >> 24);
+    if (port_crc32(source, most) != plain_crc32(source, most)) fail("a checksum is another than the plain one's");
+    if (port_crc32_by_eights(source, most) != plain_crc32_by_eights(source, most)) fail("a checksum is another than the plain one's");
+    BEST(plain, plain_crc32(source, most));
+    BEST(best, port_crc32(source, most));
+    tell_beside("1 MiB: CRC-32 by a table", best / most, "a byte", plain / most);
+    BEST(best, port_crc16(source, most));
+    tell_beside("1 MiB: CRC-16 by a table", best / most, "a byte", plain / most);
+    BEST(best, port_crc64(source, most));
+    tell_beside("1 MiB: CRC-64 by a table", best / most, "a byte", plain / most);
+    BEST(best, port_crc32_encode(source, most, room, 2 * MOST));
+    tell_beside("1 MiB of u8, CRC-32 by a table: write", best / most, "a byte", plain / most);
+    size_t size = port_crc32_encode(source, most, room, 2 * MOST);
+    BEST(best, port_crc32_decode(room, size));
+    tell_beside("1 MiB of u8, CRC-32 by a table: read, lent", best / most, "a byte", plain / most);
+    BEST(plain, plain_crc32_by_eights(source, most));
+    BEST(best, port_crc32_by_eights(source, most));
+    tell_beside("1 MiB: CRC-32 by eight tables", best / most, "a byte", plain / most);
+}
+
+/* The messages of the kinds of `port_read`, made by hand: a count, and then as many elements. */
+static uint8_t *message;
+static size_t message_size;
+
+static void put(uint8_t byte) { message[message_size++] = byte; }
+
+static void put_number(uint64_t number) {
+    for (; number > 127; number >>= 7) put((uint8_t)(number | 128));
+    put((uint8_t)number);
+}
+
+static void put_text(uint32_t length) {
+    put_number(length);
+    for (uint32_t i = 0; i < length; i++) put((uint8_t)('a' + i % 26));
+}
+
+static void put_element(uint32_t kind, uint32_t i, uint32_t length) {
+    uint32_t mixed = i * 2654435761u;
+    switch (kind) {
+    case 0: put_text(length); break;
+    case 1: put_number(i), put_number(mixed >> (i % 4 * 8)); break;
+    case 2:
+        put(i % 3 != 0);
+        if (i % 3) put_number(mixed >> (i % 4 * 8));
+        break;
+    case 3:
+        put_number(mixed >> (i % 4 * 8)), put_number((mixed >> 16) >> (i % 2 * 8)), put(i % 3 != 0);
+        if (i % 3) put((uint8_t)i);
+        put_text(12);
+        break;
+    case 4: put((uint8_t)i), put_number(mixed >> 16), put_number(mixed), put(i % 2); break;
+    case 5:
+        put(i % 2);
+        if (i % 2) put_text(12);
+        else put((uint8_t)i);
+        break;
+    case 6: put((uint8_t)mixed), put((uint8_t)(mixed >> 8)), put((uint8_t)(mixed >> 16)), put((uint8_t)(mixed >> 24)); break;
+    }
+}
+
+static const char *const kinds[] = {"texts", "a map of u32 to u32", "options of u32", "records", "structs in structs", "enums", "LE<u32>"};
+
+static void make(uint32_t kind, uint32_t count, uint32_t length) {
+    message = source;
+    message_size = 0;
+    put_number(count);
+    for (uint32_t i = 0; i < count; i++) put_element(kind, i, length);
+}
+
+/* Requires that a call gave `each` in each round. */
+static void require(uint64_t sum, uint32_t rounds, uint64_t each) {
+    if (sum != rounds * each) fail("a message was refused, or another one was written");
+}
+
+static void speed_of_kind(uint32_t kind, uint32_t count, uint32_t length) {
+    double best;
+    char row[64];
+    uint32_t rounds = 2000000 / (count * (1 + length / 16)) + 1;
+    double all = (double)count * rounds;
+    make(kind, count, length);
+    snprintf(row, sizeof row, kind == 0 ? "%u %s of %u bytes: read" : "%u %s: read", count, kinds[kind], length);
+    require(port_read(kind, message, message_size, rounds), rounds, 1);
+    BEST(best, port_read(kind, message, message_size, rounds));
+    tell(row, best / all, "an element");
+    snprintf(row, sizeof row, kind == 0 ? "%u %s of %u bytes: write" : "%u %s: write", count, kinds[kind], length);
+    require(port_write(kind, message, message_size, rounds, room, 2 * MOST), rounds, message_size);
+    BEST(best, port_write(kind, message, message_size, rounds, room, 2 * MOST));
+    tell(row, best / all, "an element");
+    if (kind == 0 || kind == 1 || kind == 3) {
+        snprintf(row, sizeof row, kind == 0 ? "%u %s of %u bytes: size" : "%u %s: size", count, kinds[kind], length);
+        require(port_size(kind, message, message_size, rounds), rounds, message_size);
+        BEST(best, port_size(kind, message, message_size, rounds));
+        tell(row, best / all, "an element");
+    }
+}
+
+/* A list of records of which the last text is cut, so that all is read before it is refused; and one whose first text isn't UTF-8. */
+static void speed_of_refusals(void) {
+    double best;
+    const uint32_t rounds = 20000;
+    make(3, 100, 0);
+    require(port_read(3, message, message_size - 1, rounds), rounds, 0);
+    BEST(best, port_read(3, message, message_size - 1, rounds));
+    tell("100 records, the last byte missing: refuse", best / rounds, "a message");
+    make(0, 1, 12);
+    message[3] = 0xff;
+    require(port_read(0, message, message_size, rounds), rounds, 0);
+    BEST(best, port_read(0, message, message_size, rounds));
+    tell("a text that is not UTF-8: refuse", best / rounds, "a message");
+    make(2, 1, 0);
+    message[1] = 2;
+    require(port_read(2, message, message_size, rounds), rounds, 0);
+    BEST(best, port_read(2, message, message_size, rounds));
+    tell("an option byte of 2: refuse", best / rounds, "a message");
+}
+
+static void speed_of_kinds(void) {
+    static const uint32_t lengths[] = {5, 50, 500};
+    for (int i = 0; i < 3; i++) speed_of_kind(0, 100, lengths[i]);
+    for (uint32_t kind = 1; kind < sizeof kinds / sizeof *kinds; kind++) speed_of_kind(kind, kind == 1 ? 1000 : 100, 0);
+    speed_of_refusals();
+}
+
 static void speed(void) {
     speed_of_records();
+    speed_of_floats();
+    speed_of_checksums();
+    speed_of_kinds();
     speed_of_numbers("mixed");
+    speed_of_numbers("random sizes");
     speed_of_numbers("one byte");
     speed_of_numbers("five bytes");
     speed_of_bytes();

@@ -8,3 +8,7 @@ pub mod DigestLemmas
 pub mod FrameLemmas
 pub mod EightLemmas
 pub mod OrderLemmas
+pub mod Divisors
+pub mod PowerLemmas
+pub mod PrimeOrder
+mod Orders

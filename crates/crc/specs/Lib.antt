@@ -6,3 +6,4 @@ pub mod Algorithm
 pub mod Register
 pub mod Digest
 pub mod Damage
+pub mod Order

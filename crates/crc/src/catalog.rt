@@ -6,6 +6,10 @@
 //! every burst of changed bits that is not longer than the checksum, also across the end of the
 //! message.
 
+ghost use Rattle.std.specs.Prelude.{◌-◌, ◌^◌};
+ghost use Rattle.crc.specs.Algorithm.{parameters};
+ghost use Rattle.crc.specs.Damage.{HasOrderFrom};
+
 use crate::algorithm::Algorithm;
 
 /// CRC-8/SMBUS: the system management bus.
@@ -187,3 +191,26 @@ pub const CRC_82_DARC: Algorithm<u128> = Algorithm {
     check: 0x0_9ea8_3f62_5023_801f_d612,
     residue: 0x0_0000_0000_0000_0000_0000,
 };
+
+/// How far apart two changed bits have to be to pass: the order of x modulo the generator of each
+/// entry is at least this. No two changed bits pass that are closer
+/// ([`two_in_message`](crate::laws::two_in_message), and of a reflected entry
+/// [`two_in_frame`](crate::laws::two_in_frame)). The numbers are the orders themselves, so some two
+/// bits that far apart do pass. The function does nothing.
+pub fn orders()
+    ensures crc_8_smbus { HasOrderFrom 127 (parameters (λ n. n) CRC_8_SMBUS) }
+    ensures crc_8_maxim_dow { HasOrderFrom 127 (parameters (λ n. n) CRC_8_MAXIM_DOW) }
+    ensures crc_16_ibm_sdlc { HasOrderFrom 32767 (parameters (λ n. n) CRC_16_IBM_SDLC) }
+    ensures crc_16_xmodem { HasOrderFrom 32767 (parameters (λ n. n) CRC_16_XMODEM) }
+    ensures crc_16_modbus { HasOrderFrom 32767 (parameters (λ n. n) CRC_16_MODBUS) }
+    ensures crc_16_usb { HasOrderFrom 32767 (parameters (λ n. n) CRC_16_USB) }
+    ensures crc_16_kermit { HasOrderFrom 32767 (parameters (λ n. n) CRC_16_KERMIT) }
+    ensures crc_24_openpgp { HasOrderFrom (2 ^ 23 - 1) (parameters (λ n. n) CRC_24_OPENPGP) }
+    ensures crc_32_iso_hdlc { HasOrderFrom (2 ^ 32 - 1) (parameters (λ n. n) CRC_32_ISO_HDLC) }
+    ensures crc_32_iscsi { HasOrderFrom (2 ^ 31 - 1) (parameters (λ n. n) CRC_32_ISCSI) }
+    ensures crc_32_bzip2 { HasOrderFrom (2 ^ 32 - 1) (parameters (λ n. n) CRC_32_BZIP2) }
+    ensures crc_32_mpeg_2 { HasOrderFrom (2 ^ 32 - 1) (parameters (λ n. n) CRC_32_MPEG_2) }
+    ensures crc_64_xz { HasOrderFrom 8589606914 (parameters (λ n. n) CRC_64_XZ) }
+    ensures crc_64_ecma_182 { HasOrderFrom 8589606914 (parameters (λ n. n) CRC_64_ECMA_182) }
+    ensures crc_82_darc { HasOrderFrom 273 (parameters (λ n. n) CRC_82_DARC) }
+{}

@@ -4,10 +4,13 @@
 //! That is the order in which a serial line sends them. What was changed in a message is the sum of
 //! the polynomials before and after: a bit is one where the two differ.
 
-ghost use Rattle.std.specs.Prelude.{◌≡◌, ◌+◌, ◌*◌, ◌<◌, ◌≤◌, ◌++◌, true, ℕ, List, length, bit_xor};
-ghost use Rattle.crc.specs.Crc.{Parameters, IsCrc, IsSound, message};
+ghost use Rattle.std.specs.Prelude.{◌≡◌, ◌+◌, ◌*◌, ◌^◌, ◌<◌, ◌≤◌, ◌++◌, true, ℕ, List, length};
+ghost use Rattle.std.specs.Prelude.{bit_xor, IsTrue};
+ghost use Rattle.crc.specs.Crc.{Parameters, IsCrc, IsSound, generator, message};
 ghost use Rattle.crc.specs.Frame.{AreBytes, IsChecked};
 ghost use Rattle.crc.specs.Damage.{IsBurst, IsOddDamage, HasParity, AreTwo, HasOrderFrom};
+ghost use Rattle.crc.specs.Order.{shows_order, product};
+ghost use Rattle.crc.specs.Polynomial.{Congruent};
 
 /// A message has at most one checksum.
 pub fn one_checksum()
@@ -74,4 +77,18 @@ pub fn two_in_frame()
         → a.width + i ≡ 8 * k → (b d : ℕ) → HasOrderFrom b a → 0 < d → d < b
         → (f g : List ℕ) → length f ≡ length g → IsChecked a k f → IsChecked a k g
         → AreTwo d (bit_xor (message a.refin f) (message a.refin g)) → ⊥ }
+{}
+
+/// The order of x modulo a generator is the product of some primes if they pass a test that
+/// computes: x to the product is congruent to 1, and not if a prime is left out. It squares
+/// polynomials, and so takes about as many steps as the order has digits, where
+/// [`order_from`](crate::order_from) takes as many as the order. The primes are tested by each
+/// number up to `k + 1`, and are below `(k + 2)^2`. [`orders`](crate::catalog::orders) has the orders
+/// of the catalogue.
+pub fn order_by_primes()
+    ensures none_below { (a : Parameters) (k : ℕ) (primes : List ℕ)
+        → IsTrue (shows_order a.width a.poly k primes) → HasOrderFrom (product primes) a }
+    ensures is_order { (a : Parameters) (k : ℕ) (primes : List ℕ)
+        → IsTrue (shows_order a.width a.poly k primes)
+        → Congruent (generator a) (2 ^ product primes) 1 }
 {}

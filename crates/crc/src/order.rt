@@ -21,6 +21,7 @@ use crate::width::Width;
 pub fn order_from<W: Width>(algorithm: &Algorithm<W>, limit: u64) -> u64
     requires { IsValid (8 * W.size) (parameters W.number algorithm.now) }
     ensures at_most_limit { result ≤ limit }
+    ensures not_zero { 0 < limit → 0 < result }
     ensures none_below { HasOrderFrom result (parameters W.number algorithm.now) }
     ensures is_order { result < limit
         → Congruent (generator (parameters W.number algorithm.now)) (2 ^ result) 1 }

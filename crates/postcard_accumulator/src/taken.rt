@@ -3,8 +3,7 @@
 ghost use Rattle.postcard_accumulator.specs.Feeding.{IsReadOf};
 
 use crate::answers::FeedResult;
-use postcard_de::{Deserialize, DeserializeOwned, Owned};
-use postcard_de::from_bytes;
+use postcard_de::{Deserialize, DeserializeOwned, Owned, from_bytes};
 use std::alloc::Global;
 
 /// What a piece of a stream completes, before a value is read from it. The slices of lifetime `'a`

@@ -7,7 +7,10 @@
 //! fail. The page `docs/SPEED.md` says how they are measured, and has the results.
 #![tactic(auto)]
 
+mod checksums;
+mod floats;
 mod frames;
 mod hostile;
+mod kinds;
 mod lists;
 mod records;

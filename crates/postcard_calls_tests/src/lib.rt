@@ -14,6 +14,8 @@ mod examples;
 #[cfg(test)]
 mod fixint;
 #[cfg(test)]
+mod long_tuples;
+#[cfg(test)]
 mod reading;
 #[cfg(test)]
 mod refusals;

@@ -362,6 +362,8 @@ fn name_of(leaf: Leaf) -> &'static str
         Leaf::I32 => "i32",
         Leaf::I64 => "i64",
         Leaf::I128 => "i128",
+        Leaf::F32 => "f32",
+        Leaf::F64 => "f64",
         Leaf::Char => "char",
         Leaf::Str => "str",
         Leaf::Bytes => "bytes",

@@ -1,13 +1,61 @@
--- What a buffer begins with once the frame at its front was decoded in place.
-use Rattle.std.proofs.Common.{◌≡◌, ℕ, List, length, take, drop, sym, ap, ◌∙◌}
-use Rattle.std.proofs.lemmas.List.{take_at}
-use Rattle.postcard_cobs.specs.Groups.{Groups, before_zero}
+-- What a buffer holds once the frame at its front was decoded in place.
+use Rattle.std.proofs.Common.{◌≡◌, ℕ, ◌<◌, ◌≤◌, List, ◌++◌, length, take, drop, sym, ap, subst, ◌∙◌, arith, length-append}
+use Rattle.std.proofs.lemmas.List.{take_at, take-append-drop, take-take, length-take-le}
+use Rattle.std.specs.Prelude.{flat_map}
+use Rattle.postcard_cobs.specs.Groups.{Groups, coded, before_zero}
 use Rattle.postcard_cobs.specs.InPlace.{LeavesData}
-use Rattle.postcard_cobs.proofs.Frames.{data_is_one}
+use Rattle.postcard_cobs.proofs.Decoding.{before_zero_front}
+use Rattle.postcard_frame.specs.Frame.{HasNoData}
+use Rattle.postcard_frame.specs.Buffer.{from_zero, KeepsFromZero}
+use Rattle.postcard_crc.specs.Parts.{IsDecoded}
+use Rattle.postcard_crc.specs.declared.de.cobs.Decoded.{Decoded}
 
--- A frame has one data only, so the buffer begins with that data.
-pub content_is : (new old content : List ℕ) (n : ℕ) → LeavesData old new n
-    → Groups (before_zero old) content → take n new ≡ content
-content_is new old content n left is =
-    ap (take n) left.3 ∙ take_at left.0 (drop (length left.0) old) n (sym left.2)
-    ∙ data_is_one (before_zero old) left.0 content left.1 is
+-- A buffer as long as before, with the same bytes past the frame, is the old one from its zero on.
+keeps : (old new : List ℕ) → length new ≡ length old → drop (length (before_zero old)) new ≡ from_zero old → KeepsFromZero old new
+keeps old new long past =
+    let n = length (before_zero old) in
+    let inside = (before_zero_front old).0 in (
+      take n new,
+      length-take-le n new (omega (arith, inside, long)),
+      sym (take-append-drop n new) ∙ ap (λ (x : List ℕ). take n new ++ x) past,
+    )
+
+-- A frame that has data is not empty.
+not_empty : (frame d : List ℕ) → Groups frame d → 0 < length frame
+not_empty frame d g =
+    let e : length frame ≡ length (flat_map coded g.before ++ coded g.last) = ap length g.frame_is in
+    let s = length-append (flat_map coded g.before) (coded g.last) in omega (arith, e, s)
+
+module _ (old : List ℕ) (d : Decoded) (long : length d.all.now ≡ length old)
+    (past : drop (length (before_zero old)) d.all.now ≡ from_zero old) where
+  -- The frame was decoded.
+  pub is_decoded : d.end ≡ length (before_zero old) → LeavesData old d.all.now d.len → d.len ≤ d.end → d.end ≤ length d.all.now → IsDecoded old d
+  is_decoded is left behind inside =
+      let data_is : take d.len d.all.now ≡ left.0 = ap (take d.len) left.3 ∙ take_at left.0 (drop (length left.0) old) d.len (sym left.2) in
+      let groups : Groups (before_zero old) (take d.len (take d.end d.all.now)) = subst (λ (x : List ℕ). Groups (before_zero old) x) (sym data_is ∙ sym (take-take d.len d.end d.all.now behind)) left.1 in
+      let some = not_empty (before_zero old) left.0 left.1 in
+      let size : length (take d.end d.all.now) ≡ d.end = length-take-le d.end d.all.now inside in
+      record {
+        keeps = keeps old d.all.now long past;
+        within = (behind, inside);
+        has_data = ((λ none. absurd (omega (arith, none, size, is, some))), (λ _. groups));
+      }
+
+  -- The frame has no data.
+  pub has_none : d.end ≡ 0 → d.len ≡ 0 → HasNoData (before_zero old) → IsDecoded old d
+  has_none ends no_data none =
+      let size : length (take d.end d.all.now) ≡ d.end = length-take-le d.end d.all.now (omega (arith, ends)) in
+      record {
+        keeps = keeps old d.all.now long past;
+        within = (omega (arith, ends, no_data), omega (arith, ends));
+        has_data = ((λ _. none), (λ some. absurd (omega (arith, size, ends, some))));
+      }
+
+-- The data that was left lies in the front, and the front and the rest are the buffer.
+pub data_within : (old : List ℕ) (d : Decoded) → IsDecoded old d → d.len ≤ length (take d.end d.all.now)
+data_within old d is =
+    let size : length (take d.end d.all.now) ≡ d.end = length-take-le d.end d.all.now is.within.1 in
+    let inside = is.within.0 in omega (arith, size, inside)
+
+pub keeps_all : (old : List ℕ) (d : Decoded) → IsDecoded old d → KeepsFromZero old (take d.end d.all.now ++ drop d.end d.all.now)
+keeps_all old d is = subst (λ (x : List ℕ). KeepsFromZero old x) (sym (take-append-drop d.end d.all.now)) is.keeps

@@ -6,4 +6,5 @@ pub mod Errors
 pub mod Split
 pub mod Room
 pub mod Framed
-mod Decoding
+pub mod Decoding
+pub mod InFrame

@@ -2,3 +2,5 @@
 pub mod Writing
 pub mod Reading
 pub mod Source
+pub mod InFrame
+pub mod Parts

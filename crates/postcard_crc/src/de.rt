@@ -9,24 +9,23 @@ ghost use Rattle.std.specs.Prelude.{ℕ, List, IfOk, IfErr, IsErrOf, IsErrAnd, O
 ghost use Rattle.crc.specs.Crc.{Parameters, IsCrc, IsSound};
 ghost use Rattle.crc.specs.Digest.{Took};
 ghost use Rattle.crc.specs.Frame.{low_bytes};
-ghost use Rattle.postcard_cobs.specs.Groups.{Groups, before_zero};
 ghost use Rattle.postcard_wire.specs.Tree.{Tree};
 ghost use Rattle.postcard_wire.specs.Spelling.{Spells, canonical};
 ghost use Rattle.postcard_de.specs.Reads.{IsReadError};
 ghost use Rattle.postcard_crc.specs.Writing.{IsCrcAfter};
-ghost use Rattle.postcard_frame.specs.Frame.{HasNoData};
-ghost use Rattle.postcard_crc.specs.Reading.{ReadsChecked, ReadsFrameChecked, IsDamaged};
+ghost use Rattle.postcard_crc.specs.Reading.{ReadsChecked, IsDamaged};
 ghost use Rattle.postcard_crc.specs.Reading.{HasExactErrors};
 
 use crate::trailer::trailer_of;
 use crc::{Digest, Implementation, Width};
-use postcard_cobs::decode_in_place;
 use postcard_de::Deserialize;
 use postcard_wire::{Error, Result};
 use std::alloc::Global;
 
+mod cobs;
 mod modifier;
 
+pub use cobs::from_bytes_cobs;
 pub use modifier::CrcModifier;
 
 /// Decodes a value from the front of `bytes`, after which its checksum stands, and returns it with
@@ -151,53 +150,6 @@ pub fn from_bytes_whole<'a, T: Deserialize<'a>, W: Width, I: Implementation<W>>(
     } else {
         Err(Error::DeserializeBadEncoding)
     }
-}
-
-/// Decodes a value from the frame at the front of the buffer `s`, in place, as
-/// [`from_bytes_cobs`](postcard_frame::from_bytes_cobs): the frame's data is the value's encoding,
-/// and then just its checksum. The Rust crate has no such call.
-///
-/// If the frame's data is a message with its checksum in which at most as many bits in a row were
-/// changed as the checksum has, it fails: the clause `refuses_damage`. A damaged code byte of the
-/// frame moves zeros of the data, which need not be such a change.
-///
-/// # Errors
-///
-/// Fails with `DeserializeBadEncoding` if the frame has no data, and otherwise as
-/// [`from_bytes_whole`] of the frame's data. The content of the buffer is unspecified then. A caller
-/// with proofs of its own about the buffer calls [`decode_in_place`](postcard_cobs::decode_in_place)
-/// and then [`from_bytes_whole`].
-pub fn from_bytes_cobs<'a, T: Deserialize<'a>, W: Width, I: Implementation<W>>(
-    alloc: Global,
-    s: &'a mut [u8],
-    digest: Digest<'a, W, I>,
-) -> Result<T>
-    ensures gives { IfOk result (ReadsFrameChecked T.shape.reads T.shape.value W.size
-        digest.entry (before_zero s.old)) }
-    ensures accepts { (t : Tree) (a : Parameters) (m front : List ℕ) (crc : ℕ)
-        → T.shape.reads t → Spells t front → IsSound a → Took digest.entry a m
-        → IsCrc a (m ++ front) crc
-        → Groups (before_zero s.old) (front ++ low_bytes W.size crc) →
-        MatchResult result (λ value. T.shape.value t value)
-        (λ e. (e ≡ Error.OutOfMemory) × T.shape.grows) }
-    ensures reads_back { (x : T) (a : Parameters) (m : List ℕ) (crc : ℕ)
-        → T.shape.fits x → IsSound a → Took digest.entry a m
-        → IsCrc a (m ++ canonical (T.shape.tree x)) crc
-        → Groups (before_zero s.old) (canonical (T.shape.tree x) ++ low_bytes W.size crc) →
-        MatchResult result (λ value. T.shape.same value x)
-        (λ e. (e ≡ Error.OutOfMemory) × T.shape.grows) }
-    ensures refuses_damage { (a : Parameters) (sent came : List ℕ) → Took digest.entry a []
-        → Groups (before_zero s.old) came → IsDamaged W.size a sent came
-        → OnOk result (sent ≡ came) }
-    ensures no_frame { HasNoData (before_zero s.old)
-        → IsErrOf result Error.DeserializeBadEncoding }
-    ensures exact_errors { (content : List ℕ) → Groups (before_zero s.old) content
-        → HasExactErrors T.shape W.size digest.entry content result }
-    ensures named_error { IfErr result (λ e. IsReadError T.shape.grows e
-        ⊎ ((e ≡ Error.DeserializeBadCrc) ⊎ (e ≡ Error.DeserializeBadEncoding))) }
-{
-    let used = decode_in_place(s)?;
-    from_bytes_whole(alloc, &s[..used], digest)
 }
 
 // Returns what follows the checksum of the bytes before `rest`, with which `rest` is to begin.

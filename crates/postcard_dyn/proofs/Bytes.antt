@@ -3,10 +3,10 @@ use Rattle.std.proofs.Common.{◌≡◌, ℕ, zero, suc, ◌<◌, inl, inr, Bool
 use Rattle.std.specs.Prelude.{nat_lt, if◌then◌else◌}
 use Rattle.postcard_wire.specs.Number.{AreDigits, SpellsNum}
 use Rattle.postcard_wire.specs.Tree.{Tree, Trees, NoTrees, Then, count}
-use Rattle.postcard_wire.specs.Reading.{Each}
+use Rattle.postcard_wire.specs.Reading.{IsByte, IsArray, Each}
 use Rattle.postcard_wire.specs.Spelling.{Spells, SpellsAll}
 use Rattle.postcard_dyn_schema.specs.declared.schema.Leaf.{Leaf}
-use Rattle.postcard_dyn_schema.specs.declared.schema.Leaf.TheVariants.{Bool as Truth, U8, U16, U32, U64, U128, I8, I16, I32, I64, I128, Char, Str, Bytes}
+use Rattle.postcard_dyn_schema.specs.declared.schema.Leaf.TheVariants.{Bool as Truth, U8, U16, U32, U64, U128, I8, I16, I32, I64, I128, F32, F64, Char, Str, Bytes}
 use Rattle.postcard_dyn_schema.specs.Meaning.{MessageType, MessageTypes, leaf, option, seq, array, group, choice, no_types, then_type, leaf_reads, reads, reads_all, has_bytes, some_has_bytes}
 
 digits_some : (p : List ℕ) → AreDigits p → 0 < length p
@@ -26,6 +26,15 @@ front_some p x y e l = let n = ap length e ∙ length-append x y in omega arith
 back_some : (p x y : List ℕ) → p ≡ x ++ y → 0 < length y → 0 < length p
 back_some p x y e l = let n = ap length e ∙ length-append x y in omega arith
 
+elements_some : (R : Tree → Type 0) → ((s : Tree) (p : List ℕ) → R s → Spells s p → 0 < length p) → (ts : Trees) (p : List ℕ)
+    → 0 < count ts → Each R ts → SpellsAll ts p → 0 < length p
+elements_some R one NoTrees p n r q = absurd (omega arith)
+elements_some R one (Then s ss) p n r q = front_some p q.0 q.1 q.4 (one s q.0 r.0 q.2)
+
+-- A float has bytes.
+array_some : (k : ℕ) → 0 < k → (s : Tree) (p : List ℕ) → IsArray k IsByte s → Spells s p → 0 < length p
+array_some k some s p r q = elements_some IsByte (λ t u b l. one_some u _ (rw b.1 at l)) r.0 p (rw r.2 some) r.3 (rw r.1 at q)
+
 leaf_some : (l : Leaf) (s : Tree) (p : List ℕ) → leaf_reads l s → Spells s p → 0 < length p
 leaf_some Truth s p r q = one_some p _ (rw r.1 at q)
 leaf_some U8 s p r q = one_some p _ (rw r.1 at q)
@@ -38,6 +47,8 @@ leaf_some I16 s p r q = num_some 16 _ p (rw r.1 at q)
 leaf_some I32 s p r q = num_some 32 _ p (rw r.1 at q)
 leaf_some I64 s p r q = num_some 64 _ p (rw r.1 at q)
 leaf_some I128 s p r q = num_some 128 _ p (rw r.1 at q)
+leaf_some F32 s p r q = array_some 4 (omega arith) s p r q
+leaf_some F64 s p r q = array_some 8 (omega arith) s p r q
 leaf_some Char s p r q = let k = rw r.1 at q in front_some p k.2.0 k.2.1 k.2.4 (num_some 64 _ k.2.0 k.2.2)
 leaf_some Str s p r q = let k = rw r.1 at q in front_some p k.0 k.1 k.4 (num_some 64 _ k.0 k.2)
 leaf_some Bytes s p r q = let k = rw r.1 at q in front_some p k.0 k.1 k.4 (num_some 64 _ k.0 k.2)
@@ -50,11 +61,6 @@ both false b h = cc
 array_has : (n : ℕ) (t : MessageType) → has_bytes (array n t) ≡ true → (0 < n) × (has_bytes t ≡ true)
 array_has zero t h = cc
 array_has (suc n) t h = (omega arith, both (nat_lt 0 (suc n)) (has_bytes t) h)
-
-elements_some : (t : MessageType) → ((s : Tree) (p : List ℕ) → reads t s → Spells s p → 0 < length p) → (ts : Trees) (p : List ℕ)
-    → 0 < count ts → Each (reads t) ts → SpellsAll ts p → 0 < length p
-elements_some t one NoTrees p n r q = absurd (omega arith)
-elements_some t one (Then s ss) p n r q = front_some p q.0 q.1 q.4 (one s q.0 r.0 q.2)
 
 -- If one of the types has bytes, the first does, or one of those after it.
 first_or_rest : (t : MessageType) (ts : MessageTypes) (b : Bool) → has_bytes t ≡ b → some_has_bytes (then_type t ts) ≡ true
@@ -69,7 +75,7 @@ mutual
   type_some (option t) h s p (inr r) q = let k = rw r.1 at q in front_some p k.0 k.1 k.4 (one_some k.0 1 k.2)
   type_some (seq t) h s p r q = let k = rw r.1 at q in front_some p k.0 k.1 k.4 (num_some 64 _ k.0 k.2)
   type_some (array n t) h s p r q =
-      let a = array_has n t h in elements_some t (λ e. type_some t a.1 e) r.0 p (rw r.2 a.0) r.3 (rw r.1 at q)
+      let a = array_has n t h in elements_some (reads t) (type_some t a.1) r.0 p (rw r.2 a.0) r.3 (rw r.1 at q)
   type_some (group ts) h s p r q = types_some ts h r.0 p r.2 (rw r.1 at q)
   type_some (choice ts) h s p r q = let k = rw r.2 at q in front_some p k.0 k.1 k.4 (num_some 32 _ k.0 k.2)
 

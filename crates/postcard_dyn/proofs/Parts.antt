@@ -1,16 +1,18 @@
 -- Lemmas on values that are read part by part: a count, elements, the parts of a group, an option.
-use Rattle.std.proofs.Common.{◌≡◌, ℕ, List, [], ◌∷◌, ◌++◌, map, Option, Ok, Err, Result, IsErrAnd, refl, sym, ◌∙◌, ap, ap₂, subst, arith, inl, inr, append_assoc, append-nil}
+use Rattle.std.proofs.Common.{◌≡◌, ℕ, suc, ◌<◌, length, List, [], ◌∷◌, ◌++◌, map, Option, Ok, Err, Result, IsErrAnd, refl, sym, ◌∙◌, ap, ap₂, subst, arith, inl, inr, append_assoc, append-nil}
 use Rattle.std.specs.Prelude.{⊤, Vec}
 use Rattle.std.specs.declared.alloc.Global.{Global}
 use Rattle.postcard_wire.specs.declared.error.Error.{Error}
 use Rattle.postcard_wire.specs.declared.error.Error.TheVariants.{OutOfMemory}
 use Rattle.postcard_wire.specs.Number.{SpellsNum}
-use Rattle.postcard_wire.specs.Tree.{Tree, Trees, Byte, Num, Absent, Seq, Group, NoTrees, Then, trees}
+use Rattle.postcard_wire.specs.Tree.{Tree, Trees, Byte, Num, Absent, Seq, Group, NoTrees, Then, trees, count}
 use Rattle.postcard_wire.specs.Tree as nodes
 use Rattle.postcard_wire.specs.Spelling.{Spells, SpellsAll}
-use Rattle.postcard_wire.specs.Reading.{IsByte, IsNum, IsOption, IsGroup, IsArray}
+use Rattle.postcard_wire.specs.Reading.{IsByte, IsNum, IsOption, IsGroup, IsArray, Each}
 use Rattle.postcard_de_flavors.specs.Source.{CanTake, Takes, Laws}
 use Rattle.postcard_de.specs.Reads.{ReadsFrom}
+use Rattle.postcard_shape.specs.Base256.{AreBytes, little, low_first, low_counts, low_bytes, low_worth, low_one}
+use Rattle.postcard_fixint.specs.Fixed.{IsFixed, unsigned}
 use Rattle.postcard_shape.specs.Values.{Same, EachIs, ListIs, AreRead}
 use Rattle.postcard_de.proofs.Lists.{prefixed}
 use Rattle.postcard_de.proofs.Parts.{part_and_rest}
@@ -21,7 +23,7 @@ use Rattle.postcard_de_nodes.specs.SeenLemmas.{recast, refused_too}
 use Rattle.postcard_de_nodes.specs.TakeLemmas.{nothing_taken, both_taken, faces, can_second}
 use Rattle.postcard_dyn_schema.specs.Meaning.{MessageType, MessageTypes, no_types, then_type, reads, reads_all}
 use Rattle.postcard_dyn.specs.declared.value.Value.{Value}
-use Rattle.postcard_dyn.specs.Tree.{tree, IsTree, AreTrees}
+use Rattle.postcard_dyn.specs.Tree.{bits_tree, tree, IsTree, AreTrees}
 
 -- If each tree is that of its value, the trees are those of the list of values.
 pub each_tree : (ts : Trees) (vs : List Value) → EachIs IsTree ts vs → ts ≡ trees (map tree vs)
@@ -43,6 +45,31 @@ each_byte (Then t ts) (b ∷ bs) h = ap₂ Then h.0 (each_byte ts bs h.1)
 
 pub bytes_tree : (t : Tree) (bs : List ℕ) → ListIs (λ s b. s ≡ Byte b) t bs → t ≡ Seq (trees (map Byte bs))
 bytes_tree t bs h = h.1 ∙ ap Seq (each_byte h.0 bs h.2)
+
+byte_same : (b c : ℕ) → Byte b ≡ Byte c → b ≡ c
+byte_same b c e = cc
+
+group_same : (ts us : Trees) → Group ts ≡ Group us → ts ≡ us
+group_same ts us e = cc
+
+-- Trees of bytes that are those of a list: the list has as many, each a byte, and the trees are those of the list.
+array_bytes : (ts : Trees) (bs : List ℕ) → Each IsByte ts → EachIs (λ s b. s ≡ Byte b) ts bs → AreBytes bs × (length bs ≡ count ts)
+array_bytes NoTrees [] r h = (tt, refl)
+array_bytes NoTrees (b ∷ bs) r h = absurd h
+array_bytes (Then t ts) [] r h = absurd h
+array_bytes (Then t ts) (b ∷ bs) r h =
+    let k = array_bytes ts bs r.1 h.1 in
+    let same : r.0.0 ≡ b = byte_same r.0.0 b (sym r.0.1 ∙ h.0) in
+    ((subst (λ n. n < 256) same r.0.2, k.0), ap suc k.1)
+
+-- The tree of the k bytes of a number is that of the bits.
+pub bits_are : (k n : ℕ) (t : Tree) → IsArray k IsByte t → IsFixed little (unsigned k) t n → t ≡ bits_tree k n
+bits_are k n t (ts, is, many, r) (bs, (us, was, h), worth, fits) =
+    let same : ts ≡ us = group_same ts us (sym is ∙ was) in
+    let k' = array_bytes us bs (subst (Each IsByte) same r) h in
+    let long : length bs ≡ length (low_first k n) = k'.1 ∙ ap count (sym same) ∙ many ∙ sym (low_counts k n) in
+    let bytes : bs ≡ low_first k n = low_one bs (low_first k n) long k'.0 (low_bytes k n) (worth ∙ sym (low_worth k n fits)) in
+    was ∙ ap Group (each_byte us bs h ∙ ap (λ (xs : List ℕ). trees (map Byte xs)) bytes)
 
 -- Equal trees of numbers have equal numbers.
 num_same : (w n m : ℕ) → Num w n ≡ Num w m → n ≡ m

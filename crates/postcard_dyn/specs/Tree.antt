@@ -1,12 +1,17 @@
 -- The tree of a value (wire format 1.0, chapter "the serde data model").
-use Rattle.std.specs.Prelude.{◌≡◌, Vec, map, string_bytes, box_value}
+use Rattle.std.specs.Prelude.{◌≡◌, ℕ, Vec, map, string_bytes, box_value}
 use Rattle.std.specs.Int.{w8, cast_unsigned}
 use Rattle.std.specs.declared.alloc.Global.{Global}
 use Rattle.postcard_wire.specs.Tree.{Tree, Trees, Byte, Boolean, Num, Int, Text, trees}
 use Rattle.postcard_wire.specs.Tree as nodes
+use Rattle.postcard_shape.specs.Base256.{low_first}
 use Rattle.postcard_shape.specs.Values.{EachIs}
 use Rattle.postcard_dyn.specs.declared.value.Value.{Value, fold-Value}
 use Rattle.postcard_dyn.specs.declared.value.Value.TheOpen.{Value-F}
+
+-- The tree of a float of k bytes with these bits: the array of the bytes, the lowest first (wire format 1.0, "f32" and "f64").
+abbrev pub bits_tree : ℕ → ℕ → Tree
+bits_tree k bits = nodes.Group (trees (map Byte (low_first k bits)))
 
 -- One step of the fold `tree`: the tree of a value whose parts are already trees. An `i8` is a byte in two's
 -- complement, and a byte string is a list of bytes.
@@ -22,6 +27,8 @@ tree_step (Value-F.I16 z) = Int 16 z
 tree_step (Value-F.I32 z) = Int 32 z
 tree_step (Value-F.I64 z) = Int 64 z
 tree_step (Value-F.I128 z) = Int 128 z
+tree_step (Value-F.F32 bits) = bits_tree 4 bits
+tree_step (Value-F.F64 bits) = bits_tree 8 bits
 tree_step (Value-F.Char c) = nodes.Char c
 tree_step (Value-F.Str s) = Text (string_bytes s)
 tree_step (Value-F.Bytes v) = nodes.Seq (trees (map Byte v.items))

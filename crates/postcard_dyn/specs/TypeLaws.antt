@@ -4,7 +4,7 @@ use Rattle.postcard_wire.specs.Reading.{IsDelimited, AreDelimited, ReadsWellForm
 use Rattle.postcard_wire.proofs.Delimited as delimited
 use Rattle.postcard_wire.proofs.WellFormed as formed
 use Rattle.postcard_dyn_schema.specs.declared.schema.Leaf.{Leaf}
-use Rattle.postcard_dyn_schema.specs.declared.schema.Leaf.TheVariants.{Bool, U8, U16, U32, U64, U128, I8, I16, I32, I64, I128, Char, Str, Bytes}
+use Rattle.postcard_dyn_schema.specs.declared.schema.Leaf.TheVariants.{Bool, U8, U16, U32, U64, U128, I8, I16, I32, I64, I128, F32, F64, Char, Str, Bytes}
 use Rattle.postcard_dyn_schema.specs.Meaning.{MessageType, MessageTypes, leaf, option, seq, array, group, choice, no_types, then_type, leaf_reads, reads, reads_all, reads_at}
 
 pub leaf_delimited : (l : Leaf) → IsDelimited (leaf_reads l)
@@ -19,6 +19,8 @@ leaf_delimited I16 = delimited.int_delimited 16
 leaf_delimited I32 = delimited.int_delimited 32
 leaf_delimited I64 = delimited.int_delimited 64
 leaf_delimited I128 = delimited.int_delimited 128
+leaf_delimited F32 = delimited.array_delimited 4 _ delimited.byte_delimited
+leaf_delimited F64 = delimited.array_delimited 8 _ delimited.byte_delimited
 leaf_delimited Char = delimited.char_delimited
 leaf_delimited Str = delimited.text_delimited
 leaf_delimited Bytes = delimited.seq_delimited _ delimited.byte_delimited
@@ -53,6 +55,8 @@ leaf_well_formed I16 = formed.int_well_formed 16 (inl refl)
 leaf_well_formed I32 = formed.int_well_formed 32 (inr (inl refl))
 leaf_well_formed I64 = formed.int_well_formed 64 (inr (inr (inl refl)))
 leaf_well_formed I128 = formed.int_well_formed 128 (inr (inr (inr refl)))
+leaf_well_formed F32 = formed.array_well_formed 4 _ formed.byte_well_formed
+leaf_well_formed F64 = formed.array_well_formed 8 _ formed.byte_well_formed
 leaf_well_formed Char = formed.char_well_formed
 leaf_well_formed Str = formed.text_well_formed
 leaf_well_formed Bytes = formed.seq_well_formed _ formed.byte_well_formed

@@ -13,6 +13,7 @@ ghost use Rattle.postcard_dyn.specs.Tree.{IsTree, AreTrees};
 use crate::value::Value;
 use postcard_de::{Deserializer, Error, Flavor, Result};
 use postcard_dyn_schema::{Leaf, Schema};
+use postcard_fixint::le;
 use std::alloc::Global;
 
 /// Reads a value of the schema from the front of the bytes that are left in the source, as
@@ -196,6 +197,8 @@ fn read_leaf<'de, F: Flavor>(
         Leaf::I32 => Ok(Value::I32(d.deserialize_i32()?)),
         Leaf::I64 => Ok(Value::I64(d.deserialize_i64()?)),
         Leaf::I128 => Ok(Value::I128(d.deserialize_i128()?)),
+        Leaf::F32 => Ok(Value::F32(le::deserialize::<u32, F>(alloc, d)?)),
+        Leaf::F64 => Ok(Value::F64(le::deserialize::<u64, F>(alloc, d)?)),
         Leaf::Char => Ok(Value::Char(d.deserialize_char()?)),
         Leaf::Str => Ok(Value::Str(d.deserialize_string(alloc)?)),
         Leaf::Bytes => Ok(Value::Bytes(d.deserialize_byte_buf(alloc)?)),

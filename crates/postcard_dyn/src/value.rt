@@ -18,6 +18,10 @@ pub enum Value {
     /// A number of the type `i64` or `isize`.
     I64(i64),
     I128(i128),
+    /// The bits of an `f32`, of which a NaN has many.
+    F32(u32),
+    /// The bits of an `f64`, of which a NaN has many.
+    F64(u64),
     Char(char),
     Str(String),
     Bytes(Vec<u8>),

@@ -7,6 +7,7 @@ ghost use Rattle.postcard_ser.specs.Writing.{Wrote, never};
 ghost use Rattle.postcard_dyn.specs.Tree.{tree};
 
 use crate::value::Value;
+use postcard_fixint::le;
 use postcard_ser::Serializer;
 use postcard_ser_flavors::Flavor;
 use postcard_wire::Result;
@@ -38,6 +39,8 @@ pub fn write_value<F: Flavor>(value: &Value, serializer: &mut Serializer<F>) -> 
         Value::I32(n) => serializer.serialize_i32(*n),
         Value::I64(n) => serializer.serialize_i64(*n),
         Value::I128(n) => serializer.serialize_i128(*n),
+        Value::F32(bits) => le::serialize(bits, serializer),
+        Value::F64(bits) => le::serialize(bits, serializer),
         Value::Char(c) => serializer.serialize_char(*c),
         Value::Str(text) => serializer.serialize_str(text),
         Value::Bytes(held) => serializer.serialize_bytes(held),

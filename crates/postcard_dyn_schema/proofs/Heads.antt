@@ -5,7 +5,7 @@ use Rattle.std.specs.Str.{IsTrimAsciiStart}
 use Rattle.std.specs.Char.{is_ascii_lowercase, is_ascii_uppercase, is_ascii_whitespace}
 use Rattle.postcard_dyn_schema.specs.declared.schema.Schema.{Schema}
 use Rattle.postcard_dyn_schema.specs.declared.schema.Leaf.{Leaf}
-use Rattle.postcard_dyn_schema.specs.declared.schema.Leaf.TheVariants.{U8, U16, U32, U64, U128, I8, I16, I32, I64, I128, Char, Str, Bytes}
+use Rattle.postcard_dyn_schema.specs.declared.schema.Leaf.TheVariants.{U8, U16, U32, U64, U128, I8, I16, I32, I64, I128, F32, F64, Char, Str, Bytes}
 use Rattle.postcard_dyn_schema.specs.declared.schema.Leaf.TheVariants as leaves
 use Rattle.postcard_dyn_schema.specs.Meaning.{MessageType, option, type_of, IsNameOf}
 use Rattle.postcard_dyn_schema.specs.Text.{unblank, Then, TakesPhrase, IsSign, IsWord}
@@ -34,6 +34,8 @@ leaf_head w I32 h = (105, codes "32", h, refl)
 leaf_head w I64 (inl h) = (105, codes "64", h, refl)
 leaf_head w I64 (inr h) = (105, codes "size", h, refl)
 leaf_head w I128 h = (105, codes "128", h, refl)
+leaf_head w F32 h = (102, codes "32", h, refl)
+leaf_head w F64 h = (102, codes "64", h, refl)
 leaf_head w Char h = (99, codes "har", h, refl)
 leaf_head w Str h = (115, codes "tr", h, refl)
 leaf_head w Bytes h = (98, codes "ytes", h, refl)
@@ -54,8 +56,10 @@ leaf_named w =
     (if bytes_eq w (codes "i64") then Some I64 else
     (if bytes_eq w (codes "isize") then Some I64 else
     (if bytes_eq w (codes "i128") then Some I128 else
+    (if bytes_eq w (codes "f32") then Some F32 else
+    (if bytes_eq w (codes "f64") then Some F64 else
     (if bytes_eq w (codes "char") then Some Char else
-    (if bytes_eq w (codes "str") then Some Str else Some Bytes))))))))))))))
+    (if bytes_eq w (codes "str") then Some Str else Some Bytes))))))))))))))))
 
 named_is : (w : List ℕ) (l : Leaf) → IsNameOf w l → leaf_named w ≡ Some l
 named_is w leaves.Bool h = ap leaf_named h
@@ -71,6 +75,8 @@ named_is w I32 h = ap leaf_named h
 named_is w I64 (inl h) = ap leaf_named h
 named_is w I64 (inr h) = ap leaf_named h
 named_is w I128 h = ap leaf_named h
+named_is w F32 h = ap leaf_named h
+named_is w F64 h = ap leaf_named h
 named_is w Char h = ap leaf_named h
 named_is w Str h = ap leaf_named h
 named_is w Bytes h = ap leaf_named h

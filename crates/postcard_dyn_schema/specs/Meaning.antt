@@ -3,7 +3,7 @@ use Rattle.std.specs.Prelude.{◌≡◌, ℕ, zero, suc, nat_lt, Bool, true, fal
 use Rattle.postcard_wire.specs.Tree.{Tree, Trees}
 use Rattle.postcard_wire.specs.Reading.{IsByte, IsBoolean, IsNum, IsInt, IsChar, IsText, IsOption, IsEnd, IsThen, IsGroup, IsSeq, IsArray, IsVariant}
 use Rattle.postcard_dyn_schema.specs.declared.schema.Leaf.{Leaf}
-use Rattle.postcard_dyn_schema.specs.declared.schema.Leaf.TheVariants.{U8, U16, U32, U64, U128, I8, I16, I32, I64, I128, Char, Str, Bytes}
+use Rattle.postcard_dyn_schema.specs.declared.schema.Leaf.TheVariants.{U8, U16, U32, U64, U128, I8, I16, I32, I64, I128, F32, F64, Char, Str, Bytes}
 use Rattle.postcard_dyn_schema.specs.declared.schema.Leaf.TheVariants as leaves
 use Rattle.postcard_dyn_schema.specs.declared.schema.Schema.{Schema, fold-Schema}
 use Rattle.postcard_dyn_schema.specs.declared.schema.Schema.TheOpen.{Schema-F}
@@ -21,6 +21,8 @@ IsNameOf word I16 = word ≡ codes "i16"
 IsNameOf word I32 = word ≡ codes "i32"
 IsNameOf word I64 = (word ≡ codes "i64") ⊎ (word ≡ codes "isize")
 IsNameOf word I128 = word ≡ codes "i128"
+IsNameOf word F32 = word ≡ codes "f32"
+IsNameOf word F64 = word ≡ codes "f64"
 IsNameOf word Char = word ≡ codes "char"
 IsNameOf word Str = word ≡ codes "str"
 IsNameOf word Bytes = word ≡ codes "bytes"
@@ -39,7 +41,8 @@ mutual
     no_types : MessageTypes
     then_type : MessageType → MessageTypes → MessageTypes
 
--- The trees of a type without parts. An `i8` is a byte, and `bytes` is a counted list of bytes.
+-- The trees of a type without parts. An `i8` is a byte, a float the array of the 4 or 8 bytes of its bits (wire format 1.0,
+-- "f32" and "f64"), and `bytes` a counted list of bytes.
 abbrev pub leaf_reads : Leaf → Tree → Type 0
 leaf_reads leaves.Bool = IsBoolean
 leaf_reads U8 = IsByte
@@ -52,6 +55,8 @@ leaf_reads I16 = IsInt 16
 leaf_reads I32 = IsInt 32
 leaf_reads I64 = IsInt 64
 leaf_reads I128 = IsInt 128
+leaf_reads F32 = IsArray 4 IsByte
+leaf_reads F64 = IsArray 8 IsByte
 leaf_reads Char = IsChar
 leaf_reads Str = IsText
 leaf_reads Bytes = IsSeq IsByte

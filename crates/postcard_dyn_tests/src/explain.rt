@@ -35,6 +35,17 @@ const SENSOR_SHOWN: &str = "\
 05  04       [1]: 2
 ";
 
+const FLOATS_SHOWN: &str = "\
+00  00 00 c0 3f              t: 1.5
+04                           u:
+04  00 00 00 00 00 00 04 c0    [0]: -2.5
+";
+
+const FLOAT_REFUSED: &str = "\
+00  00 00 c0  expected f32
+at byte 0: Hit the end of buffer, expected more data
+";
+
 /// A padded count, and two bytes after the value.
 const LEFT_OVER: &str = "\
 00  80 00  0 elements
@@ -148,7 +159,7 @@ at byte 0: Hit the end of buffer, expected more data
 const UNKNOWN: &str = "unknown type at character 1: bad type\n";
 
 /// Calls that print a value.
-const EXPLAINED: [Call; 12] = [
+const EXPLAINED: [Call; 13] = [
     (&["explain", SENSOR, "2a0178020204"], b"", SENSOR_SHOWN, 0),
     (
         &["explain", SENSOR, "-"],
@@ -157,6 +168,16 @@ const EXPLAINED: [Call; 12] = [
         0,
     ),
     (&["explain", KINDS, KINDS_HEX], b"", KINDS_SHOWN, 0),
+    (
+        &[
+            "explain",
+            "{t: f32, u: [f64; 1]}",
+            "0000c03f 00000000000004c0",
+        ],
+        b"",
+        FLOATS_SHOWN,
+        0,
+    ),
     (&["explain", "[u16]", "8000ff01"], b"", LEFT_OVER, 0),
     (&["explain", LONG, LONG_HEX], b"", LONG_SHOWN, 0),
     (&["explain", "str", "09616161616161616161"], b"", CUT, 0),
@@ -174,7 +195,8 @@ const EXPLAINED: [Call; 12] = [
 ];
 
 /// Calls that are refused.
-const STOPPED: [Call; 12] = [
+const STOPPED: [Call; 13] = [
+    (&["explain", "(f32)", "0000c0"], b"", FLOAT_REFUSED, 1),
     (&["explain", SENSOR, "2a01780202"], b"", SENSOR_REFUSED, 1),
     (
         &["explain", LONG, "12000102030405060708090a0b0c0d0e0f10"],

@@ -6,7 +6,7 @@ use postcard_dyn_schema::parse;
 use std::process::Abort;
 
 /// Expressions, each beside the schema that is read from it, printed by `Debug`.
-const TYPES: [(&str, &str); 19] = [
+const TYPES: [(&str, &str); 20] = [
     ("u8", "Leaf(U8)"),
     (" usize ", "Leaf(U64)"),
     ("u16??", "Option(Option(Leaf(U16)))"),
@@ -39,13 +39,15 @@ const TYPES: [(&str, &str); 19] = [
     ),
     ("{() => u8}", "Map(Group([Group([]), Leaf(U8)]))"),
     ("[u8; 0]", "Array(Leaf(U8), 0)"),
+    ("(f32, f64)", "Group([Leaf(F32), Leaf(F64)])"),
 ];
 
 /// Texts that are no expressions, each beside the error as it is printed.
-const REFUSED: [(&str, &str); 39] = [
+const REFUSED: [(&str, &str); 40] = [
     ("", "expected a type at character 1"),
     ("  ", "expected a type at character 3"),
     ("u9", "unknown type at character 1"),
+    ("f16", "unknown type at character 1"),
     ("U8", "unknown type at character 1"),
     ("(u8, Boot)", "unknown type at character 6"),
     ("list-u8", "unknown type at character 1"),

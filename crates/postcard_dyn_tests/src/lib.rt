@@ -11,6 +11,8 @@ mod explain;
 #[cfg(test)]
 mod expressions;
 #[cfg(test)]
+mod floats;
+#[cfg(test)]
 mod frames;
 #[cfg(test)]
 mod helpers;

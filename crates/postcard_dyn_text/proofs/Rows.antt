@@ -1,13 +1,14 @@
 -- Lemmas on values in a row and their trees: elements, parts, bytes.
-use Rattle.std.proofs.Common.{◌≡◌, ℕ, suc, ◌+◌, ◌<◌, ◌^◌, List, [], ◌∷◌, ◌++◌, map, length, refl, sym, ap, subst, arith}
+use Rattle.std.proofs.Common.{◌≡◌, ℕ, suc, ◌+◌, ◌<◌, ◌^◌, List, [], ◌∷◌, ◌++◌, map, length, refl, sym, ap, subst, ◌∙◌, arith}
 use Rattle.std.specs.Prelude.{slice_index}
 use Rattle.std.proofs.lemmas.Grind.{common_steps}
 use Rattle.postcard_wire.specs.Tree.{Tree, Trees, Byte, Seq, NoTrees, Then, trees}
-use Rattle.postcard_wire.specs.Reading.{IsByte, IsSeq, Each}
+use Rattle.postcard_wire.specs.Reading.{IsByte, IsSeq, IsArray, Each}
 use Rattle.postcard_ser.proofs.Elements.{elements_count}
 use Rattle.postcard_dyn_schema.specs.Meaning.{MessageType, MessageTypes, no_types, then_type, reads, reads_all}
 use Rattle.postcard_dyn.specs.declared.value.Value.{Value}
-use Rattle.postcard_dyn.specs.Tree.{tree}
+use Rattle.postcard_shape.specs.Base256.{AreBytes, low_first, low_counts, low_bytes}
+use Rattle.postcard_dyn.specs.Tree.{tree, bits_tree}
 
 -- One value more.
 pub longer : (vs : List Value) (v : Value) (n : ℕ) → length vs ≡ n → length (vs ++ v ∷ []) ≡ n + 1
@@ -29,6 +30,14 @@ each_byte (b ∷ bs) h = ((b, refl, h 0), each_byte bs (λ k. h (suc k)))
 
 pub is_bytes : (bs : List ℕ) (v : Value) → tree v ≡ Seq (trees (map Byte bs)) → length bs < 2 ^ 64 → ((k : ℕ) → slice_index bs k < 256) → IsSeq IsByte (tree v)
 is_bytes bs v seen few h = (trees (map Byte bs), seen, omega (arith, few, elements_count Byte bs), each_byte bs h)
+
+bytes_each : (bs : List ℕ) → AreBytes bs → Each IsByte (trees (map Byte bs))
+bytes_each [] h = tt
+bytes_each (b ∷ bs) h = ((b, refl, h.0), bytes_each bs h.1)
+
+-- The bits of a float of k bytes are an array of k bytes.
+pub is_float : (k n : ℕ) (v : Value) → tree v ≡ bits_tree k n → IsArray k IsByte (tree v)
+is_float k n v seen = (trees (map Byte (low_first k n)), seen, elements_count Byte (low_first k n) ∙ low_counts k n, bytes_each (low_first k n) (low_bytes k n))
 
 -- The trees of values, followed by other trees.
 abbrev pub trees_then : List Value → Trees → Trees

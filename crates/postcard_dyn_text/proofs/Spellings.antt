@@ -1,5 +1,5 @@
 -- Lemmas on phrases in a row, and on the texts that spell values.
-use Rattle.std.proofs.Common.{◌≡◌, ℕ, zero, suc, ◌<◌, Bool, true, false, List, [], ◌∷◌, ◌++◌, map, length, get_or, refl, sym, ap, subst, ◌∙◌, arith, inl, inr}
+use Rattle.std.proofs.Common.{◌≡◌, ℕ, zero, suc, ◌<◌, Bool, true, false, List, [], ◌∷◌, ◌++◌, map, length, get_or, codes, refl, sym, ap, subst, ◌∙◌, arith, inl, inr}
 use Rattle.std.proofs.Math.Dec.{eqb-suc-zero}
 use Rattle.std.proofs.lemmas.Bool.Decides.{eqb_tells}
 use Rattle.std.proofs.lemmas.List.{append_assoc, append-nil}
@@ -8,8 +8,10 @@ use Rattle.std.specs.Str.{IsTrimAsciiStart}
 use Rattle.postcard_wire.specs.Tree.{Tree, NoTrees, trees}
 use Rattle.postcard_wire.specs.Tree as nodes
 use Rattle.postcard_dyn_schema.specs.declared.schema.Schema.{Schema}
-use Rattle.postcard_dyn_schema.specs.Text.{Then, TakesPhrase, Led, IsSign, IsMaybe}
+use Rattle.postcard_dyn_schema.specs.Text.{Then, TakesPhrase, Led, IsSign, IsWord, IsMaybe}
 use Rattle.postcard_dyn_schema.specs.Phrases.{takes_two, takes_as, led, led_more, trim_takes, word_more}
+use Rattle.std.specs.Float.{Format}
+use Rattle.postcard_dyn_text.specs.Floats.{IsFloatWord, IsHexadecimal, SpellsFloat}
 use Rattle.postcard_dyn_text.specs.Quoted.{ArePieces, IsQuoted, IsByteString}
 use Rattle.postcard_dyn_text.specs.Shown.{Layout, group, no_layouts, then_layout, layout_of, layouts_of, is_empty_group, is_group}
 use Rattle.postcard_dyn_text.specs.Spelled.{Phrase, Speller, RowAfter, Row, AreSigns, are_none, Unless, AreClosed, phrases, part_phrases, opening_sign, closing_sign, SpellsTree, SpellsGroup, SpellsAt, SpellsVariant, SpellsContent}
@@ -226,6 +228,16 @@ pub bytes_led : (bytes a b c : List ℕ) → IsTrimAsciiStart a b → TakesPhras
 bytes_led bytes a b c trim (front, (digits, held, word), whole) =
     let led_word = word_more (48 ∷ 120 ∷ digits) a b c trim (front, word, whole) in
     (led_word.0, (digits, held, led_word.1), led_word.2)
+
+-- They may come before a float.
+pub float_led : (f : Format) (bits : ℕ) (a b c : List ℕ) → IsTrimAsciiStart a b → TakesPhrase (SpellsFloat f bits) b c → TakesPhrase (SpellsFloat f bits) a c
+float_led f bits a b c trim (front, inl word, whole) =
+    takes_as (Led (IsFloatWord f bits)) (SpellsFloat f bits) a c (λ t k. inl k) (led_more (IsFloatWord f bits) a b c (trim_takes a b trim) (front, word, whole))
+float_led f bits a b c trim (front, inr (are, code), whole) =
+    let named = IsWord (codes "nan") in
+    let Q : Phrase = Then (IsSign 40) (Then (IsHexadecimal bits) (IsSign 41)) in
+    let one = takes_apart named Q b c (front, code, whole) in
+    takes_as (Then named Q) (SpellsFloat f bits) a c (λ t k. inr (are, k)) (takes_two named Q a one.0 c (word_more (codes "nan") a b one.0 trim one.1) one.2)
 
 -- Two different numbers are not equal by the test.
 pub unequal : (a b : ℕ) → (a ≡ b → ⊥) → (a == b) ≡ false

@@ -2,4 +2,5 @@ pub mod Place
 pub mod Shown
 pub mod Printed
 pub mod Quoted
+pub mod Floats
 pub mod Spelled

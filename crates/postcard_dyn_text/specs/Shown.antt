@@ -1,5 +1,6 @@
 -- The text of a value of a type with names, on one line. Of a text or a character that isn't ASCII, std's contract
--- doesn't say how it is escaped: then nothing is said of the whole text (`None`).
+-- doesn't say how it is escaped, and of a float the contract of `ryu` doesn't say which digits it has: then nothing is said of
+-- the whole text (`None`). The text of a float alone spells it (`ShowsFloat`).
 use Rattle.std.specs.Prelude.{ℕ, zero, suc, ◌/◌, ◌%◌, Bool, true, false, if◌then◌else◌, List, [], ◌∷◌, ◌++◌, Option, Some, None, map, codes, string_bytes, box_value}
 use Rattle.std.specs.Int.{w8, cast_signed}
 use Rattle.std.specs.Fmt.{◌++?◌, decimal, signed_decimal, digits, debug_char, debug_str}

@@ -2,17 +2,19 @@
 use Rattle.std.specs.Prelude.{◌≡◌, ℕ, zero, suc, ℤ, Bool, true, false, if◌then◌else◌, List, [], ◌∷◌, map, codes}
 use Rattle.std.specs.Bool.{MatchBool}
 use Rattle.std.specs.Char.{encode_utf8}
+use Rattle.std.specs.Float.{binary32, binary64}
 use Rattle.std.specs.Int.{w8, cast_signed}
 use Rattle.std.specs.Str.Parse.{IsNumeral, digits_value, signed_digits_value, without_leading_plus, without_leading_sign}
 use Rattle.postcard_wire.specs.Tree.{Tree, Trees, Byte, Boolean, Num, Int, Text, NoTrees, trees}
 use Rattle.postcard_wire.specs.Tree as nodes
 use Rattle.postcard_dyn_schema.specs.declared.schema.Leaf.{Leaf}
-use Rattle.postcard_dyn_schema.specs.declared.schema.Leaf.TheVariants.{U8, U16, U32, U64, U128, I8, I16, I32, I64, I128, Char, Str, Bytes}
+use Rattle.postcard_dyn_schema.specs.declared.schema.Leaf.TheVariants.{U8, U16, U32, U64, U128, I8, I16, I32, I64, I128, F32, F64, Char, Str, Bytes}
 use Rattle.postcard_dyn_schema.specs.declared.schema.Leaf.TheVariants as leaves
 use Rattle.postcard_dyn_schema.specs.declared.schema.Schema.{Schema}
 use Rattle.postcard_dyn_schema.specs.Text.{AreBlank, Led, Then, IsSign, IsMaybe, IsWord}
 use Rattle.postcard_dyn.specs.declared.value.Value.{Value}
-use Rattle.postcard_dyn.specs.Tree.{tree}
+use Rattle.postcard_dyn.specs.Tree.{tree, bits_tree}
+use Rattle.postcard_dyn_text.specs.Floats.{SpellsFloat}
 use Rattle.postcard_dyn_text.specs.Quoted.{IsQuoted, IsByteString}
 use Rattle.postcard_dyn_text.specs.Shown.{Layout, Layouts, leaf, option, list, mapping, array, group, choice, named, no_layouts, then_layout, layout_of, have_names}
 
@@ -49,6 +51,8 @@ SpellsLeaf I16 (Int w z) text = Led (IsSigned z) text
 SpellsLeaf I32 (Int w z) text = Led (IsSigned z) text
 SpellsLeaf I64 (Int w z) text = Led (IsSigned z) text
 SpellsLeaf I128 (Int w z) text = Led (IsSigned z) text
+SpellsLeaf F32 t text = (bits : ℕ) × (t ≡ bits_tree 4 bits) × SpellsFloat binary32 bits text
+SpellsLeaf F64 t text = (bits : ℕ) × (t ≡ bits_tree 8 bits) × SpellsFloat binary64 bits text
 SpellsLeaf Char (nodes.Char c) text = IsQuoted 39 (encode_utf8 c) text
 SpellsLeaf Str (Text bytes) text = IsQuoted 34 bytes text
 SpellsLeaf Bytes (nodes.Seq ts) text = (bytes : List ℕ) × (ts ≡ trees (map Byte bytes)) × IsByteString bytes text

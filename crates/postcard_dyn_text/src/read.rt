@@ -23,6 +23,7 @@ ghost use Rattle.postcard_dyn_schema.specs.Names.{IsCalled};
 ghost use Rattle.postcard_dyn_schema.specs.declared.schema.Schema.{Schema};
 ghost use Rattle.postcard_dyn.specs.Tree.{tree};
 
+use crate::float::{read_f32, read_f64};
 use crate::quoted::{bytes_of, take_quoted};
 use crate::show::{has_brackets, is_struct, is_unit};
 use postcard_dyn::scan::{character_of, skip_blanks, take, take_word};
@@ -449,6 +450,8 @@ fn read_leaf(alloc: Global, leaf: Leaf, rest: &mut &[u8]) -> Result<Value, Stop>
         Leaf::I32 => Ok(Value::I32(scalar(rest)?)),
         Leaf::I64 => Ok(Value::I64(scalar(rest)?)),
         Leaf::I128 => Ok(Value::I128(scalar(rest)?)),
+        Leaf::F32 => Ok(Value::F32(read_f32(rest)?)),
+        Leaf::F64 => Ok(Value::F64(read_f64(rest)?)),
         Leaf::Char => Ok(Value::Char(read_char(alloc, rest)?)),
         Leaf::Str => Ok(Value::Str(take_quoted(alloc, rest, b'"')?)),
         Leaf::Bytes => Ok(Value::Bytes(read_bytes(alloc, rest)?)),

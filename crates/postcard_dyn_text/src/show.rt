@@ -1,14 +1,18 @@
 //! Printing a value with the names of its schema: [`Shown`].
 
-ghost use Rattle.std.specs.Prelude.{◌≡◌, ◌++◌, ◌/◌, ◌%◌, true, false, Vec, codes, map};
+ghost use Rattle.std.specs.Prelude.{◌≡◌, ℕ, ◌++◌, ◌/◌, ◌%◌, true, false, Vec, codes, map};
+ghost use Rattle.std.specs.Float.{binary32, binary64};
 ghost use Rattle.std.specs.Fmt.{DisplaysOnOk, WritesOnOk, digits, signed_decimal};
 ghost use Rattle.std.specs.Int.{w8, cast_signed, cast_unsigned};
 ghost use Rattle.std.specs.declared.alloc.Global.{Global};
 ghost use Rattle.postcard_wire.specs.Tree.{Byte, trees};
+ghost use Rattle.postcard_dyn_schema.specs.declared.schema.Leaf.TheVariants as leaves;
 ghost use Rattle.postcard_dyn_schema.specs.declared.schema.Schema.{Schema};
 ghost use Rattle.postcard_dyn_schema.specs.declared.schema.Schema.TheVariants.{Group};
 ghost use Rattle.postcard_dyn_schema.specs.Meaning.{type_of, group, no_types};
 ghost use Rattle.postcard_dyn.specs.Tree.{tree};
+ghost use Rattle.postcard_dyn.specs.declared.value.Value.TheVariants as values;
+ghost use Rattle.postcard_dyn_text.specs.Floats.{ShowsFloat};
 ghost use Rattle.postcard_dyn_text.specs.Shown.{layout_of, layouts_of, text, texts, joined};
 ghost use Rattle.postcard_dyn_text.specs.Shown.{each_by};
 ghost use Rattle.postcard_dyn_text.specs.Shown.{leaf_text, option_text, items_text, entries_text};
@@ -16,6 +20,7 @@ ghost use Rattle.postcard_dyn_text.specs.Shown.{entry_text, parts_text, variant_
 ghost use Rattle.postcard_dyn_text.specs.Shown.{have_names, is_empty_group, is_group, lead};
 ghost use Rattle.postcard_dyn_text.specs.Shown.{opening_of, closing_of};
 
+use crate::float::{show_f32, show_f64};
 use postcard_dyn::{Leaf, Schema, Value};
 use std::fmt;
 use std::fmt::{Display, Formatter, Write};
@@ -264,7 +269,12 @@ pub fn has_brackets(schema: &Schema) -> bool
 
 /// Prints a value without parts.
 fn show_leaf<W: Write>(leaf: Leaf, value: &Value, f: &mut Formatter<W>) -> fmt::Result
-    ensures { DisplaysOnOk W.write_str_gives f.old result (leaf_text leaf (tree value.now)) f.new }
+    ensures shown { DisplaysOnOk W.write_str_gives f.old result
+        (leaf_text leaf (tree value.now)) f.new }
+    ensures f32_shown { leaf ≡ leaves.F32 → (bits : ℕ) → value.now ≡ values.F32 bits →
+        ShowsFloat binary32 bits W.write_str_gives f.old result f.new }
+    ensures f64_shown { leaf ≡ leaves.F64 → (bits : ℕ) → value.now ≡ values.F64 bits →
+        ShowsFloat binary64 bits W.write_str_gives f.old result f.new }
 {
     match (leaf, value) {
         (Leaf::Bool, Value::Bool(x)) => write!(f, "{x}"),
@@ -278,6 +288,8 @@ fn show_leaf<W: Write>(leaf: Leaf, value: &Value, f: &mut Formatter<W>) -> fmt::
         (Leaf::I32, Value::I32(n)) => write!(f, "{n}"),
         (Leaf::I64, Value::I64(n)) => write!(f, "{n}"),
         (Leaf::I128, Value::I128(n)) => write!(f, "{n}"),
+        (Leaf::F32, Value::F32(bits)) => show_f32(*bits, f),
+        (Leaf::F64, Value::F64(bits)) => show_f64(*bits, f),
         (Leaf::Char, Value::Char(c)) => write!(f, "{c:?}"),
         (Leaf::Str, Value::Str(text)) => write!(f, "{text:?}"),
         (Leaf::Bytes, Value::Bytes(held)) => show_bytes(held, f),

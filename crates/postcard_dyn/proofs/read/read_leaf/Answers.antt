@@ -1,9 +1,9 @@
 use Rattle.std.proofs.Common.{◌≡◌, map, sym, ◌∙◌, rules}
 use Rattle.postcard_wire.specs.Tree.{Byte, Seq, trees}
-use Rattle.postcard_de_nodes.specs.SeenLemmas.{recast}
-use Rattle.postcard_dyn.specs.Tree.{tree}
-use Rattle.postcard_dyn.specs.declared.value.Value.{Bytes, the_lemmas}
-use Rattle.postcard_dyn.proofs.Parts.{bytes_tree}
+use Rattle.postcard_de_nodes.specs.SeenLemmas.{recast, seen_as}
+use Rattle.postcard_dyn.specs.Tree.{bits_tree, tree}
+use Rattle.postcard_dyn.specs.declared.value.Value.{F32, F64, Bytes, the_lemmas}
+use Rattle.postcard_dyn.proofs.Parts.{bits_are, bytes_tree}
 use Rattle.postcard_dyn.proofs.read.read_leaf.Goals as goal
 
 pub returns-in_ok-deserialize_byte_buf-in-Bytes : goal.returns-in_ok-deserialize_byte_buf-in-Bytes
@@ -11,3 +11,15 @@ returns-in_ok-deserialize_byte_buf-in-Bytes g c =
     let v = c.in_ok-deserialize_byte_buf-in-Bytes.field-0 in
     let seen : tree (Bytes v) ≡ Seq (trees (map Byte v.items)) = search (rules, the_lemmas) in
     rw c.in-Bytes.is (recast (λ x h. bytes_tree x v.items h ∙ sym seen) c.in_ok-deserialize_byte_buf-in-Bytes.ensures.reads)
+
+pub returns-in_ok-deserialize-in-F32 : goal.returns-in_ok-deserialize-in-F32
+returns-in_ok-deserialize-in-F32 g c =
+    let n = c.in_ok-deserialize-in-F32.field-0 in
+    let seen : tree (F32 n) ≡ bits_tree 4 n = search (rules, the_lemmas) in
+    rw c.in-F32.is (seen_as (λ x a. a) (λ x r h. (r, bits_are 4 n x r h ∙ sym seen)) c.in_ok-deserialize-in-F32.ensures)
+
+pub returns-in_ok-deserialize-in-F64 : goal.returns-in_ok-deserialize-in-F64
+returns-in_ok-deserialize-in-F64 g c =
+    let n = c.in_ok-deserialize-in-F64.field-0 in
+    let seen : tree (F64 n) ≡ bits_tree 8 n = search (rules, the_lemmas) in
+    rw c.in-F64.is (seen_as (λ x a. a) (λ x r h. (r, bits_are 8 n x r h ∙ sym seen)) c.in_ok-deserialize-in-F64.ensures)

@@ -8,8 +8,10 @@ use Rattle.postcard_wire.specs.Spelling.{canonical}
 use Rattle.postcard_ser.specs.Writing.{Wrote, never}
 use Rattle.postcard_ser.proofs.Elements.{elements_more, elements_cut, elements_count}
 use Rattle.postcard_ser.proofs.PartByPart.{wrote_then, wrote_stop, wrote_err, wrote_ok}
-use Rattle.postcard_dyn.specs.Tree.{tree}
-use Rattle.postcard_dyn.specs.declared.value.Value.{Present, Seq, Variant, the_lemmas}
+use Rattle.postcard_shape.specs.Base256.{low_first}
+use Rattle.postcard_shape.proofs.Bytes.{bytes_of_bytes}
+use Rattle.postcard_dyn.specs.Tree.{bits_tree, tree}
+use Rattle.postcard_dyn.specs.declared.value.Value.{F32, F64, Present, Seq, Variant, the_lemmas}
 use Rattle.postcard_dyn.proofs.write.+write.Goals as goal
 
 pub write_all-returns-in_err-write_value : goal.write_all-returns-in_err-write_value
@@ -69,3 +71,15 @@ write_value-returns-in_ok-serialize_seq-in-Seq g t c =
     let seen : tree (Seq v) ≡ nodes.Seq (trees (map tree v.items)) = search (rules, the_lemmas) in
     let n : vec_len v ≡ length v.items = grind (arith, common_steps) in
     rw (c.in-Seq.is, seen) (rw (elements_count tree v.items, ← n) (wrote_then _ _ (rw c.len.ensures at c.in_ok-serialize_seq-in-Seq.ensures.known) c.write_all.ensures (λ e q. q) (λ t. t)))
+
+pub write_value-returns-in-F32 : goal.write_value-returns-in-F32
+write_value-returns-in-F32 g t c =
+    let n = c.in-F32.bits in
+    let seen : tree (F32 n) ≡ bits_tree 4 n = search (rules, the_lemmas) in
+    rw (c.in-F32.is, seen, bytes_of_bytes (low_first 4 n)) c.serialize.ensures.wrote
+
+pub write_value-returns-in-F64 : goal.write_value-returns-in-F64
+write_value-returns-in-F64 g t c =
+    let n = c.in-F64.bits in
+    let seen : tree (F64 n) ≡ bits_tree 8 n = search (rules, the_lemmas) in
+    rw (c.in-F64.is, seen, bytes_of_bytes (low_first 8 n)) c.serialize-in-F64.ensures.wrote

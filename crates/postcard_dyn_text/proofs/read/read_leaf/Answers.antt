@@ -7,12 +7,13 @@ use Rattle.std.proofs.lemmas.Int.{to_z-of_z}
 use Rattle.std.proofs.lemmas.Str.{IsUtf8-string_bytes}
 use Rattle.postcard_wire.specs.Tree.{Byte, Boolean, Num, Int, Text, Seq, trees}
 use Rattle.postcard_wire.specs.Tree as nodes
-use Rattle.postcard_dyn.specs.Tree.{tree}
+use Rattle.std.specs.Float.{binary32, binary64}
+use Rattle.postcard_dyn.specs.Tree.{tree, bits_tree}
 use Rattle.postcard_dyn.specs.declared.value.Value.{Str, Bytes, the_lemmas}
 use Rattle.postcard_dyn.specs.declared.value.Value as values
 use Rattle.postcard_dyn_text.specs.Spelled.{IsTruth, IsUnsigned, IsSigned}
-use Rattle.postcard_dyn_text.proofs.Rows.{is_bytes}
-use Rattle.postcard_dyn_text.proofs.Spellings.{word_led, quoted_led, bytes_led}
+use Rattle.postcard_dyn_text.proofs.Rows.{is_bytes, is_float}
+use Rattle.postcard_dyn_text.proofs.Spellings.{word_led, quoted_led, bytes_led, float_led}
 use Rattle.postcard_dyn_text.proofs.read.read_leaf.Goals as goal
 
 -- A number that fits in the width is kept as it is.
@@ -127,3 +128,29 @@ returns-in_ok-read_bytes-in-Bytes-clause-spelled c =
     let seen : tree (Bytes v) ≡ Seq (trees (map Byte v.items)) = search (rules, the_lemmas) in
     let taken = bytes_led v.items c.args.rest.now.now c.skip_blanks.new.rest.now c.read_bytes.new.rest.now c.skip_blanks.ensures c.in_ok-read_bytes-in-Bytes.ensures.spelled in
     rw (c.in-Bytes.is, seen) (taken.0, (v.items, refl, taken.1), taken.2)
+
+pub returns-in_ok-read_f32-in-F32-clause-value : goal.returns-in_ok-read_f32-in-F32-clause-value
+returns-in_ok-read_f32-in-F32-clause-value c =
+    let n = c.in_ok-read_f32-in-F32.field-0 in
+    let seen : tree (values.F32 n) ≡ bits_tree 4 n = search (rules, the_lemmas) in
+    rw c.in-F32.is (is_float 4 n (values.F32 n) seen)
+
+pub returns-in_ok-read_f32-in-F32-clause-spelled : goal.returns-in_ok-read_f32-in-F32-clause-spelled
+returns-in_ok-read_f32-in-F32-clause-spelled c =
+    let n = c.in_ok-read_f32-in-F32.field-0 in
+    let seen : tree (values.F32 n) ≡ bits_tree 4 n = search (rules, the_lemmas) in
+    let taken = float_led binary32 n c.args.rest.now.now c.skip_blanks.new.rest.now c.read_f32.new.rest.now c.skip_blanks.ensures c.in_ok-read_f32-in-F32.ensures.spelled in
+    rw (c.in-F32.is, seen) (taken.0, (n, refl, taken.1), taken.2)
+
+pub returns-in_ok-read_f64-in-F64-clause-value : goal.returns-in_ok-read_f64-in-F64-clause-value
+returns-in_ok-read_f64-in-F64-clause-value c =
+    let n = c.in_ok-read_f64-in-F64.field-0 in
+    let seen : tree (values.F64 n) ≡ bits_tree 8 n = search (rules, the_lemmas) in
+    rw c.in-F64.is (is_float 8 n (values.F64 n) seen)
+
+pub returns-in_ok-read_f64-in-F64-clause-spelled : goal.returns-in_ok-read_f64-in-F64-clause-spelled
+returns-in_ok-read_f64-in-F64-clause-spelled c =
+    let n = c.in_ok-read_f64-in-F64.field-0 in
+    let seen : tree (values.F64 n) ≡ bits_tree 8 n = search (rules, the_lemmas) in
+    let taken = float_led binary64 n c.args.rest.now.now c.skip_blanks.new.rest.now c.read_f64.new.rest.now c.skip_blanks.ensures c.in_ok-read_f64-in-F64.ensures.spelled in
+    rw (c.in-F64.is, seen) (taken.0, (n, refl, taken.1), taken.2)

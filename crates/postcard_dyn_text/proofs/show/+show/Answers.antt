@@ -2,7 +2,7 @@ use Rattle.std.proofs.Common.{◌≡◌, ◌+◌, ◌<◌, ◌++◌, false, true
 use Rattle.std.specs.Prelude.{string_bytes}
 use Rattle.std.proofs.lemmas.Grind.{common_steps}
 use Rattle.std.proofs.Output.{displays_on_ok_of_eq}
-use Rattle.std.specs.Fmt.{◌++?◌}
+use Rattle.std.specs.Fmt.{◌++?◌, fmt_error}
 use Rattle.postcard_wire.specs.Tree.{trees}
 use Rattle.postcard_wire.specs.Tree as nodes
 use Rattle.postcard_dyn_schema.specs.declared.schema.Schema.TheVariants.{Enum, Named}
@@ -172,3 +172,15 @@ show_variant-returns g t c =
     c.in_ok-write_str.ensures.writes
     (encloses g.W.Write.write_str_gives c.write_str.new.self c.write_str-2.new.self c.show-2.new.f c.write_str-3.new.self c.write_str-3.result (40 ∷ []) (41 ∷ []) inside
     c.in_ok-write_str-2.ensures.writes c.in_ok-show.ensures c.write_str-3.ensures.writes))
+
+pub show-returns-in_default-value : goal.show-returns-in_default-value
+show-returns-in_default-value g t c =
+    displays_failed g.W.Write.write_str_gives c.args.f.now c.args.f.now (Err fmt_error) (text (layout_of c.args.schema.now) (tree c.args.value.now)) refl
+
+pub show-returns-in_default-value-3 : goal.show-returns-in_default-value-3
+show-returns-in_default-value-3 g t c =
+    displays_failed g.W.Write.write_str_gives c.args.f.now c.args.f.now (Err fmt_error) (text (layout_of c.args.schema.now) (tree c.args.value.now)) refl
+
+pub show_entry-returns-in_default-item : goal.show_entry-returns-in_default-item
+show_entry-returns-in_default-item g t c =
+    displays_failed g.W.Write.write_str_gives c.args.f.now c.args.f.now (Err fmt_error) (entry_text (layout_of c.args.entry.now) (tree c.args.item.now)) refl

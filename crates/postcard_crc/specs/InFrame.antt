@@ -1,0 +1,49 @@
+-- What a decoding call with a checksum returns for the frame at the front of its buffer.
+use Rattle.std.specs.Prelude.{◌≡◌, ◌⊎◌, ℕ, List, [], ◌++◌, Result, IfOk, IfErr, IsErrOf, OnOk, MatchResult}
+use Rattle.crc.specs.Crc.{Parameters, IsCrc, IsSound}
+use Rattle.crc.specs.Digest.{Progress, Took}
+use Rattle.crc.specs.Frame.{low_bytes}
+use Rattle.postcard_cobs.specs.Groups.{Groups}
+use Rattle.postcard_wire.specs.Tree.{Tree}
+use Rattle.postcard_wire.specs.Spelling.{Spells, canonical}
+use Rattle.postcard_wire.specs.declared.error.Error.{Error}
+use Rattle.postcard_wire.specs.declared.error.Error.TheVariants.{OutOfMemory}
+use Rattle.postcard_wire.specs.declared.error.Error.TheVariants.{DeserializeBadCrc, DeserializeBadEncoding}
+use Rattle.postcard_de.specs.Reads.{IsReadError}
+use Rattle.postcard_shape.specs.Shape.{Shape}
+use Rattle.postcard_frame.specs.Frame.{HasNoData}
+use Rattle.postcard_crc.specs.Reading.{ReadsFrameChecked, HasExactErrors, IsDamaged}
+
+module _ {V : Type 0} (shape : Shape V) (k : ℕ) (d : Progress) (frame : List ℕ) (r : Result V Error) where
+  -- The call succeeds if the frame's data is a front that spells a tree that the type reads, and then
+  -- the k bytes of its checksum, by what the digest d has taken.
+  abbrev pub AcceptsChecked : Type 0
+  AcceptsChecked = (t : Tree) (a : Parameters) (m front : List ℕ) (crc : ℕ) → shape.reads t → Spells t front
+      → IsSound a → Took d a m → IsCrc a (m ++ front) crc → Groups frame (front ++ low_bytes k crc)
+      → MatchResult r (λ v. shape.value t v) (λ e. (e ≡ OutOfMemory) × shape.grows)
+
+  -- A value that fits, with its checksum in a frame, reads back as a value that looks like it.
+  abbrev pub ReadsBackChecked : Type 0
+  ReadsBackChecked = (x : V) (a : Parameters) (m : List ℕ) (crc : ℕ) → shape.fits x → IsSound a
+      → Took d a m → IsCrc a (m ++ canonical (shape.tree x)) crc
+      → Groups frame (canonical (shape.tree x) ++ low_bytes k crc)
+      → MatchResult r (λ v. shape.same v x) (λ e. (e ≡ OutOfMemory) × shape.grows)
+
+  -- A message with its checksum that was damaged in few bits in a row is refused.
+  abbrev pub RefusesDamage : Type 0
+  RefusesDamage = (a : Parameters) (sent came : List ℕ) → Took d a [] → Groups frame came
+      → IsDamaged k a sent came → OnOk r (sent ≡ came)
+
+  -- Which fault of the frame's data has which error.
+  abbrev pub HasDataErrors : Type 0
+  HasDataErrors = (content : List ℕ) → Groups frame content → HasExactErrors shape k d content r
+
+  -- All that is said of what a call returns for the frame.
+  pub record IsReadOf : Type 0 where
+    pub gives : IfOk r (ReadsFrameChecked shape.reads shape.value k d frame)
+    pub accepts : AcceptsChecked
+    pub reads_back : ReadsBackChecked
+    pub refuses_damage : RefusesDamage
+    pub no_frame : HasNoData frame → IsErrOf r DeserializeBadEncoding
+    pub exact_errors : HasDataErrors
+    pub named_error : IfErr r (λ e. IsReadError shape.grows e ⊎ ((e ≡ DeserializeBadCrc) ⊎ (e ≡ DeserializeBadEncoding)))

@@ -1,0 +1,106 @@
+//! Decoding with a checksum from a COBS frame, in the buffer that holds it.
+
+ghost use Rattle.std.specs.Prelude.{◌≡◌, ◌≤◌, ◌⊎◌, ⊤, List, ℕ, length, IfOk, IfErr, IsErrOf};
+ghost use Rattle.std.specs.Borrow.{sem, follows_so, Array, u8};
+ghost use mathlib.Core.Option.{none};
+ghost use Rattle.postcard_cobs.specs.Groups.{before_zero};
+ghost use Rattle.postcard_de.specs.Reads.{IsReadError};
+ghost use Rattle.postcard_frame.specs.Frame.{HasNoData};
+ghost use Rattle.postcard_frame.specs.Buffer.{KeepsFromZero, HasDataOf};
+ghost use Rattle.postcard_crc.specs.Reading.{ReadsFrameChecked};
+ghost use Rattle.postcard_crc.specs.InFrame.{AcceptsChecked, ReadsBackChecked, RefusesDamage};
+ghost use Rattle.postcard_crc.specs.InFrame.{HasDataErrors, IsReadOf};
+ghost use Rattle.postcard_crc.specs.Parts.{IsDecoded};
+
+use crate::de::from_bytes_whole;
+use crc::{Digest, Implementation, Width};
+use postcard_cobs::decode_in_place_report;
+use postcard_de::Deserialize;
+use postcard_memory::split_front;
+use postcard_wire::{Error, Result};
+use std::alloc::Global;
+
+/// Decodes a value from the frame at the front of the buffer `s`, in place, as
+/// [`from_bytes_cobs`](postcard_frame::from_bytes_cobs): the frame's data is the value's encoding,
+/// and then just its checksum. Each byte from the first zero on stays as it is, whatever the result:
+/// the clause `writes_back` says so of the buffer once the loan has ended. The Rust crate has no
+/// such call.
+///
+/// If the frame's data is a message with its checksum in which at most as many bits in a row were
+/// changed as the checksum has, it fails: the clause `refuses_damage`. A damaged code byte of the
+/// frame moves zeros of the data, which need not be such a change.
+///
+/// # Errors
+///
+/// Fails with `DeserializeBadEncoding` if the frame has no data, and otherwise as
+/// [`from_bytes_whole`] of the frame's data. The bytes before the first zero are unspecified then.
+pub fn from_bytes_cobs<'a, T: Deserialize<'a>, W: Width, I: Implementation<W>>(
+    alloc: Global,
+    s: &'a mut [u8],
+    digest: Digest<'a, W, I>,
+) -> Result<T>
+    // Once the loan has ended, each byte from the first zero on is as it was, also after a failure.
+    ensures* writes_back { sem 𝓛 (follows_so (Array u8 0) (Array u8 0) s.entry.ghost_name none
+        (λ _ _. ⊤) (KeepsFromZero s.old)) }
+    ensures gives { IfOk result (ReadsFrameChecked T.shape.reads T.shape.value W.size
+        digest.entry (before_zero s.old)) }
+    ensures accepts { AcceptsChecked T.shape W.size digest.entry (before_zero s.old) result }
+    ensures reads_back { ReadsBackChecked T.shape W.size digest.entry (before_zero s.old) result }
+    ensures refuses_damage { RefusesDamage T.shape W.size digest.entry (before_zero s.old) result }
+    ensures no_frame { HasNoData (before_zero s.old)
+        → IsErrOf result Error.DeserializeBadEncoding }
+    ensures exact_errors { HasDataErrors T.shape W.size digest.entry (before_zero s.old) result }
+    ensures named_error { IfErr result (λ e. IsReadError T.shape.grows e
+        ⊎ ((e ≡ Error.DeserializeBadCrc) ⊎ (e ≡ Error.DeserializeBadEncoding))) }
+{
+    let Decoded { all, end, len } = decode(s);
+    let (front, _) = split_front(all, end);
+    read_data(alloc, front, len, digest)
+}
+
+/// What decoding in place leaves: the whole buffer, and where the parts of the frame end.
+struct Decoded<'a> {
+    /// The whole buffer, the same loan.
+    all: &'a mut [u8],
+    /// The length of the frame, without the zero that ends it; 0 if the frame has no data.
+    end: usize,
+    /// The length of the data, which is at the front of the buffer.
+    len: usize,
+}
+
+/// Decodes the frame at the front of a buffer in place, and returns the whole buffer.
+fn decode<'a>(s: &'a mut [u8]) -> Decoded<'a>
+    ensures same_loan { result.all.ghost_name ≡ s.entry.ghost_name }
+    ensures decodes { IsDecoded s.old result }
+{
+    match decode_in_place_report(s) {
+        Ok(report) => Decoded {
+            all: s,
+            end: report.src_used,
+            len: report.dst_used,
+        },
+        Err(_) => Decoded {
+            all: s,
+            end: 0,
+            len: 0,
+        },
+    }
+}
+
+/// Reads a value with its checksum from the first `len` bytes of `front`, the data of a frame;
+/// `front` is empty if the frame has no data.
+fn read_data<'a, T: Deserialize<'a>, W: Width, I: Implementation<W>>(
+    alloc: Global,
+    front: &'a [u8],
+    len: usize,
+    digest: Digest<'a, W, I>,
+) -> Result<T>
+    requires { len ≤ length front.now }
+    ensures reads { (frame : List ℕ) → HasDataOf frame front.now len
+        → IsReadOf T.shape W.size digest.entry frame result }
+{
+    if front.is_empty() {
+        return Err(Error::DeserializeBadEncoding);
+    }
+    from_bytes_whole(alloc, &front[..len], digest)
+}
