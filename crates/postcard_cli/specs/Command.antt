@@ -1,6 +1,7 @@
 -- Which words are a call, and of which command.
 use Rattle.std.specs.Prelude.{◌≡◌, ◌⊎◌, ◌≤◌, ℕ, nat_eq, Bool as TruthValue, true, false, if◌then◌else◌, List, [], ◌∷◌, codes}
 use Rattle.std.specs.List.{starts_with, ends_with, list_any}
+use lib.Pointwise.{pointwise}
 use Rattle.std.specs.Str.Parse.{IsNumeral, digits_value, without_leading_plus}
 use Rattle.postcard_cli.specs.declared.command.ValueType.{ValueType}
 use Rattle.postcard_cli.specs.declared.command.ValueType.TheVariants.{U8, U16, U32, U64, U128, I8, I16, I32, I64, I128, Bool, Char, Str, ListU8, ListU32}
@@ -27,13 +28,15 @@ name_of Str = codes "str"
 name_of ListU8 = codes "list-u8"
 name_of ListU32 = codes "list-u32"
 
--- Whether the word begins with `(`, `[` or `{`, ends with `?`, or holds a `|`.
+-- Whether the word begins with `(`, `[` or `{`, ends with `?`, holds a `|`, or is `f32` or `f64`.
 abbrev pub looks_like_expression : List ℕ → TruthValue
 looks_like_expression word =
     if starts_with nat_eq word (40 ∷ []) then true else
     if starts_with nat_eq word (91 ∷ []) then true else
     if starts_with nat_eq word (123 ∷ []) then true else
-    if ends_with nat_eq word (63 ∷ []) then true else list_any (λ b. nat_eq b 124) word
+    if ends_with nat_eq word (63 ∷ []) then true else
+    if list_any (λ b. nat_eq b 124) word then true else
+    if pointwise nat_eq word (codes "f32") then true else pointwise nat_eq word (codes "f64")
 
 -- The word counts as a type expression.
 abbrev pub LooksLikeExpression : List ℕ → Type 0
