@@ -13,16 +13,19 @@ use Rattle.postcard_cli.specs.Failure.{exit_status, last_line}
 use Rattle.postcard_cli.specs.Program.{Does, Form, form_of, list_of, one_word, PrintsCall, PrintsDecode, PrintsDecoded, PrintsEncode, Performs}
 use Rattle.postcard_cli.specs.Message.{Prints}
 use Rattle.postcard_cli.specs.Refusal.{Converts, DecodingFails, EncodingFails, Reports, TaskFails}
+use Rattle.postcard_cli.specs.Stream.{PrintsValues}
+use Rattle.postcard_cli.specs.declared.stream.Format.{Format}
 use Rattle.postcard_cli.specs.Value.{parts, SayEach, SomeSaysNone}
 use Rattle.postcard_cli.specs.declared.program.Task.{Task}
 use Rattle.postcard_cli.specs.declared.program.Task.TheVariants as tasks
+use Rattle.postcard_cli.specs.declared.checksum.TheConstants.{CATALOG}
 use Rattle.postcard_cli.specs.declared.failure.Failure.{Failure}
-use Rattle.postcard_cli.specs.declared.failure.Failure.TheVariants.{Usage, BadType, BadValue, BadHex, Library, Output, Limit, ReadFailed}
+use Rattle.postcard_cli.specs.declared.failure.Failure.TheVariants.{Usage, BadType, BadValue, BadHex, UnknownChecksum, Library, Output, Limit, ReadFailed}
 use Rattle.postcard_cli.specs.declared.failure.Failure.TheVariants as failed
 use Rattle.postcard_cli.specs.declared.command.TypeWord.{TypeWord}
 use Rattle.postcard_cli.specs.declared.command.TypeWord.TheVariants.{Named, Expression}
 use Rattle.postcard_cli.specs.declared.command.Command.{Command}
-use Rattle.postcard_cli.specs.declared.command.Command.TheVariants.{Encode, Decode, DecodeAll, Frames, FramesOf, Explain, Types}
+use Rattle.postcard_cli.specs.declared.command.Command.TheVariants.{Encode, Decode, DecodeAll, EncodeChecked, DecodeChecked, Frames, FramesOf, FramesChecked, Explain, Types, Checksum, Catalog}
 
 -- The values of a type, whose words are those of `says`, and which `none` says not to be one.
 abbrev spoken : {T : Type 0} → Shape T → (T → Option (List ℕ)) → (List ℕ → T → Type 0) → (List ℕ → Type 0) → Form
@@ -124,6 +127,24 @@ rows_no_more : (layout : Layout) (at : ℕ) (lines : List Line) (old mid new : O
 rows_no_more layout at [] old mid new d none = Appends-trans old mid new [] [] d none
 rows_no_more layout at (line ∷ lines) old mid new d none = (d.0, d.1, rows_no_more layout (at + length line.bytes.now) lines d.0 mid new d.2 none)
 
+values_no_more : (format : Format) (longest : ℕ) (known left old mid new : Option (List ℕ)) → PrintsValues format longest known left old mid → Appends mid new []
+    → PrintsValues format longest known left old new
+values_no_more format longest known left old mid new d none = record {
+  given = d.given;
+  all = record {
+    reader = d.all.reader;
+    lines = record {
+      answered = d.all.lines.answered;
+      rest = d.all.lines.rest;
+      cut = d.all.lines.cut;
+      are = d.all.lines.are;
+      rest_no_zero = d.all.lines.rest_no_zero;
+      printed = prints_no_more _ old mid new d.all.lines.printed none;
+    };
+  };
+  at_end = d.at_end;
+}
+
 performs_no_more : (syntax : List ℕ) (command : Command) (known left old mid new : Option (List ℕ)) → Performs syntax command known left old mid → Appends mid new []
     → Performs syntax command known left old new
 performs_no_more syntax (Encode kind value) known left old mid new d none = encode_no_more kind value.now old mid new d none
@@ -137,26 +158,32 @@ performs_no_more syntax (DecodeAll expression hex) known left old mid new d none
   are = d.are;
   printed = prints_no_more _ old mid new d.printed none;
 }
+performs_no_more syntax (EncodeChecked name expression value) known left old mid new d none = record {
+  checksum = d.checksum;
+  named = d.named;
+  encoding = d.encoding;
+  encodes = d.encodes;
+  crc = d.crc;
+  is = d.is;
+  printed = appends_no_more old mid new _ d.printed none;
+}
+performs_no_more syntax (DecodeChecked name expression hex) known left old mid new d none = record {
+  checksum = d.checksum;
+  named = d.named;
+  schema = d.schema;
+  spelled = d.spelled;
+  bytes = d.bytes;
+  stands = d.stands;
+  value = d.value;
+  behind = d.behind;
+  is = d.is;
+  rest = d.rest;
+  follows = d.follows;
+  printed = prints_no_more _ old mid new d.printed none;
+}
 performs_no_more syntax Frames known left old mid new d none = (d.0, (d.1.0, d.1.1, d.1.2, d.1.3, appends_no_more old mid new _ d.1.4 none), d.2)
-performs_no_more syntax (FramesOf expression longest) known left old mid new d none = (
-  d.0,
-  d.1,
-  record {
-    given = d.2.given;
-    all = record {
-      reader = d.2.all.reader;
-      lines = record {
-        answered = d.2.all.lines.answered;
-        rest = d.2.all.lines.rest;
-        cut = d.2.all.lines.cut;
-        are = d.2.all.lines.are;
-        rest_no_zero = d.2.all.lines.rest_no_zero;
-        printed = prints_no_more _ old mid new d.2.all.lines.printed none;
-      };
-    };
-    at_end = d.2.at_end;
-  },
-)
+performs_no_more syntax (FramesOf expression longest) known left old mid new d none = (d.0, d.1, values_no_more d.0 longest known left old mid new d.2 none)
+performs_no_more syntax (FramesChecked name expression) known left old mid new d none = (d.0, d.1, values_no_more d.0 65536 known left old mid new d.2 none)
 performs_no_more syntax (Explain expression hex all) known left old mid new d none = record {
   schema = d.schema;
   spelled = d.spelled;
@@ -169,6 +196,16 @@ performs_no_more syntax (Explain expression hex all) known left old mid new d no
   printed = rows_no_more d.layout 0 d.lines old mid new d.printed none;
 }
 performs_no_more syntax Types known left old mid new d none = appends_no_more old mid new syntax d none
+performs_no_more syntax (Checksum name hex) known left old mid new d none = record {
+  checksum = d.checksum;
+  named = d.named;
+  bytes = d.bytes;
+  stands = d.stands;
+  crc = d.crc;
+  is = d.is;
+  printed = appends_no_more old mid new _ d.printed none;
+}
+performs_no_more syntax Catalog known left old mid new d none = appends_no_more old mid new CATALOG.now d none
 
 -- A call whose output is followed by nothing printed what it prints.
 call_no_more : (syntax : List ℕ) (words : List (List ℕ)) (known left old mid new : Option (List ℕ)) → PrintsCall syntax words known left old mid → Appends mid new []
@@ -183,6 +220,7 @@ zero_is_success (Err Usage) P old new zero h printed = cc zero
 zero_is_success (Err BadType) P old new zero h printed = cc zero
 zero_is_success (Err BadValue) P old new zero h printed = cc zero
 zero_is_success (Err BadHex) P old new zero h printed = cc zero
+zero_is_success (Err UnknownChecksum) P old new zero h printed = cc zero
 zero_is_success (Err (Library e)) P old new zero h printed = cc zero
 zero_is_success (Err Output) P old new zero h printed = cc zero
 zero_is_success (Err Limit) P old new zero h printed = cc zero

@@ -23,7 +23,7 @@ use Rattle.postcard_cli.specs.declared.failure.Failure.{Failure}
 use Rattle.postcard_cli.specs.declared.failure.Failure.TheVariants.{Usage, BadHex, Library, Output}
 use Rattle.postcard_cli.specs.declared.command.TypeWord.TheVariants.{Named, Expression}
 use Rattle.postcard_cli.specs.declared.command.Command.{Command}
-use Rattle.postcard_cli.specs.declared.command.Command.TheVariants.{Encode, Decode, DecodeAll, Frames, FramesOf, Explain, Types}
+use Rattle.postcard_cli.specs.declared.command.Command.TheVariants.{Encode, Decode, DecodeAll, EncodeChecked, DecodeChecked, Frames, FramesOf, FramesChecked, Explain, Types, Checksum, Catalog}
 
 -- A number that isn't at most another is above it.
 pub above : (m n : ℕ) → (m ≤ n → ⊥) → n < m
@@ -79,10 +79,15 @@ no_usage reads steady (Encode (Expression text) value) known left old new h = h
 no_usage reads steady (Decode (Named kind) hex) known left old new h = h
 no_usage reads steady (Decode (Expression text) hex) known left old new h = h
 no_usage reads steady (DecodeAll expression hex) known left old new h = h
+no_usage reads steady (EncodeChecked name expression value) known left old new h = h
+no_usage reads steady (DecodeChecked name expression hex) known left old new h = h
 no_usage reads steady Frames known left old new h = h
-no_usage reads steady (FramesOf expression longest) known left old new h = h
+no_usage reads steady (FramesOf expression longest) known left old new h = absurd h.2
+no_usage reads steady (FramesChecked name expression) known left old new h = absurd h.2
 no_usage reads steady (Explain expression hex all) known left old new h = h
 no_usage reads steady Types known left old new h = cc h
+no_usage reads steady (Checksum name hex) known left old new h = h
+no_usage reads steady Catalog known left old new h = cc h
 
 -- A failure of a command is one of each call of it.
 pub call_fails : (reads : ℕ) (steady : Type 0) (words : List (List ℕ)) (command : Command) (known left old new : Option (List ℕ)) (failure : Failure)

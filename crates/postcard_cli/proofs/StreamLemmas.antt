@@ -15,16 +15,16 @@ use Rattle.postcard_cobs.specs.InPlace.{LeavesData}
 use Rattle.postcard_accumulator.proofs.Cutting.{before_zero_all}
 use Rattle.postcard_de.specs.Reads.{IsReadError}
 use Rattle.postcard_dyn.specs.declared.value.Value.{Value}
-use Rattle.postcard_dyn_schema.specs.declared.schema.Schema.{Schema}
-use Rattle.postcard_dyn_schema.specs.Grammar.{IsExpression}
 use Rattle.postcard_dyn_text.proofs.Joined.{none_after, none_before}
 use Rattle.postcard_cli.specs.declared.failure.Failure.{Failure}
-use Rattle.postcard_cli.specs.declared.failure.Failure.TheVariants.{OutOfMemory, Output, ReadFailed}
+use Rattle.postcard_cli.specs.declared.failure.Failure.TheVariants.{BadType, Library, OutOfMemory, Output, ReadFailed, UnknownChecksum}
 use Rattle.postcard_cli.specs.declared.stream.Stream.{Stream}
 use Rattle.postcard_cli.specs.Message.{Prints, ReadsValue}
 use Rattle.postcard_cli.specs.Receiving.{IsAfter, Continues, PrintsAnswer, PrintsMessage, Reads, ReadFails}
-use Rattle.postcard_cli.specs.Refusal.{StreamFails}
-use Rattle.postcard_cli.specs.Stream.{Answer, value, refused, damaged, overfull, Answered, AreAnswered, IsAnswerTo, answer_line, answer_lines, bytes_of, more_text, noun_of, offset, rest_line, PrintsLines, PrintsValues}
+use Rattle.postcard_cli.specs.Refusal.{StreamCheckedFails, StreamFails, ValuesFail}
+use Rattle.postcard_cli.specs.declared.stream.Format.{Format}
+use Rattle.postcard_cli.specs.Stream.{Answer, value, refused, unchecked, damaged, overfull, IsBehind, IsNamed, IsPlain, IsUnchecked, LacksChecksum, ReadsData, Answered, AreAnswered, IsAnswerTo, answer_line, answer_lines, bytes_of, more_text, noun_of, offset, rest_line, PrintsLines, PrintsValues}
+use Rattle.postcard_cli.proofs.CheckedLemmas.{front_of}
 use Rattle.postcard_cli.proofs.MessageLemmas.{prints_both}
 
 no_zero_both : (xs ys : List ℕ) → NoZero xs → NoZero ys → NoZero (xs ++ ys)
@@ -37,7 +37,7 @@ bytes_more : (xs : List Answered) (a : Answered) → bytes_of (xs ++ a ∷ []) �
 bytes_more [] a = append-nil (a.frame ++ 0 ∷ [])
 bytes_more (x ∷ xs) a = ap (λ (t : List ℕ). (x.frame ++ 0 ∷ []) ++ t) (bytes_more xs a) ∙ sym (append_assoc (x.frame ++ 0 ∷ []) (bytes_of xs) (a.frame ++ 0 ∷ []))
 
-are_more : (s : Schema) (longest : ℕ) (xs : List Answered) (a : Answered) → AreAnswered s longest xs → NoZero a.frame → IsAnswerTo s longest a.frame a.answer
+are_more : (s : Format) (longest : ℕ) (xs : List Answered) (a : Answered) → AreAnswered s longest xs → NoZero a.frame → IsAnswerTo s longest a.frame a.answer
     → AreAnswered s longest (xs ++ a ∷ [])
 are_more s longest [] a are none is = (none, is, tt)
 are_more s longest (x ∷ xs) a are none is = (are.0, are.1, are_more s longest xs a are.2 none is)
@@ -45,7 +45,7 @@ are_more s longest (x ∷ xs) a are none is = (are.0, are.1, are_more s longest 
 place_after : (n : ℕ) (f bs : List ℕ) → (n + length f + 1) + length bs ≡ n + length ((f ++ 0 ∷ []) ++ bs)
 place_after n f bs = simp length-append (omega arith)
 
-lines_more : (s : Schema) (n : ℕ) (xs : List Answered) (a : Answered)
+lines_more : (s : Format) (n : ℕ) (xs : List Answered) (a : Answered)
     → answer_lines s n (xs ++ a ∷ []) ≡ answer_lines s n xs ++? answer_line s (offset (n + length (bytes_of xs))) a.answer
 lines_more s n [] a =
     none_after (answer_line s (offset n) a.answer)
@@ -58,25 +58,25 @@ lines_more s n (x ∷ xs) a =
     ∙ sym (then_text_assoc (answer_line s (offset n) x.answer) (answer_lines s (n + length x.frame + 1) xs)
     (answer_line s (offset (n + length (bytes_of (x ∷ xs)))) a.answer))
 
-lines_more_first : (s : Schema) (xs : List Answered) (a : Answered)
+lines_more_first : (s : Format) (xs : List Answered) (a : Answered)
     → answer_lines s 0 (xs ++ a ∷ []) ≡ answer_lines s 0 xs ++? answer_line s (offset (length (bytes_of xs))) a.answer
 lines_more_first s xs a =
     lines_more s 0 xs a ∙ ap (λ (k : ℕ). answer_lines s 0 xs ++? answer_line s (offset k) a.answer) (zero-add (length (bytes_of xs)))
 
 -- ---- the rest
 
-over_line : (s : Schema) (longest n : ℕ) (rest : List ℕ) → longest < length rest → rest_line s longest n rest ≡ answer_line s (offset n) overfull
+over_line : (s : Format) (longest n : ℕ) (rest : List ℕ) → longest < length rest → rest_line s longest n rest ≡ answer_line s (offset n) overfull
 over_line s longest n rest over =
     let t : nat_lt longest (length rest) ≡ true = lt-ltb longest (length rest) over in rw t refl
 
-none_line : (s : Schema) (longest n : ℕ) (rest : List ℕ) → length rest ≤ longest → rest_line s longest n rest ≡ Some []
+none_line : (s : Format) (longest n : ℕ) (rest : List ℕ) → length rest ≤ longest → rest_line s longest n rest ≡ Some []
 none_line s longest n rest fits =
     let t : nat_lt longest (length rest) ≡ false = le-ltb longest (length rest) fits in rw t refl
 
 -- ---- states
 
 -- Before the first byte.
-pub after_none : (s : Schema) (longest : ℕ) (new : Stream) (held : Option (List ℕ)) → new.longest ≡ longest → new.held.items ≡ [] → new.skipping ≡ false → new.start ≡ 0
+pub after_none : (s : Format) (longest : ℕ) (new : Stream) (held : Option (List ℕ)) → new.longest ≡ longest → new.held.items ≡ [] → new.skipping ≡ false → new.start ≡ 0
     → new.count ≡ 0 → IsAfter s longest [] new held held
 after_none s longest new held limit empty skipping start count = record {
   lines = record {
@@ -96,7 +96,7 @@ after_none s longest new held limit empty skipping start count = record {
   over = λ on. cc (sym skipping ∙ on);
 }
 
-module _ (s : Schema) (longest : ℕ) (given : List ℕ) (before after : Stream) (first old new : Option (List ℕ)) (was : IsAfter s longest given before first old)
+module _ (s : Format) (longest : ℕ) (given : List ℕ) (before after : Stream) (first old new : Option (List ℕ)) (was : IsAfter s longest given before first old)
     (limit : after.longest ≡ before.longest) where
   -- The lines of the frames, without one of the rest.
   frames_printed : before.skipping ≡ false → Prints (answer_lines s 0 was.lines.answered) first old
@@ -235,7 +235,7 @@ module _ (s : Schema) (longest : ℕ) (given : List ℕ) (before after : Stream)
         (rw was.start at printed))
 
 -- A frame ends that was skipped: its line is printed already.
-pub ended_skipped : (s : Schema) (longest : ℕ) (given : List ℕ) (before after : Stream) (first old : Option (List ℕ)) (was : IsAfter s longest given before first old)
+pub ended_skipped : (s : Format) (longest : ℕ) (given : List ℕ) (before after : Stream) (first old : Option (List ℕ)) (was : IsAfter s longest given before first old)
     → after.longest ≡ before.longest → after.start ≡ after.count → after.count ≡ min (before.count + 1) (2 ^ 64 - 1) → after.held.items ≡ [] → after.skipping ≡ false
     → before.skipping ≡ true → IsAfter s longest (given ++ 0 ∷ []) after first old
 ended_skipped s longest given before after first old was limit start count holds ends on =
@@ -245,11 +245,11 @@ ended_skipped s longest given before after first old was limit start count holds
 
 -- ---- pieces
 
-pub continues_none : (s : Schema) (before : Stream) (old : Option (List ℕ)) → Continues s before [] before old old
+pub continues_none : (s : Format) (before : Stream) (old : Option (List ℕ)) → Continues s before [] before old old
 continues_none s before old longest given first h =
     let P : List ℕ → Type 0 = λ t. IsAfter s longest t before first old in subst P (sym (append-nil given)) h
 
-pub continues_both : (s : Schema) (a b c : Stream) (x y : List ℕ) (old mid new : Option (List ℕ)) → Continues s a x b old mid → Continues s b y c mid new
+pub continues_both : (s : Format) (a b c : Stream) (x y : List ℕ) (old mid new : Option (List ℕ)) → Continues s a x b old mid → Continues s b y c mid new
     → Continues s a (x ++ y) c old new
 continues_both s a b c x y old mid new p q longest given first h =
     let P : List ℕ → Type 0 = λ t. IsAfter s longest t c first new in
@@ -260,14 +260,14 @@ nothing [] e = refl
 nothing (b ∷ w) e = absurd (omega arith)
 
 -- Once nothing is left of a piece, all of it was taken.
-pub continues_all : (s : Schema) (a b : Stream) (piece eaten rest : List ℕ) (old new : Option (List ℕ)) → length rest ≡ 0 → piece ≡ eaten ++ rest → Continues s a eaten b old new
+pub continues_all : (s : Format) (a b : Stream) (piece eaten rest : List ℕ) (old new : Option (List ℕ)) → length rest ≡ 0 → piece ≡ eaten ++ rest → Continues s a eaten b old new
     → Continues s a piece b old new
 continues_all s a b piece eaten rest old new none cut p =
     let P : List ℕ → Type 0 = λ t. Continues s a t b old new in
     subst P (sym (cut ∙ ap (λ (t : List ℕ). eaten ++ t) (nothing rest none) ∙ append-nil eaten)) p
 
 -- The last part of a piece is taken, which has no zero.
-pub takes_last : (s : Schema) (a b c : Stream) (piece eaten rest part after : List ℕ) (end : ℕ) (old mid new : Option (List ℕ)) → piece ≡ eaten ++ rest → Continues s a eaten b old mid
+pub takes_last : (s : Format) (a b c : Stream) (piece eaten rest part after : List ℕ) (end : ℕ) (old mid new : Option (List ℕ)) → piece ≡ eaten ++ rest → Continues s a eaten b old mid
     → rest ≡ part ++ after → length after + end ≡ length rest → end ≡ length rest → NoZero rest → (NoZero part → Continues s b part c mid new)
     → Continues s a piece c old new
 takes_last s a b c piece eaten rest part after end old mid new cut before joined back all free holds =
@@ -276,7 +276,7 @@ takes_last s a b c piece eaten rest part after end old mid new cut before joined
     subst P (ap (λ (t : List ℕ). eaten ++ t) whole ∙ sym cut) (continues_both s a b c eaten part old mid new before (holds (subst NoZero (sym whole) free)))
 
 -- A part of a piece up to a zero is taken, and then the zero.
-pub takes_frame : (s : Schema) (a b c d : Stream) (piece eaten rest part after more : List ℕ) (end : ℕ) (old mid mid' new : Option (List ℕ)) → piece ≡ eaten ++ rest
+pub takes_frame : (s : Format) (a b c d : Stream) (piece eaten rest part after more : List ℕ) (end : ℕ) (old mid mid' new : Option (List ℕ)) → piece ≡ eaten ++ rest
     → Continues s a eaten b old mid → part ≡ take end rest → after ≡ drop end rest → more ≡ drop 1 after → EndsFrame rest (take end rest) (drop (end + 1) rest)
     → (NoZero part → Continues s b part c mid mid') → Continues s c (0 ∷ []) d mid' new
     → (x : List ℕ) × (piece ≡ x ++ more) × Continues s a x d old new
@@ -293,7 +293,7 @@ prints_kept : (said : Option (List ℕ)) (old mid new : Option (List ℕ)) → P
 prints_kept None old mid new p same = tt
 prints_kept (Some shown) old mid new p same = Appends-kept old mid new shown p same
 
-pub continues_kept : (s : Schema) (a b : Stream) (x : List ℕ) (old mid new : Option (List ℕ)) → Continues s a x b old mid → Keeps mid new → Continues s a x b old new
+pub continues_kept : (s : Format) (a b : Stream) (x : List ℕ) (old mid new : Option (List ℕ)) → Continues s a x b old mid → Keeps mid new → Continues s a x b old new
 continues_kept s a b x old mid new p same longest given first h =
     let w = p longest given first h in
     record {
@@ -321,7 +321,7 @@ more_shown (b ∷ rest) noun some is =
 
 -- ---- reads
 
-module _ (s : Schema) (longest : ℕ) (given : List ℕ) (known now left old mid new : Option (List ℕ)) (before after : Stream) (w : IsAfter s longest given before old mid)
+module _ (s : Format) (longest : ℕ) (given : List ℕ) (known now left old mid new : Option (List ℕ)) (before after : Stream) (w : IsAfter s longest given before old mid)
     (reader : Consumes known now given) where
   -- What was read before is printed, and a piece more.
   pub one_more_read : (more : Bool) (r : Reads s before after now left mid new more) → IsAfter s longest (given ++ r.piece) after old new
@@ -338,50 +338,69 @@ module _ (s : Schema) (longest : ℕ) (given : List ℕ) (known now left old mid
     at_end = r.at_end last;
   }
 
-  -- The failure of a read is one of the command.
-  pub read_fails : (steady steady' : Type 0) (expression : List ℕ) (e : Failure) → (steady → steady') → IsExpression s expression → ReadFails steady' now left mid new e
-      → StreamFails steady expression longest known left old new e
-  read_fails steady steady' expression ReadFailed still spelled h = (
+  -- The failure of a read is one of the stream.
+  pub read_fails : (steady steady' : Type 0) (e : Failure) → (steady → steady') → ReadFails steady' now left mid new e
+      → ValuesFail steady s longest known left old new e
+  read_fails steady steady' ReadFailed still h = (
     λ t. h.0 (still t),
     (
-      s,
-      spelled,
-      (
-        given,
-        record {
-          reader = Consumes-kept known now left given reader h.1;
-          lines = subst (λ (o : Option (List ℕ)). PrintsLines s longest given old o) (sym h.2) w.lines;
-        },
-      ),
+      given,
+      record {
+        reader = Consumes-kept known now left given reader h.1;
+        lines = subst (λ (o : Option (List ℕ)). PrintsLines s longest given old o) (sym h.2) w.lines;
+      },
     ),
   )
-  read_fails steady steady' expression OutOfMemory still spelled h = (s, spelled)
-  read_fails steady steady' expression Output still spelled h = tt
-  read_fails steady steady' expression e still spelled h = absurd h
+  read_fails steady steady' OutOfMemory still h = tt
+  read_fails steady steady' Output still h = tt
+  read_fails steady steady' e still h = absurd h
 
 -- ---- the data of one frame
 
+-- What follows a message, or that its checksum doesn't, where the message is the data before `behind`.
+read_behind : (s : Format) (bytes behind rest : List ℕ) (v : Value) → ReadsValue s.schema bytes v behind
+    → IsBehind s.checksum (take (length bytes - length behind) bytes) behind rest → ReadsData s bytes v rest
+read_behind s bytes behind rest v is follows =
+    (behind, is, subst (λ (front : List ℕ). IsBehind s.checksum front behind rest) (front_of bytes is.front behind is.joins) follows)
+
+not_behind : (s : Format) (bytes behind : List ℕ) (v : Value) → ReadsValue s.schema bytes v behind
+    → LacksChecksum s.checksum (take (length bytes - length behind) bytes) behind → IsUnchecked s bytes
+not_behind s bytes behind v is lacks =
+    (v, behind, is, subst (λ (front : List ℕ). LacksChecksum s.checksum front behind) (front_of bytes is.front behind is.joins) lacks)
+
 -- The line of a value at the front of the data is printed.
-pub message_value : (r : Result (Unit {0}) Failure) (s : Schema) (at : ℕ) (message : List ℕ) (v : Value) (rest : List ℕ) (old new : Option (List ℕ)) → ReadsValue s message v rest
+pub message_value : (r : Result (Unit {0}) Failure) (s : Format) (at : ℕ) (message behind : List ℕ) (v : Value) (rest : List ℕ) (old new : Option (List ℕ))
+    → ReadsValue s.schema message v behind → IsBehind s.checksum (take (length message - length behind) message) behind rest
     → OnOk r (Prints (answer_line s at (value v rest)) old new) → OnOk r (PrintsMessage s at message old new)
-message_value (Ok done) s at message v rest old new is printed = (value v rest, is, printed)
-message_value (Err e) s at message v rest old new is printed = tt
+message_value (Ok done) s at message behind v rest old new is follows printed = (value v rest, read_behind s message behind rest v is follows, printed)
+message_value (Err e) s at message behind v rest old new is follows printed = tt
+
+-- The line of data whose checksum is wrong is printed.
+pub message_unchecked : (r : Result (Unit {0}) Failure) (s : Format) (at : ℕ) (message behind : List ℕ) (v : Value) (old new : Option (List ℕ))
+    → ReadsValue s.schema message v behind → LacksChecksum s.checksum (take (length message - length behind) message) behind
+    → OnOk r (Prints (answer_line s at (unchecked message)) old new) → OnOk r (PrintsMessage s at message old new)
+message_unchecked (Ok done) s at message behind v old new is lacks printed = (unchecked message, (refl, not_behind s message behind v is lacks), printed)
+message_unchecked (Err e) s at message behind v old new is lacks printed = tt
 
 -- The line of data that is refused is printed.
-pub message_refused : (r : Result (Unit {0}) Failure) (s : Schema) (at : ℕ) (message : List ℕ) (e : Error) (old new : Option (List ℕ))
-    → ((v : Value) (rest : List ℕ) → ReadsValue s message v rest → ⊥) → IsReadError ⊤ e → e ≢ errors.OutOfMemory
+pub message_refused : (r : Result (Unit {0}) Failure) (s : Format) (at : ℕ) (message : List ℕ) (e : Error) (old new : Option (List ℕ))
+    → ((v : Value) (rest : List ℕ) → ReadsValue s.schema message v rest → ⊥) → IsReadError ⊤ e → e ≢ errors.OutOfMemory
     → OnOk r ((place : List ℕ) × Prints (answer_line s at (refused place e message)) old new) → OnOk r (PrintsMessage s at message old new)
 message_refused (Ok done) s at message e old new none named memory (place, printed) = (refused place e message, (refl, none, named, memory), printed)
 message_refused (Err f) s at message e old new none named memory printed = tt
 
 -- The line of the data of a frame is that of the frame.
-pub frame_answer : (s : Schema) (longest at : ℕ) (frame message : List ℕ) (old new : Option (List ℕ)) → length frame + 1 ≤ longest → Groups frame message
+pub frame_answer : (s : Format) (longest at : ℕ) (frame message : List ℕ) (old new : Option (List ℕ)) → length frame + 1 ≤ longest → Groups frame message
     → PrintsMessage s at message old new → PrintsAnswer s longest at frame old new
 frame_answer s longest at frame message old new fits groups (value v rest, is, printed) = (value v rest, (fits, (message, groups, is)), printed)
 frame_answer s longest at frame message old new fits groups (refused place e bytes, is, printed) =
     let P : List ℕ → Type 0 = λ t. Groups frame t in
-    let Q : List ℕ → Type 0 = λ t. (v : Value) (rest : List ℕ) → ReadsValue s t v rest → ⊥ in
+    let Q : List ℕ → Type 0 = λ t. (v : Value) (rest : List ℕ) → ReadsValue s.schema t v rest → ⊥ in
     (refused place e bytes, (fits, subst P (sym is.0) groups, subst Q (sym is.0) is.1, is.2, is.3), printed)
+frame_answer s longest at frame message old new fits groups (unchecked bytes, is, printed) =
+    let P : List ℕ → Type 0 = λ t. Groups frame t × IsUnchecked s t in
+    let both = subst P (sym is.0) (groups, is.1) in
+    (unchecked bytes, (fits, both.0, both.1), printed)
 frame_answer s longest at frame message old new fits groups (damaged bytes, is, printed) = absurd is
 frame_answer s longest at frame message old new fits groups (overfull, is, printed) = absurd is
 
@@ -397,7 +416,24 @@ decoded frame new n free (d, groups, length_is, is) =
     let P : List ℕ → Type 0 = λ t. Groups frame t in subst P (sym front) whole
 
 -- A frame without a zero that no data has is damaged.
-pub damaged_answer : (s : Schema) (longest at : ℕ) (frame : List ℕ) (old new : Option (List ℕ)) → length frame + 1 ≤ longest → NoZero frame
+pub damaged_answer : (s : Format) (longest at : ℕ) (frame : List ℕ) (old new : Option (List ℕ)) → length frame + 1 ≤ longest → NoZero frame
     → ((d : List ℕ) → Groups (before_zero frame) d → ⊥) → Prints (answer_line s at (damaged frame)) old new → PrintsAnswer s longest at frame old new
 damaged_answer s longest at frame old new fits free none printed =
     (damaged frame, (fits, refl, λ d groups. none d (rw (before_zero_all frame free) groups)), printed)
+
+-- A failure of a stream of messages without a checksum is one of `frames TYPE`.
+pub plain_fails : (steady : Type 0) (expression : List ℕ) (s : Format) (longest : ℕ) (known left old new : Option (List ℕ)) (e : Failure) → IsPlain s expression
+    → ValuesFail steady s longest known left old new e → StreamFails steady expression longest known left old new e
+plain_fails steady expression s longest known left old new BadType plain h = absurd h
+plain_fails steady expression s longest known left old new (Library e) plain h = absurd h
+plain_fails steady expression s longest known left old new Output plain h = tt
+plain_fails steady expression s longest known left old new e plain h = (s, plain, h)
+
+-- A failure of a stream of messages with a checksum is one of `frames --crc NAME TYPE`.
+pub named_fails : (steady : Type 0) (name expression : List ℕ) (s : Format) (known left old new : Option (List ℕ)) (e : Failure) → IsNamed s name expression
+    → ValuesFail steady s 65536 known left old new e → StreamCheckedFails steady name expression known left old new e
+named_fails steady name expression s known left old new UnknownChecksum named h = absurd h
+named_fails steady name expression s known left old new BadType named h = absurd h
+named_fails steady name expression s known left old new (Library e) named h = absurd h
+named_fails steady name expression s known left old new Output named h = tt
+named_fails steady name expression s known left old new e named h = (s, named, h)

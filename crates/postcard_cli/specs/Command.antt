@@ -1,13 +1,14 @@
 -- Which words are a call, and of which command.
 use Rattle.std.specs.Prelude.{◌≡◌, ◌⊎◌, ◌≤◌, ℕ, nat_eq, Bool as TruthValue, true, false, if◌then◌else◌, List, [], ◌∷◌, codes}
 use Rattle.std.specs.List.{starts_with, ends_with, list_any}
+use lib.Pointwise.{pointwise}
 use Rattle.std.specs.Str.Parse.{IsNumeral, digits_value, without_leading_plus}
 use Rattle.postcard_cli.specs.declared.command.ValueType.{ValueType}
 use Rattle.postcard_cli.specs.declared.command.ValueType.TheVariants.{U8, U16, U32, U64, U128, I8, I16, I32, I64, I128, Bool, Char, Str, ListU8, ListU32}
 use Rattle.postcard_cli.specs.declared.command.TypeWord.{TypeWord}
 use Rattle.postcard_cli.specs.declared.command.TypeWord.TheVariants.{Named, Expression}
 use Rattle.postcard_cli.specs.declared.command.Command.{Command}
-use Rattle.postcard_cli.specs.declared.command.Command.TheVariants.{Encode, Decode, DecodeAll, Frames, FramesOf, Explain, Types}
+use Rattle.postcard_cli.specs.declared.command.Command.TheVariants.{Encode, Decode, DecodeAll, EncodeChecked, DecodeChecked, Frames, FramesOf, FramesChecked, Explain, Types, Checksum, Catalog}
 
 -- The word that names a type.
 abbrev pub name_of : ValueType → List ℕ
@@ -27,13 +28,15 @@ name_of Str = codes "str"
 name_of ListU8 = codes "list-u8"
 name_of ListU32 = codes "list-u32"
 
--- Whether the word begins with `(`, `[` or `{`, ends with `?`, or holds a `|`.
+-- Whether the word begins with `(`, `[` or `{`, ends with `?`, holds a `|`, or is `f32` or `f64`.
 abbrev pub looks_like_expression : List ℕ → TruthValue
 looks_like_expression word =
     if starts_with nat_eq word (40 ∷ []) then true else
     if starts_with nat_eq word (91 ∷ []) then true else
     if starts_with nat_eq word (123 ∷ []) then true else
-    if ends_with nat_eq word (63 ∷ []) then true else list_any (λ b. nat_eq b 124) word
+    if ends_with nat_eq word (63 ∷ []) then true else
+    if list_any (λ b. nat_eq b 124) word then true else
+    if pointwise nat_eq word (codes "f32") then true else pointwise nat_eq word (codes "f64")
 
 -- The word counts as a type expression.
 abbrev pub LooksLikeExpression : List ℕ → Type 0
@@ -67,10 +70,15 @@ abbrev pub IsCallOf : List (List ℕ) → Command → Type 0
 IsCallOf words (Encode kind value) = (word : List ℕ) × IsWordOf word kind × (words ≡ codes "enc" ∷ word ∷ value.now ∷ [])
 IsCallOf words (Decode kind hex) = (word : List ℕ) × IsWordOf word kind × (words ≡ codes "dec" ∷ word ∷ hex.now ∷ [])
 IsCallOf words (DecodeAll expression hex) = LooksLikeExpression expression.now × (words ≡ codes "decs" ∷ expression.now ∷ hex.now ∷ [])
+IsCallOf words (EncodeChecked name expression value) = words ≡ codes "enc" ∷ codes "--crc" ∷ name.now ∷ expression.now ∷ value.now ∷ []
+IsCallOf words (DecodeChecked name expression hex) = words ≡ codes "dec" ∷ codes "--crc" ∷ name.now ∷ expression.now ∷ hex.now ∷ []
 IsCallOf words Frames = words ≡ codes "frames" ∷ []
 IsCallOf words (FramesOf expression longest) = LooksLikeExpression expression.now × IsStreamCall words expression.now longest
+IsCallOf words (FramesChecked name expression) = words ≡ codes "frames" ∷ codes "--crc" ∷ name.now ∷ expression.now ∷ []
 IsCallOf words (Explain expression hex all) = IsExplainCall words expression.now hex.now all
 IsCallOf words Types = words ≡ codes "types" ∷ []
+IsCallOf words (Checksum name hex) = words ≡ codes "crc" ∷ name.now ∷ hex.now ∷ []
+IsCallOf words Catalog = words ≡ codes "crc" ∷ []
 
 -- The words are a call of no command.
 abbrev pub IsNoCall : List (List ℕ) → Type 0

@@ -1,3 +1,5 @@
+pub mod Checked
+pub mod Checksum
 pub mod Command
 pub mod Explain
 pub mod Failure

@@ -12,16 +12,18 @@ use Rattle.postcard_shape.specs.Shape.{Shape, growing}
 use Rattle.postcard_shape.specs.Leaves.{byte, signed_byte, num, int, boolean, character, text}
 use Rattle.postcard_shape.specs.Lists.{seq}
 use Rattle.postcard_de.specs.Front.{ReadsFront}
-use Rattle.postcard_dyn_schema.specs.declared.schema.Schema.{Schema}
-use Rattle.postcard_dyn_schema.specs.Grammar.{IsExpression}
 use Rattle.postcard_dyn_text.specs.Shown.{joined}
+use Rattle.postcard_cli.specs.Checked.{PrintsEncodedChecked, PrintsFirstChecked}
+use Rattle.postcard_cli.specs.Checksum.{PrintsChecksum}
 use Rattle.postcard_cli.specs.Command.{IsCallOf}
 use Rattle.postcard_cli.specs.Explain.{PrintsExplained}
 use Rattle.postcard_cli.specs.Frames.{PrintsAnswers}
 use Rattle.postcard_cli.specs.Message.{PrintsEncoded, PrintsFirst, PrintsAll}
-use Rattle.postcard_cli.specs.Stream.{PrintsValues}
+use Rattle.postcard_cli.specs.Stream.{IsNamed, IsPlain, PrintsValues}
 use Rattle.postcard_cli.specs.Value.{parts, SayEach, SomeSaysNone}
+use Rattle.postcard_cli.specs.declared.checksum.TheConstants.{CATALOG}
 use Rattle.postcard_cli.specs.declared.failure.Failure.{Failure}
+use Rattle.postcard_cli.specs.declared.stream.Format.{Format}
 use Rattle.postcard_cli.specs.declared.program.Task.{Task}
 use Rattle.postcard_cli.specs.declared.program.Task.TheVariants as tasks
 use Rattle.postcard_cli.specs.declared.command.ValueType.{ValueType}
@@ -29,7 +31,7 @@ use Rattle.postcard_cli.specs.declared.command.ValueType.TheVariants.{U8, U16, U
 use Rattle.postcard_cli.specs.declared.command.TypeWord.{TypeWord}
 use Rattle.postcard_cli.specs.declared.command.TypeWord.TheVariants.{Named, Expression}
 use Rattle.postcard_cli.specs.declared.command.Command.{Command}
-use Rattle.postcard_cli.specs.declared.command.Command.TheVariants.{Encode, Decode, DecodeAll, Frames, FramesOf, Explain, Types}
+use Rattle.postcard_cli.specs.declared.command.Command.TheVariants.{Encode, Decode, DecodeAll, EncodeChecked, DecodeChecked, Frames, FramesOf, FramesChecked, Explain, Types, Checksum, Catalog}
 
 -- The values of a type: what they are on the wire, in a word, and as text.
 pub record Form : Type 1 where
@@ -154,11 +156,17 @@ abbrev pub Performs : List ℕ → Command → Option (List ℕ) → Option (Lis
 Performs syntax (Encode kind value) known left old new = PrintsEncode kind value.now old new
 Performs syntax (Decode kind hex) known left old new = PrintsDecode kind hex.now known left old new
 Performs syntax (DecodeAll expression hex) known left old new = PrintsAll expression.now hex.now known left old new
+Performs syntax (EncodeChecked name expression value) known left old new = PrintsEncodedChecked name.now expression.now value.now old new
+Performs syntax (DecodeChecked name expression hex) known left old new = PrintsFirstChecked name.now expression.now hex.now known left old new
 Performs syntax Frames known left old new = PrintsAnswers known left old new
 Performs syntax (FramesOf expression longest) known left old new =
-    (schema : Schema) × IsExpression schema expression.now × PrintsValues schema longest known left old new
+    (format : Format) × IsPlain format expression.now × PrintsValues format longest known left old new
+Performs syntax (FramesChecked name expression) known left old new =
+    (format : Format) × IsNamed format name.now expression.now × PrintsValues format 65536 known left old new
 Performs syntax (Explain expression hex all) known left old new = PrintsExplained expression.now hex.now all known left old new
 Performs syntax Types known left old new = Appends old new syntax
+Performs syntax (Checksum name hex) known left old new = PrintsChecksum name.now hex.now known left old new
+Performs syntax Catalog known left old new = Appends old new CATALOG.now
 
 -- The words are a call of a command, and what it prints is printed.
 abbrev pub PrintsCall : List ℕ → List (List ℕ) → Option (List ℕ) → Option (List ℕ) → Option (List ℕ) → Option (List ℕ) → Type 0

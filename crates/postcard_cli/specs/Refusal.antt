@@ -22,6 +22,7 @@ use Rattle.postcard_dyn.specs.declared.value.Value.{Value}
 use Rattle.postcard_dyn_text.specs.Place.{IsPlaceIn}
 use Rattle.postcard_dyn_text.specs.Spelled.{SpellsValue}
 use Rattle.postcard_dyn_text.specs.declared.read.TextError.TheVariants.{NotAValue}
+use Rattle.postcard_cli.specs.Checksum.{HasNoTrailer, IsUnnamed, checksum_name}
 use Rattle.postcard_cli.specs.Command.{IsCallOf, IsNoCall}
 use Rattle.postcard_cli.specs.Explain.{IsExplainRefused}
 use Rattle.postcard_cli.specs.Failure.{exit_status, last_line}
@@ -29,15 +30,17 @@ use Rattle.postcard_cli.specs.Frames.{PrintsAnswersSoFar}
 use Rattle.postcard_cli.specs.Hexadecimal.{words_of, HasBadWord}
 use Rattle.postcard_cli.specs.Message.{lines_of, Prints, ReadsValue, ReadsValues, StandsFor}
 use Rattle.postcard_cli.specs.Program.{Does, Form, form_of, PrintsCall}
-use Rattle.postcard_cli.specs.Stream.{PrintsSoFar}
+use Rattle.postcard_cli.specs.Stream.{IsNamed, IsPlain, PrintsSoFar}
+use Rattle.postcard_cli.specs.declared.checksum.Checksum.{Checksum}
 use Rattle.postcard_cli.specs.declared.program.Task.{Task}
 use Rattle.postcard_cli.specs.declared.program.Task.TheVariants as tasks
 use Rattle.postcard_cli.specs.declared.command.TypeWord.{TypeWord}
 use Rattle.postcard_cli.specs.declared.command.TypeWord.TheVariants.{Named, Expression}
 use Rattle.postcard_cli.specs.declared.command.Command.{Command}
-use Rattle.postcard_cli.specs.declared.command.Command.TheVariants.{Encode, Decode, DecodeAll, Frames, FramesOf, Explain, Types}
+use Rattle.postcard_cli.specs.declared.command.Command.TheVariants.{Encode, Decode, DecodeAll, EncodeChecked, DecodeChecked, Frames, FramesOf, FramesChecked, Explain, Types, Checksum as ChecksumOf, Catalog}
+use Rattle.postcard_cli.specs.declared.stream.Format.{Format}
 use Rattle.postcard_cli.specs.declared.failure.Failure.{Failure}
-use Rattle.postcard_cli.specs.declared.failure.Failure.TheVariants.{Usage, BadType, BadValue, BadHex, Library, Output, Limit, ReadFailed}
+use Rattle.postcard_cli.specs.declared.failure.Failure.TheVariants.{Usage, BadType, BadValue, BadHex, UnknownChecksum, Library, Output, Limit, ReadFailed}
 use Rattle.postcard_cli.specs.declared.failure.Failure.TheVariants as failed
 
 -- ---- TYPE
@@ -182,6 +185,55 @@ ExplainFails reads steady expression hex all known left old new (Library e) = (e
 ExplainFails reads steady expression hex all known left old new Output = ⊤
 ExplainFails reads steady expression hex all known left old new failure = ⊥
 
+-- ---- checksums
+
+-- The failures of a checksum's name: it is none, and was printed.
+abbrev pub NameFails : List ℕ → Option (List ℕ) → Option (List ℕ) → Failure → Type 0
+NameFails name old new UnknownChecksum = IsUnnamed name old new
+NameFails name old new Output = ⊤
+NameFails name old new failure = ⊥
+
+-- The failures of `crc NAME HEX`.
+abbrev pub ChecksumFails : ℕ → Type 0 → List ℕ → List ℕ → Option (List ℕ) → Option (List ℕ) → Option (List ℕ) → Option (List ℕ) → Failure → Type 0
+ChecksumFails reads steady name hex known left old new UnknownChecksum = IsUnnamed name old new
+ChecksumFails reads steady name hex known left old new Output = ⊤
+ChecksumFails reads steady name hex known left old new failure = HexFails reads steady hex known left failure
+
+-- The failures of `enc --crc NAME`.
+abbrev pub EncodeCheckedFails : List ℕ → List ℕ → List ℕ → Option (List ℕ) → Option (List ℕ) → Failure → Type 0
+EncodeCheckedFails name expression word old new UnknownChecksum = IsUnnamed name old new
+EncodeCheckedFails name expression word old new failure = EncodeFails expression word old new failure
+
+-- The failures of skipping the checksum of the bytes `front`, with which `behind` is to begin: it
+-- doesn't, and the place was printed.
+abbrev pub TrailerFails : Checksum → List ℕ → List ℕ → Option (List ℕ) → Option (List ℕ) → Failure → Type 0
+TrailerFails c front behind old new (Library e) =
+    HasNoTrailer c front behind e × Appends old new (codes "at byte " ++ (decimal (length front) ++ codes ": "))
+TrailerFails c front behind old new Output = ⊤
+TrailerFails c front behind old new failure = ⊥
+
+-- The bytes of HEX begin with a value of the expression, and the checksum of its message doesn't follow
+-- it: the place where it should begin was printed, and the library's error is `e`.
+pub record IsTrailerRefused (name expression hex : List ℕ) (known left old new : Option (List ℕ)) (e : Error) : Type 0 where
+  pub checksum : Checksum
+  pub named : name ≡ checksum_name checksum
+  pub schema : Schema
+  pub spelled : IsExpression schema expression
+  pub bytes : List ℕ
+  pub stands : StandsFor hex known left bytes
+  pub value : Value
+  pub behind : List ℕ
+  pub is : ReadsValue schema bytes value behind
+  pub other : HasNoTrailer checksum is.front behind e
+  pub printed : Appends old new (codes "at byte " ++ (decimal (length is.front) ++ codes ": "))
+
+-- The failures of `dec --crc NAME`.
+abbrev pub DecodeCheckedFails : ℕ → Type 0 → List ℕ → List ℕ → List ℕ → Option (List ℕ) → Option (List ℕ) → Option (List ℕ) → Option (List ℕ) → Failure → Type 0
+DecodeCheckedFails reads steady name expression hex known left old new UnknownChecksum = IsUnnamed name old new
+DecodeCheckedFails reads steady name expression hex known left old new (Library e) =
+    DecodeFails reads steady expression hex known left old new (Library e) ⊎ IsTrailerRefused name expression hex known left old new e
+DecodeCheckedFails reads steady name expression hex known left old new failure = DecodeFails reads steady expression hex known left old new failure
+
 -- ---- types that have a name
 
 -- The value's encoding has more than 4,096 bytes, and the library's error `e` says so. No value of a
@@ -245,18 +297,30 @@ FramesFail steady known left old new failed.OutOfMemory = ⊤
 FramesFail steady known left old new Output = ⊤
 FramesFail steady known left old new failure = ⊥
 
--- The failures of `frames TYPE`. The lines of all that was read were printed before a read failed.
+-- The failures of printing the lines of a stream of this format. The lines of all that was read were
+-- printed before a read failed.
+abbrev pub ValuesFail : Type 0 → Format → ℕ → Option (List ℕ) → Option (List ℕ) → Option (List ℕ) → Option (List ℕ) → Failure → Type 0
+ValuesFail steady format longest known left old new Limit = (given : List ℕ) × (2 ^ 64 - 1 ≤ length given) × PrintsSoFar format longest given known left old new
+ValuesFail steady format longest known left old new ReadFailed = (steady → ⊥) × ((given : List ℕ) × PrintsSoFar format longest given known left old new)
+ValuesFail steady format longest known left old new failed.OutOfMemory = ⊤
+ValuesFail steady format longest known left old new Output = ⊤
+ValuesFail steady format longest known left old new failure = ⊥
+
+-- The failures of `frames TYPE`.
 abbrev pub StreamFails : Type 0 → List ℕ → ℕ → Option (List ℕ) → Option (List ℕ) → Option (List ℕ) → Option (List ℕ) → Failure → Type 0
 StreamFails steady expression longest known left old new BadType = IsTypeRefused expression old new
 StreamFails steady expression longest known left old new (Library e) = e ≡ OutOfMemory
-StreamFails steady expression longest known left old new Limit =
-    (schema : Schema) × IsExpression schema expression
-    × ((given : List ℕ) × (2 ^ 64 - 1 ≤ length given) × PrintsSoFar schema longest given known left old new)
-StreamFails steady expression longest known left old new ReadFailed =
-    (steady → ⊥) × ((schema : Schema) × IsExpression schema expression × ((given : List ℕ) × PrintsSoFar schema longest given known left old new))
-StreamFails steady expression longest known left old new failed.OutOfMemory = IsType expression
 StreamFails steady expression longest known left old new Output = ⊤
-StreamFails steady expression longest known left old new failure = ⊥
+StreamFails steady expression longest known left old new failure = (format : Format) × IsPlain format expression × ValuesFail steady format longest known left old new failure
+
+-- The failures of `frames --crc NAME TYPE`.
+abbrev pub StreamCheckedFails : Type 0 → List ℕ → List ℕ → Option (List ℕ) → Option (List ℕ) → Option (List ℕ) → Option (List ℕ) → Failure → Type 0
+StreamCheckedFails steady name expression known left old new UnknownChecksum = IsUnnamed name old new
+StreamCheckedFails steady name expression known left old new BadType = IsTypeRefused expression old new
+StreamCheckedFails steady name expression known left old new (Library e) = e ≡ OutOfMemory
+StreamCheckedFails steady name expression known left old new Output = ⊤
+StreamCheckedFails steady name expression known left old new failure =
+    (format : Format) × IsNamed format name expression × ValuesFail steady format 65536 known left old new failure
 
 -- ---- calls
 
@@ -276,10 +340,15 @@ abbrev pub CommandFails : ℕ → Type 0 → Command → Option (List ℕ) → O
 CommandFails reads steady (Encode kind value) known left old new failure = EncodeWordFails kind value.now old new failure
 CommandFails reads steady (Decode kind hex) known left old new failure = DecodeWordFails reads steady kind hex.now known left old new failure
 CommandFails reads steady (DecodeAll expression hex) known left old new failure = DecodeAllFails reads steady expression.now hex.now known left old new failure
+CommandFails reads steady (EncodeChecked name expression value) known left old new failure = EncodeCheckedFails name.now expression.now value.now old new failure
+CommandFails reads steady (DecodeChecked name expression hex) known left old new failure = DecodeCheckedFails reads steady name.now expression.now hex.now known left old new failure
 CommandFails reads steady Frames known left old new failure = FramesFail steady known left old new failure
 CommandFails reads steady (FramesOf expression longest) known left old new failure = StreamFails steady expression.now longest known left old new failure
+CommandFails reads steady (FramesChecked name expression) known left old new failure = StreamCheckedFails steady name.now expression.now known left old new failure
 CommandFails reads steady (Explain expression hex all) known left old new failure = ExplainFails reads steady expression.now hex.now all known left old new failure
 CommandFails reads steady Types known left old new failure = failure ≡ Output
+CommandFails reads steady (ChecksumOf name hex) known left old new failure = ChecksumFails reads steady name.now hex.now known left old new failure
+CommandFails reads steady Catalog known left old new failure = failure ≡ Output
 
 -- The failures of a call of these words: `Usage` if and only if they are no call, and else one of
 -- the command.

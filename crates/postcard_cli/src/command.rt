@@ -56,7 +56,7 @@ impl ValueType {
 }
 
 /// Returns whether a word counts as a type expression: whether it begins with `(`, `[` or `{`, ends
-/// with `?`, or has a `|` in it. No name of a type does.
+/// with `?`, has a `|` in it, or is `f32` or `f64`. No name of a type does.
 pub fn is_expression(word: &str) -> bool
     ensures { result ≡ looks_like_expression word.now }
 {
@@ -66,6 +66,8 @@ pub fn is_expression(word: &str) -> bool
         || bytes.starts_with(b"{")
         || bytes.ends_with(b"?")
         || bytes.contains(&b'|')
+        || bytes == b"f32".as_slice()
+        || bytes == b"f64".as_slice()
 }
 
 /// The type that the word TYPE stands for.
@@ -112,6 +114,18 @@ pub enum Command<'a> {
         expression: &'a str,
         hex: &'a str,
     },
+    /// `enc --crc NAME TYPE VALUE`, where TYPE is taken as an expression.
+    EncodeChecked {
+        name: &'a str,
+        expression: &'a str,
+        value: &'a str,
+    },
+    /// `dec --crc NAME TYPE HEX`, where TYPE is taken as an expression.
+    DecodeChecked {
+        name: &'a str,
+        expression: &'a str,
+        hex: &'a str,
+    },
     /// `frames`.
     Frames,
     /// `frames TYPE` or `frames --longest N TYPE`, where TYPE is an expression, and a frame has at
@@ -119,6 +133,11 @@ pub enum Command<'a> {
     FramesOf {
         expression: &'a str,
         longest: usize,
+    },
+    /// `frames --crc NAME TYPE`, where TYPE is taken as an expression.
+    FramesChecked {
+        name: &'a str,
+        expression: &'a str,
     },
     /// `explain TYPE HEX` or `explain --all TYPE HEX`, where TYPE is taken as an expression, and `all`
     /// is whether nothing is cut.
@@ -129,6 +148,13 @@ pub enum Command<'a> {
     },
     /// `types`.
     Types,
+    /// `crc NAME HEX`.
+    Checksum {
+        name: &'a str,
+        hex: &'a str,
+    },
+    /// `crc`.
+    Catalog,
 }
 
 impl<'a> Command<'a> {
@@ -150,6 +176,13 @@ impl<'a> Command<'a> {
                 number.as_str(),
                 kind.as_str(),
             ),
+            [command, option, name, kind, text] => Command::checked(
+                command.as_str(),
+                option.as_str(),
+                name.as_str(),
+                kind.as_str(),
+                text.as_str(),
+            ),
             _ => None,
         }
     }
@@ -162,6 +195,7 @@ impl<'a> Command<'a> {
         match command {
             "frames" => Some(Command::Frames),
             "types" => Some(Command::Types),
+            "crc" => Some(Command::Catalog),
             _ => None,
         }
     }
@@ -192,6 +226,10 @@ impl<'a> Command<'a> {
                 hex: text,
                 all: false,
             }),
+            "crc" => Some(Command::Checksum {
+                name: kind,
+                hex: text,
+            }),
             _ => Command::of_known_type(command, kind, text),
         }
     }
@@ -201,7 +239,7 @@ impl<'a> Command<'a> {
     fn of_known_type(command: &'a str, kind: &'a str, text: &'a str) -> Option<Command<'a>>
         ensures found { IfSome result
             (λ found. IsCallOf (command.now ∷ kind.now ∷ text.now ∷ []) found) }
-        ensures none { IfNone result (command.now ≢ codes "explain"
+        ensures none { IfNone result (command.now ≢ codes "explain" → command.now ≢ codes "crc"
             → IsNoCall (command.now ∷ kind.now ∷ text.now ∷ [])) }
     {
         let Some(word) = TypeWord::from_word(kind) else {
@@ -243,6 +281,38 @@ impl<'a> Command<'a> {
         }
     }
 
+    /// Returns the command of a call of five words: a command, an option, the name of a checksum, a
+    /// type and a text.
+    fn checked(
+        command: &'a str,
+        option: &'a str,
+        name: &'a str,
+        kind: &'a str,
+        text: &'a str,
+    ) -> Option<Command<'a>>
+        ensures found { IfSome result (λ found. IsCallOf
+            (command.now ∷ option.now ∷ name.now ∷ kind.now ∷ text.now ∷ []) found) }
+        ensures none { IfNone result (IsNoCall
+            (command.now ∷ option.now ∷ name.now ∷ kind.now ∷ text.now ∷ [])) }
+    {
+        if option != "--crc" {
+            return None;
+        }
+        match command {
+            "enc" => Some(Command::EncodeChecked {
+                name,
+                expression: kind,
+                value: text,
+            }),
+            "dec" => Some(Command::DecodeChecked {
+                name,
+                expression: kind,
+                hex: text,
+            }),
+            _ => None,
+        }
+    }
+
     /// Returns the command of `explain` with three words after it: an option, a type and a text.
     fn uncut(option: &'a str, kind: &'a str, text: &'a str) -> Option<Command<'a>>
         ensures found { IfSome result (λ found.
@@ -267,15 +337,19 @@ impl<'a> Command<'a> {
         ensures none { IfNone result
             (IsNoCall (codes "frames" ∷ option.now ∷ number.now ∷ kind.now ∷ [])) }
     {
-        if option != "--longest" || !is_expression(kind) {
-            return None;
-        }
-        match longest(number) {
-            Some(longest) => Some(Command::FramesOf {
+        match option {
+            "--longest" if is_expression(kind) => match longest(number) {
+                Some(longest) => Some(Command::FramesOf {
+                    expression: kind,
+                    longest,
+                }),
+                None => None,
+            },
+            "--crc" => Some(Command::FramesChecked {
+                name: number,
                 expression: kind,
-                longest,
             }),
-            None => None,
+            _ => None,
         }
     }
 }

@@ -5,6 +5,7 @@
 //! any writer.
 #![tactic(auto)]
 
+pub mod checksum;
 pub mod command;
 pub mod explain;
 pub mod failure;

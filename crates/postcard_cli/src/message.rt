@@ -1,17 +1,22 @@
 //! The commands `enc`, `dec` and `decs` for messages whose type is an expression.
 
-ghost use Rattle.std.specs.Prelude.{◌≡◌, IfOk, IfErr, OnOk};
+ghost use Rattle.std.specs.Prelude.{◌≡◌, ◌≤◌, ◌-◌, IfOk, IfErr, OnOk, length, take};
 ghost use Rattle.postcard_dyn_schema.specs.Grammar.{IsExpression};
 ghost use Rattle.postcard_dyn.specs.declared.value.Value.{Value};
+ghost use Rattle.postcard_cli.specs.Checked.{IsEncoding, PrintsEncodedChecked, PrintsFirstChecked};
+ghost use Rattle.postcard_cli.specs.Checksum.{IsTrailer};
 ghost use Rattle.postcard_cli.specs.Message.{line_of, Prints, PrintsAll, PrintsEncoded, PrintsFirst};
 ghost use Rattle.postcard_cli.specs.Message.{ReadsValue};
 ghost use Rattle.postcard_cli.specs.Refusal.{DecodeAllFails, DecodeFails, EncodeFails, FrontFails};
+ghost use Rattle.postcard_cli.specs.Refusal.{DecodeCheckedFails, EncodeCheckedFails, TrailerFails};
 ghost use Rattle.postcard_cli.specs.Refusal.{TypeFails};
 
+use crate::checksum::Checksum;
 use crate::failure::Failure;
-use crate::hexadecimal;
 use crate::program::BUFFER;
 use crate::stream::READS;
+use crate::{checksum, hexadecimal};
+use arrayvec::ArrayVec;
 use postcard_de_flavors::Source;
 use postcard_dyn::{Problem, Schema, Value, parse, refused_at, take_from_bytes, to_flavor};
 use postcard_dyn_text::{Shown, TextError, read_text};
@@ -62,6 +67,51 @@ pub fn encode<W: Write>(
     ensures refused { IfErr result (EncodeFails expression.now value.now
         (W.contents output.old) (W.contents output.new)) }
 {
+    let encoding = encoding_of(alloc, expression, value, output)?;
+    hexadecimal::write(&encoding, output)?;
+    writeln!(output)?;
+    Ok(())
+}
+
+/// Encodes the value of a text, and prints its encoding and the bytes of its checksum by the
+/// algorithm with this name, the lowest first, as hexadecimal on a line.
+///
+/// # Errors
+///
+/// Fails as [`checksum::named`] and [`encode`] do. The 4,096 bytes are those of the encoding.
+pub fn encode_checked<W: Write>(
+    alloc: Global,
+    name: &str,
+    expression: &str,
+    value: &str,
+    output: &mut W,
+) -> Result<(), Failure>
+    ensures printed { OnOk result (PrintsEncodedChecked name.now expression.now value.now
+        (W.contents output.old) (W.contents output.new)) }
+    ensures refused { IfErr result (EncodeCheckedFails name.now expression.now value.now
+        (W.contents output.old) (W.contents output.new)) }
+{
+    let checksum = checksum::named(name, output)?;
+    let message = encoding_of(alloc, expression, value, output)?;
+    hexadecimal::write(&message, output)?;
+    checksum.write_trailer(&message, output)?;
+    writeln!(output)?;
+    Ok(())
+}
+
+/// Returns the encoding of the value of a text. Fails as [`encode`] does.
+fn encoding_of<W: Write>(
+    alloc: Global,
+    expression: &str,
+    value: &str,
+    output: &mut W,
+) -> Result<ArrayVec<u8, BUFFER>, Failure>
+    ensures encodes { IfOk result
+        (λ encoding. IsEncoding expression.now value.now encoding.items) }
+    ensures untouched { OnOk result (output.new ≡ output.old) }
+    ensures refused { IfErr result (EncodeFails expression.now value.now
+        (W.contents output.old) (W.contents output.new)) }
+{
     let schema = schema_of(alloc, expression, output)?;
     let value = match read_text(alloc, &schema, value) {
         Ok(value) => value,
@@ -71,10 +121,10 @@ pub fn encode<W: Write>(
         }
         Err(TextError::OutOfMemory) => return Err(Failure::from(Error::OutOfMemory)),
     };
-    let message = to_flavor(&value, HVec::<BUFFER>::new())?;
-    hexadecimal::write(&message, output)?;
-    writeln!(output)?;
-    Ok(())
+    match to_flavor(&value, HVec::<BUFFER>::new()) {
+        Ok(encoding) => Ok(encoding),
+        Err(error) => Err(Failure::from(error)),
+    }
 }
 
 /// Decodes a value from the front of the bytes of HEX, and prints it on a line, and the bytes after
@@ -103,6 +153,67 @@ pub fn decode<R: Source, W: Write>(
     hexadecimal::write(rest, output)?;
     writeln!(output)?;
     Ok(())
+}
+
+/// Decodes a value from the front of the bytes of HEX, checks that the checksum of its message by the
+/// algorithm with this name follows, and prints the value on a line, and the bytes after the
+/// checksum as hexadecimal on a second.
+///
+/// # Errors
+///
+/// Fails as [`checksum::named`] and [`decode`] do, and with `Library(DeserializeBadCrc)` or, if fewer
+/// bytes follow, `Library(DeserializeUnexpectedEnd)` if it isn't the checksum that follows, after
+/// the place where it should begin is printed.
+pub fn decode_checked<R: Source, W: Write>(
+    alloc: Global,
+    name: &str,
+    expression: &str,
+    hex: &str,
+    input: &mut R,
+    output: &mut W,
+) -> Result<(), Failure>
+    ensures printed { OnOk result (PrintsFirstChecked name.now expression.now hex.now
+        (R.remaining input.old) (R.remaining input.new)
+        (W.contents output.old) (W.contents output.new)) }
+    ensures refused { IfErr result (DecodeCheckedFails READS (R.steady input.old) name.now
+        expression.now hex.now (R.remaining input.old) (R.remaining input.new)
+        (W.contents output.old) (W.contents output.new)) }
+{
+    let checksum = checksum::named(name, output)?;
+    let schema = schema_of(alloc, expression, output)?;
+    let bytes = hexadecimal::read_loose(alloc, hex, input)?;
+    let (value, behind) = read_front(alloc, &schema, &bytes, &bytes, output)?;
+    let left = skip_trailer(checksum, &bytes, behind, output)?;
+    print_value(&schema, &value, output)?;
+    hexadecimal::write(left, output)?;
+    writeln!(output)?;
+    Ok(())
+}
+
+/// Returns what follows the checksum of the bytes of `all` before `behind`, its last, with which
+/// `behind` is to begin. If it doesn't, prints the offset in `all` where it does.
+fn skip_trailer<'a, W: Write>(
+    checksum: Checksum,
+    all: &[u8],
+    behind: &'a [u8],
+    output: &mut W,
+) -> Result<&'a [u8], Failure>
+    requires { length behind.now ≤ length all.now }
+    ensures follows { IfOk result (λ rest. IsTrailer checksum
+        (take (length all.now - length behind.now) all.now) behind.now rest.now) }
+    ensures untouched { OnOk result (output.new ≡ output.old) }
+    ensures refused { IfErr result (TrailerFails checksum
+        (take (length all.now - length behind.now) all.now) behind.now
+        (W.contents output.old) (W.contents output.new)) }
+{
+    let start = all.len() - behind.len();
+    match checksum.after_trailer(&all[..start], behind) {
+        Ok(rest) => Ok(rest),
+        Err(error) => {
+            write!(output, "at byte {start}: ")?;
+            Err(Failure::from(error))
+        }
+    }
 }
 
 /// Decodes values one after another until no byte of HEX is left, and prints each on a line.
@@ -154,11 +265,27 @@ fn print_front<'a, W: Write>(
     ensures refused { IfErr result (FrontFails schema.now all.now rest.now
         (W.contents output.old) (W.contents output.new)) }
 {
+    let (value, after) = read_front(alloc, schema, all, rest, output)?;
+    print_value(schema, &value, output)?;
+    Ok(after)
+}
+
+/// Decodes a value from the front of `rest`, the last of the bytes `all`. Returns it, and the bytes
+/// after it. If the bytes are refused, prints the offset in `all` of the part that can't be read.
+fn read_front<'a, W: Write>(
+    alloc: Global,
+    schema: &Schema,
+    all: &[u8],
+    rest: &'a [u8],
+    output: &mut W,
+) -> Result<(Value, &'a [u8]), Failure>
+    ensures read { IfOk result (λ front. ReadsValue schema.now rest.now front.0 front.1.now) }
+    ensures untouched { OnOk result (output.new ≡ output.old) }
+    ensures refused { IfErr result (FrontFails schema.now all.now rest.now
+        (W.contents output.old) (W.contents output.new)) }
+{
     match take_from_bytes(alloc, schema, rest) {
-        Ok((value, after)) => {
-            print_value(schema, &value, output)?;
-            Ok(after)
-        }
+        Ok((value, after)) => Ok((value, after)),
         Err(Error::OutOfMemory) => Err(Failure::from(Error::OutOfMemory)),
         Err(error) => {
             let before = all.len().saturating_sub(rest.len());

@@ -33,7 +33,7 @@ use crate::failure::Failure;
 use crate::joined::Joined;
 use crate::stream::READS;
 use crate::syntax::SYNTAX;
-use crate::{explain, frames, hexadecimal, message, stream, syntax, value};
+use crate::{checksum, explain, frames, hexadecimal, message, stream, syntax, value};
 use postcard_de::{Deserialize, take_from_bytes};
 use postcard_de_flavors::Source;
 use postcard_ser::{Serialize, Serializer};
@@ -143,17 +143,32 @@ fn carry_out<R: Source, W: Write>(
         Command::DecodeAll { expression, hex } => {
             message::decode_all(alloc, expression, hex, input, output)
         }
+        Command::EncodeChecked {
+            name,
+            expression,
+            value,
+        } => message::encode_checked(alloc, name, expression, value, output),
+        Command::DecodeChecked {
+            name,
+            expression,
+            hex,
+        } => message::decode_checked(alloc, name, expression, hex, input, output),
         Command::Frames => frames::print(alloc, input, output),
         Command::FramesOf {
             expression,
             longest,
         } => { stream::print(alloc, expression, longest, input, output) }
+        Command::FramesChecked { name, expression } => {
+            stream::print_checked(alloc, name, expression, input, output)
+        }
         Command::Explain {
             expression,
             hex,
             all,
         } => explain::print(alloc, expression, hex, all, input, output),
         Command::Types => syntax::print(output),
+        Command::Checksum { name, hex } => checksum::print(alloc, name, hex, input, output),
+        Command::Catalog => checksum::print_catalog(output),
     }
 }
 

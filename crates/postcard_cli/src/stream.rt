@@ -2,26 +2,27 @@
 //! as its frame has ended.
 
 ghost use Rattle.std.specs.Prelude.{◌≡◌, ◌+◌, ◌-◌, ◌^◌, ◌<◌, ◌≤◌, ◌⊎◌, ℕ, List, [], ◌∷◌, ◌++◌, length, codes};
-ghost use Rattle.std.specs.Prelude.{Some, IfOk, IfErr, OnOk, false, min};
+ghost use Rattle.std.specs.Prelude.{Some, IfOk, IfErr, IfSome, IfNone, OnOk, false, min, take};
 ghost use Rattle.std.specs.Fmt.{decimal, ◌++?◌};
 ghost use Rattle.std.specs.Io.KnownBytes.{Appends};
 ghost use Rattle.hex.specs.Hex.{encode_lower};
 ghost use Rattle.postcard_cobs.specs.Groups.{NoZero};
-ghost use Rattle.postcard_dyn_schema.specs.Grammar.{IsExpression};
-ghost use Rattle.postcard_dyn_schema.specs.declared.schema.Schema.{Schema};
 ghost use Rattle.postcard_dyn.specs.Tree.{tree};
 ghost use Rattle.postcard_dyn_text.specs.Shown.{layout_of, text};
 ghost use Rattle.postcard_cli.specs.Message.{Prints};
 ghost use Rattle.postcard_cli.specs.Receiving.{Continues, IsSame, PrintsAnswer, PrintsMessage};
 ghost use Rattle.postcard_cli.specs.Receiving.{ReadFails, Reads};
-ghost use Rattle.postcard_cli.specs.Refusal.{StreamFails};
-ghost use Rattle.postcard_cli.specs.Stream.{PrintsValues, more_text, noun_of, reason_text};
+ghost use Rattle.postcard_cli.specs.Refusal.{StreamCheckedFails, StreamFails, ValuesFail};
+ghost use Rattle.postcard_cli.specs.Stream.{IsBehind, IsNamed, IsPlain, LacksChecksum, PrintsValues};
+ghost use Rattle.postcard_cli.specs.Stream.{more_text, noun_of, reason_text};
+ghost use Rattle.postcard_cli.specs.declared.stream.Format.{Format};
 
+use crate::checksum::Checksum;
 use crate::failure::Failure;
-use crate::hexadecimal;
 use crate::message::schema_of;
 use crate::place::place_of;
 use crate::reason::reason;
+use crate::{checksum, hexadecimal};
 use postcard_cobs::{decode_in_place, frame_len};
 use postcard_de_flavors::Source;
 use postcard_dyn::{Schema, Value, take_from_bytes};
@@ -65,18 +66,79 @@ pub fn print<R: Source, W: Write>(
     input: &mut R,
     output: &mut W,
 ) -> Result<(), Failure>
-    ensures printed { OnOk result ((schema : Schema) × IsExpression schema expression.now
-        × PrintsValues schema longest (R.remaining input.old) (R.remaining input.new)
+    ensures printed { OnOk result ((format : Format) × IsPlain format expression.now
+        × PrintsValues format longest (R.remaining input.old) (R.remaining input.new)
         (W.contents output.old) (W.contents output.new)) }
     ensures refused { IfErr result (StreamFails (R.steady input.old) expression.now longest
         (R.remaining input.old) (R.remaining input.new)
         (W.contents output.old) (W.contents output.new)) }
 {
     let schema = schema_of(alloc, expression, output)?;
+    let format = Format {
+        schema,
+        checksum: None,
+    };
+    print_values(alloc, &format, longest, input, output)
+}
+
+/// Does the same for frames whose data is a message and then the bytes of its checksum by the
+/// algorithm with this name, the lowest first. The line of a frame in which the message isn't
+/// followed by its checksum is an `error` too. A frame has at most [`LONGEST`] bytes.
+///
+/// # Errors
+///
+/// Fails as [`checksum::named`] and [`print`] do.
+pub fn print_checked<R: Source, W: Write>(
+    alloc: Global,
+    name: &str,
+    expression: &str,
+    input: &mut R,
+    output: &mut W,
+) -> Result<(), Failure>
+    ensures printed { OnOk result ((format : Format) × IsNamed format name.now expression.now
+        × PrintsValues format LONGEST (R.remaining input.old) (R.remaining input.new)
+        (W.contents output.old) (W.contents output.new)) }
+    ensures refused { IfErr result (StreamCheckedFails (R.steady input.old) name.now expression.now
+        (R.remaining input.old) (R.remaining input.new)
+        (W.contents output.old) (W.contents output.new)) }
+{
+    let checksum = checksum::named(name, output)?;
+    let schema = schema_of(alloc, expression, output)?;
+    let format = Format {
+        schema,
+        checksum: Some(checksum),
+    };
+    print_values(alloc, &format, LONGEST, input, output)
+}
+
+/// What the data of a frame is: a message of a type, and the checksum behind it, if there is one.
+#[derive(Drop)]
+pub struct Format {
+    /// The type.
+    pub schema: Schema,
+    /// The algorithm of the checksum.
+    pub checksum: Option<Checksum>,
+}
+
+/// Reads frames of this format until the input ends, and prints their lines.
+fn print_values<R: Source, W: Write>(
+    alloc: Global,
+    format: &Format,
+    longest: usize,
+    input: &mut R,
+    output: &mut W,
+) -> Result<(), Failure>
+    ensures printed { OnOk result (PrintsValues format.now longest
+        (R.remaining input.old) (R.remaining input.new)
+        (W.contents output.old) (W.contents output.new)) }
+    ensures refused { IfErr result (ValuesFail (R.steady input.old) format.now longest
+        (R.remaining input.old) (R.remaining input.new)
+        (W.contents output.old) (W.contents output.new)) }
+{
     let mut chunk = [0; CHUNK];
     let mut stream = Stream::new(alloc, longest);
     'reads: for _ in 0..READS {
-        let more = stream.read(alloc, &schema, &mut chunk, input, output)?;
+        let more = stream.read(alloc, format, &mut chunk, input, output)?;
         if !more {
             return Ok(());
         }
@@ -125,13 +187,13 @@ impl Stream {
     fn read<R: Source, W: Write>(
         &mut self,
         alloc: Global,
-        schema: &Schema,
+        format: &Format,
         chunk: &mut [u8],
         input: &mut R,
         output: &mut W,
     ) -> Result<bool, Failure>
         requires { 0 < length chunk.old }
-        ensures read { IfOk result (Reads schema.now self.old self.new
+        ensures read { IfOk result (Reads format.now self.old self.new
             (R.remaining input.old) (R.remaining input.new)
             (W.contents output.old) (W.contents output.new)) }
         ensures stays_steady { R.steady input.old → R.steady input.new }
@@ -143,7 +205,7 @@ impl Stream {
             Ok(count) => count,
             Err(_) => return Err(Failure::ReadFailed),
         };
-        self.take(alloc, schema, &chunk[..count], output)?;
+        self.take(alloc, format, &chunk[..count], output)?;
         output.flush()?;
         Ok(count > 0)
     }
@@ -152,11 +214,11 @@ impl Stream {
     fn take<W: Write>(
         &mut self,
         alloc: Global,
-        schema: &Schema,
+        format: &Format,
         piece: &[u8],
         output: &mut W,
     ) -> Result<(), Failure>
-        ensures printed { OnOk result (Continues schema.now self.old piece.now self.new
+        ensures printed { OnOk result (Continues format.now self.old piece.now self.new
             (W.contents output.old) (W.contents output.new)) }
         ensures refused { IfErr result (λ e. (e ≡ Failure.OutOfMemory) ⊎ (e ≡ Failure.Output)) }
     {
@@ -164,11 +226,11 @@ impl Stream {
         'parts: while !rest.is_empty() {
             let end = frame_len(rest);
             let (part, after) = rest.split_at(end);
-            self.hold(schema, part, output)?;
+            self.hold(format, part, output)?;
             if end == rest.len() {
                 return Ok(());
             }
-            self.end_frame(alloc, schema, output)?;
+            self.end_frame(alloc, format, output)?;
             let (_, more) = after.split_at(1);
             rest = more;
         }
@@ -178,16 +240,16 @@ impl Stream {
     /// Takes bytes without a zero. Prints the line of their frame if it becomes too long.
     fn hold<W: Write>(
         &mut self,
-        schema: &Schema,
+        format: &Format,
         part: &[u8],
         output: &mut W,
     ) -> Result<(), Failure>
         ensures printed { OnOk result (NoZero part.now
-            → Continues schema.now self.old part.now self.new
+            → Continues format.now self.old part.now self.new
             (W.contents output.old) (W.contents output.new)) }
         ensures refused { IfErr result (λ e. (e ≡ Failure.OutOfMemory) ⊎ (e ≡ Failure.Output)) }
     {
-        let _ = schema;
+        let _ = format;
         self.count = self.count.saturating_add(part.len() as u64);
         if self.skipping {
             return Ok(());
@@ -208,10 +270,10 @@ impl Stream {
     fn end_frame<W: Write>(
         &mut self,
         alloc: Global,
-        schema: &Schema,
+        format: &Format,
         output: &mut W,
     ) -> Result<(), Failure>
-        ensures printed { OnOk result (Continues schema.now self.old (0 ∷ []) self.new
+        ensures printed { OnOk result (Continues format.now self.old (0 ∷ []) self.new
             (W.contents output.old) (W.contents output.new)) }
         ensures refused { IfErr result (λ e. (e ≡ Failure.OutOfMemory) ⊎ (e ≡ Failure.Output)) }
     {
@@ -219,7 +281,7 @@ impl Stream {
             self.begin_frame();
             return Ok(());
         }
-        self.print_frame(alloc, schema, output)?;
+        self.print_frame(alloc, format, output)?;
         self.begin_frame();
         Ok(())
     }
@@ -242,11 +304,11 @@ impl Stream {
     fn print_frame<W: Write>(
         &mut self,
         alloc: Global,
-        schema: &Schema,
+        format: &Format,
         output: &mut W,
     ) -> Result<(), Failure>
         ensures printed { OnOk result (NoZero self.old.held.items
-            → PrintsAnswer schema.now self.old.longest self.old.start self.old.held.items
+            → PrintsAnswer format.now self.old.longest self.old.start self.old.held.items
             (W.contents output.old) (W.contents output.new)) }
         ensures kept { OnOk result (IsSame self.old self.new) }
         ensures refused { IfErr result (λ e. (e ≡ Failure.OutOfMemory) ⊎ (e ≡ Failure.Output)) }
@@ -257,7 +319,7 @@ impl Stream {
         }
         print_answer(
             alloc,
-            schema,
+            format,
             self.start,
             &self.held,
             &mut self.message,
@@ -280,14 +342,14 @@ fn print_overfull<W: Write>(start: u64, output: &mut W) -> Result<(), Failure>
 /// Prints the line of the frame at this offset, whose data is put into `message`.
 fn print_answer<W: Write>(
     alloc: Global,
-    schema: &Schema,
+    format: &Format,
     start: u64,
     frame: &[u8],
     message: &mut Vec<u8>,
     output: &mut W,
 ) -> Result<(), Failure>
     ensures printed { OnOk result (NoZero frame.now → (longest : ℕ)
-        → length frame.now + 1 ≤ longest → PrintsAnswer schema.now longest start frame.now
+        → length frame.now + 1 ≤ longest → PrintsAnswer format.now longest start frame.now
         (W.contents output.old) (W.contents output.new)) }
     ensures refused { IfErr result (λ e. (e ≡ Failure.OutOfMemory) ⊎ (e ≡ Failure.Output)) }
 {
@@ -295,13 +357,13 @@ fn print_answer<W: Write>(
     if message.extend_from_slice(frame).is_err() {
         return Err(Failure::OutOfMemory);
     }
-    print_decoded(alloc, schema, start, frame, message, output)
+    print_decoded(alloc, format, start, frame, message, output)
 }
 
 /// Prints the line of the frame at this offset, of which `buffer` is a copy, in which it is decoded.
 fn print_decoded<W: Write>(
     alloc: Global,
-    schema: &Schema,
+    format: &Format,
     start: u64,
     frame: &[u8],
     buffer: &mut [u8],
@@ -309,12 +371,12 @@ fn print_decoded<W: Write>(
 ) -> Result<(), Failure>
     requires { buffer.old ≡ frame.now }
     ensures printed { OnOk result (NoZero frame.now → (longest : ℕ)
-        → length frame.now + 1 ≤ longest → PrintsAnswer schema.now longest start frame.now
+        → length frame.now + 1 ≤ longest → PrintsAnswer format.now longest start frame.now
         (W.contents output.old) (W.contents output.new)) }
     ensures refused { IfErr result (λ e. (e ≡ Failure.OutOfMemory) ⊎ (e ≡ Failure.Output)) }
 {
     match decode_in_place(buffer) {
-        Ok(count) => print_message(alloc, schema, start, &buffer[..count], output)?,
+        Ok(count) => print_message(alloc, format, start, &buffer[..count], output)?,
         Err(_) => print_damaged(start, frame, output)?,
     }
     Ok(())
@@ -336,22 +398,56 @@ fn print_damaged<W: Write>(start: u64, frame: &[u8], output: &mut W) -> Result<(
 /// Prints the line of the frame at this offset with this data.
 fn print_message<W: Write>(
     alloc: Global,
-    schema: &Schema,
+    format: &Format,
     start: u64,
     message: &[u8],
     output: &mut W,
 ) -> Result<(), Failure>
-    ensures printed { OnOk result (PrintsMessage schema.now start message.now
+    ensures printed { OnOk result (PrintsMessage format.now start message.now
         (W.contents output.old) (W.contents output.new)) }
     ensures refused { IfErr result (λ e. (e ≡ Failure.OutOfMemory) ⊎ (e ≡ Failure.Output)) }
 {
-    match take_from_bytes(alloc, schema, message) {
-        Ok((value, rest)) => print_value(schema, &value, rest, output),
+    match take_from_bytes(alloc, &format.schema, message) {
+        Ok((value, behind)) => match rest_of(format.checksum, message, behind) {
+            Some(rest) => print_value(&format.schema, &value, rest, output),
+            None => print_unchecked(start, message, output),
+        },
         Err(error) => match error {
             Error::OutOfMemory => Err(Failure::OutOfMemory),
-            _ => print_unread(alloc, schema, start, message, &error, output),
+            _ => print_unread(alloc, &format.schema, start, message, &error, output),
         },
     }
+}
+
+/// Returns what follows the message of `bytes` before `behind`, its last bytes: without a checksum
+/// `behind` itself, and else what follows its checksum, or `None` if `behind` doesn't begin with it.
+fn rest_of<'a>(checksum: Option<Checksum>, bytes: &[u8], behind: &'a [u8]) -> Option<&'a [u8]>
+    requires { length behind.now ≤ length bytes.now }
+    ensures follows { IfSome result (λ rest. IsBehind checksum
+        (take (length bytes.now - length behind.now) bytes.now) behind.now rest.now) }
+    ensures lacks { IfNone result (LacksChecksum checksum
+        (take (length bytes.now - length behind.now) bytes.now) behind.now) }
+{
+    let Some(checksum) = checksum else {
+        return Some(behind);
+    };
+    match checksum.after_trailer(&bytes[..bytes.len() - behind.len()], behind) {
+        Ok(rest) => Some(rest),
+        Err(_) => None,
+    }
+}
+
+/// Prints that the checksum in this data of the frame at this offset is wrong, and the data.
+fn print_unchecked<W: Write>(start: u64, content: &[u8], output: &mut W) -> Result<(), Failure>
+    ensures printed { OnOk result (Appends (W.contents output.old) (W.contents output.new)
+        ((codes "error at byte " ++ (decimal start ++ codes ": bad checksum: "))
+        ++ (encode_lower content.now ++ 10 ∷ []))) }
+    ensures refused { IfErr result (λ e. e ≡ Failure.Output) }
+{
+    write!(output, "error at byte {start}: bad checksum: ")?;
+    hexadecimal::write(content, output)?;
+    writeln!(output)?;
+    Ok(())
 }
 
 /// Prints at which place this data of the frame at this offset is refused, and why, and the data.

@@ -10,6 +10,7 @@ use std::io::Write;
 pub const SYNTAX: &str = "\
 u8 u16 u32 u64 u128 usize   a number without a sign: 42
 i8 i16 i32 i64 i128 isize   a number with a sign: -42
+f32 f64                     a floating-point number: 1.5, 1e30, -0.0, inf or nan
 bool                        a truth value: true
 char                        a character: 'x'
 str                         a text: \"a \\\"b\\\"\\n\"
@@ -24,7 +25,7 @@ T?                          an option, (u8?): None or Some(7)
 {K => V}                    a map, {u8 => bool}: {1 => true}
 A | B(T, U) | C{name: T}    an enum, Boot | Reading(u16, i32) | Fault{code: u8}: Reading(1, -2)
 | A(T, U)                   an enum with one variant, | Reading(u16, i32): Reading(1, -2)
-Where a type is asked for, an expression begins with ( [ or {, ends with ?, or holds |.
+Where a type is asked for, an expression begins with ( [ or {, ends with ?, holds |, or is f32 or f64.
 So (u8) is the expression u8. HEX may have blanks and 0x, and - reads it from the input.
 ";
 

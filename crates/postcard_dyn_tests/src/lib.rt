@@ -5,6 +5,8 @@
 #[cfg(test)]
 mod calls;
 #[cfg(test)]
+mod checksums;
+#[cfg(test)]
 mod explain;
 #[cfg(test)]
 mod expressions;

@@ -1,12 +1,18 @@
-use Rattle.postcard_cli.proofs.StreamLemmas.{message_value, message_refused}
+use Rattle.postcard_cli.proofs.StreamLemmas.{message_value, message_refused, message_unchecked}
 use Rattle.postcard_cli.proofs.stream.print_message.Goals as goal
+
+pub returns-in-Some-clause-printed : goal.returns-in-Some-clause-printed
+returns-in-Some-clause-printed g c =
+    message_value c.print_value.result c.args.format.now c.args.start c.args.message.now c.in-Ok.behind.now c.in-Ok.value c.in-Some.rest.now _ _ c.in-Ok.ensures.gives
+    c.in-Some.ensures.follows c.print_value.ensures.printed
 
 pub returns-in-Ok-clause-printed : goal.returns-in-Ok-clause-printed
 returns-in-Ok-clause-printed g c =
-    message_value c.print_value.result c.args.schema.now c.args.start c.args.message.now c.in-Ok.value c.in-Ok.rest.now _ _ c.in-Ok.ensures.gives c.print_value.ensures.printed
+    message_unchecked c.print_unchecked.result c.args.format.now c.args.start c.args.message.now c.in-Ok.behind.now c.in-Ok.value _ _ c.in-Ok.ensures.gives
+    c.in-None.ensures.lacks c.print_unchecked.ensures.printed
 
-pub returns-in_default-clause-printed : goal.returns-in_default-clause-printed
-returns-in_default-clause-printed g c =
-    message_refused c.print_unread.result c.args.schema.now c.args.start c.args.message.now c.in-Err.error _ _
+pub returns-clause-printed : goal.returns-clause-printed
+returns-clause-printed g c =
+    message_refused c.print_unread.result c.args.format.now c.args.start c.args.message.now c.in-Err.error _ _
     (λ v rest r. c.in_default.not-OutOfMemory (c.in-Err.ensures.accepts r.tree r.front rest r.is_read r.is_spelled r.joins)) c.in-Err.ensures.named_error
     c.in_default.not-OutOfMemory c.print_unread.ensures.printed

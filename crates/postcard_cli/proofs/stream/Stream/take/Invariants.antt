@@ -6,7 +6,7 @@ use Rattle.postcard_cli.proofs.stream.Stream.take.Given as goal
 abbrev pub invariant-parts : goal.invariant-parts
 invariant-parts g l =
     (eaten : List ℕ) × (l.piece ≡ eaten ++ l.rest)
-    × Continues l.schema l.fn.self eaten l.self (g.W.Write.contents l.fn.output) (g.W.Write.contents l.output)
+    × Continues l.format l.fn.self eaten l.self (g.W.Write.contents l.fn.output) (g.W.Write.contents l.output)
 
 abbrev pub decreases-parts : goal.decreases-parts
 decreases-parts g l = length l.rest

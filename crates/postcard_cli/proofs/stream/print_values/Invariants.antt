@@ -2,14 +2,14 @@
 use Rattle.std.proofs.Common.{◌≡◌, ◌≤◌, ℕ, List, length}
 use Rattle.std.specs.Io.KnownBytes.{Consumes}
 use Rattle.postcard_cli.specs.Receiving.{IsAfter}
-use Rattle.postcard_cli.proofs.stream.print.Given as goal
+use Rattle.postcard_cli.proofs.stream.print_values.Given as goal
 
 abbrev pub invariant-reads : goal.invariant-reads
 invariant-reads g l = record {
-  same : l.schema ≡ l.initial.schema;
+  same : l.format ≡ l.initial.format;
   given : List ℕ;
   count : l.counter ≤ length given;
   reader : Consumes (g.R.Read.remaining l.fn.input) (g.R.Read.remaining l.input) given;
   steady : g.R.Source.steady l.fn.input → g.R.Source.steady l.input;
-  lines : IsAfter l.schema l.fn.longest given l.stream (g.W.Write.contents l.initial.output) (g.W.Write.contents l.output);
+  lines : IsAfter l.format l.fn.longest given l.stream (g.W.Write.contents l.initial.output) (g.W.Write.contents l.output);
 }
