@@ -1,0 +1,7 @@
+use Rattle.postcard_cli.proofs.program.carry_out.Goals as goal
+
+pub returns-in-FramesOf-clause-printed : goal.returns-in-FramesOf-clause-printed
+returns-in-FramesOf-clause-printed g c = rw c.in-FramesOf.is c.print-in-FramesOf.ensures.printed
+
+pub returns-in-FramesChecked-clause-printed : goal.returns-in-FramesChecked-clause-printed
+returns-in-FramesChecked-clause-printed g c = rw c.in-FramesChecked.is c.print_checked.ensures.printed
