@@ -3,7 +3,7 @@
 use arrayvec::ArrayVec;
 use crc::{
     CRC_8_MAXIM_DOW, CRC_16_IBM_SDLC, CRC_16_KERMIT, CRC_16_MODBUS, CRC_16_USB, CRC_16_XMODEM,
-    CRC_32_ISCSI, Crc,
+    CRC_32_ISCSI, CRC_32_ISO_HDLC, CRC_64_XZ, CRC_82_DARC, Crc,
 };
 use postcard_crc::de::{
     from_bytes, from_bytes as from_bytes_crc32, from_bytes_cobs, from_bytes_whole, take_from_bytes,
@@ -171,6 +171,94 @@ fn passing_16(alloc: Global, crc: &Crc<u16>, message: [u8; 6]) -> Result<u64, Er
         }
     }
     Ok(passing)
+}
+
+/// The number after `state` in a sequence by which bursts are sampled (Marsaglia 2003, xorshift).
+fn next(state: u64) -> u64 {
+    let left = state ^ (state << 13);
+    let right = left ^ (left >> 7);
+    right ^ (right << 17)
+}
+
+/// How many of 64,000 bursts of up to 32 bits pass in a frame of eight bytes.
+fn passing_32(alloc: Global, crc: &Crc<u32>, message: [u8; 4]) -> Result<u64, Error> {
+    let mut frame = [0; 8];
+    let _ = to_slice(&message, &mut frame, crc.digest())?;
+    let sent = u64::from_le_bytes(frame);
+    let mut passing: u64 = 0;
+    let mut state: u64 = 0x9e37_79b9_7f4a_7c15;
+    for start in 0..64u32 {
+        for _ in 0..1_000u32 {
+            state = next(state);
+            let came = (sent ^ ((state >> 32) << start)).to_le_bytes();
+            let read = from_bytes_whole::<[u8; 4], _, _>(alloc, &came, crc.digest());
+            if read.is_ok() && u64::from_le_bytes(came) != sent {
+                passing = passing.saturating_add(1);
+            }
+        }
+    }
+    Ok(passing)
+}
+
+/// How many of 64,000 bursts of up to 64 bits pass in a frame of sixteen bytes.
+fn passing_64(alloc: Global, crc: &Crc<u64>, message: [u8; 8]) -> Result<u64, Error> {
+    let mut frame = [0; 16];
+    let _ = to_slice(&message, &mut frame, crc.digest())?;
+    let sent = u128::from_le_bytes(frame);
+    let mut passing: u64 = 0;
+    let mut state: u64 = 0x9e37_79b9_7f4a_7c15;
+    for start in 0..128u32 {
+        for _ in 0..500u32 {
+            state = next(state);
+            let came = (sent ^ (u128::from(state) << start)).to_le_bytes();
+            let read = from_bytes_whole::<[u8; 8], _, _>(alloc, &came, crc.digest());
+            if read.is_ok() && u128::from_le_bytes(came) != sent {
+                passing = passing.saturating_add(1);
+            }
+        }
+    }
+    Ok(passing)
+}
+
+/// How many of 46,000 bursts of up to 82 bits pass in the first sixteen bytes of a frame of twenty, of
+/// whose checksum the last bytes are zero.
+fn passing_82(alloc: Global, crc: &Crc<u128>, message: [u8; 4]) -> Result<u64, Error> {
+    let mut frame = [0; 20];
+    let _ = to_slice(&message, &mut frame, crc.digest())?;
+    let mut front = [0; 16];
+    front.copy_from_slice(&frame[..16]);
+    let sent = u128::from_le_bytes(front);
+    let mut passing: u64 = 0;
+    let mut state: u64 = 0x9e37_79b9_7f4a_7c15;
+    for start in 0..46u32 {
+        for _ in 0..1_000u32 {
+            let low = next(state);
+            state = next(low);
+            let pattern = (u128::from(state >> 46) << 64) | u128::from(low);
+            let came = sent ^ (pattern << start);
+            frame[..16].copy_from_slice(&came.to_le_bytes());
+            let read = from_bytes_whole::<[u8; 4], _, _>(alloc, &frame, crc.digest());
+            if read.is_ok() && came != sent {
+                passing = passing.saturating_add(1);
+            }
+        }
+    }
+    Ok(passing)
+}
+
+#[test]
+fn sampled_bursts_are_refused(rt: HostRuntime) -> Result<(), Fail> {
+    let message = [1, 0xff, 0x5a, 0x80];
+    let passing = passing_32(rt.alloc(), &Crc::new(&CRC_32_ISO_HDLC), message)?;
+    equal(&rt, passing, 0);
+    let passing = passing_32(rt.alloc(), &Crc::new(&CRC_32_ISCSI), message)?;
+    equal(&rt, passing, 0);
+    let longer = [1, 0, 0xff, 0x5a, 7, 0x80, 9, 0];
+    let passing = passing_64(rt.alloc(), &Crc::new(&CRC_64_XZ), longer)?;
+    equal(&rt, passing, 0);
+    let passing = passing_82(rt.alloc(), &Crc::new(&CRC_82_DARC), message)?;
+    equal(&rt, passing, 0);
+    Ok(())
 }
 
 /// Bits in a row are those of the bytes' number, lowest byte first, so each burst is a pattern that
