@@ -89,6 +89,7 @@ static void fail(const char *what) {
         best = 1e300;                                             \
         for (int run = 0; run < 5 || all < 2e8; run++) {          \
             double began = now();                                 \
+            __asm__ volatile("" ::: "memory");                    \
             uint64_t answer = (call);                             \
             double took = now() - began;                          \
             if (answer == UINT64_MAX) fail("a call refused");     \
@@ -200,7 +201,7 @@ static void speed_of_frames(uint8_t zero_every) {
 
 /* What a program in C without a library does for a list of numbers of `width` bytes: it asks for room before each number, and
  * copies it. */
-static uint64_t plain_numbers(const uint8_t *from, size_t count, size_t width, uint8_t *out, size_t size) {
+static inline __attribute__((always_inline)) uint64_t plain_numbers(const uint8_t *from, size_t count, size_t width, uint8_t *out, size_t size) {
     size_t used = 0;
     for (size_t i = 0; i < count; i++) {
         if (size - used < width) return UINT64_MAX;
@@ -210,8 +211,8 @@ static uint64_t plain_numbers(const uint8_t *from, size_t count, size_t width, u
     return used + out[used - 1];
 }
 
-static uint64_t plain_f32s(const uint8_t *from, size_t count, uint8_t *out, size_t size) { return plain_numbers(from, count, 4, out, size); }
-static uint64_t plain_f64s(const uint8_t *from, size_t count, uint8_t *out, size_t size) { return plain_numbers(from, count, 8, out, size); }
+static __attribute__((noinline)) uint64_t plain_f32s(const uint8_t *from, size_t count, uint8_t *out, size_t size) { return plain_numbers(from, count, 4, out, size); }
+static __attribute__((noinline)) uint64_t plain_f64s(const uint8_t *from, size_t count, uint8_t *out, size_t size) { return plain_numbers(from, count, 8, out, size); }
 
 static void tell_beside(const char *row, double nanoseconds, const char *unit, double plain) {
     printf("%-44s %8.2f ns %s, plain C %.2f, ratio %.2f\n", row, nanoseconds, unit, plain, nanoseconds / plain);
@@ -255,13 +256,13 @@ static void make_tables(void) {
         for (int i = 0; i < 256; i++) table[k][i] = table[k - 1][i] >> 8 ^ table[0][table[k - 1][i] & 0xff];
 }
 
-static uint64_t plain_crc32(const uint8_t *bytes, size_t size) {
+static __attribute__((noinline)) uint64_t plain_crc32(const uint8_t *bytes, size_t size) {
     uint32_t value = ~0u;
     for (size_t i = 0; i < size; i++) value = value >> 8 ^ table[0][(value ^ bytes[i]) & 0xff];
     return (uint32_t)~value;
 }
 
-static uint64_t plain_crc32_by_eights(const uint8_t *bytes, size_t size) {
+static __attribute__((noinline)) uint64_t plain_crc32_by_eights(const uint8_t *bytes, size_t size) {
     uint32_t value = ~0u, low, high;
     size_t i = 0;
     for (; i + 8 <= size; i += 8) {
