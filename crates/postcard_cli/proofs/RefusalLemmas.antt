@@ -12,7 +12,7 @@ use Rattle.postcard_ser.specs.Writing.{IsErrorOf}
 use Rattle.postcard_de.specs.Reads.{IsReadError}
 use Rattle.postcard_cli.specs.Command.{IsCallOf}
 use Rattle.postcard_cli.specs.Program.{Form}
-use Rattle.postcard_cli.specs.Hexadecimal.{words_of, HasBadWord}
+use Rattle.postcard_cli.specs.Hexadecimal.{pieces_of, HasBadPart}
 use Rattle.postcard_cli.specs.Message.{lines_of, StandsFor}
 use Rattle.postcard_cli.proofs.MessageLemmas.{Decoded, prints_both}
 use Rattle.postcard_dyn_schema.specs.declared.schema.Schema.{Schema}
@@ -102,7 +102,7 @@ ends_with (Err failure) P Q p q = q
 
 -- The failures of reading the words of HEX itself are failures of reading HEX.
 pub words_fail : {T : Type 0} (reads : ℕ) (steady : Type 0) (hex : List ℕ) (known : Option (List ℕ)) (r : Result T Failure)
-    → IfErr r (λ e. ((e ≡ BadHex) × HasBadWord (words_of hex)) ⊎ (e ≡ Library OutOfMemory)) → hex ≢ codes "-"
+    → IfErr r (λ e. ((e ≡ BadHex) × HasBadPart (pieces_of hex)) ⊎ (e ≡ Library OutOfMemory)) → hex ≢ codes "-"
     → IfErr r (HexFails reads steady hex known known)
 words_fail reads steady hex known (Ok bytes) h own = tt
 words_fail reads steady hex known (Err e) (inl (is, bad)) own =

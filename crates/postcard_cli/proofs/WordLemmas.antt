@@ -1,13 +1,16 @@
 -- Lemmas on the words of a text, word by word, and on the digits of a word.
-use Rattle.std.proofs.Common.{arith, ◌≡◌, ℕ, suc, ◌<◌, ◌≤◌, Bool, true, false, ◌⊎◌, inl, inr, List, [], ◌∷◌, ◌++◌, length, drop, get_or, Some, None, refl, sym, ap, subst, ◌∙◌}
+use Rattle.std.proofs.Common.{arith, ◌≡◌, ◌==◌, ℕ, zero, suc, ◌<◌, ◌≤◌, Bool, true, false, ◌⊎◌, inl, inr, List, [], ◌∷◌, ◌++◌, length, drop, get_or, Option, Some, None, refl, sym, ap, subst, ◌∙◌}
 use Rattle.std.proofs.lemmas.Bool.{cases_lt, le-leb, lt-leb}
 use Rattle.std.proofs.lemmas.List.{append_assoc, append-nil, get_or_default, nil_from_length}
-use Rattle.std.proofs.lemmas.List.Splits.{slice_split-cons_yes, slice_split_at, slice_split_none}
+use Rattle.std.proofs.lemmas.List.Splits.{slice_split-cons_yes, slice_split_at, slice_split_first, slice_split_none}
 use Rattle.std.proofs.lemmas.Str.{NoCharPasses-byte}
 use Rattle.std.proofs.lemmas.Str.Pattern.{starts_text}
 use Rattle.std.specs.Prelude.{nat_eq, nat_le, if◌then◌else◌, codes, filter, All, Ok, IsErr}
 use Rattle.std.specs.Borrow.{Bor}
-use Rattle.std.specs.List.{AllPass, slice_split, starts_with}
+use Rattle.std.specs.List.{AllPass, flat_map, slice_split, starts_with}
+use Rattle.std.proofs.lemmas.Bool.Decides.{nat_tests}
+use Rattle.std.proofs.lemmas.List.Elements.{All-from_get_or}
+use Rattle.std.proofs.lemmas.Str.Pattern.{IsSplitOnceResult, split_once_first, split_parts}
 use Rattle.std.specs.Char.{is_ascii_whitespace}
 use Rattle.std.specs.Str.{NoCharPasses}
 use Rattle.std.specs.Str.Iter.{IsAsciiSeparator, CutsAsciiWord}
@@ -16,7 +19,7 @@ use Rattle.hex.specs.Hex.{decode_of}
 use Rattle.postcard_wire.specs.declared.error.Error.TheVariants.{OutOfMemory}
 use Rattle.postcard_cli.specs.declared.failure.Failure.{Failure}
 use Rattle.postcard_cli.specs.declared.failure.Failure.TheVariants.{BadHex, Library}
-use Rattle.postcard_cli.specs.Hexadecimal.{is_filled, words_of, digits_of, AreBytesOf, HasBadWord}
+use Rattle.postcard_cli.specs.Hexadecimal.{is_filled, words_of, kept, parts_at, digits_of, AreBytesOf, HasBadPart}
 
 -- A blank at the front changes no word.
 words-blank : (b : ℕ) (rest : List ℕ) → is_ascii_whitespace b ≡ true → words_of (b ∷ rest) ≡ words_of rest
@@ -90,47 +93,90 @@ digits-whole word lacks =
     let other : starts_with nat_eq word (codes "0x") ≡ false = sym (starts_text false (codes "0x") word lacks) in
     ap (λ (b : Bool). if b then drop 2 word else word) other
 
--- ---- the words read so far
+-- ---- the parts read so far
 
--- A bad word behind another is one of the words.
-bad_behind : (word : List ℕ) (words : List (List ℕ)) → HasBadWord words → HasBadWord (word ∷ words)
-bad_behind word words (k, bad, low, is, wrong) = (suc k, bad, omega arith, is, wrong)
+-- The parts of two lists in a row spell the bytes of the first and then those of the second.
+bytes_both : (xs ys : List (List ℕ)) (a b : List ℕ) → AreBytesOf xs a → AreBytesOf ys b → AreBytesOf (xs ++ ys) (a ++ b)
+bytes_both [] ys a b h k = subst (λ (t : List ℕ). AreBytesOf ys (t ++ b)) (sym h) k
+bytes_both (x ∷ xs) ys a b (front, rest, is, more, joins) k =
+    (front, rest ++ b, is, bytes_both xs ys rest b more k, ap (λ (t : List ℕ). t ++ b) joins ∙ append_assoc front rest b)
 
--- The bytes so far are those of the words before the rest of the text.
-pub record IsReadUpTo (text bytes rest : List ℕ) : Type 0 where
-  pub gives : (back : List ℕ) → AreBytesOf (words_of rest) back → AreBytesOf (words_of text) (bytes ++ back)
-  pub refuses : HasBadWord (words_of rest) → HasBadWord (words_of text)
+-- A bad part behind another is one of the parts.
+bad_behind : (part : List ℕ) (parts : List (List ℕ)) → HasBadPart parts → HasBadPart (part ∷ parts)
+bad_behind part parts (k, bad, low, is, wrong) = (suc k, bad, omega arith, is, wrong)
 
--- It holds before the first word is read.
-pub up_to-start : (text : List ℕ) → IsReadUpTo text [] text
-up_to-start text = record { gives = λ back h. h; refuses = λ h. h }
+-- A bad part of one of two lists is one of both.
+bad_front : (xs ys : List (List ℕ)) → HasBadPart xs → HasBadPart (xs ++ ys)
+bad_front [] ys (k, bad, low, is, wrong) = absurd (omega arith)
+bad_front (x ∷ xs) ys (zero, bad, low, is, wrong) = (0, bad, omega arith, is, wrong)
+bad_front (x ∷ xs) ys (suc k, bad, low, is, wrong) = bad_behind x (xs ++ ys) (bad_front xs ys (k, bad, omega arith, is, wrong))
 
--- It holds after one more word is read.
-pub up_to-step : (text bytes rest next word front : List ℕ) → IsReadUpTo text bytes rest → words_of rest ≡ word ∷ words_of next
-    → decode_of (digits_of word) ≡ Ok front → IsReadUpTo text (bytes ++ front) next
-up_to-step text bytes rest next word front before first decoded = record {
+bad_back : (xs ys : List (List ℕ)) → HasBadPart ys → HasBadPart (xs ++ ys)
+bad_back [] ys h = h
+bad_back (x ∷ xs) ys h = bad_behind x (xs ++ ys) (bad_back xs ys h)
+
+-- The bytes so far are those of the parts `all` before the parts that are left.
+pub record IsReadUpTo (all left : List (List ℕ)) (bytes : List ℕ) : Type 0 where
+  pub gives : (back : List ℕ) → AreBytesOf left back → AreBytesOf all (bytes ++ back)
+  pub refuses : HasBadPart left → HasBadPart all
+
+-- It holds before the first part is read.
+pub up_to-start : (all : List (List ℕ)) → IsReadUpTo all all []
+up_to-start all = record { gives = λ back h. h; refuses = λ h. h }
+
+-- It holds after the bytes of some parts more are read.
+pub up_to-step : (all left xs next : List (List ℕ)) (bytes front : List ℕ) → IsReadUpTo all left bytes → left ≡ xs ++ next → AreBytesOf xs front
+    → IsReadUpTo all next (bytes ++ front)
+up_to-step all left xs next bytes front before first is = record {
   gives = λ back h.
-      subst (AreBytesOf (words_of text)) (sym (append_assoc bytes front back))
-      (before.gives (front ++ back) (subst (λ (words : List (List ℕ)). AreBytesOf words (front ++ back)) (sym first) (front, back, decoded, h, refl)));
-  refuses = λ h. before.refuses (subst HasBadWord (sym first) (bad_behind word (words_of next) h));
+      subst (AreBytesOf all) (sym (append_assoc bytes front back))
+      (before.gives (front ++ back) (subst (λ (t : List (List ℕ)). AreBytesOf t (front ++ back)) (sym first) (bytes_both xs next front back is h)));
+  refuses = λ h. before.refuses (subst HasBadPart (sym first) (bad_back xs next h));
 }
 
--- If the next word isn't hexadecimal, one of the words of the text isn't.
-up_to-refused : (text bytes rest next word : List ℕ) → IsReadUpTo text bytes rest → words_of rest ≡ word ∷ words_of next
-    → IsErr (decode_of (digits_of word)) → HasBadWord (words_of text)
-up_to-refused text bytes rest next word before first bad =
-    before.refuses (subst HasBadWord (sym first) (0, word, omega arith, refl, bad))
+-- If no parts are left, the bytes so far are those of all.
+pub up_to-end : (all left : List (List ℕ)) (bytes : List ℕ) → IsReadUpTo all left bytes → left ≡ [] → AreBytesOf all bytes
+up_to-end all left bytes before none =
+    subst (AreBytesOf all) (append-nil bytes) (before.gives [] (subst (λ (t : List (List ℕ)). AreBytesOf t []) (sym none) refl))
 
--- If no word is left, the bytes so far are those of the text.
-pub up_to-end : (text bytes rest : List ℕ) → IsReadUpTo text bytes rest → words_of rest ≡ [] → AreBytesOf (words_of text) bytes
-up_to-end text bytes rest before none =
-    subst (AreBytesOf (words_of text)) (append-nil bytes)
-    (before.gives [] (subst (λ (words : List (List ℕ)). AreBytesOf words []) (sym none) refl))
+-- If the next parts are refused, all are, for the same reason.
+pub up_to-refused : (all left xs next : List (List ℕ)) (bytes : List ℕ) (e : Failure) → IsReadUpTo all left bytes → left ≡ xs ++ next
+    → ((e ≡ BadHex) × HasBadPart xs) ⊎ (e ≡ Library OutOfMemory) → ((e ≡ BadHex) × HasBadPart all) ⊎ (e ≡ Library OutOfMemory)
+up_to-refused all left xs next bytes e before first (inl (why, bad)) =
+    inl (why, before.refuses (subst HasBadPart (sym first) (bad_front xs next bad)))
+up_to-refused all left xs next bytes e before first (inr why) = inr why
 
--- If the digits of the next word are refused, the text is refused for the same reason.
-pub word-refused : (text bytes rest next word digits : List ℕ) (e : Failure) → IsReadUpTo text bytes rest → words_of rest ≡ word ∷ words_of next
-    → digits_of word ≡ digits → ((e ≡ BadHex) × IsErr (decode_of digits)) ⊎ (e ≡ Library OutOfMemory)
-    → ((e ≡ BadHex) × HasBadWord (words_of text)) ⊎ (e ≡ Library OutOfMemory)
-word-refused text bytes rest next word digits e before first is (inl (why, bad)) =
-    inl (why, up_to-refused text bytes rest next word before first (subst (λ (d : List ℕ). IsErr (decode_of d)) (sym is) bad))
-word-refused text bytes rest next word digits e before first is (inr why) = inr why
+-- ---- the parts of a word
+
+-- The first part ends at the first mark.
+pub parts-first : (mark : ℕ) (text : List ℕ) (r : Option (Bor (List ℕ) × Bor (List ℕ))) (x : Bor (List ℕ) × Bor (List ℕ)) → mark < 128 → IsSplitOnceResult mark text r
+    → r ≡ Some x → parts_at mark text ≡ kept mark x.0.now ++ parts_at mark x.1.now
+parts-first mark text r x low split is =
+    let (inside, front, back) = rw is at (split_once_first mark text r split low) in
+    let first : slice_split (λ b. b == mark) text ≡ x.0.now ∷ slice_split (λ b. b == mark) x.1.now =
+    rw (front, back) (slice_split_first (λ b. b == mark) text 0 inside) in
+    ap (flat_map (kept mark)) first
+
+-- A text without a mark is one part.
+pub parts-last : (mark : ℕ) (text : List ℕ) (r : Option (Bor (List ℕ) × Bor (List ℕ))) → mark < 128 → IsSplitOnceResult mark text r
+    → r ≡ None → parts_at mark text ≡ kept mark text
+parts-last mark text r low split is =
+    let none = rw is at (split_parts mark text r split low) in
+    ap (flat_map (kept mark)) (slice_split_none (λ b. b == mark) text (All-from_get_or (λ b. (b == mark) ≡ false) text 0 (λ i inside. grind (arith, nat_tests, none i inside))))
+    ∙ append-nil (kept mark text)
+
+-- A part that is not empty is kept, and spells what its digits do.
+pub kept-bytes : (mark : ℕ) (part digits bytes : List ℕ) → 0 < length part → digits_of part ≡ digits → decode_of digits ≡ Ok bytes → AreBytesOf (kept mark part) bytes
+kept-bytes mark [] digits bytes some is decoded = absurd (omega arith)
+kept-bytes mark (b ∷ part) digits bytes some is decoded = (bytes, [], ap decode_of is ∙ decoded, refl, sym (append-nil bytes))
+
+pub kept-refused : (mark : ℕ) (part digits : List ℕ) (e : Failure) → 0 < length part → digits_of part ≡ digits
+    → ((e ≡ BadHex) × IsErr (decode_of digits)) ⊎ (e ≡ Library OutOfMemory) → ((e ≡ BadHex) × HasBadPart (kept mark part)) ⊎ (e ≡ Library OutOfMemory)
+kept-refused mark [] digits e some is bad = absurd (omega arith)
+kept-refused mark (b ∷ part) digits e some is (inl (why, bad)) = inl (why, (0, b ∷ part, omega arith, refl, subst (λ (d : List ℕ). IsErr (decode_of d)) (sym is) bad))
+kept-refused mark (b ∷ part) digits e some is (inr why) = inr why
+
+-- An empty part between colons is bad.
+pub kept-empty : (mark : ℕ) (part : List ℕ) → part ≡ [] → mark ≡ 58 → HasBadPart (kept mark part)
+kept-empty mark part none colon =
+    let all : kept mark part ≡ [] ∷ [] = rw (none, colon) refl in subst HasBadPart (sym all) (0, [], omega arith, refl, refl)

@@ -12,7 +12,7 @@ use Rattle.postcard_dyn.specs.Tree.{tree, IsTree}
 use Rattle.postcard_dyn.specs.declared.value.Value.{Value}
 use Rattle.postcard_dyn_text.specs.Shown.{layout_of, text}
 use Rattle.postcard_dyn_text.specs.Spelled.{SpellsValue}
-use Rattle.postcard_cli.specs.Hexadecimal.{words_of, AreBytesOf}
+use Rattle.postcard_cli.specs.Hexadecimal.{pieces_of, AreBytesOf}
 
 -- The line of a value, or `None` if nothing is said of its text.
 abbrev pub line_of : Schema → Value → Option (List ℕ)
@@ -50,7 +50,7 @@ pub record StandsFor (hex : List ℕ) (known left : Option (List ℕ)) (bytes : 
   pub digits : List ℕ
   pub own : hex ≢ codes "-" → digits ≡ hex
   pub input : hex ≡ codes "-" → Consumes known left digits × IsAtEnd left
-  pub are : AreBytesOf (words_of digits) bytes
+  pub are : AreBytesOf (pieces_of digits) bytes
 
 -- The first value of the bytes is printed on a line, and the bytes after it on a second.
 pub record PrintsFirst (expression hex : List ℕ) (known left old new : Option (List ℕ)) : Type 0 where

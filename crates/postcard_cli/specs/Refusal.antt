@@ -27,7 +27,7 @@ use Rattle.postcard_cli.specs.Command.{IsCallOf, IsNoCall}
 use Rattle.postcard_cli.specs.Explain.{IsExplainRefused}
 use Rattle.postcard_cli.specs.Failure.{exit_status, last_line}
 use Rattle.postcard_cli.specs.Frames.{PrintsAnswersSoFar}
-use Rattle.postcard_cli.specs.Hexadecimal.{words_of, HasBadWord}
+use Rattle.postcard_cli.specs.Hexadecimal.{pieces_of, HasBadPart}
 use Rattle.postcard_cli.specs.Message.{lines_of, Prints, ReadsValue, ReadsValues, StandsFor}
 use Rattle.postcard_cli.specs.Program.{Does, Form, form_of, PrintsCall}
 use Rattle.postcard_cli.specs.Stream.{IsNamed, IsPlain, PrintsSoFar}
@@ -88,11 +88,11 @@ InputFails reads steady known left Limit = ReadsAtLeast reads known left
 InputFails reads steady known left (Library e) = e ≡ OutOfMemory
 InputFails reads steady known left failure = ⊥
 
--- The failures of reading HEX. It is bad if a word of its text spells no bytes, or, of the input,
+-- The failures of reading HEX. It is bad if a part of its text spells no bytes, or, of the input,
 -- if it isn't UTF-8. The input fails only if HEX is `-`.
 abbrev pub HexFails : ℕ → Type 0 → List ℕ → Option (List ℕ) → Option (List ℕ) → Failure → Type 0
 HexFails reads steady hex known left BadHex =
-    (digits : List ℕ) × IsDigitText hex known left digits × (HasBadWord (words_of digits) ⊎ (IsUtf8 digits → ⊥))
+    (digits : List ℕ) × IsDigitText hex known left digits × (HasBadPart (pieces_of digits) ⊎ (IsUtf8 digits → ⊥))
 HexFails reads steady hex known left ReadFailed = (hex ≡ codes "-") × (steady → ⊥)
 HexFails reads steady hex known left Limit = (hex ≡ codes "-") × ReadsAtLeast reads known left
 HexFails reads steady hex known left (Library e) = e ≡ OutOfMemory

@@ -4,7 +4,8 @@ ghost use Rattle.std.specs.Prelude.{◌≡◌, ◌≤◌, ◌⊎◌, length, IfO
 ghost use Rattle.std.specs.Io.KnownBytes.{Appends, Consumes, IsAtEnd};
 ghost use Rattle.hex.specs.Hex.{decode_of, encode_lower};
 ghost use Rattle.postcard_wire.specs.declared.error.Error.TheVariants.{OutOfMemory};
-ghost use Rattle.postcard_cli.specs.Hexadecimal.{words_of, AreBytesOf, HasBadWord};
+ghost use Rattle.postcard_cli.specs.Hexadecimal.{AreBytesOf, HasBadPart, kept, mark_of, parts_at};
+ghost use Rattle.postcard_cli.specs.Hexadecimal.{pieces_of};
 ghost use Rattle.postcard_cli.specs.Message.{StandsFor};
 ghost use Rattle.postcard_cli.specs.Refusal.{HexFails, InputFails};
 
@@ -46,13 +47,13 @@ pub fn read(alloc: Global, text: &str) -> Result<Vec<u8>, Failure>
     Ok(bytes)
 }
 
-/// Returns the bytes of a text of words of hexadecimal digits, of either case, with blanks between
-/// the words. A word may begin with `0x`. For the text `-`, the input is read to its end and is the
-/// text.
+/// Returns the bytes of a text of hexadecimal digits, of either case, in words with blanks between
+/// them, and parts with commas or colons between them in a word. A part may begin with `0x`. For the
+/// text `-`, the input is read to its end and is the text.
 ///
 /// # Errors
 ///
-/// Fails with `BadHex` if a word isn't an even number of digits or the input isn't UTF-8, with
+/// Fails with `BadHex` if a part isn't an even number of digits, if one between colons is empty, or the input isn't UTF-8, with
 /// `Library(OutOfMemory)` if an allocation fails, with `ReadFailed` if a read of the input fails,
 /// and with `Limit` if the input doesn't end within [`READS`] reads, which no input does.
 pub fn read_loose<R: Source>(alloc: Global, text: &str, input: &mut R) -> Result<Vec<u8>, Failure>
@@ -71,21 +72,83 @@ pub fn read_loose<R: Source>(alloc: Global, text: &str, input: &mut R) -> Result
     }
 }
 
-/// Returns the bytes of the words of a text, each with `0x` before it or without.
+/// Returns the bytes of the words of a text.
 fn read_words(alloc: Global, text: &str) -> Result<Vec<u8>, Failure>
-    ensures value { IfOk result (λ bytes. AreBytesOf (words_of text.now) bytes.items) }
-    ensures refused { IfErr result (λ e. ((e ≡ Failure.BadHex) × HasBadWord (words_of text.now))
+    ensures value { IfOk result (λ bytes. AreBytesOf (pieces_of text.now) bytes.items) }
+    ensures refused { IfErr result (λ e. ((e ≡ Failure.BadHex) × HasBadPart (pieces_of text.now))
         ⊎ (e ≡ Failure.Library OutOfMemory)) }
 {
     let mut bytes = Vec::new(alloc);
     for word in text.split_ascii_whitespace() {
-        let digits = match word.strip_prefix("0x") {
-            Some(digits) => digits,
-            None => word,
-        };
-        bytes.extend_from_slice(&read(alloc, digits)?)?;
+        bytes.extend_from_slice(&read_word(alloc, word)?)?;
     }
     Ok(bytes)
+}
+
+/// Returns the bytes of a word: of its parts between colons, if it has one, and else between commas.
+fn read_word(alloc: Global, word: &str) -> Result<Vec<u8>, Failure>
+    ensures value { IfOk result
+        (λ bytes. AreBytesOf (parts_at (mark_of word.now) word.now) bytes.items) }
+    ensures refused { IfErr result (λ e.
+        ((e ≡ Failure.BadHex) × HasBadPart (parts_at (mark_of word.now) word.now))
+        ⊎ (e ≡ Failure.Library OutOfMemory)) }
+{
+    let mark = mark_in(word);
+    read_parts(alloc, word, mark)
+}
+
+/// Returns the mark between the parts of a word: a colon, if it has one, and else a comma.
+fn mark_in(word: &str) -> char
+    ensures is { result ≡ mark_of word.now }
+    ensures either { (result ≡ 58) ⊎ (result ≡ 44) }
+{
+    if word.as_bytes().contains(&b':') {
+        ':'
+    } else {
+        ','
+    }
+}
+
+/// Returns the bytes of the parts of a word between these marks, a comma or a colon. An empty part
+/// between commas is passed over.
+fn read_parts(alloc: Global, word: &str, mark: char) -> Result<Vec<u8>, Failure>
+    requires { (mark ≡ 58) ⊎ (mark ≡ 44) }
+    ensures value { IfOk result (λ bytes. AreBytesOf (parts_at mark word.now) bytes.items) }
+    ensures refused { IfErr result (λ e.
+        ((e ≡ Failure.BadHex) × HasBadPart (parts_at mark word.now))
+        ⊎ (e ≡ Failure.Library OutOfMemory)) }
+{
+    let mut bytes = Vec::new(alloc);
+    let mut rest = word;
+    'parts: while let Some((part, after)) = rest.split_once(mark) {
+        bytes.extend_from_slice(&read_part(alloc, part, mark)?)?;
+        rest = after;
+    }
+    bytes.extend_from_slice(&read_part(alloc, rest, mark)?)?;
+    Ok(bytes)
+}
+
+/// Returns the bytes of a part, with `0x` before it or without. One that is empty is refused, unless
+/// the marks are commas.
+fn read_part(alloc: Global, part: &str, mark: char) -> Result<Vec<u8>, Failure>
+    requires { (mark ≡ 58) ⊎ (mark ≡ 44) }
+    ensures value { IfOk result (λ bytes. AreBytesOf (kept mark part.now) bytes.items) }
+    ensures refused { IfErr result (λ e.
+        ((e ≡ Failure.BadHex) × HasBadPart (kept mark part.now))
+        ⊎ (e ≡ Failure.Library OutOfMemory)) }
+{
+    if part.is_empty() {
+        return if mark == ',' {
+            Ok(Vec::new(alloc))
+        } else {
+            Err(Failure::BadHex)
+        };
+    }
+    let digits = match part.strip_prefix("0x") {
+        Some(digits) => digits,
+        None => part,
+    };
+    read(alloc, digits)
 }
 
 /// Returns all bytes of the input.
