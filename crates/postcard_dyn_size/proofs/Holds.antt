@@ -1,0 +1,2 @@
+-- The limit of a type holds of its messages.
+use Rattle.std.proofs.Common.{◌≡◌, refl}

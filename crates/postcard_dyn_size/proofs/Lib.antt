@@ -1,0 +1,4 @@
+-- The lemmas, by subject.
+pub mod Sums
+pub mod Rows
+pub mod Holds

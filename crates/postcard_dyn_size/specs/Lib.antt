@@ -1,0 +1,2 @@
+-- The definitions that contracts cite, and their laws.
+pub mod Sizes

@@ -1,0 +1,56 @@
+-- The greatest size of the messages of a type, by the arithmetic of `postcard_max`.
+use Rattle.std.specs.Prelude.{ℕ, Option, Some, None, ⊤}
+use Rattle.postcard_wire.specs.Number.{max_digits}
+use Rattle.postcard_dyn_schema.specs.Meaning.{MessageType, MessageTypes, leaf, option, seq, array, group, choice, no_types, then_type}
+use Rattle.postcard_dyn_schema.specs.declared.schema.Leaf.{Leaf}
+use Rattle.postcard_dyn_schema.specs.declared.schema.Leaf.TheVariants.{U8, U16, U32, U64, U128, I8, I16, I32, I64, I128, F32, F64, Char, Str, Bytes}
+use Rattle.postcard_dyn_schema.specs.declared.schema.Leaf.TheVariants as leaves
+use Rattle.postcard_max.specs.SizeLimit.{SizeLimit, exactly, option_limit, array_limit, then_limit, no_case_limit, case_limit, variants_limit}
+
+-- The limit of a type whose messages are as long as one likes.
+abbrev pub endless : SizeLimit
+endless = record { greatest = None; reached = ⊤; willing = ⊤ }
+
+-- The greatest size of a type without parts, or none.
+abbrev pub leaf_greatest : Leaf → Option ℕ
+leaf_greatest leaves.Bool = Some 1
+leaf_greatest U8 = Some 1
+leaf_greatest U16 = Some (max_digits 16)
+leaf_greatest U32 = Some (max_digits 32)
+leaf_greatest U64 = Some (max_digits 64)
+leaf_greatest U128 = Some (max_digits 128)
+leaf_greatest I8 = Some 1
+leaf_greatest I16 = Some (max_digits 16)
+leaf_greatest I32 = Some (max_digits 32)
+leaf_greatest I64 = Some (max_digits 64)
+leaf_greatest I128 = Some (max_digits 128)
+leaf_greatest F32 = Some 4
+leaf_greatest F64 = Some 8
+leaf_greatest Char = Some 5
+leaf_greatest Str = None
+leaf_greatest Bytes = None
+
+abbrev mutual
+  -- The limit of a type's messages. A list has none, nor has an enum without variants.
+  pub limit : MessageType → SizeLimit
+  limit (leaf l) = record { greatest = leaf_greatest l; reached = ⊤; willing = ⊤ }
+  limit (option t) = option_limit (limit t)
+  limit (seq t) = endless
+  limit (array n t) = array_limit n (limit t)
+  limit (group ts) = limit_all ts
+  limit (choice ts) = limit_of_choice ts
+
+  -- The limit of a message of each type, in order.
+  pub limit_all : MessageTypes → SizeLimit
+  limit_all no_types = exactly 0
+  limit_all (then_type t ts) = then_limit (limit t) (limit_all ts)
+
+  -- The limit of the variants with these contents.
+  pub limit_of_choice : MessageTypes → SizeLimit
+  limit_of_choice no_types = endless
+  limit_of_choice (then_type t ts) = variants_limit (limit t) (limit_from ts)
+
+  -- The limit of variants with these contents, from an index on.
+  pub limit_from : MessageTypes → Option ℕ → SizeLimit
+  limit_from no_types i = no_case_limit i
+  limit_from (then_type t ts) i = case_limit (limit t) (limit_from ts) i

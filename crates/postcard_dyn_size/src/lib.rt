@@ -1,0 +1,72 @@
+//! How many bytes the messages of a type have that is given at run time: [`max_size`].
+#![tactic(auto)]
+
+ghost use Rattle.std.specs.Prelude.{◌≡◌, Some};
+ghost use Rattle.postcard_dyn_schema.specs.Meaning.{type_of, types_of, reads};
+ghost use Rattle.postcard_max.specs.Limits.{AreBounded, IsReached};
+ghost use Rattle.postcard_dyn_size.specs.Sizes.{limit, limit_all, limit_of_choice, leaf_greatest};
+
+use postcard_dyn_schema::{Leaf, Schema};
+use postcard_max::sizes::{greater, product, sum, varint_len};
+
+/// Returns the greatest number of bytes of a message of the type, or `None` if it has none that fits
+/// `usize`: if a text, a byte string or a list is in it, or an enum without variants, or if it is
+/// greater.
+#[cycle(size)]
+pub fn max_size(schema: &Schema) -> Option<usize>
+    ensures greatest { result ≡ (limit (type_of schema.now)).greatest }
+{
+    match schema {
+        Schema::Leaf(leaf) => leaf_size(*leaf),
+        Schema::Option(content) => sum(Some(1), max_size(content)),
+        Schema::Seq(_) => None,
+        Schema::Map(_) => None,
+        Schema::Array(element, count) => product(*count, max_size(element)),
+        Schema::Group(parts) => group_size(parts),
+        Schema::Enum(variants) => enum_size(variants),
+        Schema::Named(_, content) => max_size(content),
+    }
+}
+
+/// Returns the greatest number of bytes of a message of a type without parts.
+fn leaf_size(leaf: Leaf) -> Option<usize>
+    ensures { result ≡ leaf_greatest leaf }
+{
+    match leaf {
+        Leaf::Bool | Leaf::U8 | Leaf::I8 => Some(1),
+        Leaf::U16 | Leaf::I16 => Some(3),
+        Leaf::F32 => Some(4),
+        Leaf::U32 | Leaf::I32 | Leaf::Char => Some(5),
+        Leaf::F64 => Some(8),
+        Leaf::U64 | Leaf::I64 => Some(10),
+        Leaf::U128 | Leaf::I128 => Some(19),
+        Leaf::Str | Leaf::Bytes => None,
+    }
+}
+
+/// Returns the sum of the parts' greatest sizes.
+#[cycle(size)]
+fn group_size(parts: &Vec<Schema>) -> Option<usize>
+    ensures { result ≡ (limit_all (types_of parts.now.items)).greatest }
+{
+    let mut total = Some(0);
+    for part in parts {
+        total = sum(total, max_size(part));
+    }
+    total
+}
+
+/// Returns the greatest of the variants' sizes, each with that of its index.
+#[cycle(size)]
+fn enum_size(variants: &Vec<Schema>) -> Option<usize>
+    ensures { result ≡ (limit_of_choice (types_of variants.now.items)).greatest }
+{
+    if variants.is_empty() {
+        return None;
+    }
+    let mut greatest = Some(0);
+    for (index, variant) in variants.iter().enumerate() {
+        greatest = greater(greatest, sum(Some(varint_len(index)), max_size(variant)));
+    }
+    greatest
+}
