@@ -9,22 +9,33 @@ ghost use Rattle.postcard_dyn_size.specs.Sizes.{limit, limit_all, limit_of_choic
 use postcard_dyn_schema::{Leaf, Schema};
 use postcard_max::sizes::{greater, product, sum, varint_len};
 
-/// Returns the greatest number of bytes of a message of the type, or `None` if it has none that fits
-/// `usize`: if a text, a byte string or a list is in it, or an enum without variants, or if it is
-/// greater.
-#[cycle(size)]
+/// Returns the greatest number of bytes of a message of the type, or `None` if none is known: a text,
+/// a byte string or a list is in it, or an enum without variants, or it does not fit `usize`.
+///
+/// No message is longer, and if the indices of all variants are below 2^32, one is as long.
 pub fn max_size(schema: &Schema) -> Option<usize>
     ensures greatest { result ≡ (limit (type_of schema.now)).greatest }
+    ensures bounded { AreBounded result (reads (type_of schema.now)) }
+    ensures is_reached { (limit (type_of schema.now)).reached
+        → IsReached result (reads (type_of schema.now)) }
+{
+    size(schema)
+}
+
+/// Returns the greatest number of bytes of a message of the type.
+#[cycle(size)]
+fn size(schema: &Schema) -> Option<usize>
+    ensures { result ≡ (limit (type_of schema.now)).greatest }
 {
     match schema {
         Schema::Leaf(leaf) => leaf_size(*leaf),
-        Schema::Option(content) => sum(Some(1), max_size(content)),
+        Schema::Option(content) => sum(Some(1), size(content)),
         Schema::Seq(_) => None,
         Schema::Map(_) => None,
-        Schema::Array(element, count) => product(*count, max_size(element)),
+        Schema::Array(element, count) => product(*count, size(element)),
         Schema::Group(parts) => group_size(parts),
         Schema::Enum(variants) => enum_size(variants),
-        Schema::Named(_, content) => max_size(content),
+        Schema::Named(_, content) => size(content),
     }
 }
 
@@ -51,7 +62,7 @@ fn group_size(parts: &Vec<Schema>) -> Option<usize>
 {
     let mut total = Some(0);
     for part in parts {
-        total = sum(total, max_size(part));
+        total = sum(total, size(part));
     }
     total
 }
@@ -66,7 +77,7 @@ fn enum_size(variants: &Vec<Schema>) -> Option<usize>
     }
     let mut greatest = Some(0);
     for (index, variant) in variants.iter().enumerate() {
-        greatest = greater(greatest, sum(Some(varint_len(index)), max_size(variant)));
+        greatest = greater(greatest, sum(Some(varint_len(index)), size(variant)));
     }
     greatest
 }

@@ -15,10 +15,10 @@ enum_size-loop-index-preserved t c =
     let xs = c.deref-variant-items.result.now in
     let k = c.loop-index.index in
     let below : k < length xs = omega arith in
-    let sum_is = c.sum.ensures ∙ ap (λ n. sum_of (Some n) c.max_size.result) c.varint_len.ensures in
+    let sum_is = c.sum.ensures ∙ ap (λ n. sum_of (Some n) c.size.result) c.varint_len.ensures in
     let is = c.greater-greatest.ensures ∙ ap (greater_of c.loop-index.greatest) sum_is in
     ap (λ z. greater_of z (greatest_from (drop (k + 1) xs) (k + 1))) is
-    ∙ variants_step xs k c.variant-item.result c.loop-index.greatest c.max_size.result below (omega arith) c.variant-item.is c.max_size.ensures.greatest c.loop-index.invariant
+    ∙ variants_step xs k c.variant-item.result c.loop-index.greatest c.size.result below (omega arith) c.variant-item.is c.size.ensures c.loop-index.invariant
 
 pub enum_size-returns : goal.enum_size-returns
 enum_size-returns t c =
@@ -38,9 +38,9 @@ group_size-loop-part-preserved t c =
     let k = c.loop-part.part-index in
     let below : k < length xs = omega arith in
     record {
-      small = subst IsSmall (sym c.sum-total.ensures) (sum_small c.loop-part.total c.max_size.result);
+      small = subst IsSmall (sym c.sum-total.ensures) (sum_small c.loop-part.total c.size.result);
       cut = ap (λ z. sum_of z (greatest_all (drop (k + 1) xs))) c.sum-total.ensures
-          ∙ parts_step xs k c.part-item.result c.loop-part.total c.max_size.result below c.part-item.is c.max_size.ensures.greatest c.loop-part.invariant.cut;
+          ∙ parts_step xs k c.part-item.result c.loop-part.total c.size.result below c.part-item.is c.size.ensures c.loop-part.invariant.cut;
     }
 
 pub group_size-returns : goal.group_size-returns
