@@ -203,7 +203,12 @@ const DECODE: [Call; 9] = [
         "at byte 2: Found a bool that wasn't 0 or 1\n",
         1,
     ),
-    (&["dec", "(u9)", "0"], b"", "unknown type at character 2: bad type\n", 2),
+    (
+        &["dec", "(u9)", "0"],
+        b"",
+        "unknown type at character 2: bad type\n",
+        2,
+    ),
 ];
 
 /// Calls of `decs`.
