@@ -7,15 +7,17 @@ use Rattle.std.proofs.lemmas.List.Elements.{All-from_get_or}
 use Rattle.std.proofs.lemmas.List.Quantifiers.{position-Some}
 use Rattle.std.proofs.lemmas.List.Splits.{slice_split_first, slice_split_none}
 use Rattle.std.proofs.lemmas.List.Sums.{position_or_len_is, fails_before_first}
-use Rattle.std.specs.Prelude.{◌==◌, nat_eq, Ok, Err, IfErr, IsErr, Result}
+use Rattle.std.specs.Prelude.{◌==◌, nat_eq, Ok, Err, codes, IfErr, IsErr, Result}
 use Rattle.std.specs.List.{list_any, position, position_or_len, slice_split, starts_with}
+use Rattle.std.specs.Str.{IsTrimAsciiStart}
 use Rattle.hex.specs.Hex.{decode_of}
 use Rattle.hex.specs.declared.error.FromHexError.{FromHexError}
 use Rattle.postcard_wire.specs.declared.error.Error.TheVariants.{OutOfMemory}
-use Rattle.postcard_dyn_schema.specs.Text.{characters}
+use Rattle.postcard_dyn_schema.specs.Text.{characters, unblank}
+use Rattle.postcard_dyn_schema.specs.FrontLemmas.{trim_is}
 use Rattle.postcard_cli.specs.declared.failure.Failure.{Failure}
 use Rattle.postcard_cli.specs.declared.failure.Failure.TheVariants.{BadHexAt, Library}
-use Rattle.postcard_cli.specs.Hexadecimal.{AreBytesOf, IsWrongAt, IsWord, IsWrongWord, IsLine, IsWrongLine, SpellsBytes, IsWrongHex, digits_of, words_of, column_of, lines_of, is_dump, start_of, up_to}
+use Rattle.postcard_cli.specs.Hexadecimal.{AreBytesOf, IsWrongAt, IsWord, IsWrongWord, IsLine, IsWrongLine, SpellsBytes, IsWrongHex, digits_of, words_of, column_of, lines_of, is_dump, start_of, is_of_xxd, up_to}
 
 -- ---- one text spells one list of bytes, or is wrong
 
@@ -238,6 +240,22 @@ line_refused dump line text column place start (Err e) is cut (inl (m, fails, wr
   (m, ap (λ (k : ℕ). k + m) is, subst (λ (c : List ℕ). IsWrongAt IsWord IsWrongWord (words_of c) m) cut wrong),
 )
 line_refused dump line text column place start (Err e) is cut (inr memory) = inr memory
+
+-- ---- the column of a line of xxd
+
+-- What is left behind the offset and the blanks.
+pub behind_offset : (line trimmed : List ℕ) → IsTrimAsciiStart (take (length line - 9) (drop 9 line)) trimmed → trimmed ≡ unblank (drop 9 line)
+behind_offset line trimmed trim = trim_is (take (length line - 9) (drop 9 line)) trimmed trim ∙ ap unblank (rest_after 9 line)
+
+-- It begins where the bytes do.
+pub xxd-start : (line trimmed : List ℕ) → is_of_xxd line ≡ true → trimmed ≡ unblank (drop 9 line) → length line - length trimmed ≡ start_of line
+unfolding start_of
+xxd-start line trimmed is same = rw (same, is) refl
+
+-- The column is what is before the first two blanks of it.
+pub xxd-column : (dump : Bool) (line trimmed : List ℕ) → is_of_xxd line ≡ true → trimmed ≡ unblank (drop 9 line) → up_to (codes "  ") trimmed ≡ column_of dump line
+unfolding column_of
+xxd-column dump line trimmed is same = rw (same, is) refl
 
 -- ---- the text before a mark
 

@@ -3,7 +3,7 @@ use Rattle.std.specs.Prelude.{◌≡◌, ◌==◌, ◌⊎◌, ℕ, ◌+◌, ◌-
 use Rattle.std.specs.List.{starts_with, slice_split, list_all, list_any, position_or_len}
 use Rattle.std.specs.Char.{is_ascii_hexdigit, is_ascii_whitespace}
 use Rattle.hex.specs.Hex.{decode_of}
-use Rattle.postcard_dyn_schema.specs.Text.{characters}
+use Rattle.postcard_dyn_schema.specs.Text.{characters, unblank}
 
 -- ---- parts in a row
 
@@ -81,15 +81,18 @@ is_of_hexdump line = begins_with_digits 8 line && (starts_with nat_eq (drop 8 li
 unfoldable pub is_lone_offset : List ℕ → Bool
 is_lone_offset line = begins_with_digits 8 line && list_all is_ascii_whitespace (drop 8 line)
 
--- The number of bytes of the offset with which a line begins.
+-- The index in a line at which its bytes begin, behind its offset.
 unfoldable pub start_of : List ℕ → ℕ
-start_of line = if is_of_xxd line then 9 else if is_of_hexdump line then 8 else 0
+start_of line =
+    if is_of_xxd line then length line - length (unblank (drop 9 line))
+    else if is_of_hexdump line then 8
+    else 0
 
 -- The bytes of a line without its offset and the text behind. In a `dump`, a text with a line of
 -- `hexdump -C`, eight digits alone are an offset.
 unfoldable pub column_of : Bool → List ℕ → List ℕ
 column_of dump line =
-    if is_of_xxd line then up_to (codes "  ") (drop 9 line)
+    if is_of_xxd line then up_to (codes "  ") (unblank (drop 9 line))
     else if is_of_hexdump line then up_to (codes "|") (drop 8 line)
     else if dump && is_lone_offset line then []
     else line

@@ -1,7 +1,8 @@
 //! Reading bytes from a text of hexadecimal digits as it is pasted: with signs between the bytes, or
 //! as the lines of a dump.
 
-ghost use Rattle.std.specs.Prelude.{◌≡◌, ◌==◌, ◌≤◌, ◌+◌, ◌⊎◌, ℕ, List, length, take, true, not, IfOk, IfErr};
+ghost use Rattle.std.specs.Prelude.{◌≡◌, ◌==◌, ◌≤◌, ◌+◌, ◌⊎◌, ℕ, List, length, take, true, not};
+ghost use Rattle.std.specs.Prelude.{IfOk, IfErr};
 ghost use Rattle.std.specs.List.{list_all, position};
 ghost use Rattle.std.specs.Char.{is_ascii_hexdigit, is_ascii_whitespace};
 ghost use Rattle.postcard_wire.specs.declared.error.Error.TheVariants.{OutOfMemory};
@@ -18,7 +19,8 @@ use crate::hexadecimal;
 use postcard_dyn_schema::scan::character_of;
 use std::alloc::Global;
 
-/// Returns the bytes of a text, line by line.
+/// Returns the bytes of a text, which are those of the words of its lines, in order. Of a line that
+/// `xxd` or `hexdump -C` printed, the offset and the text behind the bytes are passed over.
 ///
 /// # Errors
 ///
@@ -44,7 +46,8 @@ pub fn read(alloc: Global, text: &[u8]) -> Result<Vec<u8>, Failure>
     Ok(bytes)
 }
 
-/// Returns the bytes of a line, which begins at an index of the text.
+/// Returns the bytes of a line, which begins at the index `place` of the text. In a `dump`, eight
+/// digits alone are an offset.
 fn read_line(
     alloc: Global,
     text: &[u8],
@@ -62,7 +65,7 @@ fn read_line(
     read_words(alloc, text, place + start, column)
 }
 
-/// Returns the bytes of words, which begin at an index of the text.
+/// Returns the bytes of words, which begin at the index `place` of the text.
 fn read_words(alloc: Global, text: &[u8], place: usize, words: &[u8]) -> Result<Vec<u8>, Failure>
     requires { place + length words.now ≤ length text.now }
     ensures value { IfOk result (λ bytes. AreBytesOf IsWord (words_of words.now) bytes.items) }
@@ -83,7 +86,7 @@ fn read_words(alloc: Global, text: &[u8], place: usize, words: &[u8]) -> Result<
     Ok(bytes)
 }
 
-/// Returns the bytes of a word, which begins at an index of the text.
+/// Returns the bytes of a word, which begins at the index `place` of the text.
 fn read_word(alloc: Global, text: &[u8], place: usize, word: &[u8]) -> Result<Vec<u8>, Failure>
     requires { place + length word.now ≤ length text.now }
     ensures value { IfOk result (λ bytes. IsWord word.now bytes.items) }
@@ -169,7 +172,8 @@ fn column(line: &[u8], dump: bool) -> (usize, &[u8])
     ensures within { result.0 + length result.1.now ≤ length line.now }
 {
     if is_of_xxd(line) {
-        (9, up_to(&line[9..], b"  "))
+        let column = line[9..].trim_ascii_start();
+        (line.len() - column.len(), up_to(column, b"  "))
     } else if is_of_hexdump(line) {
         (8, up_to(&line[8..], b"|"))
     } else if dump && is_lone_offset(line) {

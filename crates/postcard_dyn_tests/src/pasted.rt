@@ -4,7 +4,7 @@
 use crate::calls::{Call, SENSOR, check_all, check_over};
 
 /// A message, as other programs print its bytes.
-const MESSAGES: [&str; 14] = [
+const MESSAGES: [&str; 15] = [
     "2a0178020204",
     "2A 01\t78\r\n020204\n",
     "2a:01:78:02:02:04",
@@ -15,6 +15,7 @@ const MESSAGES: [&str; 14] = [
     "2a017802  0204",
     "00000000: 2a01 7802 0204                           *.x...\n",
     "00000000: 2a 01 78 02 02 04        *.x...",
+    "00000000:   2a01 7802 0204",
     "\n00000000: 2a01 7802\r\n00000004: 0204\r\n",
     "00000000  2a 01 78 02 02 04                                 |*.x...|\n00000006\n",
     "00000000  2a 01 78 02 02 04\n",
