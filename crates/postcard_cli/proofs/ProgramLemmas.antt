@@ -20,7 +20,7 @@ use Rattle.postcard_cli.specs.declared.program.Task.{Task}
 use Rattle.postcard_cli.specs.declared.program.Task.TheVariants as tasks
 use Rattle.postcard_cli.specs.declared.checksum.TheConstants.{CATALOG}
 use Rattle.postcard_cli.specs.declared.failure.Failure.{Failure}
-use Rattle.postcard_cli.specs.declared.failure.Failure.TheVariants.{Usage, BadType, BadValue, BadHex, UnknownChecksum, Library, Output, Limit, ReadFailed}
+use Rattle.postcard_cli.specs.declared.failure.Failure.TheVariants.{Usage, BadType, BadValue, BadHex, BadHexAt, UnknownChecksum, Library, Output, Limit, ReadFailed}
 use Rattle.postcard_cli.specs.declared.failure.Failure.TheVariants as failed
 use Rattle.postcard_cli.specs.declared.command.TypeWord.{TypeWord}
 use Rattle.postcard_cli.specs.declared.command.TypeWord.TheVariants.{Named, Expression}
@@ -220,6 +220,7 @@ zero_is_success (Err Usage) P old new zero h printed = cc zero
 zero_is_success (Err BadType) P old new zero h printed = cc zero
 zero_is_success (Err BadValue) P old new zero h printed = cc zero
 zero_is_success (Err BadHex) P old new zero h printed = cc zero
+zero_is_success (Err (BadHexAt n)) P old new zero h printed = cc zero
 zero_is_success (Err UnknownChecksum) P old new zero h printed = cc zero
 zero_is_success (Err (Library e)) P old new zero h printed = cc zero
 zero_is_success (Err Output) P old new zero h printed = cc zero

@@ -12,15 +12,15 @@ use Rattle.postcard_ser.specs.Writing.{IsErrorOf}
 use Rattle.postcard_de.specs.Reads.{IsReadError}
 use Rattle.postcard_cli.specs.Command.{IsCallOf}
 use Rattle.postcard_cli.specs.Program.{Form}
-use Rattle.postcard_cli.specs.Hexadecimal.{words_of, HasBadWord}
+use Rattle.postcard_cli.specs.Hexadecimal.{IsWrongHex}
 use Rattle.postcard_cli.specs.Message.{lines_of, StandsFor}
 use Rattle.postcard_cli.proofs.MessageLemmas.{Decoded, prints_both}
 use Rattle.postcard_dyn_schema.specs.declared.schema.Schema.{Schema}
 use Rattle.postcard_dyn_schema.specs.Grammar.{IsExpression}
-use Rattle.postcard_cli.specs.Refusal.{IsTooLong, PrintingFails, DecodingFails, NamedDecodeFails, Converts, CommandFails, CallFails, HexFails, FrontFails, DecodeFails, DecodeAllFails}
+use Rattle.postcard_cli.specs.Refusal.{IsTooLong, PrintingFails, DecodingFails, NamedDecodeFails, Converts, CommandFails, CallFails, HexFails, IsDigitText, FrontFails, DecodeFails, DecodeAllFails}
 use Rattle.postcard_cli.specs.declared.program.Task.TheVariants as tasks
 use Rattle.postcard_cli.specs.declared.failure.Failure.{Failure}
-use Rattle.postcard_cli.specs.declared.failure.Failure.TheVariants.{Usage, BadHex, Library, Output}
+use Rattle.postcard_cli.specs.declared.failure.Failure.TheVariants.{Usage, BadHexAt, Library, Output}
 use Rattle.postcard_cli.specs.declared.command.TypeWord.TheVariants.{Named, Expression}
 use Rattle.postcard_cli.specs.declared.command.Command.{Command}
 use Rattle.postcard_cli.specs.declared.command.Command.TheVariants.{Encode, Decode, DecodeAll, EncodeChecked, DecodeChecked, Frames, FramesOf, FramesChecked, Explain, Types, Checksum, Catalog}
@@ -100,14 +100,12 @@ pub ends_with : (r : Result (Unit {0}) Failure) (P : Type 0) (Q : Failure → Ty
 ends_with (Ok done) P Q p q = p
 ends_with (Err failure) P Q p q = q
 
--- The failures of reading the words of HEX itself are failures of reading HEX.
-pub words_fail : {T : Type 0} (reads : ℕ) (steady : Type 0) (hex : List ℕ) (known : Option (List ℕ)) (r : Result T Failure)
-    → IfErr r (λ e. ((e ≡ BadHex) × HasBadWord (words_of hex)) ⊎ (e ≡ Library OutOfMemory)) → hex ≢ codes "-"
-    → IfErr r (HexFails reads steady hex known known)
-words_fail reads steady hex known (Ok bytes) h own = tt
-words_fail reads steady hex known (Err e) (inl (is, bad)) own =
-    subst (HexFails reads steady hex known known) (sym is) (hex, record { own = λ _. refl; input = λ input. absurd (own input) }, inl bad)
-words_fail reads steady hex known (Err e) (inr is) own = subst (HexFails reads steady hex known known) (sym is) refl
+-- The failures of reading the digits of HEX are failures of reading HEX.
+pub digits_fail : {T : Type 0} (reads : ℕ) (steady : Type 0) (hex digits : List ℕ) (known left : Option (List ℕ)) (r : Result T Failure) → IsDigitText hex known left digits
+    → IfErr r (λ e. ((n : ℕ) × (e ≡ BadHexAt n) × IsWrongHex digits n) ⊎ (e ≡ Library OutOfMemory)) → IfErr r (HexFails reads steady hex known left)
+digits_fail reads steady hex digits known left (Ok bytes) text h = tt
+digits_fail reads steady hex digits known left (Err e) text (inl (n, is, wrong)) = subst (HexFails reads steady hex known left) (sym is) (digits, text, wrong)
+digits_fail reads steady hex digits known left (Err e) text (inr is) = subst (HexFails reads steady hex known left) (sym is) refl
 
 -- A failure at the first message, for `dec`.
 pub first_fails : (reads : ℕ) (steady : Type 0) (expression hex : List ℕ) (known left old new : Option (List ℕ)) (schema : Schema) (bytes : List ℕ) (e : Failure)

@@ -1,9 +1,10 @@
 -- The text that a failed call prints, and its exit status.
 use Rattle.std.specs.Prelude.{◌≡◌, ◌⊎◌, ℕ, Option, List, [], ◌∷◌, ◌++◌, codes, Result, Ok, Err}
+use Rattle.std.specs.Fmt.{decimal}
 use Rattle.std.specs.Io.KnownBytes.{Appends}
 use Rattle.postcard_wire.specs.Error.{error_text}
 use Rattle.postcard_cli.specs.declared.failure.Failure.{Failure}
-use Rattle.postcard_cli.specs.declared.failure.Failure.TheVariants.{Usage, BadType, BadValue, BadHex, UnknownChecksum, Library, Output, Limit, ReadFailed}
+use Rattle.postcard_cli.specs.declared.failure.Failure.TheVariants.{Usage, BadType, BadValue, BadHex, BadHexAt, UnknownChecksum, Library, Output, Limit, ReadFailed}
 use Rattle.postcard_cli.specs.declared.failure.Failure.TheVariants as failed
 
 -- The text of a failure, in ASCII.
@@ -12,6 +13,7 @@ failure_text Usage = codes "usage: pcard enc TYPE VALUE, dec TYPE HEX, frames"
 failure_text BadType = codes "bad type"
 failure_text BadValue = codes "bad value"
 failure_text BadHex = codes "bad hex"
+failure_text (BadHexAt character) = codes "at character " ++ (decimal character ++ codes ": bad hex")
 failure_text UnknownChecksum = codes "unknown checksum, pcard crc lists them"
 failure_text (Library e) = error_text e
 failure_text Output = codes "the output could not be written"
@@ -25,6 +27,7 @@ failure_status Usage = 2
 failure_status BadType = 2
 failure_status BadValue = 2
 failure_status BadHex = 2
+failure_status (BadHexAt character) = 2
 failure_status UnknownChecksum = 2
 failure_status (Library e) = 1
 failure_status Output = 3

@@ -12,7 +12,7 @@ use Rattle.postcard_dyn.specs.Tree.{tree, IsTree}
 use Rattle.postcard_dyn.specs.declared.value.Value.{Value}
 use Rattle.postcard_dyn_text.specs.Shown.{layout_of, text}
 use Rattle.postcard_dyn_text.specs.Spelled.{SpellsValue}
-use Rattle.postcard_cli.specs.Hexadecimal.{words_of, AreBytesOf}
+use Rattle.postcard_cli.specs.Hexadecimal.{SpellsBytes}
 
 -- The line of a value, or `None` if nothing is said of its text.
 abbrev pub line_of : Schema → Value → Option (List ℕ)
@@ -44,13 +44,14 @@ PrintsEncoded expression word old new =
     (schema : Schema) × (encoded : Value) × IsExpression schema expression × SpellsValue schema encoded word
     × reads (type_of schema) (tree encoded) × Appends old new (encode_lower (canonical (tree encoded)) ++ 10 ∷ [])
 
--- The bytes that the word HEX stands for: those of its own digits, or, if it is `-`, of the digits
--- in the whole input.
+-- The bytes that the word HEX stands for: those that it spells itself, or, if it is `-`, that the
+-- whole input spells. No other bytes are spelled.
 pub record StandsFor (hex : List ℕ) (known left : Option (List ℕ)) (bytes : List ℕ) : Type 0 where
   pub digits : List ℕ
   pub own : hex ≢ codes "-" → digits ≡ hex
   pub input : hex ≡ codes "-" → Consumes known left digits × IsAtEnd left
-  pub are : AreBytesOf (words_of digits) bytes
+  pub are : SpellsBytes digits bytes
+  pub only : (other : List ℕ) → SpellsBytes digits other → other ≡ bytes
 
 -- The first value of the bytes is printed on a line, and the bytes after it on a second.
 pub record PrintsFirst (expression hex : List ℕ) (known left old new : Option (List ℕ)) : Type 0 where

@@ -1,7 +1,6 @@
 -- Which failure comes when, and what a command has printed before the line of its failure.
 use Rattle.std.specs.Prelude.{◌≡◌, ◌≢◌, ℕ, ◌+◌, ◌-◌, ◌^◌, ◌<◌, ◌≤◌, ◌⊎◌, ⊤, min, Bool, false, List, [], ◌++◌, length, codes, Option, Some, Result, Ok, IsErr, MatchResult}
 use Rattle.std.specs.Fmt.{decimal, ◌++?◌}
-use Rattle.std.specs.Str.{IsUtf8}
 use Rattle.std.specs.Io.KnownBytes.{Consumes, IsAtEnd, Appends}
 use Rattle.hex.specs.Hex.{decode_of}
 use Rattle.postcard_wire.specs.Spelling.{canonical}
@@ -27,7 +26,7 @@ use Rattle.postcard_cli.specs.Command.{IsCallOf, IsNoCall}
 use Rattle.postcard_cli.specs.Explain.{IsExplainRefused}
 use Rattle.postcard_cli.specs.Failure.{exit_status, last_line}
 use Rattle.postcard_cli.specs.Frames.{PrintsAnswersSoFar}
-use Rattle.postcard_cli.specs.Hexadecimal.{words_of, HasBadWord}
+use Rattle.postcard_cli.specs.Hexadecimal.{IsWrongHex}
 use Rattle.postcard_cli.specs.Message.{lines_of, Prints, ReadsValue, ReadsValues, StandsFor}
 use Rattle.postcard_cli.specs.Program.{Does, Form, form_of, PrintsCall}
 use Rattle.postcard_cli.specs.Stream.{IsNamed, IsPlain, PrintsSoFar}
@@ -40,7 +39,7 @@ use Rattle.postcard_cli.specs.declared.command.Command.{Command}
 use Rattle.postcard_cli.specs.declared.command.Command.TheVariants.{Encode, Decode, DecodeAll, EncodeChecked, DecodeChecked, Frames, FramesOf, FramesChecked, Explain, Types, Checksum as ChecksumOf, Catalog}
 use Rattle.postcard_cli.specs.declared.stream.Format.{Format}
 use Rattle.postcard_cli.specs.declared.failure.Failure.{Failure}
-use Rattle.postcard_cli.specs.declared.failure.Failure.TheVariants.{Usage, BadType, BadValue, BadHex, UnknownChecksum, Library, Output, Limit, ReadFailed}
+use Rattle.postcard_cli.specs.declared.failure.Failure.TheVariants.{Usage, BadType, BadValue, BadHex, BadHexAt, UnknownChecksum, Library, Output, Limit, ReadFailed}
 use Rattle.postcard_cli.specs.declared.failure.Failure.TheVariants as failed
 
 -- ---- TYPE
@@ -71,7 +70,7 @@ TypeFails expression old new failure = ⊥
 
 -- ---- HEX
 
--- The text whose words are the digits of HEX: HEX itself, or, if it is `-`, the whole input.
+-- The text of the digits of HEX: HEX itself, or, if it is `-`, the whole input.
 pub record IsDigitText (hex : List ℕ) (known left : Option (List ℕ)) (digits : List ℕ) : Type 0 where
   pub own : hex ≢ codes "-" → digits ≡ hex
   pub input : hex ≡ codes "-" → Consumes known left digits × IsAtEnd left
@@ -88,11 +87,10 @@ InputFails reads steady known left Limit = ReadsAtLeast reads known left
 InputFails reads steady known left (Library e) = e ≡ OutOfMemory
 InputFails reads steady known left failure = ⊥
 
--- The failures of reading HEX. It is bad if a word of its text spells no bytes, or, of the input,
--- if it isn't UTF-8. The input fails only if HEX is `-`.
+-- The failures of reading HEX. It is bad if its text spells no bytes, at the first wrong character.
+-- The input fails only if HEX is `-`.
 abbrev pub HexFails : ℕ → Type 0 → List ℕ → Option (List ℕ) → Option (List ℕ) → Failure → Type 0
-HexFails reads steady hex known left BadHex =
-    (digits : List ℕ) × IsDigitText hex known left digits × (HasBadWord (words_of digits) ⊎ (IsUtf8 digits → ⊥))
+HexFails reads steady hex known left (BadHexAt n) = (digits : List ℕ) × IsDigitText hex known left digits × IsWrongHex digits n
 HexFails reads steady hex known left ReadFailed = (hex ≡ codes "-") × (steady → ⊥)
 HexFails reads steady hex known left Limit = (hex ≡ codes "-") × ReadsAtLeast reads known left
 HexFails reads steady hex known left (Library e) = e ≡ OutOfMemory
@@ -156,7 +154,7 @@ pub record IsMessageRefused (expression hex : List ℕ) (known left old new : Op
 -- The failures of `dec` with an expression.
 abbrev pub DecodeFails : ℕ → Type 0 → List ℕ → List ℕ → Option (List ℕ) → Option (List ℕ) → Option (List ℕ) → Option (List ℕ) → Failure → Type 0
 DecodeFails reads steady expression hex known left old new BadType = IsTypeRefused expression old new
-DecodeFails reads steady expression hex known left old new BadHex = IsType expression × HexFails reads steady hex known left BadHex
+DecodeFails reads steady expression hex known left old new (BadHexAt n) = IsType expression × HexFails reads steady hex known left (BadHexAt n)
 DecodeFails reads steady expression hex known left old new ReadFailed = IsType expression × HexFails reads steady hex known left ReadFailed
 DecodeFails reads steady expression hex known left old new Limit = IsType expression × HexFails reads steady hex known left Limit
 DecodeFails reads steady expression hex known left old new (Library e) =
@@ -168,7 +166,7 @@ DecodeFails reads steady expression hex known left old new failure = ⊥
 -- The failures of `decs`.
 abbrev pub DecodeAllFails : ℕ → Type 0 → List ℕ → List ℕ → Option (List ℕ) → Option (List ℕ) → Option (List ℕ) → Option (List ℕ) → Failure → Type 0
 DecodeAllFails reads steady expression hex known left old new BadType = IsTypeRefused expression old new ⊎ HasNoBytes expression
-DecodeAllFails reads steady expression hex known left old new BadHex = IsType expression × HexFails reads steady hex known left BadHex
+DecodeAllFails reads steady expression hex known left old new (BadHexAt n) = IsType expression × HexFails reads steady hex known left (BadHexAt n)
 DecodeAllFails reads steady expression hex known left old new ReadFailed = IsType expression × HexFails reads steady hex known left ReadFailed
 DecodeAllFails reads steady expression hex known left old new Limit = IsType expression × HexFails reads steady hex known left Limit
 DecodeAllFails reads steady expression hex known left old new (Library e) = (e ≡ OutOfMemory) ⊎ IsMessageRefused expression hex known left old new e
@@ -178,7 +176,7 @@ DecodeAllFails reads steady expression hex known left old new failure = ⊥
 -- The failures of `explain`.
 abbrev pub ExplainFails : ℕ → Type 0 → List ℕ → List ℕ → Bool → Option (List ℕ) → Option (List ℕ) → Option (List ℕ) → Option (List ℕ) → Failure → Type 0
 ExplainFails reads steady expression hex all known left old new BadType = IsTypeRefused expression old new
-ExplainFails reads steady expression hex all known left old new BadHex = IsType expression × HexFails reads steady hex known left BadHex
+ExplainFails reads steady expression hex all known left old new (BadHexAt n) = IsType expression × HexFails reads steady hex known left (BadHexAt n)
 ExplainFails reads steady expression hex all known left old new ReadFailed = IsType expression × HexFails reads steady hex known left ReadFailed
 ExplainFails reads steady expression hex all known left old new Limit = IsType expression × HexFails reads steady hex known left Limit
 ExplainFails reads steady expression hex all known left old new (Library e) = (e ≡ OutOfMemory) ⊎ (e ≡ WontImplement) ⊎ IsExplainRefused expression hex all known left old new e

@@ -20,6 +20,9 @@ pub enum Failure {
     BadValue,
     /// HEX is not an even number of hexadecimal digits.
     BadHex,
+    /// HEX is no text of hexadecimal digits, since the character with this number, counted from 1,
+    /// is wrong.
+    BadHexAt(usize),
     /// No checksum has the name NAME.
     UnknownChecksum,
     /// The library failed to encode or decode the value, or an allocation failed while TYPE, VALUE
@@ -43,7 +46,7 @@ impl Failure {
         match self {
             Failure::Library(_) => 1,
             Failure::Usage | Failure::BadType | Failure::BadValue | Failure::BadHex => 2,
-            Failure::UnknownChecksum => 2,
+            Failure::BadHexAt(_) | Failure::UnknownChecksum => 2,
             Failure::Output | Failure::Limit | Failure::ReadFailed | Failure::OutOfMemory => 3,
         }
     }
@@ -58,6 +61,7 @@ impl fmt::Display for Failure {
             Failure::BadType => f.write_str("bad type"),
             Failure::BadValue => f.write_str("bad value"),
             Failure::BadHex => f.write_str("bad hex"),
+            Failure::BadHexAt(character) => write!(f, "at character {character}: bad hex"),
             Failure::UnknownChecksum => f.write_str("unknown checksum, pcard crc lists them"),
             Failure::Library(error) => error.fmt(f),
             Failure::Output => f.write_str("the output could not be written"),

@@ -4,11 +4,11 @@ ghost use Rattle.std.specs.Prelude.{◌≡◌, ◌≤◌, ◌⊎◌, length, IfO
 ghost use Rattle.std.specs.Io.KnownBytes.{Appends, Consumes, IsAtEnd};
 ghost use Rattle.hex.specs.Hex.{decode_of, encode_lower};
 ghost use Rattle.postcard_wire.specs.declared.error.Error.TheVariants.{OutOfMemory};
-ghost use Rattle.postcard_cli.specs.Hexadecimal.{words_of, AreBytesOf, HasBadWord};
 ghost use Rattle.postcard_cli.specs.Message.{StandsFor};
 ghost use Rattle.postcard_cli.specs.Refusal.{HexFails, InputFails};
 
 use crate::failure::Failure;
+use crate::pasted;
 use crate::stream::{CHUNK, READS};
 use hex::FromHex;
 use postcard_de_flavors::Source;
@@ -25,13 +25,13 @@ const PIECE: usize = 64;
 ///
 /// Fails with `BadHex` if the text has another character or an odd number of digits, and with
 /// `Library(OutOfMemory)` if an allocation fails.
-pub fn read(alloc: Global, text: &str) -> Result<Vec<u8>, Failure>
+pub fn read(alloc: Global, text: &[u8]) -> Result<Vec<u8>, Failure>
     ensures value { IfOk result (λ bytes. decode_of text.now ≡ Ok bytes.items) }
     ensures refused { IfErr result (λ e. ((e ≡ Failure.BadHex) × IsErr (decode_of text.now))
         ⊎ (e ≡ Failure.Library OutOfMemory)) }
 {
     let mut bytes = Vec::new(alloc);
-    let mut rest = text.as_bytes();
+    let mut rest = text;
     'pairs: while rest.len() >= 2 {
         let (pair, after) = rest.split_at(2);
         let Ok(byte) = <[u8; 1]>::from_hex(pair) else {
@@ -46,15 +46,14 @@ pub fn read(alloc: Global, text: &str) -> Result<Vec<u8>, Failure>
     Ok(bytes)
 }
 
-/// Returns the bytes of a text of words of hexadecimal digits, of either case, with blanks between
-/// the words. A word may begin with `0x`. For the text `-`, the input is read to its end and is the
-/// text.
+/// Returns the bytes of a text of hexadecimal digits as it is pasted: with blanks, colons, commas or
+/// hyphens between the bytes, or as the lines of `xxd` or of `hexdump -C`. For the text `-`, the
+/// input is read to its end and is the text.
 ///
 /// # Errors
 ///
-/// Fails with `BadHex` if a word isn't an even number of digits or the input isn't UTF-8, with
-/// `Library(OutOfMemory)` if an allocation fails, with `ReadFailed` if a read of the input fails,
-/// and with `Limit` if the input doesn't end within [`READS`] reads, which no input does.
+/// Fails as [`pasted::read`] does, with `ReadFailed` if a read of the input fails, and with `Limit`
+/// if the input doesn't end within [`READS`] reads, which no input does.
 pub fn read_loose<R: Source>(alloc: Global, text: &str, input: &mut R) -> Result<Vec<u8>, Failure>
     ensures value { IfOk result (λ bytes. StandsFor text.now (R.remaining input.old)
         (R.remaining input.new) bytes.items) }
@@ -62,30 +61,10 @@ pub fn read_loose<R: Source>(alloc: Global, text: &str, input: &mut R) -> Result
         (R.remaining input.old) (R.remaining input.new)) }
 {
     if text != "-" {
-        return read_words(alloc, text);
+        return pasted::read(alloc, text.as_bytes());
     }
     let held = read_input(alloc, input)?;
-    match str::from_utf8(&held) {
-        Ok(text) => read_words(alloc, text),
-        Err(_) => Err(Failure::BadHex),
-    }
-}
-
-/// Returns the bytes of the words of a text, each with `0x` before it or without.
-fn read_words(alloc: Global, text: &str) -> Result<Vec<u8>, Failure>
-    ensures value { IfOk result (λ bytes. AreBytesOf (words_of text.now) bytes.items) }
-    ensures refused { IfErr result (λ e. ((e ≡ Failure.BadHex) × HasBadWord (words_of text.now))
-        ⊎ (e ≡ Failure.Library OutOfMemory)) }
-{
-    let mut bytes = Vec::new(alloc);
-    for word in text.split_ascii_whitespace() {
-        let digits = match word.strip_prefix("0x") {
-            Some(digits) => digits,
-            None => word,
-        };
-        bytes.extend_from_slice(&read(alloc, digits)?)?;
-    }
-    Ok(bytes)
+    pasted::read(alloc, &held)
 }
 
 /// Returns all bytes of the input.

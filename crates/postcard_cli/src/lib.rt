@@ -13,6 +13,7 @@ pub mod frames;
 pub mod hexadecimal;
 pub mod joined;
 pub mod message;
+pub mod pasted;
 pub mod place;
 pub mod program;
 pub mod reason;

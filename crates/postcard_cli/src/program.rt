@@ -206,7 +206,7 @@ fn decode<R: Source, W: Write>(
 {
     match kind {
         TypeWord::Named(kind) => {
-            let bytes = hexadecimal::read(alloc, hex)?;
+            let bytes = hexadecimal::read(alloc, hex.as_bytes())?;
             convert(alloc, kind, Task::Decode(bytes.as_slice()), output)
         }
         TypeWord::Expression(text) => message::decode(alloc, text, hex, input, output),

@@ -179,7 +179,7 @@ const ENCODE: [Call; 17] = [
 ];
 
 /// Calls of `dec` with a type expression.
-const DECODE: [Call; 11] = [
+const DECODE: [Call; 9] = [
     (&["dec", SENSOR, "2a0178020204ff"], b"", SHOWN, 0),
     (&["dec", SENSOR, "0x2A 01 78\t0x0202 04ff"], b"", SHOWN, 0),
     (&["dec", SENSOR, "-"], b"2a 0178\n0202\n04 FF\n", SHOWN, 0),
@@ -203,9 +203,12 @@ const DECODE: [Call; 11] = [
         "at byte 2: Found a bool that wasn't 0 or 1\n",
         1,
     ),
-    (&["dec", "(u8)", "0"], b"", "bad hex\n", 2),
-    (&["dec", "(u8)", "0 7"], b"", "bad hex\n", 2),
-    (&["dec", "(u8)", "-"], b"\xc3\xa9", "bad hex\n", 2),
+    (
+        &["dec", "(u9)", "0"],
+        b"",
+        "unknown type at character 2: bad type\n",
+        2,
+    ),
 ];
 
 /// Calls of `decs`.

@@ -7,6 +7,8 @@ mod calls;
 #[cfg(test)]
 mod checksums;
 #[cfg(test)]
+mod control;
+#[cfg(test)]
 mod explain;
 #[cfg(test)]
 mod expressions;
@@ -20,6 +22,8 @@ mod helpers;
 mod limits;
 #[cfg(test)]
 mod output;
+#[cfg(test)]
+mod pasted;
 #[cfg(test)]
 mod random;
 #[cfg(test)]

@@ -5,7 +5,7 @@ use Rattle.postcard_cli.proofs.Digits.{before-start, before-step, before-refused
 use Rattle.postcard_cli.proofs.hexadecimal.read.Goals as goal
 
 pub pairs-init : goal.pairs-init
-pairs-init c = rw (c.new-bytes.ensures.items, c.as_bytes-rest.ensures.value) (before-start c.args.text.now)
+pairs-init c = rw c.new-bytes.ensures.items (before-start c.args.text.now)
 
 pub returns-in_default-clause-refused : goal.returns-in_default-clause-refused
 returns-in_default-clause-refused c =

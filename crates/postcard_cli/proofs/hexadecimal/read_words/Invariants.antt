@@ -1,6 +1,0 @@
-use Rattle.std.specs.Str.Iter.{split_ascii_whitespace_text}
-use Rattle.postcard_cli.proofs.WordLemmas.{IsReadUpTo}
-use Rattle.postcard_cli.proofs.hexadecimal.read_words.Given as goal
-
-abbrev pub invariant-loop-word : goal.invariant-loop-word
-invariant-loop-word l = IsReadUpTo l.text l.bytes.items (split_ascii_whitespace_text l.word-iterator)
