@@ -9,5 +9,6 @@ pub mod Message
 pub mod Program
 pub mod Receiving
 pub mod Refusal
+pub mod Size
 pub mod Stream
 pub mod Value

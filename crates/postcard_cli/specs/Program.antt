@@ -19,6 +19,7 @@ use Rattle.postcard_cli.specs.Command.{IsCallOf}
 use Rattle.postcard_cli.specs.Explain.{PrintsExplained}
 use Rattle.postcard_cli.specs.Frames.{PrintsAnswers}
 use Rattle.postcard_cli.specs.Message.{PrintsEncoded, PrintsFirst, PrintsAll}
+use Rattle.postcard_cli.specs.Size.{PrintsSize}
 use Rattle.postcard_cli.specs.Stream.{IsNamed, IsPlain, PrintsValues}
 use Rattle.postcard_cli.specs.Value.{parts, SayEach, SomeSaysNone}
 use Rattle.postcard_cli.specs.declared.checksum.TheConstants.{CATALOG}
@@ -31,7 +32,7 @@ use Rattle.postcard_cli.specs.declared.command.ValueType.TheVariants.{U8, U16, U
 use Rattle.postcard_cli.specs.declared.command.TypeWord.{TypeWord}
 use Rattle.postcard_cli.specs.declared.command.TypeWord.TheVariants.{Named, Expression}
 use Rattle.postcard_cli.specs.declared.command.Command.{Command}
-use Rattle.postcard_cli.specs.declared.command.Command.TheVariants.{Encode, Decode, DecodeAll, EncodeChecked, DecodeChecked, Frames, FramesOf, FramesChecked, Explain, Types, Checksum, Catalog}
+use Rattle.postcard_cli.specs.declared.command.Command.TheVariants.{Encode, Decode, DecodeAll, EncodeChecked, DecodeChecked, Frames, FramesOf, FramesChecked, Explain, Size, Types, Checksum, Catalog}
 
 -- The values of a type: what they are on the wire, in a word, and as text.
 pub record Form : Type 1 where
@@ -164,6 +165,7 @@ Performs syntax (FramesOf expression longest) known left old new =
 Performs syntax (FramesChecked name expression) known left old new =
     (format : Format) × IsNamed format name.now expression.now × PrintsValues format 65536 known left old new
 Performs syntax (Explain expression hex all) known left old new = PrintsExplained expression.now hex.now all known left old new
+Performs syntax (Size expression) known left old new = PrintsSize expression.now old new
 Performs syntax Types known left old new = Appends old new syntax
 Performs syntax (Checksum name hex) known left old new = PrintsChecksum name.now hex.now known left old new
 Performs syntax Catalog known left old new = Appends old new CATALOG.now

@@ -146,6 +146,10 @@ pub enum Command<'a> {
         hex: &'a str,
         all: bool,
     },
+    /// `size TYPE`, where TYPE is taken as an expression.
+    Size {
+        expression: &'a str,
+    },
     /// `types`.
     Types,
     /// `crc NAME HEX`.
@@ -210,6 +214,7 @@ impl<'a> Command<'a> {
                 expression: kind,
                 longest: LONGEST,
             }),
+            "size" => Some(Command::Size { expression: kind }),
             _ => None,
         }
     }

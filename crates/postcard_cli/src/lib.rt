@@ -17,6 +17,7 @@ pub mod pasted;
 pub mod place;
 pub mod program;
 pub mod reason;
+pub mod size;
 pub mod stream;
 pub mod syntax;
 pub mod value;

@@ -33,7 +33,7 @@ use crate::failure::Failure;
 use crate::joined::Joined;
 use crate::stream::READS;
 use crate::syntax::SYNTAX;
-use crate::{checksum, explain, frames, hexadecimal, message, stream, syntax, value};
+use crate::{checksum, explain, frames, hexadecimal, message, size, stream, syntax, value};
 use postcard_de::{Deserialize, take_from_bytes};
 use postcard_de_flavors::Source;
 use postcard_ser::{Serialize, Serializer};
@@ -166,6 +166,7 @@ fn carry_out<R: Source, W: Write>(
             hex,
             all,
         } => explain::print(alloc, expression, hex, all, input, output),
+        Command::Size { expression } => size::print(alloc, expression, output),
         Command::Types => syntax::print(output),
         Command::Checksum { name, hex } => checksum::print(alloc, name, hex, input, output),
         Command::Catalog => checksum::print_catalog(output),
