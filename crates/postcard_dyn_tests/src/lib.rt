@@ -31,6 +31,8 @@ mod refused;
 #[cfg(test)]
 mod same;
 #[cfg(test)]
+mod size;
+#[cfg(test)]
 mod texts;
 #[cfg(test)]
 mod vectors;

@@ -33,7 +33,7 @@ group_size-loop-part-init t c = record {
 }
 
 pub group_size-loop-part-preserved : goal.group_size-loop-part-preserved
-group_size-loop-part-preserved t c = 
+group_size-loop-part-preserved t c =
     let xs = c.deref-part-items.result.now in
     let k = c.loop-part.part-index in
     let below : k < length xs = omega arith in
