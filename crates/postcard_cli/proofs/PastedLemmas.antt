@@ -1,5 +1,5 @@
 -- Lemmas on texts of hexadecimal digits, part by part.
-use Rattle.std.proofs.Common.{arith, ◌≡◌, ℕ, zero, suc, ◌+◌, ◌-◌, ◌<◌, ◌≤◌, Bool, true, false, ◌⊎◌, inl, inr, List, [], ◌∷◌, ◌++◌, length, min, ◌||◌, take, drop, get_or, Option, Some, None, add-one, refl, sym, ap, subst, ◌∙◌}
+use Rattle.std.proofs.Common.{arith, ◌≡◌, ℕ, suc, ◌+◌, ◌-◌, ◌<◌, ◌≤◌, Bool, true, false, ◌⊎◌, inl, inr, List, [], ◌∷◌, ◌++◌, length, min, ◌||◌, take, drop, get_or, Some, None, add-one, refl, sym, ap, subst, ◌∙◌}
 use Rattle.std.proofs.lemmas.Bool.{cases_lt, lt-ltb}
 use Rattle.std.proofs.Math.Seq.{drop-cons, take-suc}
 use Rattle.std.proofs.lemmas.List.{append_assoc, append-nil, length-drop, length-take-le, nil_from_length, take_all}
@@ -11,7 +11,6 @@ use Rattle.std.specs.Prelude.{◌==◌, nat_eq, Ok, Err, codes, IfErr, IsErr, Re
 use Rattle.std.specs.List.{list_any, position, position_or_len, slice_split, starts_with}
 use Rattle.std.specs.Str.{IsTrimAsciiStart}
 use Rattle.hex.specs.Hex.{decode_of}
-use Rattle.hex.specs.declared.error.FromHexError.{FromHexError}
 use Rattle.postcard_wire.specs.declared.error.Error.TheVariants.{OutOfMemory}
 use Rattle.postcard_dyn_schema.specs.Text.{characters, unblank}
 use Rattle.postcard_dyn_schema.specs.FrontLemmas.{trim_is}
