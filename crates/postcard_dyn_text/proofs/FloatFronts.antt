@@ -1,21 +1,20 @@
 -- Which float is at the front of a text.
-use Rattle.std.proofs.Common.{◌≡◌, ℕ, zero, suc, ◌+◌, ◌<◌, Bool, true, false, cond, ◌||◌, ◌&&◌, List, [], ◌∷◌, ◌++◌, length, get_or, drop, Option, Some, None, codes, refl, sym, ap, subst, ◌∙◌, true≢false, arith, ◌⊎◌, inl, inr}
+use Rattle.std.proofs.Common.{◌≡◌, ℕ, ◌+◌, ◌<◌, Bool, true, false, ◌||◌, ◌&&◌, List, [], ◌∷◌, ◌++◌, length, get_or, Some, None, codes, refl, sym, ap, subst, ◌∙◌, true≢false, arith, ◌⊎◌, inl, inr}
 use Rattle.std.proofs.lemmas.Bool.Decides.{nat_tests}
 use Rattle.std.proofs.lemmas.List.{append_assoc}
 use Rattle.std.specs.Bool.{◌==◌}
 use Rattle.std.specs.Char.{is_ascii_whitespace, is_ascii_digit, to_ascii_lowercase}
 use Rattle.std.specs.Float.{Float, Format}
-use Rattle.std.specs.Float.Ieee.{to_bits}
-use Rattle.std.specs.Float.Parse.{parse_float, is_float_text, completes_number, float_scan_step, lowercases_to, without_sign, is_infinity_text, is_nan_text}
+use Rattle.std.specs.Float.Parse.{parse_float, completes_number, float_scan_step, lowercases_to, without_sign, is_infinity_text, is_nan_text}
 use Rattle.std.specs.List.{AllPass}
-use Rattle.std.specs.Prelude.{is_some, slice_index}
+use Rattle.std.specs.Prelude.{is_some}
 use Rattle.std.specs.Str.{IsTrimAsciiStart, IsUtf8}
 use Rattle.std.specs.Str.Parse.{IsNumeral, digits_value}
 use Rattle.std.proofs.lemmas.Str.{IsUtf8-from_ascii}
 use Rattle.std.proofs.lemmas.Str.Ascii.{IsAscii-from_all}
 use Rattle.core.proofs.dec2flt.Grammar.{is_some-parse_float}
-use Rattle.postcard_dyn_schema.specs.Text.{unblank, is_of_word, AreBlank, Led, Then, TakesPhrase, IsSign, IsWord, EndsWord}
-use Rattle.postcard_dyn_schema.specs.FrontLemmas.{trim_is, pass_head, pass_tail, unblank_more, unblank_black, takes_split, same_first, same_rest, one_word, word_unblank, sign_unblank, sign_ends_word, same_word, word_taken as whole_word}
+use Rattle.postcard_dyn_schema.specs.Text.{unblank, is_of_word, Led, Then, TakesPhrase, IsSign, IsWord, EndsWord}
+use Rattle.postcard_dyn_schema.specs.FrontLemmas.{trim_is, pass_head, pass_tail, unblank_more, unblank_black, takes_split, same_first, same_rest, word_unblank, sign_unblank, sign_ends_word, same_word, word_taken as whole_word}
 use Rattle.postcard_dyn_text.specs.Floats.{is_of_float, IsFloatWord, AreNan, IsHexadecimal, IsNanText, SpellsFloat, EndsNumber, EndsFloat}
 use Rattle.postcard_dyn_text.proofs.FloatTexts.{true_or_false, pass_cons, pass_none}
 
@@ -115,7 +114,7 @@ signed_all (b ∷ bs) h = elim (true_or_false (b == 43 || b == 45)) [
 ]
 
 -- What is read as a float has a byte, and only bytes of numbers.
-float_all : (f : Format) (x : Float) (bs : List ℕ) → parse_float f bs ≡ Some x → (0 < length bs) × AllPass is_of_float bs
+pub float_all : (f : Format) (x : Float) (bs : List ℕ) → parse_float f bs ≡ Some x → (0 < length bs) × AllPass is_of_float bs
 float_all f x [] reads = absurd (true≢false (ap is_some (sym reads) ∙ is_some-parse_float f []))
 float_all f x (b ∷ bs) reads = (omega arith, signed_all (b ∷ bs) (unsigned_all (without_sign (b ∷ bs)) (sym (is_some-parse_float f (b ∷ bs)) ∙ ap is_some reads)))
 
@@ -131,24 +130,24 @@ first_word : (w r : List ℕ) → AllPass is_of_float w → 0 < length w → unb
 first_word [] r pass some = absurd (omega (arith, some))
 first_word (x ∷ w) r pass some = unblank_black x (w ++ r) (black x (pass_head is_of_float x w pass))
 
-record NumberFirst (f : Format) (bits : ℕ) (text rest : List ℕ) : Type 0 where
+pub record NumberFirst (f : Format) (bits : ℕ) (text rest : List ℕ) : Type 0 where
   pub word : List ℕ
   pub reads : IsFloatWord f bits word
   pub all : AllPass is_of_float word
   pub first : unblank text ≡ word ++ rest
 
-number_first : (f : Format) (bits : ℕ) (text rest : List ℕ) → TakesPhrase (Led (IsFloatWord f bits)) text rest → NumberFirst f bits text rest
+pub number_first : (f : Format) (bits : ℕ) (text rest : List ℕ) → TakesPhrase (Led (IsFloatWord f bits)) text rest → NumberFirst f bits text rest
 number_first f bits text rest (front, (blanks, word, blank, reads, e), whole) =
     let k = float_all f reads.0 word reads.1 in
     let all : text ≡ blanks ++ (word ++ rest) = whole ∙ ap (λ t. t ++ rest) e ∙ append_assoc blanks word rest in
     record { word = word; reads = reads; all = k.1; first = ap unblank all ∙ unblank_more blanks (word ++ rest) blank ∙ first_word word rest k.1 k.0 }
 
-record NanFirst (bits : ℕ) (text rest : List ℕ) : Type 0 where
+pub record NanFirst (bits : ℕ) (text rest : List ℕ) : Type 0 where
   pub back : List ℕ
   pub first : unblank text ≡ codes "nan" ++ back
   pub code : TakesPhrase (Then (IsSign 40) (Then (IsHexadecimal bits) (IsSign 41))) back rest
 
-nan_first : (f : Format) (bits : ℕ) (text rest : List ℕ) → TakesPhrase (IsNanText f bits) text rest → NanFirst bits text rest
+pub nan_first : (f : Format) (bits : ℕ) (text rest : List ℕ) → TakesPhrase (IsNanText f bits) text rest → NanFirst bits text rest
 nan_first f bits text rest (front, (are, code), whole) =
     let k = takes_split (IsWord (codes "nan")) (Then (IsSign 40) (Then (IsHexadecimal bits) (IsSign 41))) text rest (front, code, whole) in
     record { back = k.0; first = word_unblank 110 (97 ∷ 110 ∷ []) text k.0 k.1; code = k.2 }

@@ -2,7 +2,7 @@
 use Rattle.std.proofs.Common.{◌≡◌, ◌≢◌, ℕ, ◌+◌, ◌*◌, ◌^◌, ◌<◌, ◌≤◌, List, [], ◌∷◌, ◌++◌, length, refl, sym, ap, ◌∙◌, arith, inl, inr}
 use Rattle.std.proofs.Math.Nat.{pow-le-pow_right}
 use Rattle.std.proofs.lemmas.Grind.{common_steps}
-use Rattle.std.proofs.lemmas.List.{append_assoc, append-nil}
+use Rattle.std.proofs.lemmas.List.{append_assoc, append-nil, length-append}
 use Rattle.std.proofs.lemmas.Int.Digits.{digits_value-lt}
 use Rattle.std.specs.Prelude.{Result, Ok, Err, OnOk}
 use Rattle.std.specs.List.{AllByRecursion, flat_map}
@@ -136,6 +136,15 @@ pub code_escape : (c : ℕ) (old new text middle rest : List ℕ) → new ≡ ol
     → (held : List ℕ) × (new ≡ old ++ held) × TakesPhrase (IsEscape held) text rest
 code_escape c old new text middle rest added next (code, is, whole) =
     (encode_utf8 c, added, (117 ∷ code, inr (c, code, is, refl, refl), next ∙ ap (λ t. 117 ∷ t) whole))
+
+-- An escape isn't empty.
+pub escape_shorter : (old new text rest : List ℕ) → (held : List ℕ) × (new ≡ old ++ held) × TakesPhrase (IsEscape held) text rest → length rest < length text
+escape_shorter old new text rest (held, added, (front, inl (letter, byte, stands, is, e), whole)) =
+    let long = ap length whole ∙ length-append front rest in
+    omega (arith, long, ap length e)
+escape_shorter old new text rest (held, added, (front, inr (c, code, stands, is, e), whole)) =
+    let long = ap length whole ∙ length-append front rest in
+    omega (arith, long, ap length e)
 
 -- One more plain byte, or one more escape.
 pub plain_more : (q byte : ℕ) (held text rest after : List ℕ) → HasPieces q held text rest → rest ≡ byte ∷ after → byte ≢ q → byte ≢ 92 → HasPieces q (held ++ byte ∷ []) text after

@@ -44,11 +44,11 @@ abbrev pub trees_then : List Value → Trees → Trees
 trees_then [] ts = ts
 trees_then (v ∷ vs) ts = Then (tree v) (trees_then vs ts)
 
-then_none : (vs : List Value) → trees_then vs NoTrees ≡ trees (map tree vs)
+pub then_none : (vs : List Value) → trees_then vs NoTrees ≡ trees (map tree vs)
 then_none [] = refl
 then_none (v ∷ vs) = ap (Then (tree v)) (then_none vs)
 
-then_one : (vs : List Value) (v : Value) (ts : Trees) → trees_then (vs ++ v ∷ []) ts ≡ trees_then vs (Then (tree v) ts)
+pub then_one : (vs : List Value) (v : Value) (ts : Trees) → trees_then (vs ++ v ∷ []) ts ≡ trees_then vs (Then (tree v) ts)
 then_one [] v ts = refl
 then_one (u ∷ us) v ts = ap (Then (tree u)) (then_one us v ts)
 

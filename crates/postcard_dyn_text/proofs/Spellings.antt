@@ -20,7 +20,7 @@ use Rattle.postcard_dyn_text.specs.Spelled.{Phrase, Speller, RowAfter, Row, AreS
 pub takes_none : (a : List ℕ) → TakesPhrase (λ text. text ≡ []) a a
 takes_none a = ([], refl, refl)
 
-none_taken : (a b : List ℕ) → TakesPhrase (λ text. text ≡ []) a b → a ≡ b
+pub none_taken : (a b : List ℕ) → TakesPhrase (λ text. text ≡ []) a b → a ≡ b
 none_taken a b (front, none, whole) = whole ∙ ap (λ t. t ++ b) none
 
 -- Taking two phrases in a row takes the one and then the other.
@@ -94,7 +94,7 @@ after_as : (P Q : Phrase) (Ps : List Phrase) (text : List ℕ) → ((t : List �
 after_as P Q [] text f row = row
 after_as P Q (R ∷ Rs) text f (x, y, p, (u, v, r, more, e), whole) = (x, y, f x p, (u, v, r, after_as P Q Rs v f more, e), whole)
 
-row_as : (P Q : Phrase) (Ps : List Phrase) (text : List ℕ) → ((t : List ℕ) → P t → Q t) → Row P Ps text → Row Q Ps text
+pub row_as : (P Q : Phrase) (Ps : List Phrase) (text : List ℕ) → ((t : List ℕ) → P t → Q t) → Row P Ps text → Row Q Ps text
 row_as P Q [] text f row = row
 row_as P Q (R ∷ Rs) text f (x, y, r, more, e) = (x, y, r, after_as P Q Rs y f more, e)
 
@@ -159,7 +159,7 @@ module _ {X : Type 0} (see : X → Tree) where
       (row_more between Ps (SpellsTree (layout_of s) (see v)) a b c d row (subst (λ none. TakesPhrase (Unless none between) b c) (sym (some_parts ss vs same)) sign) one)
 
   -- A row of parts has as many parts as schemas, so it has phrases exactly if there are parts.
-  row_parts : (between : Phrase) (ss : List Schema) (vs : List X) (text : List ℕ) → Row between (part_phrases (layouts_of ss) (trees (map see vs))) text
+  pub row_parts : (between : Phrase) (ss : List Schema) (vs : List X) (text : List ℕ) → Row between (part_phrases (layouts_of ss) (trees (map see vs))) text
       → are_none (part_phrases (layouts_of ss) (trees (map see vs))) ≡ (length vs == 0)
   row_parts between [] [] text row = refl
   row_parts between [] (u ∷ us) text (front, back, none, more, whole) = absurd none

@@ -4,3 +4,4 @@ pub mod Printed
 pub mod Quoted
 pub mod Floats
 pub mod Spelled
+pub mod Accepted

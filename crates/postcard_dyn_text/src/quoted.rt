@@ -1,9 +1,11 @@
 //! Reading quoted texts and characters, and the digits of byte strings.
 
 ghost use Rattle.std.specs.Prelude.{◌≡◌, ◌≢◌, ◌+◌, ◌*◌, ◌<◌, ◌⊎◌, ℕ, List, [], ◌∷◌, ◌++◌, length};
-ghost use Rattle.std.specs.Prelude.{IfOk, IfErr, IfSome, IfNone, OnOk, string_bytes};
-ghost use Rattle.std.specs.Char.{IsScalar, digit_value, encode_utf8};
+ghost use Rattle.std.specs.Prelude.{IfOk, IfErr, IfSome, IfNone, OnOk, OnErr, MatchResult};
+ghost use Rattle.std.specs.Prelude.{false, IsUtf8, string_bytes};
+ghost use Rattle.std.specs.Char.{IsScalar, digit_value, encode_utf8, is_ascii_whitespace};
 ghost use Rattle.postcard_dyn_schema.specs.Text.{TakesPhrase};
+ghost use Rattle.postcard_dyn_text.specs.Accepted.{ReadsAs};
 ghost use Rattle.postcard_dyn_text.specs.Quoted.{StandsFor, IsCode, IsEscape, IsQuoted};
 ghost use Rattle.postcard_dyn_text.specs.Quoted.{AreDigitsOf};
 
@@ -20,6 +22,10 @@ use std::alloc::Global;
 pub fn take_quoted(alloc: Global, rest: &mut &[u8], quote: u8) -> Result<String, Stop>
     ensures spelled { IfOk result (λ text.
         TakesPhrase (IsQuoted quote (string_bytes text)) rest.old.now rest.new.now) }
+    ensures accepted { is_ascii_whitespace quote ≡ false → quote ≢ 92
+        → (held : List ℕ) (after : List ℕ) → IsUtf8 held
+        → TakesPhrase (IsQuoted quote held) rest.old.now after
+        → ReadsAs (λ text. string_bytes text ≡ held) result rest.new.now after }
 {
     if !take(rest, quote) {
         return Err(Stop::here(rest));
@@ -60,8 +66,11 @@ fn take_byte(rest: &mut &[u8]) -> Result<u8, Stop>
 
 /// Takes an escape after its `\`, and adds the character that it stands for to `bytes`.
 fn take_escape(rest: &mut &[u8], bytes: &mut Vec<u8>) -> Result<(), Stop>
-    ensures { OnOk result ((held : List ℕ) × (bytes.new.items ≡ bytes.old.items ++ held)
+    ensures taken { OnOk result ((held : List ℕ) × (bytes.new.items ≡ bytes.old.items ++ held)
         × TakesPhrase (IsEscape held) rest.old.now rest.new.now) }
+    ensures accepted { (held : List ℕ) (after : List ℕ)
+        → TakesPhrase (IsEscape held) rest.old.now after
+        → ReadsAs (λ done. bytes.new.items ≡ bytes.old.items ++ held) result rest.new.now after }
 {
     let start = *rest;
     let letter = take_byte(rest)?;
@@ -100,6 +109,8 @@ fn short_escape(letter: u8) -> Option<u8>
 /// before the `}`.
 fn take_code(rest: &mut &[u8]) -> Result<char, Stop>
     ensures code { IfOk result (λ c. TakesPhrase (IsCode c) rest.old.now rest.new.now) }
+    ensures accepted { (c : ℕ) (after : List ℕ) → TakesPhrase (IsCode c) rest.old.now after
+        → MatchResult result (λ read. (read ≡ c) × (rest.new.now ≡ after)) (λ stop. ⊥) }
     ensures place { IfErr result (λ stop. (stop ≡ Stop.At (length rest.old.now))
         ⊎ ((stop ≡ Stop.At 0) × (rest.new.now ≡ []))) }
 {
@@ -124,6 +135,7 @@ fn take_code(rest: &mut &[u8]) -> Result<char, Stop>
 fn character(code: u32, count: usize, start: &[u8]) -> Result<char, Stop>
     ensures found { IfOk result (λ c. (0 < count) × IsScalar code × (c ≡ code)) }
     ensures refused { IfErr result (λ stop. stop ≡ Stop.At (length start.now)) }
+    ensures none { OnErr result (0 < count → IsScalar code → ⊥) }
 {
     if count == 0 {
         return Err(Stop::here(start));

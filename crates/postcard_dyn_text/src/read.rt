@@ -1,9 +1,13 @@
 //! Reading a value from its text: [`read_text`].
 
-ghost use Rattle.std.specs.Prelude.{◌≡◌, ℕ, ◌<◌, [], ◌∷◌, ◌++◌, map, slice_index, length};
-ghost use Rattle.std.specs.Prelude.{IfOk, IfErr, OnOk, Ok, Some, true, false, get_or};
+ghost use Rattle.std.specs.Prelude.{◌≡◌, ◌≢◌, ℕ, ◌<◌, List, [], ◌∷◌, ◌++◌, map, slice_index, length};
+ghost use Rattle.std.specs.Prelude.{IfOk, IfErr, OnOk, MatchResult, Ok, Err, Some, true, false, get_or};
 ghost use Rattle.std.specs.Bool.{◌==◌};
-ghost use Rattle.std.specs.Char.{encode_utf8};
+ghost use Rattle.std.specs.Char.{encode_utf8, is_ascii_whitespace, IsScalar};
+ghost use Rattle.std.specs.List.{AllPass};
+ghost use Rattle.postcard_dyn_text.specs.Accepted.{Accepts, ReadsAs, FollowsValue, IsClosing};
+ghost use Rattle.postcard_dyn_text.specs.Accepted.{IsBetween, HasDistinctNames, HaveDistinctNames};
+ghost use Rattle.postcard_dyn_text.specs.Accepted.{HasDistinctItems, NamesDiffer, IsNotCalled};
 ghost use Rattle.postcard_dyn_text.specs.Place.{IsPlaceIn};
 ghost use Rattle.postcard_dyn_text.specs.Printed.{value_error_text};
 ghost use Rattle.postcard_dyn_text.specs.Quoted.{IsQuoted, IsByteString};
@@ -14,11 +18,13 @@ ghost use Rattle.postcard_dyn_text.specs.Spelled.{SpellsGroup, SpellsChoice, Spe
 ghost use Rattle.postcard_dyn_text.specs.Spelled.{SpellsContent, AreSigns, Row, AreClosed};
 ghost use Rattle.postcard_dyn_text.specs.Spelled.{phrases, part_phrases};
 ghost use Rattle.postcard_dyn_text.specs.Spelled.{Unless, opening_sign, closing_sign};
-ghost use Rattle.postcard_wire.specs.Tree.{trees};
+ghost use Rattle.postcard_dyn_text.specs.Accepted.{is_of_scalar as is_of_number, EndsScalar};
+ghost use Rattle.postcard_wire.specs.Tree.{Tree, Trees, trees};
 ghost use Rattle.postcard_wire.specs.Reading.{IsOption, IsGroup, IsSeq, IsArray, IsVariant, Each};
 ghost use Rattle.postcard_dyn_schema.specs.Meaning.{type_of, types_of, reads, reads_all, reads_at};
 ghost use Rattle.postcard_dyn_schema.specs.Meaning.{leaf_reads};
 ghost use Rattle.postcard_dyn_schema.specs.Text.{TakesPhrase, Then, IsSign, IsWord, IsMaybe};
+ghost use Rattle.postcard_dyn_schema.specs.Text.{EndsWord};
 ghost use Rattle.postcard_dyn_schema.specs.Names.{IsCalled};
 ghost use Rattle.postcard_dyn_schema.specs.declared.schema.Schema.{Schema};
 ghost use Rattle.postcard_dyn.specs.Tree.{tree};
@@ -82,6 +88,9 @@ impl Stop {
 pub fn read_text(alloc: Global, schema: &Schema, text: &str) -> Result<Value, TextError>
     ensures value { IfOk result (λ v. reads (type_of schema.now) (tree v)) }
     ensures spelled { IfOk result (λ v. SpellsValue schema.now v text.now) }
+    ensures accepted { HasDistinctNames (layout_of schema.now) → (v : Value)
+        → reads (type_of schema.now) (tree v) → SpellsValue schema.now v text.now
+        → MatchResult result (λ read. tree v ≡ tree read) (λ e. e ≡ TextError.OutOfMemory) }
     ensures place { IfErr result (IsPlaceIn text.now) }
 {
     let mut rest = text.as_bytes();
@@ -93,7 +102,8 @@ pub fn read_text(alloc: Global, schema: &Schema, text: &str) -> Result<Value, Te
 
 /// Returns the error for a text in which reading stops.
 fn error_in(text: &str, stop: Stop) -> TextError
-    ensures { IsPlaceIn text.now result }
+    ensures place { IsPlaceIn text.now result }
+    ensures memory { stop ≡ Stop.Memory → result ≡ TextError.OutOfMemory }
 {
     match stop {
         Stop::At(left) => TextError::NotAValue {
@@ -107,6 +117,9 @@ fn error_in(text: &str, stop: Stop) -> TextError
 fn read_whole(alloc: Global, schema: &Schema, rest: &mut &[u8]) -> Result<Value, Stop>
     ensures value { IfOk result (λ v. reads (type_of schema.now) (tree v)) }
     ensures spelled { IfOk result (λ v. SpellsValue schema.now v rest.old.now) }
+    ensures accepted { HasDistinctNames (layout_of schema.now) → (v : Value)
+        → reads (type_of schema.now) (tree v) → SpellsValue schema.now v rest.old.now
+        → MatchResult result (λ read. tree v ≡ tree read) (λ stop. stop ≡ Stop.Memory) }
 {
     let value = read(alloc, schema, rest)?;
     skip_blanks(rest);
@@ -118,7 +131,10 @@ fn read_whole(alloc: Global, schema: &Schema, rest: &mut &[u8]) -> Result<Value,
 
 /// Takes blanks and then this byte, or stops at what follows the blanks.
 fn expect(rest: &mut &[u8], byte: u8) -> Result<(), Stop>
-    ensures { OnOk result (TakesPhrase (IsSign byte) rest.old.now rest.new.now) }
+    ensures taken { OnOk result (TakesPhrase (IsSign byte) rest.old.now rest.new.now) }
+    ensures accepted { (after : List ℕ) → is_ascii_whitespace byte ≡ false
+        → TakesPhrase (IsSign byte) rest.old.now after
+        → MatchResult result (λ done. rest.new.now ≡ after) (λ stop. ⊥) }
 {
     if take(rest, byte) {
         return Ok(());
@@ -129,7 +145,10 @@ fn expect(rest: &mut &[u8], byte: u8) -> Result<(), Stop>
 
 /// Takes these bytes in order, each after blanks, or stops.
 fn expect_all(rest: &mut &[u8], bytes: &[u8]) -> Result<(), Stop>
-    ensures { OnOk result (TakesPhrase (AreSigns bytes.now) rest.old.now rest.new.now) }
+    ensures taken { OnOk result (TakesPhrase (AreSigns bytes.now) rest.old.now rest.new.now) }
+    ensures accepted { (after : List ℕ) → IsBetween bytes.now
+        → TakesPhrase (AreSigns bytes.now) rest.old.now after
+        → MatchResult result (λ done. rest.new.now ≡ after) (λ stop. ⊥) }
 {
     for byte in bytes {
         expect(rest, *byte)?;
@@ -140,7 +159,11 @@ fn expect_all(rest: &mut &[u8], bytes: &[u8]) -> Result<(), Stop>
 /// Takes the next word if it is `name`, and returns whether it is. Else it takes nothing.
 fn take_name(rest: &mut &[u8], name: &[u8]) -> bool
     ensures taken { result ≡ true → TakesPhrase (IsWord name.now) rest.old.now rest.new.now }
+    ensures one { result ≡ true → 0 < length name.now → (after : List ℕ)
+        → TakesPhrase (IsWord name.now) rest.old.now after → EndsWord after → rest.new.now ≡ after }
     ensures left { result ≡ false → rest.new.now ≡ rest.old.now }
+    ensures none { result ≡ false → 0 < length name.now → (after : List ℕ)
+        → TakesPhrase (IsWord name.now) rest.old.now after → EndsWord after → ⊥ }
 {
     let start = *rest;
     if take_word(rest) == name {
@@ -152,8 +175,11 @@ fn take_name(rest: &mut &[u8], name: &[u8]) -> bool
 
 /// Takes the bytes `between`, each after blanks, or nothing before the first part.
 fn separate(rest: &mut &[u8], is_first: bool, between: &[u8]) -> Result<(), Stop>
-    ensures { OnOk result (TakesPhrase (Unless is_first (AreSigns between.now))
+    ensures taken { OnOk result (TakesPhrase (Unless is_first (AreSigns between.now))
         rest.old.now rest.new.now) }
+    ensures accepted { (after : List ℕ) → IsBetween between.now
+        → TakesPhrase (Unless is_first (AreSigns between.now)) rest.old.now after
+        → MatchResult result (λ done. rest.new.now ≡ after) (λ stop. ⊥) }
 {
     if is_first {
         return Ok(());
@@ -163,7 +189,8 @@ fn separate(rest: &mut &[u8], is_first: bool, between: &[u8]) -> Result<(), Stop
 
 /// Adds a value to the end of the list.
 fn push(items: &mut Vec<Value>, item: Value) -> Result<(), Stop>
-    ensures { OnOk result (items.new.items ≡ items.old.items ++ item ∷ []) }
+    ensures added { OnOk result (items.new.items ≡ items.old.items ++ item ∷ []) }
+    ensures refused { IfErr result (λ stop. stop ≡ Stop.Memory) }
 {
     match items.push(item) {
         Ok(()) => Ok(()),
@@ -177,6 +204,9 @@ fn read(alloc: Global, schema: &Schema, rest: &mut &[u8]) -> Result<Value, Stop>
     ensures value { IfOk result (λ v. reads (type_of schema.now) (tree v)) }
     ensures spelled { IfOk result (λ v. TakesPhrase (SpellsTree (layout_of schema.now) (tree v))
         rest.old.now rest.new.now) }
+    ensures accepted { HasDistinctNames (layout_of schema.now)
+        → Accepts (reads (type_of schema.now)) (SpellsTree (layout_of schema.now))
+        rest.old.now result rest.new.now }
 {
     match schema {
         Schema::Leaf(leaf) => read_leaf(alloc, *leaf, rest),
@@ -204,6 +234,9 @@ fn read_option(alloc: Global, content: &Schema, rest: &mut &[u8]) -> Result<Valu
     ensures spelled { IfOk result (λ v.
         TakesPhrase (SpellsOption (SpellsTree (layout_of content.now)) (tree v))
         rest.old.now rest.new.now) }
+    ensures accepted { HasDistinctNames (layout_of content.now)
+        → Accepts (IsOption (reads (type_of content.now)))
+        (SpellsOption (SpellsTree (layout_of content.now))) rest.old.now result rest.new.now }
 {
     skip_blanks(rest);
     if take_name(rest, b"None".as_slice()) {
@@ -234,6 +267,11 @@ fn read_list(
     ensures spelled { IfOk result (λ v. TakesPhrase
         (SpellsList opening closing (SpellsItem (closing == 125) (layout_of element.now)) (tree v))
         rest.old.now rest.new.now) }
+    ensures accepted { is_ascii_whitespace opening ≡ false → IsClosing closing
+        → HasDistinctItems (closing == 125) (layout_of element.now)
+        → Accepts (IsSeq (reads (type_of element.now)))
+        (SpellsList opening closing (SpellsItem (closing == 125) (layout_of element.now)))
+        rest.old.now result rest.new.now }
 {
     expect(rest, opening)?;
     let items = read_items(alloc, element, rest, closing)?;
@@ -254,6 +292,11 @@ fn read_items(
     ensures spelled { IfOk result (λ v. TakesPhrase (AreClosed closing
         (phrases (SpellsItem (closing == 125) (layout_of element.now)) (trees (map tree v.items))))
         rest.old.now rest.new.now) }
+    ensures accepted { IsClosing closing → HasDistinctItems (closing == 125) (layout_of element.now)
+        → (ts : Trees) (after : List ℕ) → Each (reads (type_of element.now)) ts
+        → TakesPhrase (AreClosed closing
+        (phrases (SpellsItem (closing == 125) (layout_of element.now)) ts)) rest.old.now after
+        → ReadsAs (λ v. ts ≡ trees (map tree v.items)) result rest.new.now after }
 {
     let mut items = Vec::new(alloc);
     for _ in 0..rest.len() {
@@ -278,6 +321,9 @@ fn read_item(alloc: Global, element: &Schema, rest: &mut &[u8], closing: u8) -> 
     ensures spelled { IfOk result (λ v.
         TakesPhrase (SpellsItem (closing == 125) (layout_of element.now) (tree v))
         rest.old.now rest.new.now) }
+    ensures accepted { HasDistinctItems (closing == 125) (layout_of element.now)
+        → Accepts (reads (type_of element.now)) (SpellsItem (closing == 125) (layout_of element.now))
+        rest.old.now result rest.new.now }
 {
     if closing != b'}' {
         return read(alloc, element, rest);
@@ -300,6 +346,9 @@ fn read_array(
     ensures spelled { IfOk result (λ v.
         TakesPhrase (SpellsArray (SpellsTree (layout_of element.now)) (tree v))
         rest.old.now rest.new.now) }
+    ensures accepted { HasDistinctNames (layout_of element.now)
+        → Accepts (IsArray count (reads (type_of element.now)))
+        (SpellsArray (SpellsTree (layout_of element.now))) rest.old.now result rest.new.now }
 {
     expect(rest, b'[')?;
     let start = *rest;
@@ -316,6 +365,10 @@ fn read_group(alloc: Global, parts: &Vec<Schema>, rest: &mut &[u8]) -> Result<Va
     ensures value { IfOk result (λ v. IsGroup (reads_all (types_of parts.now.items)) (tree v)) }
     ensures spelled { IfOk result (λ v. TakesPhrase (SpellsGroup (layouts_of parts.now.items)
         (part_phrases (layouts_of parts.now.items)) (tree v)) rest.old.now rest.new.now) }
+    ensures accepted { HaveDistinctNames (layouts_of parts.now.items)
+        → Accepts (IsGroup (reads_all (types_of parts.now.items)))
+        (SpellsGroup (layouts_of parts.now.items) (part_phrases (layouts_of parts.now.items)))
+        rest.old.now result rest.new.now }
 {
     let (opening, closing) = brackets_of(parts);
     expect(rest, opening)?;
@@ -338,8 +391,11 @@ fn brackets_of(parts: &Vec<Schema>) -> (u8, u8)
 
 /// Takes the `,` that may follow the last part, if there is a part, and the closing bracket.
 fn close_parts(rest: &mut &[u8], are_none: bool, closing: u8) -> Result<(), Stop>
-    ensures { OnOk result (TakesPhrase (Then (Unless are_none (IsMaybe 44)) (IsSign closing))
+    ensures taken { OnOk result (TakesPhrase (Then (Unless are_none (IsMaybe 44)) (IsSign closing))
         rest.old.now rest.new.now) }
+    ensures accepted { (after : List ℕ) → is_ascii_whitespace closing ≡ false → closing ≢ 44
+        → TakesPhrase (Then (Unless are_none (IsMaybe 44)) (IsSign closing)) rest.old.now after
+        → MatchResult result (λ done. rest.new.now ≡ after) (λ stop. ⊥) }
 {
     if !are_none {
         let _ = take(rest, b',');
@@ -361,6 +417,11 @@ fn read_parts(
     ensures spelled { IfOk result (λ v. TakesPhrase (Row (AreSigns between.now)
         (part_phrases (layouts_of parts.now.items) (trees (map tree v.items))))
         rest.old.now rest.new.now) }
+    ensures accepted { IsBetween between.now → HaveDistinctNames (layouts_of parts.now.items)
+        → (ts : Trees) (after : List ℕ) → reads_all (types_of parts.now.items) ts
+        → TakesPhrase (Row (AreSigns between.now) (part_phrases (layouts_of parts.now.items) ts))
+        rest.old.now after → FollowsValue after
+        → ReadsAs (λ v. ts ≡ trees (map tree v.items)) result rest.new.now after }
 {
     let mut items = Vec::new(alloc);
     for part in parts {
@@ -378,11 +439,19 @@ fn read_variant(alloc: Global, variants: &Vec<Schema>, rest: &mut &[u8]) -> Resu
     ensures spelled { IfOk result (λ v.
         TakesPhrase (SpellsChoice (SpellsAt (layouts_of variants.now.items)) (tree v))
         rest.old.now rest.new.now) }
+    ensures accepted { NamesDiffer (layouts_of variants.now.items)
+        → HaveDistinctNames (layouts_of variants.now.items)
+        → Accepts (IsVariant (reads_at (types_of variants.now.items)))
+        (SpellsChoice (SpellsAt (layouts_of variants.now.items)))
+        rest.old.now result rest.new.now }
 {
     skip_blanks(rest);
     let start = *rest;
     let index = index_of(variants, take_word(rest));
-    let Some(Schema::Named(_, content)) = variants.get(index) else {
+    let Some(variant) = variants.get(index) else {
+        return Err(Stop::here(start));
+    };
+    let Schema::Named(_, content) = variant else {
         return Err(Stop::here(start));
     };
     let Ok(index) = u32::try_from(index) else {
@@ -397,17 +466,28 @@ fn read_variant(alloc: Global, variants: &Vec<Schema>, rest: &mut &[u8]) -> Resu
 
 /// Returns the index of the variant with this name, or the number of variants if none has it.
 fn index_of(variants: &Vec<Schema>, name: &[u8]) -> usize
-    ensures { result < length variants.now.items →
+    ensures found { result < length variants.now.items →
         (s : Schema) × (s ≡ get_or variants.now.items result s) × IsCalled name.now s }
+    ensures first { (i : ℕ) (s : Schema) → i < length variants.now.items → i < result
+        → s ≡ get_or variants.now.items i s → IsNotCalled name.now (layout_of s) }
 {
     for (i, variant) in variants.iter().enumerate() {
-        if let Schema::Named(other, _) = variant {
-            if other.as_bytes() == name {
-                return i;
-            }
+        if is_called(variant, name) {
+            return i;
         }
     }
     variants.len()
+}
+
+/// Returns whether the type is a field or a variant with this name.
+fn is_called(schema: &Schema, name: &[u8]) -> bool
+    ensures called { result ≡ true → IsCalled name.now schema.now }
+    ensures other { result ≡ false → IsNotCalled name.now (layout_of schema.now) }
+{
+    match schema {
+        Schema::Named(other, _) => other.as_bytes() == name,
+        _ => false,
+    }
 }
 
 /// Reads the content of a variant after its name: nothing for the unit, a tuple or a struct, or
@@ -418,6 +498,10 @@ fn read_content(alloc: Global, content: &Schema, rest: &mut &[u8]) -> Result<Val
     ensures spelled { IfOk result (λ v. TakesPhrase
         (SpellsContent (layout_of content.now) (SpellsTree (layout_of content.now)) (tree v))
         rest.old.now rest.new.now) }
+    ensures accepted { HasDistinctNames (layout_of content.now)
+        → Accepts (reads (type_of content.now))
+        (SpellsContent (layout_of content.now) (SpellsTree (layout_of content.now)))
+        rest.old.now result rest.new.now }
 {
     if is_unit(content) {
         return Ok(Value::Group(Vec::new(alloc)));
@@ -436,6 +520,7 @@ fn read_leaf(alloc: Global, leaf: Leaf, rest: &mut &[u8]) -> Result<Value, Stop>
     ensures value { IfOk result (λ v. leaf_reads leaf (tree v)) }
     ensures spelled { IfOk result (λ v. TakesPhrase (SpellsLeaf leaf (tree v))
         rest.old.now rest.new.now) }
+    ensures accepted { Accepts (leaf_reads leaf) (SpellsLeaf leaf) rest.old.now result rest.new.now }
 {
     skip_blanks(rest);
     match leaf {
@@ -462,8 +547,12 @@ fn read_leaf(alloc: Global, leaf: Leaf, rest: &mut &[u8]) -> Result<Value, Stop>
 fn scalar<T: FromStr>(rest: &mut &[u8]) -> Result<T, Stop>
 where
     T::Err: Drop,
-    ensures { IfOk result (λ x. TakesPhrase (λ word. T.from_str_gives word (Ok x))
+    ensures taken { IfOk result (λ x. TakesPhrase (λ word. T.from_str_gives word (Ok x))
         rest.old.now rest.new.now) }
+    ensures accepted { (word : List ℕ) (after : List ℕ) → AllPass is_of_number word → EndsScalar after
+        → rest.old.now ≡ word ++ after
+        → MatchResult result (λ x. T.from_str_gives word (Ok x) × (rest.new.now ≡ after))
+        (λ stop. (e : T.Err) × T.from_str_gives word (Err e)) }
 {
     let start = *rest;
     let count = match start.iter().position(|byte| !is_of_scalar(*byte)) {
@@ -484,14 +573,19 @@ where
 }
 
 /// Returns whether a byte may be part of a number or a bool.
-fn is_of_scalar(byte: u8) -> bool {
+fn is_of_scalar(byte: u8) -> bool
+    ensures { result ≡ is_of_number byte }
+{
     byte.is_ascii_alphanumeric() || byte == b'-' || byte == b'+'
 }
 
 /// Reads one character between single quotes.
 fn read_char(alloc: Global, rest: &mut &[u8]) -> Result<char, Stop>
-    ensures { IfOk result (λ c.
+    ensures spelled { IfOk result (λ c.
         TakesPhrase (IsQuoted 39 (encode_utf8 c)) rest.old.now rest.new.now) }
+    ensures accepted { (c : ℕ) (after : List ℕ) → IsScalar c
+        → TakesPhrase (IsQuoted 39 (encode_utf8 c)) rest.old.now after
+        → ReadsAs (λ read. read ≡ c) result rest.new.now after }
 {
     let start = *rest;
     let text = take_quoted(alloc, rest, b'\'')?;
@@ -506,6 +600,9 @@ fn read_bytes(alloc: Global, rest: &mut &[u8]) -> Result<Vec<u8>, Stop>
     ensures range { IfOk result (λ held. (k : ℕ) → slice_index held.items k < 256) }
     ensures spelled { IfOk result (λ held.
         TakesPhrase (IsByteString held.items) rest.old.now rest.new.now) }
+    ensures accepted { (bytes : List ℕ) (after : List ℕ)
+        → TakesPhrase (IsByteString bytes) rest.old.now after → EndsWord after
+        → ReadsAs (λ held. held.items ≡ bytes) result rest.new.now after }
 {
     let start = *rest;
     match take_word(rest).strip_prefix(b"0x") {

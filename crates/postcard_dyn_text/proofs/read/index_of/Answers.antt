@@ -1,10 +1,9 @@
-use Rattle.std.proofs.Common.{◌≡◌, sym, ◌∙◌}
-use Rattle.std.specs.Prelude.{string_bytes}
-use Rattle.std.proofs.lemmas.Bool.Decides.{Decides-eqb}
-use Rattle.std.proofs.lemmas.Slice.Eq.{slice_eq-Decides}
+use Rattle.std.proofs.Common.{◌≡◌, get_or}
+use Rattle.postcard_dyn_text.proofs.Choices.{not_called_more}
 use Rattle.postcard_dyn_text.proofs.read.index_of.Goals as goal
 
-pub returns-then-eq : goal.returns-then-eq
-returns-then-eq c =
-    let same : string_bytes c.in-Named.other ≡ c.args.name.now = sym c.as_bytes.ensures.value ∙ (slice_eq-Decides Decides-eqb _ _ _ c.eq.ensures).0 c.if-eq.true in
-    λ low. (c.variant-item.result, rw c.deref-variant-items.ensures.value at c.variant-item.is, (c.in-Named.other, c.in-Named.field-1, c.in-Named.is, same))
+pub loop-i-preserved : goal.loop-i-preserved
+loop-i-preserved c =
+    let whole = c.deref-variant-items.ensures.value in
+    let here : c.variant-item.result ≡ get_or c.args.variants.now.items c.loop-i.i c.variant-item.result = rw whole at c.variant-item.is in
+    not_called_more c.args.name.now c.args.variants.now.items c.loop-i.i c.variant-item.result (rw whole at c.loop-i-test.true) c.loop-i.invariant here (c.is_called.ensures.other c.if-is_called.false)
