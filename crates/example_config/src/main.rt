@@ -5,6 +5,7 @@
 mod command;
 mod config;
 mod counted;
+mod first;
 mod limited;
 mod pair;
 mod parts;
@@ -176,6 +177,7 @@ fn write_limited(rt: &HostRuntime, limit: usize) -> Result<()> {
 }
 
 fn main(rt: HostRuntime) -> Result<()> {
+    first::show(&rt)?;
     keep(&rt)?;
     answer(&rt)?;
     there_and_back(&rt, &example_routes(rt.alloc())?)?;
