@@ -25,7 +25,7 @@ use Rattle.postcard_cli.specs.declared.failure.Failure.TheVariants as failed
 use Rattle.postcard_cli.specs.declared.command.TypeWord.{TypeWord}
 use Rattle.postcard_cli.specs.declared.command.TypeWord.TheVariants.{Named, Expression}
 use Rattle.postcard_cli.specs.declared.command.Command.{Command}
-use Rattle.postcard_cli.specs.declared.command.Command.TheVariants.{Encode, Decode, DecodeAll, EncodeChecked, DecodeChecked, Frames, FramesOf, FramesChecked, Explain, Types, Checksum, Catalog}
+use Rattle.postcard_cli.specs.declared.command.Command.TheVariants.{Encode, Decode, DecodeAll, EncodeChecked, DecodeChecked, Frames, FramesOf, FramesChecked, Explain, Size, Types, Checksum, Catalog}
 
 -- The values of a type, whose words are those of `says`, and which `none` says not to be one.
 abbrev spoken : {T : Type 0} → Shape T → (T → Option (List ℕ)) → (List ℕ → T → Type 0) → (List ℕ → Type 0) → Form
@@ -195,6 +195,7 @@ performs_no_more syntax (Explain expression hex all) known left old mid new d no
   uncut = d.uncut;
   printed = rows_no_more d.layout 0 d.lines old mid new d.printed none;
 }
+performs_no_more syntax (Size expression) known left old mid new d none = (d.0, d.1, appends_no_more old mid new _ d.2 none)
 performs_no_more syntax Types known left old mid new d none = appends_no_more old mid new syntax d none
 performs_no_more syntax (Checksum name hex) known left old mid new d none = record {
   checksum = d.checksum;
