@@ -5,3 +5,4 @@ pub mod Elements
 pub mod Entries
 pub mod Printed
 pub mod Walked
+pub mod FloatLanes

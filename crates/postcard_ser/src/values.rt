@@ -6,7 +6,7 @@ mod fixed;
 mod floats;
 mod hashes;
 mod heaps;
-mod lists;
+pub(crate) mod lists;
 mod long_tuples;
 mod maps;
 mod net;

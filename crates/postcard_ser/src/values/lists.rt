@@ -26,12 +26,12 @@ pub(crate) fn serialize_all<T: Serialize, F: Flavor>(
 {
     match T::slice_bytes(items) {
         Some(bytes) => serializer.extend(bytes),
-        None => serialize_each(items, serializer),
+        None => T::serialize_elements(items, serializer),
     }
 }
 
 /// Writes the elements one by one.
-fn serialize_each<T: Serialize, F: Flavor>(
+pub(crate) fn serialize_each<T: Serialize, F: Flavor>(
     items: &[T],
     serializer: &mut Serializer<F>,
 ) -> Result<()>
