@@ -5,4 +5,3 @@ pub mod Elements
 pub mod Entries
 pub mod Printed
 pub mod Walked
-pub mod FloatLanes

@@ -1,13 +1,10 @@
 //! The trait of all types that are written.
 
-ghost use Rattle.std.specs.Prelude.{Any, map, OnOk};
-ghost use Rattle.postcard_wire.specs.Spelling.{canonical, canonical_all};
-ghost use Rattle.postcard_wire.specs.Tree.{trees};
-ghost use Rattle.postcard_shape.specs.Lists.{AllFit};
+ghost use Rattle.std.specs.Prelude.{OnOk};
+ghost use Rattle.postcard_wire.specs.Spelling.{canonical};
 ghost use Rattle.postcard_ser.specs.Writing.{Wrote};
 
 use crate::serializer::Serializer;
-use crate::values::lists::serialize_each;
 use postcard_ser_flavors::Flavor;
 use postcard_shape::Shaped;
 use postcard_wire::Result;
@@ -32,25 +29,4 @@ pub trait Serialize: Shaped {
         ensures wrote { Wrote F.Flavor serializer.old.output (canonical (Self.shape.tree self.now))
             (Self.shape.refusal self.now) Self.shape.text result serializer.new.output }
         ensures fits { OnOk result (Self.shape.fits self.now) };
-
-    /// Writes the elements of a slice one after the other, with no count before them, by default one
-    /// by one. A type whose elements are quicker written many at a time overrides this.
-    ///
-    /// # Errors
-    ///
-    /// Fails as writing the first element that can't be written does.
-    fn serialize_elements<F: Flavor>(
-        items: &[Self],
-        serializer: &mut Serializer<F>,
-    ) -> Result<()>
-    where
-        Self: Sized,
-        ensures wrote { Wrote F.Flavor serializer.old.output
-            (canonical_all (trees (map Self.shape.tree items.now)))
-            (λ e. Any (λ x. Self.shape.refusal x e) items.now) Self.shape.text result
-            serializer.new.output }
-        ensures fits { OnOk result (AllFit Self.shape.fits items.now) }
-    {
-        serialize_each(items, serializer)
-    }
 }

@@ -6,7 +6,7 @@ mod fixed;
 mod floats;
 mod hashes;
 mod heaps;
-pub(crate) mod lists;
+mod lists;
 mod long_tuples;
 mod maps;
 mod net;

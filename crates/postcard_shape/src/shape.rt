@@ -3,6 +3,7 @@
 ghost use Rattle.std.specs.Prelude.{◌≡◌, map, IfErr, IfOk, IfSome};
 ghost use Rattle.postcard_wire.specs.Spelling.{canonical_all};
 ghost use Rattle.postcard_wire.specs.Tree.{trees};
+ghost use Rattle.postcard_shape.specs.Blocks.{IsBlock};
 ghost use Rattle.postcard_shape.specs.Lists.{AllFit};
 ghost use Rattle.postcard_shape.specs.Shape.{Shape, via};
 ghost use Rattle.postcard_shape.specs.Values.{AreOfBytes};
@@ -27,6 +28,18 @@ pub trait Shaped {
         ensures gives { IfSome result
             (λ b. b.now ≡ canonical_all (trees (map shape.tree items.now))) }
         ensures fits { IfSome result (λ _. AllFit shape.fits items.now) }
+    {
+        let _ = items;
+        None
+    }
+
+    /// Returns the encodings of some first items, which have 16 bytes together, and the items after
+    /// them, for a type whose values are encoded quicker many at a time, as floats are. With `None`,
+    /// which any type may return and which is the default, the items left are written one by one.
+    fn first_block(items: &[Self]) -> Option<([u8; 16], &[Self])>
+    where
+        Self: Sized,
+        ensures gives { IfSome result (λ p. IsBlock shape items.now p.0 p.1.now) }
     {
         let _ = items;
         None

@@ -26,12 +26,31 @@ pub(crate) fn serialize_all<T: Serialize, F: Flavor>(
 {
     match T::slice_bytes(items) {
         Some(bytes) => serializer.extend(bytes),
-        None => T::serialize_elements(items, serializer),
+        None => serialize_blocks(items, serializer),
     }
 }
 
+/// Writes the elements many at a time while `first_block` returns some, and the others one by one.
+fn serialize_blocks<T: Serialize, F: Flavor>(
+    items: &[T],
+    serializer: &mut Serializer<F>,
+) -> Result<()>
+    ensures wrote { Wrote F.Flavor serializer.old.output
+        (canonical_all (trees (map T.shape.tree items.now)))
+        (λ e. Any (λ x. T.shape.refusal x e) items.now) T.shape.text result
+        serializer.new.output }
+    ensures fits { OnOk result (AllFit T.shape.fits items.now) }
+{
+    let mut rest = items;
+    while let Some((block, others)) = T::first_block(rest) {
+        serializer.extend(&block)?;
+        rest = others;
+    }
+    serialize_each(rest, serializer)
+}
+
 /// Writes the elements one by one.
-pub(crate) fn serialize_each<T: Serialize, F: Flavor>(
+fn serialize_each<T: Serialize, F: Flavor>(
     items: &[T],
     serializer: &mut Serializer<F>,
 ) -> Result<()>

@@ -3,8 +3,8 @@ use Rattle.std.specs.Prelude.{ℕ, List, [], ◌∷◌}
 use Rattle.std.specs.Float.{Float, binary32}
 use Rattle.std.proofs.Common.{ap, ◌∙◌}
 use lib.Lanes.{number_l, digits_l}
-use Rattle.postcard_ser.proofs.FloatLanes.{lane_bytes, bits_below}
-use Rattle.postcard_ser.proofs.values.floats.bytes_of_four.Goals as goal
+use Rattle.postcard_shape.proofs.FloatLanes.{lane_bytes, bits_below}
+use Rattle.postcard_shape.proofs.values.floats.bytes_of_four.Goals as goal
 
 pub returns-clause-gives : goal.returns-clause-gives
 returns-clause-gives g =

@@ -2,8 +2,8 @@
 use Rattle.std.specs.Prelude.{[], ◌∷◌}
 use Rattle.std.specs.Float.{binary64}
 use Rattle.std.proofs.Common.{refl}
-use Rattle.postcard_ser.proofs.FloatLanes.{lanes_asked, lanes_are}
-use Rattle.postcard_ser.proofs.values.floats.bits_of_two.Goals as goal
+use Rattle.postcard_shape.proofs.FloatLanes.{lanes_asked, lanes_are}
+use Rattle.postcard_shape.proofs.values.floats.bits_of_two.Goals as goal
 
 pub float_to_bits-bits : goal.float_to_bits-bits
 float_to_bits-bits g = lanes_asked binary64 2 (g.args.a ∷ g.args.b ∷ [])

@@ -1,5 +1,5 @@
 -- Floats many at a time, in the lanes of a vector: the bits of each, and the bytes of all.
-use Rattle.std.proofs.Common.{◌≡◌, ℕ, zero, suc, ◌+◌, ◌-◌, ◌*◌, ◌/◌, ◌%◌, ◌^◌, ◌<◌, List, [], ◌∷◌, ◌++◌, length, Bool, true, false, refl, sym, ap, ap₂, subst, ◌∙◌, arith}
+use Rattle.std.proofs.Common.{◌≡◌, ℕ, zero, suc, ◌+◌, ◌-◌, ◌*◌, ◌/◌, ◌%◌, ◌^◌, ◌<◌, ◌≤◌, List, [], ◌∷◌, ◌++◌, length, take, drop, slice_index_or, Bool, true, false, refl, sym, ap, ap₂, subst, ◌∙◌, arith}
 use Rattle.std.specs.Prelude.{map, T, not}
 use Rattle.std.specs.Float.{Float, Format, binary32, binary64}
 use Rattle.std.specs.Float.Ieee.{to_bits, of_bits, is_nan, ne, fits}
@@ -135,3 +135,12 @@ bits_and_bytes binary64 = refl
 pub bits_below : (f : Format) (xs : List Float) → AllFit (λ x. T (fits f x)) xs → Each1 (λ x. to_bits f x < 256 ^ float_len f) xs
 bits_below f [] h = tt
 bits_below f (x ∷ xs) h = (subst (λ m. to_bits f x < m) (bits_and_bytes f) (to_bits-lt f x h.0), bits_below f xs h.1)
+
+-- A list of four elements or more is its first four, and those after them.
+pub first_four : {X : Type 0} (d : X) (xs block rest : List X) → 4 ≤ length xs → block ≡ take 4 xs → rest ≡ drop 4 xs
+    → xs ≡ (slice_index_or block 0 d ∷ slice_index_or block 1 d ∷ slice_index_or block 2 d ∷ slice_index_or block 3 d ∷ []) ++ rest
+first_four d [] block rest l b r = absurd (omega (arith, l))
+first_four d (x ∷ []) block rest l b r = absurd (omega (arith, l))
+first_four d (x ∷ y ∷ []) block rest l b r = absurd (omega (arith, l))
+first_four d (x ∷ y ∷ z ∷ []) block rest l b r = absurd (omega (arith, l))
+first_four d (x ∷ y ∷ z ∷ w ∷ xs) block rest l b r = rw (b, r) refl
