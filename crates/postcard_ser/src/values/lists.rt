@@ -42,9 +42,10 @@ fn serialize_blocks<T: Serialize, F: Flavor>(
     ensures fits { OnOk result (AllFit T.shape.fits items.now) }
 {
     let mut rest = items;
-    while let Some((block, others)) = T::first_block(rest) {
+    while let Some(first) = T::first_block(rest) {
+        let block = first.0;
         serializer.extend(&block)?;
-        rest = others;
+        rest = first.1;
     }
     serialize_each(rest, serializer)
 }
