@@ -14,6 +14,7 @@ use Rattle.postcard_wire.specs.Number.{InRange}
 use Rattle.postcard_wire.specs.Spelling.{Spells}
 use Rattle.postcard_wire.specs.declared.error.Error.{Error}
 use Rattle.postcard_de_flavors.specs.Source.{IsEndOf}
+use Rattle.postcard_shape.specs.Shape.{never}
 use Rattle.postcard_de.specs.Reads.{ReadsFrom, IsReadError}
 use Rattle.postcard_de.specs.Refuses.{RefusesFrom}
 use Rattle.postcard_c_status.proofs.Numbers.{is_failure}
@@ -87,7 +88,7 @@ module _ {V : Type 0} (reads : Tree → Type 0) (value : Tree → V → Type 0)
   -- promises.
   settled_rest : (old new : Reader) (read : Result V Error) (left : List ℕ) (before now : V)
       (result : ℕ)
-      → ReadsFrom Spells reads value ⊥ (λ (s : List ℕ). Some s) (λ s n. n ≤ length s)
+      → ReadsFrom Spells reads value never (λ (s : List ℕ). Some s) (λ s n. n ≤ length s)
       (λ s t. IsEndOf t s) (rest_of old) read left
       → IfErr read (λ e. RefusesFrom wants bad (λ (s : List ℕ). Some s) (λ s n. n ≤ length s)
       (rest_of old) e left)
@@ -133,7 +134,7 @@ module _ {V : Type 0} (reads : Tree → Type 0) (value : Tree → V → Type 0)
           begins = (rest, joins);
           enough = omega (arith, ap length joins, length-append front rest);
         }) in
-        absurd (subst (IsReadError ⊥) a r.named_error);
+        absurd (subst (IsReadError never) a r.named_error);
     unread = λ n. still old new before now s.failed_before (λ o. ((s.refused o).1, (s.refused o).2));
     refused = λ o n. (e, (s.refused o).0, why wants bad (rest_of old) left e f);
   }
@@ -141,14 +142,14 @@ module _ {V : Type 0} (reads : Tree → Type 0) (value : Tree → V → Type 0)
   pub settled : {old new : Reader} {bytes : List ℕ} {read : Result V Error} {left : List ℕ}
       {before now : V} {result : ℕ} → Settles old new read left before now result
       → bytes ≡ rest_of old
-      → ReadsFrom Spells reads value ⊥ (λ (s : List ℕ). Some s) (λ s n. n ≤ length s)
+      → ReadsFrom Spells reads value never (λ (s : List ℕ). Some s) (λ s n. n ≤ length s)
       (λ s t. IsEndOf t s) bytes read left
       → IfErr read (λ e. RefusesFrom wants bad (λ (s : List ℕ). Some s) (λ s n. n ≤ length s)
       bytes e left)
       → Gets reads value wants bad old new before now result
   settled {old} {new} {bytes} {read} {left} {before} {now} {result} s rest r f =
       settled_rest old new read left before now result
-      (subst (λ b. ReadsFrom Spells reads value ⊥ (λ (s : List ℕ). Some s) (λ s n. n ≤ length s)
+      (subst (λ b. ReadsFrom Spells reads value never (λ (s : List ℕ). Some s) (λ s n. n ≤ length s)
       (λ s t. IsEndOf t s) b read left) rest r)
       (subst (λ b. IfErr read (λ e. RefusesFrom wants bad (λ (s : List ℕ). Some s)
       (λ s n. n ≤ length s) b e left)) rest f)
@@ -182,7 +183,7 @@ gets_as reads value wants bad f g old new before now w result back same s = reco
 
 -- Over a slice, what reading a text does is done by reading its bytes.
 abbrev ReadsText : List ℕ → Result (Bor (List ℕ)) Error → List ℕ → Type 0
-ReadsText bytes read left = ReadsFrom Spells IsText (λ t (v : Bor (List ℕ)). t ≡ Text v.now) ⊥
+ReadsText bytes read left = ReadsFrom Spells IsText (λ t (v : Bor (List ℕ)). t ≡ Text v.now) never
     (λ (s : List ℕ). Some s) (λ s n. n ≤ length s) (λ s t. IsEndOf t s) bytes read left
 
 pub text_is_read : (bytes left : List ℕ) (text read : Result (Bor (List ℕ)) Error)

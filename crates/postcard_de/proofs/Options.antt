@@ -1,6 +1,7 @@
 -- Reading an option: a byte, and after the byte 1 its content.
 use Rattle.std.proofs.Common.{◌≡◌, ℕ, inl, inr, List, [], ◌∷◌}
 use Rattle.std.proofs.Common.{◌++◌, Option, Some, Ok, refl, sym, ◌∙◌, ap, subst, arith}
+use Rattle.postcard_wire.specs.declared.error.Error.{Error}
 use Rattle.postcard_wire.specs.Tree.{Tree, Present}
 use Rattle.postcard_wire.specs.Spelling.{Spells}
 use Rattle.postcard_wire.specs.Reading.{IsOption}
@@ -15,7 +16,7 @@ first_byte b c q y z e = cc
 
 module _ {S : Type 0} {left : S → Option (List ℕ)} {able : S → ℕ → Type 0}
     {may_leave : S → S → Type 0} (laws : Laws left able may_leave) where
-  module _ {V : Type 0} {R : Tree → Type 0} {I : Tree → V → Type 0} {G : Type 0} where
+  module _ {V : Type 0} {R : Tree → Type 0} {I : Tree → V → Type 0} {G : Error → Type 0} where
     -- If the byte 1 was taken and the content was read, the option was read.
     pub some_read : {old mid new : S} {v : V} → Takes left able old (1 ∷ []) mid →
         may_leave old mid → ReadsFrom Spells R I G left able may_leave mid (Ok v) new →

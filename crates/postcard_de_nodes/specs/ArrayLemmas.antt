@@ -10,7 +10,7 @@ use Rattle.postcard_de_nodes.specs.ReadLemmas.{refusal}
 
 module _ {S V : Type 0} {left : S → Option (List ℕ)} {able : S → ℕ → Type 0}
     {may_leave : S → S → Type 0} {R : Tree → Type 0}
-    {I : Tree → V → Type 0} {H : Type 0} where
+    {I : Tree → V → Type 0} {H : Error → Type 0} where
   -- If all elements of an array were read, the array was read.
   pub array_read : {n : ℕ} {old new : S} {vs : List V} →
       ReadsFrom SpellsAll (AreRead n R) (EachIs I) H left able may_leave old (Ok vs) new →

@@ -106,7 +106,7 @@ pub fn deserialize<'de, T: FixInt, F: postcard_de::Flavor>(
     alloc: Global,
     d: &mut Deserializer<'de, F>,
 ) -> Result<T>
-    ensures { Reads F.Flavor Spells (array T.width.size byte).reads (IsFixed big T.width) ⊥
+    ensures { Reads F.Flavor Spells (array T.width.size byte).reads (IsFixed big T.width) never
         (source_of d.old) result (source_of d.new) }
 {
     let value = <BE<T>>::deserialize_owned(alloc, d)?;

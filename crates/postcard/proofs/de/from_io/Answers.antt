@@ -22,7 +22,7 @@ returns-in_err-value-clause-reads_back g c x f steady begins room =
     let reader = ap reader_of c.from_flavor-deserializer.ensures ∙ c.new.ensures.reader in
     let scratch = ap scratch_of c.from_flavor-deserializer.ensures ∙ c.new.ensures.scratch in
     let found = c.in_err-value.ensures.accepts (s.tree x) (canonical (s.tree x)) (s.again x f).0 (is_spelled s x f) (can_take g.R.Read.remaining g.R.Source.steady _ _ _ (canonical (s.tree x)) reader scratch steady begins room) in
-    rw (is_refusal c.from_residual.result c.in_err-value.field-0.0 c.from_residual.ensures.1) (found, only_grown s.grows _ c.in_err-value.ensures.named_error found)
+    rw (is_refusal c.from_residual.result c.in_err-value.field-0.0 c.from_residual.ensures.1) (found, only_grown s.other _ c.in_err-value.ensures.named_error found)
 
 pub returns-clause-reads_back : goal.returns-clause-reads_back
 returns-clause-reads_back g c x f steady begins room =
