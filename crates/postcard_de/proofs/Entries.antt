@@ -61,11 +61,11 @@ count_and_few m R = record {
 }
 
 -- The errors of a pair are among those of a map of such pairs.
-pub of_pair : {G H : Error → Type 0} (e : Error) → either G (either H never) e →
+pub of_pair : (G H : Error → Type 0) (e : Error) → either G (either H never) e →
     or_memory (either G H) e
-of_pair e (inl a) = with_memory e (inl a)
-of_pair e (inr (inl a)) = with_memory e (inr a)
-of_pair e (inr (inr a)) = absurd a
+of_pair G H e (inl a) = with_memory (either G H) e (inl a)
+of_pair G H e (inr (inl a)) = with_memory (either G H) e (inr a)
+of_pair G H e (inr (inr a)) = absurd a
 
 module _ {S : Type 0} {left : S → Option (List ℕ)} {able : S → ℕ → Type 0}
     {may_leave : S → S → Type 0} (laws : Laws left able may_leave) where

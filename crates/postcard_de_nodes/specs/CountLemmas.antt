@@ -66,5 +66,5 @@ module _ {S : Type 0} {left : S → Option (List ℕ)} {able : S → ℕ → Typ
       accepts = λ t p a s c. let q : Spells (Seq a.0) p = rw a.1 at s in
           r.accepts (count a.0) q.0 a.2 q.2 (can_first laws q.0 q.1 (rw q.4 at c));
       leaves = r.leaves;
-      named_error = wider (λ x z. absurd z) e r.named_error;
+      named_error = wider {H = H} (λ x z. absurd z) e r.named_error;
     }

@@ -28,14 +28,14 @@ wider grow DeserializeBadCrc h = h
 wider grow e h = grow e h
 
 -- The errors of a set are among those of the set with `OutOfMemory`.
-pub with_memory : {G : Error → Type 0} → (e : Error) → G e → or_memory G e
-with_memory OutOfMemory h = tt
-with_memory e h = h
+pub with_memory : (G : Error → Type 0) (e : Error) → G e → or_memory G e
+with_memory G OutOfMemory h = tt
+with_memory G e h = h
 
 -- `OutOfMemory` alone is among the errors of a set with it.
-pub only_memory : {G : Error → Type 0} → (e : Error) → memory e → or_memory G e
-only_memory OutOfMemory h = tt
-only_memory e h = absurd h
+pub only_memory : (G : Error → Type 0) (e : Error) → memory e → or_memory G e
+only_memory G OutOfMemory h = tt
+only_memory G e h = absurd h
 
 -- `OutOfMemory` is returned only for a type that grows.
 pub only_grown : (other : Error → Type 0) (e : Error) → IsReadError other e → e ≡ OutOfMemory

@@ -30,8 +30,8 @@ abbrev pub LinkErrors : ℕ → Error → Type 0
 LinkErrors m = either never (either (chain_shape m).other never)
 
 -- They are among those of a chain of one link more.
-of_link : {m : ℕ} (e : Error) → LinkErrors m e → (chain_shape (suc m)).other e
-of_link e h = with_memory e (inr (inl h))
+of_link : (m : ℕ) (e : Error) → LinkErrors m e → (chain_shape (suc m)).other e
+of_link m e h = with_memory _ e (inr (inl h))
 
 module _ {S : Type 0} {left : S → Option (List ℕ)} {able : S → ℕ → Type 0}
     {may_leave : S → S → Type 0} (laws : Laws left able may_leave) {old mid new : S}
@@ -43,7 +43,7 @@ module _ {S : Type 0} {left : S → Option (List ℕ)} {able : S → ℕ → Typ
       ReadsFrom SpellsAll (LinkReads m) NoneIs (LinkErrors m) left able may_leave mid (refusal (Unit {0}) e) new →
       ReadsFrom Spells (chain_shape d).reads (chain_shape d).value (chain_shape d).other
       left able may_leave old r new
-  link_refused {e = e} one h s parts = rw deeper (content_refused laws of_link h (rw one at s)
+  link_refused {e = e} one h s parts = rw deeper (content_refused laws (of_link m) h (rw one at s)
       (struct_fails laws {A = Unit {0}} {value = λ t v. ⊥} {r = refusal (Unit {0}) e} refl parts))
 
   -- If the index 1 was read and the parts after it were read, the link of these parts was read.
@@ -65,7 +65,7 @@ module _ {S : Type 0} {left : S → Option (List ℕ)} {able : S → ℕ → Typ
       mid (Ok tt) new →
       ReadsFrom Spells (chain_shape d).reads (chain_shape d).value (chain_shape d).other
       left able may_leave old (refusal Chain OutOfMemory) new
-  link_too_big w one s parts = rw deeper (content_refused laws only_memory refl (rw one at s)
+  link_too_big w one s parts = rw deeper (content_refused laws (only_memory _) refl (rw one at s)
       (no_room {W = Unit {0}} {R' = IsGroup (LinkReads m)} {I' = λ t v. ⊥} {H = memory} tt
       (struct_read laws {A = Unit {0}} {value = λ t u. Unit {0}} {a = tt} (λ t h. tt) parts)))
 

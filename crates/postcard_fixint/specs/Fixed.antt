@@ -5,7 +5,6 @@ use Rattle.std.proofs.Common.{refl, sym, ap, ◌∙◌, arith}
 use Rattle.std.proofs.lemmas.Int.{ints}
 use Rattle.postcard_wire.specs.Number.{InRange}
 use Rattle.postcard_wire.specs.Tree.{Tree}
-use Rattle.postcard_wire.specs.declared.error.Error.{Error}
 use Rattle.postcard_shape.specs.Leaves.{byte}
 use Rattle.postcard_shape.specs.Lists.{array}
 use Rattle.postcard_shape.specs.Same.{HasOne, same_list}
@@ -114,7 +113,6 @@ pub record IsByteArray {B : Type 0} (s : Shape B) (list : B → List ℕ) (k : �
   pub value : (t : Tree) (b : B) → s.value t b → (array k byte).value t (list b)
   pub accepted : (b : B) → IsWilling s b
   pub silent : s.text → ⊥
-  pub fixed : (e : Error) → s.other e → ⊥
 
 -- The shape of arrays of k bytes is such a shape.
 pub byte_array : (k : ℕ) → IsByteArray (array k byte) (λ xs. xs) k
@@ -125,5 +123,4 @@ byte_array k = record {
   value = λ t b h. h;
   accepted = λ b. record { has_none = λ e h. h.4 };
   silent = λ h. h;
-  fixed = λ e h. h;
 }

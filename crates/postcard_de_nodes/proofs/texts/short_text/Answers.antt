@@ -81,4 +81,4 @@ returns-in-Err-clause-refused g c =
     let gives = rw c.in_ok-bytes.was at lent.0 in
     widened (λ p n w. w) (λ p b. inl b)
     (text_bad g.F.Flavor.lawful c.in_ok-count.ensures.reads c.in_ok-bytes.ensures.length gives
-    {G = never} c.in-Err.ensures.cases.0)
+    {G = ⊥} c.in-Err.ensures.cases.0)

@@ -35,7 +35,7 @@ returns-in_err-key g c =
     passed_on (λ x a. a) (λ e h. h) c.from_residual-in_err-key.ensures.1
     (list_refused laws (λ (ps : List (g.row.K.Denot × g.row.V.Denot)). ps)
     c.in_ok-count.ensures.reads
-    (going_stops laws of_pair (rw more at c.loop.invariant.going)
+    (going_stops laws (of_pair _ _) (rw more at c.loop.invariant.going)
     (key_refused laws {B = g.row.V.Denot} {K = k.reads} {V = v.reads} {H = v.other}
     {value = EntryIs k.value v.value} c.in_err-key.ensures)))
 
@@ -48,7 +48,7 @@ returns-in_err-value g c =
     passed_on (λ x a. a) (λ e h. h) c.from_residual-in_err-value.ensures.1
     (list_refused laws (λ (ps : List (g.row.K.Denot × g.row.V.Denot)). ps)
     c.in_ok-count.ensures.reads
-    (going_stops laws of_pair (rw more at c.loop.invariant.going)
+    (going_stops laws (of_pair _ _) (rw more at c.loop.invariant.going)
     (value_refused laws c.in_ok-key.ensures c.in_err-value.ensures)))
 
 pub returns-then-is_err : goal.returns-then-is_err
@@ -77,7 +77,7 @@ loop-preserved g c =
     let e : c.insert.new.self.entries ≡ insert_entry cmp before k v = grind (arith, common_steps) in
     record {
       pairs = so.pairs ++ ((k, v) ∷ []);
-      going = goes_on laws of_pair (rw more at so.going)
+      going = goes_on laws (of_pair _ _) (rw more at so.going)
           (entry_read laws c.in_ok-key.ensures c.in_ok-value.ensures);
       made = e
           ∙ ap (λ (es : List (g.row.K.Denot × g.row.V.Denot)). insert_entry cmp es k v) so.made

@@ -32,7 +32,7 @@ returns-in_err-key g c =
     let more : n - i ≡ suc (n - (i + 1)) = omega arith in
     passed_on (λ x a. a) (λ e h. h) c.from_residual-in_err-key.ensures.1
     (list_refused laws (λ (ks : List g.row.K.Denot). ks) c.in_ok-count.ensures.reads
-    (going_stops laws with_memory (rw more at c.loop.invariant.going) c.in_err-key.ensures))
+    (going_stops laws (with_memory _) (rw more at c.loop.invariant.going) c.in_err-key.ensures))
 
 pub returns-then-is_err : goal.returns-then-is_err
 returns-then-is_err g c =
@@ -57,7 +57,7 @@ loop-preserved g c =
     let e : c.insert.new.self.keys ≡ insert_key cmp before k = grind (arith, common_steps) in
     record {
       read = so.read ++ k ∷ [];
-      going = goes_on laws with_memory (rw more at so.going) c.in_ok-key.ensures;
+      going = goes_on laws (with_memory _) (rw more at so.going) c.in_ok-key.ensures;
       made = e ∙ ap (λ (ks : List g.row.K.Denot). insert_key cmp ks k) so.made
           ∙ sym (keys_inserted_last cmp so.read [] k);
     }
