@@ -1,9 +1,9 @@
 -- A front of a steady reader's known bytes can be taken, if the scratch is as long.
 use Rattle.std.proofs.Common.{◌≡◌, ◌≤◌, ℕ, List, length, Option, Some, None, sym, ap, subst, arith, length-append}
 use Rattle.std.specs.Io.KnownBytes.{Consumes}
-use Rattle.postcard_de_flavors.specs.IOReader.{CanRead, reader_of, scratch_of}
+use Rattle.postcard_de_flavors.specs.IOReader.{CanRead, reader_of, scratch_of, left_of}
 use Rattle.postcard_de_flavors.specs.Reader.{AtLeast}
-use Rattle.postcard_de_flavors.specs.Source.{Begins, CanTake}
+use Rattle.postcard_de_flavors.specs.Source.{Begins, CanTake, KeepsRear}
 use Rattle.postcard_de_flavors.specs.declared.io.io.IOReader.{IOReader}
 
 -- Known bytes that begin with a front are at least as many as the front has.
@@ -14,7 +14,7 @@ begins_at_least (Some bytes) front b = omega (arith, ap length b.1, length-appen
 module _ {T : Type 0} (remaining : T → Option (List ℕ)) (steady : T → Type 0) where
   -- A front of a steady reader's known bytes can be taken, if the scratch is as long.
   pub can_take : (s : IOReader T) (reader : T) (scratch front : List ℕ) → reader_of s ≡ reader → scratch_of s ≡ scratch → steady reader → Begins (remaining reader) front → length front ≤ length scratch
-      → CanTake (λ (s : IOReader T). remaining (reader_of s)) (CanRead remaining steady) s front
+      → CanTake (left_of remaining) (CanRead remaining steady) s front
   can_take s reader scratch front is_reader is_scratch is_steady begins room =
       let begun = subst (λ (r : T). Begins (remaining r) front) (sym is_reader) begins in
       record {
@@ -25,3 +25,7 @@ module _ {T : Type 0} (remaining : T → Option (List ℕ)) (steady : T → Type
   -- `Consumes` of two readers holds of readers equal to them.
   pub consumed : (old new from to : T) (front : List ℕ) → old ≡ from → to ≡ new → Consumes (remaining old) (remaining new) front → Consumes (remaining from) (remaining to) front
   consumed old new from to front e f h = subst (λ (r : T). Consumes (remaining r) (remaining to) front) e (subst (λ (r : T). Consumes (remaining old) (remaining r) front) (sym f) h)
+
+-- What is left of scratch is also left of scratch equal to it.
+pub kept_rear : (n : ℕ) (old new from to : List ℕ) → old ≡ from → to ≡ new → KeepsRear n old new → KeepsRear n from to
+kept_rear n old new from to e f h = subst (λ (s : List ℕ). KeepsRear n s to) e (subst (λ (s : List ℕ). KeepsRear n old s) (sym f) h)

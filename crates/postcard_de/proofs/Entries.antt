@@ -8,7 +8,7 @@ use Rattle.postcard_wire.specs.declared.error.Error.{Error}
 use Rattle.postcard_wire.specs.Number.{SpellsNum}
 use Rattle.postcard_wire.specs.Tree.{Tree, Seq, count}
 use Rattle.postcard_wire.specs.Spelling.{Spells, SpellsAll}
-use Rattle.postcard_de_flavors.specs.Source.{Laws}
+use Rattle.postcard_de_flavors.specs.Source.{Left, Laws}
 use Rattle.postcard_de_nodes.specs.Reads.{IsReadError, ReadsFrom}
 use Rattle.postcard_shape.specs.Shape.{never, either, or_memory}
 use Rattle.postcard_shape.specs.Values.{Same, EachIs, ListIs, AreRead}
@@ -67,7 +67,7 @@ of_pair G H e (inl a) = with_memory (either G H) e (inl a)
 of_pair G H e (inr (inl a)) = with_memory (either G H) e (inr a)
 of_pair G H e (inr (inr a)) = absurd a
 
-module _ {S : Type 0} {left : S → Option (List ℕ)} {able : S → ℕ → Type 0}
+module _ {S : Type 0} {left : S → Left} {able : S → ℕ → Type 0}
     {may_leave : S → S → Type 0} (laws : Laws left able may_leave) where
   -- If reading a pair's key fails, reading the pair fails with that error.
   pub key_refused : {A B : Type 0} {K V : Tree → Type 0} {I : Tree → A → Type 0}

@@ -7,7 +7,7 @@ use Rattle.postcard_wire.specs.Number.{SpellsNum}
 use Rattle.postcard_wire.specs.Tree.{Tree, Variant}
 use Rattle.postcard_wire.specs.Spelling.{Spells}
 use Rattle.postcard_wire.specs.Reading.{IsVariant}
-use Rattle.postcard_de_flavors.specs.Source.{Takes, Laws}
+use Rattle.postcard_de_flavors.specs.Source.{Left, Takes, Laws}
 use Rattle.postcard_de_nodes.specs.Reads.{IsReadError, ReadsFrom}
 use Rattle.postcard_shape.specs.Shape.{never}
 use Rattle.postcard_shape.specs.Values.{Same}
@@ -50,7 +50,7 @@ index_and_content content = record {
   );
 }
 
-module _ {S : Type 0} {left : S → Option (List ℕ)} {able : S → ℕ → Type 0}
+module _ {S : Type 0} {left : S → Left} {able : S → ℕ → Type 0}
     {may_leave : S → S → Type 0} (laws : Laws left able may_leave) {content : ℕ → Tree → Type 0}
     {A : Type 0} {value : Tree → A → Type 0} {H : Error → Type 0} where
   -- If reading the index fails, reading the enum fails with the error that `?` passes on.
@@ -86,7 +86,7 @@ module _ {S : Type 0} {left : S → Option (List ℕ)} {able : S → ℕ → Typ
   unknown_index {new = new} named none s =
       none_follows laws (index_and_content content) named none (laws.itself new) s
 
-module _ {S : Type 0} {left : S → Option (List ℕ)} {able : S → ℕ → Type 0}
+module _ {S : Type 0} {left : S → Left} {able : S → ℕ → Type 0}
     {may_leave : S → S → Type 0} (laws : Laws left able may_leave) {old new : S} {i : ℕ} where
   -- If the index was read and its content can't be, that is why reading the enum fails.
   pub content_is_why : {V : Type 0} {R : Tree → Type 0} {J : Tree → V → Type 0}
@@ -109,7 +109,7 @@ module _ {S : Type 0} {left : S → Option (List ℕ)} {able : S → ℕ → Typ
   })
 
 -- A failure to read a variant's content is one to read it as another value.
-pub variant_fails_as : {S V W : Type 0} {left : S → Option (List ℕ)} {able : S → ℕ → Type 0}
+pub variant_fails_as : {S V W : Type 0} {left : S → Left} {able : S → ℕ → Type 0}
     {may_leave : S → S → Type 0} {R : Tree → Type 0} {I : Tree → V → Type 0} {J : Tree → W → Type 0}
     {G : Error → Type 0} {old new : S} {i : ℕ} {e : Error} →
     ((p : List ℕ) × SpellsNum 32 i p × ((at : S) × Takes left able old p at
@@ -120,7 +120,7 @@ variant_fails_as (p, spelled, (at, taken, r)) =
     (p, spelled, (at, taken, refused_too (λ x a. a) (λ x h. h) r))
 
 -- A failure to read an option's content is one to read it as another value.
-pub content_fails_as : {S V W : Type 0} {left : S → Option (List ℕ)} {able : S → ℕ → Type 0}
+pub content_fails_as : {S V W : Type 0} {left : S → Left} {able : S → ℕ → Type 0}
     {may_leave : S → S → Type 0} {R : Tree → Type 0} {I : Tree → V → Type 0} {J : Tree → W → Type 0}
     {G : Error → Type 0} {old new : S} {e : Error} →
     ((at : S) × Takes left able old (1 ∷ []) at

@@ -7,7 +7,7 @@ use Rattle.postcard_wire.specs.declared.error.Error.{Error}
 use Rattle.postcard_wire.specs.declared.error.Error.TheVariants.{OutOfMemory}
 use Rattle.postcard_wire.specs.Tree.{Tree, Trees, NoTrees, Then}
 use Rattle.postcard_wire.specs.Spelling.{Spells, SpellsAll}
-use Rattle.postcard_de_flavors.specs.Source.{CanTake, Takes, Laws}
+use Rattle.postcard_de_flavors.specs.Source.{Left, CanTake, Takes, Laws}
 use Rattle.postcard_de_nodes.specs.Reads.{ReadsFrom}
 use Rattle.postcard_shape.specs.Values.{EachIs, AreRead}
 use Rattle.postcard_de_nodes.specs.TakeLemmas.{nothing_taken}
@@ -37,7 +37,7 @@ one_and_rest {V} R I n = record {
 
 -- The state within a list: however reading the elements left ends, reading all ends likewise, with
 -- the elements read so far in front.
-pub record Going {S V : Type 0} (left : S → Option (List ℕ)) (able : S → ℕ → Type 0)
+pub record Going {S V : Type 0} (left : S → Left) (able : S → ℕ → Type 0)
     (may_leave : S → S → Type 0) (R : Tree → Type 0) (I : Tree → V → Type 0) (H : Error → Type 0)
     (start : S) (all : ℕ) (items : List V) (now : S) (rest : ℕ) : Type 0 where
   pub ends : (r : Result (List V) Error) (new : S) →
@@ -45,7 +45,7 @@ pub record Going {S V : Type 0} (left : S → Option (List ℕ)) (able : S → �
       ReadsFrom SpellsAll (AreRead all R) (EachIs I) H left able may_leave start (prefixed items r)
       new
 
-module _ {S V : Type 0} {left : S → Option (List ℕ)} {able : S → ℕ → Type 0}
+module _ {S V : Type 0} {left : S → Left} {able : S → ℕ → Type 0}
     {may_leave : S → S → Type 0} (laws : Laws left able may_leave) {R : Tree → Type 0}
     {I : Tree → V → Type 0} {H : Error → Type 0} where
   -- It holds before any element was read.
@@ -125,7 +125,7 @@ one_more_left (suc n) h = omega arith
 
 -- A call that left a state left any state that equals it.
 pub not_moved : {X S V : Type 0} {spelled : X → List ℕ → Type 0} {reads : X → Type 0}
-    {value : X → V → Type 0} {other : Error → Type 0} {left : S → Option (List ℕ)} {able : S → ℕ → Type 0}
+    {value : X → V → Type 0} {other : Error → Type 0} {left : S → Left} {able : S → ℕ → Type 0}
     {may_leave : S → S → Type 0} {old mid new : S} {r : Result V Error} → new ≡ mid →
     ReadsFrom spelled reads value other left able may_leave old r mid →
     ReadsFrom spelled reads value other left able may_leave old r new

@@ -5,7 +5,7 @@ use Rattle.postcard_wire.specs.declared.error.Error.{Error}
 use Rattle.postcard_wire.specs.Tree.{Tree, Present}
 use Rattle.postcard_wire.specs.Spelling.{Spells}
 use Rattle.postcard_wire.specs.Reading.{IsOption}
-use Rattle.postcard_de_flavors.specs.Source.{CanTake, Takes, Laws}
+use Rattle.postcard_de_flavors.specs.Source.{Left, CanTake, Takes, Laws}
 use Rattle.postcard_de_nodes.specs.Reads.{ReadsFrom}
 use Rattle.postcard_shape.specs.Options.{OptionIs}
 use Rattle.postcard_de_nodes.specs.TakeLemmas.{both_taken, faces, can_second}
@@ -14,7 +14,7 @@ use Rattle.postcard_de_nodes.specs.TakeLemmas.{both_taken, faces, can_second}
 first_byte : (b c : ℕ) (q y z : List ℕ) → (b ∷ []) ++ y ≡ (c ∷ q) ++ z → b ≡ c
 first_byte b c q y z e = cc
 
-module _ {S : Type 0} {left : S → Option (List ℕ)} {able : S → ℕ → Type 0}
+module _ {S : Type 0} {left : S → Left} {able : S → ℕ → Type 0}
     {may_leave : S → S → Type 0} (laws : Laws left able may_leave) where
   module _ {V : Type 0} {R : Tree → Type 0} {I : Tree → V → Type 0} {G : Error → Type 0} where
     -- If the byte 1 was taken and the content was read, the option was read.

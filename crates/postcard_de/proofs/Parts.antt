@@ -6,7 +6,7 @@ use Rattle.postcard_wire.specs.declared.error.Error.{Error}
 use Rattle.postcard_wire.specs.Tree.{Tree, Trees, Group, NoTrees, Then}
 use Rattle.postcard_wire.specs.Spelling.{Spells, SpellsAll}
 use Rattle.postcard_wire.specs.Reading.{IsEnd, IsThen, IsGroup}
-use Rattle.postcard_de_flavors.specs.Source.{Laws}
+use Rattle.postcard_de_flavors.specs.Source.{Left, Laws}
 use Rattle.postcard_shape.specs.Shape.{never, either}
 use Rattle.postcard_de_nodes.specs.Reads.{ReadsFrom}
 use Rattle.postcard_de_nodes.specs.TakeLemmas.{nothing_taken}
@@ -31,7 +31,7 @@ AllAre K ts u = K ts
 abbrev pub NoneIs : Trees → Unit {0} → Type 0
 NoneIs ts u = ⊥
 
-module _ {S : Type 0} {left : S → Option (List ℕ)} {able : S → ℕ → Type 0}
+module _ {S : Type 0} {left : S → Left} {able : S → ℕ → Type 0}
     {may_leave : S → S → Type 0} (laws : Laws left able may_leave) where
   -- If a part was read and then those after it, all were read.
   pub and_part : {V : Type 0} {R : Tree → Type 0} {I : Tree → V → Type 0} {G : Error → Type 0}

@@ -7,12 +7,13 @@ use Rattle.postcard_wire.specs.Tree.{Tree, Byte, Num, Int}
 use Rattle.postcard_wire.specs.Spelling.{Spells}
 use Rattle.postcard_wire.specs.Reading.{IsByte, IsNum, IsInt}
 use Rattle.postcard_shape.specs.Shape.{never}
+use Rattle.postcard_de_flavors.specs.Source.{Left}
 use Rattle.postcard_de_nodes.specs.Reads.{ReadsFrom}
 use Rattle.postcard_de_nodes.specs.ReadLemmas.{widened}
 use Rattle.postcard_de_nodes.specs.Refuses.{RefusesFrom, WantsByte, NoneBad, WantsDigit, BadNumber}
 use Rattle.postcard_de_nodes.specs.Unfit.{ZeroByte, ZeroNumber}
 
-module _ {S : Type 0} {left : S → Option (List ℕ)} {able : S → ℕ → Type 0}
+module _ {S : Type 0} {left : S → Left} {able : S → ℕ → Type 0}
     {may_leave : S → S → Type 0} {old new : S} where
   -- If the byte 0 was read, that is why reading fails.
   pub byte_is_why : {n : ℕ} → n ≡ 0 →

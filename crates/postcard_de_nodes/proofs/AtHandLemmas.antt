@@ -8,7 +8,7 @@ use Rattle.postcard_wire.specs.Spelling.{SpellsAll}
 use Rattle.postcard_wire.specs.Reading.{IsDelimited}
 use Rattle.postcard_wire.proofs.Delimited.{same_front, array_delimited}
 use Rattle.postcard_shape.specs.Values.{EachIs, AreRead, AreOfBytes}
-use Rattle.postcard_de_flavors.specs.Source.{CanTake, Takes}
+use Rattle.postcard_de_flavors.specs.Source.{Left, CanTake, Takes}
 use Rattle.postcard_de_nodes.specs.Reads.{ReadsFrom}
 use Rattle.postcard_de_nodes.specs.ReadLemmas.{Delimits, found}
 use Rattle.postcard_de_nodes.specs.TakeLemmas.{faces}
@@ -24,7 +24,7 @@ row_delimits R d n ts ss p q x y a b s t e =
     (ss, refl, b.0, b.1) s t e in
     (k.0, group_parts ts ss k.1)
 
-module _ {S V : Type 0} {left : S → Option (List ℕ)} {able : S → ℕ → Type 0}
+module _ {S V : Type 0} {left : S → Left} {able : S → ℕ → Type 0}
     {may_leave : S → S → Type 0} where
   -- If a list was made of the first n bytes in memory and then n bytes were taken, the list was
   -- read.

@@ -11,7 +11,7 @@ use Rattle.postcard_wire.specs.Spelling.{SpellsAll}
 use Rattle.postcard_wire.specs.Reading.{IsByte, Each}
 use Rattle.postcard_wire.proofs.Delimited.{same_front}
 use Rattle.postcard_shape.specs.Shape.{never}
-use Rattle.postcard_de_flavors.specs.Source.{Takes, Laws}
+use Rattle.postcard_de_flavors.specs.Source.{Left, Takes, Laws}
 use Rattle.postcard_de_nodes.specs.Reads.{IsReadError, ReadsFrom}
 use Rattle.postcard_de_nodes.specs.Refuses.{RefusesFrom, WantsText}
 use Rattle.postcard_de_nodes.specs.Unfit.{BadBytes}
@@ -49,7 +49,7 @@ spelled_are (Then t ts) r a (p, q, s, k, e) =
     let all : r ≡ a.0.0 ∷ q = e ∙ ap (λ (l : List ℕ). l ++ q) one in
     rw all (ap suc m.0, (a.0.1, m.1))
 
-module _ {S : Type 0} {left : S → Option (List ℕ)} {able : S → ℕ → Type 0}
+module _ {S : Type 0} {left : S → Left} {able : S → ℕ → Type 0}
     {may_leave : S → S → Type 0} (laws : Laws left able may_leave) where
   -- If n bytes were taken, n trees of bytes were read.
   pub bytes_read : {n : ℕ} {old new : S} {u : List ℕ} → length u ≡ n →
@@ -88,7 +88,7 @@ module _ {S : Type 0} {left : S → Option (List ℕ)} {able : S → ℕ → Typ
     named_error = subst (IsReadError never) (sym is) tt;
   }
 
-module _ {S : Type 0} {left : S → Option (List ℕ)} {able : S → ℕ → Type 0}
+module _ {S : Type 0} {left : S → Left} {able : S → ℕ → Type 0}
     {may_leave : S → S → Type 0} (laws : Laws left able may_leave) {n : ℕ} {old mid : S}
     (counted : ReadsFrom (SpellsNum 64) (Below 64) Same never left able may_leave old (Ok n) mid) where
   -- If the bytes were taken and there is no memory for a copy, that is a reason to fail with

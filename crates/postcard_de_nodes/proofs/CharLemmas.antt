@@ -14,7 +14,7 @@ use Rattle.postcard_wire.proofs.Delimited.{num_front, char_delimited, same_front
 use Rattle.postcard_wire.proofs.Refused.{longer, none_spelled}
 use Rattle.std.proofs.lemmas.List.{append_cancel_left}
 use Rattle.postcard_shape.specs.Shape.{never}
-use Rattle.postcard_de_flavors.specs.Source.{Takes, Laws}
+use Rattle.postcard_de_flavors.specs.Source.{Left, Takes, Laws}
 use Rattle.postcard_de_nodes.specs.Reads.{IsReadError, ReadsFrom}
 use Rattle.postcard_de_nodes.specs.Refuses.{RefusesFrom, WantsDigit, BadNumber}
 use Rattle.postcard_de_nodes.specs.Unfit.{WantsChar, BadChar}
@@ -75,7 +75,7 @@ char_named p e (inr bad) = subst (IsReadError never) (sym bad.0) tt
 char_excludes : Excludes never WantsChar BadChar Spells IsChar
 char_excludes = record { within = char_within; none = char_none; named = char_named }
 
-module _ {S : Type 0} {left : S → Option (List ℕ)} {able : S → ℕ → Type 0}
+module _ {S : Type 0} {left : S → Left} {able : S → ℕ → Type 0}
     {may_leave : S → S → Type 0} (laws : Laws left able may_leave) where
   -- A call with a reason to fail to read a character may return its error.
   pub char_refused : {V : Type 0} {value : Tree → V → Type 0} {old new : S} {e : Error} →
@@ -89,7 +89,7 @@ module _ {S : Type 0} {left : S → Option (List ℕ)} {able : S → ℕ → Typ
       RefusesFrom WantsChar BadChar left able old e new
   char_length_refused why = widened (λ p n w. inl w) (λ p b. inl b) why
 
-module _ {S : Type 0} {left : S → Option (List ℕ)} {able : S → ℕ → Type 0}
+module _ {S : Type 0} {left : S → Left} {able : S → ℕ → Type 0}
     {may_leave : S → S → Type 0} (laws : Laws left able may_leave) {n : ℕ} {old mid : S}
     (counted : ReadsFrom (SpellsNum 64) (Below 64) Same never left able may_leave old (Ok n) mid) where
   -- A length above 4 is a reason to fail with `DeserializeBadChar`.

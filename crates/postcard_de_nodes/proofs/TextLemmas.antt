@@ -14,7 +14,7 @@ use Rattle.postcard_wire.proofs.Delimited.{num_front, text_delimited, same_front
 use Rattle.postcard_wire.proofs.Refused.{longer, none_spelled}
 use Rattle.std.proofs.lemmas.List.{append_cancel_left}
 use Rattle.postcard_shape.specs.Shape.{never}
-use Rattle.postcard_de_flavors.specs.Source.{Takes, Laws}
+use Rattle.postcard_de_flavors.specs.Source.{Left, Takes, Laws}
 use Rattle.postcard_de_nodes.specs.Reads.{IsReadError, ReadsFrom}
 use Rattle.postcard_de_nodes.specs.Refuses.{RefusesFrom, WantsDigit, BadNumber, WantsText, BadText}
 use Rattle.postcard_shape.specs.Values.{Same}
@@ -73,7 +73,7 @@ text_excludes G = record {
   named = text_named G;
 }
 
-module _ {S : Type 0} {left : S → Option (List ℕ)} {able : S → ℕ → Type 0}
+module _ {S : Type 0} {left : S → Left} {able : S → ℕ → Type 0}
     {may_leave : S → S → Type 0} (laws : Laws left able may_leave) where
   -- A call with a reason to fail to read a text may return its error.
   pub text_refused : {V : Type 0} {value : Tree → V → Type 0} {G : Error → Type 0} {old new : S}
@@ -87,7 +87,7 @@ module _ {S : Type 0} {left : S → Option (List ℕ)} {able : S → ℕ → Typ
       RefusesFrom WantsText (BadText G) left able old e new
   length_refused why = widened (λ p n w. inl w) (λ p b. inl b) why
 
-module _ {S : Type 0} {left : S → Option (List ℕ)} {able : S → ℕ → Type 0}
+module _ {S : Type 0} {left : S → Left} {able : S → ℕ → Type 0}
     {may_leave : S → S → Type 0} (laws : Laws left able may_leave) {n : ℕ} {old mid : S}
     (counted : ReadsFrom (SpellsNum 64) (Below 64) Same never left able may_leave old (Ok n) mid) where
   -- If the bytes after the length can't be taken, that is a reason to fail.

@@ -9,7 +9,7 @@ use Rattle.postcard_wire.specs.Number.{SpellsNum}
 use Rattle.postcard_wire.proofs.Delimited.{num_front}
 use Rattle.postcard_wire.proofs.Refused.{longer, none_spelled}
 use Rattle.postcard_shape.specs.Shape.{never}
-use Rattle.postcard_de_flavors.specs.Source.{Takes, Laws}
+use Rattle.postcard_de_flavors.specs.Source.{Left, Takes, Laws}
 use Rattle.postcard_de_nodes.specs.Reads.{IsReadError, ReadsFrom}
 use Rattle.postcard_de_nodes.specs.Refuses.{RefusesFrom, WantsDigit, BadNumber}
 use Rattle.postcard_shape.specs.Values.{Same}
@@ -30,14 +30,14 @@ number_excludes w = record {
 }
 
 -- The state within the loop: the digits so far were taken.
-pub record Within {S : Type 0} (w : ℕ) (left : S → Option (List ℕ)) (able : S → ℕ → Type 0)
+pub record Within {S : Type 0} (w : ℕ) (left : S → Left) (able : S → ℕ → Type 0)
     (may_leave : S → S → Type 0) (old : S) (digits : Digits) (now : S) : Type 0 where
   pub front : List ℕ
   pub read : HasRead w front digits
   pub taken : Takes left able old front now
   pub leaves : may_leave old now
 
-module _ {S : Type 0} {left : S → Option (List ℕ)} {able : S → ℕ → Type 0}
+module _ {S : Type 0} {left : S → Left} {able : S → ℕ → Type 0}
     {may_leave : S → S → Type 0} (laws : Laws left able may_leave) where
   -- Before the loop, no digit was taken.
   pub begun : (w : ℕ) (digits : Digits) (old : S) → HasRead w [] digits →

@@ -2,7 +2,7 @@
 -- of both.
 use Rattle.std.proofs.Common.{◌≡◌, ℕ, List, ◌++◌, Option, Ok, sym, subst}
 use Rattle.postcard_wire.specs.declared.error.Error.{Error}
-use Rattle.postcard_de_flavors.specs.Source.{Takes, Laws}
+use Rattle.postcard_de_flavors.specs.Source.{Left, Takes, Laws}
 use Rattle.postcard_de_nodes.specs.Reads.{ReadsFrom}
 use Rattle.postcard_de_nodes.specs.ErrorLemmas.{wider}
 use Rattle.postcard_de_nodes.specs.TakeLemmas.{both_taken, can_first, can_second}
@@ -20,7 +20,7 @@ pub record Compound {X Y Z V : Type 0} (make : X → Y → Z) (P : X → List �
       (x : X) × (y : Y) × (p : List ℕ) × (q : List ℕ) × (make x y ≡ z) × R x × P x p × Q y q
       × (r ≡ p ++ q) × ((v : V) → I x v → S v y)
 
-module _ {F : Type 0} {left : F → Option (List ℕ)} {able : F → ℕ → Type 0}
+module _ {F : Type 0} {left : F → Left} {able : F → ℕ → Type 0}
     {may_leave : F → F → Type 0} (laws : Laws left able may_leave) {X Y Z V A : Type 0}
     {P : X → List ℕ → Type 0} {R : X → Type 0} {I : X → V → Type 0} {Q : Y → List ℕ → Type 0}
     {S : V → Y → Type 0} {P' : Z → List ℕ → Type 0} {R' : Z → Type 0} {K : Z → A → Type 0}

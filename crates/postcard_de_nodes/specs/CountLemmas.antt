@@ -5,7 +5,7 @@ use Rattle.postcard_wire.specs.Number.{SpellsNum}
 use Rattle.postcard_wire.specs.Tree.{Tree, Seq, count}
 use Rattle.postcard_wire.specs.Spelling.{Spells, SpellsAll}
 use Rattle.postcard_wire.specs.Reading.{IsSeq}
-use Rattle.postcard_de_flavors.specs.Source.{Laws}
+use Rattle.postcard_de_flavors.specs.Source.{Left, Laws}
 use Rattle.postcard_shape.specs.Shape.{never}
 use Rattle.postcard_shape.specs.Values.{Same, EachIs, ListIs, AreRead}
 use Rattle.postcard_de_nodes.specs.Reads.{ReadsFrom}
@@ -34,7 +34,7 @@ count_and_parts R = record {
       (count a.0, a.0, t.0, t.1, sym a.1, a.2, t.2, t.3, t.4, λ v same. (same, a.3));
 }
 
-module _ {S V : Type 0} {left : S → Option (List ℕ)} {able : S → ℕ → Type 0}
+module _ {S V : Type 0} {left : S → Left} {able : S → ℕ → Type 0}
     {may_leave : S → S → Type 0} (laws : Laws left able may_leave) {R : Tree → Type 0}
     {I : Tree → V → Type 0} {H : Error → Type 0} where
   -- If the count and then the elements were read, the list was read.
@@ -53,7 +53,7 @@ module _ {S V : Type 0} {left : S → Option (List ℕ)} {able : S → ℕ → T
       new
   list_refused see h k = second_refused laws (count_and_parts R) (λ e g. g) h k
 
-module _ {S : Type 0} {left : S → Option (List ℕ)} {able : S → ℕ → Type 0}
+module _ {S : Type 0} {left : S → Left} {able : S → ℕ → Type 0}
     {may_leave : S → S → Type 0} (laws : Laws left able may_leave) {R : Tree → Type 0} {H : Error → Type 0}
   where
     -- If reading the count fails, reading the list fails with its error.

@@ -7,7 +7,7 @@ use Rattle.postcard_wire.specs.Reading.{IsNum, IsInt}
 use Rattle.postcard_wire.proofs.Delimited.{num_delimited, int_delimited}
 use Rattle.postcard_wire.proofs.Ranged.{in_range}
 use Rattle.postcard_shape.specs.Shape.{never}
-use Rattle.postcard_de_flavors.specs.Source.{Laws}
+use Rattle.postcard_de_flavors.specs.Source.{Left, Laws}
 use Rattle.postcard_shape.specs.Values.{Same}
 use Rattle.postcard_de_nodes.specs.Reads.{ReadsFrom}
 use Rattle.postcard_de_nodes.specs.ReadLemmas.{found}
@@ -16,7 +16,7 @@ use Rattle.postcard_de_nodes.specs.ReadLemmas.{found}
 abbrev pub Below : ℕ → ℕ → Type 0
 Below w n = n < 2 ^ w
 
-module _ {S : Type 0} {left : S → Option (List ℕ)} {able : S → ℕ → Type 0}
+module _ {S : Type 0} {left : S → Left} {able : S → ℕ → Type 0}
     {may_leave : S → S → Type 0} (laws : Laws left able may_leave) where
   -- A number that was read is one of its width.
   pub number_below : {w n : ℕ} {old new : S} →

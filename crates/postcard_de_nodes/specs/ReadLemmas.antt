@@ -5,7 +5,7 @@ use Rattle.std.proofs.Common.{Result, IsErrAnd, refl, sym, ap, subst}
 use Rattle.postcard_wire.specs.declared.error.Error.{Error}
 use Rattle.postcard_wire.specs.declared.error.Error.TheVariants.{OutOfMemory}
 use Rattle.postcard_wire.specs.declared.error.Error.TheVariants.{DeserializeUnexpectedEnd}
-use Rattle.postcard_de_flavors.specs.Source.{CanTake, Takes, Laws}
+use Rattle.postcard_de_flavors.specs.Source.{Left, CanTake, Takes, Laws}
 use Rattle.postcard_de_nodes.specs.Reads.{IsReadError, ReadsFrom}
 use Rattle.postcard_de_nodes.specs.Refuses.{RefusesFrom}
 use Rattle.postcard_de_nodes.specs.TakeLemmas.{faces}
@@ -37,7 +37,7 @@ pub record Excludes {X : Type 0} (other : Error → Type 0) (wants : List ℕ �
         p ++ y ≡ q ++ z → e ≡ OutOfMemory
     pub named : (p : List ℕ) (e : Error) → bad p e → IsReadError other e
 
-module _ {S : Type 0} {left : S → Option (List ℕ)} {able : S → ℕ → Type 0} where
+module _ {S : Type 0} {left : S → Left} {able : S → ℕ → Type 0} where
   -- A reason for a failure may be weakened.
   pub widened : {wants wants' : List ℕ → ℕ → Type 0} {bad bad' : List ℕ → Error → Type 0}
       {old new : S} {e : Error} → ((p : List ℕ) (n : ℕ) → wants p n → wants' p n) →
@@ -75,7 +75,7 @@ module _ {S : Type 0} {left : S → Option (List ℕ)} {able : S → ℕ → Typ
         },
       )
 
-module _ {S : Type 0} {left : S → Option (List ℕ)} {able : S → ℕ → Type 0}
+module _ {S : Type 0} {left : S → Left} {able : S → ℕ → Type 0}
     {may_leave : S → S → Type 0} where
   -- If a front was taken that spells a thing that is read, the call may return that thing's value.
   pub found : {X V : Type 0} {spelled : X → List ℕ → Type 0} {reads : X → Type 0}

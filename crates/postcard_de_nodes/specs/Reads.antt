@@ -11,7 +11,7 @@ use Rattle.postcard_wire.specs.declared.error.Error.TheVariants.{DeserializeBadO
 use Rattle.postcard_wire.specs.declared.error.Error.TheVariants.{DeserializeBadEncoding}
 use Rattle.postcard_wire.specs.declared.error.Error.TheVariants.{DeserializeBadCrc}
 use Rattle.postcard_wire.specs.declared.error.Error.TheVariants.{SerdeDeCustom, OutOfMemory}
-use Rattle.postcard_de_flavors.specs.Source.{CanTake, Takes}
+use Rattle.postcard_de_flavors.specs.Source.{Left, CanTake, Takes}
 use Rattle.postcard_de_flavors.specs.declared.flavor.Flavor.{Ghosts}
 
 -- The errors that a reading call may return (behaviour of postcard 1.1.3): the bytes end, a node is
@@ -32,7 +32,7 @@ IsReadError other e = other e
 -- A thing is read for which `claim` holds, and its spelling was taken from the front. The value
 -- itself doesn't occur, so two values with the same `claim` are treated alike.
 pub record Gives {X S : Type 0} (spelled : X → List ℕ → Type 0) (reads claim : X → Type 0)
-    (left : S → Option (List ℕ)) (able : S → ℕ → Type 0) (old new : S) : Type 0 where
+    (left : S → Left) (able : S → ℕ → Type 0) (old new : S) : Type 0 where
   pub thing : X
   pub front : List ℕ
   pub is_read : reads thing
@@ -49,7 +49,7 @@ pub record Gives {X S : Type 0} (spelled : X → List ℕ → Type 0) (reads cla
 -- it leaves a state that takes may leave, and an error that it returns is one that a reading call
 -- may return.
 pub record ReadsFrom {X S V : Type 0} (spelled : X → List ℕ → Type 0) (reads : X → Type 0)
-    (value : X → V → Type 0) (other : Error → Type 0) (left : S → Option (List ℕ))
+    (value : X → V → Type 0) (other : Error → Type 0) (left : S → Left)
     (able : S → ℕ → Type 0) (may_leave : S → S → Type 0) (old : S) (result : Result V Error)
     (new : S) : Type 0 where
   pub gives : IfOk result (λ v. Gives spelled reads (λ x. value x v) left able old new)

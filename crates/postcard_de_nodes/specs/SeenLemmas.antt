@@ -3,14 +3,14 @@
 use Rattle.std.proofs.Common.{◌≡◌, ℕ, List, Option, Ok, Result, IsErrAnd, refl}
 use Rattle.postcard_wire.specs.declared.error.Error.{Error}
 use Rattle.postcard_wire.specs.declared.error.Error.TheVariants.{OutOfMemory}
-use Rattle.postcard_de_flavors.specs.Source.{Laws}
+use Rattle.postcard_de_flavors.specs.Source.{Left, Laws}
 use Rattle.postcard_de_nodes.specs.Reads.{IsReadError, ReadsFrom}
 use Rattle.postcard_de_nodes.specs.ErrorLemmas.{wider}
 use Rattle.postcard_de_nodes.specs.ReadLemmas.{refusal, is_refusal}
 use Rattle.postcard_de_nodes.specs.TakeLemmas.{can_first}
 use Rattle.postcard_de_nodes.specs.CompoundLemmas.{Compound}
 
-module _ {S : Type 0} {left : S → Option (List ℕ)} {able : S → ℕ → Type 0}
+module _ {S : Type 0} {left : S → Left} {able : S → ℕ → Type 0}
     {may_leave : S → S → Type 0} {X V : Type 0} {P : X → List ℕ → Type 0} {R : X → Type 0}
     {I : X → V → Type 0} {G : Error → Type 0} {old new : S} where
   -- A call that read v may return w instead, if w is the value of the same thing in a smaller set
@@ -77,7 +77,7 @@ module _ {S : Type 0} {left : S → Option (List ℕ)} {able : S → ℕ → Typ
       ReadsFrom P R' I' H left able may_leave old r new
   passed_on {r = r} {e = e} fewer grow h s = rw (is_refusal r e h) (refused_too fewer grow s)
 
-module _ {F : Type 0} {left : F → Option (List ℕ)} {able : F → ℕ → Type 0}
+module _ {F : Type 0} {left : F → Left} {able : F → ℕ → Type 0}
     {may_leave : F → F → Type 0} (laws : Laws left able may_leave) {X Y Z V A : Type 0}
     {P : X → List ℕ → Type 0} {R : X → Type 0} {I : X → V → Type 0} {Q : Y → List ℕ → Type 0}
     {S : V → Y → Type 0} {P' : Z → List ℕ → Type 0} {R' : Z → Type 0} {K : Z → A → Type 0}

@@ -9,7 +9,7 @@ use Rattle.postcard_wire.specs.Tree.{Tree, Trees, Byte, Num, Absent, Seq, Group,
 use Rattle.postcard_wire.specs.Tree as nodes
 use Rattle.postcard_wire.specs.Spelling.{Spells, SpellsAll}
 use Rattle.postcard_wire.specs.Reading.{IsByte, IsNum, IsOption, IsGroup, IsArray, Each}
-use Rattle.postcard_de_flavors.specs.Source.{CanTake, Takes, Laws}
+use Rattle.postcard_de_flavors.specs.Source.{Left, CanTake, Takes, Laws}
 use Rattle.postcard_de.specs.Reads.{ReadsFrom}
 use Rattle.postcard_shape.specs.Base256.{AreBytes, little, low_first, low_counts, low_bytes, low_worth, low_one}
 use Rattle.postcard_fixint.specs.Fixed.{IsFixed, unsigned}
@@ -76,7 +76,7 @@ bits_are k n t (ts, is, many, r) (bs, (us, was, h), worth, fits) =
 num_same : (w n m : ℕ) → Num w n ≡ Num w m → n ≡ m
 num_same w n m e = cc
 
-module _ {S : Type 0} {left : S → Option (List ℕ)} {able : S → ℕ → Type 0} {may_leave : S → S → Type 0} where
+module _ {S : Type 0} {left : S → Left} {able : S → ℕ → Type 0} {may_leave : S → S → Type 0} where
   -- Reading a number of 64 bits reads a count.
   pub as_count : {old new : S} {n : ℕ} → ReadsFrom Spells (IsNum 64) (λ t v. t ≡ Num 64 v) never left able may_leave old (Ok n) new → ReadsFrom (SpellsNum 64) (Below 64) Same never left able may_leave old (Ok n) new
   as_count {n = n} r = let g = r.gives in record {
@@ -131,10 +131,10 @@ module _ {S : Type 0} {left : S → Option (List ℕ)} {able : S → ℕ → Typ
   }
 
 -- The result of reading the parts that are left is the result of reading all parts.
-pub record GoingParts {S : Type 0} (left : S → Option (List ℕ)) (able : S → ℕ → Type 0) (may_leave : S → S → Type 0) (start : S) (all : MessageTypes) (items : List Value) (now : S) (rest : MessageTypes) : Type 0 where
+pub record GoingParts {S : Type 0} (left : S → Left) (able : S → ℕ → Type 0) (may_leave : S → S → Type 0) (start : S) (all : MessageTypes) (items : List Value) (now : S) (rest : MessageTypes) : Type 0 where
   pub ends : (r : Result (List Value) Error) (new : S) → ReadsFrom SpellsAll (reads_all rest) (EachIs IsTree) memory left able may_leave now r new → ReadsFrom SpellsAll (reads_all all) (EachIs IsTree) memory left able may_leave start (prefixed items r) new
 
-module _ {S : Type 0} {left : S → Option (List ℕ)} {able : S → ℕ → Type 0} {may_leave : S → S → Type 0} (laws : Laws left able may_leave) where
+module _ {S : Type 0} {left : S → Left} {able : S → ℕ → Type 0} {may_leave : S → S → Type 0} (laws : Laws left able may_leave) where
   -- It holds before the first part is read.
   pub parts_begin : {start : S} {all : MessageTypes} → GoingParts left able may_leave start all [] start all
   parts_begin {start} {all} = record { ends = ends }
@@ -195,7 +195,7 @@ module _ {S : Type 0} {left : S → Option (List ℕ)} {able : S → ℕ → Typ
 first_byte : (b c : ℕ) (q y z : List ℕ) → (b ∷ []) ++ y ≡ (c ∷ q) ++ z → b ≡ c
 first_byte b c q y z e = cc
 
-module _ {S : Type 0} {left : S → Option (List ℕ)} {able : S → ℕ → Type 0} {may_leave : S → S → Type 0} where
+module _ {S : Type 0} {left : S → Left} {able : S → ℕ → Type 0} {may_leave : S → S → Type 0} where
   -- If a byte was read and is 1, the byte 1 was taken.
   pub one_taken : {old mid : S} {b : ℕ} → ReadsFrom Spells IsByte (λ t v. t ≡ Byte v) never left able may_leave old (Ok b) mid → b ≡ 1 → Takes left able old (1 ∷ []) mid
   one_taken {old = old} {mid = mid} {b = b} r e =
@@ -203,7 +203,7 @@ module _ {S : Type 0} {left : S → Option (List ℕ)} {able : S → ℕ → Typ
       let s : Spells (Byte b) g.front = rw g.has at g.is_spelled in
       subst (λ (l : List ℕ). Takes left able old l mid) (s ∙ ap (λ (n : ℕ). n ∷ []) e) g.taken
 
-module _ {S : Type 0} {left : S → Option (List ℕ)} {able : S → ℕ → Type 0} {may_leave : S → S → Type 0} (laws : Laws left able may_leave) {old mid : S} (t : Takes left able old (1 ∷ []) mid) (l : may_leave old mid) where
+module _ {S : Type 0} {left : S → Left} {able : S → ℕ → Type 0} {may_leave : S → S → Type 0} (laws : Laws left able may_leave) {old mid : S} (t : Takes left able old (1 ∷ []) mid) (l : may_leave old mid) where
   -- If the byte 1 was taken, the byte 0 could not have been taken.
   not_absent : (p : List ℕ) → p ≡ 0 ∷ [] → CanTake left able old p → ⊥
   not_absent p k c =

@@ -12,7 +12,7 @@ use Rattle.postcard_shape.specs.Shape.{never, either, memory}
 use Rattle.postcard_shape.specs.Cases.{case_reads}
 use Rattle.postcard_shape.specs.Values.{Same}
 use Rattle.postcard_shape.specs.declared.cases.Case.TheVariants.{This, Next}
-use Rattle.postcard_de_flavors.specs.Source.{Laws}
+use Rattle.postcard_de_flavors.specs.Source.{Left, Laws}
 use Rattle.postcard_de.specs.Reads.{ReadsFrom}
 use Rattle.postcard_examples.specs.declared.chain.Chain.{Chain}
 use Rattle.postcard_examples.specs.Links.{chain_shape, chain_cases}
@@ -33,7 +33,7 @@ LinkErrors m = either never (either (chain_shape m).other never)
 of_link : (m : ℕ) (e : Error) → LinkErrors m e → (chain_shape (suc m)).other e
 of_link m e h = with_memory _ e (inr (inl h))
 
-module _ {S : Type 0} {left : S → Option (List ℕ)} {able : S → ℕ → Type 0}
+module _ {S : Type 0} {left : S → Left} {able : S → ℕ → Type 0}
     {may_leave : S → S → Type 0} (laws : Laws left able may_leave) {old mid new : S}
     (d m : ℕ) (deeper : d ≡ suc m) where
   -- If the index 1 was read and the parts after it are refused, the link is refused.

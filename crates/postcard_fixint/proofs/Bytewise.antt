@@ -6,13 +6,13 @@ use Rattle.postcard_wire.specs.Tree.{Byte}
 use Rattle.postcard_wire.specs.Spelling.{Spells}
 use Rattle.postcard_wire.specs.Reading.{IsByte}
 use Rattle.postcard_shape.specs.Shape.{never}
-use Rattle.postcard_de_flavors.specs.Source.{Takes, Laws}
+use Rattle.postcard_de_flavors.specs.Source.{Left, Takes, Laws}
 use Rattle.postcard_de_nodes.specs.Reads.{ReadsFrom}
 use Rattle.postcard_de_nodes.specs.Refuses.{RefusesFrom, WantsByte, WantsBytes, NoneBad}
 use Rattle.postcard_de_nodes.specs.ReadLemmas.{ends_after_front}
 use Rattle.postcard_de_nodes.specs.TakeLemmas.{nothing_taken, both_taken}
 
-module _ {S : Type 0} {left : S → Option (List ℕ)} {able : S → ℕ → Type 0} where
+module _ {S : Type 0} {left : S → Left} {able : S → ℕ → Type 0} where
   -- A front of n bytes was taken.
   pub record Took (old : S) (n : ℕ) (now : S) : Type 0 where
     pub front : List ℕ
