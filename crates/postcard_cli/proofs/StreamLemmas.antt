@@ -386,8 +386,8 @@ message_unchecked (Err e) s at message behind v old new is lacks printed = tt
 pub message_refused : (r : Result (Unit {0}) Failure) (s : Format) (at : ℕ) (message : List ℕ) (e : Error) (old new : Option (List ℕ))
     → ((v : Value) (rest : List ℕ) → ReadsValue s.schema message v rest → ⊥) → IsReadError memory e → e ≢ errors.OutOfMemory
     → OnOk r ((place : List ℕ) × Prints (answer_line s at (refused place e message)) old new) → OnOk r (PrintsMessage s at message old new)
-message_refused (Ok done) s at message e old new none named memory (place, printed) = (refused place e message, (refl, none, named, memory), printed)
-message_refused (Err f) s at message e old new none named memory printed = tt
+message_refused (Ok done) s at message e old new none named full (place, printed) = (refused place e message, (refl, none, named, full), printed)
+message_refused (Err f) s at message e old new none named full printed = tt
 
 -- The line of the data of a frame is that of the frame.
 pub frame_answer : (s : Format) (longest at : ℕ) (frame message : List ℕ) (old new : Option (List ℕ)) → length frame + 1 ≤ longest → Groups frame message

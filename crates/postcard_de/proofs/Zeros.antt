@@ -3,7 +3,7 @@ use Rattle.std.proofs.Common.{◌≡◌, ℕ, inl, inr, ◌∙◌, ℤ, pos, Lis
 use Rattle.std.specs.Int.{w8, cast_unsigned}
 use Rattle.postcard_wire.specs.declared.error.Error.{Error}
 use Rattle.postcard_wire.specs.declared.error.Error.TheVariants.{SerdeDeCustom}
-use Rattle.postcard_wire.specs.Tree.{Tree, Byte, Num, Int}
+use Rattle.postcard_wire.specs.Tree.{Byte, Num, Int}
 use Rattle.postcard_wire.specs.Spelling.{Spells}
 use Rattle.postcard_wire.specs.Reading.{IsByte, IsNum, IsInt}
 use Rattle.postcard_shape.specs.Shape.{never}
@@ -32,7 +32,7 @@ module _ {S : Type 0} {left : S → Left} {able : S → ℕ → Type 0}
   signed_byte_is_why zero r = let g = r.gives in inr (record {
     front = g.front;
     taken = g.taken;
-    why = (refl, rw (g.has ∙ ap (λ v. Byte (cast_unsigned w8 v)) zero) at g.is_spelled);
+    why = (refl, rw (g.has ∙ ap (λ (v : ℤ). Byte (cast_unsigned w8 v)) zero) at g.is_spelled);
   })
 
   -- If the number 0 was read, that is why reading fails.
@@ -55,6 +55,7 @@ module _ {S : Type 0} {left : S → Left} {able : S → ℕ → Type 0}
     why = inr (refl, rw (g.has ∙ ap (Int w) zero) at g.is_spelled);
   })
 
+module _ {S : Type 0} {left : S → Left} {able : S → ℕ → Type 0} {old new : S} where
   -- If no byte was read, that is why reading fails.
   pub no_byte : {e : Error} → RefusesFrom WantsByte NoneBad left able old e new →
       RefusesFrom WantsByte ZeroByte left able old e new
