@@ -32,9 +32,11 @@ module _ {T : Type 0} (remaining : T → Option (List ℕ)) (steady : T → Type
       → ((n : ℕ) → CanRead remaining steady old (length front + n) → CanRead remaining steady new n)
       → (n : ℕ) → steady from → AtLeast (remaining from) (length front + n) → length front + n ≤ length given → AtLeast (remaining to) n × (n ≤ length rest)
   kept old new from to given rest front is_reader is_scratch to_is rest_is keeps n is_steady enough room =
-      let able = keeps n (subst steady (sym is_reader) is_steady,
+      let able = keeps n (
+        subst steady (sym is_reader) is_steady,
         subst (λ (r : T). AtLeast (remaining r) (length front + n)) (sym is_reader) enough,
-        subst (λ (l : List ℕ). length front + n ≤ length l) (sym is_scratch) room) in
+        subst (λ (l : List ℕ). length front + n ≤ length l) (sym is_scratch) room,
+      ) in
       (subst (λ (r : T). AtLeast (remaining r) n) (sym to_is) able.1, subst (λ (l : List ℕ). n ≤ length l) (sym rest_is) able.2)
 
 -- What is left of scratch is also left of scratch equal to it.
