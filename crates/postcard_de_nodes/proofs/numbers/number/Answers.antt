@@ -47,8 +47,7 @@ pub loop-place-preserved : goal.loop-place-preserved
 loop-place-preserved g c =
     let so = c.loop-place.invariant.0 in
     let front = so.front ++ c.in_ok-byte.byte ∷ [] in
-    let pushed = rw c.in_default.is at (c.in_ok-n.ensures so.front so.read) in
-    (
+    let pushed = rw c.in_default.is at (c.in_ok-n.ensures so.front so.read) in (
       record {
         front = front;
         read = pushed;
