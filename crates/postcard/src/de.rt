@@ -21,7 +21,8 @@ use std::alloc::Global;
 ///
 /// Slices and texts in the value, as a `&str`, are in the scratch buffer, of which they use up as
 /// many bytes. A `String` needs as many bytes of scratch while it is read and uses up none; numbers
-/// need none.
+/// need none. The scratch left is a part at the rear of the one passed, in which only bytes among
+/// the first of the whole, as many as were read, may have changed, whatever the reader.
 ///
 /// If the reader knows its bytes, the value is that of a front of them, and just that front was
 /// read. Over a steady reader it succeeds if a front spells a tree that the type reads, the scratch
