@@ -1,3 +1,5 @@
+use Rattle.std.proofs.Common.{◌≡◌, pos, arith}
+use Rattle.std.proofs.lemmas.Grind.{common_steps}
 use Rattle.postcard_de_nodes.specs.ReadLemmas.{is_refusal}
 use Rattle.postcard_de.proofs.Zeros.{no_byte, signed_byte_is_why}
 use Rattle.postcard_de.proofs.values.nonzero.NonZeroI8Deserialize.deserialize.Goals as goal
@@ -8,4 +10,6 @@ returns-in_err-number-clause-refused g c =
     (no_byte c.in_err-number.ensures.refused)
 
 pub returns-in-None-clause-refused : goal.returns-in-None-clause-refused
-returns-in-None-clause-refused g c = signed_byte_is_why c.in-None.ensures c.in_ok-number.ensures.reads
+returns-in-None-clause-refused g c =
+    let zero : c.in_ok-number.number ≡ pos 0 = grind (arith, common_steps) in
+    signed_byte_is_why zero c.in_ok-number.ensures.reads
