@@ -6,7 +6,7 @@ use Rattle.postcard_de_nodes.specs.ReadLemmas.{is_refusal}
 use Rattle.postcard_de_nodes.specs.ArrayLemmas.{array_read, array_refused}
 use Rattle.postcard_de.proofs.Lists.{going, goes_on, going_stops, going_done}
 use Rattle.postcard_fixint.proofs.Bytewise.{took_none, took_more, byte_lacks}
-use Rattle.postcard_fixint.proofs.array.ArrayByteArray.read.Goals as goal
+use Rattle.postcard_fixint.proofs.array.ArrayU8ByteArray.read.Goals as goal
 
 pub loop-i-init : goal.loop-i-init
 loop-i-init g c =

@@ -6,7 +6,7 @@ use Rattle.postcard_shape.specs.Shape.{never}
 use Rattle.postcard_de.specs.Deserializer.{source_of}
 use Rattle.postcard_de.proofs.Lists.{Going}
 use Rattle.postcard_fixint.proofs.Bytewise.{Took}
-use Rattle.postcard_fixint.proofs.array.ArrayByteArray.read.Given as goal
+use Rattle.postcard_fixint.proofs.array.ArrayU8ByteArray.read.Given as goal
 
 abbrev pub invariant-loop-i : goal.invariant-loop-i
 invariant-loop-i g l = let f = g.F.Flavor in
