@@ -12,21 +12,22 @@ use Rattle.postcard_de_nodes.specs.Refuses.{RefusesFrom, WantsByte, WantsBytes, 
 use Rattle.postcard_de_nodes.specs.ReadLemmas.{ends_after_front}
 use Rattle.postcard_de_nodes.specs.TakeLemmas.{nothing_taken, both_taken}
 
-module _ {S : Type 0} {left : S → Left} {able : S → ℕ → Type 0} where
-  -- A front of n bytes was taken.
-  pub record Took (old : S) (n : ℕ) (now : S) : Type 0 where
+-- A front of n bytes was taken.
+pub record Took {S : Type 0} (left : S → Left) (able : S → ℕ → Type 0) (old : S) (n : ℕ) (now : S) : Type 0
+  where
     pub front : List ℕ
     pub long : length front ≡ n
     pub taken : Takes left able old front now
 
+module _ {S : Type 0} {left : S → Left} {able : S → ℕ → Type 0} where
   -- At first no byte was taken.
-  pub took_none : (s : S) → Took s 0 s
+  pub took_none : (s : S) → Took left able s 0 s
   took_none s = record { front = []; long = refl; taken = nothing_taken s }
 
   -- If a byte was read next, one more was taken.
-  pub took_more : {may_leave : S → S → Type 0} {old now new : S} {n b : ℕ} → Took old n now →
+  pub took_more : {may_leave : S → S → Type 0} {old now new : S} {n b : ℕ} → Took left able old n now →
       ReadsFrom Spells IsByte (λ t v. t ≡ Byte v) never left able may_leave now (Ok b) new →
-      Took old (n + 1) new
+      Took left able old (n + 1) new
   took_more {n = n} {b = b} so r =
       let g = r.gives in
       let one : g.front ≡ b ∷ [] = rw g.has at g.is_spelled in
@@ -38,7 +39,7 @@ module _ {S : Type 0} {left : S → Left} {able : S → ℕ → Type 0} where
 
   -- If n bytes aren't all taken and the next can't be, n bytes can't be.
   pub byte_lacks : {may_leave : S → S → Type 0} → Laws left able may_leave → {old now new : S} {i n : ℕ}
-      {e : Error} → i < n → Took old i now → RefusesFrom WantsByte NoneBad left able now e new →
+      {e : Error} → i < n → Took left able old i now → RefusesFrom WantsByte NoneBad left able now e new →
       RefusesFrom (WantsBytes n) NoneBad left able old e new
   byte_lacks laws {old = old} {n = n} few so (inl (is, ends)) =
       let front = length ends.front in

@@ -14,5 +14,5 @@ invariant-loop-i g l = let f = g.F.Flavor in
       long : length l.bytes ≡ g.row.N;
       going : Going f.left f.able f.may_leave IsByte (λ t v. t ≡ Byte v) never
           (source_of l.initial.d) g.row.N (take l.i l.bytes) (source_of l.d) (g.row.N - l.i);
-      took : Took {left = f.left} {able = f.able} (source_of l.initial.d) l.i (source_of l.d);
+      took : Took f.left f.able (source_of l.initial.d) l.i (source_of l.d);
     }
