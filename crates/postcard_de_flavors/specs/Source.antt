@@ -32,8 +32,8 @@ pub record CanTake {S : Type 0} (left : S → Left) (able : S → ℕ → Type 0
   pub begins : Begins (left s).bytes p
   pub enough : able s (length p)
 
--- The bytes p were taken from the front, and of the scratch a part at its rear is left. If the source was able to give p and n bytes more, it is
--- now able to give those n bytes.
+-- The bytes p were taken from the front, and of the scratch a part at its rear is left. If the source
+-- was able to give p and n bytes more, it is now able to give those n bytes.
 pub record Takes {S : Type 0} (left : S → Left) (able : S → ℕ → Type 0) (old : S) (p : List ℕ) (new : S) : Type 0 where
   pub drops : Consumes (left old).bytes (left new).bytes p
   pub scratch : KeepsRear (length p) (left old).scratch (left new).scratch

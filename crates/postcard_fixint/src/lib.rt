@@ -31,8 +31,8 @@
 //! }
 //! ```
 //!
-//! In reading order: [`FixInt`] is the trait of the numbers and [`ByteArray`] that of their bytes, [`le`] and [`be`] write and read them,
-//! and [`laws`] has what holds of their bytes.
+//! In reading order: [`FixInt`] is the trait of the numbers and [`ByteArray`] that of their bytes,
+//! [`le`] and [`be`] write and read them, and [`laws`] has what holds of their bytes.
 #![tactic(auto)]
 
 mod array;
