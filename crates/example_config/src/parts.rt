@@ -29,7 +29,7 @@ pub fn read_parts<'de, T: FromParts, F: Flavor>(
 where
     T::Parts: Deserialize<'de>,
     ensures { Reads F.Flavor Spells T.Parts.shape.reads (λ t v. T.Parts.shape.value t (T.seen v))
-        T.Parts.shape.grows (source_of d.old) result (source_of d.new) }
+        T.Parts.shape.other (source_of d.old) result (source_of d.new) }
 {
     let parts = <T::Parts as Deserialize<'de>>::deserialize(alloc, d)?;
     Ok(T::from_parts(parts))

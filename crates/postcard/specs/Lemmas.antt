@@ -47,6 +47,8 @@ pub use Rattle.postcard_de.proofs.Parts.{struct_read, struct_fails}
 pub use Rattle.postcard_de.proofs.Enums.{index_refused, content_refused, variant_read}
 pub use Rattle.postcard_de.proofs.Enums.{unknown_index}
 pub use Rattle.postcard_de_nodes.specs.SeenLemmas.{no_room}
+-- Errors of parts are among those of a type that allocates.
+pub use Rattle.postcard_de_nodes.specs.ErrorLemmas.{with_memory, only_memory}
 -- A reading loop of a caller: the state within a piece that is fed, the answers of bytes in a row,
 -- and when a feed may return `DeserError`.
 pub use Rattle.postcard_accumulator.proofs.ReadLoop.{AtWindow, at_start, at_next, at_end, shorter}

@@ -6,6 +6,7 @@ ghost use Rattle.postcard_wire.specs.Tree.{Tree};
 ghost use Rattle.postcard_wire.specs.Spelling.{Spells, canonical};
 ghost use Rattle.postcard_de_flavors.specs.Source.{Begins};
 ghost use Rattle.postcard_de.specs.Reads.{IsReadError};
+ghost use Rattle.postcard_shape.specs.Shape.{Grows};
 ghost use Rattle.postcard.specs.Front.{ReadsReader};
 
 use postcard_de::{Deserialize, Deserializer};
@@ -20,7 +21,8 @@ use std::alloc::Global;
 ///
 /// Slices and texts in the value, as a `&str`, are in the scratch buffer, of which they use up as
 /// many bytes. A `String` needs as many bytes of scratch while it is read and uses up none; numbers
-/// need none.
+/// need none. The scratch left is a part at the rear of the one passed, in which only bytes among
+/// the first of the whole, as many as were read, may have changed, whatever the reader.
 ///
 /// If the reader knows its bytes, the value is that of a front of them, and just that front was
 /// read. Over a steady reader it succeeds if a front spells a tree that the type reads, the scratch
@@ -44,17 +46,17 @@ pub fn from_io<'a, T: Deserialize<'a>, R: Source + 'a>(
         → MatchResult result
         (λ read. T.shape.value t read.0
         × Consumes (R.remaining from.entry.0) (R.remaining read.1.0) front)
-        (λ e. (e ≡ Error.OutOfMemory) × T.shape.grows) }
+        (λ e. (e ≡ Error.OutOfMemory) × Grows T.shape) }
     ensures reads_back { (x : T) → T.shape.fits x → R.steady from.entry.0
         → Begins (R.remaining from.entry.0) (canonical (T.shape.tree x))
         → length (canonical (T.shape.tree x)) ≤ length from.entry.1.now
         → MatchResult result
         (λ read. T.shape.same read.0 x
         × Consumes (R.remaining from.entry.0) (R.remaining read.1.0) (canonical (T.shape.tree x)))
-        (λ e. (e ≡ Error.OutOfMemory) × T.shape.grows) }
+        (λ e. (e ≡ Error.OutOfMemory) × Grows T.shape) }
     ensures stays_steady { R.steady from.entry.0 → IfOk result (λ read. R.steady read.1.0) }
-    ensures out_of_memory_only_if_grows { result ≡ Err Error.OutOfMemory → T.shape.grows }
-    ensures named_error { IfErr result (IsReadError T.shape.grows) }
+    ensures out_of_memory_only_if_grows { result ≡ Err Error.OutOfMemory → Grows T.shape }
+    ensures named_error { IfErr result (IsReadError T.shape.other) }
 {
     let (reader, scratch) = from;
     let mut deserializer = Deserializer::from_flavor(IOReader::new(reader, scratch));

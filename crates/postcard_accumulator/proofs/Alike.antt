@@ -2,7 +2,7 @@
 use Rattle.std.proofs.Common.{◌≡◌, ℕ, ◌+◌, ◌<◌, inl, inr, List, [], ◌∷◌, ◌++◌, length, sym, ap}
 use Rattle.std.proofs.Common.{subst, ◌∙◌, arith}
 use native.Mathlib.Decide.{dec_le}
-use Rattle.postcard_shape.specs.Shape.{Shape}
+use Rattle.postcard_shape.specs.Shape.{Shape, Grows}
 use Rattle.postcard_accumulator.specs.State.{State, holding, skipping}
 use Rattle.postcard_accumulator.specs.Streams.{IsOwn, IsAnswerOf, AreAnswersOf, IsAnswered}
 use Rattle.postcard_accumulator.specs.Laws.{IsAlike, AreAlike, AnswersAreOne, DamageStays}
@@ -13,7 +13,7 @@ use Rattle.postcard_accumulator.proofs.Cutting.{zero_cut, has_zero, one_split}
 use Rattle.postcard_accumulator.proofs.Fronts.{values_alike}
 use Rattle.postcard_accumulator.proofs.Splitting.{split_law}
 
-module _ {T : Type 0} (n : ℕ) (shape : Shape T) (still : ¬ shape.grows) where
+module _ {T : Type 0} (n : ℕ) (shape : Shape T) (still : ¬ Grows shape) where
   own_alike : (f : List ℕ) (x y : Answer T) → IsOwn shape f x → IsOwn shape f y → IsAlike shape x y
   own_alike f (Success v) (Success w) p q = values_alike shape f v w p q
   own_alike f (Success v) DeserError p q = absurd (q still v p)

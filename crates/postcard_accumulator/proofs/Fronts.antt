@@ -9,7 +9,7 @@ use Rattle.postcard_cobs.specs.Groups.{Groups}
 use Rattle.postcard_cobs.proofs.Frames.{data_is_one}
 use Rattle.postcard_de.specs.Front.{ReadsFront}
 use Rattle.postcard_de.proofs.Alike.{fronts_alike}
-use Rattle.postcard_shape.specs.Shape.{Shape}
+use Rattle.postcard_shape.specs.Shape.{Shape, Grows}
 use Rattle.postcard_accumulator.specs.Feeding.{IsValueOf, IsRefused}
 
 -- Two values of one frame look alike.
@@ -30,11 +30,11 @@ refused_none shape f none = λ still v o. none o.content o.decodes
 -- then the frame has no value.
 pub refused_data : {T : Type 0} (shape : Shape T) (f d : List ℕ) (e : Error) → Groups f d →
     ((t : Tree) (front rest : List ℕ) → shape.reads t → Spells t front → d ≡ front ++ rest
-    → (e ≡ OutOfMemory) × shape.grows) → IsRefused shape f
+    → (e ≡ OutOfMemory) × Grows shape) → IsRefused shape f
 refused_data {T = T} shape f d e g accepts =
     λ still v o. none still v o.rest
     (subst (λ (x : List ℕ). ReadsFront shape.reads shape.value x v o.rest)
     (data_is_one f o.content d o.decodes g) o.is_read) where
-      none : ¬ shape.grows → (v : T) (rest : List ℕ)
+      none : ¬ Grows shape → (v : T) (rest : List ℕ)
           → ReadsFront shape.reads shape.value d v rest → ⊥
       none still v rest r = still (accepts r.tree r.front rest r.is_read r.is_spelled r.joins).1

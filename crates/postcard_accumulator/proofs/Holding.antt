@@ -3,7 +3,7 @@ use Rattle.std.proofs.Common.{◌≡◌, ℕ, List, ◌++◌, refl, ap, sym, sub
 use Rattle.std.proofs.Common.{inl, inr}
 use Rattle.std.specs.Prelude.{IsTrue}
 use Rattle.std.specs.Borrow.{Bor}
-use Rattle.postcard_shape.specs.Shape.{Shape, via}
+use Rattle.postcard_shape.specs.Shape.{Shape, via, Grows}
 use Rattle.postcard_accumulator.specs.State.{State, holding, skipping, state_of, held_of}
 use Rattle.postcard_accumulator.specs.State.{is_skipping}
 use Rattle.postcard_wire.specs.Tree.{Tree}
@@ -38,7 +38,7 @@ module _ {T : Type 0} (shape : Shape T) where
   -- `DeserError` is right for a frame whose data is refused.
   pub read_err : (d rest : Bor (List ℕ)) (e : Error)
       → ((t : Tree) (front more : List ℕ) → shape.reads t → Spells t front → d.now ≡ front ++ more
-      → (e ≡ OutOfMemory) × shape.grows) → IsReadOf shape (Message d rest) (DeserError rest)
+      → (e ≡ OutOfMemory) × Grows shape) → IsReadOf shape (Message d rest) (DeserError rest)
   read_err d rest e accepts n (holding h) p after t =
       (t.0, t.1, refused_data shape (h ++ t.0) d.now e t.2 accepts, t.3)
   read_err d rest e accepts n skipping p after (inl t) = absurd (let no = t.1 in cc)

@@ -3,7 +3,7 @@
 use Rattle.std.specs.Prelude.{◌≡◌, ℕ, ◌+◌, ◌<◌, ◌≤◌, ◌⊎◌, List, [], ◌++◌, length}
 use Rattle.postcard_cobs.specs.Groups.{NoZero, Groups, EndsFrame}
 use Rattle.postcard_frame.specs.Frame.{ReadsFrame}
-use Rattle.postcard_shape.specs.Shape.{Shape}
+use Rattle.postcard_shape.specs.Shape.{Shape, Grows}
 use Rattle.postcard_accumulator.specs.State.{State, holding, skipping}
 use Rattle.postcard_accumulator.specs.declared.answers.FeedResult.{FeedResult}
 use Rattle.postcard_accumulator.specs.declared.answers.FeedResult.TheVariants.{Consumed, OverFull}
@@ -18,7 +18,7 @@ IsValueOf shape f v = ReadsFrame shape.reads shape.value f v
 -- The frame f has no value. For a type that grows nothing is said, since an allocation may have
 -- failed.
 abbrev pub IsRefused : {T : Type 0} → Shape T → List ℕ → Type 0
-IsRefused {T} shape f = ¬ shape.grows → (v : T) → IsValueOf shape f v → ⊥
+IsRefused {T} shape f = ¬ Grows shape → (v : T) → IsValueOf shape f v → ⊥
 
 -- The piece p ends the frame h ++ q, which has room with its zero, and `rest` follows in p.
 abbrev pub EndsFitting : ℕ → List ℕ → List ℕ → List ℕ → List ℕ → Type 0

@@ -1,7 +1,7 @@
 -- The laws of streams, as statements. The functions of `src/laws.rt` have them as contracts.
 use Rattle.std.specs.Prelude.{◌≡◌, ℕ, ◌⊎◌, List, [], ◌∷◌, ◌++◌}
 use Rattle.postcard_cobs.specs.Groups.{NoZero}
-use Rattle.postcard_shape.specs.Shape.{Shape}
+use Rattle.postcard_shape.specs.Shape.{Shape, Grows}
 use Rattle.postcard_accumulator.specs.State.{State, holding, held_of}
 use Rattle.postcard_accumulator.specs.Feeding.{IsFed}
 use Rattle.postcard_accumulator.specs.Streams.{Answers, IsSplit, answers_of, left_of}
@@ -45,7 +45,7 @@ AreAlike shape (x ∷ xs) (y ∷ ys) = IsAlike shape x y × AreAlike shape xs ys
 -- For a type that doesn't grow, the bytes and the state before them determine the state after them
 -- and the answers, except for values that look alike.
 abbrev pub AnswersAreOne : {T : Type 0} → Shape T → Type 0
-AnswersAreOne {T} shape = ¬ shape.grows →
+AnswersAreOne {T} shape = ¬ Grows shape →
     (n : ℕ) (c d e : State) (s : List ℕ) (a b : List (Answer T))
     → Answers n shape c s a d → Answers n shape c s b e → AreAlike shape a b × (d ≡ e)
 
@@ -74,7 +74,7 @@ Split {T} shape =
 -- state at the end: the answers of u, x, v and of u, y, v differ only in those of x and y, except
 -- for values that look alike.
 abbrev pub DamageStays : {T : Type 0} → Shape T → Type 0
-DamageStays {T} shape = ¬ shape.grows →
+DamageStays {T} shape = ¬ Grows shape →
     (n : ℕ) (d e : State) (u x y v : List ℕ) (a b : List (Answer T))
     → EndsInZero u → EndsInZero x → EndsInZero y
     → Answers n shape (holding []) (u ++ (x ++ v)) a d

@@ -2,7 +2,7 @@
 use Rattle.std.specs.Prelude.{◌≡◌, ℕ, ◌+◌, ◌<◌, ◌≤◌, List, [], ◌∷◌, ◌++◌, length}
 use Rattle.postcard_cobs.specs.Groups.{NoZero, IsMade}
 use Rattle.postcard_wire.specs.Spelling.{canonical}
-use Rattle.postcard_shape.specs.Shape.{Shape}
+use Rattle.postcard_shape.specs.Shape.{Shape, Grows}
 use Rattle.postcard_accumulator.specs.State.{State, holding}
 use Rattle.postcard_accumulator.specs.Streams.{Answers, ended}
 use Rattle.postcard_accumulator.specs.declared.answers.Answer.{Answer}
@@ -38,7 +38,7 @@ Arrive shape [] (a ∷ rest) = ⊥
 Arrive shape (message v frame ∷ more) [] = ⊥
 Arrive shape (message v frame ∷ more) (Success w ∷ rest) = shape.same w v × Arrive shape more rest
 Arrive shape (message v frame ∷ more) (DeserError ∷ rest) =
-    (¬ ¬ shape.grows) × Arrive shape more rest
+    (¬ ¬ Grows shape) × Arrive shape more rest
 Arrive shape (message v frame ∷ more) (OverFull ∷ rest) = ⊥
 Arrive shape (oversized f ∷ more) [] = ⊥
 Arrive shape (oversized f ∷ more) (OverFull ∷ rest) = Arrive shape more rest

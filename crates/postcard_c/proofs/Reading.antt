@@ -1,6 +1,6 @@
 -- A node that was read from what a reader had not read yet.
 use Rattle.std.proofs.Common.{◌≡◌, ◌≢◌, ◌∙◌, ◌≤◌, ◌-◌, ℕ, List, ◌++◌, length, take, drop}
-use Rattle.std.proofs.Common.{sym, ap, ap₂, subst, refl, ◌⊎◌, inl, inr, Some, arith, length-append, append_assoc}
+use Rattle.std.proofs.Common.{sym, ap, ap₂, subst, refl, ◌⊎◌, inl, inr, arith, length-append, append_assoc}
 use Rattle.std.proofs.Common.{Result, Ok, Err, IfErr, Bor, zero, suc}
 use Rattle.std.proofs.lemmas.List.{take-append-drop, drop_at, append_cancel_left}
 use Rattle.std.proofs.Common.{ℤ, pos, negsuc}
@@ -13,7 +13,8 @@ use Rattle.postcard_wire.specs.Reading.{IsText, IsInt}
 use Rattle.postcard_wire.specs.Number.{InRange}
 use Rattle.postcard_wire.specs.Spelling.{Spells}
 use Rattle.postcard_wire.specs.declared.error.Error.{Error}
-use Rattle.postcard_de_flavors.specs.Source.{IsEndOf}
+use Rattle.postcard_de_flavors.specs.Source.{known, IsEndOf}
+use Rattle.postcard_shape.specs.Shape.{never}
 use Rattle.postcard_de.specs.Reads.{ReadsFrom, IsReadError}
 use Rattle.postcard_de.specs.Refuses.{RefusesFrom}
 use Rattle.postcard_c_status.proofs.Numbers.{is_failure}
@@ -65,7 +66,7 @@ still old new before now kept same = go (zero_or_not old.status)
 
 -- A call over a slice says why it fails in the words of the slice.
 why : (wants : List ℕ → ℕ → Type 0) (bad : List ℕ → Error → Type 0) (bytes left : List ℕ) (e : Error)
-    → RefusesFrom wants bad (λ (s : List ℕ). Some s) (λ s n. n ≤ length s) bytes e left
+    → RefusesFrom wants bad known (λ s n. n ≤ length s) bytes e left
     → IsRefused wants bad bytes e
 why wants bad bytes left e (inl f) = inl (
   f.0,
@@ -87,9 +88,9 @@ module _ {V : Type 0} (reads : Tree → Type 0) (value : Tree → V → Type 0)
   -- promises.
   settled_rest : (old new : Reader) (read : Result V Error) (left : List ℕ) (before now : V)
       (result : ℕ)
-      → ReadsFrom Spells reads value ⊥ (λ (s : List ℕ). Some s) (λ s n. n ≤ length s)
+      → ReadsFrom Spells reads value never known (λ s n. n ≤ length s)
       (λ s t. IsEndOf t s) (rest_of old) read left
-      → IfErr read (λ e. RefusesFrom wants bad (λ (s : List ℕ). Some s) (λ s n. n ≤ length s)
+      → IfErr read (λ e. RefusesFrom wants bad known (λ s n. n ≤ length s)
       (rest_of old) e left)
       → Settles old new read left before now result
       → Gets reads value wants bad old new before now result
@@ -133,7 +134,7 @@ module _ {V : Type 0} (reads : Tree → Type 0) (value : Tree → V → Type 0)
           begins = (rest, joins);
           enough = omega (arith, ap length joins, length-append front rest);
         }) in
-        absurd (subst (IsReadError ⊥) a r.named_error);
+        absurd (subst (IsReadError never) a r.named_error);
     unread = λ n. still old new before now s.failed_before (λ o. ((s.refused o).1, (s.refused o).2));
     refused = λ o n. (e, (s.refused o).0, why wants bad (rest_of old) left e f);
   }
@@ -141,16 +142,16 @@ module _ {V : Type 0} (reads : Tree → Type 0) (value : Tree → V → Type 0)
   pub settled : {old new : Reader} {bytes : List ℕ} {read : Result V Error} {left : List ℕ}
       {before now : V} {result : ℕ} → Settles old new read left before now result
       → bytes ≡ rest_of old
-      → ReadsFrom Spells reads value ⊥ (λ (s : List ℕ). Some s) (λ s n. n ≤ length s)
+      → ReadsFrom Spells reads value never known (λ s n. n ≤ length s)
       (λ s t. IsEndOf t s) bytes read left
-      → IfErr read (λ e. RefusesFrom wants bad (λ (s : List ℕ). Some s) (λ s n. n ≤ length s)
+      → IfErr read (λ e. RefusesFrom wants bad known (λ s n. n ≤ length s)
       bytes e left)
       → Gets reads value wants bad old new before now result
   settled {old} {new} {bytes} {read} {left} {before} {now} {result} s rest r f =
       settled_rest old new read left before now result
-      (subst (λ b. ReadsFrom Spells reads value ⊥ (λ (s : List ℕ). Some s) (λ s n. n ≤ length s)
+      (subst (λ b. ReadsFrom Spells reads value never known (λ s n. n ≤ length s)
       (λ s t. IsEndOf t s) b read left) rest r)
-      (subst (λ b. IfErr read (λ e. RefusesFrom wants bad (λ (s : List ℕ). Some s)
+      (subst (λ b. IfErr read (λ e. RefusesFrom wants bad known
       (λ s n. n ≤ length s) b e left)) rest f)
       s
 
@@ -182,8 +183,8 @@ gets_as reads value wants bad f g old new before now w result back same s = reco
 
 -- Over a slice, what reading a text does is done by reading its bytes.
 abbrev ReadsText : List ℕ → Result (Bor (List ℕ)) Error → List ℕ → Type 0
-ReadsText bytes read left = ReadsFrom Spells IsText (λ t (v : Bor (List ℕ)). t ≡ Text v.now) ⊥
-    (λ (s : List ℕ). Some s) (λ s n. n ≤ length s) (λ s t. IsEndOf t s) bytes read left
+ReadsText bytes read left = ReadsFrom Spells IsText (λ t (v : Bor (List ℕ)). t ≡ Text v.now) never
+    known (λ s n. n ≤ length s) (λ s t. IsEndOf t s) bytes read left
 
 pub text_is_read : (bytes left : List ℕ) (text read : Result (Bor (List ℕ)) Error)
     → AreBytesOf text read → ReadsText bytes text left → ReadsText bytes read left

@@ -3,6 +3,7 @@ use Rattle.std.specs.Prelude.{◌≡◌, ℕ, ◌<◌, List, ◌++◌, length, d
 use Rattle.postcard_wire.specs.Tree.{Tree}
 use Rattle.postcard_wire.specs.Spelling.{Spells, canonical}
 use Rattle.postcard_wire.specs.declared.error.Error.{Error}
+use Rattle.postcard_shape.specs.Shape.{never}
 use Rattle.postcard_de.specs.Reads.{IsReadError}
 use Rattle.postcard_de.specs.Front.{ReadsFront}
 use Rattle.postcard_dyn_schema.specs.declared.schema.Schema.{Schema}
@@ -25,7 +26,7 @@ pub record HasMessage (expression bytes : List ℕ) (taken : ℕ) : Type 0 where
 pub record IsRefused (reads : Tree → Type 0) (bytes : List ℕ) (status : ℕ) : Type 0 where
   pub none : (t : Tree) (front rest : List ℕ) → reads t → Spells t front → bytes ≡ front ++ rest → ⊥
   pub error : Error
-  pub named : IsReadError ⊥ error
+  pub named : IsReadError never error
   pub number : status ≡ number_of error
 
 -- The expression says a type of which no front of the bytes spells a value, and the status is the

@@ -43,10 +43,10 @@ too_long shape v e own named willing prints = (
   buffer_full (inr refused) = absurd (willing.has_none e refused)
 
 -- The library's error is that memory is lacking, or else no value is there.
-pub memory_or_none : (grows none : Type 0) (e : Error) → IsReadError grows e → (e ≢ OutOfMemory → none)
-    → ((e ≡ OutOfMemory) × grows) ⊎ (IsReadError grows e × none)
-memory_or_none grows none OutOfMemory h f = inl (refl, h)
-memory_or_none grows none e h f = inr (h, f (λ is. cc is))
+pub memory_or_none : (other : Error → Type 0) (none : Type 0) (e : Error) → IsReadError other e
+    → (e ≢ OutOfMemory → none) → ((e ≡ OutOfMemory) × other OutOfMemory) ⊎ (IsReadError other e × none)
+memory_or_none other none OutOfMemory h f = inl (refl, h)
+memory_or_none other none e h f = inr (h, f (λ is. cc is))
 
 -- What is printed of the value that a word says, or the failure of printing it, is what the task does.
 pub encodes : (form : Form) (word : Bor (List ℕ)) (v : form.values) (r : Result (Unit {0}) Failure) (old new : Option (List ℕ)) → form.says word.now v

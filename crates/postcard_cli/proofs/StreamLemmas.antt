@@ -7,12 +7,12 @@ use Rattle.std.proofs.KnownBytes.{Appends-nil, Appends-kept, Consumes-kept, Cons
 use Rattle.std.proofs.lemmas.List.{append_assoc, append-nil, drop-drop}
 use Rattle.std.proofs.lemmas.Bool.{lt-ltb, le-ltb}
 use Rattle.std.proofs.Output.{then_text_assoc}
-use Rattle.std.specs.Prelude.{⊤}
 use Rattle.postcard_wire.specs.declared.error.Error.{Error}
 use Rattle.postcard_wire.specs.declared.error.Error.TheVariants as errors
 use Rattle.postcard_cobs.specs.Groups.{NoZero, Groups, EndsFrame, before_zero}
 use Rattle.postcard_cobs.specs.InPlace.{LeavesData}
 use Rattle.postcard_accumulator.proofs.Cutting.{before_zero_all}
+use Rattle.postcard_shape.specs.Shape.{memory}
 use Rattle.postcard_de.specs.Reads.{IsReadError}
 use Rattle.postcard_dyn.specs.declared.value.Value.{Value}
 use Rattle.postcard_dyn_text.proofs.Joined.{none_after, none_before}
@@ -384,10 +384,10 @@ message_unchecked (Err e) s at message behind v old new is lacks printed = tt
 
 -- The line of data that is refused is printed.
 pub message_refused : (r : Result (Unit {0}) Failure) (s : Format) (at : ℕ) (message : List ℕ) (e : Error) (old new : Option (List ℕ))
-    → ((v : Value) (rest : List ℕ) → ReadsValue s.schema message v rest → ⊥) → IsReadError ⊤ e → e ≢ errors.OutOfMemory
+    → ((v : Value) (rest : List ℕ) → ReadsValue s.schema message v rest → ⊥) → IsReadError memory e → e ≢ errors.OutOfMemory
     → OnOk r ((place : List ℕ) × Prints (answer_line s at (refused place e message)) old new) → OnOk r (PrintsMessage s at message old new)
-message_refused (Ok done) s at message e old new none named memory (place, printed) = (refused place e message, (refl, none, named, memory), printed)
-message_refused (Err f) s at message e old new none named memory printed = tt
+message_refused (Ok done) s at message e old new none named full (place, printed) = (refused place e message, (refl, none, named, full), printed)
+message_refused (Err f) s at message e old new none named full printed = tt
 
 -- The line of the data of a frame is that of the frame.
 pub frame_answer : (s : Format) (longest at : ℕ) (frame message : List ℕ) (old new : Option (List ℕ)) → length frame + 1 ≤ longest → Groups frame message

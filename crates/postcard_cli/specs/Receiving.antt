@@ -2,6 +2,7 @@
 use Rattle.std.specs.Prelude.{◌≡◌, ◌≢◌, ℕ, ◌<◌, ◌≤◌, ⊤, Bool, true, false, List, ◌++◌, length, Option}
 use Rattle.std.specs.Io.KnownBytes.{Consumes, IsAtEnd, Keeps}
 use Rattle.postcard_wire.specs.declared.error.Error.TheVariants as errors
+use Rattle.postcard_shape.specs.Shape.{memory}
 use Rattle.postcard_de.specs.Reads.{IsReadError}
 use Rattle.postcard_dyn.specs.declared.value.Value.{Value}
 use Rattle.postcard_cli.specs.Message.{Prints, ReadsValue}
@@ -31,7 +32,7 @@ Continues format before piece after old new =
 abbrev pub IsMessageAnswer : Format → List ℕ → Answer → Type 0
 IsMessageAnswer format message (value v rest) = ReadsData format message v rest
 IsMessageAnswer format message (refused place e bytes) =
-    (bytes ≡ message) × ((v : Value) (rest : List ℕ) → ReadsValue format.schema message v rest → ⊥) × IsReadError ⊤ e × (e ≢ errors.OutOfMemory)
+    (bytes ≡ message) × ((v : Value) (rest : List ℕ) → ReadsValue format.schema message v rest → ⊥) × IsReadError memory e × (e ≢ errors.OutOfMemory)
 IsMessageAnswer format message (unchecked bytes) = (bytes ≡ message) × IsUnchecked format message
 IsMessageAnswer format message (damaged bytes) = ⊥
 IsMessageAnswer format message overfull = ⊥

@@ -6,7 +6,7 @@ use Rattle.hex.specs.Hex.{decode_of}
 use Rattle.postcard_wire.specs.Spelling.{canonical}
 use Rattle.postcard_wire.specs.declared.error.Error.{Error}
 use Rattle.postcard_wire.specs.declared.error.Error.TheVariants.{OutOfMemory, SerializeBufferFull, WontImplement}
-use Rattle.postcard_shape.specs.Shape.{Shape, IsWilling}
+use Rattle.postcard_shape.specs.Shape.{Shape, IsWilling, Grows, memory}
 use Rattle.postcard_de.specs.Front.{ReadsFront}
 use Rattle.postcard_de.specs.Reads.{IsReadError}
 use Rattle.postcard_dyn_schema.specs.declared.schema.Schema.{Schema}
@@ -125,7 +125,7 @@ EncodeFails expression word old new failure = ⊥
 -- `shown`.
 pub record IsRefusedAt (schema : Schema) (all rest : List ℕ) (e : Error) (shown : List ℕ) : Type 0 where
   pub no_value : (v : Value) (more : List ℕ) → ReadsValue schema rest v more → ⊥
-  pub named : IsReadError ⊤ e
+  pub named : IsReadError memory e
   pub offset : ℕ
   pub within : offset ≤ length rest
   pub is : shown ≡ codes "at byte " ++ (decimal (min ((length all - length rest) + offset) (2 ^ 64 - 1)) ++ codes ": ")
@@ -263,7 +263,7 @@ EncodingFails form word failure = ⊥
 
 -- The failures of decoding a value from the front of bytes.
 abbrev pub DecodingFails : Form → List ℕ → Failure → Type 0
-DecodingFails form bytes (Library e) = ((e ≡ OutOfMemory) × form.shape.grows) ⊎ (IsReadError form.shape.grows e × HasNoValue form bytes)
+DecodingFails form bytes (Library e) = ((e ≡ OutOfMemory) × Grows form.shape) ⊎ (IsReadError form.shape.other e × HasNoValue form bytes)
 DecodingFails form bytes Output = ⊤
 DecodingFails form bytes failure = ⊥
 

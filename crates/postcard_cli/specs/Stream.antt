@@ -6,6 +6,7 @@ use Rattle.hex.specs.Hex.{encode_lower}
 use Rattle.postcard_wire.specs.declared.error.Error.{Error}
 use Rattle.postcard_wire.specs.declared.error.Error.TheVariants.{DeserializeUnexpectedEnd, DeserializeBadVarint, DeserializeBadBool, DeserializeBadChar, DeserializeBadUtf8, DeserializeBadOption, SerdeDeCustom, OutOfMemory}
 use Rattle.postcard_cobs.specs.Groups.{NoZero, Groups}
+use Rattle.postcard_shape.specs.Shape.{memory}
 use Rattle.postcard_de.specs.Reads.{IsReadError}
 use Rattle.postcard_dyn_schema.specs.Grammar.{IsExpression}
 use Rattle.postcard_dyn.specs.Tree.{tree}
@@ -62,7 +63,7 @@ IsAnswerTo format longest frame (value v rest) =
     (length frame + 1 ≤ longest) × ((message : List ℕ) × Groups frame message × ReadsData format message v rest)
 IsAnswerTo format longest frame (refused place e message) =
     (length frame + 1 ≤ longest) × Groups frame message × ((v : Value) (rest : List ℕ) → ReadsValue format.schema message v rest → ⊥)
-    × IsReadError ⊤ e × (e ≢ OutOfMemory)
+    × IsReadError memory e × (e ≢ OutOfMemory)
 IsAnswerTo format longest frame (unchecked message) = (length frame + 1 ≤ longest) × Groups frame message × IsUnchecked format message
 IsAnswerTo format longest frame (damaged bytes) =
     (length frame + 1 ≤ longest) × (bytes ≡ frame) × ((message : List ℕ) → Groups frame message → ⊥)

@@ -13,14 +13,14 @@ use Rattle.postcard_crc.specs.Reading.{IsFaultless, IsFaultOf}
 
 module _ (reads : Tree → Type 0) (grows : Type 0) (k : ℕ) (d : Progress) (bytes : List ℕ) where
   -- No value could be read: if there is one, an allocation failed.
-  pub of_value : (e : Error)
+  pub of_value : (others : Error → Type 0) (e : Error)
       → ((t : Tree) (front rest : List ℕ) → reads t → Spells t front → bytes ≡ front ++ rest → (e ≡ OutOfMemory) × grows)
-      → IsReadError grows e → IsFaultOf reads grows k d bytes e
-  of_value e accepts named = record {
+      → IsReadError others e → IsFaultOf reads grows k d bytes e
+  of_value others e accepts named = record {
     short = λ s. inr (accepts s.tree s.front s.rest s.is_read s.is_spelled s.joins);
     only_short = λ is t front rest r s j. let no = (accepts t front rest r s j).0 in absurd (cc);
     other = λ a m took o. inr (accepts o.tree o.front o.rest o.is_read o.is_spelled o.joins);
-    only_other = λ is a m sound took. absurd (subst (IsReadError grows) is named);
+    only_other = λ is a m sound took. absurd (subst (IsReadError others) is named);
   }
 
   module _ (tree : Tree) (front rest : List ℕ) (is_read : reads tree) (is_spelled : Spells tree front) (joins : bytes ≡ front ++ rest)

@@ -12,7 +12,7 @@ use Rattle.postcard_wire.specs.Spelling.{Spells, canonical}
 use Rattle.postcard_cobs.specs.Groups.{Groups}
 use Rattle.postcard_cobs.proofs.Frames.{data_is_one}
 use Rattle.postcard_de.specs.Reads.{IsReadError}
-use Rattle.postcard_shape.specs.Shape.{Shape}
+use Rattle.postcard_shape.specs.Shape.{Shape, Grows}
 use Rattle.postcard_frame.specs.Frame.{HasNoData}
 use Rattle.postcard_crc.specs.Reading.{ReadsChecked, HasExactErrors, IsDamaged}
 use Rattle.postcard_crc.specs.InFrame.{IsReadOf}
@@ -35,13 +35,13 @@ module _ {V : Type 0} (shape : Shape V) (k : ℕ) (d : Progress) (frame : List �
     pub of_data : IfOk r (λ v. ReadsChecked shape.reads shape.value k d content v [])
         → ((t : Tree) (a : Parameters) (m front : List ℕ) (crc : ℕ) → shape.reads t → Spells t front → IsSound a
         → Took d a m → IsCrc a (m ++ front) crc → content ≡ front ++ low_bytes k crc
-        → MatchResult r (λ v. shape.value t v) (λ e. (e ≡ OutOfMemory) × shape.grows))
+        → MatchResult r (λ v. shape.value t v) (λ e. (e ≡ OutOfMemory) × Grows shape))
         → ((x : V) (a : Parameters) (m : List ℕ) (crc : ℕ) → shape.fits x → IsSound a
         → Took d a m → IsCrc a (m ++ canonical (shape.tree x)) crc → content ≡ canonical (shape.tree x) ++ low_bytes k crc
-        → MatchResult r (λ v. shape.same v x) (λ e. (e ≡ OutOfMemory) × shape.grows))
+        → MatchResult r (λ v. shape.same v x) (λ e. (e ≡ OutOfMemory) × Grows shape))
         → ((a : Parameters) (sent : List ℕ) → Took d a [] → IsDamaged k a sent content → OnOk r (sent ≡ content))
         → HasExactErrors shape k d content r
-        → IfErr r (λ e. IsReadError shape.grows e ⊎ ((e ≡ DeserializeBadCrc) ⊎ (e ≡ DeserializeBadEncoding)))
+        → IfErr r (λ e. IsReadError shape.other e ⊎ ((e ≡ DeserializeBadCrc) ⊎ (e ≡ DeserializeBadEncoding)))
         → IsReadOf shape k d frame r
     of_data gives accepts back refuses exact named = record {
       gives = IfOk-weaker r _ _ (λ v h. record { content = content; decodes = is_data; is_read = h }) gives;

@@ -10,7 +10,7 @@ use Rattle.postcard_wire.specs.declared.error.Error.{Error}
 use Rattle.postcard_wire.specs.declared.error.Error.TheVariants.{OutOfMemory}
 use Rattle.postcard_wire.specs.declared.error.Error.TheVariants.{DeserializeBadCrc, DeserializeBadEncoding}
 use Rattle.postcard_de.specs.Reads.{IsReadError}
-use Rattle.postcard_shape.specs.Shape.{Shape}
+use Rattle.postcard_shape.specs.Shape.{Shape, Grows}
 use Rattle.postcard_frame.specs.Frame.{HasNoData}
 use Rattle.postcard_crc.specs.Reading.{ReadsFrameChecked, HasExactErrors, IsDamaged}
 
@@ -20,14 +20,14 @@ module _ {V : Type 0} (shape : Shape V) (k : ℕ) (d : Progress) (frame : List �
   abbrev pub AcceptsChecked : Type 0
   AcceptsChecked = (t : Tree) (a : Parameters) (m front : List ℕ) (crc : ℕ) → shape.reads t → Spells t front
       → IsSound a → Took d a m → IsCrc a (m ++ front) crc → Groups frame (front ++ low_bytes k crc)
-      → MatchResult r (λ v. shape.value t v) (λ e. (e ≡ OutOfMemory) × shape.grows)
+      → MatchResult r (λ v. shape.value t v) (λ e. (e ≡ OutOfMemory) × Grows shape)
 
   -- A value that fits, with its checksum in a frame, reads back as a value that looks like it.
   abbrev pub ReadsBackChecked : Type 0
   ReadsBackChecked = (x : V) (a : Parameters) (m : List ℕ) (crc : ℕ) → shape.fits x → IsSound a
       → Took d a m → IsCrc a (m ++ canonical (shape.tree x)) crc
       → Groups frame (canonical (shape.tree x) ++ low_bytes k crc)
-      → MatchResult r (λ v. shape.same v x) (λ e. (e ≡ OutOfMemory) × shape.grows)
+      → MatchResult r (λ v. shape.same v x) (λ e. (e ≡ OutOfMemory) × Grows shape)
 
   -- A message with its checksum that was damaged in few bits in a row is refused.
   abbrev pub RefusesDamage : Type 0
@@ -46,4 +46,4 @@ module _ {V : Type 0} (shape : Shape V) (k : ℕ) (d : Progress) (frame : List �
     pub refuses_damage : RefusesDamage
     pub no_frame : HasNoData frame → IsErrOf r DeserializeBadEncoding
     pub exact_errors : HasDataErrors
-    pub named_error : IfErr r (λ e. IsReadError shape.grows e ⊎ ((e ≡ DeserializeBadCrc) ⊎ (e ≡ DeserializeBadEncoding)))
+    pub named_error : IfErr r (λ e. IsReadError shape.other e ⊎ ((e ≡ DeserializeBadCrc) ⊎ (e ≡ DeserializeBadEncoding)))

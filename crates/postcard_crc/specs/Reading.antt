@@ -11,7 +11,7 @@ use Rattle.postcard_wire.specs.Spelling.{Spells}
 use Rattle.postcard_wire.specs.declared.error.Error.{Error}
 use Rattle.postcard_wire.specs.declared.error.Error.TheVariants.{DeserializeUnexpectedEnd}
 use Rattle.postcard_wire.specs.declared.error.Error.TheVariants.{DeserializeBadCrc, OutOfMemory}
-use Rattle.postcard_shape.specs.Shape.{Shape}
+use Rattle.postcard_shape.specs.Shape.{Shape, Grows}
 use Rattle.postcard_crc.specs.Writing.{IsCrcAfter}
 
 -- The output is the bytes, and then the k bytes of their checksum.
@@ -75,8 +75,8 @@ module _ (reads : Tree → Type 0) (grows : Type 0) (k : ℕ) (d : Progress) (by
 
 -- Which fault of the bytes has which error.
 abbrev pub HasExactErrors : {V R : Type 0} → Shape V → ℕ → Progress → List ℕ → Result R Error → Type 0
-HasExactErrors shape k d bytes r = MatchResult r (λ _. IsFaultless shape.reads shape.grows k d bytes)
-    (IsFaultOf shape.reads shape.grows k d bytes)
+HasExactErrors shape k d bytes r = MatchResult r (λ _. IsFaultless shape.reads (Grows shape) k d bytes)
+    (IsFaultOf shape.reads (Grows shape) k d bytes)
 
 -- What was sent is a message with its checksum in k bytes, by a sound algorithm whose message and
 -- checksum come lowest bit first; of it at most `width` bits in a row were changed into the bytes that came.

@@ -1,5 +1,5 @@
 -- What a source that checks a checksum does, over a source whose bytes are known.
-use Rattle.std.specs.Prelude.{◌≡◌, ◌⊎◌, ℕ, ◌≤◌, ◌<◌, List, [], ◌++◌, length, Some, Result, MatchResult}
+use Rattle.std.specs.Prelude.{◌≡◌, ◌⊎◌, ℕ, ◌≤◌, ◌<◌, List, [], ◌++◌, length, Result, MatchResult}
 use Rattle.std.proofs.Common.{refl, sym, ap, ◌∙◌, append_assoc, arith}
 use Rattle.std.specs.Borrow.{Bor}
 use Rattle.crc.specs.Crc.{Parameters, IsCrc, IsSound}
@@ -7,7 +7,7 @@ use Rattle.crc.specs.Digest.{Progress, Took}
 use Rattle.crc.specs.Frame.{low_bytes}
 use Rattle.postcard_wire.specs.declared.error.Error.{Error}
 use Rattle.postcard_wire.specs.declared.error.Error.TheVariants.{DeserializeUnexpectedEnd, DeserializeBadCrc}
-use Rattle.postcard_de_flavors.specs.Source.{Laws}
+use Rattle.postcard_de_flavors.specs.Source.{known, Laws}
 use Rattle.postcard_crc.specs.Writing.{Continues, continues_none, continues_join}
 
 -- A call took some of the bytes left, and the digest with them.
@@ -41,7 +41,7 @@ Finishes k left d r = MatchResult r (λ rest. IsRest k left d rest.now)
 
 -- The laws of a source.
 pub crc_laws : {S : Type 0} (left : S → List ℕ) (digest : S → Progress)
-    → Laws (λ s. Some (left s)) (λ s n. n ≤ length (left s)) (λ s t. TookBoth (left s) (digest s) (left t) (digest t))
+    → Laws (λ s. known (left s)) (λ s n. n ≤ length (left s)) (λ s t. TookBoth (left s) (digest s) (left t) (digest t))
 crc_laws left digest = record {
   fewer = λ s m n le enough. omega arith;
   itself = λ s. record { bytes = []; joins = refl; continues = continues_none (digest s) };

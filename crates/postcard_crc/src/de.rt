@@ -12,6 +12,7 @@ ghost use Rattle.crc.specs.Frame.{low_bytes};
 ghost use Rattle.postcard_wire.specs.Tree.{Tree};
 ghost use Rattle.postcard_wire.specs.Spelling.{Spells, canonical};
 ghost use Rattle.postcard_de.specs.Reads.{IsReadError};
+ghost use Rattle.postcard_shape.specs.Shape.{Grows};
 ghost use Rattle.postcard_crc.specs.Writing.{IsCrcAfter};
 ghost use Rattle.postcard_crc.specs.Reading.{ReadsChecked, IsDamaged};
 ghost use Rattle.postcard_crc.specs.Reading.{HasExactErrors};
@@ -54,19 +55,19 @@ pub fn take_from_bytes<'a, T: Deserialize<'a>, W: Width, I: Implementation<W>>(
         → T.shape.reads t → Spells t front → IsSound a → Took digest.entry a m
         → IsCrc a (m ++ front) crc → bytes.now ≡ front ++ (low_bytes W.size crc ++ rest) →
         MatchResult result (λ read. T.shape.value t read.0 × (read.1.now ≡ rest))
-        (λ e. (e ≡ Error.OutOfMemory) × T.shape.grows) }
+        (λ e. (e ≡ Error.OutOfMemory) × Grows T.shape) }
     ensures reads_back { (x : T) (a : Parameters) (m rest : List ℕ) (crc : ℕ)
         → T.shape.fits x → IsSound a → Took digest.entry a m
         → IsCrc a (m ++ canonical (T.shape.tree x)) crc
         → bytes.now ≡ canonical (T.shape.tree x) ++ (low_bytes W.size crc ++ rest) →
         MatchResult result (λ read. T.shape.same read.0 x × (read.1.now ≡ rest))
-        (λ e. (e ≡ Error.OutOfMemory) × T.shape.grows) }
+        (λ e. (e ≡ Error.OutOfMemory) × Grows T.shape) }
     ensures refuses_damage { (a : Parameters) (sent : List ℕ) → Took digest.entry a []
         → IsDamaged W.size a sent bytes.now
         → IfOk result (λ read. read.1.now ≡ [] → sent ≡ bytes.now) }
     ensures exact_errors { HasExactErrors T.shape W.size digest.entry bytes.now result }
     ensures named_error { IfErr result
-        (λ e. IsReadError T.shape.grows e ⊎ (e ≡ Error.DeserializeBadCrc)) }
+        (λ e. IsReadError T.shape.other e ⊎ (e ≡ Error.DeserializeBadCrc)) }
 {
     let (value, rest) = postcard_de::take_from_bytes(alloc, bytes)?;
     let rest = checked(bytes, rest, digest)?;
@@ -90,16 +91,16 @@ pub fn from_bytes<'a, T: Deserialize<'a>, W: Width, I: Implementation<W>>(
         → T.shape.reads t → Spells t front → IsSound a → Took digest.entry a m
         → IsCrc a (m ++ front) crc → bytes.now ≡ front ++ (low_bytes W.size crc ++ rest) →
         MatchResult result (λ value. T.shape.value t value)
-        (λ e. (e ≡ Error.OutOfMemory) × T.shape.grows) }
+        (λ e. (e ≡ Error.OutOfMemory) × Grows T.shape) }
     ensures reads_back { (x : T) (a : Parameters) (m rest : List ℕ) (crc : ℕ)
         → T.shape.fits x → IsSound a → Took digest.entry a m
         → IsCrc a (m ++ canonical (T.shape.tree x)) crc
         → bytes.now ≡ canonical (T.shape.tree x) ++ (low_bytes W.size crc ++ rest) →
         MatchResult result (λ value. T.shape.same value x)
-        (λ e. (e ≡ Error.OutOfMemory) × T.shape.grows) }
+        (λ e. (e ≡ Error.OutOfMemory) × Grows T.shape) }
     ensures exact_errors { HasExactErrors T.shape W.size digest.entry bytes.now result }
     ensures named_error { IfErr result
-        (λ e. IsReadError T.shape.grows e ⊎ (e ≡ Error.DeserializeBadCrc)) }
+        (λ e. IsReadError T.shape.other e ⊎ (e ≡ Error.DeserializeBadCrc)) }
 {
     let (value, _) = take_from_bytes(alloc, bytes, digest)?;
     Ok(value)
@@ -126,13 +127,13 @@ pub fn from_bytes_whole<'a, T: Deserialize<'a>, W: Width, I: Implementation<W>>(
         → T.shape.reads t → Spells t front → IsSound a → Took digest.entry a m
         → IsCrc a (m ++ front) crc → bytes.now ≡ front ++ low_bytes W.size crc →
         MatchResult result (λ value. T.shape.value t value)
-        (λ e. (e ≡ Error.OutOfMemory) × T.shape.grows) }
+        (λ e. (e ≡ Error.OutOfMemory) × Grows T.shape) }
     ensures reads_back { (x : T) (a : Parameters) (m : List ℕ) (crc : ℕ)
         → T.shape.fits x → IsSound a → Took digest.entry a m
         → IsCrc a (m ++ canonical (T.shape.tree x)) crc
         → bytes.now ≡ canonical (T.shape.tree x) ++ low_bytes W.size crc →
         MatchResult result (λ value. T.shape.same value x)
-        (λ e. (e ≡ Error.OutOfMemory) × T.shape.grows) }
+        (λ e. (e ≡ Error.OutOfMemory) × Grows T.shape) }
     ensures refuses_damage { (a : Parameters) (sent : List ℕ) → Took digest.entry a []
         → IsDamaged W.size a sent bytes.now → OnOk result (sent ≡ bytes.now) }
     ensures exact_errors { HasExactErrors T.shape W.size digest.entry bytes.now result }
@@ -140,8 +141,8 @@ pub fn from_bytes_whole<'a, T: Deserialize<'a>, W: Width, I: Implementation<W>>(
         → T.shape.reads t → Spells t front → IsSound a → Took digest.entry a m
         → IsCrc a (m ++ front) crc → bytes.now ≡ front ++ (low_bytes W.size crc ++ rest)
         → rest ≢ [] → IsErrAnd result (λ e. (e ≡ Error.DeserializeBadEncoding)
-        ⊎ ((e ≡ Error.OutOfMemory) × T.shape.grows)) }
-    ensures named_error { IfErr result (λ e. IsReadError T.shape.grows e
+        ⊎ ((e ≡ Error.OutOfMemory) × Grows T.shape)) }
+    ensures named_error { IfErr result (λ e. IsReadError T.shape.other e
         ⊎ ((e ≡ Error.DeserializeBadCrc) ⊎ (e ≡ Error.DeserializeBadEncoding))) }
 {
     let (value, rest) = take_from_bytes(alloc, bytes, digest)?;

@@ -12,7 +12,7 @@ use Rattle.postcard_wire.specs.Tree.{Tree}
 use Rattle.postcard_wire.specs.Spelling.{Spells, canonical}
 use Rattle.postcard_wire.specs.declared.error.Error.{Error}
 use Rattle.postcard_wire.specs.declared.error.Error.TheVariants.{OutOfMemory}
-use Rattle.postcard_shape.specs.Shape.{Shape}
+use Rattle.postcard_shape.specs.Shape.{Shape, Grows}
 use Rattle.postcard_shape.proofs.Again.{is_spelled, is_same}
 use Rattle.postcard_accumulator.specs.State.{holding, skipping}
 use Rattle.postcard_accumulator.specs.declared.taken.Taken.TheVariants as taken
@@ -64,7 +64,7 @@ module _ {T : Type 0} (shape : Shape T) (k : ℕ) (a : Parameters) where
 
   -- If a call fails that succeeds for every message, unless memory runs out, the frame has no value.
   pub refused_data : (d : List ℕ) (e : Error)
-      → ((t : Tree) (front : List ℕ) (crc : ℕ) → shape.reads t → Spells t front → IsSound a → IsCrc a front crc → d ≡ front ++ low_bytes k crc → (e ≡ OutOfMemory) × shape.grows)
+      → ((t : Tree) (front : List ℕ) (crc : ℕ) → shape.reads t → Spells t front → IsSound a → IsCrc a front crc → d ≡ front ++ low_bytes k crc → (e ≡ OutOfMemory) × Grows shape)
       → (f : List ℕ) → Groups f d → IsRefused shape k a f
   refused_data d e accepts f g still sound v o =
       still (accepts o.tree o.front o.crc o.is_read o.is_spelled sound o.is_crc (data_is_one f d o.content g o.decodes ∙ o.joins)).1

@@ -5,7 +5,7 @@ use Rattle.crc.specs.Frame.{low_bytes}
 use Rattle.postcard_cobs.specs.Groups.{Groups}
 use Rattle.postcard_wire.specs.Tree.{Tree}
 use Rattle.postcard_wire.specs.Spelling.{Spells}
-use Rattle.postcard_shape.specs.Shape.{Shape}
+use Rattle.postcard_shape.specs.Shape.{Shape, Grows}
 use Rattle.postcard_accumulator.specs.declared.answers.Answer.{Answer}
 use Rattle.postcard_accumulator.specs.declared.answers.Answer.TheVariants.{OverFull, DeserError}
 use Rattle.postcard_accumulator.specs.declared.answers.Answer.TheVariants.{Success}
@@ -28,7 +28,7 @@ pub record IsValueOf {T : Type 0} (shape : Shape T) (k : ℕ) (a : Parameters) (
 -- The frame has no such value. For a type that grows nothing is said, since an allocation may have
 -- failed, nor for an algorithm that isn't sound.
 abbrev pub IsRefused : {T : Type 0} → Shape T → ℕ → Parameters → List ℕ → Type 0
-IsRefused {T} shape k a frame = ¬ shape.grows → IsSound a → (v : T) → IsValueOf shape k a frame v → ⊥
+IsRefused {T} shape k a frame = ¬ Grows shape → IsSound a → (v : T) → IsValueOf shape k a frame v → ⊥
 
 -- The own answer of a frame: its value, or `DeserError` if it has none.
 abbrev pub IsOwn : {T : Type 0} → Shape T → ℕ → Parameters → List ℕ → Answer T → Type 0

@@ -4,7 +4,7 @@ use Rattle.crc.specs.Crc.{Parameters, IsCrc, IsSound}
 use Rattle.crc.specs.Frame.{low_bytes, AreBytes}
 use Rattle.postcard_cobs.specs.Groups.{Groups}
 use Rattle.postcard_wire.specs.Spelling.{canonical}
-use Rattle.postcard_shape.specs.Shape.{Shape}
+use Rattle.postcard_shape.specs.Shape.{Shape, Grows}
 use Rattle.postcard_crc.specs.Reading.{IsDamaged}
 use Rattle.postcard_accumulator.specs.declared.answers.Answer.{Answer}
 use Rattle.postcard_accumulator.specs.declared.answers.Answer.TheVariants.{OverFull, DeserError}
@@ -14,7 +14,7 @@ use Rattle.postcard_crc_frames.specs.Checked.{IsOwn}
 -- The answer is a value that looks like x; or `DeserError`, if its type grows: memory was refused.
 abbrev pub Arrives : {T : Type 0} → Shape T → T → Answer T → Type 0
 Arrives shape x (Success v) = shape.same v x
-Arrives shape x DeserError = ¬ ¬ shape.grows
+Arrives shape x DeserError = ¬ ¬ Grows shape
 Arrives shape x OverFull = ⊥
 
 -- The frame of a value that fits, with its checksum, has that value as its own answer.

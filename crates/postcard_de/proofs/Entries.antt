@@ -1,5 +1,5 @@
 -- Reading a pair of a map, and lists of few elements.
-use Rattle.std.proofs.Common.{◌≡◌, ℕ, ◌≤◌, ◌⊎◌, List, [], ◌∷◌, ◌++◌, Option, Ok, refl, sym, ◌∙◌}
+use Rattle.std.proofs.Common.{◌≡◌, ℕ, ◌≤◌, inl, inr, List, [], ◌∷◌, ◌++◌, Option, Ok, refl, sym, ◌∙◌}
 use Rattle.std.proofs.Common.{subst}
 use Rattle.std.specs.declared.cmp.Ordering.{Ordering}
 use Rattle.std.specs.BTreeMap.{insert_entry}
@@ -8,12 +8,14 @@ use Rattle.postcard_wire.specs.declared.error.Error.{Error}
 use Rattle.postcard_wire.specs.Number.{SpellsNum}
 use Rattle.postcard_wire.specs.Tree.{Tree, Seq, count}
 use Rattle.postcard_wire.specs.Spelling.{Spells, SpellsAll}
-use Rattle.postcard_de_flavors.specs.Source.{Laws}
+use Rattle.postcard_de_flavors.specs.Source.{Left, Laws}
 use Rattle.postcard_de_nodes.specs.Reads.{IsReadError, ReadsFrom}
+use Rattle.postcard_shape.specs.Shape.{never, either, or_memory}
 use Rattle.postcard_shape.specs.Values.{Same, EachIs, ListIs, AreRead}
 use Rattle.postcard_shape.specs.Maps.{IsEntry, EntryIs, inserted}
 use Rattle.postcard_shape.specs.Sets.{keys_inserted}
 use Rattle.postcard_shape.specs.Fixed.{IsFewSeq}
+use Rattle.postcard_de_nodes.specs.ErrorLemmas.{with_memory}
 use Rattle.postcard_de_nodes.specs.ReadLemmas.{refusal}
 use Rattle.postcard_de_nodes.specs.NumberLemmas.{Below}
 use Rattle.postcard_de_nodes.specs.CompoundLemmas.{Compound, first_refused, second_refused}
@@ -58,23 +60,30 @@ count_and_few m R = record {
   );
 }
 
-module _ {S : Type 0} {left : S → Option (List ℕ)} {able : S → ℕ → Type 0}
+-- The errors of a pair are among those of a map of such pairs.
+pub of_pair : (G H : Error → Type 0) (e : Error) → either G (either H never) e →
+    or_memory (either G H) e
+of_pair G H e (inl a) = with_memory (either G H) e (inl a)
+of_pair G H e (inr (inl a)) = with_memory (either G H) e (inr a)
+of_pair G H e (inr (inr a)) = absurd a
+
+module _ {S : Type 0} {left : S → Left} {able : S → ℕ → Type 0}
     {may_leave : S → S → Type 0} (laws : Laws left able may_leave) where
   -- If reading a pair's key fails, reading the pair fails with that error.
-  pub key_refused : {A B : Type 0} {K V : Tree → Type 0} {I : Tree → A → Type 0} {G H : Type 0}
-      {value : Tree → A × B → Type 0} {old new : S} {e : Error} →
+  pub key_refused : {A B : Type 0} {K V : Tree → Type 0} {I : Tree → A → Type 0}
+      {G H : Error → Type 0} {value : Tree → A × B → Type 0} {old new : S} {e : Error} →
       ReadsFrom Spells K I G left able may_leave old (refusal A e) new →
-      ReadsFrom Spells (IsEntry K V) value (G ⊎ (H ⊎ ⊥)) left able may_leave old (refusal (A × B) e)
+      ReadsFrom Spells (IsEntry K V) value (either G (either H never)) left able may_leave old (refusal (A × B) e)
       new
   key_refused r = struct_fails laws refl (stops laws r)
 
   module _ {A B : Type 0} {K V : Tree → Type 0} {I : Tree → A → Type 0} {J : Tree → B → Type 0}
-      {G H : Type 0} where
+      {G H : Error → Type 0} where
     -- If the key was read and reading the value fails, reading the pair fails with that error.
     pub value_refused : {old mid new : S} {a : A} {e : Error} →
         ReadsFrom Spells K I G left able may_leave old (Ok a) mid →
         ReadsFrom Spells V J H left able may_leave mid (refusal B e) new →
-        ReadsFrom Spells (IsEntry K V) (EntryIs I J) (G ⊎ (H ⊎ ⊥)) left able may_leave old
+        ReadsFrom Spells (IsEntry K V) (EntryIs I J) (either G (either H never)) left able may_leave old
         (refusal (A × B) e) new
     value_refused r s = struct_fails laws refl (and_fails laws r (stops laws s))
 
@@ -82,13 +91,13 @@ module _ {S : Type 0} {left : S → Option (List ℕ)} {able : S → ℕ → Typ
     pub entry_read : {old mid new : S} {a : A} {b : B} →
         ReadsFrom Spells K I G left able may_leave old (Ok a) mid →
         ReadsFrom Spells V J H left able may_leave mid (Ok b) new →
-        ReadsFrom Spells (IsEntry K V) (EntryIs I J) (G ⊎ (H ⊎ ⊥)) left able may_leave old
+        ReadsFrom Spells (IsEntry K V) (EntryIs I J) (either G (either H never)) left able may_leave old
         (Ok (a, b)) new
     entry_read r s = struct_read laws (λ t h. h) (and_part laws r (and_part laws s (no_more laws)))
 
-  module _ {V : Type 0} {R : Tree → Type 0} {I : Tree → V → Type 0} {H : Type 0} where
+  module _ {V : Type 0} {R : Tree → Type 0} {I : Tree → V → Type 0} {H : Error → Type 0} where
     module _ {A : Type 0} {see : A → List V} {m n : ℕ} {old mid new : S}
-        (counted : ReadsFrom (SpellsNum 64) (Below 64) Same ⊥ left able may_leave old (Ok n) mid)
+        (counted : ReadsFrom (SpellsNum 64) (Below 64) Same never left able may_leave old (Ok n) mid)
       where
         -- If a count of at most m and that many elements were read, the list was read.
         pub few_read : {a : A} → n ≤ m → ReadsFrom SpellsAll (AreRead n R) (EachIs I) H left able
@@ -123,7 +132,7 @@ module _ {S : Type 0} {left : S → Option (List ℕ)} {able : S → ℕ → Typ
             may_leave mid (refusal (List V) e) new →
             ReadsFrom Spells (IsFewSeq m R) (λ t x. ListIs I t (see x)) H left able may_leave old
             (refusal A e) new
-        few_refused {e} k = second_refused laws (count_and_few m R) (λ g. g) counted fewer
+        few_refused {e} k = second_refused laws (count_and_few m R) (λ x g. g) counted fewer
           where
             fewer : ReadsFrom SpellsAll (λ ts. AreRead n R ts × (n ≤ m)) (EachIs I) H left able
                 may_leave mid (refusal (List V) e) new
@@ -142,8 +151,8 @@ module _ {S : Type 0} {left : S → Option (List ℕ)} {able : S → ℕ → Typ
             none_follows laws (count_and_few m R) named (λ ts a. many a.1) l counted
 
   -- If reading the count fails, reading the list fails with that error.
-  pub few_count_refused : {A : Type 0} {K : Tree → A → Type 0} {R : Tree → Type 0} {H : Type 0}
-      {m : ℕ} {old new : S} {e : Error} → ReadsFrom (SpellsNum 64) (Below 64) Same ⊥ left able
+  pub few_count_refused : {A : Type 0} {K : Tree → A → Type 0} {R : Tree → Type 0}
+      {H : Error → Type 0} {m : ℕ} {old new : S} {e : Error} → ReadsFrom (SpellsNum 64) (Below 64) Same never left able
       may_leave old (refusal ℕ e) new → ReadsFrom Spells (IsFewSeq m R) K H left able may_leave old
       (refusal A e) new
-  few_count_refused {R = R} {m = m} r = first_refused laws (count_and_few m R) (λ z. absurd z) r
+  few_count_refused {R = R} {m = m} r = first_refused laws (count_and_few m R) (λ x z. absurd z) r

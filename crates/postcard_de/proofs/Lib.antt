@@ -8,3 +8,4 @@ pub mod Mapped
 mod Addresses
 pub mod CStrings
 pub mod Alike
+mod Zeros

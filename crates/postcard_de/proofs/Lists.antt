@@ -7,7 +7,7 @@ use Rattle.postcard_wire.specs.declared.error.Error.{Error}
 use Rattle.postcard_wire.specs.declared.error.Error.TheVariants.{OutOfMemory}
 use Rattle.postcard_wire.specs.Tree.{Tree, Trees, NoTrees, Then}
 use Rattle.postcard_wire.specs.Spelling.{Spells, SpellsAll}
-use Rattle.postcard_de_flavors.specs.Source.{CanTake, Takes, Laws}
+use Rattle.postcard_de_flavors.specs.Source.{Left, CanTake, Takes, Laws}
 use Rattle.postcard_de_nodes.specs.Reads.{ReadsFrom}
 use Rattle.postcard_shape.specs.Values.{EachIs, AreRead}
 use Rattle.postcard_de_nodes.specs.TakeLemmas.{nothing_taken}
@@ -37,17 +37,17 @@ one_and_rest {V} R I n = record {
 
 -- The state within a list: however reading the elements left ends, reading all ends likewise, with
 -- the elements read so far in front.
-pub record Going {S V : Type 0} (left : S → Option (List ℕ)) (able : S → ℕ → Type 0)
-    (may_leave : S → S → Type 0) (R : Tree → Type 0) (I : Tree → V → Type 0) (H : Type 0)
+pub record Going {S V : Type 0} (left : S → Left) (able : S → ℕ → Type 0)
+    (may_leave : S → S → Type 0) (R : Tree → Type 0) (I : Tree → V → Type 0) (H : Error → Type 0)
     (start : S) (all : ℕ) (items : List V) (now : S) (rest : ℕ) : Type 0 where
   pub ends : (r : Result (List V) Error) (new : S) →
       ReadsFrom SpellsAll (AreRead rest R) (EachIs I) H left able may_leave now r new →
       ReadsFrom SpellsAll (AreRead all R) (EachIs I) H left able may_leave start (prefixed items r)
       new
 
-module _ {S V : Type 0} {left : S → Option (List ℕ)} {able : S → ℕ → Type 0}
+module _ {S V : Type 0} {left : S → Left} {able : S → ℕ → Type 0}
     {may_leave : S → S → Type 0} (laws : Laws left able may_leave) {R : Tree → Type 0}
-    {I : Tree → V → Type 0} {H : Type 0} where
+    {I : Tree → V → Type 0} {H : Error → Type 0} where
   -- It holds before any element was read.
   pub going : {start : S} {all : ℕ} → Going left able may_leave R I H start all [] start all
   going {start} {all} = record { ends = ends }
@@ -60,7 +60,8 @@ module _ {S V : Type 0} {left : S → Option (List ℕ)} {able : S → ℕ → T
       ends (Err e) new h = h
 
   -- It holds after one more element was read.
-  pub goes_on : {G : Type 0} {start now mid : S} {all rest : ℕ} {items : List V} {v : V} → (G → H) →
+  pub goes_on : {G : Error → Type 0} {start now mid : S} {all rest : ℕ} {items : List V} {v : V} →
+      ((e : Error) → G e → H e) →
       Going left able may_leave R I H start all items now (suc rest) →
       ReadsFrom Spells R I G left able may_leave now (Ok v) mid →
       Going left able may_leave R I H start all (items ++ v ∷ []) mid rest
@@ -75,11 +76,11 @@ module _ {S V : Type 0} {left : S → Option (List ℕ)} {able : S → ℕ → T
           (so.ends (Ok (v ∷ vs)) new (both_read laws (one_and_rest R I rest) (λ t ts i j. (i, j)) h
           k))
       ends (Err e) new k =
-          so.ends (Err e) new (second_refused laws (one_and_rest R I rest) (λ g. g) h k)
+          so.ends (Err e) new (second_refused laws (one_and_rest R I rest) (λ x g. g) h k)
 
   -- If reading the next element fails, reading all fails with that error.
-  pub going_stops : {G W : Type 0} {I' : Tree → W → Type 0} {start now new : S} {all rest : ℕ}
-      {items : List V} {e : Error} → (G → H) →
+  pub going_stops : {G : Error → Type 0} {W : Type 0} {I' : Tree → W → Type 0} {start now new : S} {all rest : ℕ}
+      {items : List V} {e : Error} → ((e : Error) → G e → H e) →
       Going left able may_leave R I H start all items now (suc rest) →
       ReadsFrom Spells R I' G left able may_leave now (refusal W e) new →
       ReadsFrom SpellsAll (AreRead all R) (EachIs I) H left able may_leave start
@@ -88,7 +89,7 @@ module _ {S V : Type 0} {left : S → Option (List ℕ)} {able : S → ℕ → T
       so.ends (Err e) new (first_refused laws (one_and_rest R I' rest) grow h)
 
   -- If memory ran out, reading all fails with `OutOfMemory`.
-  pub going_full : {start now new : S} {all rest : ℕ} {items : List V} → H →
+  pub going_full : {start now new : S} {all rest : ℕ} {items : List V} → H OutOfMemory →
       Going left able may_leave R I H start all items now (suc rest) → may_leave now new →
       ReadsFrom SpellsAll (AreRead all R) (EachIs I) H left able may_leave start
       (refusal (List V) OutOfMemory) new
@@ -124,10 +125,10 @@ one_more_left (suc n) h = omega arith
 
 -- A call that left a state left any state that equals it.
 pub not_moved : {X S V : Type 0} {spelled : X → List ℕ → Type 0} {reads : X → Type 0}
-    {value : X → V → Type 0} {grows : Type 0} {left : S → Option (List ℕ)} {able : S → ℕ → Type 0}
+    {value : X → V → Type 0} {other : Error → Type 0} {left : S → Left} {able : S → ℕ → Type 0}
     {may_leave : S → S → Type 0} {old mid new : S} {r : Result V Error} → new ≡ mid →
-    ReadsFrom spelled reads value grows left able may_leave old r mid →
-    ReadsFrom spelled reads value grows left able may_leave old r new
+    ReadsFrom spelled reads value other left able may_leave old r mid →
+    ReadsFrom spelled reads value other left able may_leave old r new
 not_moved e h = rw e h
 
 -- What holds if an option is `None` holds of an option that is.

@@ -1,12 +1,13 @@
 -- Reading parts in a row, as of a tuple or a struct: reading the first fails, or it was read and
 -- the others are read next.
-use Rattle.std.proofs.Common.{◌≡◌, ℕ, ◌⊎◌, inl, inr, List, [], Option, Ok, Result, IsErrAnd, refl}
+use Rattle.std.proofs.Common.{◌≡◌, ℕ, inl, inr, List, [], Option, Ok, Result, IsErrAnd, refl}
 use Rattle.std.proofs.Common.{sym}
 use Rattle.postcard_wire.specs.declared.error.Error.{Error}
 use Rattle.postcard_wire.specs.Tree.{Tree, Trees, Group, NoTrees, Then}
 use Rattle.postcard_wire.specs.Spelling.{Spells, SpellsAll}
 use Rattle.postcard_wire.specs.Reading.{IsEnd, IsThen, IsGroup}
-use Rattle.postcard_de_flavors.specs.Source.{Laws}
+use Rattle.postcard_de_flavors.specs.Source.{Left, Laws}
+use Rattle.postcard_shape.specs.Shape.{never, either}
 use Rattle.postcard_de_nodes.specs.Reads.{ReadsFrom}
 use Rattle.postcard_de_nodes.specs.TakeLemmas.{nothing_taken}
 use Rattle.postcard_de_nodes.specs.ReadLemmas.{refusal, is_refusal}
@@ -30,37 +31,37 @@ AllAre K ts u = K ts
 abbrev pub NoneIs : Trees → Unit {0} → Type 0
 NoneIs ts u = ⊥
 
-module _ {S : Type 0} {left : S → Option (List ℕ)} {able : S → ℕ → Type 0}
+module _ {S : Type 0} {left : S → Left} {able : S → ℕ → Type 0}
     {may_leave : S → S → Type 0} (laws : Laws left able may_leave) where
   -- If a part was read and then those after it, all were read.
-  pub and_part : {V : Type 0} {R : Tree → Type 0} {I : Tree → V → Type 0} {G : Type 0}
-      {Rs K : Trees → Type 0} {H : Type 0} {old mid new : S} {v : V} →
+  pub and_part : {V : Type 0} {R : Tree → Type 0} {I : Tree → V → Type 0} {G : Error → Type 0}
+      {Rs K : Trees → Type 0} {H : Error → Type 0} {old mid new : S} {v : V} →
       ReadsFrom Spells R I G left able may_leave old (Ok v) mid →
       ReadsFrom SpellsAll Rs (AllAre K) H left able may_leave mid (Ok tt) new →
-      ReadsFrom SpellsAll (IsThen R Rs) (AllAre (IsThen (λ t. I t v) K)) (G ⊎ H) left able
+      ReadsFrom SpellsAll (IsThen R Rs) (AllAre (IsThen (λ t. I t v) K)) (either G H) left able
       may_leave old (Ok tt) new
   and_part {R = R} {I = I} {Rs = Rs} r s =
       both_read laws (part_and_rest R I Rs) (λ t ts i j. (t, ts, refl, i, j)) r s
 
   -- If a part was read and reading those after it fails, reading all fails with that error.
-  pub and_fails : {V : Type 0} {R : Tree → Type 0} {I : Tree → V → Type 0} {G : Type 0}
-      {Rs : Trees → Type 0} {H : Type 0} {old mid new : S} {v : V} {e : Error} →
+  pub and_fails : {V : Type 0} {R : Tree → Type 0} {I : Tree → V → Type 0} {G : Error → Type 0}
+      {Rs : Trees → Type 0} {H : Error → Type 0} {old mid new : S} {v : V} {e : Error} →
       ReadsFrom Spells R I G left able may_leave old (Ok v) mid →
       ReadsFrom SpellsAll Rs NoneIs H left able may_leave mid (refusal (Unit {0}) e) new →
-      ReadsFrom SpellsAll (IsThen R Rs) NoneIs (G ⊎ H) left able may_leave old
+      ReadsFrom SpellsAll (IsThen R Rs) NoneIs (either G H) left able may_leave old
       (refusal (Unit {0}) e) new
-  and_fails {R = R} {I = I} {Rs = Rs} r s = second_refused laws (part_and_rest R I Rs) inr r s
+  and_fails {R = R} {I = I} {Rs = Rs} r s = second_refused laws (part_and_rest R I Rs) (λ x. inr) r s
 
   -- If reading the first part fails, reading all fails with that error.
-  pub stops : {V : Type 0} {R : Tree → Type 0} {I : Tree → V → Type 0} {G : Type 0}
-      {Rs : Trees → Type 0} {H : Type 0} {old new : S} {e : Error} →
+  pub stops : {V : Type 0} {R : Tree → Type 0} {I : Tree → V → Type 0} {G : Error → Type 0}
+      {Rs : Trees → Type 0} {H : Error → Type 0} {old new : S} {e : Error} →
       ReadsFrom Spells R I G left able may_leave old (refusal V e) new →
-      ReadsFrom SpellsAll (IsThen R Rs) NoneIs (G ⊎ H) left able may_leave old
+      ReadsFrom SpellsAll (IsThen R Rs) NoneIs (either G H) left able may_leave old
       (refusal (Unit {0}) e) new
-  stops {R = R} {I = I} {Rs = Rs} r = first_refused laws (part_and_rest R I Rs) inl r
+  stops {R = R} {I = I} {Rs = Rs} r = first_refused laws (part_and_rest R I Rs) (λ x. inl) r
 
   -- If no part is left, all were read and nothing is taken.
-  pub no_more : {s : S} → ReadsFrom SpellsAll IsEnd (AllAre IsEnd) ⊥ left able may_leave s (Ok tt) s
+  pub no_more : {s : S} → ReadsFrom SpellsAll IsEnd (AllAre IsEnd) never left able may_leave s (Ok tt) s
   no_more {s} = record {
     gives = record {
       thing = NoTrees;
@@ -76,7 +77,7 @@ module _ {S : Type 0} {left : S → Option (List ℕ)} {able : S → ℕ → Typ
   }
 
   -- If all parts of a tuple or a struct were read, it was read.
-  pub struct_read : {A : Type 0} {value : Tree → A → Type 0} {Rs K : Trees → Type 0} {G : Type 0}
+  pub struct_read : {A : Type 0} {value : Tree → A → Type 0} {Rs K : Trees → Type 0} {G : Error → Type 0}
       {old new : S} {a : A} → ((t : Tree) → IsGroup K t → value t a) →
       ReadsFrom SpellsAll Rs (AllAre K) G left able may_leave old (Ok tt) new →
       ReadsFrom Spells (IsGroup Rs) value G left able may_leave old (Ok a) new
@@ -97,7 +98,7 @@ module _ {S : Type 0} {left : S → Option (List ℕ)} {able : S → ℕ → Typ
 
   -- If reading the parts of a tuple or a struct fails, reading it fails with the error that `?`
   -- passes on.
-  pub struct_fails : {A : Type 0} {value : Tree → A → Type 0} {Rs : Trees → Type 0} {G : Type 0}
+  pub struct_fails : {A : Type 0} {value : Tree → A → Type 0} {Rs : Trees → Type 0} {G : Error → Type 0}
       {old new : S} {r : Result A Error} {e : Error} → IsErrAnd r (λ x. x ≡ e) →
       ReadsFrom SpellsAll Rs NoneIs G left able may_leave old (refusal (Unit {0}) e) new →
       ReadsFrom Spells (IsGroup Rs) value G left able may_leave old r new

@@ -2,4 +2,5 @@
 -- crate.
 pub use Rattle.postcard_de_nodes.specs.Unfit.{NotABit, BadBool, BadOption, WantsChar, TooLong}
 pub use Rattle.postcard_de_nodes.specs.Unfit.{NoChar, BadChar, BadBytes, ContentRefuses, LongText}
-pub use Rattle.postcard_de_nodes.specs.Unfit.{BadShortText}
+pub use Rattle.postcard_de_nodes.specs.Unfit.{BadShortText, ZeroByte, ZeroNumber, BadIndex}
+pub use Rattle.postcard_de_nodes.specs.Unfit.{VariantRefuses}

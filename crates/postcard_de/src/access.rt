@@ -57,7 +57,7 @@ impl SeqAccess {
         ensures count { self.new ≡ self.old - 1 }
         ensures none { self.old ≡ 0 → (result ≡ Ok None) × (d.new ≡ d.old) }
         ensures some { 0 < self.old → Reads F.Flavor Spells T.shape.reads (SomeIs T.shape.value)
-            T.shape.grows (source_of d.old) result (source_of d.new) }
+            T.shape.other (source_of d.old) result (source_of d.new) }
     {
         if self.len == 0 {
             return Ok(None);

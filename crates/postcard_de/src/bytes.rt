@@ -3,6 +3,7 @@
 ghost use Rattle.std.specs.Prelude.{◌≡◌, ℕ, List, ◌++◌, Err, IfOk, IfErr, MatchResult};
 ghost use Rattle.postcard_wire.specs.Tree.{Tree};
 ghost use Rattle.postcard_wire.specs.Spelling.{Spells, canonical};
+ghost use Rattle.postcard_shape.specs.Shape.{Grows};
 ghost use Rattle.postcard_de.specs.Reads.{IsReadError};
 ghost use Rattle.postcard_de.specs.Front.{ReadsFront};
 
@@ -32,13 +33,13 @@ pub fn take_from_bytes<'a, T: Deserialize<'a>>(
     ensures accepts { (t : Tree) (front rest : List ℕ)
         → T.shape.reads t → Spells t front → bytes.now ≡ front ++ rest →
         MatchResult result (λ read. T.shape.value t read.0 × (read.1.now ≡ rest))
-        (λ e. (e ≡ Error.OutOfMemory) × T.shape.grows) }
+        (λ e. (e ≡ Error.OutOfMemory) × Grows T.shape) }
     ensures reads_back { (x : T) (rest : List ℕ)
         → T.shape.fits x → bytes.now ≡ canonical (T.shape.tree x) ++ rest →
         MatchResult result (λ read. T.shape.same read.0 x × (read.1.now ≡ rest))
-        (λ e. (e ≡ Error.OutOfMemory) × T.shape.grows) }
-    ensures out_of_memory_only_if_grows { result ≡ Err Error.OutOfMemory → T.shape.grows }
-    ensures named_error { IfErr result (IsReadError T.shape.grows) }
+        (λ e. (e ≡ Error.OutOfMemory) × Grows T.shape) }
+    ensures out_of_memory_only_if_grows { result ≡ Err Error.OutOfMemory → Grows T.shape }
+    ensures named_error { IfErr result (IsReadError T.shape.other) }
 {
     let mut deserializer = Deserializer::from_bytes(bytes);
     let value = T::deserialize(alloc, &mut deserializer)?;
@@ -58,13 +59,13 @@ pub fn from_bytes<'a, T: Deserialize<'a>>(alloc: Global, bytes: &'a [u8]) -> Res
     ensures accepts { (t : Tree) (front rest : List ℕ)
         → T.shape.reads t → Spells t front → bytes.now ≡ front ++ rest →
         MatchResult result (λ value. T.shape.value t value)
-        (λ e. (e ≡ Error.OutOfMemory) × T.shape.grows) }
+        (λ e. (e ≡ Error.OutOfMemory) × Grows T.shape) }
     ensures reads_back { (x : T) (rest : List ℕ)
         → T.shape.fits x → bytes.now ≡ canonical (T.shape.tree x) ++ rest →
         MatchResult result (λ value. T.shape.same value x)
-        (λ e. (e ≡ Error.OutOfMemory) × T.shape.grows) }
-    ensures out_of_memory_only_if_grows { result ≡ Err Error.OutOfMemory → T.shape.grows }
-    ensures named_error { IfErr result (IsReadError T.shape.grows) }
+        (λ e. (e ≡ Error.OutOfMemory) × Grows T.shape) }
+    ensures out_of_memory_only_if_grows { result ≡ Err Error.OutOfMemory → Grows T.shape }
+    ensures named_error { IfErr result (IsReadError T.shape.other) }
 {
     let (value, _) = take_from_bytes(alloc, bytes)?;
     Ok(value)

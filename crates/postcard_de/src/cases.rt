@@ -26,7 +26,7 @@ pub trait DeserializeCase<'de>: Cased + Sized + Drop {
         d: &mut Deserializer<'de, F>,
     ) -> Result<Self>
         ensures { Reads F.Flavor Spells (Self.cases.reads index) (Self.cases.value index)
-            Self.cases.grows (source_of d.old) result (source_of d.new) };
+            Self.cases.other (source_of d.old) result (source_of d.new) };
 }
 
 impl<'de> DeserializeCase<'de> for NoCase {
@@ -79,7 +79,7 @@ pub trait DeserializeCaseOwned: Cased + Sized + Drop {
         d: &mut Deserializer<'de, F>,
     ) -> Result<Self>
         ensures { Reads F.Flavor Spells (Self.cases.reads index) (Self.cases.value index)
-            Self.cases.grows (source_of d.old) result (source_of d.new) };
+            Self.cases.other (source_of d.old) result (source_of d.new) };
 }
 
 impl DeserializeCaseOwned for NoCase {

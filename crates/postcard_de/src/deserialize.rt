@@ -21,6 +21,6 @@ pub trait Deserialize<'de>: Shaped + Sized + Drop {
     /// refuses what was read. Fails with `OutOfMemory` if an allocation fails, and only for a type
     /// that grows. Some of the bytes may have been taken then.
     fn deserialize<F: Flavor>(alloc: Global, d: &mut Deserializer<'de, F>) -> Result<Self>
-        ensures { Reads F.Flavor Spells Self.shape.reads Self.shape.value Self.shape.grows
+        ensures { Reads F.Flavor Spells Self.shape.reads Self.shape.value Self.shape.other
             (source_of d.old) result (source_of d.new) };
 }

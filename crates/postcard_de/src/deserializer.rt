@@ -11,6 +11,7 @@ ghost use Rattle.postcard_de.specs.Refuses.{Refuses, WantsByte, NoneBad, WantsDi
 ghost use Rattle.postcard_de.specs.Refuses.{WantsText, BadText};
 ghost use Rattle.postcard_de.specs.Unfit.{BadBytes};
 ghost use Rattle.postcard_shape.specs.Values.{ListIs, Same};
+ghost use Rattle.postcard_shape.specs.Shape.{never, memory};
 ghost use Rattle.postcard_de.specs.Deserializer.{source_of};
 
 mod elements;
@@ -77,7 +78,7 @@ impl<'de, F: Flavor> Deserializer<'de, F> {
     ///
     /// Fails with `DeserializeUnexpectedEnd` if the source can't give a byte.
     pub fn deserialize_u8(&mut self) -> Result<u8>
-        ensures reads { Reads F.Flavor Spells IsByte (λ t v. t ≡ Byte v) ⊥
+        ensures reads { Reads F.Flavor Spells IsByte (λ t v. t ≡ Byte v) never
             (source_of self.old) result (source_of self.new) }
         ensures refused { IfErr result (λ e. Refuses F.Flavor WantsByte NoneBad
             (source_of self.old) e (source_of self.new)) }
@@ -91,7 +92,7 @@ impl<'de, F: Flavor> Deserializer<'de, F> {
     ///
     /// Fails with `DeserializeUnexpectedEnd` if the source can't give a byte.
     pub fn deserialize_i8(&mut self) -> Result<i8>
-        ensures reads { Reads F.Flavor Spells IsByte (λ t v. t ≡ Byte (cast_unsigned w8 v)) ⊥
+        ensures reads { Reads F.Flavor Spells IsByte (λ t v. t ≡ Byte (cast_unsigned w8 v)) never
             (source_of self.old) result (source_of self.new) }
         ensures refused { IfErr result (λ e. Refuses F.Flavor WantsByte NoneBad
             (source_of self.old) e (source_of self.new)) }
@@ -108,7 +109,7 @@ impl<'de, F: Flavor> Deserializer<'de, F> {
     /// `DeserializeBadVarint` if it has more than 3 bytes or its number more than 16 bits; 3 bytes
     /// are taken then.
     pub fn deserialize_u16(&mut self) -> Result<u16>
-        ensures reads { Reads F.Flavor Spells (IsNum 16) (λ t v. t ≡ Num 16 v) ⊥
+        ensures reads { Reads F.Flavor Spells (IsNum 16) (λ t v. t ≡ Num 16 v) never
             (source_of self.old) result (source_of self.new) }
         ensures refused { IfErr result (λ e. Refuses F.Flavor (WantsDigit 16) (BadNumber 16)
             (source_of self.old) e (source_of self.new)) }
@@ -125,7 +126,7 @@ impl<'de, F: Flavor> Deserializer<'de, F> {
     /// `DeserializeBadVarint` if it has more than 5 bytes or its number more than 32 bits; 5 bytes
     /// are taken then.
     pub fn deserialize_u32(&mut self) -> Result<u32>
-        ensures reads { Reads F.Flavor Spells (IsNum 32) (λ t v. t ≡ Num 32 v) ⊥
+        ensures reads { Reads F.Flavor Spells (IsNum 32) (λ t v. t ≡ Num 32 v) never
             (source_of self.old) result (source_of self.new) }
         ensures refused { IfErr result (λ e. Refuses F.Flavor (WantsDigit 32) (BadNumber 32)
             (source_of self.old) e (source_of self.new)) }
@@ -142,7 +143,7 @@ impl<'de, F: Flavor> Deserializer<'de, F> {
     /// `DeserializeBadVarint` if it has more than 10 bytes or its number more than 64 bits; 10
     /// bytes are taken then.
     pub fn deserialize_u64(&mut self) -> Result<u64>
-        ensures reads { Reads F.Flavor Spells (IsNum 64) (λ t v. t ≡ Num 64 v) ⊥
+        ensures reads { Reads F.Flavor Spells (IsNum 64) (λ t v. t ≡ Num 64 v) never
             (source_of self.old) result (source_of self.new) }
         ensures refused { IfErr result (λ e. Refuses F.Flavor (WantsDigit 64) (BadNumber 64)
             (source_of self.old) e (source_of self.new)) }
@@ -159,7 +160,7 @@ impl<'de, F: Flavor> Deserializer<'de, F> {
     /// `DeserializeBadVarint` if it has more than 19 bytes or its number more than 128 bits; 19
     /// bytes are taken then.
     pub fn deserialize_u128(&mut self) -> Result<u128>
-        ensures reads { Reads F.Flavor Spells (IsNum 128) (λ t v. t ≡ Num 128 v) ⊥
+        ensures reads { Reads F.Flavor Spells (IsNum 128) (λ t v. t ≡ Num 128 v) never
             (source_of self.old) result (source_of self.new) }
         ensures refused { IfErr result (λ e. Refuses F.Flavor (WantsDigit 128) (BadNumber 128)
             (source_of self.old) e (source_of self.new)) }
@@ -174,7 +175,7 @@ impl<'de, F: Flavor> Deserializer<'de, F> {
     ///
     /// Fails as `deserialize_u16`.
     pub fn deserialize_i16(&mut self) -> Result<i16>
-        ensures reads { Reads F.Flavor Spells (IsInt 16) (λ t v. t ≡ Int 16 v) ⊥
+        ensures reads { Reads F.Flavor Spells (IsInt 16) (λ t v. t ≡ Int 16 v) never
             (source_of self.old) result (source_of self.new) }
         ensures refused { IfErr result (λ e. Refuses F.Flavor (WantsDigit 16) (BadNumber 16)
             (source_of self.old) e (source_of self.new)) }
@@ -189,7 +190,7 @@ impl<'de, F: Flavor> Deserializer<'de, F> {
     ///
     /// Fails as `deserialize_u32`.
     pub fn deserialize_i32(&mut self) -> Result<i32>
-        ensures reads { Reads F.Flavor Spells (IsInt 32) (λ t v. t ≡ Int 32 v) ⊥
+        ensures reads { Reads F.Flavor Spells (IsInt 32) (λ t v. t ≡ Int 32 v) never
             (source_of self.old) result (source_of self.new) }
         ensures refused { IfErr result (λ e. Refuses F.Flavor (WantsDigit 32) (BadNumber 32)
             (source_of self.old) e (source_of self.new)) }
@@ -204,7 +205,7 @@ impl<'de, F: Flavor> Deserializer<'de, F> {
     ///
     /// Fails as `deserialize_u64`.
     pub fn deserialize_i64(&mut self) -> Result<i64>
-        ensures reads { Reads F.Flavor Spells (IsInt 64) (λ t v. t ≡ Int 64 v) ⊥
+        ensures reads { Reads F.Flavor Spells (IsInt 64) (λ t v. t ≡ Int 64 v) never
             (source_of self.old) result (source_of self.new) }
         ensures refused { IfErr result (λ e. Refuses F.Flavor (WantsDigit 64) (BadNumber 64)
             (source_of self.old) e (source_of self.new)) }
@@ -219,7 +220,7 @@ impl<'de, F: Flavor> Deserializer<'de, F> {
     ///
     /// Fails as `deserialize_u128`.
     pub fn deserialize_i128(&mut self) -> Result<i128>
-        ensures reads { Reads F.Flavor Spells (IsInt 128) (λ t v. t ≡ Int 128 v) ⊥
+        ensures reads { Reads F.Flavor Spells (IsInt 128) (λ t v. t ≡ Int 128 v) never
             (source_of self.old) result (source_of self.new) }
         ensures refused { IfErr result (λ e. Refuses F.Flavor (WantsDigit 128) (BadNumber 128)
             (source_of self.old) e (source_of self.new)) }
@@ -237,7 +238,7 @@ impl<'de, F: Flavor> Deserializer<'de, F> {
     /// the bytes end before the text does, and with `DeserializeBadUtf8` if they aren't UTF-8; they
     /// are taken then.
     pub fn deserialize_str(&mut self) -> Result<&'de str>
-        ensures reads { Reads F.Flavor Spells IsText (λ t v. t ≡ Text v.now) ⊥
+        ensures reads { Reads F.Flavor Spells IsText (λ t v. t ≡ Text v.now) never
             (source_of self.old) result (source_of self.new) }
         ensures refused { IfErr result (λ e. Refuses F.Flavor WantsText (BadText ⊥)
             (source_of self.old) e (source_of self.new)) }
@@ -253,7 +254,7 @@ impl<'de, F: Flavor> Deserializer<'de, F> {
     /// Fails as `deserialize_str`, and with `OutOfMemory` if the allocation fails; the text is
     /// taken then.
     pub fn deserialize_string(&mut self, alloc: Global) -> Result<String>
-        ensures reads { Reads F.Flavor Spells IsText (λ t v. t ≡ Text (string_bytes v)) ⊤
+        ensures reads { Reads F.Flavor Spells IsText (λ t v. t ≡ Text (string_bytes v)) memory
             (source_of self.old) result (source_of self.new) }
         ensures refused { IfErr result (λ e. Refuses F.Flavor WantsText (BadText ⊤)
             (source_of self.old) e (source_of self.new)) }
@@ -269,7 +270,7 @@ impl<'de, F: Flavor> Deserializer<'de, F> {
     /// if the source can't give that many bytes.
     pub fn deserialize_bytes(&mut self) -> Result<&'de [u8]>
         ensures reads { Reads F.Flavor Spells (IsSeq IsByte)
-            (λ t v. ListIs (λ s b. s ≡ Byte b) t v.now) ⊥
+            (λ t v. ListIs (λ s b. s ≡ Byte b) t v.now) never
             (source_of self.old) result (source_of self.new) }
         ensures refused { IfErr result (λ e. Refuses F.Flavor WantsText (BadNumber 64)
             (source_of self.old) e (source_of self.new)) }
@@ -286,7 +287,7 @@ impl<'de, F: Flavor> Deserializer<'de, F> {
     /// taken then.
     pub fn deserialize_byte_buf(&mut self, alloc: Global) -> Result<Vec<u8>>
         ensures reads { Reads F.Flavor Spells (IsSeq IsByte)
-            (λ t v. ListIs (λ s b. s ≡ Byte b) t v.items) ⊤
+            (λ t v. ListIs (λ s b. s ≡ Byte b) t v.items) memory
             (source_of self.old) result (source_of self.new) }
         ensures refused { IfErr result (λ e. Refuses F.Flavor WantsText BadBytes
             (source_of self.old) e (source_of self.new)) }
@@ -301,7 +302,7 @@ impl<'de, F: Flavor> Deserializer<'de, F> {
     ///
     /// Fails as `deserialize_u64`.
     pub fn deserialize_seq(&mut self) -> Result<SeqAccess>
-        ensures reads { Reads F.Flavor (SpellsNum 64) (λ n. n < 2 ^ 64) Same ⊥
+        ensures reads { Reads F.Flavor (SpellsNum 64) (λ n. n < 2 ^ 64) Same never
             (source_of self.old) result (source_of self.new) }
         ensures refused { IfErr result (λ e. Refuses F.Flavor (WantsDigit 64) (BadNumber 64)
             (source_of self.old) e (source_of self.new)) }

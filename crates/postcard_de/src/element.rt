@@ -20,7 +20,7 @@ pub(crate) trait Element<'de, T: Shaped + Drop> {
     ///
     /// Fails as [`Deserialize::deserialize`].
     fn element<F: Flavor>(alloc: Global, d: &mut Deserializer<'de, F>) -> Result<T>
-        ensures { Reads F.Flavor Spells T.shape.reads T.shape.value T.shape.grows
+        ensures { Reads F.Flavor Spells T.shape.reads T.shape.value T.shape.other
             (source_of d.old) result (source_of d.new) };
 }
 

@@ -1,7 +1,7 @@
 //! Reading: a deserializer over a source, and the types that it reads.
 //!
 //! A type's shape says which trees it reads and what their values are. The layer above relies on
-//! one contract, that of [`Deserialize::deserialize`]: `Reads F.Flavor Spells reads value grows ..`
+//! one contract, that of [`Deserialize::deserialize`]: `Reads F.Flavor Spells reads value other ..`
 //! says that the result is the value of a front that spells a tree that the type reads, that such a
 //! front is read if the source is able to give it and no allocation fails, what is left, and which
 //! errors may be returned. Each `deserialize_*` that reads one node has the same clause, and beside

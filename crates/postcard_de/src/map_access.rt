@@ -52,7 +52,7 @@ impl MapAccess {
         ensures count { self.new ≡ self.old - 1 }
         ensures none { self.old ≡ 0 → (result ≡ Ok None) × (d.new ≡ d.old) }
         ensures some { 0 < self.old → Reads F.Flavor Spells K.shape.reads (SomeIs K.shape.value)
-            K.shape.grows (source_of d.old) result (source_of d.new) }
+            K.shape.other (source_of d.old) result (source_of d.new) }
     {
         self.keys.next_element(alloc, d)
     }
@@ -69,7 +69,7 @@ impl MapAccess {
         d: &mut Deserializer<'de, F>,
     ) -> Result<V>
         ensures count { self.new ≡ self.old }
-        ensures value { Reads F.Flavor Spells V.shape.reads V.shape.value V.shape.grows
+        ensures value { Reads F.Flavor Spells V.shape.reads V.shape.value V.shape.other
             (source_of d.old) result (source_of d.new) }
     {
         V::deserialize(alloc, d)

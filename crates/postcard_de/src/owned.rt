@@ -22,7 +22,7 @@ pub trait DeserializeOwned: Shaped + Sized + Drop {
         alloc: Global,
         d: &mut Deserializer<'de, F>,
     ) -> Result<Self>
-        ensures { Reads F.Flavor Spells Self.shape.reads Self.shape.value Self.shape.grows
+        ensures { Reads F.Flavor Spells Self.shape.reads Self.shape.value Self.shape.other
             (source_of d.old) result (source_of d.new) };
 }
 

@@ -21,7 +21,7 @@ pub trait DeserializeParts<'de>: Parts + Sized + Drop {
     /// Fails with the error of the first part that can't be read.
     fn deserialize_parts<F: Flavor>(alloc: Global, d: &mut Deserializer<'de, F>) -> Result<Self>
         ensures { Reads F.Flavor SpellsAll Self.parts.reads (λ ts v. Self.parts.value v ts)
-            Self.parts.grows (source_of d.old) result (source_of d.new) };
+            Self.parts.other (source_of d.old) result (source_of d.new) };
 }
 
 impl<'de> DeserializeParts<'de> for () {
@@ -57,7 +57,7 @@ pub trait DeserializePartsOwned: Parts + Sized + Drop {
         d: &mut Deserializer<'de, F>,
     ) -> Result<Self>
         ensures { Reads F.Flavor SpellsAll Self.parts.reads (λ ts v. Self.parts.value v ts)
-            Self.parts.grows (source_of d.old) result (source_of d.new) };
+            Self.parts.other (source_of d.old) result (source_of d.new) };
 }
 
 impl DeserializePartsOwned for () {

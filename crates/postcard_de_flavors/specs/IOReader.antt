@@ -5,7 +5,7 @@ use Rattle.std.proofs.Common.{arith}
 use Rattle.std.specs.Borrow.{Bor}
 use Rattle.postcard_de_flavors.specs.declared.io.io.IOReader.{IOReader}
 use Rattle.postcard_de_flavors.specs.Reader.{AtLeast, at_least_fewer}
-use Rattle.postcard_de_flavors.specs.Source.{LendsFront, Laws}
+use Rattle.postcard_de_flavors.specs.Source.{Left, LendsFront, Laws}
 
 -- The reader, as it is now.
 abbrev pub reader_of : {T : Type 0} → IOReader T → T
@@ -14,6 +14,10 @@ reader_of s = s.reader
 -- The scratch left.
 abbrev pub scratch_of : {T : Type 0} → IOReader T → List ℕ
 scratch_of s = s.scratch
+
+-- What is left: the bytes of the reader, and the scratch.
+abbrev pub left_of : {T : Type 0} → (T → Option (List ℕ)) → IOReader T → Left
+left_of remaining s = record { bytes = remaining (reader_of s); scratch = scratch_of s }
 
 -- The reader is steady and is known to have at least n bytes left, and at least n bytes of scratch
 -- are left.
@@ -34,10 +38,10 @@ GivesBack n old new = (length (scratch_of new) ≡ length (scratch_of old)) × (
 -- source, and the scratch is given back.
 abbrev pub LendsScratch : {T E : Type 0} → (T → Option (List ℕ)) → (T → Type 0) → ℕ → IOReader T → Result (Bor (List ℕ)) E → IOReader T → Type 0
 LendsScratch remaining steady n old lent new =
-    LendsFront (λ s. remaining (reader_of s)) (CanRead remaining steady) (MayBecome steady) old lent new × GivesBack n old new
+    LendsFront (left_of remaining) (CanRead remaining steady) (MayBecome steady) old lent new × GivesBack n old new
 
 -- A source over a reader obeys the laws of a source.
-pub reader_laws : {T : Type 0} (remaining : T → Option (List ℕ)) (steady : T → Type 0) → Laws (λ (s : IOReader T). remaining (reader_of s)) (CanRead remaining steady) (MayBecome steady)
+pub reader_laws : {T : Type 0} (remaining : T → Option (List ℕ)) (steady : T → Type 0) → Laws (left_of remaining) (CanRead remaining steady) (MayBecome steady)
 reader_laws remaining steady = record {
   fewer = λ s m n le h. (h.0, at_least_fewer (remaining (reader_of s)) m n le h.1, omega (arith, le, h.2));
   itself = λ s. (λ h. h, omega arith);

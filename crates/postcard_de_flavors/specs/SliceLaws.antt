@@ -1,11 +1,11 @@
 -- The laws of a source, of the source over a slice: its state is the list of the bytes left.
-use Rattle.std.specs.Prelude.{ℕ, ◌≤◌, List, [], ◌++◌, length, Some, refl}
+use Rattle.std.specs.Prelude.{ℕ, ◌≤◌, List, [], ◌++◌, length, refl}
 use Rattle.std.proofs.Common.{◌∙◌, sym, ap, arith, append_assoc}
-use Rattle.postcard_de_flavors.specs.Source.{Laws, IsEndOf}
+use Rattle.postcard_de_flavors.specs.Source.{known, Laws, IsEndOf}
 
 -- A list of at least n bytes has at least m bytes for m ≤ n; an end of an end of a list is an end
 -- of the list.
-pub slice_laws : Laws (λ (s : List ℕ). Some s) (λ s n. n ≤ length s) (λ s t. IsEndOf t s)
+pub slice_laws : Laws known (λ s n. n ≤ length s) (λ s t. IsEndOf t s)
 slice_laws = record {
   fewer = λ s m n le enough. omega arith;
   itself = λ s. ([], refl);

@@ -5,7 +5,7 @@ ghost use Rattle.std.specs.Prelude.{IfErr, IsOk};
 ghost use Rattle.std.specs.Borrow.{sem};
 ghost use Rattle.std.specs.Io.BufRead.{Rests};
 ghost use Rattle.postcard_wire.specs.declared.error.Error.{Error};
-ghost use Rattle.postcard_de_flavors.specs.Source.{Takes, CanTake, LendsFront, Laws};
+ghost use Rattle.postcard_de_flavors.specs.Source.{Left, Takes, CanTake, LendsFront, Laws};
 
 use postcard_wire::{Error, Result};
 
@@ -17,8 +17,8 @@ pub trait Flavor: Drop {
     /// What the source reads from, as in postcard 1.1.3: typically a slice.
     type Source;
 
-    /// The bytes left, or `None` if the source doesn't know them.
-    ghost left: { Self → Option (List ℕ) };
+    /// What is left: the bytes, if the source knows them, and its scratch, if it needs any.
+    ghost left: { Self → Left };
 
     /// Whether the source is able to give this number of bytes: taking them succeeds, in whatever
     /// pieces.

@@ -4,7 +4,7 @@ ghost use Rattle.std.specs.Prelude.{◌≡◌, ◌↔◌, ◌<◌, ◌≤◌, []
 ghost use Rattle.std.specs.Prelude.{IfOk, IfErr, OnErr, IsOk, MatchResult};
 ghost use Rattle.std.specs.Borrow.{sem};
 ghost use Rattle.std.specs.Io.BufRead.{Rests};
-ghost use Rattle.postcard_de_flavors.specs.Source.{Takes, CanTake, LeavesRest, IsEndOf};
+ghost use Rattle.postcard_de_flavors.specs.Source.{known, Takes, CanTake, LeavesRest, IsEndOf};
 ghost use Rattle.postcard_de_flavors.specs.SliceLaws.{slice_laws};
 
 use crate::flavor::Flavor;
@@ -49,7 +49,7 @@ impl<'de> Flavor for Slice<'de> {
 
     type Source = &'de [u8];
 
-    ghost left = { λ s. Some s };
+    ghost left = { known };
 
     ghost able = { λ s n. n ≤ length s };
 

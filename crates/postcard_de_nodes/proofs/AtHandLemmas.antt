@@ -1,14 +1,14 @@
 -- Reading a list whose bytes are in memory.
 use Rattle.std.proofs.Common.{◌≡◌, ℕ, ◌≤◌, List, ◌++◌, length, take, drop, Option, Ok, refl, sym}
 use Rattle.std.proofs.Common.{◌∙◌, ap, subst, append_assoc}
-use Rattle.std.specs.Bool.{⊤}
 use Rattle.std.proofs.lemmas.List.{take-append-drop, length-take-le}
+use Rattle.postcard_wire.specs.declared.error.Error.{Error}
 use Rattle.postcard_wire.specs.Tree.{Tree, Trees, Group}
 use Rattle.postcard_wire.specs.Spelling.{SpellsAll}
 use Rattle.postcard_wire.specs.Reading.{IsDelimited}
 use Rattle.postcard_wire.proofs.Delimited.{same_front, array_delimited}
 use Rattle.postcard_shape.specs.Values.{EachIs, AreRead, AreOfBytes}
-use Rattle.postcard_de_flavors.specs.Source.{CanTake, Takes}
+use Rattle.postcard_de_flavors.specs.Source.{Left, CanTake, Takes}
 use Rattle.postcard_de_nodes.specs.Reads.{ReadsFrom}
 use Rattle.postcard_de_nodes.specs.ReadLemmas.{Delimits, found}
 use Rattle.postcard_de_nodes.specs.TakeLemmas.{faces}
@@ -24,16 +24,16 @@ row_delimits R d n ts ss p q x y a b s t e =
     (ss, refl, b.0, b.1) s t e in
     (k.0, group_parts ts ss k.1)
 
-module _ {S V : Type 0} {left : S → Option (List ℕ)} {able : S → ℕ → Type 0}
+module _ {S V : Type 0} {left : S → Left} {able : S → ℕ → Type 0}
     {may_leave : S → S → Type 0} where
   -- If a list was made of the first n bytes in memory and then n bytes were taken, the list was
   -- read.
-  pub at_hand_read : {R : Tree → Type 0} {I : Tree → V → Type 0} {n : ℕ} {hand u : List ℕ}
-      {old new : S} {vs : List V} → IsDelimited R → AreOfBytes R I (take n hand) vs →
+  pub at_hand_read : {R : Tree → Type 0} {I : Tree → V → Type 0} {H : Error → Type 0} {n : ℕ}
+      {hand u : List ℕ} {old new : S} {vs : List V} → IsDelimited R → AreOfBytes R I (take n hand) vs →
       n ≤ length hand → CanTake left able old hand → length u ≡ n → Takes left able old u new →
       may_leave old new →
-      ReadsFrom SpellsAll (AreRead n R) (EachIs I) ⊤ left able may_leave old (Ok vs) new
-  at_hand_read {R} {I} {n} {hand} {u} {old} {new} {vs} d w le can e t l =
+      ReadsFrom SpellsAll (AreRead n R) (EachIs I) H left able may_leave old (Ok vs) new
+  at_hand_read {R} {I} {H} {n} {hand} {u} {old} {new} {vs} d w le can e t l =
       let f = faces t can in
       let k : length (take n hand) ≡ n = length-take-le n hand le in
       let g : u ++ f.0 ≡ take n hand ++ (drop n hand ++ f.1) =

@@ -10,7 +10,8 @@ use Rattle.postcard_wire.specs.Tree.{Tree, Trees, Byte, NoTrees, Then, count}
 use Rattle.postcard_wire.specs.Spelling.{SpellsAll}
 use Rattle.postcard_wire.specs.Reading.{IsByte, Each}
 use Rattle.postcard_wire.proofs.Delimited.{same_front}
-use Rattle.postcard_de_flavors.specs.Source.{Takes, Laws}
+use Rattle.postcard_shape.specs.Shape.{never}
+use Rattle.postcard_de_flavors.specs.Source.{Left, Takes, Laws}
 use Rattle.postcard_de_nodes.specs.Reads.{IsReadError, ReadsFrom}
 use Rattle.postcard_de_nodes.specs.Refuses.{RefusesFrom, WantsText}
 use Rattle.postcard_de_nodes.specs.Unfit.{BadBytes}
@@ -48,12 +49,12 @@ spelled_are (Then t ts) r a (p, q, s, k, e) =
     let all : r ≡ a.0.0 ∷ q = e ∙ ap (λ (l : List ℕ). l ++ q) one in
     rw all (ap suc m.0, (a.0.1, m.1))
 
-module _ {S : Type 0} {left : S → Option (List ℕ)} {able : S → ℕ → Type 0}
+module _ {S : Type 0} {left : S → Left} {able : S → ℕ → Type 0}
     {may_leave : S → S → Type 0} (laws : Laws left able may_leave) where
   -- If n bytes were taken, n trees of bytes were read.
   pub bytes_read : {n : ℕ} {old new : S} {u : List ℕ} → length u ≡ n →
       ((k : ℕ) → get_or u k 0 < 256) → Takes left able old u new → may_leave old new →
-      ReadsFrom SpellsAll (AreRead n IsByte) (EachIs ByteIs) ⊥ left able may_leave old (Ok u) new
+      ReadsFrom SpellsAll (AreRead n IsByte) (EachIs ByteIs) never left able may_leave old (Ok u) new
   bytes_read {n} {old} {new} {u} e h t l = let k = trees_are u h in record {
     gives = record {
       thing = bytes_trees u;
@@ -77,19 +78,19 @@ module _ {S : Type 0} {left : S → Option (List ℕ)} {able : S → ℕ → Typ
 
   -- If n bytes can't be taken, reading n trees of bytes fails.
   pub bytes_end : {n : ℕ} {old new : S} {e : Error} → (able old n → ⊥) → may_leave old new →
-      e ≡ DeserializeUnexpectedEnd → ReadsFrom SpellsAll (AreRead n IsByte) (EachIs ByteIs) ⊥ left
+      e ≡ DeserializeUnexpectedEnd → ReadsFrom SpellsAll (AreRead n IsByte) (EachIs ByteIs) never left
       able may_leave old (refusal (List ℕ) e) new
   bytes_end {n} lacks l is = record {
     gives = tt;
     accepts = λ ts p a s c. let m = spelled_are ts p a.1 s in let long : length p ≡ n =
         sym m.0 ∙ a.0 in absurd (lacks (rw long at c.enough));
     leaves = l;
-    named_error = subst (IsReadError ⊥) (sym is) tt;
+    named_error = subst (IsReadError never) (sym is) tt;
   }
 
-module _ {S : Type 0} {left : S → Option (List ℕ)} {able : S → ℕ → Type 0}
+module _ {S : Type 0} {left : S → Left} {able : S → ℕ → Type 0}
     {may_leave : S → S → Type 0} (laws : Laws left able may_leave) {n : ℕ} {old mid : S}
-    (counted : ReadsFrom (SpellsNum 64) (Below 64) Same ⊥ left able may_leave old (Ok n) mid) where
+    (counted : ReadsFrom (SpellsNum 64) (Below 64) Same never left able may_leave old (Ok n) mid) where
   -- If the bytes were taken and there is no memory for a copy, that is a reason to fail with
   -- `OutOfMemory`.
   pub bytes_full : {u : List ℕ} {new : S} → length u ≡ n → Takes left able mid u new →

@@ -13,7 +13,8 @@ use Rattle.postcard_wire.specs.Reading.{IsChar}
 use Rattle.postcard_wire.proofs.Delimited.{num_front, char_delimited, same_front}
 use Rattle.postcard_wire.proofs.Refused.{longer, none_spelled}
 use Rattle.std.proofs.lemmas.List.{append_cancel_left}
-use Rattle.postcard_de_flavors.specs.Source.{Takes, Laws}
+use Rattle.postcard_shape.specs.Shape.{never}
+use Rattle.postcard_de_flavors.specs.Source.{Left, Takes, Laws}
 use Rattle.postcard_de_nodes.specs.Reads.{IsReadError, ReadsFrom}
 use Rattle.postcard_de_nodes.specs.Refuses.{RefusesFrom, WantsDigit, BadNumber}
 use Rattle.postcard_de_nodes.specs.Unfit.{WantsChar, BadChar}
@@ -66,20 +67,20 @@ char_none x p q f y z (inr (is, inr (a, u, spelled, i, few, none))) r s e =
     absurd (none r.0 (subst (BeginsWithChar r.0) (sym (same ∙ j.3)) t.1))
 
 -- The error for a bad front is one that a reading call may return.
-char_named : (p : List ℕ) (e : Error) → BadChar p e → IsReadError ⊥ e
-char_named p e (inl bad) = subst (IsReadError ⊥) (sym bad.0) tt
-char_named p e (inr bad) = subst (IsReadError ⊥) (sym bad.0) tt
+char_named : (p : List ℕ) (e : Error) → BadChar p e → IsReadError never e
+char_named p e (inl bad) = subst (IsReadError never) (sym bad.0) tt
+char_named p e (inr bad) = subst (IsReadError never) (sym bad.0) tt
 
 -- The reasons to fail to read a character exclude a character at the front.
-char_excludes : Excludes ⊥ WantsChar BadChar Spells IsChar
+char_excludes : Excludes never WantsChar BadChar Spells IsChar
 char_excludes = record { within = char_within; none = char_none; named = char_named }
 
-module _ {S : Type 0} {left : S → Option (List ℕ)} {able : S → ℕ → Type 0}
+module _ {S : Type 0} {left : S → Left} {able : S → ℕ → Type 0}
     {may_leave : S → S → Type 0} (laws : Laws left able may_leave) where
   -- A call with a reason to fail to read a character may return its error.
   pub char_refused : {V : Type 0} {value : Tree → V → Type 0} {old new : S} {e : Error} →
       RefusesFrom WantsChar BadChar left able old e new → may_leave old new →
-      ReadsFrom Spells IsChar value ⊥ left able may_leave old (refusal V e) new
+      ReadsFrom Spells IsChar value never left able may_leave old (refusal V e) new
   char_refused why l = refused laws char_excludes why l
 
   -- If reading the length fails, reading the character fails with that error.
@@ -88,9 +89,9 @@ module _ {S : Type 0} {left : S → Option (List ℕ)} {able : S → ℕ → Typ
       RefusesFrom WantsChar BadChar left able old e new
   char_length_refused why = widened (λ p n w. inl w) (λ p b. inl b) why
 
-module _ {S : Type 0} {left : S → Option (List ℕ)} {able : S → ℕ → Type 0}
+module _ {S : Type 0} {left : S → Left} {able : S → ℕ → Type 0}
     {may_leave : S → S → Type 0} (laws : Laws left able may_leave) {n : ℕ} {old mid : S}
-    (counted : ReadsFrom (SpellsNum 64) (Below 64) Same ⊥ left able may_leave old (Ok n) mid) where
+    (counted : ReadsFrom (SpellsNum 64) (Below 64) Same never left able may_leave old (Ok n) mid) where
   -- A length above 4 is a reason to fail with `DeserializeBadChar`.
   pub char_too_long : 4 < n → RefusesFrom WantsChar BadChar left able old DeserializeBadChar mid
   char_too_long high = inr (record {
@@ -133,7 +134,7 @@ module _ {S : Type 0} {left : S → Option (List ℕ)} {able : S → ℕ → Typ
 
     -- If they begin with c, the call may return c.
     pub char_read : {c : ℕ} → BeginsWithChar c u → IsScalar c → may_leave mid new →
-        ReadsFrom Spells IsChar (λ t v. t ≡ Char v) ⊥ left able may_leave old (Ok c) new
+        ReadsFrom Spells IsChar (λ t v. t ≡ Char v) never left able may_leave old (Ok c) new
     char_read {c} begins scalar l =
         found char_delimited (Char c) (counted.gives.front ++ u) c (c, refl, scalar)
         (u, begins, (counted.gives.front, u, char_spelled, refl, refl)) refl

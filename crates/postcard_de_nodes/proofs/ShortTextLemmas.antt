@@ -6,7 +6,8 @@ use Rattle.postcard_wire.specs.declared.error.Error.TheVariants.{SerdeDeCustom}
 use Rattle.postcard_wire.specs.Number.{SpellsNum}
 use Rattle.postcard_wire.specs.Tree.{Tree, Text}
 use Rattle.postcard_wire.specs.Reading.{IsText}
-use Rattle.postcard_de_flavors.specs.Source.{Takes, Laws}
+use Rattle.postcard_shape.specs.Shape.{never}
+use Rattle.postcard_de_flavors.specs.Source.{Left, Takes, Laws}
 use Rattle.postcard_de_nodes.specs.Reads.{ReadsFrom}
 use Rattle.postcard_de_nodes.specs.Refuses.{RefusesFrom, WantsText}
 use Rattle.postcard_de_nodes.specs.Unfit.{BadShortText}
@@ -27,9 +28,9 @@ pub long_unfit : (n : ℕ) (u : List ℕ) → (length u ≤ n → ⊥) → (x : 
 long_unfit n u many x r is =
     many (subst (λ (v : List ℕ). length v ≤ n) (text_same r.0 u (sym r.1 ∙ is)) r.2)
 
-module _ {S : Type 0} {left : S → Option (List ℕ)} {able : S → ℕ → Type 0}
+module _ {S : Type 0} {left : S → Left} {able : S → ℕ → Type 0}
     {may_leave : S → S → Type 0} (laws : Laws left able may_leave) {n : ℕ} {old mid : S}
-    (counted : ReadsFrom (SpellsNum 64) (Below 64) Same ⊥ left able may_leave old (Ok n) mid) where
+    (counted : ReadsFrom (SpellsNum 64) (Below 64) Same never left able may_leave old (Ok n) mid) where
   -- A text that is longer than the capacity is a reason to fail with `SerdeDeCustom`.
   pub text_long : {m : ℕ} {u : List ℕ} {new : S} → length u ≡ n → Takes left able mid u new →
       IsUtf8 u → m < length u →

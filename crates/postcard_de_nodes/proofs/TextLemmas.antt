@@ -13,7 +13,8 @@ use Rattle.postcard_wire.specs.Reading.{IsText}
 use Rattle.postcard_wire.proofs.Delimited.{num_front, text_delimited, same_front}
 use Rattle.postcard_wire.proofs.Refused.{longer, none_spelled}
 use Rattle.std.proofs.lemmas.List.{append_cancel_left}
-use Rattle.postcard_de_flavors.specs.Source.{Takes, Laws}
+use Rattle.postcard_shape.specs.Shape.{never}
+use Rattle.postcard_de_flavors.specs.Source.{Left, Takes, Laws}
 use Rattle.postcard_de_nodes.specs.Reads.{IsReadError, ReadsFrom}
 use Rattle.postcard_de_nodes.specs.Refuses.{RefusesFrom, WantsDigit, BadNumber, WantsText, BadText}
 use Rattle.postcard_shape.specs.Values.{Same}
@@ -58,20 +59,25 @@ text_none G x p q f y z (inr (a, u, spelled, j, inl why)) r s e =
     absurd (why.1 (subst IsUtf8 (sym (same ∙ t.3)) r.2))
 
 -- The error for a bad front is one that a reading call may return.
-text_named : (G : Type 0) (p : List ℕ) (e : Error) → BadText G p e → IsReadError G e
+text_named : (G : Error → Type 0) (p : List ℕ) (e : Error) → BadText (G OutOfMemory) p e
+    → IsReadError G e
 text_named G p e (inl bad) = subst (IsReadError G) (sym bad.0) tt
 text_named G p e (inr (a, u, spelled, j, inl why)) = subst (IsReadError G) (sym why.0) tt
 text_named G p e (inr (a, u, spelled, j, inr why)) = subst (IsReadError G) (sym why.0) why.2
 
 -- The reasons to fail to read a text exclude a text at the front, unless memory ran out.
-pub text_excludes : (G : Type 0) → Excludes G WantsText (BadText G) Spells IsText
-text_excludes G = record { within = text_within; none = text_none G; named = text_named G }
+pub text_excludes : (G : Error → Type 0) → Excludes G WantsText (BadText (G OutOfMemory)) Spells IsText
+text_excludes G = record {
+  within = text_within;
+  none = text_none (G OutOfMemory);
+  named = text_named G;
+}
 
-module _ {S : Type 0} {left : S → Option (List ℕ)} {able : S → ℕ → Type 0}
+module _ {S : Type 0} {left : S → Left} {able : S → ℕ → Type 0}
     {may_leave : S → S → Type 0} (laws : Laws left able may_leave) where
   -- A call with a reason to fail to read a text may return its error.
-  pub text_refused : {V : Type 0} {value : Tree → V → Type 0} {G : Type 0} {old new : S} {e : Error}
-      → RefusesFrom WantsText (BadText G) left able old e new → may_leave old new →
+  pub text_refused : {V : Type 0} {value : Tree → V → Type 0} {G : Error → Type 0} {old new : S}
+      {e : Error} → RefusesFrom WantsText (BadText (G OutOfMemory)) left able old e new → may_leave old new →
       ReadsFrom Spells IsText value G left able may_leave old (refusal V e) new
   text_refused {G = G} why l = refused laws (text_excludes G) why l
 
@@ -81,9 +87,9 @@ module _ {S : Type 0} {left : S → Option (List ℕ)} {able : S → ℕ → Typ
       RefusesFrom WantsText (BadText G) left able old e new
   length_refused why = widened (λ p n w. inl w) (λ p b. inl b) why
 
-module _ {S : Type 0} {left : S → Option (List ℕ)} {able : S → ℕ → Type 0}
+module _ {S : Type 0} {left : S → Left} {able : S → ℕ → Type 0}
     {may_leave : S → S → Type 0} (laws : Laws left able may_leave) {n : ℕ} {old mid : S}
-    (counted : ReadsFrom (SpellsNum 64) (Below 64) Same ⊥ left able may_leave old (Ok n) mid) where
+    (counted : ReadsFrom (SpellsNum 64) (Below 64) Same never left able may_leave old (Ok n) mid) where
   -- If the bytes after the length can't be taken, that is a reason to fail.
   pub text_ends : {G : Type 0} {new : S} {e : Error} → (able mid n → ⊥) →
       e ≡ DeserializeUnexpectedEnd → RefusesFrom WantsText (BadText G) left able old e new
@@ -122,7 +128,7 @@ module _ {S : Type 0} {left : S → Option (List ℕ)} {able : S → ℕ → Typ
     })
 
     -- If they are UTF-8, the call may return them.
-    pub text_read : {V : Type 0} {G : Type 0} (see : V → List ℕ) (v : V) → see v ≡ u → IsUtf8 u →
+    pub text_read : {V : Type 0} {G : Error → Type 0} (see : V → List ℕ) (v : V) → see v ≡ u → IsUtf8 u →
         may_leave mid new → ReadsFrom Spells IsText (λ t v. t ≡ Text (see v)) G left able may_leave
         old (Ok v) new
     text_read see v e utf8 l =

@@ -8,7 +8,8 @@ use Rattle.postcard_wire.specs.Digits.{HasRead}
 use Rattle.postcard_wire.specs.Number.{SpellsNum}
 use Rattle.postcard_wire.proofs.Delimited.{num_front}
 use Rattle.postcard_wire.proofs.Refused.{longer, none_spelled}
-use Rattle.postcard_de_flavors.specs.Source.{Takes, Laws}
+use Rattle.postcard_shape.specs.Shape.{never}
+use Rattle.postcard_de_flavors.specs.Source.{Left, Takes, Laws}
 use Rattle.postcard_de_nodes.specs.Reads.{IsReadError, ReadsFrom}
 use Rattle.postcard_de_nodes.specs.Refuses.{RefusesFrom, WantsDigit, BadNumber}
 use Rattle.postcard_shape.specs.Values.{Same}
@@ -21,22 +22,22 @@ number_delimited : (w : ℕ) → Delimits (SpellsNum w) (Below w)
 number_delimited w n m p q x y a b s r e = num_front w n m p q x y s r e
 
 -- The reasons to fail to read a number exclude a number at the front.
-pub number_excludes : (w : ℕ) → Excludes ⊥ (WantsDigit w) (BadNumber w) (SpellsNum w) (Below w)
+pub number_excludes : (w : ℕ) → Excludes never (WantsDigit w) (BadNumber w) (SpellsNum w) (Below w)
 number_excludes w = record {
   within = λ x p q n y z wanted r s e. omega (arith, longer p q y z wanted.0 s.digits e, wanted.2);
   none = λ x p q f y z bad r s e. absurd (none_spelled w x p q y z bad.1 s r e);
-  named = λ p e bad. subst (IsReadError ⊥) (sym bad.0) tt;
+  named = λ p e bad. subst (IsReadError never) (sym bad.0) tt;
 }
 
 -- The state within the loop: the digits so far were taken.
-pub record Within {S : Type 0} (w : ℕ) (left : S → Option (List ℕ)) (able : S → ℕ → Type 0)
+pub record Within {S : Type 0} (w : ℕ) (left : S → Left) (able : S → ℕ → Type 0)
     (may_leave : S → S → Type 0) (old : S) (digits : Digits) (now : S) : Type 0 where
   pub front : List ℕ
   pub read : HasRead w front digits
   pub taken : Takes left able old front now
   pub leaves : may_leave old now
 
-module _ {S : Type 0} {left : S → Option (List ℕ)} {able : S → ℕ → Type 0}
+module _ {S : Type 0} {left : S → Left} {able : S → ℕ → Type 0}
     {may_leave : S → S → Type 0} (laws : Laws left able may_leave) where
   -- Before the loop, no digit was taken.
   pub begun : (w : ℕ) (digits : Digits) (old : S) → HasRead w [] digits →
@@ -48,7 +49,7 @@ module _ {S : Type 0} {left : S → Option (List ℕ)} {able : S → ℕ → Typ
   pub number_read : {w : ℕ} {digits : Digits} {old now new : S} {b n : ℕ} →
       (so : Within w left able may_leave old digits now) → Takes left able now (b ∷ []) new →
       may_leave now new → SpellsNum w n (so.front ++ b ∷ []) → n < 2 ^ w →
-      ReadsFrom (SpellsNum w) (Below w) Same ⊥ left able may_leave old (Ok n) new
+      ReadsFrom (SpellsNum w) (Below w) Same never left able may_leave old (Ok n) new
   number_read {w} {old = old} {now = now} {new = new} {b = b} {n = n} so t l s low =
       found (number_delimited w) n (so.front ++ b ∷ []) n low s refl (both_taken so.taken t)
       (laws.joins old now new so.leaves l)
@@ -80,6 +81,6 @@ module _ {S : Type 0} {left : S → Option (List ℕ)} {able : S → ℕ → Typ
   -- A call with a reason to fail to read a number may return its error.
   pub number_refused : {w : ℕ} {old new : S} {e : Error} →
       RefusesFrom (WantsDigit w) (BadNumber w) left able old e new → may_leave old new →
-      {V : Type 0} {value : ℕ → V → Type 0} → ReadsFrom (SpellsNum w) (Below w) value ⊥ left able
+      {V : Type 0} {value : ℕ → V → Type 0} → ReadsFrom (SpellsNum w) (Below w) value never left able
       may_leave old (refusal V e) new
   number_refused {w} why l = refused laws (number_excludes w) why l

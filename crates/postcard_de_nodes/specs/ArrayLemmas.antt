@@ -5,12 +5,13 @@ use Rattle.postcard_wire.specs.Tree.{Tree, Group}
 use Rattle.postcard_wire.specs.Spelling.{Spells, SpellsAll}
 use Rattle.postcard_wire.specs.Reading.{IsGroup, IsArray}
 use Rattle.postcard_shape.specs.Values.{EachIs, AreRead}
+use Rattle.postcard_de_flavors.specs.Source.{Left}
 use Rattle.postcard_de_nodes.specs.Reads.{ReadsFrom}
 use Rattle.postcard_de_nodes.specs.ReadLemmas.{refusal}
 
-module _ {S V : Type 0} {left : S → Option (List ℕ)} {able : S → ℕ → Type 0}
+module _ {S V : Type 0} {left : S → Left} {able : S → ℕ → Type 0}
     {may_leave : S → S → Type 0} {R : Tree → Type 0}
-    {I : Tree → V → Type 0} {H : Type 0} where
+    {I : Tree → V → Type 0} {H : Error → Type 0} where
   -- If all elements of an array were read, the array was read.
   pub array_read : {n : ℕ} {old new : S} {vs : List V} →
       ReadsFrom SpellsAll (AreRead n R) (EachIs I) H left able may_leave old (Ok vs) new →

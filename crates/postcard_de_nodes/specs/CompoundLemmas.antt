@@ -2,7 +2,7 @@
 -- of both.
 use Rattle.std.proofs.Common.{◌≡◌, ℕ, List, ◌++◌, Option, Ok, sym, subst}
 use Rattle.postcard_wire.specs.declared.error.Error.{Error}
-use Rattle.postcard_de_flavors.specs.Source.{Takes, Laws}
+use Rattle.postcard_de_flavors.specs.Source.{Left, Takes, Laws}
 use Rattle.postcard_de_nodes.specs.Reads.{ReadsFrom}
 use Rattle.postcard_de_nodes.specs.ErrorLemmas.{wider}
 use Rattle.postcard_de_nodes.specs.TakeLemmas.{both_taken, can_first, can_second}
@@ -20,13 +20,13 @@ pub record Compound {X Y Z V : Type 0} (make : X → Y → Z) (P : X → List �
       (x : X) × (y : Y) × (p : List ℕ) × (q : List ℕ) × (make x y ≡ z) × R x × P x p × Q y q
       × (r ≡ p ++ q) × ((v : V) → I x v → S v y)
 
-module _ {F : Type 0} {left : F → Option (List ℕ)} {able : F → ℕ → Type 0}
+module _ {F : Type 0} {left : F → Left} {able : F → ℕ → Type 0}
     {may_leave : F → F → Type 0} (laws : Laws left able may_leave) {X Y Z V A : Type 0}
     {P : X → List ℕ → Type 0} {R : X → Type 0} {I : X → V → Type 0} {Q : Y → List ℕ → Type 0}
     {S : V → Y → Type 0} {P' : Z → List ℕ → Type 0} {R' : Z → Type 0} {K : Z → A → Type 0}
-    {G H : Type 0} {make : X → Y → Z} (both : Compound make P R I Q S P' R') where
+    {G H : Error → Type 0} {make : X → Y → Z} (both : Compound make P R I Q S P' R') where
   -- If reading the first fails, reading the whole fails with its error.
-  pub first_refused : {old new : F} {e : Error} → (G → H) →
+  pub first_refused : {old new : F} {e : Error} → ((e : Error) → G e → H e) →
       ReadsFrom P R I G left able may_leave old (refusal V e) new →
       ReadsFrom P' R' K H left able may_leave old (refusal A e) new
   first_refused {e = f} grow s = record {
@@ -38,8 +38,8 @@ module _ {F : Type 0} {left : F → Option (List ℕ)} {able : F → ℕ → Typ
   }
 
   -- If the first was read and reading the second fails, reading the whole fails with that error.
-  pub second_refused : {W : Type 0} {J : Y → W → Type 0} {G' : Type 0} {old mid new : F} {v : V}
-      {e : Error} → (G' → H) → ReadsFrom P R I G left able may_leave old (Ok v) mid →
+  pub second_refused : {W : Type 0} {J : Y → W → Type 0} {G' : Error → Type 0} {old mid new : F} {v : V}
+      {e : Error} → ((e : Error) → G' e → H e) → ReadsFrom P R I G left able may_leave old (Ok v) mid →
       ReadsFrom Q (S v) J G' left able may_leave mid (refusal W e) new →
       ReadsFrom P' R' K H left able may_leave old (refusal A e) new
   second_refused {old = old} {mid = mid} {new = new} {v = v} {e = f} grow s t = record {
@@ -54,7 +54,7 @@ module _ {F : Type 0} {left : F → Option (List ℕ)} {able : F → ℕ → Typ
   }
 
   -- If both were read, the whole was read.
-  pub both_read : {W : Type 0} {J : Y → W → Type 0} {G' : Type 0} {old mid new : F} {v : V} {w : W}
+  pub both_read : {W : Type 0} {J : Y → W → Type 0} {G' : Error → Type 0} {old mid new : F} {v : V} {w : W}
       {a : A} → ((x : X) (y : Y) → I x v → J y w → K (make x y) a) →
       ReadsFrom P R I G left able may_leave old (Ok v) mid →
       ReadsFrom Q (S v) J G' left able may_leave mid (Ok w) new →

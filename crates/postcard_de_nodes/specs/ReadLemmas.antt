@@ -5,7 +5,7 @@ use Rattle.std.proofs.Common.{Result, IsErrAnd, refl, sym, ap, subst}
 use Rattle.postcard_wire.specs.declared.error.Error.{Error}
 use Rattle.postcard_wire.specs.declared.error.Error.TheVariants.{OutOfMemory}
 use Rattle.postcard_wire.specs.declared.error.Error.TheVariants.{DeserializeUnexpectedEnd}
-use Rattle.postcard_de_flavors.specs.Source.{CanTake, Takes, Laws}
+use Rattle.postcard_de_flavors.specs.Source.{Left, CanTake, Takes, Laws}
 use Rattle.postcard_de_nodes.specs.Reads.{IsReadError, ReadsFrom}
 use Rattle.postcard_de_nodes.specs.Refuses.{RefusesFrom}
 use Rattle.postcard_de_nodes.specs.TakeLemmas.{faces}
@@ -28,16 +28,16 @@ Delimits {X} spelled reads = (t s : X) (p q x y : List ℕ) → reads t → read
 -- The reasons for a failure exclude a front that is read: more bytes are wanted only within such a
 -- front; bad bytes begin no such front, unless an allocation failed; and their error is one that a
 -- reading call may return.
-pub record Excludes {X : Type 0} (grows : Type 0) (wants : List ℕ → ℕ → Type 0)
+pub record Excludes {X : Type 0} (other : Error → Type 0) (wants : List ℕ → ℕ → Type 0)
     (bad : List ℕ → Error → Type 0) (spelled : X → List ℕ → Type 0) (reads : X → Type 0) : Type 0
   where
     pub within : (x : X) (p q : List ℕ) (n : ℕ) (y z : List ℕ) → wants p n → reads x → spelled x q →
         p ++ y ≡ q ++ z → length p + n ≤ length q
     pub none : (x : X) (p q : List ℕ) (e : Error) (y z : List ℕ) → bad p e → reads x → spelled x q →
         p ++ y ≡ q ++ z → e ≡ OutOfMemory
-    pub named : (p : List ℕ) (e : Error) → bad p e → IsReadError grows e
+    pub named : (p : List ℕ) (e : Error) → bad p e → IsReadError other e
 
-module _ {S : Type 0} {left : S → Option (List ℕ)} {able : S → ℕ → Type 0} where
+module _ {S : Type 0} {left : S → Left} {able : S → ℕ → Type 0} where
   -- A reason for a failure may be weakened.
   pub widened : {wants wants' : List ℕ → ℕ → Type 0} {bad bad' : List ℕ → Error → Type 0}
       {old new : S} {e : Error} → ((p : List ℕ) (n : ℕ) → wants p n → wants' p n) →
@@ -75,14 +75,14 @@ module _ {S : Type 0} {left : S → Option (List ℕ)} {able : S → ℕ → Typ
         },
       )
 
-module _ {S : Type 0} {left : S → Option (List ℕ)} {able : S → ℕ → Type 0}
+module _ {S : Type 0} {left : S → Left} {able : S → ℕ → Type 0}
     {may_leave : S → S → Type 0} where
   -- If a front was taken that spells a thing that is read, the call may return that thing's value.
   pub found : {X V : Type 0} {spelled : X → List ℕ → Type 0} {reads : X → Type 0}
-      {value : X → V → Type 0} {grows : Type 0} {old new : S} →
+      {value : X → V → Type 0} {other : Error → Type 0} {old new : S} →
       Delimits spelled reads → (x : X) (p : List ℕ) (v : V) → reads x → spelled x p → value x v →
       Takes left able old p new → may_leave old new →
-      ReadsFrom spelled reads value grows left able may_leave old (Ok v) new
+      ReadsFrom spelled reads value other left able may_leave old (Ok v) new
   found {value = value} {old = old} {new = new} law x p v r s h t l = record {
     gives = record { thing = x; front = p; is_read = r; is_spelled = s; has = h; taken = t };
     accepts = λ y q a b c.
@@ -94,9 +94,9 @@ module _ {S : Type 0} {left : S → Option (List ℕ)} {able : S → ℕ → Typ
   }
 
   -- If there is a reason for a failure, no front can be taken and read, unless memory ran out.
-  no_front : {X : Type 0} {spelled : X → List ℕ → Type 0} {reads : X → Type 0} {grows : Type 0}
+  no_front : {X : Type 0} {spelled : X → List ℕ → Type 0} {reads : X → Type 0} {other : Error → Type 0}
       {wants : List ℕ → ℕ → Type 0} {bad : List ℕ → Error → Type 0} {old new : S} {e : Error} →
-      Laws left able may_leave → Excludes grows wants bad spelled reads →
+      Laws left able may_leave → Excludes other wants bad spelled reads →
       RefusesFrom wants bad left able old e new → (x : X) (q : List ℕ) → reads x → spelled x q →
       CanTake left able old q → e ≡ OutOfMemory
   no_front {old = old} laws excludes (inl (is_end, ends)) x q r s c =
@@ -110,12 +110,12 @@ module _ {S : Type 0} {left : S → Option (List ℕ)} {able : S → ℕ → Typ
 
   -- A call with a reason for a failure may return its error.
   pub refused : {X V : Type 0} {spelled : X → List ℕ → Type 0} {reads : X → Type 0}
-      {value : X → V → Type 0} {grows : Type 0} {wants : List ℕ → ℕ → Type 0}
+      {value : X → V → Type 0} {other : Error → Type 0} {wants : List ℕ → ℕ → Type 0}
       {bad : List ℕ → Error → Type 0} {old new : S} {e : Error} →
-      Laws left able may_leave → Excludes grows wants bad spelled reads →
+      Laws left able may_leave → Excludes other wants bad spelled reads →
       RefusesFrom wants bad left able old e new → may_leave old new →
-      ReadsFrom spelled reads value grows left able may_leave old (refusal V e) new
-  refused {grows = grows} {wants = wants} {bad = bad} {old = old} {new = new} {e = e} laws excludes
+      ReadsFrom spelled reads value other left able may_leave old (refusal V e) new
+  refused {other = other} {wants = wants} {bad = bad} {old = old} {new = new} {e = e} laws excludes
       why l = record {
         gives = tt;
         accepts = no_front laws excludes why;
@@ -123,12 +123,12 @@ module _ {S : Type 0} {left : S → Option (List ℕ)} {able : S → ℕ → Typ
         named_error = named why;
       }
     where
-      named : RefusesFrom wants bad left able old e new → IsReadError grows e
-      named (inl (is, ends)) = subst (IsReadError grows) (sym is) tt
+      named : RefusesFrom wants bad left able old e new → IsReadError other e
+      named (inl (is, ends)) = subst (IsReadError other) (sym is) tt
       named (inr b) = excludes.named b.front e b.why
 
   -- A call may return `OutOfMemory` if the type grows.
   pub out_of_memory : {X V : Type 0} {spelled : X → List ℕ → Type 0} {reads : X → Type 0}
-      {value : X → V → Type 0} {grows : Type 0} {old new : S} → may_leave old new → grows →
-      ReadsFrom spelled reads value grows left able may_leave old (refusal V OutOfMemory) new
+      {value : X → V → Type 0} {other : Error → Type 0} {old new : S} → may_leave old new → other OutOfMemory →
+      ReadsFrom spelled reads value other left able may_leave old (refusal V OutOfMemory) new
   out_of_memory l h = record { gives = tt; accepts = λ x p a b c. refl; leaves = l; named_error = h }

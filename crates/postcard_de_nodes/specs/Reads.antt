@@ -2,36 +2,37 @@
 -- number alone.
 use Rattle.std.specs.Prelude.{◌≡◌, ℕ, List, Option, Result, IfOk, IfErr, MatchResult, ⊤}
 use Rattle.postcard_wire.specs.declared.error.Error.{Error}
-use Rattle.postcard_wire.specs.declared.error.Error.TheVariants.{WontImplement}
 use Rattle.postcard_wire.specs.declared.error.Error.TheVariants.{DeserializeUnexpectedEnd}
 use Rattle.postcard_wire.specs.declared.error.Error.TheVariants.{DeserializeBadVarint}
 use Rattle.postcard_wire.specs.declared.error.Error.TheVariants.{DeserializeBadBool}
 use Rattle.postcard_wire.specs.declared.error.Error.TheVariants.{DeserializeBadChar}
 use Rattle.postcard_wire.specs.declared.error.Error.TheVariants.{DeserializeBadUtf8}
 use Rattle.postcard_wire.specs.declared.error.Error.TheVariants.{DeserializeBadOption}
+use Rattle.postcard_wire.specs.declared.error.Error.TheVariants.{DeserializeBadEncoding}
+use Rattle.postcard_wire.specs.declared.error.Error.TheVariants.{DeserializeBadCrc}
 use Rattle.postcard_wire.specs.declared.error.Error.TheVariants.{SerdeDeCustom, OutOfMemory}
-use Rattle.postcard_de_flavors.specs.Source.{CanTake, Takes}
+use Rattle.postcard_de_flavors.specs.Source.{Left, CanTake, Takes}
 use Rattle.postcard_de_flavors.specs.declared.flavor.Flavor.{Ghosts}
 
 -- The errors that a reading call may return (behaviour of postcard 1.1.3): the bytes end, a node is
--- bad, a type refuses what was read, the call isn't supported; and memory runs out, if the type
--- grows.
-abbrev pub IsReadError : Type 0 → Error → Type 0
-IsReadError grows WontImplement = ⊤
-IsReadError grows DeserializeUnexpectedEnd = ⊤
-IsReadError grows DeserializeBadVarint = ⊤
-IsReadError grows DeserializeBadBool = ⊤
-IsReadError grows DeserializeBadChar = ⊤
-IsReadError grows DeserializeBadUtf8 = ⊤
-IsReadError grows DeserializeBadOption = ⊤
-IsReadError grows SerdeDeCustom = ⊤
-IsReadError grows OutOfMemory = grows
-IsReadError grows _ = ⊥
+-- bad, a type refuses what was read; and what else the type answers, as `OutOfMemory` if it grows.
+-- The errors of a bad frame and of a bad checksum are never among them.
+abbrev pub IsReadError : (Error → Type 0) → Error → Type 0
+IsReadError other DeserializeUnexpectedEnd = ⊤
+IsReadError other DeserializeBadVarint = ⊤
+IsReadError other DeserializeBadBool = ⊤
+IsReadError other DeserializeBadChar = ⊤
+IsReadError other DeserializeBadUtf8 = ⊤
+IsReadError other DeserializeBadOption = ⊤
+IsReadError other SerdeDeCustom = ⊤
+IsReadError other DeserializeBadEncoding = ⊥
+IsReadError other DeserializeBadCrc = ⊥
+IsReadError other e = other e
 
 -- A thing is read for which `claim` holds, and its spelling was taken from the front. The value
 -- itself doesn't occur, so two values with the same `claim` are treated alike.
 pub record Gives {X S : Type 0} (spelled : X → List ℕ → Type 0) (reads claim : X → Type 0)
-    (left : S → Option (List ℕ)) (able : S → ℕ → Type 0) (old new : S) : Type 0 where
+    (left : S → Left) (able : S → ℕ → Type 0) (old new : S) : Type 0 where
   pub thing : X
   pub front : List ℕ
   pub is_read : reads thing
@@ -48,18 +49,18 @@ pub record Gives {X S : Type 0} (spelled : X → List ℕ → Type 0) (reads cla
 -- it leaves a state that takes may leave, and an error that it returns is one that a reading call
 -- may return.
 pub record ReadsFrom {X S V : Type 0} (spelled : X → List ℕ → Type 0) (reads : X → Type 0)
-    (value : X → V → Type 0) (grows : Type 0) (left : S → Option (List ℕ))
+    (value : X → V → Type 0) (other : Error → Type 0) (left : S → Left)
     (able : S → ℕ → Type 0) (may_leave : S → S → Type 0) (old : S) (result : Result V Error)
     (new : S) : Type 0 where
   pub gives : IfOk result (λ v. Gives spelled reads (λ x. value x v) left able old new)
   pub accepts : (x : X) (p : List ℕ) → reads x → spelled x p → CanTake left able old p →
       MatchResult result (λ v. value x v × Takes left able old p new) (λ e. e ≡ OutOfMemory)
   pub leaves : may_leave old new
-  pub named_error : IfErr result (IsReadError grows)
+  pub named_error : IfErr result (IsReadError other)
 
 -- A reading call over a source of a flavor with the ghosts F, from its state `old` to `new`: what
 -- `ReadsFrom` says.
 abbrev pub Reads : {S M O X V : Type 0} → Ghosts S M O → (X → List ℕ → Type 0) → (X → Type 0) →
-    (X → V → Type 0) → Type 0 → S → Result V Error → S → Type 0
-Reads F spelled reads value grows old result new =
-    ReadsFrom spelled reads value grows F.left F.able F.may_leave old result new
+    (X → V → Type 0) → (Error → Type 0) → S → Result V Error → S → Type 0
+Reads F spelled reads value other old result new =
+    ReadsFrom spelled reads value other F.left F.able F.may_leave old result new

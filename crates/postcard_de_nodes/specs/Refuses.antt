@@ -7,11 +7,11 @@ use Rattle.postcard_wire.specs.declared.error.Error.TheVariants.{DeserializeUnex
 use Rattle.postcard_wire.specs.declared.error.Error.TheVariants.{DeserializeBadVarint}
 use Rattle.postcard_wire.specs.declared.error.Error.TheVariants.{DeserializeBadUtf8, OutOfMemory}
 use Rattle.postcard_wire.specs.Number.{max_digits, GoesOn, SpellsNum, SpellsNone}
-use Rattle.postcard_de_flavors.specs.Source.{Takes}
+use Rattle.postcard_de_flavors.specs.Source.{Left, Takes}
 use Rattle.postcard_de_flavors.specs.declared.flavor.Flavor.{Ghosts}
 
 -- A front was taken after which n more bytes are wanted, and the source isn't able to give them.
-pub record Ends {S : Type 0} (wants : List ℕ → ℕ → Type 0) (left : S → Option (List ℕ))
+pub record Ends {S : Type 0} (wants : List ℕ → ℕ → Type 0) (left : S → Left)
     (able : S → ℕ → Type 0) (old : S) : Type 0 where
   pub front : List ℕ
   pub after_front : S
@@ -21,7 +21,7 @@ pub record Ends {S : Type 0} (wants : List ℕ → ℕ → Type 0) (left : S →
   pub lacks : able after_front count → ⊥
 
 -- A front was taken that is refused with the error e.
-pub record IsBad {S : Type 0} (bad : List ℕ → Error → Type 0) (left : S → Option (List ℕ))
+pub record IsBad {S : Type 0} (bad : List ℕ → Error → Type 0) (left : S → Left)
     (able : S → ℕ → Type 0) (old : S) (e : Error) (new : S) : Type 0 where
   pub front : List ℕ
   pub taken : Takes left able old front new
@@ -30,7 +30,7 @@ pub record IsBad {S : Type 0} (bad : List ℕ → Error → Type 0) (left : S �
 -- A call over a source that has `left s` left and is `able s n` to give n bytes fails with the
 -- error e: the bytes end although more are wanted, or a front was taken that is bad.
 abbrev pub RefusesFrom : {S : Type 0} → (List ℕ → ℕ → Type 0) → (List ℕ → Error → Type 0) →
-    (S → Option (List ℕ)) → (S → ℕ → Type 0) → S → Error → S → Type 0
+    (S → Left) → (S → ℕ → Type 0) → S → Error → S → Type 0
 RefusesFrom wants bad left able old e new =
     ((e ≡ DeserializeUnexpectedEnd) × Ends wants left able old) ⊎ IsBad bad left able old e new
 

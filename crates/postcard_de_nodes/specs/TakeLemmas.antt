@@ -3,7 +3,8 @@ use Rattle.std.proofs.Common.{◌≡◌, ℕ, ◌+◌, List, [], ◌++◌, lengt
 use Rattle.std.proofs.Common.{◌∙◌, ap, arith, append_assoc, length-append}
 use Rattle.std.proofs.lemmas.List.{append_cancel_left}
 use Rattle.std.specs.Io.KnownBytes.{Consumes}
-use Rattle.postcard_de_flavors.specs.Source.{Begins, CanTake, Takes, Laws}
+use Rattle.postcard_de_flavors.proofs.Rear.{rear_same, rear_joined}
+use Rattle.postcard_de_flavors.specs.Source.{Left, Begins, CanTake, Takes, Laws}
 
 -- Consuming x and then y is consuming x ++ y.
 consumes_joined : (a b c : Option (List ℕ)) (x y : List ℕ) → Consumes a b x → Consumes b c y →
@@ -39,11 +40,12 @@ facing None b p q c d = absurd d
 facing (Some xs) None p q c d = absurd c
 facing (Some xs) (Some ys) p q c d = (ys, d.0, sym c ∙ d.1)
 
-module _ {S : Type 0} {left : S → Option (List ℕ)} {able : S → ℕ → Type 0} where
+module _ {S : Type 0} {left : S → Left} {able : S → ℕ → Type 0} where
   -- Taking no bytes leaves the source as it is.
   pub nothing_taken : (s : S) → Takes left able s [] s
   nothing_taken s = record {
-    drops = consumes_none (left s);
+    drops = consumes_none (left s).bytes;
+    scratch = rear_same 0 (left s).scratch;
     keeps = λ n h. let e : 0 + n ≡ n = omega arith in rw e at h;
   }
 
@@ -51,7 +53,8 @@ module _ {S : Type 0} {left : S → Option (List ℕ)} {able : S → ℕ → Typ
   pub both_taken : {s t u : S} {x y : List ℕ} → Takes left able s x t → Takes left able t y u →
       Takes left able s (x ++ y) u
   both_taken {s} {t} {u} {x} {y} a b = record {
-    drops = consumes_joined (left s) (left t) (left u) x y a.drops b.drops;
+    drops = consumes_joined (left s).bytes (left t).bytes (left u).bytes x y a.drops b.drops;
+    scratch = rw length-append (rear_joined a.scratch b.scratch);
     keeps = λ n h. b.keeps n (a.keeps (length y + n)
         (let e : length (x ++ y) + n ≡ length x + (length y + n) =
         omega (arith, length-append x y) in rw e at h));
@@ -60,13 +63,13 @@ module _ {S : Type 0} {left : S → Option (List ℕ)} {able : S → ℕ → Typ
   -- A front that was taken and one that can be taken are fronts of one list.
   pub faces : {s t : S} {p q : List ℕ} → Takes left able s p t → CanTake left able s q →
       (x : List ℕ) × (y : List ℕ) × (p ++ x ≡ q ++ y)
-  faces {s} {t} {p} {q} a c = facing (left s) (left t) p q a.drops c.begins
+  faces {s} {t} {p} {q} a c = facing (left s).bytes (left t).bytes p q a.drops c.begins
 
   -- If x ++ y can be taken, x can be.
   pub can_first : {may_leave : S → S → Type 0} → Laws left able may_leave → {s : S} (x y : List ℕ) →
       CanTake left able s (x ++ y) → CanTake left able s x
   can_first laws {s} x y c = record {
-    begins = begins_front (left s) x y c.begins;
+    begins = begins_front (left s).bytes x y c.begins;
     enough = laws.fewer s (length x) (length (x ++ y)) (omega (arith, length-append x y)) c.enough;
   }
 
@@ -74,6 +77,6 @@ module _ {S : Type 0} {left : S → Option (List ℕ)} {able : S → ℕ → Typ
   pub can_second : {s t : S} (x y : List ℕ) → CanTake left able s (x ++ y) → Takes left able s x t →
       CanTake left able t y
   can_second {s} {t} x y c a = record {
-    begins = begins_rest (left s) (left t) x y c.begins a.drops;
+    begins = begins_rest (left s).bytes (left t).bytes x y c.begins a.drops;
     enough = a.keeps (length y) (rw length-append at c.enough);
   }

@@ -52,9 +52,28 @@ BadBytes p e = BadNumber 64 p e ⊎ ((e ≡ OutOfMemory)
 
 -- The byte 1 was taken, and reading the content after it fails with the error e.
 abbrev pub ContentRefuses : {S M O V : Type 0} → Ghosts S M O → (Tree → Type 0) →
-    (Tree → V → Type 0) → Type 0 → S → Error → S → Type 0
-ContentRefuses {S} F reads value grows old e new = (mid : S) × Takes F.left F.able old (1 ∷ []) mid
-    × Reads F Spells reads value grows mid (Err e) new
+    (Tree → V → Type 0) → (Error → Type 0) → S → Error → S → Type 0
+ContentRefuses {S} F reads value other old e new = (mid : S) × Takes F.left F.able old (1 ∷ []) mid
+    × Reads F Spells reads value other mid (Err e) new
+
+-- The byte 0 was taken, by a type without 0.
+abbrev pub ZeroByte : List ℕ → Error → Type 0
+ZeroByte p e = (e ≡ SerdeDeCustom) × (p ≡ 0 ∷ [])
+
+-- The bytes are no number of w bits, or they are the number 0, by a type without 0.
+abbrev pub ZeroNumber : ℕ → List ℕ → Error → Type 0
+ZeroNumber w p e = BadNumber w p e ⊎ ((e ≡ SerdeDeCustom) × SpellsNum w 0 p)
+
+-- The bytes are no index, or they are the index i of no variant, since there are only n.
+abbrev pub BadIndex : ℕ → List ℕ → Error → Type 0
+BadIndex n p e = BadNumber 32 p e ⊎ ((e ≡ SerdeDeCustom)
+    × ((i : ℕ) × SpellsNum 32 i p × (i < 2 ^ 32) × (n ≤ i)))
+
+-- The index i of a variant was taken, and reading the content after it fails with the error e.
+abbrev pub VariantRefuses : {S M O V : Type 0} → Ghosts S M O → ℕ → (Tree → Type 0) →
+    (Tree → V → Type 0) → (Error → Type 0) → S → Error → S → Type 0
+VariantRefuses {S} F i reads value other old e new = (p : List ℕ) × SpellsNum 32 i p × ((mid : S)
+    × Takes F.left F.able old p mid × Reads F Spells reads value other mid (Err e) new)
 
 -- A text of more than n bytes was taken.
 abbrev pub LongText : ℕ → List ℕ → Type 0

@@ -1,10 +1,11 @@
 //! Byte strings: a length and the bytes, lent or copied.
 
-ghost use Rattle.std.specs.Prelude.{◌≡◌, ℕ, ◌<◌, IfErr, slice_index, ⊤};
+ghost use Rattle.std.specs.Prelude.{◌≡◌, ℕ, ◌<◌, IfErr, slice_index};
 ghost use Rattle.postcard_wire.specs.Tree.{Byte};
 ghost use Rattle.postcard_wire.specs.Spelling.{Spells};
 ghost use Rattle.postcard_wire.specs.Reading.{IsByte, IsSeq};
 ghost use Rattle.postcard_shape.specs.Values.{ListIs};
+ghost use Rattle.postcard_shape.specs.Shape.{never, memory};
 ghost use Rattle.postcard_de_nodes.specs.Reads.{Reads};
 ghost use Rattle.postcard_de_nodes.specs.Refuses.{Refuses, BadNumber, WantsText};
 ghost use Rattle.postcard_de_nodes.specs.Unfit.{BadBytes};
@@ -33,7 +34,7 @@ pub fn bytes<'de, F: Flavor>(flavor: &mut F) -> Result<&'de [u8]>
 where
     F: 'de,
     ensures reads { Reads F.Flavor Spells (IsSeq IsByte)
-        (λ t v. ListIs (λ s b. s ≡ Byte b) t v.now) ⊥
+        (λ t v. ListIs (λ s b. s ≡ Byte b) t v.now) never
         flavor.old result flavor.new }
     ensures refused { IfErr result (λ e. Refuses F.Flavor WantsText (BadNumber 64)
         flavor.old e flavor.new) }
@@ -53,7 +54,7 @@ where
 /// taken then.
 pub fn bytes_copy<F: Flavor>(alloc: Global, flavor: &mut F) -> Result<Vec<u8>>
     ensures reads { Reads F.Flavor Spells (IsSeq IsByte)
-        (λ t v. ListIs (λ s b. s ≡ Byte b) t v.items) ⊤
+        (λ t v. ListIs (λ s b. s ≡ Byte b) t v.items) memory
         flavor.old result flavor.new }
     ensures refused { IfErr result (λ e. Refuses F.Flavor WantsText BadBytes
         flavor.old e flavor.new) }

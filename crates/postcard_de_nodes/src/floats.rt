@@ -7,6 +7,7 @@ ghost use Rattle.postcard_wire.specs.Spelling.{Spells};
 ghost use Rattle.postcard_wire.specs.Reading.{IsArray, IsByte, IsGroup};
 ghost use Rattle.postcard_shape.specs.Floats.{IsFloat};
 ghost use Rattle.postcard_shape.specs.Values.{EachIs};
+ghost use Rattle.postcard_shape.specs.Shape.{never};
 ghost use Rattle.postcard_de_nodes.specs.Reads.{Reads};
 ghost use Rattle.postcard_de_nodes.specs.Refuses.{Refuses, NoneBad, WantsBytes};
 
@@ -22,7 +23,7 @@ use std::num::{f32_from_bits_with_nan, f64_from_bits_with_nan};
 /// Fails with `DeserializeUnexpectedEnd` if the source can't give that many bytes.
 pub fn byte_array<F: Flavor, const N: usize>(flavor: &mut F) -> Result<[u8; N]>
     ensures reads { Reads F.Flavor Spells (IsArray N IsByte)
-        (λ t v. IsGroup (λ ts. EachIs (λ s b. s ≡ Byte b) ts v) t) ⊥
+        (λ t v. IsGroup (λ ts. EachIs (λ s b. s ≡ Byte b) ts v) t) never
         flavor.old result flavor.new }
     ensures refused { IfErr result (λ e. Refuses F.Flavor (WantsBytes N) NoneBad
         flavor.old e flavor.new) }
@@ -41,7 +42,7 @@ pub fn byte_array<F: Flavor, const N: usize>(flavor: &mut F) -> Result<[u8; N]>
 ///
 /// Fails with `DeserializeUnexpectedEnd` if the source can't give 4 bytes.
 pub fn float_32<F: Flavor>(flavor: &mut F) -> Result<f32>
-    ensures reads { Reads F.Flavor Spells (IsArray 4 IsByte) (IsFloat binary32) ⊥
+    ensures reads { Reads F.Flavor Spells (IsArray 4 IsByte) (IsFloat binary32) never
         flavor.old result flavor.new }
     ensures refused { IfErr result (λ e. Refuses F.Flavor (WantsBytes 4) NoneBad
         flavor.old e flavor.new) }
@@ -57,7 +58,7 @@ pub fn float_32<F: Flavor>(flavor: &mut F) -> Result<f32>
 ///
 /// Fails with `DeserializeUnexpectedEnd` if the source can't give 8 bytes.
 pub fn float_64<F: Flavor>(flavor: &mut F) -> Result<f64>
-    ensures reads { Reads F.Flavor Spells (IsArray 8 IsByte) (IsFloat binary64) ⊥
+    ensures reads { Reads F.Flavor Spells (IsArray 8 IsByte) (IsFloat binary64) never
         flavor.old result flavor.new }
     ensures refused { IfErr result (λ e. Refuses F.Flavor (WantsBytes 8) NoneBad
         flavor.old e flavor.new) }

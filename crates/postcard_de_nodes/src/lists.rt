@@ -1,9 +1,10 @@
 //! Lists whose elements are one byte each and in memory: read at once.
 
-ghost use Rattle.std.specs.Prelude.{◌≡◌, IfErr, IfOk, IfSome, Ok, ⊤};
+ghost use Rattle.std.specs.Prelude.{◌≡◌, IfErr, IfOk, IfSome, Ok};
 ghost use Rattle.std.specs.Option.{IfNone};
 ghost use Rattle.postcard_wire.specs.Spelling.{SpellsAll};
 ghost use Rattle.postcard_shape.specs.Values.{AreRead, EachIs};
+ghost use Rattle.postcard_shape.specs.Shape.{or_memory};
 ghost use Rattle.postcard_de_nodes.specs.Reads.{Reads};
 
 use postcard_de_flavors::Flavor;
@@ -24,7 +25,7 @@ pub fn list_at_hand<T: Shaped + Drop, F: Flavor>(
     count: usize,
 ) -> Result<Option<Vec<T>>>
     ensures reads { IfOk result (λ list. IfSome list (λ v. Reads F.Flavor SpellsAll
-        (AreRead count T.shape.reads) (EachIs T.shape.value) ⊤
+        (AreRead count T.shape.reads) (EachIs T.shape.value) (or_memory T.shape.other)
         flavor.old (Ok v.items) flavor.new)) }
     ensures unchanged_if_none { IfOk result (λ list. IfNone list (flavor.new ≡ flavor.old)) }
     ensures refused { IfErr result (λ e. (e ≡ Error.OutOfMemory) × (flavor.new ≡ flavor.old)) }

@@ -4,6 +4,7 @@ ghost use Rattle.std.specs.Prelude.{◌<◌, ◌^◌, IfErr};
 ghost use Rattle.postcard_wire.specs.Tree.{IsWidth};
 ghost use Rattle.postcard_wire.specs.Number.{SpellsNum};
 ghost use Rattle.postcard_shape.specs.Values.{Same};
+ghost use Rattle.postcard_shape.specs.Shape.{never};
 ghost use Rattle.postcard_de_nodes.specs.Reads.{Reads};
 ghost use Rattle.postcard_de_nodes.specs.Refuses.{Refuses, WantsDigit, BadNumber};
 
@@ -22,7 +23,7 @@ use postcard_wire::{Error, Result};
 #[inline(always)]
 pub fn number<F: Flavor>(flavor: &mut F, bits: u32) -> Result<u128>
     requires { IsWidth bits }
-    ensures reads { Reads F.Flavor (SpellsNum bits) (λ n. n < 2 ^ bits) Same ⊥
+    ensures reads { Reads F.Flavor (SpellsNum bits) (λ n. n < 2 ^ bits) Same never
         flavor.old result flavor.new }
     ensures refused { IfErr result (λ e. Refuses F.Flavor (WantsDigit bits) (BadNumber bits)
         flavor.old e flavor.new) }
@@ -48,7 +49,7 @@ pub fn number<F: Flavor>(flavor: &mut F, bits: u32) -> Result<u128>
 /// Fails as [`number`] of 64 bits.
 #[inline(always)]
 pub fn count<F: Flavor>(flavor: &mut F) -> Result<usize>
-    ensures reads { Reads F.Flavor (SpellsNum 64) (λ n. n < 2 ^ 64) Same ⊥
+    ensures reads { Reads F.Flavor (SpellsNum 64) (λ n. n < 2 ^ 64) Same never
         flavor.old result flavor.new }
     ensures refused { IfErr result (λ e. Refuses F.Flavor (WantsDigit 64) (BadNumber 64)
         flavor.old e flavor.new) }

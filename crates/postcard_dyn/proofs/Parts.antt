@@ -1,6 +1,6 @@
 -- Lemmas on values that are read part by part: a count, elements, the parts of a group, an option.
 use Rattle.std.proofs.Common.{◌≡◌, ℕ, suc, ◌<◌, length, List, [], ◌∷◌, ◌++◌, map, Option, Ok, Err, Result, IsErrAnd, refl, sym, ◌∙◌, ap, ap₂, subst, arith, inl, inr, append_assoc, append-nil}
-use Rattle.std.specs.Prelude.{⊤, Vec}
+use Rattle.std.specs.Prelude.{Vec}
 use Rattle.std.specs.declared.alloc.Global.{Global}
 use Rattle.postcard_wire.specs.declared.error.Error.{Error}
 use Rattle.postcard_wire.specs.declared.error.Error.TheVariants.{OutOfMemory}
@@ -9,11 +9,12 @@ use Rattle.postcard_wire.specs.Tree.{Tree, Trees, Byte, Num, Absent, Seq, Group,
 use Rattle.postcard_wire.specs.Tree as nodes
 use Rattle.postcard_wire.specs.Spelling.{Spells, SpellsAll}
 use Rattle.postcard_wire.specs.Reading.{IsByte, IsNum, IsOption, IsGroup, IsArray, Each}
-use Rattle.postcard_de_flavors.specs.Source.{CanTake, Takes, Laws}
+use Rattle.postcard_de_flavors.specs.Source.{Left, CanTake, Takes, Laws}
 use Rattle.postcard_de.specs.Reads.{ReadsFrom}
 use Rattle.postcard_shape.specs.Base256.{AreBytes, little, low_first, low_counts, low_bytes, low_worth, low_one}
 use Rattle.postcard_fixint.specs.Fixed.{IsFixed, unsigned}
 use Rattle.postcard_shape.specs.Values.{Same, EachIs, ListIs, AreRead}
+use Rattle.postcard_shape.specs.Shape.{never, memory}
 use Rattle.postcard_de.proofs.Lists.{prefixed}
 use Rattle.postcard_de.proofs.Parts.{part_and_rest}
 use Rattle.postcard_de_nodes.specs.CompoundLemmas.{first_refused, second_refused, both_read}
@@ -75,9 +76,9 @@ bits_are k n t (ts, is, many, r) (bs, (us, was, h), worth, fits) =
 num_same : (w n m : ℕ) → Num w n ≡ Num w m → n ≡ m
 num_same w n m e = cc
 
-module _ {S : Type 0} {left : S → Option (List ℕ)} {able : S → ℕ → Type 0} {may_leave : S → S → Type 0} where
+module _ {S : Type 0} {left : S → Left} {able : S → ℕ → Type 0} {may_leave : S → S → Type 0} where
   -- Reading a number of 64 bits reads a count.
-  pub as_count : {old new : S} {n : ℕ} → ReadsFrom Spells (IsNum 64) (λ t v. t ≡ Num 64 v) ⊥ left able may_leave old (Ok n) new → ReadsFrom (SpellsNum 64) (Below 64) Same ⊥ left able may_leave old (Ok n) new
+  pub as_count : {old new : S} {n : ℕ} → ReadsFrom Spells (IsNum 64) (λ t v. t ≡ Num 64 v) never left able may_leave old (Ok n) new → ReadsFrom (SpellsNum 64) (Below 64) Same never left able may_leave old (Ok n) new
   as_count {n = n} r = let g = r.gives in record {
     gives = record { thing = g.is_read.0; front = g.front; is_read = g.is_read.2; is_spelled = rw g.is_read.1 at g.is_spelled; has = num_same 64 g.is_read.0 n (sym g.is_read.1 ∙ g.has); taken = g.taken };
     accepts = λ m p a b c. let k = r.accepts (Num 64 m) p (m, refl, a) b c in (num_same 64 m n k.0, k.1);
@@ -86,7 +87,7 @@ module _ {S : Type 0} {left : S → Option (List ℕ)} {able : S → ℕ → Typ
   }
 
   -- If reading a number of 64 bits fails, reading a count fails.
-  pub no_count : {W : Type 0} {I : Tree → W → Type 0} {old new : S} {e : Error} → ReadsFrom Spells (IsNum 64) I ⊥ left able may_leave old (refusal W e) new → ReadsFrom (SpellsNum 64) (Below 64) Same ⊥ left able may_leave old (refusal ℕ e) new
+  pub no_count : {W : Type 0} {I : Tree → W → Type 0} {old new : S} {e : Error} → ReadsFrom Spells (IsNum 64) I never left able may_leave old (refusal W e) new → ReadsFrom (SpellsNum 64) (Below 64) Same never left able may_leave old (refusal ℕ e) new
   no_count r = record {
     gives = tt;
     accepts = λ m p a b c. r.accepts (Num 64 m) p (m, refl, a) b c;
@@ -96,22 +97,22 @@ module _ {S : Type 0} {left : S → Option (List ℕ)} {able : S → ℕ → Typ
 
   -- Elements that are read into a vector are read as its list.
   pub as_list : {R : Tree → Type 0} {n : ℕ} {old new : S} {v : Vec Value Global} →
-      ReadsFrom SpellsAll (AreRead n R) AreTrees ⊤ left able may_leave old (Ok v) new → ReadsFrom SpellsAll (AreRead n R) (EachIs IsTree) ⊤ left able may_leave old (Ok v.items) new
+      ReadsFrom SpellsAll (AreRead n R) AreTrees memory left able may_leave old (Ok v) new → ReadsFrom SpellsAll (AreRead n R) (EachIs IsTree) memory left able may_leave old (Ok v.items) new
   as_list r = recast (λ x h. h) r
 
   -- If elements are refused for a vector, they are refused as a list.
   pub no_list : {R : Tree → Type 0} {n : ℕ} {old new : S} {e : Error} →
-      ReadsFrom SpellsAll (AreRead n R) AreTrees ⊤ left able may_leave old (refusal (Vec Value Global) e) new → ReadsFrom SpellsAll (AreRead n R) (EachIs IsTree) ⊤ left able may_leave old (refusal (List Value) e) new
-  no_list r = refused_too (λ x a. a) (λ h. h) r
+      ReadsFrom SpellsAll (AreRead n R) AreTrees memory left able may_leave old (refusal (Vec Value Global) e) new → ReadsFrom SpellsAll (AreRead n R) (EachIs IsTree) memory left able may_leave old (refusal (List Value) e) new
+  no_list r = refused_too (λ x a. a) (λ x h. h) r
 
   -- If memory runs out, reading fails with the error that `?` passes on.
   pub no_memory : {X V : Type 0} {P : X → List ℕ → Type 0} {R : X → Type 0} {I : X → V → Type 0} {old new : S} {r : Result V Error} {e : Error} →
-      IsErrAnd r (λ x. x ≡ e) → e ≡ OutOfMemory → may_leave old new → ReadsFrom P R I ⊤ left able may_leave old r new
+      IsErrAnd r (λ x. x ≡ e) → e ≡ OutOfMemory → may_leave old new → ReadsFrom P R I memory left able may_leave old r new
   no_memory {r = r} {e = e} h full l = rw (is_refusal r e h, full) (out_of_memory l tt)
 
   -- Reading the elements of an array reads the array.
   pub array_read : {R : Tree → Type 0} {n : ℕ} {old new : S} {vs : List Value} (v : Value) → tree v ≡ Group (trees (map tree vs)) →
-      ReadsFrom SpellsAll (AreRead n R) (EachIs IsTree) ⊤ left able may_leave old (Ok vs) new → ReadsFrom Spells (IsArray n R) IsTree ⊤ left able may_leave old (Ok v) new
+      ReadsFrom SpellsAll (AreRead n R) (EachIs IsTree) memory left able may_leave old (Ok vs) new → ReadsFrom Spells (IsArray n R) IsTree memory left able may_leave old (Ok v) new
   array_read {vs = vs} v seen r = let g = r.gives in record {
     gives = record { thing = Group g.thing; front = g.front; is_read = (g.thing, refl, g.is_read.0, g.is_read.1); is_spelled = g.is_spelled; has = ap Group (each_tree g.thing vs g.has) ∙ sym seen; taken = g.taken };
     accepts = λ t p a b c. let k = r.accepts a.0 p (a.2, a.3) (rw a.1 at b) c in (a.1 ∙ (ap Group (each_tree a.0 vs k.0) ∙ sym seen), k.1);
@@ -121,7 +122,7 @@ module _ {S : Type 0} {left : S → Option (List ℕ)} {able : S → ℕ → Typ
 
   -- If an element is refused, the array is refused.
   pub array_refused : {R : Tree → Type 0} {n : ℕ} {old new : S} {e : Error} →
-      ReadsFrom SpellsAll (AreRead n R) (EachIs IsTree) ⊤ left able may_leave old (refusal (List Value) e) new → ReadsFrom Spells (IsArray n R) IsTree ⊤ left able may_leave old (refusal Value e) new
+      ReadsFrom SpellsAll (AreRead n R) (EachIs IsTree) memory left able may_leave old (refusal (List Value) e) new → ReadsFrom Spells (IsArray n R) IsTree memory left able may_leave old (refusal Value e) new
   array_refused r = record {
     gives = tt;
     accepts = λ t p a b c. r.accepts a.0 p (a.2, a.3) (rw a.1 at b) c;
@@ -130,40 +131,40 @@ module _ {S : Type 0} {left : S → Option (List ℕ)} {able : S → ℕ → Typ
   }
 
 -- The result of reading the parts that are left is the result of reading all parts.
-pub record GoingParts {S : Type 0} (left : S → Option (List ℕ)) (able : S → ℕ → Type 0) (may_leave : S → S → Type 0) (start : S) (all : MessageTypes) (items : List Value) (now : S) (rest : MessageTypes) : Type 0 where
-  pub ends : (r : Result (List Value) Error) (new : S) → ReadsFrom SpellsAll (reads_all rest) (EachIs IsTree) ⊤ left able may_leave now r new → ReadsFrom SpellsAll (reads_all all) (EachIs IsTree) ⊤ left able may_leave start (prefixed items r) new
+pub record GoingParts {S : Type 0} (left : S → Left) (able : S → ℕ → Type 0) (may_leave : S → S → Type 0) (start : S) (all : MessageTypes) (items : List Value) (now : S) (rest : MessageTypes) : Type 0 where
+  pub ends : (r : Result (List Value) Error) (new : S) → ReadsFrom SpellsAll (reads_all rest) (EachIs IsTree) memory left able may_leave now r new → ReadsFrom SpellsAll (reads_all all) (EachIs IsTree) memory left able may_leave start (prefixed items r) new
 
-module _ {S : Type 0} {left : S → Option (List ℕ)} {able : S → ℕ → Type 0} {may_leave : S → S → Type 0} (laws : Laws left able may_leave) where
+module _ {S : Type 0} {left : S → Left} {able : S → ℕ → Type 0} {may_leave : S → S → Type 0} (laws : Laws left able may_leave) where
   -- It holds before the first part is read.
   pub parts_begin : {start : S} {all : MessageTypes} → GoingParts left able may_leave start all [] start all
   parts_begin {start} {all} = record { ends = ends }
     where
-      ends : (r : Result (List Value) Error) (new : S) → ReadsFrom SpellsAll (reads_all all) (EachIs IsTree) ⊤ left able may_leave start r new → ReadsFrom SpellsAll (reads_all all) (EachIs IsTree) ⊤ left able may_leave start (prefixed [] r) new
+      ends : (r : Result (List Value) Error) (new : S) → ReadsFrom SpellsAll (reads_all all) (EachIs IsTree) memory left able may_leave start r new → ReadsFrom SpellsAll (reads_all all) (EachIs IsTree) memory left able may_leave start (prefixed [] r) new
       ends (Ok vs) new h = h
       ends (Err e) new h = h
 
   -- It holds after one more part is read.
   pub part_read : {start now mid : S} {all : MessageTypes} {t : MessageType} {rest : MessageTypes} {items : List Value} {v : Value} → GoingParts left able may_leave start all items now (then_type t rest) →
-      ReadsFrom Spells (reads t) IsTree ⊤ left able may_leave now (Ok v) mid → GoingParts left able may_leave start all (items ++ v ∷ []) mid rest
+      ReadsFrom Spells (reads t) IsTree memory left able may_leave now (Ok v) mid → GoingParts left able may_leave start all (items ++ v ∷ []) mid rest
   part_read {start = start} {mid = mid} {all = all} {t = t} {rest = rest} {items = items} {v = v} so h = record { ends = ends }
     where
-      ends : (r : Result (List Value) Error) (new : S) → ReadsFrom SpellsAll (reads_all rest) (EachIs IsTree) ⊤ left able may_leave mid r new → ReadsFrom SpellsAll (reads_all all) (EachIs IsTree) ⊤ left able may_leave start (prefixed (items ++ v ∷ []) r) new
+      ends : (r : Result (List Value) Error) (new : S) → ReadsFrom SpellsAll (reads_all rest) (EachIs IsTree) memory left able may_leave mid r new → ReadsFrom SpellsAll (reads_all all) (EachIs IsTree) memory left able may_leave start (prefixed (items ++ v ∷ []) r) new
       ends (Ok vs) new k = rw (append_assoc items (v ∷ []) vs) (so.ends (Ok (v ∷ vs)) new (both_read laws (part_and_rest (reads t) IsTree (reads_all rest)) (λ t ts i j. (i, j)) h k))
-      ends (Err e) new k = so.ends (Err e) new (second_refused laws (part_and_rest (reads t) IsTree (reads_all rest)) (λ g. g) h k)
+      ends (Err e) new k = so.ends (Err e) new (second_refused laws (part_and_rest (reads t) IsTree (reads_all rest)) (λ x g. g) h k)
 
   -- If the next part is refused, reading all parts fails with its error.
   pub part_stops : {start now new : S} {all : MessageTypes} {t : MessageType} {rest : MessageTypes} {items : List Value} {e : Error} → GoingParts left able may_leave start all items now (then_type t rest) →
-      ReadsFrom Spells (reads t) IsTree ⊤ left able may_leave now (refusal Value e) new → ReadsFrom SpellsAll (reads_all all) (EachIs IsTree) ⊤ left able may_leave start (refusal (List Value) e) new
-  part_stops {new = new} {t = t} {rest = rest} {e = e} so h = so.ends (Err e) new (first_refused laws (part_and_rest (reads t) IsTree (reads_all rest)) (λ g. g) h)
+      ReadsFrom Spells (reads t) IsTree memory left able may_leave now (refusal Value e) new → ReadsFrom SpellsAll (reads_all all) (EachIs IsTree) memory left able may_leave start (refusal (List Value) e) new
+  part_stops {new = new} {t = t} {rest = rest} {e = e} so h = so.ends (Err e) new (first_refused laws (part_and_rest (reads t) IsTree (reads_all rest)) (λ x g. g) h)
 
   -- If an allocation fails, reading all parts fails with `OutOfMemory`.
   pub parts_full : {start now new : S} {all rest : MessageTypes} {items : List Value} → GoingParts left able may_leave start all items now rest → may_leave now new →
-      ReadsFrom SpellsAll (reads_all all) (EachIs IsTree) ⊤ left able may_leave start (refusal (List Value) OutOfMemory) new
+      ReadsFrom SpellsAll (reads_all all) (EachIs IsTree) memory left able may_leave start (refusal (List Value) OutOfMemory) new
   parts_full {new = new} so l = so.ends (Err OutOfMemory) new (out_of_memory l tt)
 
   -- If no part is left, all parts are read.
   pub parts_done : {start now : S} {all : MessageTypes} {items : List Value} → GoingParts left able may_leave start all items now no_types →
-      ReadsFrom SpellsAll (reads_all all) (EachIs IsTree) ⊤ left able may_leave start (Ok items) now
+      ReadsFrom SpellsAll (reads_all all) (EachIs IsTree) memory left able may_leave start (Ok items) now
   parts_done {now = now} so = rw append-nil at (so.ends (Ok []) now (record {
     gives = record { thing = NoTrees; front = []; is_read = refl; is_spelled = refl; has = tt; taken = nothing_taken now };
     accepts = λ ts p a b c. (rw a tt, let k : SpellsAll NoTrees p = rw a at b in rw k (nothing_taken now));
@@ -173,7 +174,7 @@ module _ {S : Type 0} {left : S → Option (List ℕ)} {able : S → ℕ → Typ
 
   -- Reading all parts of a group reads the group.
   pub group_read : (ts : MessageTypes) {old new : S} {vs : List Value} (v : Value) → tree v ≡ Group (trees (map tree vs)) →
-      ReadsFrom SpellsAll (reads_all ts) (EachIs IsTree) ⊤ left able may_leave old (Ok vs) new → ReadsFrom Spells (IsGroup (reads_all ts)) IsTree ⊤ left able may_leave old (Ok v) new
+      ReadsFrom SpellsAll (reads_all ts) (EachIs IsTree) memory left able may_leave old (Ok vs) new → ReadsFrom Spells (IsGroup (reads_all ts)) IsTree memory left able may_leave old (Ok v) new
   group_read ts {vs = vs} v seen r = let g = r.gives in record {
     gives = record { thing = Group g.thing; front = g.front; is_read = (g.thing, refl, g.is_read); is_spelled = g.is_spelled; has = ap Group (each_tree g.thing vs g.has) ∙ sym seen; taken = g.taken };
     accepts = λ t p a b c. let k = r.accepts a.0 p a.2 (rw a.1 at b) c in (a.1 ∙ (ap Group (each_tree a.0 vs k.0) ∙ sym seen), k.1);
@@ -183,7 +184,7 @@ module _ {S : Type 0} {left : S → Option (List ℕ)} {able : S → ℕ → Typ
 
   -- If its parts are refused, a group is refused.
   pub group_refused : (ts : MessageTypes) {old new : S} {e : Error} →
-      ReadsFrom SpellsAll (reads_all ts) (EachIs IsTree) ⊤ left able may_leave old (refusal (List Value) e) new → ReadsFrom Spells (IsGroup (reads_all ts)) IsTree ⊤ left able may_leave old (refusal Value e) new
+      ReadsFrom SpellsAll (reads_all ts) (EachIs IsTree) memory left able may_leave old (refusal (List Value) e) new → ReadsFrom Spells (IsGroup (reads_all ts)) IsTree memory left able may_leave old (refusal Value e) new
   group_refused ts r = record {
     gives = tt;
     accepts = λ t p a b c. r.accepts a.0 p a.2 (rw a.1 at b) c;
@@ -194,15 +195,15 @@ module _ {S : Type 0} {left : S → Option (List ℕ)} {able : S → ℕ → Typ
 first_byte : (b c : ℕ) (q y z : List ℕ) → (b ∷ []) ++ y ≡ (c ∷ q) ++ z → b ≡ c
 first_byte b c q y z e = cc
 
-module _ {S : Type 0} {left : S → Option (List ℕ)} {able : S → ℕ → Type 0} {may_leave : S → S → Type 0} where
+module _ {S : Type 0} {left : S → Left} {able : S → ℕ → Type 0} {may_leave : S → S → Type 0} where
   -- If a byte was read and is 1, the byte 1 was taken.
-  pub one_taken : {old mid : S} {b : ℕ} → ReadsFrom Spells IsByte (λ t v. t ≡ Byte v) ⊥ left able may_leave old (Ok b) mid → b ≡ 1 → Takes left able old (1 ∷ []) mid
+  pub one_taken : {old mid : S} {b : ℕ} → ReadsFrom Spells IsByte (λ t v. t ≡ Byte v) never left able may_leave old (Ok b) mid → b ≡ 1 → Takes left able old (1 ∷ []) mid
   one_taken {old = old} {mid = mid} {b = b} r e =
       let g = r.gives in
       let s : Spells (Byte b) g.front = rw g.has at g.is_spelled in
       subst (λ (l : List ℕ). Takes left able old l mid) (s ∙ ap (λ (n : ℕ). n ∷ []) e) g.taken
 
-module _ {S : Type 0} {left : S → Option (List ℕ)} {able : S → ℕ → Type 0} {may_leave : S → S → Type 0} (laws : Laws left able may_leave) {old mid : S} (t : Takes left able old (1 ∷ []) mid) (l : may_leave old mid) where
+module _ {S : Type 0} {left : S → Left} {able : S → ℕ → Type 0} {may_leave : S → S → Type 0} (laws : Laws left able may_leave) {old mid : S} (t : Takes left able old (1 ∷ []) mid) (l : may_leave old mid) where
   -- If the byte 1 was taken, the byte 0 could not have been taken.
   not_absent : (p : List ℕ) → p ≡ 0 ∷ [] → CanTake left able old p → ⊥
   not_absent p k c =
@@ -211,7 +212,7 @@ module _ {S : Type 0} {left : S → Option (List ℕ)} {able : S → ℕ → Typ
       absurd (omega (arith, d))
 
   -- If the byte 1 was taken and the content is refused, the option is refused.
-  pub some_stops : {R : Tree → Type 0} {new : S} {e : Error} → ReadsFrom Spells R IsTree ⊤ left able may_leave mid (refusal Value e) new → ReadsFrom Spells (IsOption R) IsTree ⊤ left able may_leave old (refusal Value e) new
+  pub some_stops : {R : Tree → Type 0} {new : S} {e : Error} → ReadsFrom Spells R IsTree memory left able may_leave mid (refusal Value e) new → ReadsFrom Spells (IsOption R) IsTree memory left able may_leave old (refusal Value e) new
   some_stops {R = R} {new = new} {e = e} r = record {
     gives = tt;
     accepts = accepts;
@@ -227,7 +228,7 @@ module _ {S : Type 0} {left : S → Option (List ℕ)} {able : S → ℕ → Typ
           r.accepts a.0 k.1 a.2 k.3 (can_second (1 ∷ []) k.1 (rw j at c) t)
 
   -- If the byte 1 was taken and the content was read, the option was read.
-  pub some_read : {R : Tree → Type 0} {new : S} {u : Value} (v : Value) → tree v ≡ nodes.Present (tree u) → ReadsFrom Spells R IsTree ⊤ left able may_leave mid (Ok u) new → ReadsFrom Spells (IsOption R) IsTree ⊤ left able may_leave old (Ok v) new
+  pub some_read : {R : Tree → Type 0} {new : S} {u : Value} (v : Value) → tree v ≡ nodes.Present (tree u) → ReadsFrom Spells R IsTree memory left able may_leave mid (Ok u) new → ReadsFrom Spells (IsOption R) IsTree memory left able may_leave old (Ok v) new
   some_read {R = R} {new = new} {u = u} v seen r = let g = r.gives in record {
     gives = record {
       thing = nodes.Present g.thing;

@@ -9,6 +9,7 @@ use Rattle.postcard_wire.specs.Number.{SpellsNum}
 use Rattle.postcard_wire.specs.Tree.{Tree, Trees}
 use Rattle.postcard_wire.specs.Spelling.{Spells, SpellsAll}
 use Rattle.postcard_shape.specs.Values.{AreRead}
+use Rattle.postcard_shape.specs.Shape.{memory}
 use Rattle.postcard_de.specs.Reads.{IsReadError}
 use Rattle.postcard_de.specs.Front.{ReadsFront}
 use Rattle.postcard_dyn_schema.specs.declared.schema.Leaf.{Leaf}
@@ -131,7 +132,7 @@ Adds kind old bytes new rest = (more : List Line) × kind more × (new ≡ old +
 
 -- A walk added lines for all of the bytes, and failed with this error, or it ran out of memory.
 abbrev pub Stops : List Line → List ℕ → List Line → Error → Type 0
-Stops old bytes new e = IsReadError ⊤ e × (e ≢ OutOfMemory → Adds (λ more. ⊤) old bytes new [])
+Stops old bytes new e = IsReadError memory e × (e ≢ OutOfMemory → Adds (λ more. ⊤) old bytes new [])
 
 -- What a walk over the bytes did: it added lines of this kind for a front of the bytes, and returned the bytes after it, or it
 -- stopped.

@@ -1,9 +1,10 @@
 //! Calls for whole messages: decoding from a slice of bytes, and encoding into a flavor.
 
-ghost use Rattle.std.specs.Prelude.{◌≡◌, ℕ, List, ◌++◌, IfOk, IfErr, IsOk, MatchResult, ⊤};
+ghost use Rattle.std.specs.Prelude.{◌≡◌, ℕ, List, ◌++◌, IfOk, IfErr, IsOk, MatchResult};
 ghost use Rattle.postcard_wire.specs.Tree.{Tree};
 ghost use Rattle.postcard_wire.specs.Spelling.{Spells, canonical};
 ghost use Rattle.postcard_ser.specs.Writing.{IsWriteError};
+ghost use Rattle.postcard_shape.specs.Shape.{memory};
 ghost use Rattle.postcard_de.specs.Reads.{IsReadError};
 ghost use Rattle.postcard_de.specs.Front.{ReadsFront};
 ghost use Rattle.postcard_ser.specs.Finished.{Finished};
@@ -45,7 +46,7 @@ pub fn take_from_bytes<'a>(
         → reads (type_of schema.now) (tree v) → bytes.now ≡ canonical (tree v) ++ rest →
         MatchResult result (λ read. (tree v ≡ tree read.0) × (read.1.now ≡ rest))
         (λ e. e ≡ Error.OutOfMemory) }
-    ensures named_error { IfErr result (IsReadError ⊤) }
+    ensures named_error { IfErr result (IsReadError memory) }
 {
     let mut deserializer = Deserializer::from_bytes(bytes);
     let value = read_value(alloc, schema, &mut deserializer)?;

@@ -1,8 +1,9 @@
 //! Which bytes are which part of a value: [`explain`].
 
 ghost use Rattle.std.specs.Prelude.{◌≡◌, ◌≢◌, ◌⊎◌, ℕ, List, [], ◌∷◌, ◌++◌, Box, None};
-ghost use Rattle.std.specs.Prelude.{IfOk, IfErr, IfSome, OnOk, ⊤};
+ghost use Rattle.std.specs.Prelude.{IfOk, IfErr, IfSome, OnOk};
 ghost use Rattle.std.specs.declared.alloc.Global.{Global};
+ghost use Rattle.postcard_shape.specs.Shape.{memory};
 ghost use Rattle.postcard_de.specs.Reads.{IsReadError};
 ghost use Rattle.postcard_dyn_schema.specs.declared.schema.Schema.{Schema};
 ghost use Rattle.postcard_dyn_schema.specs.declared.schema.Schema.TheVariants.{Leaf as AsLeaf};
@@ -134,7 +135,7 @@ pub fn explain<'a>(
     ensures read { IfOk result (λ told. told.refused ≡ None
         → IsExplained schema.now bytes.now told.lines.items) }
     ensures refused { IfOk result (λ told. IfSome told.refused (λ error.
-        HasNoFront schema.now bytes.now × IsReadError ⊤ error × (error ≢ Error.OutOfMemory))) }
+        HasNoFront schema.now bytes.now × IsReadError memory error × (error ≢ Error.OutOfMemory))) }
     ensures named_error { IfErr result
         (λ e. (e ≡ Error.OutOfMemory) ⊎ (e ≡ Error.WontImplement)) }
 {
@@ -212,7 +213,7 @@ fn refuse<'a>(
     bytes: &'a [u8],
     error: Error,
 ) -> Result<&'a [u8]>
-    requires { IsReadError ⊤ error }
+    requires { IsReadError memory error }
     ensures { Walks (λ lines. ⊥)
         walk.old.lines.items bytes.now walk.new.lines.items result }
 {

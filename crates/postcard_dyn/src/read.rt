@@ -1,9 +1,10 @@
 //! Reading a value of a schema from a source: [`read_value`].
 
-ghost use Rattle.std.specs.Prelude.{◌≡◌, ◌++◌, ◌∷◌, [], IfOk, IfErr, OnOk, ⊤};
+ghost use Rattle.std.specs.Prelude.{◌≡◌, ◌++◌, ◌∷◌, [], IfOk, IfErr, OnOk};
 ghost use Rattle.postcard_wire.specs.Spelling.{Spells, SpellsAll};
 ghost use Rattle.postcard_wire.specs.Reading.{IsOption, IsSeq, IsArray, IsGroup, IsVariant};
 ghost use Rattle.postcard_shape.specs.Values.{AreRead};
+ghost use Rattle.postcard_shape.specs.Shape.{memory};
 ghost use Rattle.postcard_de.specs.Reads.{Reads};
 ghost use Rattle.postcard_de.specs.Deserializer.{source_of};
 ghost use Rattle.postcard_dyn_schema.specs.Meaning.{type_of, types_of, reads, reads_all, reads_at};
@@ -32,7 +33,7 @@ pub fn read_value<'de, F: Flavor>(
     schema: &Schema,
     d: &mut Deserializer<'de, F>,
 ) -> Result<Value>
-    ensures { Reads F.Flavor Spells (reads (type_of schema.now)) IsTree ⊤
+    ensures { Reads F.Flavor Spells (reads (type_of schema.now)) IsTree memory
         (source_of d.old) result (source_of d.new) }
 {
     match schema {
@@ -54,7 +55,7 @@ fn read_option<'de, F: Flavor>(
     content: &Schema,
     d: &mut Deserializer<'de, F>,
 ) -> Result<Value>
-    ensures { Reads F.Flavor Spells (IsOption (reads (type_of content.now))) IsTree ⊤
+    ensures { Reads F.Flavor Spells (IsOption (reads (type_of content.now))) IsTree memory
         (source_of d.old) result (source_of d.new) }
 {
     match d.deserialize_u8()? {
@@ -75,7 +76,7 @@ fn read_list<'de, F: Flavor>(
     element: &Schema,
     d: &mut Deserializer<'de, F>,
 ) -> Result<Value>
-    ensures { Reads F.Flavor Spells (IsSeq (reads (type_of element.now))) IsTree ⊤
+    ensures { Reads F.Flavor Spells (IsSeq (reads (type_of element.now))) IsTree memory
         (source_of d.old) result (source_of d.new) }
 {
     let count = d.deserialize_u64()?;
@@ -91,7 +92,7 @@ fn read_array<'de, F: Flavor>(
     count: usize,
     d: &mut Deserializer<'de, F>,
 ) -> Result<Value>
-    ensures { Reads F.Flavor Spells (IsArray count (reads (type_of element.now))) IsTree ⊤
+    ensures { Reads F.Flavor Spells (IsArray count (reads (type_of element.now))) IsTree memory
         (source_of d.old) result (source_of d.new) }
 {
     let items = read_elements(alloc, element, count as u64, d)?;
@@ -106,7 +107,7 @@ fn read_elements<'de, F: Flavor>(
     count: u64,
     d: &mut Deserializer<'de, F>,
 ) -> Result<Vec<Value>>
-    ensures { Reads F.Flavor SpellsAll (AreRead count (reads (type_of element.now))) AreTrees ⊤
+    ensures { Reads F.Flavor SpellsAll (AreRead count (reads (type_of element.now))) AreTrees memory
         (source_of d.old) result (source_of d.new) }
 {
     let mut items = Vec::new(alloc);
@@ -124,7 +125,7 @@ fn read_group<'de, F: Flavor>(
     parts: &Vec<Schema>,
     d: &mut Deserializer<'de, F>,
 ) -> Result<Value>
-    ensures { Reads F.Flavor Spells (IsGroup (reads_all (types_of parts.now.items))) IsTree ⊤
+    ensures { Reads F.Flavor Spells (IsGroup (reads_all (types_of parts.now.items))) IsTree memory
         (source_of d.old) result (source_of d.new) }
 {
     let mut items = Vec::new(alloc);
@@ -142,7 +143,7 @@ fn read_variant<'de, F: Flavor>(
     variants: &Vec<Schema>,
     d: &mut Deserializer<'de, F>,
 ) -> Result<Value>
-    ensures { Reads F.Flavor Spells (IsVariant (reads_at (types_of variants.now.items))) IsTree ⊤
+    ensures { Reads F.Flavor Spells (IsVariant (reads_at (types_of variants.now.items))) IsTree memory
         (source_of d.old) result (source_of d.new) }
 {
     let index = d.deserialize_enum("", &[])?;
@@ -182,7 +183,7 @@ fn read_leaf<'de, F: Flavor>(
     leaf: Leaf,
     d: &mut Deserializer<'de, F>,
 ) -> Result<Value>
-    ensures { Reads F.Flavor Spells (leaf_reads leaf) IsTree ⊤
+    ensures { Reads F.Flavor Spells (leaf_reads leaf) IsTree memory
         (source_of d.old) result (source_of d.new) }
 {
     match leaf {

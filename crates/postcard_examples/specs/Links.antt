@@ -4,7 +4,7 @@ use Rattle.std.proofs.Common.{refl, inl}
 use Rattle.postcard_wire.specs.Tree.{Absent}
 use Rattle.postcard_wire.specs.declared.error.Error.TheVariants.{SerdeSerCustom}
 use Rattle.postcard.specs.Lemmas.{none_delimited}
-use Rattle.postcard_shape.specs.Shape.{Shape, via, growing}
+use Rattle.postcard_shape.specs.Shape.{Shape, via, growing, never}
 use Rattle.postcard_shape.specs.Leaves.{num}
 use Rattle.postcard_shape.specs.Rows.{none, then, group}
 use Rattle.postcard_shape.specs.Cases.{no_case, case, variants}
@@ -27,7 +27,7 @@ too_long {V} = record {
   reads = λ t. ⊥;
   value = λ t v. ⊥;
   same = λ v w. ⊤;
-  grows = ⊥;
+  other = never;
   fits = λ v. ⊥;
   delimited = none_delimited;
   well_formed = λ t r. absurd r;

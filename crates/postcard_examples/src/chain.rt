@@ -50,7 +50,7 @@ fn write_links<F: Flavor>(chain: &Chain, limit: u32, serializer: &mut Serializer
 /// more, or if an index is neither 0 nor 1, and with `OutOfMemory` if an allocation fails.
 fn read_links<F: DeFlavor>(limit: u32, alloc: Global, d: &mut Deserializer<'_, F>) -> Result<Chain>
     ensures { Reads F.Flavor Spells (chain_shape limit).reads (chain_shape limit).value
-        (chain_shape limit).grows (source_of d.old) result (source_of d.new) }
+        (chain_shape limit).other (source_of d.old) result (source_of d.new) }
 {
     if limit == 0 {
         return Err(Error::de_custom("too many links"));

@@ -25,7 +25,10 @@ impl<F: Flavor> Flavor for Limited<F> {
 
     type Source = F::Source;
 
-    ghost left = { λ s. option_map (take s.limit) (F.left s.inner) };
+    ghost left = { λ s. record {
+      bytes = option_map (take s.limit) (F.left s.inner).bytes;
+      scratch = (F.left s.inner).scratch;
+    } };
 
     ghost able = { λ s n. (n ≤ s.limit) × F.able s.inner n };
 

@@ -97,7 +97,7 @@ fixed order width = record {
   reads = (array width.size byte).reads;
   value = IsFixed order width;
   same = λ v w. v ≡ w;
-  grows = ⊥;
+  other = never;
   fits = width.fits;
   delimited = (array width.size byte).delimited;
   well_formed = (array width.size byte).well_formed;
@@ -113,7 +113,6 @@ pub record IsByteArray {B : Type 0} (s : Shape B) (list : B → List ℕ) (k : �
   pub value : (t : Tree) (b : B) → s.value t b → (array k byte).value t (list b)
   pub accepted : (b : B) → IsWilling s b
   pub silent : s.text → ⊥
-  pub fixed : s.grows → ⊥
 
 -- The shape of arrays of k bytes is such a shape.
 pub byte_array : (k : ℕ) → IsByteArray (array k byte) (λ xs. xs) k
@@ -124,5 +123,4 @@ byte_array k = record {
   value = λ t b h. h;
   accepted = λ b. record { has_none = λ e h. h.4 };
   silent = λ h. h;
-  fixed = λ h. h;
 }

@@ -1,15 +1,17 @@
 //! Numbers at their full width, the highest byte first: big-endian.
 
-ghost use Rattle.std.specs.Prelude.{◌≡◌, OnOk};
+ghost use Rattle.std.specs.Prelude.{◌≡◌, OnOk, IfErr};
 ghost use Rattle.postcard_wire.specs.Spelling.{Spells};
 ghost use Rattle.postcard_shape.specs.Leaves.{byte};
 ghost use Rattle.postcard_shape.specs.Lists.{array};
 ghost use Rattle.postcard_ser.specs.Writing.{Wrote, never};
 ghost use Rattle.postcard_de.specs.Deserializer.{source_of};
 ghost use Rattle.postcard_de.specs.Reads.{Reads};
+ghost use Rattle.postcard_de.specs.Refuses.{Refuses, WantsBytes, NoneBad};
 ghost use Rattle.postcard_shape.specs.Base256.{big};
 ghost use Rattle.postcard_fixint.specs.Fixed.{IsFixed, fixed};
 
+use crate::array::ByteArray;
 use crate::number::FixInt;
 use postcard_de::{Deserialize, DeserializeOwned, Deserializer};
 use postcard_ser::{Serialize, Serializer};
@@ -62,17 +64,27 @@ impl<'de, T: FixInt> Deserialize<'de> for BE<T> {
     fn deserialize<F: postcard_de::Flavor>(
         alloc: Global,
         d: &mut Deserializer<'de, F>,
-    ) -> Result<Self> {
+    ) -> Result<Self>
+        ensures reads { Reads F.Flavor Spells (array T.width.size byte).reads
+            (IsFixed big T.width) never (source_of d.old) result (source_of d.new) }
+        ensures refused { IfErr result (λ e. Refuses F.Flavor (WantsBytes T.width.size) NoneBad
+            (source_of d.old) e (source_of d.new)) }
+    {
         BE::deserialize_owned(alloc, d)
     }
 }
 
 impl<T: FixInt> DeserializeOwned for BE<T> {
     fn deserialize_owned<'de, F: postcard_de::Flavor>(
-        alloc: Global,
+        _alloc: Global,
         d: &mut Deserializer<'de, F>,
-    ) -> Result<Self> {
-        let bytes = T::Bytes::deserialize_owned(alloc, d)?;
+    ) -> Result<Self>
+        ensures reads { Reads F.Flavor Spells (array T.width.size byte).reads
+            (IsFixed big T.width) never (source_of d.old) result (source_of d.new) }
+        ensures refused { IfErr result (λ e. Refuses F.Flavor (WantsBytes T.width.size) NoneBad
+            (source_of d.old) e (source_of d.new)) }
+    {
+        let bytes = T::Bytes::read(d)?;
         Ok(BE(T::decode_be(bytes)))
     }
 }
@@ -106,8 +118,10 @@ pub fn deserialize<'de, T: FixInt, F: postcard_de::Flavor>(
     alloc: Global,
     d: &mut Deserializer<'de, F>,
 ) -> Result<T>
-    ensures { Reads F.Flavor Spells (array T.width.size byte).reads (IsFixed big T.width) ⊥
-        (source_of d.old) result (source_of d.new) }
+    ensures reads { Reads F.Flavor Spells (array T.width.size byte).reads
+        (IsFixed big T.width) never (source_of d.old) result (source_of d.new) }
+    ensures refused { IfErr result (λ e. Refuses F.Flavor (WantsBytes T.width.size) NoneBad
+        (source_of d.old) e (source_of d.new)) }
 {
     let value = <BE<T>>::deserialize_owned(alloc, d)?;
     Ok(value.get())

@@ -31,15 +31,17 @@
 //! }
 //! ```
 //!
-//! In reading order: [`FixInt`] is the trait of the numbers, [`le`] and [`be`] write and read them,
-//! and [`laws`] has what holds of their bytes.
+//! In reading order: [`FixInt`] is the trait of the numbers and [`ByteArray`] that of their bytes,
+//! [`le`] and [`be`] write and read them, and [`laws`] has what holds of their bytes.
 #![tactic(auto)]
 
+mod array;
 pub mod be;
 pub mod laws;
 pub mod le;
 mod number;
 
+pub use array::ByteArray;
 pub use be::BE;
 pub use le::LE;
 pub use number::FixInt;

@@ -5,7 +5,7 @@ ghost use Rattle.postcard_shape.specs.Base256.{little, big};
 ghost use Rattle.postcard_fixint.specs.Fixed.{FixedWidth, unsigned, signed};
 ghost use Rattle.postcard_fixint.specs.Fixed.{IsByteArray, byte_array};
 
-use postcard_de::DeserializeOwned;
+use crate::array::ByteArray;
 use postcard_ser::Serialize;
 use sealed::Sealed;
 
@@ -23,7 +23,7 @@ mod sealed {
 /// number, in base 256.
 pub trait FixInt: Sealed + Copy + Drop {
     /// An array of the bytes of a number: `[u8; 2]`, `[u8; 4]`, `[u8; 8]` or `[u8; 16]`.
-    type Bytes: Serialize + DeserializeOwned;
+    type Bytes: Serialize + ByteArray;
 
     /// The number of bytes, and each number modulo 256 to that power: an unsigned number is itself,
     /// and a signed one is its two's complement.
@@ -54,6 +54,9 @@ pub trait FixInt: Sealed + Copy + Drop {
 
     /// An array is written and read as its bytes.
     ghost is_array: { IsByteArray Self.Bytes.shape list width.size };
+
+    /// An array has as many bytes as a number.
+    ghost same_size: { Self.Bytes.size ≡ width.size };
 }
 
 impl Sealed for u16 {}
@@ -66,6 +69,8 @@ impl FixInt for u16 {
     ghost list = { λ bytes. bytes };
 
     ghost is_array = { byte_array 2 };
+
+    ghost same_size = { refl };
 
     fn encode_le(self) -> [u8; 2] {
         u16::to_le_bytes(self)
@@ -95,6 +100,8 @@ impl FixInt for u32 {
 
     ghost is_array = { byte_array 4 };
 
+    ghost same_size = { refl };
+
     fn encode_le(self) -> [u8; 4] {
         u32::to_le_bytes(self)
     }
@@ -122,6 +129,8 @@ impl FixInt for u64 {
     ghost list = { λ bytes. bytes };
 
     ghost is_array = { byte_array 8 };
+
+    ghost same_size = { refl };
 
     fn encode_le(self) -> [u8; 8] {
         u64::to_le_bytes(self)
@@ -151,6 +160,8 @@ impl FixInt for u128 {
 
     ghost is_array = { byte_array 16 };
 
+    ghost same_size = { refl };
+
     fn encode_le(self) -> [u8; 16] {
         u128::to_le_bytes(self)
     }
@@ -178,6 +189,8 @@ impl FixInt for i16 {
     ghost list = { λ bytes. bytes };
 
     ghost is_array = { byte_array 2 };
+
+    ghost same_size = { refl };
 
     fn encode_le(self) -> [u8; 2] {
         i16::to_le_bytes(self)
@@ -207,6 +220,8 @@ impl FixInt for i32 {
 
     ghost is_array = { byte_array 4 };
 
+    ghost same_size = { refl };
+
     fn encode_le(self) -> [u8; 4] {
         i32::to_le_bytes(self)
     }
@@ -235,6 +250,8 @@ impl FixInt for i64 {
 
     ghost is_array = { byte_array 8 };
 
+    ghost same_size = { refl };
+
     fn encode_le(self) -> [u8; 8] {
         i64::to_le_bytes(self)
     }
@@ -262,6 +279,8 @@ impl FixInt for i128 {
     ghost list = { λ bytes. bytes };
 
     ghost is_array = { byte_array 16 };
+
+    ghost same_size = { refl };
 
     fn encode_le(self) -> [u8; 16] {
         i128::to_le_bytes(self)

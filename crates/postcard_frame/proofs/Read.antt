@@ -10,7 +10,7 @@ use Rattle.postcard_wire.specs.Spelling.{Spells, canonical}
 use Rattle.postcard_cobs.specs.Groups.{Groups, before_zero}
 use Rattle.postcard_cobs.proofs.Frames.{data_is_one}
 use Rattle.postcard_de.specs.Reads.{IsReadError}
-use Rattle.postcard_shape.specs.Shape.{Shape}
+use Rattle.postcard_shape.specs.Shape.{Shape, Grows}
 use Rattle.postcard_de.specs.Front.{ReadsFront}
 use Rattle.postcard_frame.specs.Frame.{ReadsFrame, HasNoData, IsReadOf}
 use Rattle.postcard_frame.specs.Buffer.{KeepsFromZero, KeepsZero}
@@ -35,10 +35,10 @@ module _ {V : Type 0} (shape : Shape V) (frame : List ℕ) where
   pub of_data : (content : List ℕ) (r : Result V Error) → Groups frame content
       → IfOk r (λ v. (rest : List ℕ) × ReadsFront shape.reads shape.value content v rest)
       → ((t : Tree) (front rest : List ℕ) → shape.reads t → Spells t front → content ≡ front ++ rest
-      → MatchResult r (λ v. shape.value t v) (λ e. (e ≡ OutOfMemory) × shape.grows))
+      → MatchResult r (λ v. shape.value t v) (λ e. (e ≡ OutOfMemory) × Grows shape))
       → ((x : V) (rest : List ℕ) → shape.fits x → content ≡ canonical (shape.tree x) ++ rest
-      → MatchResult r (λ v. shape.same v x) (λ e. (e ≡ OutOfMemory) × shape.grows))
-      → (r ≡ Err OutOfMemory → shape.grows) → IfErr r (IsReadError shape.grows)
+      → MatchResult r (λ v. shape.same v x) (λ e. (e ≡ OutOfMemory) × Grows shape))
+      → (r ≡ Err OutOfMemory → Grows shape) → IfErr r (IsReadError shape.other)
       → IsReadOf shape (λ v. v) frame r
   of_data content r g gives accepts back memory named = record {
     gives = given r gives;
@@ -47,7 +47,7 @@ module _ {V : Type 0} (shape : Shape V) (frame : List ℕ) where
     reads_back = λ x f e. let d = canonical (shape.tree x) in
         back x [] f (data_is_one frame content d g (made_is_frame frame d e) ∙ sym (append-nil d));
     no_frame = λ none. absurd (none content g);
-    bad_only_if_no_data = λ e. absurd (subst (λ (s : Result V Error). IfErr s (IsReadError shape.grows)) e named);
+    bad_only_if_no_data = λ e. absurd (subst (λ (s : Result V Error). IfErr s (IsReadError shape.other)) e named);
     out_of_memory_only_if_grows = memory;
     named_error = error r named;
   } where
@@ -57,8 +57,8 @@ module _ {V : Type 0} (shape : Shape V) (frame : List ℕ) where
     given (Ok v) h = record { content = content; decodes = g; rest = h.0; is_read = h.1 }
     given (Err e) h = tt
 
-    error : (r : Result V Error) → IfErr r (IsReadError shape.grows)
-        → IfErr r (λ e. (e ≡ DeserializeBadEncoding) ⊎ IsReadError shape.grows e)
+    error : (r : Result V Error) → IfErr r (IsReadError shape.other)
+        → IfErr r (λ e. (e ≡ DeserializeBadEncoding) ⊎ IsReadError shape.other e)
     error (Ok v) h = tt
     error (Err e) h = inr h
 

@@ -7,7 +7,7 @@ use Rattle.postcard_wire.specs.declared.error.Error.{Error}
 use Rattle.postcard_wire.specs.declared.error.Error.TheVariants.{OutOfMemory}
 use Rattle.postcard_wire.specs.declared.error.Error.TheVariants.{DeserializeBadEncoding}
 use Rattle.postcard_de.specs.Reads.{IsReadError}
-use Rattle.postcard_shape.specs.Shape.{Shape}
+use Rattle.postcard_shape.specs.Shape.{Shape, Grows}
 use Rattle.postcard_de.specs.Front.{ReadsFront}
 
 -- The frame has data of which a front spells a tree that is read, and v is that tree's value.
@@ -27,7 +27,7 @@ module _ {V R : Type 0} (shape : Shape V) (value : R → V) (frame : List ℕ)
   -- The call succeeds with a value of which P holds, or fails with `OutOfMemory` for a type that
   -- grows.
   abbrev pub SucceedsWith : (V → Type 0) → Type 0
-  SucceedsWith P = MatchResult r (λ read. P (value read)) (λ e. (e ≡ OutOfMemory) × shape.grows)
+  SucceedsWith P = MatchResult r (λ read. P (value read)) (λ e. (e ≡ OutOfMemory) × Grows shape)
 
   -- The call succeeds if a front of the frame's data spells a tree that the type reads.
   abbrev pub AcceptsFrame : Type 0
@@ -47,5 +47,5 @@ module _ {V R : Type 0} (shape : Shape V) (value : R → V) (frame : List ℕ)
     pub reads_back : ReadsBackFrame
     pub no_frame : HasNoData frame → IsErrOf r DeserializeBadEncoding
     pub bad_only_if_no_data : r ≡ Err DeserializeBadEncoding → HasNoData frame
-    pub out_of_memory_only_if_grows : r ≡ Err OutOfMemory → shape.grows
-    pub named_error : IfErr r (λ e. (e ≡ DeserializeBadEncoding) ⊎ IsReadError shape.grows e)
+    pub out_of_memory_only_if_grows : r ≡ Err OutOfMemory → Grows shape
+    pub named_error : IfErr r (λ e. (e ≡ DeserializeBadEncoding) ⊎ IsReadError shape.other e)

@@ -6,6 +6,7 @@ ghost use Rattle.std.specs.Borrow.{sem, follows_if, follows_so, name_if_ok, Arra
 ghost use mathlib.Core.Option.{none};
 ghost use Rattle.postcard_cobs.specs.Groups.{before_zero};
 ghost use Rattle.postcard_de.specs.Reads.{IsReadError};
+ghost use Rattle.postcard_shape.specs.Shape.{Grows};
 ghost use Rattle.postcard_frame.specs.Frame.{ReadsFrame, HasNoData, AcceptsFrame, ReadsBackFrame};
 ghost use Rattle.postcard_frame.specs.Frame.{IsReadOf};
 ghost use Rattle.postcard_frame.specs.Buffer.{KeepsFromZero, KeepsZero, HasDataOf};
@@ -44,9 +45,9 @@ pub fn from_bytes_cobs<'a, T: Deserialize<'a>>(alloc: Global, s: &'a mut [u8]) -
         → IsErrOf result Error.DeserializeBadEncoding }
     ensures bad_only_if_no_data { result ≡ Err Error.DeserializeBadEncoding
         → HasNoData (before_zero s.old) }
-    ensures out_of_memory_only_if_grows { result ≡ Err Error.OutOfMemory → T.shape.grows }
+    ensures out_of_memory_only_if_grows { result ≡ Err Error.OutOfMemory → Grows T.shape }
     ensures named_error { IfErr result
-        (λ e. (e ≡ Error.DeserializeBadEncoding) ⊎ IsReadError T.shape.grows e) }
+        (λ e. (e ≡ Error.DeserializeBadEncoding) ⊎ IsReadError T.shape.other e) }
 {
     let Decoded { all, end, len } = decode(s);
     let (front, _) = split_front(all, end);
@@ -84,9 +85,9 @@ pub fn take_from_bytes_cobs<'a, T: Deserialize<'a>>(
         → IsErrOf result Error.DeserializeBadEncoding }
     ensures bad_only_if_no_data { result ≡ Err Error.DeserializeBadEncoding
         → HasNoData (before_zero s.old) }
-    ensures out_of_memory_only_if_grows { result ≡ Err Error.OutOfMemory → T.shape.grows }
+    ensures out_of_memory_only_if_grows { result ≡ Err Error.OutOfMemory → Grows T.shape }
     ensures named_error { IfErr result
-        (λ e. (e ≡ Error.DeserializeBadEncoding) ⊎ IsReadError T.shape.grows e) }
+        (λ e. (e ≡ Error.DeserializeBadEncoding) ⊎ IsReadError T.shape.other e) }
 {
     let Decoded { all, end, len } = decode(s);
     let (front, rest) = split_front(all, end);

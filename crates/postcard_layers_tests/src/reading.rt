@@ -6,6 +6,7 @@ mod calls;
 mod grown;
 mod numbers;
 mod types;
+mod untyped;
 
 use crate::asserts::{same, same_at};
 use postcard_de::{Deserialize, DeserializeOwned, Deserializer, Error, Result};

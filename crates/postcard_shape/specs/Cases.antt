@@ -9,7 +9,7 @@ use Rattle.postcard_wire.proofs.Delimited.{variant_delimited, none_delimited}
 use Rattle.postcard_wire.proofs.WellFormed.{variant_well_formed}
 use Rattle.postcard_shape.specs.Same.{HasOne}
 use Rattle.postcard_shape.specs.Options.{VariantIs, variant_one}
-use Rattle.postcard_shape.specs.Shape.{Shape, never}
+use Rattle.postcard_shape.specs.Shape.{Shape, never, either}
 use Rattle.postcard_shape.specs.declared.cases.Case.{Case}
 use Rattle.postcard_shape.specs.declared.cases.Case.TheVariants.{This, Next}
 
@@ -23,7 +23,7 @@ pub record Cases (V : Type 0) : Type 1 where
   pub reads : ℕ → Tree → Type 0
   pub value : ℕ → Tree → V → Type 0
   pub same : V → V → Type 0
-  pub grows : Type 0
+  pub other : Error → Type 0
   pub fits : V → Type 0
   pub delimited : (i : ℕ) → IsDelimited (reads i)
   pub well_formed : (i : ℕ) → ReadsWellFormed (reads i)
@@ -40,7 +40,7 @@ no_case {V} = record {
   reads = λ i t. ⊥;
   value = λ i t v. ⊥;
   same = λ v w. Unit {0};
-  grows = ⊥;
+  other = never;
   fits = λ v. ⊥;
   delimited = λ i. none_delimited;
   well_formed = λ i t r. absurd r;
@@ -101,7 +101,7 @@ case s r = record {
   reads = case_reads s.reads r.reads;
   value = case_value s.value r.value;
   same = case_same s.same r.same;
-  grows = s.grows ⊎ r.grows;
+  other = either s.other r.other;
   fits = case_of s.fits r.fits;
   delimited = case_delimited s.reads r.reads s.delimited r.delimited;
   well_formed = case_well_formed s.reads r.reads s.well_formed r.well_formed;
@@ -118,7 +118,7 @@ variants c = record {
   reads = IsVariant c.reads;
   value = VariantIs c.value;
   same = c.same;
-  grows = c.grows;
+  other = c.other;
   fits = λ v. (c.index v < 2 ^ 32) × c.fits v;
   delimited = variant_delimited c.reads c.delimited;
   well_formed = variant_well_formed c.reads c.well_formed;

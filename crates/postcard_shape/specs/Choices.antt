@@ -7,7 +7,7 @@ use Rattle.postcard_wire.proofs.Delimited.{option_delimited, variant_delimited}
 use Rattle.postcard_wire.proofs.WellFormed.{option_well_formed, variant_well_formed}
 use Rattle.postcard_shape.specs.Compound.{option_tree, result_tree}
 use Rattle.postcard_shape.specs.Options.{OptionIs, SameOption, option_one, ResultReads, ResultIs, SameResult, result_delimited, result_well_formed, result_one, VariantIs, variant_one}
-use Rattle.postcard_shape.specs.Shape.{Shape}
+use Rattle.postcard_shape.specs.Shape.{Shape, either}
 
 -- The value in an option, if there is one, fits.
 abbrev pub OptionFits : {V : Type 0} → (V → Type 0) → Option V → Type 0
@@ -27,7 +27,7 @@ option s = record {
   reads = IsOption s.reads;
   value = OptionIs s.value;
   same = SameOption s.same;
-  grows = s.grows;
+  other = s.other;
   fits = OptionFits s.fits;
   delimited = option_delimited s.reads s.delimited;
   well_formed = option_well_formed s.reads s.well_formed;
@@ -58,7 +58,7 @@ result s t = record {
   reads = IsVariant (ResultReads s.reads t.reads);
   value = VariantIs (ResultIs s.value t.value);
   same = SameResult s.same t.same;
-  grows = s.grows ⊎ t.grows;
+  other = either s.other t.other;
   fits = ResultFits s.fits t.fits;
   delimited = variant_delimited _ (result_delimited s.reads t.reads s.delimited t.delimited);
   well_formed = variant_well_formed _ (result_well_formed s.reads t.reads s.well_formed t.well_formed);

@@ -1,5 +1,5 @@
 -- The shape of a map: its entries in the order of their keys (wire format 1.0, "map").
-use Rattle.std.specs.Prelude.{◌≡◌, ◌<◌, ◌^◌, ◌⊎◌, List, [], length, map, Any, ⊤}
+use Rattle.std.specs.Prelude.{◌≡◌, ◌<◌, ◌^◌, ◌⊎◌, List, [], length, map, Any}
 use Rattle.std.specs.declared.cmp.Ordering.{Ordering}
 use Rattle.std.proofs.Common.{refl}
 use Rattle.postcard_wire.specs.Tree.{Seq, NoTrees, Then, trees}
@@ -9,7 +9,7 @@ use Rattle.postcard_wire.proofs.WellFormed.{end_well_formed, then_well_formed, g
 use Rattle.postcard_shape.specs.Compound.{entry_tree}
 use Rattle.postcard_shape.specs.Maps.{IsEntry, EntryIs, MapIs, SameMap, map_one, inserted}
 use Rattle.postcard_shape.specs.Lists.{AllFit, each_read, each_is}
-use Rattle.postcard_shape.specs.Shape.{Shape}
+use Rattle.postcard_shape.specs.Shape.{Shape, either, or_memory}
 
 -- The entries of a map that fits are read again: its tree is one that a map reads, and the map is a
 -- value of that tree.
@@ -32,7 +32,7 @@ entries cmp k s = record {
   reads = IsSeq (IsEntry k.reads s.reads);
   value = MapIs cmp k.value s.value;
   same = SameMap cmp k.same s.same;
-  grows = ⊤;
+  other = or_memory (either k.other s.other);
   fits = λ es. (length es < 2 ^ 64) × AllFit (λ e. k.fits e.0 × s.fits e.1) es × (es ≡ inserted cmp es []);
   delimited = seq_delimited _ (group_delimited _ (then_delimited _ _ k.delimited (then_delimited _ _ s.delimited end_delimited)));
   well_formed = seq_well_formed _ (group_well_formed _ (then_well_formed _ _ k.well_formed (then_well_formed _ _ s.well_formed end_well_formed)));

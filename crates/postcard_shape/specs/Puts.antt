@@ -1,12 +1,12 @@
 -- The shapes of sets and maps that find a key by its hash: a list of the keys or entries, which are put
 -- in one after another. The order in which a set or a map keeps them is its own.
-use Rattle.std.specs.Prelude.{◌≡◌, Bool, List, [], ◌∷◌, MatchOption, ⊤}
+use Rattle.std.specs.Prelude.{◌≡◌, Bool, List, [], ◌∷◌, MatchOption}
 use Rattle.std.specs.Bool.{MatchBool}
 use Rattle.std.specs.List.{list_any}
 use Rattle.std.specs.List.Sorted.{IsPermutation}
 use Rattle.std.specs.Map.{lookup, set_value}
 use Rattle.postcard_shape.specs.Rows.{none, then, along, group}
-use Rattle.postcard_shape.specs.Shape.{Shape}
+use Rattle.postcard_shape.specs.Shape.{Shape, or_memory}
 
 -- Putting these elements one after another into a container of the elements vs gives one of ws, where
 -- `step x us ts` says that putting x into one of us gives one of ts.
@@ -35,7 +35,7 @@ put_in {V} step s = record {
   reads = s.reads;
   value = λ t vs. (xs : List V) × s.value t xs × Puts step xs [] vs;
   same = λ vs ws. (xs : List V) × (ys : List V) × s.same xs ys × Puts step xs [] vs × Puts step ys [] ws;
-  grows = ⊤;
+  other = or_memory s.other;
   fits = λ vs. s.fits vs × Puts step vs [] vs;
   delimited = s.delimited;
   well_formed = s.well_formed;

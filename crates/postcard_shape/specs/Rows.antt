@@ -7,7 +7,7 @@ use Rattle.postcard_wire.specs.Reading.{AreDelimited, PartsWellFormed, IsEnd, Is
 use Rattle.postcard_wire.proofs.Delimited.{end_delimited, then_delimited, group_delimited}
 use Rattle.postcard_wire.proofs.WellFormed.{end_well_formed, then_well_formed, group_well_formed}
 use Rattle.postcard_shape.specs.Parts.{end_one, then_one, group_one}
-use Rattle.postcard_shape.specs.Shape.{Shape, never}
+use Rattle.postcard_shape.specs.Shape.{Shape, never, either}
 
 -- What a `Shape` says, said of parts in a row: the trees of the parts, in order, and the laws that
 -- tie them.
@@ -18,7 +18,7 @@ pub record Row (V : Type 0) : Type 1 where
   pub reads : Trees → Type 0
   pub value : V → Trees → Type 0
   pub same : V → V → Type 0
-  pub grows : Type 0
+  pub other : Error → Type 0
   pub fits : V → Type 0
   pub delimited : AreDelimited reads
   pub well_formed : PartsWellFormed reads
@@ -34,7 +34,7 @@ none {V} = record {
   reads = IsEnd;
   value = λ v. IsEnd;
   same = λ v w. Unit {0};
-  grows = ⊥;
+  other = never;
   fits = λ v. ⊤;
   delimited = end_delimited;
   well_formed = end_well_formed;
@@ -55,7 +55,7 @@ then s r = record {
   reads = IsThen s.reads r.reads;
   value = λ v. IsThen (λ t. s.value t v.0) (r.value v.1);
   same = λ v w. s.same v.0 w.0 × r.same v.1 w.1;
-  grows = s.grows ⊎ r.grows;
+  other = either s.other r.other;
   fits = λ v. s.fits v.0 × r.fits v.1;
   delimited = then_delimited s.reads r.reads s.delimited r.delimited;
   well_formed = then_well_formed s.reads r.reads s.well_formed r.well_formed;
@@ -72,7 +72,7 @@ along see r = record {
   reads = r.reads;
   value = λ v. r.value (see v);
   same = λ v w. r.same (see v) (see w);
-  grows = r.grows;
+  other = r.other;
   fits = λ v. r.fits (see v);
   delimited = r.delimited;
   well_formed = r.well_formed;
@@ -89,7 +89,7 @@ group r = record {
   reads = IsGroup r.reads;
   value = λ t v. IsGroup (r.value v) t;
   same = r.same;
-  grows = r.grows;
+  other = r.other;
   fits = r.fits;
   delimited = group_delimited r.reads r.delimited;
   well_formed = group_well_formed r.reads r.well_formed;

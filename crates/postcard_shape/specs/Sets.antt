@@ -1,6 +1,6 @@
 -- The shape of a set: a list of its keys in their order. Sets as lists of keys, in which a key that is
 -- equal to an earlier one is left out.
-use Rattle.std.specs.Prelude.{◌≡◌, ◌<◌, ◌^◌, List, [], ◌∷◌, length, map, Any, ⊤}
+use Rattle.std.specs.Prelude.{◌≡◌, ◌<◌, ◌^◌, List, [], ◌∷◌, length, map, Any}
 use Rattle.std.specs.BTreeSet.{insert_key}
 use Rattle.std.specs.declared.cmp.Ordering.{Ordering}
 use Rattle.std.proofs.Common.{refl}
@@ -10,7 +10,7 @@ use Rattle.postcard_wire.proofs.Delimited.{seq_delimited}
 use Rattle.postcard_wire.proofs.WellFormed.{seq_well_formed}
 use Rattle.postcard_shape.specs.Lists.{AllFit, each_read, each_is}
 use Rattle.postcard_shape.specs.Same.{HasOne, SameList, list_one}
-use Rattle.postcard_shape.specs.Shape.{Shape}
+use Rattle.postcard_shape.specs.Shape.{Shape, or_memory}
 use Rattle.postcard_shape.specs.Values.{ListIs}
 
 -- The keys of a set after these keys are inserted one after another: a key that is equal to one of
@@ -40,7 +40,7 @@ keys cmp s = record {
   reads = IsSeq s.reads;
   value = SetIs cmp s.value;
   same = SameSet cmp s.same;
-  grows = ⊤;
+  other = or_memory s.other;
   fits = λ ks. (length ks < 2 ^ 64) × AllFit s.fits ks × (ks ≡ keys_inserted cmp ks []);
   delimited = seq_delimited s.reads s.delimited;
   well_formed = seq_well_formed s.reads s.well_formed;

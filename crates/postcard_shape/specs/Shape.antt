@@ -1,9 +1,10 @@
 -- What a type says of its values, once for both directions: the tree that each is written as, the
 -- trees that are read and their values, when two values look alike, and the laws that tie them.
-use Rattle.std.specs.Prelude.{⊤}
+use Rattle.std.specs.Prelude.{◌⊎◌, ⊤}
 use Rattle.postcard_wire.specs.Tree.{Tree}
 use Rattle.postcard_wire.specs.Reading.{IsDelimited, ReadsWellFormed}
 use Rattle.postcard_wire.specs.declared.error.Error.{Error}
+use Rattle.postcard_wire.specs.declared.error.Error.TheVariants.{OutOfMemory}
 use Rattle.postcard_shape.specs.Same.{HasOne}
 
 -- The shape of a type: all that a contract says of its values on the wire.
@@ -21,8 +22,8 @@ pub record Shape (V : Type 0) : Type 1 where
   pub value : Tree → V → Type 0
   -- Two values look alike to contracts.
   pub same : V → V → Type 0
-  -- Reading may ask for memory.
-  pub grows : Type 0
+  -- The errors by which reading may fail beside those of its nodes.
+  pub other : Error → Type 0
   -- What holds of every value that a program has: numbers in their range, texts that are UTF-8,
   -- lengths below 2 ^ 64, maps in order.
   pub fits : V → Type 0
@@ -39,6 +40,23 @@ pub record Shape (V : Type 0) : Type 1 where
 -- No error: the refusal of a value that never refuses itself.
 abbrev pub never : Error → Type 0
 never e = ⊥
+
+-- The errors of either set.
+abbrev pub either : (Error → Type 0) → (Error → Type 0) → Error → Type 0
+either these those e = these e ⊎ those e
+
+-- The errors of the set, and `OutOfMemory`.
+abbrev pub or_memory : (Error → Type 0) → Error → Type 0
+or_memory errors OutOfMemory = ⊤
+or_memory errors e = errors e
+
+-- `OutOfMemory` alone.
+abbrev pub memory : Error → Type 0
+memory = or_memory never
+
+-- Reading may ask for memory, and fail with `OutOfMemory`.
+abbrev pub Grows : {V : Type 0} → Shape V → Type 0
+Grows s = s.other OutOfMemory
 
 -- None of these errors is one.
 pub record IsEmpty (errors : Error → Type 0) : Type 0 where
@@ -57,7 +75,7 @@ via see s = record {
   reads = s.reads;
   value = λ t v. s.value t (see v);
   same = λ v w. s.same (see v) (see w);
-  grows = s.grows;
+  other = s.other;
   fits = λ v. s.fits (see v);
   delimited = s.delimited;
   well_formed = s.well_formed;
@@ -74,7 +92,7 @@ growing s = record {
   reads = s.reads;
   value = s.value;
   same = s.same;
-  grows = ⊤;
+  other = or_memory s.other;
   fits = s.fits;
   delimited = s.delimited;
   well_formed = s.well_formed;

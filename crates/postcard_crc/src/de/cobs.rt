@@ -50,7 +50,7 @@ pub fn from_bytes_cobs<'a, T: Deserialize<'a>, W: Width, I: Implementation<W>>(
     ensures no_frame { HasNoData (before_zero s.old)
         → IsErrOf result Error.DeserializeBadEncoding }
     ensures exact_errors { HasDataErrors T.shape W.size digest.entry (before_zero s.old) result }
-    ensures named_error { IfErr result (λ e. IsReadError T.shape.grows e
+    ensures named_error { IfErr result (λ e. IsReadError T.shape.other e
         ⊎ ((e ≡ Error.DeserializeBadCrc) ⊎ (e ≡ Error.DeserializeBadEncoding))) }
 {
     let Decoded { all, end, len } = decode(s);

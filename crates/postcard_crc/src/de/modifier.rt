@@ -1,6 +1,7 @@
 //! The reading flavor that checks a checksum, over a slice.
 
 ghost use Rattle.std.specs.Prelude.{◌≡◌, ◌≤◌, Some, length};
+ghost use Rattle.postcard_de_flavors.specs.Source.{known};
 ghost use Rattle.postcard_crc.specs.Source.{TookBoth, Finishes, crc_laws};
 
 use super::after_crc;
@@ -37,7 +38,7 @@ impl<'de, W: Width, I: Implementation<W>> Flavor for CrcModifier<'de, Slice<'de>
 
     type Source = &'de [u8];
 
-    ghost left = { λ s. Some s.flavor };
+    ghost left = { λ s. known s.flavor };
 
     ghost able = { λ s n. n ≤ length s.flavor };
 

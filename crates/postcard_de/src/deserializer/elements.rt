@@ -1,6 +1,6 @@
 //! The calls that read elements in a row, each by one loop.
 
-ghost use Rattle.std.specs.Prelude.{◌≡◌, [], ◌∷◌, ◌++◌, IfErr, OnOk, ⊤};
+ghost use Rattle.std.specs.Prelude.{◌≡◌, [], ◌∷◌, ◌++◌, IfErr, OnOk};
 ghost use Rattle.postcard_wire.specs.Spelling.{Spells};
 ghost use Rattle.postcard_wire.specs.Reading.{IsGroup, IsSeq, IsArray};
 ghost use Rattle.postcard_de.specs.Reads.{Reads};
@@ -9,6 +9,7 @@ ghost use Rattle.postcard_shape.specs.Values.{EachIs, ListIs};
 ghost use Rattle.postcard_shape.specs.Fixed.{IsFewSeq};
 ghost use Rattle.postcard_shape.specs.Maps.{IsEntry, MapIs};
 ghost use Rattle.postcard_shape.specs.Sets.{SetIs};
+ghost use Rattle.postcard_shape.specs.Shape.{or_memory, either};
 
 use crate::deserializer::Deserializer;
 use crate::element::Element;
@@ -63,7 +64,7 @@ impl<'de, F: Flavor> Deserializer<'de, F> {
         alloc: Global,
     ) -> Result<Vec<T>>
         ensures { Reads F.Flavor Spells (IsSeq T.shape.reads)
-            (λ t v. ListIs T.shape.value t v.items) ⊤
+            (λ t v. ListIs T.shape.value t v.items) (or_memory T.shape.other)
             (source_of self.old) result (source_of self.new) }
     {
         let count = numbers::count(&mut self.flavor)?;
@@ -92,7 +93,7 @@ impl<'de, F: Flavor> Deserializer<'de, F> {
         alloc: Global,
     ) -> Result<ArrayVec<T, CAP>>
         ensures { Reads F.Flavor Spells (IsFewSeq CAP T.shape.reads)
-            (λ t v. ListIs T.shape.value t v.items) T.shape.grows
+            (λ t v. ListIs T.shape.value t v.items) T.shape.other
             (source_of self.old) result (source_of self.new) }
     {
         let count = numbers::count(&mut self.flavor)?;
@@ -116,7 +117,7 @@ impl<'de, F: Flavor> Deserializer<'de, F> {
         alloc: Global,
     ) -> Result<[T; N]>
         ensures { Reads F.Flavor Spells (IsArray N T.shape.reads)
-            (λ t v. IsGroup (λ ts. EachIs T.shape.value ts v) t) T.shape.grows
+            (λ t v. IsGroup (λ ts. EachIs T.shape.value ts v) t) T.shape.other
             (source_of self.old) result (source_of self.new) }
     {
         let mut items = [T::default(); N];
@@ -139,7 +140,8 @@ impl<'de, F: Flavor> Deserializer<'de, F> {
         E: Element<'de, K> + Element<'de, V>,
     >(&mut self, alloc: Global) -> Result<BTreeMap<K, V>>
         ensures { Reads F.Flavor Spells (IsSeq (IsEntry K.shape.reads V.shape.reads))
-            (λ t m. MapIs K.cmp K.shape.value V.shape.value t m.entries) ⊤
+            (λ t m. MapIs K.cmp K.shape.value V.shape.value t m.entries)
+            (or_memory (either K.shape.other V.shape.other))
             (source_of self.old) result (source_of self.new) }
     {
         let count = numbers::count(&mut self.flavor)?;
@@ -166,7 +168,7 @@ impl<'de, F: Flavor> Deserializer<'de, F> {
         alloc: Global,
     ) -> Result<BTreeSet<K>>
         ensures { Reads F.Flavor Spells (IsSeq K.shape.reads)
-            (λ t s. SetIs K.cmp K.shape.value t s.keys) ⊤
+            (λ t s. SetIs K.cmp K.shape.value t s.keys) (or_memory K.shape.other)
             (source_of self.old) result (source_of self.new) }
     {
         let count = numbers::count(&mut self.flavor)?;

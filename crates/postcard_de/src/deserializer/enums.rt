@@ -6,6 +6,7 @@ ghost use Rattle.postcard_wire.specs.Spelling.{Spells};
 ghost use Rattle.postcard_de.specs.Reads.{Reads};
 ghost use Rattle.postcard_de.specs.Refuses.{Refuses, WantsDigit, BadNumber};
 ghost use Rattle.postcard_shape.specs.Values.{Same};
+ghost use Rattle.postcard_shape.specs.Shape.{never};
 ghost use Rattle.postcard_de.specs.Deserializer.{source_of};
 
 use crate::access::SeqAccess;
@@ -26,7 +27,7 @@ impl<'de, F: Flavor> Deserializer<'de, F> {
     /// `DeserializeBadVarint` if it has more than 5 bytes or 32 bits; 5 bytes are taken then. The
     /// caller has to refuse an index that has no variant.
     pub fn deserialize_enum(&mut self, _name: &str, _variants: &[&str]) -> Result<u32>
-        ensures reads { Reads F.Flavor (SpellsNum 32) (λ n. n < 2 ^ 32) Same ⊥
+        ensures reads { Reads F.Flavor (SpellsNum 32) (λ n. n < 2 ^ 32) Same never
             (source_of self.old) result (source_of self.new) }
         ensures refused { IfErr result (λ e. Refuses F.Flavor (WantsDigit 32) (BadNumber 32)
             (source_of self.old) e (source_of self.new)) }
@@ -49,7 +50,7 @@ impl<'de, F: Flavor> Deserializer<'de, F> {
     ///
     /// Fails as reading the content does.
     pub fn newtype_variant<T: Deserialize<'de>>(&mut self, alloc: Global) -> Result<T>
-        ensures { Reads F.Flavor Spells T.shape.reads T.shape.value T.shape.grows
+        ensures { Reads F.Flavor Spells T.shape.reads T.shape.value T.shape.other
             (source_of self.old) result (source_of self.new) }
     {
         T::deserialize(alloc, self)

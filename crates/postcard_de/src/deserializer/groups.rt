@@ -5,6 +5,7 @@ ghost use Rattle.postcard_wire.specs.Number.{SpellsNum};
 ghost use Rattle.postcard_de.specs.Reads.{Reads};
 ghost use Rattle.postcard_de.specs.Refuses.{Refuses, WantsDigit, BadNumber};
 ghost use Rattle.postcard_shape.specs.Values.{Same};
+ghost use Rattle.postcard_shape.specs.Shape.{never};
 ghost use Rattle.postcard_de.specs.Deserializer.{source_of};
 
 use crate::access::SeqAccess;
@@ -52,7 +53,7 @@ impl<'de, F: Flavor> Deserializer<'de, F> {
     ///
     /// Fails as `deserialize_u64`.
     pub fn deserialize_map(&mut self) -> Result<MapAccess>
-        ensures reads { Reads F.Flavor (SpellsNum 64) (λ n. n < 2 ^ 64) Same ⊥
+        ensures reads { Reads F.Flavor (SpellsNum 64) (λ n. n < 2 ^ 64) Same never
             (source_of self.old) result (source_of self.new) }
         ensures refused { IfErr result (λ e. Refuses F.Flavor (WantsDigit 64) (BadNumber 64)
             (source_of self.old) e (source_of self.new)) }

@@ -4,6 +4,7 @@ ghost use Rattle.std.specs.Prelude.{◌≡◌, IfErr, IsOk};
 ghost use Rattle.postcard_wire.specs.Tree.{Boolean, Char};
 ghost use Rattle.postcard_wire.specs.Spelling.{Spells};
 ghost use Rattle.postcard_wire.specs.Reading.{IsBoolean, IsChar, IsEnd, IsGroup};
+ghost use Rattle.postcard_shape.specs.Shape.{never};
 ghost use Rattle.postcard_de.specs.Reads.{Reads};
 ghost use Rattle.postcard_de.specs.Refuses.{Refuses, WantsByte};
 ghost use Rattle.postcard_de.specs.Unfit.{BadBool, BadChar, WantsChar};
@@ -22,7 +23,7 @@ impl<'de, F: Flavor> Deserializer<'de, F> {
     /// Fails with `DeserializeUnexpectedEnd` if the source can't give a byte, and with
     /// `DeserializeBadBool` for any other byte, which is taken.
     pub fn deserialize_bool(&mut self) -> Result<bool>
-        ensures reads { Reads F.Flavor Spells IsBoolean (λ t v. t ≡ Boolean v) ⊥
+        ensures reads { Reads F.Flavor Spells IsBoolean (λ t v. t ≡ Boolean v) never
             (source_of self.old) result (source_of self.new) }
         ensures refused { IfErr result (λ e. Refuses F.Flavor WantsByte BadBool
             (source_of self.old) e (source_of self.new)) }
@@ -40,7 +41,7 @@ impl<'de, F: Flavor> Deserializer<'de, F> {
     /// source can't give that many bytes, and with `DeserializeBadChar` if the bytes aren't UTF-8
     /// or the length is 0; they are taken then.
     pub fn deserialize_char(&mut self) -> Result<char>
-        ensures reads { Reads F.Flavor Spells IsChar (λ t v. t ≡ Char v) ⊥
+        ensures reads { Reads F.Flavor Spells IsChar (λ t v. t ≡ Char v) never
             (source_of self.old) result (source_of self.new) }
         ensures refused { IfErr result (λ e. Refuses F.Flavor WantsChar BadChar
             (source_of self.old) e (source_of self.new)) }
@@ -50,7 +51,7 @@ impl<'de, F: Flavor> Deserializer<'de, F> {
 
     /// Reads a unit, which has no bytes. Never fails.
     pub fn deserialize_unit(&mut self) -> Result<()>
-        ensures reads { Reads F.Flavor Spells (IsGroup IsEnd) (λ t v. IsGroup IsEnd t) ⊥
+        ensures reads { Reads F.Flavor Spells (IsGroup IsEnd) (λ t v. IsGroup IsEnd t) never
             (source_of self.old) result (source_of self.new) }
         ensures succeeds { IsOk result }
         ensures unchanged { self.new ≡ self.old }
@@ -60,7 +61,7 @@ impl<'de, F: Flavor> Deserializer<'de, F> {
 
     /// Reads a struct without fields, which has no bytes. The name isn't used. Never fails.
     pub fn deserialize_unit_struct(&mut self, _name: &str) -> Result<()>
-        ensures reads { Reads F.Flavor Spells (IsGroup IsEnd) (λ t v. IsGroup IsEnd t) ⊥
+        ensures reads { Reads F.Flavor Spells (IsGroup IsEnd) (λ t v. IsGroup IsEnd t) never
             (source_of self.old) result (source_of self.new) }
         ensures succeeds { IsOk result }
         ensures unchanged { self.new ≡ self.old }

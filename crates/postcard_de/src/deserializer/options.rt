@@ -24,10 +24,10 @@ impl<'de, F: Flavor> Deserializer<'de, F> {
     /// `DeserializeBadOption` for any other byte, which is taken, and as reading the content does.
     pub fn deserialize_option<T: Deserialize<'de>>(&mut self, alloc: Global) -> Result<Option<T>>
         ensures reads { Reads F.Flavor Spells (IsOption T.shape.reads) (OptionIs T.shape.value)
-            T.shape.grows (source_of self.old) result (source_of self.new) }
+            T.shape.other (source_of self.old) result (source_of self.new) }
         ensures refused { IfErr result (λ e. Refuses F.Flavor WantsByte BadOption
             (source_of self.old) e (source_of self.new)
-            ⊎ ContentRefuses F.Flavor T.shape.reads T.shape.value T.shape.grows
+            ⊎ ContentRefuses F.Flavor T.shape.reads T.shape.value T.shape.other
             (source_of self.old) e (source_of self.new)) }
     {
         match self.flavor.pop()? {
@@ -50,7 +50,7 @@ impl<'de, F: Flavor> Deserializer<'de, F> {
         alloc: Global,
         _name: &str,
     ) -> Result<T>
-        ensures { Reads F.Flavor Spells T.shape.reads T.shape.value T.shape.grows
+        ensures { Reads F.Flavor Spells T.shape.reads T.shape.value T.shape.other
             (source_of self.old) result (source_of self.new) }
     {
         T::deserialize(alloc, self)

@@ -4,6 +4,7 @@ ghost use Rattle.std.specs.Prelude.{◌≡◌, IfErr};
 ghost use Rattle.postcard_wire.specs.Tree.{Text};
 ghost use Rattle.postcard_wire.specs.Spelling.{Spells};
 ghost use Rattle.postcard_shape.specs.Fixed.{IsShortText};
+ghost use Rattle.postcard_shape.specs.Shape.{never};
 ghost use Rattle.postcard_de.specs.Reads.{Reads};
 ghost use Rattle.postcard_de.specs.Refuses.{Refuses, WantsText};
 ghost use Rattle.postcard_de.specs.Unfit.{BadShortText};
@@ -55,7 +56,7 @@ impl<T: DeserializeOwned + Default, const CAP: usize> DeserializeOwned for Array
 /// taken and found to be UTF-8.
 impl<'de, const CAP: usize> Deserialize<'de> for ArrayString<CAP> {
     fn deserialize<F: Flavor>(_alloc: Global, d: &mut Deserializer<'de, F>) -> Result<Self>
-        ensures reads { Reads F.Flavor Spells (IsShortText CAP) (λ t v. t ≡ Text v.bytes) ⊥
+        ensures reads { Reads F.Flavor Spells (IsShortText CAP) (λ t v. t ≡ Text v.bytes) never
             (source_of d.old) result (source_of d.new) }
         ensures refused { IfErr result (λ e. Refuses F.Flavor WantsText (BadShortText CAP)
             (source_of d.old) e (source_of d.new)) }
@@ -69,7 +70,7 @@ impl<const CAP: usize> DeserializeOwned for ArrayString<CAP> {
         alloc: Global,
         d: &mut Deserializer<'de, F>,
     ) -> Result<Self>
-        ensures reads { Reads F.Flavor Spells (IsShortText CAP) (λ t v. t ≡ Text v.bytes) ⊥
+        ensures reads { Reads F.Flavor Spells (IsShortText CAP) (λ t v. t ≡ Text v.bytes) never
             (source_of d.old) result (source_of d.new) }
         ensures refused { IfErr result (λ e. Refuses F.Flavor WantsText (BadShortText CAP)
             (source_of d.old) e (source_of d.new)) }

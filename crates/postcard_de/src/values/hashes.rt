@@ -75,7 +75,7 @@ pub fn read_hash_set<'de, K: Deserialize<'de> + Eq + Hash, S: BuildHasher + Drop
     hasher: S,
 ) -> Result<HashSet<K, S>>
     ensures { Reads F.Flavor Spells ⟦<HashSet<K, S> as Shaped>⟧.shape.reads
-        ⟦<HashSet<K, S> as Shaped>⟧.shape.value ⟦<HashSet<K, S> as Shaped>⟧.shape.grows
+        ⟦<HashSet<K, S> as Shaped>⟧.shape.value ⟦<HashSet<K, S> as Shaped>⟧.shape.other
         (source_of d.old) result (source_of d.new) }
 {
     let keys = <Vec<K>>::deserialize(alloc, d)?;
@@ -100,7 +100,7 @@ pub fn read_hash_map<
     F: Flavor,
 >(alloc: Global, d: &mut Deserializer<'de, F>, hasher: S) -> Result<HashMap<K, V, S>>
     ensures { Reads F.Flavor Spells ⟦<HashMap<K, V, S> as Shaped>⟧.shape.reads
-        ⟦<HashMap<K, V, S> as Shaped>⟧.shape.value ⟦<HashMap<K, V, S> as Shaped>⟧.shape.grows
+        ⟦<HashMap<K, V, S> as Shaped>⟧.shape.value ⟦<HashMap<K, V, S> as Shaped>⟧.shape.other
         (source_of d.old) result (source_of d.new) }
 {
     let pairs = <Vec<(K, V)>>::deserialize(alloc, d)?;

@@ -5,6 +5,7 @@ ghost use Rattle.std.specs.Int.{w8, cast_unsigned};
 ghost use Rattle.postcard_wire.specs.Tree.{Byte, Num, Int};
 ghost use Rattle.postcard_wire.specs.Spelling.{Spells};
 ghost use Rattle.postcard_wire.specs.Reading.{IsByte, IsNum, IsInt};
+ghost use Rattle.postcard_shape.specs.Shape.{never};
 ghost use Rattle.postcard_de.specs.Reads.{Reads};
 ghost use Rattle.postcard_de.specs.Refuses.{Refuses, WantsByte, NoneBad, WantsDigit, BadNumber};
 ghost use Rattle.postcard_de.specs.Deserializer.{source_of};
@@ -18,7 +19,7 @@ use std::alloc::Global;
 
 impl<'de> Deserialize<'de> for u8 {
     fn deserialize<F: Flavor>(_alloc: Global, d: &mut Deserializer<'de, F>) -> Result<Self>
-        ensures reads { Reads F.Flavor Spells IsByte (λ t v. t ≡ Byte v) ⊥
+        ensures reads { Reads F.Flavor Spells IsByte (λ t v. t ≡ Byte v) never
             (source_of d.old) result (source_of d.new) }
         ensures refused { IfErr result (λ e. Refuses F.Flavor WantsByte NoneBad
             (source_of d.old) e (source_of d.new)) }
@@ -32,7 +33,7 @@ impl DeserializeOwned for u8 {
         alloc: Global,
         d: &mut Deserializer<'de, F>,
     ) -> Result<Self>
-        ensures reads { Reads F.Flavor Spells IsByte (λ t v. t ≡ Byte v) ⊥
+        ensures reads { Reads F.Flavor Spells IsByte (λ t v. t ≡ Byte v) never
             (source_of d.old) result (source_of d.new) }
         ensures refused { IfErr result (λ e. Refuses F.Flavor WantsByte NoneBad
             (source_of d.old) e (source_of d.new)) }
@@ -43,7 +44,7 @@ impl DeserializeOwned for u8 {
 
 impl<'de> Deserialize<'de> for u16 {
     fn deserialize<F: Flavor>(_alloc: Global, d: &mut Deserializer<'de, F>) -> Result<Self>
-        ensures reads { Reads F.Flavor Spells (IsNum 16) (λ t v. t ≡ Num 16 v) ⊥
+        ensures reads { Reads F.Flavor Spells (IsNum 16) (λ t v. t ≡ Num 16 v) never
             (source_of d.old) result (source_of d.new) }
         ensures refused { IfErr result (λ e. Refuses F.Flavor (WantsDigit 16) (BadNumber 16)
             (source_of d.old) e (source_of d.new)) }
@@ -57,7 +58,7 @@ impl DeserializeOwned for u16 {
         alloc: Global,
         d: &mut Deserializer<'de, F>,
     ) -> Result<Self>
-        ensures reads { Reads F.Flavor Spells (IsNum 16) (λ t v. t ≡ Num 16 v) ⊥
+        ensures reads { Reads F.Flavor Spells (IsNum 16) (λ t v. t ≡ Num 16 v) never
             (source_of d.old) result (source_of d.new) }
         ensures refused { IfErr result (λ e. Refuses F.Flavor (WantsDigit 16) (BadNumber 16)
             (source_of d.old) e (source_of d.new)) }
@@ -68,7 +69,7 @@ impl DeserializeOwned for u16 {
 
 impl<'de> Deserialize<'de> for u32 {
     fn deserialize<F: Flavor>(_alloc: Global, d: &mut Deserializer<'de, F>) -> Result<Self>
-        ensures reads { Reads F.Flavor Spells (IsNum 32) (λ t v. t ≡ Num 32 v) ⊥
+        ensures reads { Reads F.Flavor Spells (IsNum 32) (λ t v. t ≡ Num 32 v) never
             (source_of d.old) result (source_of d.new) }
         ensures refused { IfErr result (λ e. Refuses F.Flavor (WantsDigit 32) (BadNumber 32)
             (source_of d.old) e (source_of d.new)) }
@@ -82,7 +83,7 @@ impl DeserializeOwned for u32 {
         alloc: Global,
         d: &mut Deserializer<'de, F>,
     ) -> Result<Self>
-        ensures reads { Reads F.Flavor Spells (IsNum 32) (λ t v. t ≡ Num 32 v) ⊥
+        ensures reads { Reads F.Flavor Spells (IsNum 32) (λ t v. t ≡ Num 32 v) never
             (source_of d.old) result (source_of d.new) }
         ensures refused { IfErr result (λ e. Refuses F.Flavor (WantsDigit 32) (BadNumber 32)
             (source_of d.old) e (source_of d.new)) }
@@ -93,7 +94,7 @@ impl DeserializeOwned for u32 {
 
 impl<'de> Deserialize<'de> for u64 {
     fn deserialize<F: Flavor>(_alloc: Global, d: &mut Deserializer<'de, F>) -> Result<Self>
-        ensures reads { Reads F.Flavor Spells (IsNum 64) (λ t v. t ≡ Num 64 v) ⊥
+        ensures reads { Reads F.Flavor Spells (IsNum 64) (λ t v. t ≡ Num 64 v) never
             (source_of d.old) result (source_of d.new) }
         ensures refused { IfErr result (λ e. Refuses F.Flavor (WantsDigit 64) (BadNumber 64)
             (source_of d.old) e (source_of d.new)) }
@@ -107,7 +108,7 @@ impl DeserializeOwned for u64 {
         alloc: Global,
         d: &mut Deserializer<'de, F>,
     ) -> Result<Self>
-        ensures reads { Reads F.Flavor Spells (IsNum 64) (λ t v. t ≡ Num 64 v) ⊥
+        ensures reads { Reads F.Flavor Spells (IsNum 64) (λ t v. t ≡ Num 64 v) never
             (source_of d.old) result (source_of d.new) }
         ensures refused { IfErr result (λ e. Refuses F.Flavor (WantsDigit 64) (BadNumber 64)
             (source_of d.old) e (source_of d.new)) }
@@ -118,7 +119,7 @@ impl DeserializeOwned for u64 {
 
 impl<'de> Deserialize<'de> for u128 {
     fn deserialize<F: Flavor>(_alloc: Global, d: &mut Deserializer<'de, F>) -> Result<Self>
-        ensures reads { Reads F.Flavor Spells (IsNum 128) (λ t v. t ≡ Num 128 v) ⊥
+        ensures reads { Reads F.Flavor Spells (IsNum 128) (λ t v. t ≡ Num 128 v) never
             (source_of d.old) result (source_of d.new) }
         ensures refused { IfErr result (λ e. Refuses F.Flavor (WantsDigit 128) (BadNumber 128)
             (source_of d.old) e (source_of d.new)) }
@@ -132,7 +133,7 @@ impl DeserializeOwned for u128 {
         alloc: Global,
         d: &mut Deserializer<'de, F>,
     ) -> Result<Self>
-        ensures reads { Reads F.Flavor Spells (IsNum 128) (λ t v. t ≡ Num 128 v) ⊥
+        ensures reads { Reads F.Flavor Spells (IsNum 128) (λ t v. t ≡ Num 128 v) never
             (source_of d.old) result (source_of d.new) }
         ensures refused { IfErr result (λ e. Refuses F.Flavor (WantsDigit 128) (BadNumber 128)
             (source_of d.old) e (source_of d.new)) }
@@ -143,7 +144,7 @@ impl DeserializeOwned for u128 {
 
 impl<'de> Deserialize<'de> for i8 {
     fn deserialize<F: Flavor>(_alloc: Global, d: &mut Deserializer<'de, F>) -> Result<Self>
-        ensures reads { Reads F.Flavor Spells IsByte (λ t v. t ≡ Byte (cast_unsigned w8 v)) ⊥
+        ensures reads { Reads F.Flavor Spells IsByte (λ t v. t ≡ Byte (cast_unsigned w8 v)) never
             (source_of d.old) result (source_of d.new) }
         ensures refused { IfErr result (λ e. Refuses F.Flavor WantsByte NoneBad
             (source_of d.old) e (source_of d.new)) }
@@ -157,7 +158,7 @@ impl DeserializeOwned for i8 {
         alloc: Global,
         d: &mut Deserializer<'de, F>,
     ) -> Result<Self>
-        ensures reads { Reads F.Flavor Spells IsByte (λ t v. t ≡ Byte (cast_unsigned w8 v)) ⊥
+        ensures reads { Reads F.Flavor Spells IsByte (λ t v. t ≡ Byte (cast_unsigned w8 v)) never
             (source_of d.old) result (source_of d.new) }
         ensures refused { IfErr result (λ e. Refuses F.Flavor WantsByte NoneBad
             (source_of d.old) e (source_of d.new)) }
@@ -168,7 +169,7 @@ impl DeserializeOwned for i8 {
 
 impl<'de> Deserialize<'de> for i16 {
     fn deserialize<F: Flavor>(_alloc: Global, d: &mut Deserializer<'de, F>) -> Result<Self>
-        ensures reads { Reads F.Flavor Spells (IsInt 16) (λ t v. t ≡ Int 16 v) ⊥
+        ensures reads { Reads F.Flavor Spells (IsInt 16) (λ t v. t ≡ Int 16 v) never
             (source_of d.old) result (source_of d.new) }
         ensures refused { IfErr result (λ e. Refuses F.Flavor (WantsDigit 16) (BadNumber 16)
             (source_of d.old) e (source_of d.new)) }
@@ -182,7 +183,7 @@ impl DeserializeOwned for i16 {
         alloc: Global,
         d: &mut Deserializer<'de, F>,
     ) -> Result<Self>
-        ensures reads { Reads F.Flavor Spells (IsInt 16) (λ t v. t ≡ Int 16 v) ⊥
+        ensures reads { Reads F.Flavor Spells (IsInt 16) (λ t v. t ≡ Int 16 v) never
             (source_of d.old) result (source_of d.new) }
         ensures refused { IfErr result (λ e. Refuses F.Flavor (WantsDigit 16) (BadNumber 16)
             (source_of d.old) e (source_of d.new)) }
@@ -193,7 +194,7 @@ impl DeserializeOwned for i16 {
 
 impl<'de> Deserialize<'de> for i32 {
     fn deserialize<F: Flavor>(_alloc: Global, d: &mut Deserializer<'de, F>) -> Result<Self>
-        ensures reads { Reads F.Flavor Spells (IsInt 32) (λ t v. t ≡ Int 32 v) ⊥
+        ensures reads { Reads F.Flavor Spells (IsInt 32) (λ t v. t ≡ Int 32 v) never
             (source_of d.old) result (source_of d.new) }
         ensures refused { IfErr result (λ e. Refuses F.Flavor (WantsDigit 32) (BadNumber 32)
             (source_of d.old) e (source_of d.new)) }
@@ -207,7 +208,7 @@ impl DeserializeOwned for i32 {
         alloc: Global,
         d: &mut Deserializer<'de, F>,
     ) -> Result<Self>
-        ensures reads { Reads F.Flavor Spells (IsInt 32) (λ t v. t ≡ Int 32 v) ⊥
+        ensures reads { Reads F.Flavor Spells (IsInt 32) (λ t v. t ≡ Int 32 v) never
             (source_of d.old) result (source_of d.new) }
         ensures refused { IfErr result (λ e. Refuses F.Flavor (WantsDigit 32) (BadNumber 32)
             (source_of d.old) e (source_of d.new)) }
@@ -218,7 +219,7 @@ impl DeserializeOwned for i32 {
 
 impl<'de> Deserialize<'de> for i64 {
     fn deserialize<F: Flavor>(_alloc: Global, d: &mut Deserializer<'de, F>) -> Result<Self>
-        ensures reads { Reads F.Flavor Spells (IsInt 64) (λ t v. t ≡ Int 64 v) ⊥
+        ensures reads { Reads F.Flavor Spells (IsInt 64) (λ t v. t ≡ Int 64 v) never
             (source_of d.old) result (source_of d.new) }
         ensures refused { IfErr result (λ e. Refuses F.Flavor (WantsDigit 64) (BadNumber 64)
             (source_of d.old) e (source_of d.new)) }
@@ -232,7 +233,7 @@ impl DeserializeOwned for i64 {
         alloc: Global,
         d: &mut Deserializer<'de, F>,
     ) -> Result<Self>
-        ensures reads { Reads F.Flavor Spells (IsInt 64) (λ t v. t ≡ Int 64 v) ⊥
+        ensures reads { Reads F.Flavor Spells (IsInt 64) (λ t v. t ≡ Int 64 v) never
             (source_of d.old) result (source_of d.new) }
         ensures refused { IfErr result (λ e. Refuses F.Flavor (WantsDigit 64) (BadNumber 64)
             (source_of d.old) e (source_of d.new)) }
@@ -243,7 +244,7 @@ impl DeserializeOwned for i64 {
 
 impl<'de> Deserialize<'de> for i128 {
     fn deserialize<F: Flavor>(_alloc: Global, d: &mut Deserializer<'de, F>) -> Result<Self>
-        ensures reads { Reads F.Flavor Spells (IsInt 128) (λ t v. t ≡ Int 128 v) ⊥
+        ensures reads { Reads F.Flavor Spells (IsInt 128) (λ t v. t ≡ Int 128 v) never
             (source_of d.old) result (source_of d.new) }
         ensures refused { IfErr result (λ e. Refuses F.Flavor (WantsDigit 128) (BadNumber 128)
             (source_of d.old) e (source_of d.new)) }
@@ -257,7 +258,7 @@ impl DeserializeOwned for i128 {
         alloc: Global,
         d: &mut Deserializer<'de, F>,
     ) -> Result<Self>
-        ensures reads { Reads F.Flavor Spells (IsInt 128) (λ t v. t ≡ Int 128 v) ⊥
+        ensures reads { Reads F.Flavor Spells (IsInt 128) (λ t v. t ≡ Int 128 v) never
             (source_of d.old) result (source_of d.new) }
         ensures refused { IfErr result (λ e. Refuses F.Flavor (WantsDigit 128) (BadNumber 128)
             (source_of d.old) e (source_of d.new)) }

@@ -1,5 +1,15 @@
 //! Options, and results, which are read as an enum of two variants.
 
+ghost use Rattle.std.specs.Prelude.{◌⊎◌, IfErr};
+ghost use Rattle.postcard_wire.specs.Spelling.{Spells};
+ghost use Rattle.postcard_wire.specs.Reading.{IsOption, IsVariant};
+ghost use Rattle.postcard_shape.specs.Options.{OptionIs, ResultReads, ResultIs, VariantIs};
+ghost use Rattle.postcard_shape.specs.Shape.{either};
+ghost use Rattle.postcard_de.specs.Reads.{Reads};
+ghost use Rattle.postcard_de.specs.Refuses.{Refuses, WantsByte, WantsDigit};
+ghost use Rattle.postcard_de.specs.Unfit.{BadOption, ContentRefuses, BadIndex, VariantRefuses};
+ghost use Rattle.postcard_de.specs.Deserializer.{source_of};
+
 use crate::deserialize::Deserialize;
 use crate::deserializer::Deserializer;
 use crate::owned::{DeserializeOwned, Owned};
@@ -8,12 +18,19 @@ use postcard_wire::Error;
 use std::alloc::Global;
 
 /// Reads the byte 0 as `None`, and the byte 1 and then a value as `Some`. Fails with
-/// `DeserializeBadOption` at any other byte.
+/// `DeserializeBadOption` at any other byte, and as reading the value does.
 impl<'de, T: Deserialize<'de>> Deserialize<'de> for Option<T> {
     fn deserialize<F: Flavor>(
         alloc: Global,
         d: &mut Deserializer<'de, F>,
-    ) -> postcard_wire::Result<Self> {
+    ) -> postcard_wire::Result<Self>
+        ensures reads { Reads F.Flavor Spells (IsOption T.shape.reads) (OptionIs T.shape.value)
+            T.shape.other (source_of d.old) result (source_of d.new) }
+        ensures refused { IfErr result (λ e. Refuses F.Flavor WantsByte BadOption
+            (source_of d.old) e (source_of d.new)
+            ⊎ ContentRefuses F.Flavor T.shape.reads T.shape.value T.shape.other
+            (source_of d.old) e (source_of d.new)) }
+    {
         d.deserialize_option(alloc)
     }
 }
@@ -22,7 +39,14 @@ impl<T: DeserializeOwned> DeserializeOwned for Option<T> {
     fn deserialize_owned<'de, F: Flavor>(
         alloc: Global,
         d: &mut Deserializer<'de, F>,
-    ) -> postcard_wire::Result<Self> {
+    ) -> postcard_wire::Result<Self>
+        ensures reads { Reads F.Flavor Spells (IsOption T.shape.reads) (OptionIs T.shape.value)
+            T.shape.other (source_of d.old) result (source_of d.new) }
+        ensures refused { IfErr result (λ e. Refuses F.Flavor WantsByte BadOption
+            (source_of d.old) e (source_of d.new)
+            ⊎ ContentRefuses F.Flavor T.shape.reads T.shape.value T.shape.other
+            (source_of d.old) e (source_of d.new)) }
+    {
         let value = d.deserialize_option::<Owned<T>>(alloc)?;
         match value {
             Some(Owned(content)) => Ok(Some(content)),
@@ -31,12 +55,23 @@ impl<T: DeserializeOwned> DeserializeOwned for Option<T> {
     }
 }
 
-/// Reads an enum: `Ok` at index 0, and `Err` at 1. Fails with `SerdeDeCustom` at any other index.
+/// Reads an enum: `Ok` at index 0, and `Err` at 1. Fails with `SerdeDeCustom` at any other index, and
+/// as reading the index or the content does.
 impl<'de, T: Deserialize<'de>, E: Deserialize<'de>> Deserialize<'de> for Result<T, E> {
     fn deserialize<F: Flavor>(
         alloc: Global,
         d: &mut Deserializer<'de, F>,
-    ) -> postcard_wire::Result<Self> {
+    ) -> postcard_wire::Result<Self>
+        ensures reads { Reads F.Flavor Spells (IsVariant (ResultReads T.shape.reads E.shape.reads))
+            (VariantIs (ResultIs T.shape.value E.shape.value))
+            (either T.shape.other E.shape.other) (source_of d.old) result (source_of d.new) }
+        ensures refused { IfErr result (λ e. Refuses F.Flavor (WantsDigit 32) (BadIndex 2)
+            (source_of d.old) e (source_of d.new)
+            ⊎ (VariantRefuses F.Flavor 0 T.shape.reads T.shape.value T.shape.other
+            (source_of d.old) e (source_of d.new)
+            ⊎ VariantRefuses F.Flavor 1 E.shape.reads E.shape.value E.shape.other
+            (source_of d.old) e (source_of d.new))) }
+    {
         let index = d.deserialize_enum("Result", &["Ok", "Err"])?;
         match index {
             0 => {
@@ -56,7 +91,17 @@ impl<T: DeserializeOwned, E: DeserializeOwned> DeserializeOwned for Result<T, E>
     fn deserialize_owned<'de, F: Flavor>(
         alloc: Global,
         d: &mut Deserializer<'de, F>,
-    ) -> postcard_wire::Result<Self> {
+    ) -> postcard_wire::Result<Self>
+        ensures reads { Reads F.Flavor Spells (IsVariant (ResultReads T.shape.reads E.shape.reads))
+            (VariantIs (ResultIs T.shape.value E.shape.value))
+            (either T.shape.other E.shape.other) (source_of d.old) result (source_of d.new) }
+        ensures refused { IfErr result (λ e. Refuses F.Flavor (WantsDigit 32) (BadIndex 2)
+            (source_of d.old) e (source_of d.new)
+            ⊎ (VariantRefuses F.Flavor 0 T.shape.reads T.shape.value T.shape.other
+            (source_of d.old) e (source_of d.new)
+            ⊎ VariantRefuses F.Flavor 1 E.shape.reads E.shape.value E.shape.other
+            (source_of d.old) e (source_of d.new))) }
+    {
         let value = <Result<Owned<T>, Owned<E>>>::deserialize(alloc, d)?;
         match value {
             Ok(Owned(good)) => Ok(Ok(good)),

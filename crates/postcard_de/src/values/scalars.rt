@@ -4,6 +4,7 @@ ghost use Rattle.std.specs.Prelude.{◌≡◌, IfErr};
 ghost use Rattle.postcard_wire.specs.Tree.{Boolean, Char, Num, Int};
 ghost use Rattle.postcard_wire.specs.Spelling.{Spells};
 ghost use Rattle.postcard_wire.specs.Reading.{IsBoolean, IsChar, IsNum, IsInt};
+ghost use Rattle.postcard_shape.specs.Shape.{never};
 ghost use Rattle.postcard_de.specs.Reads.{Reads};
 ghost use Rattle.postcard_de.specs.Refuses.{Refuses, WantsByte, WantsDigit, BadNumber};
 ghost use Rattle.postcard_de.specs.Unfit.{BadBool, WantsChar, BadChar};
@@ -18,7 +19,7 @@ use std::alloc::Global;
 
 impl<'de> Deserialize<'de> for bool {
     fn deserialize<F: Flavor>(_alloc: Global, d: &mut Deserializer<'de, F>) -> Result<Self>
-        ensures reads { Reads F.Flavor Spells IsBoolean (λ t v. t ≡ Boolean v) ⊥
+        ensures reads { Reads F.Flavor Spells IsBoolean (λ t v. t ≡ Boolean v) never
             (source_of d.old) result (source_of d.new) }
         ensures refused { IfErr result (λ e. Refuses F.Flavor WantsByte BadBool
             (source_of d.old) e (source_of d.new)) }
@@ -32,7 +33,7 @@ impl DeserializeOwned for bool {
         alloc: Global,
         d: &mut Deserializer<'de, F>,
     ) -> Result<Self>
-        ensures reads { Reads F.Flavor Spells IsBoolean (λ t v. t ≡ Boolean v) ⊥
+        ensures reads { Reads F.Flavor Spells IsBoolean (λ t v. t ≡ Boolean v) never
             (source_of d.old) result (source_of d.new) }
         ensures refused { IfErr result (λ e. Refuses F.Flavor WantsByte BadBool
             (source_of d.old) e (source_of d.new)) }
@@ -43,7 +44,7 @@ impl DeserializeOwned for bool {
 
 impl<'de> Deserialize<'de> for char {
     fn deserialize<F: Flavor>(_alloc: Global, d: &mut Deserializer<'de, F>) -> Result<Self>
-        ensures reads { Reads F.Flavor Spells IsChar (λ t v. t ≡ Char v) ⊥
+        ensures reads { Reads F.Flavor Spells IsChar (λ t v. t ≡ Char v) never
             (source_of d.old) result (source_of d.new) }
         ensures refused { IfErr result (λ e. Refuses F.Flavor WantsChar BadChar
             (source_of d.old) e (source_of d.new)) }
@@ -57,7 +58,7 @@ impl DeserializeOwned for char {
         alloc: Global,
         d: &mut Deserializer<'de, F>,
     ) -> Result<Self>
-        ensures reads { Reads F.Flavor Spells IsChar (λ t v. t ≡ Char v) ⊥
+        ensures reads { Reads F.Flavor Spells IsChar (λ t v. t ≡ Char v) never
             (source_of d.old) result (source_of d.new) }
         ensures refused { IfErr result (λ e. Refuses F.Flavor WantsChar BadChar
             (source_of d.old) e (source_of d.new)) }
@@ -68,7 +69,7 @@ impl DeserializeOwned for char {
 
 impl<'de> Deserialize<'de> for usize {
     fn deserialize<F: Flavor>(_alloc: Global, d: &mut Deserializer<'de, F>) -> Result<Self>
-        ensures reads { Reads F.Flavor Spells (IsNum 64) (λ t v. t ≡ Num 64 v) ⊥
+        ensures reads { Reads F.Flavor Spells (IsNum 64) (λ t v. t ≡ Num 64 v) never
             (source_of d.old) result (source_of d.new) }
         ensures refused { IfErr result (λ e. Refuses F.Flavor (WantsDigit 64) (BadNumber 64)
             (source_of d.old) e (source_of d.new)) }
@@ -83,7 +84,7 @@ impl DeserializeOwned for usize {
         alloc: Global,
         d: &mut Deserializer<'de, F>,
     ) -> Result<Self>
-        ensures reads { Reads F.Flavor Spells (IsNum 64) (λ t v. t ≡ Num 64 v) ⊥
+        ensures reads { Reads F.Flavor Spells (IsNum 64) (λ t v. t ≡ Num 64 v) never
             (source_of d.old) result (source_of d.new) }
         ensures refused { IfErr result (λ e. Refuses F.Flavor (WantsDigit 64) (BadNumber 64)
             (source_of d.old) e (source_of d.new)) }
@@ -94,7 +95,7 @@ impl DeserializeOwned for usize {
 
 impl<'de> Deserialize<'de> for isize {
     fn deserialize<F: Flavor>(_alloc: Global, d: &mut Deserializer<'de, F>) -> Result<Self>
-        ensures reads { Reads F.Flavor Spells (IsInt 64) (λ t v. t ≡ Int 64 v) ⊥
+        ensures reads { Reads F.Flavor Spells (IsInt 64) (λ t v. t ≡ Int 64 v) never
             (source_of d.old) result (source_of d.new) }
         ensures refused { IfErr result (λ e. Refuses F.Flavor (WantsDigit 64) (BadNumber 64)
             (source_of d.old) e (source_of d.new)) }
@@ -109,7 +110,7 @@ impl DeserializeOwned for isize {
         alloc: Global,
         d: &mut Deserializer<'de, F>,
     ) -> Result<Self>
-        ensures reads { Reads F.Flavor Spells (IsInt 64) (λ t v. t ≡ Int 64 v) ⊥
+        ensures reads { Reads F.Flavor Spells (IsInt 64) (λ t v. t ≡ Int 64 v) never
             (source_of d.old) result (source_of d.new) }
         ensures refused { IfErr result (λ e. Refuses F.Flavor (WantsDigit 64) (BadNumber 64)
             (source_of d.old) e (source_of d.new)) }

@@ -4,6 +4,7 @@ ghost use Rattle.std.specs.Prelude.{◌≡◌, IfErr, string_bytes, ⊤};
 ghost use Rattle.postcard_wire.specs.Tree.{Text};
 ghost use Rattle.postcard_wire.specs.Spelling.{Spells};
 ghost use Rattle.postcard_wire.specs.Reading.{IsText};
+ghost use Rattle.postcard_shape.specs.Shape.{never, memory};
 ghost use Rattle.postcard_de.specs.Reads.{Reads};
 ghost use Rattle.postcard_de.specs.Refuses.{Refuses, WantsText, BadText};
 ghost use Rattle.postcard_de.specs.Deserializer.{source_of};
@@ -21,7 +22,7 @@ use std::sync::ArcStr;
 
 impl<'de> Deserialize<'de> for &'de str {
     fn deserialize<F: Flavor>(_alloc: Global, d: &mut Deserializer<'de, F>) -> Result<Self>
-        ensures reads { Reads F.Flavor Spells IsText (λ t v. t ≡ Text v.now) ⊥
+        ensures reads { Reads F.Flavor Spells IsText (λ t v. t ≡ Text v.now) never
             (source_of d.old) result (source_of d.new) }
         ensures refused { IfErr result (λ e. Refuses F.Flavor WantsText (BadText ⊥)
             (source_of d.old) e (source_of d.new)) }
@@ -32,7 +33,7 @@ impl<'de> Deserialize<'de> for &'de str {
 
 impl<'de> Deserialize<'de> for String {
     fn deserialize<F: Flavor>(alloc: Global, d: &mut Deserializer<'de, F>) -> Result<Self>
-        ensures reads { Reads F.Flavor Spells IsText (λ t v. t ≡ Text (string_bytes v)) ⊤
+        ensures reads { Reads F.Flavor Spells IsText (λ t v. t ≡ Text (string_bytes v)) memory
             (source_of d.old) result (source_of d.new) }
         ensures refused { IfErr result (λ e. Refuses F.Flavor WantsText (BadText ⊤)
             (source_of d.old) e (source_of d.new)) }
@@ -46,7 +47,7 @@ impl DeserializeOwned for String {
         alloc: Global,
         d: &mut Deserializer<'de, F>,
     ) -> Result<Self>
-        ensures reads { Reads F.Flavor Spells IsText (λ t v. t ≡ Text (string_bytes v)) ⊤
+        ensures reads { Reads F.Flavor Spells IsText (λ t v. t ≡ Text (string_bytes v)) memory
             (source_of d.old) result (source_of d.new) }
         ensures refused { IfErr result (λ e. Refuses F.Flavor WantsText (BadText ⊤)
             (source_of d.old) e (source_of d.new)) }

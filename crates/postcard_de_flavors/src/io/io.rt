@@ -8,7 +8,7 @@ ghost use Rattle.postcard_de_flavors.specs.contracts.io.io.IOReader.{the_row};
 ghost use mir.Syntax.{named};
 ghost use Rattle.postcard_de_flavors.specs.Source.{Takes};
 ghost use Rattle.postcard_de_flavors.specs.Reader.{AtLeast};
-ghost use Rattle.postcard_de_flavors.specs.IOReader.{reader_of, scratch_of, CanRead, MayBecome};
+ghost use Rattle.postcard_de_flavors.specs.IOReader.{reader_of, scratch_of, left_of, CanRead, MayBecome};
 ghost use Rattle.postcard_de_flavors.specs.IOReader.{LendsScratch, reader_laws};
 
 use super::sliding_buffer::SlidingBuffer;
@@ -50,7 +50,7 @@ impl<'de, T: Source> Flavor for IOReader<'de, T> {
 
     type Source = &'de [u8];
 
-    ghost left = { λ s. T.remaining (reader_of s) };
+    ghost left = { left_of T.remaining };
 
     ghost able = { CanRead T.remaining T.steady };
 

@@ -4,6 +4,7 @@ use Rattle.postcard_de_nodes.specs.ReadLemmas.{is_refusal}
 use Rattle.postcard_wire.specs.Spelling.{canonical}
 use Rattle.crc.specs.Frame.{low_bytes}
 use Rattle.postcard_wire.specs.declared.error.Error.TheVariants.{DeserializeBadEncoding}
+use Rattle.postcard_shape.specs.Shape.{Grows}
 use Rattle.postcard_crc.proofs.Errors.{of_faultless}
 use Rattle.postcard_crc.specs.Reading.{ReadsChecked}
 use Rattle.postcard_crc.proofs.de.from_bytes_whole.Goals as goal
@@ -74,7 +75,7 @@ returns-then-is_end-clause-exact_errors g c = c.in_ok-value.ensures.exact_errors
 pub returns-else-is_end-clause-exact_errors : goal.returns-else-is_end-clause-exact_errors
 returns-else-is_end-clause-exact_errors g c =
     let s = g.T.Shaped.shape in
-    of_faultless s.reads s.grows g.W.Width.size c.args.digest c.args.bytes.now DeserializeBadEncoding c.in_ok-value.ensures.exact_errors (λ e. cc) (λ e. cc)
+    of_faultless s.reads (Grows s) g.W.Width.size c.args.digest c.args.bytes.now DeserializeBadEncoding c.in_ok-value.ensures.exact_errors (λ e. cc) (λ e. cc)
 
 pub returns-else-is_end-clause-bytes_after : goal.returns-else-is_end-clause-bytes_after
 returns-else-is_end-clause-bytes_after g c t a m front rest crc read spelled sound took is e some = inl refl

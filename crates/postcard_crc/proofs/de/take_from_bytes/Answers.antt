@@ -1,6 +1,7 @@
 -- The front is followed by its checksum, so the check succeeds; what was read to its end is a frame.
 use Rattle.std.proofs.Common.{◌++◌, sym, ap, ◌∙◌, append_assoc}
 use Rattle.postcard_wire.specs.Spelling.{canonical}
+use Rattle.postcard_shape.specs.Shape.{Grows}
 use Rattle.crc.specs.Frame.{low_bytes}
 use Rattle.postcard_de_nodes.specs.ReadLemmas.{is_refusal}
 use Rattle.postcard_crc.proofs.Errors.{of_value, of_check, of_success}
@@ -56,7 +57,7 @@ returns-in_err-rest-clause-exact_errors g c =
     let h = c.in_err-rest.ensures in
     let e = c.in_err-rest.field-0.0 in
     rw (is_refusal c.from_residual-in_err-rest.result e c.from_residual-in_err-rest.ensures.1)
-    (of_check s.reads s.grows g.W.Width.size c.args.digest c.args.bytes.now f.tree f.front c.in_ok-value.rest.now f.is_read f.is_spelled f.joins
+    (of_check s.reads (Grows s) g.W.Width.size c.args.digest c.args.bytes.now f.tree f.front c.in_ok-value.rest.now f.is_read f.is_spelled f.joins
     (λ t p q read spelled j. (c.in_ok-value.ensures.accepts t p q read spelled j).1) e (λ few. let is = h.short few in cc) h.long
     (λ a m after crc sound took is j. h.accepts a m f.front after crc sound took f.joins is j))
 
@@ -64,7 +65,7 @@ pub returns-clause-exact_errors : goal.returns-clause-exact_errors
 returns-clause-exact_errors g c =
     let s = g.T.Shaped.shape in
     let h = c.in_ok-rest.ensures in
-    of_success s.reads s.grows g.W.Width.size c.args.digest c.args.bytes.now
+    of_success s.reads (Grows s) g.W.Width.size c.args.digest c.args.bytes.now
     (λ t p q read spelled j.
     let at = c.in_ok-value.ensures.accepts t p q read spelled j in
     let follows = h.gives p (j ∙ ap (λ z. p ++ z) (sym at.1)) in
@@ -76,4 +77,4 @@ returns-in_err-value-clause-exact_errors g c =
     let h = c.in_err-value.ensures in
     let e = c.in_err-value.field-0.0 in
     rw (is_refusal c.from_residual.result e c.from_residual.ensures.1)
-    (of_value s.reads s.grows g.W.Width.size c.args.digest c.args.bytes.now e h.accepts h.named_error)
+    (of_value s.reads (Grows s) g.W.Width.size c.args.digest c.args.bytes.now s.other e h.accepts h.named_error)

@@ -30,7 +30,7 @@ returns-in_err-value-clause-reads_back g c x rest f e =
     let found = refused.ensures.accepts t (canonical t) (s.again x f).0 (is_spelled s x f)
     (record { begins = (rest, all); enough = long_enough _ (canonical t) rest all }) in
     let passed = is_refusal c.from_residual.result refused.field-0.0 c.from_residual.ensures.1 in
-    rw passed (found, only_grown s.grows _ refused.ensures.named_error found)
+    rw passed (found, only_grown s.other _ refused.ensures.named_error found)
 
 pub returns-clause-reads_back : goal.returns-clause-reads_back
 returns-clause-reads_back g c x rest f e =

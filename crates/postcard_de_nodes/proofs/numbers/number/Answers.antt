@@ -1,4 +1,6 @@
+use Rattle.std.proofs.Common.{[], ◌∷◌, ◌++◌, arith, length-append}
 use Rattle.postcard_de_nodes.specs.ReadLemmas.{is_refusal}
+use Rattle.postcard_de_nodes.specs.TakeLemmas.{both_taken}
 use Rattle.postcard_de_nodes.proofs.VarintLoop.{begun, number_read, number_ends, number_bad}
 use Rattle.postcard_de_nodes.proofs.VarintLoop.{number_refused}
 use Rattle.postcard_de_nodes.proofs.numbers.number.Goals as goal
@@ -40,3 +42,17 @@ returns-in-Some-clause-reads g c =
     let so = c.loop-place.invariant.0 in
     let k = rw c.in-Some.is at (c.in_ok-n.ensures so.front so.read) in
     number_read laws so c.in_ok-byte.ensures.gives c.in_ok-byte.ensures.leaves k.0 k.1
+
+pub loop-place-preserved : goal.loop-place-preserved
+loop-place-preserved g c =
+    let so = c.loop-place.invariant.0 in
+    let front = so.front ++ c.in_ok-byte.byte ∷ [] in
+    let pushed = rw c.in_default.is at (c.in_ok-n.ensures so.front so.read) in (
+      record {
+        front = front;
+        read = pushed;
+        taken = both_taken so.taken c.in_ok-byte.ensures.gives;
+        leaves = g.F.Flavor.lawful.joins _ _ _ so.leaves c.in_ok-byte.ensures.leaves;
+      },
+      omega (arith, pushed.count, so.read.count, c.loop-place.invariant.1, length-append so.front (c.in_ok-byte.byte ∷ [])),
+    )

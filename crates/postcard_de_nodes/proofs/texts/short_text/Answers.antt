@@ -1,5 +1,6 @@
 use Rattle.std.proofs.Common.{◌≡◌, ℕ, ◌≤◌, ◌<◌, ◌^◌, inl, List, length, refl, ◌∙◌, rules}
 use Rattle.std.specs.Prelude.{IsUtf8}
+use Rattle.postcard_shape.specs.Shape.{never}
 use Rattle.postcard_shape.specs.Fixed.{short_text_inside}
 use Rattle.postcard_de_nodes.specs.ReadLemmas.{widened}
 use Rattle.postcard_de_nodes.proofs.TextLemmas.{text_refused, length_refused, text_ends, text_bad}
@@ -12,16 +13,16 @@ use Rattle.postcard_de_nodes.proofs.texts.short_text.Goals as goal
 pub returns-in_err-count-clause-reads : goal.returns-in_err-count-clause-reads
 returns-in_err-count-clause-reads g c =
     let laws = g.F.Flavor.lawful in
-    passed_on (short_text_inside g.row.CAP) (λ h. h) c.from_residual.ensures.1
-    (text_refused laws {V = ℕ} {value = λ t v. ⊥} {G = ⊥}
+    passed_on (short_text_inside g.row.CAP) (λ e h. h) c.from_residual.ensures.1
+    (text_refused laws {V = ℕ} {value = λ t v. ⊥} {G = never}
     (length_refused laws c.in_err-count.ensures.refused) c.in_err-count.ensures.reads.leaves)
 
 pub returns-in_err-bytes-clause-reads : goal.returns-in_err-bytes-clause-reads
 returns-in_err-bytes-clause-reads g c =
     let laws = g.F.Flavor.lawful in
     let lent = c.try_take_n_temp.follows.holds-at-none in
-    passed_on (short_text_inside g.row.CAP) (λ h. h) c.from_residual-in_err-bytes.ensures.1
-    (text_refused laws {V = ℕ} {value = λ t v. ⊥} {G = ⊥}
+    passed_on (short_text_inside g.row.CAP) (λ e h. h) c.from_residual-in_err-bytes.ensures.1
+    (text_refused laws {V = ℕ} {value = λ t v. ⊥} {G = never}
     (text_ends laws c.in_ok-count.ensures.reads
     (λ a. let bad = c.in_err-bytes.ensures.accepts a in cc) c.in_err-bytes.ensures.refuses_by_unexpected_end)
     (laws.joins _ _ _ c.in_ok-count.ensures.reads.leaves lent.1))
@@ -40,7 +41,7 @@ returns-in-Ok-from-clause-reads g c =
     let e : c.in-Ok-from.short.bytes ≡ u = c.in-Ok-from.ensures.ok ∙ c.in-Ok.ensures.cases.0 in
     seen_as (short_text_inside g.row.CAP) (short_fits g.row.CAP u c.in-Ok-from.short.bytes few utf8
     low e)
-    (text_read laws c.in_ok-count.ensures.reads c.in_ok-bytes.ensures.length gives {G = ⊥}
+    (text_read laws c.in_ok-count.ensures.reads c.in_ok-bytes.ensures.length gives {G = never}
     (λ (v : List ℕ). v) u refl utf8 lent.1)
 
 pub returns-in-Err-from-clause-reads : goal.returns-in-Err-from-clause-reads
@@ -53,7 +54,7 @@ returns-in-Err-from-clause-reads g c =
     let many : length u ≤ g.row.CAP → ⊥ = rw c.in-Ok.ensures.cases.0 at long in
     let utf8 : IsUtf8 u = c.in-Ok.ensures.cases.1 in
     unfit tt (short_text_inside g.row.CAP) (long_unfit g.row.CAP u many)
-    (text_read laws c.in_ok-count.ensures.reads c.in_ok-bytes.ensures.length gives {G = ⊥}
+    (text_read laws c.in_ok-count.ensures.reads c.in_ok-bytes.ensures.length gives {G = never}
     (λ (v : List ℕ). v) u refl utf8 lent.1)
 
 pub returns-in-Err-clause-reads : goal.returns-in-Err-clause-reads
@@ -61,8 +62,8 @@ returns-in-Err-clause-reads g c =
     let laws = g.F.Flavor.lawful in
     let lent = c.try_take_n_temp.follows.holds-at-none in
     let gives = rw c.in_ok-bytes.was at lent.0 in
-    refused_too (short_text_inside g.row.CAP) (λ h. h)
-    (text_refused laws {V = ℕ} {value = λ t v. ⊥} {G = ⊥}
+    refused_too (short_text_inside g.row.CAP) (λ e h. h)
+    (text_refused laws {V = ℕ} {value = λ t v. ⊥} {G = never}
     (text_bad laws c.in_ok-count.ensures.reads c.in_ok-bytes.ensures.length gives
     c.in-Err.ensures.cases.0) (laws.joins _ _ _ c.in_ok-count.ensures.reads.leaves lent.1))
 

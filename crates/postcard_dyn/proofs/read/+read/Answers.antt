@@ -22,7 +22,7 @@ read_list-returns-in_err-count g t c =
 
 pub read_list-returns-in_err-items : goal.read_list-returns-in_err-items
 read_list-returns-in_err-items g t c =
-    passed_on (λ x a. a) (λ h. h) c.from_residual-in_err-items.ensures.1
+    passed_on (λ x a. a) (λ e h. h) c.from_residual-in_err-items.ensures.1
     (list_refused g.F.Flavor.lawful (λ (vs : List Value). vs) (as_count c.in_ok-count.ensures.reads) (no_list c.in_err-items.ensures))
 
 pub read_list-returns : goal.read_list-returns
@@ -51,20 +51,20 @@ pub read_elements-returns-in_err-item : goal.read_elements-returns-in_err-item
 read_elements-returns-in_err-item g t c =
     let laws = g.F.Flavor.lawful in
     let more : c.args.count - c.loop.counter ≡ suc (c.args.count - (c.loop.counter + 1)) = omega arith in
-    passed_on (λ x a. a) (λ h. h) c.from_residual.ensures.1 (going_stops laws (λ h. h) (rw more at c.loop.invariant) c.in_err-item.ensures)
+    passed_on (λ x a. a) (λ e h. h) c.from_residual.ensures.1 (going_stops laws (λ e h. h) (rw more at c.loop.invariant) c.in_err-item.ensures)
 
 pub read_elements-returns-in_err-push : goal.read_elements-returns-in_err-push
 read_elements-returns-in_err-push g t c =
     let laws = g.F.Flavor.lawful in
     let more : c.args.count - c.loop.counter ≡ suc (c.args.count - (c.loop.counter + 1)) = omega arith in
-    passed_on (λ x a. a) (λ h. h) (rw c.in_err-push.ensures.refused at c.from_residual-in_err-push.ensures.1)
+    passed_on (λ x a. a) (λ e h. h) (rw c.in_err-push.ensures.refused at c.from_residual-in_err-push.ensures.1)
     (going_full laws tt (rw more at c.loop.invariant) c.in_ok-item.ensures.leaves)
 
 pub read_elements-loop-preserved : goal.read_elements-loop-preserved
 read_elements-loop-preserved g t c =
     let laws = g.F.Flavor.lawful in
     let more : c.args.count - c.loop.counter ≡ suc (c.args.count - (c.loop.counter + 1)) = omega arith in
-    rw c.in_ok-push.ensures.added (goes_on laws (λ h. h) (rw more at c.loop.invariant) c.in_ok-item.ensures)
+    rw c.in_ok-push.ensures.added (goes_on laws (λ e h. h) (rw more at c.loop.invariant) c.in_ok-item.ensures)
 
 pub read_elements-returns : goal.read_elements-returns
 read_elements-returns g t c =
@@ -149,7 +149,7 @@ read_variant-returns-in_err-content g t c =
     let low : i < length xs = grind (arith, common_steps) in
     let here : reads_at (types_of xs) i ≡ reads (type_of s) = type_at xs i s low c.in-Some.ensures.lookup.1 in
     rw (← c.deref.ensures.value)
-    (content_refused g.F.Flavor.lawful (λ h. h) c.from_residual-in_err-content.ensures.1 c.in_ok-index.ensures.reads
+    (content_refused g.F.Flavor.lawful (λ e h. h) c.from_residual-in_err-content.ensures.1 c.in_ok-index.ensures.reads
     (rw (← here) at c.in_err-content.ensures))
 
 pub read_variant-returns-in_err-held : goal.read_variant-returns-in_err-held

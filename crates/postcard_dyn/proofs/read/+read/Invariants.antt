@@ -1,6 +1,6 @@
 -- What each loop has read so far, and how the result of reading the rest makes the result of reading all.
 use Rattle.std.proofs.Common.{◌-◌, drop}
-use Rattle.std.specs.Prelude.{⊤}
+use Rattle.postcard_shape.specs.Shape.{memory}
 use Rattle.postcard_de.specs.Deserializer.{source_of}
 use Rattle.postcard_de.proofs.Lists.{Going}
 use Rattle.postcard_dyn_schema.specs.Meaning.{type_of, types_of, reads}
@@ -14,4 +14,4 @@ invariant-read_group-loop-part g l = let f = g.F.Flavor in
 
 abbrev pub invariant-read_elements-loop : goal.invariant-read_elements-loop
 invariant-read_elements-loop g l = let f = g.F.Flavor in
-    Going f.left f.able f.may_leave (reads (type_of l.element)) IsTree ⊤ (source_of l.initial.d) l.count l.items.items (source_of l.d) (l.count - l.counter)
+    Going f.left f.able f.may_leave (reads (type_of l.element)) IsTree memory (source_of l.initial.d) l.count l.items.items (source_of l.d) (l.count - l.counter)

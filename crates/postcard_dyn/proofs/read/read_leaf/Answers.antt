@@ -16,10 +16,10 @@ pub returns-in_ok-deserialize-in-F32 : goal.returns-in_ok-deserialize-in-F32
 returns-in_ok-deserialize-in-F32 g c =
     let n = c.in_ok-deserialize-in-F32.field-0 in
     let seen : tree (F32 n) ≡ bits_tree 4 n = search (rules, the_lemmas) in
-    rw c.in-F32.is (seen_as (λ x a. a) (λ x r h. (r, bits_are 4 n x r h ∙ sym seen)) c.in_ok-deserialize-in-F32.ensures)
+    rw c.in-F32.is (seen_as (λ x a. a) (λ x r h. (r, bits_are 4 n x r h ∙ sym seen)) c.in_ok-deserialize-in-F32.ensures.reads)
 
 pub returns-in_ok-deserialize-in-F64 : goal.returns-in_ok-deserialize-in-F64
 returns-in_ok-deserialize-in-F64 g c =
     let n = c.in_ok-deserialize-in-F64.field-0 in
     let seen : tree (F64 n) ≡ bits_tree 8 n = search (rules, the_lemmas) in
-    rw c.in-F64.is (seen_as (λ x a. a) (λ x r h. (r, bits_are 8 n x r h ∙ sym seen)) c.in_ok-deserialize-in-F64.ensures)
+    rw c.in-F64.is (seen_as (λ x a. a) (λ x r h. (r, bits_are 8 n x r h ∙ sym seen)) c.in_ok-deserialize-in-F64.ensures.reads)

@@ -29,7 +29,7 @@ returns-in_err-number-in-1 g t c =
     let f = c.if-limit-eq0.false in
     link_refused laws c.args.limit (c.args.limit - 1) (omega arith) c.in-1.is
     c.from_residual-in_err-number-in-1.ensures.1 c.in_ok-deserialize_enum.ensures.reads
-    (stops laws {H = ⊥} c.in_err-number-in-1.ensures.reads)
+    (stops laws c.in_err-number-in-1.ensures.reads)
 
 pub returns-in_err-rest-in-1 : goal.returns-in_err-rest-in-1
 returns-in_err-rest-in-1 g t c =
@@ -37,7 +37,7 @@ returns-in_err-rest-in-1 g t c =
     let f = c.if-limit-eq0.false in
     link_refused laws c.args.limit (c.args.limit - 1) (omega arith) c.in-1.is
     c.from_residual-in_err-rest-in-1.ensures.1 c.in_ok-deserialize_enum.ensures.reads
-    (and_fails laws c.in_ok-number-in-1.ensures.reads (stops laws {H = ⊥}
+    (and_fails laws c.in_ok-number-in-1.ensures.reads (stops laws
     c.in_err-rest-in-1.ensures))
 
 pub returns-in-Ok : goal.returns-in-Ok

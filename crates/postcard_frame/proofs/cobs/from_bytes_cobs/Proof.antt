@@ -12,6 +12,7 @@ use Rattle.postcard_wire.specs.contracts.error.Error.{the_row as err_row}
 use Rattle.postcard_wire.proofs.error.Error.TheLaws.{the_row_laws as err_laws}
 use Rattle.postcard_cobs.specs.Groups.{before_zero}
 use Rattle.postcard_de.specs.Reads.{IsReadError}
+use Rattle.postcard_shape.specs.Shape.{Grows}
 use base.Fml.{Lft, GName, Share, fobs}
 use base.Logic.{ent, emp}
 use base.Stored.{coded_list}
@@ -149,8 +150,8 @@ walk decodes reads 𝓤 𝓛 𝓜 𝓡 wired T L Gh D Sh Ds Dd P met shaped glue
     returns ! (look_at ! 0 refl) $ free_all ! refl $
     let F : List ℕ = before_zero xs in
     let is-read = read F (subst (λ (m : List ℕ). HasDataOf F m d.len) (sym front_is) (has_data xs d made)) in
-    use0 𝓛 (raw (fact 𝓤 (IfErr w (λ x. (x ≡ DeserializeBadEncoding) ⊎ IsReadError Sh.shape.grows x)))) (fact_i 𝓤 _ (emp 𝓤) is-read.named_error) $
-    use0 𝓛 (raw (fact 𝓤 (w ≡ Err OutOfMemory → Sh.shape.grows))) (fact_i 𝓤 _ (emp 𝓤) is-read.out_of_memory_only_if_grows) $
+    use0 𝓛 (raw (fact 𝓤 (IfErr w (λ x. (x ≡ DeserializeBadEncoding) ⊎ IsReadError Sh.shape.other x)))) (fact_i 𝓤 _ (emp 𝓤) is-read.named_error) $
+    use0 𝓛 (raw (fact 𝓤 (w ≡ Err OutOfMemory → Grows Sh.shape))) (fact_i 𝓤 _ (emp 𝓤) is-read.out_of_memory_only_if_grows) $
     use0 𝓛 (raw (fact 𝓤 (w ≡ Err DeserializeBadEncoding → HasNoData F))) (fact_i 𝓤 _ (emp 𝓤) is-read.bad_only_if_no_data) $
     use0 𝓛 (raw (fact 𝓤 (HasNoData F → IsErrOf w DeserializeBadEncoding))) (fact_i 𝓤 _ (emp 𝓤) is-read.no_frame) $
     use0 𝓛 (raw (fact 𝓤 (ReadsBackFrame Sh.shape (λ x. x) F w))) (fact_i 𝓤 _ (emp 𝓤) is-read.reads_back) $

@@ -13,6 +13,7 @@ use Rattle.postcard_wire.specs.contracts.error.Error.{the_row as err_row}
 use Rattle.postcard_wire.proofs.error.Error.TheLaws.{the_row_laws as err_laws}
 use Rattle.postcard_cobs.specs.Groups.{before_zero}
 use Rattle.postcard_de.specs.Reads.{IsReadError}
+use Rattle.postcard_shape.specs.Shape.{Grows}
 use base.Fml.{Lft, GName, Share}
 use base.Logic.{ent, emp}
 use contract.BorrowLft.{◌⊑◌}
@@ -183,8 +184,8 @@ walk decodes reads joins 𝓤 𝓛 𝓜 𝓡 wired T L Gh D Sh Ds Dd P met shape
     (hands_on 𝓛 (Array u8 0) (Array u8 0) d.all.ghost_name p.1.ghost_name (λ l. front ++ l) p.1.now Ends Stays-so (name x) (λ l. kept_ok Sh.shape xs d made x is-read l) failed) $
     rewrite ! 0 (λ (δ : GName). ‵ (follows_so (Array u8 0) (Array u8 0) δ (name x) Ends Stays-so)) same refl $ move ! (1 ∷ 2 ∷ 0 ∷ []) $
     -- [the result; the tokens; what the whole ends as]
-    use0 𝓛 (raw (fact 𝓤 (IfErr x (λ e. (e ≡ DeserializeBadEncoding) ⊎ IsReadError Sh.shape.grows e)))) (fact_i 𝓤 _ (emp 𝓤) is-read.named_error) $
-    use0 𝓛 (raw (fact 𝓤 (x ≡ Err OutOfMemory → Sh.shape.grows))) (fact_i 𝓤 _ (emp 𝓤) is-read.out_of_memory_only_if_grows) $
+    use0 𝓛 (raw (fact 𝓤 (IfErr x (λ e. (e ≡ DeserializeBadEncoding) ⊎ IsReadError Sh.shape.other e)))) (fact_i 𝓤 _ (emp 𝓤) is-read.named_error) $
+    use0 𝓛 (raw (fact 𝓤 (x ≡ Err OutOfMemory → Grows Sh.shape))) (fact_i 𝓤 _ (emp 𝓤) is-read.out_of_memory_only_if_grows) $
     use0 𝓛 (raw (fact 𝓤 (x ≡ Err DeserializeBadEncoding → HasNoData F))) (fact_i 𝓤 _ (emp 𝓤) is-read.bad_only_if_no_data) $
     use0 𝓛 (raw (fact 𝓤 (HasNoData F → IsErrOf x DeserializeBadEncoding))) (fact_i 𝓤 _ (emp 𝓤) is-read.no_frame) $
     use0 𝓛 (raw (fact 𝓤 (ReadsBackFrame Sh.shape (λ read. read.0) F x))) (fact_i 𝓤 _ (emp 𝓤) is-read.reads_back) $

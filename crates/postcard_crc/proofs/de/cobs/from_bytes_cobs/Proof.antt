@@ -159,7 +159,7 @@ walk decodes reads 𝓤 𝓛 𝓜 𝓡 wired T W I LT LW LI copies Gh D Sh Ds Wh
     returns ! (look_at ! 0 refl) $ free_all ! refl $
     let F : List ℕ = before_zero xs in
     let is-read = read F (subst (λ (m : List ℕ). HasDataOf F m d.len) (sym front_is) made.has_data) in
-    use0 𝓛 (raw (fact 𝓤 (IfErr w (λ e. IsReadError Sh.shape.grows e ⊎ ((e ≡ DeserializeBadCrc) ⊎ (e ≡ DeserializeBadEncoding)))))) (fact_i 𝓤 _ (emp 𝓤) is-read.named_error) $
+    use0 𝓛 (raw (fact 𝓤 (IfErr w (λ e. IsReadError Sh.shape.other e ⊎ ((e ≡ DeserializeBadCrc) ⊎ (e ≡ DeserializeBadEncoding)))))) (fact_i 𝓤 _ (emp 𝓤) is-read.named_error) $
     use0 𝓛 (raw (fact 𝓤 (HasDataErrors Sh.shape Wh.size progress F w))) (fact_i 𝓤 _ (emp 𝓤) is-read.exact_errors) $
     use0 𝓛 (raw (fact 𝓤 (HasNoData F → IsErrOf w DeserializeBadEncoding))) (fact_i 𝓤 _ (emp 𝓤) is-read.no_frame) $
     use0 𝓛 (raw (fact 𝓤 (RefusesDamage Sh.shape Wh.size progress F w))) (fact_i 𝓤 _ (emp 𝓤) is-read.refuses_damage) $

@@ -7,7 +7,7 @@ returns-in_err-index g c =
     index_refused g.F.Flavor.lawful c.from_residual.ensures.1 c.in_err-index.ensures.reads
 
 pub returns-in_err-value : goal.returns-in_err-value
-returns-in_err-value g c = content_refused g.F.Flavor.lawful (λ h. h)
+returns-in_err-value g c = content_refused g.F.Flavor.lawful (λ e h. h)
     c.from_residual-in_err-value.ensures.1 c.in_ok-index.ensures.reads c.in_err-value.ensures
 
 pub returns : goal.returns

@@ -23,7 +23,7 @@ returns-in_err-items g c =
     let more : n - i ≡ suc (n - (i + 1)) = omega arith in
     rw (is_refusal c.from_residual.result c.in_err-items.field-0.0 c.from_residual.ensures.1)
     (array_refused
-    (going_stops laws (λ h. h) (rw more at c.loop-i.invariant.going) c.in_err-items.ensures))
+    (going_stops laws (λ e h. h) (rw more at c.loop-i.invariant.going) c.in_err-items.ensures))
 
 pub loop-i-preserved : goal.loop-i-preserved
 loop-i-preserved g c =
@@ -36,7 +36,7 @@ loop-i-preserved g c =
     record {
       long = rw length-set so.long;
       going = rw (add-one, take-suc-set c.loop-i.items i c.in_ok-items.field-0 within)
-          (let k = goes_on laws (λ h. h) (rw more at so.going) c.in_ok-items.ensures in
+          (let k = goes_on laws (λ e h. h) (rw more at so.going) c.in_ok-items.ensures in
           rw add-one at k);
     }
 

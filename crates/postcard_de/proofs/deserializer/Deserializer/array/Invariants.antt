@@ -7,6 +7,6 @@ abbrev pub invariant-loop-i : goal.invariant-loop-i
 invariant-loop-i g l = let f = g.F.Flavor in let t = g.T.Shaped.shape in
     record {
       long : length l.items ≡ g.row.N;
-      going : Going f.left f.able f.may_leave t.reads t.value t.grows (source_of l.initial.self)
+      going : Going f.left f.able f.may_leave t.reads t.value t.other (source_of l.initial.self)
           g.row.N (take l.i l.items) (source_of l.self) (g.row.N - l.i);
     }

@@ -32,7 +32,7 @@ returns-in_err-item g c =
     let e = c.in_err-item.field-0.0 in
     rw (is_refusal c.from_residual-in_err-item.result e c.from_residual-in_err-item.ensures.1)
     (few_refused laws c.in_ok-count.ensures.reads
-    (going_stops laws (λ h. h) (rw more at c.loop.invariant.going) c.in_err-item.ensures))
+    (going_stops laws (λ e h. h) (rw more at c.loop.invariant.going) c.in_err-item.ensures))
 
 pub returns-then-is_err : goal.returns-then-is_err
 returns-then-is_err g c =
@@ -56,7 +56,7 @@ loop-preserved g c =
     let room : length items < g.row.CAP = grind (arith, common_steps) in
     let long : length longer ≡ length items + 1 = rw (e, length-append) (omega arith) in
     record {
-      going = rw e (goes_on laws (λ h. h) (rw more at so.going) c.in_ok-item.ensures);
+      going = rw e (goes_on laws (λ e h. h) (rw more at so.going) c.in_ok-item.ensures);
       counted = omega (arith, long, so.counted);
       few = omega (arith, long, room);
       leaves = laws.joins _ _ _ so.leaves c.in_ok-item.ensures.leaves;

@@ -1,5 +1,6 @@
 use Rattle.std.proofs.Common.{◌≡◌, suc, ◌-◌, ◌+◌, ◌∷◌, [], ◌++◌, Vec, Global, arith}
 use Rattle.std.proofs.lemmas.Grind.{common_steps}
+use Rattle.postcard_de_nodes.specs.ErrorLemmas.{with_memory}
 use Rattle.postcard_de_nodes.specs.ReadLemmas.{is_refusal}
 use Rattle.postcard_de.proofs.Lists.{going, goes_on, going_stops, going_full, going_done, not_moved, at_none}
 use Rattle.postcard_de_nodes.specs.CountLemmas.{list_read, list_refused, count_refused}
@@ -32,7 +33,7 @@ returns-in_err-item g c =
     let e = c.in_err-item.field-0.0 in
     rw (is_refusal c.from_residual-in_err-item.result e c.from_residual-in_err-item.ensures.1)
     (list_refused laws (λ (v : Vec g.row.T.Denot Global). v.items) counted
-    (going_stops laws (λ h. tt) (rw more at c.loop-i.invariant) c.in_err-item.ensures))
+    (going_stops laws (with_memory _) (rw more at c.loop-i.invariant) c.in_err-item.ensures))
 
 pub returns-in_err-push_announced : goal.returns-in_err-push_announced
 returns-in_err-push_announced g c =
@@ -57,7 +58,7 @@ loop-i-preserved g c =
     let i = c.loop-i.i in
     let more : n - i ≡ suc (n - (i + 1)) = omega (arith, c.loop-i-test.true) in
     rw c.in_ok-push_announced.ensures.pushed
-    (goes_on g.F.Flavor.lawful (λ h. tt) (rw more at c.loop-i.invariant) c.in_ok-item.ensures)
+    (goes_on g.F.Flavor.lawful (with_memory _) (rw more at c.loop-i.invariant) c.in_ok-item.ensures)
 
 pub returns : goal.returns
 returns g c =

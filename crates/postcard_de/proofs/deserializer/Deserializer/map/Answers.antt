@@ -4,7 +4,7 @@ use Rattle.std.specs.BTreeMap.{insert_entry}
 use Rattle.postcard_shape.specs.Maps.{EntryIs}
 use Rattle.postcard_de_nodes.specs.ReadLemmas.{is_refusal}
 use Rattle.postcard_de_nodes.specs.SeenLemmas.{recast, refused_too, passed_on}
-use Rattle.postcard_de.proofs.Entries.{inserted_last, key_refused, value_refused, entry_read}
+use Rattle.postcard_de.proofs.Entries.{of_pair, inserted_last, key_refused, value_refused, entry_read}
 use Rattle.postcard_de.proofs.Lists.{going, goes_on, going_stops, going_full, going_done}
 use Rattle.postcard_de_nodes.specs.CountLemmas.{list_read, list_refused, count_refused}
 use Rattle.postcard_de.proofs.deserializer.Deserializer.map.Goals as goal
@@ -32,11 +32,11 @@ returns-in_err-key g c =
     let n = c.in_ok-count.count in
     let i = c.loop.counter in
     let more : n - i ≡ suc (n - (i + 1)) = omega arith in
-    passed_on (λ x a. a) (λ h. h) c.from_residual-in_err-key.ensures.1
+    passed_on (λ x a. a) (λ e h. h) c.from_residual-in_err-key.ensures.1
     (list_refused laws (λ (ps : List (g.row.K.Denot × g.row.V.Denot)). ps)
     c.in_ok-count.ensures.reads
-    (going_stops laws (λ h. tt) (rw more at c.loop.invariant.going)
-    (key_refused laws {B = g.row.V.Denot} {K = k.reads} {V = v.reads} {H = v.grows}
+    (going_stops laws (of_pair _ _) (rw more at c.loop.invariant.going)
+    (key_refused laws {B = g.row.V.Denot} {K = k.reads} {V = v.reads} {H = v.other}
     {value = EntryIs k.value v.value} c.in_err-key.ensures)))
 
 pub returns-in_err-value : goal.returns-in_err-value
@@ -45,10 +45,10 @@ returns-in_err-value g c =
     let n = c.in_ok-count.count in
     let i = c.loop.counter in
     let more : n - i ≡ suc (n - (i + 1)) = omega arith in
-    passed_on (λ x a. a) (λ h. h) c.from_residual-in_err-value.ensures.1
+    passed_on (λ x a. a) (λ e h. h) c.from_residual-in_err-value.ensures.1
     (list_refused laws (λ (ps : List (g.row.K.Denot × g.row.V.Denot)). ps)
     c.in_ok-count.ensures.reads
-    (going_stops laws (λ h. tt) (rw more at c.loop.invariant.going)
+    (going_stops laws (of_pair _ _) (rw more at c.loop.invariant.going)
     (value_refused laws c.in_ok-key.ensures c.in_err-value.ensures)))
 
 pub returns-then-is_err : goal.returns-then-is_err
@@ -57,7 +57,7 @@ returns-then-is_err g c =
     let n = c.in_ok-count.count in
     let i = c.loop.counter in
     let more : n - i ≡ suc (n - (i + 1)) = omega arith in
-    refused_too (λ x a. a) (λ h. h)
+    refused_too (λ x a. a) (λ e h. h)
     (list_refused laws (λ (ps : List (g.row.K.Denot × g.row.V.Denot)). ps)
     c.in_ok-count.ensures.reads
     (going_full laws tt (rw more at c.loop.invariant.going)
@@ -77,7 +77,7 @@ loop-preserved g c =
     let e : c.insert.new.self.entries ≡ insert_entry cmp before k v = grind (arith, common_steps) in
     record {
       pairs = so.pairs ++ ((k, v) ∷ []);
-      going = goes_on laws (λ h. tt) (rw more at so.going)
+      going = goes_on laws (of_pair _ _) (rw more at so.going)
           (entry_read laws c.in_ok-key.ensures c.in_ok-value.ensures);
       made = e
           ∙ ap (λ (es : List (g.row.K.Denot × g.row.V.Denot)). insert_entry cmp es k v) so.made

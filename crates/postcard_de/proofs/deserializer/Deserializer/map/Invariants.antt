@@ -1,5 +1,5 @@
 use Rattle.std.proofs.Common.{◌≡◌, ◌-◌, List, []}
-use Rattle.std.specs.Prelude.{⊤}
+use Rattle.postcard_shape.specs.Shape.{or_memory, either}
 use Rattle.postcard_de.specs.Deserializer.{source_of}
 use Rattle.postcard_shape.specs.Maps.{IsEntry, EntryIs, inserted}
 use Rattle.postcard_de.proofs.Lists.{Going}
@@ -12,7 +12,8 @@ invariant-loop g l =
     let v = g.V.Shaped.shape in
     record {
       pairs : List (g.row.K.Denot × g.row.V.Denot);
-      going : Going f.left f.able f.may_leave (IsEntry k.reads v.reads) (EntryIs k.value v.value) ⊤
+      going : Going f.left f.able f.may_leave (IsEntry k.reads v.reads) (EntryIs k.value v.value)
+          (or_memory (either k.other v.other))
           (source_of l.initial.self) l.count pairs (source_of l.self) (l.count - l.counter);
       made : l.map.entries ≡ inserted g.K.Ord.cmp pairs [];
     }

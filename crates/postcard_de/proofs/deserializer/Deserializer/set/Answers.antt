@@ -1,6 +1,7 @@
 use Rattle.std.proofs.Common.{◌≡◌, suc, ◌-◌, ◌+◌, List, [], ◌∷◌, ◌++◌, sym, ◌∙◌, ap, arith}
 use Rattle.std.proofs.lemmas.Grind.{common_steps}
 use Rattle.std.specs.BTreeSet.{insert_key}
+use Rattle.postcard_de_nodes.specs.ErrorLemmas.{with_memory}
 use Rattle.postcard_de_nodes.specs.ReadLemmas.{is_refusal}
 use Rattle.postcard_de_nodes.specs.SeenLemmas.{recast, refused_too, passed_on}
 use Rattle.postcard_de.proofs.Entries.{keys_inserted_last}
@@ -29,9 +30,9 @@ returns-in_err-key g c =
     let n = c.in_ok-count.count in
     let i = c.loop.counter in
     let more : n - i ≡ suc (n - (i + 1)) = omega arith in
-    passed_on (λ x a. a) (λ h. h) c.from_residual-in_err-key.ensures.1
+    passed_on (λ x a. a) (λ e h. h) c.from_residual-in_err-key.ensures.1
     (list_refused laws (λ (ks : List g.row.K.Denot). ks) c.in_ok-count.ensures.reads
-    (going_stops laws (λ h. tt) (rw more at c.loop.invariant.going) c.in_err-key.ensures))
+    (going_stops laws (with_memory _) (rw more at c.loop.invariant.going) c.in_err-key.ensures))
 
 pub returns-then-is_err : goal.returns-then-is_err
 returns-then-is_err g c =
@@ -39,7 +40,7 @@ returns-then-is_err g c =
     let n = c.in_ok-count.count in
     let i = c.loop.counter in
     let more : n - i ≡ suc (n - (i + 1)) = omega arith in
-    refused_too (λ x a. a) (λ h. h)
+    refused_too (λ x a. a) (λ e h. h)
     (list_refused laws (λ (ks : List g.row.K.Denot). ks) c.in_ok-count.ensures.reads
     (going_full laws tt (rw more at c.loop.invariant.going) c.in_ok-key.ensures.leaves))
 
@@ -56,7 +57,7 @@ loop-preserved g c =
     let e : c.insert.new.self.keys ≡ insert_key cmp before k = grind (arith, common_steps) in
     record {
       read = so.read ++ k ∷ [];
-      going = goes_on laws (λ h. tt) (rw more at so.going) c.in_ok-key.ensures;
+      going = goes_on laws (with_memory _) (rw more at so.going) c.in_ok-key.ensures;
       made = e ∙ ap (λ (ks : List g.row.K.Denot). insert_key cmp ks k) so.made
           ∙ sym (keys_inserted_last cmp so.read [] k);
     }

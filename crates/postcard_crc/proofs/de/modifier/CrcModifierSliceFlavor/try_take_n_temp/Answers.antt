@@ -8,7 +8,7 @@ returns g c = (
     refl,
     (λ s. tt),
     (
-      record { drops = c.in_ok-taken.ensures.gives.drops; keeps = c.in_ok-taken.ensures.gives.keeps },
+      record { drops = c.in_ok-taken.ensures.gives.drops; scratch = c.in_ok-taken.ensures.gives.scratch; keeps = c.in_ok-taken.ensures.gives.keeps },
       record { bytes = c.in_ok-taken.taken.now; joins = c.in_ok-taken.ensures.gives.drops; continues = c.update.ensures },
     ),
   ),

@@ -3,7 +3,8 @@ use Rattle.std.proofs.Common.{◌≡◌, ℕ, ◌<◌, ◌≤◌, List, Option, 
 use Rattle.postcard_wire.specs.Tree.{Variant, Group, NoTrees}
 use Rattle.postcard_wire.specs.Spelling.{Spells}
 use Rattle.postcard_wire.specs.Reading.{IsEnd, IsGroup}
-use Rattle.postcard_de_flavors.specs.Source.{Laws}
+use Rattle.postcard_de_flavors.specs.Source.{Left, Laws}
+use Rattle.postcard_shape.specs.Shape.{never}
 use Rattle.postcard_shape.specs.Enumerations.{IsUnit}
 use Rattle.postcard_de.specs.Deserializer.{source_of}
 use Rattle.postcard_de.specs.Reads.{ReadsFrom}
@@ -13,12 +14,12 @@ use Rattle.postcard_de_nodes.specs.SeenLemmas.{seen_as}
 use Rattle.postcard_de.proofs.values.error.ErrorDeserialize.deserialize.Goals as goal
 
 -- A variant without content: reading the content takes nothing.
-unit_read : {S : Type 0} {left : S → Option (List ℕ)} {able : S → ℕ → Type 0}
+unit_read : {S : Type 0} {left : S → Left} {able : S → ℕ → Type 0}
     {may_leave : S → S → Type 0} (laws : Laws left able may_leave) {i : ℕ} {s t : S} → i < 17 →
-    t ≡ s → ReadsFrom {V = Unit {0}} Spells (IsUnit 17 i) (λ u v. u ≡ Group NoTrees) ⊥ left able
+    t ≡ s → ReadsFrom {V = Unit {0}} Spells (IsUnit 17 i) (λ u v. u ≡ Group NoTrees) never left able
     may_leave s (Ok tt) t
 unit_read {left = left} {able} {may_leave} laws {i} {s} few e =
-    let none : ReadsFrom {V = Unit {0}} Spells (IsGroup IsEnd) (λ u v. Unit {0}) ⊥ left able
+    let none : ReadsFrom {V = Unit {0}} Spells (IsGroup IsEnd) (λ u v. Unit {0}) never left able
     may_leave s (Ok tt) s =
     struct_read laws {A = Unit {0}} {value = λ u v. Unit {0}} {a = tt} (λ u h. tt) (no_more laws)
     in

@@ -1,5 +1,6 @@
 use Rattle.std.proofs.Common.{◌≡◌, ◌≤◌, ◌<◌, length, refl, arith, length-take}
 use Rattle.std.specs.Io.KnownBytes.{Consumes}
+use Rattle.postcard_de_flavors.proofs.Rear.{rear_written}
 use Rattle.postcard_de_flavors.proofs.AtLeastLemmas.{at_least_after}
 use Rattle.postcard_de_flavors.proofs.io.io.IOReaderFlavor.try_take_n_temp.Goals as goal
 
@@ -20,6 +21,7 @@ returns g c =
           (
             record {
               drops = took;
+              scratch = rw count (rear_written c.args.ct c.args.self.now.scratch c.fill.new.self kept did.rest_unchanged);
               keeps = λ n able. (did.stays_steady able.0, at_least_after old new c.front.result.now n took able.1, omega (arith, able.2, count, kept));
             },
             (did.stays_steady, omega (arith, kept)),

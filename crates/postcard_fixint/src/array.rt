@@ -1,0 +1,42 @@
+//! The arrays of bytes that numbers are written as and read from.
+
+ghost use Rattle.std.specs.Prelude.{◌≡◌, ℕ, IfErr};
+ghost use Rattle.postcard_wire.specs.declared.error.Error.{Error};
+ghost use Rattle.postcard_wire.specs.Spelling.{Spells};
+ghost use Rattle.postcard_shape.specs.Shape.{never};
+ghost use Rattle.postcard_de.specs.Reads.{Reads};
+ghost use Rattle.postcard_de.specs.Refuses.{Refuses, WantsBytes, NoneBad};
+ghost use Rattle.postcard_de.specs.Deserializer.{source_of};
+
+use postcard_de::{Deserializer, Flavor, Result};
+use postcard_shape::Shaped;
+
+/// An array of bytes, which is read byte by byte: with no count, no memory and no scratch.
+pub trait ByteArray: Shaped + Sized + Drop {
+    /// The number of bytes.
+    ghost size: { ℕ };
+
+    /// Reads the array from the next bytes.
+    ///
+    /// # Errors
+    ///
+    /// Fails with `DeserializeUnexpectedEnd` if the source can't give as many bytes. Some of them
+    /// may have been taken then.
+    fn read<'de, F: Flavor>(d: &mut Deserializer<'de, F>) -> Result<Self>
+        ensures reads { Reads F.Flavor Spells Self.shape.reads Self.shape.value never
+            (source_of d.old) result (source_of d.new) }
+        ensures refused { IfErr result (λ e. Refuses F.Flavor (WantsBytes size) NoneBad
+            (source_of d.old) e (source_of d.new)) };
+}
+
+impl<const N: usize> ByteArray for [u8; N] {
+    ghost size = { N };
+
+    fn read<'de, F: Flavor>(d: &mut Deserializer<'de, F>) -> Result<[u8; N]> {
+        let mut bytes = [0; N];
+        for i in 0..N {
+            bytes[i] = d.deserialize_u8()?;
+        }
+        Ok(bytes)
+    }
+}
