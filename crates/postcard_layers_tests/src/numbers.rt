@@ -1,13 +1,11 @@
-//! Numbers and characters of the wire: the fast calls against those by division over edges and
-//! samples of each width, and both against vectors worked out by hand.
+//! Numbers and characters of the wire, against vectors worked out by hand.
 
 ghost use Rattle.postcard_wire.specs.Tree.{IsWidth};
-ghost use Rattle.std.specs.Prelude.{◌<◌, ◌≤◌, ◌^◌, length};
+ghost use Rattle.std.specs.Prelude.{◌≤◌, length};
 
-use crate::asserts::{same, same_bytes, value};
+use crate::asserts::{same, same_bytes};
 use postcard_wire::digits::Digits;
-use postcard_wire::{Error, Result, division, text, varint, zigzag};
-use std::alloc::Global;
+use postcard_wire::{Error, Result, text, varint, zigzag};
 use std::process::Abort;
 
 /// Reads a number of `bits` bits from the front of `bytes`. Returns it with its count of bytes.
@@ -23,142 +21,6 @@ fn read(bits: u32, bytes: &[u8]) -> Result<(u128, usize)>
         }
     }
     Err(Error::DeserializeUnexpectedEnd)
-}
-
-/// Asserts that `written` is the shortest spelling of a number, and is read as that number.
-fn assert_digits(rt: &impl Abort, alloc: Global, bits: u32, n: u128, written: &[u8])
-    requires width { IsWidth bits }
-    requires fits { n < 2 ^ bits }
-{
-    same_bytes(rt, written, &value(rt, division::spell(alloc, bits, n)));
-    same(rt, read(bits, written), Ok((n, written.len())));
-}
-
-/// Asserts that `n` unfolded is its signed number, and that `folded`, which is this folded again,
-/// is `n`.
-fn assert_folds(rt: &impl Abort, unfolded: i128, folded: u128, n: u128) {
-    same(rt, (unfolded, folded), (division::de_zig_zag(n), n));
-}
-
-/// Asserts that `signed` folded is its encoding, and that `unfolded`, which is this unfolded again,
-/// is `signed`.
-fn assert_unfolds(rt: &impl Abort, folded: u128, unfolded: i128, signed: i128) {
-    same(rt, (unfolded, folded), (signed, division::zig_zag(signed)));
-}
-
-fn compare_16(rt: &impl Abort, alloc: Global, number: u128) {
-    let n = (number & 0xFFFF) as u16;
-    assert_digits(
-        rt,
-        alloc,
-        16,
-        n.into(),
-        varint::varint_u16(n, &mut [0; varint::VARINT_MAX_16]),
-    );
-    let unfolded = zigzag::de_zig_zag_i16(n);
-    let folded = zigzag::zig_zag_i16(unfolded);
-    assert_folds(rt, unfolded.into(), folded.into(), n.into());
-    let signed = n.cast_signed();
-    let folded = zigzag::zig_zag_i16(signed);
-    let unfolded = zigzag::de_zig_zag_i16(folded);
-    assert_unfolds(rt, folded.into(), unfolded.into(), signed.into());
-}
-
-fn compare_32(rt: &impl Abort, alloc: Global, number: u128) {
-    let n = (number & 0xFFFF_FFFF) as u32;
-    assert_digits(
-        rt,
-        alloc,
-        32,
-        n.into(),
-        varint::varint_u32(n, &mut [0; varint::VARINT_MAX_32]),
-    );
-    let unfolded = zigzag::de_zig_zag_i32(n);
-    let folded = zigzag::zig_zag_i32(unfolded);
-    assert_folds(rt, unfolded.into(), folded.into(), n.into());
-    let signed = n.cast_signed();
-    let folded = zigzag::zig_zag_i32(signed);
-    let unfolded = zigzag::de_zig_zag_i32(folded);
-    assert_unfolds(rt, folded.into(), unfolded.into(), signed.into());
-}
-
-fn compare_64(rt: &impl Abort, alloc: Global, number: u128) {
-    let n = (number & 0xFFFF_FFFF_FFFF_FFFF) as u64;
-    assert_digits(
-        rt,
-        alloc,
-        64,
-        n.into(),
-        varint::varint_u64(n, &mut [0; varint::VARINT_MAX_64]),
-    );
-    let unfolded = zigzag::de_zig_zag_i64(n);
-    let folded = zigzag::zig_zag_i64(unfolded);
-    assert_folds(rt, unfolded.into(), folded.into(), n.into());
-    let signed = n.cast_signed();
-    let folded = zigzag::zig_zag_i64(signed);
-    let unfolded = zigzag::de_zig_zag_i64(folded);
-    assert_unfolds(rt, folded.into(), unfolded.into(), signed.into());
-}
-
-fn compare_128(rt: &impl Abort, alloc: Global, n: u128) {
-    assert_digits(
-        rt,
-        alloc,
-        128,
-        n,
-        varint::varint_u128(n, &mut [0; varint::VARINT_MAX_128]),
-    );
-    let unfolded = zigzag::de_zig_zag_i128(n);
-    let folded = zigzag::zig_zag_i128(unfolded);
-    assert_folds(rt, unfolded, folded, n);
-    let signed = n.cast_signed();
-    let folded = zigzag::zig_zag_i128(signed);
-    let unfolded = zigzag::de_zig_zag_i128(folded);
-    assert_unfolds(rt, folded, unfolded, signed);
-}
-
-fn compare_length(rt: &impl Abort, alloc: Global, number: u128) {
-    let n = (number & 0xFFFF_FFFF_FFFF_FFFF) as usize;
-    assert_digits(
-        rt,
-        alloc,
-        64,
-        n as u128,
-        varint::varint_usize(n, &mut [0; varint::VARINT_MAX_64]),
-    );
-}
-
-/// Compares the calls of each width with those by division, for the number modulo the power of two
-/// of that width. A length is written as a number of 64 bits.
-fn compare(rt: &impl Abort, alloc: Global, number: u128) {
-    compare_16(rt, alloc, number);
-    compare_32(rt, alloc, number);
-    compare_64(rt, alloc, number);
-    compare_128(rt, alloc, number);
-    compare_length(rt, alloc, number);
-}
-
-/// Each power of two with its neighbours, so each power of 128 too, and the greatest number of each
-/// width.
-#[test]
-fn agrees_with_division_at_edges(rt: HostRuntime) {
-    let mut power = 1u128;
-    for _ in 0..129 {
-        compare(&rt, rt.alloc(), power.wrapping_sub(1));
-        compare(&rt, rt.alloc(), power);
-        compare(&rt, rt.alloc(), power.wrapping_add(1));
-        power = power.wrapping_mul(2);
-    }
-}
-
-/// 300 numbers of a multiplicative generator.
-#[test]
-fn agrees_with_division_at_samples(rt: HostRuntime) {
-    let mut sample = 1u128;
-    for _ in 0..300 {
-        sample = sample.wrapping_mul(0x2360_ED05_1FC6_5DA4_4385_DF64_9FCC_F645);
-        compare(&rt, rt.alloc(), sample);
-    }
 }
 
 #[test]
@@ -332,8 +194,7 @@ fn folds_the_least_of_each_width(rt: HostRuntime) {
     same(&rt, zigzag::zig_zag_i32(i32::MIN), u32::MAX);
     same(&rt, zigzag::zig_zag_i64(i64::MIN), u64::MAX);
     same(&rt, zigzag::zig_zag_i128(i128::MIN), u128::MAX);
-    same(&rt, division::zig_zag(i128::MIN), u128::MAX);
-    same(&rt, division::de_zig_zag(u128::MAX), i128::MIN);
+    same(&rt, zigzag::de_zig_zag_i128(u128::MAX), i128::MIN);
 }
 
 /// Asserts which character a text of at most four bytes begins with.

@@ -16,13 +16,13 @@ pub record IsPartly (n : ℕ) (written : List ℕ) (rest : ℕ) : Type 0 where
   pub whole : written ++ digits_within more rest ≡ digits n
 
 -- At the start nothing is written, and all of n is still to be written.
-pub none_appended : (n : ℕ) → n < 2 ^ 128 → IsPartly n [] n
+none_appended : (n : ℕ) → n < 2 ^ 128 → IsPartly n [] n
 unfolding digits
 none_appended n h = record { more = 18; places = refl; low = omega arith; whole = refl }
 
 -- If rest has more than one digit, writing its last seven bits with the high bit set leaves rest /
 -- 128.
-pub one_appended : (n : ℕ) (written : List ℕ) (rest : ℕ) → IsPartly n written rest → 128 ≤ rest → IsPartly n (written ++ (rest % 128 + 128) ∷ []) (rest / 128)
+one_appended : (n : ℕ) (written : List ℕ) (rest : ℕ) → IsPartly n written rest → 128 ≤ rest → IsPartly n (written ++ (rest % 128 + 128) ∷ []) (rest / 128)
 one_appended n written rest s h = go s.more s.places s.low s.whole
   where
     go : (more : ℕ) → more + length written ≡ 18 → rest < 128 ^ suc more → written ++ digits_within more rest ≡ digits n → IsPartly n (written ++ (rest % 128 + 128) ∷ []) (rest / 128)
@@ -38,7 +38,7 @@ one_appended n written rest s h = go s.more s.places s.low s.whole
         }
 
 -- A rest below 128 is the last digit.
-pub all_appended : (n : ℕ) (written : List ℕ) (rest : ℕ) → IsPartly n written rest → rest < 128 → written ++ rest ∷ [] ≡ digits n
+all_appended : (n : ℕ) (written : List ℕ) (rest : ℕ) → IsPartly n written rest → rest < 128 → written ++ rest ∷ [] ≡ digits n
 all_appended n written rest s h = ap (λ (l : List ℕ). written ++ l) (sym (one_digit s.more rest h)) ∙ s.whole
 
 -- The first len bytes of out are the first digits of n, and out has room for all of its digits.
