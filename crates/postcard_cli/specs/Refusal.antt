@@ -13,7 +13,7 @@ use Rattle.postcard_dyn_schema.specs.declared.schema.Schema.{Schema}
 use Rattle.postcard_dyn_schema.specs.declared.error.ExpressionError.{ExpressionError}
 use Rattle.postcard_dyn_schema.specs.declared.error.Problem.TheVariants as problems
 use Rattle.postcard_dyn_schema.specs.Grammar.{IsExpression}
-use Rattle.postcard_dyn_schema.specs.Meaning.{type_of, has_bytes}
+use Rattle.postcard_dyn_schema.specs.Meaning.{type_of, has_bytes, reads}
 use Rattle.postcard_dyn_schema.specs.Printed.{expression_error_text}
 use Rattle.postcard_dyn_schema.specs.Text.{characters}
 use Rattle.postcard_dyn.specs.Tree.{tree}
@@ -98,8 +98,11 @@ HexFails reads steady hex known left failure = ⊥
 
 -- ---- messages whose type is an expression
 
--- The text is refused as a value, and the place was printed.
-pub record IsValueRefused (value : List ℕ) (old new : Option (List ℕ)) : Type 0 where
+-- The text spells no value of the expression, and the place of the error in it was printed.
+pub record IsValueRefused (expression value : List ℕ) (old new : Option (List ℕ)) : Type 0 where
+  pub schema : Schema
+  pub spelled : IsExpression schema expression
+  pub no_value : (v : Value) → reads (type_of schema) (tree v) → SpellsValue schema v value → ⊥
   pub character : ℕ
   pub within : IsPlaceIn value (NotAValue character)
   pub printed : Appends old new (codes "at character " ++ (decimal character ++ codes ": "))
@@ -115,7 +118,7 @@ pub record HasLongEncoding (expression word : List ℕ) : Type 0 where
 -- The failures of `enc` with an expression.
 abbrev pub EncodeFails : List ℕ → List ℕ → Option (List ℕ) → Option (List ℕ) → Failure → Type 0
 EncodeFails expression word old new BadType = IsTypeRefused expression old new
-EncodeFails expression word old new BadValue = IsType expression × IsValueRefused word old new
+EncodeFails expression word old new BadValue = IsValueRefused expression word old new
 EncodeFails expression word old new (Library e) = (e ≡ OutOfMemory) ⊎ ((e ≡ SerializeBufferFull) × HasLongEncoding expression word)
 EncodeFails expression word old new Output = ⊤
 EncodeFails expression word old new failure = ⊥
