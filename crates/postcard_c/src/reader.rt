@@ -25,7 +25,7 @@ pub struct Reader<'a> {
     pub status: u32,
 }
 
-/// Returns the bytes from a place on, or none if the place is after their end.
+/// Returns the bytes at an index and after it: no bytes if the index is after their end.
 pub(crate) fn rest_at(bytes: &[u8], place: usize) -> &[u8]
     ensures { result.now ≡ drop place bytes.now }
 {
@@ -42,7 +42,7 @@ pub(crate) fn open<'a>(reader: &Reader<'a>) -> Deserializer<'a, Slice<'a>>
     Deserializer::from_bytes(rest_at(reader.bytes, reader.at))
 }
 
-/// Returns the place in the bytes from which on a source has them left.
+/// Returns the index of the first byte that a source has left of the bytes.
 fn place_before<'a>(bytes: &[u8], source: Deserializer<'a, Slice<'a>>) -> usize
     ensures { result ≡ length bytes.now - length (source_of source.entry) }
 {

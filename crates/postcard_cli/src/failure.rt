@@ -1,4 +1,4 @@
-//! The reasons for which a call fails, with their texts and exit statuses.
+//! Why a call fails: each reason with its text and exit status.
 
 ghost use Rattle.std.specs.Prelude.{◌≡◌, Some};
 ghost use Rattle.postcard_wire.specs.declared.error.Error.TheVariants.{OutOfMemory};
@@ -9,7 +9,7 @@ use postcard_wire::Error;
 use std::alloc::{AllocError, AllocFailed};
 use std::{fmt, io};
 
-/// The reason for which a call fails.
+/// Why a call fails.
 #[derive(Debug, Drop, PartialEq, Eq)]
 pub enum Failure {
     /// The command or the type is unknown, or there are too few or too many words.

@@ -100,8 +100,8 @@ pub fn report<W: Write>(outcome: Result<(), Failure>, output: &mut W) -> u8
     }
 }
 
-/// Runs the call of these words. Fails with `Usage`, and prints nothing, exactly if they are no
-/// call.
+/// Runs the call that these words are. If they are no call of a command, prints nothing and fails
+/// with `Usage`, which comes for nothing else.
 fn perform<R: Source, W: Write>(
     alloc: Global,
     words: &[String],

@@ -13,8 +13,8 @@ use postcard_wire::Result;
 use std::alloc::Global;
 use std::marker::Model;
 
-/// The number of elements that are left to read of a list, a tuple or a struct. In contracts it is
-/// that number.
+/// Reads the elements of a list, a tuple or a struct, and counts those that are left. A contract
+/// sees that count.
 #[derive(Drop)]
 pub struct SeqAccess {
     len: usize,

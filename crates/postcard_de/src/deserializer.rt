@@ -29,7 +29,7 @@ use postcard_wire::{Result, zigzag};
 use std::alloc::Global;
 use std::marker::PhantomData;
 
-/// Reads values from a source, each from the front of what is left. In contracts it is its source,
+/// Reads values from a source, each from the front of what is left. A contract sees the source, by
 /// `source_of`.
 #[derive(Drop)]
 pub struct Deserializer<'de, F: Flavor> {

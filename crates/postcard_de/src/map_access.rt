@@ -14,7 +14,7 @@ use postcard_wire::Result;
 use std::alloc::Global;
 use std::marker::Model;
 
-/// The number of pairs of a map whose keys are left to read. In contracts it is that number.
+/// Reads the pairs of a map, and counts the keys that are left. A contract sees that count.
 #[derive(Drop)]
 pub struct MapAccess {
     keys: SeqAccess,

@@ -14,7 +14,7 @@ use std::alloc::Global;
 /// A type that is read as another, `Repr::As`, and is made from a value of that. It has
 /// `Deserialize` if `As` has it, and `DeserializeOwned` likewise.
 pub trait FromRepr: Repr<As: Drop> + Sized + Drop {
-    /// Makes a value from the one that was read, as which it is seen.
+    /// Makes the value that is seen as `repr`, which was read.
     fn from_repr(repr: Self::As) -> Self
         ensures { Self.repr result ≡ repr };
 }

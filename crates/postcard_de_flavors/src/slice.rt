@@ -12,7 +12,7 @@ use postcard_memory::Bytes;
 use postcard_wire::{Error, Result};
 use std::marker::Model;
 
-/// A source that reads from a slice. In contracts it is the list of the bytes left.
+/// A source that reads from a slice. A contract sees the list of the bytes left.
 #[derive(Drop)]
 pub struct Slice<'de> {
     bytes: Bytes<'de>,

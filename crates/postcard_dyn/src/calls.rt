@@ -24,7 +24,7 @@ use std::alloc::Global;
 /// Decodes a value of the schema from the front of some bytes, and returns it with the bytes after
 /// that front.
 ///
-/// It succeeds exactly if a front of the bytes spells a tree of the schema, padded numbers
+/// It succeeds if and only if a front of the bytes spells a tree of the schema, padded numbers
 /// included, unless an allocation fails. There is at most one such front. If the bytes begin with
 /// the encoding of a value of the schema, a value with the same tree is returned, whatever follows.
 ///

@@ -17,7 +17,7 @@ pub fn well_formed()
     ensures { (t : MessageType) → ReadsWellFormed (reads t) }
 {}
 
-/// Each message of a type whose messages have bytes ([`Schema::has_bytes`]) has at least one.
+/// If [`Schema::has_bytes`] returns `true` for a type, each of its messages has at least one byte.
 ///
 /// [`Schema::has_bytes`]: postcard_dyn_schema::Schema::has_bytes
 pub fn at_least_one_byte()

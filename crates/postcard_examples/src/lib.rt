@@ -1,4 +1,5 @@
-//! Examples of a user's own types, flavors and theorems, which the guide `docs/TYPES.md` shows.
+//! Examples of a user's own types, flavors and theorems, which `docs/TYPES.md` and
+//! `docs/TYPES_REFERENCE.md` show.
 //!
 //! - [`reading`], [`numbers`], [`station`], [`pair`]: structs, which are encoded as the tuple of
 //!   their fields. The first borrows from the message, the second has more than six fields, the

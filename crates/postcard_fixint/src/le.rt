@@ -24,7 +24,7 @@ use std::marker::Model;
 /// signed number is written in two's complement.
 ///
 /// Use it in place of the number inside a larger value: in the tuple of a struct's fields, in a
-/// list, in an option. In contracts it is the number.
+/// list, in an option. A contract sees the number.
 #[derive(Drop)]
 pub struct LE<T>(T);
 

@@ -13,7 +13,7 @@ use postcard_shape::{Case, Cased, NoCase};
 
 /// Variants in a row whose contents each have a greatest size: `NoCase`, or a `Case` of a type with
 /// [`MaxSize`], followed by other variants. They may be the last variants of an enum, so their
-/// sizes depend on the index of the first of them, which is none if it does not fit `usize`.
+/// sizes depend on the index of the first of them: `None` if that does not fit `usize`.
 pub trait MaxCases: Cased {
     /// The greatest size in bytes of a variant with its index, and conditions under which some
     /// encoding is as long and no content refuses itself when it is written.

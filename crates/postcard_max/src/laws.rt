@@ -43,7 +43,7 @@ pub fn within_max_size<T: MaxSize>(value: &T)
 
 /// The greatest size of each type, and that it is reached if those of the type's parts are.
 ///
-/// A size is none if that of a part is, or if the sum or the product does not fit 64 bits.
+/// A size is `None` if that of a part is, or if the sum or the product does not fit 64 bits.
 pub fn table<
     A: MaxSize,
     B: MaxSize,

@@ -12,13 +12,13 @@ mod life;
 
 pub use life::Life;
 
-/// The bytes of a `&mut [u8]`. A contract sees the loan, the bytes, and the time that they are lent
-/// for, which is that of the [`Life`] that was made with the memory.
+/// The bytes of a `&mut [u8]`. A contract sees the bytes, their loan, and how long it lasts: as
+/// long as the [`Life`] that was made with the memory.
 #[derive(Drop)]
 pub struct Memory {
     /// Where the first byte lies.
     start: *mut u8,
-    /// The time that the bytes are lent for.
+    /// How long the loan lasts.
     pub ghost time: { Lft },
     /// The loan that the bytes are lent by.
     pub ghost loan: { GName },

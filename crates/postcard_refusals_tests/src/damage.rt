@@ -83,9 +83,9 @@ fn has_a_beginning(buffer: &[u8; 48], want: &[u8], room: usize) -> bool {
     buffer.get(written..) == [OLD; 48].get(written..)
 }
 
-/// Writes a value into a buffer of this length. Returns whether this succeeds exactly if its bytes
-/// fit, and whether in each case a beginning of them is written and the other bytes of the buffer
-/// are unchanged.
+/// Writes a value into a buffer of this length. Returns whether this succeeds if and only if its
+/// bytes fit, and whether in each case a beginning of them is written and the other bytes of the
+/// buffer are unchanged.
 fn takes_room<T: Serialize>(value: &T, want: &[u8], room: usize) -> bool {
     let mut buffer = [OLD; 48];
     let right = match buffer.get_mut(..room) {
@@ -95,8 +95,8 @@ fn takes_room<T: Serialize>(value: &T, want: &[u8], room: usize) -> bool {
     right && has_a_beginning(&buffer, want, room)
 }
 
-/// Writes a value as a frame into a buffer of this length. Returns whether this succeeds exactly if
-/// the frame fits, and whether the other bytes are unchanged.
+/// Writes a value as a frame into a buffer of this length. Returns whether this succeeds if and
+/// only if the frame fits, and whether the other bytes are unchanged.
 fn frame_takes_room<T: Serialize>(value: &T, want: &[u8], room: usize) -> bool {
     let mut buffer = [OLD; 48];
     let right = match buffer.get_mut(..room) {

@@ -8,8 +8,8 @@
 //! refuse itself, a tidy flavor then has appended a beginning of them. The layer above cites
 //! nothing else.
 //!
-//! A struct of a user needs three impls, of which the third, `FromRepr` of `postcard_de`, is for
-//! reading, and one ghost line:
+//! A struct of your own needs one ghost line and two impls to be written, and `FromRepr` of
+//! `postcard_de` to be read:
 //!
 //! ```text
 //! impl<'a> Repr for Reading<'a> {

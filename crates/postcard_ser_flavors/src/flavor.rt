@@ -15,7 +15,7 @@ use postcard_wire::varint::{VARINT_MAX_64, varint_u64};
 /// - `room state bytes`: pushing these bytes succeeds, in whatever pieces. Room for no bytes says
 ///   that `finalize` succeeds.
 /// - `tidy`: a call that fails has appended a beginning of its bytes, or nothing.
-/// - `reaches old new`: a push, also one that fails, may turn `old` into `new`.
+/// - `reaches old new`: a push may turn `old` into `new`, whether it succeeds or fails.
 /// - `finishes last output`: `output` is the output of a flavor whose last state is `last`.
 /// - `lawful`: what holds of these words in each flavor.
 pub trait Flavor {

@@ -127,8 +127,8 @@ impl From<AllocError> for Error {
     }
 }
 
-/// Converts a refused allocation into [`Error::OutOfMemory`] and drops the value that found no
-/// place, so that `items.push(item)?` can be written while reading.
+/// Converts a refused allocation into [`Error::OutOfMemory`] and drops the value that was to be
+/// stored, so that `items.push(item)?` can be written while reading.
 impl<T: Drop> From<AllocFailed<T>> for Error {
     ghost from_gives = { λ _ e. e ≡ OutOfMemory };
 

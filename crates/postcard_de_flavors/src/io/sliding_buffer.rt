@@ -12,7 +12,7 @@ use postcard_wire::{Error, Result};
 use std::marker::Model;
 use std::mem;
 
-/// The free part of a scratch buffer. In contracts it is the list of its bytes.
+/// The free part of a scratch buffer. A contract sees the list of its bytes.
 #[derive(Drop)]
 pub struct SlidingBuffer<'de> {
     memory: Memory,

@@ -6,14 +6,14 @@ use postcard_ser_flavors::Flavor;
 use postcard_wire::Result;
 use std::marker::PhantomData;
 
-/// Written as no bytes.
+/// Writes no bytes.
 impl Serialize for () {
     fn serialize<F: Flavor>(&self, serializer: &mut Serializer<F>) -> Result<()> {
         serializer.serialize_unit()
     }
 }
 
-/// Written as no bytes.
+/// Writes no bytes.
 impl<T> Serialize for PhantomData<T> {
     fn serialize<F: Flavor>(&self, serializer: &mut Serializer<F>) -> Result<()> {
         serializer.serialize_unit_struct("PhantomData")

@@ -1,5 +1,5 @@
-//! How bytes go to the storage many at once: runs, which have no zeros, and pieces that are dense
-//! with zeros.
+//! Writes many bytes to the storage by one call: runs, which have no zeros, and pieces that have
+//! many.
 
 ghost use Rattle.std.specs.Prelude.{◌≡◌, ◌≤◌, ◌+◌, ◌-◌, ◌<◌, length, take, drop, slice_index, IfOk};
 ghost use Rattle.std.specs.Prelude.{IfErr, OnOk, OnErr, IsOk, IsTrue, IsErrOf};
@@ -15,8 +15,8 @@ use std::mem;
 /// The number of bytes that are searched for more zeros if the first zero is near.
 const WINDOW: usize = 16;
 
-/// The number of zeros among them from which on it is cheaper to take the bytes with their zeros
-/// than run by run.
+/// If the bytes searched have at least this many zeros, it is cheaper to take them together than
+/// run by run.
 const MANY_ZEROS: u8 = 2;
 
 /// Returns the number of bytes to take together with their zeros, at most `most`, or 0 if zeros are
