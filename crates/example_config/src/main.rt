@@ -9,6 +9,7 @@ mod first;
 mod limited;
 mod pair;
 mod parts;
+mod request;
 mod routes;
 mod store;
 mod telemetry;
@@ -26,6 +27,7 @@ use postcard::{
     Answer, DeserializeOwned, Owned, Serialize, from_bytes, read_frames, serialize_with_flavor,
     to_allocvec, to_allocvec_cobs_after,
 };
+use request::Request;
 use routes::Routes;
 use std::alloc::Global;
 use std::collections::BTreeMap;
@@ -182,6 +184,7 @@ fn main(rt: HostRuntime) -> Result<()> {
     answer(&rt)?;
     there_and_back(&rt, &example_routes(rt.alloc())?)?;
     there_and_back(&rt, &example_report(rt.alloc())?)?;
+    there_and_back(&rt, &Request::Limit(300u32, 115_200))?;
     change(&rt)?;
     write_limited(&rt, 10)?;
     write_limited(&rt, 9)?;

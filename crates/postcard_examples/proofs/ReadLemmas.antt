@@ -29,9 +29,13 @@ LinkIs m n w = IsThen (λ t. t ≡ Num 16 n) (IsThen (λ t. (chain_shape m).valu
 abbrev pub LinkErrors : ℕ → Error → Type 0
 LinkErrors m = either never (either (chain_shape m).other never)
 
--- They are among those of a chain of one link more.
+-- The errors of the variants of a chain, of which the first has no parts, and the second these.
+abbrev pub VariantErrors : ℕ → Error → Type 0
+VariantErrors m = either never (either (LinkErrors m) never)
+
+-- The errors of reading the parts are among those of a chain of one link more.
 of_link : (m : ℕ) (e : Error) → LinkErrors m e → (chain_shape (suc m)).other e
-of_link m e h = with_memory _ e (inr (inl h))
+of_link m e h = with_memory (VariantErrors m) e (inr (inl h))
 
 module _ {S : Type 0} {left : S → Left} {able : S → ℕ → Type 0}
     {may_leave : S → S → Type 0} (laws : Laws left able may_leave) {old mid new : S}
@@ -65,7 +69,7 @@ module _ {S : Type 0} {left : S → Left} {able : S → ℕ → Type 0}
       mid (Ok tt) new →
       ReadsFrom Spells (chain_shape d).reads (chain_shape d).value (chain_shape d).other
       left able may_leave old (refusal Chain OutOfMemory) new
-  link_too_big w one s parts = rw deeper (content_refused laws (only_memory _) refl (rw one at s)
+  link_too_big w one s parts = rw deeper (content_refused laws (only_memory (VariantErrors m)) refl (rw one at s)
       (no_room {W = Unit {0}} {R' = IsGroup (LinkReads m)} {I' = λ t v. ⊥} {H = memory} tt
       (struct_read laws {A = Unit {0}} {value = λ t u. Unit {0}} {a = tt} (λ t h. tt) parts)))
 
