@@ -28,3 +28,8 @@ AreFirst s items OneByOne = Unit {0}
 abbrev pub IsWhole : FirstBytes → Type 0
 IsWhole (Whole bytes) = Unit {0}
 IsWhole _ = ⊥
+
+-- They are those of the first n.
+abbrev pub IsBlockOf : ℕ → FirstBytes → Type 0
+IsBlockOf n (Block bytes count) = count ≡ n
+IsBlockOf n _ = ⊥

@@ -1,10 +1,11 @@
 //! The shapes of floating-point numbers, and their encodings many at a time.
 
-ghost use Rattle.std.specs.Prelude.{◌≡◌, [], ◌∷◌, map, T};
+ghost use Rattle.std.specs.Prelude.{◌≡◌, ◌≤◌, [], ◌∷◌, length, map, T};
 ghost use Rattle.std.specs.Float.{binary32, binary64};
 ghost use Rattle.std.specs.Float.Ieee.{fits, to_bits};
 ghost use Rattle.postcard_wire.specs.Spelling.{canonical_all};
 ghost use Rattle.postcard_wire.specs.Tree.{trees};
+ghost use Rattle.postcard_shape.specs.First.{AreFirst, IsBlockOf};
 ghost use Rattle.postcard_shape.specs.Floats.{float, float_tree};
 ghost use Rattle.postcard_shape.specs.Lists.{AllFit};
 
@@ -15,7 +16,10 @@ use std::simd::prelude::*;
 impl Shaped for f32 {
     ghost shape = { float binary32 };
 
-    fn first_bytes(items: &[f32]) -> FirstBytes<'_> {
+    fn first_bytes(items: &[f32]) -> FirstBytes<'_>
+        ensures gives { AreFirst (float binary32) items.now result }
+        ensures is_block { 4 ≤ length items.now → IsBlockOf 4 result }
+    {
         match items.first_chunk::<4>() {
             Some(block) => {
                 let [a, b, c, d] = *block;
@@ -29,7 +33,10 @@ impl Shaped for f32 {
 impl Shaped for f64 {
     ghost shape = { float binary64 };
 
-    fn first_bytes(items: &[f64]) -> FirstBytes<'_> {
+    fn first_bytes(items: &[f64]) -> FirstBytes<'_>
+        ensures gives { AreFirst (float binary64) items.now result }
+        ensures is_block { 2 ≤ length items.now → IsBlockOf 2 result }
+    {
         match items.first_chunk::<2>() {
             Some(block) => {
                 let [a, b] = *block;
