@@ -17,10 +17,10 @@ pub trait Shaped {
     /// The tree of each value, the trees that are read, their values, and the laws that tie them.
     ghost shape: { Shape Self };
 
-    /// Returns the encodings of the first `items` one after the other, for a type of which these are
-    /// quicker to have at once: all of them if they are just these bytes in memory, as those of a
-    /// slice of `u8` are, or 16 bytes of them, as of floats. With `OneByOne`, which any type may
-    /// return and which is the default, the items are written one by one.
+    /// Returns the encodings of some first `items`, one after the other, for a type whose values are
+    /// written quicker many at a time: those of all items if they are just these bytes in memory, as
+    /// those of a slice of `u8` are, or a block of them, as of four `f32`. With `OneByOne`, which
+    /// any type may return and which is the default, the items are written one by one.
     fn first_bytes(items: &[Self]) -> FirstBytes<'_>
     where
         Self: Sized,
