@@ -6,7 +6,8 @@ ghost use Rattle.postcard_dyn_schema.specs.Meaning.{some_has_bytes};
 ghost use Rattle.postcard_dyn_schema.specs.declared.schema.Leaf.{Leaf};
 
 /// A type without parts. Each is read by one call of `Deserializer` and written by one of
-/// `Serializer`.
+/// `Serializer`, but for the floats, whose bits are read and written at their full width, so that
+/// each NaN is kept.
 ///
 /// `usize` and `isize` are `U64` and `I64` here, since the format writes them as numbers of 64 bits.
 #[derive(Clone, Copy, Debug, PartialEq, Eq)]

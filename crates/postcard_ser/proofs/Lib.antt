@@ -2,6 +2,7 @@
 pub mod PartByPart
 pub mod Refusals
 pub mod Elements
+pub mod Pieces
 pub mod Entries
 pub mod Printed
 pub mod Walked

@@ -1,15 +1,22 @@
 -- Bytes as a list of trees, one for each byte.
-use Rattle.std.proofs.Common.{◌≡◌, ℕ, suc, ◌<◌, List, [], ◌∷◌, length, get_or, refl, ap}
+use Rattle.std.proofs.Common.{◌≡◌, ℕ, suc, ◌<◌, List, [], ◌∷◌, length, get_or, refl, ap, Fits, w8, arith}
 use Rattle.std.specs.Prelude.{map}
 use Rattle.postcard_wire.specs.Tree.{Tree, Trees, Byte, NoTrees, Then, trees, count}
 use Rattle.postcard_wire.specs.Spelling.{SpellsAll, canonical_all}
 use Rattle.postcard_wire.specs.Reading.{IsByte, Each}
+use Rattle.postcard_shape.specs.Leaves.{byte}
+use Rattle.postcard_shape.specs.Lists.{AllFit}
 use Rattle.postcard_shape.specs.Values.{EachIs, AreOfBytes}
 
 -- The canonical encoding of a list of bytes, without its count, is those bytes.
 pub bytes_of_bytes : (xs : List ℕ) → canonical_all (trees (map Byte xs)) ≡ xs
 bytes_of_bytes [] = refl
 bytes_of_bytes (x ∷ xs) = ap (λ z. x ∷ z) (bytes_of_bytes xs)
+
+-- Bytes fit.
+pub bytes_fit : (u : List ℕ) → ((k : ℕ) → Fits w8 (get_or u k 0)) → AllFit byte.fits u
+bytes_fit [] h = tt
+bytes_fit (b ∷ u) h = (omega (arith, h 0), bytes_fit u (λ i. h (suc i)))
 
 -- The value is the byte of its tree.
 abbrev pub ByteIs : Tree → ℕ → Type 0

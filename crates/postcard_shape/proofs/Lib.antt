@@ -5,4 +5,5 @@ pub mod Again
 pub mod Bytes
 pub mod Sums
 pub mod Floats
+pub mod FloatLanes
 pub mod Distinct

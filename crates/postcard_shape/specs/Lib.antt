@@ -11,6 +11,7 @@ pub mod Compound
 pub mod Shape
 pub mod Leaves
 pub mod Lists
+pub mod First
 pub mod Base256
 pub mod Floats
 pub mod Choices

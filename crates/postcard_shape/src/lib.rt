@@ -11,16 +11,18 @@
 //! which makes a shape from those of its parts, laws included, so that a type says its shape in one
 //! line.
 //!
-//! In reading order: [`shape`] has the traits, [`rows`] and [`cases`] what tuples and enums are
+//! In reading order: [`shape`] has the traits, [`first`] what one of their methods returns, [`rows`] and [`cases`] what tuples and enums are
 //! written and read as, `values` the types of std and of `arrayvec`.
 #![tactic(auto)]
 
 pub mod cases;
+pub mod first;
 pub mod formats;
 pub mod rows;
 pub mod shape;
 mod values;
 
 pub use cases::{Case, Cased, NoCase};
+pub use first::FirstBytes;
 pub use rows::{Part, Parts};
 pub use shape::{Repr, Shaped};

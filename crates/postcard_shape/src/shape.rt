@@ -1,12 +1,11 @@
 //! The traits by which a type says its shape: directly, or as that of another type.
 
-ghost use Rattle.std.specs.Prelude.{◌≡◌, map, IfErr, IfOk, IfSome};
-ghost use Rattle.postcard_wire.specs.Spelling.{canonical_all};
-ghost use Rattle.postcard_wire.specs.Tree.{trees};
-ghost use Rattle.postcard_shape.specs.Lists.{AllFit};
+ghost use Rattle.std.specs.Prelude.{◌≡◌, IfErr, IfOk, IfSome};
+ghost use Rattle.postcard_shape.specs.First.{AreFirst};
 ghost use Rattle.postcard_shape.specs.Shape.{Shape, via};
 ghost use Rattle.postcard_shape.specs.Values.{AreOfBytes};
 
+use crate::first::FirstBytes;
 use postcard_wire::{Error, Result};
 use std::alloc::Global;
 
@@ -18,18 +17,17 @@ pub trait Shaped {
     /// The tree of each value, the trees that are read, their values, and the laws that tie them.
     ghost shape: { Shape Self };
 
-    /// Returns the encodings of `items` one after the other, if they are just these bytes in
-    /// memory, as those of a slice of `u8` are. A slice is then written as one piece. With `None`,
-    /// which any type may return and which is the default, its elements are written one by one.
-    fn slice_bytes(items: &[Self]) -> Option<&[u8]>
+    /// Returns the encodings of some first `items`, one after the other, for a type whose values are
+    /// written quicker many at a time: those of all items if they are just these bytes in memory, as
+    /// those of a slice of `u8` are, or a block of them, as of four `f32`. With `OneByOne`, which
+    /// any type may return and which is the default, the items are written one by one.
+    fn first_bytes(items: &[Self]) -> FirstBytes<'_>
     where
         Self: Sized,
-        ensures gives { IfSome result
-            (λ b. b.now ≡ canonical_all (trees (map shape.tree items.now))) }
-        ensures fits { IfSome result (λ _. AllFit shape.fits items.now) }
+        ensures gives { AreFirst shape items.now result }
     {
         let _ = items;
-        None
+        FirstBytes::OneByOne
     }
 
     /// Returns the list that `bytes` encode, one byte for each element, if a value of the type is a

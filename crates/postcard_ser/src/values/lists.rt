@@ -9,11 +9,12 @@ ghost use Rattle.postcard_ser.specs.Writing.{Wrote};
 use crate::serialize::Serialize;
 use crate::serializer::Serializer;
 use postcard_ser_flavors::Flavor;
+use postcard_shape::FirstBytes;
 use postcard_wire::Result;
 use std::collections::{LinkedList, VecDeque};
 
-/// Writes the elements in order, with no count before them: in one piece if `slice_bytes` returns
-/// it.
+/// Writes the elements in order, with no count before them: the first ones in pieces while
+/// `first_bytes` returns one, and the others one by one.
 pub(crate) fn serialize_all<T: Serialize, F: Flavor>(
     items: &[T],
     serializer: &mut Serializer<F>,
@@ -24,9 +25,16 @@ pub(crate) fn serialize_all<T: Serialize, F: Flavor>(
         serializer.new.output }
     ensures fits { OnOk result (AllFit T.shape.fits items.now) }
 {
-    match T::slice_bytes(items) {
-        Some(bytes) => serializer.extend(bytes),
-        None => serialize_each(items, serializer),
+    let mut rest = items;
+    loop {
+        match T::first_bytes(rest) {
+            FirstBytes::Whole(bytes) => return serializer.extend(bytes),
+            FirstBytes::Block(block, count) => {
+                serializer.extend(&block)?;
+                rest = &rest[count..];
+            }
+            FirstBytes::OneByOne => return serialize_each(rest, serializer),
+        }
     }
 }
 

@@ -1,14 +1,87 @@
-//! The shapes of floating-point numbers.
+//! The shapes of floating-point numbers, and their encodings many at a time.
 
+ghost use Rattle.std.specs.Prelude.{◌≡◌, ◌≤◌, [], ◌∷◌, length, map, T};
 ghost use Rattle.std.specs.Float.{binary32, binary64};
-ghost use Rattle.postcard_shape.specs.Floats.{float};
+ghost use Rattle.std.specs.Float.Ieee.{fits, to_bits};
+ghost use Rattle.postcard_wire.specs.Spelling.{canonical_all};
+ghost use Rattle.postcard_wire.specs.Tree.{trees};
+ghost use Rattle.postcard_shape.specs.First.{AreFirst, IsBlockOf};
+ghost use Rattle.postcard_shape.specs.Floats.{float, float_tree};
+ghost use Rattle.postcard_shape.specs.Lists.{AllFit};
 
+use crate::first::FirstBytes;
 use crate::shape::Shaped;
+use std::simd::prelude::*;
 
 impl Shaped for f32 {
     ghost shape = { float binary32 };
+
+    fn first_bytes(items: &[f32]) -> FirstBytes<'_>
+        ensures gives { AreFirst (float binary32) items.now result }
+        ensures is_block { 4 ≤ length items.now → IsBlockOf 4 result }
+    {
+        match items.first_chunk::<4>() {
+            Some(block) => {
+                let [a, b, c, d] = *block;
+                FirstBytes::Block(bytes_of_four(a, b, c, d), 4)
+            }
+            None => FirstBytes::OneByOne,
+        }
+    }
 }
 
 impl Shaped for f64 {
     ghost shape = { float binary64 };
+
+    fn first_bytes(items: &[f64]) -> FirstBytes<'_>
+        ensures gives { AreFirst (float binary64) items.now result }
+        ensures is_block { 2 ≤ length items.now → IsBlockOf 2 result }
+    {
+        match items.first_chunk::<2>() {
+            Some(block) => {
+                let [a, b] = *block;
+                FirstBytes::Block(bytes_of_two(a, b), 2)
+            }
+            None => FirstBytes::OneByOne,
+        }
+    }
+}
+
+/// Returns the encodings of four numbers, one after the other.
+fn bytes_of_four(a: f32, b: f32, c: f32, d: f32) -> [u8; 16]
+    ensures gives { result ≡ canonical_all (trees
+        (map (float_tree binary32) (a ∷ b ∷ c ∷ d ∷ []))) }
+    ensures fits { AllFit (λ x. T (fits binary32 x)) (a ∷ b ∷ c ∷ d ∷ []) }
+{
+    bits_of_four(a, b, c, d).to_le_bytes().to_array()
+}
+
+/// Returns the bits of four numbers, and for a NaN those of the usual one, 7FC00000.
+fn bits_of_four(a: f32, b: f32, c: f32, d: f32) -> u32x4
+    ensures bits { result ≡ map (to_bits binary32) (a ∷ b ∷ c ∷ d ∷ []) }
+    ensures fits { AllFit (λ x. T (fits binary32 x)) (a ∷ b ∷ c ∷ d ∷ []) }
+{
+    let lanes = f32x4::from_array([a, b, c, d]);
+    let nan = lanes.simd_ne(lanes);
+    let bits = nan.select(f32x4::splat(0.0), lanes).to_bits();
+    nan.select(u32x4::splat(0x7FC0_0000), bits)
+}
+
+/// Returns the encodings of two numbers, one after the other.
+fn bytes_of_two(a: f64, b: f64) -> [u8; 16]
+    ensures gives { result ≡ canonical_all (trees (map (float_tree binary64) (a ∷ b ∷ []))) }
+    ensures fits { AllFit (λ x. T (fits binary64 x)) (a ∷ b ∷ []) }
+{
+    bits_of_two(a, b).to_le_bytes().to_array()
+}
+
+/// Returns the bits of two numbers, and for a NaN those of the usual one, 7FF8000000000000.
+fn bits_of_two(a: f64, b: f64) -> u64x2
+    ensures bits { result ≡ map (to_bits binary64) (a ∷ b ∷ []) }
+    ensures fits { AllFit (λ x. T (fits binary64 x)) (a ∷ b ∷ []) }
+{
+    let lanes = f64x2::from_array([a, b]);
+    let nan = lanes.simd_ne(lanes);
+    let bits = nan.select(f64x2::splat(0.0), lanes).to_bits();
+    nan.select(u64x2::splat(0x7FF8_0000_0000_0000), bits)
 }

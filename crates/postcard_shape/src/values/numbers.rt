@@ -1,14 +1,13 @@
 //! The shapes of numbers of a fixed width.
 
-ghost use Rattle.std.specs.Prelude.{◌≡◌, ℕ, ◌<◌, map, refl, IfErr, IfOk, IfSome, IsSome};
+ghost use Rattle.std.specs.Prelude.{◌≡◌, ℕ, ◌<◌, refl, IfErr, IfOk, IfSome, IsSome};
 ghost use Rattle.std.specs.Prelude.{slice_index};
 ghost use Rattle.std.proofs.Common.{inl, inr};
-ghost use Rattle.postcard_wire.specs.Spelling.{canonical_all};
-ghost use Rattle.postcard_wire.specs.Tree.{Byte, trees};
+ghost use Rattle.postcard_shape.specs.First.{AreFirst, IsWhole};
 ghost use Rattle.postcard_shape.specs.Leaves.{byte, signed_byte, num, int};
-ghost use Rattle.postcard_shape.specs.Lists.{AllFit};
 ghost use Rattle.postcard_shape.specs.Values.{AreOfBytes};
 
+use crate::first::FirstBytes;
 use crate::shape::Shaped;
 use postcard_wire::{Error, Result};
 use std::alloc::Global;
@@ -24,13 +23,11 @@ fn in_range(bytes: &[u8]) -> &[u8]
 impl Shaped for u8 {
     ghost shape = { byte };
 
-    #[tactic(auto, using(crate::proofs::Bytes::bytes_of_bytes))]
-    fn slice_bytes(items: &[u8]) -> Option<&[u8]>
-        ensures gives { IfSome result (λ b. b.now ≡ canonical_all (trees (map Byte items.now))) }
-        ensures fits { IfSome result (λ _. AllFit byte.fits items.now) }
-        ensures returns_some { IsSome result }
+    fn first_bytes(items: &[u8]) -> FirstBytes<'_>
+        ensures gives { AreFirst byte items.now result }
+        ensures is_whole { IsWhole result }
     {
-        Some(items)
+        FirstBytes::Whole(items)
     }
 
     fn list_of_bytes(alloc: Global, bytes: &[u8]) -> Result<Option<Vec<u8>>>

@@ -1,0 +1,31 @@
+-- A piece more is written, or refused; and so are the elements that are left.
+use Rattle.std.proofs.lemmas.List.{take_rest}
+use Rattle.postcard_ser.proofs.Pieces.{written_none, written_more, written_stop, written_end, written_whole, written_fits, written_whole_fits, block_shortens}
+use Rattle.postcard_ser.proofs.PartByPart.{wrote_err}
+use Rattle.postcard_ser.proofs.values.lists.serialize_all.Goals as goal
+
+pub loop-bytes-init : goal.loop-bytes-init
+loop-bytes-init g c = written_none c.args.items.now c.args.serializer.now.output
+
+pub returns-in-Whole-clause-wrote : goal.returns-in-Whole-clause-wrote
+returns-in-Whole-clause-wrote g c = written_whole c.loop-bytes.invariant c.in-Whole.ensures.gives c.extend.ensures
+
+pub returns-in-Whole-clause-fits : goal.returns-in-Whole-clause-fits
+returns-in-Whole-clause-fits g c = written_whole_fits _ c.loop-bytes.invariant c.in-Whole.ensures.gives
+
+pub returns-in_err-extend-in-Block-clause-wrote : goal.returns-in_err-extend-in-Block-clause-wrote
+returns-in_err-extend-in-Block-clause-wrote g c =
+    wrote_err _ c.from_residual.ensures.1 (written_stop c.loop-bytes.invariant c.in-Block.ensures.gives c.in_err-extend-in-Block.ensures)
+
+pub loop-bytes-smaller : goal.loop-bytes-smaller
+loop-bytes-smaller g c = block_shortens c.in-Block.ensures.gives (take_rest c.loop-bytes.rest.now c.in-Block.count)
+
+pub loop-bytes-preserved : goal.loop-bytes-preserved
+loop-bytes-preserved g c =
+    written_more c.loop-bytes.invariant c.in-Block.ensures.gives (take_rest c.loop-bytes.rest.now c.in-Block.count) c.in_ok-extend-in-Block.ensures
+
+pub returns-in-OneByOne-clause-wrote : goal.returns-in-OneByOne-clause-wrote
+returns-in-OneByOne-clause-wrote g c = written_end c.loop-bytes.invariant c.serialize_each.ensures.wrote
+
+pub returns-in-OneByOne-clause-fits : goal.returns-in-OneByOne-clause-fits
+returns-in-OneByOne-clause-fits g c = written_fits _ c.loop-bytes.invariant c.serialize_each.ensures.fits

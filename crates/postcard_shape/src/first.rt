@@ -1,0 +1,14 @@
+//! The encodings of the first items of a list.
+
+/// The encodings of some first items of a list, one after the other
+/// ([`Shaped::first_bytes`](crate::Shaped::first_bytes)).
+#[derive(Drop)]
+pub enum FirstBytes<'a> {
+    /// The encodings of all items.
+    Whole(&'a [u8]),
+    /// The encodings of some first items, which have 16 bytes together, and the number of these
+    /// items, which is at least 1.
+    Block([u8; 16], usize),
+    /// The encodings of no items, which are then written one by one.
+    OneByOne,
+}
