@@ -137,7 +137,7 @@ fn value_of(alloc: Global, schema: &Schema, text: &[u8], place: &mut usize) -> R
     };
     match read_text(alloc, schema, text) {
         Ok(value) => Ok(value),
-        Err(TextError::NotAValue { character }) => {
+        Err(TextError::NotAValue { character, .. }) => {
             *place = character;
             Err(BAD_TEXT)
         }

@@ -19,7 +19,9 @@ use Rattle.postcard_dyn_schema.specs.Text.{characters}
 use Rattle.postcard_dyn.specs.Tree.{tree}
 use Rattle.postcard_dyn.specs.declared.value.Value.{Value}
 use Rattle.postcard_dyn_text.specs.Place.{IsPlaceIn}
+use Rattle.postcard_dyn_text.specs.Printed.{expected_text}
 use Rattle.postcard_dyn_text.specs.Spelled.{SpellsValue}
+use Rattle.postcard_dyn_text.specs.declared.expected.Expected.{Expected}
 use Rattle.postcard_dyn_text.specs.declared.read.TextError.TheVariants.{NotAValue}
 use Rattle.postcard_cli.specs.Checksum.{HasNoTrailer, IsUnnamed, checksum_name}
 use Rattle.postcard_cli.specs.Command.{IsCallOf, IsNoCall}
@@ -98,14 +100,15 @@ HexFails reads steady hex known left failure = ⊥
 
 -- ---- messages whose type is an expression
 
--- The text spells no value of the expression, and the place of the error in it was printed.
+-- The text spells no value of the expression, and the place of the error in it and what is expected there were printed.
 pub record IsValueRefused (expression value : List ℕ) (old new : Option (List ℕ)) : Type 0 where
   pub schema : Schema
   pub spelled : IsExpression schema expression
   pub no_value : (v : Value) → reads (type_of schema) (tree v) → SpellsValue schema v value → ⊥
   pub character : ℕ
-  pub within : IsPlaceIn value (NotAValue character)
-  pub printed : Appends old new (codes "at character " ++ (decimal character ++ codes ": "))
+  pub expected : Expected
+  pub within : IsPlaceIn value (NotAValue character expected)
+  pub printed : Appends old new (codes "at character " ++ (decimal character ++ (codes ": expected " ++ (expected_text expected ++ codes ": "))))
 
 -- The word spells a value of the expression whose encoding has more than 4,096 bytes.
 pub record HasLongEncoding (expression word : List ℕ) : Type 0 where

@@ -54,8 +54,8 @@ pub fn schema_of<W: Write>(alloc: Global, text: &str, output: &mut W) -> Result<
 /// # Errors
 ///
 /// Fails as [`schema_of`] does, with `BadValue` if the text is no value of the type, after the
-/// place of the error is printed, and with `Library(SerializeBufferFull)` if the encoding is longer
-/// than 4,096 bytes.
+/// place of the error and what is expected there are printed, and with
+/// `Library(SerializeBufferFull)` if the encoding is longer than 4,096 bytes.
 pub fn encode<W: Write>(
     alloc: Global,
     expression: &str,
@@ -115,8 +115,11 @@ fn encoding_of<W: Write>(
     let schema = schema_of(alloc, expression, output)?;
     let value = match read_text(alloc, &schema, value) {
         Ok(value) => value,
-        Err(TextError::NotAValue { character }) => {
-            write!(output, "at character {character}: ")?;
+        Err(TextError::NotAValue {
+            character,
+            expected,
+        }) => {
+            write!(output, "at character {character}: expected {expected}: ")?;
             return Err(Failure::BadValue);
         }
         Err(TextError::OutOfMemory) => return Err(Failure::from(Error::OutOfMemory)),

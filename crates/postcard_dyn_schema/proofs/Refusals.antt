@@ -3,6 +3,7 @@ use Rattle.std.proofs.Common.{◌≡◌, ℕ, ◌<◌, ◌≤◌, List, [], ◌�
 use Rattle.std.specs.Prelude.{Result, Ok, Err, IfErr, IsErrAnd}
 use Rattle.std.proofs.lemmas.List.{length-append}
 use Rattle.postcard_dyn_schema.specs.declared.error.Problem.{Problem}
+use Rattle.postcard_dyn_schema.specs.declared.error.Problem.TheVariants.{OutOfMemory}
 use Rattle.postcard_dyn_schema.specs.declared.scan.Fault.{Fault}
 use Rattle.postcard_dyn_schema.specs.declared.schema.Schema.{Schema}
 use Rattle.postcard_dyn_schema.specs.Text.{TakesPhrase, IsSign}
@@ -14,6 +15,11 @@ use Rattle.postcard_dyn_schema.specs.Fronts.{IsRefusal}
 pub refusal : {p : Problem} {A B : Type 0} → (B → A) → IsRefusal p A → IsRefusal p B
 refusal f (inl memory) = inl memory
 refusal f (inr none) = inr (λ b. none (f b))
+
+-- A refusal remains one with another problem, if this says that memory is lacking where the first one did.
+pub refusal_as : {p q : Problem} {A : Type 0} → (p ≡ OutOfMemory → q ≡ OutOfMemory) → IsRefusal p A → IsRefusal q A
+refusal_as f (inl memory) = inl (f memory)
+refusal_as f (inr none) = inr none
 
 -- The error that a `?` passes on.
 pub refused_err : {R : Type 0} {A : Type 0} (r : Result R Fault) (e : Fault) → IsErrAnd r (λ y. y ≡ e) → IsRefusal e.problem A → IfErr r (λ fault. IsRefusal fault.problem A)

@@ -227,10 +227,31 @@ fn read_braces(alloc: Global, rest: &mut &[u8], depth: usize) -> Result<Schema, 
         IsRefusal fault.problem (HasFront Anything (IsBracesRest (IsType depth)) rest.old.now)) }
 {
     if begins_field(rest) {
-        read_fields(alloc, rest, depth)
-    } else {
-        read_map(alloc, rest, depth)
+        return read_fields(alloc, rest, depth);
     }
+    let start = *rest;
+    match read_map(alloc, rest, depth) {
+        Ok(schema) => Ok(schema),
+        Err(fault) => Err(or_colon(fault, start)),
+    }
+}
+
+/// Returns what is wrong with the text after a `{`, which is refused as a map with this fault. If
+/// its first word is no type and no `=>` follows the word, it is a field whose `:` is missing.
+fn or_colon(fault: Fault, text: &[u8]) -> Fault
+    ensures refused { fault.problem ≡ Problem.OutOfMemory → result.problem ≡ Problem.OutOfMemory }
+{
+    let mut rest = text.trim_ascii_start();
+    if fault.problem != Problem::UnknownType || fault.left != rest.len() {
+        return fault;
+    }
+    let _ = take_word(&mut rest);
+    skip_blanks(&mut rest);
+    let after = rest;
+    if take(&mut rest, b'=') && take(&mut rest, b'>') {
+        return fault;
+    }
+    fault_at(Problem::ColonExpected, after)
 }
 
 /// Returns whether a word that isn't empty comes next, and then `:`.

@@ -123,7 +123,7 @@ const NUMBERS: [Call; 11] = [
 ];
 
 /// Calls of `enc` with a type expression.
-const ENCODE: [Call; 17] = [
+const ENCODE: [Call; 19] = [
     (
         &["enc", SENSOR, "{id: 42, label: \"x\", samples: [1, 2]}"],
         b"",
@@ -144,13 +144,25 @@ const ENCODE: [Call; 17] = [
     (
         &["enc", "(u8)", "256"],
         b"",
-        "at character 1: bad value\n",
+        "at character 1: expected a number of u8, 0 to 255: bad value\n",
         2,
     ),
     (
         &["enc", "(u8, u8)", "(1, x)"],
         b"",
-        "at character 5: bad value\n",
+        "at character 5: expected a number of u8, 0 to 255: bad value\n",
+        2,
+    ),
+    (
+        &["enc", SENSOR, "{id: 42}"],
+        b"",
+        "at character 8: expected `,` and field `label`: bad value\n",
+        2,
+    ),
+    (
+        &["enc", "{id u32}", "{id: 42}"],
+        b"",
+        "expected `:` at character 5: bad type\n",
         2,
     ),
     (

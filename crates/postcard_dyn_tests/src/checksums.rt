@@ -63,7 +63,7 @@ const CALLS: [Call; 17] = [
     (
         &["enc", "--crc", CRC_32, "u8", "x"],
         b"",
-        "at character 1: bad value\n",
+        "at character 1: expected a number of u8, 0 to 255: bad value\n",
         2,
     ),
     (&["enc", "--sum", CRC_32, "u8", "5"], b"", USAGE, 2),

@@ -43,7 +43,7 @@ const TYPES: [(&str, &str); 20] = [
 ];
 
 /// Texts that are no expressions, each beside the error as it is printed.
-const REFUSED: [(&str, &str); 40] = [
+const REFUSED: [(&str, &str); 47] = [
     ("", "expected a type at character 1"),
     ("  ", "expected a type at character 3"),
     ("u9", "unknown type at character 1"),
@@ -88,7 +88,14 @@ const REFUSED: [(&str, &str); 40] = [
         "{a: u8, 2: u8}",
         "expected the name of a field at character 9",
     ),
-    ("{a u8}", "unknown type at character 2"),
+    ("{a u8}", "expected `:` at character 4"),
+    ("{id", "expected `:` at character 4"),
+    ("{ id  u32}", "expected `:` at character 7"),
+    ("{id = u32}", "expected `:` at character 5"),
+    ("{Id u32}", "expected `:` at character 5"),
+    ("{id => u32}", "unknown type at character 2"),
+    ("{[id] => u32}", "unknown type at character 3"),
+    ("{u8 u8}", "expected `=>` at character 5"),
     ("{u8, u8}", "expected `=>` at character 4"),
     ("{u8 => u8", "expected `}` at character 10"),
     ("A | ", "expected the name of a variant at character 5"),

@@ -212,19 +212,67 @@ const READ: [(&str, &str, &str); 17] = [
 
 /// Types and texts that are no value, each beside the error as it is printed.
 const REFUSED: [(&str, &str, &str); 13] = [
-    ("f32", "", "bad value at character 1"),
-    ("f32", "0x10", "bad value at character 1"),
-    ("f64", "1.5.2", "bad value at character 1"),
-    ("f64", "1e", "bad value at character 1"),
-    ("f64", "one", "bad value at character 1"),
-    ("f64", "1_0", "bad value at character 2"),
-    ("f32", "1.5 (2)", "bad value at character 5"),
-    ("f32", "nan(0x3f800000)", "bad value at character 1"),
-    ("f32", "nan(0x17fc00001)", "bad value at character 1"),
-    ("f64", "nan(0x7fc00001)", "bad value at character 1"),
-    ("f32", "nan(7fc00001)", "bad value at character 5"),
-    ("f32", "nan(0x7fc00001", "bad value at character 5"),
-    ("(u8, f32)", "(1, x)", "bad value at character 5"),
+    (
+        "f32",
+        "",
+        "bad value at character 1: expected a number of f32, as 1.5, inf or nan",
+    ),
+    (
+        "f32",
+        "0x10",
+        "bad value at character 1: expected a number of f32, as 1.5, inf or nan",
+    ),
+    (
+        "f64",
+        "1.5.2",
+        "bad value at character 1: expected a number of f64, as 1.5, inf or nan",
+    ),
+    (
+        "f64",
+        "1e",
+        "bad value at character 1: expected a number of f64, as 1.5, inf or nan",
+    ),
+    (
+        "f64",
+        "one",
+        "bad value at character 1: expected a number of f64, as 1.5, inf or nan",
+    ),
+    ("f64", "1_0", "bad value at character 2: expected the end"),
+    (
+        "f32",
+        "1.5 (2)",
+        "bad value at character 5: expected the end",
+    ),
+    (
+        "f32",
+        "nan(0x3f800000)",
+        "bad value at character 1: expected a number of f32, as 1.5, inf or nan",
+    ),
+    (
+        "f32",
+        "nan(0x17fc00001)",
+        "bad value at character 1: expected a number of f32, as 1.5, inf or nan",
+    ),
+    (
+        "f64",
+        "nan(0x7fc00001)",
+        "bad value at character 1: expected a number of f64, as 1.5, inf or nan",
+    ),
+    (
+        "f32",
+        "nan(7fc00001)",
+        "bad value at character 5: expected the bits of a NaN, as 0x7fc00001, and `)`",
+    ),
+    (
+        "f32",
+        "nan(0x7fc00001",
+        "bad value at character 5: expected the bits of a NaN, as 0x7fc00001, and `)`",
+    ),
+    (
+        "(u8, f32)",
+        "(1, x)",
+        "bad value at character 5: expected a number of f32, as 1.5, inf or nan",
+    ),
 ];
 
 #[test]

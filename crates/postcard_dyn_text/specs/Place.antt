@@ -6,5 +6,5 @@ use Rattle.postcard_dyn_text.specs.declared.read.TextError.TheVariants.{NotAValu
 
 -- The place is the number of a character of the text, counted from 1, or the next number after the last.
 abbrev pub IsPlaceIn : List ℕ → TextError → Type 0
-IsPlaceIn text (NotAValue character) = (1 ≤ character) × (character ≤ characters text + 1)
+IsPlaceIn text (NotAValue character expected) = (1 ≤ character) × (character ≤ characters text + 1)
 IsPlaceIn text OutOfMemory = Unit {0}

@@ -12,7 +12,9 @@ ghost use Rattle.postcard_dyn_schema.specs.Text.{Led, Then, TakesPhrase, IsSign}
 ghost use Rattle.postcard_dyn_text.specs.Floats.{ShowsFloat, SpellsFloat, EndsFloat, EndsNumber};
 ghost use Rattle.postcard_dyn_text.specs.Floats.{IsHexadecimal, is_of_float as is_of_number};
 
+use crate::expected::Expected;
 use crate::read::Stop;
+use postcard_dyn::Leaf;
 use postcard_dyn::scan::{skip_blanks, take, take_word};
 use ryu::Buffer;
 use std::fmt;
@@ -56,7 +58,7 @@ pub fn show_f64<W: Write>(bits: u64, f: &mut Formatter<W>) -> fmt::Result
 ///
 /// Stops at the front of `rest` if no float is next, or at the bits after `nan(` if these aren't
 /// hexadecimal digits after `0x`, and then `)`.
-pub fn read_f32(rest: &mut &[u8]) -> Result<u32, Stop>
+pub fn read_f32(rest: &mut &[u8]) -> Result<u32, Stop<'static>>
     ensures spelled { IfOk result (λ bits.
         TakesPhrase (SpellsFloat binary32 bits) rest.old.now rest.new.now) }
     ensures reads_back { (bits : ℕ) (after : List ℕ)
@@ -67,19 +69,19 @@ pub fn read_f32(rest: &mut &[u8]) -> Result<u32, Stop>
     let word = take_number(rest);
     if word == b"nan".as_slice() && take(rest, b'(') {
         let Ok(bits) = u32::try_from(read_code(rest)?) else {
-            return Err(Stop::here(start));
+            return Err(Stop::here(start, Expected::Leaf(Leaf::F32)));
         };
         if f32_from_bits_with_nan(bits).is_nan() {
             return Ok(bits);
         }
-        return Err(Stop::here(start));
+        return Err(Stop::here(start, Expected::Leaf(Leaf::F32)));
     }
     let Ok(text) = str::from_utf8(word) else {
-        return Err(Stop::here(start));
+        return Err(Stop::here(start, Expected::Leaf(Leaf::F32)));
     };
     match text.parse::<f32>() {
         Ok(x) => Ok(f32_to_bits_with_nan(x)),
-        Err(_) => Err(Stop::here(start)),
+        Err(_) => Err(Stop::here(start, Expected::Leaf(Leaf::F32))),
     }
 }
 
@@ -90,7 +92,7 @@ pub fn read_f32(rest: &mut &[u8]) -> Result<u32, Stop>
 ///
 /// Stops at the front of `rest` if no float is next, or at the bits after `nan(` if these aren't
 /// hexadecimal digits after `0x`, and then `)`.
-pub fn read_f64(rest: &mut &[u8]) -> Result<u64, Stop>
+pub fn read_f64(rest: &mut &[u8]) -> Result<u64, Stop<'static>>
     ensures spelled { IfOk result (λ bits.
         TakesPhrase (SpellsFloat binary64 bits) rest.old.now rest.new.now) }
     ensures reads_back { (bits : ℕ) (after : List ℕ)
@@ -104,39 +106,40 @@ pub fn read_f64(rest: &mut &[u8]) -> Result<u64, Stop>
         if f64_from_bits_with_nan(bits).is_nan() {
             return Ok(bits);
         }
-        return Err(Stop::here(start));
+        return Err(Stop::here(start, Expected::Leaf(Leaf::F64)));
     }
     let Ok(text) = str::from_utf8(word) else {
-        return Err(Stop::here(start));
+        return Err(Stop::here(start, Expected::Leaf(Leaf::F64)));
     };
     match text.parse::<f64>() {
         Ok(x) => Ok(f64_to_bits_with_nan(x)),
-        Err(_) => Err(Stop::here(start)),
+        Err(_) => Err(Stop::here(start, Expected::Leaf(Leaf::F64))),
     }
 }
 
 /// Takes `0x`, hexadecimal digits and `)`, and returns the number that the digits spell.
-fn read_code(rest: &mut &[u8]) -> Result<u64, Stop>
+fn read_code(rest: &mut &[u8]) -> Result<u64, Stop<'static>>
     ensures spelled { IfOk result (λ n.
         TakesPhrase (Then (IsHexadecimal n) (IsSign 41)) rest.old.now rest.new.now) }
+    ensures below { IfOk result (λ n. n < 2 ^ 64) }
     ensures reads_back { (n : ℕ) (after : List ℕ) → n < 2 ^ 64
         → TakesPhrase (Then (IsHexadecimal n) (IsSign 41)) rest.old.now after
         → MatchResult result (λ read. (read ≡ n) × (rest.new.now ≡ after)) (λ stop. ⊥) }
 {
     let start = *rest;
     let Some(digits) = take_word(rest).strip_prefix(b"0x") else {
-        return Err(Stop::here(start));
+        return Err(Stop::here(start, Expected::Bits));
     };
     let Ok(text) = str::from_utf8(digits) else {
-        return Err(Stop::here(start));
+        return Err(Stop::here(start, Expected::Bits));
     };
     let Ok(code) = u64::from_str_radix(text, 16) else {
-        return Err(Stop::here(start));
+        return Err(Stop::here(start, Expected::Bits));
     };
     if take(rest, b')') {
         return Ok(code);
     }
-    Err(Stop::here(start))
+    Err(Stop::here(start, Expected::Bits))
 }
 
 /// Takes blanks and then the bytes that may be part of a number, and returns these bytes.

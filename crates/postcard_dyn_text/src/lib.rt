@@ -11,10 +11,12 @@
 //! That a printed text is read as the same value is shown by tests; of a float alone it is proved.
 #![tactic(auto)]
 
+pub mod expected;
 pub mod float;
 pub mod quoted;
 pub mod read;
 pub mod show;
 
+pub use expected::Expected;
 pub use read::{TextError, read_text};
 pub use show::Shown;

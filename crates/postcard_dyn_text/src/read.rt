@@ -1,6 +1,6 @@
 //! Reading a value from its text: [`read_text`].
 
-ghost use Rattle.std.specs.Prelude.{◌≡◌, ◌≢◌, ℕ, ◌<◌, List, [], ◌∷◌, ◌++◌, map, slice_index, length};
+ghost use Rattle.std.specs.Prelude.{◌≡◌, ◌≢◌, ℕ, ◌<◌, List, [], ◌∷◌, ◌++◌, codes, map, slice_index, length};
 ghost use Rattle.std.specs.Prelude.{IfOk, IfErr, OnOk, MatchResult, Ok, Err, Some, true, false, get_or};
 ghost use Rattle.std.specs.Bool.{◌==◌};
 ghost use Rattle.std.specs.Char.{encode_utf8, is_ascii_whitespace, IsScalar};
@@ -29,6 +29,7 @@ ghost use Rattle.postcard_dyn_schema.specs.Names.{IsCalled};
 ghost use Rattle.postcard_dyn_schema.specs.declared.schema.Schema.{Schema};
 ghost use Rattle.postcard_dyn.specs.Tree.{tree};
 
+use crate::expected::Expected;
 use crate::float::{read_f32, read_f64};
 use crate::quoted::{bytes_of, take_quoted};
 use crate::show::{has_brackets, is_struct, is_unit};
@@ -38,22 +39,31 @@ use std::alloc::Global;
 use std::fmt;
 use std::str::FromStr;
 
-/// The error of reading a value from a text. It is printed as `bad value at character 5`.
+/// The error of reading a value from a text. It is printed as ``bad value at character 5: expected
+/// field `label` ``.
 #[derive(Clone, Copy, Debug, PartialEq, Eq)]
-pub enum TextError {
-    /// The text is no value of the schema. `character` is the place, counted from 1, where it stops
-    /// being one. At the end of the text it is the number of characters plus 1.
-    NotAValue { character: usize },
+pub enum TextError<'a> {
+    /// The text is no value of the schema.
+    NotAValue {
+        /// The place, counted from 1, where it stops being one. At the end of the text it is the
+        /// number of characters plus 1.
+        character: usize,
+        /// What is expected there.
+        expected: Expected<'a>,
+    },
     /// An allocation failed.
     OutOfMemory,
 }
 
-impl fmt::Display for TextError {
+impl fmt::Display for TextError<'_> {
     ghost output = { λ e. Some (value_error_text e) };
 
     fn fmt<W: fmt::Write>(&self, f: &mut fmt::Formatter<W>) -> fmt::Result {
         match self {
-            TextError::NotAValue { character } => write!(f, "bad value at character {character}"),
+            TextError::NotAValue {
+                character,
+                expected,
+            } => write!(f, "bad value at character {character}: expected {expected}"),
             TextError::OutOfMemory => f.write_str("out of memory"),
         }
     }
@@ -61,20 +71,20 @@ impl fmt::Display for TextError {
 
 /// The reason why reading stops.
 #[derive(Clone, Copy)]
-pub enum Stop {
+pub enum Stop<'a> {
     /// The text is no value. The number of bytes from the place of the error to the end of the
-    /// text.
-    At(usize),
+    /// text, and what is expected there.
+    At(usize, Expected<'a>),
     /// An allocation failed.
     Memory,
 }
 
-impl Stop {
-    /// Returns `At` with the place at the front of `rest`.
-    pub fn here(rest: &[u8]) -> Stop
-        ensures { result ≡ Stop.At (length rest.now) }
+impl<'a> Stop<'a> {
+    /// Returns `At` with the place at the front of `rest`, where this is expected.
+    pub fn here(rest: &[u8], expected: Expected<'a>) -> Stop<'a>
+        ensures { result ≡ Stop.At (length rest.now) expected.entry }
     {
-        Stop::At(rest.len())
+        Stop::At(rest.len(), expected)
     }
 }
 
@@ -83,9 +93,9 @@ impl Stop {
 ///
 /// # Errors
 ///
-/// Fails with `NotAValue` and the place if the text is no value of the schema, and with
-/// `OutOfMemory` if an allocation fails.
-pub fn read_text(alloc: Global, schema: &Schema, text: &str) -> Result<Value, TextError>
+/// Fails with `NotAValue`, the place and what is expected there if the text is no value of the
+/// schema, and with `OutOfMemory` if an allocation fails.
+pub fn read_text<'a>(alloc: Global, schema: &'a Schema, text: &str) -> Result<Value, TextError<'a>>
     ensures value { IfOk result (λ v. reads (type_of schema.now) (tree v)) }
     ensures spelled { IfOk result (λ v. SpellsValue schema.now v text.now) }
     ensures accepted { HasDistinctNames (layout_of schema.now) → (v : Value)
@@ -101,20 +111,21 @@ pub fn read_text(alloc: Global, schema: &Schema, text: &str) -> Result<Value, Te
 }
 
 /// Returns the error for a text in which reading stops.
-fn error_in(text: &str, stop: Stop) -> TextError
+fn error_in<'a>(text: &str, stop: Stop<'a>) -> TextError<'a>
     ensures place { IsPlaceIn text.now result }
-    ensures memory { stop ≡ Stop.Memory → result ≡ TextError.OutOfMemory }
+    ensures memory { stop.entry ≡ Stop.Memory → result ≡ TextError.OutOfMemory }
 {
     match stop {
-        Stop::At(left) => TextError::NotAValue {
+        Stop::At(left, expected) => TextError::NotAValue {
             character: character_of(text.as_bytes(), left),
+            expected,
         },
         Stop::Memory => TextError::OutOfMemory,
     }
 }
 
 /// Reads a value, after which only blanks may follow.
-fn read_whole(alloc: Global, schema: &Schema, rest: &mut &[u8]) -> Result<Value, Stop>
+fn read_whole<'a>(alloc: Global, schema: &'a Schema, rest: &mut &[u8]) -> Result<Value, Stop<'a>>
     ensures value { IfOk result (λ v. reads (type_of schema.now) (tree v)) }
     ensures spelled { IfOk result (λ v. SpellsValue schema.now v rest.old.now) }
     ensures accepted { HasDistinctNames (layout_of schema.now) → (v : Value)
@@ -124,13 +135,13 @@ fn read_whole(alloc: Global, schema: &Schema, rest: &mut &[u8]) -> Result<Value,
     let value = read(alloc, schema, rest)?;
     skip_blanks(rest);
     if !rest.is_empty() {
-        return Err(Stop::here(rest));
+        return Err(Stop::here(rest, Expected::End));
     }
     Ok(value)
 }
 
-/// Takes blanks and then this byte, or stops at what follows the blanks.
-fn expect(rest: &mut &[u8], byte: u8) -> Result<(), Stop>
+/// Takes blanks and then this byte, or stops at what follows the blanks, where this is expected.
+fn expect<'a>(rest: &mut &[u8], byte: u8, expected: Expected<'a>) -> Result<(), Stop<'a>>
     ensures taken { OnOk result (TakesPhrase (IsSign byte) rest.old.now rest.new.now) }
     ensures accepted { (after : List ℕ) → is_ascii_whitespace byte ≡ false
         → TakesPhrase (IsSign byte) rest.old.now after
@@ -140,18 +151,18 @@ fn expect(rest: &mut &[u8], byte: u8) -> Result<(), Stop>
         return Ok(());
     }
     skip_blanks(rest);
-    Err(Stop::here(rest))
+    Err(Stop::here(rest, expected))
 }
 
-/// Takes these bytes in order, each after blanks, or stops.
-fn expect_all(rest: &mut &[u8], bytes: &[u8]) -> Result<(), Stop>
+/// Takes these bytes in order, each after blanks, or stops where this is expected.
+fn expect_all<'a>(rest: &mut &[u8], bytes: &[u8], expected: Expected<'a>) -> Result<(), Stop<'a>>
     ensures taken { OnOk result (TakesPhrase (AreSigns bytes.now) rest.old.now rest.new.now) }
     ensures accepted { (after : List ℕ) → IsBetween bytes.now
         → TakesPhrase (AreSigns bytes.now) rest.old.now after
         → MatchResult result (λ done. rest.new.now ≡ after) (λ stop. ⊥) }
 {
     for byte in bytes {
-        expect(rest, *byte)?;
+        expect(rest, *byte, expected)?;
     }
     Ok(())
 }
@@ -173,8 +184,14 @@ fn take_name(rest: &mut &[u8], name: &[u8]) -> bool
     false
 }
 
-/// Takes the bytes `between`, each after blanks, or nothing before the first part.
-fn separate(rest: &mut &[u8], is_first: bool, between: &[u8]) -> Result<(), Stop>
+/// Takes the bytes `between`, each after blanks, or nothing before the first part. Stops where
+/// this is expected.
+fn separate<'a>(
+    rest: &mut &[u8],
+    is_first: bool,
+    between: &[u8],
+    expected: Expected<'a>,
+) -> Result<(), Stop<'a>>
     ensures taken { OnOk result (TakesPhrase (Unless is_first (AreSigns between.now))
         rest.old.now rest.new.now) }
     ensures accepted { (after : List ℕ) → IsBetween between.now
@@ -184,11 +201,25 @@ fn separate(rest: &mut &[u8], is_first: bool, between: &[u8]) -> Result<(), Stop
     if is_first {
         return Ok(());
     }
-    expect_all(rest, between)
+    expect_all(rest, between, expected)
+}
+
+/// Returns what is expected before a part behind another one: `=>` in an entry of a map, and else
+/// `,`, with the name of the field that is to follow.
+fn before<'a>(part: &'a Schema, between: &[u8]) -> Expected<'a>
+    ensures { between.now ≡ codes "=>" → result ≡ Expected.Arrow }
+{
+    if between != b",".as_slice() {
+        return Expected::Arrow;
+    }
+    match part {
+        Schema::Named(name, _) => Expected::NextField(name.as_str()),
+        _ => Expected::Sign(b','),
+    }
 }
 
 /// Adds a value to the end of the list.
-fn push(items: &mut Vec<Value>, item: Value) -> Result<(), Stop>
+fn push(items: &mut Vec<Value>, item: Value) -> Result<(), Stop<'static>>
     ensures added { OnOk result (items.new.items ≡ items.old.items ++ item ∷ []) }
     ensures refused { IfErr result (λ stop. stop ≡ Stop.Memory) }
 {
@@ -200,7 +231,7 @@ fn push(items: &mut Vec<Value>, item: Value) -> Result<(), Stop>
 
 /// Reads a value.
 #[cycle(text)]
-fn read(alloc: Global, schema: &Schema, rest: &mut &[u8]) -> Result<Value, Stop>
+fn read<'a>(alloc: Global, schema: &'a Schema, rest: &mut &[u8]) -> Result<Value, Stop<'a>>
     ensures value { IfOk result (λ v. reads (type_of schema.now) (tree v)) }
     ensures spelled { IfOk result (λ v. TakesPhrase (SpellsTree (layout_of schema.now) (tree v))
         rest.old.now rest.new.now) }
@@ -219,9 +250,9 @@ fn read(alloc: Global, schema: &Schema, rest: &mut &[u8]) -> Result<Value, Stop>
         Schema::Named(name, content) => {
             skip_blanks(rest);
             if !take_name(rest, name.as_bytes()) {
-                return Err(Stop::here(rest));
+                return Err(Stop::here(rest, Expected::Field(name.as_str())));
             }
-            expect(rest, b':')?;
+            expect(rest, b':', Expected::Sign(b':'))?;
             read(alloc, content, rest)
         }
     }
@@ -229,7 +260,7 @@ fn read(alloc: Global, schema: &Schema, rest: &mut &[u8]) -> Result<Value, Stop>
 
 /// Reads `None` or `Some(..)`.
 #[cycle(text)]
-fn read_option(alloc: Global, content: &Schema, rest: &mut &[u8]) -> Result<Value, Stop>
+fn read_option<'a>(alloc: Global, content: &'a Schema, rest: &mut &[u8]) -> Result<Value, Stop<'a>>
     ensures value { IfOk result (λ v. IsOption (reads (type_of content.now)) (tree v)) }
     ensures spelled { IfOk result (λ v.
         TakesPhrase (SpellsOption (SpellsTree (layout_of content.now)) (tree v))
@@ -243,11 +274,11 @@ fn read_option(alloc: Global, content: &Schema, rest: &mut &[u8]) -> Result<Valu
         return Ok(Value::Absent);
     }
     if !take_name(rest, b"Some".as_slice()) {
-        return Err(Stop::here(rest));
+        return Err(Stop::here(rest, Expected::NoneOrSome));
     }
-    expect(rest, b'(')?;
+    expect(rest, b'(', Expected::Sign(b'('))?;
     let value = read(alloc, content, rest)?;
-    expect(rest, b')')?;
+    expect(rest, b')', Expected::Sign(b')'))?;
     match Box::new(alloc, value) {
         Ok(held) => Ok(Value::Present(held)),
         Err(_) => Err(Stop::Memory),
@@ -256,13 +287,13 @@ fn read_option(alloc: Global, content: &Schema, rest: &mut &[u8]) -> Result<Valu
 
 /// Reads a list or a map between the brackets `opening` and `closing`.
 #[cycle(text)]
-fn read_list(
+fn read_list<'a>(
     alloc: Global,
-    element: &Schema,
+    element: &'a Schema,
     rest: &mut &[u8],
     opening: u8,
     closing: u8,
-) -> Result<Value, Stop>
+) -> Result<Value, Stop<'a>>
     ensures value { IfOk result (λ v. IsSeq (reads (type_of element.now)) (tree v)) }
     ensures spelled { IfOk result (λ v. TakesPhrase
         (SpellsList opening closing (SpellsItem (closing == 125) (layout_of element.now)) (tree v))
@@ -273,7 +304,7 @@ fn read_list(
         (SpellsList opening closing (SpellsItem (closing == 125) (layout_of element.now)))
         rest.old.now result rest.new.now }
 {
-    expect(rest, opening)?;
+    expect(rest, opening, Expected::Sign(opening))?;
     let items = read_items(alloc, element, rest, closing)?;
     Ok(Value::Seq(items))
 }
@@ -281,12 +312,12 @@ fn read_list(
 /// Reads elements of a list, or entries of a map, and the closing bracket. A `,` may follow the
 /// last.
 #[cycle(text)]
-fn read_items(
+fn read_items<'a>(
     alloc: Global,
-    element: &Schema,
+    element: &'a Schema,
     rest: &mut &[u8],
     closing: u8,
-) -> Result<Vec<Value>, Stop>
+) -> Result<Vec<Value>, Stop<'a>>
     ensures value { IfOk result (λ v.
         Each (reads (type_of element.now)) (trees (map tree v.items))) }
     ensures spelled { IfOk result (λ v. TakesPhrase (AreClosed closing
@@ -306,17 +337,22 @@ fn read_items(
         let item = read_item(alloc, element, rest, closing)?;
         push(&mut items, item)?;
         if !take(rest, b',') {
-            expect(rest, closing)?;
+            expect(rest, closing, Expected::CommaOr(closing))?;
             return Ok(items);
         }
     }
-    Err(Stop::here(rest))
+    Err(Stop::here(rest, Expected::CommaOr(closing)))
 }
 
 /// Reads an element of a list, or, if the closing bracket is `}`, an entry of a map: a key, `=>`
 /// and a value.
 #[cycle(text)]
-fn read_item(alloc: Global, element: &Schema, rest: &mut &[u8], closing: u8) -> Result<Value, Stop>
+fn read_item<'a>(
+    alloc: Global,
+    element: &'a Schema,
+    rest: &mut &[u8],
+    closing: u8,
+) -> Result<Value, Stop<'a>>
     ensures value { IfOk result (λ v. reads (type_of element.now) (tree v)) }
     ensures spelled { IfOk result (λ v.
         TakesPhrase (SpellsItem (closing == 125) (layout_of element.now) (tree v))
@@ -329,19 +365,19 @@ fn read_item(alloc: Global, element: &Schema, rest: &mut &[u8], closing: u8) -> 
         return read(alloc, element, rest);
     }
     let Schema::Group(parts) = element else {
-        return Err(Stop::here(rest));
+        return Err(Stop::here(rest, Expected::Arrow));
     };
     Ok(Value::Group(read_parts(alloc, parts, rest, b"=>")?))
 }
 
 /// Reads an array, or stops if it hasn't exactly `count` elements.
 #[cycle(text)]
-fn read_array(
+fn read_array<'a>(
     alloc: Global,
-    element: &Schema,
+    element: &'a Schema,
     count: usize,
     rest: &mut &[u8],
-) -> Result<Value, Stop>
+) -> Result<Value, Stop<'a>>
     ensures value { IfOk result (λ v. IsArray count (reads (type_of element.now)) (tree v)) }
     ensures spelled { IfOk result (λ v.
         TakesPhrase (SpellsArray (SpellsTree (layout_of element.now)) (tree v))
@@ -350,18 +386,22 @@ fn read_array(
         → Accepts (IsArray count (reads (type_of element.now)))
         (SpellsArray (SpellsTree (layout_of element.now))) rest.old.now result rest.new.now }
 {
-    expect(rest, b'[')?;
+    expect(rest, b'[', Expected::Sign(b'['))?;
     let start = *rest;
     let items = read_items(alloc, element, rest, b']')?;
     if items.len() != count {
-        return Err(Stop::here(start));
+        return Err(Stop::here(start, Expected::Elements(count)));
     }
     Ok(Value::Group(items))
 }
 
 /// Reads a tuple or a struct. A `,` may follow the last part.
 #[cycle(text)]
-fn read_group(alloc: Global, parts: &Vec<Schema>, rest: &mut &[u8]) -> Result<Value, Stop>
+fn read_group<'a>(
+    alloc: Global,
+    parts: &'a Vec<Schema>,
+    rest: &mut &[u8],
+) -> Result<Value, Stop<'a>>
     ensures value { IfOk result (λ v. IsGroup (reads_all (types_of parts.now.items)) (tree v)) }
     ensures spelled { IfOk result (λ v. TakesPhrase (SpellsGroup (layouts_of parts.now.items)
         (part_phrases (layouts_of parts.now.items)) (tree v)) rest.old.now rest.new.now) }
@@ -371,7 +411,7 @@ fn read_group(alloc: Global, parts: &Vec<Schema>, rest: &mut &[u8]) -> Result<Va
         rest.old.now result rest.new.now }
 {
     let (opening, closing) = brackets_of(parts);
-    expect(rest, opening)?;
+    expect(rest, opening, Expected::Sign(opening))?;
     let items = read_parts(alloc, parts, rest, b",")?;
     close_parts(rest, items.is_empty(), closing)?;
     Ok(Value::Group(items))
@@ -390,7 +430,7 @@ fn brackets_of(parts: &Vec<Schema>) -> (u8, u8)
 }
 
 /// Takes the `,` that may follow the last part, if there is a part, and the closing bracket.
-fn close_parts(rest: &mut &[u8], are_none: bool, closing: u8) -> Result<(), Stop>
+fn close_parts(rest: &mut &[u8], are_none: bool, closing: u8) -> Result<(), Stop<'static>>
     ensures taken { OnOk result (TakesPhrase (Then (Unless are_none (IsMaybe 44)) (IsSign closing))
         rest.old.now rest.new.now) }
     ensures accepted { (after : List ℕ) → is_ascii_whitespace closing ≡ false → closing ≢ 44
@@ -400,18 +440,18 @@ fn close_parts(rest: &mut &[u8], are_none: bool, closing: u8) -> Result<(), Stop
     if !are_none {
         let _ = take(rest, b',');
     }
-    expect(rest, closing)
+    expect(rest, closing, Expected::Sign(closing))
 }
 
 /// Reads a value of each of the types in order, with the bytes `between`, which may have blanks
 /// before each, between two of them.
 #[cycle(text)]
-fn read_parts(
+fn read_parts<'a>(
     alloc: Global,
-    parts: &Vec<Schema>,
+    parts: &'a Vec<Schema>,
     rest: &mut &[u8],
     between: &[u8],
-) -> Result<Vec<Value>, Stop>
+) -> Result<Vec<Value>, Stop<'a>>
     ensures value { IfOk result (λ v.
         reads_all (types_of parts.now.items) (trees (map tree v.items))) }
     ensures spelled { IfOk result (λ v. TakesPhrase (Row (AreSigns between.now)
@@ -425,7 +465,7 @@ fn read_parts(
 {
     let mut items = Vec::new(alloc);
     for part in parts {
-        separate(rest, items.is_empty(), between)?;
+        separate(rest, items.is_empty(), between, before(part, between))?;
         push(&mut items, read(alloc, part, rest)?)?;
     }
     Ok(items)
@@ -433,7 +473,11 @@ fn read_parts(
 
 /// Reads a variant: its name, and then its content.
 #[cycle(text)]
-fn read_variant(alloc: Global, variants: &Vec<Schema>, rest: &mut &[u8]) -> Result<Value, Stop>
+fn read_variant<'a>(
+    alloc: Global,
+    variants: &'a Vec<Schema>,
+    rest: &mut &[u8],
+) -> Result<Value, Stop<'a>>
     ensures value { IfOk result (λ v.
         IsVariant (reads_at (types_of variants.now.items)) (tree v)) }
     ensures spelled { IfOk result (λ v.
@@ -449,13 +493,13 @@ fn read_variant(alloc: Global, variants: &Vec<Schema>, rest: &mut &[u8]) -> Resu
     let start = *rest;
     let index = index_of(variants, take_word(rest));
     let Some(variant) = variants.get(index) else {
-        return Err(Stop::here(start));
+        return Err(Stop::here(start, Expected::Variant));
     };
     let Schema::Named(_, content) = variant else {
-        return Err(Stop::here(start));
+        return Err(Stop::here(start, Expected::Variant));
     };
     let Ok(index) = u32::try_from(index) else {
-        return Err(Stop::here(start));
+        return Err(Stop::here(start, Expected::Variant));
     };
     let content = read_content(alloc, content, rest)?;
     match Box::new(alloc, content) {
@@ -493,7 +537,7 @@ fn is_called(schema: &Schema, name: &[u8]) -> bool
 /// Reads the content of a variant after its name: nothing for the unit, a tuple or a struct, or
 /// another value in parentheses.
 #[cycle(text)]
-fn read_content(alloc: Global, content: &Schema, rest: &mut &[u8]) -> Result<Value, Stop>
+fn read_content<'a>(alloc: Global, content: &'a Schema, rest: &mut &[u8]) -> Result<Value, Stop<'a>>
     ensures value { IfOk result (λ v. reads (type_of content.now) (tree v)) }
     ensures spelled { IfOk result (λ v. TakesPhrase
         (SpellsContent (layout_of content.now) (SpellsTree (layout_of content.now)) (tree v))
@@ -509,14 +553,14 @@ fn read_content(alloc: Global, content: &Schema, rest: &mut &[u8]) -> Result<Val
     if has_brackets(content) {
         return read(alloc, content, rest);
     }
-    expect(rest, b'(')?;
+    expect(rest, b'(', Expected::Sign(b'('))?;
     let value = read(alloc, content, rest)?;
-    expect(rest, b')')?;
+    expect(rest, b')', Expected::Sign(b')'))?;
     Ok(value)
 }
 
 /// Reads a value without parts.
-fn read_leaf(alloc: Global, leaf: Leaf, rest: &mut &[u8]) -> Result<Value, Stop>
+fn read_leaf(alloc: Global, leaf: Leaf, rest: &mut &[u8]) -> Result<Value, Stop<'static>>
     ensures value { IfOk result (λ v. leaf_reads leaf (tree v)) }
     ensures spelled { IfOk result (λ v. TakesPhrase (SpellsLeaf leaf (tree v))
         rest.old.now rest.new.now) }
@@ -524,27 +568,27 @@ fn read_leaf(alloc: Global, leaf: Leaf, rest: &mut &[u8]) -> Result<Value, Stop>
 {
     skip_blanks(rest);
     match leaf {
-        Leaf::Bool => Ok(Value::Bool(scalar(rest)?)),
-        Leaf::U8 => Ok(Value::U8(scalar(rest)?)),
-        Leaf::U16 => Ok(Value::U16(scalar(rest)?)),
-        Leaf::U32 => Ok(Value::U32(scalar(rest)?)),
-        Leaf::U64 => Ok(Value::U64(scalar(rest)?)),
-        Leaf::U128 => Ok(Value::U128(scalar(rest)?)),
-        Leaf::I8 => Ok(Value::I8(scalar(rest)?)),
-        Leaf::I16 => Ok(Value::I16(scalar(rest)?)),
-        Leaf::I32 => Ok(Value::I32(scalar(rest)?)),
-        Leaf::I64 => Ok(Value::I64(scalar(rest)?)),
-        Leaf::I128 => Ok(Value::I128(scalar(rest)?)),
+        Leaf::Bool => Ok(Value::Bool(scalar(rest, leaf)?)),
+        Leaf::U8 => Ok(Value::U8(scalar(rest, leaf)?)),
+        Leaf::U16 => Ok(Value::U16(scalar(rest, leaf)?)),
+        Leaf::U32 => Ok(Value::U32(scalar(rest, leaf)?)),
+        Leaf::U64 => Ok(Value::U64(scalar(rest, leaf)?)),
+        Leaf::U128 => Ok(Value::U128(scalar(rest, leaf)?)),
+        Leaf::I8 => Ok(Value::I8(scalar(rest, leaf)?)),
+        Leaf::I16 => Ok(Value::I16(scalar(rest, leaf)?)),
+        Leaf::I32 => Ok(Value::I32(scalar(rest, leaf)?)),
+        Leaf::I64 => Ok(Value::I64(scalar(rest, leaf)?)),
+        Leaf::I128 => Ok(Value::I128(scalar(rest, leaf)?)),
         Leaf::F32 => Ok(Value::F32(read_f32(rest)?)),
         Leaf::F64 => Ok(Value::F64(read_f64(rest)?)),
         Leaf::Char => Ok(Value::Char(read_char(alloc, rest)?)),
-        Leaf::Str => Ok(Value::Str(take_quoted(alloc, rest, b'"')?)),
+        Leaf::Str => Ok(Value::Str(take_quoted(alloc, rest, b'"', leaf)?)),
         Leaf::Bytes => Ok(Value::Bytes(read_bytes(alloc, rest)?)),
     }
 }
 
-/// Reads a number or a bool, by the type's `parse`.
-fn scalar<T: FromStr>(rest: &mut &[u8]) -> Result<T, Stop>
+/// Reads a number or a bool of the type `leaf`, by the type's `parse`.
+fn scalar<T: FromStr>(rest: &mut &[u8], leaf: Leaf) -> Result<T, Stop<'static>>
 where
     T::Err: Drop,
     ensures taken { IfOk result (λ x. TakesPhrase (λ word. T.from_str_gives word (Ok x))
@@ -561,14 +605,14 @@ where
     };
     let (word, after) = start.split_at(count);
     let Ok(text) = str::from_utf8(word) else {
-        return Err(Stop::here(start));
+        return Err(Stop::here(start, Expected::Leaf(leaf)));
     };
     match text.parse::<T>() {
         Ok(value) => {
             *rest = after;
             Ok(value)
         }
-        Err(_) => Err(Stop::here(start)),
+        Err(_) => Err(Stop::here(start, Expected::Leaf(leaf))),
     }
 }
 
@@ -580,7 +624,7 @@ fn is_of_scalar(byte: u8) -> bool
 }
 
 /// Reads one character between single quotes.
-fn read_char(alloc: Global, rest: &mut &[u8]) -> Result<char, Stop>
+fn read_char(alloc: Global, rest: &mut &[u8]) -> Result<char, Stop<'static>>
     ensures spelled { IfOk result (λ c.
         TakesPhrase (IsQuoted 39 (encode_utf8 c)) rest.old.now rest.new.now) }
     ensures accepted { (c : ℕ) (after : List ℕ) → IsScalar c
@@ -588,15 +632,15 @@ fn read_char(alloc: Global, rest: &mut &[u8]) -> Result<char, Stop>
         → ReadsAs (λ read. read ≡ c) result rest.new.now after }
 {
     let start = *rest;
-    let text = take_quoted(alloc, rest, b'\'')?;
+    let text = take_quoted(alloc, rest, b'\'', Leaf::Char)?;
     match text.parse::<char>() {
         Ok(c) => Ok(c),
-        Err(_) => Err(Stop::here(start)),
+        Err(_) => Err(Stop::here(start, Expected::Leaf(Leaf::Char))),
     }
 }
 
 /// Reads `0x` and two hexadecimal digits for each byte.
-fn read_bytes(alloc: Global, rest: &mut &[u8]) -> Result<Vec<u8>, Stop>
+fn read_bytes(alloc: Global, rest: &mut &[u8]) -> Result<Vec<u8>, Stop<'static>>
     ensures range { IfOk result (λ held. (k : ℕ) → slice_index held.items k < 256) }
     ensures spelled { IfOk result (λ held.
         TakesPhrase (IsByteString held.items) rest.old.now rest.new.now) }
@@ -611,7 +655,7 @@ fn read_bytes(alloc: Global, rest: &mut &[u8]) -> Result<Vec<u8>, Stop>
             in_range(&held);
             Ok(held)
         }
-        None => Err(Stop::here(start)),
+        None => Err(Stop::here(start, Expected::Leaf(Leaf::Bytes))),
     }
 }
 

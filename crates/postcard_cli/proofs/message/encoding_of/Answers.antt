@@ -4,6 +4,7 @@ use Rattle.std.specs.Fmt.{decimal}
 use Rattle.std.specs.Prelude.{codes, ◌++◌}
 use Rattle.std.specs.Io.KnownBytes.{Appends}
 use Rattle.postcard_dyn_text.specs.Place.{IsPlaceIn}
+use Rattle.postcard_dyn_text.specs.Printed.{expected_text}
 use Rattle.postcard_dyn_text.proofs.Distinct.{expression_distinct}
 use Rattle.postcard_cli.proofs.message.encoding_of.Goals as goal
 
@@ -13,6 +14,9 @@ returns-in-Err-NotAValue-clause-refused g c = record {
   spelled = c.in_ok-schema.ensures.spelled;
   no_value = λ v r s. cc (c.in-Err-NotAValue.ensures.accepted (expression_distinct _ _ c.in_ok-schema.ensures.spelled) v r s);
   character = c.in-Err-NotAValue.character;
+  expected = c.in-Err-NotAValue.expected;
   within = subst (IsPlaceIn c.args.value.now) c.in-Err-NotAValue.field-0-is c.in-Err-NotAValue.ensures.place;
-  printed = subst (λ z. Appends (g.W.Write.contents z) (g.W.Write.contents c.write.new.self) (codes "at character " ++ (decimal c.in-Err-NotAValue.character ++ codes ": "))) c.in_ok-schema.ensures.untouched c.in_ok-write-in-Err-NotAValue.ensures.bytes;
+  printed = subst (λ z. Appends (g.W.Write.contents z) (g.W.Write.contents c.write.new.self)
+        (codes "at character " ++ (decimal c.in-Err-NotAValue.character ++ (codes ": expected " ++ (expected_text c.in-Err-NotAValue.expected ++ codes ": ")))))
+      c.in_ok-schema.ensures.untouched c.in_ok-write-in-Err-NotAValue.ensures.bytes;
 }

@@ -23,7 +23,7 @@ use Rattle.postcard_dyn_schema.proofs.LeftOfFields.{FieldsLeft, FieldsAfter, Fie
 use Rattle.postcard_dyn_schema.proofs.LeftOfTuple.{TupleFront, TupleLeft, TupleAfter, tuple_empty, tuple_first, tuple_begins, tuple_single, tuple_after_first, tuple_go_on, tuple_close, tuple_comma_close, tuple_next, tuple_next_begins, tuple_after, tuple_not_ended}
 use Rattle.postcard_dyn_schema.proofs.LeftOfEnum.{EnumLeft, EnumAfter, VariantFront, taken_not_new, content_in_tuple, content_in_fields, content_of_none, new_variant_front, variant_alike, enum_begins, variant_begins, enum_after, enum_bar, enum_end, enum_not_ended}
 use Rattle.postcard_dyn_schema.proofs.LeftOfType.{LeafFront, PlainFront, type_as_enum, type_as_plain, options_step, options_end, options_full, options_of, plain_list_left, plain_tuple_left, plain_braces_left, plain_word_left, braces_as_fields, braces_as_map, no_type}
-use Rattle.postcard_dyn_schema.proofs.Refusals.{refusal, refused_err, if_err_as, takes_le, takes_less, is_empty, forget_new, is_new}
+use Rattle.postcard_dyn_schema.proofs.Refusals.{refusal, refusal_as, refused_err, if_err_as, takes_le, takes_less, is_empty, forget_new, is_new}
 use Rattle.postcard_dyn_schema.proofs.expression.+expression.Goals.{read_enum-else-len-eq1-via-then-len-eq1+else-not-leads, read_enum-else-len-eq1-via-else-len-eq1, read_fields-then-is_empty-via-then-is_empty, read_fields-then-is_empty-via-else-is_empty+then-is_ascii_digit, read_variant-then-is_empty-via-then-is_empty, read_variant-then-is_empty-via-else-is_empty+then-not-is_ascii_uppercase}
 use Rattle.postcard_dyn_schema.proofs.expression.+expression.Goals as goal
 
@@ -47,25 +47,13 @@ read_braces-returns-then-begins_field-clause-refused t c =
     let a = c.args.rest.now.now in
     if_err_as (λ fault. IsRefusal fault.problem (HasFront Anything (IsFieldsRest T) a)) (λ fault. IsRefusal fault.problem (HasFront Anything (IsBracesRest T) a)) c.read_fields.result (λ fault k. refusal (λ (s, r, h, free). (s, r, braces_as_fields c.args.depth s a r (c.begins_field.ensures.0 c.if-begins_field.true) h, free)) k) c.read_fields.ensures.refused
 
-pub read_braces-returns-else-begins_field-clause-spelled : goal.read_braces-returns-else-begins_field-clause-spelled
-read_braces-returns-else-begins_field-clause-spelled t c =
-    let T = IsType c.args.depth in
-    let a = c.args.rest.now.now in
-    let d = c.read_map.new.rest.now in
-    if_ok_as (λ s. TakesPhrase (IsMapRest T s) a d) (λ s. TakesPhrase (IsBracesRest T s) a d) c.read_map.result (λ s h. takes_as (IsMapRest T s) (IsBracesRest T s) a d (λ t k. inr k) h) c.read_map.ensures.spelled
+pub read_braces-returns-in-Ok-clause-one : goal.read_braces-returns-in-Ok-clause-one
+read_braces-returns-in-Ok-clause-one t c = λ s r h free.
+    c.in-Ok.ensures.one s r (braces_as_map c.args.depth s c.args.rest.now.now r (λ named. true≢false (sym (c.begins_field.ensures.1 named) ∙ c.if-begins_field.false)) h) free
 
-pub read_braces-returns-else-begins_field-clause-one : goal.read_braces-returns-else-begins_field-clause-one
-read_braces-returns-else-begins_field-clause-one t c =
-    let T = IsType c.args.depth in
-    let a = c.args.rest.now.now in
-    let d = c.read_map.new.rest.now in
-    if_ok_as (λ x. IsOnlyFront Anything (IsMapRest T) x a d) (λ x. IsOnlyFront Anything (IsBracesRest T) x a d) c.read_map.result (λ x one s r h free. one s r (braces_as_map c.args.depth s a r (λ named. true≢false (sym (c.begins_field.ensures.1 named) ∙ c.if-begins_field.false)) h) free) c.read_map.ensures.one
-
-pub read_braces-returns-else-begins_field-clause-refused : goal.read_braces-returns-else-begins_field-clause-refused
-read_braces-returns-else-begins_field-clause-refused t c =
-    let T = IsType c.args.depth in
-    let a = c.args.rest.now.now in
-    if_err_as (λ fault. IsRefusal fault.problem (HasFront Anything (IsMapRest T) a)) (λ fault. IsRefusal fault.problem (HasFront Anything (IsBracesRest T) a)) c.read_map.result (λ fault k. refusal (λ (s, r, h, free). (s, r, braces_as_map c.args.depth s a r (λ named. true≢false (sym (c.begins_field.ensures.1 named) ∙ c.if-begins_field.false)) h, free)) k) c.read_map.ensures.refused
+pub read_braces-returns-in-Err-clause-refused : goal.read_braces-returns-in-Err-clause-refused
+read_braces-returns-in-Err-clause-refused t c =
+    refusal_as c.or_colon.ensures.refused (refusal (λ (s, r, h, free). (s, r, braces_as_map c.args.depth s c.args.rest.now.now r (λ named. true≢false (sym (c.begins_field.ensures.1 named) ∙ c.if-begins_field.false)) h, free)) c.in-Err.ensures.refused)
 
 pub read_content-returns-then-take-clause-spelled : goal.read_content-returns-then-take-clause-spelled
 read_content-returns-then-take-clause-spelled t c =

@@ -25,7 +25,7 @@ returns-then-is_nan-clause-spelled c =
     let bits = c.in_ok-bits.bits in
     let word = c.take_number-word.result.now in
     let named : word ≡ codes "nan" = (slice_eq-Decides Decides-eqb _ _ _ c.eq.ensures).0 c.if-eq.true ∙ c.as_slice.ensures in
-    let are : AreNan binary64 bits = (omega arith, grind (arith, common_steps)) in
+    let are : AreNan binary64 bits = (omega (arith, c.in_ok-bits.ensures.below), grind (arith, common_steps)) in
     nan_taken binary64 bits word c.args.rest.now.now c.take_number-word.new.rest.now c.take.new.rest.now c.read_code.new.rest.now
     are named c.take_number-word.ensures.taken (c.take.ensures.taken c.if-take.true) (c.in_ok-bits.ensures.spelled)
 
