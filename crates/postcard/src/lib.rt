@@ -62,6 +62,7 @@ pub use postcard_de::{
 pub use postcard_fixint as fixint;
 pub use postcard_frame::{from_bytes_cobs, take_from_bytes_cobs};
 pub use postcard_ser::{Serialize, SerializeRepr, Serializer, serialize_variant};
+pub use postcard_shape::FirstBytes;
 pub use postcard_wire::{Error, Result};
 pub use ser::{fill_slice, to_slice};
 pub use with_flavor::{serialize_with_flavor, to_allocvec, to_extend, to_io, to_stdvec, to_vec};

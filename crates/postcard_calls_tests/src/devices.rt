@@ -1,8 +1,8 @@
-//! A test of the writer of `postcard_vectors` of which every other call is interrupted.
+//! A test of the writer of `postcard_test_support` of which every other call is interrupted.
 
 use crate::asserts::same;
 use arrayvec::ArrayVec;
-use postcard_vectors::devices::writers::InterruptedWriter;
+use postcard_test_support::devices::writers::InterruptedWriter;
 use std::io::Write;
 
 #[test]

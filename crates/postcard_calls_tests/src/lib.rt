@@ -1,6 +1,6 @@
 //! Tests of the calls of `postcard` beside the rows of `postcard_rows`: each call at a concrete type,
 //! the calls of a `Serializer` and of a `Deserializer`, numbers at their full width, greatest sizes,
-//! the examples of the pages, and the types, flavors and theorems of `postcard_examples`.
+//! the examples of the pages, and the types, flavors and theorems of `example_types`.
 #![tactic(auto)]
 
 #[cfg(test)]

@@ -1,14 +1,14 @@
-//! Tests of the flavors and the source of `postcard_examples`, with bytes worked out by hand.
+//! Tests of the flavors and the source of `example_types`, with bytes worked out by hand.
 
 use crate::asserts::same;
+use example_types::flavor::Both;
+use example_types::limited::Limited;
+use example_types::source::Counted;
+use example_types::trailer::Trailed;
 use postcard::de_flavors::io::io::IOReader;
 use postcard::de_flavors::{Flavor, Slice};
 use postcard::ser_flavors::{AllocVec, HVec, Size};
 use postcard::{Deserialize, Deserializer, Error, Result, from_io, serialize_with_flavor};
-use postcard_examples::flavor::Both;
-use postcard_examples::limited::Limited;
-use postcard_examples::source::Counted;
-use postcard_examples::trailer::Trailed;
 
 const END: Error = Error::DeserializeUnexpectedEnd;
 

@@ -1,24 +1,24 @@
-//! Tests of the types of `postcard_examples`, with bytes worked out by hand.
+//! Tests of the types of `example_types`, with bytes worked out by hand.
 
 use crate::asserts::{assert_owned, assert_read, read, same};
 use arrayvec::{ArrayString, ArrayVec};
-use postcard::ser_flavors::Size;
-use postcard::{Error, Owned, serialize_with_flavor};
-use postcard_examples::chain::Chain;
-use postcard_examples::event::Event;
-use postcard_examples::interval::Interval;
-use postcard_examples::numbers::Numbers;
-use postcard_examples::pair::Pair;
-use postcard_examples::percent::Percent;
-use postcard_examples::reading::Reading;
-use postcard_examples::sample::{Sample, Survey};
-use postcard_examples::station::{Position, Station};
-use postcard_examples::store::{Mode, SETTINGS_SIZE, Settings, Store, settings_size};
-use postcard_examples::tally::Tally;
-use postcard_examples::theorems::{
+use example_types::chain::Chain;
+use example_types::event::Event;
+use example_types::interval::Interval;
+use example_types::numbers::Numbers;
+use example_types::pair::Pair;
+use example_types::percent::Percent;
+use example_types::reading::Reading;
+use example_types::sample::{Sample, Survey};
+use example_types::station::{Position, Station};
+use example_types::store::{Mode, SETTINGS_SIZE, Settings, Store, settings_size};
+use example_types::tally::Tally;
+use example_types::theorems::{
     reading_comes_back, sample_comes_back, sample_fits_28_bytes, station_comes_back,
     survey_comes_back, u32_fits_five_bytes,
 };
+use postcard::ser_flavors::Size;
+use postcard::{Error, Owned, serialize_with_flavor};
 use std::alloc::{AllocError, AllocGlobal, Global};
 use std::process::Abort;
 

@@ -115,10 +115,12 @@ fn encoding_of<W: Write>(
     let schema = schema_of(alloc, expression, output)?;
     let value = match read_text(alloc, &schema, value) {
         Ok(value) => value,
-        Err(TextError::NotAValue {
-            character,
-            expected,
-        }) => {
+        Err(
+            TextError::NotAValue {
+                character,
+                expected,
+            },
+        ) => {
             write!(output, "at character {character}: expected {expected}: ")?;
             return Err(Failure::BadValue);
         }

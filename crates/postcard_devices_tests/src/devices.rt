@@ -2,8 +2,8 @@
 
 use crate::asserts::{same, same_bytes};
 use postcard::de_flavors::Source;
-use postcard_vectors::devices::readers::{FailingReader, Pieces};
-use postcard_vectors::devices::writers::{Bounded, FailingWriter};
+use postcard_test_support::devices::readers::{FailingReader, Pieces};
+use postcard_test_support::devices::writers::{Bounded, FailingWriter};
 use std::io::{Read, Write};
 use std::process::Abort;
 

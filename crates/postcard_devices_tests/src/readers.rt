@@ -6,7 +6,7 @@ use crate::asserts::{assert_read, assert_refused, assert_scratch, same, same_byt
 use postcard::de_flavors::io::io::IOReader;
 use postcard::de_flavors::{Flavor, Plain, Source};
 use postcard::{Error, from_io};
-use postcard_vectors::devices::readers::{FailingReader, Pieces};
+use postcard_test_support::devices::readers::{FailingReader, Pieces};
 use std::alloc::AllocGlobal;
 use std::process::Abort;
 

@@ -2,8 +2,8 @@
 
 use crate::asserts::{assert_read, assert_refused, same, same_bytes};
 use crate::writers::sent;
-use postcard_vectors::devices::readers::Pieces;
-use postcard_vectors::types::{BasicU8S, DataEnum, RefStruct};
+use postcard_test_support::devices::readers::Pieces;
+use postcard_test_support::types::{BasicU8S, DataEnum, RefStruct};
 
 #[test]
 fn an_enum(rt: HostRuntime) {

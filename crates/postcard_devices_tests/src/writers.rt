@@ -5,7 +5,7 @@ ghost use Rattle.postcard_wire.specs.Spelling.{canonical};
 
 use crate::asserts::{same, same_bytes};
 use postcard::{Error, Serialize, to_io};
-use postcard_vectors::devices::writers::{Bounded, FailingWriter};
+use postcard_test_support::devices::writers::{Bounded, FailingWriter};
 use std::process::Abort;
 
 /// Writes a value to a writer, and returns the writer. The contract says which bytes it then holds.

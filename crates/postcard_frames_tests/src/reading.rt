@@ -6,7 +6,7 @@ use postcard::{
     DeserializeOwned, Error, Owned, Serialize, from_bytes_cobs, take_from_bytes_cobs,
     to_allocvec_cobs, to_slice_cobs,
 };
-use postcard_vectors::types::RefStruct;
+use postcard_test_support::types::RefStruct;
 use std::alloc::AllocGlobal;
 use std::process::Abort;
 

@@ -7,7 +7,7 @@ use crate::same::{same, same_at};
 use postcard_accumulator::{Answer, CobsAccumulator, ReadEnd, read_frames};
 use postcard_de::DeserializeOwned;
 use postcard_de_flavors::{Plain, Source};
-use postcard_vectors::devices::readers::FailingReader;
+use postcard_test_support::devices::readers::FailingReader;
 use std::alloc::AllocGlobal;
 use std::fmt::Debug;
 use std::process::Abort;

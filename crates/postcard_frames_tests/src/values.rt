@@ -7,7 +7,7 @@ use postcard::{
     Error, Result, Serialize, fill_slice_cobs, to_allocvec_cobs, to_allocvec_cobs_after,
     to_slice_cobs, to_stdvec_cobs, to_vec_cobs,
 };
-use postcard_vectors::types::RefStruct;
+use postcard_test_support::types::RefStruct;
 use std::alloc::AllocGlobal;
 use std::process::Abort;
 

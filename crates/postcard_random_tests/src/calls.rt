@@ -9,7 +9,7 @@ use postcard::{
     DeserializeOwned, Owned, Serialize, from_bytes, from_bytes_cobs, from_io, take_from_bytes,
     take_from_bytes_cobs, to_allocvec, to_allocvec_cobs, to_extend, to_io, to_slice, to_slice_cobs,
 };
-use postcard_vectors::devices::readers::Pieces;
+use postcard_test_support::devices::readers::Pieces;
 use std::alloc::{AllocError, Global};
 use std::fmt::Debug;
 use std::process::Abort;

@@ -2,7 +2,7 @@
 
 use crate::choices::Choices;
 use arrayvec::{ArrayString, ArrayVec};
-use postcard_vectors::types::{DataEnum, DualTupleStruct, EnumStruct, WideU8S};
+use postcard_test_support::types::{DataEnum, DualTupleStruct, EnumStruct, WideU8S};
 use std::collections::BTreeMap;
 use std::rc::Rc;
 use std::time::Duration;

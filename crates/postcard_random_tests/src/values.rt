@@ -6,7 +6,7 @@ use crate::source::Source;
 use crate::streams::arrive;
 use arrayvec::{ArrayString, ArrayVec};
 use postcard::{DeserializeOwned, Serialize};
-use postcard_vectors::types::{DataEnum, DualTupleStruct, WideU8S};
+use postcard_test_support::types::{DataEnum, DualTupleStruct, WideU8S};
 use std::alloc::Global;
 use std::collections::BTreeMap;
 use std::fmt::Debug;

@@ -3,9 +3,9 @@
 
 use postcard::de_flavors::{Plain, Source};
 use postcard::{Deserialize, DeserializeOwned, Error, Owned, Serialize, from_io, to_io};
-use postcard_vectors::devices::readers::{FailingReader, InterruptedReader, Pieces};
-use postcard_vectors::devices::writers::{FailingWriter, InterruptedWriter};
-use postcard_vectors::types::{DataEnum, RefStruct};
+use postcard_test_support::devices::readers::{FailingReader, InterruptedReader, Pieces};
+use postcard_test_support::devices::writers::{FailingWriter, InterruptedWriter};
+use postcard_test_support::types::{DataEnum, RefStruct};
 use std::alloc::{AllocError, AllocGlobal, Global};
 use std::process::Abort;
 

@@ -3,7 +3,7 @@
 use postcard::accumulator::CobsAccumulator;
 use postcard::de_flavors::Plain;
 use postcard::{Answer, ReadEnd, read_frames};
-use postcard_vectors::devices::readers::{FailingReader, InterruptedReader, Pieces};
+use postcard_test_support::devices::readers::{FailingReader, InterruptedReader, Pieces};
 use std::alloc::{AllocError, AllocGlobal, Global};
 use std::process::Abort;
 

@@ -2,7 +2,7 @@
 
 use crate::damage::{changes, frame_changes, frames_are_kept, withstands, withstands_lent};
 use arrayvec::{ArrayString, ArrayVec};
-use postcard_vectors::types::{
+use postcard_test_support::types::{
     BasicEnum, BasicU8S, DataEnum, DualTupleStruct, EnumStruct, NewTypeStruct, RefStruct,
     TupleStruct, WideU8S,
 };

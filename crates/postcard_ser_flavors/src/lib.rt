@@ -20,7 +20,7 @@
 //! Each fails with `SerializeBufferFull`. `Slice`, `HVec`, `AllocVec` and `Size` are unchanged by a
 //! failure, and so is the content of the target of an `ExtendFlavor`; a writer that failed may have
 //! got some of the bytes. A user's own flavor, also one over another flavor, implements the same
-//! trait; `postcard_examples` has one that writes to two others.
+//! trait; `example_types` has one that writes to two others.
 //!
 //! To be read in this order:
 //! - `flavor`: the trait.

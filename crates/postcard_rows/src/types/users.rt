@@ -3,7 +3,7 @@
 use super::numbers;
 use crate::checks::{Outcome, borrowed, owned_with};
 use crate::row::Row;
-use postcard_vectors::types::{
+use postcard_test_support::types::{
     BasicEnum, BasicU8S, DataEnum, DualTupleStruct, Endpoint, EnumStruct, NewTypeStruct, RefStruct,
     TupleStruct, WideU8S,
 };

@@ -17,6 +17,6 @@ returns-in-Err-NotAValue-clause-refused g c = record {
   expected = c.in-Err-NotAValue.expected;
   within = subst (IsPlaceIn c.args.value.now) c.in-Err-NotAValue.field-0-is c.in-Err-NotAValue.ensures.place;
   printed = subst (λ z. Appends (g.W.Write.contents z) (g.W.Write.contents c.write.new.self)
-        (codes "at character " ++ (decimal c.in-Err-NotAValue.character ++ (codes ": expected " ++ (expected_text c.in-Err-NotAValue.expected ++ codes ": ")))))
+      (codes "at character " ++ (decimal c.in-Err-NotAValue.character ++ (codes ": expected " ++ (expected_text c.in-Err-NotAValue.expected ++ codes ": ")))))
       c.in_ok-schema.ensures.untouched c.in_ok-write-in-Err-NotAValue.ensures.bytes;
 }

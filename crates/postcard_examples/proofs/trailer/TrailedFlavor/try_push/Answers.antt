@@ -1,7 +1,0 @@
--- The inner flavor has room for the byte.
-use Rattle.std.proofs.Common.{[], ◌∷◌}
-use Rattle.postcard_examples.specs.Trailer.{bytes_have_room}
-use Rattle.postcard_examples.proofs.trailer.TrailedFlavor.try_push.Goals as goal
-
-pub returns-clause-has_room : goal.returns-clause-has_room
-returns-clause-has_room g c r = c.try_push.ensures.has_room (bytes_have_room g.F.Flavor.lawful c.args.self.now.inner (c.args.byte ∷ []) r)
