@@ -4,7 +4,7 @@ use Rattle.std.specs.Prelude.{map}
 use Rattle.postcard_wire.specs.Tree.{Tree, Trees, Byte, NoTrees, Then, trees, count}
 use Rattle.postcard_wire.specs.Spelling.{SpellsAll, canonical_all}
 use Rattle.postcard_wire.specs.Reading.{IsByte, Each}
-use Rattle.postcard_shape.specs.Values.{EachIs, AreOfBytes}
+use Rattle.postcard_shape.specs.Values.{EachIs, AreValues}
 
 -- The canonical encoding of a list of bytes, without its count, is those bytes.
 pub bytes_of_bytes : (xs : List ℕ) → canonical_all (trees (map Byte xs)) ≡ xs
@@ -30,9 +30,6 @@ trees_are (b ∷ u) h =
     let k = trees_are u (λ i. h (suc i)) in
     (ap suc k.0, ((b, refl, h 0), k.1), (b ∷ [], u, refl, k.2, refl), (refl, k.3))
 
--- Bytes are the list that they encode.
-pub are_bytes : (u vs : List ℕ) → ((k : ℕ) → get_or u k 0 < 256) → vs ≡ u →
-    AreOfBytes IsByte ByteIs u vs
-are_bytes u vs h e =
-    let k = trees_are u h in
-    rw e (bytes_trees u, (k.0, k.1), k.2, k.3)
+-- Bytes are the values that they encode.
+pub are_bytes : (u : List ℕ) → ((k : ℕ) → get_or u k 0 < 256) → AreValues IsByte ByteIs u u
+are_bytes u h = let k = trees_are u h in (bytes_trees u, k.1, k.2, k.3)

@@ -6,3 +6,4 @@ pub mod Bytes
 pub mod Sums
 pub mod Floats
 pub mod Distinct
+pub mod Varints

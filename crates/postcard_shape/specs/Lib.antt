@@ -25,3 +25,4 @@ pub mod Refusing
 pub mod Only
 pub mod Enumerations
 pub mod Errors
+pub mod Runs

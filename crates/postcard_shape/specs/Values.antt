@@ -1,6 +1,6 @@
 -- The values of trees, for the types that read them: relations between a tree and what a contract
 -- sees of a value.
-use Rattle.std.specs.Prelude.{◌≡◌, ℕ, List, [], ◌∷◌, length, Option, None, Some}
+use Rattle.std.specs.Prelude.{◌≡◌, ℕ, ◌<◌, ◌≤◌, List, [], ◌∷◌, ◌++◌, length, Option, None, Some}
 use Rattle.postcard_wire.specs.Tree.{Tree, Trees, Seq, NoTrees, Then, count}
 use Rattle.postcard_wire.specs.Reading.{Each}
 use Rattle.postcard_wire.specs.Spelling.{SpellsAll}
@@ -28,9 +28,15 @@ AreRead n reads ts = (count ts ≡ n) × Each reads ts
 abbrev pub Same : ℕ → ℕ → Type 0
 Same n v = n ≡ v
 
--- The bytes spell as many trees as there are bytes, each of which is read, and the elements of the
--- list are their values.
-abbrev pub AreOfBytes : {V : Type 0} → (Tree → Type 0) → (Tree → V → Type 0) → List ℕ → List V →
+-- The bytes spell trees in a row, each of which is read, and the elements of the list are their
+-- values.
+abbrev pub AreValues : {V : Type 0} → (Tree → Type 0) → (Tree → V → Type 0) → List ℕ → List V →
     Type 0
-AreOfBytes reads value bytes vs = (ts : Trees) × AreRead (length bytes) reads ts
-    × SpellsAll ts bytes × EachIs value ts vs
+AreValues reads value p vs = (ts : Trees) × Each reads ts × SpellsAll ts p × EachIs value ts vs
+
+-- Elements were appended to the list `old`, at least one and at most `most`, which is now `new`, and
+-- the bytes are a spelling of them.
+abbrev pub Appends : {V : Type 0} → (Tree → Type 0) → (Tree → V → Type 0) → ℕ → List ℕ → List V →
+    List V → Type 0
+Appends {V} reads value most p old new = (vs : List V) × AreValues reads value p vs × (0 < length vs)
+    × (length vs ≤ most) × (new ≡ old ++ vs)

@@ -18,6 +18,7 @@
 pub mod cases;
 pub mod formats;
 pub mod rows;
+mod runs;
 pub mod shape;
 mod values;
 
