@@ -1,20 +1,27 @@
-//! JSON of values whose type is known only at run time: [`to_json`].
+//! JSON of values whose type is known only at run time: [`to_json`] and [`from_json`].
 //!
 //! A bool is `true` or `false`, and a number a number, but from 2^53 on a string of its decimal
-//! digits, since many readers of JSON keep no greater ones. A `char` and a `str` are strings, and
-//! `bytes` a string of two hexadecimal digits a byte. A finite float is a number, and the others are
-//! `"inf"`, `"-inf"`, `"nan"`, and `"nan(0x7fc00001)"` for a NaN with other bits.
+//! digits, since many readers of JSON keep no greater ones; either form is read for any width. A
+//! `char` and a `str` are strings, and `bytes` a string of two hexadecimal digits a byte. A finite
+//! float is a number, and the others are `"inf"`, `"-inf"`, `"nan"`, and `"nan(0x7fc00001)"` for a
+//! NaN with other bits; a string is read in the notation of `postcard_dyn_text`.
 //!
 //! An option is `null` or its content, and `{"Some": content}` if the content itself may be
 //! `null`. Lists, arrays and tuples are arrays, the unit is `null`, and a struct is an object with
-//! its fields. A map is an array of arrays of a key and a value: an object would keep neither their
-//! order nor equal keys. A variant is its name, `"Boot"`, or an object of its name and its content,
-//! `{"Reading": [1, -2]}`.
+//! its fields in any order. A map is an array of arrays of a key and a value: an object would keep
+//! neither their order nor equal keys. A variant is its name, `"Boot"`, or an object of its name
+//! and its content, `{"Reading": [1, -2]}`.
 //!
-//! The contract of [`to_json`] says which JSON a value has. No clause says that a value of the
-//! schema has JSON.
+//! The contract of [`to_json`] says which JSON a value has, and that of [`from_json`] that the JSON
+//! is one of the value's. No clause says that a value of the schema has JSON, or that such JSON is
+//! read.
 #![tactic(auto)]
 
+pub mod error;
+pub mod leaf;
+pub mod read;
 pub mod write;
 
+pub use error::{Expected, JsonError};
+pub use read::from_json;
 pub use write::to_json;
