@@ -4,7 +4,7 @@ ghost use Rattle.std.specs.Prelude.{◌≡◌, ◌≤◌, length, IfOk, OnOk, st
 ghost use Rattle.std.specs.Io.KnownBytes.{Appends};
 ghost use Rattle.postcard_wire.specs.Spelling.{canonical};
 ghost use Rattle.postcard_de_flavors.specs.Source.{Begins};
-ghost use Rattle.postcard_shape.specs.Same.{SameList};
+ghost use Rattle.postcard_shape.specs.Lists.{SameList};
 ghost use Rattle.example_config.specs.declared.config.Config.{Config};
 
 use crate::config::{Config, Filter};

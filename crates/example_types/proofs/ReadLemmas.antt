@@ -10,7 +10,7 @@ use Rattle.postcard_wire.specs.Spelling.{Spells, SpellsAll}
 use Rattle.postcard_wire.specs.Reading.{IsEnd, IsThen, IsGroup, IsNum}
 use Rattle.postcard_shape.specs.Shape.{never, either, memory}
 use Rattle.postcard_shape.specs.Cases.{case_reads}
-use Rattle.postcard_shape.specs.Values.{Same}
+use Rattle.postcard_shape.specs.Leaves.{Same}
 use Rattle.postcard_shape.specs.declared.cases.Case.TheVariants.{This, Next}
 use Rattle.postcard_de_flavors.specs.Source.{Left, Laws}
 use Rattle.postcard_de.specs.Reads.{ReadsFrom}

@@ -4,8 +4,8 @@
 ghost use Rattle.std.specs.Ordering.{nat_cmp};
 ghost use Rattle.std.specs.Prelude.{◌≡◌, IfOk, IsOk, string_bytes};
 ghost use Rattle.postcard_shape.specs.Options.{SameOption};
-ghost use Rattle.postcard_shape.specs.Same.{SameList};
-ghost use Rattle.postcard_shape.specs.Sets.{SameSet};
+ghost use Rattle.postcard_shape.specs.Lists.{SameList};
+ghost use Rattle.postcard_shape.specs.Maps.{SameSet};
 
 use crate::reading::Reading;
 use crate::sample::{Sample, Survey};

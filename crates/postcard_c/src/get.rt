@@ -9,7 +9,7 @@ ghost use Rattle.std.specs.Prelude.{◌≡◌, ◌+◌, ◌*◌, ◌^◌, ◌<�
 ghost use Rattle.std.specs.Int.{w8, w128, cast_unsigned, cast_signed};
 ghost use Rattle.postcard_wire.specs.Tree.{Byte, Boolean, Num, Int, Char, Text};
 ghost use Rattle.postcard_wire.specs.Reading.{IsByte, IsBoolean, IsNum, IsInt, IsChar, IsText, IsSeq};
-ghost use Rattle.postcard_shape.specs.Values.{ListIs};
+ghost use Rattle.postcard_shape.specs.Lists.{ListIs};
 ghost use Rattle.postcard_de.specs.Refuses.{WantsByte, NoneBad, WantsDigit, BadNumber, WantsText};
 ghost use Rattle.postcard_de.specs.Refuses.{BadText};
 ghost use Rattle.postcard_de.specs.Unfit.{BadBool, WantsChar, BadChar};

@@ -3,7 +3,7 @@ use Rattle.std.proofs.Common.{◌≡◌, List, ℕ, ◌++◌, sym, ◌∙◌, ap
 use Rattle.std.proofs.lemmas.List.{append_cancel_left}
 use Rattle.postcard_wire.specs.Tree.{Tree}
 use Rattle.postcard_wire.specs.Reading.{IsDelimited}
-use Rattle.postcard_shape.specs.Same.{HasOne}
+use Rattle.postcard_shape.specs.Shape.{HasOne}
 use Rattle.postcard_de.specs.Front.{ReadsFront}
 
 -- Both fronts are equal and spell one tree, and two values of one tree look alike. So the values

@@ -11,10 +11,9 @@ use Rattle.postcard_wire.specs.Spelling.{Spells, SpellsAll}
 use Rattle.postcard_de_flavors.specs.Source.{Left, Laws}
 use Rattle.postcard_de_nodes.specs.Reads.{IsReadError, ReadsFrom}
 use Rattle.postcard_shape.specs.Shape.{never, either, or_memory}
-use Rattle.postcard_shape.specs.Values.{Same, EachIs, ListIs, AreRead}
-use Rattle.postcard_shape.specs.Maps.{IsEntry, EntryIs, inserted}
-use Rattle.postcard_shape.specs.Sets.{keys_inserted}
-use Rattle.postcard_shape.specs.Fixed.{IsFewSeq}
+use Rattle.postcard_shape.specs.Leaves.{Same}
+use Rattle.postcard_shape.specs.Lists.{EachIs, ListIs, AreRead, IsFewSeq}
+use Rattle.postcard_shape.specs.Maps.{IsEntry, EntryIs, inserted, keys_inserted}
 use Rattle.postcard_de_nodes.specs.ErrorLemmas.{with_memory}
 use Rattle.postcard_de_nodes.specs.ReadLemmas.{refusal}
 use Rattle.postcard_de_nodes.specs.NumberLemmas.{Below}

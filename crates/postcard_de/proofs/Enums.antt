@@ -10,7 +10,7 @@ use Rattle.postcard_wire.specs.Reading.{IsVariant}
 use Rattle.postcard_de_flavors.specs.Source.{Left, Takes, Laws}
 use Rattle.postcard_de_nodes.specs.Reads.{IsReadError, ReadsFrom}
 use Rattle.postcard_shape.specs.Shape.{never}
-use Rattle.postcard_shape.specs.Values.{Same}
+use Rattle.postcard_shape.specs.Leaves.{Same}
 use Rattle.postcard_shape.specs.Options.{ResultReads}
 use Rattle.postcard_de_nodes.specs.ReadLemmas.{refusal, is_refusal}
 use Rattle.postcard_de_nodes.specs.NumberLemmas.{Below, number_spelled, number_below}

@@ -9,7 +9,7 @@ use Rattle.postcard_wire.specs.Tree.{Tree, Trees, NoTrees, Then}
 use Rattle.postcard_wire.specs.Spelling.{Spells, SpellsAll}
 use Rattle.postcard_de_flavors.specs.Source.{Left, CanTake, Takes, Laws}
 use Rattle.postcard_de_nodes.specs.Reads.{ReadsFrom}
-use Rattle.postcard_shape.specs.Values.{EachIs, AreRead}
+use Rattle.postcard_shape.specs.Lists.{EachIs, AreRead}
 use Rattle.postcard_de_nodes.specs.TakeLemmas.{nothing_taken}
 use Rattle.postcard_de_nodes.specs.ReadLemmas.{refusal, out_of_memory}
 use Rattle.postcard_de_nodes.specs.CompoundLemmas.{Compound, first_refused, second_refused}

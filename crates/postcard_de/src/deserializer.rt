@@ -10,7 +10,8 @@ ghost use Rattle.postcard_de.specs.Reads.{Reads};
 ghost use Rattle.postcard_de.specs.Refuses.{Refuses, WantsByte, NoneBad, WantsDigit, BadNumber};
 ghost use Rattle.postcard_de.specs.Refuses.{WantsText, BadText};
 ghost use Rattle.postcard_de.specs.Unfit.{BadBytes};
-ghost use Rattle.postcard_shape.specs.Values.{ListIs, Same};
+ghost use Rattle.postcard_shape.specs.Lists.{ListIs};
+ghost use Rattle.postcard_shape.specs.Leaves.{Same};
 ghost use Rattle.postcard_shape.specs.Shape.{never, memory};
 ghost use Rattle.postcard_de.specs.Deserializer.{source_of};
 

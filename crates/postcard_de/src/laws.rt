@@ -4,7 +4,7 @@ ghost use Rattle.std.specs.Prelude.{◌≡◌, ℕ, List, ◌++◌};
 ghost use Rattle.postcard_wire.specs.Tree.{Tree};
 ghost use Rattle.postcard_wire.specs.Spelling.{Spells, canonical};
 ghost use Rattle.postcard_wire.specs.Reading.{IsDelimited};
-ghost use Rattle.postcard_shape.specs.Same.{HasOne};
+ghost use Rattle.postcard_shape.specs.Shape.{HasOne};
 
 use crate::deserialize::Deserialize;
 

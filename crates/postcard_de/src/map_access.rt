@@ -3,7 +3,7 @@
 ghost use Rattle.std.specs.Prelude.{◌≡◌, ℕ, ◌-◌, ◌<◌, None, Some, Ok};
 ghost use Rattle.postcard_wire.specs.Spelling.{Spells};
 ghost use Rattle.postcard_de.specs.Reads.{Reads};
-ghost use Rattle.postcard_shape.specs.Values.{SomeIs};
+ghost use Rattle.postcard_shape.specs.Options.{SomeIs};
 ghost use Rattle.postcard_de.specs.Deserializer.{source_of};
 
 use crate::access::SeqAccess;

@@ -7,7 +7,7 @@ use Rattle.postcard_wire.specs.Tree.{Tree, Trees, Group}
 use Rattle.postcard_wire.specs.Spelling.{SpellsAll}
 use Rattle.postcard_wire.specs.Reading.{IsDelimited}
 use Rattle.postcard_wire.proofs.Delimited.{same_front, array_delimited}
-use Rattle.postcard_shape.specs.Values.{EachIs, AreRead, AreOfBytes}
+use Rattle.postcard_shape.specs.Lists.{EachIs, AreRead, AreOfBytes}
 use Rattle.postcard_de_flavors.specs.Source.{Left, CanTake, Takes}
 use Rattle.postcard_de_nodes.specs.Reads.{ReadsFrom}
 use Rattle.postcard_de_nodes.specs.ReadLemmas.{Delimits, found}

@@ -15,7 +15,8 @@ use Rattle.postcard_de_flavors.specs.Source.{Left, Takes, Laws}
 use Rattle.postcard_de_nodes.specs.Reads.{IsReadError, ReadsFrom}
 use Rattle.postcard_de_nodes.specs.Refuses.{RefusesFrom, WantsText}
 use Rattle.postcard_de_nodes.specs.Unfit.{BadBytes}
-use Rattle.postcard_shape.specs.Values.{Same, EachIs, AreRead}
+use Rattle.postcard_shape.specs.Leaves.{Same}
+use Rattle.postcard_shape.specs.Lists.{EachIs, AreRead}
 use Rattle.postcard_de_nodes.specs.TakeLemmas.{faces, both_taken}
 use Rattle.postcard_de_nodes.specs.ReadLemmas.{refusal}
 use Rattle.postcard_de_nodes.specs.NumberLemmas.{Below, number_spelled}

@@ -11,9 +11,7 @@ use Rattle.postcard_de_flavors.specs.Source.{Left, Takes, Laws}
 use Rattle.postcard_de_nodes.specs.Reads.{ReadsFrom}
 use Rattle.postcard_de_nodes.specs.Refuses.{RefusesFrom, WantsText}
 use Rattle.postcard_de_nodes.specs.Unfit.{BadShortText}
-use Rattle.postcard_shape.specs.Fixed.{IsShortText}
-use Rattle.postcard_shape.specs.One.{text_same}
-use Rattle.postcard_shape.specs.Values.{Same}
+use Rattle.postcard_shape.specs.Leaves.{IsShortText, text_same, Same}
 use Rattle.postcard_de_nodes.specs.TakeLemmas.{both_taken}
 use Rattle.postcard_de_nodes.specs.NumberLemmas.{Below, number_spelled}
 

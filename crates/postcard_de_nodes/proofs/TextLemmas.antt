@@ -17,7 +17,7 @@ use Rattle.postcard_shape.specs.Shape.{never}
 use Rattle.postcard_de_flavors.specs.Source.{Left, Takes, Laws}
 use Rattle.postcard_de_nodes.specs.Reads.{IsReadError, ReadsFrom}
 use Rattle.postcard_de_nodes.specs.Refuses.{RefusesFrom, WantsDigit, BadNumber, WantsText, BadText}
-use Rattle.postcard_shape.specs.Values.{Same}
+use Rattle.postcard_shape.specs.Leaves.{Same}
 use Rattle.postcard_de_nodes.specs.TakeLemmas.{both_taken}
 use Rattle.postcard_de_nodes.specs.ReadLemmas.{Excludes, found, refused, refusal, widened}
 use Rattle.postcard_de_nodes.specs.ReadLemmas.{ends_after_front}

@@ -12,7 +12,7 @@ use Rattle.postcard_shape.specs.Shape.{never}
 use Rattle.postcard_de_flavors.specs.Source.{Left, Takes, Laws}
 use Rattle.postcard_de_nodes.specs.Reads.{IsReadError, ReadsFrom}
 use Rattle.postcard_de_nodes.specs.Refuses.{RefusesFrom, WantsDigit, BadNumber}
-use Rattle.postcard_shape.specs.Values.{Same}
+use Rattle.postcard_shape.specs.Leaves.{Same}
 use Rattle.postcard_de_nodes.specs.TakeLemmas.{nothing_taken, both_taken}
 use Rattle.postcard_de_nodes.specs.ReadLemmas.{Delimits, Excludes, found, refused, refusal}
 use Rattle.postcard_de_nodes.specs.NumberLemmas.{Below}

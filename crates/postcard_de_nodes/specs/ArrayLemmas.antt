@@ -4,7 +4,7 @@ use Rattle.postcard_wire.specs.declared.error.Error.{Error}
 use Rattle.postcard_wire.specs.Tree.{Tree, Group}
 use Rattle.postcard_wire.specs.Spelling.{Spells, SpellsAll}
 use Rattle.postcard_wire.specs.Reading.{IsGroup, IsArray}
-use Rattle.postcard_shape.specs.Values.{EachIs, AreRead}
+use Rattle.postcard_shape.specs.Lists.{EachIs, AreRead}
 use Rattle.postcard_de_flavors.specs.Source.{Left}
 use Rattle.postcard_de_nodes.specs.Reads.{ReadsFrom}
 use Rattle.postcard_de_nodes.specs.ReadLemmas.{refusal}

@@ -7,7 +7,8 @@ use Rattle.postcard_wire.specs.Spelling.{Spells, SpellsAll}
 use Rattle.postcard_wire.specs.Reading.{IsSeq}
 use Rattle.postcard_de_flavors.specs.Source.{Left, Laws}
 use Rattle.postcard_shape.specs.Shape.{never}
-use Rattle.postcard_shape.specs.Values.{Same, EachIs, ListIs, AreRead}
+use Rattle.postcard_shape.specs.Leaves.{Same}
+use Rattle.postcard_shape.specs.Lists.{EachIs, ListIs, AreRead}
 use Rattle.postcard_de_nodes.specs.Reads.{ReadsFrom}
 use Rattle.postcard_de_nodes.specs.ErrorLemmas.{wider}
 use Rattle.postcard_de_nodes.specs.TakeLemmas.{can_first}

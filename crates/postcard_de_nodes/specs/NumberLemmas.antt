@@ -8,7 +8,7 @@ use Rattle.postcard_wire.proofs.Delimited.{num_delimited, int_delimited}
 use Rattle.postcard_wire.proofs.Ranged.{in_range}
 use Rattle.postcard_shape.specs.Shape.{never}
 use Rattle.postcard_de_flavors.specs.Source.{Left, Laws}
-use Rattle.postcard_shape.specs.Values.{Same}
+use Rattle.postcard_shape.specs.Leaves.{Same}
 use Rattle.postcard_de_nodes.specs.Reads.{ReadsFrom}
 use Rattle.postcard_de_nodes.specs.ReadLemmas.{found}
 

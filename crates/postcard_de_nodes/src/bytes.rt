@@ -4,7 +4,7 @@ ghost use Rattle.std.specs.Prelude.{◌≡◌, ℕ, ◌<◌, IfErr, slice_index}
 ghost use Rattle.postcard_wire.specs.Tree.{Byte};
 ghost use Rattle.postcard_wire.specs.Spelling.{Spells};
 ghost use Rattle.postcard_wire.specs.Reading.{IsByte, IsSeq};
-ghost use Rattle.postcard_shape.specs.Values.{ListIs};
+ghost use Rattle.postcard_shape.specs.Lists.{ListIs};
 ghost use Rattle.postcard_shape.specs.Shape.{never, memory};
 ghost use Rattle.postcard_de_nodes.specs.Reads.{Reads};
 ghost use Rattle.postcard_de_nodes.specs.Refuses.{Refuses, BadNumber, WantsText};

@@ -6,7 +6,7 @@ ghost use Rattle.postcard_wire.specs.Tree.{Byte};
 ghost use Rattle.postcard_wire.specs.Spelling.{Spells};
 ghost use Rattle.postcard_wire.specs.Reading.{IsArray, IsByte, IsGroup};
 ghost use Rattle.postcard_shape.specs.Floats.{IsFloat};
-ghost use Rattle.postcard_shape.specs.Values.{EachIs};
+ghost use Rattle.postcard_shape.specs.Lists.{EachIs};
 ghost use Rattle.postcard_shape.specs.Shape.{never};
 ghost use Rattle.postcard_de_nodes.specs.Reads.{Reads};
 ghost use Rattle.postcard_de_nodes.specs.Refuses.{Refuses, NoneBad, WantsBytes};

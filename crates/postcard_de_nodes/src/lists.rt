@@ -3,7 +3,7 @@
 ghost use Rattle.std.specs.Prelude.{◌≡◌, IfErr, IfOk, IfSome, Ok};
 ghost use Rattle.std.specs.Option.{IfNone};
 ghost use Rattle.postcard_wire.specs.Spelling.{SpellsAll};
-ghost use Rattle.postcard_shape.specs.Values.{AreRead, EachIs};
+ghost use Rattle.postcard_shape.specs.Lists.{AreRead, EachIs};
 ghost use Rattle.postcard_shape.specs.Shape.{or_memory};
 ghost use Rattle.postcard_de_nodes.specs.Reads.{Reads};
 

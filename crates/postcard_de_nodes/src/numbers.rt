@@ -3,7 +3,7 @@
 ghost use Rattle.std.specs.Prelude.{◌<◌, ◌^◌, IfErr};
 ghost use Rattle.postcard_wire.specs.Tree.{IsWidth};
 ghost use Rattle.postcard_wire.specs.Number.{SpellsNum};
-ghost use Rattle.postcard_shape.specs.Values.{Same};
+ghost use Rattle.postcard_shape.specs.Leaves.{Same};
 ghost use Rattle.postcard_shape.specs.Shape.{never};
 ghost use Rattle.postcard_de_nodes.specs.Reads.{Reads};
 ghost use Rattle.postcard_de_nodes.specs.Refuses.{Refuses, WantsDigit, BadNumber};

@@ -4,7 +4,7 @@ ghost use Rattle.std.specs.Prelude.{◌≡◌, IfErr, string_bytes, ⊤};
 ghost use Rattle.postcard_wire.specs.Tree.{Char, Text};
 ghost use Rattle.postcard_wire.specs.Spelling.{Spells};
 ghost use Rattle.postcard_wire.specs.Reading.{IsChar, IsText};
-ghost use Rattle.postcard_shape.specs.Fixed.{IsShortText};
+ghost use Rattle.postcard_shape.specs.Leaves.{IsShortText};
 ghost use Rattle.postcard_shape.specs.Shape.{never, memory};
 ghost use Rattle.postcard_de_nodes.specs.Reads.{Reads};
 ghost use Rattle.postcard_de_nodes.specs.Refuses.{Refuses, WantsText, BadText};

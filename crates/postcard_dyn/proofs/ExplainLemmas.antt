@@ -7,7 +7,7 @@ use Rattle.postcard_wire.specs.Tree.{Tree, Trees, Num, Absent, Present, Seq, Gro
 use Rattle.postcard_wire.specs.Spelling.{Spells, SpellsAll}
 use Rattle.postcard_wire.specs.Number.{SpellsNum}
 use Rattle.postcard_wire.specs.Reading.{Each, IsSeq, IsNum}
-use Rattle.postcard_shape.specs.Values.{AreRead}
+use Rattle.postcard_shape.specs.Lists.{AreRead}
 use Rattle.postcard_dyn_schema.specs.declared.schema.Schema.{Schema, the_lemmas}
 use Rattle.postcard_dyn_schema.specs.declared.schema.Schema.TheVariants as schemas
 use Rattle.postcard_dyn_schema.specs.Meaning.{MessageType, type_of, types_of, reads, reads_all, reads_at, option, seq, array, group, choice}

@@ -13,7 +13,8 @@ use Rattle.postcard_de_flavors.specs.Source.{Left, CanTake, Takes, Laws}
 use Rattle.postcard_de.specs.Reads.{ReadsFrom}
 use Rattle.postcard_shape.specs.Base256.{AreBytes, little, low_first, low_counts, low_bytes, low_worth, low_one}
 use Rattle.postcard_fixint.specs.Fixed.{IsFixed, unsigned}
-use Rattle.postcard_shape.specs.Values.{Same, EachIs, ListIs, AreRead}
+use Rattle.postcard_shape.specs.Leaves.{Same}
+use Rattle.postcard_shape.specs.Lists.{EachIs, ListIs, AreRead}
 use Rattle.postcard_shape.specs.Shape.{never, memory}
 use Rattle.postcard_de.proofs.Lists.{prefixed}
 use Rattle.postcard_de.proofs.Parts.{part_and_rest}

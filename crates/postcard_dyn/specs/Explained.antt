@@ -8,7 +8,7 @@ use Rattle.postcard_wire.specs.declared.error.Error.TheVariants.{OutOfMemory}
 use Rattle.postcard_wire.specs.Number.{SpellsNum}
 use Rattle.postcard_wire.specs.Tree.{Tree, Trees}
 use Rattle.postcard_wire.specs.Spelling.{Spells, SpellsAll}
-use Rattle.postcard_shape.specs.Values.{AreRead}
+use Rattle.postcard_shape.specs.Lists.{AreRead}
 use Rattle.postcard_shape.specs.Shape.{memory}
 use Rattle.postcard_de.specs.Reads.{IsReadError}
 use Rattle.postcard_de.specs.Front.{ReadsFront}

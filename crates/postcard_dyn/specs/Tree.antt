@@ -5,7 +5,7 @@ use Rattle.std.specs.declared.alloc.Global.{Global}
 use Rattle.postcard_wire.specs.Tree.{Tree, Trees, Byte, Boolean, Num, Int, Text, trees}
 use Rattle.postcard_wire.specs.Tree as nodes
 use Rattle.postcard_shape.specs.Base256.{low_first}
-use Rattle.postcard_shape.specs.Values.{EachIs}
+use Rattle.postcard_shape.specs.Lists.{EachIs}
 use Rattle.postcard_dyn.specs.declared.value.Value.{Value, fold-Value}
 use Rattle.postcard_dyn.specs.declared.value.Value.TheOpen.{Value-F}
 

@@ -3,7 +3,7 @@
 ghost use Rattle.std.specs.Prelude.{◌≡◌, ◌++◌, ◌∷◌, [], IfOk, IfErr, OnOk};
 ghost use Rattle.postcard_wire.specs.Spelling.{Spells, SpellsAll};
 ghost use Rattle.postcard_wire.specs.Reading.{IsOption, IsSeq, IsArray, IsGroup, IsVariant};
-ghost use Rattle.postcard_shape.specs.Values.{AreRead};
+ghost use Rattle.postcard_shape.specs.Lists.{AreRead};
 ghost use Rattle.postcard_shape.specs.Shape.{memory};
 ghost use Rattle.postcard_de.specs.Reads.{Reads};
 ghost use Rattle.postcard_de.specs.Deserializer.{source_of};

@@ -6,9 +6,8 @@ use Rattle.std.proofs.lemmas.Int.{ints}
 use Rattle.postcard_wire.specs.Number.{InRange}
 use Rattle.postcard_wire.specs.Tree.{Tree}
 use Rattle.postcard_shape.specs.Leaves.{byte}
-use Rattle.postcard_shape.specs.Lists.{array}
-use Rattle.postcard_shape.specs.Same.{HasOne, same_list}
-use Rattle.postcard_shape.specs.Shape.{Shape, never, IsWilling}
+use Rattle.postcard_shape.specs.Lists.{array, same_list}
+use Rattle.postcard_shape.specs.Shape.{HasOne, Shape, never, IsWilling}
 use Rattle.postcard_shape.specs.Base256.{Order}
 
 -- A type of numbers of a fixed width.

@@ -8,9 +8,8 @@ use Rattle.postcard_wire.specs.Number.{digits}
 use Rattle.postcard_wire.specs.Tree.{Tree, Trees, Group, Seq, Present, Variant, NoTrees, Then, count}
 use Rattle.postcard_wire.specs.Spelling.{canonical, canonical_all}
 use Rattle.postcard_wire.specs.Reading.{IsOption, IsArray, IsVariant, Each}
-use Rattle.postcard_shape.specs.Choices.{result_refusal}
-use Rattle.postcard_shape.specs.Fixed.{IsFewSeq}
-use Rattle.postcard_shape.specs.Options.{ResultReads}
+use Rattle.postcard_shape.specs.Options.{result_refusal, ResultReads}
+use Rattle.postcard_shape.specs.Lists.{IsFewSeq}
 use Rattle.postcard_max.specs.Sizes.{limited, sum_of, times, greater_of, varint_len}
 use Rattle.postcard_max.specs.SizeLimit.{SizeLimit, option_limit, result_limit, array_limit, few_limit}
 use Rattle.postcard_max.specs.Limits.{AreBounded, IsReached, IsLimit, tree_len, limited_bounded, limited_reached}

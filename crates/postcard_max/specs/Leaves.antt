@@ -12,9 +12,8 @@ use Rattle.postcard_wire.specs.Reading.{IsByte, IsBoolean, IsNum, IsInt, IsChar}
 use Rattle.postcard_wire.proofs.Ranged.{zig_below, zig_onto}
 use Rattle.postcard_wire.proofs.Shortest.{SpellsNum-digits, length-digits}
 use Rattle.postcard_wire.proofs.Writing.{reached, few_32, few_64}
-use Rattle.postcard_shape.specs.Fixed.{IsShortText}
-use Rattle.postcard_shape.specs.Numbers.{IsSpan, Without}
-use Rattle.postcard_shape.specs.One.{byte_same}
+use Rattle.postcard_shape.specs.Leaves.{IsShortText, Without, byte_same}
+use Rattle.postcard_shape.specs.Spans.{IsSpan}
 use Rattle.postcard_max.specs.Sizes.{sum_of, varint_len}
 use Rattle.postcard_max.specs.SizeLimit.{exactly, short_text_limit}
 use Rattle.postcard_max.specs.Limits.{AreBounded, IsReached, IsLimit, tree_len, limited_bounded, limited_reached}

@@ -1,7 +1,7 @@
 -- Types whose values never refuse themselves when they are written: those whose parts never do.
 use Rattle.std.specs.Prelude.{◌⊎◌, List, Any, Option, None, Some, Result, Ok, Err, IsSomeAnd}
 use Rattle.std.proofs.Common.{inl, inr}
-use Rattle.postcard_shape.specs.Choices.{result_refusal}
+use Rattle.postcard_shape.specs.Options.{result_refusal}
 use Rattle.postcard_shape.specs.Cases.{case_of}
 use Rattle.postcard_shape.specs.declared.cases.Case.{Case}
 use Rattle.postcard_shape.specs.declared.cases.Case.TheVariants.{This, Next}

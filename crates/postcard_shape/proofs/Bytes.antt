@@ -5,8 +5,7 @@ use Rattle.postcard_wire.specs.Tree.{Tree, Trees, Byte, NoTrees, Then, trees, co
 use Rattle.postcard_wire.specs.Spelling.{SpellsAll, canonical_all}
 use Rattle.postcard_wire.specs.Reading.{IsByte, Each}
 use Rattle.postcard_shape.specs.Leaves.{byte}
-use Rattle.postcard_shape.specs.Lists.{AllFit}
-use Rattle.postcard_shape.specs.Values.{EachIs, AreOfBytes}
+use Rattle.postcard_shape.specs.Lists.{AllFit, EachIs, AreOfBytes}
 
 -- The canonical encoding of a list of bytes, without its count, is those bytes.
 pub bytes_of_bytes : (xs : List ℕ) → canonical_all (trees (map Byte xs)) ≡ xs

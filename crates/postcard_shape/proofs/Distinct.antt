@@ -5,7 +5,7 @@ use Rattle.std.specs.List.{AllByRecursion, IsDistinct, list_any}
 use Rattle.std.specs.Map.{keys_of, lookup}
 use Rattle.std.proofs.Common.{refl, sym, subst, ◌∙◌, append-nil, append_assoc}
 use Rattle.std.proofs.lemmas.List.Sorted.{IsPermutation-sym, IsPermutation-to_front}
-use Rattle.postcard_shape.specs.Puts.{Puts, PutsKey, PutsPair}
+use Rattle.postcard_shape.specs.Maps.{Puts, PutsKey, PutsPair}
 
 -- Putting elements and one more at their end is putting the elements and then that one.
 pub puts_last : {V : Type 0} (step : V → List V → List V → Type 0) (xs : List V) (x : V) (vs us ws : List V) → Puts step xs vs us → step x us ws → Puts step (xs ++ x ∷ []) vs ws

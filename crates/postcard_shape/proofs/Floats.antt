@@ -6,7 +6,7 @@ use Rattle.std.specs.Int.{w32, w64, to_le_bytes, from_le_bytes}
 use Rattle.postcard_wire.specs.Tree.{Tree}
 use Rattle.postcard_wire.specs.Spelling.{canonical}
 use Rattle.postcard_wire.specs.Reading.{IsGroup}
-use Rattle.postcard_shape.specs.Values.{EachIs}
+use Rattle.postcard_shape.specs.Lists.{EachIs}
 use Rattle.postcard_shape.specs.Floats.{float_bytes, float_tree, IsFloat}
 use Rattle.postcard_shape.proofs.Bytes.{bytes_of_bytes, ByteIs}
 use Rattle.postcard_shape.proofs.Sums.{little_bytes, little_sum}

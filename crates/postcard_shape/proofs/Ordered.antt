@@ -11,8 +11,7 @@ use Rattle.std.specs.BTreeMap.{insert_entry}
 use Rattle.std.specs.BTreeSet.{insert_key}
 use Rattle.std.proofs.Common.{refl, ap, sym, subst, ◌∙◌, append-nil, append_assoc}
 use Rattle.std.proofs.lemmas.Map.Keys.{sorted_head, sorted_tail}
-use Rattle.postcard_shape.specs.Maps.{inserted}
-use Rattle.postcard_shape.specs.Sets.{keys_inserted}
+use Rattle.postcard_shape.specs.Maps.{inserted, keys_inserted}
 
 module _ {A B : Type 0} (cmp : A → A → Ordering) (o : IsTotalOrder cmp) where
   -- An entry whose key is above all others is inserted last.

@@ -1,17 +1,32 @@
 -- The shape of an enum, from the shapes of its variants' contents: each variant is an index and a
--- content.
-use Rattle.std.specs.Prelude.{ℕ, zero, suc, ◌<◌, ◌^◌, ◌⊎◌}
-use Rattle.std.proofs.Common.{refl}
-use Rattle.postcard_wire.specs.Tree.{Tree, Variant, Absent}
-use Rattle.postcard_wire.specs.declared.error.Error.{Error}
-use Rattle.postcard_wire.specs.Reading.{IsDelimited, ReadsWellFormed, IsVariant}
+-- content (wire format 1.0, "newtype_variant", "tuple_variant" and "struct_variant").
+use Rattle.std.proofs.Common.{sym, ◌∙◌, subst, refl}
+use Rattle.std.specs.Prelude.{◌≡◌, ℕ, zero, suc, ◌<◌, ◌^◌, ◌⊎◌}
 use Rattle.postcard_wire.proofs.Delimited.{variant_delimited, none_delimited}
 use Rattle.postcard_wire.proofs.WellFormed.{variant_well_formed}
-use Rattle.postcard_shape.specs.Same.{HasOne}
-use Rattle.postcard_shape.specs.Options.{VariantIs, variant_one}
-use Rattle.postcard_shape.specs.Shape.{Shape, never, either}
+use Rattle.postcard_wire.specs.Reading.{IsDelimited, ReadsWellFormed, IsVariant}
+use Rattle.postcard_wire.specs.Tree.{Tree, Variant, Absent}
+use Rattle.postcard_wire.specs.declared.error.Error.{Error}
+use Rattle.postcard_shape.specs.Shape.{HasOne, Shape, never, either}
 use Rattle.postcard_shape.specs.declared.cases.Case.{Case}
 use Rattle.postcard_shape.specs.declared.cases.Case.TheVariants.{This, Next}
+
+-- The value is one of the content, at the index of the tree.
+abbrev pub VariantIs : {V : Type 0} → (ℕ → Tree → V → Type 0) → Tree → V → Type 0
+VariantIs values t v = (i : ℕ) × (s : Tree) × (t ≡ Variant i s) × values i s v
+
+index_same : (i j : ℕ) (s r : Tree) → Variant i s ≡ Variant j r → i ≡ j
+index_same i j s r e = cc
+
+content_same : (i j : ℕ) (s r : Tree) → Variant i s ≡ Variant j r → s ≡ r
+content_same i j s r e = cc
+
+-- The enums of one tree look alike if the values of one content do at each index.
+pub variant_one : {V : Type 0} (values : ℕ → Tree → V → Type 0) (same : V → V → Type 0) → ((i : ℕ) → HasOne (values i) same) → HasOne (VariantIs values) same
+variant_one values same one t v w h k =
+    let e = sym k.2 ∙ h.2 in
+    let a : values h.0 k.1 w = subst (λ i. values i k.1 w) (index_same k.0 h.0 k.1 h.1 e) k.3 in
+    one h.0 h.1 v w h.3 (subst (λ s. values h.0 s w) (content_same k.0 h.0 k.1 h.1 e) a)
 
 -- What a `Shape` says, said of the variants of an enum: the index and the content of each value,
 -- and at each index what is read.

@@ -1,15 +1,18 @@
 -- The shape of an enum without content, each variant of which is its index (wire format 1.0,
--- "unit_variant").
-use Rattle.std.specs.Prelude.{◌≡◌, ℕ, ◌<◌, ◌^◌}
+-- "unit_variant"), and the errors as such an enum.
 use Rattle.std.proofs.Common.{refl, sym, ap, ◌∙◌}
-use Rattle.postcard_wire.specs.Tree.{Tree, Group, NoTrees}
-use Rattle.postcard_wire.specs.Reading.{IsDelimited, ReadsWellFormed, IsEnd, IsGroup, IsVariant}
-use Rattle.postcard_wire.proofs.Delimited.{end_delimited, group_delimited, fewer_delimited}
-use Rattle.postcard_wire.proofs.Delimited.{variant_delimited}
+use Rattle.std.specs.Prelude.{ℕ, ◌≡◌, ◌<◌, ◌^◌, List, [], ◌∷◌, get_or}
+use Rattle.postcard_wire.proofs.Delimited.{end_delimited, group_delimited, fewer_delimited, variant_delimited}
 use Rattle.postcard_wire.proofs.WellFormed.{end_well_formed, group_well_formed, variant_well_formed}
-use Rattle.postcard_shape.specs.Compound.{unit_variant}
-use Rattle.postcard_shape.specs.Same.{HasOne}
-use Rattle.postcard_shape.specs.Shape.{Shape, never}
+use Rattle.postcard_wire.specs.Reading.{IsDelimited, ReadsWellFormed, IsEnd, IsGroup, IsVariant}
+use Rattle.postcard_wire.specs.Tree.{Tree, Variant, Group, NoTrees}
+use Rattle.postcard_wire.specs.declared.error.Error.{Error}
+use Rattle.postcard_wire.specs.declared.error.Error.TheVariants.{WontImplement, NotYetImplemented, SerializeBufferFull, SerializeSeqLengthUnknown, DeserializeUnexpectedEnd, DeserializeBadVarint, DeserializeBadBool, DeserializeBadChar, DeserializeBadUtf8, DeserializeBadOption, DeserializeBadEnum, DeserializeBadEncoding, DeserializeBadCrc, SerdeSerCustom, SerdeDeCustom, CollectStrError, OutOfMemory}
+use Rattle.postcard_shape.specs.Shape.{HasOne, Shape, never}
+
+-- The tree of the variant i of an enum, without content.
+abbrev pub unit_variant : ℕ → Tree
+unit_variant i = Variant i (Group NoTrees)
 
 -- The index i is below n, and the content is an empty group.
 abbrev pub IsUnit : ℕ → ℕ → Tree → Type 0
@@ -49,3 +52,55 @@ enumeration n index at back = record {
   one_value = unit_one index at back;
   again = λ v f. ((index v, Group NoTrees, refl, f.1, (f.0, (NoTrees, refl, refl))), refl);
 }
+
+-- The errors in the order of their indices: those of postcard 1.1.3 in its order, and then this
+-- port's own.
+abbrev pub errors : List Error
+errors =
+    WontImplement ∷ NotYetImplemented ∷ SerializeBufferFull ∷ SerializeSeqLengthUnknown
+    ∷ DeserializeUnexpectedEnd ∷ DeserializeBadVarint ∷ DeserializeBadBool ∷ DeserializeBadChar
+    ∷ DeserializeBadUtf8 ∷ DeserializeBadOption ∷ DeserializeBadEnum ∷ DeserializeBadEncoding
+    ∷ DeserializeBadCrc ∷ SerdeSerCustom ∷ SerdeDeCustom ∷ CollectStrError ∷ OutOfMemory ∷ []
+
+-- The error at an index below 17, and `OutOfMemory` at any other.
+abbrev pub error_at : ℕ → Error
+error_at i = get_or errors i OutOfMemory
+
+-- The index of an error.
+abbrev pub error_index : Error → ℕ
+error_index WontImplement = 0
+error_index NotYetImplemented = 1
+error_index SerializeBufferFull = 2
+error_index SerializeSeqLengthUnknown = 3
+error_index DeserializeUnexpectedEnd = 4
+error_index DeserializeBadVarint = 5
+error_index DeserializeBadBool = 6
+error_index DeserializeBadChar = 7
+error_index DeserializeBadUtf8 = 8
+error_index DeserializeBadOption = 9
+error_index DeserializeBadEnum = 10
+error_index DeserializeBadEncoding = 11
+error_index DeserializeBadCrc = 12
+error_index SerdeSerCustom = 13
+error_index SerdeDeCustom = 14
+error_index CollectStrError = 15
+error_index OutOfMemory = 16
+
+pub error_back : (e : Error) → error_at (error_index e) ≡ e
+error_back WontImplement = refl
+error_back NotYetImplemented = refl
+error_back SerializeBufferFull = refl
+error_back SerializeSeqLengthUnknown = refl
+error_back DeserializeUnexpectedEnd = refl
+error_back DeserializeBadVarint = refl
+error_back DeserializeBadBool = refl
+error_back DeserializeBadChar = refl
+error_back DeserializeBadUtf8 = refl
+error_back DeserializeBadOption = refl
+error_back DeserializeBadEnum = refl
+error_back DeserializeBadEncoding = refl
+error_back DeserializeBadCrc = refl
+error_back SerdeSerCustom = refl
+error_back SerdeDeCustom = refl
+error_back CollectStrError = refl
+error_back OutOfMemory = refl

@@ -8,9 +8,8 @@ use lib.Ieee.Bits.{of_bits-to_bits, to_bits-lt}
 use Rattle.postcard_wire.specs.Tree.{Tree}
 use Rattle.postcard_shape.specs.Base256.{low_first, low_value, low_counts, low_bytes, low_worth}
 use Rattle.postcard_shape.specs.Leaves.{byte}
-use Rattle.postcard_shape.specs.Lists.{array}
-use Rattle.postcard_shape.specs.Same.{HasOne, same_list}
-use Rattle.postcard_shape.specs.Shape.{Shape, never}
+use Rattle.postcard_shape.specs.Lists.{array, same_list}
+use Rattle.postcard_shape.specs.Shape.{HasOne, Shape, never}
 
 -- The number of bytes of a float: 4 for an `f32`, and 8 for an `f64`.
 abbrev pub float_len : Format → ℕ

@@ -1,19 +1,75 @@
--- The shapes of values that are a single node: bytes, truth values, numbers, characters and texts
--- (wire format 1.0, "the serde data model" and "varint encoded integers").
-use Rattle.std.specs.Prelude.{◌≡◌, ◌≢◌, ℕ, ◌<◌, ◌≤◌, ◌^◌, List, length, Bool, ℤ, IsUtf8, ⊤}
+-- The shapes of values that are a single node: bytes, numbers, truth values, characters and texts
+-- (wire format 1.0, "the serde data model" and "varint encoded integers"). Each kind of node determines
+-- its content.
+use Rattle.std.proofs.Common.{sym, ◌∙◌, refl}
 use Rattle.std.specs.Char.{IsScalar}
 use Rattle.std.specs.Int.{w8, cast_unsigned}
-use Rattle.std.proofs.Common.{refl}
-use Rattle.postcard_wire.specs.Number.{InRange}
-use Rattle.postcard_wire.specs.Tree.{Tree, Byte, Boolean, Num, Int, Char, Text, IsWidth}
-use Rattle.postcard_wire.specs.Reading.{IsByte, IsBoolean, IsNum, IsInt, IsChar, IsText}
-use Rattle.postcard_wire.proofs.Delimited.{byte_delimited, boolean_delimited, num_delimited, int_delimited, char_delimited, text_delimited, fewer_delimited}
+use Rattle.std.specs.Prelude.{◌≡◌, ℕ, List, ℤ, Bool, ◌≢◌, ◌<◌, ◌≤◌, ◌^◌, length, IsUtf8, ⊤}
+use Rattle.postcard_wire.proofs.Delimited.{fewer_delimited, byte_delimited, boolean_delimited, num_delimited, int_delimited, char_delimited, text_delimited}
 use Rattle.postcard_wire.proofs.WellFormed.{byte_well_formed, boolean_well_formed, num_well_formed, int_well_formed, char_well_formed, text_well_formed}
-use Rattle.postcard_shape.specs.Fixed.{IsShortText, short_text_inside}
-use Rattle.postcard_shape.specs.Numbers.{Without, without_delimited, without_well_formed}
-use Rattle.postcard_shape.specs.One.{byte_one, num_one, int_one, text_one, signed_byte_one}
-use Rattle.postcard_shape.specs.Options.{boolean_one, char_one}
-use Rattle.postcard_shape.specs.Shape.{Shape, never}
+use Rattle.postcard_wire.specs.Number.{InRange}
+use Rattle.postcard_wire.specs.Reading.{IsDelimited, ReadsWellFormed, IsByte, IsBoolean, IsNum, IsInt, IsChar, IsText}
+use Rattle.postcard_wire.specs.Tree.{Byte, Num, Int, Text, Boolean, Char, Tree, IsWidth}
+use Rattle.postcard_shape.specs.Shape.{HasOne, Shape, never}
+
+-- The number is equal to the value.
+abbrev pub Same : ℕ → ℕ → Type 0
+Same n v = n ≡ v
+
+-- The node of a byte determines the byte.
+pub byte_same : (a b : ℕ) → Byte a ≡ Byte b → a ≡ b
+byte_same a b e = cc
+
+-- The node of an unsigned number determines the number.
+pub num_same : (w a b : ℕ) → Num w a ≡ Num w b → a ≡ b
+num_same w a b e = cc
+
+-- The node of a signed number determines the number.
+pub int_same : (w : ℕ) (a b : ℤ) → Int w a ≡ Int w b → a ≡ b
+int_same w a b e = cc
+
+boolean_same : (x y : Bool) → Boolean x ≡ Boolean y → x ≡ y
+boolean_same x y e = cc
+
+char_same : (a b : ℕ) → Char a ≡ Char b → a ≡ b
+char_same a b e = cc
+
+-- The node of a text determines its bytes.
+pub text_same : (a b : List ℕ) → Text a ≡ Text b → a ≡ b
+text_same a b e = cc
+
+-- The bytes of one tree are equal.
+pub byte_one : HasOne (λ t v. t ≡ Byte v) (λ v w. v ≡ w)
+byte_one t v w h k = byte_same v w (sym h ∙ k)
+
+-- The signed bytes of one tree are equal in two's complement.
+pub signed_byte_one : HasOne (λ t v. t ≡ Byte (cast_unsigned w8 v)) (λ v w. cast_unsigned w8 v ≡ cast_unsigned w8 w)
+signed_byte_one t v w h k = byte_same (cast_unsigned w8 v) (cast_unsigned w8 w) (sym h ∙ k)
+
+-- The unsigned numbers of one tree are equal.
+pub num_one : (w : ℕ) → HasOne (λ t v. t ≡ Num w v) (λ v w. v ≡ w)
+num_one w t u v h k = num_same w u v (sym h ∙ k)
+
+-- The signed numbers of one tree are equal.
+pub int_one : (w : ℕ) → HasOne (λ t v. t ≡ Int w v) (λ v w. v ≡ w)
+int_one w t u v h k = int_same w u v (sym h ∙ k)
+
+-- The truth values of one tree are equal.
+pub boolean_one : HasOne (λ t v. t ≡ Boolean v) (λ v w. v ≡ w)
+boolean_one t v w h k = boolean_same v w (sym h ∙ k)
+
+-- The characters of one tree are equal.
+pub char_one : HasOne (λ t v. t ≡ Char v) (λ v w. v ≡ w)
+char_one t v w h k = char_same v w (sym h ∙ k)
+
+-- The texts of one tree are equal, in what is seen of them.
+pub text_one : {V : Type 0} (see : V → List ℕ) → HasOne (λ t v. t ≡ Text (see v)) (λ v w. see v ≡ see w)
+text_one see t v w h k = text_same (see v) (see w) (sym h ∙ k)
+
+-- If a node is made by an injective constructor of what is seen of a value, the values of one tree
+-- look alike.
+pub node_one : {V A : Type 0} (node : A → Tree) (see : V → A) → ((a b : A) → node a ≡ node b → a ≡ b) → HasOne (λ t v. t ≡ node (see v)) (λ v w. see v ≡ see w)
+node_one node see injective t v w h k = injective (see v) (see w) (sym h ∙ k)
 
 -- The shape of a byte.
 abbrev pub byte : Shape ℕ
@@ -134,6 +190,13 @@ text = record {
   again = λ v f. ((v, refl, f.0, f.1), refl);
 }
 
+-- The tree is a text of at most n bytes.
+abbrev pub IsShortText : ℕ → Tree → Type 0
+IsShortText n t = (u : List ℕ) × (t ≡ Text u) × (length u ≤ n) × IsUtf8 u × (length u < 2 ^ 64)
+
+pub short_text_inside : (n : ℕ) (t : Tree) → IsShortText n t → IsText t
+short_text_inside n t r = (r.0, r.1, r.3, r.4)
+
 -- The shape of a text of at most n bytes.
 abbrev pub short_text : ℕ → Shape (List ℕ)
 short_text n = record {
@@ -150,6 +213,16 @@ short_text n = record {
   one_value = text_one (λ (v : List ℕ). v);
   again = λ v f. ((v, refl, f.0, f.1, f.2), refl);
 }
+
+-- The trees of the set other than `one`.
+abbrev pub Without : Tree → (Tree → Type 0) → Tree → Type 0
+Without one reads t = reads t × (t ≢ one)
+
+pub without_delimited : (one : Tree) (reads : Tree → Type 0) → IsDelimited reads → IsDelimited (Without one reads)
+without_delimited one reads law = fewer_delimited (Without one reads) reads (λ t r. r.0) law
+
+pub without_well_formed : (one : Tree) (reads : Tree → Type 0) → ReadsWellFormed reads → ReadsWellFormed (Without one reads)
+without_well_formed one reads law t r = law t r.0
 
 -- The shape s without the values of the tree `one`, as for the numbers that aren't 0.
 abbrev pub without : {V : Type 0} → Tree → Shape V → Shape V

@@ -1,28 +1,15 @@
--- The definitions that contracts cite, and the lemmas that ghost members cite.
-pub mod Values
-pub mod Same
-pub mod One
-pub mod Parts
-pub mod Options
-pub mod Numbers
-pub mod Maps
-pub mod Fixed
-pub mod Compound
+-- The definitions that contracts cite, and the lemmas that ghost members cite: a file for each way to make a shape.
 pub mod Shape
 pub mod Leaves
+pub mod Rows
 pub mod Lists
 pub mod First
+pub mod Cases
+pub mod Options
+pub mod Maps
+pub mod Spans
+pub mod Enumerations
+pub mod Only
+pub mod Refusing
 pub mod Base256
 pub mod Floats
-pub mod Choices
-pub mod Spans
-pub mod Entries
-pub mod Sets
-pub mod Heaps
-pub mod Puts
-pub mod Rows
-pub mod Cases
-pub mod Refusing
-pub mod Only
-pub mod Enumerations
-pub mod Errors

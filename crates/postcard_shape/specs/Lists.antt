@@ -1,16 +1,69 @@
--- The shapes of lists: with their count before them, of a fixed capacity, and arrays (wire format
--- 1.0, "seq" and "tuple").
-use Rattle.std.specs.Prelude.{◌≡◌, ℕ, ◌<◌, ◌≤◌, ◌^◌, List, [], ◌∷◌, length, map, Any}
-use Rattle.std.proofs.Common.{refl, ap, suc, subst, sym, ◌∙◌}
-use Rattle.postcard_wire.specs.Tree.{Tree, Group, Seq, trees, count}
-use Rattle.postcard_wire.specs.Reading.{IsGroup, Each, IsSeq, IsArray}
+-- The shapes of lists: with their count before them, arrays, of a fixed capacity, and in any order
+-- (wire format 1.0, "seq" and "tuple").
+use Rattle.std.proofs.Common.{refl, sym, ap₂, ◌∙◌, subst, ap, suc}
+use Rattle.std.proofs.lemmas.List.Sorted.{IsPermutation-refl}
+use Rattle.std.specs.List.Sorted.{IsPermutation}
+use Rattle.std.specs.Prelude.{◌≡◌, ℕ, List, [], ◌∷◌, length, ◌<◌, ◌≤◌, ◌^◌, map, Any}
 use Rattle.postcard_wire.proofs.Delimited.{seq_delimited, array_delimited, fewer_delimited}
 use Rattle.postcard_wire.proofs.WellFormed.{seq_well_formed, array_well_formed}
-use Rattle.postcard_shape.specs.Fixed.{IsFewSeq, few_seq_inside}
-use Rattle.postcard_shape.specs.Same.{SameList, list_one, each_one}
-use Rattle.postcard_shape.specs.Parts.{group_one}
-use Rattle.postcard_shape.specs.Shape.{Shape}
-use Rattle.postcard_shape.specs.Values.{EachIs, ListIs}
+use Rattle.postcard_wire.specs.Reading.{Each, IsGroup, IsSeq, IsArray}
+use Rattle.postcard_wire.specs.Spelling.{SpellsAll}
+use Rattle.postcard_wire.specs.Tree.{Tree, Trees, Seq, NoTrees, Then, count, Group, trees}
+use Rattle.postcard_shape.specs.Rows.{group_one}
+use Rattle.postcard_shape.specs.Shape.{Shape, HasOne}
+
+-- Each value of the list is one of its tree in the row, in order.
+abbrev pub EachIs : {V : Type 0} → (Tree → V → Type 0) → Trees → List V → Type 0
+EachIs value NoTrees [] = Unit {0}
+EachIs value (Then t ts) (v ∷ vs) = value t v × EachIs value ts vs
+EachIs value _ _ = ⊥
+
+-- The list's elements are the values of the parts of the tree, which is a list.
+abbrev pub ListIs : {V : Type 0} → (Tree → V → Type 0) → Tree → List V → Type 0
+ListIs value t vs = (ts : Trees) × (t ≡ Seq ts) × EachIs value ts vs
+
+-- The row has n trees, each of the set.
+abbrev pub AreRead : ℕ → (Tree → Type 0) → Trees → Type 0
+AreRead n reads ts = (count ts ≡ n) × Each reads ts
+
+-- The bytes spell as many trees as there are bytes, each of which is read, and the elements of the
+-- list are their values.
+abbrev pub AreOfBytes : {V : Type 0} → (Tree → Type 0) → (Tree → V → Type 0) → List ℕ → List V →
+    Type 0
+AreOfBytes reads value bytes vs = (ts : Trees) × AreRead (length bytes) reads ts
+    × SpellsAll ts bytes × EachIs value ts vs
+
+-- Two lists have the same length, and their elements look alike, one by one.
+abbrev pub SameList : {V : Type 0} → (V → V → Type 0) → List V → List V → Type 0
+SameList same [] [] = Unit {0}
+SameList same (v ∷ vs) (w ∷ ws) = same v w × SameList same vs ws
+SameList same _ _ = ⊥
+
+-- Lists whose elements are equal, one by one, are equal.
+pub same_list : {V : Type 0} (vs ws : List V) → SameList (λ v w. v ≡ w) vs ws → vs ≡ ws
+same_list [] [] h = refl
+same_list [] (w ∷ ws) h = absurd h
+same_list (v ∷ vs) [] h = absurd h
+same_list {V} (v ∷ vs) (w ∷ ws) h = ap₂ (λ (x : V) (xs : List V). x ∷ xs) h.0 (same_list vs ws h.1)
+
+-- If the values of one tree look alike, so do the lists of values of trees in a row.
+pub each_one : {V : Type 0} (value : Tree → V → Type 0) (same : V → V → Type 0) → HasOne value same → (ts : Trees) (vs ws : List V) → EachIs value ts vs → EachIs value ts ws → SameList same vs ws
+each_one value same one NoTrees [] [] h k = tt
+each_one value same one NoTrees [] (w ∷ ws) h k = absurd k
+each_one value same one NoTrees (v ∷ vs) ws h k = absurd h
+each_one value same one (Then t ts) [] ws h k = absurd h
+each_one value same one (Then t ts) (v ∷ vs) [] h k = absurd k
+each_one value same one (Then t ts) (v ∷ vs) (w ∷ ws) h k = (one t v w h.0 k.0, each_one value same one ts vs ws h.1 k.1)
+
+-- The node of a list determines its parts.
+parts_same : (ts ss : Trees) → Seq ts ≡ Seq ss → ts ≡ ss
+parts_same ts ss e = cc
+
+-- The lists of one tree look alike if their elements do.
+pub list_one : {V L : Type 0} (see : L → List V) (value : Tree → V → Type 0) (same : V → V → Type 0) → HasOne value same → HasOne (λ t l. ListIs value t (see l)) (λ l m. SameList same (see l) (see m))
+list_one see value same one t l m h k =
+    let e = parts_same k.0 h.0 (sym k.1 ∙ h.1) in
+    each_one value same one h.0 (see l) (see m) h.2 (subst (λ (ts : Trees). EachIs value ts (see m)) e k.2)
 
 -- Each element of the list fits.
 abbrev pub AllFit : {V : Type 0} → (V → Type 0) → List V → Type 0
@@ -71,6 +124,13 @@ array n s = record {
   again = λ v f. ((trees (map s.tree v), refl, counted s.tree v ∙ f.0, each s.tree s.reads s.fits (λ a k. (s.again a k).0) v f.1), (trees (map s.tree v), refl, each_is s.tree s.value s.fits (λ a k. (s.again a k).1) v f.1));
 }
 
+-- The tree is a list of at most n trees of the set.
+abbrev pub IsFewSeq : ℕ → (Tree → Type 0) → Tree → Type 0
+IsFewSeq n reads t = (ts : Trees) × (t ≡ Seq ts) × (count ts ≤ n) × (count ts < 2 ^ 64) × Each reads ts
+
+pub few_seq_inside : (n : ℕ) (reads : Tree → Type 0) (t : Tree) → IsFewSeq n reads t → IsSeq reads t
+few_seq_inside n reads t r = (r.0, r.1, r.3, r.4)
+
 -- The shape of a list of at most n elements, with its count before it.
 abbrev pub few : {V : Type 0} → ℕ → Shape V → Shape (List V)
 few n s = record {
@@ -87,4 +147,21 @@ few n s = record {
   one_value = list_one (λ v. v) s.value s.same s.one_value;
   again = λ v f. let (k, r) = each_read s.tree s.reads s.fits (λ a q. (s.again a q).0) v f.2 f.1 in
       ((trees (map s.tree v), refl, subst (λ m. m ≤ n) (sym (counted s.tree v)) f.0, k, r), (trees (map s.tree v), refl, each_is s.tree s.value s.fits (λ a q. (s.again a q).1) v f.2));
+}
+
+-- The shape s of a list, for a type that keeps the elements that it reads in any order.
+abbrev pub in_any_order : {V : Type 0} → Shape (List V) → Shape (List V)
+in_any_order {V} s = record {
+  tree = s.tree;
+  refusal = s.refusal;
+  text = s.text;
+  reads = s.reads;
+  value = λ t vs. (xs : List V) × s.value t xs × IsPermutation xs vs;
+  same = λ vs ws. (xs : List V) × (ys : List V) × s.same xs ys × IsPermutation xs vs × IsPermutation ys ws;
+  other = s.other;
+  fits = s.fits;
+  delimited = s.delimited;
+  well_formed = s.well_formed;
+  one_value = λ t vs ws h k. (h.0, k.0, s.one_value t h.0 k.0 h.1 k.1, h.2, k.2);
+  again = λ vs f. let k = s.again vs f in (k.0, (vs, k.1, IsPermutation-refl vs));
 }

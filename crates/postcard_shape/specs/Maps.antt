@@ -1,12 +1,61 @@
--- Maps as lists of pairs, in which a later value of an equal key replaces an earlier one.
-use Rattle.std.specs.Prelude.{◌≡◌, List, [], ◌∷◌}
-use Rattle.std.specs.declared.cmp.Ordering.{Ordering}
+-- The shapes of sets and maps: lists of keys or entries in the order of their keys, or, where keys are
+-- found by their hashes, in an order of their own (wire format 1.0, "seq" and "map").
+use Rattle.std.proofs.Common.{refl}
 use Rattle.std.specs.BTreeMap.{insert_entry}
-use Rattle.postcard_wire.specs.Tree.{Tree}
-use Rattle.postcard_wire.specs.Reading.{IsEnd, IsThen, IsGroup}
-use Rattle.postcard_shape.specs.Same.{HasOne, SameList, list_one}
-use Rattle.postcard_shape.specs.Values.{ListIs}
-use Rattle.postcard_shape.specs.Parts.{end_one, then_one, group_one}
+use Rattle.std.specs.BTreeSet.{insert_key}
+use Rattle.std.specs.Bool.{MatchBool}
+use Rattle.std.specs.List.{list_any}
+use Rattle.std.specs.List.Sorted.{IsPermutation}
+use Rattle.std.specs.Map.{lookup, set_value}
+use Rattle.std.specs.Prelude.{◌≡◌, ◌<◌, ◌^◌, List, [], ◌∷◌, length, map, Any, ◌⊎◌, Bool, MatchOption}
+use Rattle.std.specs.declared.cmp.Ordering.{Ordering}
+use Rattle.postcard_wire.proofs.Delimited.{seq_delimited, end_delimited, then_delimited, group_delimited}
+use Rattle.postcard_wire.proofs.WellFormed.{seq_well_formed, end_well_formed, then_well_formed, group_well_formed}
+use Rattle.postcard_wire.specs.Reading.{IsSeq, IsEnd, IsThen, IsGroup}
+use Rattle.postcard_wire.specs.Tree.{Tree, Seq, trees, NoTrees, Then}
+use Rattle.postcard_shape.specs.Lists.{AllFit, each_read, each_is, SameList, list_one, ListIs}
+use Rattle.postcard_shape.specs.Rows.{end_one, then_one, group_one, none, then, along, group, pair_tree}
+use Rattle.postcard_shape.specs.Shape.{HasOne, Shape, or_memory, either}
+
+-- The keys of a set after these keys are inserted one after another: a key that is equal to one of
+-- the set changes nothing.
+abbrev pub keys_inserted : {A : Type 0} → (A → A → Ordering) → List A → List A → List A
+keys_inserted cmp [] keys = keys
+keys_inserted cmp (x ∷ xs) keys = keys_inserted cmp xs (insert_key cmp keys x)
+
+-- The keys are those that inserting the elements of the list makes, in the order of the list.
+abbrev pub SetIs : {A : Type 0} → (A → A → Ordering) → (Tree → A → Type 0) → Tree → List A → Type 0
+SetIs {A} cmp value t keys = (xs : List A) × ListIs value t xs × (keys ≡ keys_inserted cmp xs [])
+
+-- Two sets are each made of elements that look alike, one by one.
+abbrev pub SameSet : {A : Type 0} → (A → A → Ordering) → (A → A → Type 0) → List A → List A → Type 0
+SameSet {A} cmp same ks ls = (xs : List A) × (ys : List A) × SameList same xs ys × (ks ≡ keys_inserted cmp xs []) × (ls ≡ keys_inserted cmp ys [])
+
+-- The sets of one tree look alike if the elements of one tree do.
+pub set_one : {A : Type 0} (cmp : A → A → Ordering) (value : Tree → A → Type 0) (same : A → A → Type 0) → HasOne value same → HasOne (SetIs cmp value) (SameSet cmp same)
+set_one {A} cmp value same one t ks ls (xs, h, a) (ys, k, b) = (xs, ys, list_one (λ (x : List A). x) value same one t xs ys h k, a, b)
+
+-- The shape of a set, seen as the list of its keys.
+abbrev pub keys : {A : Type 0} → (A → A → Ordering) → Shape A → Shape (List A)
+keys cmp s = record {
+  tree = λ ks. Seq (trees (map s.tree ks));
+  refusal = λ ks e. Any (λ k. s.refusal k e) ks;
+  text = s.text;
+  reads = IsSeq s.reads;
+  value = SetIs cmp s.value;
+  same = SameSet cmp s.same;
+  other = or_memory s.other;
+  fits = λ ks. (length ks < 2 ^ 64) × AllFit s.fits ks × (ks ≡ keys_inserted cmp ks []);
+  delimited = seq_delimited s.reads s.delimited;
+  well_formed = seq_well_formed s.reads s.well_formed;
+  one_value = set_one cmp s.value s.same s.one_value;
+  again = λ ks f. let (n, r) = each_read s.tree s.reads s.fits (λ a k. (s.again a k).0) ks f.1 f.0 in
+      ((trees (map s.tree ks), refl, n, r), (ks, (trees (map s.tree ks), refl, each_is s.tree s.value s.fits (λ a k. (s.again a k).1) ks f.1), f.2));
+}
+
+-- The tree of a map's entry: the key, followed by the value.
+abbrev pub entry_tree : {K V : Type 0} → (K → Tree) → (V → Tree) → K × V → Tree
+entry_tree f g e = pair_tree (f e.0) (g e.1)
 
 -- The tree is a group of a key and a value (wire format 1.0, "map").
 abbrev pub IsEntry : (Tree → Type 0) → (Tree → Type 0) → Tree → Type 0
@@ -42,3 +91,67 @@ entry_one I J same other one two t v w = group_one (then_one one (then_one two e
 pub map_one : {A B M : Type 0} (see : M → List (A × B)) (cmp : A → A → Ordering) (I : Tree → A → Type 0) (J : Tree → B → Type 0) (same : A → A → Type 0) (other : B → B → Type 0) → HasOne I same → HasOne J other →
     HasOne (λ t m. MapIs cmp I J t (see m)) (λ m n. SameMap cmp same other (see m) (see n))
 map_one {A} {B} see cmp I J same other one two t m n (ps, h, a) (qs, k, b) = (ps, qs, list_one (λ (x : List (A × B)). x) (EntryIs I J) (SameEntry same other) (entry_one I J same other one two) t ps qs h k, a, b)
+
+-- The entries of a map that fits are read again: its tree is one that a map reads, and the map is a
+-- value of that tree.
+pub map_again : {A B : Type 0} (cmp : A → A → Ordering) (k : Shape A) (s : Shape B) (es : List (A × B)) → (length es < 2 ^ 64) × AllFit (λ e. k.fits e.0 × s.fits e.1) es × (es ≡ inserted cmp es []) →
+    IsSeq (IsEntry k.reads s.reads) (Seq (trees (map (entry_tree k.tree s.tree) es))) × MapIs cmp k.value s.value (Seq (trees (map (entry_tree k.tree s.tree) es))) es
+map_again {A} {B} cmp k s es (n, f, e) =
+    let fits = λ (x : A × B). k.fits x.0 × s.fits x.1 in
+    let tree = entry_tree k.tree s.tree in
+    let (a, r) = each_read tree (IsEntry k.reads s.reads) fits (λ x q. (Then (k.tree x.0) (Then (s.tree x.1) NoTrees), refl, (k.tree x.0, Then (s.tree x.1) NoTrees, refl, (k.again x.0 q.0).0, (s.tree x.1, NoTrees, refl, (s.again x.1 q.1).0, refl)))) es f n in (
+      (trees (map tree es), refl, a, r),
+      (es, (trees (map tree es), refl, each_is tree (EntryIs k.value s.value) fits (λ x q. (Then (k.tree x.0) (Then (s.tree x.1) NoTrees), refl, (k.tree x.0, Then (s.tree x.1) NoTrees, refl, (k.again x.0 q.0).1, (s.tree x.1, NoTrees, refl, (s.again x.1 q.1).1, refl)))) es f), e),
+    )
+
+-- The shape of a map, seen as the list of its entries.
+abbrev pub entries : {A B : Type 0} → (A → A → Ordering) → Shape A → Shape B → Shape (List (A × B))
+entries cmp k s = record {
+  tree = λ m. Seq (trees (map (entry_tree k.tree s.tree) m));
+  refusal = λ m e. Any (λ x. k.refusal x.0 e ⊎ s.refusal x.1 e) m;
+  text = k.text ⊎ s.text;
+  reads = IsSeq (IsEntry k.reads s.reads);
+  value = MapIs cmp k.value s.value;
+  same = SameMap cmp k.same s.same;
+  other = or_memory (either k.other s.other);
+  fits = λ es. (length es < 2 ^ 64) × AllFit (λ e. k.fits e.0 × s.fits e.1) es × (es ≡ inserted cmp es []);
+  delimited = seq_delimited _ (group_delimited _ (then_delimited _ _ k.delimited (then_delimited _ _ s.delimited end_delimited)));
+  well_formed = seq_well_formed _ (group_well_formed _ (then_well_formed _ _ k.well_formed (then_well_formed _ _ s.well_formed end_well_formed)));
+  one_value = map_one (λ m. m) cmp k.value s.value k.same s.same k.one_value s.one_value;
+  again = map_again cmp k s;
+}
+
+-- Putting these elements one after another into a container of the elements vs gives one of ws, where
+-- `step x us ts` says that putting x into one of us gives one of ts.
+abbrev pub Puts : {V : Type 0} → (V → List V → List V → Type 0) → List V → List V → List V → Type 0
+Puts step [] vs ws = ws ≡ vs
+Puts {V} step (x ∷ xs) vs ws = (us : List V) × step x vs us × Puts step xs us ws
+
+-- A key is put into a set: it joins the others somewhere, unless it is equal to one of them.
+abbrev pub PutsKey : {A : Type 0} → (A → A → Bool) → A → List A → List A → Type 0
+PutsKey eq k ks ls = MatchBool (list_any (eq k) ks) (ls ≡ ks) (IsPermutation (k ∷ ks) ls)
+
+-- A pair is put into a map: it joins the entries somewhere, or its value replaces that of an equal key.
+abbrev pub PutsPair : {A B : Type 0} → (A → A → Bool) → A × B → List (A × B) → List (A × B) → Type 0
+PutsPair eq p es fs = MatchOption (lookup (eq p.0) es) (IsPermutation (p ∷ es) fs) (λ _. fs ≡ set_value (eq p.0) es p.1)
+
+-- The shape of a pair, as of the tuple of two parts.
+abbrev pub pair : {A B : Type 0} → Shape A → Shape B → Shape (A × B)
+pair k v = group (along (λ e. (e.0, (e.1, tt))) (then k (then v (none {V = Unit {0}}))))
+
+-- The shape of a container into which the elements of a list of the shape s are put one after another.
+abbrev pub put_in : {V : Type 0} → (V → List V → List V → Type 0) → Shape (List V) → Shape (List V)
+put_in {V} step s = record {
+  tree = s.tree;
+  refusal = s.refusal;
+  text = s.text;
+  reads = s.reads;
+  value = λ t vs. (xs : List V) × s.value t xs × Puts step xs [] vs;
+  same = λ vs ws. (xs : List V) × (ys : List V) × s.same xs ys × Puts step xs [] vs × Puts step ys [] ws;
+  other = or_memory s.other;
+  fits = λ vs. s.fits vs × Puts step vs [] vs;
+  delimited = s.delimited;
+  well_formed = s.well_formed;
+  one_value = λ t vs ws h k. (h.0, k.0, s.one_value t h.0 k.0 h.1 k.1, h.2, k.2);
+  again = λ vs f. let k = s.again vs f.0 in (k.0, (vs, k.1, f.1));
+}

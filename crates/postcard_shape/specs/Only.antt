@@ -1,7 +1,7 @@
 -- The shape of a type that has only some of another type's values, as the bytes up to 100: reading
 -- refuses the others.
-use Rattle.postcard_wire.specs.Tree.{Tree}
 use Rattle.postcard_wire.proofs.Delimited.{fewer_delimited}
+use Rattle.postcard_wire.specs.Tree.{Tree}
 use Rattle.postcard_shape.specs.Shape.{Shape}
 
 -- The tree is one that is read, and one of its values passes the test.

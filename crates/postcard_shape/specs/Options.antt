@@ -1,16 +1,28 @@
--- The values of truth values, characters, options and enums, and the law that those of one tree
--- look alike.
-use Rattle.std.specs.Prelude.{◌≡◌, ℕ, zero, suc, Bool, Option, None, Some, Result, Ok, Err}
-use Rattle.std.proofs.Common.{sym, ◌∙◌, subst}
-use Rattle.postcard_wire.specs.Tree.{Tree, Boolean, Char, Absent, Present, Variant}
-use Rattle.postcard_wire.specs.Reading.{IsDelimited, ReadsWellFormed}
-use Rattle.postcard_wire.proofs.Delimited.{none_delimited}
-use Rattle.postcard_shape.specs.Same.{HasOne}
+-- The shapes of options and results (wire format 1.0, "option" and "newtype_variant").
+use Rattle.std.proofs.Common.{sym, ◌∙◌, subst, refl, inl, inr, arith}
+use Rattle.std.specs.Prelude.{Option, Some, None, Result, Ok, Err, ◌≡◌, ℕ, zero, suc, IsSomeAnd, ◌⊎◌, ⊤}
+use Rattle.postcard_wire.proofs.Delimited.{none_delimited, option_delimited, variant_delimited}
+use Rattle.postcard_wire.proofs.WellFormed.{option_well_formed, variant_well_formed}
+use Rattle.postcard_wire.specs.Reading.{IsDelimited, ReadsWellFormed, IsOption, IsVariant}
+use Rattle.postcard_wire.specs.Tree.{Tree, Variant, Absent, Present}
+use Rattle.postcard_wire.specs.declared.error.Error.{Error}
+use Rattle.postcard_shape.specs.Cases.{VariantIs, variant_one}
+use Rattle.postcard_shape.specs.Shape.{HasOne, Shape, either}
+
+-- The tree of an option: absent, or present with the tree of its value.
+abbrev pub option_tree : {A : Type 0} → (A → Tree) → Option A → Tree
+option_tree f None = Absent
+option_tree f (Some x) = Present (f x)
 
 -- The option is a value of the tree: `None` of an absent one, `Some` of a present one.
 abbrev pub OptionIs : {V : Type 0} → (Tree → V → Type 0) → Tree → Option V → Type 0
 OptionIs value t None = t ≡ Absent
 OptionIs value t (Some v) = (s : Tree) × (t ≡ Present s) × value s v
+
+-- There is a value, and it is one of the tree.
+abbrev pub SomeIs : {V : Type 0} → (Tree → V → Type 0) → Tree → Option V → Type 0
+SomeIs value t None = ⊥
+SomeIs value t (Some v) = value t v
 
 -- Two options look alike: both are `None`, or both are `Some` of values that look alike.
 abbrev pub SameOption : {V : Type 0} → (V → V → Type 0) → Option V → Option V → Type 0
@@ -18,9 +30,49 @@ SameOption same None None = Unit {0}
 SameOption same (Some v) (Some w) = same v w
 SameOption same _ _ = ⊥
 
--- The value is one of the content, at the index of the tree.
-abbrev pub VariantIs : {V : Type 0} → (ℕ → Tree → V → Type 0) → Tree → V → Type 0
-VariantIs values t v = (i : ℕ) × (s : Tree) × (t ≡ Variant i s) × values i s v
+present_same : (s r : Tree) → Present s ≡ Present r → s ≡ r
+present_same s r e = cc
+
+absent_present : (s : Tree) → Absent ≡ Present s → ⊥
+absent_present s e = cc
+
+-- The options of one tree look alike if the values in them do.
+pub option_one : {V : Type 0} (value : Tree → V → Type 0) (same : V → V → Type 0) → HasOne value same → HasOne (OptionIs value) (SameOption same)
+option_one value same one t None None h k = tt
+option_one value same one t None (Some w) h k = absurd (absent_present k.0 (sym h ∙ k.1))
+option_one value same one t (Some v) None h k = absurd (absent_present h.0 (sym k ∙ h.1))
+option_one value same one t (Some v) (Some w) h k = one h.0 v w h.2 (subst (λ s. value s w) (present_same k.0 h.0 (sym k.1 ∙ h.1)) k.2)
+
+-- The value in an option, if there is one, fits.
+abbrev pub OptionFits : {V : Type 0} → (V → Type 0) → Option V → Type 0
+OptionFits fits None = ⊤
+OptionFits fits (Some v) = fits v
+
+pub option_again : {V : Type 0} (s : Shape V) (v : Option V) → OptionFits s.fits v → IsOption s.reads (option_tree s.tree v) × OptionIs s.value (option_tree s.tree v) v
+option_again s None f = (inl refl, refl)
+option_again s (Some v) f = let k = s.again v f in (inr (s.tree v, refl, k.0), (s.tree v, refl, k.1))
+
+-- The shape of an option of a value of this shape.
+abbrev pub option : {V : Type 0} → Shape V → Shape (Option V)
+option s = record {
+  tree = option_tree s.tree;
+  refusal = λ v e. IsSomeAnd v (λ x. s.refusal x e);
+  text = s.text;
+  reads = IsOption s.reads;
+  value = OptionIs s.value;
+  same = SameOption s.same;
+  other = s.other;
+  fits = OptionFits s.fits;
+  delimited = option_delimited s.reads s.delimited;
+  well_formed = option_well_formed s.reads s.well_formed;
+  one_value = option_one s.value s.same s.one_value;
+  again = option_again s;
+}
+
+-- The tree of a result: an enum with `Ok` at index 0 and `Err` at index 1.
+abbrev pub result_tree : {A E : Type 0} → (A → Tree) → (E → Tree) → Result A E → Tree
+result_tree f g (Ok x) = Variant 0 (f x)
+result_tree f g (Err e) = Variant 1 (g e)
 
 -- The trees of a `Result`'s content by index: those of `Ok` at 0, those of `Err` at 1, and none at
 -- others.
@@ -40,39 +92,6 @@ abbrev pub SameResult : {V W : Type 0} → (V → V → Type 0) → (W → W →
 SameResult same other (Ok v) (Ok w) = same v w
 SameResult same other (Err v) (Err w) = other v w
 SameResult same other _ _ = ⊥
-
-boolean_same : (x y : Bool) → Boolean x ≡ Boolean y → x ≡ y
-boolean_same x y e = cc
-
-present_same : (s r : Tree) → Present s ≡ Present r → s ≡ r
-present_same s r e = cc
-
-absent_present : (s : Tree) → Absent ≡ Present s → ⊥
-absent_present s e = cc
-
-index_same : (i j : ℕ) (s r : Tree) → Variant i s ≡ Variant j r → i ≡ j
-index_same i j s r e = cc
-
-content_same : (i j : ℕ) (s r : Tree) → Variant i s ≡ Variant j r → s ≡ r
-content_same i j s r e = cc
-
--- The truth values of one tree are equal.
-pub boolean_one : HasOne (λ t v. t ≡ Boolean v) (λ v w. v ≡ w)
-boolean_one t v w h k = boolean_same v w (sym h ∙ k)
-
--- The options of one tree look alike if the values in them do.
-pub option_one : {V : Type 0} (value : Tree → V → Type 0) (same : V → V → Type 0) → HasOne value same → HasOne (OptionIs value) (SameOption same)
-option_one value same one t None None h k = tt
-option_one value same one t None (Some w) h k = absurd (absent_present k.0 (sym h ∙ k.1))
-option_one value same one t (Some v) None h k = absurd (absent_present h.0 (sym k ∙ h.1))
-option_one value same one t (Some v) (Some w) h k = one h.0 v w h.2 (subst (λ s. value s w) (present_same k.0 h.0 (sym k.1 ∙ h.1)) k.2)
-
--- The enums of one tree look alike if the values of one content do at each index.
-pub variant_one : {V : Type 0} (values : ℕ → Tree → V → Type 0) (same : V → V → Type 0) → ((i : ℕ) → HasOne (values i) same) → HasOne (VariantIs values) same
-variant_one values same one t v w h k =
-    let e = sym k.2 ∙ h.2 in
-    let a : values h.0 k.1 w = subst (λ i. values i k.1 w) (index_same k.0 h.0 k.1 h.1 e) k.3 in
-    one h.0 h.1 v w h.3 (subst (λ s. values h.0 s w) (content_same k.0 h.0 k.1 h.1 e) a)
 
 -- The results of one content look alike, at each index.
 pub result_one : {V W : Type 0} (I : Tree → V → Type 0) (J : Tree → W → Type 0) (same : V → V → Type 0) (other : W → W → Type 0) → HasOne I same → HasOne J other → (i : ℕ) → HasOne (ResultIs I J i) (SameResult same other)
@@ -95,9 +114,33 @@ result_well_formed R E a b zero = a
 result_well_formed R E a b (suc zero) = b
 result_well_formed R E a b (suc (suc i)) = λ t r. absurd r
 
-char_same : (a b : ℕ) → Char a ≡ Char b → a ≡ b
-char_same a b e = cc
+-- The value in a result, of either variant, fits.
+abbrev pub ResultFits : {V W : Type 0} → (V → Type 0) → (W → Type 0) → Result V W → Type 0
+ResultFits good bad (Ok v) = good v
+ResultFits good bad (Err w) = bad w
 
--- The characters of one tree are equal.
-pub char_one : HasOne (λ t v. t ≡ Char v) (λ v w. v ≡ w)
-char_one t v w h k = char_same v w (sym h ∙ k)
+pub result_again : {V W : Type 0} (s : Shape V) (e : Shape W) (v : Result V W) → ResultFits s.fits e.fits v → IsVariant (ResultReads s.reads e.reads) (result_tree s.tree e.tree v) × VariantIs (ResultIs s.value e.value) (result_tree s.tree e.tree v) v
+result_again s e (Ok v) f = let k = s.again v f in ((0, s.tree v, refl, omega arith, k.0), (0, s.tree v, refl, k.1))
+result_again s e (Err w) f = let k = e.again w f in ((1, e.tree w, refl, omega arith, k.0), (1, e.tree w, refl, k.1))
+
+-- The value in a result, of either variant, refuses itself with the error.
+abbrev pub result_refusal : {V W : Type 0} → (V → Error → Type 0) → (W → Error → Type 0) → Result V W → Error → Type 0
+result_refusal good bad (Ok v) = good v
+result_refusal good bad (Err w) = bad w
+
+-- The shape of a result of values of these shapes.
+abbrev pub result : {V W : Type 0} → Shape V → Shape W → Shape (Result V W)
+result s t = record {
+  tree = result_tree s.tree t.tree;
+  refusal = result_refusal s.refusal t.refusal;
+  text = s.text ⊎ t.text;
+  reads = IsVariant (ResultReads s.reads t.reads);
+  value = VariantIs (ResultIs s.value t.value);
+  same = SameResult s.same t.same;
+  other = either s.other t.other;
+  fits = ResultFits s.fits t.fits;
+  delimited = variant_delimited _ (result_delimited s.reads t.reads s.delimited t.delimited);
+  well_formed = variant_well_formed _ (result_well_formed s.reads t.reads s.well_formed t.well_formed);
+  one_value = variant_one _ _ (result_one s.value t.value s.same t.same s.one_value t.one_value);
+  again = result_again s t;
+}

@@ -1,13 +1,40 @@
 -- The shapes of parts in a row: tuples and structs (wire format 1.0, "tuple" and "struct").
-use Rattle.std.specs.Prelude.{◌⊎◌, ⊤}
-use Rattle.std.proofs.Common.{refl}
-use Rattle.postcard_wire.specs.Tree.{Trees, Group, NoTrees, Then}
-use Rattle.postcard_wire.specs.declared.error.Error.{Error}
-use Rattle.postcard_wire.specs.Reading.{AreDelimited, PartsWellFormed, IsEnd, IsThen, IsGroup}
+use Rattle.std.proofs.Common.{sym, ◌∙◌, subst, refl}
+use Rattle.std.specs.Prelude.{◌≡◌, ◌⊎◌, ⊤}
 use Rattle.postcard_wire.proofs.Delimited.{end_delimited, then_delimited, group_delimited}
 use Rattle.postcard_wire.proofs.WellFormed.{end_well_formed, then_well_formed, group_well_formed}
-use Rattle.postcard_shape.specs.Parts.{end_one, then_one, group_one}
-use Rattle.postcard_shape.specs.Shape.{Shape, never, either}
+use Rattle.postcard_wire.specs.Reading.{IsEnd, IsThen, IsGroup, AreDelimited, PartsWellFormed}
+use Rattle.postcard_wire.specs.Tree.{Tree, Group, Then, NoTrees, Trees}
+use Rattle.postcard_wire.specs.declared.error.Error.{Error}
+use Rattle.postcard_shape.specs.Shape.{HasOne, Shape, never, either}
+
+-- The tree of two values one after the other, with no count before them.
+abbrev pub pair_tree : Tree → Tree → Tree
+pair_tree s t = Group (Then s (Then t NoTrees))
+
+first_same : (s r : Tree) (ss rs : Trees) → Then s ss ≡ Then r rs → s ≡ r
+first_same s r ss rs e = cc
+
+rest_same : (s r : Tree) (ss rs : Trees) → Then s ss ≡ Then r rs → ss ≡ rs
+rest_same s r ss rs e = cc
+
+group_same : (ts ss : Trees) → Group ts ≡ Group ss → ts ≡ ss
+group_same ts ss e = cc
+
+-- The empty row has one value.
+pub end_one : (ts : Trees) → IsEnd ts → IsEnd ts → Unit {0}
+end_one ts h k = tt
+
+-- A row looks alike if its first part and those after it do.
+pub then_one : {V : Type 0} {I : Tree → V → Type 0} {same : V → V → Type 0} {v w : V} {K L : Trees → Type 0} {Z : Type 0} → HasOne I same → ((ts : Trees) → K ts → L ts → Z) → (ts : Trees) → IsThen (λ t. I t v) K ts → IsThen (λ t. I t w) L ts → same v w × Z
+then_one {I = I} {v = v} {w = w} {L = L} one rest ts (s, ss, e, a, b) (r, rs, f, c, d) =
+    let x = first_same r s rs ss (sym f ∙ e) in
+    let y = rest_same r s rs ss (sym f ∙ e) in
+    (one s v w a (subst (λ t. I t w) x c), rest ss b (subst L y d))
+
+-- A tuple or a struct looks alike if its parts do.
+pub group_one : {K L : Trees → Type 0} {Z : Type 0} → ((ts : Trees) → K ts → L ts → Z) → (t : Tree) → IsGroup K t → IsGroup L t → Z
+group_one {L = L} one t (ts, e, a) (ss, f, b) = one ts a (subst L (group_same ss ts (sym f ∙ e)) b)
 
 -- What a `Shape` says, said of parts in a row: the trees of the parts, in order, and the laws that
 -- tie them.

@@ -1,11 +1,14 @@
 -- What a type says of its values, once for both directions: the tree that each is written as, the
 -- trees that are read and their values, when two values look alike, and the laws that tie them.
 use Rattle.std.specs.Prelude.{◌⊎◌, ⊤}
-use Rattle.postcard_wire.specs.Tree.{Tree}
 use Rattle.postcard_wire.specs.Reading.{IsDelimited, ReadsWellFormed}
+use Rattle.postcard_wire.specs.Tree.{Tree}
 use Rattle.postcard_wire.specs.declared.error.Error.{Error}
 use Rattle.postcard_wire.specs.declared.error.Error.TheVariants.{OutOfMemory}
-use Rattle.postcard_shape.specs.Same.{HasOne}
+
+-- Any two values of one tree look alike.
+abbrev pub HasOne : {V : Type 0} → (Tree → V → Type 0) → (V → V → Type 0) → Type 0
+HasOne {V} value same = (t : Tree) (v w : V) → value t v → value t w → same v w
 
 -- The shape of a type: all that a contract says of its values on the wire.
 pub record Shape (V : Type 0) : Type 1 where

@@ -3,7 +3,7 @@
 ghost use Rattle.std.specs.Prelude.{◌≡◌, IfErr, IfOk, IfSome};
 ghost use Rattle.postcard_shape.specs.First.{AreFirst};
 ghost use Rattle.postcard_shape.specs.Shape.{Shape, via};
-ghost use Rattle.postcard_shape.specs.Values.{AreOfBytes};
+ghost use Rattle.postcard_shape.specs.Lists.{AreOfBytes};
 
 use crate::first::FirstBytes;
 use postcard_wire::{Error, Result};

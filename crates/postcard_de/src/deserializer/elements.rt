@@ -5,10 +5,8 @@ ghost use Rattle.postcard_wire.specs.Spelling.{Spells};
 ghost use Rattle.postcard_wire.specs.Reading.{IsGroup, IsSeq, IsArray};
 ghost use Rattle.postcard_de.specs.Reads.{Reads};
 ghost use Rattle.postcard_de.specs.Deserializer.{source_of};
-ghost use Rattle.postcard_shape.specs.Values.{EachIs, ListIs};
-ghost use Rattle.postcard_shape.specs.Fixed.{IsFewSeq};
-ghost use Rattle.postcard_shape.specs.Maps.{IsEntry, MapIs};
-ghost use Rattle.postcard_shape.specs.Sets.{SetIs};
+ghost use Rattle.postcard_shape.specs.Lists.{EachIs, ListIs, IsFewSeq};
+ghost use Rattle.postcard_shape.specs.Maps.{IsEntry, MapIs, SetIs};
 ghost use Rattle.postcard_shape.specs.Shape.{or_memory, either};
 
 use crate::deserializer::Deserializer;

@@ -5,7 +5,7 @@ ghost use Rattle.postcard_wire.specs.Number.{SpellsNum};
 ghost use Rattle.postcard_wire.specs.Spelling.{Spells};
 ghost use Rattle.postcard_de.specs.Reads.{Reads};
 ghost use Rattle.postcard_de.specs.Refuses.{Refuses, WantsDigit, BadNumber};
-ghost use Rattle.postcard_shape.specs.Values.{Same};
+ghost use Rattle.postcard_shape.specs.Leaves.{Same};
 ghost use Rattle.postcard_shape.specs.Shape.{never};
 ghost use Rattle.postcard_de.specs.Deserializer.{source_of};
 

@@ -3,7 +3,7 @@
 ghost use Rattle.std.specs.Prelude.{◌≡◌, IfErr};
 ghost use Rattle.postcard_wire.specs.Tree.{Text};
 ghost use Rattle.postcard_wire.specs.Spelling.{Spells};
-ghost use Rattle.postcard_shape.specs.Fixed.{IsShortText};
+ghost use Rattle.postcard_shape.specs.Leaves.{IsShortText};
 ghost use Rattle.postcard_shape.specs.Shape.{never};
 ghost use Rattle.postcard_de.specs.Reads.{Reads};
 ghost use Rattle.postcard_de.specs.Refuses.{Refuses, WantsText};

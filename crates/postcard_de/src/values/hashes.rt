@@ -3,7 +3,7 @@
 ghost use Rattle.std.specs.Prelude.{◌≡◌, [], IfErr, IfOk};
 ghost use Rattle.postcard_wire.specs.declared.error.Error.{Error};
 ghost use Rattle.postcard_wire.specs.Spelling.{Spells};
-ghost use Rattle.postcard_shape.specs.Puts.{Puts, PutsKey, PutsPair};
+ghost use Rattle.postcard_shape.specs.Maps.{Puts, PutsKey, PutsPair};
 ghost use Rattle.postcard_de.specs.Reads.{Reads};
 ghost use Rattle.postcard_de.specs.Deserializer.{source_of};
 

@@ -5,7 +5,7 @@ ghost use Rattle.std.specs.Prelude.{◌≡◌, IfErr, IfOk};
 ghost use Rattle.postcard_wire.specs.Tree.{Byte};
 ghost use Rattle.postcard_wire.specs.Spelling.{Spells};
 ghost use Rattle.postcard_wire.specs.Reading.{IsByte, IsSeq};
-ghost use Rattle.postcard_shape.specs.Values.{ListIs};
+ghost use Rattle.postcard_shape.specs.Lists.{ListIs};
 ghost use Rattle.postcard_shape.specs.Shape.{never};
 ghost use Rattle.postcard_de.specs.Reads.{Reads};
 ghost use Rattle.postcard_de.specs.Refuses.{Refuses, BadNumber, WantsText};

@@ -9,7 +9,7 @@ ghost use Rattle.std.specs.Int.NonZero.{non_zero_i64_get, non_zero_i128_get, non
 ghost use Rattle.postcard_wire.specs.Tree.{Byte, Num, Int};
 ghost use Rattle.postcard_wire.specs.Spelling.{Spells};
 ghost use Rattle.postcard_wire.specs.Reading.{IsByte, IsNum, IsInt};
-ghost use Rattle.postcard_shape.specs.Numbers.{Without};
+ghost use Rattle.postcard_shape.specs.Leaves.{Without};
 ghost use Rattle.postcard_shape.specs.Shape.{never};
 ghost use Rattle.postcard_de.specs.Reads.{Reads};
 ghost use Rattle.postcard_de.specs.Refuses.{Refuses, WantsByte, WantsDigit};

@@ -3,7 +3,8 @@
 ghost use Rattle.std.specs.Prelude.{◌⊎◌, IfErr};
 ghost use Rattle.postcard_wire.specs.Spelling.{Spells};
 ghost use Rattle.postcard_wire.specs.Reading.{IsOption, IsVariant};
-ghost use Rattle.postcard_shape.specs.Options.{OptionIs, ResultReads, ResultIs, VariantIs};
+ghost use Rattle.postcard_shape.specs.Options.{OptionIs, ResultReads, ResultIs};
+ghost use Rattle.postcard_shape.specs.Cases.{VariantIs};
 ghost use Rattle.postcard_shape.specs.Shape.{either};
 ghost use Rattle.postcard_de.specs.Reads.{Reads};
 ghost use Rattle.postcard_de.specs.Refuses.{Refuses, WantsByte, WantsDigit};

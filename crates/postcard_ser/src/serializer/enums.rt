@@ -3,7 +3,7 @@
 ghost use Rattle.std.specs.Prelude.{OnOk};
 ghost use Rattle.postcard_wire.specs.Spelling.{canonical};
 ghost use Rattle.postcard_wire.specs.Tree.{Num, Variant};
-ghost use Rattle.postcard_shape.specs.Compound.{unit_variant};
+ghost use Rattle.postcard_shape.specs.Enumerations.{unit_variant};
 ghost use Rattle.postcard_ser.specs.Writing.{Wrote, never};
 
 use crate::serialize::Serialize;

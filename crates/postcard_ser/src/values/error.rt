@@ -1,7 +1,7 @@
 //! Errors as values: written as their index.
 
 ghost use Rattle.std.specs.Prelude.{◌≡◌, ◌<◌};
-ghost use Rattle.postcard_shape.specs.Errors.{error_index};
+ghost use Rattle.postcard_shape.specs.Enumerations.{error_index};
 
 use crate::cases::serialize_variant;
 use crate::serialize::Serialize;

@@ -5,7 +5,7 @@ ghost use Rattle.std.specs.Prelude.{Any, map, OnOk};
 ghost use Rattle.postcard_wire.specs.Spelling.{canonical_all};
 ghost use Rattle.postcard_wire.specs.Tree.{trees};
 ghost use Rattle.postcard_shape.specs.Lists.{AllFit};
-ghost use Rattle.postcard_shape.specs.Puts.{pair};
+ghost use Rattle.postcard_shape.specs.Maps.{pair};
 ghost use Rattle.postcard_ser.specs.Writing.{Wrote};
 
 use crate::serialize::Serialize;

@@ -1,7 +1,7 @@
 //! The shapes of sets and maps that find a key by its hash.
 
 ghost use Rattle.postcard_shape.specs.Lists.{seq};
-ghost use Rattle.postcard_shape.specs.Puts.{PutsKey, PutsPair, pair, put_in};
+ghost use Rattle.postcard_shape.specs.Maps.{PutsKey, PutsPair, pair, put_in};
 ghost use Rattle.postcard_shape.specs.Shape.{via};
 
 use crate::shape::Shaped;

@@ -1,8 +1,7 @@
 //! The shape of heaps: a list of the elements, in any order.
 
 ghost use Rattle.std.specs.BinaryHeap.{heap_items};
-ghost use Rattle.postcard_shape.specs.Heaps.{in_any_order};
-ghost use Rattle.postcard_shape.specs.Lists.{seq};
+ghost use Rattle.postcard_shape.specs.Lists.{in_any_order, seq};
 ghost use Rattle.postcard_shape.specs.Shape.{via, growing};
 
 use crate::shape::Shaped;

@@ -1,7 +1,7 @@
 //! The shapes of maps.
 
 ghost use Rattle.postcard_shape.specs.Shape.{via};
-ghost use Rattle.postcard_shape.specs.Entries.{entries};
+ghost use Rattle.postcard_shape.specs.Maps.{entries};
 
 use crate::shape::Shaped;
 use std::collections::BTreeMap;

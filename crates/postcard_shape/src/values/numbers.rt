@@ -5,7 +5,7 @@ ghost use Rattle.std.specs.Prelude.{slice_index};
 ghost use Rattle.std.proofs.Common.{inl, inr};
 ghost use Rattle.postcard_shape.specs.First.{AreFirst, IsWhole};
 ghost use Rattle.postcard_shape.specs.Leaves.{byte, signed_byte, num, int};
-ghost use Rattle.postcard_shape.specs.Values.{AreOfBytes};
+ghost use Rattle.postcard_shape.specs.Lists.{AreOfBytes};
 
 use crate::first::FirstBytes;
 use crate::shape::Shaped;

@@ -1,6 +1,6 @@
 //! The shapes of options and results.
 
-ghost use Rattle.postcard_shape.specs.Choices.{option, result};
+ghost use Rattle.postcard_shape.specs.Options.{option, result};
 
 use crate::shape::Shaped;
 

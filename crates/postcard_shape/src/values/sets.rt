@@ -1,7 +1,7 @@
 //! The shapes of sets.
 
 ghost use Rattle.postcard_shape.specs.Shape.{via};
-ghost use Rattle.postcard_shape.specs.Sets.{keys};
+ghost use Rattle.postcard_shape.specs.Maps.{keys};
 
 use crate::shape::Shaped;
 use std::collections::BTreeSet;

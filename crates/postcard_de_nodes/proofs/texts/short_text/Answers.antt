@@ -1,7 +1,7 @@
 use Rattle.std.proofs.Common.{◌≡◌, ℕ, ◌≤◌, ◌<◌, ◌^◌, inl, List, length, refl, ◌∙◌, rules}
 use Rattle.std.specs.Prelude.{IsUtf8}
 use Rattle.postcard_shape.specs.Shape.{never}
-use Rattle.postcard_shape.specs.Fixed.{short_text_inside}
+use Rattle.postcard_shape.specs.Leaves.{short_text_inside}
 use Rattle.postcard_de_nodes.specs.ReadLemmas.{widened}
 use Rattle.postcard_de_nodes.proofs.TextLemmas.{text_refused, length_refused, text_ends, text_bad}
 use Rattle.postcard_de_nodes.proofs.TextLemmas.{text_read}

@@ -1,7 +1,7 @@
 use Rattle.std.proofs.Common.{◌≡◌, ◌-◌, List, []}
 use Rattle.postcard_shape.specs.Shape.{or_memory}
 use Rattle.postcard_de.specs.Deserializer.{source_of}
-use Rattle.postcard_shape.specs.Sets.{keys_inserted}
+use Rattle.postcard_shape.specs.Maps.{keys_inserted}
 use Rattle.postcard_de.proofs.Lists.{Going}
 use Rattle.postcard_de.proofs.deserializer.Deserializer.set.Given as goal
 

@@ -6,7 +6,7 @@ use Rattle.std.specs.List.Sorted.{IsPermutation}
 use Rattle.std.specs.Map.{lookup, set_value}
 use Rattle.std.specs.Vec.Iter.{into_iter_items}
 use Rattle.postcard_shape.proofs.Distinct.{puts_last}
-use Rattle.postcard_shape.specs.Puts.{Puts, PutsPair}
+use Rattle.postcard_shape.specs.Maps.{Puts, PutsPair}
 use Rattle.postcard_de.proofs.values.hashes.map_of.Goals as goal
 
 -- The pair p is put into a map of the entries es, which then has fs.

@@ -1,7 +1,7 @@
 -- Putting the pairs before the current one into an empty container makes this one.
 use Rattle.std.proofs.Common.{◌≡◌, ◌++◌, List, []}
 use Rattle.std.specs.Vec.Iter.{into_iter_items}
-use Rattle.postcard_shape.specs.Puts.{Puts, PutsPair}
+use Rattle.postcard_shape.specs.Maps.{Puts, PutsPair}
 use Rattle.postcard_de.proofs.values.hashes.map_of.Given as goal
 
 abbrev pub invariant-loop-key : goal.invariant-loop-key

@@ -3,7 +3,7 @@ use Rattle.std.proofs.Common.{Bool, true, false, not, [], ◌∷◌, ◌++◌, �
 use Rattle.std.specs.Bool.{MatchBool}
 use Rattle.std.specs.Vec.Iter.{into_iter_items}
 use Rattle.postcard_shape.proofs.Distinct.{puts_last}
-use Rattle.postcard_shape.specs.Puts.{PutsKey}
+use Rattle.postcard_shape.specs.Maps.{PutsKey}
 use Rattle.postcard_de.proofs.values.hashes.set_of.Goals as goal
 
 -- What holds in two cases holds in them by the opposite of what tells them apart.

@@ -2,7 +2,7 @@
 use Rattle.std.proofs.Common.{[], ◌∷◌, ◌++◌, ◌≡◌, List, sym, ap, subst, ◌∙◌, append_assoc, append-nil}
 use Rattle.postcard_shape.proofs.Fitting.{all_append}
 use Rattle.postcard_shape.specs.Lists.{AllFit}
-use Rattle.postcard_shape.specs.Puts.{pair}
+use Rattle.postcard_shape.specs.Maps.{pair}
 use Rattle.postcard_ser.proofs.PartByPart.{wrote_err}
 use Rattle.postcard_ser.proofs.Walked.{one_more, one_refused}
 use Rattle.postcard_ser.proofs.values.hashes.serialize_pairs.Goals as goal

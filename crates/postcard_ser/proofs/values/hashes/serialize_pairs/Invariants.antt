@@ -4,7 +4,7 @@ use Rattle.std.specs.Prelude.{map}
 use Rattle.postcard_wire.specs.Spelling.{canonical_all}
 use Rattle.postcard_wire.specs.Tree.{trees}
 use Rattle.postcard_shape.specs.Lists.{AllFit}
-use Rattle.postcard_shape.specs.Puts.{pair}
+use Rattle.postcard_shape.specs.Maps.{pair}
 use Rattle.postcard_ser.specs.Writing.{Wrote, never}
 use Rattle.postcard_ser.proofs.values.hashes.serialize_pairs.Given as goal
 

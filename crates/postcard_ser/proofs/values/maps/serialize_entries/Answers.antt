@@ -5,7 +5,7 @@ use Rattle.postcard_wire.specs.Spelling.{canonical_all}
 use Rattle.postcard_wire.specs.Tree.{trees}
 use Rattle.postcard_wire.specs.declared.error.Error.{Error}
 use Rattle.postcard_shape.proofs.Fitting.{all_append}
-use Rattle.postcard_shape.specs.Compound.{entry_tree}
+use Rattle.postcard_shape.specs.Maps.{entry_tree}
 use Rattle.postcard_shape.specs.Lists.{AllFit}
 use Rattle.postcard_ser.specs.Writing.{Wrote, never}
 use Rattle.postcard_ser.proofs.Elements.{elements_append}

@@ -3,7 +3,7 @@ use Rattle.std.proofs.Common.{◌≡◌, ◌++◌, List, Ok}
 use Rattle.std.specs.Prelude.{map}
 use Rattle.postcard_wire.specs.Spelling.{canonical_all}
 use Rattle.postcard_wire.specs.Tree.{trees}
-use Rattle.postcard_shape.specs.Compound.{entry_tree}
+use Rattle.postcard_shape.specs.Maps.{entry_tree}
 use Rattle.postcard_shape.specs.Lists.{AllFit}
 use Rattle.postcard_ser.specs.Writing.{Wrote, never}
 use Rattle.postcard_ser.proofs.values.maps.serialize_entries.Given as goal

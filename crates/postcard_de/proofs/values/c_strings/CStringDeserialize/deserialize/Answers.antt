@@ -2,8 +2,8 @@
 use Rattle.std.proofs.Common.{◌≡◌, List, ℕ, subst}
 use Rattle.std.specs.Ffi.{HasNoNul}
 use Rattle.postcard_wire.specs.Tree.{Byte}
-use Rattle.postcard_shape.specs.One.{byte_one}
-use Rattle.postcard_shape.specs.Same.{list_one, same_list}
+use Rattle.postcard_shape.specs.Leaves.{byte_one}
+use Rattle.postcard_shape.specs.Lists.{list_one, same_list}
 use Rattle.postcard_de_nodes.specs.SeenLemmas.{unfit}
 use Rattle.postcard_de.proofs.Lists.{at_none}
 use Rattle.postcard_de.proofs.values.c_strings.CStringDeserialize.deserialize.Goals as goal

@@ -2,7 +2,7 @@
 use Rattle.std.proofs.Common.{arith}
 use Rattle.std.proofs.lemmas.Result.{on_ok_weaker}
 use Rattle.postcard_shape.proofs.Distinct.{pairs_itself}
-use Rattle.postcard_shape.specs.Puts.{pair}
+use Rattle.postcard_shape.specs.Maps.{pair}
 use Rattle.postcard_ser.proofs.Elements.{elements_count}
 use Rattle.postcard_ser.proofs.PartByPart.{wrote_then, wrote_stop, wrote_err}
 use Rattle.postcard_ser.proofs.values.hashes.HashMapSerialize.serialize.Goals as goal
