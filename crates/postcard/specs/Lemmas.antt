@@ -49,11 +49,13 @@ pub use Rattle.postcard_de.proofs.Enums.{unknown_index}
 pub use Rattle.postcard_de_nodes.specs.SeenLemmas.{no_room}
 -- Errors of parts are among those of a type that allocates.
 pub use Rattle.postcard_de_nodes.specs.ErrorLemmas.{with_memory, only_memory}
--- A reading loop of a caller: the state within a piece that is fed, the answers of bytes in a row,
--- and when a feed may return `DeserError`.
+-- A reading loop of a caller: the state within a piece that is fed, and the answers of bytes in a
+-- row; and what a feed of a caller, by `take_in`, may return.
 pub use Rattle.postcard_accumulator.proofs.ReadLoop.{AtWindow, at_start, at_next, at_end, shorter}
 pub use Rattle.postcard_accumulator.proofs.Joining.{joined_law}
-pub use Rattle.postcard_accumulator.proofs.Holding.{read_refused, read_err}
+pub use Rattle.postcard_accumulator.proofs.Taking.{read_consumed, read_over_full}
+pub use Rattle.postcard_accumulator.proofs.Taking.{read_refused, read_err, read_ok}
+pub use Rattle.postcard_accumulator.proofs.Fronts.{refused_none, refused_data, value_read}
 
 -- A `u16`, that is, a number below 2^16, takes at most 3 bytes.
 pub u16_len : (n : ℕ) → n < 2 ^ 16 → length (digits n) ≤ 3

@@ -4,7 +4,8 @@ use Rattle.std.proofs.Common.{subst, ◌∙◌, arith}
 use native.Mathlib.Decide.{dec_le}
 use Rattle.postcard_shape.specs.Shape.{Shape, Grows}
 use Rattle.postcard_accumulator.specs.State.{State, holding, skipping}
-use Rattle.postcard_accumulator.specs.Streams.{IsOwn, IsAnswerOf, AreAnswersOf, IsAnswered}
+use Rattle.postcard_accumulator.specs.Streams.{IsAnswerOf, AreAnswersOf, IsAnswered}
+use Rattle.postcard_accumulator.specs.Values.{IsOwn}
 use Rattle.postcard_accumulator.specs.Laws.{IsAlike, AreAlike, AnswersAreOne, DamageStays}
 use Rattle.postcard_accumulator.specs.declared.answers.Answer.{Answer}
 use Rattle.postcard_accumulator.specs.declared.answers.Answer.TheVariants.{OverFull, DeserError}
@@ -23,16 +24,16 @@ module _ {T : Type 0} (n : ℕ) (shape : Shape T) (still : ¬ Grows shape) where
   own_alike f DeserError OverFull p q = absurd q
   own_alike f OverFull y p q = absurd p
 
-  answer_alike : (f : List ℕ) (a b : Answer T) → IsAnswerOf n shape f a → IsAnswerOf n shape f b
+  answer_alike : (f : List ℕ) (a b : Answer T) → IsAnswerOf n (IsOwn shape) f a → IsAnswerOf n (IsOwn shape) f b
       → IsAlike shape a b
   answer_alike f a b p q = elim (dec_le (length f + 1) n) [
-    | yes l ↦ own_alike f a b (p.own l) (q.own l)
+    | yes l ↦ own_alike f a b (p.its_own l) (q.its_own l)
     | no l ↦ let long : n < length f + 1 = omega (arith, l) in
         rw (p.over_full long, q.over_full long) tt
   ]
 
-  answers_alike : (fs : List (List ℕ)) (a b : List (Answer T)) → AreAnswersOf n shape fs a
-      → AreAnswersOf n shape fs b → AreAlike shape a b
+  answers_alike : (fs : List (List ℕ)) (a b : List (Answer T)) → AreAnswersOf n (IsOwn shape) fs a
+      → AreAnswersOf n (IsOwn shape) fs b → AreAlike shape a b
   answers_alike [] [] [] p q = tt
   answers_alike [] [] (y ∷ b) p q = absurd q
   answers_alike [] (x ∷ a) b p q = absurd p
@@ -48,12 +49,12 @@ module _ {T : Type 0} (n : ℕ) (shape : Shape T) (still : ¬ Grows shape) where
   more_alike (x ∷ xs) [] p = absurd p
   more_alike (x ∷ xs) (y ∷ ys) p = (p.0, more_alike xs ys p.1)
 
-  answered_alike : (s : List ℕ) (a b : List (Answer T)) (d e : State) → IsAnswered n shape s a d
-      → IsAnswered n shape s b e → AreAlike shape a b × (d ≡ e)
+  answered_alike : (s : List ℕ) (a b : List (Answer T)) (d e : State) → IsAnswered n (IsOwn shape) s a d
+      → IsAnswered n (IsOwn shape) s b e → AreAlike shape a b × (d ≡ e)
   answered_alike s a b d e p q =
       let u = one_split s p.frames q.frames p.rest q.rest p.split q.split in
-      let each : AreAnswersOf n shape p.frames q.parts =
-      subst (λ (x : List (List ℕ)). AreAnswersOf n shape x q.parts) (sym u.0) q.each in
+      let each : AreAnswersOf n (IsOwn shape) p.frames q.parts =
+      subst (λ (x : List (List ℕ)). AreAnswersOf n (IsOwn shape) x q.parts) (sym u.0) q.each in
       let same = answers_alike p.frames p.parts q.parts p.each each in
       let l1 = ap length u.1 in
       elim (dec_le (length p.rest) n) [
@@ -76,7 +77,7 @@ alike_law shape still n skipping d e s a b (inr p) (inl q) = absurd (has_zero s 
 alike_law shape still n skipping d e s a b (inr p) (inr q) =
     elim (zero_cut p.0 q.0 p.1 q.1 p.2.0 (sym p.2.1 ∙ q.2.1)) [
       | inl c ↦ answered_alike n shape still p.1 a b d e p.3
-          (subst (λ (x : List ℕ). IsAnswered n shape x b e) (sym c.1) q.3)
+          (subst (λ (x : List ℕ). IsAnswered n (IsOwn shape) x b e) (sym c.1) q.3)
       | inr c ↦ absurd (has_zero q.0 p.0 c.0 (p.2.0, c.1) q.2.0)
     ]
 

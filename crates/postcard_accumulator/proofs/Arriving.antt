@@ -9,8 +9,8 @@ use Rattle.postcard_wire.specs.Spelling.{canonical}
 use Rattle.postcard_shape.specs.Shape.{Shape}
 use Rattle.postcard_shape.proofs.Again.{is_spelled}
 use Rattle.postcard_accumulator.specs.State.{holding}
-use Rattle.postcard_accumulator.specs.Feeding.{IsValueOf}
-use Rattle.postcard_accumulator.specs.Streams.{IsOwn, AreAnswersOf, AreZeroFree, IsSplit, ended}
+use Rattle.postcard_accumulator.specs.Streams.{AreAnswersOf, AreZeroFree, IsSplit, ended}
+use Rattle.postcard_accumulator.specs.Values.{IsValueOf, IsOwn}
 use Rattle.postcard_accumulator.specs.Messages.{Sent, message, oversized, stream_of, AreSent}
 use Rattle.postcard_accumulator.specs.Messages.{Arrive, MessagesArrive}
 use Rattle.postcard_accumulator.specs.declared.answers.Answer.{Answer}
@@ -74,7 +74,7 @@ module _ {T : Type 0} (n : ℕ) (shape : Shape T) where
   over_arrives f a more b e rest = rw e rest
 
   arrive : (sent : List (Sent T)) (s : AreSent n shape sent) (b : List (Answer T))
-      → AreAnswersOf n shape (frames_of sent s) b → Arrive shape sent b
+      → AreAnswersOf n (IsOwn shape) (frames_of sent s) b → Arrive shape sent b
   arrive [] s [] p = tt
   arrive [] s (a ∷ b) p = absurd p
   arrive (message v frame ∷ more) s [] p = absurd p
@@ -82,7 +82,7 @@ module _ {T : Type 0} (n : ℕ) (shape : Shape T) where
       let m = made_frame (canonical (shape.tree v)) frame s.1 in
       let l = ap length m.2 ∙ length-append m.0 (0 ∷ []) in
       let room = s.2 in
-      own_arrives v m.0 a more b frame s.0 m.3 (p.0.own (omega arith)) (arrive more s.3 b p.1)
+      own_arrives v m.0 a more b frame s.0 m.3 (p.0.its_own (omega arith)) (arrive more s.3 b p.1)
   arrive (oversized f ∷ more) s [] p = absurd p
   arrive (oversized f ∷ more) s (a ∷ b) p =
       over_arrives f a more b (p.0.over_full s.1) (arrive more s.2 b p.1)
@@ -100,7 +100,7 @@ messages_law {T = T} shape n sent a after s p =
     let l = ap length u.1 in
     let f = p.fits (omega arith) in (
       rw f.0 (arrive n shape sent s p.parts
-          (subst (λ (x : List (List ℕ)). AreAnswersOf n shape x p.parts) u.0 p.each)),
+          (subst (λ (x : List (List ℕ)). AreAnswersOf n (IsOwn shape) x p.parts) u.0 p.each)),
       f.1
           ∙ ap holding u.1,
     )

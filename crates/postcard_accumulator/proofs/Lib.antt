@@ -2,6 +2,7 @@
 pub mod Cutting
 pub mod Fronts
 pub mod Holding
+pub mod Taking
 pub mod Feeding
 pub mod Joining
 pub mod Splitting

@@ -8,7 +8,6 @@ use Rattle.std.specs.Prelude.{Option}
 use Rattle.std.specs.Io.KnownBytes.{Consumes, Keeps}
 use Rattle.std.proofs.KnownBytes.{Consumes-nil, Consumes-trans, Consumes-kept}
 use Rattle.postcard_cobs.specs.Groups.{NoZero}
-use Rattle.postcard_shape.specs.Shape.{Shape}
 use Rattle.postcard_accumulator.specs.State.{State, holding, skipping, held_of}
 use Rattle.postcard_accumulator.specs.Feeding.{IsFed, IsFedHolding, EndsFitting}
 use Rattle.postcard_accumulator.specs.Streams.{Answers, answers_of, left_of}
@@ -22,10 +21,10 @@ use Rattle.postcard_accumulator.specs.declared.reading.ReadEnd.TheVariants.{OutO
 use Rattle.postcard_accumulator.proofs.Feeding.{feeds_law}
 use Rattle.postcard_accumulator.proofs.Joining.{joined_law}
 
-module _ {T : Type 0} (n : ℕ) (shape : Shape T) where
+module _ {T : Type 0} (n : ℕ) (own : List ℕ → Answer T → Type 0) where
   -- No bytes have no answers.
   nothing_fed : (c : State) → NoZero (held_of c) → length (held_of c) ≤ n
-      → Answers n shape c [] [] c
+      → Answers n own c [] [] c
   nothing_fed (holding h) zh room = rw (append-nil h) (record {
     frames = [];
     rest = h;
@@ -44,7 +43,7 @@ module _ {T : Type 0} (n : ℕ) (shape : Shape T) where
     pub cut : piece ≡ eaten ++ window
     pub answers : List (Answer T)
     pub items : now ≡ old ++ answers
-    pub is : Answers n shape before eaten answers after
+    pub is : Answers n own before eaten answers after
 
   pub at_start : (c : State) (piece : List ℕ) (old : List (Answer T)) → NoZero (held_of c)
       → length (held_of c) ≤ n → AtWindow c piece old old c piece
@@ -60,10 +59,10 @@ module _ {T : Type 0} (n : ℕ) (shape : Shape T) where
 
   pub at_next : (c : State) (piece : List ℕ) (old now : List (Answer T)) (h k : State) (w : List ℕ)
       (r : FeedResult T) → NoZero (held_of h) →
-      AtWindow c piece old now h w → IsFed n shape h w r k
+      AtWindow c piece old now h w → IsFed n own h w r k
       → AtWindow c piece old (now ++ answers_of r) k (left_of r)
   at_next c piece old now h k w r zh p fed =
-      let f = feeds_law shape n h k w r zh fed in
+      let f = feeds_law n own h k w r zh fed in
       record {
         eaten = p.eaten ++ f.0;
         cut = p.cut ∙ ap (λ (x : List ℕ). p.eaten ++ x) f.1
@@ -71,12 +70,12 @@ module _ {T : Type 0} (n : ℕ) (shape : Shape T) where
         answers = p.answers ++ answers_of r;
         items = ap (λ (x : List (Answer T)). x ++ answers_of r) p.items
             ∙ append_assoc old p.answers (answers_of r);
-        is = joined_law shape n c h k p.eaten f.0 p.answers (answers_of r) p.is f.2;
+        is = joined_law n own c h k p.eaten f.0 p.answers (answers_of r) p.is f.2;
       }
 
   pub at_end : (c : State) (piece : List ℕ) (old now : List (Answer T)) (after : State)
       (window : List ℕ) (left : ℕ) → left ≡ length window → AtWindow c piece old now after window →
-      IsFedAll n shape c piece old now after left
+      IsFedAll n own c piece old now after left
   at_end c piece old now after window left e p =
       let l = ap length p.cut ∙ length-append p.eaten window in
       let m : length p.eaten ≡ length piece - left = omega arith in
@@ -90,7 +89,7 @@ module _ {T : Type 0} (n : ℕ) (shape : Shape T) where
 
   -- A feed of a piece that isn't empty leaves fewer bytes than the piece has.
   shorter_held : (h w : List ℕ) (r : FeedResult T) (k : State) → 0 < length w
-      → IsFedHolding n shape h w r k → length (left_of r) < length w
+      → IsFedHolding n own h w r k → length (left_of r) < length w
   shorter_held h w Consumed k some f = some
   shorter_held h w (fed.OverFull rest) k some (inl f) = let l = ap length f.1.1
       ∙ length-append f.0 (0 ∷ rest.now) in omega arith
@@ -98,7 +97,7 @@ module _ {T : Type 0} (n : ℕ) (shape : Shape T) where
   shorter_held h w (fed.DeserError rest) k some f = ends_shorter h w f.0 rest.now f.1
   shorter_held h w (fed.Success v rest) k some f = ends_shorter h w f.0 rest.now f.1
 
-  left_within : (h w : List ℕ) (r : FeedResult T) (k : State) → IsFedHolding n shape h w r k
+  left_within : (h w : List ℕ) (r : FeedResult T) (k : State) → IsFedHolding n own h w r k
       → length (left_of r) ≤ length w
   left_within h w Consumed k f = omega arith
   left_within h w (fed.OverFull rest) k (inl f) = let l = ap length f.1.1
@@ -110,7 +109,7 @@ module _ {T : Type 0} (n : ℕ) (shape : Shape T) where
       omega arith
 
   pub shorter : (c : State) (w : List ℕ) (r : FeedResult T) (k : State) → 0 < length w
-      → IsFed n shape c w r k → length (left_of r) < length w
+      → IsFed n own c w r k → length (left_of r) < length w
   shorter (holding h) w r k some f = shorter_held h w r k some f
   shorter skipping w r k some (inl f) = rw f.1 some
   shorter skipping w r k some (inr f) = let l = ap length f.2.1 ∙ length-append f.0 (0 ∷ f.1) in
@@ -123,7 +122,7 @@ module _ {T : Type 0} (n : ℕ) (shape : Shape T) where
     pub reader : Consumes from now given
     pub answers : List (Answer T)
     pub items : new ≡ old ++ answers
-    pub is : Answers n shape before given answers after
+    pub is : Answers n own before given answers after
     pub at_most : length given ≤ count * size
     pub at_least : count ≤ length given
 
@@ -142,12 +141,12 @@ module _ {T : Type 0} (n : ℕ) (shape : Shape T) where
   module _ (from now next : Option (List ℕ)) (c after later : State)
       (old new newer : List (Answer T)) (count size : ℕ)
       (p : ReadSoFar from now c after old new count size)
-      (piece : List ℕ) (left : ℕ) (f : IsFedAll n shape after piece new newer later left)
+      (piece : List ℕ) (left : ℕ) (f : IsFedAll n own after piece new newer later left)
       (g : Consumes now next piece) where
     -- The answers so far, with those of the bytes fed of the piece, are answers of all these bytes.
-    goes_on : Answers n shape c (p.given ++ take (length piece - left) piece)
+    goes_on : Answers n own c (p.given ++ take (length piece - left) piece)
         (p.answers ++ f.answers) later
-    goes_on = joined_law shape n c after later p.given
+    goes_on = joined_law n own c after later p.given
         (take (length piece - left) piece) p.answers f.answers p.is f.is
 
     items_on : newer ≡ old ++ (p.answers ++ f.answers)
@@ -177,7 +176,7 @@ module _ {T : Type 0} (n : ℕ) (shape : Shape T) where
     -- After a read whose last bytes weren't fed, the loop ends with `OutOfMemory`.
     pub read_stopped : (reads to at : ℕ) (chunk : List ℕ) → count < reads → 0 < left → to
         ≤ length chunk → piece ≡ take to chunk → at ≡ to - left → length chunk ≡ size →
-        IsReading n shape reads from next chunk c later old newer (OutOfMemory at to)
+        IsReading n own reads from next chunk c later old newer (OutOfMemory at to)
     read_stopped reads to at chunk more some within e from_is len =
         let l = length-append p.given piece in
         let m = p.at_most in
@@ -213,7 +212,7 @@ module _ {T : Type 0} (n : ℕ) (shape : Shape T) where
       → ReadSoFar from now c after old new count size →
       unfed chunk e ≡ [] → count ≤ reads → length chunk ≡ size
       → ((k : ℕ) → count ≤ k → EndsWell reads k chunk e) →
-      IsReading n shape reads from now chunk c after old new e
+      IsReading n own reads from now chunk c after old new e
   read_ended from now c after old new count size reads chunk e p none more len well =
       let mono = mul-le-mul_right size more in
       let m = p.at_most in

@@ -3,8 +3,8 @@ use Rattle.std.specs.Prelude.{◌≡◌, ℕ, ◌⊎◌, List, [], ◌∷◌, �
 use Rattle.postcard_cobs.specs.Groups.{NoZero}
 use Rattle.postcard_shape.specs.Shape.{Shape, Grows}
 use Rattle.postcard_accumulator.specs.State.{State, holding, held_of}
-use Rattle.postcard_accumulator.specs.Feeding.{IsFed}
-use Rattle.postcard_accumulator.specs.Streams.{Answers, IsSplit, answers_of, left_of}
+use Rattle.postcard_accumulator.specs.Streams.{IsSplit, answers_of, left_of}
+use Rattle.postcard_accumulator.specs.Values.{IsFed, Answers}
 use Rattle.postcard_accumulator.specs.declared.answers.FeedResult.{FeedResult}
 use Rattle.postcard_accumulator.specs.declared.answers.Answer.{Answer}
 use Rattle.postcard_accumulator.specs.declared.answers.Answer.TheVariants.{OverFull, DeserError}

@@ -2,6 +2,7 @@
 pub mod State
 pub mod Feeding
 pub mod Streams
+pub mod Reading
+pub mod Values
 pub mod Laws
 pub mod Messages
-pub mod Reading

@@ -4,7 +4,8 @@ use Rattle.postcard_cobs.specs.Groups.{NoZero, IsMade}
 use Rattle.postcard_wire.specs.Spelling.{canonical}
 use Rattle.postcard_shape.specs.Shape.{Shape, Grows}
 use Rattle.postcard_accumulator.specs.State.{State, holding}
-use Rattle.postcard_accumulator.specs.Streams.{Answers, ended}
+use Rattle.postcard_accumulator.specs.Streams.{ended}
+use Rattle.postcard_accumulator.specs.Values.{Answers}
 use Rattle.postcard_accumulator.specs.declared.answers.Answer.{Answer}
 use Rattle.postcard_accumulator.specs.declared.answers.Answer.TheVariants.{OverFull, DeserError}
 use Rattle.postcard_accumulator.specs.declared.answers.Answer.TheVariants.{Success}

@@ -1,8 +1,7 @@
--- What the reading loop does.
+-- What the reading loop does, where `own` says which answer a frame that has room may have.
 use Rattle.std.specs.Prelude.{◌≡◌, ℕ, ◌-◌, ◌*◌, ◌<◌, ◌≤◌, List, [], ◌++◌, Option}
 use Rattle.std.specs.Prelude.{length, take, drop}
 use Rattle.std.specs.Io.KnownBytes.{Consumes}
-use Rattle.postcard_shape.specs.Shape.{Shape}
 use Rattle.postcard_accumulator.specs.State.{State}
 use Rattle.postcard_accumulator.specs.Streams.{Answers}
 use Rattle.postcard_accumulator.specs.declared.answers.Answer.{Answer}
@@ -11,12 +10,12 @@ use Rattle.postcard_accumulator.specs.declared.reading.ReadEnd.TheVariants.{End,
 use Rattle.postcard_accumulator.specs.declared.reading.ReadEnd.TheVariants.{ReadFailed, OutOfMemory}
 
 -- All of a piece was fed except for `left` bytes at its end, and the answers were appended.
-pub record IsFedAll {T : Type 0} (n : ℕ) (shape : Shape T) (before : State) (piece : List ℕ)
-    (old new : List (Answer T)) (after : State) (left : ℕ) : Type 0 where
+pub record IsFedAll {T : Type 0} (n : ℕ) (own : List ℕ → Answer T → Type 0) (before : State)
+    (piece : List ℕ) (old new : List (Answer T)) (after : State) (left : ℕ) : Type 0 where
   pub within : left ≤ length piece
   pub answers : List (Answer T)
   pub items : new ≡ old ++ answers
-  pub is : Answers n shape before (take (length piece - left) piece) answers after
+  pub is : Answers n own before (take (length piece - left) piece) answers after
 
 -- The bytes of the chunk that were read and not fed.
 abbrev pub unfed : List ℕ → ReadEnd → List ℕ
@@ -34,7 +33,7 @@ EndsWell reads given chunk (OutOfMemory from to) = (from < to) × (to ≤ length
 
 -- The bytes `given` were read, which are the next ones of the reader if it knows its bytes, and the
 -- answers added are those of all of them except for the bytes that weren't fed.
-pub record IsReading {T : Type 0} (n : ℕ) (shape : Shape T) (reads : ℕ)
+pub record IsReading {T : Type 0} (n : ℕ) (own : List ℕ → Answer T → Type 0) (reads : ℕ)
     (known left : Option (List ℕ)) (chunk : List ℕ) (before after : State)
     (old new : List (Answer T)) (end : ReadEnd) : Type 0 where
   pub given : List ℕ
@@ -43,6 +42,6 @@ pub record IsReading {T : Type 0} (n : ℕ) (shape : Shape T) (reads : ℕ)
   pub all : given ≡ fed ++ unfed chunk end
   pub answers : List (Answer T)
   pub items : new ≡ old ++ answers
-  pub is : Answers n shape before fed answers after
+  pub is : Answers n own before fed answers after
   pub at_most : length given ≤ reads * length chunk
   pub ends : EndsWell reads (length given) chunk end

@@ -4,13 +4,12 @@ ghost use Rattle.std.specs.Prelude.{◌≡◌, ◌+◌, ◌≤◌, List, ℕ, []
 ghost use Rattle.std.specs.Prelude.{false, IfOk, OnErr};
 ghost use Rattle.postcard_cobs.specs.Groups.{Groups, NoZero, before_zero};
 ghost use Rattle.postcard_accumulator.specs.State.{State, holding, held_of, is_skipping};
-ghost use Rattle.postcard_accumulator.specs.Feeding.{IsFed, IsTakenHolding, IsTaken};
+ghost use Rattle.postcard_accumulator.specs.Feeding.{IsFedHolding};
+ghost use Rattle.postcard_accumulator.specs.Values.{IsDecoded, IsFed, IsOwn, IsReadOf, IsTaken};
 
 pub use crate::answers::FeedResult;
-pub use crate::taken::Taken;
-use crate::taken::{owned_value_of, value_of};
 use postcard_cobs::{decode_in_place, frame_len};
-use postcard_de::{Deserialize, DeserializeOwned};
+use postcard_de::{Deserialize, DeserializeOwned, Owned, from_bytes};
 use postcard_wire::Result;
 use std::alloc::Global;
 use std::marker::Model;
@@ -59,6 +58,28 @@ fn decode_front(buf: &mut [u8], end: usize) -> Result<usize>
         ((d : List ℕ) → Groups (before_zero (take end buf.old)) d → ⊥) }
 {
     decode_in_place(&mut buf[..end])
+}
+
+/// Reads the value of a frame that was taken in, and so makes the result of a feed. The value may
+/// borrow from the frame's data.
+fn read<'de, 'a, T: Deserialize<'de>>(
+    alloc: Global,
+    taken: FeedResult<'a, &'de [u8]>,
+) -> FeedResult<'a, T>
+    ensures { IsReadOf (IsOwn T.shape) taken.entry result }
+{
+    match taken {
+        FeedResult::Consumed => FeedResult::Consumed,
+        FeedResult::OverFull(remaining) => FeedResult::OverFull(remaining),
+        FeedResult::DeserError(remaining) => FeedResult::DeserError(remaining),
+        FeedResult::Success {
+            value: data,
+            remaining,
+        } => match from_bytes::<T>(alloc, data) {
+            Ok(value) => FeedResult::Success { value, remaining },
+            Err(_) => FeedResult::DeserError(remaining),
+        },
+    }
 }
 
 impl<const N: usize> CobsAccumulator<N> {
@@ -132,42 +153,45 @@ impl<const N: usize> CobsAccumulator<N> {
 
     /// Takes in a piece up to the end of a frame, as [`take_in`](CobsAccumulator::take_in) does.
     /// The accumulator must not be skipping a frame.
-    fn take_held<'de, 'a>(&'de mut self, input: &'a [u8]) -> Taken<'de, 'a>
+    fn take_held<'de, 'a>(&'de mut self, input: &'a [u8]) -> FeedResult<'a, &'de [u8]>
         requires { is_skipping self.old ≡ false }
         ensures answer { (after : State)
-            × IsTakenHolding N (held_of self.old) input.now result after }
+            × IsFedHolding N IsDecoded (held_of self.old) input.now result after }
         ensures* after { sem 𝓛 (follows_so (the_row N.row) (the_row N.row)
             self.entry.ghost_name none (λ _ _. ⊤)
-            (λ v. IsTakenHolding N (held_of self.old) input.now result v)) }
+            (λ v. IsFedHolding N IsDecoded (held_of self.old) input.now result v)) }
     {
         let n = frame_len(input);
         if n == input.len() {
             if n > N - self.idx {
                 self.idx = 0;
                 self.skipping = true;
-                return Taken::OverFull(&input[n..]);
+                return FeedResult::OverFull(&input[n..]);
             }
             self.extend(input);
-            return Taken::Consumed;
+            return FeedResult::Consumed;
         }
-        let rest = &input[n + 1..];
+        let remaining = &input[n + 1..];
         if n >= N - self.idx {
             self.idx = 0;
-            return Taken::OverFull(rest);
+            return FeedResult::OverFull(remaining);
         }
         self.extend(&input[..n]);
         match self.decode() {
-            Ok(data) => Taken::Message(data, rest),
-            Err(_) => Taken::Refused(rest),
+            Ok(data) => FeedResult::Success {
+                value: data,
+                remaining,
+            },
+            Err(_) => FeedResult::DeserError(remaining),
         }
     }
 
     /// Takes in a piece of a stream up to the end of a frame, as [`feed`](CobsAccumulator::feed)
-    /// does, but decodes only the frame and reads no value.
+    /// does, but decodes only the frame and reads no value: `Success` has the frame's data, and
+    /// `DeserError` is returned for a frame that is no COBS frame.
     ///
-    /// The data of [`Taken::Message`] is in the accumulator, which can be used again once that loan
-    /// ends.
-    pub fn take_in<'de, 'a>(&'de mut self, input: &'a [u8]) -> Taken<'de, 'a>
+    /// The data is in the accumulator, which can be used again once that loan ends.
+    pub fn take_in<'de, 'a>(&'de mut self, input: &'a [u8]) -> FeedResult<'a, &'de [u8]>
         ensures answer { (after : State) × IsTaken N self.old input.now result after }
         ensures* after { sem 𝓛 (follows_so (the_row N.row) (the_row N.row)
             self.entry.ghost_name none (λ _ _. ⊤) (λ v. IsTaken N self.old input.now result v)) }
@@ -177,7 +201,7 @@ impl<const N: usize> CobsAccumulator<N> {
         }
         let n = frame_len(input);
         if n == input.len() {
-            return Taken::Consumed;
+            return FeedResult::Consumed;
         }
         self.skipping = false;
         self.take_held(&input[n + 1..])
@@ -198,8 +222,21 @@ impl<const N: usize> CobsAccumulator<N> {
     ) -> FeedResult<'a, T>
         ensures { IsFed N T.shape self.old input.now result self.new }
     {
-        let taken = self.take_in(input);
-        owned_value_of(alloc, taken)
+        match self.take_in(input) {
+            FeedResult::Consumed => FeedResult::Consumed,
+            FeedResult::OverFull(rest) => FeedResult::OverFull(rest),
+            FeedResult::DeserError(rest) => FeedResult::DeserError(rest),
+            FeedResult::Success {
+                value: data,
+                remaining,
+            } => match from_bytes::<Owned<T>>(alloc, data) {
+                Ok(owned) => {
+                    let Owned(value) = owned;
+                    FeedResult::Success { value, remaining }
+                }
+                Err(_) => FeedResult::DeserError(remaining),
+            },
+        }
     }
 
     /// Does the same as [`feed`](CobsAccumulator::feed), for a value that may borrow from the
@@ -215,6 +252,6 @@ impl<const N: usize> CobsAccumulator<N> {
             (λ v. IsFed N T.shape self.old input.now result v)) }
     {
         let taken = self.take_in(input);
-        value_of(alloc, taken)
+        read(alloc, taken)
     }
 }

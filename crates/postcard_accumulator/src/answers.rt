@@ -1,6 +1,7 @@
 //! What an accumulator returns: the result of one feed, and the answer to a frame.
 
-/// The result of [`feed`](crate::accumulator::CobsAccumulator::feed).
+/// The result of [`feed`](crate::accumulator::CobsAccumulator::feed), and of
+/// [`take_in`](crate::accumulator::CobsAccumulator::take_in), where the value of a frame is its data.
 ///
 /// Except for `Consumed`, each has the bytes of the piece that weren't taken in, which may be none.
 /// Feed them next.

@@ -34,14 +34,16 @@
 //!
 //! `specs/Feeding.antt` is the table, the contract of [`feed`](CobsAccumulator::feed) and
 //! [`feed_ref`](CobsAccumulator::feed_ref). `specs/Streams.antt` defines the answers of a whole
-//! stream: one for each frame, in order, whatever the pieces are. The answers of [`read_frames`]
-//! are those of all bytes that it read and fed. [`laws`] has what follows for every stream: above
-//! all, [`laws::messages_arrive`].
+//! stream: one for each frame, in order, whatever the pieces are. Both leave open what a frame's own
+//! answer is; `specs/Values.antt` says it. The answers of [`read_frames`] are those of all bytes
+//! that it read and fed. [`laws`] has what follows for every stream: above all,
+//! [`laws::messages_arrive`].
 //!
 //! # Contents
 //!
-//! - [`accumulator`]: [`CobsAccumulator`], with [`FeedResult`]. The two halves of a feed are
-//!   [`take_in`](CobsAccumulator::take_in) and [`value_of`], for callers with proofs of their own.
+//! - [`accumulator`]: [`CobsAccumulator`], with [`FeedResult`].
+//!   [`take_in`](CobsAccumulator::take_in) is the half of a feed that reads no value, for callers
+//!   with proofs of their own.
 //! - [`read_frames`], with [`Answer`] and [`ReadEnd`].
 //! - [`laws`]: what holds of every stream, as contracts of functions that do nothing.
 #![tactic(auto)]
@@ -50,9 +52,7 @@ pub mod accumulator;
 mod answers;
 pub mod laws;
 mod reading;
-mod taken;
 
-pub use accumulator::{CobsAccumulator, FeedResult, Taken};
+pub use accumulator::{CobsAccumulator, FeedResult};
 pub use answers::Answer;
 pub use reading::{ReadEnd, read_frames};
-pub use taken::{owned_value_of, value_of};

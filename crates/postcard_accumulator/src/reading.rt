@@ -3,7 +3,8 @@
 ghost use Rattle.std.specs.Prelude.{◌≡◌, ◌≢◌, ◌<◌, ◌++◌, ◌∷◌, [], length};
 ghost use Rattle.std.specs.Prelude.{vec_len, vec_capacity};
 ghost use Rattle.std.specs.Io.KnownBytes.{IsAtEnd};
-ghost use Rattle.postcard_accumulator.specs.Reading.{IsFedAll, IsReading};
+ghost use Rattle.postcard_accumulator.specs.Reading.{IsFedAll};
+ghost use Rattle.postcard_accumulator.specs.Values.{IsOwn, IsReading};
 
 use crate::accumulator::CobsAccumulator;
 use crate::answers::{Answer, FeedResult};
@@ -45,7 +46,8 @@ fn feed_all<T: DeserializeOwned, const N: usize>(
     acc: &mut CobsAccumulator<N>,
     out: &mut Vec<Answer<T>>,
 ) -> usize
-    ensures { IsFedAll N T.shape acc.old piece.now out.old.items out.new.items acc.new result }
+    ensures { IsFedAll N (IsOwn T.shape) acc.old piece.now out.old.items out.new.items acc.new
+        result }
 {
     acc.held_fits();
     let mut window = piece;

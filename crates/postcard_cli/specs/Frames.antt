@@ -8,7 +8,7 @@ use Rattle.postcard_shape.specs.Shape.{Shape, via, growing}
 use Rattle.postcard_shape.specs.Lists.{seq}
 use Rattle.postcard_shape.specs.Leaves.{byte}
 use Rattle.postcard_accumulator.specs.State.{State, holding}
-use Rattle.postcard_accumulator.specs.Streams.{Answers}
+use Rattle.postcard_accumulator.specs.Values.{Answers}
 use Rattle.postcard_accumulator.specs.declared.answers.Answer.{Answer}
 use Rattle.postcard_accumulator.specs.declared.answers.Answer.TheVariants.{OverFull, DeserError}
 use Rattle.postcard_accumulator.specs.declared.answers.Answer.TheVariants.{Success}

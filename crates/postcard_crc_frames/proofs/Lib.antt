@@ -1,5 +1,2 @@
--- Lemmas, in reading order.
+-- Lemmas.
 pub mod Own
-pub mod Feeds
-pub mod Joining
-pub mod ReadLoop

@@ -1,6 +1,5 @@
 -- The own answer of a frame: which there is, and that it is that of the value that was sent.
-use Rattle.std.proofs.Common.{◌≡◌, ◌+◌, ◌-◌, ◌*◌, ℕ, List, [], ◌++◌, inl, inr, refl, sym, subst, ◌∙◌, append-nil, arith, bit_xor}
-use Rattle.std.specs.Borrow.{Bor}
+use Rattle.std.proofs.Common.{◌≡◌, ◌+◌, ◌-◌, ◌*◌, ℕ, List, [], ◌++◌, refl, sym, subst, ◌∙◌, append-nil, arith, bit_xor}
 use Rattle.crc.specs.Crc.{Parameters, IsCrc, IsSound, message}
 use Rattle.crc.specs.Digest.{Progress, Took}
 use Rattle.crc.specs.Damage.{IsBurst}
@@ -14,48 +13,10 @@ use Rattle.postcard_wire.specs.declared.error.Error.{Error}
 use Rattle.postcard_wire.specs.declared.error.Error.TheVariants.{OutOfMemory}
 use Rattle.postcard_shape.specs.Shape.{Shape, Grows}
 use Rattle.postcard_shape.proofs.Again.{is_spelled, is_same}
-use Rattle.postcard_accumulator.specs.State.{holding, skipping}
-use Rattle.postcard_accumulator.specs.declared.taken.Taken.TheVariants as taken
-use Rattle.postcard_accumulator.specs.declared.answers.FeedResult.TheVariants as fed
-use Rattle.postcard_accumulator.specs.declared.answers.Answer.{Answer}
 use Rattle.postcard_accumulator.specs.declared.answers.Answer.TheVariants.{OverFull, DeserError, Success}
 use Rattle.postcard_crc.specs.Reading.{ReadsChecked}
-use Rattle.postcard_crc_frames.specs.Answering.{IsReadOf}
 use Rattle.postcard_crc_frames.specs.Checked.{IsValueOf, IsRefused}
 use Rattle.postcard_crc_frames.specs.Laws.{MessageArrives, DamageRefused}
-
--- ---- from what a piece completed to the result of a feed
-
-module _ {T : Type 0} (own : List ℕ → Answer T → Type 0) where
-  pub read_consumed : IsReadOf own taken.Consumed fed.Consumed
-  read_consumed n (holding h) p after t = t
-  read_consumed n skipping p after (inl t) = inl (t.0, refl, t.2)
-  read_consumed n skipping p after (inr t) = inr (t.0, t.1, t.2, t.3)
-
-  pub read_over_full : (rest : Bor (List ℕ)) → IsReadOf own (taken.OverFull rest) (fed.OverFull rest)
-  read_over_full rest n (holding h) p after t = t
-  read_over_full rest n skipping p after (inl t) = absurd (let no = t.1 in cc)
-  read_over_full rest n skipping p after (inr t) = inr (t.0, t.1, t.2, t.3)
-
-  -- A frame that is no COBS frame.
-  pub read_refused : (rest : Bor (List ℕ)) → ((f : List ℕ) → ((d : List ℕ) → Groups f d → ⊥) → own f DeserError)
-      → IsReadOf own (taken.Refused rest) (fed.DeserError rest)
-  read_refused rest is n (holding h) p after t = (t.0, t.1, is (h ++ t.0) t.2, t.3)
-  read_refused rest is n skipping p after (inl t) = absurd (let no = t.1 in cc)
-  read_refused rest is n skipping p after (inr t) = inr (t.0, t.1, t.2, (t.3.0, t.3.1, is t.3.0 t.3.2, t.3.3))
-
-  -- A frame whose data is refused, or has a value.
-  pub read_err : (d rest : Bor (List ℕ)) → ((f : List ℕ) → Groups f d.now → own f DeserError)
-      → IsReadOf own (taken.Message d rest) (fed.DeserError rest)
-  read_err d rest is n (holding h) p after t = (t.0, t.1, is (h ++ t.0) t.2, t.3)
-  read_err d rest is n skipping p after (inl t) = absurd (let no = t.1 in cc)
-  read_err d rest is n skipping p after (inr t) = inr (t.0, t.1, t.2, (t.3.0, t.3.1, is t.3.0 t.3.2, t.3.3))
-
-  pub read_ok : (d rest : Bor (List ℕ)) (v : T) → ((f : List ℕ) → Groups f d.now → own f (Success v))
-      → IsReadOf own (taken.Message d rest) (fed.Success v rest)
-  read_ok d rest v is n (holding h) p after t = (t.0, t.1, is (h ++ t.0) t.2, t.3)
-  read_ok d rest v is n skipping p after (inl t) = absurd (let no = t.1 in cc)
-  read_ok d rest v is n skipping p after (inr t) = inr (t.0, t.1, t.2, (t.3.0, t.3.1, is t.3.0 t.3.2, t.3.3))
 
 module _ {T : Type 0} (shape : Shape T) (k : ℕ) (a : Parameters) where
   -- A frame that has no data has no value.

@@ -1,5 +1,3 @@
 -- The definitions that contracts cite, in reading order.
 pub mod Checked
-pub mod Answering
-pub mod Reading
 pub mod Laws

@@ -1,10 +1,11 @@
 //! One feed of an accumulator, with the checksum of the frame that it completes.
 
-ghost use Rattle.postcard_crc_frames.specs.Answering.{IsFed, IsReadOf};
+ghost use Rattle.postcard_accumulator.specs.Feeding.{IsFed};
+ghost use Rattle.postcard_accumulator.specs.Values.{IsReadOf};
 ghost use Rattle.postcard_crc_frames.specs.Checked.{IsOwn};
 
 use crc::{Crc, Implementation, Width};
-use postcard_accumulator::{CobsAccumulator, FeedResult, Taken};
+use postcard_accumulator::{CobsAccumulator, FeedResult};
 use postcard_crc::de::from_bytes_whole;
 use postcard_de::{DeserializeOwned, Owned};
 use std::alloc::Global;
@@ -23,32 +24,30 @@ pub fn feed<'a, T: DeserializeOwned, W: Width, I: Implementation<W>, const N: us
     ensures { IsFed N (IsOwn T.shape W.size crc.now) acc.old input.now result acc.new }
 {
     let taken = acc.take_in(input);
-    value_of(alloc, taken, crc)
+    read(alloc, taken, crc)
 }
 
-// Reads the value of what a piece completed, and checks its checksum.
-fn value_of<'a, T: DeserializeOwned, W: Width, I: Implementation<W>>(
+// Reads the value of a frame that was taken in, and checks its checksum.
+fn read<'a, T: DeserializeOwned, W: Width, I: Implementation<W>>(
     alloc: Global,
-    taken: Taken<'_, 'a>,
+    taken: FeedResult<'a, &[u8]>,
     crc: &Crc<W, I>,
 ) -> FeedResult<'a, T>
     ensures { IsReadOf (IsOwn T.shape W.size crc.now) taken.entry result }
 {
     match taken {
-        Taken::Consumed => FeedResult::Consumed,
-        Taken::OverFull(rest) => FeedResult::OverFull(rest),
-        Taken::Refused(rest) => FeedResult::DeserError(rest),
-        Taken::Message(data, rest) => {
-            match from_bytes_whole::<Owned<T>, W, I>(alloc, data, crc.digest()) {
-                Ok(owned) => {
-                    let Owned(value) = owned;
-                    FeedResult::Success {
-                        value,
-                        remaining: rest,
-                    }
-                }
-                Err(_) => FeedResult::DeserError(rest),
+        FeedResult::Consumed => FeedResult::Consumed,
+        FeedResult::OverFull(rest) => FeedResult::OverFull(rest),
+        FeedResult::DeserError(rest) => FeedResult::DeserError(rest),
+        FeedResult::Success {
+            value: data,
+            remaining,
+        } => match from_bytes_whole::<Owned<T>, W, I>(alloc, data, crc.digest()) {
+            Ok(owned) => {
+                let Owned(value) = owned;
+                FeedResult::Success { value, remaining }
             }
-        }
+            Err(_) => FeedResult::DeserError(remaining),
+        },
     }
 }

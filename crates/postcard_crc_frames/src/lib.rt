@@ -11,8 +11,8 @@
 //! - [`laws`]: a value that was sent arrives, and a frame whose data was damaged within as many bits
 //!   in a row as the checksum has is never answered by another value.
 //!
-//! `specs/Answering.antt` has what is proved of a whole stream: one answer for each frame, its own, in
-//! order, whatever the pieces are.
+//! What is proved of a whole stream is as in `postcard_accumulator`: one answer for each frame, its own, in
+//! order, whatever the pieces are. `specs/Checked.antt` has which that is.
 #![tactic(auto)]
 
 mod feeding;

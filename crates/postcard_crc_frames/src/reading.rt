@@ -3,8 +3,8 @@
 ghost use Rattle.std.specs.Prelude.{◌≡◌, ◌≢◌, ◌<◌, ◌++◌, ◌∷◌, [], length};
 ghost use Rattle.std.specs.Prelude.{vec_len, vec_capacity};
 ghost use Rattle.std.specs.Io.KnownBytes.{IsAtEnd};
+ghost use Rattle.postcard_accumulator.specs.Reading.{IsFedAll, IsReading};
 ghost use Rattle.postcard_crc_frames.specs.Checked.{IsOwn};
-ghost use Rattle.postcard_crc_frames.specs.Reading.{IsFedAll, IsReading};
 
 use crate::feeding::feed;
 use crc::{Crc, Implementation, Width};

@@ -1,9 +1,10 @@
 use Rattle.std.proofs.Common.{length}
+use Rattle.postcard_accumulator.specs.Values.{IsOwn}
 use Rattle.postcard_accumulator.proofs.ReadLoop.{AtWindow}
 use Rattle.postcard_accumulator.proofs.reading.feed_all.Given as goal
 
 abbrev pub invariant-feeds : goal.invariant-feeds
-invariant-feeds g l = AtWindow g.row.N g.T.Shaped.shape l.fn.acc l.piece l.fn.out.items l.out.items
+invariant-feeds g l = AtWindow g.row.N (IsOwn g.T.Shaped.shape) l.fn.acc l.piece l.fn.out.items l.out.items
     l.acc l.window
 
 abbrev pub decreases-feeds : goal.decreases-feeds

@@ -1,13 +1,14 @@
 use Rattle.std.proofs.Common.{arith, length, refl, ◌≡◌}
 use Rattle.std.proofs.lemmas.List.{length-take-le}
 use Rattle.postcard_accumulator.specs.declared.reading.ReadEnd.TheVariants.{End, ReadFailed}
+use Rattle.postcard_accumulator.specs.Values.{IsOwn}
 use Rattle.postcard_accumulator.proofs.ReadLoop.{no_read, read_on, read_stopped, read_ended}
 use Rattle.postcard_accumulator.proofs.ReadLoop.{read_nothing, read_failed}
 use Rattle.postcard_accumulator.proofs.reading.read_frames.Goals as goal
 
 pub loop-init : goal.loop-init
 loop-init g c = record {
-  so_far = no_read g.row.N g.T.Shaped.shape
+  so_far = no_read g.row.N (IsOwn g.T.Shaped.shape)
       (g.R.Read.remaining c.args.reader.now) c.args.acc.now c.args.out.now.items _
       c.held_fits.ensures.no_zero c.held_fits.ensures.room;
   steady = λ s. s;
@@ -20,7 +21,7 @@ loop-preserved g c =
     let within = c.in-Ok.ensures.bound.0 in
     let long = length-take-le c.in-Ok.n c.read_some.new.buf within in
     record {
-      so_far = read_on g.row.N g.T.Shaped.shape _ _ _ _ _ _ _ _ _ _ _ c.loop.invariant.so_far _ _
+      so_far = read_on g.row.N (IsOwn g.T.Shaped.shape) _ _ _ _ _ _ _ _ _ _ _ c.loop.invariant.so_far _ _
           c.feed_all-left.ensures c.in-Ok.ensures.bytes.0 (omega arith) (omega arith) (omega arith);
       steady = λ s. c.read_some.ensures.stays_steady (c.loop.invariant.steady s);
     }
@@ -28,10 +29,10 @@ loop-preserved g c =
 pub returns-in-Err-clause-stream : goal.returns-in-Err-clause-stream
 returns-in-Err-clause-stream g c =
     let same : length c.read_some.new.buf ≡ length c.args.chunk.now = omega arith in
-    read_ended g.row.N g.T.Shaped.shape _
+    read_ended g.row.N (IsOwn g.T.Shaped.shape) _
     (g.R.Read.remaining c.read_some.new.self) _ _ _ _ c.loop.counter
     (length c.args.chunk.now) c.args.reads c.read_some.new.buf ReadFailed
-    (read_failed g.row.N g.T.Shaped.shape _ _ _ _ _ _ _ _ _ c.loop.invariant.so_far
+    (read_failed g.row.N (IsOwn g.T.Shaped.shape) _ _ _ _ _ _ _ _ _ c.loop.invariant.so_far
     c.in-Err.ensures.bytes)
     refl (omega arith) same (λ k h. tt)
 
@@ -39,15 +40,15 @@ pub returns-then-n-eq0-clause-stream : goal.returns-then-n-eq0-clause-stream
 returns-then-n-eq0-clause-stream g c =
     let none = rw c.if-n-eq0.true at c.in-Ok.ensures.bytes.0 in
     let same : length c.read_some.new.buf ≡ length c.args.chunk.now = omega arith in
-    read_ended g.row.N g.T.Shaped.shape _
+    read_ended g.row.N (IsOwn g.T.Shaped.shape) _
     (g.R.Read.remaining c.read_some.new.self) _ _ _ _ c.loop.counter
     (length c.args.chunk.now) c.args.reads c.read_some.new.buf End
-    (read_nothing g.row.N g.T.Shaped.shape _ _ _ _ _ _ _ _ _ c.loop.invariant.so_far none)
+    (read_nothing g.row.N (IsOwn g.T.Shaped.shape) _ _ _ _ _ _ _ _ _ c.loop.invariant.so_far none)
     refl (omega arith) same (λ k h. tt)
 
 pub returns-then-left-gt0-clause-stream : goal.returns-then-left-gt0-clause-stream
 returns-then-left-gt0-clause-stream g c =
     let same : length c.read_some.new.buf ≡ length c.args.chunk.now = omega arith in
-    read_stopped g.row.N g.T.Shaped.shape _ _ _ _ _ _ _ _ _ _ _ c.loop.invariant.so_far _ _
+    read_stopped g.row.N (IsOwn g.T.Shaped.shape) _ _ _ _ _ _ _ _ _ _ _ c.loop.invariant.so_far _ _
     c.feed_all-left.ensures c.in-Ok.ensures.bytes.0 c.args.reads _ _ _ c.loop-test.true
     c.if-left-gt0.true c.in-Ok.ensures.bound.0 refl refl same

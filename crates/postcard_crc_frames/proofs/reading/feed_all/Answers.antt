@@ -4,7 +4,7 @@ use Rattle.std.proofs.lemmas.List.{append-nil}
 use Rattle.postcard_accumulator.specs.declared.answers.FeedResult.TheVariants.{Consumed, OverFull}
 use Rattle.postcard_accumulator.specs.declared.answers.FeedResult.TheVariants.{DeserError, Success}
 use Rattle.postcard_crc_frames.specs.Checked.{IsOwn}
-use Rattle.postcard_crc_frames.proofs.ReadLoop.{at_start, at_next, at_end}
+use Rattle.postcard_accumulator.proofs.ReadLoop.{at_start, at_next, at_end}
 use Rattle.postcard_crc_frames.proofs.reading.feed_all.Goals as goal
 
 pub feeds-init : goal.feeds-init

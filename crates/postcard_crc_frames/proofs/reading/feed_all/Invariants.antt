@@ -1,7 +1,7 @@
 -- The bytes before the window were fed.
 use Rattle.std.proofs.Common.{length}
 use Rattle.postcard_crc_frames.specs.Checked.{IsOwn}
-use Rattle.postcard_crc_frames.proofs.ReadLoop.{AtWindow}
+use Rattle.postcard_accumulator.proofs.ReadLoop.{AtWindow}
 use Rattle.postcard_crc_frames.proofs.reading.feed_all.Given as goal
 
 abbrev pub invariant-feeds : goal.invariant-feeds

@@ -23,13 +23,16 @@ use denote.Triple.Walked.{Stays, stay_dropped, walk_of, Goes-dropped, Goes-spent
 use Rattle.std.proofs.raw_atomic.Walks.{proved_at, leaves}
 use seplogic.Ra.Ura.{Ura}
 use mathlib.Core.Option.{none}
-use denote.Slice.{shr_slice_Lawful}
+use denote.Slice.{ShrSlice, shr_slice_Lawful}
 use denote.Follow.{follows_so, such_by, follows_by}
 use denote.Laws.{Is, shows}
 use denote.Param.{layout}
-use denote.Param.Laws.{param_laws}
-use denote.Ref.{mut_Tells}
+use denote.Param.Laws.{Laws, of_field, param_laws}
+use denote.Param.Shared.{copy_shared}
+use denote.Ref.{Bor, NamedLft, mut_Tells}
 use denote.Signature.{named_lft}
+use denote.Struct.Field.{shr_slice_field}
+use denote.Struct.Laws.{u8-copy, shr_slice_laws, shr_slice_copy}
 use denote.Steps.{nothing, heard, peeks}
 use denote.Triple.Clauses.{Lasts, lasts}
 use denote.Triple.Table.{framed}
@@ -45,20 +48,17 @@ use denote.Laws.{Typed}
 use Rattle.std.specs.contracts.alloc.Global as Heap
 use Rattle.std.proofs.alloc.Global.TheLaws as heap_laws
 use Rattle.postcard_accumulator.specs.State.{State}
-use Rattle.postcard_accumulator.specs.Feeding.{IsTaken, IsFed, IsReadOf}
-use Rattle.postcard_accumulator.specs.declared.taken.Taken.{Taken}
+use Rattle.postcard_accumulator.specs.Values.{IsTaken, IsReadOf, IsOwn, IsFed}
 use Rattle.postcard_accumulator.specs.declared.answers.FeedResult.{FeedResult}
-use Rattle.postcard_accumulator.specs.contracts.taken.Taken as taken
 use Rattle.postcard_accumulator.specs.contracts.answers.FeedResult as fed
-use Rattle.postcard_accumulator.proofs.taken.Taken.TheLaws as taken_laws
 use Rattle.postcard_accumulator.proofs.answers.FeedResult.TheLaws as fed_laws
 use Rattle.postcard_de.specs.contracts.deserialize.Deserialize.TheBound as bound
 use Rattle.postcard_accumulator.specs.contracts.accumulator.CobsAccumulator.take_in as first
 use Rattle.postcard_accumulator.proofs.accumulator.CobsAccumulator.take_in.Met as first_met
 use Rattle.postcard_accumulator.proofs.accumulator.CobsAccumulator.take_in.Statement.{statement as take_in_says}
-use Rattle.postcard_accumulator.specs.contracts.taken.value_of as second
-use Rattle.postcard_accumulator.proofs.taken.value_of.Met as second_met
-use Rattle.postcard_accumulator.proofs.taken.value_of.Statement.{statement as value_of_says}
+use Rattle.postcard_accumulator.specs.contracts.accumulator.read as second
+use Rattle.postcard_accumulator.proofs.accumulator.read.Met as second_met
+use Rattle.postcard_accumulator.proofs.accumulator.read.Statement.{statement as read_says}
 use Rattle.postcard_accumulator.specs.contracts.accumulator.CobsAccumulator as acc
 use Rattle.postcard_accumulator.specs.contracts.accumulator.CobsAccumulator.feed_ref.{ended}
 use Rattle.postcard_accumulator.specs.contracts.accumulator.CobsAccumulator.feed_ref.{clauses}
@@ -71,6 +71,11 @@ one : (τ : Ty) (vs : List Val) → Typed (τ ∷ []) vs → (v : Val) × (vs �
 one τ [] t = absurd t
 one τ (v ∷ []) t = (v, refl, t.0)
 one τ (v ∷ w ∷ vs) t = absurd t.1
+
+-- The data of a frame, as a type.
+data_laws : (a : NamedLft) → Laws (ShrSlice a.mir a.lft u8)
+data_laws a = of_field (shr_slice_field a u8 tt) (shr_slice_laws a u8 tt) refl
+    (copy_shared (shr_slice_field a u8 tt) (shr_slice_copy a u8 tt u8-copy.shr_laws))
 
 module _ {M : Type 1} {𝓤 : Ura M} (𝓛 : Logic 𝓤) (R : RattleType) (γ : GName)
     (P Q : R.Denot → Type 0) where
@@ -85,7 +90,7 @@ module _ {M : Type 1} {𝓤 : Ura M} (𝓛 : Logic 𝓤) (R : RattleType) (γ : 
       (s.0, s.1, f s.0.1 s.2) $ done !)
 
 -- The walk, by what the functions that it calls promise.
-walk : {M : Type 1} → take_in_says M → value_of_says M → statement M
+walk : {M : Type 1} → take_in_says M → read_says M → statement M
 walk takes reads 𝓤 𝓛 𝓜 𝓡 wired N T fits L Gh D Sh Ds Dd P met shaped glue =
     let H = 𝓛.H in let 𝓣 = tables 𝓤 H 𝓜 𝓡 𝓡.env in let N' : RattleType = number N in
     let Row : RattleType = acc.the_row (param 0 N') in let En = ended N' T Gh D Sh Ds Dd P in
@@ -158,9 +163,10 @@ walk takes reads 𝓤 𝓛 𝓜 𝓡 wired N T fits L Gh D Sh Ds Dd P met shaped
     (code.calls-postcard_accumulator::accumulator::CobsAccumulator::take_in 𝓡.env wired) N fits)
     z
     (and_then ! (get ! refl) (and_then ! (get ! refl) (no_more !))) (λ v.
-    let Tk : RattleType = taken.the_row (named_lft 3 0 tt κs₁) (named_lft 3 1 tt κs₁) in
-    let Known : Taken → Type 0 = λ t. (after : State) × IsTaken N a.0.now a.1.1.0.now t after in
-    use1 𝓛 (later (some (λ (t : Taken).
+    let Data : RattleType = ShrSlice (named 0) κ u8 in
+    let Tk : RattleType = fed.the_row (named_lft 3 1 tt κs₁) Data in
+    let Known : FeedResult (Bor (List ℕ)) → Type 0 = λ t. (after : State) × IsTaken N a.0.now a.1.1.0.now t after in
+    use1 𝓛 (later (some (λ (t : FeedResult (Bor (List ℕ))).
     ((‵ (flft κ q0) ⊛ ‵ (flft α q1) ⊛ ‵ (flft ν q2) ⊛ ‵ ftrue) ⊛ ‵ (Tk.own_val t (v ∷ []))) ⊛
     some (λ (ws : Lasts (first.ended N') κs₁ a₁). ‵ (lasts (first.ended N') κs₁ a₁ ws)
     ⊛ raw (fact 𝓤 (Known t))
@@ -169,32 +175,32 @@ walk takes reads 𝓤 𝓛 𝓜 𝓡 wired N T fits L Gh D Sh Ds Dd P met shaped
     pick ! (λ ws. split3 ! $ drop ! $ heard ! (Known t) (λ known.
     -- [what follows; the tokens; what was taken; alloc; the token of T]
     move ! (2 ∷ []) $ peeks ! Tk (Is Tk) (shows 𝓛 Tk) t (v ∷ [])
-    (λ is-t. let good = ((taken_laws.the_row_laws (named_lft 3 0 tt κs₁)
-    (named_lft 3 1 tt κs₁)).lawful 𝓛).typed t (v ∷ []) is-t in
+    (λ is-t. let good = ((fed_laws.the_row_laws (named_lft 3 1 tt κs₁) Data
+    (data_laws (named_lft 3 0 tt κs₁))).lawful 𝓛).typed t (v ∷ []) is-t in
     lands_as ! refl refl good.0 $
     sets ! (of_opd ! (get ! refl)) refl good.0 $
     -- What the second call requires.
-    let P₂ : Lfts 3 → Type 0 = λ κs'. κs'.0 ≡ κ in
+    let P₂ : Lfts 3 → Type 0 = λ κs'. κs'.1.0 ≡ κ in
     let G₂ = triple_of 𝓛 (second.signature T) (second.spec T Gh D Sh Ds Dd P₂ 𝓛 𝓜.mem 𝓡.returns) in
-    let κs₂ : Lfts 3 = (κ, (α, (τ, tt))) in let a₂ : Args (second.signature T) κs₂ =
+    let κs₂ : Lfts 3 = (α, (κ, (τ, tt))) in let a₂ : Args (second.signature T) κs₂ =
     (a.1.0, (t, tt)) in
-    let z₂ : G₂.Ghost = ((κs₂, (q0, (q1, (q3, tt))), tt, a₂, (h ∷ [], (v ∷ [], tt))), tt) in
+    let z₂ : G₂.Ghost = ((κs₂, (q1, (q0, (q3, tt))), tt, a₂, (h ∷ [], (v ∷ [], tt))), tt) in
     move ! (2 ∷ []) $ split3 ! $ move ! (2 ∷ []) $ split ! $ nothing ! $ move ! (5 ∷ 0 ∷ []) $
     join ! $ move ! (6 ∷ 0 ∷ []) $ join ! $
-    move ! (6 ∷ 2 ∷ []) $ join ! $ move ! (4 ∷ 0 ∷ []) $ join ! $ move ! (3 ∷ 0 ∷ []) $ join ! $
+    move ! (6 ∷ 2 ∷ []) $ join ! $ move ! (3 ∷ 0 ∷ []) $ join ! $ move ! (3 ∷ 0 ∷ []) $ join ! $
     join ! $
     nothing ! $ use0 𝓛 (raw (fact 𝓤 (P₂ κs₂))) (fact_i 𝓤 (P₂ κs₂) (emp 𝓤) refl) $ join ! $
     use0 𝓛 (raw (fact 𝓤 TL)) (fact_i 𝓤 TL (emp 𝓤) tl) $ join ! $ move ! (1 ∷ 0 ∷ []) $
     use2 𝓛 (raw (G₂.pre z₂)) (id⊢ 𝓤 _) $
     calls_at ! (framed 𝓤 𝓛.H 𝓜 𝓣) G₂
-    (reads 𝓤 𝓛 𝓜 𝓡 (code.calls-postcard_accumulator::taken::value_of 𝓡.env wired) T L Gh D
+    (reads 𝓤 𝓛 𝓜 𝓡 (code.calls-postcard_accumulator::accumulator::read 𝓡.env wired) T L Gh D
     Sh Ds Dd P₂ (λ κs' e. subst (λ (l : Lft). bound.Met 𝓛 𝓜 𝓡 𝓡.env l T Gh D Sh Ds) (sym e)
     (met κs pk)) shaped glue) z₂
     (and_then ! (get ! refl) (and_then ! (get ! refl) (no_more !))) (λ u.
-    let Fr : RattleType = fed.the_row (named_lft 3 1 tt κs₂) (param 1 T) in
-    let Read : FeedResult T.Denot → Type 0 = λ r. IsReadOf Sh.shape t r in
+    let Fr : RattleType = fed.the_row (named_lft 3 0 tt κs₂) (param 1 T) in
+    let Read : FeedResult T.Denot → Type 0 = λ r. IsReadOf (IsOwn Sh.shape) t r in
     use1 𝓛 (later (some (λ (r : FeedResult T.Denot).
-    ((‵ (flft κ q0) ⊛ ‵ (flft α q1) ⊛ ‵ (flft τ q3) ⊛ ‵ ftrue) ⊛ ‵ (Fr.own_val r (u ∷ []))) ⊛
+    ((‵ (flft α q1) ⊛ ‵ (flft κ q0) ⊛ ‵ (flft τ q3) ⊛ ‵ ftrue) ⊛ ‵ (Fr.own_val r (u ∷ []))) ⊛
     some (λ (ws : Lasts (second.ended T Gh D Sh Ds Dd P₂) κs₂ a₂). ‵
     (lasts (second.ended T Gh D Sh Ds Dd P₂) κs₂ a₂ ws) ⊛ raw (fact 𝓤 (Read r)))))) (id⊢ 𝓤 _) $
     await ! tt $ pick ! (λ r. split ! $ split ! $ move ! (2 ∷ []) $
@@ -202,7 +208,7 @@ walk takes reads 𝓤 𝓛 𝓜 𝓡 wired N T fits L Gh D Sh Ds Dd P met shaped
     -- [the tokens; the answer; the token of N; what follows]
     move ! (1 ∷ []) $ peeks ! Fr (Is Fr) (shows 𝓛 Fr) r (u ∷ [])
     (λ is-r. let good₂ =
-    ((fed_laws.the_row_laws (named_lft 3 1 tt κs₂) (param 1 T) (param_laws 1 T L)).lawful
+    ((fed_laws.the_row_laws (named_lft 3 0 tt κs₂) (param 1 T) (param_laws 1 T L)).lawful
     𝓛).typed r (u ∷ []) is-r in
     lands_as ! refl refl good₂.0 $
     returns ! (look_at ! 0 refl) $ free_all ! refl $
@@ -215,7 +221,7 @@ walk takes reads 𝓤 𝓛 𝓜 𝓡 wired N T fits L Gh D Sh Ds Dd P met shaped
     use0 𝓛 (raw (fact 𝓤 Answer))
     (fact_i 𝓤 Answer (emp 𝓤) (known.0, read N a.0.now a.1.1.0.now known.0 known.1)) $ join ! $
     move ! (2 ∷ []) $ split3 ! $ move ! (2 ∷ []) $ move ! (5 ∷ 0 ∷ []) $ join ! $
-    move ! (2 ∷ 0 ∷ []) $ join ! $ move ! (1 ∷ 0 ∷ []) $ join ! $
+    move ! (1 ∷ 0 ∷ []) $ join ! $ move ! (1 ∷ 0 ∷ []) $ join ! $
     nothing ! $ nothing ! $ fjoin ! $ nothing ! $ fjoin ! $ nothing ! $ fjoin ! $
     keep ! (1 ∷ 0 ∷ 3 ∷ 2 ∷ []) $
     by ! (leaves 𝓛 En hs c y u r (tt, (tt, (tt, tt))) (tt, (tt, (tt, tt)))))))))))))))))))))
