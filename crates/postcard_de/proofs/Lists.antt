@@ -1,7 +1,7 @@
 -- Reading the elements of a list one by one.
-use Rattle.std.proofs.Common.{◌≡◌, ℕ, zero, suc, ◌-◌, List, [], ◌∷◌, ◌++◌, Option, None}
+use Rattle.std.proofs.Common.{◌≡◌, ℕ, zero, suc, ◌+◌, ◌-◌, List, [], ◌∷◌, ◌++◌, length, Option, None}
 use Rattle.std.proofs.Common.{Ok, Err, Result, refl, ap, arith, append_assoc}
-use Rattle.std.proofs.Common.{append-nil}
+use Rattle.std.proofs.Common.{append-nil, sym, ◌∙◌}
 use Rattle.std.specs.Option.{IfNone}
 use Rattle.postcard_wire.specs.declared.error.Error.{Error}
 use Rattle.postcard_wire.specs.declared.error.Error.TheVariants.{OutOfMemory}
@@ -35,6 +35,63 @@ one_and_rest {V} R I n = record {
     parted (Then t ts) r a (p, q, s, k, e) =
         (t, ts, p, q, refl, a.1.0, s, k, e, λ v i. (omega (arith, a.0), a.1.1))
 
+-- The trees of two rows, in one row.
+pub joined_rows : Trees → Trees → Trees
+joined_rows NoTrees ss = ss
+joined_rows (Then t ts) ss = Then t (joined_rows ts ss)
+
+-- A row of two is read and spelled as the two are.
+join_rows : (R : Tree → Type 0) (n m : ℕ) (ts ss : Trees) (p q : List ℕ) → AreRead n R ts → AreRead m R ss →
+    SpellsAll ts p → SpellsAll ss q → AreRead (n + m) R (joined_rows ts ss) × SpellsAll (joined_rows ts ss) (p ++ q)
+unfolding joined_rows
+join_rows R n m NoTrees ss p q a b s t =
+    ((omega (arith, a.0, b.0), b.1), rw s t)
+join_rows R n m (Then u ts) ss p q a b (x, y, c, d, e) t =
+    let less : n ≡ suc (n - 1) = omega (arith, a.0) in
+    let k = join_rows R (n - 1) m ts ss y q (omega (arith, a.0), a.1.1) b d t in
+    ((omega (arith, less, k.0.0), (a.1.0, k.0.1)), (x, y ++ q, c, k.1, ap (λ (z : List ℕ). z ++ q) e ∙ append_assoc x y q))
+
+-- A row of n + m is one of n, and one of m.
+part_rows : (R : Tree → Type 0) (n m : ℕ) (z : Trees) (r : List ℕ) → AreRead (n + m) R z → SpellsAll z r →
+    (ts : Trees) × (ss : Trees) × (p : List ℕ) × (q : List ℕ) × (joined_rows ts ss ≡ z) × AreRead n R ts × SpellsAll ts p
+    × SpellsAll ss q × (r ≡ p ++ q) × AreRead m R ss
+unfolding joined_rows
+part_rows R zero m z r a s = (NoTrees, z, [], r, refl, (refl, tt), refl, s, refl, (omega (arith, a.0), a.1))
+part_rows R (suc n) m NoTrees r a s = absurd (omega (arith, a.0))
+part_rows R (suc n) m (Then t ts) r a (x, y, c, d, e) =
+    let k = part_rows R n m ts y (omega (arith, a.0), a.1.1) d in
+    (
+      Then t k.0,
+      k.1,
+      x ++ k.2,
+      k.3,
+      ap (λ (w : Trees). Then t w) k.4,
+      (ap suc k.5.0, (a.1.0, k.5.1)),
+      (x, k.2, c, k.6, refl),
+      k.7,
+      e ∙ (ap (λ (w : List ℕ). x ++ w) k.8 ∙ sym (append_assoc x k.2 k.3)),
+      k.9,
+    )
+
+-- The values of two rows, in one list.
+join_values : {V : Type 0} (I : Tree → V → Type 0) (ts ss : Trees) (vs ws : List V) → EachIs I ts vs → EachIs I ss ws →
+    EachIs I (joined_rows ts ss) (vs ++ ws)
+unfolding joined_rows
+join_values I NoTrees ss [] ws a b = b
+join_values I NoTrees ss (v ∷ vs) ws a b = absurd a
+join_values I (Then t ts) ss [] ws a b = absurd a
+join_values I (Then t ts) ss (v ∷ vs) ws a b = (a.0, join_values I ts ss vs ws a.1 b)
+
+-- Trees in a row are made of some and the rest.
+pub some_and_rest : {V : Type 0} (R : Tree → Type 0) (I : Tree → V → Type 0) (n m : ℕ) →
+    Compound joined_rows SpellsAll (AreRead n R) (EachIs I) SpellsAll (λ (vs : List V) ts. AreRead m R ts) SpellsAll (AreRead (n + m) R)
+some_and_rest {V} R I n m = record {
+  joined = λ ts ss vs p q a i b s t. join_rows R n m ts ss p q a b s t;
+  parted = λ z r a s.
+      let k = part_rows R n m z r a s in
+      (k.0, k.1, k.2, k.3, k.4, k.5, k.6, k.7, k.8, λ vs i. k.9);
+}
+
 -- The state within a list: however reading the elements left ends, reading all ends likewise, with
 -- the elements read so far in front.
 pub record Going {S V : Type 0} (left : S → Left) (able : S → ℕ → Type 0)
@@ -59,6 +116,12 @@ module _ {S V : Type 0} {left : S → Left} {able : S → ℕ → Type 0}
       ends (Ok vs) new h = h
       ends (Err e) new h = h
 
+  -- It holds of the same elements and the same state.
+  pub going_same : {start now now' : S} {all rest : ℕ} {items items' : List V} →
+      (items' ≡ items) × (now' ≡ now) → Going left able may_leave R I H start all items now rest →
+      Going left able may_leave R I H start all items' now' rest
+  going_same e h = rw (e.0, e.1) h
+
   -- It holds after one more element was read.
   pub goes_on : {G : Error → Type 0} {start now mid : S} {all rest : ℕ} {items : List V} {v : V} →
       ((e : Error) → G e → H e) →
@@ -77,6 +140,24 @@ module _ {S V : Type 0} {left : S → Left} {able : S → ℕ → Type 0}
           k))
       ends (Err e) new k =
           so.ends (Err e) new (second_refused laws (one_and_rest R I rest) (λ x g. g) h k)
+
+  -- It holds after some more elements were read.
+  pub goes_on_by : {start now mid : S} {all rest : ℕ} {items vs : List V} →
+      Going left able may_leave R I H start all items now (length vs + rest) →
+      ReadsFrom SpellsAll (AreRead (length vs) R) (EachIs I) H left able may_leave now (Ok vs) mid →
+      Going left able may_leave R I H start all (items ++ vs) mid rest
+  goes_on_by {start = start} {mid = mid} {all = all} {rest = rest} {items = items} {vs = vs} so h =
+      record { ends = ends }
+    where
+      ends : (r : Result (List V) Error) (new : S) →
+          ReadsFrom SpellsAll (AreRead rest R) (EachIs I) H left able may_leave mid r new →
+          ReadsFrom SpellsAll (AreRead all R) (EachIs I) H left able may_leave start
+          (prefixed (items ++ vs) r) new
+      ends (Ok ws) new k = rw (append_assoc items vs ws)
+          (so.ends (Ok (vs ++ ws)) new (both_read laws (some_and_rest R I (length vs) rest)
+          (λ ts ss i j. join_values I ts ss vs ws i j) h k))
+      ends (Err e) new k =
+          so.ends (Err e) new (second_refused laws (some_and_rest R I (length vs) rest) (λ x g. g) h k)
 
   -- If reading the next element fails, reading all fails with that error.
   pub going_stops : {G : Error → Type 0} {W : Type 0} {I' : Tree → W → Type 0} {start now new : S} {all rest : ℕ}

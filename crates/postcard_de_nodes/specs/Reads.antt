@@ -1,6 +1,6 @@
 -- What a reading call does, for any kind of thing that is spelled: a tree, trees in a row, or a
 -- number alone.
-use Rattle.std.specs.Prelude.{◌≡◌, ℕ, List, Option, Result, IfOk, IfErr, MatchResult, ⊤}
+use Rattle.std.specs.Prelude.{◌≡◌, ℕ, ◌<◌, ◌≤◌, List, ◌++◌, length, Option, Result, Ok, IfOk, IfErr, MatchResult, ⊤}
 use Rattle.postcard_wire.specs.declared.error.Error.{Error}
 use Rattle.postcard_wire.specs.declared.error.Error.TheVariants.{DeserializeUnexpectedEnd}
 use Rattle.postcard_wire.specs.declared.error.Error.TheVariants.{DeserializeBadVarint}
@@ -11,6 +11,9 @@ use Rattle.postcard_wire.specs.declared.error.Error.TheVariants.{DeserializeBadO
 use Rattle.postcard_wire.specs.declared.error.Error.TheVariants.{DeserializeBadEncoding}
 use Rattle.postcard_wire.specs.declared.error.Error.TheVariants.{DeserializeBadCrc}
 use Rattle.postcard_wire.specs.declared.error.Error.TheVariants.{SerdeDeCustom, OutOfMemory}
+use Rattle.postcard_wire.specs.Tree.{Tree}
+use Rattle.postcard_wire.specs.Spelling.{SpellsAll}
+use Rattle.postcard_shape.specs.Lists.{EachIs, AreRead}
 use Rattle.postcard_de_flavors.specs.Source.{Left, CanTake, Takes}
 use Rattle.postcard_de_flavors.specs.declared.flavor.Flavor.{Ghosts}
 
@@ -64,3 +67,11 @@ abbrev pub Reads : {S M O X V : Type 0} → Ghosts S M O → (X → List ℕ →
     (X → V → Type 0) → (Error → Type 0) → S → Result V Error → S → Type 0
 Reads F spelled reads value other old result new =
     ReadsFrom spelled reads value other F.left F.able F.may_leave old result new
+
+-- A call that read some elements of a list, at least one and at most `most`, and appended them to
+-- the list `old_items`, which is now `new_items`.
+abbrev pub ReadsMore : {S M O V : Type 0} → Ghosts S M O → (Tree → Type 0) → (Tree → V → Type 0) →
+    (Error → Type 0) → ℕ → List V → List V → S → S → Type 0
+ReadsMore {V = V} F reads value other most old_items new_items old new = (vs : List V)
+    × (new_items ≡ old_items ++ vs) × (0 < length vs) × (length vs ≤ most)
+    × Reads F SpellsAll (AreRead (length vs) reads) (EachIs value) other old (Ok vs) new

@@ -1,44 +1,53 @@
-//! Lists whose elements are one byte each and in memory: read at once.
+//! Elements of a list whose bytes are in memory: read many at a time.
 
-ghost use Rattle.std.specs.Prelude.{◌≡◌, IfErr, IfOk, IfSome, Ok};
-ghost use Rattle.std.specs.Option.{IfNone};
-ghost use Rattle.postcard_wire.specs.Spelling.{SpellsAll};
-ghost use Rattle.postcard_shape.specs.Lists.{AreRead, EachIs};
+ghost use Rattle.std.specs.Prelude.{◌≡◌, IfErr, IfOk, MatchBool};
 ghost use Rattle.postcard_shape.specs.Shape.{or_memory};
-ghost use Rattle.postcard_de_nodes.specs.Reads.{Reads};
+ghost use Rattle.postcard_de_nodes.specs.Reads.{ReadsMore};
 
 use postcard_de_flavors::Flavor;
 use postcard_shape::Shaped;
 use postcard_wire::{Error, Result};
-use std::alloc::Global;
 
-/// Reads the next `count` elements of a list at once, by one copy. Returns `None`, and takes
-/// nothing, if `count` is 0, if the source has fewer bytes in memory ([`Flavor::at_hand`]), or if
-/// the type has to be read element by element ([`Shaped::list_of_bytes`]).
+/// How many elements are read one by one before it is tried again to read many.
+const PAUSE: usize = 16;
+
+/// Reads some of the next elements of a list at once, at most `most` of them, and appends them to
+/// `items`, if the source has them in memory ([`Flavor::at_hand`]) and the type takes them from
+/// there ([`Shaped::append_at_hand`]). Returns whether it did; if not, nothing is taken, and the next
+/// element is to be read by itself.
+///
+/// `pause` is 0 before the first call for a list, and else what the call before left: how many
+/// elements are to be read one by one before it is tried again.
 ///
 /// # Errors
 ///
 /// Fails with `OutOfMemory` if the allocation fails, and takes nothing then.
-pub fn list_at_hand<T: Shaped + Drop, F: Flavor>(
-    alloc: Global,
+#[inline(always)]
+pub fn append_at_hand<T: Shaped + Drop, F: Flavor>(
+    items: &mut Vec<T>,
     flavor: &mut F,
-    count: usize,
-) -> Result<Option<Vec<T>>>
-    ensures reads { IfOk result (λ list. IfSome list (λ v. Reads F.Flavor SpellsAll
-        (AreRead count T.shape.reads) (EachIs T.shape.value) (or_memory T.shape.other)
-        flavor.old (Ok v.items) flavor.new)) }
-    ensures unchanged_if_none { IfOk result (λ list. IfNone list (flavor.new ≡ flavor.old)) }
+    most: usize,
+    pause: &mut usize,
+) -> Result<bool>
+    ensures reads { IfOk result (λ some. MatchBool some
+        (ReadsMore F.Flavor T.shape.reads T.shape.value (or_memory T.shape.other) most
+        items.old.items items.new.items flavor.old flavor.new)
+        ((items.new.items ≡ items.old.items) × (flavor.new ≡ flavor.old))) }
     ensures refused { IfErr result (λ e. (e ≡ Error.OutOfMemory) × (flavor.new ≡ flavor.old)) }
 {
-    let at_hand = flavor.at_hand();
-    if count == 0 || count > at_hand.len() {
-        return Ok(None);
+    if *pause > 0 {
+        *pause -= 1;
+        return Ok(false);
     }
-    match T::list_of_bytes(alloc, &at_hand[..count])? {
-        Some(list) => {
-            flavor.try_take_n_temp(count)?;
-            Ok(Some(list))
+    let at_hand = flavor.at_hand();
+    match T::append_at_hand(items, at_hand, most)? {
+        Some(len) => {
+            flavor.try_take_n_temp(len)?;
+            Ok(true)
         }
-        None => Ok(None),
+        None => {
+            *pause = PAUSE - 1;
+            Ok(false)
+        }
     }
 }

@@ -5,7 +5,7 @@ use Rattle.postcard_wire.specs.Tree.{Tree, Trees, Byte, NoTrees, Then, trees, co
 use Rattle.postcard_wire.specs.Spelling.{SpellsAll, canonical_all}
 use Rattle.postcard_wire.specs.Reading.{IsByte, Each}
 use Rattle.postcard_shape.specs.Leaves.{byte}
-use Rattle.postcard_shape.specs.Lists.{AllFit, EachIs, AreOfBytes}
+use Rattle.postcard_shape.specs.Lists.{AllFit, EachIs, AreValues}
 
 -- The canonical encoding of a list of bytes, without its count, is those bytes.
 pub bytes_of_bytes : (xs : List ℕ) → canonical_all (trees (map Byte xs)) ≡ xs
@@ -36,9 +36,6 @@ trees_are (b ∷ u) h =
     let k = trees_are u (λ i. h (suc i)) in
     (ap suc k.0, ((b, refl, h 0), k.1), (b ∷ [], u, refl, k.2, refl), (refl, k.3))
 
--- Bytes are the list that they encode.
-pub are_bytes : (u vs : List ℕ) → ((k : ℕ) → get_or u k 0 < 256) → vs ≡ u →
-    AreOfBytes IsByte ByteIs u vs
-are_bytes u vs h e =
-    let k = trees_are u h in
-    rw e (bytes_trees u, (k.0, k.1), k.2, k.3)
+-- Bytes are the values that they encode.
+pub are_bytes : (u : List ℕ) → ((k : ℕ) → get_or u k 0 < 256) → AreValues IsByte ByteIs u u
+are_bytes u h = let k = trees_are u h in (bytes_trees u, k.1, k.2, k.3)

@@ -7,3 +7,4 @@ pub mod Sums
 pub mod Floats
 pub mod FloatLanes
 pub mod Distinct
+pub mod Varints

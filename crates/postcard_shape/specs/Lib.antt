@@ -13,3 +13,4 @@ pub mod Only
 pub mod Refusing
 pub mod Base256
 pub mod Floats
+pub mod Runs

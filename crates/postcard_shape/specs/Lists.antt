@@ -3,7 +3,7 @@
 use Rattle.std.proofs.Common.{refl, sym, ap₂, ◌∙◌, subst, ap, suc}
 use Rattle.std.proofs.lemmas.List.Sorted.{IsPermutation-refl}
 use Rattle.std.specs.List.Sorted.{IsPermutation}
-use Rattle.std.specs.Prelude.{◌≡◌, ℕ, List, [], ◌∷◌, length, ◌<◌, ◌≤◌, ◌^◌, map, Any}
+use Rattle.std.specs.Prelude.{◌≡◌, ℕ, List, [], ◌∷◌, ◌++◌, length, ◌<◌, ◌≤◌, ◌^◌, map, Any}
 use Rattle.postcard_wire.proofs.Delimited.{seq_delimited, array_delimited, fewer_delimited}
 use Rattle.postcard_wire.proofs.WellFormed.{seq_well_formed, array_well_formed}
 use Rattle.postcard_wire.specs.Reading.{Each, IsGroup, IsSeq, IsArray}
@@ -26,12 +26,18 @@ ListIs value t vs = (ts : Trees) × (t ≡ Seq ts) × EachIs value ts vs
 abbrev pub AreRead : ℕ → (Tree → Type 0) → Trees → Type 0
 AreRead n reads ts = (count ts ≡ n) × Each reads ts
 
--- The bytes spell as many trees as there are bytes, each of which is read, and the elements of the
--- list are their values.
-abbrev pub AreOfBytes : {V : Type 0} → (Tree → Type 0) → (Tree → V → Type 0) → List ℕ → List V →
+-- The bytes spell trees in a row, each of which is read, and the elements of the list are their
+-- values.
+abbrev pub AreValues : {V : Type 0} → (Tree → Type 0) → (Tree → V → Type 0) → List ℕ → List V →
     Type 0
-AreOfBytes reads value bytes vs = (ts : Trees) × AreRead (length bytes) reads ts
-    × SpellsAll ts bytes × EachIs value ts vs
+AreValues reads value p vs = (ts : Trees) × Each reads ts × SpellsAll ts p × EachIs value ts vs
+
+-- Elements were appended to the list `old`, at least one and at most `most`, which is now `new`, and
+-- the bytes are a spelling of them.
+abbrev pub Appends : {V : Type 0} → (Tree → Type 0) → (Tree → V → Type 0) → ℕ → List ℕ → List V →
+    List V → Type 0
+Appends {V} reads value most p old new = (vs : List V) × AreValues reads value p vs × (0 < length vs)
+    × (length vs ≤ most) × (new ≡ old ++ vs)
 
 -- Two lists have the same length, and their elements look alike, one by one.
 abbrev pub SameList : {V : Type 0} → (V → V → Type 0) → List V → List V → Type 0

@@ -11,14 +11,16 @@
 //! which makes a shape from those of its parts, laws included, so that a type says its shape in one
 //! line.
 //!
-//! In reading order: [`shape`] has the traits, [`first`] what one of their methods returns, [`rows`] and [`cases`] what tuples and enums are
-//! written and read as, `values` the types of std and of `arrayvec`.
+//! In reading order: [`shape`] has the traits, [`first`] what one of their methods returns, [`rows`]
+//! and [`cases`] what tuples and enums are written and read as, `runs` numbers that are read many at
+//! a time, `values` the types of std and of `arrayvec`.
 #![tactic(auto)]
 
 pub mod cases;
 pub mod first;
 pub mod formats;
 pub mod rows;
+mod runs;
 pub mod shape;
 mod values;
 

@@ -1,13 +1,13 @@
 //! The traits by which a type says its shape: directly, or as that of another type.
 
-ghost use Rattle.std.specs.Prelude.{◌≡◌, IfErr, IfOk, IfSome};
+ghost use Rattle.std.specs.Prelude.{◌≡◌, ◌<◌, ◌≤◌, length, take, IfErr, IfOk, IfSome};
+ghost use Rattle.std.specs.Option.{IfNone};
 ghost use Rattle.postcard_shape.specs.First.{AreFirst};
+ghost use Rattle.postcard_shape.specs.Lists.{Appends};
 ghost use Rattle.postcard_shape.specs.Shape.{Shape, via};
-ghost use Rattle.postcard_shape.specs.Lists.{AreOfBytes};
 
 use crate::first::FirstBytes;
 use postcard_wire::{Error, Result};
-use std::alloc::Global;
 
 /// A type that says what its values are on the wire, once for both directions.
 ///
@@ -30,22 +30,28 @@ pub trait Shaped {
         FirstBytes::OneByOne
     }
 
-    /// Returns the list that `bytes` encode, one byte for each element, if a value of the type is a
-    /// byte in memory, as that of `u8` is. With `None`, which any type may return and which is the
-    /// default, a list of the type is read element by element.
+    /// Appends to `items` the first elements of a list, at most `most` of them, which a front of
+    /// `bytes` encodes, and returns how many bytes that front has. So a list of bytes is one copy, and
+    /// numbers are read many at a time. With `None`, which any type may return and which is the
+    /// default, nothing is appended, and elements are to be read one by one.
     ///
     /// # Errors
     ///
     /// Fails with `OutOfMemory` if an allocation fails, and with no other error.
-    fn list_of_bytes(alloc: Global, bytes: &[u8]) -> Result<Option<Vec<Self>>>
+    fn append_at_hand(items: &mut Vec<Self>, bytes: &[u8], most: usize) -> Result<Option<usize>>
     where
         Self: Sized,
-        ensures reads { IfOk result
-            (λ list. IfSome list (λ v. AreOfBytes shape.reads shape.value bytes.now v.items)) }
+        ensures within { IfOk result (λ front. IfSome front
+            (λ n. (0 < n) × (n ≤ length bytes.now))) }
+        ensures reads { IfOk result (λ front. IfSome front (λ n. Appends shape.reads shape.value most
+            (take n bytes.now) items.old.items items.new.items)) }
+        ensures unchanged_if_none { IfOk result
+            (λ front. IfNone front (items.new.items ≡ items.old.items)) }
         ensures refused { IfErr result (λ e. e ≡ Error.OutOfMemory) }
     {
-        let _ = alloc;
+        let _ = items;
         let _ = bytes;
+        let _ = most;
         Ok(None)
     }
 }

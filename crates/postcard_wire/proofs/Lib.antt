@@ -9,3 +9,6 @@ pub mod Shortest
 pub mod Delimited
 pub mod WellFormed
 pub mod Listed
+pub mod WordBits
+pub mod WordTables
+pub mod Runs

@@ -5,3 +5,4 @@ pub mod Spelling
 pub mod Reading
 pub mod Digits
 pub mod Error
+pub mod Words

@@ -66,15 +66,18 @@ impl<'de, F: Flavor> Deserializer<'de, F> {
             (source_of self.old) result (source_of self.new) }
     {
         let count = numbers::count(&mut self.flavor)?;
-        if let Some(items) = lists::list_at_hand(alloc, &mut self.flavor, count)? {
-            return Ok(items);
-        }
         // Each element has at least one byte, except for types that write nothing.
         let first = self.flavor.at_hand().len().clamp(16, 128);
         let mut items = Vec::new(alloc);
-        for i in 0..count {
+        let mut pause = 0;
+        'elements: while items.len() < count {
+            let left = count - items.len();
+            let some = lists::append_at_hand(&mut items, &mut self.flavor, left, &mut pause)?;
+            if some {
+                continue;
+            }
             let item = E::element(alloc, self)?;
-            push_announced(&mut items, item, first, count - i)?;
+            push_announced(&mut items, item, first, left)?;
         }
         Ok(items)
     }

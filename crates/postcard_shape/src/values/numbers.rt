@@ -1,16 +1,17 @@
 //! The shapes of numbers of a fixed width.
 
-ghost use Rattle.std.specs.Prelude.{◌≡◌, ℕ, ◌<◌, refl, IfErr, IfOk, IfSome, IsSome};
-ghost use Rattle.std.specs.Prelude.{slice_index};
+ghost use Rattle.std.specs.Prelude.{◌≡◌, ℕ, ◌<◌, ◌≤◌, length, take, refl, slice_index};
+ghost use Rattle.std.specs.Prelude.{IfErr, IfOk, IfSome, IsSome};
+ghost use Rattle.std.specs.Option.{IfNone};
 ghost use Rattle.std.proofs.Common.{inl, inr};
 ghost use Rattle.postcard_shape.specs.First.{AreFirst, IsWhole};
 ghost use Rattle.postcard_shape.specs.Leaves.{byte, signed_byte, num, int};
-ghost use Rattle.postcard_shape.specs.Lists.{AreOfBytes};
+ghost use Rattle.postcard_shape.specs.Lists.{Appends};
 
 use crate::first::FirstBytes;
+use crate::runs;
 use crate::shape::Shaped;
 use postcard_wire::{Error, Result};
-use std::alloc::Global;
 
 /// Returns the same slice. Its contract tells the prover that each element is below 256.
 fn in_range(bytes: &[u8]) -> &[u8]
@@ -30,30 +31,53 @@ impl Shaped for u8 {
         FirstBytes::Whole(items)
     }
 
-    fn list_of_bytes(alloc: Global, bytes: &[u8]) -> Result<Option<Vec<u8>>>
-        ensures reads { IfOk result
-            (λ list. IfSome list (λ v. AreOfBytes byte.reads byte.value bytes.now v.items)) }
+    fn append_at_hand(items: &mut Vec<u8>, bytes: &[u8], most: usize) -> Result<Option<usize>>
+        ensures within { IfOk result (λ front. IfSome front
+            (λ n. (0 < n) × (n ≤ length bytes.now))) }
+        ensures reads { IfOk result (λ front. IfSome front (λ n. Appends byte.reads byte.value most
+            (take n bytes.now) items.old.items items.new.items)) }
+        ensures unchanged_if_none { IfOk result
+            (λ front. IfNone front (items.new.items ≡ items.old.items)) }
         ensures refused { IfErr result (λ e. e ≡ Error.OutOfMemory) }
-        ensures returns_some { IfOk result (λ list. IsSome list) }
+        ensures returns_some { (0 < most) → (most ≤ length bytes.now)
+            → IfOk result (λ front. IsSome front) }
     {
-        let bytes = in_range(bytes);
-        match bytes.to_vec(alloc) {
-            Ok(copy) => Ok(Some(copy)),
-            Err(_) => Err(Error::OutOfMemory),
+        if most == 0 || most > bytes.len() {
+            return Ok(None);
         }
+        let front = in_range(&bytes[..most]);
+        if items.reserve_exact(most).is_err() || items.extend_from_slice(front).is_err() {
+            return Err(Error::OutOfMemory);
+        }
+        Ok(Some(most))
     }
 }
 
 impl Shaped for u16 {
     ghost shape = { num 16 (inl refl) };
+
+    #[inline(always)]
+    fn append_at_hand(items: &mut Vec<u16>, bytes: &[u8], most: usize) -> Result<Option<usize>> {
+        runs::append(items, bytes, most)
+    }
 }
 
 impl Shaped for u32 {
     ghost shape = { num 32 (inr (inl refl)) };
+
+    #[inline(always)]
+    fn append_at_hand(items: &mut Vec<u32>, bytes: &[u8], most: usize) -> Result<Option<usize>> {
+        runs::append(items, bytes, most)
+    }
 }
 
 impl Shaped for u64 {
     ghost shape = { num 64 (inr (inr (inl refl))) };
+
+    #[inline(always)]
+    fn append_at_hand(items: &mut Vec<u64>, bytes: &[u8], most: usize) -> Result<Option<usize>> {
+        runs::append(items, bytes, most)
+    }
 }
 
 impl Shaped for u128 {
@@ -66,14 +90,29 @@ impl Shaped for i8 {
 
 impl Shaped for i16 {
     ghost shape = { int 16 (inl refl) };
+
+    #[inline(always)]
+    fn append_at_hand(items: &mut Vec<i16>, bytes: &[u8], most: usize) -> Result<Option<usize>> {
+        runs::append(items, bytes, most)
+    }
 }
 
 impl Shaped for i32 {
     ghost shape = { int 32 (inr (inl refl)) };
+
+    #[inline(always)]
+    fn append_at_hand(items: &mut Vec<i32>, bytes: &[u8], most: usize) -> Result<Option<usize>> {
+        runs::append(items, bytes, most)
+    }
 }
 
 impl Shaped for i64 {
     ghost shape = { int 64 (inr (inr (inl refl))) };
+
+    #[inline(always)]
+    fn append_at_hand(items: &mut Vec<i64>, bytes: &[u8], most: usize) -> Result<Option<usize>> {
+        runs::append(items, bytes, most)
+    }
 }
 
 impl Shaped for i128 {
