@@ -1,5 +1,5 @@
 -- Bytes in a word: what a mask leaves of each, and the digits brought together.
-use Rattle.std.proofs.Common.{◌≡◌, ℕ, zero, suc, ◌+◌, ◌-◌, ◌*◌, ◌/◌, ◌%◌, ◌<◌, ◌≤◌, ◌^◌, ◌⊎◌, inl, inr, List, [], ◌∷◌, ◌++◌, length, take, get_or, bit_and, refl, sym, ap, ap₂, ◌∙◌, arith}
+use Rattle.std.proofs.Common.{◌≡◌, ℕ, zero, suc, ◌+◌, ◌*◌, ◌%◌, ◌<◌, ◌≤◌, ◌^◌, ◌⊎◌, inl, inr, List, [], ◌∷◌, length, take, get_or, bit_and, refl, sym, ap, ap₂, ◌∙◌, arith}
 use Rattle.std.proofs.lemmas.Nat.{and_block, and_mask, and_comm, and_le_l, and_le_r}
 use Rattle.std.proofs.lemmas.Nat.Bits.{and_high_mask, same_from_bits, bit_at_xor, bit_at_or, bit_at-zero, bit_at-lt}
 use Rattle.std.specs.Int.{bit_at}

@@ -1,5 +1,5 @@
 -- The tables of masks, row by row.
-use Rattle.std.proofs.Common.{◌≡◌, ℕ, zero, suc, ◌<◌, ◌≤◌, ◌⊎◌, inl, inr, List, [], ◌∷◌, get_or, refl, arith}
+use Rattle.std.proofs.Common.{ℕ, zero, suc, ◌≤◌, ◌⊎◌, inl, inr, List, [], ◌∷◌, get_or, refl, arith}
 use Rattle.postcard_wire.proofs.WordBits.{IsRow, IsNoRow, tops_128, tops_16, tops_4}
 
 -- The data of each byte, by the number of bytes.

@@ -1,4 +1,4 @@
-use Rattle.std.proofs.Common.{◌≡◌, ℕ, take, drop, length, arith, ap, length-drop}
+use Rattle.std.proofs.Common.{◌≡◌, ℕ, take, drop, arith, length-drop}
 use Rattle.std.proofs.Math.ListN.{length-set}
 use Rattle.std.proofs.lemmas.List.{length-take-le, take_all}
 use Rattle.postcard_wire.proofs.WordBits.{or_zero}

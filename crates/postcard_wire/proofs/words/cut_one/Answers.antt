@@ -1,8 +1,8 @@
-use Rattle.std.proofs.Common.{◌≡◌, ℕ, ◌≤◌, ◌⊎◌, inl, inr, List, take, length, get_or, refl, arith, bit_and}
+use Rattle.std.proofs.Common.{◌≡◌, ℕ, ◌≤◌, ◌⊎◌, inl, inr, List, take, length, get_or, bit_and}
 use lib.Bits.{bit_xor}
 use Rattle.postcard_wire.specs.Words.{word_of, IsCut, AreBytes, IsNarrow}
 use Rattle.postcard_wire.proofs.WordBits.{IsRow, IsNoRow, row_cut}
-use Rattle.postcard_wire.proofs.WordTables.{rows_16, rows_32, rows_64, on_table, data_table, high_table_16, high_table_32, high_table_64}
+use Rattle.postcard_wire.proofs.WordTables.{rows_16, rows_32, rows_64, on_table, data_table}
 use Rattle.postcard_wire.proofs.words.cut_one.Goals as goal
 use Rattle.postcard_wire.proofs.words.cut_one.Goals.{then-bits-eq16, else-bits-eq16+then-bits-eq32, else-bits-eq16+else-bits-eq32}
 

@@ -1,4 +1,4 @@
-use Rattle.std.proofs.Common.{◌≡◌, ◌<◌, ◌+◌, ◌∙◌, take, length, get_or, arith, sym, ap, List, suc, ◌^◌, ℕ}
+use Rattle.std.proofs.Common.{◌≡◌, ◌∙◌, take, length, arith, sym, ap, List, ℕ}
 use Rattle.std.proofs.lemmas.List.{length-take-le, get_or-take}
 use Rattle.std.proofs.lemmas.Simd.{bitmask_splat}
 use lib.Dec.{ltb}

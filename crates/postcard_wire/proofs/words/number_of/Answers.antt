@@ -1,4 +1,4 @@
-use Rattle.std.proofs.Common.{ℕ, ◌+◌, ◌*◌, ◌%◌, get_or, arith}
+use Rattle.std.proofs.Common.{ℕ, ◌%◌, get_or, arith}
 use Rattle.postcard_wire.proofs.WordBits.{eight_digits, five_digits}
 use Rattle.postcard_wire.proofs.words.number_of.Goals as goal
 use Rattle.postcard_wire.proofs.words.number_of.Goals.{then-bits-le32, else-bits-le32}

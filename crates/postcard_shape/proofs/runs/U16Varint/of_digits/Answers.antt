@@ -1,4 +1,4 @@
-use Rattle.std.proofs.Common.{inl, inr, refl, arith}
+use Rattle.std.proofs.Common.{inl, refl, arith}
 use Rattle.postcard_shape.proofs.Varints.{num_value}
 use Rattle.postcard_shape.proofs.runs.U16Varint.of_digits.Goals as goal
 
