@@ -1,5 +1,5 @@
 -- Reading elements of a list whose bytes are in memory.
-use Rattle.std.proofs.Common.{◌≡◌, ℕ, suc, ◌≤◌, List, [], ◌∷◌, ◌++◌, length, take, drop, Option, Ok, refl, sym}
+use Rattle.std.proofs.Common.{◌≡◌, ℕ, suc, ◌≤◌, List, [], ◌∷◌, ◌++◌, length, take, drop, Ok, refl, sym}
 use Rattle.std.proofs.Common.{◌∙◌, ap, subst, append_assoc}
 use Rattle.std.proofs.lemmas.List.{take-append-drop, length-take-le}
 use Rattle.postcard_wire.specs.declared.error.Error.{Error}

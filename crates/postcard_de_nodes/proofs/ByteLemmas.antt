@@ -1,5 +1,5 @@
 -- Reading bytes after their count, as a list of trees; and lack of memory for a copy.
-use Rattle.std.proofs.Common.{◌≡◌, ℕ, suc, ◌<◌, inr, List, [], ◌∷◌, ◌++◌, length, get_or, Option}
+use Rattle.std.proofs.Common.{◌≡◌, ℕ, suc, ◌<◌, inr, List, [], ◌∷◌, ◌++◌, length, get_or}
 use Rattle.std.proofs.Common.{Ok}
 use Rattle.std.proofs.Common.{refl, sym, ◌∙◌, ap, subst}
 use Rattle.postcard_wire.specs.declared.error.Error.{Error}

@@ -1,5 +1,5 @@
 -- Texts of a fixed capacity, made of texts that were read.
-use Rattle.std.proofs.Common.{◌≡◌, ℕ, ◌<◌, ◌≤◌, ◌^◌, inr, List, ◌++◌, length, Option, Ok, refl, sym}
+use Rattle.std.proofs.Common.{◌≡◌, ℕ, ◌<◌, ◌≤◌, ◌^◌, inr, List, ◌++◌, length, Ok, refl, sym}
 use Rattle.std.proofs.Common.{◌∙◌, ap, subst}
 use Rattle.std.specs.Prelude.{IsUtf8}
 use Rattle.postcard_wire.specs.declared.error.Error.TheVariants.{SerdeDeCustom}

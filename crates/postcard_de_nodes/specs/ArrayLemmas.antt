@@ -1,5 +1,5 @@
 -- Reading a given number of trees, as one array.
-use Rattle.std.proofs.Common.{◌≡◌, ℕ, List, Option, Ok, refl}
+use Rattle.std.proofs.Common.{ℕ, List, Ok, refl}
 use Rattle.postcard_wire.specs.declared.error.Error.{Error}
 use Rattle.postcard_wire.specs.Tree.{Tree, Group}
 use Rattle.postcard_wire.specs.Spelling.{Spells, SpellsAll}

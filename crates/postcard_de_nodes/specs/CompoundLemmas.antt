@@ -1,6 +1,6 @@
 -- Reading a thing and then a second, which may depend on the value of the first, as one thing made
 -- of both.
-use Rattle.std.proofs.Common.{◌≡◌, ℕ, List, ◌++◌, Option, Ok, sym, subst}
+use Rattle.std.proofs.Common.{◌≡◌, ℕ, List, ◌++◌, Ok, sym, subst}
 use Rattle.postcard_wire.specs.declared.error.Error.{Error}
 use Rattle.postcard_de_flavors.specs.Source.{Left, Takes, Laws}
 use Rattle.postcard_de_nodes.specs.Reads.{ReadsFrom}

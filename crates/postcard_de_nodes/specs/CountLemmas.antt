@@ -1,5 +1,5 @@
 -- Reading a count and then that many trees, as one list.
-use Rattle.std.proofs.Common.{◌≡◌, ℕ, List, Option, Ok, refl, sym, ◌∙◌, subst}
+use Rattle.std.proofs.Common.{◌≡◌, ℕ, List, Ok, refl, sym, ◌∙◌, subst}
 use Rattle.postcard_wire.specs.declared.error.Error.{Error}
 use Rattle.postcard_wire.specs.Number.{SpellsNum}
 use Rattle.postcard_wire.specs.Tree.{Tree, Seq, count}

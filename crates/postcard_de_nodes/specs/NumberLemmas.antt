@@ -1,5 +1,5 @@
 -- A number that was read, by itself and as a tree.
-use Rattle.std.proofs.Common.{◌≡◌, ℕ, ◌<◌, ◌^◌, List, Option, Ok, ℤ, refl, sym, ◌∙◌, subst}
+use Rattle.std.proofs.Common.{◌≡◌, ℕ, ◌<◌, ◌^◌, Ok, ℤ, refl, sym, ◌∙◌, subst}
 use Rattle.postcard_wire.specs.Number.{SpellsNum, zigzag}
 use Rattle.postcard_wire.specs.Tree.{Num, Int, IsWidth}
 use Rattle.postcard_wire.specs.Spelling.{Spells}

@@ -1,6 +1,6 @@
 -- Reading one node: what holds if a front was read, and that there is no such front if the call
 -- fails.
-use Rattle.std.proofs.Common.{◌≡◌, ℕ, ◌+◌, ◌≤◌, inl, inr, List, ◌++◌, length, Option, Ok, Err}
+use Rattle.std.proofs.Common.{◌≡◌, ℕ, ◌+◌, ◌≤◌, inl, inr, List, ◌++◌, length, Ok, Err}
 use Rattle.std.proofs.Common.{Result, IsErrAnd, refl, sym, ap, subst}
 use Rattle.postcard_wire.specs.declared.error.Error.{Error}
 use Rattle.postcard_wire.specs.declared.error.Error.TheVariants.{OutOfMemory}

@@ -1,6 +1,6 @@
 -- What a reading call does, for any kind of thing that is spelled: a tree, trees in a row, or a
 -- number alone.
-use Rattle.std.specs.Prelude.{◌≡◌, ℕ, ◌<◌, ◌≤◌, List, ◌++◌, length, Option, Result, Ok, IfOk, IfErr, MatchResult, ⊤}
+use Rattle.std.specs.Prelude.{◌≡◌, ℕ, ◌<◌, ◌≤◌, List, ◌++◌, length, Result, Ok, IfOk, IfErr, MatchResult, ⊤}
 use Rattle.postcard_wire.specs.declared.error.Error.{Error}
 use Rattle.postcard_wire.specs.declared.error.Error.TheVariants.{DeserializeUnexpectedEnd}
 use Rattle.postcard_wire.specs.declared.error.Error.TheVariants.{DeserializeBadVarint}

@@ -1,7 +1,7 @@
 -- Why a call that reads one node fails (behaviour of postcard 1.1.3: the errors of its
 -- `deserialize_*` calls). Over a source that fails only if too few bytes are left, as the one over
 -- a slice, each reason is exact.
-use Rattle.std.specs.Prelude.{◌≡◌, ℕ, ◌<◌, ◌^◌, ◌⊎◌, List, [], ◌++◌, length, Option, IsUtf8}
+use Rattle.std.specs.Prelude.{◌≡◌, ℕ, ◌<◌, ◌^◌, ◌⊎◌, List, [], ◌++◌, length, IsUtf8}
 use Rattle.postcard_wire.specs.declared.error.Error.{Error}
 use Rattle.postcard_wire.specs.declared.error.Error.TheVariants.{DeserializeUnexpectedEnd}
 use Rattle.postcard_wire.specs.declared.error.Error.TheVariants.{DeserializeBadVarint}

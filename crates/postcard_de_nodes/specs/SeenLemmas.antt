@@ -1,6 +1,6 @@
 -- A value that was read and is then turned into another, or refused; and a thing after which no
 -- second may follow.
-use Rattle.std.proofs.Common.{◌≡◌, ℕ, List, Option, Ok, Result, IsErrAnd, refl}
+use Rattle.std.proofs.Common.{◌≡◌, ℕ, List, Ok, Result, IsErrAnd, refl}
 use Rattle.postcard_wire.specs.declared.error.Error.{Error}
 use Rattle.postcard_wire.specs.declared.error.Error.TheVariants.{OutOfMemory}
 use Rattle.postcard_de_flavors.specs.Source.{Left, Laws}

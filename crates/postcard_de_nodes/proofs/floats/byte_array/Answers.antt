@@ -1,4 +1,4 @@
-use Rattle.std.proofs.Common.{◌≡◌, ◌∙◌, refl}
+use Rattle.std.proofs.Common.{◌∙◌, refl}
 use Rattle.postcard_de_nodes.specs.ArrayLemmas.{array_read, array_refused}
 use Rattle.postcard_de_nodes.specs.ReadLemmas.{is_refusal, ends_after_front}
 use Rattle.postcard_de_nodes.specs.TakeLemmas.{nothing_taken}
