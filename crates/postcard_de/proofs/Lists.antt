@@ -204,14 +204,6 @@ pub one_more_left : (n : ℕ) → (n ≡ 0 → ⊥) → n ≡ suc (n - 1)
 one_more_left zero h = absurd (h refl)
 one_more_left (suc n) h = omega arith
 
--- A call that left a state left any state that equals it.
-pub not_moved : {X S V : Type 0} {spelled : X → List ℕ → Type 0} {reads : X → Type 0}
-    {value : X → V → Type 0} {other : Error → Type 0} {left : S → Left} {able : S → ℕ → Type 0}
-    {may_leave : S → S → Type 0} {old mid new : S} {r : Result V Error} → new ≡ mid →
-    ReadsFrom spelled reads value other left able may_leave old r mid →
-    ReadsFrom spelled reads value other left able may_leave old r new
-not_moved e h = rw e h
-
 -- What holds if an option is `None` holds of an option that is.
 pub at_none : {V P : Type 0} {o : Option V} → o ≡ None → IfNone o P → P
 at_none e h = rw e at h

@@ -44,7 +44,7 @@ impl Varint for u16 {
 
     #[inline(always)]
     fn bits() -> u32 {
-        16
+        u16::BITS
     }
 
     #[inline(always)]
@@ -60,7 +60,7 @@ impl Varint for u32 {
 
     #[inline(always)]
     fn bits() -> u32 {
-        32
+        u32::BITS
     }
 
     #[inline(always)]
@@ -76,7 +76,7 @@ impl Varint for u64 {
 
     #[inline(always)]
     fn bits() -> u32 {
-        64
+        u64::BITS
     }
 
     #[inline(always)]
@@ -92,7 +92,7 @@ impl Varint for i16 {
 
     #[inline(always)]
     fn bits() -> u32 {
-        16
+        i16::BITS
     }
 
     #[inline(always)]
@@ -108,7 +108,7 @@ impl Varint for i32 {
 
     #[inline(always)]
     fn bits() -> u32 {
-        32
+        i32::BITS
     }
 
     #[inline(always)]
@@ -124,7 +124,7 @@ impl Varint for i64 {
 
     #[inline(always)]
     fn bits() -> u32 {
-        64
+        i64::BITS
     }
 
     #[inline(always)]

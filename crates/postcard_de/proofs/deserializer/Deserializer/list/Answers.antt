@@ -38,7 +38,7 @@ pub elements-preserved-then-some : goal.elements-preserved-then-some
 elements-preserved-then-some g c =
     let n = c.in_ok-count.count in
     let old = c.elements.items in
-    let new = c.append_at_hand-some.new.items in
+    let new = c.append_at_hand.new.items in
     let read = rw c.if-some.true at c.in_ok-some.ensures.reads in
     let grown = ap (λ (z : List g.row.T.Denot). length z) read.1 in
     let sum = length-append old.items read.0 in
@@ -52,7 +52,7 @@ elements-preserved-then-some g c =
 pub elements-smaller-then-some : goal.elements-smaller-then-some
 elements-smaller-then-some g c =
     let old = c.elements.items in
-    let new = c.append_at_hand-some.new.items in
+    let new = c.append_at_hand.new.items in
     let read = rw c.if-some.true at c.in_ok-some.ensures.reads in
     let grown = ap (λ (z : List g.row.T.Denot). length z) read.1 in
     let sum = length-append old.items read.0 in
@@ -98,7 +98,7 @@ elements-preserved g c =
     let kept = ap (λ (z : List g.row.T.Denot). length z) same.0 in
     let pushed = c.in_ok-push_announced.ensures.pushed in
     let grown = ap (λ (z : List g.row.T.Denot). length z) pushed in
-    let sum = length-append c.append_at_hand-some.new.items.items (c.in_ok-item.item ∷ []) in
+    let sum = length-append c.append_at_hand.new.items.items (c.in_ok-item.item ∷ []) in
     let rest : n - vec_len new ≡ n - (vec_len old + 1) =
     omega (arith, old.ok.0, new.ok.0, kept, grown, sum) in
     record {
@@ -114,7 +114,7 @@ elements-smaller g c =
     let same = rw c.if-some.false at c.in_ok-some.ensures.reads in
     let kept = ap (λ (z : List g.row.T.Denot). length z) same.0 in
     let grown = ap (λ (z : List g.row.T.Denot). length z) c.in_ok-push_announced.ensures.pushed in
-    let sum = length-append c.append_at_hand-some.new.items.items (c.in_ok-item.item ∷ []) in
+    let sum = length-append c.append_at_hand.new.items.items (c.in_ok-item.item ∷ []) in
     omega (arith, old.ok.0, new.ok.0, kept, grown, sum, c.elements-test.true)
 
 pub returns : goal.returns
