@@ -59,8 +59,7 @@ unfolding joined_rows
 part_rows R zero m z r a s = (NoTrees, z, [], r, refl, (refl, tt), refl, s, refl, (omega (arith, a.0), a.1))
 part_rows R (suc n) m NoTrees r a s = absurd (omega (arith, a.0))
 part_rows R (suc n) m (Then t ts) r a (x, y, c, d, e) =
-    let k = part_rows R n m ts y (omega (arith, a.0), a.1.1) d in
-    (
+    let k = part_rows R n m ts y (omega (arith, a.0), a.1.1) d in (
       Then t k.0,
       k.1,
       x ++ k.2,

@@ -1,4 +1,4 @@
-use Rattle.std.proofs.Common.{◌≡◌, suc, ◌-◌, ◌+◌, ◌∷◌, [], ◌++◌, List, Vec, Global, vec_len, length, arith, ap, length-append}
+use Rattle.std.proofs.Common.{◌≡◌, suc, ◌-◌, ◌+◌, ◌∷◌, [], List, Vec, Global, vec_len, length, arith, ap, length-append}
 use Rattle.postcard_de_nodes.specs.ErrorLemmas.{with_memory}
 use Rattle.postcard_de_nodes.specs.ReadLemmas.{is_refusal}
 use Rattle.postcard_de.proofs.Lists.{going, going_same, goes_on, goes_on_by, going_stops, going_full, going_done}
@@ -104,7 +104,7 @@ elements-preserved g c =
     record {
       within = omega (arith, old.ok.0, new.ok.0, kept, grown, sum, c.elements-test.true);
       so = rw (pushed, rest) (goes_on g.F.Flavor.lawful (with_memory _)
-      (going_same g.F.Flavor.lawful same (rw more at c.elements.invariant.so)) c.in_ok-item.ensures);
+          (going_same g.F.Flavor.lawful same (rw more at c.elements.invariant.so)) c.in_ok-item.ensures);
     }
 
 pub elements-smaller : goal.elements-smaller

@@ -9,7 +9,7 @@ invariant-elements g l = let f = g.F.Flavor in let t = g.T.Shaped.shape in
     record {
       within : vec_len l.items ≤ l.count;
       so : Going f.left f.able f.may_leave t.reads t.value (or_memory t.other) (source_of l.initial.self) l.count
-          l.items.items (source_of l.self) (l.count - vec_len l.items)
+          l.items.items (source_of l.self) (l.count - vec_len l.items);
     }
 
 abbrev pub decreases-elements : goal.decreases-elements
