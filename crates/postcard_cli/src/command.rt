@@ -56,7 +56,7 @@ impl ValueType {
 }
 
 /// Returns whether a word counts as a type expression: whether it begins with `(`, `[` or `{`, ends
-/// with `?`, has a `|` in it, or is `f32` or `f64`. No name of a type does.
+/// with `?` or `>`, has a `|` in it, or is `f32` or `f64`. No name of a type does.
 pub fn is_expression(word: &str) -> bool
     ensures { result ≡ looks_like_expression word.now }
 {
@@ -65,6 +65,7 @@ pub fn is_expression(word: &str) -> bool
         || bytes.starts_with(b"[")
         || bytes.starts_with(b"{")
         || bytes.ends_with(b"?")
+        || bytes.ends_with(b">")
         || bytes.contains(&b'|')
         || bytes == b"f32".as_slice()
         || bytes == b"f64".as_slice()

@@ -1,10 +1,15 @@
 -- The bounds of `specs/Bounds.antt` hold of each type that a text of the grammar spells.
 use Rattle.std.proofs.Common.{◌≡◌, ℕ, zero, suc, ◌+◌, ◌*◌, ◌≤◌, true, List, [], ◌∷◌, arith, inl, inr}
 use Rattle.postcard_dyn_schema.specs.declared.schema.Schema.{Schema}
+use Rattle.postcard_dyn_schema.specs.declared.schema.Schema.TheVariants.{Named}
+use Rattle.postcard_dyn_schema.specs.declared.angled.Holder.{Holder}
+use Rattle.postcard_dyn_schema.specs.declared.angled.Holder.TheVariants as holders
+use Rattle.postcard_dyn_schema.specs.declared.angled.Pair.{Pair}
+use Rattle.postcard_dyn_schema.specs.declared.angled.Pair.TheVariants as pairs
 use Rattle.postcard_dyn_schema.specs.Meaning.{MessageType, MessageTypes, seq, array, group, choice, no_types, then_type, has_bytes, type_of, types_of}
 use Rattle.postcard_dyn_schema.proofs.TypeOf.{type_of_leaf, type_of_option, type_of_seq, type_of_map, type_of_array, type_of_group, type_of_enum, type_of_named}
 use Rattle.postcard_dyn_schema.specs.Bounds.{ElementsHaveBytes, AllElementsHaveBytes, depth, greatest_depth}
-use Rattle.postcard_dyn_schema.specs.Grammar.{Separated, IsLeaf, IsListRest, IsTupleRest, IsField, IsFieldsRest, IsMapRest, IsPlain, IsOptions, IsContent, IsVariantText, IsEnumText, IsType}
+use Rattle.postcard_dyn_schema.specs.Grammar.{Separated, IsLeaf, IsListRest, IsTupleRest, IsField, IsFieldsRest, IsMapRest, IsHolderRest, IsPairRest, IsWorded, IsPlain, IsOptions, IsContent, IsVariantText, IsEnumText, IsType}
 
 -- The elements of the type have bytes, and its depth is at most n.
 pub record Bounded (n : ℕ) (t : MessageType) : Type 0 where
@@ -71,8 +76,32 @@ of_map n T each s t (b, v, key, value, is, entry, items, full, (x, y, h, (x2, y2
 of_leaf : (n : ℕ) (s : Schema) (t : List ℕ) → IsLeaf s t → Bounded n (type_of s)
 of_leaf n s t (l, word, is, named, spelled) = rw (is, type_of_leaf l) record { full = tt; low = omega arith }
 
+of_holder : (n : ℕ) (T : Schema → List ℕ → Type 0) (h : Holder) → Bounds n T → Bounds (n + 1) (IsHolderRest T h)
+of_holder n T holders.Itself each s t (x, may, is, (f, g, inside, close, e)) = rw is (more n (n + 1) (type_of x) (omega arith) (each x f inside))
+of_holder n T holders.List each s t (x, may, (b, is, value), (f, g, inside, close, e)) = rw (is, type_of_seq b, value) (bounded_seq n (type_of x) may (each x f inside))
+of_holder n T holders.Option each s t (x, may, (b, is, value), (f, g, inside, close, e)) =
+    let held : Bounded n (type_of x) = each x f inside in
+    rw (is, type_of_option b, value) record { full = held.full; low = omega (arith, held.low) }
+
+of_pair : (n : ℕ) (T : Schema → List ℕ → Type 0) (p : Pair) → Bounds n T → Bounds (n + 2) (IsPairRest T p)
+of_pair n T pairs.Map each s t (x, y, may, (b, v, is, entry, items), (f, f2, first, (g, g2, comma, (h, h2, second, close, e3), e2), e)) =
+    let parts : AllBounded n (types_of v.items) = rw items (one n (type_of x) (types_of (y ∷ [])) (each x f first) (one n (type_of y) no_types (each y h second) (none n))) in
+    let inside : Bounded (n + 1) (type_of b.value) = rw (entry, type_of_group v) (bounded_group n (types_of v.items) parts) in
+    let full : has_bytes (type_of b.value) ≡ true = rw (entry, type_of_group v, items) may in
+    rw (is, type_of_map b) (more (n + 1 + 1) (n + 2) (seq (type_of b.value)) (omega arith) (bounded_seq (n + 1) (type_of b.value) full inside))
+of_pair n T pairs.Result each s t (x, y, may, (v, a, b, c, d, is, items, ok, value, err, error), (f, f2, first, (g, g2, comma, (h, h2, second, close, e3), e2), e)) =
+    let good : Bounded n (type_of (Named a b)) = rw (type_of_named a b, value) (each x f first) in
+    let bad : Bounded n (type_of (Named c d)) = rw (type_of_named c d, error) (each y h second) in
+    let parts : AllBounded n (types_of v.items) = rw items (one n (type_of (Named a b)) (types_of (Named c d ∷ [])) good (one n (type_of (Named c d)) no_types bad (none n))) in
+    rw (is, type_of_enum v) (more (n + 1) (n + 2) (choice (types_of v.items)) (omega arith) (bounded_choice n (types_of v.items) parts))
+
+of_worded : (n : ℕ) (T : Schema → List ℕ → Type 0) → Bounds n T → Bounds (n + 2) (IsWorded T)
+of_worded n T each s t (inl h) = of_leaf (n + 2) s t h
+of_worded n T each s t (inr (name, (x, y, word, inl (h, called, (f, g, sign, rest, e2)), e))) = more (n + 1) (n + 2) (type_of s) (omega arith) (of_holder n T h each s g rest)
+of_worded n T each s t (inr (name, (x, y, word, inr (p, called, (f, g, sign, rest, e2)), e))) = of_pair n T p each s g rest
+
 of_plain : (n : ℕ) (T : Schema → List ℕ → Type 0) → Bounds n T → Bounds (n + 2) (IsPlain T)
-of_plain n T each s t (inl h) = of_leaf (n + 2) s t h
+of_plain n T each s t (inl h) = of_worded n T each s t h
 of_plain n T each s t (inr (inl (x, y, sign, h, e))) = more (n + 1) (n + 2) (type_of s) (omega arith) (of_list n T each s y h)
 of_plain n T each s t (inr (inr (inl (x, y, sign, h, e)))) = more (n + 1) (n + 2) (type_of s) (omega arith) (of_tuple n T each s y h)
 of_plain n T each s t (inr (inr (inr (x, y, sign, inl h, e)))) = more (n + 1) (n + 2) (type_of s) (omega arith) (of_fields n T each s y h)

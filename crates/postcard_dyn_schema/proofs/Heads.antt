@@ -1,17 +1,22 @@
 -- The first byte of a type, a variant and a field, after blanks.
-use Rattle.std.proofs.Common.{◌≡◌, ℕ, zero, suc, ◌<◌, nat_eq, Bool, true, false, Decides, ◌||◌, List, [], ◌∷◌, ◌++◌, length, Some, Option, codes, bytes_eq, string_bytes, refl, sym, ap, subst, ◌∙◌, true≢false, arith, inl, inr}
+use Rattle.std.proofs.Common.{◌≡◌, ℕ, zero, suc, ◌<◌, nat_eq, Bool, true, false, Decides, ◌||◌, List, [], ◌∷◌, ◌++◌, length, Some, None, Option, codes, bytes_eq, string_bytes, refl, sym, ap, subst, ◌∙◌, true≢false, arith, ◌⊎◌, inl, inr}
 use Rattle.std.specs.Prelude.{slice_index, if◌then◌else◌}
 use Rattle.std.specs.Str.{IsTrimAsciiStart}
-use Rattle.std.specs.Char.{is_ascii_lowercase, is_ascii_uppercase, is_ascii_whitespace}
+use Rattle.std.specs.Char.{is_ascii_uppercase, is_ascii_whitespace}
 use Rattle.postcard_dyn_schema.specs.declared.schema.Schema.{Schema}
 use Rattle.postcard_dyn_schema.specs.declared.schema.Leaf.{Leaf}
 use Rattle.postcard_dyn_schema.specs.declared.schema.Leaf.TheVariants.{U8, U16, U32, U64, U128, I8, I16, I32, I64, I128, F32, F64, Char, Str, Bytes}
 use Rattle.postcard_dyn_schema.specs.declared.schema.Leaf.TheVariants as leaves
+use Rattle.postcard_dyn_schema.specs.declared.angled.Holder.{Holder}
+use Rattle.postcard_dyn_schema.specs.declared.angled.Holder.TheVariants as holders
+use Rattle.postcard_dyn_schema.specs.declared.angled.Pair.{Pair}
+use Rattle.postcard_dyn_schema.specs.declared.angled.Pair.TheVariants as pairs
 use Rattle.postcard_dyn_schema.specs.Meaning.{MessageType, option, type_of, IsNameOf}
-use Rattle.postcard_dyn_schema.specs.Text.{unblank, Then, TakesPhrase, IsSign, IsWord}
-use Rattle.postcard_dyn_schema.specs.Grammar.{Separated, IsField, IsPlain, IsOptions, IsVariantText, IsLead, IsEnumText, IsType}
-use Rattle.postcard_dyn_schema.specs.Fronts.{Starts, starts_enum}
-use Rattle.postcard_dyn_schema.specs.FrontLemmas.{trim_is, sign_unblank, word_unblank, takes_split, same_first, not_empty}
+use Rattle.postcard_dyn_schema.specs.Text.{unblank, Then, TakesPhrase, IsSign, IsWord, is_of_word}
+use Rattle.postcard_dyn_schema.specs.Angled.{IsHolderName, IsPairName}
+use Rattle.postcard_dyn_schema.specs.Grammar.{Separated, IsTupleRest, IsField, IsFieldsRest, IsHolderRest, IsPairRest, IsAngleRest, IsWorded, IsPlain, IsOptions, IsContent, IsVariantText, IsLead, IsEnumText, IsType}
+use Rattle.postcard_dyn_schema.specs.Fronts.{Starts, StartsEnum, follows_name}
+use Rattle.postcard_dyn_schema.specs.FrontLemmas.{trim_is, pass_head, sign_unblank, word_unblank, takes_split, same_first, not_empty}
 use Rattle.postcard_dyn_schema.proofs.TypeOf.{type_of_option}
 
 -- The first byte of a word.
@@ -19,26 +24,45 @@ pub word_head : (w a r : List ℕ) → 0 < length w → TakesPhrase (IsWord w) a
 word_head [] a r filled h = absurd (omega (arith, filled))
 word_head (x ∷ w) a r filled h = (w ++ r, word_unblank x w a r h)
 
--- The names of types begin with small letters.
-pub leaf_head : (w : List ℕ) (l : Leaf) → IsNameOf w l → (x : ℕ) × (t : List ℕ) × (w ≡ x ∷ t) × (is_ascii_lowercase x ≡ true)
-leaf_head w leaves.Bool h = (98, codes "ool", h, refl)
-leaf_head w U8 h = (117, codes "8", h, refl)
-leaf_head w U16 h = (117, codes "16", h, refl)
-leaf_head w U32 h = (117, codes "32", h, refl)
-leaf_head w U64 (inl h) = (117, codes "64", h, refl)
-leaf_head w U64 (inr h) = (117, codes "size", h, refl)
-leaf_head w U128 h = (117, codes "128", h, refl)
-leaf_head w I8 h = (105, codes "8", h, refl)
-leaf_head w I16 h = (105, codes "16", h, refl)
-leaf_head w I32 h = (105, codes "32", h, refl)
-leaf_head w I64 (inl h) = (105, codes "64", h, refl)
-leaf_head w I64 (inr h) = (105, codes "size", h, refl)
-leaf_head w I128 h = (105, codes "128", h, refl)
-leaf_head w F32 h = (102, codes "32", h, refl)
-leaf_head w F64 h = (102, codes "64", h, refl)
-leaf_head w Char h = (99, codes "har", h, refl)
-leaf_head w Str h = (115, codes "tr", h, refl)
-leaf_head w Bytes h = (98, codes "ytes", h, refl)
+-- A filled word begins with a letter, a digit or `_`.
+pub word_starts : (w a r : List ℕ) → 0 < length w → TakesPhrase (IsWord w) a r → Starts is_of_word a
+word_starts [] a r filled h = absurd (omega (arith, filled))
+word_starts (x ∷ w) a r filled (front, (pass, led), whole) = (x, w ++ r, word_unblank x w a r (front, (pass, led), whole), pass_head is_of_word x w pass)
+
+filled_by : (w : List ℕ) (x : ℕ) (t : List ℕ) → w ≡ x ∷ t → 0 < length w
+filled_by w x t e = subst (λ z. 0 < length z) (sym e) (omega arith)
+
+-- The names of types are not empty.
+pub leaf_filled : (w : List ℕ) (l : Leaf) → IsNameOf w l → 0 < length w
+leaf_filled w leaves.Bool h = filled_by w 98 (codes "ool") h
+leaf_filled w U8 h = filled_by w 117 (codes "8") h
+leaf_filled w U16 h = filled_by w 117 (codes "16") h
+leaf_filled w U32 h = filled_by w 117 (codes "32") h
+leaf_filled w U64 (inl h) = filled_by w 117 (codes "64") h
+leaf_filled w U64 (inr h) = filled_by w 117 (codes "size") h
+leaf_filled w U128 h = filled_by w 117 (codes "128") h
+leaf_filled w I8 h = filled_by w 105 (codes "8") h
+leaf_filled w I16 h = filled_by w 105 (codes "16") h
+leaf_filled w I32 h = filled_by w 105 (codes "32") h
+leaf_filled w I64 (inl h) = filled_by w 105 (codes "64") h
+leaf_filled w I64 (inr h) = filled_by w 105 (codes "size") h
+leaf_filled w I128 h = filled_by w 105 (codes "128") h
+leaf_filled w F32 h = filled_by w 102 (codes "32") h
+leaf_filled w F64 h = filled_by w 102 (codes "64") h
+leaf_filled w Char h = filled_by w 99 (codes "har") h
+leaf_filled w Str (inl h) = filled_by w 115 (codes "tr") h
+leaf_filled w Str (inr h) = filled_by w 83 (codes "tring") h
+leaf_filled w Bytes h = filled_by w 98 (codes "ytes") h
+
+holder_filled : (w : List ℕ) (h : Holder) → IsHolderName w h → 0 < length w
+holder_filled w holders.Itself h = filled_by w 66 (codes "ox") h
+holder_filled w holders.List h = filled_by w 86 (codes "ec") h
+holder_filled w holders.Option h = filled_by w 79 (codes "ption") h
+
+pair_filled : (w : List ℕ) (p : Pair) → IsPairName w p → 0 < length w
+pair_filled w pairs.Map (inl h) = filled_by w 66 (codes "TreeMap") h
+pair_filled w pairs.Map (inr h) = filled_by w 72 (codes "ashMap") h
+pair_filled w pairs.Result h = filled_by w 82 (codes "esult") h
 
 -- The type that a word names, if it names one.
 abbrev leaf_named : List ℕ → Option Leaf
@@ -59,7 +83,8 @@ leaf_named w =
     (if bytes_eq w (codes "f32") then Some F32 else
     (if bytes_eq w (codes "f64") then Some F64 else
     (if bytes_eq w (codes "char") then Some Char else
-    (if bytes_eq w (codes "str") then Some Str else Some Bytes))))))))))))))))
+    (if bytes_eq w (codes "str") then Some Str else
+    (if bytes_eq w (codes "String") then Some Str else Some Bytes)))))))))))))))))
 
 named_is : (w : List ℕ) (l : Leaf) → IsNameOf w l → leaf_named w ≡ Some l
 named_is w leaves.Bool h = ap leaf_named h
@@ -78,7 +103,8 @@ named_is w I128 h = ap leaf_named h
 named_is w F32 h = ap leaf_named h
 named_is w F64 h = ap leaf_named h
 named_is w Char h = ap leaf_named h
-named_is w Str h = ap leaf_named h
+named_is w Str (inl h) = ap leaf_named h
+named_is w Str (inr h) = ap leaf_named h
 named_is w Bytes h = ap leaf_named h
 
 -- A word names at most one type.
@@ -88,14 +114,81 @@ one_leaf w l m h k = let e : Some l ≡ Some m = sym (named_is w l h) ∙ named_
 or_left : (x y : Bool) → x ≡ true → x || y ≡ true
 or_left x y e = rw e refl
 
+-- The type with types in `<` and `>` that a word names, if it names one.
+abbrev angled_named : List ℕ → Option (Holder ⊎ Pair)
+angled_named w =
+    if bytes_eq w (codes "Box") then Some (inl holders.Itself) else
+    (if bytes_eq w (codes "Vec") then Some (inl holders.List) else
+    (if bytes_eq w (codes "Option") then Some (inl holders.Option) else
+    (if bytes_eq w (codes "BTreeMap") then Some (inr pairs.Map) else
+    (if bytes_eq w (codes "HashMap") then Some (inr pairs.Map) else
+    (if bytes_eq w (codes "Result") then Some (inr pairs.Result) else None)))))
+
+holder_is : (w : List ℕ) (h : Holder) → IsHolderName w h → angled_named w ≡ Some (inl h)
+holder_is w holders.Itself h = ap angled_named h
+holder_is w holders.List h = ap angled_named h
+holder_is w holders.Option h = ap angled_named h
+
+pair_is : (w : List ℕ) (p : Pair) → IsPairName w p → angled_named w ≡ Some (inr p)
+pair_is w pairs.Map (inl h) = ap angled_named h
+pair_is w pairs.Map (inr h) = ap angled_named h
+pair_is w pairs.Result h = ap angled_named h
+
+leaf_is_none : (w : List ℕ) (l : Leaf) → IsNameOf w l → angled_named w ≡ None
+leaf_is_none w leaves.Bool h = ap angled_named h
+leaf_is_none w U8 h = ap angled_named h
+leaf_is_none w U16 h = ap angled_named h
+leaf_is_none w U32 h = ap angled_named h
+leaf_is_none w U64 (inl h) = ap angled_named h
+leaf_is_none w U64 (inr h) = ap angled_named h
+leaf_is_none w U128 h = ap angled_named h
+leaf_is_none w I8 h = ap angled_named h
+leaf_is_none w I16 h = ap angled_named h
+leaf_is_none w I32 h = ap angled_named h
+leaf_is_none w I64 (inl h) = ap angled_named h
+leaf_is_none w I64 (inr h) = ap angled_named h
+leaf_is_none w I128 h = ap angled_named h
+leaf_is_none w F32 h = ap angled_named h
+leaf_is_none w F64 h = ap angled_named h
+leaf_is_none w Char h = ap angled_named h
+leaf_is_none w Str (inl h) = ap angled_named h
+leaf_is_none w Str (inr h) = ap angled_named h
+leaf_is_none w Bytes h = ap angled_named h
+
+-- A word names at most one type of one type, or of two types, and then no type without parts.
+pub one_holder : (w : List ℕ) (h k : Holder) → IsHolderName w h → IsHolderName w k → h ≡ k
+one_holder w h k a b = cc (sym (holder_is w h a) ∙ holder_is w k b)
+
+pub one_pair : (w : List ℕ) (p q : Pair) → IsPairName w p → IsPairName w q → p ≡ q
+one_pair w p q a b = cc (sym (pair_is w p a) ∙ pair_is w q b)
+
+pub holder_no_pair : (w : List ℕ) (h : Holder) (p : Pair) → IsHolderName w h → IsPairName w p → ⊥
+holder_no_pair w h p a b = cc (sym (holder_is w h a) ∙ pair_is w p b)
+
+pub leaf_no_holder : (w : List ℕ) (l : Leaf) (h : Holder) → IsNameOf w l → IsHolderName w h → ⊥
+leaf_no_holder w l h a b = cc (sym (leaf_is_none w l a) ∙ holder_is w h b)
+
+pub leaf_no_pair : (w : List ℕ) (l : Leaf) (p : Pair) → IsNameOf w l → IsPairName w p → ⊥
+leaf_no_pair w l p a b = cc (sym (leaf_is_none w l a) ∙ pair_is w p b)
+
+-- What follows a name with types in `<` and `>`, which isn't empty, begins with `<`.
+pub angle_sign : (T : Schema → List ℕ → Type 0) (w : List ℕ) (s : Schema) (a r : List ℕ) → TakesPhrase (IsAngleRest T w s) a r → (0 < length w) × ((k : List ℕ) × TakesPhrase (IsSign 60) a k)
+angle_sign T w s a r (front, inl (h, named, rest), whole) = let k = takes_split (IsSign 60) (IsHolderRest T h s) a r (front, rest, whole) in (holder_filled w h named, (k.0, k.1))
+angle_sign T w s a r (front, inr (p, named, rest), whole) = let k = takes_split (IsSign 60) (IsPairRest T p s) a r (front, rest, whole) in (pair_filled w p named, (k.0, k.1))
+
+-- The first byte of a type that begins with a word.
+pub worded_head : (T : Schema → List ℕ → Type 0) (s : Schema) (a r : List ℕ) → TakesPhrase (IsWorded T s) a r → Starts is_of_word a
+worded_head T s a r (front, inl (l, w, is, named, word), whole) = word_starts w a r (leaf_filled w l named) (front, word, whole)
+worded_head T s a r (front, inr (name, h), whole) =
+    let k = takes_split (IsWord name) (IsAngleRest T name s) a r (front, h, whole) in
+    word_starts name a k.0 (angle_sign T name s k.0 r k.2).0 k.1
+
 -- The first byte of a type that is no enum.
 abbrev pub starts_plain : ℕ → Bool
-starts_plain x = is_ascii_lowercase x || (nat_eq x 91 || (nat_eq x 40 || nat_eq x 123))
+starts_plain x = is_of_word x || (nat_eq x 91 || (nat_eq x 40 || nat_eq x 123))
 
 pub plain_head : (T : Schema → List ℕ → Type 0) (s : Schema) (a r : List ℕ) → TakesPhrase (IsPlain T s) a r → Starts starts_plain a
-plain_head T s a r (front, inl (l, w, is, named, word), whole) =
-    let head = leaf_head w l named in
-    (head.0, head.1 ++ r, word_unblank head.0 head.1 a r (front, subst (λ z. IsWord z front) head.2 word, whole), or_left (is_ascii_lowercase head.0) _ head.3)
+plain_head T s a r (front, inl h, whole) = let head = worded_head T s a r (front, h, whole) in (head.0, head.1, head.2, or_left (is_of_word head.0) _ head.3)
 plain_head T s a r (front, inr (inl h), whole) = let k = takes_split _ _ a r (front, h, whole) in (91, k.0, sign_unblank 91 a k.0 refl k.1, refl)
 plain_head T s a r (front, inr (inr (inl h)), whole) = let k = takes_split _ _ a r (front, h, whole) in (40, k.0, sign_unblank 40 a k.0 refl k.1, refl)
 plain_head T s a r (front, inr (inr (inr h)), whole) = let k = takes_split _ _ a r (front, h, whole) in (123, k.0, sign_unblank 123 a k.0 refl k.1, refl)
@@ -131,7 +224,11 @@ or_right : (x y : Bool) → y ≡ true → x || y ≡ true
 or_right true y e = refl
 or_right false y e = e
 
-pub enum_head : (T : Schema → List ℕ → Type 0) (s : Schema) (a r : List ℕ) → TakesPhrase (IsEnumText T s) a r → Starts starts_enum a
+-- The first byte of an enum: `|` or a capital letter.
+abbrev starts_enum : ℕ → Bool
+starts_enum x = nat_eq x 124 || is_ascii_uppercase x
+
+enum_head : (T : Schema → List ℕ → Type 0) (s : Schema) (a r : List ℕ) → TakesPhrase (IsEnumText T s) a r → Starts starts_enum a
 enum_head T s a r (front, (v, is, differ, h), whole) = by_lead (takes_split _ _ a r (front, h, whole))
   where
     by_lead : (b : List ℕ) × TakesPhrase (λ t. IsLead (length v.items) t) a b × TakesPhrase (Separated (IsVariantText T) 124 v.items) b r → Starts starts_enum a
@@ -141,6 +238,33 @@ enum_head T s a r (front, (v, is, differ, h), whole) = by_lead (takes_split _ _ 
         let head = variant_head T first.0 b first.2 first.4 in
         let same : a ≡ b = e ∙ ap (λ t. t ++ b) none in
         (head.0, head.1, ap unblank same ∙ head.2, or_right (nat_eq head.0 124) (is_ascii_uppercase head.0) head.3)
+
+-- After the name of a variant that isn't the last one comes `|`, `(` or `{`.
+content_starts : (T : Schema → List ℕ → Type 0) (s : Schema) (a m r : List ℕ) → TakesPhrase (IsContent T s) a m → TakesPhrase (IsSign 124) m r → Starts follows_name a
+content_starts T s a m r (front, inl h, whole) bar = let k = takes_split (IsSign 40) (IsTupleRest T s) a m (front, h, whole) in (40, k.0, sign_unblank 40 a k.0 refl k.1, refl)
+content_starts T s a m r (front, inr (inl h), whole) bar = let k = takes_split (IsSign 123) (IsFieldsRest T s) a m (front, h, whole) in (123, k.0, sign_unblank 123 a k.0 refl k.1, refl)
+content_starts T s a m r (front, inr (inr (v, is, empty, none)), whole) bar =
+    let same : a ≡ m = whole ∙ ap (λ t. t ++ m) none in (124, r, ap unblank same ∙ sign_unblank 124 m r refl bar, refl)
+
+-- An enum begins as one.
+pub enum_starts : (T : Schema → List ℕ → Type 0) (s : Schema) (a r : List ℕ) → TakesPhrase (IsEnumText T s) a r → StartsEnum a
+enum_starts T s a r (front, (v, is, differ, h), whole) = by_lead (takes_split _ _ a r (front, h, whole))
+  where
+    by_variant : (x : Schema) (m j : List ℕ) → TakesPhrase (IsVariantText T x) a m → TakesPhrase (IsSign 124) m j → StartsEnum a
+    by_variant x m j (f, (n, b, named, filled, letter, g), e) bar =
+        let k = takes_split (IsWord (string_bytes n)) (IsContent T b.value) a m (f, g, e) in
+        inr (string_bytes n, k.0, filled, letter, k.1, content_starts T b.value k.0 m j k.2 bar)
+
+    by_more : (x : Schema) (more : List Schema) (m : List ℕ) → v.items ≡ x ∷ more → 1 < length v.items → TakesPhrase (IsVariantText T x) a m → After (IsVariantText T) 124 more m r → StartsEnum a
+    by_more x [] m items many taken after = let one : length v.items ≡ 1 = ap length items in absurd (omega (arith, one, many))
+    by_more x (u ∷ us) m items many taken (j, bar, row) = by_variant x m j taken bar
+
+    by_lead : (b : List ℕ) × TakesPhrase (λ t. IsLead (length v.items) t) a b × TakesPhrase (Separated (IsVariantText T) 124 v.items) b r → StartsEnum a
+    by_lead (b, (f, inl sign, e), row) = inl (b, (f, sign, e))
+    by_lead (b, (f, inr (many, none), e), row) =
+        let same : a ≡ b = e ∙ ap (λ t. t ++ b) none in
+        let first = separated_first (IsVariantText T) 124 v.items a r (subst (λ t. TakesPhrase (Separated (IsVariantText T) 124 v.items) t r) (sym same) row) in
+        by_more first.0 first.1 first.2 first.3 many first.4 first.5
 
 -- A type in n options.
 abbrev pub in_options : ℕ → MessageType → MessageType
@@ -194,11 +318,11 @@ starts_not_by passes sign a r black none (x, t, e, pass) h =
     let same = same_first (sym e ∙ sign_unblank sign a r black h) in
     true≢false (sym pass ∙ ap passes same ∙ none)
 
--- Whether an enum is next, by the first byte of the trimmed text.
-pub enum_if : (text trimmed : List ℕ) (first : ℕ) (after : List ℕ) (r : Bool) → IsTrimAsciiStart text trimmed → trimmed ≡ first ∷ after → r ≡ starts_enum first → Decides r (Starts starts_enum text)
-enum_if text trimmed first after r trim whole is =
+-- Whether the name of an enum's first variant ends here, by the first byte of the trimmed text.
+pub name_if : (text trimmed : List ℕ) (first : ℕ) (after : List ℕ) (r : Bool) → IsTrimAsciiStart text trimmed → trimmed ≡ first ∷ after → r ≡ follows_name first → Decides r (Starts follows_name text)
+name_if text trimmed first after r trim whole is =
     let here = sym (trim_is text trimmed trim) ∙ whole in
-    (λ e. (first, after, here, sym is ∙ e), λ (x, t, e, pass). is ∙ ap starts_enum (same_first (sym here ∙ e)) ∙ pass)
+    (λ e. (first, after, here, sym is ∙ e), λ (x, t, e, pass). is ∙ ap follows_name (same_first (sym here ∙ e)) ∙ pass)
 
-pub enum_unless : (text trimmed : List ℕ) → IsTrimAsciiStart text trimmed → trimmed ≡ [] → Decides false (Starts starts_enum text)
-enum_unless text trimmed trim none = (λ e. absurd (true≢false (sym e)), λ (x, t, e, pass). absurd (not_empty (sym none ∙ trim_is text trimmed trim ∙ e)))
+pub name_unless : (text trimmed : List ℕ) → IsTrimAsciiStart text trimmed → trimmed ≡ [] → Decides false (Starts follows_name text)
+name_unless text trimmed trim none = (λ e. absurd (true≢false (sym e)), λ (x, t, e, pass). absurd (not_empty (sym none ∙ trim_is text trimmed trim ∙ e)))

@@ -8,9 +8,9 @@ use Rattle.postcard_dyn_schema.specs.Meaning.{type_of}
 use Rattle.postcard_dyn_schema.specs.Names.{IsCalled, IsNewTo, HasNamesOf, NamesDiffer}
 use Rattle.postcard_dyn_schema.specs.Text.{TakesPhrase, IsSign, is_of_word, EndsWord, GoesOnBy}
 use Rattle.postcard_dyn_schema.specs.Grammar.{Separated}
-use Rattle.postcard_dyn_schema.specs.Fronts.{follows_type, follows_variant}
-use Rattle.postcard_dyn_schema.specs.FrontLemmas.{sign_unblank, same_first, same_rest, goes_on_ends_word, goes_on_not_by}
-use Rattle.postcard_dyn_schema.proofs.Heads.{After, separated_first}
+use Rattle.postcard_dyn_schema.specs.Fronts.{follows_type, follows_variant, follows_name, Starts}
+use Rattle.postcard_dyn_schema.specs.FrontLemmas.{sign_unblank, unblank_all, unblank_black, same_first, same_rest, not_empty, blank_ends, goes_on_ends_word, goes_on_not_by}
+use Rattle.postcard_dyn_schema.proofs.Heads.{After, separated_first, starts_not_by}
 
 -- Two signs at one place are the same, and so are the texts after them.
 pub one_sign : (x y : ℕ) (a r q : List ℕ) → is_ascii_whitespace x ≡ false → is_ascii_whitespace y ≡ false → TakesPhrase (IsSign x) a r → TakesPhrase (IsSign y) a q → (x ≡ y) × (r ≡ q)
@@ -32,24 +32,24 @@ by_byte P b n y h p f = at (nat_eq b n) (eqb-true b n) h
     at true is h = subst P (sym (is refl)) p
     at false is h = f h
 
-by_type : (P : ℕ → Type 0) (b : ℕ) → follows_type b ≡ true → P 93 → P 59 → P 41 → P 44 → P 125 → P 61 → P b
-by_type P b h p q r s t u =
-    by_byte P b 93 _ h p λ h. by_byte P b 59 _ h q λ h. by_byte P b 41 _ h r λ h. by_byte P b 44 _ h s λ h. by_byte P b 125 _ h t λ h. subst P (sym (eqb-true b 61 h)) u
+by_type : (P : ℕ → Type 0) (b : ℕ) → follows_type b ≡ true → P 93 → P 59 → P 41 → P 44 → P 125 → P 61 → P 62 → P b
+by_type P b h p q r s t u v =
+    by_byte P b 93 _ h p λ h. by_byte P b 59 _ h q λ h. by_byte P b 41 _ h r λ h. by_byte P b 44 _ h s λ h. by_byte P b 125 _ h t λ h. by_byte P b 61 _ h u λ h. subst P (sym (eqb-true b 62 h)) v
 
-by_variant : (P : ℕ → Type 0) (b : ℕ) → follows_variant b ≡ true → P 124 → P 93 → P 59 → P 41 → P 44 → P 125 → P 61 → P b
-by_variant P b h o p q r s t u = by_byte P b 124 _ h o λ h. by_type P b h p q r s t u
+by_variant : (P : ℕ → Type 0) (b : ℕ) → follows_variant b ≡ true → P 124 → P 93 → P 59 → P 41 → P 44 → P 125 → P 61 → P 62 → P b
+by_variant P b h o p q r s t u v = by_byte P b 124 _ h o λ h. by_type P b h p q r s t u v
 
 follows_black : (b : ℕ) → follows_type b ≡ true → is_ascii_whitespace b ≡ false
-follows_black b h = by_type (λ x. is_ascii_whitespace x ≡ false) b h refl refl refl refl refl refl
+follows_black b h = by_type (λ x. is_ascii_whitespace x ≡ false) b h refl refl refl refl refl refl refl
 
 variant_black : (b : ℕ) → follows_variant b ≡ true → is_ascii_whitespace b ≡ false
-variant_black b h = by_variant (λ x. is_ascii_whitespace x ≡ false) b h refl refl refl refl refl refl refl
+variant_black b h = by_variant (λ x. is_ascii_whitespace x ≡ false) b h refl refl refl refl refl refl refl refl
 
 follows_ends : (b : ℕ) → follows_variant b ≡ true → is_of_word b ≡ false
-follows_ends b h = by_variant (λ x. is_of_word x ≡ false) b h refl refl refl refl refl refl refl
+follows_ends b h = by_variant (λ x. is_of_word x ≡ false) b h refl refl refl refl refl refl refl refl
 
 wider : (b : ℕ) → follows_type b ≡ true → follows_variant b ≡ true
-wider b h = by_type (λ x. follows_variant x ≡ true) b h refl refl refl refl refl refl
+wider b h = by_type (λ x. follows_variant x ≡ true) b h refl refl refl refl refl refl refl
 
 -- What follows a type follows a variant.
 pub goes_variant : (a : List ℕ) → GoesOnBy follows_type a → GoesOnBy follows_variant a
@@ -65,6 +65,26 @@ not_next sign a r black none goes h = goes_on_not_by follows_variant sign a r va
 
 pub not_next_type : (sign : ℕ) (a r : List ℕ) → is_ascii_whitespace sign ≡ false → follows_type sign ≡ false → GoesOnBy follows_type a → TakesPhrase (IsSign sign) a r → ⊥
 not_next_type sign a r black none goes h = goes_on_not_by follows_type sign a r follows_black black none goes (sign_unblank sign a r black h)
+
+name_ends : (b : ℕ) → follows_name b ≡ true → is_of_word b ≡ false
+name_ends b h = by_byte (λ x. is_of_word x ≡ false) b 124 _ h refl λ h. by_byte (λ x. is_of_word x ≡ false) b 40 _ h refl λ h. subst (λ x. is_of_word x ≡ false) (sym (eqb-true b 123 h)) refl
+
+-- A text of which the first byte after blanks is `|`, `(` or `{` goes on with no word.
+pub name_ends_word : (text : List ℕ) → Starts follows_name text → EndsWord text
+name_ends_word [] h = tt
+name_ends_word (b ∷ text) (x, after, e, pass) = by (is_ascii_whitespace b) refl
+  where
+    by : (w : Bool) → is_ascii_whitespace b ≡ w → is_of_word b ≡ false
+    by true blank = blank_ends b blank
+    by false black = subst (λ z. is_of_word z ≡ false) (sym (same_first (sym (unblank_black b text black) ∙ e))) (name_ends x pass)
+
+follows_no_name : (b : ℕ) → follows_type b ≡ true → follows_name b ≡ false
+follows_no_name b h = by_type (λ x. follows_name x ≡ false) b h refl refl refl refl refl refl refl
+
+-- What follows a type begins with none of these.
+pub goes_no_name : (a : List ℕ) → GoesOnBy follows_type a → Starts follows_name a → ⊥
+goes_no_name a (inl blank) (x, t, e, pass) = not_empty (sym (unblank_all a blank) ∙ e)
+goes_no_name a (inr (sign, after, pass, h)) starts = starts_not_by follows_name sign a after (follows_black sign pass) (follows_no_name sign pass) starts h
 
 -- Two rows of schemas, alike one by one.
 abbrev pub Alike : (Schema → Schema → Type 0) → List Schema → List Schema → Type 0

@@ -1,49 +1,128 @@
 -- What is left of a type after its brackets, its word and its `?`.
-use Rattle.std.proofs.Common.{◌≡◌, ℕ, zero, suc, ◌+◌, ◌<◌, ◌≤◌, Bool, true, false, ◌||◌, List, [], ◌∷◌, ◌++◌, length, refl, sym, ap, ◌∙◌, subst, true≢false, eqb-true, arith, inl, inr}
-use Rattle.std.proofs.lemmas.Bool.Decides.{nat_tests}
-use Rattle.std.specs.Char.{is_ascii_whitespace, is_ascii_lowercase}
+use Rattle.std.proofs.Common.{◌≡◌, ℕ, zero, suc, ◌+◌, ◌<◌, ◌≤◌, Bool, true, false, Decides, List, [], ◌∷◌, ◌++◌, length, refl, sym, ap, ◌∙◌, subst, true≢false, arith, ◌⊎◌, inl, inr}
+use Rattle.std.specs.Char.{is_ascii_uppercase, is_ascii_whitespace}
+use Rattle.std.specs.Prelude.{slice_index}
 use Rattle.postcard_dyn_schema.specs.declared.schema.Schema.{Schema}
 use Rattle.postcard_dyn_schema.specs.declared.schema.Leaf.{Leaf}
-use Rattle.postcard_dyn_schema.specs.declared.schema.Schema.TheVariants as schemas
 use Rattle.postcard_dyn_schema.specs.Meaning.{MessageType, leaf, option, type_of, IsNameOf}
 use Rattle.postcard_dyn_schema.specs.Text.{TakesPhrase, IsSign, IsWord, is_of_word, EndsWord, GoesOnBy}
-use Rattle.postcard_dyn_schema.specs.Grammar.{Separated, IsListRest, IsTupleRest, IsFieldsRest, IsMapRest, IsBracesRest, IsPlain, IsContent, IsVariantText, IsLead, IsEnumText, IsType}
-use Rattle.postcard_dyn_schema.specs.Fronts.{follows_type, follows_variant, IsNamed, Starts, starts_enum}
+use Rattle.postcard_dyn_schema.specs.Grammar.{Separated, IsListRest, IsTupleRest, IsFieldsRest, IsMapRest, IsBracesRest, IsAngleRest, IsWorded, IsPlain, IsContent, IsVariantText, IsLead, IsEnumText, IsType}
+use Rattle.postcard_dyn_schema.specs.Fronts.{follows_type, follows_variant, follows_name, IsNamed, Starts, StartsEnum}
 use Rattle.postcard_dyn_schema.specs.FrontLemmas.{word_unblank, takes_split, WordTaken, sign_ends_word, sign_unblank, same_first, pass_head}
 use Rattle.postcard_dyn_schema.proofs.TypeOf.{type_of_leaf}
-use Rattle.postcard_dyn_schema.proofs.Heads.{plain_head, enum_head, separated_first, starts_plain, in_options, Signs, options_split, leaf_head}
-use Rattle.postcard_dyn_schema.proofs.Left.{by_byte, after_sign, other_sign, goes_variant, goes_ends_word, not_next, not_next_type, row_follows}
+use Rattle.postcard_dyn_schema.proofs.Heads.{plain_head, worded_head, enum_starts, separated_first, starts_plain, starts_not_by, in_options, Signs, options_split, leaf_filled, one_leaf, angle_sign}
+use Rattle.postcard_dyn_schema.proofs.Left.{after_sign, other_sign, goes_variant, goes_ends_word, goes_no_name, name_ends_word, not_next, not_next_type, row_follows}
 use Rattle.postcard_dyn_schema.proofs.LeftOfList.{map_begins}
 use Rattle.postcard_dyn_schema.proofs.LeftOfFields.{fields_named}
 use Rattle.postcard_dyn_schema.proofs.LeftOfEnum.{variant_front, whole_word}
+use Rattle.postcard_dyn_schema.proofs.LeftOfAngled.{leaf_no_angle}
 
 abbrev Types : Type 1
 Types = Schema → List ℕ → Type 0
 
-small_no_enum : (x : ℕ) → is_ascii_lowercase x ≡ true → starts_enum x ≡ false
-small_no_enum x h = grind (arith, nat_tests)
+-- A word that has been taken, if it is filled, is at no sign.
+word_not_sign : (v : List ℕ) (sign : ℕ) (a b r : List ℕ) → 0 < length v → is_ascii_whitespace sign ≡ false → is_of_word sign ≡ false → WordTaken a v b → TakesPhrase (IsSign sign) a r → ⊥
+word_not_sign [] sign a b r filled black none taken h = absurd (omega (arith, filled))
+word_not_sign (x ∷ v) sign a b r filled black none taken h =
+    let same = same_first (sym taken.first ∙ sign_unblank sign a r black h) in
+    true≢false (sym (pass_head is_of_word x v taken.bytes) ∙ ap is_of_word same ∙ none)
 
-or_cases : (x y : Bool) (P : Type 0) → x || y ≡ true → (x ≡ true → P) → (y ≡ true → P) → P
-or_cases true y P h f g = f refl
-or_cases false y P h f g = g h
+-- A filled word that is taken whole.
+taken_whole : (w a b : List ℕ) → 0 < length w → TakesPhrase (IsWord w) a b → EndsWord b → WordTaken a w b
+taken_whole [] a b filled word ends = absurd (omega (arith, filled))
+taken_whole (x ∷ w) a b filled word ends = record { bytes = word.1.0; first = word_unblank x w a b word; ends = ends }
 
--- No first byte of an enum begins another type.
-plain_no_enum : (x : ℕ) → starts_plain x ≡ true → starts_enum x ≡ false
-plain_no_enum x h = or_cases (is_ascii_lowercase x) _ (starts_enum x ≡ false) h (small_no_enum x)
-    λ h. by_byte (λ b. starts_enum b ≡ false) x 91 _ h refl λ h. by_byte (λ b. starts_enum b ≡ false) x 40 _ h refl λ h. subst (λ b. starts_enum b ≡ false) (sym (eqb-true x 123 h)) refl
+-- Without a bracket the type is a word, or begins with one.
+pub record WordFront (T : Types) (s : Schema) (v b r : List ℕ) : Type 0 where
+  pub filled : 0 < length v
+  pub left : ((kind : Leaf) × (type_of s ≡ leaf kind) × IsNameOf v kind × (r ≡ b)) ⊎ TakesPhrase (IsAngleRest T v s) b r
+
+pub word_front : (T : Types) (s : Schema) (a v b r : List ℕ) → WordTaken a v b → EndsWord r → TakesPhrase (IsWorded T s) a r → WordFront T s v b r
+word_front T s a v b r taken ends (front, inl (l, w, is, named, word), whole) =
+    let same = whole_word w v a b r (leaf_filled w l named) taken (front, word, whole) ends in
+    record { filled = subst (λ t. 0 < length t) same.0 (leaf_filled w l named); left = inl (l, ap type_of is ∙ type_of_leaf l, subst (λ t. IsNameOf t l) same.0 named, same.1) }
+word_front T s a v b r taken ends (front, inr (name, h), whole) =
+    let k = takes_split (IsWord name) (IsAngleRest T name s) a r (front, h, whole) in
+    let sign = angle_sign T name s k.0 r k.2 in
+    let same = whole_word name v a b k.0 sign.0 taken k.1 (sign_ends_word 60 k.0 sign.1.0 refl sign.1.1) in
+    record {
+      filled = subst (λ t. 0 < length t) same.0 sign.0;
+      left = inr (subst (λ t. TakesPhrase (IsAngleRest T t s) b r) same.0 (subst (λ t. TakesPhrase (IsAngleRest T name s) t r) same.1 k.2));
+    }
+
+-- If the word names a type without parts, it is that type, and if it names none, types in `<` and `>` follow.
+pub word_leaf : (T : Types) (l : Leaf) (s : Schema) (v b r : List ℕ) → IsNameOf v l → WordFront T s v b r → (type_of s ≡ leaf l) × (r ≡ b)
+word_leaf T l s v b r named h = by h.left
+  where
+    by : ((kind : Leaf) × (type_of s ≡ leaf kind) × IsNameOf v kind × (r ≡ b)) ⊎ TakesPhrase (IsAngleRest T v s) b r → (type_of s ≡ leaf l) × (r ≡ b)
+    by (inl (kind, is, other, same)) = (is ∙ ap leaf (one_leaf v kind l other named), same)
+    by (inr rest) = absurd (leaf_no_angle T v l s b r named rest)
+
+pub word_angle : (T : Types) (s : Schema) (v b r : List ℕ) → ((l : Leaf) → IsNameOf v l → ⊥) → WordFront T s v b r → TakesPhrase (IsAngleRest T v s) b r
+word_angle T s v b r none h = by h.left
+  where
+    by : ((kind : Leaf) × (type_of s ≡ leaf kind) × IsNameOf v kind × (r ≡ b)) ⊎ TakesPhrase (IsAngleRest T v s) b r → TakesPhrase (IsAngleRest T v s) b r
+    by (inl (kind, is, named, same)) = absurd (none kind named)
+    by (inr rest) = rest
+
+-- After a type come `?`, or what follows it.
+question_ends : (n : ℕ) (m r : List ℕ) → GoesOnBy follows_type r → Signs 63 n m r → EndsWord m
+question_ends zero m r goes same = subst EndsWord (sym same) (goes_ends_word r (goes_variant r goes))
+question_ends (suc n) m r goes (k, sign, more) = sign_ends_word 63 m k refl sign
+
+question_no_name : (n : ℕ) (m r : List ℕ) → GoesOnBy follows_type r → Signs 63 n m r → Starts follows_name m → ⊥
+question_no_name zero m r goes same h = goes_no_name r goes (subst (Starts follows_name) same h)
+question_no_name (suc n) m r goes (k, sign, more) h = starts_not_by follows_name 63 m k refl refl h sign
+
+-- A type that is no enum doesn't begin as one.
+plain_no_enum : (T : Types) (s : Schema) (a m : List ℕ) → EndsWord m → (Starts follows_name m → ⊥) → StartsEnum a → TakesPhrase (IsPlain T s) a m → ⊥
+plain_no_enum T s a m ends none (inl (rest, bar)) h = starts_not_by starts_plain 124 a rest refl refl (plain_head T s a m h) bar
+plain_no_enum T s a m ends none (inr (v, b, filled, letter, word, next)) h = by h
+  where
+    taken : WordTaken a v b
+    taken = taken_whole v a b filled word (name_ends_word b next)
+
+    by_left : ((kind : Leaf) × (type_of s ≡ leaf kind) × IsNameOf v kind × (m ≡ b)) ⊎ TakesPhrase (IsAngleRest T v s) b m → ⊥
+    by_left (inl (kind, is, named, same)) = none (subst (Starts follows_name) (sym same) next)
+    by_left (inr rest) = let sign = angle_sign T v s b m rest in starts_not_by follows_name 60 b sign.1.0 refl refl next sign.1.1
+
+    by : TakesPhrase (IsPlain T s) a m → ⊥
+    by (front, inl k, whole) = by_left (word_front T s a v b m taken ends (front, k, whole)).left
+    by (front, inr (inl k), whole) = let l = takes_split (IsSign 91) (IsListRest T s) a m (front, k, whole) in word_not_sign v 91 a b l.0 filled refl refl taken l.1
+    by (front, inr (inr (inl k)), whole) = let l = takes_split (IsSign 40) (IsTupleRest T s) a m (front, k, whole) in word_not_sign v 40 a b l.0 filled refl refl taken l.1
+    by (front, inr (inr (inr k)), whole) = let l = takes_split (IsSign 123) (IsBracesRest T s) a m (front, k, whole) in word_not_sign v 123 a b l.0 filled refl refl taken l.1
 
 -- A text that begins as an enum is one.
-pub type_as_enum : (d e : ℕ) (s : Schema) (a r : List ℕ) → d ≡ suc e → Starts starts_enum a → TakesPhrase (IsType d s) a r → TakesPhrase (IsEnumText (IsType e) s) a r
+pub type_as_enum : (d e : ℕ) (s : Schema) (a r : List ℕ) → d ≡ suc e → StartsEnum a → GoesOnBy follows_type r → TakesPhrase (IsType d s) a r → TakesPhrase (IsEnumText (IsType e) s) a r
 unfolding IsType
-type_as_enum d e s a r deep starts h = by (subst (λ n. TakesPhrase (IsType n s) a r) deep h)
+type_as_enum d e s a r deep starts goes h = by (subst (λ n. TakesPhrase (IsType n s) a r) deep h)
   where
     by : TakesPhrase (IsType (suc e) s) a r → TakesPhrase (IsEnumText (IsType e) s) a r
     by (front, inl k, whole) = (front, k, whole)
     by (front, inr (n, few, k), whole) =
         let split = options_split (IsPlain (IsType e)) n s a r (front, k, whole) in
-        let head = plain_head (IsType e) split.0 a split.1 split.2 in
-        let same = same_first (sym head.2 ∙ starts.2) in
-        absurd (true≢false (sym starts.3 ∙ ap starts_enum (sym same) ∙ plain_no_enum head.0 head.3))
+        absurd (plain_no_enum (IsType e) split.0 a split.1 (question_ends n split.1 r goes split.4) (question_no_name n split.1 r goes split.4) starts split.2)
+
+-- Whether an enum is next: a `|` is, or a word v, after which `|`, `(` or `{` is next as r says.
+pub enum_bar_next : (text rest : List ℕ) → TakesPhrase (IsSign 124) text rest → Decides true (StartsEnum text)
+enum_bar_next text rest bar = (λ e. inl (rest, bar), λ starts. refl)
+
+pub enum_if : (text v b : List ℕ) (r : Bool) → ((e : List ℕ) → TakesPhrase (IsSign 124) text e → ⊥) → WordTaken text v b → TakesPhrase (IsWord v) text b → 0 < length v
+    → is_ascii_uppercase (slice_index v 0) ≡ true → Decides r (Starts follows_name b) → Decides r (StartsEnum text)
+enum_if text v b r none taken word filled letter decides = (λ e. inr (v, b, filled, letter, word, decides.0 e), by)
+  where
+    by : StartsEnum text → r ≡ true
+    by (inl (rest, bar)) = absurd (none rest bar)
+    by (inr (w, a, more, upper, h, next)) = decides.1 (subst (Starts follows_name) (whole_word w v text b a more taken h (name_ends_word a next)).1 next)
+
+pub enum_unless : (text v b : List ℕ) → ((e : List ℕ) → TakesPhrase (IsSign 124) text e → ⊥) → WordTaken text v b → (0 < length v → is_ascii_uppercase (slice_index v 0) ≡ true → ⊥) → Decides false (StartsEnum text)
+enum_unless text v b none taken lacks = (λ e. absurd (true≢false (sym e)), by)
+  where
+    by : StartsEnum text → false ≡ true
+    by (inl (rest, bar)) = absurd (none rest bar)
+    by (inr (w, a, more, upper, h, next)) =
+        let same = whole_word w v text b a more taken h (name_ends_word a next) in
+        absurd (lacks (subst (λ t. 0 < length t) same.0 more) (subst (λ t. is_ascii_uppercase (slice_index t 0) ≡ true) same.0 upper))
 
 -- What is left of `?` after a type t with k of them.
 pub record OptionsLeft (s : Schema) (t : MessageType) (k : ℕ) (a r : List ℕ) : Type 0 where
@@ -60,19 +139,15 @@ pub record PlainFront (T : Types) (s : Schema) (a r : List ℕ) : Type 0 where
   pub ends : EndsWord rest
   pub left : OptionsLeft s (type_of first) 0 rest r
 
-pub type_as_plain : (d e : ℕ) (s : Schema) (a r : List ℕ) → d ≡ suc e → (Starts starts_enum a → ⊥) → GoesOnBy follows_type r → TakesPhrase (IsType d s) a r → PlainFront (IsType e) s a r
+pub type_as_plain : (d e : ℕ) (s : Schema) (a r : List ℕ) → d ≡ suc e → (StartsEnum a → ⊥) → GoesOnBy follows_type r → TakesPhrase (IsType d s) a r → PlainFront (IsType e) s a r
 unfolding IsType
 type_as_plain d e s a r deep none goes h = by (subst (λ n. TakesPhrase (IsType n s) a r) deep h)
   where
-    ends : (n : ℕ) (m : List ℕ) → Signs 63 n m r → EndsWord m
-    ends zero m same = subst EndsWord (sym same) (goes_ends_word r (goes_variant r goes))
-    ends (suc n) m (k, sign, more) = sign_ends_word 63 m k refl sign
-
     by : TakesPhrase (IsType (suc e) s) a r → PlainFront (IsType e) s a r
-    by (front, inl k, whole) = absurd (none (enum_head (IsType e) s a r (front, k, whole)))
+    by (front, inl k, whole) = absurd (none (enum_starts (IsType e) s a r (front, k, whole)))
     by (front, inr (n, few, k), whole) =
         let split = options_split (IsPlain (IsType e)) n s a r (front, k, whole) in
-        record { first = split.0; rest = split.1; taken = split.2; ends = ends n split.1 split.4; left = record { more = n; few = omega (arith, few); is = split.3; signs = split.4 } }
+        record { first = split.0; rest = split.1; taken = split.2; ends = question_ends n split.1 r goes split.4; left = record { more = n; few = omega (arith, few); is = split.3; signs = split.4 } }
 
 -- After a `?` one less is left.
 pub options_step : (s : Schema) (t : MessageType) (k : ℕ) (a b r : List ℕ) → OptionsLeft s t k a r → GoesOnBy follows_type r → TakesPhrase (IsSign 63) a b → OptionsLeft s (option t) (k + 1) b r
@@ -98,61 +173,32 @@ options_full s t k a b r h full goes sign = let more = options_step s t k a b r 
 pub options_of : (s x : Schema) (t : MessageType) (k : ℕ) (a b r : List ℕ) → t ≡ type_of x → a ≡ b → OptionsLeft s t k a r → OptionsLeft s (type_of x) k b r
 options_of s x t k a b r same e h = record { more = h.more; few = h.few; is = h.is ∙ ap (in_options h.more) same; signs = subst (λ z. Signs 63 h.more z r) e h.signs }
 
--- A word that has been taken, if it is filled, is at no sign.
-word_not_sign : (v : List ℕ) (sign : ℕ) (a b r : List ℕ) → 0 < length v → is_ascii_whitespace sign ≡ false → is_of_word sign ≡ false → WordTaken a v b → TakesPhrase (IsSign sign) a r → ⊥
-word_not_sign [] sign a b r filled black none taken h = absurd (omega (arith, filled))
-word_not_sign (x ∷ v) sign a b r filled black none taken h =
-    let same = same_first (sym taken.first ∙ sign_unblank sign a r black h) in
-    true≢false (sym (pass_head is_of_word x v taken.bytes) ∙ ap is_of_word same ∙ none)
-
--- The name of a type is at no sign but a letter.
-leaf_not_sign : (l : Leaf) (w : List ℕ) (sign : ℕ) (a b r : List ℕ) → is_ascii_whitespace sign ≡ false → is_of_word sign ≡ false → IsNameOf w l → TakesPhrase (IsWord w) a r → TakesPhrase (IsSign sign) a b → ⊥
-leaf_not_sign l w sign a b r black none named word h =
-    let head = leaf_head w l named in
-    let k = subst (λ t. TakesPhrase (IsWord t) a r) head.2 word in
-    let same = same_first (sym (word_unblank head.0 head.1 a r k) ∙ sign_unblank sign a b black h) in
-    true≢false (sym (pass_head is_of_word head.0 head.1 k.1.0) ∙ ap is_of_word same ∙ none)
-
 -- What is left after the bracket of a type.
 pub plain_list_left : (T : Types) (s : Schema) (a b r : List ℕ) → TakesPhrase (IsPlain T s) a r → TakesPhrase (IsSign 91) a b → TakesPhrase (IsListRest T s) b r
-plain_list_left T s a b r (front, inl (l, w, is, named, word), whole) sign = absurd (leaf_not_sign l w 91 a b r refl refl named (front, word, whole) sign)
+plain_list_left T s a b r (front, inl h, whole) sign = absurd (starts_not_by is_of_word 91 a b refl refl (worded_head T s a r (front, h, whole)) sign)
 plain_list_left T s a b r (front, inr (inl k), whole) sign = let m = takes_split (IsSign 91) (IsListRest T s) a r (front, k, whole) in subst (λ t. TakesPhrase (IsListRest T s) t r) (after_sign 91 a m.0 b refl m.1 sign) m.2
 plain_list_left T s a b r (front, inr (inr (inl k)), whole) sign = let m = takes_split (IsSign 40) (IsTupleRest T s) a r (front, k, whole) in absurd (other_sign 40 91 a m.0 b refl refl refl m.1 sign)
 plain_list_left T s a b r (front, inr (inr (inr k)), whole) sign = let m = takes_split (IsSign 123) (IsBracesRest T s) a r (front, k, whole) in absurd (other_sign 123 91 a m.0 b refl refl refl m.1 sign)
 
 pub plain_tuple_left : (T : Types) (s : Schema) (a b r : List ℕ) → TakesPhrase (IsPlain T s) a r → TakesPhrase (IsSign 40) a b → TakesPhrase (IsTupleRest T s) b r
-plain_tuple_left T s a b r (front, inl (l, w, is, named, word), whole) sign = absurd (leaf_not_sign l w 40 a b r refl refl named (front, word, whole) sign)
+plain_tuple_left T s a b r (front, inl h, whole) sign = absurd (starts_not_by is_of_word 40 a b refl refl (worded_head T s a r (front, h, whole)) sign)
 plain_tuple_left T s a b r (front, inr (inl k), whole) sign = let m = takes_split (IsSign 91) (IsListRest T s) a r (front, k, whole) in absurd (other_sign 91 40 a m.0 b refl refl refl m.1 sign)
 plain_tuple_left T s a b r (front, inr (inr (inl k)), whole) sign = let m = takes_split (IsSign 40) (IsTupleRest T s) a r (front, k, whole) in subst (λ t. TakesPhrase (IsTupleRest T s) t r) (after_sign 40 a m.0 b refl m.1 sign) m.2
 plain_tuple_left T s a b r (front, inr (inr (inr k)), whole) sign = let m = takes_split (IsSign 123) (IsBracesRest T s) a r (front, k, whole) in absurd (other_sign 123 40 a m.0 b refl refl refl m.1 sign)
 
 pub plain_braces_left : (T : Types) (s : Schema) (a b r : List ℕ) → TakesPhrase (IsPlain T s) a r → TakesPhrase (IsSign 123) a b → TakesPhrase (IsBracesRest T s) b r
-plain_braces_left T s a b r (front, inl (l, w, is, named, word), whole) sign = absurd (leaf_not_sign l w 123 a b r refl refl named (front, word, whole) sign)
+plain_braces_left T s a b r (front, inl h, whole) sign = absurd (starts_not_by is_of_word 123 a b refl refl (worded_head T s a r (front, h, whole)) sign)
 plain_braces_left T s a b r (front, inr (inl k), whole) sign = let m = takes_split (IsSign 91) (IsListRest T s) a r (front, k, whole) in absurd (other_sign 91 123 a m.0 b refl refl refl m.1 sign)
 plain_braces_left T s a b r (front, inr (inr (inl k)), whole) sign = let m = takes_split (IsSign 40) (IsTupleRest T s) a r (front, k, whole) in absurd (other_sign 40 123 a m.0 b refl refl refl m.1 sign)
 plain_braces_left T s a b r (front, inr (inr (inr k)), whole) sign = let m = takes_split (IsSign 123) (IsBracesRest T s) a r (front, k, whole) in subst (λ t. TakesPhrase (IsBracesRest T s) t r) (after_sign 123 a m.0 b refl m.1 sign) m.2
 
--- Without a bracket the type is the word v that was taken.
-pub record LeafFront (s : Schema) (v b r : List ℕ) : Type 0 where
-  pub kind : Leaf
-  pub is : type_of s ≡ leaf kind
-  pub named : IsNameOf v kind
-  pub filled : 0 < length v
-  pub same : r ≡ b
-
-leaf_front : (s : Schema) (l : Leaf) (w a v b r : List ℕ) → WordTaken a v b → EndsWord r → s ≡ schemas.Leaf l → IsNameOf w l → TakesPhrase (IsWord w) a r → LeafFront s v b r
-leaf_front s l w a v b r taken ends is named word =
-    let head = leaf_head w l named in
-    let filled : 0 < length w = subst (λ t. 0 < length t) (sym head.2) (omega arith) in
-    let same = whole_word w v a b r filled taken word ends in
-    record { kind = l; is = ap type_of is ∙ type_of_leaf l; named = subst (λ t. IsNameOf t l) same.0 named; filled = subst (λ t. 0 < length t) same.0 filled; same = same.1 }
-
-pub plain_word_left : (T : Types) (s : Schema) (a v b r : List ℕ) → WordTaken a v b → EndsWord r → ((c : List ℕ) → TakesPhrase (IsSign 91) a c → ⊥) → ((c : List ℕ) → TakesPhrase (IsSign 40) a c → ⊥) → ((c : List ℕ) → TakesPhrase (IsSign 123) a c → ⊥)
-    → TakesPhrase (IsPlain T s) a r → LeafFront s v b r
-plain_word_left T s a v b r taken ends no_list no_tuple no_braces (front, inl (l, w, is, named, word), whole) = leaf_front s l w a v b r taken ends is named (front, word, whole)
-plain_word_left T s a v b r taken ends no_list no_tuple no_braces (front, inr (inl k), whole) = let m = takes_split (IsSign 91) (IsListRest T s) a r (front, k, whole) in absurd (no_list m.0 m.1)
-plain_word_left T s a v b r taken ends no_list no_tuple no_braces (front, inr (inr (inl k)), whole) = let m = takes_split (IsSign 40) (IsTupleRest T s) a r (front, k, whole) in absurd (no_tuple m.0 m.1)
-plain_word_left T s a v b r taken ends no_list no_tuple no_braces (front, inr (inr (inr k)), whole) = let m = takes_split (IsSign 123) (IsBracesRest T s) a r (front, k, whole) in absurd (no_braces m.0 m.1)
+-- Without a bracket a type begins with a word.
+pub plain_word_left : (T : Types) (s : Schema) (a r : List ℕ) → ((c : List ℕ) → TakesPhrase (IsSign 91) a c → ⊥) → ((c : List ℕ) → TakesPhrase (IsSign 40) a c → ⊥) → ((c : List ℕ) → TakesPhrase (IsSign 123) a c → ⊥)
+    → TakesPhrase (IsPlain T s) a r → TakesPhrase (IsWorded T s) a r
+plain_word_left T s a r no_list no_tuple no_braces (front, inl h, whole) = (front, h, whole)
+plain_word_left T s a r no_list no_tuple no_braces (front, inr (inl k), whole) = let m = takes_split (IsSign 91) (IsListRest T s) a r (front, k, whole) in absurd (no_list m.0 m.1)
+plain_word_left T s a r no_list no_tuple no_braces (front, inr (inr (inl k)), whole) = let m = takes_split (IsSign 40) (IsTupleRest T s) a r (front, k, whole) in absurd (no_tuple m.0 m.1)
+plain_word_left T s a r no_list no_tuple no_braces (front, inr (inr (inr k)), whole) = let m = takes_split (IsSign 123) (IsBracesRest T s) a r (front, k, whole) in absurd (no_braces m.0 m.1)
 
 -- No type begins with a word and a `:`.
 type_not_named : (d : ℕ) (s : Schema) (a v b c m : List ℕ) → TakesPhrase (IsType d s) a m → GoesOnBy follows_type m → WordTaken a v b → 0 < length v → TakesPhrase (IsSign 58) b c → ⊥
@@ -178,26 +224,19 @@ type_not_named (suc d) s a v b c m (front, inr (n, few, h), whole) goes taken fi
     split : (x : Schema) × (k : List ℕ) × TakesPhrase (IsPlain (IsType d) x) a k × (type_of s ≡ in_options n (type_of x)) × Signs 63 n k m
     split = options_split (IsPlain (IsType d)) n s a m (front, h, whole)
 
-    ends : (j : ℕ) (k : List ℕ) → Signs 63 j k m → EndsWord k
-    ends zero k same = subst EndsWord (sym same) (goes_ends_word m (goes_variant m goes))
-    ends (suc j) k (l, sign, more) = sign_ends_word 63 k l refl sign
-
     no_colon : (j : ℕ) (k : List ℕ) → Signs 63 j k m → TakesPhrase (IsSign 58) k c → ⊥
     no_colon zero k same sign = not_next_type 58 m c refl refl goes (subst (λ t. TakesPhrase (IsSign 58) t c) same sign)
     no_colon (suc j) k (l, first, more) sign = other_sign 63 58 k l c refl refl refl first sign
 
+    by_word : ((kind : Leaf) × (type_of split.0 ≡ leaf kind) × IsNameOf v kind × (split.1 ≡ b)) ⊎ TakesPhrase (IsAngleRest (IsType d) v split.0) b split.1 → ⊥
+    by_word (inl (kind, is, named, same)) = no_colon n split.1 split.4 (subst (λ t. TakesPhrase (IsSign 58) t c) (sym same) colon)
+    by_word (inr rest) = let sign = angle_sign (IsType d) v split.0 b split.1 rest in other_sign 60 58 b sign.1.0 c refl refl refl sign.1.1 colon
+
     by_plain : TakesPhrase (IsPlain (IsType d) split.0) a split.1 → ⊥
-    by_plain (f, inl (l, w, is, named, word), e) =
-        let leafs = leaf_front split.0 l w a v b split.1 taken (ends n split.1 split.4) is named (f, word, e) in
-        no_colon n split.1 split.4 (subst (λ t. TakesPhrase (IsSign 58) t c) (sym leafs.same) colon)
+    by_plain (f, inl h, e) = by_word (word_front (IsType d) split.0 a v b split.1 taken (question_ends n split.1 m goes split.4) (f, h, e)).left
     by_plain (f, inr (inl k), e) = let p = takes_split (IsSign 91) (IsListRest (IsType d) split.0) a split.1 (f, k, e) in word_not_sign v 91 a b p.0 filled refl refl taken p.1
     by_plain (f, inr (inr (inl k)), e) = let p = takes_split (IsSign 40) (IsTupleRest (IsType d) split.0) a split.1 (f, k, e) in word_not_sign v 40 a b p.0 filled refl refl taken p.1
     by_plain (f, inr (inr (inr k)), e) = let p = takes_split (IsSign 123) (IsBracesRest (IsType d) split.0) a split.1 (f, k, e) in word_not_sign v 123 a b p.0 filled refl refl taken p.1
-
--- A filled word that is taken whole.
-taken_whole : (w a b : List ℕ) → 0 < length w → TakesPhrase (IsWord w) a b → EndsWord b → WordTaken a w b
-taken_whole [] a b filled word ends = absurd (omega (arith, filled))
-taken_whole (x ∷ w) a b filled word ends = record { bytes = word.1.0; first = word_unblank x w a b word; ends = ends }
 
 -- What follows a `{` is a struct if a name and a `:` are next, and else a map.
 pub braces_as_fields : (d : ℕ) (s : Schema) (a r : List ℕ) → IsNamed a → TakesPhrase (IsBracesRest (IsType d) s) a r → TakesPhrase (IsFieldsRest (IsType d) s) a r

@@ -8,5 +8,7 @@ pub mod LeftOfList
 pub mod LeftOfFields
 pub mod LeftOfTuple
 pub mod LeftOfEnum
+pub mod LeftOfAngled
+pub mod AngledSchemas
 pub mod LeftOfType
 pub mod Refusals

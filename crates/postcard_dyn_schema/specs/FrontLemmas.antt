@@ -82,7 +82,7 @@ one_word (x ∷ w) (y ∷ v) r q f g h k e =
     let rest = one_word w v r q (pass_tail is_of_word x w f) (pass_tail is_of_word y v g) h k (same_rest e) in
     (ap (λ z. z ∷ w) (same_first e) ∙ ap (λ z. y ∷ z) rest.0, rest.1)
 
-blank_ends : (b : ℕ) → is_ascii_whitespace b ≡ true → is_of_word b ≡ false
+pub blank_ends : (b : ℕ) → is_ascii_whitespace b ≡ true → is_of_word b ≡ false
 blank_ends b h = grind (arith, nat_tests)
 
 -- A text that begins with a sign, after blanks or none, goes on with no word.

@@ -7,6 +7,9 @@ use Rattle.postcard_dyn_schema.specs.declared.schema.Schema.{Schema}
 use Rattle.postcard_dyn_schema.specs.declared.schema.Schema.TheVariants.{Option, Seq, Map, Array, Group, Enum, Named}
 use Rattle.postcard_dyn_schema.specs.declared.schema.Schema.TheVariants as schemas
 use Rattle.postcard_dyn_schema.specs.declared.schema.Leaf.{Leaf}
+use Rattle.postcard_dyn_schema.specs.declared.angled.Holder.{Holder}
+use Rattle.postcard_dyn_schema.specs.declared.angled.Pair.{Pair}
+use Rattle.postcard_dyn_schema.specs.Angled.{IsHolderName, MayHold, IsHolderOf, IsPairName, MayPair, IsPairOf}
 use Rattle.postcard_dyn_schema.specs.Meaning.{IsNameOf, has_bytes, type_of}
 use Rattle.postcard_dyn_schema.specs.Names.{NamesDiffer, HasNewName}
 use Rattle.postcard_dyn_schema.specs.Text.{AreBlank, Then, IsSign, IsMaybe, IsWord, IsCount}
@@ -62,10 +65,33 @@ IsMapRest T s text = (b : Box Schema Global) × (v : Vec Schema Global) × (key 
 abbrev pub IsBracesRest : (Schema → List ℕ → Type 0) → Schema → List ℕ → Type 0
 IsBracesRest T s text = IsFieldsRest T s text ⊎ IsMapRest T s text
 
--- A type that is no enum and no option.
+-- What follows the `<` after the name of a type of one type: that type and `>`.
+abbrev pub IsHolderRest : (Schema → List ℕ → Type 0) → Holder → Schema → List ℕ → Type 0
+IsHolderRest T h s text = (x : Schema) × MayHold h (type_of x) × IsHolderOf h x s × Then (T x) (IsSign 62) text
+
+-- What follows the `<` after the name of a type of two types: these, with `,` between them, and `>`.
+abbrev pub IsPairRest : (Schema → List ℕ → Type 0) → Pair → Schema → List ℕ → Type 0
+IsPairRest T p s text = (x : Schema) × (y : Schema) × MayPair p (type_of x) (type_of y) × IsPairOf p x y s
+    × Then (T x) (Then (IsSign 44) (Then (T y) (IsSign 62))) text
+
+-- What follows the name of a type that has types in `<` and `>`.
+abbrev pub IsAngleRest : (Schema → List ℕ → Type 0) → List ℕ → Schema → List ℕ → Type 0
+IsAngleRest T name s text =
+    ((h : Holder) × IsHolderName name h × Then (IsSign 60) (IsHolderRest T h s) text)
+    ⊎ ((p : Pair) × IsPairName name p × Then (IsSign 60) (IsPairRest T p s) text)
+
+-- A type that has types in `<` and `>`, after its name.
+abbrev pub IsAngled : (Schema → List ℕ → Type 0) → Schema → List ℕ → Type 0
+IsAngled T s text = (name : List ℕ) × Then (IsWord name) (IsAngleRest T name s) text
+
+-- A type that begins with a name.
+abbrev pub IsWorded : (Schema → List ℕ → Type 0) → Schema → List ℕ → Type 0
+IsWorded T s text = IsLeaf s text ⊎ IsAngled T s text
+
+-- A type that is no enum and not followed by `?`.
 abbrev pub IsPlain : (Schema → List ℕ → Type 0) → Schema → List ℕ → Type 0
 IsPlain T s text =
-    IsLeaf s text
+    IsWorded T s text
     ⊎ (Then (IsSign 91) (IsListRest T s) text
     ⊎ (Then (IsSign 40) (IsTupleRest T s) text
     ⊎ Then (IsSign 123) (IsBracesRest T s) text))

@@ -24,7 +24,7 @@ IsNameOf word I128 = word ≡ codes "i128"
 IsNameOf word F32 = word ≡ codes "f32"
 IsNameOf word F64 = word ≡ codes "f64"
 IsNameOf word Char = word ≡ codes "char"
-IsNameOf word Str = word ≡ codes "str"
+IsNameOf word Str = (word ≡ codes "str") ⊎ (word ≡ codes "String")
 IsNameOf word Bytes = word ≡ codes "bytes"
 
 mutual

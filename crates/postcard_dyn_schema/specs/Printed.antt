@@ -2,7 +2,7 @@
 use Rattle.std.specs.Prelude.{ℕ, List, ◌++◌, codes}
 use Rattle.std.specs.Fmt.{decimal}
 use Rattle.postcard_dyn_schema.specs.declared.error.Problem.{Problem}
-use Rattle.postcard_dyn_schema.specs.declared.error.Problem.TheVariants.{TypeExpected, UnknownType, VariantExpected, FieldExpected, NameTwice, CommaOrParenthesis, CommaOrBrace, SemicolonOrBracket, BracketExpected, ColonExpected, ArrowExpected, BraceExpected, CountExpected, CountTooLarge, NoBytes, TooDeep, EndExpected, OutOfMemory}
+use Rattle.postcard_dyn_schema.specs.declared.error.Problem.TheVariants.{TypeExpected, UnknownType, VariantExpected, FieldExpected, NameTwice, CommaOrParenthesis, CommaOrBrace, SemicolonOrBracket, BracketExpected, CommaExpected, GreaterExpected, ColonExpected, ArrowExpected, BraceExpected, CountExpected, CountTooLarge, NoBytes, TooDeep, EndExpected, OutOfMemory}
 use Rattle.postcard_dyn_schema.specs.declared.error.ExpressionError.{ExpressionError}
 
 -- The text of a problem, in ASCII.
@@ -16,6 +16,8 @@ problem_text CommaOrParenthesis = codes "expected `,` or `)`"
 problem_text CommaOrBrace = codes "expected `,` or `}`"
 problem_text SemicolonOrBracket = codes "expected `;` or `]`"
 problem_text BracketExpected = codes "expected `]`"
+problem_text CommaExpected = codes "expected `,`"
+problem_text GreaterExpected = codes "expected `>`"
 problem_text ColonExpected = codes "expected `:`"
 problem_text ArrowExpected = codes "expected `=>`"
 problem_text BraceExpected = codes "expected `}`"

@@ -10,7 +10,8 @@ use std::fmt;
 pub enum Problem {
     /// A type is expected, and the text ends here or goes on with something else.
     TypeExpected,
-    /// The word names no type, or is the only variant of an enum without the `|` before it.
+    /// The word names no type, or no type that has types in `<` and `>`, or is the only variant of an
+    /// enum without the `|` before it.
     UnknownType,
     /// The name of a variant is expected, which begins with a capital letter.
     VariantExpected,
@@ -26,6 +27,10 @@ pub enum Problem {
     SemicolonOrBracket,
     /// After the count of an array, no `]` follows.
     BracketExpected,
+    /// After the first type in the `<` of a map or a result, no `,` follows.
+    CommaExpected,
+    /// After the last type in a `<`, no `>` follows.
+    GreaterExpected,
     /// After the name of a field, no `:` follows.
     ColonExpected,
     /// After the key type of a map, no `=>` follows.
@@ -60,6 +65,8 @@ impl fmt::Display for Problem {
             Problem::CommaOrBrace => "expected `,` or `}`",
             Problem::SemicolonOrBracket => "expected `;` or `]`",
             Problem::BracketExpected => "expected `]`",
+            Problem::CommaExpected => "expected `,`",
+            Problem::GreaterExpected => "expected `>`",
             Problem::ColonExpected => "expected `:`",
             Problem::ArrowExpected => "expected `=>`",
             Problem::BraceExpected => "expected `}`",

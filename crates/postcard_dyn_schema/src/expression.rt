@@ -3,34 +3,50 @@
 //! The grammar, in which white space may come before any word or sign and at the end:
 //!
 //! ```text
-//! type    = plain {"?"} | ["|"] variant {"|" variant}
-//! plain   = word | "[" type "]" | "[" type ";" count "]" | tuple
-//!         | "{" fields "}" | "{" type "=>" type "}"
-//! tuple   = "(" [type {"," type} [","]] ")"
-//! fields  = name ":" type {"," name ":" type} [","]
-//! variant = Name [tuple | "{" fields "}"]
+//! type     = plain {"?"} | ["|"] variant {"|" variant}
+//! plain    = word | holder "<" type ">" | pair "<" type "," type ">"
+//!          | "[" type "]" | "[" type ";" count "]" | tuple
+//!          | "{" fields "}" | "{" type "=>" type "}"
+//! holder   = "Box" | "Vec" | "Option"
+//! pair     = "BTreeMap" | "HashMap" | "Result"
+//! tuple    = "(" [type {"," type} [","]] ")"
+//! fields   = name ":" type {"," name ":" type} [","]
+//! variant  = Name [tuple | "{" fields "}"]
 //! ```
 //!
 //! An enum with a single variant needs the leading `|`. As in Rust, `(T)` is the type `T`, and
 //! `(T,)` is a tuple of one part. The fields of a struct have different names, and so have the
 //! variants of an enum; a count is below 2^64.
+//!
+//! A word is the name of a type without parts ([`Leaf`]), such as `u16` or `String`. A type that
+//! begins with a capital letter is an enum if `|`, `(` or `{` follows its first word, and else that
+//! word names a type of Rust. So `String | Number` is an enum, and `[String]` a list of texts.
+//!
+//! `Box<T>` is the type `T`, `Vec<T>` is `[T]`, `Option<T>` is `T?`, a `BTreeMap<K, V>` or
+//! `HashMap<K, V>` is `{K => V}`, and `Result<T, E>` is `Ok(T) | Err(E)`.
 
 ghost use Rattle.std.specs.Prelude.{◌≡◌, ℕ, List, ◌+◌, ◌≤◌, ◌++◌, ◌⊎◌, [], ◌∷◌, length, Decides, IfOk, IfErr, OnOk};
 ghost use Rattle.postcard_dyn_schema.specs.Text.{characters, TakesPhrase, EndsWord, GoesOnBy};
 ghost use Rattle.postcard_dyn_schema.specs.Fronts.{HasFront, IsOnlyFront, IsRefusal, IsNamed, Anything};
-ghost use Rattle.postcard_dyn_schema.specs.Fronts.{Starts, starts_enum};
+ghost use Rattle.postcard_dyn_schema.specs.Fronts.{Starts, StartsEnum};
+ghost use Rattle.postcard_dyn_schema.specs.Fronts.{follows_name as is_after_first_name};
 ghost use Rattle.postcard_dyn_schema.specs.Fronts.{follows_type, follows_variant};
 ghost use Rattle.postcard_dyn_schema.specs.declared.schema.Schema.{Schema};
 ghost use Rattle.postcard_dyn_schema.specs.Meaning.{type_of};
 ghost use Rattle.postcard_dyn_schema.specs.Names.{IsNewTo, IsTakenIn, HasNamesOf};
 ghost use Rattle.postcard_dyn_schema.specs.Bounds.{ElementsHaveBytes, depth as depth_of};
+ghost use Rattle.postcard_dyn_schema.specs.declared.angled.Holder.{Holder};
+ghost use Rattle.postcard_dyn_schema.specs.declared.angled.Pair.{Pair};
 ghost use Rattle.postcard_dyn_schema.specs.Grammar.{IsType, IsPlain, IsListRest, IsTupleRest};
+ghost use Rattle.postcard_dyn_schema.specs.Grammar.{IsWorded, IsAngleRest, IsHolderRest, IsPairRest};
 ghost use Rattle.postcard_dyn_schema.specs.Grammar.{IsFieldsRest, IsMapRest, IsBracesRest, IsEnumText};
 ghost use Rattle.postcard_dyn_schema.specs.Grammar.{IsVariantText, IsNewVariant, IsContent, IsExpression};
 
+use crate::angled::{Holder, Pair, map_of};
 use crate::error::{ExpressionError, Problem};
 use crate::scan::{
-    Fault, boxed, character_of, expect, fault_at, named, skip_blanks, take, take_count, take_word,
+    Fault, boxed, character_of, expect, fault_at, named, push, skip_blanks, take, take_count,
+    take_word,
 };
 use crate::schema::{Leaf, Schema};
 use std::alloc::Global;
@@ -118,17 +134,40 @@ fn read_type(alloc: Global, rest: &mut &[u8], depth: usize) -> Result<Schema, Fa
     Ok(schema)
 }
 
-/// Returns whether `|` or a capital letter comes next.
+/// Returns whether an enum comes next: `|`, or a word that begins with a capital letter and is
+/// followed by `|`, `(` or `{`.
 fn begins_enum(text: &[u8]) -> bool
-    ensures { Decides result (Starts starts_enum text.now) }
+    ensures { Decides result (StartsEnum text.now) }
+{
+    let mut rest = text;
+    if take(&mut rest, b'|') {
+        return true;
+    }
+    let word = take_word(&mut rest);
+    if word.is_empty() || !word[0].is_ascii_uppercase() {
+        return false;
+    }
+    follows_name(rest)
+}
+
+/// Returns whether `|`, `(` or `{` comes next.
+fn follows_name(text: &[u8]) -> bool
+    ensures { Decides result (Starts is_after_first_name text.now) }
 {
     match text.trim_ascii_start().split_first() {
-        Some((first, _)) => *first == b'|' || first.is_ascii_uppercase(),
+        Some((first, _)) => is_after_name(*first),
         None => false,
     }
 }
 
-/// Reads a type that is no enum and no option: it begins with a bracket, or is a word.
+/// Returns whether a byte is `|`, `(` or `{`, which may follow the name of an enum's first variant.
+fn is_after_name(byte: u8) -> bool
+    ensures { result ≡ is_after_first_name byte }
+{
+    byte == b'|' || byte == b'(' || byte == b'{'
+}
+
+/// Reads a type that is no enum, without the `?` after it.
 #[cycle(expression)]
 fn read_plain(alloc: Global, rest: &mut &[u8], depth: usize) -> Result<Schema, Fault>
     ensures spelled { IfOk result (λ schema. TakesPhrase (IsPlain (IsType depth) schema)
@@ -147,6 +186,19 @@ fn read_plain(alloc: Global, rest: &mut &[u8], depth: usize) -> Result<Schema, F
     if take(rest, b'{') {
         return read_braces(alloc, rest, depth);
     }
+    read_worded(alloc, rest, depth)
+}
+
+/// Reads a type that begins with a word.
+#[cycle(expression)]
+fn read_worded(alloc: Global, rest: &mut &[u8], depth: usize) -> Result<Schema, Fault>
+    ensures spelled { IfOk result (λ schema. TakesPhrase (IsWorded (IsType depth) schema)
+        rest.old.now rest.new.now) }
+    ensures one { IfOk result (λ schema.
+        IsOnlyFront EndsWord (IsWorded (IsType depth)) schema rest.old.now rest.new.now) }
+    ensures refused { IfErr result (λ fault.
+        IsRefusal fault.problem (HasFront EndsWord (IsWorded (IsType depth)) rest.old.now)) }
+{
     let start = rest.trim_ascii_start();
     let word = take_word(rest);
     if word.is_empty() {
@@ -154,8 +206,76 @@ fn read_plain(alloc: Global, rest: &mut &[u8], depth: usize) -> Result<Schema, F
     }
     match Leaf::from_name(word) {
         Some(leaf) => Ok(Schema::Leaf(leaf)),
-        None => Err(fault_at(Problem::UnknownType, start)),
+        None => read_angled(alloc, word, start, rest, depth),
     }
+}
+
+/// Reads the types in `<` and `>` after the name of a type, which stands at `start`.
+#[cycle(expression)]
+fn read_angled(
+    alloc: Global,
+    name: &[u8],
+    start: &[u8],
+    rest: &mut &[u8],
+    depth: usize,
+) -> Result<Schema, Fault>
+    ensures spelled { IfOk result (λ schema. TakesPhrase (IsAngleRest (IsType depth) name.now schema)
+        rest.old.now rest.new.now) }
+    ensures one { IfOk result (λ schema.
+        IsOnlyFront Anything (IsAngleRest (IsType depth) name.now) schema rest.old.now rest.new.now) }
+    ensures refused { IfErr result (λ fault.
+        IsRefusal fault.problem (HasFront Anything (IsAngleRest (IsType depth) name.now) rest.old.now)) }
+{
+    if !take(rest, b'<') {
+        return Err(fault_at(Problem::UnknownType, start));
+    }
+    if let Some(holder) = Holder::from_name(name) {
+        return read_holder(alloc, holder, rest, depth);
+    }
+    if let Some(pair) = Pair::from_name(name) {
+        return read_pair(alloc, pair, rest, depth);
+    }
+    Err(fault_at(Problem::UnknownType, start))
+}
+
+/// Reads a type and `>` after the `<` of a type of one type, and returns that type.
+#[cycle(expression)]
+fn read_holder(
+    alloc: Global,
+    holder: Holder,
+    rest: &mut &[u8],
+    depth: usize,
+) -> Result<Schema, Fault>
+    ensures spelled { IfOk result (λ schema. TakesPhrase (IsHolderRest (IsType depth) holder schema)
+        rest.old.now rest.new.now) }
+    ensures one { IfOk result (λ schema.
+        IsOnlyFront Anything (IsHolderRest (IsType depth) holder) schema rest.old.now rest.new.now) }
+    ensures refused { IfErr result (λ fault.
+        IsRefusal fault.problem (HasFront Anything (IsHolderRest (IsType depth) holder) rest.old.now)) }
+{
+    let start = rest.trim_ascii_start();
+    let inner = read_type(alloc, rest, depth)?;
+    expect(rest, b'>', Problem::GreaterExpected)?;
+    holder.of_type(alloc, inner, start)
+}
+
+/// Reads two types, with `,` between them, and `>` after the `<` of a type of two types, and
+/// returns that type.
+#[cycle(expression)]
+fn read_pair(alloc: Global, pair: Pair, rest: &mut &[u8], depth: usize) -> Result<Schema, Fault>
+    ensures spelled { IfOk result (λ schema. TakesPhrase (IsPairRest (IsType depth) pair schema)
+        rest.old.now rest.new.now) }
+    ensures one { IfOk result (λ schema.
+        IsOnlyFront Anything (IsPairRest (IsType depth) pair) schema rest.old.now rest.new.now) }
+    ensures refused { IfErr result (λ fault.
+        IsRefusal fault.problem (HasFront Anything (IsPairRest (IsType depth) pair) rest.old.now)) }
+{
+    let start = rest.trim_ascii_start();
+    let first = read_type(alloc, rest, depth)?;
+    expect(rest, b',', Problem::CommaExpected)?;
+    let second = read_type(alloc, rest, depth)?;
+    expect(rest, b'>', Problem::GreaterExpected)?;
+    pair.of_types(alloc, first, second, start)
 }
 
 /// Reads a list or an array after its `[`.
@@ -237,7 +357,8 @@ fn read_braces(alloc: Global, rest: &mut &[u8], depth: usize) -> Result<Schema, 
 }
 
 /// Returns what is wrong with the text after a `{`, which is refused as a map with this fault. If
-/// its first word is no type and no `=>` follows the word, it is a field whose `:` is missing.
+/// its first word is no type and neither `=>` nor `<` follows the word, it is a field whose `:` is
+/// missing.
 fn or_colon(fault: Fault, text: &[u8]) -> Fault
     ensures refused { fault.problem ≡ Problem.OutOfMemory → result.problem ≡ Problem.OutOfMemory }
 {
@@ -248,7 +369,7 @@ fn or_colon(fault: Fault, text: &[u8]) -> Fault
     let _ = take_word(&mut rest);
     skip_blanks(&mut rest);
     let after = rest;
-    if take(&mut rest, b'=') && take(&mut rest, b'>') {
+    if take(&mut rest, b'<') || take(&mut rest, b'=') && take(&mut rest, b'>') {
         return fault;
     }
     fault_at(Problem::ColonExpected, after)
@@ -306,19 +427,12 @@ fn read_map(alloc: Global, rest: &mut &[u8], depth: usize) -> Result<Schema, Fau
         IsRefusal fault.problem (HasFront Anything (IsMapRest (IsType depth)) rest.old.now)) }
 {
     let start = rest.trim_ascii_start();
-    let mut parts = Vec::new(alloc);
     let key = read_type(alloc, rest, depth)?;
-    push(&mut parts, key, rest)?;
     expect(rest, b'=', Problem::ArrowExpected)?;
     expect(rest, b'>', Problem::ArrowExpected)?;
     let value = read_type(alloc, rest, depth)?;
-    push(&mut parts, value, rest)?;
     expect(rest, b'}', Problem::BraceExpected)?;
-    let entry = Schema::Group(parts);
-    if !entry.has_bytes() {
-        return Err(fault_at(Problem::NoBytes, start));
-    }
-    Ok(Schema::Map(boxed(alloc, entry, rest)?))
+    map_of(alloc, key, value, start)
 }
 
 /// Reads an enum: its variants, with `|` between them.
@@ -408,15 +522,4 @@ fn check_new(before: &Vec<Schema>, name: &[u8], start: &[u8]) -> Result<(), Faul
         }
     }
     Ok(())
-}
-
-/// Adds a type to the end of the list.
-fn push(schemas: &mut Vec<Schema>, schema: Schema, rest: &[u8]) -> Result<(), Fault>
-    ensures added { OnOk result (schemas.new.items ≡ schemas.old.items ++ schema ∷ []) }
-    ensures refused { IfErr result (λ fault. fault.problem ≡ Problem.OutOfMemory) }
-{
-    match schemas.push(schema) {
-        Ok(()) => Ok(()),
-        Err(_) => Err(fault_at(Problem::OutOfMemory, rest)),
-    }
 }

@@ -5,6 +5,7 @@
 //! `postcard_dyn` reads and writes values of a schema, and `postcard_dyn_text` their texts.
 #![tactic(auto)]
 
+pub mod angled;
 pub mod error;
 pub mod expression;
 pub mod scan;

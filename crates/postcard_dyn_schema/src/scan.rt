@@ -3,7 +3,7 @@
 //! The parameter `rest` is the part of the text that isn't read yet; what a function takes is
 //! dropped from its front. Blanks are the white space of ASCII.
 
-ghost use Rattle.std.specs.Prelude.{◌≡◌, ◌⊎◌, ℕ, ◌+◌, ◌-◌, ◌*◌, ◌^◌, ◌<◌, ◌++◌, ◌≤◌, List, true, false, take, length};
+ghost use Rattle.std.specs.Prelude.{◌≡◌, ◌⊎◌, ℕ, ◌+◌, ◌-◌, ◌*◌, ◌^◌, ◌<◌, ◌++◌, ◌≤◌, List, [], ◌∷◌, true, false, take, length};
 ghost use Rattle.std.specs.Prelude.{Box, Decides, SomeIff, IfOk, IfErr, OnErr, OnOk, string_bytes};
 ghost use Rattle.std.specs.Char.{is_ascii_digit, is_ascii_whitespace};
 ghost use Rattle.std.specs.List.{AllPass};
@@ -194,6 +194,21 @@ pub fn named(alloc: Global, name: &[u8], schema: Schema, rest: &[u8]) -> Result<
     };
     match String::from_str(alloc, text) {
         Ok(name) => Ok(Schema::Named(name, boxed(alloc, schema, rest)?)),
+        Err(_) => Err(fault_at(Problem::OutOfMemory, rest)),
+    }
+}
+
+/// Adds a type to the end of the list.
+///
+/// # Errors
+///
+/// Fails with `OutOfMemory` at the front of `rest` if an allocation fails.
+pub fn push(schemas: &mut Vec<Schema>, schema: Schema, rest: &[u8]) -> Result<(), Fault>
+    ensures added { OnOk result (schemas.new.items ≡ schemas.old.items ++ schema ∷ []) }
+    ensures refused { IfErr result (λ fault. fault.problem ≡ Problem.OutOfMemory) }
+{
+    match schemas.push(schema) {
+        Ok(()) => Ok(()),
         Err(_) => Err(fault_at(Problem::OutOfMemory, rest)),
     }
 }

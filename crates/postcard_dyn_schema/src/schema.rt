@@ -32,7 +32,7 @@ pub enum Leaf {
 
 impl Leaf {
     /// Returns the type with this name, such as `u16`, or `None` if no type without parts has it.
-    /// `usize` names the same type as `u64`, and `isize` the same as `i64`.
+    /// `usize` names the same type as `u64`, `isize` the same as `i64`, and `String` as `str`.
     pub fn from_name(name: &[u8]) -> Option<Leaf>
         ensures found { IfSome result (λ leaf. IsNameOf name.now leaf) }
         ensures none { IfNone result ((leaf : Leaf) → IsNameOf name.now leaf → ⊥) }
@@ -52,7 +52,7 @@ impl Leaf {
             b"f32" => Some(Leaf::F32),
             b"f64" => Some(Leaf::F64),
             b"char" => Some(Leaf::Char),
-            b"str" => Some(Leaf::Str),
+            b"str" | b"String" => Some(Leaf::Str),
             b"bytes" => Some(Leaf::Bytes),
             _ => None,
         }

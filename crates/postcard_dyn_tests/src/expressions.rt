@@ -6,7 +6,7 @@ use postcard_dyn_schema::parse;
 use std::process::Abort;
 
 /// Expressions, each beside the schema that is read from it, printed by `Debug`.
-const TYPES: [(&str, &str); 20] = [
+const TYPES: [(&str, &str); 35] = [
     ("u8", "Leaf(U8)"),
     (" usize ", "Leaf(U64)"),
     ("u16??", "Option(Option(Leaf(U16)))"),
@@ -40,10 +40,46 @@ const TYPES: [(&str, &str); 20] = [
     ("{() => u8}", "Map(Group([Group([]), Leaf(U8)]))"),
     ("[u8; 0]", "Array(Leaf(U8), 0)"),
     ("(f32, f64)", "Group([Leaf(F32), Leaf(F64)])"),
+    ("Vec<u8>", "Seq(Leaf(U8))"),
+    ("Vec < Vec<u16> >", "Seq(Seq(Leaf(U16)))"),
+    ("Option<u8>?", "Option(Option(Leaf(U8)))"),
+    ("Box<str>", "Leaf(Str)"),
+    (
+        "BTreeMap<u8, bool>",
+        "Map(Group([Leaf(U8), Leaf(Bool)]))",
+    ),
+    (
+        "HashMap<String, Vec<u8>>",
+        "Map(Group([Leaf(Str), Seq(Leaf(U8))]))",
+    ),
+    (
+        "Result<(), u8>",
+        "Enum([Named(\"Ok\", Group([])), Named(\"Err\", Leaf(U8))])",
+    ),
+    ("String", "Leaf(Str)"),
+    ("[String; 2]", "Array(Leaf(Str), 2)"),
+    (
+        "{name: String, data: Option<Vec<u8>>}",
+        "Group([Named(\"name\", Leaf(Str)), Named(\"data\", Option(Seq(Leaf(U8))))])",
+    ),
+    (
+        "Vec<A | B>",
+        "Seq(Enum([Named(\"A\", Group([])), Named(\"B\", Group([]))]))",
+    ),
+    ("{Vec<u8>=>u8}", "Map(Group([Seq(Leaf(U8)), Leaf(U8)]))"),
+    (
+        "String | Vec",
+        "Enum([Named(\"String\", Group([])), Named(\"Vec\", Group([]))])",
+    ),
+    (
+        "Vec(u8) | Option{a: u8}",
+        "Enum([Named(\"Vec\", Leaf(U8)), Named(\"Option\", Group([Named(\"a\", Leaf(U8))]))])",
+    ),
+    ("{String: u8}", "Group([Named(\"String\", Leaf(U8))])"),
 ];
 
 /// Texts that are no expressions, each beside the error as it is printed.
-const REFUSED: [(&str, &str); 47] = [
+const REFUSED: [(&str, &str); 59] = [
     ("", "expected a type at character 1"),
     ("  ", "expected a type at character 3"),
     ("u9", "unknown type at character 1"),
@@ -106,6 +142,27 @@ const REFUSED: [(&str, &str); 47] = [
     ("u8?????", "nested too deeply at character 7"),
     ("(u8, \u{e9}\u{e9}, u9)", "expected a type at character 6"),
     ("?", "expected a type at character 1"),
+    (
+        "Vec<()>",
+        "elements of this type have no bytes at character 5",
+    ),
+    (
+        "HashMap<(), ()>",
+        "elements of this type have no bytes at character 9",
+    ),
+    ("Vec<u8", "expected `>` at character 7"),
+    ("Vec<u8, u8>", "expected `>` at character 7"),
+    ("Vec<>", "expected a type at character 5"),
+    ("Result<u8>", "expected `,` at character 10"),
+    ("Vec", "unknown type at character 1"),
+    ("Vec(u8)", "unknown type at character 1"),
+    ("Rc<u8>", "unknown type at character 1"),
+    ("{Rc<u8> => u8}", "unknown type at character 2"),
+    ("u8<u8>", "expected the end of the type at character 3"),
+    (
+        "A | Vec<u8>",
+        "expected the end of the type at character 8",
+    ),
 ];
 
 /// Returns the schema of a text, or its error, as it is printed.

@@ -1,5 +1,5 @@
 -- The names in a type that an expression spells tell its values apart.
-use Rattle.std.proofs.Common.{◌≡◌, ℕ, zero, suc, List, [], ◌∷◌, Vec, Box, string_bytes, refl, sym, ap, subst, ◌∙◌, rules, inl, inr}
+use Rattle.std.proofs.Common.{◌≡◌, ℕ, zero, suc, ◌<◌, List, [], ◌∷◌, length, codes, Vec, Box, string_bytes, refl, sym, ap, subst, ◌∙◌, rules, arith, inl, inr}
 use Rattle.std.specs.declared.alloc.Global.{Global}
 use Rattle.std.specs.declared.string.String.{String}
 use Rattle.std.proofs.lemmas.List.Elements.{All-head, All-tail}
@@ -7,8 +7,12 @@ use Rattle.postcard_dyn_schema.specs.declared.schema.Schema.{Schema, the_lemmas}
 use Rattle.postcard_dyn_schema.specs.declared.schema.Schema.TheVariants.{Option, Seq, Map, Array, Group, Enum, Named}
 use Rattle.postcard_dyn_schema.specs.declared.schema.Schema.TheVariants as schemas
 use Rattle.postcard_dyn_schema.specs.declared.schema.Leaf.{Leaf}
+use Rattle.postcard_dyn_schema.specs.declared.angled.Holder.{Holder}
+use Rattle.postcard_dyn_schema.specs.declared.angled.Holder.TheVariants as holders
+use Rattle.postcard_dyn_schema.specs.declared.angled.Pair.{Pair}
+use Rattle.postcard_dyn_schema.specs.declared.angled.Pair.TheVariants as pairs
 use Rattle.postcard_dyn_schema.specs.Names.{IsCalled, IsNewTo, NamesDiffer}
-use Rattle.postcard_dyn_schema.specs.Grammar.{Separated, IsListRest, IsTupleRest, IsField, IsFieldsRest, IsMapRest, IsPlain, IsOptions, IsContent, IsVariantText, IsEnumText, IsType, IsExpression}
+use Rattle.postcard_dyn_schema.specs.Grammar.{Separated, IsListRest, IsTupleRest, IsField, IsFieldsRest, IsMapRest, IsHolderRest, IsPairRest, IsWorded, IsPlain, IsOptions, IsContent, IsVariantText, IsEnumText, IsType, IsExpression}
 use Rattle.postcard_dyn_text.specs.Accepted.{IsNotCalled, AreNotCalled, HasNewName, HasDistinctNames, HaveDistinctNames}
 use Rattle.postcard_dyn_text.specs.Accepted as texts
 use Rattle.postcard_dyn_text.specs.Shown.{leaf, option, list, mapping, array, group, choice, named, layout_of, layouts_of}
@@ -65,8 +69,34 @@ of_map : (T : Schema → List ℕ → Type 0) → Distinct T → Distinct (IsMap
 of_map T each s t (b, v, key, value, is, entry, items, full, (x, y, h, (x2, y2, equals, (x3, y3, greater, (x4, y4, g, close, e4), e3), e2), e)) =
     rw (is, layout_map b, entry, layout_group v, items) (tt, (each key x h, (each value x4 g, tt)))
 
+of_holder : (T : Schema → List ℕ → Type 0) (h : Holder) → Distinct T → Distinct (IsHolderRest T h)
+of_holder T holders.Itself each s t (x, may, is, (f, g, inside, close, e)) = rw is (each x f inside)
+of_holder T holders.List each s t (x, may, (b, is, value), (f, g, inside, close, e)) = rw (is, layout_seq b, value) (each x f inside)
+of_holder T holders.Option each s t (x, may, (b, is, value), (f, g, inside, close, e)) = rw (is, layout_option b, value) (each x f inside)
+
+-- The names of the variants of a result.
+result_names : (n m : List ℕ) → n ≡ codes "Ok" → m ≡ codes "Err" → n ≡ m → ⊥
+result_names n m ok err same = let e : codes "Ok" ≡ codes "Err" = sym ok ∙ same ∙ err in absurd (other e)
+  where
+    other : codes "Ok" ≡ codes "Err" → ⊥
+    other e = let long : 2 ≡ 3 = ap length e in omega (arith, long)
+
+of_pair : (T : Schema → List ℕ → Type 0) (p : Pair) → Distinct T → Distinct (IsPairRest T p)
+of_pair T pairs.Map each s t (x, y, may, (b, v, is, entry, items), (f, f2, first, (g, g2, comma, (h, h2, second, close, e3), e2), e)) =
+    rw (is, layout_map b, entry, layout_group v, items) (tt, (each x f first, (each y h second, tt)))
+of_pair T pairs.Result each s t (x, y, may, (v, n, b, m, c, is, items, ok, value, err, error), (f, f2, first, (g, g2, comma, (h, h2, second, close, e3), e2), e)) =
+    let good : HasDistinctNames (layout_of (Named n b)) = rw (layout_named n b, value) (subst (λ z. 0 < length z) (sym ok) (omega arith), each x f first) in
+    let bad : HasDistinctNames (layout_of (Named m c)) = rw (layout_named m c, error) (subst (λ z. 0 < length z) (sym err) (omega arith), each y h second) in
+    let differ : HasNewName (layout_of (Named n b)) (layouts_of (Named m c ∷ [])) = rw (layout_named n b, layout_named m c) (λ same. result_names (string_bytes n) (string_bytes m) ok err (sym same), tt) in
+    rw (is, layout_enum v, items) ((differ, (rw (layout_named m c) tt, tt)), (good, (bad, tt)))
+
+of_worded : (T : Schema → List ℕ → Type 0) → Distinct T → Distinct (IsWorded T)
+of_worded T each s t (inl (l, word, is, name, spelled)) = rw (is, layout_leaf l) tt
+of_worded T each s t (inr (name, (x, y, word, inl (h, called, (f, g, sign, rest, e2)), e))) = of_holder T h each s g rest
+of_worded T each s t (inr (name, (x, y, word, inr (p, called, (f, g, sign, rest, e2)), e))) = of_pair T p each s g rest
+
 of_plain : (T : Schema → List ℕ → Type 0) → Distinct T → Distinct (IsPlain T)
-of_plain T each s t (inl (l, word, is, name, spelled)) = rw (is, layout_leaf l) tt
+of_plain T each s t (inl h) = of_worded T each s t h
 of_plain T each s t (inr (inl (x, y, sign, h, e))) = of_list T each s y h
 of_plain T each s t (inr (inr (inl (x, y, sign, h, e)))) = of_tuple T each s y h
 of_plain T each s t (inr (inr (inr (x, y, sign, inl h, e)))) = of_fields T each s y h

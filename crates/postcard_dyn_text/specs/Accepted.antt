@@ -58,7 +58,7 @@ abbrev pub HasDistinctItems : Bool → Layout → Type 0
 HasDistinctItems true x = HasPart x × HasDistinctNames x
 HasDistinctItems false x = HasDistinctNames x
 
--- What may follow a value: blanks alone, or nothing, or one of the signs `]`, `)`, `,`, `}` and `=` after blanks, or `;`.
+-- What may follow a value: blanks alone, or nothing, or one of the signs `]`, `)`, `,`, `}`, `=` and `>` after blanks, or `;`.
 abbrev pub FollowsValue : List ℕ → Type 0
 FollowsValue text = GoesOnBy follows_type text
 

@@ -17,7 +17,19 @@ abbrev pub decreases-read_type : goal.decreases-read_type
 decreases-read_type l = 8 * l.depth
 
 abbrev pub decreases-read_plain : goal.decreases-read_plain
-decreases-read_plain l = 8 * l.depth + 3
+decreases-read_plain l = 8 * l.depth + 4
+
+abbrev pub decreases-read_worded : goal.decreases-read_worded
+decreases-read_worded l = 8 * l.depth + 3
+
+abbrev pub decreases-read_angled : goal.decreases-read_angled
+decreases-read_angled l = 8 * l.depth + 2
+
+abbrev pub decreases-read_holder : goal.decreases-read_holder
+decreases-read_holder l = 8 * l.depth + 1
+
+abbrev pub decreases-read_pair : goal.decreases-read_pair
+decreases-read_pair l = 8 * l.depth + 1
 
 abbrev pub decreases-read_list : goal.decreases-read_list
 decreases-read_list l = 8 * l.depth + 1

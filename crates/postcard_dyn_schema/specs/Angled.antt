@@ -1,0 +1,45 @@
+-- Types of Rust that have types in `<` and `>`: their names, and which schema each is of the types in it.
+use Rattle.std.specs.Prelude.{◌≡◌, true, ◌⊎◌, List, ℕ, [], ◌∷◌, Vec, Box, string_bytes, codes}
+use Rattle.std.specs.declared.alloc.Global.{Global}
+use Rattle.std.specs.declared.string.String.{String}
+use Rattle.postcard_dyn_schema.specs.declared.angled.Holder.{Holder}
+use Rattle.postcard_dyn_schema.specs.declared.angled.Holder.TheVariants as holders
+use Rattle.postcard_dyn_schema.specs.declared.angled.Pair.{Pair}
+use Rattle.postcard_dyn_schema.specs.declared.angled.Pair.TheVariants as pairs
+use Rattle.postcard_dyn_schema.specs.declared.schema.Schema.{Schema}
+use Rattle.postcard_dyn_schema.specs.declared.schema.Schema.TheVariants.{Option, Seq, Map, Group, Enum, Named}
+use Rattle.postcard_dyn_schema.specs.Meaning.{MessageType, no_types, then_type, has_bytes, some_has_bytes}
+
+-- The word names the type of one type.
+abbrev pub IsHolderName : List ℕ → Holder → Type 0
+IsHolderName word holders.Itself = word ≡ codes "Box"
+IsHolderName word holders.List = word ≡ codes "Vec"
+IsHolderName word holders.Option = word ≡ codes "Option"
+
+-- A type that may stand in its brackets. The elements of a list have bytes.
+abbrev pub MayHold : Holder → MessageType → Type 0
+MayHold holders.Itself t = Unit {0}
+MayHold holders.List t = has_bytes t ≡ true
+MayHold holders.Option t = Unit {0}
+
+-- The schema s is that of the type of one type, x.
+abbrev pub IsHolderOf : Holder → Schema → Schema → Type 0
+IsHolderOf holders.Itself x s = s ≡ x
+IsHolderOf holders.List x s = (b : Box Schema Global) × (s ≡ Seq b) × (b.value ≡ x)
+IsHolderOf holders.Option x s = (b : Box Schema Global) × (s ≡ Option b) × (b.value ≡ x)
+
+-- The word names the type of two types.
+abbrev pub IsPairName : List ℕ → Pair → Type 0
+IsPairName word pairs.Map = (word ≡ codes "BTreeMap") ⊎ (word ≡ codes "HashMap")
+IsPairName word pairs.Result = word ≡ codes "Result"
+
+-- Two types that may stand in its brackets. The entries of a map have bytes.
+abbrev pub MayPair : Pair → MessageType → MessageType → Type 0
+MayPair pairs.Map t u = some_has_bytes (then_type t (then_type u no_types)) ≡ true
+MayPair pairs.Result t u = Unit {0}
+
+-- The schema s is that of the type of two types, x and y: a map from x to y, or the enum `Ok(x) | Err(y)`.
+abbrev pub IsPairOf : Pair → Schema → Schema → Schema → Type 0
+IsPairOf pairs.Map x y s = (b : Box Schema Global) × (v : Vec Schema Global) × (s ≡ Map b) × (b.value ≡ Group v) × (v.items ≡ x ∷ y ∷ [])
+IsPairOf pairs.Result x y s = (v : Vec Schema Global) × (n : String Global) × (b : Box Schema Global) × (m : String Global) × (c : Box Schema Global)
+    × (s ≡ Enum v) × (v.items ≡ Named n b ∷ Named m c ∷ []) × (string_bytes n ≡ codes "Ok") × (b.value ≡ x) × (string_bytes m ≡ codes "Err") × (c.value ≡ y)

@@ -1,0 +1,146 @@
+//! Types of Rust that have types in `<` and `>`, such as `Vec<T>`: their names, and their schemas.
+
+ghost use Rattle.std.specs.Prelude.{◌≡◌, [], ◌∷◌, IfSome, IfNone, IfOk, IfErr};
+ghost use Rattle.postcard_dyn_schema.specs.declared.angled.Holder.{Holder};
+ghost use Rattle.postcard_dyn_schema.specs.declared.angled.Pair.{Pair};
+ghost use Rattle.postcard_dyn_schema.specs.declared.angled.Pair.TheVariants as pairs;
+ghost use Rattle.postcard_dyn_schema.specs.Angled.{IsHolderName, MayHold, IsHolderOf};
+ghost use Rattle.postcard_dyn_schema.specs.Angled.{IsPairName, MayPair, IsPairOf};
+ghost use Rattle.postcard_dyn_schema.specs.Fronts.{IsRefusal};
+ghost use Rattle.postcard_dyn_schema.specs.Meaning.{type_of};
+
+use crate::error::Problem;
+use crate::scan::{Fault, boxed, fault_at, named, push};
+use crate::schema::Schema;
+use std::alloc::Global;
+
+/// A type of one type `T`.
+#[derive(Clone, Copy, Debug, PartialEq, Eq)]
+pub enum Holder {
+    /// `Box<T>`, which is the type `T` itself.
+    Itself,
+    /// `Vec<T>`: a list.
+    List,
+    /// `Option<T>`: no value, or a value of `T`.
+    Option,
+}
+
+impl Holder {
+    /// Returns the type of one type with this name, such as `Vec`, or `None` if none has it.
+    pub fn from_name(name: &[u8]) -> Option<Holder>
+        ensures found { IfSome result (λ holder. IsHolderName name.now holder) }
+        ensures none { IfNone result ((holder : Holder) → IsHolderName name.now holder → ⊥) }
+    {
+        match name {
+            b"Box" => Some(Holder::Itself),
+            b"Vec" => Some(Holder::List),
+            b"Option" => Some(Holder::Option),
+            _ => None,
+        }
+    }
+
+    /// Returns the schema of the type where `T` is the type of `inner`.
+    ///
+    /// # Errors
+    ///
+    /// Fails at the front of `start`: with `NoBytes` if it is a list and `T` has no bytes, and with
+    /// `OutOfMemory` if an allocation fails.
+    pub fn of_type(self, alloc: Global, inner: Schema, start: &[u8]) -> Result<Schema, Fault>
+        ensures made { IfOk result (λ schema. MayHold self (type_of inner) × IsHolderOf self inner schema) }
+        ensures refused { IfErr result (λ fault. IsRefusal fault.problem (MayHold self (type_of inner))) }
+    {
+        match self {
+            Holder::Itself => Ok(inner),
+            Holder::List if !inner.has_bytes() => Err(fault_at(Problem::NoBytes, start)),
+            Holder::List => Ok(Schema::Seq(boxed(alloc, inner, start)?)),
+            Holder::Option => Ok(Schema::Option(boxed(alloc, inner, start)?)),
+        }
+    }
+}
+
+/// A type of two types.
+#[derive(Clone, Copy, Debug, PartialEq, Eq)]
+pub enum Pair {
+    /// `BTreeMap<K, V>` or `HashMap<K, V>`: a map.
+    Map,
+    /// `Result<T, E>`: the enum `Ok(T) | Err(E)`.
+    Result,
+}
+
+impl Pair {
+    /// Returns the type of two types with this name, such as `Result`, or `None` if none has it.
+    pub fn from_name(name: &[u8]) -> Option<Pair>
+        ensures found { IfSome result (λ pair. IsPairName name.now pair) }
+        ensures none { IfNone result ((pair : Pair) → IsPairName name.now pair → ⊥) }
+    {
+        match name {
+            b"BTreeMap" | b"HashMap" => Some(Pair::Map),
+            b"Result" => Some(Pair::Result),
+            _ => None,
+        }
+    }
+
+    /// Returns the schema of the type where these are its two types, in order.
+    ///
+    /// # Errors
+    ///
+    /// Fails at the front of `start`: with `NoBytes` if it is a map and its entries have no bytes,
+    /// and with `OutOfMemory` if an allocation fails.
+    pub fn of_types(
+        self,
+        alloc: Global,
+        first: Schema,
+        second: Schema,
+        start: &[u8],
+    ) -> Result<Schema, Fault>
+        ensures made { IfOk result (λ schema. MayPair self (type_of first) (type_of second)
+            × IsPairOf self first second schema) }
+        ensures refused { IfErr result (λ fault.
+            IsRefusal fault.problem (MayPair self (type_of first) (type_of second))) }
+    {
+        match self {
+            Pair::Map => map_of(alloc, first, second, start),
+            Pair::Result => result_of(alloc, first, second, start),
+        }
+    }
+}
+
+/// Returns a [`Schema::Map`] of the types of key and value.
+///
+/// # Errors
+///
+/// Fails at the front of `start`: with `NoBytes` if its entries have no bytes, and with
+/// `OutOfMemory` if an allocation fails.
+pub fn map_of(alloc: Global, key: Schema, value: Schema, start: &[u8]) -> Result<Schema, Fault>
+    ensures made { IfOk result (λ schema. MayPair pairs.Map (type_of key) (type_of value)
+        × IsPairOf pairs.Map key value schema) }
+    ensures refused { IfErr result (λ fault.
+        IsRefusal fault.problem (MayPair pairs.Map (type_of key) (type_of value))) }
+{
+    let entry = Schema::Group(two(alloc, key, value, start)?);
+    if !entry.has_bytes() {
+        return Err(fault_at(Problem::NoBytes, start));
+    }
+    Ok(Schema::Map(boxed(alloc, entry, start)?))
+}
+
+/// Returns the enum `Ok(T) | Err(E)`, where `T` and `E` are these types.
+fn result_of(alloc: Global, value: Schema, error: Schema, start: &[u8]) -> Result<Schema, Fault>
+    ensures made { IfOk result (λ schema. IsPairOf pairs.Result value error schema) }
+    ensures refused { IfErr result (λ fault. fault.problem ≡ Problem.OutOfMemory) }
+{
+    let value = named(alloc, b"Ok", value, start)?;
+    let error = named(alloc, b"Err", error, start)?;
+    Ok(Schema::Enum(two(alloc, value, error, start)?))
+}
+
+/// Returns the list of two schemas.
+fn two(alloc: Global, first: Schema, second: Schema, start: &[u8]) -> Result<Vec<Schema>, Fault>
+    ensures held { IfOk result (λ list. list.items ≡ first ∷ second ∷ []) }
+    ensures refused { IfErr result (λ fault. fault.problem ≡ Problem.OutOfMemory) }
+{
+    let mut list = Vec::new(alloc);
+    push(&mut list, first, start)?;
+    push(&mut list, second, start)?;
+    Ok(list)
+}
