@@ -49,7 +49,7 @@ const PRINTED: [(&str, &str); 30] = [
 ];
 
 /// Types and texts, each beside the text that is printed of the value.
-const READ: [(&str, &str, &str); 24] = [
+const READ: [(&str, &str, &str); 27] = [
     ("u8", " +7 ", "7"),
     ("i8", "-0", "0"),
     ("u8", "0x2a", "42"),
@@ -83,13 +83,20 @@ const READ: [(&str, &str, &str); 24] = [
     ("(u8,u8)", "( 1,2 , )", "(1, 2)"),
     ("bytes", "0xABcd", "0xabcd"),
     ("{a: u8}", "{ a : 1 , }", "{a: 1}"),
+    (
+        "{id: u32, label: str}",
+        "{\"id\": 42, \"label\": \"x\"}",
+        "{id: 42, label: \"x\"}",
+    ),
+    ("{a: u8, b: u8}", "{ \"a\" : 1, b: 2}", "{a: 1, b: 2}"),
+    ("A{x: u8} | B", "A{\"x\": 0x7}", "A{x: 7}"),
     ("{u8 => u8}", "{1=>2,}", "{1 => 2}"),
     ("A|B(u8)", " B ( 2 )", "B(2)"),
     ("u8?", "Some (3)", "Some(3)"),
 ];
 
 /// Types and texts that are no value, each beside the error as it is printed.
-const REFUSED: [(&str, &str, &str); 52] = [
+const REFUSED: [(&str, &str, &str); 57] = [
     (
         "u8",
         "256",
@@ -268,6 +275,31 @@ const REFUSED: [(&str, &str, &str); 52] = [
         "{a: u8}",
         "{b: 1}",
         "bad value at character 2: expected field `a`",
+    ),
+    (
+        "{a: u8}",
+        "{\"b\": 1}",
+        "bad value at character 2: expected field `a`",
+    ),
+    (
+        "{a: u8}",
+        "{\"a: 1}",
+        "bad value at character 2: expected field `a`",
+    ),
+    (
+        "{a: u8}",
+        "{\"a \": 1}",
+        "bad value at character 2: expected field `a`",
+    ),
+    (
+        "{a: u8}",
+        "{'a': 1}",
+        "bad value at character 2: expected field `a`",
+    ),
+    (
+        "{a: u8}",
+        "{\"a\" 1}",
+        "bad value at character 6: expected `:`",
     ),
     (
         "{u8 => u8}",

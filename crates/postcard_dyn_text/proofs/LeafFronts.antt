@@ -5,7 +5,7 @@ use Rattle.std.specs.Char.{encode_utf8, is_ascii_whitespace, IsScalar}
 use Rattle.std.specs.Float.{Format, binary32, binary64}
 use Rattle.std.specs.Int.{Width, w8, w16, w32, w64, w128, cast_signed, cast_unsigned}
 use Rattle.std.specs.Str.{IsTrimAsciiStart, IsUtf8}
-use Rattle.std.proofs.lemmas.Int.{ints, of_z-to_z, to_z-of_z, to_z_pos}
+use Rattle.std.proofs.lemmas.Int.{ints, of_z-to_z, to_z_pos}
 use Rattle.std.proofs.Math.Facts.{to_z-neg}
 use Rattle.std.proofs.lemmas.Str.{encode_same}
 use Rattle.postcard_wire.specs.Number.{InRange}

@@ -1,16 +1,16 @@
 -- Texts of numbers: what stands before their digits, that they are UTF-8, and that a text spells one number.
-use Rattle.std.proofs.Common.{◌≡◌, ◌≢◌, ℕ, ℤ, pos, neg_ℤ, zero, suc, ◌<◌, ◌≤◌, Bool, true, false, cond, ◌^◌, List, [], ◌∷◌, ◌++◌, length, get_or, drop, codes, refl, sym, ap, subst, ◌∙◌, arith, inl, inr, ◌⊎◌}
+use Rattle.std.proofs.Common.{◌≡◌, ◌≢◌, ℕ, ℤ, pos, neg_ℤ, zero, suc, ◌<◌, ◌≤◌, true, false, cond, ◌^◌, List, [], ◌∷◌, ◌++◌, length, get_or, drop, codes, refl, sym, ap, subst, ◌∙◌, arith, inl, inr, ◌⊎◌}
 use Rattle.std.proofs.lemmas.Bool.Decides.{nat_tests}
 use Rattle.std.specs.Char.{digit_value}
 use Rattle.std.specs.Int.{w128}
-use Rattle.std.specs.Prelude.{FitsSigned, Option, Some, None, IfSome, IfNone, SomeIff}
+use Rattle.std.specs.Prelude.{FitsSigned, Option, Some, None, IfSome, SomeIff}
 use Rattle.std.specs.Str.{IsUtf8}
 use Rattle.std.specs.Str.Parse.{AllDigits, IsNumeral, digits_value, starts_with_minus, without_leading_plus, without_leading_sign}
 use Rattle.std.proofs.lemmas.Str.{IsUtf8-from_ascii}
 use Rattle.std.proofs.lemmas.Str.Ascii.{IsAscii-from_all}
 use Rattle.std.proofs.lemmas.Int.{ints}
 use Rattle.std.proofs.lemmas.Str.Parse.{without_leading_plus_none}
-use Rattle.postcard_dyn_text.specs.Numbers.{AreDigits, IsMagnitude, IsUnsigned, IsSigned}
+use Rattle.postcard_dyn_text.specs.Numbers.{IsMagnitude, IsUnsigned, IsSigned}
 
 pub few : (radix : ℕ) → (radix ≡ 10) ⊎ (radix ≡ 16) → radix ≤ 16
 few radix (inl e) = omega (arith, e)

@@ -9,7 +9,7 @@ use Rattle.postcard_wire.specs.Tree.{Tree, NoTrees, trees}
 use Rattle.postcard_wire.specs.Tree as nodes
 use Rattle.postcard_dyn_schema.specs.declared.schema.Schema.{Schema}
 use Rattle.postcard_dyn_schema.specs.Text.{Then, TakesPhrase, Led, IsSign, IsWord, IsMaybe}
-use Rattle.postcard_dyn_schema.specs.Phrases.{takes_two, takes_as, led, led_more, trim_takes, word_more}
+use Rattle.postcard_dyn_schema.specs.Phrases.{takes_two, takes_as, led_more, trim_takes, word_more}
 use Rattle.std.specs.Float.{Format}
 use Rattle.postcard_dyn_text.specs.Floats.{IsFloatWord, IsHexadecimal, SpellsFloat}
 use Rattle.postcard_dyn_text.specs.Quoted.{ArePieces, IsQuoted, IsByteString}

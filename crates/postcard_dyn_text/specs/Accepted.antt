@@ -1,5 +1,5 @@
 -- When a text must be read: what a reader answers, what may follow a value, and types whose names tell their values apart.
-use Rattle.std.specs.Prelude.{◌≡◌, ◌≢◌, ℕ, ◌<◌, Bool, true, false, ◌⊎◌, List, [], ◌∷◌, codes, length, Result, MatchResult}
+use Rattle.std.specs.Prelude.{◌≡◌, ◌≢◌, ℕ, ◌<◌, Bool, true, false, ◌⊎◌, List, codes, length, Result, MatchResult}
 use Rattle.postcard_wire.specs.Tree.{Tree}
 use Rattle.postcard_dyn_schema.specs.Text.{TakesPhrase, GoesOnBy}
 use Rattle.postcard_dyn_schema.specs.Fronts.{follows_type}

@@ -1,5 +1,5 @@
 -- Which texts spell a value of a type with names. Blanks, the white space of ASCII, may come before any word or sign.
-use Rattle.std.specs.Prelude.{◌≡◌, ℕ, zero, suc, Bool, true, false, if◌then◌else◌, List, [], ◌∷◌, map, codes}
+use Rattle.std.specs.Prelude.{◌≡◌, ℕ, zero, suc, Bool, true, false, if◌then◌else◌, ◌⊎◌, List, [], ◌∷◌, ◌++◌, map, codes}
 use Rattle.std.specs.Bool.{MatchBool}
 use Rattle.std.specs.Char.{encode_utf8}
 use Rattle.std.specs.Float.{binary32, binary64}
@@ -29,6 +29,14 @@ Speller = Tree → List ℕ → Type 0
 -- The text is `true` or `false`.
 abbrev pub IsTruth : Bool → List ℕ → Type 0
 IsTruth x text = MatchBool x (text ≡ codes "true") (text ≡ codes "false")
+
+-- The text is blanks, or none, and then the name between double quotes.
+abbrev pub IsQuotedName : List ℕ → List ℕ → Type 0
+IsQuotedName name text = Then (IsSign 34) (λ end. end ≡ name ++ 34 ∷ []) text
+
+-- The text is the name of a field, alone or, as in JSON, between double quotes.
+abbrev pub IsFieldName : List ℕ → List ℕ → Type 0
+IsFieldName name text = IsWord name text ⊎ IsQuotedName name text
 
 -- The texts of a value without parts. The tree of an `i8` is the byte of its two's complement.
 abbrev pub SpellsLeaf : Leaf → Tree → List ℕ → Type 0
@@ -138,7 +146,7 @@ abbrev mutual
   SpellsTree (array x) t text = SpellsArray (SpellsTree x) t text
   SpellsTree (group xs) t text = SpellsGroup xs (part_phrases xs) t text
   SpellsTree (choice xs) t text = SpellsChoice (SpellsAt xs) t text
-  SpellsTree (named n x) t text = Then (IsWord n) (Then (IsSign 58) (SpellsTree x t)) text
+  SpellsTree (named n x) t text = Then (IsFieldName n) (Then (IsSign 58) (SpellsTree x t)) text
 
   -- The phrases of trees, one of each type, in order. If there are more types than trees, or fewer, no text spells them.
   pub part_phrases : Layouts → Trees → List Phrase

@@ -6,10 +6,10 @@
 //! `inf`, `-inf` or `nan` ([`mod@float`]). Texts and characters are quoted, with the escapes of Rust,
 //! and byte strings are hexadecimal after `0x`. An option is `None` or `Some(7)`, a list or an array
 //! `[1, 2]`, a tuple `(1, 2)`, a struct `{id: 42, label: "x"}`, a map `{1 => true}`, and a variant
-//! `Boot`, `Reading(1, -2)` or `Fault{code: 1}`. The contract of [`read_text`] says that the text
-//! spells the value, and that each text that spells one is read if memory suffices; that of
-//! [`Shown`] says which text it prints. That a printed text is read as the same value is shown by
-//! tests; of a float alone it is proved.
+//! `Boot`, `Reading(1, -2)` or `Fault{code: 1}`. The name of a field is also read between double
+//! quotes, as in JSON. The contract of [`read_text`] says that the text spells the value, and that
+//! each text that spells one is read if memory suffices; that of [`Shown`] says which text it prints.
+//! That a printed text is read as the same value is shown by tests; of a float alone it is proved.
 #![tactic(auto)]
 
 pub mod expected;

@@ -16,7 +16,7 @@ ghost use Rattle.postcard_dyn_text.specs.Spelled.{SpellsOption, SpellsList, Spel
 ghost use Rattle.postcard_dyn_text.specs.Spelled.{SpellsGroup, SpellsChoice, SpellsAt};
 ghost use Rattle.postcard_dyn_text.specs.Spelled.{SpellsContent, AreSigns, Row, AreClosed};
 ghost use Rattle.postcard_dyn_text.specs.Spelled.{phrases, part_phrases};
-ghost use Rattle.postcard_dyn_text.specs.Spelled.{IsTruth, Unless, opening_sign, closing_sign};
+ghost use Rattle.postcard_dyn_text.specs.Spelled.{IsTruth, IsQuotedName, IsFieldName, Unless, opening_sign, closing_sign};
 ghost use Rattle.postcard_dyn_text.specs.Floats.{EndsNumber};
 ghost use Rattle.postcard_wire.specs.Tree.{Tree, Trees, trees};
 ghost use Rattle.postcard_wire.specs.Reading.{IsOption, IsGroup, IsSeq, IsArray, IsVariant, Each};
@@ -183,6 +183,61 @@ fn take_name(rest: &mut &[u8], name: &[u8]) -> bool
     false
 }
 
+/// Takes the name of a field if it is next, alone or between double quotes, and returns whether it
+/// is. Else it takes nothing.
+fn take_field(rest: &mut &[u8], name: &[u8]) -> bool
+    ensures taken { result ≡ true → TakesPhrase (IsFieldName name.now) rest.old.now rest.new.now }
+    ensures one { result ≡ true → 0 < length name.now → (after : List ℕ)
+        → TakesPhrase (IsFieldName name.now) rest.old.now after → EndsWord after
+        → rest.new.now ≡ after }
+    ensures left { result ≡ false → rest.new.now ≡ rest.old.now }
+    ensures none { result ≡ false → 0 < length name.now → (after : List ℕ)
+        → TakesPhrase (IsFieldName name.now) rest.old.now after → EndsWord after → ⊥ }
+{
+    if take_name(rest, name) {
+        return true;
+    }
+    take_quoted_name(rest, name)
+}
+
+/// Takes blanks and then `name` between double quotes, if these are next, and returns whether they
+/// are. Else it takes nothing.
+fn take_quoted_name(rest: &mut &[u8], name: &[u8]) -> bool
+    ensures taken { result ≡ true → TakesPhrase (IsQuotedName name.now) rest.old.now rest.new.now }
+    ensures one { result ≡ true → (after : List ℕ)
+        → TakesPhrase (IsQuotedName name.now) rest.old.now after → rest.new.now ≡ after }
+    ensures left { result ≡ false → rest.new.now ≡ rest.old.now }
+    ensures none { result ≡ false → (after : List ℕ)
+        → TakesPhrase (IsQuotedName name.now) rest.old.now after → ⊥ }
+{
+    let start = *rest;
+    if !take(rest, b'"') {
+        return false;
+    }
+    match after_name(rest, name) {
+        Some(after) => {
+            *rest = after;
+            true
+        }
+        None => {
+            *rest = start;
+            false
+        }
+    }
+}
+
+/// Returns what follows `name` and a double quote at the front of a text, or `None` if these aren't
+/// there.
+fn after_name<'a>(text: &'a [u8], name: &[u8]) -> Option<&'a [u8]>
+    ensures found { IfSome result (λ after. text.now ≡ name.now ++ 34 ∷ after.now) }
+    ensures none { IfNone result ((after : List ℕ) → text.now ≡ name.now ++ 34 ∷ after → ⊥) }
+{
+    match text.strip_prefix(name) {
+        Some(after) => after.strip_prefix(b"\""),
+        None => None,
+    }
+}
+
 /// Takes the bytes `between`, each after blanks, or nothing before the first part. Stops where
 /// this is expected.
 fn separate<'a>(
@@ -248,7 +303,7 @@ fn read<'a>(alloc: Global, schema: &'a Schema, rest: &mut &[u8]) -> Result<Value
         Schema::Enum(variants) => read_variant(alloc, variants, rest),
         Schema::Named(name, content) => {
             skip_blanks(rest);
-            if !take_name(rest, name.as_bytes()) {
+            if !take_field(rest, name.as_bytes()) {
                 return Err(Stop::here(rest, Expected::Field(name.as_str())));
             }
             expect(rest, b':', Expected::Sign(b':'))?;

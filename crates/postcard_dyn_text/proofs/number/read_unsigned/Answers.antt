@@ -1,4 +1,4 @@
-use Rattle.std.proofs.Common.{◌≡◌, sym, subst}
+use Rattle.std.proofs.Common.{subst}
 use Rattle.std.specs.Prelude.{Ok, Err}
 use Rattle.postcard_dyn_text.specs.Numbers.{IsUnsigned}
 use Rattle.postcard_dyn_text.proofs.Fronts.{scalar_led, scalar_taken, unsigned_scalars}

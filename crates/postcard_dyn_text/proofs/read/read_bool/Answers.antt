@@ -1,4 +1,3 @@
-use Rattle.std.proofs.Common.{◌≡◌, sym}
 use Rattle.postcard_dyn_text.specs.Spelled.{IsTruth}
 use Rattle.postcard_dyn_text.proofs.Fronts.{scalar_led, scalar_taken, truth_scalars}
 use Rattle.postcard_dyn_text.proofs.LeafFronts.{one_truth}
