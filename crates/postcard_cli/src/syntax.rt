@@ -8,8 +8,8 @@ use std::io::Write;
 
 /// The forms of an expression, each on a line with an example.
 pub const SYNTAX: &str = "\
-u8 u16 u32 u64 u128 usize   a number without a sign: 42
-i8 i16 i32 i64 i128 isize   a number with a sign: -42
+u8 u16 u32 u64 u128 usize   a number without a sign: 42 or 0x2a
+i8 i16 i32 i64 i128 isize   a number with a sign: -42 or -0x2a
 f32 f64                     a floating-point number: 1.5, 1e30, -0.0, inf or nan
 bool                        a truth value: true
 char                        a character: 'x'

@@ -295,7 +295,7 @@ const VALUES: [(&str, &str, &str); 29] = [
 ];
 
 /// The first line of what `types` prints.
-const FIRST: &[u8] = b"u8 u16 u32 u64 u128 usize   a number without a sign: 42\n";
+const FIRST: &[u8] = b"u8 u16 u32 u64 u128 usize   a number without a sign: 42 or 0x2a\n";
 
 /// The end of its last line.
 const LAST: &[u8] = b"and - reads it from the input.\n";

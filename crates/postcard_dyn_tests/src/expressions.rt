@@ -44,10 +44,7 @@ const TYPES: [(&str, &str); 35] = [
     ("Vec < Vec<u16> >", "Seq(Seq(Leaf(U16)))"),
     ("Option<u8>?", "Option(Option(Leaf(U8)))"),
     ("Box<str>", "Leaf(Str)"),
-    (
-        "BTreeMap<u8, bool>",
-        "Map(Group([Leaf(U8), Leaf(Bool)]))",
-    ),
+    ("BTreeMap<u8, bool>", "Map(Group([Leaf(U8), Leaf(Bool)]))"),
     (
         "HashMap<String, Vec<u8>>",
         "Map(Group([Leaf(Str), Seq(Leaf(U8))]))",
@@ -159,10 +156,7 @@ const REFUSED: [(&str, &str); 59] = [
     ("Rc<u8>", "unknown type at character 1"),
     ("{Rc<u8> => u8}", "unknown type at character 2"),
     ("u8<u8>", "expected the end of the type at character 3"),
-    (
-        "A | Vec<u8>",
-        "expected the end of the type at character 8",
-    ),
+    ("A | Vec<u8>", "expected the end of the type at character 8"),
 ];
 
 /// Returns the schema of a text, or its error, as it is printed.

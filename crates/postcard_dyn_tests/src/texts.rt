@@ -49,9 +49,30 @@ const PRINTED: [(&str, &str); 30] = [
 ];
 
 /// Types and texts, each beside the text that is printed of the value.
-const READ: [(&str, &str, &str); 15] = [
+const READ: [(&str, &str, &str); 27] = [
     ("u8", " +7 ", "7"),
     ("i8", "-0", "0"),
+    ("u8", "0x2a", "42"),
+    ("u8", " +0x0Ff ", "255"),
+    ("u16", "0xBEEF", "48879"),
+    (
+        "u128",
+        "0xffffffffffffffffffffffffffffffff",
+        "340282366920938463463374607431768211455",
+    ),
+    ("i8", "-0x80", "-128"),
+    ("i16", "-0x0", "0"),
+    ("i64", "0x7fffffffffffffff", "9223372036854775807"),
+    (
+        "i128",
+        "-0x80000000000000000000000000000000",
+        "-170141183460469231731687303715884105728",
+    ),
+    (
+        "[(u8, bytes)]",
+        "[(0x10, 0x10), (16, 0x)]",
+        "[(16, 0x10), (16, 0x)]",
+    ),
     ("str", "\"\\u{41}\\'\"", "\"A'\""),
     ("str", "\"\\u{000041}\"", "\"A\""),
     ("char", "'\\u{E9}'", "'\u{e9}'"),
@@ -62,17 +83,74 @@ const READ: [(&str, &str, &str); 15] = [
     ("(u8,u8)", "( 1,2 , )", "(1, 2)"),
     ("bytes", "0xABcd", "0xabcd"),
     ("{a: u8}", "{ a : 1 , }", "{a: 1}"),
+    (
+        "{id: u32, label: str}",
+        "{\"id\": 42, \"label\": \"x\"}",
+        "{id: 42, label: \"x\"}",
+    ),
+    ("{a: u8, b: u8}", "{ \"a\" : 1, b: 2}", "{a: 1, b: 2}"),
+    ("A{x: u8} | B", "A{\"x\": 0x7}", "A{x: 7}"),
     ("{u8 => u8}", "{1=>2,}", "{1 => 2}"),
     ("A|B(u8)", " B ( 2 )", "B(2)"),
     ("u8?", "Some (3)", "Some(3)"),
 ];
 
 /// Types and texts that are no value, each beside the error as it is printed.
-const REFUSED: [(&str, &str, &str); 42] = [
+const REFUSED: [(&str, &str, &str); 57] = [
     (
         "u8",
         "256",
         "bad value at character 1: expected a number of u8, 0 to 255",
+    ),
+    (
+        "u8",
+        "0x100",
+        "bad value at character 1: expected a number of u8, 0 to 255",
+    ),
+    (
+        "u8",
+        "0x",
+        "bad value at character 1: expected a number of u8, 0 to 255",
+    ),
+    (
+        "u8",
+        "2a",
+        "bad value at character 1: expected a number of u8, 0 to 255",
+    ),
+    (
+        "u8",
+        "0X2a",
+        "bad value at character 1: expected a number of u8, 0 to 255",
+    ),
+    (
+        "u8",
+        "0x+2a",
+        "bad value at character 1: expected a number of u8, 0 to 255",
+    ),
+    (
+        "u8",
+        "-0x2a",
+        "bad value at character 1: expected a number of u8, 0 to 255",
+    ),
+    (
+        "u8",
+        "1.5",
+        "bad value at character 1: expected a number of u8, 0 to 255",
+    ),
+    (
+        "i8",
+        "0x80",
+        "bad value at character 1: expected a number of i8, -128 to 127",
+    ),
+    (
+        "i8",
+        "-0x81",
+        "bad value at character 1: expected a number of i8, -128 to 127",
+    ),
+    (
+        "u128",
+        "0x100000000000000000000000000000000",
+        "bad value at character 1: expected a number of u128, 0 to 2^128 - 1",
     ),
     (
         "u8",
@@ -197,6 +275,31 @@ const REFUSED: [(&str, &str, &str); 42] = [
         "{a: u8}",
         "{b: 1}",
         "bad value at character 2: expected field `a`",
+    ),
+    (
+        "{a: u8}",
+        "{\"b\": 1}",
+        "bad value at character 2: expected field `a`",
+    ),
+    (
+        "{a: u8}",
+        "{\"a: 1}",
+        "bad value at character 2: expected field `a`",
+    ),
+    (
+        "{a: u8}",
+        "{\"a \": 1}",
+        "bad value at character 2: expected field `a`",
+    ),
+    (
+        "{a: u8}",
+        "{'a': 1}",
+        "bad value at character 2: expected field `a`",
+    ),
+    (
+        "{a: u8}",
+        "{\"a\" 1}",
+        "bad value at character 6: expected `:`",
     ),
     (
         "{u8 => u8}",

@@ -18,10 +18,11 @@ use Rattle.postcard_dyn_schema.specs.declared.schema.Schema.{Schema}
 use Rattle.postcard_dyn.specs.declared.value.Value.{Value}
 use Rattle.postcard_dyn.specs.Tree.{tree}
 use Rattle.postcard_dyn_text.specs.Shown.{Layouts, group, layouts_of}
-use Rattle.postcard_dyn_text.specs.Spelled.{Phrase, Speller, Row, AreSigns, AreClosed, Unless, are_none, phrases, part_phrases, SpellsOption, SpellsList, SpellsArray, SpellsGroup, SpellsItem, opening_sign, closing_sign}
+use Rattle.postcard_dyn_text.specs.Spelled.{Phrase, Speller, IsFieldName, Row, AreSigns, AreClosed, Unless, are_none, phrases, part_phrases, SpellsOption, SpellsList, SpellsArray, SpellsGroup, SpellsItem, opening_sign, closing_sign}
 use Rattle.postcard_dyn_text.proofs.Fronts.{one_rest, other_sign, sign_follows, goes_word}
 use Rattle.postcard_dyn_text.proofs.Openings.{closing_follows}
 use Rattle.postcard_dyn_text.proofs.Choices.{word_trimmed}
+use Rattle.postcard_dyn_text.proofs.FieldNames.{field_trimmed}
 use Rattle.postcard_dyn_text.proofs.Spellings.{takes_none, none_taken, row_as, row_parts}
 
 -- ---- answers of readers
@@ -210,16 +211,16 @@ group_close none empty closing given m b r same is at h = rw (← same, is, at) 
 pub record NamedFront (name : List ℕ) (P : Phrase) (b r : List ℕ) : Type 0 where
   pub name_end : List ℕ
   pub after : List ℕ
-  pub word : TakesPhrase (IsWord name) b name_end
+  pub word : TakesPhrase (IsFieldName name) b name_end
   pub ends : EndsWord name_end
   pub colon : TakesPhrase (IsSign 58) name_end after
   pub left : TakesPhrase P after r
 
-pub named_front : (name : List ℕ) (P : Phrase) (a b r : List ℕ) → IsTrimAsciiStart a b → 0 < length name → TakesPhrase (Then (IsWord name) (Then (IsSign 58) P)) a r → NamedFront name P b r
+pub named_front : (name : List ℕ) (P : Phrase) (a b r : List ℕ) → IsTrimAsciiStart a b → 0 < length name → TakesPhrase (Then (IsFieldName name) (Then (IsSign 58) P)) a r → NamedFront name P b r
 named_front name P a b r trim some h =
-    let one = takes_split (IsWord name) (Then (IsSign 58) P) a r h in
+    let one = takes_split (IsFieldName name) (Then (IsSign 58) P) a r h in
     let two = takes_split (IsSign 58) P one.0 r one.2 in
-    record { name_end = one.0; after = two.0; word = word_trimmed name a b one.0 trim some one.1; ends = sign_ends_word 58 one.0 two.0 refl two.1; colon = two.1; left = two.2 }
+    record { name_end = one.0; after = two.0; word = field_trimmed name a b one.0 trim some one.1; ends = sign_ends_word 58 one.0 two.0 refl two.1; colon = two.1; left = two.2 }
 
 -- ---- the end of the text
 

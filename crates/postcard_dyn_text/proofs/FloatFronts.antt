@@ -162,7 +162,7 @@ sign_ends sign text rest other (front, (b ∷ blanks, phrase, blank, is, e), who
     rw all (blank_other b (pass_head is_ascii_whitespace b blanks blank))
 
 -- Two numbers in a text are the same if none goes on.
-one_number : (w v r q : List ℕ) → AllPass is_of_float w → AllPass is_of_float v → EndsNumber r → EndsNumber q → w ++ r ≡ v ++ q → (w ≡ v) × (r ≡ q)
+pub one_number : (w v r q : List ℕ) → AllPass is_of_float w → AllPass is_of_float v → EndsNumber r → EndsNumber q → w ++ r ≡ v ++ q → (w ≡ v) × (r ≡ q)
 one_number [] [] r q f g h k e = (refl, e)
 one_number [] (y ∷ v) r q f g h k e = absurd (true≢false (sym (pass_head is_of_float y v g) ∙ subst EndsNumber e h))
 one_number (x ∷ w) [] r q f g h k e = absurd (true≢false (sym (pass_head is_of_float x w f) ∙ subst EndsNumber (sym e) k))

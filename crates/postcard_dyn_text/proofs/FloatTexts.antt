@@ -1,8 +1,7 @@
 -- Lemmas on the texts of floats: their bytes, and the hexadecimal digits of a NaN's bits.
-use Rattle.std.proofs.Common.{◌≡◌, ℕ, zero, suc, ◌+◌, ◌*◌, ◌/◌, ◌%◌, ◌^◌, ◌<◌, Bool, true, false, cond, nat_eq, if◌then◌else◌, List, [], ◌∷◌, ◌++◌, length, get_or, drop, Some, codes, refl, sym, ap, subst, ◌∙◌, true≢false, eqb-true, arith, ◌⊎◌, inl, inr}
+use Rattle.std.proofs.Common.{◌≡◌, ℕ, zero, suc, ◌+◌, ◌*◌, ◌/◌, ◌%◌, ◌^◌, ◌<◌, Bool, true, false, List, [], ◌∷◌, ◌++◌, length, get_or, drop, Some, codes, refl, sym, ap, subst, ◌∙◌, eqb-true, arith, ◌⊎◌, inl, inr}
 use Rattle.std.proofs.Math.Nat.{pow-suc}
 use Rattle.std.proofs.lemmas.Bool.Decides.{nat_tests}
-use Rattle.std.proofs.lemmas.List.{append_assoc, append-nil}
 use Rattle.std.specs.Bool.{◌==◌}
 use Rattle.std.specs.Char.{digit_value}
 use Rattle.std.specs.Fmt.{digits, digits_onto, digit_glyph}
@@ -16,7 +15,7 @@ use lib.Ieee.Bits.{to_bits-of_bits}
 use Rattle.postcard_dyn_schema.specs.Text.{is_of_word, AreBlank, Led, Then, TakesPhrase, IsSign, IsWord}
 use Rattle.postcard_dyn_schema.specs.FrontLemmas.{pass_head, pass_tail}
 use Rattle.postcard_dyn_schema.specs.Phrases.{takes_two, takes_as}
-use Rattle.postcard_dyn_text.specs.Floats.{is_of_float, IsFloatWord, AreNan, IsHexadecimal, IsNanText, SpellsFloat, EndsNumber}
+use Rattle.postcard_dyn_text.specs.Floats.{is_of_float, AreNan, IsHexadecimal, SpellsFloat, EndsNumber}
 
 -- ---- the hexadecimal digits of a number
 

@@ -1,12 +1,11 @@
--- The value without parts that is at the front of a text: what the type's `parse` gives of it.
+-- The value without parts that is at the front of a text.
 use Rattle.std.proofs.Common.{◌≡◌, ℕ, suc, ◌-◌, ◌<◌, ◌≤◌, ◌^◌, pos, negsuc, Bool, true, false, List, [], ◌∷◌, ◌++◌, map, codes, refl, sym, ap, subst, ◌∙◌, arith, ◌⊎◌, inl, inr, ℤ}
-use Rattle.std.specs.Prelude.{Ok, Err, FitsSigned}
+use Rattle.std.specs.Prelude.{FitsSigned}
 use Rattle.std.specs.Char.{encode_utf8, is_ascii_whitespace, IsScalar}
 use Rattle.std.specs.Float.{Format, binary32, binary64}
 use Rattle.std.specs.Int.{Width, w8, w16, w32, w64, w128, cast_signed, cast_unsigned}
 use Rattle.std.specs.Str.{IsTrimAsciiStart, IsUtf8}
-use Rattle.std.specs.Str.Parse.{ParsesUnsigned, ParsesSigned, ParsesBool}
-use Rattle.std.proofs.lemmas.Int.{ints, of_z-to_z, to_z-of_z, to_z_pos}
+use Rattle.std.proofs.lemmas.Int.{ints, of_z-to_z, to_z_pos}
 use Rattle.std.proofs.Math.Facts.{to_z-neg}
 use Rattle.std.proofs.lemmas.Str.{encode_same}
 use Rattle.postcard_wire.specs.Number.{InRange}
@@ -22,54 +21,35 @@ use Rattle.postcard_dyn_schema.specs.Phrases.{takes_two}
 use Rattle.postcard_dyn.specs.Tree.{bits_tree}
 use Rattle.postcard_dyn_text.specs.Floats.{SpellsFloat, IsHexadecimal}
 use Rattle.postcard_dyn_text.specs.Quoted.{ArePieces, IsQuoted, IsByteString}
-use Rattle.postcard_dyn_text.specs.Spelled.{Phrase, IsTruth, IsUnsigned, IsSigned, SpellsLeaf}
+use Rattle.postcard_dyn_text.specs.Numbers.{IsUnsigned, IsSigned}
+use Rattle.postcard_dyn_text.specs.Spelled.{Phrase, IsTruth, SpellsLeaf}
 use Rattle.postcard_dyn_text.proofs.Choices.{word_trimmed}
 use Rattle.postcard_dyn_text.proofs.FloatFronts.{number_first}
-use Rattle.postcard_dyn_text.proofs.Fronts.{ScalarFront, scalar_front, unsigned_scalars, signed_scalars, truth_scalars}
-
--- ---- what `parse` gives
-
-pub unsigned_ok : (E : Type 0) (k n x : ℕ) (word : List ℕ) → IsUnsigned n word → ParsesUnsigned {E = E} k 10 word (Ok x) → n ≡ x
-unsigned_ok E k n x word is gives = is.1 ∙ sym gives.1
-
-pub unsigned_err : (E : Type 0) (k n : ℕ) (e : E) (word : List ℕ) → IsUnsigned n word → n < 2 ^ k → ParsesUnsigned {E = E} k 10 word (Err e) → ⊥
-unsigned_err E k n e word is low gives = gives (is.0, subst (λ m. m < 2 ^ k) is.1 low)
-
--- A signed number, as the code keeps it.
-pub signed_ok : (E : Type 0) (w : Width) (z x : ℤ) (word : List ℕ) → IsSigned z word → ParsesSigned {E = E} w 10 word (Ok x) → z ≡ cast_signed w (cast_unsigned w x)
-signed_ok E w z x word is gives =
-    let fits : FitsSigned w x = subst (FitsSigned w) (sym gives.1) gives.0.1 in
-    is.1 ∙ sym gives.1 ∙ sym (to_z-of_z w x fits)
-
-pub signed_err : (E : Type 0) (w : Width) (z : ℤ) (e : E) (word : List ℕ) → IsSigned z word → FitsSigned w z → ParsesSigned {E = E} w 10 word (Err e) → ⊥
-signed_err E w z e word is fits gives = gives (is.0, subst (FitsSigned w) is.1 fits)
-
-pub truth_ok : (E : Type 0) (x y : Bool) (word : List ℕ) → IsTruth x word → ParsesBool {E = E} word (Ok y) → x ≡ y
-truth_ok E true true word is gives = refl
-truth_ok E true false word is gives = cc (sym is ∙ gives)
-truth_ok E false true word is gives = cc (sym is ∙ gives)
-truth_ok E false false word is gives = refl
-
-pub truth_err : (E : Type 0) (x : Bool) (e : E) (word : List ℕ) → IsTruth x word → ParsesBool {E = E} word (Err e) → ⊥
-truth_err E true e word is gives = gives.0 is
-truth_err E false e word is gives = gives.1 is
+use Rattle.postcard_dyn_text.proofs.Fronts.{scalar_trimmed, unsigned_scalars, signed_scalars, truth_scalars}
 
 -- ---- fronts
 
+-- A text spells one truth value.
+pub one_truth : (x y : Bool) (word : List ℕ) → IsTruth x word → IsTruth y word → x ≡ y
+one_truth true true word a b = refl
+one_truth true false word a b = cc (sym a ∙ b)
+one_truth false true word a b = cc (sym a ∙ b)
+one_truth false false word a b = refl
+
 abbrev pub TruthFront : Tree → List ℕ → List ℕ → Type 0
-TruthFront t b after = (x : Bool) × (t ≡ Boolean x) × ScalarFront (IsTruth x) b after
+TruthFront t b after = (x : Bool) × (t ≡ Boolean x) × TakesPhrase (Led (IsTruth x)) b after
 
 pub truth_front : (t : Tree) (a b after : List ℕ) → IsTrimAsciiStart a b → IsBoolean t → TakesPhrase (SpellsLeaf leaves.Bool t) a after → TruthFront t b after
-truth_front t a b after trim (x, is) h = (x, is, scalar_front (IsTruth x) a b after (truth_scalars x) trim (subst (λ s. TakesPhrase (SpellsLeaf leaves.Bool s) a after) is h))
+truth_front t a b after trim (x, is) h = (x, is, scalar_trimmed (IsTruth x) a b after (truth_scalars x) trim (subst (λ s. TakesPhrase (SpellsLeaf leaves.Bool s) a after) is h))
 
 -- An unsigned number of k bits, of which the tree is f.
 abbrev pub UnsignedFront : (ℕ → Tree) → ℕ → Tree → List ℕ → List ℕ → Type 0
-UnsignedFront f k t b after = (n : ℕ) × (t ≡ f n) × (n < 2 ^ k) × ScalarFront (IsUnsigned n) b after
+UnsignedFront f k t b after = (n : ℕ) × (t ≡ f n) × (n < 2 ^ k) × TakesPhrase (Led (IsUnsigned n)) b after
 
 unsigned_front : (l : Leaf) (f : ℕ → Tree) (k : ℕ) (t : Tree) (a b after : List ℕ) → IsTrimAsciiStart a b → ((n : ℕ) → TakesPhrase (SpellsLeaf l (f n)) a after → TakesPhrase (Led (IsUnsigned n)) a after)
     → (n : ℕ) × (t ≡ f n) × (n < 2 ^ k) → TakesPhrase (SpellsLeaf l t) a after → UnsignedFront f k t b after
 unsigned_front l f k t a b after trim same (n, is, low) h =
-    (n, is, low, scalar_front (IsUnsigned n) a b after (unsigned_scalars n) trim (same n (subst (λ s. TakesPhrase (SpellsLeaf l s) a after) is h)))
+    (n, is, low, scalar_trimmed (IsUnsigned n) a b after (unsigned_scalars n) trim (same n (subst (λ s. TakesPhrase (SpellsLeaf l s) a after) is h)))
 
 pub u8_front : (t : Tree) (a b after : List ℕ) → IsTrimAsciiStart a b → IsByte t → TakesPhrase (SpellsLeaf U8 t) a after → UnsignedFront Byte 8 t b after
 u8_front t a b after trim is h = unsigned_front U8 Byte 8 t a b after trim (λ n x. x) is h
@@ -86,9 +66,17 @@ u64_front t a b after trim is h = unsigned_front U64 (Num 64) 64 t a b after tri
 pub u128_front : (t : Tree) (a b after : List ℕ) → IsTrimAsciiStart a b → IsNum 128 t → TakesPhrase (SpellsLeaf U128 t) a after → UnsignedFront (Num 128) 128 t b after
 u128_front t a b after trim is h = unsigned_front U128 (Num 128) 128 t a b after trim (λ n x. x) is h
 
+-- What fits in a width fits in 128 bits.
+pub wide : (w : Width) (z : ℤ) → FitsSigned w z → FitsSigned w128 z
+wide w8 z h = record { sfits = omega (arith, h.sfits) }
+wide w16 z h = record { sfits = omega (arith, h.sfits) }
+wide w32 z h = record { sfits = omega (arith, h.sfits) }
+wide w64 z h = record { sfits = omega (arith, h.sfits) }
+wide w128 z h = h
+
 -- A signed number of the width, of which the tree is f.
 abbrev pub SignedFront : (ℤ → Tree) → Width → Tree → List ℕ → List ℕ → Type 0
-SignedFront f w t b after = (z : ℤ) × (t ≡ f z) × FitsSigned w z × ScalarFront (IsSigned z) b after
+SignedFront f w t b after = (z : ℤ) × (t ≡ f z) × FitsSigned w z × TakesPhrase (Led (IsSigned z)) b after
 
 abbrev pub byte_of : ℤ → Tree
 byte_of z = Byte (cast_unsigned w8 z)
@@ -109,7 +97,7 @@ fits_8 n low = elim (below_or_not n) [
 pub i8_front : (t : Tree) (a b after : List ℕ) → IsTrimAsciiStart a b → IsByte t → TakesPhrase (SpellsLeaf I8 t) a after → SignedFront byte_of w8 t b after
 i8_front t a b after trim (n, is, low) h =
     let z = cast_signed w8 n in
-    (z, is ∙ ap Byte (sym (of_z-to_z w8 n low)), fits_8 n low, scalar_front (IsSigned z) a b after (signed_scalars z) trim (subst (λ s. TakesPhrase (SpellsLeaf I8 s) a after) is h))
+    (z, is ∙ ap Byte (sym (of_z-to_z w8 n low)), fits_8 n low, scalar_trimmed (IsSigned z) a b after (signed_scalars z) trim (subst (λ s. TakesPhrase (SpellsLeaf I8 s) a after) is h))
 
 fits_16 : (z : ℤ) → InRange 16 z → FitsSigned w16 z
 fits_16 (pos n) h = record { sfits = omega (arith, ints, h.0, h.1) }
@@ -128,16 +116,16 @@ fits_128 (pos n) h = record { sfits = omega (arith, ints, h.0, h.1) }
 fits_128 (negsuc n) h = record { sfits = omega (arith, ints, h.0, h.1) }
 
 pub i16_front : (t : Tree) (a b after : List ℕ) → IsTrimAsciiStart a b → IsInt 16 t → TakesPhrase (SpellsLeaf I16 t) a after → SignedFront (Int 16) w16 t b after
-i16_front t a b after trim (z, is, low) h = (z, is, fits_16 z low, scalar_front (IsSigned z) a b after (signed_scalars z) trim (subst (λ s. TakesPhrase (SpellsLeaf I16 s) a after) is h))
+i16_front t a b after trim (z, is, low) h = (z, is, fits_16 z low, scalar_trimmed (IsSigned z) a b after (signed_scalars z) trim (subst (λ s. TakesPhrase (SpellsLeaf I16 s) a after) is h))
 
 pub i32_front : (t : Tree) (a b after : List ℕ) → IsTrimAsciiStart a b → IsInt 32 t → TakesPhrase (SpellsLeaf I32 t) a after → SignedFront (Int 32) w32 t b after
-i32_front t a b after trim (z, is, low) h = (z, is, fits_32 z low, scalar_front (IsSigned z) a b after (signed_scalars z) trim (subst (λ s. TakesPhrase (SpellsLeaf I32 s) a after) is h))
+i32_front t a b after trim (z, is, low) h = (z, is, fits_32 z low, scalar_trimmed (IsSigned z) a b after (signed_scalars z) trim (subst (λ s. TakesPhrase (SpellsLeaf I32 s) a after) is h))
 
 pub i64_front : (t : Tree) (a b after : List ℕ) → IsTrimAsciiStart a b → IsInt 64 t → TakesPhrase (SpellsLeaf I64 t) a after → SignedFront (Int 64) w64 t b after
-i64_front t a b after trim (z, is, low) h = (z, is, fits_64 z low, scalar_front (IsSigned z) a b after (signed_scalars z) trim (subst (λ s. TakesPhrase (SpellsLeaf I64 s) a after) is h))
+i64_front t a b after trim (z, is, low) h = (z, is, fits_64 z low, scalar_trimmed (IsSigned z) a b after (signed_scalars z) trim (subst (λ s. TakesPhrase (SpellsLeaf I64 s) a after) is h))
 
 pub i128_front : (t : Tree) (a b after : List ℕ) → IsTrimAsciiStart a b → IsInt 128 t → TakesPhrase (SpellsLeaf I128 t) a after → SignedFront (Int 128) w128 t b after
-i128_front t a b after trim (z, is, low) h = (z, is, fits_128 z low, scalar_front (IsSigned z) a b after (signed_scalars z) trim (subst (λ s. TakesPhrase (SpellsLeaf I128 s) a after) is h))
+i128_front t a b after trim (z, is, low) h = (z, is, fits_128 z low, scalar_trimmed (IsSigned z) a b after (signed_scalars z) trim (subst (λ s. TakesPhrase (SpellsLeaf I128 s) a after) is h))
 
 -- One character has one text.
 pub one_character : (c d : ℕ) → encode_utf8 c ≡ encode_utf8 d → c ≡ d

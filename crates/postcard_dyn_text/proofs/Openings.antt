@@ -12,11 +12,12 @@ use Rattle.postcard_dyn_schema.specs.declared.schema.Leaf.TheVariants as leaves
 use Rattle.postcard_dyn_schema.specs.Text.{unblank, is_of_word, Led, Then, TakesPhrase, IsSign, IsWord}
 use Rattle.postcard_dyn_schema.specs.Fronts.{follows_type, Starts}
 use Rattle.postcard_dyn_schema.specs.FrontLemmas.{pass_head, takes_split, sign_unblank, word_unblank}
-use Rattle.postcard_dyn_text.specs.Accepted.{HasPart, HasDistinctNames, HaveDistinctNames, HasDistinctItems, is_of_scalar}
+use Rattle.postcard_dyn_text.specs.Accepted.{HasPart, HasDistinctNames, HaveDistinctNames, HasDistinctItems}
 use Rattle.postcard_dyn_text.specs.Floats.{is_of_float, SpellsFloat}
+use Rattle.postcard_dyn_text.specs.Numbers.{IsUnsigned, IsSigned}
 use Rattle.postcard_dyn_text.specs.Quoted.{IsQuoted, ArePieces}
 use Rattle.postcard_dyn_text.specs.Shown.{Layout, Layouts, leaf, option, list, mapping, array, group, choice, named, no_layouts, then_layout, have_names}
-use Rattle.postcard_dyn_text.specs.Spelled.{Phrase, IsTruth, IsUnsigned, IsSigned, SpellsLeaf, SpellsContent, AreClosed, AreSigns, RowAfter, phrases, SpellsTree, SpellsEntry, SpellsItem, SpellsAt, part_phrases, opening_sign, closing_sign}
+use Rattle.postcard_dyn_text.specs.Spelled.{Phrase, IsTruth, IsQuotedName, IsFieldName, SpellsLeaf, SpellsContent, AreClosed, AreSigns, RowAfter, phrases, SpellsTree, SpellsEntry, SpellsItem, SpellsAt, part_phrases, opening_sign, closing_sign}
 use Rattle.postcard_dyn_text.proofs.Fronts.{AreScalars, scalar_after_blanks, unsigned_scalars, signed_scalars, truth_scalars}
 use Rattle.postcard_dyn_text.proofs.FloatFronts.{number_first, nan_first, float_all}
 
@@ -26,9 +27,6 @@ begins_value b = not (nat_eq b 93 || nat_eq b 125)
 
 word_begins : (b : ℕ) → is_of_word b ≡ true → begins_value b ≡ true
 word_begins b h = grind (arith, nat_tests, h)
-
-scalar_begins : (b : ℕ) → is_of_scalar b ≡ true → begins_value b ≡ true
-scalar_begins b h = grind (arith, nat_tests, h)
 
 float_begins : (b : ℕ) → is_of_float b ≡ true → begins_value b ≡ true
 float_begins b h = grind (arith, nat_tests, h)
@@ -47,12 +45,18 @@ then_sign_opens sign Q a r black begins h = let k = takes_split (IsSign sign) Q 
 then_word_opens : (word : List ℕ) (Q : Phrase) (a r : List ℕ) → 0 < length word → TakesPhrase (Then (IsWord word) Q) a r → Starts begins_value a
 then_word_opens word Q a r some h = let k = takes_split (IsWord word) Q a r h in word_opens word a k.0 some k.1
 
+field_opens : (name : List ℕ) (Q : Phrase) (a r : List ℕ) → 0 < length name → TakesPhrase (Then (IsFieldName name) Q) a r → Starts begins_value a
+field_opens name Q a r some (front, (f, g, inl word, q, e), whole) = then_word_opens name Q a r some (front, (f, g, word, q, e), whole)
+field_opens name Q a r some (front, (f, g, inr quoted, q, e), whole) =
+    let k = takes_split (IsQuotedName name) Q a r (front, (f, g, quoted, q, e), whole) in
+    then_sign_opens 34 (λ end. end ≡ name ++ 34 ∷ []) a k.0 refl refl k.1
+
 scalar_opens : (P : Phrase) (a r : List ℕ) → AreScalars P → TakesPhrase (Led P) a r → Starts begins_value a
 scalar_opens P a r each h = by (scalar_after_blanks P a r each h)
   where
-    by : ((word : List ℕ) × P word × (0 < length word) × AllPass is_of_scalar word × (unblank a ≡ word ++ r)) → Starts begins_value a
+    by : ((word : List ℕ) × P word × (0 < length word) × AllPass is_of_float word × (unblank a ≡ word ++ r)) → Starts begins_value a
     by ([], p, some, all, e) = absurd (omega (arith, some))
-    by (x ∷ word, p, some, all, e) = (x, word ++ r, e, scalar_begins x (pass_head is_of_scalar x word all))
+    by (x ∷ word, p, some, all, e) = (x, word ++ r, e, float_begins x (pass_head is_of_float x word all))
 
 float_opens : (f : Format) (bits : ℕ) (a r : List ℕ) → TakesPhrase (SpellsFloat f bits) a r → Starts begins_value a
 float_opens f bits a r (front, inl p, whole) =
@@ -130,7 +134,7 @@ tree_opens (group xs) (nodes.Group ts) a r names h = then_sign_opens (opening_si
 tree_opens (group xs) t a r names (front, none, whole) = absurd none
 tree_opens (choice xs) (nodes.Variant i t) a r names h = variant_opens xs i t a r names.1 h
 tree_opens (choice xs) t a r names (front, none, whole) = absurd none
-tree_opens (named n x) t a r names h = then_word_opens n (Then (IsSign 58) (SpellsTree x t)) a r names.0 h
+tree_opens (named n x) t a r names h = field_opens n (Then (IsSign 58) (SpellsTree x t)) a r names.0 h
 
 entry_opens : (x : Layout) (t : Tree) (a r : List ℕ) → HasPart x → HasDistinctNames x → TakesPhrase (SpellsEntry x t) a r → Starts begins_value a
 entry_opens (group no_layouts) t a r part names h = absurd part

@@ -9,7 +9,7 @@ use Rattle.postcard_wire.specs.Tree.{Tree, NoTrees, trees}
 use Rattle.postcard_wire.specs.Tree as nodes
 use Rattle.postcard_dyn_schema.specs.declared.schema.Schema.{Schema}
 use Rattle.postcard_dyn_schema.specs.Text.{Then, TakesPhrase, Led, IsSign, IsWord, IsMaybe}
-use Rattle.postcard_dyn_schema.specs.Phrases.{takes_two, takes_as, led, led_more, trim_takes, word_more}
+use Rattle.postcard_dyn_schema.specs.Phrases.{takes_two, takes_as, led_more, trim_takes, word_more}
 use Rattle.std.specs.Float.{Format}
 use Rattle.postcard_dyn_text.specs.Floats.{IsFloatWord, IsHexadecimal, SpellsFloat}
 use Rattle.postcard_dyn_text.specs.Quoted.{ArePieces, IsQuoted, IsByteString}
@@ -217,8 +217,8 @@ maybe_taken true a b sign none = takes_as (IsSign 44) (IsMaybe 44) a b (λ t k. 
 maybe_taken false a b sign none = ([], inl refl, sym (none refl))
 
 -- Blanks may come before a number or a bool.
-pub word_led : (P Q : Phrase) (a b c : List ℕ) → IsTrimAsciiStart a b → ((word : List ℕ) → P word → Q word) → TakesPhrase P b c → TakesPhrase (Led Q) a c
-word_led P Q a b c trim f h = led Q a b c (trim_takes a b trim) (takes_as P Q b c f h)
+pub number_led : {N : Type 0} (P : N → Phrase) (x y : N) (a b c : List ℕ) → IsTrimAsciiStart a b → x ≡ y → TakesPhrase (Led (P x)) b c → TakesPhrase (Led (P y)) a c
+number_led P x y a b c trim same h = led_more (P y) a b c (trim_takes a b trim) (subst (λ z. TakesPhrase (Led (P z)) b c) same h)
 
 -- They may come before a quoted text or a byte string.
 pub quoted_led : (quote : ℕ) (held a b c : List ℕ) → IsTrimAsciiStart a b → TakesPhrase (IsQuoted quote held) b c → TakesPhrase (IsQuoted quote held) a c

@@ -1,6 +1,5 @@
 -- When a text must be read: what a reader answers, what may follow a value, and types whose names tell their values apart.
-use Rattle.std.specs.Prelude.{◌≡◌, ◌≢◌, ℕ, ◌<◌, nat_eq, Bool, true, false, ◌||◌, ◌⊎◌, List, [], ◌∷◌, codes, length, Result, MatchResult}
-use Rattle.std.specs.Char.{is_ascii_alphanumeric}
+use Rattle.std.specs.Prelude.{◌≡◌, ◌≢◌, ℕ, ◌<◌, Bool, true, false, ◌⊎◌, List, codes, length, Result, MatchResult}
 use Rattle.postcard_wire.specs.Tree.{Tree}
 use Rattle.postcard_dyn_schema.specs.Text.{TakesPhrase, GoesOnBy}
 use Rattle.postcard_dyn_schema.specs.Fronts.{follows_type}
@@ -61,15 +60,6 @@ HasDistinctItems false x = HasDistinctNames x
 -- What may follow a value: blanks alone, or nothing, or one of the signs `]`, `)`, `,`, `}`, `=` and `>` after blanks, or `;`.
 abbrev pub FollowsValue : List ℕ → Type 0
 FollowsValue text = GoesOnBy follows_type text
-
--- Whether a byte may be part of a number or a bool: a letter or a digit of ASCII, `-` or `+`.
-abbrev pub is_of_scalar : ℕ → Bool
-is_of_scalar b = is_ascii_alphanumeric b || (nat_eq b 45 || nat_eq b 43)
-
--- The text is empty, or its first byte may not be part of a number or a bool.
-abbrev pub EndsScalar : List ℕ → Type 0
-EndsScalar [] = Unit {0}
-EndsScalar (b ∷ text) = is_of_scalar b ≡ false
 
 -- The sign closes a list or a map: `]` or `}`.
 abbrev pub IsClosing : ℕ → Type 0

@@ -1,10 +1,9 @@
 -- Which texts spell a value of a type with names. Blanks, the white space of ASCII, may come before any word or sign.
-use Rattle.std.specs.Prelude.{◌≡◌, ℕ, zero, suc, ℤ, Bool, true, false, if◌then◌else◌, List, [], ◌∷◌, map, codes}
+use Rattle.std.specs.Prelude.{◌≡◌, ℕ, zero, suc, Bool, true, false, if◌then◌else◌, ◌⊎◌, List, [], ◌∷◌, ◌++◌, map, codes}
 use Rattle.std.specs.Bool.{MatchBool}
 use Rattle.std.specs.Char.{encode_utf8}
 use Rattle.std.specs.Float.{binary32, binary64}
 use Rattle.std.specs.Int.{w8, cast_signed}
-use Rattle.std.specs.Str.Parse.{IsNumeral, digits_value, signed_digits_value, without_leading_plus, without_leading_sign}
 use Rattle.postcard_wire.specs.Tree.{Tree, Trees, Byte, Boolean, Num, Int, Text, NoTrees, trees}
 use Rattle.postcard_wire.specs.Tree as nodes
 use Rattle.postcard_dyn_schema.specs.declared.schema.Leaf.{Leaf}
@@ -15,6 +14,7 @@ use Rattle.postcard_dyn_schema.specs.Text.{AreBlank, Led, Then, IsSign, IsMaybe,
 use Rattle.postcard_dyn.specs.declared.value.Value.{Value}
 use Rattle.postcard_dyn.specs.Tree.{tree, bits_tree}
 use Rattle.postcard_dyn_text.specs.Floats.{SpellsFloat}
+use Rattle.postcard_dyn_text.specs.Numbers.{IsUnsigned, IsSigned}
 use Rattle.postcard_dyn_text.specs.Quoted.{IsQuoted, IsByteString}
 use Rattle.postcard_dyn_text.specs.Shown.{Layout, Layouts, leaf, option, list, mapping, array, group, choice, named, no_layouts, then_layout, layout_of, have_names}
 
@@ -30,13 +30,13 @@ Speller = Tree → List ℕ → Type 0
 abbrev pub IsTruth : Bool → List ℕ → Type 0
 IsTruth x text = MatchBool x (text ≡ codes "true") (text ≡ codes "false")
 
--- The text is the number n in decimal digits, at least one. Leading zeros are allowed, and a `+` before them.
-abbrev pub IsUnsigned : ℕ → List ℕ → Type 0
-IsUnsigned n text = IsNumeral 10 (without_leading_plus text) × (n ≡ digits_value 10 (without_leading_plus text))
+-- The text is blanks, or none, and then the name between double quotes.
+abbrev pub IsQuotedName : List ℕ → List ℕ → Type 0
+IsQuotedName name text = Then (IsSign 34) (λ end. end ≡ name ++ 34 ∷ []) text
 
--- The text is the number z in decimal digits, at least one, with a `-` or a `+` before them, or neither. Leading zeros are allowed.
-abbrev pub IsSigned : ℤ → List ℕ → Type 0
-IsSigned z text = IsNumeral 10 (without_leading_sign text) × (z ≡ signed_digits_value 10 text)
+-- The text is the name of a field, alone or, as in JSON, between double quotes.
+abbrev pub IsFieldName : List ℕ → List ℕ → Type 0
+IsFieldName name text = IsWord name text ⊎ IsQuotedName name text
 
 -- The texts of a value without parts. The tree of an `i8` is the byte of its two's complement.
 abbrev pub SpellsLeaf : Leaf → Tree → List ℕ → Type 0
@@ -146,7 +146,7 @@ abbrev mutual
   SpellsTree (array x) t text = SpellsArray (SpellsTree x) t text
   SpellsTree (group xs) t text = SpellsGroup xs (part_phrases xs) t text
   SpellsTree (choice xs) t text = SpellsChoice (SpellsAt xs) t text
-  SpellsTree (named n x) t text = Then (IsWord n) (Then (IsSign 58) (SpellsTree x t)) text
+  SpellsTree (named n x) t text = Then (IsFieldName n) (Then (IsSign 58) (SpellsTree x t)) text
 
   -- The phrases of trees, one of each type, in order. If there are more types than trees, or fewer, no text spells them.
   pub part_phrases : Layouts → Trees → List Phrase

@@ -1,18 +1,20 @@
 //! Texts of values whose type is known only at run time: printing with [`Shown`], and reading with
 //! [`read_text`].
 //!
-//! Numbers are decimal, and a float is printed as the shortest number that reads back, with a point
-//! or an exponent, or as `inf`, `-inf` or `nan` ([`mod@float`]). Texts and characters are quoted,
-//! with the escapes of Rust, and byte strings are hexadecimal after `0x`. An option is `None` or
-//! `Some(7)`, a list or an array `[1, 2]`, a tuple `(1, 2)`, a struct `{id: 42, label: "x"}`, a map
-//! `{1 => true}`, and a variant `Boot`, `Reading(1, -2)` or `Fault{code: 1}`. The contract of
-//! [`read_text`] says that the text spells the value, and that each text that spells one is read if
-//! memory suffices; that of [`Shown`] says which text it prints.
+//! Numbers are printed in decimal digits, and read in hexadecimal ones after `0x`, too ([`number`]).
+//! A float is printed as the shortest number that reads back, with a point or an exponent, or as
+//! `inf`, `-inf` or `nan` ([`mod@float`]). Texts and characters are quoted, with the escapes of Rust,
+//! and byte strings are hexadecimal after `0x`. An option is `None` or `Some(7)`, a list or an array
+//! `[1, 2]`, a tuple `(1, 2)`, a struct `{id: 42, label: "x"}`, a map `{1 => true}`, and a variant
+//! `Boot`, `Reading(1, -2)` or `Fault{code: 1}`. The name of a field is also read between double
+//! quotes, as in JSON. The contract of [`read_text`] says that the text spells the value, and that
+//! each text that spells one is read if memory suffices; that of [`Shown`] says which text it prints.
 //! That a printed text is read as the same value is shown by tests; of a float alone it is proved.
 #![tactic(auto)]
 
 pub mod expected;
 pub mod float;
+pub mod number;
 pub mod quoted;
 pub mod read;
 pub mod show;

@@ -1,10 +1,9 @@
 //! Reading a value from its text: [`read_text`].
 
 ghost use Rattle.std.specs.Prelude.{◌≡◌, ◌≢◌, ℕ, ◌<◌, List, [], ◌∷◌, ◌++◌, codes, map, slice_index, length};
-ghost use Rattle.std.specs.Prelude.{IfOk, IfErr, OnOk, MatchResult, Ok, Err, Some, true, false, get_or};
+ghost use Rattle.std.specs.Prelude.{IfOk, IfErr, IfSome, IfNone, OnOk, MatchResult, Some, Bool, true, false, get_or};
 ghost use Rattle.std.specs.Bool.{◌==◌};
 ghost use Rattle.std.specs.Char.{encode_utf8, is_ascii_whitespace, IsScalar};
-ghost use Rattle.std.specs.List.{AllPass};
 ghost use Rattle.postcard_dyn_text.specs.Accepted.{Accepts, ReadsAs, FollowsValue, IsClosing};
 ghost use Rattle.postcard_dyn_text.specs.Accepted.{IsBetween, HasDistinctNames, HaveDistinctNames};
 ghost use Rattle.postcard_dyn_text.specs.Accepted.{HasDistinctItems, NamesDiffer, IsNotCalled};
@@ -17,27 +16,27 @@ ghost use Rattle.postcard_dyn_text.specs.Spelled.{SpellsOption, SpellsList, Spel
 ghost use Rattle.postcard_dyn_text.specs.Spelled.{SpellsGroup, SpellsChoice, SpellsAt};
 ghost use Rattle.postcard_dyn_text.specs.Spelled.{SpellsContent, AreSigns, Row, AreClosed};
 ghost use Rattle.postcard_dyn_text.specs.Spelled.{phrases, part_phrases};
-ghost use Rattle.postcard_dyn_text.specs.Spelled.{Unless, opening_sign, closing_sign};
-ghost use Rattle.postcard_dyn_text.specs.Accepted.{is_of_scalar as is_of_number, EndsScalar};
+ghost use Rattle.postcard_dyn_text.specs.Spelled.{IsTruth, IsQuotedName, IsFieldName, Unless, opening_sign, closing_sign};
+ghost use Rattle.postcard_dyn_text.specs.Floats.{EndsNumber};
 ghost use Rattle.postcard_wire.specs.Tree.{Tree, Trees, trees};
 ghost use Rattle.postcard_wire.specs.Reading.{IsOption, IsGroup, IsSeq, IsArray, IsVariant, Each};
 ghost use Rattle.postcard_dyn_schema.specs.Meaning.{type_of, types_of, reads, reads_all, reads_at};
 ghost use Rattle.postcard_dyn_schema.specs.Meaning.{leaf_reads};
-ghost use Rattle.postcard_dyn_schema.specs.Text.{TakesPhrase, Then, IsSign, IsWord, IsMaybe};
+ghost use Rattle.postcard_dyn_schema.specs.Text.{Led, TakesPhrase, Then, IsSign, IsWord, IsMaybe};
 ghost use Rattle.postcard_dyn_schema.specs.Text.{EndsWord};
 ghost use Rattle.postcard_dyn_schema.specs.Names.{IsCalled};
 ghost use Rattle.postcard_dyn_schema.specs.declared.schema.Schema.{Schema};
 ghost use Rattle.postcard_dyn.specs.Tree.{tree};
 
 use crate::expected::Expected;
-use crate::float::{read_f32, read_f64};
+use crate::float::{read_f32, read_f64, take_number};
+use crate::number::{read_signed, read_unsigned};
 use crate::quoted::{bytes_of, take_quoted};
 use crate::show::{has_brackets, is_struct, is_unit};
 use postcard_dyn::scan::{character_of, skip_blanks, take, take_word};
 use postcard_dyn::{Leaf, Schema, Value};
 use std::alloc::Global;
 use std::fmt;
-use std::str::FromStr;
 
 /// The error of reading a value from a text. It is printed as ``bad value at character 5: expected
 /// field `label` ``.
@@ -184,6 +183,61 @@ fn take_name(rest: &mut &[u8], name: &[u8]) -> bool
     false
 }
 
+/// Takes the name of a field if it is next, alone or between double quotes, and returns whether it
+/// is. Else it takes nothing.
+fn take_field(rest: &mut &[u8], name: &[u8]) -> bool
+    ensures taken { result ≡ true → TakesPhrase (IsFieldName name.now) rest.old.now rest.new.now }
+    ensures one { result ≡ true → 0 < length name.now → (after : List ℕ)
+        → TakesPhrase (IsFieldName name.now) rest.old.now after → EndsWord after
+        → rest.new.now ≡ after }
+    ensures left { result ≡ false → rest.new.now ≡ rest.old.now }
+    ensures none { result ≡ false → 0 < length name.now → (after : List ℕ)
+        → TakesPhrase (IsFieldName name.now) rest.old.now after → EndsWord after → ⊥ }
+{
+    if take_name(rest, name) {
+        return true;
+    }
+    take_quoted_name(rest, name)
+}
+
+/// Takes blanks and then `name` between double quotes, if these are next, and returns whether they
+/// are. Else it takes nothing.
+fn take_quoted_name(rest: &mut &[u8], name: &[u8]) -> bool
+    ensures taken { result ≡ true → TakesPhrase (IsQuotedName name.now) rest.old.now rest.new.now }
+    ensures one { result ≡ true → (after : List ℕ)
+        → TakesPhrase (IsQuotedName name.now) rest.old.now after → rest.new.now ≡ after }
+    ensures left { result ≡ false → rest.new.now ≡ rest.old.now }
+    ensures none { result ≡ false → (after : List ℕ)
+        → TakesPhrase (IsQuotedName name.now) rest.old.now after → ⊥ }
+{
+    let start = *rest;
+    if !take(rest, b'"') {
+        return false;
+    }
+    match after_name(rest, name) {
+        Some(after) => {
+            *rest = after;
+            true
+        }
+        None => {
+            *rest = start;
+            false
+        }
+    }
+}
+
+/// Returns what follows `name` and a double quote at the front of a text, or `None` if these aren't
+/// there.
+fn after_name<'a>(text: &'a [u8], name: &[u8]) -> Option<&'a [u8]>
+    ensures found { IfSome result (λ after. text.now ≡ name.now ++ 34 ∷ after.now) }
+    ensures none { IfNone result ((after : List ℕ) → text.now ≡ name.now ++ 34 ∷ after → ⊥) }
+{
+    match text.strip_prefix(name) {
+        Some(after) => after.strip_prefix(b"\""),
+        None => None,
+    }
+}
+
 /// Takes the bytes `between`, each after blanks, or nothing before the first part. Stops where
 /// this is expected.
 fn separate<'a>(
@@ -249,7 +303,7 @@ fn read<'a>(alloc: Global, schema: &'a Schema, rest: &mut &[u8]) -> Result<Value
         Schema::Enum(variants) => read_variant(alloc, variants, rest),
         Schema::Named(name, content) => {
             skip_blanks(rest);
-            if !take_name(rest, name.as_bytes()) {
+            if !take_field(rest, name.as_bytes()) {
                 return Err(Stop::here(rest, Expected::Field(name.as_str())));
             }
             expect(rest, b':', Expected::Sign(b':'))?;
@@ -568,17 +622,17 @@ fn read_leaf(alloc: Global, leaf: Leaf, rest: &mut &[u8]) -> Result<Value, Stop<
 {
     skip_blanks(rest);
     match leaf {
-        Leaf::Bool => Ok(Value::Bool(scalar(rest, leaf)?)),
-        Leaf::U8 => Ok(Value::U8(scalar(rest, leaf)?)),
-        Leaf::U16 => Ok(Value::U16(scalar(rest, leaf)?)),
-        Leaf::U32 => Ok(Value::U32(scalar(rest, leaf)?)),
-        Leaf::U64 => Ok(Value::U64(scalar(rest, leaf)?)),
-        Leaf::U128 => Ok(Value::U128(scalar(rest, leaf)?)),
-        Leaf::I8 => Ok(Value::I8(scalar(rest, leaf)?)),
-        Leaf::I16 => Ok(Value::I16(scalar(rest, leaf)?)),
-        Leaf::I32 => Ok(Value::I32(scalar(rest, leaf)?)),
-        Leaf::I64 => Ok(Value::I64(scalar(rest, leaf)?)),
-        Leaf::I128 => Ok(Value::I128(scalar(rest, leaf)?)),
+        Leaf::Bool => Ok(Value::Bool(read_bool(rest)?)),
+        Leaf::U8 => Ok(Value::U8(read_unsigned(rest, leaf)?)),
+        Leaf::U16 => Ok(Value::U16(read_unsigned(rest, leaf)?)),
+        Leaf::U32 => Ok(Value::U32(read_unsigned(rest, leaf)?)),
+        Leaf::U64 => Ok(Value::U64(read_unsigned(rest, leaf)?)),
+        Leaf::U128 => Ok(Value::U128(read_unsigned(rest, leaf)?)),
+        Leaf::I8 => Ok(Value::I8(read_signed(rest, leaf)?)),
+        Leaf::I16 => Ok(Value::I16(read_signed(rest, leaf)?)),
+        Leaf::I32 => Ok(Value::I32(read_signed(rest, leaf)?)),
+        Leaf::I64 => Ok(Value::I64(read_signed(rest, leaf)?)),
+        Leaf::I128 => Ok(Value::I128(read_signed(rest, leaf)?)),
         Leaf::F32 => Ok(Value::F32(read_f32(rest)?)),
         Leaf::F64 => Ok(Value::F64(read_f64(rest)?)),
         Leaf::Char => Ok(Value::Char(read_char(alloc, rest)?)),
@@ -587,40 +641,30 @@ fn read_leaf(alloc: Global, leaf: Leaf, rest: &mut &[u8]) -> Result<Value, Stop<
     }
 }
 
-/// Reads a number or a bool of the type `leaf`, by the type's `parse`.
-fn scalar<T: FromStr>(rest: &mut &[u8], leaf: Leaf) -> Result<T, Stop<'static>>
-where
-    T::Err: Drop,
-    ensures taken { IfOk result (λ x. TakesPhrase (λ word. T.from_str_gives word (Ok x))
-        rest.old.now rest.new.now) }
-    ensures accepted { (word : List ℕ) (after : List ℕ) → AllPass is_of_number word → EndsScalar after
-        → rest.old.now ≡ word ++ after
-        → MatchResult result (λ x. T.from_str_gives word (Ok x) × (rest.new.now ≡ after))
-        (λ stop. (e : T.Err) × T.from_str_gives word (Err e)) }
+/// Takes blanks and then `true` or `false`.
+fn read_bool(rest: &mut &[u8]) -> Result<bool, Stop<'static>>
+    ensures spelled { IfOk result (λ x. TakesPhrase (Led (IsTruth x)) rest.old.now rest.new.now) }
+    ensures accepted { (x : Bool) (after : List ℕ)
+        → TakesPhrase (Led (IsTruth x)) rest.old.now after → EndsNumber after
+        → MatchResult result (λ read. (read ≡ x) × (rest.new.now ≡ after)) (λ stop. ⊥) }
 {
     let start = *rest;
-    let count = match start.iter().position(|byte| !is_of_scalar(*byte)) {
-        Some(count) => count,
-        None => start.len(),
-    };
-    let (word, after) = start.split_at(count);
-    let Ok(text) = str::from_utf8(word) else {
-        return Err(Stop::here(start, Expected::Leaf(leaf)));
-    };
-    match text.parse::<T>() {
-        Ok(value) => {
-            *rest = after;
-            Ok(value)
-        }
-        Err(_) => Err(Stop::here(start, Expected::Leaf(leaf))),
+    match truth_of(take_number(rest)) {
+        Some(x) => Ok(x),
+        None => Err(Stop::here(start, Expected::Leaf(Leaf::Bool))),
     }
 }
 
-/// Returns whether a byte may be part of a number or a bool.
-fn is_of_scalar(byte: u8) -> bool
-    ensures { result ≡ is_of_number byte }
+/// Returns the truth value of a word, or `None` if it is neither `true` nor `false`.
+fn truth_of(word: &[u8]) -> Option<bool>
+    ensures found { IfSome result (λ x. IsTruth x word.now) }
+    ensures none { IfNone result ((x : Bool) → IsTruth x word.now → ⊥) }
 {
-    byte.is_ascii_alphanumeric() || byte == b'-' || byte == b'+'
+    match word {
+        b"true" => Some(true),
+        b"false" => Some(false),
+        _ => None,
+    }
 }
 
 /// Reads one character between single quotes.

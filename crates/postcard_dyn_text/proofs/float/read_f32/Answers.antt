@@ -1,9 +1,9 @@
-use Rattle.std.proofs.Common.{◌≡◌, ◌*◌, ◌<◌, ◌^◌, ◌∷◌, [], ℕ, List, true, false, Some, None, codes, sym, ap, subst, refl, ◌∙◌, true≢false, arith}
+use Rattle.std.proofs.Common.{◌≡◌, ◌<◌, ◌^◌, ℕ, List, true, false, Some, None, codes, sym, ap, refl, ◌∙◌, true≢false, arith}
 use Rattle.std.proofs.lemmas.Grind.{common_steps}
 use Rattle.std.proofs.lemmas.Bool.Decides.{Decides-eqb}
 use Rattle.std.proofs.lemmas.Slice.Eq.{slice_eq-Decides}
 use Rattle.std.specs.Float.{binary32}
-use Rattle.std.specs.Float.Ieee.{is_nan, of_bits, to_bits, top}
+use Rattle.std.specs.Float.Ieee.{is_nan, of_bits, to_bits}
 use Rattle.std.specs.Float.Parse.{parse_float}
 use Rattle.postcard_dyn_schema.specs.Text.{TakesPhrase, IsSign}
 use Rattle.postcard_dyn_text.specs.Floats.{AreNan}

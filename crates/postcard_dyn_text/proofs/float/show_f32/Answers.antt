@@ -1,9 +1,8 @@
-use Rattle.std.proofs.Common.{◌≡◌, ◌*◌, ◌<◌, ◌++◌, ◌∷◌, [], true, false, Some, codes, sym, ap, ◌∙◌, arith}
+use Rattle.std.proofs.Common.{◌≡◌, ◌++◌, ◌∷◌, [], false, Some, codes, ap, ◌∙◌, arith}
 use Rattle.std.proofs.lemmas.Grind.{common_steps}
 use Rattle.std.specs.Fmt.{digits}
 use Rattle.std.specs.Float.{binary32}
-use Rattle.std.specs.Float.Ieee.{is_nan, of_bits, top}
-use Rattle.std.specs.Float.Parse.{parse_float}
+use Rattle.std.specs.Float.Ieee.{is_nan, of_bits}
 use Rattle.postcard_dyn_text.specs.Floats.{AreNan}
 use Rattle.postcard_dyn_text.proofs.FloatTexts.{number_spells, usual_32, nan_spells}
 use Rattle.postcard_dyn_text.proofs.float.show_f32.Goals as goal

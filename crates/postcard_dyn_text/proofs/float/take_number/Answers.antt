@@ -1,6 +1,5 @@
 use Rattle.std.proofs.Common.{◌≡◌, ◌<◌, false, length, get_or, refl, arith}
 use Rattle.std.proofs.lemmas.Grind.{common_steps}
-use Rattle.std.specs.List.{AllPass}
 use Rattle.postcard_dyn_schema.specs.Phrases.{all_take, trim_takes, led}
 use Rattle.postcard_dyn_text.specs.Floats.{is_of_float}
 use Rattle.postcard_dyn_text.proofs.FloatTexts.{ends_at}

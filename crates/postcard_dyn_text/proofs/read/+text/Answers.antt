@@ -22,7 +22,8 @@ use Rattle.postcard_dyn.specs.Tree.{tree}
 use Rattle.postcard_dyn.specs.declared.value.Value.{Absent, Present, Seq, Group, Variant, the_lemmas}
 use Rattle.postcard_dyn_text.specs.Shown.{layout_of, layouts_of, leaf, option, choice, group, named, list, mapping, array}
 use Rattle.postcard_dyn_text.specs.Accepted.{HasDistinctNames, HaveDistinctNames, HasDistinctItems}
-use Rattle.postcard_dyn_text.specs.Spelled.{SpellsTree, SpellsItem, SpellsContent, SpellsChoice, SpellsAt, SpellsVariant, Row, AreSigns, AreClosed, Unless, are_none, phrases, part_phrases, closing_sign}
+use Rattle.postcard_dyn_text.specs.Spelled.{IsFieldName, SpellsTree, SpellsItem, SpellsContent, SpellsChoice, SpellsAt, SpellsVariant, Row, AreSigns, AreClosed, Unless, are_none, phrases, part_phrases, closing_sign}
+use Rattle.postcard_dyn_text.proofs.FieldNames.{field_more}
 use Rattle.postcard_dyn_text.proofs.BracketFronts.{memory_passed, paren_front, absent_front, present_front, list_front, array_front, group_front, group_none, group_close, entry_front, named_front}
 use Rattle.postcard_dyn_text.proofs.Choices.{word_trimmed, one_word, content_ends_word, content_unit, content_brackets, content_parentheses, variant_front, name_filled, one_index, same_content, distinct_at}
 use Rattle.postcard_dyn_text.proofs.Fronts.{goes_word}
@@ -160,10 +161,10 @@ read-returns-in_ok-expect-in-Named-clause-spelled t c =
     let a = c.args.rest.now.now in let d = c.read.new.rest.now in
     let x = layout_of c.deref-in-Named.result.now in
     let kind : layout_of c.args.schema.now ≡ named (string_bytes n) x = rw (c.in-Named.is, c.deref-in-Named.ensures) (search (rules, schemas.the_lemmas)) in
-    let word = word_more (string_bytes n) a c.skip_blanks.new.rest.now c.take_name.new.rest.now c.skip_blanks.ensures (rw c.as_bytes.ensures.value at (c.take_name.ensures.taken c.if-not-take_name.false)) in
+    let word = field_more (string_bytes n) a c.skip_blanks.new.rest.now c.take_field.new.rest.now c.skip_blanks.ensures (rw c.as_bytes.ensures.value at (c.take_field.ensures.taken c.if-not-take_field.false)) in
     rw kind (IfOk-weaker c.read.result (λ v. TakesPhrase (SpellsTree x (tree v)) c.expect.new.rest.now d) (λ v. TakesPhrase (SpellsTree (named (string_bytes n) x) (tree v)) a d)
-    (λ v h. takes_two (IsWord (string_bytes n)) (Then (IsSign 58) (SpellsTree x (tree v))) a c.take_name.new.rest.now d word
-    (takes_two (IsSign 58) (SpellsTree x (tree v)) c.take_name.new.rest.now c.expect.new.rest.now d c.in_ok-expect-in-Named.ensures.taken h)) c.read.ensures.spelled)
+    (λ v h. takes_two (IsFieldName (string_bytes n)) (Then (IsSign 58) (SpellsTree x (tree v))) a c.take_field.new.rest.now d word
+    (takes_two (IsSign 58) (SpellsTree x (tree v)) c.take_field.new.rest.now c.expect.new.rest.now d c.in_ok-expect-in-Named.ensures.taken h)) c.read.ensures.spelled)
 
 pub read_array-returns-clause-spelled : goal.read_array-returns-clause-spelled
 read_array-returns-clause-spelled t c =
@@ -590,16 +591,16 @@ read-returns-in-Array-clause-accepted t c = λ names x after r h goes.
     let like : type_of c.args.schema.now ≡ types.array c.in-Array.count (type_of c.deref-in-Array.result.now) = rw (c.in-Array.is, c.deref-in-Array.ensures) (search (rules, schemas.the_lemmas)) in
     c.read_array.ensures.accepted (subst HasDistinctNames kind names) x after (subst (λ y. reads y x) like r) (subst (λ y. TakesPhrase (SpellsTree y x) c.args.rest.now.now after) kind h) goes
 
-pub read-returns-then-not-take_name-clause-accepted : goal.read-returns-then-not-take_name-clause-accepted
-read-returns-then-not-take_name-clause-accepted t c = λ names x after r h goes.
+pub read-returns-then-not-take_field-clause-accepted : goal.read-returns-then-not-take_field-clause-accepted
+read-returns-then-not-take_field-clause-accepted t c = λ names x after r h goes.
     let n = c.in-Named.name in
     let y = layout_of c.in-Named.content.value in
     let kind : layout_of c.args.schema.now ≡ named (string_bytes n) y = rw (c.in-Named.is) (search (rules, schemas.the_lemmas)) in
     let like : type_of c.args.schema.now ≡ type_of c.in-Named.content.value = rw (c.in-Named.is) (search (rules, schemas.the_lemmas)) in
     let f = named_front (string_bytes n) (SpellsTree y x) c.args.rest.now.now c.skip_blanks.new.rest.now after c.skip_blanks.ensures (subst HasDistinctNames kind names).0 (subst (λ z. TakesPhrase (SpellsTree z x) c.args.rest.now.now after) kind h) in
     let some = subst (λ w. 0 < length w) (sym c.as_bytes.ensures.value) (subst HasDistinctNames kind names).0 in
-    let word = subst (λ w. TakesPhrase (IsWord w) c.skip_blanks.new.rest.now f.name_end) (sym c.as_bytes.ensures.value) f.word in
-    absurd (c.take_name.ensures.none c.if-not-take_name.true some f.name_end word f.ends)
+    let word = subst (λ w. TakesPhrase (IsFieldName w) c.skip_blanks.new.rest.now f.name_end) (sym c.as_bytes.ensures.value) f.word in
+    absurd (c.take_field.ensures.none c.if-not-take_field.true some f.name_end word f.ends)
 
 pub read-returns-in_err-expect-in-Named-clause-accepted : goal.read-returns-in_err-expect-in-Named-clause-accepted
 read-returns-in_err-expect-in-Named-clause-accepted t c = λ names x after r h goes.
@@ -609,8 +610,8 @@ read-returns-in_err-expect-in-Named-clause-accepted t c = λ names x after r h g
     let like : type_of c.args.schema.now ≡ type_of c.in-Named.content.value = rw (c.in-Named.is) (search (rules, schemas.the_lemmas)) in
     let f = named_front (string_bytes n) (SpellsTree y x) c.args.rest.now.now c.skip_blanks.new.rest.now after c.skip_blanks.ensures (subst HasDistinctNames kind names).0 (subst (λ z. TakesPhrase (SpellsTree z x) c.args.rest.now.now after) kind h) in
     let some = subst (λ w. 0 < length w) (sym c.as_bytes.ensures.value) (subst HasDistinctNames kind names).0 in
-    let word = subst (λ w. TakesPhrase (IsWord w) c.skip_blanks.new.rest.now f.name_end) (sym c.as_bytes.ensures.value) f.word in
-    let at : c.take_name.new.rest.now ≡ f.name_end = c.take_name.ensures.one c.if-not-take_name.false some f.name_end word f.ends in
+    let word = subst (λ w. TakesPhrase (IsFieldName w) c.skip_blanks.new.rest.now f.name_end) (sym c.as_bytes.ensures.value) f.word in
+    let at : c.take_field.new.rest.now ≡ f.name_end = c.take_field.ensures.one c.if-not-take_field.false some f.name_end word f.ends in
     let colon = subst (λ z. TakesPhrase (IsSign 58) z f.after) (sym at) f.colon in
     absurd (c.in_err-expect-in-Named.ensures.accepted f.after refl colon)
 
@@ -622,8 +623,8 @@ read-returns-in_ok-expect-in-Named-clause-accepted t c = λ names x after r h go
     let like : type_of c.args.schema.now ≡ type_of c.deref-in-Named.result.now = rw (c.in-Named.is, c.deref-in-Named.ensures) (search (rules, schemas.the_lemmas)) in
     let f = named_front (string_bytes n) (SpellsTree y x) c.args.rest.now.now c.skip_blanks.new.rest.now after c.skip_blanks.ensures (subst HasDistinctNames kind names).0 (subst (λ z. TakesPhrase (SpellsTree z x) c.args.rest.now.now after) kind h) in
     let some = subst (λ w. 0 < length w) (sym c.as_bytes.ensures.value) (subst HasDistinctNames kind names).0 in
-    let word = subst (λ w. TakesPhrase (IsWord w) c.skip_blanks.new.rest.now f.name_end) (sym c.as_bytes.ensures.value) f.word in
-    let at : c.take_name.new.rest.now ≡ f.name_end = c.take_name.ensures.one c.if-not-take_name.false some f.name_end word f.ends in
+    let word = subst (λ w. TakesPhrase (IsFieldName w) c.skip_blanks.new.rest.now f.name_end) (sym c.as_bytes.ensures.value) f.word in
+    let at : c.take_field.new.rest.now ≡ f.name_end = c.take_field.ensures.one c.if-not-take_field.false some f.name_end word f.ends in
     let colon = subst (λ z. TakesPhrase (IsSign 58) z f.after) (sym at) f.colon in
     let inner : c.expect.new.rest.now ≡ f.after = c.in_ok-expect-in-Named.ensures.accepted f.after refl colon in
     c.read.ensures.accepted (subst HasDistinctNames kind names).1 x after (subst (λ z. reads z x) like r) (subst (λ z. TakesPhrase (SpellsTree y x) z after) (sym inner) f.left) goes

@@ -1,0 +1,135 @@
+//! Numbers of the integer types, as texts.
+//!
+//! The digits are decimal, or hexadecimal, of either case, after `0x`. A `+` may be before them, and
+//! for a type with a sign also a `-`: `42`, `+42`, `0x2a`, `-0x2A`.
+
+ghost use Rattle.std.specs.Prelude.{◌≡◌, ℕ, ℤ, ◌^◌, ◌<◌, ◌⊎◌, List, FitsSigned};
+ghost use Rattle.std.specs.Prelude.{IfOk, IfSome, IfNone, MatchResult, Ok, Err};
+ghost use Rattle.std.specs.Int.{w128};
+ghost use Rattle.std.specs.Str.Parse.{without_leading_plus};
+ghost use Rattle.postcard_dyn_schema.specs.Text.{Led, TakesPhrase};
+ghost use Rattle.postcard_dyn_text.specs.Floats.{EndsNumber};
+ghost use Rattle.postcard_dyn_text.specs.Numbers.{AreDigits, IsMagnitude, IsUnsigned, IsSigned};
+
+use crate::expected::Expected;
+use crate::float::take_number;
+use crate::read::Stop;
+use postcard_dyn::Leaf;
+
+/// Takes blanks and then a number of the type `leaf`, which has no sign.
+///
+/// # Errors
+///
+/// Stops at the front of `rest` if no number is next, or one that `T` doesn't hold.
+pub fn read_unsigned<T: TryFrom<u128>>(rest: &mut &[u8], leaf: Leaf) -> Result<T, Stop<'static>>
+where
+    T::Error: Drop,
+    ensures spelled { IfOk result (λ x. (n : ℕ) × T.try_from_gives n (Ok x)
+        × TakesPhrase (Led (IsUnsigned n)) rest.old.now rest.new.now) }
+    ensures accepted { (n : ℕ) (after : List ℕ) → n < 2 ^ 128
+        → TakesPhrase (Led (IsUnsigned n)) rest.old.now after → EndsNumber after
+        → MatchResult result (λ x. T.try_from_gives n (Ok x) × (rest.new.now ≡ after))
+        (λ stop. (e : T.Error) × T.try_from_gives n (Err e)) }
+{
+    let start = *rest;
+    let Some(n) = unsigned(take_number(rest)) else {
+        return Err(Stop::here(start, Expected::Leaf(leaf)));
+    };
+    match T::try_from(n) {
+        Ok(x) => Ok(x),
+        Err(_) => Err(Stop::here(start, Expected::Leaf(leaf))),
+    }
+}
+
+/// Takes blanks and then a number of the type `leaf`, which has a sign.
+///
+/// # Errors
+///
+/// Stops at the front of `rest` if no number is next, or one that `T` doesn't hold.
+pub fn read_signed<T: TryFrom<i128>>(rest: &mut &[u8], leaf: Leaf) -> Result<T, Stop<'static>>
+where
+    T::Error: Drop,
+    ensures spelled { IfOk result (λ x. (z : ℤ) × T.try_from_gives z (Ok x)
+        × TakesPhrase (Led (IsSigned z)) rest.old.now rest.new.now) }
+    ensures accepted { (z : ℤ) (after : List ℕ) → FitsSigned w128 z
+        → TakesPhrase (Led (IsSigned z)) rest.old.now after → EndsNumber after
+        → MatchResult result (λ x. T.try_from_gives z (Ok x) × (rest.new.now ≡ after))
+        (λ stop. (e : T.Error) × T.try_from_gives z (Err e)) }
+{
+    let start = *rest;
+    let Some(z) = signed(take_number(rest)) else {
+        return Err(Stop::here(start, Expected::Leaf(leaf)));
+    };
+    match T::try_from(z) {
+        Ok(x) => Ok(x),
+        Err(_) => Err(Stop::here(start, Expected::Leaf(leaf))),
+    }
+}
+
+/// Returns the number that a word spells, which may begin with `+`, or `None` if it spells none
+/// that `u128` holds.
+fn unsigned(word: &[u8]) -> Option<u128>
+    ensures found { IfSome result (λ n. IsUnsigned n word.now) }
+    ensures none { IfNone result ((n : ℕ) → n < 2 ^ 128 → IsUnsigned n word.now → ⊥) }
+{
+    magnitude(after_plus(word))
+}
+
+/// Returns the number that a word spells, which may begin with `-` or `+`, or `None` if it spells
+/// none that `i128` holds.
+fn signed(word: &[u8]) -> Option<i128>
+    ensures found { IfSome result (λ z. IsSigned z word.now) }
+    ensures none { IfNone result ((z : ℤ) → FitsSigned w128 z → IsSigned z word.now → ⊥) }
+{
+    match word.strip_prefix(b"-") {
+        Some(digits) => match magnitude(digits) {
+            Some(n) => 0i128.checked_sub_unsigned(n),
+            None => None,
+        },
+        None => match magnitude(after_plus(word)) {
+            Some(n) => 0i128.checked_add_unsigned(n),
+            None => None,
+        },
+    }
+}
+
+/// Returns a word without the `+` at its front, if it has one.
+fn after_plus(word: &[u8]) -> &[u8]
+    ensures { result.now ≡ without_leading_plus word.now }
+{
+    match word.strip_prefix(b"+") {
+        Some(digits) => digits,
+        None => word,
+    }
+}
+
+/// Returns the number that a word without a sign spells, or `None` if it spells none that `u128`
+/// holds.
+fn magnitude(word: &[u8]) -> Option<u128>
+    ensures found { IfSome result (λ n. IsMagnitude n word.now) }
+    ensures none { IfNone result ((n : ℕ) → n < 2 ^ 128 → IsMagnitude n word.now → ⊥) }
+{
+    match word.strip_prefix(b"0x") {
+        Some(digits) => number_of(digits, 16),
+        None => number_of(word, 10),
+    }
+}
+
+/// Returns the number that digits spell, or `None` if they are none, or spell none that `u128`
+/// holds.
+fn number_of(digits: &[u8], radix: u32) -> Option<u128>
+    requires { (radix ≡ 10) ⊎ (radix ≡ 16) }
+    ensures found { IfSome result (λ n. AreDigits radix n digits.now) }
+    ensures none { IfNone result ((n : ℕ) → n < 2 ^ 128 → AreDigits radix n digits.now → ⊥) }
+{
+    if digits.starts_with(b"+") {
+        return None;
+    }
+    let Ok(text) = str::from_utf8(digits) else {
+        return None;
+    };
+    match u128::from_str_radix(text, radix) {
+        Ok(n) => Some(n),
+        Err(_) => None,
+    }
+}
