@@ -6,10 +6,9 @@
 //! program has, and the laws: the encodings are prefix-free, what is read is well formed, the values
 //! of one tree look alike, and what was written is read again. `specs/` has the shapes of values
 //! that are one node (`Leaves.antt`, `Floats.antt`, `Spans.antt`, `Enumerations.antt`) and the
-//! combinators (`Shape.antt`, `Lists.antt`, `Choices.antt`, `Rows.antt`, `Cases.antt`,
-//! `Entries.antt`, `Sets.antt`, `Puts.antt`, `Heaps.antt`, `Refusing.antt`, `Only.antt`), each of
-//! which makes a shape from those of its parts, laws included, so that a type says its shape in one
-//! line.
+//! combinators (`Shape.antt`, `Lists.antt`, `Options.antt`, `Rows.antt`, `Cases.antt`, `Maps.antt`,
+//! `Refusing.antt`, `Only.antt`), each of which makes a shape from those of its parts, laws
+//! included, so that a type says its shape in one line.
 //!
 //! In reading order: [`shape`] has the traits, [`first`] what one of their methods returns, [`rows`]
 //! and [`cases`] what tuples and enums are written and read as, `runs` numbers that are read many at
