@@ -1,38 +1,13 @@
-/* Measures the exports of crates/postcard_bench: `speed` prints the time of an item or of a byte, `growth`
- * the time of an item over longer and longer lists, and `memory` the memory that is requested. */
+/* Measures the exports of crates/postcard_bench: `speed` prints the time of an item or of a byte, `beside` and `alone` the same as
+ * rows of the tables of docs/SPEED.md, `growth` the time of a byte of longer and longer messages as such rows, `plot` the same as an image, and
+ * `memory` the memory that is requested. */
+#include "exports.h"
+#include "growth.h"
+#include "measure.h"
+#include "plain.h"
 #include <inttypes.h>
-#include <stdint.h>
-#include <stdio.h>
-#include <stdlib.h>
+#include <stdbool.h>
 #include <string.h>
-#include <time.h>
-
-uint64_t port_small_encode(uint32_t count, uint8_t *out, size_t size);
-uint64_t port_small_stream(uint32_t count, uint8_t *out, size_t size);
-uint64_t port_small_decode(const uint8_t *bytes, size_t size);
-uint64_t port_u32s_encode(const uint32_t *values, size_t count, uint8_t *out, size_t size);
-uint64_t port_u32s_allocate(const uint32_t *values, size_t count);
-uint64_t port_u32s_decode(const uint8_t *bytes, size_t size);
-uint64_t port_bytes_encode(const uint8_t *values, size_t count, uint8_t *out, size_t size);
-uint64_t port_bytes_decode(const uint8_t *bytes, size_t size);
-uint64_t port_bytes_lend(const uint8_t *bytes, size_t size);
-uint64_t port_cobs_encode(const uint8_t *values, size_t count, uint8_t *out, size_t size);
-uint64_t port_cobs_decode(uint8_t *frame, size_t size);
-uint64_t port_accumulate(const uint8_t *stream, size_t size, size_t piece);
-uint64_t port_hostile(uint32_t kind, const uint8_t *bytes, size_t size);
-uint64_t port_f32s_encode(const float *values, size_t count, uint8_t *out, size_t size);
-uint64_t port_f32s_decode(const uint8_t *bytes, size_t size);
-uint64_t port_f64s_encode(const double *values, size_t count, uint8_t *out, size_t size);
-uint64_t port_f64s_decode(const uint8_t *bytes, size_t size);
-uint64_t port_crc16(const uint8_t *bytes, size_t size);
-uint64_t port_crc32(const uint8_t *bytes, size_t size);
-uint64_t port_crc32_by_eights(const uint8_t *bytes, size_t size);
-uint64_t port_crc64(const uint8_t *bytes, size_t size);
-uint64_t port_crc32_encode(const uint8_t *values, size_t count, uint8_t *out, size_t size);
-uint64_t port_crc32_decode(const uint8_t *bytes, size_t size);
-uint64_t port_read(uint32_t kind, const uint8_t *bytes, size_t size, uint32_t rounds);
-uint64_t port_write(uint32_t kind, const uint8_t *bytes, size_t size, uint32_t rounds, uint8_t *out, size_t room);
-uint64_t port_size(uint32_t kind, const uint8_t *bytes, size_t size, uint32_t rounds);
 
 /* The memory that was requested since `forget`: the number of requests, the bytes of the largest and
  * of all of them, the bytes that are held, and the most that were held at once. */
@@ -71,33 +46,6 @@ void __wrap_free(void *old) {
 
 static void forget(void) { memset(&memory, 0, sizeof memory); }
 
-static double now(void) {
-    struct timespec time;
-    clock_gettime(CLOCK_PROCESS_CPUTIME_ID, &time);
-    return time.tv_sec * 1e9 + time.tv_nsec;
-}
-
-static void fail(const char *what) {
-    fprintf(stderr, "bench: %s\n", what);
-    exit(1);
-}
-
-/* Runs `call` at least 5 times and for at least 0.2 s; sets `best` to the fewest nanoseconds of a run. */
-#define BEST(best, call)                                          \
-    do {                                                          \
-        double all = 0;                                           \
-        best = 1e300;                                             \
-        for (int run = 0; run < 5 || all < 2e8; run++) {          \
-            double began = now();                                 \
-            __asm__ volatile("" ::: "memory");                    \
-            uint64_t answer = (call);                             \
-            double took = now() - began;                          \
-            if (answer == UINT64_MAX) fail("a call refused");     \
-            all += took;                                          \
-            if (took < best) best = took;                         \
-        }                                                         \
-    } while (0)
-
 #define MOST 16777216
 
 static uint8_t *room, *source;
@@ -125,11 +73,21 @@ static void fill_at_random(void) {
 
 static double copying;
 
-static void tell(const char *row, double nanoseconds, const char *unit) { printf("%-44s %8.2f ns %s\n", row, nanoseconds, unit); }
+/* What is printed: lines, or rows of a table in Markdown, of only the rows that plain C stands beside or of only the others. */
+static enum { LINES, BESIDE, ALONE } form = LINES;
 
-static void tell_bytes(const char *row, double nanoseconds) {
-    printf("%-44s %8.3f ns a byte, %.2f of memcpy\n", row, nanoseconds / MOST, nanoseconds / copying);
+static void tell(const char *row, double nanoseconds, const char *unit) {
+    if (form == LINES) printf("%-44s %8.2f ns %s\n", row, nanoseconds, unit);
+    else if (form == ALONE) printf("| %s | %s | %.2f |\n", row, unit, nanoseconds);
 }
+
+static void tell_beside(const char *row, double nanoseconds, const char *unit, double plain) {
+    if (form == LINES) printf("%-44s %8.2f ns %s, plain C %.2f, ratio %.2f\n", row, nanoseconds, unit, plain, nanoseconds / plain);
+    else if (form == BESIDE) printf("| %s | %s | %.2f | %.2f | %.2f |\n", row, unit, nanoseconds, plain, nanoseconds / plain);
+}
+
+/* Of 16 MiB, beside memcpy. */
+static void tell_bytes(const char *row, double nanoseconds) { tell_beside(row, nanoseconds / MOST, "a byte", copying / MOST); }
 
 static uint64_t copy(void) {
     memcpy(room, source, MOST);
@@ -137,28 +95,34 @@ static uint64_t copy(void) {
 }
 
 static void speed_of_numbers(const char *kind) {
-    double best;
+    double best, plain;
     char row[64];
     const size_t count = 1000000;
     if (!strcmp(kind, "random sizes")) fill_at_random();
     else fill(kind);
+    BEST(plain, plain_u32s_encode(numbers, count, room, 2 * MOST));
     BEST(best, port_u32s_encode(numbers, count, room, 2 * MOST));
     snprintf(row, sizeof row, "a million u32, %s: write", kind);
-    tell(row, best / count, "a number");
+    tell_beside(row, best / count, "a number", plain / count);
     size_t size = port_u32s_encode(numbers, count, room, 2 * MOST);
+    if (plain_u32s_decode(room, size) != port_u32s_decode(room, size)) fail("the sum of numbers is another than the plain one's");
+    BEST(plain, plain_u32s_decode(room, size));
     BEST(best, port_u32s_decode(room, size));
     snprintf(row, sizeof row, "a million u32, %s: read", kind);
-    tell(row, best / count, "a number");
+    tell_beside(row, best / count, "a number", plain / count);
 }
 
 static void speed_of_records(void) {
     const uint32_t count = 100000;
-    double best;
+    double best, plain;
+    if (plain_small_encode(count, room, 64) != port_small_encode(count, room, 64)) fail("records are others than the plain ones");
+    BEST(plain, plain_small_encode(count, room, 64));
     BEST(best, port_small_encode(count, room, 64));
-    tell("a small record: write", best / count, "a record");
+    tell_beside("small records: to_slice", best / count, "a record", plain / count);
     size_t size = port_small_stream(count, room, 2 * MOST);
+    BEST(plain, plain_records_decode(count, room, size));
     BEST(best, port_small_decode(room, size));
-    tell("a small record: read", best / count, "a record");
+    tell_beside("small records: take_from_bytes", best / count, "a record", plain / count);
 }
 
 static void speed_of_bytes(void) {
@@ -176,24 +140,15 @@ static void speed_of_bytes(void) {
 }
 
 static void speed_of_frames(uint8_t zero_every) {
-    double best, all = 0;
+    double best;
     char row[64];
     for (size_t i = 0; i < MOST; i++) source[i] = zero_every && i % zero_every == 0 ? 0 : 0x55;
     snprintf(row, sizeof row, zero_every ? "16 MiB, a zero at each %dth byte: frame" : "16 MiB without a zero: frame", zero_every);
     BEST(best, port_cobs_encode(source, MOST, room, 2 * MOST));
     tell_bytes(row, best);
-    /* Decoding is in place, so each run has a frame of its own. */
     size_t size = port_cobs_encode(source, MOST, room, 2 * MOST);
     uint8_t *frame = malloc(size);
-    best = 1e300;
-    for (int run = 0; run < 5 || all < 2e8; run++) {
-        memcpy(frame, room, size);
-        double began = now();
-        if (port_cobs_decode(frame, size) == UINT64_MAX) fail("a frame was refused");
-        double took = now() - began;
-        all += took;
-        if (took < best) best = took;
-    }
+    BEST_AFTER(best, memcpy(frame, room, size), port_cobs_decode(frame, size));
     free(frame);
     snprintf(row, sizeof row, zero_every ? "16 MiB, a zero at each %dth byte: decode" : "16 MiB without a zero: decode", zero_every);
     tell_bytes(row, best);
@@ -213,10 +168,6 @@ static inline __attribute__((always_inline)) uint64_t plain_numbers(const uint8_
 
 static __attribute__((noinline)) uint64_t plain_f32s(const uint8_t *from, size_t count, uint8_t *out, size_t size) { return plain_numbers(from, count, 4, out, size); }
 static __attribute__((noinline)) uint64_t plain_f64s(const uint8_t *from, size_t count, uint8_t *out, size_t size) { return plain_numbers(from, count, 8, out, size); }
-
-static void tell_beside(const char *row, double nanoseconds, const char *unit, double plain) {
-    printf("%-44s %8.2f ns %s, plain C %.2f, ratio %.2f\n", row, nanoseconds, unit, plain, nanoseconds / plain);
-}
 
 static void speed_of_floats(void) {
     double best, plain;
@@ -340,7 +291,7 @@ static void put_element(uint32_t kind, uint32_t i, uint32_t length) {
     }
 }
 
-static const char *const kinds[] = {"texts", "a map of u32 to u32", "options of u32", "records", "structs in structs", "enums", "LE<u32>"};
+static const char *const kinds[] = {"texts", "pairs of a map of u32 to u32", "options of u32", "records", "structs in structs", "enums", "`LE<u32>`"};
 
 static void make(uint32_t kind, uint32_t count, uint32_t length) {
     message = source;
@@ -376,6 +327,28 @@ static void speed_of_kind(uint32_t kind, uint32_t count, uint32_t length) {
     }
 }
 
+/* Decodes the frame in place `rounds` times; it is refused, and stays as it is. Returns how many times it was. */
+static uint64_t refused(bool here, uint8_t *frame, size_t size, uint32_t rounds) {
+    uint64_t count = 0;
+    for (uint32_t i = 0; i < rounds; i++) {
+        __asm__ volatile("" ::: "memory");
+        count += (here ? port_frames_decode(1, frame, size) : plain_frames_decode(1, frame, size)) == UINT64_MAX;
+    }
+    return count;
+}
+
+/* A frame whose first code leads past its end. */
+static void speed_of_refused_frames(void) {
+    double best, plain;
+    const uint32_t rounds = 20000;
+    uint8_t frame[] = {9, 1, 2, 3, 4, 0};
+    require(refused(true, frame, sizeof frame, rounds), rounds, 1);
+    require(refused(false, frame, sizeof frame, rounds), rounds, 1);
+    BEST(plain, refused(false, frame, sizeof frame, rounds));
+    BEST(best, refused(true, frame, sizeof frame, rounds));
+    tell_beside("a code past the frame's end: refuse", best / rounds, "a message", plain / rounds);
+}
+
 /* A list of records of which the last text is cut, so that all is read before it is refused; and one whose first text isn't UTF-8. */
 static void speed_of_refusals(void) {
     double best;
@@ -394,6 +367,17 @@ static void speed_of_refusals(void) {
     require(port_read(2, message, message_size, rounds), rounds, 0);
     BEST(best, port_read(2, message, message_size, rounds));
     tell("an option byte of 2: refuse", best / rounds, "a message");
+    /* An option whose number has a bit too many. */
+    memcpy(message, (const uint8_t[]){1, 1, 0xff, 0xff, 0xff, 0xff, 0x7f}, message_size = 7);
+    require(port_read(2, message, message_size, rounds), rounds, 0);
+    BEST(best, port_read(2, message, message_size, rounds));
+    tell("a number too large for u32: refuse", best / rounds, "a message");
+    /* A count of 2^40, and no element. */
+    memcpy(message, (const uint8_t[]){0x80, 0x80, 0x80, 0x80, 0x80, 0x20}, message_size = 6);
+    require(port_read(3, message, message_size, rounds), rounds, 0);
+    BEST(best, port_read(3, message, message_size, rounds));
+    tell("2^40 records announced, none there: refuse", best / rounds, "a message");
+    speed_of_refused_frames();
 }
 
 static void speed_of_kinds(void) {
@@ -403,8 +387,103 @@ static void speed_of_kinds(void) {
     speed_of_refusals();
 }
 
+static uint64_t plain_allocate(const uint8_t *values, size_t count) {
+    uint8_t *block = malloc(count + 10);
+    if (!block) return UINT64_MAX;
+    memcpy(block + 4, values, count);
+    __asm__ volatile("" : : "r"(block) : "memory");
+    free(block);
+    return count + 4;
+}
+
+/* The rows of `to_io` and `from_io` whose writer and reader are memory, and of `to_allocvec`. */
+static void speed_of_memory(void) {
+    double best, plain;
+    const uint32_t count = 100000;
+    BEST(plain, plain_records(count, room, MOST));
+    BEST(best, port_records_to_memory(count, room, MOST));
+    tell_beside("small records in memory: to_io", best / count, "a record", plain / count);
+    size_t size = port_small_stream(count, room, MOST);
+    if (plain_records_decode(count, room, size) != port_small_decode(room, size)) fail("the sum of the records is another than the plain one's");
+    BEST(plain, plain_records_decode(count, room, size));
+    BEST(best, port_records_from_memory(count, room, size));
+    tell_beside("small records in memory: from_io", best / count, "a record", plain / count);
+    BEST(plain, plain_small_allocate(count));
+    BEST(best, port_small_allocate(count));
+    tell_beside("small records: to_allocvec", best / count, "a record", plain / count);
+    BEST(copying, copy());
+    BEST(best, port_bytes_to_memory(source, MOST, room, 2 * MOST));
+    tell_bytes("16 MiB of u8 in memory: to_io", best);
+    size = port_bytes_encode(source, MOST, room, 2 * MOST);
+    BEST(best, port_bytes_from_memory(room, size, source, MOST));
+    tell_bytes("16 MiB of u8 in memory: from_io", best);
+    BEST(plain, plain_allocate(source, MOST));
+    BEST(best, port_bytes_allocate(source, MOST));
+    tell_beside("16 MiB of u8: to_allocvec", best / MOST, "a byte", plain / MOST);
+}
+
+/* The rows of frames of small records, and of a stream of them that comes in pieces. */
+static void speed_of_small_frames(void) {
+    static const size_t pieces[] = {16, 64, 256, 4096};
+    double best, plain;
+    char row[64];
+    const uint32_t count = 100000;
+    size_t size = plain_frames_encode(count, source, MOST);
+    if (port_frames_encode(count, room, MOST) != size || memcmp(room, source, size)) fail("frames are others than the plain ones");
+    BEST(plain, plain_frames_encode(count, room, MOST));
+    BEST(best, port_frames_encode(count, room, MOST));
+    tell_beside("small frames: to_slice_cobs", best / count, "a frame", plain / count);
+    BEST_AFTER(plain, memcpy(room, source, size), plain_frames_decode(count, room, size));
+    BEST_AFTER(best, memcpy(room, source, size), port_frames_decode(count, room, size));
+    tell_beside("small frames: take_from_bytes_cobs", best / count, "a frame", plain / count);
+    for (int i = 0; i < 4; i++) {
+        if (plain_accumulate(source, size, pieces[i]) != port_accumulate(source, size, pieces[i])) fail("the sum of a stream is another than the plain one's");
+        BEST(plain, plain_accumulate(source, size, pieces[i]));
+        BEST(best, port_accumulate(source, size, pieces[i]));
+        snprintf(row, sizeof row, "accumulator, pieces of %zu bytes", pieces[i]);
+        tell_beside(row, best / count, "a frame", plain / count);
+    }
+}
+
+/* A new block of numbers, which is freed, as the list that is read. */
+static uint64_t plain_fixed_read(int kind, const uint8_t *bytes, size_t size, size_t count, size_t width) {
+    void *block = malloc(count * width);
+    uint64_t answer = block ? plain_fixed_decode(kind, bytes, size, count, block) : UINT64_MAX;
+    free(block);
+    return answer;
+}
+
+static void speed_of_fixed_widths(void) {
+    static const char *const types[] = {"`LE<u32>`", "`BE<u32>`", "`LE<u64>`", "`BE<u16>`"};
+    static const size_t widths[] = {4, 4, 8, 2};
+    double best, plain, none;
+    char row[64];
+    const size_t count = 1000000;
+    for (int kind = 0; kind < 4; kind++) {
+        /* To write, the list is read first: the time of a call with no round is subtracted. */
+        size_t size = plain_fixed_encode(kind, numbers, count, source, MOST);
+        uint32_t export = 6 + (uint32_t)kind;
+        require(port_read(export, source, size, 1), 1, 1);
+        require(port_write(export, source, size, 1, room, 2 * MOST), 1, size);
+        if (memcmp(room, source, size)) fail("a list is another than the plain one");
+        BEST(plain, plain_fixed_encode(kind, numbers, count, room, 2 * MOST));
+        BEST(none, port_write(export, source, size, 0, room, 2 * MOST));
+        BEST(best, port_write(export, source, size, 10, room, 2 * MOST));
+        snprintf(row, sizeof row, "a million %s: write", types[kind]);
+        tell_beside(row, (best - none) / 10 / count, "a number", plain / count);
+        BEST(plain, plain_fixed_read(kind, source, size, count, widths[kind]));
+        BEST(best, port_read(export, source, size, 1));
+        snprintf(row, sizeof row, "a million %s: read", types[kind]);
+        tell_beside(row, best / count, "a number", plain / count);
+    }
+}
+
 static void speed(void) {
     speed_of_records();
+    speed_of_memory();
+    speed_of_small_frames();
+    fill("mixed");
+    speed_of_fixed_widths();
     speed_of_floats();
     speed_of_checksums();
     speed_of_kinds();
@@ -415,23 +494,6 @@ static void speed(void) {
     speed_of_bytes();
     speed_of_frames(0);
     speed_of_frames(10);
-}
-
-static void growth(void) {
-    double best;
-    char row[64];
-    fill("mixed");
-    for (size_t count = 1000; count <= 10000000; count *= 10) {
-        uint8_t *out = malloc(5 * count + 10);
-        BEST(best, port_u32s_allocate(numbers, count));
-        snprintf(row, sizeof row, "%zu u32: to_allocvec", count);
-        tell(row, best / count, "a number");
-        size_t size = port_u32s_encode(numbers, count, out, 5 * count + 10);
-        BEST(best, port_u32s_decode(out, size));
-        snprintf(row, sizeof row, "%zu u32: from_bytes", count);
-        tell(row, best / count, "a number");
-        free(out);
-    }
 }
 
 /* Prints the memory requested since `forget`. Fails if some is still held, or if a request is larger than `limit`. */
@@ -493,8 +555,11 @@ int main(int count, char **words) {
     memset(source, 0x55, MOST);
     memset(room, 0x55, 2 * MOST);
     if (!strcmp(task, "speed")) speed();
-    else if (!strcmp(task, "growth")) growth();
+    else if (!strcmp(task, "beside")) form = BESIDE, speed();
+    else if (!strcmp(task, "alone")) form = ALONE, speed();
+    else if (!strcmp(task, "growth")) growth(false);
+    else if (!strcmp(task, "plot")) growth(true);
     else if (!strcmp(task, "memory")) memory_of_lists(), memory_of_hostile_counts();
-    else fail("say speed, growth or memory");
+    else fail("say speed, beside, alone, growth, plot or memory");
     return 0;
 }

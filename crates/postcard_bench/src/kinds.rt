@@ -2,7 +2,7 @@
 
 use crate::records::Record;
 use postcard::experimental::serialized_size;
-use postcard::fixint::LE;
+use postcard::fixint::{BE, LE};
 use postcard::{Deserialize, Serialize, from_bytes, to_slice};
 use std::alloc::Global;
 use std::collections::BTreeMap;
@@ -61,7 +61,7 @@ fn size<'a, T: Deserialize<'a> + Serialize + Drop>(
 type Nested = (u8, (u16, (u32, bool)));
 
 /// Decodes the message `rounds` times as a value of the type with the number `kind`. Returns how many times that succeeded.
-/// For a number above 6 it returns 0.
+/// For a number above 9 it returns 0.
 #[unsafe(no_mangle)]
 pub extern "C" fn port_read(alloc: Global, kind: u32, bytes: &[u8], rounds: u32) -> u64 {
     match kind {
@@ -72,6 +72,9 @@ pub extern "C" fn port_read(alloc: Global, kind: u32, bytes: &[u8], rounds: u32)
         4 => read::<Vec<Nested>>(alloc, bytes, rounds),
         5 => read::<Vec<Result<u8, &str>>>(alloc, bytes, rounds),
         6 => read::<Vec<LE<u32>>>(alloc, bytes, rounds),
+        7 => read::<Vec<BE<u32>>>(alloc, bytes, rounds),
+        8 => read::<Vec<LE<u64>>>(alloc, bytes, rounds),
+        9 => read::<Vec<BE<u16>>>(alloc, bytes, rounds),
         _ => 0,
     }
 }
@@ -94,6 +97,9 @@ pub extern "C" fn port_write(
         4 => write::<Vec<Nested>>(alloc, bytes, rounds, out),
         5 => write::<Vec<Result<u8, &str>>>(alloc, bytes, rounds, out),
         6 => write::<Vec<LE<u32>>>(alloc, bytes, rounds, out),
+        7 => write::<Vec<BE<u32>>>(alloc, bytes, rounds, out),
+        8 => write::<Vec<LE<u64>>>(alloc, bytes, rounds, out),
+        9 => write::<Vec<BE<u16>>>(alloc, bytes, rounds, out),
         _ => 0,
     }
 }

@@ -8,6 +8,7 @@
 #![tactic(auto)]
 
 mod checksums;
+mod devices;
 mod floats;
 mod frames;
 mod hostile;

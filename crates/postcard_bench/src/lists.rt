@@ -13,7 +13,7 @@ pub fn last_of(bytes: &[u8]) -> u64 {
 }
 
 /// Returns the sum of the length and the last byte.
-fn ends_of(bytes: &[u8]) -> u64 {
+pub fn ends_of(bytes: &[u8]) -> u64 {
     (bytes.len() as u64).wrapping_add(last_of(bytes))
 }
 
@@ -53,6 +53,15 @@ pub extern "C" fn port_u32s_decode(alloc: Global, bytes: &[u8]) -> u64 {
 pub extern "C" fn port_bytes_encode(values: &[u8], out: &mut [u8]) -> u64 {
     match to_slice(&values, out) {
         Ok(front) => front.len() as u64,
+        Err(_) => u64::MAX,
+    }
+}
+
+/// Encodes a list of bytes into a new vector, which is dropped. Returns the number of bytes of the encoding.
+#[unsafe(no_mangle)]
+pub extern "C" fn port_bytes_allocate(alloc: Global, values: &[u8]) -> u64 {
+    match to_allocvec(alloc, &values) {
+        Ok(bytes) => bytes.len() as u64,
         Err(_) => u64::MAX,
     }
 }

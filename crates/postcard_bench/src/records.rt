@@ -2,7 +2,8 @@
 
 use postcard::ser_flavors::Flavor;
 use postcard::{
-    FromRepr, Repr, Result, Serialize, SerializeRepr, Serializer, take_from_bytes, to_slice,
+    FromRepr, Repr, Result, Serialize, SerializeRepr, Serializer, take_from_bytes, to_allocvec,
+    to_slice,
 };
 use std::alloc::Global;
 
@@ -36,7 +37,7 @@ impl SerializeRepr for Record<'_> {
 impl Record<'_> {
     /// Returns the `i`th record. Its numbers have each length that a varint of their width can
     /// have.
-    fn numbered(i: u32) -> Record<'static> {
+    pub fn numbered(i: u32) -> Record<'static> {
         let mixed = i.wrapping_mul(2_654_435_761);
         let high = mixed >> 16;
         let b = if i % 2 == 0 { high } else { high >> 8 };
@@ -76,6 +77,28 @@ pub extern "C" fn port_small_encode(count: u32, out: &mut [u8]) -> u64 {
         };
         let last = front.last().map_or(0, |byte| u64::from(*byte));
         sum = sum.wrapping_add(front.len() as u64).wrapping_add(last);
+    }
+    sum
+}
+
+/// Encodes the `i`th record into the front of `out`. Returns the number of bytes of its encoding.
+#[unsafe(no_mangle)]
+pub extern "C" fn port_record(i: u32, out: &mut [u8]) -> u64 {
+    match to_slice(&Record::numbered(i), out) {
+        Ok(front) => front.len() as u64,
+        Err(_) => u64::MAX,
+    }
+}
+
+/// Encodes `count` records, each into a new vector, which is dropped. Returns the sum of the lengths of their encodings.
+#[unsafe(no_mangle)]
+pub extern "C" fn port_small_allocate(alloc: Global, count: u32) -> u64 {
+    let mut sum: u64 = 0;
+    for i in 0..count {
+        match to_allocvec(alloc, &Record::numbered(i)) {
+            Ok(bytes) => sum = sum.wrapping_add(bytes.len() as u64),
+            Err(_) => return u64::MAX,
+        }
     }
     sum
 }
