@@ -143,7 +143,7 @@ fn read_code(rest: &mut &[u8]) -> Result<u64, Stop<'static>>
 }
 
 /// Takes blanks and then the bytes that may be part of a number, and returns these bytes.
-pub fn take_number<'a>(rest: &mut &'a [u8]) -> &'a [u8]
+pub(crate) fn take_number<'a>(rest: &mut &'a [u8]) -> &'a [u8]
     ensures bytes { AllPass is_of_number result.now }
     ensures taken { TakesPhrase (Led (λ word. word ≡ result.now)) rest.old.now rest.new.now }
     ensures first { (text : List ℕ) × IsTrimAsciiStart rest.old.now text
