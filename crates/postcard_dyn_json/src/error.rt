@@ -1,0 +1,149 @@
+//! The error of reading a value from JSON.
+
+ghost use Rattle.std.specs.Prelude.{◌≡◌, OnOk, IfErr, ◌++◌, ◌∷◌, []};
+ghost use Rattle.postcard_dyn_json.specs.declared.error.JsonError.TheVariants as errors;
+
+use postcard_dyn::{Leaf, Value};
+use std::alloc::Global;
+use std::fmt;
+
+/// What a value of the type would have in place of the JSON that was found.
+#[derive(Clone, Copy, Debug, PartialEq, Eq)]
+pub enum Expected {
+    /// A value of this type without parts.
+    Leaf(Leaf),
+    /// `null`, or an object with the member `Some` alone.
+    Option,
+    /// An array of any length.
+    Array,
+    /// An array of this length.
+    ArrayOf(usize),
+    /// `null`.
+    Null,
+    /// An object with this number of members, one for each field of the struct.
+    ObjectOf(usize),
+    /// The item or the member that the path ends with.
+    Present,
+    /// The name of a variant, or an object with the name and the content of a variant alone.
+    Variant,
+}
+
+/// The error of reading a value from JSON. It is printed as `samples[1].id: expected u8`.
+#[derive(Debug, Drop)]
+pub enum JsonError {
+    /// The JSON is no value of the schema. `path` is the place of the first part that isn't one, as
+    /// `samples[1].id`, and empty for the whole.
+    NotAValue { path: String, expected: Expected },
+    /// An allocation failed.
+    OutOfMemory,
+}
+
+impl JsonError {
+    /// Returns the error at the place that is being read.
+    pub fn here(alloc: Global, expected: Expected) -> JsonError {
+        JsonError::NotAValue {
+            path: String::new(alloc),
+            expected,
+        }
+    }
+
+    /// Returns the error of a part at this index, as the error of the whole.
+    pub fn at_index(self, alloc: Global, index: usize) -> JsonError
+        ensures { self ≡ errors.OutOfMemory → result ≡ errors.OutOfMemory }
+    {
+        let JsonError::NotAValue { path, expected } = self else {
+            return JsonError::OutOfMemory;
+        };
+        let dot = separator(&path);
+        match format!(in alloc; "[{index}]{dot}{path}") {
+            Ok(path) => JsonError::NotAValue { path, expected },
+            Err(_) => JsonError::OutOfMemory,
+        }
+    }
+
+    /// Returns the error of a part with this name, as the error of the whole.
+    pub fn at_name(self, alloc: Global, name: &str) -> JsonError
+        ensures { self ≡ errors.OutOfMemory → result ≡ errors.OutOfMemory }
+    {
+        let JsonError::NotAValue { path, expected } = self else {
+            return JsonError::OutOfMemory;
+        };
+        let dot = separator(&path);
+        match format!(in alloc; "{name}{dot}{path}") {
+            Ok(path) => JsonError::NotAValue { path, expected },
+            Err(_) => JsonError::OutOfMemory,
+        }
+    }
+}
+
+/// Returns what stands between a place and the path from there on: `.`, but nothing before an
+/// index or at the end.
+fn separator(path: &str) -> &'static str {
+    match path.as_bytes().first() {
+        None | Some(b'[') => "",
+        Some(_) => ".",
+    }
+}
+
+/// Appends a value, or fails with `OutOfMemory`.
+pub fn push(values: &mut Vec<Value>, value: Value) -> Result<(), JsonError>
+    ensures added { OnOk result (values.new.items ≡ values.old.items ++ value ∷ []) }
+    ensures refused { IfErr result (λ e. e ≡ errors.OutOfMemory) }
+{
+    match values.push(value) {
+        Ok(()) => Ok(()),
+        Err(_) => Err(JsonError::OutOfMemory),
+    }
+}
+
+impl fmt::Display for Expected {
+    fn fmt<W: fmt::Write>(&self, f: &mut fmt::Formatter<W>) -> fmt::Result {
+        match self {
+            Expected::Leaf(leaf) => f.write_str(name_of(*leaf)),
+            Expected::Option => f.write_str("null or an object with the member Some alone"),
+            Expected::Array => f.write_str("an array"),
+            Expected::ArrayOf(count) => write!(f, "an array of length {count}"),
+            Expected::Null => f.write_str("null"),
+            Expected::ObjectOf(count) => write!(f, "an object with {count} members"),
+            Expected::Present => f.write_str("a value"),
+            Expected::Variant => f.write_str("a variant"),
+        }
+    }
+}
+
+impl fmt::Display for JsonError {
+    fn fmt<W: fmt::Write>(&self, f: &mut fmt::Formatter<W>) -> fmt::Result {
+        match self {
+            JsonError::NotAValue { path, expected } => {
+                if path.is_empty() {
+                    write!(f, "expected {expected}")
+                } else {
+                    write!(f, "{path}: expected {expected}")
+                }
+            }
+            JsonError::OutOfMemory => f.write_str("out of memory"),
+        }
+    }
+}
+
+/// Returns the name of a type without parts.
+fn name_of(leaf: Leaf) -> &'static str {
+    match leaf {
+        Leaf::Bool => "bool",
+        Leaf::U8 => "u8",
+        Leaf::U16 => "u16",
+        Leaf::U32 => "u32",
+        Leaf::U64 => "u64",
+        Leaf::U128 => "u128",
+        Leaf::I8 => "i8",
+        Leaf::I16 => "i16",
+        Leaf::I32 => "i32",
+        Leaf::I64 => "i64",
+        Leaf::I128 => "i128",
+        Leaf::F32 => "f32",
+        Leaf::F64 => "f64",
+        Leaf::Char => "char",
+        Leaf::Str => "str",
+        Leaf::Bytes => "bytes",
+    }
+}
