@@ -17,6 +17,7 @@ ghost use Rattle.postcard_dyn_json.specs.Reading.{IsJsonOf, AreItems, HasLength,
 ghost use Rattle.postcard_dyn_json.specs.Reading.{IsVariantJson};
 ghost use Rattle.postcard_dyn_json.specs.Accepted.{Answers, Reads, IsReading, AreParts, IsPart};
 ghost use Rattle.postcard_dyn_json.specs.Accepted.{IsContentReading, HasNameOf};
+ghost use Rattle.postcard_dyn_json.specs.Printed.{IsWithin, part_step};
 ghost use Rattle.postcard_dyn_json.specs.declared.error.JsonError.TheVariants as errors;
 
 use crate::error::{Expected, JsonError, push};
@@ -277,7 +278,8 @@ fn find_part<'a>(json: &'a Json, part: &Schema, index: usize, named: bool) -> Op
 
 /// Returns the error of the part at an index, as the error of the whole.
 fn at_part(error: JsonError, alloc: Global, part: &Schema, index: usize) -> JsonError
-    ensures { error ≡ errors.OutOfMemory → result ≡ errors.OutOfMemory }
+    ensures place { IsWithin (part_step index (layout_of part.now)) error result }
+    ensures memory { error ≡ errors.OutOfMemory → result ≡ errors.OutOfMemory }
 {
     match part {
         Schema::Named(name, _) => error.at_name(alloc, name),

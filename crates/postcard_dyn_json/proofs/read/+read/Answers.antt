@@ -117,7 +117,7 @@ read_option-returns-in-Err t c =
     let x = layout_of c.args.content.now in
     let full = not_null_is d (sym c.is_null.ensures ∙ c.if-is_null.false) in
     let may : can_be_null x ≡ true = sym c.may_be_null.ensures ∙ c.if-not-may_be_null.false in
-    λ names u r. c.at_name.ensures (nullable_by _ m x u d may full (λ s e has h.
+    λ names u r. c.at_name.ensures.memory (nullable_by _ m x u d may full (λ s e has h.
     c.in-Err.ensures names s (subst (IsReading m x s) (same_content (codes "Some") e (view c.in-Some.held.now) (sym has ∙ c.in-Some.ensures.found)) h)) r)
 
 -- ---- lists and arrays
@@ -201,7 +201,7 @@ read_items-returns-in-Err t c =
     λ names us h.
     let all = subst (λ ys. AreItems (IsReading m x) us (items_view ys)) (sym c.deref-item-items.ensures.value) h in
     let k = item_at (IsReading m x) us xs c.loop-i.i c.item-item.result all (omega arith) c.item-item.is in
-    c.at_index.ensures (c.in-Err.ensures names k.0 k.1)
+    c.at_index.ensures.memory (c.in-Err.ensures names k.0 k.1)
 
 pub read_items-returns-in_err-push : goal.read_items-returns-in_err-push
 read_items-returns-in_err-push t c =
@@ -292,7 +292,7 @@ read_parts-returns-in-Err t c =
     let all = subst (λ ys. AreParts b (types_of ys) (layouts_of ys) us d) whole r in
     let k = part_at b 0 xs us d i i c.part-item.result all.0 all.1 (omega arith) (omega arith) c.part-item.is in
     let distinct = distinct_at xs i c.part-item.result (subst (λ ys. HaveDistinctNames (layouts_of ys)) whole names) (omega arith) c.part-item.is in
-    c.at_part.ensures (c.in-Err.ensures distinct k.0 k.1)
+    c.at_part.ensures.memory (c.in-Err.ensures distinct k.0 k.1)
 
 pub read_parts-returns-in_err-push : goal.read_parts-returns-in_err-push
 read_parts-returns-in_err-push t c =
@@ -423,4 +423,4 @@ read_content-returns-in-Ok t c =
 pub read_content-returns-in-Err : goal.read_content-returns-in-Err
 read_content-returns-in-Err t c =
     let full = sym c.is_unit.ensures.empty ∙ c.if-is_unit.false in
-    λ names u r. c.at_name.ensures (full_by _ c.args.name.now (type_of c.args.content.now) (layout_of c.args.content.now) u (view c.args.json.now) (view c.in-Some.found.now) full c.in-Some.ensures.found (c.in-Err.ensures names u) r)
+    λ names u r. c.at_name.ensures.memory (full_by _ c.args.name.now (type_of c.args.content.now) (layout_of c.args.content.now) u (view c.args.json.now) (view c.in-Some.found.now) full c.in-Some.ensures.found (c.in-Err.ensures names u) r)
