@@ -144,7 +144,7 @@ no_unsigned l d u (inr (inr (inr (inr is)))) none r = let k = u128_form d u (sub
 below_or_not : (n : ℕ) → (n < 128) ⊎ (128 ≤ n)
 below_or_not n = grind arith
 
-wide_8 : (n : ℕ) → n < 2 ^ 8 → FitsSigned w128 (cast_signed w8 n)
+pub wide_8 : (n : ℕ) → n < 2 ^ 8 → FitsSigned w128 (cast_signed w8 n)
 wide_8 n low = elim (below_or_not n) [
   | inl h ↦ subst (FitsSigned w128) (sym (to_z_pos w8 n h)) (record { sfits = omega (arith, ints, h) })
   | inr h ↦
@@ -154,19 +154,19 @@ wide_8 n low = elim (below_or_not n) [
       subst (λ m. FitsSigned w128 (cast_signed w8 m)) e (subst (FitsSigned w128) (sym (to_z-neg w8 (255 - n) k)) fits)
 ]
 
-wide_16 : (z : ℤ) → InRange 16 z → FitsSigned w128 z
+pub wide_16 : (z : ℤ) → InRange 16 z → FitsSigned w128 z
 wide_16 (pos n) h = record { sfits = omega (arith, ints, h.0, h.1) }
 wide_16 (negsuc n) h = record { sfits = omega (arith, ints, h.0, h.1) }
 
-wide_32 : (z : ℤ) → InRange 32 z → FitsSigned w128 z
+pub wide_32 : (z : ℤ) → InRange 32 z → FitsSigned w128 z
 wide_32 (pos n) h = record { sfits = omega (arith, ints, h.0, h.1) }
 wide_32 (negsuc n) h = record { sfits = omega (arith, ints, h.0, h.1) }
 
-wide_64 : (z : ℤ) → InRange 64 z → FitsSigned w128 z
+pub wide_64 : (z : ℤ) → InRange 64 z → FitsSigned w128 z
 wide_64 (pos n) h = record { sfits = omega (arith, ints, h.0, h.1) }
 wide_64 (negsuc n) h = record { sfits = omega (arith, ints, h.0, h.1) }
 
-wide_128 : (z : ℤ) → InRange 128 z → FitsSigned w128 z
+pub wide_128 : (z : ℤ) → InRange 128 z → FitsSigned w128 z
 wide_128 (pos n) h = record { sfits = omega (arith, ints, h.0, h.1) }
 wide_128 (negsuc n) h = record { sfits = omega (arith, ints, h.0, h.1) }
 

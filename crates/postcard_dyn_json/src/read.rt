@@ -41,6 +41,9 @@ pub fn from_json(alloc: Global, schema: &Schema, json: &Json) -> Result<Value, J
     ensures accepted { HasDistinctNames (layout_of schema.now) → (t : Tree)
         → reads (type_of schema.now) t → IsJsonOf (layout_of schema.now) t (view json.now)
         → MatchResult result (λ v. t ≡ tree v) (λ e. e ≡ errors.OutOfMemory) }
+    ensures reads_back { HasDistinctNames (layout_of schema.now) → (t : Tree)
+        → reads (type_of schema.now) t → json_of (layout_of schema.now) t ≡ Some (view json.now)
+        → MatchResult result (λ v. t ≡ tree v) (λ e. e ≡ errors.OutOfMemory) }
 {
     read(alloc, schema, json)
 }
