@@ -1,5 +1,5 @@
 -- Lemmas on what is read: options, lists, arrays, tuples and structs, as the only tree that the JSON spells.
-use Rattle.std.proofs.Common.{◌≡◌, ℕ, zero, suc, ◌+◌, ◌<◌, ◌^◌, Bool, true, false, List, [], ◌∷◌, ◌++◌, map, length, get_or, codes, Option, Some, None, refl, sym, ap, ap₂, subst, ◌∙◌, arith, ◌⊎◌, inl, inr}
+use Rattle.std.proofs.Common.{◌≡◌, ℕ, zero, suc, ◌+◌, ◌<◌, ◌^◌, Bool, true, false, List, [], ◌∷◌, ◌++◌, map, length, get_or, codes, Some, refl, sym, ap, ap₂, subst, ◌∙◌, arith, ◌⊎◌, inl, inr}
 use Rattle.std.specs.Prelude.{Result, Ok, Err, IsErrAnd, IfOk, MatchResult}
 use Rattle.postcard_wire.specs.Tree.{Tree, Trees, NoTrees, Then, trees, count}
 use Rattle.postcard_wire.specs.Tree as nodes
@@ -8,7 +8,7 @@ use Rattle.postcard_dyn_schema.specs.declared.schema.Leaf.{Leaf}
 use Rattle.postcard_dyn_schema.specs.declared.schema.Leaf.TheVariants.{U8, U16, U32, U64, U128, I8, I16, I32, I64, I128, F32, F64, Char, Str, Bytes}
 use Rattle.postcard_dyn_schema.specs.declared.schema.Leaf.TheVariants as leaves
 use Rattle.postcard_dyn_schema.specs.declared.schema.Schema.{Schema}
-use Rattle.postcard_dyn_schema.specs.Meaning.{MessageType, MessageTypes, option, seq, array, group, no_types, type_of, types_of, reads, reads_all}
+use Rattle.postcard_dyn_schema.specs.Meaning.{MessageType, option, seq, array, group, no_types, type_of, types_of, reads, reads_all}
 use Rattle.postcard_dyn.specs.declared.value.Value.{Value}
 use Rattle.postcard_dyn.specs.Tree.{tree}
 use Rattle.postcard_dyn_text.specs.Accepted.{HasDistinctNames, HaveDistinctNames}

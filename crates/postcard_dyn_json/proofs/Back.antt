@@ -1,16 +1,15 @@
 -- JSON that was written is read as the tree that it was written of.
-use Rattle.std.proofs.Common.{◌≡◌, ℕ, zero, suc, ◌+◌, ◌<◌, Bool, true, false, List, [], ◌∷◌, ◌++◌, length, codes, bytes_eq, Option, Some, None, option_map, is_some, if◌then◌else◌, Ordering, Less, Equal, Greater, nat_cmp, map, refl, sym, ap, ap₂, subst, ◌∙◌, true≢false, arith, ◌⊎◌, inl, inr}
+use Rattle.std.proofs.Common.{◌≡◌, ℕ, zero, suc, ◌+◌, Bool, true, false, List, [], ◌∷◌, ◌++◌, length, codes, Option, Some, None, option_map, is_some, if◌then◌else◌, Ordering, Less, Equal, Greater, nat_cmp, map, refl, sym, ap, subst, ◌∙◌, arith, inl, inr}
 use Rattle.std.specs.Cmp.Lexicographic.{slice_cmp}
 use Rattle.std.specs.Ordering.{match_ordering}
 use Rattle.std.specs.Prelude.{option_and_then}
-use Rattle.std.proofs.lemmas.Slice.Eq.{bytes_eq-Decides}
 use Rattle.postcard_wire.specs.Tree.{Tree, Trees, NoTrees, Then}
 use Rattle.postcard_wire.specs.Tree as nodes
 use Rattle.postcard_wire.specs.Reading.{Each}
 use Rattle.postcard_dyn_schema.specs.declared.schema.Schema.{Schema, map-Schema, fold-roll-Schema, ind-Schema, roll-Schema}
 use Rattle.postcard_dyn_schema.specs.declared.schema.Schema.TheOpen.{Schema-F}
 use Rattle.postcard_dyn_schema.specs.declared.schema.Schema.TheOpen as open_schema
-use Rattle.postcard_dyn_schema.specs.Meaning.{MessageType, MessageTypes, leaf, type_of, type_step, row_of, option, seq, array, group, choice, no_types, then_type, reads, reads_all, reads_at}
+use Rattle.postcard_dyn_schema.specs.Meaning.{MessageType, MessageTypes, type_of, type_step, row_of, option, seq, array, group, choice, no_types, then_type, reads, reads_all, reads_at}
 use Rattle.postcard_dyn_text.specs.Shown.{Layout, Layouts, layout_of, layout_step, layout_row, list, mapping, named, no_layouts, then_layout, have_names, is_empty_group}
 use Rattle.postcard_dyn_text.specs.Shown as layouts
 use Rattle.serde_json.specs.Data.{Data, Members, null, object, string, no_members, member, put}
@@ -19,8 +18,8 @@ use Rattle.serde_json.specs.Events.{items_len, members_len}
 use Rattle.serde_json.specs.Find.{get_item, get_member}
 use Rattle.serde_json.specs.View.{items_of}
 use Rattle.serde_json.proofs.Views.{get_member-put, get_member-put_other}
-use Rattle.postcard_dyn_json.specs.Written.{json_of, json_at, variant_of, all_json, parts_json, items, fields, add_item, add_member, row, tuple, tuple_json, struct_json, group_json, option_json, variant_json, alone, can_be_null}
-use Rattle.postcard_dyn_json.specs.Reading.{IsJsonOf, IsJsonAt, IsVariantJson, IsContentJson, IsOptionJson, IsGroupJson, AreItems, ArePartsFrom, HasLength, layouts_len, part_of}
+use Rattle.postcard_dyn_json.specs.Written.{json_of, json_at, all_json, parts_json, items, fields, add_item, add_member, row, tuple, tuple_json, group_json, option_json, variant_json, alone, can_be_null}
+use Rattle.postcard_dyn_json.specs.Reading.{IsJsonOf, IsJsonAt, IsContentJson, IsOptionJson, AreItems, ArePartsFrom, HasLength, layouts_len}
 use Rattle.postcard_dyn_json.proofs.Rows.{some_is}
 use Rattle.postcard_dyn_json.proofs.BackLeaves.{leaf_back}
 

@@ -1,7 +1,7 @@
 -- A float that is written in JSON is read as the same bits.
 use Prim.Native.Nat.{ℕ, zero, suc, ◌+◌, ◌-◌, ◌*◌, ◌^◌, ◌<◌, ◌≤◌}
 use native.Mathlib.Nat.{mul_assoc, mul_comm, mul_right_comm, eq_of_mul-eq-mul_right, mul-lt-mul_of_pos_right, lt_of_mul-lt-mul_right}
-use lib.Dec.{T, eqb, ltb, leb, ltb→lt, leb→le}
+use lib.Dec.{T, eqb, ltb→lt, leb→le}
 use lib.Pow.{pow-add, pow-lt, pow_pos}
 use lib.Ieee.{Float, Format, nan, inf, fin, binary32, binary64, prec, emax, low, up, down, round, fits, of_bits, to_bits, is_nan, top}
 use lib.Ieee.Bits.{to_bits-of_bits, of_bits-fits}

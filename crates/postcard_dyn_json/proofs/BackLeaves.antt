@@ -1,15 +1,11 @@
 -- The JSON of values without parts that was written is read as the tree that it was written of.
-use Rattle.std.proofs.Common.{◌≡◌, ℕ, ℤ, pos, negsuc, zero, suc, ◌+◌, ◌*◌, ◌<◌, ◌≤◌, ◌^◌, neg_ℤ, Bool, true, false, List, [], ◌∷◌, ◌++◌, map, length, get_or, codes, Option, Some, None, if◌then◌else◌, nat_eq, refl, sym, ap, ap₂, subst, ◌∙◌, true≢false, arith, ◌⊎◌, inl, inr}
-use Rattle.std.specs.Prelude.{Ok, FitsSigned, slice_index, nat_lt, from_bits, ◌≢◌}
+use Rattle.std.proofs.Common.{◌≡◌, ℕ, ℤ, pos, negsuc, zero, suc, ◌<◌, ◌^◌, neg_ℤ, Bool, true, false, List, [], ◌∷◌, map, length, get_or, Some, if◌then◌else◌, refl, sym, ap, subst, ◌∙◌, arith}
+use Rattle.std.specs.Prelude.{FitsSigned, slice_index, nat_lt, ◌≢◌}
 use Rattle.std.specs.Char.{encode_utf8, digit_value}
-use Rattle.std.specs.Float.{Format, binary32, binary64, float_is_finite, round_to_format}
-use Rattle.std.specs.Float.Ieee.{is_nan, of_bits, to_bits, top}
-use Rattle.std.specs.Float.Parse.{parse_float}
-use Rattle.std.specs.Fmt.{decimal, signed_decimal, digits}
+use Rattle.std.specs.Fmt.{decimal, signed_decimal}
 use Rattle.std.specs.Int.{w8, w128, cast_signed}
-use Rattle.std.specs.Str.Parse.{IsNumeral, AllDigits, digits_value, without_leading_plus, without_leading_sign, signed_digits_value}
+use Rattle.std.specs.Str.Parse.{IsNumeral, digits_value, without_leading_plus, without_leading_sign}
 use Rattle.std.proofs.Math.Nat.{pow-suc}
-use Rattle.std.proofs.lemmas.Bool.Decides.{nat_tests}
 use Rattle.std.specs.Bool.{◌==◌}
 use Rattle.std.proofs.lemmas.Fmt.{decimal_is_IsNumeral_wide}
 use Rattle.std.proofs.lemmas.Int.{ints}
@@ -24,15 +20,13 @@ use Rattle.postcard_dyn_schema.specs.declared.schema.Leaf.{Leaf}
 use Rattle.postcard_dyn_schema.specs.declared.schema.Leaf.TheVariants.{U8, U16, U32, U64, U128, I8, I16, I32, I64, I128, F32, F64, Char, Str, Bytes}
 use Rattle.postcard_dyn_schema.specs.declared.schema.Leaf.TheVariants as leaves
 use Rattle.postcard_dyn_schema.specs.Meaning.{leaf, reads}
-use Rattle.postcard_dyn.specs.Tree.{bits_tree}
-use Rattle.postcard_dyn_text.specs.Floats.{SpellsFloat}
 use Rattle.postcard_dyn_text.specs.Spelled.{IsUnsigned, IsSigned}
 use Rattle.postcard_dyn_text.specs.Shown as layouts
 use Rattle.postcard_dyn_text.proofs.Spellings.{unequal}
-use Rattle.serde_json.specs.Data.{Data, boolean, number, string, unsigned, negative, float}
+use Rattle.serde_json.specs.Data.{Data, boolean, number, string, unsigned}
 use Rattle.serde_json.specs.Find.{of_integer}
-use Rattle.postcard_dyn_json.specs.Written.{json_of, leaf_json, unsigned_json, signed_json, is_small, bytes_of, f32_json, f64_json, special_text}
-use Rattle.postcard_dyn_json.specs.Reading.{IsJsonOf, IsLeafJson, IsUnsignedJson, IsSignedJson, IsF32Json, IsF64Json}
+use Rattle.postcard_dyn_json.specs.Written.{json_of, unsigned_json, signed_json, is_small, bytes_of, f32_json, f64_json}
+use Rattle.postcard_dyn_json.specs.Reading.{IsJsonOf, IsUnsignedJson, IsSignedJson, IsF32Json, IsF64Json}
 use Rattle.postcard_dyn_json.proofs.Leaves.{wide_8, wide_16, wide_32, wide_64, wide_128}
 use Rattle.postcard_dyn_json.proofs.BackFloats.{f32_back, f64_back}
 use Rattle.postcard_dyn_json.proofs.Rows.{some_is}

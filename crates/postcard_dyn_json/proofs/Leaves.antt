@@ -1,9 +1,8 @@
 -- Lemmas on values without parts that are read from JSON.
-use Rattle.std.proofs.Common.{◌≡◌, ℕ, ℤ, pos, negsuc, suc, ◌-◌, ◌<◌, ◌≤◌, ◌^◌, Bool, true, false, List, [], ◌∷◌, ◌++◌, map, length, refl, sym, ap, subst, ◌∙◌, append-nil, arith, ◌⊎◌, inl, inr}
+use Rattle.std.proofs.Common.{◌≡◌, ℕ, ℤ, pos, negsuc, suc, ◌-◌, ◌<◌, ◌≤◌, ◌^◌, Bool, true, List, [], ◌∷◌, ◌++◌, map, length, refl, sym, ap, subst, ◌∙◌, append-nil, arith, ◌⊎◌, inl, inr}
 use Rattle.std.specs.Bool.{◌==◌}
 use Rattle.std.specs.Char.{encode_utf8, IsScalar}
-use Rattle.std.specs.Float.{Format, binary32, binary64}
-use Rattle.std.specs.Int.{w8, w128, cast_signed, cast_unsigned}
+use Rattle.std.specs.Int.{w8, w128, cast_signed}
 use Rattle.std.proofs.lemmas.Int.{ints, to_z_pos}
 use Rattle.std.proofs.Math.Facts.{to_z-neg}
 use Rattle.std.proofs.Math.Dec.{eqb-suc-zero}
@@ -18,7 +17,7 @@ use Rattle.postcard_dyn_schema.specs.declared.schema.Leaf.{Leaf}
 use Rattle.postcard_dyn_schema.specs.Meaning.{leaf}
 use Rattle.postcard_dyn_schema.specs.Text.{TakesPhrase, IsSign}
 use Rattle.postcard_dyn.specs.Tree.{bits_tree}
-use Rattle.postcard_dyn_text.specs.Floats.{SpellsFloat, EndsFloat}
+use Rattle.postcard_dyn_text.specs.Floats.{EndsFloat}
 use Rattle.postcard_dyn_text.specs.Shown as layouts
 use Rattle.serde_json.specs.Data.{Data, boolean, number, string, unsigned, negative}
 use Rattle.postcard_dyn_json.specs.Reading.{Reading, IsLeafJson, IsUnsignedJson, IsSignedJson, IsF32Json, IsF64Json}

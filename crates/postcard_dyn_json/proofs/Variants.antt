@@ -7,7 +7,7 @@ use Rattle.postcard_wire.specs.Tree as nodes
 use Rattle.postcard_dyn_schema.specs.declared.schema.Schema.{Schema}
 use Rattle.postcard_dyn_schema.specs.Lemmas.{type_at}
 use Rattle.postcard_dyn_schema.specs.Meaning.{MessageType, group, no_types, choice, type_of, types_of, reads, reads_at}
-use Rattle.postcard_dyn_text.specs.Accepted.{HasDistinctNames, HaveDistinctNames, NamesDiffer}
+use Rattle.postcard_dyn_text.specs.Accepted.{HasDistinctNames, NamesDiffer}
 use Rattle.postcard_dyn_text.specs.Shown.{Layout, named, no_layouts, then_layout, layout_of, layouts_of, is_empty_group}
 use Rattle.postcard_dyn_text.specs.Shown as layouts
 use Rattle.postcard_dyn_text.proofs.Choices.{one_before, called_layout, distinct_at}

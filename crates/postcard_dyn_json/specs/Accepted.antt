@@ -1,6 +1,6 @@
 -- When JSON must be read: it is read as the only tree that it spells.
 use Rattle.std.specs.Prelude.{◌≡◌, ℕ, Bool, List, Option, MatchOption, Result, MatchResult, Some, ◌⊎◌}
-use Rattle.postcard_wire.specs.Tree.{Tree, Trees}
+use Rattle.postcard_wire.specs.Tree.{Trees}
 use Rattle.postcard_dyn_schema.specs.declared.schema.Leaf.{Leaf}
 use Rattle.postcard_dyn_schema.specs.declared.schema.Leaf.TheVariants.{U8, U16, U32, U64, U128, I8, I16, I32, I64, I128}
 use Rattle.postcard_dyn_schema.specs.declared.schema.Schema.{Schema}

@@ -1,6 +1,6 @@
 -- Which JSON is read as a tree of a type with names: what `json_of` gives, and other forms of numbers, of byte strings and of
 -- floats. Members may stand in any order.
-use Rattle.std.specs.Prelude.{◌≡◌, ℕ, zero, suc, ℤ, pos, Bool, true, false, List, [], ◌∷◌, map, codes, Result, Some, None, Ok, to_bits, Option}
+use Rattle.std.specs.Prelude.{◌≡◌, ℕ, zero, suc, ℤ, pos, Bool, true, false, List, map, codes, Some, None, Ok, to_bits, Option}
 use Rattle.std.specs.Char.{encode_utf8}
 use Rattle.std.specs.Float.{binary32, binary64, round_to_format}
 use Rattle.std.specs.Int.{w8, cast_signed}

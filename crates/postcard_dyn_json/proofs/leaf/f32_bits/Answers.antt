@@ -1,7 +1,6 @@
-use Rattle.std.proofs.Common.{◌≡◌, ℕ, false, [], length, sym, ap, subst, ◌∙◌, true≢false}
+use Rattle.std.proofs.Common.{◌≡◌, [], length, sym, ap, subst, ◌∙◌, true≢false}
 use Rattle.std.specs.Bool.{◌==◌}
 use Rattle.std.specs.Float.{binary32}
-use Rattle.postcard_dyn_schema.specs.Text.{TakesPhrase}
 use Rattle.postcard_dyn_text.specs.Floats.{SpellsFloat}
 use Rattle.serde_json.specs.Data.{string}
 use Rattle.serde_json.specs.View.{view}

@@ -1,4 +1,4 @@
-use Rattle.std.proofs.Common.{◌≡◌, ℕ, ◌+◌, ◌<◌, ◌^◌, ◌++◌, true, false, [], ◌∷◌, map, take, length, vec_len, get_or, codes, string_bytes, Some, None, Vec, Global, refl, sym, ap, subst, ◌∙◌, true≢false, take_all, arith, rules}
+use Rattle.std.proofs.Common.{◌≡◌, ◌+◌, ◌<◌, ◌^◌, ◌++◌, true, false, [], ◌∷◌, map, take, length, vec_len, get_or, codes, string_bytes, Vec, Global, sym, ap, subst, ◌∙◌, true≢false, take_all, arith, rules}
 use Rattle.std.specs.Prelude.{is_some}
 use Rattle.std.specs.Bool.{◌==◌}
 use Rattle.std.proofs.lemmas.Bool.Decides.{Decides-ltb}
@@ -7,7 +7,6 @@ use Rattle.std.proofs.lemmas.List.{take_more}
 use Rattle.postcard_wire.specs.Tree.{Trees, trees, count}
 use Rattle.postcard_wire.specs.Tree as nodes
 use Rattle.postcard_ser.proofs.Elements.{elements_count}
-use Rattle.postcard_dyn_schema.specs.declared.schema.Schema.TheVariants.{Named}
 use Rattle.postcard_dyn_schema.specs.declared.schema.Schema as schemas
 use Rattle.postcard_dyn_schema.specs.Meaning.{type_of, types_of}
 use Rattle.postcard_dyn_schema.specs.Meaning as types

@@ -1,11 +1,10 @@
-use Rattle.std.proofs.Common.{◌≡◌, ℕ, true, false, length, vec_len, sym, ◌∙◌, true≢false, arith}
+use Rattle.std.proofs.Common.{◌≡◌, length, vec_len, sym, ◌∙◌, true≢false, arith}
 use Rattle.std.proofs.lemmas.Grind.{common_steps}
 use Rattle.std.proofs.lemmas.Bool.Decides.{Decides-eqb}
 use Rattle.serde_json.specs.Data.{object}
 use Rattle.serde_json.specs.Data as values
 use Rattle.serde_json.specs.View.{view, items_view, members_view}
 use Rattle.serde_json.proofs.Views.{items_len-items_view, members_len-members_view}
-use Rattle.postcard_dyn_json.specs.Reading.{HasLength}
 use Rattle.postcard_dyn_json.proofs.Forms.{object_is, array_is}
 use Rattle.postcard_dyn_json.proofs.read.has_length.Goals as goal
 

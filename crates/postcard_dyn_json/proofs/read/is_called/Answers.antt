@@ -1,5 +1,4 @@
-use Rattle.std.proofs.Common.{◌≡◌, string_bytes, true, refl, sym, ap, subst, ◌∙◌, inl, inr}
-use Rattle.std.specs.Prelude.{is_some, IfSome}
+use Rattle.std.proofs.Common.{◌≡◌, string_bytes, refl, sym, ap, ◌∙◌, inl, inr}
 use Rattle.serde_json.specs.Data.{string}
 use Rattle.serde_json.specs.View.{view}
 use Rattle.postcard_dyn_json.specs.Written.{alone}

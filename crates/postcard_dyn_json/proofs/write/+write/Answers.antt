@@ -1,4 +1,4 @@
-use Rattle.std.proofs.Common.{◌≡◌, ◌+◌, ◌<◌, ◌++◌, true, false, [], ◌∷◌, map, take, length, vec_len, string_bytes, Some, option_map, is_some, nat_cmp, refl, sym, ap, ap₂, ◌∙◌, add-one, take_all, arith, rules}
+use Rattle.std.proofs.Common.{◌≡◌, ◌<◌, ◌++◌, true, false, [], ◌∷◌, map, take, length, vec_len, string_bytes, Some, option_map, is_some, nat_cmp, refl, sym, ap, ap₂, ◌∙◌, add-one, take_all, arith, rules}
 use Rattle.std.specs.Bool.{◌==◌}
 use Rattle.std.specs.BTreeMap.{is_at}
 use Rattle.std.specs.Cmp.Lexicographic.{slice_cmp}

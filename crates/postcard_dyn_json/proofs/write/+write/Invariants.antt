@@ -2,7 +2,7 @@
 use Rattle.std.proofs.Common.{◌≡◌, [], map, take, Some}
 use Rattle.postcard_wire.specs.Tree.{trees}
 use Rattle.postcard_dyn.specs.Tree.{tree}
-use Rattle.postcard_dyn_text.specs.Shown.{layout_of, layouts_of}
+use Rattle.postcard_dyn_text.specs.Shown.{layout_of}
 use Rattle.serde_json.specs.Data.{no_members}
 use Rattle.serde_json.specs.View.{view, members_view}
 use Rattle.postcard_dyn_json.specs.Written.{json_of, all_json, parts_json, add_item, add_member}
