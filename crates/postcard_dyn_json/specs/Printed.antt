@@ -1,13 +1,16 @@
 -- The places of errors, and the texts as which errors are printed.
-use Rattle.std.specs.Prelude.{◌≡◌, ℕ, ◌⊎◌, List, [], ◌∷◌, ◌++◌, codes, string_bytes, nat_eq, if◌then◌else◌}
+use Rattle.std.specs.Prelude.{◌≡◌, ℕ, ◌+◌, ◌≤◌, ◌⊎◌, List, [], ◌∷◌, ◌++◌, codes, string_bytes, nat_eq, if◌then◌else◌}
 use Rattle.std.specs.Fmt.{decimal}
 use Rattle.postcard_dyn_schema.specs.declared.schema.Leaf.{Leaf}
 use Rattle.postcard_dyn_schema.specs.declared.schema.Leaf.TheVariants as leaves
+use Rattle.postcard_dyn_schema.specs.Text.{characters}
 use Rattle.postcard_dyn_text.specs.Shown.{Layout, named}
 use Rattle.postcard_dyn_json.specs.declared.error.Expected.{Expected}
 use Rattle.postcard_dyn_json.specs.declared.error.Expected.TheVariants as places
 use Rattle.postcard_dyn_json.specs.declared.error.JsonError.{JsonError}
 use Rattle.postcard_dyn_json.specs.declared.error.JsonError.TheVariants.{NotAValue, OutOfMemory}
+use Rattle.postcard_dyn_json.specs.declared.text.JsonTextError.{JsonTextError}
+use Rattle.postcard_dyn_json.specs.declared.text.JsonTextError.TheVariants as text_errors
 
 -- What stands before a path that goes on from another: `.`, but nothing before an index or at the end.
 abbrev pub dot_before : List ℕ → List ℕ
@@ -58,6 +61,7 @@ expected_text places.Null = codes "null"
 expected_text (places.ObjectOf count) = codes "an object with " ++ (decimal count ++ codes " members")
 expected_text places.Present = codes "a value"
 expected_text places.Variant = codes "a variant"
+expected_text places.Json = codes "JSON"
 
 -- What stands after a path.
 abbrev pub colon_after : List ℕ → List ℕ
@@ -68,3 +72,13 @@ colon_after (b ∷ path) = codes ": "
 abbrev pub json_error_text : JsonError → List ℕ
 json_error_text (NotAValue path expected) = string_bytes path ++ (colon_after (string_bytes path) ++ (codes "expected " ++ expected_text expected))
 json_error_text OutOfMemory = codes "out of memory"
+
+-- The place is the number of a character of the text, counted from 1, or the next number after the last.
+abbrev pub IsPlaceIn : List ℕ → JsonTextError → Type 0
+IsPlaceIn text (text_errors.NotAValue character expected) = (1 ≤ character) × (character ≤ characters text + 1)
+IsPlaceIn text text_errors.OutOfMemory = Unit {0}
+
+-- The text of an error of reading a text.
+abbrev pub text_error_text : JsonTextError → List ℕ
+text_error_text (text_errors.NotAValue character expected) = codes "bad value at character " ++ (decimal character ++ (codes ": expected " ++ expected_text expected))
+text_error_text text_errors.OutOfMemory = codes "out of memory"

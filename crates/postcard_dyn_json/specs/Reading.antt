@@ -17,6 +17,7 @@ use Rattle.postcard_dyn_text.specs.Spelled.{IsUnsigned, IsSigned}
 use Rattle.serde_json.specs.Data.{Data, Items, null, boolean, number, string, object, unsigned, negative, no_items, item}
 use Rattle.serde_json.specs.Data as values
 use Rattle.serde_json.specs.Events.{items_len, members_len}
+use Rattle.serde_json.specs.Read.{read}
 use Rattle.serde_json.specs.Find.{get, at, to_float}
 use Rattle.postcard_dyn_json.specs.Written.{can_be_null, alone}
 
@@ -150,3 +151,7 @@ abbrev mutual
   pub IsVariantJson : Layout → Reading
   IsVariantJson (named n x) t d = IsContentJson n x (IsJsonOf x) t d
   IsVariantJson x t d = ⊥
+
+-- The text is JSON that is read as the tree, as one of the type.
+abbrev pub IsJsonText : Layout → Tree → List ℕ → Type 0
+IsJsonText x t text = (d : Data) × (read text ≡ Some d) × IsJsonOf x t d

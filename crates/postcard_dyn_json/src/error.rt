@@ -30,6 +30,8 @@ pub enum Expected {
     Present,
     /// The name of a variant, or an object with the name and the content of a variant alone.
     Variant,
+    /// JSON, in a text that isn't.
+    Json,
 }
 
 /// The error of reading a value from JSON. It is printed as `samples[1].id: expected u8`.
@@ -122,6 +124,7 @@ impl fmt::Display for Expected {
             Expected::ObjectOf(count) => write!(f, "an object with {count} members"),
             Expected::Present => f.write_str("a value"),
             Expected::Variant => f.write_str("a variant"),
+            Expected::Json => f.write_str("JSON"),
         }
     }
 }

@@ -20,9 +20,12 @@
 
 pub mod error;
 pub mod leaf;
+mod place;
 pub mod read;
+pub mod text;
 pub mod write;
 
 pub use error::{Expected, JsonError};
 pub use read::from_json;
+pub use text::{JsonTextError, read_json};
 pub use write::to_json;
