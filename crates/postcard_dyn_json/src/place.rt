@@ -4,7 +4,7 @@ use postcard_dyn::scan::{skip_blanks, take};
 
 /// Returns what is left of a JSON text from the part with this path on, as `samples[1].id`, or from
 /// the last part on the way to it that the text has.
-pub fn from_part<'a>(text: &'a [u8], path: &[u8]) -> &'a [u8] {
+pub(crate) fn from_part<'a>(text: &'a [u8], path: &[u8]) -> &'a [u8] {
     let mut rest = text;
     skip_blanks(&mut rest);
     for step in path.split(|byte| *byte == b'.' || *byte == b'[') {
@@ -18,7 +18,7 @@ pub fn from_part<'a>(text: &'a [u8], path: &[u8]) -> &'a [u8] {
 }
 
 /// Returns what is left of a text from this line and column on, each counted from 1.
-pub fn from_line(text: &[u8], line: usize, column: usize) -> &[u8] {
+pub(crate) fn from_line(text: &[u8], line: usize, column: usize) -> &[u8] {
     let mut rest = text;
     for _ in 1..line {
         rest = match rest.iter().position(|byte| *byte == b'\n') {

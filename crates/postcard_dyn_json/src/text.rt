@@ -82,11 +82,12 @@ fn syntax_error(text: &str, error: &Error) -> JsonTextError
     if error.is_memory() {
         return JsonTextError::OutOfMemory;
     }
-    let left = from_line(text.as_bytes(), error.line(), error.column()).len();
-    JsonTextError::NotAValue {
-        character: character_of(text.as_bytes(), left),
-        expected: Expected::Json,
-    }
+    let left = if error.is_eof() {
+        0
+    } else {
+        from_line(text.as_bytes(), error.line(), error.column()).len()
+    };
+    not_a_value(text, left, Expected::Json)
 }
 
 /// Returns the error for JSON that is no value of the schema.
@@ -95,13 +96,20 @@ fn error_in(text: &str, error: &JsonError) -> JsonTextError
     ensures memory { error.now ≡ errors.OutOfMemory → result ≡ JsonTextError.OutOfMemory }
 {
     match error {
-        JsonError::NotAValue { path, expected } => JsonTextError::NotAValue {
-            character: character_of(
-                text.as_bytes(),
-                from_part(text.as_bytes(), path.as_bytes()).len(),
-            ),
-            expected: *expected,
-        },
+        JsonError::NotAValue { path, expected } => {
+            let rest = from_part(text.as_bytes(), path.as_bytes());
+            not_a_value(text, rest.len(), *expected)
+        }
         JsonError::OutOfMemory => JsonTextError::OutOfMemory,
+    }
+}
+
+/// Returns the error at the character that begins `left` bytes before the end of the text.
+fn not_a_value(text: &str, left: usize, expected: Expected) -> JsonTextError
+    ensures place { IsPlaceIn text.now result }
+{
+    JsonTextError::NotAValue {
+        character: character_of(text.as_bytes(), left),
+        expected,
     }
 }

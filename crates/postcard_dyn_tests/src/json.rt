@@ -2,7 +2,7 @@
 
 use crate::helpers::{text_of, type_of, value_of};
 use crate::same::same;
-use postcard_dyn_json::{from_json, to_json};
+use postcard_dyn_json::{from_json, read_json, to_json};
 use serde_json::Value as Json;
 use std::process::Abort;
 
@@ -56,9 +56,17 @@ const WRITTEN: [(&str, &str, &str); 42] = [
         "{1 => Some(\"a\"), 1 => None}",
         "[[1,\"a\"],[1,null]]",
     ),
-    ("{str => u8}", "{\"b\" => 1, \"a\" => 2}", "[[\"b\",1],[\"a\",2]]"),
+    (
+        "{str => u8}",
+        "{\"b\" => 1, \"a\" => 2}",
+        "[[\"b\",1],[\"a\",2]]",
+    ),
     ("{u8 => u8}", "{}", "[]"),
-    ("Boot | Reading(u16, i32) | Fault{code: u8}", "Boot", "\"Boot\""),
+    (
+        "Boot | Reading(u16, i32) | Fault{code: u8}",
+        "Boot",
+        "\"Boot\"",
+    ),
     (
         "Boot | Reading(u16, i32) | Fault{code: u8}",
         "Reading(1, -2)",
@@ -69,11 +77,15 @@ const WRITTEN: [(&str, &str, &str); 42] = [
         "Fault{code: 7}",
         "{\"Fault\":{\"code\":7}}",
     ),
-    ("[A | B(u8?)]", "[A, B(None), B(Some(3))]", "[\"A\",{\"B\":null},{\"B\":3}]"),
+    (
+        "[A | B(u8?)]",
+        "[A, B(None), B(Some(3))]",
+        "[\"A\",{\"B\":null},{\"B\":3}]",
+    ),
 ];
 
 /// Types and JSON, each beside the text of the value, or the error as it is printed.
-const READ: [(&str, &str, &str); 38] = [
+const READ: [(&str, &str, &str); 40] = [
     ("u8", "\"7\"", "7"),
     ("i64", "\"-12\"", "-12"),
     ("u64", "9007199254740993", "9007199254740993"),
@@ -99,19 +111,105 @@ const READ: [(&str, &str, &str); 38] = [
     ("char", "\"\"", "expected char"),
     ("bytes", "\"abc\"", "expected bytes"),
     ("bytes", "\"0g\"", "expected bytes"),
-    ("u8??", "1", "expected null or an object with the member Some alone"),
-    ("u8??", "{\"Some\":1,\"a\":2}", "expected null or an object with the member Some alone"),
+    (
+        "{a: u8, b: u8}",
+        "{\"a\":1}",
+        "expected an object with 2 members",
+    ),
+    ("u8??", "{\"Some\":256}", "Some: expected u8"),
+    (
+        "u8??",
+        "1",
+        "expected null or an object with the member Some alone",
+    ),
+    (
+        "u8??",
+        "{\"Some\":1,\"a\":2}",
+        "expected null or an object with the member Some alone",
+    ),
     ("()", "[]", "expected null"),
     ("[u8]", "{}", "expected an array"),
     ("[u8; 2]", "[1]", "expected an array of length 2"),
     ("(u8, u8)", "[1,2,3]", "expected an array of length 2"),
-    ("{a: u8}", "{\"a\":1,\"b\":2}", "expected an object with 1 members"),
+    (
+        "{a: u8}",
+        "{\"a\":1,\"b\":2}",
+        "expected an object with 1 members",
+    ),
     ("{a: u8}", "{\"b\":2}", "a: expected a value"),
     ("A | B(u8)", "\"B\"", "expected a variant"),
     ("A | B(u8)", "{\"A\":null}", "expected a variant"),
     ("A | B(u8)", "{\"B\":256}", "B: expected u8"),
-    ("{samples: [{id: u8}]}", "{\"samples\":[{\"id\":1},{\"id\":256}]}", "samples[1].id: expected u8"),
-    ("{u8 => [u8]}", "[[1,[2]],[3,[4,-1]]]", "[1][1][1]: expected u8"),
+    (
+        "{samples: [{id: u8}]}",
+        "{\"samples\":[{\"id\":1},{\"id\":256}]}",
+        "samples[1].id: expected u8",
+    ),
+    (
+        "{u8 => [u8]}",
+        "[[1,[2]],[3,[4,-1]]]",
+        "[1][1][1]: expected u8",
+    ),
+];
+
+/// Types and JSON texts, each beside the error as it is printed, or the text of the value.
+const TEXTS: [(&str, &str, &str); 16] = [
+    ("(u8, str)", " [1, \"a\"]\n", "(1, \"a\")"),
+    ("{a: u8}", "{\"a\": 300, \"a\": 1}", "{a: 1}"),
+    ("u8", "\n  300", "bad value at character 4: expected u8"),
+    (
+        "{samples: [{id: u8}]}",
+        "{\"samples\": [{\"id\": 1}, {\"id\": 256}]}",
+        "bad value at character 32: expected u8",
+    ),
+    (
+        "(str, u8)",
+        "[\"\u{e9}\", 256]",
+        "bad value at character 7: expected u8",
+    ),
+    (
+        "(str, u8)",
+        "[\"a\\\"]\", 256]",
+        "bad value at character 10: expected u8",
+    ),
+    (
+        "([[u8]], u8)",
+        "[[[1, 2], [3]], 256]",
+        "bad value at character 17: expected u8",
+    ),
+    (
+        "u8??",
+        "{\"Some\": 256}",
+        "bad value at character 10: expected u8",
+    ),
+    (
+        "{a: u8}",
+        "{\"a\": 1, \"a\": 300}",
+        "bad value at character 15: expected u8",
+    ),
+    (
+        "{a: u8, b: u8}",
+        "{\"a\": 1, \"c\": 2}",
+        "bad value at character 1: expected a value",
+    ),
+    (
+        "A | B(u8)",
+        "{\"B\": -1}",
+        "bad value at character 7: expected u8",
+    ),
+    (
+        "{u8 => [u8]}",
+        "[[1, []], [2, [3, null]]]",
+        "bad value at character 19: expected u8",
+    ),
+    ("[u8]", "[1, 2", "bad value at character 6: expected JSON"),
+    ("[u8]", "[1,, 2]", "bad value at character 4: expected JSON"),
+    (
+        "[u8]",
+        "[1,\n 2,\n x]",
+        "bad value at character 10: expected JSON",
+    ),
+    ("[u8]", "", "bad value at character 1: expected JSON"),
 ];
 
 #[test]
@@ -119,9 +217,9 @@ fn writes_and_reads_json(rt: HostRuntime) {
     for (kind, text, json) in &WRITTEN {
         let schema = type_of(&rt, kind);
         let value = value_of(&rt, &schema, text);
-        let Some(found) = to_json(rt.alloc(), &schema, &value).expect(&rt, "memory") else {
-            panic!(rt; "{text} has no JSON")
-        };
+        let found = to_json(rt.alloc(), &schema, &value)
+            .expect(&rt, "memory")
+            .expect(&rt, text);
         let printed = found.to_string(rt.alloc()).expect(&rt, "memory");
         same(&rt, printed.as_str(), *json, (kind, text));
         check_read(&rt, kind, json, text);
@@ -132,6 +230,18 @@ fn writes_and_reads_json(rt: HostRuntime) {
 fn reads_other_json_and_refuses(rt: HostRuntime) {
     for (kind, json, wanted) in &READ {
         check_read(&rt, kind, json, wanted);
+    }
+}
+
+#[test]
+fn reads_json_texts(rt: HostRuntime) {
+    for (kind, json, wanted) in &TEXTS {
+        let schema = type_of(&rt, kind);
+        let printed = match read_json(rt.alloc(), &schema, json) {
+            Ok(value) => text_of(&rt, &schema, &value),
+            Err(error) => format!(in rt.alloc(); "{error}").expect(&rt, "memory"),
+        };
+        same(&rt, printed.as_str(), *wanted, (kind, json));
     }
 }
 
