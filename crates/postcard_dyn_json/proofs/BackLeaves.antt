@@ -20,7 +20,7 @@ use Rattle.postcard_dyn_schema.specs.declared.schema.Leaf.{Leaf}
 use Rattle.postcard_dyn_schema.specs.declared.schema.Leaf.TheVariants.{U8, U16, U32, U64, U128, I8, I16, I32, I64, I128, F32, F64, Char, Str, Bytes}
 use Rattle.postcard_dyn_schema.specs.declared.schema.Leaf.TheVariants as leaves
 use Rattle.postcard_dyn_schema.specs.Meaning.{leaf, reads}
-use Rattle.postcard_dyn_text.specs.Spelled.{IsUnsigned, IsSigned}
+use Rattle.postcard_dyn_json.specs.Reading.{IsUnsigned, IsSigned}
 use Rattle.postcard_dyn_text.specs.Shown as layouts
 use Rattle.postcard_dyn_text.proofs.Spellings.{unequal}
 use Rattle.serde_json.specs.Data.{Data, boolean, number, string, unsigned}
