@@ -4,6 +4,7 @@ use Rattle.std.specs.Prelude.{◌≡◌, ℕ, zero, suc, ℤ, pos, Bool, true, f
 use Rattle.std.specs.Char.{encode_utf8}
 use Rattle.std.specs.Float.{binary32, binary64, round_to_format}
 use Rattle.std.specs.Int.{w8, cast_signed}
+use Rattle.std.specs.Str.Parse.{IsNumeral, digits_value, signed_digits_value, without_leading_plus, without_leading_sign}
 use Rattle.hex.specs.Hex.{decode_of}
 use Rattle.postcard_wire.specs.Tree.{Tree, Trees, Byte, Boolean, Num, Int, Text, NoTrees, Then, trees}
 use Rattle.postcard_wire.specs.Tree as nodes
@@ -13,13 +14,19 @@ use Rattle.postcard_dyn_schema.specs.declared.schema.Leaf.TheVariants as leaves
 use Rattle.postcard_dyn.specs.Tree.{bits_tree}
 use Rattle.postcard_dyn_text.specs.Floats.{SpellsFloat}
 use Rattle.postcard_dyn_text.specs.Shown.{Layout, Layouts, leaf, option, list, mapping, array, group, choice, named, no_layouts, then_layout, have_names}
-use Rattle.postcard_dyn_text.specs.Spelled.{IsUnsigned, IsSigned}
 use Rattle.serde_json.specs.Data.{Data, Items, null, boolean, number, string, object, unsigned, negative, no_items, item}
 use Rattle.serde_json.specs.Data as values
 use Rattle.serde_json.specs.Events.{items_len, members_len}
 use Rattle.serde_json.specs.Read.{read}
 use Rattle.serde_json.specs.Find.{get, at, to_float}
 use Rattle.postcard_dyn_json.specs.Written.{can_be_null, alone}
+
+-- The text is a number in decimal digits, with a sign or without, as std reads it.
+abbrev pub IsUnsigned : ℕ → List ℕ → Type 0
+IsUnsigned n text = IsNumeral 10 (without_leading_plus text) × (n ≡ digits_value 10 (without_leading_plus text))
+
+abbrev pub IsSigned : ℤ → List ℕ → Type 0
+IsSigned z text = IsNumeral 10 (without_leading_sign text) × (z ≡ signed_digits_value 10 text)
 
 -- The JSON is the number n: as a number, or as a string of decimal digits, which may have leading zeros and a `+`.
 abbrev pub IsUnsignedJson : ℕ → Data → Type 0
