@@ -20,13 +20,12 @@ use Rattle.postcard_dyn_schema.specs.declared.schema.Leaf.{Leaf}
 use Rattle.postcard_dyn_schema.specs.declared.schema.Leaf.TheVariants.{U8, U16, U32, U64, U128, I8, I16, I32, I64, I128, F32, F64, Char, Str, Bytes}
 use Rattle.postcard_dyn_schema.specs.declared.schema.Leaf.TheVariants as leaves
 use Rattle.postcard_dyn_schema.specs.Meaning.{leaf, reads}
-use Rattle.postcard_dyn_json.specs.Reading.{IsUnsigned, IsSigned}
 use Rattle.postcard_dyn_text.specs.Shown as layouts
 use Rattle.postcard_dyn_text.proofs.Spellings.{unequal}
 use Rattle.serde_json.specs.Data.{Data, boolean, number, string, unsigned}
 use Rattle.serde_json.specs.Find.{of_integer}
 use Rattle.postcard_dyn_json.specs.Written.{json_of, unsigned_json, signed_json, is_small, bytes_of, f32_json, f64_json}
-use Rattle.postcard_dyn_json.specs.Reading.{IsJsonOf, IsUnsignedJson, IsSignedJson, IsF32Json, IsF64Json}
+use Rattle.postcard_dyn_json.specs.Reading.{IsJsonOf, IsUnsigned, IsSigned, IsUnsignedJson, IsSignedJson, IsF32Json, IsF64Json}
 use Rattle.postcard_dyn_json.proofs.Leaves.{wide_8, wide_16, wide_32, wide_64, wide_128}
 use Rattle.postcard_dyn_json.proofs.BackFloats.{f32_back, f64_back}
 use Rattle.postcard_dyn_json.proofs.Rows.{some_is}

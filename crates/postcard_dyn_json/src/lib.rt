@@ -1,4 +1,5 @@
-//! JSON of values whose type is known only at run time: [`to_json`] and [`from_json`].
+//! JSON of values whose type is known only at run time: [`to_json`], [`from_json`], and from a text
+//! [`read_json`].
 //!
 //! A bool is `true` or `false`, and a number a number, but from 2^53 on a string of its decimal
 //! digits, since many readers of JSON keep no greater ones; either form is read, whatever the
@@ -14,8 +15,9 @@
 //! its content, `{"Reading": [1, -2]}`.
 //!
 //! The contract of [`to_json`] says which JSON a value has. That of [`from_json`] says that the JSON
-//! is one of the value's, and that JSON which is one of some value's is read if memory suffices. No
-//! clause says that a value of the schema has JSON.
+//! is one of the value's, that JSON which is one of some value's is read if memory suffices, and that
+//! what [`to_json`] returned is read as the same value. No clause says that a value of the schema
+//! has JSON.
 #![tactic(auto)]
 
 pub mod error;
