@@ -195,7 +195,14 @@ performs_no_more syntax (Explain expression hex all) known left old mid new d no
   uncut = d.uncut;
   printed = rows_no_more d.layout 0 d.lines old mid new d.printed none;
 }
-performs_no_more syntax (Size expression) known left old mid new d none = (d.0, d.1, appends_no_more old mid new _ d.2 none)
+performs_no_more syntax (Size expression) known left old mid new d none = record {
+  schema = d.schema;
+  spelled = d.spelled;
+  least = d.least;
+  is_least = d.is_least;
+  frames = d.frames;
+  printed = appends_no_more old mid new _ d.printed none;
+}
 performs_no_more syntax Types known left old mid new d none = appends_no_more old mid new syntax d none
 performs_no_more syntax (Checksum name hex) known left old mid new d none = record {
   checksum = d.checksum;
