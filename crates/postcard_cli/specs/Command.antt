@@ -28,12 +28,17 @@ name_of Str = codes "str"
 name_of ListU8 = codes "list-u8"
 name_of ListU32 = codes "list-u32"
 
--- Whether the word begins with `(`, `[` or `{`, ends with `?` or `>`, holds a `|`, or is `f32` or `f64`.
-abbrev pub looks_like_expression : List ℕ → TruthValue
-looks_like_expression word =
+-- Whether the word begins with `(`, `[`, `{` or `&`.
+abbrev pub begins_expression : List ℕ → TruthValue
+begins_expression word =
     if starts_with nat_eq word (40 ∷ []) then true else
     if starts_with nat_eq word (91 ∷ []) then true else
-    if starts_with nat_eq word (123 ∷ []) then true else
+    if starts_with nat_eq word (123 ∷ []) then true else starts_with nat_eq word (38 ∷ [])
+
+-- Whether the word begins so, ends with `?` or `>`, holds a `|`, or is `f32` or `f64`.
+abbrev pub looks_like_expression : List ℕ → TruthValue
+looks_like_expression word =
+    if begins_expression word then true else
     if ends_with nat_eq word (63 ∷ []) then true else
     if ends_with nat_eq word (62 ∷ []) then true else
     if list_any (λ b. nat_eq b 124) word then true else

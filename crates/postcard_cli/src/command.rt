@@ -2,7 +2,7 @@
 
 ghost use Rattle.std.specs.Prelude.{◌≡◌, ◌≢◌, ℕ, [], ◌∷◌, codes, IfSome, IfNone, map, string_bytes};
 ghost use Rattle.postcard_cli.specs.Command.{IsCallOf, IsNoCall, IsWordOf, SaysLongest};
-ghost use Rattle.postcard_cli.specs.Command.{looks_like_expression, name_of};
+ghost use Rattle.postcard_cli.specs.Command.{begins_expression, looks_like_expression, name_of};
 ghost use Rattle.postcard_cli.specs.declared.command.TypeWord.{TypeWord};
 ghost use Rattle.postcard_cli.specs.declared.command.ValueType.{ValueType};
 
@@ -55,20 +55,28 @@ impl ValueType {
     }
 }
 
-/// Returns whether a word counts as a type expression: whether it begins with `(`, `[` or `{`, ends
-/// with `?` or `>`, has a `|` in it, or is `f32` or `f64`. No name of a type does.
+/// Returns whether a word counts as a type expression: whether it begins with `(`, `[`, `{` or `&`,
+/// ends with `?` or `>`, has a `|` in it, or is `f32` or `f64`. No name of a type does.
 pub fn is_expression(word: &str) -> bool
     ensures { result ≡ looks_like_expression word.now }
 {
     let bytes = word.as_bytes();
-    bytes.starts_with(b"(")
-        || bytes.starts_with(b"[")
-        || bytes.starts_with(b"{")
+    opens_expression(bytes)
         || bytes.ends_with(b"?")
         || bytes.ends_with(b">")
         || bytes.contains(&b'|')
         || bytes == b"f32".as_slice()
         || bytes == b"f64".as_slice()
+}
+
+/// Returns whether a word begins with `(`, `[`, `{` or `&`.
+fn opens_expression(word: &[u8]) -> bool
+    ensures { result ≡ begins_expression word.now }
+{
+    word.starts_with(b"(")
+        || word.starts_with(b"[")
+        || word.starts_with(b"{")
+        || word.starts_with(b"&")
 }
 
 /// The type that the word TYPE stands for.
