@@ -19,6 +19,8 @@ mod frames;
 #[cfg(test)]
 mod helpers;
 #[cfg(test)]
+mod json;
+#[cfg(test)]
 mod limits;
 #[cfg(test)]
 mod output;
