@@ -127,6 +127,21 @@ pub enum Command<'a> {
         expression: &'a str,
         hex: &'a str,
     },
+    /// `enc --json TYPE JSON`, where TYPE is taken as an expression.
+    EncodeJson {
+        expression: &'a str,
+        text: &'a str,
+    },
+    /// `dec --json TYPE HEX`, where TYPE is taken as an expression.
+    DecodeJson {
+        expression: &'a str,
+        hex: &'a str,
+    },
+    /// `decs --json TYPE HEX`, where TYPE is taken as an expression.
+    DecodeAllJson {
+        expression: &'a str,
+        hex: &'a str,
+    },
     /// `frames`.
     Frames,
     /// `frames TYPE` or `frames --longest N TYPE`, where TYPE is an expression, and a frame has at
@@ -283,6 +298,39 @@ impl<'a> Command<'a> {
         match command {
             "explain" => Command::uncut(option, third, fourth),
             "frames" => Command::limited(option, third, fourth),
+            _ => Command::in_json(command, option, third, fourth),
+        }
+    }
+
+    /// Returns the command of a call of four words, the first of which is neither `explain` nor
+    /// `frames`: a command, an option, a type and a text.
+    fn in_json(
+        command: &'a str,
+        option: &'a str,
+        kind: &'a str,
+        text: &'a str,
+    ) -> Option<Command<'a>>
+        ensures found { IfSome result (λ found.
+            IsCallOf (command.now ∷ option.now ∷ kind.now ∷ text.now ∷ []) found) }
+        ensures none { IfNone result (command.now ≢ codes "explain" → command.now ≢ codes "frames"
+            → IsNoCall (command.now ∷ option.now ∷ kind.now ∷ text.now ∷ [])) }
+    {
+        if option != "--json" {
+            return None;
+        }
+        match command {
+            "enc" => Some(Command::EncodeJson {
+                expression: kind,
+                text,
+            }),
+            "dec" => Some(Command::DecodeJson {
+                expression: kind,
+                hex: text,
+            }),
+            "decs" => Some(Command::DecodeAllJson {
+                expression: kind,
+                hex: text,
+            }),
             _ => None,
         }
     }

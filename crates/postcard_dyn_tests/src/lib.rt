@@ -21,6 +21,8 @@ mod helpers;
 #[cfg(test)]
 mod json;
 #[cfg(test)]
+mod json_calls;
+#[cfg(test)]
 mod limits;
 #[cfg(test)]
 mod output;
