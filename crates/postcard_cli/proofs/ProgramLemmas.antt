@@ -194,14 +194,8 @@ performs_no_more syntax (DecodeChecked name expression hex) known left old mid n
   follows = d.follows;
   printed = prints_no_more _ old mid new d.printed none;
 }
-performs_no_more syntax (EncodeJson expression text) known left old mid new d none = record {
-  schema = d.schema;
-  spelled = d.spelled;
-  value = d.value;
-  says = d.says;
-  read = d.read;
-  printed = appends_no_more old mid new _ d.printed none;
-}
+performs_no_more syntax (EncodeJson expression text) known left old mid new d none =
+    record { encoding = d.encoding; encodes = d.encodes; printed = appends_no_more old mid new _ d.printed none }
 performs_no_more syntax (DecodeJson expression hex) known left old mid new d none = record {
   schema = d.schema;
   spelled = d.spelled;

@@ -16,14 +16,14 @@ use Rattle.postcard_dyn_schema.specs.Meaning.{type_of, reads}
 use Rattle.postcard_dyn.specs.Tree.{tree}
 use Rattle.postcard_dyn.specs.declared.value.Value.{Value}
 use Rattle.postcard_dyn_text.specs.Shown.{layout_of}
-use Rattle.postcard_dyn_json.specs.Reading.{IsJsonOf}
+use Rattle.postcard_dyn_json.specs.Reading.{IsJsonText}
 use Rattle.postcard_dyn_json.specs.Written.{json_of}
 use Rattle.postcard_cli.specs.Message.{ReadsValue, StandsFor}
 use Rattle.postcard_cli.specs.Stream.{reason_text}
 
 -- The text is the JSON (RFC 8259) of this data, without blanks: its items and members are in order, each once, and it is read as the
 -- data, if this nests at most 127 deep. Of the digits of a float only that is said.
-pub record IsJsonText (d : Data) (text : List ℕ) : Type 0 where
+pub record IsCompactText (d : Data) (text : List ℕ) : Type 0 where
   pub compact : text ≡ print (tokens text)
   pub in_order : IsInOrder text d
   pub exact : has_float d ≡ false → text ≡ compact_text d
@@ -38,19 +38,22 @@ rest_text (b ∷ rest) = codes ",\"rest\":\"" ++ (encode_lower (b ∷ rest) ++ c
 abbrev pub value_line : ℕ → List ℕ → List ℕ → List ℕ
 value_line at text rest = (codes "{\"at\":" ++ (decimal at ++ (codes ",\"value\":" ++ text))) ++ (rest_text rest ++ codes "}\n")
 
--- The line of a refusal, without its end: the offset of the part that can't be read, why, and the path of the part, which is empty
--- for the whole value.
+-- The member of the path of a part: none for the whole value, whose path is empty.
+abbrev pub field_text : List ℕ → List ℕ
+field_text [] = []
+field_text (b ∷ path) = codes ",\"field\":" ++ quoted (b ∷ path)
+
+-- The line of a refusal, without its end: the offset of the part that can't be read, why, and the path of the part.
 abbrev pub refusal_text : ℕ → Error → List ℕ → List ℕ
-refusal_text at e [] = codes "{\"at\":" ++ (decimal at ++ (codes ",\"error\":\"" ++ (reason_text e ++ codes "\"}")))
-refusal_text at e (b ∷ path) =
-    codes "{\"at\":" ++ (decimal at ++ (codes ",\"error\":\"" ++ (reason_text e ++ (codes "\",\"field\":" ++ (quoted (b ∷ path) ++ codes "}")))))
+refusal_text at e path =
+    codes "{\"at\":" ++ (decimal at ++ (codes ",\"error\":\"" ++ (reason_text e ++ (codes "\"" ++ (field_text path ++ codes "}")))))
 
 -- The line of the value, which begins at this offset, and of the bytes `rest` is printed.
 pub record PrintsJsonLine (schema : Schema) (at : ℕ) (v : Value) (rest : List ℕ) (old new : Option (List ℕ)) : Type 0 where
   pub json : Data
   pub of_value : Some json ≡ json_of (layout_of schema) (tree v)
   pub text : List ℕ
-  pub is : IsJsonText json text
+  pub is : IsCompactText json text
   pub printed : Appends old new (value_line at text rest)
 
 -- The bytes, which are the last of `all`, are messages of the schema with these values, one after another, and then `rest`; the line
@@ -83,13 +86,19 @@ pub record PrintsAllJson (expression hex : List ℕ) (known left old new : Optio
 
 -- The text is JSON that is read as the value.
 abbrev pub SpellsJson : Schema → Value → List ℕ → Type 0
-SpellsJson schema v text = (d : Data) × (read text ≡ Some d) × IsJsonOf (layout_of schema) (tree v) d
+SpellsJson schema v text = IsJsonText (layout_of schema) (tree v) text
 
--- What `enc --json` prints: the encoding of the value that the text spells, in hexadecimal on a line.
-pub record PrintsEncodedJson (expression text : List ℕ) (old new : Option (List ℕ)) : Type 0 where
+-- The bytes are the encoding of the value of the expression that the text of JSON spells.
+pub record IsJsonEncoding (expression text bytes : List ℕ) : Type 0 where
   pub schema : Schema
   pub spelled : IsExpression schema expression
   pub value : Value
   pub says : SpellsJson schema value text
   pub read : reads (type_of schema) (tree value)
-  pub printed : Appends old new (encode_lower (canonical (tree value)) ++ 10 ∷ [])
+  pub is : bytes ≡ canonical (tree value)
+
+-- What `enc --json` prints: the encoding of the value that the text spells, in hexadecimal on a line.
+pub record PrintsEncodedJson (expression text : List ℕ) (old new : Option (List ℕ)) : Type 0 where
+  pub encoding : List ℕ
+  pub encodes : IsJsonEncoding expression text encoding
+  pub printed : Appends old new (encode_lower encoding ++ 10 ∷ [])

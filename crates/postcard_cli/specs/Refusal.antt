@@ -1,5 +1,5 @@
 -- Which failure comes when, and what a command has printed before the line of its failure.
-use Rattle.std.specs.Prelude.{◌≡◌, ◌≢◌, ℕ, ◌+◌, ◌-◌, ◌^◌, ◌<◌, ◌≤◌, ◌⊎◌, ⊤, min, Bool, false, List, [], ◌++◌, length, codes, Option, None, Some, Result, Ok, IsErr, MatchResult}
+use Rattle.std.specs.Prelude.{◌≡◌, ◌≢◌, ℕ, ◌+◌, ◌-◌, ◌^◌, ◌<◌, ◌≤◌, ◌⊎◌, ⊤, min, Bool, false, List, [], ◌++◌, length, codes, Option, Some, Result, Ok, IsErr, MatchResult}
 use Rattle.std.specs.Fmt.{decimal, ◌++?◌}
 use Rattle.std.specs.Io.KnownBytes.{Consumes, IsAtEnd, Appends}
 use Rattle.hex.specs.Hex.{decode_of}
@@ -18,10 +18,9 @@ use Rattle.postcard_dyn_schema.specs.Printed.{expression_error_text}
 use Rattle.postcard_dyn_schema.specs.Text.{characters}
 use Rattle.postcard_dyn.specs.Tree.{tree}
 use Rattle.postcard_dyn.specs.declared.value.Value.{Value}
-use Rattle.serde_json.specs.Read.{read}
-use Rattle.postcard_dyn_json.specs.Printed.{json_error_text}
-use Rattle.postcard_dyn_json.specs.declared.error.JsonError.{JsonError}
-use Rattle.postcard_dyn_json.specs.declared.error.JsonError.TheVariants as json_errors
+use Rattle.postcard_dyn_json.specs.Printed.{IsPlaceIn as IsJsonPlace, expected_text as json_expected_text}
+use Rattle.postcard_dyn_json.specs.declared.error.Expected.{Expected as JsonExpected}
+use Rattle.postcard_dyn_json.specs.declared.text.JsonTextError.TheVariants.{NotAValue as NoJson}
 use Rattle.postcard_dyn_text.specs.Place.{IsPlaceIn}
 use Rattle.postcard_dyn_text.specs.Printed.{expected_text}
 use Rattle.postcard_dyn_text.specs.Spelled.{SpellsValue}
@@ -245,26 +244,15 @@ DecodeCheckedFails reads steady name expression hex known left old new failure =
 
 -- ---- JSON
 
--- What is printed of a text that is no JSON, or of JSON that is no value.
-abbrev pub PrintsNoJson : List ℕ → Option (List ℕ) → Option (List ℕ) → Type 0
-PrintsNoJson text old new =
-    (line : ℕ) × (column : ℕ) × (read text ≡ None)
-    × Appends old new (codes "at line " ++ (decimal line ++ (codes ", column " ++ (decimal column ++ codes ": no JSON: "))))
-
-abbrev pub PrintsJsonError : Option (List ℕ) → Option (List ℕ) → Type 0
-PrintsJsonError old new = (error : JsonError) × (error ≢ json_errors.OutOfMemory) × Appends old new (json_error_text error ++ codes ": ")
-
--- The text is no JSON of a value of the schema, and where it is wrong and what is expected there were printed.
-pub record IsJsonRefused (schema : Schema) (text : List ℕ) (old new : Option (List ℕ)) : Type 0 where
+-- The text is no JSON of a value of the expression, and the place of the error in it and what is expected there were printed.
+pub record IsJsonRefused (expression text : List ℕ) (old new : Option (List ℕ)) : Type 0 where
+  pub schema : Schema
+  pub spelled : IsExpression schema expression
   pub no_value : (v : Value) → reads (type_of schema) (tree v) → SpellsJson schema v text → ⊥
-  pub printed : PrintsNoJson text old new ⊎ PrintsJsonError old new
-
--- The failures of reading a value of the schema from JSON.
-abbrev pub JsonFails : Schema → List ℕ → Option (List ℕ) → Option (List ℕ) → Failure → Type 0
-JsonFails schema text old new BadValue = IsJsonRefused schema text old new
-JsonFails schema text old new (Library e) = e ≡ OutOfMemory
-JsonFails schema text old new Output = ⊤
-JsonFails schema text old new failure = ⊥
+  pub character : ℕ
+  pub expected : JsonExpected
+  pub within : IsJsonPlace text (NoJson character expected)
+  pub printed : Appends old new (codes "at character " ++ (decimal character ++ (codes ": expected " ++ (json_expected_text expected ++ codes ": "))))
 
 -- The text is JSON of a value of the expression whose encoding has more than 4,096 bytes.
 pub record HasLongJson (expression text : List ℕ) : Type 0 where
@@ -276,9 +264,11 @@ pub record HasLongJson (expression text : List ℕ) : Type 0 where
 
 -- The failures of `enc --json`.
 abbrev pub EncodeJsonFails : List ℕ → List ℕ → Option (List ℕ) → Option (List ℕ) → Failure → Type 0
-EncodeJsonFails expression text old new BadValue = (schema : Schema) × IsExpression schema expression × IsJsonRefused schema text old new
+EncodeJsonFails expression text old new BadType = IsTypeRefused expression old new
+EncodeJsonFails expression text old new BadValue = IsJsonRefused expression text old new
 EncodeJsonFails expression text old new (Library e) = (e ≡ OutOfMemory) ⊎ ((e ≡ SerializeBufferFull) × HasLongJson expression text)
-EncodeJsonFails expression text old new failure = TypeFails expression old new failure
+EncodeJsonFails expression text old new Output = ⊤
+EncodeJsonFails expression text old new failure = ⊥
 
 -- No front of `rest`, which are the last of the bytes `all`, spells a value of the schema, and the line that says so was printed
 -- without its end. Of the path only its text is known.
@@ -298,6 +288,11 @@ JsonFrontFails schema all rest old new Refused = IsFrontRefused schema all rest 
 JsonFrontFails schema all rest old new (Library e) = e ≡ OutOfMemory
 JsonFrontFails schema all rest old new Output = ⊤
 JsonFrontFails schema all rest old new failure = ⊥
+
+-- The failures of printing the line of the value at the front of `rest`. That it has JSON is not proved.
+abbrev pub JsonLineFails : Schema → List ℕ → List ℕ → Option (List ℕ) → Option (List ℕ) → Failure → Type 0
+JsonLineFails schema all rest old new (Library e) = (e ≡ OutOfMemory) ⊎ (e ≡ WontImplement)
+JsonLineFails schema all rest old new failure = JsonFrontFails schema all rest old new failure
 
 -- The bytes of HEX are values of the expression, and then bytes of which no front is one: the lines of the values were printed, and
 -- then that of the refusal without its end. For `dec` there are no values before.

@@ -1,17 +1,16 @@
 //! The commands `enc`, `dec` and `decs` with `--json`.
 
-ghost use Rattle.std.specs.Prelude.{◌≡◌, ◌⊎◌, IfOk, IfErr, OnOk};
+ghost use Rattle.std.specs.Prelude.{◌≡◌, ◌-◌, ◌⊎◌, [], IfOk, IfErr, OnOk, length, string_bytes};
 ghost use Rattle.std.specs.Io.KnownBytes.{Appends};
+ghost use Rattle.json.specs.Print.{quoted};
 ghost use Rattle.postcard_wire.specs.declared.error.Error.TheVariants.{OutOfMemory, WontImplement};
-ghost use Rattle.postcard_dyn_schema.specs.Meaning.{type_of, reads};
-ghost use Rattle.postcard_dyn.specs.Tree.{tree};
-ghost use Rattle.postcard_dyn_text.specs.Accepted.{HasDistinctNames};
-ghost use Rattle.postcard_dyn_text.specs.Shown.{layout_of};
-ghost use Rattle.postcard_cli.specs.JsonMessage.{PrintsAllJson, PrintsEncodedJson, PrintsFirstJson};
-ghost use Rattle.postcard_cli.specs.JsonMessage.{PrintsJsonLine, SpellsJson, refusal_text, rest_text};
+ghost use Rattle.postcard_dyn.specs.declared.value.Value.{Value};
+ghost use Rattle.postcard_cli.specs.JsonMessage.{IsJsonEncoding, PrintsAllJson, PrintsEncodedJson};
+ghost use Rattle.postcard_cli.specs.JsonMessage.{PrintsFirstJson, PrintsJsonLine};
+ghost use Rattle.postcard_cli.specs.JsonMessage.{field_text, refusal_text, rest_text};
 ghost use Rattle.postcard_cli.specs.Message.{ReadsValue};
 ghost use Rattle.postcard_cli.specs.Refusal.{DecodeAllJsonFails, DecodeJsonFails, EncodeJsonFails};
-ghost use Rattle.postcard_cli.specs.Refusal.{JsonFails, JsonFrontFails};
+ghost use Rattle.postcard_cli.specs.Refusal.{JsonFrontFails, JsonLineFails};
 
 use crate::failure::Failure;
 use crate::hexadecimal;
@@ -20,13 +19,14 @@ use crate::place::path_of;
 use crate::program::BUFFER;
 use crate::reason::reason;
 use crate::stream::READS;
+use arrayvec::ArrayVec;
 use postcard_de_flavors::Source;
 use postcard_dyn::{Schema, Value, refused_at, take_from_bytes, to_flavor};
-use postcard_dyn_json::{JsonError, from_json, to_json};
+use postcard_dyn_json::{JsonTextError, read_json, to_json};
 use postcard_ser_flavors::HVec;
 use postcard_wire::Error;
 use serde_json::Value as Json;
-use std::alloc::Global;
+use std::alloc::{AllocError, Global};
 use std::io::Write;
 
 /// Encodes the value that a text of JSON spells, and prints its encoding as hexadecimal on a line.
@@ -34,8 +34,8 @@ use std::io::Write;
 /// # Errors
 ///
 /// Fails as [`schema_of`] does, with `BadValue` if the text is no JSON of a value of the type, after
-/// the place of the error and what is expected there are printed, and with
-/// `Library(SerializeBufferFull)` if the encoding is longer than 4,096 bytes.
+/// the character of the text where it stops being one and what is expected there are printed, and
+/// with `Library(SerializeBufferFull)` if the encoding is longer than 4,096 bytes.
 pub fn encode<W: Write>(
     alloc: Global,
     expression: &str,
@@ -47,52 +47,42 @@ pub fn encode<W: Write>(
     ensures refused { IfErr result (EncodeJsonFails expression.now text.now
         (W.contents output.old) (W.contents output.new)) }
 {
-    let schema = schema_of(alloc, expression, output)?;
-    let value = read_value(alloc, &schema, text, output)?;
-    let encoding = match to_flavor(&value, HVec::<BUFFER>::new()) {
-        Ok(encoding) => encoding,
-        Err(error) => return Err(Failure::from(error)),
-    };
+    let encoding = encoding_of(alloc, expression, text, output)?;
     hexadecimal::write(&encoding, output)?;
     writeln!(output)?;
     Ok(())
 }
 
-/// Returns the value of the schema that a text of JSON spells. If it spells none, prints where it is
-/// wrong and what is expected there.
-fn read_value<W: Write>(
+/// Returns the encoding of the value that a text of JSON spells. Fails as [`encode`] does.
+fn encoding_of<W: Write>(
     alloc: Global,
-    schema: &Schema,
+    expression: &str,
     text: &str,
     output: &mut W,
-) -> Result<Value, Failure>
-    requires { HasDistinctNames (layout_of schema.now) }
-    ensures value { IfOk result (λ v. reads (type_of schema.now) (tree v)) }
-    ensures spelled { IfOk result (λ v. SpellsJson schema.now v text.now) }
+) -> Result<ArrayVec<u8, BUFFER>, Failure>
+    ensures encodes { IfOk result
+        (λ encoding. IsJsonEncoding expression.now text.now encoding.items) }
     ensures untouched { OnOk result (output.new ≡ output.old) }
-    ensures refused { IfErr result (JsonFails schema.now text.now
+    ensures refused { IfErr result (EncodeJsonFails expression.now text.now
         (W.contents output.old) (W.contents output.new)) }
 {
-    let json = match Json::from_str(alloc, text) {
-        Ok(json) => json,
-        Err(error) => {
-            if error.is_memory() {
-                return Err(Failure::from(Error::OutOfMemory));
-            }
-            let (line, column) = (error.line(), error.column());
-            write!(output, "at line {line}, column {column}: no JSON: ")?;
+    let schema = schema_of(alloc, expression, output)?;
+    let value = match read_json(alloc, &schema, text) {
+        Ok(value) => value,
+        Err(
+            JsonTextError::NotAValue {
+                character,
+                expected,
+            },
+        ) => {
+            write!(output, "at character {character}: expected {expected}: ")?;
             return Err(Failure::BadValue);
         }
+        Err(JsonTextError::OutOfMemory) => return Err(Failure::from(Error::OutOfMemory)),
     };
-    match from_json(alloc, schema, &json) {
-        Ok(value) => Ok(value),
-        Err(error) => match error {
-            JsonError::OutOfMemory => Err(Failure::from(Error::OutOfMemory)),
-            _ => {
-                write!(output, "{error}: ")?;
-                Err(Failure::BadValue)
-            }
-        },
+    match to_flavor(&value, HVec::<BUFFER>::new()) {
+        Ok(encoding) => Ok(encoding),
+        Err(error) => Err(Failure::from(error)),
     }
 }
 
@@ -152,12 +142,31 @@ pub fn decode_all<R: Source, W: Write>(
     let all = bytes.as_slice();
     let mut rest = all;
     'values: while !rest.is_empty() {
-        let (value, after) = read_front(alloc, &schema, all, rest, output)?;
-        let at = all.len().saturating_sub(rest.len());
-        print_line(alloc, &schema, &value, at, &[], output)?;
-        rest = after;
+        rest = print_front(alloc, &schema, all, rest, output)?;
     }
     Ok(())
+}
+
+/// Decodes a value from the front of `rest`, the last of the bytes `all`, and prints the line of
+/// JSON of it, or of the refusal. Returns the bytes after it.
+fn print_front<'a, W: Write>(
+    alloc: Global,
+    schema: &Schema,
+    all: &[u8],
+    rest: &'a [u8],
+    output: &mut W,
+) -> Result<&'a [u8], Failure>
+    ensures printed { IfOk result (λ after. (value : Value)
+        × ReadsValue schema.now rest.now value after.now
+        × PrintsJsonLine schema.now (length all.now - length rest.now) value []
+        (W.contents output.old) (W.contents output.new)) }
+    ensures refused { IfErr result (JsonLineFails schema.now all.now rest.now
+        (W.contents output.old) (W.contents output.new)) }
+{
+    let (value, after) = read_front(alloc, schema, all, rest, output)?;
+    let at = all.len().saturating_sub(rest.len());
+    print_line(alloc, schema, &value, at, &[], output)?;
+    Ok(after)
 }
 
 /// Decodes a value from the front of `rest`, the last of the bytes `all`. Returns it, and the bytes
@@ -201,16 +210,32 @@ fn print_refused<W: Write>(
     ensures refused { IfErr result (λ e. (e ≡ Failure.Output) ⊎ (e ≡ Failure.Library OutOfMemory)) }
 {
     let why = reason(error);
-    if path.is_empty() {
-        write!(output, "{{\"at\":{offset},\"error\":\"{why}\"}}")?;
-        return Ok(());
-    }
-    let field = Json::String(String::from_str(alloc, path)?).to_string(alloc)?;
+    let field = field_of(alloc, path)?;
     write!(
         output,
-        "{{\"at\":{offset},\"error\":\"{why}\",\"field\":{field}}}"
+        "{{\"at\":{offset},\"error\":\"{why}\"{field}}}"
     )?;
     Ok(())
+}
+
+/// Returns the member with the path of a part, or nothing if the path is empty.
+fn field_of(alloc: Global, path: &str) -> Result<String, AllocError>
+    ensures { IfOk result (λ field. string_bytes field ≡ field_text path.now) }
+{
+    if path.is_empty() {
+        return Ok(String::new(alloc));
+    }
+    let name = quote(alloc, path)?;
+    let field = format!(in alloc; ",\"field\":{name}")?;
+    Ok(field)
+}
+
+/// Returns a text as a string of JSON, with its quotes.
+fn quote(alloc: Global, text: &str) -> Result<String, AllocError>
+    ensures { IfOk result (λ shown. string_bytes shown ≡ quoted text.now) }
+{
+    let json = Json::try_from_str(alloc, text)?;
+    json.to_string(alloc)
 }
 
 /// Prints the line of JSON of a value that begins at this offset, and of the bytes left after it, if

@@ -10,14 +10,12 @@ values-init g c = record { same = refl; lines = none_printed _ _ _ }
 
 pub values-smaller : goal.values-smaller
 values-smaller g c =
-    takes_some _ _ _ _ (sym c.has_bytes.ensures ∙ c.if-not-has_bytes.false) (rw c.values.invariant.same at c.in_ok-value.ensures.read)
+    takes_some _ _ _ _ (sym c.has_bytes.ensures ∙ c.if-not-has_bytes.false) (rw c.values.invariant.same at c.in_ok-rest.ensures.printed.1)
 
 pub values-preserved : goal.values-preserved
-values-preserved g c = record {
-  same = c.values.invariant.same;
-  lines = one_printed _ _ _ _ c.in_ok-value.value _ _ _ c.values.invariant.lines c.in_ok-value.ensures.read
-      (rw c.in_ok-value.ensures.untouched at c.in_ok-print_line.ensures.printed);
-}
+values-preserved g c =
+    let one = c.in_ok-rest.ensures.printed in
+    record { same = c.values.invariant.same; lines = one_printed _ _ _ _ one.0 _ _ _ c.values.invariant.lines one.1 one.2 }
 
 pub returns-clause-printed : goal.returns-clause-printed
 returns-clause-printed g c =
@@ -32,10 +30,10 @@ returns-clause-printed g c =
       printed = rw (none, c.as_slice-all.ensures.value, c.values.invariant.same, c.in_ok-schema.ensures.untouched) at all.lines;
     }
 
-pub returns-in_err-value-clause-refused : goal.returns-in_err-value-clause-refused
-returns-in_err-value-clause-refused g c =
-    let p = err_from_is_err_and c.from_residual-in_err-value.result c.from_residual-in_err-value.ensures.1 in
+pub returns-in_err-rest-clause-refused : goal.returns-in_err-rest-clause-refused
+returns-in_err-rest-clause-refused g c =
+    let p = err_from_is_err_and c.from_residual-in_err-rest.result c.from_residual-in_err-rest.ensures.1 in
     rw (p.1, p.2)
-    (later_line_fails _ _ _ _ _ _ _ _ _ c.in_ok-schema.schema c.in_ok-bytes.bytes.items c.values.rest.now c.in_err-value.field-0.0 c.in_ok-schema.ensures.spelled c.in_ok-bytes.ensures.value
+    (later_line_fails _ _ _ _ _ _ _ _ _ c.in_ok-schema.schema c.in_ok-bytes.bytes.items c.values.rest.now c.in_err-rest.field-0.0 c.in_ok-schema.ensures.spelled c.in_ok-bytes.ensures.value
     (rw (c.as_slice-all.ensures.value, c.values.invariant.same, c.in_ok-schema.ensures.untouched) at c.values.invariant.lines)
-    (rw (c.as_slice-all.ensures.value, c.values.invariant.same) at c.in_err-value.ensures.refused))
+    (rw (c.as_slice-all.ensures.value, c.values.invariant.same) at c.in_err-rest.ensures.refused))
