@@ -211,10 +211,7 @@ fn print_refused<W: Write>(
 {
     let why = reason(error);
     let field = field_of(alloc, path)?;
-    write!(
-        output,
-        "{{\"at\":{offset},\"error\":\"{why}\"{field}}}"
-    )?;
+    write!(output, "{{\"at\":{offset},\"error\":\"{why}\"{field}}}")?;
     Ok(())
 }
 
