@@ -4,11 +4,12 @@ ghost use Rattle.example_types.specs.declared.store.Mode.{Mode};
 ghost use Rattle.std.specs.Prelude.{◌≡◌, Some, IsOk};
 
 use arrayvec::ArrayString;
+use postcard::experimental::max_size::laws::within_max_size;
 use postcard::experimental::max_size::{MaxSize, MaxSizeRepr, fill_max_size};
 use postcard::ser_flavors::Flavor;
 use postcard::{
-    Case, FromRepr, NoCase, Repr, Result, Serialize, SerializeRepr, Serializer, from_bytes,
-    serialize_variant,
+    Case, FromRepr, NoCase, Repr, Result, Serialize, SerializeRepr, Serializer, fill_slice_cobs,
+    from_bytes, serialize_variant,
 };
 use std::alloc::Global;
 
@@ -114,6 +115,20 @@ pub fn settings_size() -> Option<usize>
     ensures { result ≡ Some 25 }
 {
     Settings::postcard_max_size()
+}
+
+/// The greatest size of a frame of settings in bytes: that of the settings, one byte before them, and
+/// the zero that ends the frame. An accumulator of this size has room for every such frame.
+pub const SETTINGS_FRAME_SIZE: usize = 27;
+
+/// Encodes settings as a frame into the front of a buffer, and returns the number of bytes of the
+/// frame. It never fails, since the buffer is always large enough.
+#[tactic(auto, using(postcard::specs::Lemmas::frame_len))]
+pub fn fill_frame(settings: &Settings, buffer: &mut [u8; SETTINGS_FRAME_SIZE]) -> Result<usize>
+    ensures { IsOk result }
+{
+    within_max_size(settings);
+    fill_slice_cobs(settings, buffer)
 }
 
 /// Encoded settings, in a buffer of a fixed size.

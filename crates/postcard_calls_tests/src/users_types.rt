@@ -11,7 +11,9 @@ use example_types::percent::Percent;
 use example_types::reading::Reading;
 use example_types::sample::{Sample, Survey};
 use example_types::station::{Position, Station};
-use example_types::store::{Mode, SETTINGS_SIZE, Settings, Store, settings_size};
+use example_types::store::{
+    Mode, SETTINGS_FRAME_SIZE, SETTINGS_SIZE, Settings, Store, fill_frame, settings_size,
+};
 use example_types::tally::Tally;
 use example_types::theorems::{
     reading_comes_back, sample_comes_back, sample_fits_28_bytes, station_comes_back,
@@ -152,6 +154,9 @@ fn settings_in_a_buffer_of_the_greatest_size(rt: HostRuntime) {
     same(&rt, store.load(rt.alloc()), Ok(off));
     let on = settings(&rt, "kitchen (window)", Some(u16::MAX), Mode::On(u16::MAX));
     same(&rt, store.save(&on), Ok(25));
+    let mut frame = [0xFF; SETTINGS_FRAME_SIZE];
+    same(&rt, fill_frame(&on, &mut frame), Ok(27));
+    same(&rt, (frame[0], frame[1], frame[26]), (26, 16, 0));
     same(&rt, store.load(rt.alloc()), Ok(on));
 }
 

@@ -6,11 +6,14 @@ use Rattle.std.proofs.lemmas.List.{append-nil}
 use Rattle.std.proofs.Output.{if_some_weaken}
 use Rattle.hex.specs.Hex.{encode_lower}
 use Rattle.postcard_shape.specs.Shape.{Shape}
+use Rattle.postcard_dyn_schema.specs.declared.schema.Schema.{Schema}
+use Rattle.postcard_dyn.specs.declared.value.Value.{Value}
 use Rattle.postcard_dyn.specs.declared.explain.Line.{Line}
 use Rattle.postcard_cli.specs.Explain.{PrintsRows}
 use Rattle.postcard_cli.specs.declared.explain.Layout.{Layout}
 use Rattle.postcard_cli.specs.Failure.{exit_status, last_line}
 use Rattle.postcard_cli.specs.Program.{Does, Form, form_of, list_of, one_word, PrintsCall, PrintsDecode, PrintsDecoded, PrintsEncode, Performs}
+use Rattle.postcard_cli.specs.JsonMessage.{PrintsJsonLine, PrintsJsonLines}
 use Rattle.postcard_cli.specs.Message.{Prints}
 use Rattle.postcard_cli.specs.Refusal.{Converts, DecodingFails, EncodingFails, Reports, TaskFails}
 use Rattle.postcard_cli.specs.Stream.{PrintsValues}
@@ -20,12 +23,12 @@ use Rattle.postcard_cli.specs.declared.program.Task.{Task}
 use Rattle.postcard_cli.specs.declared.program.Task.TheVariants as tasks
 use Rattle.postcard_cli.specs.declared.checksum.TheConstants.{CATALOG}
 use Rattle.postcard_cli.specs.declared.failure.Failure.{Failure}
-use Rattle.postcard_cli.specs.declared.failure.Failure.TheVariants.{Usage, BadType, BadValue, BadHex, BadHexAt, UnknownChecksum, Library, Output, Limit, ReadFailed}
+use Rattle.postcard_cli.specs.declared.failure.Failure.TheVariants.{Usage, BadType, BadValue, BadHex, BadHexAt, UnknownChecksum, Library, Refused, Output, Limit, ReadFailed}
 use Rattle.postcard_cli.specs.declared.failure.Failure.TheVariants as failed
 use Rattle.postcard_cli.specs.declared.command.TypeWord.{TypeWord}
 use Rattle.postcard_cli.specs.declared.command.TypeWord.TheVariants.{Named, Expression}
 use Rattle.postcard_cli.specs.declared.command.Command.{Command}
-use Rattle.postcard_cli.specs.declared.command.Command.TheVariants.{Encode, Decode, DecodeAll, EncodeChecked, DecodeChecked, Frames, FramesOf, FramesChecked, Explain, Size, Types, Checksum, Catalog}
+use Rattle.postcard_cli.specs.declared.command.Command.TheVariants.{Encode, Decode, DecodeAll, EncodeChecked, DecodeChecked, EncodeJson, DecodeJson, DecodeAllJson, Frames, FramesOf, FramesChecked, Explain, Size, Types, Checksum, Catalog}
 
 -- The values of a type, whose words are those of `says`, and which `none` says not to be one.
 abbrev spoken : {T : Type 0} → Shape T → (T → Option (List ℕ)) → (List ℕ → T → Type 0) → (List ℕ → Type 0) → Form
@@ -145,6 +148,16 @@ values_no_more format longest known left old mid new d none = record {
   at_end = d.at_end;
 }
 
+json_line_no_more : (schema : Schema) (at : ℕ) (v : Value) (rest : List ℕ) (old mid new : Option (List ℕ)) → PrintsJsonLine schema at v rest old mid → Appends mid new []
+    → PrintsJsonLine schema at v rest old new
+json_line_no_more schema at v rest old mid new d none =
+    record { json = d.json; of_value = d.of_value; text = d.text; is = d.is; printed = appends_no_more old mid new _ d.printed none }
+
+json_lines_no_more : (schema : Schema) (all bytes : List ℕ) (vs : List Value) (rest : List ℕ) (old mid new : Option (List ℕ)) → PrintsJsonLines schema all bytes vs rest old mid
+    → Appends mid new [] → PrintsJsonLines schema all bytes vs rest old new
+json_lines_no_more schema all bytes [] rest old mid new d none = (d.0, Appends-trans old mid new [] [] d.1 none)
+json_lines_no_more schema all bytes (v ∷ vs) rest old mid new d none = (d.0, d.1, d.2, d.3, json_lines_no_more schema all d.0 vs rest d.1 mid new d.4 none)
+
 performs_no_more : (syntax : List ℕ) (command : Command) (known left old mid new : Option (List ℕ)) → Performs syntax command known left old mid → Appends mid new []
     → Performs syntax command known left old new
 performs_no_more syntax (Encode kind value) known left old mid new d none = encode_no_more kind value.now old mid new d none
@@ -181,6 +194,26 @@ performs_no_more syntax (DecodeChecked name expression hex) known left old mid n
   follows = d.follows;
   printed = prints_no_more _ old mid new d.printed none;
 }
+performs_no_more syntax (EncodeJson expression text) known left old mid new d none =
+    record { encoding = d.encoding; encodes = d.encodes; printed = appends_no_more old mid new _ d.printed none }
+performs_no_more syntax (DecodeJson expression hex) known left old mid new d none = record {
+  schema = d.schema;
+  spelled = d.spelled;
+  bytes = d.bytes;
+  stands = d.stands;
+  value = d.value;
+  rest = d.rest;
+  is = d.is;
+  printed = json_line_no_more d.schema 0 d.value d.rest old mid new d.printed none;
+}
+performs_no_more syntax (DecodeAllJson expression hex) known left old mid new d none = record {
+  schema = d.schema;
+  spelled = d.spelled;
+  bytes = d.bytes;
+  stands = d.stands;
+  values = d.values;
+  printed = json_lines_no_more d.schema d.bytes d.bytes d.values [] old mid new d.printed none;
+}
 performs_no_more syntax Frames known left old mid new d none = (d.0, (d.1.0, d.1.1, d.1.2, d.1.3, appends_no_more old mid new _ d.1.4 none), d.2)
 performs_no_more syntax (FramesOf expression longest) known left old mid new d none = (d.0, d.1, values_no_more d.0 longest known left old mid new d.2 none)
 performs_no_more syntax (FramesChecked name expression) known left old mid new d none = (d.0, d.1, values_no_more d.0 65536 known left old mid new d.2 none)
@@ -195,7 +228,14 @@ performs_no_more syntax (Explain expression hex all) known left old mid new d no
   uncut = d.uncut;
   printed = rows_no_more d.layout 0 d.lines old mid new d.printed none;
 }
-performs_no_more syntax (Size expression) known left old mid new d none = (d.0, d.1, appends_no_more old mid new _ d.2 none)
+performs_no_more syntax (Size expression) known left old mid new d none = record {
+  schema = d.schema;
+  spelled = d.spelled;
+  least = d.least;
+  is_least = d.is_least;
+  frames = d.frames;
+  printed = appends_no_more old mid new _ d.printed none;
+}
 performs_no_more syntax Types known left old mid new d none = appends_no_more old mid new syntax d none
 performs_no_more syntax (Checksum name hex) known left old mid new d none = record {
   checksum = d.checksum;
@@ -224,6 +264,7 @@ zero_is_success (Err BadHex) P old new zero h printed = cc zero
 zero_is_success (Err (BadHexAt n)) P old new zero h printed = cc zero
 zero_is_success (Err UnknownChecksum) P old new zero h printed = cc zero
 zero_is_success (Err (Library e)) P old new zero h printed = cc zero
+zero_is_success (Err Refused) P old new zero h printed = cc zero
 zero_is_success (Err Output) P old new zero h printed = cc zero
 zero_is_success (Err Limit) P old new zero h printed = cc zero
 zero_is_success (Err ReadFailed) P old new zero h printed = cc zero

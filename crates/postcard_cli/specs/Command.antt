@@ -8,7 +8,7 @@ use Rattle.postcard_cli.specs.declared.command.ValueType.TheVariants.{U8, U16, U
 use Rattle.postcard_cli.specs.declared.command.TypeWord.{TypeWord}
 use Rattle.postcard_cli.specs.declared.command.TypeWord.TheVariants.{Named, Expression}
 use Rattle.postcard_cli.specs.declared.command.Command.{Command}
-use Rattle.postcard_cli.specs.declared.command.Command.TheVariants.{Encode, Decode, DecodeAll, EncodeChecked, DecodeChecked, Frames, FramesOf, FramesChecked, Explain, Size, Types, Checksum, Catalog}
+use Rattle.postcard_cli.specs.declared.command.Command.TheVariants.{Encode, Decode, DecodeAll, EncodeChecked, DecodeChecked, EncodeJson, DecodeJson, DecodeAllJson, Frames, FramesOf, FramesChecked, Explain, Size, Types, Checksum, Catalog}
 
 -- The word that names a type.
 abbrev pub name_of : ValueType → List ℕ
@@ -28,12 +28,17 @@ name_of Str = codes "str"
 name_of ListU8 = codes "list-u8"
 name_of ListU32 = codes "list-u32"
 
--- Whether the word begins with `(`, `[` or `{`, ends with `?` or `>`, holds a `|`, or is `f32` or `f64`.
-abbrev pub looks_like_expression : List ℕ → TruthValue
-looks_like_expression word =
+-- Whether the word begins with `(`, `[`, `{` or `&`.
+abbrev pub begins_expression : List ℕ → TruthValue
+begins_expression word =
     if starts_with nat_eq word (40 ∷ []) then true else
     if starts_with nat_eq word (91 ∷ []) then true else
-    if starts_with nat_eq word (123 ∷ []) then true else
+    if starts_with nat_eq word (123 ∷ []) then true else starts_with nat_eq word (38 ∷ [])
+
+-- Whether the word begins so, ends with `?` or `>`, holds a `|`, or is `f32` or `f64`.
+abbrev pub looks_like_expression : List ℕ → TruthValue
+looks_like_expression word =
+    if begins_expression word then true else
     if ends_with nat_eq word (63 ∷ []) then true else
     if ends_with nat_eq word (62 ∷ []) then true else
     if list_any (λ b. nat_eq b 124) word then true else
@@ -73,6 +78,9 @@ IsCallOf words (Decode kind hex) = (word : List ℕ) × IsWordOf word kind × (w
 IsCallOf words (DecodeAll expression hex) = LooksLikeExpression expression.now × (words ≡ codes "decs" ∷ expression.now ∷ hex.now ∷ [])
 IsCallOf words (EncodeChecked name expression value) = words ≡ codes "enc" ∷ codes "--crc" ∷ name.now ∷ expression.now ∷ value.now ∷ []
 IsCallOf words (DecodeChecked name expression hex) = words ≡ codes "dec" ∷ codes "--crc" ∷ name.now ∷ expression.now ∷ hex.now ∷ []
+IsCallOf words (EncodeJson expression text) = words ≡ codes "enc" ∷ codes "--json" ∷ expression.now ∷ text.now ∷ []
+IsCallOf words (DecodeJson expression hex) = words ≡ codes "dec" ∷ codes "--json" ∷ expression.now ∷ hex.now ∷ []
+IsCallOf words (DecodeAllJson expression hex) = words ≡ codes "decs" ∷ codes "--json" ∷ expression.now ∷ hex.now ∷ []
 IsCallOf words Frames = words ≡ codes "frames" ∷ []
 IsCallOf words (FramesOf expression longest) = LooksLikeExpression expression.now × IsStreamCall words expression.now longest
 IsCallOf words (FramesChecked name expression) = words ≡ codes "frames" ∷ codes "--crc" ∷ name.now ∷ expression.now ∷ []

@@ -4,7 +4,7 @@ use Rattle.std.specs.Fmt.{decimal}
 use Rattle.std.specs.Io.KnownBytes.{Appends}
 use Rattle.postcard_wire.specs.Error.{error_text}
 use Rattle.postcard_cli.specs.declared.failure.Failure.{Failure}
-use Rattle.postcard_cli.specs.declared.failure.Failure.TheVariants.{Usage, BadType, BadValue, BadHex, BadHexAt, UnknownChecksum, Library, Output, Limit, ReadFailed}
+use Rattle.postcard_cli.specs.declared.failure.Failure.TheVariants.{Usage, BadType, BadValue, BadHex, BadHexAt, UnknownChecksum, Library, Refused, Output, Limit, ReadFailed}
 use Rattle.postcard_cli.specs.declared.failure.Failure.TheVariants as failed
 
 -- The text of a failure, in ASCII.
@@ -16,6 +16,7 @@ failure_text BadHex = codes "bad hex"
 failure_text (BadHexAt character) = codes "at character " ++ (decimal character ++ codes ": bad hex")
 failure_text UnknownChecksum = codes "unknown checksum, pcard crc lists them"
 failure_text (Library e) = error_text e
+failure_text Refused = []
 failure_text Output = codes "the output could not be written"
 failure_text Limit = codes "limit"
 failure_text ReadFailed = codes "read failed"
@@ -30,6 +31,7 @@ failure_status BadHex = 2
 failure_status (BadHexAt character) = 2
 failure_status UnknownChecksum = 2
 failure_status (Library e) = 1
+failure_status Refused = 1
 failure_status Output = 3
 failure_status Limit = 3
 failure_status ReadFailed = 3

@@ -5,6 +5,7 @@ pub mod Explain
 pub mod Failure
 pub mod Frames
 pub mod Hexadecimal
+pub mod JsonMessage
 pub mod Message
 pub mod Program
 pub mod Receiving

@@ -18,6 +18,7 @@ use Rattle.postcard_cli.specs.Checksum.{PrintsChecksum}
 use Rattle.postcard_cli.specs.Command.{IsCallOf}
 use Rattle.postcard_cli.specs.Explain.{PrintsExplained}
 use Rattle.postcard_cli.specs.Frames.{PrintsAnswers}
+use Rattle.postcard_cli.specs.JsonMessage.{PrintsAllJson, PrintsEncodedJson, PrintsFirstJson}
 use Rattle.postcard_cli.specs.Message.{PrintsEncoded, PrintsFirst, PrintsAll}
 use Rattle.postcard_cli.specs.Size.{PrintsSize}
 use Rattle.postcard_cli.specs.Stream.{IsNamed, IsPlain, PrintsValues}
@@ -32,7 +33,7 @@ use Rattle.postcard_cli.specs.declared.command.ValueType.TheVariants.{U8, U16, U
 use Rattle.postcard_cli.specs.declared.command.TypeWord.{TypeWord}
 use Rattle.postcard_cli.specs.declared.command.TypeWord.TheVariants.{Named, Expression}
 use Rattle.postcard_cli.specs.declared.command.Command.{Command}
-use Rattle.postcard_cli.specs.declared.command.Command.TheVariants.{Encode, Decode, DecodeAll, EncodeChecked, DecodeChecked, Frames, FramesOf, FramesChecked, Explain, Size, Types, Checksum, Catalog}
+use Rattle.postcard_cli.specs.declared.command.Command.TheVariants.{Encode, Decode, DecodeAll, EncodeChecked, DecodeChecked, EncodeJson, DecodeJson, DecodeAllJson, Frames, FramesOf, FramesChecked, Explain, Size, Types, Checksum, Catalog}
 
 -- The values of a type: what they are on the wire, in a word, and as text.
 pub record Form : Type 1 where
@@ -159,6 +160,9 @@ Performs syntax (Decode kind hex) known left old new = PrintsDecode kind hex.now
 Performs syntax (DecodeAll expression hex) known left old new = PrintsAll expression.now hex.now known left old new
 Performs syntax (EncodeChecked name expression value) known left old new = PrintsEncodedChecked name.now expression.now value.now old new
 Performs syntax (DecodeChecked name expression hex) known left old new = PrintsFirstChecked name.now expression.now hex.now known left old new
+Performs syntax (EncodeJson expression text) known left old new = PrintsEncodedJson expression.now text.now old new
+Performs syntax (DecodeJson expression hex) known left old new = PrintsFirstJson expression.now hex.now known left old new
+Performs syntax (DecodeAllJson expression hex) known left old new = PrintsAllJson expression.now hex.now known left old new
 Performs syntax Frames known left old new = PrintsAnswers known left old new
 Performs syntax (FramesOf expression longest) known left old new =
     (format : Format) × IsPlain format expression.now × PrintsValues format longest known left old new

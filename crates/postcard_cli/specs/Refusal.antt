@@ -18,6 +18,9 @@ use Rattle.postcard_dyn_schema.specs.Printed.{expression_error_text}
 use Rattle.postcard_dyn_schema.specs.Text.{characters}
 use Rattle.postcard_dyn.specs.Tree.{tree}
 use Rattle.postcard_dyn.specs.declared.value.Value.{Value}
+use Rattle.postcard_dyn_json.specs.Printed.{IsPlaceIn as IsJsonPlace, expected_text as json_expected_text}
+use Rattle.postcard_dyn_json.specs.declared.error.Expected.{Expected as JsonExpected}
+use Rattle.postcard_dyn_json.specs.declared.text.JsonTextError.TheVariants.{NotAValue as NoJson}
 use Rattle.postcard_dyn_text.specs.Place.{IsPlaceIn}
 use Rattle.postcard_dyn_text.specs.Printed.{expected_text}
 use Rattle.postcard_dyn_text.specs.Spelled.{SpellsValue}
@@ -29,6 +32,7 @@ use Rattle.postcard_cli.specs.Explain.{IsExplainRefused}
 use Rattle.postcard_cli.specs.Failure.{exit_status, last_line}
 use Rattle.postcard_cli.specs.Frames.{PrintsAnswersSoFar}
 use Rattle.postcard_cli.specs.Hexadecimal.{IsWrongHex}
+use Rattle.postcard_cli.specs.JsonMessage.{PrintsJsonLines, SpellsJson, refusal_text}
 use Rattle.postcard_cli.specs.Message.{lines_of, Prints, ReadsValue, ReadsValues, StandsFor}
 use Rattle.postcard_cli.specs.Program.{Does, Form, form_of, PrintsCall}
 use Rattle.postcard_cli.specs.Stream.{IsNamed, IsPlain, PrintsSoFar}
@@ -38,10 +42,10 @@ use Rattle.postcard_cli.specs.declared.program.Task.TheVariants as tasks
 use Rattle.postcard_cli.specs.declared.command.TypeWord.{TypeWord}
 use Rattle.postcard_cli.specs.declared.command.TypeWord.TheVariants.{Named, Expression}
 use Rattle.postcard_cli.specs.declared.command.Command.{Command}
-use Rattle.postcard_cli.specs.declared.command.Command.TheVariants.{Encode, Decode, DecodeAll, EncodeChecked, DecodeChecked, Frames, FramesOf, FramesChecked, Explain, Size, Types, Checksum as ChecksumOf, Catalog}
+use Rattle.postcard_cli.specs.declared.command.Command.TheVariants.{Encode, Decode, DecodeAll, EncodeChecked, DecodeChecked, EncodeJson, DecodeJson, DecodeAllJson, Frames, FramesOf, FramesChecked, Explain, Size, Types, Checksum as ChecksumOf, Catalog}
 use Rattle.postcard_cli.specs.declared.stream.Format.{Format}
 use Rattle.postcard_cli.specs.declared.failure.Failure.{Failure}
-use Rattle.postcard_cli.specs.declared.failure.Failure.TheVariants.{Usage, BadType, BadValue, BadHex, BadHexAt, UnknownChecksum, Library, Output, Limit, ReadFailed}
+use Rattle.postcard_cli.specs.declared.failure.Failure.TheVariants.{Usage, BadType, BadValue, BadHex, BadHexAt, UnknownChecksum, Library, Refused, Output, Limit, ReadFailed}
 use Rattle.postcard_cli.specs.declared.failure.Failure.TheVariants as failed
 
 -- ---- TYPE
@@ -238,6 +242,84 @@ DecodeCheckedFails reads steady name expression hex known left old new (Library 
     DecodeFails reads steady expression hex known left old new (Library e) ⊎ IsTrailerRefused name expression hex known left old new e
 DecodeCheckedFails reads steady name expression hex known left old new failure = DecodeFails reads steady expression hex known left old new failure
 
+-- ---- JSON
+
+-- The text is no JSON of a value of the expression, and the place of the error in it and what is expected there were printed.
+pub record IsJsonRefused (expression text : List ℕ) (old new : Option (List ℕ)) : Type 0 where
+  pub schema : Schema
+  pub spelled : IsExpression schema expression
+  pub no_value : (v : Value) → reads (type_of schema) (tree v) → SpellsJson schema v text → ⊥
+  pub character : ℕ
+  pub expected : JsonExpected
+  pub within : IsJsonPlace text (NoJson character expected)
+  pub printed : Appends old new (codes "at character " ++ (decimal character ++ (codes ": expected " ++ (json_expected_text expected ++ codes ": "))))
+
+-- The text is JSON of a value of the expression whose encoding has more than 4,096 bytes.
+pub record HasLongJson (expression text : List ℕ) : Type 0 where
+  pub schema : Schema
+  pub spelled : IsExpression schema expression
+  pub value : Value
+  pub is : SpellsJson schema value text
+  pub long : 4096 < length (canonical (tree value))
+
+-- The failures of `enc --json`.
+abbrev pub EncodeJsonFails : List ℕ → List ℕ → Option (List ℕ) → Option (List ℕ) → Failure → Type 0
+EncodeJsonFails expression text old new BadType = IsTypeRefused expression old new
+EncodeJsonFails expression text old new BadValue = IsJsonRefused expression text old new
+EncodeJsonFails expression text old new (Library e) = (e ≡ OutOfMemory) ⊎ ((e ≡ SerializeBufferFull) × HasLongJson expression text)
+EncodeJsonFails expression text old new Output = ⊤
+EncodeJsonFails expression text old new failure = ⊥
+
+-- No front of `rest`, which are the last of the bytes `all`, spells a value of the schema, and the line that says so was printed
+-- without its end. Of the path only its text is known.
+pub record IsFrontRefused (schema : Schema) (all rest : List ℕ) (old new : Option (List ℕ)) : Type 0 where
+  pub no_value : (v : Value) (more : List ℕ) → ReadsValue schema rest v more → ⊥
+  pub error : Error
+  pub named : IsReadError memory error
+  pub not_memory : error ≢ OutOfMemory
+  pub offset : ℕ
+  pub within : offset ≤ length rest
+  pub path : List ℕ
+  pub printed : Appends old new (refusal_text (min ((length all - length rest) + offset) (2 ^ 64 - 1)) error path)
+
+-- The failures of reading the value at the front of `rest`.
+abbrev pub JsonFrontFails : Schema → List ℕ → List ℕ → Option (List ℕ) → Option (List ℕ) → Failure → Type 0
+JsonFrontFails schema all rest old new Refused = IsFrontRefused schema all rest old new
+JsonFrontFails schema all rest old new (Library e) = e ≡ OutOfMemory
+JsonFrontFails schema all rest old new Output = ⊤
+JsonFrontFails schema all rest old new failure = ⊥
+
+-- The failures of printing the line of the value at the front of `rest`. That it has JSON is not proved.
+abbrev pub JsonLineFails : Schema → List ℕ → List ℕ → Option (List ℕ) → Option (List ℕ) → Failure → Type 0
+JsonLineFails schema all rest old new (Library e) = (e ≡ OutOfMemory) ⊎ (e ≡ WontImplement)
+JsonLineFails schema all rest old new failure = JsonFrontFails schema all rest old new failure
+
+-- The bytes of HEX are values of the expression, and then bytes of which no front is one: the lines of the values were printed, and
+-- then that of the refusal without its end. For `dec` there are no values before.
+pub record IsLineRefused (expression hex : List ℕ) (known left old new : Option (List ℕ)) : Type 0 where
+  pub schema : Schema
+  pub spelled : IsExpression schema expression
+  pub bytes : List ℕ
+  pub stands : StandsFor hex known left bytes
+  pub values : List Value
+  pub rest : List ℕ
+  pub mid : Option (List ℕ)
+  pub lines : PrintsJsonLines schema bytes bytes values rest old mid
+  pub refused : IsFrontRefused schema bytes rest mid new
+
+-- The failures of `dec --json`.
+abbrev pub DecodeJsonFails : ℕ → Type 0 → List ℕ → List ℕ → Option (List ℕ) → Option (List ℕ) → Option (List ℕ) → Option (List ℕ) → Failure → Type 0
+DecodeJsonFails reads steady expression hex known left old new Refused =
+    (refused : IsLineRefused expression hex known left old new) × (refused.values ≡ [])
+DecodeJsonFails reads steady expression hex known left old new (Library e) = (e ≡ OutOfMemory) ⊎ (e ≡ WontImplement)
+DecodeJsonFails reads steady expression hex known left old new failure = DecodeFails reads steady expression hex known left old new failure
+
+-- The failures of `decs --json`.
+abbrev pub DecodeAllJsonFails : ℕ → Type 0 → List ℕ → List ℕ → Option (List ℕ) → Option (List ℕ) → Option (List ℕ) → Option (List ℕ) → Failure → Type 0
+DecodeAllJsonFails reads steady expression hex known left old new Refused = IsLineRefused expression hex known left old new
+DecodeAllJsonFails reads steady expression hex known left old new (Library e) = (e ≡ OutOfMemory) ⊎ (e ≡ WontImplement)
+DecodeAllJsonFails reads steady expression hex known left old new failure = DecodeAllFails reads steady expression hex known left old new failure
+
 -- ---- types that have a name
 
 -- The value's encoding has more than 4,096 bytes, and the library's error `e` says so. No value of a
@@ -346,6 +428,9 @@ CommandFails reads steady (Decode kind hex) known left old new failure = DecodeW
 CommandFails reads steady (DecodeAll expression hex) known left old new failure = DecodeAllFails reads steady expression.now hex.now known left old new failure
 CommandFails reads steady (EncodeChecked name expression value) known left old new failure = EncodeCheckedFails name.now expression.now value.now old new failure
 CommandFails reads steady (DecodeChecked name expression hex) known left old new failure = DecodeCheckedFails reads steady name.now expression.now hex.now known left old new failure
+CommandFails reads steady (EncodeJson expression text) known left old new failure = EncodeJsonFails expression.now text.now old new failure
+CommandFails reads steady (DecodeJson expression hex) known left old new failure = DecodeJsonFails reads steady expression.now hex.now known left old new failure
+CommandFails reads steady (DecodeAllJson expression hex) known left old new failure = DecodeAllJsonFails reads steady expression.now hex.now known left old new failure
 CommandFails reads steady Frames known left old new failure = FramesFail steady known left old new failure
 CommandFails reads steady (FramesOf expression longest) known left old new failure = StreamFails steady expression.now longest known left old new failure
 CommandFails reads steady (FramesChecked name expression) known left old new failure = StreamCheckedFails steady name.now expression.now known left old new failure

@@ -2,7 +2,7 @@
 
 ghost use Rattle.std.specs.Prelude.{◌≡◌, ◌≢◌, ℕ, [], ◌∷◌, codes, IfSome, IfNone, map, string_bytes};
 ghost use Rattle.postcard_cli.specs.Command.{IsCallOf, IsNoCall, IsWordOf, SaysLongest};
-ghost use Rattle.postcard_cli.specs.Command.{looks_like_expression, name_of};
+ghost use Rattle.postcard_cli.specs.Command.{begins_expression, looks_like_expression, name_of};
 ghost use Rattle.postcard_cli.specs.declared.command.TypeWord.{TypeWord};
 ghost use Rattle.postcard_cli.specs.declared.command.ValueType.{ValueType};
 
@@ -55,20 +55,28 @@ impl ValueType {
     }
 }
 
-/// Returns whether a word counts as a type expression: whether it begins with `(`, `[` or `{`, ends
-/// with `?` or `>`, has a `|` in it, or is `f32` or `f64`. No name of a type does.
+/// Returns whether a word counts as a type expression: whether it begins with `(`, `[`, `{` or `&`,
+/// ends with `?` or `>`, has a `|` in it, or is `f32` or `f64`. No name of a type does.
 pub fn is_expression(word: &str) -> bool
     ensures { result ≡ looks_like_expression word.now }
 {
     let bytes = word.as_bytes();
-    bytes.starts_with(b"(")
-        || bytes.starts_with(b"[")
-        || bytes.starts_with(b"{")
+    opens_expression(bytes)
         || bytes.ends_with(b"?")
         || bytes.ends_with(b">")
         || bytes.contains(&b'|')
         || bytes == b"f32".as_slice()
         || bytes == b"f64".as_slice()
+}
+
+/// Returns whether a word begins with `(`, `[`, `{` or `&`.
+fn opens_expression(word: &[u8]) -> bool
+    ensures { result ≡ begins_expression word.now }
+{
+    word.starts_with(b"(")
+        || word.starts_with(b"[")
+        || word.starts_with(b"{")
+        || word.starts_with(b"&")
 }
 
 /// The type that the word TYPE stands for.
@@ -124,6 +132,21 @@ pub enum Command<'a> {
     /// `dec --crc NAME TYPE HEX`, where TYPE is taken as an expression.
     DecodeChecked {
         name: &'a str,
+        expression: &'a str,
+        hex: &'a str,
+    },
+    /// `enc --json TYPE JSON`, where TYPE is taken as an expression.
+    EncodeJson {
+        expression: &'a str,
+        text: &'a str,
+    },
+    /// `dec --json TYPE HEX`, where TYPE is taken as an expression.
+    DecodeJson {
+        expression: &'a str,
+        hex: &'a str,
+    },
+    /// `decs --json TYPE HEX`, where TYPE is taken as an expression.
+    DecodeAllJson {
         expression: &'a str,
         hex: &'a str,
     },
@@ -283,6 +306,39 @@ impl<'a> Command<'a> {
         match command {
             "explain" => Command::uncut(option, third, fourth),
             "frames" => Command::limited(option, third, fourth),
+            _ => Command::in_json(command, option, third, fourth),
+        }
+    }
+
+    /// Returns the command of a call of four words, the first of which is neither `explain` nor
+    /// `frames`: a command, an option, a type and a text.
+    fn in_json(
+        command: &'a str,
+        option: &'a str,
+        kind: &'a str,
+        text: &'a str,
+    ) -> Option<Command<'a>>
+        ensures found { IfSome result (λ found.
+            IsCallOf (command.now ∷ option.now ∷ kind.now ∷ text.now ∷ []) found) }
+        ensures none { IfNone result (command.now ≢ codes "explain" → command.now ≢ codes "frames"
+            → IsNoCall (command.now ∷ option.now ∷ kind.now ∷ text.now ∷ [])) }
+    {
+        if option != "--json" {
+            return None;
+        }
+        match command {
+            "enc" => Some(Command::EncodeJson {
+                expression: kind,
+                text,
+            }),
+            "dec" => Some(Command::DecodeJson {
+                expression: kind,
+                hex: text,
+            }),
+            "decs" => Some(Command::DecodeAllJson {
+                expression: kind,
+                hex: text,
+            }),
             _ => None,
         }
     }

@@ -28,6 +28,8 @@ pub enum Failure {
     /// The library failed to encode or decode the value, or an allocation failed while TYPE, VALUE
     /// or HEX was read.
     Library(Error),
+    /// The library failed to decode, and a line that says so is printed, but for its end.
+    Refused,
     /// The output can't be written.
     Output,
     /// The input didn't end within the greatest number of reads.
@@ -44,7 +46,7 @@ impl Failure {
         ensures { result ≡ failure_status self.now }
     {
         match self {
-            Failure::Library(_) => 1,
+            Failure::Library(_) | Failure::Refused => 1,
             Failure::Usage | Failure::BadType | Failure::BadValue | Failure::BadHex => 2,
             Failure::BadHexAt(_) | Failure::UnknownChecksum => 2,
             Failure::Output | Failure::Limit | Failure::ReadFailed | Failure::OutOfMemory => 3,
@@ -64,6 +66,7 @@ impl fmt::Display for Failure {
             Failure::BadHexAt(character) => write!(f, "at character {character}: bad hex"),
             Failure::UnknownChecksum => f.write_str("unknown checksum, pcard crc lists them"),
             Failure::Library(error) => error.fmt(f),
+            Failure::Refused => Ok(()),
             Failure::Output => f.write_str("the output could not be written"),
             Failure::Limit => f.write_str("limit"),
             Failure::ReadFailed => f.write_str("read failed"),

@@ -12,6 +12,7 @@ pub mod failure;
 pub mod frames;
 pub mod hexadecimal;
 pub mod joined;
+pub mod json_message;
 pub mod message;
 pub mod pasted;
 pub mod place;

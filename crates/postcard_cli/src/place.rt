@@ -22,11 +22,23 @@ use std::alloc::Global;
 pub fn place_of(alloc: Global, schema: &Schema, message: &[u8]) -> Result<String>
     ensures { IfErr result (λ e. e ≡ Error.OutOfMemory) }
 {
-    let mut path = String::new(alloc);
-    push_path(alloc, schema, message, &mut path)?;
+    let mut path = path_of(alloc, schema, message)?;
     if !path.is_empty() {
         path.push_str(": ")?;
     }
+    Ok(path)
+}
+
+/// Returns that path alone.
+///
+/// # Errors
+///
+/// Fails with `OutOfMemory` if an allocation fails.
+pub fn path_of(alloc: Global, schema: &Schema, message: &[u8]) -> Result<String>
+    ensures { IfErr result (λ e. e ≡ Error.OutOfMemory) }
+{
+    let mut path = String::new(alloc);
+    push_path(alloc, schema, message, &mut path)?;
     Ok(path)
 }
 

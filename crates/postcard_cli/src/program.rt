@@ -33,7 +33,9 @@ use crate::failure::Failure;
 use crate::joined::Joined;
 use crate::stream::READS;
 use crate::syntax::SYNTAX;
-use crate::{checksum, explain, frames, hexadecimal, message, size, stream, syntax, value};
+use crate::{
+    checksum, explain, frames, hexadecimal, json_message, message, size, stream, syntax, value,
+};
 use postcard_de::{Deserialize, take_from_bytes};
 use postcard_de_flavors::Source;
 use postcard_ser::{Serialize, Serializer};
@@ -153,6 +155,15 @@ fn carry_out<R: Source, W: Write>(
             expression,
             hex,
         } => message::decode_checked(alloc, name, expression, hex, input, output),
+        Command::EncodeJson { expression, text } => {
+            json_message::encode(alloc, expression, text, output)
+        }
+        Command::DecodeJson { expression, hex } => {
+            json_message::decode(alloc, expression, hex, input, output)
+        }
+        Command::DecodeAllJson { expression, hex } => {
+            json_message::decode_all(alloc, expression, hex, input, output)
+        }
         Command::Frames => frames::print(alloc, input, output),
         Command::FramesOf {
             expression,

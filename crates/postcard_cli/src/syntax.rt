@@ -27,8 +27,8 @@ BTreeMap<K, V>              the same, and so is HashMap<K, V>
 A | B(T, U) | C{name: T}    an enum, Boot | Reading(u16, i32) | Fault{code: u8}: Reading(1, -2)
 | A(T, U)                   an enum with one variant, | Reading(u16, i32): Reading(1, -2)
 Result<T, E>                the enum Ok(T) | Err(E), Result<u8, str>: Ok(7)
-Box<T>                      T itself
-Where a type is asked for, an expression begins with ( [ or {, ends with ? or >, holds |, or is f32 or f64.
+Box<T>, &T, &'a T           T itself, as &str for str
+Where a type is asked for, an expression begins with ( [ { or &, ends with ? or >, holds |, or is f32 or f64.
 So (u8) is the expression u8. HEX may have blanks and 0x, and - reads it from the input.
 ";
 

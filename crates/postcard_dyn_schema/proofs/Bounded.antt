@@ -9,7 +9,7 @@ use Rattle.postcard_dyn_schema.specs.declared.angled.Pair.TheVariants as pairs
 use Rattle.postcard_dyn_schema.specs.Meaning.{MessageType, MessageTypes, seq, array, group, choice, no_types, then_type, has_bytes, type_of, types_of}
 use Rattle.postcard_dyn_schema.proofs.TypeOf.{type_of_leaf, type_of_option, type_of_seq, type_of_map, type_of_array, type_of_group, type_of_enum, type_of_named}
 use Rattle.postcard_dyn_schema.specs.Bounds.{ElementsHaveBytes, AllElementsHaveBytes, depth, greatest_depth}
-use Rattle.postcard_dyn_schema.specs.Grammar.{Separated, IsLeaf, IsListRest, IsTupleRest, IsField, IsFieldsRest, IsMapRest, IsHolderRest, IsPairRest, IsWorded, IsPlain, IsOptions, IsContent, IsVariantText, IsEnumText, IsType}
+use Rattle.postcard_dyn_schema.specs.Grammar.{Separated, IsLeaf, IsListRest, IsTupleRest, IsField, IsFieldsRest, IsMapRest, IsHolderRest, IsPairRest, IsWorded, IsPlain, IsBehind, IsReferred, IsOptions, IsContent, IsVariantText, IsEnumText, IsType}
 
 -- The elements of the type have bytes, and its depth is at most n.
 pub record Bounded (n : ℕ) (t : MessageType) : Type 0 where
@@ -107,6 +107,14 @@ of_plain n T each s t (inr (inr (inl (x, y, sign, h, e)))) = more (n + 1) (n + 2
 of_plain n T each s t (inr (inr (inr (x, y, sign, inl h, e)))) = more (n + 1) (n + 2) (type_of s) (omega arith) (of_fields n T each s y h)
 of_plain n T each s t (inr (inr (inr (x, y, sign, inr h, e)))) = of_map n T each s y h
 
+of_behind : (n k : ℕ) (T : Schema → List ℕ → Type 0) → Bounds n T → Bounds (n + 2) (IsBehind k T)
+of_behind n zero T each s t h = of_plain n T each s t h
+of_behind n (suc k) T each s t (x, y, sign, inl h, e) = of_behind n k T each s y h
+of_behind n (suc k) T each s t (x, y, sign, inr (x2, y2, quote, (name, named, (word, back, spelled, (apart, h), e3)), e2), e) = of_behind n k T each s back h
+
+of_referred : (n : ℕ) (T : Schema → List ℕ → Type 0) → Bounds n T → Bounds (n + 2) (IsReferred T)
+of_referred n T each s t (k, h) = of_behind n k T each s t h
+
 of_options : (n k : ℕ) (P : Schema → List ℕ → Type 0) → Bounds n P → Bounds (n + k) (IsOptions k P)
 of_options n zero P each s t h = more n (n + 0) (type_of s) (omega arith) (each s t h)
 of_options n (suc k) P each s t (b, is, (x, y, h, sign, e)) =
@@ -131,4 +139,4 @@ unfolding IsType
 type_bounded zero s t h = absurd h
 type_bounded (suc d) s t (inl h) = more (6 * d + 2) (6 * suc d) (type_of s) (omega arith) (of_enum (6 * d) (IsType d) (type_bounded d) s t h)
 type_bounded (suc d) s t (inr (k, few, h)) =
-    more (6 * d + 2 + k) (6 * suc d) (type_of s) (omega (arith, few)) (of_options (6 * d + 2) k (IsPlain (IsType d)) (of_plain (6 * d) (IsType d) (type_bounded d)) s t h)
+    more (6 * d + 2 + k) (6 * suc d) (type_of s) (omega (arith, few)) (of_options (6 * d + 2) k (IsReferred (IsType d)) (of_referred (6 * d) (IsType d) (type_bounded d)) s t h)

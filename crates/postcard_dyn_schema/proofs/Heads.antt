@@ -14,7 +14,7 @@ use Rattle.postcard_dyn_schema.specs.declared.angled.Pair.TheVariants as pairs
 use Rattle.postcard_dyn_schema.specs.Meaning.{MessageType, option, type_of, IsNameOf}
 use Rattle.postcard_dyn_schema.specs.Text.{unblank, Then, TakesPhrase, IsSign, IsWord, is_of_word}
 use Rattle.postcard_dyn_schema.specs.Angled.{IsHolderName, IsPairName}
-use Rattle.postcard_dyn_schema.specs.Grammar.{Separated, IsTupleRest, IsField, IsFieldsRest, IsHolderRest, IsPairRest, IsAngleRest, IsWorded, IsPlain, IsOptions, IsContent, IsVariantText, IsLead, IsEnumText, IsType}
+use Rattle.postcard_dyn_schema.specs.Grammar.{Separated, IsTupleRest, IsField, IsFieldsRest, IsHolderRest, IsPairRest, IsAngleRest, IsWorded, IsPlain, IsReferenceRest, IsBehind, IsReferred, IsOptions, IsContent, IsVariantText, IsLead, IsEnumText, IsType}
 use Rattle.postcard_dyn_schema.specs.Fronts.{Starts, StartsEnum, follows_name}
 use Rattle.postcard_dyn_schema.specs.FrontLemmas.{trim_is, pass_head, sign_unblank, word_unblank, takes_split, same_first, not_empty}
 use Rattle.postcard_dyn_schema.proofs.TypeOf.{type_of_option}
@@ -183,7 +183,7 @@ worded_head T s a r (front, inr (name, h), whole) =
     let k = takes_split (IsWord name) (IsAngleRest T name s) a r (front, h, whole) in
     word_starts name a k.0 (angle_sign T name s k.0 r k.2).0 k.1
 
--- The first byte of a type that is no enum.
+-- The first byte of a type that is no enum, with no `&` before it.
 abbrev pub starts_plain : ℕ → Bool
 starts_plain x = is_of_word x || (nat_eq x 91 || (nat_eq x 40 || nat_eq x 123))
 
@@ -192,6 +192,14 @@ plain_head T s a r (front, inl h, whole) = let head = worded_head T s a r (front
 plain_head T s a r (front, inr (inl h), whole) = let k = takes_split _ _ a r (front, h, whole) in (91, k.0, sign_unblank 91 a k.0 refl k.1, refl)
 plain_head T s a r (front, inr (inr (inl h)), whole) = let k = takes_split _ _ a r (front, h, whole) in (40, k.0, sign_unblank 40 a k.0 refl k.1, refl)
 plain_head T s a r (front, inr (inr (inr h)), whole) = let k = takes_split _ _ a r (front, h, whole) in (123, k.0, sign_unblank 123 a k.0 refl k.1, refl)
+
+-- The first byte of a type that is no enum.
+abbrev pub starts_referred : ℕ → Bool
+starts_referred x = starts_plain x || nat_eq x 38
+
+pub referred_head : (T : Schema → List ℕ → Type 0) (s : Schema) (a r : List ℕ) → TakesPhrase (IsReferred T s) a r → Starts starts_referred a
+referred_head T s a r (front, (zero, h), whole) = let head = plain_head T s a r (front, h, whole) in (head.0, head.1, head.2, or_left (starts_plain head.0) _ head.3)
+referred_head T s a r (front, (suc n, h), whole) = let k = takes_split (IsSign 38) (IsReferenceRest (IsBehind n T s)) a r (front, h, whole) in (38, k.0, sign_unblank 38 a k.0 refl k.1, refl)
 
 pub variant_head : (T : Schema → List ℕ → Type 0) (s : Schema) (a r : List ℕ) → TakesPhrase (IsVariantText T s) a r → Starts is_ascii_uppercase a
 variant_head T s a r (front, (n, b, is, filled, letter, h), whole) =
@@ -300,17 +308,17 @@ options_split P (suc n) s a r (front, (b, is, h), whole) =
 
 -- The first byte of a type.
 abbrev pub starts_type : ℕ → Bool
-starts_type x = starts_plain x || starts_enum x
+starts_type x = starts_referred x || starts_enum x
 
 pub type_head : (d : ℕ) (s : Schema) (a r : List ℕ) → TakesPhrase (IsType d s) a r → Starts starts_type a
 unfolding IsType
 type_head zero s a r (front, none, whole) = absurd none
 type_head (suc d) s a r (front, inl h, whole) =
-    let head = enum_head (IsType d) s a r (front, h, whole) in (head.0, head.1, head.2, or_right (starts_plain head.0) (starts_enum head.0) head.3)
+    let head = enum_head (IsType d) s a r (front, h, whole) in (head.0, head.1, head.2, or_right (starts_referred head.0) (starts_enum head.0) head.3)
 type_head (suc d) s a r (front, inr (n, few, h), whole) =
-    let split = options_split (IsPlain (IsType d)) n s a r (front, h, whole) in
-    let head = plain_head (IsType d) split.0 a split.1 split.2 in
-    (head.0, head.1, head.2, or_left (starts_plain head.0) (starts_enum head.0) head.3)
+    let split = options_split (IsReferred (IsType d)) n s a r (front, h, whole) in
+    let head = referred_head (IsType d) split.0 a split.1 split.2 in
+    (head.0, head.1, head.2, or_left (starts_referred head.0) (starts_enum head.0) head.3)
 
 -- What begins with a byte that passes begins with no sign that doesn't.
 pub starts_not_by : (passes : ℕ → Bool) (sign : ℕ) (a r : List ℕ) → is_ascii_whitespace sign ≡ false → passes sign ≡ false → Starts passes a → TakesPhrase (IsSign sign) a r → ⊥

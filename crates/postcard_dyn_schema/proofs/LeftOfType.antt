@@ -6,11 +6,11 @@ use Rattle.postcard_dyn_schema.specs.declared.schema.Schema.{Schema}
 use Rattle.postcard_dyn_schema.specs.declared.schema.Leaf.{Leaf}
 use Rattle.postcard_dyn_schema.specs.Meaning.{MessageType, leaf, option, type_of, IsNameOf}
 use Rattle.postcard_dyn_schema.specs.Text.{TakesPhrase, IsSign, IsWord, is_of_word, EndsWord, GoesOnBy}
-use Rattle.postcard_dyn_schema.specs.Grammar.{Separated, IsListRest, IsTupleRest, IsFieldsRest, IsMapRest, IsBracesRest, IsAngleRest, IsWorded, IsPlain, IsContent, IsVariantText, IsLead, IsEnumText, IsType}
+use Rattle.postcard_dyn_schema.specs.Grammar.{Separated, IsListRest, IsTupleRest, IsFieldsRest, IsMapRest, IsBracesRest, IsAngleRest, IsWorded, IsPlain, IsReferenceRest, IsBehind, IsReferred, IsContent, IsVariantText, IsLead, IsEnumText, IsType}
 use Rattle.postcard_dyn_schema.specs.Fronts.{follows_type, follows_variant, follows_name, IsNamed, Starts, StartsEnum}
 use Rattle.postcard_dyn_schema.specs.FrontLemmas.{word_unblank, takes_split, WordTaken, sign_ends_word, sign_unblank, same_first, pass_head}
 use Rattle.postcard_dyn_schema.proofs.TypeOf.{type_of_leaf}
-use Rattle.postcard_dyn_schema.proofs.Heads.{plain_head, worded_head, enum_starts, separated_first, starts_plain, starts_not_by, in_options, Signs, options_split, leaf_filled, one_leaf, angle_sign}
+use Rattle.postcard_dyn_schema.proofs.Heads.{word_starts, plain_head, worded_head, enum_starts, separated_first, starts_plain, starts_not_by, in_options, Signs, options_split, leaf_filled, one_leaf, angle_sign}
 use Rattle.postcard_dyn_schema.proofs.Left.{after_sign, other_sign, goes_variant, goes_ends_word, goes_no_name, name_ends_word, not_next, not_next_type, row_follows}
 use Rattle.postcard_dyn_schema.proofs.LeftOfList.{map_begins}
 use Rattle.postcard_dyn_schema.proofs.LeftOfFields.{fields_named}
@@ -28,7 +28,7 @@ word_not_sign (x ∷ v) sign a b r filled black none taken h =
     true≢false (sym (pass_head is_of_word x v taken.bytes) ∙ ap is_of_word same ∙ none)
 
 -- A filled word that is taken whole.
-taken_whole : (w a b : List ℕ) → 0 < length w → TakesPhrase (IsWord w) a b → EndsWord b → WordTaken a w b
+pub taken_whole : (w a b : List ℕ) → 0 < length w → TakesPhrase (IsWord w) a b → EndsWord b → WordTaken a w b
 taken_whole [] a b filled word ends = absurd (omega (arith, filled))
 taken_whole (x ∷ w) a b filled word ends = record { bytes = word.1.0; first = word_unblank x w a b word; ends = ends }
 
@@ -92,6 +92,14 @@ plain_no_enum T s a m ends none (inr (v, b, filled, letter, word, next)) h = by 
     by (front, inr (inr (inl k)), whole) = let l = takes_split (IsSign 40) (IsTupleRest T s) a m (front, k, whole) in word_not_sign v 40 a b l.0 filled refl refl taken l.1
     by (front, inr (inr (inr k)), whole) = let l = takes_split (IsSign 123) (IsBracesRest T s) a m (front, k, whole) in word_not_sign v 123 a b l.0 filled refl refl taken l.1
 
+referred_no_enum : (T : Types) (s : Schema) (a m : List ℕ) → EndsWord m → (Starts follows_name m → ⊥) → StartsEnum a → TakesPhrase (IsReferred T s) a m → ⊥
+referred_no_enum T s a m ends none starts (front, (zero, h), whole) = plain_no_enum T s a m ends none starts (front, h, whole)
+referred_no_enum T s a m ends none starts (front, (suc n, h), whole) = by starts (takes_split (IsSign 38) (IsReferenceRest (IsBehind n T s)) a m (front, h, whole))
+  where
+    by : StartsEnum a → (b : List ℕ) × TakesPhrase (IsSign 38) a b × TakesPhrase (IsReferenceRest (IsBehind n T s)) b m → ⊥
+    by (inl (rest, bar)) (b, sign, left) = other_sign 124 38 a rest b refl refl refl bar sign
+    by (inr (v, c, filled, letter, word, next)) (b, sign, left) = starts_not_by is_of_word 38 a b refl refl (word_starts v a c filled word) sign
+
 -- A text that begins as an enum is one.
 pub type_as_enum : (d e : ℕ) (s : Schema) (a r : List ℕ) → d ≡ suc e → StartsEnum a → GoesOnBy follows_type r → TakesPhrase (IsType d s) a r → TakesPhrase (IsEnumText (IsType e) s) a r
 unfolding IsType
@@ -100,8 +108,8 @@ type_as_enum d e s a r deep starts goes h = by (subst (λ n. TakesPhrase (IsType
     by : TakesPhrase (IsType (suc e) s) a r → TakesPhrase (IsEnumText (IsType e) s) a r
     by (front, inl k, whole) = (front, k, whole)
     by (front, inr (n, few, k), whole) =
-        let split = options_split (IsPlain (IsType e)) n s a r (front, k, whole) in
-        absurd (plain_no_enum (IsType e) split.0 a split.1 (question_ends n split.1 r goes split.4) (question_no_name n split.1 r goes split.4) starts split.2)
+        let split = options_split (IsReferred (IsType e)) n s a r (front, k, whole) in
+        absurd (referred_no_enum (IsType e) split.0 a split.1 (question_ends n split.1 r goes split.4) (question_no_name n split.1 r goes split.4) starts split.2)
 
 -- Whether an enum is next: a `|` is, or a word v, after which `|`, `(` or `{` is next as r says.
 pub enum_bar_next : (text rest : List ℕ) → TakesPhrase (IsSign 124) text rest → Decides true (StartsEnum text)
@@ -135,7 +143,7 @@ pub record OptionsLeft (s : Schema) (t : MessageType) (k : ℕ) (a r : List ℕ)
 pub record PlainFront (T : Types) (s : Schema) (a r : List ℕ) : Type 0 where
   pub first : Schema
   pub rest : List ℕ
-  pub taken : TakesPhrase (IsPlain T first) a rest
+  pub taken : TakesPhrase (IsReferred T first) a rest
   pub ends : EndsWord rest
   pub left : OptionsLeft s (type_of first) 0 rest r
 
@@ -146,7 +154,7 @@ type_as_plain d e s a r deep none goes h = by (subst (λ n. TakesPhrase (IsType 
     by : TakesPhrase (IsType (suc e) s) a r → PlainFront (IsType e) s a r
     by (front, inl k, whole) = absurd (none (enum_starts (IsType e) s a r (front, k, whole)))
     by (front, inr (n, few, k), whole) =
-        let split = options_split (IsPlain (IsType e)) n s a r (front, k, whole) in
+        let split = options_split (IsReferred (IsType e)) n s a r (front, k, whole) in
         record { first = split.0; rest = split.1; taken = split.2; ends = question_ends n split.1 r goes split.4; left = record { more = n; few = omega (arith, few); is = split.3; signs = split.4 } }
 
 -- After a `?` one less is left.
@@ -219,10 +227,10 @@ type_not_named (suc d) s a v b c m (front, inl (vs, is, differ, h), whole) goes 
         let same : a ≡ k = e ∙ ap (λ t. t ++ k) nothing in
         let variant = variant_front (IsType d) first.0 a v b first.2 taken (subst (λ t. TakesPhrase (IsVariantText (IsType d) first.0) t first.2) (sym same) first.4) next in
         by_content variant.content first.2 next variant.left
-type_not_named (suc d) s a v b c m (front, inr (n, few, h), whole) goes taken filled colon = by_plain split.2
+type_not_named (suc d) s a v b c m (front, inr (n, few, h), whole) goes taken filled colon = by_referred split.2
   where
-    split : (x : Schema) × (k : List ℕ) × TakesPhrase (IsPlain (IsType d) x) a k × (type_of s ≡ in_options n (type_of x)) × Signs 63 n k m
-    split = options_split (IsPlain (IsType d)) n s a m (front, h, whole)
+    split : (x : Schema) × (k : List ℕ) × TakesPhrase (IsReferred (IsType d) x) a k × (type_of s ≡ in_options n (type_of x)) × Signs 63 n k m
+    split = options_split (IsReferred (IsType d)) n s a m (front, h, whole)
 
     no_colon : (j : ℕ) (k : List ℕ) → Signs 63 j k m → TakesPhrase (IsSign 58) k c → ⊥
     no_colon zero k same sign = not_next_type 58 m c refl refl goes (subst (λ t. TakesPhrase (IsSign 58) t c) same sign)
@@ -237,6 +245,10 @@ type_not_named (suc d) s a v b c m (front, inr (n, few, h), whole) goes taken fi
     by_plain (f, inr (inl k), e) = let p = takes_split (IsSign 91) (IsListRest (IsType d) split.0) a split.1 (f, k, e) in word_not_sign v 91 a b p.0 filled refl refl taken p.1
     by_plain (f, inr (inr (inl k)), e) = let p = takes_split (IsSign 40) (IsTupleRest (IsType d) split.0) a split.1 (f, k, e) in word_not_sign v 40 a b p.0 filled refl refl taken p.1
     by_plain (f, inr (inr (inr k)), e) = let p = takes_split (IsSign 123) (IsBracesRest (IsType d) split.0) a split.1 (f, k, e) in word_not_sign v 123 a b p.0 filled refl refl taken p.1
+
+    by_referred : TakesPhrase (IsReferred (IsType d) split.0) a split.1 → ⊥
+    by_referred (f, (zero, h), e) = by_plain (f, h, e)
+    by_referred (f, (suc j, h), e) = let p = takes_split (IsSign 38) (IsReferenceRest (IsBehind j (IsType d) split.0)) a split.1 (f, h, e) in word_not_sign v 38 a b p.0 filled refl refl taken p.1
 
 -- What follows a `{` is a struct if a name and a `:` are next, and else a map.
 pub braces_as_fields : (d : ℕ) (s : Schema) (a r : List ℕ) → IsNamed a → TakesPhrase (IsBracesRest (IsType d) s) a r → TakesPhrase (IsFieldsRest (IsType d) s) a r

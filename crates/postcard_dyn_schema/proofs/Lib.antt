@@ -11,4 +11,5 @@ pub mod LeftOfEnum
 pub mod LeftOfAngled
 pub mod AngledSchemas
 pub mod LeftOfType
+pub mod LeftOfReference
 pub mod Refusals

@@ -10,7 +10,7 @@ use Rattle.postcard_dyn_schema.specs.declared.angled.Pair.TheVariants as pairs
 use Rattle.postcard_dyn_schema.specs.Meaning.{group, has_bytes, type_of, types_of}
 use Rattle.postcard_dyn_schema.specs.Angled.{MayPair, IsPairOf}
 use Rattle.postcard_dyn_schema.specs.Text.{Then, TakesPhrase, IsSign, IsMaybe, IsWord, IsCount}
-use Rattle.postcard_dyn_schema.specs.Grammar.{Separated, IsListRest, IsTupleEnd, IsTupleRest, IsField, IsFieldsRest, IsMapRest, IsBracesRest, IsPlain, IsOptions, IsContent, IsVariantText, IsLead, IsEnumText, IsType}
+use Rattle.postcard_dyn_schema.specs.Grammar.{Separated, IsListRest, IsTupleEnd, IsTupleRest, IsField, IsFieldsRest, IsMapRest, IsBracesRest, IsPlain, IsReferred, IsOptions, IsContent, IsVariantText, IsLead, IsEnumText, IsType}
 use Rattle.postcard_dyn_schema.specs.Phrases.{takes_two, takes_as}
 use Rattle.postcard_dyn_schema.specs.Names.{NamesDiffer}
 use Rattle.postcard_dyn_schema.proofs.TypeOf.{type_of_group}
@@ -25,8 +25,8 @@ pub type_enum : (d e : ℕ) (s : Schema) (a c : List ℕ) → d ≡ suc e → Ta
 unfolding IsType
 type_enum d e s a c deep (x, h, g) = rw deep (x, inl h, g)
 
--- Taking a plain type and up to four `?` takes a type.
-pub type_options : (d e n : ℕ) (s : Schema) (a c : List ℕ) → d ≡ suc e → n ≤ 4 → TakesPhrase (IsOptions n (IsPlain (IsType e)) s) a c → TakesPhrase (IsType d s) a c
+-- Taking a type that is no enum and up to four `?` takes a type.
+pub type_options : (d e n : ℕ) (s : Schema) (a c : List ℕ) → d ≡ suc e → n ≤ 4 → TakesPhrase (IsOptions n (IsReferred (IsType e)) s) a c → TakesPhrase (IsType d s) a c
 unfolding IsType
 type_options d e n s a c deep few (x, h, g) = rw deep (x, inr (n, few, h), g)
 

@@ -12,7 +12,7 @@ use Rattle.postcard_dyn_schema.specs.declared.angled.Pair.{Pair}
 use Rattle.postcard_dyn_schema.specs.Angled.{IsHolderName, MayHold, IsHolderOf, IsPairName, MayPair, IsPairOf}
 use Rattle.postcard_dyn_schema.specs.Meaning.{IsNameOf, has_bytes, type_of}
 use Rattle.postcard_dyn_schema.specs.Names.{NamesDiffer, HasNewName}
-use Rattle.postcard_dyn_schema.specs.Text.{AreBlank, Then, IsSign, IsMaybe, IsWord, IsCount}
+use Rattle.postcard_dyn_schema.specs.Text.{AreBlank, Then, IsSign, IsMaybe, IsWord, IsLifetimeName, EndsWord, IsCount}
 
 -- One type or more in a row, each spelled by P, with a sign between two of them.
 abbrev pub Separated : (Schema → List ℕ → Type 0) → ℕ → List Schema → List ℕ → Type 0
@@ -88,13 +88,30 @@ IsAngled T s text = (name : List ℕ) × Then (IsWord name) (IsAngleRest T name 
 abbrev pub IsWorded : (Schema → List ℕ → Type 0) → Schema → List ℕ → Type 0
 IsWorded T s text = IsLeaf s text ⊎ IsAngled T s text
 
--- A type that is no enum and not followed by `?`.
+-- A type that is no enum, with no `&` before it and not followed by `?`.
 abbrev pub IsPlain : (Schema → List ℕ → Type 0) → Schema → List ℕ → Type 0
 IsPlain T s text =
     IsWorded T s text
     ⊎ (Then (IsSign 91) (IsListRest T s) text
     ⊎ (Then (IsSign 40) (IsTupleRest T s) text
     ⊎ Then (IsSign 123) (IsBracesRest T s) text))
+
+-- What follows the `'` of a lifetime: its name, and then a phrase of P, which begins with no byte of a word.
+abbrev pub IsLifetimeRest : (List ℕ → Type 0) → List ℕ → Type 0
+IsLifetimeRest P text = (name : List ℕ) × IsLifetimeName name × Then (IsWord name) (λ back. EndsWord back × P back) text
+
+-- What follows the `&` of a reference: a phrase of P, with a lifetime before it or none.
+abbrev pub IsReferenceRest : (List ℕ → Type 0) → List ℕ → Type 0
+IsReferenceRest P text = P text ⊎ Then (IsSign 39) (IsLifetimeRest P) text
+
+-- A type that is no enum, behind n times `&`.
+abbrev pub IsBehind : ℕ → (Schema → List ℕ → Type 0) → Schema → List ℕ → Type 0
+IsBehind zero T s text = IsPlain T s text
+IsBehind (suc n) T s text = Then (IsSign 38) (IsReferenceRest (IsBehind n T s)) text
+
+-- A type that is no enum and not followed by `?`. References to a type have the schema of that type.
+abbrev pub IsReferred : (Schema → List ℕ → Type 0) → Schema → List ℕ → Type 0
+IsReferred T s text = (n : ℕ) × IsBehind n T s text
 
 -- A type spelled by P, followed by n times `?`.
 abbrev pub IsOptions : ℕ → (Schema → List ℕ → Type 0) → Schema → List ℕ → Type 0
@@ -129,7 +146,7 @@ IsEnumText T s text = (v : Vec Schema Global) × (s ≡ Enum v) × NamesDiffer v
 
 -- Any type, where the types in its brackets are spelled by T.
 abbrev pub IsTypeOver : (Schema → List ℕ → Type 0) → Schema → List ℕ → Type 0
-IsTypeOver T s text = IsEnumText T s text ⊎ ((n : ℕ) × (n ≤ 4) × IsOptions n (IsPlain T) s text)
+IsTypeOver T s text = IsEnumText T s text ⊎ ((n : ℕ) × (n ≤ 4) × IsOptions n (IsReferred T) s text)
 
 -- The text spells the type, with types nested at most n deep in brackets, where the type itself has depth 1.
 unfoldable pub IsType : ℕ → Schema → List ℕ → Type 0

@@ -1,5 +1,5 @@
 -- Texts of type expressions as lists of bytes: their characters, blanks, signs and words.
-use Rattle.std.specs.Prelude.{◌≡◌, ℕ, ◌+◌, ◌*◌, ◌-◌, ◌^◌, ◌<◌, nat_eq, Bool, true, false, cond, not, ◌||◌, ◌⊎◌, List, [], ◌∷◌, ◌++◌, length, bit_and}
+use Rattle.std.specs.Prelude.{◌≡◌, ℕ, ◌+◌, ◌*◌, ◌-◌, ◌^◌, ◌<◌, nat_eq, Bool, true, false, cond, not, ◌||◌, ◌⊎◌, List, [], ◌∷◌, ◌++◌, length, slice_index, bit_and}
 use Rattle.std.specs.List.{count_by, AllPass}
 use Rattle.std.specs.Char.{is_ascii_whitespace, is_ascii_alphanumeric, is_ascii_digit}
 
@@ -52,6 +52,16 @@ unblank (b ∷ text) = cond (is_ascii_whitespace b) (unblank text) (b ∷ text)
 abbrev pub EndsWord : List ℕ → Type 0
 EndsWord [] = Unit {0}
 EndsWord (b ∷ text) = is_of_word b ≡ false
+
+-- The word may name a lifetime: it isn't empty and doesn't begin with a digit.
+abbrev pub IsLifetimeName : List ℕ → Type 0
+IsLifetimeName name = (0 < length name) × (is_ascii_digit (slice_index name 0) ≡ false)
+
+-- The lifetime that is next is taken, `'` and a name that ends there, and `rest` is left. Without a `'` all of the text is left.
+abbrev pub TakesLifetime : List ℕ → List ℕ → Type 0
+TakesLifetime text rest =
+    (((after : List ℕ) → TakesPhrase (IsSign 39) text after → ⊥) × (rest ≡ text))
+    ⊎ ((start : List ℕ) × (name : List ℕ) × IsLifetimeName name × TakesPhrase (IsSign 39) text start × TakesPhrase (IsWord name) start rest × EndsWord rest)
 
 -- The text is blanks alone, or empty, or its first byte after blanks passes the test.
 abbrev pub GoesOnBy : (ℕ → Bool) → List ℕ → Type 0

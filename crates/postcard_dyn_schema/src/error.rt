@@ -17,6 +17,8 @@ pub enum Problem {
     VariantExpected,
     /// The name of a field is expected, which doesn't begin with a digit.
     FieldExpected,
+    /// After the `'` of a lifetime its name is expected, which doesn't begin with a digit.
+    LifetimeExpected,
     /// Two fields of a struct, or two variants of an enum, have the same name.
     NameTwice,
     /// After a type in a tuple, neither `,` nor `)` follows.
@@ -60,6 +62,7 @@ impl fmt::Display for Problem {
             Problem::UnknownType => "unknown type",
             Problem::VariantExpected => "expected the name of a variant",
             Problem::FieldExpected => "expected the name of a field",
+            Problem::LifetimeExpected => "expected the name of a lifetime",
             Problem::NameTwice => "this name was used before",
             Problem::CommaOrParenthesis => "expected `,` or `)`",
             Problem::CommaOrBrace => "expected `,` or `}`",

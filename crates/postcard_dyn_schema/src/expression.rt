@@ -3,7 +3,7 @@
 //! The grammar, in which white space may come before any word or sign and at the end:
 //!
 //! ```text
-//! type     = plain {"?"} | ["|"] variant {"|" variant}
+//! type     = {"&" ["'" lifetime]} plain {"?"} | ["|"] variant {"|" variant}
 //! plain    = word | holder "<" type ">" | pair "<" type "," type ">"
 //!          | "[" type "]" | "[" type ";" count "]" | tuple
 //!          | "{" fields "}" | "{" type "=>" type "}"
@@ -23,9 +23,11 @@
 //! word names a type of Rust. So `String | Number` is an enum, and `[String]` a list of texts.
 //!
 //! `Box<T>` is the type `T`, `Vec<T>` is `[T]`, `Option<T>` is `T?`, a `BTreeMap<K, V>` or
-//! `HashMap<K, V>` is `{K => V}`, and `Result<T, E>` is `Ok(T) | Err(E)`.
+//! `HashMap<K, V>` is `{K => V}`, and `Result<T, E>` is `Ok(T) | Err(E)`. `&T` is the type `T`, since
+//! a reference is written as what it refers to; the name of a lifetime, as `a` in `&'a str`, begins
+//! with no digit.
 
-ghost use Rattle.std.specs.Prelude.{◌≡◌, ℕ, List, ◌+◌, ◌≤◌, ◌++◌, ◌⊎◌, [], ◌∷◌, length, Decides, IfOk, IfErr, OnOk};
+ghost use Rattle.std.specs.Prelude.{◌≡◌, ℕ, List, ◌+◌, ◌≤◌, length, Decides, IfOk, IfErr, OnOk};
 ghost use Rattle.postcard_dyn_schema.specs.Text.{characters, TakesPhrase, EndsWord, GoesOnBy};
 ghost use Rattle.postcard_dyn_schema.specs.Fronts.{HasFront, IsOnlyFront, IsRefusal, IsNamed, Anything};
 ghost use Rattle.postcard_dyn_schema.specs.Fronts.{Starts, StartsEnum};
@@ -37,16 +39,16 @@ ghost use Rattle.postcard_dyn_schema.specs.Names.{IsNewTo, IsTakenIn, HasNamesOf
 ghost use Rattle.postcard_dyn_schema.specs.Bounds.{ElementsHaveBytes, depth as depth_of};
 ghost use Rattle.postcard_dyn_schema.specs.declared.angled.Holder.{Holder};
 ghost use Rattle.postcard_dyn_schema.specs.declared.angled.Pair.{Pair};
-ghost use Rattle.postcard_dyn_schema.specs.Grammar.{IsType, IsPlain, IsListRest, IsTupleRest};
+ghost use Rattle.postcard_dyn_schema.specs.Grammar.{IsType, IsReferred, IsPlain, IsListRest, IsTupleRest};
 ghost use Rattle.postcard_dyn_schema.specs.Grammar.{IsWorded, IsAngleRest, IsHolderRest, IsPairRest};
 ghost use Rattle.postcard_dyn_schema.specs.Grammar.{IsFieldsRest, IsMapRest, IsBracesRest, IsEnumText};
-ghost use Rattle.postcard_dyn_schema.specs.Grammar.{IsVariantText, IsNewVariant, IsContent, IsExpression};
+ghost use Rattle.postcard_dyn_schema.specs.Grammar.{IsNewVariant, IsContent, IsExpression};
 
 use crate::angled::{Holder, Pair, map_of};
 use crate::error::{ExpressionError, Problem};
 use crate::scan::{
-    Fault, boxed, character_of, expect, fault_at, named, push, skip_blanks, take, take_count,
-    take_word,
+    Fault, boxed, character_of, expect, fault_at, named, push, skip_blanks, skip_lifetime, take,
+    take_count, take_word,
 };
 use crate::schema::{Leaf, Schema};
 use std::alloc::Global;
@@ -120,7 +122,7 @@ fn read_type(alloc: Global, rest: &mut &[u8], depth: usize) -> Result<Schema, Fa
     if begins_enum(rest) {
         return read_enum(alloc, rest, depth - 1);
     }
-    let mut schema = read_plain(alloc, rest, depth - 1)?;
+    let mut schema = read_referred(alloc, rest, depth - 1)?;
     for _ in 0..MAX_OPTIONS {
         if !take(rest, b'?') {
             return Ok(schema);
@@ -167,7 +169,23 @@ fn is_after_name(byte: u8) -> bool
     byte == b'|' || byte == b'(' || byte == b'{'
 }
 
-/// Reads a type that is no enum, without the `?` after it.
+/// Reads a type that is no enum, with any number of `&` before it and without the `?` after it.
+#[cycle(expression)]
+fn read_referred(alloc: Global, rest: &mut &[u8], depth: usize) -> Result<Schema, Fault>
+    ensures spelled { IfOk result (λ schema. TakesPhrase (IsReferred (IsType depth) schema)
+        rest.old.now rest.new.now) }
+    ensures one { IfOk result (λ schema.
+        IsOnlyFront EndsWord (IsReferred (IsType depth)) schema rest.old.now rest.new.now) }
+    ensures refused { IfErr result (λ fault.
+        IsRefusal fault.problem (HasFront EndsWord (IsReferred (IsType depth)) rest.old.now)) }
+{
+    'references: while take(rest, b'&') {
+        skip_lifetime(rest)?;
+    }
+    read_plain(alloc, rest, depth)
+}
+
+/// Reads a type that is no enum, with no `&` before it and without the `?` after it.
 #[cycle(expression)]
 fn read_plain(alloc: Global, rest: &mut &[u8], depth: usize) -> Result<Schema, Fault>
     ensures spelled { IfOk result (λ schema. TakesPhrase (IsPlain (IsType depth) schema)

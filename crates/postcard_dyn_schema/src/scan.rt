@@ -13,7 +13,7 @@ ghost use Rattle.std.specs.declared.string.String.{String};
 ghost use Rattle.postcard_dyn_schema.specs.declared.schema.Schema.{Schema};
 ghost use Rattle.postcard_dyn_schema.specs.declared.schema.Schema.TheVariants.{Named};
 ghost use Rattle.postcard_dyn_schema.specs.Text.{characters, TakesPhrase, IsSign, IsWord, IsCount};
-ghost use Rattle.postcard_dyn_schema.specs.Text.{is_of_word as is_of_word_byte, EndsWord};
+ghost use Rattle.postcard_dyn_schema.specs.Text.{is_of_word as is_of_word_byte, EndsWord, TakesLifetime};
 
 use crate::error::Problem;
 use crate::schema::Schema;
@@ -115,6 +115,26 @@ fn is_of_word(byte: u8) -> bool
     ensures { result ≡ is_of_word_byte byte }
 {
     byte.is_ascii_alphanumeric() || byte == b'_'
+}
+
+/// Takes a lifetime, such as `'a`, if `'` comes next.
+///
+/// # Errors
+///
+/// Fails with `LifetimeExpected` if no name follows the `'`, or one that begins with a digit.
+pub fn skip_lifetime(rest: &mut &[u8]) -> Result<(), Fault>
+    ensures taken { OnOk result (TakesLifetime rest.old.now rest.new.now) }
+    ensures none { OnErr result ((after : List ℕ) → TakesLifetime rest.old.now after → ⊥) }
+{
+    if !take(rest, b'\'') {
+        return Ok(());
+    }
+    let start = rest.trim_ascii_start();
+    let name = take_word(rest);
+    if name.is_empty() || name[0].is_ascii_digit() {
+        return Err(fault_at(Problem::LifetimeExpected, start));
+    }
+    Ok(())
 }
 
 /// Takes the blanks at the front and then the decimal digits of an array's count, which it returns.

@@ -1,8 +1,9 @@
 -- The limit of a type holds of its messages.
-use Rattle.std.proofs.Common.{ℕ, zero, suc, inl, inr, refl}
+use Rattle.std.proofs.Common.{◌≡◌, ◌≤◌, ℕ, zero, suc, inl, inr, refl, arith}
 use Rattle.std.specs.Prelude.{Option, Some, None}
 use Rattle.std.specs.Float.{binary32, binary64}
-use Rattle.postcard_wire.specs.Tree.{Tree, Trees}
+use Rattle.postcard_wire.specs.Tree.{Tree, Trees, Group, NoTrees, Then, count}
+use Rattle.postcard_wire.specs.Reading.{IsArray}
 use Rattle.postcard_wire.specs.declared.error.Error.{Error}
 use Rattle.postcard_dyn_schema.specs.Meaning.{MessageType, MessageTypes, leaf, option, seq, array, group, choice, no_types, then_type, reads, reads_all, reads_at, leaf_reads}
 use Rattle.postcard_dyn_schema.specs.declared.schema.Leaf.{Leaf}
@@ -12,14 +13,14 @@ use Rattle.postcard_shape.specs.Cases.{case_reads}
 use Rattle.postcard_shape.specs.Shape.{never}
 use Rattle.postcard_max.specs.Sizes.{sum_of}
 use Rattle.postcard_max.specs.SizeLimit.{SizeLimit}
-use Rattle.postcard_max.specs.Limits.{AreBounded, IsReached, RowBounded, RowReached, IsLimit, IsRowLimit}
+use Rattle.postcard_max.specs.Limits.{AreBounded, IsReached, RowBounded, RowReached, IsLimit, IsRowLimit, trees_len}
 use Rattle.postcard_max.specs.Willing.{never_any}
 use Rattle.postcard_max.specs.Leaves.{byte_lawful, boolean_lawful, num_lawful, int_lawful, char_lawful}
 use Rattle.postcard_max.specs.Floats.{float_lawful}
 use Rattle.postcard_max.specs.Containers.{option_lawful, array_lawful}
 use Rattle.postcard_max.specs.Rows.{end_lawful, then_lawful, group_lawful}
 use Rattle.postcard_max.specs.Cases.{CasesBounded, CasesReached, zero_index, no_case_bounded, no_case_reached, case_bounded, case_reached, variants_bounded, variants_reached}
-use Rattle.postcard_dyn_size.specs.Sizes.{limit, limit_all, limit_of_choice, limit_from}
+use Rattle.postcard_dyn_size.specs.Sizes.{repeated, limit, limit_all, limit_of_choice, limit_from}
 
 -- The limit's greatest size is that of a set of trees, of rows of trees, or of variants from an index
 -- on: nothing is longer and, if `reached` holds, something is as long.
@@ -86,6 +87,18 @@ leaf_holds Char = holding (char_lawful {V = Unit {0}})
 leaf_holds Str = record { bounded = tt; is_reached = λ _. tt }
 leaf_holds Bytes = record { bounded = tt; is_reached = λ _. tt }
 
+-- The limit of an array holds if that of its elements does. An empty array has no bytes.
+no_bytes : (ts : Trees) → count ts ≡ 0 → trees_len ts ≤ 0
+no_bytes NoTrees e = omega arith
+no_bytes (Then t ts) e = absurd (omega (arith, e))
+
+array_holds : (n : ℕ) (l : SizeLimit) (has : Tree → Type 0) → Holds l has → Holds (record l { greatest = repeated n l.greatest }) (IsArray n has)
+array_holds zero l has h = record {
+  bounded = λ t f. rw f.1 (no_bytes f.0 f.2);
+  is_reached = λ may. (Group NoTrees, (NoTrees, refl, refl, tt), refl);
+}
+array_holds (suc n) l has h = holding (array_lawful (suc n) (limits h))
+
 -- The limit of a variant and those after it holds if those of both do.
 with_others : (t : MessageType) (ts : MessageTypes) → Holds (limit t) (reads t) → ((i : Option ℕ) → CasesHold (limit_from ts) (reads_at ts) i)
     → (i : Option ℕ) → CasesHold (limit_from (then_type t ts)) (reads_at (then_type t ts)) i
@@ -102,7 +115,7 @@ mutual
   holds (leaf l) = leaf_holds l
   holds (option t) = holding (option_lawful (limits (holds t)))
   holds (seq t) = record { bounded = tt; is_reached = λ _. tt }
-  holds (array n t) = holding (array_lawful n (limits (holds t)))
+  holds (array n t) = array_holds n (limit t) (reads t) (holds t)
   holds (group ts) = holding (group_lawful (row_limits (holds_all ts)))
   holds (choice ts) = holds_choice ts
 

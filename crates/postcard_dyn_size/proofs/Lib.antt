@@ -2,3 +2,5 @@
 pub mod Sums
 pub mod Rows
 pub mod Holds
+pub mod LeastLemmas
+pub mod EndlessLemmas

@@ -1,15 +1,15 @@
 -- The greatest sizes of parts and variants, one after the other.
 use Rattle.std.proofs.Common.{◌≡◌, ℕ, suc, ◌+◌, ◌<◌, ◌≤◌, ◌^◌, List, [], ◌∷◌, length, drop, get_or, refl, sym, ap, subst, ◌∙◌, arith}
-use Rattle.std.specs.Prelude.{Option, Some, None, true, false}
+use Rattle.std.specs.Prelude.{Option, Some, false}
 use Rattle.std.specs.Bool.{◌==◌}
 use Rattle.std.proofs.lemmas.Bool.{true≢false}
 use Rattle.std.proofs.Math.Seq.{drop-cons}
 use Rattle.std.proofs.Math.ListN.{drop_of_length-le}
 use Rattle.postcard_dyn_schema.specs.Meaning.{MessageTypes, no_types, then_type, type_of, types_of}
 use Rattle.postcard_dyn_schema.specs.declared.schema.Schema.{Schema}
-use Rattle.postcard_max.specs.Sizes.{sum_of, greater_of, varint_len, index_len}
+use Rattle.postcard_max.specs.Sizes.{sum_of, greater_of, varint_len}
 use Rattle.postcard_dyn_size.specs.Sizes.{limit, limit_all, limit_of_choice, limit_from}
-use Rattle.postcard_dyn_size.proofs.Sums.{IsSmall, sum_small, small, sums, greaters, zero_first, zero_last, least_first, least_last}
+use Rattle.postcard_dyn_size.proofs.Sums.{IsSmall, sum_small, small, sums, greaters, zero_first, zero_last, least_last}
 
 -- The greatest size of parts in a row, and that of variants from an index on.
 abbrev pub greatest_all : List Schema → Option ℕ
@@ -19,7 +19,7 @@ abbrev pub greatest_from : List Schema → ℕ → Option ℕ
 greatest_from variants index = (limit_from (types_of variants) (Some index)).greatest
 
 -- The part at a place, and those after it.
-cut : (xs : List Schema) (k : ℕ) (x : Schema) → k < length xs → x ≡ get_or xs k x → drop k xs ≡ x ∷ drop (k + 1) xs
+pub cut : (xs : List Schema) (k : ℕ) (x : Schema) → k < length xs → x ≡ get_or xs k x → drop k xs ≡ x ∷ drop (k + 1) xs
 cut xs k x h e =
     let next : suc k ≡ k + 1 = omega arith in
     drop-cons xs k x h ∙ ap (λ y. y ∷ drop (suc k) xs) (sym e) ∙ ap (λ n. x ∷ drop n xs) next

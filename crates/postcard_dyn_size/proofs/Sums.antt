@@ -1,6 +1,6 @@
 -- Sums and greater sizes in a row, taken from the left.
-use Rattle.std.proofs.Common.{◌≡◌, ◌⊎◌, inl, inr, ℕ, ◌+◌, ◌<◌, ◌≤◌, ◌^◌, List, [], ◌∷◌, length, refl, sym, ap, ap₂, subst, ◌∙◌, arith}
-use Rattle.std.specs.Prelude.{Option, Some, None, IfSome, nat_lt, if◌then◌else◌, max}
+use Rattle.std.proofs.Common.{◌≡◌, inl, inr, ℕ, ◌+◌, ◌<◌, ◌≤◌, ◌^◌, refl, sym, ap, subst, ◌∙◌, arith}
+use Rattle.std.specs.Prelude.{Option, Some, None, IfSome, if◌then◌else◌}
 use Rattle.std.proofs.lemmas.Bool.{lt-ltb, le-ltb, cases_lt}
 use Rattle.postcard_max.specs.Sizes.{limited, sum_of, greater_of}
 
@@ -8,7 +8,7 @@ use Rattle.postcard_max.specs.Sizes.{limited, sum_of, greater_of}
 pub small : (n : ℕ) → n < 2 ^ 64 → limited n ≡ Some n
 small n h = ap (λ b. if b then Some n else None) (lt-ltb n (2 ^ 64) h)
 
-large : (n : ℕ) → 2 ^ 64 ≤ n → limited n ≡ None
+pub large : (n : ℕ) → 2 ^ 64 ≤ n → limited n ≡ None
 large n h = ap (λ b. if b then Some n else None) (le-ltb n (2 ^ 64) h)
 
 -- A size that is known is of 64 bits.

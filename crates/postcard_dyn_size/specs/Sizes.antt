@@ -1,15 +1,22 @@
 -- The greatest size of the messages of a type, by the arithmetic of `postcard_max`.
-use Rattle.std.specs.Prelude.{ℕ, Option, Some, None, ⊤}
+use Rattle.std.specs.Prelude.{ℕ, zero, suc, Option, Some, None, ⊤}
 use Rattle.postcard_wire.specs.Number.{max_digits}
 use Rattle.postcard_dyn_schema.specs.Meaning.{MessageType, MessageTypes, leaf, option, seq, array, group, choice, no_types, then_type}
 use Rattle.postcard_dyn_schema.specs.declared.schema.Leaf.{Leaf}
 use Rattle.postcard_dyn_schema.specs.declared.schema.Leaf.TheVariants.{U8, U16, U32, U64, U128, I8, I16, I32, I64, I128, F32, F64, Char, Str, Bytes}
 use Rattle.postcard_dyn_schema.specs.declared.schema.Leaf.TheVariants as leaves
-use Rattle.postcard_max.specs.SizeLimit.{SizeLimit, exactly, option_limit, array_limit, then_limit, no_case_limit, case_limit, variants_limit}
+use Rattle.postcard_max.specs.Sizes.{times}
+use Rattle.postcard_max.specs.SizeLimit.{SizeLimit, exactly, option_limit, then_limit, no_case_limit, case_limit, variants_limit}
 
 -- The limit of a type whose messages are as long as one likes.
 abbrev pub endless : SizeLimit
 endless = record { greatest = None; reached = ⊤; willing = ⊤ }
+
+-- The greatest or least size of an array of n elements that have this one: n times it, and 0 if there are no elements, even
+-- if they have none.
+abbrev pub repeated : ℕ → Option ℕ → Option ℕ
+repeated zero size = Some 0
+repeated (suc n) size = times (suc n) size
 
 -- The greatest size of a type without parts, or none.
 abbrev pub leaf_greatest : Leaf → Option ℕ
@@ -36,7 +43,7 @@ abbrev mutual
   limit (leaf l) = record { greatest = leaf_greatest l; reached = ⊤; willing = ⊤ }
   limit (option t) = option_limit (limit t)
   limit (seq t) = endless
-  limit (array n t) = array_limit n (limit t)
+  limit (array n t) = record (limit t) { greatest = repeated n (limit t).greatest }
   limit (group ts) = limit_all ts
   limit (choice ts) = limit_of_choice ts
 

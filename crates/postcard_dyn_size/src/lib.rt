@@ -1,4 +1,5 @@
-//! How many bytes the messages of a type have that is given at run time: [`max_size`].
+//! How many bytes the messages of a type have that is given at run time: at most [`max_size`], and
+//! at least [`min_size`]; and which of its parts have no greatest size: [`endless_parts`].
 #![tactic(auto)]
 
 ghost use Rattle.std.specs.Prelude.{◌≡◌, Some};
@@ -6,8 +7,15 @@ ghost use Rattle.postcard_dyn_schema.specs.Meaning.{type_of, types_of, reads};
 ghost use Rattle.postcard_max.specs.Limits.{AreBounded, IsReached};
 ghost use Rattle.postcard_dyn_size.specs.Sizes.{limit, limit_all, limit_of_choice, leaf_greatest};
 
+pub mod endless;
+pub mod least;
+mod sizes;
+
+pub use endless::endless_parts;
+pub use least::min_size;
 use postcard_dyn_schema::{Leaf, Schema};
-use postcard_max::sizes::{greater, product, sum, varint_len};
+use postcard_max::sizes::{greater, sum, varint_len};
+use sizes::array_size;
 
 /// Returns the greatest number of bytes of a message of the type, or `None` if none is known: a text,
 /// a byte string or a list is in it, or an enum without variants, or it does not fit `usize`.
@@ -32,7 +40,7 @@ fn size(schema: &Schema) -> Option<usize>
         Schema::Option(content) => sum(Some(1), size(content)),
         Schema::Seq(_) => None,
         Schema::Map(_) => None,
-        Schema::Array(element, count) => product(*count, size(element)),
+        Schema::Array(element, count) => array_size(*count, size(element)),
         Schema::Group(parts) => group_size(parts),
         Schema::Enum(variants) => enum_size(variants),
         Schema::Named(_, content) => size(content),

@@ -123,7 +123,7 @@ const NUMBERS: [Call; 11] = [
 ];
 
 /// Calls of `enc` with a type expression.
-const ENCODE: [Call; 19] = [
+const ENCODE: [Call; 22] = [
     (
         &["enc", SENSOR, "{id: 42, label: \"x\", samples: [1, 2]}"],
         b"",
@@ -135,6 +135,14 @@ const ENCODE: [Call; 19] = [
     (&["enc", "u8?", "None"], b"", "00\n", 0),
     (&["enc", "[bytes]", "[0x00ff, 0x]"], b"", "020200ff00\n", 0),
     (&["enc", "(u8,)", "(1,)"], b"", "01\n", 0),
+    (&["enc", "&str", "\"Hi!\""], b"", "03486921\n", 0),
+    (&["enc", "&'a [u8]", "[1, 255]"], b"", "0201ff\n", 0),
+    (
+        &["enc", "&", "1"],
+        b"",
+        "expected a type at character 2: bad type\n",
+        2,
+    ),
     (
         &["enc", "| Reading(u16, i32)", "Reading(1, -2)"],
         b"",

@@ -6,7 +6,7 @@ use postcard_dyn_schema::parse;
 use std::process::Abort;
 
 /// Expressions, each beside the schema that is read from it, printed by `Debug`.
-const TYPES: [(&str, &str); 35] = [
+const TYPES: [(&str, &str); 51] = [
     ("u8", "Leaf(U8)"),
     (" usize ", "Leaf(U64)"),
     ("u16??", "Option(Option(Leaf(U16)))"),
@@ -73,10 +73,38 @@ const TYPES: [(&str, &str); 35] = [
         "Enum([Named(\"Vec\", Leaf(U8)), Named(\"Option\", Group([Named(\"a\", Leaf(U8))]))])",
     ),
     ("{String: u8}", "Group([Named(\"String\", Leaf(U8))])"),
+    ("&str", "Leaf(Str)"),
+    ("&'a str", "Leaf(Str)"),
+    ("&'static f32", "Leaf(F32)"),
+    ("& '_ bool", "Leaf(Bool)"),
+    ("&[u8]", "Seq(Leaf(U8))"),
+    ("&'a[u16; 2]", "Array(Leaf(U16), 2)"),
+    ("& ' b2 [i8]", "Seq(Leaf(I8))"),
+    ("&&'a & u16", "Leaf(U16)"),
+    ("&u8?", "Option(Leaf(U8))"),
+    ("&'a u8??", "Option(Option(Leaf(U8)))"),
+    ("[&str]", "Seq(Leaf(Str))"),
+    ("Option<&'a String>", "Option(Leaf(Str))"),
+    (
+        "&HashMap<&str, &[u16]>",
+        "Map(Group([Leaf(Str), Seq(Leaf(U16))]))",
+    ),
+    (
+        "&(A | B)",
+        "Enum([Named(\"A\", Group([])), Named(\"B\", Group([]))])",
+    ),
+    (
+        "A(&str) | B{x: &'a u8}",
+        "Enum([Named(\"A\", Leaf(Str)), Named(\"B\", Group([Named(\"x\", Leaf(U8))]))])",
+    ),
+    (
+        "&{name: &'a str, data: &'a [u8]}",
+        "Group([Named(\"name\", Leaf(Str)), Named(\"data\", Seq(Leaf(U8)))])",
+    ),
 ];
 
 /// Texts that are no expressions, each beside the error as it is printed.
-const REFUSED: [(&str, &str); 59] = [
+const REFUSED: [(&str, &str); 82] = [
     ("", "expected a type at character 1"),
     ("  ", "expected a type at character 3"),
     ("u9", "unknown type at character 1"),
@@ -157,6 +185,35 @@ const REFUSED: [(&str, &str); 59] = [
     ("{Rc<u8> => u8}", "unknown type at character 2"),
     ("u8<u8>", "expected the end of the type at character 3"),
     ("A | Vec<u8>", "expected the end of the type at character 8"),
+    ("&", "expected a type at character 2"),
+    (" & ", "expected a type at character 4"),
+    ("&)", "expected a type at character 2"),
+    ("[&]", "expected a type at character 3"),
+    ("&?", "expected a type at character 2"),
+    ("&u9", "unknown type at character 2"),
+    ("&mut u8", "unknown type at character 2"),
+    ("&A | B", "unknown type at character 2"),
+    ("&'", "expected the name of a lifetime at character 3"),
+    ("&' [u8]", "expected the name of a lifetime at character 4"),
+    ("&'1a u8", "expected the name of a lifetime at character 3"),
+    (
+        "[&'\u{e9} u8]",
+        "expected the name of a lifetime at character 4",
+    ),
+    ("&'a", "expected a type at character 4"),
+    ("&'astr", "expected a type at character 7"),
+    ("&'a 'b u8", "expected a type at character 5"),
+    ("'a str", "expected a type at character 1"),
+    ("u8&", "expected the end of the type at character 3"),
+    ("&str str", "expected the end of the type at character 6"),
+    (
+        "&[()]",
+        "elements of this type have no bytes at character 3",
+    ),
+    ("&u8?????", "nested too deeply at character 8"),
+    ("{&str}", "expected `=>` at character 6"),
+    ("{&a: u8}", "unknown type at character 3"),
+    ("Vec<&>", "expected a type at character 6"),
 ];
 
 /// Returns the schema of a text, or its error, as it is printed.

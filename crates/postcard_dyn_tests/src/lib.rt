@@ -19,6 +19,10 @@ mod frames;
 #[cfg(test)]
 mod helpers;
 #[cfg(test)]
+mod json;
+#[cfg(test)]
+mod json_calls;
+#[cfg(test)]
 mod limits;
 #[cfg(test)]
 mod output;

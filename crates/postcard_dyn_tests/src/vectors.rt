@@ -7,7 +7,7 @@ use postcard_wire::Error;
 use std::process::Abort;
 
 /// Type expressions, each with the text of a value as it is printed, and the value's encoding.
-const VECTORS: [(&str, &str, &[u8]); 55] = [
+const VECTORS: [(&str, &str, &[u8]); 63] = [
     ("u8", "255", &[0xFF]),
     ("(u8)", "0", &[0x00]),
     ("u16", "300", &[0xAC, 0x02]),
@@ -165,6 +165,22 @@ const VECTORS: [(&str, &str, &[u8]); 55] = [
         &[2, 5, 1, 0x78],
     ),
     ("[A | B(u8)]", "[B(9), A, A]", &[3, 1, 9, 0, 0]),
+    ("&str", "\"Hi!\"", &[0x03, 0x48, 0x69, 0x21]),
+    ("&'a [u8]", "[0, 255]", &[0x02, 0x00, 0xFF]),
+    ("&&'a u16", "300", &[0xAC, 0x02]),
+    ("&[&str]", "[\"a\", \"\"]", &[0x02, 0x01, 0x61, 0x00]),
+    ("Option<&'static str>", "Some(\"a\")", &[0x01, 0x01, 0x61]),
+    (
+        "&'a (u16, &i32)?",
+        "Some((300, -2))",
+        &[0x01, 0xAC, 0x02, 0x03],
+    ),
+    ("&(On | Off)", "Off", &[0x01]),
+    (
+        "{name: &'a str, data: &'a [u16]}",
+        "{name: \"x\", data: [128]}",
+        &[0x01, 0x78, 0x01, 0x80, 0x01],
+    ),
 ];
 
 /// Asserts that the message, with a byte after it, is read as a value that is printed as the text.

@@ -12,7 +12,7 @@ use Rattle.postcard_dyn_schema.specs.declared.angled.Holder.TheVariants as holde
 use Rattle.postcard_dyn_schema.specs.declared.angled.Pair.{Pair}
 use Rattle.postcard_dyn_schema.specs.declared.angled.Pair.TheVariants as pairs
 use Rattle.postcard_dyn_schema.specs.Names.{IsCalled, IsNewTo, NamesDiffer}
-use Rattle.postcard_dyn_schema.specs.Grammar.{Separated, IsListRest, IsTupleRest, IsField, IsFieldsRest, IsMapRest, IsHolderRest, IsPairRest, IsWorded, IsPlain, IsOptions, IsContent, IsVariantText, IsEnumText, IsType, IsExpression}
+use Rattle.postcard_dyn_schema.specs.Grammar.{Separated, IsListRest, IsTupleRest, IsField, IsFieldsRest, IsMapRest, IsHolderRest, IsPairRest, IsWorded, IsPlain, IsBehind, IsReferred, IsOptions, IsContent, IsVariantText, IsEnumText, IsType, IsExpression}
 use Rattle.postcard_dyn_text.specs.Accepted.{IsNotCalled, AreNotCalled, HasNewName, HasDistinctNames, HaveDistinctNames}
 use Rattle.postcard_dyn_text.specs.Accepted as texts
 use Rattle.postcard_dyn_text.specs.Shown.{leaf, option, list, mapping, array, group, choice, named, layout_of, layouts_of}
@@ -102,6 +102,14 @@ of_plain T each s t (inr (inr (inl (x, y, sign, h, e)))) = of_tuple T each s y h
 of_plain T each s t (inr (inr (inr (x, y, sign, inl h, e)))) = of_fields T each s y h
 of_plain T each s t (inr (inr (inr (x, y, sign, inr h, e)))) = of_map T each s y h
 
+of_behind : (n : ℕ) (T : Schema → List ℕ → Type 0) → Distinct T → Distinct (IsBehind n T)
+of_behind zero T each s t h = of_plain T each s t h
+of_behind (suc n) T each s t (x, y, sign, inl h, e) = of_behind n T each s y h
+of_behind (suc n) T each s t (x, y, sign, inr (x2, y2, quote, (name, called, (word, back, spelled, (apart, h), e3)), e2), e) = of_behind n T each s back h
+
+of_referred : (T : Schema → List ℕ → Type 0) → Distinct T → Distinct (IsReferred T)
+of_referred T each s t (n, h) = of_behind n T each s t h
+
 of_options : (k : ℕ) (P : Schema → List ℕ → Type 0) → Distinct P → Distinct (IsOptions k P)
 of_options zero P each s t h = each s t h
 of_options (suc k) P each s t (b, is, (x, y, h, sign, e)) = rw (is, layout_option b) (of_options k P each b.value x h)
@@ -149,7 +157,7 @@ type_distinct : (d : ℕ) → Distinct (IsType d)
 unfolding IsType
 type_distinct zero s t h = absurd h
 type_distinct (suc d) s t (inl h) = of_enum (IsType d) (type_distinct d) s t h
-type_distinct (suc d) s t (inr (k, few, h)) = of_options k (IsPlain (IsType d)) (of_plain (IsType d) (type_distinct d)) s t h
+type_distinct (suc d) s t (inr (k, few, h)) = of_options k (IsReferred (IsType d)) (of_referred (IsType d) (type_distinct d)) s t h
 
 -- A type that an expression spells has distinct names.
 pub expression_distinct : (s : Schema) (text : List ℕ) → IsExpression s text → HasDistinctNames (layout_of s)

@@ -1,5 +1,5 @@
 -- Part after part, and variant after variant.
-use Rattle.std.proofs.Common.{◌≡◌, ◌<◌, ◌+◌, ap, sym, subst, ◌∙◌, arith, length, drop}
+use Rattle.std.proofs.Common.{◌<◌, ◌+◌, ap, sym, subst, ◌∙◌, arith, length, drop}
 use Rattle.std.specs.Prelude.{Some}
 use Rattle.postcard_max.specs.Sizes.{sum_of, greater_of}
 use Rattle.postcard_dyn_size.proofs.Sums.{IsSmall, sum_small, least_first}

@@ -5,3 +5,6 @@ returns-in-FramesOf-clause-printed g c = rw c.in-FramesOf.is c.print-in-FramesOf
 
 pub returns-in-FramesChecked-clause-printed : goal.returns-in-FramesChecked-clause-printed
 returns-in-FramesChecked-clause-printed g c = rw c.in-FramesChecked.is c.print_checked.ensures.printed
+
+pub returns-in-DecodeJson-clause-refused : goal.returns-in-DecodeJson-clause-refused
+returns-in-DecodeJson-clause-refused g c = rw c.in-DecodeJson.is c.decode-in-DecodeJson.ensures.refused

@@ -11,7 +11,7 @@ use Rattle.postcard_dyn_schema.specs.declared.angled.Pair.TheVariants as pairs
 use Rattle.postcard_dyn_schema.specs.Angled.{MayHold, IsHolderOf, MayPair, IsPairOf}
 use Rattle.postcard_dyn_schema.specs.Names.{IsNewTo, HasNamesOf}
 use Rattle.postcard_dyn_schema.specs.Text.{Then, TakesPhrase, IsSign, IsWord, IsMaybe, EndsWord, GoesOnBy}
-use Rattle.postcard_dyn_schema.specs.Grammar.{Separated, IsListRest, IsTupleRest, IsField, IsFieldsRest, IsMapRest, IsBracesRest, IsHolderRest, IsPairRest, IsAngleRest, IsWorded, IsPlain, IsContent, IsVariantText, IsNewVariant, IsEnumText, IsType}
+use Rattle.postcard_dyn_schema.specs.Grammar.{Separated, IsListRest, IsTupleRest, IsField, IsFieldsRest, IsMapRest, IsBracesRest, IsHolderRest, IsPairRest, IsAngleRest, IsWorded, IsPlain, IsReferred, IsContent, IsVariantText, IsNewVariant, IsEnumText, IsType}
 use Rattle.postcard_dyn_schema.specs.Fronts.{follows_type, follows_variant, Anything, HasFront, IsOnlyFront, IsRefusal}
 use Rattle.postcard_dyn_schema.specs.Phrases.{takes_two, takes_as}
 use Rattle.postcard_dyn_schema.specs.FrontLemmas.{word_taken}
@@ -26,6 +26,7 @@ use Rattle.postcard_dyn_schema.proofs.LeftOfTuple.{TupleFront, TupleLeft, TupleA
 use Rattle.postcard_dyn_schema.proofs.LeftOfEnum.{EnumLeft, EnumAfter, VariantFront, taken_not_new, content_in_tuple, content_in_fields, content_of_none, new_variant_front, variant_alike, enum_begins, variant_begins, enum_after, enum_bar, enum_end, enum_not_ended}
 use Rattle.postcard_dyn_schema.proofs.LeftOfAngled.{HolderLeft, PairLeft, SecondLeft, PairEnd, type_of_holder, type_of_pair, holder_rest, pair_rest, no_angle, angle_holder, angle_pair, holder_takes, holder_begins, holder_left, pair_takes, pair_begins, pair_left, second_left, second_begins, pair_end}
 use Rattle.postcard_dyn_schema.proofs.LeftOfType.{WordFront, PlainFront, word_front, word_leaf, word_angle, type_as_enum, type_as_plain, options_step, options_end, options_full, options_of, plain_list_left, plain_tuple_left, plain_braces_left, plain_word_left, braces_as_fields, braces_as_map, no_type}
+use Rattle.postcard_dyn_schema.proofs.LeftOfReference.{plain_is_referred, referred_is_plain, reference_left, reference_takes, lifetime_next, lifetime_left, lifetime_takes, lifetime_le}
 use Rattle.postcard_dyn_schema.proofs.Refusals.{refusal, refusal_as, refused_err, if_err_as, takes_le, takes_less, is_empty, forget_new, is_new}
 use Rattle.postcard_dyn_schema.proofs.expression.+expression.Goals.{read_enum-else-len-eq1-via-then-len-eq1+else-not-leads, read_enum-else-len-eq1-via-else-len-eq1, read_fields-then-is_empty-via-then-is_empty, read_fields-then-is_empty-via-else-is_empty+then-is_ascii_digit, read_variant-then-is_empty-via-then-is_empty, read_variant-then-is_empty-via-else-is_empty+then-not-is_ascii_uppercase}
 use Rattle.postcard_dyn_schema.proofs.expression.+expression.Goals as goal
@@ -1201,6 +1202,71 @@ read_tuple-returns-clause-refused t c =
     let none : c1 ≡ [] = is_empty c1 (omega (arith, c.loop.invariant.short, c.loop-test.false)) in
     inr (λ (s, r, h, free). tuple_not_ended d done s r (subst (λ z. TupleAfter d done s z r) none (left s r h)))
 
+pub read_referred-references-init : goal.read_referred-references-init
+read_referred-references-init t c = record { left = λ s r h. h; takes = λ s r h. h }
+
+pub read_referred-references-smaller : goal.read_referred-references-smaller
+read_referred-references-smaller t c =
+    let less = takes_less 38 c.references.rest.now c.take.new.rest.now (c.take.ensures.taken c.references-test.true) in
+    let le = lifetime_le c.take.new.rest.now c.skip_lifetime.new.rest.now c.in_ok-skip_lifetime.ensures.taken in
+    omega (arith, less, le)
+
+pub read_referred-references-preserved : goal.read_referred-references-preserved
+read_referred-references-preserved t c =
+    let T = IsType c.args.depth in
+    let x = c.references.rest.now in
+    let b = c.take.new.rest.now in
+    let d = c.skip_lifetime.new.rest.now in
+    let sign = c.take.ensures.taken c.references-test.true in
+    let lifetime = c.in_ok-skip_lifetime.ensures.taken in
+    record {
+      left = λ s r h. lifetime_left T s b d r lifetime (reference_left T s x b r sign (c.references.invariant.left s r h));
+      takes = λ s r h. c.references.invariant.takes s r (reference_takes T s x b r sign (lifetime_takes T s b d r lifetime h));
+    }
+
+pub read_referred-returns-in_err-skip_lifetime-clause-refused : goal.read_referred-returns-in_err-skip_lifetime-clause-refused
+read_referred-returns-in_err-skip_lifetime-clause-refused t c =
+    let T = IsType c.args.depth in
+    let x = c.references.rest.now in
+    let b = c.take.new.rest.now in
+    let sign = c.take.ensures.taken c.references-test.true in
+    refused_err _ _ c.from_residual.ensures.1 (inr (λ (s, r, h, ends).
+    let k = lifetime_next T s b r (reference_left T s x b r sign (c.references.invariant.left s r h)) in
+    c.in_err-skip_lifetime.ensures.none k.0 k.1))
+
+pub read_referred-returns-clause-spelled : goal.read_referred-returns-clause-spelled
+read_referred-returns-clause-spelled t c =
+    let T = IsType c.args.depth in
+    let a = c.args.rest.now.now in
+    let b = c.take.new.rest.now in
+    let d = c.read_plain.new.rest.now in
+    let same : b ≡ c.references.rest.now = c.take.ensures.left c.references-test.false in
+    if_ok_as (λ s. TakesPhrase (IsPlain T s) b d) (λ s. TakesPhrase (IsReferred T s) a d) c.read_plain.result
+    (λ s h. c.references.invariant.takes s d (subst (λ z. TakesPhrase (IsReferred T s) z d) same (plain_is_referred T s b d h))) c.read_plain.ensures.spelled
+
+pub read_referred-returns-clause-one : goal.read_referred-returns-clause-one
+read_referred-returns-clause-one t c =
+    let T = IsType c.args.depth in
+    let a = c.args.rest.now.now in
+    let x = c.references.rest.now in
+    let b = c.take.new.rest.now in
+    let d = c.read_plain.new.rest.now in
+    let same : b ≡ x = c.take.ensures.left c.references-test.false in
+    let left : (s : Schema) (r : List ℕ) → TakesPhrase (IsReferred T s) a r → TakesPhrase (IsPlain T s) b r = λ s r h.
+    subst (λ z. TakesPhrase (IsPlain T s) z r) (sym same) (referred_is_plain T s x r (c.take.ensures.none c.references-test.false refl) (c.references.invariant.left s r h)) in
+    if_ok_as (λ y. IsOnlyFront EndsWord (IsPlain T) y b d) (λ y. IsOnlyFront EndsWord (IsReferred T) y a d) c.read_plain.result (λ y one s r h ends. one s r (left s r h) ends) c.read_plain.ensures.one
+
+pub read_referred-returns-clause-refused : goal.read_referred-returns-clause-refused
+read_referred-returns-clause-refused t c =
+    let T = IsType c.args.depth in
+    let a = c.args.rest.now.now in
+    let x = c.references.rest.now in
+    let b = c.take.new.rest.now in
+    let same : b ≡ x = c.take.ensures.left c.references-test.false in
+    let left : (s : Schema) (r : List ℕ) → TakesPhrase (IsReferred T s) a r → TakesPhrase (IsPlain T s) b r = λ s r h.
+    subst (λ z. TakesPhrase (IsPlain T s) z r) (sym same) (referred_is_plain T s x r (c.take.ensures.none c.references-test.false refl) (c.references.invariant.left s r h)) in
+    if_err_as (λ fault. IsRefusal fault.problem (HasFront EndsWord (IsPlain T) b)) (λ fault. IsRefusal fault.problem (HasFront EndsWord (IsReferred T) a)) c.read_plain.result (λ fault k. refusal (λ (s, r, h, ends). (s, r, left s r h, ends)) k) c.read_plain.ensures.refused
+
 pub read_type-returns-then-depth-eq0-clause-refused : goal.read_type-returns-then-depth-eq0-clause-refused
 read_type-returns-then-depth-eq0-clause-refused t c =
     let a = c.args.rest.now.now in
@@ -1251,7 +1317,7 @@ read_type-loop-init t c =
     type_as_plain c.args.depth e s a r deep (λ starts. true≢false (sym (c.begins_enum.ensures.1 starts) ∙ c.if-begins_enum.false)) goes h in
     record {
       taken = c.in_ok-schema.ensures.spelled;
-      left = λ s r h goes. let f = front s r h goes in let only = c.in_ok-schema.ensures.one f.first f.rest f.taken f.ends in options_of s c.in_ok-schema.schema (type_of f.first) 0 f.rest c.read_plain.new.rest.now r only.0 only.1 f.left;
+      left = λ s r h goes. let f = front s r h goes in let only = c.in_ok-schema.ensures.one f.first f.rest f.taken f.ends in options_of s c.in_ok-schema.schema (type_of f.first) 0 f.rest c.read_referred.new.rest.now r only.0 only.1 f.left;
     }
 
 pub read_type-loop-preserved : goal.read_type-loop-preserved
@@ -1262,7 +1328,7 @@ read_type-loop-preserved t c =
     let b = c.take.new.rest.now in
     let typed : option (type_of c.loop.schema) ≡ type_of (Option held) = ap (λ x. option (type_of x)) (sym c.in_ok-boxed.ensures.held) ∙ sym (type_of_option held) in
     record {
-      taken = options_more (IsPlain (IsType (c.args.depth - 1))) k (k + 1) c.loop.schema held c.args.rest.now.now c.loop.rest.now b (omega arith) c.in_ok-boxed.ensures.held c.loop.invariant.taken mark;
+      taken = options_more (IsReferred (IsType (c.args.depth - 1))) k (k + 1) c.loop.schema held c.args.rest.now.now c.loop.rest.now b (omega arith) c.in_ok-boxed.ensures.held c.loop.invariant.taken mark;
       left = λ s r h goes. options_of s (Option held) (option (type_of c.loop.schema)) (k + 1) b b r typed refl (options_step s (type_of c.loop.schema) k c.loop.rest.now b r (c.loop.invariant.left s r h goes) goes mark);
     }
 

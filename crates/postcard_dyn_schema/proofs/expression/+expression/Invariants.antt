@@ -4,7 +4,7 @@ use Rattle.postcard_dyn_schema.specs.declared.schema.Schema.{Schema}
 use Rattle.postcard_dyn_schema.specs.Meaning.{type_of}
 use Rattle.postcard_dyn_schema.specs.Names.{NamesDiffer}
 use Rattle.postcard_dyn_schema.specs.Text.{TakesPhrase, IsSign, GoesOnBy}
-use Rattle.postcard_dyn_schema.specs.Grammar.{Separated, IsTupleRest, IsField, IsFieldsRest, IsPlain, IsOptions, IsVariantText, IsEnumText, IsType}
+use Rattle.postcard_dyn_schema.specs.Grammar.{Separated, IsTupleRest, IsField, IsFieldsRest, IsReferred, IsOptions, IsVariantText, IsEnumText, IsType}
 use Rattle.postcard_dyn_schema.specs.Fronts.{follows_type}
 use Rattle.postcard_dyn_schema.proofs.LeftOfFields.{FieldsLeft}
 use Rattle.postcard_dyn_schema.proofs.LeftOfTuple.{TupleAfter}
@@ -15,6 +15,9 @@ use Rattle.postcard_dyn_schema.proofs.expression.+expression.Given as goal
 
 abbrev pub decreases-read_type : goal.decreases-read_type
 decreases-read_type l = 8 * l.depth
+
+abbrev pub decreases-read_referred : goal.decreases-read_referred
+decreases-read_referred l = 8 * l.depth + 5
 
 abbrev pub decreases-read_plain : goal.decreases-read_plain
 decreases-read_plain l = 8 * l.depth + 4
@@ -79,8 +82,18 @@ invariant-read_tuple-loop l = record {
   left : (s : Schema) (r : List ℕ) → TakesPhrase (IsTupleRest (IsType l.depth) s) l.fn.rest.now r → TupleAfter l.depth l.parts.items s l.rest.now r;
 }
 
+-- A type is next if and only if it was before the references.
+abbrev pub invariant-read_referred-references : goal.invariant-read_referred-references
+invariant-read_referred-references l = record {
+  left : (s : Schema) (r : List ℕ) → TakesPhrase (IsReferred (IsType l.depth) s) l.fn.rest.now r → TakesPhrase (IsReferred (IsType l.depth) s) l.rest.now r;
+  takes : (s : Schema) (r : List ℕ) → TakesPhrase (IsReferred (IsType l.depth) s) l.rest.now r → TakesPhrase (IsReferred (IsType l.depth) s) l.fn.rest.now r;
+}
+
+abbrev pub decreases-read_referred-references : goal.decreases-read_referred-references
+decreases-read_referred-references l = length l.rest.now
+
 abbrev pub invariant-read_type-loop : goal.invariant-read_type-loop
 invariant-read_type-loop l = record {
-  taken : TakesPhrase (IsOptions l.counter (IsPlain (IsType (l.depth - 1))) l.schema) l.fn.rest.now l.rest.now;
+  taken : TakesPhrase (IsOptions l.counter (IsReferred (IsType (l.depth - 1))) l.schema) l.fn.rest.now l.rest.now;
   left : (s : Schema) (r : List ℕ) → TakesPhrase (IsType l.depth s) l.fn.rest.now r → GoesOnBy follows_type r → OptionsLeft s (type_of l.schema) l.counter l.rest.now r;
 }

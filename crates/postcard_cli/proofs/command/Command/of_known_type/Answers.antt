@@ -4,7 +4,7 @@ use Rattle.postcard_cli.specs.Command.{IsCallOf, LooksLikeExpression, IsWordOf}
 use Rattle.postcard_cli.specs.declared.command.TypeWord.{TypeWord}
 use Rattle.postcard_cli.specs.declared.command.TypeWord.TheVariants.{Expression}
 use Rattle.postcard_cli.specs.declared.command.Command.{Command}
-use Rattle.postcard_cli.specs.declared.command.Command.TheVariants.{Encode, Decode, DecodeAll, EncodeChecked, DecodeChecked, Frames, FramesOf, FramesChecked, Explain, Size, Types, Checksum, Catalog}
+use Rattle.postcard_cli.specs.declared.command.Command.TheVariants.{Encode, Decode, DecodeAll, EncodeChecked, DecodeChecked, EncodeJson, DecodeJson, DecodeAllJson, Frames, FramesOf, FramesChecked, Explain, Size, Types, Checksum, Catalog}
 use Rattle.postcard_cli.proofs.command.Command.of_known_type.Goals as goal
 
 second : (a k t b w v : List ℕ) → a ∷ k ∷ t ∷ [] ≡ b ∷ w ∷ v ∷ [] → k ≡ w
@@ -31,6 +31,9 @@ none_of a k t none other sum (Decode kind hex) (word, is, e) = none kind (subst 
 none_of a k t none other sum (DecodeAll x hex) (is, e) = let same = second a k t _ x.now hex.now e in none (Expression x) (same, subst LooksLikeExpression (sym same) is)
 none_of a k t none other sum (EncodeChecked name x value) e = no_five a k t _ _ _ _ _ e
 none_of a k t none other sum (DecodeChecked name x hex) e = no_five a k t _ _ _ _ _ e
+none_of a k t none other sum (EncodeJson x text) e = no_four a k t _ _ _ _ e
+none_of a k t none other sum (DecodeJson x hex) e = no_four a k t _ _ _ _ e
+none_of a k t none other sum (DecodeAllJson x hex) e = no_four a k t _ _ _ _ e
 none_of a k t none other sum Frames e = no_one a k t _ e
 none_of a k t none other sum (FramesOf x longest) (is, inl e) = no_two a k t _ x.now e.0
 none_of a k t none other sum (FramesOf x longest) (is, inr e) = no_four a k t _ _ _ _ e.2

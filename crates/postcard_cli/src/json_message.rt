@@ -1,0 +1,276 @@
+//! The commands `enc`, `dec` and `decs` with `--json`.
+
+ghost use Rattle.std.specs.Prelude.{◌≡◌, ◌-◌, ◌⊎◌, [], IfOk, IfErr, OnOk, length, string_bytes};
+ghost use Rattle.std.specs.Io.KnownBytes.{Appends};
+ghost use Rattle.json.specs.Print.{quoted};
+ghost use Rattle.postcard_wire.specs.declared.error.Error.TheVariants.{OutOfMemory, WontImplement};
+ghost use Rattle.postcard_dyn.specs.declared.value.Value.{Value};
+ghost use Rattle.postcard_cli.specs.JsonMessage.{IsJsonEncoding, PrintsAllJson, PrintsEncodedJson};
+ghost use Rattle.postcard_cli.specs.JsonMessage.{PrintsFirstJson, PrintsJsonLine};
+ghost use Rattle.postcard_cli.specs.JsonMessage.{field_text, refusal_text, rest_text};
+ghost use Rattle.postcard_cli.specs.Message.{ReadsValue};
+ghost use Rattle.postcard_cli.specs.Refusal.{DecodeAllJsonFails, DecodeJsonFails, EncodeJsonFails};
+ghost use Rattle.postcard_cli.specs.Refusal.{JsonFrontFails, JsonLineFails};
+
+use crate::failure::Failure;
+use crate::hexadecimal;
+use crate::message::schema_of;
+use crate::place::path_of;
+use crate::program::BUFFER;
+use crate::reason::reason;
+use crate::stream::READS;
+use arrayvec::ArrayVec;
+use postcard_de_flavors::Source;
+use postcard_dyn::{Schema, Value, refused_at, take_from_bytes, to_flavor};
+use postcard_dyn_json::{JsonTextError, read_json, to_json};
+use postcard_ser_flavors::HVec;
+use postcard_wire::Error;
+use serde_json::Value as Json;
+use std::alloc::{AllocError, Global};
+use std::io::Write;
+
+/// Encodes the value that a text of JSON spells, and prints its encoding as hexadecimal on a line.
+///
+/// # Errors
+///
+/// Fails as [`schema_of`] does, with `BadValue` if the text is no JSON of a value of the type, after
+/// the character of the text where it stops being one and what is expected there are printed, and
+/// with `Library(SerializeBufferFull)` if the encoding is longer than 4,096 bytes.
+pub fn encode<W: Write>(
+    alloc: Global,
+    expression: &str,
+    text: &str,
+    output: &mut W,
+) -> Result<(), Failure>
+    ensures printed { OnOk result (PrintsEncodedJson expression.now text.now
+        (W.contents output.old) (W.contents output.new)) }
+    ensures refused { IfErr result (EncodeJsonFails expression.now text.now
+        (W.contents output.old) (W.contents output.new)) }
+{
+    let encoding = encoding_of(alloc, expression, text, output)?;
+    hexadecimal::write(&encoding, output)?;
+    writeln!(output)?;
+    Ok(())
+}
+
+/// Returns the encoding of the value that a text of JSON spells. Fails as [`encode`] does.
+fn encoding_of<W: Write>(
+    alloc: Global,
+    expression: &str,
+    text: &str,
+    output: &mut W,
+) -> Result<ArrayVec<u8, BUFFER>, Failure>
+    ensures encodes { IfOk result
+        (λ encoding. IsJsonEncoding expression.now text.now encoding.items) }
+    ensures untouched { OnOk result (output.new ≡ output.old) }
+    ensures refused { IfErr result (EncodeJsonFails expression.now text.now
+        (W.contents output.old) (W.contents output.new)) }
+{
+    let schema = schema_of(alloc, expression, output)?;
+    let value = match read_json(alloc, &schema, text) {
+        Ok(value) => value,
+        Err(
+            JsonTextError::NotAValue {
+                character,
+                expected,
+            },
+        ) => {
+            write!(output, "at character {character}: expected {expected}: ")?;
+            return Err(Failure::BadValue);
+        }
+        Err(JsonTextError::OutOfMemory) => return Err(Failure::from(Error::OutOfMemory)),
+    };
+    match to_flavor(&value, HVec::<BUFFER>::new()) {
+        Ok(encoding) => Ok(encoding),
+        Err(error) => Err(Failure::from(error)),
+    }
+}
+
+/// Decodes a value from the front of the bytes of HEX, and prints a line of JSON with it and the
+/// bytes after it.
+///
+/// # Errors
+///
+/// Fails as [`schema_of`] and [`hexadecimal::read_loose`] do, with `Refused` if the bytes begin with
+/// no message of the type, after a line of JSON without its end is printed that says where and why,
+/// and with `Library(WontImplement)` if the value has no JSON.
+pub fn decode<R: Source, W: Write>(
+    alloc: Global,
+    expression: &str,
+    hex: &str,
+    input: &mut R,
+    output: &mut W,
+) -> Result<(), Failure>
+    ensures printed { OnOk result (PrintsFirstJson expression.now hex.now (R.remaining input.old)
+        (R.remaining input.new) (W.contents output.old) (W.contents output.new)) }
+    ensures refused { IfErr result (DecodeJsonFails READS (R.steady input.old) expression.now
+        hex.now (R.remaining input.old) (R.remaining input.new)
+        (W.contents output.old) (W.contents output.new)) }
+{
+    let schema = schema_of(alloc, expression, output)?;
+    let bytes = hexadecimal::read_loose(alloc, hex, input)?;
+    let (value, rest) = read_front(alloc, &schema, &bytes, &bytes, output)?;
+    print_line(alloc, &schema, &value, 0, rest, output)
+}
+
+/// Decodes values one after another until no byte of HEX is left, and prints a line of JSON for
+/// each.
+///
+/// # Errors
+///
+/// Fails as [`decode`] does, and with `BadType` if messages of the type have no bytes. The lines of
+/// the values before an error are printed.
+pub fn decode_all<R: Source, W: Write>(
+    alloc: Global,
+    expression: &str,
+    hex: &str,
+    input: &mut R,
+    output: &mut W,
+) -> Result<(), Failure>
+    ensures printed { OnOk result (PrintsAllJson expression.now hex.now (R.remaining input.old)
+        (R.remaining input.new) (W.contents output.old) (W.contents output.new)) }
+    ensures refused { IfErr result (DecodeAllJsonFails READS (R.steady input.old) expression.now
+        hex.now (R.remaining input.old) (R.remaining input.new)
+        (W.contents output.old) (W.contents output.new)) }
+{
+    let schema = schema_of(alloc, expression, output)?;
+    if !schema.has_bytes() {
+        output.write_all(b"messages of this type have no bytes: ")?;
+        return Err(Failure::BadType);
+    }
+    let bytes = hexadecimal::read_loose(alloc, hex, input)?;
+    let all = bytes.as_slice();
+    let mut rest = all;
+    'values: while !rest.is_empty() {
+        rest = print_front(alloc, &schema, all, rest, output)?;
+    }
+    Ok(())
+}
+
+/// Decodes a value from the front of `rest`, the last of the bytes `all`, and prints the line of
+/// JSON of it, or of the refusal. Returns the bytes after it.
+fn print_front<'a, W: Write>(
+    alloc: Global,
+    schema: &Schema,
+    all: &[u8],
+    rest: &'a [u8],
+    output: &mut W,
+) -> Result<&'a [u8], Failure>
+    ensures printed { IfOk result (λ after. (value : Value)
+        × ReadsValue schema.now rest.now value after.now
+        × PrintsJsonLine schema.now (length all.now - length rest.now) value []
+        (W.contents output.old) (W.contents output.new)) }
+    ensures refused { IfErr result (JsonLineFails schema.now all.now rest.now
+        (W.contents output.old) (W.contents output.new)) }
+{
+    let (value, after) = read_front(alloc, schema, all, rest, output)?;
+    let at = all.len().saturating_sub(rest.len());
+    print_line(alloc, schema, &value, at, &[], output)?;
+    Ok(after)
+}
+
+/// Decodes a value from the front of `rest`, the last of the bytes `all`. Returns it, and the bytes
+/// after it. If the bytes are refused, prints the line of JSON that says so, without its end.
+fn read_front<'a, W: Write>(
+    alloc: Global,
+    schema: &Schema,
+    all: &[u8],
+    rest: &'a [u8],
+    output: &mut W,
+) -> Result<(Value, &'a [u8]), Failure>
+    ensures read { IfOk result (λ front. ReadsValue schema.now rest.now front.0 front.1.now) }
+    ensures untouched { OnOk result (output.new ≡ output.old) }
+    ensures refused { IfErr result (JsonFrontFails schema.now all.now rest.now
+        (W.contents output.old) (W.contents output.new)) }
+{
+    match take_from_bytes(alloc, schema, rest) {
+        Ok((value, after)) => Ok((value, after)),
+        Err(Error::OutOfMemory) => Err(Failure::from(Error::OutOfMemory)),
+        Err(error) => {
+            let before = all.len().saturating_sub(rest.len());
+            let offset = before.saturating_add(refused_at(alloc, schema, rest)?);
+            let path = path_of(alloc, schema, rest)?;
+            print_refused(alloc, offset, &error, &path, output)?;
+            Err(Failure::Refused)
+        }
+    }
+}
+
+/// Prints the line of JSON of a refusal, without its end: the offset of the part that can't be read,
+/// why, and the path of the part, if it isn't the whole value.
+fn print_refused<W: Write>(
+    alloc: Global,
+    offset: usize,
+    error: &Error,
+    path: &str,
+    output: &mut W,
+) -> Result<(), Failure>
+    ensures printed { OnOk result (Appends (W.contents output.old) (W.contents output.new)
+        (refusal_text offset error.now path.now)) }
+    ensures refused { IfErr result (λ e. (e ≡ Failure.Output) ⊎ (e ≡ Failure.Library OutOfMemory)) }
+{
+    let why = reason(error);
+    let field = field_of(alloc, path)?;
+    write!(output, "{{\"at\":{offset},\"error\":\"{why}\"{field}}}")?;
+    Ok(())
+}
+
+/// Returns the member with the path of a part, or nothing if the path is empty.
+fn field_of(alloc: Global, path: &str) -> Result<String, AllocError>
+    ensures { IfOk result (λ field. string_bytes field ≡ field_text path.now) }
+{
+    if path.is_empty() {
+        return Ok(String::new(alloc));
+    }
+    let name = quote(alloc, path)?;
+    let field = format!(in alloc; ",\"field\":{name}")?;
+    Ok(field)
+}
+
+/// Returns a text as a string of JSON, with its quotes.
+fn quote(alloc: Global, text: &str) -> Result<String, AllocError>
+    ensures { IfOk result (λ shown. string_bytes shown ≡ quoted text.now) }
+{
+    let json = Json::try_from_str(alloc, text)?;
+    json.to_string(alloc)
+}
+
+/// Prints the line of JSON of a value that begins at this offset, and of the bytes left after it, if
+/// there are some.
+fn print_line<W: Write>(
+    alloc: Global,
+    schema: &Schema,
+    value: &Value,
+    at: usize,
+    rest: &[u8],
+    output: &mut W,
+) -> Result<(), Failure>
+    ensures printed { OnOk result (PrintsJsonLine schema.now at value.now rest.now
+        (W.contents output.old) (W.contents output.new)) }
+    ensures refused { IfErr result (λ e. (e ≡ Failure.Output) ⊎ ((e ≡ Failure.Library OutOfMemory)
+        ⊎ (e ≡ Failure.Library WontImplement))) }
+{
+    let Some(json) = to_json(alloc, schema, value)? else {
+        return Err(Failure::from(Error::WontImplement));
+    };
+    let text = json.to_string(alloc)?;
+    write!(output, "{{\"at\":{at},\"value\":{text}")?;
+    print_rest(rest, output)?;
+    writeln!(output, "}}")?;
+    Ok(())
+}
+
+/// Prints the member with the bytes left after a value, if there are some.
+fn print_rest<W: Write>(rest: &[u8], output: &mut W) -> Result<(), Failure>
+    ensures printed { OnOk result (Appends (W.contents output.old) (W.contents output.new)
+        (rest_text rest.now)) }
+    ensures refused { IfErr result (λ e. e ≡ Failure.Output) }
+{
+    if rest.is_empty() {
+        return Ok(());
+    }
+    output.write_all(b",\"rest\":\"")?;
+    hexadecimal::write(rest, output)?;
+    output.write_all(b"\"")?;
+    Ok(())
+}

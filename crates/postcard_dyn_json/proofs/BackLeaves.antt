@@ -1,0 +1,169 @@
+-- The JSON of values without parts that was written is read as the tree that it was written of.
+use Rattle.std.proofs.Common.{◌≡◌, ℕ, ℤ, pos, negsuc, zero, suc, ◌<◌, ◌^◌, neg_ℤ, Bool, true, false, List, [], ◌∷◌, map, length, get_or, Some, if◌then◌else◌, refl, sym, ap, subst, ◌∙◌, arith}
+use Rattle.std.specs.Prelude.{FitsSigned, slice_index, nat_lt, ◌≢◌}
+use Rattle.std.specs.Char.{encode_utf8, digit_value}
+use Rattle.std.specs.Fmt.{decimal, signed_decimal}
+use Rattle.std.specs.Int.{w8, w128, cast_signed}
+use Rattle.std.specs.Str.Parse.{IsNumeral, digits_value, without_leading_plus, without_leading_sign}
+use Rattle.std.proofs.Math.Nat.{pow-suc}
+use Rattle.std.specs.Bool.{◌==◌}
+use Rattle.std.proofs.lemmas.Fmt.{decimal_is_IsNumeral_wide}
+use Rattle.std.proofs.lemmas.Int.{ints}
+use Rattle.std.proofs.lemmas.Str.Parse.{without_leading_plus_none}
+use Rattle.hex.specs.Hex.{encode_lower}
+use Rattle.hex.proofs.HexLemmas.{decode_of-encode_lower}
+use Rattle.postcard_wire.specs.Tree.{Tree, Trees, Byte, Boolean, Num, Int, Text, NoTrees, Then, trees, count}
+use Rattle.postcard_wire.specs.Tree as nodes
+use Rattle.postcard_wire.specs.Reading.{Each, IsByte}
+use Rattle.postcard_shape.specs.Base256.{AreBytes, low_value, low_first, low_counts, low_bytes, low_worth, low_one}
+use Rattle.postcard_dyn_schema.specs.declared.schema.Leaf.{Leaf}
+use Rattle.postcard_dyn_schema.specs.declared.schema.Leaf.TheVariants.{U8, U16, U32, U64, U128, I8, I16, I32, I64, I128, F32, F64, Char, Str, Bytes}
+use Rattle.postcard_dyn_schema.specs.declared.schema.Leaf.TheVariants as leaves
+use Rattle.postcard_dyn_schema.specs.Meaning.{leaf, reads}
+use Rattle.postcard_dyn_text.specs.Shown as layouts
+use Rattle.postcard_dyn_text.proofs.Spellings.{unequal}
+use Rattle.serde_json.specs.Data.{Data, boolean, number, string, unsigned}
+use Rattle.serde_json.specs.Find.{of_integer}
+use Rattle.postcard_dyn_json.specs.Written.{json_of, unsigned_json, signed_json, is_small, bytes_of, f32_json, f64_json}
+use Rattle.postcard_dyn_json.specs.Reading.{IsJsonOf, IsUnsigned, IsSigned, IsUnsignedJson, IsSignedJson, IsF32Json, IsF64Json}
+use Rattle.postcard_dyn_json.proofs.Leaves.{wide_8, wide_16, wide_32, wide_64, wide_128}
+use Rattle.postcard_dyn_json.proofs.BackFloats.{f32_back, f64_back}
+use Rattle.postcard_dyn_json.proofs.Rows.{some_is}
+
+-- ---- numbers
+
+not_sign : (bs : List ℕ) → IsNumeral 10 bs → (get_or bs 0 0 ≢ 43) × (get_or bs 0 0 ≢ 45)
+not_sign [] h = absurd (omega (arith, h.0))
+not_sign (c ∷ cs) h = (
+  λ is. absurd (omega (arith, subst (λ d. digit_value d < 10) is h.1.0)),
+  λ is. absurd (omega (arith, subst (λ d. digit_value d < 10) is h.1.0)),
+)
+
+plain_digits : (n : ℕ) → n < 10 ^ 64 → IsUnsigned n (decimal n)
+plain_digits n low =
+    let h = decimal_is_IsNumeral_wide n low in
+    let plain : without_leading_plus (decimal n) ≡ decimal n = without_leading_plus_none (decimal n) (not_sign (decimal n) h.0).0 in
+    (subst (IsNumeral 10) (sym plain) h.0, sym (ap (digits_value 10) plain ∙ h.1))
+
+unsigned_back : (n : ℕ) → n < 10 ^ 64 → IsUnsignedJson n (unsigned_json n)
+unsigned_back n low = by (nat_lt n 9007199254740992)
+  where
+    by : (b : Bool) → IsUnsignedJson n (if b then number (unsigned n) else string (decimal n))
+    by true = refl
+    by false = plain_digits n low
+
+signed_digits : (z : ℤ) → FitsSigned w128 z → IsSigned z (signed_decimal z)
+signed_digits (pos n) fits =
+    let low : n < 10 ^ 64 = omega (arith, ints, fits.sfits) in
+    let h = decimal_is_IsNumeral_wide n low in
+    let first = not_sign (decimal n) h.0 in
+    let plus : without_leading_plus (decimal n) ≡ decimal n = without_leading_plus_none (decimal n) first.0 in
+    let minus : (get_or (decimal n) 0 0 == 45) ≡ false = unequal (get_or (decimal n) 0 0) 45 first.1 in
+    let plain : without_leading_sign (decimal n) ≡ decimal n = rw minus plus in
+    (subst (IsNumeral 10) (sym plain) h.0, rw minus (ap pos (sym (ap (digits_value 10) plus ∙ h.1))))
+signed_digits (negsuc n) fits =
+    let low : suc n < 10 ^ 64 = omega (arith, ints, fits.sfits) in
+    let h = decimal_is_IsNumeral_wide (suc n) low in
+    (h.0, ap (λ m. neg_ℤ (pos m)) (sym h.1))
+
+signed_back : (z : ℤ) → FitsSigned w128 z → IsSignedJson z (signed_json z)
+signed_back z fits = by z (is_small z) fits
+  where
+    by : (z : ℤ) (b : Bool) → FitsSigned w128 z → IsSignedJson z (if b then number (of_integer z) else string (signed_decimal z))
+    by (pos n) true fits = refl
+    by (negsuc n) true fits = refl
+    by z false fits = signed_digits z fits
+
+-- ---- bytes
+
+same_byte : (a b : ℕ) → Byte a ≡ Byte b → a ≡ b
+same_byte a b e = cc e
+
+bytes_whole : (ts : Trees) → Each IsByte ts → ts ≡ trees (map Byte (bytes_of ts))
+bytes_whole NoTrees each = refl
+bytes_whole (Then (Byte b) ts) each = ap (λ us. Then (Byte b) us) (bytes_whole ts each.1)
+bytes_whole (Then t ts) ((b, is, low), each) = absurd (cc is)
+
+bytes_are : (ts : Trees) → Each IsByte ts → AreBytes (bytes_of ts)
+bytes_are NoTrees each = tt
+bytes_are (Then (Byte b) ts) ((c, is, low), each) = (subst (λ n. n < 256) (sym (same_byte b c is)) low, bytes_are ts each)
+bytes_are (Then t ts) ((b, is, low), each) = absurd (cc is)
+
+bytes_count : (ts : Trees) → Each IsByte ts → length (bytes_of ts) ≡ count ts
+bytes_count NoTrees each = refl
+bytes_count (Then (Byte b) ts) each = ap suc (bytes_count ts each.1)
+bytes_count (Then t ts) ((b, is, low), each) = absurd (cc is)
+
+each_below : (bs : List ℕ) → AreBytes bs → (i : ℕ) → slice_index bs i < 256
+each_below [] h i = omega arith
+each_below (b ∷ bs) h zero = h.0
+each_below (b ∷ bs) h (suc i) = each_below bs h.1 i
+
+value_below : (bs : List ℕ) → AreBytes bs → low_value bs < 256 ^ length bs
+value_below [] h = omega arith
+value_below (b ∷ bs) h = let rest = value_below bs h.1 in let p = pow-suc 256 (length bs) in omega (arith, h.0, rest, p)
+
+-- The bytes of a float are those of its bits.
+float_whole : (k : ℕ) (ts : Trees) → count ts ≡ k → Each IsByte ts → ts ≡ trees (map Byte (low_first k (low_value (bytes_of ts))))
+float_whole k ts long each =
+    let bs = bytes_of ts in
+    let are = bytes_are ts each in
+    let size : length bs ≡ k = bytes_count ts each ∙ long in
+    let below : low_value bs < 256 ^ k = subst (λ n. low_value bs < 256 ^ n) size (value_below bs are) in
+    bytes_whole ts each ∙ ap (λ xs. trees (map Byte xs)) (low_one bs (low_first k (low_value bs)) (size ∙ sym (low_counts k (low_value bs))) are (low_bytes k (low_value bs)) (sym (low_worth k (low_value bs) below)))
+
+-- ---- leaves
+
+same_num : (v w a b : ℕ) → Num v a ≡ Num w b → a ≡ b
+same_num v w a b e = cc e
+
+same_int : (v w : ℕ) (a b : ℤ) → Int v a ≡ Int w b → a ≡ b
+same_int v w a b e = cc e
+
+same_group : (ts us : Trees) → nodes.Group ts ≡ nodes.Group us → ts ≡ us
+same_group ts us e = cc e
+
+same_seq : (ts us : Trees) → nodes.Seq ts ≡ nodes.Seq us → ts ≡ us
+same_seq ts us e = cc e
+
+unsigned_from : (n k : ℕ) (d : Data) → n ≡ k → k < 10 ^ 64 → Some (unsigned_json n) ≡ Some d → IsUnsignedJson n d
+unsigned_from n k d same low e = subst (IsUnsignedJson n) (some_is (unsigned_json n) d e) (unsigned_back n (omega (arith, same, low)))
+
+signed_from : (z y : ℤ) (d : Data) → z ≡ y → FitsSigned w128 y → Some (signed_json z) ≡ Some d → IsSignedJson z d
+signed_from z y d same fits e = subst (IsSignedJson z) (some_is (signed_json z) d e) (signed_back z (subst (FitsSigned w128) (sym same) fits))
+
+float_below : (k : ℕ) (ts : Trees) → count ts ≡ k → Each IsByte ts → low_value (bytes_of ts) < 256 ^ k
+float_below k ts long each = subst (λ n. low_value (bytes_of ts) < 256 ^ n) (bytes_count ts each ∙ long) (value_below (bytes_of ts) (bytes_are ts each))
+
+-- What is written of each tree of a type without parts is read as that tree.
+pub leaf_back : (l : Leaf) (t : Tree) (d : Data) → reads (leaf l) t → json_of (layouts.leaf l) t ≡ Some d → IsJsonOf (layouts.leaf l) t d
+leaf_back leaves.Bool (Boolean x) d r e = sym (some_is (boolean x) d e)
+leaf_back U8 (Byte n) d (m, is, low) e = unsigned_from n m d (same_byte n m is) (omega (arith, low)) e
+leaf_back U16 (Num w n) d (m, is, low) e = unsigned_from n m d (same_num w 16 n m is) (omega (arith, low)) e
+leaf_back U32 (Num w n) d (m, is, low) e = unsigned_from n m d (same_num w 32 n m is) (omega (arith, low)) e
+leaf_back U64 (Num w n) d (m, is, low) e = unsigned_from n m d (same_num w 64 n m is) (omega (arith, low)) e
+leaf_back U128 (Num w n) d (m, is, low) e = unsigned_from n m d (same_num w 128 n m is) (omega (arith, low)) e
+leaf_back I8 (Byte n) d (m, is, low) e = signed_from (cast_signed w8 n) (cast_signed w8 m) d (ap (cast_signed w8) (same_byte n m is)) (wide_8 m low) e
+leaf_back I16 (Int w z) d (y, is, low) e = signed_from z y d (same_int w 16 z y is) (wide_16 y low) e
+leaf_back I32 (Int w z) d (y, is, low) e = signed_from z y d (same_int w 32 z y is) (wide_32 y low) e
+leaf_back I64 (Int w z) d (y, is, low) e = signed_from z y d (same_int w 64 z y is) (wide_64 y low) e
+leaf_back I128 (Int w z) d (y, is, low) e = signed_from z y d (same_int w 128 z y is) (wide_128 y low) e
+leaf_back F32 (nodes.Group ts) d (us, is, long, each) e =
+    let same = same_group ts us is in
+    let each' = subst (Each IsByte) (sym same) each in
+    let long' : count ts ≡ 4 = ap count same ∙ long in
+    let bits = low_value (bytes_of ts) in
+    (bits, ap nodes.Group (float_whole 4 ts long' each'), subst (IsF32Json bits) (some_is (f32_json bits) d e) (f32_back bits (float_below 4 ts long' each')))
+leaf_back F64 (nodes.Group ts) d (us, is, long, each) e =
+    let same = same_group ts us is in
+    let each' = subst (Each IsByte) (sym same) each in
+    let long' : count ts ≡ 8 = ap count same ∙ long in
+    let bits = low_value (bytes_of ts) in
+    (bits, ap nodes.Group (float_whole 8 ts long' each'), subst (IsF64Json bits) (some_is (f64_json bits) d e) (f64_back bits (float_below 8 ts long' each')))
+leaf_back Char (nodes.Char c) d r e = sym (some_is (string (encode_utf8 c)) d e)
+leaf_back Str (Text u) d r e = sym (some_is (string u) d e)
+leaf_back Bytes (nodes.Seq ts) d (us, is, few, each) e =
+    let each' = subst (Each IsByte) (sym (same_seq ts us is)) each in
+    let bs = bytes_of ts in
+    (bs, encode_lower bs, bytes_whole ts each', sym (some_is (string (encode_lower bs)) d e), decode_of-encode_lower bs (each_below bs (bytes_are ts each')))
+leaf_back l t d r e = absurd (cc e)

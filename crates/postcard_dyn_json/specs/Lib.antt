@@ -1,0 +1,4 @@
+pub mod Written
+pub mod Reading
+pub mod Accepted
+pub mod Printed

@@ -1,0 +1,84 @@
+-- The places of errors, and the texts as which errors are printed.
+use Rattle.std.specs.Prelude.{◌≡◌, ℕ, ◌+◌, ◌≤◌, ◌⊎◌, List, [], ◌∷◌, ◌++◌, codes, string_bytes, nat_eq, if◌then◌else◌}
+use Rattle.std.specs.Fmt.{decimal}
+use Rattle.postcard_dyn_schema.specs.declared.schema.Leaf.{Leaf}
+use Rattle.postcard_dyn_schema.specs.declared.schema.Leaf.TheVariants as leaves
+use Rattle.postcard_dyn_schema.specs.Text.{characters}
+use Rattle.postcard_dyn_text.specs.Shown.{Layout, named}
+use Rattle.postcard_dyn_json.specs.declared.error.Expected.{Expected}
+use Rattle.postcard_dyn_json.specs.declared.error.Expected.TheVariants as places
+use Rattle.postcard_dyn_json.specs.declared.error.JsonError.{JsonError}
+use Rattle.postcard_dyn_json.specs.declared.error.JsonError.TheVariants.{NotAValue, OutOfMemory}
+use Rattle.postcard_dyn_json.specs.declared.text.JsonTextError.{JsonTextError}
+use Rattle.postcard_dyn_json.specs.declared.text.JsonTextError.TheVariants as text_errors
+
+-- What stands before a path that goes on from another: `.`, but nothing before an index or at the end.
+abbrev pub dot_before : List ℕ → List ℕ
+dot_before [] = []
+dot_before (b ∷ path) = if nat_eq b 91 then [] else codes "."
+
+-- The error is at the place with this path, where this is expected.
+abbrev pub IsAt : List ℕ → Expected → JsonError → Type 0
+IsAt path expected (NotAValue text what) = (string_bytes text ≡ path) × (what ≡ expected)
+IsAt path expected OutOfMemory = ⊥
+
+-- The second error is the first one of a part, as that of the whole; or memory is lacking.
+abbrev pub IsWithin : List ℕ → JsonError → JsonError → Type 0
+IsWithin step (NotAValue path expected) e = (e ≡ OutOfMemory) ⊎ IsAt (step ++ (dot_before (string_bytes path) ++ string_bytes path)) expected e
+IsWithin step OutOfMemory e = e ≡ OutOfMemory
+
+-- The last step of the path to a part: the name of a field, or an index.
+abbrev pub part_step : ℕ → Layout → List ℕ
+part_step i (named n x) = n
+part_step i x = codes "[" ++ decimal i ++ codes "]"
+
+-- The name of a type without parts.
+abbrev pub leaf_name : Leaf → List ℕ
+leaf_name leaves.Bool = codes "bool"
+leaf_name leaves.U8 = codes "u8"
+leaf_name leaves.U16 = codes "u16"
+leaf_name leaves.U32 = codes "u32"
+leaf_name leaves.U64 = codes "u64"
+leaf_name leaves.U128 = codes "u128"
+leaf_name leaves.I8 = codes "i8"
+leaf_name leaves.I16 = codes "i16"
+leaf_name leaves.I32 = codes "i32"
+leaf_name leaves.I64 = codes "i64"
+leaf_name leaves.I128 = codes "i128"
+leaf_name leaves.F32 = codes "f32"
+leaf_name leaves.F64 = codes "f64"
+leaf_name leaves.Char = codes "char"
+leaf_name leaves.Str = codes "str"
+leaf_name leaves.Bytes = codes "bytes"
+
+-- The phrase for what is expected.
+abbrev pub expected_text : Expected → List ℕ
+expected_text (places.Leaf leaf) = leaf_name leaf
+expected_text places.Option = codes "null or an object with the member Some alone"
+expected_text places.Array = codes "an array"
+expected_text (places.ArrayOf count) = codes "an array of length " ++ decimal count
+expected_text places.Null = codes "null"
+expected_text (places.ObjectOf count) = codes "an object with " ++ (decimal count ++ codes " members")
+expected_text places.Present = codes "a value"
+expected_text places.Variant = codes "a variant"
+expected_text places.Json = codes "JSON"
+
+-- What stands after a path.
+abbrev pub colon_after : List ℕ → List ℕ
+colon_after [] = []
+colon_after (b ∷ path) = codes ": "
+
+-- The text of an error.
+abbrev pub json_error_text : JsonError → List ℕ
+json_error_text (NotAValue path expected) = string_bytes path ++ (colon_after (string_bytes path) ++ (codes "expected " ++ expected_text expected))
+json_error_text OutOfMemory = codes "out of memory"
+
+-- The place is the number of a character of the text, counted from 1, or the next number after the last.
+abbrev pub IsPlaceIn : List ℕ → JsonTextError → Type 0
+IsPlaceIn text (text_errors.NotAValue character expected) = (1 ≤ character) × (character ≤ characters text + 1)
+IsPlaceIn text text_errors.OutOfMemory = Unit {0}
+
+-- The text of an error of reading a text.
+abbrev pub text_error_text : JsonTextError → List ℕ
+text_error_text (text_errors.NotAValue character expected) = codes "bad value at character " ++ (decimal character ++ (codes ": expected " ++ expected_text expected))
+text_error_text text_errors.OutOfMemory = codes "out of memory"

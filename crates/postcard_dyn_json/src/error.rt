@@ -1,0 +1,168 @@
+//! The error of reading a value from JSON.
+
+ghost use Rattle.std.specs.Prelude.{◌≡◌, Some, OnOk, IfErr, ◌++◌, ◌∷◌, [], codes};
+ghost use Rattle.std.specs.Fmt.{decimal};
+ghost use Rattle.postcard_dyn_json.specs.Printed.{expected_text, json_error_text, leaf_name};
+ghost use Rattle.postcard_dyn_json.specs.Printed.{IsAt, IsWithin, dot_before};
+ghost use Rattle.postcard_dyn_json.specs.declared.error.JsonError.TheVariants as errors;
+
+use postcard_dyn::{Leaf, Value};
+use std::alloc::Global;
+use std::fmt;
+
+/// What is expected in place of JSON that is no value. It is printed as a short phrase, such as `an
+/// array of length 2`.
+#[derive(Clone, Copy, Debug, PartialEq, Eq)]
+pub enum Expected {
+    /// A value of this type without parts.
+    Leaf(Leaf),
+    /// `null`, or an object with the member `Some` alone.
+    Option,
+    /// An array of any length.
+    Array,
+    /// An array of this length.
+    ArrayOf(usize),
+    /// `null`.
+    Null,
+    /// An object with this number of members, one for each field of the struct.
+    ObjectOf(usize),
+    /// The item or the member with which the path ends.
+    Present,
+    /// The name of a variant, or an object with the name and the content of a variant alone.
+    Variant,
+    /// JSON, in a text that isn't.
+    Json,
+}
+
+/// The error of reading a value from JSON. It is printed as `samples[1].id: expected u8`.
+#[derive(Debug, Drop)]
+pub enum JsonError {
+    /// The JSON is no value of the schema.
+    NotAValue {
+        /// The place of the first part that is none: the indexes of items and the names of members
+        /// on the way to it, as `samples[1].id`. Empty for the whole.
+        path: String,
+        /// What is expected there.
+        expected: Expected,
+    },
+    /// An allocation failed.
+    OutOfMemory,
+}
+
+impl JsonError {
+    /// Returns the error at the place that is being read.
+    pub fn here(alloc: Global, expected: Expected) -> JsonError
+        ensures { IsAt [] expected result }
+    {
+        JsonError::NotAValue {
+            path: String::new(alloc),
+            expected,
+        }
+    }
+
+    /// Returns the error of the item at this index, as the error of the array.
+    pub fn at_index(self, alloc: Global, index: usize) -> JsonError
+        ensures place { IsWithin (codes "[" ++ decimal index ++ codes "]") self result }
+        ensures memory { self ≡ errors.OutOfMemory → result ≡ errors.OutOfMemory }
+    {
+        match format!(in alloc; "[{index}]") {
+            Ok(step) => self.at_name(alloc, &step),
+            Err(_) => JsonError::OutOfMemory,
+        }
+    }
+
+    /// Returns the error of the member with this name, as the error of the object.
+    pub fn at_name(self, alloc: Global, name: &str) -> JsonError
+        ensures place { IsWithin name.now self result }
+        ensures memory { self ≡ errors.OutOfMemory → result ≡ errors.OutOfMemory }
+    {
+        match self {
+            JsonError::NotAValue { path, expected } => {
+                let dot = separator(&path);
+                match format!(in alloc; "{name}{dot}{path}") {
+                    Ok(path) => JsonError::NotAValue { path, expected },
+                    Err(_) => JsonError::OutOfMemory,
+                }
+            }
+            JsonError::OutOfMemory => JsonError::OutOfMemory,
+        }
+    }
+}
+
+/// Returns what stands between a place and the path from there on: `.`, but nothing before an
+/// index or at the end.
+fn separator(path: &str) -> &'static str
+    ensures { result.now ≡ dot_before path.now }
+{
+    match path.as_bytes().first() {
+        None | Some(b'[') => "",
+        Some(_) => ".",
+    }
+}
+
+/// Appends a value, or fails with `OutOfMemory`.
+pub fn push(values: &mut Vec<Value>, value: Value) -> Result<(), JsonError>
+    ensures added { OnOk result (values.new.items ≡ values.old.items ++ value ∷ []) }
+    ensures refused { IfErr result (λ e. e ≡ errors.OutOfMemory) }
+{
+    match values.push(value) {
+        Ok(()) => Ok(()),
+        Err(_) => Err(JsonError::OutOfMemory),
+    }
+}
+
+impl fmt::Display for Expected {
+    ghost output = { λ expected. Some (expected_text expected) };
+
+    fn fmt<W: fmt::Write>(&self, f: &mut fmt::Formatter<W>) -> fmt::Result {
+        match self {
+            Expected::Leaf(leaf) => f.write_str(name_of(*leaf)),
+            Expected::Option => f.write_str("null or an object with the member Some alone"),
+            Expected::Array => f.write_str("an array"),
+            Expected::ArrayOf(count) => write!(f, "an array of length {count}"),
+            Expected::Null => f.write_str("null"),
+            Expected::ObjectOf(count) => write!(f, "an object with {count} members"),
+            Expected::Present => f.write_str("a value"),
+            Expected::Variant => f.write_str("a variant"),
+            Expected::Json => f.write_str("JSON"),
+        }
+    }
+}
+
+impl fmt::Display for JsonError {
+    ghost output = { λ e. Some (json_error_text e) };
+
+    fn fmt<W: fmt::Write>(&self, f: &mut fmt::Formatter<W>) -> fmt::Result {
+        match self {
+            JsonError::NotAValue { path, expected } => {
+                let colon = if path.is_empty() { "" } else { ": " };
+                write!(f, "{path}{colon}expected {expected}")
+            }
+            JsonError::OutOfMemory => f.write_str("out of memory"),
+        }
+    }
+}
+
+/// Returns the name of a type without parts.
+fn name_of(leaf: Leaf) -> &'static str
+    ensures { result.now ≡ leaf_name leaf }
+{
+    match leaf {
+        Leaf::Bool => "bool",
+        Leaf::U8 => "u8",
+        Leaf::U16 => "u16",
+        Leaf::U32 => "u32",
+        Leaf::U64 => "u64",
+        Leaf::U128 => "u128",
+        Leaf::I8 => "i8",
+        Leaf::I16 => "i16",
+        Leaf::I32 => "i32",
+        Leaf::I64 => "i64",
+        Leaf::I128 => "i128",
+        Leaf::F32 => "f32",
+        Leaf::F64 => "f64",
+        Leaf::Char => "char",
+        Leaf::Str => "str",
+        Leaf::Bytes => "bytes",
+    }
+}

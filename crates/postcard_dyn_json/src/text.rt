@@ -1,0 +1,115 @@
+//! Reading a value from a JSON text: [`read_json`].
+
+ghost use Rattle.std.specs.Prelude.{◌≡◌, Some, IfOk, IfErr, MatchResult};
+ghost use Rattle.postcard_wire.specs.Tree.{Tree};
+ghost use Rattle.postcard_dyn.specs.Tree.{tree};
+ghost use Rattle.postcard_dyn_schema.specs.Meaning.{type_of, reads};
+ghost use Rattle.postcard_dyn_text.specs.Accepted.{HasDistinctNames};
+ghost use Rattle.postcard_dyn_text.specs.Shown.{layout_of};
+ghost use Rattle.serde_json.specs.Errors.{IsMemory};
+ghost use Rattle.postcard_dyn_json.specs.Printed.{IsPlaceIn, text_error_text};
+ghost use Rattle.postcard_dyn_json.specs.Reading.{IsJsonText};
+ghost use Rattle.postcard_dyn_json.specs.declared.error.JsonError.TheVariants as errors;
+
+use crate::error::{Expected, JsonError};
+use crate::place::{from_line, from_part};
+use crate::read::from_json;
+use postcard_dyn::scan::character_of;
+use postcard_dyn::{Schema, Value};
+use serde_json::{Error, Value as Json};
+use std::alloc::Global;
+use std::fmt;
+
+/// The error of reading a value from a JSON text. It is printed as `bad value at character 5:
+/// expected u8`.
+#[derive(Clone, Copy, Debug, PartialEq, Eq)]
+pub enum JsonTextError {
+    /// The text is no JSON of a value of the schema.
+    NotAValue {
+        /// The place, counted from 1, where the text stops being JSON, or else where the first part
+        /// begins that is no value. At the end of the text it is the number of characters plus 1.
+        character: usize,
+        /// What is expected there.
+        expected: Expected,
+    },
+    /// An allocation failed.
+    OutOfMemory,
+}
+
+impl fmt::Display for JsonTextError {
+    ghost output = { λ e. Some (text_error_text e) };
+
+    fn fmt<W: fmt::Write>(&self, f: &mut fmt::Formatter<W>) -> fmt::Result {
+        match self {
+            JsonTextError::NotAValue {
+                character,
+                expected,
+            } => write!(f, "bad value at character {character}: expected {expected}"),
+            JsonTextError::OutOfMemory => f.write_str("out of memory"),
+        }
+    }
+}
+
+/// Reads the value of the schema that the JSON text spells, by [`from_json`].
+///
+/// # Errors
+///
+/// Fails with `NotAValue`, the place and what is expected there if the text is no JSON of a value
+/// of the schema, and with `OutOfMemory` if an allocation fails.
+pub fn read_json(alloc: Global, schema: &Schema, text: &str) -> Result<Value, JsonTextError>
+    ensures value { IfOk result (λ v. reads (type_of schema.now) (tree v)) }
+    ensures spelled { IfOk result (λ v. IsJsonText (layout_of schema.now) (tree v) text.now) }
+    ensures accepted { HasDistinctNames (layout_of schema.now) → (t : Tree)
+        → reads (type_of schema.now) t → IsJsonText (layout_of schema.now) t text.now
+        → MatchResult result (λ v. t ≡ tree v) (λ e. e ≡ JsonTextError.OutOfMemory) }
+    ensures place { IfErr result (IsPlaceIn text.now) }
+{
+    let json = match Json::from_str(alloc, text) {
+        Ok(json) => json,
+        Err(error) => return Err(syntax_error(text, &error)),
+    };
+    match from_json(alloc, schema, &json) {
+        Ok(value) => Ok(value),
+        Err(error) => Err(error_in(text, &error)),
+    }
+}
+
+/// Returns the error for a text that isn't JSON.
+fn syntax_error(text: &str, error: &Error) -> JsonTextError
+    ensures place { IsPlaceIn text.now result }
+    ensures memory { IsMemory error.now → result ≡ JsonTextError.OutOfMemory }
+{
+    if error.is_memory() {
+        return JsonTextError::OutOfMemory;
+    }
+    let left = if error.is_eof() {
+        0
+    } else {
+        from_line(text.as_bytes(), error.line(), error.column()).len()
+    };
+    not_a_value(text, left, Expected::Json)
+}
+
+/// Returns the error for JSON that is no value of the schema.
+fn error_in(text: &str, error: &JsonError) -> JsonTextError
+    ensures place { IsPlaceIn text.now result }
+    ensures memory { error.now ≡ errors.OutOfMemory → result ≡ JsonTextError.OutOfMemory }
+{
+    match error {
+        JsonError::NotAValue { path, expected } => {
+            let rest = from_part(text.as_bytes(), path.as_bytes());
+            not_a_value(text, rest.len(), *expected)
+        }
+        JsonError::OutOfMemory => JsonTextError::OutOfMemory,
+    }
+}
+
+/// Returns the error at the character that begins `left` bytes before the end of the text.
+fn not_a_value(text: &str, left: usize, expected: Expected) -> JsonTextError
+    ensures place { IsPlaceIn text.now result }
+{
+    JsonTextError::NotAValue {
+        character: character_of(text.as_bytes(), left),
+        expected,
+    }
+}

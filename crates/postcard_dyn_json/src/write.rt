@@ -1,0 +1,345 @@
+//! The JSON of a value: [`to_json`].
+
+ghost use Rattle.std.specs.Prelude.{◌≡◌, IfOk, IfSome, Some, map, option_map};
+ghost use Rattle.std.specs.Char.{encode_utf8};
+ghost use Rattle.std.specs.Int.{w8, cast_signed, cast_unsigned};
+ghost use Rattle.postcard_wire.specs.Tree.{trees, Byte, Group, Seq};
+ghost use Rattle.postcard_dyn.specs.Tree.{tree, bits_tree};
+ghost use Rattle.postcard_dyn_schema.specs.declared.schema.Leaf.TheVariants.{F32, F64, Bytes};
+ghost use Rattle.postcard_dyn_text.specs.Shown.{layout_of, layouts_of, have_names};
+ghost use Rattle.serde_json.specs.Data.{string};
+ghost use Rattle.serde_json.specs.View.{view};
+ghost use Rattle.postcard_dyn_json.specs.Written.{json_of, leaf_json, unsigned_json, signed_json};
+ghost use Rattle.postcard_dyn_json.specs.Written.{can_be_null, alone};
+ghost use Rattle.postcard_dyn_json.specs.Written.{option_json, all_json, row, group_json};
+ghost use Rattle.postcard_dyn_json.specs.Written.{struct_json, tuple_json, fields, variant_of};
+ghost use Rattle.postcard_dyn_json.specs.Written.{items as parts_of};
+
+use postcard_dyn::{Leaf, Schema, Value};
+use postcard_dyn_text::show::{is_struct, is_unit};
+use serde_json::{Map, Number, Value as Json, put};
+use std::alloc::{AllocError, Global};
+use std::num::{f32_from_bits_with_nan, f64_from_bits_with_nan};
+
+/// Returns the JSON of the value, or `None` if the value has another form than the schema, or two
+/// fields of a struct have the same name. Only the count of an array isn't checked.
+///
+/// # Errors
+///
+/// Fails if an allocation fails.
+#[cycle(write)]
+pub fn to_json(alloc: Global, schema: &Schema, value: &Value) -> Result<Option<Json>, AllocError>
+    ensures { IfOk result (λ o. IfSome o (λ j. Some (view j)
+        ≡ json_of (layout_of schema.now) (tree value.now))) }
+{
+    match schema {
+        Schema::Leaf(leaf) => write_leaf(alloc, *leaf, value),
+        Schema::Option(content) => write_option(alloc, content, value),
+        Schema::Seq(element) => match value {
+            Value::Seq(items) => write_list(alloc, element, items),
+            _ => Ok(None),
+        },
+        Schema::Map(entry) => match value {
+            Value::Seq(items) => write_list(alloc, entry, items),
+            _ => Ok(None),
+        },
+        Schema::Array(element, _) => match value {
+            Value::Group(items) => write_list(alloc, element, items),
+            _ => Ok(None),
+        },
+        Schema::Group(parts) => match value {
+            Value::Group(items) => write_group(alloc, parts, items),
+            _ => Ok(None),
+        },
+        Schema::Enum(variants) => match value {
+            Value::Variant(index, content) => match variants.get(*index as usize) {
+                Some(variant) => write_variant(alloc, variant, content),
+                None => Ok(None),
+            },
+            _ => Ok(None),
+        },
+        Schema::Named(_, content) => to_json(alloc, content, value),
+    }
+}
+
+/// Returns an object with one member.
+fn alone(alloc: Global, name: &str, content: Json) -> Result<Json, AllocError>
+    ensures { IfOk result (λ j. view j ≡ alone name.now (view content)) }
+{
+    let mut members = Map::new(alloc);
+    put(&mut members, alloc, name, content)?;
+    Ok(Json::Object(members))
+}
+
+/// Returns the JSON of an option.
+#[cycle(write)]
+fn write_option(alloc: Global, content: &Schema, value: &Value) -> Result<Option<Json>, AllocError>
+    ensures { IfOk result (λ o. IfSome o (λ j. Some (view j)
+        ≡ option_json (can_be_null (layout_of content.now)) (json_of (layout_of content.now))
+        (tree value.now))) }
+{
+    match value {
+        Value::Absent => Ok(Some(Json::Null)),
+        Value::Present(held) => {
+            let Some(json) = to_json(alloc, content, held)? else {
+                return Ok(None);
+            };
+            if may_be_null(content) {
+                Ok(Some(alone(alloc, "Some", json)?))
+            } else {
+                Ok(Some(json))
+            }
+        }
+        _ => Ok(None),
+    }
+}
+
+/// Returns whether the JSON of a value of the type may be `null`: that of an option or of the unit.
+pub fn may_be_null(schema: &Schema) -> bool
+    ensures { result ≡ can_be_null (layout_of schema.now) }
+{
+    match schema {
+        Schema::Option(_) => true,
+        Schema::Group(parts) => parts.is_empty(),
+        Schema::Named(_, content) => may_be_null(content),
+        _ => false,
+    }
+}
+
+/// Returns the array of the JSON of each element.
+#[cycle(write)]
+fn write_list(
+    alloc: Global,
+    element: &Schema,
+    items: &Vec<Value>,
+) -> Result<Option<Json>, AllocError>
+    ensures { IfOk result (λ o. IfSome o (λ j. Some (view j) ≡ option_map row
+        (all_json (json_of (layout_of element.now)) (trees (map tree items.now.items))))) }
+{
+    let mut all = Vec::new(alloc);
+    for item in items {
+        let Some(json) = to_json(alloc, element, item)? else {
+            return Ok(None);
+        };
+        all.push(json)?;
+    }
+    Ok(Some(Json::Array(all)))
+}
+
+/// Returns the JSON of a tuple or a struct.
+#[cycle(write)]
+fn write_group(
+    alloc: Global,
+    parts: &Vec<Schema>,
+    items: &Vec<Value>,
+) -> Result<Option<Json>, AllocError>
+    ensures { IfOk result (λ o. IfSome o (λ j. Some (view j)
+        ≡ group_json (have_names (layouts_of parts.now.items))
+        (fields (layouts_of parts.now.items)) (parts_of (layouts_of parts.now.items))
+        (Group (trees (map tree items.now.items))))) }
+{
+    if is_struct(parts) {
+        write_struct(alloc, parts, items)
+    } else {
+        write_tuple(alloc, parts, items)
+    }
+}
+
+/// Returns the JSON of a tuple, which is `null` for the unit.
+#[cycle(write)]
+fn write_tuple(
+    alloc: Global,
+    parts: &Vec<Schema>,
+    items: &Vec<Value>,
+) -> Result<Option<Json>, AllocError>
+    ensures { IfOk result (λ o. IfSome o (λ j. Some (view j)
+        ≡ tuple_json (parts_of (layouts_of parts.now.items)) (trees (map tree items.now.items)))) }
+{
+    if parts.len() != items.len() {
+        return Ok(None);
+    }
+    let mut all = Vec::new(alloc);
+    for (i, item) in items.iter().enumerate() {
+        let Some(part) = parts.get(i) else {
+            return Ok(None);
+        };
+        let Some(json) = to_json(alloc, part, item)? else {
+            return Ok(None);
+        };
+        all.push(json)?;
+    }
+    if all.is_empty() {
+        return Ok(Some(Json::Null));
+    }
+    Ok(Some(Json::Array(all)))
+}
+
+/// Returns the object of the fields of a struct, or `None` if two have the same name.
+#[cycle(write)]
+fn write_struct(
+    alloc: Global,
+    parts: &Vec<Schema>,
+    items: &Vec<Value>,
+) -> Result<Option<Json>, AllocError>
+    ensures { IfOk result (λ o. IfSome o (λ j. Some (view j)
+        ≡ struct_json (fields (layouts_of parts.now.items)) (trees (map tree items.now.items)))) }
+{
+    if parts.len() != items.len() {
+        return Ok(None);
+    }
+    let mut members = Map::new(alloc);
+    for (i, item) in items.iter().enumerate() {
+        let Some(part) = parts.get(i) else {
+            return Ok(None);
+        };
+        let Schema::Named(name, content) = part else {
+            return Ok(None);
+        };
+        let Some(json) = to_json(alloc, content, item)? else {
+            return Ok(None);
+        };
+        if members.contains_key(name.as_str()) {
+            return Ok(None);
+        }
+        put(&mut members, alloc, name, json)?;
+    }
+    Ok(Some(Json::Object(members)))
+}
+
+/// Returns the JSON of a variant.
+#[cycle(write)]
+fn write_variant(alloc: Global, variant: &Schema, value: &Value) -> Result<Option<Json>, AllocError>
+    ensures { IfOk result (λ o. IfSome o (λ j. Some (view j)
+        ≡ variant_of (layout_of variant.now) (tree value.now))) }
+{
+    let Schema::Named(name, content) = variant else {
+        return Ok(None);
+    };
+    if is_unit(content) {
+        return Ok(Some(Json::try_from_str(alloc, name)?));
+    }
+    let Some(json) = to_json(alloc, content, value)? else {
+        return Ok(None);
+    };
+    Ok(Some(alone(alloc, name, json)?))
+}
+
+/// Returns the JSON of a value without parts.
+fn write_leaf(alloc: Global, leaf: Leaf, value: &Value) -> Result<Option<Json>, AllocError>
+    ensures { IfOk result (λ o. IfSome o (λ j. Some (view j)
+        ≡ leaf_json leaf (tree value.now))) }
+{
+    match (leaf, value) {
+        (Leaf::Bool, Value::Bool(x)) => Ok(Some(Json::Bool(*x))),
+        (Leaf::U8, Value::U8(n)) => write_unsigned(alloc, u128::from(*n)),
+        (Leaf::U16, Value::U16(n)) => write_unsigned(alloc, u128::from(*n)),
+        (Leaf::U32, Value::U32(n)) => write_unsigned(alloc, u128::from(*n)),
+        (Leaf::U64, Value::U64(n)) => write_unsigned(alloc, u128::from(*n)),
+        (Leaf::U128, Value::U128(n)) => write_unsigned(alloc, *n),
+        (Leaf::I8, Value::I8(n)) => write_i8(alloc, *n),
+        (Leaf::I16, Value::I16(n)) => write_signed(alloc, i128::from(*n)),
+        (Leaf::I32, Value::I32(n)) => write_signed(alloc, i128::from(*n)),
+        (Leaf::I64, Value::I64(n)) => write_signed(alloc, i128::from(*n)),
+        (Leaf::I128, Value::I128(n)) => write_signed(alloc, *n),
+        (Leaf::F32, Value::F32(bits)) => write_f32(alloc, *bits),
+        (Leaf::F64, Value::F64(bits)) => write_f64(alloc, *bits),
+        (Leaf::Char, Value::Char(c)) => write_char(alloc, *c),
+        (Leaf::Str, Value::Str(text)) => write_text(alloc, text),
+        (Leaf::Bytes, Value::Bytes(held)) => write_bytes(alloc, held),
+        _ => Ok(None),
+    }
+}
+
+/// Returns the JSON of a number that isn't negative.
+fn write_unsigned(alloc: Global, n: u128) -> Result<Option<Json>, AllocError>
+    ensures { IfOk result (λ o. IfSome o (λ j. Some (view j) ≡ Some (unsigned_json n))) }
+{
+    if n < 9_007_199_254_740_992 {
+        return Ok(Some(Json::from(n as u64)));
+    }
+    let digits = format!(in alloc; "{n}")?;
+    Ok(Some(Json::String(digits)))
+}
+
+/// Returns the JSON of a signed number.
+fn write_signed(alloc: Global, n: i128) -> Result<Option<Json>, AllocError>
+    ensures { IfOk result (λ o. IfSome o (λ j. Some (view j) ≡ Some (signed_json n))) }
+{
+    if -9_007_199_254_740_992 < n && n < 9_007_199_254_740_992 {
+        return Ok(Some(Json::from(n as i64)));
+    }
+    let digits = format!(in alloc; "{n}")?;
+    Ok(Some(Json::String(digits)))
+}
+
+/// Returns the JSON of a signed number of 8 bits, whose tree is the byte of its two's complement.
+fn write_i8(alloc: Global, n: i8) -> Result<Option<Json>, AllocError>
+    ensures { IfOk result (λ o. IfSome o (λ j. Some (view j)
+        ≡ Some (signed_json (cast_signed w8 (cast_unsigned w8 n))))) }
+{
+    write_signed(alloc, i128::from(n))
+}
+
+/// Returns the JSON of the `f32` with these bits.
+fn write_f32(alloc: Global, bits: u32) -> Result<Option<Json>, AllocError>
+    ensures { IfOk result (λ o. IfSome o (λ j. Some (view j) ≡ leaf_json F32 (bits_tree 4 bits))) }
+{
+    let x = f32_from_bits_with_nan(bits);
+    if let Some(number) = Number::from_f64(f64::from(x)) {
+        return Ok(Some(Json::Number(number)));
+    }
+    match bits {
+        0x7f80_0000 => write_text(alloc, "inf"),
+        0xff80_0000 => write_text(alloc, "-inf"),
+        0x7fc0_0000 => write_text(alloc, "nan"),
+        _ => {
+            let text = format!(in alloc; "nan(0x{bits:x})")?;
+            Ok(Some(Json::String(text)))
+        }
+    }
+}
+
+/// Returns the JSON of the `f64` with these bits.
+fn write_f64(alloc: Global, bits: u64) -> Result<Option<Json>, AllocError>
+    ensures { IfOk result (λ o. IfSome o (λ j. Some (view j) ≡ leaf_json F64 (bits_tree 8 bits))) }
+{
+    let x = f64_from_bits_with_nan(bits);
+    if let Some(number) = Number::from_f64(x) {
+        return Ok(Some(Json::Number(number)));
+    }
+    match bits {
+        0x7ff0_0000_0000_0000 => write_text(alloc, "inf"),
+        0xfff0_0000_0000_0000 => write_text(alloc, "-inf"),
+        0x7ff8_0000_0000_0000 => write_text(alloc, "nan"),
+        _ => {
+            let text = format!(in alloc; "nan(0x{bits:x})")?;
+            Ok(Some(Json::String(text)))
+        }
+    }
+}
+
+/// Returns the string of one character.
+fn write_char(alloc: Global, c: char) -> Result<Option<Json>, AllocError>
+    ensures { IfOk result (λ o. IfSome o (λ j. Some (view j) ≡ Some (string (encode_utf8 c)))) }
+{
+    let mut text = String::new(alloc);
+    text.push(c)?;
+    Ok(Some(Json::String(text)))
+}
+
+/// Returns the text as a string of JSON.
+fn write_text(alloc: Global, text: &str) -> Result<Option<Json>, AllocError>
+    ensures { IfOk result (λ o. IfSome o (λ j. Some (view j) ≡ Some (string text.now))) }
+{
+    let json = Json::try_from_str(alloc, text)?;
+    Ok(Some(json))
+}
+
+/// Returns the string of two lower-case hexadecimal digits a byte.
+fn write_bytes(alloc: Global, held: &Vec<u8>) -> Result<Option<Json>, AllocError>
+    ensures { IfOk result (λ o. IfSome o (λ j. Some (view j)
+        ≡ leaf_json Bytes (Seq (trees (map Byte held.now.items))))) }
+{
+    let digits = hex::encode(alloc, held.as_slice())?;
+    Ok(Some(Json::String(digits)))
+}
