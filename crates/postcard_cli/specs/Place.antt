@@ -91,3 +91,7 @@ IsPathOf schema bytes stop = StopsAt schema bytes [] stop
 abbrev pub place_text : List ℕ → List ℕ
 place_text [] = []
 place_text (b ∷ path) = (b ∷ path) ++ codes ": "
+
+-- The text is that of the path.
+abbrev pub IsPlaceOf : Schema → List ℕ → List ℕ → Type 0
+IsPlaceOf schema bytes place = (path : List ℕ) × IsPathOf schema bytes path × (place ≡ place_text path)
