@@ -29,7 +29,8 @@ push_path-returns-in-Array-clause-stops t c =
 pub push_path-returns-in-Named-clause-stops : goal.push_path-returns-in-Named-clause-stops
 push_path-returns-in-Named-clause-stops t c =
     on_ok_weaker c.push_path.result
-    (λ h none. field_stops c.args.schema.now c.in-Named.name c.in-Named.content c.args.bytes.now _ _ c.in-Named.is (rw (← c.deref-in-Named-2.ensures) h) none)
+    (λ h none. field_stops c.args.schema.now c.in-Named.name c.in-Named.content c.args.bytes.now _ _ c.in-Named.is
+    (rw (← c.deref-in-Named-2.ensures) (rw (c.in_ok-push_str.ensures.bytes, c.in_ok-push_dot.ensures.added, c.deref-in-Named.ensures.value) at h)) none)
     c.push_path.ensures.stops
 
 pub push_in_option-returns-clause-stops : goal.push_in_option-returns-clause-stops
@@ -73,7 +74,7 @@ push_in_elements-returns-in-Err-clause-stops t c =
       omega arith,
       so.2,
       so.1,
-      rw (← so.3, ← c.in_ok-write_fmt.ensures.bytes) (h (λ front rest cut f. c.in-Err.not-OutOfMemory (c.in-Err.ensures.accepts f.0 front rest f.1 f.2 cut))),
+      rw (c.in_ok-write.ensures.bytes, so.3) at (h (λ front rest cut f. c.in-Err.not-OutOfMemory (c.in-Err.ensures.accepts f.0 front rest f.1 f.2 cut))),
     ))
     c.push_path.ensures.stops
 
