@@ -81,7 +81,8 @@ push_in_elements-returns-in-Err-clause-stops t c =
 pub push_in_elements-returns-clause-stops : goal.push_in_elements-returns-clause-stops
 push_in_elements-returns-clause-stops t c = λ no_row.
     let so = c.loop-i.invariant in
-    absurd (no_row so.0 c.loop-i.rest.now so.2 so.1)
+    let end : c.loop-i.i ≡ c.args.count = omega arith in
+    absurd (no_row so.0 c.loop-i.rest.now so.2 (rw end at so.1))
 
 pub push_in_group-loop-i-init : goal.push_in_group-loop-i-init
 push_in_group-loop-i-init t c = ([], (NoTrees, refl, refl), refl, refl)
@@ -102,9 +103,11 @@ pub push_in_group-returns-in-Err-clause-stops : goal.push_in_group-returns-in-Er
 push_in_group-returns-in-Err-clause-stops t c = λ s is.
     let so = c.loop-i.invariant in
     let xs = c.deref-part-items.result.now in
+    let same : xs ≡ c.args.parts.now.items = c.deref-part-items.ensures.value in
     let low : c.loop-i.i < length xs = omega arith in
     on_ok_weaker c.push_path.result
-    (λ h none. in_group s c.args.bytes.now so.0 c.loop-i.rest.now _ _ _ c.args.parts.now c.loop-i.i c.part-item.result is low c.part-item.is so.2 so.1
+    (λ h none. in_group s c.args.bytes.now so.0 c.loop-i.rest.now _ _ _ c.args.parts.now c.loop-i.i c.part-item.result is (rw same at low) (rw same at c.part-item.is) so.2
+    (rw same at so.1)
     (rw so.3 at c.in_ok-push_number.ensures.added)
     (h (λ front rest cut f. c.in-Err.not-OutOfMemory (c.in-Err.ensures.accepts f.0 front rest f.1 f.2 cut))))
     c.push_path.ensures.stops
@@ -112,7 +115,9 @@ push_in_group-returns-in-Err-clause-stops t c = λ s is.
 pub push_in_group-returns-clause-stops : goal.push_in_group-returns-clause-stops
 push_in_group-returns-clause-stops t c = λ s is none.
     let so = c.loop-i.invariant in
-    absurd (all_parts s c.args.parts.now c.args.bytes.now so.0 c.loop-i.rest.now is so.2 so.1 none)
+    let xs = c.deref-part-items.result.now in
+    let whole : take c.loop-i.i xs ≡ c.args.parts.now.items = take_all c.loop-i.i xs (omega arith) ∙ c.deref-part-items.ensures.value in
+    absurd (all_parts s c.args.parts.now c.args.bytes.now so.0 c.loop-i.rest.now is so.2 (rw whole at so.1) none)
 
 pub push_in_variant-returns-in-Some-clause-stops : goal.push_in_variant-returns-in-Some-clause-stops
 push_in_variant-returns-in-Some-clause-stops t c = λ s is.
