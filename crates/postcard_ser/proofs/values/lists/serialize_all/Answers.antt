@@ -1,6 +1,6 @@
 -- A piece more is written, or refused; and so are the elements that are left.
 use Rattle.std.proofs.lemmas.List.{take_rest}
-use Rattle.postcard_ser.proofs.Pieces.{written_none, written_more, written_stop, written_end, written_whole, written_fits, written_whole_fits, block_shortens}
+use Rattle.postcard_ser.proofs.Pieces.{written_none, written_more, written_stop, written_end, written_some, written_refused, written_whole, written_fits, written_whole_fits, block_shortens, some_shorten}
 use Rattle.postcard_ser.proofs.PartByPart.{wrote_err}
 use Rattle.postcard_ser.proofs.values.lists.serialize_all.Goals as goal
 
@@ -29,3 +29,13 @@ returns-in-OneByOne-clause-wrote g c = written_end c.loop-bytes.invariant c.seri
 
 pub returns-in-OneByOne-clause-fits : goal.returns-in-OneByOne-clause-fits
 returns-in-OneByOne-clause-fits g c = written_fits _ c.loop-bytes.invariant c.serialize_each.ensures.fits
+
+pub returns-in_err-serialize_each-in-SomeOneByOne-clause-wrote : goal.returns-in_err-serialize_each-in-SomeOneByOne-clause-wrote
+returns-in_err-serialize_each-in-SomeOneByOne-clause-wrote g c =
+    wrote_err _ c.from_residual-2.ensures.1
+    (written_refused c.in-SomeOneByOne.count c.loop-bytes.invariant c.in_err-serialize_each-in-SomeOneByOne.ensures.wrote)
+
+pub loop-bytes-smaller-in-SomeOneByOne : goal.loop-bytes-smaller-in-SomeOneByOne
+loop-bytes-smaller-in-SomeOneByOne g c =
+    let some = c.in-SomeOneByOne.ensures.gives in
+    some_shorten c.loop-bytes.rest.now _ c.in-SomeOneByOne.count some.0 some.1 (take_rest c.loop-bytes.rest.now c.in-SomeOneByOne.count)
