@@ -33,9 +33,9 @@ pub(crate) fn serialize_all<T: Serialize, F: Flavor>(
                 serializer.extend(&block)?;
                 rest = &rest[count..];
             }
-            FirstBytes::SomeOneByOne(count) => {
-                serialize_each(&rest[..count], serializer)?;
-                rest = &rest[count..];
+            FirstBytes::SomeOneByOne(some) => {
+                serialize_each(&rest[..some], serializer)?;
+                rest = &rest[some..];
             }
             FirstBytes::OneByOne => return serialize_each(rest, serializer),
         }
