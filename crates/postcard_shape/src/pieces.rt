@@ -8,9 +8,13 @@ use crate::runs::Varint;
 /// How many numbers of one byte each are written at once.
 const ROW: usize = 16;
 
+/// How many numbers at most are written one by one before a row is looked for again. Where sizes
+/// repeat themselves, the processor foresees them, but not if a row is looked for too often.
+const PAUSE: usize = 256;
+
 /// Returns the encodings of the first 16 numbers, as
-/// [`first_bytes`](crate::shape::Shaped::first_bytes) does, if each has one byte. If not, these are
-/// to be written one by one.
+/// [`first_bytes`](crate::shape::Shaped::first_bytes) does, if each has one byte. If not, these and
+/// more are to be written one by one.
 #[inline(always)]
 pub(crate) fn first_row<T: Varint>(items: &[T]) -> FirstBytes<'_>
     ensures { AreFirst T.form items.now result }
@@ -27,7 +31,7 @@ pub(crate) fn first_row<T: Varint>(items: &[T]) -> FirstBytes<'_>
         more |= number / 0x80;
     }
     if more != 0 {
-        return FirstBytes::SomeOneByOne(ROW);
+        return FirstBytes::SomeOneByOne(items.len().min(PAUSE));
     }
     FirstBytes::Block(bytes, ROW)
 }
