@@ -37,6 +37,7 @@ pub fn check(alloc: Global, row: &Row<'_>) -> Outcome {
         "Vec<u16>" => owned::<Vec<u16>>(alloc, row),
         "Vec<u32>" => owned::<Vec<u32>>(alloc, row),
         "Vec<u64>" => owned::<Vec<u64>>(alloc, row),
+        "Vec<i16>" => owned::<Vec<i16>>(alloc, row),
         "Vec<u128>" => owned::<Vec<u128>>(alloc, row),
         "Vec<()>" => owned::<Vec<()>>(alloc, row),
         "Vec<(u8, u64)>" => owned::<Vec<(u8, u64)>>(alloc, row),
