@@ -1,6 +1,6 @@
 //! Numbers that are varints, read many at a time from bytes that are in memory.
 
-ghost use Rattle.std.specs.Prelude.{◌≡◌, ◌<◌, ◌≤◌, ℕ, List, length, take, IfErr, IfOk};
+ghost use Rattle.std.specs.Prelude.{◌≡◌, ◌<◌, ◌≤◌, ◌^◌, ℕ, List, length, take, IfErr, IfOk};
 ghost use Rattle.std.specs.Prelude.{IfSome, OnOk, ◌++◌, refl};
 ghost use Rattle.std.proofs.Common.{inl, inr};
 ghost use Rattle.std.specs.Mem.{type_size};
@@ -43,7 +43,8 @@ pub(crate) trait Varint: Copy + Default {
 
     /// Returns the number whose varint the value is written as: the value, or its zigzag encoding.
     fn to_number(self) -> u64
-        ensures { IsVarintOf form result self };
+        ensures is { IsVarintOf form result self }
+        ensures narrow { result < 2 ^ width };
 }
 
 impl Varint for u16 {

@@ -12,3 +12,4 @@ pub mod Listed
 pub mod WordBits
 pub mod WordTables
 pub mod Runs
+pub mod OneWord

@@ -5,7 +5,7 @@ use Rattle.std.proofs.lemmas.Nat.Bits.{and_high_mask, same_from_bits, bit_at_xor
 use Rattle.std.specs.Int.{bit_at}
 use lib.Bits.{bit_xor, bit_or}
 use Rattle.postcard_wire.specs.Number.{max_digits, number, AreDigits}
-use Rattle.postcard_wire.specs.Words.{word_of, spread, AreBytes, IsCut}
+use Rattle.postcard_wire.specs.Words.{word_of, spread, goes_on, AreBytes, IsCut}
 
 -- A mask of a byte and those above it is one of the byte and one of those above it.
 pub and_byte : (b r m t : ℕ) → b < 256 → m < 256 → bit_and (b + 256 * r) (m + 256 * t) ≡ bit_and b m + 256 * bit_and r t
@@ -68,11 +68,6 @@ five_digits (a ∷ b ∷ c ∷ d ∷ e ∷ f ∷ p) h = absurd (omega arith)
 abbrev pub high_bits : ℕ → ℕ → ℕ
 high_bits last zero = last
 high_bits last (suc k) = 128 + 256 * high_bits last k
-
--- What these are of a number of k + 1 bytes.
-abbrev pub goes_on : ℕ → ℕ
-goes_on zero = 0
-goes_on (suc k) = 128 + 256 * goes_on k
 
 -- The data of the first k + 1 bytes.
 abbrev pub data_bits : ℕ → ℕ

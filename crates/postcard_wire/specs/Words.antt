@@ -1,5 +1,5 @@
 -- Numbers whose bytes are in one word of eight bytes.
-use Rattle.std.specs.Prelude.{◌≡◌, ℕ, ◌+◌, ◌*◌, ◌%◌, ◌<◌, ◌≤◌, ◌^◌, ◌⊎◌, List, [], ◌∷◌, ◌++◌, length}
+use Rattle.std.specs.Prelude.{◌≡◌, ℕ, zero, suc, ◌+◌, ◌*◌, ◌%◌, ◌<◌, ◌≤◌, ◌^◌, ◌⊎◌, List, [], ◌∷◌, ◌++◌, length}
 use Rattle.postcard_wire.specs.Number.{max_digits, number, AreDigits}
 
 -- The number that bytes are in base 256, lowest first.
@@ -33,3 +33,13 @@ AreBytes (b ∷ bs) = (b < 256) × AreBytes bs
 -- 16, 32 or 64 bits.
 abbrev pub IsNarrow : ℕ → Type 0
 IsNarrow w = (w ≡ 16) ⊎ (w ≡ 32) ⊎ (w ≡ 64)
+
+-- 1 in the high bit of each of the first k bytes.
+abbrev pub goes_on : ℕ → ℕ
+goes_on zero = 0
+goes_on (suc k) = 128 + 256 * goes_on k
+
+-- The number n has q + 1 digits: it is below 128 ^ (q + 1), and not below 128 ^ q, unless q is 0.
+pub record HasDigits (q n : ℕ) : Type 0 where
+  pub below : n < 128 ^ suc q
+  pub above : (q ≡ 0) ⊎ (128 ^ q ≤ n)

@@ -16,7 +16,7 @@ loop-i-preserved g c =
           let both = or_zero c.loop-i.more (n / 128) none in
           one_byte_goes_on g.T.Varint.form c.args.items.now c.loop-i.bytes c.loop-i.i c.index-items-i.result n
           (omega (arith, c.if-items-lt-ROW.false, c.loop-i-test.true)) (omega (arith, c.loop-i.invariant.sized, c.loop-i-test.true))
-          c.index-items-i.is (c.loop-i.invariant.so both.0) c.to_number-number.ensures both.1;
+          c.index-items-i.is (c.loop-i.invariant.so both.0) c.to_number-number.ensures.is both.1;
     }
 
 pub returns : goal.returns

@@ -45,3 +45,15 @@ loop-bytes-preserved g c =
     let some = c.in-SomeOneByOne.ensures.gives in
     written_some _ c.in-SomeOneByOne.some c.loop-bytes.invariant some.0 some.1 (take_rest c.loop-bytes.rest.now c.in-SomeOneByOne.some)
     c.in_ok-serialize_each-in-SomeOneByOne.ensures.wrote c.in_ok-serialize_each-in-SomeOneByOne.ensures.fits
+
+pub returns-in_err-extend-in-Row-clause-wrote : goal.returns-in_err-extend-in-Row-clause-wrote
+returns-in_err-extend-in-Row-clause-wrote g c =
+    wrote_err _ c.from_residual-in_err-extend-in-Row.ensures.1
+    (written_stop c.loop-bytes.invariant c.in-Row.ensures.gives.1 c.in_err-extend-in-Row.ensures)
+
+pub loop-bytes-smaller-in-Row : goal.loop-bytes-smaller-in-Row
+loop-bytes-smaller-in-Row g c = block_shortens c.in-Row.ensures.gives.1 (take_rest c.loop-bytes.rest.now c.in-Row.many)
+
+pub loop-bytes-preserved-in-Row : goal.loop-bytes-preserved-in-Row
+loop-bytes-preserved-in-Row g c =
+    written_more c.loop-bytes.invariant c.in-Row.ensures.gives.1 (take_rest c.loop-bytes.rest.now c.in-Row.many) c.in_ok-extend-in-Row.ensures
