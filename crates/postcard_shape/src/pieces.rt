@@ -10,6 +10,9 @@ use postcard_wire::spread::spread;
 /// How many numbers of one byte each are written at once.
 const ROW: usize = 16;
 
+/// How many numbers at most are written one by one before a row is looked for again.
+const PAUSE: usize = 256;
+
 /// Returns the encodings of the first 16 numbers, as
 /// [`first_bytes`](crate::shape::Shaped::first_bytes) does: if each has one byte, by lanes, and else
 /// number by number.
@@ -57,7 +60,7 @@ fn first_varints<T: Varint>(items: &[T]) -> FirstBytes<'_>
         len += word.len;
     }
     if more != 0 {
-        return FirstBytes::SomeOneByOne(ROW);
+        return FirstBytes::SomeOneByOne(items.len().min(PAUSE));
     }
     FirstBytes::Row(bytes, len, ROW)
 }
