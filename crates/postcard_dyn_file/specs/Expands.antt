@@ -28,13 +28,13 @@ StopsAt true t = IsClosing t ⊎ Says (codes ";") t
 -- A bracket, a row that R rewrites, and the bracket that closes it. But `{}` becomes `()`.
 abbrev pub IsGroup : (Bool → State → State → Type 0) → State → State → Type 0
 IsGroup R s u =
-    ((open : Token) × (close : Token) × Says (codes "{") open × Says (codes "}") close × (s.0 ≡ open ∷ close ∷ u.0) × AddsUnit s.1 u.1)
-    ⊎ ((open : Token) × (close : Token) × (inner : List Token) × (written : List Token)
-    × (s.0 ≡ open ∷ inner) × R false (inner, s.1 ++ open ∷ []) (close ∷ u.0, written) × IsClosing close × (u.1 ≡ written ++ close ∷ []))
+    ((opening : Token) × (closing : Token) × Says (codes "{") opening × Says (codes "}") closing × (s.0 ≡ opening ∷ closing ∷ u.0) × AddsUnit s.1 u.1)
+    ⊎ ((opening : Token) × (closing : Token) × (inner : List Token) × (written : List Token)
+    × (s.0 ≡ opening ∷ inner) × R false (inner, s.1 ++ opening ∷ []) (closing ∷ u.0, written) × IsClosing closing × (u.1 ≡ written ++ closing ∷ []))
 
 -- After the name of a definition, `<` and `>` may stand.
 abbrev pub IsAngles : List Token → List Token → Type 0
-IsAngles ts rest = (ts ≡ rest) ⊎ ((open : Token) × (close : Token) × Says (codes "<") open × Says (codes ">") close × (ts ≡ open ∷ close ∷ rest))
+IsAngles ts rest = (ts ≡ rest) ⊎ ((opening : Token) × (closing : Token) × Says (codes "<") opening × Says (codes ">") closing × (ts ≡ opening ∷ closing ∷ rest))
 
 -- What a struct stands for: `()`, or its fields.
 abbrev pub SpellsStruct : (Bool → State → State → Type 0) → List Token → List Token → List Token → Type 0
@@ -71,8 +71,8 @@ IsVariant R s u = (name : Token) × (after : List Token) × (begun : List Token)
 -- Behind a variant: `,`, or at the end of the enum `}`, before which a `,` may stand.
 abbrev pub IsSeparator : Bool → List Token → List Token → Type 0
 IsSeparator false ts rest = (comma : Token) × Says (codes ",") comma × (ts ≡ comma ∷ rest)
-IsSeparator true ts rest = (close : Token) × Says (codes "}") close
-    × ((ts ≡ close ∷ rest) ⊎ ((comma : Token) × Says (codes ",") comma × (ts ≡ comma ∷ close ∷ rest)))
+IsSeparator true ts rest = (closing : Token) × Says (codes "}") closing
+    × ((ts ≡ closing ∷ rest) ⊎ ((comma : Token) × Says (codes ",") comma × (ts ≡ comma ∷ closing ∷ rest)))
 
 -- A variant and a comma.
 abbrev pub VariantStep : (Bool → State → State → Type 0) → State → State → Type 0
@@ -106,7 +106,7 @@ IsDropped ts = (t : Token) × (after : List Token) × (ts ≡ t ∷ after)
 
 -- The first two tokens are `<` and `>`.
 abbrev pub IsEmptyAngles : List Token → Type 0
-IsEmptyAngles ts = (open : Token) × (after : List Token) × (ts ≡ open ∷ after) × Says (codes "<") open × IsNext (codes ">") after
+IsEmptyAngles ts = (opening : Token) × (after : List Token) × (ts ≡ opening ∷ after) × Says (codes "<") opening × IsNext (codes ">") after
 
 -- What comes next is written: brackets, nothing, the name of a field, or what a word stands for.
 abbrev pub Writes : List Definition → (Bool → State → State → Type 0) → State → State → Type 0
@@ -114,7 +114,7 @@ Writes known R s u = (t : Token) × (after : List Token) × (s.0 ≡ t ∷ after
     × ((IsOpening t × IsGroup R s u)
     ⊎ ((IsDropped s.0 × (u.0 ≡ after) × (u.1 ≡ s.1))
     ⊎ ((Says (codes "pub") t × IsVisibility s.0 u.0 × (u.1 ≡ s.1))
-    ⊎ ((IsEmptyAngles s.0 × ((close : Token) × (after ≡ close ∷ u.0)) × (u.1 ≡ s.1))
+    ⊎ ((IsEmptyAngles s.0 × ((closing : Token) × (after ≡ closing ∷ u.0)) × (u.1 ≡ s.1))
     ⊎ ((IsOpening t → ⊥) × (IsDropped s.0 → ⊥) × (Says (codes "pub") t → ⊥) × (IsEmptyAngles s.0 → ⊥) × (u.0 ≡ after)
     × ((IsNext (codes ":") after × (u.1 ≡ s.1 ++ t ∷ []))
     ⊎ ((IsNext (codes ":") after → ⊥) × IsNamed known R t s.1 u.1)))))))

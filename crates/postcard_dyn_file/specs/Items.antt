@@ -7,12 +7,12 @@ use Rattle.postcard_dyn_file.specs.declared.definition.Kind.TheVariants.{Struct,
 use Rattle.postcard_dyn_file.specs.Steps.{Steps, StepsToZero}
 use Rattle.postcard_dyn_file.specs.Tokens.{Says, IsOpening, IsClosing, IsNext, IsName}
 
--- How many brackets are open after the token, if `depth` are open before.
+-- `after` brackets are open after the token, if `depth` are open before.
 abbrev pub HasDepth : Token → ℕ → ℕ → Type 0
-HasDepth t depth open =
-    (IsOpening t × (open ≡ depth + 1))
-    ⊎ ((IsClosing t × (depth ≡ open + 1))
-    ⊎ ((IsOpening t → ⊥) × (IsClosing t → ⊥) × (open ≡ depth)))
+HasDepth t depth after =
+    (IsOpening t × (after ≡ depth + 1))
+    ⊎ ((IsClosing t × (depth ≡ after + 1))
+    ⊎ ((IsOpening t → ⊥) × (IsClosing t → ⊥) × (after ≡ depth)))
 
 -- How many brackets are open, and the tokens that are left.
 abbrev pub BracketStep : ℕ × List Token → ℕ × List Token → Type 0
@@ -50,8 +50,8 @@ IsScope t = Says (codes "crate") t ⊎ (Says (codes "self") t ⊎ Says (codes "s
 
 -- The tokens begin with `(crate)`, `(self)` or `(super)`, and `rest` is left.
 abbrev pub HasScope : List Token → List Token → Type 0
-HasScope ts rest = (open : Token) × (scope : Token) × (close : Token) × Says (codes "(") open × IsScope scope × Says (codes ")") close
-    × (ts ≡ open ∷ scope ∷ close ∷ rest)
+HasScope ts rest = (opening : Token) × (scope : Token) × (closing : Token) × Says (codes "(") opening × IsScope scope × Says (codes ")") closing
+    × (ts ≡ opening ∷ scope ∷ closing ∷ rest)
 
 -- The tokens begin with `pub` and such a scope, with `pub` alone, or with neither, and `rest` is left.
 abbrev pub IsVisibility : List Token → List Token → Type 0

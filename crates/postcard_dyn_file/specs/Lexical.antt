@@ -1,5 +1,5 @@
 -- How a file is read as tokens: its words, signs and literals, with gaps between them.
-use Rattle.std.specs.Prelude.{◌≡◌, ◌≢◌, ℕ, ◌+◌, ◌<◌, true, ◌⊎◌, List, [], ◌∷◌, ◌++◌, length, codes}
+use Rattle.std.specs.Prelude.{◌≡◌, ◌≢◌, ℕ, ◌+◌, ◌<◌, true, ◌⊎◌, List, [], ◌∷◌, ◌++◌, length, slice_index, codes}
 use Rattle.std.specs.Char.{is_ascii_whitespace}
 use Rattle.std.specs.List.{AllPass}
 use Rattle.postcard_dyn_schema.specs.Text.{TakesPhrase, IsWord, EndsWord}
@@ -23,7 +23,7 @@ IsComment text rest = (inner : List ℕ) × (text ≡ 47 ∷ 42 ∷ inner) × St
 
 -- The text begins with `//` and the letters of its line, and `rest` is left: nothing, or a new line.
 abbrev pub IsLine : List ℕ → List ℕ → Type 0
-IsLine text rest = (line : List ℕ) × (text ≡ 47 ∷ 47 ∷ line ++ rest) × ((k : ℕ) (d : ℕ) → k < length line → slice_index_or line k d ≢ 10)
+IsLine text rest = (line : List ℕ) × (text ≡ 47 ∷ 47 ∷ line ++ rest) × ((k : ℕ) → k < length line → slice_index line k ≢ 10)
     × ((rest ≡ []) ⊎ ((after : List ℕ) × (rest ≡ 10 ∷ after)))
 
 -- The text begins with a letter of a literal: a byte, or a `\` and a byte.

@@ -28,7 +28,7 @@ file_problem_text SemicolonExpected = codes "expected `;`"
 file_problem_text VariantExpected = codes "expected the name of a variant"
 file_problem_text CommaOrBrace = codes "expected `,` or `}`"
 file_problem_text TooLong = codes "this type is too long"
-file_problem_text (problems.Type problem) = problem_text problem
+file_problem_text (problems.Expression problem) = problem_text problem
 
 -- The text of an error: its place and the problem, as in `line 3, column 9: expected a type`.
 abbrev pub file_error_text : FileError → List ℕ

@@ -135,14 +135,14 @@ fn skip_tree<'a>(rest: &mut &'a [Token<'a>]) -> Result<(), Fault>
 
 /// Takes a token, and returns how many brackets are open then, if `depth` are open before.
 fn skip_token<'a>(rest: &mut &'a [Token<'a>], depth: usize) -> Result<usize, Fault>
-    ensures { IfOk result (λ open. BracketStep (depth, rest.old.now) (open, rest.new.now)) }
+    ensures { IfOk result (λ after. BracketStep (depth, rest.old.now) (after, rest.new.now)) }
 {
     let Some((first, after)) = rest.split_first() else {
         return Err(out_of_memory(0));
     };
     *rest = after;
     match depth_after(first, depth) {
-        Some(open) => Ok(open),
+        Some(depth) => Ok(depth),
         None => Err(Fault {
             problem: FileProblem::NotOpen,
             left: first.left,
@@ -153,7 +153,7 @@ fn skip_token<'a>(rest: &mut &'a [Token<'a>], depth: usize) -> Result<usize, Fau
 /// Returns how many brackets are open after the token, if `depth` are open before, or `None` if it
 /// closes one that isn't open.
 fn depth_after(token: &Token, depth: usize) -> Option<usize>
-    ensures { IfSome result (λ open. HasDepth token.now depth open) }
+    ensures { IfSome result (λ after. HasDepth token.now depth after) }
 {
     if token.is_opening() {
         return depth.checked_add(1);
@@ -287,8 +287,8 @@ fn take_scope<'a>(rest: &mut &'a [Token<'a>]) -> bool
     ensures none { result ≡ false → (after : List Token) → HasScope rest.old.now after → ⊥ }
 {
     match *rest {
-        [open, scope, close, after @ ..]
-            if open.says(b"(") && is_scope(scope) && close.says(b")") =>
+        [opening, scope, closing, after @ ..]
+            if opening.says(b"(") && is_scope(scope) && closing.says(b")") =>
         {
             *rest = after;
             true

@@ -1,6 +1,6 @@
 //! The errors of reading a file of definitions.
 
-ghost use Rattle.std.specs.Prelude.{◌≡◌, Some, length};
+ghost use Rattle.std.specs.Prelude.{Some};
 ghost use Rattle.postcard_dyn_file.specs.Printed.{file_problem_text, file_error_text};
 
 use postcard_dyn_schema::Problem;
@@ -48,7 +48,7 @@ pub enum FileProblem {
     /// With its names replaced, the type has more than 65,536 words and signs.
     TooLong,
     /// What is wrong is found as the type is read, with its names replaced.
-    Type(Problem),
+    Expression(Problem),
 }
 
 impl fmt::Display for FileProblem {
@@ -75,7 +75,7 @@ impl fmt::Display for FileProblem {
             FileProblem::VariantExpected => f.write_str("expected the name of a variant"),
             FileProblem::CommaOrBrace => f.write_str("expected `,` or `}`"),
             FileProblem::TooLong => f.write_str("this type is too long"),
-            FileProblem::Type(problem) => write!(f, "{problem}"),
+            FileProblem::Expression(problem) => write!(f, "{problem}"),
         }
     }
 }
@@ -111,7 +111,7 @@ pub struct Fault {
 /// Returns the fault that an allocation failed.
 pub fn out_of_memory(left: usize) -> Fault {
     Fault {
-        problem: FileProblem::Type(Problem::OutOfMemory),
+        problem: FileProblem::Expression(Problem::OutOfMemory),
         left,
     }
 }

@@ -29,7 +29,7 @@ const MAX_WORDS: usize = 65_536;
 ///
 /// Fails with `NotDefined` at the end of the file if no definition has the name, and otherwise as
 /// [`FileProblem`] says, where the definition, or one that it needs, is wrong.
-pub fn expand<'a>(
+pub fn words_of<'a>(
     alloc: Global,
     known: &[Definition<'a>],
     name: &[u8],
@@ -273,22 +273,22 @@ fn expand_group<'a>(
         (rest.new.now, out.new.items)) }
 {
     let left = place_of(rest);
-    let Some((open, inner)) = rest.split_first() else {
+    let Some((opening, inner)) = rest.split_first() else {
         return Err(out_of_memory(left));
     };
     *rest = inner;
     if depth == 0 {
         return Err(too_deep(left));
     }
-    if open.says(b"{") && take(rest, b"}") {
+    if opening.says(b"{") && take(rest, b"}") {
         return push_unit(out, left);
     }
-    push(out, *open)?;
+    push(out, *opening)?;
     expand_row(known, rest, false, depth - 1, within, out)?;
     match rest.split_first() {
-        Some((close, after)) if close.is_closing() => {
+        Some((closing, after)) if closing.is_closing() => {
             *rest = after;
-            push(out, *close)
+            push(out, *closing)
         }
         _ => Err(Fault {
             problem: FileProblem::BracketOpen,
@@ -457,7 +457,7 @@ fn push<'a>(out: &mut Vec<Token<'a>>, token: Token<'a>) -> Result<(), Fault>
 /// Returns the fault that brackets nest too deeply.
 fn too_deep(left: usize) -> Fault {
     Fault {
-        problem: FileProblem::Type(Problem::TooDeep),
+        problem: FileProblem::Expression(Problem::TooDeep),
         left,
     }
 }

@@ -32,8 +32,10 @@
 //! the definitions ([`definition`]), and the words of a type with its names replaced ([`expand`]).
 #![tactic(auto)]
 
-ghost use Rattle.std.specs.Prelude.{IfOk};
-ghost use Rattle.postcard_dyn_file.specs.Files.{IsTypeOf};
+ghost use Rattle.std.specs.Prelude.{IfOk, string_bytes};
+ghost use Rattle.postcard_dyn_schema.specs.declared.schema.Schema.{Schema};
+ghost use Rattle.postcard_dyn_schema.specs.Grammar.{IsExpression};
+ghost use Rattle.postcard_dyn_file.specs.Files.{IsExpressionOf, IsTypeOf};
 
 pub mod definition;
 pub mod error;
@@ -48,7 +50,7 @@ pub use error::{FileError, FileProblem};
 
 use definition::{definitions, without_attributes};
 use error::Fault;
-use expand::expand;
+use expand::words_of;
 use lex::tokens;
 use place::{error_at, left_of, spelled};
 use postcard_dyn_schema::{Schema, parse};
@@ -65,25 +67,49 @@ pub fn find(alloc: Global, file: &str, name: &str) -> Result<Schema, FileError>
     ensures { IfOk result (λ schema. IsTypeOf file.now name.now schema) }
 {
     match read(alloc, file.as_bytes(), name.as_bytes()) {
-        Ok(schema) => Ok(schema),
+        Ok(found) => Ok(found.schema),
         Err(fault) => Err(error_at(file.as_bytes(), fault)),
     }
 }
 
-/// Returns the type with this name.
-fn read(alloc: Global, file: &[u8], name: &[u8]) -> Result<Schema, Fault>
-    ensures { IfOk result (λ schema. IsTypeOf file.now name.now schema) }
+/// Returns a type expression of the type with this name, which the file defines: its definition, with
+/// each name in it replaced. It begins with `(` or `{`.
+///
+/// # Errors
+///
+/// Fails as [`find`] does.
+pub fn expression(alloc: Global, file: &str, name: &str) -> Result<String, FileError>
+    ensures spelled { IfOk result (λ text. IsExpressionOf file.now name.now (string_bytes text)) }
+    ensures read { IfOk result (λ text. (schema : Schema) × IsExpression schema (string_bytes text)) }
+{
+    match read(alloc, file.as_bytes(), name.as_bytes()) {
+        Ok(found) => Ok(found.text),
+        Err(fault) => Err(error_at(file.as_bytes(), fault)),
+    }
+}
+
+/// A type, and a type expression of it.
+#[derive(Drop)]
+struct Found {
+    text: String,
+    schema: Schema,
+}
+
+/// Returns the type with this name, and its expression.
+fn read(alloc: Global, file: &[u8], name: &[u8]) -> Result<Found, Fault>
+    ensures spelled { IfOk result (λ found. IsExpressionOf file.now name.now (string_bytes found.text)) }
+    ensures read { IfOk result (λ found. IsExpression found.schema (string_bytes found.text)) }
 {
     let all = tokens(alloc, file)?;
-    let kept = without_attributes(alloc, &all)?;
-    let known = definitions(alloc, &kept)?;
-    let words = expand(alloc, &known, name)?;
-    let text = spelled(alloc, &words)?;
+    let kept = without_attributes(alloc, all.as_slice())?;
+    let known = definitions(alloc, kept.as_slice())?;
+    let words = words_of(alloc, known.as_slice(), name)?;
+    let text = spelled(alloc, words.as_slice())?;
     match parse(alloc, text.as_str()) {
-        Ok(schema) => Ok(schema),
+        Ok(schema) => Ok(Found { text, schema }),
         Err(e) => Err(Fault {
-            problem: FileProblem::Type(e.problem),
-            left: left_of(&words, e.character),
+            problem: FileProblem::Expression(e.problem),
+            left: left_of(words.as_slice(), e.character),
         }),
     }
 }

@@ -1,6 +1,6 @@
 //! Tests of files of definitions: the types that their names stand for, and what is refused where.
 
-use crate::find;
+use crate::{expression, find};
 use std::process::Abort;
 
 /// A file, a name, and the type that it stands for, printed by `Debug`, or the error as it is printed.
@@ -198,4 +198,12 @@ fn reads_definitions(rt: HostRuntime) {
 #[test]
 fn refuses_files(rt: HostRuntime) {
     check(&rt, &REFUSED);
+}
+
+/// The type of a name may be given as a type expression, too.
+#[test]
+fn spells_types(rt: HostRuntime) {
+    let file = "struct A { a: B, b: [&'static str; 2] } enum B { C, D(u8) }";
+    let text = expression(rt.alloc(), file, "A").expect(&rt, "A");
+    assert_eq!(rt; text.as_str(), "{ a : ( | C | D ( u8 ) ) , b : [ str ; 2 ] } ");
 }
