@@ -1,11 +1,11 @@
 -- The items of a file, and those that define a type.
-use Rattle.std.specs.Prelude.{◌≡◌, ℕ, ◌+◌, ◌⊎◌, List, [], ◌∷◌, ◌++◌, codes, Contains}
+use Rattle.std.specs.Prelude.{◌≡◌, ℕ, ◌+◌, ◌⊎◌, List, [], ◌∷◌, ◌++◌, codes, All}
 use Rattle.postcard_dyn_file.specs.declared.token.Token.{Token}
 use Rattle.postcard_dyn_file.specs.declared.definition.Definition.{Definition}
 use Rattle.postcard_dyn_file.specs.declared.definition.Kind.{Kind}
 use Rattle.postcard_dyn_file.specs.declared.definition.Kind.TheVariants.{Struct, Enum, Alias}
 use Rattle.postcard_dyn_file.specs.Steps.{Steps, StepsToZero}
-use Rattle.postcard_dyn_file.specs.Tokens.{Says, IsOpening, IsClosing, IsNext, IsName}
+use Rattle.postcard_dyn_file.specs.Tokens.{Says, IsOpening, IsClosing, IsNext, IsName, Takes}
 
 -- `after` brackets are open after the token, if `depth` are open before.
 abbrev pub HasDepth : Token → ℕ → ℕ → Type 0
@@ -24,15 +24,15 @@ IsTree ts rest = StepsToZero BracketStep (0, ts) rest
 
 -- The tokens begin with an attribute, as `#[..]` or `#![..]`, and `rest` is left.
 abbrev pub IsAttribute : List Token → List Token → Type 0
-IsAttribute ts rest = (sharp : Token) × (after : List Token) × (brackets : List Token) × Says (codes "#") sharp × (ts ≡ sharp ∷ after)
-    × (((bang : Token) × Says (codes "!") bang × (after ≡ bang ∷ brackets)) ⊎ (after ≡ brackets))
+IsAttribute ts rest = (after : List Token) × (brackets : List Token) × Takes (codes "#") ts after
+    × (Takes (codes "!") after brackets ⊎ ((IsNext (codes "!") after → ⊥) × (brackets ≡ after)))
     × IsNext (codes "[") brackets × IsTree brackets rest
 
 -- The tokens that are left, and those that are kept: an attribute is left out.
 abbrev pub KeepStep : List Token × List Token → List Token × List Token → Type 0
 KeepStep s u =
     (IsAttribute s.0 u.0 × (u.1 ≡ s.1))
-    ⊎ ((t : Token) × (Says (codes "#") t → ⊥) × (s.0 ≡ t ∷ u.0) × (u.1 ≡ s.1 ++ t ∷ []))
+    ⊎ ((t : Token) × (IsNext (codes "#") s.0 → ⊥) × (s.0 ≡ t ∷ u.0) × (u.1 ≡ s.1 ++ t ∷ []))
 
 abbrev pub IsWithoutAttributes : List Token → List Token → Type 0
 IsWithoutAttributes tokens kept = Steps KeepStep (tokens, []) ([], kept)
@@ -50,15 +50,15 @@ IsScope t = Says (codes "crate") t ⊎ (Says (codes "self") t ⊎ Says (codes "s
 
 -- The tokens begin with `(crate)`, `(self)` or `(super)`, and `rest` is left.
 abbrev pub HasScope : List Token → List Token → Type 0
-HasScope ts rest = (opening : Token) × (scope : Token) × (closing : Token) × Says (codes "(") opening × IsScope scope × Says (codes ")") closing
-    × (ts ≡ opening ∷ scope ∷ closing ∷ rest)
+HasScope ts rest = (inner : List Token) × (scope : Token) × (after : List Token)
+    × Takes (codes "(") ts inner × (inner ≡ scope ∷ after) × IsScope scope × Takes (codes ")") after rest
 
 -- The tokens begin with `pub` and such a scope, with `pub` alone, or with neither, and `rest` is left.
 abbrev pub IsVisibility : List Token → List Token → Type 0
 IsVisibility ts rest =
-    ((IsNext (codes "pub") ts → ⊥) × (ts ≡ rest))
-    ⊎ ((t : Token) × (after : List Token) × Says (codes "pub") t × (ts ≡ t ∷ after)
-    × (HasScope after rest ⊎ (((other : List Token) → HasScope after other → ⊥) × (after ≡ rest))))
+    ((IsNext (codes "pub") ts → ⊥) × (rest ≡ ts))
+    ⊎ ((after : List Token) × Takes (codes "pub") ts after
+    × (HasScope after rest ⊎ (((other : List Token) → HasScope after other → ⊥) × (rest ≡ after))))
 
 abbrev pub IsKeyword : List ℕ → Kind → Type 0
 IsKeyword word Struct = word ≡ codes "struct"
@@ -74,7 +74,7 @@ Declares item d = (after : List Token) × (keyword : Token) × IsVisibility item
 abbrev pub ItemStep : List Token × List Definition → List Token × List Definition → Type 0
 ItemStep s u = IsItem s.0 u.0
     × ((((d : Definition) → Declares s.0 d → ⊥) × (u.1 ≡ s.1))
-    ⊎ ((d : Definition) × Declares s.0 d × ((e : Definition) → Contains s.1 e → Says e.name.text.now d.name → ⊥) × (u.1 ≡ s.1 ++ d ∷ [])))
+    ⊎ ((d : Definition) × Declares s.0 d × All (λ e. Says d.name.text.now e.name → ⊥) s.1 × (u.1 ≡ s.1 ++ d ∷ [])))
 
 -- The file's definitions, in their order.
 abbrev pub AreDefinitions : List Token → List Definition → Type 0

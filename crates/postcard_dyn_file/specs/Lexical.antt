@@ -56,7 +56,7 @@ abbrev pub IsTokenAt : List ℕ → List ℕ → List ℕ → Type 0
 IsTokenAt token text rest =
     ((0 < length token) × TakesPhrase (IsWord token) text rest × EndsWord rest)
     ⊎ (((token ≡ codes "::") × (text ≡ 58 ∷ 58 ∷ rest))
-    ⊎ ((IsLiteral 34 token text rest ⊎ IsLiteral 39 token text rest)
+    ⊎ (((quote : ℕ) × ((quote ≡ 34) ⊎ (quote ≡ 39)) × IsLiteral quote token text rest)
     ⊎ ((b : ℕ) × (b < 128) × (token ≡ b ∷ []) × (text ≡ b ∷ rest))))
 
 -- The text that is left, and the tokens before it: a gap is read, or a token, which doesn't begin as a comment.

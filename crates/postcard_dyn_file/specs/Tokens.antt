@@ -18,6 +18,10 @@ IsClosing t = Says (codes ")") t ⊎ (Says (codes "]") t ⊎ Says (codes "}") t)
 abbrev pub IsNext : List ℕ → List Token → Type 0
 IsNext word ts = (t : Token) × (after : List Token) × Says word t × (ts ≡ t ∷ after)
 
+-- The tokens begin with this word or sign, and `rest` is left.
+abbrev pub Takes : List ℕ → List Token → List Token → Type 0
+Takes word ts rest = (t : Token) × Says word t × (ts ≡ t ∷ rest)
+
 -- The word begins with a letter or `_`.
 abbrev pub IsName : List ℕ → Type 0
 IsName word = (first : ℕ) × (letters : List ℕ) × (word ≡ first ∷ letters) × ((is_ascii_alphabetic first || nat_eq first 95) ≡ true)

@@ -1,21 +1,21 @@
 //! The definitions of a file: its items, and which of them define a type.
 //!
-//! The parameter `rest` is the part of the tokens that isn't read yet; what a function takes is
-//! dropped from its front.
+//! A function whose name begins with `after_` returns the tokens after what its name says, if the
+//! tokens begin with it.
 
-ghost use Rattle.std.specs.Prelude.{◌≡◌, ℕ, List, [], ◌∷◌, ◌++◌, true, false, Contains, Decides};
-ghost use Rattle.std.specs.Prelude.{IfOk, IfSome, IfNone, OnOk};
+ghost use Rattle.std.specs.Prelude.{List, All, Contains, Decides};
+ghost use Rattle.std.specs.Prelude.{IfOk, IfSome, IfNone};
 ghost use Rattle.postcard_dyn_file.specs.declared.definition.Definition.{Definition};
-ghost use Rattle.postcard_dyn_file.specs.declared.token.Token.{Token};
 ghost use Rattle.postcard_dyn_file.specs.declared.definition.Kind.{Kind};
-ghost use Rattle.postcard_dyn_file.specs.Tokens.{Says, IsName};
+ghost use Rattle.postcard_dyn_file.specs.declared.token.Token.{Token};
+ghost use Rattle.postcard_dyn_file.specs.Tokens.{Says, IsNext, IsName};
 ghost use Rattle.postcard_dyn_file.specs.Items.{IsWithoutAttributes, KeepStep, IsAttribute, IsTree};
 ghost use Rattle.postcard_dyn_file.specs.Items.{HasDepth, BracketStep, IsItem, IsVisibility};
 ghost use Rattle.postcard_dyn_file.specs.Items.{IsScope, HasScope, IsKeyword, Declares, ItemStep};
-ghost use Rattle.postcard_dyn_file.specs.Items.{AreDefinitions};
+ghost use Rattle.postcard_dyn_file.specs.Items.{EndsItem, AreDefinitions};
 
 use crate::error::{Fault, FileProblem, out_of_memory};
-use crate::token::{Token, is_next};
+use crate::token::{Token, after_word, is_next, place_of};
 use std::alloc::Global;
 
 /// What a definition defines.
@@ -60,8 +60,7 @@ pub struct Definition<'a> {
 /// # Errors
 ///
 /// Fails with `AttributeExpected` at a `#` without an attribute, with `BracketOpen` at an attribute
-/// that isn't closed, with `NotOpen` at a bracket that is closed in it and isn't open, and with
-/// `OutOfMemory`.
+/// that isn't closed, and with `OutOfMemory`.
 pub fn without_attributes<'a>(
     alloc: Global,
     tokens: &'a [Token<'a>],
@@ -72,77 +71,90 @@ pub fn without_attributes<'a>(
     let mut rest = tokens;
     for _ in 0..tokens.len() {
         if rest.is_empty() {
-            break;
+            return Ok(kept);
         }
-        keep_next(&mut rest, &mut kept)?;
+        rest = keep_next(rest, &mut kept)?;
     }
-    if !rest.is_empty() {
-        return Err(out_of_memory(place_of(rest)));
+    if rest.is_empty() {
+        return Ok(kept);
     }
-    Ok(kept)
+    Err(out_of_memory(place_of(rest)))
 }
 
-/// Takes an attribute, or else a token, which it adds to the end of the list.
-fn keep_next<'a>(rest: &mut &'a [Token<'a>], kept: &mut Vec<Token<'a>>) -> Result<(), Fault>
-    ensures { OnOk result (KeepStep (rest.old.now, kept.old.items) (rest.new.now, kept.new.items)) }
+/// Reads an attribute, or else a token, which it adds to the end of the list, and returns the tokens
+/// after it.
+fn keep_next<'a>(
+    tokens: &'a [Token<'a>],
+    kept: &mut Vec<Token<'a>>,
+) -> Result<&'a [Token<'a>], Fault>
+    ensures { IfOk result (λ rest. KeepStep (tokens.now, kept.old.items) (rest.now, kept.new.items)) }
 {
-    if is_next(rest, b"#") {
-        return skip_attribute(rest);
+    if is_next(tokens, b"#") {
+        return after_attribute(tokens);
     }
-    let Some((first, after)) = rest.split_first() else {
+    let Some((first, rest)) = tokens.split_first() else {
         return Err(out_of_memory(0));
     };
-    *rest = after;
     match kept.push(*first) {
-        Ok(()) => Ok(()),
+        Ok(()) => Ok(rest),
         Err(_) => Err(out_of_memory(first.left)),
     }
 }
 
-/// Takes an attribute.
-fn skip_attribute<'a>(rest: &mut &'a [Token<'a>]) -> Result<(), Fault>
-    ensures { OnOk result (IsAttribute rest.old.now rest.new.now) }
+/// Returns the tokens after an attribute.
+fn after_attribute<'a>(tokens: &'a [Token<'a>]) -> Result<&'a [Token<'a>], Fault>
+    ensures { IfOk result (λ rest. IsAttribute tokens.now rest.now) }
 {
-    let left = place_of(rest);
-    let sharp = take(rest, b"#");
-    let _ = take(rest, b"!");
-    if !sharp || !is_next(rest, b"[") {
+    let left = place_of(tokens);
+    let Some(after) = after_word(tokens, b"#") else {
+        return Err(out_of_memory(left));
+    };
+    let brackets = match after_word(after, b"!") {
+        Some(brackets) => brackets,
+        None => after,
+    };
+    if !is_next(brackets, b"[") {
         return Err(Fault {
             problem: FileProblem::AttributeExpected,
             left,
         });
     }
-    skip_tree(rest)
+    after_tree(brackets)
 }
 
-/// Takes a token, and if it opens a bracket, all up to the one that closes it.
-fn skip_tree<'a>(rest: &mut &'a [Token<'a>]) -> Result<(), Fault>
-    ensures { OnOk result (IsTree rest.old.now rest.new.now) }
+/// Returns the tokens after a token, and if it opens a bracket, after the one that closes it.
+fn after_tree<'a>(tokens: &'a [Token<'a>]) -> Result<&'a [Token<'a>], Fault>
+    ensures { IfOk result (λ rest. IsTree tokens.now rest.now) }
 {
-    let left = place_of(rest);
-    let mut depth = 0;
-    for _ in 0..rest.len() {
-        depth = skip_token(rest, depth)?;
-        if depth == 0 {
-            return Ok(());
+    let mut rest = tokens;
+    let mut depth: usize = 0;
+    for _ in 0..tokens.len() {
+        let (next, after) = after_token(rest, depth)?;
+        if next == 0 {
+            return Ok(after);
         }
+        rest = after;
+        depth = next;
     }
     Err(Fault {
         problem: FileProblem::BracketOpen,
-        left,
+        left: place_of(tokens),
     })
 }
 
-/// Takes a token, and returns how many brackets are open then, if `depth` are open before.
-fn skip_token<'a>(rest: &mut &'a [Token<'a>], depth: usize) -> Result<usize, Fault>
-    ensures { IfOk result (λ after. BracketStep (depth, rest.old.now) (after, rest.new.now)) }
+/// Returns how many brackets are open after a token, if `depth` are open before, and the tokens after
+/// it.
+fn after_token<'a>(
+    tokens: &'a [Token<'a>],
+    depth: usize,
+) -> Result<(usize, &'a [Token<'a>]), Fault>
+    ensures { IfOk result (λ found. BracketStep (depth, tokens.now) (found.0, found.1.now)) }
 {
-    let Some((first, after)) = rest.split_first() else {
+    let Some((first, rest)) = tokens.split_first() else {
         return Err(out_of_memory(0));
     };
-    *rest = after;
     match depth_after(first, depth) {
-        Some(depth) => Ok(depth),
+        Some(depth) => Ok((depth, rest)),
         None => Err(Fault {
             problem: FileProblem::NotOpen,
             left: first.left,
@@ -168,9 +180,9 @@ fn depth_after(token: &Token, depth: usize) -> Option<usize>
 ///
 /// # Errors
 ///
-/// Fails with `ItemOpen`, `BracketOpen` or `NotOpen` at an item, or a bracket, that the file ends in,
-/// or at a bracket that is closed and isn't open; with `NameExpected` at a definition without a
-/// name, with `DefinedTwice` at a name that another definition has, and with `OutOfMemory`.
+/// Fails with `ItemOpen` at an item, and with `BracketOpen` at a bracket, in which the file ends; with
+/// `NotOpen` at a bracket that is closed and isn't open, with `NameExpected` at a definition without
+/// a name, with `DefinedTwice` at a name that a definition before has, and with `OutOfMemory`.
 pub fn definitions<'a>(
     alloc: Global,
     tokens: &'a [Token<'a>],
@@ -181,68 +193,76 @@ pub fn definitions<'a>(
     let mut rest = tokens;
     for _ in 0..tokens.len() {
         if rest.is_empty() {
-            break;
+            return Ok(known);
         }
-        read_item(&mut rest, &mut known)?;
+        rest = read_item(rest, &mut known)?;
     }
-    if !rest.is_empty() {
-        return Err(out_of_memory(place_of(rest)));
+    if rest.is_empty() {
+        return Ok(known);
     }
-    Ok(known)
+    Err(out_of_memory(place_of(rest)))
 }
 
-/// Takes an item, and adds what it defines, if it is a definition, to the end of the list.
+/// Reads an item, adds what it defines, if it is a definition, to the end of the list, and returns the
+/// tokens after it.
 fn read_item<'a>(
-    rest: &mut &'a [Token<'a>],
+    tokens: &'a [Token<'a>],
     known: &mut Vec<Definition<'a>>,
-) -> Result<(), Fault>
-    ensures { OnOk result (ItemStep (rest.old.now, known.old.items) (rest.new.now, known.new.items)) }
+) -> Result<&'a [Token<'a>], Fault>
+    ensures { IfOk result (λ rest. ItemStep (tokens.now, known.old.items) (rest.now, known.new.items)) }
 {
-    let item = *rest;
-    skip_item(rest)?;
-    let Some(definition) = declared(item)? else {
-        return Ok(());
+    let rest = after_item(tokens)?;
+    let Some(definition) = declared(tokens)? else {
+        return Ok(rest);
     };
     let left = definition.name.left;
-    if named(known, definition.name.text).is_some() {
+    if named(known.as_slice(), definition.name.text).is_some() {
         return Err(Fault {
             problem: FileProblem::DefinedTwice,
             left,
         });
     }
     match known.push(definition) {
-        Ok(()) => Ok(()),
+        Ok(()) => Ok(rest),
         Err(_) => Err(out_of_memory(left)),
     }
 }
 
-/// Takes an item: all up to the first `;` or the end of the first braces, outside of other brackets.
-fn skip_item<'a>(rest: &mut &'a [Token<'a>]) -> Result<(), Fault>
-    ensures { OnOk result (IsItem rest.old.now rest.new.now) }
+/// Returns the tokens after an item: all up to the first `;` or the end of the first braces, outside of
+/// other brackets.
+fn after_item<'a>(tokens: &'a [Token<'a>]) -> Result<&'a [Token<'a>], Fault>
+    ensures { IfOk result (λ rest. IsItem tokens.now rest.now) }
 {
-    let left = place_of(rest);
-    for _ in 0..rest.len() {
-        let is_last = is_next(rest, b";") || is_next(rest, b"{");
-        skip_tree(rest)?;
-        if is_last {
-            return Ok(());
+    let mut rest = tokens;
+    for _ in 0..tokens.len() {
+        if ends_item(rest) {
+            return after_tree(rest);
         }
+        rest = after_tree(rest)?;
     }
     Err(Fault {
         problem: FileProblem::ItemOpen,
-        left,
+        left: place_of(tokens),
     })
+}
+
+/// Returns whether `;` or `{` comes next.
+fn ends_item(tokens: &[Token]) -> bool
+    ensures { Decides result (EndsItem tokens.now) }
+{
+    if is_next(tokens, b";") {
+        return true;
+    }
+    is_next(tokens, b"{")
 }
 
 /// Returns what the item defines that begins here, or `None` if it is no definition.
 fn declared<'a>(item: &'a [Token<'a>]) -> Result<Option<Definition<'a>>, Fault>
-    ensures found { IfOk result (λ found. IfSome found (Declares item.now)) }
+    ensures found { IfOk result (λ found. IfSome found (λ d. Declares item.now d)) }
     ensures none { IfOk result (λ found. IfNone found
         ((d : Definition) → Declares item.now d → ⊥)) }
 {
-    let mut rest = item;
-    skip_visibility(&mut rest);
-    let Some((keyword, after)) = rest.split_first() else {
+    let Some((keyword, after)) = after_visibility(item).split_first() else {
         return Ok(None);
     };
     let Some(kind) = Kind::from_keyword(keyword.text) else {
@@ -271,29 +291,30 @@ pub fn is_name(word: &[u8]) -> bool
     }
 }
 
-/// Takes `pub`, and `(crate)`, `(self)` or `(super)` behind it, if they come.
-pub fn skip_visibility<'a>(rest: &mut &'a [Token<'a>])
-    ensures { IsVisibility rest.old.now rest.new.now }
+/// Returns the tokens after `pub` and `(crate)`, `(self)` or `(super)`, if they come.
+pub fn after_visibility<'a>(tokens: &'a [Token<'a>]) -> &'a [Token<'a>]
+    ensures { IsVisibility tokens.now result.now }
 {
-    if take(rest, b"pub") {
-        let _ = take_scope(rest);
+    let Some(after) = after_word(tokens, b"pub") else {
+        return tokens;
+    };
+    match after_scope(after) {
+        Some(rest) => rest,
+        None => after,
     }
 }
 
-/// Takes `(crate)`, `(self)` or `(super)`.
-fn take_scope<'a>(rest: &mut &'a [Token<'a>]) -> bool
-    ensures taken { result ≡ true → HasScope rest.old.now rest.new.now }
-    ensures left { result ≡ false → rest.new.now ≡ rest.old.now }
-    ensures none { result ≡ false → (after : List Token) → HasScope rest.old.now after → ⊥ }
+/// Returns the tokens after `(crate)`, `(self)` or `(super)`.
+fn after_scope<'a>(tokens: &'a [Token<'a>]) -> Option<&'a [Token<'a>]>
+    ensures found { IfSome result (λ rest. HasScope tokens.now rest.now) }
+    ensures none { IfNone result ((rest : List Token) → HasScope tokens.now rest → ⊥) }
 {
-    match *rest {
-        [opening, scope, closing, after @ ..]
-            if opening.says(b"(") && is_scope(scope) && closing.says(b")") =>
-        {
-            *rest = after;
-            true
-        }
-        _ => false,
+    let Some(inner) = after_word(tokens, b"(") else {
+        return None;
+    };
+    match inner.split_first() {
+        Some((scope, after)) if is_scope(scope) => after_word(after, b")"),
+        _ => None,
     }
 }
 
@@ -301,21 +322,8 @@ fn take_scope<'a>(rest: &mut &'a [Token<'a>]) -> bool
 fn is_scope(word: &Token) -> bool
     ensures { Decides result (IsScope word.now) }
 {
-    word.says(b"crate") || word.says(b"self") || word.says(b"super")
-}
-
-/// Takes this word or sign.
-pub fn take<'a>(rest: &mut &'a [Token<'a>], word: &[u8]) -> bool
-    ensures taken { result ≡ true → (t : Token) × Says word.now t × (rest.old.now ≡ t ∷ rest.new.now) }
-    ensures left { result ≡ false → rest.new.now ≡ rest.old.now }
-    ensures none { result ≡ false → (t : Token) (after : List Token)
-        → rest.old.now ≡ t ∷ after → Says word.now t → ⊥ }
-{
-    match rest.split_first() {
-        Some((first, after)) if first.says(word) => {
-            *rest = after;
-            true
-        }
+    match word.text {
+        b"crate" | b"self" | b"super" => true,
         _ => false,
     }
 }
@@ -323,7 +331,7 @@ pub fn take<'a>(rest: &mut &'a [Token<'a>], word: &[u8]) -> bool
 /// Returns the definition with this name, or `None` if there is none.
 pub fn named<'a>(known: &[Definition<'a>], name: &[u8]) -> Option<Definition<'a>>
     ensures found { IfSome result (λ d. Contains known.now d × Says name.now d.name) }
-    ensures none { IfNone result ((d : Definition) → Contains known.now d → Says name.now d.name → ⊥) }
+    ensures none { IfNone result (All (λ d. Says name.now d.name → ⊥) known.now) }
 {
     for definition in known {
         if definition.name.says(name) {
@@ -331,13 +339,4 @@ pub fn named<'a>(known: &[Definition<'a>], name: &[u8]) -> Option<Definition<'a>
         }
     }
     None
-}
-
-/// Returns the place of the first token: how many bytes of the file there are from it on. It is 0 at the
-/// end of the file.
-pub fn place_of(tokens: &[Token]) -> usize {
-    match tokens.split_first() {
-        Some((first, _)) => first.left,
-        None => 0,
-    }
 }

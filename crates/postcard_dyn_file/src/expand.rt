@@ -1,19 +1,20 @@
 //! The words of a type, in which each name that the file defines is replaced by what it stands for.
 //!
-//! The parameter `rest` is the part of the tokens that isn't read yet; what a function takes is
-//! dropped from its front. What it stands for is added to the end of `out`. `within` has the names
-//! that are being replaced, and `depth` is how deep brackets may nest.
+//! A function whose name begins with `write_` adds what the tokens stand for to the end of `out`, and
+//! returns the tokens after them. `within` has the names that are being replaced, and `depth` is how
+//! deep brackets may nest.
 
-ghost use Rattle.std.specs.Prelude.{◌≡◌, List, [], ◌∷◌, ◌++◌, false, codes, Decides, OnOk, IfOk};
-ghost use Rattle.postcard_dyn_file.specs.declared.token.Token.{Token};
-ghost use Rattle.postcard_dyn_file.specs.Expands.{Inner, IsRow, Writes, IsNamed, IsGroup, Spells};
+ghost use Rattle.std.specs.Prelude.{◌≡◌, [], ◌∷◌, ◌++◌, codes, Decides, OnOk, IfOk};
+ghost use Rattle.postcard_dyn_file.specs.Expands.{Inner, IsRow, Writes, IsGroup, Spells};
 ghost use Rattle.postcard_dyn_file.specs.Expands.{SpellsStruct, SpellsEnum, SpellsAlias, IsVariant};
-ghost use Rattle.postcard_dyn_file.specs.Expands.{IsContent, IsDiscriminant, IsSeparator, IsAngles};
-ghost use Rattle.postcard_dyn_file.specs.Expands.{AddsSign, AddsUnit, StopsAt, IsDropped, IsSpelledBy};
+ghost use Rattle.postcard_dyn_file.specs.Expands.{IsContent, IsDiscriminant, IsAngles};
+ghost use Rattle.postcard_dyn_file.specs.Expands.{AddsSign, AddsUnit, Stops, IsDropped};
+ghost use Rattle.postcard_dyn_file.specs.Expands.{IsEmptyAngles, IsEnumEnd, IsWritten, IsSpelledBy};
+ghost use Rattle.postcard_dyn_file.specs.Tokens.{Takes};
 
-use crate::definition::{Definition, Kind, is_name, named, place_of, skip_visibility, take};
+use crate::definition::{Definition, Kind, after_visibility, is_name, named};
 use crate::error::{Fault, FileProblem, out_of_memory};
-use crate::token::{Token, is_next};
+use crate::token::{Token, after_word, is_next, place_of};
 use postcard_dyn_schema::Problem;
 use std::alloc::Global;
 
@@ -45,13 +46,13 @@ pub fn words_of<'a>(
     let mut within = Vec::new(alloc);
     let mut out = Vec::new(alloc);
     push(&mut within, definition.name)?;
-    expand_definition(known, &definition, MAX_DEPTH, &mut within, &mut out)?;
+    write_definition(known, &definition, MAX_DEPTH, &mut within, &mut out)?;
     Ok(out)
 }
 
-/// Adds what a definition spells.
+/// Adds what a definition stands for.
 #[cycle(expand)]
-fn expand_definition<'a>(
+fn write_definition<'a>(
     known: &[Definition<'a>],
     definition: &Definition<'a>,
     depth: usize,
@@ -61,32 +62,37 @@ fn expand_definition<'a>(
     ensures { OnOk result (Spells (Inner known.now depth) definition.now
         out.old.items out.new.items) }
 {
-    let mut body = definition.body;
-    skip_angles(&mut body)?;
+    let body = after_angles(definition.body)?;
     match definition.kind {
-        Kind::Struct => expand_struct(known, body, depth, within, out),
-        Kind::Enum => expand_enum(known, body, depth, within, out),
-        Kind::Alias => expand_alias(known, body, depth, within, out),
+        Kind::Struct => write_struct(known, body, depth, within, out),
+        Kind::Enum => write_enum(known, body, depth, within, out),
+        Kind::Alias => write_alias(known, body, depth, within, out),
     }
 }
 
-/// Takes `<` and `>`, between which only lifetimes were.
-fn skip_angles<'a>(rest: &mut &'a [Token<'a>]) -> Result<(), Fault>
-    ensures { OnOk result (IsAngles rest.old.now rest.new.now) }
+/// Returns the tokens after `<` and `>`, between which only lifetimes were, if they come.
+///
+/// # Errors
+///
+/// Fails with `Generic` at a `<` without `>` behind it.
+fn after_angles<'a>(tokens: &'a [Token<'a>]) -> Result<&'a [Token<'a>], Fault>
+    ensures { IfOk result (λ rest. IsAngles tokens.now rest.now) }
 {
-    let left = place_of(rest);
-    if take(rest, b"<") && !take(rest, b">") {
-        return Err(Fault {
+    let Some(inner) = after_word(tokens, b"<") else {
+        return Ok(tokens);
+    };
+    match after_word(inner, b">") {
+        Some(rest) => Ok(rest),
+        None => Err(Fault {
             problem: FileProblem::Generic,
-            left,
-        });
+            left: place_of(tokens),
+        }),
     }
-    Ok(())
 }
 
-/// Adds what a struct spells, where `body` follows its name.
+/// Adds what a struct stands for, where `body` follows its name.
 #[cycle(expand)]
-fn expand_struct<'a>(
+fn write_struct<'a>(
     known: &[Definition<'a>],
     body: &'a [Token<'a>],
     depth: usize,
@@ -106,13 +112,13 @@ fn expand_struct<'a>(
             left,
         });
     }
-    let mut rest = body;
-    expand_group(known, &mut rest, depth, within, out)
+    write_group(known, body, depth, within, out)?;
+    Ok(())
 }
 
-/// Adds what a type alias spells, where `body` follows its name.
+/// Adds what a type alias stands for, where `body` follows its name.
 #[cycle(expand)]
-fn expand_alias<'a>(
+fn write_alias<'a>(
     known: &[Definition<'a>],
     body: &'a [Token<'a>],
     depth: usize,
@@ -122,32 +128,30 @@ fn expand_alias<'a>(
     ensures { OnOk result (SpellsAlias (Inner known.now depth) body.now
         out.old.items out.new.items) }
 {
-    let mut rest = body;
-    if !take(&mut rest, b"=") {
+    let Some(inner) = after_word(body, b"=") else {
         return Err(Fault {
             problem: FileProblem::EqualsExpected,
-            left: place_of(rest),
+            left: place_of(body),
         });
-    }
-    let left = place_of(rest);
+    };
+    let left = place_of(inner);
     if depth == 0 {
         return Err(too_deep(left));
     }
     push_sign(out, b"(", left)?;
-    expand_row(known, &mut rest, true, depth - 1, within, out)?;
-    let end = place_of(rest);
-    if !take(&mut rest, b";") {
+    let after = write_row(known, inner, true, depth - 1, within, out)?;
+    if !is_next(after, b";") {
         return Err(Fault {
             problem: FileProblem::SemicolonExpected,
-            left: end,
+            left: place_of(after),
         });
     }
-    push_sign(out, b")", end)
+    push_sign(out, b")", place_of(after))
 }
 
-/// Adds what an enum spells, where `body` follows its name.
+/// Adds what an enum stands for, where `body` follows its name.
 #[cycle(expand)]
-fn expand_enum<'a>(
+fn write_enum<'a>(
     known: &[Definition<'a>],
     body: &'a [Token<'a>],
     depth: usize,
@@ -157,20 +161,21 @@ fn expand_enum<'a>(
     ensures { OnOk result (SpellsEnum (Inner known.now depth) body.now
         out.old.items out.new.items) }
 {
-    let mut rest = body;
-    let left = place_of(rest);
-    if !take(&mut rest, b"{") {
+    let left = place_of(body);
+    let Some(inner) = after_word(body, b"{") else {
         return Err(Fault {
             problem: FileProblem::BraceExpected,
             left,
         });
-    }
+    };
     push_sign(out, b"(", left)?;
-    for _ in 0..body.len() {
-        expand_variant(known, &mut rest, depth, within, out)?;
-        if separate(&mut rest)? {
+    let mut rest = inner;
+    for _ in 0..inner.len() {
+        let after = write_variant(known, rest, depth, within, out)?;
+        if is_enum_end(after) {
             return push_sign(out, b")", left);
         }
+        rest = after_comma(after)?;
     }
     Err(Fault {
         problem: FileProblem::BracketOpen,
@@ -178,117 +183,124 @@ fn expand_enum<'a>(
     })
 }
 
-/// Takes what follows a variant: `,` alone, or the `}` at the end of the enum, before which a `,` may
-/// stand. Returns whether the enum ends.
-fn separate<'a>(rest: &mut &'a [Token<'a>]) -> Result<bool, Fault>
-    ensures { IfOk result (λ ends. IsSeparator ends rest.old.now rest.new.now) }
+/// Returns whether the enum ends behind a variant: whether `}` comes next, or `,` and then `}`.
+fn is_enum_end(tokens: &[Token]) -> bool
+    ensures { Decides result (IsEnumEnd tokens.now) }
 {
-    let left = place_of(rest);
-    let comma = take(rest, b",");
-    if take(rest, b"}") {
-        return Ok(true);
+    match after_word(tokens, b",") {
+        Some(rest) => is_next(rest, b"}"),
+        None => is_next(tokens, b"}"),
     }
-    if !comma {
-        return Err(Fault {
-            problem: FileProblem::CommaOrBrace,
-            left,
-        });
-    }
-    Ok(false)
 }
 
-/// Takes a variant, and adds `|` and what it stands for.
+/// Returns the tokens after a comma, which has to stand between two variants.
+fn after_comma<'a>(tokens: &'a [Token<'a>]) -> Result<&'a [Token<'a>], Fault>
+    ensures { IfOk result (λ rest. Takes (codes ",") tokens.now rest.now) }
+{
+    match after_word(tokens, b",") {
+        Some(rest) => Ok(rest),
+        None => Err(Fault {
+            problem: FileProblem::CommaOrBrace,
+            left: place_of(tokens),
+        }),
+    }
+}
+
+/// Adds `|` and what a variant stands for.
 #[cycle(expand)]
-fn expand_variant<'a>(
+fn write_variant<'a>(
     known: &[Definition<'a>],
-    rest: &mut &'a [Token<'a>],
+    tokens: &'a [Token<'a>],
     depth: usize,
     within: &mut Vec<Token<'a>>,
     out: &mut Vec<Token<'a>>,
-) -> Result<(), Fault>
-    ensures { OnOk result (IsVariant (Inner known.now depth) (rest.old.now, out.old.items)
-        (rest.new.now, out.new.items)) }
+) -> Result<&'a [Token<'a>], Fault>
+    ensures { IfOk result (λ rest. IsVariant (Inner known.now depth) (tokens.now, out.old.items)
+        (rest.now, out.new.items)) }
 {
-    let Some((name, after)) = rest.split_first() else {
-        return Err(Fault {
-            problem: FileProblem::VariantExpected,
-            left: 0,
-        });
+    let Some((name, after)) = tokens.split_first() else {
+        return Err(variant_expected(0));
     };
     if name.is_closing() {
-        return Err(Fault {
-            problem: FileProblem::VariantExpected,
-            left: name.left,
-        });
+        return Err(variant_expected(name.left));
     }
-    *rest = after;
     push_sign(out, b"|", name.left)?;
     push(out, *name)?;
-    expand_content(known, rest, depth, within, out)?;
-    skip_discriminant(rest);
-    Ok(())
+    let rest = write_content(known, after, depth, within, out)?;
+    Ok(after_discriminant(rest))
 }
 
-/// Takes the content of a variant, if it has one, and adds what it stands for.
+/// Returns the fault that a variant is missing.
+fn variant_expected(left: usize) -> Fault {
+    Fault {
+        problem: FileProblem::VariantExpected,
+        left,
+    }
+}
+
+/// Adds what the content of a variant stands for, if it has one.
 #[cycle(expand)]
-fn expand_content<'a>(
+fn write_content<'a>(
     known: &[Definition<'a>],
-    rest: &mut &'a [Token<'a>],
+    tokens: &'a [Token<'a>],
     depth: usize,
     within: &mut Vec<Token<'a>>,
     out: &mut Vec<Token<'a>>,
-) -> Result<(), Fault>
-    ensures { OnOk result (IsContent (Inner known.now depth) (rest.old.now, out.old.items)
-        (rest.new.now, out.new.items)) }
+) -> Result<&'a [Token<'a>], Fault>
+    ensures { IfOk result (λ rest. IsContent (Inner known.now depth) (tokens.now, out.old.items)
+        (rest.now, out.new.items)) }
 {
-    if !is_next(rest, b"(") && !is_next(rest, b"{") {
-        return Ok(());
+    if !is_next(tokens, b"(") && !is_next(tokens, b"{") {
+        return Ok(tokens);
     }
-    expand_group(known, rest, depth, within, out)
+    write_group(known, tokens, depth, within, out)
 }
 
-/// Takes `=` and the number behind it, if they come.
-fn skip_discriminant<'a>(rest: &mut &'a [Token<'a>])
-    ensures { IsDiscriminant rest.old.now rest.new.now }
+/// Returns the tokens after `=` and the number behind it, if they come.
+fn after_discriminant<'a>(tokens: &'a [Token<'a>]) -> &'a [Token<'a>]
+    ensures { IsDiscriminant tokens.now result.now }
 {
-    if !take(rest, b"=") {
-        return;
-    }
-    let _ = take(rest, b"-");
-    if let Some((_, after)) = rest.split_first() {
-        *rest = after;
+    let Some(after) = after_word(tokens, b"=") else {
+        return tokens;
+    };
+    let number = match after_word(after, b"-") {
+        Some(number) => number,
+        None => after,
+    };
+    match number.split_first() {
+        Some((_, rest)) => rest,
+        None => number,
     }
 }
 
-/// Takes a bracket, all up to the one that closes it, and that one, and adds what they stand for.
+/// Adds what a bracket, all up to the one that closes it, and that one stand for.
 #[cycle(expand)]
-fn expand_group<'a>(
+fn write_group<'a>(
     known: &[Definition<'a>],
-    rest: &mut &'a [Token<'a>],
+    tokens: &'a [Token<'a>],
     depth: usize,
     within: &mut Vec<Token<'a>>,
     out: &mut Vec<Token<'a>>,
-) -> Result<(), Fault>
-    ensures { OnOk result (IsGroup (Inner known.now depth) (rest.old.now, out.old.items)
-        (rest.new.now, out.new.items)) }
+) -> Result<&'a [Token<'a>], Fault>
+    ensures { IfOk result (λ rest. IsGroup (Inner known.now depth) (tokens.now, out.old.items)
+        (rest.now, out.new.items)) }
 {
-    let left = place_of(rest);
-    let Some((opening, inner)) = rest.split_first() else {
+    let left = place_of(tokens);
+    let Some((opening, inner)) = tokens.split_first() else {
         return Err(out_of_memory(left));
     };
-    *rest = inner;
+    if opening.says(b"{") && is_next(inner, b"}") {
+        return write_empty(inner, left, out);
+    }
     if depth == 0 {
         return Err(too_deep(left));
     }
-    if opening.says(b"{") && take(rest, b"}") {
-        return push_unit(out, left);
-    }
     push(out, *opening)?;
-    expand_row(known, rest, false, depth - 1, within, out)?;
-    match rest.split_first() {
-        Some((closing, after)) if closing.is_closing() => {
-            *rest = after;
-            push(out, *closing)
+    let after = write_row(known, inner, false, depth - 1, within, out)?;
+    match after.split_first() {
+        Some((closing, rest)) if closing.is_closing() => {
+            push(out, *closing)?;
+            Ok(rest)
         }
         _ => Err(Fault {
             problem: FileProblem::BracketOpen,
@@ -297,124 +309,156 @@ fn expand_group<'a>(
     }
 }
 
-/// Takes all up to a bracket that closes one before, or for an alias also up to a `;`, and adds what
-/// it stands for.
+/// Adds `()` in the place of `{}`, where `inner` begins with the `}`.
+fn write_empty<'a>(
+    inner: &'a [Token<'a>],
+    left: usize,
+    out: &mut Vec<Token<'a>>,
+) -> Result<&'a [Token<'a>], Fault>
+    ensures { IfOk result (λ rest. Takes (codes "}") inner.now rest.now
+        × AddsUnit out.old.items out.new.items) }
+{
+    let Some(rest) = after_word(inner, b"}") else {
+        return Err(out_of_memory(left));
+    };
+    push_unit(out, left)?;
+    Ok(rest)
+}
+
+/// Adds what all up to a bracket that closes one before, or for an alias also up to a `;`, stand for.
 #[cycle(expand)]
-fn expand_row<'a>(
+fn write_row<'a>(
     known: &[Definition<'a>],
-    rest: &mut &'a [Token<'a>],
+    tokens: &'a [Token<'a>],
     is_alias: bool,
     depth: usize,
     within: &mut Vec<Token<'a>>,
     out: &mut Vec<Token<'a>>,
-) -> Result<(), Fault>
-    ensures { OnOk result (IsRow known.now (Inner known.now depth) is_alias
-        (rest.old.now, out.old.items) (rest.new.now, out.new.items)) }
+) -> Result<&'a [Token<'a>], Fault>
+    ensures { IfOk result (λ rest. IsRow known.now (Inner known.now depth) is_alias
+        (tokens.now, out.old.items) (rest.now, out.new.items)) }
 {
-    let left = place_of(rest);
-    for _ in 0..rest.len() {
-        if stops_at(rest, is_alias) {
-            return Ok(());
+    let mut rest = tokens;
+    for _ in 0..tokens.len() {
+        if stops(rest, is_alias) {
+            return Ok(rest);
         }
-        expand_next(known, rest, depth, within, out)?;
+        rest = write_next(known, rest, depth, within, out)?;
     }
     Err(Fault {
         problem: FileProblem::BracketOpen,
-        left,
+        left: place_of(tokens),
     })
 }
 
-/// Returns whether a row ends before the first token.
-fn stops_at(tokens: &[Token], is_alias: bool) -> bool
-    ensures { result ≡ false → (t : Token) (after : List Token) → tokens.now ≡ t ∷ after
-        → StopsAt is_alias t → ⊥ }
+/// Returns whether a row ends before these tokens.
+fn stops(tokens: &[Token], is_alias: bool) -> bool
+    ensures { Decides result (Stops is_alias tokens.now) }
 {
+    if is_alias && is_next(tokens, b";") {
+        return true;
+    }
     match tokens.split_first() {
-        Some((first, _)) => first.is_closing() || is_alias && first.says(b";"),
+        Some((first, _)) => first.is_closing(),
         None => true,
     }
 }
 
-/// Takes what comes next in a row, and adds what it stands for.
+/// Adds what comes next in a row stands for.
 #[cycle(expand)]
-fn expand_next<'a>(
+fn write_next<'a>(
     known: &[Definition<'a>],
-    rest: &mut &'a [Token<'a>],
+    tokens: &'a [Token<'a>],
     depth: usize,
     within: &mut Vec<Token<'a>>,
     out: &mut Vec<Token<'a>>,
-) -> Result<(), Fault>
-    ensures { OnOk result (Writes known.now (Inner known.now depth) (rest.old.now, out.old.items)
-        (rest.new.now, out.new.items)) }
+) -> Result<&'a [Token<'a>], Fault>
+    ensures { IfOk result (λ rest. Writes known.now (Inner known.now depth)
+        (tokens.now, out.old.items) (rest.now, out.new.items)) }
 {
-    let Some((first, after)) = rest.split_first() else {
+    let Some((first, rest)) = tokens.split_first() else {
         return Err(out_of_memory(0));
     };
     if first.is_opening() {
-        return expand_group(known, rest, depth, within, out);
+        return write_group(known, tokens, depth, within, out);
     }
-    if is_dropped(rest) {
-        *rest = after;
-        return Ok(());
+    if is_dropped(tokens) {
+        return Ok(rest);
     }
-    if first.says(b"pub") {
-        skip_visibility(rest);
-        return Ok(());
+    if is_next(tokens, b"pub") {
+        return Ok(after_visibility(tokens));
     }
-    if first.says(b"<") && is_next(after, b">") {
-        return skip_angles(rest);
+    if is_empty_angles(tokens) {
+        return after_angles(tokens);
     }
-    *rest = after;
-    if is_next(after, b":") {
-        return push(out, *first);
-    }
-    expand_name(known, first, depth, within, out)
+    write_word(known, first, rest, depth, within, out)?;
+    Ok(rest)
 }
 
 /// Returns whether the first token stands for nothing: `&`, `::`, or a name before `::`.
 fn is_dropped(tokens: &[Token]) -> bool
     ensures { Decides result (IsDropped tokens.now) }
 {
+    if is_next(tokens, b"&") || is_next(tokens, b"::") {
+        return true;
+    }
     match tokens.split_first() {
-        Some((first, after)) => {
-            first.says(b"&")
-                || first.says(b"::")
-                || is_name(first.text) && is_next(after, b"::")
-        }
+        Some((first, rest)) => is_name(first.text) && is_next(rest, b"::"),
         None => false,
     }
 }
 
-/// Adds what a word stands for: what its definition spells, or if it has none, itself.
+/// Returns whether the first two tokens are `<` and `>`.
+fn is_empty_angles(tokens: &[Token]) -> bool
+    ensures { Decides result (IsEmptyAngles tokens.now) }
+{
+    match after_word(tokens, b"<") {
+        Some(rest) => is_next(rest, b">"),
+        None => false,
+    }
+}
+
+/// Adds what a word stands for: the name of a field, before `:`, for itself, and another for what its
+/// definition does, or if it has none, for itself.
 #[cycle(expand)]
-fn expand_name<'a>(
+fn write_word<'a>(
     known: &[Definition<'a>],
     word: &Token<'a>,
+    rest: &'a [Token<'a>],
     depth: usize,
     within: &mut Vec<Token<'a>>,
     out: &mut Vec<Token<'a>>,
 ) -> Result<(), Fault>
-    ensures { OnOk result (IsNamed known.now (Inner known.now depth) word.now
+    ensures { OnOk result (IsWritten known.now (Inner known.now depth) word.now rest.now
         out.old.items out.new.items) }
 {
+    if is_next(rest, b":") {
+        return push(out, *word);
+    }
     let Some(definition) = named(known, word.text) else {
         return push(out, *word);
     };
-    if is_among(within, word.text) {
-        return Err(Fault {
-            problem: FileProblem::Recursive,
-            left: word.left,
-        });
-    }
-    push(within, *word)?;
-    expand_definition(known, &definition, depth, within, out)?;
+    enter(within, word)?;
+    write_definition(known, &definition, depth, within, out)?;
     let _ = within.pop();
     Ok(())
 }
 
-/// Returns whether one of the tokens is this word.
-fn is_among(tokens: &[Token], word: &[u8]) -> bool {
-    tokens.iter().any(|token| token.says(word))
+/// Adds the name to those that are being replaced.
+///
+/// # Errors
+///
+/// Fails with `Recursive` at the name if it is one of them, and otherwise as [`push`] does.
+fn enter<'a>(within: &mut Vec<Token<'a>>, name: &Token<'a>) -> Result<(), Fault> {
+    for other in within.as_slice() {
+        if other.says(name.text) {
+            return Err(Fault {
+                problem: FileProblem::Recursive,
+                left: name.left,
+            });
+        }
+    }
+    push(within, *name)
 }
 
 /// Adds `(` and `)`, which stand at the given place.

@@ -1,9 +1,10 @@
 //! The tokens of a file: its words, signs and literals, without blanks, comments and lifetimes.
 //!
-//! The parameter `rest` is the part of the file that isn't read yet; what a function takes is dropped
-//! from its front.
+//! A function whose name begins with `after_` returns the text after what its name says, if the text
+//! begins with it.
 
-ghost use Rattle.std.specs.Prelude.{◌≡◌, ℕ, List, [], ◌∷◌, true, false, IfOk, IfSome, OnOk};
+ghost use Rattle.std.specs.Prelude.{◌≡◌, ◌+◌, ℕ, List, [], ◌∷◌, ◌++◌, IfOk, IfSome, IfNone, OnOk};
+ghost use Rattle.postcard_dyn_file.specs.declared.token.Token.{Token};
 ghost use Rattle.postcard_dyn_file.specs.Lexical.{Begins, CommentStep, IsComment, IsLine, IsLetter};
 ghost use Rattle.postcard_dyn_file.specs.Lexical.{IsQuoted, IsLiteral, IsLifetime, IsBlank, IsGap};
 ghost use Rattle.postcard_dyn_file.specs.Lexical.{IsTokenAt, ReadStep, IsRead};
@@ -26,201 +27,195 @@ pub fn tokens<'a>(alloc: Global, file: &'a [u8]) -> Result<Vec<Token<'a>>, Fault
     let mut rest = file;
     for _ in 0..file.len() {
         if rest.is_empty() {
-            break;
+            return Ok(tokens);
         }
-        read_next(&mut rest, &mut tokens)?;
+        rest = read_next(rest, &mut tokens)?;
     }
-    if !rest.is_empty() {
-        return Err(out_of_memory(rest.len()));
+    if rest.is_empty() {
+        return Ok(tokens);
     }
-    Ok(tokens)
+    Err(out_of_memory(rest.len()))
 }
 
-/// Takes a gap, or else a token, which it adds to the end of the list.
-fn read_next<'a>(rest: &mut &'a [u8], tokens: &mut Vec<Token<'a>>) -> Result<(), Fault>
-    ensures { OnOk result (ReadStep (rest.old.now, tokens.old.items) (rest.new.now, tokens.new.items)) }
+/// Reads a gap, or else a token, which it adds to the end of the list, and returns the text after it.
+fn read_next<'a>(text: &'a [u8], tokens: &mut Vec<Token<'a>>) -> Result<&'a [u8], Fault>
+    ensures { IfOk result (λ rest. ReadStep (text.now, tokens.old.items) (rest.now, tokens.new.items)) }
 {
-    if take_gap(rest)? {
-        return Ok(());
+    if let Some(rest) = after_gap(text)? {
+        return Ok(rest);
     }
-    let token = take_token(rest)?;
+    let (token, rest) = token_at(text)?;
     match tokens.push(token) {
-        Ok(()) => Ok(()),
-        Err(_) => Err(out_of_memory(token.left)),
+        Ok(()) => Ok(rest),
+        Err(_) => Err(out_of_memory(text.len())),
     }
 }
 
-/// Takes what stands between tokens: a blank, a comment, or a lifetime and the comma behind it. Returns
-/// `false` if none comes.
-fn take_gap(rest: &mut &[u8]) -> Result<bool, Fault>
-    ensures taken { IfOk result (λ taken. taken ≡ true → IsGap rest.old.now rest.new.now) }
-    ensures left { IfOk result (λ taken. taken ≡ false → rest.new.now ≡ rest.old.now) }
-    ensures none { IfOk result (λ taken. taken ≡ false
-        → (Begins 47 47 rest.old.now → ⊥) × (Begins 47 42 rest.old.now → ⊥)) }
+/// Returns the text after what stands between tokens: a blank, a comment, or a lifetime and the comma
+/// behind it.
+fn after_gap(text: &[u8]) -> Result<Option<&[u8]>, Fault>
+    ensures found { IfOk result (λ found. IfSome found (λ rest. IsGap text.now rest.now)) }
+    ensures none { IfOk result (λ found.
+        IfNone found ((Begins 47 47 text.now → ⊥) × (Begins 47 42 text.now → ⊥))) }
 {
-    if take_blank(rest) || take_line(rest) || take_lifetime(rest) {
-        return Ok(true);
+    if let Some(rest) = after_blank(text) {
+        return Ok(Some(rest));
     }
-    take_comment(rest)
+    if let Some(rest) = after_line(text) {
+        return Ok(Some(rest));
+    }
+    if let Some(rest) = after_lifetime(text) {
+        return Ok(Some(rest));
+    }
+    after_comment(text)
 }
 
-/// Takes a blank.
-fn take_blank(rest: &mut &[u8]) -> bool
-    ensures taken { result ≡ true → IsBlank rest.old.now rest.new.now }
-    ensures left { result ≡ false → rest.new.now ≡ rest.old.now }
+/// Returns the text after a blank.
+fn after_blank(text: &[u8]) -> Option<&[u8]>
+    ensures { IfSome result (λ rest. IsBlank text.now rest.now) }
 {
-    match rest.split_first() {
-        Some((first, after)) if first.is_ascii_whitespace() => {
-            *rest = after;
-            true
-        }
-        _ => false,
-    }
-}
-
-/// Takes this byte.
-fn take_byte(rest: &mut &[u8], byte: u8) -> bool
-    ensures taken { result ≡ true → rest.old.now ≡ byte ∷ rest.new.now }
-    ensures left { result ≡ false → rest.new.now ≡ rest.old.now }
-    ensures none { result ≡ false → (after : List ℕ) → rest.old.now ≡ byte ∷ after → ⊥ }
-{
-    match rest.split_first() {
-        Some((first, after)) if *first == byte => {
-            *rest = after;
-            true
-        }
-        _ => false,
+    match text.split_first() {
+        Some((first, rest)) if first.is_ascii_whitespace() => Some(rest),
+        _ => None,
     }
 }
 
-/// Takes these two bytes.
-fn take_two(rest: &mut &[u8], first: u8, second: u8) -> bool
-    ensures taken { result ≡ true → rest.old.now ≡ first ∷ second ∷ rest.new.now }
-    ensures left { result ≡ false → rest.new.now ≡ rest.old.now }
-    ensures none { result ≡ false → Begins first second rest.old.now → ⊥ }
+/// Returns the text after this byte.
+fn after_byte(text: &[u8], byte: u8) -> Option<&[u8]>
+    ensures found { IfSome result (λ rest. text.now ≡ byte ∷ rest.now) }
+    ensures none { IfNone result ((rest : List ℕ) → text.now ≡ byte ∷ rest → ⊥) }
 {
-    let mut after = *rest;
-    if take_byte(&mut after, first) && take_byte(&mut after, second) {
-        *rest = after;
-        return true;
-    }
-    false
-}
-
-/// Takes a byte, whichever comes. Returns `false` at the end of the file.
-fn take_any(rest: &mut &[u8]) -> bool
-    ensures { result ≡ true → (byte : ℕ) × (rest.old.now ≡ byte ∷ rest.new.now) }
-{
-    match rest.split_first() {
-        Some((_, after)) => {
-            *rest = after;
-            true
-        }
-        None => false,
+    match text.split_first() {
+        Some((first, rest)) if *first == byte => Some(rest),
+        _ => None,
     }
 }
 
-/// Takes a comment that begins with `//`, up to the end of its line.
-fn take_line(rest: &mut &[u8]) -> bool
-    ensures taken { result ≡ true → IsLine rest.old.now rest.new.now }
-    ensures left { result ≡ false → rest.new.now ≡ rest.old.now }
-    ensures none { result ≡ false → Begins 47 47 rest.old.now → ⊥ }
+/// Returns the text after these two bytes.
+fn after_two(text: &[u8], first: u8, second: u8) -> Option<&[u8]>
+    ensures found { IfSome result (λ rest. text.now ≡ first ∷ second ∷ rest.now) }
+    ensures none { IfNone result (Begins first second text.now → ⊥) }
 {
-    if !take_two(rest, b'/', b'/') {
-        return false;
+    match after_byte(text, first) {
+        Some(rest) => after_byte(rest, second),
+        None => None,
     }
-    let all = *rest;
+}
+
+/// Returns the text after a comment that begins with `//`: nothing, or the end of its line.
+fn after_line(text: &[u8]) -> Option<&[u8]>
+    ensures found { IfSome result (λ rest. IsLine text.now rest.now) }
+    ensures none { IfNone result (Begins 47 47 text.now → ⊥) }
+{
+    let Some(line) = after_two(text, b'/', b'/') else {
+        return None;
+    };
     let mut count = 0;
-    'letters: while count < all.len() && all[count] != b'\n' {
+    'letters: while count < line.len() && line[count] != b'\n' {
         count += 1;
     }
-    *rest = &all[count..];
-    true
+    let (_, rest) = line.split_at(count);
+    Some(rest)
 }
 
-/// Takes a comment that begins with `/*`, in which others may stand.
-fn take_comment(rest: &mut &[u8]) -> Result<bool, Fault>
-    ensures taken { IfOk result (λ taken. taken ≡ true → IsComment rest.old.now rest.new.now) }
-    ensures left { IfOk result (λ taken. taken ≡ false → rest.new.now ≡ rest.old.now) }
-    ensures none { IfOk result (λ taken. taken ≡ false → Begins 47 42 rest.old.now → ⊥) }
+/// Returns the text after a comment in `/*` and `*/`, in which others may stand.
+fn after_comment(text: &[u8]) -> Result<Option<&[u8]>, Fault>
+    ensures found { IfOk result (λ found. IfSome found (λ rest. IsComment text.now rest.now)) }
+    ensures none { IfOk result (λ found. IfNone found (Begins 47 42 text.now → ⊥)) }
 {
-    let start = *rest;
-    if !take_two(rest, b'/', b'*') {
-        return Ok(false);
-    }
-    let mut depth = 1;
-    for _ in 0..start.len() {
-        depth = match take_in_comment(rest, depth) {
-            Some(depth) => depth,
-            None => break,
+    let Some(inner) = after_two(text, b'/', b'*') else {
+        return Ok(None);
+    };
+    let mut rest = inner;
+    let mut depth: usize = 1;
+    for _ in 0..inner.len() {
+        let Some((next, after)) = in_comment(rest, depth) else {
+            break;
         };
-        if depth == 0 {
-            return Ok(true);
+        if next == 0 {
+            return Ok(Some(after));
         }
+        rest = after;
+        depth = next;
     }
     Err(Fault {
         problem: FileProblem::CommentOpen,
-        left: start.len(),
+        left: text.len(),
     })
 }
 
-/// Takes `*/`, `/*` or another byte, and returns how many comments are open then, if `depth` are open
-/// before.
-fn take_in_comment(rest: &mut &[u8], depth: usize) -> Option<usize>
-    ensures { IfSome result (λ after. CommentStep (depth, rest.old.now) (after, rest.new.now)) }
+/// Returns how many comments are open after `*/`, `/*` or another byte, if `depth` are open before,
+/// and the text after it.
+fn in_comment(text: &[u8], depth: usize) -> Option<(usize, &[u8])>
+    ensures { IfSome result (λ found. CommentStep (depth, text.now) (found.0, found.1.now)) }
 {
-    if take_two(rest, b'*', b'/') {
-        return depth.checked_sub(1);
+    if let Some(rest) = after_two(text, b'*', b'/') {
+        return match depth.checked_sub(1) {
+            Some(depth) => Some((depth, rest)),
+            None => None,
+        };
     }
-    if take_two(rest, b'/', b'*') {
-        return depth.checked_add(1);
+    if let Some(rest) = after_two(text, b'/', b'*') {
+        return match depth.checked_add(1) {
+            Some(depth) => Some((depth, rest)),
+            None => None,
+        };
     }
-    if take_any(rest) { Some(depth) } else { None }
+    match text.split_first() {
+        Some((_, rest)) => Some((depth, rest)),
+        None => None,
+    }
 }
 
-/// Takes a lifetime, as `'a`, and the comma behind it if there is one.
-fn take_lifetime(rest: &mut &[u8]) -> bool
-    ensures taken { result ≡ true → IsLifetime rest.old.now rest.new.now }
-    ensures left { result ≡ false → rest.new.now ≡ rest.old.now }
+/// Returns the text after a lifetime, as `'a`, and the comma behind it if there is one.
+fn after_lifetime(text: &[u8]) -> Option<&[u8]>
+    ensures { IfSome result (λ rest. IsLifetime text.now rest.now) }
 {
-    let mut after = *rest;
-    if !take_byte(&mut after, b'\'') {
-        return false;
-    }
+    let Some(inner) = after_byte(text, b'\'') else {
+        return None;
+    };
+    let mut after = inner;
     let name = take_word(&mut after);
-    let mut quote = after;
-    if name.is_empty() || take_byte(&mut quote, b'\'') {
-        return false;
+    if name.is_empty() || after_byte(after, b'\'').is_some() {
+        return None;
     }
-    *rest = after;
-    let _ = take_byte(rest, b',');
-    true
+    match after_byte(after, b',') {
+        Some(rest) => Some(rest),
+        None => Some(after),
+    }
 }
 
-/// Takes a token.
-fn take_token<'a>(rest: &mut &'a [u8]) -> Result<Token<'a>, Fault>
-    ensures { IfOk result (λ token. IsTokenAt token.text.now rest.old.now rest.new.now) }
+/// Returns the token that the text begins with, and the text after it.
+fn token_at<'a>(text: &'a [u8]) -> Result<(Token<'a>, &'a [u8]), Fault>
+    ensures { IfOk result (λ found. IsTokenAt found.0.text.now text.now found.1.now) }
 {
-    let start = *rest;
-    let left = start.len();
-    let mut after = start;
+    let left = text.len();
+    let mut after = text;
     let word = take_word(&mut after);
     if !word.is_empty() {
-        *rest = after;
-        return Ok(Token { text: word, left });
+        return Ok((Token { text: word, left }, after));
     }
-    if take_two(rest, b':', b':') {
-        return Ok(Token { text: b"::", left });
+    if let Some(rest) = after_two(text, b':', b':') {
+        return Ok((Token { text: b"::", left }, rest));
     }
-    match start.split_first() {
-        Some((b'"', after)) => take_literal(rest, start, after, b'"'),
-        Some((b'\'', after)) => take_literal(rest, start, after, b'\''),
-        Some((first, after)) if first.is_ascii() => {
-            *rest = after;
-            Ok(Token {
-                text: &start[..1],
-                left,
-            })
+    sign_at(text)
+}
+
+/// Returns the literal or the sign that the text begins with, and the text after it.
+fn sign_at<'a>(text: &'a [u8]) -> Result<(Token<'a>, &'a [u8]), Fault>
+    ensures { IfOk result (λ found. IsTokenAt found.0.text.now text.now found.1.now) }
+{
+    let left = text.len();
+    if let Some(inner) = after_byte(text, b'"') {
+        return literal_at(text, inner, b'"');
+    }
+    if let Some(inner) = after_byte(text, b'\'') {
+        return literal_at(text, inner, b'\'');
+    }
+    match text.split_first() {
+        Some((first, rest)) if first.is_ascii() => {
+            let (sign, _) = text.split_at(1);
+            Ok((Token { text: sign, left }, rest))
         }
         _ => Err(Fault {
             problem: FileProblem::AsciiExpected,
@@ -229,50 +224,47 @@ fn take_token<'a>(rest: &mut &'a [u8]) -> Result<Token<'a>, Fault>
     }
 }
 
-/// Takes a literal in quotes, which begins at `start`, where `after` follows the first quote.
-fn take_literal<'a>(
-    rest: &mut &'a [u8],
-    start: &'a [u8],
-    after: &'a [u8],
-    quote: u8,
-) -> Result<Token<'a>, Fault>
-    requires { start.now ≡ quote ∷ after.now }
-    ensures { IfOk result (λ token. IsLiteral quote token.text.now start.now rest.new.now) }
+/// Returns the literal in these quotes that the text begins with, where `inner` follows the first of
+/// them, and the text after it.
+fn literal_at<'a>(text: &'a [u8], inner: &'a [u8], quote: u8) -> Result<(Token<'a>, &'a [u8]), Fault>
+    requires { text.now ≡ quote ∷ inner.now }
+    ensures { IfOk result (λ found. IsLiteral quote found.0.text.now text.now found.1.now) }
 {
-    let left = start.len();
-    *rest = after;
-    if !take_letters(rest, quote) {
+    let left = text.len();
+    let Some(rest) = after_letters(inner, quote) else {
         return Err(Fault {
             problem: FileProblem::LiteralOpen,
             left,
         });
-    }
-    let count = left.saturating_sub(rest.len());
-    Ok(Token {
-        text: &start[..count],
-        left,
-    })
+    };
+    let (literal, _) = text.split_at(left.saturating_sub(rest.len()));
+    Ok((Token { text: literal, left }, rest))
 }
 
-/// Takes the letters of a literal, and the quote at their end.
-fn take_letters(rest: &mut &[u8], quote: u8) -> bool
-    ensures { result ≡ true → IsQuoted quote rest.old.now rest.new.now }
+/// Returns the text after the letters of a literal and the quote at their end.
+fn after_letters(text: &[u8], quote: u8) -> Option<&[u8]>
+    ensures { IfSome result (λ rest. IsQuoted quote text.now rest.now) }
 {
-    for _ in 0..rest.len() {
-        if take_byte(rest, quote) {
-            return true;
+    let mut rest = text;
+    for _ in 0..text.len() {
+        if let Some(after) = after_byte(rest, quote) {
+            return Some(after);
         }
-        if !take_letter(rest) {
-            return false;
-        }
+        rest = after_letter(rest)?;
     }
-    false
+    None
 }
 
-/// Takes a letter of a literal: a `\` and the byte after it, or one byte.
-fn take_letter(rest: &mut &[u8]) -> bool
-    ensures { result ≡ true → IsLetter rest.old.now rest.new.now }
+/// Returns the text after a letter of a literal: a `\` and the byte after it, or one byte.
+fn after_letter(text: &[u8]) -> Option<&[u8]>
+    ensures { IfSome result (λ rest. IsLetter text.now rest.now) }
 {
-    let _ = take_byte(rest, b'\\');
-    take_any(rest)
+    let letter = match after_byte(text, b'\\') {
+        Some(escaped) => escaped,
+        None => text,
+    };
+    match letter.split_first() {
+        Some((_, rest)) => Some(rest),
+        None => None,
+    }
 }

@@ -1,6 +1,7 @@
 //! The text of the words of a type, and places in it and in the file.
 
-ghost use Rattle.std.specs.Prelude.{◌≡◌, IfOk, string_bytes};
+ghost use Rattle.std.specs.Prelude.{◌≡◌, ◌+◌, ◌-◌, ◌≤◌, ◌==◌, [], ◌∷◌, ◌++◌, take, length, count_by};
+ghost use Rattle.std.specs.Prelude.{IfOk, OnOk, string_bytes};
 ghost use Rattle.postcard_dyn_file.specs.Tokens.{spelling};
 
 use crate::error::{Fault, FileError, FileProblem, out_of_memory};
@@ -34,10 +35,13 @@ pub fn spelled(alloc: Global, words: &[Token]) -> Result<String, Fault>
 fn add(text: &mut String, word: &str, left: usize) -> Result<(), Fault>
     ensures { OnOk result (string_bytes text.new ≡ string_bytes text.old ++ (word.now ++ 32 ∷ [])) }
 {
-    if text.push_str(word).is_err() || text.push_str(" ").is_err() {
+    if text.push_str(word).is_err() {
         return Err(out_of_memory(left));
     }
-    Ok(())
+    match text.push_str(" ") {
+        Ok(()) => Ok(()),
+        Err(_) => Err(out_of_memory(left)),
+    }
 }
 
 /// Returns the place in the file of the word that has this character of the words' text, counted
@@ -56,20 +60,28 @@ pub fn left_of(words: &[Token], character: usize) -> usize {
     left
 }
 
-/// Returns the error of a fault, with its line and column.
-pub fn error_at(file: &[u8], fault: Fault) -> FileError {
+/// Returns the error of a fault, with its line and column, each counted from 1.
+pub fn error_at(file: &[u8], fault: Fault) -> FileError
+    ensures problem { result.problem ≡ fault.problem }
+    ensures line { result.line
+        ≡ count_by (λ b. b == 10) (take (length file.now - fault.left) file.now) + 1 }
+    ensures column { 1 ≤ result.column }
+{
     let before = &file[..file.len().saturating_sub(fault.left)];
-    let mut line = 1;
+    FileError {
+        problem: fault.problem,
+        line: before.iter().filter(|byte| **byte == b'\n').count() + 1,
+        column: character_of(last_line(before), 0),
+    }
+}
+
+/// Returns what follows the last new line, or the whole text if there is none.
+fn last_line(text: &[u8]) -> &[u8] {
     let mut start = 0;
-    for (index, byte) in before.iter().enumerate() {
+    for (index, byte) in text.iter().enumerate() {
         if *byte == b'\n' {
-            line += 1;
             start = index + 1;
         }
     }
-    FileError {
-        problem: fault.problem,
-        line,
-        column: character_of(&before[start..], 0),
-    }
+    &text[start..]
 }

@@ -1,7 +1,7 @@
 //! The words, signs and literals of a file of definitions.
 
-ghost use Rattle.std.specs.Prelude.{◌≡◌, Decides};
-ghost use Rattle.postcard_dyn_file.specs.Tokens.{Says, IsOpening, IsClosing, IsNext};
+ghost use Rattle.std.specs.Prelude.{Decides, IfSome, IfNone};
+ghost use Rattle.postcard_dyn_file.specs.Tokens.{Says, IsOpening, IsClosing, IsNext, Takes};
 
 /// A word, a sign or a literal of a file.
 #[derive(Clone, Copy, Debug)]
@@ -24,14 +24,20 @@ impl<'a> Token<'a> {
     pub fn is_opening(&self) -> bool
         ensures { Decides result (IsOpening self.now) }
     {
-        self.says(b"(") || self.says(b"[") || self.says(b"{")
+        match self.text {
+            b"(" | b"[" | b"{" => true,
+            _ => false,
+        }
     }
 
     /// Returns whether the token is `)`, `]` or `}`.
     pub fn is_closing(&self) -> bool
         ensures { Decides result (IsClosing self.now) }
     {
-        self.says(b")") || self.says(b"]") || self.says(b"}")
+        match self.text {
+            b")" | b"]" | b"}" => true,
+            _ => false,
+        }
     }
 }
 
@@ -42,5 +48,25 @@ pub fn is_next(tokens: &[Token], word: &[u8]) -> bool
     match tokens.split_first() {
         Some((first, _)) => first.says(word),
         None => false,
+    }
+}
+
+/// Returns the tokens after this word or sign, or `None` if the first is another.
+pub fn after_word<'a>(tokens: &'a [Token<'a>], word: &[u8]) -> Option<&'a [Token<'a>]>
+    ensures found { IfSome result (λ rest. Takes word.now tokens.now rest.now) }
+    ensures none { IfNone result (IsNext word.now tokens.now → ⊥) }
+{
+    match tokens.split_first() {
+        Some((first, rest)) if first.says(word) => Some(rest),
+        _ => None,
+    }
+}
+
+/// Returns the place of the first token: how many bytes of the file there are from it on. It is 0 at the
+/// end of the file.
+pub fn place_of(tokens: &[Token]) -> usize {
+    match tokens.split_first() {
+        Some((first, _)) => first.left,
+        None => 0,
     }
 }
