@@ -1,41 +1,41 @@
 -- Why the functions end: the depth that is left, and their order at one depth; and what each loop has written.
 use Rattle.std.proofs.Common.{◌+◌, ◌*◌}
 use Rattle.postcard_dyn_file.specs.Steps.{Steps}
-use Rattle.postcard_dyn_file.specs.Expands.{Inner, IsRow, VariantStep}
+use Rattle.postcard_dyn_file.specs.Expands.{Inner, Stops, Writes, VariantStep}
 use Rattle.postcard_dyn_file.proofs.expand.+expand.Given as goal
 
-abbrev pub decreases-expand_group : goal.decreases-expand_group
-decreases-expand_group l = 8 * l.depth
+abbrev pub decreases-write_group : goal.decreases-write_group
+decreases-write_group l = 8 * l.depth
 
-abbrev pub decreases-expand_content : goal.decreases-expand_content
-decreases-expand_content l = 8 * l.depth + 1
+abbrev pub decreases-write_content : goal.decreases-write_content
+decreases-write_content l = 8 * l.depth + 1
 
-abbrev pub decreases-expand_variant : goal.decreases-expand_variant
-decreases-expand_variant l = 8 * l.depth + 2
+abbrev pub decreases-write_variant : goal.decreases-write_variant
+decreases-write_variant l = 8 * l.depth + 2
 
-abbrev pub decreases-expand_struct : goal.decreases-expand_struct
-decreases-expand_struct l = 8 * l.depth + 1
+abbrev pub decreases-write_struct : goal.decreases-write_struct
+decreases-write_struct l = 8 * l.depth + 1
 
-abbrev pub decreases-expand_alias : goal.decreases-expand_alias
-decreases-expand_alias l = 8 * l.depth + 1
+abbrev pub decreases-write_alias : goal.decreases-write_alias
+decreases-write_alias l = 8 * l.depth + 1
 
-abbrev pub decreases-expand_enum : goal.decreases-expand_enum
-decreases-expand_enum l = 8 * l.depth + 3
+abbrev pub decreases-write_enum : goal.decreases-write_enum
+decreases-write_enum l = 8 * l.depth + 3
 
-abbrev pub decreases-expand_definition : goal.decreases-expand_definition
-decreases-expand_definition l = 8 * l.depth + 4
+abbrev pub decreases-write_definition : goal.decreases-write_definition
+decreases-write_definition l = 8 * l.depth + 4
 
-abbrev pub decreases-expand_name : goal.decreases-expand_name
-decreases-expand_name l = 8 * l.depth + 5
+abbrev pub decreases-write_word : goal.decreases-write_word
+decreases-write_word l = 8 * l.depth + 5
 
-abbrev pub decreases-expand_next : goal.decreases-expand_next
-decreases-expand_next l = 8 * l.depth + 6
+abbrev pub decreases-write_next : goal.decreases-write_next
+decreases-write_next l = 8 * l.depth + 6
 
-abbrev pub decreases-expand_row : goal.decreases-expand_row
-decreases-expand_row l = 8 * l.depth + 7
+abbrev pub decreases-write_row : goal.decreases-write_row
+decreases-write_row l = 8 * l.depth + 7
 
-abbrev pub invariant-expand_row-loop : goal.invariant-expand_row-loop
-invariant-expand_row-loop l = IsRow l.known (Inner l.known l.depth) l.is_alias (l.fn.rest.now, l.fn.out.items) (l.rest.now, l.out.items)
+abbrev pub invariant-write_row-loop : goal.invariant-write_row-loop
+invariant-write_row-loop l = Steps (λ a b. (Stops l.is_alias a.0 → ⊥) × Writes l.known (Inner l.known l.depth) a b) (l.tokens, l.fn.out.items) (l.rest, l.out.items)
 
-abbrev pub invariant-expand_enum-loop : goal.invariant-expand_enum-loop
-invariant-expand_enum-loop l = Steps (VariantStep (Inner l.known l.depth)) (l.initial.rest, l.initial.out.items) (l.rest, l.out.items)
+abbrev pub invariant-write_enum-loop : goal.invariant-write_enum-loop
+invariant-write_enum-loop l = Steps (VariantStep (Inner l.known l.depth)) (l.inner, l.initial.out.items) (l.rest, l.out.items)

@@ -1,7 +1,7 @@
 -- What was read doesn't end the item.
 use Rattle.postcard_dyn_file.specs.Steps.{Steps}
 use Rattle.postcard_dyn_file.specs.Items.{EndsItem, IsTree}
-use Rattle.postcard_dyn_file.proofs.definition.skip_item.Given as goal
+use Rattle.postcard_dyn_file.proofs.definition.after_item.Given as goal
 
 abbrev pub invariant-loop : goal.invariant-loop
-invariant-loop l = Steps (λ a b. (EndsItem a → ⊥) × IsTree a b) l.fn.rest.now l.rest.now
+invariant-loop l = Steps (λ a b. (EndsItem a → ⊥) × IsTree a b) l.tokens l.rest

@@ -2,7 +2,7 @@
 use Rattle.std.proofs.Common.{◌<◌}
 use Rattle.postcard_dyn_file.specs.Steps.{Steps}
 use Rattle.postcard_dyn_file.specs.Items.{BracketStep}
-use Rattle.postcard_dyn_file.proofs.definition.skip_tree.Given as goal
+use Rattle.postcard_dyn_file.proofs.definition.after_tree.Given as goal
 
 abbrev pub invariant-loop : goal.invariant-loop
-invariant-loop l = Steps (λ s t. BracketStep s t × (0 < t.0)) (0, l.fn.rest.now) (l.depth, l.rest.now)
+invariant-loop l = Steps (λ s t. BracketStep s t × (0 < t.0)) (0, l.tokens) (l.depth, l.rest)
