@@ -1,5 +1,5 @@
 -- The words that a type has once each name that the file defines is replaced by what it stands for.
-use Rattle.std.specs.Prelude.{◌≡◌, ℕ, zero, suc, Bool, true, false, ◌⊎◌, List, [], ◌∷◌, ◌++◌, codes, All, Contains}
+use Rattle.std.specs.Prelude.{◌≡◌, ℕ, zero, suc, Bool, true, false, ◌⊎◌, List, [], ◌∷◌, ◌++◌, drop, codes, All, Contains}
 use Rattle.postcard_dyn_file.specs.declared.token.Token.{Token}
 use Rattle.postcard_dyn_file.specs.declared.definition.Definition.{Definition}
 use Rattle.postcard_dyn_file.specs.declared.definition.Kind.{Kind}
@@ -93,8 +93,8 @@ SpellsAs Enum R body out after = SpellsEnum R body out after
 SpellsAs Alias R body out after = SpellsAlias R body out after
 
 -- What a definition stands for is written.
-abbrev pub Spells : Rows → Definition → List Token → List Token → Type 0
-Spells R d out after = (body : List Token) × IsAngles d.body.now body × SpellsAs d.kind R body out after
+abbrev pub Spells : List Token → Rows → Definition → List Token → List Token → Type 0
+Spells file R d out after = (body : List Token) × IsAngles (drop d.body file) body × SpellsAs d.kind R body out after
 
 -- The first token stands for nothing: it is `&`, `::`, or a name before `::`.
 abbrev pub IsDropped : List Token → Type 0
@@ -107,31 +107,31 @@ IsEmptyAngles ts = (rest : List Token) × Takes (codes "<") ts rest × IsNext (c
 
 -- What a word stands for is written: the name of a field, before `:`, stands for itself, and another word for what its definition
 -- does, or if it has none, for itself.
-abbrev pub IsWritten : List Definition → Rows → Token → List Token → List Token → List Token → Type 0
-IsWritten known R word rest out after =
+abbrev pub IsWritten : List Token → List Definition → Rows → Token → List Token → List Token → List Token → Type 0
+IsWritten file known R word rest out after =
     (IsNext (codes ":") rest × (after ≡ out ++ word ∷ []))
     ⊎ (((IsNext (codes ":") rest → ⊥) × All (λ d. Says word.text.now d.name → ⊥) known × (after ≡ out ++ word ∷ []))
-    ⊎ ((d : Definition) × (IsNext (codes ":") rest → ⊥) × Contains known d × Says word.text.now d.name × Spells R d out after))
+    ⊎ ((d : Definition) × (IsNext (codes ":") rest → ⊥) × Contains known d × Says word.text.now d.name × Spells file R d out after))
 
 -- What comes next is written: what brackets stand for, nothing, or what a word stands for.
-abbrev pub Writes : List Definition → Rows → State → State → Type 0
-Writes known R s u = (t : Token) × (after : List Token) × (s.0 ≡ t ∷ after)
+abbrev pub Writes : List Token → List Definition → Rows → State → State → Type 0
+Writes file known R s u = (t : Token) × (after : List Token) × (s.0 ≡ t ∷ after)
     × ((IsOpening t × IsGroup R s u)
     ⊎ ((IsDropped s.0 × (u.0 ≡ after) × (u.1 ≡ s.1))
     ⊎ ((IsNext (codes "pub") s.0 × IsVisibility s.0 u.0 × (u.1 ≡ s.1))
     ⊎ ((IsEmptyAngles s.0 × IsAngles s.0 u.0 × (u.1 ≡ s.1))
     ⊎ ((IsOpening t → ⊥) × (IsDropped s.0 → ⊥) × (IsNext (codes "pub") s.0 → ⊥) × (IsEmptyAngles s.0 → ⊥) × (u.0 ≡ after)
-    × IsWritten known R t after s.1 u.1)))))
+    × IsWritten file known R t after s.1 u.1)))))
 
 -- A row is written, up to where it stops.
-abbrev pub IsRow : List Definition → Rows → Bool → State → State → Type 0
-IsRow known R is_alias s u = Steps (λ a b. (Stops is_alias a.0 → ⊥) × Writes known R a b) s u × Stops is_alias u.0
+abbrev pub IsRow : List Token → List Definition → Rows → Bool → State → State → Type 0
+IsRow file known R is_alias s u = Steps (λ a b. (Stops is_alias a.0 → ⊥) × Writes file known R a b) s u × Stops is_alias u.0
 
 -- The rows in brackets, or in a type alias, that nest at most n deep.
-unfoldable pub Inner : List Definition → ℕ → Bool → State → State → Type 0
-Inner known zero is_alias s u = ⊥
-Inner known (suc n) is_alias s u = IsRow known (Inner known n) is_alias s u
+unfoldable pub Inner : List Token → List Definition → ℕ → Bool → State → State → Type 0
+Inner file known zero is_alias s u = ⊥
+Inner file known (suc n) is_alias s u = IsRow file known (Inner file known n) is_alias s u
 
 -- The words spell the type with this name.
-abbrev pub IsSpelledBy : List Definition → List ℕ → List Token → Type 0
-IsSpelledBy known name words = (d : Definition) × Contains known d × Says name d.name × Spells (Inner known 64) d [] words
+abbrev pub IsSpelledBy : List Token → List Definition → List ℕ → List Token → Type 0
+IsSpelledBy file known name words = (d : Definition) × Contains known d × Says name d.name × Spells file (Inner file known 64) d [] words

@@ -12,7 +12,7 @@ use Rattle.postcard_dyn_file.specs.Expands.{IsSpelledBy}
 -- The file is read as tokens, which have definitions, and the text is that of the words which the name stands for, with each name in them replaced.
 abbrev pub IsExpressionOf : List ℕ → List ℕ → List ℕ → Type 0
 IsExpressionOf file name text = (tokens : List Token) × (kept : List Token) × (known : List Definition) × (words : List Token)
-    × IsRead file tokens × IsWithoutAttributes tokens kept × AreDefinitions kept known × IsSpelledBy known name words × (text ≡ spelling words)
+    × IsRead file tokens × IsWithoutAttributes tokens kept × AreDefinitions kept known × IsSpelledBy kept known name words × (text ≡ spelling words)
 
 -- The name stands for the type of such a text.
 abbrev pub IsTypeOf : List ℕ → List ℕ → Schema → Type 0

@@ -1,5 +1,5 @@
 -- The items of a file, and those that define a type.
-use Rattle.std.specs.Prelude.{◌≡◌, ℕ, ◌+◌, ◌⊎◌, List, [], ◌∷◌, ◌++◌, codes, All}
+use Rattle.std.specs.Prelude.{◌≡◌, ℕ, ◌+◌, ◌⊎◌, List, [], ◌∷◌, ◌++◌, drop, codes, All}
 use Rattle.postcard_dyn_file.specs.declared.token.Token.{Token}
 use Rattle.postcard_dyn_file.specs.declared.definition.Definition.{Definition}
 use Rattle.postcard_dyn_file.specs.declared.definition.Kind.{Kind}
@@ -65,17 +65,17 @@ IsKeyword word Struct = word ≡ codes "struct"
 IsKeyword word Enum = word ≡ codes "enum"
 IsKeyword word Alias = word ≡ codes "type"
 
--- The tokens begin with this definition: its keyword, its name and its body.
-abbrev pub Declares : List Token → Definition → Type 0
-Declares item d = (after : List Token) × (keyword : Token) × IsVisibility item after × IsKeyword keyword.text.now d.kind × IsName d.name.text.now
-    × (after ≡ keyword ∷ d.name ∷ d.body.now)
+-- The item begins with this definition: its keyword, its name and its body, which goes on to the end of the file.
+abbrev pub Declares : List Token → List Token → Definition → Type 0
+Declares file item d = (after : List Token) × (keyword : Token) × IsVisibility item after × IsKeyword keyword.text.now d.kind × IsName d.name.text.now
+    × (after ≡ keyword ∷ d.name ∷ drop d.body file)
 
 -- The tokens that are left, and the definitions before them. The name of a new one differs from theirs.
-abbrev pub ItemStep : List Token × List Definition → List Token × List Definition → Type 0
-ItemStep s u = IsItem s.0 u.0
-    × ((((d : Definition) → Declares s.0 d → ⊥) × (u.1 ≡ s.1))
-    ⊎ ((d : Definition) × Declares s.0 d × All (λ e. Says d.name.text.now e.name → ⊥) s.1 × (u.1 ≡ s.1 ++ d ∷ [])))
+abbrev pub ItemStep : List Token → List Token × List Definition → List Token × List Definition → Type 0
+ItemStep file s u = IsItem s.0 u.0
+    × ((((d : Definition) → Declares file s.0 d → ⊥) × (u.1 ≡ s.1))
+    ⊎ ((d : Definition) × Declares file s.0 d × All (λ e. Says d.name.text.now e.name → ⊥) s.1 × (u.1 ≡ s.1 ++ d ∷ [])))
 
 -- The file's definitions, in their order.
 abbrev pub AreDefinitions : List Token → List Definition → Type 0
-AreDefinitions tokens known = Steps ItemStep (tokens, []) ([], known)
+AreDefinitions file known = Steps (ItemStep file) (file, []) ([], known)

@@ -1,9 +1,9 @@
 //! The definitions of a file: its items, and which of them define a type.
 //!
-//! A function whose name begins with `after_` returns the tokens after what its name says, if the
-//! tokens begin with it.
+//! A function whose name begins with `after_` returns the index of the token after what its name says,
+//! if that begins at the index `at`.
 
-ghost use Rattle.std.specs.Prelude.{List, All, Contains, Decides};
+ghost use Rattle.std.specs.Prelude.{◌≡◌, List, drop, All, Contains, Decides};
 ghost use Rattle.std.specs.Prelude.{IfOk, IfSome, IfNone};
 ghost use Rattle.postcard_dyn_file.specs.declared.definition.Definition.{Definition};
 ghost use Rattle.postcard_dyn_file.specs.declared.definition.Kind.{Kind};
@@ -15,7 +15,7 @@ ghost use Rattle.postcard_dyn_file.specs.Items.{IsScope, HasScope, IsKeyword, De
 ghost use Rattle.postcard_dyn_file.specs.Items.{EndsItem, AreDefinitions};
 
 use crate::error::{Fault, FileProblem, out_of_memory};
-use crate::token::{Token, after_word, is_next, place_of};
+use crate::token::{Token, after_word, is_next, place_of, token_from};
 use std::alloc::Global;
 
 /// What a definition defines.
@@ -51,8 +51,8 @@ pub struct Definition<'a> {
     pub kind: Kind,
     /// The name of the type.
     pub name: Token<'a>,
-    /// What follows the name, to the end of the file.
-    pub body: &'a [Token<'a>],
+    /// The index of the token after the name.
+    pub body: usize,
 }
 
 /// Returns the tokens without the attributes, as `#[derive(Debug)]` or `#![no_std]`.
@@ -63,73 +63,74 @@ pub struct Definition<'a> {
 /// that isn't closed, and with `OutOfMemory`.
 pub fn without_attributes<'a>(
     alloc: Global,
-    tokens: &'a [Token<'a>],
+    tokens: &[Token<'a>],
 ) -> Result<Vec<Token<'a>>, Fault>
     ensures { IfOk result (λ kept. IsWithoutAttributes tokens.now kept.items) }
 {
     let mut kept = Vec::new(alloc);
-    let mut rest = tokens;
+    let mut at = 0;
     for _ in 0..tokens.len() {
-        if rest.is_empty() {
-            return Ok(kept);
+        if at < tokens.len() {
+            at = keep_next(tokens, at, &mut kept)?;
         }
-        rest = keep_next(rest, &mut kept)?;
     }
-    if rest.is_empty() {
-        return Ok(kept);
+    if at < tokens.len() {
+        return Err(out_of_memory(place_of(tokens, at)));
     }
-    Err(out_of_memory(place_of(rest)))
+    Ok(kept)
 }
 
-/// Reads an attribute, or else a token, which it adds to the end of the list, and returns the tokens
+/// Reads an attribute, or else a token, which it adds to the end of the list, and returns the index
 /// after it.
 fn keep_next<'a>(
-    tokens: &'a [Token<'a>],
+    tokens: &[Token<'a>],
+    at: usize,
     kept: &mut Vec<Token<'a>>,
-) -> Result<&'a [Token<'a>], Fault>
-    ensures { IfOk result (λ rest. KeepStep (tokens.now, kept.old.items) (rest.now, kept.new.items)) }
+) -> Result<usize, Fault>
+    ensures { IfOk result (λ rest. KeepStep (drop at tokens.now, kept.old.items)
+        (drop rest tokens.now, kept.new.items)) }
 {
-    if is_next(tokens, b"#") {
-        return after_attribute(tokens);
+    if is_next(tokens, at, b"#") {
+        return after_attribute(tokens, at);
     }
-    let Some((first, rest)) = tokens.split_first() else {
+    let Some((first, rest)) = token_from(tokens, at) else {
         return Err(out_of_memory(0));
     };
-    match kept.push(*first) {
+    match kept.push(first) {
         Ok(()) => Ok(rest),
         Err(_) => Err(out_of_memory(first.left)),
     }
 }
 
-/// Returns the tokens after an attribute.
-fn after_attribute<'a>(tokens: &'a [Token<'a>]) -> Result<&'a [Token<'a>], Fault>
-    ensures { IfOk result (λ rest. IsAttribute tokens.now rest.now) }
+/// Returns the index after an attribute.
+fn after_attribute(tokens: &[Token], at: usize) -> Result<usize, Fault>
+    ensures { IfOk result (λ rest. IsAttribute (drop at tokens.now) (drop rest tokens.now)) }
 {
-    let left = place_of(tokens);
-    let Some(after) = after_word(tokens, b"#") else {
+    let left = place_of(tokens, at);
+    let Some(after) = after_word(tokens, at, b"#") else {
         return Err(out_of_memory(left));
     };
-    let brackets = match after_word(after, b"!") {
+    let brackets = match after_word(tokens, after, b"!") {
         Some(brackets) => brackets,
         None => after,
     };
-    if !is_next(brackets, b"[") {
+    if !is_next(tokens, brackets, b"[") {
         return Err(Fault {
             problem: FileProblem::AttributeExpected,
             left,
         });
     }
-    after_tree(brackets)
+    after_tree(tokens, brackets)
 }
 
-/// Returns the tokens after a token, and if it opens a bracket, after the one that closes it.
-fn after_tree<'a>(tokens: &'a [Token<'a>]) -> Result<&'a [Token<'a>], Fault>
-    ensures { IfOk result (λ rest. IsTree tokens.now rest.now) }
+/// Returns the index after a token, and if it opens a bracket, after the one that closes it.
+fn after_tree(tokens: &[Token], at: usize) -> Result<usize, Fault>
+    ensures { IfOk result (λ rest. IsTree (drop at tokens.now) (drop rest tokens.now)) }
 {
-    let mut rest = tokens;
+    let mut rest = at;
     let mut depth: usize = 0;
-    for _ in 0..tokens.len() {
-        let (next, after) = after_token(rest, depth)?;
+    for _ in at..tokens.len() {
+        let (next, after) = after_token(tokens, rest, depth)?;
         if next == 0 {
             return Ok(after);
         }
@@ -138,22 +139,23 @@ fn after_tree<'a>(tokens: &'a [Token<'a>]) -> Result<&'a [Token<'a>], Fault>
     }
     Err(Fault {
         problem: FileProblem::BracketOpen,
-        left: place_of(tokens),
+        left: place_of(tokens, at),
     })
 }
 
-/// Returns how many brackets are open after a token, if `depth` are open before, and the tokens after
+/// Returns how many brackets are open after a token, if `depth` are open before, and the index after
 /// it.
-fn after_token<'a>(
-    tokens: &'a [Token<'a>],
-    depth: usize,
-) -> Result<(usize, &'a [Token<'a>]), Fault>
-    ensures { IfOk result (λ found. BracketStep (depth, tokens.now) (found.0, found.1.now)) }
+fn after_token(tokens: &[Token], at: usize, depth: usize) -> Result<(usize, usize), Fault>
+    ensures { IfOk result (λ found. BracketStep (depth, drop at tokens.now)
+        (found.0, drop found.1 tokens.now)) }
 {
-    let Some((first, rest)) = tokens.split_first() else {
-        return Err(out_of_memory(0));
+    let Some((first, rest)) = token_from(tokens, at) else {
+        return Err(Fault {
+            problem: FileProblem::BracketOpen,
+            left: 0,
+        });
     };
-    match depth_after(first, depth) {
+    match depth_after(&first, depth) {
         Some(depth) => Ok((depth, rest)),
         None => Err(Fault {
             problem: FileProblem::NotOpen,
@@ -185,34 +187,35 @@ fn depth_after(token: &Token, depth: usize) -> Option<usize>
 /// a name, with `DefinedTwice` at a name that a definition before has, and with `OutOfMemory`.
 pub fn definitions<'a>(
     alloc: Global,
-    tokens: &'a [Token<'a>],
+    tokens: &[Token<'a>],
 ) -> Result<Vec<Definition<'a>>, Fault>
     ensures { IfOk result (λ known. AreDefinitions tokens.now known.items) }
 {
     let mut known = Vec::new(alloc);
-    let mut rest = tokens;
+    let mut at = 0;
     for _ in 0..tokens.len() {
-        if rest.is_empty() {
-            return Ok(known);
+        if at < tokens.len() {
+            at = read_item(tokens, at, &mut known)?;
         }
-        rest = read_item(rest, &mut known)?;
     }
-    if rest.is_empty() {
-        return Ok(known);
+    if at < tokens.len() {
+        return Err(out_of_memory(place_of(tokens, at)));
     }
-    Err(out_of_memory(place_of(rest)))
+    Ok(known)
 }
 
 /// Reads an item, adds what it defines, if it is a definition, to the end of the list, and returns the
-/// tokens after it.
+/// index after it.
 fn read_item<'a>(
-    tokens: &'a [Token<'a>],
+    tokens: &[Token<'a>],
+    at: usize,
     known: &mut Vec<Definition<'a>>,
-) -> Result<&'a [Token<'a>], Fault>
-    ensures { IfOk result (λ rest. ItemStep (tokens.now, known.old.items) (rest.now, known.new.items)) }
+) -> Result<usize, Fault>
+    ensures { IfOk result (λ rest. ItemStep tokens.now (drop at tokens.now, known.old.items)
+        (drop rest tokens.now, known.new.items)) }
 {
-    let rest = after_item(tokens)?;
-    let Some(definition) = declared(tokens)? else {
+    let rest = after_item(tokens, at)?;
+    let Some(definition) = declared(tokens, at)? else {
         return Ok(rest);
     };
     let left = definition.name.left;
@@ -228,55 +231,55 @@ fn read_item<'a>(
     }
 }
 
-/// Returns the tokens after an item: all up to the first `;` or the end of the first braces, outside of
-/// other brackets.
-fn after_item<'a>(tokens: &'a [Token<'a>]) -> Result<&'a [Token<'a>], Fault>
-    ensures { IfOk result (λ rest. IsItem tokens.now rest.now) }
+/// Returns the index after an item: after all up to the first `;` or the end of the first braces, outside
+/// of other brackets.
+fn after_item(tokens: &[Token], at: usize) -> Result<usize, Fault>
+    ensures { IfOk result (λ rest. IsItem (drop at tokens.now) (drop rest tokens.now)) }
 {
-    let mut rest = tokens;
+    let mut rest = at;
     for _ in 0..tokens.len() {
-        if ends_item(rest) {
-            return after_tree(rest);
+        if ends_item(tokens, rest) {
+            return after_tree(tokens, rest);
         }
-        rest = after_tree(rest)?;
+        if rest >= tokens.len() {
+            break;
+        }
+        rest = after_tree(tokens, rest)?;
     }
     Err(Fault {
         problem: FileProblem::ItemOpen,
-        left: place_of(tokens),
+        left: place_of(tokens, at),
     })
 }
 
-/// Returns whether `;` or `{` comes next.
-fn ends_item(tokens: &[Token]) -> bool
-    ensures { Decides result (EndsItem tokens.now) }
+/// Returns whether `;` or `{` is at the index.
+fn ends_item(tokens: &[Token], at: usize) -> bool
+    ensures { Decides result (EndsItem (drop at tokens.now)) }
 {
-    if is_next(tokens, b";") {
+    if is_next(tokens, at, b";") {
         return true;
     }
-    is_next(tokens, b"{")
+    is_next(tokens, at, b"{")
 }
 
-/// Returns what the item defines that begins here, or `None` if it is no definition.
-fn declared<'a>(item: &'a [Token<'a>]) -> Result<Option<Definition<'a>>, Fault>
-    ensures found { IfOk result (λ found. IfSome found (λ d. Declares item.now d)) }
+/// Returns what the item defines that begins at the index, or `None` if it is no definition.
+fn declared<'a>(tokens: &[Token<'a>], at: usize) -> Result<Option<Definition<'a>>, Fault>
+    ensures found { IfOk result (λ found.
+        IfSome found (λ d. Declares tokens.now (drop at tokens.now) d)) }
     ensures none { IfOk result (λ found. IfNone found
-        ((d : Definition) → Declares item.now d → ⊥)) }
+        ((d : Definition) → Declares tokens.now (drop at tokens.now) d → ⊥)) }
 {
-    let Some((keyword, after)) = after_visibility(item).split_first() else {
+    let Some((keyword, after)) = token_from(tokens, after_visibility(tokens, at)) else {
         return Ok(None);
     };
     let Some(kind) = Kind::from_keyword(keyword.text) else {
         return Ok(None);
     };
-    match after.split_first() {
-        Some((name, body)) if is_name(name.text) => Ok(Some(Definition {
-            kind,
-            name: *name,
-            body,
-        })),
+    match token_from(tokens, after) {
+        Some((name, body)) if is_name(name.text) => Ok(Some(Definition { kind, name, body })),
         _ => Err(Fault {
             problem: FileProblem::NameExpected,
-            left: place_of(after),
+            left: place_of(tokens, after),
         }),
     }
 }
@@ -291,29 +294,30 @@ pub fn is_name(word: &[u8]) -> bool
     }
 }
 
-/// Returns the tokens after `pub` and `(crate)`, `(self)` or `(super)`, if they come.
-pub fn after_visibility<'a>(tokens: &'a [Token<'a>]) -> &'a [Token<'a>]
-    ensures { IsVisibility tokens.now result.now }
+/// Returns the index after `pub` and `(crate)`, `(self)` or `(super)`, if they come.
+pub fn after_visibility(tokens: &[Token], at: usize) -> usize
+    ensures { IsVisibility (drop at tokens.now) (drop result tokens.now) }
 {
-    let Some(after) = after_word(tokens, b"pub") else {
-        return tokens;
+    let Some(after) = after_word(tokens, at, b"pub") else {
+        return at;
     };
-    match after_scope(after) {
+    match after_scope(tokens, after) {
         Some(rest) => rest,
         None => after,
     }
 }
 
-/// Returns the tokens after `(crate)`, `(self)` or `(super)`.
-fn after_scope<'a>(tokens: &'a [Token<'a>]) -> Option<&'a [Token<'a>]>
-    ensures found { IfSome result (λ rest. HasScope tokens.now rest.now) }
-    ensures none { IfNone result ((rest : List Token) → HasScope tokens.now rest → ⊥) }
+/// Returns the index after `(crate)`, `(self)` or `(super)`.
+fn after_scope(tokens: &[Token], at: usize) -> Option<usize>
+    ensures found { IfSome result (λ rest. HasScope (drop at tokens.now) (drop rest tokens.now)) }
+    ensures none { IfNone result
+        ((rest : List Token) → HasScope (drop at tokens.now) rest → ⊥) }
 {
-    let Some(inner) = after_word(tokens, b"(") else {
+    let Some(inner) = after_word(tokens, at, b"(") else {
         return None;
     };
-    match inner.split_first() {
-        Some((scope, after)) if is_scope(scope) => after_word(after, b")"),
+    match token_from(tokens, inner) {
+        Some((scope, after)) if is_scope(&scope) => after_word(tokens, after, b")"),
         _ => None,
     }
 }

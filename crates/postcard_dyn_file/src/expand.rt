@@ -1,10 +1,10 @@
 //! The words of a type, in which each name that the file defines is replaced by what it stands for.
 //!
-//! A function whose name begins with `write_` adds what the tokens stand for to the end of `out`, and
-//! returns the tokens after them. `within` has the names that are being replaced, and `depth` is how
-//! deep brackets may nest.
+//! A function whose name begins with `write_` adds what the tokens from the index `at` on stand for to
+//! the end of `out`, and returns the index after them. `known` has the definitions of the file,
+//! `within` the names that are being replaced, and `depth` is how deep brackets may nest.
 
-ghost use Rattle.std.specs.Prelude.{◌≡◌, [], ◌∷◌, ◌++◌, codes, Decides, OnOk, IfOk};
+ghost use Rattle.std.specs.Prelude.{◌≡◌, [], ◌∷◌, ◌++◌, drop, codes, Decides, OnOk, IfOk};
 ghost use Rattle.postcard_dyn_file.specs.Expands.{Inner, IsRow, Writes, IsGroup, Spells};
 ghost use Rattle.postcard_dyn_file.specs.Expands.{SpellsStruct, SpellsEnum, SpellsAlias, IsVariant};
 ghost use Rattle.postcard_dyn_file.specs.Expands.{IsContent, IsDiscriminant, IsAngles};
@@ -14,7 +14,7 @@ ghost use Rattle.postcard_dyn_file.specs.Tokens.{Takes};
 
 use crate::definition::{Definition, Kind, after_visibility, is_name, named};
 use crate::error::{Fault, FileProblem, out_of_memory};
-use crate::token::{Token, after_word, is_next, place_of};
+use crate::token::{Token, after_word, is_next, place_of, token_from};
 use postcard_dyn_schema::Problem;
 use std::alloc::Global;
 
@@ -32,10 +32,11 @@ const MAX_WORDS: usize = 65_536;
 /// [`FileProblem`] says, where the definition, or one that it needs, is wrong.
 pub fn words_of<'a>(
     alloc: Global,
+    tokens: &[Token<'a>],
     known: &[Definition<'a>],
     name: &[u8],
 ) -> Result<Vec<Token<'a>>, Fault>
-    ensures { IfOk result (λ words. IsSpelledBy known.now name.now words.items) }
+    ensures { IfOk result (λ words. IsSpelledBy tokens.now known.now name.now words.items) }
 {
     let Some(definition) = named(known, name) else {
         return Err(Fault {
@@ -46,46 +47,47 @@ pub fn words_of<'a>(
     let mut within = Vec::new(alloc);
     let mut out = Vec::new(alloc);
     push(&mut within, definition.name)?;
-    write_definition(known, &definition, MAX_DEPTH, &mut within, &mut out)?;
+    write_definition(tokens, known, &definition, MAX_DEPTH, &mut within, &mut out)?;
     Ok(out)
 }
 
 /// Adds what a definition stands for.
 #[cycle(expand)]
 fn write_definition<'a>(
+    tokens: &[Token<'a>],
     known: &[Definition<'a>],
     definition: &Definition<'a>,
     depth: usize,
     within: &mut Vec<Token<'a>>,
     out: &mut Vec<Token<'a>>,
 ) -> Result<(), Fault>
-    ensures { OnOk result (Spells (Inner known.now depth) definition.now
+    ensures { OnOk result (Spells tokens.now (Inner tokens.now known.now depth) definition.now
         out.old.items out.new.items) }
 {
-    let body = after_angles(definition.body)?;
+    let body = after_angles(tokens, definition.body)?;
     match definition.kind {
-        Kind::Struct => write_struct(known, body, depth, within, out),
-        Kind::Enum => write_enum(known, body, depth, within, out),
-        Kind::Alias => write_alias(known, body, depth, within, out),
+        Kind::Struct => write_struct(tokens, known, body, depth, within, out),
+        Kind::Enum => write_enum(tokens, known, body, depth, within, out),
+        Kind::Alias => write_alias(tokens, known, body, depth, within, out),
     }
 }
 
-/// Returns the tokens after `<` and `>`, between which only lifetimes were, if they come.
+/// Returns the index after `<` and `>`, between which only lifetimes were, if they come.
 ///
 /// # Errors
 ///
 /// Fails with `Generic` at a `<` without `>` behind it.
-fn after_angles<'a>(tokens: &'a [Token<'a>]) -> Result<&'a [Token<'a>], Fault>
-    ensures { IfOk result (λ rest. IsAngles tokens.now rest.now) }
+fn after_angles(tokens: &[Token], at: usize) -> Result<usize, Fault>
+    ensures { IfOk result (λ rest. IsAngles (drop at tokens.now) (drop rest tokens.now)) }
 {
-    let Some(inner) = after_word(tokens, b"<") else {
-        return Ok(tokens);
+    let Some(inner) = after_word(tokens, at, b"<") else {
+        return Ok(at);
     };
-    match after_word(inner, b">") {
+    match after_word(tokens, inner, b">") {
         Some(rest) => Ok(rest),
         None => Err(Fault {
             problem: FileProblem::Generic,
-            left: place_of(tokens),
+            left: place_of(tokens, at),
         }),
     }
 }
@@ -93,76 +95,79 @@ fn after_angles<'a>(tokens: &'a [Token<'a>]) -> Result<&'a [Token<'a>], Fault>
 /// Adds what a struct stands for, where `body` follows its name.
 #[cycle(expand)]
 fn write_struct<'a>(
+    tokens: &[Token<'a>],
     known: &[Definition<'a>],
-    body: &'a [Token<'a>],
+    body: usize,
     depth: usize,
     within: &mut Vec<Token<'a>>,
     out: &mut Vec<Token<'a>>,
 ) -> Result<(), Fault>
-    ensures { OnOk result (SpellsStruct (Inner known.now depth) body.now
+    ensures { OnOk result (SpellsStruct (Inner tokens.now known.now depth) (drop body tokens.now)
         out.old.items out.new.items) }
 {
-    let left = place_of(body);
-    if is_next(body, b";") {
+    let left = place_of(tokens, body);
+    if is_next(tokens, body, b";") {
         return push_unit(out, left);
     }
-    if !is_next(body, b"{") && !is_next(body, b"(") {
+    if !is_next(tokens, body, b"{") && !is_next(tokens, body, b"(") {
         return Err(Fault {
             problem: FileProblem::BodyExpected,
             left,
         });
     }
-    write_group(known, body, depth, within, out)?;
+    write_group(tokens, known, body, depth, within, out)?;
     Ok(())
 }
 
 /// Adds what a type alias stands for, where `body` follows its name.
 #[cycle(expand)]
 fn write_alias<'a>(
+    tokens: &[Token<'a>],
     known: &[Definition<'a>],
-    body: &'a [Token<'a>],
+    body: usize,
     depth: usize,
     within: &mut Vec<Token<'a>>,
     out: &mut Vec<Token<'a>>,
 ) -> Result<(), Fault>
-    ensures { OnOk result (SpellsAlias (Inner known.now depth) body.now
+    ensures { OnOk result (SpellsAlias (Inner tokens.now known.now depth) (drop body tokens.now)
         out.old.items out.new.items) }
 {
-    let Some(inner) = after_word(body, b"=") else {
+    let Some(inner) = after_word(tokens, body, b"=") else {
         return Err(Fault {
             problem: FileProblem::EqualsExpected,
-            left: place_of(body),
+            left: place_of(tokens, body),
         });
     };
-    let left = place_of(inner);
+    let left = place_of(tokens, inner);
     if depth == 0 {
         return Err(too_deep(left));
     }
     push_sign(out, b"(", left)?;
-    let after = write_row(known, inner, true, depth - 1, within, out)?;
-    if !is_next(after, b";") {
+    let after = write_row(tokens, known, inner, true, depth - 1, within, out)?;
+    if !is_next(tokens, after, b";") {
         return Err(Fault {
             problem: FileProblem::SemicolonExpected,
-            left: place_of(after),
+            left: place_of(tokens, after),
         });
     }
-    push_sign(out, b")", place_of(after))
+    push_sign(out, b")", place_of(tokens, after))
 }
 
 /// Adds what an enum stands for, where `body` follows its name.
 #[cycle(expand)]
 fn write_enum<'a>(
+    tokens: &[Token<'a>],
     known: &[Definition<'a>],
-    body: &'a [Token<'a>],
+    body: usize,
     depth: usize,
     within: &mut Vec<Token<'a>>,
     out: &mut Vec<Token<'a>>,
 ) -> Result<(), Fault>
-    ensures { OnOk result (SpellsEnum (Inner known.now depth) body.now
+    ensures { OnOk result (SpellsEnum (Inner tokens.now known.now depth) (drop body tokens.now)
         out.old.items out.new.items) }
 {
-    let left = place_of(body);
-    let Some(inner) = after_word(body, b"{") else {
+    let left = place_of(tokens, body);
+    let Some(inner) = after_word(tokens, body, b"{") else {
         return Err(Fault {
             problem: FileProblem::BraceExpected,
             left,
@@ -170,12 +175,12 @@ fn write_enum<'a>(
     };
     push_sign(out, b"(", left)?;
     let mut rest = inner;
-    for _ in 0..inner.len() {
-        let after = write_variant(known, rest, depth, within, out)?;
-        if is_enum_end(after) {
+    for _ in 0..tokens.len() {
+        let after = write_variant(tokens, known, rest, depth, within, out)?;
+        if is_enum_end(tokens, after) {
             return push_sign(out, b")", left);
         }
-        rest = after_comma(after)?;
+        rest = after_comma(tokens, after)?;
     }
     Err(Fault {
         problem: FileProblem::BracketOpen,
@@ -184,24 +189,24 @@ fn write_enum<'a>(
 }
 
 /// Returns whether the enum ends behind a variant: whether `}` comes next, or `,` and then `}`.
-fn is_enum_end(tokens: &[Token]) -> bool
-    ensures { Decides result (IsEnumEnd tokens.now) }
+fn is_enum_end(tokens: &[Token], at: usize) -> bool
+    ensures { Decides result (IsEnumEnd (drop at tokens.now)) }
 {
-    match after_word(tokens, b",") {
-        Some(rest) => is_next(rest, b"}"),
-        None => is_next(tokens, b"}"),
+    match after_word(tokens, at, b",") {
+        Some(rest) => is_next(tokens, rest, b"}"),
+        None => is_next(tokens, at, b"}"),
     }
 }
 
 /// Returns the tokens after a comma, which has to stand between two variants.
-fn after_comma<'a>(tokens: &'a [Token<'a>]) -> Result<&'a [Token<'a>], Fault>
-    ensures { IfOk result (λ rest. Takes (codes ",") tokens.now rest.now) }
+fn after_comma(tokens: &[Token], at: usize) -> Result<usize, Fault>
+    ensures { IfOk result (λ rest. Takes (codes ",") (drop at tokens.now) (drop rest tokens.now)) }
 {
-    match after_word(tokens, b",") {
+    match after_word(tokens, at, b",") {
         Some(rest) => Ok(rest),
         None => Err(Fault {
             problem: FileProblem::CommaOrBrace,
-            left: place_of(tokens),
+            left: place_of(tokens, at),
         }),
     }
 }
@@ -209,25 +214,26 @@ fn after_comma<'a>(tokens: &'a [Token<'a>]) -> Result<&'a [Token<'a>], Fault>
 /// Adds `|` and what a variant stands for.
 #[cycle(expand)]
 fn write_variant<'a>(
+    tokens: &[Token<'a>],
     known: &[Definition<'a>],
-    tokens: &'a [Token<'a>],
+    at: usize,
     depth: usize,
     within: &mut Vec<Token<'a>>,
     out: &mut Vec<Token<'a>>,
-) -> Result<&'a [Token<'a>], Fault>
-    ensures { IfOk result (λ rest. IsVariant (Inner known.now depth) (tokens.now, out.old.items)
-        (rest.now, out.new.items)) }
+) -> Result<usize, Fault>
+    ensures { IfOk result (λ rest. IsVariant (Inner tokens.now known.now depth) (drop at tokens.now, out.old.items)
+        (drop rest tokens.now, out.new.items)) }
 {
-    let Some((name, after)) = tokens.split_first() else {
+    let Some((name, after)) = token_from(tokens, at) else {
         return Err(variant_expected(0));
     };
     if name.is_closing() {
         return Err(variant_expected(name.left));
     }
     push_sign(out, b"|", name.left)?;
-    push(out, *name)?;
-    let rest = write_content(known, after, depth, within, out)?;
-    Ok(after_discriminant(rest))
+    push(out, name)?;
+    let rest = write_content(tokens, known, after, depth, within, out)?;
+    Ok(after_discriminant(tokens, rest))
 }
 
 /// Returns the fault that a variant is missing.
@@ -241,33 +247,34 @@ fn variant_expected(left: usize) -> Fault {
 /// Adds what the content of a variant stands for, if it has one.
 #[cycle(expand)]
 fn write_content<'a>(
+    tokens: &[Token<'a>],
     known: &[Definition<'a>],
-    tokens: &'a [Token<'a>],
+    at: usize,
     depth: usize,
     within: &mut Vec<Token<'a>>,
     out: &mut Vec<Token<'a>>,
-) -> Result<&'a [Token<'a>], Fault>
-    ensures { IfOk result (λ rest. IsContent (Inner known.now depth) (tokens.now, out.old.items)
-        (rest.now, out.new.items)) }
+) -> Result<usize, Fault>
+    ensures { IfOk result (λ rest. IsContent (Inner tokens.now known.now depth) (drop at tokens.now, out.old.items)
+        (drop rest tokens.now, out.new.items)) }
 {
-    if !is_next(tokens, b"(") && !is_next(tokens, b"{") {
-        return Ok(tokens);
+    if !is_next(tokens, at, b"(") && !is_next(tokens, at, b"{") {
+        return Ok(at);
     }
-    write_group(known, tokens, depth, within, out)
+    write_group(tokens, known, at, depth, within, out)
 }
 
 /// Returns the tokens after `=` and the number behind it, if they come.
-fn after_discriminant<'a>(tokens: &'a [Token<'a>]) -> &'a [Token<'a>]
-    ensures { IsDiscriminant tokens.now result.now }
+fn after_discriminant(tokens: &[Token], at: usize) -> usize
+    ensures { IsDiscriminant (drop at tokens.now) (drop result tokens.now) }
 {
-    let Some(after) = after_word(tokens, b"=") else {
-        return tokens;
+    let Some(after) = after_word(tokens, at, b"=") else {
+        return at;
     };
-    let number = match after_word(after, b"-") {
+    let number = match after_word(tokens, after, b"-") {
         Some(number) => number,
         None => after,
     };
-    match number.split_first() {
+    match token_from(tokens, number) {
         Some((_, rest)) => rest,
         None => number,
     }
@@ -276,30 +283,31 @@ fn after_discriminant<'a>(tokens: &'a [Token<'a>]) -> &'a [Token<'a>]
 /// Adds what a bracket, all up to the one that closes it, and that one stand for.
 #[cycle(expand)]
 fn write_group<'a>(
+    tokens: &[Token<'a>],
     known: &[Definition<'a>],
-    tokens: &'a [Token<'a>],
+    at: usize,
     depth: usize,
     within: &mut Vec<Token<'a>>,
     out: &mut Vec<Token<'a>>,
-) -> Result<&'a [Token<'a>], Fault>
-    ensures { IfOk result (λ rest. IsGroup (Inner known.now depth) (tokens.now, out.old.items)
-        (rest.now, out.new.items)) }
+) -> Result<usize, Fault>
+    ensures { IfOk result (λ rest. IsGroup (Inner tokens.now known.now depth) (drop at tokens.now, out.old.items)
+        (drop rest tokens.now, out.new.items)) }
 {
-    let left = place_of(tokens);
-    let Some((opening, inner)) = tokens.split_first() else {
+    let left = place_of(tokens, at);
+    let Some((opening, inner)) = token_from(tokens, at) else {
         return Err(out_of_memory(left));
     };
-    if opening.says(b"{") && is_next(inner, b"}") {
-        return write_empty(inner, left, out);
+    if opening.says(b"{") && is_next(tokens, inner, b"}") {
+        return write_empty(tokens, inner, left, out);
     }
     if depth == 0 {
         return Err(too_deep(left));
     }
-    push(out, *opening)?;
-    let after = write_row(known, inner, false, depth - 1, within, out)?;
-    match after.split_first() {
+    push(out, opening)?;
+    let after = write_row(tokens, known, inner, false, depth - 1, within, out)?;
+    match token_from(tokens, after) {
         Some((closing, rest)) if closing.is_closing() => {
-            push(out, *closing)?;
+            push(out, closing)?;
             Ok(rest)
         }
         _ => Err(Fault {
@@ -311,14 +319,15 @@ fn write_group<'a>(
 
 /// Adds `()` in the place of `{}`, where `inner` begins with the `}`.
 fn write_empty<'a>(
-    inner: &'a [Token<'a>],
+    tokens: &[Token<'a>],
+    inner: usize,
     left: usize,
     out: &mut Vec<Token<'a>>,
-) -> Result<&'a [Token<'a>], Fault>
-    ensures { IfOk result (λ rest. Takes (codes "}") inner.now rest.now
+) -> Result<usize, Fault>
+    ensures { IfOk result (λ rest. Takes (codes "}") (drop inner tokens.now) (drop rest tokens.now)
         × AddsUnit out.old.items out.new.items) }
 {
-    let Some(rest) = after_word(inner, b"}") else {
+    let Some(rest) = after_word(tokens, inner, b"}") else {
         return Err(out_of_memory(left));
     };
     push_unit(out, left)?;
@@ -328,37 +337,38 @@ fn write_empty<'a>(
 /// Adds what all up to a bracket that closes one before, or for an alias also up to a `;`, stand for.
 #[cycle(expand)]
 fn write_row<'a>(
+    tokens: &[Token<'a>],
     known: &[Definition<'a>],
-    tokens: &'a [Token<'a>],
+    at: usize,
     is_alias: bool,
     depth: usize,
     within: &mut Vec<Token<'a>>,
     out: &mut Vec<Token<'a>>,
-) -> Result<&'a [Token<'a>], Fault>
-    ensures { IfOk result (λ rest. IsRow known.now (Inner known.now depth) is_alias
-        (tokens.now, out.old.items) (rest.now, out.new.items)) }
+) -> Result<usize, Fault>
+    ensures { IfOk result (λ rest. IsRow tokens.now known.now (Inner tokens.now known.now depth) is_alias
+        (drop at tokens.now, out.old.items) (drop rest tokens.now, out.new.items)) }
 {
-    let mut rest = tokens;
+    let mut rest = at;
     for _ in 0..tokens.len() {
-        if stops(rest, is_alias) {
+        if stops(tokens, rest, is_alias) {
             return Ok(rest);
         }
-        rest = write_next(known, rest, depth, within, out)?;
+        rest = write_next(tokens, known, rest, depth, within, out)?;
     }
     Err(Fault {
         problem: FileProblem::BracketOpen,
-        left: place_of(tokens),
+        left: place_of(tokens, at),
     })
 }
 
 /// Returns whether a row ends before these tokens.
-fn stops(tokens: &[Token], is_alias: bool) -> bool
-    ensures { Decides result (Stops is_alias tokens.now) }
+fn stops(tokens: &[Token], at: usize, is_alias: bool) -> bool
+    ensures { Decides result (Stops is_alias (drop at tokens.now)) }
 {
-    if is_alias && is_next(tokens, b";") {
+    if is_alias && is_next(tokens, at, b";") {
         return true;
     }
-    match tokens.split_first() {
+    match token_from(tokens, at) {
         Some((first, _)) => first.is_closing(),
         None => true,
     }
@@ -367,53 +377,54 @@ fn stops(tokens: &[Token], is_alias: bool) -> bool
 /// Adds what comes next in a row stands for.
 #[cycle(expand)]
 fn write_next<'a>(
+    tokens: &[Token<'a>],
     known: &[Definition<'a>],
-    tokens: &'a [Token<'a>],
+    at: usize,
     depth: usize,
     within: &mut Vec<Token<'a>>,
     out: &mut Vec<Token<'a>>,
-) -> Result<&'a [Token<'a>], Fault>
-    ensures { IfOk result (λ rest. Writes known.now (Inner known.now depth)
-        (tokens.now, out.old.items) (rest.now, out.new.items)) }
+) -> Result<usize, Fault>
+    ensures { IfOk result (λ rest. Writes tokens.now known.now (Inner tokens.now known.now depth)
+        (drop at tokens.now, out.old.items) (drop rest tokens.now, out.new.items)) }
 {
-    let Some((first, rest)) = tokens.split_first() else {
+    let Some((first, rest)) = token_from(tokens, at) else {
         return Err(out_of_memory(0));
     };
     if first.is_opening() {
-        return write_group(known, tokens, depth, within, out);
+        return write_group(tokens, known, at, depth, within, out);
     }
-    if is_dropped(tokens) {
+    if is_dropped(tokens, at) {
         return Ok(rest);
     }
-    if is_next(tokens, b"pub") {
-        return Ok(after_visibility(tokens));
+    if is_next(tokens, at, b"pub") {
+        return Ok(after_visibility(tokens, at));
     }
-    if is_empty_angles(tokens) {
-        return after_angles(tokens);
+    if is_empty_angles(tokens, at) {
+        return after_angles(tokens, at);
     }
-    write_word(known, first, rest, depth, within, out)?;
+    write_word(tokens, known, &first, rest, depth, within, out)?;
     Ok(rest)
 }
 
 /// Returns whether the first token stands for nothing: `&`, `::`, or a name before `::`.
-fn is_dropped(tokens: &[Token]) -> bool
-    ensures { Decides result (IsDropped tokens.now) }
+fn is_dropped(tokens: &[Token], at: usize) -> bool
+    ensures { Decides result (IsDropped (drop at tokens.now)) }
 {
-    if is_next(tokens, b"&") || is_next(tokens, b"::") {
+    if is_next(tokens, at, b"&") || is_next(tokens, at, b"::") {
         return true;
     }
-    match tokens.split_first() {
-        Some((first, rest)) => is_name(first.text) && is_next(rest, b"::"),
+    match token_from(tokens, at) {
+        Some((first, rest)) => is_name(first.text) && is_next(tokens, rest, b"::"),
         None => false,
     }
 }
 
 /// Returns whether the first two tokens are `<` and `>`.
-fn is_empty_angles(tokens: &[Token]) -> bool
-    ensures { Decides result (IsEmptyAngles tokens.now) }
+fn is_empty_angles(tokens: &[Token], at: usize) -> bool
+    ensures { Decides result (IsEmptyAngles (drop at tokens.now)) }
 {
-    match after_word(tokens, b"<") {
-        Some(rest) => is_next(rest, b">"),
+    match after_word(tokens, at, b"<") {
+        Some(rest) => is_next(tokens, rest, b">"),
         None => false,
     }
 }
@@ -422,24 +433,25 @@ fn is_empty_angles(tokens: &[Token]) -> bool
 /// definition does, or if it has none, for itself.
 #[cycle(expand)]
 fn write_word<'a>(
+    tokens: &[Token<'a>],
     known: &[Definition<'a>],
     word: &Token<'a>,
-    rest: &'a [Token<'a>],
+    rest: usize,
     depth: usize,
     within: &mut Vec<Token<'a>>,
     out: &mut Vec<Token<'a>>,
 ) -> Result<(), Fault>
-    ensures { OnOk result (IsWritten known.now (Inner known.now depth) word.now rest.now
+    ensures { OnOk result (IsWritten tokens.now known.now (Inner tokens.now known.now depth) word.now (drop rest tokens.now)
         out.old.items out.new.items) }
 {
-    if is_next(rest, b":") {
+    if is_next(tokens, rest, b":") {
         return push(out, *word);
     }
     let Some(definition) = named(known, word.text) else {
         return push(out, *word);
     };
     enter(within, word)?;
-    write_definition(known, &definition, depth, within, out)?;
+    write_definition(tokens, known, &definition, depth, within, out)?;
     let _ = within.pop();
     Ok(())
 }

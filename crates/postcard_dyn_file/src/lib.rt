@@ -103,7 +103,7 @@ fn read(alloc: Global, file: &[u8], name: &[u8]) -> Result<Found, Fault>
     let all = tokens(alloc, file)?;
     let kept = without_attributes(alloc, all.as_slice())?;
     let known = definitions(alloc, kept.as_slice())?;
-    let words = words_of(alloc, known.as_slice(), name)?;
+    let words = words_of(alloc, kept.as_slice(), known.as_slice(), name)?;
     let text = spelled(alloc, words.as_slice())?;
     match parse(alloc, text.as_str()) {
         Ok(schema) => Ok(Found { text, schema }),

@@ -1,6 +1,6 @@
 //! The words, signs and literals of a file of definitions.
 
-ghost use Rattle.std.specs.Prelude.{Decides, IfSome, IfNone};
+ghost use Rattle.std.specs.Prelude.{◌≡◌, [], ◌∷◌, drop, Decides, IfSome, IfNone};
 ghost use Rattle.postcard_dyn_file.specs.Tokens.{Says, IsOpening, IsClosing, IsNext, Takes};
 
 /// A word, a sign or a literal of a file.
@@ -41,32 +41,44 @@ impl<'a> Token<'a> {
     }
 }
 
-/// Returns whether the first of the tokens is this word or sign.
-pub fn is_next(tokens: &[Token], word: &[u8]) -> bool
-    ensures { Decides result (IsNext word.now tokens.now) }
+/// Returns the token at this index, and the index after it, or `None` past the last token.
+pub fn token_from<'a>(tokens: &[Token<'a>], at: usize) -> Option<(Token<'a>, usize)>
+    ensures found { IfSome result (λ found. drop at tokens.now ≡ found.0 ∷ drop found.1 tokens.now) }
+    ensures none { IfNone result (drop at tokens.now ≡ []) }
 {
-    match tokens.split_first() {
+    if at < tokens.len() {
+        return Some((tokens[at], at + 1));
+    }
+    None
+}
+
+/// Returns whether the token at this index is this word or sign.
+pub fn is_next(tokens: &[Token], at: usize, word: &[u8]) -> bool
+    ensures { Decides result (IsNext word.now (drop at tokens.now)) }
+{
+    match token_from(tokens, at) {
         Some((first, _)) => first.says(word),
         None => false,
     }
 }
 
-/// Returns the tokens after this word or sign, or `None` if the first is another.
-pub fn after_word<'a>(tokens: &'a [Token<'a>], word: &[u8]) -> Option<&'a [Token<'a>]>
-    ensures found { IfSome result (λ rest. Takes word.now tokens.now rest.now) }
-    ensures none { IfNone result (IsNext word.now tokens.now → ⊥) }
+/// Returns the index after this word or sign, or `None` if another one is at the index.
+pub fn after_word(tokens: &[Token], at: usize, word: &[u8]) -> Option<usize>
+    ensures found { IfSome result
+        (λ rest. Takes word.now (drop at tokens.now) (drop rest tokens.now)) }
+    ensures none { IfNone result (IsNext word.now (drop at tokens.now) → ⊥) }
 {
-    match tokens.split_first() {
+    match token_from(tokens, at) {
         Some((first, rest)) if first.says(word) => Some(rest),
         _ => None,
     }
 }
 
-/// Returns the place of the first token: how many bytes of the file there are from it on. It is 0 at the
-/// end of the file.
-pub fn place_of(tokens: &[Token]) -> usize {
-    match tokens.split_first() {
-        Some((first, _)) => first.left,
+/// Returns the place of the token at this index: how many bytes of the file there are from it on. It is 0
+/// past the last token.
+pub fn place_of(tokens: &[Token], at: usize) -> usize {
+    match token_from(tokens, at) {
+        Some((token, _)) => token.left,
         None => 0,
     }
 }

@@ -1,5 +1,5 @@
 -- Why the functions end: the depth that is left, and their order at one depth; and what each loop has written.
-use Rattle.std.proofs.Common.{◌+◌, ◌*◌}
+use Rattle.std.proofs.Common.{◌+◌, ◌*◌, drop}
 use Rattle.postcard_dyn_file.specs.Steps.{Steps}
 use Rattle.postcard_dyn_file.specs.Expands.{Inner, Stops, Writes, VariantStep}
 use Rattle.postcard_dyn_file.proofs.expand.+expand.Given as goal
@@ -35,7 +35,8 @@ abbrev pub decreases-write_row : goal.decreases-write_row
 decreases-write_row l = 8 * l.depth + 7
 
 abbrev pub invariant-write_row-loop : goal.invariant-write_row-loop
-invariant-write_row-loop l = Steps (λ a b. (Stops l.is_alias a.0 → ⊥) × Writes l.known (Inner l.known l.depth) a b) (l.tokens, l.fn.out.items) (l.rest, l.out.items)
+invariant-write_row-loop l = Steps (λ a b. (Stops l.is_alias a.0 → ⊥) × Writes l.tokens l.known (Inner l.tokens l.known l.depth) a b)
+    (drop l.at l.tokens, l.fn.out.items) (drop l.rest l.tokens, l.out.items)
 
 abbrev pub invariant-write_enum-loop : goal.invariant-write_enum-loop
-invariant-write_enum-loop l = Steps (VariantStep (Inner l.known l.depth)) (l.inner, l.initial.out.items) (l.rest, l.out.items)
+invariant-write_enum-loop l = Steps (VariantStep (Inner l.tokens l.known l.depth)) (drop l.inner l.tokens, l.initial.out.items) (drop l.rest l.tokens, l.out.items)
