@@ -19,8 +19,8 @@ no_token e = cc
 -- The first token's test decides which word is next.
 pub next_is : (word : List ℕ) (ts : List Token) (t : Token) (after : List Token) (b : Bool) → ts ≡ t ∷ after → Decides b (Says word t) → Decides b (IsNext word ts)
 next_is word ts t after b e d = (
-    λ is. (t, after, d.0 is, e),
-    λ (u, rest, says, f). d.1 (subst (Says word) (same_token (sym f ∙ e)) says),
+  λ is. (t, after, d.0 is, e),
+  λ (u, rest, says, f). d.1 (subst (Says word) (same_token (sym f ∙ e)) says),
 )
 
 pub next_none : (word : List ℕ) (ts : List Token) → ts ≡ [] → Decides false (IsNext word ts)

@@ -61,10 +61,7 @@ pub struct Definition<'a> {
 ///
 /// Fails with `AttributeExpected` at a `#` without an attribute, with `BracketOpen` at an attribute
 /// that isn't closed, and with `OutOfMemory`.
-pub fn without_attributes<'a>(
-    alloc: Global,
-    tokens: &[Token<'a>],
-) -> Result<Vec<Token<'a>>, Fault>
+pub fn without_attributes<'a>(alloc: Global, tokens: &[Token<'a>]) -> Result<Vec<Token<'a>>, Fault>
     ensures { IfOk result (λ kept. IsWithoutAttributes tokens.now kept.items) }
 {
     let mut kept = Vec::new(alloc);
@@ -82,11 +79,7 @@ pub fn without_attributes<'a>(
 
 /// Reads an attribute, or else a token, which it adds to the end of the list, and returns the index
 /// after it.
-fn keep_next<'a>(
-    tokens: &[Token<'a>],
-    at: usize,
-    kept: &mut Vec<Token<'a>>,
-) -> Result<usize, Fault>
+fn keep_next<'a>(tokens: &[Token<'a>], at: usize, kept: &mut Vec<Token<'a>>) -> Result<usize, Fault>
     ensures { IfOk result (λ rest. KeepStep (drop at tokens.now, kept.old.items)
         (drop rest tokens.now, kept.new.items)) }
 {
@@ -185,10 +178,7 @@ fn depth_after(token: &Token, depth: usize) -> Option<usize>
 /// Fails with `ItemOpen` at an item, and with `BracketOpen` at a bracket, in which the file ends; with
 /// `NotOpen` at a bracket that is closed and isn't open, with `NameExpected` at a definition without
 /// a name, with `DefinedTwice` at a name that a definition before has, and with `OutOfMemory`.
-pub fn definitions<'a>(
-    alloc: Global,
-    tokens: &[Token<'a>],
-) -> Result<Vec<Definition<'a>>, Fault>
+pub fn definitions<'a>(alloc: Global, tokens: &[Token<'a>]) -> Result<Vec<Definition<'a>>, Fault>
     ensures { IfOk result (λ known. AreDefinitions tokens.now known.items) }
 {
     let mut known = Vec::new(alloc);

@@ -226,7 +226,11 @@ fn sign_at<'a>(text: &'a [u8]) -> Result<(Token<'a>, &'a [u8]), Fault>
 
 /// Returns the literal in these quotes that the text begins with, where `inner` follows the first of
 /// them, and the text after it.
-fn literal_at<'a>(text: &'a [u8], inner: &'a [u8], quote: u8) -> Result<(Token<'a>, &'a [u8]), Fault>
+fn literal_at<'a>(
+    text: &'a [u8],
+    inner: &'a [u8],
+    quote: u8,
+) -> Result<(Token<'a>, &'a [u8]), Fault>
     requires { text.now ≡ quote ∷ inner.now }
     ensures { IfOk result (λ found. IsLiteral quote found.0.text.now text.now found.1.now) }
 {
@@ -238,7 +242,13 @@ fn literal_at<'a>(text: &'a [u8], inner: &'a [u8], quote: u8) -> Result<(Token<'
         });
     };
     let (literal, _) = text.split_at(left.saturating_sub(rest.len()));
-    Ok((Token { text: literal, left }, rest))
+    Ok((
+        Token {
+            text: literal,
+            left,
+        },
+        rest,
+    ))
 }
 
 /// Returns the text after the letters of a literal and the quote at their end.

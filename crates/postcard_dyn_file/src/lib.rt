@@ -42,14 +42,13 @@ pub mod error;
 pub mod expand;
 pub mod lex;
 pub mod place;
-pub mod token;
 #[cfg(test)]
 mod tests;
-
-pub use error::{FileError, FileProblem};
+pub mod token;
 
 use definition::{definitions, without_attributes};
 use error::Fault;
+pub use error::{FileError, FileProblem};
 use expand::words_of;
 use lex::tokens;
 use place::{error_at, left_of, spelled};

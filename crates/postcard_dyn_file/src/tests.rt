@@ -62,7 +62,11 @@ const TYPES: [Row; 25] = [
         "Level",
         "Enum([Named(\"Low\", Group([])), Named(\"High\", Group([]))])",
     ),
-    ("enum One { Only }", "One", "Enum([Named(\"Only\", Group([]))])"),
+    (
+        "enum One { Only }",
+        "One",
+        "Enum([Named(\"Only\", Group([]))])",
+    ),
     (
         "enum Empty { A {}, B() }",
         "Empty",
@@ -125,54 +129,174 @@ const TYPES: [Row; 25] = [
     ),
     ("struct A(u8); struct B<T>(T);", "A", "Leaf(U8)"),
     ("struct A(u8); struct B(u9);", "A", "Leaf(U8)"),
-    ("struct A(pub (u8, u8));", "A", "Group([Leaf(U8), Leaf(U8)])"),
-    ("struct A{a:u8,b:u8,}struct B;", "A", "Group([Named(\"a\", Leaf(U8)), Named(\"b\", Leaf(U8))])"),
+    (
+        "struct A(pub (u8, u8));",
+        "A",
+        "Group([Leaf(U8), Leaf(U8)])",
+    ),
+    (
+        "struct A{a:u8,b:u8,}struct B;",
+        "A",
+        "Group([Named(\"a\", Leaf(U8)), Named(\"b\", Leaf(U8))])",
+    ),
 ];
 
 /// Files in which something is wrong.
 const REFUSED: [Row; 38] = [
     ("", "A", "line 1, column 1: no definition has the name"),
-    ("struct B;\n", "A", "line 2, column 1: no definition has the name"),
-    ("struct A { b: u8", "A", "line 1, column 10: this bracket isn't closed"),
+    (
+        "struct B;\n",
+        "A",
+        "line 2, column 1: no definition has the name",
+    ),
+    (
+        "struct A { b: u8",
+        "A",
+        "line 1, column 10: this bracket isn't closed",
+    ),
     ("struct A { b: u9 }", "A", "line 1, column 15: unknown type"),
-    ("struct A {\n    b: Vec<C>,\n}", "A", "line 2, column 12: unknown type"),
-    ("// \u{e9}\nstruct A(u9);", "A", "line 2, column 10: unknown type"),
-    ("/* \u{e9} */ struct A(u9);", "A", "line 1, column 18: unknown type"),
+    (
+        "struct A {\n    b: Vec<C>,\n}",
+        "A",
+        "line 2, column 12: unknown type",
+    ),
+    (
+        "// \u{e9}\nstruct A(u9);",
+        "A",
+        "line 2, column 10: unknown type",
+    ),
+    (
+        "/* \u{e9} */ struct A(u9);",
+        "A",
+        "line 1, column 18: unknown type",
+    ),
     ("struct A { b u8 }", "A", "line 1, column 14: expected `:`"),
-    ("struct A { b: u8 c: u8 }", "A", "line 1, column 18: expected `,` or `}`"),
-    ("struct A { b: u8, b: u8 }", "A", "line 1, column 19: this name was used before"),
-    ("struct A { b: A }", "A", "line 1, column 15: this type has itself in it"),
+    (
+        "struct A { b: u8 c: u8 }",
+        "A",
+        "line 1, column 18: expected `,` or `}`",
+    ),
+    (
+        "struct A { b: u8, b: u8 }",
+        "A",
+        "line 1, column 19: this name was used before",
+    ),
+    (
+        "struct A { b: A }",
+        "A",
+        "line 1, column 15: this type has itself in it",
+    ),
     (
         "struct A(Vec<B>); struct B { a: Option<A> }",
         "A",
         "line 1, column 40: this type has itself in it",
     ),
-    ("type A = A;", "A", "line 1, column 10: this type has itself in it"),
-    ("struct A; struct A;", "A", "line 1, column 18: this name was defined before"),
-    ("struct A<T> { b: T }", "A", "line 1, column 9: types with parameters aren't supported"),
-    ("enum A {}", "A", "line 1, column 9: expected the name of a variant"),
-    ("enum A { b }", "A", "line 1, column 10: expected the name of a variant"),
-    ("enum A { B C }", "A", "line 1, column 12: expected `,` or `}`"),
-    ("enum A { B, B }", "A", "line 1, column 13: this name was used before"),
+    (
+        "type A = A;",
+        "A",
+        "line 1, column 10: this type has itself in it",
+    ),
+    (
+        "struct A; struct A;",
+        "A",
+        "line 1, column 18: this name was defined before",
+    ),
+    (
+        "struct A<T> { b: T }",
+        "A",
+        "line 1, column 9: types with parameters aren't supported",
+    ),
+    (
+        "enum A {}",
+        "A",
+        "line 1, column 9: expected the name of a variant",
+    ),
+    (
+        "enum A { b }",
+        "A",
+        "line 1, column 10: expected the name of a variant",
+    ),
+    (
+        "enum A { B C }",
+        "A",
+        "line 1, column 12: expected `,` or `}`",
+    ),
+    (
+        "enum A { B, B }",
+        "A",
+        "line 1, column 13: this name was used before",
+    ),
     ("enum A;", "A", "line 1, column 7: expected `{`"),
-    ("struct A where u8: B { }", "A", "line 1, column 10: expected `{`, `(` or `;`"),
+    (
+        "struct A where u8: B { }",
+        "A",
+        "line 1, column 10: expected `{`, `(` or `;`",
+    ),
     ("type A u8;", "A", "line 1, column 8: expected `=`"),
     ("type A = u8", "A", "line 1, column 1: expected `;` or `{`"),
-    ("type A = {u8 => u8}", "A", "line 1, column 20: expected `;`"),
-    ("struct /* A;", "A", "line 1, column 8: this comment isn't closed"),
-    ("const A: &str = \"b;", "A", "line 1, column 17: this literal isn't closed"),
-    ("struct \u{e9};", "A", "line 1, column 8: expected a character of ASCII"),
-    ("struct A; }", "A", "line 1, column 11: no bracket is open here"),
-    ("struct A(u8];", "A", "line 1, column 12: expected `,` or `)`"),
-    ("# struct A;", "A", "line 1, column 1: expected an attribute, as `#[..]`"),
-    ("#[a struct A;", "A", "line 1, column 2: this bracket isn't closed"),
+    (
+        "type A = {u8 => u8}",
+        "A",
+        "line 1, column 20: expected `;`",
+    ),
+    (
+        "struct /* A;",
+        "A",
+        "line 1, column 8: this comment isn't closed",
+    ),
+    (
+        "const A: &str = \"b;",
+        "A",
+        "line 1, column 17: this literal isn't closed",
+    ),
+    (
+        "struct \u{e9};",
+        "A",
+        "line 1, column 8: expected a character of ASCII",
+    ),
+    (
+        "struct A; }",
+        "A",
+        "line 1, column 11: no bracket is open here",
+    ),
+    (
+        "struct A(u8];",
+        "A",
+        "line 1, column 12: expected `,` or `)`",
+    ),
+    (
+        "# struct A;",
+        "A",
+        "line 1, column 1: expected an attribute, as `#[..]`",
+    ),
+    (
+        "#[a struct A;",
+        "A",
+        "line 1, column 2: this bracket isn't closed",
+    ),
     ("struct { }", "A", "line 1, column 8: expected a name"),
-    ("struct A { b: [(); 2] }", "A", "line 1, column 16: elements of this type have no bytes"),
-    ("struct A { b: [u8; N] }", "A", "line 1, column 20: expected the count of an array"),
-    ("struct A { b: &mut u8 }", "A", "line 1, column 16: unknown type"),
+    (
+        "struct A { b: [(); 2] }",
+        "A",
+        "line 1, column 16: elements of this type have no bytes",
+    ),
+    (
+        "struct A { b: [u8; N] }",
+        "A",
+        "line 1, column 20: expected the count of an array",
+    ),
+    (
+        "struct A { b: &mut u8 }",
+        "A",
+        "line 1, column 16: unknown type",
+    ),
     ("struct A { b: }", "A", "line 1, column 15: expected a type"),
     ("struct A(Vec<u8);", "A", "line 1, column 16: expected `>`"),
-    ("struct A { : u8 }", "A", "line 1, column 12: expected a type"),
+    (
+        "struct A { : u8 }",
+        "A",
+        "line 1, column 12: expected a type",
+    ),
 ];
 
 /// Returns the type that a name of a file stands for, or the error, as it is printed.
@@ -205,5 +329,8 @@ fn refuses_files(rt: HostRuntime) {
 fn spells_types(rt: HostRuntime) {
     let file = "struct A { a: B, b: [&'static str; 2] } enum B { C, D(u8) }";
     let text = expression(rt.alloc(), file, "A").expect(&rt, "A");
-    assert_eq!(rt; text.as_str(), "{ a : ( | C | D ( u8 ) ) , b : [ str ; 2 ] } ");
+    assert_eq!(rt;
+        text.as_str(),
+        "{ a : ( | C | D ( u8 ) ) , b : [ str ; 2 ] } "
+    );
 }
