@@ -15,7 +15,7 @@ use Rattle.serde_json.specs.View.{view, items_view}
 use Rattle.postcard_dyn_json.specs.Written.{Writer, Part, json_of, all_json, parts_json, items, fields, field, add_member, json_at, variant_of, bytes_of, can_be_null, tuple}
 
 -- The elements of a list after one of them.
-abbrev with_first : Option (List Data) → Data → Option (List Data)
+abbrev pub with_first : Option (List Data) → Data → Option (List Data)
 with_first r d = option_map (λ ds. d ∷ ds) r
 
 pub some_is : {A : Type 0} (x y : A) → Some x ≡ Some y → x ≡ y

@@ -11,6 +11,7 @@ use Rattle.postcard_shape.specs.Base256.{low_value}
 use Rattle.postcard_dyn_schema.specs.declared.schema.Leaf.{Leaf}
 use Rattle.postcard_dyn_schema.specs.declared.schema.Leaf.TheVariants.{U8, U16, U32, U64, U128, I8, I16, I32, I64, I128, F32, F64, Char, Str, Bytes}
 use Rattle.postcard_dyn_schema.specs.declared.schema.Leaf.TheVariants as leaves
+use Rattle.postcard_dyn_text.specs.Accepted.{NamesDiffer}
 use Rattle.postcard_dyn_text.specs.Shown.{Layout, Layouts, leaf, option, list, mapping, array, group, choice, named, no_layouts, then_layout, have_names, is_empty_group}
 use Rattle.serde_json.specs.Data.{Data, Members, null, boolean, number, string, object, unsigned, float, no_members, member, put}
 use Rattle.serde_json.specs.Data as values
@@ -183,3 +184,31 @@ abbrev mutual
   pub variant_of : Layout → Writer
   variant_of (named n x) = variant_json n x (json_of x)
   variant_of x = λ t. None
+
+-- Each of the layouts has a name.
+abbrev pub AllNamed : Layouts → Type 0
+AllNamed no_layouts = Unit {0}
+AllNamed (then_layout (named n x) xs) = AllNamed xs
+AllNamed (then_layout x xs) = ⊥
+
+-- If parts are those of a struct, each has a name, and no two have the same.
+abbrev pub AreFields : Bool → Layouts → Type 0
+AreFields true xs = AllNamed xs × NamesDiffer xs
+AreFields false xs = Unit {0}
+
+abbrev mutual
+  -- In the type, the parts of each struct have different names, and each variant has a name.
+  pub HasJson : Layout → Type 0
+  HasJson (leaf l) = Unit {0}
+  HasJson (option x) = HasJson x
+  HasJson (list x) = HasJson x
+  HasJson (mapping x) = HasJson x
+  HasJson (array x) = HasJson x
+  HasJson (group xs) = AreFields (have_names xs) xs × HaveJson xs
+  HasJson (choice xs) = AllNamed xs × HaveJson xs
+  HasJson (named n x) = HasJson x
+
+  -- The same of each of the types.
+  pub HaveJson : Layouts → Type 0
+  HaveJson no_layouts = Unit {0}
+  HaveJson (then_layout x xs) = HasJson x × HaveJson xs
