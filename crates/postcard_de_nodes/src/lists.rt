@@ -8,7 +8,8 @@ use postcard_de_flavors::Flavor;
 use postcard_shape::Shaped;
 use postcard_wire::{Error, Result};
 
-/// How many elements are read one by one before it is tried again to read many.
+/// How many elements are read one by one before it is tried again to read many. If fewer than twice
+/// as many are left, all of them are.
 const PAUSE: usize = 16;
 
 /// Reads some of the next elements of a list at once, at most `most` of them, and appends them to
@@ -46,7 +47,7 @@ pub fn append_at_hand<T: Shaped + Drop, F: Flavor>(
             Ok(true)
         }
         None => {
-            *pause = PAUSE - 1;
+            *pause = if most < 2 * PAUSE { most } else { PAUSE - 1 };
             Ok(false)
         }
     }

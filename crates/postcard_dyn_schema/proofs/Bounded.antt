@@ -6,10 +6,13 @@ use Rattle.postcard_dyn_schema.specs.declared.angled.Holder.{Holder}
 use Rattle.postcard_dyn_schema.specs.declared.angled.Holder.TheVariants as holders
 use Rattle.postcard_dyn_schema.specs.declared.angled.Pair.{Pair}
 use Rattle.postcard_dyn_schema.specs.declared.angled.Pair.TheVariants as pairs
+use Rattle.postcard_dyn_schema.specs.declared.angled.Angled.TheVariants as kinds
+use Rattle.postcard_dyn_schema.specs.declared.names.TypeName.TheVariants as names
+use Rattle.postcard_dyn_schema.specs.Angled.{MayHold, IsHolderOf, MayPair, IsPairOf}
 use Rattle.postcard_dyn_schema.specs.Meaning.{MessageType, MessageTypes, seq, array, group, choice, no_types, then_type, has_bytes, type_of, types_of}
 use Rattle.postcard_dyn_schema.proofs.TypeOf.{type_of_leaf, type_of_option, type_of_seq, type_of_map, type_of_array, type_of_group, type_of_enum, type_of_named}
 use Rattle.postcard_dyn_schema.specs.Bounds.{ElementsHaveBytes, AllElementsHaveBytes, depth, greatest_depth}
-use Rattle.postcard_dyn_schema.specs.Grammar.{Separated, IsLeaf, IsListRest, IsTupleRest, IsField, IsFieldsRest, IsMapRest, IsHolderRest, IsPairRest, IsWorded, IsPlain, IsBehind, IsReferred, IsOptions, IsContent, IsVariantText, IsEnumText, IsType}
+use Rattle.postcard_dyn_schema.specs.Grammar.{Separated, IsListRest, IsTupleRest, IsField, IsFieldsRest, IsMapRest, IsWorded, IsPlain, IsBehind, IsReferred, IsOptions, IsContent, IsVariantText, IsEnumText, IsType}
 
 -- The elements of the type have bytes, and its depth is at most n.
 pub record Bounded (n : ℕ) (t : MessageType) : Type 0 where
@@ -67,38 +70,32 @@ of_field n T each s t (name, b, is, filled, letter, (x, y, word, (u, v, colon, h
 of_fields : (n : ℕ) (T : Schema → List ℕ → Type 0) → Bounds n T → Bounds (n + 1) (IsFieldsRest T)
 of_fields n T each s t (v, is, differ, (x, y, h, end, e)) = rw (is, type_of_group v) (bounded_group n (types_of v.items) (row n (IsField T) 44 v.items x (of_field n T each) h))
 
-of_map : (n : ℕ) (T : Schema → List ℕ → Type 0) → Bounds n T → Bounds (n + 2) (IsMapRest T)
-of_map n T each s t (b, v, key, value, is, entry, items, full, (x, y, h, (x2, y2, equals, (x3, y3, greater, (x4, y4, g, close, e4), e3), e2), e)) =
-    let parts : AllBounded n (types_of v.items) = rw items (one n (type_of key) (types_of (value ∷ [])) (each key x h) (one n (type_of value) no_types (each value x4 g) (none n))) in
-    let inside : Bounded (n + 1) (type_of b.value) = rw (entry, type_of_group v) (bounded_group n (types_of v.items) parts) in
-    rw (is, type_of_map b) (more (n + 1 + 1) (n + 2) (seq (type_of b.value)) (omega arith) (bounded_seq (n + 1) (type_of b.value) full inside))
+of_one : (n : ℕ) (h : Holder) (x s : Schema) → MayHold h (type_of x) → IsHolderOf h x s → Bounded n (type_of x) → Bounded (n + 1) (type_of s)
+of_one n holders.Itself x s may is inside = rw is (more n (n + 1) (type_of x) (omega arith) inside)
+of_one n holders.List x s may (b, is, value) inside = rw (is, type_of_seq b, value) (bounded_seq n (type_of x) may inside)
+of_one n holders.Option x s may (b, is, value) inside = rw (is, type_of_option b, value) record { full = inside.full; low = omega (arith, inside.low) }
 
-of_leaf : (n : ℕ) (s : Schema) (t : List ℕ) → IsLeaf s t → Bounded n (type_of s)
-of_leaf n s t (l, word, is, named, spelled) = rw (is, type_of_leaf l) record { full = tt; low = omega arith }
-
-of_holder : (n : ℕ) (T : Schema → List ℕ → Type 0) (h : Holder) → Bounds n T → Bounds (n + 1) (IsHolderRest T h)
-of_holder n T holders.Itself each s t (x, may, is, (f, g, inside, close, e)) = rw is (more n (n + 1) (type_of x) (omega arith) (each x f inside))
-of_holder n T holders.List each s t (x, may, (b, is, value), (f, g, inside, close, e)) = rw (is, type_of_seq b, value) (bounded_seq n (type_of x) may (each x f inside))
-of_holder n T holders.Option each s t (x, may, (b, is, value), (f, g, inside, close, e)) =
-    let held : Bounded n (type_of x) = each x f inside in
-    rw (is, type_of_option b, value) record { full = held.full; low = omega (arith, held.low) }
-
-of_pair : (n : ℕ) (T : Schema → List ℕ → Type 0) (p : Pair) → Bounds n T → Bounds (n + 2) (IsPairRest T p)
-of_pair n T pairs.Map each s t (x, y, may, (b, v, is, entry, items), (f, f2, first, (g, g2, comma, (h, h2, second, close, e3), e2), e)) =
-    let parts : AllBounded n (types_of v.items) = rw items (one n (type_of x) (types_of (y ∷ [])) (each x f first) (one n (type_of y) no_types (each y h second) (none n))) in
+of_two : (n : ℕ) (p : Pair) (x y s : Schema) → MayPair p (type_of x) (type_of y) → IsPairOf p x y s → Bounded n (type_of x) → Bounded n (type_of y) → Bounded (n + 2) (type_of s)
+of_two n pairs.Map x y s may (b, v, is, entry, items) first second =
+    let parts : AllBounded n (types_of v.items) = rw items (one n (type_of x) (types_of (y ∷ [])) first (one n (type_of y) no_types second (none n))) in
     let inside : Bounded (n + 1) (type_of b.value) = rw (entry, type_of_group v) (bounded_group n (types_of v.items) parts) in
     let full : has_bytes (type_of b.value) ≡ true = rw (entry, type_of_group v, items) may in
     rw (is, type_of_map b) (more (n + 1 + 1) (n + 2) (seq (type_of b.value)) (omega arith) (bounded_seq (n + 1) (type_of b.value) full inside))
-of_pair n T pairs.Result each s t (x, y, may, (v, a, b, c, d, is, items, ok, value, err, error), (f, f2, first, (g, g2, comma, (h, h2, second, close, e3), e2), e)) =
-    let good : Bounded n (type_of (Named a b)) = rw (type_of_named a b, value) (each x f first) in
-    let bad : Bounded n (type_of (Named c d)) = rw (type_of_named c d, error) (each y h second) in
+of_two n pairs.Result x y s may (v, a, b, c, d, is, items, ok, value, err, error) first second =
+    let good : Bounded n (type_of (Named a b)) = rw (type_of_named a b, value) first in
+    let bad : Bounded n (type_of (Named c d)) = rw (type_of_named c d, error) second in
     let parts : AllBounded n (types_of v.items) = rw items (one n (type_of (Named a b)) (types_of (Named c d ∷ [])) good (one n (type_of (Named c d)) no_types bad (none n))) in
     rw (is, type_of_enum v) (more (n + 1) (n + 2) (choice (types_of v.items)) (omega arith) (bounded_choice n (types_of v.items) parts))
 
+of_map : (n : ℕ) (T : Schema → List ℕ → Type 0) → Bounds n T → Bounds (n + 2) (IsMapRest T)
+of_map n T each s t (x, y, may, is, (f, g, (f2, g2, key, equals, e2), (f3, g3, arrow, (f4, g4, value, close, e4), e3), e)) = of_two n pairs.Map x y s may is (each x f2 key) (each y f4 value)
+
 of_worded : (n : ℕ) (T : Schema → List ℕ → Type 0) → Bounds n T → Bounds (n + 2) (IsWorded T)
-of_worded n T each s t (inl h) = of_leaf (n + 2) s t h
-of_worded n T each s t (inr (name, (x, y, word, inl (h, called, (f, g, sign, rest, e2)), e))) = more (n + 1) (n + 2) (type_of s) (omega arith) (of_holder n T h each s g rest)
-of_worded n T each s t (inr (name, (x, y, word, inr (p, called, (f, g, sign, rest, e2)), e))) = of_pair n T p each s g rest
+of_worded n T each s t (names.Leaf l, name, named, (f, g, word, (is, nothing), e)) = rw (is, type_of_leaf l) record { full = tt; low = omega arith }
+of_worded n T each s t (names.Angled (kinds.Holder h), name, named, (f, g, word, (f2, g2, open_sign, (x, may, is, (f3, g3, inside, close, e3)), e2), e)) =
+    more (n + 1) (n + 2) (type_of s) (omega arith) (of_one n h x s may is (each x f3 inside))
+of_worded n T each s t (names.Angled (kinds.Pair p), name, named, (f, g, word, (f2, g2, open_sign, (x, y, may, is, (f3, g3, (f4, g4, first, comma, e4), (f5, g5, second, close, e5), e3)), e2), e)) =
+    of_two n p x y s may is (each x f4 first) (each y f5 second)
 
 of_plain : (n : ℕ) (T : Schema → List ℕ → Type 0) → Bounds n T → Bounds (n + 2) (IsPlain T)
 of_plain n T each s t (inl h) = of_worded n T each s t h

@@ -4,17 +4,17 @@ use Rattle.std.specs.Prelude.{slice_index, if◌then◌else◌}
 use Rattle.std.specs.Str.{IsTrimAsciiStart}
 use Rattle.std.specs.Char.{is_ascii_uppercase, is_ascii_whitespace}
 use Rattle.postcard_dyn_schema.specs.declared.schema.Schema.{Schema}
-use Rattle.postcard_dyn_schema.specs.declared.schema.Leaf.{Leaf}
 use Rattle.postcard_dyn_schema.specs.declared.schema.Leaf.TheVariants.{U8, U16, U32, U64, U128, I8, I16, I32, I64, I128, F32, F64, Char, Str, Bytes}
 use Rattle.postcard_dyn_schema.specs.declared.schema.Leaf.TheVariants as leaves
-use Rattle.postcard_dyn_schema.specs.declared.angled.Holder.{Holder}
 use Rattle.postcard_dyn_schema.specs.declared.angled.Holder.TheVariants as holders
-use Rattle.postcard_dyn_schema.specs.declared.angled.Pair.{Pair}
 use Rattle.postcard_dyn_schema.specs.declared.angled.Pair.TheVariants as pairs
-use Rattle.postcard_dyn_schema.specs.Meaning.{MessageType, option, type_of, IsNameOf}
+use Rattle.postcard_dyn_schema.specs.declared.names.TypeName.{TypeName}
+use Rattle.postcard_dyn_schema.specs.declared.names.TypeName.TheVariants as names
+use Rattle.postcard_dyn_schema.specs.declared.angled.Angled.TheVariants as kinds
+use Rattle.postcard_dyn_schema.specs.Meaning.{MessageType, option, type_of}
 use Rattle.postcard_dyn_schema.specs.Text.{unblank, Then, TakesPhrase, IsSign, IsWord, is_of_word}
-use Rattle.postcard_dyn_schema.specs.Angled.{IsHolderName, IsPairName}
-use Rattle.postcard_dyn_schema.specs.Grammar.{Separated, IsTupleRest, IsField, IsFieldsRest, IsHolderRest, IsPairRest, IsAngleRest, IsWorded, IsPlain, IsReferenceRest, IsBehind, IsReferred, IsOptions, IsContent, IsVariantText, IsLead, IsEnumText, IsType}
+use Rattle.postcard_dyn_schema.specs.Angled.{IsTypeName}
+use Rattle.postcard_dyn_schema.specs.Grammar.{Separated, IsTupleRest, IsField, IsFieldsRest, IsAngledRest, IsNamedRest, IsWorded, IsPlain, IsReferenceRest, IsBehind, IsReferred, IsOptions, IsContent, IsVariantText, IsLead, IsEnumText, IsType}
 use Rattle.postcard_dyn_schema.specs.Fronts.{Starts, StartsEnum, follows_name}
 use Rattle.postcard_dyn_schema.specs.FrontLemmas.{trim_is, pass_head, sign_unblank, word_unblank, takes_split, same_first, not_empty}
 use Rattle.postcard_dyn_schema.proofs.TypeOf.{type_of_option}
@@ -29,159 +29,86 @@ pub word_starts : (w a r : List ℕ) → 0 < length w → TakesPhrase (IsWord w)
 word_starts [] a r filled h = absurd (omega (arith, filled))
 word_starts (x ∷ w) a r filled (front, (pass, led), whole) = (x, w ++ r, word_unblank x w a r (front, (pass, led), whole), pass_head is_of_word x w pass)
 
-filled_by : (w : List ℕ) (x : ℕ) (t : List ℕ) → w ≡ x ∷ t → 0 < length w
-filled_by w x t e = subst (λ z. 0 < length z) (sym e) (omega arith)
+-- What a word stands for, if it names a type.
+abbrev type_named : List ℕ → Option TypeName
+type_named w =
+    if bytes_eq w (codes "bool") then Some (names.Leaf leaves.Bool) else
+    (if bytes_eq w (codes "u8") then Some (names.Leaf U8) else
+    (if bytes_eq w (codes "u16") then Some (names.Leaf U16) else
+    (if bytes_eq w (codes "u32") then Some (names.Leaf U32) else
+    (if bytes_eq w (codes "u64") then Some (names.Leaf U64) else
+    (if bytes_eq w (codes "usize") then Some (names.Leaf U64) else
+    (if bytes_eq w (codes "u128") then Some (names.Leaf U128) else
+    (if bytes_eq w (codes "i8") then Some (names.Leaf I8) else
+    (if bytes_eq w (codes "i16") then Some (names.Leaf I16) else
+    (if bytes_eq w (codes "i32") then Some (names.Leaf I32) else
+    (if bytes_eq w (codes "i64") then Some (names.Leaf I64) else
+    (if bytes_eq w (codes "isize") then Some (names.Leaf I64) else
+    (if bytes_eq w (codes "i128") then Some (names.Leaf I128) else
+    (if bytes_eq w (codes "f32") then Some (names.Leaf F32) else
+    (if bytes_eq w (codes "f64") then Some (names.Leaf F64) else
+    (if bytes_eq w (codes "char") then Some (names.Leaf Char) else
+    (if bytes_eq w (codes "str") then Some (names.Leaf Str) else
+    (if bytes_eq w (codes "String") then Some (names.Leaf Str) else
+    (if bytes_eq w (codes "bytes") then Some (names.Leaf Bytes) else
+    (if bytes_eq w (codes "Box") then Some (names.Angled (kinds.Holder holders.Itself)) else
+    (if bytes_eq w (codes "Vec") then Some (names.Angled (kinds.Holder holders.List)) else
+    (if bytes_eq w (codes "Option") then Some (names.Angled (kinds.Holder holders.Option)) else
+    (if bytes_eq w (codes "BTreeMap") then Some (names.Angled (kinds.Pair pairs.Map)) else
+    (if bytes_eq w (codes "HashMap") then Some (names.Angled (kinds.Pair pairs.Map)) else
+    (if bytes_eq w (codes "Result") then Some (names.Angled (kinds.Pair pairs.Result)) else None))))))))))))))))))))))))
 
--- The names of types are not empty.
-pub leaf_filled : (w : List ℕ) (l : Leaf) → IsNameOf w l → 0 < length w
-leaf_filled w leaves.Bool h = filled_by w 98 (codes "ool") h
-leaf_filled w U8 h = filled_by w 117 (codes "8") h
-leaf_filled w U16 h = filled_by w 117 (codes "16") h
-leaf_filled w U32 h = filled_by w 117 (codes "32") h
-leaf_filled w U64 (inl h) = filled_by w 117 (codes "64") h
-leaf_filled w U64 (inr h) = filled_by w 117 (codes "size") h
-leaf_filled w U128 h = filled_by w 117 (codes "128") h
-leaf_filled w I8 h = filled_by w 105 (codes "8") h
-leaf_filled w I16 h = filled_by w 105 (codes "16") h
-leaf_filled w I32 h = filled_by w 105 (codes "32") h
-leaf_filled w I64 (inl h) = filled_by w 105 (codes "64") h
-leaf_filled w I64 (inr h) = filled_by w 105 (codes "size") h
-leaf_filled w I128 h = filled_by w 105 (codes "128") h
-leaf_filled w F32 h = filled_by w 102 (codes "32") h
-leaf_filled w F64 h = filled_by w 102 (codes "64") h
-leaf_filled w Char h = filled_by w 99 (codes "har") h
-leaf_filled w Str (inl h) = filled_by w 115 (codes "tr") h
-leaf_filled w Str (inr h) = filled_by w 83 (codes "tring") h
-leaf_filled w Bytes h = filled_by w 98 (codes "ytes") h
+named_is : (w : List ℕ) (k : TypeName) → IsTypeName w k → type_named w ≡ Some k
+named_is w (names.Leaf leaves.Bool) h = ap type_named h
+named_is w (names.Leaf U8) h = ap type_named h
+named_is w (names.Leaf U16) h = ap type_named h
+named_is w (names.Leaf U32) h = ap type_named h
+named_is w (names.Leaf U64) (inl h) = ap type_named h
+named_is w (names.Leaf U64) (inr h) = ap type_named h
+named_is w (names.Leaf U128) h = ap type_named h
+named_is w (names.Leaf I8) h = ap type_named h
+named_is w (names.Leaf I16) h = ap type_named h
+named_is w (names.Leaf I32) h = ap type_named h
+named_is w (names.Leaf I64) (inl h) = ap type_named h
+named_is w (names.Leaf I64) (inr h) = ap type_named h
+named_is w (names.Leaf I128) h = ap type_named h
+named_is w (names.Leaf F32) h = ap type_named h
+named_is w (names.Leaf F64) h = ap type_named h
+named_is w (names.Leaf Char) h = ap type_named h
+named_is w (names.Leaf Str) (inl h) = ap type_named h
+named_is w (names.Leaf Str) (inr h) = ap type_named h
+named_is w (names.Leaf Bytes) h = ap type_named h
+named_is w (names.Angled (kinds.Holder holders.Itself)) h = ap type_named h
+named_is w (names.Angled (kinds.Holder holders.List)) h = ap type_named h
+named_is w (names.Angled (kinds.Holder holders.Option)) h = ap type_named h
+named_is w (names.Angled (kinds.Pair pairs.Map)) (inl h) = ap type_named h
+named_is w (names.Angled (kinds.Pair pairs.Map)) (inr h) = ap type_named h
+named_is w (names.Angled (kinds.Pair pairs.Result)) h = ap type_named h
 
-holder_filled : (w : List ℕ) (h : Holder) → IsHolderName w h → 0 < length w
-holder_filled w holders.Itself h = filled_by w 66 (codes "ox") h
-holder_filled w holders.List h = filled_by w 86 (codes "ec") h
-holder_filled w holders.Option h = filled_by w 79 (codes "ption") h
+-- A word stands for one type at most, and an empty one for none.
+pub one_name : (w : List ℕ) (k l : TypeName) → IsTypeName w k → IsTypeName w l → k ≡ l
+one_name w k l h g = let e : Some k ≡ Some l = sym (named_is w k h) ∙ named_is w l g in cc
 
-pair_filled : (w : List ℕ) (p : Pair) → IsPairName w p → 0 < length w
-pair_filled w pairs.Map (inl h) = filled_by w 66 (codes "TreeMap") h
-pair_filled w pairs.Map (inr h) = filled_by w 72 (codes "ashMap") h
-pair_filled w pairs.Result h = filled_by w 82 (codes "esult") h
+none_some : (k : TypeName) → None ≡ Some k → ⊥
+none_some k e = cc
 
--- The type that a word names, if it names one.
-abbrev leaf_named : List ℕ → Option Leaf
-leaf_named w =
-    if bytes_eq w (codes "bool") then Some leaves.Bool else
-    (if bytes_eq w (codes "u8") then Some U8 else
-    (if bytes_eq w (codes "u16") then Some U16 else
-    (if bytes_eq w (codes "u32") then Some U32 else
-    (if bytes_eq w (codes "u64") then Some U64 else
-    (if bytes_eq w (codes "usize") then Some U64 else
-    (if bytes_eq w (codes "u128") then Some U128 else
-    (if bytes_eq w (codes "i8") then Some I8 else
-    (if bytes_eq w (codes "i16") then Some I16 else
-    (if bytes_eq w (codes "i32") then Some I32 else
-    (if bytes_eq w (codes "i64") then Some I64 else
-    (if bytes_eq w (codes "isize") then Some I64 else
-    (if bytes_eq w (codes "i128") then Some I128 else
-    (if bytes_eq w (codes "f32") then Some F32 else
-    (if bytes_eq w (codes "f64") then Some F64 else
-    (if bytes_eq w (codes "char") then Some Char else
-    (if bytes_eq w (codes "str") then Some Str else
-    (if bytes_eq w (codes "String") then Some Str else Some Bytes)))))))))))))))))
-
-named_is : (w : List ℕ) (l : Leaf) → IsNameOf w l → leaf_named w ≡ Some l
-named_is w leaves.Bool h = ap leaf_named h
-named_is w U8 h = ap leaf_named h
-named_is w U16 h = ap leaf_named h
-named_is w U32 h = ap leaf_named h
-named_is w U64 (inl h) = ap leaf_named h
-named_is w U64 (inr h) = ap leaf_named h
-named_is w U128 h = ap leaf_named h
-named_is w I8 h = ap leaf_named h
-named_is w I16 h = ap leaf_named h
-named_is w I32 h = ap leaf_named h
-named_is w I64 (inl h) = ap leaf_named h
-named_is w I64 (inr h) = ap leaf_named h
-named_is w I128 h = ap leaf_named h
-named_is w F32 h = ap leaf_named h
-named_is w F64 h = ap leaf_named h
-named_is w Char h = ap leaf_named h
-named_is w Str (inl h) = ap leaf_named h
-named_is w Str (inr h) = ap leaf_named h
-named_is w Bytes h = ap leaf_named h
-
--- A word names at most one type.
-pub one_leaf : (w : List ℕ) (l m : Leaf) → IsNameOf w l → IsNameOf w m → l ≡ m
-one_leaf w l m h k = let e : Some l ≡ Some m = sym (named_is w l h) ∙ named_is w m k in cc
+pub name_filled : (w : List ℕ) (k : TypeName) → IsTypeName w k → 0 < length w
+name_filled [] k h = absurd (none_some k (named_is [] k h))
+name_filled (x ∷ w) k h = omega arith
 
 or_left : (x y : Bool) → x ≡ true → x || y ≡ true
 or_left x y e = rw e refl
 
--- The type with types in `<` and `>` that a word names, if it names one.
-abbrev angled_named : List ℕ → Option (Holder ⊎ Pair)
-angled_named w =
-    if bytes_eq w (codes "Box") then Some (inl holders.Itself) else
-    (if bytes_eq w (codes "Vec") then Some (inl holders.List) else
-    (if bytes_eq w (codes "Option") then Some (inl holders.Option) else
-    (if bytes_eq w (codes "BTreeMap") then Some (inr pairs.Map) else
-    (if bytes_eq w (codes "HashMap") then Some (inr pairs.Map) else
-    (if bytes_eq w (codes "Result") then Some (inr pairs.Result) else None)))))
-
-holder_is : (w : List ℕ) (h : Holder) → IsHolderName w h → angled_named w ≡ Some (inl h)
-holder_is w holders.Itself h = ap angled_named h
-holder_is w holders.List h = ap angled_named h
-holder_is w holders.Option h = ap angled_named h
-
-pair_is : (w : List ℕ) (p : Pair) → IsPairName w p → angled_named w ≡ Some (inr p)
-pair_is w pairs.Map (inl h) = ap angled_named h
-pair_is w pairs.Map (inr h) = ap angled_named h
-pair_is w pairs.Result h = ap angled_named h
-
-leaf_is_none : (w : List ℕ) (l : Leaf) → IsNameOf w l → angled_named w ≡ None
-leaf_is_none w leaves.Bool h = ap angled_named h
-leaf_is_none w U8 h = ap angled_named h
-leaf_is_none w U16 h = ap angled_named h
-leaf_is_none w U32 h = ap angled_named h
-leaf_is_none w U64 (inl h) = ap angled_named h
-leaf_is_none w U64 (inr h) = ap angled_named h
-leaf_is_none w U128 h = ap angled_named h
-leaf_is_none w I8 h = ap angled_named h
-leaf_is_none w I16 h = ap angled_named h
-leaf_is_none w I32 h = ap angled_named h
-leaf_is_none w I64 (inl h) = ap angled_named h
-leaf_is_none w I64 (inr h) = ap angled_named h
-leaf_is_none w I128 h = ap angled_named h
-leaf_is_none w F32 h = ap angled_named h
-leaf_is_none w F64 h = ap angled_named h
-leaf_is_none w Char h = ap angled_named h
-leaf_is_none w Str (inl h) = ap angled_named h
-leaf_is_none w Str (inr h) = ap angled_named h
-leaf_is_none w Bytes h = ap angled_named h
-
--- A word names at most one type of one type, or of two types, and then no type without parts.
-pub one_holder : (w : List ℕ) (h k : Holder) → IsHolderName w h → IsHolderName w k → h ≡ k
-one_holder w h k a b = cc (sym (holder_is w h a) ∙ holder_is w k b)
-
-pub one_pair : (w : List ℕ) (p q : Pair) → IsPairName w p → IsPairName w q → p ≡ q
-one_pair w p q a b = cc (sym (pair_is w p a) ∙ pair_is w q b)
-
-pub holder_no_pair : (w : List ℕ) (h : Holder) (p : Pair) → IsHolderName w h → IsPairName w p → ⊥
-holder_no_pair w h p a b = cc (sym (holder_is w h a) ∙ pair_is w p b)
-
-pub leaf_no_holder : (w : List ℕ) (l : Leaf) (h : Holder) → IsNameOf w l → IsHolderName w h → ⊥
-leaf_no_holder w l h a b = cc (sym (leaf_is_none w l a) ∙ holder_is w h b)
-
-pub leaf_no_pair : (w : List ℕ) (l : Leaf) (p : Pair) → IsNameOf w l → IsPairName w p → ⊥
-leaf_no_pair w l p a b = cc (sym (leaf_is_none w l a) ∙ pair_is w p b)
-
--- What follows a name with types in `<` and `>`, which isn't empty, begins with `<`.
-pub angle_sign : (T : Schema → List ℕ → Type 0) (w : List ℕ) (s : Schema) (a r : List ℕ) → TakesPhrase (IsAngleRest T w s) a r → (0 < length w) × ((k : List ℕ) × TakesPhrase (IsSign 60) a k)
-angle_sign T w s a r (front, inl (h, named, rest), whole) = let k = takes_split (IsSign 60) (IsHolderRest T h s) a r (front, rest, whole) in (holder_filled w h named, (k.0, k.1))
-angle_sign T w s a r (front, inr (p, named, rest), whole) = let k = takes_split (IsSign 60) (IsPairRest T p s) a r (front, rest, whole) in (pair_filled w p named, (k.0, k.1))
+-- After the name of a type it ends, or `<` comes.
+pub name_end : (T : Schema → List ℕ → Type 0) (k : TypeName) (s : Schema) (b r : List ℕ) → TakesPhrase (IsNamedRest T k s) b r → (b ≡ r) ⊎ ((c : List ℕ) × TakesPhrase (IsSign 60) b c)
+name_end T (names.Leaf leaf) s b r (front, (is, none), whole) = inl (whole ∙ ap (λ t. t ++ r) none)
+name_end T (names.Angled kind) s b r h = let k = takes_split (IsSign 60) (IsAngledRest T kind s) b r h in inr (k.0, k.1)
 
 -- The first byte of a type that begins with a word.
 pub worded_head : (T : Schema → List ℕ → Type 0) (s : Schema) (a r : List ℕ) → TakesPhrase (IsWorded T s) a r → Starts is_of_word a
-worded_head T s a r (front, inl (l, w, is, named, word), whole) = word_starts w a r (leaf_filled w l named) (front, word, whole)
-worded_head T s a r (front, inr (name, h), whole) =
-    let k = takes_split (IsWord name) (IsAngleRest T name s) a r (front, h, whole) in
-    word_starts name a k.0 (angle_sign T name s k.0 r k.2).0 k.1
+worded_head T s a r (front, (k, name, named, h), whole) =
+    let m = takes_split (IsWord name) (IsNamedRest T k s) a r (front, h, whole) in
+    word_starts name a m.0 (name_filled name k named) m.1
 
 -- The first byte of a type that is no enum, with no `&` before it.
 abbrev pub starts_plain : ℕ → Bool

@@ -6,10 +6,10 @@ use Rattle.std.proofs.lemmas.List.Elements.{All-nil, All-cons, All-head, All-tai
 use Rattle.postcard_dyn_schema.specs.declared.schema.Schema.{Schema}
 use Rattle.postcard_dyn_schema.specs.Meaning.{type_of}
 use Rattle.postcard_dyn_schema.specs.Names.{IsCalled, IsNewTo, HasNamesOf, NamesDiffer}
-use Rattle.postcard_dyn_schema.specs.Text.{TakesPhrase, IsSign, is_of_word, EndsWord, GoesOnBy}
+use Rattle.postcard_dyn_schema.specs.Text.{Then, TakesPhrase, IsSign, is_of_word, EndsWord, GoesOnBy}
 use Rattle.postcard_dyn_schema.specs.Grammar.{Separated}
 use Rattle.postcard_dyn_schema.specs.Fronts.{follows_type, follows_variant, follows_name, Starts}
-use Rattle.postcard_dyn_schema.specs.FrontLemmas.{sign_unblank, unblank_all, unblank_black, same_first, same_rest, not_empty, blank_ends, goes_on_ends_word, goes_on_not_by}
+use Rattle.postcard_dyn_schema.specs.FrontLemmas.{takes_split, sign_unblank, unblank_all, unblank_black, same_first, same_rest, not_empty, blank_ends, goes_on_ends_word, goes_on_not_by}
 use Rattle.postcard_dyn_schema.proofs.Heads.{After, separated_first, starts_not_by}
 
 -- Two signs at one place are the same, and so are the texts after them.
@@ -19,6 +19,10 @@ one_sign x y a r q b c h k = let e = sym (sign_unblank x a r b h) ∙ sign_unbla
 -- The text after a sign, at a known sign.
 pub after_sign : (x : ℕ) (a r q : List ℕ) → is_ascii_whitespace x ≡ false → TakesPhrase (IsSign x) a r → TakesPhrase (IsSign x) a q → r ≡ q
 after_sign x a r q black h k = (one_sign x x a r q black black h k).1
+
+-- What is left of a phrase that begins with a sign, after the sign.
+pub behind_sign : (sign : ℕ) (Q : List ℕ → Type 0) (a b r : List ℕ) → is_ascii_whitespace sign ≡ false → TakesPhrase (IsSign sign) a b → TakesPhrase (Then (IsSign sign) Q) a r → TakesPhrase Q b r
+behind_sign sign Q a b r black taken h = let k = takes_split (IsSign sign) Q a r h in subst (λ t. TakesPhrase Q t r) (after_sign sign a k.0 b black k.1 taken) k.2
 
 -- Two different signs are not both at one place.
 pub other_sign : (x y : ℕ) (a r q : List ℕ) → is_ascii_whitespace x ≡ false → is_ascii_whitespace y ≡ false → nat_eq x y ≡ false → TakesPhrase (IsSign x) a r → TakesPhrase (IsSign y) a q → ⊥
@@ -39,7 +43,7 @@ by_type P b h p q r s t u v =
 by_variant : (P : ℕ → Type 0) (b : ℕ) → follows_variant b ≡ true → P 124 → P 93 → P 59 → P 41 → P 44 → P 125 → P 61 → P 62 → P b
 by_variant P b h o p q r s t u v = by_byte P b 124 _ h o λ h. by_type P b h p q r s t u v
 
-follows_black : (b : ℕ) → follows_type b ≡ true → is_ascii_whitespace b ≡ false
+pub follows_black : (b : ℕ) → follows_type b ≡ true → is_ascii_whitespace b ≡ false
 follows_black b h = by_type (λ x. is_ascii_whitespace x ≡ false) b h refl refl refl refl refl refl refl
 
 variant_black : (b : ℕ) → follows_variant b ≡ true → is_ascii_whitespace b ≡ false

@@ -6,7 +6,7 @@ use Rattle.postcard_dyn_schema.specs.Grammar.{IsPlain, IsLifetimeRest, IsReferen
 use Rattle.postcard_dyn_schema.specs.Phrases.{takes_two, takes_as}
 use Rattle.postcard_dyn_schema.specs.FrontLemmas.{WordTaken, takes_split, not_empty}
 use Rattle.postcard_dyn_schema.proofs.Heads.{plain_head, referred_head, starts_plain, starts_referred, starts_not_by}
-use Rattle.postcard_dyn_schema.proofs.Left.{after_sign}
+use Rattle.postcard_dyn_schema.proofs.Left.{after_sign, behind_sign}
 use Rattle.postcard_dyn_schema.proofs.LeftOfEnum.{whole_word}
 use Rattle.postcard_dyn_schema.proofs.LeftOfType.{taken_whole}
 use Rattle.postcard_dyn_schema.proofs.Refusals.{takes_le, takes_less}
@@ -36,9 +36,8 @@ rest_of T s t (inr (x, y, quote, (name, named, (word, back, spelled, (apart, (n,
 pub reference_left : (T : Types) (s : Schema) (a b r : List ℕ) → TakesPhrase (IsSign 38) a b → TakesPhrase (IsReferred T s) a r → TakesPhrase (IsReferenceRest (IsReferred T s)) b r
 reference_left T s a b r sign (front, (zero, h), whole) = absurd (starts_not_by starts_plain 38 a b refl refl (plain_head T s a r (front, h, whole)) sign)
 reference_left T s a b r sign (front, (suc n, h), whole) =
-    let k = takes_split (IsSign 38) (IsReferenceRest (IsBehind n T s)) a r (front, h, whole) in
     takes_as (IsReferenceRest (IsBehind n T s)) (IsReferenceRest (IsReferred T s)) b r (λ t g. rest_as (IsBehind n T s) (IsReferred T s) (λ u q. (n, q)) t g)
-    (subst (λ t. TakesPhrase (IsReferenceRest (IsBehind n T s)) t r) (after_sign 38 a k.0 b refl k.1 sign) k.2)
+    (behind_sign 38 (IsReferenceRest (IsBehind n T s)) a b r refl sign (front, h, whole))
 
 pub reference_takes : (T : Types) (s : Schema) (a b r : List ℕ) → TakesPhrase (IsSign 38) a b → TakesPhrase (IsReferenceRest (IsReferred T s)) b r → TakesPhrase (IsReferred T s) a r
 reference_takes T s a b r sign (front, h, whole) =

@@ -3,19 +3,22 @@ use Rattle.std.proofs.Common.{◌≡◌, ℕ, zero, suc, ◌+◌, ◌<◌, ◌�
 use Rattle.std.specs.Char.{is_ascii_uppercase, is_ascii_whitespace}
 use Rattle.std.specs.Prelude.{slice_index}
 use Rattle.postcard_dyn_schema.specs.declared.schema.Schema.{Schema}
+use Rattle.postcard_dyn_schema.specs.declared.schema.Schema.TheVariants as schemas
 use Rattle.postcard_dyn_schema.specs.declared.schema.Leaf.{Leaf}
-use Rattle.postcard_dyn_schema.specs.Meaning.{MessageType, leaf, option, type_of, IsNameOf}
-use Rattle.postcard_dyn_schema.specs.Text.{TakesPhrase, IsSign, IsWord, is_of_word, EndsWord, GoesOnBy}
-use Rattle.postcard_dyn_schema.specs.Grammar.{Separated, IsListRest, IsTupleRest, IsFieldsRest, IsMapRest, IsBracesRest, IsAngleRest, IsWorded, IsPlain, IsReferenceRest, IsBehind, IsReferred, IsContent, IsVariantText, IsLead, IsEnumText, IsType}
+use Rattle.postcard_dyn_schema.specs.declared.names.TypeName.{TypeName}
+use Rattle.postcard_dyn_schema.specs.declared.names.TypeName.TheVariants as names
+use Rattle.postcard_dyn_schema.specs.Meaning.{MessageType, option, type_of}
+use Rattle.postcard_dyn_schema.specs.Angled.{IsTypeName}
+use Rattle.postcard_dyn_schema.specs.Phrases.{takes_two, takes_as}
+use Rattle.postcard_dyn_schema.specs.Text.{Then, TakesPhrase, IsSign, IsWord, is_of_word, EndsWord, GoesOnBy}
+use Rattle.postcard_dyn_schema.specs.Grammar.{Separated, IsListRest, IsTupleRest, IsFieldsRest, IsMapRest, IsBracesRest, IsNamedRest, IsWorded, IsPlain, IsReferenceRest, IsBehind, IsReferred, IsContent, IsVariantText, IsLead, IsEnumText, IsType}
 use Rattle.postcard_dyn_schema.specs.Fronts.{follows_type, follows_variant, follows_name, IsNamed, Starts, StartsEnum}
 use Rattle.postcard_dyn_schema.specs.FrontLemmas.{word_unblank, takes_split, WordTaken, sign_ends_word, sign_unblank, same_first, pass_head}
-use Rattle.postcard_dyn_schema.proofs.TypeOf.{type_of_leaf}
-use Rattle.postcard_dyn_schema.proofs.Heads.{word_starts, plain_head, worded_head, enum_starts, separated_first, starts_plain, starts_not_by, in_options, Signs, options_split, leaf_filled, one_leaf, angle_sign}
+use Rattle.postcard_dyn_schema.proofs.Heads.{word_starts, plain_head, worded_head, enum_starts, separated_first, starts_plain, starts_not_by, in_options, Signs, options_split, name_filled, one_name, name_end}
 use Rattle.postcard_dyn_schema.proofs.Left.{after_sign, other_sign, goes_variant, goes_ends_word, goes_no_name, name_ends_word, not_next, not_next_type, row_follows}
-use Rattle.postcard_dyn_schema.proofs.LeftOfList.{map_begins}
 use Rattle.postcard_dyn_schema.proofs.LeftOfFields.{fields_named}
 use Rattle.postcard_dyn_schema.proofs.LeftOfEnum.{variant_front, whole_word}
-use Rattle.postcard_dyn_schema.proofs.LeftOfAngled.{leaf_no_angle}
+use Rattle.postcard_dyn_schema.proofs.LeftOfAngled.{map_begins}
 
 abbrev Types : Type 1
 Types = Schema → List ℕ → Type 0
@@ -32,38 +35,44 @@ pub taken_whole : (w a b : List ℕ) → 0 < length w → TakesPhrase (IsWord w)
 taken_whole [] a b filled word ends = absurd (omega (arith, filled))
 taken_whole (x ∷ w) a b filled word ends = record { bytes = word.1.0; first = word_unblank x w a b word; ends = ends }
 
--- Without a bracket the type is a word, or begins with one.
+-- Without a bracket or a `&` the type begins with its name.
 pub record WordFront (T : Types) (s : Schema) (v b r : List ℕ) : Type 0 where
+  pub kind : TypeName
   pub filled : 0 < length v
-  pub left : ((kind : Leaf) × (type_of s ≡ leaf kind) × IsNameOf v kind × (r ≡ b)) ⊎ TakesPhrase (IsAngleRest T v s) b r
+  pub named : IsTypeName v kind
+  pub left : TakesPhrase (IsNamedRest T kind s) b r
+
+name_ends : (T : Types) (k : TypeName) (s : Schema) (b r : List ℕ) → EndsWord r → TakesPhrase (IsNamedRest T k s) b r → EndsWord b
+name_ends T k s b r ends h = elim (name_end T k s b r h) [
+  | inl same ↦ subst EndsWord (sym same) ends
+  | inr sign ↦ sign_ends_word 60 b sign.0 refl sign.1
+]
 
 pub word_front : (T : Types) (s : Schema) (a v b r : List ℕ) → WordTaken a v b → EndsWord r → TakesPhrase (IsWorded T s) a r → WordFront T s v b r
-word_front T s a v b r taken ends (front, inl (l, w, is, named, word), whole) =
-    let same = whole_word w v a b r (leaf_filled w l named) taken (front, word, whole) ends in
-    record { filled = subst (λ t. 0 < length t) same.0 (leaf_filled w l named); left = inl (l, ap type_of is ∙ type_of_leaf l, subst (λ t. IsNameOf t l) same.0 named, same.1) }
-word_front T s a v b r taken ends (front, inr (name, h), whole) =
-    let k = takes_split (IsWord name) (IsAngleRest T name s) a r (front, h, whole) in
-    let sign = angle_sign T name s k.0 r k.2 in
-    let same = whole_word name v a b k.0 sign.0 taken k.1 (sign_ends_word 60 k.0 sign.1.0 refl sign.1.1) in
+word_front T s a v b r taken ends (front, (k, name, named, h), whole) =
+    let m = takes_split (IsWord name) (IsNamedRest T k s) a r (front, h, whole) in
+    let filled = name_filled name k named in
+    let same = whole_word name v a b m.0 filled taken m.1 (name_ends T k s m.0 r ends m.2) in
     record {
-      filled = subst (λ t. 0 < length t) same.0 sign.0;
-      left = inr (subst (λ t. TakesPhrase (IsAngleRest T t s) b r) same.0 (subst (λ t. TakesPhrase (IsAngleRest T name s) t r) same.1 k.2));
+      kind = k;
+      filled = subst (λ t. 0 < length t) same.0 filled;
+      named = subst (λ t. IsTypeName t k) same.0 named;
+      left = subst (λ t. TakesPhrase (IsNamedRest T k s) t r) same.1 m.2;
     }
 
--- If the word names a type without parts, it is that type, and if it names none, types in `<` and `>` follow.
-pub word_leaf : (T : Types) (l : Leaf) (s : Schema) (v b r : List ℕ) → IsNameOf v l → WordFront T s v b r → (type_of s ≡ leaf l) × (r ≡ b)
-word_leaf T l s v b r named h = by h.left
-  where
-    by : ((kind : Leaf) × (type_of s ≡ leaf kind) × IsNameOf v kind × (r ≡ b)) ⊎ TakesPhrase (IsAngleRest T v s) b r → (type_of s ≡ leaf l) × (r ≡ b)
-    by (inl (kind, is, other, same)) = (is ∙ ap leaf (one_leaf v kind l other named), same)
-    by (inr rest) = absurd (leaf_no_angle T v l s b r named rest)
+-- What is left after a word that stands for k.
+pub word_rest : (T : Types) (k : TypeName) (s : Schema) (a v b r : List ℕ) → WordTaken a v b → IsTypeName v k → EndsWord r → TakesPhrase (IsWorded T s) a r → TakesPhrase (IsNamedRest T k s) b r
+word_rest T k s a v b r taken named ends h =
+    let f = word_front T s a v b r taken ends h in
+    subst (λ z. TakesPhrase (IsNamedRest T z s) b r) (one_name v f.kind k f.named named) f.left
 
-pub word_angle : (T : Types) (s : Schema) (v b r : List ℕ) → ((l : Leaf) → IsNameOf v l → ⊥) → WordFront T s v b r → TakesPhrase (IsAngleRest T v s) b r
-word_angle T s v b r none h = by h.left
-  where
-    by : ((kind : Leaf) × (type_of s ≡ leaf kind) × IsNameOf v kind × (r ≡ b)) ⊎ TakesPhrase (IsAngleRest T v s) b r → TakesPhrase (IsAngleRest T v s) b r
-    by (inl (kind, is, named, same)) = absurd (none kind named)
-    by (inr rest) = rest
+pub word_takes : (T : Types) (k : TypeName) (s : Schema) (v a b r : List ℕ) → IsTypeName v k → TakesPhrase (IsWord v) a b → TakesPhrase (IsNamedRest T k s) b r → TakesPhrase (IsWorded T s) a r
+word_takes T k s v a b r named word h =
+    takes_as (Then (IsWord v) (IsNamedRest T k s)) (IsWorded T s) a r (λ t q. (k, v, named, q)) (takes_two (IsWord v) (IsNamedRest T k s) a b r word h)
+
+-- Nothing is left after the name of a type without parts.
+pub leaf_left : (T : Types) (l : Leaf) (s : Schema) (b r : List ℕ) → TakesPhrase (IsNamedRest T (names.Leaf l) s) b r → (type_of s ≡ type_of (schemas.Leaf l)) × (r ≡ b)
+leaf_left T l s b r (front, (is, none), whole) = (ap type_of is, sym (whole ∙ ap (λ t. t ++ r) none))
 
 -- After a type come `?`, or what follows it.
 question_ends : (n : ℕ) (m r : List ℕ) → GoesOnBy follows_type r → Signs 63 n m r → EndsWord m
@@ -82,12 +91,12 @@ plain_no_enum T s a m ends none (inr (v, b, filled, letter, word, next)) h = by 
     taken : WordTaken a v b
     taken = taken_whole v a b filled word (name_ends_word b next)
 
-    by_left : ((kind : Leaf) × (type_of s ≡ leaf kind) × IsNameOf v kind × (m ≡ b)) ⊎ TakesPhrase (IsAngleRest T v s) b m → ⊥
-    by_left (inl (kind, is, named, same)) = none (subst (Starts follows_name) (sym same) next)
-    by_left (inr rest) = let sign = angle_sign T v s b m rest in starts_not_by follows_name 60 b sign.1.0 refl refl next sign.1.1
+    by_end : (b ≡ m) ⊎ ((c : List ℕ) × TakesPhrase (IsSign 60) b c) → ⊥
+    by_end (inl same) = none (subst (Starts follows_name) same next)
+    by_end (inr (c, sign)) = starts_not_by follows_name 60 b c refl refl next sign
 
     by : TakesPhrase (IsPlain T s) a m → ⊥
-    by (front, inl k, whole) = by_left (word_front T s a v b m taken ends (front, k, whole)).left
+    by (front, inl k, whole) = let f = word_front T s a v b m taken ends (front, k, whole) in by_end (name_end T f.kind s b m f.left)
     by (front, inr (inl k), whole) = let l = takes_split (IsSign 91) (IsListRest T s) a m (front, k, whole) in word_not_sign v 91 a b l.0 filled refl refl taken l.1
     by (front, inr (inr (inl k)), whole) = let l = takes_split (IsSign 40) (IsTupleRest T s) a m (front, k, whole) in word_not_sign v 40 a b l.0 filled refl refl taken l.1
     by (front, inr (inr (inr k)), whole) = let l = takes_split (IsSign 123) (IsBracesRest T s) a m (front, k, whole) in word_not_sign v 123 a b l.0 filled refl refl taken l.1
@@ -236,12 +245,14 @@ type_not_named (suc d) s a v b c m (front, inr (n, few, h), whole) goes taken fi
     no_colon zero k same sign = not_next_type 58 m c refl refl goes (subst (λ t. TakesPhrase (IsSign 58) t c) same sign)
     no_colon (suc j) k (l, first, more) sign = other_sign 63 58 k l c refl refl refl first sign
 
-    by_word : ((kind : Leaf) × (type_of split.0 ≡ leaf kind) × IsNameOf v kind × (split.1 ≡ b)) ⊎ TakesPhrase (IsAngleRest (IsType d) v split.0) b split.1 → ⊥
-    by_word (inl (kind, is, named, same)) = no_colon n split.1 split.4 (subst (λ t. TakesPhrase (IsSign 58) t c) (sym same) colon)
-    by_word (inr rest) = let sign = angle_sign (IsType d) v split.0 b split.1 rest in other_sign 60 58 b sign.1.0 c refl refl refl sign.1.1 colon
+    by_end : (b ≡ split.1) ⊎ ((k : List ℕ) × TakesPhrase (IsSign 60) b k) → ⊥
+    by_end (inl same) = no_colon n split.1 split.4 (subst (λ t. TakesPhrase (IsSign 58) t c) same colon)
+    by_end (inr (k, sign)) = other_sign 60 58 b k c refl refl refl sign colon
 
     by_plain : TakesPhrase (IsPlain (IsType d) split.0) a split.1 → ⊥
-    by_plain (f, inl h, e) = by_word (word_front (IsType d) split.0 a v b split.1 taken (question_ends n split.1 m goes split.4) (f, h, e)).left
+    by_plain (f, inl h, e) =
+        let word = word_front (IsType d) split.0 a v b split.1 taken (question_ends n split.1 m goes split.4) (f, h, e) in
+        by_end (name_end (IsType d) word.kind split.0 b split.1 word.left)
     by_plain (f, inr (inl k), e) = let p = takes_split (IsSign 91) (IsListRest (IsType d) split.0) a split.1 (f, k, e) in word_not_sign v 91 a b p.0 filled refl refl taken p.1
     by_plain (f, inr (inr (inl k)), e) = let p = takes_split (IsSign 40) (IsTupleRest (IsType d) split.0) a split.1 (f, k, e) in word_not_sign v 40 a b p.0 filled refl refl taken p.1
     by_plain (f, inr (inr (inr k)), e) = let p = takes_split (IsSign 123) (IsBracesRest (IsType d) split.0) a split.1 (f, k, e) in word_not_sign v 123 a b p.0 filled refl refl taken p.1

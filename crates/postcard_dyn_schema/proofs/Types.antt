@@ -1,19 +1,16 @@
 -- Each kind of type is taken by taking its phrases one after another.
-use Rattle.std.proofs.Common.{◌≡◌, ℕ, suc, ◌<◌, ◌≤◌, Bool, true, false, List, [], length, Vec, Box, string_bytes, refl, sym, ap, ◌∙◌, ◌⊎◌, inl, inr}
+use Rattle.std.proofs.Common.{◌≡◌, ℕ, suc, ◌<◌, ◌≤◌, Bool, true, false, List, [], length, Vec, Box, string_bytes, refl, sym, ◌⊎◌, inl, inr}
 use Rattle.std.specs.Prelude.{slice_index, Result, Ok, Err, IfOk}
 use Rattle.std.specs.declared.alloc.Global.{Global}
 use Rattle.std.specs.declared.string.String.{String}
 use Rattle.std.specs.Char.{is_ascii_digit, is_ascii_uppercase}
 use Rattle.postcard_dyn_schema.specs.declared.schema.Schema.{Schema}
 use Rattle.postcard_dyn_schema.specs.declared.schema.Schema.TheVariants.{Option, Seq, Array, Group, Enum, Named}
-use Rattle.postcard_dyn_schema.specs.declared.angled.Pair.TheVariants as pairs
-use Rattle.postcard_dyn_schema.specs.Meaning.{group, has_bytes, type_of, types_of}
-use Rattle.postcard_dyn_schema.specs.Angled.{MayPair, IsPairOf}
+use Rattle.postcard_dyn_schema.specs.Meaning.{has_bytes, type_of}
 use Rattle.postcard_dyn_schema.specs.Text.{Then, TakesPhrase, IsSign, IsMaybe, IsWord, IsCount}
-use Rattle.postcard_dyn_schema.specs.Grammar.{Separated, IsListRest, IsTupleEnd, IsTupleRest, IsField, IsFieldsRest, IsMapRest, IsBracesRest, IsPlain, IsReferred, IsOptions, IsContent, IsVariantText, IsLead, IsEnumText, IsType}
+use Rattle.postcard_dyn_schema.specs.Grammar.{Separated, IsListRest, IsTupleEnd, IsTupleRest, IsField, IsFieldsRest, IsBracesRest, IsPlain, IsReferred, IsOptions, IsContent, IsVariantText, IsLead, IsEnumText, IsType}
 use Rattle.postcard_dyn_schema.specs.Phrases.{takes_two, takes_as}
 use Rattle.postcard_dyn_schema.specs.Names.{NamesDiffer}
-use Rattle.postcard_dyn_schema.proofs.TypeOf.{type_of_group}
 
 -- If P implies Q, a result that is an error or has P is an error or has Q.
 pub if_ok_as : {A F : Type 0} (P Q : A → Type 0) (r : Result A F) → ((x : A) → P x → Q x) → IfOk r P → IfOk r Q
@@ -85,17 +82,6 @@ pub array_takes : (d n : ℕ) (s : Schema) (held : Box Schema Global) (a c e f g
 array_takes d n s held a c e f g element is full semicolon count close =
     takes_as _ _ a g (λ t h. inr (held, n, refl, rw is full, rw is h)) (takes_two (IsType d s) (Then (IsSign 59) (Then (IsCount n) (IsSign 93))) a c g
     element (takes_two (IsSign 59) (Then (IsCount n) (IsSign 93)) c e g semicolon (takes_two (IsCount n) (IsSign 93) e f g count close)))
-
--- Taking a key type, `=>`, a value type and `}` takes what follows the `{` of a map.
-pub map_takes : (d : ℕ) (k v s : Schema) (a c e f g h : List ℕ)
-    → TakesPhrase (IsType d k) a c → TakesPhrase (IsSign 61) c e → TakesPhrase (IsSign 62) e f → TakesPhrase (IsType d v) f g → TakesPhrase (IsSign 125) g h
-    → MayPair pairs.Map (type_of k) (type_of v) × IsPairOf pairs.Map k v s → TakesPhrase (IsMapRest (IsType d) s) a h
-map_takes d k v s a c e f g h key equals greater value close (may, (held, parts, is, entry, items)) =
-    let full : has_bytes (type_of held.value) ≡ true = ap has_bytes (ap type_of entry ∙ type_of_group parts ∙ ap (λ ss. group (types_of ss)) items) ∙ may in
-    takes_as _ _ a h (λ t m. (held, parts, k, v, is, entry, items, full, m))
-    (takes_two (IsType d k) (Then (IsSign 61) (Then (IsSign 62) (Then (IsType d v) (IsSign 125)))) a c h key
-    (takes_two (IsSign 61) (Then (IsSign 62) (Then (IsType d v) (IsSign 125))) c e h equals
-    (takes_two (IsSign 62) (Then (IsType d v) (IsSign 125)) e f h greater (takes_two (IsType d v) (IsSign 125) f g h value close))))
 
 -- Taking `[` and what follows it in a list takes a plain type.
 pub plain_list : (T : Schema → List ℕ → Type 0) (s : Schema) (a b c : List ℕ) → TakesPhrase (IsSign 91) a b → TakesPhrase (IsListRest T s) b c → TakesPhrase (IsPlain T s) a c

@@ -1,4 +1,4 @@
--- Types of Rust that have types in `<` and `>`: their names, and which schema each is of the types in it.
+-- The names of types; and of types of Rust that have types in `<` and `>`, which schema each is of the types in it.
 use Rattle.std.specs.Prelude.{◌≡◌, true, ◌⊎◌, List, ℕ, [], ◌∷◌, Vec, Box, string_bytes, codes}
 use Rattle.std.specs.declared.alloc.Global.{Global}
 use Rattle.std.specs.declared.string.String.{String}
@@ -6,9 +6,13 @@ use Rattle.postcard_dyn_schema.specs.declared.angled.Holder.{Holder}
 use Rattle.postcard_dyn_schema.specs.declared.angled.Holder.TheVariants as holders
 use Rattle.postcard_dyn_schema.specs.declared.angled.Pair.{Pair}
 use Rattle.postcard_dyn_schema.specs.declared.angled.Pair.TheVariants as pairs
+use Rattle.postcard_dyn_schema.specs.declared.names.TypeName.{TypeName}
+use Rattle.postcard_dyn_schema.specs.declared.names.TypeName.TheVariants as names
+use Rattle.postcard_dyn_schema.specs.declared.angled.Angled.{Angled}
+use Rattle.postcard_dyn_schema.specs.declared.angled.Angled.TheVariants as kinds
 use Rattle.postcard_dyn_schema.specs.declared.schema.Schema.{Schema}
 use Rattle.postcard_dyn_schema.specs.declared.schema.Schema.TheVariants.{Option, Seq, Map, Group, Enum, Named}
-use Rattle.postcard_dyn_schema.specs.Meaning.{MessageType, no_types, then_type, has_bytes, some_has_bytes}
+use Rattle.postcard_dyn_schema.specs.Meaning.{IsNameOf, MessageType, no_types, then_type, has_bytes, some_has_bytes}
 
 -- The word names the type of one type.
 abbrev pub IsHolderName : List ℕ → Holder → Type 0
@@ -32,6 +36,16 @@ IsHolderOf holders.Option x s = (b : Box Schema Global) × (s ≡ Option b) × (
 abbrev pub IsPairName : List ℕ → Pair → Type 0
 IsPairName word pairs.Map = (word ≡ codes "BTreeMap") ⊎ (word ≡ codes "HashMap")
 IsPairName word pairs.Result = word ≡ codes "Result"
+
+-- The word names the type with types in `<` and `>`.
+abbrev pub IsAngledName : List ℕ → Angled → Type 0
+IsAngledName word (kinds.Holder holder) = IsHolderName word holder
+IsAngledName word (kinds.Pair pair) = IsPairName word pair
+
+-- The word stands for this.
+abbrev pub IsTypeName : List ℕ → TypeName → Type 0
+IsTypeName word (names.Leaf leaf) = IsNameOf word leaf
+IsTypeName word (names.Angled kind) = IsAngledName word kind
 
 -- Two types that may stand in its brackets. The entries of a map have bytes.
 abbrev pub MayPair : Pair → MessageType → MessageType → Type 0

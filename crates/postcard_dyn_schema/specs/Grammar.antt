@@ -4,13 +4,17 @@ use Rattle.std.specs.declared.alloc.Global.{Global}
 use Rattle.std.specs.Char.{is_ascii_digit, is_ascii_uppercase}
 use Rattle.std.specs.declared.string.String.{String}
 use Rattle.postcard_dyn_schema.specs.declared.schema.Schema.{Schema}
-use Rattle.postcard_dyn_schema.specs.declared.schema.Schema.TheVariants.{Option, Seq, Map, Array, Group, Enum, Named}
+use Rattle.postcard_dyn_schema.specs.declared.schema.Schema.TheVariants.{Option, Seq, Array, Group, Enum, Named}
 use Rattle.postcard_dyn_schema.specs.declared.schema.Schema.TheVariants as schemas
-use Rattle.postcard_dyn_schema.specs.declared.schema.Leaf.{Leaf}
 use Rattle.postcard_dyn_schema.specs.declared.angled.Holder.{Holder}
 use Rattle.postcard_dyn_schema.specs.declared.angled.Pair.{Pair}
-use Rattle.postcard_dyn_schema.specs.Angled.{IsHolderName, MayHold, IsHolderOf, IsPairName, MayPair, IsPairOf}
-use Rattle.postcard_dyn_schema.specs.Meaning.{IsNameOf, has_bytes, type_of}
+use Rattle.postcard_dyn_schema.specs.declared.angled.Pair.TheVariants as pairs
+use Rattle.postcard_dyn_schema.specs.declared.names.TypeName.{TypeName}
+use Rattle.postcard_dyn_schema.specs.declared.names.TypeName.TheVariants as names
+use Rattle.postcard_dyn_schema.specs.declared.angled.Angled.{Angled}
+use Rattle.postcard_dyn_schema.specs.declared.angled.Angled.TheVariants as kinds
+use Rattle.postcard_dyn_schema.specs.Angled.{MayHold, IsHolderOf, IsTypeName, MayPair, IsPairOf}
+use Rattle.postcard_dyn_schema.specs.Meaning.{has_bytes, type_of}
 use Rattle.postcard_dyn_schema.specs.Names.{NamesDiffer, HasNewName}
 use Rattle.postcard_dyn_schema.specs.Text.{AreBlank, Then, IsSign, IsMaybe, IsWord, IsLifetimeName, EndsWord, IsCount}
 
@@ -20,9 +24,17 @@ Separated P sign [] text = ⊥
 Separated P sign (s ∷ []) text = P s text
 Separated P sign (s ∷ u ∷ ss) text = Then (P s) (Then (IsSign sign) (Separated P sign (u ∷ ss))) text
 
--- The name of a type without parts.
-abbrev pub IsLeaf : Schema → List ℕ → Type 0
-IsLeaf s text = (leaf : Leaf) × (word : List ℕ) × (s ≡ schemas.Leaf leaf) × IsNameOf word leaf × IsWord word text
+-- A type and the sign after it.
+abbrev pub IsEndedBy : (Schema → List ℕ → Type 0) → ℕ → Schema → List ℕ → Type 0
+IsEndedBy T sign s text = Then (T s) (IsSign sign) text
+
+-- A type of one type, which is spelled by P.
+abbrev pub IsOfOne : Holder → (Schema → List ℕ → Type 0) → Schema → List ℕ → Type 0
+IsOfOne h P s text = (x : Schema) × MayHold h (type_of x) × IsHolderOf h x s × P x text
+
+-- A type of two types, of which the first is spelled by P and the second by Q.
+abbrev pub IsOfTwo : Pair → (Schema → List ℕ → Type 0) → (Schema → List ℕ → Type 0) → Schema → List ℕ → Type 0
+IsOfTwo p P Q s text = (x : Schema) × (y : Schema) × MayPair p (type_of x) (type_of y) × IsPairOf p x y s × Then (P x) (Q y) text
 
 -- What follows a `[`: an element type, which has bytes, and then `]`, or for an array `;`, a count and `]`.
 abbrev pub IsSeqRest : (Schema → List ℕ → Type 0) → Schema → List ℕ → Type 0
@@ -55,38 +67,31 @@ IsField T s text = (n : String Global) × (b : Box Schema Global) × (s ≡ Name
 abbrev pub IsFieldsRest : (Schema → List ℕ → Type 0) → Schema → List ℕ → Type 0
 IsFieldsRest T s text = (v : Vec Schema Global) × (s ≡ Group v) × NamesDiffer v.items × Then (Separated (IsField T) 44 v.items) (Then (IsMaybe 44) (IsSign 125)) text
 
--- What follows a `{` in a map: a key type, `=>` and a value type, of which at least one has bytes, and then `}`.
+-- The value type of a map, after the `=` behind its key type: `>`, the type and `}`.
+abbrev pub IsMapValue : (Schema → List ℕ → Type 0) → Schema → List ℕ → Type 0
+IsMapValue T s text = Then (IsSign 62) (IsEndedBy T 125 s) text
+
+-- What follows a `{` in a map: a key type, `=>`, a value type and `}`. At least one of the types has bytes.
 abbrev pub IsMapRest : (Schema → List ℕ → Type 0) → Schema → List ℕ → Type 0
-IsMapRest T s text = (b : Box Schema Global) × (v : Vec Schema Global) × (key : Schema) × (value : Schema)
-    × (s ≡ Map b) × (b.value ≡ Group v) × (v.items ≡ key ∷ value ∷ []) × (has_bytes (type_of b.value) ≡ true)
-    × Then (T key) (Then (IsSign 61) (Then (IsSign 62) (Then (T value) (IsSign 125)))) text
+IsMapRest T s text = IsOfTwo pairs.Map (IsEndedBy T 61) (IsMapValue T) s text
 
 -- What follows a `{`.
 abbrev pub IsBracesRest : (Schema → List ℕ → Type 0) → Schema → List ℕ → Type 0
 IsBracesRest T s text = IsFieldsRest T s text ⊎ IsMapRest T s text
 
--- What follows the `<` after the name of a type of one type: that type and `>`.
-abbrev pub IsHolderRest : (Schema → List ℕ → Type 0) → Holder → Schema → List ℕ → Type 0
-IsHolderRest T h s text = (x : Schema) × MayHold h (type_of x) × IsHolderOf h x s × Then (T x) (IsSign 62) text
+-- What follows a `<`: one type, or two with `,` between them, and `>`.
+abbrev pub IsAngledRest : (Schema → List ℕ → Type 0) → Angled → Schema → List ℕ → Type 0
+IsAngledRest T (kinds.Holder holder) s text = IsOfOne holder (IsEndedBy T 62) s text
+IsAngledRest T (kinds.Pair pair) s text = IsOfTwo pair (IsEndedBy T 44) (IsEndedBy T 62) s text
 
--- What follows the `<` after the name of a type of two types: these, with `,` between them, and `>`.
-abbrev pub IsPairRest : (Schema → List ℕ → Type 0) → Pair → Schema → List ℕ → Type 0
-IsPairRest T p s text = (x : Schema) × (y : Schema) × MayPair p (type_of x) (type_of y) × IsPairOf p x y s
-    × Then (T x) (Then (IsSign 44) (Then (T y) (IsSign 62))) text
+-- What follows the name of a type: nothing, or its types in `<` and `>`.
+abbrev pub IsNamedRest : (Schema → List ℕ → Type 0) → TypeName → Schema → List ℕ → Type 0
+IsNamedRest T (names.Leaf leaf) s text = (s ≡ schemas.Leaf leaf) × (text ≡ [])
+IsNamedRest T (names.Angled kind) s text = Then (IsSign 60) (IsAngledRest T kind s) text
 
--- What follows the name of a type that has types in `<` and `>`.
-abbrev pub IsAngleRest : (Schema → List ℕ → Type 0) → List ℕ → Schema → List ℕ → Type 0
-IsAngleRest T name s text =
-    ((h : Holder) × IsHolderName name h × Then (IsSign 60) (IsHolderRest T h s) text)
-    ⊎ ((p : Pair) × IsPairName name p × Then (IsSign 60) (IsPairRest T p s) text)
-
--- A type that has types in `<` and `>`, after its name.
-abbrev pub IsAngled : (Schema → List ℕ → Type 0) → Schema → List ℕ → Type 0
-IsAngled T s text = (name : List ℕ) × Then (IsWord name) (IsAngleRest T name s) text
-
--- A type that begins with a name.
+-- A type that begins with its name.
 abbrev pub IsWorded : (Schema → List ℕ → Type 0) → Schema → List ℕ → Type 0
-IsWorded T s text = IsLeaf s text ⊎ IsAngled T s text
+IsWorded T s text = (name : TypeName) × (word : List ℕ) × IsTypeName word name × Then (IsWord word) (IsNamedRest T name s) text
 
 -- A type that is no enum, with no `&` before it and not followed by `?`.
 abbrev pub IsPlain : (Schema → List ℕ → Type 0) → Schema → List ℕ → Type 0

@@ -1,11 +1,8 @@
-//! Types of Rust that have types in `<` and `>`, such as `Vec<T>`: their names, and their schemas.
+//! Types of Rust that have types in `<` and `>`, such as `Vec<T>`, and their schemas.
 
-ghost use Rattle.std.specs.Prelude.{◌≡◌, [], ◌∷◌, IfSome, IfNone, IfOk, IfErr};
-ghost use Rattle.postcard_dyn_schema.specs.declared.angled.Holder.{Holder};
-ghost use Rattle.postcard_dyn_schema.specs.declared.angled.Pair.{Pair};
+ghost use Rattle.std.specs.Prelude.{◌≡◌, [], ◌∷◌, IfOk, IfErr};
 ghost use Rattle.postcard_dyn_schema.specs.declared.angled.Pair.TheVariants as pairs;
-ghost use Rattle.postcard_dyn_schema.specs.Angled.{IsHolderName, MayHold, IsHolderOf};
-ghost use Rattle.postcard_dyn_schema.specs.Angled.{IsPairName, MayPair, IsPairOf};
+ghost use Rattle.postcard_dyn_schema.specs.Angled.{MayHold, IsHolderOf, MayPair, IsPairOf};
 ghost use Rattle.postcard_dyn_schema.specs.Fronts.{IsRefusal};
 ghost use Rattle.postcard_dyn_schema.specs.Meaning.{type_of};
 
@@ -13,6 +10,15 @@ use crate::error::Problem;
 use crate::scan::{Fault, boxed, fault_at, named, push};
 use crate::schema::Schema;
 use std::alloc::Global;
+
+/// A type that has types in `<` and `>`.
+#[derive(Clone, Copy, Debug, PartialEq, Eq)]
+pub enum Angled {
+    /// A type of one type.
+    Holder(Holder),
+    /// A type of two types.
+    Pair(Pair),
+}
 
 /// A type of one type `T`.
 #[derive(Clone, Copy, Debug, PartialEq, Eq)]
@@ -26,19 +32,6 @@ pub enum Holder {
 }
 
 impl Holder {
-    /// Returns the type of one type with this name, such as `Vec`, or `None` if none has it.
-    pub fn from_name(name: &[u8]) -> Option<Holder>
-        ensures found { IfSome result (λ holder. IsHolderName name.now holder) }
-        ensures none { IfNone result ((holder : Holder) → IsHolderName name.now holder → ⊥) }
-    {
-        match name {
-            b"Box" => Some(Holder::Itself),
-            b"Vec" => Some(Holder::List),
-            b"Option" => Some(Holder::Option),
-            _ => None,
-        }
-    }
-
     /// Returns the schema of the type where `T` is the type of `inner`.
     ///
     /// # Errors
@@ -68,18 +61,6 @@ pub enum Pair {
 }
 
 impl Pair {
-    /// Returns the type of two types with this name, such as `Result`, or `None` if none has it.
-    pub fn from_name(name: &[u8]) -> Option<Pair>
-        ensures found { IfSome result (λ pair. IsPairName name.now pair) }
-        ensures none { IfNone result ((pair : Pair) → IsPairName name.now pair → ⊥) }
-    {
-        match name {
-            b"BTreeMap" | b"HashMap" => Some(Pair::Map),
-            b"Result" => Some(Pair::Result),
-            _ => None,
-        }
-    }
-
     /// Returns the schema of the type where these are its two types, in order.
     ///
     /// # Errors

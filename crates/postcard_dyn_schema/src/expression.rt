@@ -18,7 +18,7 @@
 //! `(T,)` is a tuple of one part. The fields of a struct have different names, and so have the
 //! variants of an enum; a count is below 2^64.
 //!
-//! A word is the name of a type without parts ([`Leaf`]), such as `u16` or `String`. A type that
+//! A word is the name of a type without parts, such as `u16` or `String` ([`TypeName`]). A type that
 //! begins with a capital letter is an enum if `|`, `(` or `{` follows its first word, and else that
 //! word names a type of Rust. So `String | Number` is an enum, and `[String]` a list of texts.
 //!
@@ -27,8 +27,8 @@
 //! a reference is written as what it refers to; the name of a lifetime, as `a` in `&'a str`, begins
 //! with no digit.
 
-ghost use Rattle.std.specs.Prelude.{◌≡◌, ℕ, List, ◌+◌, ◌≤◌, length, Decides, IfOk, IfErr, OnOk};
-ghost use Rattle.postcard_dyn_schema.specs.Text.{characters, TakesPhrase, EndsWord, GoesOnBy};
+ghost use Rattle.std.specs.Prelude.{◌≡◌, ℕ, List, ◌+◌, ◌≤◌, true, length, Decides, IfOk, IfErr, OnOk, OnErr};
+ghost use Rattle.postcard_dyn_schema.specs.Text.{characters, TakesPhrase, IsSign, EndsWord, GoesOnBy};
 ghost use Rattle.postcard_dyn_schema.specs.Fronts.{HasFront, IsOnlyFront, IsRefusal, IsNamed, Anything};
 ghost use Rattle.postcard_dyn_schema.specs.Fronts.{Starts, StartsEnum};
 ghost use Rattle.postcard_dyn_schema.specs.Fronts.{follows_name as is_after_first_name};
@@ -37,20 +37,19 @@ ghost use Rattle.postcard_dyn_schema.specs.declared.schema.Schema.{Schema};
 ghost use Rattle.postcard_dyn_schema.specs.Meaning.{type_of};
 ghost use Rattle.postcard_dyn_schema.specs.Names.{IsNewTo, IsTakenIn, HasNamesOf};
 ghost use Rattle.postcard_dyn_schema.specs.Bounds.{ElementsHaveBytes, depth as depth_of};
-ghost use Rattle.postcard_dyn_schema.specs.declared.angled.Holder.{Holder};
-ghost use Rattle.postcard_dyn_schema.specs.declared.angled.Pair.{Pair};
 ghost use Rattle.postcard_dyn_schema.specs.Grammar.{IsType, IsReferred, IsPlain, IsListRest, IsTupleRest};
-ghost use Rattle.postcard_dyn_schema.specs.Grammar.{IsWorded, IsAngleRest, IsHolderRest, IsPairRest};
+ghost use Rattle.postcard_dyn_schema.specs.Grammar.{IsWorded, IsAngledRest, IsEndedBy, IsOfOne, IsOfTwo};
 ghost use Rattle.postcard_dyn_schema.specs.Grammar.{IsFieldsRest, IsMapRest, IsBracesRest, IsEnumText};
 ghost use Rattle.postcard_dyn_schema.specs.Grammar.{IsNewVariant, IsContent, IsExpression};
 
-use crate::angled::{Holder, Pair, map_of};
+use crate::angled::{Angled, Holder, Pair, map_of};
 use crate::error::{ExpressionError, Problem};
 use crate::scan::{
     Fault, boxed, character_of, expect, fault_at, named, push, skip_blanks, skip_lifetime, take,
     take_count, take_word,
 };
-use crate::schema::{Leaf, Schema};
+use crate::names::TypeName;
+use crate::schema::Schema;
 use std::alloc::Global;
 
 /// How deep types may nest in brackets, where the outermost type has depth 1.
@@ -222,38 +221,48 @@ fn read_worded(alloc: Global, rest: &mut &[u8], depth: usize) -> Result<Schema, 
     if word.is_empty() {
         return Err(fault_at(Problem::TypeExpected, start));
     }
-    match Leaf::from_name(word) {
-        Some(leaf) => Ok(Schema::Leaf(leaf)),
-        None => read_angled(alloc, word, start, rest, depth),
+    let Some(name) = TypeName::from_word(word) else {
+        return Err(fault_at(Problem::UnknownType, start));
+    };
+    match name {
+        TypeName::Leaf(leaf) => Ok(Schema::Leaf(leaf)),
+        TypeName::Angled(kind) => {
+            open_angle(rest, start)?;
+            read_angled(alloc, kind, rest, depth)
+        }
     }
 }
 
-/// Reads the types in `<` and `>` after the name of a type, which stands at `start`.
+/// Takes the `<` after the name of a type, which stands at `name`.
+///
+/// # Errors
+///
+/// Fails with `UnknownType` at the name if something else follows it.
+fn open_angle(rest: &mut &[u8], name: &[u8]) -> Result<(), Fault>
+    ensures taken { OnOk result (TakesPhrase (IsSign 60) rest.old.now rest.new.now) }
+    ensures none { OnErr result ((after : List ℕ)
+        → TakesPhrase (IsSign 60) rest.old.now after → ⊥) }
+{
+    if take(rest, b'<') {
+        return Ok(());
+    }
+    Err(fault_at(Problem::UnknownType, name))
+}
+
+/// Reads the types and the `>` after the `<` of a type, and returns that type.
 #[cycle(expression)]
-fn read_angled(
-    alloc: Global,
-    name: &[u8],
-    start: &[u8],
-    rest: &mut &[u8],
-    depth: usize,
-) -> Result<Schema, Fault>
-    ensures spelled { IfOk result (λ schema. TakesPhrase (IsAngleRest (IsType depth) name.now schema)
+fn read_angled(alloc: Global, kind: Angled, rest: &mut &[u8], depth: usize) -> Result<Schema, Fault>
+    ensures spelled { IfOk result (λ schema. TakesPhrase (IsAngledRest (IsType depth) kind schema)
         rest.old.now rest.new.now) }
     ensures one { IfOk result (λ schema.
-        IsOnlyFront Anything (IsAngleRest (IsType depth) name.now) schema rest.old.now rest.new.now) }
+        IsOnlyFront Anything (IsAngledRest (IsType depth) kind) schema rest.old.now rest.new.now) }
     ensures refused { IfErr result (λ fault.
-        IsRefusal fault.problem (HasFront Anything (IsAngleRest (IsType depth) name.now) rest.old.now)) }
+        IsRefusal fault.problem (HasFront Anything (IsAngledRest (IsType depth) kind) rest.old.now)) }
 {
-    if !take(rest, b'<') {
-        return Err(fault_at(Problem::UnknownType, start));
+    match kind {
+        Angled::Holder(holder) => read_holder(alloc, holder, rest, depth),
+        Angled::Pair(pair) => read_pair(alloc, pair, rest, depth),
     }
-    if let Some(holder) = Holder::from_name(name) {
-        return read_holder(alloc, holder, rest, depth);
-    }
-    if let Some(pair) = Pair::from_name(name) {
-        return read_pair(alloc, pair, rest, depth);
-    }
-    Err(fault_at(Problem::UnknownType, start))
 }
 
 /// Reads a type and `>` after the `<` of a type of one type, and returns that type.
@@ -264,16 +273,15 @@ fn read_holder(
     rest: &mut &[u8],
     depth: usize,
 ) -> Result<Schema, Fault>
-    ensures spelled { IfOk result (λ schema. TakesPhrase (IsHolderRest (IsType depth) holder schema)
-        rest.old.now rest.new.now) }
-    ensures one { IfOk result (λ schema.
-        IsOnlyFront Anything (IsHolderRest (IsType depth) holder) schema rest.old.now rest.new.now) }
-    ensures refused { IfErr result (λ fault.
-        IsRefusal fault.problem (HasFront Anything (IsHolderRest (IsType depth) holder) rest.old.now)) }
+    ensures spelled { IfOk result (λ schema.
+        TakesPhrase (IsOfOne holder (IsEndedBy (IsType depth) 62) schema) rest.old.now rest.new.now) }
+    ensures one { IfOk result (λ schema. IsOnlyFront Anything
+        (IsOfOne holder (IsEndedBy (IsType depth) 62)) schema rest.old.now rest.new.now) }
+    ensures refused { IfErr result (λ fault. IsRefusal fault.problem
+        (HasFront Anything (IsOfOne holder (IsEndedBy (IsType depth) 62)) rest.old.now)) }
 {
     let start = rest.trim_ascii_start();
-    let inner = read_type(alloc, rest, depth)?;
-    expect(rest, b'>', Problem::GreaterExpected)?;
+    let inner = read_ended(alloc, rest, depth, b'>', Problem::GreaterExpected)?;
     holder.of_type(alloc, inner, start)
 }
 
@@ -281,19 +289,41 @@ fn read_holder(
 /// returns that type.
 #[cycle(expression)]
 fn read_pair(alloc: Global, pair: Pair, rest: &mut &[u8], depth: usize) -> Result<Schema, Fault>
-    ensures spelled { IfOk result (λ schema. TakesPhrase (IsPairRest (IsType depth) pair schema)
+    ensures spelled { IfOk result (λ schema. TakesPhrase
+        (IsOfTwo pair (IsEndedBy (IsType depth) 44) (IsEndedBy (IsType depth) 62) schema)
         rest.old.now rest.new.now) }
-    ensures one { IfOk result (λ schema.
-        IsOnlyFront Anything (IsPairRest (IsType depth) pair) schema rest.old.now rest.new.now) }
-    ensures refused { IfErr result (λ fault.
-        IsRefusal fault.problem (HasFront Anything (IsPairRest (IsType depth) pair) rest.old.now)) }
+    ensures one { IfOk result (λ schema. IsOnlyFront Anything
+        (IsOfTwo pair (IsEndedBy (IsType depth) 44) (IsEndedBy (IsType depth) 62))
+        schema rest.old.now rest.new.now) }
+    ensures refused { IfErr result (λ fault. IsRefusal fault.problem (HasFront Anything
+        (IsOfTwo pair (IsEndedBy (IsType depth) 44) (IsEndedBy (IsType depth) 62)) rest.old.now)) }
 {
     let start = rest.trim_ascii_start();
-    let first = read_type(alloc, rest, depth)?;
-    expect(rest, b',', Problem::CommaExpected)?;
-    let second = read_type(alloc, rest, depth)?;
-    expect(rest, b'>', Problem::GreaterExpected)?;
+    let first = read_ended(alloc, rest, depth, b',', Problem::CommaExpected)?;
+    let second = read_ended(alloc, rest, depth, b'>', Problem::GreaterExpected)?;
     pair.of_types(alloc, first, second, start)
+}
+
+/// Reads a type and then the byte `sign`. If another byte follows the type, it fails with `problem`.
+#[cycle(expression)]
+fn read_ended(
+    alloc: Global,
+    rest: &mut &[u8],
+    depth: usize,
+    sign: u8,
+    problem: Problem,
+) -> Result<Schema, Fault>
+    requires { follows_type sign ≡ true }
+    ensures spelled { IfOk result (λ schema. TakesPhrase (IsEndedBy (IsType depth) sign schema)
+        rest.old.now rest.new.now) }
+    ensures one { IfOk result (λ schema.
+        IsOnlyFront Anything (IsEndedBy (IsType depth) sign) schema rest.old.now rest.new.now) }
+    ensures refused { IfErr result (λ fault.
+        IsRefusal fault.problem (HasFront Anything (IsEndedBy (IsType depth) sign) rest.old.now)) }
+{
+    let schema = read_type(alloc, rest, depth)?;
+    expect(rest, sign, problem)?;
+    Ok(schema)
 }
 
 /// Reads a list or an array after its `[`.
@@ -445,11 +475,9 @@ fn read_map(alloc: Global, rest: &mut &[u8], depth: usize) -> Result<Schema, Fau
         IsRefusal fault.problem (HasFront Anything (IsMapRest (IsType depth)) rest.old.now)) }
 {
     let start = rest.trim_ascii_start();
-    let key = read_type(alloc, rest, depth)?;
-    expect(rest, b'=', Problem::ArrowExpected)?;
+    let key = read_ended(alloc, rest, depth, b'=', Problem::ArrowExpected)?;
     expect(rest, b'>', Problem::ArrowExpected)?;
-    let value = read_type(alloc, rest, depth)?;
-    expect(rest, b'}', Problem::BraceExpected)?;
+    let value = read_ended(alloc, rest, depth, b'}', Problem::BraceExpected)?;
     map_of(alloc, key, value, start)
 }
 

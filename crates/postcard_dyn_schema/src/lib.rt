@@ -8,6 +8,7 @@
 pub mod angled;
 pub mod error;
 pub mod expression;
+pub mod names;
 pub mod scan;
 pub mod schema;
 

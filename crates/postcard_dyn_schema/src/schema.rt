@@ -1,9 +1,7 @@
 //! Types of messages, as values of a program.
 
-ghost use Rattle.std.specs.Prelude.{◌≡◌, IfSome, IfNone};
-ghost use Rattle.postcard_dyn_schema.specs.Meaning.{IsNameOf, has_bytes, type_of, types_of};
-ghost use Rattle.postcard_dyn_schema.specs.Meaning.{some_has_bytes};
-ghost use Rattle.postcard_dyn_schema.specs.declared.schema.Leaf.{Leaf};
+ghost use Rattle.std.specs.Prelude.{◌≡◌};
+ghost use Rattle.postcard_dyn_schema.specs.Meaning.{has_bytes, some_has_bytes, type_of, types_of};
 
 /// A type without parts. Each is read by one call of `Deserializer` and written by one of
 /// `Serializer`, but for the floats, whose bits are read and written at their full width, so that
@@ -28,35 +26,6 @@ pub enum Leaf {
     Char,
     Str,
     Bytes,
-}
-
-impl Leaf {
-    /// Returns the type with this name, such as `u16`, or `None` if no type without parts has it.
-    /// `usize` names the same type as `u64`, `isize` the same as `i64`, and `String` as `str`.
-    pub fn from_name(name: &[u8]) -> Option<Leaf>
-        ensures found { IfSome result (λ leaf. IsNameOf name.now leaf) }
-        ensures none { IfNone result ((leaf : Leaf) → IsNameOf name.now leaf → ⊥) }
-    {
-        match name {
-            b"bool" => Some(Leaf::Bool),
-            b"u8" => Some(Leaf::U8),
-            b"u16" => Some(Leaf::U16),
-            b"u32" => Some(Leaf::U32),
-            b"u64" | b"usize" => Some(Leaf::U64),
-            b"u128" => Some(Leaf::U128),
-            b"i8" => Some(Leaf::I8),
-            b"i16" => Some(Leaf::I16),
-            b"i32" => Some(Leaf::I32),
-            b"i64" | b"isize" => Some(Leaf::I64),
-            b"i128" => Some(Leaf::I128),
-            b"f32" => Some(Leaf::F32),
-            b"f64" => Some(Leaf::F64),
-            b"char" => Some(Leaf::Char),
-            b"str" | b"String" => Some(Leaf::Str),
-            b"bytes" => Some(Leaf::Bytes),
-            _ => None,
-        }
-    }
 }
 
 /// The type of a message.

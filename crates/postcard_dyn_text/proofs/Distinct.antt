@@ -11,8 +11,11 @@ use Rattle.postcard_dyn_schema.specs.declared.angled.Holder.{Holder}
 use Rattle.postcard_dyn_schema.specs.declared.angled.Holder.TheVariants as holders
 use Rattle.postcard_dyn_schema.specs.declared.angled.Pair.{Pair}
 use Rattle.postcard_dyn_schema.specs.declared.angled.Pair.TheVariants as pairs
+use Rattle.postcard_dyn_schema.specs.declared.angled.Angled.TheVariants as kinds
+use Rattle.postcard_dyn_schema.specs.declared.names.TypeName.TheVariants as names
+use Rattle.postcard_dyn_schema.specs.Angled.{IsHolderOf, IsPairOf}
 use Rattle.postcard_dyn_schema.specs.Names.{IsCalled, IsNewTo, NamesDiffer}
-use Rattle.postcard_dyn_schema.specs.Grammar.{Separated, IsListRest, IsTupleRest, IsField, IsFieldsRest, IsMapRest, IsHolderRest, IsPairRest, IsWorded, IsPlain, IsBehind, IsReferred, IsOptions, IsContent, IsVariantText, IsEnumText, IsType, IsExpression}
+use Rattle.postcard_dyn_schema.specs.Grammar.{Separated, IsListRest, IsTupleRest, IsField, IsFieldsRest, IsMapRest, IsWorded, IsPlain, IsBehind, IsReferred, IsOptions, IsContent, IsVariantText, IsEnumText, IsType, IsExpression}
 use Rattle.postcard_dyn_text.specs.Accepted.{IsNotCalled, AreNotCalled, HasNewName, HasDistinctNames, HaveDistinctNames}
 use Rattle.postcard_dyn_text.specs.Accepted as texts
 use Rattle.postcard_dyn_text.specs.Shown.{leaf, option, list, mapping, array, group, choice, named, layout_of, layouts_of}
@@ -65,14 +68,10 @@ of_field T each s t (name, b, is, filled, letter, (x, y, word, (u, v, colon, h, 
 of_fields : (T : Schema → List ℕ → Type 0) → Distinct T → Distinct (IsFieldsRest T)
 of_fields T each s t (v, is, differ, (x, y, h, end, e)) = rw (is, layout_group v) (row (IsField T) 44 v.items x (of_field T each) h)
 
-of_map : (T : Schema → List ℕ → Type 0) → Distinct T → Distinct (IsMapRest T)
-of_map T each s t (b, v, key, value, is, entry, items, full, (x, y, h, (x2, y2, equals, (x3, y3, greater, (x4, y4, g, close, e4), e3), e2), e)) =
-    rw (is, layout_map b, entry, layout_group v, items) (tt, (each key x h, (each value x4 g, tt)))
-
-of_holder : (T : Schema → List ℕ → Type 0) (h : Holder) → Distinct T → Distinct (IsHolderRest T h)
-of_holder T holders.Itself each s t (x, may, is, (f, g, inside, close, e)) = rw is (each x f inside)
-of_holder T holders.List each s t (x, may, (b, is, value), (f, g, inside, close, e)) = rw (is, layout_seq b, value) (each x f inside)
-of_holder T holders.Option each s t (x, may, (b, is, value), (f, g, inside, close, e)) = rw (is, layout_option b, value) (each x f inside)
+of_one : (h : Holder) (x s : Schema) → IsHolderOf h x s → HasDistinctNames (layout_of x) → HasDistinctNames (layout_of s)
+of_one holders.Itself x s is inside = rw is inside
+of_one holders.List x s (b, is, value) inside = rw (is, layout_seq b, value) inside
+of_one holders.Option x s (b, is, value) inside = rw (is, layout_option b, value) inside
 
 -- The names of the variants of a result.
 result_names : (n m : List ℕ) → n ≡ codes "Ok" → m ≡ codes "Err" → n ≡ m → ⊥
@@ -81,19 +80,22 @@ result_names n m ok err same = let e : codes "Ok" ≡ codes "Err" = sym ok ∙ s
     other : codes "Ok" ≡ codes "Err" → ⊥
     other e = let long : 2 ≡ 3 = ap length e in omega (arith, long)
 
-of_pair : (T : Schema → List ℕ → Type 0) (p : Pair) → Distinct T → Distinct (IsPairRest T p)
-of_pair T pairs.Map each s t (x, y, may, (b, v, is, entry, items), (f, f2, first, (g, g2, comma, (h, h2, second, close, e3), e2), e)) =
-    rw (is, layout_map b, entry, layout_group v, items) (tt, (each x f first, (each y h second, tt)))
-of_pair T pairs.Result each s t (x, y, may, (v, n, b, m, c, is, items, ok, value, err, error), (f, f2, first, (g, g2, comma, (h, h2, second, close, e3), e2), e)) =
-    let good : HasDistinctNames (layout_of (Named n b)) = rw (layout_named n b, value) (subst (λ z. 0 < length z) (sym ok) (omega arith), each x f first) in
-    let bad : HasDistinctNames (layout_of (Named m c)) = rw (layout_named m c, error) (subst (λ z. 0 < length z) (sym err) (omega arith), each y h second) in
+of_two : (p : Pair) (x y s : Schema) → IsPairOf p x y s → HasDistinctNames (layout_of x) → HasDistinctNames (layout_of y) → HasDistinctNames (layout_of s)
+of_two pairs.Map x y s (b, v, is, entry, items) first second = rw (is, layout_map b, entry, layout_group v, items) (tt, (first, (second, tt)))
+of_two pairs.Result x y s (v, n, b, m, c, is, items, ok, value, err, error) first second =
+    let good : HasDistinctNames (layout_of (Named n b)) = rw (layout_named n b, value) (subst (λ z. 0 < length z) (sym ok) (omega arith), first) in
+    let bad : HasDistinctNames (layout_of (Named m c)) = rw (layout_named m c, error) (subst (λ z. 0 < length z) (sym err) (omega arith), second) in
     let differ : HasNewName (layout_of (Named n b)) (layouts_of (Named m c ∷ [])) = rw (layout_named n b, layout_named m c) (λ same. result_names (string_bytes n) (string_bytes m) ok err (sym same), tt) in
     rw (is, layout_enum v, items) ((differ, (rw (layout_named m c) tt, tt)), (good, (bad, tt)))
 
+of_map : (T : Schema → List ℕ → Type 0) → Distinct T → Distinct (IsMapRest T)
+of_map T each s t (x, y, may, is, (f, g, (f2, g2, key, equals, e2), (f3, g3, arrow, (f4, g4, value, close, e4), e3), e)) = of_two pairs.Map x y s is (each x f2 key) (each y f4 value)
+
 of_worded : (T : Schema → List ℕ → Type 0) → Distinct T → Distinct (IsWorded T)
-of_worded T each s t (inl (l, word, is, name, spelled)) = rw (is, layout_leaf l) tt
-of_worded T each s t (inr (name, (x, y, word, inl (h, called, (f, g, sign, rest, e2)), e))) = of_holder T h each s g rest
-of_worded T each s t (inr (name, (x, y, word, inr (p, called, (f, g, sign, rest, e2)), e))) = of_pair T p each s g rest
+of_worded T each s t (names.Leaf l, name, called, (f, g, word, (is, nothing), e)) = rw (is, layout_leaf l) tt
+of_worded T each s t (names.Angled (kinds.Holder h), name, called, (f, g, word, (f2, g2, open_sign, (x, may, is, (f3, g3, inside, close, e3)), e2), e)) = of_one h x s is (each x f3 inside)
+of_worded T each s t (names.Angled (kinds.Pair p), name, called, (f, g, word, (f2, g2, open_sign, (x, y, may, is, (f3, g3, (f4, g4, first, comma, e4), (f5, g5, second, close, e5), e3)), e2), e)) =
+    of_two p x y s is (each x f4 first) (each y f5 second)
 
 of_plain : (T : Schema → List ℕ → Type 0) → Distinct T → Distinct (IsPlain T)
 of_plain T each s t (inl h) = of_worded T each s t h

@@ -1,5 +1,5 @@
 -- A list that is written many elements at a time: what is written so far, and what is left.
-use Rattle.std.proofs.Common.{◌≡◌, ℕ, ◌<◌, Result, Ok, Err, OnOk, List, [], ◌++◌, length, take, drop, refl, sym, ap, subst, ◌∙◌, append_assoc, arith}
+use Rattle.std.proofs.Common.{◌≡◌, ℕ, ◌<◌, ◌≤◌, Result, Ok, Err, OnOk, List, [], ◌++◌, length, take, drop, refl, sym, ap, subst, ◌∙◌, append_assoc, arith}
 use Rattle.std.proofs.lemmas.List.{take-append-drop, length-drop}
 use Rattle.std.specs.Prelude.{Any, map}
 use Rattle.postcard_wire.specs.Spelling.{canonical_all}
@@ -11,8 +11,8 @@ use Rattle.postcard_shape.specs.Lists.{AllFit}
 use Rattle.postcard_shape.specs.Shape.{Shape}
 use Rattle.postcard_shape.proofs.Fitting.{all_append}
 use Rattle.postcard_ser.specs.Writing.{Wrote, never}
-use Rattle.postcard_ser.proofs.Elements.{elements_append, any_right}
-use Rattle.postcard_ser.proofs.PartByPart.{wrote_none, wrote_then, wrote_stop, wrote_as}
+use Rattle.postcard_ser.proofs.Elements.{elements_append, any_left, any_right}
+use Rattle.postcard_ser.proofs.PartByPart.{wrote_none, wrote_then, wrote_stop, wrote_as, wrote_ok}
 
 module _ {S O V : Type 0} (F : Ghosts S O) (s : Shape V) where
   -- The encodings of the values xs.
@@ -29,6 +29,10 @@ module _ {S O V : Type 0} (F : Ghosts S O) (s : Shape V) where
 -- A block takes elements away.
 pub block_shortens : {V : Type 0} {s : Shape V} {rest others : List V} {bytes : List ℕ} {n : ℕ} → IsBlock s rest bytes n → others ≡ drop n rest → length others < length rest
 block_shortens {rest} {n} b o = rw o (omega (arith, length-drop n rest, b.some, b.within))
+
+-- So do elements that are written one by one.
+pub some_shorten : {V : Type 0} (rest others : List V) (n : ℕ) → 0 < n → n ≤ length rest → others ≡ drop n rest → length others < length rest
+some_shorten rest others n some within o = rw o (omega (arith, length-drop n rest, some, within))
 
 module _ {S O V : Type 0} {F : Ghosts S O} {s : Shape V} where
   -- At first nothing is written.
@@ -71,6 +75,25 @@ module _ {S O V : Type 0} {F : Ghosts S O} {s : Shape V} where
       subst (λ z. Wrote F old (encoded F s z) (λ e. Any (λ x. s.refusal x e) z) s.text r new) (sym w.cut)
       (subst (λ z. Wrote F old z (λ e. Any (λ x. s.refusal x e) (w.done ++ rest)) s.text r new) (sym (elements_append s.tree w.done rest))
       (wrote_then _ _ w.wrote v (λ e. any_right w.done rest) (λ t. t)))
+
+  -- Some elements more are written one by one.
+  pub written_some : {items rest : List V} {old mid new : S} (others : List V) (n : ℕ) → Written F s items rest old mid → 0 < n → n ≤ length rest
+      → others ≡ drop n rest → Wrote F mid (encoded F s (take n rest)) (λ e. Any (λ x. s.refusal x e) (take n rest)) s.text (Ok tt) new
+      → AllFit s.fits (take n rest) → Written F s items others old new
+  written_some {rest} others n w some within o r f =
+      let b : IsBlock s rest (encoded F s (take n rest)) n = record { some = some; within = within; gives = refl; fits = f } in
+      written_more w b o (wrote_ok r)
+
+  -- One of some elements is refused, and so is the list.
+  pub written_refused : {items rest : List V} {old mid new : S} {e : Error} (n : ℕ) → Written F s items rest old mid
+      → Wrote F mid (encoded F s (take n rest)) (λ e. Any (λ x. s.refusal x e) (take n rest)) s.text (Err e) new
+      → Wrote F old (encoded F s items) (λ e. Any (λ x. s.refusal x e) items) s.text (Err e) new
+  written_refused {rest} {mid} {new} {e} n w r =
+      let front = take n rest in
+      let others = drop n rest in
+      written_end w (subst (λ z. Wrote F mid (encoded F s z) (λ e. Any (λ x. s.refusal x e) z) s.text (Err e) new) (take-append-drop n rest)
+      (subst (λ z. Wrote F mid z (λ e. Any (λ x. s.refusal x e) (front ++ others)) s.text (Err e) new) (sym (elements_append s.tree front others))
+      (wrote_stop _ _ r (λ e. any_left front others) (λ t. t))))
 
   -- Bytes that are the encodings of all that are left are written or refused, and so is the list.
   pub written_whole : {items rest : List V} {bytes : List ℕ} {old mid new : S} {r : Result (Unit {0}) Error} (w : Written F s items rest old mid)

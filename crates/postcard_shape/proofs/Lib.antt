@@ -8,3 +8,4 @@ pub mod Floats
 pub mod FloatLanes
 pub mod Distinct
 pub mod Varints
+pub mod OneByte

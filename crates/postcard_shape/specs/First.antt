@@ -5,7 +5,7 @@ use Rattle.postcard_wire.specs.Tree.{trees}
 use Rattle.postcard_shape.specs.Lists.{AllFit}
 use Rattle.postcard_shape.specs.Shape.{Shape}
 use Rattle.postcard_shape.specs.declared.first.FirstBytes.{FirstBytes}
-use Rattle.postcard_shape.specs.declared.first.FirstBytes.TheVariants.{Whole, Block, OneByOne}
+use Rattle.postcard_shape.specs.declared.first.FirstBytes.TheVariants.{Whole, Block, SomeOneByOne, OneByOne}
 
 -- The bytes are the encodings of the items, which fit.
 abbrev pub AreBytesOf : {V : Type 0} → Shape V → List V → List ℕ → Type 0
@@ -18,10 +18,11 @@ pub record IsBlock {V : Type 0} (s : Shape V) (items : List V) (bytes : List ℕ
   pub gives : bytes ≡ canonical_all (trees (map s.tree (take n items)))
   pub fits : AllFit s.fits (take n items)
 
--- The bytes are the encodings of all items, or of some first ones.
+-- The bytes are the encodings of all items, or of some first ones; or there are none, for some first items, or for all.
 abbrev pub AreFirst : {V : Type 0} → Shape V → List V → FirstBytes → Type 0
 AreFirst s items (Whole bytes) = AreBytesOf s items bytes.now
 AreFirst s items (Block bytes n) = IsBlock s items bytes n
+AreFirst s items (SomeOneByOne n) = (0 < n) × (n ≤ length items)
 AreFirst s items OneByOne = Unit {0}
 
 -- They are those of all items.

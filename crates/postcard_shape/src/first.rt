@@ -9,6 +9,9 @@ pub enum FirstBytes<'a> {
     /// The encodings of some first items, which have 16 bytes together, and the number of these
     /// items, which is at least 1.
     Block([u8; 16], usize),
-    /// The encodings of no items, which are then written one by one.
+    /// The encodings of no items. So many first items, at least 1, are written one by one, and then
+    /// it is asked again.
+    SomeOneByOne(usize),
+    /// The encodings of no items, which are all written one by one.
     OneByOne,
 }

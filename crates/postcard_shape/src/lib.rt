@@ -11,13 +11,14 @@
 //! included, so that a type says its shape in one line.
 //!
 //! In reading order: [`shape`] has the traits, [`first`] what one of their methods returns, [`rows`]
-//! and [`cases`] what tuples and enums are written and read as, `runs` numbers that are read many at
-//! a time, `values` the types of std and of `arrayvec`.
+//! and [`cases`] what tuples and enums are written and read as, `runs` and `pieces` numbers that are
+//! read and written many at a time, `values` the types of std and of `arrayvec`.
 #![tactic(auto)]
 
 pub mod cases;
 pub mod first;
 pub mod formats;
+mod pieces;
 pub mod rows;
 mod runs;
 pub mod shape;

@@ -7,16 +7,21 @@ ghost use Rattle.std.specs.Mem.{type_size};
 ghost use Rattle.std.specs.Option.{IfNone};
 ghost use Rattle.postcard_wire.specs.Words.{IsCut, IsNarrow};
 ghost use Rattle.postcard_shape.specs.Leaves.{num, int};
-ghost use Rattle.postcard_shape.specs.Runs.{IsValue, AreValuesOf};
+ghost use Rattle.postcard_shape.specs.Runs.{IsValue, AreValuesOf, IsVarintOf};
 ghost use Rattle.postcard_shape.specs.Shape.{Shape};
 ghost use Rattle.postcard_shape.specs.Lists.{Appends};
 
 use postcard_wire::words::{BLOCK, RUN, cut, ends, number_of};
-use postcard_wire::zigzag::{de_zig_zag_i16, de_zig_zag_i32, de_zig_zag_i64};
+use postcard_wire::zigzag::{
+    de_zig_zag_i16, de_zig_zag_i32, de_zig_zag_i64, zig_zag_i16, zig_zag_i32, zig_zag_i64,
+};
 use postcard_wire::{Error, Result};
 
 /// How many numbers of one byte each are read at once.
 const ROW: usize = 64;
+
+/// Of how many numbers at least a row is worth looking for.
+const LEAST: usize = 32;
 
 /// A number that is written as a varint.
 pub(crate) trait Varint: Copy + Default {
@@ -35,6 +40,10 @@ pub(crate) trait Varint: Copy + Default {
     /// Returns the value whose digits are in a byte each.
     fn of_digits(digits: u64) -> Self
         ensures { (p : List ℕ) → IsCut width p digits → IsValue form p result };
+
+    /// Returns the number whose varint the value is written as: the value, or its zigzag encoding.
+    fn to_number(self) -> u64
+        ensures { IsVarintOf form result self };
 }
 
 impl Varint for u16 {
@@ -50,6 +59,11 @@ impl Varint for u16 {
     #[inline(always)]
     fn of_digits(digits: u64) -> u16 {
         (number_of(digits, 16) % 0x1_0000) as u16
+    }
+
+    #[inline(always)]
+    fn to_number(self) -> u64 {
+        u64::from(self)
     }
 }
 
@@ -67,6 +81,11 @@ impl Varint for u32 {
     fn of_digits(digits: u64) -> u32 {
         (number_of(digits, 32) % 0x1_0000_0000) as u32
     }
+
+    #[inline(always)]
+    fn to_number(self) -> u64 {
+        u64::from(self)
+    }
 }
 
 impl Varint for u64 {
@@ -82,6 +101,11 @@ impl Varint for u64 {
     #[inline(always)]
     fn of_digits(digits: u64) -> u64 {
         number_of(digits, 64)
+    }
+
+    #[inline(always)]
+    fn to_number(self) -> u64 {
+        self
     }
 }
 
@@ -99,6 +123,11 @@ impl Varint for i16 {
     fn of_digits(digits: u64) -> i16 {
         de_zig_zag_i16(u16::of_digits(digits))
     }
+
+    #[inline(always)]
+    fn to_number(self) -> u64 {
+        u64::from(zig_zag_i16(self))
+    }
 }
 
 impl Varint for i32 {
@@ -115,6 +144,11 @@ impl Varint for i32 {
     fn of_digits(digits: u64) -> i32 {
         de_zig_zag_i32(u32::of_digits(digits))
     }
+
+    #[inline(always)]
+    fn to_number(self) -> u64 {
+        u64::from(zig_zag_i32(self))
+    }
 }
 
 impl Varint for i64 {
@@ -130,6 +164,11 @@ impl Varint for i64 {
     #[inline(always)]
     fn of_digits(digits: u64) -> i64 {
         de_zig_zag_i64(u64::of_digits(digits))
+    }
+
+    #[inline(always)]
+    fn to_number(self) -> u64 {
+        zig_zag_i64(self)
     }
 }
 
@@ -173,9 +212,9 @@ fn push_row<T: Copy>(items: &mut Vec<T>, row: &[T]) -> Result<()>
     }
 }
 
-/// Appends a row of numbers to a list, as
-/// [`append_at_hand`](crate::shape::Shaped::append_at_hand) does, if the next bytes are as those of
-/// most numbers are and the list has room for them.
+/// Appends some of the next numbers to a list, as
+/// [`append_at_hand`](crate::shape::Shaped::append_at_hand) does, if at least [`LEAST`] are left
+/// and the next bytes are as those of most numbers are.
 ///
 /// # Errors
 ///
@@ -186,6 +225,30 @@ pub(crate) fn append<T: Varint>(
     bytes: &[u8],
     most: usize,
 ) -> Result<Option<usize>>
+    requires small { type_size T.row ≤ 16 }
+    ensures within { IfOk result (λ front. IfSome front
+        (λ n. (0 < n) × (n ≤ length bytes.now))) }
+    ensures reads { IfOk result (λ front. IfSome front (λ n. Appends T.form.reads T.form.value most
+        (take n bytes.now) items.old.items items.new.items)) }
+    ensures unchanged_if_none { IfOk result
+        (λ front. IfNone front (items.new.items ≡ items.old.items)) }
+    ensures refused { IfErr result (λ e. e ≡ Error.OutOfMemory) }
+{
+    if most < LEAST {
+        return Ok(None);
+    }
+    append_row(items, bytes, most)
+}
+
+/// Appends a row of numbers to a list, as [`append`] does, if the next bytes are as those of most
+/// numbers are and the list has room for them. It is a function of its own, so that the loop that
+/// calls [`append`] stays small: few lists are long.
+///
+/// # Errors
+///
+/// Never fails, since it asks for no memory.
+#[inline(never)]
+fn append_row<T: Varint>(items: &mut Vec<T>, bytes: &[u8], most: usize) -> Result<Option<usize>>
     requires small { type_size T.row ≤ 16 }
     ensures within { IfOk result (λ front. IfSome front
         (λ n. (0 < n) × (n ≤ length bytes.now))) }

@@ -13,8 +13,8 @@ use postcard_shape::FirstBytes;
 use postcard_wire::Result;
 use std::collections::{LinkedList, VecDeque};
 
-/// Writes the elements in order, with no count before them: the first ones in pieces while
-/// `first_bytes` returns one, and the others one by one.
+/// Writes the elements in order, with no count before them: in pieces where `first_bytes` returns
+/// one, and one by one where it says so.
 pub(crate) fn serialize_all<T: Serialize, F: Flavor>(
     items: &[T],
     serializer: &mut Serializer<F>,
@@ -32,6 +32,10 @@ pub(crate) fn serialize_all<T: Serialize, F: Flavor>(
             FirstBytes::Block(block, count) => {
                 serializer.extend(&block)?;
                 rest = &rest[count..];
+            }
+            FirstBytes::SomeOneByOne(some) => {
+                serialize_each(&rest[..some], serializer)?;
+                rest = &rest[some..];
             }
             FirstBytes::OneByOne => return serialize_each(rest, serializer),
         }

@@ -9,8 +9,8 @@ ghost use Rattle.postcard_shape.specs.Leaves.{byte, signed_byte, num, int};
 ghost use Rattle.postcard_shape.specs.Lists.{Appends};
 
 use crate::first::FirstBytes;
-use crate::runs;
 use crate::shape::Shaped;
+use crate::{pieces, runs};
 use postcard_wire::{Error, Result};
 
 /// Returns the same slice. Its contract tells the prover that each element is below 256.
@@ -57,6 +57,11 @@ impl Shaped for u16 {
     ghost shape = { num 16 (inl refl) };
 
     #[inline(always)]
+    fn first_bytes(items: &[u16]) -> FirstBytes<'_> {
+        pieces::first_row(items)
+    }
+
+    #[inline(always)]
     fn append_at_hand(items: &mut Vec<u16>, bytes: &[u8], most: usize) -> Result<Option<usize>> {
         runs::append(items, bytes, most)
     }
@@ -66,6 +71,11 @@ impl Shaped for u32 {
     ghost shape = { num 32 (inr (inl refl)) };
 
     #[inline(always)]
+    fn first_bytes(items: &[u32]) -> FirstBytes<'_> {
+        pieces::first_row(items)
+    }
+
+    #[inline(always)]
     fn append_at_hand(items: &mut Vec<u32>, bytes: &[u8], most: usize) -> Result<Option<usize>> {
         runs::append(items, bytes, most)
     }
@@ -73,6 +83,11 @@ impl Shaped for u32 {
 
 impl Shaped for u64 {
     ghost shape = { num 64 (inr (inr (inl refl))) };
+
+    #[inline(always)]
+    fn first_bytes(items: &[u64]) -> FirstBytes<'_> {
+        pieces::first_row(items)
+    }
 
     #[inline(always)]
     fn append_at_hand(items: &mut Vec<u64>, bytes: &[u8], most: usize) -> Result<Option<usize>> {
@@ -92,6 +107,11 @@ impl Shaped for i16 {
     ghost shape = { int 16 (inl refl) };
 
     #[inline(always)]
+    fn first_bytes(items: &[i16]) -> FirstBytes<'_> {
+        pieces::first_row(items)
+    }
+
+    #[inline(always)]
     fn append_at_hand(items: &mut Vec<i16>, bytes: &[u8], most: usize) -> Result<Option<usize>> {
         runs::append(items, bytes, most)
     }
@@ -101,6 +121,11 @@ impl Shaped for i32 {
     ghost shape = { int 32 (inr (inl refl)) };
 
     #[inline(always)]
+    fn first_bytes(items: &[i32]) -> FirstBytes<'_> {
+        pieces::first_row(items)
+    }
+
+    #[inline(always)]
     fn append_at_hand(items: &mut Vec<i32>, bytes: &[u8], most: usize) -> Result<Option<usize>> {
         runs::append(items, bytes, most)
     }
@@ -108,6 +133,11 @@ impl Shaped for i32 {
 
 impl Shaped for i64 {
     ghost shape = { int 64 (inr (inr (inl refl))) };
+
+    #[inline(always)]
+    fn first_bytes(items: &[i64]) -> FirstBytes<'_> {
+        pieces::first_row(items)
+    }
 
     #[inline(always)]
     fn append_at_hand(items: &mut Vec<i64>, bytes: &[u8], most: usize) -> Result<Option<usize>> {

@@ -8,24 +8,24 @@ use Rattle.postcard_dyn_schema.specs.declared.schema.Schema.TheVariants.{Option,
 use Rattle.postcard_dyn_schema.specs.declared.schema.Schema.TheVariants as schemas
 use Rattle.postcard_dyn_schema.specs.Meaning.{option, seq, array, group, choice, has_bytes, type_of, types_of}
 use Rattle.postcard_dyn_schema.specs.declared.angled.Pair.TheVariants as pairs
-use Rattle.postcard_dyn_schema.specs.Angled.{MayHold, IsHolderOf, MayPair, IsPairOf}
+use Rattle.postcard_dyn_schema.specs.declared.names.TypeName.TheVariants as names
+use Rattle.postcard_dyn_schema.specs.Angled.{MayHold, IsHolderOf, IsTypeName, MayPair, IsPairOf}
 use Rattle.postcard_dyn_schema.specs.Names.{IsNewTo, HasNamesOf}
-use Rattle.postcard_dyn_schema.specs.Text.{Then, TakesPhrase, IsSign, IsWord, IsMaybe, EndsWord, GoesOnBy}
-use Rattle.postcard_dyn_schema.specs.Grammar.{Separated, IsListRest, IsTupleRest, IsField, IsFieldsRest, IsMapRest, IsBracesRest, IsHolderRest, IsPairRest, IsAngleRest, IsWorded, IsPlain, IsReferred, IsContent, IsVariantText, IsNewVariant, IsEnumText, IsType}
+use Rattle.postcard_dyn_schema.specs.Text.{Then, TakesPhrase, IsSign, IsMaybe, EndsWord, GoesOnBy}
+use Rattle.postcard_dyn_schema.specs.Grammar.{Separated, IsListRest, IsTupleRest, IsField, IsFieldsRest, IsMapRest, IsBracesRest, IsEndedBy, IsOfOne, IsOfTwo, IsMapValue, IsAngledRest, IsWorded, IsPlain, IsReferred, IsContent, IsVariantText, IsNewVariant, IsEnumText, IsType}
 use Rattle.postcard_dyn_schema.specs.Fronts.{follows_type, follows_variant, Anything, HasFront, IsOnlyFront, IsRefusal}
 use Rattle.postcard_dyn_schema.specs.Phrases.{takes_two, takes_as}
-use Rattle.postcard_dyn_schema.specs.FrontLemmas.{word_taken}
+use Rattle.postcard_dyn_schema.specs.FrontLemmas.{takes_split, word_taken}
 use Rattle.postcard_dyn_schema.proofs.Rows.{row_more, row_filled, begun_more}
-use Rattle.postcard_dyn_schema.proofs.Types.{HasName, type_enum, type_options, options_more, if_ok_as, plain_list, plain_tuple, plain_braces, content_tuple, content_fields, tuple_end, tuple_end_comma, enum_takes, fields_take, field_takes, variant_takes, seq_takes, array_takes, map_takes, tuple_takes}
-use Rattle.postcard_dyn_schema.proofs.TypeOf.{type_of_leaf, type_of_option, type_of_seq, type_of_array, type_of_group, type_of_enum}
-use Rattle.postcard_dyn_schema.proofs.Heads.{angle_sign}
-use Rattle.postcard_dyn_schema.proofs.Left.{after_sign}
-use Rattle.postcard_dyn_schema.proofs.LeftOfList.{ListLeft, MapLeft, EntryLeft, MapEnd, list_begins, list_left, array_left, seq_left, map_begins, map_left, map_arrow, entry_left, value_begins, map_end}
+use Rattle.postcard_dyn_schema.proofs.Types.{HasName, type_enum, type_options, options_more, if_ok_as, plain_list, plain_tuple, plain_braces, content_tuple, content_fields, tuple_end, tuple_end_comma, enum_takes, fields_take, field_takes, variant_takes, seq_takes, array_takes, tuple_takes}
+use Rattle.postcard_dyn_schema.proofs.TypeOf.{type_of_option, type_of_seq, type_of_array, type_of_group, type_of_enum}
+use Rattle.postcard_dyn_schema.proofs.Left.{after_sign, behind_sign, follows_black}
+use Rattle.postcard_dyn_schema.proofs.LeftOfList.{ListLeft, ended_begins, ended_left, list_begins, list_left, array_left, seq_left}
 use Rattle.postcard_dyn_schema.proofs.LeftOfFields.{FieldsLeft, FieldsAfter, FieldFront, fields_begin, field_front, field_begins, fields_after, fields_close, fields_comma_close, fields_next, fields_go_on, fields_not_ended, new_named, names_more}
 use Rattle.postcard_dyn_schema.proofs.LeftOfTuple.{TupleFront, TupleLeft, TupleAfter, tuple_empty, tuple_first, tuple_begins, tuple_single, tuple_after_first, tuple_go_on, tuple_close, tuple_comma_close, tuple_next, tuple_next_begins, tuple_after, tuple_not_ended}
 use Rattle.postcard_dyn_schema.proofs.LeftOfEnum.{EnumLeft, EnumAfter, VariantFront, taken_not_new, content_in_tuple, content_in_fields, content_of_none, new_variant_front, variant_alike, enum_begins, variant_begins, enum_after, enum_bar, enum_end, enum_not_ended}
-use Rattle.postcard_dyn_schema.proofs.LeftOfAngled.{HolderLeft, PairLeft, SecondLeft, PairEnd, type_of_holder, type_of_pair, holder_rest, pair_rest, no_angle, angle_holder, angle_pair, holder_takes, holder_begins, holder_left, pair_takes, pair_begins, pair_left, second_left, second_begins, pair_end}
-use Rattle.postcard_dyn_schema.proofs.LeftOfType.{WordFront, PlainFront, word_front, word_leaf, word_angle, type_as_enum, type_as_plain, options_step, options_end, options_full, options_of, plain_list_left, plain_tuple_left, plain_braces_left, plain_word_left, braces_as_fields, braces_as_map, no_type}
+use Rattle.postcard_dyn_schema.proofs.LeftOfAngled.{OneRead, SecondLeft, TwoRead, type_of_holder, type_of_pair, one_front, one_read, one_takes, two_begin, second_left, two_read, two_take, map_arrow, map_value, value_takes}
+use Rattle.postcard_dyn_schema.proofs.LeftOfType.{PlainFront, word_front, word_rest, word_takes, leaf_left, type_as_enum, type_as_plain, options_step, options_end, options_full, options_of, plain_list_left, plain_tuple_left, plain_braces_left, plain_word_left, braces_as_fields, braces_as_map, no_type}
 use Rattle.postcard_dyn_schema.proofs.LeftOfReference.{plain_is_referred, referred_is_plain, reference_left, reference_takes, lifetime_next, lifetime_left, lifetime_takes, lifetime_le}
 use Rattle.postcard_dyn_schema.proofs.Refusals.{refusal, refusal_as, refused_err, if_err_as, takes_le, takes_less, is_empty, forget_new, is_new}
 use Rattle.postcard_dyn_schema.proofs.expression.+expression.Goals.{read_enum-else-len-eq1-via-then-len-eq1+else-not-leads, read_enum-else-len-eq1-via-else-len-eq1, read_fields-then-is_empty-via-then-is_empty, read_fields-then-is_empty-via-else-is_empty+then-is_ascii_digit, read_variant-then-is_empty-via-then-is_empty, read_variant-then-is_empty-via-else-is_empty+then-not-is_ascii_uppercase}
@@ -256,283 +256,243 @@ read_worded-returns-then-is_empty-clause-refused t c =
     let word = c.take_word-word in
     let v = word.result.now in
     let b = word.new.rest.now in
-    let front : (s : Schema) (r : List ℕ) → TakesPhrase (IsWorded T s) a r → EndsWord r → WordFront T s v b r = λ s r h ends.
-    word_front T s a v b r (word_taken word.ensures.taken word.ensures.first word.ensures.whole) ends h in
-    inr (λ (s, r, h, ends). let filled = (front s r h ends).filled in grind (arith, common_steps, filled))
+    let taken = word_taken word.ensures.taken word.ensures.first word.ensures.whole in
+    inr (λ (s, r, h, ends). let filled = (word_front T s a v b r taken ends h).filled in grind (arith, common_steps, filled))
 
-pub read_worded-returns-in-Some-clause-spelled : goal.read_worded-returns-in-Some-clause-spelled
-read_worded-returns-in-Some-clause-spelled t c =
-    let T = IsType c.args.depth in
-    let word = c.take_word-word in
-    takes_as (IsWord word.result.now) (IsWorded T (schemas.Leaf c.in-Some.leaf)) c.args.rest.now.now word.new.rest.now (λ z h. inl (c.in-Some.leaf, word.result.now, refl, c.in-Some.ensures.found, h)) word.ensures.taken
-
-pub read_worded-returns-in-Some-clause-one : goal.read_worded-returns-in-Some-clause-one
-read_worded-returns-in-Some-clause-one t c =
+pub read_worded-returns-in_default-clause-refused : goal.read_worded-returns-in_default-clause-refused
+read_worded-returns-in_default-clause-refused t c =
     let T = IsType c.args.depth in
     let a = c.args.rest.now.now in
     let word = c.take_word-word in
     let v = word.result.now in
     let b = word.new.rest.now in
-    let front : (s : Schema) (r : List ℕ) → TakesPhrase (IsWorded T s) a r → EndsWord r → WordFront T s v b r = λ s r h ends.
-    word_front T s a v b r (word_taken word.ensures.taken word.ensures.first word.ensures.whole) ends h in
-    λ s r h ends. let k = word_leaf T c.in-Some.leaf s v b r c.in-Some.ensures.found (front s r h ends) in (k.0 ∙ sym (type_of_leaf c.in-Some.leaf), k.1)
+    let taken = word_taken word.ensures.taken word.ensures.first word.ensures.whole in
+    inr (λ (s, r, h, ends). let f = word_front T s a v b r taken ends h in c.in_default.ensures.none f.kind f.named)
 
-pub read_worded-returns-in-None-clause-spelled : goal.read_worded-returns-in-None-clause-spelled
-read_worded-returns-in-None-clause-spelled t c =
+pub read_worded-returns-in-Leaf-clause-spelled : goal.read_worded-returns-in-Leaf-clause-spelled
+read_worded-returns-in-Leaf-clause-spelled t c =
     let T = IsType c.args.depth in
     let a = c.args.rest.now.now in
     let word = c.take_word-word in
     let v = word.result.now in
     let b = word.new.rest.now in
-    let d = c.read_angled.new.rest.now in
-    if_ok_as (λ s. TakesPhrase (IsAngleRest T v s) b d) (λ s. TakesPhrase (IsWorded T s) a d) c.read_angled.result
-    (λ s h. takes_as (Then (IsWord v) (IsAngleRest T v s)) (IsWorded T s) a d (λ z k. inr (v, k)) (takes_two (IsWord v) (IsAngleRest T v s) a b d word.ensures.taken h)) c.read_angled.ensures.spelled
+    let taken = word_taken word.ensures.taken word.ensures.first word.ensures.whole in
+    let named = subst (IsTypeName v) c.in-Leaf.is c.in-Some.ensures.found in
+    word_takes T (names.Leaf c.in-Leaf.leaf) (schemas.Leaf c.in-Leaf.leaf) v a b b named word.ensures.taken ([], (refl, refl), refl)
 
-pub read_worded-returns-in-None-clause-one : goal.read_worded-returns-in-None-clause-one
-read_worded-returns-in-None-clause-one t c =
+pub read_worded-returns-in-Leaf-clause-one : goal.read_worded-returns-in-Leaf-clause-one
+read_worded-returns-in-Leaf-clause-one t c =
     let T = IsType c.args.depth in
     let a = c.args.rest.now.now in
     let word = c.take_word-word in
     let v = word.result.now in
     let b = word.new.rest.now in
-    let front : (s : Schema) (r : List ℕ) → TakesPhrase (IsWorded T s) a r → EndsWord r → WordFront T s v b r = λ s r h ends.
-    word_front T s a v b r (word_taken word.ensures.taken word.ensures.first word.ensures.whole) ends h in
-    let d = c.read_angled.new.rest.now in
-    if_ok_as (λ x. IsOnlyFront Anything (IsAngleRest T v) x b d) (λ x. IsOnlyFront EndsWord (IsWorded T) x a d) c.read_angled.result (λ x one s r h ends. one s r (word_angle T s v b r c.in-None.ensures.none (front s r h ends)) tt) c.read_angled.ensures.one
+    let taken = word_taken word.ensures.taken word.ensures.first word.ensures.whole in
+    let named = subst (IsTypeName v) c.in-Leaf.is c.in-Some.ensures.found in
+    λ s r h ends. leaf_left T c.in-Leaf.leaf s b r (word_rest T (names.Leaf c.in-Leaf.leaf) s a v b r taken named ends h)
 
-pub read_worded-returns-in-None-clause-refused : goal.read_worded-returns-in-None-clause-refused
-read_worded-returns-in-None-clause-refused t c =
+pub read_worded-returns-in_err-open_angle-clause-refused : goal.read_worded-returns-in_err-open_angle-clause-refused
+read_worded-returns-in_err-open_angle-clause-refused t c =
     let T = IsType c.args.depth in
     let a = c.args.rest.now.now in
     let word = c.take_word-word in
     let v = word.result.now in
     let b = word.new.rest.now in
-    let front : (s : Schema) (r : List ℕ) → TakesPhrase (IsWorded T s) a r → EndsWord r → WordFront T s v b r = λ s r h ends.
-    word_front T s a v b r (word_taken word.ensures.taken word.ensures.first word.ensures.whole) ends h in
-    if_err_as (λ fault. IsRefusal fault.problem (HasFront Anything (IsAngleRest T v) b)) (λ fault. IsRefusal fault.problem (HasFront EndsWord (IsWorded T) a)) c.read_angled.result (λ fault k. refusal (λ (s, r, h, ends). (s, r, word_angle T s v b r c.in-None.ensures.none (front s r h ends), tt)) k) c.read_angled.ensures.refused
+    let taken = word_taken word.ensures.taken word.ensures.first word.ensures.whole in
+    let named = subst (IsTypeName v) c.in-Angled.is c.in-Some.ensures.found in
+    let P = IsAngledRest T c.in-Angled.kind in
+    let rest : (s : Schema) (r : List ℕ) → TakesPhrase (IsWorded T s) a r → EndsWord r → TakesPhrase (Then (IsSign 60) (P s)) b r = λ s r h ends.
+    word_rest T (names.Angled c.in-Angled.kind) s a v b r taken named ends h in
+    refused_err _ _ c.from_residual.ensures.1 (inr (λ (s, r, h, ends). let m = takes_split (IsSign 60) (P s) b r (rest s r h ends) in c.in_err-open_angle.ensures.none m.0 m.1))
 
-pub read_angled-returns-then-not-take-clause-refused : goal.read_angled-returns-then-not-take-clause-refused
-read_angled-returns-then-not-take-clause-refused t c =
+pub read_worded-returns-in-Angled-clause-spelled : goal.read_worded-returns-in-Angled-clause-spelled
+read_worded-returns-in-Angled-clause-spelled t c =
     let T = IsType c.args.depth in
     let a = c.args.rest.now.now in
-    let name = c.args.name.now in
-    inr (λ (s, r, h, free). let sign = (angle_sign T name s a r h).1 in c.take.ensures.none c.if-not-take.true refl sign.0 sign.1)
+    let word = c.take_word-word in
+    let v = word.result.now in
+    let b = word.new.rest.now in
+    let taken = word_taken word.ensures.taken word.ensures.first word.ensures.whole in
+    let named = subst (IsTypeName v) c.in-Angled.is c.in-Some.ensures.found in
+    let P = IsAngledRest T c.in-Angled.kind in
+    let d = c.open_angle.new.rest.now in
+    let e = c.read_angled.new.rest.now in
+    if_ok_as (λ s. TakesPhrase (P s) d e) (λ s. TakesPhrase (IsWorded T s) a e) c.read_angled.result
+    (λ s h. word_takes T (names.Angled c.in-Angled.kind) s v a b e named word.ensures.taken (takes_two (IsSign 60) (P s) b d e c.in_ok-open_angle.ensures.taken h)) c.read_angled.ensures.spelled
 
-pub read_angled-returns-in-Some-clause-spelled : goal.read_angled-returns-in-Some-clause-spelled
-read_angled-returns-in-Some-clause-spelled t c =
+pub read_worded-returns-in-Angled-clause-one : goal.read_worded-returns-in-Angled-clause-one
+read_worded-returns-in-Angled-clause-one t c =
     let T = IsType c.args.depth in
     let a = c.args.rest.now.now in
-    let name = c.args.name.now in
-    let k = c.in-Some.holder in
-    let b = c.take.new.rest.now in
-    let d = c.read_holder.new.rest.now in
-    let sign = c.take.ensures.taken c.if-not-take.false in
-    let named = c.in-Some.ensures.found in
-    if_ok_as (λ s. TakesPhrase (IsHolderRest T k s) b d) (λ s. TakesPhrase (IsAngleRest T name s) a d) c.read_holder.result (λ s h. angle_holder T name k s a b d named sign h) c.read_holder.ensures.spelled
+    let word = c.take_word-word in
+    let v = word.result.now in
+    let b = word.new.rest.now in
+    let taken = word_taken word.ensures.taken word.ensures.first word.ensures.whole in
+    let named = subst (IsTypeName v) c.in-Angled.is c.in-Some.ensures.found in
+    let P = IsAngledRest T c.in-Angled.kind in
+    let rest : (s : Schema) (r : List ℕ) → TakesPhrase (IsWorded T s) a r → EndsWord r → TakesPhrase (Then (IsSign 60) (P s)) b r = λ s r h ends.
+    word_rest T (names.Angled c.in-Angled.kind) s a v b r taken named ends h in
+    let d = c.open_angle.new.rest.now in
+    let e = c.read_angled.new.rest.now in
+    let left : (s : Schema) (r : List ℕ) → TakesPhrase (IsWorded T s) a r → EndsWord r → TakesPhrase (P s) d r = λ s r h ends.
+    behind_sign 60 (P s) b d r refl c.in_ok-open_angle.ensures.taken (rest s r h ends) in
+    if_ok_as (λ x. IsOnlyFront Anything P x d e) (λ x. IsOnlyFront EndsWord (IsWorded T) x a e) c.read_angled.result (λ x one s r h ends. one s r (left s r h ends) tt) c.read_angled.ensures.one
 
-pub read_angled-returns-in-Some-clause-one : goal.read_angled-returns-in-Some-clause-one
-read_angled-returns-in-Some-clause-one t c =
+pub read_worded-returns-in-Angled-clause-refused : goal.read_worded-returns-in-Angled-clause-refused
+read_worded-returns-in-Angled-clause-refused t c =
     let T = IsType c.args.depth in
     let a = c.args.rest.now.now in
-    let name = c.args.name.now in
-    let k = c.in-Some.holder in
-    let b = c.take.new.rest.now in
-    let d = c.read_holder.new.rest.now in
-    let sign = c.take.ensures.taken c.if-not-take.false in
-    let named = c.in-Some.ensures.found in
-    if_ok_as (λ x. IsOnlyFront Anything (IsHolderRest T k) x b d) (λ x. IsOnlyFront Anything (IsAngleRest T name) x a d) c.read_holder.result (λ x one s r h free. one s r (holder_rest T name k s a b r named sign h) tt) c.read_holder.ensures.one
+    let word = c.take_word-word in
+    let v = word.result.now in
+    let b = word.new.rest.now in
+    let taken = word_taken word.ensures.taken word.ensures.first word.ensures.whole in
+    let named = subst (IsTypeName v) c.in-Angled.is c.in-Some.ensures.found in
+    let P = IsAngledRest T c.in-Angled.kind in
+    let rest : (s : Schema) (r : List ℕ) → TakesPhrase (IsWorded T s) a r → EndsWord r → TakesPhrase (Then (IsSign 60) (P s)) b r = λ s r h ends.
+    word_rest T (names.Angled c.in-Angled.kind) s a v b r taken named ends h in
+    let d = c.open_angle.new.rest.now in
+    let e = c.read_angled.new.rest.now in
+    let left : (s : Schema) (r : List ℕ) → TakesPhrase (IsWorded T s) a r → EndsWord r → TakesPhrase (P s) d r = λ s r h ends.
+    behind_sign 60 (P s) b d r refl c.in_ok-open_angle.ensures.taken (rest s r h ends) in
+    if_err_as (λ fault. IsRefusal fault.problem (HasFront Anything P d)) (λ fault. IsRefusal fault.problem (HasFront EndsWord (IsWorded T) a)) c.read_angled.result
+    (λ fault f. refusal (λ (s, r, h, ends). (s, r, left s r h ends, tt)) f) c.read_angled.ensures.refused
 
-pub read_angled-returns-in-Some-clause-refused : goal.read_angled-returns-in-Some-clause-refused
-read_angled-returns-in-Some-clause-refused t c =
+pub read_ended-returns-in_err-schema-clause-refused : goal.read_ended-returns-in_err-schema-clause-refused
+read_ended-returns-in_err-schema-clause-refused t c =
     let T = IsType c.args.depth in
+    let sign = c.args.sign in
     let a = c.args.rest.now.now in
-    let name = c.args.name.now in
-    let k = c.in-Some.holder in
-    let b = c.take.new.rest.now in
-    let d = c.read_holder.new.rest.now in
-    let sign = c.take.ensures.taken c.if-not-take.false in
-    let named = c.in-Some.ensures.found in
-    if_err_as (λ fault. IsRefusal fault.problem (HasFront Anything (IsHolderRest T k) b)) (λ fault. IsRefusal fault.problem (HasFront Anything (IsAngleRest T name) a)) c.read_holder.result (λ fault f. refusal (λ (s, r, h, free). (s, r, holder_rest T name k s a b r named sign h, tt)) f) c.read_holder.ensures.refused
+    refused_err _ _ c.from_residual.ensures.1 (refusal (λ (s, r, h, free). ended_begins T sign s a r c.requires h) c.in_err-schema.ensures.refused)
 
-pub read_angled-returns-in-Some-from_name-clause-spelled : goal.read_angled-returns-in-Some-from_name-clause-spelled
-read_angled-returns-in-Some-from_name-clause-spelled t c =
+pub read_ended-returns-in_err-expect-clause-refused : goal.read_ended-returns-in_err-expect-clause-refused
+read_ended-returns-in_err-expect-clause-refused t c =
     let T = IsType c.args.depth in
+    let sign = c.args.sign in
     let a = c.args.rest.now.now in
-    let name = c.args.name.now in
-    let k = c.in-Some-from_name.pair in
-    let b = c.take.new.rest.now in
-    let d = c.read_pair.new.rest.now in
-    let sign = c.take.ensures.taken c.if-not-take.false in
-    let named = c.in-Some-from_name.ensures.found in
-    if_ok_as (λ s. TakesPhrase (IsPairRest T k s) b d) (λ s. TakesPhrase (IsAngleRest T name s) a d) c.read_pair.result (λ s h. angle_pair T name k s a b d named sign h) c.read_pair.ensures.spelled
+    let black = follows_black sign c.requires in
+    let x = c.in_ok-schema.schema in
+    let c1 = c.read_type.new.rest.now in
+    let left : (s : Schema) (r : List ℕ) → TakesPhrase (IsEndedBy T sign s) a r → (type_of s ≡ type_of x) × TakesPhrase (IsSign sign) c1 r = λ s r h.
+    ended_left T sign s x a c1 r c.requires c.in_ok-schema.ensures.one h in
+    refused_err _ _ c.from_residual-in_err-expect.ensures.1 (inr (λ (s, r, h, free). c.in_err-expect.ensures.none black r (left s r h).1))
 
-pub read_angled-returns-in-Some-from_name-clause-one : goal.read_angled-returns-in-Some-from_name-clause-one
-read_angled-returns-in-Some-from_name-clause-one t c =
+pub read_ended-returns-clause-spelled : goal.read_ended-returns-clause-spelled
+read_ended-returns-clause-spelled t c =
     let T = IsType c.args.depth in
+    let sign = c.args.sign in
     let a = c.args.rest.now.now in
-    let name = c.args.name.now in
-    let k = c.in-Some-from_name.pair in
-    let b = c.take.new.rest.now in
-    let d = c.read_pair.new.rest.now in
-    let sign = c.take.ensures.taken c.if-not-take.false in
-    let named = c.in-Some-from_name.ensures.found in
-    if_ok_as (λ x. IsOnlyFront Anything (IsPairRest T k) x b d) (λ x. IsOnlyFront Anything (IsAngleRest T name) x a d) c.read_pair.result (λ x one s r h free. one s r (pair_rest T name k s a b r named sign h) tt) c.read_pair.ensures.one
+    takes_two (T c.in_ok-schema.schema) (IsSign sign) a c.read_type.new.rest.now c.expect.new.rest.now c.in_ok-schema.ensures.spelled c.in_ok-expect.ensures.taken
 
-pub read_angled-returns-in-Some-from_name-clause-refused : goal.read_angled-returns-in-Some-from_name-clause-refused
-read_angled-returns-in-Some-from_name-clause-refused t c =
+pub read_ended-returns-clause-one : goal.read_ended-returns-clause-one
+read_ended-returns-clause-one t c =
     let T = IsType c.args.depth in
+    let sign = c.args.sign in
     let a = c.args.rest.now.now in
-    let name = c.args.name.now in
-    let k = c.in-Some-from_name.pair in
-    let b = c.take.new.rest.now in
-    let d = c.read_pair.new.rest.now in
-    let sign = c.take.ensures.taken c.if-not-take.false in
-    let named = c.in-Some-from_name.ensures.found in
-    if_err_as (λ fault. IsRefusal fault.problem (HasFront Anything (IsPairRest T k) b)) (λ fault. IsRefusal fault.problem (HasFront Anything (IsAngleRest T name) a)) c.read_pair.result (λ fault f. refusal (λ (s, r, h, free). (s, r, pair_rest T name k s a b r named sign h, tt)) f) c.read_pair.ensures.refused
-
-pub read_angled-returns-clause-refused : goal.read_angled-returns-clause-refused
-read_angled-returns-clause-refused t c =
-    let T = IsType c.args.depth in
-    let a = c.args.rest.now.now in
-    let name = c.args.name.now in
-    inr (λ (s, r, h, free). no_angle T name s a r c.in_default.ensures.none c.in_default-from_name.ensures.none h)
+    let black = follows_black sign c.requires in
+    let x = c.in_ok-schema.schema in
+    let c1 = c.read_type.new.rest.now in
+    let left : (s : Schema) (r : List ℕ) → TakesPhrase (IsEndedBy T sign s) a r → (type_of s ≡ type_of x) × TakesPhrase (IsSign sign) c1 r = λ s r h.
+    ended_left T sign s x a c1 r c.requires c.in_ok-schema.ensures.one h in
+    λ s r h free. let l = left s r h in (l.0, after_sign sign c1 r c.expect.new.rest.now black l.1 c.in_ok-expect.ensures.taken)
 
 pub read_holder-returns-in_err-inner-clause-refused : goal.read_holder-returns-in_err-inner-clause-refused
 read_holder-returns-in_err-inner-clause-refused t c =
-    refused_err _ _ c.from_residual.ensures.1 (refusal (λ (s, r, k, free). holder_begins (IsType c.args.depth) c.args.holder s c.args.rest.now.now r k) c.in_err-inner.ensures.refused)
-
-pub read_holder-returns-in_err-expect-clause-refused : goal.read_holder-returns-in_err-expect-clause-refused
-read_holder-returns-in_err-expect-clause-refused t c =
-    let T = IsType c.args.depth in
-    let a = c.args.rest.now.now in
+    let P = IsEndedBy (IsType c.args.depth) 62 in
     let h = c.args.holder in
-    let x = c.in_ok-inner.inner in
-    let c1 = c.read_type.new.rest.now in
-    let left : (s : Schema) (r : List ℕ) → TakesPhrase (IsHolderRest T h s) a r → HolderLeft h s (type_of x) c1 r = λ s r k. holder_left T h s x a c1 r c.in_ok-inner.ensures.one k in
-    refused_err _ _ c.from_residual-in_err-expect.ensures.1 (inr (λ (s, r, k, free). c.in_err-expect.ensures.none refl r (left s r k).close))
+    let a = c.args.rest.now.now in
+    refused_err _ _ c.from_residual.ensures.1 (refusal (λ (s, r, k, free). let f = one_front P h s a r k in (f.inner, r, f.taken, tt)) c.in_err-inner.ensures.refused)
 
 pub read_holder-returns-clause-spelled : goal.read_holder-returns-clause-spelled
 read_holder-returns-clause-spelled t c =
-    let T = IsType c.args.depth in
-    let a = c.args.rest.now.now in
+    let P = IsEndedBy (IsType c.args.depth) 62 in
     let h = c.args.holder in
+    let a = c.args.rest.now.now in
     let x = c.in_ok-inner.inner in
-    let c1 = c.read_type.new.rest.now in
-    let d = c.expect.new.rest.now in
-    if_ok_as (λ s. MayHold h (type_of x) × IsHolderOf h x s) (λ s. TakesPhrase (IsHolderRest T h s) a d) c.of_type.result (λ s made. holder_takes T h x s a c1 d c.in_ok-inner.ensures.spelled c.in_ok-expect.ensures.taken made) c.of_type.ensures.made
+    let d = c.read_ended.new.rest.now in
+    if_ok_as (λ s. MayHold h (type_of x) × IsHolderOf h x s) (λ s. TakesPhrase (IsOfOne h P s) a d) c.of_type.result (λ s made. one_takes P h x s a d c.in_ok-inner.ensures.spelled made) c.of_type.ensures.made
 
 pub read_holder-returns-clause-one : goal.read_holder-returns-clause-one
 read_holder-returns-clause-one t c =
-    let T = IsType c.args.depth in
-    let a = c.args.rest.now.now in
+    let P = IsEndedBy (IsType c.args.depth) 62 in
     let h = c.args.holder in
+    let a = c.args.rest.now.now in
     let x = c.in_ok-inner.inner in
-    let c1 = c.read_type.new.rest.now in
-    let left : (s : Schema) (r : List ℕ) → TakesPhrase (IsHolderRest T h s) a r → HolderLeft h s (type_of x) c1 r = λ s r k. holder_left T h s x a c1 r c.in_ok-inner.ensures.one k in
-    let d = c.expect.new.rest.now in
-    if_ok_as (λ s. MayHold h (type_of x) × IsHolderOf h x s) (λ s. IsOnlyFront Anything (IsHolderRest T h) s a d) c.of_type.result
-    (λ y made s r k free. let l = left s r k in (l.is ∙ sym (type_of_holder h x y made.1), after_sign 62 c1 r d refl l.close c.in_ok-expect.ensures.taken)) c.of_type.ensures.made
+    let d = c.read_ended.new.rest.now in
+    let read : (s : Schema) (r : List ℕ) → TakesPhrase (IsOfOne h P s) a r → OneRead h s (type_of x) d r = λ s r k. one_read P h s x a d r c.in_ok-inner.ensures.one k in
+    if_ok_as (λ s. MayHold h (type_of x) × IsHolderOf h x s) (λ s. IsOnlyFront Anything (IsOfOne h P) s a d) c.of_type.result
+    (λ y made s r k free. let l = read s r k in (l.is ∙ sym (type_of_holder h x y made.1), l.same)) c.of_type.ensures.made
 
 pub read_holder-returns-clause-refused : goal.read_holder-returns-clause-refused
 read_holder-returns-clause-refused t c =
-    let T = IsType c.args.depth in
-    let a = c.args.rest.now.now in
+    let P = IsEndedBy (IsType c.args.depth) 62 in
     let h = c.args.holder in
+    let a = c.args.rest.now.now in
     let x = c.in_ok-inner.inner in
-    let c1 = c.read_type.new.rest.now in
-    let left : (s : Schema) (r : List ℕ) → TakesPhrase (IsHolderRest T h s) a r → HolderLeft h s (type_of x) c1 r = λ s r k. holder_left T h s x a c1 r c.in_ok-inner.ensures.one k in
-    if_err_as (λ fault. IsRefusal fault.problem (MayHold h (type_of x))) (λ fault. IsRefusal fault.problem (HasFront Anything (IsHolderRest T h) a)) c.of_type.result (λ fault f. refusal (λ (s, r, k, free). (left s r k).may) f) c.of_type.ensures.refused
+    let d = c.read_ended.new.rest.now in
+    let read : (s : Schema) (r : List ℕ) → TakesPhrase (IsOfOne h P s) a r → OneRead h s (type_of x) d r = λ s r k. one_read P h s x a d r c.in_ok-inner.ensures.one k in
+    if_err_as (λ fault. IsRefusal fault.problem (MayHold h (type_of x))) (λ fault. IsRefusal fault.problem (HasFront Anything (IsOfOne h P) a)) c.of_type.result (λ fault f. refusal (λ (s, r, k, free). (read s r k).may) f) c.of_type.ensures.refused
 
 pub read_pair-returns-in_err-first-clause-refused : goal.read_pair-returns-in_err-first-clause-refused
 read_pair-returns-in_err-first-clause-refused t c =
-    refused_err _ _ c.from_residual.ensures.1 (refusal (λ (s, r, k, free). pair_begins (IsType c.args.depth) c.args.pair s c.args.rest.now.now r k) c.in_err-first.ensures.refused)
-
-pub read_pair-returns-in_err-expect-clause-refused : goal.read_pair-returns-in_err-expect-clause-refused
-read_pair-returns-in_err-expect-clause-refused t c =
-    let T = IsType c.args.depth in
-    let a = c.args.rest.now.now in
+    let P = IsEndedBy (IsType c.args.depth) 44 in
+    let Q = IsEndedBy (IsType c.args.depth) 62 in
     let p = c.args.pair in
-    let x = c.in_ok-first.first in
-    let c1 = c.read_type.new.rest.now in
-    let left : (s : Schema) (r : List ℕ) → TakesPhrase (IsPairRest T p s) a r → PairLeft T p s (type_of x) c1 r = λ s r k. pair_left T p s x a c1 r c.in_ok-first.ensures.one k in
-    refused_err _ _ c.from_residual-in_err-expect.ensures.1 (inr (λ (s, r, k, free). let l = left s r k in c.in_err-expect.ensures.none refl l.comma l.takes_comma))
+    let a = c.args.rest.now.now in
+    refused_err _ _ c.from_residual.ensures.1 (refusal (λ (s, r, k, free). two_begin P Q p s a r k) c.in_err-first.ensures.refused)
 
 pub read_pair-returns-in_err-second-clause-refused : goal.read_pair-returns-in_err-second-clause-refused
 read_pair-returns-in_err-second-clause-refused t c =
-    let T = IsType c.args.depth in
-    let a = c.args.rest.now.now in
+    let P = IsEndedBy (IsType c.args.depth) 44 in
+    let Q = IsEndedBy (IsType c.args.depth) 62 in
     let p = c.args.pair in
-    let x = c.in_ok-first.first in
-    let c1 = c.read_type.new.rest.now in
-    let left : (s : Schema) (r : List ℕ) → TakesPhrase (IsPairRest T p s) a r → PairLeft T p s (type_of x) c1 r = λ s r k. pair_left T p s x a c1 r c.in_ok-first.ensures.one k in
-    let c2 = c.expect.new.rest.now in
-    let comma = c.in_ok-expect.ensures.taken in
-    let next : (s : Schema) (r : List ℕ) → TakesPhrase (IsPairRest T p s) a r → SecondLeft T p s (type_of x) c2 r = λ s r k. second_left T p s (type_of x) c1 c2 r (left s r k) comma in
-    refused_err _ _ c.from_residual-in_err-second.ensures.1 (refusal (λ (s, r, k, free). second_begins T p s (type_of x) c2 r (next s r k)) c.in_err-second.ensures.refused)
-
-pub read_pair-returns-in_err-expect-2-clause-refused : goal.read_pair-returns-in_err-expect-2-clause-refused
-read_pair-returns-in_err-expect-2-clause-refused t c =
-    let T = IsType c.args.depth in
     let a = c.args.rest.now.now in
-    let p = c.args.pair in
     let x = c.in_ok-first.first in
-    let c1 = c.read_type.new.rest.now in
-    let left : (s : Schema) (r : List ℕ) → TakesPhrase (IsPairRest T p s) a r → PairLeft T p s (type_of x) c1 r = λ s r k. pair_left T p s x a c1 r c.in_ok-first.ensures.one k in
-    let c2 = c.expect.new.rest.now in
-    let comma = c.in_ok-expect.ensures.taken in
-    let next : (s : Schema) (r : List ℕ) → TakesPhrase (IsPairRest T p s) a r → SecondLeft T p s (type_of x) c2 r = λ s r k. second_left T p s (type_of x) c1 c2 r (left s r k) comma in
-    let y = c.in_ok-second.second in
-    let c3 = c.read_type-2.new.rest.now in
-    let end : (s : Schema) (r : List ℕ) → TakesPhrase (IsPairRest T p s) a r → PairEnd p s (type_of x) (type_of y) c3 r = λ s r k. pair_end T p s y (type_of x) c2 c3 r c.in_ok-second.ensures.one (next s r k) in
-    refused_err _ _ c.from_residual-in_err-expect-2.ensures.1 (inr (λ (s, r, k, free). c.in_err-expect-2.ensures.none refl r (end s r k).close))
+    let c1 = c.read_ended.new.rest.now in
+    let left : (s : Schema) (r : List ℕ) → TakesPhrase (IsOfTwo p P Q s) a r → SecondLeft Q p s (type_of x) c1 r = λ s r k. second_left P Q p s x a c1 r c.in_ok-first.ensures.one k in
+    refused_err _ _ c.from_residual-in_err-second.ensures.1 (refusal (λ (s, r, k, free). let l = left s r k in (l.second, r, l.taken, tt)) c.in_err-second.ensures.refused)
 
 pub read_pair-returns-clause-spelled : goal.read_pair-returns-clause-spelled
 read_pair-returns-clause-spelled t c =
-    let T = IsType c.args.depth in
-    let a = c.args.rest.now.now in
+    let P = IsEndedBy (IsType c.args.depth) 44 in
+    let Q = IsEndedBy (IsType c.args.depth) 62 in
     let p = c.args.pair in
+    let a = c.args.rest.now.now in
     let x = c.in_ok-first.first in
-    let c1 = c.read_type.new.rest.now in
+    let c1 = c.read_ended.new.rest.now in
     let y = c.in_ok-second.second in
-    let c2 = c.expect.new.rest.now in
-    let c3 = c.read_type-2.new.rest.now in
-    let d = c.expect-2.new.rest.now in
-    if_ok_as (λ s. MayPair p (type_of x) (type_of y) × IsPairOf p x y s) (λ s. TakesPhrase (IsPairRest T p s) a d) c.of_types.result
-    (λ s made. pair_takes T p x y s a c1 c2 c3 d c.in_ok-first.ensures.spelled c.in_ok-expect.ensures.taken c.in_ok-second.ensures.spelled c.in_ok-expect-2.ensures.taken made) c.of_types.ensures.made
+    let d = c.read_ended-2.new.rest.now in
+    if_ok_as (λ s. MayPair p (type_of x) (type_of y) × IsPairOf p x y s) (λ s. TakesPhrase (IsOfTwo p P Q s) a d) c.of_types.result
+    (λ s made. two_take P Q p x y s a c1 d c.in_ok-first.ensures.spelled c.in_ok-second.ensures.spelled made) c.of_types.ensures.made
 
 pub read_pair-returns-clause-one : goal.read_pair-returns-clause-one
 read_pair-returns-clause-one t c =
-    let T = IsType c.args.depth in
-    let a = c.args.rest.now.now in
+    let P = IsEndedBy (IsType c.args.depth) 44 in
+    let Q = IsEndedBy (IsType c.args.depth) 62 in
     let p = c.args.pair in
+    let a = c.args.rest.now.now in
     let x = c.in_ok-first.first in
-    let c1 = c.read_type.new.rest.now in
-    let left : (s : Schema) (r : List ℕ) → TakesPhrase (IsPairRest T p s) a r → PairLeft T p s (type_of x) c1 r = λ s r k. pair_left T p s x a c1 r c.in_ok-first.ensures.one k in
-    let c2 = c.expect.new.rest.now in
-    let comma = c.in_ok-expect.ensures.taken in
-    let next : (s : Schema) (r : List ℕ) → TakesPhrase (IsPairRest T p s) a r → SecondLeft T p s (type_of x) c2 r = λ s r k. second_left T p s (type_of x) c1 c2 r (left s r k) comma in
+    let c1 = c.read_ended.new.rest.now in
+    let left : (s : Schema) (r : List ℕ) → TakesPhrase (IsOfTwo p P Q s) a r → SecondLeft Q p s (type_of x) c1 r = λ s r k. second_left P Q p s x a c1 r c.in_ok-first.ensures.one k in
     let y = c.in_ok-second.second in
-    let c3 = c.read_type-2.new.rest.now in
-    let end : (s : Schema) (r : List ℕ) → TakesPhrase (IsPairRest T p s) a r → PairEnd p s (type_of x) (type_of y) c3 r = λ s r k. pair_end T p s y (type_of x) c2 c3 r c.in_ok-second.ensures.one (next s r k) in
-    let d = c.expect-2.new.rest.now in
-    if_ok_as (λ s. MayPair p (type_of x) (type_of y) × IsPairOf p x y s) (λ s. IsOnlyFront Anything (IsPairRest T p) s a d) c.of_types.result
-    (λ z made s r k free. let l = end s r k in (l.is ∙ sym (type_of_pair p x y z made.1), after_sign 62 c3 r d refl l.close c.in_ok-expect-2.ensures.taken)) c.of_types.ensures.made
+    let d = c.read_ended-2.new.rest.now in
+    let read : (s : Schema) (r : List ℕ) → TakesPhrase (IsOfTwo p P Q s) a r → TwoRead p s (type_of x) (type_of y) d r = λ s r k. two_read Q p s y (type_of x) c1 d r c.in_ok-second.ensures.one (left s r k) in
+    if_ok_as (λ s. MayPair p (type_of x) (type_of y) × IsPairOf p x y s) (λ s. IsOnlyFront Anything (IsOfTwo p P Q) s a d) c.of_types.result
+    (λ z made s r k free. let l = read s r k in (l.is ∙ sym (type_of_pair p x y z made.1), l.same)) c.of_types.ensures.made
 
 pub read_pair-returns-clause-refused : goal.read_pair-returns-clause-refused
 read_pair-returns-clause-refused t c =
-    let T = IsType c.args.depth in
-    let a = c.args.rest.now.now in
+    let P = IsEndedBy (IsType c.args.depth) 44 in
+    let Q = IsEndedBy (IsType c.args.depth) 62 in
     let p = c.args.pair in
+    let a = c.args.rest.now.now in
     let x = c.in_ok-first.first in
-    let c1 = c.read_type.new.rest.now in
-    let left : (s : Schema) (r : List ℕ) → TakesPhrase (IsPairRest T p s) a r → PairLeft T p s (type_of x) c1 r = λ s r k. pair_left T p s x a c1 r c.in_ok-first.ensures.one k in
-    let c2 = c.expect.new.rest.now in
-    let comma = c.in_ok-expect.ensures.taken in
-    let next : (s : Schema) (r : List ℕ) → TakesPhrase (IsPairRest T p s) a r → SecondLeft T p s (type_of x) c2 r = λ s r k. second_left T p s (type_of x) c1 c2 r (left s r k) comma in
+    let c1 = c.read_ended.new.rest.now in
+    let left : (s : Schema) (r : List ℕ) → TakesPhrase (IsOfTwo p P Q s) a r → SecondLeft Q p s (type_of x) c1 r = λ s r k. second_left P Q p s x a c1 r c.in_ok-first.ensures.one k in
     let y = c.in_ok-second.second in
-    let c3 = c.read_type-2.new.rest.now in
-    let end : (s : Schema) (r : List ℕ) → TakesPhrase (IsPairRest T p s) a r → PairEnd p s (type_of x) (type_of y) c3 r = λ s r k. pair_end T p s y (type_of x) c2 c3 r c.in_ok-second.ensures.one (next s r k) in
-    if_err_as (λ fault. IsRefusal fault.problem (MayPair p (type_of x) (type_of y))) (λ fault. IsRefusal fault.problem (HasFront Anything (IsPairRest T p) a)) c.of_types.result (λ fault f. refusal (λ (s, r, k, free). (end s r k).may) f) c.of_types.ensures.refused
+    let d = c.read_ended-2.new.rest.now in
+    let read : (s : Schema) (r : List ℕ) → TakesPhrase (IsOfTwo p P Q s) a r → TwoRead p s (type_of x) (type_of y) d r = λ s r k. two_read Q p s y (type_of x) c1 d r c.in_ok-second.ensures.one (left s r k) in
+    if_err_as (λ fault. IsRefusal fault.problem (MayPair p (type_of x) (type_of y))) (λ fault. IsRefusal fault.problem (HasFront Anything (IsOfTwo p P Q) a)) c.of_types.result
+    (λ fault f. refusal (λ (s, r, k, free). (read s r k).may) f) c.of_types.ensures.refused
 
 pub read_list-returns-in_err-element-clause-refused : goal.read_list-returns-in_err-element-clause-refused
 read_list-returns-in_err-element-clause-refused t c =
@@ -629,94 +589,78 @@ pub read_map-returns-in_err-key-clause-refused : goal.read_map-returns-in_err-ke
 read_map-returns-in_err-key-clause-refused t c =
     let T = IsType c.args.depth in
     let a = c.args.rest.now.now in
-    refused_err _ _ c.from_residual.ensures.1 (refusal (λ (s, r, h, free). map_begins T s a r h) c.in_err-key.ensures.refused)
+    refused_err _ _ c.from_residual.ensures.1 (refusal (λ (s, r, h, free). two_begin (IsEndedBy T 61) (IsMapValue T) pairs.Map s a r h) c.in_err-key.ensures.refused)
 
 pub read_map-returns-in_err-expect-clause-refused : goal.read_map-returns-in_err-expect-clause-refused
 read_map-returns-in_err-expect-clause-refused t c =
     let T = IsType c.args.depth in
     let a = c.args.rest.now.now in
-    let k = type_of c.in_ok-key.key in
-    let c1 = c.read_type.new.rest.now in
-    let left : (s : Schema) (r : List ℕ) → TakesPhrase (IsMapRest T s) a r → MapLeft T s k c1 r = λ s r h. map_left T s c.in_ok-key.key a c1 r c.in_ok-key.ensures.one h in
-    refused_err _ _ c.from_residual-in_err-expect.ensures.1 (inr (λ (s, r, h, free). let m = left s r h in c.in_err-expect.ensures.none refl m.equals m.takes_equals))
-
-pub read_map-returns-in_err-expect-2-clause-refused : goal.read_map-returns-in_err-expect-2-clause-refused
-read_map-returns-in_err-expect-2-clause-refused t c =
-    let T = IsType c.args.depth in
-    let a = c.args.rest.now.now in
-    let k = type_of c.in_ok-key.key in
-    let c1 = c.read_type.new.rest.now in
-    let left : (s : Schema) (r : List ℕ) → TakesPhrase (IsMapRest T s) a r → MapLeft T s k c1 r = λ s r h. map_left T s c.in_ok-key.key a c1 r c.in_ok-key.ensures.one h in
-    refused_err _ _ c.from_residual-in_err-expect-2.ensures.1 (inr (λ (s, r, h, free). let m = map_arrow T s k c1 c.expect.new.rest.now r (left s r h) c.in_ok-expect.ensures.taken in c.in_err-expect-2.ensures.none refl m.0 m.1))
+    let x = c.in_ok-key.key in
+    let c1 = c.read_ended.new.rest.now in
+    let left : (s : Schema) (r : List ℕ) → TakesPhrase (IsMapRest T s) a r → SecondLeft (IsMapValue T) pairs.Map s (type_of x) c1 r = λ s r h.
+    second_left (IsEndedBy T 61) (IsMapValue T) pairs.Map s x a c1 r c.in_ok-key.ensures.one h in
+    refused_err _ _ c.from_residual-in_err-expect.ensures.1 (inr (λ (s, r, h, free). let m = map_arrow T s (type_of x) c1 r (left s r h) in c.in_err-expect.ensures.none refl m.0 m.1))
 
 pub read_map-returns-in_err-value-clause-refused : goal.read_map-returns-in_err-value-clause-refused
 read_map-returns-in_err-value-clause-refused t c =
     let T = IsType c.args.depth in
     let a = c.args.rest.now.now in
-    let k = type_of c.in_ok-key.key in
-    let c1 = c.read_type.new.rest.now in
-    let left : (s : Schema) (r : List ℕ) → TakesPhrase (IsMapRest T s) a r → MapLeft T s k c1 r = λ s r h. map_left T s c.in_ok-key.key a c1 r c.in_ok-key.ensures.one h in
-    let c2 = c.expect-2.new.rest.now in
-    let entry : (s : Schema) (r : List ℕ) → TakesPhrase (IsMapRest T s) a r → EntryLeft T s k c2 r = λ s r h. entry_left T s k c1 c.expect.new.rest.now c2 r (left s r h) c.in_ok-expect.ensures.taken c.in_ok-expect-2.ensures.taken in
-    refused_err _ _ c.from_residual-in_err-value.ensures.1 (refusal (λ (s, r, h, free). value_begins T s k c2 r (entry s r h)) c.in_err-value.ensures.refused)
-
-pub read_map-returns-in_err-expect-3-clause-refused : goal.read_map-returns-in_err-expect-3-clause-refused
-read_map-returns-in_err-expect-3-clause-refused t c =
-    let T = IsType c.args.depth in
-    let a = c.args.rest.now.now in
-    let k = type_of c.in_ok-key.key in
-    let c1 = c.read_type.new.rest.now in
-    let left : (s : Schema) (r : List ℕ) → TakesPhrase (IsMapRest T s) a r → MapLeft T s k c1 r = λ s r h. map_left T s c.in_ok-key.key a c1 r c.in_ok-key.ensures.one h in
-    let c2 = c.expect-2.new.rest.now in
-    let entry : (s : Schema) (r : List ℕ) → TakesPhrase (IsMapRest T s) a r → EntryLeft T s k c2 r = λ s r h. entry_left T s k c1 c.expect.new.rest.now c2 r (left s r h) c.in_ok-expect.ensures.taken c.in_ok-expect-2.ensures.taken in
-    let v = type_of c.in_ok-value.value in
-    let c3 = c.read_type-2.new.rest.now in
-    let end : (s : Schema) (r : List ℕ) → TakesPhrase (IsMapRest T s) a r → MapEnd s k v c3 r = λ s r h. map_end T s c.in_ok-value.value k c2 c3 r c.in_ok-value.ensures.one (entry s r h) in
-    refused_err _ _ c.from_residual-in_err-expect-3.ensures.1 (inr (λ (s, r, h, free). c.in_err-expect-3.ensures.none refl r (end s r h).takes_close))
+    let x = c.in_ok-key.key in
+    let c1 = c.read_ended.new.rest.now in
+    let left : (s : Schema) (r : List ℕ) → TakesPhrase (IsMapRest T s) a r → SecondLeft (IsMapValue T) pairs.Map s (type_of x) c1 r = λ s r h.
+    second_left (IsEndedBy T 61) (IsMapValue T) pairs.Map s x a c1 r c.in_ok-key.ensures.one h in
+    let c2 = c.expect.new.rest.now in
+    let value : (s : Schema) (r : List ℕ) → TakesPhrase (IsMapRest T s) a r → SecondLeft (IsEndedBy T 125) pairs.Map s (type_of x) c2 r = λ s r h.
+    map_value T s (type_of x) c1 c2 r c.in_ok-expect.ensures.taken (left s r h) in
+    refused_err _ _ c.from_residual-in_err-value.ensures.1 (refusal (λ (s, r, h, free). let m = value s r h in (m.second, r, m.taken, tt)) c.in_err-value.ensures.refused)
 
 pub read_map-returns-clause-spelled : goal.read_map-returns-clause-spelled
 read_map-returns-clause-spelled t c =
     let T = IsType c.args.depth in
     let a = c.args.rest.now.now in
-    let d = c.expect-3.new.rest.now in
-    let key = c.in_ok-key.key in
-    let value = c.in_ok-value.value in
-    if_ok_as (λ s. MayPair pairs.Map (type_of key) (type_of value) × IsPairOf pairs.Map key value s) (λ s. TakesPhrase (IsMapRest T s) a d) c.map_of.result
-    (λ s made. map_takes c.args.depth key value s a c.read_type.new.rest.now c.expect.new.rest.now
-    c.expect-2.new.rest.now c.read_type-2.new.rest.now d c.in_ok-key.ensures.spelled c.in_ok-expect.ensures.taken c.in_ok-expect-2.ensures.taken
-    c.in_ok-value.ensures.spelled c.in_ok-expect-3.ensures.taken made) c.map_of.ensures.made
+    let x = c.in_ok-key.key in
+    let c1 = c.read_ended.new.rest.now in
+    let c2 = c.expect.new.rest.now in
+    let y = c.in_ok-value.value in
+    let d = c.read_ended-2.new.rest.now in
+    if_ok_as (λ s. MayPair pairs.Map (type_of x) (type_of y) × IsPairOf pairs.Map x y s) (λ s. TakesPhrase (IsMapRest T s) a d) c.map_of.result
+    (λ s made. two_take (IsEndedBy T 61) (IsMapValue T) pairs.Map x y s a c1 d c.in_ok-key.ensures.spelled (value_takes T y c1 c2 d c.in_ok-expect.ensures.taken c.in_ok-value.ensures.spelled) made) c.map_of.ensures.made
 
 pub read_map-returns-clause-one : goal.read_map-returns-clause-one
 read_map-returns-clause-one t c =
     let T = IsType c.args.depth in
     let a = c.args.rest.now.now in
-    let k = type_of c.in_ok-key.key in
-    let c1 = c.read_type.new.rest.now in
-    let left : (s : Schema) (r : List ℕ) → TakesPhrase (IsMapRest T s) a r → MapLeft T s k c1 r = λ s r h. map_left T s c.in_ok-key.key a c1 r c.in_ok-key.ensures.one h in
-    let c2 = c.expect-2.new.rest.now in
-    let entry : (s : Schema) (r : List ℕ) → TakesPhrase (IsMapRest T s) a r → EntryLeft T s k c2 r = λ s r h. entry_left T s k c1 c.expect.new.rest.now c2 r (left s r h) c.in_ok-expect.ensures.taken c.in_ok-expect-2.ensures.taken in
-    let v = type_of c.in_ok-value.value in
-    let c3 = c.read_type-2.new.rest.now in
-    let end : (s : Schema) (r : List ℕ) → TakesPhrase (IsMapRest T s) a r → MapEnd s k v c3 r = λ s r h. map_end T s c.in_ok-value.value k c2 c3 r c.in_ok-value.ensures.one (entry s r h) in
-    let d = c.expect-3.new.rest.now in
-    let key = c.in_ok-key.key in
-    let value = c.in_ok-value.value in
-    if_ok_as (λ s. MayPair pairs.Map k v × IsPairOf pairs.Map key value s) (λ s. IsOnlyFront Anything (IsMapRest T) s a d) c.map_of.result
-    (λ z made s r h free. let m = end s r h in (m.is ∙ sym (type_of_pair pairs.Map key value z made.1), after_sign 125 c3 r d refl m.takes_close c.in_ok-expect-3.ensures.taken)) c.map_of.ensures.made
+    let x = c.in_ok-key.key in
+    let c1 = c.read_ended.new.rest.now in
+    let left : (s : Schema) (r : List ℕ) → TakesPhrase (IsMapRest T s) a r → SecondLeft (IsMapValue T) pairs.Map s (type_of x) c1 r = λ s r h.
+    second_left (IsEndedBy T 61) (IsMapValue T) pairs.Map s x a c1 r c.in_ok-key.ensures.one h in
+    let c2 = c.expect.new.rest.now in
+    let value : (s : Schema) (r : List ℕ) → TakesPhrase (IsMapRest T s) a r → SecondLeft (IsEndedBy T 125) pairs.Map s (type_of x) c2 r = λ s r h.
+    map_value T s (type_of x) c1 c2 r c.in_ok-expect.ensures.taken (left s r h) in
+    let y = c.in_ok-value.value in
+    let d = c.read_ended-2.new.rest.now in
+    let read : (s : Schema) (r : List ℕ) → TakesPhrase (IsMapRest T s) a r → TwoRead pairs.Map s (type_of x) (type_of y) d r = λ s r h.
+    two_read (IsEndedBy T 125) pairs.Map s y (type_of x) c2 d r c.in_ok-value.ensures.one (value s r h) in
+    if_ok_as (λ s. MayPair pairs.Map (type_of x) (type_of y) × IsPairOf pairs.Map x y s) (λ s. IsOnlyFront Anything (IsMapRest T) s a d) c.map_of.result
+    (λ z made s r h free. let m = read s r h in (m.is ∙ sym (type_of_pair pairs.Map x y z made.1), m.same)) c.map_of.ensures.made
 
 pub read_map-returns-clause-refused : goal.read_map-returns-clause-refused
 read_map-returns-clause-refused t c =
     let T = IsType c.args.depth in
     let a = c.args.rest.now.now in
-    let k = type_of c.in_ok-key.key in
-    let c1 = c.read_type.new.rest.now in
-    let left : (s : Schema) (r : List ℕ) → TakesPhrase (IsMapRest T s) a r → MapLeft T s k c1 r = λ s r h. map_left T s c.in_ok-key.key a c1 r c.in_ok-key.ensures.one h in
-    let c2 = c.expect-2.new.rest.now in
-    let entry : (s : Schema) (r : List ℕ) → TakesPhrase (IsMapRest T s) a r → EntryLeft T s k c2 r = λ s r h. entry_left T s k c1 c.expect.new.rest.now c2 r (left s r h) c.in_ok-expect.ensures.taken c.in_ok-expect-2.ensures.taken in
-    let v = type_of c.in_ok-value.value in
-    let c3 = c.read_type-2.new.rest.now in
-    let end : (s : Schema) (r : List ℕ) → TakesPhrase (IsMapRest T s) a r → MapEnd s k v c3 r = λ s r h. map_end T s c.in_ok-value.value k c2 c3 r c.in_ok-value.ensures.one (entry s r h) in
-    if_err_as (λ fault. IsRefusal fault.problem (MayPair pairs.Map k v)) (λ fault. IsRefusal fault.problem (HasFront Anything (IsMapRest T) a)) c.map_of.result (λ fault f. refusal (λ (s, r, h, free). (end s r h).full) f) c.map_of.ensures.refused
+    let x = c.in_ok-key.key in
+    let c1 = c.read_ended.new.rest.now in
+    let left : (s : Schema) (r : List ℕ) → TakesPhrase (IsMapRest T s) a r → SecondLeft (IsMapValue T) pairs.Map s (type_of x) c1 r = λ s r h.
+    second_left (IsEndedBy T 61) (IsMapValue T) pairs.Map s x a c1 r c.in_ok-key.ensures.one h in
+    let c2 = c.expect.new.rest.now in
+    let value : (s : Schema) (r : List ℕ) → TakesPhrase (IsMapRest T s) a r → SecondLeft (IsEndedBy T 125) pairs.Map s (type_of x) c2 r = λ s r h.
+    map_value T s (type_of x) c1 c2 r c.in_ok-expect.ensures.taken (left s r h) in
+    let y = c.in_ok-value.value in
+    let d = c.read_ended-2.new.rest.now in
+    let read : (s : Schema) (r : List ℕ) → TakesPhrase (IsMapRest T s) a r → TwoRead pairs.Map s (type_of x) (type_of y) d r = λ s r h.
+    two_read (IsEndedBy T 125) pairs.Map s y (type_of x) c2 d r c.in_ok-value.ensures.one (value s r h) in
+    if_err_as (λ fault. IsRefusal fault.problem (MayPair pairs.Map (type_of x) (type_of y))) (λ fault. IsRefusal fault.problem (HasFront Anything (IsMapRest T) a)) c.map_of.result
+    (λ fault f. refusal (λ (s, r, h, free). (read s r h).may) f) c.map_of.ensures.refused
 
 pub read_enum-loop-init : goal.read_enum-loop-init
 read_enum-loop-init t c =

@@ -17,22 +17,25 @@ abbrev pub decreases-read_type : goal.decreases-read_type
 decreases-read_type l = 8 * l.depth
 
 abbrev pub decreases-read_referred : goal.decreases-read_referred
-decreases-read_referred l = 8 * l.depth + 5
+decreases-read_referred l = 8 * l.depth + 6
 
 abbrev pub decreases-read_plain : goal.decreases-read_plain
-decreases-read_plain l = 8 * l.depth + 4
+decreases-read_plain l = 8 * l.depth + 5
 
 abbrev pub decreases-read_worded : goal.decreases-read_worded
-decreases-read_worded l = 8 * l.depth + 3
+decreases-read_worded l = 8 * l.depth + 4
 
 abbrev pub decreases-read_angled : goal.decreases-read_angled
-decreases-read_angled l = 8 * l.depth + 2
+decreases-read_angled l = 8 * l.depth + 3
 
 abbrev pub decreases-read_holder : goal.decreases-read_holder
-decreases-read_holder l = 8 * l.depth + 1
+decreases-read_holder l = 8 * l.depth + 2
 
 abbrev pub decreases-read_pair : goal.decreases-read_pair
-decreases-read_pair l = 8 * l.depth + 1
+decreases-read_pair l = 8 * l.depth + 2
+
+abbrev pub decreases-read_ended : goal.decreases-read_ended
+decreases-read_ended l = 8 * l.depth + 1
 
 abbrev pub decreases-read_list : goal.decreases-read_list
 decreases-read_list l = 8 * l.depth + 1
@@ -41,13 +44,13 @@ abbrev pub decreases-read_tuple : goal.decreases-read_tuple
 decreases-read_tuple l = 8 * l.depth + 1
 
 abbrev pub decreases-read_braces : goal.decreases-read_braces
-decreases-read_braces l = 8 * l.depth + 2
+decreases-read_braces l = 8 * l.depth + 3
 
 abbrev pub decreases-read_fields : goal.decreases-read_fields
 decreases-read_fields l = 8 * l.depth + 1
 
 abbrev pub decreases-read_map : goal.decreases-read_map
-decreases-read_map l = 8 * l.depth + 1
+decreases-read_map l = 8 * l.depth + 2
 
 abbrev pub decreases-read_enum : goal.decreases-read_enum
 decreases-read_enum l = 8 * l.depth + 4

@@ -1,6 +1,6 @@
 -- A piece more is written, or refused; and so are the elements that are left.
 use Rattle.std.proofs.lemmas.List.{take_rest}
-use Rattle.postcard_ser.proofs.Pieces.{written_none, written_more, written_stop, written_end, written_whole, written_fits, written_whole_fits, block_shortens}
+use Rattle.postcard_ser.proofs.Pieces.{written_none, written_more, written_stop, written_end, written_some, written_refused, written_whole, written_fits, written_whole_fits, block_shortens, some_shorten}
 use Rattle.postcard_ser.proofs.PartByPart.{wrote_err}
 use Rattle.postcard_ser.proofs.values.lists.serialize_all.Goals as goal
 
@@ -17,15 +17,31 @@ pub returns-in_err-extend-in-Block-clause-wrote : goal.returns-in_err-extend-in-
 returns-in_err-extend-in-Block-clause-wrote g c =
     wrote_err _ c.from_residual.ensures.1 (written_stop c.loop-bytes.invariant c.in-Block.ensures.gives c.in_err-extend-in-Block.ensures)
 
-pub loop-bytes-smaller : goal.loop-bytes-smaller
-loop-bytes-smaller g c = block_shortens c.in-Block.ensures.gives (take_rest c.loop-bytes.rest.now c.in-Block.count)
+pub loop-bytes-smaller-in-Block : goal.loop-bytes-smaller-in-Block
+loop-bytes-smaller-in-Block g c = block_shortens c.in-Block.ensures.gives (take_rest c.loop-bytes.rest.now c.in-Block.count)
 
-pub loop-bytes-preserved : goal.loop-bytes-preserved
-loop-bytes-preserved g c =
+pub loop-bytes-preserved-in-Block : goal.loop-bytes-preserved-in-Block
+loop-bytes-preserved-in-Block g c =
     written_more c.loop-bytes.invariant c.in-Block.ensures.gives (take_rest c.loop-bytes.rest.now c.in-Block.count) c.in_ok-extend-in-Block.ensures
 
 pub returns-in-OneByOne-clause-wrote : goal.returns-in-OneByOne-clause-wrote
-returns-in-OneByOne-clause-wrote g c = written_end c.loop-bytes.invariant c.serialize_each.ensures.wrote
+returns-in-OneByOne-clause-wrote g c = written_end c.loop-bytes.invariant c.serialize_each-in-OneByOne.ensures.wrote
 
 pub returns-in-OneByOne-clause-fits : goal.returns-in-OneByOne-clause-fits
-returns-in-OneByOne-clause-fits g c = written_fits _ c.loop-bytes.invariant c.serialize_each.ensures.fits
+returns-in-OneByOne-clause-fits g c = written_fits _ c.loop-bytes.invariant c.serialize_each-in-OneByOne.ensures.fits
+
+pub returns-in_err-serialize_each-in-SomeOneByOne-clause-wrote : goal.returns-in_err-serialize_each-in-SomeOneByOne-clause-wrote
+returns-in_err-serialize_each-in-SomeOneByOne-clause-wrote g c =
+    wrote_err _ c.from_residual-in_err-serialize_each-in-SomeOneByOne.ensures.1
+    (written_refused c.in-SomeOneByOne.some c.loop-bytes.invariant c.in_err-serialize_each-in-SomeOneByOne.ensures.wrote)
+
+pub loop-bytes-smaller : goal.loop-bytes-smaller
+loop-bytes-smaller g c =
+    let some = c.in-SomeOneByOne.ensures.gives in
+    some_shorten c.loop-bytes.rest.now _ c.in-SomeOneByOne.some some.0 some.1 (take_rest c.loop-bytes.rest.now c.in-SomeOneByOne.some)
+
+pub loop-bytes-preserved : goal.loop-bytes-preserved
+loop-bytes-preserved g c =
+    let some = c.in-SomeOneByOne.ensures.gives in
+    written_some _ c.in-SomeOneByOne.some c.loop-bytes.invariant some.0 some.1 (take_rest c.loop-bytes.rest.now c.in-SomeOneByOne.some)
+    c.in_ok-serialize_each-in-SomeOneByOne.ensures.wrote c.in_ok-serialize_each-in-SomeOneByOne.ensures.fits

@@ -3,7 +3,7 @@ use Rattle.std.proofs.lemmas.List.{length-take-le, get_or-take}
 use Rattle.postcard_wire.proofs.Runs.{take_fewer}
 use Rattle.postcard_wire.specs.Words.{AreCut, IsNarrow}
 use Rattle.postcard_shape.proofs.Varints.{row_appended, bytes_cut}
-use Rattle.postcard_shape.proofs.runs.append.Goals as goal
+use Rattle.postcard_shape.proofs.runs.append_row.Goals as goal
 
 -- The first bytes of a block are those of the bytes.
 front : (n : ℕ) (block bytes : List ℕ) → n ≤ 80 → block ≡ take 80 bytes → take n block ≡ take n bytes

@@ -1,0 +1,37 @@
+//! Numbers that are varints, written many at a time.
+
+ghost use Rattle.postcard_shape.specs.First.{AreFirst};
+
+use crate::first::FirstBytes;
+use crate::runs::Varint;
+
+/// How many numbers of one byte each are written at once.
+const ROW: usize = 16;
+
+/// How many numbers at most are written one by one before a row is looked for again. Where sizes
+/// repeat themselves, the processor foresees them, but not if a row is looked for too often.
+const PAUSE: usize = 256;
+
+/// Returns the encodings of the first 16 numbers, as
+/// [`first_bytes`](crate::shape::Shaped::first_bytes) does, if each has one byte. If not, these and
+/// more are to be written one by one.
+#[inline(always)]
+pub(crate) fn first_row<T: Varint>(items: &[T]) -> FirstBytes<'_>
+    ensures { AreFirst T.form items.now result }
+{
+    if items.len() < ROW {
+        return FirstBytes::OneByOne;
+    }
+    let mut bytes = [0; ROW];
+    // No branch within the loop, so that the compiler reads the numbers in the lanes of a vector.
+    let mut more = 0u64;
+    for i in 0..ROW {
+        let number = items[i].to_number();
+        bytes[i] = (number % 0x100) as u8;
+        more |= number / 0x80;
+    }
+    if more != 0 {
+        return FirstBytes::SomeOneByOne(items.len().min(PAUSE));
+    }
+    FirstBytes::Block(bytes, ROW)
+}
