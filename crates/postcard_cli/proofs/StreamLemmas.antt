@@ -19,7 +19,9 @@ use Rattle.postcard_dyn_text.proofs.Joined.{none_after, none_before}
 use Rattle.postcard_cli.specs.declared.failure.Failure.{Failure}
 use Rattle.postcard_cli.specs.declared.failure.Failure.TheVariants.{BadType, Library, OutOfMemory, Output, ReadFailed, UnknownChecksum}
 use Rattle.postcard_cli.specs.declared.stream.Stream.{Stream}
+use Rattle.postcard_dyn.specs.Explained.{HasNoFront}
 use Rattle.postcard_cli.specs.Message.{Prints, ReadsValue}
+use Rattle.postcard_cli.specs.Place.{IsPlaceOf}
 use Rattle.postcard_cli.specs.Receiving.{IsAfter, Continues, PrintsAnswer, PrintsMessage, Reads, ReadFails}
 use Rattle.postcard_cli.specs.Refusal.{StreamCheckedFails, StreamFails, ValuesFail}
 use Rattle.postcard_cli.specs.declared.stream.Format.{Format}
@@ -384,10 +386,12 @@ message_unchecked (Err e) s at message behind v old new is lacks printed = tt
 
 -- The line of data that is refused is printed.
 pub message_refused : (r : Result (Unit {0}) Failure) (s : Format) (at : ℕ) (message : List ℕ) (e : Error) (old new : Option (List ℕ))
-    → ((v : Value) (rest : List ℕ) → ReadsValue s.schema message v rest → ⊥) → IsReadError memory e → e ≢ errors.OutOfMemory
-    → OnOk r ((place : List ℕ) × Prints (answer_line s at (refused place e message)) old new) → OnOk r (PrintsMessage s at message old new)
-message_refused (Ok done) s at message e old new none named full (place, printed) = (refused place e message, (refl, none, named, full), printed)
-message_refused (Err f) s at message e old new none named full printed = tt
+    → ((v : Value) (rest : List ℕ) → ReadsValue s.schema message v rest → ⊥) → IsReadError memory e → e ≢ errors.OutOfMemory → HasNoFront s.schema message
+    → OnOk r ((place : List ℕ) × (HasNoFront s.schema message → IsPlaceOf s.schema message place) × Prints (answer_line s at (refused place e message)) old new)
+    → OnOk r (PrintsMessage s at message old new)
+message_refused (Ok done) s at message e old new none named full unread (place, is, printed) =
+    (refused place e message, (refl, none, named, full, is unread), printed)
+message_refused (Err f) s at message e old new none named full unread printed = tt
 
 -- The line of the data of a frame is that of the frame.
 pub frame_answer : (s : Format) (longest at : ℕ) (frame message : List ℕ) (old new : Option (List ℕ)) → length frame + 1 ≤ longest → Groups frame message
@@ -396,7 +400,8 @@ frame_answer s longest at frame message old new fits groups (value v rest, is, p
 frame_answer s longest at frame message old new fits groups (refused place e bytes, is, printed) =
     let P : List ℕ → Type 0 = λ t. Groups frame t in
     let Q : List ℕ → Type 0 = λ t. (v : Value) (rest : List ℕ) → ReadsValue s.schema t v rest → ⊥ in
-    (refused place e bytes, (fits, subst P (sym is.0) groups, subst Q (sym is.0) is.1, is.2, is.3), printed)
+    let At : List ℕ → Type 0 = λ t. IsPlaceOf s.schema t place in
+    (refused place e bytes, (fits, subst P (sym is.0) groups, subst Q (sym is.0) is.1, is.2, is.3, subst At (sym is.0) is.4), printed)
 frame_answer s longest at frame message old new fits groups (unchecked bytes, is, printed) =
     let P : List ℕ → Type 0 = λ t. Groups frame t × IsUnchecked s t in
     let both = subst P (sym is.0) (groups, is.1) in

@@ -7,6 +7,7 @@ pub mod Frames
 pub mod Hexadecimal
 pub mod JsonMessage
 pub mod Message
+pub mod Place
 pub mod Program
 pub mod Receiving
 pub mod Refusal

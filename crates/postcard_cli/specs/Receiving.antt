@@ -6,6 +6,7 @@ use Rattle.postcard_shape.specs.Shape.{memory}
 use Rattle.postcard_de.specs.Reads.{IsReadError}
 use Rattle.postcard_dyn.specs.declared.value.Value.{Value}
 use Rattle.postcard_cli.specs.Message.{Prints, ReadsValue}
+use Rattle.postcard_cli.specs.Place.{IsPlaceOf}
 use Rattle.postcard_cli.specs.Stream.{Answer, value, refused, unchecked, damaged, overfull, IsAnswerTo, IsUnchecked, ReadsData, answer_line, bytes_of, offset, PrintsLines}
 use Rattle.postcard_cli.specs.declared.failure.Failure.{Failure}
 use Rattle.postcard_cli.specs.declared.failure.Failure.TheVariants.{OutOfMemory, Output, ReadFailed}
@@ -33,6 +34,7 @@ abbrev pub IsMessageAnswer : Format → List ℕ → Answer → Type 0
 IsMessageAnswer format message (value v rest) = ReadsData format message v rest
 IsMessageAnswer format message (refused place e bytes) =
     (bytes ≡ message) × ((v : Value) (rest : List ℕ) → ReadsValue format.schema message v rest → ⊥) × IsReadError memory e × (e ≢ errors.OutOfMemory)
+    × IsPlaceOf format.schema message place
 IsMessageAnswer format message (unchecked bytes) = (bytes ≡ message) × IsUnchecked format message
 IsMessageAnswer format message (damaged bytes) = ⊥
 IsMessageAnswer format message overfull = ⊥

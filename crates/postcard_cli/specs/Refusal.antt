@@ -34,6 +34,7 @@ use Rattle.postcard_cli.specs.Frames.{PrintsAnswersSoFar}
 use Rattle.postcard_cli.specs.Hexadecimal.{IsWrongHex}
 use Rattle.postcard_cli.specs.JsonMessage.{PrintsJsonLines, SpellsJson, refusal_text}
 use Rattle.postcard_cli.specs.Message.{lines_of, Prints, ReadsValue, ReadsValues, StandsFor}
+use Rattle.postcard_cli.specs.Place.{IsPathOf}
 use Rattle.postcard_cli.specs.Program.{Does, Form, form_of, PrintsCall}
 use Rattle.postcard_cli.specs.Stream.{IsNamed, IsPlain, PrintsSoFar}
 use Rattle.postcard_cli.specs.declared.checksum.Checksum.{Checksum}
@@ -271,7 +272,7 @@ EncodeJsonFails expression text old new Output = ⊤
 EncodeJsonFails expression text old new failure = ⊥
 
 -- No front of `rest`, which are the last of the bytes `all`, spells a value of the schema, and the line that says so was printed
--- without its end. Of the path only its text is known.
+-- without its end.
 pub record IsFrontRefused (schema : Schema) (all rest : List ℕ) (old new : Option (List ℕ)) : Type 0 where
   pub no_value : (v : Value) (more : List ℕ) → ReadsValue schema rest v more → ⊥
   pub error : Error
@@ -280,6 +281,7 @@ pub record IsFrontRefused (schema : Schema) (all rest : List ℕ) (old new : Opt
   pub offset : ℕ
   pub within : offset ≤ length rest
   pub path : List ℕ
+  pub is_path : IsPathOf schema rest path
   pub printed : Appends old new (refusal_text (min ((length all - length rest) + offset) (2 ^ 64 - 1)) error path)
 
 -- The failures of reading the value at the front of `rest`.

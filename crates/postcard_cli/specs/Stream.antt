@@ -14,6 +14,7 @@ use Rattle.postcard_dyn.specs.declared.value.Value.{Value}
 use Rattle.postcard_dyn_text.specs.Shown.{layout_of, text}
 use Rattle.postcard_cli.specs.Checksum.{HasNoTrailer, IsTrailer, checksum_name}
 use Rattle.postcard_cli.specs.Message.{Prints, ReadsValue}
+use Rattle.postcard_cli.specs.Place.{IsPlaceOf}
 use Rattle.postcard_cli.specs.declared.checksum.Checksum.{Checksum}
 use Rattle.postcard_cli.specs.declared.stream.Format.{Format}
 
@@ -57,13 +58,13 @@ pub data Answer : Type 0 where
   overfull : Answer
 
 -- The answer is right for the frame, where a frame and the zero that ends it have at most `longest`
--- bytes. Of the place of an error only its text is known.
+-- bytes.
 abbrev pub IsAnswerTo : Format → ℕ → List ℕ → Answer → Type 0
 IsAnswerTo format longest frame (value v rest) =
     (length frame + 1 ≤ longest) × ((message : List ℕ) × Groups frame message × ReadsData format message v rest)
 IsAnswerTo format longest frame (refused place e message) =
     (length frame + 1 ≤ longest) × Groups frame message × ((v : Value) (rest : List ℕ) → ReadsValue format.schema message v rest → ⊥)
-    × IsReadError memory e × (e ≢ OutOfMemory)
+    × IsReadError memory e × (e ≢ OutOfMemory) × IsPlaceOf format.schema message place
 IsAnswerTo format longest frame (unchecked message) = (length frame + 1 ≤ longest) × Groups frame message × IsUnchecked format message
 IsAnswerTo format longest frame (damaged bytes) =
     (length frame + 1 ≤ longest) × (bytes ≡ frame) × ((message : List ℕ) → Groups frame message → ⊥)

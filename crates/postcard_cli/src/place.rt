@@ -1,6 +1,13 @@
 //! The place in a value where reading fails, as a path of names and numbers: [`place_of`].
 
-ghost use Rattle.std.specs.Prelude.{◌≡◌, IfErr};
+ghost use Rattle.std.specs.Prelude.{◌≡◌, ◌⊎◌, List, ℕ, ◌++◌, Box, string_bytes, IfOk, IfErr, OnOk};
+ghost use Rattle.std.specs.declared.alloc.Global.{Global};
+ghost use Rattle.postcard_dyn_schema.specs.Meaning.{type_of};
+ghost use Rattle.postcard_dyn_schema.specs.declared.schema.Schema.{Schema};
+ghost use Rattle.postcard_dyn_schema.specs.declared.schema.Schema.TheVariants as schemas;
+ghost use Rattle.postcard_dyn.specs.Explained.{HasNoFront};
+ghost use Rattle.postcard_cli.specs.Place.{HasNoRow, IsPartPath, IsPathOf, StopsAt, StopsInRow};
+ghost use Rattle.postcard_cli.specs.Place.{dotted, place_text};
 
 use postcard_dyn::{Schema, take_from_bytes};
 use postcard_wire::{Error, Result};
@@ -20,7 +27,9 @@ use std::alloc::Global;
 ///
 /// Fails with `OutOfMemory` if an allocation fails.
 pub fn place_of(alloc: Global, schema: &Schema, message: &[u8]) -> Result<String>
-    ensures { IfErr result (λ e. e ≡ Error.OutOfMemory) }
+    ensures named { IfOk result (λ place. HasNoFront schema.now message.now → (path : List ℕ)
+        × IsPathOf schema.now message.now path × (string_bytes place ≡ place_text path)) }
+    ensures refused { IfErr result (λ e. e ≡ Error.OutOfMemory) }
 {
     let mut path = path_of(alloc, schema, message)?;
     if !path.is_empty() {
@@ -35,7 +44,9 @@ pub fn place_of(alloc: Global, schema: &Schema, message: &[u8]) -> Result<String
 ///
 /// Fails with `OutOfMemory` if an allocation fails.
 pub fn path_of(alloc: Global, schema: &Schema, message: &[u8]) -> Result<String>
-    ensures { IfErr result (λ e. e ≡ Error.OutOfMemory) }
+    ensures named { IfOk result (λ path. HasNoFront schema.now message.now
+        → IsPathOf schema.now message.now (string_bytes path)) }
+    ensures refused { IfErr result (λ e. e ≡ Error.OutOfMemory) }
 {
     let mut path = String::new(alloc);
     push_path(alloc, schema, message, &mut path)?;
@@ -44,7 +55,8 @@ pub fn path_of(alloc: Global, schema: &Schema, message: &[u8]) -> Result<String>
 
 /// Appends a `.`, unless the path is empty.
 fn push_dot(path: &mut String) -> Result<()>
-    ensures { IfErr result (λ e. e ≡ Error.OutOfMemory) }
+    ensures added { OnOk result (string_bytes path.new ≡ dotted (string_bytes path.old)) }
+    ensures refused { IfErr result (λ e. e ≡ Error.OutOfMemory) }
 {
     if !path.is_empty() {
         path.push_str(".")?;
@@ -55,17 +67,18 @@ fn push_dot(path: &mut String) -> Result<()>
 /// Appends the path in a value of the schema.
 #[cycle(place)]
 fn push_path(alloc: Global, schema: &Schema, bytes: &[u8], path: &mut String) -> Result<()>
-    ensures { IfErr result (λ e. e ≡ Error.OutOfMemory) }
+    ensures stops { OnOk result (HasNoFront schema.now bytes.now
+        → StopsAt schema.now bytes.now (string_bytes path.old) (string_bytes path.new)) }
+    ensures refused { IfErr result (λ e. e ≡ Error.OutOfMemory) }
 {
     match schema {
         Schema::Leaf(_) => Ok(()),
-        Schema::Option(content) => match bytes {
-            [1, rest @ ..] => push_path(alloc, content, rest, path),
-            _ => Ok(()),
-        },
+        Schema::Option(content) => push_in_option(alloc, content, bytes, path),
         Schema::Seq(element) => push_in_list(alloc, element, bytes, path),
         Schema::Map(entry) => push_in_list(alloc, entry, bytes, path),
-        Schema::Array(element, _) => push_in_elements(alloc, element, bytes, path),
+        Schema::Array(element, count) => {
+            push_in_elements(alloc, element, *count as u64, bytes, path)
+        }
         Schema::Group(parts) => push_in_group(alloc, parts, bytes, path),
         Schema::Enum(variants) => push_in_variant(alloc, variants, bytes, path),
         Schema::Named(name, content) => {
@@ -76,25 +89,53 @@ fn push_path(alloc: Global, schema: &Schema, bytes: &[u8], path: &mut String) ->
     }
 }
 
+/// Appends the path in an option, of which the first byte is read first.
+#[cycle(place)]
+fn push_in_option(alloc: Global, content: &Schema, bytes: &[u8], path: &mut String) -> Result<()>
+    ensures stops { (s : Schema) (held : Box Schema Global) → s ≡ schemas.Option held
+        → held.value ≡ content.now → OnOk result (HasNoFront s bytes.now
+        → StopsAt s bytes.now (string_bytes path.old) (string_bytes path.new)) }
+    ensures refused { IfErr result (λ e. e ≡ Error.OutOfMemory) }
+{
+    let Some((first, rest)) = bytes.split_first() else {
+        return Ok(());
+    };
+    if *first != 1 {
+        return Ok(());
+    }
+    push_path(alloc, content, rest, path)
+}
+
 /// Appends the path in a list, of which the count is read first.
 #[cycle(place)]
 fn push_in_list(alloc: Global, element: &Schema, bytes: &[u8], path: &mut String) -> Result<()>
-    ensures { IfErr result (λ e. e ≡ Error.OutOfMemory) }
+    ensures stops { (s : Schema) (held : Box Schema Global)
+        → (s ≡ schemas.Seq held) ⊎ (s ≡ schemas.Map held) → held.value ≡ element.now
+        → OnOk result (HasNoFront s bytes.now
+        → StopsAt s bytes.now (string_bytes path.old) (string_bytes path.new)) }
+    ensures refused { IfErr result (λ e. e ≡ Error.OutOfMemory) }
 {
     match postcard_de::take_from_bytes::<u64>(alloc, bytes) {
-        Ok((_, rest)) => push_in_elements(alloc, element, rest, path),
+        Ok((count, rest)) => push_in_elements(alloc, element, count, rest, path),
         Err(_) => Ok(()),
     }
 }
 
-/// Appends the number of the element that is refused, and the path in it. Each element has at least
-/// one byte.
+/// Appends the number of the element that is refused, of `count` in a row, and the path in it.
 #[cycle(place)]
-fn push_in_elements(alloc: Global, element: &Schema, bytes: &[u8], path: &mut String) -> Result<()>
-    ensures { IfErr result (λ e. e ≡ Error.OutOfMemory) }
+fn push_in_elements(
+    alloc: Global,
+    element: &Schema,
+    count: u64,
+    bytes: &[u8],
+    path: &mut String,
+) -> Result<()>
+    ensures stops { OnOk result (HasNoRow (type_of element.now) count bytes.now
+        → StopsInRow element.now count bytes.now (string_bytes path.old) (string_bytes path.new)) }
+    ensures refused { IfErr result (λ e. e ≡ Error.OutOfMemory) }
 {
     let mut rest = bytes;
-    for i in 0..bytes.len() {
+    for i in 0..count {
         match take_from_bytes(alloc, element, rest) {
             Ok((_, after)) => rest = after,
             Err(Error::OutOfMemory) => return Err(Error::OutOfMemory),
@@ -104,35 +145,36 @@ fn push_in_elements(alloc: Global, element: &Schema, bytes: &[u8], path: &mut St
             }
         }
     }
-    let count = bytes.len();
-    write!(path, "[{count}]")?;
-    push_path(alloc, element, rest, path)
+    Ok(())
 }
 
 /// Appends the number of the part that is refused, unless it has a name, and the path in it.
 #[cycle(place)]
 fn push_in_group(alloc: Global, parts: &Vec<Schema>, bytes: &[u8], path: &mut String) -> Result<()>
-    ensures { IfErr result (λ e. e ≡ Error.OutOfMemory) }
+    ensures stops { (s : Schema) → s ≡ schemas.Group parts.now
+        → OnOk result (HasNoFront s bytes.now
+        → StopsAt s bytes.now (string_bytes path.old) (string_bytes path.new)) }
+    ensures refused { IfErr result (λ e. e ≡ Error.OutOfMemory) }
 {
     let mut rest = bytes;
-    let mut number = 0usize;
-    for part in parts {
+    for (i, part) in parts.iter().enumerate() {
         match take_from_bytes(alloc, part, rest) {
             Ok((_, after)) => rest = after,
             Err(Error::OutOfMemory) => return Err(Error::OutOfMemory),
             Err(_) => {
-                push_number(part, number, path)?;
+                push_number(part, i, path)?;
                 return push_path(alloc, part, rest, path);
             }
         }
-        number = number.saturating_add(1);
     }
     Ok(())
 }
 
 /// Appends the number of a part that has no name.
 fn push_number(part: &Schema, number: usize, path: &mut String) -> Result<()>
-    ensures { IfErr result (λ e. e ≡ Error.OutOfMemory) }
+    ensures added { OnOk result
+        (IsPartPath (string_bytes path.old) number part.now (string_bytes path.new)) }
+    ensures refused { IfErr result (λ e. e ≡ Error.OutOfMemory) }
 {
     match part {
         Schema::Named(_, _) => Ok(()),
@@ -152,7 +194,10 @@ fn push_in_variant(
     bytes: &[u8],
     path: &mut String,
 ) -> Result<()>
-    ensures { IfErr result (λ e. e ≡ Error.OutOfMemory) }
+    ensures stops { (s : Schema) → s ≡ schemas.Enum variants.now
+        → OnOk result (HasNoFront s bytes.now
+        → StopsAt s bytes.now (string_bytes path.old) (string_bytes path.new)) }
+    ensures refused { IfErr result (λ e. e ≡ Error.OutOfMemory) }
 {
     match postcard_de::take_from_bytes::<u32>(alloc, bytes) {
         Ok((index, rest)) => match variants.get(index as usize) {

@@ -7,9 +7,11 @@ ghost use Rattle.std.specs.Fmt.{decimal, ◌++?◌};
 ghost use Rattle.std.specs.Io.KnownBytes.{Appends};
 ghost use Rattle.hex.specs.Hex.{encode_lower};
 ghost use Rattle.postcard_cobs.specs.Groups.{NoZero};
+ghost use Rattle.postcard_dyn.specs.Explained.{HasNoFront};
 ghost use Rattle.postcard_dyn.specs.Tree.{tree};
 ghost use Rattle.postcard_dyn_text.specs.Shown.{layout_of, text};
 ghost use Rattle.postcard_cli.specs.Message.{Prints};
+ghost use Rattle.postcard_cli.specs.Place.{IsPlaceOf};
 ghost use Rattle.postcard_cli.specs.Receiving.{Continues, IsSame, PrintsAnswer, PrintsMessage};
 ghost use Rattle.postcard_cli.specs.Receiving.{ReadFails, Reads};
 ghost use Rattle.postcard_cli.specs.Refusal.{StreamCheckedFails, StreamFails, ValuesFail};
@@ -460,6 +462,7 @@ fn print_unread<W: Write>(
     output: &mut W,
 ) -> Result<(), Failure>
     ensures printed { OnOk result ((place : List ℕ)
+        × (HasNoFront schema.now message.now → IsPlaceOf schema.now message.now place)
         × Appends (W.contents output.old) (W.contents output.new)
         ((codes "error at byte " ++ (decimal start ++ (codes ": " ++ (place
         ++ (reason_text error.now ++ codes ": ")))))

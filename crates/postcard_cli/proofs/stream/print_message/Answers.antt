@@ -15,4 +15,5 @@ pub returns-clause-printed : goal.returns-clause-printed
 returns-clause-printed g c =
     message_refused c.print_unread.result c.args.format.now c.args.start c.args.message.now c.in-Err.error _ _
     (λ v rest r. c.in_default.not-OutOfMemory (c.in-Err.ensures.accepts r.tree r.front rest r.is_read r.is_spelled r.joins)) c.in-Err.ensures.named_error
-    c.in_default.not-OutOfMemory c.print_unread.ensures.printed
+    c.in_default.not-OutOfMemory (λ front rest cut f. c.in_default.not-OutOfMemory (c.in-Err.ensures.accepts f.0 front rest f.1 f.2 cut))
+    c.print_unread.ensures.printed
