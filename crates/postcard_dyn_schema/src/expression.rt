@@ -44,11 +44,11 @@ ghost use Rattle.postcard_dyn_schema.specs.Grammar.{IsNewVariant, IsContent, IsE
 
 use crate::angled::{Angled, Holder, Pair, map_of};
 use crate::error::{ExpressionError, Problem};
+use crate::names::TypeName;
 use crate::scan::{
     Fault, boxed, character_of, expect, fault_at, named, push, skip_blanks, skip_lifetime, take,
     take_count, take_word,
 };
-use crate::names::TypeName;
 use crate::schema::Schema;
 use std::alloc::Global;
 
