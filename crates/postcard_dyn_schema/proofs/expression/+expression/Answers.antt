@@ -1,4 +1,4 @@
-use Rattle.std.proofs.Common.{◌≡◌, ℕ, ◌+◌, ◌-◌, ◌<◌, ◌⊎◌, suc, true, false, List, [], ◌∷◌, ◌++◌, length, refl, sym, ap, subst, ◌∙◌, true≢false, arith, inl, inr}
+use Rattle.std.proofs.Common.{◌≡◌, ℕ, ◌+◌, ◌-◌, ◌<◌, ◌⊎◌, suc, true, false, List, [], ◌∷◌, ◌++◌, length, refl, sym, ap, subst, ◌∙◌, true≢false, arith, inl, inr, IfOk}
 use Rattle.std.proofs.lemmas.Grind.{common_steps}
 use Rattle.std.proofs.lemmas.List.{length_push}
 use Rattle.std.specs.Prelude.{slice_index}
@@ -291,8 +291,8 @@ read_worded-returns-in-Leaf-clause-one t c =
     let named = subst (IsTypeName v) c.in-Leaf.is c.in-Some.ensures.found in
     λ s r h ends. leaf_left T c.in-Leaf.leaf s b r (word_rest T (names.Leaf c.in-Leaf.leaf) s a v b r taken named ends h)
 
-pub read_worded-returns-in_err-open_angle-clause-refused : goal.read_worded-returns-in_err-open_angle-clause-refused
-read_worded-returns-in_err-open_angle-clause-refused t c =
+pub read_worded-returns-in_err-open_angle-in-Angled-clause-refused : goal.read_worded-returns-in_err-open_angle-in-Angled-clause-refused
+read_worded-returns-in_err-open_angle-in-Angled-clause-refused t c =
     let T = IsType c.args.depth in
     let a = c.args.rest.now.now in
     let word = c.take_word-word in
@@ -303,10 +303,10 @@ read_worded-returns-in_err-open_angle-clause-refused t c =
     let P = IsAngledRest T c.in-Angled.kind in
     let rest : (s : Schema) (r : List ℕ) → TakesPhrase (IsWorded T s) a r → EndsWord r → TakesPhrase (Then (IsSign 60) (P s)) b r = λ s r h ends.
     word_rest T (names.Angled c.in-Angled.kind) s a v b r taken named ends h in
-    refused_err _ _ c.from_residual.ensures.1 (inr (λ (s, r, h, ends). let m = takes_split (IsSign 60) (P s) b r (rest s r h ends) in c.in_err-open_angle.ensures.none m.0 m.1))
+    refused_err _ _ c.from_residual.ensures.1 (inr (λ (s, r, h, ends). let m = takes_split (IsSign 60) (P s) b r (rest s r h ends) in c.in_err-open_angle-in-Angled.ensures.none m.0 m.1))
 
-pub read_worded-returns-in-Angled-clause-spelled : goal.read_worded-returns-in-Angled-clause-spelled
-read_worded-returns-in-Angled-clause-spelled t c =
+pub read_worded-returns-in_ok-open_angle-in-Angled-clause-spelled : goal.read_worded-returns-in_ok-open_angle-in-Angled-clause-spelled
+read_worded-returns-in_ok-open_angle-in-Angled-clause-spelled t c =
     let T = IsType c.args.depth in
     let a = c.args.rest.now.now in
     let word = c.take_word-word in
@@ -318,10 +318,10 @@ read_worded-returns-in-Angled-clause-spelled t c =
     let d = c.open_angle.new.rest.now in
     let e = c.read_angled.new.rest.now in
     if_ok_as (λ s. TakesPhrase (P s) d e) (λ s. TakesPhrase (IsWorded T s) a e) c.read_angled.result
-    (λ s h. word_takes T (names.Angled c.in-Angled.kind) s v a b e named word.ensures.taken (takes_two (IsSign 60) (P s) b d e c.in_ok-open_angle.ensures.taken h)) c.read_angled.ensures.spelled
+    (λ s h. word_takes T (names.Angled c.in-Angled.kind) s v a b e named word.ensures.taken (takes_two (IsSign 60) (P s) b d e c.in_ok-open_angle-in-Angled.ensures.taken h)) c.read_angled.ensures.spelled
 
-pub read_worded-returns-in-Angled-clause-one : goal.read_worded-returns-in-Angled-clause-one
-read_worded-returns-in-Angled-clause-one t c =
+pub read_worded-returns-in_ok-open_angle-in-Angled-clause-one : goal.read_worded-returns-in_ok-open_angle-in-Angled-clause-one
+read_worded-returns-in_ok-open_angle-in-Angled-clause-one t c =
     let T = IsType c.args.depth in
     let a = c.args.rest.now.now in
     let word = c.take_word-word in
@@ -335,11 +335,11 @@ read_worded-returns-in-Angled-clause-one t c =
     let d = c.open_angle.new.rest.now in
     let e = c.read_angled.new.rest.now in
     let left : (s : Schema) (r : List ℕ) → TakesPhrase (IsWorded T s) a r → EndsWord r → TakesPhrase (P s) d r = λ s r h ends.
-    behind_sign 60 (P s) b d r refl c.in_ok-open_angle.ensures.taken (rest s r h ends) in
+    behind_sign 60 (P s) b d r refl c.in_ok-open_angle-in-Angled.ensures.taken (rest s r h ends) in
     if_ok_as (λ x. IsOnlyFront Anything P x d e) (λ x. IsOnlyFront EndsWord (IsWorded T) x a e) c.read_angled.result (λ x one s r h ends. one s r (left s r h ends) tt) c.read_angled.ensures.one
 
-pub read_worded-returns-in-Angled-clause-refused : goal.read_worded-returns-in-Angled-clause-refused
-read_worded-returns-in-Angled-clause-refused t c =
+pub read_worded-returns-in_ok-open_angle-in-Angled-clause-refused : goal.read_worded-returns-in_ok-open_angle-in-Angled-clause-refused
+read_worded-returns-in_ok-open_angle-in-Angled-clause-refused t c =
     let T = IsType c.args.depth in
     let a = c.args.rest.now.now in
     let word = c.take_word-word in
@@ -353,9 +353,19 @@ read_worded-returns-in-Angled-clause-refused t c =
     let d = c.open_angle.new.rest.now in
     let e = c.read_angled.new.rest.now in
     let left : (s : Schema) (r : List ℕ) → TakesPhrase (IsWorded T s) a r → EndsWord r → TakesPhrase (P s) d r = λ s r h ends.
-    behind_sign 60 (P s) b d r refl c.in_ok-open_angle.ensures.taken (rest s r h ends) in
+    behind_sign 60 (P s) b d r refl c.in_ok-open_angle-in-Angled.ensures.taken (rest s r h ends) in
     if_err_as (λ fault. IsRefusal fault.problem (HasFront Anything P d)) (λ fault. IsRefusal fault.problem (HasFront EndsWord (IsWorded T) a)) c.read_angled.result
     (λ fault f. refusal (λ (s, r, h, ends). (s, r, left s r h ends, tt)) f) c.read_angled.ensures.refused
+
+pub read_angled-returns-in-Holder-clause-one : goal.read_angled-returns-in-Holder-clause-one
+read_angled-returns-in-Holder-clause-one t c =
+    let call = c.read_holder in
+    subst (λ kind. IfOk call.result (λ s. IsOnlyFront Anything (IsAngledRest (IsType c.args.depth) kind) s c.args.rest.now.now call.new.rest.now)) (sym c.in-Holder.is) call.ensures.one
+
+pub read_angled-returns-in-Pair-clause-one : goal.read_angled-returns-in-Pair-clause-one
+read_angled-returns-in-Pair-clause-one t c =
+    let call = c.read_pair in
+    subst (λ kind. IfOk call.result (λ s. IsOnlyFront Anything (IsAngledRest (IsType c.args.depth) kind) s c.args.rest.now.now call.new.rest.now)) (sym c.in-Pair.is) call.ensures.one
 
 pub read_ended-returns-in_err-schema-clause-refused : goal.read_ended-returns-in_err-schema-clause-refused
 read_ended-returns-in_err-schema-clause-refused t c =
