@@ -9,6 +9,8 @@ pub enum FirstBytes<'a> {
     /// The encodings of some first items, which have 16 bytes together, and the number of these
     /// items, which is at least 1.
     Block([u8; 16], usize),
+    /// The same of items that have 64 bytes together.
+    Row([u8; 64], usize),
     /// The encodings of no items. So many first items, at least 1, are written one by one, and then
     /// it is asked again.
     SomeOneByOne(usize),

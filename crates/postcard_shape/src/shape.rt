@@ -19,9 +19,9 @@ pub trait Shaped {
 
     /// Returns the encodings of some first `items`, one after the other, for a type whose values are
     /// written quicker many at a time: those of all items if they are just these bytes in memory, as
-    /// those of a slice of `u8` are, or a block of them, as of four `f32`, or of sixteen `u32` below
-    /// 128. With `OneByOne`, which any type may return and which is the default, the items are
-    /// written one by one.
+    /// those of a slice of `u8` are, or a block or a row of them, as of four or sixteen `f32`, or of
+    /// sixteen `u32` below 128. With `OneByOne`, which any type may return and which is the default,
+    /// the items are written one by one.
     fn first_bytes(items: &[Self]) -> FirstBytes<'_>
     where
         Self: Sized,

@@ -33,6 +33,10 @@ pub(crate) fn serialize_all<T: Serialize, F: Flavor>(
                 serializer.extend(&block)?;
                 rest = &rest[count..];
             }
+            FirstBytes::Row(row, numbers) => {
+                serializer.extend(&row)?;
+                rest = &rest[numbers..];
+            }
             FirstBytes::SomeOneByOne(some) => {
                 serialize_each(&rest[..some], serializer)?;
                 rest = &rest[some..];

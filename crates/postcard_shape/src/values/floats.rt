@@ -1,11 +1,11 @@
 //! The shapes of floating-point numbers, and their encodings many at a time.
 
-ghost use Rattle.std.specs.Prelude.{◌≡◌, ◌≤◌, [], ◌∷◌, length, map, T};
+ghost use Rattle.std.specs.Prelude.{◌≡◌, ◌<◌, ◌≤◌, [], ◌∷◌, length, map, T};
 ghost use Rattle.std.specs.Float.{binary32, binary64};
 ghost use Rattle.std.specs.Float.Ieee.{fits, to_bits};
 ghost use Rattle.postcard_wire.specs.Spelling.{canonical_all};
 ghost use Rattle.postcard_wire.specs.Tree.{trees};
-ghost use Rattle.postcard_shape.specs.First.{AreFirst, IsBlockOf};
+ghost use Rattle.postcard_shape.specs.First.{AreFirst, IsBlockOf, IsRowOf};
 ghost use Rattle.postcard_shape.specs.Floats.{float, float_tree};
 ghost use Rattle.postcard_shape.specs.Lists.{AllFit};
 
@@ -16,10 +16,17 @@ use std::simd::prelude::*;
 impl Shaped for f32 {
     ghost shape = { float binary32 };
 
+    #[inline(always)]
     fn first_bytes(items: &[f32]) -> FirstBytes<'_>
         ensures gives { AreFirst (float binary32) items.now result }
-        ensures is_block { 4 ≤ length items.now → IsBlockOf 4 result }
+        ensures is_row { 16 ≤ length items.now → IsRowOf 16 result }
+        ensures is_block { 4 ≤ length items.now → length items.now < 16 → IsBlockOf 4 result }
     {
+        if let Some(row) = items.first_chunk::<16>() {
+            let [a, b, c, d, e, f, g, h, i, j, k, l, m, n, o, p] = *row;
+            let bytes = bytes_of_sixteen(a, b, c, d, e, f, g, h, i, j, k, l, m, n, o, p);
+            return FirstBytes::Row(bytes, 16);
+        }
         match items.first_chunk::<4>() {
             Some(block) => {
                 let [a, b, c, d] = *block;
@@ -33,10 +40,16 @@ impl Shaped for f32 {
 impl Shaped for f64 {
     ghost shape = { float binary64 };
 
+    #[inline(always)]
     fn first_bytes(items: &[f64]) -> FirstBytes<'_>
         ensures gives { AreFirst (float binary64) items.now result }
-        ensures is_block { 2 ≤ length items.now → IsBlockOf 2 result }
+        ensures is_row { 8 ≤ length items.now → IsRowOf 8 result }
+        ensures is_block { 2 ≤ length items.now → length items.now < 8 → IsBlockOf 2 result }
     {
+        if let Some(row) = items.first_chunk::<8>() {
+            let [a, b, c, d, e, f, g, h] = *row;
+            return FirstBytes::Row(bytes_of_eight(a, b, c, d, e, f, g, h), 8);
+        }
         match items.first_chunk::<2>() {
             Some(block) => {
                 let [a, b] = *block;
@@ -45,6 +58,94 @@ impl Shaped for f64 {
             None => FirstBytes::OneByOne,
         }
     }
+}
+
+/// Returns the encodings of 16 numbers, one after the other.
+#[inline(always)]
+fn bytes_of_sixteen(
+    a: f32,
+    b: f32,
+    c: f32,
+    d: f32,
+    e: f32,
+    f: f32,
+    g: f32,
+    h: f32,
+    i: f32,
+    j: f32,
+    k: f32,
+    l: f32,
+    m: f32,
+    n: f32,
+    o: f32,
+    p: f32,
+) -> [u8; 64]
+    ensures gives { result ≡ canonical_all (trees (map (float_tree binary32)
+        (a ∷ b ∷ c ∷ d ∷ e ∷ f ∷ g ∷ h ∷ i ∷ j ∷ k ∷ l ∷ m ∷ n ∷ o ∷ p ∷ []))) }
+    ensures fits { AllFit (λ x. T (fits binary32 x))
+        (a ∷ b ∷ c ∷ d ∷ e ∷ f ∷ g ∷ h ∷ i ∷ j ∷ k ∷ l ∷ m ∷ n ∷ o ∷ p ∷ []) }
+{
+    bits_of_sixteen(a, b, c, d, e, f, g, h, i, j, k, l, m, n, o, p)
+        .to_le_bytes()
+        .to_array()
+}
+
+/// Returns the bits of 16 numbers, and for a NaN those of the usual one, 7FC00000.
+#[inline(always)]
+fn bits_of_sixteen(
+    a: f32,
+    b: f32,
+    c: f32,
+    d: f32,
+    e: f32,
+    f: f32,
+    g: f32,
+    h: f32,
+    i: f32,
+    j: f32,
+    k: f32,
+    l: f32,
+    m: f32,
+    n: f32,
+    o: f32,
+    p: f32,
+) -> u32x16
+    ensures bits { result ≡ map (to_bits binary32)
+        (a ∷ b ∷ c ∷ d ∷ e ∷ f ∷ g ∷ h ∷ i ∷ j ∷ k ∷ l ∷ m ∷ n ∷ o ∷ p ∷ []) }
+    ensures fits { AllFit (λ x. T (fits binary32 x))
+        (a ∷ b ∷ c ∷ d ∷ e ∷ f ∷ g ∷ h ∷ i ∷ j ∷ k ∷ l ∷ m ∷ n ∷ o ∷ p ∷ []) }
+{
+    let lanes = f32x16::from_array([a, b, c, d, e, f, g, h, i, j, k, l, m, n, o, p]);
+    let nan = lanes.simd_ne(lanes);
+    let bits = nan.select(f32x16::splat(0.0), lanes).to_bits();
+    nan.select(u32x16::splat(0x7FC0_0000), bits)
+}
+
+/// Returns the encodings of eight numbers, one after the other.
+#[inline(always)]
+fn bytes_of_eight(a: f64, b: f64, c: f64, d: f64, e: f64, f: f64, g: f64, h: f64) -> [u8; 64]
+    ensures gives { result ≡ canonical_all (trees (map (float_tree binary64)
+        (a ∷ b ∷ c ∷ d ∷ e ∷ f ∷ g ∷ h ∷ []))) }
+    ensures fits { AllFit (λ x. T (fits binary64 x))
+        (a ∷ b ∷ c ∷ d ∷ e ∷ f ∷ g ∷ h ∷ []) }
+{
+    bits_of_eight(a, b, c, d, e, f, g, h)
+        .to_le_bytes()
+        .to_array()
+}
+
+/// Returns the bits of eight numbers, and for a NaN those of the usual one, 7FF8000000000000.
+#[inline(always)]
+fn bits_of_eight(a: f64, b: f64, c: f64, d: f64, e: f64, f: f64, g: f64, h: f64) -> u64x8
+    ensures bits { result ≡ map (to_bits binary64)
+        (a ∷ b ∷ c ∷ d ∷ e ∷ f ∷ g ∷ h ∷ []) }
+    ensures fits { AllFit (λ x. T (fits binary64 x))
+        (a ∷ b ∷ c ∷ d ∷ e ∷ f ∷ g ∷ h ∷ []) }
+{
+    let lanes = f64x8::from_array([a, b, c, d, e, f, g, h]);
+    let nan = lanes.simd_ne(lanes);
+    let bits = nan.select(f64x8::splat(0.0), lanes).to_bits();
+    nan.select(u64x8::splat(0x7FF8_0000_0000_0000), bits)
 }
 
 /// Returns the encodings of four numbers, one after the other.
