@@ -23,9 +23,9 @@ more_parts : (ss : List Schema) (x : Schema) (done front : List ℕ) (t : Tree) 
 more_parts [] x done front t (ts, r, f) is s =
     let none : done ≡ [] = rw r at f in
     rw none (Then t NoTrees, (t, NoTrees, refl, is, refl), (front, [], s, refl, sym (append-nil front)))
-more_parts (y ∷ ss) x done front t (ts, (a, as, e, r, rest), f) is s =
+more_parts (y ∷ ss) x done front t (ts, (a, others, e, r, rest), f) is s =
     let k = rw e at f in
-    let m = more_parts ss x k.1 front t (as, rest, k.3) is s in
+    let m = more_parts ss x k.1 front t (others, rest, k.3) is s in
     (Then a m.0, (a, m.0, refl, r, m.1), (k.0, k.1 ++ front, k.2, m.2, ap (λ z. z ++ front) k.4 ∙ append_assoc k.0 k.1 front))
 
 pub part_more : (xs : List Schema) (i : ℕ) (x : Schema) (t : Tree) (done front : List ℕ) → i < length xs → x ≡ get_or xs i x → SpellsParts (take i xs) done → reads (type_of x) t

@@ -138,11 +138,13 @@ fn push_in_elements(
     for i in 0..count {
         match take_from_bytes(alloc, element, rest) {
             Ok((_, after)) => rest = after,
-            Err(Error::OutOfMemory) => return Err(Error::OutOfMemory),
-            Err(_) => {
-                write!(path, "[{i}]")?;
-                return push_path(alloc, element, rest, path);
-            }
+            Err(error) => match error {
+                Error::OutOfMemory => return Err(error),
+                _ => {
+                    write!(path, "[{i}]")?;
+                    return push_path(alloc, element, rest, path);
+                }
+            },
         }
     }
     Ok(())
@@ -160,11 +162,13 @@ fn push_in_group(alloc: Global, parts: &Vec<Schema>, bytes: &[u8], path: &mut St
     for (i, part) in parts.iter().enumerate() {
         match take_from_bytes(alloc, part, rest) {
             Ok((_, after)) => rest = after,
-            Err(Error::OutOfMemory) => return Err(Error::OutOfMemory),
-            Err(_) => {
-                push_number(part, i, path)?;
-                return push_path(alloc, part, rest, path);
-            }
+            Err(error) => match error {
+                Error::OutOfMemory => return Err(error),
+                _ => {
+                    push_number(part, i, path)?;
+                    return push_path(alloc, part, rest, path);
+                }
+            },
         }
     }
     Ok(())

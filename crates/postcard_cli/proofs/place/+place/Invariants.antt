@@ -7,7 +7,7 @@ use Rattle.postcard_cli.proofs.place.+place.Given as goal
 
 abbrev pub invariant-push_in_elements-loop-i : goal.invariant-push_in_elements-loop-i
 invariant-push_in_elements-loop-i l =
-    (done : List ℕ) × SpellsEach (type_of l.element) l.i done × (l.bytes ≡ done ++ l.rest) × (l.path ≡ l.fn.path)
+    (done : List ℕ) × SpellsEach (type_of l.element) l.i-counter done × (l.bytes ≡ done ++ l.rest) × (l.path ≡ l.fn.path)
 
 abbrev pub invariant-push_in_group-loop-i : goal.invariant-push_in_group-loop-i
 invariant-push_in_group-loop-i l =
