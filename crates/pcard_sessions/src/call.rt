@@ -1,0 +1,97 @@
+//! A call of a session, and the answer that is written below it.
+
+use crate::fault::Fault;
+use crate::words::words_of;
+use postcard_cli::run;
+use std::alloc::{AllocError, Global};
+use std::fmt;
+
+/// What is before the words of a call.
+const PROMPT: &str = "$ pcard";
+
+/// What is before a call that must not answer as written.
+const NOT: &str = "not ";
+
+/// A call, and the answer that is written below it.
+#[derive(Drop)]
+pub struct Call {
+    /// The number of its line.
+    number: u64,
+    /// Its line.
+    line: String,
+    /// The lines of the answer, each with its end.
+    answer: String,
+}
+
+impl Call {
+    /// Returns whether a line is the first of a call.
+    pub fn begins(line: &str) -> bool {
+        without(line, NOT).starts_with(PROMPT)
+    }
+
+    /// Returns the call of the line with this number, without an answer.
+    pub fn new(alloc: Global, number: u64, line: &str) -> Result<Call, AllocError> {
+        let line = String::from_str(alloc, line)?;
+        let answer = String::new(alloc);
+        Ok(Call {
+            number,
+            line,
+            answer,
+        })
+    }
+
+    /// Takes a line of the answer.
+    pub fn add(&mut self, line: &str) -> Result<(), AllocError> {
+        self.answer.push_str(line)?;
+        self.answer.push_str("\n")
+    }
+
+    /// Requires that the call answers as written, or, if it begins with `not`, that it doesn't.
+    pub fn check(&self, alloc: Global) -> Result<(), Fault> {
+        let line = without(&self.line, NOT);
+        let is_wrong = self.line.starts_with(NOT);
+        let found = answer_of(alloc, without(line, PROMPT))?;
+        if (found.as_str() == self.answer.as_str()) != is_wrong {
+            return Ok(());
+        }
+        let written = self.answer.clone()?;
+        Err(Fault::Other { written, found })
+    }
+}
+
+impl fmt::Display for Call {
+    fn fmt<W: fmt::Write>(&self, f: &mut fmt::Formatter<W>) -> fmt::Result {
+        let (number, line) = (self.number, &self.line);
+        write!(f, "line {number}: {line}")
+    }
+}
+
+/// Returns the text without this front, if it has it.
+fn without<'a>(text: &'a str, front: &str) -> &'a str {
+    text.strip_prefix(front).unwrap_or(text)
+}
+
+/// Returns the answer to a call of these words, as it is written in a session: the exit status after a
+/// `?`, unless it is 0, and what is printed.
+fn answer_of(alloc: Global, text: &str) -> Result<String, Fault> {
+    let (words, digits) = words_of(alloc, text)?;
+    let bytes = bytes_of(alloc, &digits)?;
+    let mut printed = Vec::new(alloc);
+    let status = run(alloc, &words, &mut bytes.as_slice(), &mut printed);
+    let Ok(printed) = String::from_utf8(printed) else {
+        return Err(Fault::NoText);
+    };
+    if status == 0 {
+        return Ok(printed);
+    }
+    Ok(format!(in alloc; "? {status}\n{printed}")?)
+}
+
+/// Returns the bytes of hexadecimal digits.
+fn bytes_of(alloc: Global, digits: &str) -> Result<Vec<u8>, Fault> {
+    match hex::decode(alloc, digits) {
+        Ok(bytes) => Ok(bytes),
+        Err(hex::FromHexError::OutOfMemory) => Err(Fault::OutOfMemory),
+        Err(_) => Err(Fault::Input),
+    }
+}
