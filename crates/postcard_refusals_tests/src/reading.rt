@@ -3,9 +3,13 @@
 
 use postcard::{DeserializeOwned, Error, Owned, Result, Serialize, from_bytes, from_io, to_slice};
 use std::alloc::{AllocGlobal, Global};
-use std::collections::BTreeMap;
+use std::boxed::{BoxedSlice, BoxedStr};
+use std::collections::{BTreeMap, BTreeSet, BinaryHeap, HashMap, HashSet, LinkedList, VecDeque};
+use std::ffi::CString;
+use std::path::PathBuf;
 use std::process::Abort;
-use std::rc::Rc;
+use std::rc::{Rc, RcSlice, RcStr};
+use std::sync::{Arc, ArcSlice, ArcStr};
 
 /// Returns whether the value has this encoding.
 pub(crate) fn has_encoding<T: Serialize>(value: &T, bytes: &[u8]) -> bool {
@@ -59,6 +63,15 @@ fn refused_texts(rt: HostRuntime) {
 }
 
 #[test]
+fn refused_texts_of_other_types(rt: HostRuntime) {
+    is_read::<BoxedStr>(&rt, b"\x02hi");
+    is_read::<RcStr>(&rt, b"\x02hi");
+    is_read::<ArcStr>(&rt, b"\x02hi");
+    is_read::<PathBuf>(&rt, b"\x03a/b");
+    is_read::<CString>(&rt, b"\x02hi");
+}
+
+#[test]
 fn refused_lists(rt: HostRuntime) {
     is_read::<Vec<u8>>(&rt, &[8, 1, 2, 3, 4, 5, 6, 7, 8]);
     is_read::<Vec<u16>>(&rt, &[2, 0xAC, 0x02, 7]);
@@ -66,14 +79,32 @@ fn refused_lists(rt: HostRuntime) {
 }
 
 #[test]
+fn refused_lists_of_other_types(rt: HostRuntime) {
+    is_read::<VecDeque<u16>>(&rt, &[2, 0xAC, 0x02, 7]);
+    is_read::<LinkedList<u16>>(&rt, &[2, 0xAC, 0x02, 7]);
+    is_read::<BinaryHeap<u8>>(&rt, &[3, 3, 2, 1]);
+    is_read::<BoxedSlice<u16>>(&rt, &[2, 0xAC, 0x02, 7]);
+    is_read::<RcSlice<u16>>(&rt, &[2, 0xAC, 0x02, 7]);
+    is_read::<ArcSlice<u16>>(&rt, &[2, 0xAC, 0x02, 7]);
+}
+
+#[test]
+fn refused_sets(rt: HostRuntime) {
+    is_read::<BTreeSet<u8>>(&rt, &[3, 1, 2, 3]);
+    is_read::<HashSet<u8>>(&rt, &[1, 5]);
+}
+
+#[test]
 fn refused_maps(rt: HostRuntime) {
     is_read::<BTreeMap<u8, u8>>(&rt, &[4, 1, 5, 2, 6, 3, 7, 4, 8]);
     is_read::<BTreeMap<u8, Vec<u8>>>(&rt, &[2, 1, 1, 5, 2, 2, 6, 7]);
+    is_read::<HashMap<u8, u16>>(&rt, &[1, 5, 0xAC, 0x02]);
 }
 
 #[test]
 fn refused_pointers(rt: HostRuntime) {
     is_read::<Box<u8>>(&rt, &[7]);
     is_read::<Rc<u8>>(&rt, &[7]);
+    is_read::<Arc<u8>>(&rt, &[7]);
     is_read::<(Option<Box<u8>>, Box<(u8, Rc<u16>)>)>(&rt, &[1, 7, 8, 0xAC, 0x02]);
 }
