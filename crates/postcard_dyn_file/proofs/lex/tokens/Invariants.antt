@@ -1,0 +1,8 @@
+-- The tokens so far are those of what was read.
+use Rattle.std.proofs.Common.{[]}
+use Rattle.postcard_dyn_file.specs.Steps.{Steps}
+use Rattle.postcard_dyn_file.specs.Lexical.{ReadStep}
+use Rattle.postcard_dyn_file.proofs.lex.tokens.Given as goal
+
+abbrev pub invariant-loop : goal.invariant-loop
+invariant-loop l = Steps ReadStep (l.file, []) (l.rest, l.tokens.items)

@@ -1,0 +1,70 @@
+-- How a file is read as tokens: its words, signs and literals, with gaps between them.
+use Rattle.std.specs.Prelude.{◌≡◌, ◌≢◌, ℕ, ◌+◌, ◌<◌, true, ◌⊎◌, List, [], ◌∷◌, ◌++◌, length, slice_index, codes}
+use Rattle.std.specs.Char.{is_ascii_whitespace}
+use Rattle.std.specs.List.{AllPass}
+use Rattle.postcard_dyn_schema.specs.Text.{TakesPhrase, IsWord, EndsWord}
+use Rattle.postcard_dyn_file.specs.declared.token.Token.{Token}
+use Rattle.postcard_dyn_file.specs.Steps.{Steps, StepsToZero}
+
+-- The text begins with these two bytes.
+abbrev pub Begins : ℕ → ℕ → List ℕ → Type 0
+Begins first second text = (after : List ℕ) × (text ≡ first ∷ second ∷ after)
+
+-- In a comment: how many comments are open, and the text that is left. `*/` closes one, `/*` opens another.
+abbrev pub CommentStep : ℕ × List ℕ → ℕ × List ℕ → Type 0
+CommentStep s t =
+    ((s.0 ≡ t.0 + 1) × (s.1 ≡ 42 ∷ 47 ∷ t.1))
+    ⊎ (((s.0 + 1 ≡ t.0) × (s.1 ≡ 47 ∷ 42 ∷ t.1))
+    ⊎ ((b : ℕ) × (s.0 ≡ t.0) × (s.1 ≡ b ∷ t.1) × (Begins 42 47 s.1 → ⊥) × (Begins 47 42 s.1 → ⊥)))
+
+-- The text begins with a comment in `/*` and `*/`, and `rest` is left.
+abbrev pub IsComment : List ℕ → List ℕ → Type 0
+IsComment text rest = (inner : List ℕ) × (text ≡ 47 ∷ 42 ∷ inner) × StepsToZero CommentStep (1, inner) rest
+
+-- The text begins with `//` and the letters of its line, and `rest` is left: nothing, or a new line.
+abbrev pub IsLine : List ℕ → List ℕ → Type 0
+IsLine text rest = (line : List ℕ) × (text ≡ 47 ∷ 47 ∷ line ++ rest) × ((k : ℕ) → k < length line → slice_index line k ≢ 10)
+    × ((rest ≡ []) ⊎ ((after : List ℕ) × (rest ≡ 10 ∷ after)))
+
+-- The text begins with a letter of a literal: a byte, or a `\` and a byte.
+abbrev pub IsLetter : List ℕ → List ℕ → Type 0
+IsLetter text rest = (b : ℕ) × (((b ≢ 92) × (text ≡ b ∷ rest)) ⊎ (text ≡ 92 ∷ b ∷ rest))
+
+-- The text begins with letters, up to the first that is the quote, and with the quote, and `rest` is left.
+abbrev pub IsQuoted : ℕ → List ℕ → List ℕ → Type 0
+IsQuoted quote text rest = (last : List ℕ)
+    × Steps (λ a b. IsLetter a b × ((after : List ℕ) → a ≡ quote ∷ after → ⊥)) text last × (last ≡ quote ∷ rest)
+
+-- The text begins with a literal in these quotes, which is the token, and `rest` is left.
+abbrev pub IsLiteral : ℕ → List ℕ → List ℕ → List ℕ → Type 0
+IsLiteral quote token text rest = (inner : List ℕ) × (text ≡ quote ∷ inner) × IsQuoted quote inner rest × (text ≡ token ++ rest)
+
+-- The text begins with a lifetime and a comma, or with a lifetime, behind whose name no quote is.
+abbrev pub IsLifetime : List ℕ → List ℕ → Type 0
+IsLifetime text rest = (inner : List ℕ) × (name : List ℕ) × (after : List ℕ) × (text ≡ 39 ∷ inner) × (0 < length name)
+    × TakesPhrase (IsWord name) inner after × ((more : List ℕ) → after ≡ 39 ∷ more → ⊥) × ((after ≡ 44 ∷ rest) ⊎ (after ≡ rest))
+
+abbrev pub IsBlank : List ℕ → List ℕ → Type 0
+IsBlank text rest = (b : ℕ) × (is_ascii_whitespace b ≡ true) × (text ≡ b ∷ rest)
+
+-- The text begins with what stands between tokens, and `rest` is left.
+abbrev pub IsGap : List ℕ → List ℕ → Type 0
+IsGap text rest = IsBlank text rest ⊎ (IsLine text rest ⊎ (IsLifetime text rest ⊎ IsComment text rest))
+
+-- The text begins with this token, and `rest` is left.
+abbrev pub IsTokenAt : List ℕ → List ℕ → List ℕ → Type 0
+IsTokenAt token text rest =
+    ((0 < length token) × TakesPhrase (IsWord token) text rest × EndsWord rest)
+    ⊎ (((token ≡ codes "::") × (text ≡ 58 ∷ 58 ∷ rest))
+    ⊎ (((quote : ℕ) × ((quote ≡ 34) ⊎ (quote ≡ 39)) × IsLiteral quote token text rest)
+    ⊎ ((b : ℕ) × (b < 128) × (token ≡ b ∷ []) × (text ≡ b ∷ rest))))
+
+-- The text that is left, and the tokens before it: a gap is read, or a token, which doesn't begin as a comment.
+abbrev pub ReadStep : List ℕ × List Token → List ℕ × List Token → Type 0
+ReadStep s t =
+    (IsGap s.0 t.0 × (t.1 ≡ s.1))
+    ⊎ ((k : Token) × (Begins 47 47 s.0 → ⊥) × (Begins 47 42 s.0 → ⊥) × IsTokenAt k.text.now s.0 t.0 × (t.1 ≡ s.1 ++ k ∷ []))
+
+-- The file is read as these tokens.
+abbrev pub IsRead : List ℕ → List Token → Type 0
+IsRead file tokens = Steps ReadStep (file, []) ([], tokens)
