@@ -1,4 +1,8 @@
 -- The lemmas, by subject.
 pub mod Tests
 pub mod Fronts
-pub mod Writing
+pub mod Declared
+pub mod Recursion
+pub mod Spelled
+pub mod Limits
+pub mod Files

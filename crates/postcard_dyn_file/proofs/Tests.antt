@@ -1,27 +1,24 @@
--- What a test says of the tokens that are next.
-use Rattle.std.proofs.Common.{◌≡◌, ℕ, Bool, true, false, List, [], ◌∷◌, Decides, refl, sym, ap, subst, ◌∙◌, true≢false}
+-- What tests say of the tokens of a list.
+use Rattle.std.proofs.Common.{◌≡◌, ℕ, Bool, false, Option, Some, None, List, Decides, sym, ap, subst, ◌∙◌, true≢false}
+use Rattle.std.specs.Prelude.{IfNone}
+use Rattle.std.proofs.lemmas.Option.{same_Some}
 use Rattle.postcard_dyn_file.specs.declared.token.Token.{Token}
-use Rattle.postcard_dyn_file.specs.Tokens.{Says, IsNext}
+use Rattle.postcard_dyn_file.specs.Steps.{Steps, none}
+use Rattle.postcard_dyn_file.specs.Tokens.{IsAt}
 
 -- A test that fails refutes what it decides.
 pub unless : {P : Type 0} {b : Bool} → Decides b P → b ≡ false → P → ⊥
 unless d e p = true≢false (sym (d.1 p) ∙ e)
 
-pub same_token : {t u : Token} {ts us : List Token} → t ∷ ts ≡ u ∷ us → t ≡ u
-same_token e = cc
+-- No step leads to the same state.
+pub still : {X : Type 0} {R : X → X → Type 0} {a b : X} → b ≡ a → Steps R a b
+still {X} {R} {a} e = subst (Steps R a) (sym e) none
 
-pub same_tokens : {t u : Token} {ts us : List Token} → t ∷ ts ≡ u ∷ us → ts ≡ us
-same_tokens e = cc
+-- The token at an index says one thing.
+pub says_one : (tokens : List Token) (i : ℕ) (v w : List ℕ) → IsAt v tokens i → IsAt w tokens i → v ≡ w
+says_one tokens i v w (t, is_t, says_t) (u, is_u, says_u) = sym says_t ∙ ap (λ (k : Token). k.text.now) (same_Some t u (sym is_t ∙ is_u)) ∙ says_u
 
-pub no_token : {t : Token} {ts : List Token} → [] ≡ t ∷ ts → ⊥
-no_token e = cc
-
--- The first token's test decides which word is next.
-pub next_is : (word : List ℕ) (ts : List Token) (t : Token) (after : List Token) (b : Bool) → ts ≡ t ∷ after → Decides b (Says word t) → Decides b (IsNext word ts)
-next_is word ts t after b e d = (
-  λ is. (t, after, d.0 is, e),
-  λ (u, rest, says, f). d.1 (subst (Says word) (same_token (sym f ∙ e)) says),
-)
-
-pub next_none : (word : List ℕ) (ts : List Token) → ts ≡ [] → Decides false (IsNext word ts)
-next_none word ts e = (λ is. absurd (true≢false (sym is)), λ (t, after, says, f). absurd (no_token (sym e ∙ f)))
+-- What follows where there is no value.
+pub if_none : {X : Type 0} {P Q : Type 0} (o : Option X) → (P → Q) → IfNone o P → IfNone o Q
+if_none None f p = f p
+if_none (Some x) f p = p

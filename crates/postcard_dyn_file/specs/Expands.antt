@@ -1,137 +1,85 @@
--- The words that a type has once each name that the file defines is replaced by what it stands for.
-use Rattle.std.specs.Prelude.{◌≡◌, ℕ, zero, suc, Bool, true, false, ◌⊎◌, List, [], ◌∷◌, ◌++◌, drop, codes, All, Contains}
+-- The text that a declaration stands for, where each name of another one is replaced by what that stands for.
+use Rattle.std.specs.Prelude.{◌≡◌, ℕ, ◌+◌, ◌<◌, ◌≤◌, ◌⊎◌, Some, List, [], ◌∷◌, ◌++◌, codes, slice_get, All, Contains}
 use Rattle.postcard_dyn_file.specs.declared.token.Token.{Token}
-use Rattle.postcard_dyn_file.specs.declared.definition.Definition.{Definition}
-use Rattle.postcard_dyn_file.specs.declared.definition.Kind.{Kind}
-use Rattle.postcard_dyn_file.specs.declared.definition.Kind.TheVariants.{Struct, Enum, Alias}
+use Rattle.postcard_dyn_file.specs.declared.declaration.Declaration.{Declaration}
+use Rattle.postcard_dyn_file.specs.declared.declaration.Kind.{Kind}
+use Rattle.postcard_dyn_file.specs.declared.declaration.Kind.TheVariants.{Enum}
+use Rattle.postcard_dyn_file.specs.declared.error.FileProblem.{FileProblem}
+use Rattle.postcard_dyn_file.specs.declared.error.FileProblem.TheVariants.{NotDeclared, Recursive}
 use Rattle.postcard_dyn_file.specs.Steps.{Steps}
-use Rattle.postcard_dyn_file.specs.Tokens.{Says, IsOpening, IsClosing, IsNext, IsName, Takes}
-use Rattle.postcard_dyn_file.specs.Items.{IsVisibility}
+use Rattle.postcard_dyn_file.specs.Tokens.{Says, IsAt}
+use Rattle.postcard_dyn_file.specs.Words.{IsText}
 
--- The tokens of the file that are left, and the words that are written.
-abbrev pub State : Type 0
-State = List Token × List Token
+-- The token at index i names a field, which `:` follows, or a variant, which has one bracket around it.
+abbrev pub IsMember : List Token → Kind → ℕ → Type 0
+IsMember tokens kind i = IsAt (codes ":") tokens (i + 1)
+    ⊎ ((kind ≡ Enum) × ((t : Token) × (slice_get tokens i ≡ Some t) × (t.depth ≡ 1)))
 
--- Which rows in brackets are written as which words. The row of an alias ends before a `;`, too.
-abbrev pub Rows : Type 1
-Rows = Bool → State → State → Type 0
+-- The token at index i, one of the declaration d, refers to the declaration e: it is the name of e, and no member's.
+abbrev pub Refers : List Token → List Declaration → Declaration → ℕ → Declaration → Type 0
+Refers tokens known d i e = (t : Token) × (slice_get tokens i ≡ Some t) × (IsMember tokens d.kind i → ⊥) × Contains known e × Says t.text.now e.name
 
--- A sign is written.
-abbrev pub AddsSign : List ℕ → List Token → List Token → Type 0
-AddsSign sign out after = (t : Token) × Says sign t × (after ≡ out ++ t ∷ [])
+-- Some token of d refers to e.
+abbrev pub Mentions : List Token → List Declaration → Declaration → Declaration → Type 0
+Mentions tokens known d e = (i : ℕ) × (d.start ≤ i) × (i < d.end) × Refers tokens known d i e
 
--- `(` and `)` are written.
-abbrev pub AddsUnit : List Token → List Token → Type 0
-AddsUnit out after = (mid : List Token) × AddsSign (codes "(") out mid × AddsSign (codes ")") mid after
+-- The token at index i of d refers to nothing, and stands for this text.
+abbrev pub IsOwn : List Token → List Declaration → Declaration → ℕ → List ℕ → Type 0
+IsOwn tokens known d i text = ((e : Declaration) → Refers tokens known d i e → ⊥) × IsText d.kind tokens i text
 
--- A row ends before these tokens: before a bracket that closes one before, at the end of the file, or before the `;` of an alias.
-abbrev pub Stops : Bool → List Token → Type 0
-Stops is_alias ts = (ts ≡ []) ⊎ (((t : Token) × (after : List Token) × (ts ≡ t ∷ after) × IsClosing t) ⊎ ((is_alias ≡ true) × IsNext (codes ";") ts))
+-- The tokens of d before index i stand for this text: each for its own and a blank, and one that refers to a declaration for what all
+-- tokens of that one stand for.
+pub data Spells (tokens : List Token) (known : List Declaration) : Declaration → ℕ → List ℕ → Type 0 where
+  begun : (d : Declaration) → Spells tokens known d d.start []
+  own : (d : Declaration) (i j : ℕ) (before text whole : List ℕ) → Spells tokens known d i before → IsOwn tokens known d i text
+      → j ≡ i + 1 → whole ≡ before ++ (text ++ 32 ∷ []) → Spells tokens known d j whole
+  named : (d e : Declaration) (i j : ℕ) (before text whole : List ℕ) → Spells tokens known d i before → Refers tokens known d i e
+      → Spells tokens known e e.end text → j ≡ i + 1 → whole ≡ before ++ text → Spells tokens known d j whole
 
--- A bracket, a row that R writes, and the bracket that closes it. But `{}` becomes `()`.
-abbrev pub IsGroup : Rows → State → State → Type 0
-IsGroup R s u =
-    ((inner : List Token) × Takes (codes "{") s.0 inner × Takes (codes "}") inner u.0 × AddsUnit s.1 u.1)
-    ⊎ ((opening : Token) × (closing : Token) × (inner : List Token) × (written : List Token)
-    × (s.0 ≡ opening ∷ inner) × R false (inner, s.1 ++ opening ∷ []) (closing ∷ u.0, written) × IsClosing closing × (u.1 ≡ written ++ closing ∷ []))
+-- What the token at index i of d stands for is added to a text.
+abbrev pub Writes : List Token → List Declaration → Declaration → ℕ → List ℕ → List ℕ → Type 0
+Writes tokens known d i before after = (text : List ℕ) × (after ≡ before ++ text)
+    × (((own : List ℕ) × IsOwn tokens known d i own × (text ≡ own ++ 32 ∷ []))
+    ⊎ ((e : Declaration) × Refers tokens known d i e × Spells tokens known e e.end text))
 
--- After the name of a definition, `<` and `>` may stand.
-abbrev pub IsAngles : List Token → List Token → Type 0
-IsAngles ts rest =
-    ((IsNext (codes "<") ts → ⊥) × (rest ≡ ts))
-    ⊎ ((inner : List Token) × Takes (codes "<") ts inner × Takes (codes ">") inner rest)
+-- What the declaration stands for is added to a text.
+abbrev pub Spelled : List Token → List Declaration → Declaration → List ℕ → List ℕ → Type 0
+Spelled tokens known d before after = (text : List ℕ) × (after ≡ before ++ text) × Spells tokens known d d.end text
 
--- What a struct stands for: `()`, or its fields.
-abbrev pub SpellsStruct : Rows → List Token → List Token → List Token → Type 0
-SpellsStruct R body out after =
-    (IsNext (codes ";") body × AddsUnit out after)
-    ⊎ ((rest : List Token) × (IsNext (codes "{") body ⊎ IsNext (codes "(") body) × IsGroup R (body, out) (rest, after))
+-- Each declaration ends where it starts, or after that.
+abbrev pub AreInOrder : List Declaration → Type 0
+AreInOrder known = (d : Declaration) → Contains known d → d.start ≤ d.end
 
--- What a type alias stands for: its type, between `(` and `)`.
-abbrev pub SpellsAlias : Rows → List Token → List Token → List Token → Type 0
-SpellsAlias R body out after = (inner : List Token) × (rest : List Token) × (begun : List Token) × (written : List Token)
-    × Takes (codes "=") body inner × AddsSign (codes "(") out begun × R true (inner, begun) (rest, written)
-    × IsNext (codes ";") rest × AddsSign (codes ")") written after
+-- By mentions, the one leads to the other in no step or more.
+abbrev pub Reaches : List Token → List Declaration → Declaration → Declaration → Type 0
+Reaches tokens known d e = Steps (Mentions tokens known) d e
 
--- A variant may have `=` and a number behind it, which may have a `-`.
-abbrev pub IsDiscriminant : List Token → List Token → Type 0
-IsDiscriminant ts rest =
-    ((IsNext (codes "=") ts → ⊥) × (rest ≡ ts))
-    ⊎ ((after : List Token) × (number : List Token) × Takes (codes "=") ts after
-    × (Takes (codes "-") after number ⊎ ((IsNext (codes "-") after → ⊥) × (number ≡ after)))
-    × (((t : Token) × (number ≡ t ∷ rest)) ⊎ ((number ≡ []) × (rest ≡ []))))
+-- The declaration reaches one that mentions another, or itself, which reaches it again.
+abbrev pub IsRecursive : List Token → List Declaration → Declaration → Type 0
+IsRecursive tokens known root = (d e : Declaration) × Reaches tokens known root d × Mentions tokens known d e × Reaches tokens known e d
 
--- The content of a variant: what its brackets stand for, if there are any.
-abbrev pub IsContent : Rows → State → State → Type 0
-IsContent R s u =
-    ((IsNext (codes "(") s.0 ⊎ IsNext (codes "{") s.0) × IsGroup R s u)
-    ⊎ ((IsNext (codes "(") s.0 → ⊥) × (IsNext (codes "{") s.0 → ⊥) × (u.0 ≡ s.0) × (u.1 ≡ s.1))
+-- Each of the declarations but the first is mentioned by the one before it. The last is d.
+pub data IsChain (tokens : List Token) (known : List Declaration) (root : Declaration) : List Declaration → Declaration → Type 0 where
+  alone : Contains known root → (ds : List Declaration) → ds ≡ root ∷ [] → IsChain tokens known root ds root
+  linked : (d e : Declaration) (ds es : List Declaration) → IsChain tokens known root ds d → Mentions tokens known d e → es ≡ ds ++ e ∷ []
+      → IsChain tokens known root es e
 
--- A variant: `|` is written, its name, and its content.
-abbrev pub IsVariant : Rows → State → State → Type 0
-IsVariant R s u = (name : Token) × (after : List Token) × (begun : List Token) × (rest : List Token)
-    × (s.0 ≡ name ∷ after) × (IsClosing name → ⊥) × AddsSign (codes "|") s.1 begun
-    × IsContent R (after, begun ++ name ∷ []) (rest, u.1) × IsDiscriminant rest u.0
+-- The problem is that the declarations being replaced, of which the last is d, come to one of them again.
+abbrev pub FindsRecursion : List Token → List Declaration → List Declaration → Declaration → FileProblem → Type 0
+FindsRecursion tokens known within d problem = (problem ≡ Recursive)
+    × ((root : Declaration) → IsChain tokens known root within d → IsRecursive tokens known root)
 
--- The enum ends behind a variant: with `}`, before which a `,` may stand.
-abbrev pub IsEnumEnd : List Token → Type 0
-IsEnumEnd ts = ((rest : List Token) × Takes (codes ",") ts rest × IsNext (codes "}") rest) ⊎ IsNext (codes "}") ts
+-- The problem is that a declaration within them has the name of e.
+abbrev pub EntersAgain : List Declaration → Declaration → FileProblem → Type 0
+EntersAgain within e problem = (problem ≡ Recursive) × ((x : Declaration) × Contains within x × Says e.name.text.now x.name)
 
--- A variant and a comma, with which the enum doesn't end.
-abbrev pub VariantStep : Rows → State → State → Type 0
-VariantStep R s u = (mid : List Token) × IsVariant R s (mid, u.1) × (IsEnumEnd mid → ⊥) × Takes (codes ",") mid u.0
+-- The text is what the declaration with this name stands for, which isn't recursive.
+abbrev pub IsSpelledBy : List Token → List Declaration → List ℕ → List ℕ → Type 0
+IsSpelledBy tokens known name text = (d : Declaration) × Contains known d × Says name d.name
+    × (IsRecursive tokens known d → ⊥) × Spells tokens known d d.end text
 
--- What an enum stands for: its variants, between `(` and `)`.
-abbrev pub SpellsEnum : Rows → List Token → List Token → List Token → Type 0
-SpellsEnum R body out after = (inner : List Token) × (begun : List Token) × (last : State) × (rest : List Token) × (written : List Token)
-    × Takes (codes "{") body inner × AddsSign (codes "(") out begun
-    × Steps (VariantStep R) (inner, begun) last × IsVariant R last (rest, written) × IsEnumEnd rest × AddsSign (codes ")") written after
-
-abbrev pub SpellsAs : Kind → Rows → List Token → List Token → List Token → Type 0
-SpellsAs Struct R body out after = SpellsStruct R body out after
-SpellsAs Enum R body out after = SpellsEnum R body out after
-SpellsAs Alias R body out after = SpellsAlias R body out after
-
--- What a definition stands for is written.
-abbrev pub Spells : List Token → Rows → Definition → List Token → List Token → Type 0
-Spells file R d out after = (body : List Token) × IsAngles (drop d.body file) body × SpellsAs d.kind R body out after
-
--- The first token stands for nothing: it is `&`, `::`, or a name before `::`.
-abbrev pub IsDropped : List Token → Type 0
-IsDropped ts = (IsNext (codes "&") ts ⊎ IsNext (codes "::") ts)
-    ⊎ ((t : Token) × (after : List Token) × (ts ≡ t ∷ after) × IsName t.text.now × IsNext (codes "::") after)
-
--- The first two tokens are `<` and `>`.
-abbrev pub IsEmptyAngles : List Token → Type 0
-IsEmptyAngles ts = (rest : List Token) × Takes (codes "<") ts rest × IsNext (codes ">") rest
-
--- What a word stands for is written: the name of a field, before `:`, stands for itself, and another word for what its definition
--- does, or if it has none, for itself.
-abbrev pub IsWritten : List Token → List Definition → Rows → Token → List Token → List Token → List Token → Type 0
-IsWritten file known R word rest out after =
-    (IsNext (codes ":") rest × (after ≡ out ++ word ∷ []))
-    ⊎ (((IsNext (codes ":") rest → ⊥) × All (λ d. Says word.text.now d.name → ⊥) known × (after ≡ out ++ word ∷ []))
-    ⊎ ((d : Definition) × (IsNext (codes ":") rest → ⊥) × Contains known d × Says word.text.now d.name × Spells file R d out after))
-
--- What comes next is written: what brackets stand for, nothing, or what a word stands for.
-abbrev pub Writes : List Token → List Definition → Rows → State → State → Type 0
-Writes file known R s u = (t : Token) × (after : List Token) × (s.0 ≡ t ∷ after)
-    × ((IsOpening t × IsGroup R s u)
-    ⊎ ((IsDropped s.0 × (u.0 ≡ after) × (u.1 ≡ s.1))
-    ⊎ ((IsNext (codes "pub") s.0 × IsVisibility s.0 u.0 × (u.1 ≡ s.1))
-    ⊎ ((IsEmptyAngles s.0 × IsAngles s.0 u.0 × (u.1 ≡ s.1))
-    ⊎ ((IsOpening t → ⊥) × (IsDropped s.0 → ⊥) × (IsNext (codes "pub") s.0 → ⊥) × (IsEmptyAngles s.0 → ⊥) × (u.0 ≡ after)
-    × IsWritten file known R t after s.1 u.1)))))
-
--- A row is written, up to where it stops.
-abbrev pub IsRow : List Token → List Definition → Rows → Bool → State → State → Type 0
-IsRow file known R is_alias s u = Steps (λ a b. (Stops is_alias a.0 → ⊥) × Writes file known R a b) s u × Stops is_alias u.0
-
--- The rows in brackets, or in a type alias, that nest at most n deep.
-unfoldable pub Inner : List Token → List Definition → ℕ → Bool → State → State → Type 0
-Inner file known zero is_alias s u = ⊥
-Inner file known (suc n) is_alias s u = IsRow file known (Inner file known n) is_alias s u
-
--- The words spell the type with this name.
-abbrev pub IsSpelledBy : List Token → List Definition → List ℕ → List Token → Type 0
-IsSpelledBy file known name words = (d : Definition) × Contains known d × Says name d.name × Spells file (Inner file known 64) d [] words
+-- If the problem is one of the names: no declaration has the name, or the one that has it is recursive.
+abbrev pub FaultsName : List Token → List Declaration → List ℕ → FileProblem → Type 0
+FaultsName tokens known name problem =
+    (problem ≡ NotDeclared → All (λ d. Says name d.name → ⊥) known)
+    × (problem ≡ Recursive → (d : Declaration) × Contains known d × Says name d.name × IsRecursive tokens known d)

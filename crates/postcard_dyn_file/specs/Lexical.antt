@@ -1,7 +1,6 @@
 -- How a file is read as tokens: its words, signs and literals, with gaps between them.
 use Rattle.std.specs.Prelude.{◌≡◌, ◌≢◌, ℕ, ◌+◌, ◌<◌, true, ◌⊎◌, List, [], ◌∷◌, ◌++◌, length, slice_index, codes}
 use Rattle.std.specs.Char.{is_ascii_whitespace}
-use Rattle.std.specs.List.{AllPass}
 use Rattle.postcard_dyn_schema.specs.Text.{TakesPhrase, IsWord, EndsWord}
 use Rattle.postcard_dyn_file.specs.declared.token.Token.{Token}
 use Rattle.postcard_dyn_file.specs.Steps.{Steps, StepsToZero}
@@ -48,23 +47,45 @@ abbrev pub IsBlank : List ℕ → List ℕ → Type 0
 IsBlank text rest = (b : ℕ) × (is_ascii_whitespace b ≡ true) × (text ≡ b ∷ rest)
 
 -- The text begins with what stands between tokens, and `rest` is left.
-abbrev pub IsGap : List ℕ → List ℕ → Type 0
+unfoldable pub IsGap : List ℕ → List ℕ → Type 0
 IsGap text rest = IsBlank text rest ⊎ (IsLine text rest ⊎ (IsLifetime text rest ⊎ IsComment text rest))
 
--- The text begins with this token, and `rest` is left.
-abbrev pub IsTokenAt : List ℕ → List ℕ → List ℕ → Type 0
+-- The text begins with this byte of ASCII, which is the token, and `rest` is left.
+abbrev pub IsSignAt : List ℕ → List ℕ → List ℕ → Type 0
+IsSignAt token text rest = (b : ℕ) × (b < 128) × (token ≡ b ∷ []) × (text ≡ b ∷ rest)
+
+-- The text begins with this token, and `rest` is left: a word, `::`, a literal, or a sign.
+unfoldable pub IsTokenAt : List ℕ → List ℕ → List ℕ → Type 0
 IsTokenAt token text rest =
     ((0 < length token) × TakesPhrase (IsWord token) text rest × EndsWord rest)
     ⊎ (((token ≡ codes "::") × (text ≡ 58 ∷ 58 ∷ rest))
-    ⊎ (((quote : ℕ) × ((quote ≡ 34) ⊎ (quote ≡ 39)) × IsLiteral quote token text rest)
-    ⊎ ((b : ℕ) × (b < 128) × (token ≡ b ∷ []) × (text ≡ b ∷ rest))))
+    ⊎ ((IsLiteral 34 token text rest ⊎ IsLiteral 39 token text rest)
+    ⊎ IsSignAt token text rest))
 
--- The text that is left, and the tokens before it: a gap is read, or a token, which doesn't begin as a comment.
-abbrev pub ReadStep : List ℕ × List Token → List ℕ × List Token → Type 0
+abbrev pub IsOpening : List ℕ → Type 0
+IsOpening word = (word ≡ codes "(") ⊎ ((word ≡ codes "[") ⊎ (word ≡ codes "{"))
+
+abbrev pub IsClosing : List ℕ → Type 0
+IsClosing word = (word ≡ codes ")") ⊎ ((word ≡ codes "]") ⊎ (word ≡ codes "}"))
+
+-- How many brackets are open around the word, and after it, where `depth` are open before. A bracket isn't around itself.
+unfoldable pub HasDepth : List ℕ → ℕ → ℕ → ℕ → Type 0
+HasDepth word depth around after =
+    (IsOpening word × (around ≡ depth) × (after ≡ depth + 1))
+    ⊎ ((IsClosing word × (depth ≡ around + 1) × (after ≡ around))
+    ⊎ ((IsOpening word → ⊥) × (IsClosing word → ⊥) × (around ≡ depth) × (after ≡ depth)))
+
+-- The text that is left, how many brackets are open, and the tokens so far.
+abbrev pub Reading : Type 0
+Reading = List ℕ × ℕ × List Token
+
+-- A gap is read, or a token, which doesn't begin as a comment.
+abbrev pub ReadStep : Reading → Reading → Type 0
 ReadStep s t =
-    (IsGap s.0 t.0 × (t.1 ≡ s.1))
-    ⊎ ((k : Token) × (Begins 47 47 s.0 → ⊥) × (Begins 47 42 s.0 → ⊥) × IsTokenAt k.text.now s.0 t.0 × (t.1 ≡ s.1 ++ k ∷ []))
+    (IsGap s.0 t.0 × (t.1 ≡ s.1) × (t.2 ≡ s.2))
+    ⊎ ((k : Token) × (Begins 47 47 s.0 → ⊥) × (Begins 47 42 s.0 → ⊥) × IsTokenAt k.text.now s.0 t.0
+    × HasDepth k.text.now s.1 k.depth t.1 × (t.2 ≡ s.2 ++ k ∷ []))
 
--- The file is read as these tokens.
+-- The file is read as these tokens, and each bracket in it is closed.
 abbrev pub IsRead : List ℕ → List Token → Type 0
-IsRead file tokens = Steps ReadStep (file, []) ([], tokens)
+IsRead file tokens = Steps ReadStep (file, 0, []) ([], 0, tokens)

@@ -1,7 +1,7 @@
 //! The errors of reading a file of definitions.
 
-ghost use Rattle.std.specs.Prelude.{Some};
-ghost use Rattle.postcard_dyn_file.specs.Printed.{file_problem_text, file_error_text};
+ghost use Rattle.std.specs.Prelude.{◌≡◌, Some, false};
+ghost use Rattle.postcard_dyn_file.specs.Printed.{file_problem_text, file_error_text, is_of_names};
 
 use postcard_dyn_schema::Problem;
 use std::fmt;
@@ -21,14 +21,12 @@ pub enum FileProblem {
     NotOpen,
     /// The file ends inside of an item.
     ItemOpen,
-    /// After `#`, no attribute in `[` and `]` follows.
-    AttributeExpected,
     /// After `struct`, `enum` or `type`, no name follows.
     NameExpected,
     /// Two definitions have the same name.
-    DefinedTwice,
+    DeclaredTwice,
     /// The file has no definition with the name that is asked for.
-    NotDefined,
+    NotDeclared,
     /// The definition is generic: types in `<` and `>` follow its name.
     Generic,
     /// The type has itself in it.
@@ -41,10 +39,6 @@ pub enum FileProblem {
     EqualsExpected,
     /// After the type of an alias, no `;` follows.
     SemicolonExpected,
-    /// The enum has no variants.
-    VariantExpected,
-    /// After a variant, neither `,` nor `}` follows.
-    CommaOrBrace,
     /// With its names replaced, the type has more than 65,536 words and signs.
     TooLong,
     /// What is wrong is found as the type is read, with its names replaced.
@@ -62,18 +56,15 @@ impl fmt::Display for FileProblem {
             FileProblem::BracketOpen => f.write_str("this bracket isn't closed"),
             FileProblem::NotOpen => f.write_str("no bracket is open here"),
             FileProblem::ItemOpen => f.write_str("expected `;` or `{`"),
-            FileProblem::AttributeExpected => f.write_str("expected an attribute, as `#[..]`"),
             FileProblem::NameExpected => f.write_str("expected a name"),
-            FileProblem::DefinedTwice => f.write_str("this name was defined before"),
-            FileProblem::NotDefined => f.write_str("no definition has the name"),
+            FileProblem::DeclaredTwice => f.write_str("this name was defined before"),
+            FileProblem::NotDeclared => f.write_str("no definition has the name"),
             FileProblem::Generic => f.write_str("types with parameters aren't supported"),
             FileProblem::Recursive => f.write_str("this type has itself in it"),
             FileProblem::BodyExpected => f.write_str("expected `{`, `(` or `;`"),
             FileProblem::BraceExpected => f.write_str("expected `{`"),
             FileProblem::EqualsExpected => f.write_str("expected `=`"),
             FileProblem::SemicolonExpected => f.write_str("expected `;`"),
-            FileProblem::VariantExpected => f.write_str("expected the name of a variant"),
-            FileProblem::CommaOrBrace => f.write_str("expected `,` or `}`"),
             FileProblem::TooLong => f.write_str("this type is too long"),
             FileProblem::Expression(problem) => write!(f, "{problem}"),
         }
@@ -113,7 +104,9 @@ pub struct Fault {
 }
 
 /// Returns the fault that an allocation failed.
-pub fn out_of_memory(left: usize) -> Fault {
+pub fn out_of_memory(left: usize) -> Fault
+    ensures { is_of_names result.problem ≡ false }
+{
     Fault {
         problem: FileProblem::Expression(Problem::OutOfMemory),
         left,

@@ -3,11 +3,11 @@
 //! A function whose name begins with `after_` returns the text after what its name says, if the text
 //! begins with it.
 
-ghost use Rattle.std.specs.Prelude.{◌≡◌, ◌+◌, ℕ, List, [], ◌∷◌, ◌++◌, IfOk, IfSome, IfNone, OnOk};
-ghost use Rattle.postcard_dyn_file.specs.declared.token.Token.{Token};
+ghost use Rattle.std.specs.Prelude.{◌≡◌, ℕ, List, ◌∷◌, false, IfOk, IfErr, IfSome, IfNone};
+ghost use Rattle.postcard_dyn_file.specs.Printed.{is_of_names};
 ghost use Rattle.postcard_dyn_file.specs.Lexical.{Begins, CommentStep, IsComment, IsLine, IsLetter};
 ghost use Rattle.postcard_dyn_file.specs.Lexical.{IsQuoted, IsLiteral, IsLifetime, IsBlank, IsGap};
-ghost use Rattle.postcard_dyn_file.specs.Lexical.{IsTokenAt, ReadStep, IsRead};
+ghost use Rattle.postcard_dyn_file.specs.Lexical.{HasDepth, IsSignAt, IsTokenAt, ReadStep, IsRead};
 
 use crate::error::{Fault, FileProblem, out_of_memory};
 use crate::token::Token;
@@ -19,44 +19,117 @@ use std::alloc::Global;
 /// # Errors
 ///
 /// Fails with `CommentOpen` or `LiteralOpen` where one begins that isn't closed, with `AsciiExpected`
-/// at another character than of ASCII that is in none of them, and with `OutOfMemory`.
+/// at another character than of ASCII that is in none of them, with `NotOpen` at a bracket that is
+/// closed and isn't open, with `BracketOpen` at one that isn't closed, and with `OutOfMemory`.
 pub fn tokens<'a>(alloc: Global, file: &'a [u8]) -> Result<Vec<Token<'a>>, Fault>
-    ensures { IfOk result (λ tokens. IsRead file.now tokens.items) }
+    ensures read { IfOk result (λ tokens. IsRead file.now tokens.items) }
+    ensures other { IfErr result (λ fault. is_of_names fault.problem ≡ false) }
 {
     let mut tokens = Vec::new(alloc);
     let mut rest = file;
+    let mut depth = 0;
     for _ in 0..file.len() {
         if rest.is_empty() {
-            return Ok(tokens);
+            return closed(tokens, depth);
         }
-        rest = read_next(rest, &mut tokens)?;
+        let (after, around) = read_next(rest, depth, &mut tokens)?;
+        rest = after;
+        depth = around;
     }
     if rest.is_empty() {
-        return Ok(tokens);
+        return closed(tokens, depth);
     }
     Err(out_of_memory(rest.len()))
 }
 
-/// Reads a gap, or else a token, which it adds to the end of the list, and returns the text after it.
-fn read_next<'a>(text: &'a [u8], tokens: &mut Vec<Token<'a>>) -> Result<&'a [u8], Fault>
-    ensures { IfOk result (λ rest. ReadStep (text.now, tokens.old.items) (rest.now, tokens.new.items)) }
+/// Returns the tokens of the whole file.
+///
+/// # Errors
+///
+/// Fails with `BracketOpen` if brackets are open at its end.
+fn closed(tokens: Vec<Token>, depth: usize) -> Result<Vec<Token>, Fault>
+    ensures closed { IfOk result (λ all. (all.items ≡ tokens.entry.items) × (depth ≡ 0)) }
+    ensures other { IfErr result (λ fault. is_of_names fault.problem ≡ false) }
 {
-    if let Some(rest) = after_gap(text)? {
-        return Ok(rest);
+    if depth > 0 {
+        return Err(Fault {
+            problem: FileProblem::BracketOpen,
+            left: last_within(tokens.as_slice(), depth),
+        });
     }
-    let (token, rest) = token_at(text)?;
-    match tokens.push(token) {
-        Ok(()) => Ok(rest),
-        Err(_) => Err(out_of_memory(text.len())),
+    Ok(tokens)
+}
+
+/// Returns the place of the last token with fewer brackets around it than these, or 0 if there is none.
+fn last_within(tokens: &[Token], depth: usize) -> usize {
+    let mut left = 0;
+    for token in tokens {
+        if token.depth < depth {
+            left = token.left;
+        }
+    }
+    left
+}
+
+/// Reads a gap, or else a token, which it adds to the end of the list, where `depth` brackets are open.
+/// Returns the text after it, and how many are open there.
+fn read_next<'a>(
+    text: &'a [u8],
+    depth: usize,
+    tokens: &mut Vec<Token<'a>>,
+) -> Result<(&'a [u8], usize), Fault>
+    ensures read { IfOk result (λ found. ReadStep (text.now, depth, tokens.old.items)
+        (found.0.now, found.1, tokens.new.items)) }
+    ensures other { IfErr result (λ fault. is_of_names fault.problem ≡ false) }
+{
+    let left = text.len();
+    if let Some(rest) = after_gap(text)? {
+        return Ok((rest, depth));
+    }
+    let (word, rest) = token_front(text)?;
+    let Some((around, after)) = depths(word, depth) else {
+        return Err(Fault {
+            problem: FileProblem::NotOpen,
+            left,
+        });
+    };
+    match tokens.push(Token {
+        text: word,
+        depth: around,
+        left,
+    }) {
+        Ok(()) => Ok((rest, after)),
+        Err(_) => Err(out_of_memory(left)),
+    }
+}
+
+/// Returns how many brackets are open around the word or sign, and after it, where `depth` are open
+/// before, or `None` if it closes one and none is open.
+#[tactic(auto, unfolding(crate::specs::Lexical::HasDepth))]
+fn depths(word: &[u8], depth: usize) -> Option<(usize, usize)>
+    ensures { IfSome result (λ found. HasDepth word.now depth found.0 found.1) }
+{
+    match word {
+        b"(" | b"[" | b"{" => match depth.checked_add(1) {
+            Some(after) => Some((depth, after)),
+            None => None,
+        },
+        b")" | b"]" | b"}" => match depth.checked_sub(1) {
+            Some(after) => Some((after, after)),
+            None => None,
+        },
+        _ => Some((depth, depth)),
     }
 }
 
 /// Returns the text after what stands between tokens: a blank, a comment, or a lifetime and the comma
 /// behind it.
+#[tactic(auto, unfolding(crate::specs::Lexical::IsGap))]
 fn after_gap(text: &[u8]) -> Result<Option<&[u8]>, Fault>
     ensures found { IfOk result (λ found. IfSome found (λ rest. IsGap text.now rest.now)) }
     ensures none { IfOk result (λ found.
         IfNone found ((Begins 47 47 text.now → ⊥) × (Begins 47 42 text.now → ⊥))) }
+    ensures other { IfErr result (λ fault. is_of_names fault.problem ≡ false) }
 {
     if let Some(rest) = after_blank(text) {
         return Ok(Some(rest));
@@ -122,6 +195,7 @@ fn after_line(text: &[u8]) -> Option<&[u8]>
 fn after_comment(text: &[u8]) -> Result<Option<&[u8]>, Fault>
     ensures found { IfOk result (λ found. IfSome found (λ rest. IsComment text.now rest.now)) }
     ensures none { IfOk result (λ found. IfNone found (Begins 47 42 text.now → ⊥)) }
+    ensures other { IfErr result (λ fault. is_of_names fault.problem ≡ false) }
 {
     let Some(inner) = after_two(text, b'/', b'*') else {
         return Ok(None);
@@ -186,53 +260,52 @@ fn after_lifetime(text: &[u8]) -> Option<&[u8]>
 }
 
 /// Returns the token that the text begins with, and the text after it.
-fn token_at<'a>(text: &'a [u8]) -> Result<(Token<'a>, &'a [u8]), Fault>
-    ensures { IfOk result (λ found. IsTokenAt found.0.text.now text.now found.1.now) }
+#[tactic(auto, unfolding(crate::specs::Lexical::IsTokenAt))]
+fn token_front(text: &[u8]) -> Result<(&[u8], &[u8]), Fault>
+    ensures read { IfOk result (λ found. IsTokenAt found.0.now text.now found.1.now) }
+    ensures other { IfErr result (λ fault. is_of_names fault.problem ≡ false) }
 {
-    let left = text.len();
     let mut after = text;
     let word = take_word(&mut after);
     if !word.is_empty() {
-        return Ok((Token { text: word, left }, after));
+        return Ok((word, after));
     }
     if let Some(rest) = after_two(text, b':', b':') {
-        return Ok((Token { text: b"::", left }, rest));
+        return Ok((b"::", rest));
     }
-    sign_at(text)
-}
-
-/// Returns the literal or the sign that the text begins with, and the text after it.
-fn sign_at<'a>(text: &'a [u8]) -> Result<(Token<'a>, &'a [u8]), Fault>
-    ensures { IfOk result (λ found. IsTokenAt found.0.text.now text.now found.1.now) }
-{
-    let left = text.len();
     if let Some(inner) = after_byte(text, b'"') {
-        return literal_at(text, inner, b'"');
+        return literal_front(text, inner, b'"');
     }
     if let Some(inner) = after_byte(text, b'\'') {
-        return literal_at(text, inner, b'\'');
+        return literal_front(text, inner, b'\'');
     }
-    match text.split_first() {
-        Some((first, rest)) if first.is_ascii() => {
-            let (sign, _) = text.split_at(1);
-            Ok((Token { text: sign, left }, rest))
-        }
-        _ => Err(Fault {
-            problem: FileProblem::AsciiExpected,
-            left,
-        }),
+    sign_front(text)
+}
+
+/// Returns the first byte of the text, and the text after it.
+fn sign_front(text: &[u8]) -> Result<(&[u8], &[u8]), Fault>
+    ensures read { IfOk result (λ found. IsSignAt found.0.now text.now found.1.now) }
+    ensures other { IfErr result (λ fault. is_of_names fault.problem ≡ false) }
+{
+    if !text.is_empty() && text[0].is_ascii() {
+        return Ok(text.split_at(1));
     }
+    Err(Fault {
+        problem: FileProblem::AsciiExpected,
+        left: text.len(),
+    })
 }
 
 /// Returns the literal in these quotes that the text begins with, where `inner` follows the first of
 /// them, and the text after it.
-fn literal_at<'a>(
+fn literal_front<'a>(
     text: &'a [u8],
     inner: &'a [u8],
     quote: u8,
-) -> Result<(Token<'a>, &'a [u8]), Fault>
+) -> Result<(&'a [u8], &'a [u8]), Fault>
     requires { text.now ≡ quote ∷ inner.now }
-    ensures { IfOk result (λ found. IsLiteral quote found.0.text.now text.now found.1.now) }
+    ensures read { IfOk result (λ found. IsLiteral quote found.0.now text.now found.1.now) }
+    ensures other { IfErr result (λ fault. is_of_names fault.problem ≡ false) }
 {
     let left = text.len();
     let Some(rest) = after_letters(inner, quote) else {
@@ -242,13 +315,7 @@ fn literal_at<'a>(
         });
     };
     let (literal, _) = text.split_at(left.saturating_sub(rest.len()));
-    Ok((
-        Token {
-            text: literal,
-            left,
-        },
-        rest,
-    ))
+    Ok((literal, rest))
 }
 
 /// Returns the text after the letters of a literal and the quote at their end.
@@ -269,12 +336,14 @@ fn after_letters(text: &[u8], quote: u8) -> Option<&[u8]>
 fn after_letter(text: &[u8]) -> Option<&[u8]>
     ensures { IfSome result (λ rest. IsLetter text.now rest.now) }
 {
-    let letter = match after_byte(text, b'\\') {
-        Some(escaped) => escaped,
-        None => text,
+    let Some((first, rest)) = text.split_first() else {
+        return None;
     };
-    match letter.split_first() {
-        Some((_, rest)) => Some(rest),
+    if *first != b'\\' {
+        return Some(rest);
+    }
+    match rest.split_first() {
+        Some((_, after)) => Some(after),
         None => None,
     }
 }

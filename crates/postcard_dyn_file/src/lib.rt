@@ -1,4 +1,4 @@
-//! Types of messages that a file defines, in Rust's own form: [`find`].
+//! Types of messages that a file declares, in Rust's own form: [`find`].
 //!
 //! A file has the declarations of a program's source, so that these may be pasted:
 //!
@@ -12,11 +12,11 @@
 //! type Millimetres = i32;
 //! ```
 //!
-//! A name stands for its definition, wherever in the file that is: each name in the place of a type
-//! is replaced by what its definition spells, until a type expression is left, which is read by
-//! [`postcard_dyn_schema::parse`]. So wherever a type may stand, so may any type expression.
+//! A name stands for its declaration, wherever in the file that is: each name in the place of a type
+//! is replaced by what its declaration stands for, until a type expression is left, which is read by
+//! [`postcard_dyn_schema::parse`].
 //!
-//! | A definition | What it spells |
+//! | A declaration | What it stands for |
 //! |---|---|
 //! | `struct A;` | `()` |
 //! | `struct A(T, U);` | `(T, U)` |
@@ -24,46 +24,53 @@
 //! | `enum A { B, C(T), D { a: U } = 5 }` | `(\| B \| C(T) \| D { a: U })` |
 //! | `type A = T;` | `(T)` |
 //!
-//! Passed over are comments, attributes, lifetimes, `&`, `pub` and `pub(crate)`, paths before a name
-//! as in `std::string::String`, and each other item, as `use`, `fn` or `impl`, up to the first `;`
-//! or the end of the first braces outside of other brackets.
+//! Passed over are comments, attributes, lifetimes, `pub` and its limit, as `pub(crate)`, paths before
+//! a name, as in `std::string::String`, and the number of a variant, which is one word behind `=` and
+//! maybe `-`. An item ends with its first `;` or `}` outside of all brackets; one that doesn't begin with
+//! `struct`, `enum` or `type` is passed over. Types with parameters aren't supported.
 //!
-//! A file is read in four steps, one module each: its tokens ([`lex`]), the tokens without attributes and
-//! the definitions ([`definition`]), and the words of a type with its names replaced ([`expand`]).
+//! A file is read in five steps, one module each: its tokens ([`lex`]), those that are kept ([`kept`]),
+//! the declarations ([`declaration`]), the words of a type with its names replaced ([`expand`], and for
+//! each token [`words`]), and their text ([`place`]).
 #![tactic(auto)]
 
-ghost use Rattle.std.specs.Prelude.{IfOk, string_bytes};
+ghost use Rattle.std.specs.Prelude.{IfOk, IfErr, string_bytes};
 ghost use Rattle.postcard_dyn_schema.specs.declared.schema.Schema.{Schema};
 ghost use Rattle.postcard_dyn_schema.specs.Grammar.{IsExpression};
-ghost use Rattle.postcard_dyn_file.specs.Files.{IsExpressionOf, IsTypeOf};
+ghost use Rattle.postcard_dyn_file.specs.Files.{IsExpressionOf, IsTypeOf, FaultsNameOf, IsWithin};
 
-pub mod definition;
+pub mod declaration;
 pub mod error;
 pub mod expand;
+pub mod kept;
 pub mod lex;
 pub mod place;
 #[cfg(test)]
 mod tests;
 pub mod token;
+pub mod words;
 
-use definition::{definitions, without_attributes};
+use declaration::declarations;
 use error::Fault;
 pub use error::{FileError, FileProblem};
 use expand::words_of;
+use kept::kept;
 use lex::tokens;
 use place::{error_at, left_of, spelled};
 use postcard_dyn_schema::{Schema, parse};
 use std::alloc::Global;
 
-/// Returns the type with this name, which the file defines.
+/// Returns the type with this name, which the file declares.
 ///
 /// # Errors
 ///
 /// Fails with what is wrong, one of [`FileProblem`], and the line and column where it is, each counted
-/// from 1. The file's tokens and items are looked at first, to its end, and then the definition of
-/// the name and those that it needs: what is wrong in another one isn't found.
+/// from 1. The file's tokens and declarations are looked at first, to its end, and then what the
+/// declaration of the name and those that it needs consist of: what is wrong in another one isn't found.
 pub fn find(alloc: Global, file: &str, name: &str) -> Result<Schema, FileError>
-    ensures { IfOk result (λ schema. IsTypeOf file.now name.now schema) }
+    ensures found { IfOk result (λ schema. IsTypeOf file.now name.now schema) }
+    ensures names { IfErr result (λ e. FaultsNameOf file.now name.now e.problem) }
+    ensures place { IfErr result (λ e. IsWithin file.now e) }
 {
     match read(alloc, file.as_bytes(), name.as_bytes()) {
         Ok(found) => Ok(found.schema),
@@ -71,8 +78,8 @@ pub fn find(alloc: Global, file: &str, name: &str) -> Result<Schema, FileError>
     }
 }
 
-/// Returns a type expression of the type with this name, which the file defines: its definition, with
-/// each name in it replaced. It begins with `(` or `{`.
+/// Returns a type expression of the type with this name, which the file declares: what its declaration
+/// stands for. It begins with `(` or `{`.
 ///
 /// # Errors
 ///
@@ -80,6 +87,8 @@ pub fn find(alloc: Global, file: &str, name: &str) -> Result<Schema, FileError>
 pub fn expression(alloc: Global, file: &str, name: &str) -> Result<String, FileError>
     ensures spelled { IfOk result (λ text. IsExpressionOf file.now name.now (string_bytes text)) }
     ensures read { IfOk result (λ text. (schema : Schema) × IsExpression schema (string_bytes text)) }
+    ensures names { IfErr result (λ e. FaultsNameOf file.now name.now e.problem) }
+    ensures place { IfErr result (λ e. IsWithin file.now e) }
 {
     match read(alloc, file.as_bytes(), name.as_bytes()) {
         Ok(found) => Ok(found.text),
@@ -96,12 +105,14 @@ struct Found {
 
 /// Returns the type with this name, and its expression.
 fn read(alloc: Global, file: &[u8], name: &[u8]) -> Result<Found, Fault>
-    ensures spelled { IfOk result (λ found. IsExpressionOf file.now name.now (string_bytes found.text)) }
+    ensures spelled { IfOk result (λ found. IsExpressionOf file.now name.now
+        (string_bytes found.text)) }
     ensures read { IfOk result (λ found. IsExpression found.schema (string_bytes found.text)) }
+    ensures names { IfErr result (λ fault. FaultsNameOf file.now name.now fault.problem) }
 {
     let all = tokens(alloc, file)?;
-    let kept = without_attributes(alloc, all.as_slice())?;
-    let known = definitions(alloc, kept.as_slice())?;
+    let kept = kept(alloc, all.as_slice())?;
+    let known = declarations(alloc, kept.as_slice())?;
     let words = words_of(alloc, kept.as_slice(), known.as_slice(), name)?;
     let text = spelled(alloc, words.as_slice())?;
     match parse(alloc, text.as_str()) {

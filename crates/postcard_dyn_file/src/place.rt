@@ -1,8 +1,10 @@
 //! The text of the words of a type, and places in it and in the file.
 
-ghost use Rattle.std.specs.Prelude.{◌≡◌, ◌+◌, ◌-◌, ◌≤◌, ◌==◌, [], ◌∷◌, ◌++◌, take, length, count_by};
-ghost use Rattle.std.specs.Prelude.{IfOk, OnOk, string_bytes};
+ghost use Rattle.std.specs.Prelude.{◌≡◌, ◌+◌, ◌-◌, ◌≤◌, ◌==◌, [], ◌∷◌, ◌++◌, false, length, take, count_by};
+ghost use Rattle.std.specs.Prelude.{IfOk, IfErr, OnOk, string_bytes};
 ghost use Rattle.postcard_dyn_file.specs.Tokens.{spelling};
+ghost use Rattle.postcard_dyn_file.specs.Places.{IsLineStart, IsPlace};
+ghost use Rattle.postcard_dyn_file.specs.Printed.{is_of_names};
 
 use crate::error::{Fault, FileError, FileProblem, out_of_memory};
 use crate::token::Token;
@@ -16,7 +18,8 @@ use std::alloc::Global;
 /// Fails with `AsciiExpected` at a word that is no UTF-8, as no token of a text is, and with
 /// `OutOfMemory`.
 pub fn spelled(alloc: Global, words: &[Token]) -> Result<String, Fault>
-    ensures { IfOk result (λ text. string_bytes text ≡ spelling words.now) }
+    ensures spelled { IfOk result (λ text. string_bytes text ≡ spelling words.now) }
+    ensures other { IfErr result (λ fault. is_of_names fault.problem ≡ false) }
 {
     let mut text = String::new(alloc);
     for word in words {
@@ -33,7 +36,9 @@ pub fn spelled(alloc: Global, words: &[Token]) -> Result<String, Fault>
 
 /// Adds a word and a blank to the text.
 fn add(text: &mut String, word: &str, left: usize) -> Result<(), Fault>
-    ensures { OnOk result (string_bytes text.new ≡ string_bytes text.old ++ (word.now ++ 32 ∷ [])) }
+    ensures added { OnOk result (string_bytes text.new
+        ≡ string_bytes text.old ++ (word.now ++ 32 ∷ [])) }
+    ensures other { IfErr result (λ fault. is_of_names fault.problem ≡ false) }
 {
     if text.push_str(word).is_err() {
         return Err(out_of_memory(left));
@@ -63,25 +68,32 @@ pub fn left_of(words: &[Token], character: usize) -> usize {
 /// Returns the error of a fault, with its line and column, each counted from 1.
 pub fn error_at(file: &[u8], fault: Fault) -> FileError
     ensures problem { result.problem ≡ fault.problem }
-    ensures line { result.line
-        ≡ count_by (λ b. b == 10) (take (length file.now - fault.left) file.now) + 1 }
-    ensures column { 1 ≤ result.column }
+    ensures place { IsPlace file.now (length file.now - fault.left) result.line result.column }
 {
-    let before = &file[..file.len().saturating_sub(fault.left)];
+    let (_, line) = file.split_at(line_start(file, file.len().saturating_sub(fault.left)));
     FileError {
         problem: fault.problem,
-        line: before.iter().filter(|byte| **byte == b'\n').count() + 1,
-        column: character_of(last_line(before), 0),
+        line: line_of(file, fault.left),
+        column: character_of(line, fault.left),
     }
 }
 
-/// Returns what follows the last new line, or the whole text if there is none.
-fn last_line(text: &[u8]) -> &[u8] {
-    let mut start = 0;
-    for (index, byte) in text.iter().enumerate() {
-        if *byte == b'\n' {
-            start = index + 1;
-        }
+/// Returns the number, counted from 1, of the line of what is `left` bytes before the end of the file.
+fn line_of(file: &[u8], left: usize) -> usize
+    ensures { result ≡ count_by (λ b. b == 10) (take (length file.now - left) file.now) + 1 }
+{
+    let before = &file[..file.len().saturating_sub(left)];
+    before.iter().filter(|byte| **byte == b'\n').count() + 1
+}
+
+/// Returns the index at which the line begins that has the index `end`, or ends there.
+fn line_start(file: &[u8], end: usize) -> usize
+    requires { end ≤ length file.now }
+    ensures { IsLineStart file.now result end }
+{
+    let mut start = end;
+    'back: while start > 0 && file[start - 1] != b'\n' {
+        start -= 1;
     }
-    &text[start..]
+    start
 }

@@ -219,7 +219,7 @@ const REFUSED: [Row; 38] = [
     (
         "enum A { B C }",
         "A",
-        "line 1, column 12: expected `,` or `}`",
+        "line 1, column 12: expected `,` or `)`",
     ),
     (
         "enum A { B, B }",
@@ -331,6 +331,6 @@ fn spells_types(rt: HostRuntime) {
     let text = expression(rt.alloc(), file, "A").expect(&rt, "A");
     assert_eq!(rt;
         text.as_str(),
-        "{ a : ( | C | D ( u8 ) ) , b : [ str ; 2 ] } "
+        "{ a : (| C | D ( u8 ) ) , b : [ & str ; 2 ] } "
     );
 }

@@ -5,4 +5,4 @@ use Rattle.postcard_dyn_file.specs.Lexical.{ReadStep}
 use Rattle.postcard_dyn_file.proofs.lex.tokens.Given as goal
 
 abbrev pub invariant-loop : goal.invariant-loop
-invariant-loop l = Steps ReadStep (l.file, []) (l.rest, l.tokens.items)
+invariant-loop l = Steps ReadStep (l.file, 0, []) (l.rest, l.depth, l.tokens.items)
