@@ -9,7 +9,8 @@ letter_front : (text rest : List ℕ) → IsLetter text rest → (front : List �
 letter_front text rest (b, inl (other, e)) = (b ∷ [], e)
 letter_front text rest (b, inr e) = (92 ∷ b ∷ [], e)
 
-letters_front : (quote : ℕ) (text last : List ℕ) → Steps (λ a b. IsLetter a b × ((after : List ℕ) → a ≡ quote ∷ after → ⊥)) text last → (front : List ℕ) × (text ≡ front ++ last)
+-- Letters are a front of the text.
+pub letters_front : (quote : ℕ) (text last : List ℕ) → Steps (λ a b. IsLetter a b × ((after : List ℕ) → a ≡ quote ∷ after → ⊥)) text last → (front : List ℕ) × (text ≡ front ++ last)
 letters_front quote text last none = ([], refl)
 letters_front quote text last (more {s} {t} before step) =
     let (f, e) = letters_front quote text s before in

@@ -6,3 +6,5 @@ pub mod Recursion
 pub mod Spelled
 pub mod Limits
 pub mod Files
+pub mod Gaps
+pub mod Shorter

@@ -1,11 +1,15 @@
 -- The text that a declaration stands for, where each name of another one is replaced by what that stands for.
-use Rattle.std.specs.Prelude.{◌≡◌, ℕ, ◌+◌, ◌<◌, ◌≤◌, ◌⊎◌, Some, List, [], ◌∷◌, ◌++◌, codes, slice_get, All, Contains}
+use Rattle.std.specs.Prelude.{◌≡◌, ℕ, ◌+◌, ◌<◌, ◌≤◌, ◌⊎◌, Some, List, [], ◌∷◌, ◌++◌, codes, length, slice_get, All, Contains}
 use Rattle.postcard_dyn_file.specs.declared.token.Token.{Token}
 use Rattle.postcard_dyn_file.specs.declared.declaration.Declaration.{Declaration}
 use Rattle.postcard_dyn_file.specs.declared.declaration.Kind.{Kind}
 use Rattle.postcard_dyn_file.specs.declared.declaration.Kind.TheVariants.{Enum}
 use Rattle.postcard_dyn_file.specs.declared.error.FileProblem.{FileProblem}
 use Rattle.postcard_dyn_file.specs.declared.error.FileProblem.TheVariants.{NotDeclared, Recursive}
+use Rattle.postcard_dyn_file.specs.declared.error.FileProblem.TheVariants as problems
+use Rattle.postcard_dyn_schema.specs.declared.error.Problem.{Problem}
+use Rattle.postcard_dyn_schema.specs.declared.schema.Schema.{Schema}
+use Rattle.postcard_dyn_schema.specs.Grammar.{IsExpression}
 use Rattle.postcard_dyn_file.specs.Steps.{Steps}
 use Rattle.postcard_dyn_file.specs.Tokens.{Says, IsAt}
 use Rattle.postcard_dyn_file.specs.Words.{IsText}
@@ -46,9 +50,9 @@ Writes tokens known d i before after = (text : List ℕ) × (after ≡ before ++
 abbrev pub Spelled : List Token → List Declaration → Declaration → List ℕ → List ℕ → Type 0
 Spelled tokens known d before after = (text : List ℕ) × (after ≡ before ++ text) × Spells tokens known d d.end text
 
--- Each declaration ends where it starts, or after that.
-abbrev pub AreInOrder : List Declaration → Type 0
-AreInOrder known = (d : Declaration) → Contains known d → d.start ≤ d.end
+-- Each declaration ends where it starts, or after that, within the tokens.
+abbrev pub AreInOrder : List Token → List Declaration → Type 0
+AreInOrder tokens known = (d : Declaration) → Contains known d → (d.start ≤ d.end) × (d.end ≤ length tokens)
 
 -- By mentions, the one leads to the other in no step or more.
 abbrev pub Reaches : List Token → List Declaration → Declaration → Declaration → Type 0
@@ -78,8 +82,10 @@ abbrev pub IsSpelledBy : List Token → List Declaration → List ℕ → List �
 IsSpelledBy tokens known name text = (d : Declaration) × Contains known d × Says name d.name
     × (IsRecursive tokens known d → ⊥) × Spells tokens known d d.end text
 
--- If the problem is one of the names: no declaration has the name, or the one that has it is recursive.
-abbrev pub FaultsName : List Token → List Declaration → List ℕ → FileProblem → Type 0
-FaultsName tokens known name problem =
+-- If the problem is one of the type with this name: no declaration has the name, the one that has it is recursive, or what it stands
+-- for is no type expression.
+abbrev pub HasFault : List Token → List Declaration → List ℕ → FileProblem → Type 0
+HasFault tokens known name problem =
     (problem ≡ NotDeclared → All (λ d. Says name d.name → ⊥) known)
     × (problem ≡ Recursive → (d : Declaration) × Contains known d × Says name d.name × IsRecursive tokens known d)
+    × ((p : Problem) → problem ≡ problems.Expression p → (text : List ℕ) × IsSpelledBy tokens known name text × ((schema : Schema) → IsExpression schema text → ⊥))

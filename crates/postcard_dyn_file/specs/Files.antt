@@ -9,9 +9,9 @@ use Rattle.postcard_dyn_file.specs.declared.error.FileError.{FileError}
 use Rattle.postcard_dyn_file.specs.Lexical.{IsRead}
 use Rattle.postcard_dyn_file.specs.Kept.{AreKept}
 use Rattle.postcard_dyn_file.specs.Items.{AreDeclarations}
-use Rattle.postcard_dyn_file.specs.Expands.{IsSpelledBy, FaultsName}
+use Rattle.postcard_dyn_file.specs.Expands.{IsSpelledBy, HasFault}
 use Rattle.postcard_dyn_file.specs.Places.{IsPlace}
-use Rattle.postcard_dyn_file.specs.Printed.{is_of_names}
+use Rattle.postcard_dyn_file.specs.Printed.{is_of_type}
 
 -- The file's tokens, but for those that are passed over, and its declarations.
 abbrev pub IsFileOf : List ℕ → List Token → List Declaration → Type 0
@@ -25,9 +25,9 @@ IsExpressionOf file name text = (kept : List Token) × (known : List Declaration
 abbrev pub IsTypeOf : List ℕ → List ℕ → Schema → Type 0
 IsTypeOf file name schema = (text : List ℕ) × IsExpressionOf file name text × IsExpression schema text
 
--- If the problem is one of the names: the file has no declaration of the name, or one that is recursive.
-abbrev pub FaultsNameOf : List ℕ → List ℕ → FileProblem → Type 0
-FaultsNameOf file name problem = (is_of_names problem ≡ true) → (kept : List Token) × (known : List Declaration) × IsFileOf file kept known × FaultsName kept known name problem
+-- If the problem is one of the type with this name: the file has no declaration of the name, it is recursive, or it is no type.
+abbrev pub HasFaultOf : List ℕ → List ℕ → FileProblem → Type 0
+HasFaultOf file name problem = (is_of_type problem ≡ true) → (kept : List Token) × (known : List Declaration) × IsFileOf file kept known × HasFault kept known name problem
 
 -- The error's line and column are those of a place in the file.
 abbrev pub IsWithin : List ℕ → FileError → Type 0

@@ -1,9 +1,11 @@
 -- How a file is read as tokens: its words, signs and literals, with gaps between them.
 use Rattle.std.specs.Prelude.{◌≡◌, ◌≢◌, ℕ, ◌+◌, ◌<◌, true, ◌⊎◌, List, [], ◌∷◌, ◌++◌, length, slice_index, codes}
 use Rattle.std.specs.Char.{is_ascii_whitespace}
-use Rattle.postcard_dyn_schema.specs.Text.{TakesPhrase, IsWord, EndsWord}
+use Rattle.std.specs.List.{AllPass}
+use Rattle.postcard_dyn_schema.specs.Text.{is_of_word, EndsWord}
 use Rattle.postcard_dyn_file.specs.declared.token.Token.{Token}
 use Rattle.postcard_dyn_file.specs.Steps.{Steps, StepsToZero}
+use Rattle.postcard_dyn_file.specs.Words.{Where}
 
 -- The text begins with these two bytes.
 abbrev pub Begins : ℕ → ℕ → List ℕ → Type 0
@@ -38,10 +40,18 @@ IsQuoted quote text rest = (last : List ℕ)
 abbrev pub IsLiteral : ℕ → List ℕ → List ℕ → List ℕ → Type 0
 IsLiteral quote token text rest = (inner : List ℕ) × (text ≡ quote ∷ inner) × IsQuoted quote inner rest × (text ≡ token ++ rest)
 
--- The text begins with a lifetime and a comma, or with a lifetime, behind whose name no quote is.
-abbrev pub IsLifetime : List ℕ → List ℕ → Type 0
-IsLifetime text rest = (inner : List ℕ) × (name : List ℕ) × (after : List ℕ) × (text ≡ 39 ∷ inner) × (0 < length name)
-    × TakesPhrase (IsWord name) inner after × ((more : List ℕ) → after ≡ 39 ∷ more → ⊥) × ((after ≡ 44 ∷ rest) ⊎ (after ≡ rest))
+-- The text begins with this byte.
+abbrev pub BeginsBy : ℕ → List ℕ → Type 0
+BeginsBy b text = (rest : List ℕ) × (text ≡ b ∷ rest)
+
+-- The text begins with this word, all of whose letters it has, or with none, and `rest` is left.
+abbrev pub IsWordFront : List ℕ → List ℕ → List ℕ → Type 0
+IsWordFront word text rest = AllPass is_of_word word × EndsWord rest × (text ≡ word ++ rest)
+
+-- The text begins with a lifetime, behind whose name no quote is, and the comma behind it if there is one, and `rest` is left.
+unfoldable pub IsLifetime : List ℕ → List ℕ → Type 0
+IsLifetime text rest = (inner : List ℕ) × (name : List ℕ) × (after : List ℕ) × (text ≡ 39 ∷ inner) × IsWordFront name inner after × (0 < length name)
+    × (BeginsBy 39 after → ⊥) × Where (BeginsBy 44 after) (after ≡ 44 ∷ rest) (rest ≡ after)
 
 abbrev pub IsBlank : List ℕ → List ℕ → Type 0
 IsBlank text rest = (b : ℕ) × (is_ascii_whitespace b ≡ true) × (text ≡ b ∷ rest)
@@ -54,13 +64,17 @@ IsGap text rest = IsBlank text rest ⊎ (IsLine text rest ⊎ (IsLifetime text r
 abbrev pub IsSignAt : List ℕ → List ℕ → List ℕ → Type 0
 IsSignAt token text rest = (b : ℕ) × (b < 128) × (token ≡ b ∷ []) × (text ≡ b ∷ rest)
 
--- The text begins with this token, and `rest` is left: a word, `::`, a literal, or a sign.
+-- No word begins the text, and it begins with this token, and `rest` is left: with `::`, a literal, or a sign.
+abbrev pub IsOtherAt : List ℕ → List ℕ → List ℕ → Type 0
+IsOtherAt token text rest =
+    Where (Begins 58 58 text) ((token ≡ codes "::") × (text ≡ 58 ∷ 58 ∷ rest))
+    (Where (BeginsBy 34 text) (IsLiteral 34 token text rest)
+    (Where (BeginsBy 39 text) (IsLiteral 39 token text rest)
+    (IsSignAt token text rest)))
+
+-- The text begins with this token, and `rest` is left: with a word, or where no word begins it, with another token.
 unfoldable pub IsTokenAt : List ℕ → List ℕ → List ℕ → Type 0
-IsTokenAt token text rest =
-    ((0 < length token) × TakesPhrase (IsWord token) text rest × EndsWord rest)
-    ⊎ (((token ≡ codes "::") × (text ≡ 58 ∷ 58 ∷ rest))
-    ⊎ ((IsLiteral 34 token text rest ⊎ IsLiteral 39 token text rest)
-    ⊎ IsSignAt token text rest))
+IsTokenAt token text rest = (IsWordFront token text rest × (0 < length token)) ⊎ (EndsWord text × IsOtherAt token text rest)
 
 abbrev pub IsOpening : List ℕ → Type 0
 IsOpening word = (word ≡ codes "(") ⊎ ((word ≡ codes "[") ⊎ (word ≡ codes "{"))
@@ -79,11 +93,11 @@ HasDepth word depth around after =
 abbrev pub Reading : Type 0
 Reading = List ℕ × ℕ × List Token
 
--- A gap is read, or a token, which doesn't begin as a comment.
+-- A gap is read, or where none is, a token.
 abbrev pub ReadStep : Reading → Reading → Type 0
 ReadStep s t =
     (IsGap s.0 t.0 × (t.1 ≡ s.1) × (t.2 ≡ s.2))
-    ⊎ ((k : Token) × (Begins 47 47 s.0 → ⊥) × (Begins 47 42 s.0 → ⊥) × IsTokenAt k.text.now s.0 t.0
+    ⊎ ((k : Token) × ((rest : List ℕ) → IsGap s.0 rest → ⊥) × IsTokenAt k.text.now s.0 t.0
     × HasDepth k.text.now s.1 k.depth t.1 × (t.2 ≡ s.2 ++ k ∷ []))
 
 -- The file is read as these tokens, and each bracket in it is closed.

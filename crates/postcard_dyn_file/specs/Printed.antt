@@ -1,6 +1,8 @@
--- The texts as which errors of files of definitions are printed.
-use Rattle.std.specs.Prelude.{ℕ, Bool, true, false, List, ◌++◌, codes}
+-- The texts as which errors of files of declarations are printed.
+use Rattle.std.specs.Prelude.{ℕ, Bool, true, false, not, List, ◌++◌, codes}
 use Rattle.std.specs.Fmt.{decimal}
+use Rattle.postcard_dyn_schema.specs.declared.error.Problem.{Problem}
+use Rattle.postcard_dyn_schema.specs.declared.error.Problem.TheVariants.{OutOfMemory, TooDeep}
 use Rattle.postcard_dyn_schema.specs.Printed.{problem_text}
 use Rattle.postcard_dyn_file.specs.declared.error.FileProblem.{FileProblem}
 use Rattle.postcard_dyn_file.specs.declared.error.FileProblem.TheVariants.{CommentOpen, LiteralOpen, AsciiExpected, BracketOpen, NotOpen, ItemOpen, NameExpected, DeclaredTwice, NotDeclared, Generic, Recursive, BodyExpected, BraceExpected, EqualsExpected, SemicolonExpected, TooLong}
@@ -14,10 +16,10 @@ file_problem_text LiteralOpen = codes "this literal isn't closed"
 file_problem_text AsciiExpected = codes "expected a character of ASCII"
 file_problem_text BracketOpen = codes "this bracket isn't closed"
 file_problem_text NotOpen = codes "no bracket is open here"
-file_problem_text ItemOpen = codes "expected `;` or `{`"
+file_problem_text ItemOpen = codes "this declaration doesn't end"
 file_problem_text NameExpected = codes "expected a name"
-file_problem_text DeclaredTwice = codes "this name was defined before"
-file_problem_text NotDeclared = codes "no definition has the name"
+file_problem_text DeclaredTwice = codes "this name was declared before"
+file_problem_text NotDeclared = codes "no declaration has the name"
 file_problem_text Generic = codes "types with parameters aren't supported"
 file_problem_text Recursive = codes "this type has itself in it"
 file_problem_text BodyExpected = codes "expected `{`, `(` or `;`"
@@ -31,8 +33,15 @@ file_problem_text (problems.Expression problem) = problem_text problem
 abbrev pub file_error_text : FileError → List ℕ
 file_error_text e = codes "line " ++ decimal e.line ++ codes ", column " ++ decimal e.column ++ codes ": " ++ file_problem_text e.problem
 
--- Whether the problem is one of the names: that none is defined so, or that one has itself in it.
-abbrev pub is_of_names : FileProblem → Bool
-is_of_names NotDeclared = true
-is_of_names Recursive = true
-is_of_names problem = false
+-- The problem is no fault of a type: memory is lacking, or types nest too deeply.
+abbrev pub is_limit : Problem → Bool
+is_limit OutOfMemory = true
+is_limit TooDeep = true
+is_limit problem = false
+
+-- Whether the problem is one of the type that is asked for: that none is declared so, that it has itself in it, or that it is no type.
+abbrev pub is_of_type : FileProblem → Bool
+is_of_type NotDeclared = true
+is_of_type Recursive = true
+is_of_type (problems.Expression problem) = not (is_limit problem)
+is_of_type problem = false

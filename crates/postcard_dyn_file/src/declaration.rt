@@ -7,7 +7,7 @@ ghost use Rattle.postcard_dyn_file.specs.declared.declaration.Kind.{Kind};
 ghost use Rattle.postcard_dyn_file.specs.Tokens.{Says};
 ghost use Rattle.postcard_dyn_file.specs.Items.{IsKeyword, EndsItem, BeginsItem, IsItemEnd};
 ghost use Rattle.postcard_dyn_file.specs.Items.{Declares, ReadsItem, AreDeclarations};
-ghost use Rattle.postcard_dyn_file.specs.Printed.{is_of_names};
+ghost use Rattle.postcard_dyn_file.specs.Printed.{is_of_type};
 
 use crate::error::{Fault, FileProblem, out_of_memory};
 use crate::token::{Token, is_name_at, place_of, token_at};
@@ -60,7 +60,7 @@ pub struct Declaration<'a> {
 /// end, with `DeclaredTwice` at a name that a declaration before has, and with `OutOfMemory`.
 pub fn declarations<'a>(alloc: Global, tokens: &[Token<'a>]) -> Result<Vec<Declaration<'a>>, Fault>
     ensures declared { IfOk result (λ known. AreDeclarations tokens.now known.items) }
-    ensures other { IfErr result (λ fault. is_of_names fault.problem ≡ false) }
+    ensures other { IfErr result (λ fault. is_of_type fault.problem ≡ false) }
 {
     let mut known = Vec::new(alloc);
     for at in 0..tokens.len() {
@@ -97,7 +97,7 @@ fn read_item<'a>(
 ) -> Result<(), Fault>
     requires { at < length tokens.now }
     ensures read { OnOk result (ReadsItem tokens.now at known.old.items known.new.items) }
-    ensures other { IfErr result (λ fault. is_of_names fault.problem ≡ false) }
+    ensures other { IfErr result (λ fault. is_of_type fault.problem ≡ false) }
 {
     let Some(declaration) = declared(tokens, at)? else {
         return Ok(());
@@ -121,7 +121,7 @@ fn declared<'a>(tokens: &[Token<'a>], at: usize) -> Result<Option<Declaration<'a
     ensures found { IfOk result (λ found. IfSome found (λ d. Declares tokens.now at d)) }
     ensures none { IfOk result (λ found. IfNone found
         ((d : Declaration) → Declares tokens.now at d → ⊥)) }
-    ensures other { IfErr result (λ fault. is_of_names fault.problem ≡ false) }
+    ensures other { IfErr result (λ fault. is_of_type fault.problem ≡ false) }
 {
     if !begins_item(tokens, at) {
         return Ok(None);

@@ -1,12 +1,12 @@
-//! The errors of reading a file of definitions.
+//! The errors of reading a file of declarations.
 
 ghost use Rattle.std.specs.Prelude.{◌≡◌, Some, false};
-ghost use Rattle.postcard_dyn_file.specs.Printed.{file_problem_text, file_error_text, is_of_names};
+ghost use Rattle.postcard_dyn_file.specs.Printed.{file_problem_text, file_error_text, is_of_type};
 
 use postcard_dyn_schema::Problem;
 use std::fmt;
 
-/// What is wrong with a file of definitions.
+/// What is wrong with a file of declarations.
 #[derive(Clone, Copy, Debug, PartialEq, Eq)]
 pub enum FileProblem {
     /// A comment that begins with `/*` isn't closed.
@@ -19,15 +19,15 @@ pub enum FileProblem {
     BracketOpen,
     /// A bracket is closed that isn't open.
     NotOpen,
-    /// The file ends inside of an item.
+    /// The file ends inside of a declaration.
     ItemOpen,
     /// After `struct`, `enum` or `type`, no name follows.
     NameExpected,
-    /// Two definitions have the same name.
+    /// Two declarations have the same name.
     DeclaredTwice,
-    /// The file has no definition with the name that is asked for.
+    /// The file has no declaration with the name that is asked for.
     NotDeclared,
-    /// The definition is generic: types in `<` and `>` follow its name.
+    /// The declaration is generic: types in `<` and `>` follow its name.
     Generic,
     /// The type has itself in it.
     Recursive,
@@ -55,10 +55,10 @@ impl fmt::Display for FileProblem {
             FileProblem::AsciiExpected => f.write_str("expected a character of ASCII"),
             FileProblem::BracketOpen => f.write_str("this bracket isn't closed"),
             FileProblem::NotOpen => f.write_str("no bracket is open here"),
-            FileProblem::ItemOpen => f.write_str("expected `;` or `{`"),
+            FileProblem::ItemOpen => f.write_str("this declaration doesn't end"),
             FileProblem::NameExpected => f.write_str("expected a name"),
-            FileProblem::DeclaredTwice => f.write_str("this name was defined before"),
-            FileProblem::NotDeclared => f.write_str("no definition has the name"),
+            FileProblem::DeclaredTwice => f.write_str("this name was declared before"),
+            FileProblem::NotDeclared => f.write_str("no declaration has the name"),
             FileProblem::Generic => f.write_str("types with parameters aren't supported"),
             FileProblem::Recursive => f.write_str("this type has itself in it"),
             FileProblem::BodyExpected => f.write_str("expected `{`, `(` or `;`"),
@@ -105,7 +105,7 @@ pub struct Fault {
 
 /// Returns the fault that an allocation failed.
 pub fn out_of_memory(left: usize) -> Fault
-    ensures { is_of_names result.problem ≡ false }
+    ensures { is_of_type result.problem ≡ false }
 {
     Fault {
         problem: FileProblem::Expression(Problem::OutOfMemory),

@@ -9,13 +9,13 @@ ghost use Rattle.std.specs.Prelude.{Decides, OnOk, IfOk, IfErr, IfSome, IfNone};
 ghost use Rattle.postcard_dyn_file.specs.declared.declaration.Declaration.{Declaration};
 ghost use Rattle.postcard_dyn_file.specs.Items.{NamesDiffer};
 ghost use Rattle.postcard_dyn_file.specs.Tokens.{spelling};
-ghost use Rattle.postcard_dyn_file.specs.Printed.{is_of_names};
+ghost use Rattle.postcard_dyn_file.specs.Printed.{is_of_type};
 ghost use Rattle.postcard_dyn_file.specs.Expands.{IsMember, Refers, Writes, Spelled, AreInOrder};
-ghost use Rattle.postcard_dyn_file.specs.Expands.{IsSpelledBy, FindsRecursion, EntersAgain, FaultsName};
+ghost use Rattle.postcard_dyn_file.specs.Expands.{IsSpelledBy, FindsRecursion, EntersAgain, HasFault};
 
 use crate::declaration::{Declaration, Kind, named};
 use crate::error::{Fault, FileProblem, out_of_memory};
-use crate::token::{Token, is_at, place_of};
+use crate::token::{Token, is_at};
 use crate::words::{check_body, text_of};
 use postcard_dyn_schema::Problem;
 use std::alloc::Global;
@@ -38,11 +38,12 @@ pub fn words_of<'a>(
     known: &[Declaration<'a>],
     name: &[u8],
 ) -> Result<Vec<Token<'a>>, Fault>
-    requires order { AreInOrder known.now }
+    requires order { AreInOrder tokens.now known.now }
     requires differ { NamesDiffer known.now }
     ensures spelled { IfOk result (λ words. IsSpelledBy tokens.now known.now name.now
         (spelling words.items)) }
-    ensures names { IfErr result (λ fault. FaultsName tokens.now known.now name.now fault.problem) }
+    ensures fault { IfErr result (λ fault. is_of_type fault.problem ≡ true
+        → HasFault tokens.now known.now name.now fault.problem) }
 {
     let Some(declaration) = named(known, name) else {
         return Err(Fault {
@@ -76,12 +77,13 @@ fn write_declaration<'a>(
     within: &mut Vec<Declaration<'a>>,
     out: &mut Vec<Token<'a>>,
 ) -> Result<(), Fault>
-    requires order { AreInOrder known.now }
+    requires order { AreInOrder tokens.now known.now }
     requires here { declaration.now.start ≤ declaration.now.end }
+    requires inside { declaration.now.end ≤ length tokens.now }
     ensures written { OnOk result (Spelled tokens.now known.now declaration.now
         (spelling out.old.items) (spelling out.new.items)) }
     ensures kept { OnOk result (within.new.items ≡ within.old.items) }
-    ensures names { IfErr result (λ fault. is_of_names fault.problem ≡ true
+    ensures fault { IfErr result (λ fault. is_of_type fault.problem ≡ true
         → FindsRecursion tokens.now known.now within.old.items declaration.now fault.problem) }
 {
     check_body(tokens, declaration)?;
@@ -102,19 +104,17 @@ fn write_token<'a>(
     within: &mut Vec<Declaration<'a>>,
     out: &mut Vec<Token<'a>>,
 ) -> Result<(), Fault>
-    requires order { AreInOrder known.now }
+    requires order { AreInOrder tokens.now known.now }
     requires start { declaration.now.start ≤ at }
     requires end { at < declaration.now.end }
+    requires inside { at < length tokens.now }
     ensures written { OnOk result (Writes tokens.now known.now declaration.now at
         (spelling out.old.items) (spelling out.new.items)) }
     ensures kept { OnOk result (within.new.items ≡ within.old.items) }
-    ensures names { IfErr result (λ fault. is_of_names fault.problem ≡ true
+    ensures fault { IfErr result (λ fault. is_of_type fault.problem ≡ true
         → FindsRecursion tokens.now known.now within.old.items declaration.now fault.problem) }
 {
-    let left = place_of(tokens, at);
-    if at >= tokens.len() {
-        return Err(out_of_memory(left));
-    }
+    let left = tokens[at].left;
     let Some(other) = referred(tokens, known, declaration, at) else {
         push(out, text_of(tokens, declaration.kind, at), left)?;
         return Ok(());
@@ -174,7 +174,7 @@ fn enter<'a>(
     left: usize,
 ) -> Result<(), Fault>
     ensures entered { OnOk result (within.new.items ≡ within.old.items ++ other.now ∷ []) }
-    ensures names { IfErr result (λ fault. is_of_names fault.problem ≡ true
+    ensures fault { IfErr result (λ fault. is_of_type fault.problem ≡ true
         → EntersAgain within.old.items other.now fault.problem) }
 {
     if named(within.as_slice(), other.name.text).is_some() {
@@ -197,7 +197,7 @@ fn enter<'a>(
 fn push<'a>(out: &mut Vec<Token<'a>>, text: &'a [u8], left: usize) -> Result<(), Fault>
     ensures pushed { OnOk result (spelling out.new.items
         ≡ spelling out.old.items ++ (text.now ++ 32 ∷ [])) }
-    ensures other { IfErr result (λ fault. is_of_names fault.problem ≡ false) }
+    ensures other { IfErr result (λ fault. is_of_type fault.problem ≡ false) }
 {
     if out.len() >= MAX_WORDS {
         return Err(Fault {

@@ -4,7 +4,7 @@
 ghost use Rattle.std.specs.Prelude.{◌≡◌, ℕ, ◌+◌, ◌<◌, false, length, Decides, IfOk, IfErr, IfSome, IfNone};
 ghost use Rattle.postcard_dyn_file.specs.Kept.{IsAttribute, IsLimit, IsScope, HasBracket};
 ghost use Rattle.postcard_dyn_file.specs.Kept.{EndsBefore, IsEmptyAngle, IsPassed, KeepStep, AreKept};
-ghost use Rattle.postcard_dyn_file.specs.Printed.{is_of_names};
+ghost use Rattle.postcard_dyn_file.specs.Printed.{is_of_type};
 
 use crate::error::{Fault, FileProblem, out_of_memory};
 use crate::token::{Token, after_word, is_at, is_before, is_name_at, place_of};
@@ -17,18 +17,12 @@ use std::alloc::Global;
 /// Fails with `OutOfMemory` if an allocation fails.
 pub fn kept<'a>(alloc: Global, tokens: &[Token<'a>]) -> Result<Vec<Token<'a>>, Fault>
     ensures kept { IfOk result (λ kept. AreKept tokens.now kept.items) }
-    ensures other { IfErr result (λ fault. is_of_names fault.problem ≡ false) }
+    ensures other { IfErr result (λ fault. is_of_type fault.problem ≡ false) }
 {
     let mut kept = Vec::new(alloc);
     let mut at = 0;
-    for _ in 0..tokens.len() {
-        if at >= tokens.len() {
-            return Ok(kept);
-        }
+    'steps: while at < tokens.len() {
         at = keep_next(tokens, at, &mut kept)?;
-    }
-    if at < tokens.len() {
-        return Err(out_of_memory(place_of(tokens, at)));
     }
     Ok(kept)
 }
@@ -39,7 +33,8 @@ fn keep_next<'a>(tokens: &[Token<'a>], at: usize, kept: &mut Vec<Token<'a>>) -> 
     requires { at < length tokens.now }
     ensures kept { IfOk result (λ after. KeepStep tokens.now (at, kept.old.items)
         (after, kept.new.items)) }
-    ensures other { IfErr result (λ fault. is_of_names fault.problem ≡ false) }
+    ensures further { IfOk result (λ after. at < after) }
+    ensures other { IfErr result (λ fault. is_of_type fault.problem ≡ false) }
 {
     if let Some(bracket) = bracket_from(tokens, at) {
         return after_bracket(tokens, bracket);
@@ -115,7 +110,7 @@ fn after_limit(tokens: &[Token], at: usize) -> Option<usize>
 /// Returns the index after the bracket that closes the one at the index.
 fn after_bracket(tokens: &[Token], at: usize) -> Result<usize, Fault>
     ensures ends { IfOk result (λ after. EndsBefore tokens.now at after) }
-    ensures other { IfErr result (λ fault. is_of_names fault.problem ≡ false) }
+    ensures other { IfErr result (λ fault. is_of_type fault.problem ≡ false) }
 {
     if at < tokens.len() {
         for last in at + 1..tokens.len() {

@@ -3,15 +3,17 @@
 //! A function whose name begins with `after_` returns the text after what its name says, if the text
 //! begins with it.
 
-ghost use Rattle.std.specs.Prelude.{◌≡◌, ℕ, List, ◌∷◌, false, IfOk, IfErr, IfSome, IfNone};
-ghost use Rattle.postcard_dyn_file.specs.Printed.{is_of_names};
+ghost use Rattle.std.specs.Prelude.{◌≡◌, ℕ, ◌<◌, List, ◌∷◌, length, false, IfOk, IfErr};
+ghost use Rattle.std.specs.Prelude.{IfSome, IfNone};
+ghost use Rattle.postcard_dyn_schema.specs.Text.{is_of_word as is_of_word_byte};
+ghost use Rattle.postcard_dyn_file.specs.Printed.{is_of_type};
 ghost use Rattle.postcard_dyn_file.specs.Lexical.{Begins, CommentStep, IsComment, IsLine, IsLetter};
-ghost use Rattle.postcard_dyn_file.specs.Lexical.{IsQuoted, IsLiteral, IsLifetime, IsBlank, IsGap};
-ghost use Rattle.postcard_dyn_file.specs.Lexical.{HasDepth, IsSignAt, IsTokenAt, ReadStep, IsRead};
+ghost use Rattle.postcard_dyn_file.specs.Lexical.{IsQuoted, IsLiteral, IsWordFront, IsLifetime};
+ghost use Rattle.postcard_dyn_file.specs.Lexical.{IsBlank, IsGap, HasDepth, IsSignAt, IsOtherAt};
+ghost use Rattle.postcard_dyn_file.specs.Lexical.{IsTokenAt, ReadStep, IsRead};
 
 use crate::error::{Fault, FileProblem, out_of_memory};
 use crate::token::Token;
-use postcard_dyn_schema::scan::take_word;
 use std::alloc::Global;
 
 /// Returns the tokens of a file, in order.
@@ -23,23 +25,17 @@ use std::alloc::Global;
 /// closed and isn't open, with `BracketOpen` at one that isn't closed, and with `OutOfMemory`.
 pub fn tokens<'a>(alloc: Global, file: &'a [u8]) -> Result<Vec<Token<'a>>, Fault>
     ensures read { IfOk result (λ tokens. IsRead file.now tokens.items) }
-    ensures other { IfErr result (λ fault. is_of_names fault.problem ≡ false) }
+    ensures other { IfErr result (λ fault. is_of_type fault.problem ≡ false) }
 {
     let mut tokens = Vec::new(alloc);
     let mut rest = file;
     let mut depth = 0;
-    for _ in 0..file.len() {
-        if rest.is_empty() {
-            return closed(tokens, depth);
-        }
+    'steps: while !rest.is_empty() {
         let (after, around) = read_next(rest, depth, &mut tokens)?;
         rest = after;
         depth = around;
     }
-    if rest.is_empty() {
-        return closed(tokens, depth);
-    }
-    Err(out_of_memory(rest.len()))
+    closed(tokens, depth)
 }
 
 /// Returns the tokens of the whole file.
@@ -49,7 +45,7 @@ pub fn tokens<'a>(alloc: Global, file: &'a [u8]) -> Result<Vec<Token<'a>>, Fault
 /// Fails with `BracketOpen` if brackets are open at its end.
 fn closed(tokens: Vec<Token>, depth: usize) -> Result<Vec<Token>, Fault>
     ensures closed { IfOk result (λ all. (all.items ≡ tokens.entry.items) × (depth ≡ 0)) }
-    ensures other { IfErr result (λ fault. is_of_names fault.problem ≡ false) }
+    ensures other { IfErr result (λ fault. is_of_type fault.problem ≡ false) }
 {
     if depth > 0 {
         return Err(Fault {
@@ -80,7 +76,8 @@ fn read_next<'a>(
 ) -> Result<(&'a [u8], usize), Fault>
     ensures read { IfOk result (λ found. ReadStep (text.now, depth, tokens.old.items)
         (found.0.now, found.1, tokens.new.items)) }
-    ensures other { IfErr result (λ fault. is_of_names fault.problem ≡ false) }
+    ensures shorter { IfOk result (λ found. length found.0.now < length text.now) }
+    ensures other { IfErr result (λ fault. is_of_type fault.problem ≡ false) }
 {
     let left = text.len();
     if let Some(rest) = after_gap(text)? {
@@ -127,9 +124,8 @@ fn depths(word: &[u8], depth: usize) -> Option<(usize, usize)>
 #[tactic(auto, unfolding(crate::specs::Lexical::IsGap))]
 fn after_gap(text: &[u8]) -> Result<Option<&[u8]>, Fault>
     ensures found { IfOk result (λ found. IfSome found (λ rest. IsGap text.now rest.now)) }
-    ensures none { IfOk result (λ found.
-        IfNone found ((Begins 47 47 text.now → ⊥) × (Begins 47 42 text.now → ⊥))) }
-    ensures other { IfErr result (λ fault. is_of_names fault.problem ≡ false) }
+    ensures none { IfOk result (λ found. IfNone found ((rest : List ℕ) → IsGap text.now rest → ⊥)) }
+    ensures other { IfErr result (λ fault. is_of_type fault.problem ≡ false) }
 {
     if let Some(rest) = after_blank(text) {
         return Ok(Some(rest));
@@ -145,7 +141,8 @@ fn after_gap(text: &[u8]) -> Result<Option<&[u8]>, Fault>
 
 /// Returns the text after a blank.
 fn after_blank(text: &[u8]) -> Option<&[u8]>
-    ensures { IfSome result (λ rest. IsBlank text.now rest.now) }
+    ensures found { IfSome result (λ rest. IsBlank text.now rest.now) }
+    ensures none { IfNone result ((rest : List ℕ) → IsBlank text.now rest → ⊥) }
 {
     match text.split_first() {
         Some((first, rest)) if first.is_ascii_whitespace() => Some(rest),
@@ -195,7 +192,7 @@ fn after_line(text: &[u8]) -> Option<&[u8]>
 fn after_comment(text: &[u8]) -> Result<Option<&[u8]>, Fault>
     ensures found { IfOk result (λ found. IfSome found (λ rest. IsComment text.now rest.now)) }
     ensures none { IfOk result (λ found. IfNone found (Begins 47 42 text.now → ⊥)) }
-    ensures other { IfErr result (λ fault. is_of_names fault.problem ≡ false) }
+    ensures other { IfErr result (λ fault. is_of_type fault.problem ≡ false) }
 {
     let Some(inner) = after_two(text, b'/', b'*') else {
         return Ok(None);
@@ -242,15 +239,19 @@ fn in_comment(text: &[u8], depth: usize) -> Option<(usize, &[u8])>
 }
 
 /// Returns the text after a lifetime, as `'a`, and the comma behind it if there is one.
+#[tactic(auto, unfolding(crate::specs::Lexical::IsLifetime))]
 fn after_lifetime(text: &[u8]) -> Option<&[u8]>
-    ensures { IfSome result (λ rest. IsLifetime text.now rest.now) }
+    ensures found { IfSome result (λ rest. IsLifetime text.now rest.now) }
+    ensures none { IfNone result ((rest : List ℕ) → IsLifetime text.now rest → ⊥) }
 {
     let Some(inner) = after_byte(text, b'\'') else {
         return None;
     };
-    let mut after = inner;
-    let name = take_word(&mut after);
-    if name.is_empty() || after_byte(after, b'\'').is_some() {
+    let (name, after) = word_front(inner);
+    if name.is_empty() {
+        return None;
+    }
+    if let Some(_) = after_byte(after, b'\'') {
         return None;
     }
     match after_byte(after, b',') {
@@ -259,17 +260,42 @@ fn after_lifetime(text: &[u8]) -> Option<&[u8]>
     }
 }
 
+/// Returns the letters, digits and `_` that the text begins with, and the text after them.
+fn word_front(text: &[u8]) -> (&[u8], &[u8])
+    ensures { IsWordFront result.0.now text.now result.1.now }
+{
+    let mut count = 0;
+    'letters: while count < text.len() && is_of_word(text[count]) {
+        count += 1;
+    }
+    text.split_at(count)
+}
+
+/// Returns whether a byte may be part of a word: a letter or a digit of ASCII, or `_`.
+fn is_of_word(byte: u8) -> bool
+    ensures { result ≡ is_of_word_byte byte }
+{
+    byte.is_ascii_alphanumeric() || byte == b'_'
+}
+
 /// Returns the token that the text begins with, and the text after it.
 #[tactic(auto, unfolding(crate::specs::Lexical::IsTokenAt))]
 fn token_front(text: &[u8]) -> Result<(&[u8], &[u8]), Fault>
     ensures read { IfOk result (λ found. IsTokenAt found.0.now text.now found.1.now) }
-    ensures other { IfErr result (λ fault. is_of_names fault.problem ≡ false) }
+    ensures other { IfErr result (λ fault. is_of_type fault.problem ≡ false) }
 {
-    let mut after = text;
-    let word = take_word(&mut after);
+    let (word, after) = word_front(text);
     if !word.is_empty() {
         return Ok((word, after));
     }
+    other_front(text)
+}
+
+/// Returns the token that the text begins with, where no word begins it, and the text after it.
+fn other_front(text: &[u8]) -> Result<(&[u8], &[u8]), Fault>
+    ensures read { IfOk result (λ found. IsOtherAt found.0.now text.now found.1.now) }
+    ensures other { IfErr result (λ fault. is_of_type fault.problem ≡ false) }
+{
     if let Some(rest) = after_two(text, b':', b':') {
         return Ok((b"::", rest));
     }
@@ -285,7 +311,7 @@ fn token_front(text: &[u8]) -> Result<(&[u8], &[u8]), Fault>
 /// Returns the first byte of the text, and the text after it.
 fn sign_front(text: &[u8]) -> Result<(&[u8], &[u8]), Fault>
     ensures read { IfOk result (λ found. IsSignAt found.0.now text.now found.1.now) }
-    ensures other { IfErr result (λ fault. is_of_names fault.problem ≡ false) }
+    ensures other { IfErr result (λ fault. is_of_type fault.problem ≡ false) }
 {
     if !text.is_empty() && text[0].is_ascii() {
         return Ok(text.split_at(1));
@@ -305,7 +331,7 @@ fn literal_front<'a>(
 ) -> Result<(&'a [u8], &'a [u8]), Fault>
     requires { text.now ≡ quote ∷ inner.now }
     ensures read { IfOk result (λ found. IsLiteral quote found.0.now text.now found.1.now) }
-    ensures other { IfErr result (λ fault. is_of_names fault.problem ≡ false) }
+    ensures other { IfErr result (λ fault. is_of_type fault.problem ≡ false) }
 {
     let left = text.len();
     let Some(rest) = after_letters(inner, quote) else {

@@ -27,7 +27,9 @@
 //! Passed over are comments, attributes, lifetimes, `pub` and its limit, as `pub(crate)`, paths before
 //! a name, as in `std::string::String`, and the number of a variant, which is one word behind `=` and
 //! maybe `-`. An item ends with its first `;` or `}` outside of all brackets; one that doesn't begin with
-//! `struct`, `enum` or `type` is passed over. Types with parameters aren't supported.
+//! `struct`, `enum` or `type` is passed over. Types with parameters aren't supported. With its names
+//! replaced, a type has at most 65,536 words and signs, and in it names stand for one another at most
+//! 64 deep.
 //!
 //! A file is read in five steps, one module each: its tokens ([`lex`]), those that are kept ([`kept`]),
 //! the declarations ([`declaration`]), the words of a type with its names replaced ([`expand`], and for
@@ -37,7 +39,7 @@
 ghost use Rattle.std.specs.Prelude.{IfOk, IfErr, string_bytes};
 ghost use Rattle.postcard_dyn_schema.specs.declared.schema.Schema.{Schema};
 ghost use Rattle.postcard_dyn_schema.specs.Grammar.{IsExpression};
-ghost use Rattle.postcard_dyn_file.specs.Files.{IsExpressionOf, IsTypeOf, FaultsNameOf, IsWithin};
+ghost use Rattle.postcard_dyn_file.specs.Files.{IsExpressionOf, IsTypeOf, HasFaultOf, IsWithin};
 
 pub mod declaration;
 pub mod error;
@@ -69,7 +71,7 @@ use std::alloc::Global;
 /// declaration of the name and those that it needs consist of: what is wrong in another one isn't found.
 pub fn find(alloc: Global, file: &str, name: &str) -> Result<Schema, FileError>
     ensures found { IfOk result (λ schema. IsTypeOf file.now name.now schema) }
-    ensures names { IfErr result (λ e. FaultsNameOf file.now name.now e.problem) }
+    ensures fault { IfErr result (λ e. HasFaultOf file.now name.now e.problem) }
     ensures place { IfErr result (λ e. IsWithin file.now e) }
 {
     match read(alloc, file.as_bytes(), name.as_bytes()) {
@@ -87,7 +89,7 @@ pub fn find(alloc: Global, file: &str, name: &str) -> Result<Schema, FileError>
 pub fn expression(alloc: Global, file: &str, name: &str) -> Result<String, FileError>
     ensures spelled { IfOk result (λ text. IsExpressionOf file.now name.now (string_bytes text)) }
     ensures read { IfOk result (λ text. (schema : Schema) × IsExpression schema (string_bytes text)) }
-    ensures names { IfErr result (λ e. FaultsNameOf file.now name.now e.problem) }
+    ensures fault { IfErr result (λ e. HasFaultOf file.now name.now e.problem) }
     ensures place { IfErr result (λ e. IsWithin file.now e) }
 {
     match read(alloc, file.as_bytes(), name.as_bytes()) {
@@ -108,7 +110,7 @@ fn read(alloc: Global, file: &[u8], name: &[u8]) -> Result<Found, Fault>
     ensures spelled { IfOk result (λ found. IsExpressionOf file.now name.now
         (string_bytes found.text)) }
     ensures read { IfOk result (λ found. IsExpression found.schema (string_bytes found.text)) }
-    ensures names { IfErr result (λ fault. FaultsNameOf file.now name.now fault.problem) }
+    ensures fault { IfErr result (λ fault. HasFaultOf file.now name.now fault.problem) }
 {
     let all = tokens(alloc, file)?;
     let kept = kept(alloc, all.as_slice())?;

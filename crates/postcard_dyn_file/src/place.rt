@@ -4,7 +4,7 @@ ghost use Rattle.std.specs.Prelude.{◌≡◌, ◌+◌, ◌-◌, ◌≤◌, ◌=
 ghost use Rattle.std.specs.Prelude.{IfOk, IfErr, OnOk, string_bytes};
 ghost use Rattle.postcard_dyn_file.specs.Tokens.{spelling};
 ghost use Rattle.postcard_dyn_file.specs.Places.{IsLineStart, IsPlace};
-ghost use Rattle.postcard_dyn_file.specs.Printed.{is_of_names};
+ghost use Rattle.postcard_dyn_file.specs.Printed.{is_of_type};
 
 use crate::error::{Fault, FileError, FileProblem, out_of_memory};
 use crate::token::Token;
@@ -19,7 +19,7 @@ use std::alloc::Global;
 /// `OutOfMemory`.
 pub fn spelled(alloc: Global, words: &[Token]) -> Result<String, Fault>
     ensures spelled { IfOk result (λ text. string_bytes text ≡ spelling words.now) }
-    ensures other { IfErr result (λ fault. is_of_names fault.problem ≡ false) }
+    ensures other { IfErr result (λ fault. is_of_type fault.problem ≡ false) }
 {
     let mut text = String::new(alloc);
     for word in words {
@@ -38,7 +38,7 @@ pub fn spelled(alloc: Global, words: &[Token]) -> Result<String, Fault>
 fn add(text: &mut String, word: &str, left: usize) -> Result<(), Fault>
     ensures added { OnOk result (string_bytes text.new
         ≡ string_bytes text.old ++ (word.now ++ 32 ∷ [])) }
-    ensures other { IfErr result (λ fault. is_of_names fault.problem ≡ false) }
+    ensures other { IfErr result (λ fault. is_of_type fault.problem ≡ false) }
 {
     if text.push_str(word).is_err() {
         return Err(out_of_memory(left));

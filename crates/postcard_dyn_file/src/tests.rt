@@ -1,4 +1,4 @@
-//! Tests of files of definitions: the types that their names stand for, and what is refused where.
+//! Tests of files of declarations: the types that their names stand for, and what is refused where.
 
 use crate::{expression, find};
 use std::process::Abort;
@@ -31,7 +31,7 @@ const SIZES: [usize; 2] = [1 / 2, 2];
 mod other;
 ";
 
-/// Files with definitions that are read.
+/// Files with declarations that are read.
 const TYPES: [Row; 25] = [
     (
         "struct Reading { id: u32, label: String, samples: Vec<i16> }",
@@ -143,11 +143,11 @@ const TYPES: [Row; 25] = [
 
 /// Files in which something is wrong.
 const REFUSED: [Row; 38] = [
-    ("", "A", "line 1, column 1: no definition has the name"),
+    ("", "A", "line 1, column 1: no declaration has the name"),
     (
         "struct B;\n",
         "A",
-        "line 2, column 1: no definition has the name",
+        "line 2, column 1: no declaration has the name",
     ),
     (
         "struct A { b: u8",
@@ -199,7 +199,7 @@ const REFUSED: [Row; 38] = [
     (
         "struct A; struct A;",
         "A",
-        "line 1, column 18: this name was defined before",
+        "line 1, column 18: this name was declared before",
     ),
     (
         "struct A<T> { b: T }",
@@ -233,7 +233,11 @@ const REFUSED: [Row; 38] = [
         "line 1, column 10: expected `{`, `(` or `;`",
     ),
     ("type A u8;", "A", "line 1, column 8: expected `=`"),
-    ("type A = u8", "A", "line 1, column 1: expected `;` or `{`"),
+    (
+        "type A = u8",
+        "A",
+        "line 1, column 1: this declaration doesn't end",
+    ),
     (
         "type A = {u8 => u8}",
         "A",
@@ -267,7 +271,7 @@ const REFUSED: [Row; 38] = [
     (
         "# struct A;",
         "A",
-        "line 1, column 1: expected an attribute, as `#[..]`",
+        "line 1, column 12: no declaration has the name",
     ),
     (
         "#[a struct A;",
@@ -315,7 +319,7 @@ fn check(rt: &(impl Abort + AllocGlobal), rows: &[Row]) {
 }
 
 #[test]
-fn reads_definitions(rt: HostRuntime) {
+fn reads_declarations(rt: HostRuntime) {
     check(&rt, &TYPES);
 }
 

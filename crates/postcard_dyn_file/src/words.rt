@@ -1,7 +1,7 @@
 //! What the tokens of a declaration stand for, and which tokens it may begin and end with.
 
 ghost use Rattle.std.specs.Prelude.{◌≡◌, ◌<◌, false, length, Decides, IfErr};
-ghost use Rattle.postcard_dyn_file.specs.Printed.{is_of_names};
+ghost use Rattle.postcard_dyn_file.specs.Printed.{is_of_type};
 ghost use Rattle.postcard_dyn_file.specs.Words.{IsSign, IsDiscriminant, IsText, IsStructText};
 ghost use Rattle.postcard_dyn_file.specs.Words.{IsEnumText, IsAliasText, IsPlainText};
 
@@ -11,7 +11,7 @@ use crate::token::{Token, is_at, is_before, place_of};
 
 /// Fails where the tokens after the name of a declaration don't begin or end as its kind has to.
 pub fn check_body(tokens: &[Token], declaration: &Declaration) -> Result<(), Fault>
-    ensures { IfErr result (λ fault. is_of_names fault.problem ≡ false) }
+    ensures { IfErr result (λ fault. is_of_type fault.problem ≡ false) }
 {
     let start = declaration.start;
     let problem = match declaration.kind {

@@ -14,14 +14,14 @@ write_declaration-loop-at-preserved t c = (
   spelled_more c.args.tokens.now c.args.known.now c.args.declaration.now c.loop-at.at _ _ _ c.loop-at.invariant.1 c.in_ok-write_token.ensures.written,
 )
 
-pub write_token-returns-in_err-enter-clause-names : goal.write_token-returns-in_err-enter-clause-names
-write_token-returns-in_err-enter-clause-names t c =
+pub write_token-returns-in_err-enter-clause-fault : goal.write_token-returns-in_err-enter-clause-fault
+write_token-returns-in_err-enter-clause-fault t c =
     let p = err_from_is_err_and c.from_residual-in_err-enter.result c.from_residual-in_err-enter.ensures.1 in
     rw (p.1, p.2) (λ is. found_again c.args.tokens.now c.args.known.now c.args.within.now.items c.args.declaration.now c.in-Some.other c.args.at _
-    c.requires.start c.requires.end c.in-Some.ensures.found (c.in_err-enter.ensures.names is))
+    c.requires.start c.requires.end c.in-Some.ensures.found (c.in_err-enter.ensures.fault is))
 
-pub write_token-returns-in_err-write_declaration-clause-names : goal.write_token-returns-in_err-write_declaration-clause-names
-write_token-returns-in_err-write_declaration-clause-names t c =
+pub write_token-returns-in_err-write_declaration-clause-fault : goal.write_token-returns-in_err-write_declaration-clause-fault
+write_token-returns-in_err-write_declaration-clause-fault t c =
     let p = err_from_is_err_and c.from_residual-in_err-write_declaration.result c.from_residual-in_err-write_declaration.ensures.1 in
     rw (p.1, p.2) (λ is. found_deeper c.args.tokens.now c.args.known.now c.args.within.now.items _ c.args.declaration.now c.in-Some.other c.args.at _
-    c.requires.start c.requires.end c.in-Some.ensures.found c.in_ok-enter.ensures.entered (c.in_err-write_declaration.ensures.names is))
+    c.requires.start c.requires.end c.in-Some.ensures.found c.in_ok-enter.ensures.entered (c.in_err-write_declaration.ensures.fault is))
