@@ -1,5 +1,5 @@
 -- The lemmas, by subject.
-pub mod Tests
+pub mod Decided
 pub mod Fronts
 pub mod Declared
 pub mod Recursion

@@ -5,7 +5,7 @@ use Rattle.std.proofs.lemmas.Option.{same_Some}
 use Rattle.postcard_dyn_file.specs.declared.token.Token.{Token}
 use Rattle.postcard_dyn_file.specs.Tokens.{IsAt}
 use Rattle.postcard_dyn_file.specs.Kept.{IsAttribute, IsLimit, IsScope, HasBracket}
-use Rattle.postcard_dyn_file.proofs.Tests.{says_one}
+use Rattle.postcard_dyn_file.proofs.Decided.{says_one}
 use borrow.Author.Count.{below_more}
 
 -- A bracket that limits a `pub`, where `in` doesn't follow it.

@@ -1,6 +1,6 @@
 use Rattle.std.proofs.Common.{◌≤◌}
 use Rattle.postcard_dyn_file.specs.Items.{EndsItem}
-use Rattle.postcard_dyn_file.proofs.Tests.{unless}
+use Rattle.postcard_dyn_file.proofs.Decided.{unless}
 use Rattle.postcard_dyn_file.proofs.declaration.item_end.Goals as goal
 use borrow.Author.Count.{below_more}
 

@@ -1,4 +1,4 @@
-use Rattle.postcard_dyn_file.proofs.Tests.{unless, if_none}
+use Rattle.postcard_dyn_file.proofs.Decided.{unless, if_none}
 use Rattle.postcard_dyn_file.proofs.Limits.{no_attribute, no_scope}
 use Rattle.postcard_dyn_file.proofs.kept.bracket_from.Goals as goal
 

@@ -1,4 +1,4 @@
-use Rattle.postcard_dyn_file.proofs.Tests.{unless}
+use Rattle.postcard_dyn_file.proofs.Decided.{unless}
 use Rattle.postcard_dyn_file.proofs.Limits.{limits, no_limit}
 use Rattle.postcard_dyn_file.proofs.kept.is_scope.Goals as goal
 

@@ -1,7 +1,7 @@
 use Rattle.std.proofs.Common.{inr, refl, [], arith}
 use Rattle.std.proofs.lemmas.Option.{slice_get-get_or}
 use Rattle.postcard_dyn_file.specs.declared.token.Token.{Token}
-use Rattle.postcard_dyn_file.proofs.Tests.{unless}
+use Rattle.postcard_dyn_file.proofs.Decided.{unless}
 use Rattle.postcard_dyn_file.proofs.kept.keep_next.Goals as goal
 
 abbrev no_token : Token

@@ -1,5 +1,5 @@
 use Rattle.std.proofs.lemmas.Result.{IfOk-weaker}
-use Rattle.postcard_dyn_file.proofs.Tests.{if_none}
+use Rattle.postcard_dyn_file.proofs.Decided.{if_none}
 use Rattle.postcard_dyn_file.proofs.Gaps.{no_gap}
 use Rattle.postcard_dyn_file.proofs.lex.after_gap.Goals as goal
 

@@ -1,6 +1,6 @@
 use Rattle.std.proofs.Common.{rules}
 use Rattle.postcard_dyn_file.specs.Steps.{more}
-use Rattle.postcard_dyn_file.proofs.Tests.{still}
+use Rattle.postcard_dyn_file.proofs.Decided.{still}
 use Rattle.postcard_dyn_file.proofs.lex.tokens.Goals as goal
 
 pub steps-init : goal.steps-init

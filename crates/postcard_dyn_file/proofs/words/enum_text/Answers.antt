@@ -1,5 +1,5 @@
 use Rattle.std.proofs.Common.{inr}
-use Rattle.postcard_dyn_file.proofs.Tests.{unless}
+use Rattle.postcard_dyn_file.proofs.Decided.{unless}
 use Rattle.postcard_dyn_file.proofs.words.enum_text.Goals as goal
 
 pub returns : goal.returns

@@ -1,4 +1,4 @@
--- What tests say of the tokens of a list.
+-- What tests that decide say of the tokens of a list.
 use Rattle.std.proofs.Common.{◌≡◌, ℕ, Bool, false, Option, Some, None, List, Decides, sym, ap, subst, ◌∙◌, true≢false}
 use Rattle.std.specs.Prelude.{IfNone}
 use Rattle.std.proofs.lemmas.Option.{same_Some}
