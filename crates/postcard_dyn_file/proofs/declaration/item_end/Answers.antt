@@ -1,0 +1,10 @@
+use Rattle.std.proofs.Common.{◌≤◌}
+use Rattle.postcard_dyn_file.specs.Items.{EndsItem}
+use Rattle.postcard_dyn_file.proofs.Tests.{unless}
+use Rattle.postcard_dyn_file.proofs.declaration.item_end.Goals as goal
+use borrow.Author.Count.{below_more}
+
+pub loop-last-preserved : goal.loop-last-preserved
+loop-last-preserved c = λ k low high.
+    below_more (λ n. c.args.start ≤ n → EndsItem c.args.tokens.now n → ⊥) c.loop-last.last
+    (λ n less start. c.loop-last.invariant n start less) (λ _. unless c.ends_item.ensures c.if-ends_item.false) k high low

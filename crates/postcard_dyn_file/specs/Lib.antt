@@ -1,0 +1,10 @@
+pub mod Steps
+pub mod Tokens
+pub mod Lexical
+pub mod Kept
+pub mod Items
+pub mod Printed
+pub mod Words
+pub mod Expands
+pub mod Places
+pub mod Files

@@ -1,0 +1,216 @@
+//! The words that a declaration stands for, where each name of another one is replaced by what that stands
+//! for.
+//!
+//! `known` has the declarations of the file, `within` those that are being replaced, of which the last
+//! is the one that is written, and `depth` is how many more may be.
+
+ghost use Rattle.std.specs.Prelude.{◌≡◌, ℕ, ◌+◌, ◌<◌, ◌≤◌, ◌++◌, ◌∷◌, [], true, false, length};
+ghost use Rattle.std.specs.Prelude.{Decides, OnOk, IfOk, IfErr, IfSome, IfNone};
+ghost use Rattle.postcard_dyn_file.specs.declared.declaration.Declaration.{Declaration};
+ghost use Rattle.postcard_dyn_file.specs.Items.{NamesDiffer};
+ghost use Rattle.postcard_dyn_file.specs.Tokens.{spelling};
+ghost use Rattle.postcard_dyn_file.specs.Printed.{is_of_type};
+ghost use Rattle.postcard_dyn_file.specs.Expands.{IsMember, Refers, Writes, Spelled, AreInOrder};
+ghost use Rattle.postcard_dyn_file.specs.Expands.{IsSpelledBy, FindsRecursion, EntersAgain, HasFault};
+
+use crate::declaration::{Declaration, Kind, named};
+use crate::error::{Fault, FileProblem, out_of_memory};
+use crate::token::{Token, is_at};
+use crate::words::{check_body, text_of};
+use postcard_dyn_schema::Problem;
+use std::alloc::Global;
+
+/// How deep declarations may nest. A type expression may nest as deep, and each has a bracket there.
+const MAX_DEPTH: usize = 64;
+
+/// How many words and signs a type may have, with its names replaced.
+const MAX_WORDS: usize = 65_536;
+
+/// Returns the words of a type expression that spell the type with this name.
+///
+/// # Errors
+///
+/// Fails with `NotDeclared` at the end of the file if no declaration has the name, and otherwise as
+/// [`FileProblem`] says, where the declaration, or one that it needs, is wrong.
+pub fn words_of<'a>(
+    alloc: Global,
+    tokens: &[Token<'a>],
+    known: &[Declaration<'a>],
+    name: &[u8],
+) -> Result<Vec<Token<'a>>, Fault>
+    requires order { AreInOrder tokens.now known.now }
+    requires differ { NamesDiffer known.now }
+    ensures spelled { IfOk result (λ words. IsSpelledBy tokens.now known.now name.now
+        (spelling words.items)) }
+    ensures fault { IfErr result (λ fault. is_of_type fault.problem ≡ true
+        → HasFault tokens.now known.now name.now fault.problem) }
+{
+    let Some(declaration) = named(known, name) else {
+        return Err(Fault {
+            problem: FileProblem::NotDeclared,
+            left: 0,
+        });
+    };
+    let mut within = Vec::new(alloc);
+    let mut out = Vec::new(alloc);
+    if within.push(declaration).is_err() {
+        return Err(out_of_memory(0));
+    }
+    write_declaration(
+        tokens,
+        known,
+        &declaration,
+        MAX_DEPTH,
+        &mut within,
+        &mut out,
+    )?;
+    Ok(out)
+}
+
+/// Adds what a declaration stands for to the end of `out`.
+#[cycle(expand)]
+fn write_declaration<'a>(
+    tokens: &[Token<'a>],
+    known: &[Declaration<'a>],
+    declaration: &Declaration<'a>,
+    depth: usize,
+    within: &mut Vec<Declaration<'a>>,
+    out: &mut Vec<Token<'a>>,
+) -> Result<(), Fault>
+    requires order { AreInOrder tokens.now known.now }
+    requires here { declaration.now.start ≤ declaration.now.end }
+    requires inside { declaration.now.end ≤ length tokens.now }
+    ensures written { OnOk result (Spelled tokens.now known.now declaration.now
+        (spelling out.old.items) (spelling out.new.items)) }
+    ensures kept { OnOk result (within.new.items ≡ within.old.items) }
+    ensures fault { IfErr result (λ fault. is_of_type fault.problem ≡ true
+        → FindsRecursion tokens.now known.now within.old.items declaration.now fault.problem) }
+{
+    check_body(tokens, declaration)?;
+    for at in declaration.start..declaration.end {
+        write_token(tokens, known, declaration, at, depth, within, out)?;
+    }
+    Ok(())
+}
+
+/// Adds what the token at the index, which is one of the declaration, stands for to the end of `out`.
+#[cycle(expand)]
+fn write_token<'a>(
+    tokens: &[Token<'a>],
+    known: &[Declaration<'a>],
+    declaration: &Declaration<'a>,
+    at: usize,
+    depth: usize,
+    within: &mut Vec<Declaration<'a>>,
+    out: &mut Vec<Token<'a>>,
+) -> Result<(), Fault>
+    requires order { AreInOrder tokens.now known.now }
+    requires start { declaration.now.start ≤ at }
+    requires end { at < declaration.now.end }
+    requires inside { at < length tokens.now }
+    ensures written { OnOk result (Writes tokens.now known.now declaration.now at
+        (spelling out.old.items) (spelling out.new.items)) }
+    ensures kept { OnOk result (within.new.items ≡ within.old.items) }
+    ensures fault { IfErr result (λ fault. is_of_type fault.problem ≡ true
+        → FindsRecursion tokens.now known.now within.old.items declaration.now fault.problem) }
+{
+    let left = tokens[at].left;
+    let Some(other) = referred(tokens, known, declaration, at) else {
+        push(out, text_of(tokens, declaration.kind, at), left)?;
+        return Ok(());
+    };
+    if depth == 0 {
+        return Err(Fault {
+            problem: FileProblem::Expression(Problem::TooDeep),
+            left,
+        });
+    }
+    enter(within, &other, left)?;
+    write_declaration(tokens, known, &other, depth - 1, within, out)?;
+    let _ = within.pop();
+    Ok(())
+}
+
+/// Returns the declaration that the token at the index refers to, or `None` if it stands for itself.
+fn referred<'a>(
+    tokens: &[Token<'a>],
+    known: &[Declaration<'a>],
+    declaration: &Declaration<'a>,
+    at: usize,
+) -> Option<Declaration<'a>>
+    requires { at < length tokens.now }
+    ensures found { IfSome result (λ e. Refers tokens.now known.now declaration.now at e) }
+    ensures none { IfNone result ((e : Declaration)
+        → Refers tokens.now known.now declaration.now at e → ⊥) }
+{
+    if is_member(tokens, declaration.kind, at) {
+        return None;
+    }
+    named(known, tokens[at].text)
+}
+
+/// Returns whether the token at the index names a field, before `:`, or a variant.
+fn is_member(tokens: &[Token], kind: Kind, at: usize) -> bool
+    requires { at < length tokens.now }
+    ensures { Decides result (IsMember tokens.now kind at) }
+{
+    if is_at(tokens, at + 1, b":") {
+        return true;
+    }
+    match kind {
+        Kind::Enum => tokens[at].depth == 1,
+        _ => false,
+    }
+}
+
+/// Adds a declaration to those that are being replaced.
+///
+/// # Errors
+///
+/// Fails with `Recursive` if it is one of them, and with `OutOfMemory`.
+fn enter<'a>(
+    within: &mut Vec<Declaration<'a>>,
+    other: &Declaration<'a>,
+    left: usize,
+) -> Result<(), Fault>
+    ensures entered { OnOk result (within.new.items ≡ within.old.items ++ other.now ∷ []) }
+    ensures fault { IfErr result (λ fault. is_of_type fault.problem ≡ true
+        → EntersAgain within.old.items other.now fault.problem) }
+{
+    if named(within.as_slice(), other.name.text).is_some() {
+        return Err(Fault {
+            problem: FileProblem::Recursive,
+            left,
+        });
+    }
+    match within.push(*other) {
+        Ok(()) => Ok(()),
+        Err(_) => Err(out_of_memory(left)),
+    }
+}
+
+/// Adds a word.
+///
+/// # Errors
+///
+/// Fails with `TooLong` if there are `MAX_WORDS` before it, and with `OutOfMemory`.
+fn push<'a>(out: &mut Vec<Token<'a>>, text: &'a [u8], left: usize) -> Result<(), Fault>
+    ensures pushed { OnOk result (spelling out.new.items
+        ≡ spelling out.old.items ++ (text.now ++ 32 ∷ [])) }
+    ensures other { IfErr result (λ fault. is_of_type fault.problem ≡ false) }
+{
+    if out.len() >= MAX_WORDS {
+        return Err(Fault {
+            problem: FileProblem::TooLong,
+            left,
+        });
+    }
+    match out.push(Token {
+        text,
+        depth: 0,
+        left,
+    }) {
+        Ok(()) => Ok(()),
+        Err(_) => Err(out_of_memory(left)),
+    }
+}

@@ -1,0 +1,375 @@
+//! The tokens of a file: its words, signs and literals, without blanks, comments and lifetimes.
+//!
+//! A function whose name begins with `after_` returns the text after what its name says, if the text
+//! begins with it.
+
+ghost use Rattle.std.specs.Prelude.{◌≡◌, ℕ, ◌<◌, List, ◌∷◌, length, false, IfOk, IfErr};
+ghost use Rattle.std.specs.Prelude.{IfSome, IfNone};
+ghost use Rattle.postcard_dyn_schema.specs.Text.{is_of_word as is_of_word_byte};
+ghost use Rattle.postcard_dyn_file.specs.Printed.{is_of_type};
+ghost use Rattle.postcard_dyn_file.specs.Lexical.{Begins, CommentStep, IsComment, IsLine, IsLetter};
+ghost use Rattle.postcard_dyn_file.specs.Lexical.{IsQuoted, IsLiteral, IsWordFront, IsLifetime};
+ghost use Rattle.postcard_dyn_file.specs.Lexical.{IsBlank, IsGap, HasDepth, IsSignAt, IsOtherAt};
+ghost use Rattle.postcard_dyn_file.specs.Lexical.{IsTokenAt, ReadStep, IsRead};
+
+use crate::error::{Fault, FileProblem, out_of_memory};
+use crate::token::Token;
+use std::alloc::Global;
+
+/// Returns the tokens of a file, in order.
+///
+/// # Errors
+///
+/// Fails with `CommentOpen` or `LiteralOpen` where one begins that isn't closed, with `AsciiExpected`
+/// at another character than of ASCII that is in none of them, with `NotOpen` at a bracket that is
+/// closed and isn't open, with `BracketOpen` at one that isn't closed, and with `OutOfMemory`.
+pub fn tokens<'a>(alloc: Global, file: &'a [u8]) -> Result<Vec<Token<'a>>, Fault>
+    ensures read { IfOk result (λ tokens. IsRead file.now tokens.items) }
+    ensures other { IfErr result (λ fault. is_of_type fault.problem ≡ false) }
+{
+    let mut tokens = Vec::new(alloc);
+    let mut rest = file;
+    let mut depth = 0;
+    'steps: while !rest.is_empty() {
+        let (after, around) = read_next(rest, depth, &mut tokens)?;
+        rest = after;
+        depth = around;
+    }
+    closed(tokens, depth)
+}
+
+/// Returns the tokens of the whole file.
+///
+/// # Errors
+///
+/// Fails with `BracketOpen` if brackets are open at its end.
+fn closed(tokens: Vec<Token>, depth: usize) -> Result<Vec<Token>, Fault>
+    ensures closed { IfOk result (λ all. (all.items ≡ tokens.entry.items) × (depth ≡ 0)) }
+    ensures other { IfErr result (λ fault. is_of_type fault.problem ≡ false) }
+{
+    if depth > 0 {
+        return Err(Fault {
+            problem: FileProblem::BracketOpen,
+            left: last_within(tokens.as_slice(), depth),
+        });
+    }
+    Ok(tokens)
+}
+
+/// Returns the place of the last token with fewer brackets around it than these, or 0 if there is none.
+fn last_within(tokens: &[Token], depth: usize) -> usize {
+    let mut left = 0;
+    for token in tokens {
+        if token.depth < depth {
+            left = token.left;
+        }
+    }
+    left
+}
+
+/// Reads a gap, or else a token, which it adds to the end of the list, where `depth` brackets are open.
+/// Returns the text after it, and how many are open there.
+fn read_next<'a>(
+    text: &'a [u8],
+    depth: usize,
+    tokens: &mut Vec<Token<'a>>,
+) -> Result<(&'a [u8], usize), Fault>
+    ensures read { IfOk result (λ found. ReadStep (text.now, depth, tokens.old.items)
+        (found.0.now, found.1, tokens.new.items)) }
+    ensures shorter { IfOk result (λ found. length found.0.now < length text.now) }
+    ensures other { IfErr result (λ fault. is_of_type fault.problem ≡ false) }
+{
+    let left = text.len();
+    if let Some(rest) = after_gap(text)? {
+        return Ok((rest, depth));
+    }
+    let (word, rest) = token_front(text)?;
+    let Some((around, after)) = depths(word, depth) else {
+        return Err(Fault {
+            problem: FileProblem::NotOpen,
+            left,
+        });
+    };
+    match tokens.push(Token {
+        text: word,
+        depth: around,
+        left,
+    }) {
+        Ok(()) => Ok((rest, after)),
+        Err(_) => Err(out_of_memory(left)),
+    }
+}
+
+/// Returns how many brackets are open around the word or sign, and after it, where `depth` are open
+/// before, or `None` if it closes one and none is open.
+#[tactic(auto, unfolding(crate::specs::Lexical::HasDepth))]
+fn depths(word: &[u8], depth: usize) -> Option<(usize, usize)>
+    ensures { IfSome result (λ found. HasDepth word.now depth found.0 found.1) }
+{
+    match word {
+        b"(" | b"[" | b"{" => match depth.checked_add(1) {
+            Some(after) => Some((depth, after)),
+            None => None,
+        },
+        b")" | b"]" | b"}" => match depth.checked_sub(1) {
+            Some(after) => Some((after, after)),
+            None => None,
+        },
+        _ => Some((depth, depth)),
+    }
+}
+
+/// Returns the text after what stands between tokens: a blank, a comment, or a lifetime and the comma
+/// behind it.
+#[tactic(auto, unfolding(crate::specs::Lexical::IsGap))]
+fn after_gap(text: &[u8]) -> Result<Option<&[u8]>, Fault>
+    ensures found { IfOk result (λ found. IfSome found (λ rest. IsGap text.now rest.now)) }
+    ensures none { IfOk result (λ found. IfNone found ((rest : List ℕ) → IsGap text.now rest → ⊥)) }
+    ensures other { IfErr result (λ fault. is_of_type fault.problem ≡ false) }
+{
+    if let Some(rest) = after_blank(text) {
+        return Ok(Some(rest));
+    }
+    if let Some(rest) = after_line(text) {
+        return Ok(Some(rest));
+    }
+    if let Some(rest) = after_lifetime(text) {
+        return Ok(Some(rest));
+    }
+    after_comment(text)
+}
+
+/// Returns the text after a blank.
+fn after_blank(text: &[u8]) -> Option<&[u8]>
+    ensures found { IfSome result (λ rest. IsBlank text.now rest.now) }
+    ensures none { IfNone result ((rest : List ℕ) → IsBlank text.now rest → ⊥) }
+{
+    match text.split_first() {
+        Some((first, rest)) if first.is_ascii_whitespace() => Some(rest),
+        _ => None,
+    }
+}
+
+/// Returns the text after this byte.
+fn after_byte(text: &[u8], byte: u8) -> Option<&[u8]>
+    ensures found { IfSome result (λ rest. text.now ≡ byte ∷ rest.now) }
+    ensures none { IfNone result ((rest : List ℕ) → text.now ≡ byte ∷ rest → ⊥) }
+{
+    match text.split_first() {
+        Some((first, rest)) if *first == byte => Some(rest),
+        _ => None,
+    }
+}
+
+/// Returns the text after these two bytes.
+fn after_two(text: &[u8], first: u8, second: u8) -> Option<&[u8]>
+    ensures found { IfSome result (λ rest. text.now ≡ first ∷ second ∷ rest.now) }
+    ensures none { IfNone result (Begins first second text.now → ⊥) }
+{
+    match after_byte(text, first) {
+        Some(rest) => after_byte(rest, second),
+        None => None,
+    }
+}
+
+/// Returns the text after a comment that begins with `//`: nothing, or the end of its line.
+fn after_line(text: &[u8]) -> Option<&[u8]>
+    ensures found { IfSome result (λ rest. IsLine text.now rest.now) }
+    ensures none { IfNone result (Begins 47 47 text.now → ⊥) }
+{
+    let Some(line) = after_two(text, b'/', b'/') else {
+        return None;
+    };
+    let mut count = 0;
+    'letters: while count < line.len() && line[count] != b'\n' {
+        count += 1;
+    }
+    let (_, rest) = line.split_at(count);
+    Some(rest)
+}
+
+/// Returns the text after a comment in `/*` and `*/`, in which others may stand.
+fn after_comment(text: &[u8]) -> Result<Option<&[u8]>, Fault>
+    ensures found { IfOk result (λ found. IfSome found (λ rest. IsComment text.now rest.now)) }
+    ensures none { IfOk result (λ found. IfNone found (Begins 47 42 text.now → ⊥)) }
+    ensures other { IfErr result (λ fault. is_of_type fault.problem ≡ false) }
+{
+    let Some(inner) = after_two(text, b'/', b'*') else {
+        return Ok(None);
+    };
+    let mut rest = inner;
+    let mut depth: usize = 1;
+    for _ in 0..inner.len() {
+        let Some((next, after)) = in_comment(rest, depth) else {
+            break;
+        };
+        if next == 0 {
+            return Ok(Some(after));
+        }
+        rest = after;
+        depth = next;
+    }
+    Err(Fault {
+        problem: FileProblem::CommentOpen,
+        left: text.len(),
+    })
+}
+
+/// Returns how many comments are open after `*/`, `/*` or another byte, if `depth` are open before,
+/// and the text after it.
+fn in_comment(text: &[u8], depth: usize) -> Option<(usize, &[u8])>
+    ensures { IfSome result (λ found. CommentStep (depth, text.now) (found.0, found.1.now)) }
+{
+    if let Some(rest) = after_two(text, b'*', b'/') {
+        return match depth.checked_sub(1) {
+            Some(depth) => Some((depth, rest)),
+            None => None,
+        };
+    }
+    if let Some(rest) = after_two(text, b'/', b'*') {
+        return match depth.checked_add(1) {
+            Some(depth) => Some((depth, rest)),
+            None => None,
+        };
+    }
+    match text.split_first() {
+        Some((_, rest)) => Some((depth, rest)),
+        None => None,
+    }
+}
+
+/// Returns the text after a lifetime, as `'a`, and the comma behind it if there is one.
+#[tactic(auto, unfolding(crate::specs::Lexical::IsLifetime))]
+fn after_lifetime(text: &[u8]) -> Option<&[u8]>
+    ensures found { IfSome result (λ rest. IsLifetime text.now rest.now) }
+    ensures none { IfNone result ((rest : List ℕ) → IsLifetime text.now rest → ⊥) }
+{
+    let Some(inner) = after_byte(text, b'\'') else {
+        return None;
+    };
+    let (name, after) = word_front(inner);
+    if name.is_empty() {
+        return None;
+    }
+    if let Some(_) = after_byte(after, b'\'') {
+        return None;
+    }
+    match after_byte(after, b',') {
+        Some(rest) => Some(rest),
+        None => Some(after),
+    }
+}
+
+/// Returns the letters, digits and `_` that the text begins with, and the text after them.
+fn word_front(text: &[u8]) -> (&[u8], &[u8])
+    ensures { IsWordFront result.0.now text.now result.1.now }
+{
+    let mut count = 0;
+    'letters: while count < text.len() && is_of_word(text[count]) {
+        count += 1;
+    }
+    text.split_at(count)
+}
+
+/// Returns whether a byte may be part of a word: a letter or a digit of ASCII, or `_`.
+fn is_of_word(byte: u8) -> bool
+    ensures { result ≡ is_of_word_byte byte }
+{
+    byte.is_ascii_alphanumeric() || byte == b'_'
+}
+
+/// Returns the token that the text begins with, and the text after it.
+#[tactic(auto, unfolding(crate::specs::Lexical::IsTokenAt))]
+fn token_front(text: &[u8]) -> Result<(&[u8], &[u8]), Fault>
+    ensures read { IfOk result (λ found. IsTokenAt found.0.now text.now found.1.now) }
+    ensures other { IfErr result (λ fault. is_of_type fault.problem ≡ false) }
+{
+    let (word, after) = word_front(text);
+    if !word.is_empty() {
+        return Ok((word, after));
+    }
+    other_front(text)
+}
+
+/// Returns the token that the text begins with, where no word begins it, and the text after it.
+fn other_front(text: &[u8]) -> Result<(&[u8], &[u8]), Fault>
+    ensures read { IfOk result (λ found. IsOtherAt found.0.now text.now found.1.now) }
+    ensures other { IfErr result (λ fault. is_of_type fault.problem ≡ false) }
+{
+    if let Some(rest) = after_two(text, b':', b':') {
+        return Ok((b"::", rest));
+    }
+    if let Some(inner) = after_byte(text, b'"') {
+        return literal_front(text, inner, b'"');
+    }
+    if let Some(inner) = after_byte(text, b'\'') {
+        return literal_front(text, inner, b'\'');
+    }
+    sign_front(text)
+}
+
+/// Returns the first byte of the text, and the text after it.
+fn sign_front(text: &[u8]) -> Result<(&[u8], &[u8]), Fault>
+    ensures read { IfOk result (λ found. IsSignAt found.0.now text.now found.1.now) }
+    ensures other { IfErr result (λ fault. is_of_type fault.problem ≡ false) }
+{
+    if !text.is_empty() && text[0].is_ascii() {
+        return Ok(text.split_at(1));
+    }
+    Err(Fault {
+        problem: FileProblem::AsciiExpected,
+        left: text.len(),
+    })
+}
+
+/// Returns the literal in these quotes that the text begins with, where `inner` follows the first of
+/// them, and the text after it.
+fn literal_front<'a>(
+    text: &'a [u8],
+    inner: &'a [u8],
+    quote: u8,
+) -> Result<(&'a [u8], &'a [u8]), Fault>
+    requires { text.now ≡ quote ∷ inner.now }
+    ensures read { IfOk result (λ found. IsLiteral quote found.0.now text.now found.1.now) }
+    ensures other { IfErr result (λ fault. is_of_type fault.problem ≡ false) }
+{
+    let left = text.len();
+    let Some(rest) = after_letters(inner, quote) else {
+        return Err(Fault {
+            problem: FileProblem::LiteralOpen,
+            left,
+        });
+    };
+    let (literal, _) = text.split_at(left.saturating_sub(rest.len()));
+    Ok((literal, rest))
+}
+
+/// Returns the text after the letters of a literal and the quote at their end.
+fn after_letters(text: &[u8], quote: u8) -> Option<&[u8]>
+    ensures { IfSome result (λ rest. IsQuoted quote text.now rest.now) }
+{
+    let mut rest = text;
+    for _ in 0..text.len() {
+        if let Some(after) = after_byte(rest, quote) {
+            return Some(after);
+        }
+        rest = after_letter(rest)?;
+    }
+    None
+}
+
+/// Returns the text after a letter of a literal: a `\` and the byte after it, or one byte.
+fn after_letter(text: &[u8]) -> Option<&[u8]>
+    ensures { IfSome result (λ rest. IsLetter text.now rest.now) }
+{
+    let Some((first, rest)) = text.split_first() else {
+        return None;
+    };
+    if *first != b'\\' {
+        return Some(rest);
+    }
+    match rest.split_first() {
+        Some((_, after)) => Some(after),
+        None => None,
+    }
+}

@@ -1,0 +1,127 @@
+//! Types of messages that a file declares, in Rust's own form: [`find`].
+//!
+//! A file has the declarations of a program's source, so that these may be pasted:
+//!
+//! ```text
+//! /// What a sensor sends.
+//! #[derive(Serialize, Deserialize)]
+//! pub struct Reading { id: u32, label: String, samples: Vec<i16> }
+//! struct Pair(u8, u16);
+//! struct Unit;
+//! enum Event { Boot, Reading(Reading), Fault { code: u8, text: String } }
+//! type Millimetres = i32;
+//! ```
+//!
+//! A name stands for its declaration, wherever in the file that is: each name in the place of a type
+//! is replaced by what its declaration stands for, until a type expression is left, which is read by
+//! [`postcard_dyn_schema::parse`].
+//!
+//! | A declaration | What it stands for |
+//! |---|---|
+//! | `struct A;` | `()` |
+//! | `struct A(T, U);` | `(T, U)` |
+//! | `struct A { a: T, b: U }` | `{ a: T, b: U }`, or `()` if there are no fields |
+//! | `enum A { B, C(T), D { a: U } = 5 }` | `(\| B \| C(T) \| D { a: U })` |
+//! | `type A = T;` | `(T)` |
+//!
+//! Passed over are comments, attributes, lifetimes, `pub` and its limit, as `pub(crate)`, paths before
+//! a name, as in `std::string::String`, and the number of a variant, which is one word behind `=` and
+//! maybe `-`. An item ends with its first `;` or `}` outside of all brackets; one that doesn't begin with
+//! `struct`, `enum` or `type` is passed over. Types with parameters aren't supported. With its names
+//! replaced, a type has at most 65,536 words and signs, and in it names stand for one another at most
+//! 64 deep.
+//!
+//! A file is read in five steps, one module each: its tokens ([`lex`]), those that are kept ([`kept`]),
+//! the declarations ([`declaration`]), the words of a type with its names replaced ([`expand`], and for
+//! each token [`words`]), and their text ([`place`]).
+#![tactic(auto)]
+
+ghost use Rattle.std.specs.Prelude.{IfOk, IfErr, string_bytes};
+ghost use Rattle.postcard_dyn_schema.specs.declared.schema.Schema.{Schema};
+ghost use Rattle.postcard_dyn_schema.specs.Grammar.{IsExpression};
+ghost use Rattle.postcard_dyn_file.specs.Files.{IsExpressionOf, IsTypeOf, HasFaultOf, IsWithin};
+
+pub mod declaration;
+pub mod error;
+pub mod expand;
+pub mod kept;
+pub mod lex;
+pub mod place;
+#[cfg(test)]
+mod tests;
+pub mod token;
+pub mod words;
+
+use declaration::declarations;
+use error::Fault;
+pub use error::{FileError, FileProblem};
+use expand::words_of;
+use kept::kept;
+use lex::tokens;
+use place::{error_at, left_of, spelled};
+use postcard_dyn_schema::{Schema, parse};
+use std::alloc::Global;
+
+/// Returns the type with this name, which the file declares.
+///
+/// # Errors
+///
+/// Fails with what is wrong, one of [`FileProblem`], and the line and column where it is, each counted
+/// from 1. The file's tokens and declarations are looked at first, to its end, and then what the
+/// declaration of the name and those that it needs consist of: what is wrong in another one isn't found.
+pub fn find(alloc: Global, file: &str, name: &str) -> Result<Schema, FileError>
+    ensures found { IfOk result (λ schema. IsTypeOf file.now name.now schema) }
+    ensures fault { IfErr result (λ e. HasFaultOf file.now name.now e.problem) }
+    ensures place { IfErr result (λ e. IsWithin file.now e) }
+{
+    match read(alloc, file.as_bytes(), name.as_bytes()) {
+        Ok(found) => Ok(found.schema),
+        Err(fault) => Err(error_at(file.as_bytes(), fault)),
+    }
+}
+
+/// Returns a type expression of the type with this name, which the file declares: what its declaration
+/// stands for. It begins with `(` or `{`.
+///
+/// # Errors
+///
+/// Fails as [`find`] does.
+pub fn expression(alloc: Global, file: &str, name: &str) -> Result<String, FileError>
+    ensures spelled { IfOk result (λ text. IsExpressionOf file.now name.now (string_bytes text)) }
+    ensures read { IfOk result (λ text. (schema : Schema) × IsExpression schema (string_bytes text)) }
+    ensures fault { IfErr result (λ e. HasFaultOf file.now name.now e.problem) }
+    ensures place { IfErr result (λ e. IsWithin file.now e) }
+{
+    match read(alloc, file.as_bytes(), name.as_bytes()) {
+        Ok(found) => Ok(found.text),
+        Err(fault) => Err(error_at(file.as_bytes(), fault)),
+    }
+}
+
+/// A type, and a type expression of it.
+#[derive(Drop)]
+struct Found {
+    text: String,
+    schema: Schema,
+}
+
+/// Returns the type with this name, and its expression.
+fn read(alloc: Global, file: &[u8], name: &[u8]) -> Result<Found, Fault>
+    ensures spelled { IfOk result (λ found. IsExpressionOf file.now name.now
+        (string_bytes found.text)) }
+    ensures read { IfOk result (λ found. IsExpression found.schema (string_bytes found.text)) }
+    ensures fault { IfErr result (λ fault. HasFaultOf file.now name.now fault.problem) }
+{
+    let all = tokens(alloc, file)?;
+    let kept = kept(alloc, all.as_slice())?;
+    let known = declarations(alloc, kept.as_slice())?;
+    let words = words_of(alloc, kept.as_slice(), known.as_slice(), name)?;
+    let text = spelled(alloc, words.as_slice())?;
+    match parse(alloc, text.as_str()) {
+        Ok(schema) => Ok(Found { text, schema }),
+        Err(e) => Err(Fault {
+            problem: FileProblem::Expression(e.problem),
+            left: left_of(words.as_slice(), e.character),
+        }),
+    }
+}

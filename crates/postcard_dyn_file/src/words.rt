@@ -1,0 +1,136 @@
+//! What the tokens of a declaration stand for, and which tokens it may begin and end with.
+
+ghost use Rattle.std.specs.Prelude.{◌≡◌, ◌<◌, false, length, Decides, IfErr};
+ghost use Rattle.postcard_dyn_file.specs.Printed.{is_of_type};
+ghost use Rattle.postcard_dyn_file.specs.Words.{IsSign, IsDiscriminant, IsText, IsStructText};
+ghost use Rattle.postcard_dyn_file.specs.Words.{IsEnumText, IsAliasText, IsPlainText};
+
+use crate::declaration::{Declaration, Kind};
+use crate::error::{Fault, FileProblem};
+use crate::token::{Token, is_at, is_before, place_of};
+
+/// Fails where the tokens after the name of a declaration don't begin or end as its kind has to.
+pub fn check_body(tokens: &[Token], declaration: &Declaration) -> Result<(), Fault>
+    ensures { IfErr result (λ fault. is_of_type fault.problem ≡ false) }
+{
+    let start = declaration.start;
+    let problem = match declaration.kind {
+        _ if is_at(tokens, start, b"<") => FileProblem::Generic,
+        Kind::Struct if !begins_struct(tokens, start) => FileProblem::BodyExpected,
+        Kind::Enum if !is_at(tokens, start, b"{") => FileProblem::BraceExpected,
+        Kind::Alias if !is_at(tokens, start, b"=") => FileProblem::EqualsExpected,
+        Kind::Alias if !is_before(tokens, declaration.end, b";") => {
+            return Err(Fault {
+                problem: FileProblem::SemicolonExpected,
+                left: place_of(tokens, declaration.end),
+            });
+        }
+        _ => return Ok(()),
+    };
+    Err(Fault {
+        problem,
+        left: place_of(tokens, start),
+    })
+}
+
+/// Returns whether `{`, `(` or `;` is at the index.
+fn begins_struct(tokens: &[Token], at: usize) -> bool {
+    is_at(tokens, at, b"{") || is_at(tokens, at, b"(") || is_at(tokens, at, b";")
+}
+
+/// Returns the text that the token at the index stands for in a declaration of this kind.
+pub fn text_of<'a>(tokens: &[Token<'a>], kind: Kind, at: usize) -> &'a [u8]
+    requires { at < length tokens.now }
+    ensures { IsText kind tokens.now at result.now }
+{
+    match kind {
+        Kind::Struct => struct_text(tokens, at),
+        Kind::Enum => enum_text(tokens, at),
+        Kind::Alias => alias_text(tokens, at),
+    }
+}
+
+/// Returns the text that the token at the index stands for in a struct.
+fn struct_text<'a>(tokens: &[Token<'a>], at: usize) -> &'a [u8]
+    requires { at < length tokens.now }
+    ensures { IsStructText tokens.now at result.now }
+{
+    if !is_sign(tokens, at, 0, b";") {
+        return plain_text(tokens, at);
+    }
+    if is_before(tokens, at, b")") {
+        return b"";
+    }
+    b"()"
+}
+
+/// Returns the text that the token at the index stands for in a type alias.
+fn alias_text<'a>(tokens: &[Token<'a>], at: usize) -> &'a [u8]
+    requires { at < length tokens.now }
+    ensures { IsAliasText tokens.now at result.now }
+{
+    if is_sign(tokens, at, 0, b"=") {
+        return b"(";
+    }
+    if is_sign(tokens, at, 0, b";") {
+        return b")";
+    }
+    plain_text(tokens, at)
+}
+
+/// Returns the text that the token at the index stands for in an enum.
+fn enum_text<'a>(tokens: &[Token<'a>], at: usize) -> &'a [u8]
+    requires { at < length tokens.now }
+    ensures { IsEnumText tokens.now at result.now }
+{
+    if is_sign(tokens, at, 0, b"{") {
+        return b"(|";
+    }
+    if is_sign(tokens, at, 0, b"}") {
+        return b")";
+    }
+    if is_sign(tokens, at, 1, b",") {
+        return if is_at(tokens, at + 1, b"}") {
+            b""
+        } else {
+            b"|"
+        };
+    }
+    if is_discriminant(tokens, at) {
+        return b"";
+    }
+    plain_text(tokens, at)
+}
+
+/// Returns the text that a token stands for where it is no sign of its declaration: `()` for `{}`, and
+/// otherwise itself.
+fn plain_text<'a>(tokens: &[Token<'a>], at: usize) -> &'a [u8]
+    requires { at < length tokens.now }
+    ensures { IsPlainText tokens.now at result.now }
+{
+    if is_at(tokens, at, b"{") && is_at(tokens, at + 1, b"}") {
+        return b"(";
+    }
+    if is_at(tokens, at, b"}") && is_before(tokens, at, b"{") {
+        return b")";
+    }
+    tokens[at].text
+}
+
+/// Returns whether this sign is at the index, with so many brackets around it.
+fn is_sign(tokens: &[Token], at: usize, depth: usize, sign: &[u8]) -> bool
+    requires { at < length tokens.now }
+    ensures { Decides result (IsSign depth sign.now tokens.now at) }
+{
+    tokens[at].depth == depth && tokens[at].says(sign)
+}
+
+/// Returns whether the token at the index is of the number of a variant: `=`, what follows it, or
+/// what follows a `-`.
+fn is_discriminant(tokens: &[Token], at: usize) -> bool
+    requires { at < length tokens.now }
+    ensures { Decides result (IsDiscriminant tokens.now at) }
+{
+    tokens[at].depth == 1
+        && (is_at(tokens, at, b"=") || is_before(tokens, at, b"=") || is_before(tokens, at, b"-"))
+}
