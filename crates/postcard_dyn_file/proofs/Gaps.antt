@@ -1,5 +1,5 @@
 -- Where no gap begins a text.
-use Rattle.std.proofs.Common.{◌≡◌, ℕ, ◌<◌, List, [], ◌∷◌, ◌++◌, length, sym, ap, subst, ◌∙◌, arith, inl, inr, ◌⊎◌}
+use Rattle.std.proofs.Common.{◌≡◌, ℕ, List, [], ◌∷◌, ◌++◌, length, sym, ap, subst, ◌∙◌, arith, inl, inr, ◌⊎◌}
 use Rattle.postcard_dyn_schema.specs.FrontLemmas.{one_word}
 use Rattle.postcard_dyn_schema.specs.Text.{EndsWord}
 use Rattle.postcard_dyn_file.specs.Lexical.{Begins, BeginsBy, IsBlank, IsWordFront, IsLifetime, IsGap}

@@ -1,8 +1,8 @@
 -- What is left after a gap or a token is shorter, and the index after a bracket is further.
-use Rattle.std.proofs.Common.{◌≡◌, ℕ, ◌+◌, ◌<◌, ◌≤◌, List, [], ◌∷◌, ◌++◌, length, ap, arith, length-append, inl, inr}
+use Rattle.std.proofs.Common.{◌≡◌, ℕ, ◌+◌, ◌<◌, ◌≤◌, List, ◌++◌, length, ap, arith, length-append, inl, inr}
 use Rattle.postcard_dyn_file.specs.declared.token.Token.{Token}
 use Rattle.postcard_dyn_file.specs.Steps.{Steps, none, more}
-use Rattle.postcard_dyn_file.specs.Lexical.{CommentStep, IsComment, IsWordFront, IsLifetime, IsLiteral, IsOtherAt, IsGap, IsTokenAt}
+use Rattle.postcard_dyn_file.specs.Lexical.{CommentStep, IsComment, IsLifetime, IsLiteral, IsOtherAt, IsGap, IsTokenAt}
 use Rattle.postcard_dyn_file.specs.Kept.{HasBracket, EndsBefore}
 use Rattle.postcard_dyn_file.proofs.Fronts.{letters_front}
 
