@@ -1,0 +1,2 @@
+pub mod TypeName
+pub mod Call
