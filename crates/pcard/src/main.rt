@@ -1,13 +1,33 @@
 //! The program `pcard`, which encodes a value in the Postcard format, or decodes bytes or a stream
-//! of frames. The library `postcard_cli` does its work.
+//! of frames. The library `postcard_cli` does its work, and `postcard_cli_files` reads types from files.
 #![tactic(auto)]
 
-use postcard_cli::{Failure, report, run};
+ghost use Rattle.std.specs.Prelude.{⊤};
+
+use postcard_cli::{Failure, report};
+use postcard_cli_files::{Files, ReadError, run};
 use postcard_de_flavors::Plain;
-use std::alloc::AllocError;
+use std::alloc::{AllocError, Global};
 use std::io::{BufWriter, Write};
 use std::process::ExitCode;
-use std::{env, io};
+use std::{env, fs, io};
+
+/// The files of the system.
+struct Disk<'a>(&'a HostRuntime);
+
+impl Files for Disk<'_> {
+    ghost gives = { λ _ _ _. ⊤ };
+
+    ghost lacks = { λ _ _. ⊤ };
+
+    fn read(&self, _alloc: Global, name: &str) -> Result<Vec<u8>, ReadError> {
+        match fs::read(self.0, name) {
+            Ok(bytes) => Ok(bytes),
+            Err(e) if e.kind() == io::ErrorKind::OutOfMemory => Err(ReadError::OutOfMemory),
+            Err(_) => Err(ReadError::Failed),
+        }
+    }
+}
 
 /// Returns the words after the program's name.
 fn words(rt: &HostRuntime) -> Result<Vec<String>, Failure> {
@@ -25,7 +45,10 @@ fn words(rt: &HostRuntime) -> Result<Vec<String>, Failure> {
 fn answer<W: Write>(rt: &HostRuntime, output: &mut W) -> u8 {
     let mut input = Plain::new(rt.stdin());
     match words(rt) {
-        Ok(words) => run(rt.alloc(), words.as_slice(), &mut input, output),
+        Ok(mut words) => {
+            let words = words.as_mut_slice();
+            run(rt.alloc(), words, &Disk(rt), &mut input, output)
+        }
         Err(failure) => report(Err(failure), output),
     }
 }
