@@ -2,6 +2,7 @@
 -- refusal.
 use Rattle.std.proofs.Common.{◌++◌, [], ◌∷◌, refl, arith, rules}
 use Rattle.std.proofs.Math.Logic.{∥∥₁_elim, ∥∥₁_map}
+use Rattle.std.proofs.lemmas.Grind.{common_steps}
 use Rattle.std.specs.Coded.{le_prop}
 use Rattle.postcard_ser_cobs.specs.FramingLaws.{not_both}
 use Rattle.postcard_ser_cobs.proofs.StepLemmas.{sets_below, code_held, step_free, place_small, step_holds}
@@ -49,5 +50,5 @@ returns-clause-pushed g c = record {
   appends = λ before d h. step_holds _ refl c.in_ok-take_step.ensures.changes c.push-step.ensures.open h;
   has_room = search rules;
   refused = search rules;
-  leaves = search rules;
+  leaves = grind (arith, common_steps);
 }
