@@ -24,6 +24,7 @@ use std::alloc::Global;
 /// the bytes end before the value does, with the errors of `Deserializer`'s calls, and with
 /// `SerdeDeCustom` if a type refuses what was read. Fails with `OutOfMemory` if an allocation
 /// fails, and only for a type that grows.
+#[inline(always)]
 pub fn take_from_bytes<'a, T: Deserialize<'a>>(
     alloc: Global,
     bytes: &'a [u8],

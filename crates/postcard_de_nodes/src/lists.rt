@@ -12,6 +12,13 @@ use postcard_wire::{Error, Result};
 /// as many are left, all of them are.
 const PAUSE: usize = 16;
 
+/// Returns how many elements of a list of `count` are to be read one by one before it is tried to read
+/// many: all of a short one.
+#[inline(always)]
+pub fn first_pause(count: usize) -> usize {
+    if count < 2 * PAUSE { count } else { 0 }
+}
+
 /// Reads some of the next elements of a list at once, at most `most` of them, and appends them to
 /// `items`, if the source has them in memory ([`Flavor::at_hand`]) and the type takes them from
 /// there ([`Shaped::append_at_hand`]). Returns whether it did; if not, nothing is taken, and the next

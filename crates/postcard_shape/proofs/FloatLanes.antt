@@ -8,6 +8,8 @@ use Rattle.core.proofs.num.Patterns.{differs, tested, bits_of_nan}
 use mathlib.Core.Bool.{cond}
 use lib.Ieee.{top as steps}
 use lib.Ieee.Bits.{to_bits-lt}
+use lib.Bits.{bit_or}
+use Rattle.std.specs.Int.Bits.{or_zero_l, or_zero_r}
 use lib.ListN.{replicate}
 use lib.Lanes.{zip2, sel_l, top, Each1, number_l, digits_l}
 use borrow.Rule.Simd.Lanes.{act1, act2, Asks1}
@@ -30,10 +32,11 @@ module _ (h : ℕ) (act : Float → Float → ℕ) (z : Float) where
   each_asked P asked zero (x ∷ xs) = tt
   each_asked P asked (suc n) (x ∷ xs) = (asked x, each_asked P asked n xs)
 
-  -- What is computed of each lane that is selected, and k in place of the others.
+  -- What is computed of each lane that is selected, and k in place of the others, for which zero is computed.
   pub each_is : (k : ℕ) (t : Float → ℕ) {g : Float → ℕ}
-      → ((a : Float) → cond (top h (act a a)) k (t (cond (top h (act a a)) z a)) ≡ g a) → (n : ℕ) (xs : List Float) → length xs ≡ n
-      → sel_l (map (top h) (zip2 act xs xs)) (replicate n k) (map t (sel_l (map (top h) (zip2 act xs xs)) (replicate n z) xs)) ≡ map g xs
+      → ((a : Float) → bit_or (t (cond (top h (act a a)) z a)) (cond (top h (act a a)) k 0) ≡ g a) → (n : ℕ) (xs : List Float) → length xs ≡ n
+      → zip2 bit_or (map t (sel_l (map (top h) (zip2 act xs xs)) (replicate n z) xs)) (sel_l (map (top h) (zip2 act xs xs)) (replicate n k) (replicate n 0))
+      ≡ map g xs
   each_is k t is n [] l = refl
   each_is k t is zero (x ∷ xs) l = absurd (omega (arith, l))
   each_is k t is (suc n) (x ∷ xs) l = ap₂ (λ y ys. y ∷ ys) (is x) (each_is k t is n xs (omega (arith, l)))
@@ -69,18 +72,24 @@ asked_of : (f : Format) (a : Float) → Asks1 float_to_bits (s_float f) (cond (t
 asked_of binary32 a = asked_if binary32 a (ne a a) refl
 asked_of binary64 a = asked_if binary64 a (ne a a) refl
 
+-- The bits of zero are none.
+zero_bits : (f : Format) → bits_lane f (of_bits f 0) ≡ 0
+unfolding of_bits to_bits
+zero_bits binary32 = refl
+zero_bits binary64 = refl
+
 -- The bits of the usual NaN are in the place of a NaN's.
 bits_if : (f : Format) (a : Float) (b : Bool) → b ≡ ne a a
-    → cond (top (hbits (width_of f)) (cond b (2 ^ bits (width_of f) - 1) zero)) (usual f)
-    (bits_lane f (cond (top (hbits (width_of f)) (cond b (2 ^ bits (width_of f) - 1) zero)) (of_bits f 0) a))
+    → bit_or (bits_lane f (cond (top (hbits (width_of f)) (cond b (2 ^ bits (width_of f) - 1) zero)) (of_bits f 0) a))
+    (cond (top (hbits (width_of f)) (cond b (2 ^ bits (width_of f) - 1) zero)) (usual f) 0)
     ≡ to_bits f a
-bits_if binary32 a true e = bits_of_nan binary32 a (sym e)
-bits_if binary32 a false e = refl
-bits_if binary64 a true e = bits_of_nan binary64 a (sym e)
-bits_if binary64 a false e = refl
+bits_if binary32 a true e = ap (λ n. bit_or n (usual binary32)) (zero_bits binary32) ∙ or_zero_l (usual binary32) ∙ bits_of_nan binary32 a (sym e)
+bits_if binary32 a false e = or_zero_r (to_bits binary32 a)
+bits_if binary64 a true e = ap (λ n. bit_or n (usual binary64)) (zero_bits binary64) ∙ or_zero_l (usual binary64) ∙ bits_of_nan binary64 a (sym e)
+bits_if binary64 a false e = or_zero_r (to_bits binary64 a)
 
 bits_of : (f : Format) (a : Float)
-    → cond (top (hbits (width_of f)) (mask_lane f a a)) (usual f) (bits_lane f (cond (top (hbits (width_of f)) (mask_lane f a a)) (of_bits f 0) a))
+    → bit_or (bits_lane f (cond (top (hbits (width_of f)) (mask_lane f a a)) (of_bits f 0) a)) (cond (top (hbits (width_of f)) (mask_lane f a a)) (usual f) 0)
     ≡ to_bits f a
 bits_of binary32 a = bits_if binary32 a (ne a a) refl
 bits_of binary64 a = bits_if binary64 a (ne a a) refl
@@ -93,8 +102,8 @@ module _ (f : Format) where
 
   -- The lanes are the bits of the numbers.
   pub lanes_are : (n : ℕ) (xs : List Float) → length xs ≡ n
-      → sel_l (map (top (hbits (width_of f))) (zip2 (mask_lane f) xs xs)) (replicate n (usual f))
-      (map (bits_lane f) (sel_l (map (top (hbits (width_of f))) (zip2 (mask_lane f) xs xs)) (replicate n (of_bits f 0)) xs))
+      → zip2 bit_or (map (bits_lane f) (sel_l (map (top (hbits (width_of f))) (zip2 (mask_lane f) xs xs)) (replicate n (of_bits f 0)) xs))
+      (sel_l (map (top (hbits (width_of f))) (zip2 (mask_lane f) xs xs)) (replicate n (usual f)) (replicate n 0))
       ≡ map (to_bits f) xs
   lanes_are = each_is (hbits (width_of f)) (mask_lane f) (of_bits f 0) (usual f) (bits_lane f) (bits_of f)
 

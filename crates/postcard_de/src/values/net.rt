@@ -2,6 +2,7 @@
 //! and the port of a socket.
 
 ghost use Rattle.std.specs.Prelude.{◌≡◌, ◌<◌, ℕ, slice_index};
+ghost use Rattle.std.specs.Net.Socket.{v6_ip, v6_port, v6_flowinfo, v6_scope_id};
 
 use crate::repr::FromRepr;
 use postcard_shape::cases::Case;
@@ -45,7 +46,12 @@ impl FromRepr for SocketAddrV4 {
 
 /// The flow information and the scope of an address that was read are 0.
 impl FromRepr for SocketAddrV6 {
-    fn from_repr((address, port): Self::As) -> Self {
+    fn from_repr(repr: Self::As) -> Self
+        ensures same { (v6_ip result, v6_port result) ≡ repr }
+        ensures no_flow { v6_flowinfo result ≡ 0 }
+        ensures no_scope { v6_scope_id result ≡ 0 }
+    {
+        let (address, port) = repr;
         SocketAddrV6::new(address, port, 0, 0)
     }
 }

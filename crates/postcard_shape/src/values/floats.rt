@@ -118,7 +118,7 @@ fn bits_of_sixteen(
     let lanes = f32x16::from_array([a, b, c, d, e, f, g, h, i, j, k, l, m, n, o, p]);
     let nan = lanes.simd_ne(lanes);
     let bits = nan.select(f32x16::splat(0.0), lanes).to_bits();
-    nan.select(u32x16::splat(0x7FC0_0000), bits)
+    bits | nan.select(u32x16::splat(0x7FC0_0000), u32x16::splat(0))
 }
 
 /// Returns the encodings of eight numbers, one after the other.
@@ -145,7 +145,7 @@ fn bits_of_eight(a: f64, b: f64, c: f64, d: f64, e: f64, f: f64, g: f64, h: f64)
     let lanes = f64x8::from_array([a, b, c, d, e, f, g, h]);
     let nan = lanes.simd_ne(lanes);
     let bits = nan.select(f64x8::splat(0.0), lanes).to_bits();
-    nan.select(u64x8::splat(0x7FF8_0000_0000_0000), bits)
+    bits | nan.select(u64x8::splat(0x7FF8_0000_0000_0000), u64x8::splat(0))
 }
 
 /// Returns the encodings of four numbers, one after the other.
@@ -165,7 +165,7 @@ fn bits_of_four(a: f32, b: f32, c: f32, d: f32) -> u32x4
     let lanes = f32x4::from_array([a, b, c, d]);
     let nan = lanes.simd_ne(lanes);
     let bits = nan.select(f32x4::splat(0.0), lanes).to_bits();
-    nan.select(u32x4::splat(0x7FC0_0000), bits)
+    bits | nan.select(u32x4::splat(0x7FC0_0000), u32x4::splat(0))
 }
 
 /// Returns the encodings of two numbers, one after the other.
@@ -184,5 +184,5 @@ fn bits_of_two(a: f64, b: f64) -> u64x2
     let lanes = f64x2::from_array([a, b]);
     let nan = lanes.simd_ne(lanes);
     let bits = nan.select(f64x2::splat(0.0), lanes).to_bits();
-    nan.select(u64x2::splat(0x7FF8_0000_0000_0000), bits)
+    bits | nan.select(u64x2::splat(0x7FF8_0000_0000_0000), u64x2::splat(0))
 }
