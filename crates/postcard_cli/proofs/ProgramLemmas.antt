@@ -16,7 +16,7 @@ use Rattle.postcard_cli.specs.Program.{Does, Form, form_of, list_of, one_word, P
 use Rattle.postcard_cli.specs.JsonMessage.{PrintsJsonLine, PrintsJsonLines}
 use Rattle.postcard_cli.specs.Message.{Prints}
 use Rattle.postcard_cli.specs.Refusal.{Converts, DecodingFails, EncodingFails, Reports, TaskFails}
-use Rattle.postcard_cli.specs.Stream.{PrintsValues}
+use Rattle.postcard_cli.specs.Stream.{PrintsLines, PrintsValues}
 use Rattle.postcard_cli.specs.declared.stream.Format.{Format}
 use Rattle.postcard_cli.specs.Value.{parts, SayEach, SomeSaysNone}
 use Rattle.postcard_cli.specs.declared.program.Task.{Task}
@@ -28,7 +28,7 @@ use Rattle.postcard_cli.specs.declared.failure.Failure.TheVariants as failed
 use Rattle.postcard_cli.specs.declared.command.TypeWord.{TypeWord}
 use Rattle.postcard_cli.specs.declared.command.TypeWord.TheVariants.{Named, Expression}
 use Rattle.postcard_cli.specs.declared.command.Command.{Command}
-use Rattle.postcard_cli.specs.declared.command.Command.TheVariants.{Encode, Decode, DecodeAll, EncodeChecked, DecodeChecked, EncodeJson, DecodeJson, DecodeAllJson, Frames, FramesOf, FramesChecked, Explain, Size, Types, Checksum, Catalog}
+use Rattle.postcard_cli.specs.declared.command.Command.TheVariants.{Encode, Decode, DecodeAll, EncodeChecked, DecodeChecked, EncodeJson, DecodeJson, DecodeAllJson, EncodeFramed, DecodeFramed, Frames, FramesOf, FramesChecked, FramesHex, Explain, Size, Types, Checksum, Catalog}
 
 -- The values of a type, whose words are those of `says`, and which `none` says not to be one.
 abbrev spoken : {T : Type 0} → Shape T → (T → Option (List ℕ)) → (List ℕ → T → Type 0) → (List ℕ → Type 0) → Form
@@ -130,20 +130,24 @@ rows_no_more : (layout : Layout) (at : ℕ) (lines : List Line) (old mid new : O
 rows_no_more layout at [] old mid new d none = Appends-trans old mid new [] [] d none
 rows_no_more layout at (line ∷ lines) old mid new d none = (d.0, d.1, rows_no_more layout (at + length line.bytes.now) lines d.0 mid new d.2 none)
 
+stream_lines_no_more : (format : Format) (longest : ℕ) (given : List ℕ) (old mid new : Option (List ℕ)) → PrintsLines format longest given old mid → Appends mid new []
+    → PrintsLines format longest given old new
+stream_lines_no_more format longest given old mid new d none = record {
+  answered = d.answered;
+  rest = d.rest;
+  cut = d.cut;
+  are = d.are;
+  rest_no_zero = d.rest_no_zero;
+  printed = prints_no_more _ old mid new d.printed none;
+}
+
 values_no_more : (format : Format) (longest : ℕ) (known left old mid new : Option (List ℕ)) → PrintsValues format longest known left old mid → Appends mid new []
     → PrintsValues format longest known left old new
 values_no_more format longest known left old mid new d none = record {
   given = d.given;
   all = record {
     reader = d.all.reader;
-    lines = record {
-      answered = d.all.lines.answered;
-      rest = d.all.lines.rest;
-      cut = d.all.lines.cut;
-      are = d.all.lines.are;
-      rest_no_zero = d.all.lines.rest_no_zero;
-      printed = prints_no_more _ old mid new d.all.lines.printed none;
-    };
+    lines = stream_lines_no_more format longest d.given old mid new d.all.lines none;
   };
   at_end = d.at_end;
 }
@@ -214,9 +218,33 @@ performs_no_more syntax (DecodeAllJson expression hex) known left old mid new d 
   values = d.values;
   printed = json_lines_no_more d.schema d.bytes d.bytes d.values [] old mid new d.printed none;
 }
+performs_no_more syntax (EncodeFramed expression value) known left old mid new d none =
+    record { encoding = d.encoding; encodes = d.encodes; frame = d.frame; is = d.is; printed = appends_no_more old mid new _ d.printed none }
+performs_no_more syntax (DecodeFramed expression hex) known left old mid new d none = record {
+  schema = d.schema;
+  spelled = d.spelled;
+  bytes = d.bytes;
+  stands = d.stands;
+  frame = d.frame;
+  after = d.after;
+  cut = d.cut;
+  content = d.content;
+  groups = d.groups;
+  value = d.value;
+  rest = d.rest;
+  is = d.is;
+  printed = prints_no_more _ old mid new d.printed none;
+}
 performs_no_more syntax Frames known left old mid new d none = (d.0, (d.1.0, d.1.1, d.1.2, d.1.3, appends_no_more old mid new _ d.1.4 none), d.2)
 performs_no_more syntax (FramesOf expression longest) known left old mid new d none = (d.0, d.1, values_no_more d.0 longest known left old mid new d.2 none)
 performs_no_more syntax (FramesChecked name expression) known left old mid new d none = (d.0, d.1, values_no_more d.0 65536 known left old mid new d.2 none)
+performs_no_more syntax (FramesHex expression hex) known left old mid new d none = record {
+  format = d.format;
+  plain = d.plain;
+  bytes = d.bytes;
+  stands = d.stands;
+  lines = stream_lines_no_more d.format 65536 d.bytes old mid new d.lines none;
+}
 performs_no_more syntax (Explain expression hex all) known left old mid new d none = record {
   schema = d.schema;
   spelled = d.spelled;

@@ -8,7 +8,7 @@ use Rattle.postcard_cli.specs.declared.command.ValueType.TheVariants.{U8, U16, U
 use Rattle.postcard_cli.specs.declared.command.TypeWord.{TypeWord}
 use Rattle.postcard_cli.specs.declared.command.TypeWord.TheVariants.{Named, Expression}
 use Rattle.postcard_cli.specs.declared.command.Command.{Command}
-use Rattle.postcard_cli.specs.declared.command.Command.TheVariants.{Encode, Decode, DecodeAll, EncodeChecked, DecodeChecked, EncodeJson, DecodeJson, DecodeAllJson, Frames, FramesOf, FramesChecked, Explain, Size, Types, Checksum, Catalog}
+use Rattle.postcard_cli.specs.declared.command.Command.TheVariants.{Encode, Decode, DecodeAll, EncodeChecked, DecodeChecked, EncodeJson, DecodeJson, DecodeAllJson, EncodeFramed, DecodeFramed, Frames, FramesOf, FramesChecked, FramesHex, Explain, Size, Types, Checksum, Catalog}
 
 -- The word that names a type.
 abbrev pub name_of : ValueType → List ℕ
@@ -81,9 +81,12 @@ IsCallOf words (DecodeChecked name expression hex) = words ≡ codes "dec" ∷ c
 IsCallOf words (EncodeJson expression text) = words ≡ codes "enc" ∷ codes "--json" ∷ expression.now ∷ text.now ∷ []
 IsCallOf words (DecodeJson expression hex) = words ≡ codes "dec" ∷ codes "--json" ∷ expression.now ∷ hex.now ∷ []
 IsCallOf words (DecodeAllJson expression hex) = words ≡ codes "decs" ∷ codes "--json" ∷ expression.now ∷ hex.now ∷ []
+IsCallOf words (EncodeFramed expression value) = words ≡ codes "enc" ∷ codes "--frame" ∷ expression.now ∷ value.now ∷ []
+IsCallOf words (DecodeFramed expression hex) = words ≡ codes "dec" ∷ codes "--frame" ∷ expression.now ∷ hex.now ∷ []
 IsCallOf words Frames = words ≡ codes "frames" ∷ []
 IsCallOf words (FramesOf expression longest) = LooksLikeExpression expression.now × IsStreamCall words expression.now longest
 IsCallOf words (FramesChecked name expression) = words ≡ codes "frames" ∷ codes "--crc" ∷ name.now ∷ expression.now ∷ []
+IsCallOf words (FramesHex expression hex) = words ≡ codes "frames" ∷ codes "--hex" ∷ expression.now ∷ hex.now ∷ []
 IsCallOf words (Explain expression hex all) = IsExplainCall words expression.now hex.now all
 IsCallOf words (Size expression) = words ≡ codes "size" ∷ expression.now ∷ []
 IsCallOf words Types = words ≡ codes "types" ∷ []

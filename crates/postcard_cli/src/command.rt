@@ -150,6 +150,16 @@ pub enum Command<'a> {
         expression: &'a str,
         hex: &'a str,
     },
+    /// `enc --frame TYPE VALUE`, where TYPE is taken as an expression.
+    EncodeFramed {
+        expression: &'a str,
+        value: &'a str,
+    },
+    /// `dec --frame TYPE HEX`, where TYPE is taken as an expression.
+    DecodeFramed {
+        expression: &'a str,
+        hex: &'a str,
+    },
     /// `frames`.
     Frames,
     /// `frames TYPE` or `frames --longest N TYPE`, where TYPE is an expression, and a frame has at
@@ -162,6 +172,11 @@ pub enum Command<'a> {
     FramesChecked {
         name: &'a str,
         expression: &'a str,
+    },
+    /// `frames --hex TYPE HEX`, where TYPE is taken as an expression.
+    FramesHex {
+        expression: &'a str,
+        hex: &'a str,
     },
     /// `explain TYPE HEX` or `explain --all TYPE HEX`, where TYPE is taken as an expression, and `all`
     /// is whether nothing is cut.
@@ -305,14 +320,14 @@ impl<'a> Command<'a> {
     {
         match command {
             "explain" => Command::uncut(option, third, fourth),
-            "frames" => Command::limited(option, third, fourth),
-            _ => Command::in_json(command, option, third, fourth),
+            "frames" => Command::of_stream(option, third, fourth),
+            _ => Command::of_message(command, option, third, fourth),
         }
     }
 
     /// Returns the command of a call of four words, the first of which is neither `explain` nor
     /// `frames`: a command, an option, a type and a text.
-    fn in_json(
+    fn of_message(
         command: &'a str,
         option: &'a str,
         kind: &'a str,
@@ -323,9 +338,20 @@ impl<'a> Command<'a> {
         ensures none { IfNone result (command.now ≢ codes "explain" → command.now ≢ codes "frames"
             → IsNoCall (command.now ∷ option.now ∷ kind.now ∷ text.now ∷ [])) }
     {
-        if option != "--json" {
-            return None;
+        match option {
+            "--json" => Command::in_json(command, kind, text),
+            "--frame" => Command::framed(command, kind, text),
+            _ => None,
         }
+    }
+
+    /// Returns the command of a call of four words: a command, `--json`, a type and a text.
+    fn in_json(command: &'a str, kind: &'a str, text: &'a str) -> Option<Command<'a>>
+        ensures found { IfSome result (λ found.
+            IsCallOf (command.now ∷ codes "--json" ∷ kind.now ∷ text.now ∷ []) found) }
+        ensures none { IfNone result
+            (IsNoCall (command.now ∷ codes "--json" ∷ kind.now ∷ text.now ∷ [])) }
+    {
         match command {
             "enc" => Some(Command::EncodeJson {
                 expression: kind,
@@ -336,6 +362,26 @@ impl<'a> Command<'a> {
                 hex: text,
             }),
             "decs" => Some(Command::DecodeAllJson {
+                expression: kind,
+                hex: text,
+            }),
+            _ => None,
+        }
+    }
+
+    /// Returns the command of a call of four words: a command, `--frame`, a type and a text.
+    fn framed(command: &'a str, kind: &'a str, text: &'a str) -> Option<Command<'a>>
+        ensures found { IfSome result (λ found.
+            IsCallOf (command.now ∷ codes "--frame" ∷ kind.now ∷ text.now ∷ []) found) }
+        ensures none { IfNone result
+            (IsNoCall (command.now ∷ codes "--frame" ∷ kind.now ∷ text.now ∷ [])) }
+    {
+        match command {
+            "enc" => Some(Command::EncodeFramed {
+                expression: kind,
+                value: text,
+            }),
+            "dec" => Some(Command::DecodeFramed {
                 expression: kind,
                 hex: text,
             }),
@@ -392,24 +438,29 @@ impl<'a> Command<'a> {
         })
     }
 
-    /// Returns the command of `frames` with three words after it: an option, its value and a type.
-    fn limited(option: &'a str, number: &'a str, kind: &'a str) -> Option<Command<'a>>
+    /// Returns the command of `frames` with three words after it: an option, and its value and a type,
+    /// or a type and HEX.
+    fn of_stream(option: &'a str, third: &'a str, fourth: &'a str) -> Option<Command<'a>>
         ensures found { IfSome result (λ found.
-            IsCallOf (codes "frames" ∷ option.now ∷ number.now ∷ kind.now ∷ []) found) }
+            IsCallOf (codes "frames" ∷ option.now ∷ third.now ∷ fourth.now ∷ []) found) }
         ensures none { IfNone result
-            (IsNoCall (codes "frames" ∷ option.now ∷ number.now ∷ kind.now ∷ [])) }
+            (IsNoCall (codes "frames" ∷ option.now ∷ third.now ∷ fourth.now ∷ [])) }
     {
         match option {
-            "--longest" if is_expression(kind) => match longest(number) {
+            "--longest" if is_expression(fourth) => match longest(third) {
                 Some(longest) => Some(Command::FramesOf {
-                    expression: kind,
+                    expression: fourth,
                     longest,
                 }),
                 None => None,
             },
             "--crc" => Some(Command::FramesChecked {
-                name: number,
-                expression: kind,
+                name: third,
+                expression: fourth,
+            }),
+            "--hex" => Some(Command::FramesHex {
+                expression: third,
+                hex: fourth,
             }),
             _ => None,
         }

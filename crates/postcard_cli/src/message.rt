@@ -100,7 +100,7 @@ pub fn encode_checked<W: Write>(
 }
 
 /// Returns the encoding of the value of a text. Fails as [`encode`] does.
-fn encoding_of<W: Write>(
+pub fn encoding_of<W: Write>(
     alloc: Global,
     expression: &str,
     value: &str,

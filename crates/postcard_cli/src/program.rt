@@ -34,7 +34,8 @@ use crate::joined::Joined;
 use crate::stream::READS;
 use crate::syntax::SYNTAX;
 use crate::{
-    checksum, explain, frames, hexadecimal, json_message, message, size, stream, syntax, value,
+    checksum, explain, framed, frames, hexadecimal, json_message, message, size, stream, syntax,
+    value,
 };
 use postcard_de::{Deserialize, take_from_bytes};
 use postcard_de_flavors::Source;
@@ -164,6 +165,12 @@ fn carry_out<R: Source, W: Write>(
         Command::DecodeAllJson { expression, hex } => {
             json_message::decode_all(alloc, expression, hex, input, output)
         }
+        Command::EncodeFramed { expression, value } => {
+            framed::encode(alloc, expression, value, output)
+        }
+        Command::DecodeFramed { expression, hex } => {
+            framed::decode(alloc, expression, hex, input, output)
+        }
         Command::Frames => frames::print(alloc, input, output),
         Command::FramesOf {
             expression,
@@ -171,6 +178,9 @@ fn carry_out<R: Source, W: Write>(
         } => { stream::print(alloc, expression, longest, input, output) }
         Command::FramesChecked { name, expression } => {
             stream::print_checked(alloc, name, expression, input, output)
+        }
+        Command::FramesHex { expression, hex } => {
+            stream::print_hex(alloc, expression, hex, input, output)
         }
         Command::Explain {
             expression,

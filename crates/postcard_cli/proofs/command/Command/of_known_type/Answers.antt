@@ -4,7 +4,7 @@ use Rattle.postcard_cli.specs.Command.{IsCallOf, LooksLikeExpression, IsWordOf}
 use Rattle.postcard_cli.specs.declared.command.TypeWord.{TypeWord}
 use Rattle.postcard_cli.specs.declared.command.TypeWord.TheVariants.{Expression}
 use Rattle.postcard_cli.specs.declared.command.Command.{Command}
-use Rattle.postcard_cli.specs.declared.command.Command.TheVariants.{Encode, Decode, DecodeAll, EncodeChecked, DecodeChecked, EncodeJson, DecodeJson, DecodeAllJson, Frames, FramesOf, FramesChecked, Explain, Size, Types, Checksum, Catalog}
+use Rattle.postcard_cli.specs.declared.command.Command.TheVariants.{Encode, Decode, DecodeAll, EncodeChecked, DecodeChecked, EncodeJson, DecodeJson, DecodeAllJson, EncodeFramed, DecodeFramed, Frames, FramesOf, FramesChecked, FramesHex, Explain, Size, Types, Checksum, Catalog}
 use Rattle.postcard_cli.proofs.command.Command.of_known_type.Goals as goal
 
 second : (a k t b w v : List ℕ) → a ∷ k ∷ t ∷ [] ≡ b ∷ w ∷ v ∷ [] → k ≡ w
@@ -34,10 +34,13 @@ none_of a k t none other sum (DecodeChecked name x hex) e = no_five a k t _ _ _ 
 none_of a k t none other sum (EncodeJson x text) e = no_four a k t _ _ _ _ e
 none_of a k t none other sum (DecodeJson x hex) e = no_four a k t _ _ _ _ e
 none_of a k t none other sum (DecodeAllJson x hex) e = no_four a k t _ _ _ _ e
+none_of a k t none other sum (EncodeFramed x value) e = no_four a k t _ _ _ _ e
+none_of a k t none other sum (DecodeFramed x hex) e = no_four a k t _ _ _ _ e
 none_of a k t none other sum Frames e = no_one a k t _ e
 none_of a k t none other sum (FramesOf x longest) (is, inl e) = no_two a k t _ x.now e.0
 none_of a k t none other sum (FramesOf x longest) (is, inr e) = no_four a k t _ _ _ _ e.2
 none_of a k t none other sum (FramesChecked name x) e = no_four a k t _ _ _ _ e
+none_of a k t none other sum (FramesHex x hex) e = no_four a k t _ _ _ _ e
 none_of a k t none other sum (Explain x hex all) (inl e) = other (first a k t _ x.now hex.now e.1)
 none_of a k t none other sum (Explain x hex all) (inr e) = no_four a k t _ _ _ _ e.1
 none_of a k t none other sum (Size x) e = no_two a k t _ x.now e
