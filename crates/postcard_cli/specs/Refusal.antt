@@ -34,7 +34,7 @@ use Rattle.postcard_cli.specs.Failure.{exit_status, last_line}
 use Rattle.postcard_cli.specs.Frames.{PrintsAnswersSoFar}
 use Rattle.postcard_cli.specs.Hexadecimal.{IsWrongHex}
 use Rattle.postcard_cli.specs.JsonMessage.{PrintsJsonLines, SpellsJson, refusal_text}
-use Rattle.postcard_cli.specs.Message.{lines_of, Prints, ReadsValue, ReadsValues, StandsFor}
+use Rattle.postcard_cli.specs.Message.{lines_of, IsInput, Prints, ReadsValue, ReadsValues, StandsFor}
 use Rattle.postcard_cli.specs.Place.{IsPathOf, IsPlaceOf}
 use Rattle.postcard_cli.specs.Program.{Does, Form, form_of, PrintsCall}
 use Rattle.postcard_cli.specs.Stream.{IsNamed, IsPlain, PrintsSoFar, reason_text}
@@ -44,7 +44,7 @@ use Rattle.postcard_cli.specs.declared.program.Task.TheVariants as tasks
 use Rattle.postcard_cli.specs.declared.command.TypeWord.{TypeWord}
 use Rattle.postcard_cli.specs.declared.command.TypeWord.TheVariants.{Named, Expression}
 use Rattle.postcard_cli.specs.declared.command.Command.{Command}
-use Rattle.postcard_cli.specs.declared.command.Command.TheVariants.{Encode, Decode, DecodeAll, EncodeChecked, DecodeChecked, EncodeJson, DecodeJson, DecodeAllJson, EncodeFramed, DecodeFramed, Frames, FramesOf, FramesChecked, FramesHex, Explain, Size, Types, Checksum as ChecksumOf, Catalog}
+use Rattle.postcard_cli.specs.declared.command.Command.TheVariants.{Encode, Decode, DecodeAll, EncodeChecked, DecodeChecked, EncodeJson, DecodeJson, DecodeAllJson, EncodeFramed, DecodeFramed, EncodeRaw, DecodeRaw, DecodeAllRaw, Frames, FramesOf, FramesChecked, FramesHex, Explain, Size, Types, Checksum as ChecksumOf, Catalog}
 use Rattle.postcard_cli.specs.declared.stream.Format.{Format}
 use Rattle.postcard_cli.specs.declared.failure.Failure.{Failure}
 use Rattle.postcard_cli.specs.declared.failure.Failure.TheVariants.{Usage, BadType, BadValue, BadHex, BadHexAt, UnknownChecksum, Library, Refused, Output, Limit, ReadFailed}
@@ -68,6 +68,13 @@ HasNoBytes expression = (schema : Schema) × IsExpression schema expression × (
 -- The text is a type expression.
 abbrev pub IsType : List ℕ → Type 0
 IsType expression = (schema : Schema) × IsExpression schema expression
+
+-- The failures of reading the type expression of records.
+abbrev pub RecordTypeFails : List ℕ → Option (List ℕ) → Option (List ℕ) → Failure → Type 0
+RecordTypeFails expression old new BadType = IsTypeRefused expression old new ⊎ HasNoBytes expression
+RecordTypeFails expression old new (Library e) = e ≡ OutOfMemory
+RecordTypeFails expression old new Output = ⊤
+RecordTypeFails expression old new failure = ⊥
 
 -- The failures of reading a type expression.
 abbrev pub TypeFails : List ℕ → Option (List ℕ) → Option (List ℕ) → Failure → Type 0
@@ -149,13 +156,8 @@ FrontFails schema all rest old new (Library e) =
 FrontFails schema all rest old new Output = ⊤
 FrontFails schema all rest old new failure = ⊥
 
--- The bytes of HEX are values of the expression, and then bytes of which no front is one: the lines
--- of the values and the place were printed. For `dec` there are no values before.
-pub record IsMessageRefused (expression hex : List ℕ) (known left old new : Option (List ℕ)) (e : Error) : Type 0 where
-  pub schema : Schema
-  pub spelled : IsExpression schema expression
-  pub bytes : List ℕ
-  pub stands : StandsFor hex known left bytes
+-- The bytes are values of the schema, and then bytes of which no front is one: the lines of the values and the place were printed.
+pub record StopsPrinting (schema : Schema) (bytes : List ℕ) (old new : Option (List ℕ)) (e : Error) : Type 0 where
   pub values : List Value
   pub rest : List ℕ
   pub are : ReadsValues schema bytes values rest
@@ -163,27 +165,59 @@ pub record IsMessageRefused (expression hex : List ℕ) (known left old new : Op
   pub refused : IsRefusedAt schema bytes rest e shown
   pub printed : Prints (lines_of schema values ++? Some shown) old new
 
+-- The failures of reading and printing all values of the bytes.
+abbrev pub EachFails : Schema → List ℕ → Option (List ℕ) → Option (List ℕ) → Failure → Type 0
+EachFails schema bytes old new (Library e) = (e ≡ OutOfMemory) ⊎ StopsPrinting schema bytes old new e
+EachFails schema bytes old new Output = ⊤
+EachFails schema bytes old new failure = ⊥
+
+-- So are the bytes that are `IsGiven`, as messages of the expression.
+pub record IsMessageRefused (IsGiven : List ℕ → Type 0) (expression : List ℕ) (old new : Option (List ℕ)) (e : Error) : Type 0 where
+  pub schema : Schema
+  pub spelled : IsExpression schema expression
+  pub bytes : List ℕ
+  pub given : IsGiven bytes
+  pub stopped : StopsPrinting schema bytes old new e
+
+-- The failures of decoding the first value of the bytes that are `IsGiven`, where `Unread` are the failures of reading these.
+abbrev pub FirstFails : (Failure → Type 0) → (List ℕ → Type 0) → List ℕ → Option (List ℕ) → Option (List ℕ) → Failure → Type 0
+FirstFails Unread IsGiven expression old new BadType = IsTypeRefused expression old new
+FirstFails Unread IsGiven expression old new (BadHexAt n) = IsType expression × Unread (BadHexAt n)
+FirstFails Unread IsGiven expression old new ReadFailed = IsType expression × Unread ReadFailed
+FirstFails Unread IsGiven expression old new Limit = IsType expression × Unread Limit
+FirstFails Unread IsGiven expression old new (Library e) =
+    (e ≡ OutOfMemory) ⊎ ((refused : IsMessageRefused IsGiven expression old new e) × (refused.stopped.values ≡ []))
+FirstFails Unread IsGiven expression old new Output = ⊤
+FirstFails Unread IsGiven expression old new failure = ⊥
+
+-- The same of all values.
+abbrev pub AllFail : (Failure → Type 0) → (List ℕ → Type 0) → List ℕ → Option (List ℕ) → Option (List ℕ) → Failure → Type 0
+AllFail Unread IsGiven expression old new BadType = IsTypeRefused expression old new ⊎ HasNoBytes expression
+AllFail Unread IsGiven expression old new (BadHexAt n) = IsType expression × Unread (BadHexAt n)
+AllFail Unread IsGiven expression old new ReadFailed = IsType expression × Unread ReadFailed
+AllFail Unread IsGiven expression old new Limit = IsType expression × Unread Limit
+AllFail Unread IsGiven expression old new (Library e) = (e ≡ OutOfMemory) ⊎ IsMessageRefused IsGiven expression old new e
+AllFail Unread IsGiven expression old new Output = ⊤
+AllFail Unread IsGiven expression old new failure = ⊥
+
 -- The failures of `dec` with an expression.
 abbrev pub DecodeFails : ℕ → Type 0 → List ℕ → List ℕ → Option (List ℕ) → Option (List ℕ) → Option (List ℕ) → Option (List ℕ) → Failure → Type 0
-DecodeFails reads steady expression hex known left old new BadType = IsTypeRefused expression old new
-DecodeFails reads steady expression hex known left old new (BadHexAt n) = IsType expression × HexFails reads steady hex known left (BadHexAt n)
-DecodeFails reads steady expression hex known left old new ReadFailed = IsType expression × HexFails reads steady hex known left ReadFailed
-DecodeFails reads steady expression hex known left old new Limit = IsType expression × HexFails reads steady hex known left Limit
-DecodeFails reads steady expression hex known left old new (Library e) =
-    (e ≡ OutOfMemory)
-    ⊎ ((refused : IsMessageRefused expression hex known left old new e) × (refused.values ≡ []))
-DecodeFails reads steady expression hex known left old new Output = ⊤
-DecodeFails reads steady expression hex known left old new failure = ⊥
+DecodeFails reads steady expression hex known left old new failure =
+    FirstFails (HexFails reads steady hex known left) (StandsFor hex known left) expression old new failure
 
 -- The failures of `decs`.
 abbrev pub DecodeAllFails : ℕ → Type 0 → List ℕ → List ℕ → Option (List ℕ) → Option (List ℕ) → Option (List ℕ) → Option (List ℕ) → Failure → Type 0
-DecodeAllFails reads steady expression hex known left old new BadType = IsTypeRefused expression old new ⊎ HasNoBytes expression
-DecodeAllFails reads steady expression hex known left old new (BadHexAt n) = IsType expression × HexFails reads steady hex known left (BadHexAt n)
-DecodeAllFails reads steady expression hex known left old new ReadFailed = IsType expression × HexFails reads steady hex known left ReadFailed
-DecodeAllFails reads steady expression hex known left old new Limit = IsType expression × HexFails reads steady hex known left Limit
-DecodeAllFails reads steady expression hex known left old new (Library e) = (e ≡ OutOfMemory) ⊎ IsMessageRefused expression hex known left old new e
-DecodeAllFails reads steady expression hex known left old new Output = ⊤
-DecodeAllFails reads steady expression hex known left old new failure = ⊥
+DecodeAllFails reads steady expression hex known left old new failure =
+    AllFail (HexFails reads steady hex known left) (StandsFor hex known left) expression old new failure
+
+-- The failures of `dec --raw` and of `decs --raw`.
+abbrev pub DecodeRawFails : ℕ → Type 0 → List ℕ → Option (List ℕ) → Option (List ℕ) → Option (List ℕ) → Option (List ℕ) → Failure → Type 0
+DecodeRawFails reads steady expression known left old new failure =
+    FirstFails (InputFails reads steady known left) (IsInput known left) expression old new failure
+
+abbrev pub DecodeAllRawFails : ℕ → Type 0 → List ℕ → Option (List ℕ) → Option (List ℕ) → Option (List ℕ) → Option (List ℕ) → Failure → Type 0
+DecodeAllRawFails reads steady expression known left old new failure =
+    AllFail (InputFails reads steady known left) (IsInput known left) expression old new failure
 
 -- The failures of `explain`.
 abbrev pub ExplainFails : ℕ → Type 0 → List ℕ → List ℕ → Bool → Option (List ℕ) → Option (List ℕ) → Option (List ℕ) → Option (List ℕ) → Failure → Type 0
@@ -496,6 +530,9 @@ CommandFails reads steady (DecodeJson expression hex) known left old new failure
 CommandFails reads steady (DecodeAllJson expression hex) known left old new failure = DecodeAllJsonFails reads steady expression.now hex.now known left old new failure
 CommandFails reads steady (EncodeFramed expression value) known left old new failure = EncodeFails expression.now value.now old new failure
 CommandFails reads steady (DecodeFramed expression hex) known left old new failure = DecodeFramedFails reads steady expression.now hex.now known left old new failure
+CommandFails reads steady (EncodeRaw expression value) known left old new failure = EncodeFails expression.now value.now old new failure
+CommandFails reads steady (DecodeRaw expression) known left old new failure = DecodeRawFails reads steady expression.now known left old new failure
+CommandFails reads steady (DecodeAllRaw expression) known left old new failure = DecodeAllRawFails reads steady expression.now known left old new failure
 CommandFails reads steady Frames known left old new failure = FramesFail steady known left old new failure
 CommandFails reads steady (FramesOf expression longest) known left old new failure = StreamFails steady expression.now longest known left old new failure
 CommandFails reads steady (FramesChecked name expression) known left old new failure = StreamCheckedFails steady name.now expression.now known left old new failure

@@ -160,10 +160,23 @@ pub enum Command<'a> {
         expression: &'a str,
         hex: &'a str,
     },
+    /// `enc --raw TYPE VALUE`, where TYPE is taken as an expression.
+    EncodeRaw {
+        expression: &'a str,
+        value: &'a str,
+    },
+    /// `dec --raw TYPE` or `dec --raw TYPE -`, where TYPE is taken as an expression.
+    DecodeRaw {
+        expression: &'a str,
+    },
+    /// `decs --raw TYPE` or `decs --raw TYPE -`, where TYPE is taken as an expression.
+    DecodeAllRaw {
+        expression: &'a str,
+    },
     /// `frames`.
     Frames,
-    /// `frames TYPE` or `frames --longest N TYPE`, where TYPE is an expression, and a frame has at
-    /// most `longest` bytes, its zero included: N, which is 1 to 65,536, or 65,536.
+    /// `frames TYPE`, `frames --raw TYPE` or `frames --longest N TYPE`, where TYPE is an expression,
+    /// and a frame has at most `longest` bytes, its zero included: N, which is 1 to 65,536, or 65,536.
     FramesOf {
         expression: &'a str,
         longest: usize,
@@ -274,17 +287,37 @@ impl<'a> Command<'a> {
                 name: kind,
                 hex: text,
             }),
+            _ if kind == "--raw" => Command::of_input(command, text),
             _ => Command::of_known_type(command, kind, text),
         }
     }
 
-    /// Returns the command of a call of three words, the second of which has to be a name or count
-    /// as an expression.
+    /// Returns the command of a call of three words, the first of which is neither `explain` nor
+    /// `crc`: a command, `--raw`, and a type.
+    fn of_input(command: &'a str, expression: &'a str) -> Option<Command<'a>>
+        ensures found { IfSome result
+            (λ found. IsCallOf (command.now ∷ codes "--raw" ∷ expression.now ∷ []) found) }
+        ensures none { IfNone result (command.now ≢ codes "explain" → command.now ≢ codes "crc"
+            → IsNoCall (command.now ∷ codes "--raw" ∷ expression.now ∷ [])) }
+    {
+        match command {
+            "dec" => Some(Command::DecodeRaw { expression }),
+            "decs" => Some(Command::DecodeAllRaw { expression }),
+            "frames" if is_expression(expression) => Some(Command::FramesOf {
+                expression,
+                longest: LONGEST,
+            }),
+            _ => None,
+        }
+    }
+
+    /// Returns the command of a call of three words, the second of which isn't `--raw`, but has to be
+    /// a name or count as an expression.
     fn of_known_type(command: &'a str, kind: &'a str, text: &'a str) -> Option<Command<'a>>
         ensures found { IfSome result
             (λ found. IsCallOf (command.now ∷ kind.now ∷ text.now ∷ []) found) }
         ensures none { IfNone result (command.now ≢ codes "explain" → command.now ≢ codes "crc"
-            → IsNoCall (command.now ∷ kind.now ∷ text.now ∷ [])) }
+            → kind.now ≢ codes "--raw" → IsNoCall (command.now ∷ kind.now ∷ text.now ∷ [])) }
     {
         let Some(word) = TypeWord::from_word(kind) else {
             return None;
@@ -341,6 +374,7 @@ impl<'a> Command<'a> {
         match option {
             "--json" => Command::in_json(command, kind, text),
             "--frame" => Command::framed(command, kind, text),
+            "--raw" => Command::raw(command, kind, text),
             _ => None,
         }
     }
@@ -385,6 +419,25 @@ impl<'a> Command<'a> {
                 expression: kind,
                 hex: text,
             }),
+            _ => None,
+        }
+    }
+
+    /// Returns the command of a call of four words: a command, `--raw`, a type and a text, which is
+    /// `-` unless the command is `enc`.
+    fn raw(command: &'a str, kind: &'a str, text: &'a str) -> Option<Command<'a>>
+        ensures found { IfSome result (λ found.
+            IsCallOf (command.now ∷ codes "--raw" ∷ kind.now ∷ text.now ∷ []) found) }
+        ensures none { IfNone result
+            (IsNoCall (command.now ∷ codes "--raw" ∷ kind.now ∷ text.now ∷ [])) }
+    {
+        match command {
+            "enc" => Some(Command::EncodeRaw {
+                expression: kind,
+                value: text,
+            }),
+            "dec" if text == "-" => Some(Command::DecodeRaw { expression: kind }),
+            "decs" if text == "-" => Some(Command::DecodeAllRaw { expression: kind }),
             _ => None,
         }
     }

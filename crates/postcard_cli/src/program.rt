@@ -67,7 +67,7 @@ enum Task<'a> {
 /// - 3 if the input isn't read to its end, if an allocation for an answer or a value of `frames`
 ///   fails, or, whatever else happened, if the output can't be written.
 ///
-/// The input is read by `frames`, and for a HEX of `-` if TYPE is an expression.
+/// The input is read by `frames`, for `--raw`, and for a HEX of `-` if TYPE is an expression.
 pub fn run<R: Source, W: Write>(
     alloc: Global,
     words: &[String],
@@ -170,6 +170,15 @@ fn carry_out<R: Source, W: Write>(
         }
         Command::DecodeFramed { expression, hex } => {
             framed::decode(alloc, expression, hex, input, output)
+        }
+        Command::EncodeRaw { expression, value } => {
+            message::encode_raw(alloc, expression, value, output)
+        }
+        Command::DecodeRaw { expression } => {
+            message::decode_raw(alloc, expression, input, output)
+        }
+        Command::DecodeAllRaw { expression } => {
+            message::decode_all_raw(alloc, expression, input, output)
         }
         Command::Frames => frames::print(alloc, input, output),
         Command::FramesOf {
