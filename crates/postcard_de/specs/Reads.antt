@@ -1,2 +1,12 @@
--- What a reading call does: the definitions of `postcard_de_nodes`, under the path of this crate.
-pub use Rattle.postcard_de_nodes.specs.Reads.{IsReadError, Gives, ReadsFrom, Reads}
+-- The words of reading: the definitions of `postcard_de_nodes` on what a call does that reads, the kinds
+-- of nodes, and the source of a deserializer, under one path of this crate.
+pub use Rattle.postcard_de.specs.Deserializer.{source_of}
+pub use Rattle.postcard_de_nodes.specs.Reads.{IsReadError, Gives, ReadsFrom, Reads, ReadsShape}
+pub use Rattle.postcard_de_nodes.specs.Nodes.{Node, ReadsNode, ReadsOption, ReadsResult}
+pub use Rattle.postcard_de_nodes.specs.Nodes.{number_node, tree_node, copied_node, seen_node}
+pub use Rattle.postcard_de_nodes.specs.Nodes.{byte_node, signed_byte_node, num_node, int_node}
+pub use Rattle.postcard_de_nodes.specs.Nodes.{nonzero_byte_node, nonzero_signed_byte_node}
+pub use Rattle.postcard_de_nodes.specs.Nodes.{nonzero_num_node, nonzero_int_node, boolean_node}
+pub use Rattle.postcard_de_nodes.specs.Nodes.{char_node, lent_text_node, text_node}
+pub use Rattle.postcard_de_nodes.specs.Nodes.{short_text_node, lent_bytes_node, bytes_node}
+pub use Rattle.postcard_de_nodes.specs.Nodes.{byte_array_node, float_node}

@@ -2,9 +2,8 @@
 
 ghost use Rattle.std.specs.Prelude.{◌≡◌, ℕ, ◌-◌, ◌<◌, ◌≤◌, None, Some, Ok};
 ghost use Rattle.postcard_wire.specs.Spelling.{Spells};
-ghost use Rattle.postcard_de.specs.Reads.{Reads};
 ghost use Rattle.postcard_shape.specs.Options.{SomeIs};
-ghost use Rattle.postcard_de.specs.Deserializer.{source_of};
+ghost use Rattle.postcard_de.specs.Reads.{Reads, source_of};
 
 use crate::deserialize::Deserialize;
 use crate::deserializer::Deserializer;

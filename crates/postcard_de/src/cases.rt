@@ -2,8 +2,7 @@
 //! index.
 
 ghost use Rattle.postcard_wire.specs.Spelling.{Spells};
-ghost use Rattle.postcard_de.specs.Reads.{Reads};
-ghost use Rattle.postcard_de.specs.Deserializer.{source_of};
+ghost use Rattle.postcard_de.specs.Reads.{Reads, source_of};
 
 use crate::deserialize::Deserialize;
 use crate::deserializer::Deserializer;

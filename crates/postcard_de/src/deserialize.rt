@@ -1,8 +1,6 @@
 //! The trait of the types that are read.
 
-ghost use Rattle.postcard_wire.specs.Spelling.{Spells};
-ghost use Rattle.postcard_de.specs.Reads.{Reads};
-ghost use Rattle.postcard_de.specs.Deserializer.{source_of};
+ghost use Rattle.postcard_de.specs.Reads.{ReadsShape, source_of};
 
 use crate::deserializer::Deserializer;
 use postcard_de_flavors::Flavor;
@@ -21,6 +19,5 @@ pub trait Deserialize<'de>: Shaped + Sized + Drop {
     /// refuses what was read. Fails with `OutOfMemory` if an allocation fails, and only for a type
     /// that grows. Some of the bytes may have been taken then.
     fn deserialize<F: Flavor>(alloc: Global, d: &mut Deserializer<'de, F>) -> Result<Self>
-        ensures { Reads F.Flavor Spells Self.shape.reads Self.shape.value Self.shape.other
-            (source_of d.old) result (source_of d.new) };
+        ensures { ReadsShape F.Flavor Self.shape (source_of d.old) result (source_of d.new) };
 }

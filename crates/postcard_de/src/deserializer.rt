@@ -1,19 +1,9 @@
 //! The deserializer, with a call for each kind of node.
 
-ghost use Rattle.std.specs.Prelude.{◌≡◌, ◌<◌, ◌^◌, length, IfErr, false, string_bytes, ⊤};
-ghost use Rattle.std.specs.Int.{w8, cast_unsigned};
-ghost use Rattle.postcard_wire.specs.Tree.{Byte, Num, Int, Text};
-ghost use Rattle.postcard_wire.specs.Number.{SpellsNum};
-ghost use Rattle.postcard_wire.specs.Spelling.{Spells};
-ghost use Rattle.postcard_wire.specs.Reading.{IsByte, IsNum, IsInt, IsSeq, IsText};
-ghost use Rattle.postcard_de.specs.Reads.{Reads};
-ghost use Rattle.postcard_de.specs.Refuses.{Refuses, WantsByte, NoneBad, WantsDigit, BadNumber};
-ghost use Rattle.postcard_de.specs.Refuses.{WantsText, BadText};
-ghost use Rattle.postcard_de.specs.Unfit.{BadBytes};
-ghost use Rattle.postcard_shape.specs.Lists.{ListIs};
-ghost use Rattle.postcard_shape.specs.Leaves.{Same};
-ghost use Rattle.postcard_shape.specs.Shape.{never, memory};
-ghost use Rattle.postcard_de.specs.Deserializer.{source_of};
+ghost use Rattle.std.specs.Prelude.{◌≡◌, false};
+ghost use Rattle.postcard_de.specs.Reads.{ReadsNode, byte_node, bytes_node, int_node};
+ghost use Rattle.postcard_de.specs.Reads.{lent_bytes_node, lent_text_node, num_node, number_node};
+ghost use Rattle.postcard_de.specs.Reads.{signed_byte_node, text_node, source_of};
 
 mod elements;
 pub mod enums;
@@ -79,10 +69,7 @@ impl<'de, F: Flavor> Deserializer<'de, F> {
     ///
     /// Fails with `DeserializeUnexpectedEnd` if the source can't give a byte.
     pub fn deserialize_u8(&mut self) -> Result<u8>
-        ensures reads { Reads F.Flavor Spells IsByte (λ t v. t ≡ Byte v) never
-            (source_of self.old) result (source_of self.new) }
-        ensures refused { IfErr result (λ e. Refuses F.Flavor WantsByte NoneBad
-            (source_of self.old) e (source_of self.new)) }
+        ensures { ReadsNode F.Flavor byte_node (source_of self.old) result (source_of self.new) }
     {
         self.flavor.pop()
     }
@@ -93,10 +80,8 @@ impl<'de, F: Flavor> Deserializer<'de, F> {
     ///
     /// Fails with `DeserializeUnexpectedEnd` if the source can't give a byte.
     pub fn deserialize_i8(&mut self) -> Result<i8>
-        ensures reads { Reads F.Flavor Spells IsByte (λ t v. t ≡ Byte (cast_unsigned w8 v)) never
+        ensures { ReadsNode F.Flavor signed_byte_node
             (source_of self.old) result (source_of self.new) }
-        ensures refused { IfErr result (λ e. Refuses F.Flavor WantsByte NoneBad
-            (source_of self.old) e (source_of self.new)) }
     {
         let bits = self.flavor.pop()?;
         Ok(bits.cast_signed())
@@ -110,10 +95,8 @@ impl<'de, F: Flavor> Deserializer<'de, F> {
     /// `DeserializeBadVarint` if it has more than 3 bytes or its number more than 16 bits; 3 bytes
     /// are taken then.
     pub fn deserialize_u16(&mut self) -> Result<u16>
-        ensures reads { Reads F.Flavor Spells (IsNum 16) (λ t v. t ≡ Num 16 v) never
+        ensures { ReadsNode F.Flavor (num_node 16)
             (source_of self.old) result (source_of self.new) }
-        ensures refused { IfErr result (λ e. Refuses F.Flavor (WantsDigit 16) (BadNumber 16)
-            (source_of self.old) e (source_of self.new)) }
     {
         let n = numbers::number(&mut self.flavor, 16)?;
         Ok(n as u16)
@@ -127,10 +110,8 @@ impl<'de, F: Flavor> Deserializer<'de, F> {
     /// `DeserializeBadVarint` if it has more than 5 bytes or its number more than 32 bits; 5 bytes
     /// are taken then.
     pub fn deserialize_u32(&mut self) -> Result<u32>
-        ensures reads { Reads F.Flavor Spells (IsNum 32) (λ t v. t ≡ Num 32 v) never
+        ensures { ReadsNode F.Flavor (num_node 32)
             (source_of self.old) result (source_of self.new) }
-        ensures refused { IfErr result (λ e. Refuses F.Flavor (WantsDigit 32) (BadNumber 32)
-            (source_of self.old) e (source_of self.new)) }
     {
         let n = numbers::number(&mut self.flavor, 32)?;
         Ok(n as u32)
@@ -144,10 +125,8 @@ impl<'de, F: Flavor> Deserializer<'de, F> {
     /// `DeserializeBadVarint` if it has more than 10 bytes or its number more than 64 bits; 10
     /// bytes are taken then.
     pub fn deserialize_u64(&mut self) -> Result<u64>
-        ensures reads { Reads F.Flavor Spells (IsNum 64) (λ t v. t ≡ Num 64 v) never
+        ensures { ReadsNode F.Flavor (num_node 64)
             (source_of self.old) result (source_of self.new) }
-        ensures refused { IfErr result (λ e. Refuses F.Flavor (WantsDigit 64) (BadNumber 64)
-            (source_of self.old) e (source_of self.new)) }
     {
         let n = numbers::number(&mut self.flavor, 64)?;
         Ok(n as u64)
@@ -161,10 +140,8 @@ impl<'de, F: Flavor> Deserializer<'de, F> {
     /// `DeserializeBadVarint` if it has more than 19 bytes or its number more than 128 bits; 19
     /// bytes are taken then.
     pub fn deserialize_u128(&mut self) -> Result<u128>
-        ensures reads { Reads F.Flavor Spells (IsNum 128) (λ t v. t ≡ Num 128 v) never
+        ensures { ReadsNode F.Flavor (num_node 128)
             (source_of self.old) result (source_of self.new) }
-        ensures refused { IfErr result (λ e. Refuses F.Flavor (WantsDigit 128) (BadNumber 128)
-            (source_of self.old) e (source_of self.new)) }
     {
         let n = numbers::number(&mut self.flavor, 128)?;
         Ok(n)
@@ -176,10 +153,8 @@ impl<'de, F: Flavor> Deserializer<'de, F> {
     ///
     /// Fails as `deserialize_u16`.
     pub fn deserialize_i16(&mut self) -> Result<i16>
-        ensures reads { Reads F.Flavor Spells (IsInt 16) (λ t v. t ≡ Int 16 v) never
+        ensures { ReadsNode F.Flavor (int_node 16)
             (source_of self.old) result (source_of self.new) }
-        ensures refused { IfErr result (λ e. Refuses F.Flavor (WantsDigit 16) (BadNumber 16)
-            (source_of self.old) e (source_of self.new)) }
     {
         let folded = numbers::number(&mut self.flavor, 16)?;
         Ok(zigzag::de_zig_zag_i16(folded as u16))
@@ -191,10 +166,8 @@ impl<'de, F: Flavor> Deserializer<'de, F> {
     ///
     /// Fails as `deserialize_u32`.
     pub fn deserialize_i32(&mut self) -> Result<i32>
-        ensures reads { Reads F.Flavor Spells (IsInt 32) (λ t v. t ≡ Int 32 v) never
+        ensures { ReadsNode F.Flavor (int_node 32)
             (source_of self.old) result (source_of self.new) }
-        ensures refused { IfErr result (λ e. Refuses F.Flavor (WantsDigit 32) (BadNumber 32)
-            (source_of self.old) e (source_of self.new)) }
     {
         let folded = numbers::number(&mut self.flavor, 32)?;
         Ok(zigzag::de_zig_zag_i32(folded as u32))
@@ -206,10 +179,8 @@ impl<'de, F: Flavor> Deserializer<'de, F> {
     ///
     /// Fails as `deserialize_u64`.
     pub fn deserialize_i64(&mut self) -> Result<i64>
-        ensures reads { Reads F.Flavor Spells (IsInt 64) (λ t v. t ≡ Int 64 v) never
+        ensures { ReadsNode F.Flavor (int_node 64)
             (source_of self.old) result (source_of self.new) }
-        ensures refused { IfErr result (λ e. Refuses F.Flavor (WantsDigit 64) (BadNumber 64)
-            (source_of self.old) e (source_of self.new)) }
     {
         let folded = numbers::number(&mut self.flavor, 64)?;
         Ok(zigzag::de_zig_zag_i64(folded as u64))
@@ -221,10 +192,8 @@ impl<'de, F: Flavor> Deserializer<'de, F> {
     ///
     /// Fails as `deserialize_u128`.
     pub fn deserialize_i128(&mut self) -> Result<i128>
-        ensures reads { Reads F.Flavor Spells (IsInt 128) (λ t v. t ≡ Int 128 v) never
+        ensures { ReadsNode F.Flavor (int_node 128)
             (source_of self.old) result (source_of self.new) }
-        ensures refused { IfErr result (λ e. Refuses F.Flavor (WantsDigit 128) (BadNumber 128)
-            (source_of self.old) e (source_of self.new)) }
     {
         let folded = numbers::number(&mut self.flavor, 128)?;
         Ok(zigzag::de_zig_zag_i128(folded))
@@ -239,10 +208,8 @@ impl<'de, F: Flavor> Deserializer<'de, F> {
     /// the bytes end before the text does, and with `DeserializeBadUtf8` if they aren't UTF-8; they
     /// are taken then.
     pub fn deserialize_str(&mut self) -> Result<&'de str>
-        ensures reads { Reads F.Flavor Spells IsText (λ t v. t ≡ Text v.now) never
+        ensures { ReadsNode F.Flavor lent_text_node
             (source_of self.old) result (source_of self.new) }
-        ensures refused { IfErr result (λ e. Refuses F.Flavor WantsText (BadText ⊥)
-            (source_of self.old) e (source_of self.new)) }
     {
         texts::text(&mut self.flavor)
     }
@@ -255,10 +222,7 @@ impl<'de, F: Flavor> Deserializer<'de, F> {
     /// Fails as `deserialize_str`, and with `OutOfMemory` if the allocation fails; the text is
     /// taken then.
     pub fn deserialize_string(&mut self, alloc: Global) -> Result<String>
-        ensures reads { Reads F.Flavor Spells IsText (λ t v. t ≡ Text (string_bytes v)) memory
-            (source_of self.old) result (source_of self.new) }
-        ensures refused { IfErr result (λ e. Refuses F.Flavor WantsText (BadText ⊤)
-            (source_of self.old) e (source_of self.new)) }
+        ensures { ReadsNode F.Flavor text_node (source_of self.old) result (source_of self.new) }
     {
         texts::text_copy(alloc, &mut self.flavor)
     }
@@ -270,11 +234,8 @@ impl<'de, F: Flavor> Deserializer<'de, F> {
     /// Fails as `deserialize_u64` if the length can't be read, and with `DeserializeUnexpectedEnd`
     /// if the source can't give that many bytes.
     pub fn deserialize_bytes(&mut self) -> Result<&'de [u8]>
-        ensures reads { Reads F.Flavor Spells (IsSeq IsByte)
-            (λ t v. ListIs (λ s b. s ≡ Byte b) t v.now) never
+        ensures { ReadsNode F.Flavor lent_bytes_node
             (source_of self.old) result (source_of self.new) }
-        ensures refused { IfErr result (λ e. Refuses F.Flavor WantsText (BadNumber 64)
-            (source_of self.old) e (source_of self.new)) }
     {
         bytes::bytes(&mut self.flavor)
     }
@@ -287,11 +248,7 @@ impl<'de, F: Flavor> Deserializer<'de, F> {
     /// Fails as `deserialize_bytes`, and with `OutOfMemory` if the allocation fails; the bytes are
     /// taken then.
     pub fn deserialize_byte_buf(&mut self, alloc: Global) -> Result<Vec<u8>>
-        ensures reads { Reads F.Flavor Spells (IsSeq IsByte)
-            (λ t v. ListIs (λ s b. s ≡ Byte b) t v.items) memory
-            (source_of self.old) result (source_of self.new) }
-        ensures refused { IfErr result (λ e. Refuses F.Flavor WantsText BadBytes
-            (source_of self.old) e (source_of self.new)) }
+        ensures { ReadsNode F.Flavor bytes_node (source_of self.old) result (source_of self.new) }
     {
         bytes::bytes_copy(alloc, &mut self.flavor)
     }
@@ -303,10 +260,8 @@ impl<'de, F: Flavor> Deserializer<'de, F> {
     ///
     /// Fails as `deserialize_u64`.
     pub fn deserialize_seq(&mut self) -> Result<SeqAccess>
-        ensures reads { Reads F.Flavor (SpellsNum 64) (λ n. n < 2 ^ 64) Same never
+        ensures { ReadsNode F.Flavor (number_node 64)
             (source_of self.old) result (source_of self.new) }
-        ensures refused { IfErr result (λ e. Refuses F.Flavor (WantsDigit 64) (BadNumber 64)
-            (source_of self.old) e (source_of self.new)) }
     {
         let count = numbers::count(&mut self.flavor)?;
         Ok(SeqAccess::new(count))

@@ -1,8 +1,6 @@
 //! How the elements of a container are read: by `Deserialize` or by `DeserializeOwned`.
 
-ghost use Rattle.postcard_wire.specs.Spelling.{Spells};
-ghost use Rattle.postcard_de.specs.Reads.{Reads};
-ghost use Rattle.postcard_de.specs.Deserializer.{source_of};
+ghost use Rattle.postcard_de.specs.Reads.{ReadsShape, source_of};
 
 use crate::deserialize::Deserialize;
 use crate::deserializer::Deserializer;
@@ -20,8 +18,7 @@ pub(crate) trait Element<'de, T: Shaped + Drop> {
     ///
     /// Fails as [`Deserialize::deserialize`].
     fn element<F: Flavor>(alloc: Global, d: &mut Deserializer<'de, F>) -> Result<T>
-        ensures { Reads F.Flavor Spells T.shape.reads T.shape.value T.shape.other
-            (source_of d.old) result (source_of d.new) };
+        ensures { ReadsShape F.Flavor T.shape (source_of d.old) result (source_of d.new) };
 }
 
 /// Reads a `T` by [`Deserialize`].

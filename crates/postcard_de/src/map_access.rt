@@ -2,9 +2,8 @@
 
 ghost use Rattle.std.specs.Prelude.{◌≡◌, ℕ, ◌-◌, ◌<◌, None, Some, Ok};
 ghost use Rattle.postcard_wire.specs.Spelling.{Spells};
-ghost use Rattle.postcard_de.specs.Reads.{Reads};
 ghost use Rattle.postcard_shape.specs.Options.{SomeIs};
-ghost use Rattle.postcard_de.specs.Deserializer.{source_of};
+ghost use Rattle.postcard_de.specs.Reads.{Reads, ReadsShape, source_of};
 
 use crate::access::SeqAccess;
 use crate::deserialize::Deserialize;
@@ -69,8 +68,7 @@ impl MapAccess {
         d: &mut Deserializer<'de, F>,
     ) -> Result<V>
         ensures count { self.new ≡ self.old }
-        ensures value { Reads F.Flavor Spells V.shape.reads V.shape.value V.shape.other
-            (source_of d.old) result (source_of d.new) }
+        ensures value { ReadsShape F.Flavor V.shape (source_of d.old) result (source_of d.new) }
     {
         V::deserialize(alloc, d)
     }

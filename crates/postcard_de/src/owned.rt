@@ -1,8 +1,6 @@
 //! The trait of the types that are read and borrow nothing, and how to use one as a `Deserialize`.
 
-ghost use Rattle.postcard_wire.specs.Spelling.{Spells};
-ghost use Rattle.postcard_de.specs.Reads.{Reads};
-ghost use Rattle.postcard_de.specs.Deserializer.{source_of};
+ghost use Rattle.postcard_de.specs.Reads.{ReadsShape, source_of};
 
 use crate::deserialize::Deserialize;
 use crate::deserializer::Deserializer;
@@ -22,8 +20,7 @@ pub trait DeserializeOwned: Shaped + Sized + Drop {
         alloc: Global,
         d: &mut Deserializer<'de, F>,
     ) -> Result<Self>
-        ensures { Reads F.Flavor Spells Self.shape.reads Self.shape.value Self.shape.other
-            (source_of d.old) result (source_of d.new) };
+        ensures { ReadsShape F.Flavor Self.shape (source_of d.old) result (source_of d.new) };
 }
 
 /// A value that borrows nothing. Calls for a `Deserialize` read an `Owned<T>` by

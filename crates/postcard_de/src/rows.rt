@@ -1,8 +1,7 @@
 //! Parts in a row, read from left to right: one proof for tuples of any length.
 
 ghost use Rattle.postcard_wire.specs.Spelling.{SpellsAll};
-ghost use Rattle.postcard_de.specs.Reads.{Reads};
-ghost use Rattle.postcard_de.specs.Deserializer.{source_of};
+ghost use Rattle.postcard_de.specs.Reads.{Reads, source_of};
 
 use crate::deserialize::Deserialize;
 use crate::deserializer::Deserializer;

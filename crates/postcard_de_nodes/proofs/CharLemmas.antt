@@ -20,7 +20,7 @@ use Rattle.postcard_de_nodes.specs.Refuses.{RefusesFrom, WantsDigit, BadNumber}
 use Rattle.postcard_de_nodes.specs.Unfit.{WantsChar, BadChar}
 use Rattle.postcard_shape.specs.Leaves.{Same}
 use Rattle.postcard_de_nodes.specs.TakeLemmas.{both_taken}
-use Rattle.postcard_de_nodes.specs.ReadLemmas.{Excludes, found, refused, refusal, widened}
+use Rattle.postcard_de_nodes.specs.ReadLemmas.{Excludes, found, widened}
 use Rattle.postcard_de_nodes.specs.ReadLemmas.{ends_after_front}
 use Rattle.postcard_de_nodes.specs.NumberLemmas.{Below, number_below, number_spelled}
 use Rattle.postcard_de_nodes.proofs.TextLemmas.{facing_length}
@@ -72,17 +72,11 @@ char_named p e (inl bad) = subst (IsReadError never) (sym bad.0) tt
 char_named p e (inr bad) = subst (IsReadError never) (sym bad.0) tt
 
 -- The reasons to fail to read a character exclude a character at the front.
-char_excludes : Excludes never WantsChar BadChar Spells IsChar
+pub char_excludes : Excludes never WantsChar BadChar Spells IsChar
 char_excludes = record { within = char_within; none = char_none; named = char_named }
 
 module _ {S : Type 0} {left : S → Left} {able : S → ℕ → Type 0}
     {may_leave : S → S → Type 0} (laws : Laws left able may_leave) where
-  -- A call with a reason to fail to read a character may return its error.
-  pub char_refused : {V : Type 0} {value : Tree → V → Type 0} {old new : S} {e : Error} →
-      RefusesFrom WantsChar BadChar left able old e new → may_leave old new →
-      ReadsFrom Spells IsChar value never left able may_leave old (refusal V e) new
-  char_refused why l = refused laws char_excludes why l
-
   -- If reading the length fails, reading the character fails with that error.
   pub char_length_refused : {old new : S} {e : Error} →
       RefusesFrom (WantsDigit 64) (BadNumber 64) left able old e new →

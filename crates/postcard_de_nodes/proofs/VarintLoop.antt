@@ -14,7 +14,7 @@ use Rattle.postcard_de_nodes.specs.Reads.{IsReadError, ReadsFrom}
 use Rattle.postcard_de_nodes.specs.Refuses.{RefusesFrom, WantsDigit, BadNumber}
 use Rattle.postcard_shape.specs.Leaves.{Same}
 use Rattle.postcard_de_nodes.specs.TakeLemmas.{nothing_taken, both_taken}
-use Rattle.postcard_de_nodes.specs.ReadLemmas.{Delimits, Excludes, found, refused, refusal}
+use Rattle.postcard_de_nodes.specs.ReadLemmas.{Delimits, Excludes, found}
 use Rattle.postcard_de_nodes.specs.NumberLemmas.{Below}
 
 -- The spellings of numbers of w bits are prefix-free.
@@ -77,10 +77,3 @@ module _ {S : Type 0} {left : S → Left} {able : S → ℕ → Type 0}
       new
   number_bad {b = b} so t bad =
       inr (record { front = so.front ++ b ∷ []; taken = both_taken so.taken t; why = bad })
-
-  -- A call with a reason to fail to read a number may return its error.
-  pub number_refused : {w : ℕ} {old new : S} {e : Error} →
-      RefusesFrom (WantsDigit w) (BadNumber w) left able old e new → may_leave old new →
-      {V : Type 0} {value : ℕ → V → Type 0} → ReadsFrom (SpellsNum w) (Below w) value never left able
-      may_leave old (refusal V e) new
-  number_refused {w} why l = refused laws (number_excludes w) why l

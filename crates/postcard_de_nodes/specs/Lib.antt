@@ -9,3 +9,5 @@ pub mod CompoundLemmas
 pub mod SeenLemmas
 pub mod CountLemmas
 pub mod ArrayLemmas
+pub mod Nodes
+pub mod NodeLemmas

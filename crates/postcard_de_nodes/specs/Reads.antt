@@ -12,8 +12,9 @@ use Rattle.postcard_wire.specs.declared.error.Error.TheVariants.{DeserializeBadE
 use Rattle.postcard_wire.specs.declared.error.Error.TheVariants.{DeserializeBadCrc}
 use Rattle.postcard_wire.specs.declared.error.Error.TheVariants.{SerdeDeCustom, OutOfMemory}
 use Rattle.postcard_wire.specs.Tree.{Tree}
-use Rattle.postcard_wire.specs.Spelling.{SpellsAll}
+use Rattle.postcard_wire.specs.Spelling.{Spells, SpellsAll}
 use Rattle.postcard_shape.specs.Lists.{EachIs, AreRead}
+use Rattle.postcard_shape.specs.Shape.{Shape}
 use Rattle.postcard_de_flavors.specs.Source.{Left, CanTake, Takes}
 use Rattle.postcard_de_flavors.specs.declared.flavor.Flavor.{Ghosts}
 
@@ -67,6 +68,11 @@ abbrev pub Reads : {S M O X V : Type 0} → Ghosts S M O → (X → List ℕ →
     (X → V → Type 0) → (Error → Type 0) → S → Result V Error → S → Type 0
 Reads F spelled reads value other old result new =
     ReadsFrom spelled reads value other F.left F.able F.may_leave old result new
+
+-- A call that reads a value of that shape.
+abbrev pub ReadsShape : {S M O V : Type 0} → Ghosts S M O → Shape V → S → Result V Error → S → Type 0
+ReadsShape F shape old result new =
+    Reads F Spells shape.reads shape.value shape.other old result new
 
 -- A call that read some elements of a list, at least one and at most `most`, and appended them to
 -- the list `old_items`, which is now `new_items`.

@@ -1,14 +1,7 @@
 //! Byte strings: a length and the bytes, lent or copied.
 
-ghost use Rattle.std.specs.Prelude.{◌≡◌, ℕ, ◌<◌, IfErr, slice_index};
-ghost use Rattle.postcard_wire.specs.Tree.{Byte};
-ghost use Rattle.postcard_wire.specs.Spelling.{Spells};
-ghost use Rattle.postcard_wire.specs.Reading.{IsByte, IsSeq};
-ghost use Rattle.postcard_shape.specs.Lists.{ListIs};
-ghost use Rattle.postcard_shape.specs.Shape.{never, memory};
-ghost use Rattle.postcard_de_nodes.specs.Reads.{Reads};
-ghost use Rattle.postcard_de_nodes.specs.Refuses.{Refuses, BadNumber, WantsText};
-ghost use Rattle.postcard_de_nodes.specs.Unfit.{BadBytes};
+ghost use Rattle.std.specs.Prelude.{◌≡◌, ℕ, ◌<◌, slice_index};
+ghost use Rattle.postcard_de_nodes.specs.Nodes.{ReadsNode, bytes_node, lent_bytes_node};
 
 use crate::numbers;
 use postcard_de_flavors::Flavor;
@@ -33,11 +26,7 @@ pub(crate) fn in_range(bytes: &[u8]) -> &[u8]
 pub fn bytes<'de, F: Flavor>(flavor: &mut F) -> Result<&'de [u8]>
 where
     F: 'de,
-    ensures reads { Reads F.Flavor Spells (IsSeq IsByte)
-        (λ t v. ListIs (λ s b. s ≡ Byte b) t v.now) never
-        flavor.old result flavor.new }
-    ensures refused { IfErr result (λ e. Refuses F.Flavor WantsText (BadNumber 64)
-        flavor.old e flavor.new) }
+    ensures { ReadsNode F.Flavor lent_bytes_node flavor.old result flavor.new }
 {
     let count = numbers::count(flavor)?;
     let lent = flavor.try_take_n(count)?;
@@ -53,11 +42,7 @@ where
 /// Fails as [`bytes`], and with `OutOfMemory` if the allocation fails; the length and the bytes are
 /// taken then.
 pub fn bytes_copy<F: Flavor>(alloc: Global, flavor: &mut F) -> Result<Vec<u8>>
-    ensures reads { Reads F.Flavor Spells (IsSeq IsByte)
-        (λ t v. ListIs (λ s b. s ≡ Byte b) t v.items) memory
-        flavor.old result flavor.new }
-    ensures refused { IfErr result (λ e. Refuses F.Flavor WantsText BadBytes
-        flavor.old e flavor.new) }
+    ensures { ReadsNode F.Flavor bytes_node flavor.old result flavor.new }
 {
     let count = numbers::count(flavor)?;
     let lent = flavor.try_take_n_temp(count)?;

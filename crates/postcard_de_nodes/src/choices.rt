@@ -1,13 +1,6 @@
 //! Booleans.
 
-ghost use Rattle.std.specs.Prelude.{◌≡◌, IfErr};
-ghost use Rattle.postcard_wire.specs.Tree.{Boolean};
-ghost use Rattle.postcard_wire.specs.Spelling.{Spells};
-ghost use Rattle.postcard_wire.specs.Reading.{IsBoolean};
-ghost use Rattle.postcard_shape.specs.Shape.{never};
-ghost use Rattle.postcard_de_nodes.specs.Reads.{Reads};
-ghost use Rattle.postcard_de_nodes.specs.Refuses.{Refuses, WantsByte};
-ghost use Rattle.postcard_de_nodes.specs.Unfit.{BadBool};
+ghost use Rattle.postcard_de_nodes.specs.Nodes.{ReadsNode, boolean_node};
 
 use postcard_de_flavors::Flavor;
 use postcard_wire::{Error, Result};
@@ -19,10 +12,7 @@ use postcard_wire::{Error, Result};
 /// Fails with `DeserializeUnexpectedEnd` if the source can't give a byte, and with
 /// `DeserializeBadBool` for any other byte, which is taken.
 pub fn boolean<F: Flavor>(flavor: &mut F) -> Result<bool>
-    ensures reads { Reads F.Flavor Spells IsBoolean (λ t v. t ≡ Boolean v) never
-        flavor.old result flavor.new }
-    ensures refused { IfErr result (λ e. Refuses F.Flavor WantsByte BadBool
-        flavor.old e flavor.new) }
+    ensures { ReadsNode F.Flavor boolean_node flavor.old result flavor.new }
 {
     match flavor.pop()? {
         0 => Ok(false),

@@ -1,15 +1,7 @@
 //! Floating-point numbers: arrays of the bytes of their bits, the lowest first.
 
-ghost use Rattle.std.specs.Prelude.{◌≡◌, IfErr};
 ghost use Rattle.std.specs.Float.{binary32, binary64};
-ghost use Rattle.postcard_wire.specs.Tree.{Byte};
-ghost use Rattle.postcard_wire.specs.Spelling.{Spells};
-ghost use Rattle.postcard_wire.specs.Reading.{IsArray, IsByte, IsGroup};
-ghost use Rattle.postcard_shape.specs.Floats.{IsFloat};
-ghost use Rattle.postcard_shape.specs.Lists.{EachIs};
-ghost use Rattle.postcard_shape.specs.Shape.{never};
-ghost use Rattle.postcard_de_nodes.specs.Reads.{Reads};
-ghost use Rattle.postcard_de_nodes.specs.Refuses.{Refuses, NoneBad, WantsBytes};
+ghost use Rattle.postcard_de_nodes.specs.Nodes.{ReadsNode, byte_array_node, float_node};
 
 use crate::bytes::in_range;
 use postcard_de_flavors::Flavor;
@@ -22,11 +14,7 @@ use std::num::{f32_from_bits_with_nan, f64_from_bits_with_nan};
 ///
 /// Fails with `DeserializeUnexpectedEnd` if the source can't give that many bytes.
 pub fn byte_array<F: Flavor, const N: usize>(flavor: &mut F) -> Result<[u8; N]>
-    ensures reads { Reads F.Flavor Spells (IsArray N IsByte)
-        (λ t v. IsGroup (λ ts. EachIs (λ s b. s ≡ Byte b) ts v) t) never
-        flavor.old result flavor.new }
-    ensures refused { IfErr result (λ e. Refuses F.Flavor (WantsBytes N) NoneBad
-        flavor.old e flavor.new) }
+    ensures { ReadsNode F.Flavor (byte_array_node N) flavor.old result flavor.new }
 {
     let lent = flavor.try_take_n_temp(N)?;
     let front = in_range(lent);
@@ -42,10 +30,7 @@ pub fn byte_array<F: Flavor, const N: usize>(flavor: &mut F) -> Result<[u8; N]>
 ///
 /// Fails with `DeserializeUnexpectedEnd` if the source can't give 4 bytes.
 pub fn float_32<F: Flavor>(flavor: &mut F) -> Result<f32>
-    ensures reads { Reads F.Flavor Spells (IsArray 4 IsByte) (IsFloat binary32) never
-        flavor.old result flavor.new }
-    ensures refused { IfErr result (λ e. Refuses F.Flavor (WantsBytes 4) NoneBad
-        flavor.old e flavor.new) }
+    ensures { ReadsNode F.Flavor (float_node binary32) flavor.old result flavor.new }
 {
     let bytes = byte_array::<F, 4>(flavor)?;
     Ok(f32_from_bits_with_nan(u32::from_le_bytes(bytes)))
@@ -58,10 +43,7 @@ pub fn float_32<F: Flavor>(flavor: &mut F) -> Result<f32>
 ///
 /// Fails with `DeserializeUnexpectedEnd` if the source can't give 8 bytes.
 pub fn float_64<F: Flavor>(flavor: &mut F) -> Result<f64>
-    ensures reads { Reads F.Flavor Spells (IsArray 8 IsByte) (IsFloat binary64) never
-        flavor.old result flavor.new }
-    ensures refused { IfErr result (λ e. Refuses F.Flavor (WantsBytes 8) NoneBad
-        flavor.old e flavor.new) }
+    ensures { ReadsNode F.Flavor (float_node binary64) flavor.old result flavor.new }
 {
     let bytes = byte_array::<F, 8>(flavor)?;
     Ok(f64_from_bits_with_nan(u64::from_le_bytes(bytes)))

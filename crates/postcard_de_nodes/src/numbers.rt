@@ -1,12 +1,7 @@
 //! Varints: numbers of a given width, and counts.
 
-ghost use Rattle.std.specs.Prelude.{◌<◌, ◌^◌, IfErr};
 ghost use Rattle.postcard_wire.specs.Tree.{IsWidth};
-ghost use Rattle.postcard_wire.specs.Number.{SpellsNum};
-ghost use Rattle.postcard_shape.specs.Leaves.{Same};
-ghost use Rattle.postcard_shape.specs.Shape.{never};
-ghost use Rattle.postcard_de_nodes.specs.Reads.{Reads};
-ghost use Rattle.postcard_de_nodes.specs.Refuses.{Refuses, WantsDigit, BadNumber};
+ghost use Rattle.postcard_de_nodes.specs.Nodes.{ReadsNode, number_node};
 
 use postcard_de_flavors::Flavor;
 use postcard_wire::digits::Digits;
@@ -23,10 +18,7 @@ use postcard_wire::{Error, Result};
 #[inline(always)]
 pub fn number<F: Flavor>(flavor: &mut F, bits: u32) -> Result<u128>
     requires { IsWidth bits }
-    ensures reads { Reads F.Flavor (SpellsNum bits) (λ n. n < 2 ^ bits) Same never
-        flavor.old result flavor.new }
-    ensures refused { IfErr result (λ e. Refuses F.Flavor (WantsDigit bits) (BadNumber bits)
-        flavor.old e flavor.new) }
+    ensures { ReadsNode F.Flavor (number_node bits) flavor.old result flavor.new }
 {
     let mut digits = Digits::new();
     // A counted loop, so that the compiler unrolls it and each place is a constant. At the last
@@ -49,10 +41,7 @@ pub fn number<F: Flavor>(flavor: &mut F, bits: u32) -> Result<u128>
 /// Fails as [`number`] of 64 bits.
 #[inline(always)]
 pub fn count<F: Flavor>(flavor: &mut F) -> Result<usize>
-    ensures reads { Reads F.Flavor (SpellsNum 64) (λ n. n < 2 ^ 64) Same never
-        flavor.old result flavor.new }
-    ensures refused { IfErr result (λ e. Refuses F.Flavor (WantsDigit 64) (BadNumber 64)
-        flavor.old e flavor.new) }
+    ensures { ReadsNode F.Flavor (number_node 64) flavor.old result flavor.new }
 {
     let count = number(flavor, 64)?;
     Ok(count as usize)

@@ -1,14 +1,7 @@
 //! Texts, lent or copied, and characters, which are written as texts.
 
-ghost use Rattle.std.specs.Prelude.{◌≡◌, IfErr, string_bytes, ⊤};
-ghost use Rattle.postcard_wire.specs.Tree.{Char, Text};
-ghost use Rattle.postcard_wire.specs.Spelling.{Spells};
-ghost use Rattle.postcard_wire.specs.Reading.{IsChar, IsText};
-ghost use Rattle.postcard_shape.specs.Leaves.{IsShortText};
-ghost use Rattle.postcard_shape.specs.Shape.{never, memory};
-ghost use Rattle.postcard_de_nodes.specs.Reads.{Reads};
-ghost use Rattle.postcard_de_nodes.specs.Refuses.{Refuses, WantsText, BadText};
-ghost use Rattle.postcard_de_nodes.specs.Unfit.{WantsChar, BadChar, BadShortText};
+ghost use Rattle.postcard_de_nodes.specs.Nodes.{ReadsNode, char_node, lent_text_node};
+ghost use Rattle.postcard_de_nodes.specs.Nodes.{seen_node, short_text_node, text_node};
 
 use crate::numbers;
 use arrayvec::ArrayString;
@@ -31,10 +24,7 @@ const LONGEST_CHAR: usize = 4;
 pub fn text<'de, F: Flavor>(flavor: &mut F) -> Result<&'de str>
 where
     F: 'de,
-    ensures reads { Reads F.Flavor Spells IsText (λ t v. t ≡ Text v.now) never
-        flavor.old result flavor.new }
-    ensures refused { IfErr result (λ e. Refuses F.Flavor WantsText (BadText ⊥)
-        flavor.old e flavor.new) }
+    ensures { ReadsNode F.Flavor lent_text_node flavor.old result flavor.new }
 {
     let count = numbers::count(flavor)?;
     let bytes = flavor.try_take_n(count)?;
@@ -51,10 +41,7 @@ where
 ///
 /// Fails as [`text`], and with `OutOfMemory` if the allocation fails; the text is taken then.
 pub fn text_copy<F: Flavor>(alloc: Global, flavor: &mut F) -> Result<String>
-    ensures reads { Reads F.Flavor Spells IsText (λ t v. t ≡ Text (string_bytes v)) memory
-        flavor.old result flavor.new }
-    ensures refused { IfErr result (λ e. Refuses F.Flavor WantsText (BadText ⊤)
-        flavor.old e flavor.new) }
+    ensures { ReadsNode F.Flavor text_node flavor.old result flavor.new }
 {
     let count = numbers::count(flavor)?;
     let lent = flavor.try_take_n_temp(count)?;
@@ -74,10 +61,8 @@ pub fn text_copy<F: Flavor>(alloc: Global, flavor: &mut F) -> Result<String>
 /// Fails as [`text`], and with `SerdeDeCustom` if the text has more than `CAP` bytes and they are
 /// UTF-8; the text is taken then.
 pub fn short_text<F: Flavor, const CAP: usize>(flavor: &mut F) -> Result<ArrayString<CAP>>
-    ensures reads { Reads F.Flavor Spells (IsShortText CAP) (λ t v. t ≡ Text v.bytes) never
+    ensures { ReadsNode F.Flavor (seen_node (λ v. v.bytes) (short_text_node CAP))
         flavor.old result flavor.new }
-    ensures refused { IfErr result (λ e. Refuses F.Flavor WantsText (BadShortText CAP)
-        flavor.old e flavor.new) }
 {
     let count = numbers::count(flavor)?;
     let bytes = flavor.try_take_n_temp(count)?;
@@ -100,10 +85,7 @@ pub fn short_text<F: Flavor, const CAP: usize>(flavor: &mut F) -> Result<ArraySt
 /// can't give that many bytes, and with `DeserializeBadChar` if the bytes aren't UTF-8 or the
 /// length is 0; they are taken then.
 pub fn character<F: Flavor>(flavor: &mut F) -> Result<char>
-    ensures reads { Reads F.Flavor Spells IsChar (λ t v. t ≡ Char v) never
-        flavor.old result flavor.new }
-    ensures refused { IfErr result (λ e. Refuses F.Flavor WantsChar BadChar
-        flavor.old e flavor.new) }
+    ensures { ReadsNode F.Flavor char_node flavor.old result flavor.new }
 {
     let length = numbers::count(flavor)?;
     if length > LONGEST_CHAR {

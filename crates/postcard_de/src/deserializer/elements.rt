@@ -1,13 +1,7 @@
 //! The calls that read elements in a row, each by one loop.
 
 ghost use Rattle.std.specs.Prelude.{◌≡◌, [], ◌∷◌, ◌++◌, IfErr, OnOk};
-ghost use Rattle.postcard_wire.specs.Spelling.{Spells};
-ghost use Rattle.postcard_wire.specs.Reading.{IsGroup, IsSeq, IsArray};
-ghost use Rattle.postcard_de.specs.Reads.{Reads};
-ghost use Rattle.postcard_de.specs.Deserializer.{source_of};
-ghost use Rattle.postcard_shape.specs.Lists.{EachIs, ListIs, IsFewSeq};
-ghost use Rattle.postcard_shape.specs.Maps.{IsEntry, MapIs, SetIs};
-ghost use Rattle.postcard_shape.specs.Shape.{or_memory, either};
+ghost use Rattle.postcard_de.specs.Reads.{ReadsShape, source_of};
 
 use crate::deserializer::Deserializer;
 use crate::element::Element;
@@ -61,8 +55,7 @@ impl<'de, F: Flavor> Deserializer<'de, F> {
         &mut self,
         alloc: Global,
     ) -> Result<Vec<T>>
-        ensures { Reads F.Flavor Spells (IsSeq T.shape.reads)
-            (λ t v. ListIs T.shape.value t v.items) (or_memory T.shape.other)
+        ensures { ReadsShape F.Flavor ⟦<Vec<T> as Shaped>⟧.shape
             (source_of self.old) result (source_of self.new) }
     {
         let count = numbers::count(&mut self.flavor)?;
@@ -93,8 +86,7 @@ impl<'de, F: Flavor> Deserializer<'de, F> {
         &mut self,
         alloc: Global,
     ) -> Result<ArrayVec<T, CAP>>
-        ensures { Reads F.Flavor Spells (IsFewSeq CAP T.shape.reads)
-            (λ t v. ListIs T.shape.value t v.items) T.shape.other
+        ensures { ReadsShape F.Flavor ⟦<ArrayVec<T, CAP> as Shaped>⟧.shape
             (source_of self.old) result (source_of self.new) }
     {
         let count = numbers::count(&mut self.flavor)?;
@@ -117,8 +109,7 @@ impl<'de, F: Flavor> Deserializer<'de, F> {
         &mut self,
         alloc: Global,
     ) -> Result<[T; N]>
-        ensures { Reads F.Flavor Spells (IsArray N T.shape.reads)
-            (λ t v. IsGroup (λ ts. EachIs T.shape.value ts v) t) T.shape.other
+        ensures { ReadsShape F.Flavor ⟦<[T; N] as Shaped>⟧.shape
             (source_of self.old) result (source_of self.new) }
     {
         let mut items = [T::default(); N];
@@ -140,9 +131,7 @@ impl<'de, F: Flavor> Deserializer<'de, F> {
         V: Shaped + Drop,
         E: Element<'de, K> + Element<'de, V>,
     >(&mut self, alloc: Global) -> Result<BTreeMap<K, V>>
-        ensures { Reads F.Flavor Spells (IsSeq (IsEntry K.shape.reads V.shape.reads))
-            (λ t m. MapIs K.cmp K.shape.value V.shape.value t m.entries)
-            (or_memory (either K.shape.other V.shape.other))
+        ensures { ReadsShape F.Flavor ⟦<BTreeMap<K, V> as Shaped>⟧.shape
             (source_of self.old) result (source_of self.new) }
     {
         let count = numbers::count(&mut self.flavor)?;
@@ -168,8 +157,7 @@ impl<'de, F: Flavor> Deserializer<'de, F> {
         &mut self,
         alloc: Global,
     ) -> Result<BTreeSet<K>>
-        ensures { Reads F.Flavor Spells (IsSeq K.shape.reads)
-            (λ t s. SetIs K.cmp K.shape.value t s.keys) (or_memory K.shape.other)
+        ensures { ReadsShape F.Flavor ⟦<BTreeSet<K> as Shaped>⟧.shape
             (source_of self.old) result (source_of self.new) }
     {
         let count = numbers::count(&mut self.flavor)?;

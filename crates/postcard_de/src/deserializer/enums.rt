@@ -1,13 +1,7 @@
 //! The calls for enums: the index of a variant, and the content of each kind of variant.
 
-ghost use Rattle.std.specs.Prelude.{◌≡◌, ◌<◌, ◌^◌, length, IfErr, Ok};
-ghost use Rattle.postcard_wire.specs.Number.{SpellsNum};
-ghost use Rattle.postcard_wire.specs.Spelling.{Spells};
-ghost use Rattle.postcard_de.specs.Reads.{Reads};
-ghost use Rattle.postcard_de.specs.Refuses.{Refuses, WantsDigit, BadNumber};
-ghost use Rattle.postcard_shape.specs.Leaves.{Same};
-ghost use Rattle.postcard_shape.specs.Shape.{never};
-ghost use Rattle.postcard_de.specs.Deserializer.{source_of};
+ghost use Rattle.std.specs.Prelude.{◌≡◌, length, Ok};
+ghost use Rattle.postcard_de.specs.Reads.{ReadsShape, ReadsNode, number_node, source_of};
 
 use crate::access::SeqAccess;
 use crate::deserialize::Deserialize;
@@ -27,10 +21,8 @@ impl<'de, F: Flavor> Deserializer<'de, F> {
     /// `DeserializeBadVarint` if it has more than 5 bytes or 32 bits; 5 bytes are taken then. The
     /// caller has to refuse an index that has no variant.
     pub fn deserialize_enum(&mut self, _name: &str, _variants: &[&str]) -> Result<u32>
-        ensures reads { Reads F.Flavor (SpellsNum 32) (λ n. n < 2 ^ 32) Same never
+        ensures { ReadsNode F.Flavor (number_node 32)
             (source_of self.old) result (source_of self.new) }
-        ensures refused { IfErr result (λ e. Refuses F.Flavor (WantsDigit 32) (BadNumber 32)
-            (source_of self.old) e (source_of self.new)) }
     {
         let n = numbers::number(&mut self.flavor, 32)?;
         Ok(n as u32)
@@ -50,8 +42,7 @@ impl<'de, F: Flavor> Deserializer<'de, F> {
     ///
     /// Fails as reading the content does.
     pub fn newtype_variant<T: Deserialize<'de>>(&mut self, alloc: Global) -> Result<T>
-        ensures { Reads F.Flavor Spells T.shape.reads T.shape.value T.shape.other
-            (source_of self.old) result (source_of self.new) }
+        ensures { ReadsShape F.Flavor T.shape (source_of self.old) result (source_of self.new) }
     {
         T::deserialize(alloc, self)
     }

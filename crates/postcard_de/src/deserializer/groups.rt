@@ -1,12 +1,7 @@
 //! The calls for tuples, structs and maps.
 
-ghost use Rattle.std.specs.Prelude.{◌≡◌, ◌<◌, ◌^◌, length, IfErr, Ok};
-ghost use Rattle.postcard_wire.specs.Number.{SpellsNum};
-ghost use Rattle.postcard_de.specs.Reads.{Reads};
-ghost use Rattle.postcard_de.specs.Refuses.{Refuses, WantsDigit, BadNumber};
-ghost use Rattle.postcard_shape.specs.Leaves.{Same};
-ghost use Rattle.postcard_shape.specs.Shape.{never};
-ghost use Rattle.postcard_de.specs.Deserializer.{source_of};
+ghost use Rattle.std.specs.Prelude.{◌≡◌, length, Ok};
+ghost use Rattle.postcard_de.specs.Reads.{ReadsNode, number_node, source_of};
 
 use crate::access::SeqAccess;
 use crate::deserializer::Deserializer;
@@ -53,10 +48,8 @@ impl<'de, F: Flavor> Deserializer<'de, F> {
     ///
     /// Fails as `deserialize_u64`.
     pub fn deserialize_map(&mut self) -> Result<MapAccess>
-        ensures reads { Reads F.Flavor (SpellsNum 64) (λ n. n < 2 ^ 64) Same never
+        ensures { ReadsNode F.Flavor (number_node 64)
             (source_of self.old) result (source_of self.new) }
-        ensures refused { IfErr result (λ e. Refuses F.Flavor (WantsDigit 64) (BadNumber 64)
-            (source_of self.old) e (source_of self.new)) }
     {
         let count = numbers::count(&mut self.flavor)?;
         Ok(MapAccess::new(count))

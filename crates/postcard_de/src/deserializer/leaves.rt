@@ -1,18 +1,13 @@
 //! The calls for values that have no parts, besides numbers, texts and byte strings.
 
-ghost use Rattle.std.specs.Prelude.{◌≡◌, IfErr, IsOk};
-ghost use Rattle.postcard_wire.specs.Tree.{Boolean, Char};
-ghost use Rattle.postcard_wire.specs.Spelling.{Spells};
-ghost use Rattle.postcard_wire.specs.Reading.{IsBoolean, IsChar, IsEnd, IsGroup};
-ghost use Rattle.postcard_shape.specs.Shape.{never};
-ghost use Rattle.postcard_de.specs.Reads.{Reads};
-ghost use Rattle.postcard_de.specs.Refuses.{Refuses, WantsByte};
-ghost use Rattle.postcard_de.specs.Unfit.{BadBool, BadChar, WantsChar};
-ghost use Rattle.postcard_de.specs.Deserializer.{source_of};
+ghost use Rattle.std.specs.Prelude.{◌≡◌, IsOk};
+ghost use Rattle.postcard_de.specs.Reads.{ReadsNode, ReadsShape, boolean_node, char_node};
+ghost use Rattle.postcard_de.specs.Reads.{source_of};
 
 use crate::deserializer::Deserializer;
 use postcard_de_flavors::Flavor;
 use postcard_de_nodes::{choices, texts};
+use postcard_shape::Shaped;
 use postcard_wire::Result;
 
 impl<'de, F: Flavor> Deserializer<'de, F> {
@@ -23,10 +18,7 @@ impl<'de, F: Flavor> Deserializer<'de, F> {
     /// Fails with `DeserializeUnexpectedEnd` if the source can't give a byte, and with
     /// `DeserializeBadBool` for any other byte, which is taken.
     pub fn deserialize_bool(&mut self) -> Result<bool>
-        ensures reads { Reads F.Flavor Spells IsBoolean (λ t v. t ≡ Boolean v) never
-            (source_of self.old) result (source_of self.new) }
-        ensures refused { IfErr result (λ e. Refuses F.Flavor WantsByte BadBool
-            (source_of self.old) e (source_of self.new)) }
+        ensures { ReadsNode F.Flavor boolean_node (source_of self.old) result (source_of self.new) }
     {
         choices::boolean(&mut self.flavor)
     }
@@ -41,17 +33,14 @@ impl<'de, F: Flavor> Deserializer<'de, F> {
     /// source can't give that many bytes, and with `DeserializeBadChar` if the bytes aren't UTF-8
     /// or the length is 0; they are taken then.
     pub fn deserialize_char(&mut self) -> Result<char>
-        ensures reads { Reads F.Flavor Spells IsChar (λ t v. t ≡ Char v) never
-            (source_of self.old) result (source_of self.new) }
-        ensures refused { IfErr result (λ e. Refuses F.Flavor WantsChar BadChar
-            (source_of self.old) e (source_of self.new)) }
+        ensures { ReadsNode F.Flavor char_node (source_of self.old) result (source_of self.new) }
     {
         texts::character(&mut self.flavor)
     }
 
     /// Reads a unit, which has no bytes. Never fails.
     pub fn deserialize_unit(&mut self) -> Result<()>
-        ensures reads { Reads F.Flavor Spells (IsGroup IsEnd) (λ t v. IsGroup IsEnd t) never
+        ensures reads { ReadsShape F.Flavor ⟦<() as Shaped>⟧.shape
             (source_of self.old) result (source_of self.new) }
         ensures succeeds { IsOk result }
         ensures unchanged { self.new ≡ self.old }
@@ -61,7 +50,7 @@ impl<'de, F: Flavor> Deserializer<'de, F> {
 
     /// Reads a struct without fields, which has no bytes. The name isn't used. Never fails.
     pub fn deserialize_unit_struct(&mut self, _name: &str) -> Result<()>
-        ensures reads { Reads F.Flavor Spells (IsGroup IsEnd) (λ t v. IsGroup IsEnd t) never
+        ensures reads { ReadsShape F.Flavor ⟦<() as Shaped>⟧.shape
             (source_of self.old) result (source_of self.new) }
         ensures succeeds { IsOk result }
         ensures unchanged { self.new ≡ self.old }

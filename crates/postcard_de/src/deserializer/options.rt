@@ -1,13 +1,6 @@
 //! The calls for options, and for structs of one part.
 
-ghost use Rattle.std.specs.Prelude.{◌⊎◌, IfErr};
-ghost use Rattle.postcard_wire.specs.Spelling.{Spells};
-ghost use Rattle.postcard_wire.specs.Reading.{IsOption};
-ghost use Rattle.postcard_de.specs.Reads.{Reads};
-ghost use Rattle.postcard_de.specs.Refuses.{Refuses, WantsByte};
-ghost use Rattle.postcard_de.specs.Unfit.{BadOption, ContentRefuses};
-ghost use Rattle.postcard_shape.specs.Options.{OptionIs};
-ghost use Rattle.postcard_de.specs.Deserializer.{source_of};
+ghost use Rattle.postcard_de.specs.Reads.{ReadsOption, ReadsShape, source_of};
 
 use crate::deserialize::Deserialize;
 use crate::deserializer::Deserializer;
@@ -23,12 +16,7 @@ impl<'de, F: Flavor> Deserializer<'de, F> {
     /// Fails with `DeserializeUnexpectedEnd` if the source can't give a byte, with
     /// `DeserializeBadOption` for any other byte, which is taken, and as reading the content does.
     pub fn deserialize_option<T: Deserialize<'de>>(&mut self, alloc: Global) -> Result<Option<T>>
-        ensures reads { Reads F.Flavor Spells (IsOption T.shape.reads) (OptionIs T.shape.value)
-            T.shape.other (source_of self.old) result (source_of self.new) }
-        ensures refused { IfErr result (λ e. Refuses F.Flavor WantsByte BadOption
-            (source_of self.old) e (source_of self.new)
-            ⊎ ContentRefuses F.Flavor T.shape.reads T.shape.value T.shape.other
-            (source_of self.old) e (source_of self.new)) }
+        ensures { ReadsOption F.Flavor T.shape (source_of self.old) result (source_of self.new) }
     {
         match self.flavor.pop()? {
             0 => Ok(None),
@@ -50,8 +38,7 @@ impl<'de, F: Flavor> Deserializer<'de, F> {
         alloc: Global,
         _name: &str,
     ) -> Result<T>
-        ensures { Reads F.Flavor Spells T.shape.reads T.shape.value T.shape.other
-            (source_of self.old) result (source_of self.new) }
+        ensures { ReadsShape F.Flavor T.shape (source_of self.old) result (source_of self.new) }
     {
         T::deserialize(alloc, self)
     }

@@ -1,14 +1,6 @@
 //! Arrays, and vectors and texts of a fixed capacity.
 
-ghost use Rattle.std.specs.Prelude.{◌≡◌, IfErr};
-ghost use Rattle.postcard_wire.specs.Tree.{Text};
-ghost use Rattle.postcard_wire.specs.Spelling.{Spells};
-ghost use Rattle.postcard_shape.specs.Leaves.{IsShortText};
-ghost use Rattle.postcard_shape.specs.Shape.{never};
-ghost use Rattle.postcard_de.specs.Reads.{Reads};
-ghost use Rattle.postcard_de.specs.Refuses.{Refuses, WantsText};
-ghost use Rattle.postcard_de.specs.Unfit.{BadShortText};
-ghost use Rattle.postcard_de.specs.Deserializer.{source_of};
+ghost use Rattle.postcard_de.specs.Reads.{ReadsNode, seen_node, short_text_node, source_of};
 
 use crate::deserialize::Deserialize;
 use crate::deserializer::Deserializer;
@@ -56,10 +48,8 @@ impl<T: DeserializeOwned + Default, const CAP: usize> DeserializeOwned for Array
 /// taken and found to be UTF-8.
 impl<'de, const CAP: usize> Deserialize<'de> for ArrayString<CAP> {
     fn deserialize<F: Flavor>(_alloc: Global, d: &mut Deserializer<'de, F>) -> Result<Self>
-        ensures reads { Reads F.Flavor Spells (IsShortText CAP) (λ t v. t ≡ Text v.bytes) never
+        ensures { ReadsNode F.Flavor (seen_node (λ v. v.bytes) (short_text_node CAP))
             (source_of d.old) result (source_of d.new) }
-        ensures refused { IfErr result (λ e. Refuses F.Flavor WantsText (BadShortText CAP)
-            (source_of d.old) e (source_of d.new)) }
     {
         texts::short_text(&mut d.flavor)
     }
@@ -70,10 +60,8 @@ impl<const CAP: usize> DeserializeOwned for ArrayString<CAP> {
         alloc: Global,
         d: &mut Deserializer<'de, F>,
     ) -> Result<Self>
-        ensures reads { Reads F.Flavor Spells (IsShortText CAP) (λ t v. t ≡ Text v.bytes) never
+        ensures { ReadsNode F.Flavor (seen_node (λ v. v.bytes) (short_text_node CAP))
             (source_of d.old) result (source_of d.new) }
-        ensures refused { IfErr result (λ e. Refuses F.Flavor WantsText (BadShortText CAP)
-            (source_of d.old) e (source_of d.new)) }
     {
         <ArrayString<CAP>>::deserialize(alloc, d)
     }

@@ -1,14 +1,7 @@
 //! Floating-point numbers.
 
-ghost use Rattle.std.specs.Prelude.{IfErr};
 ghost use Rattle.std.specs.Float.{binary32, binary64};
-ghost use Rattle.postcard_wire.specs.Spelling.{Spells};
-ghost use Rattle.postcard_wire.specs.Reading.{IsArray, IsByte};
-ghost use Rattle.postcard_shape.specs.Floats.{IsFloat};
-ghost use Rattle.postcard_shape.specs.Shape.{never};
-ghost use Rattle.postcard_de.specs.Reads.{Reads};
-ghost use Rattle.postcard_de.specs.Refuses.{Refuses, NoneBad, WantsBytes};
-ghost use Rattle.postcard_de.specs.Deserializer.{source_of};
+ghost use Rattle.postcard_de.specs.Reads.{ReadsNode, float_node, source_of};
 
 use crate::deserialize::Deserialize;
 use crate::deserializer::Deserializer;
@@ -19,10 +12,8 @@ use std::alloc::Global;
 
 impl<'de> Deserialize<'de> for f32 {
     fn deserialize<F: Flavor>(_alloc: Global, d: &mut Deserializer<'de, F>) -> Result<Self>
-        ensures reads { Reads F.Flavor Spells (IsArray 4 IsByte) (IsFloat binary32) never
+        ensures { ReadsNode F.Flavor (float_node binary32)
             (source_of d.old) result (source_of d.new) }
-        ensures refused { IfErr result (λ e. Refuses F.Flavor (WantsBytes 4) NoneBad
-            (source_of d.old) e (source_of d.new)) }
     {
         d.deserialize_f32()
     }
@@ -33,10 +24,8 @@ impl DeserializeOwned for f32 {
         alloc: Global,
         d: &mut Deserializer<'de, F>,
     ) -> Result<Self>
-        ensures reads { Reads F.Flavor Spells (IsArray 4 IsByte) (IsFloat binary32) never
+        ensures { ReadsNode F.Flavor (float_node binary32)
             (source_of d.old) result (source_of d.new) }
-        ensures refused { IfErr result (λ e. Refuses F.Flavor (WantsBytes 4) NoneBad
-            (source_of d.old) e (source_of d.new)) }
     {
         f32::deserialize(alloc, d)
     }
@@ -44,10 +33,8 @@ impl DeserializeOwned for f32 {
 
 impl<'de> Deserialize<'de> for f64 {
     fn deserialize<F: Flavor>(_alloc: Global, d: &mut Deserializer<'de, F>) -> Result<Self>
-        ensures reads { Reads F.Flavor Spells (IsArray 8 IsByte) (IsFloat binary64) never
+        ensures { ReadsNode F.Flavor (float_node binary64)
             (source_of d.old) result (source_of d.new) }
-        ensures refused { IfErr result (λ e. Refuses F.Flavor (WantsBytes 8) NoneBad
-            (source_of d.old) e (source_of d.new)) }
     {
         d.deserialize_f64()
     }
@@ -58,10 +45,8 @@ impl DeserializeOwned for f64 {
         alloc: Global,
         d: &mut Deserializer<'de, F>,
     ) -> Result<Self>
-        ensures reads { Reads F.Flavor Spells (IsArray 8 IsByte) (IsFloat binary64) never
+        ensures { ReadsNode F.Flavor (float_node binary64)
             (source_of d.old) result (source_of d.new) }
-        ensures refused { IfErr result (λ e. Refuses F.Flavor (WantsBytes 8) NoneBad
-            (source_of d.old) e (source_of d.new)) }
     {
         f64::deserialize(alloc, d)
     }

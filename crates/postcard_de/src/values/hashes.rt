@@ -2,10 +2,8 @@
 
 ghost use Rattle.std.specs.Prelude.{◌≡◌, [], IfErr, IfOk};
 ghost use Rattle.postcard_wire.specs.declared.error.Error.{Error};
-ghost use Rattle.postcard_wire.specs.Spelling.{Spells};
 ghost use Rattle.postcard_shape.specs.Maps.{Puts, PutsKey, PutsPair};
-ghost use Rattle.postcard_de.specs.Reads.{Reads};
-ghost use Rattle.postcard_de.specs.Deserializer.{source_of};
+ghost use Rattle.postcard_de.specs.Reads.{ReadsShape, source_of};
 
 use crate::deserialize::Deserialize;
 use crate::deserializer::Deserializer;
@@ -74,8 +72,7 @@ pub fn read_hash_set<'de, K: Deserialize<'de> + Eq + Hash, S: BuildHasher + Drop
     d: &mut Deserializer<'de, F>,
     hasher: S,
 ) -> Result<HashSet<K, S>>
-    ensures { Reads F.Flavor Spells ⟦<HashSet<K, S> as Shaped>⟧.shape.reads
-        ⟦<HashSet<K, S> as Shaped>⟧.shape.value ⟦<HashSet<K, S> as Shaped>⟧.shape.other
+    ensures { ReadsShape F.Flavor ⟦<HashSet<K, S> as Shaped>⟧.shape
         (source_of d.old) result (source_of d.new) }
 {
     let keys = <Vec<K>>::deserialize(alloc, d)?;
@@ -99,8 +96,7 @@ pub fn read_hash_map<
     S: BuildHasher + Drop,
     F: Flavor,
 >(alloc: Global, d: &mut Deserializer<'de, F>, hasher: S) -> Result<HashMap<K, V, S>>
-    ensures { Reads F.Flavor Spells ⟦<HashMap<K, V, S> as Shaped>⟧.shape.reads
-        ⟦<HashMap<K, V, S> as Shaped>⟧.shape.value ⟦<HashMap<K, V, S> as Shaped>⟧.shape.other
+    ensures { ReadsShape F.Flavor ⟦<HashMap<K, V, S> as Shaped>⟧.shape
         (source_of d.old) result (source_of d.new) }
 {
     let pairs = <Vec<(K, V)>>::deserialize(alloc, d)?;

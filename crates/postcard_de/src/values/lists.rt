@@ -2,14 +2,7 @@
 //! the source.
 
 ghost use Rattle.std.specs.Prelude.{◌≡◌, IfErr, IfOk};
-ghost use Rattle.postcard_wire.specs.Tree.{Byte};
-ghost use Rattle.postcard_wire.specs.Spelling.{Spells};
-ghost use Rattle.postcard_wire.specs.Reading.{IsByte, IsSeq};
-ghost use Rattle.postcard_shape.specs.Lists.{ListIs};
-ghost use Rattle.postcard_shape.specs.Shape.{never};
-ghost use Rattle.postcard_de.specs.Reads.{Reads};
-ghost use Rattle.postcard_de.specs.Refuses.{Refuses, BadNumber, WantsText};
-ghost use Rattle.postcard_de.specs.Deserializer.{source_of};
+ghost use Rattle.postcard_de.specs.Reads.{ReadsNode, lent_bytes_node, source_of};
 
 use crate::deserialize::Deserialize;
 use crate::deserializer::Deserializer;
@@ -22,11 +15,7 @@ use std::collections::{LinkedList, VecDeque};
 
 impl<'de> Deserialize<'de> for &'de [u8] {
     fn deserialize<F: Flavor>(_alloc: Global, d: &mut Deserializer<'de, F>) -> Result<Self>
-        ensures reads { Reads F.Flavor Spells (IsSeq IsByte)
-            (λ t v. ListIs (λ s b. s ≡ Byte b) t v.now) never
-            (source_of d.old) result (source_of d.new) }
-        ensures refused { IfErr result (λ e. Refuses F.Flavor WantsText (BadNumber 64)
-            (source_of d.old) e (source_of d.new)) }
+        ensures { ReadsNode F.Flavor lent_bytes_node (source_of d.old) result (source_of d.new) }
     {
         d.deserialize_bytes()
     }

@@ -1,14 +1,7 @@
 //! Numbers of a fixed width, from 8 to 128 bits.
 
-ghost use Rattle.std.specs.Prelude.{◌≡◌, IfErr};
-ghost use Rattle.std.specs.Int.{w8, cast_unsigned};
-ghost use Rattle.postcard_wire.specs.Tree.{Byte, Num, Int};
-ghost use Rattle.postcard_wire.specs.Spelling.{Spells};
-ghost use Rattle.postcard_wire.specs.Reading.{IsByte, IsNum, IsInt};
-ghost use Rattle.postcard_shape.specs.Shape.{never};
-ghost use Rattle.postcard_de.specs.Reads.{Reads};
-ghost use Rattle.postcard_de.specs.Refuses.{Refuses, WantsByte, NoneBad, WantsDigit, BadNumber};
-ghost use Rattle.postcard_de.specs.Deserializer.{source_of};
+ghost use Rattle.postcard_de.specs.Reads.{ReadsNode, byte_node, int_node, num_node};
+ghost use Rattle.postcard_de.specs.Reads.{signed_byte_node, source_of};
 
 use crate::deserialize::Deserialize;
 use crate::deserializer::Deserializer;
@@ -19,10 +12,7 @@ use std::alloc::Global;
 
 impl<'de> Deserialize<'de> for u8 {
     fn deserialize<F: Flavor>(_alloc: Global, d: &mut Deserializer<'de, F>) -> Result<Self>
-        ensures reads { Reads F.Flavor Spells IsByte (λ t v. t ≡ Byte v) never
-            (source_of d.old) result (source_of d.new) }
-        ensures refused { IfErr result (λ e. Refuses F.Flavor WantsByte NoneBad
-            (source_of d.old) e (source_of d.new)) }
+        ensures { ReadsNode F.Flavor byte_node (source_of d.old) result (source_of d.new) }
     {
         d.deserialize_u8()
     }
@@ -33,10 +23,7 @@ impl DeserializeOwned for u8 {
         alloc: Global,
         d: &mut Deserializer<'de, F>,
     ) -> Result<Self>
-        ensures reads { Reads F.Flavor Spells IsByte (λ t v. t ≡ Byte v) never
-            (source_of d.old) result (source_of d.new) }
-        ensures refused { IfErr result (λ e. Refuses F.Flavor WantsByte NoneBad
-            (source_of d.old) e (source_of d.new)) }
+        ensures { ReadsNode F.Flavor byte_node (source_of d.old) result (source_of d.new) }
     {
         u8::deserialize(alloc, d)
     }
@@ -44,10 +31,7 @@ impl DeserializeOwned for u8 {
 
 impl<'de> Deserialize<'de> for u16 {
     fn deserialize<F: Flavor>(_alloc: Global, d: &mut Deserializer<'de, F>) -> Result<Self>
-        ensures reads { Reads F.Flavor Spells (IsNum 16) (λ t v. t ≡ Num 16 v) never
-            (source_of d.old) result (source_of d.new) }
-        ensures refused { IfErr result (λ e. Refuses F.Flavor (WantsDigit 16) (BadNumber 16)
-            (source_of d.old) e (source_of d.new)) }
+        ensures { ReadsNode F.Flavor (num_node 16) (source_of d.old) result (source_of d.new) }
     {
         d.deserialize_u16()
     }
@@ -58,10 +42,7 @@ impl DeserializeOwned for u16 {
         alloc: Global,
         d: &mut Deserializer<'de, F>,
     ) -> Result<Self>
-        ensures reads { Reads F.Flavor Spells (IsNum 16) (λ t v. t ≡ Num 16 v) never
-            (source_of d.old) result (source_of d.new) }
-        ensures refused { IfErr result (λ e. Refuses F.Flavor (WantsDigit 16) (BadNumber 16)
-            (source_of d.old) e (source_of d.new)) }
+        ensures { ReadsNode F.Flavor (num_node 16) (source_of d.old) result (source_of d.new) }
     {
         u16::deserialize(alloc, d)
     }
@@ -69,10 +50,7 @@ impl DeserializeOwned for u16 {
 
 impl<'de> Deserialize<'de> for u32 {
     fn deserialize<F: Flavor>(_alloc: Global, d: &mut Deserializer<'de, F>) -> Result<Self>
-        ensures reads { Reads F.Flavor Spells (IsNum 32) (λ t v. t ≡ Num 32 v) never
-            (source_of d.old) result (source_of d.new) }
-        ensures refused { IfErr result (λ e. Refuses F.Flavor (WantsDigit 32) (BadNumber 32)
-            (source_of d.old) e (source_of d.new)) }
+        ensures { ReadsNode F.Flavor (num_node 32) (source_of d.old) result (source_of d.new) }
     {
         d.deserialize_u32()
     }
@@ -83,10 +61,7 @@ impl DeserializeOwned for u32 {
         alloc: Global,
         d: &mut Deserializer<'de, F>,
     ) -> Result<Self>
-        ensures reads { Reads F.Flavor Spells (IsNum 32) (λ t v. t ≡ Num 32 v) never
-            (source_of d.old) result (source_of d.new) }
-        ensures refused { IfErr result (λ e. Refuses F.Flavor (WantsDigit 32) (BadNumber 32)
-            (source_of d.old) e (source_of d.new)) }
+        ensures { ReadsNode F.Flavor (num_node 32) (source_of d.old) result (source_of d.new) }
     {
         u32::deserialize(alloc, d)
     }
@@ -94,10 +69,7 @@ impl DeserializeOwned for u32 {
 
 impl<'de> Deserialize<'de> for u64 {
     fn deserialize<F: Flavor>(_alloc: Global, d: &mut Deserializer<'de, F>) -> Result<Self>
-        ensures reads { Reads F.Flavor Spells (IsNum 64) (λ t v. t ≡ Num 64 v) never
-            (source_of d.old) result (source_of d.new) }
-        ensures refused { IfErr result (λ e. Refuses F.Flavor (WantsDigit 64) (BadNumber 64)
-            (source_of d.old) e (source_of d.new)) }
+        ensures { ReadsNode F.Flavor (num_node 64) (source_of d.old) result (source_of d.new) }
     {
         d.deserialize_u64()
     }
@@ -108,10 +80,7 @@ impl DeserializeOwned for u64 {
         alloc: Global,
         d: &mut Deserializer<'de, F>,
     ) -> Result<Self>
-        ensures reads { Reads F.Flavor Spells (IsNum 64) (λ t v. t ≡ Num 64 v) never
-            (source_of d.old) result (source_of d.new) }
-        ensures refused { IfErr result (λ e. Refuses F.Flavor (WantsDigit 64) (BadNumber 64)
-            (source_of d.old) e (source_of d.new)) }
+        ensures { ReadsNode F.Flavor (num_node 64) (source_of d.old) result (source_of d.new) }
     {
         u64::deserialize(alloc, d)
     }
@@ -119,10 +88,7 @@ impl DeserializeOwned for u64 {
 
 impl<'de> Deserialize<'de> for u128 {
     fn deserialize<F: Flavor>(_alloc: Global, d: &mut Deserializer<'de, F>) -> Result<Self>
-        ensures reads { Reads F.Flavor Spells (IsNum 128) (λ t v. t ≡ Num 128 v) never
-            (source_of d.old) result (source_of d.new) }
-        ensures refused { IfErr result (λ e. Refuses F.Flavor (WantsDigit 128) (BadNumber 128)
-            (source_of d.old) e (source_of d.new)) }
+        ensures { ReadsNode F.Flavor (num_node 128) (source_of d.old) result (source_of d.new) }
     {
         d.deserialize_u128()
     }
@@ -133,10 +99,7 @@ impl DeserializeOwned for u128 {
         alloc: Global,
         d: &mut Deserializer<'de, F>,
     ) -> Result<Self>
-        ensures reads { Reads F.Flavor Spells (IsNum 128) (λ t v. t ≡ Num 128 v) never
-            (source_of d.old) result (source_of d.new) }
-        ensures refused { IfErr result (λ e. Refuses F.Flavor (WantsDigit 128) (BadNumber 128)
-            (source_of d.old) e (source_of d.new)) }
+        ensures { ReadsNode F.Flavor (num_node 128) (source_of d.old) result (source_of d.new) }
     {
         u128::deserialize(alloc, d)
     }
@@ -144,10 +107,7 @@ impl DeserializeOwned for u128 {
 
 impl<'de> Deserialize<'de> for i8 {
     fn deserialize<F: Flavor>(_alloc: Global, d: &mut Deserializer<'de, F>) -> Result<Self>
-        ensures reads { Reads F.Flavor Spells IsByte (λ t v. t ≡ Byte (cast_unsigned w8 v)) never
-            (source_of d.old) result (source_of d.new) }
-        ensures refused { IfErr result (λ e. Refuses F.Flavor WantsByte NoneBad
-            (source_of d.old) e (source_of d.new)) }
+        ensures { ReadsNode F.Flavor signed_byte_node (source_of d.old) result (source_of d.new) }
     {
         d.deserialize_i8()
     }
@@ -158,10 +118,7 @@ impl DeserializeOwned for i8 {
         alloc: Global,
         d: &mut Deserializer<'de, F>,
     ) -> Result<Self>
-        ensures reads { Reads F.Flavor Spells IsByte (λ t v. t ≡ Byte (cast_unsigned w8 v)) never
-            (source_of d.old) result (source_of d.new) }
-        ensures refused { IfErr result (λ e. Refuses F.Flavor WantsByte NoneBad
-            (source_of d.old) e (source_of d.new)) }
+        ensures { ReadsNode F.Flavor signed_byte_node (source_of d.old) result (source_of d.new) }
     {
         i8::deserialize(alloc, d)
     }
@@ -169,10 +126,7 @@ impl DeserializeOwned for i8 {
 
 impl<'de> Deserialize<'de> for i16 {
     fn deserialize<F: Flavor>(_alloc: Global, d: &mut Deserializer<'de, F>) -> Result<Self>
-        ensures reads { Reads F.Flavor Spells (IsInt 16) (λ t v. t ≡ Int 16 v) never
-            (source_of d.old) result (source_of d.new) }
-        ensures refused { IfErr result (λ e. Refuses F.Flavor (WantsDigit 16) (BadNumber 16)
-            (source_of d.old) e (source_of d.new)) }
+        ensures { ReadsNode F.Flavor (int_node 16) (source_of d.old) result (source_of d.new) }
     {
         d.deserialize_i16()
     }
@@ -183,10 +137,7 @@ impl DeserializeOwned for i16 {
         alloc: Global,
         d: &mut Deserializer<'de, F>,
     ) -> Result<Self>
-        ensures reads { Reads F.Flavor Spells (IsInt 16) (λ t v. t ≡ Int 16 v) never
-            (source_of d.old) result (source_of d.new) }
-        ensures refused { IfErr result (λ e. Refuses F.Flavor (WantsDigit 16) (BadNumber 16)
-            (source_of d.old) e (source_of d.new)) }
+        ensures { ReadsNode F.Flavor (int_node 16) (source_of d.old) result (source_of d.new) }
     {
         i16::deserialize(alloc, d)
     }
@@ -194,10 +145,7 @@ impl DeserializeOwned for i16 {
 
 impl<'de> Deserialize<'de> for i32 {
     fn deserialize<F: Flavor>(_alloc: Global, d: &mut Deserializer<'de, F>) -> Result<Self>
-        ensures reads { Reads F.Flavor Spells (IsInt 32) (λ t v. t ≡ Int 32 v) never
-            (source_of d.old) result (source_of d.new) }
-        ensures refused { IfErr result (λ e. Refuses F.Flavor (WantsDigit 32) (BadNumber 32)
-            (source_of d.old) e (source_of d.new)) }
+        ensures { ReadsNode F.Flavor (int_node 32) (source_of d.old) result (source_of d.new) }
     {
         d.deserialize_i32()
     }
@@ -208,10 +156,7 @@ impl DeserializeOwned for i32 {
         alloc: Global,
         d: &mut Deserializer<'de, F>,
     ) -> Result<Self>
-        ensures reads { Reads F.Flavor Spells (IsInt 32) (λ t v. t ≡ Int 32 v) never
-            (source_of d.old) result (source_of d.new) }
-        ensures refused { IfErr result (λ e. Refuses F.Flavor (WantsDigit 32) (BadNumber 32)
-            (source_of d.old) e (source_of d.new)) }
+        ensures { ReadsNode F.Flavor (int_node 32) (source_of d.old) result (source_of d.new) }
     {
         i32::deserialize(alloc, d)
     }
@@ -219,10 +164,7 @@ impl DeserializeOwned for i32 {
 
 impl<'de> Deserialize<'de> for i64 {
     fn deserialize<F: Flavor>(_alloc: Global, d: &mut Deserializer<'de, F>) -> Result<Self>
-        ensures reads { Reads F.Flavor Spells (IsInt 64) (λ t v. t ≡ Int 64 v) never
-            (source_of d.old) result (source_of d.new) }
-        ensures refused { IfErr result (λ e. Refuses F.Flavor (WantsDigit 64) (BadNumber 64)
-            (source_of d.old) e (source_of d.new)) }
+        ensures { ReadsNode F.Flavor (int_node 64) (source_of d.old) result (source_of d.new) }
     {
         d.deserialize_i64()
     }
@@ -233,10 +175,7 @@ impl DeserializeOwned for i64 {
         alloc: Global,
         d: &mut Deserializer<'de, F>,
     ) -> Result<Self>
-        ensures reads { Reads F.Flavor Spells (IsInt 64) (λ t v. t ≡ Int 64 v) never
-            (source_of d.old) result (source_of d.new) }
-        ensures refused { IfErr result (λ e. Refuses F.Flavor (WantsDigit 64) (BadNumber 64)
-            (source_of d.old) e (source_of d.new)) }
+        ensures { ReadsNode F.Flavor (int_node 64) (source_of d.old) result (source_of d.new) }
     {
         i64::deserialize(alloc, d)
     }
@@ -244,10 +183,7 @@ impl DeserializeOwned for i64 {
 
 impl<'de> Deserialize<'de> for i128 {
     fn deserialize<F: Flavor>(_alloc: Global, d: &mut Deserializer<'de, F>) -> Result<Self>
-        ensures reads { Reads F.Flavor Spells (IsInt 128) (λ t v. t ≡ Int 128 v) never
-            (source_of d.old) result (source_of d.new) }
-        ensures refused { IfErr result (λ e. Refuses F.Flavor (WantsDigit 128) (BadNumber 128)
-            (source_of d.old) e (source_of d.new)) }
+        ensures { ReadsNode F.Flavor (int_node 128) (source_of d.old) result (source_of d.new) }
     {
         d.deserialize_i128()
     }
@@ -258,10 +194,7 @@ impl DeserializeOwned for i128 {
         alloc: Global,
         d: &mut Deserializer<'de, F>,
     ) -> Result<Self>
-        ensures reads { Reads F.Flavor Spells (IsInt 128) (λ t v. t ≡ Int 128 v) never
-            (source_of d.old) result (source_of d.new) }
-        ensures refused { IfErr result (λ e. Refuses F.Flavor (WantsDigit 128) (BadNumber 128)
-            (source_of d.old) e (source_of d.new)) }
+        ensures { ReadsNode F.Flavor (int_node 128) (source_of d.old) result (source_of d.new) }
     {
         i128::deserialize(alloc, d)
     }

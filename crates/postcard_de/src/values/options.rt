@@ -1,15 +1,6 @@
 //! Options, and results, which are read as an enum of two variants.
 
-ghost use Rattle.std.specs.Prelude.{◌⊎◌, IfErr};
-ghost use Rattle.postcard_wire.specs.Spelling.{Spells};
-ghost use Rattle.postcard_wire.specs.Reading.{IsOption, IsVariant};
-ghost use Rattle.postcard_shape.specs.Options.{OptionIs, ResultReads, ResultIs};
-ghost use Rattle.postcard_shape.specs.Cases.{VariantIs};
-ghost use Rattle.postcard_shape.specs.Shape.{either};
-ghost use Rattle.postcard_de.specs.Reads.{Reads};
-ghost use Rattle.postcard_de.specs.Refuses.{Refuses, WantsByte, WantsDigit};
-ghost use Rattle.postcard_de.specs.Unfit.{BadOption, ContentRefuses, BadIndex, VariantRefuses};
-ghost use Rattle.postcard_de.specs.Deserializer.{source_of};
+ghost use Rattle.postcard_de.specs.Reads.{ReadsOption, ReadsResult, source_of};
 
 use crate::deserialize::Deserialize;
 use crate::deserializer::Deserializer;
@@ -25,12 +16,7 @@ impl<'de, T: Deserialize<'de>> Deserialize<'de> for Option<T> {
         alloc: Global,
         d: &mut Deserializer<'de, F>,
     ) -> postcard_wire::Result<Self>
-        ensures reads { Reads F.Flavor Spells (IsOption T.shape.reads) (OptionIs T.shape.value)
-            T.shape.other (source_of d.old) result (source_of d.new) }
-        ensures refused { IfErr result (λ e. Refuses F.Flavor WantsByte BadOption
-            (source_of d.old) e (source_of d.new)
-            ⊎ ContentRefuses F.Flavor T.shape.reads T.shape.value T.shape.other
-            (source_of d.old) e (source_of d.new)) }
+        ensures { ReadsOption F.Flavor T.shape (source_of d.old) result (source_of d.new) }
     {
         d.deserialize_option(alloc)
     }
@@ -41,12 +27,7 @@ impl<T: DeserializeOwned> DeserializeOwned for Option<T> {
         alloc: Global,
         d: &mut Deserializer<'de, F>,
     ) -> postcard_wire::Result<Self>
-        ensures reads { Reads F.Flavor Spells (IsOption T.shape.reads) (OptionIs T.shape.value)
-            T.shape.other (source_of d.old) result (source_of d.new) }
-        ensures refused { IfErr result (λ e. Refuses F.Flavor WantsByte BadOption
-            (source_of d.old) e (source_of d.new)
-            ⊎ ContentRefuses F.Flavor T.shape.reads T.shape.value T.shape.other
-            (source_of d.old) e (source_of d.new)) }
+        ensures { ReadsOption F.Flavor T.shape (source_of d.old) result (source_of d.new) }
     {
         let value = d.deserialize_option::<Owned<T>>(alloc)?;
         match value {
@@ -63,15 +44,7 @@ impl<'de, T: Deserialize<'de>, E: Deserialize<'de>> Deserialize<'de> for Result<
         alloc: Global,
         d: &mut Deserializer<'de, F>,
     ) -> postcard_wire::Result<Self>
-        ensures reads { Reads F.Flavor Spells (IsVariant (ResultReads T.shape.reads E.shape.reads))
-            (VariantIs (ResultIs T.shape.value E.shape.value))
-            (either T.shape.other E.shape.other) (source_of d.old) result (source_of d.new) }
-        ensures refused { IfErr result (λ e. Refuses F.Flavor (WantsDigit 32) (BadIndex 2)
-            (source_of d.old) e (source_of d.new)
-            ⊎ (VariantRefuses F.Flavor 0 T.shape.reads T.shape.value T.shape.other
-            (source_of d.old) e (source_of d.new)
-            ⊎ VariantRefuses F.Flavor 1 E.shape.reads E.shape.value E.shape.other
-            (source_of d.old) e (source_of d.new))) }
+        ensures { ReadsResult F.Flavor T.shape E.shape (source_of d.old) result (source_of d.new) }
     {
         let index = d.deserialize_enum("Result", &["Ok", "Err"])?;
         match index {
@@ -93,15 +66,7 @@ impl<T: DeserializeOwned, E: DeserializeOwned> DeserializeOwned for Result<T, E>
         alloc: Global,
         d: &mut Deserializer<'de, F>,
     ) -> postcard_wire::Result<Self>
-        ensures reads { Reads F.Flavor Spells (IsVariant (ResultReads T.shape.reads E.shape.reads))
-            (VariantIs (ResultIs T.shape.value E.shape.value))
-            (either T.shape.other E.shape.other) (source_of d.old) result (source_of d.new) }
-        ensures refused { IfErr result (λ e. Refuses F.Flavor (WantsDigit 32) (BadIndex 2)
-            (source_of d.old) e (source_of d.new)
-            ⊎ (VariantRefuses F.Flavor 0 T.shape.reads T.shape.value T.shape.other
-            (source_of d.old) e (source_of d.new)
-            ⊎ VariantRefuses F.Flavor 1 E.shape.reads E.shape.value E.shape.other
-            (source_of d.old) e (source_of d.new))) }
+        ensures { ReadsResult F.Flavor T.shape E.shape (source_of d.old) result (source_of d.new) }
     {
         let value = <Result<Owned<T>, Owned<E>>>::deserialize(alloc, d)?;
         match value {

@@ -1,14 +1,7 @@
 //! Truth values, characters, and `usize` and `isize` as numbers of 64 bits.
 
-ghost use Rattle.std.specs.Prelude.{◌≡◌, IfErr};
-ghost use Rattle.postcard_wire.specs.Tree.{Boolean, Char, Num, Int};
-ghost use Rattle.postcard_wire.specs.Spelling.{Spells};
-ghost use Rattle.postcard_wire.specs.Reading.{IsBoolean, IsChar, IsNum, IsInt};
-ghost use Rattle.postcard_shape.specs.Shape.{never};
-ghost use Rattle.postcard_de.specs.Reads.{Reads};
-ghost use Rattle.postcard_de.specs.Refuses.{Refuses, WantsByte, WantsDigit, BadNumber};
-ghost use Rattle.postcard_de.specs.Unfit.{BadBool, WantsChar, BadChar};
-ghost use Rattle.postcard_de.specs.Deserializer.{source_of};
+ghost use Rattle.postcard_de.specs.Reads.{ReadsNode, boolean_node, char_node, int_node, num_node};
+ghost use Rattle.postcard_de.specs.Reads.{source_of};
 
 use crate::deserialize::Deserialize;
 use crate::deserializer::Deserializer;
@@ -19,10 +12,7 @@ use std::alloc::Global;
 
 impl<'de> Deserialize<'de> for bool {
     fn deserialize<F: Flavor>(_alloc: Global, d: &mut Deserializer<'de, F>) -> Result<Self>
-        ensures reads { Reads F.Flavor Spells IsBoolean (λ t v. t ≡ Boolean v) never
-            (source_of d.old) result (source_of d.new) }
-        ensures refused { IfErr result (λ e. Refuses F.Flavor WantsByte BadBool
-            (source_of d.old) e (source_of d.new)) }
+        ensures { ReadsNode F.Flavor boolean_node (source_of d.old) result (source_of d.new) }
     {
         d.deserialize_bool()
     }
@@ -33,10 +23,7 @@ impl DeserializeOwned for bool {
         alloc: Global,
         d: &mut Deserializer<'de, F>,
     ) -> Result<Self>
-        ensures reads { Reads F.Flavor Spells IsBoolean (λ t v. t ≡ Boolean v) never
-            (source_of d.old) result (source_of d.new) }
-        ensures refused { IfErr result (λ e. Refuses F.Flavor WantsByte BadBool
-            (source_of d.old) e (source_of d.new)) }
+        ensures { ReadsNode F.Flavor boolean_node (source_of d.old) result (source_of d.new) }
     {
         bool::deserialize(alloc, d)
     }
@@ -44,10 +31,7 @@ impl DeserializeOwned for bool {
 
 impl<'de> Deserialize<'de> for char {
     fn deserialize<F: Flavor>(_alloc: Global, d: &mut Deserializer<'de, F>) -> Result<Self>
-        ensures reads { Reads F.Flavor Spells IsChar (λ t v. t ≡ Char v) never
-            (source_of d.old) result (source_of d.new) }
-        ensures refused { IfErr result (λ e. Refuses F.Flavor WantsChar BadChar
-            (source_of d.old) e (source_of d.new)) }
+        ensures { ReadsNode F.Flavor char_node (source_of d.old) result (source_of d.new) }
     {
         d.deserialize_char()
     }
@@ -58,10 +42,7 @@ impl DeserializeOwned for char {
         alloc: Global,
         d: &mut Deserializer<'de, F>,
     ) -> Result<Self>
-        ensures reads { Reads F.Flavor Spells IsChar (λ t v. t ≡ Char v) never
-            (source_of d.old) result (source_of d.new) }
-        ensures refused { IfErr result (λ e. Refuses F.Flavor WantsChar BadChar
-            (source_of d.old) e (source_of d.new)) }
+        ensures { ReadsNode F.Flavor char_node (source_of d.old) result (source_of d.new) }
     {
         char::deserialize(alloc, d)
     }
@@ -69,10 +50,7 @@ impl DeserializeOwned for char {
 
 impl<'de> Deserialize<'de> for usize {
     fn deserialize<F: Flavor>(_alloc: Global, d: &mut Deserializer<'de, F>) -> Result<Self>
-        ensures reads { Reads F.Flavor Spells (IsNum 64) (λ t v. t ≡ Num 64 v) never
-            (source_of d.old) result (source_of d.new) }
-        ensures refused { IfErr result (λ e. Refuses F.Flavor (WantsDigit 64) (BadNumber 64)
-            (source_of d.old) e (source_of d.new)) }
+        ensures { ReadsNode F.Flavor (num_node 64) (source_of d.old) result (source_of d.new) }
     {
         let n = d.deserialize_u64()?;
         Ok(n as usize)
@@ -84,10 +62,7 @@ impl DeserializeOwned for usize {
         alloc: Global,
         d: &mut Deserializer<'de, F>,
     ) -> Result<Self>
-        ensures reads { Reads F.Flavor Spells (IsNum 64) (λ t v. t ≡ Num 64 v) never
-            (source_of d.old) result (source_of d.new) }
-        ensures refused { IfErr result (λ e. Refuses F.Flavor (WantsDigit 64) (BadNumber 64)
-            (source_of d.old) e (source_of d.new)) }
+        ensures { ReadsNode F.Flavor (num_node 64) (source_of d.old) result (source_of d.new) }
     {
         usize::deserialize(alloc, d)
     }
@@ -95,10 +70,7 @@ impl DeserializeOwned for usize {
 
 impl<'de> Deserialize<'de> for isize {
     fn deserialize<F: Flavor>(_alloc: Global, d: &mut Deserializer<'de, F>) -> Result<Self>
-        ensures reads { Reads F.Flavor Spells (IsInt 64) (λ t v. t ≡ Int 64 v) never
-            (source_of d.old) result (source_of d.new) }
-        ensures refused { IfErr result (λ e. Refuses F.Flavor (WantsDigit 64) (BadNumber 64)
-            (source_of d.old) e (source_of d.new)) }
+        ensures { ReadsNode F.Flavor (int_node 64) (source_of d.old) result (source_of d.new) }
     {
         let n = d.deserialize_i64()?;
         Ok(n as isize)
@@ -110,10 +82,7 @@ impl DeserializeOwned for isize {
         alloc: Global,
         d: &mut Deserializer<'de, F>,
     ) -> Result<Self>
-        ensures reads { Reads F.Flavor Spells (IsInt 64) (λ t v. t ≡ Int 64 v) never
-            (source_of d.old) result (source_of d.new) }
-        ensures refused { IfErr result (λ e. Refuses F.Flavor (WantsDigit 64) (BadNumber 64)
-            (source_of d.old) e (source_of d.new)) }
+        ensures { ReadsNode F.Flavor (int_node 64) (source_of d.old) result (source_of d.new) }
     {
         isize::deserialize(alloc, d)
     }

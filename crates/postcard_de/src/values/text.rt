@@ -1,13 +1,6 @@
 //! Texts: `&str`, which is lent from the source, and texts that are owned or shared.
 
-ghost use Rattle.std.specs.Prelude.{◌≡◌, IfErr, string_bytes, ⊤};
-ghost use Rattle.postcard_wire.specs.Tree.{Text};
-ghost use Rattle.postcard_wire.specs.Spelling.{Spells};
-ghost use Rattle.postcard_wire.specs.Reading.{IsText};
-ghost use Rattle.postcard_shape.specs.Shape.{never, memory};
-ghost use Rattle.postcard_de.specs.Reads.{Reads};
-ghost use Rattle.postcard_de.specs.Refuses.{Refuses, WantsText, BadText};
-ghost use Rattle.postcard_de.specs.Deserializer.{source_of};
+ghost use Rattle.postcard_de.specs.Reads.{ReadsNode, lent_text_node, text_node, source_of};
 
 use crate::deserialize::Deserialize;
 use crate::deserializer::Deserializer;
@@ -22,10 +15,7 @@ use std::sync::ArcStr;
 
 impl<'de> Deserialize<'de> for &'de str {
     fn deserialize<F: Flavor>(_alloc: Global, d: &mut Deserializer<'de, F>) -> Result<Self>
-        ensures reads { Reads F.Flavor Spells IsText (λ t v. t ≡ Text v.now) never
-            (source_of d.old) result (source_of d.new) }
-        ensures refused { IfErr result (λ e. Refuses F.Flavor WantsText (BadText ⊥)
-            (source_of d.old) e (source_of d.new)) }
+        ensures { ReadsNode F.Flavor lent_text_node (source_of d.old) result (source_of d.new) }
     {
         d.deserialize_str()
     }
@@ -33,10 +23,7 @@ impl<'de> Deserialize<'de> for &'de str {
 
 impl<'de> Deserialize<'de> for String {
     fn deserialize<F: Flavor>(alloc: Global, d: &mut Deserializer<'de, F>) -> Result<Self>
-        ensures reads { Reads F.Flavor Spells IsText (λ t v. t ≡ Text (string_bytes v)) memory
-            (source_of d.old) result (source_of d.new) }
-        ensures refused { IfErr result (λ e. Refuses F.Flavor WantsText (BadText ⊤)
-            (source_of d.old) e (source_of d.new)) }
+        ensures { ReadsNode F.Flavor text_node (source_of d.old) result (source_of d.new) }
     {
         d.deserialize_string(alloc)
     }
@@ -47,10 +34,7 @@ impl DeserializeOwned for String {
         alloc: Global,
         d: &mut Deserializer<'de, F>,
     ) -> Result<Self>
-        ensures reads { Reads F.Flavor Spells IsText (λ t v. t ≡ Text (string_bytes v)) memory
-            (source_of d.old) result (source_of d.new) }
-        ensures refused { IfErr result (λ e. Refuses F.Flavor WantsText (BadText ⊤)
-            (source_of d.old) e (source_of d.new)) }
+        ensures { ReadsNode F.Flavor text_node (source_of d.old) result (source_of d.new) }
     {
         String::deserialize(alloc, d)
     }

@@ -5,9 +5,12 @@ use Rattle.postcard_shape.proofs.Floats.{f64_read}
 use Rattle.postcard_de_nodes.specs.SeenLemmas.{recast}
 use Rattle.postcard_de_nodes.proofs.floats.float_64.Goals as goal
 
-pub returns-clause-reads : goal.returns-clause-reads
-returns-clause-reads g c =
+pub returns : goal.returns
+returns g c =
     let bs = c.in_ok-bytes.bytes in
     let long : length bs ≡ 8 = omega arith in
     let e = c.f64_from_bits_with_nan.ensures ∙ ap (of_bits binary64) c.from_le_bytes.ensures in
-    recast (λ t h. f64_read t bs _ long e h) c.in_ok-bytes.ensures.reads
+    record {
+      reads = recast (λ t h. f64_read t bs _ long e h) c.in_ok-bytes.ensures.reads;
+      refused = tt;
+    }

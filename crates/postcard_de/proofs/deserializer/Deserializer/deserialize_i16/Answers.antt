@@ -4,8 +4,12 @@ use mir.Syntax.{w16}
 use Rattle.postcard_de_nodes.specs.NumberLemmas.{int_read}
 use Rattle.postcard_de.proofs.deserializer.Deserializer.deserialize_i16.Goals as goal
 
-pub returns-clause-reads : goal.returns-clause-reads
-returns-clause-reads g c =
-    let z = c.de_zig_zag_i16.result in
-    rw (to_z-of_z w16 z (record { sfits = c.de_zig_zag_i16.type_inv }))
-    (int_read g.F.Flavor.lawful z (inl refl) c.de_zig_zag_i16.ensures c.in_ok-folded.ensures.reads)
+pub returns : goal.returns
+returns g c =
+    record {
+      reads =
+          let z = c.de_zig_zag_i16.result in
+          rw (to_z-of_z w16 z (record { sfits = c.de_zig_zag_i16.type_inv }))
+          (int_read g.F.Flavor.lawful z (inl refl) c.de_zig_zag_i16.ensures c.in_ok-folded.ensures.reads);
+      refused = tt;
+    }

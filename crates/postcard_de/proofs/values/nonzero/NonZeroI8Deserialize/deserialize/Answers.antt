@@ -1,15 +1,13 @@
 use Rattle.std.proofs.Common.{◌≡◌, pos, arith}
 use Rattle.std.proofs.lemmas.Grind.{common_steps}
-use Rattle.postcard_de_nodes.specs.ReadLemmas.{is_refusal}
-use Rattle.postcard_de.proofs.Zeros.{no_byte, signed_byte_is_why}
+use Rattle.postcard_de.proofs.Zeros.{fewer_fail, zero_signed_byte}
 use Rattle.postcard_de.proofs.values.nonzero.NonZeroI8Deserialize.deserialize.Goals as goal
 
-pub returns-in_err-number-clause-refused : goal.returns-in_err-number-clause-refused
-returns-in_err-number-clause-refused g c =
-    rw (is_refusal c.from_residual.result c.in_err-number.field-0.0 c.from_residual.ensures.1)
-    (no_byte c.in_err-number.ensures.refused)
+pub returns-in_err-number : goal.returns-in_err-number
+returns-in_err-number g c =
+    fewer_fail (λ t r. r.0) (λ p b. absurd b) c.from_residual.ensures.1 c.in_err-number.ensures
 
-pub returns-in-None-clause-refused : goal.returns-in-None-clause-refused
-returns-in-None-clause-refused g c =
+pub returns-in-None : goal.returns-in-None
+returns-in-None g c =
     let zero : c.in_ok-number.number ≡ pos 0 = grind (arith, common_steps) in
-    signed_byte_is_why zero c.in_ok-number.ensures.reads
+    zero_signed_byte zero c.in_ok-number.ensures

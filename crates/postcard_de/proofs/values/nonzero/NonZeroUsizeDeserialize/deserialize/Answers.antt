@@ -1,11 +1,10 @@
-use Rattle.postcard_de_nodes.specs.ReadLemmas.{is_refusal}
-use Rattle.postcard_de.proofs.Zeros.{no_number, number_is_why}
+use Rattle.std.proofs.Common.{inl}
+use Rattle.postcard_de.proofs.Zeros.{fewer_fail, zero_number}
 use Rattle.postcard_de.proofs.values.nonzero.NonZeroUsizeDeserialize.deserialize.Goals as goal
 
-pub returns-in_err-number-clause-refused : goal.returns-in_err-number-clause-refused
-returns-in_err-number-clause-refused g c =
-    rw (is_refusal c.from_residual.result c.in_err-number.field-0.0 c.from_residual.ensures.1)
-    (no_number c.in_err-number.ensures.refused)
+pub returns-in_err-number : goal.returns-in_err-number
+returns-in_err-number g c =
+    fewer_fail (λ t r. r.0) (λ p b. inl b) c.from_residual.ensures.1 c.in_err-number.ensures
 
-pub returns-in-None-clause-refused : goal.returns-in-None-clause-refused
-returns-in-None-clause-refused g c = number_is_why c.in-None.ensures c.in_ok-number.ensures.reads
+pub returns-in-None : goal.returns-in-None
+returns-in-None g c = zero_number 64 c.in-None.ensures c.in_ok-number.ensures

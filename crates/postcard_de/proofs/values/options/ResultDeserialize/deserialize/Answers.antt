@@ -28,15 +28,23 @@ returns-in_err-value-in-1 g c =
           (inr (inr (content_is_why laws index c.in_err-value-in-1.ensures)));
     }
 
-pub returns-in_ok-value-in-0-clause-reads : goal.returns-in_ok-value-in-0-clause-reads
-returns-in_ok-value-in-0-clause-reads g c =
-    variant_read g.F.Flavor.lawful (λ t h. (0, t, refl, h))
-    (rw c.in-0.is at c.in_ok-index.ensures.reads) c.in_ok-value-in-0.ensures
+pub returns-in_ok-value-in-0 : goal.returns-in_ok-value-in-0
+returns-in_ok-value-in-0 g c =
+    record {
+      reads =
+          variant_read g.F.Flavor.lawful (λ t h. (0, t, refl, h))
+          (rw c.in-0.is at c.in_ok-index.ensures.reads) c.in_ok-value-in-0.ensures;
+      refused = tt;
+    }
 
-pub returns-in_ok-value-in-1-clause-reads : goal.returns-in_ok-value-in-1-clause-reads
-returns-in_ok-value-in-1-clause-reads g c =
-    variant_read g.F.Flavor.lawful (λ t h. (1, t, refl, h))
-    (rw c.in-1.is at c.in_ok-index.ensures.reads) c.in_ok-value-in-1.ensures
+pub returns-in_ok-value-in-1 : goal.returns-in_ok-value-in-1
+returns-in_ok-value-in-1 g c =
+    record {
+      reads =
+          variant_read g.F.Flavor.lawful (λ t h. (1, t, refl, h))
+          (rw c.in-1.is at c.in_ok-index.ensures.reads) c.in_ok-value-in-1.ensures;
+      refused = tt;
+    }
 
 pub returns-in_err-index : goal.returns-in_err-index
 returns-in_err-index g c =
