@@ -1,10 +1,10 @@
 //! The flavor that encodes by COBS.
 
 ghost use Rattle.std.specs.Prelude.{◌≡◌, ℕ, ◌+◌, ◌<◌, List, [], ◌∷◌, ◌++◌, length, IsFalse, IfOk};
-ghost use Rattle.std.specs.Prelude.{IfErr, OnOk, OnErr, IsOk, IsTrue, IsErrOf};
+ghost use Rattle.std.specs.Prelude.{IfErr, OnOk, OnErr, IsOk, IsOkUnless, IsTrue, IsErrOf};
 ghost use Rattle.postcard_cobs.specs.Groups.{made};
 ghost use Rattle.postcard_ser_cobs.specs.Framing.{HoldsOpen, HasFrameRoom, LeavesFrame};
-ghost use Rattle.postcard_ser_flavors.specs.Flavor.{AppendsFront};
+ghost use Rattle.postcard_ser_flavors.specs.Pushing.{PushedBy, FinalizedBy};
 ghost use Rattle.postcard_wire.specs.Number.{digits};
 
 use crate::steps::{push_one, set_code, take_step};
@@ -57,7 +57,7 @@ impl<B: Storage + Drop> Cobs<B> {
         ensures keeps_free { IfOk result
             (λ c. (n : ℕ) → B.free bee (1 + n) → B.free c.storage n) }
         ensures has_room { B.free bee 1 → IsOk result }
-        ensures refuses_by_buffer_full { IfErr result (λ e. e ≡ Error.SerializeBufferFull) }
+        ensures refuses_by_buffer_full { IsOkUnless result Error.SerializeBufferFull }
     {
         let cobs = Cobs::open(bee);
         if cobs.failed {
@@ -106,7 +106,7 @@ impl<B: Storage + Drop> Cobs<B> {
         ensures leaves { B.reaches self.storage result.0 }
         ensures keeps_free { OnOk result.1
             ((n : ℕ) → B.free self.storage (1 + n) → B.free result.0 n) }
-        ensures has_room { ⟦<Cobs<B> as Flavor>⟧.room self [] → IsOk result.1 }
+        ensures has_room { ⟦<Self as Flavor>⟧.room self [] → IsOk result.1 }
         ensures stays_refused { IsTrue self.failed → IsErrOf result.1 Error.SerializeBufferFull }
         ensures storage_kept { IsTrue self.failed → result.0 ≡ self.storage }
         ensures refuses_by_buffer_full { IfErr result.1 (λ e. e ≡ Error.SerializeBufferFull) }
@@ -181,16 +181,11 @@ impl<B: Storage + Drop> Flavor for Cobs<B> {
     /// or 2 bytes, if the frame would get too long to count, and after any earlier failure.
     #[inline(always)]
     fn try_push(&mut self, byte: u8) -> Result<()>
-        ensures appends { OnOk result
-            (⟦<Cobs<B> as Flavor>⟧.appended self.old (byte ∷ []) self.new) }
-        ensures has_room { ⟦<Cobs<B> as Flavor>⟧.room self.old (byte ∷ []) → IsOk result }
-        ensures refused { OnErr result (⟦<Cobs<B> as Flavor>⟧.tidy
-            → AppendsFront ⟦<Cobs<B> as Flavor>⟧.appended self.old (byte ∷ []) self.new) }
-        ensures leaves { ⟦<Cobs<B> as Flavor>⟧.reaches self.old self.new }
+        ensures pushed { PushedBy ⟦<Self as Flavor>⟧ self.old (byte ∷ []) result self.new }
         ensures stays_refused { IsTrue self.old.failed → IsErrOf result Error.SerializeBufferFull }
         ensures storage_kept { IsTrue self.old.failed → self.new.storage ≡ self.old.storage }
         ensures remembers_refusal { OnErr result (IsTrue self.new.failed) }
-        ensures refuses_by_buffer_full { IfErr result (λ e. e ≡ Error.SerializeBufferFull) }
+        ensures refuses_by_buffer_full { IsOkUnless result Error.SerializeBufferFull }
     {
         if self.failed || self.encoder.place() > usize::MAX - 2 {
             self.failed = true;
@@ -214,17 +209,12 @@ impl<B: Storage + Drop> Flavor for Cobs<B> {
     /// the frame would get too long to count, and, unless `bytes` is empty, after any earlier
     /// failure.
     fn try_extend(&mut self, bytes: &[u8]) -> Result<()>
-        ensures appends { OnOk result
-            (⟦<Cobs<B> as Flavor>⟧.appended self.old bytes.now self.new) }
-        ensures has_room { ⟦<Cobs<B> as Flavor>⟧.room self.old bytes.now → IsOk result }
-        ensures refused { OnErr result (⟦<Cobs<B> as Flavor>⟧.tidy
-            → AppendsFront ⟦<Cobs<B> as Flavor>⟧.appended self.old bytes.now self.new) }
-        ensures leaves { ⟦<Cobs<B> as Flavor>⟧.reaches self.old self.new }
+        ensures pushed { PushedBy ⟦<Self as Flavor>⟧ self.old bytes.now result self.new }
         ensures stays_refused { IsTrue self.old.failed → 0 < length bytes.now
             → IsErrOf result Error.SerializeBufferFull }
         ensures storage_kept { IsTrue self.old.failed → self.new.storage ≡ self.old.storage }
         ensures remembers_refusal { OnErr result (IsTrue self.new.failed) }
-        ensures refuses_by_buffer_full { IfErr result (λ e. e ≡ Error.SerializeBufferFull) }
+        ensures refuses_by_buffer_full { IsOkUnless result Error.SerializeBufferFull }
     {
         let mut place = 0;
         while place < bytes.len() {
@@ -240,15 +230,11 @@ impl<B: Storage + Drop> Flavor for Cobs<B> {
     /// Fails with `SerializeBufferFull` if the storage has no room for what the frame grows by, if
     /// the frame would get too long to count, and after any earlier failure.
     fn try_varint(&mut self, n: u64) -> Result<()>
-        ensures appends { OnOk result (⟦<Cobs<B> as Flavor>⟧.appended self.old (digits n) self.new) }
-        ensures has_room { ⟦<Cobs<B> as Flavor>⟧.room self.old (digits n) → IsOk result }
-        ensures refused { OnErr result (⟦<Cobs<B> as Flavor>⟧.tidy
-            → AppendsFront ⟦<Cobs<B> as Flavor>⟧.appended self.old (digits n) self.new) }
-        ensures leaves { ⟦<Cobs<B> as Flavor>⟧.reaches self.old self.new }
+        ensures pushed { PushedBy ⟦<Self as Flavor>⟧ self.old (digits n) result self.new }
         ensures stays_refused { IsTrue self.old.failed → IsErrOf result Error.SerializeBufferFull }
         ensures storage_kept { IsTrue self.old.failed → self.new.storage ≡ self.old.storage }
         ensures remembers_refusal { OnErr result (IsTrue self.new.failed) }
-        ensures refuses_by_buffer_full { IfErr result (λ e. e ≡ Error.SerializeBufferFull) }
+        ensures refuses_by_buffer_full { IsOkUnless result Error.SerializeBufferFull }
     {
         let mut out = [0; VARINT_MAX_64];
         self.try_extend(varint_u64(n, &mut out))
@@ -262,10 +248,9 @@ impl<B: Storage + Drop> Flavor for Cobs<B> {
     /// Fails with `SerializeBufferFull` if the storage has no room for the sentinel, if the
     /// storage's own `finalize` fails, and after any earlier failure. The storage is then dropped.
     fn finalize(self) -> Result<<B as Flavor>::Output>
-        ensures gives { IfOk result (λ output. ⟦<Cobs<B> as Flavor>⟧.finishes self output) }
-        ensures closes { ⟦<Cobs<B> as Flavor>⟧.room self [] → IsOk result }
+        ensures finalized { FinalizedBy ⟦<Self as Flavor>⟧ self result }
         ensures stays_refused { IsTrue self.failed → IsErrOf result Error.SerializeBufferFull }
-        ensures refuses_by_buffer_full { IfErr result (λ e. e ≡ Error.SerializeBufferFull) }
+        ensures refuses_by_buffer_full { IsOkUnless result Error.SerializeBufferFull }
     {
         let (storage, closed) = self.close();
         closed?;

@@ -1,7 +1,7 @@
 //! What a frame asks of its storage: bytes after those that it holds, and code bytes set.
 
 ghost use Rattle.std.specs.Prelude.{◌≡◌, ℕ, ◌+◌, ◌-◌, ◌<◌, ◌≤◌, List, [], ◌∷◌, ◌++◌};
-ghost use Rattle.std.specs.Prelude.{length, slice_set, IfErr, OnOk, IsOk};
+ghost use Rattle.std.specs.Prelude.{length, slice_set, IsOkUnless, OnOk, IsOk};
 ghost use Rattle.postcard_ser_cobs.specs.Framing.{HoldsThen};
 ghost use Rattle.postcard_ser_cobs.specs.Steps.{growth, SetsBelow, changed_from};
 
@@ -16,7 +16,7 @@ pub(crate) fn push_one<B: Storage>(storage: &mut B, byte: u8) -> Result<()>
     ensures leaves { B.reaches storage.old storage.new }
     ensures keeps_free { OnOk result
         ((n : ℕ) → B.free storage.old (1 + n) → B.free storage.new n) }
-    ensures refuses_by_buffer_full { IfErr result (λ e. e ≡ Error.SerializeBufferFull) }
+    ensures refuses_by_buffer_full { IsOkUnless result Error.SerializeBufferFull }
 {
     match storage.try_push(byte) {
         Ok(()) => Ok(()),
@@ -32,7 +32,7 @@ pub(crate) fn push_piece<B: Storage>(storage: &mut B, bytes: &[u8]) -> Result<()
     ensures leaves { B.reaches storage.old storage.new }
     ensures keeps_free { OnOk result
         ((n : ℕ) → B.free storage.old (length bytes.now + n) → B.free storage.new n) }
-    ensures refuses_by_buffer_full { IfErr result (λ e. e ≡ Error.SerializeBufferFull) }
+    ensures refuses_by_buffer_full { IsOkUnless result Error.SerializeBufferFull }
 {
     match storage.try_extend(bytes) {
         Ok(()) => Ok(()),
@@ -95,7 +95,7 @@ pub(crate) fn take_step<B: Storage>(storage: &mut B, start: usize, step: PushRes
     ensures leaves { B.reaches storage.old storage.new }
     ensures keeps_free { OnOk result
         ((n : ℕ) → B.free storage.old (growth step + n) → B.free storage.new n) }
-    ensures refuses_by_buffer_full { IfErr result (λ e. e ≡ Error.SerializeBufferFull) }
+    ensures refuses_by_buffer_full { IsOkUnless result Error.SerializeBufferFull }
 {
     match step {
         PushResult::AddSingle(byte) => push_one(storage, byte),

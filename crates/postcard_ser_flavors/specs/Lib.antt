@@ -2,6 +2,7 @@
 pub mod Counted
 pub mod Flavor
 pub mod Held
+pub mod Pushing
 pub mod Slice
 pub mod SliceLaws
 pub mod SliceStorage

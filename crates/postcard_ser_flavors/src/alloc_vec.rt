@@ -1,9 +1,9 @@
 //! The flavor that appends to a growing vector.
 
-ghost use Rattle.std.specs.Prelude.{◌≡◌, ◌+◌, ◌<◌, [], ◌∷◌, ◌++◌, length, slice_index, slice_set};
-ghost use Rattle.std.specs.Prelude.{⊤, IsOk, OnOk, OnErr, IfOk, IfErr};
+ghost use Rattle.std.specs.Prelude.{◌≡◌, ◌<◌, [], ◌∷◌, length, slice_index, slice_set, ⊤};
+ghost use Rattle.std.specs.Prelude.{IsOk, IsOkUnless, OnErr};
 ghost use Rattle.postcard_wire.specs.Number.{digits};
-ghost use Rattle.postcard_ser_flavors.specs.Flavor.{AppendsFront};
+ghost use Rattle.postcard_ser_flavors.specs.Pushing.{PushedBy, FinalizedBy};
 ghost use Rattle.postcard_ser_flavors.specs.Held.{Appended, NoRoom, NoneFree, AnyReached};
 ghost use Rattle.postcard_ser_flavors.specs.Held.{grows_lawful, none_free, grows_storage};
 ghost use Rattle.postcard_ser_flavors.specs.Held.{list_indexed};
@@ -73,13 +73,8 @@ impl Flavor for AllocVec {
     /// Writes a byte. Fails with `SerializeBufferFull` if an allocation fails, and is then
     /// unchanged.
     fn try_push(&mut self, byte: u8) -> Result<()>
-        ensures appends { OnOk result
-            (⟦<AllocVec as Flavor>⟧.appended self.old (byte ∷ []) self.new) }
-        ensures has_room { ⟦<AllocVec as Flavor>⟧.room self.old (byte ∷ []) → IsOk result }
-        ensures refused { OnErr result (⟦<AllocVec as Flavor>⟧.tidy
-            → AppendsFront ⟦<AllocVec as Flavor>⟧.appended self.old (byte ∷ []) self.new) }
-        ensures leaves { ⟦<AllocVec as Flavor>⟧.reaches self.old self.new }
-        ensures refuses_by_buffer_full { IfErr result (λ e. e ≡ Error.SerializeBufferFull) }
+        ensures pushed { PushedBy ⟦<Self as Flavor>⟧ self.old (byte ∷ []) result self.new }
+        ensures refuses_by_buffer_full { IsOkUnless result Error.SerializeBufferFull }
         ensures unchanged { OnErr result (self.new ≡ self.old) }
     {
         self.vec.push(byte).map_err(|_| Error::SerializeBufferFull)
@@ -88,13 +83,8 @@ impl Flavor for AllocVec {
     /// Writes bytes in a row. Fails with `SerializeBufferFull` if an allocation fails, and is then
     /// unchanged.
     fn try_extend(&mut self, bytes: &[u8]) -> Result<()>
-        ensures appends { OnOk result
-            (⟦<AllocVec as Flavor>⟧.appended self.old bytes.now self.new) }
-        ensures has_room { ⟦<AllocVec as Flavor>⟧.room self.old bytes.now → IsOk result }
-        ensures refused { OnErr result (⟦<AllocVec as Flavor>⟧.tidy
-            → AppendsFront ⟦<AllocVec as Flavor>⟧.appended self.old bytes.now self.new) }
-        ensures leaves { ⟦<AllocVec as Flavor>⟧.reaches self.old self.new }
-        ensures refuses_by_buffer_full { IfErr result (λ e. e ≡ Error.SerializeBufferFull) }
+        ensures pushed { PushedBy ⟦<Self as Flavor>⟧ self.old bytes.now result self.new }
+        ensures refuses_by_buffer_full { IsOkUnless result Error.SerializeBufferFull }
         ensures unchanged { OnErr result (self.new ≡ self.old) }
     {
         self.vec
@@ -105,13 +95,8 @@ impl Flavor for AllocVec {
     /// Writes the varint of a number. Fails with `SerializeBufferFull` if an allocation fails, and is
     /// then unchanged.
     fn try_varint(&mut self, n: u64) -> Result<()>
-        ensures appends { OnOk result
-            (⟦<AllocVec as Flavor>⟧.appended self.old (digits n) self.new) }
-        ensures has_room { ⟦<AllocVec as Flavor>⟧.room self.old (digits n) → IsOk result }
-        ensures refused { OnErr result (⟦<AllocVec as Flavor>⟧.tidy
-            → AppendsFront ⟦<AllocVec as Flavor>⟧.appended self.old (digits n) self.new) }
-        ensures leaves { ⟦<AllocVec as Flavor>⟧.reaches self.old self.new }
-        ensures refuses_by_buffer_full { IfErr result (λ e. e ≡ Error.SerializeBufferFull) }
+        ensures pushed { PushedBy ⟦<Self as Flavor>⟧ self.old (digits n) result self.new }
+        ensures refuses_by_buffer_full { IsOkUnless result Error.SerializeBufferFull }
         ensures unchanged { OnErr result (self.new ≡ self.old) }
     {
         let mut out = [0; VARINT_MAX_64];
@@ -120,8 +105,7 @@ impl Flavor for AllocVec {
 
     /// Returns the vector. Never fails.
     fn finalize(self) -> Result<Vec<u8>>
-        ensures gives { IfOk result (λ output. ⟦<AllocVec as Flavor>⟧.finishes self output) }
-        ensures closes { ⟦<AllocVec as Flavor>⟧.room self [] → IsOk result }
+        ensures finalized { FinalizedBy ⟦<Self as Flavor>⟧ self result }
         ensures succeeds { IsOk result }
     {
         Ok(self.vec)

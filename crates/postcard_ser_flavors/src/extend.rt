@@ -1,8 +1,9 @@
 //! The flavor that appends to a target, such as a vector.
 
-ghost use Rattle.std.specs.Prelude.{◌≡◌, ℕ, List, [], ◌∷◌, ◌++◌, ⊤, IsOk, OnOk, OnErr, IfOk, IfErr};
+ghost use Rattle.std.specs.Prelude.{◌≡◌, ℕ, List, [], ◌∷◌, ◌++◌, ⊤, IsOk, OnOk, OnErr};
+ghost use Rattle.std.specs.Prelude.{IsOkUnless};
 ghost use Rattle.postcard_wire.specs.Number.{digits};
-ghost use Rattle.postcard_ser_flavors.specs.Flavor.{AppendsFront};
+ghost use Rattle.postcard_ser_flavors.specs.Pushing.{PushedBy, FinalizedBy};
 ghost use Rattle.postcard_ser_flavors.specs.Held.{Appended, NoRoom, AnyReached, grows_lawful};
 
 use crate::flavor::Flavor;
@@ -28,7 +29,7 @@ impl ExtendBytes for Vec<u8> {
     fn extend(&mut self, data: &[u8]) -> Result<()>
         ensures appends { OnOk result (self.new.items ≡ self.old.items ++ «data».now) }
         ensures unchanged { OnErr result (self.new.items ≡ self.old.items) }
-        ensures refuses_by_buffer_full { IfErr result (λ e. e ≡ Error.SerializeBufferFull) }
+        ensures refuses_by_buffer_full { IsOkUnless result Error.SerializeBufferFull }
     {
         self.extend_from_slice(data)
             .map_err(|_| Error::SerializeBufferFull)
@@ -78,13 +79,8 @@ impl<T: ExtendBytes + Drop> Flavor for ExtendFlavor<T> {
     /// Passes a byte on. Fails with `SerializeBufferFull` if the target fails, whose content is
     /// then unchanged.
     fn try_push(&mut self, byte: u8) -> Result<()>
-        ensures appends { OnOk result
-            (⟦<ExtendFlavor<T> as Flavor>⟧.appended self.old (byte ∷ []) self.new) }
-        ensures has_room { ⟦<ExtendFlavor<T> as Flavor>⟧.room self.old (byte ∷ []) → IsOk result }
-        ensures refused { OnErr result (⟦<ExtendFlavor<T> as Flavor>⟧.tidy
-            → AppendsFront ⟦<ExtendFlavor<T> as Flavor>⟧.appended self.old (byte ∷ []) self.new) }
-        ensures leaves { ⟦<ExtendFlavor<T> as Flavor>⟧.reaches self.old self.new }
-        ensures refuses_by_buffer_full { IfErr result (λ e. e ≡ Error.SerializeBufferFull) }
+        ensures pushed { PushedBy ⟦<Self as Flavor>⟧ self.old (byte ∷ []) result self.new }
+        ensures refuses_by_buffer_full { IsOkUnless result Error.SerializeBufferFull }
         ensures unchanged { OnErr result (T.content self.new ≡ T.content self.old) }
     {
         self.try_extend(&[byte])
@@ -93,13 +89,8 @@ impl<T: ExtendBytes + Drop> Flavor for ExtendFlavor<T> {
     /// Passes bytes on in one piece. Fails with `SerializeBufferFull` if the target fails, whose
     /// content is then unchanged.
     fn try_extend(&mut self, bytes: &[u8]) -> Result<()>
-        ensures appends { OnOk result
-            (⟦<ExtendFlavor<T> as Flavor>⟧.appended self.old bytes.now self.new) }
-        ensures has_room { ⟦<ExtendFlavor<T> as Flavor>⟧.room self.old bytes.now → IsOk result }
-        ensures refused { OnErr result (⟦<ExtendFlavor<T> as Flavor>⟧.tidy
-            → AppendsFront ⟦<ExtendFlavor<T> as Flavor>⟧.appended self.old bytes.now self.new) }
-        ensures leaves { ⟦<ExtendFlavor<T> as Flavor>⟧.reaches self.old self.new }
-        ensures refuses_by_buffer_full { IfErr result (λ e. e ≡ Error.SerializeBufferFull) }
+        ensures pushed { PushedBy ⟦<Self as Flavor>⟧ self.old bytes.now result self.new }
+        ensures refuses_by_buffer_full { IsOkUnless result Error.SerializeBufferFull }
         ensures unchanged { OnErr result (T.content self.new ≡ T.content self.old) }
     {
         self.target
@@ -110,13 +101,8 @@ impl<T: ExtendBytes + Drop> Flavor for ExtendFlavor<T> {
     /// Passes the varint of a number on in one piece. Fails with `SerializeBufferFull` if the target
     /// fails, whose content is then unchanged.
     fn try_varint(&mut self, n: u64) -> Result<()>
-        ensures appends { OnOk result
-            (⟦<ExtendFlavor<T> as Flavor>⟧.appended self.old (digits n) self.new) }
-        ensures has_room { ⟦<ExtendFlavor<T> as Flavor>⟧.room self.old (digits n) → IsOk result }
-        ensures refused { OnErr result (⟦<ExtendFlavor<T> as Flavor>⟧.tidy
-            → AppendsFront ⟦<ExtendFlavor<T> as Flavor>⟧.appended self.old (digits n) self.new) }
-        ensures leaves { ⟦<ExtendFlavor<T> as Flavor>⟧.reaches self.old self.new }
-        ensures refuses_by_buffer_full { IfErr result (λ e. e ≡ Error.SerializeBufferFull) }
+        ensures pushed { PushedBy ⟦<Self as Flavor>⟧ self.old (digits n) result self.new }
+        ensures refuses_by_buffer_full { IsOkUnless result Error.SerializeBufferFull }
         ensures unchanged { OnErr result (T.content self.new ≡ T.content self.old) }
     {
         let mut out = [0; VARINT_MAX_64];
@@ -125,8 +111,7 @@ impl<T: ExtendBytes + Drop> Flavor for ExtendFlavor<T> {
 
     /// Returns the target. Never fails.
     fn finalize(self) -> Result<T>
-        ensures gives { IfOk result (λ output. ⟦<ExtendFlavor<T> as Flavor>⟧.finishes self output) }
-        ensures closes { ⟦<ExtendFlavor<T> as Flavor>⟧.room self [] → IsOk result }
+        ensures finalized { FinalizedBy ⟦<Self as Flavor>⟧ self result }
         ensures succeeds { IsOk result }
     {
         Ok(self.target)

@@ -1,8 +1,8 @@
 //! The trait of all writing flavors.
 
-ghost use Rattle.std.specs.Prelude.{ℕ, List, [], ◌∷◌, OnOk, OnErr, IfOk, IsOk};
+ghost use Rattle.std.specs.Prelude.{ℕ, List, [], ◌∷◌};
 ghost use Rattle.postcard_wire.specs.Number.{digits};
-ghost use Rattle.postcard_ser_flavors.specs.Flavor.{AppendsFront, IsFlavor};
+ghost use Rattle.postcard_ser_flavors.specs.Flavor.{IsFlavor, Pushed, Finalized};
 
 use postcard_wire::Result;
 use postcard_wire::varint::{VARINT_MAX_64, varint_u64};
@@ -38,20 +38,13 @@ pub trait Flavor {
     /// Takes a byte. Succeeds if the flavor has `room` for it, and may otherwise fail with any
     /// error; a tidy flavor has then appended the byte or nothing.
     fn try_push(&mut self, byte: u8) -> Result<()>
-        ensures appends { OnOk result (appended self.old (byte ∷ []) self.new) }
-        ensures has_room { room self.old (byte ∷ []) → IsOk result }
-        ensures refused { OnErr result (tidy → AppendsFront appended self.old (byte
-            ∷ []) self.new) }
-        ensures leaves { reaches self.old self.new };
+        ensures { Pushed appended room tidy reaches self.old (byte ∷ []) result self.new };
 
     /// Takes bytes in a row, by default one by one. A flavor that can take them at once overrides
     /// this. Succeeds if the flavor has `room` for all, and may otherwise fail with any error; a
     /// tidy flavor has then appended a beginning of the bytes or nothing.
     fn try_extend(&mut self, bytes: &[u8]) -> Result<()>
-        ensures appends { OnOk result (appended self.old bytes.now self.new) }
-        ensures has_room { room self.old bytes.now → IsOk result }
-        ensures refused { OnErr result (tidy → AppendsFront appended self.old bytes.now self.new) }
-        ensures leaves { reaches self.old self.new }
+        ensures { Pushed appended room tidy reaches self.old bytes.now result self.new }
     {
         for byte in bytes {
             self.try_push(*byte)?;
@@ -63,10 +56,7 @@ pub trait Flavor {
     /// in place overrides this. Succeeds if the flavor has `room` for it, and may otherwise fail
     /// with any error; a tidy flavor has then appended a beginning of the varint or nothing.
     fn try_varint(&mut self, n: u64) -> Result<()>
-        ensures appends { OnOk result (appended self.old (digits n) self.new) }
-        ensures has_room { room self.old (digits n) → IsOk result }
-        ensures refused { OnErr result (tidy → AppendsFront appended self.old (digits n) self.new) }
-        ensures leaves { reaches self.old self.new }
+        ensures { Pushed appended room tidy reaches self.old (digits n) result self.new }
     {
         let mut out = [0; VARINT_MAX_64];
         self.try_extend(varint_u64(n, &mut out))
@@ -75,6 +65,5 @@ pub trait Flavor {
     /// Ends the message, and returns the output. Succeeds if the flavor has `room` for no bytes,
     /// and may otherwise fail with any error.
     fn finalize(self) -> Result<Self::Output>
-        ensures gives { IfOk result (λ output. finishes self output) }
-        ensures closes { room self [] → IsOk result };
+        ensures { Finalized room finishes self result };
 }

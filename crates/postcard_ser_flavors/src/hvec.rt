@@ -1,9 +1,9 @@
 //! The flavor that fills a vector of a fixed capacity.
 
-ghost use Rattle.std.specs.Prelude.{◌≡◌, ◌+◌, ◌≤◌, ◌<◌, ◌↔◌, [], ◌∷◌, ◌++◌, length, slice_index};
-ghost use Rattle.std.specs.Prelude.{slice_set, ⊤, IsOk, OnOk, OnErr, IfOk, IfErr};
+ghost use Rattle.std.specs.Prelude.{◌≡◌, ◌+◌, ◌≤◌, ◌<◌, ◌↔◌, [], ◌∷◌, length, slice_index, slice_set};
+ghost use Rattle.std.specs.Prelude.{⊤, IsOk, IsOkUnless, OnErr};
 ghost use Rattle.postcard_wire.specs.Number.{digits};
-ghost use Rattle.postcard_ser_flavors.specs.Flavor.{AppendsFront};
+ghost use Rattle.postcard_ser_flavors.specs.Pushing.{PushedBy, FinalizedBy};
 ghost use Rattle.postcard_ser_flavors.specs.Held.{Appended, HasRoom, HasFreeUpTo, AnyReached};
 ghost use Rattle.postcard_ser_flavors.specs.Held.{fixed_lawful, fixed_free, fixed_storage};
 ghost use Rattle.postcard_ser_flavors.specs.Held.{list_indexed};
@@ -73,14 +73,9 @@ impl<const B: usize> Flavor for HVec<B> {
     /// Writes a byte. Fails with `SerializeBufferFull` if and only if `B` bytes are held, and is
     /// then unchanged.
     fn try_push(&mut self, byte: u8) -> Result<()>
-        ensures appends { OnOk result
-            (⟦<HVec<B> as Flavor>⟧.appended self.old (byte ∷ []) self.new) }
-        ensures has_room { ⟦<HVec<B> as Flavor>⟧.room self.old (byte ∷ []) → IsOk result }
-        ensures refused { OnErr result (⟦<HVec<B> as Flavor>⟧.tidy
-            → AppendsFront ⟦<HVec<B> as Flavor>⟧.appended self.old (byte ∷ []) self.new) }
-        ensures leaves { ⟦<HVec<B> as Flavor>⟧.reaches self.old self.new }
+        ensures pushed { PushedBy ⟦<Self as Flavor>⟧ self.old (byte ∷ []) result self.new }
         ensures fits_iff { IsOk result ↔ (length self.old + 1 ≤ B) }
-        ensures refuses_by_buffer_full { IfErr result (λ e. e ≡ Error.SerializeBufferFull) }
+        ensures refuses_by_buffer_full { IsOkUnless result Error.SerializeBufferFull }
         ensures unchanged { OnErr result (self.new ≡ self.old) }
     {
         self.vec
@@ -91,13 +86,9 @@ impl<const B: usize> Flavor for HVec<B> {
     /// Writes bytes in a row. Fails with `SerializeBufferFull` if and only if more than `B` bytes
     /// would be held, and is then unchanged.
     fn try_extend(&mut self, bytes: &[u8]) -> Result<()>
-        ensures appends { OnOk result (⟦<HVec<B> as Flavor>⟧.appended self.old bytes.now self.new) }
-        ensures has_room { ⟦<HVec<B> as Flavor>⟧.room self.old bytes.now → IsOk result }
-        ensures refused { OnErr result (⟦<HVec<B> as Flavor>⟧.tidy
-            → AppendsFront ⟦<HVec<B> as Flavor>⟧.appended self.old bytes.now self.new) }
-        ensures leaves { ⟦<HVec<B> as Flavor>⟧.reaches self.old self.new }
+        ensures pushed { PushedBy ⟦<Self as Flavor>⟧ self.old bytes.now result self.new }
         ensures fits_iff { IsOk result ↔ (length self.old + length bytes.now ≤ B) }
-        ensures refuses_by_buffer_full { IfErr result (λ e. e ≡ Error.SerializeBufferFull) }
+        ensures refuses_by_buffer_full { IsOkUnless result Error.SerializeBufferFull }
         ensures unchanged { OnErr result (self.new ≡ self.old) }
     {
         self.vec
@@ -108,14 +99,9 @@ impl<const B: usize> Flavor for HVec<B> {
     /// Writes the varint of a number. Fails with `SerializeBufferFull` if and only if more than `B`
     /// bytes would be held, and is then unchanged.
     fn try_varint(&mut self, n: u64) -> Result<()>
-        ensures appends { OnOk result
-            (⟦<HVec<B> as Flavor>⟧.appended self.old (digits n) self.new) }
-        ensures has_room { ⟦<HVec<B> as Flavor>⟧.room self.old (digits n) → IsOk result }
-        ensures refused { OnErr result (⟦<HVec<B> as Flavor>⟧.tidy
-            → AppendsFront ⟦<HVec<B> as Flavor>⟧.appended self.old (digits n) self.new) }
-        ensures leaves { ⟦<HVec<B> as Flavor>⟧.reaches self.old self.new }
+        ensures pushed { PushedBy ⟦<Self as Flavor>⟧ self.old (digits n) result self.new }
         ensures fits_iff { IsOk result ↔ (length self.old + length (digits n) ≤ B) }
-        ensures refuses_by_buffer_full { IfErr result (λ e. e ≡ Error.SerializeBufferFull) }
+        ensures refuses_by_buffer_full { IsOkUnless result Error.SerializeBufferFull }
         ensures unchanged { OnErr result (self.new ≡ self.old) }
     {
         let mut out = [0; VARINT_MAX_64];
@@ -124,8 +110,7 @@ impl<const B: usize> Flavor for HVec<B> {
 
     /// Returns the vector. Never fails.
     fn finalize(self) -> Result<ArrayVec<u8, B>>
-        ensures gives { IfOk result (λ output. ⟦<HVec<B> as Flavor>⟧.finishes self.entry output) }
-        ensures closes { ⟦<HVec<B> as Flavor>⟧.room self.entry [] → IsOk result }
+        ensures finalized { FinalizedBy ⟦<Self as Flavor>⟧ self.entry result }
         ensures succeeds { IsOk result }
     {
         Ok(self.vec)

@@ -1,8 +1,8 @@
 //! The flavor that writes to a writer of `std`.
 
-ghost use Rattle.std.specs.Prelude.{◌≡◌, [], ◌∷◌, ⊤, IsOk, OnOk, OnErr, IfOk, IfErr};
+ghost use Rattle.std.specs.Prelude.{◌≡◌, [], ◌∷◌, IsOkUnless};
 ghost use Rattle.std.specs.Io.KnownBytes.{Keeps};
-ghost use Rattle.postcard_ser_flavors.specs.Flavor.{AppendsFront};
+ghost use Rattle.postcard_ser_flavors.specs.Pushing.{PushedBy, FinalizedBy};
 ghost use Rattle.postcard_ser_flavors.specs.Held.{NoRoom, AnyReached};
 ghost use Rattle.postcard_ser_flavors.specs.WriterLaws.{AppendsKnown, writer_lawful};
 
@@ -54,13 +54,8 @@ impl<T: Write + Drop> Flavor for WriteFlavor<T> {
 
     /// Writes a byte to the writer. Fails with `SerializeBufferFull` if the writer fails.
     fn try_push(&mut self, byte: u8) -> Result<()>
-        ensures appends { OnOk result
-            (⟦<WriteFlavor<T> as Flavor>⟧.appended self.old (byte ∷ []) self.new) }
-        ensures has_room { ⟦<WriteFlavor<T> as Flavor>⟧.room self.old (byte ∷ []) → IsOk result }
-        ensures refused { OnErr result (⟦<WriteFlavor<T> as Flavor>⟧.tidy
-            → AppendsFront ⟦<WriteFlavor<T> as Flavor>⟧.appended self.old (byte ∷ []) self.new) }
-        ensures leaves { ⟦<WriteFlavor<T> as Flavor>⟧.reaches self.old self.new }
-        ensures refuses_by_buffer_full { IfErr result (λ e. e ≡ Error.SerializeBufferFull) }
+        ensures pushed { PushedBy ⟦<Self as Flavor>⟧ self.old (byte ∷ []) result self.new }
+        ensures refuses_by_buffer_full { IsOkUnless result Error.SerializeBufferFull }
     {
         self.try_extend(&[byte])
     }
@@ -68,13 +63,8 @@ impl<T: Write + Drop> Flavor for WriteFlavor<T> {
     /// Writes bytes to the writer in one piece, by `write_all`. Fails with `SerializeBufferFull` if
     /// the writer fails, which may then have got some of the bytes.
     fn try_extend(&mut self, bytes: &[u8]) -> Result<()>
-        ensures appends { OnOk result
-            (⟦<WriteFlavor<T> as Flavor>⟧.appended self.old bytes.now self.new) }
-        ensures has_room { ⟦<WriteFlavor<T> as Flavor>⟧.room self.old bytes.now → IsOk result }
-        ensures refused { OnErr result (⟦<WriteFlavor<T> as Flavor>⟧.tidy
-            → AppendsFront ⟦<WriteFlavor<T> as Flavor>⟧.appended self.old bytes.now self.new) }
-        ensures leaves { ⟦<WriteFlavor<T> as Flavor>⟧.reaches self.old self.new }
-        ensures refuses_by_buffer_full { IfErr result (λ e. e ≡ Error.SerializeBufferFull) }
+        ensures pushed { PushedBy ⟦<Self as Flavor>⟧ self.old bytes.now result self.new }
+        ensures refuses_by_buffer_full { IsOkUnless result Error.SerializeBufferFull }
     {
         self.writer
             .write_all(bytes)
@@ -84,9 +74,8 @@ impl<T: Write + Drop> Flavor for WriteFlavor<T> {
     /// Flushes the writer and returns it. Fails with `SerializeBufferFull` if the flush fails; the
     /// writer is then dropped.
     fn finalize(self) -> Result<T>
-        ensures gives { IfOk result (λ output. ⟦<WriteFlavor<T> as Flavor>⟧.finishes self output) }
-        ensures closes { ⟦<WriteFlavor<T> as Flavor>⟧.room self [] → IsOk result }
-        ensures refuses_by_buffer_full { IfErr result (λ e. e ≡ Error.SerializeBufferFull) }
+        ensures finalized { FinalizedBy ⟦<Self as Flavor>⟧ self result }
+        ensures refuses_by_buffer_full { IsOkUnless result Error.SerializeBufferFull }
     {
         let WriteFlavor { mut writer } = self;
         writer.flush().map_err(|_| Error::SerializeBufferFull)?;

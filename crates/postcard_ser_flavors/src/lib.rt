@@ -1,10 +1,11 @@
 //! Where written bytes go: a flavor takes them one by one or many at once, and returns its output
 //! at the end.
 //!
-//! The one contract is that of [`Flavor`]. After an `Ok` the bytes that were passed are `appended`;
-//! bytes that it has `room` for are taken; `reaches` says what a call leaves, whether it succeeds
-//! or fails. The laws of these words are its member `lawful`. The layer above cites nothing else,
-//! but for a `Slice`, whose `into_parts` says what a caller's buffer holds in the end.
+//! The one contract is that of [`Flavor`], by the record `Pushed`. After an `Ok` the bytes that were
+//! passed are `appended`; bytes that it has `room` for are taken; `reaches` says what a call leaves,
+//! whether it succeeds or fails. The laws of these words are its member `lawful`. The layer above
+//! cites nothing else, but for a `Slice`, whose `into_parts` says what a caller's buffer holds in
+//! the end.
 //!
 //! Which flavor for what:
 //!

@@ -1,10 +1,10 @@
 //! The flavor that only counts.
 
 ghost use Rattle.std.specs.Prelude.{◌≡◌, ◌+◌, ◌^◌, ◌<◌, ◌↔◌, [], ◌∷◌, length, ⊤, IsOk, OnOk, OnErr};
-ghost use Rattle.std.specs.Prelude.{IfOk, IfErr};
+ghost use Rattle.std.specs.Prelude.{IsOkUnless};
 ghost use Rattle.postcard_wire.specs.Number.{digits};
 ghost use Rattle.postcard_ser_flavors.specs.Counted.{Counts, CanCount, Rises, count_lawful};
-ghost use Rattle.postcard_ser_flavors.specs.Flavor.{AppendsFront};
+ghost use Rattle.postcard_ser_flavors.specs.Pushing.{PushedBy, FinalizedBy};
 
 use crate::flavor::Flavor;
 use postcard_wire::varint::{VARINT_MAX_64, varint_u64};
@@ -40,7 +40,7 @@ impl Size {
     fn add(&mut self, len: usize) -> Result<()>
         ensures counts { OnOk result (self.new ≡ self.old + len) }
         ensures fits_iff { IsOk result ↔ (self.old + len < 2 ^ 64) }
-        ensures refuses_by_buffer_full { IfErr result (λ e. e ≡ Error.SerializeBufferFull) }
+        ensures refuses_by_buffer_full { IsOkUnless result Error.SerializeBufferFull }
         ensures unchanged { OnErr result (self.new ≡ self.old) }
     {
         match self.count.checked_add(len) {
@@ -71,13 +71,9 @@ impl Flavor for Size {
     /// Counts a byte. Fails with `SerializeBufferFull` if and only if the count would pass
     /// `usize::MAX`, and is then unchanged.
     fn try_push(&mut self, byte: u8) -> Result<()>
-        ensures appends { OnOk result (⟦<Size as Flavor>⟧.appended self.old (byte ∷ []) self.new) }
-        ensures has_room { ⟦<Size as Flavor>⟧.room self.old (byte ∷ []) → IsOk result }
-        ensures refused { OnErr result (⟦<Size as Flavor>⟧.tidy
-            → AppendsFront ⟦<Size as Flavor>⟧.appended self.old (byte ∷ []) self.new) }
-        ensures leaves { ⟦<Size as Flavor>⟧.reaches self.old self.new }
+        ensures pushed { PushedBy ⟦<Self as Flavor>⟧ self.old (byte ∷ []) result self.new }
         ensures fits_iff { IsOk result ↔ (self.old + 1 < 2 ^ 64) }
-        ensures refuses_by_buffer_full { IfErr result (λ e. e ≡ Error.SerializeBufferFull) }
+        ensures refuses_by_buffer_full { IsOkUnless result Error.SerializeBufferFull }
         ensures unchanged { OnErr result (self.new ≡ self.old) }
     {
         let _ = byte;
@@ -87,13 +83,9 @@ impl Flavor for Size {
     /// Counts bytes. Fails with `SerializeBufferFull` if and only if the count would pass
     /// `usize::MAX`, and is then unchanged.
     fn try_extend(&mut self, bytes: &[u8]) -> Result<()>
-        ensures appends { OnOk result (⟦<Size as Flavor>⟧.appended self.old bytes.now self.new) }
-        ensures has_room { ⟦<Size as Flavor>⟧.room self.old bytes.now → IsOk result }
-        ensures refused { OnErr result (⟦<Size as Flavor>⟧.tidy
-            → AppendsFront ⟦<Size as Flavor>⟧.appended self.old bytes.now self.new) }
-        ensures leaves { ⟦<Size as Flavor>⟧.reaches self.old self.new }
+        ensures pushed { PushedBy ⟦<Self as Flavor>⟧ self.old bytes.now result self.new }
         ensures fits_iff { IsOk result ↔ (self.old + length bytes.now < 2 ^ 64) }
-        ensures refuses_by_buffer_full { IfErr result (λ e. e ≡ Error.SerializeBufferFull) }
+        ensures refuses_by_buffer_full { IsOkUnless result Error.SerializeBufferFull }
         ensures unchanged { OnErr result (self.new ≡ self.old) }
     {
         self.add(bytes.len())
@@ -102,14 +94,9 @@ impl Flavor for Size {
     /// Counts the bytes of a varint. Fails with `SerializeBufferFull` if and only if the count would
     /// pass `usize::MAX`, and is then unchanged.
     fn try_varint(&mut self, n: u64) -> Result<()>
-        ensures appends { OnOk result
-            (⟦<Size as Flavor>⟧.appended self.old (digits n) self.new) }
-        ensures has_room { ⟦<Size as Flavor>⟧.room self.old (digits n) → IsOk result }
-        ensures refused { OnErr result (⟦<Size as Flavor>⟧.tidy
-            → AppendsFront ⟦<Size as Flavor>⟧.appended self.old (digits n) self.new) }
-        ensures leaves { ⟦<Size as Flavor>⟧.reaches self.old self.new }
+        ensures pushed { PushedBy ⟦<Self as Flavor>⟧ self.old (digits n) result self.new }
         ensures fits_iff { IsOk result ↔ (self.old + length (digits n) < 2 ^ 64) }
-        ensures refuses_by_buffer_full { IfErr result (λ e. e ≡ Error.SerializeBufferFull) }
+        ensures refuses_by_buffer_full { IsOkUnless result Error.SerializeBufferFull }
         ensures unchanged { OnErr result (self.new ≡ self.old) }
     {
         let mut out = [0; VARINT_MAX_64];
@@ -118,8 +105,7 @@ impl Flavor for Size {
 
     /// Returns the count. Never fails.
     fn finalize(self) -> Result<usize>
-        ensures gives { IfOk result (λ output. ⟦<Size as Flavor>⟧.finishes self output) }
-        ensures closes { ⟦<Size as Flavor>⟧.room self [] → IsOk result }
+        ensures finalized { FinalizedBy ⟦<Self as Flavor>⟧ self result }
         ensures succeeds { IsOk result }
     {
         Ok(self.count)

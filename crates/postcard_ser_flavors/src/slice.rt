@@ -1,9 +1,9 @@
 //! The flavor that fills a caller's slice from its front.
 
 ghost use Rattle.std.specs.Prelude.{◌≡◌, ◌≤◌, ◌↔◌, [], ◌∷◌, length, drop, ⊤, IsOk, OnOk, OnErr};
-ghost use Rattle.std.specs.Prelude.{IfOk, IfErr};
+ghost use Rattle.std.specs.Prelude.{IsOkUnless};
 ghost use Rattle.postcard_wire.specs.Number.{digits};
-ghost use Rattle.postcard_ser_flavors.specs.Flavor.{AppendsFront};
+ghost use Rattle.postcard_ser_flavors.specs.Pushing.{PushedBy, FinalizedBy};
 ghost use Rattle.postcard_ser_flavors.specs.Slice.{held, free, Appended, HasRoom, Reaches};
 ghost use Rattle.postcard_ser_flavors.specs.SliceLaws.{slice_lawful};
 
@@ -96,15 +96,10 @@ impl<'a> Flavor for Slice<'a> {
     /// Writes a byte. Fails with `SerializeBufferFull` if and only if none is free, and is then
     /// unchanged.
     fn try_push(&mut self, byte: u8) -> Result<()>
-        ensures appends { OnOk result
-            (⟦<Slice<'static> as Flavor>⟧.appended self.old (byte ∷ []) self.new) }
-        ensures has_room { ⟦<Slice<'static> as Flavor>⟧.room self.old (byte ∷ []) → IsOk result }
-        ensures refused { OnErr result (⟦<Slice<'static> as Flavor>⟧.tidy
-            → AppendsFront ⟦<Slice<'static> as Flavor>⟧.appended self.old (byte ∷ []) self.new) }
-        ensures leaves { ⟦<Slice<'static> as Flavor>⟧.reaches self.old self.new }
+        ensures pushed { PushedBy ⟦<Self as Flavor>⟧ self.old (byte ∷ []) result self.new }
         ensures fits_iff { IsOk result ↔ (1 ≤ length (free self.old)) }
         ensures rest_unchanged { OnOk result (free self.new ≡ drop 1 (free self.old)) }
-        ensures refuses_by_buffer_full { IfErr result (λ e. e ≡ Error.SerializeBufferFull) }
+        ensures refuses_by_buffer_full { IsOkUnless result Error.SerializeBufferFull }
         ensures unchanged { OnErr result (self.new ≡ self.old) }
     {
         if self.position == self.len {
@@ -119,16 +114,11 @@ impl<'a> Flavor for Slice<'a> {
     /// Writes bytes in a row. Fails with `SerializeBufferFull` if and only if they are more than
     /// are free, and is then unchanged.
     fn try_extend(&mut self, bytes: &[u8]) -> Result<()>
-        ensures appends { OnOk result
-            (⟦<Slice<'static> as Flavor>⟧.appended self.old bytes.now self.new) }
-        ensures has_room { ⟦<Slice<'static> as Flavor>⟧.room self.old bytes.now → IsOk result }
-        ensures refused { OnErr result (⟦<Slice<'static> as Flavor>⟧.tidy
-            → AppendsFront ⟦<Slice<'static> as Flavor>⟧.appended self.old bytes.now self.new) }
-        ensures leaves { ⟦<Slice<'static> as Flavor>⟧.reaches self.old self.new }
+        ensures pushed { PushedBy ⟦<Self as Flavor>⟧ self.old bytes.now result self.new }
         ensures fits_iff { IsOk result ↔ (length bytes.now ≤ length (free self.old)) }
         ensures rest_unchanged { OnOk result (free self.new
             ≡ drop (length bytes.now) (free self.old)) }
-        ensures refuses_by_buffer_full { IfErr result (λ e. e ≡ Error.SerializeBufferFull) }
+        ensures refuses_by_buffer_full { IsOkUnless result Error.SerializeBufferFull }
         ensures unchanged { OnErr result (self.new ≡ self.old) }
     {
         if self.len - self.position < bytes.len() {
@@ -146,16 +136,11 @@ impl<'a> Flavor for Slice<'a> {
     /// if it has more bytes than are free, and is then unchanged.
     #[inline]
     fn try_varint(&mut self, n: u64) -> Result<()>
-        ensures appends { OnOk result
-            (⟦<Slice<'static> as Flavor>⟧.appended self.old (digits n) self.new) }
-        ensures has_room { ⟦<Slice<'static> as Flavor>⟧.room self.old (digits n) → IsOk result }
-        ensures refused { OnErr result (⟦<Slice<'static> as Flavor>⟧.tidy
-            → AppendsFront ⟦<Slice<'static> as Flavor>⟧.appended self.old (digits n) self.new) }
-        ensures leaves { ⟦<Slice<'static> as Flavor>⟧.reaches self.old self.new }
+        ensures pushed { PushedBy ⟦<Self as Flavor>⟧ self.old (digits n) result self.new }
         ensures fits_iff { IsOk result ↔ (length (digits n) ≤ length (free self.old)) }
         ensures rest_unchanged { OnOk result (free self.new
             ≡ drop (length (digits n)) (free self.old)) }
-        ensures refuses_by_buffer_full { IfErr result (λ e. e ≡ Error.SerializeBufferFull) }
+        ensures refuses_by_buffer_full { IsOkUnless result Error.SerializeBufferFull }
         ensures unchanged { OnErr result (self.new ≡ self.old) }
     {
         if self.len - self.position < VARINT_MAX_64 {
@@ -172,9 +157,7 @@ impl<'a> Flavor for Slice<'a> {
 
     /// Returns the front of the slice, with the bytes written. Never fails.
     fn finalize(self) -> Result<&'a mut [u8]>
-        ensures gives { IfOk result
-            (λ output. ⟦<Slice<'static> as Flavor>⟧.finishes self.entry output) }
-        ensures closes { ⟦<Slice<'static> as Flavor>⟧.room self.entry [] → IsOk result }
+        ensures finalized { FinalizedBy ⟦<Self as Flavor>⟧ self.entry result }
         ensures succeeds { IsOk result }
     {
         let (all, count) = self.into_parts();

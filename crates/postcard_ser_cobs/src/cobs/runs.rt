@@ -2,8 +2,9 @@
 //! many.
 
 ghost use Rattle.std.specs.Prelude.{◌≡◌, ◌≤◌, ◌+◌, ◌-◌, ◌<◌, length, take, drop, slice_index, IfOk};
-ghost use Rattle.std.specs.Prelude.{IfErr, OnOk, OnErr, IsOk, IsTrue, IsErrOf};
+ghost use Rattle.std.specs.Prelude.{IsOkUnless, OnErr, IsOk, IsTrue, IsErrOf};
 ghost use Rattle.postcard_cobs.specs.Groups.{NoZero};
+ghost use Rattle.postcard_ser_flavors.specs.Pushing.{PushedBy};
 
 use crate::cobs::Cobs;
 use crate::steps::{push_piece, set_codes};
@@ -62,14 +63,11 @@ impl<B: Storage + Drop> Cobs<B> {
     fn push_run(&mut self, run: &[u8]) -> Result<()>
         requires no_zero { NoZero run.now }
         requires short { length run.now < 255 - self.old.encoder.code }
-        ensures appends { OnOk result
-            (⟦<Cobs<B> as Flavor>⟧.appended self.old run.now self.new) }
-        ensures has_room { ⟦<Cobs<B> as Flavor>⟧.room self.old run.now → IsOk result }
-        ensures leaves { ⟦<Cobs<B> as Flavor>⟧.reaches self.old self.new }
+        ensures pushed { PushedBy ⟦<Self as Flavor>⟧ self.old run.now result self.new }
         ensures stays_refused { IsTrue self.old.failed → IsErrOf result Error.SerializeBufferFull }
         ensures storage_kept { IsTrue self.old.failed → self.new.storage ≡ self.old.storage }
         ensures remembers_refusal { OnErr result (IsTrue self.new.failed) }
-        ensures refuses_by_buffer_full { IfErr result (λ e. e ≡ Error.SerializeBufferFull) }
+        ensures refuses_by_buffer_full { IsOkUnless result Error.SerializeBufferFull }
     {
         if self.failed || self.encoder.place() > usize::MAX - 2 - run.len() {
             self.failed = true;
@@ -90,14 +88,11 @@ impl<B: Storage + Drop> Cobs<B> {
     #[inline(never)]
     fn push_dense(&mut self, piece: &[u8]) -> Result<()>
         requires short { length piece.now < 255 - self.old.encoder.code }
-        ensures appends { OnOk result
-            (⟦<Cobs<B> as Flavor>⟧.appended self.old piece.now self.new) }
-        ensures has_room { ⟦<Cobs<B> as Flavor>⟧.room self.old piece.now → IsOk result }
-        ensures leaves { ⟦<Cobs<B> as Flavor>⟧.reaches self.old self.new }
+        ensures pushed { PushedBy ⟦<Self as Flavor>⟧ self.old piece.now result self.new }
         ensures stays_refused { IsTrue self.old.failed → IsErrOf result Error.SerializeBufferFull }
         ensures storage_kept { IsTrue self.old.failed → self.new.storage ≡ self.old.storage }
         ensures remembers_refusal { OnErr result (IsTrue self.new.failed) }
-        ensures refuses_by_buffer_full { IfErr result (λ e. e ≡ Error.SerializeBufferFull) }
+        ensures refuses_by_buffer_full { IsOkUnless result Error.SerializeBufferFull }
     {
         if self.failed || self.encoder.place() > usize::MAX - 2 - piece.len() {
             self.failed = true;
@@ -117,15 +112,14 @@ impl<B: Storage + Drop> Cobs<B> {
     pub(super) fn push_next(&mut self, bytes: &[u8], place: usize) -> Result<usize>
         requires { place < length bytes.now }
         ensures advances { IfOk result (λ n. (place < n) × (n ≤ length bytes.now)) }
-        ensures appends { IfOk result (λ n. ⟦<Cobs<B> as Flavor>⟧.appended self.old
+        ensures appends { IfOk result (λ n. ⟦<Self as Flavor>⟧.appended self.old
             (take (n - place) (drop place bytes.now)) self.new) }
-        ensures has_room { ⟦<Cobs<B> as Flavor>⟧.room self.old (drop place bytes.now)
-            → IsOk result }
-        ensures leaves { ⟦<Cobs<B> as Flavor>⟧.reaches self.old self.new }
+        ensures has_room { ⟦<Self as Flavor>⟧.room self.old (drop place bytes.now) → IsOk result }
+        ensures leaves { ⟦<Self as Flavor>⟧.reaches self.old self.new }
         ensures stays_refused { IsTrue self.old.failed → IsErrOf result Error.SerializeBufferFull }
         ensures storage_kept { IsTrue self.old.failed → self.new.storage ≡ self.old.storage }
         ensures remembers_refusal { OnErr result (IsTrue self.new.failed) }
-        ensures refuses_by_buffer_full { IfErr result (λ e. e ≡ Error.SerializeBufferFull) }
+        ensures refuses_by_buffer_full { IsOkUnless result Error.SerializeBufferFull }
     {
         let room = self.encoder.run_room();
         let rest = &bytes[place..];

@@ -20,14 +20,14 @@ impl<'a> Storage for Slice<'a> {
     /// whole slice.
     fn set(&mut self, place: usize, byte: u8)
         requires { place < length (held self.old) }
-        ensures sets { ⟦<Slice<'static> as Storage>⟧.held self.new
-            ≡ slice_set (⟦<Slice<'static> as Storage>⟧.held self.old) place byte }
-        ensures keeps_room { (x : List ℕ) → ⟦<Slice<'static> as Flavor>⟧.room self.old x
-            → ⟦<Slice<'static> as Flavor>⟧.room self.new x }
-        ensures keeps_free { (n : ℕ) → ⟦<Slice<'static> as Storage>⟧.free self.old n
-            → ⟦<Slice<'static> as Storage>⟧.free self.new n }
-        ensures leaves { ⟦<Slice<'static> as Flavor>⟧.reaches self.old self.new }
-        ensures countable { length (⟦<Slice<'static> as Storage>⟧.held self.new) < 2 ^ 64 }
+        ensures sets { ⟦<Self as Storage>⟧.held self.new
+            ≡ slice_set (⟦<Self as Storage>⟧.held self.old) place byte }
+        ensures keeps_room { (x : List ℕ) → ⟦<Self as Flavor>⟧.room self.old x
+            → ⟦<Self as Flavor>⟧.room self.new x }
+        ensures keeps_free { (n : ℕ) → ⟦<Self as Storage>⟧.free self.old n
+            → ⟦<Self as Storage>⟧.free self.new n }
+        ensures leaves { ⟦<Self as Flavor>⟧.reaches self.old self.new }
+        ensures countable { length (⟦<Self as Storage>⟧.held self.new) < 2 ^ 64 }
         ensures only_byte_changed { self.new
             ≡ record self.old { buffer = slice_set self.old.buffer place byte } }
     {

@@ -1,7 +1,12 @@
 -- The inner flavor has room for the byte.
-use Rattle.std.proofs.Common.{[], ◌∷◌}
+use Rattle.std.proofs.Common.{[], ◌∷◌, rules}
 use Rattle.example_types.specs.Trailer.{bytes_have_room}
 use Rattle.example_types.proofs.trailer.TrailedFlavor.try_push.Goals as goal
 
-pub returns-clause-has_room : goal.returns-clause-has_room
-returns-clause-has_room g c r = c.try_push.ensures.has_room (bytes_have_room g.F.Flavor.lawful c.args.self.now.inner (c.args.byte ∷ []) r)
+pub returns : goal.returns
+returns g c = record {
+  appends = search rules;
+  has_room = λ r. c.try_push.ensures.has_room (bytes_have_room g.F.Flavor.lawful c.args.self.now.inner (c.args.byte ∷ []) r);
+  refused = search rules;
+  leaves = search rules;
+}

@@ -1,6 +1,6 @@
 -- A piece is pushed as it is, and then its codes are set; it is refused only without room, or after
 -- a refusal.
-use Rattle.std.proofs.Common.{◌++◌, length, length-append, refl, ap, ◌∙◌, arith}
+use Rattle.std.proofs.Common.{◌++◌, length, length-append, refl, ap, ◌∙◌, arith, rules}
 use Rattle.std.proofs.Math.Logic.{∥∥₁_elim, ∥∥₁_map}
 use Rattle.std.specs.Coded.{le_prop}
 use Rattle.postcard_cobs.specs.Groups.{Standing}
@@ -10,19 +10,31 @@ use Rattle.postcard_ser_cobs.proofs.PieceLemmas.{piece_holds, holds_length}
 use Rattle.postcard_ser_cobs.proofs.cobs.Cobs.push_dense.Goals as goal
 use Rattle.postcard_ser_cobs.proofs.cobs.Cobs.push_dense.Goals.{then-self-via-then-self, then-self-via-else-self+then-place-piece}
 
-pub returns-then-self-clause-has_room : goal.returns-then-self-clause-has_room
-returns-then-self-clause-has_room g c r =
+pub returns-then-self-clause-pushed : goal.returns-then-self-clause-pushed
+returns-then-self-clause-pushed g c =
     let s = c.requires in
-    elim c.then-self.branch [
-      | then-self-via-then-self w ↦ absurd (not_both w.if-self.true r.holds.going)
-      | then-self-via-else-self+then-place-piece w ↦ absurd (omega (arith, piece_small _ (omega (arith, s)) r, w.place.ensures, w.if-place-piece.true))
-    ]
+    record {
+      appends = search rules;
+      has_room = λ r.
+          elim c.then-self.branch [
+            | then-self-via-then-self w ↦ absurd (not_both w.if-self.true r.holds.going)
+            | then-self-via-else-self+then-place-piece w ↦ absurd (omega (arith, piece_small _ (omega (arith, s)) r, w.place.ensures, w.if-place-piece.true))
+          ];
+      refused = search rules;
+      leaves = search rules;
+    }
 
-pub returns-in_err-push_piece-clause-has_room : goal.returns-in_err-push_piece-clause-has_room
-returns-in_err-push_piece-clause-has_room g c r =
+pub returns-in_err-push_piece-clause-pushed : goal.returns-in_err-push_piece-clause-pushed
+returns-in_err-push_piece-clause-pushed g c =
     let s = c.requires in
-    let no = c.in_err-push_piece.ensures.has_room (piece_free _ (omega (arith, s)) g.B.Storage.free_lawful.free_fewer r) in
-    absurd (cc)
+    record {
+      appends = search rules;
+      has_room = λ r.
+          let no = c.in_err-push_piece.ensures.has_room (piece_free _ (omega (arith, s)) g.B.Storage.free_lawful.free_fewer r) in
+          absurd (cc);
+      refused = search rules;
+      leaves = search rules;
+    }
 
 pub set_codes-self-requires-clause-held : goal.set_codes-self-requires-clause-held
 set_codes-self-requires-clause-held g c =
@@ -39,12 +51,15 @@ invariant_of-self-2 g c =
           (p.0, p.1 ++ c.args.piece.now, piece_holds _ refl c.in_ok-push_piece.ensures.appends c.replace-encoder.ensures.value c.set_codes-self.ensures.opens p.2));
     }
 
-pub returns-clause-appends : goal.returns-clause-appends
-returns-clause-appends g c before d h = piece_holds _ refl c.in_ok-push_piece.ensures.appends c.replace-encoder.ensures.value c.set_codes-self.ensures.opens h
-
-pub returns-clause-leaves : goal.returns-clause-leaves
-returns-clause-leaves g c =
+pub returns-clause-pushed : goal.returns-clause-pushed
+returns-clause-pushed g c =
     let piece = c.in_ok-push_piece.ensures in
     let codes = c.set_codes-self.ensures in
-    grown_leaves _ c.if-self.false (g.B.Flavor.lawful.reaches_join _ _ _ piece.leaves codes.leaves)
-    (codes.same_length ∙ ap length piece.appends ∙ length-append _ _) (λ n h. codes.keeps_free n (piece.keeps_free n h))
+    record {
+      appends = λ before d h. piece_holds _ refl piece.appends c.replace-encoder.ensures.value codes.opens h;
+      has_room = search rules;
+      refused = search rules;
+      leaves =
+          grown_leaves _ c.if-self.false (g.B.Flavor.lawful.reaches_join _ _ _ piece.leaves codes.leaves)
+          (codes.same_length ∙ ap length piece.appends ∙ length-append _ _) (λ n h. codes.keeps_free n (piece.keeps_free n h));
+    }

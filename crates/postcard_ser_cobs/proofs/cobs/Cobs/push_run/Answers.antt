@@ -1,24 +1,36 @@
 -- A run becomes data of the open group; it is refused only without room, or after a refusal.
-use Rattle.std.proofs.Common.{◌++◌, length, length-append, refl, ap, ◌∙◌, arith}
+use Rattle.std.proofs.Common.{◌++◌, length, length-append, refl, ap, ◌∙◌, arith, rules}
 use Rattle.std.proofs.Math.Logic.{∥∥₁_map}
 use Rattle.postcard_ser_cobs.specs.FramingLaws.{not_both}
 use Rattle.postcard_ser_cobs.proofs.RunLemmas.{run_holds, piece_free, piece_small, grown_leaves}
 use Rattle.postcard_ser_cobs.proofs.cobs.Cobs.push_run.Goals as goal
 use Rattle.postcard_ser_cobs.proofs.cobs.Cobs.push_run.Goals.{then-self-via-then-self, then-self-via-else-self+then-place-run}
 
-pub returns-then-self-clause-has_room : goal.returns-then-self-clause-has_room
-returns-then-self-clause-has_room g c r =
+pub returns-then-self-clause-pushed : goal.returns-then-self-clause-pushed
+returns-then-self-clause-pushed g c =
     let s = c.requires.short in
-    elim c.then-self.branch [
-      | then-self-via-then-self w ↦ absurd (not_both w.if-self.true r.holds.going)
-      | then-self-via-else-self+then-place-run w ↦ absurd (omega (arith, piece_small _ (omega (arith, s)) r, w.place.ensures, w.if-place-run.true))
-    ]
+    record {
+      appends = search rules;
+      has_room = λ r.
+          elim c.then-self.branch [
+            | then-self-via-then-self w ↦ absurd (not_both w.if-self.true r.holds.going)
+            | then-self-via-else-self+then-place-run w ↦ absurd (omega (arith, piece_small _ (omega (arith, s)) r, w.place.ensures, w.if-place-run.true))
+          ];
+      refused = search rules;
+      leaves = search rules;
+    }
 
-pub returns-in_err-push_piece-clause-has_room : goal.returns-in_err-push_piece-clause-has_room
-returns-in_err-push_piece-clause-has_room g c r =
+pub returns-in_err-push_piece-clause-pushed : goal.returns-in_err-push_piece-clause-pushed
+returns-in_err-push_piece-clause-pushed g c =
     let s = c.requires.short in
-    let no = c.in_err-push_piece.ensures.has_room (piece_free _ (omega (arith, s)) g.B.Storage.free_lawful.free_fewer r) in
-    absurd (cc)
+    record {
+      appends = search rules;
+      has_room = λ r.
+          let no = c.in_err-push_piece.ensures.has_room (piece_free _ (omega (arith, s)) g.B.Storage.free_lawful.free_fewer r) in
+          absurd (cc);
+      refused = search rules;
+      leaves = search rules;
+    }
 
 pub invariant_of-self-2 : goal.invariant_of-self-2
 invariant_of-self-2 g c =
@@ -28,10 +40,12 @@ invariant_of-self-2 g c =
           (p.0, p.1 ++ c.args.run.now, run_holds _ refl c.in_ok-push_piece.ensures.appends c.push_run.ensures.open p.2));
     }
 
-pub returns-clause-appends : goal.returns-clause-appends
-returns-clause-appends g c before d h = run_holds _ refl c.in_ok-push_piece.ensures.appends c.push_run.ensures.open h
-
-pub returns-clause-leaves : goal.returns-clause-leaves
-returns-clause-leaves g c =
+pub returns-clause-pushed : goal.returns-clause-pushed
+returns-clause-pushed g c =
     let said = c.in_ok-push_piece.ensures in
-    grown_leaves _ c.if-self.false said.leaves (ap length said.appends ∙ length-append _ _) said.keeps_free
+    record {
+      appends = λ before d h. run_holds _ refl said.appends c.push_run.ensures.open h;
+      has_room = search rules;
+      refused = search rules;
+      leaves = grown_leaves _ c.if-self.false said.leaves (ap length said.appends ∙ length-append _ _) said.keeps_free;
+    }

@@ -1,19 +1,25 @@
 -- The encoder's result keeps the frame open; the byte is refused only without room, or after a
 -- refusal.
-use Rattle.std.proofs.Common.{◌++◌, [], ◌∷◌, refl, arith}
+use Rattle.std.proofs.Common.{◌++◌, [], ◌∷◌, refl, arith, rules}
 use Rattle.std.proofs.Math.Logic.{∥∥₁_elim, ∥∥₁_map}
+use Rattle.std.proofs.lemmas.Grind.{common_steps}
 use Rattle.std.specs.Coded.{le_prop}
 use Rattle.postcard_ser_cobs.specs.FramingLaws.{not_both}
 use Rattle.postcard_ser_cobs.proofs.StepLemmas.{sets_below, code_held, step_free, place_small, step_holds}
 use Rattle.postcard_ser_cobs.proofs.cobs.CobsFlavor.try_push.Goals as goal
 use Rattle.postcard_ser_cobs.proofs.cobs.CobsFlavor.try_push.Goals.{then-self-via-then-self, then-self-via-else-self+then-place}
 
-pub returns-then-self-clause-has_room : goal.returns-then-self-clause-has_room
-returns-then-self-clause-has_room g c r =
-    elim c.then-self.branch [
-      | then-self-via-then-self w ↦ absurd (not_both w.if-self.true r.holds.going)
-      | then-self-via-else-self+then-place w ↦ absurd (omega (arith, place_small c.args.byte r, w.place.ensures, w.if-place.true))
-    ]
+pub returns-then-self-clause-pushed : goal.returns-then-self-clause-pushed
+returns-then-self-clause-pushed g c = record {
+  appends = search rules;
+  has_room = λ r.
+      elim c.then-self.branch [
+        | then-self-via-then-self w ↦ absurd (not_both w.if-self.true r.holds.going)
+        | then-self-via-else-self+then-place w ↦ absurd (omega (arith, place_small c.args.byte r, w.place.ensures, w.if-place.true))
+      ];
+  refused = search rules;
+  leaves = search rules;
+}
 
 pub take_step-requires : goal.take_step-requires
 take_step-requires g c =
@@ -21,10 +27,15 @@ take_step-requires g c =
     sets_below _ _ _ _ c.push-step.ensures.sets_open_code
     (∥∥₁_elim s.stands le_prop (λ f. let p = f c.if-self.false in code_held p.2))
 
-pub returns-in_err-take_step-clause-has_room : goal.returns-in_err-take_step-clause-has_room
-returns-in_err-take_step-clause-has_room g c r =
-    let no = c.in_err-take_step.ensures.has_room (step_free _ g.B.Storage.free_lawful.free_fewer r c.push-step.ensures.open) in
-    absurd (cc)
+pub returns-in_err-take_step-clause-pushed : goal.returns-in_err-take_step-clause-pushed
+returns-in_err-take_step-clause-pushed g c = record {
+  appends = search rules;
+  has_room = λ r.
+      let no = c.in_err-take_step.ensures.has_room (step_free _ g.B.Storage.free_lawful.free_fewer r c.push-step.ensures.open) in
+      absurd (cc);
+  refused = search rules;
+  leaves = search rules;
+}
 
 pub invariant_of-self-2 : goal.invariant_of-self-2
 invariant_of-self-2 g c =
@@ -34,6 +45,10 @@ invariant_of-self-2 g c =
           (p.0, p.1 ++ c.args.byte ∷ [], step_holds _ refl c.in_ok-take_step.ensures.changes c.push-step.ensures.open p.2));
     }
 
-pub returns-clause-appends : goal.returns-clause-appends
-returns-clause-appends g c before d h =
-    step_holds _ refl c.in_ok-take_step.ensures.changes c.push-step.ensures.open h
+pub returns-clause-pushed : goal.returns-clause-pushed
+returns-clause-pushed g c = record {
+  appends = λ before d h. step_holds _ refl c.in_ok-take_step.ensures.changes c.push-step.ensures.open h;
+  has_room = search rules;
+  refused = search rules;
+  leaves = grind (arith, common_steps);
+}

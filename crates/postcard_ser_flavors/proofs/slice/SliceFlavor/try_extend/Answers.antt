@@ -1,14 +1,20 @@
 -- The bytes after those written are unchanged.
-use Rattle.std.proofs.Common.{rules}
+use Rattle.std.proofs.Common.{arith, rules}
+use Rattle.std.proofs.lemmas.Grind.{common_steps}
 use Rattle.std.proofs.lemmas.Slice.{overwrites}
 use Rattle.postcard_ser_flavors.proofs.slice.SliceFlavor.try_extend.Goals as goal
 
-pub returns-clause-leaves : goal.returns-clause-leaves
-returns-clause-leaves c = record {
-  same_loan = search rules;
-  same_length = search rules;
-  grows = search rules;
-  bytes_after_unchanged = search (rules, overwrites);
+pub returns-clause-pushed : goal.returns-clause-pushed
+returns-clause-pushed c = record {
+  appends = grind (arith, common_steps);
+  has_room = search rules;
+  refused = search rules;
+  leaves = record {
+    same_loan = search rules;
+    same_length = search rules;
+    grows = search rules;
+    bytes_after_unchanged = search (rules, overwrites);
+  };
 }
 
 pub returns-clause-rest_unchanged : goal.returns-clause-rest_unchanged

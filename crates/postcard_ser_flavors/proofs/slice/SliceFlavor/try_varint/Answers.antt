@@ -7,18 +7,19 @@ use Rattle.postcard_ser_flavors.proofs.slice.SliceFlavor.try_varint.Goals as goa
 pub write_u64-count-requires : goal.write_u64-count-requires
 write_u64-count-requires c = fits_here c.args.n c.self.inside.position c.lend-all.result.now (omega arith) (omega (arith, c.if-self-lt-VARINT_MAX_64.false, ap length c.lend-all.ensures.value, c.self.invariant))
 
-pub returns-clause-appends : goal.returns-clause-appends
-returns-clause-appends c =
-    held_here c.self.inside.position c.write_u64-count.result c.lend-all.result.now c.write_u64-count.new.out _ _ _ (omega (arith, ap length c.lend-all.ensures.value, c.self.invariant)) c.write_u64-count.ensures.within
-    (c.lend-all.ensures.value ∙ ap (λ (w : Written). w.buffer) c.self.view_is) (ap (λ (w : Written). w.count) c.self.view_is) c.write_u64-count.ensures.digits
-
-pub returns-clause-leaves : goal.returns-clause-leaves
-returns-clause-leaves c = record {
-  same_loan = search rules;
-  same_length = search rules;
-  grows = search rules;
-  bytes_after_unchanged = behind_here c.self.inside.position c.write_u64-count.result c.lend-all.result.now c.write_u64-count.new.out _ _ _ (omega (arith, ap length c.lend-all.ensures.value, c.self.invariant)) c.write_u64-count.ensures.within
-      (c.lend-all.ensures.value ∙ ap (λ (w : Written). w.buffer) c.self.view_is) (ap (λ (w : Written). w.count) c.self.view_is) c.write_u64-count.ensures.digits c.write_u64-count.ensures.bytes_after_unchanged;
+pub returns-clause-pushed : goal.returns-clause-pushed
+returns-clause-pushed c = record {
+  appends = held_here c.self.inside.position c.write_u64-count.result c.lend-all.result.now c.write_u64-count.new.out _ _ _ (omega (arith, ap length c.lend-all.ensures.value, c.self.invariant)) c.write_u64-count.ensures.within
+      (c.lend-all.ensures.value ∙ ap (λ (w : Written). w.buffer) c.self.view_is) (ap (λ (w : Written). w.count) c.self.view_is) c.write_u64-count.ensures.digits;
+  has_room = search rules;
+  refused = search rules;
+  leaves = record {
+    same_loan = search rules;
+    same_length = search rules;
+    grows = search rules;
+    bytes_after_unchanged = behind_here c.self.inside.position c.write_u64-count.result c.lend-all.result.now c.write_u64-count.new.out _ _ _ (omega (arith, ap length c.lend-all.ensures.value, c.self.invariant)) c.write_u64-count.ensures.within
+        (c.lend-all.ensures.value ∙ ap (λ (w : Written). w.buffer) c.self.view_is) (ap (λ (w : Written). w.count) c.self.view_is) c.write_u64-count.ensures.digits c.write_u64-count.ensures.bytes_after_unchanged;
+  };
 }
 
 pub returns-clause-rest_unchanged : goal.returns-clause-rest_unchanged
