@@ -1,6 +1,6 @@
 //! Where a part of a JSON text begins.
 
-use postcard_dyn::scan::{skip_blanks, take};
+use postcard_dyn_schema::scan::{skip_blanks, take};
 
 /// Returns what is left of a JSON text from the part with this path on, as `samples[1].id`, or from
 /// the last part on the way to it that the text has.

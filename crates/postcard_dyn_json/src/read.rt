@@ -24,7 +24,7 @@ use crate::error::{Expected, JsonError, push};
 use crate::leaf::read_leaf;
 use crate::write::may_be_null;
 use postcard_dyn::{Schema, Value};
-use postcard_dyn_text::show::{is_struct, is_unit};
+use postcard_dyn_text::{is_struct, is_unit};
 use serde_json::Value as Json;
 use std::alloc::Global;
 

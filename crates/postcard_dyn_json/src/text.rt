@@ -14,8 +14,8 @@ ghost use Rattle.postcard_dyn_json.specs.declared.error.JsonError.TheVariants as
 use crate::error::{Expected, JsonError};
 use crate::place::{from_line, from_part};
 use crate::read::from_json;
-use postcard_dyn::scan::character_of;
 use postcard_dyn::{Schema, Value};
+use postcard_dyn_schema::scan::character_of;
 use serde_json::{Error, Value as Json};
 use std::alloc::Global;
 use std::fmt;

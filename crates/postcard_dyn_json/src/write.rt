@@ -16,7 +16,7 @@ ghost use Rattle.postcard_dyn_json.specs.Written.{struct_json, tuple_json, field
 ghost use Rattle.postcard_dyn_json.specs.Written.{items as parts_of};
 
 use postcard_dyn::{Leaf, Schema, Value};
-use postcard_dyn_text::show::{is_struct, is_unit};
+use postcard_dyn_text::{is_struct, is_unit};
 use serde_json::{Map, Number, Value as Json, put};
 use std::alloc::{AllocError, Global};
 use std::num::{f32_from_bits_with_nan, f64_from_bits_with_nan};

@@ -15,7 +15,7 @@ ghost use Rattle.postcard_dyn_text.specs.Floats.{IsHexadecimal, is_of_float as i
 use crate::expected::Expected;
 use crate::read::Stop;
 use postcard_dyn::Leaf;
-use postcard_dyn::scan::{skip_blanks, take, take_word};
+use postcard_dyn_schema::scan::{skip_blanks, take, take_word};
 use ryu::Buffer;
 use std::fmt;
 use std::fmt::{Formatter, Write};

@@ -14,11 +14,11 @@
 
 pub mod expected;
 pub mod float;
-pub mod number;
-pub mod quoted;
+mod number;
+mod quoted;
 pub mod read;
-pub mod show;
+mod show;
 
 pub use expected::Expected;
 pub use read::{TextError, read_text};
-pub use show::Shown;
+pub use show::{Shown, is_struct, is_unit};

@@ -12,7 +12,7 @@ ghost use Rattle.postcard_dyn_text.specs.Quoted.{AreDigitsOf};
 use crate::expected::Expected;
 use crate::read::Stop;
 use postcard_dyn::Leaf;
-use postcard_dyn::scan::take;
+use postcard_dyn_schema::scan::take;
 use std::alloc::Global;
 
 /// Takes blanks, and then a text between two bytes `quote`, which may have the escapes `\n`, `\r`,

@@ -33,8 +33,8 @@ use crate::float::{read_f32, read_f64, take_number};
 use crate::number::{read_signed, read_unsigned};
 use crate::quoted::{bytes_of, take_quoted};
 use crate::show::{has_brackets, is_struct, is_unit};
-use postcard_dyn::scan::{character_of, skip_blanks, take, take_word};
 use postcard_dyn::{Leaf, Schema, Value};
+use postcard_dyn_schema::scan::{character_of, skip_blanks, take, take_word};
 use std::alloc::Global;
 use std::fmt;
 
