@@ -19,10 +19,11 @@ use Rattle.postcard_shape.specs.Shape.{never, memory}
 use Rattle.postcard_de.proofs.Lists.{prefixed}
 use Rattle.postcard_de.proofs.Parts.{part_and_rest}
 use Rattle.postcard_de_nodes.specs.CompoundLemmas.{first_refused, second_refused, both_read}
+use Rattle.postcard_de_nodes.specs.ErrorLemmas.{wider}
 use Rattle.postcard_de_nodes.specs.NumberLemmas.{Below}
 use Rattle.postcard_de_nodes.specs.ReadLemmas.{refusal, is_refusal, out_of_memory}
 use Rattle.postcard_de_nodes.specs.SeenLemmas.{recast, refused_too}
-use Rattle.postcard_de_nodes.specs.TakeLemmas.{nothing_taken, both_taken, faces, can_second}
+use Rattle.postcard_de_nodes.specs.TakeLemmas.{nothing_taken, both_taken, faces, can_first, can_second}
 use Rattle.postcard_dyn_schema.specs.Meaning.{MessageType, MessageTypes, no_types, then_type, reads, reads_all}
 use Rattle.postcard_dyn.specs.declared.value.Value.{Value}
 use Rattle.postcard_dyn.specs.Tree.{bits_tree, tree, IsTree, AreTrees}
@@ -203,6 +204,22 @@ module _ {S : Type 0} {left : S → Left} {able : S → ℕ → Type 0} {may_lea
       let g = r.gives in
       let s : Spells (Byte b) g.front = rw g.has at g.is_spelled in
       subst (λ (l : List ℕ). Takes left able old l mid) (s ∙ ap (λ (n : ℕ). n ∷ []) e) g.taken
+
+module _ {S : Type 0} {left : S → Left} {able : S → ℕ → Type 0} {may_leave : S → S → Type 0} (laws : Laws left able may_leave) {old new : S} where
+  -- If no byte can be read, no option can.
+  pub no_option : {R : Tree → Type 0} {e : Error} → ReadsFrom Spells IsByte (λ t v. t ≡ Byte v) never left able may_leave old (refusal ℕ e) new → ReadsFrom Spells (IsOption R) IsTree memory left able may_leave old (refusal Value e) new
+  no_option {R = R} {e = e} r = record {
+    gives = tt;
+    accepts = accepts;
+    leaves = r.leaves;
+    named_error = wider {H = memory} (λ x z. absurd z) e r.named_error;
+  }
+    where
+      accepts : (x : Tree) (p : List ℕ) → IsOption R x → Spells x p → CanTake left able old p → e ≡ OutOfMemory
+      accepts x p (inl a) s c = r.accepts (Byte 0) p (0, refl, omega arith) (rw a at s) c
+      accepts x p (inr a) s c =
+          let k : Spells (nodes.Present a.0) p = rw a.1 at s in
+          r.accepts (Byte 1) k.0 (1, refl, omega arith) k.2 (can_first laws k.0 k.1 (rw k.4 at c))
 
 module _ {S : Type 0} {left : S → Left} {able : S → ℕ → Type 0} {may_leave : S → S → Type 0} (laws : Laws left able may_leave) {old mid : S} (t : Takes left able old (1 ∷ []) mid) (l : may_leave old mid) where
   -- If the byte 1 was taken, the byte 0 could not have been taken.

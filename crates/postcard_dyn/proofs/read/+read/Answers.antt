@@ -12,7 +12,7 @@ use Rattle.postcard_dyn_schema.specs.Meaning.{type_of, types_of, no_types, then_
 use Rattle.postcard_dyn_schema.specs.Lemmas.{type_at, none_at}
 use Rattle.postcard_dyn.specs.Tree.{tree}
 use Rattle.postcard_dyn.specs.declared.value.Value.{Value, Present, Seq, Group, Variant, the_lemmas}
-use Rattle.postcard_dyn.proofs.Parts.{list_tree, as_count, no_count, as_list, no_list, no_memory, array_read, array_refused, part_read, part_stops, parts_full, parts_done, group_read, group_refused, one_taken, some_stops, some_read}
+use Rattle.postcard_dyn.proofs.Parts.{list_tree, as_count, no_count, as_list, no_list, no_memory, array_read, array_refused, part_read, part_stops, parts_full, parts_done, group_read, group_refused, no_option, one_taken, some_stops, some_read}
 use Rattle.postcard_dyn.proofs.read.+read.Goals as goal
 
 pub read_list-returns-in_err-count : goal.read_list-returns-in_err-count
@@ -71,6 +71,11 @@ read_elements-returns g t c =
     let laws = g.F.Flavor.lawful in
     let none : c.args.count - c.loop.counter ≡ 0 = omega arith in
     recast (λ x h. h) (going_done laws (rw none at c.loop.invariant))
+
+pub read_option-returns-in_err-deserialize_u8 : goal.read_option-returns-in_err-deserialize_u8
+read_option-returns-in_err-deserialize_u8 g t c =
+    rw (is_refusal c.from_residual.result c.in_err-deserialize_u8.field-0.0 c.from_residual.ensures.1)
+    (no_option g.F.Flavor.lawful c.in_err-deserialize_u8.ensures.reads)
 
 pub read_option-returns-in_err-value-in-1 : goal.read_option-returns-in_err-value-in-1
 read_option-returns-in_err-value-in-1 g t c =
