@@ -12,8 +12,8 @@ use std::{error, fmt};
 ///
 /// The variants are those of postcard 1.1.3 in its order, and then [`Error::OutOfMemory`], which is
 /// this port's own. An error doesn't say where in the bytes or in which part of a value it arose.
-/// Two variants are there so that a `match` can name them; no call of this port returns them:
-/// [`Error::NotYetImplemented`] and [`Error::DeserializeBadEnum`].
+/// No call of this port returns [`Error::NotYetImplemented`] or [`Error::DeserializeBadEnum`]; they
+/// are there so that a `match` can name them.
 ///
 /// `Display` prints the texts of postcard 1.1.3, and `Debug` the name of the variant.
 #[derive(Clone, Debug, Drop, PartialEq, Eq)]
