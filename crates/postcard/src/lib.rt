@@ -8,9 +8,18 @@
 //! A value *refuses itself* if its own `Serialize` may fail whatever flavor it is written to: it
 //! breaks a rule of its type, its type begins a list without a length, or it is written as a text
 //! whose `Display` may fail. No value of this library's types does, unless a part of it does, but
-//! for a `SystemTime` that std doesn't make. The
-//! shape of a type of your own says which of its values refuse themselves (`refusing` and `printed`
-//! in `specs/Refusing.antt` of the crate `postcard_shape`).
+//! for a `SystemTime` that std doesn't make. The shape of a type of your own says which of its
+//! values refuse themselves (`refusing` and `printed` in `specs/Refusing.antt` of the crate
+//! `postcard_shape`).
+//!
+//! # Errors of encoding
+//!
+//! Each call that encodes says when it fails with `SerializeBufferFull`. There are two exceptions.
+//! For a type whose text may fail to print, the error may be `CollectStrError` instead. A value
+//! that refuses itself may fail in any case, also with an error of its own; if there is room for
+//! its encoding, only with such an error.
+//!
+//! # Contents
 //!
 //! - `to_slice` and `fill_slice` write a value into a buffer (module `ser`).
 //! - `to_vec`, `to_allocvec`, `to_stdvec`, `to_extend`, `to_io` write it elsewhere, and
