@@ -186,11 +186,11 @@ impl<const N: usize> CobsAccumulator<N> {
         }
     }
 
-    /// Takes in a piece of a stream up to the end of a frame, as [`feed`](CobsAccumulator::feed)
-    /// does, but decodes only the frame and reads no value: `Success` has the frame's data, and
-    /// `DeserError` is returned for a frame that is no COBS frame.
+    /// Does the same as [`feed`](CobsAccumulator::feed), but decodes only the frame and reads no
+    /// value: `Success` has the frame's data, and `DeserError` is returned for a frame that is no
+    /// COBS frame.
     ///
-    /// The data is in the accumulator, which can be used again once that loan ends.
+    /// The data borrows from the accumulator, which can be used again once that loan ends.
     pub fn take_in<'de, 'a>(&'de mut self, input: &'a [u8]) -> FeedResult<'a, &'de [u8]>
         ensures answer { (after : State) × IsTaken N self.old input.now result after }
         ensures* after { sem 𝓛 (follows_so (the_row N.row) (the_row N.row)
@@ -209,12 +209,9 @@ impl<const N: usize> CobsAccumulator<N> {
 
     /// Takes in a piece of a stream up to the end of a frame, and decodes that frame's value.
     ///
-    /// Except for `Consumed`, the result has the bytes of the piece that weren't taken in; feed
-    /// them next, until none are left. Bytes after the value in a frame's data are ignored. The
-    /// crate's page has the rule as a table.
-    ///
-    /// After `Success`, `DeserError` and `OverFull` nothing is held. After `OverFull` the frame has
-    /// ended, or it is skipped from now on.
+    /// Feed the bytes that the result returns next, until none are left. Bytes after the value in a
+    /// frame's data are ignored. The [crate's page](crate#the-rule) has the rule as a table, with
+    /// what is held after each result.
     pub fn feed<'a, T: DeserializeOwned>(
         &mut self,
         alloc: Global,
@@ -240,7 +237,7 @@ impl<const N: usize> CobsAccumulator<N> {
     }
 
     /// Does the same as [`feed`](CobsAccumulator::feed), for a value that may borrow from the
-    /// accumulator. The accumulator can be used again once that loan ends.
+    /// accumulator, which can be used again once that loan ends.
     pub fn feed_ref<'de, 'a, T: Deserialize<'de>>(
         &'de mut self,
         alloc: Global,
