@@ -28,14 +28,15 @@
 //!   greatest size of a type's encodings.
 //! - `to_slice_cobs`, `fill_slice_cobs`, `to_vec_cobs`, `to_allocvec_cobs`, `to_stdvec_cobs` and
 //!   `to_allocvec_cobs_after` write a value as a frame (module `cobs`).
-//! - `from_bytes` and `take_from_bytes` read a value from the front of a slice, `from_bytes_cobs`
-//!   and `take_from_bytes_cobs` from a frame in place (all of `postcard_frame`); `from_io` reads it
-//!   from a reader (module `de`).
+//! - `from_bytes` and `take_from_bytes` read a value from the front of a slice (both of
+//!   `postcard_de`), `from_bytes_cobs` and `take_from_bytes_cobs` from a frame in place (both of
+//!   `postcard_frame`), and `from_io` from a reader (module `de`).
 //! - `CobsAccumulator` puts frames together from the pieces of a stream (module `accumulator`), and
 //!   `read_frames` reads the frames of a reader (both of `postcard_accumulator`).
-//! - `to_slice_crc32` and the calls of `ser_flavors::checksum` write a value with a checksum after it, and
-//!   `from_bytes_crc32` and the calls of `de_flavors::checksum` check it (all of `postcard_crc`);
-//!   `accumulator::checksum::read_frames` reads such frames from a reader (`postcard_crc_frames`).
+//! - `to_slice_crc32` and the calls of `ser_flavors::checksum` write a value with a checksum after
+//!   it, and `from_bytes_crc32` and the calls of `de_flavors::checksum` check it (all of
+//!   `postcard_crc`); `accumulator::checksum::read_frames` reads such frames from a reader
+//!   (`postcard_crc_frames`).
 //! - `fixint` writes and reads numbers at their full width, the lowest or the highest byte first
 //!   (all of `postcard_fixint`).
 //! - `laws` has the laws that tie both directions together.
