@@ -51,11 +51,11 @@ pub enum Error {
     /// The checksum after a message is not that of the message.
     DeserializeBadCrc,
     /// A value refuses itself when it is written. None of this port's types does; it is for types
-    /// of a user (see [`Error::ser_custom`]).
+    /// of your own (see [`Error::ser_custom`]).
     SerdeSerCustom,
     /// The bytes spell no value of the type: an unknown variant, a zero for a type without one, a
-    /// duration that is too long, more elements than the capacity. Types of a user return it too
-    /// (see [`Error::de_custom`]).
+    /// duration that is too long, more elements than the capacity. Types of your own may return it,
+    /// too (see [`Error::de_custom`]).
     SerdeDeCustom,
     /// A value written by its `Display` text fails to format, has a text of more than `usize::MAX`
     /// bytes, or has one that the flavor refuses after its length was written.
