@@ -131,11 +131,8 @@ impl<const N: usize> CobsAccumulator<N> {
     }
 
     /// Decodes the bytes held as a frame, and lends its data. The accumulator must not be skipping
-    /// a frame. Nothing is held once the loan ends, also after an error.
-    ///
-    /// # Errors
-    ///
-    /// Fails if and only if the bytes held are a frame of no data.
+    /// a frame. Fails if and only if the bytes held are a frame of no data. Nothing is held once
+    /// the loan ends, also after a failure.
     fn decode<'de>(&'de mut self) -> Result<&'de [u8]>
         requires { is_skipping self.old ≡ false }
         ensures decodes { IfOk result (λ d. Groups (held_of self.old) d.now) }
@@ -207,11 +204,9 @@ impl<const N: usize> CobsAccumulator<N> {
         self.take_held(&input[n + 1..])
     }
 
-    /// Takes in a piece of a stream up to the end of a frame, and decodes that frame's value.
-    ///
-    /// Feed the bytes that the result returns next, until none are left. Bytes after the value in a
-    /// frame's data are ignored. The [crate's page](crate#the-rule) has the rule as a table, with
-    /// what is held after each result.
+    /// Takes in a piece of a stream up to the end of a frame, and decodes that frame's value, by
+    /// the [rule](crate#the-rule) on the crate's page. Bytes after the value in a frame's data are
+    /// ignored.
     pub fn feed<'a, T: DeserializeOwned>(
         &mut self,
         alloc: Global,

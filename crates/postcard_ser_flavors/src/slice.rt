@@ -16,8 +16,10 @@ use std::marker::Model;
 mod index;
 mod storage;
 
-/// Fills a slice from its front. A piece is written whole or not at all: a push fails with
-/// `SerializeBufferFull` if and only if it has more bytes than are free, and changes nothing then.
+/// Fills a slice from its front. A piece is written whole or not at all.
+///
+/// A push fails with `SerializeBufferFull` if and only if it has more bytes than are free, and
+/// changes nothing then.
 ///
 /// A contract sees the loan of the slice, the bytes of the whole slice (`buffer`), and the number
 /// of those at the front that are held (`count`).
