@@ -31,10 +31,10 @@ use postcard_wire::{Error, Result};
 /// # Errors
 ///
 /// If the flavor refuses a piece, a call fails with `SerializeBufferFull`, whatever the flavor's
-/// own error is; only in the text of `collect_str` the error is `CollectStrError`. A call that is
-/// passed another value writes it as its `serialize` does, and also fails as that does. What the
-/// flavor took before the error stays in it: over a tidy flavor a beginning of what the call
-/// writes, or nothing, unless the value refuses itself.
+/// own error is; only in the text of `collect_str` the error is `CollectStrError`. A call for a
+/// part of a value, as `serialize_element`, writes it as the part's own `serialize` does, and also
+/// fails as that does. What the flavor took before the error stays in it: over a tidy flavor a
+/// beginning of what the call writes, or nothing, unless the value refuses itself.
 #[derive(Drop)]
 pub struct Serializer<F: Flavor> {
     /// The flavor that the bytes go to.
