@@ -45,10 +45,8 @@ fn framed<T: Serialize, B: Storage + Drop>(value: &T, storage: B) -> Result<<B a
 ///
 /// # Errors
 ///
-/// If `B` is at most `usize::MAX - 2`, fails if and only if the frame is longer than `B` bytes:
-/// with `SerializeBufferFull`, or with `CollectStrError` for a type whose text may fail to print.
-/// A value that refuses itself may fail in any case, and with an error of its own if the frame has
-/// at most `B` bytes.
+/// If `B` is at most `usize::MAX - 2`, fails with `SerializeBufferFull` if and only if the frame is
+/// longer than `B` bytes, but for the [exceptions](crate#errors-of-encoding) on the crate's page.
 #[tactic(auto, using(crate::specs::Lemmas::frame_decodes))]
 pub fn to_vec_cobs<T: Serialize, const B: usize>(value: &T) -> Result<ArrayVec<u8, B>>
     ensures gives { IfOk result (λ vec. vec.items ≡ made (canonical (T.shape.tree value.now))) }
@@ -73,10 +71,9 @@ pub fn to_vec_cobs<T: Serialize, const B: usize>(value: &T) -> Result<ArrayVec<u
 ///
 /// # Errors
 ///
-/// Fails if and only if the frame is longer than `buf`: with `SerializeBufferFull`, or with
-/// `CollectStrError` for a type whose text may fail to print. A value that refuses itself may fail
-/// in any case, and with an error of its own if `buf` has room for the frame. After a failure the
-/// content of the buffer is unspecified.
+/// Fails with `SerializeBufferFull` if and only if the frame is longer than `buf`, but for the
+/// [exceptions](crate#errors-of-encoding) on the crate's page. After a failure the content of the
+/// buffer is unspecified.
 pub fn to_slice_cobs<'a, T: Serialize>(value: &T, buf: &'a mut [u8]) -> Result<&'a mut [u8]>
     // After a success, the buffer holds what the caller made of the frame, and then the old bytes.
     ensures* writes_back { sem 𝓛 (LendsSoOk (Array u8 0) (Array u8 0) buf.entry result
@@ -145,18 +142,13 @@ fn write_frame<'a, T: Serialize>(value: &T, buf: &'a mut [u8]) -> Attempt<'a>
     }
 }
 
-/// Encodes a value as a frame into the front of `buf`, and returns the number of bytes of the
-/// frame, the sentinel included. The bytes after it are unchanged. The Rust crate has no such call.
-///
-/// It does the same as [`to_slice_cobs`], for callers that keep the buffer: its contract says what
-/// the whole buffer holds after the call.
+/// Does the same as [`to_slice_cobs`], and returns the number of bytes of the frame, the sentinel
+/// included, for callers that keep the buffer: its contract says what the whole buffer holds after
+/// the call. The Rust crate has no such call.
 ///
 /// # Errors
 ///
-/// Fails if and only if the frame is longer than `buf`: with `SerializeBufferFull`, or with
-/// `CollectStrError` for a type whose text may fail to print. A value that refuses itself may fail
-/// in any case, and with an error of its own if `buf` has room for the frame. After a failure the
-/// content of the buffer is unspecified.
+/// Fails as [`to_slice_cobs`], and leaves the buffer as that does.
 pub fn fill_slice_cobs<T: Serialize>(value: &T, buf: &mut [u8]) -> Result<usize>
     ensures count_is_length { IfOk result
         (λ count. count ≡ length (made (canonical (T.shape.tree value.now)))) }
@@ -184,9 +176,8 @@ pub fn fill_slice_cobs<T: Serialize>(value: &T, buf: &mut [u8]) -> Result<usize>
 ///
 /// # Errors
 ///
-/// Fails only if an allocation fails: with `SerializeBufferFull`, or with `CollectStrError` for a
-/// type whose text may fail to print. A value that refuses itself may fail in any case, also with
-/// an error of its own.
+/// Fails with `SerializeBufferFull`, and only if an allocation fails, but for the
+/// [exceptions](crate#errors-of-encoding) on the crate's page.
 #[tactic(auto, using(crate::specs::Lemmas::frame_decodes))]
 pub fn to_allocvec_cobs<T: Serialize>(alloc: Global, value: &T) -> Result<Vec<u8>>
     ensures gives { IfOk result (λ vec. vec.items ≡ made (canonical (T.shape.tree value.now))) }
@@ -215,9 +206,9 @@ pub fn to_stdvec_cobs<T: Serialize>(alloc: Global, value: &T) -> Result<Vec<u8>>
 ///
 /// # Errors
 ///
-/// Fails only if an allocation fails: with `SerializeBufferFull`, or with `CollectStrError` for a
-/// type whose text may fail to print. A value that refuses itself may fail in any case, also with
-/// an error of its own. After a failure the vector is dropped.
+/// Fails with `SerializeBufferFull`, and only if an allocation fails, but for the
+/// [exceptions](crate#errors-of-encoding) on the crate's page. After a failure the vector is
+/// dropped.
 #[tactic(auto, using(crate::specs::Lemmas::frame_after_decodes))]
 pub fn to_allocvec_cobs_after<T: Serialize>(value: &T, vec: Vec<u8>) -> Result<Vec<u8>>
     ensures gives { IfOk result

@@ -17,9 +17,8 @@ use postcard_wire::Result;
 ///
 /// # Errors
 ///
-/// Fails if and only if the number exceeds `usize::MAX`: with `SerializeBufferFull`, or with
-/// `CollectStrError` for a type whose text may fail to print. A value that refuses itself may fail
-/// in any case, and with an error of its own if the number is at most `usize::MAX`.
+/// Fails with `SerializeBufferFull` if and only if the number exceeds `usize::MAX`, but for the
+/// [exceptions](crate#errors-of-encoding) on the crate's page.
 pub fn serialized_size<T: Serialize>(value: &T) -> Result<usize>
     ensures gives { IfOk result (λ count. count ≡ length (canonical (T.shape.tree value.now))) }
     ensures fits_iff { IsWilling T.shape value.now

@@ -18,7 +18,7 @@ use postcard_wire::Result;
 use std::alloc::Global;
 
 /// What was encoded is decoded, whatever bytes follow: if bytes begin with the canonical encoding
-/// of a tree that the type reads, the value read from them is a value of that tree, and just the
+/// of a tree that the type reads, the value read from them is a value of that tree, and exactly the
 /// bytes after the encoding are left.
 pub fn decodes_encoded<'a, T: Deserialize<'a>>()
     ensures spelled { (t : Tree) → T.shape.reads t → Spells t (canonical t) }

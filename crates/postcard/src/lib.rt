@@ -8,9 +8,18 @@
 //! A value *refuses itself* if its own `Serialize` may fail whatever flavor it is written to: it
 //! breaks a rule of its type, its type begins a list without a length, or it is written as a text
 //! whose `Display` may fail. No value of this library's types does, unless a part of it does, but
-//! for a `SystemTime` that std doesn't make. The
-//! shape of a type of your own says which of its values refuse themselves (`refusing` and `printed`
-//! in `specs/Refusing.antt` of the crate `postcard_shape`).
+//! for a `SystemTime` that std doesn't make. The shape of a type of your own says which of its
+//! values refuse themselves (`refusing` and `printed` in `specs/Refusing.antt` of the crate
+//! `postcard_shape`).
+//!
+//! # Errors of encoding
+//!
+//! Each call that encodes says when it fails with `SerializeBufferFull`. There are two exceptions.
+//! For a type whose text may fail to print, the error may be `CollectStrError` instead. A value
+//! that refuses itself may fail in any case, also with an error of its own; if there is room for
+//! its encoding, only with such an error.
+//!
+//! # Contents
 //!
 //! - `to_slice` and `fill_slice` write a value into a buffer (module `ser`).
 //! - `to_vec`, `to_allocvec`, `to_stdvec`, `to_extend`, `to_io` write it elsewhere, and
@@ -19,14 +28,15 @@
 //!   greatest size of a type's encodings.
 //! - `to_slice_cobs`, `fill_slice_cobs`, `to_vec_cobs`, `to_allocvec_cobs`, `to_stdvec_cobs` and
 //!   `to_allocvec_cobs_after` write a value as a frame (module `cobs`).
-//! - `from_bytes` and `take_from_bytes` read a value from the front of a slice, `from_bytes_cobs`
-//!   and `take_from_bytes_cobs` from a frame in place (all of `postcard_frame`); `from_io` reads it
-//!   from a reader (module `de`).
+//! - `from_bytes` and `take_from_bytes` read a value from the front of a slice (both of
+//!   `postcard_de`), `from_bytes_cobs` and `take_from_bytes_cobs` from a frame in place (both of
+//!   `postcard_frame`), and `from_io` from a reader (module `de`).
 //! - `CobsAccumulator` puts frames together from the pieces of a stream (module `accumulator`), and
 //!   `read_frames` reads the frames of a reader (both of `postcard_accumulator`).
-//! - `to_slice_crc32` and the calls of `ser_flavors::checksum` write a value with a checksum after it, and
-//!   `from_bytes_crc32` and the calls of `de_flavors::checksum` check it (all of `postcard_crc`);
-//!   `accumulator::checksum::read_frames` reads such frames from a reader (`postcard_crc_frames`).
+//! - `to_slice_crc32` and the calls of `ser_flavors::checksum` write a value with a checksum after
+//!   it, and `from_bytes_crc32` and the calls of `de_flavors::checksum` check it (all of
+//!   `postcard_crc`); `accumulator::checksum::read_frames` reads such frames from a reader
+//!   (`postcard_crc_frames`).
 //! - `fixint` writes and reads numbers at their full width, the lowest or the highest byte first
 //!   (all of `postcard_fixint`).
 //! - `laws` has the laws that tie both directions together.

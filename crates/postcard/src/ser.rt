@@ -23,10 +23,9 @@ use postcard_wire::{Error, Result};
 ///
 /// # Errors
 ///
-/// Fails if and only if the encoding is longer than `buf`: with `SerializeBufferFull`, or with
-/// `CollectStrError` for a type whose text may fail to print. The buffer then holds a beginning of
-/// the encoding, and after it the old bytes. A value that refuses itself may fail in any case, and
-/// with an error of its own if `buf` has room for the encoding; the content of the buffer is then
+/// Fails with `SerializeBufferFull` if and only if the encoding is longer than `buf`, but for the
+/// [exceptions](crate#errors-of-encoding) on the crate's page. The buffer then holds a beginning of
+/// the encoding, and after it the old bytes; if the value refuses itself, its content is
 /// unspecified.
 pub fn to_slice<'a, T: Serialize>(value: &T, buf: &'a mut [u8]) -> Result<&'a mut [u8]>
     // After a success, the buffer holds what the caller made of the front, and then the old bytes;
@@ -49,12 +48,9 @@ pub fn to_slice<'a, T: Serialize>(value: &T, buf: &'a mut [u8]) -> Result<&'a mu
     lend_front(write_front(value, buf))
 }
 
-/// Encodes a value into the front of `buf`, and returns the number of bytes written, which are the
-/// canonical encoding of the value's tree. The bytes after them are unchanged. Nothing is
-/// allocated. The Rust crate has no such call.
-///
-/// It does the same as [`to_slice`], for callers that keep the buffer: its contract says what the
-/// whole buffer holds after the call.
+/// Does the same as [`to_slice`], and returns the number of bytes written, for callers that keep
+/// the buffer: its contract says what the whole buffer holds after the call. The Rust crate has no
+/// such call.
 ///
 /// # Errors
 ///

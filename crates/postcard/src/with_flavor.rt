@@ -16,14 +16,13 @@ use std::alloc::Global;
 use std::io::Write;
 
 /// Encodes a value into a flavor, ends the flavor, and returns its output. The flavor has then
-/// taken just the canonical encoding of the value's tree.
+/// taken exactly the canonical encoding of the value's tree.
 ///
 /// # Errors
 ///
-/// Fails with `SerializeBufferFull`, or with `CollectStrError` for a type whose text may fail to
-/// print, if the flavor refuses bytes or can't end; never if it has room for the encoding. A value
-/// that refuses itself may fail in any case, and with an error of its own if the flavor has room for
-/// the encoding. After a failure the flavor is dropped.
+/// Fails with `SerializeBufferFull` if the flavor refuses bytes or can't end, and never if it has
+/// room for the encoding, but for the [exceptions](crate#errors-of-encoding) on the crate's page.
+/// After a failure the flavor is dropped.
 pub fn serialize_with_flavor<T: Serialize, S: Flavor<Output = O> + Drop, O>(
     value: &T,
     storage: S,
@@ -49,9 +48,8 @@ pub fn serialize_with_flavor<T: Serialize, S: Flavor<Output = O> + Drop, O>(
 ///
 /// # Errors
 ///
-/// Fails if and only if the encoding has more than `B` bytes: with `SerializeBufferFull`, or with
-/// `CollectStrError` for a type whose text may fail to print. A value that refuses itself may fail
-/// in any case, and with an error of its own if the encoding has at most `B` bytes.
+/// Fails with `SerializeBufferFull` if and only if the encoding has more than `B` bytes, but for
+/// the [exceptions](crate#errors-of-encoding) on the crate's page.
 pub fn to_vec<T: Serialize, const B: usize>(value: &T) -> Result<ArrayVec<u8, B>>
     ensures gives { IfOk result (λ vec. vec.items ≡ canonical (T.shape.tree value.now)) }
     ensures fits_iff { IsWilling T.shape value.now
@@ -68,9 +66,8 @@ pub fn to_vec<T: Serialize, const B: usize>(value: &T) -> Result<ArrayVec<u8, B>
 ///
 /// # Errors
 ///
-/// Fails only if an allocation fails: with `SerializeBufferFull`, or with `CollectStrError` for a
-/// type whose text may fail to print. A value that refuses itself may fail in any case, also with
-/// an error of its own.
+/// Fails with `SerializeBufferFull`, and only if an allocation fails, but for the
+/// [exceptions](crate#errors-of-encoding) on the crate's page.
 pub fn to_allocvec<T: Serialize>(alloc: Global, value: &T) -> Result<Vec<u8>>
     ensures gives { IfOk result (λ vec. vec.items ≡ canonical (T.shape.tree value.now)) }
     ensures named_error { IfErr result (IsErrorOf T.shape value.now) }
@@ -92,9 +89,9 @@ pub fn to_stdvec<T: Serialize>(alloc: Global, value: &T) -> Result<Vec<u8>>
 ///
 /// # Errors
 ///
-/// Fails with `SerializeBufferFull`, or with `CollectStrError` for a type whose text may fail to
-/// print, if the target refuses bytes. A value that refuses itself may fail in any case, also with
-/// an error of its own. After a failure the target is dropped.
+/// Fails with `SerializeBufferFull` if the target refuses bytes, but for the
+/// [exceptions](crate#errors-of-encoding) on the crate's page. After a failure the target is
+/// dropped.
 pub fn to_extend<T: Serialize, W: ExtendBytes + Drop>(value: &T, writer: W) -> Result<W>
     ensures appends { IfOk result
         (λ target. W.content target ≡ W.content writer ++ canonical (T.shape.tree value.now)) }
@@ -108,10 +105,9 @@ pub fn to_extend<T: Serialize, W: ExtendBytes + Drop>(value: &T, writer: W) -> R
 ///
 /// # Errors
 ///
-/// Fails with `SerializeBufferFull`, or with `CollectStrError` for a type whose text may fail to
-/// print, if the writer or its flush fails. A value that refuses itself may fail in any case, also
-/// with an error of its own. After a failure the writer is dropped, and may have been given some of
-/// the bytes.
+/// Fails with `SerializeBufferFull` if the writer or its flush fails, but for the
+/// [exceptions](crate#errors-of-encoding) on the crate's page. After a failure the writer is
+/// dropped, and may have been given some of the bytes.
 pub fn to_io<T: Serialize, W: Write + Drop>(value: &T, writer: W) -> Result<W>
     ensures appends { IfOk result (λ output. Appends (W.contents writer) (W.contents output)
         (canonical (T.shape.tree value.now))) }

@@ -131,11 +131,8 @@ impl<const N: usize> CobsAccumulator<N> {
     }
 
     /// Decodes the bytes held as a frame, and lends its data. The accumulator must not be skipping
-    /// a frame. Nothing is held once the loan ends, also after an error.
-    ///
-    /// # Errors
-    ///
-    /// Fails if and only if the bytes held are a frame of no data.
+    /// a frame. Fails if and only if the bytes held are a frame of no data. Nothing is held once
+    /// the loan ends, also after a failure.
     fn decode<'de>(&'de mut self) -> Result<&'de [u8]>
         requires { is_skipping self.old ≡ false }
         ensures decodes { IfOk result (λ d. Groups (held_of self.old) d.now) }
@@ -186,11 +183,11 @@ impl<const N: usize> CobsAccumulator<N> {
         }
     }
 
-    /// Takes in a piece of a stream up to the end of a frame, as [`feed`](CobsAccumulator::feed)
-    /// does, but decodes only the frame and reads no value: `Success` has the frame's data, and
-    /// `DeserError` is returned for a frame that is no COBS frame.
+    /// Does the same as [`feed`](CobsAccumulator::feed), but decodes only the frame and reads no
+    /// value: `Success` has the frame's data, and `DeserError` is returned for a frame that is no
+    /// COBS frame.
     ///
-    /// The data is in the accumulator, which can be used again once that loan ends.
+    /// The data borrows from the accumulator, which can be used again once that loan ends.
     pub fn take_in<'de, 'a>(&'de mut self, input: &'a [u8]) -> FeedResult<'a, &'de [u8]>
         ensures answer { (after : State) × IsTaken N self.old input.now result after }
         ensures* after { sem 𝓛 (follows_so (the_row N.row) (the_row N.row)
@@ -207,14 +204,9 @@ impl<const N: usize> CobsAccumulator<N> {
         self.take_held(&input[n + 1..])
     }
 
-    /// Takes in a piece of a stream up to the end of a frame, and decodes that frame's value.
-    ///
-    /// Except for `Consumed`, the result has the bytes of the piece that weren't taken in; feed
-    /// them next, until none are left. Bytes after the value in a frame's data are ignored. The
-    /// crate's page has the rule as a table.
-    ///
-    /// After `Success`, `DeserError` and `OverFull` nothing is held. After `OverFull` the frame has
-    /// ended, or it is skipped from now on.
+    /// Takes in a piece of a stream up to the end of a frame, and decodes that frame's value, by
+    /// the [rule](crate#the-rule) on the crate's page. Bytes after the value in a frame's data are
+    /// ignored.
     pub fn feed<'a, T: DeserializeOwned>(
         &mut self,
         alloc: Global,
@@ -240,7 +232,7 @@ impl<const N: usize> CobsAccumulator<N> {
     }
 
     /// Does the same as [`feed`](CobsAccumulator::feed), for a value that may borrow from the
-    /// accumulator. The accumulator can be used again once that loan ends.
+    /// accumulator, which can be used again once that loan ends.
     pub fn feed_ref<'de, 'a, T: Deserialize<'de>>(
         &'de mut self,
         alloc: Global,

@@ -4,7 +4,7 @@
 /// [`take_in`](crate::accumulator::CobsAccumulator::take_in), where the value of a frame is its data.
 ///
 /// Except for `Consumed`, each has the bytes of the piece that weren't taken in, which may be none.
-/// Feed them next.
+/// Feed these next.
 #[derive(Drop)]
 pub enum FeedResult<'a, T> {
     /// All of the piece was consumed, and no frame ended except one that was being skipped.

@@ -1,9 +1,8 @@
 //! Frames from a stream: an accumulator that is fed pieces, and a loop that reads them.
 //!
-//! A stream consists of COBS frames, each ended by a zero. It comes in pieces, as the line cuts it:
-//! a piece may have half a frame or many frames. A [`CobsAccumulator`] holds the front of a frame
-//! until its zero comes, decodes the frame and reads its value. [`read_frames`] does so for all
-//! bytes of a reader.
+//! A stream is COBS frames, each ended by a zero, and comes in pieces, of which one may have half a
+//! frame or many frames. A [`CobsAccumulator`] holds the front of a frame until its zero comes,
+//! decodes the frame and reads its value. [`read_frames`] does so for all bytes of a reader.
 //!
 //! # The rule
 //!
@@ -27,17 +26,16 @@
 //! oversized.
 //!
 //! A link that joins late may begin inside a frame. It loses at most what comes before the first
-//! zero: that may result in `DeserError`, `OverFull` or, by chance, a value. From that zero on the
+//! zero, which may give `DeserError`, `OverFull` or, by chance, a value. After that zero the
 //! answers are those of the frames.
 //!
 //! # What is proved
 //!
 //! `specs/Feeding.antt` is the table, the contract of [`feed`](CobsAccumulator::feed) and
 //! [`feed_ref`](CobsAccumulator::feed_ref). `specs/Streams.antt` defines the answers of a whole
-//! stream: one for each frame, in order, whatever the pieces are. Both leave open what a frame's own
-//! answer is; `specs/Values.antt` says it. The answers of [`read_frames`] are those of all bytes
-//! that it read and fed. [`laws`] has what follows for every stream: above all,
-//! [`laws::messages_arrive`].
+//! stream: one for each frame, in order, whatever the pieces are. `specs/Values.antt` says what a
+//! frame's own answer is. The answers of [`read_frames`] are those of all bytes that it read and
+//! fed. [`laws`] has what follows for every stream: above all, [`laws::messages_arrive`].
 //!
 //! # Contents
 //!

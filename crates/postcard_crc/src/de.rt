@@ -36,8 +36,8 @@ pub use modifier::CrcModifier;
 /// It succeeds if and only if a front of `bytes` spells a tree that the type reads, the bytes of its
 /// checksum follow, and no allocation fails.
 ///
-/// A caller that wants just one message has to see that the rest is empty, or calls
-/// [`from_bytes_whole`]: of damage, only a success with an empty rest says anything.
+/// A caller that expects exactly one message must check that the rest is empty, or call
+/// [`from_bytes_whole`]: only a success with an empty rest says anything about damage.
 ///
 /// # Errors
 ///

@@ -4,6 +4,15 @@
 //! A message with its checksum is the encoding of a value, and then the checksum of the encoding in
 //! as many bytes as the checksum's type has, the lowest first.
 //!
+//! # Errors of encoding
+//!
+//! Each call that encodes says when it fails with `SerializeBufferFull`. There are two exceptions.
+//! For a type whose text may fail to print, the error may be `CollectStrError` instead. A value
+//! that refuses itself may fail in any case, also with an error of its own; if there is room for
+//! the message, only with such an error.
+//!
+//! # Contents
+//!
 //! - [`ser`] has the writing flavor, and the calls that encode.
 //! - [`de`] has the reading flavor, and the calls that decode.
 //! - [`ser_flavors`] and [`de_flavors`] have the names of the Rust crate for each width, as the modules

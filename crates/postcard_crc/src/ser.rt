@@ -28,10 +28,9 @@ pub use modifier::CrcModifier;
 ///
 /// # Errors
 ///
-/// Fails with `SerializeBufferFull`, or with `CollectStrError` for a type whose text may fail to
-/// print, if the flavor refuses bytes or can't end; never if it has room for the encoding and the
-/// checksum. A value that refuses itself may fail in any case, and with an error of its own if there
-/// is such room. After a failure the flavor is dropped.
+/// Fails with `SerializeBufferFull` if the flavor refuses bytes or can't end, and never if it has
+/// room for the encoding and the checksum, but for the [exceptions](crate#errors-of-encoding) on
+/// the crate's page. After a failure the flavor is dropped.
 pub fn serialize_with_checksum<
     T: Serialize,
     S: Flavor<Output = O> + Drop,
@@ -63,10 +62,9 @@ pub fn serialize_with_checksum<
 ///
 /// # Errors
 ///
-/// Fails if and only if `buf` has no room for the encoding and the checksum: with
-/// `SerializeBufferFull`, or with `CollectStrError` for a type whose text may fail to print. A value
-/// that refuses itself may fail in any case, and with an error of its own if `buf` has such room.
-/// After a failure the content of the buffer is unspecified.
+/// Fails with `SerializeBufferFull` if and only if `buf` has no room for the encoding and the
+/// checksum, but for the [exceptions](crate#errors-of-encoding) on the crate's page. After a
+/// failure the content of the buffer is unspecified.
 pub fn to_slice<'a, T: Serialize, W: Width, I: Implementation<W>>(
     value: &T,
     buf: &'a mut [u8],
@@ -89,10 +87,8 @@ pub fn to_slice<'a, T: Serialize, W: Width, I: Implementation<W>>(
 ///
 /// # Errors
 ///
-/// Fails if and only if the encoding and the checksum have more than `B` bytes: with
-/// `SerializeBufferFull`, or with `CollectStrError` for a type whose text may fail to print. A value
-/// that refuses itself may fail in any case, and with an error of its own if they have at most `B`
-/// bytes.
+/// Fails with `SerializeBufferFull` if and only if the encoding and the checksum have more than `B`
+/// bytes, but for the [exceptions](crate#errors-of-encoding) on the crate's page.
 pub fn to_vec<T: Serialize, W: Width, I: Implementation<W>, const B: usize>(
     value: &T,
     digest: Digest<'_, W, I>,
@@ -113,9 +109,8 @@ pub fn to_vec<T: Serialize, W: Width, I: Implementation<W>, const B: usize>(
 ///
 /// # Errors
 ///
-/// Fails only if an allocation fails: with `SerializeBufferFull`, or with `CollectStrError` for a
-/// type whose text may fail to print. A value that refuses itself may fail in any case, also with
-/// an error of its own.
+/// Fails with `SerializeBufferFull`, and only if an allocation fails, but for the
+/// [exceptions](crate#errors-of-encoding) on the crate's page.
 pub fn to_allocvec<T: Serialize, W: Width, I: Implementation<W>>(
     alloc: Global,
     value: &T,
@@ -159,10 +154,10 @@ fn framed<T: Serialize, B: Storage + Drop, W: Width, I: Implementation<W>>(
 ///
 /// # Errors
 ///
-/// Fails with `SerializeBufferFull`, or with `CollectStrError` for a type whose text may fail to
-/// print; never if `buf` has room for the frame of the encoding and any checksum. A value that
-/// refuses itself may fail in any case, and with an error of its own if `buf` has such room. After a
-/// failure the content of the buffer is unspecified.
+/// Fails with `SerializeBufferFull` if the frame is longer than `buf`, and never if `buf` has room
+/// for the frame of the encoding and any checksum, but for the
+/// [exceptions](crate#errors-of-encoding) on the crate's page. After a failure the content of the
+/// buffer is unspecified.
 pub fn to_slice_cobs<'a, T: Serialize, W: Width, I: Implementation<W>>(
     value: &T,
     buf: &'a mut [u8],
@@ -187,9 +182,8 @@ pub fn to_slice_cobs<'a, T: Serialize, W: Width, I: Implementation<W>>(
 ///
 /// # Errors
 ///
-/// Fails only if an allocation fails: with `SerializeBufferFull`, or with `CollectStrError` for a
-/// type whose text may fail to print. A value that refuses itself may fail in any case, also with
-/// an error of its own.
+/// Fails with `SerializeBufferFull`, and only if an allocation fails, but for the
+/// [exceptions](crate#errors-of-encoding) on the crate's page.
 pub fn to_allocvec_cobs<T: Serialize, W: Width, I: Implementation<W>>(
     alloc: Global,
     value: &T,

@@ -42,12 +42,8 @@ impl SeqAccess {
         self.len
     }
 
-    /// Reads the next element, or returns `None` and reads nothing if no element is left. The
-    /// element counts as read even if that fails.
-    ///
-    /// # Errors
-    ///
-    /// Fails as reading the element does.
+    /// Reads the next element, or returns `None` and reads nothing if no element is left. Fails as
+    /// reading the element does; the element then counts as read, too.
     pub fn next_element<'de, T: Deserialize<'de>, F: Flavor>(
         &mut self,
         alloc: Global,

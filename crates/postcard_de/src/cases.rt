@@ -67,11 +67,7 @@ impl<'de, A: Deserialize<'de>, R: DeserializeCase<'de>> Deserialize<'de> for Cas
 
 /// Variants in a row that can be read and borrow nothing from the source.
 pub trait DeserializeCaseOwned: Cased + Sized + Drop {
-    /// Reads the content of the variant of index `index`, counted from 0.
-    ///
-    /// # Errors
-    ///
-    /// Fails as [`DeserializeCase::deserialize_case`].
+    /// Does the same as [`DeserializeCase::deserialize_case`].
     fn deserialize_case_owned<'de, F: Flavor>(
         index: u32,
         alloc: Global,

@@ -20,8 +20,18 @@ use postcard_wire::{Result, zigzag};
 use std::alloc::Global;
 use std::marker::PhantomData;
 
-/// Reads values from a source, each from the front of what is left. A contract sees the source, by
-/// `source_of`.
+/// Reads values from a source, each from the front of what is left. Padded varints are read too.
+/// The names of structs, fields and variants aren't used.
+///
+/// A contract sees the source, by `source_of`.
+///
+/// # Errors
+///
+/// A call fails with `DeserializeUnexpectedEnd` if the source can't give the bytes that it takes. A
+/// number of 16 or more bits fails with `DeserializeBadVarint` if its varint has more bytes than
+/// the width allows, 3, 5, 10 or 19, or its number more bits; as many bytes are taken then. The
+/// index of a variant is a number of 32 bits, and a count or a length one of 64. A call that reads
+/// other values fails as reading the first of them that can't be read does.
 #[derive(Drop)]
 pub struct Deserializer<'de, F: Flavor> {
     pub(crate) flavor: F,
@@ -64,10 +74,6 @@ impl<'de, F: Flavor> Deserializer<'de, F> {
     }
 
     /// Reads a byte.
-    ///
-    /// # Errors
-    ///
-    /// Fails with `DeserializeUnexpectedEnd` if the source can't give a byte.
     pub fn deserialize_u8(&mut self) -> Result<u8>
         ensures { ReadsNode F.Flavor byte_node (source_of self.old) result (source_of self.new) }
     {
@@ -75,10 +81,6 @@ impl<'de, F: Flavor> Deserializer<'de, F> {
     }
 
     /// Reads a byte as a signed number, in two's complement.
-    ///
-    /// # Errors
-    ///
-    /// Fails with `DeserializeUnexpectedEnd` if the source can't give a byte.
     pub fn deserialize_i8(&mut self) -> Result<i8>
         ensures { ReadsNode F.Flavor signed_byte_node
             (source_of self.old) result (source_of self.new) }
@@ -87,13 +89,7 @@ impl<'de, F: Flavor> Deserializer<'de, F> {
         Ok(bits.cast_signed())
     }
 
-    /// Reads a number of 16 bits: a varint of at most 3 bytes. A padded varint is read too.
-    ///
-    /// # Errors
-    ///
-    /// Fails with `DeserializeUnexpectedEnd` if the bytes end within the varint, and with
-    /// `DeserializeBadVarint` if it has more than 3 bytes or its number more than 16 bits; 3 bytes
-    /// are taken then.
+    /// Reads a number of 16 bits: a varint of at most 3 bytes.
     pub fn deserialize_u16(&mut self) -> Result<u16>
         ensures { ReadsNode F.Flavor (num_node 16)
             (source_of self.old) result (source_of self.new) }
@@ -102,13 +98,7 @@ impl<'de, F: Flavor> Deserializer<'de, F> {
         Ok(n as u16)
     }
 
-    /// Reads a number of 32 bits: a varint of at most 5 bytes. A padded varint is read too.
-    ///
-    /// # Errors
-    ///
-    /// Fails with `DeserializeUnexpectedEnd` if the bytes end within the varint, and with
-    /// `DeserializeBadVarint` if it has more than 5 bytes or its number more than 32 bits; 5 bytes
-    /// are taken then.
+    /// Reads a number of 32 bits: a varint of at most 5 bytes.
     pub fn deserialize_u32(&mut self) -> Result<u32>
         ensures { ReadsNode F.Flavor (num_node 32)
             (source_of self.old) result (source_of self.new) }
@@ -117,13 +107,7 @@ impl<'de, F: Flavor> Deserializer<'de, F> {
         Ok(n as u32)
     }
 
-    /// Reads a number of 64 bits: a varint of at most 10 bytes. A padded varint is read too.
-    ///
-    /// # Errors
-    ///
-    /// Fails with `DeserializeUnexpectedEnd` if the bytes end within the varint, and with
-    /// `DeserializeBadVarint` if it has more than 10 bytes or its number more than 64 bits; 10
-    /// bytes are taken then.
+    /// Reads a number of 64 bits: a varint of at most 10 bytes.
     pub fn deserialize_u64(&mut self) -> Result<u64>
         ensures { ReadsNode F.Flavor (num_node 64)
             (source_of self.old) result (source_of self.new) }
@@ -132,13 +116,7 @@ impl<'de, F: Flavor> Deserializer<'de, F> {
         Ok(n as u64)
     }
 
-    /// Reads a number of 128 bits: a varint of at most 19 bytes. A padded varint is read too.
-    ///
-    /// # Errors
-    ///
-    /// Fails with `DeserializeUnexpectedEnd` if the bytes end within the varint, and with
-    /// `DeserializeBadVarint` if it has more than 19 bytes or its number more than 128 bits; 19
-    /// bytes are taken then.
+    /// Reads a number of 128 bits: a varint of at most 19 bytes.
     pub fn deserialize_u128(&mut self) -> Result<u128>
         ensures { ReadsNode F.Flavor (num_node 128)
             (source_of self.old) result (source_of self.new) }
@@ -148,10 +126,6 @@ impl<'de, F: Flavor> Deserializer<'de, F> {
     }
 
     /// Reads a signed number of 16 bits: its zigzag form, a varint of at most 3 bytes.
-    ///
-    /// # Errors
-    ///
-    /// Fails as `deserialize_u16`.
     pub fn deserialize_i16(&mut self) -> Result<i16>
         ensures { ReadsNode F.Flavor (int_node 16)
             (source_of self.old) result (source_of self.new) }
@@ -161,10 +135,6 @@ impl<'de, F: Flavor> Deserializer<'de, F> {
     }
 
     /// Reads a signed number of 32 bits: its zigzag form, a varint of at most 5 bytes.
-    ///
-    /// # Errors
-    ///
-    /// Fails as `deserialize_u32`.
     pub fn deserialize_i32(&mut self) -> Result<i32>
         ensures { ReadsNode F.Flavor (int_node 32)
             (source_of self.old) result (source_of self.new) }
@@ -174,10 +144,6 @@ impl<'de, F: Flavor> Deserializer<'de, F> {
     }
 
     /// Reads a signed number of 64 bits: its zigzag form, a varint of at most 10 bytes.
-    ///
-    /// # Errors
-    ///
-    /// Fails as `deserialize_u64`.
     pub fn deserialize_i64(&mut self) -> Result<i64>
         ensures { ReadsNode F.Flavor (int_node 64)
             (source_of self.old) result (source_of self.new) }
@@ -187,10 +153,6 @@ impl<'de, F: Flavor> Deserializer<'de, F> {
     }
 
     /// Reads a signed number of 128 bits: its zigzag form, a varint of at most 19 bytes.
-    ///
-    /// # Errors
-    ///
-    /// Fails as `deserialize_u128`.
     pub fn deserialize_i128(&mut self) -> Result<i128>
         ensures { ReadsNode F.Flavor (int_node 128)
             (source_of self.old) result (source_of self.new) }
@@ -199,14 +161,12 @@ impl<'de, F: Flavor> Deserializer<'de, F> {
         Ok(zigzag::de_zig_zag_i128(folded))
     }
 
-    /// Reads a text, which is lent from the source: its length in bytes, and that many bytes of
-    /// UTF-8.
+    /// Reads a text: its length in bytes, and that many bytes of UTF-8. The text borrows from what
+    /// the source borrows.
     ///
     /// # Errors
     ///
-    /// Fails as `deserialize_u64` if the length can't be read, with `DeserializeUnexpectedEnd` if
-    /// the bytes end before the text does, and with `DeserializeBadUtf8` if they aren't UTF-8; they
-    /// are taken then.
+    /// Also fails with `DeserializeBadUtf8` if the bytes aren't UTF-8; they are taken then.
     pub fn deserialize_str(&mut self) -> Result<&'de str>
         ensures { ReadsNode F.Flavor lent_text_node
             (source_of self.old) result (source_of self.new) }
@@ -227,12 +187,8 @@ impl<'de, F: Flavor> Deserializer<'de, F> {
         texts::text_copy(alloc, &mut self.flavor)
     }
 
-    /// Reads a byte string, which is lent from the source: its length, and that many bytes.
-    ///
-    /// # Errors
-    ///
-    /// Fails as `deserialize_u64` if the length can't be read, and with `DeserializeUnexpectedEnd`
-    /// if the source can't give that many bytes.
+    /// Reads a byte string: its length, and that many bytes. The slice borrows from what the source
+    /// borrows.
     pub fn deserialize_bytes(&mut self) -> Result<&'de [u8]>
         ensures { ReadsNode F.Flavor lent_bytes_node
             (source_of self.old) result (source_of self.new) }
@@ -245,8 +201,7 @@ impl<'de, F: Flavor> Deserializer<'de, F> {
     ///
     /// # Errors
     ///
-    /// Fails as `deserialize_bytes`, and with `OutOfMemory` if the allocation fails; the bytes are
-    /// taken then.
+    /// Also fails with `OutOfMemory` if the allocation fails; the bytes are taken then.
     pub fn deserialize_byte_buf(&mut self, alloc: Global) -> Result<Vec<u8>>
         ensures { ReadsNode F.Flavor bytes_node (source_of self.old) result (source_of self.new) }
     {
@@ -255,10 +210,6 @@ impl<'de, F: Flavor> Deserializer<'de, F> {
 
     /// Reads the number of elements of a list, a varint of at most 10 bytes. The elements are then
     /// read by [`next_element`](SeqAccess::next_element).
-    ///
-    /// # Errors
-    ///
-    /// Fails as `deserialize_u64`.
     pub fn deserialize_seq(&mut self) -> Result<SeqAccess>
         ensures { ReadsNode F.Flavor (number_node 64)
             (source_of self.old) result (source_of self.new) }

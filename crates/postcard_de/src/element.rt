@@ -12,11 +12,7 @@ use std::alloc::Global;
 
 /// A way to read a `T`.
 pub(crate) trait Element<'de, T: Shaped + Drop> {
-    /// Reads a value from the front of what is left.
-    ///
-    /// # Errors
-    ///
-    /// Fails as [`Deserialize::deserialize`].
+    /// Reads a value from the front of what is left. Fails as [`Deserialize::deserialize`] does.
     fn element<F: Flavor>(alloc: Global, d: &mut Deserializer<'de, F>) -> Result<T>
         ensures { ReadsShape F.Flavor T.shape (source_of d.old) result (source_of d.new) };
 }

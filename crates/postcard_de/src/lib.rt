@@ -2,15 +2,15 @@
 //!
 //! A type's shape says which trees it reads and what their values are. The layer above relies on
 //! one contract, that of [`Deserialize::deserialize`]: `ReadsShape F.Flavor shape ..` says that the
-//! result is the value of a front that spells a tree that the type reads, that such a front is read if
-//! the source is able to give it and no allocation fails, what is left, and which errors may be
+//! result is the value of a front that spells a tree that the type reads, that such a front is read
+//! if the source is able to give it and no allocation fails, what is left, and which errors may be
 //! returned. A single node has one clause, `ReadsNode F.Flavor node ..`, at its function in
-//! `postcard_de_nodes`, at its call `deserialize_*` and at the types that are that node: the same of the
-//! node (`reads`), and the exact reason of a failure (`refused`). Options and `Result` have
+//! `postcard_de_nodes`, at its call `deserialize_*` and at the types that are that node: the same
+//! for the node (`reads`), and the exact reason of a failure (`refused`). Options and `Result` have
 //! `ReadsOption` and `ReadsResult`, likewise.
 //!
 //! A struct is read as the tuple of its fields and an enum as its variants in a row ([`FromRepr`]),
-//! with no proof of their own. [`from_bytes`] and [`take_from_bytes`] are the calls for bytes in
+//! with no proof of its own. [`from_bytes`] and [`take_from_bytes`] are the calls for bytes in
 //! memory.
 //!
 //! In reading order: [`deserialize`] has the trait, [`owned`] that of types that borrow nothing,

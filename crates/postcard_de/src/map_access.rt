@@ -13,7 +13,8 @@ use postcard_wire::Result;
 use std::alloc::Global;
 use std::marker::Model;
 
-/// Reads the pairs of a map, and counts the keys that are left. A contract sees that count.
+/// Reads the pairs of a map, and counts the keys that are left. A contract sees that count. A call
+/// fails as reading the key or the value does.
 #[derive(Drop)]
 pub struct MapAccess {
     keys: SeqAccess,
@@ -39,10 +40,6 @@ impl MapAccess {
 
     /// Reads the next key, or returns `None` and reads nothing if no pair is left. The pair counts
     /// as read even if that fails.
-    ///
-    /// # Errors
-    ///
-    /// Fails as reading the key does.
     pub fn next_key<'de, K: Deserialize<'de>, F: Flavor>(
         &mut self,
         alloc: Global,
@@ -58,10 +55,6 @@ impl MapAccess {
 
     /// Reads the value of the key that was read last. The caller must have read that key by
     /// [`next_key`](MapAccess::next_key) just before; this is not checked.
-    ///
-    /// # Errors
-    ///
-    /// Fails as reading the value does.
     pub fn next_value<'de, V: Deserialize<'de>, F: Flavor>(
         &mut self,
         alloc: Global,

@@ -11,11 +11,7 @@ use std::alloc::Global;
 
 /// A type whose values can be read and borrow nothing from the source.
 pub trait DeserializeOwned: Shaped + Sized + Drop {
-    /// Reads a value from the front of what is left, and takes just the bytes that spell it.
-    ///
-    /// # Errors
-    ///
-    /// Fails as [`Deserialize::deserialize`].
+    /// Reads a value as [`Deserialize::deserialize`] does, and fails as that does.
     fn deserialize_owned<'de, F: Flavor>(
         alloc: Global,
         d: &mut Deserializer<'de, F>,

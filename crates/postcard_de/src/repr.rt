@@ -11,10 +11,10 @@ use postcard_shape::Repr;
 use postcard_wire::Result;
 use std::alloc::Global;
 
-/// A type that is read as another, `Repr::As`, and is made from a value of that. It has
-/// `Deserialize` if `As` has it, and `DeserializeOwned` likewise.
+/// A type that is read as another, `Repr::As`, and made from its value. It implements `Deserialize`
+/// if `As` does, and `DeserializeOwned` likewise.
 pub trait FromRepr: Repr<As: Drop> + Sized + Drop {
-    /// Makes the value that is seen as `repr`, which was read.
+    /// Makes a value from `repr`, which was read.
     fn from_repr(repr: Self::As) -> Self
         ensures { Self.repr result ≡ repr };
 }

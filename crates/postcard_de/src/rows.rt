@@ -13,11 +13,7 @@ use std::alloc::Global;
 
 /// Parts in a row that can be read.
 pub trait DeserializeParts<'de>: Parts + Sized + Drop {
-    /// Reads the parts from left to right.
-    ///
-    /// # Errors
-    ///
-    /// Fails with the error of the first part that can't be read.
+    /// Reads the parts from left to right. Fails with the error of the first that can't be read.
     fn deserialize_parts<F: Flavor>(alloc: Global, d: &mut Deserializer<'de, F>) -> Result<Self>
         ensures { Reads F.Flavor SpellsAll Self.parts.reads (λ ts v. Self.parts.value v ts)
             Self.parts.other (source_of d.old) result (source_of d.new) };
@@ -46,11 +42,7 @@ impl<'de, A: Deserialize<'de>, R: DeserializeParts<'de>> Deserialize<'de> for Pa
 
 /// Parts in a row that can be read and borrow nothing from the source.
 pub trait DeserializePartsOwned: Parts + Sized + Drop {
-    /// Reads the parts from left to right.
-    ///
-    /// # Errors
-    ///
-    /// Fails with the error of the first part that can't be read.
+    /// Reads the parts from left to right. Fails with the error of the first that can't be read.
     fn deserialize_parts_owned<'de, F: Flavor>(
         alloc: Global,
         d: &mut Deserializer<'de, F>,

@@ -124,7 +124,7 @@ abbrev pub nonzero_int_node : ℕ → Node Tree ℤ
 nonzero_int_node w = tree_node (Without (Int w (pos 0)) (IsInt w)) (λ t v. t ≡ Int w v)
     (WantsDigit w) (ZeroNumber w)
 
--- A truth value.
+-- A boolean.
 abbrev pub boolean_node : Node Tree Bool
 boolean_node = tree_node IsBoolean (λ t v. t ≡ Boolean v) WantsByte BadBool
 

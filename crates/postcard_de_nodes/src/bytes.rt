@@ -21,8 +21,7 @@ pub(crate) fn in_range(bytes: &[u8]) -> &[u8]
 ///
 /// # Errors
 ///
-/// Fails as [`numbers::count`] if the length can't be read, and with `DeserializeUnexpectedEnd` if
-/// the source can't give that many bytes; the length is taken then.
+/// If only the bytes after the length can't be given, the length is taken.
 pub fn bytes<'de, F: Flavor>(flavor: &mut F) -> Result<&'de [u8]>
 where
     F: 'de,
@@ -34,13 +33,11 @@ where
     Ok(bytes)
 }
 
-/// Reads a byte string, and returns a copy of its bytes in a new `Vec`, which is allocated once the
-/// bytes were taken.
+/// Reads a byte string into a new `Vec`, which is allocated once the bytes were taken.
 ///
 /// # Errors
 ///
-/// Fails as [`bytes`], and with `OutOfMemory` if the allocation fails; the length and the bytes are
-/// taken then.
+/// Fails as [`bytes`], and with `OutOfMemory` if the allocation fails; the bytes are taken then.
 pub fn bytes_copy<F: Flavor>(alloc: Global, flavor: &mut F) -> Result<Vec<u8>>
     ensures { ReadsNode F.Flavor bytes_node flavor.old result flavor.new }
 {

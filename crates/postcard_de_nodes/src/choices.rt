@@ -9,8 +9,7 @@ use postcard_wire::{Error, Result};
 ///
 /// # Errors
 ///
-/// Fails with `DeserializeUnexpectedEnd` if the source can't give a byte, and with
-/// `DeserializeBadBool` for any other byte, which is taken.
+/// Also fails with `DeserializeBadBool` for any other byte, which is taken.
 pub fn boolean<F: Flavor>(flavor: &mut F) -> Result<bool>
     ensures { ReadsNode F.Flavor boolean_node flavor.old result flavor.new }
 {

@@ -9,10 +9,6 @@ use postcard_wire::Result;
 use std::num::{f32_from_bits_with_nan, f64_from_bits_with_nan};
 
 /// Reads an array of `N` bytes at once, without a count.
-///
-/// # Errors
-///
-/// Fails with `DeserializeUnexpectedEnd` if the source can't give that many bytes.
 pub fn byte_array<F: Flavor, const N: usize>(flavor: &mut F) -> Result<[u8; N]>
     ensures { ReadsNode F.Flavor (byte_array_node N) flavor.old result flavor.new }
 {
@@ -23,12 +19,8 @@ pub fn byte_array<F: Flavor, const N: usize>(flavor: &mut F) -> Result<[u8; N]>
     Ok(bytes)
 }
 
-/// Reads an `f32`: the 4 bytes of its bits, the lowest first (wire format 1.0, "f32"). Any bits of
-/// a NaN are read as a NaN.
-///
-/// # Errors
-///
-/// Fails with `DeserializeUnexpectedEnd` if the source can't give 4 bytes.
+/// Reads an `f32`: the 4 bytes of its bits, the lowest first (wire format 1.0, "f32"). Every NaN is
+/// read as a NaN, whatever its bits.
 pub fn float_32<F: Flavor>(flavor: &mut F) -> Result<f32>
     ensures { ReadsNode F.Flavor (float_node binary32) flavor.old result flavor.new }
 {
@@ -36,12 +28,8 @@ pub fn float_32<F: Flavor>(flavor: &mut F) -> Result<f32>
     Ok(f32_from_bits_with_nan(u32::from_le_bytes(bytes)))
 }
 
-/// Reads an `f64`: the 8 bytes of its bits, the lowest first (wire format 1.0, "f64"). Any bits of
-/// a NaN are read as a NaN.
-///
-/// # Errors
-///
-/// Fails with `DeserializeUnexpectedEnd` if the source can't give 8 bytes.
+/// Reads an `f64`: the 8 bytes of its bits, the lowest first (wire format 1.0, "f64"). Every NaN is
+/// read as a NaN, whatever its bits.
 pub fn float_64<F: Flavor>(flavor: &mut F) -> Result<f64>
     ensures { ReadsNode F.Flavor (float_node binary64) flavor.old result flavor.new }
 {

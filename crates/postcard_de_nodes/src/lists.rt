@@ -8,12 +8,12 @@ use postcard_de_flavors::Flavor;
 use postcard_shape::Shaped;
 use postcard_wire::{Error, Result};
 
-/// How many elements are read one by one before it is tried again to read many. If fewer than twice
-/// as many are left, all of them are.
+/// How many elements are read one by one before reading many is tried again. If fewer than twice as
+/// many are left, all are read one by one.
 const PAUSE: usize = 16;
 
-/// Returns how many elements of a list of `count` are to be read one by one before it is tried to read
-/// many: all of a short one.
+/// Returns how many elements of a list of `count` are to be read one by one before reading many is
+/// tried: all of a short one.
 #[inline(always)]
 pub fn first_pause(count: usize) -> usize {
     if count < 2 * PAUSE { count } else { 0 }
@@ -21,11 +21,11 @@ pub fn first_pause(count: usize) -> usize {
 
 /// Reads some of the next elements of a list at once, at most `most` of them, and appends them to
 /// `items`, if the source has them in memory ([`Flavor::at_hand`]) and the type takes them from
-/// there ([`Shaped::append_at_hand`]). Returns whether it did; if not, nothing is taken, and the next
-/// element is to be read by itself.
+/// there ([`Shaped::append_at_hand`]). Returns whether it did; if not, nothing is taken, and the
+/// caller reads the next element.
 ///
-/// `pause` is 0 before the first call for a list, and else what the call before left: how many
-/// elements are to be read one by one before it is tried again.
+/// `pause` is 0 before the first call for a list, and then what the last call left: how many
+/// elements are to be read one by one before the next try.
 ///
 /// # Errors
 ///

@@ -12,18 +12,16 @@ use postcard_wire::{Error, Result};
 ///
 /// # Errors
 ///
-/// Fails with `DeserializeUnexpectedEnd` if the source can't give the next byte of the varint, and
-/// with `DeserializeBadVarint` if the varint has more bytes than that or the number more than
-/// `bits` bits; the greatest number of bytes is taken then.
+/// Also fails with `DeserializeBadVarint` if the varint has more bytes than that or the number more
+/// than `bits` bits; the greatest number of bytes is taken then.
 #[inline(always)]
 pub fn number<F: Flavor>(flavor: &mut F, bits: u32) -> Result<u128>
     requires { IsWidth bits }
     ensures { ReadsNode F.Flavor (number_node bits) flavor.old result flavor.new }
 {
     let mut digits = Digits::new();
-    // A counted loop, so that the compiler unrolls it and each place is a constant. At the last
-    // byte that the width allows, `push` returns the number or an error, so the code after the loop
-    // is never reached.
+    // A counted loop, so that the compiler unrolls it. At the last byte that the width allows,
+    // `push` returns the number or an error, so the code after the loop is never reached.
     for place in 0..(bits + 6) / 7 {
         let byte = flavor.pop()?;
         if let Some(n) = digits.push(bits, byte)? {
@@ -33,12 +31,8 @@ pub fn number<F: Flavor>(flavor: &mut F, bits: u32) -> Result<u128>
     Err(Error::DeserializeBadVarint)
 }
 
-/// Reads the number of elements of a list or of pairs of a map, or the length in bytes of a text or
-/// a byte string: a number of 64 bits, a varint of at most 10 bytes.
-///
-/// # Errors
-///
-/// Fails as [`number`] of 64 bits.
+/// Reads the number of elements of a list or of pairs of a map, or the length of a text or a byte
+/// string: a number of 64 bits.
 #[inline(always)]
 pub fn count<F: Flavor>(flavor: &mut F) -> Result<usize>
     ensures { ReadsNode F.Flavor (number_node 64) flavor.old result flavor.new }

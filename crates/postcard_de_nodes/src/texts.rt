@@ -18,9 +18,7 @@ const LONGEST_CHAR: usize = 4;
 ///
 /// # Errors
 ///
-/// Fails as [`numbers::count`] if the length can't be read, with `DeserializeUnexpectedEnd` if the
-/// source can't give that many bytes, and with `DeserializeBadUtf8` if the bytes aren't UTF-8; they
-/// are taken then.
+/// Also fails with `DeserializeBadUtf8` if the bytes aren't UTF-8; they are taken then.
 pub fn text<'de, F: Flavor>(flavor: &mut F) -> Result<&'de str>
 where
     F: 'de,
@@ -34,8 +32,8 @@ where
     }
 }
 
-/// Reads a text, and returns a copy of it in a new `String`, which is allocated once the bytes were
-/// taken and found to be UTF-8.
+/// Reads a text into a new `String`, which is allocated once the bytes were taken and found to be
+/// UTF-8.
 ///
 /// # Errors
 ///
@@ -54,7 +52,7 @@ pub fn text_copy<F: Flavor>(alloc: Global, flavor: &mut F) -> Result<String>
     }
 }
 
-/// Reads a text of at most `CAP` bytes, and returns a copy of it.
+/// Reads a text of at most `CAP` bytes into an `ArrayString`.
 ///
 /// # Errors
 ///
@@ -80,10 +78,8 @@ pub fn short_text<F: Flavor, const CAP: usize>(flavor: &mut F) -> Result<ArraySt
 ///
 /// # Errors
 ///
-/// Fails as [`numbers::count`] if the length can't be read, and with `DeserializeBadChar` if it is
-/// above 4; only the length is taken then. Fails with `DeserializeUnexpectedEnd` if the source
-/// can't give that many bytes, and with `DeserializeBadChar` if the bytes aren't UTF-8 or the
-/// length is 0; they are taken then.
+/// Also fails with `DeserializeBadChar` if the length is above 4; only the length is taken then.
+/// The same if the bytes aren't UTF-8 or the length is 0; they are taken then.
 pub fn character<F: Flavor>(flavor: &mut F) -> Result<char>
     ensures { ReadsNode F.Flavor char_node flavor.old result flavor.new }
 {

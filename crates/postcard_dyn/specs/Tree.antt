@@ -38,7 +38,7 @@ tree_step (Value-F.Seq v) = nodes.Seq (trees v.items)
 tree_step (Value-F.Group v) = nodes.Group (trees v.items)
 tree_step (Value-F.Variant i t) = nodes.Variant i (box_value t)
 
--- The tree of a value, as which it is written.
+-- The tree that a value is written as.
 abbrev pub tree : Value → Tree
 tree = fold-Value Tree tree_step
 

@@ -68,7 +68,7 @@ pub enum Node<'a> {
     Parts,
     /// This many elements or entries, one after another, of which the line's label is the first.
     More(u64),
-    /// All bytes from a part on that can't be read, and what was expected.
+    /// A part that can't be read, with all bytes after it, and what was expected.
     Refused(Expected),
     /// The bytes after the value.
     Rest,
@@ -77,7 +77,7 @@ pub enum Node<'a> {
 /// Some bytes of a message, and what they are.
 #[derive(Debug, Drop)]
 pub struct Line<'a> {
-    /// How many values this part is in that have a line of their own.
+    /// How many values around this part have a line of their own.
     pub depth: usize,
     /// What the part is called.
     pub label: Label<'a>,
@@ -118,13 +118,14 @@ struct Walk<'a> {
 /// The lines are those of the value at the front of the bytes, as [`take_from_bytes`] reads it: one
 /// for each value without parts, count, index and byte of an option, and one without bytes for each
 /// tuple, struct or array in another value. The bytes after the value are the last line, if there
-/// are some. If a part can't be read, the lines are those before it, and its line has all bytes from
-/// there on. Of a list, the elements after the first `most` are on one line.
+/// are some. If a part can't be read, its line is the last, and has the rest of the bytes. Of a
+/// list, the elements after the first `most` are on one line.
 ///
 /// # Errors
 ///
 /// Fails with `OutOfMemory` if an allocation fails, and with `WontImplement` if a line says that a
-/// part can't be read while [`take_from_bytes`] reads a value, which is checked and never seen.
+/// part can't be read although [`take_from_bytes`] reads a value; this is checked, and has never
+/// been seen.
 pub fn explain<'a>(
     alloc: Global,
     schema: &'a Schema,
@@ -204,7 +205,7 @@ fn push<'a>(walk: &mut Walk<'a>, place: Place<'a>, node: Node<'a>, bytes: &'a [u
     }
 }
 
-/// Adds the line of a part that can't be read, with all bytes from there on, and fails with the
+/// Adds the line of a part that can't be read, with the rest of the bytes, and fails with the
 /// error.
 fn refuse<'a>(
     walk: &mut Walk<'a>,
@@ -285,7 +286,7 @@ fn name_of(variant: &Schema) -> &str
 }
 
 /// Adds the lines of a value of the schema at the front of the bytes, and returns the bytes after
-/// it. If a part can't be read, its line has all bytes from there on.
+/// it. If a part can't be read, its line has the rest of the bytes.
 #[cycle(explain)]
 fn explain_part<'a>(
     walk: &mut Walk<'a>,

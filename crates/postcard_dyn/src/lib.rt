@@ -2,7 +2,9 @@
 //!
 //! [`read_value`] reads a [`Value`] of a schema from any source, and [`write_value`] writes one
 //! into any flavor. [`take_from_bytes`] decodes a value from a slice, and [`to_flavor`] encodes one
-//! and returns the flavor's output. By the [`laws`], the encodings of each schema are prefix-free.
+//! and returns the flavor's output. [`mod@explain`] says which bytes of a message are which part of
+//! the value, and [`refused_at`] where reading one fails. By the [`laws`], the encodings of each
+//! schema are prefix-free.
 #![tactic(auto)]
 
 pub mod calls;

@@ -29,7 +29,7 @@ use Rattle.postcard_dyn_text.proofs.Fronts.{scalar_trimmed, unsigned_scalars, si
 
 -- ---- fronts
 
--- A text spells one truth value.
+-- A text spells one boolean.
 pub one_truth : (x y : Bool) (word : List ℕ) → IsTruth x word → IsTruth y word → x ≡ y
 one_truth true true word a b = refl
 one_truth true false word a b = cc (sym a ∙ b)

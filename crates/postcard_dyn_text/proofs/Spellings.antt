@@ -142,7 +142,7 @@ module _ {X : Type 0} (see : X → Tree) where
   parts_phrases_more (r ∷ rs) [] s v same = absurd (omega (arith, same))
   parts_phrases_more (r ∷ rs) (u ∷ us) s v same = ap (λ Ps. SpellsTree (layout_of r) (see u) ∷ Ps) (parts_phrases_more rs us s v (omega (arith, same)))
 
-  -- Parts of as many schemas have phrases exactly if there are parts.
+  -- Parts of as many schemas have phrases if and only if there are parts.
   some_parts : (ss : List Schema) (vs : List X) → length ss ≡ length vs → are_none (part_phrases (layouts_of ss) (trees (map see vs))) ≡ (length vs == 0)
   some_parts [] [] same = refl
   some_parts [] (u ∷ us) same = absurd (omega (arith, same))
@@ -158,7 +158,7 @@ module _ {X : Type 0} (see : X → Tree) where
       subst (λ Qs. TakesPhrase (Row between Qs) a d) (sym (parts_phrases_more ss vs s v same))
       (row_more between Ps (SpellsTree (layout_of s) (see v)) a b c d row (subst (λ none. TakesPhrase (Unless none between) b c) (sym (some_parts ss vs same)) sign) one)
 
-  -- A row of parts has as many parts as schemas, so it has phrases exactly if there are parts.
+  -- A row of parts has as many parts as schemas, so it has phrases if and only if there are parts.
   pub row_parts : (between : Phrase) (ss : List Schema) (vs : List X) (text : List ℕ) → Row between (part_phrases (layouts_of ss) (trees (map see vs))) text
       → are_none (part_phrases (layouts_of ss) (trees (map see vs))) ≡ (length vs == 0)
   row_parts between [] [] text row = refl

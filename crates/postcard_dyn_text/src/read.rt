@@ -655,7 +655,7 @@ fn read_bool(rest: &mut &[u8]) -> Result<bool, Stop<'static>>
     }
 }
 
-/// Returns the truth value of a word, or `None` if it is neither `true` nor `false`.
+/// Returns the `bool` that a word spells, or `None` if it is neither `true` nor `false`.
 fn truth_of(word: &[u8]) -> Option<bool>
     ensures found { IfSome result (λ x. IsTruth x word.now) }
     ensures none { IfNone result ((x : Bool) → IsTruth x word.now → ⊥) }

@@ -22,7 +22,7 @@ use std::alloc::Global;
 ///
 /// The frame is the bytes before the first zero, or all bytes if there is no zero. Its data is
 /// written over its front, and slices and texts in the value, as a `&str`, borrow from there. Bytes
-/// of the data after the value are ignored. Each byte from the first zero on stays as it is,
+/// of the data after the value are ignored. The first zero and the bytes after it stay as they are,
 /// whatever the result: the clause `writes_back` says so of the buffer once the loan has ended.
 ///
 /// It succeeds if and only if the frame has data of which a front spells a tree that the type
@@ -35,7 +35,8 @@ use std::alloc::Global;
 /// group runs past its end. Otherwise fails as [`from_bytes`] of the frame's data. The bytes before
 /// the first zero are unspecified then.
 pub fn from_bytes_cobs<'a, T: Deserialize<'a>>(alloc: Global, s: &'a mut [u8]) -> Result<T>
-    // Once the loan has ended, each byte from the first zero on is as it was, also after a failure.
+    // Once the loan has ended, the first zero and the bytes after it are as they were, also after a
+    // failure.
     ensures* writes_back { sem 𝓛 (follows_so (Array u8 0) (Array u8 0) s.entry.ghost_name none
         (λ _ _. ⊤) (KeepsFromZero s.old)) }
     ensures gives { IfOk result (ReadsFrame T.shape.reads T.shape.value (before_zero s.old)) }
@@ -70,7 +71,7 @@ pub fn take_from_bytes_cobs<'a, T: Deserialize<'a>>(
     s: &'a mut [u8],
 ) -> Result<(T, &'a mut [u8])>
     // Once the loan has ended, the zero is as it was, and what the caller made of the bytes
-    // returned follows; after a failure, each byte from the first zero on is as it was.
+    // returned follows; after a failure, the first zero and the bytes after it are as they were.
     ensures* writes_back { sem 𝓛 (follows_so (Array u8 0) (Array u8 0) s.entry.ghost_name
         (name_if_ok (λ read. read.1.ghost_name) result)
         (λ rest all. OnOk result (KeepsZero s.old rest all))

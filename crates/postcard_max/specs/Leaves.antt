@@ -1,4 +1,4 @@
--- The greatest sizes of values that are a single node: bytes, truth values, numbers, characters,
+-- The greatest sizes of values that are a single node: bytes, booleans, numbers, characters,
 -- texts of a fixed capacity and spans of time (wire format 1.0, "the serde data model" and "maximum
 -- encoded length").
 use Rattle.std.proofs.Common.{◌≡◌, ℕ, zero, suc, ◌+◌, ◌-◌, ◌^◌, ◌<◌, ◌≤◌, inl, inr, Some, true, List, [], ◌∷◌, ◌++◌, length, refl, ap, ◌∙◌, arith, length-append, encode_utf8, pos}
@@ -30,7 +30,7 @@ leaf_lawful h k = record { bounded = h; is_reached = λ _. k; never_refuses = λ
 pub byte_lawful : {V : Type 0} → IsLimit (exactly 1) IsByte (λ (v : V). never)
 byte_lawful = leaf_lawful (λ t f. rw f.1 (omega arith)) (Byte 0, (0, refl, omega arith), refl)
 
--- A truth value takes one byte.
+-- A boolean takes one byte.
 pub boolean_lawful : {V : Type 0} → IsLimit (exactly 1) IsBoolean (λ (v : V). never)
 boolean_lawful = leaf_lawful (λ t f. rw f.1 (omega arith)) (Boolean true, (true, refl), refl)
 

@@ -8,8 +8,8 @@ use postcard_shape::{Repr, Shaped};
 
 /// A type whose encodings have a greatest size.
 ///
-/// A struct or an enum of a user implements [`MaxSizeRepr`], and has this trait by that. Types that
-/// hold any number of elements, such as `Vec<T>`, `String` and `&str`, have no greatest size.
+/// Your own struct or enum implements [`MaxSizeRepr`], and gets this trait by that. Types that hold
+/// any number of elements, such as `Vec<T>`, `String` and `&str`, have no greatest size.
 pub trait MaxSize: Shaped {
     /// The greatest size in bytes, and conditions under which some encoding is as long and no value
     /// refuses itself when it is written.

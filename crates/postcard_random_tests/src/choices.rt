@@ -15,7 +15,7 @@ pub(crate) trait Choices {
     /// Returns a number of at most `most`, which is the greatest of its type.
     fn number(&mut self, most: u128) -> Option<u128>;
 
-    /// Returns a truth value.
+    /// Returns a `bool`.
     fn flag(&mut self) -> Option<bool>;
 
     /// Returns the index of one of `count` variants.

@@ -130,7 +130,7 @@ impl Made for Duration {
     }
 }
 
-/// A truth value that says whether there is a value, and the value.
+/// A `bool` that says whether there is a value, and the value.
 impl<T: Made> Made for Option<T> {
     fn made<C: Choices>(source: &mut C) -> Option<Option<T>> {
         if source.flag()? {

@@ -2,7 +2,7 @@
 //!
 //! The one contract is that of [`Serialize`]: a call of `serialize` has `Wrote` the bytes of the
 //! value's tree, which the type's shape says (`Shaped`, of the crate `postcard_shape`). After an
-//! `Ok` just these bytes are appended, and the value `fits`, so that they are read again. If the
+//! `Ok` exactly these bytes are appended, and the value `fits`, so that they are read again. If the
 //! flavor has room for them, an error is one by which the value refuses itself; without room also
 //! `SerializeBufferFull`, or `CollectStrError` in a text that a value prints. If the value doesn't
 //! refuse itself, a tidy flavor then has appended a beginning of them. The layer above cites
@@ -25,8 +25,8 @@
 //! }
 //! ```
 //!
-//! An enum is written as its variants in a row, each by [`serialize_variant`]. A type that itself
-//! calls the [`Serializer`] more than once joins what each call wrote by the lemmas of
+//! An enum is written as its variants in a row, each by [`serialize_variant`]. A type that calls
+//! the [`Serializer`] itself more than once joins what each call wrote by the lemmas of
 //! `postcard::specs::Lemmas` whose names begin with `wrote_`.
 //!
 //! In reading order:

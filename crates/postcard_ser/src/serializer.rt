@@ -24,11 +24,17 @@ use postcard_wire::{Error, Result};
 
 /// Writes values into a flavor.
 ///
+/// A call that begins a list, a map, a tuple, a struct or a variant of `len` parts needs exactly
+/// `len` calls for these parts after it; this is not checked. The names of structs, fields and
+/// variants aren't written.
+///
+/// # Errors
+///
 /// If the flavor refuses a piece, a call fails with `SerializeBufferFull`, whatever the flavor's
-/// own error is; only in the text of `collect_str` the error is `CollectStrError`. A call that
-/// writes another value also fails as the `serialize` of that value does. What the flavor took
-/// before the error stays in it: over a tidy flavor a beginning of what the call writes, or
-/// nothing, unless the value refuses itself.
+/// own error is; only in the text of `collect_str` the error is `CollectStrError`. A call for a
+/// part of a value, as `serialize_element`, writes it as the part's own `serialize` does, and also
+/// fails as that does. What the flavor took before the error stays in it: over a tidy flavor a
+/// beginning of what the call writes, or nothing, unless the value refuses itself.
 #[derive(Drop)]
 pub struct Serializer<F: Flavor> {
     /// The flavor that the bytes go to.
@@ -80,7 +86,7 @@ impl<F: Flavor> Serializer<F> {
         false
     }
 
-    /// Writes a `u8` as one byte. Fails with `SerializeBufferFull` if the flavor refuses a piece.
+    /// Writes a `u8` as one byte.
     pub fn serialize_u8(&mut self, v: u8) -> Result<()>
         ensures { Wrote F.Flavor self.old.output (canonical (Byte v)) never ⊥
             result self.new.output }
@@ -88,8 +94,7 @@ impl<F: Flavor> Serializer<F> {
         self.push(v)
     }
 
-    /// Writes a `u16` as a varint of 1 to 3 bytes. Fails with `SerializeBufferFull` if the flavor
-    /// refuses a piece.
+    /// Writes a `u16` as a varint of 1 to 3 bytes.
     pub fn serialize_u16(&mut self, v: u16) -> Result<()>
         ensures { Wrote F.Flavor self.old.output (canonical (Num 16 v)) never ⊥
             result self.new.output }
@@ -97,8 +102,7 @@ impl<F: Flavor> Serializer<F> {
         self.serialize_u32(u32::from(v))
     }
 
-    /// Writes a `u32` as a varint of 1 to 5 bytes. Fails with `SerializeBufferFull` if the flavor
-    /// refuses a piece.
+    /// Writes a `u32` as a varint of 1 to 5 bytes.
     pub fn serialize_u32(&mut self, v: u32) -> Result<()>
         ensures { Wrote F.Flavor self.old.output (canonical (Num 32 v)) never ⊥
             result self.new.output }
@@ -106,8 +110,7 @@ impl<F: Flavor> Serializer<F> {
         self.varint(u64::from(v))
     }
 
-    /// Writes a `u64` as a varint of 1 to 10 bytes. Fails with `SerializeBufferFull` if the flavor
-    /// refuses a piece.
+    /// Writes a `u64` as a varint of 1 to 10 bytes.
     pub fn serialize_u64(&mut self, v: u64) -> Result<()>
         ensures { Wrote F.Flavor self.old.output (canonical (Num 64 v)) never ⊥
             result self.new.output }
@@ -115,8 +118,7 @@ impl<F: Flavor> Serializer<F> {
         self.varint(v)
     }
 
-    /// Writes a `u128` as a varint of 1 to 19 bytes. Fails with `SerializeBufferFull` if the flavor
-    /// refuses a piece.
+    /// Writes a `u128` as a varint of 1 to 19 bytes.
     pub fn serialize_u128(&mut self, v: u128) -> Result<()>
         ensures { Wrote F.Flavor self.old.output
             (canonical (Num 128 v)) never ⊥ result self.new.output }
@@ -125,8 +127,7 @@ impl<F: Flavor> Serializer<F> {
         self.extend(varint_u128(v, &mut out))
     }
 
-    /// Writes an `i8` as one byte, in two's complement. Fails with `SerializeBufferFull` if the
-    /// flavor refuses a piece.
+    /// Writes an `i8` as one byte, in two's complement.
     pub fn serialize_i8(&mut self, v: i8) -> Result<()>
         ensures { Wrote F.Flavor self.old.output (canonical (Byte (cast_unsigned w8 v))) never ⊥
             result self.new.output }
@@ -134,8 +135,7 @@ impl<F: Flavor> Serializer<F> {
         self.push(v.cast_unsigned())
     }
 
-    /// Writes the zigzag encoding of an `i16` as a varint of 1 to 3 bytes. Fails with
-    /// `SerializeBufferFull` if the flavor refuses a piece.
+    /// Writes the zigzag encoding of an `i16` as a varint of 1 to 3 bytes.
     pub fn serialize_i16(&mut self, v: i16) -> Result<()>
         ensures { Wrote F.Flavor self.old.output (canonical (Int 16 v)) never ⊥
             result self.new.output }
@@ -143,8 +143,7 @@ impl<F: Flavor> Serializer<F> {
         self.serialize_u16(zig_zag_i16(v))
     }
 
-    /// Writes the zigzag encoding of an `i32` as a varint of 1 to 5 bytes. Fails with
-    /// `SerializeBufferFull` if the flavor refuses a piece.
+    /// Writes the zigzag encoding of an `i32` as a varint of 1 to 5 bytes.
     pub fn serialize_i32(&mut self, v: i32) -> Result<()>
         ensures { Wrote F.Flavor self.old.output (canonical (Int 32 v)) never ⊥
             result self.new.output }
@@ -152,8 +151,7 @@ impl<F: Flavor> Serializer<F> {
         self.serialize_u32(zig_zag_i32(v))
     }
 
-    /// Writes the zigzag encoding of an `i64` as a varint of 1 to 10 bytes. Fails with
-    /// `SerializeBufferFull` if the flavor refuses a piece.
+    /// Writes the zigzag encoding of an `i64` as a varint of 1 to 10 bytes.
     pub fn serialize_i64(&mut self, v: i64) -> Result<()>
         ensures { Wrote F.Flavor self.old.output (canonical (Int 64 v)) never ⊥
             result self.new.output }
@@ -161,8 +159,7 @@ impl<F: Flavor> Serializer<F> {
         self.serialize_u64(zig_zag_i64(v))
     }
 
-    /// Writes the zigzag encoding of an `i128` as a varint of 1 to 19 bytes. Fails with
-    /// `SerializeBufferFull` if the flavor refuses a piece.
+    /// Writes the zigzag encoding of an `i128` as a varint of 1 to 19 bytes.
     pub fn serialize_i128(&mut self, v: i128) -> Result<()>
         ensures { Wrote F.Flavor self.old.output
             (canonical (Int 128 v)) never ⊥ result self.new.output }
@@ -171,7 +168,6 @@ impl<F: Flavor> Serializer<F> {
     }
 
     /// Writes the number of the text's bytes as a varint of 1 to 10 bytes, and then the bytes.
-    /// Fails with `SerializeBufferFull` if the flavor refuses a piece.
     pub fn serialize_str(&mut self, v: &str) -> Result<()>
         ensures { Wrote F.Flavor self.old.output
             (canonical (Text v.now)) never ⊥ result self.new.output }
@@ -180,7 +176,7 @@ impl<F: Flavor> Serializer<F> {
     }
 
     /// Writes the number of the bytes as a varint of 1 to 10 bytes, and then the bytes, as of a
-    /// list of `u8`. Fails with `SerializeBufferFull` if the flavor refuses a piece.
+    /// list of `u8`.
     #[tactic(auto, using(crate::proofs::Elements::elements_count, postcard_shape::proofs::Bytes::bytes_of_bytes))]
     pub fn serialize_bytes(&mut self, v: &[u8]) -> Result<()>
         ensures { Wrote F.Flavor self.old.output (canonical (Seq (trees (map Byte v.now)))) never ⊥
@@ -189,10 +185,9 @@ impl<F: Flavor> Serializer<F> {
         self.extend_counted(v)
     }
 
-    /// Begins a list: writes the number of its elements as a varint of 1 to 10 bytes. The caller
-    /// must write exactly `len` elements by `serialize_element`; this is not checked. Fails with
-    /// `SerializeSeqLengthUnknown` if `len` is `None`, before anything is written, and with
-    /// `SerializeBufferFull` if the flavor refuses the number.
+    /// Begins a list: writes the number of its elements as a varint of 1 to 10 bytes. Each is then
+    /// written by `serialize_element`. Fails with `SerializeSeqLengthUnknown` if `len` is `None`,
+    /// before anything is written.
     pub fn serialize_seq(&mut self, len: Option<usize>) -> Result<()>
         ensures known { IfSome len (λ n. Wrote F.Flavor self.old.output (canonical (Num 64 n))
             never ⊥ result self.new.output) }
@@ -205,8 +200,7 @@ impl<F: Flavor> Serializer<F> {
         }
     }
 
-    /// Writes an element of a list, or any part of a value, as its `serialize` does, and fails as
-    /// that does.
+    /// Writes an element of a list, or any part of a value.
     pub fn serialize_element<T: Serialize>(&mut self, value: &T) -> Result<()>
         ensures wrote { Wrote F.Flavor self.old.output (canonical (T.shape.tree value.now))
             (T.shape.refusal value.now) T.shape.text result self.new.output }

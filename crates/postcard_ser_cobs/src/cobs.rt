@@ -27,7 +27,7 @@ mod runs;
 ///
 /// Each call fails with `SerializeBufferFull` and no other error: if the storage fails, by whatever
 /// error, and if the frame would have more bytes than a `usize` counts. A `Cobs` that has failed
-/// once fails at every further byte and at `finalize`, so that no frame is closed that lacks bytes.
+/// once fails at every further byte and at the end, so that no frame is closed that lacks bytes.
 /// The `Cobs` of the Rust crate goes on.
 #[derive(Drop)]
 pub struct Cobs<B: Storage> {
@@ -96,8 +96,7 @@ impl<B: Storage + Drop> Cobs<B> {
     ///
     /// # Errors
     ///
-    /// The second part is `SerializeBufferFull` if the storage has no room for the sentinel, and
-    /// after any earlier failure. A storage of `postcard_ser_flavors` then holds what it held
+    /// If the second part is an error, a storage of `postcard_ser_flavors` holds what it held
     /// before the frame, followed by part of a frame.
     pub fn close(self) -> (B, Result<()>)
         ensures holds_frame { OnOk result.1 ((before d : List ℕ)
@@ -173,12 +172,7 @@ impl<B: Storage + Drop> Flavor for Cobs<B> {
           s.storage s.failed t.storage t.failed;
     } };
 
-    /// Takes a byte of data.
-    ///
-    /// # Errors
-    ///
-    /// Fails with `SerializeBufferFull` if the storage has no room for what the frame grows by, 1
-    /// or 2 bytes, if the frame would get too long to count, and after any earlier failure.
+    /// Takes a byte of data, by which the frame grows by 1 or 2 bytes.
     #[inline(always)]
     fn try_push(&mut self, byte: u8) -> Result<()>
         ensures pushed { PushedBy ⟦<Self as Flavor>⟧ self.old (byte ∷ []) result self.new }
@@ -202,12 +196,6 @@ impl<B: Storage + Drop> Flavor for Cobs<B> {
     /// Takes bytes of data. Each run of bytes between zeros goes to the storage in one piece, and
     /// so do bytes that are dense with zeros, but each piece is cut where a group of 254 bytes is
     /// full.
-    ///
-    /// # Errors
-    ///
-    /// Fails with `SerializeBufferFull` if the storage has no room for what the frame grows by, if
-    /// the frame would get too long to count, and, unless `bytes` is empty, after any earlier
-    /// failure.
     fn try_extend(&mut self, bytes: &[u8]) -> Result<()>
         ensures pushed { PushedBy ⟦<Self as Flavor>⟧ self.old bytes.now result self.new }
         ensures stays_refused { IsTrue self.old.failed → 0 < length bytes.now
@@ -224,11 +212,6 @@ impl<B: Storage + Drop> Flavor for Cobs<B> {
     }
 
     /// Takes the varint of a number of at most 64 bits, 1 to 10 bytes.
-    ///
-    /// # Errors
-    ///
-    /// Fails with `SerializeBufferFull` if the storage has no room for what the frame grows by, if
-    /// the frame would get too long to count, and after any earlier failure.
     fn try_varint(&mut self, n: u64) -> Result<()>
         ensures pushed { PushedBy ⟦<Self as Flavor>⟧ self.old (digits n) result self.new }
         ensures stays_refused { IsTrue self.old.failed → IsErrOf result Error.SerializeBufferFull }
@@ -245,8 +228,8 @@ impl<B: Storage + Drop> Flavor for Cobs<B> {
     ///
     /// # Errors
     ///
-    /// Fails with `SerializeBufferFull` if the storage has no room for the sentinel, if the
-    /// storage's own `finalize` fails, and after any earlier failure. The storage is then dropped.
+    /// Also fails with `SerializeBufferFull` if the storage's own `finalize` fails. After any
+    /// failure the storage is dropped.
     fn finalize(self) -> Result<<B as Flavor>::Output>
         ensures finalized { FinalizedBy ⟦<Self as Flavor>⟧ self result }
         ensures stays_refused { IsTrue self.failed → IsErrOf result Error.SerializeBufferFull }

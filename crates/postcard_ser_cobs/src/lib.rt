@@ -1,18 +1,9 @@
 //! Frames: the flavor [`Cobs`] encodes the bytes that it takes by COBS, and writes the frame into a
 //! storage: a `Slice`, an `HVec`, an `AllocVec`, or a user's own.
 //!
-//! COBS (Cheshire and Baker 1999) turns any data into a frame whose one zero is its last byte, the
-//! sentinel, so that a receiver finds where each frame ends. The data is cut into groups, and
-//! before each group is its code byte, which is the number of its bytes plus one:
-//!
-//! ```text
-//! data        01  00  20 30
-//! frame   02  01  03  20 30  00
-//! ```
-//!
-//! A code byte is known only at the end of its group, so the flavor goes back and sets it. It
-//! counts places from the first byte of the frame, so a frame can be written after bytes that the
-//! storage already holds:
+//! The crate `postcard_cobs` explains frames. A code byte is known only at the end of its group, so
+//! the flavor goes back and sets it. It counts places from the first byte of the frame, so a frame
+//! can be written after bytes that the storage already holds:
 //!
 //! ```text
 //! let mut frame = Cobs::try_new(AllocVec::from_vec(vec))?;

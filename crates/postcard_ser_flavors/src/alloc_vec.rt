@@ -17,7 +17,8 @@ use std::marker::Model;
 use std::ops::{Index, IndexMut};
 
 /// Appends to a vector that grows by the allocator, to a multiple of its capacity at a time. A
-/// piece is written whole, in one copy, or not at all. A call fails only if an allocation fails.
+/// piece is written whole, in one copy, or not at all. A push fails only if an allocation fails,
+/// with `SerializeBufferFull`, and changes nothing then.
 ///
 /// A contract sees the bytes that it holds.
 #[derive(Drop)]
@@ -70,8 +71,7 @@ impl Flavor for AllocVec {
 
     ghost lawful = { grows_lawful (λ s. s) };
 
-    /// Writes a byte. Fails with `SerializeBufferFull` if an allocation fails, and is then
-    /// unchanged.
+    /// Writes a byte.
     fn try_push(&mut self, byte: u8) -> Result<()>
         ensures pushed { PushedBy ⟦<Self as Flavor>⟧ self.old (byte ∷ []) result self.new }
         ensures refuses_by_buffer_full { IsOkUnless result Error.SerializeBufferFull }
@@ -80,8 +80,7 @@ impl Flavor for AllocVec {
         self.vec.push(byte).map_err(|_| Error::SerializeBufferFull)
     }
 
-    /// Writes bytes in a row. Fails with `SerializeBufferFull` if an allocation fails, and is then
-    /// unchanged.
+    /// Writes bytes in a row.
     fn try_extend(&mut self, bytes: &[u8]) -> Result<()>
         ensures pushed { PushedBy ⟦<Self as Flavor>⟧ self.old bytes.now result self.new }
         ensures refuses_by_buffer_full { IsOkUnless result Error.SerializeBufferFull }
@@ -92,8 +91,7 @@ impl Flavor for AllocVec {
             .map_err(|_| Error::SerializeBufferFull)
     }
 
-    /// Writes the varint of a number. Fails with `SerializeBufferFull` if an allocation fails, and is
-    /// then unchanged.
+    /// Writes the varint of a number.
     fn try_varint(&mut self, n: u64) -> Result<()>
         ensures pushed { PushedBy ⟦<Self as Flavor>⟧ self.old (digits n) result self.new }
         ensures refuses_by_buffer_full { IsOkUnless result Error.SerializeBufferFull }

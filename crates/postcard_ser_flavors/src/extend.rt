@@ -36,7 +36,8 @@ impl ExtendBytes for Vec<u8> {
     }
 }
 
-/// Appends each piece to a target, which is also the output.
+/// Appends each piece to a target, which is also the output. A push fails with
+/// `SerializeBufferFull` if the target fails, whose content is then unchanged.
 ///
 /// A contract sees the target.
 #[derive(Drop)]
@@ -76,8 +77,7 @@ impl<T: ExtendBytes + Drop> Flavor for ExtendFlavor<T> {
 
     ghost lawful = { grows_lawful T.content };
 
-    /// Passes a byte on. Fails with `SerializeBufferFull` if the target fails, whose content is
-    /// then unchanged.
+    /// Passes a byte on.
     fn try_push(&mut self, byte: u8) -> Result<()>
         ensures pushed { PushedBy ⟦<Self as Flavor>⟧ self.old (byte ∷ []) result self.new }
         ensures refuses_by_buffer_full { IsOkUnless result Error.SerializeBufferFull }
@@ -86,8 +86,7 @@ impl<T: ExtendBytes + Drop> Flavor for ExtendFlavor<T> {
         self.try_extend(&[byte])
     }
 
-    /// Passes bytes on in one piece. Fails with `SerializeBufferFull` if the target fails, whose
-    /// content is then unchanged.
+    /// Passes bytes on in one piece.
     fn try_extend(&mut self, bytes: &[u8]) -> Result<()>
         ensures pushed { PushedBy ⟦<Self as Flavor>⟧ self.old bytes.now result self.new }
         ensures refuses_by_buffer_full { IsOkUnless result Error.SerializeBufferFull }
@@ -98,8 +97,7 @@ impl<T: ExtendBytes + Drop> Flavor for ExtendFlavor<T> {
             .map_err(|_| Error::SerializeBufferFull)
     }
 
-    /// Passes the varint of a number on in one piece. Fails with `SerializeBufferFull` if the target
-    /// fails, whose content is then unchanged.
+    /// Passes the varint of a number on in one piece.
     fn try_varint(&mut self, n: u64) -> Result<()>
         ensures pushed { PushedBy ⟦<Self as Flavor>⟧ self.old (digits n) result self.new }
         ensures refuses_by_buffer_full { IsOkUnless result Error.SerializeBufferFull }

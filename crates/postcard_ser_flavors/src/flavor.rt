@@ -7,14 +7,15 @@ ghost use Rattle.postcard_ser_flavors.specs.Flavor.{IsFlavor, Pushed, Finalized}
 use postcard_wire::Result;
 use postcard_wire::varint::{VARINT_MAX_64, varint_u64};
 
-/// A writing flavor: takes the bytes of a message, and returns its output at the end.
+/// A writing flavor: takes the bytes of a message, and returns its output at the end. Without
+/// `room` a call may fail, with any error.
 ///
 /// An impl defines these members:
 /// - `appended old bytes new`: `new` holds what `old` did, followed by these bytes. A flavor that
 ///   holds no bytes says this of what it has instead, such as a count.
 /// - `room state bytes`: pushing these bytes succeeds, in whatever pieces. Room for no bytes says
 ///   that `finalize` succeeds.
-/// - `tidy`: a call that fails has appended a beginning of its bytes, or nothing.
+/// - `tidy`: a push that fails has appended a beginning of its bytes, or nothing.
 /// - `reaches old new`: a push may turn `old` into `new`, whether it succeeds or fails.
 /// - `finishes last output`: `output` is the output of a flavor whose last state is `last`.
 /// - `lawful`: what holds of these words in each flavor.
@@ -35,14 +36,12 @@ pub trait Flavor {
     // Above the last function, so that a quote at a concrete type reaches it.
     ghost lawful: { IsFlavor appended room reaches };
 
-    /// Takes a byte. Succeeds if the flavor has `room` for it, and may otherwise fail with any
-    /// error; a tidy flavor has then appended the byte or nothing.
+    /// Takes a byte.
     fn try_push(&mut self, byte: u8) -> Result<()>
         ensures { Pushed appended room tidy reaches self.old (byte ∷ []) result self.new };
 
     /// Takes bytes in a row, by default one by one. A flavor that can take them at once overrides
-    /// this. Succeeds if the flavor has `room` for all, and may otherwise fail with any error; a
-    /// tidy flavor has then appended a beginning of the bytes or nothing.
+    /// this.
     fn try_extend(&mut self, bytes: &[u8]) -> Result<()>
         ensures { Pushed appended room tidy reaches self.old bytes.now result self.new }
     {
@@ -53,8 +52,7 @@ pub trait Flavor {
     }
 
     /// Takes the varint of a number of at most 64 bits, 1 to 10 bytes. A flavor that can write it
-    /// in place overrides this. Succeeds if the flavor has `room` for it, and may otherwise fail
-    /// with any error; a tidy flavor has then appended a beginning of the varint or nothing.
+    /// in place overrides this.
     fn try_varint(&mut self, n: u64) -> Result<()>
         ensures { Pushed appended room tidy reaches self.old (digits n) result self.new }
     {
@@ -62,8 +60,7 @@ pub trait Flavor {
         self.try_extend(varint_u64(n, &mut out))
     }
 
-    /// Ends the message, and returns the output. Succeeds if the flavor has `room` for no bytes,
-    /// and may otherwise fail with any error.
+    /// Ends the message, and returns the output.
     fn finalize(self) -> Result<Self::Output>
         ensures { Finalized room finishes self result };
 }

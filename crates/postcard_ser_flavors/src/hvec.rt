@@ -21,6 +21,9 @@ use std::ops::{Index, IndexMut};
 /// Appends to a vector with room for `B` bytes, which are in the value itself. A piece is written
 /// whole or not at all, and nothing is allocated.
 ///
+/// A push fails with `SerializeBufferFull` if and only if more than `B` bytes would be held, and
+/// changes nothing then.
+///
 /// A contract sees the bytes that it holds.
 #[derive(Drop)]
 pub struct HVec<const B: usize> {
@@ -70,8 +73,7 @@ impl<const B: usize> Flavor for HVec<B> {
 
     ghost lawful = { fixed_lawful (λ s. s) B };
 
-    /// Writes a byte. Fails with `SerializeBufferFull` if and only if `B` bytes are held, and is
-    /// then unchanged.
+    /// Writes a byte.
     fn try_push(&mut self, byte: u8) -> Result<()>
         ensures pushed { PushedBy ⟦<Self as Flavor>⟧ self.old (byte ∷ []) result self.new }
         ensures fits_iff { IsOk result ↔ (length self.old + 1 ≤ B) }
@@ -83,8 +85,7 @@ impl<const B: usize> Flavor for HVec<B> {
             .map_err(|_| Error::SerializeBufferFull)
     }
 
-    /// Writes bytes in a row. Fails with `SerializeBufferFull` if and only if more than `B` bytes
-    /// would be held, and is then unchanged.
+    /// Writes bytes in a row.
     fn try_extend(&mut self, bytes: &[u8]) -> Result<()>
         ensures pushed { PushedBy ⟦<Self as Flavor>⟧ self.old bytes.now result self.new }
         ensures fits_iff { IsOk result ↔ (length self.old + length bytes.now ≤ B) }
@@ -96,8 +97,7 @@ impl<const B: usize> Flavor for HVec<B> {
             .map_err(|_| Error::SerializeBufferFull)
     }
 
-    /// Writes the varint of a number. Fails with `SerializeBufferFull` if and only if more than `B`
-    /// bytes would be held, and is then unchanged.
+    /// Writes the varint of a number.
     fn try_varint(&mut self, n: u64) -> Result<()>
         ensures pushed { PushedBy ⟦<Self as Flavor>⟧ self.old (digits n) result self.new }
         ensures fits_iff { IsOk result ↔ (length self.old + length (digits n) ≤ B) }

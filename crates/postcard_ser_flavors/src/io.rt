@@ -13,8 +13,12 @@ use std::marker::Model;
 
 /// Writes each piece to a writer, whole, and flushes it at the end. Its output is the writer.
 ///
-/// A contract sees the writer, and its bytes if the writer knows them. A writer that failed may
-/// have got some of the bytes.
+/// A contract sees the writer, and its bytes if the writer knows them.
+///
+/// # Errors
+///
+/// A call fails with `SerializeBufferFull` if the writer fails, which may then have got some of the
+/// bytes.
 #[derive(Drop)]
 pub struct WriteFlavor<T: Write> {
     writer: T,
@@ -52,7 +56,7 @@ impl<T: Write + Drop> Flavor for WriteFlavor<T> {
 
     ghost lawful = { writer_lawful T.contents };
 
-    /// Writes a byte to the writer. Fails with `SerializeBufferFull` if the writer fails.
+    /// Writes a byte to the writer.
     fn try_push(&mut self, byte: u8) -> Result<()>
         ensures pushed { PushedBy ⟦<Self as Flavor>⟧ self.old (byte ∷ []) result self.new }
         ensures refuses_by_buffer_full { IsOkUnless result Error.SerializeBufferFull }
@@ -60,8 +64,7 @@ impl<T: Write + Drop> Flavor for WriteFlavor<T> {
         self.try_extend(&[byte])
     }
 
-    /// Writes bytes to the writer in one piece, by `write_all`. Fails with `SerializeBufferFull` if
-    /// the writer fails, which may then have got some of the bytes.
+    /// Writes bytes to the writer in one piece, by `write_all`.
     fn try_extend(&mut self, bytes: &[u8]) -> Result<()>
         ensures pushed { PushedBy ⟦<Self as Flavor>⟧ self.old bytes.now result self.new }
         ensures refuses_by_buffer_full { IsOkUnless result Error.SerializeBufferFull }
@@ -71,8 +74,7 @@ impl<T: Write + Drop> Flavor for WriteFlavor<T> {
             .map_err(|_| Error::SerializeBufferFull)
     }
 
-    /// Flushes the writer and returns it. Fails with `SerializeBufferFull` if the flush fails; the
-    /// writer is then dropped.
+    /// Flushes the writer and returns it. If the flush fails, the writer is dropped.
     fn finalize(self) -> Result<T>
         ensures finalized { FinalizedBy ⟦<Self as Flavor>⟧ self result }
         ensures refuses_by_buffer_full { IsOkUnless result Error.SerializeBufferFull }

@@ -18,10 +18,9 @@
 //! | to a file, a socket or the like | [`io::WriteFlavor`] | the writer, flushed | if it fails |
 //! | nowhere, but is counted | [`Size`] | the number of bytes | above `usize::MAX` |
 //!
-//! Each fails with `SerializeBufferFull`. `Slice`, `HVec`, `AllocVec` and `Size` are unchanged by a
-//! failure, and so is the content of the target of an `ExtendFlavor`; a writer that failed may have
-//! got some of the bytes. A user's own flavor, also one over another flavor, implements the same
-//! trait; `example_types` has one that writes to two others.
+//! Each fails with `SerializeBufferFull`; its page says what a failure leaves. A flavor of your
+//! own, also one over another flavor, implements the same trait; `example_types` has one that
+//! writes to two others.
 //!
 //! To be read in this order:
 //! - `flavor`: the trait.

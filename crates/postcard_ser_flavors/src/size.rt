@@ -11,7 +11,9 @@ use postcard_wire::varint::{VARINT_MAX_64, varint_u64};
 use postcard_wire::{Error, Result};
 use std::marker::Model;
 
-/// Counts the bytes of a message and keeps none of them. Its output is their number.
+/// Counts the bytes of a message and keeps none of them. Its output is their number. A push fails
+/// with `SerializeBufferFull` if and only if the count would pass `usize::MAX`, and changes nothing
+/// then.
 ///
 /// A contract sees the count, in bytes.
 #[derive(Drop)]
@@ -68,8 +70,7 @@ impl Flavor for Size {
 
     ghost lawful = { count_lawful };
 
-    /// Counts a byte. Fails with `SerializeBufferFull` if and only if the count would pass
-    /// `usize::MAX`, and is then unchanged.
+    /// Counts a byte.
     fn try_push(&mut self, byte: u8) -> Result<()>
         ensures pushed { PushedBy ⟦<Self as Flavor>⟧ self.old (byte ∷ []) result self.new }
         ensures fits_iff { IsOk result ↔ (self.old + 1 < 2 ^ 64) }
@@ -80,8 +81,7 @@ impl Flavor for Size {
         self.add(1)
     }
 
-    /// Counts bytes. Fails with `SerializeBufferFull` if and only if the count would pass
-    /// `usize::MAX`, and is then unchanged.
+    /// Counts bytes.
     fn try_extend(&mut self, bytes: &[u8]) -> Result<()>
         ensures pushed { PushedBy ⟦<Self as Flavor>⟧ self.old bytes.now result self.new }
         ensures fits_iff { IsOk result ↔ (self.old + length bytes.now < 2 ^ 64) }
@@ -91,8 +91,7 @@ impl Flavor for Size {
         self.add(bytes.len())
     }
 
-    /// Counts the bytes of a varint. Fails with `SerializeBufferFull` if and only if the count would
-    /// pass `usize::MAX`, and is then unchanged.
+    /// Counts the bytes of a varint.
     fn try_varint(&mut self, n: u64) -> Result<()>
         ensures pushed { PushedBy ⟦<Self as Flavor>⟧ self.old (digits n) result self.new }
         ensures fits_iff { IsOk result ↔ (self.old + length (digits n) < 2 ^ 64) }

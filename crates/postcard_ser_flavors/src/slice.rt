@@ -18,6 +18,9 @@ mod storage;
 
 /// Fills a slice from its front. A piece is written whole or not at all.
 ///
+/// A push fails with `SerializeBufferFull` if and only if it has more bytes than are free, and
+/// changes nothing then.
+///
 /// A contract sees the loan of the slice, the bytes of the whole slice (`buffer`), and the number
 /// of those at the front that are held (`count`).
 #[derive(Drop)]
@@ -60,9 +63,9 @@ impl<'a> Slice<'a> {
         }
     }
 
-    /// Returns the whole slice that was lent, and the number of bytes written at its front. The
-    /// Rust crate has no such call: with it a caller can say what its buffer holds in the end, also
-    /// after a failure.
+    /// Returns the whole slice that was lent, and the number of bytes written at its front. So a
+    /// caller can say what its buffer holds in the end, also after a failure. The Rust crate has no
+    /// such call.
     pub fn into_parts(self) -> (&'a mut [u8], usize)
         ensures same_loan { result.0.ghost_name ≡ self.entry.loan }
         ensures parts { (result.0.now ≡ self.entry.buffer) × (result.1 ≡ self.entry.count) }
@@ -93,8 +96,7 @@ impl<'a> Flavor for Slice<'a> {
 
     ghost lawful = { slice_lawful };
 
-    /// Writes a byte. Fails with `SerializeBufferFull` if and only if none is free, and is then
-    /// unchanged.
+    /// Writes a byte.
     fn try_push(&mut self, byte: u8) -> Result<()>
         ensures pushed { PushedBy ⟦<Self as Flavor>⟧ self.old (byte ∷ []) result self.new }
         ensures fits_iff { IsOk result ↔ (1 ≤ length (free self.old)) }
@@ -111,8 +113,7 @@ impl<'a> Flavor for Slice<'a> {
         Ok(())
     }
 
-    /// Writes bytes in a row. Fails with `SerializeBufferFull` if and only if they are more than
-    /// are free, and is then unchanged.
+    /// Writes bytes in a row.
     fn try_extend(&mut self, bytes: &[u8]) -> Result<()>
         ensures pushed { PushedBy ⟦<Self as Flavor>⟧ self.old bytes.now result self.new }
         ensures fits_iff { IsOk result ↔ (length bytes.now ≤ length (free self.old)) }
@@ -132,8 +133,7 @@ impl<'a> Flavor for Slice<'a> {
         Ok(())
     }
 
-    /// Writes a varint, in place if 10 bytes are free. Fails with `SerializeBufferFull` if and only
-    /// if it has more bytes than are free, and is then unchanged.
+    /// Writes a varint, in place if 10 bytes are free.
     #[inline]
     fn try_varint(&mut self, n: u64) -> Result<()>
         ensures pushed { PushedBy ⟦<Self as Flavor>⟧ self.old (digits n) result self.new }

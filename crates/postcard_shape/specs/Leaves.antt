@@ -1,4 +1,4 @@
--- The shapes of values that are a single node: bytes, numbers, truth values, characters and texts
+-- The shapes of values that are a single node: bytes, numbers, booleans, characters and texts
 -- (wire format 1.0, "the serde data model" and "varint encoded integers"). Each kind of node determines
 -- its content.
 use Rattle.std.proofs.Common.{sym, ◌∙◌, refl}
@@ -54,7 +54,7 @@ num_one w t u v h k = num_same w u v (sym h ∙ k)
 pub int_one : (w : ℕ) → HasOne (λ t v. t ≡ Int w v) (λ v w. v ≡ w)
 int_one w t u v h k = int_same w u v (sym h ∙ k)
 
--- The truth values of one tree are equal.
+-- The booleans of one tree are equal.
 pub boolean_one : HasOne (λ t v. t ≡ Boolean v) (λ v w. v ≡ w)
 boolean_one t v w h k = boolean_same v w (sym h ∙ k)
 
@@ -139,7 +139,7 @@ int w width = record {
   again = λ v f. ((v, refl, f), refl);
 }
 
--- The shape of a truth value.
+-- The shape of a boolean.
 abbrev pub boolean : Shape Bool
 boolean = record {
   tree = Boolean;

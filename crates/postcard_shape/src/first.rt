@@ -12,7 +12,7 @@ pub enum FirstBytes<'a> {
     /// The same of items that have 64 bytes together.
     Row([u8; 64], usize),
     /// The encodings of no items. So many first items, at least 1, are written one by one, and then
-    /// it is asked again.
+    /// the type is asked again.
     SomeOneByOne(usize),
     /// The encodings of no items, which are all written one by one.
     OneByOne,

@@ -10,9 +10,10 @@
 //! `Refusing.antt`, `Only.antt`), each of which makes a shape from those of its parts, laws
 //! included, so that a type says its shape in one line.
 //!
-//! In reading order: [`shape`] has the traits, [`first`] what one of their methods returns, [`rows`]
-//! and [`cases`] what tuples and enums are written and read as, `runs` and `pieces` numbers that are
-//! read and written many at a time, `values` the types of std and of `arrayvec`.
+//! In reading order: [`shape`] has the traits, [`first`] what one of their methods returns,
+//! [`rows`] and [`cases`] what tuples and enums are written and read as, `runs` and `pieces`
+//! numbers that are read and written many at a time, [`formats`] what the prover has to be told of
+//! floats, `values` the types of std and of `arrayvec`.
 #![tactic(auto)]
 
 pub mod cases;

@@ -20,7 +20,7 @@ use postcard_wire::{Error, Result};
 /// How many numbers of one byte each are read at once.
 const ROW: usize = 64;
 
-/// Of how many numbers at least a row is worth looking for.
+/// The fewest numbers for which it pays to look for a row.
 const LEAST: usize = 32;
 
 /// A number that is written as a varint.
@@ -214,11 +214,7 @@ fn push_row<T: Copy>(items: &mut Vec<T>, row: &[T]) -> Result<()>
 
 /// Appends some of the next numbers to a list, as
 /// [`append_at_hand`](crate::shape::Shaped::append_at_hand) does, if at least [`LEAST`] are left
-/// and the next bytes are as those of most numbers are.
-///
-/// # Errors
-///
-/// Never fails, since it asks for no memory.
+/// and the next bytes are as those of most numbers are. Asks for no memory, and so never fails.
 #[inline(always)]
 pub(crate) fn append<T: Varint>(
     items: &mut Vec<T>,
@@ -241,12 +237,8 @@ pub(crate) fn append<T: Varint>(
 }
 
 /// Appends a row of numbers to a list, as [`append`] does, if the next bytes are as those of most
-/// numbers are and the list has room for them. It is a function of its own, so that the loop that
-/// calls [`append`] stays small: few lists are long.
-///
-/// # Errors
-///
-/// Never fails, since it asks for no memory.
+/// numbers are and the list has room for them. Asks for no memory, and so never fails. It is a
+/// function of its own, so that the loop that calls [`append`] stays small: few lists are long.
 #[inline(never)]
 fn append_row<T: Varint>(items: &mut Vec<T>, bytes: &[u8], most: usize) -> Result<Option<usize>>
     requires small { type_size T.row ≤ 16 }

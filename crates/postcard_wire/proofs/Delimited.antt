@@ -55,7 +55,7 @@ zig_same (pos a) (negsuc b) e = absurd (omega arith)
 zig_same (negsuc a) (pos b) e = absurd (omega arith)
 zig_same (negsuc a) (negsuc b) e = let k : a ≡ b = omega arith in ap negsuc k
 
--- No two truth values have the same byte.
+-- No two booleans have the same byte.
 bit_same : (x y : Bool) → bool_byte x ≡ bool_byte y → x ≡ y
 bit_same true true e = refl
 bit_same true false e = absurd (omega arith)

@@ -28,7 +28,7 @@ PartsWellFormed reads = (ts : Trees) → reads ts → AreWellFormed ts
 abbrev pub IsByte : Tree → Type 0
 IsByte t = (b : ℕ) × (t ≡ Byte b) × (b < 256)
 
--- The tree is a truth value.
+-- The tree is a boolean.
 abbrev pub IsBoolean : Tree → Type 0
 IsBoolean t = (x : Bool) × (t ≡ Boolean x)
 

@@ -3,7 +3,7 @@ use Rattle.std.specs.Prelude.{◌≡◌, ℕ, ◌≤◌, Bool, true, false, List
 use Rattle.postcard_wire.specs.Number.{SpellsNum, digits, zigzag}
 use Rattle.postcard_wire.specs.Tree.{Tree, Trees, Byte, Boolean, Num, Int, Char, Text, Absent, Present, Group, Seq, Variant, NoTrees, Then, count}
 
--- The byte of a truth value: 1 for true, and 0 for false (wire format 1.0, "bool").
+-- The byte of a boolean: 1 for true, and 0 for false (wire format 1.0, "bool").
 abbrev pub bool_byte : Bool → ℕ
 bool_byte true = 1
 bool_byte false = 0

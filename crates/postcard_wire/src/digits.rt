@@ -10,8 +10,8 @@ ghost use Rattle.postcard_wire.specs.Digits.{HasRead, PushReturns};
 
 use crate::error::{Error, Result};
 
-/// The digits read so far of a varint that goes on: its bytes were all 128 or more, and fewer than
-/// its width allows.
+/// The digits read so far of a varint that goes on: each of its bytes was 128 or more, and they are
+/// fewer than its width allows.
 #[derive(Clone, Copy)]
 pub struct Digits {
     value: u128,
@@ -19,7 +19,7 @@ pub struct Digits {
 }
 
 impl Digits {
-    /// Returns an empty accumulator, for a varint of any width.
+    /// Returns no digits yet, for a varint of any width.
     pub fn new() -> Digits
         ensures { (w : ℕ) → IsWidth w → HasRead w [] result }
     {
@@ -33,7 +33,7 @@ impl Digits {
     ///
     /// Fails with [`Error::DeserializeBadVarint`] if the varint now has its full length, 3, 5, 10
     /// or 19 bytes, and this byte says that another follows or exceeds the width. After the number
-    /// or the error, start with a new accumulator.
+    /// or the error, start with new [`Digits`].
     pub fn push(&mut self, bits: u32, byte: u8) -> Result<Option<u128>>
         requires width { IsWidth bits }
         requires begun { (p : List ℕ) × HasRead bits p self.old }

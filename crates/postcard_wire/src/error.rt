@@ -12,8 +12,8 @@ use std::{error, fmt};
 ///
 /// The variants are those of postcard 1.1.3 in its order, and then [`Error::OutOfMemory`], which is
 /// this port's own. An error doesn't say where in the bytes or in which part of a value it arose.
-/// Two variants are there so that a `match` can name them; no call of this port returns them:
-/// [`Error::NotYetImplemented`] and [`Error::DeserializeBadEnum`].
+/// No call of this port returns [`Error::NotYetImplemented`] or [`Error::DeserializeBadEnum`]; they
+/// are there so that a `match` can name them.
 ///
 /// `Display` prints the texts of postcard 1.1.3, and `Debug` the name of the variant.
 #[derive(Clone, Debug, Drop, PartialEq, Eq)]
@@ -51,11 +51,11 @@ pub enum Error {
     /// The checksum after a message is not that of the message.
     DeserializeBadCrc,
     /// A value refuses itself when it is written. None of this port's types does; it is for types
-    /// of a user (see [`Error::ser_custom`]).
+    /// of your own (see [`Error::ser_custom`]).
     SerdeSerCustom,
     /// The bytes spell no value of the type: an unknown variant, a zero for a type without one, a
-    /// duration that is too long, more elements than the capacity. Types of a user return it too
-    /// (see [`Error::de_custom`]).
+    /// duration that is too long, more elements than the capacity. Types of your own may return it,
+    /// too (see [`Error::de_custom`]).
     SerdeDeCustom,
     /// A value written by its `Display` text fails to format, has a text of more than `usize::MAX`
     /// bytes, or has one that the flavor refuses after its length was written.

@@ -109,7 +109,7 @@ pub fn well_formed_subsets<S: TreeSet, T: TreeSet>()
 {}
 
 /// What is written is read again: if bytes begin with the shortest spelling of a tree of the set,
-/// that is the only front that spells a tree of the set, and it spells only this tree.
+/// that is the only front that spells a tree of the set, and it spells only that tree.
 pub fn read_again<S: TreeSet>()
     ensures { IsDelimited S.has → ReadsWellFormed S.has → (t s : Tree) (p rest left : List ℕ)
         → S.has t → S.has s → Spells s p → p ++ left ≡ canonical t ++ rest

@@ -1,7 +1,7 @@
 //! Varints that are in memory, many at a time: the bytes of each by one load of eight bytes.
 //!
-//! What the steps below return is exact only if the bytes are as most numbers are: of at most eight
-//! bytes, and in range. Else nothing is returned, and the numbers are to be read byte by byte
+//! The steps below return numbers only if the bytes are as those of most are: at most eight for a
+//! number, and in range. If they return none, the caller reads byte by byte
 //! ([`Digits`](crate::digits::Digits)).
 
 ghost use Rattle.std.specs.Prelude.{◌≡◌, ℕ, ◌+◌, ◌*◌, ◌≤◌, ◌<◌, ◌^◌, List, length, take, drop};
@@ -31,8 +31,8 @@ const HIGH_BITS: [u64; 10] = [
     0,
 ];
 
-/// The same for a number of 32 bits, of at most five bytes, with the bits of the last that are too
-/// many.
+/// The same for a number of 32 bits, of at most five bytes, with the bits of the fifth that exceed
+/// 32.
 const HIGH_BITS_32: [u64; 10] = [
     0,
     0x80,
@@ -49,7 +49,8 @@ const HIGH_BITS_32: [u64; 10] = [
 /// The same for a number of 16 bits, of at most three bytes.
 const HIGH_BITS_16: [u64; 10] = [0, 0x80, 0x8080, 0xfc_8080, 0, 0, 0, 0, 0, 0];
 
-/// What these bits are: 1 in each byte but the last. If there is no such varint, what they can't be.
+/// The value of these bits: 1 in each byte but the last. If there is no such varint, a value that
+/// they can't have.
 const GOES_ON: [u64; 10] = [
     1,
     0,
@@ -77,7 +78,7 @@ const DATA: [u64; 10] = [
     0,
 ];
 
-/// Returns four digits of seven bits each, which are in a byte each, as one number of 28 bits.
+/// Returns four digits of seven bits, each in a byte of its own, as one number of 28 bits.
 #[inline(always)]
 fn four_digits(digits: u32) -> u32
     ensures { (a b c d : ℕ) → a < 128 → b < 128 → c < 128 → d < 128
@@ -88,8 +89,8 @@ fn four_digits(digits: u32) -> u32
     pairs % 0x1_0000 + pairs / 0x1_0000 * 0x4000
 }
 
-/// Returns the number of at most `bits` bits whose digits are in a byte each, as [`cut`] returns
-/// them.
+/// Returns the number of at most `bits` bits whose digits are each in a byte of its own, as [`cut`]
+/// returns them.
 #[inline(always)]
 pub fn number_of(digits: u64, bits: u32) -> u64
     ensures { (p : List ℕ) → IsCut bits p digits → result ≡ number p }
@@ -100,9 +101,9 @@ pub fn number_of(digits: u64, bits: u32) -> u64
     u64::from(low) + u64::from(high) * 0x1000_0000
 }
 
-/// Returns what is wrong with a varint of `bits` bits, of which `word` has the `len` bytes and some
-/// that follow, and the digits of it, each in a byte of its own. The first is 0 if nothing is wrong:
-/// if the bytes are a varint of just that length, of at most eight bytes, and in range.
+/// Returns the faults and the digits, each in a byte of its own, of a varint of `bits` bits, whose
+/// `len` bytes are the first of `word`. The faults are 0 if these bytes are a varint of exactly
+/// that length, of at most eight bytes, and in range.
 #[inline(always)]
 fn cut_one(word: u64, len: usize, bits: u32) -> (u64, u64)
     requires width { IsNarrow bits }
@@ -120,7 +121,7 @@ fn cut_one(word: u64, len: usize, bits: u32) -> (u64, u64)
     ((word & high_bits) ^ GOES_ON[len], word & DATA[len])
 }
 
-/// Returns the eight bytes from `at` on as one word, the first byte lowest.
+/// Returns the eight bytes that begin at `at` as one word, the first byte lowest.
 #[inline(always)]
 fn word_at(block: &[u8; BLOCK], at: usize) -> u64
     requires { at + 8 ≤ 80 }
@@ -139,8 +140,8 @@ fn word_at(block: &[u8; BLOCK], at: usize) -> u64
     ])
 }
 
-/// Returns which of the first 64 bytes end a varint, since they are below 128: bit `i` is that of
-/// byte `i`. So it is `u64::MAX` if each is a varint of its own.
+/// Returns which of the first 64 bytes end a varint, because they are below 128: bit `i` stands for
+/// byte `i`. So it is `u64::MAX` if each byte is a varint of its own.
 #[inline(always)]
 pub fn ends(block: &[u8; BLOCK]) -> u64
     ensures { result ≡ u64.MAX → (k : ℕ) → k < 64 → slice_index block.now k < 128 }
@@ -150,18 +151,18 @@ pub fn ends(block: &[u8; BLOCK]) -> u64
         .to_bitmask()
 }
 
-/// Numbers whose bytes are next.
+/// The next numbers, cut from their bytes.
 #[derive(Drop)]
 pub struct Run {
     /// The digits of each number, as [`number_of`] takes them.
     pub digits: [u64; RUN],
-    /// The number of bytes of all of them.
+    /// The number of bytes of all these numbers.
     pub len: usize,
 }
 
-/// Returns the numbers of `bits` bits, which must be 16, 32 or 64, that the first bytes of a block
-/// spell, where `ends` is what [`ends`] returned. Returns `None` if one of them has more than eight
-/// bytes, or is out of range, or if they have more than 64 bytes.
+/// Cuts the next numbers of `bits` bits, which must be 16, 32 or 64, from the front of a block, for
+/// which [`ends`] returned `ends`. Returns `None` if one of them has more than eight bytes or is
+/// out of range, or if they have more than 64 bytes together.
 #[inline(always)]
 pub fn cut(block: &[u8; BLOCK], ends: u64, bits: u32) -> Option<Run>
     requires { IsNarrow bits }

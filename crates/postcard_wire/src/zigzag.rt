@@ -1,5 +1,6 @@
-//! Zigzag: signed numbers as unsigned ones (wire format 1.0, "signed integer encoding"). 0, -1, 1,
-//! -2, 2 become 0, 1, 2, 3, 4, so that a number near zero is short whatever its sign.
+//! Zigzag: signed numbers as unsigned ones (wire format 1.0, "signed integer encoding"). A number
+//! `n` becomes `2 * n`, or `-2 * n - 1` if it is negative: 0, -1, 1, -2, 2 become 0, 1, 2, 3, 4, so
+//! that a number near zero is short whatever its sign.
 //!
 //! An `i8` is not a varint: it is written as one byte.
 
@@ -20,7 +21,7 @@ macro_rules! unfold_sign {
     };
 }
 
-/// Returns the zigzag encoding of an `i16`: `2 * n`, or `-2 * n - 1` if `n` is negative.
+/// Returns the zigzag encoding of an `i16`.
 #[tactic(auto, using(crate::proofs::Folded::folded_16))]
 pub fn zig_zag_i16(n: i16) -> u16
     ensures { result ≡ zigzag n }
@@ -28,7 +29,7 @@ pub fn zig_zag_i16(n: i16) -> u16
     fold_sign!(n, i16)
 }
 
-/// Returns the zigzag encoding of an `i32`: `2 * n`, or `-2 * n - 1` if `n` is negative.
+/// Returns the zigzag encoding of an `i32`.
 #[tactic(auto, using(crate::proofs::Folded::folded_32))]
 pub fn zig_zag_i32(n: i32) -> u32
     ensures { result ≡ zigzag n }
@@ -36,7 +37,7 @@ pub fn zig_zag_i32(n: i32) -> u32
     fold_sign!(n, i32)
 }
 
-/// Returns the zigzag encoding of an `i64`: `2 * n`, or `-2 * n - 1` if `n` is negative.
+/// Returns the zigzag encoding of an `i64`.
 #[tactic(auto, using(crate::proofs::Folded::folded_64))]
 pub fn zig_zag_i64(n: i64) -> u64
     ensures { result ≡ zigzag n }
@@ -44,7 +45,7 @@ pub fn zig_zag_i64(n: i64) -> u64
     fold_sign!(n, i64)
 }
 
-/// Returns the zigzag encoding of an `i128`: `2 * n`, or `-2 * n - 1` if `n` is negative.
+/// Returns the zigzag encoding of an `i128`.
 #[tactic(auto, using(crate::proofs::Folded::folded_128))]
 pub fn zig_zag_i128(n: i128) -> u128
     ensures { result ≡ zigzag n }
@@ -52,7 +53,7 @@ pub fn zig_zag_i128(n: i128) -> u128
     fold_sign!(n, i128)
 }
 
-/// Returns the `i16` whose zigzag encoding is `n`: `n / 2`, or `-(n / 2) - 1` if `n` is odd.
+/// Returns the `i16` whose zigzag encoding is `n`.
 #[tactic(auto, using(crate::proofs::Folded::unfolded))]
 pub fn de_zig_zag_i16(n: u16) -> i16
     ensures { zigzag result ≡ n }
@@ -60,7 +61,7 @@ pub fn de_zig_zag_i16(n: u16) -> i16
     unfold_sign!(n)
 }
 
-/// Returns the `i32` whose zigzag encoding is `n`: `n / 2`, or `-(n / 2) - 1` if `n` is odd.
+/// Returns the `i32` whose zigzag encoding is `n`.
 #[tactic(auto, using(crate::proofs::Folded::unfolded))]
 pub fn de_zig_zag_i32(n: u32) -> i32
     ensures { zigzag result ≡ n }
@@ -68,7 +69,7 @@ pub fn de_zig_zag_i32(n: u32) -> i32
     unfold_sign!(n)
 }
 
-/// Returns the `i64` whose zigzag encoding is `n`: `n / 2`, or `-(n / 2) - 1` if `n` is odd.
+/// Returns the `i64` whose zigzag encoding is `n`.
 #[tactic(auto, using(crate::proofs::Folded::unfolded))]
 pub fn de_zig_zag_i64(n: u64) -> i64
     ensures { zigzag result ≡ n }
@@ -76,7 +77,7 @@ pub fn de_zig_zag_i64(n: u64) -> i64
     unfold_sign!(n)
 }
 
-/// Returns the `i128` whose zigzag encoding is `n`: `n / 2`, or `-(n / 2) - 1` if `n` is odd.
+/// Returns the `i128` whose zigzag encoding is `n`.
 #[tactic(auto, using(crate::proofs::Folded::unfolded))]
 pub fn de_zig_zag_i128(n: u128) -> i128
     ensures { zigzag result ≡ n }

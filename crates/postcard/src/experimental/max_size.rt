@@ -18,8 +18,7 @@ use postcard_wire::Result;
 ///
 /// # Errors
 ///
-/// Fails as `fill_slice`: with `SerializeBufferFull` if the encoding is longer than the buffer, or
-/// with `CollectStrError` for a type whose text may fail to print.
+/// Fails as [`fill_slice`](crate::fill_slice).
 pub fn fill_max_size<T: Serialize + MaxSize>(value: &T, buffer: &mut [u8]) -> Result<usize>
     ensures count_is_length { IfOk result (λ count. count
         ≡ length (canonical (T.shape.tree value.now))) }

@@ -22,9 +22,9 @@ use std::alloc::Global;
 
 /// Decodes a value from the frame at the front of the buffer `s`, in place, as
 /// [`from_bytes_cobs`](postcard_frame::from_bytes_cobs): the frame's data is the value's encoding,
-/// and then just its checksum. Each byte from the first zero on stays as it is, whatever the result:
-/// the clause `writes_back` says so of the buffer once the loan has ended. The Rust crate has no
-/// such call.
+/// and then just its checksum. The first zero and the bytes after it stay as they are, whatever the
+/// result: the clause `writes_back` says so of the buffer once the loan has ended. The Rust crate
+/// has no such call.
 ///
 /// If the frame's data is a message with its checksum in which at most as many bits in a row were
 /// changed as the checksum has, it fails: the clause `refuses_damage`. A damaged code byte of the
@@ -39,7 +39,8 @@ pub fn from_bytes_cobs<'a, T: Deserialize<'a>, W: Width, I: Implementation<W>>(
     s: &'a mut [u8],
     digest: Digest<'a, W, I>,
 ) -> Result<T>
-    // Once the loan has ended, each byte from the first zero on is as it was, also after a failure.
+    // Once the loan has ended, the first zero and the bytes after it are as they were, also after a
+    // failure.
     ensures* writes_back { sem 𝓛 (follows_so (Array u8 0) (Array u8 0) s.entry.ghost_name none
         (λ _ _. ⊤) (KeepsFromZero s.old)) }
     ensures gives { IfOk result (ReadsFrameChecked T.shape.reads T.shape.value W.size

@@ -49,8 +49,7 @@ impl<'de, F: Flavor> Deserializer<'de, F> {
     ///
     /// # Errors
     ///
-    /// Fails as `deserialize_u64` if the count can't be read, as reading the first element that
-    /// can't be read does, and with `OutOfMemory` if an allocation fails.
+    /// Also fails with `OutOfMemory` if an allocation fails.
     pub(crate) fn list<T: Shaped + Drop, E: Element<'de, T>>(
         &mut self,
         alloc: Global,
@@ -79,9 +78,8 @@ impl<'de, F: Flavor> Deserializer<'de, F> {
     ///
     /// # Errors
     ///
-    /// Fails as `deserialize_u64` if the count can't be read, and as reading the first element that
-    /// can't be read does. Fails with `SerdeDeCustom` if there are more than `CAP` elements, once
-    /// `CAP + 1` of them have been read.
+    /// Also fails with `SerdeDeCustom` if there are more than `CAP` elements, once `CAP + 1` of
+    /// them have been read.
     pub(crate) fn few<T: Shaped + Drop + Default, E: Element<'de, T>, const CAP: usize>(
         &mut self,
         alloc: Global,
@@ -101,10 +99,6 @@ impl<'de, F: Flavor> Deserializer<'de, F> {
     }
 
     /// Reads an array: `N` elements, without a count.
-    ///
-    /// # Errors
-    ///
-    /// Fails as reading the first element that can't be read does.
     pub(crate) fn array<T: Shaped + Drop + Copy + Default, E: Element<'de, T>, const N: usize>(
         &mut self,
         alloc: Global,
@@ -124,8 +118,7 @@ impl<'de, F: Flavor> Deserializer<'de, F> {
     ///
     /// # Errors
     ///
-    /// Fails as `deserialize_u64` if the count can't be read, as reading the first key or value
-    /// that can't be read does, and with `OutOfMemory` if an allocation fails.
+    /// Also fails with `OutOfMemory` if an allocation fails.
     pub(crate) fn map<
         K: Shaped + Ord + Drop,
         V: Shaped + Drop,
@@ -151,8 +144,7 @@ impl<'de, F: Flavor> Deserializer<'de, F> {
     ///
     /// # Errors
     ///
-    /// Fails as `deserialize_u64` if the count can't be read, as reading the first key that can't be
-    /// read does, and with `OutOfMemory` if an allocation fails.
+    /// Also fails with `OutOfMemory` if an allocation fails.
     pub(crate) fn set<K: Shaped + Ord + Drop, E: Element<'de, K>>(
         &mut self,
         alloc: Global,

@@ -13,13 +13,7 @@ use std::alloc::Global;
 
 impl<'de, F: Flavor> Deserializer<'de, F> {
     /// Reads the index of an enum's variant: a varint of at most 5 bytes. The content is then read
-    /// by the call for its kind. The names aren't used.
-    ///
-    /// # Errors
-    ///
-    /// Fails with `DeserializeUnexpectedEnd` if the bytes end within the index, and with
-    /// `DeserializeBadVarint` if it has more than 5 bytes or 32 bits; 5 bytes are taken then. The
-    /// caller has to refuse an index that has no variant.
+    /// by the call for its kind. The caller has to refuse an index that no variant has.
     pub fn deserialize_enum(&mut self, _name: &str, _variants: &[&str]) -> Result<u32>
         ensures { ReadsNode F.Flavor (number_node 32)
             (source_of self.old) result (source_of self.new) }
@@ -37,10 +31,6 @@ impl<'de, F: Flavor> Deserializer<'de, F> {
     }
 
     /// Reads the content of a variant that has one part.
-    ///
-    /// # Errors
-    ///
-    /// Fails as reading the content does.
     pub fn newtype_variant<T: Deserialize<'de>>(&mut self, alloc: Global) -> Result<T>
         ensures { ReadsShape F.Flavor T.shape (source_of self.old) result (source_of self.new) }
     {
@@ -57,8 +47,8 @@ impl<'de, F: Flavor> Deserializer<'de, F> {
     }
 
     /// Begins the content of a variant with these fields, which are then read by
-    /// [`next_element`](SeqAccess::next_element). Their names aren't used, only their number. Reads
-    /// nothing, and never fails.
+    /// [`next_element`](SeqAccess::next_element). Only their number is used. Reads nothing, and
+    /// never fails.
     pub fn struct_variant(&mut self, fields: &[&str]) -> Result<SeqAccess>
         ensures parts { result ≡ Ok (length fields.now) }
         ensures unchanged { self.new ≡ self.old }

@@ -9,12 +9,8 @@ use postcard_de_nodes::floats;
 use postcard_wire::Result;
 
 impl<'de, F: Flavor> Deserializer<'de, F> {
-    /// Reads an `f32`: the 4 bytes of its bits, the lowest first. Any bits of a NaN are read as a
-    /// NaN.
-    ///
-    /// # Errors
-    ///
-    /// Fails with `DeserializeUnexpectedEnd` if the source can't give 4 bytes.
+    /// Reads an `f32`: the 4 bytes of its bits, the lowest first. Every NaN is read as a NaN,
+    /// whatever its bits.
     pub fn deserialize_f32(&mut self) -> Result<f32>
         ensures { ReadsNode F.Flavor (float_node binary32)
             (source_of self.old) result (source_of self.new) }
@@ -22,12 +18,8 @@ impl<'de, F: Flavor> Deserializer<'de, F> {
         floats::float_32(&mut self.flavor)
     }
 
-    /// Reads an `f64`: the 8 bytes of its bits, the lowest first. Any bits of a NaN are read as a
-    /// NaN.
-    ///
-    /// # Errors
-    ///
-    /// Fails with `DeserializeUnexpectedEnd` if the source can't give 8 bytes.
+    /// Reads an `f64`: the 8 bytes of its bits, the lowest first. Every NaN is read as a NaN,
+    /// whatever its bits.
     pub fn deserialize_f64(&mut self) -> Result<f64>
         ensures { ReadsNode F.Flavor (float_node binary64)
             (source_of self.old) result (source_of self.new) }

@@ -21,8 +21,7 @@ impl<'de, F: Flavor> Deserializer<'de, F> {
     }
 
     /// Begins a tuple struct of `len` parts, which are then read by
-    /// [`next_element`](SeqAccess::next_element). The name isn't used. Reads nothing, and never
-    /// fails.
+    /// [`next_element`](SeqAccess::next_element). Reads nothing, and never fails.
     pub fn deserialize_tuple_struct(&mut self, _name: &str, len: usize) -> Result<SeqAccess>
         ensures parts { result ≡ Ok len }
         ensures unchanged { self.new ≡ self.old }
@@ -31,8 +30,8 @@ impl<'de, F: Flavor> Deserializer<'de, F> {
     }
 
     /// Begins a struct with these fields, which are then read by
-    /// [`next_element`](SeqAccess::next_element). The names aren't used, only their number. Reads
-    /// nothing, and never fails.
+    /// [`next_element`](SeqAccess::next_element). Only their number is used. Reads nothing, and
+    /// never fails.
     pub fn deserialize_struct(&mut self, _name: &str, fields: &[&str]) -> Result<SeqAccess>
         ensures parts { result ≡ Ok (length fields.now) }
         ensures unchanged { self.new ≡ self.old }
@@ -43,10 +42,6 @@ impl<'de, F: Flavor> Deserializer<'de, F> {
     /// Reads the number of pairs of a map, a varint of at most 10 bytes. Their keys and values are
     /// then read in turn by [`next_key`](MapAccess::next_key) and
     /// [`next_value`](MapAccess::next_value).
-    ///
-    /// # Errors
-    ///
-    /// Fails as `deserialize_u64`.
     pub fn deserialize_map(&mut self) -> Result<MapAccess>
         ensures { ReadsNode F.Flavor (number_node 64)
             (source_of self.old) result (source_of self.new) }

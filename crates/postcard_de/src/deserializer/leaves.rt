@@ -15,8 +15,7 @@ impl<'de, F: Flavor> Deserializer<'de, F> {
     ///
     /// # Errors
     ///
-    /// Fails with `DeserializeUnexpectedEnd` if the source can't give a byte, and with
-    /// `DeserializeBadBool` for any other byte, which is taken.
+    /// Also fails with `DeserializeBadBool` for any other byte, which is taken.
     pub fn deserialize_bool(&mut self) -> Result<bool>
         ensures { ReadsNode F.Flavor boolean_node (source_of self.old) result (source_of self.new) }
     {
@@ -28,10 +27,8 @@ impl<'de, F: Flavor> Deserializer<'de, F> {
     ///
     /// # Errors
     ///
-    /// Fails as `deserialize_u64` if the length can't be read, and with `DeserializeBadChar` if it
-    /// is above 4; only the length is taken then. Fails with `DeserializeUnexpectedEnd` if the
-    /// source can't give that many bytes, and with `DeserializeBadChar` if the bytes aren't UTF-8
-    /// or the length is 0; they are taken then.
+    /// Also fails with `DeserializeBadChar` if the length is above 4; only the length is taken
+    /// then. The same if the bytes aren't UTF-8 or the length is 0; they are taken then.
     pub fn deserialize_char(&mut self) -> Result<char>
         ensures { ReadsNode F.Flavor char_node (source_of self.old) result (source_of self.new) }
     {
@@ -48,7 +45,7 @@ impl<'de, F: Flavor> Deserializer<'de, F> {
         Ok(())
     }
 
-    /// Reads a struct without fields, which has no bytes. The name isn't used. Never fails.
+    /// Reads a struct without fields, which has no bytes. Never fails.
     pub fn deserialize_unit_struct(&mut self, _name: &str) -> Result<()>
         ensures reads { ReadsShape F.Flavor ⟦<() as Shaped>⟧.shape
             (source_of self.old) result (source_of self.new) }

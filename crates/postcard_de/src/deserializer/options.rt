@@ -13,8 +13,7 @@ impl<'de, F: Flavor> Deserializer<'de, F> {
     ///
     /// # Errors
     ///
-    /// Fails with `DeserializeUnexpectedEnd` if the source can't give a byte, with
-    /// `DeserializeBadOption` for any other byte, which is taken, and as reading the content does.
+    /// Also fails with `DeserializeBadOption` for any other byte, which is taken.
     pub fn deserialize_option<T: Deserialize<'de>>(&mut self, alloc: Global) -> Result<Option<T>>
         ensures { ReadsOption F.Flavor T.shape (source_of self.old) result (source_of self.new) }
     {
@@ -28,11 +27,7 @@ impl<'de, F: Flavor> Deserializer<'de, F> {
         }
     }
 
-    /// Reads a struct of one part, whose bytes are those of that part. The name isn't used.
-    ///
-    /// # Errors
-    ///
-    /// Fails as reading the part does.
+    /// Reads a struct of one part, whose bytes are those of that part.
     pub fn deserialize_newtype_struct<T: Deserialize<'de>>(
         &mut self,
         alloc: Global,

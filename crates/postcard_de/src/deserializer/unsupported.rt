@@ -8,11 +8,7 @@ use postcard_de_flavors::Flavor;
 use postcard_wire::{Error, Result};
 
 impl<'de, F: Flavor> Deserializer<'de, F> {
-    /// Would read a value of any type.
-    ///
-    /// # Errors
-    ///
-    /// Always fails with `WontImplement`; nothing is changed.
+    /// Would read a value of any type. Always fails with `WontImplement`, and changes nothing.
     pub fn deserialize_any(&mut self) -> Result<()>
         ensures refused { result ≡ Err Error.WontImplement }
         ensures unchanged { self.new ≡ self.old }
@@ -20,11 +16,8 @@ impl<'de, F: Flavor> Deserializer<'de, F> {
         Err(Error::WontImplement)
     }
 
-    /// Would read the name of a field or a variant.
-    ///
-    /// # Errors
-    ///
-    /// Always fails with `WontImplement`; nothing is changed.
+    /// Would read the name of a field or a variant. Always fails with `WontImplement`, and changes
+    /// nothing.
     pub fn deserialize_identifier(&mut self) -> Result<()>
         ensures refused { result ≡ Err Error.WontImplement }
         ensures unchanged { self.new ≡ self.old }
@@ -32,11 +25,7 @@ impl<'de, F: Flavor> Deserializer<'de, F> {
         self.deserialize_any()
     }
 
-    /// Would skip a value of any type.
-    ///
-    /// # Errors
-    ///
-    /// Always fails with `WontImplement`; nothing is changed.
+    /// Would skip a value of any type. Always fails with `WontImplement`, and changes nothing.
     pub fn deserialize_ignored_any(&mut self) -> Result<()>
         ensures refused { result ≡ Err Error.WontImplement }
         ensures unchanged { self.new ≡ self.old }

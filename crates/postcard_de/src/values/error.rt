@@ -35,8 +35,8 @@ impl DeserializeOwned for Error {
     }
 }
 
-/// Returns the error of an index, its place in the list of [`Error`] from 0 on, or `None` if there
-/// is no such error.
+/// Returns the error at an index of the list of [`Error`], counted from 0, or `None` if there is
+/// none.
 fn error_of(index: u32) -> Option<Error>
     ensures known { IfSome result (λ e. error_index e ≡ index) }
     ensures few { IfSome result (λ _. index < 17) }

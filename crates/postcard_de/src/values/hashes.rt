@@ -15,8 +15,8 @@ use std::alloc::Global;
 use std::collections::{HashMap, HashSet};
 use std::hash::{BuildHasher, Hash};
 
-/// Returns a set that hashes by `hasher`, into which the keys were put one by one. Of equal keys the
-/// first is kept.
+/// Returns a set that hashes by `hasher`, into which the keys were put one by one. Of equal keys
+/// the first is kept.
 ///
 /// # Errors
 ///
@@ -36,8 +36,8 @@ fn set_of<K: Eq + Hash + Drop, S: BuildHasher + Drop>(
     Ok(set)
 }
 
-/// Returns a map that hashes by `hasher`, into which the pairs were put one by one. Of equal keys the
-/// last value is kept.
+/// Returns a map that hashes by `hasher`, into which the pairs were put one by one. Of equal keys
+/// the last value is kept.
 ///
 /// # Errors
 ///
@@ -60,9 +60,9 @@ fn map_of<K: Eq + Hash + Drop, V: Drop, S: BuildHasher + Drop>(
 /// Reads a set that hashes by `hasher`: the keys in any order, of which the first of equal ones is
 /// kept.
 ///
-/// The `deserialize` of `HashSet` takes the default of its hasher. That of std has a fixed seed, by
-/// which whoever sends the keys may choose them so that the set becomes slow. From input that isn't
-/// trusted, read a set by this call with a `RandomState`, or a `BTreeSet`.
+/// The `deserialize` of `HashSet` takes the default of its hasher. The hasher of std has a fixed
+/// seed, so a sender can choose keys that make the set slow. From input that isn't trusted, read a
+/// set by this call with a `RandomState`, or a `BTreeSet`.
 ///
 /// # Errors
 ///
@@ -79,12 +79,12 @@ pub fn read_hash_set<'de, K: Deserialize<'de> + Eq + Hash, S: BuildHasher + Drop
     set_of(alloc, keys, hasher)
 }
 
-/// Reads a map that hashes by `hasher`: the pairs in any order, of which the last value of equal keys
-/// is kept.
+/// Reads a map that hashes by `hasher`: the pairs in any order, of which the last value of equal
+/// keys is kept.
 ///
-/// The `deserialize` of `HashMap` takes the default of its hasher. That of std has a fixed seed, by
-/// which whoever sends the keys may choose them so that the map becomes slow. From input that isn't
-/// trusted, read a map by this call with a `RandomState`, or a `BTreeMap`.
+/// The `deserialize` of `HashMap` takes the default of its hasher. The hasher of std has a fixed
+/// seed, so a sender can choose keys that make the map slow. From input that isn't trusted, read a
+/// map by this call with a `RandomState`, or a `BTreeMap`.
 ///
 /// # Errors
 ///

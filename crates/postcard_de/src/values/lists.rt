@@ -1,4 +1,4 @@
-//! Lists of any length: `Vec<T>`, `VecDeque<T>`, `LinkedList<T>`, and `&[u8]`, which is lent from
+//! Lists of any length: `Vec<T>`, `VecDeque<T>`, `LinkedList<T>`, and `&[u8]`, which borrows from
 //! the source.
 
 ghost use Rattle.std.specs.Prelude.{◌≡◌, IfErr, IfOk};

@@ -1,4 +1,4 @@
-//! Paths: `Path`, which is lent from the source, and `PathBuf`.
+//! Paths: `Path`, which borrows from the source, and `PathBuf`.
 
 use crate::deserialize::Deserialize;
 use crate::deserializer::Deserializer;

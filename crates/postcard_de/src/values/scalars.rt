@@ -1,4 +1,4 @@
-//! Truth values, characters, and `usize` and `isize` as numbers of 64 bits.
+//! Booleans, characters, and `usize` and `isize` as numbers of 64 bits.
 
 ghost use Rattle.postcard_de.specs.Reads.{ReadsNode, boolean_node, char_node, int_node, num_node};
 ghost use Rattle.postcard_de.specs.Reads.{source_of};

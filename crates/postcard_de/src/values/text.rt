@@ -1,4 +1,4 @@
-//! Texts: `&str`, which is lent from the source, and texts that are owned or shared.
+//! Texts: `&str`, which borrows from the source, and texts that are owned or shared.
 
 ghost use Rattle.postcard_de.specs.Reads.{ReadsNode, lent_text_node, text_node, source_of};
 

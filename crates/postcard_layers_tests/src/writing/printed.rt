@@ -30,7 +30,7 @@ impl Display for Broken {
     }
 }
 
-/// A user's type that is written as the text as which it is printed.
+/// A user's type that is written as the text that it prints.
 #[derive(Drop)]
 struct Shown(u32);
 

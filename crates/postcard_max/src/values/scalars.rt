@@ -1,5 +1,4 @@
-//! The greatest sizes of truth values, of characters, and of `usize` and `isize` as numbers of 64
-//! bits.
+//! The greatest sizes of booleans, of characters, and of `usize` and `isize` as numbers of 64 bits.
 //!
 //! In the `in_forms` of a number or a character the value is read for the prover, which learns its
 //! range from that.

@@ -12,8 +12,7 @@ use postcard_ser_flavors::Flavor;
 use postcard_wire::Result;
 
 impl<F: Flavor> Serializer<F> {
-    /// Writes a variant without content: its index as a varint of 1 to 5 bytes. The names aren't
-    /// written. Fails with `SerializeBufferFull` if the flavor refuses a piece.
+    /// Writes a variant without content: its index as a varint of 1 to 5 bytes.
     pub fn serialize_unit_variant(&mut self, name: &str, index: u32, variant: &str) -> Result<()>
         ensures { Wrote F.Flavor self.old.output (canonical (unit_variant index)) never ⊥ result
             self.new.output }
@@ -22,8 +21,6 @@ impl<F: Flavor> Serializer<F> {
     }
 
     /// Writes a variant with one field: its index as a varint of 1 to 5 bytes, and then the value.
-    /// The names aren't written. Fails with `SerializeBufferFull` if the flavor refuses the index,
-    /// and otherwise as the `serialize` of the value does.
     pub fn serialize_newtype_variant<T: Serialize>(
         &mut self,
         name: &str,
@@ -40,10 +37,8 @@ impl<F: Flavor> Serializer<F> {
         value.serialize(self)
     }
 
-    /// Begins a variant with `len` fields: writes its index as a varint of 1 to 5 bytes. Neither
-    /// the number of fields nor the names are written. The caller must write exactly `len` fields
-    /// by `serialize_field`; this is not checked. Fails with `SerializeBufferFull` if the flavor
-    /// refuses the index.
+    /// Begins a variant with `len` fields, each then written by `serialize_field`: writes its index
+    /// as a varint of 1 to 5 bytes. The number of fields isn't written.
     pub fn serialize_tuple_variant(
         &mut self,
         _name: &str,
@@ -57,10 +52,8 @@ impl<F: Flavor> Serializer<F> {
         self.serialize_u32(index)
     }
 
-    /// Begins a variant with `len` named fields: writes its index as a varint of 1 to 5 bytes.
-    /// Neither the number of fields nor the names are written. The caller must write exactly `len`
-    /// fields by `serialize_struct_field`; this is not checked. Fails with `SerializeBufferFull` if
-    /// the flavor refuses the index.
+    /// Begins a variant with `len` named fields, each then written by `serialize_struct_field`:
+    /// writes its index as a varint of 1 to 5 bytes. The number of fields isn't written.
     pub fn serialize_struct_variant(
         &mut self,
         name: &str,

@@ -12,8 +12,8 @@ use postcard_ser_flavors::Flavor;
 use postcard_wire::{Error, Result};
 
 impl<F: Flavor> Serializer<F> {
-    /// Begins a tuple or an array of `len` elements. Writes nothing and never fails. The caller
-    /// must write exactly `len` elements by `serialize_element`; this is not checked.
+    /// Begins a tuple or an array of `len` elements, each then written by `serialize_element`.
+    /// Writes nothing and never fails.
     pub fn serialize_tuple(&mut self, _len: usize) -> Result<()>
         ensures wrote { Wrote F.Flavor self.old.output [] never ⊥ result self.new.output }
         ensures succeeds { IsOk result }
@@ -22,8 +22,8 @@ impl<F: Flavor> Serializer<F> {
         Ok(())
     }
 
-    /// Begins a struct of `len` fields without names. Writes nothing and never fails. The caller
-    /// must write exactly `len` fields by `serialize_field`; this is not checked.
+    /// Begins a struct of `len` fields without names, each then written by `serialize_field`.
+    /// Writes nothing and never fails.
     pub fn serialize_tuple_struct(&mut self, _name: &str, len: usize) -> Result<()>
         ensures wrote { Wrote F.Flavor self.old.output [] never ⊥ result self.new.output }
         ensures succeeds { IsOk result }
@@ -32,8 +32,8 @@ impl<F: Flavor> Serializer<F> {
         self.serialize_tuple(len)
     }
 
-    /// Begins a struct of `len` named fields. Writes nothing and never fails. The caller must write
-    /// exactly `len` fields by `serialize_struct_field`; this is not checked.
+    /// Begins a struct of `len` named fields, each then written by `serialize_struct_field`. Writes
+    /// nothing and never fails.
     pub fn serialize_struct(&mut self, name: &str, len: usize) -> Result<()>
         ensures wrote { Wrote F.Flavor self.old.output [] never ⊥ result self.new.output }
         ensures succeeds { IsOk result }
@@ -42,10 +42,9 @@ impl<F: Flavor> Serializer<F> {
         self.serialize_tuple_struct(name, len)
     }
 
-    /// Begins a map: writes the number of its entries as a varint of 1 to 10 bytes. The caller must
-    /// write exactly `len` entries, each by `serialize_key` and `serialize_value`; this is not
-    /// checked. Fails with `SerializeSeqLengthUnknown` if `len` is `None`, before anything is
-    /// written, and with `SerializeBufferFull` if the flavor refuses the number.
+    /// Begins a map: writes the number of its entries as a varint of 1 to 10 bytes. Each is then
+    /// written by `serialize_key` and `serialize_value`. Fails with `SerializeSeqLengthUnknown` if
+    /// `len` is `None`, before anything is written.
     pub fn serialize_map(&mut self, len: Option<usize>) -> Result<()>
         ensures known { IfSome len (λ n. Wrote F.Flavor self.old.output (canonical (Num 64 n))
             never ⊥ result self.new.output) }
@@ -55,7 +54,7 @@ impl<F: Flavor> Serializer<F> {
         self.serialize_seq(len)
     }
 
-    /// Writes the key of a map's entry, as its `serialize` does, and fails as that does.
+    /// Writes the key of a map's entry.
     pub fn serialize_key<T: Serialize>(&mut self, key: &T) -> Result<()>
         ensures wrote { Wrote F.Flavor self.old.output (canonical (T.shape.tree key.now))
             (T.shape.refusal key.now) T.shape.text result self.new.output }
@@ -64,8 +63,7 @@ impl<F: Flavor> Serializer<F> {
         key.serialize(self)
     }
 
-    /// Writes the value of a map's entry, after its key, as its `serialize` does, and fails as that
-    /// does.
+    /// Writes the value of a map's entry, after its key.
     pub fn serialize_value<T: Serialize>(&mut self, value: &T) -> Result<()>
         ensures wrote { Wrote F.Flavor self.old.output (canonical (T.shape.tree value.now))
             (T.shape.refusal value.now) T.shape.text result self.new.output }
@@ -74,8 +72,7 @@ impl<F: Flavor> Serializer<F> {
         value.serialize(self)
     }
 
-    /// Writes a field without a name, of a struct or a variant, as its `serialize` does, and fails
-    /// as that does.
+    /// Writes a field without a name, of a struct or a variant.
     pub fn serialize_field<T: Serialize>(&mut self, value: &T) -> Result<()>
         ensures wrote { Wrote F.Flavor self.old.output (canonical (T.shape.tree value.now))
             (T.shape.refusal value.now) T.shape.text result self.new.output }
@@ -84,8 +81,7 @@ impl<F: Flavor> Serializer<F> {
         self.serialize_element(value)
     }
 
-    /// Writes a named field, of a struct or a variant, as its `serialize` does, and fails as that
-    /// does. The name isn't written.
+    /// Writes a named field, of a struct or a variant.
     pub fn serialize_struct_field<T: Serialize>(&mut self, _key: &str, value: &T) -> Result<()>
         ensures wrote { Wrote F.Flavor self.old.output (canonical (T.shape.tree value.now))
             (T.shape.refusal value.now) T.shape.text result self.new.output }

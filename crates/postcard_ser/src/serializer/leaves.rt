@@ -10,8 +10,7 @@ use postcard_ser_flavors::Flavor;
 use postcard_wire::Result;
 
 impl<F: Flavor> Serializer<F> {
-    /// Writes a truth value as one byte: 1 for true, and 0 for false. Fails with
-    /// `SerializeBufferFull` if the flavor refuses a piece.
+    /// Writes a `bool` as one byte: 1 for `true`, and 0 for `false`.
     pub fn serialize_bool(&mut self, v: bool) -> Result<()>
         ensures { Wrote F.Flavor self.old.output
             (canonical (Boolean v)) never ⊥ result self.new.output }
@@ -20,7 +19,7 @@ impl<F: Flavor> Serializer<F> {
     }
 
     /// Writes a character as a text: the number of its bytes of UTF-8, 1 to 4, and then these
-    /// bytes. Fails with `SerializeBufferFull` if the flavor refuses a piece.
+    /// bytes.
     pub fn serialize_char(&mut self, v: char) -> Result<()>
         ensures { Wrote F.Flavor self.old.output (canonical (Char v)) never ⊥
             result self.new.output }
@@ -39,7 +38,7 @@ impl<F: Flavor> Serializer<F> {
         Ok(())
     }
 
-    /// Writes a struct without fields, which has no bytes. The name isn't written. Never fails.
+    /// Writes a struct without fields, which has no bytes. Never fails.
     pub fn serialize_unit_struct(&mut self, _name: &str) -> Result<()>
         ensures wrote { Wrote F.Flavor self.old.output (canonical (Group NoTrees)) never ⊥ result
             self.new.output }

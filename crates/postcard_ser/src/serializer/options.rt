@@ -11,17 +11,14 @@ use postcard_ser_flavors::Flavor;
 use postcard_wire::Result;
 
 impl<F: Flavor> Serializer<F> {
-    /// Writes an option without a value: the byte 0. Fails with `SerializeBufferFull` if the flavor
-    /// refuses a piece.
+    /// Writes an option without a value: the byte 0.
     pub fn serialize_none(&mut self) -> Result<()>
         ensures { Wrote F.Flavor self.old.output (canonical Absent) never ⊥ result self.new.output }
     {
         self.serialize_u8(0)
     }
 
-    /// Writes an option with a value: the byte 1, and then the value. Fails with
-    /// `SerializeBufferFull` if the flavor refuses the byte, and otherwise as the `serialize` of
-    /// the value does.
+    /// Writes an option with a value: the byte 1, and then the value.
     pub fn serialize_some<T: Serialize>(&mut self, value: &T) -> Result<()>
         ensures wrote { Wrote F.Flavor self.old.output
             (canonical (Present (T.shape.tree value.now)))
@@ -32,8 +29,7 @@ impl<F: Flavor> Serializer<F> {
         value.serialize(self)
     }
 
-    /// Writes a struct of one value, as the value's `serialize` does, and fails as that does. The
-    /// name isn't written.
+    /// Writes a struct of one value as that value.
     pub fn serialize_newtype_struct<T: Serialize>(&mut self, _name: &str, value: &T) -> Result<()>
         ensures wrote { Wrote F.Flavor self.old.output (canonical (T.shape.tree value.now))
             (T.shape.refusal value.now) T.shape.text result self.new.output }

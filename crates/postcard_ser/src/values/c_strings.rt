@@ -6,8 +6,7 @@ use postcard_ser_flavors::Flavor;
 use postcard_wire::Result;
 use std::ffi::{CStr, CString};
 
-/// Written as the number of the bytes, a varint, and then the bytes. The NUL at the end isn't
-/// written.
+/// Written as the number of the bytes before the NUL at the end, and then these bytes.
 impl Serialize for CStr<'_> {
     fn serialize<F: Flavor>(&self, serializer: &mut Serializer<F>) -> Result<()> {
         let bytes: &[u8] = self.to_bytes();
@@ -15,8 +14,7 @@ impl Serialize for CStr<'_> {
     }
 }
 
-/// Written as the number of the bytes, a varint, and then the bytes. The NUL at the end isn't
-/// written.
+/// Written as the number of the bytes before the NUL at the end, and then these bytes.
 impl Serialize for CString {
     fn serialize<F: Flavor>(&self, serializer: &mut Serializer<F>) -> Result<()> {
         self.as_c_str().serialize(serializer)

@@ -1,5 +1,5 @@
-//! Sets and maps that find a key by its hash: the number of the keys or entries, and then these in the
-//! order in which the set or the map keeps them.
+//! Sets and maps that find a key by its hash: the number of the keys or entries, and then these in
+//! the order in which the set or the map keeps them.
 
 ghost use Rattle.std.specs.Prelude.{Any, map, OnOk};
 ghost use Rattle.postcard_wire.specs.Spelling.{canonical_all};
@@ -32,8 +32,7 @@ fn serialize_keys<K: Serialize + Eq + Hash, S: BuildHasher, F: Flavor>(
     Ok(())
 }
 
-/// Written as the number of keys, a varint, and then each key, in no particular order. The set
-/// refuses itself if a key does.
+/// Written as the number of keys, a varint, and then each key, in no particular order.
 impl<K: Serialize + Eq + Hash, S: BuildHasher> Serialize for HashSet<K, S> {
     fn serialize<F: Flavor>(&self, serializer: &mut Serializer<F>) -> Result<()> {
         serializer.serialize_seq(Some(self.len()))?;
@@ -59,7 +58,7 @@ fn serialize_pairs<K: Serialize + Eq + Hash, V: Serialize, S: BuildHasher, F: Fl
 }
 
 /// Written as the number of entries, a varint, and then each key and its value, in no particular
-/// order. The map refuses itself if a key or a value does.
+/// order.
 impl<K: Serialize + Eq + Hash, V: Serialize, S: BuildHasher> Serialize for HashMap<K, V, S> {
     fn serialize<F: Flavor>(&self, serializer: &mut Serializer<F>) -> Result<()> {
         serializer.serialize_map(Some(self.len()))?;

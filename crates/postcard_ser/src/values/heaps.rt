@@ -7,8 +7,7 @@ use postcard_ser_flavors::Flavor;
 use postcard_wire::Result;
 use std::collections::BinaryHeap;
 
-/// Written as the number of elements, a varint, and then the elements, in no particular order. The
-/// heap refuses itself if an element does.
+/// Written as the number of elements, a varint, and then the elements, in no particular order.
 impl<T: Serialize + Ord> Serialize for BinaryHeap<T> {
     fn serialize<F: Flavor>(&self, serializer: &mut Serializer<F>) -> Result<()> {
         let items = self.as_slice();

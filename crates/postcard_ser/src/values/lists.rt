@@ -1,4 +1,4 @@
-//! Lists: the number of the elements, and then the elements.
+//! Lists: the number of the elements, a varint, and then the elements.
 
 ghost use Rattle.std.specs.Prelude.{Any, map, OnOk};
 ghost use Rattle.postcard_wire.specs.Spelling.{canonical_all};
@@ -63,8 +63,7 @@ fn serialize_each<T: Serialize, F: Flavor>(
     Ok(())
 }
 
-/// Written as the number of elements, a varint, and then the elements. The list refuses itself if
-/// an element does.
+/// Written as the number of elements, and then the elements.
 impl<T: Serialize> Serialize for &[T] {
     fn serialize<F: Flavor>(&self, serializer: &mut Serializer<F>) -> Result<()> {
         serializer.serialize_seq(Some(self.len()))?;
@@ -72,16 +71,14 @@ impl<T: Serialize> Serialize for &[T] {
     }
 }
 
-/// Written as the number of elements, a varint, and then the elements. The list refuses itself if
-/// an element does.
+/// Written as the number of elements, and then the elements.
 impl<T: Serialize> Serialize for Vec<T> {
     fn serialize<F: Flavor>(&self, serializer: &mut Serializer<F>) -> Result<()> {
         self.as_slice().serialize(serializer)
     }
 }
 
-/// Written as the number of elements, a varint, and then the elements. The list refuses itself if
-/// an element does.
+/// Written as the number of elements, and then the elements.
 impl<T: Serialize> Serialize for VecDeque<T> {
     fn serialize<F: Flavor>(&self, serializer: &mut Serializer<F>) -> Result<()> {
         let (front, back) = self.as_slices();
@@ -108,8 +105,7 @@ fn serialize_linked<T: Serialize, F: Flavor>(
     Ok(())
 }
 
-/// Written as the number of elements, a varint, and then the elements. The list refuses itself if
-/// an element does.
+/// Written as the number of elements, and then the elements.
 impl<T: Serialize> Serialize for LinkedList<T> {
     fn serialize<F: Flavor>(&self, serializer: &mut Serializer<F>) -> Result<()> {
         let count = self.len();

@@ -31,8 +31,7 @@ fn serialize_entries<K: Serialize + Ord, V: Serialize, F: Flavor>(
     Ok(())
 }
 
-/// Written as the number of entries, a varint, and then each key and its value. The map refuses
-/// itself if a key or a value does.
+/// Written as the number of entries, a varint, and then each key and its value.
 impl<K: Serialize + Ord, V: Serialize> Serialize for BTreeMap<K, V> {
     fn serialize<F: Flavor>(&self, serializer: &mut Serializer<F>) -> Result<()> {
         serializer.serialize_map(Some(self.len()))?;

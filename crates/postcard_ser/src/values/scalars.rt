@@ -1,11 +1,11 @@
-//! Truth values, characters, and `usize` and `isize` as numbers of 64 bits.
+//! Booleans, characters, and `usize` and `isize` as numbers of 64 bits.
 
 use crate::serialize::Serialize;
 use crate::serializer::Serializer;
 use postcard_ser_flavors::Flavor;
 use postcard_wire::Result;
 
-/// Written as one byte: 1 for true, and 0 for false.
+/// Written as one byte: 1 for `true`, and 0 for `false`.
 impl Serialize for bool {
     fn serialize<F: Flavor>(&self, serializer: &mut Serializer<F>) -> Result<()> {
         serializer.serialize_bool(*self)

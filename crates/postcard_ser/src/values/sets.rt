@@ -29,7 +29,7 @@ fn serialize_keys<K: Serialize + Ord, F: Flavor>(
     Ok(())
 }
 
-/// Written as the number of keys, a varint, and then each key. The set refuses itself if a key does.
+/// Written as the number of keys, a varint, and then each key.
 impl<K: Serialize + Ord> Serialize for BTreeSet<K> {
     fn serialize<F: Flavor>(&self, serializer: &mut Serializer<F>) -> Result<()> {
         serializer.serialize_seq(Some(self.len()))?;

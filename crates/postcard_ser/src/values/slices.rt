@@ -9,8 +9,7 @@ use std::boxed::BoxedSlice;
 use std::rc::RcSlice;
 use std::sync::ArcSlice;
 
-/// Written as the number of elements, a varint, and then the elements. The list refuses itself if
-/// an element does.
+/// Written as a list.
 impl<T: Serialize> Serialize for BoxedSlice<T> {
     fn serialize<F: Flavor>(&self, serializer: &mut Serializer<F>) -> Result<()> {
         let boxed = self.as_slice();
@@ -18,8 +17,7 @@ impl<T: Serialize> Serialize for BoxedSlice<T> {
     }
 }
 
-/// Written as the number of elements, a varint, and then the elements. The list refuses itself if
-/// an element does.
+/// Written as a list.
 impl<T: Serialize> Serialize for RcSlice<T> {
     fn serialize<F: Flavor>(&self, serializer: &mut Serializer<F>) -> Result<()> {
         let shared = self.as_slice();
@@ -27,8 +25,7 @@ impl<T: Serialize> Serialize for RcSlice<T> {
     }
 }
 
-/// Written as the number of elements, a varint, and then the elements. The list refuses itself if
-/// an element does.
+/// Written as a list.
 impl<T: Serialize> Serialize for ArcSlice<T> {
     fn serialize<F: Flavor>(&self, serializer: &mut Serializer<F>) -> Result<()> {
         let held = self.as_slice();
@@ -36,8 +33,7 @@ impl<T: Serialize> Serialize for ArcSlice<T> {
     }
 }
 
-/// Written as the number of elements, a varint, and then the elements. The list refuses itself if
-/// an element does.
+/// Written as a list.
 impl<T: Serialize> Serialize for CowSlice<'_, T> {
     fn serialize<F: Flavor>(&self, serializer: &mut Serializer<F>) -> Result<()> {
         let items = self.as_slice();

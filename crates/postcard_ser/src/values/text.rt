@@ -1,4 +1,5 @@
-//! Texts: borrowed, owned, and shared.
+//! Texts: borrowed, owned, and shared. A text is written as the number of its bytes, a varint, and
+//! then the bytes.
 
 use crate::serialize::Serialize;
 use crate::serializer::Serializer;
@@ -9,21 +10,21 @@ use std::boxed::BoxedStr;
 use std::rc::RcStr;
 use std::sync::ArcStr;
 
-/// Written as the number of the bytes, a varint, and then the bytes.
+/// Written as a text: the number of its bytes, and then the bytes.
 impl Serialize for &str {
     fn serialize<F: Flavor>(&self, serializer: &mut Serializer<F>) -> Result<()> {
         serializer.serialize_str(self)
     }
 }
 
-/// Written as the number of the bytes, a varint, and then the bytes.
+/// Written as a text: the number of its bytes, and then the bytes.
 impl Serialize for String {
     fn serialize<F: Flavor>(&self, serializer: &mut Serializer<F>) -> Result<()> {
         serializer.serialize_str(self.as_str())
     }
 }
 
-/// Written as the number of the bytes, a varint, and then the bytes.
+/// Written as a text: the number of its bytes, and then the bytes.
 impl Serialize for BoxedStr {
     fn serialize<F: Flavor>(&self, serializer: &mut Serializer<F>) -> Result<()> {
         let boxed = self.as_str();
@@ -31,7 +32,7 @@ impl Serialize for BoxedStr {
     }
 }
 
-/// Written as the number of the bytes, a varint, and then the bytes.
+/// Written as a text: the number of its bytes, and then the bytes.
 impl Serialize for RcStr {
     fn serialize<F: Flavor>(&self, serializer: &mut Serializer<F>) -> Result<()> {
         let shared = self.as_str();
@@ -39,7 +40,7 @@ impl Serialize for RcStr {
     }
 }
 
-/// Written as the number of the bytes, a varint, and then the bytes.
+/// Written as a text: the number of its bytes, and then the bytes.
 impl Serialize for ArcStr {
     fn serialize<F: Flavor>(&self, serializer: &mut Serializer<F>) -> Result<()> {
         let held = self.as_str();
@@ -47,7 +48,7 @@ impl Serialize for ArcStr {
     }
 }
 
-/// Written as the number of the bytes, a varint, and then the bytes.
+/// Written as a text: the number of its bytes, and then the bytes.
 impl Serialize for CowStr<'_> {
     fn serialize<F: Flavor>(&self, serializer: &mut Serializer<F>) -> Result<()> {
         let text = self.as_str();

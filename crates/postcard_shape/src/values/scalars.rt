@@ -1,4 +1,4 @@
-//! The shapes of truth values, of characters, and of `usize` and `isize` as numbers of 64 bits.
+//! The shapes of booleans, of characters, and of `usize` and `isize` as numbers of 64 bits.
 
 ghost use Rattle.std.specs.Prelude.{refl};
 ghost use Rattle.std.proofs.Common.{inl, inr};
