@@ -27,7 +27,9 @@ where
     let count = numbers::count(flavor)?;
     let bytes = flavor.try_take_n(count)?;
     match str::from_utf8(bytes) {
-        Ok(text) => Ok(text),
+        // Made of `bytes`, which are in registers: the text that was returned is in memory, and
+        // copying it takes as long as all the rest for a short one.
+        Ok(_) => Ok(unsafe { str::from_utf8_unchecked(bytes) }),
         Err(_) => Err(Error::DeserializeBadUtf8),
     }
 }

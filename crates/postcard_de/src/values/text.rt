@@ -14,6 +14,8 @@ use std::rc::RcStr;
 use std::sync::ArcStr;
 
 impl<'de> Deserialize<'de> for &'de str {
+    // So that the caller has the text in registers, too.
+    #[inline(always)]
     fn deserialize<F: Flavor>(_alloc: Global, d: &mut Deserializer<'de, F>) -> Result<Self>
         ensures { ReadsNode F.Flavor lent_text_node (source_of d.old) result (source_of d.new) }
     {

@@ -23,8 +23,8 @@ returns-in-Ok g c =
     record {
       reads =
           text_read g.F.Flavor.lawful c.in_ok-count.ensures.reads c.in_ok-bytes.ensures.length
-          c.in_ok-bytes.ensures.gives (λ (b : Bor (List ℕ)). b.now) c.in-Ok.text
-          c.in-Ok.ensures.cases.0 c.in-Ok.ensures.cases.1 c.in_ok-bytes.ensures.leaves;
+          c.in_ok-bytes.ensures.gives (λ (b : Bor (List ℕ)). b.now) c.from_utf8_unchecked.result
+          c.from_utf8_unchecked.ensures c.in-Ok.ensures.cases.1 c.in_ok-bytes.ensures.leaves;
       refused = tt;
     }
 
