@@ -22,7 +22,7 @@ use std::marker::Model;
 #[derive(Drop)]
 pub struct CobsAccumulator<const N: usize> {
     buf: [u8; N],
-    idx: usize,
+    pub(crate) idx: usize,
     skipping: bool,
 }
 
@@ -105,15 +105,6 @@ impl<const N: usize> CobsAccumulator<N> {
         ensures { result ≡ is_skipping self.now }
     {
         self.skipping
-    }
-
-    /// Does nothing. For the prover: the contract says that the bytes held have room and no zero
-    /// among them.
-    pub fn held_fits(&self)
-        ensures room { length (held_of self.now) ≤ N }
-        ensures no_zero { NoZero (held_of self.now) }
-    {
-        let _ = &self.idx;
     }
 
     /// Adds the bytes of `input` to those held. They must have room and no zero among them, and the

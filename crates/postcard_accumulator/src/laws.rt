@@ -1,12 +1,24 @@
-//! What holds of every stream. The functions do nothing: their contracts are the laws, whose
-//! statements are in `specs/Laws.antt` and `specs/Messages.antt`.
+//! What holds of every accumulator and stream. The functions do nothing: their contracts are the
+//! laws, whose statements are in `specs/Laws.antt` and `specs/Messages.antt`.
 
+ghost use Rattle.std.specs.Prelude.{◌≤◌, length};
+ghost use Rattle.postcard_cobs.specs.Groups.{NoZero};
+ghost use Rattle.postcard_accumulator.specs.State.{held_of};
 ghost use Rattle.postcard_accumulator.specs.Laws.{AnswersAreOne, CutAtZero, DamageStays};
 ghost use Rattle.postcard_accumulator.specs.Laws.{FeedsAnswer, FramesAreOne, Joined};
 ghost use Rattle.postcard_accumulator.specs.Laws.{NothingAfterZero, Split};
 ghost use Rattle.postcard_accumulator.specs.Messages.{MessagesArrive};
 
+use crate::accumulator::CobsAccumulator;
 use postcard_de::DeserializeOwned;
+
+/// The bytes that an accumulator holds have room in it, and no zero among them.
+pub fn held_fits<const N: usize>(accumulator: &CobsAccumulator<N>)
+    ensures room { length (held_of accumulator.now) ≤ N }
+    ensures no_zero { NoZero (held_of accumulator.now) }
+{
+    let _ = &accumulator.idx;
+}
 
 /// A feed returns the answers of the front that it takes of its piece.
 pub fn feeds_answer<T: DeserializeOwned>()

@@ -8,6 +8,7 @@ ghost use Rattle.postcard_accumulator.specs.Values.{IsOwn, IsReading};
 
 use crate::accumulator::CobsAccumulator;
 use crate::answers::{Answer, FeedResult};
+use crate::laws::held_fits;
 use postcard_de::DeserializeOwned;
 use postcard_de_flavors::Source;
 use std::alloc::Global;
@@ -49,13 +50,13 @@ fn feed_all<T: DeserializeOwned, const N: usize>(
     ensures { IsFedAll N (IsOwn T.shape) acc.old piece.now out.old.items out.new.items acc.new
         result }
 {
-    acc.held_fits();
+    held_fits(acc);
     let mut window = piece;
     'feeds: while !window.is_empty() {
         if out.reserve(1).is_err() {
             return window.len();
         }
-        acc.held_fits();
+        held_fits(acc);
         match acc.feed(alloc, window) {
             FeedResult::Consumed => {
                 return 0;
@@ -105,7 +106,7 @@ pub fn read_frames<R: Source, T: DeserializeOwned, const N: usize>(
     ensures steady_never_fails { R.steady reader.old → result ≢ ReadEnd.ReadFailed }
     ensures stays_steady { R.steady reader.old → R.steady reader.new }
 {
-    acc.held_fits();
+    held_fits(acc);
     for _ in 0..reads {
         let n = match reader.read_some(chunk) {
             Ok(n) => n,

@@ -8,6 +8,7 @@ ghost use Rattle.postcard_crc_frames.specs.Checked.{IsOwn};
 
 use crate::feeding::feed;
 use crc::{Crc, Implementation, Width};
+use postcard_accumulator::laws::held_fits;
 use postcard_accumulator::{Answer, CobsAccumulator, FeedResult, ReadEnd};
 use postcard_de::DeserializeOwned;
 use postcard_de_flavors::Source;
@@ -33,13 +34,13 @@ fn feed_all<T: DeserializeOwned, W: Width, I: Implementation<W>, const N: usize>
     ensures { IsFedAll N (IsOwn T.shape W.size crc.now) acc.old piece.now out.old.items
         out.new.items acc.new result }
 {
-    acc.held_fits();
+    held_fits(acc);
     let mut window = piece;
     'feeds: while !window.is_empty() {
         if out.reserve(1).is_err() {
             return window.len();
         }
-        acc.held_fits();
+        held_fits(acc);
         match feed(alloc, acc, window, crc) {
             FeedResult::Consumed => {
                 return 0;
@@ -89,7 +90,7 @@ pub fn read_frames<R: Source, T: DeserializeOwned, W: Width, I: Implementation<W
     ensures steady_never_fails { R.steady reader.old → result ≢ ReadEnd.ReadFailed }
     ensures stays_steady { R.steady reader.old → R.steady reader.new }
 {
-    acc.held_fits();
+    held_fits(acc);
     for _ in 0..reads {
         let n = match reader.read_some(chunk) {
             Ok(n) => n,

@@ -1,20 +1,12 @@
 //! Byte strings: a length and the bytes, lent or copied.
 
-ghost use Rattle.std.specs.Prelude.{◌≡◌, ℕ, ◌<◌, slice_index};
 ghost use Rattle.postcard_de_nodes.specs.Nodes.{ReadsNode, bytes_node, lent_bytes_node};
 
 use crate::numbers;
 use postcard_de_flavors::Flavor;
+use postcard_wire::laws::in_range;
 use postcard_wire::{Error, Result};
 use std::alloc::Global;
-
-/// Returns the same slice. For the prover: the contract says that each element is below 256.
-pub(crate) fn in_range(bytes: &[u8]) -> &[u8]
-    ensures same { result.now ≡ bytes.now }
-    ensures range { (k : ℕ) → slice_index bytes.now k < 256 }
-{
-    bytes
-}
 
 /// Reads a byte string: its length as a varint, and that many bytes (wire format 1.0, "byte
 /// array"). The slice borrows from what the source borrows, and stays valid after later calls.

@@ -3,9 +3,9 @@
 ghost use Rattle.std.specs.Float.{binary32, binary64};
 ghost use Rattle.postcard_de_nodes.specs.Nodes.{ReadsNode, byte_array_node, float_node};
 
-use crate::bytes::in_range;
 use postcard_de_flavors::Flavor;
 use postcard_wire::Result;
+use postcard_wire::laws::in_range;
 use std::num::{f32_from_bits_with_nan, f64_from_bits_with_nan};
 
 /// Reads an array of `N` bytes at once, without a count.

@@ -1,6 +1,6 @@
 //! Reading a value without parts from JSON.
 
-ghost use Rattle.std.specs.Prelude.{ℕ, ℤ, ◌<◌, ◌^◌, ◌≡◌, IfOk, MatchOption, slice_index, FitsSigned};
+ghost use Rattle.std.specs.Prelude.{ℕ, ℤ, ◌<◌, ◌^◌, ◌≡◌, IfOk, MatchOption, FitsSigned};
 ghost use Rattle.std.specs.Int.{w128};
 ghost use Rattle.postcard_dyn_schema.specs.declared.schema.Leaf.TheVariants as leaves;
 ghost use Rattle.postcard_dyn_schema.specs.Meaning.{leaf as leaf_type};
@@ -15,6 +15,7 @@ ghost use Rattle.postcard_dyn_json.specs.Reading.{IsF32Json, IsF64Json};
 use crate::error::{Expected, JsonError};
 use postcard_dyn::{Leaf, Value};
 use postcard_dyn_text::float::{read_f32, read_f64};
+use postcard_wire::laws::in_range;
 use serde_json::Value as Json;
 use std::alloc::{AllocError, Global};
 use std::num::{f32_to_bits_with_nan, f64_to_bits_with_nan, nearest_f64_to_f32_with_nan};
@@ -266,11 +267,4 @@ fn find_bytes(alloc: Global, json: &Json) -> Result<Option<Value>, AllocError>
         Err(hex::FromHexError::OutOfMemory) => Err(AllocError),
         Err(_) => Ok(None),
     }
-}
-
-/// Does nothing. For the prover: its contract says that each byte is below 256.
-fn in_range(bytes: &[u8])
-    ensures { (k : ℕ) → slice_index bytes.now k < 256 }
-{
-    let _ = bytes;
 }

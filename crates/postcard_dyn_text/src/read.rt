@@ -35,6 +35,7 @@ use crate::quoted::{bytes_of, take_quoted};
 use crate::show::{has_brackets, is_struct, is_unit};
 use postcard_dyn::{Leaf, Schema, Value};
 use postcard_dyn_schema::scan::{character_of, skip_blanks, take, take_word};
+use postcard_wire::laws::in_range;
 use std::alloc::Global;
 use std::fmt;
 
@@ -701,11 +702,4 @@ fn read_bytes(alloc: Global, rest: &mut &[u8]) -> Result<Vec<u8>, Stop<'static>>
         }
         None => Err(Stop::here(start, Expected::Leaf(Leaf::Bytes))),
     }
-}
-
-/// Does nothing. For the prover: its contract says that each byte is below 256.
-fn in_range(bytes: &[u8])
-    ensures { (k : ℕ) → slice_index bytes.now k < 256 }
-{
-    let _ = bytes;
 }

@@ -1,10 +1,10 @@
-//! Laws of spellings. The functions do nothing: their contracts are the laws.
+//! Laws of bytes and of spellings. The functions do nothing: their contracts are the laws.
 //!
 //! A law over any set of trees is about a type that names the set: [`TreeSet`] for trees,
 //! [`PartsSet`] for trees in a row, [`ContentSet`] for the content of an enum by its index.
 
 ghost use Rattle.std.specs.Prelude.{◌≡◌, ℕ, ℤ, ◌+◌, ◌-◌, ◌≤◌, ◌*◌, ◌%◌, ◌^◌, ◌<◌, ◌⊎◌, ◌++◌, ◌∷◌};
-ghost use Rattle.std.specs.Prelude.{[], List, length};
+ghost use Rattle.std.specs.Prelude.{[], List, length, slice_index};
 ghost use Rattle.postcard_wire.specs.Number.{number, zigzag, max_digits, InRange};
 ghost use Rattle.postcard_wire.specs.Tree.{Tree, Trees, Num, WellFormed, IsWidth};
 ghost use Rattle.postcard_wire.specs.Spelling.{Spells, canonical};
@@ -28,6 +28,14 @@ pub trait PartsSet {
 /// A set of trees for each index of an enum.
 pub trait ContentSet {
     ghost holds: { ℕ → Tree → Type 0 };
+}
+
+/// Returns the same slice, each of whose elements is below 256.
+pub fn in_range(bytes: &[u8]) -> &[u8]
+    ensures same { result.now ≡ bytes.now }
+    ensures range { (k : ℕ) → slice_index bytes.now k < 256 }
+{
+    bytes
 }
 
 /// Each well-formed tree has one shortest spelling, and every other is longer.

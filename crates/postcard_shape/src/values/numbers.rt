@@ -1,6 +1,6 @@
 //! The shapes of numbers of a fixed width.
 
-ghost use Rattle.std.specs.Prelude.{◌≡◌, ℕ, ◌<◌, ◌≤◌, length, take, refl, slice_index};
+ghost use Rattle.std.specs.Prelude.{◌≡◌, ◌<◌, ◌≤◌, length, take, refl};
 ghost use Rattle.std.specs.Prelude.{IfErr, IfOk, IfSome, IsSome};
 ghost use Rattle.std.specs.Option.{IfNone};
 ghost use Rattle.std.proofs.Common.{inl, inr};
@@ -11,15 +11,8 @@ ghost use Rattle.postcard_shape.specs.Lists.{Appends};
 use crate::first::FirstBytes;
 use crate::shape::Shaped;
 use crate::{pieces, runs};
+use postcard_wire::laws::in_range;
 use postcard_wire::{Error, Result};
-
-/// Returns the same slice. Its contract tells the prover that each element is below 256.
-fn in_range(bytes: &[u8]) -> &[u8]
-    ensures same { result.now ≡ bytes.now }
-    ensures range { (k : ℕ) → slice_index bytes.now k < 256 }
-{
-    bytes
-}
 
 impl Shaped for u8 {
     ghost shape = { byte };

@@ -21,7 +21,7 @@ returns-in-Ok c =
     let form : d ≡ string text = string_is d text (rw c.in-Some.is at c.as_str.ensures) in
     let seen : tree (Bytes v) ≡ bytes_tree v.items = search (rules, the_lemmas) in
     let few : length v.items < 2 ^ 64 = omega (arith, v.small) in
-    let range = subst (λ bs. (k : ℕ) → slice_index bs k < 256) c.deref.ensures.value c.in_range.ensures in
+    let range = subst (λ bs. (k : ℕ) → slice_index bs k < 256) c.deref.ensures.value c.in_range.ensures.range in
     let list : IsSeq IsByte (bytes_tree v.items) = subst (IsSeq IsByte) seen (is_bytes v.items (Bytes v) seen few range) in
     let decoded : decode_of text ≡ Ok v.items = rw c.as_bytes.ensures.value at c.in-Ok.ensures.ok in
     rw seen (only_by bytes_tree (LeafReading leaves.Bytes) (λ bytes. (s : List ℕ) × (d ≡ string s) × (decode_of s ≡ Ok bytes)) v.items d (bytes_form d) (list, (v.items, text, refl, form, decoded))
