@@ -7,22 +7,10 @@ ghost use Rattle.postcard_de_nodes.specs.Reads.{ReadsMore};
 use postcard_de_flavors::Flavor;
 use postcard_shape::Shaped;
 use postcard_wire::{Error, Result};
-use std::mem::size_of;
 
 /// How many elements are read one by one before reading many is tried again. If fewer than twice as
 /// many are left, all are read one by one.
 const PAUSE: usize = 16;
-
-/// Returns how many elements of a list of `count` are to be read one by one before reading many is
-/// tried: all of a short one, unless they are bytes, which are copied.
-#[inline(always)]
-pub fn first_pause<T>(count: usize) -> usize {
-    if count < 2 * PAUSE && size_of::<T>() > 1 {
-        count
-    } else {
-        0
-    }
-}
 
 /// Reads some of the next elements of a list at once, at most `most` of them, and appends them to
 /// `items`, if the source has them in memory ([`Flavor::at_hand`]) and the type takes them from

@@ -61,7 +61,7 @@ impl<'de, F: Flavor> Deserializer<'de, F> {
         // Each element has at least one byte, except for types that write nothing.
         let first = self.flavor.at_hand().len().clamp(16, 128);
         let mut items = Vec::new(alloc);
-        let mut pause = lists::first_pause::<T>(count);
+        let mut pause = 0;
         'elements: while items.len() < count {
             let left = count - items.len();
             let some = lists::append_at_hand(&mut items, &mut self.flavor, left, &mut pause)?;
