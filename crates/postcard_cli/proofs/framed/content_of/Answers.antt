@@ -9,7 +9,7 @@ returns-in-Ok-clause-unpacked g c =
     let whole = rw (c.deref_mut.ensures.value, c.in_ok-extend_from_slice.ensures.items, c.new-content.ensures.items) at c.in-Ok.ensures.gives in
     rw c.truncate.ensures.items (decoded c.args.frame.now c.decode_in_place.new.buf c.in-Ok.count c.requires whole)
 
-pub returns-in-Err-clause-refused : goal.returns-in-Err-clause-refused
-returns-in-Err-clause-refused g c =
+pub returns-in_ok-write-in-Err-clause-refused : goal.returns-in_ok-write-in-Err-clause-refused
+returns-in_ok-write-in-Err-clause-refused g c =
     let none = rw (c.deref_mut.ensures.value, c.in_ok-extend_from_slice.ensures.items, c.new-content.ensures.items) at c.in-Err.ensures.no_groups in
     (λ content groups. none content (rw (before_zero_all c.args.frame.now c.requires) groups), Appends-trans _ _ _ _ _ c.in_ok-write_all.ensures.bytes c.in_ok-write.ensures)

@@ -10,18 +10,18 @@ unwrap-frame-requires c = let n = ap length c.new.ensures in c.try_new.ensures.h
 pub unwrap-requires : goal.unwrap-requires
 unwrap-requires c =
     let opened = rw (c.unwrap-frame.ensures, c.new.ensures) at c.try_new.ensures.opens_after_held in
-    c.try_extend.ensures.has_room (frame_room _ _ _ _ c.deref.result.now c.deref.ensures.1 opened)
+    c.try_extend.ensures.pushed.has_room (frame_room _ _ _ _ c.deref.result.now c.deref.ensures.1 opened)
 
 pub unwrap-requires-2 : goal.unwrap-requires-2
 unwrap-requires-2 c =
     let opened = rw (c.unwrap-frame.ensures, c.new.ensures) at c.try_new.ensures.opens_after_held in
     let room = frame_room _ _ _ _ c.deref.result.now c.deref.ensures.1 opened in
-    let appended = rw c.unwrap.ensures at c.try_extend.ensures.appends in
-    c.finalize.ensures.closes (room_of_rest c.deref.result.now [] (with_none c.deref.result.now room) (appended room.before room.d room.holds) c.try_extend.ensures.leaves)
+    let appended = rw c.unwrap.ensures at c.try_extend.ensures.pushed.appends in
+    c.finalize.ensures.finalized.closes (room_of_rest c.deref.result.now [] (with_none c.deref.result.now room) (appended room.before room.d room.holds) c.try_extend.ensures.pushed.leaves)
 
 pub returns : goal.returns
 returns c =
     let opened = rw (c.unwrap-frame.ensures, c.new.ensures) at c.try_new.ensures.opens_after_held in
-    let appended = rw c.unwrap.ensures at c.try_extend.ensures.appends in
-    let ended = (rw c.unwrap-2.ensures at c.finalize.ensures.gives) [] c.deref.result.now (appended [] [] opened) in
+    let appended = rw c.unwrap.ensures at c.try_extend.ensures.pushed.appends in
+    let ended = (rw c.unwrap-2.ensures at c.finalize.ensures.finalized.gives) [] c.deref.result.now (appended [] [] opened) in
     is_frame _ _ (rw c.deref.ensures.0 at (ended.3 ∙ ended.1))
