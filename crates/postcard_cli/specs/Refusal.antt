@@ -61,9 +61,12 @@ pub record IsTypeRefused (expression : List ℕ) (old new : Option (List ℕ)) :
   pub most : error.character ≤ characters expression + 1
   pub printed : Appends old new (expression_error_text error ++ codes ": ")
 
--- The expression is refused since messages of its type have no bytes.
-abbrev pub HasNoBytes : List ℕ → Type 0
-HasNoBytes expression = (schema : Schema) × IsExpression schema expression × (has_bytes (type_of schema) ≡ false)
+-- The expression is refused since messages of its type have no bytes, and that was printed.
+pub record HasNoBytes (expression : List ℕ) (old new : Option (List ℕ)) : Type 0 where
+  pub schema : Schema
+  pub spelled : IsExpression schema expression
+  pub none : has_bytes (type_of schema) ≡ false
+  pub printed : Appends old new (codes "messages of this type have no bytes: ")
 
 -- The text is a type expression.
 abbrev pub IsType : List ℕ → Type 0
@@ -71,7 +74,7 @@ IsType expression = (schema : Schema) × IsExpression schema expression
 
 -- The failures of reading the type expression of records.
 abbrev pub RecordTypeFails : List ℕ → Option (List ℕ) → Option (List ℕ) → Failure → Type 0
-RecordTypeFails expression old new BadType = IsTypeRefused expression old new ⊎ HasNoBytes expression
+RecordTypeFails expression old new BadType = IsTypeRefused expression old new ⊎ HasNoBytes expression old new
 RecordTypeFails expression old new (Library e) = e ≡ OutOfMemory
 RecordTypeFails expression old new Output = ⊤
 RecordTypeFails expression old new failure = ⊥
@@ -192,7 +195,7 @@ FirstFails Unread IsGiven expression old new failure = ⊥
 
 -- The same of all values.
 abbrev pub AllFail : (Failure → Type 0) → (List ℕ → Type 0) → List ℕ → Option (List ℕ) → Option (List ℕ) → Failure → Type 0
-AllFail Unread IsGiven expression old new BadType = IsTypeRefused expression old new ⊎ HasNoBytes expression
+AllFail Unread IsGiven expression old new BadType = IsTypeRefused expression old new ⊎ HasNoBytes expression old new
 AllFail Unread IsGiven expression old new (BadHexAt n) = IsType expression × Unread (BadHexAt n)
 AllFail Unread IsGiven expression old new ReadFailed = IsType expression × Unread ReadFailed
 AllFail Unread IsGiven expression old new Limit = IsType expression × Unread Limit

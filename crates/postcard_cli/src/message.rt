@@ -58,8 +58,13 @@ pub fn schema_of<W: Write>(alloc: Global, text: &str, output: &mut W) -> Result<
 ///
 /// # Errors
 ///
-/// Fails as [`schema_of`] does, and with `BadType` if messages of the type have no bytes.
-fn schema_of_records<W: Write>(alloc: Global, text: &str, output: &mut W) -> Result<Schema, Failure>
+/// Fails as [`schema_of`] does, and with `BadType` if messages of the type have no bytes, after this
+/// is printed.
+pub fn schema_of_records<W: Write>(
+    alloc: Global,
+    text: &str,
+    output: &mut W,
+) -> Result<Schema, Failure>
     ensures spelled { IfOk result (λ schema. IsExpression schema text.now) }
     ensures has_some { IfOk result (λ schema. has_bytes (type_of schema) ≡ true) }
     ensures untouched { OnOk result (output.new ≡ output.old) }
