@@ -215,7 +215,12 @@ const STOPPED: [Call; 13] = [
     ),
     (&["explain", "u8", ""], b"", EMPTY_REFUSED, 1),
     (&["explain", "u7", "00"], b"", UNKNOWN, 2),
-    (&["explain", "u8", "0"], b"", "at character 1: bad hex\n", 2),
+    (
+        &["explain", "u8", "0"],
+        b"",
+        "at character 1: expected two hex digits: bad hex\n",
+        2,
+    ),
     (&["explain", "u8"], b"", USAGE, 2),
     (&["explain", "--most", "u8", "00"], b"", USAGE, 2),
     (&["explain", "--all", "u8", "00", "00"], b"", USAGE, 2),
