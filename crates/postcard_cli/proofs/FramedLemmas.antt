@@ -1,5 +1,6 @@
 -- Lemmas on frames that are words of a call: the room that a frame has, and which failure comes when.
-use Rattle.std.proofs.Common.{◌≡◌, inl, inr, sym, subst, ap, arith, ℕ, ◌+◌, ◌≤◌, List, [], ◌++◌, length, append-nil, Bool, Option}
+use Rattle.std.proofs.Common.{◌≡◌, inl, inr, sym, subst, ap, ◌∙◌, arith, ℕ, ◌+◌, ◌≤◌, List, [], ◌++◌, length, length-append, append-nil, take, Bool, Option}
+use Rattle.std.proofs.lemmas.List.{take-take, take-append-le}
 use Rattle.postcard_cobs.specs.Groups.{EndsFrame, Groups, IsMade, Standing, made}
 use Rattle.postcard_cobs.proofs.Made.{made_is_made, made_length}
 use Rattle.postcard_ser_cobs.specs.Framing.{HoldsOpen, HasFrameRoom}
@@ -38,6 +39,16 @@ with_none xs room =
 -- What the encoder makes is the frame by its definition.
 pub is_frame : (xs frame : List ℕ) → frame ≡ made xs → IsMade xs frame
 is_frame xs frame is = subst (λ (m : List ℕ). IsMade xs m) (sym is) (made_is_made xs)
+
+-- ---- the data of a frame
+
+-- Of a list with another behind it, cut to a length that leaves this front, the front is that of the list.
+pub front_kept : (count len : ℕ) (whole behind front rest : List ℕ) → count ≤ len → count ≡ length front → whole ≡ front ++ rest
+    → take count (take len (whole ++ behind)) ≡ take count whole
+front_kept count len whole behind front rest fits is joins =
+    let n = ap length joins ∙ length-append front rest in
+    let within : count ≤ length whole = omega arith in
+    take-take count len (whole ++ behind) fits ∙ take-append-le count whole behind within
 
 -- ---- failures of `dec --frame`
 
