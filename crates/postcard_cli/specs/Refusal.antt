@@ -12,6 +12,7 @@ use Rattle.postcard_de.specs.Front.{ReadsFront}
 use Rattle.postcard_de.specs.Reads.{IsReadError}
 use Rattle.postcard_dyn_schema.specs.declared.schema.Schema.{Schema}
 use Rattle.postcard_dyn_schema.specs.declared.error.ExpressionError.{ExpressionError}
+use Rattle.postcard_dyn_schema.specs.declared.error.Problem.{Problem}
 use Rattle.postcard_dyn_schema.specs.declared.error.Problem.TheVariants as problems
 use Rattle.postcard_dyn_schema.specs.Grammar.{IsExpression}
 use Rattle.postcard_dyn_schema.specs.Meaning.{type_of, has_bytes, reads}
@@ -52,14 +53,19 @@ use Rattle.postcard_cli.specs.declared.failure.Failure.TheVariants as failed
 
 -- ---- TYPE
 
--- The expression is refused, and what is wrong with it and where was printed. The place is that of
+-- What is printed behind a problem of an expression: of an unknown type, what would do.
+abbrev pub hint_text : Problem → List ℕ
+hint_text problems.UnknownType = codes ", pcard types lists them, and a variant alone has a `|` before it"
+hint_text problem = []
+
+-- The expression is refused, and what is wrong with it and where was printed, and a hint. The place is that of
 -- a character, counted from 1, or the next after the last.
 pub record IsTypeRefused (expression : List ℕ) (old new : Option (List ℕ)) : Type 0 where
   pub error : ExpressionError
   pub not_memory : error.problem ≢ problems.OutOfMemory
   pub least : 1 ≤ error.character
   pub most : error.character ≤ characters expression + 1
-  pub printed : Appends old new (expression_error_text error ++ codes ": ")
+  pub printed : Appends old new (expression_error_text error ++ (hint_text error.problem ++ codes ": "))
 
 -- The expression is refused since messages of its type have no bytes, and that was printed.
 pub record HasNoBytes (expression : List ℕ) (old new : Option (List ℕ)) : Type 0 where

@@ -14,7 +14,7 @@ ghost use Rattle.postcard_cli.specs.Message.{PrintsFront, ReadsValue};
 ghost use Rattle.postcard_cli.specs.Refusal.{DecodeAllFails, DecodeFails, EncodeFails, FrontFails};
 ghost use Rattle.postcard_cli.specs.Refusal.{DecodeCheckedFails, EncodeCheckedFails, TrailerFails};
 ghost use Rattle.postcard_cli.specs.Refusal.{DecodeAllRawFails, DecodeRawFails, EachFails};
-ghost use Rattle.postcard_cli.specs.Refusal.{RecordTypeFails, TypeFails};
+ghost use Rattle.postcard_cli.specs.Refusal.{RecordTypeFails, TypeFails, hint_text};
 
 use crate::checksum::Checksum;
 use crate::failure::Failure;
@@ -30,7 +30,8 @@ use postcard_wire::Error;
 use std::alloc::Global;
 use std::io::Write;
 
-/// Reads a type expression. If it is misspelled, prints what is wrong and where.
+/// Reads a type expression. If it is misspelled, prints what is wrong and where, and of an unknown
+/// type what would do.
 ///
 /// # Errors
 ///
@@ -47,10 +48,23 @@ pub fn schema_of<W: Write>(alloc: Global, text: &str, output: &mut W) -> Result<
         Err(error) => match error.problem {
             Problem::OutOfMemory => Err(Failure::from(Error::OutOfMemory)),
             _ => {
-                write!(output, "{error}: ")?;
+                let hint = hint_of(error.problem);
+                write!(output, "{error}{hint}: ")?;
                 Err(Failure::BadType)
             }
         },
+    }
+}
+
+/// Returns what to print behind a problem of a type expression, if it doesn't say what would do.
+fn hint_of(problem: Problem) -> &'static str
+    ensures { result.now ≡ hint_text problem }
+{
+    match problem {
+        Problem::UnknownType => {
+            ", pcard types lists them, and a variant alone has a `|` before it"
+        }
+        _ => "",
     }
 }
 

@@ -188,7 +188,7 @@ const ENCODE: [Call; 22] = [
     (
         &["enc", "u9?", "1"],
         b"",
-        "unknown type at character 1: bad type\n",
+        "unknown type at character 1, pcard types lists them, and a variant alone has a `|` before it: bad type\n",
         2,
     ),
     (&["enc", "usize", "1"], b"", USAGE, 2),
@@ -226,7 +226,7 @@ const DECODE: [Call; 9] = [
     (
         &["dec", "(u9)", "0"],
         b"",
-        "unknown type at character 2: bad type\n",
+        "unknown type at character 2, pcard types lists them, and a variant alone has a `|` before it: bad type\n",
         2,
     ),
 ];
