@@ -156,7 +156,8 @@ const EMPTY_REFUSED: &str = "\
 at byte 0: Hit the end of buffer, expected more data
 ";
 
-const UNKNOWN: &str = "unknown type at character 1, pcard types lists them, and a variant alone has a `|` before it: bad type\n";
+const UNKNOWN: &str =
+    "unknown type at character 1, pcard types lists them, and a variant alone has a `|` before it: bad type\n";
 
 /// Calls that print a value.
 const EXPLAINED: [Call; 13] = [
