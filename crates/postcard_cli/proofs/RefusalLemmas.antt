@@ -20,7 +20,7 @@ use Rattle.postcard_dyn_schema.specs.Grammar.{IsExpression}
 use Rattle.postcard_cli.specs.Refusal.{IsTooLong, PrintingFails, DecodingFails, NamedDecodeFails, Converts, CommandFails, CallFails, HexFails, InputFails, IsDigitText, FrontFails, FirstFails, EachFails, AllFail, DecodeFails, DecodeAllFails, DecodeRawFails, DecodeAllRawFails}
 use Rattle.postcard_cli.specs.declared.program.Task.TheVariants as tasks
 use Rattle.postcard_cli.specs.declared.failure.Failure.{Failure}
-use Rattle.postcard_cli.specs.declared.failure.Failure.TheVariants.{Usage, BadHexAt, Library, Output}
+use Rattle.postcard_cli.specs.declared.failure.Failure.TheVariants.{Usage, BadHexAt, Library, Refused, Output}
 use Rattle.postcard_cli.specs.declared.command.TypeWord.TheVariants.{Named, Expression}
 use Rattle.postcard_cli.specs.declared.command.Command.{Command}
 use Rattle.postcard_cli.specs.declared.command.Command.TheVariants.{Encode, Decode, DecodeAll, EncodeChecked, DecodeChecked, EncodeJson, DecodeJson, DecodeAllJson, EncodeFramed, DecodeFramed, EncodeRaw, DecodeRaw, DecodeAllRaw, Frames, FramesOf, FramesChecked, FramesHex, Explain, Size, Types, Checksum, Catalog}
@@ -120,8 +120,7 @@ digits_fail reads steady hex digits known left (Err e) text (inr is) = subst (He
 -- A failure at the first message: no value is before it.
 first_of : (Unread : Failure → Type 0) (IsGiven : List ℕ → Type 0) (expression : List ℕ) (old new : Option (List ℕ)) (schema : Schema) (bytes : List ℕ) (e : Failure)
     → IsExpression schema expression → IsGiven bytes → FrontFails schema bytes bytes old new e → FirstFails Unread IsGiven expression old new e
-first_of Unread IsGiven expression old new schema bytes (Library e) spelled given (inl memory) = inl memory
-first_of Unread IsGiven expression old new schema bytes (Library e) spelled given (inr (shown, refused, printed)) = inr (
+first_of Unread IsGiven expression old new schema bytes Refused spelled given (shown, refused, printed) = (
   record {
     schema = schema;
     spelled = spelled;
@@ -131,6 +130,7 @@ first_of Unread IsGiven expression old new schema bytes (Library e) spelled give
   },
   refl,
 )
+first_of Unread IsGiven expression old new schema bytes (Library e) spelled given h = h
 first_of Unread IsGiven expression old new schema bytes Output spelled given h = tt
 first_of Unread IsGiven expression old new schema bytes failure spelled given h = absurd h
 
@@ -149,24 +149,24 @@ first_raw_fails reads steady expression known left old new schema bytes e spelle
 -- A failure at a later message: the values before it are printed.
 pub later_fails : (schema : Schema) (bytes rest : List ℕ) (old mid new : Option (List ℕ)) (e : Failure) → Decoded schema bytes rest old mid
     → FrontFails schema bytes rest mid new e → EachFails schema bytes old new e
-later_fails schema bytes rest old mid new (Library e) d (inl memory) = inl memory
-later_fails schema bytes rest old mid new (Library e) d (inr (shown, refused, printed)) = inr (record {
+later_fails schema bytes rest old mid new Refused d (shown, refused, printed) = record {
   values = d.values;
   rest = rest;
   are = d.are;
   shown = shown;
   refused = refused;
   printed = prints_both (lines_of schema d.values) (Some shown) old mid new d.printed printed;
-})
+}
+later_fails schema bytes rest old mid new (Library e) d h = h
 later_fails schema bytes rest old mid new Output d h = tt
 later_fails schema bytes rest old mid new failure d h = absurd h
 
 -- A failure at one of the messages.
 each_of : (Unread : Failure → Type 0) (IsGiven : List ℕ → Type 0) (expression : List ℕ) (old new : Option (List ℕ)) (schema : Schema) (bytes : List ℕ) (e : Failure)
     → IsExpression schema expression → IsGiven bytes → EachFails schema bytes old new e → AllFail Unread IsGiven expression old new e
-each_of Unread IsGiven expression old new schema bytes (Library e) spelled given (inl memory) = inl memory
-each_of Unread IsGiven expression old new schema bytes (Library e) spelled given (inr stopped) =
-    inr (record { schema = schema; spelled = spelled; bytes = bytes; given = given; stopped = stopped })
+each_of Unread IsGiven expression old new schema bytes Refused spelled given stopped =
+    record { schema = schema; spelled = spelled; bytes = bytes; given = given; stopped = stopped }
+each_of Unread IsGiven expression old new schema bytes (Library e) spelled given h = h
 each_of Unread IsGiven expression old new schema bytes Output spelled given h = tt
 each_of Unread IsGiven expression old new schema bytes failure spelled given h = absurd h
 

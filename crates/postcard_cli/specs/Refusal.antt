@@ -38,7 +38,7 @@ use Rattle.postcard_cli.specs.JsonMessage.{PrintsJsonLines, SpellsJson, refusal_
 use Rattle.postcard_cli.specs.Message.{lines_of, IsInput, Prints, ReadsValue, ReadsValues, StandsFor}
 use Rattle.postcard_cli.specs.Place.{IsPathOf, IsPlaceOf}
 use Rattle.postcard_cli.specs.Program.{Does, Form, form_of, PrintsCall}
-use Rattle.postcard_cli.specs.Stream.{IsNamed, IsPlain, PrintsSoFar, reason_text}
+use Rattle.postcard_cli.specs.Stream.{IsNamed, IsPlain, PrintsSoFar, reason_text, refused_text}
 use Rattle.postcard_cli.specs.declared.checksum.Checksum.{Checksum}
 use Rattle.postcard_cli.specs.declared.program.Task.{Task}
 use Rattle.postcard_cli.specs.declared.program.Task.TheVariants as tasks
@@ -148,45 +148,50 @@ EncodeFails expression word old new (Library e) = (e ≡ OutOfMemory) ⊎ ((e �
 EncodeFails expression word old new Output = ⊤
 EncodeFails expression word old new failure = ⊥
 
--- No front of `rest`, which are the last of the bytes `all`, spells a value of the schema; the
--- library's error is `e`, and the text of the place in `all` of the part that can't be read is
--- `shown`.
-pub record IsRefusedAt (schema : Schema) (all rest : List ℕ) (e : Error) (shown : List ℕ) : Type 0 where
+-- No front of `rest`, which are the last of the bytes `all`, spells a value of the schema; which part can't be read, its place in
+-- `all`, and why are `shown`.
+pub record IsRefusedAt (schema : Schema) (all rest shown : List ℕ) : Type 0 where
   pub no_value : (v : Value) (more : List ℕ) → ReadsValue schema rest v more → ⊥
-  pub named : IsReadError memory e
+  pub error : Error
+  pub named : IsReadError memory error
+  pub not_memory : error ≢ OutOfMemory
   pub offset : ℕ
   pub within : offset ≤ length rest
-  pub is : shown ≡ codes "at byte " ++ (decimal (min ((length all - length rest) + offset) (2 ^ 64 - 1)) ++ codes ": ")
+  pub place : List ℕ
+  pub is_place : IsPlaceOf schema rest place
+  pub is : shown ≡ refused_text (min ((length all - length rest) + offset) (2 ^ 64 - 1)) place error
 
 -- The failures of reading and printing the value at the front of `rest`.
 abbrev pub FrontFails : Schema → List ℕ → List ℕ → Option (List ℕ) → Option (List ℕ) → Failure → Type 0
-FrontFails schema all rest old new (Library e) =
-    (e ≡ OutOfMemory) ⊎ ((shown : List ℕ) × IsRefusedAt schema all rest e shown × Appends old new shown)
+FrontFails schema all rest old new Refused = (shown : List ℕ) × IsRefusedAt schema all rest shown × Appends old new shown
+FrontFails schema all rest old new (Library e) = e ≡ OutOfMemory
 FrontFails schema all rest old new Output = ⊤
 FrontFails schema all rest old new failure = ⊥
 
--- The bytes are values of the schema, and then bytes of which no front is one: the lines of the values and the place were printed.
-pub record StopsPrinting (schema : Schema) (bytes : List ℕ) (old new : Option (List ℕ)) (e : Error) : Type 0 where
+-- The bytes are values of the schema, and then bytes of which no front is one: the lines of the values and that of the refusal,
+-- without its end, were printed.
+pub record StopsPrinting (schema : Schema) (bytes : List ℕ) (old new : Option (List ℕ)) : Type 0 where
   pub values : List Value
   pub rest : List ℕ
   pub are : ReadsValues schema bytes values rest
   pub shown : List ℕ
-  pub refused : IsRefusedAt schema bytes rest e shown
+  pub refused : IsRefusedAt schema bytes rest shown
   pub printed : Prints (lines_of schema values ++? Some shown) old new
 
 -- The failures of reading and printing all values of the bytes.
 abbrev pub EachFails : Schema → List ℕ → Option (List ℕ) → Option (List ℕ) → Failure → Type 0
-EachFails schema bytes old new (Library e) = (e ≡ OutOfMemory) ⊎ StopsPrinting schema bytes old new e
+EachFails schema bytes old new Refused = StopsPrinting schema bytes old new
+EachFails schema bytes old new (Library e) = e ≡ OutOfMemory
 EachFails schema bytes old new Output = ⊤
 EachFails schema bytes old new failure = ⊥
 
 -- So are the bytes that are `IsGiven`, as messages of the expression.
-pub record IsMessageRefused (IsGiven : List ℕ → Type 0) (expression : List ℕ) (old new : Option (List ℕ)) (e : Error) : Type 0 where
+pub record IsMessageRefused (IsGiven : List ℕ → Type 0) (expression : List ℕ) (old new : Option (List ℕ)) : Type 0 where
   pub schema : Schema
   pub spelled : IsExpression schema expression
   pub bytes : List ℕ
   pub given : IsGiven bytes
-  pub stopped : StopsPrinting schema bytes old new e
+  pub stopped : StopsPrinting schema bytes old new
 
 -- The failures of decoding the first value of the bytes that are `IsGiven`, where `Unread` are the failures of reading these.
 abbrev pub FirstFails : (Failure → Type 0) → (List ℕ → Type 0) → List ℕ → Option (List ℕ) → Option (List ℕ) → Failure → Type 0
@@ -194,8 +199,9 @@ FirstFails Unread IsGiven expression old new BadType = IsTypeRefused expression 
 FirstFails Unread IsGiven expression old new (BadHexAt n) = IsType expression × Unread (BadHexAt n)
 FirstFails Unread IsGiven expression old new ReadFailed = IsType expression × Unread ReadFailed
 FirstFails Unread IsGiven expression old new Limit = IsType expression × Unread Limit
-FirstFails Unread IsGiven expression old new (Library e) =
-    (e ≡ OutOfMemory) ⊎ ((refused : IsMessageRefused IsGiven expression old new e) × (refused.stopped.values ≡ []))
+FirstFails Unread IsGiven expression old new Refused =
+    (refused : IsMessageRefused IsGiven expression old new) × (refused.stopped.values ≡ [])
+FirstFails Unread IsGiven expression old new (Library e) = e ≡ OutOfMemory
 FirstFails Unread IsGiven expression old new Output = ⊤
 FirstFails Unread IsGiven expression old new failure = ⊥
 
@@ -205,7 +211,8 @@ AllFail Unread IsGiven expression old new BadType = IsTypeRefused expression old
 AllFail Unread IsGiven expression old new (BadHexAt n) = IsType expression × Unread (BadHexAt n)
 AllFail Unread IsGiven expression old new ReadFailed = IsType expression × Unread ReadFailed
 AllFail Unread IsGiven expression old new Limit = IsType expression × Unread Limit
-AllFail Unread IsGiven expression old new (Library e) = (e ≡ OutOfMemory) ⊎ IsMessageRefused IsGiven expression old new e
+AllFail Unread IsGiven expression old new Refused = IsMessageRefused IsGiven expression old new
+AllFail Unread IsGiven expression old new (Library e) = e ≡ OutOfMemory
 AllFail Unread IsGiven expression old new Output = ⊤
 AllFail Unread IsGiven expression old new failure = ⊥
 
@@ -234,7 +241,8 @@ ExplainFails reads steady expression hex all known left old new BadType = IsType
 ExplainFails reads steady expression hex all known left old new (BadHexAt n) = IsType expression × HexFails reads steady hex known left (BadHexAt n)
 ExplainFails reads steady expression hex all known left old new ReadFailed = IsType expression × HexFails reads steady hex known left ReadFailed
 ExplainFails reads steady expression hex all known left old new Limit = IsType expression × HexFails reads steady hex known left Limit
-ExplainFails reads steady expression hex all known left old new (Library e) = (e ≡ OutOfMemory) ⊎ (e ≡ WontImplement) ⊎ IsExplainRefused expression hex all known left old new e
+ExplainFails reads steady expression hex all known left old new Refused = IsExplainRefused expression hex all known left old new
+ExplainFails reads steady expression hex all known left old new (Library e) = (e ≡ OutOfMemory) ⊎ (e ≡ WontImplement)
 ExplainFails reads steady expression hex all known left old new Output = ⊤
 ExplainFails reads steady expression hex all known left old new failure = ⊥
 
@@ -284,7 +292,7 @@ pub record IsTrailerRefused (name expression hex : List ℕ) (known left old new
 abbrev pub DecodeCheckedFails : ℕ → Type 0 → List ℕ → List ℕ → List ℕ → Option (List ℕ) → Option (List ℕ) → Option (List ℕ) → Option (List ℕ) → Failure → Type 0
 DecodeCheckedFails reads steady name expression hex known left old new UnknownChecksum = IsUnnamed name old new
 DecodeCheckedFails reads steady name expression hex known left old new (Library e) =
-    DecodeFails reads steady expression hex known left old new (Library e) ⊎ IsTrailerRefused name expression hex known left old new e
+    (e ≡ OutOfMemory) ⊎ IsTrailerRefused name expression hex known left old new e
 DecodeCheckedFails reads steady name expression hex known left old new failure = DecodeFails reads steady expression hex known left old new failure
 
 -- ---- JSON
@@ -511,6 +519,7 @@ StreamCheckedFails steady name expression known left old new failure =
 -- The failures of `frames --hex`. `OutOfMemory` is the one of an allocation for a frame or its line.
 abbrev pub FramesHexFail : ℕ → Type 0 → List ℕ → List ℕ → Option (List ℕ) → Option (List ℕ) → Option (List ℕ) → Option (List ℕ) → Failure → Type 0
 FramesHexFail reads steady expression hex known left old new failed.OutOfMemory = ⊤
+FramesHexFail reads steady expression hex known left old new Refused = ⊥
 FramesHexFail reads steady expression hex known left old new (Library e) = e ≡ OutOfMemory
 FramesHexFail reads steady expression hex known left old new failure = DecodeFails reads steady expression hex known left old new failure
 

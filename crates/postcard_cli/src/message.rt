@@ -2,6 +2,7 @@
 //! or `--crc`.
 
 ghost use Rattle.std.specs.Prelude.{◌≡◌, ◌≤◌, ◌-◌, IfOk, IfErr, OnOk, length, take, true};
+ghost use Rattle.std.specs.Io.KnownBytes.{Appends};
 ghost use Rattle.postcard_dyn_schema.specs.Grammar.{IsExpression};
 ghost use Rattle.postcard_dyn_schema.specs.Meaning.{has_bytes, type_of};
 ghost use Rattle.postcard_dyn.specs.declared.value.Value.{Value};
@@ -15,10 +16,13 @@ ghost use Rattle.postcard_cli.specs.Refusal.{DecodeAllFails, DecodeFails, Encode
 ghost use Rattle.postcard_cli.specs.Refusal.{DecodeCheckedFails, EncodeCheckedFails, TrailerFails};
 ghost use Rattle.postcard_cli.specs.Refusal.{DecodeAllRawFails, DecodeRawFails, EachFails};
 ghost use Rattle.postcard_cli.specs.Refusal.{RecordTypeFails, TypeFails, hint_text};
+ghost use Rattle.postcard_cli.specs.Stream.{refused_text};
 
 use crate::checksum::Checksum;
 use crate::failure::Failure;
+use crate::place::place_of;
 use crate::program::BUFFER;
+use crate::reason::reason;
 use crate::stream::READS;
 use crate::{checksum, hexadecimal};
 use arrayvec::ArrayVec;
@@ -202,8 +206,8 @@ pub fn encoding_of<W: Write>(
 ///
 /// # Errors
 ///
-/// Fails as [`schema_of`] and [`hexadecimal::read_loose`] do, and with `Library` if the bytes begin
-/// with no message of the type, after the place of the error is printed.
+/// Fails as [`schema_of`] and [`hexadecimal::read_loose`] do, and with `Refused` if the bytes begin
+/// with no message of the type, after which part can't be read, where, and why are printed.
 pub fn decode<R: Source, W: Write>(
     alloc: Global,
     expression: &str,
@@ -226,8 +230,8 @@ pub fn decode<R: Source, W: Write>(
 ///
 /// # Errors
 ///
-/// Fails as [`schema_of`] and [`hexadecimal::read_input`] do, and with `Library` if the bytes begin
-/// with no message of the type, after the place of the error is printed.
+/// Fails as [`schema_of`] and [`hexadecimal::read_input`] do, and with `Refused` if the bytes begin
+/// with no message of the type, after which part can't be read, where, and why are printed.
 pub fn decode_raw<R: Source, W: Write>(
     alloc: Global,
     expression: &str,
@@ -394,7 +398,7 @@ fn print_all<W: Write>(
 
 /// Decodes a value from the front of `rest`, the last of the bytes `all`, and prints it on a line.
 /// Returns the bytes after it. If the bytes are refused, prints the offset in `all` of the part that
-/// can't be read.
+/// can't be read, its place, and why.
 fn print_front<'a, W: Write>(
     alloc: Global,
     schema: &Schema,
@@ -414,7 +418,8 @@ fn print_front<'a, W: Write>(
 }
 
 /// Decodes a value from the front of `rest`, the last of the bytes `all`. Returns it, and the bytes
-/// after it. If the bytes are refused, prints the offset in `all` of the part that can't be read.
+/// after it. If the bytes are refused, prints the offset in `all` of the part that can't be read, its
+/// place, and why.
 fn read_front<'a, W: Write>(
     alloc: Global,
     schema: &Schema,
@@ -433,10 +438,28 @@ fn read_front<'a, W: Write>(
         Err(error) => {
             let before = all.len().saturating_sub(rest.len());
             let offset = before.saturating_add(refused_at(alloc, schema, rest)?);
-            write!(output, "at byte {offset}: ")?;
-            Err(Failure::from(error))
+            let place = place_of(alloc, schema, rest)?;
+            print_refused(offset, &place, &error, output)?;
+            Err(Failure::Refused)
         }
     }
+}
+
+/// Prints of a refused message the offset of the part that can't be read, its place, and why, without
+/// the end of the line.
+pub fn print_refused<W: Write>(
+    offset: usize,
+    place: &str,
+    error: &Error,
+    output: &mut W,
+) -> Result<(), Failure>
+    ensures printed { OnOk result (Appends (W.contents output.old) (W.contents output.new)
+        (refused_text offset place.now error.now)) }
+    ensures refused { IfErr result (λ e. e ≡ Failure.Output) }
+{
+    let why = reason(error);
+    write!(output, "at byte {offset}: {place}{why}")?;
+    Ok(())
 }
 
 /// Prints a value on a line.

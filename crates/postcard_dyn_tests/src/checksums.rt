@@ -93,7 +93,7 @@ const CALLS: [Call; 17] = [
     (
         &["dec", "--crc", CRC_32, SENSOR, "2a017802"],
         b"",
-        "at byte 4: Hit the end of buffer, expected more data\n",
+        "at byte 4: samples[0]: unexpected end\n",
         1,
     ),
     (
