@@ -1,8 +1,8 @@
 use Rattle.std.proofs.Common.{string_bytes}
 use Rattle.postcard_cli.proofs.explain.print.Goals as goal
 
-pub returns-in_ok-print_refused-in-Some-clause-refused : goal.returns-in_ok-print_refused-in-Some-clause-refused
-returns-in_ok-print_refused-in-Some-clause-refused g c =
+pub returns-clause-refused : goal.returns-clause-refused
+returns-clause-refused g c =
     let told = c.in_ok-explanation.ensures in
     let none = rw c.in-Some.is at told.refused in
     let rows = c.in_ok-print_lines.ensures.printed in
@@ -24,6 +24,6 @@ returns-in_ok-print_refused-in-Some-clause-refused g c =
       offset = c.in_ok-offset-in-Some.offset;
       within = rw c.deref-in-Some.ensures.value at c.in_ok-offset-in-Some.ensures.within;
       place = string_bytes c.in_ok-place-in-Some.place;
-      is_place = (rw c.deref-2-in-Some.ensures.value at c.in_ok-place-in-Some.ensures.named) (rw c.deref.ensures.value at none.0);
-      printed = rw c.deref-3-in-Some.ensures at c.in_ok-print_refused-in-Some.ensures.printed;
+      is_place = (rw c.deref-in-Some-2.ensures.value at c.in_ok-place-in-Some.ensures.named) (rw c.deref.ensures.value at none.0);
+      printed = rw c.deref-in-Some-3.ensures at c.in_ok-print_refused-in-Some.ensures.printed;
     }
