@@ -61,7 +61,7 @@ decode_checked_fails reads steady name expression hex known left old new failure
 pub decode_untyped : (reads : ℕ) (steady : Type 0) (name expression hex : List ℕ) (known left old new : Option (List ℕ)) (failure : Failure) → TypeFails expression old new failure
     → DecodeCheckedFails reads steady name expression hex known left old new failure
 decode_untyped reads steady name expression hex known left old new BadType h = h
-decode_untyped reads steady name expression hex known left old new (Library e) h = inl (inl h)
+decode_untyped reads steady name expression hex known left old new (Library e) h = inl h
 decode_untyped reads steady name expression hex known left old new Output h = tt
 decode_untyped reads steady name expression hex known left old new failure h = absurd h
 

@@ -14,9 +14,9 @@ use Rattle.postcard_cli.specs.declared.explain.Layout.{Layout}
 use Rattle.postcard_cli.specs.Failure.{exit_status, last_line}
 use Rattle.postcard_cli.specs.Program.{Does, Form, form_of, list_of, one_word, PrintsCall, PrintsDecode, PrintsDecoded, PrintsEncode, Performs}
 use Rattle.postcard_cli.specs.JsonMessage.{PrintsJsonLine, PrintsJsonLines}
-use Rattle.postcard_cli.specs.Message.{Prints}
+use Rattle.postcard_cli.specs.Message.{Prints, PrintsEach, PrintsFront, PrintsGiven}
 use Rattle.postcard_cli.specs.Refusal.{Converts, DecodingFails, EncodingFails, Reports, TaskFails}
-use Rattle.postcard_cli.specs.Stream.{PrintsValues}
+use Rattle.postcard_cli.specs.Stream.{PrintsLines, PrintsValues}
 use Rattle.postcard_cli.specs.declared.stream.Format.{Format}
 use Rattle.postcard_cli.specs.Value.{parts, SayEach, SomeSaysNone}
 use Rattle.postcard_cli.specs.declared.program.Task.{Task}
@@ -28,7 +28,7 @@ use Rattle.postcard_cli.specs.declared.failure.Failure.TheVariants as failed
 use Rattle.postcard_cli.specs.declared.command.TypeWord.{TypeWord}
 use Rattle.postcard_cli.specs.declared.command.TypeWord.TheVariants.{Named, Expression}
 use Rattle.postcard_cli.specs.declared.command.Command.{Command}
-use Rattle.postcard_cli.specs.declared.command.Command.TheVariants.{Encode, Decode, DecodeAll, EncodeChecked, DecodeChecked, EncodeJson, DecodeJson, DecodeAllJson, Frames, FramesOf, FramesChecked, Explain, Size, Types, Checksum, Catalog}
+use Rattle.postcard_cli.specs.declared.command.Command.TheVariants.{Encode, Decode, DecodeAll, EncodeChecked, DecodeChecked, EncodeJson, DecodeJson, DecodeAllJson, EncodeFramed, DecodeFramed, EncodeRaw, DecodeRaw, DecodeAllRaw, Frames, FramesOf, FramesChecked, FramesHex, Explain, Size, Types, Checksum, Catalog}
 
 -- The values of a type, whose words are those of `says`, and which `none` says not to be one.
 abbrev spoken : {T : Type 0} → Shape T → (T → Option (List ℕ)) → (List ℕ → T → Type 0) → (List ℕ → Type 0) → Form
@@ -108,27 +108,41 @@ decoded_no_more form bytes old mid new d none = record {
   printed = if_some_weaken (form.text_of d.value) _ _ (λ shown h. appends_no_more old mid new (shown ++ 10 ∷ encode_lower d.rest ++ 10 ∷ []) h none) d.printed;
 }
 
+front_no_more : (schema : Schema) (bytes : List ℕ) (old mid new : Option (List ℕ)) → PrintsFront schema bytes old mid → Appends mid new [] → PrintsFront schema bytes old new
+front_no_more schema bytes old mid new d none = record { value = d.value; rest = d.rest; is = d.is; printed = prints_no_more _ old mid new d.printed none }
+
+each_no_more : (schema : Schema) (bytes : List ℕ) (old mid new : Option (List ℕ)) → PrintsEach schema bytes old mid → Appends mid new [] → PrintsEach schema bytes old new
+each_no_more schema bytes old mid new d none = record { values = d.values; are = d.are; printed = prints_no_more _ old mid new d.printed none }
+
+given_no_more : (Shows : Schema → List ℕ → Option (List ℕ) → Option (List ℕ) → Type 0) (IsGiven : List ℕ → Type 0) (expression : List ℕ) (old mid new : Option (List ℕ))
+    → ((schema : Schema) (bytes : List ℕ) → Shows schema bytes old mid → Shows schema bytes old new) → PrintsGiven Shows IsGiven expression old mid
+    → PrintsGiven Shows IsGiven expression old new
+given_no_more Shows IsGiven expression old mid new more d =
+    record { schema = d.schema; spelled = d.spelled; bytes = d.bytes; given = d.given; shown = more d.schema d.bytes d.shown }
+
 encode_no_more : (kind : TypeWord) (value : List ℕ) (old mid new : Option (List ℕ)) → PrintsEncode kind value old mid → Appends mid new [] → PrintsEncode kind value old new
 encode_no_more (Named kind) value old mid new d none = record { value = d.value; said = d.said; printed = appends_no_more old mid new _ d.printed none }
 encode_no_more (Expression text) value old mid new d none = (d.0, d.1, d.2, d.3, d.4, appends_no_more old mid new _ d.5 none)
 
 decode_no_more : (kind : TypeWord) (hex : List ℕ) (known left old mid new : Option (List ℕ)) → PrintsDecode kind hex known left old mid → Appends mid new [] → PrintsDecode kind hex known left old new
 decode_no_more (Named kind) hex known left old mid new d none = (d.0, d.1, decoded_no_more (form_of kind) d.0 old mid new d.2 none)
-decode_no_more (Expression text) hex known left old mid new d none = record {
-  schema = d.schema;
-  spelled = d.spelled;
-  bytes = d.bytes;
-  stands = d.stands;
-  value = d.value;
-  rest = d.rest;
-  is = d.is;
-  printed = prints_no_more _ old mid new d.printed none;
-}
+decode_no_more (Expression text) hex known left old mid new d none = given_no_more PrintsFront _ text.now old mid new (λ s bytes h. front_no_more s bytes old mid new h none) d
 
 rows_no_more : (layout : Layout) (at : ℕ) (lines : List Line) (old mid new : Option (List ℕ)) → PrintsRows layout at lines old mid → Appends mid new []
     → PrintsRows layout at lines old new
 rows_no_more layout at [] old mid new d none = Appends-trans old mid new [] [] d none
 rows_no_more layout at (line ∷ lines) old mid new d none = (d.0, d.1, rows_no_more layout (at + length line.bytes.now) lines d.0 mid new d.2 none)
+
+stream_lines_no_more : (format : Format) (longest : ℕ) (given : List ℕ) (old mid new : Option (List ℕ)) → PrintsLines format longest given old mid → Appends mid new []
+    → PrintsLines format longest given old new
+stream_lines_no_more format longest given old mid new d none = record {
+  answered = d.answered;
+  rest = d.rest;
+  cut = d.cut;
+  are = d.are;
+  rest_no_zero = d.rest_no_zero;
+  printed = prints_no_more _ old mid new d.printed none;
+}
 
 values_no_more : (format : Format) (longest : ℕ) (known left old mid new : Option (List ℕ)) → PrintsValues format longest known left old mid → Appends mid new []
     → PrintsValues format longest known left old new
@@ -136,14 +150,7 @@ values_no_more format longest known left old mid new d none = record {
   given = d.given;
   all = record {
     reader = d.all.reader;
-    lines = record {
-      answered = d.all.lines.answered;
-      rest = d.all.lines.rest;
-      cut = d.all.lines.cut;
-      are = d.all.lines.are;
-      rest_no_zero = d.all.lines.rest_no_zero;
-      printed = prints_no_more _ old mid new d.all.lines.printed none;
-    };
+    lines = stream_lines_no_more format longest d.given old mid new d.all.lines none;
   };
   at_end = d.at_end;
 }
@@ -162,15 +169,8 @@ performs_no_more : (syntax : List ℕ) (command : Command) (known left old mid n
     → Performs syntax command known left old new
 performs_no_more syntax (Encode kind value) known left old mid new d none = encode_no_more kind value.now old mid new d none
 performs_no_more syntax (Decode kind hex) known left old mid new d none = decode_no_more kind hex.now known left old mid new d none
-performs_no_more syntax (DecodeAll expression hex) known left old mid new d none = record {
-  schema = d.schema;
-  spelled = d.spelled;
-  bytes = d.bytes;
-  stands = d.stands;
-  values = d.values;
-  are = d.are;
-  printed = prints_no_more _ old mid new d.printed none;
-}
+performs_no_more syntax (DecodeAll expression hex) known left old mid new d none =
+    given_no_more PrintsEach _ expression.now old mid new (λ s bytes h. each_no_more s bytes old mid new h none) d
 performs_no_more syntax (EncodeChecked name expression value) known left old mid new d none = record {
   checksum = d.checksum;
   named = d.named;
@@ -214,9 +214,39 @@ performs_no_more syntax (DecodeAllJson expression hex) known left old mid new d 
   values = d.values;
   printed = json_lines_no_more d.schema d.bytes d.bytes d.values [] old mid new d.printed none;
 }
+performs_no_more syntax (EncodeFramed expression value) known left old mid new d none =
+    record { encoding = d.encoding; encodes = d.encodes; frame = d.frame; is = d.is; printed = appends_no_more old mid new _ d.printed none }
+performs_no_more syntax (DecodeFramed expression hex) known left old mid new d none = record {
+  schema = d.schema;
+  spelled = d.spelled;
+  bytes = d.bytes;
+  stands = d.stands;
+  frame = d.frame;
+  after = d.after;
+  cut = d.cut;
+  content = d.content;
+  groups = d.groups;
+  value = d.value;
+  rest = d.rest;
+  is = d.is;
+  printed = prints_no_more _ old mid new d.printed none;
+}
+performs_no_more syntax (EncodeRaw expression value) known left old mid new d none =
+    record { encoding = d.encoding; encodes = d.encodes; printed = appends_no_more old mid new _ d.printed none }
+performs_no_more syntax (DecodeRaw expression) known left old mid new d none =
+    given_no_more PrintsFront _ expression.now old mid new (λ s bytes h. front_no_more s bytes old mid new h none) d
+performs_no_more syntax (DecodeAllRaw expression) known left old mid new d none =
+    given_no_more PrintsEach _ expression.now old mid new (λ s bytes h. each_no_more s bytes old mid new h none) d
 performs_no_more syntax Frames known left old mid new d none = (d.0, (d.1.0, d.1.1, d.1.2, d.1.3, appends_no_more old mid new _ d.1.4 none), d.2)
 performs_no_more syntax (FramesOf expression longest) known left old mid new d none = (d.0, d.1, values_no_more d.0 longest known left old mid new d.2 none)
 performs_no_more syntax (FramesChecked name expression) known left old mid new d none = (d.0, d.1, values_no_more d.0 65536 known left old mid new d.2 none)
+performs_no_more syntax (FramesHex expression hex) known left old mid new d none = record {
+  format = d.format;
+  plain = d.plain;
+  bytes = d.bytes;
+  stands = d.stands;
+  lines = stream_lines_no_more d.format 65536 d.bytes old mid new d.lines none;
+}
 performs_no_more syntax (Explain expression hex all) known left old mid new d none = record {
   schema = d.schema;
   spelled = d.spelled;

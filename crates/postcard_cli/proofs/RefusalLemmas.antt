@@ -13,17 +13,17 @@ use Rattle.postcard_de.specs.Reads.{IsReadError}
 use Rattle.postcard_cli.specs.Command.{IsCallOf}
 use Rattle.postcard_cli.specs.Program.{Form}
 use Rattle.postcard_cli.specs.Hexadecimal.{IsWrongHex}
-use Rattle.postcard_cli.specs.Message.{lines_of, StandsFor}
+use Rattle.postcard_cli.specs.Message.{lines_of, IsInput, StandsFor}
 use Rattle.postcard_cli.proofs.MessageLemmas.{Decoded, prints_both}
 use Rattle.postcard_dyn_schema.specs.declared.schema.Schema.{Schema}
 use Rattle.postcard_dyn_schema.specs.Grammar.{IsExpression}
-use Rattle.postcard_cli.specs.Refusal.{IsTooLong, PrintingFails, DecodingFails, NamedDecodeFails, Converts, CommandFails, CallFails, HexFails, IsDigitText, FrontFails, DecodeFails, DecodeAllFails}
+use Rattle.postcard_cli.specs.Refusal.{IsTooLong, PrintingFails, DecodingFails, NamedDecodeFails, Converts, CommandFails, CallFails, HexFails, InputFails, IsDigitText, FrontFails, FirstFails, EachFails, AllFail, DecodeFails, DecodeAllFails, DecodeRawFails, DecodeAllRawFails}
 use Rattle.postcard_cli.specs.declared.program.Task.TheVariants as tasks
 use Rattle.postcard_cli.specs.declared.failure.Failure.{Failure}
-use Rattle.postcard_cli.specs.declared.failure.Failure.TheVariants.{Usage, BadHexAt, Library, Output}
+use Rattle.postcard_cli.specs.declared.failure.Failure.TheVariants.{Usage, BadHexAt, Library, Refused, Output}
 use Rattle.postcard_cli.specs.declared.command.TypeWord.TheVariants.{Named, Expression}
 use Rattle.postcard_cli.specs.declared.command.Command.{Command}
-use Rattle.postcard_cli.specs.declared.command.Command.TheVariants.{Encode, Decode, DecodeAll, EncodeChecked, DecodeChecked, EncodeJson, DecodeJson, DecodeAllJson, Frames, FramesOf, FramesChecked, Explain, Size, Types, Checksum, Catalog}
+use Rattle.postcard_cli.specs.declared.command.Command.TheVariants.{Encode, Decode, DecodeAll, EncodeChecked, DecodeChecked, EncodeJson, DecodeJson, DecodeAllJson, EncodeFramed, DecodeFramed, EncodeRaw, DecodeRaw, DecodeAllRaw, Frames, FramesOf, FramesChecked, FramesHex, Explain, Size, Types, Checksum, Catalog}
 
 -- A number that isn't at most another is above it.
 pub above : (m n : ℕ) → (m ≤ n → ⊥) → n < m
@@ -84,9 +84,15 @@ no_usage reads steady (DecodeChecked name expression hex) known left old new h =
 no_usage reads steady (EncodeJson expression text) known left old new h = h
 no_usage reads steady (DecodeJson expression hex) known left old new h = h
 no_usage reads steady (DecodeAllJson expression hex) known left old new h = h
+no_usage reads steady (EncodeFramed expression value) known left old new h = h
+no_usage reads steady (DecodeFramed expression hex) known left old new h = h
+no_usage reads steady (EncodeRaw expression value) known left old new h = h
+no_usage reads steady (DecodeRaw expression) known left old new h = h
+no_usage reads steady (DecodeAllRaw expression) known left old new h = h
 no_usage reads steady Frames known left old new h = h
 no_usage reads steady (FramesOf expression longest) known left old new h = absurd h.2
 no_usage reads steady (FramesChecked name expression) known left old new h = absurd h.2
+no_usage reads steady (FramesHex expression hex) known left old new h = h
 no_usage reads steady (Explain expression hex all) known left old new h = h
 no_usage reads steady (Size expression) known left old new h = h
 no_usage reads steady Types known left old new h = cc h
@@ -111,45 +117,67 @@ digits_fail reads steady hex digits known left (Ok bytes) text h = tt
 digits_fail reads steady hex digits known left (Err e) text (inl (n, is, wrong)) = subst (HexFails reads steady hex known left) (sym is) (digits, text, wrong)
 digits_fail reads steady hex digits known left (Err e) text (inr is) = subst (HexFails reads steady hex known left) (sym is) refl
 
--- A failure at the first message, for `dec`.
-pub first_fails : (reads : ℕ) (steady : Type 0) (expression hex : List ℕ) (known left old new : Option (List ℕ)) (schema : Schema) (bytes : List ℕ) (e : Failure)
-    → IsExpression schema expression → StandsFor hex known left bytes → FrontFails schema bytes bytes old new e
-    → DecodeFails reads steady expression hex known left old new e
-first_fails reads steady expression hex known left old new schema bytes (Library e) spelled stands (inl memory) = inl memory
-first_fails reads steady expression hex known left old new schema bytes (Library e) spelled stands (inr (shown, refused, printed)) = inr (
+-- A failure at the first message: no value is before it.
+first_of : (Unread : Failure → Type 0) (IsGiven : List ℕ → Type 0) (expression : List ℕ) (old new : Option (List ℕ)) (schema : Schema) (bytes : List ℕ) (e : Failure)
+    → IsExpression schema expression → IsGiven bytes → FrontFails schema bytes bytes old new e → FirstFails Unread IsGiven expression old new e
+first_of Unread IsGiven expression old new schema bytes Refused spelled given (shown, refused, printed) = (
   record {
     schema = schema;
     spelled = spelled;
     bytes = bytes;
-    stands = stands;
-    values = [];
-    rest = bytes;
-    are = refl;
-    shown = shown;
-    refused = refused;
-    printed = printed;
+    given = given;
+    stopped = record { values = []; rest = bytes; are = refl; shown = shown; refused = refused; printed = printed };
   },
   refl,
 )
-first_fails reads steady expression hex known left old new schema bytes Output spelled stands h = tt
-first_fails reads steady expression hex known left old new schema bytes failure spelled stands h = absurd h
+first_of Unread IsGiven expression old new schema bytes (Library e) spelled given h = h
+first_of Unread IsGiven expression old new schema bytes Output spelled given h = tt
+first_of Unread IsGiven expression old new schema bytes failure spelled given h = absurd h
 
--- The same at a later message, for `decs`: the values before it are printed.
-pub later_fails : (reads : ℕ) (steady : Type 0) (expression hex : List ℕ) (known left old mid new : Option (List ℕ)) (schema : Schema) (bytes rest : List ℕ) (e : Failure)
-    → IsExpression schema expression → StandsFor hex known left bytes → Decoded schema bytes rest old mid → FrontFails schema bytes rest mid new e
-    → DecodeAllFails reads steady expression hex known left old new e
-later_fails reads steady expression hex known left old mid new schema bytes rest (Library e) spelled stands d (inl memory) = inl memory
-later_fails reads steady expression hex known left old mid new schema bytes rest (Library e) spelled stands d (inr (shown, refused, printed)) = inr (record {
-  schema = schema;
-  spelled = spelled;
-  bytes = bytes;
-  stands = stands;
+-- For `dec`, and for `dec --raw`.
+pub first_fails : (reads : ℕ) (steady : Type 0) (expression hex : List ℕ) (known left old new : Option (List ℕ)) (schema : Schema) (bytes : List ℕ) (e : Failure)
+    → IsExpression schema expression → StandsFor hex known left bytes → FrontFails schema bytes bytes old new e
+    → DecodeFails reads steady expression hex known left old new e
+first_fails reads steady expression hex known left old new schema bytes e spelled stands h =
+    first_of (HexFails reads steady hex known left) (StandsFor hex known left) expression old new schema bytes e spelled stands h
+
+pub first_raw_fails : (reads : ℕ) (steady : Type 0) (expression : List ℕ) (known left old new : Option (List ℕ)) (schema : Schema) (bytes : List ℕ) (e : Failure)
+    → IsExpression schema expression → IsInput known left bytes → FrontFails schema bytes bytes old new e → DecodeRawFails reads steady expression known left old new e
+first_raw_fails reads steady expression known left old new schema bytes e spelled all h =
+    first_of (InputFails reads steady known left) (IsInput known left) expression old new schema bytes e spelled all h
+
+-- A failure at a later message: the values before it are printed.
+pub later_fails : (schema : Schema) (bytes rest : List ℕ) (old mid new : Option (List ℕ)) (e : Failure) → Decoded schema bytes rest old mid
+    → FrontFails schema bytes rest mid new e → EachFails schema bytes old new e
+later_fails schema bytes rest old mid new Refused d (shown, refused, printed) = record {
   values = d.values;
   rest = rest;
   are = d.are;
   shown = shown;
   refused = refused;
   printed = prints_both (lines_of schema d.values) (Some shown) old mid new d.printed printed;
-})
-later_fails reads steady expression hex known left old mid new schema bytes rest Output spelled stands d h = tt
-later_fails reads steady expression hex known left old mid new schema bytes rest failure spelled stands d h = absurd h
+}
+later_fails schema bytes rest old mid new (Library e) d h = h
+later_fails schema bytes rest old mid new Output d h = tt
+later_fails schema bytes rest old mid new failure d h = absurd h
+
+-- A failure at one of the messages.
+each_of : (Unread : Failure → Type 0) (IsGiven : List ℕ → Type 0) (expression : List ℕ) (old new : Option (List ℕ)) (schema : Schema) (bytes : List ℕ) (e : Failure)
+    → IsExpression schema expression → IsGiven bytes → EachFails schema bytes old new e → AllFail Unread IsGiven expression old new e
+each_of Unread IsGiven expression old new schema bytes Refused spelled given stopped =
+    record { schema = schema; spelled = spelled; bytes = bytes; given = given; stopped = stopped }
+each_of Unread IsGiven expression old new schema bytes (Library e) spelled given h = h
+each_of Unread IsGiven expression old new schema bytes Output spelled given h = tt
+each_of Unread IsGiven expression old new schema bytes failure spelled given h = absurd h
+
+-- For `decs`, and for `decs --raw`.
+pub all_fail : (reads : ℕ) (steady : Type 0) (expression hex : List ℕ) (known left old new : Option (List ℕ)) (schema : Schema) (bytes : List ℕ) (e : Failure)
+    → IsExpression schema expression → StandsFor hex known left bytes → EachFails schema bytes old new e
+    → DecodeAllFails reads steady expression hex known left old new e
+all_fail reads steady expression hex known left old new schema bytes e spelled stands h =
+    each_of (HexFails reads steady hex known left) (StandsFor hex known left) expression old new schema bytes e spelled stands h
+
+pub all_raw_fail : (reads : ℕ) (steady : Type 0) (expression : List ℕ) (known left old new : Option (List ℕ)) (schema : Schema) (bytes : List ℕ) (e : Failure)
+    → IsExpression schema expression → IsInput known left bytes → EachFails schema bytes old new e → DecodeAllRawFails reads steady expression known left old new e
+all_raw_fail reads steady expression known left old new schema bytes e spelled all h =
+    each_of (InputFails reads steady known left) (IsInput known left) expression old new schema bytes e spelled all h

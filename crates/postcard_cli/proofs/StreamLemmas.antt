@@ -1,5 +1,5 @@
 -- Lemmas on the lines of a stream, frame by frame, piece by piece and read by read.
-use Rattle.std.proofs.Common.{◌≡◌, ◌≢◌, ℕ, ◌+◌, ◌-◌, ◌^◌, ◌<◌, ◌≤◌, min, Bool, true, false, List, [], ◌∷◌, ◌++◌, length, length-append, add-zero, zero-add, arith, Option, None, Some, codes, refl, sym, ap, subst, ◌∙◌, nat_lt, Result, Ok, Err, OnOk, take, drop}
+use Rattle.std.proofs.Common.{◌≡◌, ◌≢◌, ◌⊎◌, inl, inr, ℕ, ◌+◌, ◌-◌, ◌^◌, ◌<◌, ◌≤◌, min, Bool, true, false, List, [], ◌∷◌, ◌++◌, length, length-append, add-zero, zero-add, arith, Option, None, Some, codes, refl, sym, ap, subst, ◌∙◌, nat_lt, Result, Ok, Err, OnOk, take, drop}
 use Rattle.std.specs.Fmt.{decimal, ◌++?◌}
 use Rattle.hex.specs.Hex.{encode_lower}
 use Rattle.std.specs.Io.KnownBytes.{Consumes, Keeps}
@@ -23,7 +23,7 @@ use Rattle.postcard_dyn.specs.Explained.{HasNoFront}
 use Rattle.postcard_cli.specs.Message.{Prints, ReadsValue}
 use Rattle.postcard_cli.specs.Place.{IsPlaceOf}
 use Rattle.postcard_cli.specs.Receiving.{IsAfter, Continues, PrintsAnswer, PrintsMessage, Reads, ReadFails}
-use Rattle.postcard_cli.specs.Refusal.{StreamCheckedFails, StreamFails, ValuesFail}
+use Rattle.postcard_cli.specs.Refusal.{FramesHexFail, StreamCheckedFails, StreamFails, ValuesFail}
 use Rattle.postcard_cli.specs.declared.stream.Format.{Format}
 use Rattle.postcard_cli.specs.Stream.{Answer, value, refused, unchecked, damaged, overfull, IsBehind, IsNamed, IsPlain, IsUnchecked, LacksChecksum, ReadsData, Answered, AreAnswered, IsAnswerTo, answer_line, answer_lines, bytes_of, more_text, noun_of, offset, rest_line, PrintsLines, PrintsValues}
 use Rattle.postcard_cli.proofs.CheckedLemmas.{front_of}
@@ -420,6 +420,12 @@ decoded frame new n free (d, groups, length_is, is) =
     let front : take n new ≡ d = rw (length_is, is) (take_front_of d (drop (length d) frame)) in
     let P : List ℕ → Type 0 = λ t. Groups frame t in subst P (sym front) whole
 
+-- A stream that is one piece has the lines of the piece.
+pub one_piece : (s : Format) (longest : ℕ) (before after : Stream) (piece : List ℕ) (old new : Option (List ℕ)) → before.longest ≡ longest → before.held.items ≡ []
+    → before.skipping ≡ false → before.start ≡ 0 → before.count ≡ 0 → Continues s before piece after old new → PrintsLines s longest piece old new
+one_piece s longest before after piece old new limit held skipping start count h =
+    let all = h longest [] old (after_none s longest before old limit held skipping start count) in all.lines
+
 -- A frame without a zero that no data has is damaged.
 pub damaged_answer : (s : Format) (longest at : ℕ) (frame : List ℕ) (old new : Option (List ℕ)) → length frame + 1 ≤ longest → NoZero frame
     → ((d : List ℕ) → Groups (before_zero frame) d → ⊥) → Prints (answer_line s at (damaged frame)) old new → PrintsAnswer s longest at frame old new
@@ -442,3 +448,11 @@ named_fails steady name expression s known left old new BadType named h = absurd
 named_fails steady name expression s known left old new (Library e) named h = absurd h
 named_fails steady name expression s known left old new Output named h = tt
 named_fails steady name expression s known left old new e named h = (s, named, h)
+
+-- A failure of the lines of a piece is one of `frames --hex`.
+pub hex_frames_fail : (reads : ℕ) (steady : Type 0) (expression hex : List ℕ) (known left old new : Option (List ℕ)) (e : Failure) → (e ≡ OutOfMemory) ⊎ (e ≡ Output)
+    → FramesHexFail reads steady expression hex known left old new e
+hex_frames_fail reads steady expression hex known left old new e (inl is) =
+    let P : Failure → Type 0 = λ x. FramesHexFail reads steady expression hex known left old new x in subst P (sym is) tt
+hex_frames_fail reads steady expression hex known left old new e (inr is) =
+    let P : Failure → Type 0 = λ x. FramesHexFail reads steady expression hex known left old new x in subst P (sym is) tt

@@ -1,4 +1,4 @@
--- What is printed for messages with a checksum behind them, whose type is given as an expression.
+-- What is printed for messages as bytes, and with a checksum behind them, whose type is given as an expression.
 use Rattle.std.specs.Prelude.{◌≡◌, ℕ, List, [], ◌∷◌, ◌++◌, Option, Some}
 use Rattle.std.specs.Fmt.{◌++?◌}
 use Rattle.std.specs.Io.KnownBytes.{Appends}
@@ -22,6 +22,12 @@ pub record IsEncoding (expression word bytes : List ℕ) : Type 0 where
   pub says : SpellsValue schema value word
   pub read : reads (type_of schema) (tree value)
   pub is : bytes ≡ canonical (tree value)
+
+-- What `enc --raw` prints: the encoding.
+pub record PrintsEncodedRaw (expression word : List ℕ) (old new : Option (List ℕ)) : Type 0 where
+  pub encoding : List ℕ
+  pub encodes : IsEncoding expression word encoding
+  pub printed : Appends old new encoding
 
 -- What `enc --crc NAME` prints: the encoding and the bytes of its checksum, in hexadecimal on a line.
 pub record PrintsEncodedChecked (name expression word : List ℕ) (old new : Option (List ℕ)) : Type 0 where

@@ -8,7 +8,7 @@ use Rattle.postcard_cli.specs.declared.command.ValueType.TheVariants.{U8, U16, U
 use Rattle.postcard_cli.specs.declared.command.TypeWord.{TypeWord}
 use Rattle.postcard_cli.specs.declared.command.TypeWord.TheVariants.{Named, Expression}
 use Rattle.postcard_cli.specs.declared.command.Command.{Command}
-use Rattle.postcard_cli.specs.declared.command.Command.TheVariants.{Encode, Decode, DecodeAll, EncodeChecked, DecodeChecked, EncodeJson, DecodeJson, DecodeAllJson, Frames, FramesOf, FramesChecked, Explain, Size, Types, Checksum, Catalog}
+use Rattle.postcard_cli.specs.declared.command.Command.TheVariants.{Encode, Decode, DecodeAll, EncodeChecked, DecodeChecked, EncodeJson, DecodeJson, DecodeAllJson, EncodeFramed, DecodeFramed, EncodeRaw, DecodeRaw, DecodeAllRaw, Frames, FramesOf, FramesChecked, FramesHex, Explain, Size, Types, Checksum, Catalog}
 
 -- The word that names a type.
 abbrev pub name_of : ValueType → List ℕ
@@ -58,12 +58,18 @@ abbrev pub SaysLongest : List ℕ → ℕ → Type 0
 SaysLongest word longest =
     IsNumeral 10 (without_leading_plus word) × (longest ≡ digits_value 10 (without_leading_plus word)) × (1 ≤ longest) × (longest ≤ 65536)
 
--- The words are `frames` and the expression, and the longest frame has 65,536 bytes, or a `--longest`
--- before the expression says how many.
+-- The words are `frames` and the expression, or a `--raw` before it, and the longest frame has 65,536 bytes; or a `--longest` before
+-- the expression says how many.
 abbrev pub IsStreamCall : List (List ℕ) → List ℕ → ℕ → Type 0
 IsStreamCall words expression longest =
     ((words ≡ codes "frames" ∷ expression ∷ []) × (longest ≡ 65536))
-    ⊎ ((number : List ℕ) × SaysLongest number longest × (words ≡ codes "frames" ∷ codes "--longest" ∷ number ∷ expression ∷ []))
+    ⊎ (((words ≡ codes "frames" ∷ codes "--raw" ∷ expression ∷ []) × (longest ≡ 65536))
+    ⊎ ((number : List ℕ) × SaysLongest number longest × (words ≡ codes "frames" ∷ codes "--longest" ∷ number ∷ expression ∷ [])))
+
+-- The words are this command, `--raw` and the expression, and perhaps a `-` after it.
+abbrev pub IsRawCall : List (List ℕ) → List ℕ → List ℕ → Type 0
+IsRawCall words command expression =
+    (words ≡ command ∷ codes "--raw" ∷ expression ∷ []) ⊎ (words ≡ command ∷ codes "--raw" ∷ expression ∷ codes "-" ∷ [])
 
 -- The words are `explain`, the expression and HEX, with `--all` before the expression or without.
 abbrev pub IsExplainCall : List (List ℕ) → List ℕ → List ℕ → TruthValue → Type 0
@@ -81,9 +87,15 @@ IsCallOf words (DecodeChecked name expression hex) = words ≡ codes "dec" ∷ c
 IsCallOf words (EncodeJson expression text) = words ≡ codes "enc" ∷ codes "--json" ∷ expression.now ∷ text.now ∷ []
 IsCallOf words (DecodeJson expression hex) = words ≡ codes "dec" ∷ codes "--json" ∷ expression.now ∷ hex.now ∷ []
 IsCallOf words (DecodeAllJson expression hex) = words ≡ codes "decs" ∷ codes "--json" ∷ expression.now ∷ hex.now ∷ []
+IsCallOf words (EncodeFramed expression value) = words ≡ codes "enc" ∷ codes "--frame" ∷ expression.now ∷ value.now ∷ []
+IsCallOf words (DecodeFramed expression hex) = words ≡ codes "dec" ∷ codes "--frame" ∷ expression.now ∷ hex.now ∷ []
+IsCallOf words (EncodeRaw expression value) = words ≡ codes "enc" ∷ codes "--raw" ∷ expression.now ∷ value.now ∷ []
+IsCallOf words (DecodeRaw expression) = IsRawCall words (codes "dec") expression.now
+IsCallOf words (DecodeAllRaw expression) = IsRawCall words (codes "decs") expression.now
 IsCallOf words Frames = words ≡ codes "frames" ∷ []
 IsCallOf words (FramesOf expression longest) = LooksLikeExpression expression.now × IsStreamCall words expression.now longest
 IsCallOf words (FramesChecked name expression) = words ≡ codes "frames" ∷ codes "--crc" ∷ name.now ∷ expression.now ∷ []
+IsCallOf words (FramesHex expression hex) = words ≡ codes "frames" ∷ codes "--hex" ∷ expression.now ∷ hex.now ∷ []
 IsCallOf words (Explain expression hex all) = IsExplainCall words expression.now hex.now all
 IsCallOf words (Size expression) = words ≡ codes "size" ∷ expression.now ∷ []
 IsCallOf words Types = words ≡ codes "types" ∷ []

@@ -1,11 +1,14 @@
 -- What `explain` prints: a row for each line of an explanation.
-use Rattle.std.specs.Prelude.{◌≡◌, ℕ, ◌+◌, ◌-◌, ◌^◌, ◌≤◌, ◌⊎◌, min, nat_le, nat_eq, Bool, false, if◌then◌else◌, replicate, List, [], ◌∷◌, ◌++◌, length, take, drop, codes, Option, Some, IfSome}
+use Rattle.std.specs.Prelude.{◌≡◌, ◌≢◌, ℕ, ◌+◌, ◌-◌, ◌^◌, ◌≤◌, ◌⊎◌, min, nat_le, nat_eq, Bool, false, if◌then◌else◌, replicate, List, [], ◌∷◌, ◌++◌, length, take, drop, codes, Option, Some, IfSome}
 use Rattle.std.specs.List.{flat_map}
 use Rattle.std.specs.Fmt.{◌++?◌, decimal}
 use Rattle.std.specs.Int.{w64, to_be_bytes}
 use Rattle.std.specs.Io.KnownBytes.{Appends}
 use Rattle.hex.specs.Hex.{encode_lower}
 use Rattle.postcard_wire.specs.declared.error.Error.{Error}
+use Rattle.postcard_wire.specs.declared.error.Error.TheVariants.{OutOfMemory}
+use Rattle.postcard_shape.specs.Shape.{memory}
+use Rattle.postcard_de.specs.Reads.{IsReadError}
 use Rattle.postcard_dyn_schema.specs.declared.schema.Leaf.{Leaf}
 use Rattle.postcard_dyn_schema.specs.declared.schema.Leaf.TheVariants as leaves
 use Rattle.postcard_dyn_schema.specs.declared.schema.Schema.{Schema}
@@ -21,6 +24,8 @@ use Rattle.postcard_dyn.specs.declared.explain.Node.TheVariants.{Value, Absent, 
 use Rattle.postcard_dyn.specs.declared.explain.Line.{Line}
 use Rattle.postcard_dyn_text.specs.Shown.{layout_of, text}
 use Rattle.postcard_cli.specs.Message.{StandsFor}
+use Rattle.postcard_cli.specs.Place.{IsPlaceOf}
+use Rattle.postcard_cli.specs.Stream.{refused_text}
 use Rattle.postcard_cli.specs.declared.explain.Layout.{Layout}
 
 -- What a part is called.
@@ -131,8 +136,8 @@ pub record PrintsExplained (expression hex : List ℕ) (all : Bool) (known left 
   pub printed : PrintsRows layout 0 lines old new
 
 -- The bytes of HEX begin with no value of the expression. The rows of lines that have all of them, in order, are printed, and
--- then where reading stops.
-pub record IsExplainRefused (expression hex : List ℕ) (all : Bool) (known left old new : Option (List ℕ)) (e : Error) : Type 0 where
+-- then which part can't be read, where, and why.
+pub record IsExplainRefused (expression hex : List ℕ) (all : Bool) (known left old new : Option (List ℕ)) : Type 0 where
   pub schema : Schema
   pub spelled : IsExpression schema expression
   pub bytes : List ℕ
@@ -144,6 +149,11 @@ pub record IsExplainRefused (expression hex : List ℕ) (all : Bool) (known left
   pub uncut : layout.all ≡ all
   pub mid : Option (List ℕ)
   pub rows : PrintsRows layout 0 lines old mid
+  pub error : Error
+  pub named : IsReadError memory error
+  pub not_memory : error ≢ OutOfMemory
   pub offset : ℕ
   pub within : offset ≤ length bytes
-  pub printed : Appends mid new (codes "at byte " ++ (decimal offset ++ codes ": "))
+  pub place : List ℕ
+  pub is_place : IsPlaceOf schema bytes place
+  pub printed : Appends mid new (refused_text offset place error)

@@ -3,6 +3,7 @@ pub mod Checksum
 pub mod Command
 pub mod Explain
 pub mod Failure
+pub mod Framed
 pub mod Frames
 pub mod Hexadecimal
 pub mod JsonMessage

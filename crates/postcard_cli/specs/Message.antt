@@ -53,23 +53,42 @@ pub record StandsFor (hex : List ℕ) (known left : Option (List ℕ)) (bytes : 
   pub are : SpellsBytes digits bytes
   pub only : (other : List ℕ) → SpellsBytes digits other → other ≡ bytes
 
+-- The bytes are all of the input.
+abbrev pub IsInput : Option (List ℕ) → Option (List ℕ) → List ℕ → Type 0
+IsInput known left bytes = Consumes known left bytes × IsAtEnd left
+
 -- The first value of the bytes is printed on a line, and the bytes after it on a second.
-pub record PrintsFirst (expression hex : List ℕ) (known left old new : Option (List ℕ)) : Type 0 where
-  pub schema : Schema
-  pub spelled : IsExpression schema expression
-  pub bytes : List ℕ
-  pub stands : StandsFor hex known left bytes
+pub record PrintsFront (schema : Schema) (bytes : List ℕ) (old new : Option (List ℕ)) : Type 0 where
   pub value : Value
   pub rest : List ℕ
   pub is : ReadsValue schema bytes value rest
   pub printed : Prints (line_of schema value ++? Some (encode_lower rest ++ 10 ∷ [])) old new
 
 -- All values of the bytes are printed, each on a line.
-pub record PrintsAll (expression hex : List ℕ) (known left old new : Option (List ℕ)) : Type 0 where
-  pub schema : Schema
-  pub spelled : IsExpression schema expression
-  pub bytes : List ℕ
-  pub stands : StandsFor hex known left bytes
+pub record PrintsEach (schema : Schema) (bytes : List ℕ) (old new : Option (List ℕ)) : Type 0 where
   pub values : List Value
   pub are : ReadsValues schema bytes values []
   pub printed : Prints (lines_of schema values) old new
+
+-- The bytes that are `IsGiven` are printed so, as messages of the expression: by `Shows`, which is `PrintsFront` or `PrintsEach`.
+pub record PrintsGiven (Shows : Schema → List ℕ → Option (List ℕ) → Option (List ℕ) → Type 0) (IsGiven : List ℕ → Type 0) (expression : List ℕ) (old new : Option (List ℕ)) : Type 0 where
+  pub schema : Schema
+  pub spelled : IsExpression schema expression
+  pub bytes : List ℕ
+  pub given : IsGiven bytes
+  pub shown : Shows schema bytes old new
+
+-- What `dec` prints with an expression: the first value of the bytes of HEX, and the bytes after it.
+abbrev pub PrintsFirst : List ℕ → List ℕ → Option (List ℕ) → Option (List ℕ) → Option (List ℕ) → Option (List ℕ) → Type 0
+PrintsFirst expression hex known left old new = PrintsGiven PrintsFront (StandsFor hex known left) expression old new
+
+-- What `decs` prints: all values of the bytes of HEX.
+abbrev pub PrintsAll : List ℕ → List ℕ → Option (List ℕ) → Option (List ℕ) → Option (List ℕ) → Option (List ℕ) → Type 0
+PrintsAll expression hex known left old new = PrintsGiven PrintsEach (StandsFor hex known left) expression old new
+
+-- What `dec --raw` and `decs --raw` print: the same of all bytes of the input.
+abbrev pub PrintsFirstRaw : List ℕ → Option (List ℕ) → Option (List ℕ) → Option (List ℕ) → Option (List ℕ) → Type 0
+PrintsFirstRaw expression known left old new = PrintsGiven PrintsFront (IsInput known left) expression old new
+
+abbrev pub PrintsAllRaw : List ℕ → Option (List ℕ) → Option (List ℕ) → Option (List ℕ) → Option (List ℕ) → Type 0
+PrintsAllRaw expression known left old new = PrintsGiven PrintsEach (IsInput known left) expression old new

@@ -13,13 +13,14 @@ use Rattle.postcard_shape.specs.Leaves.{byte, signed_byte, num, int, boolean, ch
 use Rattle.postcard_shape.specs.Lists.{seq}
 use Rattle.postcard_de.specs.Front.{ReadsFront}
 use Rattle.postcard_dyn_text.specs.Shown.{joined}
-use Rattle.postcard_cli.specs.Checked.{PrintsEncodedChecked, PrintsFirstChecked}
+use Rattle.postcard_cli.specs.Checked.{PrintsEncodedChecked, PrintsEncodedRaw, PrintsFirstChecked}
 use Rattle.postcard_cli.specs.Checksum.{PrintsChecksum}
 use Rattle.postcard_cli.specs.Command.{IsCallOf}
 use Rattle.postcard_cli.specs.Explain.{PrintsExplained}
+use Rattle.postcard_cli.specs.Framed.{PrintsEncodedFrame, PrintsFirstFrame, PrintsHexFrames}
 use Rattle.postcard_cli.specs.Frames.{PrintsAnswers}
 use Rattle.postcard_cli.specs.JsonMessage.{PrintsAllJson, PrintsEncodedJson, PrintsFirstJson}
-use Rattle.postcard_cli.specs.Message.{PrintsEncoded, PrintsFirst, PrintsAll}
+use Rattle.postcard_cli.specs.Message.{PrintsEncoded, PrintsFirst, PrintsAll, PrintsFirstRaw, PrintsAllRaw}
 use Rattle.postcard_cli.specs.Size.{PrintsSize}
 use Rattle.postcard_cli.specs.Stream.{IsNamed, IsPlain, PrintsValues}
 use Rattle.postcard_cli.specs.Value.{parts, SayEach, SomeSaysNone}
@@ -33,7 +34,7 @@ use Rattle.postcard_cli.specs.declared.command.ValueType.TheVariants.{U8, U16, U
 use Rattle.postcard_cli.specs.declared.command.TypeWord.{TypeWord}
 use Rattle.postcard_cli.specs.declared.command.TypeWord.TheVariants.{Named, Expression}
 use Rattle.postcard_cli.specs.declared.command.Command.{Command}
-use Rattle.postcard_cli.specs.declared.command.Command.TheVariants.{Encode, Decode, DecodeAll, EncodeChecked, DecodeChecked, EncodeJson, DecodeJson, DecodeAllJson, Frames, FramesOf, FramesChecked, Explain, Size, Types, Checksum, Catalog}
+use Rattle.postcard_cli.specs.declared.command.Command.TheVariants.{Encode, Decode, DecodeAll, EncodeChecked, DecodeChecked, EncodeJson, DecodeJson, DecodeAllJson, EncodeFramed, DecodeFramed, EncodeRaw, DecodeRaw, DecodeAllRaw, Frames, FramesOf, FramesChecked, FramesHex, Explain, Size, Types, Checksum, Catalog}
 
 -- The values of a type: what they are on the wire, in a word, and as text.
 pub record Form : Type 1 where
@@ -163,11 +164,17 @@ Performs syntax (DecodeChecked name expression hex) known left old new = PrintsF
 Performs syntax (EncodeJson expression text) known left old new = PrintsEncodedJson expression.now text.now old new
 Performs syntax (DecodeJson expression hex) known left old new = PrintsFirstJson expression.now hex.now known left old new
 Performs syntax (DecodeAllJson expression hex) known left old new = PrintsAllJson expression.now hex.now known left old new
+Performs syntax (EncodeFramed expression value) known left old new = PrintsEncodedFrame expression.now value.now old new
+Performs syntax (DecodeFramed expression hex) known left old new = PrintsFirstFrame expression.now hex.now known left old new
+Performs syntax (EncodeRaw expression value) known left old new = PrintsEncodedRaw expression.now value.now old new
+Performs syntax (DecodeRaw expression) known left old new = PrintsFirstRaw expression.now known left old new
+Performs syntax (DecodeAllRaw expression) known left old new = PrintsAllRaw expression.now known left old new
 Performs syntax Frames known left old new = PrintsAnswers known left old new
 Performs syntax (FramesOf expression longest) known left old new =
     (format : Format) × IsPlain format expression.now × PrintsValues format longest known left old new
 Performs syntax (FramesChecked name expression) known left old new =
     (format : Format) × IsNamed format name.now expression.now × PrintsValues format 65536 known left old new
+Performs syntax (FramesHex expression hex) known left old new = PrintsHexFrames expression.now hex.now known left old new
 Performs syntax (Explain expression hex all) known left old new = PrintsExplained expression.now hex.now all known left old new
 Performs syntax (Size expression) known left old new = PrintsSize expression.now old new
 Performs syntax Types known left old new = Appends old new syntax

@@ -2,15 +2,17 @@
 use Rattle.std.specs.Prelude.{◌≡◌, ◌≢◌, ℕ, ◌+◌, ◌-◌, ◌^◌, ◌<◌, ◌≤◌, ◌⊎◌, ⊤, min, Bool, false, List, [], ◌++◌, length, codes, Option, Some, Result, Ok, IsErr, MatchResult}
 use Rattle.std.specs.Fmt.{decimal, ◌++?◌}
 use Rattle.std.specs.Io.KnownBytes.{Consumes, IsAtEnd, Appends}
-use Rattle.hex.specs.Hex.{decode_of}
+use Rattle.hex.specs.Hex.{decode_of, encode_lower}
 use Rattle.postcard_wire.specs.Spelling.{canonical}
 use Rattle.postcard_wire.specs.declared.error.Error.{Error}
 use Rattle.postcard_wire.specs.declared.error.Error.TheVariants.{OutOfMemory, SerializeBufferFull, WontImplement}
+use Rattle.postcard_cobs.specs.Groups.{EndsFrame, Groups, NoZero}
 use Rattle.postcard_shape.specs.Shape.{Shape, IsWilling, Grows, memory}
 use Rattle.postcard_de.specs.Front.{ReadsFront}
 use Rattle.postcard_de.specs.Reads.{IsReadError}
 use Rattle.postcard_dyn_schema.specs.declared.schema.Schema.{Schema}
 use Rattle.postcard_dyn_schema.specs.declared.error.ExpressionError.{ExpressionError}
+use Rattle.postcard_dyn_schema.specs.declared.error.Problem.{Problem}
 use Rattle.postcard_dyn_schema.specs.declared.error.Problem.TheVariants as problems
 use Rattle.postcard_dyn_schema.specs.Grammar.{IsExpression}
 use Rattle.postcard_dyn_schema.specs.Meaning.{type_of, has_bytes, reads}
@@ -33,17 +35,17 @@ use Rattle.postcard_cli.specs.Failure.{exit_status, last_line}
 use Rattle.postcard_cli.specs.Frames.{PrintsAnswersSoFar}
 use Rattle.postcard_cli.specs.Hexadecimal.{IsWrongHex}
 use Rattle.postcard_cli.specs.JsonMessage.{PrintsJsonLines, SpellsJson, refusal_text}
-use Rattle.postcard_cli.specs.Message.{lines_of, Prints, ReadsValue, ReadsValues, StandsFor}
-use Rattle.postcard_cli.specs.Place.{IsPathOf}
+use Rattle.postcard_cli.specs.Message.{lines_of, IsInput, Prints, ReadsValue, ReadsValues, StandsFor}
+use Rattle.postcard_cli.specs.Place.{IsPathOf, IsPlaceOf}
 use Rattle.postcard_cli.specs.Program.{Does, Form, form_of, PrintsCall}
-use Rattle.postcard_cli.specs.Stream.{IsNamed, IsPlain, PrintsSoFar}
+use Rattle.postcard_cli.specs.Stream.{IsNamed, IsPlain, PrintsSoFar, reason_text, refused_text}
 use Rattle.postcard_cli.specs.declared.checksum.Checksum.{Checksum}
 use Rattle.postcard_cli.specs.declared.program.Task.{Task}
 use Rattle.postcard_cli.specs.declared.program.Task.TheVariants as tasks
 use Rattle.postcard_cli.specs.declared.command.TypeWord.{TypeWord}
 use Rattle.postcard_cli.specs.declared.command.TypeWord.TheVariants.{Named, Expression}
 use Rattle.postcard_cli.specs.declared.command.Command.{Command}
-use Rattle.postcard_cli.specs.declared.command.Command.TheVariants.{Encode, Decode, DecodeAll, EncodeChecked, DecodeChecked, EncodeJson, DecodeJson, DecodeAllJson, Frames, FramesOf, FramesChecked, Explain, Size, Types, Checksum as ChecksumOf, Catalog}
+use Rattle.postcard_cli.specs.declared.command.Command.TheVariants.{Encode, Decode, DecodeAll, EncodeChecked, DecodeChecked, EncodeJson, DecodeJson, DecodeAllJson, EncodeFramed, DecodeFramed, EncodeRaw, DecodeRaw, DecodeAllRaw, Frames, FramesOf, FramesChecked, FramesHex, Explain, Size, Types, Checksum as ChecksumOf, Catalog}
 use Rattle.postcard_cli.specs.declared.stream.Format.{Format}
 use Rattle.postcard_cli.specs.declared.failure.Failure.{Failure}
 use Rattle.postcard_cli.specs.declared.failure.Failure.TheVariants.{Usage, BadType, BadValue, BadHex, BadHexAt, UnknownChecksum, Library, Refused, Output, Limit, ReadFailed}
@@ -51,22 +53,37 @@ use Rattle.postcard_cli.specs.declared.failure.Failure.TheVariants as failed
 
 -- ---- TYPE
 
--- The expression is refused, and what is wrong with it and where was printed. The place is that of
+-- What is printed behind a problem of an expression: of an unknown type, what would do.
+abbrev pub hint_text : Problem → List ℕ
+hint_text problems.UnknownType = codes ", pcard types lists them, and a variant alone has a `|` before it"
+hint_text problem = []
+
+-- The expression is refused, and what is wrong with it and where was printed, and a hint. The place is that of
 -- a character, counted from 1, or the next after the last.
 pub record IsTypeRefused (expression : List ℕ) (old new : Option (List ℕ)) : Type 0 where
   pub error : ExpressionError
   pub not_memory : error.problem ≢ problems.OutOfMemory
   pub least : 1 ≤ error.character
   pub most : error.character ≤ characters expression + 1
-  pub printed : Appends old new (expression_error_text error ++ codes ": ")
+  pub printed : Appends old new (expression_error_text error ++ (hint_text error.problem ++ codes ": "))
 
--- The expression is refused since messages of its type have no bytes.
-abbrev pub HasNoBytes : List ℕ → Type 0
-HasNoBytes expression = (schema : Schema) × IsExpression schema expression × (has_bytes (type_of schema) ≡ false)
+-- The expression is refused since messages of its type have no bytes, and that was printed.
+pub record HasNoBytes (expression : List ℕ) (old new : Option (List ℕ)) : Type 0 where
+  pub schema : Schema
+  pub spelled : IsExpression schema expression
+  pub none : has_bytes (type_of schema) ≡ false
+  pub printed : Appends old new (codes "messages of this type have no bytes: ")
 
 -- The text is a type expression.
 abbrev pub IsType : List ℕ → Type 0
 IsType expression = (schema : Schema) × IsExpression schema expression
+
+-- The failures of reading the type expression of records.
+abbrev pub RecordTypeFails : List ℕ → Option (List ℕ) → Option (List ℕ) → Failure → Type 0
+RecordTypeFails expression old new BadType = IsTypeRefused expression old new ⊎ HasNoBytes expression old new
+RecordTypeFails expression old new (Library e) = e ≡ OutOfMemory
+RecordTypeFails expression old new Output = ⊤
+RecordTypeFails expression old new failure = ⊥
 
 -- The failures of reading a type expression.
 abbrev pub TypeFails : List ℕ → Option (List ℕ) → Option (List ℕ) → Failure → Type 0
@@ -131,58 +148,92 @@ EncodeFails expression word old new (Library e) = (e ≡ OutOfMemory) ⊎ ((e �
 EncodeFails expression word old new Output = ⊤
 EncodeFails expression word old new failure = ⊥
 
--- No front of `rest`, which are the last of the bytes `all`, spells a value of the schema; the
--- library's error is `e`, and the text of the place in `all` of the part that can't be read is
--- `shown`.
-pub record IsRefusedAt (schema : Schema) (all rest : List ℕ) (e : Error) (shown : List ℕ) : Type 0 where
+-- No front of `rest`, which are the last of the bytes `all`, spells a value of the schema; which part can't be read, its place in
+-- `all`, and why are `shown`.
+pub record IsRefusedAt (schema : Schema) (all rest shown : List ℕ) : Type 0 where
   pub no_value : (v : Value) (more : List ℕ) → ReadsValue schema rest v more → ⊥
-  pub named : IsReadError memory e
+  pub error : Error
+  pub named : IsReadError memory error
+  pub not_memory : error ≢ OutOfMemory
   pub offset : ℕ
   pub within : offset ≤ length rest
-  pub is : shown ≡ codes "at byte " ++ (decimal (min ((length all - length rest) + offset) (2 ^ 64 - 1)) ++ codes ": ")
+  pub place : List ℕ
+  pub is_place : IsPlaceOf schema rest place
+  pub is : shown ≡ refused_text (min ((length all - length rest) + offset) (2 ^ 64 - 1)) place error
 
 -- The failures of reading and printing the value at the front of `rest`.
 abbrev pub FrontFails : Schema → List ℕ → List ℕ → Option (List ℕ) → Option (List ℕ) → Failure → Type 0
-FrontFails schema all rest old new (Library e) =
-    (e ≡ OutOfMemory) ⊎ ((shown : List ℕ) × IsRefusedAt schema all rest e shown × Appends old new shown)
+FrontFails schema all rest old new Refused = (shown : List ℕ) × IsRefusedAt schema all rest shown × Appends old new shown
+FrontFails schema all rest old new (Library e) = e ≡ OutOfMemory
 FrontFails schema all rest old new Output = ⊤
 FrontFails schema all rest old new failure = ⊥
 
--- The bytes of HEX are values of the expression, and then bytes of which no front is one: the lines
--- of the values and the place were printed. For `dec` there are no values before.
-pub record IsMessageRefused (expression hex : List ℕ) (known left old new : Option (List ℕ)) (e : Error) : Type 0 where
-  pub schema : Schema
-  pub spelled : IsExpression schema expression
-  pub bytes : List ℕ
-  pub stands : StandsFor hex known left bytes
+-- The bytes are values of the schema, and then bytes of which no front is one: the lines of the values and that of the refusal,
+-- without its end, were printed.
+pub record StopsPrinting (schema : Schema) (bytes : List ℕ) (old new : Option (List ℕ)) : Type 0 where
   pub values : List Value
   pub rest : List ℕ
   pub are : ReadsValues schema bytes values rest
   pub shown : List ℕ
-  pub refused : IsRefusedAt schema bytes rest e shown
+  pub refused : IsRefusedAt schema bytes rest shown
   pub printed : Prints (lines_of schema values ++? Some shown) old new
+
+-- The failures of reading and printing all values of the bytes.
+abbrev pub EachFails : Schema → List ℕ → Option (List ℕ) → Option (List ℕ) → Failure → Type 0
+EachFails schema bytes old new Refused = StopsPrinting schema bytes old new
+EachFails schema bytes old new (Library e) = e ≡ OutOfMemory
+EachFails schema bytes old new Output = ⊤
+EachFails schema bytes old new failure = ⊥
+
+-- So are the bytes that are `IsGiven`, as messages of the expression.
+pub record IsMessageRefused (IsGiven : List ℕ → Type 0) (expression : List ℕ) (old new : Option (List ℕ)) : Type 0 where
+  pub schema : Schema
+  pub spelled : IsExpression schema expression
+  pub bytes : List ℕ
+  pub given : IsGiven bytes
+  pub stopped : StopsPrinting schema bytes old new
+
+-- The failures of decoding the first value of the bytes that are `IsGiven`, where `Unread` are the failures of reading these.
+abbrev pub FirstFails : (Failure → Type 0) → (List ℕ → Type 0) → List ℕ → Option (List ℕ) → Option (List ℕ) → Failure → Type 0
+FirstFails Unread IsGiven expression old new BadType = IsTypeRefused expression old new
+FirstFails Unread IsGiven expression old new (BadHexAt n) = IsType expression × Unread (BadHexAt n)
+FirstFails Unread IsGiven expression old new ReadFailed = IsType expression × Unread ReadFailed
+FirstFails Unread IsGiven expression old new Limit = IsType expression × Unread Limit
+FirstFails Unread IsGiven expression old new Refused =
+    (refused : IsMessageRefused IsGiven expression old new) × (refused.stopped.values ≡ [])
+FirstFails Unread IsGiven expression old new (Library e) = e ≡ OutOfMemory
+FirstFails Unread IsGiven expression old new Output = ⊤
+FirstFails Unread IsGiven expression old new failure = ⊥
+
+-- The same of all values.
+abbrev pub AllFail : (Failure → Type 0) → (List ℕ → Type 0) → List ℕ → Option (List ℕ) → Option (List ℕ) → Failure → Type 0
+AllFail Unread IsGiven expression old new BadType = IsTypeRefused expression old new ⊎ HasNoBytes expression old new
+AllFail Unread IsGiven expression old new (BadHexAt n) = IsType expression × Unread (BadHexAt n)
+AllFail Unread IsGiven expression old new ReadFailed = IsType expression × Unread ReadFailed
+AllFail Unread IsGiven expression old new Limit = IsType expression × Unread Limit
+AllFail Unread IsGiven expression old new Refused = IsMessageRefused IsGiven expression old new
+AllFail Unread IsGiven expression old new (Library e) = e ≡ OutOfMemory
+AllFail Unread IsGiven expression old new Output = ⊤
+AllFail Unread IsGiven expression old new failure = ⊥
 
 -- The failures of `dec` with an expression.
 abbrev pub DecodeFails : ℕ → Type 0 → List ℕ → List ℕ → Option (List ℕ) → Option (List ℕ) → Option (List ℕ) → Option (List ℕ) → Failure → Type 0
-DecodeFails reads steady expression hex known left old new BadType = IsTypeRefused expression old new
-DecodeFails reads steady expression hex known left old new (BadHexAt n) = IsType expression × HexFails reads steady hex known left (BadHexAt n)
-DecodeFails reads steady expression hex known left old new ReadFailed = IsType expression × HexFails reads steady hex known left ReadFailed
-DecodeFails reads steady expression hex known left old new Limit = IsType expression × HexFails reads steady hex known left Limit
-DecodeFails reads steady expression hex known left old new (Library e) =
-    (e ≡ OutOfMemory)
-    ⊎ ((refused : IsMessageRefused expression hex known left old new e) × (refused.values ≡ []))
-DecodeFails reads steady expression hex known left old new Output = ⊤
-DecodeFails reads steady expression hex known left old new failure = ⊥
+DecodeFails reads steady expression hex known left old new failure =
+    FirstFails (HexFails reads steady hex known left) (StandsFor hex known left) expression old new failure
 
 -- The failures of `decs`.
 abbrev pub DecodeAllFails : ℕ → Type 0 → List ℕ → List ℕ → Option (List ℕ) → Option (List ℕ) → Option (List ℕ) → Option (List ℕ) → Failure → Type 0
-DecodeAllFails reads steady expression hex known left old new BadType = IsTypeRefused expression old new ⊎ HasNoBytes expression
-DecodeAllFails reads steady expression hex known left old new (BadHexAt n) = IsType expression × HexFails reads steady hex known left (BadHexAt n)
-DecodeAllFails reads steady expression hex known left old new ReadFailed = IsType expression × HexFails reads steady hex known left ReadFailed
-DecodeAllFails reads steady expression hex known left old new Limit = IsType expression × HexFails reads steady hex known left Limit
-DecodeAllFails reads steady expression hex known left old new (Library e) = (e ≡ OutOfMemory) ⊎ IsMessageRefused expression hex known left old new e
-DecodeAllFails reads steady expression hex known left old new Output = ⊤
-DecodeAllFails reads steady expression hex known left old new failure = ⊥
+DecodeAllFails reads steady expression hex known left old new failure =
+    AllFail (HexFails reads steady hex known left) (StandsFor hex known left) expression old new failure
+
+-- The failures of `dec --raw` and of `decs --raw`.
+abbrev pub DecodeRawFails : ℕ → Type 0 → List ℕ → Option (List ℕ) → Option (List ℕ) → Option (List ℕ) → Option (List ℕ) → Failure → Type 0
+DecodeRawFails reads steady expression known left old new failure =
+    FirstFails (InputFails reads steady known left) (IsInput known left) expression old new failure
+
+abbrev pub DecodeAllRawFails : ℕ → Type 0 → List ℕ → Option (List ℕ) → Option (List ℕ) → Option (List ℕ) → Option (List ℕ) → Failure → Type 0
+DecodeAllRawFails reads steady expression known left old new failure =
+    AllFail (InputFails reads steady known left) (IsInput known left) expression old new failure
 
 -- The failures of `explain`.
 abbrev pub ExplainFails : ℕ → Type 0 → List ℕ → List ℕ → Bool → Option (List ℕ) → Option (List ℕ) → Option (List ℕ) → Option (List ℕ) → Failure → Type 0
@@ -190,7 +241,8 @@ ExplainFails reads steady expression hex all known left old new BadType = IsType
 ExplainFails reads steady expression hex all known left old new (BadHexAt n) = IsType expression × HexFails reads steady hex known left (BadHexAt n)
 ExplainFails reads steady expression hex all known left old new ReadFailed = IsType expression × HexFails reads steady hex known left ReadFailed
 ExplainFails reads steady expression hex all known left old new Limit = IsType expression × HexFails reads steady hex known left Limit
-ExplainFails reads steady expression hex all known left old new (Library e) = (e ≡ OutOfMemory) ⊎ (e ≡ WontImplement) ⊎ IsExplainRefused expression hex all known left old new e
+ExplainFails reads steady expression hex all known left old new Refused = IsExplainRefused expression hex all known left old new
+ExplainFails reads steady expression hex all known left old new (Library e) = (e ≡ OutOfMemory) ⊎ (e ≡ WontImplement)
 ExplainFails reads steady expression hex all known left old new Output = ⊤
 ExplainFails reads steady expression hex all known left old new failure = ⊥
 
@@ -240,7 +292,7 @@ pub record IsTrailerRefused (name expression hex : List ℕ) (known left old new
 abbrev pub DecodeCheckedFails : ℕ → Type 0 → List ℕ → List ℕ → List ℕ → Option (List ℕ) → Option (List ℕ) → Option (List ℕ) → Option (List ℕ) → Failure → Type 0
 DecodeCheckedFails reads steady name expression hex known left old new UnknownChecksum = IsUnnamed name old new
 DecodeCheckedFails reads steady name expression hex known left old new (Library e) =
-    DecodeFails reads steady expression hex known left old new (Library e) ⊎ IsTrailerRefused name expression hex known left old new e
+    (e ≡ OutOfMemory) ⊎ IsTrailerRefused name expression hex known left old new e
 DecodeCheckedFails reads steady name expression hex known left old new failure = DecodeFails reads steady expression hex known left old new failure
 
 -- ---- JSON
@@ -321,6 +373,60 @@ abbrev pub DecodeAllJsonFails : ℕ → Type 0 → List ℕ → List ℕ → Opt
 DecodeAllJsonFails reads steady expression hex known left old new Refused = IsLineRefused expression hex known left old new
 DecodeAllJsonFails reads steady expression hex known left old new (Library e) = (e ≡ OutOfMemory) ⊎ (e ≡ WontImplement)
 DecodeAllJsonFails reads steady expression hex known left old new failure = DecodeAllFails reads steady expression hex known left old new failure
+
+-- ---- a frame in HEX
+
+-- The failures of finding the frame at the front of bytes: none of them is a zero, and they were printed.
+abbrev pub CutFails : List ℕ → Option (List ℕ) → Option (List ℕ) → Failure → Type 0
+CutFails bytes old new Refused = NoZero bytes × Appends old new (codes "no zero ends the frame: " ++ encode_lower bytes)
+CutFails bytes old new Output = ⊤
+CutFails bytes old new failure = ⊥
+
+-- The failures of decoding a frame: it is one of no data, and was printed.
+abbrev pub UnpackFails : List ℕ → Option (List ℕ) → Option (List ℕ) → Failure → Type 0
+UnpackFails frame old new Refused = ((content : List ℕ) → Groups frame content → ⊥) × Appends old new (codes "no COBS frame: " ++ encode_lower frame)
+UnpackFails frame old new (Library e) = e ≡ OutOfMemory
+UnpackFails frame old new Output = ⊤
+UnpackFails frame old new failure = ⊥
+
+-- No front of a frame's data spells a value of the schema, and which part can't be read, why, and the data were printed.
+pub record IsContentRefused (schema : Schema) (content : List ℕ) (old new : Option (List ℕ)) : Type 0 where
+  pub no_value : (v : Value) (more : List ℕ) → ReadsValue schema content v more → ⊥
+  pub error : Error
+  pub named : IsReadError memory error
+  pub not_memory : error ≢ OutOfMemory
+  pub place : List ℕ
+  pub is_place : IsPlaceOf schema content place
+  pub printed : Appends old new ((place ++ (reason_text error ++ codes ": ")) ++ encode_lower content)
+
+-- The failures of reading the value at the front of a frame's data.
+abbrev pub ContentFails : Schema → List ℕ → Option (List ℕ) → Option (List ℕ) → Failure → Type 0
+ContentFails schema content old new Refused = IsContentRefused schema content old new
+ContentFails schema content old new (Library e) = e ≡ OutOfMemory
+ContentFails schema content old new Output = ⊤
+ContentFails schema content old new failure = ⊥
+
+-- The bytes don't begin with a frame of a message of the schema, and why was printed: no zero ends the frame, it is one of no data, or no
+-- front of its data spells a value.
+abbrev pub HasNoFramed : Schema → List ℕ → Option (List ℕ) → Option (List ℕ) → Type 0
+HasNoFramed schema bytes old new =
+    CutFails bytes old new Refused
+    ⊎ ((frame : List ℕ) × (after : List ℕ) × EndsFrame bytes frame after
+    × (UnpackFails frame old new Refused ⊎ ((content : List ℕ) × Groups frame content × IsContentRefused schema content old new)))
+
+-- The bytes of HEX don't begin with a frame of a message of the expression, and why was printed.
+pub record IsFrameRefused (expression hex : List ℕ) (known left old new : Option (List ℕ)) : Type 0 where
+  pub schema : Schema
+  pub spelled : IsExpression schema expression
+  pub bytes : List ℕ
+  pub stands : StandsFor hex known left bytes
+  pub refused : HasNoFramed schema bytes old new
+
+-- The failures of `dec --frame`.
+abbrev pub DecodeFramedFails : ℕ → Type 0 → List ℕ → List ℕ → Option (List ℕ) → Option (List ℕ) → Option (List ℕ) → Option (List ℕ) → Failure → Type 0
+DecodeFramedFails reads steady expression hex known left old new Refused = IsFrameRefused expression hex known left old new
+DecodeFramedFails reads steady expression hex known left old new (Library e) = e ≡ OutOfMemory
+DecodeFramedFails reads steady expression hex known left old new failure = DecodeFails reads steady expression hex known left old new failure
 
 -- ---- types that have a name
 
@@ -410,6 +516,13 @@ StreamCheckedFails steady name expression known left old new Output = ⊤
 StreamCheckedFails steady name expression known left old new failure =
     (format : Format) × IsNamed format name expression × ValuesFail steady format 65536 known left old new failure
 
+-- The failures of `frames --hex`. `OutOfMemory` is the one of an allocation for a frame or its line.
+abbrev pub FramesHexFail : ℕ → Type 0 → List ℕ → List ℕ → Option (List ℕ) → Option (List ℕ) → Option (List ℕ) → Option (List ℕ) → Failure → Type 0
+FramesHexFail reads steady expression hex known left old new failed.OutOfMemory = ⊤
+FramesHexFail reads steady expression hex known left old new Refused = ⊥
+FramesHexFail reads steady expression hex known left old new (Library e) = e ≡ OutOfMemory
+FramesHexFail reads steady expression hex known left old new failure = DecodeFails reads steady expression hex known left old new failure
+
 -- ---- calls
 
 -- The failures of `enc TYPE VALUE`.
@@ -433,9 +546,15 @@ CommandFails reads steady (DecodeChecked name expression hex) known left old new
 CommandFails reads steady (EncodeJson expression text) known left old new failure = EncodeJsonFails expression.now text.now old new failure
 CommandFails reads steady (DecodeJson expression hex) known left old new failure = DecodeJsonFails reads steady expression.now hex.now known left old new failure
 CommandFails reads steady (DecodeAllJson expression hex) known left old new failure = DecodeAllJsonFails reads steady expression.now hex.now known left old new failure
+CommandFails reads steady (EncodeFramed expression value) known left old new failure = EncodeFails expression.now value.now old new failure
+CommandFails reads steady (DecodeFramed expression hex) known left old new failure = DecodeFramedFails reads steady expression.now hex.now known left old new failure
+CommandFails reads steady (EncodeRaw expression value) known left old new failure = EncodeFails expression.now value.now old new failure
+CommandFails reads steady (DecodeRaw expression) known left old new failure = DecodeRawFails reads steady expression.now known left old new failure
+CommandFails reads steady (DecodeAllRaw expression) known left old new failure = DecodeAllRawFails reads steady expression.now known left old new failure
 CommandFails reads steady Frames known left old new failure = FramesFail steady known left old new failure
 CommandFails reads steady (FramesOf expression longest) known left old new failure = StreamFails steady expression.now longest known left old new failure
 CommandFails reads steady (FramesChecked name expression) known left old new failure = StreamCheckedFails steady name.now expression.now known left old new failure
+CommandFails reads steady (FramesHex expression hex) known left old new failure = FramesHexFail reads steady expression.now hex.now known left old new failure
 CommandFails reads steady (Explain expression hex all) known left old new failure = ExplainFails reads steady expression.now hex.now all known left old new failure
 CommandFails reads steady (Size expression) known left old new failure = TypeFails expression.now old new failure
 CommandFails reads steady Types known left old new failure = failure ≡ Output

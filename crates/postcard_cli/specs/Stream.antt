@@ -101,6 +101,10 @@ reason_text DeserializeBadOption = codes "bad option"
 reason_text SerdeDeCustom = codes "unknown variant"
 reason_text e = codes "refused"
 
+-- What `dec` prints of a refused message: the offset of the part that can't be read, its place, and why.
+abbrev pub refused_text : ℕ → List ℕ → Error → List ℕ
+refused_text at place e = codes "at byte " ++ (decimal at ++ (codes ": " ++ (place ++ reason_text e)))
+
 -- What follows a value on its line: how many bytes of the frame's data come after it, and which.
 abbrev pub noun_of : ℕ → List ℕ
 noun_of n = if nat_eq n 1 then codes "byte" else codes "bytes"

@@ -150,10 +150,33 @@ pub enum Command<'a> {
         expression: &'a str,
         hex: &'a str,
     },
+    /// `enc --frame TYPE VALUE`, where TYPE is taken as an expression.
+    EncodeFramed {
+        expression: &'a str,
+        value: &'a str,
+    },
+    /// `dec --frame TYPE HEX`, where TYPE is taken as an expression.
+    DecodeFramed {
+        expression: &'a str,
+        hex: &'a str,
+    },
+    /// `enc --raw TYPE VALUE`, where TYPE is taken as an expression.
+    EncodeRaw {
+        expression: &'a str,
+        value: &'a str,
+    },
+    /// `dec --raw TYPE` or `dec --raw TYPE -`, where TYPE is taken as an expression.
+    DecodeRaw {
+        expression: &'a str,
+    },
+    /// `decs --raw TYPE` or `decs --raw TYPE -`, where TYPE is taken as an expression.
+    DecodeAllRaw {
+        expression: &'a str,
+    },
     /// `frames`.
     Frames,
-    /// `frames TYPE` or `frames --longest N TYPE`, where TYPE is an expression, and a frame has at
-    /// most `longest` bytes, its zero included: N, which is 1 to 65,536, or 65,536.
+    /// `frames TYPE`, `frames --raw TYPE` or `frames --longest N TYPE`, where TYPE is an expression,
+    /// and a frame has at most `longest` bytes, its zero included: N, which is 1 to 65,536, or 65,536.
     FramesOf {
         expression: &'a str,
         longest: usize,
@@ -162,6 +185,11 @@ pub enum Command<'a> {
     FramesChecked {
         name: &'a str,
         expression: &'a str,
+    },
+    /// `frames --hex TYPE HEX`, where TYPE is taken as an expression.
+    FramesHex {
+        expression: &'a str,
+        hex: &'a str,
     },
     /// `explain TYPE HEX` or `explain --all TYPE HEX`, where TYPE is taken as an expression, and `all`
     /// is whether nothing is cut.
@@ -259,17 +287,37 @@ impl<'a> Command<'a> {
                 name: kind,
                 hex: text,
             }),
+            _ if kind == "--raw" => Command::of_input(command, text),
             _ => Command::of_known_type(command, kind, text),
         }
     }
 
-    /// Returns the command of a call of three words, the second of which has to be a name or count
-    /// as an expression.
+    /// Returns the command of a call of three words, the first of which is neither `explain` nor
+    /// `crc`: a command, `--raw`, and a type.
+    fn of_input(command: &'a str, expression: &'a str) -> Option<Command<'a>>
+        ensures found { IfSome result
+            (λ found. IsCallOf (command.now ∷ codes "--raw" ∷ expression.now ∷ []) found) }
+        ensures none { IfNone result (command.now ≢ codes "explain" → command.now ≢ codes "crc"
+            → IsNoCall (command.now ∷ codes "--raw" ∷ expression.now ∷ [])) }
+    {
+        match command {
+            "dec" => Some(Command::DecodeRaw { expression }),
+            "decs" => Some(Command::DecodeAllRaw { expression }),
+            "frames" if is_expression(expression) => Some(Command::FramesOf {
+                expression,
+                longest: LONGEST,
+            }),
+            _ => None,
+        }
+    }
+
+    /// Returns the command of a call of three words, the second of which isn't `--raw`, but has to be
+    /// a name or count as an expression.
     fn of_known_type(command: &'a str, kind: &'a str, text: &'a str) -> Option<Command<'a>>
         ensures found { IfSome result
             (λ found. IsCallOf (command.now ∷ kind.now ∷ text.now ∷ []) found) }
         ensures none { IfNone result (command.now ≢ codes "explain" → command.now ≢ codes "crc"
-            → IsNoCall (command.now ∷ kind.now ∷ text.now ∷ [])) }
+            → kind.now ≢ codes "--raw" → IsNoCall (command.now ∷ kind.now ∷ text.now ∷ [])) }
     {
         let Some(word) = TypeWord::from_word(kind) else {
             return None;
@@ -305,14 +353,14 @@ impl<'a> Command<'a> {
     {
         match command {
             "explain" => Command::uncut(option, third, fourth),
-            "frames" => Command::limited(option, third, fourth),
-            _ => Command::in_json(command, option, third, fourth),
+            "frames" => Command::of_stream(option, third, fourth),
+            _ => Command::of_message(command, option, third, fourth),
         }
     }
 
     /// Returns the command of a call of four words, the first of which is neither `explain` nor
     /// `frames`: a command, an option, a type and a text.
-    fn in_json(
+    fn of_message(
         command: &'a str,
         option: &'a str,
         kind: &'a str,
@@ -323,9 +371,21 @@ impl<'a> Command<'a> {
         ensures none { IfNone result (command.now ≢ codes "explain" → command.now ≢ codes "frames"
             → IsNoCall (command.now ∷ option.now ∷ kind.now ∷ text.now ∷ [])) }
     {
-        if option != "--json" {
-            return None;
+        match option {
+            "--json" => Command::in_json(command, kind, text),
+            "--frame" => Command::framed(command, kind, text),
+            "--raw" => Command::raw(command, kind, text),
+            _ => None,
         }
+    }
+
+    /// Returns the command of a call of four words: a command, `--json`, a type and a text.
+    fn in_json(command: &'a str, kind: &'a str, text: &'a str) -> Option<Command<'a>>
+        ensures found { IfSome result (λ found.
+            IsCallOf (command.now ∷ codes "--json" ∷ kind.now ∷ text.now ∷ []) found) }
+        ensures none { IfNone result
+            (IsNoCall (command.now ∷ codes "--json" ∷ kind.now ∷ text.now ∷ [])) }
+    {
         match command {
             "enc" => Some(Command::EncodeJson {
                 expression: kind,
@@ -339,6 +399,45 @@ impl<'a> Command<'a> {
                 expression: kind,
                 hex: text,
             }),
+            _ => None,
+        }
+    }
+
+    /// Returns the command of a call of four words: a command, `--frame`, a type and a text.
+    fn framed(command: &'a str, kind: &'a str, text: &'a str) -> Option<Command<'a>>
+        ensures found { IfSome result (λ found.
+            IsCallOf (command.now ∷ codes "--frame" ∷ kind.now ∷ text.now ∷ []) found) }
+        ensures none { IfNone result
+            (IsNoCall (command.now ∷ codes "--frame" ∷ kind.now ∷ text.now ∷ [])) }
+    {
+        match command {
+            "enc" => Some(Command::EncodeFramed {
+                expression: kind,
+                value: text,
+            }),
+            "dec" => Some(Command::DecodeFramed {
+                expression: kind,
+                hex: text,
+            }),
+            _ => None,
+        }
+    }
+
+    /// Returns the command of a call of four words: a command, `--raw`, a type and a text, which is
+    /// `-` unless the command is `enc`.
+    fn raw(command: &'a str, kind: &'a str, text: &'a str) -> Option<Command<'a>>
+        ensures found { IfSome result (λ found.
+            IsCallOf (command.now ∷ codes "--raw" ∷ kind.now ∷ text.now ∷ []) found) }
+        ensures none { IfNone result
+            (IsNoCall (command.now ∷ codes "--raw" ∷ kind.now ∷ text.now ∷ [])) }
+    {
+        match command {
+            "enc" => Some(Command::EncodeRaw {
+                expression: kind,
+                value: text,
+            }),
+            "dec" if text == "-" => Some(Command::DecodeRaw { expression: kind }),
+            "decs" if text == "-" => Some(Command::DecodeAllRaw { expression: kind }),
             _ => None,
         }
     }
@@ -392,24 +491,29 @@ impl<'a> Command<'a> {
         })
     }
 
-    /// Returns the command of `frames` with three words after it: an option, its value and a type.
-    fn limited(option: &'a str, number: &'a str, kind: &'a str) -> Option<Command<'a>>
+    /// Returns the command of `frames` with three words after it: an option, and its value and a type,
+    /// or a type and HEX.
+    fn of_stream(option: &'a str, third: &'a str, fourth: &'a str) -> Option<Command<'a>>
         ensures found { IfSome result (λ found.
-            IsCallOf (codes "frames" ∷ option.now ∷ number.now ∷ kind.now ∷ []) found) }
+            IsCallOf (codes "frames" ∷ option.now ∷ third.now ∷ fourth.now ∷ []) found) }
         ensures none { IfNone result
-            (IsNoCall (codes "frames" ∷ option.now ∷ number.now ∷ kind.now ∷ [])) }
+            (IsNoCall (codes "frames" ∷ option.now ∷ third.now ∷ fourth.now ∷ [])) }
     {
         match option {
-            "--longest" if is_expression(kind) => match longest(number) {
+            "--longest" if is_expression(fourth) => match longest(third) {
                 Some(longest) => Some(Command::FramesOf {
-                    expression: kind,
+                    expression: fourth,
                     longest,
                 }),
                 None => None,
             },
             "--crc" => Some(Command::FramesChecked {
-                name: number,
-                expression: kind,
+                name: third,
+                expression: fourth,
+            }),
+            "--hex" => Some(Command::FramesHex {
+                expression: third,
+                hex: fourth,
             }),
             _ => None,
         }

@@ -15,7 +15,8 @@ ghost use Rattle.postcard_cli.specs.declared.explain.Layout.{Layout};
 
 use crate::failure::Failure;
 use crate::hexadecimal;
-use crate::message::schema_of;
+use crate::message::{print_refused, schema_of};
+use crate::place::place_of;
 use crate::stream::READS;
 use postcard_de_flavors::Source;
 use postcard_dyn::explain::{Expected, Label, Line, Node, explain};
@@ -55,9 +56,9 @@ struct Layout {
 ///
 /// # Errors
 ///
-/// Fails as `dec` does: if the bytes begin with no message of the type, with `Library`, after the
+/// Fails as `dec` does: if the bytes begin with no message of the type, with `Refused`, after the
 /// lines of the parts before the one that can't be read, the line of what was expected there, and
-/// the place.
+/// what `dec` prints.
 pub fn print<R: Source, W: Write>(
     alloc: Global,
     expression: &str,
@@ -82,8 +83,9 @@ pub fn print<R: Source, W: Write>(
         None => Ok(()),
         Some(error) => {
             let offset = refused_at(alloc, &schema, &bytes)?;
-            write!(output, "at byte {offset}: ")?;
-            Err(Failure::from(error))
+            let place = place_of(alloc, &schema, &bytes)?;
+            print_refused(offset, &place, &error, output)?;
+            Err(Failure::Refused)
         }
     }
 }

@@ -63,7 +63,12 @@ impl fmt::Display for Failure {
             Failure::BadType => f.write_str("bad type"),
             Failure::BadValue => f.write_str("bad value"),
             Failure::BadHex => f.write_str("bad hex"),
-            Failure::BadHexAt(character) => write!(f, "at character {character}: bad hex"),
+            Failure::BadHexAt(character) => {
+                write!(
+                    f,
+                    "at character {character}: expected two hex digits: bad hex"
+                )
+            }
             Failure::UnknownChecksum => f.write_str("unknown checksum, pcard crc lists them"),
             Failure::Library(error) => error.fmt(f),
             Failure::Refused => Ok(()),

@@ -68,7 +68,12 @@ pub fn read_loose<R: Source>(alloc: Global, text: &str, input: &mut R) -> Result
 }
 
 /// Returns all bytes of the input.
-fn read_input<R: Source>(alloc: Global, input: &mut R) -> Result<Vec<u8>, Failure>
+///
+/// # Errors
+///
+/// Fails with `ReadFailed` if a read of the input fails, with `Library(OutOfMemory)` if an allocation
+/// fails, and with `Limit` if the input doesn't end within [`READS`] reads, which no input does.
+pub fn read_input<R: Source>(alloc: Global, input: &mut R) -> Result<Vec<u8>, Failure>
     ensures all { IfOk result (λ held. Consumes (R.remaining input.old) (R.remaining input.new)
         held.items × IsAtEnd (R.remaining input.new)) }
     ensures refused { IfErr result (InputFails READS (R.steady input.old)

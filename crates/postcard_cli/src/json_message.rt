@@ -14,7 +14,7 @@ ghost use Rattle.postcard_cli.specs.Refusal.{JsonFrontFails, JsonLineFails};
 
 use crate::failure::Failure;
 use crate::hexadecimal;
-use crate::message::schema_of;
+use crate::message::{schema_of, schema_of_records};
 use crate::place::path_of;
 use crate::program::BUFFER;
 use crate::reason::reason;
@@ -133,11 +133,7 @@ pub fn decode_all<R: Source, W: Write>(
         hex.now (R.remaining input.old) (R.remaining input.new)
         (W.contents output.old) (W.contents output.new)) }
 {
-    let schema = schema_of(alloc, expression, output)?;
-    if !schema.has_bytes() {
-        output.write_all(b"messages of this type have no bytes: ")?;
-        return Err(Failure::BadType);
-    }
+    let schema = schema_of_records(alloc, expression, output)?;
     let bytes = hexadecimal::read_loose(alloc, hex, input)?;
     let all = bytes.as_slice();
     let mut rest = all;

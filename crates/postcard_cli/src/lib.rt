@@ -9,6 +9,7 @@ pub mod checksum;
 pub mod command;
 pub mod explain;
 pub mod failure;
+pub mod framed;
 pub mod frames;
 pub mod hexadecimal;
 pub mod joined;

@@ -1,19 +1,28 @@
-//! The commands `enc`, `dec` and `decs` for messages whose type is an expression.
+//! The commands `enc`, `dec` and `decs` for messages whose type is an expression, alone and with `--raw`
+//! or `--crc`.
 
-ghost use Rattle.std.specs.Prelude.{◌≡◌, ◌≤◌, ◌-◌, IfOk, IfErr, OnOk, length, take};
+ghost use Rattle.std.specs.Prelude.{◌≡◌, ◌≤◌, ◌-◌, IfOk, IfErr, OnOk, length, take, true};
+ghost use Rattle.std.specs.Io.KnownBytes.{Appends};
 ghost use Rattle.postcard_dyn_schema.specs.Grammar.{IsExpression};
+ghost use Rattle.postcard_dyn_schema.specs.Meaning.{has_bytes, type_of};
 ghost use Rattle.postcard_dyn.specs.declared.value.Value.{Value};
-ghost use Rattle.postcard_cli.specs.Checked.{IsEncoding, PrintsEncodedChecked, PrintsFirstChecked};
+ghost use Rattle.postcard_cli.specs.Checked.{IsEncoding, PrintsEncodedChecked, PrintsEncodedRaw};
+ghost use Rattle.postcard_cli.specs.Checked.{PrintsFirstChecked};
 ghost use Rattle.postcard_cli.specs.Checksum.{IsTrailer};
-ghost use Rattle.postcard_cli.specs.Message.{line_of, Prints, PrintsAll, PrintsEncoded, PrintsFirst};
-ghost use Rattle.postcard_cli.specs.Message.{ReadsValue};
+ghost use Rattle.postcard_cli.specs.Message.{line_of, Prints, PrintsAll, PrintsAllRaw, PrintsEach};
+ghost use Rattle.postcard_cli.specs.Message.{PrintsEncoded, PrintsFirst, PrintsFirstRaw};
+ghost use Rattle.postcard_cli.specs.Message.{PrintsFront, ReadsValue};
 ghost use Rattle.postcard_cli.specs.Refusal.{DecodeAllFails, DecodeFails, EncodeFails, FrontFails};
 ghost use Rattle.postcard_cli.specs.Refusal.{DecodeCheckedFails, EncodeCheckedFails, TrailerFails};
-ghost use Rattle.postcard_cli.specs.Refusal.{TypeFails};
+ghost use Rattle.postcard_cli.specs.Refusal.{DecodeAllRawFails, DecodeRawFails, EachFails};
+ghost use Rattle.postcard_cli.specs.Refusal.{RecordTypeFails, TypeFails, hint_text};
+ghost use Rattle.postcard_cli.specs.Stream.{refused_text};
 
 use crate::checksum::Checksum;
 use crate::failure::Failure;
+use crate::place::place_of;
 use crate::program::BUFFER;
+use crate::reason::reason;
 use crate::stream::READS;
 use crate::{checksum, hexadecimal};
 use arrayvec::ArrayVec;
@@ -25,7 +34,8 @@ use postcard_wire::Error;
 use std::alloc::Global;
 use std::io::Write;
 
-/// Reads a type expression. If it is misspelled, prints what is wrong and where.
+/// Reads a type expression. If it is misspelled, prints what is wrong and where, and of an unknown
+/// type what would do.
 ///
 /// # Errors
 ///
@@ -42,11 +52,49 @@ pub fn schema_of<W: Write>(alloc: Global, text: &str, output: &mut W) -> Result<
         Err(error) => match error.problem {
             Problem::OutOfMemory => Err(Failure::from(Error::OutOfMemory)),
             _ => {
-                write!(output, "{error}: ")?;
+                let hint = hint_of(error.problem);
+                write!(output, "{error}{hint}: ")?;
                 Err(Failure::BadType)
             }
         },
     }
+}
+
+/// Returns what to print behind a problem of a type expression, if it doesn't say what would do.
+fn hint_of(problem: Problem) -> &'static str
+    ensures { result.now ≡ hint_text problem }
+{
+    match problem {
+        Problem::UnknownType => {
+            ", pcard types lists them, and a variant alone has a `|` before it"
+        }
+        _ => "",
+    }
+}
+
+/// Reads a type expression of records, one after another, each of which has to have a byte.
+///
+/// # Errors
+///
+/// Fails as [`schema_of`] does, and with `BadType` if messages of the type have no bytes, after this
+/// is printed.
+pub fn schema_of_records<W: Write>(
+    alloc: Global,
+    text: &str,
+    output: &mut W,
+) -> Result<Schema, Failure>
+    ensures spelled { IfOk result (λ schema. IsExpression schema text.now) }
+    ensures has_some { IfOk result (λ schema. has_bytes (type_of schema) ≡ true) }
+    ensures untouched { OnOk result (output.new ≡ output.old) }
+    ensures refused { IfErr result (RecordTypeFails text.now (W.contents output.old)
+        (W.contents output.new)) }
+{
+    let schema = schema_of(alloc, text, output)?;
+    if !schema.has_bytes() {
+        output.write_all(b"messages of this type have no bytes: ")?;
+        return Err(Failure::BadType);
+    }
+    Ok(schema)
 }
 
 /// Encodes the value of a text, and prints its encoding as hexadecimal on a line.
@@ -70,6 +118,27 @@ pub fn encode<W: Write>(
     let encoding = encoding_of(alloc, expression, value, output)?;
     hexadecimal::write(&encoding, output)?;
     writeln!(output)?;
+    Ok(())
+}
+
+/// Encodes the value of a text, and prints the bytes of its encoding, and nothing after them.
+///
+/// # Errors
+///
+/// Fails as [`encode`] does.
+pub fn encode_raw<W: Write>(
+    alloc: Global,
+    expression: &str,
+    value: &str,
+    output: &mut W,
+) -> Result<(), Failure>
+    ensures printed { OnOk result (PrintsEncodedRaw expression.now value.now
+        (W.contents output.old) (W.contents output.new)) }
+    ensures refused { IfErr result (EncodeFails expression.now value.now
+        (W.contents output.old) (W.contents output.new)) }
+{
+    let encoding = encoding_of(alloc, expression, value, output)?;
+    output.write_all(&encoding)?;
     Ok(())
 }
 
@@ -100,7 +169,7 @@ pub fn encode_checked<W: Write>(
 }
 
 /// Returns the encoding of the value of a text. Fails as [`encode`] does.
-fn encoding_of<W: Write>(
+pub fn encoding_of<W: Write>(
     alloc: Global,
     expression: &str,
     value: &str,
@@ -137,8 +206,8 @@ fn encoding_of<W: Write>(
 ///
 /// # Errors
 ///
-/// Fails as [`schema_of`] and [`hexadecimal::read_loose`] do, and with `Library` if the bytes begin
-/// with no message of the type, after the place of the error is printed.
+/// Fails as [`schema_of`] and [`hexadecimal::read_loose`] do, and with `Refused` if the bytes begin
+/// with no message of the type, after which part can't be read, where, and why are printed.
 pub fn decode<R: Source, W: Write>(
     alloc: Global,
     expression: &str,
@@ -154,7 +223,46 @@ pub fn decode<R: Source, W: Write>(
 {
     let schema = schema_of(alloc, expression, output)?;
     let bytes = hexadecimal::read_loose(alloc, hex, input)?;
-    let rest = print_front(alloc, &schema, &bytes, &bytes, output)?;
+    print_first(alloc, &schema, &bytes, output)
+}
+
+/// Does what [`decode`] does with all bytes of the input.
+///
+/// # Errors
+///
+/// Fails as [`schema_of`] and [`hexadecimal::read_input`] do, and with `Refused` if the bytes begin
+/// with no message of the type, after which part can't be read, where, and why are printed.
+pub fn decode_raw<R: Source, W: Write>(
+    alloc: Global,
+    expression: &str,
+    input: &mut R,
+    output: &mut W,
+) -> Result<(), Failure>
+    ensures printed { OnOk result (PrintsFirstRaw expression.now (R.remaining input.old)
+        (R.remaining input.new) (W.contents output.old) (W.contents output.new)) }
+    ensures refused { IfErr result (DecodeRawFails READS (R.steady input.old) expression.now
+        (R.remaining input.old) (R.remaining input.new)
+        (W.contents output.old) (W.contents output.new)) }
+{
+    let schema = schema_of(alloc, expression, output)?;
+    let held = hexadecimal::read_input(alloc, input)?;
+    print_first(alloc, &schema, &held, output)
+}
+
+/// Prints the value at the front of bytes on a line, and the bytes after it as hexadecimal on a
+/// second.
+fn print_first<W: Write>(
+    alloc: Global,
+    schema: &Schema,
+    bytes: &[u8],
+    output: &mut W,
+) -> Result<(), Failure>
+    ensures printed { OnOk result (PrintsFront schema.now bytes.now
+        (W.contents output.old) (W.contents output.new)) }
+    ensures refused { IfErr result (FrontFails schema.now bytes.now bytes.now
+        (W.contents output.old) (W.contents output.new)) }
+{
+    let rest = print_front(alloc, schema, bytes, bytes, output)?;
     hexadecimal::write(rest, output)?;
     writeln!(output)?;
     Ok(())
@@ -240,23 +348,57 @@ pub fn decode_all<R: Source, W: Write>(
         (R.remaining input.old) (R.remaining input.new)
         (W.contents output.old) (W.contents output.new)) }
 {
-    let schema = schema_of(alloc, expression, output)?;
-    if !schema.has_bytes() {
-        output.write_all(b"messages of this type have no bytes: ")?;
-        return Err(Failure::BadType);
-    }
+    let schema = schema_of_records(alloc, expression, output)?;
     let bytes = hexadecimal::read_loose(alloc, hex, input)?;
-    let all = bytes.as_slice();
-    let mut rest = all;
+    print_all(alloc, &schema, &bytes, output)
+}
+
+/// Does what [`decode_all`] does with all bytes of the input.
+///
+/// # Errors
+///
+/// Fails as [`decode_raw`] does, and with `BadType` if messages of the type have no bytes. The
+/// values before an error are printed.
+pub fn decode_all_raw<R: Source, W: Write>(
+    alloc: Global,
+    expression: &str,
+    input: &mut R,
+    output: &mut W,
+) -> Result<(), Failure>
+    ensures printed { OnOk result (PrintsAllRaw expression.now (R.remaining input.old)
+        (R.remaining input.new) (W.contents output.old) (W.contents output.new)) }
+    ensures refused { IfErr result (DecodeAllRawFails READS (R.steady input.old) expression.now
+        (R.remaining input.old) (R.remaining input.new)
+        (W.contents output.old) (W.contents output.new)) }
+{
+    let schema = schema_of_records(alloc, expression, output)?;
+    let held = hexadecimal::read_input(alloc, input)?;
+    print_all(alloc, &schema, &held, output)
+}
+
+/// Prints the values of bytes, one after another until no byte is left, each on a line.
+fn print_all<W: Write>(
+    alloc: Global,
+    schema: &Schema,
+    bytes: &[u8],
+    output: &mut W,
+) -> Result<(), Failure>
+    requires { has_bytes (type_of schema.now) ≡ true }
+    ensures printed { OnOk result (PrintsEach schema.now bytes.now
+        (W.contents output.old) (W.contents output.new)) }
+    ensures refused { IfErr result (EachFails schema.now bytes.now
+        (W.contents output.old) (W.contents output.new)) }
+{
+    let mut rest = bytes;
     'values: while !rest.is_empty() {
-        rest = print_front(alloc, &schema, all, rest, output)?;
+        rest = print_front(alloc, schema, bytes, rest, output)?;
     }
     Ok(())
 }
 
 /// Decodes a value from the front of `rest`, the last of the bytes `all`, and prints it on a line.
 /// Returns the bytes after it. If the bytes are refused, prints the offset in `all` of the part that
-/// can't be read.
+/// can't be read, its place, and why.
 fn print_front<'a, W: Write>(
     alloc: Global,
     schema: &Schema,
@@ -276,7 +418,8 @@ fn print_front<'a, W: Write>(
 }
 
 /// Decodes a value from the front of `rest`, the last of the bytes `all`. Returns it, and the bytes
-/// after it. If the bytes are refused, prints the offset in `all` of the part that can't be read.
+/// after it. If the bytes are refused, prints the offset in `all` of the part that can't be read, its
+/// place, and why.
 fn read_front<'a, W: Write>(
     alloc: Global,
     schema: &Schema,
@@ -295,10 +438,28 @@ fn read_front<'a, W: Write>(
         Err(error) => {
             let before = all.len().saturating_sub(rest.len());
             let offset = before.saturating_add(refused_at(alloc, schema, rest)?);
-            write!(output, "at byte {offset}: ")?;
-            Err(Failure::from(error))
+            let place = place_of(alloc, schema, rest)?;
+            print_refused(offset, &place, &error, output)?;
+            Err(Failure::Refused)
         }
     }
+}
+
+/// Prints of a refused message the offset of the part that can't be read, its place, and why, without
+/// the end of the line.
+pub fn print_refused<W: Write>(
+    offset: usize,
+    place: &str,
+    error: &Error,
+    output: &mut W,
+) -> Result<(), Failure>
+    ensures printed { OnOk result (Appends (W.contents output.old) (W.contents output.new)
+        (refused_text offset place.now error.now)) }
+    ensures refused { IfErr result (λ e. e ≡ Failure.Output) }
+{
+    let why = reason(error);
+    write!(output, "at byte {offset}: {place}{why}")?;
+    Ok(())
 }
 
 /// Prints a value on a line.

@@ -34,7 +34,8 @@ use crate::joined::Joined;
 use crate::stream::READS;
 use crate::syntax::SYNTAX;
 use crate::{
-    checksum, explain, frames, hexadecimal, json_message, message, size, stream, syntax, value,
+    checksum, explain, framed, frames, hexadecimal, json_message, message, size, stream, syntax,
+    value,
 };
 use postcard_de::{Deserialize, take_from_bytes};
 use postcard_de_flavors::Source;
@@ -66,7 +67,7 @@ enum Task<'a> {
 /// - 3 if the input isn't read to its end, if an allocation for an answer or a value of `frames`
 ///   fails, or, whatever else happened, if the output can't be written.
 ///
-/// The input is read by `frames`, and for a HEX of `-` if TYPE is an expression.
+/// The input is read by `frames`, for `--raw`, and for a HEX of `-` if TYPE is an expression.
 pub fn run<R: Source, W: Write>(
     alloc: Global,
     words: &[String],
@@ -164,6 +165,21 @@ fn carry_out<R: Source, W: Write>(
         Command::DecodeAllJson { expression, hex } => {
             json_message::decode_all(alloc, expression, hex, input, output)
         }
+        Command::EncodeFramed { expression, value } => {
+            framed::encode(alloc, expression, value, output)
+        }
+        Command::DecodeFramed { expression, hex } => {
+            framed::decode(alloc, expression, hex, input, output)
+        }
+        Command::EncodeRaw { expression, value } => {
+            message::encode_raw(alloc, expression, value, output)
+        }
+        Command::DecodeRaw { expression } => {
+            message::decode_raw(alloc, expression, input, output)
+        }
+        Command::DecodeAllRaw { expression } => {
+            message::decode_all_raw(alloc, expression, input, output)
+        }
         Command::Frames => frames::print(alloc, input, output),
         Command::FramesOf {
             expression,
@@ -171,6 +187,9 @@ fn carry_out<R: Source, W: Write>(
         } => { stream::print(alloc, expression, longest, input, output) }
         Command::FramesChecked { name, expression } => {
             stream::print_checked(alloc, name, expression, input, output)
+        }
+        Command::FramesHex { expression, hex } => {
+            stream::print_hex(alloc, expression, hex, input, output)
         }
         Command::Explain {
             expression,

@@ -10,11 +10,13 @@ ghost use Rattle.postcard_cobs.specs.Groups.{NoZero};
 ghost use Rattle.postcard_dyn.specs.Explained.{HasNoFront};
 ghost use Rattle.postcard_dyn.specs.Tree.{tree};
 ghost use Rattle.postcard_dyn_text.specs.Shown.{layout_of, text};
+ghost use Rattle.postcard_cli.specs.Framed.{PrintsHexFrames};
 ghost use Rattle.postcard_cli.specs.Message.{Prints};
 ghost use Rattle.postcard_cli.specs.Place.{IsPlaceOf};
 ghost use Rattle.postcard_cli.specs.Receiving.{Continues, IsSame, PrintsAnswer, PrintsMessage};
 ghost use Rattle.postcard_cli.specs.Receiving.{ReadFails, Reads};
-ghost use Rattle.postcard_cli.specs.Refusal.{StreamCheckedFails, StreamFails, ValuesFail};
+ghost use Rattle.postcard_cli.specs.Refusal.{FramesHexFail, StreamCheckedFails, StreamFails};
+ghost use Rattle.postcard_cli.specs.Refusal.{ValuesFail};
 ghost use Rattle.postcard_cli.specs.Stream.{IsBehind, IsNamed, IsPlain, LacksChecksum, PrintsValues};
 ghost use Rattle.postcard_cli.specs.Stream.{more_text, noun_of, reason_text};
 ghost use Rattle.postcard_cli.specs.declared.stream.Format.{Format};
@@ -111,6 +113,36 @@ pub fn print_checked<R: Source, W: Write>(
         checksum: Some(checksum),
     };
     print_values(alloc, &format, LONGEST, input, output)
+}
+
+/// Prints what [`print`] prints if the bytes of HEX are its input. A frame has at most [`LONGEST`]
+/// bytes.
+///
+/// # Errors
+///
+/// Fails as [`schema_of`] and [`hexadecimal::read_loose`] do, with `OutOfMemory` if another
+/// allocation fails, and with `Output` if the output can't be written.
+pub fn print_hex<R: Source, W: Write>(
+    alloc: Global,
+    expression: &str,
+    hex: &str,
+    input: &mut R,
+    output: &mut W,
+) -> Result<(), Failure>
+    ensures printed { OnOk result (PrintsHexFrames expression.now hex.now (R.remaining input.old)
+        (R.remaining input.new) (W.contents output.old) (W.contents output.new)) }
+    ensures refused { IfErr result (FramesHexFail READS (R.steady input.old) expression.now hex.now
+        (R.remaining input.old) (R.remaining input.new)
+        (W.contents output.old) (W.contents output.new)) }
+{
+    let schema = schema_of(alloc, expression, output)?;
+    let bytes = hexadecimal::read_loose(alloc, hex, input)?;
+    let format = Format {
+        schema,
+        checksum: None,
+    };
+    let mut stream = Stream::new(alloc, LONGEST);
+    stream.take(alloc, &format, &bytes, output)
 }
 
 /// What the data of a frame is: a message of a type, and the checksum behind it, if there is one.
@@ -476,8 +508,8 @@ fn print_unread<W: Write>(
     Ok(())
 }
 
-/// Prints a value, and the bytes of the frame's data after it.
-fn print_value<W: Write>(
+/// Prints a value, and the bytes of the frame's data after it, on a line.
+pub fn print_value<W: Write>(
     schema: &Schema,
     value: &Value,
     rest: &[u8],

@@ -188,7 +188,7 @@ const ENCODE: [Call; 22] = [
     (
         &["enc", "u9?", "1"],
         b"",
-        "unknown type at character 1: bad type\n",
+        "unknown type at character 1, pcard types lists them, and a variant alone has a `|` before it: bad type\n",
         2,
     ),
     (&["enc", "usize", "1"], b"", USAGE, 2),
@@ -208,25 +208,25 @@ const DECODE: [Call; 9] = [
     (
         &["dec", SENSOR, "2a0578"],
         b"",
-        "at byte 1: Hit the end of buffer, expected more data\n",
+        "at byte 1: label: unexpected end\n",
         1,
     ),
     (
         &["dec", STATE, "03"],
         b"",
-        "at byte 0: Serde Deserialization Error\n",
+        "at byte 0: unknown variant\n",
         1,
     ),
     (
         &["dec", "[bool]", "02 00 02"],
         b"",
-        "at byte 2: Found a bool that wasn't 0 or 1\n",
+        "at byte 2: [1]: bad bool\n",
         1,
     ),
     (
         &["dec", "(u9)", "0"],
         b"",
-        "unknown type at character 2: bad type\n",
+        "unknown type at character 2, pcard types lists them, and a variant alone has a `|` before it: bad type\n",
         2,
     ),
 ];
@@ -244,7 +244,7 @@ const DECODE_ALL: [Call; 7] = [
     (
         &["decs", "(u8, bool)", "0101 0202"],
         b"",
-        "(1, true)\nat byte 3: Found a bool that wasn't 0 or 1\n",
+        "(1, true)\nat byte 3: 1: bad bool\n",
         1,
     ),
     (

@@ -39,7 +39,12 @@ const CALLS: [Call; 17] = [
     (&["crc", CRC_32, "-"], b"2a 0178\n0x020204", "b2c154c5\n", 0),
     (&["crc", "CRC-16/XMODEM", "05"], b"", "50a5\n", 0),
     (&["crc", CRC_32, ""], b"", "00000000\n", 0),
-    (&["crc", CRC_32, "5"], b"", "at character 1: bad hex\n", 2),
+    (
+        &["crc", CRC_32, "5"],
+        b"",
+        "at character 1: expected two hex digits: bad hex\n",
+        2,
+    ),
     (
         &["crc", "CRC-32", "05"],
         b"",
@@ -88,7 +93,7 @@ const CALLS: [Call; 17] = [
     (
         &["dec", "--crc", CRC_32, SENSOR, "2a017802"],
         b"",
-        "at byte 4: Hit the end of buffer, expected more data\n",
+        "at byte 4: samples[0]: unexpected end\n",
         1,
     ),
     (

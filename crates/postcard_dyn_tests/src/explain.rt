@@ -43,7 +43,7 @@ const FLOATS_SHOWN: &str = "\
 
 const FLOAT_REFUSED: &str = "\
 00  00 00 c0  expected f32
-at byte 0: Hit the end of buffer, expected more data
+at byte 0: unexpected end
 ";
 
 /// A padded count, and two bytes after the value.
@@ -99,7 +99,7 @@ const LONG_REFUSED: &str = "\
 10  0f    [15]: 15
 11  10    [16]: and 1 more
 12        [17]: expected u8
-at byte 18: Hit the end of buffer, expected more data
+at byte 18: [17]: unexpected end
 ";
 
 /// A text of nine bytes, of which eight are shown, and a text of 60 bytes, of which the row has room
@@ -125,38 +125,39 @@ const SENSOR_REFUSED: &str = "\
 03  02     samples: 2 elements
 04  02       [0]: 1
 05           [1]: expected i16
-at byte 5: Hit the end of buffer, expected more data
+at byte 5: samples[1]: unexpected end
 ";
 
 const OPTION_REFUSED: &str = "\
 00  05     .0: 5
 01  02 07  .1: expected an option: 00 or 01
-at byte 1: Found an Option discriminant that wasn't 0 or 1
+at byte 1: 1: bad option
 ";
 
 const VARIANT_REFUSED: &str = "\
 00  02  expected the index of a variant
-at byte 0: Serde Deserialization Error
+at byte 0: unknown variant
 ";
 
 const COUNT_REFUSED: &str = "\
 00  ff  expected the number of elements
-at byte 0: Hit the end of buffer, expected more data
+at byte 0: unexpected end
 ";
 
 const BOOL_REFUSED: &str = "\
 00         x:
 00  01       y: 1
 01  03 00    z: expected bool: 00 or 01
-at byte 1: Found a bool that wasn't 0 or 1
+at byte 1: x.z: bad bool
 ";
 
 const EMPTY_REFUSED: &str = "\
 00   expected u8
-at byte 0: Hit the end of buffer, expected more data
+at byte 0: unexpected end
 ";
 
-const UNKNOWN: &str = "unknown type at character 1: bad type\n";
+const UNKNOWN: &str =
+    "unknown type at character 1, pcard types lists them, and a variant alone has a `|` before it: bad type\n";
 
 /// Calls that print a value.
 const EXPLAINED: [Call; 13] = [
@@ -215,7 +216,12 @@ const STOPPED: [Call; 13] = [
     ),
     (&["explain", "u8", ""], b"", EMPTY_REFUSED, 1),
     (&["explain", "u7", "00"], b"", UNKNOWN, 2),
-    (&["explain", "u8", "0"], b"", "at character 1: bad hex\n", 2),
+    (
+        &["explain", "u8", "0"],
+        b"",
+        "at character 1: expected two hex digits: bad hex\n",
+        2,
+    ),
     (&["explain", "u8"], b"", USAGE, 2),
     (&["explain", "--most", "u8", "00"], b"", USAGE, 2),
     (&["explain", "--all", "u8", "00", "00"], b"", USAGE, 2),

@@ -327,6 +327,20 @@ fn reports_a_failed_read_of_a_typed_stream(rt: HostRuntime) {
     check_reads(&rt, &call, &SENSORS, 1, printed.as_str(), 3);
 }
 
+#[test]
+fn reports_a_failed_read_of_all_bytes(rt: HostRuntime) {
+    let calls: [&[&str]; 3] = [
+        &["dec", "--raw", "u8"],
+        &["decs", "--raw", "u8"],
+        &["frames", "--hex", "u8", "-"],
+    ];
+    for call in &calls {
+        for reads in 0..2 {
+            check_reads(&rt, call, &[7], reads, "read failed\n", 3);
+        }
+    }
+}
+
 /// Returns so many bytes 1.
 fn ones(rt: &(impl Abort + AllocGlobal), count: usize) -> Vec<u8> {
     [1].repeat(rt.alloc(), count).expect(rt, "memory")

@@ -56,7 +56,7 @@ const CALLS: [Call; 22] = [
     (
         &["dec", "--json", "u8", "zz"],
         b"",
-        "at character 1: bad hex\n",
+        "at character 1: expected two hex digits: bad hex\n",
         2,
     ),
     (

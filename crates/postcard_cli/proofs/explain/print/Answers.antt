@@ -1,4 +1,4 @@
-use Rattle.std.proofs.Common.{inr}
+use Rattle.std.proofs.Common.{string_bytes}
 use Rattle.postcard_cli.proofs.explain.print.Goals as goal
 
 pub returns-clause-refused : goal.returns-clause-refused
@@ -6,8 +6,7 @@ returns-clause-refused g c =
     let told = c.in_ok-explanation.ensures in
     let none = rw c.in-Some.is at told.refused in
     let rows = c.in_ok-print_lines.ensures.printed in
-    rw c.from.ensures
-    (inr (inr (record {
+    record {
       schema = c.in_ok-schema.schema;
       spelled = c.in_ok-schema.ensures.spelled;
       bytes = c.in_ok-bytes.bytes.items;
@@ -19,7 +18,12 @@ returns-clause-refused g c =
       uncut = rows.1;
       mid = g.W.Write.contents c.print_lines.new.output;
       rows = rw c.in_ok-schema.ensures.untouched at rows.2;
+      error = c.in-Some.error;
+      named = none.1;
+      not_memory = none.2;
       offset = c.in_ok-offset-in-Some.offset;
       within = rw c.deref-in-Some.ensures.value at c.in_ok-offset-in-Some.ensures.within;
-      printed = c.in_ok-write-in-Some.ensures.bytes;
-    })))
+      place = string_bytes c.in_ok-place-in-Some.place;
+      is_place = (rw c.deref-in-Some-2.ensures.value at c.in_ok-place-in-Some.ensures.named) (rw c.deref.ensures.value at none.0);
+      printed = rw c.deref-in-Some-3.ensures at c.in_ok-print_refused-in-Some.ensures.printed;
+    }

@@ -10,7 +10,7 @@ values-init g c = record { same = refl; lines = none_printed _ _ _ }
 
 pub values-smaller : goal.values-smaller
 values-smaller g c =
-    takes_some _ _ _ _ (sym c.has_bytes.ensures ∙ c.if-not-has_bytes.false) (rw c.values.invariant.same at c.in_ok-rest.ensures.printed.1)
+    takes_some _ _ _ _ c.in_ok-schema.ensures.has_some (rw c.values.invariant.same at c.in_ok-rest.ensures.printed.1)
 
 pub values-preserved : goal.values-preserved
 values-preserved g c =
