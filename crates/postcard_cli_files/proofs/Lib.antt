@@ -1,2 +1,4 @@
 pub mod Colons
-pub mod Replaced
+pub mod Reads
+pub mod Options
+pub mod Words

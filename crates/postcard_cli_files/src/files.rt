@@ -36,6 +36,7 @@ pub trait Files {
 }
 
 /// The files of the system. Nothing is claimed of what they have.
+#[derive(Clone, Copy)]
 pub struct Disk<'a>(pub &'a HostRuntime);
 
 impl Files for Disk<'_> {

@@ -2,6 +2,7 @@
 
 ghost use Rattle.std.specs.Prelude.{⊤};
 
+use crate::type_name::LONGEST_FILE;
 use crate::{Files, ReadError, run};
 use std::alloc::Global;
 use std::process::Abort;
@@ -19,71 +20,69 @@ struct Wrong {
 }
 ";
 
-/// The files of the tests, by their names.
-const FILES: [(&str, &[u8]); 3] = [
-    ("types.rs", TYPES.as_bytes()),
-    ("a:b.rs", b"struct Pair(u8, u16);"),
-    ("latin1.rs", b"// caf\xe9\nstruct Pair(u8, u16);"),
-];
-
-/// Files that a test has.
+/// Files that a test has: `types.rs`, `a:b.rs`, `latin1.rs`, which is no UTF-8, `long.rs`, which has a
+/// declaration and then so many blanks that it is one byte too long, and `full.rs`, for which there is
+/// no memory.
+#[derive(Clone, Copy)]
 struct Held;
+
+impl Held {
+    /// Returns a file of one declaration with this length.
+    fn padded(alloc: Global, length: usize) -> Result<Vec<u8>, ReadError> {
+        let Ok(mut bytes) = Vec::from_slice(alloc, b"struct Pair(u8, u16);") else {
+            return Err(ReadError::OutOfMemory);
+        };
+        match bytes.resize(length, b' ') {
+            Ok(()) => Ok(bytes),
+            Err(_) => Err(ReadError::OutOfMemory),
+        }
+    }
+}
 
 impl Files for Held {
     ghost gives = { λ _ _ _. ⊤ };
 
     ghost lacks = { λ _ _. ⊤ };
 
-    fn read(&self, alloc: Global, name: &str) -> Result<Vec<u8>, ReadError> {
-        for (file, bytes) in &FILES {
-            if *file == name {
-                return match Vec::from_slice(alloc, bytes) {
-                    Ok(bytes) => Ok(bytes),
-                    Err(_) => Err(ReadError::OutOfMemory),
-                };
+    fn read(&self, alloc: Global, name: &str, most: usize) -> Result<Vec<u8>, ReadError> {
+        let bytes = match name {
+            "types.rs" => Vec::from_slice(alloc, TYPES.as_bytes()),
+            "a:b.rs" => Vec::from_slice(alloc, b"struct Pair(u8, u16);"),
+            "latin1.rs" => Vec::from_slice(alloc, b"// caf\xe9\nstruct Pair(u8, u16);"),
+            "longest.rs" => return Held::padded(alloc, LONGEST_FILE.min(most)),
+            "long.rs" => return Held::padded(alloc, (LONGEST_FILE + 1).min(most)),
+            "full.rs" => return Err(ReadError::OutOfMemory),
+            _ => return Err(ReadError::Failed),
+        };
+        match bytes {
+            Ok(mut bytes) => {
+                bytes.truncate(most);
+                Ok(bytes)
             }
+            Err(_) => Err(ReadError::OutOfMemory),
         }
-        Err(ReadError::Failed)
     }
 }
 
-/// The words of a call, its input, what it prints, and its status.
-type Call<'a> = (&'a [&'a str], &'a [u8], &'a str, u8);
+/// The words of a call, what it prints to the output and as errors, and its status.
+type Call<'a> = (&'a [&'a str], &'a str, &'a str, u8);
 
-/// Calls with a type in a file.
-const NAMED: [Call; 12] = [
+/// Calls with a type in a file, and calls that name none.
+const CALLS: [Call; 12] = [
     (
         &[
             "enc",
             "@types.rs:Reading",
             "{id: 42, label: \"x\", samples: [1, 2]}",
         ],
-        b"",
         "2a0178020204\n",
+        "",
         0,
     ),
     (
-        &["dec", "@types.rs:Event", "012a017802020499"],
-        b"",
-        "Reading{id: 42, label: \"x\", samples: [1, 2]}\n99\n",
-        0,
-    ),
-    (
-        &["decs", "@types.rs:Millimetres", "0304"],
-        b"",
-        "-2\n2\n",
-        0,
-    ),
-    (
-        &["dec", "--json", "@types.rs:Event", "-"],
-        b"020701 21",
+        &["dec", "--json", "@types.rs:Event", "02070121"],
         "{\"at\":0,\"value\":{\"Fault\":{\"code\":7,\"text\":\"!\"}}}\n",
-        0,
-    ),
-    (
-        &["enc", "--json", "@types.rs:Event", "\"Boot\""],
-        b"",
-        "00\n",
+        "",
         0,
     ),
     (
@@ -94,137 +93,117 @@ const NAMED: [Call; 12] = [
             "@types.rs:Millimetres",
             "150",
         ],
-        b"",
         "ac025178\n",
-        0,
-    ),
-    (
-        &["explain", "--all", "@a:b.rs:Pair", "07ac02"],
-        b"",
-        "00  07     .0: 7\n01  ac 02  .1: 300\n",
-        0,
-    ),
-    (
-        &["size", "@types.rs:Millimetres"],
-        b"",
-        "bytes: 1 to 5, as a frame 3 to 7\n",
-        0,
-    ),
-    (
-        &["frames", "@a:b.rs:Pair"],
-        b"\x04\x07\xac\x02\x00",
-        "(7, 300)\n",
+        "",
         0,
     ),
     (
         &["frames", "--longest", "3", "@a:b.rs:Pair"],
-        b"\x04\x07\xac\x02\x00",
         "overfull at byte 0\n",
+        "",
         0,
     ),
     (
-        &["enc", "@types.rs:Reading", "{id: 42}"],
-        b"",
-        "at character 8: expected `,` and field `label`: bad value\n",
-        2,
+        &["size", "@longest.rs:Pair"],
+        "bytes: 2 to 4, as a frame 4 to 6\n",
+        "",
+        0,
     ),
     (
-        &["decs", "@a:b.rs:Pair", "07ac"],
-        b"",
-        "at byte 1: Hit the end of buffer, expected more data\n",
-        1,
+        &["enc", "str", "@full.rs:Reading"],
+        "104066756c6c2e72733a52656164696e67\n",
+        "",
+        0,
     ),
-];
-
-/// Calls with the name of no type, and calls that name none.
-const OTHERS: [Call; 9] = [
+    (
+        &["@types.rs:Reading"],
+        "usage: pcard enc TYPE VALUE, dec TYPE HEX, frames\n",
+        "",
+        2,
+    ),
     (
         &["enc", "@types.rs:Wrong", "{id: 1}"],
-        b"",
-        "types.rs: line 9, column 9: unknown type: bad type\n",
-        2,
-    ),
-    (
-        &["size", "@types.rs:Other"],
-        b"",
-        "types.rs: line 11, column 1: no declaration has the name: bad type\n",
+        "",
+        "pcard: types.rs: line 9, column 9: unknown type\n",
         2,
     ),
     (
         &["dec", "@other.rs:Reading", "00"],
-        b"",
-        "other.rs: read failed\n",
-        3,
-    ),
-    (
-        &["dec", "@latin1.rs:Pair", "0000"],
-        b"",
-        "latin1.rs: no UTF-8: bad type\n",
+        "",
+        "pcard: other.rs: the file can't be read\n",
         2,
     ),
     (
-        &["enc", "@types.rs", "1"],
-        b"",
-        "usage: pcard enc TYPE VALUE, dec TYPE HEX, frames\n",
+        &["explain", "--all", "@latin1.rs:Pair", "0000"],
+        "",
+        "pcard: latin1.rs: the file is not UTF-8\n",
         2,
     ),
     (
-        &["enc", "str", "@types.rs:Reading"],
-        b"",
-        "114074797065732e72733a52656164696e67\n",
-        0,
-    ),
-    (
-        &["crc", "@types.rs:Reading", "00"],
-        b"",
-        "@types.rs:Reading: unknown checksum, pcard crc lists them\n",
+        &["decs", "@long.rs:Pair", "0000"],
+        "",
+        "pcard: long.rs: the file has more than 1048576 bytes\n",
         2,
     ),
     (
-        &["@types.rs:Reading"],
-        b"",
-        "usage: pcard enc TYPE VALUE, dec TYPE HEX, frames\n",
-        2,
-    ),
-    (
-        &[],
-        b"",
-        "usage: pcard enc TYPE VALUE, dec TYPE HEX, frames\n",
-        2,
+        &["size", "@full.rs:Pair"],
+        "",
+        "pcard: full.rs: out of memory\n",
+        1,
     ),
 ];
 
-/// Asserts that a call prints this and has this status.
-fn check(rt: &(impl Abort + AllocGlobal), call: &Call) {
-    let (call, input, printed, status) = call;
+/// Returns the words of a call.
+fn words_of(rt: &(impl Abort + AllocGlobal), call: &[&str]) -> Vec<String> {
     let mut words = Vec::new(rt.alloc());
-    for word in *call {
+    for word in call {
         let word = String::from_str(rt.alloc(), word).expect(rt, "memory");
         words.push(word).expect(rt, "memory");
     }
-    let mut input = *input;
+    words
+}
+
+/// Asserts that a call over a frame prints this and has this status.
+fn check(rt: &(impl Abort + AllocGlobal), call: &Call) {
+    let (call, printed, told, status) = call;
+    let mut words = words_of(rt, call);
+    let mut input = b"\x04\x07\xac\x02\x00".as_slice();
     let mut output = Vec::new(rt.alloc());
+    let mut errors = Vec::new(rt.alloc());
     let found = run(
         rt.alloc(),
         words.as_mut_slice(),
         &Held,
         &mut input,
         &mut output,
+        &mut errors,
     );
     assert_eq!(rt; output.as_slice(), printed.as_bytes(), "{call:?}");
+    assert_eq!(rt; errors.as_slice(), told.as_bytes(), "{call:?}");
     assert_eq!(rt; found, *status, "{call:?}");
 }
 
 #[test]
 fn reads_types_from_files(rt: HostRuntime) {
-    for call in &NAMED {
+    for call in &CALLS {
         check(&rt, call);
     }
 }
 
 #[test]
-fn names_what_is_wrong(rt: HostRuntime) {
-    for call in &OTHERS {
-        check(&rt, call);
-    }
+fn ends_with_three_if_an_error_is_not_written(rt: HostRuntime) {
+    let mut words = words_of(&rt, &["size", "@other.rs:Pair"]);
+    let mut input = b"".as_slice();
+    let mut output = Vec::new(rt.alloc());
+    let mut room = [0; 4];
+    let status = run(
+        rt.alloc(),
+        words.as_mut_slice(),
+        &Held,
+        &mut input,
+        &mut output,
+        &mut room.as_mut_slice(),
+    );
+    assert_eq!(rt; status, 3);
+    assert!(rt; output.is_empty());
 }
