@@ -97,7 +97,10 @@ fn type_index(words: &[String]) -> Option<usize>
 fn takes_type(command: &str) -> bool
     ensures { Decides result (TakesType command.now) }
 {
-    matches!(command, "enc" | "dec" | "decs" | "frames" | "explain" | "size")
+    matches!(
+        command,
+        "enc" | "dec" | "decs" | "frames" | "explain" | "size"
+    )
 }
 
 /// Returns the index of the first word behind the command and its options, or `None` if there is none.

@@ -28,10 +28,8 @@ impl TypeFault {
     {
         match self {
             TypeFault::OutOfMemory => 1,
-            TypeFault::Unreadable
-            | TypeFault::TooLong
-            | TypeFault::NoText
-            | TypeFault::Wrong(_) => 2,
+            TypeFault::Unreadable | TypeFault::TooLong | TypeFault::NoText | TypeFault::Wrong(_) =>
+                2,
         }
     }
 }
