@@ -1,4 +1,4 @@
-pub mod Colons
-pub mod Reads
-pub mod Options
-pub mod Words
+pub mod ColonLemmas
+pub mod FileLemmas
+pub mod OptionLemmas
+pub mod WordLemmas

@@ -1,6 +1,6 @@
 //! The call of some words, in which TYPE may be the name of a type in a file.
 
-ghost use Rattle.std.specs.Prelude.{◌≡◌, ◌≤◌, ℕ, List, map, string_bytes, Decides, IfSome, IfNone};
+ghost use Rattle.std.specs.Prelude.{◌≡◌, ◌<◌, ◌≤◌, ℕ, List, length, map, string_bytes, Decides, IfSome, IfNone};
 ghost use Rattle.postcard_cli_files.specs.Call.{
   AnswersNamed,
   ComesAfterOptions,
@@ -72,6 +72,7 @@ fn named_type(words: &[String]) -> Option<(usize, TypeName<'_>)>
         found.0 found.1.file.now found.1.name.now) }
     ensures none { IfNone result ((i : ℕ) (file name : List ℕ)
         → NamesType (map string_bytes words.now) i file name → ⊥) }
+    ensures inside { IfSome result (λ found. found.0 < length words.now) }
 {
     let Some(index) = type_index(words) else {
         return None;
@@ -86,6 +87,7 @@ fn named_type(words: &[String]) -> Option<(usize, TypeName<'_>)>
 fn type_index(words: &[String]) -> Option<usize>
     ensures found { IfSome result (IsTypeAt (map string_bytes words.now)) }
     ensures none { IfNone result ((i : ℕ) → IsTypeAt (map string_bytes words.now) i → ⊥) }
+    ensures inside { IfSome result (λ i. i < length words.now) }
 {
     match words.first() {
         Some(command) if takes_type(command.as_str()) => after_options(words),
@@ -108,6 +110,7 @@ fn after_options(words: &[String]) -> Option<usize>
     ensures found { IfSome result (ComesAfterOptions (map string_bytes words.now) 1) }
     ensures none { IfNone result ((i : ℕ)
         → ComesAfterOptions (map string_bytes words.now) 1 i → ⊥) }
+    ensures inside { IfSome result (λ i. i < length words.now) }
 {
     let mut at = 1;
     'options: while at < words.len() {

@@ -1,6 +1,7 @@
 //! The name of a type in a file, as the word TYPE has it: `@FILE:NAME`.
 
-ghost use Rattle.std.specs.Prelude.{◌≡◌, ℕ, List, IfSome, IfNone, IfOk, IfErr, string_bytes};
+ghost use Rattle.std.specs.Prelude.{◌≡◌, ◌<◌, ◌≤◌, ℕ, List, length, IfSome, IfNone, IfOk, IfErr, string_bytes};
+ghost use Rattle.postcard_cli_files.specs.declared.fault.TypeFault.TheVariants.{TooLong};
 ghost use Rattle.postcard_cli_files.specs.TypeName.{IsNameWord, Declares, IsFaultOf, IsFaultBy};
 
 use crate::fault::TypeFault;
@@ -68,12 +69,23 @@ impl<'a> TypeName<'a> {
             self.entry.file.now self.entry.name.now) }
     {
         match files.read(alloc, self.file, LONGEST_FILE + 1) {
-            Ok(bytes) if bytes.len() > LONGEST_FILE => Err(TypeFault::TooLong),
-            Ok(bytes) => Ok(bytes),
+            Ok(bytes) => checked(bytes),
             Err(ReadError::Failed) => Err(TypeFault::Unreadable),
             Err(ReadError::OutOfMemory) => Err(TypeFault::OutOfMemory),
         }
     }
+}
+
+/// Returns the bytes. Fails with `TooLong` if they are more than a file of types may have.
+fn checked(bytes: Vec<u8>) -> Result<Vec<u8>, TypeFault>
+    ensures same { IfOk result
+        (λ same. (same.items ≡ bytes.items) × (length bytes.items ≤ 1048576)) }
+    ensures long { IfErr result (λ e. (e ≡ TooLong) × (1048576 < length bytes.items)) }
+{
+    if bytes.len() > LONGEST_FILE {
+        return Err(TypeFault::TooLong);
+    }
+    Ok(bytes)
 }
 
 /// Returns the fault of an error of the file.

@@ -1,4 +1,4 @@
-use Rattle.postcard_cli_files.proofs.Colons.{without_at, split_word, without_colon}
+use Rattle.postcard_cli_files.proofs.ColonLemmas.{without_at, split_word, without_colon}
 use Rattle.postcard_cli_files.proofs.type_name.TypeName.from_word.Goals as goal
 
 pub returns-in_default-clause-none : goal.returns-in_default-clause-none
