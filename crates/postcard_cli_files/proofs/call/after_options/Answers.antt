@@ -1,4 +1,4 @@
-use Rattle.std.proofs.Common.{◌≡◌, ℕ, ◌+◌, ◌<◌, List, length, map, string_bytes, sym, ap, subst, ◌∙◌, arith, Global}
+use Rattle.std.proofs.Common.{◌+◌, ◌<◌, map, string_bytes, sym, ap, subst, ◌∙◌, arith, Global}
 use Rattle.std.proofs.lemmas.List.{length-map}
 use Rattle.postcard_cli_files.specs.Call.{ComesAfterOptions, here, later, option_words}
 use Rattle.postcard_cli_files.proofs.OptionLemmas.{past_option, past_end}
