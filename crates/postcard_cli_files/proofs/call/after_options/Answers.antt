@@ -18,8 +18,7 @@ options-preserved c =
     let w = c.index-words-at.result in
     let at = word_at (string_bytes {Z = Global}) c.args.words.now c.options.at w (omega arith) c.index-words-at.is in
     let count = c.option_words-count.ensures.count ∙ ap option_words c.as_str.ensures.value in
-    let more : 0 < option_words (string_bytes w) = omega (arith, count) in
-    (
+    let more : 0 < option_words (string_bytes w) = omega (arith, count) in (
       λ j h. c.options.invariant.0 j (later c.options.at j (string_bytes w) at more (subst (λ n. ComesAfterOptions all (c.options.at + n) j) count h)),
       λ j h. subst (λ n. ComesAfterOptions all (c.options.at + n) j) (sym count) (past_option all c.options.at j (string_bytes w) at more (c.options.invariant.1 j h)),
     )
