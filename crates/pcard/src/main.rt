@@ -1,8 +1,9 @@
 //! The program `pcard`, which encodes a value in the Postcard format, or decodes bytes or a stream
-//! of frames. The library `postcard_cli` does its work.
+//! of frames. The library `postcard_cli` does its work, and `postcard_cli_files` reads types from files.
 #![tactic(auto)]
 
-use postcard_cli::{Failure, report, run};
+use postcard_cli::{Failure, report};
+use postcard_cli_files::{Disk, run};
 use postcard_de_flavors::Plain;
 use std::alloc::AllocError;
 use std::io::{BufWriter, Write};
@@ -25,7 +26,14 @@ fn words(rt: &HostRuntime) -> Result<Vec<String>, Failure> {
 fn answer<W: Write>(rt: &HostRuntime, output: &mut W) -> u8 {
     let mut input = Plain::new(rt.stdin());
     match words(rt) {
-        Ok(words) => run(rt.alloc(), words.as_slice(), &mut input, output),
+        Ok(mut words) => run(
+            rt.alloc(),
+            words.as_mut_slice(),
+            &Disk(rt),
+            &mut input,
+            output,
+            &mut rt.stderr(),
+        ),
         Err(failure) => report(Err(failure), output),
     }
 }

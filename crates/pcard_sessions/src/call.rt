@@ -2,7 +2,7 @@
 
 use crate::fault::Fault;
 use crate::words::words_of;
-use postcard_cli::run;
+use postcard_cli_files::{Disk, run};
 use std::alloc::{AllocError, Global};
 use std::fmt;
 
@@ -47,10 +47,10 @@ impl Call {
     }
 
     /// Requires that the call answers as written, or, if it begins with `not`, that it doesn't.
-    pub fn check(&self, alloc: Global) -> Result<(), Fault> {
+    pub fn check(&self, rt: &HostRuntime) -> Result<(), Fault> {
         let line = without(&self.line, NOT);
         let is_wrong = self.line.starts_with(NOT);
-        let found = answer_of(alloc, without(line, PROMPT))?;
+        let found = answer_of(rt, without(line, PROMPT))?;
         if (found.as_str() == self.answer.as_str()) != is_wrong {
             return Ok(());
         }
@@ -72,12 +72,22 @@ fn without<'a>(text: &'a str, front: &str) -> &'a str {
 }
 
 /// Returns the answer to a call of these words, as it is written in a session: the exit status after a
-/// `?`, unless it is 0, and what is printed.
-fn answer_of(alloc: Global, text: &str) -> Result<String, Fault> {
-    let (words, digits) = words_of(alloc, text)?;
+/// `?`, unless it is 0, what is printed to the output, and what is printed to standard error.
+fn answer_of(rt: &HostRuntime, text: &str) -> Result<String, Fault> {
+    let alloc = rt.alloc();
+    let (mut words, digits) = words_of(alloc, text)?;
     let bytes = bytes_of(alloc, &digits)?;
     let mut printed = Vec::new(alloc);
-    let status = run(alloc, &words, &mut bytes.as_slice(), &mut printed);
+    let mut errors = Vec::new(alloc);
+    let status = run(
+        alloc,
+        words.as_mut_slice(),
+        &Disk(rt),
+        &mut bytes.as_slice(),
+        &mut printed,
+        &mut errors,
+    );
+    printed.extend_from_slice(&errors)?;
     let Ok(printed) = String::from_utf8(printed) else {
         return Err(Fault::NoText);
     };

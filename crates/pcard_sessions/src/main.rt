@@ -57,7 +57,7 @@ impl Sessions {
         let Some(call) = self.last.take() else {
             return Ok(());
         };
-        match call.check(rt.alloc()) {
+        match call.check(rt) {
             Ok(()) => {
                 self.passed = self.passed.saturating_add(1);
                 Ok(())

@@ -1,0 +1,4 @@
+pub mod ColonLemmas
+pub mod FileLemmas
+pub mod OptionLemmas
+pub mod WordLemmas

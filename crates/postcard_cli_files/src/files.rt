@@ -1,0 +1,60 @@
+//! The files that a call reads types from.
+
+ghost use Rattle.std.specs.Prelude.{◌≡◌, ℕ, List, ⊤, take, IfOk, IfErr};
+ghost use Rattle.postcard_cli_files.specs.declared.files.ReadError.TheVariants.{Failed};
+
+use std::alloc::Global;
+use std::fs::File;
+use std::io::{self, Read};
+
+/// Why a file isn't read.
+#[derive(Clone, Copy, Debug, PartialEq, Eq)]
+pub enum ReadError {
+    /// There is no file with the name, or it can't be read.
+    Failed,
+    /// An allocation failed.
+    OutOfMemory,
+}
+
+/// Files by their names.
+pub trait Files {
+    /// A file with this name may have these bytes.
+    ghost gives: { Self → List ℕ → List ℕ → Type 0 };
+
+    /// A file with this name may be one that can't be read.
+    ghost lacks: { Self → List ℕ → Type 0 };
+
+    /// Returns the first `most` bytes of the file with this name, or all of them if it has fewer.
+    ///
+    /// # Errors
+    ///
+    /// Fails with `Failed` if it can't be read, and with `OutOfMemory` if an allocation fails.
+    fn read(&self, alloc: Global, name: &str, most: usize) -> Result<Vec<u8>, ReadError>
+        ensures given { IfOk result (λ bytes. (content : List ℕ)
+            × gives self.now name.now content × (bytes.items ≡ take most content)) }
+        ensures lacking { IfErr result (λ e. e ≡ Failed → lacks self.now name.now) };
+}
+
+/// The files of the system. Nothing is claimed of what they have.
+#[derive(Clone, Copy)]
+pub struct Disk<'a>(pub &'a HostRuntime);
+
+impl Files for Disk<'_> {
+    ghost gives = { λ _ _ _. ⊤ };
+
+    ghost lacks = { λ _ _. ⊤ };
+
+    fn read(&self, alloc: Global, name: &str, most: usize) -> Result<Vec<u8>, ReadError> {
+        let mut bytes = Vec::new(alloc);
+        let outcome = match File::open(self.0, name) {
+            Ok(file) => file.take(most as u64).read_to_end(&mut bytes),
+            Err(error) => Err(error),
+        };
+        bytes.truncate(most);
+        match outcome {
+            Ok(_) => Ok(bytes),
+            Err(e) if e.kind() == io::ErrorKind::OutOfMemory => Err(ReadError::OutOfMemory),
+            Err(_) => Err(ReadError::Failed),
+        }
+    }
+}
