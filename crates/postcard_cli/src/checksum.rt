@@ -14,7 +14,7 @@ ghost use Rattle.postcard_cli.specs.declared.checksum.Checksum.{Checksum};
 
 use crate::failure::Failure;
 use crate::hexadecimal;
-use crate::stream::READS;
+use crate::limits::READS;
 use crc::{
     Algorithm, CRC_8_MAXIM_DOW, CRC_8_SMBUS, CRC_16_IBM_SDLC, CRC_16_KERMIT, CRC_16_MODBUS,
     CRC_16_USB, CRC_16_XMODEM, CRC_24_OPENPGP, CRC_32_BZIP2, CRC_32_ISCSI, CRC_32_ISO_HDLC,

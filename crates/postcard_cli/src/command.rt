@@ -6,7 +6,7 @@ ghost use Rattle.postcard_cli.specs.Command.{begins_expression, looks_like_expre
 ghost use Rattle.postcard_cli.specs.declared.command.TypeWord.{TypeWord};
 ghost use Rattle.postcard_cli.specs.declared.command.ValueType.{ValueType};
 
-use crate::stream::LONGEST;
+use crate::limits::LONGEST;
 
 /// The types that have a name.
 #[derive(Clone, Copy, Debug, PartialEq, Eq)]

@@ -15,9 +15,9 @@ ghost use Rattle.postcard_cli.specs.declared.explain.Layout.{Layout};
 
 use crate::failure::Failure;
 use crate::hexadecimal;
+use crate::limits::READS;
 use crate::message::{print_refused, schema_of};
 use crate::place::place_of;
-use crate::stream::READS;
 use postcard_de_flavors::Source;
 use postcard_dyn::explain::{Expected, Label, Line, Node, explain};
 use postcard_dyn::{Leaf, Schema, Value, refused_at};

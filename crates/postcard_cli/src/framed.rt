@@ -12,11 +12,11 @@ ghost use Rattle.postcard_cli.specs.Stream.{reason_text};
 
 use crate::failure::Failure;
 use crate::hexadecimal;
+use crate::limits::{BUFFER, READS};
 use crate::message::{encoding_of, schema_of};
 use crate::place::place_of;
-use crate::program::BUFFER;
 use crate::reason::reason;
-use crate::stream::{READS, print_value};
+use crate::stream::print_value;
 use arrayvec::ArrayVec;
 use postcard_cobs::{decode_in_place, frame_len};
 use postcard_de_flavors::Source;

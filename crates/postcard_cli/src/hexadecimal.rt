@@ -8,8 +8,8 @@ ghost use Rattle.postcard_cli.specs.Message.{StandsFor};
 ghost use Rattle.postcard_cli.specs.Refusal.{HexFails, InputFails};
 
 use crate::failure::Failure;
+use crate::limits::{CHUNK, READS};
 use crate::pasted;
-use crate::stream::{CHUNK, READS};
 use hex::FromHex;
 use postcard_de_flavors::Source;
 use std::alloc::Global;

@@ -14,11 +14,10 @@ ghost use Rattle.postcard_cli.specs.Refusal.{JsonFrontFails, JsonLineFails};
 
 use crate::failure::Failure;
 use crate::hexadecimal;
+use crate::limits::{BUFFER, READS};
 use crate::message::{schema_of, schema_of_records};
 use crate::place::path_of;
-use crate::program::BUFFER;
 use crate::reason::reason;
-use crate::stream::READS;
 use arrayvec::ArrayVec;
 use postcard_de_flavors::Source;
 use postcard_dyn::{Schema, Value, refused_at, take_from_bytes, to_flavor};

@@ -20,10 +20,9 @@ ghost use Rattle.postcard_cli.specs.Stream.{refused_text};
 
 use crate::checksum::Checksum;
 use crate::failure::Failure;
+use crate::limits::{BUFFER, READS};
 use crate::place::place_of;
-use crate::program::BUFFER;
 use crate::reason::reason;
-use crate::stream::READS;
 use crate::{checksum, hexadecimal};
 use arrayvec::ArrayVec;
 use postcard_de_flavors::Source;

@@ -31,7 +31,7 @@ ghost use Rattle.postcard_cli.specs.Program.{
 use crate::command::{Command, TypeWord, ValueType};
 use crate::failure::Failure;
 use crate::joined::Joined;
-use crate::stream::READS;
+use crate::limits::{BUFFER, READS};
 use crate::syntax::SYNTAX;
 use crate::{
     checksum, explain, framed, frames, hexadecimal, json_message, message, size, stream, syntax,
@@ -45,9 +45,6 @@ use std::alloc::Global;
 use std::fmt::Display;
 use std::io::Write;
 use std::str::FromStr;
-
-/// The greatest size in bytes of an encoding that `enc` prints.
-pub const BUFFER: usize = 4096;
 
 /// What to do with a type.
 #[derive(Clone, Copy)]

@@ -23,6 +23,7 @@ ghost use Rattle.postcard_cli.specs.declared.stream.Format.{Format};
 
 use crate::checksum::Checksum;
 use crate::failure::Failure;
+use crate::limits::{CHUNK, LONGEST, READS};
 use crate::message::schema_of;
 use crate::place::place_of;
 use crate::reason::reason;
@@ -34,16 +35,6 @@ use postcard_dyn_text::Shown;
 use postcard_wire::Error;
 use std::alloc::Global;
 use std::io::Write;
-
-/// The greatest length in bytes of a frame of a typed stream, its zero included, if no smaller one
-/// is asked for.
-pub const LONGEST: usize = 65_536;
-
-/// The greatest number of bytes of one read of an input that is read to its end.
-pub const CHUNK: usize = 65_536;
-
-/// The greatest number of such reads. It only ends the loop: no input has so many bytes.
-pub const READS: u64 = u64::MAX;
 
 /// Reads frames of messages of the type until the input ends, and prints a line for each once its
 /// zero was read:

@@ -15,7 +15,7 @@ use crate::fault::TypeFault;
 use crate::files::Files;
 use crate::type_name::TypeName;
 use postcard_cli::Failure;
-use postcard_cli::stream::READS;
+use postcard_cli::limits::READS;
 use postcard_cli::syntax::SYNTAX;
 use postcard_de_flavors::Source;
 use std::alloc::Global;

@@ -1,0 +1,14 @@
+//! The limits of the commands.
+
+/// The greatest size in bytes of an encoding that `enc` prints.
+pub const BUFFER: usize = 4096;
+
+/// The greatest length in bytes of a frame of a typed stream, its zero included, if no smaller one
+/// is asked for.
+pub const LONGEST: usize = 65_536;
+
+/// The greatest number of bytes of one read of an input that is read to its end.
+pub const CHUNK: usize = 65_536;
+
+/// The greatest number of such reads. It only ends the loop: no input has so many bytes.
+pub const READS: u64 = u64::MAX;
