@@ -20,24 +20,9 @@ struct Wrong {
 }
 ";
 
-/// Files that a test has: `types.rs`, `a:b.rs`, `latin1.rs`, which is no UTF-8, `long.rs`, which has a
-/// declaration and then so many blanks that it is one byte too long, and `full.rs`, for which there is
-/// no memory.
+/// Files that a test has.
 #[derive(Clone, Copy)]
 struct Held;
-
-impl Held {
-    /// Returns a file of one declaration with this length.
-    fn padded(alloc: Global, length: usize) -> Result<Vec<u8>, ReadError> {
-        let Ok(mut bytes) = Vec::from_slice(alloc, b"struct Pair(u8, u16);") else {
-            return Err(ReadError::OutOfMemory);
-        };
-        match bytes.resize(length, b' ') {
-            Ok(()) => Ok(bytes),
-            Err(_) => Err(ReadError::OutOfMemory),
-        }
-    }
-}
 
 impl Files for Held {
     ghost gives = { λ _ _ _. ⊤ };
@@ -45,22 +30,34 @@ impl Files for Held {
     ghost lacks = { λ _ _. ⊤ };
 
     fn read(&self, alloc: Global, name: &str, most: usize) -> Result<Vec<u8>, ReadError> {
-        let bytes = match name {
-            "types.rs" => Vec::from_slice(alloc, TYPES.as_bytes()),
-            "a:b.rs" => Vec::from_slice(alloc, b"struct Pair(u8, u16);"),
-            "latin1.rs" => Vec::from_slice(alloc, b"// caf\xe9\nstruct Pair(u8, u16);"),
-            "longest.rs" => return Held::padded(alloc, LONGEST_FILE.min(most)),
-            "long.rs" => return Held::padded(alloc, (LONGEST_FILE + 1).min(most)),
-            "full.rs" => return Err(ReadError::OutOfMemory),
-            _ => return Err(ReadError::Failed),
-        };
-        match bytes {
-            Ok(mut bytes) => {
-                bytes.truncate(most);
-                Ok(bytes)
-            }
-            Err(_) => Err(ReadError::OutOfMemory),
-        }
+        let mut bytes = content_of(alloc, name)?;
+        bytes.truncate(most);
+        Ok(bytes)
+    }
+}
+
+/// Returns the bytes of a file: of `types.rs`, `a:b.rs`, `latin1.rs`, which is no UTF-8, or
+/// `longest.rs` and `long.rs`, of which the second is one byte too long. For `full.rs` memory is lacking.
+fn content_of(alloc: Global, name: &str) -> Result<Vec<u8>, ReadError> {
+    match name {
+        "types.rs" => padded(alloc, TYPES.as_bytes(), 0),
+        "a:b.rs" => padded(alloc, b"struct Pair(u8, u16);", 0),
+        "latin1.rs" => padded(alloc, b"// caf\xe9\nstruct Pair(u8, u16);", 0),
+        "longest.rs" => padded(alloc, b"struct Pair(u8, u16);", LONGEST_FILE),
+        "long.rs" => padded(alloc, b"struct Pair(u8, u16);", LONGEST_FILE + 1),
+        "full.rs" => Err(ReadError::OutOfMemory),
+        _ => Err(ReadError::Failed),
+    }
+}
+
+/// Returns the bytes, and blanks behind them, if they are fewer than `least`.
+fn padded(alloc: Global, bytes: &[u8], least: usize) -> Result<Vec<u8>, ReadError> {
+    let Ok(mut content) = Vec::from_slice(alloc, bytes) else {
+        return Err(ReadError::OutOfMemory);
+    };
+    match content.resize(least.max(bytes.len()), b' ') {
+        Ok(()) => Ok(content),
+        Err(_) => Err(ReadError::OutOfMemory),
     }
 }
 

@@ -6,19 +6,19 @@ use Rattle.postcard_cli_files.proofs.call.run.Goals as goal
 
 pub returns-in_default-clause-answers : goal.returns-in_default-clause-answers
 returns-in_default-clause-answers g c = inl (
-  map (string_bytes {Z = Global}) c.args.words.old,
+  map (string_bytes {Z = Global}) c.args.words.now,
   inl (c.in_default.ensures.none, refl),
   record {
-    answers = c.run-in_default.ensures.answers;
-    usage = c.run-in_default.ensures.usage;
-    printed = c.run-in_default.ensures.printed;
+    answers = c.run.ensures.answers;
+    usage = c.run.ensures.usage;
+    printed = c.run.ensures.printed;
     silent = refl;
   },
 )
 
 pub returns-in-Ok-clause-answers : goal.returns-in-Ok-clause-answers
 returns-in-Ok-clause-answers g c = inl (
-  map (string_bytes {Z = Global}) (slice_set c.args.words.old c.in-Some.index c.in-Ok.text),
+  map (string_bytes {Z = Global}) (slice_set c.args.words.now c.in-Some.index c.in-Ok.text),
   inr (record {
     index = c.in-Some.index;
     file = c.in-Some.name.file.now;
@@ -26,7 +26,7 @@ returns-in-Ok-clause-answers g c = inl (
     text = string_bytes c.in-Ok.text;
     names = c.in-Some.ensures.found;
     declared = c.in-Ok.ensures.declared;
-    are = map-set (string_bytes {Z = Global}) c.args.words.old c.in-Some.index c.in-Ok.text;
+    are = map-set (string_bytes {Z = Global}) c.args.words.now c.in-Some.index c.in-Ok.text;
   }),
   record {
     answers = c.run-in-Ok.ensures.answers;
