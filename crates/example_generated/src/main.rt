@@ -8,8 +8,10 @@ use postcard::{DeserializeOwned, Owned, Serialize, from_bytes, to_allocvec};
 use std::alloc::Global;
 use std::collections::BTreeMap;
 use std::fmt::Debug;
-use types::{Change, Chunk, Command, Heartbeat, Label, Level, Measured, Position};
-use types::{Rain, Report, Request, Serial, Sky, Telemetry};
+use types::{
+    Change, Chunk, Command, Heartbeat, Label, Level, Measured, Position, Rain, Report, Request,
+    Serial, Sky, Telemetry,
+};
 
 /// Prints the bytes of a value, and what they are read as.
 fn there_and_back<T: Serialize + DeserializeOwned + Debug>(
@@ -105,7 +107,14 @@ fn show_commands(rt: &HostRuntime) -> Result<()> {
     requests.push(Request::Limit(1, 2))?;
     there_and_back(rt, &Command::Settings(requests))?;
     let to = example_place();
-    there_and_back(rt, &Command::Move { to, speed: -2, now: true })?;
+    there_and_back(
+        rt,
+        &Command::Move {
+            to,
+            speed: -2,
+            now: true,
+        },
+    )?;
     let text = String::from_str(rt.alloc(), "hot")?;
     there_and_back(rt, &Command::Fault { code: 3, text })
 }

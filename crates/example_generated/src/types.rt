@@ -277,7 +277,11 @@ impl Position {
         ensures { (result.latitude, result.longitude, result.altitude) ≡ parts }
     {
         let (latitude, longitude, altitude) = parts;
-        Position { latitude, longitude, altitude }
+        Position {
+            latitude,
+            longitude,
+            altitude,
+        }
     }
 }
 
@@ -379,12 +383,13 @@ impl<'de> postcard::Deserialize<'de> for Level {
         alloc: std::alloc::Global,
         d: &mut postcard::Deserializer<'de, F>,
     ) -> postcard::Result<Self> {
+        use postcard::Case::{Next, This};
         let row: LevelRow = postcard::Deserialize::deserialize(alloc, d)?;
         Ok(match row {
-            postcard::Case::This(()) => Level::Low,
-            postcard::Case::Next(postcard::Case::This(())) => Level::Normal,
-            postcard::Case::Next(postcard::Case::Next(postcard::Case::This(()))) => Level::High,
-            postcard::Case::Next(postcard::Case::Next(postcard::Case::Next(never))) => match never {},
+            This(()) => Level::Low,
+            Next(This(())) => Level::Normal,
+            Next(Next(This(()))) => Level::High,
+            Next(Next(Next(never))) => match never {},
         })
     }
 }
@@ -399,7 +404,10 @@ impl postcard::DeserializeOwned for Level {
 }
 
 /// What the variants of [`Sky`] hold, in a row.
-type SkyRow = postcard::Case<(), postcard::Case<u8, postcard::Case<(String, u16), postcard::NoCase>>>;
+type SkyRow = postcard::Case<
+    (),
+    postcard::Case<u8, postcard::Case<(String, u16), postcard::NoCase>>,
+>;
 
 impl postcard::Shaped for Sky {
     ghost use Rattle.example_generated.specs.declared.types.Sky.{Sky};
@@ -454,12 +462,13 @@ impl<'de> postcard::Deserialize<'de> for Sky {
         alloc: std::alloc::Global,
         d: &mut postcard::Deserializer<'de, F>,
     ) -> postcard::Result<Self> {
+        use postcard::Case::{Next, This};
         let row: SkyRow = postcard::Deserialize::deserialize(alloc, d)?;
         Ok(match row {
-            postcard::Case::This(()) => Sky::Clear,
-            postcard::Case::Next(postcard::Case::This(x0)) => Sky::Cloudy(x0),
-            postcard::Case::Next(postcard::Case::Next(postcard::Case::This((name, wind)))) => Sky::Storm { name, wind },
-            postcard::Case::Next(postcard::Case::Next(postcard::Case::Next(never))) => match never {},
+            This(()) => Sky::Clear,
+            Next(This(x0)) => Sky::Cloudy(x0),
+            Next(Next(This((name, wind)))) => Sky::Storm { name, wind },
+            Next(Next(Next(never))) => match never {},
         })
     }
 }
@@ -485,7 +494,13 @@ impl postcard::Serialize for Report {
         &self,
         serializer: &mut postcard::Serializer<F>,
     ) -> postcard::Result<()> {
-        let parts = (&self.station, &self.position, &self.skies, &self.remarks, &self.level);
+        let parts = (
+            &self.station,
+            &self.position,
+            &self.skies,
+            &self.remarks,
+            &self.level,
+        );
         postcard::Serialize::serialize(&parts, serializer)
     }
 }
@@ -495,8 +510,16 @@ impl<'de> postcard::Deserialize<'de> for Report {
         alloc: std::alloc::Global,
         d: &mut postcard::Deserializer<'de, F>,
     ) -> postcard::Result<Self> {
-        let (station, position, skies, remarks, level) = postcard::Deserialize::deserialize(alloc, d)?;
-        Ok(Report { station, position, skies, remarks, level })
+        let (station, position, skies, remarks, level) = postcard::Deserialize::deserialize(
+            alloc, d,
+        )?;
+        Ok(Report {
+            station,
+            position,
+            skies,
+            remarks,
+            level,
+        })
     }
 }
 
@@ -520,11 +543,37 @@ impl Telemetry {
     ghost use Rattle.std.specs.Prelude.{◌≡◌};
 
     /// Makes a value of the parts that were decoded.
-    fn from_decoded(parts: ((u32, u64, u16, i16, i16), (u8, u32, i32, i32, i16), (u16, u16, u8, bool, String))) -> Self
+    fn from_decoded(
+        parts: (
+            (u32, u64, u16, i16, i16),
+            (u8, u32, i32, i32, i16),
+            (u16, u16, u8, bool, String),
+        ),
+    ) -> Self
         ensures { ((result.sequence, result.uptime, result.voltage, result.current, result.temperature), (result.humidity, result.pressure, result.latitude, result.longitude, result.altitude), (result.heading, result.speed, result.satellites, result.fix, result.label)) ≡ parts }
     {
-        let ((sequence, uptime, voltage, current, temperature), (humidity, pressure, latitude, longitude, altitude), (heading, speed, satellites, fix, label)) = parts;
-        Telemetry { sequence, uptime, voltage, current, temperature, humidity, pressure, latitude, longitude, altitude, heading, speed, satellites, fix, label }
+        let (
+            (sequence, uptime, voltage, current, temperature),
+            (humidity, pressure, latitude, longitude, altitude),
+            (heading, speed, satellites, fix, label),
+        ) = parts;
+        Telemetry {
+            sequence,
+            uptime,
+            voltage,
+            current,
+            temperature,
+            humidity,
+            pressure,
+            latitude,
+            longitude,
+            altitude,
+            heading,
+            speed,
+            satellites,
+            fix,
+            label,
+        }
     }
 }
 
@@ -533,7 +582,29 @@ impl postcard::Serialize for Telemetry {
         &self,
         serializer: &mut postcard::Serializer<F>,
     ) -> postcard::Result<()> {
-        let parts = ((&self.sequence, &self.uptime, &self.voltage, &self.current, &self.temperature), (&self.humidity, &self.pressure, &self.latitude, &self.longitude, &self.altitude), (&self.heading, &self.speed, &self.satellites, &self.fix, &self.label));
+        let parts = (
+            (
+                &self.sequence,
+                &self.uptime,
+                &self.voltage,
+                &self.current,
+                &self.temperature,
+            ),
+            (
+                &self.humidity,
+                &self.pressure,
+                &self.latitude,
+                &self.longitude,
+                &self.altitude,
+            ),
+            (
+                &self.heading,
+                &self.speed,
+                &self.satellites,
+                &self.fix,
+                &self.label,
+            ),
+        );
         postcard::Serialize::serialize(&parts, serializer)
     }
 }
@@ -595,7 +666,10 @@ impl<T: postcard::DeserializeOwned> postcard::DeserializeOwned for Change<T> {
 }
 
 /// What the variants of [`Request`] hold, in a row.
-type RequestRow<T> = postcard::Case<(), postcard::Case<T, postcard::Case<(T, T), postcard::NoCase>>>;
+type RequestRow<T> = postcard::Case<
+    (),
+    postcard::Case<T, postcard::Case<(T, T), postcard::NoCase>>,
+>;
 
 impl<T: postcard::Shaped> postcard::Shaped for Request<T> {
     ghost use Rattle.example_generated.specs.declared.types.Request.{Request};
@@ -665,12 +739,13 @@ impl<'de, T: postcard::Deserialize<'de>> postcard::Deserialize<'de> for Request<
         alloc: std::alloc::Global,
         d: &mut postcard::Deserializer<'de, F>,
     ) -> postcard::Result<Self> {
+        use postcard::Case::{Next, This};
         let row: RequestRow<T> = postcard::Deserialize::deserialize(alloc, d)?;
         Ok(match row {
-            postcard::Case::This(()) => Request::Get,
-            postcard::Case::Next(postcard::Case::This(x0)) => Request::Set(x0),
-            postcard::Case::Next(postcard::Case::Next(postcard::Case::This((x0, x1)))) => Request::Limit(x0, x1),
-            postcard::Case::Next(postcard::Case::Next(postcard::Case::Next(never))) => match never {},
+            This(()) => Request::Get,
+            Next(This(x0)) => Request::Set(x0),
+            Next(Next(This((x0, x1)))) => Request::Limit(x0, x1),
+            Next(Next(Next(never))) => match never {},
         })
     }
 }
@@ -680,12 +755,13 @@ impl<T: postcard::DeserializeOwned> postcard::DeserializeOwned for Request<T> {
         alloc: std::alloc::Global,
         d: &mut postcard::Deserializer<'_, F>,
     ) -> postcard::Result<Self> {
+        use postcard::Case::{Next, This};
         let row: RequestRow<T> = postcard::DeserializeOwned::deserialize_owned(alloc, d)?;
         Ok(match row {
-            postcard::Case::This(()) => Request::Get,
-            postcard::Case::Next(postcard::Case::This(x0)) => Request::Set(x0),
-            postcard::Case::Next(postcard::Case::Next(postcard::Case::This((x0, x1)))) => Request::Limit(x0, x1),
-            postcard::Case::Next(postcard::Case::Next(postcard::Case::Next(never))) => match never {},
+            This(()) => Request::Get,
+            Next(This(x0)) => Request::Set(x0),
+            Next(Next(This((x0, x1)))) => Request::Limit(x0, x1),
+            Next(Next(Next(never))) => match never {},
         })
     }
 }
@@ -718,7 +794,10 @@ impl<'de> postcard::Deserialize<'de> for Label<'de> {
 }
 
 /// What the variants of [`Chunk`] hold, in a row.
-type ChunkRow<'a> = postcard::Case<&'a str, postcard::Case<(u32, &'a [u8]), postcard::Case<(), postcard::NoCase>>>;
+type ChunkRow<'a> = postcard::Case<
+    &'a str,
+    postcard::Case<(u32, &'a [u8]), postcard::Case<(), postcard::NoCase>>,
+>;
 
 impl<'a> postcard::Shaped for Chunk<'a> {
     ghost use Rattle.example_generated.specs.declared.types.Chunk.{Chunk};
@@ -788,12 +867,13 @@ impl<'de> postcard::Deserialize<'de> for Chunk<'de> {
         alloc: std::alloc::Global,
         d: &mut postcard::Deserializer<'de, F>,
     ) -> postcard::Result<Self> {
+        use postcard::Case::{Next, This};
         let row: ChunkRow<'de> = postcard::Deserialize::deserialize(alloc, d)?;
         Ok(match row {
-            postcard::Case::This(x0) => Chunk::Name(x0),
-            postcard::Case::Next(postcard::Case::This((start, bytes))) => Chunk::Data { start, bytes },
-            postcard::Case::Next(postcard::Case::Next(postcard::Case::This(()))) => Chunk::End,
-            postcard::Case::Next(postcard::Case::Next(postcard::Case::Next(never))) => match never {},
+            This(x0) => Chunk::Name(x0),
+            Next(This((start, bytes))) => Chunk::Data { start, bytes },
+            Next(Next(This(()))) => Chunk::End,
+            Next(Next(Next(never))) => match never {},
         })
     }
 }
@@ -822,7 +902,25 @@ impl<T: postcard::Serialize> postcard::SerializeRepr for Measured<'_, T> {
 }
 
 /// What the variants of [`Command`] hold, in a row.
-type CommandRow = postcard::Case<(), postcard::Case<Report, postcard::Case<Vec<Report>, postcard::Case<Request<u32>, postcard::Case<Vec<Request<u32>>, postcard::Case<(Position, i16, bool), postcard::Case<(u8, String), postcard::NoCase>>>>>>>;
+type CommandRow = postcard::Case<
+    (),
+    postcard::Case<
+        Report,
+        postcard::Case<
+            Vec<Report>,
+            postcard::Case<
+                Request<u32>,
+                postcard::Case<
+                    Vec<Request<u32>>,
+                    postcard::Case<
+                        (Position, i16, bool),
+                        postcard::Case<(u8, String), postcard::NoCase>,
+                    >,
+                >,
+            >,
+        >,
+    >,
+>;
 
 impl postcard::Shaped for Command {
     ghost use Rattle.example_generated.specs.declared.types.Command.{Command};
@@ -962,16 +1060,21 @@ impl<'de> postcard::Deserialize<'de> for Command {
         alloc: std::alloc::Global,
         d: &mut postcard::Deserializer<'de, F>,
     ) -> postcard::Result<Self> {
+        use postcard::Case::{Next, This};
         let row: CommandRow = postcard::Deserialize::deserialize(alloc, d)?;
         Ok(match row {
-            postcard::Case::This(()) => Command::Ping,
-            postcard::Case::Next(postcard::Case::This(x0)) => Command::Forward(x0),
-            postcard::Case::Next(postcard::Case::Next(postcard::Case::This(x0))) => Command::Batch(x0),
-            postcard::Case::Next(postcard::Case::Next(postcard::Case::Next(postcard::Case::This(x0)))) => Command::Setting(x0),
-            postcard::Case::Next(postcard::Case::Next(postcard::Case::Next(postcard::Case::Next(postcard::Case::This(x0))))) => Command::Settings(x0),
-            postcard::Case::Next(postcard::Case::Next(postcard::Case::Next(postcard::Case::Next(postcard::Case::Next(postcard::Case::This((to, speed, now))))))) => Command::Move { to, speed, now },
-            postcard::Case::Next(postcard::Case::Next(postcard::Case::Next(postcard::Case::Next(postcard::Case::Next(postcard::Case::Next(postcard::Case::This((code, text)))))))) => Command::Fault { code, text },
-            postcard::Case::Next(postcard::Case::Next(postcard::Case::Next(postcard::Case::Next(postcard::Case::Next(postcard::Case::Next(postcard::Case::Next(never))))))) => match never {},
+            This(()) => Command::Ping,
+            Next(This(x0)) => Command::Forward(x0),
+            Next(Next(This(x0))) => Command::Batch(x0),
+            Next(Next(Next(This(x0)))) => Command::Setting(x0),
+            Next(Next(Next(Next(This(x0))))) => Command::Settings(x0),
+            Next(Next(Next(Next(Next(This((to, speed, now))))))) => Command::Move {
+                to,
+                speed,
+                now,
+            },
+            Next(Next(Next(Next(Next(Next(This((code, text)))))))) => Command::Fault { code, text },
+            Next(Next(Next(Next(Next(Next(Next(never))))))) => match never {},
         })
     }
 }

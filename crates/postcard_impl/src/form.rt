@@ -389,9 +389,6 @@ fn problem_at(
     let Some(token) = token_at(tokens, at) else {
         return None;
     };
-    if token.says(b":") || is_name_at(tokens, at) && next < end && is_name_at(tokens, next) {
-        return Some(ImplProblem::CommaExpected);
-    }
     if token.says(b"&") {
         return reference_problem(file, tokens, item, at);
     }
@@ -402,6 +399,9 @@ fn problem_at(
     let is_pointer = token.says(b"*") || token.says(b"?") || token.says(b"!");
     if is_pointer || NOT_SERVED.iter().any(|word| token.says(word)) {
         return Some(ImplProblem::NotServed);
+    }
+    if token.says(b":") || is_name_at(tokens, at) && next < end && is_name_at(tokens, next) {
+        return Some(ImplProblem::CommaExpected);
     }
     None
 }

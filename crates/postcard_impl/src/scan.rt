@@ -17,6 +17,9 @@ pub(crate) fn text_of<'a>(file: &'a str, tokens: &[Token], words: Span) -> &'a s
     let Some(last) = words.end.checked_sub(1) else {
         return "";
     };
+    if last < words.start {
+        return "";
+    }
     match (token_at(tokens, words.start), token_at(tokens, last)) {
         (Some(first), Some(last)) => {
             let between = first.left.saturating_sub(last.left);
