@@ -43,7 +43,10 @@ fn print_impls<W: Write>(rt: &HostRuntime, path: &str, output: &mut W) -> u8 {
         Ok(bytes) if bytes.len() <= LONGEST_FILE => {
             return answer(rt.alloc(), path, bytes.as_slice(), output, &mut errors);
         }
-        Ok(_) => writeln!(errors, "pcard: {path}: the file has more than 1048576 bytes"),
+        Ok(_) => writeln!(
+            errors,
+            "pcard: {path}: the file has more than 1048576 bytes"
+        ),
         Err(_) => writeln!(errors, "pcard: {path}: the file can't be read"),
     };
     match told {

@@ -47,7 +47,7 @@ home_within path r x m y f z splits is_x strips is_y slash is_z =
     let rest : List ℕ = codes "/src/" ++ (y.now ++ codes ".rt") in
     let file : path ≡ x.0.now ++ rest = around_text (codes "/src/") path x.0.now x.1.now parts ∙ ap (λ l. x.0.now ++ (codes "/src/" ++ l)) (before_end (codes ".rt") x.1.now y.now ends) in
     let joined : path ≡ (z.0.now ++ 47 ∷ []) ++ (z.1.now ++ rest) =
-        file ∙ ap (λ l. l ++ rest) whole ∙ append_assoc z.0.now (47 ∷ z.1.now) rest ∙ sym (append_assoc z.0.now (47 ∷ []) (z.1.now ++ rest)) in
+    file ∙ ap (λ l. l ++ rest) whole ∙ append_assoc z.0.now (47 ∷ z.1.now) rest ∙ sym (append_assoc z.0.now (47 ∷ []) (z.1.now ++ rest)) in
     (z.0.now ++ 47 ∷ [], inr (z.0.now, refl), joined, free)
 
 -- A path whose crate stands in no folder.

@@ -2,6 +2,8 @@
 use Rattle.std.specs.Prelude.{ℕ, List, [], ◌∷◌, ◌++◌, codes}
 use Rattle.std.specs.Fmt.{decimal}
 use Rattle.postcard_dyn_file.specs.Printed.{file_problem_text}
+use Rattle.postcard_dyn_file.specs.declared.error.FileProblem.TheVariants.{Expression}
+use Rattle.postcard_dyn_schema.specs.declared.error.Problem.TheVariants.{OutOfMemory}
 use Rattle.postcard_impl.specs.declared.error.ImplProblem.{ImplProblem}
 use Rattle.postcard_impl.specs.declared.error.ImplProblem.TheVariants.{MarkOpen, MarkAlone, MarkLost, ColonExpected, NoVariant, TooManyFields, Where, ConstParameter, DefaultParameter, LifetimeBound, CommaExpected, NotDrop, SerdeDerive, SerdeAttribute, GhostField, Comment, Recursive, NotServed, NotRead, NoReference, HoldsMemory}
 use Rattle.postcard_impl.specs.declared.error.ImplProblem.TheVariants as problems
@@ -48,3 +50,12 @@ abbrev pub impl_failure_text : ImplFailure → List ℕ
 impl_failure_text NoHome = codes "write the file as CRATE/src/MODULE.rt"
 impl_failure_text NoText = codes "the file is not UTF-8"
 impl_failure_text (Wrong error) = impl_error_text error
+
+-- The exit status of a failure: 1 if memory is lacking, and else 2.
+abbrev pub impl_problem_status : ImplProblem → ℕ
+impl_problem_status (problems.File (Expression OutOfMemory)) = 1
+impl_problem_status problem = 2
+
+abbrev pub impl_failure_status : ImplFailure → ℕ
+impl_failure_status (Wrong error) = impl_problem_status error.problem
+impl_failure_status failure = 2

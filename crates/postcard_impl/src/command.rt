@@ -1,14 +1,16 @@
 //! The call `pcard impl FILE`: what it prints, and its exit status.
 
-ghost use Rattle.std.specs.Prelude.{◌≡◌, ◌≤◌, ℕ, List, Some, IfOk, string_bytes};
+ghost use Rattle.std.specs.Prelude.{◌≡◌, ◌≢◌, ◌≤◌, ℕ, List, Some, IfOk, string_bytes};
 ghost use Rattle.std.specs.Io.KnownBytes.{Appends};
 ghost use Rattle.postcard_impl.specs.Marks.{IsMarked};
-ghost use Rattle.postcard_impl.specs.Printed.{impl_failure_text};
+ghost use Rattle.postcard_impl.specs.Printed.{impl_failure_status, impl_failure_text};
 
-use crate::error::ImplError;
+use crate::error::{ImplError, ImplProblem};
 use crate::home::Home;
 use crate::impl_file;
 use crate::marks::{BEGIN, END};
+use postcard_dyn_file::FileProblem;
+use postcard_dyn_schema::Problem;
 use std::alloc::Global;
 use std::fmt;
 use std::io::Write;
@@ -36,9 +38,24 @@ impl fmt::Display for ImplFailure<'_> {
     }
 }
 
-/// Prints the file with these bytes and the impls of its types, and returns the exit status: 0; 2 if
-/// there are no impls, and then a line on `errors` says why, and nothing is printed; 3 if what there is to
-/// print can't be written. `path` is that of the file.
+impl ImplFailure<'_> {
+    /// Returns the exit status of this failure: 1 if memory is lacking, and else 2.
+    fn status(&self) -> u8
+        ensures { result ≡ impl_failure_status self.now }
+    {
+        let ImplFailure::Wrong(error) = self else {
+            return 2;
+        };
+        match error.problem {
+            ImplProblem::File(FileProblem::Expression(Problem::OutOfMemory)) => 1,
+            _ => 2,
+        }
+    }
+}
+
+/// Prints the file with these bytes and the impls of its types, and returns the exit status: 0; 1 if
+/// memory is lacking; 2 if there are no impls for another reason; 3 if what there is to print can't be
+/// written. At 1 and 2 a line on `errors` says why, and nothing is printed. `path` is that of the file.
 pub fn answer<W: Write, E: Write>(
     alloc: Global,
     path: &str,
@@ -50,7 +67,7 @@ pub fn answer<W: Write, E: Write>(
     ensures printed { result ≡ 0 → (written : List ℕ)
         × IsMarked BEGIN.now END.now bytes.now written
         × Appends (W.contents output.old) (W.contents output.new) written }
-    ensures refused { result ≡ 2 → W.contents output.new ≡ W.contents output.old }
+    ensures refused { result ≢ 0 → result ≢ 3 → W.contents output.new ≡ W.contents output.old }
 {
     match file_with_impls(alloc, path, bytes) {
         Ok(written) => {
@@ -63,7 +80,7 @@ pub fn answer<W: Write, E: Write>(
         Err(failure) => {
             let printed = writeln!(errors, "pcard: {path}: {failure}");
             match printed.and(errors.flush()) {
-                Ok(()) => 2,
+                Ok(()) => failure.status(),
                 Err(_) => 3,
             }
         }

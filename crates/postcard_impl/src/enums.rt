@@ -2,12 +2,12 @@
 
 use crate::error::Wrong;
 use crate::form::Form;
-use crate::heads::{DESERIALIZE, DESERIALIZE_OWNED, SERIALIZES, USE_VIA};
-use crate::heads::{Trait, add_head, add_owned, add_own_head};
+use crate::heads::{
+    DESERIALIZE, DESERIALIZE_OWNED, SERIALIZES, Trait, USE_VIA, add_head, add_own_head, add_owned,
+};
 use crate::home::Home;
 use crate::item::{Item, Member};
-use crate::pieces::{Lifetimes, Piece};
-use crate::pieces::{add, add_arguments, add_row_variable, add_tuple, add_value};
+use crate::pieces::{Lifetimes, Piece, add, add_arguments, add_row_variable, add_tuple, add_value};
 
 /// The `ghost use` line of the prover's words for a row.
 const USE_ROW: &str =
@@ -41,7 +41,14 @@ pub(crate) fn add_enum(out: &mut String, home: Home, item: &Item, form: Form) ->
 
 /// Adds the type of what the variants hold, in a row.
 fn add_row_type(out: &mut String, item: &Item) -> Result<(), Wrong> {
-    add(out, &["\n/// What the variants of [`", item.name, "`] hold, in a row.\n"])?;
+    add(
+        out,
+        &[
+            "\n/// What the variants of [`",
+            item.name,
+            "`] hold, in a row.\n",
+        ],
+    )?;
     add(out, &["type ", item.name, "Row"])?;
     add_arguments(out, item, Lifetimes::Own)?;
     add(out, &[" = "])?;
@@ -59,7 +66,10 @@ fn add_row_type(out: &mut String, item: &Item) -> Result<(), Wrong> {
 
 /// Adds the `ghost use` line of the enum's own name.
 fn add_enum_use(out: &mut String, home: Home, item: &Item) -> Result<(), Wrong> {
-    add(out, &["    ghost use Rattle.", home.library, ".specs.declared"])?;
+    add(
+        out,
+        &["    ghost use Rattle.", home.library, ".specs.declared"],
+    )?;
     if !home.is_root() {
         for module in home.module.split('/') {
             add(out, &[".", module])?;
@@ -135,8 +145,14 @@ fn add_writers(out: &mut String, home: Home, item: &Item) -> Result<(), Wrong> {
     }
     add_own_head(out, item, "postcard::Serialize")?;
     add_enum_use(out, home, item)?;
-    add(out, &["    ghost use Rattle.postcard_ser.specs.Writing.{Wrote};\n"])?;
-    add(out, &["    ghost use Rattle.postcard_wire.specs.Spelling.{canonical};\n"])?;
+    add(
+        out,
+        &["    ghost use Rattle.postcard_ser.specs.Writing.{Wrote};\n"],
+    )?;
+    add(
+        out,
+        &["    ghost use Rattle.postcard_wire.specs.Spelling.{canonical};\n"],
+    )?;
     add(out, &["    ghost use Rattle.std.specs.Prelude.{OnOk};\n"])?;
     let mut index: usize = 0;
     for member in &item.members {
@@ -149,13 +165,15 @@ fn add_writers(out: &mut String, home: Home, item: &Item) -> Result<(), Wrong> {
 }
 
 /// Adds the function that writes a variant.
-fn add_writer(
-    out: &mut String,
-    item: &Item,
-    member: &Member,
-    index: usize,
-) -> Result<(), Wrong> {
-    add(out, &["\n    /// Writes the variant `", member.name, "`.\n    fn write_"])?;
+fn add_writer(out: &mut String, item: &Item, member: &Member, index: usize) -> Result<(), Wrong> {
+    add(
+        out,
+        &[
+            "\n    /// Writes the variant `",
+            member.name,
+            "`.\n    fn write_",
+        ],
+    )?;
     write!(out, "{index}")?;
     add(out, &["<F: postcard::ser_flavors::Flavor>(\n"])?;
     for field in &member.fields {
@@ -164,7 +182,10 @@ fn add_writer(
         add(out, &[": &"])?;
         add(out, &[field.text, ",\n"])?;
     }
-    add(out, &["        serializer: &mut postcard::Serializer<F>,\n"])?;
+    add(
+        out,
+        &["        serializer: &mut postcard::Serializer<F>,\n"],
+    )?;
     add(out, &["    ) -> postcard::Result<()>\n"])?;
     add_writer_clauses(out, item, member)?;
     add(out, &["    {\n        postcard::serialize_variant("])?;
@@ -177,7 +198,10 @@ fn add_writer(
 
 /// Adds the clauses of the function that writes a variant: those of `serialize`, of this variant.
 fn add_writer_clauses(out: &mut String, item: &Item, member: &Member) -> Result<(), Wrong> {
-    add(out, &["        ensures wrote { Wrote F.Flavor serializer.old.output\n"])?;
+    add(
+        out,
+        &["        ensures wrote { Wrote F.Flavor serializer.old.output\n"],
+    )?;
     for (opening, member_of) in [("(canonical (", "tree"), ("(", "refusal")] {
         add(out, &["            ", opening])?;
         add_shape(out, item)?;
@@ -257,8 +281,14 @@ fn add_match(out: &mut String, item: &Item, indent: &str) -> Result<(), Wrong> {
 fn add_from_row(out: &mut String, home: Home, item: &Item) -> Result<(), Wrong> {
     add_own_head(out, item, "postcard::Shaped")?;
     add_enum_use(out, home, item)?;
-    add(out, &[USE_ROW, "    ghost use Rattle.std.specs.Prelude.{◌≡◌};\n\n"])?;
-    add(out, &["    /// Makes a value of the row that was decoded.\n"])?;
+    add(
+        out,
+        &[USE_ROW, "    ghost use Rattle.std.specs.Prelude.{◌≡◌};\n\n"],
+    )?;
+    add(
+        out,
+        &["    /// Makes a value of the row that was decoded.\n"],
+    )?;
     add(out, &["    fn from_decoded(row: ", item.name, "Row"])?;
     add_arguments(out, item, Lifetimes::Own)?;
     add(out, &[") -> Self\n        ensures { "])?;
@@ -317,7 +347,14 @@ fn add_seen(out: &mut String, home: Home, item: &Item) -> Result<(), Wrong> {
     add_rows(out, item)?;
     add(out, &[" };\n}\n"])?;
     add_head(out, item, Trait::FromRepr)?;
-    add(out, &["    fn from_repr(row: Self::As) -> Self {\n", USE_CASES, "        "])?;
+    add(
+        out,
+        &[
+            "    fn from_repr(row: Self::As) -> Self {\n",
+            USE_CASES,
+            "        ",
+        ],
+    )?;
     add_match(out, item, "        ")?;
     add(out, &["\n    }\n}\n"])?;
     add_head(out, item, Trait::SerializeRepr)?;

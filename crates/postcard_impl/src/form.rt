@@ -185,7 +185,9 @@ fn is_signed_alias(tokens: &[Token], items: &[Item], token: Token) -> bool {
 
 /// Returns the index of the item that has the token's text as its name, or `None` if none has.
 fn named(items: &[Item], token: Token) -> Option<usize> {
-    items.iter().position(|item| token.says(item.name.as_bytes()))
+    items
+        .iter()
+        .position(|item| token.says(item.name.as_bytes()))
 }
 
 /// Fails at a field of the first item that has itself in it.
@@ -286,7 +288,10 @@ fn are_light(
     for at in words.start..words.end {
         let is_last = !is_at(tokens, at.saturating_add(1), b"::");
         if let Some(token) = token_at(tokens, at) {
-            if is_name_at(tokens, at) && is_last && !is_light_word(items, light, parameters, token) {
+            if is_name_at(tokens, at)
+                && is_last
+                && !is_light_word(items, light, parameters, token)
+            {
                 return false;
             }
         }
@@ -299,7 +304,10 @@ fn is_light_word(items: &[Item], light: &[bool], parameters: &[&str], token: Tok
     if NO_MEMORY.iter().any(|word| token.says(word)) {
         return true;
     }
-    if parameters.iter().any(|text| token.says(name_of(text).as_bytes())) {
+    if parameters
+        .iter()
+        .any(|text| token.says(name_of(text).as_bytes()))
+    {
         return true;
     }
     match named(items, token) {
@@ -369,7 +377,10 @@ fn problem_of(
 fn names_seen(tokens: &[Token], items: &[Item], field: &Field) -> bool {
     for at in field.words.start..field.words.end {
         if let Some(token) = token_at(tokens, at) {
-            if items.iter().any(|item| token.says(item.name.as_bytes()) && is_seen(item)) {
+            if items
+                .iter()
+                .any(|item| token.says(item.name.as_bytes()) && is_seen(item))
+            {
                 return true;
             }
         }
@@ -432,7 +443,12 @@ fn reference_problem(file: &str, tokens: &[Token], item: &Item, at: usize) -> Op
         return Some(ImplProblem::NoReference);
     }
     let lifetime = raw_between(file, tokens, at, next).trim();
-    if item.parameters.lifetimes.iter().any(|known| *known == lifetime) {
+    if item
+        .parameters
+        .lifetimes
+        .iter()
+        .any(|known| *known == lifetime)
+    {
         return None;
     }
     Some(ImplProblem::NotRead)

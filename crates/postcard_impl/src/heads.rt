@@ -22,7 +22,8 @@ pub(crate) const DESERIALIZE: &str = "    fn deserialize<F: postcard::de_flavors
 ";
 
 /// The head of a `deserialize_owned`.
-pub(crate) const DESERIALIZE_OWNED: &str = "    fn deserialize_owned<F: postcard::de_flavors::Flavor>(
+pub(crate) const DESERIALIZE_OWNED: &str =
+    "    fn deserialize_owned<F: postcard::de_flavors::Flavor>(
         alloc: std::alloc::Global,
         d: &mut postcard::Deserializer<'_, F>,
     ) -> postcard::Result<Self> {
@@ -98,5 +99,8 @@ pub(crate) fn add_own_head(out: &mut String, item: &Item, bound: &str) -> Result
 pub(crate) fn add_owned(out: &mut String, item: &Item) -> Result<(), Wrong> {
     add_head(out, item, Trait::DeserializeOwned)?;
     add(out, &[DESERIALIZE_OWNED])?;
-    add(out, &["        postcard::Deserialize::deserialize(alloc, d)\n    }\n}\n"])
+    add(
+        out,
+        &["        postcard::Deserialize::deserialize(alloc, d)\n    }\n}\n"],
+    )
 }

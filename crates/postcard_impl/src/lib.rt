@@ -1,4 +1,34 @@
-//! The impls of a file's types. (Its words follow.)
+//! The impls of the types that a file of Rattle declares, as text: [`impl_file`].
+//!
+//! A file has items as they are written in a program's source. Of these the declarations are read, `struct`,
+//! `enum` and `type`, with lifetimes, parameters, attributes, comments and visibilities:
+//!
+//! ```text
+//! /// What a sensor sends.
+//! #[derive(Debug, Drop)]
+//! pub struct Reading<'a> { id: u32, label: &'a str, samples: Vec<i16> }
+//! #[derive(Drop)]
+//! enum Event<T> { Boot, Set(T), Fault { code: u8, text: String } }
+//! type Millimetres = i32;
+//! ```
+//!
+//! The impls are written between two marks ([`marks`]), behind the text of a file that has none. What
+//! stands between the marks isn't read, and what stands outside of them is kept as it is, so that a second
+//! run replaces just the impls. They name all that they use by its path, and no `use` line of the file.
+//!
+//! | A type | Its impls |
+//! |---|---|
+//! | an alias | none |
+//! | with a lifetime and a parameter | `Repr`, `FromRepr`, `SerializeRepr` |
+//! | any other | `Shaped` by `via`, `Serialize`, `Deserialize`, and `DeserializeOwned` if nothing borrows |
+//!
+//! A struct goes via the tuple of its fields, an enum via its variants in a row, and more than eight
+//! fields via tuples of five. If a struct or a variant has more than one signed number, a function
+//! makes the value of what was read, so that the prover follows. A type that has no impls that would be
+//! proved is refused with the place of the field, by one of [`ImplProblem`].
+//!
+//! A file is read in three steps, one module each: its marks ([`marks`]), its items (`read`, over the tokens
+//! of `postcard_dyn_file`), and which impls each item has ([`form`]); `structs` and `enums` write them.
 #![tactic(auto)]
 
 ghost use Rattle.std.specs.Prelude.{◌≡◌, IfOk, IfErr, string_bytes};
@@ -21,8 +51,8 @@ mod structs;
 mod tests;
 mod write;
 
-pub use error::{ImplError, ImplProblem};
 use error::Wrong;
+pub use error::{ImplError, ImplProblem};
 use form::forms;
 pub use home::Home;
 use marks::{BEGIN, END, Outside};

@@ -8,7 +8,8 @@ use crate::error::{ImplProblem, Wrong};
 use std::alloc::{AllocError, Global};
 
 /// The line before what is generated, and the blank line before it.
-pub const BEGIN: &str = "\n// pcard impl: the impls of the types of this file. Don't edit them: run it again.\n";
+pub const BEGIN: &str =
+    "\n// pcard impl: the impls of the types of this file. Don't edit them: run it again.\n";
 
 /// The line behind what is generated.
 pub const END: &str = "// pcard impl: the end of the impls.\n";
@@ -64,7 +65,7 @@ impl<'a> Outside<'a> {
     pub fn around(self, alloc: Global, generated: &str) -> Result<String, AllocError>
         ensures { IfOk result (λ file. string_bytes file
             ≡ marked BEGIN.now END.now self.entry.before.now generated.now
-                self.entry.after.now) }
+            self.entry.after.now) }
     {
         let mut file = String::from_str(alloc, self.before)?;
         file.push_str(BEGIN)?;

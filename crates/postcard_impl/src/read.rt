@@ -2,8 +2,10 @@
 
 use crate::error::{ImplProblem, Wrong};
 use crate::item::{Field, Item, Member, Parameters, Span, Style};
-use crate::scan::{after_bracket, bare, closing_angle, find_word, inside, parts};
-use crate::scan::{raw_between, text_at, text_of, wrong, wrong_at};
+use crate::scan::{
+    after_bracket, bare, closing_angle, find_word, inside, parts, raw_between, text_at, text_of,
+    wrong, wrong_at,
+};
 use postcard_dyn_file::FileProblem;
 use postcard_dyn_file::declaration::{Declaration, Kind};
 use postcard_dyn_file::token::{Token, after_word, is_at, is_name_at, token_at};
@@ -13,7 +15,15 @@ use std::alloc::Global;
 const MAX_FIELDS: usize = 60;
 
 /// The names of variables that the impls have themselves.
-const TAKEN: [&str; 7] = ["alloc", "d", "serializer", "row", "parts", "result", "never"];
+const TAKEN: [&str; 7] = [
+    "alloc",
+    "d",
+    "serializer",
+    "row",
+    "parts",
+    "result",
+    "never",
+];
 
 /// Returns the items that these declarations of the file are.
 pub(crate) fn items<'a>(

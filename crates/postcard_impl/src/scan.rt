@@ -30,7 +30,12 @@ pub(crate) fn text_of<'a>(file: &'a str, tokens: &[Token], words: Span) -> &'a s
 }
 
 /// Returns the text between the signs at two indices.
-pub(crate) fn raw_between<'a>(file: &'a str, tokens: &[Token], start: usize, end: usize) -> &'a str {
+pub(crate) fn raw_between<'a>(
+    file: &'a str,
+    tokens: &[Token],
+    start: usize,
+    end: usize,
+) -> &'a str {
     match (token_at(tokens, start), token_at(tokens, end)) {
         (Some(first), Some(last)) => {
             let length = first.left.saturating_sub(last.left).saturating_sub(1);

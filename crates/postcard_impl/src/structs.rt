@@ -2,8 +2,9 @@
 
 use crate::error::Wrong;
 use crate::form::Form;
-use crate::heads::{DESERIALIZE, DESERIALIZE_OWNED, SERIALIZES, USE_VIA};
-use crate::heads::{Trait, add_head, add_owned, add_own_head};
+use crate::heads::{
+    DESERIALIZE, DESERIALIZE_OWNED, SERIALIZES, Trait, USE_VIA, add_head, add_own_head, add_owned,
+};
 use crate::item::{Item, Member};
 use crate::pieces::{Piece, add, add_tuple, add_value};
 
@@ -41,7 +42,10 @@ fn add_from_parts(out: &mut String, item: &Item, member: &Member) -> Result<(), 
     let fields = member.fields.as_slice();
     add_own_head(out, item, "postcard::Shaped")?;
     add(out, &["    ghost use Rattle.std.specs.Prelude.{◌≡◌};\n\n"])?;
-    add(out, &["    /// Makes a value of the parts that were decoded.\n"])?;
+    add(
+        out,
+        &["    /// Makes a value of the parts that were decoded.\n"],
+    )?;
     add(out, &["    fn from_decoded(parts: "])?;
     add_tuple(out, fields, Piece::Type)?;
     add(out, &[") -> Self\n        ensures { "])?;
@@ -63,7 +67,10 @@ fn add_serialize_body(out: &mut String, member: &Member) -> Result<(), Wrong> {
     }
     add(out, &["        let parts = "])?;
     add_tuple(out, fields, Piece::Borrowed)?;
-    add(out, &[";\n        postcard::Serialize::serialize(&parts, serializer)\n    }\n}\n"])
+    add(
+        out,
+        &[";\n        postcard::Serialize::serialize(&parts, serializer)\n    }\n}\n"],
+    )
 }
 
 /// Adds the impl of `Deserialize`, and that of `DeserializeOwned` if nothing in the struct borrows.
@@ -79,7 +86,13 @@ fn add_reads(out: &mut String, item: &Item, member: &Member, form: Form) -> Resu
     }
     add_head(out, item, Trait::DeserializeOwned)?;
     add(out, &[DESERIALIZE_OWNED])?;
-    add_read_body(out, item, member, form, "DeserializeOwned::deserialize_owned")
+    add_read_body(
+        out,
+        item,
+        member,
+        form,
+        "DeserializeOwned::deserialize_owned",
+    )
 }
 
 /// Adds the body of a function that reads the parts by `call`, and the end of its impl.
@@ -91,7 +104,10 @@ fn add_read_body(
     call: &str,
 ) -> Result<(), Wrong> {
     if form == Form::ByParts {
-        add(out, &["        let parts = postcard::", call, "(alloc, d)?;\n"])?;
+        add(
+            out,
+            &["        let parts = postcard::", call, "(alloc, d)?;\n"],
+        )?;
         return add(out, &["        Ok(Self::from_decoded(parts))\n    }\n}\n"]);
     }
     add(out, &["        let "])?;
@@ -111,7 +127,10 @@ fn add_seen(out: &mut String, item: &Item, member: &Member) -> Result<(), Wrong>
     add_tuple(out, fields, Piece::OfValue)?;
     add(out, &[" };\n}\n"])?;
     add_head(out, item, Trait::FromRepr)?;
-    add(out, &["    fn from_repr(parts: Self::As) -> Self {\n        let "])?;
+    add(
+        out,
+        &["    fn from_repr(parts: Self::As) -> Self {\n        let "],
+    )?;
     add_tuple(out, fields, Piece::Variable)?;
     add(out, &[" = parts;\n        "])?;
     add_value(out, &[item.name], member)?;

@@ -87,7 +87,10 @@ const REFUSED: [Row; 33] = [
         "#[derive(Drop)] struct A(Vec<B>); #[derive(Drop)] enum B { C(A), D }",
         "line 1, column 30: `B`: this type has itself in it",
     ),
-    ("struct A(u8);", "line 1, column 8: `A`: derive `Drop`, or `Copy`"),
+    (
+        "struct A(u8);",
+        "line 1, column 8: `A`: derive `Drop`, or `Copy`",
+    ),
     (
         "#[derive(Drop, Serialize)] struct A(u8);",
         "line 1, column 16: `Serialize`: derive neither `Serialize` nor `Deserialize`",
