@@ -811,52 +811,18 @@ impl<'a> postcard::Shaped for Chunk<'a> {
     ]) ⟦<ChunkRow<'a> as postcard::Shaped>⟧.shape };
 }
 
-impl<'a> Chunk<'a> {
-    ghost use Rattle.example_generated.specs.declared.types.Chunk.{Chunk};
-    ghost use Rattle.postcard_ser.specs.Writing.{Wrote};
-    ghost use Rattle.postcard_wire.specs.Spelling.{canonical};
-    ghost use Rattle.std.specs.Prelude.{OnOk};
-
-    /// Writes the variant `Name`.
-    fn write_0<F: postcard::ser_flavors::Flavor>(
-        x0: &&'a str,
-        serializer: &mut postcard::Serializer<F>,
-    ) -> postcard::Result<()>
-        ensures wrote { Wrote F.Flavor serializer.old.output
-            (canonical (⟦<Chunk<'a> as postcard::Shaped>⟧.shape.tree (Chunk.Name x0.now)))
-            (⟦<Chunk<'a> as postcard::Shaped>⟧.shape.refusal (Chunk.Name x0.now))
-            ⟦<Chunk<'a> as postcard::Shaped>⟧.shape.text result serializer.new.output }
-        ensures fits { OnOk result
-            (⟦<Chunk<'a> as postcard::Shaped>⟧.shape.fits (Chunk.Name x0.now)) }
-    {
-        postcard::serialize_variant(0, x0, serializer)
-    }
-
-    /// Writes the variant `Data`.
-    fn write_1<F: postcard::ser_flavors::Flavor>(
-        x0: &u32,
-        x1: &&'a [u8],
-        serializer: &mut postcard::Serializer<F>,
-    ) -> postcard::Result<()>
-        ensures wrote { Wrote F.Flavor serializer.old.output
-            (canonical (⟦<Chunk<'a> as postcard::Shaped>⟧.shape.tree (Chunk.Data x0.now x1.now)))
-            (⟦<Chunk<'a> as postcard::Shaped>⟧.shape.refusal (Chunk.Data x0.now x1.now))
-            ⟦<Chunk<'a> as postcard::Shaped>⟧.shape.text result serializer.new.output }
-        ensures fits { OnOk result
-            (⟦<Chunk<'a> as postcard::Shaped>⟧.shape.fits (Chunk.Data x0.now x1.now)) }
-    {
-        postcard::serialize_variant(1, &(x0, x1), serializer)
-    }
-}
-
 impl postcard::Serialize for Chunk<'_> {
     fn serialize<F: postcard::ser_flavors::Flavor>(
         &self,
         serializer: &mut postcard::Serializer<F>,
     ) -> postcard::Result<()> {
         match self {
-            Chunk::Name(x0) => Self::write_0(x0, serializer),
-            Chunk::Data { start, bytes } => Self::write_1(start, bytes, serializer),
+            Chunk::Name(x0) => postcard::serialize_variant(0, x0, serializer),
+            Chunk::Data { start, bytes } => postcard::serialize_variant(
+                1,
+                &(start, bytes),
+                serializer,
+            ),
             Chunk::End => postcard::serialize_variant(2, &(), serializer),
         }
     }

@@ -35,7 +35,7 @@ pub(crate) fn add_enum(out: &mut String, home: Home, item: &Item, form: Form) ->
     add_writers(out, home, item)?;
     add_head(out, item, Trait::Serialize)?;
     add(out, &["    fn serialize", SERIALIZES])?;
-    add_serialize_body(out, item, true)?;
+    add_serialize_body(out, item)?;
     add_reads(out, item, form)
 }
 
@@ -122,9 +122,12 @@ fn add_nested(out: &mut String, text: &str, count: usize) -> Result<(), Wrong> {
     Ok(())
 }
 
-/// Returns whether the variant is written by a function of its own: whether it has other fields than
-/// one number, one truth value or one text.
-fn has_writer(member: &Member) -> bool {
+/// Returns whether the variant is written by a function of its own: whether the enum borrows nothing,
+/// and the variant has other fields than one number, one truth value or one text.
+fn has_writer(item: &Item, member: &Member) -> bool {
+    if !item.parameters.lifetimes.is_empty() {
+        return false;
+    }
     match member.fields.as_slice() {
         [] => false,
         [field] => !PLAIN.contains(&field.text),
@@ -140,7 +143,7 @@ const PLAIN: [&str; 16] = [
 
 /// Adds the functions that write the variants which have one.
 fn add_writers(out: &mut String, home: Home, item: &Item) -> Result<(), Wrong> {
-    if !item.members.iter().any(has_writer) {
+    if !item.members.iter().any(|member| has_writer(item, member)) {
         return Ok(());
     }
     add_own_head(out, item, "postcard::Serialize")?;
@@ -156,7 +159,7 @@ fn add_writers(out: &mut String, home: Home, item: &Item) -> Result<(), Wrong> {
     add(out, &["    ghost use Rattle.std.specs.Prelude.{OnOk};\n"])?;
     let mut index: usize = 0;
     for member in &item.members {
-        if has_writer(member) {
+        if has_writer(item, member) {
             add_writer(out, item, member, index)?;
         }
         index = index.saturating_add(1);
@@ -226,15 +229,14 @@ fn add_shape(out: &mut String, item: &Item) -> Result<(), Wrong> {
     add(out, &[" as postcard::Shaped>⟧.shape"])
 }
 
-/// Adds the body of a `serialize`, and the end of its impl. With `writers` a variant that has a function of
-/// its own is written by that.
-fn add_serialize_body(out: &mut String, item: &Item, writers: bool) -> Result<(), Wrong> {
+/// Adds the body of a `serialize`, and the end of its impl.
+fn add_serialize_body(out: &mut String, item: &Item) -> Result<(), Wrong> {
     add(out, &["        match self {\n"])?;
     let mut index: usize = 0;
     for member in &item.members {
         add(out, &["            "])?;
         add_value(out, &[item.name, "::", member.name], member)?;
-        if writers && has_writer(member) {
+        if has_writer(item, member) {
             add(out, &[" => Self::write_"])?;
             write!(out, "{index}(")?;
             for field in &member.fields {
@@ -359,5 +361,5 @@ fn add_seen(out: &mut String, home: Home, item: &Item) -> Result<(), Wrong> {
     add(out, &["\n    }\n}\n"])?;
     add_head(out, item, Trait::SerializeRepr)?;
     add(out, &["    fn serialize_repr", SERIALIZES])?;
-    add_serialize_body(out, item, false)
+    add_serialize_body(out, item)
 }

@@ -121,6 +121,7 @@ pub(crate) fn add_value(out: &mut String, path: &[&str], member: &Member) -> Res
     let (opening, closing) = match member.style {
         Style::Unit => return Ok(()),
         Style::Tuple => ("(", ")"),
+        Style::Named if member.fields.is_empty() => (" {", "}"),
         Style::Named => (" { ", " }"),
     };
     add(out, &[opening])?;
