@@ -192,6 +192,44 @@ pub enum Command {
 
 // pcard impl: the impls of the types of this file. Don't edit them: run it again.
 
+/// A type whose values are made of the parts that were decoded.
+trait FromDecoded: postcard::Shaped + Sized + Drop {
+    ghost use Rattle.std.specs.Prelude.{◌≡◌};
+
+    /// The type of the parts.
+    type Parts: postcard::Shaped + Drop;
+
+    ghost seen: { Self → Self.Parts };
+
+    /// Makes a value of its parts.
+    fn from_decoded(parts: Self::Parts) -> Self
+        ensures { Self.seen result ≡ parts };
+}
+
+/// What decodes values by their parts.
+struct Decoded;
+
+impl Decoded {
+    ghost use Rattle.postcard_de.specs.Deserializer.{source_of};
+    ghost use Rattle.postcard_de.specs.Reads.{Reads};
+    ghost use Rattle.postcard_wire.specs.Spelling.{Spells};
+
+    /// Reads the parts of a value, and makes it of them.
+    fn read<'de, T: FromDecoded, F: postcard::de_flavors::Flavor>(
+        alloc: std::alloc::Global,
+        d: &mut postcard::Deserializer<'de, F>,
+    ) -> postcard::Result<T>
+    where
+        T::Parts: postcard::Deserialize<'de>,
+        ensures { Reads F.Flavor Spells T.Parts.shape.reads
+            (λ t v. T.Parts.shape.value t (T.seen v))
+            T.Parts.shape.other (source_of d.old) result (source_of d.new) }
+    {
+        let parts = <T::Parts as postcard::Deserialize<'de>>::deserialize(alloc, d)?;
+        Ok(T::from_decoded(parts))
+    }
+}
+
 impl postcard::Shaped for Heartbeat {
     ghost use Rattle.postcard_shape.specs.Shape.{via};
 
@@ -269,13 +307,12 @@ impl postcard::Shaped for Position {
         ⟦<(i32, i32, i16) as postcard::Shaped>⟧.shape };
 }
 
-impl Position {
-    ghost use Rattle.std.specs.Prelude.{◌≡◌};
+impl FromDecoded for Position {
+    type Parts = (i32, i32, i16);
 
-    /// Makes a value of the parts that were decoded.
-    fn from_decoded(parts: (i32, i32, i16)) -> Self
-        ensures { (result.latitude, result.longitude, result.altitude) ≡ parts }
-    {
+    ghost seen = { λ v. (v.latitude, v.longitude, v.altitude) };
+
+    fn from_decoded(parts: Self::Parts) -> Self {
         let (latitude, longitude, altitude) = parts;
         Position {
             latitude,
@@ -300,8 +337,7 @@ impl<'de> postcard::Deserialize<'de> for Position {
         alloc: std::alloc::Global,
         d: &mut postcard::Deserializer<'de, F>,
     ) -> postcard::Result<Self> {
-        let parts = postcard::Deserialize::deserialize(alloc, d)?;
-        Ok(Self::from_decoded(parts))
+        Decoded::read(alloc, d)
     }
 }
 
@@ -539,19 +575,16 @@ impl postcard::Shaped for Telemetry {
         ⟦<((u32, u64, u16, i16, i16), (u8, u32, i32, i32, i16), (u16, u16, u8, bool, String)) as postcard::Shaped>⟧.shape };
 }
 
-impl Telemetry {
-    ghost use Rattle.std.specs.Prelude.{◌≡◌};
+impl FromDecoded for Telemetry {
+    type Parts = (
+        (u32, u64, u16, i16, i16),
+        (u8, u32, i32, i32, i16),
+        (u16, u16, u8, bool, String),
+    );
 
-    /// Makes a value of the parts that were decoded.
-    fn from_decoded(
-        parts: (
-            (u32, u64, u16, i16, i16),
-            (u8, u32, i32, i32, i16),
-            (u16, u16, u8, bool, String),
-        ),
-    ) -> Self
-        ensures { ((result.sequence, result.uptime, result.voltage, result.current, result.temperature), (result.humidity, result.pressure, result.latitude, result.longitude, result.altitude), (result.heading, result.speed, result.satellites, result.fix, result.label)) ≡ parts }
-    {
+    ghost seen = { λ v. ((v.sequence, v.uptime, v.voltage, v.current, v.temperature), (v.humidity, v.pressure, v.latitude, v.longitude, v.altitude), (v.heading, v.speed, v.satellites, v.fix, v.label)) };
+
+    fn from_decoded(parts: Self::Parts) -> Self {
         let (
             (sequence, uptime, voltage, current, temperature),
             (humidity, pressure, latitude, longitude, altitude),
@@ -614,8 +647,7 @@ impl<'de> postcard::Deserialize<'de> for Telemetry {
         alloc: std::alloc::Global,
         d: &mut postcard::Deserializer<'de, F>,
     ) -> postcard::Result<Self> {
-        let parts = postcard::Deserialize::deserialize(alloc, d)?;
-        Ok(Self::from_decoded(parts))
+        Decoded::read(alloc, d)
     }
 }
 

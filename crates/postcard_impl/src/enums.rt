@@ -3,7 +3,8 @@
 use crate::error::Wrong;
 use crate::form::Form;
 use crate::heads::{
-    DESERIALIZE, DESERIALIZE_OWNED, SERIALIZES, Trait, USE_VIA, add_head, add_own_head, add_owned,
+    DESERIALIZE, DESERIALIZE_OWNED, SERIALIZES, Trait, USE_VIA, add_decoded_body, add_head,
+    add_own_head, add_owned,
 };
 use crate::home::Home;
 use crate::item::{Item, Member};
@@ -279,23 +280,19 @@ fn add_match(out: &mut String, item: &Item, indent: &str) -> Result<(), Wrong> {
     add(out, &[" => match never {},\n", indent, "}"])
 }
 
-/// Adds the function that makes an enum of its row.
+/// Adds the impl by which an enum is made of its row.
 fn add_from_row(out: &mut String, home: Home, item: &Item) -> Result<(), Wrong> {
-    add_own_head(out, item, "postcard::Shaped")?;
+    add_head(out, item, Trait::FromDecoded)?;
     add_enum_use(out, home, item)?;
-    add(
-        out,
-        &[USE_ROW, "    ghost use Rattle.std.specs.Prelude.{◌≡◌};\n\n"],
-    )?;
-    add(
-        out,
-        &["    /// Makes a value of the row that was decoded.\n"],
-    )?;
-    add(out, &["    fn from_decoded(row: ", item.name, "Row"])?;
+    add(out, &[USE_ROW, "\n    type Parts = ", item.name, "Row"])?;
     add_arguments(out, item, Lifetimes::Own)?;
-    add(out, &[") -> Self\n        ensures { "])?;
+    add(out, &[";\n\n    ghost seen = { "])?;
     add_rows(out, item)?;
-    add(out, &[" result ≡ row }\n    {\n", USE_CASES, "        "])?;
+    add(
+        out,
+        &[" };\n\n    fn from_decoded(row: Self::Parts) -> Self {\n"],
+    )?;
+    add(out, &[USE_CASES, "        "])?;
     add_match(out, item, "        ")?;
     add(out, &["\n    }\n}\n"])
 }
@@ -325,17 +322,13 @@ fn add_read_body(
     lifetimes: Lifetimes,
     call: &str,
 ) -> Result<(), Wrong> {
-    if form != Form::ByParts {
-        add(out, &[USE_CASES])?;
+    if form == Form::ByParts {
+        return add_decoded_body(out, lifetimes);
     }
-    add(out, &["        let row: ", item.name, "Row"])?;
+    add(out, &[USE_CASES, "        let row: ", item.name, "Row"])?;
     add_arguments(out, item, lifetimes)?;
     add(out, &[" = postcard::", call, "(alloc, d)?;\n        Ok("])?;
-    if form == Form::ByParts {
-        add(out, &["Self::from_decoded(row)"])?;
-    } else {
-        add_match(out, item, "        ")?;
-    }
+    add_match(out, item, "        ")?;
     add(out, &[")\n    }\n}\n"])
 }
 

@@ -99,7 +99,8 @@ pub enum Form {
     Alias,
     /// `Shaped` by `via`, `Serialize`, `Deserialize`, and `DeserializeOwned` if nothing in it borrows.
     Via,
-    /// The same, with a function that makes the value of its parts, since it has several signed numbers.
+    /// The same, with a trait of the file by which a value is made of its parts, since it has several
+    /// signed numbers.
     ByParts,
     /// `Repr`, `FromRepr` and `SerializeRepr`, since it has a parameter and a lifetime.
     Seen,

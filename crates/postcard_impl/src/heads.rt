@@ -29,7 +29,7 @@ pub(crate) const DESERIALIZE_OWNED: &str =
     ) -> postcard::Result<Self> {
 ";
 
-/// A trait of the library whose impl is written.
+/// A trait whose impl is written: one of the library, or `FromDecoded`.
 #[derive(Clone, Copy, Debug, PartialEq, Eq)]
 pub enum Trait {
     Shaped,
@@ -39,19 +39,21 @@ pub enum Trait {
     Repr,
     FromRepr,
     SerializeRepr,
+    FromDecoded,
 }
 
 impl Trait {
-    /// Returns its name.
+    /// Returns its path.
     fn name(self) -> &'static str {
         match self {
-            Trait::Shaped => "Shaped",
-            Trait::Serialize => "Serialize",
-            Trait::Deserialize => "Deserialize<'de>",
-            Trait::DeserializeOwned => "DeserializeOwned",
-            Trait::Repr => "Repr",
-            Trait::FromRepr => "FromRepr",
-            Trait::SerializeRepr => "SerializeRepr",
+            Trait::Shaped => "postcard::Shaped",
+            Trait::Serialize => "postcard::Serialize",
+            Trait::Deserialize => "postcard::Deserialize<'de>",
+            Trait::DeserializeOwned => "postcard::DeserializeOwned",
+            Trait::Repr => "postcard::Repr",
+            Trait::FromRepr => "postcard::FromRepr",
+            Trait::SerializeRepr => "postcard::SerializeRepr",
+            Trait::FromDecoded => "FromDecoded",
         }
     }
 
@@ -59,7 +61,7 @@ impl Trait {
     fn bound(self) -> &'static str {
         match self {
             Trait::Shaped | Trait::Repr => "postcard::Shaped",
-            Trait::FromRepr => "postcard::Shaped + Drop",
+            Trait::FromRepr | Trait::FromDecoded => "postcard::Shaped + Drop",
             Trait::Serialize | Trait::SerializeRepr => "postcard::Serialize",
             Trait::Deserialize => "postcard::Deserialize<'de>",
             Trait::DeserializeOwned => "postcard::DeserializeOwned",
@@ -69,7 +71,7 @@ impl Trait {
     /// Returns the lifetimes that its impl names.
     fn lifetimes(self) -> Lifetimes {
         match self {
-            Trait::Shaped | Trait::Repr => Lifetimes::Own,
+            Trait::Shaped | Trait::Repr | Trait::FromDecoded => Lifetimes::Own,
             Trait::Deserialize => Lifetimes::Read,
             _ => Lifetimes::Any,
         }
@@ -80,7 +82,7 @@ impl Trait {
 pub(crate) fn add_head(out: &mut String, item: &Item, of: Trait) -> Result<(), Wrong> {
     add(out, &["\nimpl"])?;
     add_declared(out, item, of.lifetimes(), of.bound())?;
-    add(out, &[" postcard::", of.name(), " for "])?;
+    add(out, &[" ", of.name(), " for "])?;
     add(out, &[item.name])?;
     add_arguments(out, item, of.lifetimes())?;
     add(out, &[" {\n"])
@@ -103,4 +105,14 @@ pub(crate) fn add_owned(out: &mut String, item: &Item) -> Result<(), Wrong> {
         out,
         &["        postcard::Deserialize::deserialize(alloc, d)\n    }\n}\n"],
     )
+}
+
+/// Adds the body of a function that reads a value by its parts, with the lifetime of what is read or with
+/// none, and the end of its impl.
+pub(crate) fn add_decoded_body(out: &mut String, lifetimes: Lifetimes) -> Result<(), Wrong> {
+    let call = match lifetimes {
+        Lifetimes::Read => "read",
+        _ => "read_owned",
+    };
+    add(out, &["        Decoded::", call, "(alloc, d)\n    }\n}\n"])
 }

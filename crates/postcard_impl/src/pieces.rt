@@ -17,8 +17,6 @@ pub enum Piece {
     Type,
     /// The field of the prover's `v`, as `v.name`.
     OfValue,
-    /// The field of the prover's `result`, as `result.name`.
-    OfResult,
     /// The prover's variable in the row of a variant, as `x0`.
     InRow,
     /// The value behind that, as `x0.now`.
@@ -43,7 +41,6 @@ fn add_piece(out: &mut String, field: &Field, piece: Piece) -> Result<(), Wrong>
     match piece {
         Piece::Type => add_type(out, field.text),
         Piece::OfValue => add(out, &["v.", name]),
-        Piece::OfResult => add(out, &["result.", name]),
         Piece::InRow => add_row_variable(out, field),
         Piece::BehindRow => {
             add_row_variable(out, field)?;
@@ -108,7 +105,7 @@ fn add_group(out: &mut String, fields: &[Field], piece: Piece) -> Result<(), Wro
 /// Returns what stands for no field.
 fn empty(piece: Piece) -> &'static str {
     match piece {
-        Piece::OfValue | Piece::OfResult | Piece::InRow | Piece::BehindRow => "tt",
+        Piece::OfValue | Piece::InRow | Piece::BehindRow => "tt",
         Piece::Borrowed => "&()",
         Piece::Type | Piece::Variable => "()",
     }

@@ -3,10 +3,11 @@
 use crate::error::Wrong;
 use crate::form::Form;
 use crate::heads::{
-    DESERIALIZE, DESERIALIZE_OWNED, SERIALIZES, Trait, USE_VIA, add_head, add_own_head, add_owned,
+    DESERIALIZE, DESERIALIZE_OWNED, SERIALIZES, Trait, USE_VIA, add_decoded_body, add_head,
+    add_owned,
 };
 use crate::item::{Item, Member};
-use crate::pieces::{Piece, add, add_tuple, add_value};
+use crate::pieces::{Lifetimes, Piece, add, add_tuple, add_value};
 
 /// Adds the impls of a struct.
 pub(crate) fn add_struct(out: &mut String, item: &Item, form: Form) -> Result<(), Wrong> {
@@ -37,20 +38,18 @@ fn add_shape(out: &mut String, item: &Item, member: &Member) -> Result<(), Wrong
     add(out, &[" as postcard::Shaped>⟧.shape };\n}\n"])
 }
 
-/// Adds the function that makes a struct of its parts.
+/// Adds the impl by which a struct is made of its parts.
 fn add_from_parts(out: &mut String, item: &Item, member: &Member) -> Result<(), Wrong> {
     let fields = member.fields.as_slice();
-    add_own_head(out, item, "postcard::Shaped")?;
-    add(out, &["    ghost use Rattle.std.specs.Prelude.{◌≡◌};\n\n"])?;
+    add_head(out, item, Trait::FromDecoded)?;
+    add(out, &["    type Parts = "])?;
+    add_tuple(out, fields, Piece::Type)?;
+    add(out, &[";\n\n    ghost seen = { λ v. "])?;
+    add_tuple(out, fields, Piece::OfValue)?;
     add(
         out,
-        &["    /// Makes a value of the parts that were decoded.\n"],
+        &[" };\n\n    fn from_decoded(parts: Self::Parts) -> Self {\n        let "],
     )?;
-    add(out, &["    fn from_decoded(parts: "])?;
-    add_tuple(out, fields, Piece::Type)?;
-    add(out, &[") -> Self\n        ensures { "])?;
-    add_tuple(out, fields, Piece::OfResult)?;
-    add(out, &[" ≡ parts }\n    {\n        let "])?;
     add_tuple(out, fields, Piece::Variable)?;
     add(out, &[" = parts;\n        "])?;
     add_value(out, &[item.name], member)?;
@@ -77,7 +76,7 @@ fn add_serialize_body(out: &mut String, member: &Member) -> Result<(), Wrong> {
 fn add_reads(out: &mut String, item: &Item, member: &Member, form: Form) -> Result<(), Wrong> {
     add_head(out, item, Trait::Deserialize)?;
     add(out, &[DESERIALIZE])?;
-    add_read_body(out, item, member, form, "Deserialize::deserialize")?;
+    add_read_body(out, item, member, form, Lifetimes::Read)?;
     if !item.parameters.lifetimes.is_empty() {
         return Ok(());
     }
@@ -86,30 +85,25 @@ fn add_reads(out: &mut String, item: &Item, member: &Member, form: Form) -> Resu
     }
     add_head(out, item, Trait::DeserializeOwned)?;
     add(out, &[DESERIALIZE_OWNED])?;
-    add_read_body(
-        out,
-        item,
-        member,
-        form,
-        "DeserializeOwned::deserialize_owned",
-    )
+    add_read_body(out, item, member, form, Lifetimes::Any)
 }
 
-/// Adds the body of a function that reads the parts by `call`, and the end of its impl.
+/// Adds the body of a function that reads the parts, with the lifetime of what is read or with none, and the
+/// end of its impl.
 fn add_read_body(
     out: &mut String,
     item: &Item,
     member: &Member,
     form: Form,
-    call: &str,
+    lifetimes: Lifetimes,
 ) -> Result<(), Wrong> {
     if form == Form::ByParts {
-        add(
-            out,
-            &["        let parts = postcard::", call, "(alloc, d)?;\n"],
-        )?;
-        return add(out, &["        Ok(Self::from_decoded(parts))\n    }\n}\n"]);
+        return add_decoded_body(out, lifetimes);
     }
+    let call = match lifetimes {
+        Lifetimes::Read => "Deserialize::deserialize",
+        _ => "DeserializeOwned::deserialize_owned",
+    };
     add(out, &["        let "])?;
     add_tuple(out, member.fields.as_slice(), Piece::Variable)?;
     add(out, &[" = postcard::", call, "(alloc, d)?;\n        Ok("])?;

@@ -1,5 +1,6 @@
 //! The impls of the types of a file, as they are written between its marks.
 
+use crate::decoded::add_decoded;
 use crate::enums::add_enum;
 use crate::error::Wrong;
 use crate::form::Form;
@@ -17,6 +18,7 @@ pub(crate) fn impls(
     forms: &[Form],
 ) -> Result<String, Wrong> {
     let mut out = String::new(alloc);
+    add_decoded(&mut out, items, forms)?;
     for (item, form) in items.iter().zip(forms) {
         match item.kind {
             Kind::Struct => add_struct(&mut out, item, *form)?,
