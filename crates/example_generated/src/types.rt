@@ -936,6 +936,41 @@ impl postcard::Shaped for Command {
     ]) ⟦<CommandRow as postcard::Shaped>⟧.shape };
 }
 
+impl FromDecoded for Command {
+    ghost use Rattle.example_generated.specs.declared.types.Command.{Command};
+    ghost use Rattle.postcard_shape.specs.declared.cases.Case.TheVariants.{This, Next};
+
+    type Parts = CommandRow;
+
+    ghost seen = { (elim [
+      | Command.Ping ↦ This tt
+      | Command.Forward x0 ↦ Next (This x0)
+      | Command.Batch x0 ↦ Next (Next (This x0))
+      | Command.Setting x0 ↦ Next (Next (Next (This x0)))
+      | Command.Settings x0 ↦ Next (Next (Next (Next (This x0))))
+      | Command.Move x0 x1 x2 ↦ Next (Next (Next (Next (Next (This (x0, x1, x2))))))
+      | Command.Fault x0 x1 ↦ Next (Next (Next (Next (Next (Next (This (x0, x1)))))))
+    ]) };
+
+    fn from_decoded(row: Self::Parts) -> Self {
+        use postcard::Case::{Next, This};
+        match row {
+            This(()) => Command::Ping,
+            Next(This(x0)) => Command::Forward(x0),
+            Next(Next(This(x0))) => Command::Batch(x0),
+            Next(Next(Next(This(x0)))) => Command::Setting(x0),
+            Next(Next(Next(Next(This(x0))))) => Command::Settings(x0),
+            Next(Next(Next(Next(Next(This((to, speed, now))))))) => Command::Move {
+                to,
+                speed,
+                now,
+            },
+            Next(Next(Next(Next(Next(Next(This((code, text)))))))) => Command::Fault { code, text },
+            Next(Next(Next(Next(Next(Next(Next(never))))))) => match never {},
+        }
+    }
+}
+
 impl Command {
     ghost use Rattle.example_generated.specs.declared.types.Command.{Command};
     ghost use Rattle.postcard_ser.specs.Writing.{Wrote};
@@ -1058,22 +1093,7 @@ impl<'de> postcard::Deserialize<'de> for Command {
         alloc: std::alloc::Global,
         d: &mut postcard::Deserializer<'de, F>,
     ) -> postcard::Result<Self> {
-        use postcard::Case::{Next, This};
-        let row: CommandRow = postcard::Deserialize::deserialize(alloc, d)?;
-        Ok(match row {
-            This(()) => Command::Ping,
-            Next(This(x0)) => Command::Forward(x0),
-            Next(Next(This(x0))) => Command::Batch(x0),
-            Next(Next(Next(This(x0)))) => Command::Setting(x0),
-            Next(Next(Next(Next(This(x0))))) => Command::Settings(x0),
-            Next(Next(Next(Next(Next(This((to, speed, now))))))) => Command::Move {
-                to,
-                speed,
-                now,
-            },
-            Next(Next(Next(Next(Next(Next(This((code, text)))))))) => Command::Fault { code, text },
-            Next(Next(Next(Next(Next(Next(Next(never))))))) => match never {},
-        })
+        Decoded::read(alloc, d)
     }
 }
 

@@ -89,6 +89,9 @@ const NO_MEMORY: [&[u8]; 48] = [
     b"fixint",
 ];
 
+/// How many variants an enum has at most that the prover follows from its row into its value.
+const FEW_VARIANTS: usize = 3;
+
 /// The signed numbers.
 const SIGNED: [&[u8]; 6] = [b"i8", b"i16", b"i32", b"i64", b"i128", b"isize"];
 
@@ -100,7 +103,7 @@ pub enum Form {
     /// `Shaped` by `via`, `Serialize`, `Deserialize`, and `DeserializeOwned` if nothing in it borrows.
     Via,
     /// The same, with a trait of the file by which a value is made of its parts, since it has several
-    /// signed numbers.
+    /// signed numbers, or variants.
     ByParts,
     /// `Repr`, `FromRepr` and `SerializeRepr`, since it has a parameter and a lifetime.
     Seen,
@@ -135,6 +138,9 @@ fn form_of(tokens: &[Token], items: &[Item], item: &Item) -> Form {
     }
     if is_seen(item) {
         return Form::Seen;
+    }
+    if item.kind == Kind::Enum && item.members.len() > FEW_VARIANTS {
+        return Form::ByParts;
     }
     for member in &item.members {
         let mut signed: usize = 0;

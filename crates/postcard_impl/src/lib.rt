@@ -23,8 +23,9 @@
 //! | any other | `Shaped` by `via`, `Serialize`, `Deserialize`, and `DeserializeOwned` if nothing borrows |
 //!
 //! A struct goes via the tuple of its fields, an enum via its variants in a row, and more than eight
-//! fields via tuples of five. If a struct or a variant has more than one signed number, a trait of the file,
-//! `FromDecoded`, makes the value of what was read, so that the prover follows. A type that has no impls that would be
+//! fields via tuples of five. If a struct or a variant has more than one signed number, or an enum more than
+//! three variants, a trait of the file, `FromDecoded`, makes the value of what was read, so that the
+//! prover follows. A type that has no impls that would be
 //! proved is refused with the place of the field, by one of [`ImplProblem`].
 //!
 //! A file is read in three steps, one module each: its marks ([`marks`]), its items (`read`, over the tokens
