@@ -1,1 +1,2 @@
 mod Splits
+pub mod Same

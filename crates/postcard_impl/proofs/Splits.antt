@@ -1,5 +1,5 @@
 -- How a path is split into its parts.
-use Rattle.std.proofs.Common.{◌≡◌, ℕ, ◌×◌, inl, inr, List, [], ◌∷◌, ◌++◌, take, drop, refl, sym, ap, subst, ◌∙◌, lit<}
+use Rattle.std.proofs.Common.{◌≡◌, ℕ, inl, inr, List, [], ◌∷◌, ◌++◌, take, drop, refl, sym, ap, subst, ◌∙◌, lit<}
 use Rattle.std.specs.Prelude.{Option, Some, None, MatchOption, ◌==◌, codes}
 use Rattle.std.specs.Str.{NoCharPasses}
 use Rattle.std.specs.Str.Pattern.{RFindsChar, RFindsText, FindsTextSuffix, SplitsAroundMatch, StripsSuffix}

@@ -75,14 +75,24 @@ impl<'a> Outside<'a> {
         Ok(file)
     }
 
-    /// Returns whether this is the text outside of the marks of the file.
+    /// Returns whether this is the text outside of the marks of the file. `false` may also mean that the
+    /// file has no marks as they are written.
+    #[tactic(auto, using(crate::proofs::Same::still_outside))]
     pub fn is_of(self, file: &str) -> bool
         ensures { IsTrue result → IsOutside BEGIN.now END.now file.now self.entry.before.now
             self.entry.after.now }
     {
         match Outside::of(file) {
-            Ok(outside) => outside.before == self.before && outside.after == self.after,
+            Ok(outside) => outside.is_same(self),
             Err(_) => false,
         }
+    }
+
+    /// Returns whether this is the same text.
+    fn is_same(self, other: Outside) -> bool
+        ensures before { IsTrue result → self.entry.before.now ≡ other.entry.before.now }
+        ensures after { IsTrue result → self.entry.after.now ≡ other.entry.after.now }
+    {
+        self.before == other.before && self.after == other.after
     }
 }

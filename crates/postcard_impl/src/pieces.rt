@@ -76,11 +76,11 @@ pub(crate) fn add_tuple(out: &mut String, fields: &[Field], piece: Piece) -> Res
     if fields.len() <= TUPLE {
         return add_group(out, fields, piece);
     }
-    let mut separator = "(";
+    let mut is_first = true;
     for group in fields.chunks(GROUP) {
-        add(out, &[separator])?;
+        add(out, &[if is_first { "(" } else { ", " }])?;
         add_group(out, group, piece)?;
-        separator = ", ";
+        is_first = false;
     }
     add(out, &[")"])
 }

@@ -1,0 +1,9 @@
+-- What is outside of the marks of a file, by equal texts.
+use Rattle.std.proofs.Common.{◌≡◌, ℕ, List, subst}
+use Rattle.postcard_impl.specs.Marks.{IsOutside}
+
+-- Texts that equal those outside of the marks are those.
+pub still_outside : (first second file before after before' after' : List ℕ) → IsOutside first second file before after
+    → before ≡ before' → after ≡ after' → IsOutside first second file before' after'
+still_outside first second file before after before' after' is same_before same_after =
+    subst (λ l. IsOutside first second file l after') same_before (subst (λ l. IsOutside first second file before l) same_after is)
