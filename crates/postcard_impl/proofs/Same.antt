@@ -7,3 +7,8 @@ pub still_outside : (first second file before after before' after' : List ℕ) �
     → before ≡ before' → after ≡ after' → IsOutside first second file before' after'
 still_outside first second file before after before' after' is same_before same_after =
     subst (λ l. IsOutside first second file l after') same_before (subst (λ l. IsOutside first second file before l) same_after is)
+
+-- What is outside of the marks of a file is so of an equal file.
+pub same_file : (first second file before after file' : List ℕ) → IsOutside first second file before after → file ≡ file'
+    → IsOutside first second file' before after
+same_file first second file before after file' is same = subst (λ l. IsOutside first second l before after) same is

@@ -77,7 +77,6 @@ impl<'a> Outside<'a> {
 
     /// Returns whether this is the text outside of the marks of the file. `false` may also mean that the
     /// file has no marks as they are written.
-    #[tactic(auto, using(crate::proofs::Same::still_outside))]
     pub fn is_of(self, file: &str) -> bool
         ensures { IsTrue result → IsOutside BEGIN.now END.now file.now self.entry.before.now
             self.entry.after.now }
