@@ -1,14 +1,19 @@
 //! The program `pcard`, which encodes a value in the Postcard format, or decodes bytes or a stream
-//! of frames. The library `postcard_cli` does its work, and `postcard_cli_files` reads types from files.
+//! of frames, or prints the impls of a file's types. The library `postcard_cli` does its work;
+//! `postcard_cli_files` reads types from files, and `postcard_impl` makes impls.
 #![tactic(auto)]
 
 use postcard_cli::{Failure, report};
-use postcard_cli_files::{Disk, run};
+use postcard_cli_files::{Disk, Files, ReadError, run};
 use postcard_de_flavors::Plain;
+use postcard_impl::command::answer;
 use std::alloc::AllocError;
 use std::io::{BufWriter, Write};
 use std::process::ExitCode;
 use std::{env, io};
+
+/// The greatest number of bytes of a file whose impls are printed.
+const LONGEST_FILE: usize = 1_048_576;
 
 /// Returns the words after the program's name.
 fn words(rt: &HostRuntime) -> Result<Vec<String>, Failure> {
@@ -22,18 +27,45 @@ fn words(rt: &HostRuntime) -> Result<Vec<String>, Failure> {
     }
 }
 
-/// Runs the call, which prints to `output`, and returns the exit status.
-fn answer<W: Write>(rt: &HostRuntime, output: &mut W) -> u8 {
+/// Prints the file with this path and the impls of its types, and returns the exit status.
+fn print_impls<W: Write>(rt: &HostRuntime, path: &str, output: &mut W) -> u8 {
+    let mut errors = rt.stderr();
+    let (status, why) = match Disk(rt).read(rt.alloc(), path, LONGEST_FILE + 1) {
+        Ok(bytes) if bytes.len() <= LONGEST_FILE => {
+            return answer(rt.alloc(), path, bytes.as_slice(), output, &mut errors);
+        }
+        Ok(_) => (2, "the file has more than 1048576 bytes"),
+        Err(ReadError::Failed) => (2, "the file can't be read"),
+        Err(ReadError::OutOfMemory) => (1, "out of memory"),
+    };
+    match writeln!(errors, "pcard: {path}: {why}") {
+        Ok(()) => status,
+        Err(_) => 3,
+    }
+}
+
+/// Does the call of these words, which prints to `output`, and returns the exit status.
+fn do_call<W: Write>(rt: &HostRuntime, words: &mut [String], output: &mut W) -> u8 {
+    if let [command, path] = &*words {
+        if command.as_str() == "impl" {
+            return print_impls(rt, path.as_str(), output);
+        }
+    }
     let mut input = Plain::new(rt.stdin());
+    run(
+        rt.alloc(),
+        words,
+        &Disk(rt),
+        &mut input,
+        output,
+        &mut rt.stderr(),
+    )
+}
+
+/// Does the call of the program, which prints to `output`, and returns the exit status.
+fn perform<W: Write>(rt: &HostRuntime, output: &mut W) -> u8 {
     match words(rt) {
-        Ok(mut words) => run(
-            rt.alloc(),
-            words.as_mut_slice(),
-            &Disk(rt),
-            &mut input,
-            output,
-            &mut rt.stderr(),
-        ),
+        Ok(mut words) => do_call(rt, words.as_mut_slice(), output),
         Err(failure) => report(Err(failure), output),
     }
 }
@@ -41,8 +73,8 @@ fn answer<W: Write>(rt: &HostRuntime, output: &mut W) -> u8 {
 fn main(rt: HostRuntime) -> ExitCode {
     // If the buffer can't be allocated, the output is written without one.
     let status = match BufWriter::new(rt.alloc(), rt.stdout()) {
-        Ok(mut output) => answer(&rt, &mut output),
-        Err(_) => answer(&rt, &mut rt.stdout()),
+        Ok(mut output) => perform(&rt, &mut output),
+        Err(_) => perform(&rt, &mut rt.stdout()),
     };
     ExitCode::from(status)
 }

@@ -1,0 +1,5 @@
+use Rattle.std.proofs.Common.{rules}
+use Rattle.postcard_impl.proofs.command.answer.Goals as goal
+
+pub returns-in-Ok-and-clause-printed : goal.returns-in-Ok-and-clause-printed
+returns-in-Ok-and-clause-printed g c = λ _. (_, c.in-Ok.ensures, search rules)

@@ -1,0 +1,4 @@
+pub mod Marks
+pub mod Home
+pub mod Printed
+pub mod Places

@@ -1,0 +1,172 @@
+//! The errors of writing the impls of a file's types.
+
+ghost use Rattle.std.specs.Prelude.{◌≡◌, Some};
+ghost use Rattle.postcard_impl.specs.declared.error.ImplProblem.TheVariants.{File};
+ghost use Rattle.postcard_dyn_file.specs.declared.error.FileProblem.TheVariants.{Expression};
+ghost use Rattle.postcard_dyn_schema.specs.declared.error.Problem.TheVariants.{OutOfMemory};
+ghost use Rattle.postcard_impl.specs.Printed.{impl_problem_text, impl_error_text};
+
+use postcard_dyn_file::FileProblem;
+use postcard_dyn_file::error::Fault;
+use postcard_dyn_schema::Problem;
+use std::alloc::{AllocError, AllocFailed};
+use std::fmt;
+
+/// Why no impls are written.
+#[derive(Clone, Copy, Debug, PartialEq, Eq)]
+pub enum ImplProblem {
+    /// The first mark stands in the file, and no second one after it.
+    MarkOpen,
+    /// The second mark stands in the file, and no first one before it.
+    MarkAlone,
+    /// The marks wouldn't be found again where they would be written.
+    MarkLost,
+    /// A declaration isn't one, or an allocation failed.
+    File(FileProblem),
+    /// After the name of a field, no `:` follows.
+    ColonExpected,
+    /// An enum has no variant, so it has no values.
+    NoVariant,
+    /// A struct or a variant has more than 60 fields.
+    TooManyFields,
+    /// A `where` follows the parameters.
+    Where,
+    /// A parameter is a number, `const N: usize`.
+    ConstParameter,
+    /// A parameter has a default.
+    DefaultParameter,
+    /// A bound has a lifetime.
+    LifetimeBound,
+    /// After a field or a variant, no comma follows.
+    CommaExpected,
+    /// The type is neither `Drop` nor `Copy`.
+    NotDrop,
+    /// `Serialize` or `Deserialize` is derived.
+    SerdeDerive,
+    /// An attribute of serde may change what is written.
+    SerdeAttribute,
+    /// A field is one of proofs alone, so the type has a rule of its own.
+    GhostField,
+    /// A comment stands inside the type of a field.
+    Comment,
+    /// A field has the type that it stands in, maybe through others.
+    Recursive,
+    /// A field has a type whose values aren't written and read.
+    NotServed,
+    /// A field borrows for no lifetime of its type, so it can't be read.
+    NotRead,
+    /// A field is a reference to another type than `str` and `[u8]`, so it can't be read.
+    NoReference,
+    /// A field has a type with a parameter and a lifetime, and holds memory.
+    HoldsMemory,
+}
+
+impl fmt::Display for ImplProblem {
+    ghost output = { λ problem. Some (impl_problem_text problem) };
+
+    fn fmt<W: fmt::Write>(&self, f: &mut fmt::Formatter<W>) -> fmt::Result {
+        match self {
+            ImplProblem::MarkOpen => f.write_str("the second mark doesn't follow"),
+            ImplProblem::MarkAlone => f.write_str("the first mark isn't before this one"),
+            ImplProblem::MarkLost => f.write_str("the marks wouldn't be found again"),
+            ImplProblem::File(problem) => write!(f, "{problem}"),
+            ImplProblem::ColonExpected => f.write_str("expected `:`"),
+            ImplProblem::NoVariant => f.write_str("an enum without variants has no values"),
+            ImplProblem::TooManyFields => f.write_str("more than 60 fields"),
+            ImplProblem::Where => f.write_str("write each bound at its parameter, without `where`"),
+            ImplProblem::ConstParameter => f.write_str("a parameter can't be a number"),
+            ImplProblem::DefaultParameter => f.write_str("a parameter can't have a default"),
+            ImplProblem::LifetimeBound => f.write_str("a bound can't have a lifetime"),
+            ImplProblem::CommaExpected => f.write_str("expected `,`"),
+            ImplProblem::NotDrop => f.write_str("derive `Drop`, or `Copy`"),
+            ImplProblem::SerdeDerive => {
+                f.write_str("derive neither `Serialize` nor `Deserialize`")
+            }
+            ImplProblem::SerdeAttribute => {
+                f.write_str("an attribute of serde may change what is written")
+            }
+            ImplProblem::GhostField => f.write_str("a type with a rule of its own"),
+            ImplProblem::Comment => f.write_str("a comment inside a type"),
+            ImplProblem::Recursive => f.write_str("this type has itself in it"),
+            ImplProblem::NotServed => f.write_str("values of this type aren't written and read"),
+            ImplProblem::NotRead => f.write_str("it borrows for no lifetime of its type"),
+            ImplProblem::NoReference => f.write_str("only `&str` and `&[u8]` are read"),
+            ImplProblem::HoldsMemory => {
+                f.write_str("a type with a parameter and a lifetime holds memory here")
+            }
+        }
+    }
+}
+
+/// Why no impls are written, and where.
+///
+/// It is printed as ``line 3, column 9: `cell`: values of this type aren't written and read``.
+#[derive(Clone, Copy, Debug, PartialEq, Eq)]
+pub struct ImplError<'a> {
+    /// What is wrong.
+    pub problem: ImplProblem,
+    /// The line of the problem, counted from 1.
+    pub line: usize,
+    /// Its place in the line in characters, counted from 1.
+    pub column: usize,
+    /// The field, or what else it is that is wrong, as it stands in the file; or nothing.
+    pub what: &'a str,
+}
+
+impl fmt::Display for ImplError<'_> {
+    ghost output = { λ e. Some (impl_error_text e) };
+
+    fn fmt<W: fmt::Write>(&self, f: &mut fmt::Formatter<W>) -> fmt::Result {
+        write!(f, "line {}, column {}: ", self.line, self.column)?;
+        if !self.what.is_empty() {
+            write!(f, "`{}`: ", self.what)?;
+        }
+        write!(f, "{}", self.problem)
+    }
+}
+
+/// What is wrong, and where.
+#[derive(Clone, Copy)]
+pub struct Wrong {
+    pub problem: ImplProblem,
+    /// The number of bytes from there to the end of the file.
+    pub left: usize,
+    /// How many of these bytes are the text that is wrong, or 0.
+    pub length: usize,
+}
+
+impl From<Fault> for Wrong {
+    ghost from_gives = { λ fault wrong.
+        (wrong.problem ≡ File fault.problem) × (wrong.left ≡ fault.left) };
+
+    fn from(fault: Fault) -> Wrong {
+        Wrong {
+            problem: ImplProblem::File(fault.problem),
+            left: fault.left,
+            length: 0,
+        }
+    }
+}
+
+/// That an allocation failed.
+const OUT_OF_MEMORY: Wrong = Wrong {
+    problem: ImplProblem::File(FileProblem::Expression(Problem::OutOfMemory)),
+    left: 0,
+    length: 0,
+};
+
+impl From<AllocError> for Wrong {
+    ghost from_gives = { λ _ wrong. wrong.problem ≡ File (Expression OutOfMemory) };
+
+    fn from(_error: AllocError) -> Wrong {
+        OUT_OF_MEMORY
+    }
+}
+
+impl<T: Drop> From<AllocFailed<T>> for Wrong {
+    ghost from_gives = { λ _ wrong. wrong.problem ≡ File (Expression OutOfMemory) };
+
+    fn from(_error: AllocFailed<T>) -> Wrong {
+        OUT_OF_MEMORY
+    }
+}

@@ -1,0 +1,118 @@
+//! The heads of impls and of their functions.
+
+use crate::error::Wrong;
+use crate::item::Item;
+use crate::pieces::{Lifetimes, add, add_arguments, add_declared};
+
+/// The `ghost use` line of `via`.
+pub(crate) const USE_VIA: &str = "    ghost use Rattle.postcard_shape.specs.Shape.{via};\n";
+
+/// The head of a `serialize`, after its name.
+pub(crate) const SERIALIZES: &str = "<F: postcard::ser_flavors::Flavor>(
+        &self,
+        serializer: &mut postcard::Serializer<F>,
+    ) -> postcard::Result<()> {
+";
+
+/// The head of a `deserialize`.
+pub(crate) const DESERIALIZE: &str = "    fn deserialize<F: postcard::de_flavors::Flavor>(
+        alloc: std::alloc::Global,
+        d: &mut postcard::Deserializer<'de, F>,
+    ) -> postcard::Result<Self> {
+";
+
+/// The head of a `deserialize_owned`.
+pub(crate) const DESERIALIZE_OWNED: &str =
+    "    fn deserialize_owned<F: postcard::de_flavors::Flavor>(
+        alloc: std::alloc::Global,
+        d: &mut postcard::Deserializer<'_, F>,
+    ) -> postcard::Result<Self> {
+";
+
+/// A trait whose impl is written: one of the library, or `FromDecoded`.
+#[derive(Clone, Copy, Debug, PartialEq, Eq)]
+pub enum Trait {
+    Shaped,
+    Serialize,
+    Deserialize,
+    DeserializeOwned,
+    Repr,
+    FromRepr,
+    SerializeRepr,
+    FromDecoded,
+}
+
+impl Trait {
+    /// Returns its path.
+    fn name(self) -> &'static str {
+        match self {
+            Trait::Shaped => "postcard::Shaped",
+            Trait::Serialize => "postcard::Serialize",
+            Trait::Deserialize => "postcard::Deserialize<'de>",
+            Trait::DeserializeOwned => "postcard::DeserializeOwned",
+            Trait::Repr => "postcard::Repr",
+            Trait::FromRepr => "postcard::FromRepr",
+            Trait::SerializeRepr => "postcard::SerializeRepr",
+            Trait::FromDecoded => "FromDecoded",
+        }
+    }
+
+    /// Returns what its impl asks of each parameter.
+    fn bound(self) -> &'static str {
+        match self {
+            Trait::Shaped | Trait::Repr => "postcard::Shaped",
+            Trait::FromRepr | Trait::FromDecoded => "postcard::Shaped + Drop",
+            Trait::Serialize | Trait::SerializeRepr => "postcard::Serialize",
+            Trait::Deserialize => "postcard::Deserialize<'de>",
+            Trait::DeserializeOwned => "postcard::DeserializeOwned",
+        }
+    }
+
+    /// Returns the lifetimes that its impl names.
+    fn lifetimes(self) -> Lifetimes {
+        match self {
+            Trait::Shaped | Trait::Repr | Trait::FromDecoded => Lifetimes::Own,
+            Trait::Deserialize => Lifetimes::Read,
+            _ => Lifetimes::Any,
+        }
+    }
+}
+
+/// Adds the head of an impl of a trait for a type.
+pub(crate) fn add_head(out: &mut String, item: &Item, of: Trait) -> Result<(), Wrong> {
+    add(out, &["\nimpl"])?;
+    add_declared(out, item, of.lifetimes(), of.bound())?;
+    add(out, &[" ", of.name(), " for "])?;
+    add(out, &[item.name])?;
+    add_arguments(out, item, of.lifetimes())?;
+    add(out, &[" {\n"])
+}
+
+/// Adds the head of an impl of a type's own functions, which ask `bound` of each parameter.
+pub(crate) fn add_own_head(out: &mut String, item: &Item, bound: &str) -> Result<(), Wrong> {
+    add(out, &["\nimpl"])?;
+    add_declared(out, item, Lifetimes::Own, bound)?;
+    add(out, &[" ", item.name])?;
+    add_arguments(out, item, Lifetimes::Own)?;
+    add(out, &[" {\n"])
+}
+
+/// Adds the impl of `DeserializeOwned` for a type without parameters.
+pub(crate) fn add_owned(out: &mut String, item: &Item) -> Result<(), Wrong> {
+    add_head(out, item, Trait::DeserializeOwned)?;
+    add(out, &[DESERIALIZE_OWNED])?;
+    add(
+        out,
+        &["        postcard::Deserialize::deserialize(alloc, d)\n    }\n}\n"],
+    )
+}
+
+/// Adds the body of a function that reads a value by its parts, with the lifetime of what is read or with
+/// none, and the end of its impl.
+pub(crate) fn add_decoded_body(out: &mut String, lifetimes: Lifetimes) -> Result<(), Wrong> {
+    let call = match lifetimes {
+        Lifetimes::Read => "read",
+        _ => "read_owned",
+    };
+    add(out, &["        Decoded::", call, "(alloc, d)\n    }\n}\n"])
+}

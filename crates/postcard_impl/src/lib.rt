@@ -1,0 +1,154 @@
+//! The impls of the types that a file of Rattle declares, as text: [`impl_file`].
+//!
+//! A file has items as they are written in a program's source. Of these the declarations are read, `struct`,
+//! `enum` and `type`, with lifetimes, parameters, attributes, comments and visibilities:
+//!
+//! ```text
+//! /// What a sensor sends.
+//! #[derive(Debug, Drop)]
+//! pub struct Reading<'a> { id: u32, label: &'a str, samples: Vec<i16> }
+//! #[derive(Drop)]
+//! enum Event<T> { Boot, Set(T), Fault { code: u8, text: String } }
+//! type Millimetres = i32;
+//! ```
+//!
+//! The impls are written between two marks ([`marks`]), behind the text of a file that has none. What
+//! stands between the marks isn't read, and what stands outside of them is kept as it is, so that a second
+//! run replaces just the impls. They name all that they use by its path, and no `use` line of the file.
+//!
+//! | A type | Its impls |
+//! |---|---|
+//! | an alias | none |
+//! | with a lifetime and a parameter | `Repr`, `FromRepr`, `SerializeRepr` |
+//! | any other | `Shaped` by `via`, `Serialize`, `Deserialize`, and `DeserializeOwned` if nothing borrows |
+//!
+//! A struct goes via the tuple of its fields, an enum via its variants in a row, and more than eight
+//! fields via tuples of five. If a struct or a variant has more than one signed number, or an enum more than
+//! three variants, a trait of the file, `FromDecoded`, makes the value of what was read, so that the
+//! prover follows. A type that has no impls that would be
+//! proved is refused with the place of the field, by one of [`ImplProblem`].
+//!
+//! A file is read in three steps, one module each: its marks ([`marks`]), its items (`read`, over the tokens
+//! of `postcard_dyn_file`), and which impls each item has ([`form`]); `structs` and `enums` write them.
+#![tactic(auto)]
+
+ghost use Rattle.std.specs.Prelude.{◌≡◌, IfOk, IfErr, string_bytes};
+ghost use Rattle.postcard_impl.specs.Marks.{IsMarked};
+ghost use Rattle.postcard_impl.specs.Places.{IsIn};
+
+pub mod command;
+mod decoded;
+mod enums;
+pub mod error;
+pub mod form;
+mod heads;
+pub mod home;
+pub mod item;
+pub mod marks;
+mod pieces;
+mod read;
+mod scan;
+mod structs;
+#[cfg(test)]
+mod tests;
+mod write;
+
+use error::Wrong;
+pub use error::{ImplError, ImplProblem};
+use form::forms;
+pub use home::Home;
+use marks::{BEGIN, END, Outside};
+use postcard_dyn_file::FileProblem;
+use postcard_dyn_file::declaration::declarations;
+use postcard_dyn_file::error::Fault;
+use postcard_dyn_file::kept::kept;
+use postcard_dyn_file::lex::tokens;
+use postcard_dyn_file::place::error_at;
+use read::items;
+use std::alloc::Global;
+use write::impls;
+
+/// Returns the file with the impls of its types between its marks. What stands outside of the marks is
+/// kept; in a file without marks, they are put at its end. `home` is the place of the file.
+///
+/// # Errors
+///
+/// Fails with what is wrong, one of [`ImplProblem`], and the line and column where it is, each counted
+/// from 1.
+pub fn impl_file<'a>(alloc: Global, home: Home, file: &'a str) -> Result<String, ImplError<'a>>
+    ensures marked { IfOk result (λ written. IsMarked BEGIN.now END.now file.now
+        (string_bytes written)) }
+    ensures place { IfErr result (IsIn file.now) }
+{
+    match written(alloc, home, file) {
+        Ok(written) => Ok(written),
+        Err(wrong) => Err(error_of(file, wrong)),
+    }
+}
+
+/// Returns the file with the impls of its types between its marks.
+fn written(alloc: Global, home: Home, file: &str) -> Result<String, Wrong>
+    ensures { IfOk result (λ written. IsMarked BEGIN.now END.now file.now
+        (string_bytes written)) }
+{
+    let outside = Outside::of(file)?;
+    let generated = generated(alloc, home, file, outside)?;
+    let written = outside.around(alloc, generated.as_str())?;
+    if outside.is_of(written.as_str()) {
+        return Ok(written);
+    }
+    Err(Wrong {
+        problem: ImplProblem::MarkLost,
+        left: outside.after.len(),
+        length: 0,
+    })
+}
+
+/// Returns the impls of the types that the file declares outside of its marks.
+fn generated(alloc: Global, home: Home, file: &str, outside: Outside) -> Result<String, Wrong> {
+    let plain = plain(alloc, file, outside)?;
+    let all = tokens(alloc, plain.as_slice())?;
+    let kept = kept(alloc, all.as_slice())?;
+    let known = declarations(alloc, kept.as_slice())?;
+    let items = items(alloc, file, all.as_slice(), known.as_slice())?;
+    let forms = forms(alloc, file, all.as_slice(), items.as_slice())?;
+    impls(alloc, home, items.as_slice(), forms.as_slice())
+}
+
+/// Returns the bytes of the file, with blanks for what stands between its marks, and `_` for each byte of a
+/// character beyond ASCII.
+fn plain(alloc: Global, file: &str, outside: Outside) -> Result<Vec<u8>, Wrong> {
+    let start = outside.before.len();
+    let end = file.len().saturating_sub(outside.after.len());
+    let mut plain = Vec::new(alloc);
+    for (at, byte) in file.as_bytes().iter().enumerate() {
+        let is_outside = at < start || at >= end;
+        plain.push(match *byte {
+            b'\n' => b'\n',
+            byte if is_outside && byte.is_ascii() => byte,
+            _ if is_outside => b'_',
+            _ => b' ',
+        })?;
+    }
+    Ok(plain)
+}
+
+/// Returns the error of what is wrong.
+fn error_of(file: &str, wrong: Wrong) -> ImplError<'_>
+    ensures problem { result.problem ≡ wrong.problem }
+    ensures place { IsIn file.now result }
+{
+    let place = error_at(
+        file.as_bytes(),
+        Fault {
+            problem: FileProblem::NotDeclared,
+            left: wrong.left,
+        },
+    );
+    ImplError {
+        problem: wrong.problem,
+        line: place.line,
+        column: place.column,
+        what: scan::text_at(file, wrong.left, wrong.length),
+    }
+}

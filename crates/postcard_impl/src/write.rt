@@ -1,0 +1,30 @@
+//! The impls of the types of a file, as they are written between its marks.
+
+use crate::decoded::add_decoded;
+use crate::enums::add_enum;
+use crate::error::Wrong;
+use crate::form::Form;
+use crate::home::Home;
+use crate::item::Item;
+use crate::structs::add_struct;
+use postcard_dyn_file::declaration::Kind;
+use std::alloc::Global;
+
+/// Returns the impls of these items, which have these forms.
+pub(crate) fn impls(
+    alloc: Global,
+    home: Home,
+    items: &[Item],
+    forms: &[Form],
+) -> Result<String, Wrong> {
+    let mut out = String::new(alloc);
+    add_decoded(&mut out, items, forms)?;
+    for (item, form) in items.iter().zip(forms) {
+        match item.kind {
+            Kind::Struct => add_struct(&mut out, item, *form)?,
+            Kind::Enum => add_enum(&mut out, home, item, *form)?,
+            Kind::Alias => {}
+        }
+    }
+    Ok(out)
+}
