@@ -1,5 +1,5 @@
 -- Lemmas on frames that are words of a call: the room that a frame has, and which failure comes when.
-use Rattle.std.proofs.Common.{◌≡◌, inl, inr, sym, subst, ap, ◌∙◌, arith, ℕ, ◌+◌, ◌≤◌, List, [], ◌++◌, length, length-append, append-nil, take, Bool, Option}
+use Rattle.std.proofs.Common.{◌≡◌, inl, inr, sym, subst, ap, ◌∙◌, arith, ℕ, ◌≤◌, List, [], ◌++◌, length, length-append, append-nil, take, Bool, Option}
 use Rattle.std.proofs.lemmas.List.{take-take, take-append-le}
 use Rattle.postcard_cobs.specs.Groups.{EndsFrame, Groups, IsMade, Standing, made}
 use Rattle.postcard_cobs.proofs.Made.{made_is_made, made_length}

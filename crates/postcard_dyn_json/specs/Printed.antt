@@ -51,6 +51,10 @@ leaf_name leaves.Char = codes "char"
 leaf_name leaves.Str = codes "str"
 leaf_name leaves.Bytes = codes "bytes"
 
+-- The word for n members.
+abbrev pub members_text : ℕ → List ℕ
+members_text n = if nat_eq n 1 then codes "member" else codes "members"
+
 -- The phrase for what is expected.
 abbrev pub expected_text : Expected → List ℕ
 expected_text (places.Leaf leaf) = leaf_name leaf
@@ -58,7 +62,7 @@ expected_text places.Option = codes "null or an object with the member Some alon
 expected_text places.Array = codes "an array"
 expected_text (places.ArrayOf count) = codes "an array of length " ++ decimal count
 expected_text places.Null = codes "null"
-expected_text (places.ObjectOf count) = codes "an object with " ++ (decimal count ++ codes " members")
+expected_text (places.ObjectOf count) = codes "an object with " ++ (decimal count ++ (codes " " ++ members_text count))
 expected_text places.Present = codes "a value"
 expected_text places.Variant = codes "a variant"
 expected_text places.Json = codes "JSON"

@@ -3,7 +3,7 @@
 ghost use Rattle.std.specs.Prelude.{◌≡◌, Some, OnOk, IfErr, ◌++◌, ◌∷◌, [], codes};
 ghost use Rattle.std.specs.Fmt.{decimal};
 ghost use Rattle.postcard_dyn_json.specs.Printed.{expected_text, json_error_text, leaf_name};
-ghost use Rattle.postcard_dyn_json.specs.Printed.{IsAt, IsWithin, dot_before};
+ghost use Rattle.postcard_dyn_json.specs.Printed.{IsAt, IsWithin, dot_before, members_text};
 ghost use Rattle.postcard_dyn_json.specs.declared.error.JsonError.TheVariants as errors;
 
 use postcard_dyn::{Leaf, Value};
@@ -121,7 +121,10 @@ impl fmt::Display for Expected {
             Expected::Array => f.write_str("an array"),
             Expected::ArrayOf(count) => write!(f, "an array of length {count}"),
             Expected::Null => f.write_str("null"),
-            Expected::ObjectOf(count) => write!(f, "an object with {count} members"),
+            Expected::ObjectOf(count) => {
+                let noun = noun(*count);
+                write!(f, "an object with {count} {noun}")
+            }
             Expected::Present => f.write_str("a value"),
             Expected::Variant => f.write_str("a variant"),
             Expected::Json => f.write_str("JSON"),
@@ -141,6 +144,13 @@ impl fmt::Display for JsonError {
             JsonError::OutOfMemory => f.write_str("out of memory"),
         }
     }
+}
+
+/// Returns the word for this number of members.
+fn noun(count: usize) -> &'static str
+    ensures { result.now ≡ members_text count }
+{
+    if count == 1 { "member" } else { "members" }
 }
 
 /// Returns the name of a type without parts.

@@ -134,7 +134,7 @@ const READ: [(&str, &str, &str); 40] = [
     (
         "{a: u8}",
         "{\"a\":1,\"b\":2}",
-        "expected an object with 1 members",
+        "expected an object with 1 member",
     ),
     ("{a: u8}", "{\"b\":2}", "a: expected a value"),
     ("A | B(u8)", "\"B\"", "expected a variant"),

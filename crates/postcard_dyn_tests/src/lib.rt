@@ -1,5 +1,5 @@
 //! Tests of the crates for types known only at run time: expressions, messages, the texts of
-//! values, all three from end to end, and the calls of `pcard`.
+//! values, all three from end to end, the calls of `pcard`, and the impls of a file's types.
 #![tactic(auto)]
 
 #[cfg(test)]
@@ -18,6 +18,8 @@ mod floats;
 mod frames;
 #[cfg(test)]
 mod helpers;
+#[cfg(test)]
+mod impls;
 #[cfg(test)]
 mod json;
 #[cfg(test)]

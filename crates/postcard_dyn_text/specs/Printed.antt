@@ -1,5 +1,5 @@
 -- The texts as which errors are printed.
-use Rattle.std.specs.Prelude.{ℕ, List, ◌++◌, codes}
+use Rattle.std.specs.Prelude.{ℕ, nat_eq, if◌then◌else◌, List, ◌++◌, codes}
 use Rattle.std.specs.Char.{encode_utf8}
 use Rattle.std.specs.Fmt.{decimal}
 use Rattle.postcard_dyn_schema.specs.declared.schema.Leaf.{Leaf}
@@ -28,6 +28,10 @@ leaf_phrase leaves.Char = codes "a character in single quotes"
 leaf_phrase leaves.Str = codes "a text in double quotes"
 leaf_phrase leaves.Bytes = codes "bytes, as 0x00ff"
 
+-- The word for n elements.
+abbrev pub elements_text : ℕ → List ℕ
+elements_text n = if nat_eq n 1 then codes "element" else codes "elements"
+
 -- The phrase for what is expected.
 abbrev pub expected_text : Expected → List ℕ
 expected_text (places.Leaf leaf) = leaf_phrase leaf
@@ -41,7 +45,7 @@ expected_text (places.NextField name) = codes "`,` and field `" ++ (name.now ++ 
 expected_text (places.Sign sign) = codes "`" ++ (encode_utf8 sign ++ codes "`")
 expected_text (places.CommaOr sign) = codes "`,` or `" ++ (encode_utf8 sign ++ codes "`")
 expected_text places.Arrow = codes "`=>`"
-expected_text (places.Elements count) = decimal count ++ codes " elements"
+expected_text (places.Elements count) = decimal count ++ (codes " " ++ elements_text count)
 expected_text places.End = codes "the end"
 
 -- The text of an error.

@@ -1,7 +1,7 @@
 //! What is expected where a text is no value: [`Expected`].
 
 ghost use Rattle.std.specs.Prelude.{◌≡◌, Some};
-ghost use Rattle.postcard_dyn_text.specs.Printed.{expected_text, leaf_phrase};
+ghost use Rattle.postcard_dyn_text.specs.Printed.{elements_text, expected_text, leaf_phrase};
 
 use postcard_dyn::Leaf;
 use std::fmt;
@@ -54,10 +54,20 @@ impl fmt::Display for Expected<'_> {
             Expected::Sign(sign) => write!(f, "`{}`", char::from(*sign)),
             Expected::CommaOr(sign) => write!(f, "`,` or `{}`", char::from(*sign)),
             Expected::Arrow => f.write_str("`=>`"),
-            Expected::Elements(count) => write!(f, "{count} elements"),
+            Expected::Elements(count) => {
+                let noun = noun(*count);
+                write!(f, "{count} {noun}")
+            }
             Expected::End => f.write_str("the end"),
         }
     }
+}
+
+/// Returns the word for this number of elements.
+fn noun(count: usize) -> &'static str
+    ensures { result.now ≡ elements_text count }
+{
+    if count == 1 { "element" } else { "elements" }
 }
 
 /// Returns the phrase for a value of the type.

@@ -1,2 +1,1 @@
-mod Splits
 mod Same

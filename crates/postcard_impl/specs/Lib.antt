@@ -1,4 +1,3 @@
 pub mod Marks
-pub mod Home
 pub mod Printed
 pub mod Places

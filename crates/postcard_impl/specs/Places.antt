@@ -1,7 +1,7 @@
 -- Where in a file an error is.
 use Rattle.std.specs.Prelude.{ℕ, List}
 use Rattle.postcard_dyn_file.specs.Places.{IsPlace}
-use Rattle.postcard_impl.specs.declared.error.ImplError.{ImplError}
+use Rattle.postcard_impl_error.specs.declared.error.ImplError.{ImplError}
 
 -- The line and the column of the error are those of a place in the file.
 abbrev pub IsIn : List ℕ → ImplError → Type 0

@@ -5,10 +5,8 @@ ghost use Rattle.std.specs.Io.KnownBytes.{Appends};
 ghost use Rattle.postcard_impl.specs.Marks.{IsMarked};
 ghost use Rattle.postcard_impl.specs.Printed.{impl_failure_status, impl_failure_text};
 
-use crate::error::{ImplError, ImplProblem};
-use crate::home::Home;
-use crate::impl_file;
 use crate::marks::{BEGIN, END};
+use crate::{Home, ImplError, ImplProblem, impl_file};
 use postcard_dyn_file::FileProblem;
 use postcard_dyn_schema::Problem;
 use std::alloc::Global;

@@ -16,20 +16,7 @@
 //! stands between the marks isn't read, and what stands outside of them is kept as it is, so that a second
 //! run replaces just the impls. They name all that they use by its path, and no `use` line of the file.
 //!
-//! | A type | Its impls |
-//! |---|---|
-//! | an alias | none |
-//! | with a lifetime and a parameter | `Repr`, `FromRepr`, `SerializeRepr` |
-//! | any other | `Shaped` by `via`, `Serialize`, `Deserialize`, and `DeserializeOwned` if nothing borrows |
-//!
-//! A struct goes via the tuple of its fields, an enum via its variants in a row, and more than eight
-//! fields via tuples of five. If a struct or a variant has more than one signed number, or an enum more than
-//! three variants, a trait of the file, `FromDecoded`, makes the value of what was read, so that the
-//! prover follows. A type that has no impls that would be
-//! proved is refused with the place of the field, by one of [`ImplProblem`].
-//!
-//! A file is read in three steps, one module each: its marks ([`marks`]), its items (`read`, over the tokens
-//! of `postcard_dyn_file`), and which impls each item has ([`form`]); `structs` and `enums` write them.
+//! Which impls a type has, and which types have none, `postcard_impl_text` says.
 #![tactic(auto)]
 
 ghost use Rattle.std.specs.Prelude.{◌≡◌, IfOk, IfErr, string_bytes};
@@ -37,26 +24,8 @@ ghost use Rattle.postcard_impl.specs.Marks.{IsMarked};
 ghost use Rattle.postcard_impl.specs.Places.{IsIn};
 
 pub mod command;
-mod decoded;
-mod enums;
-pub mod error;
-pub mod form;
-mod heads;
-pub mod home;
-pub mod item;
 pub mod marks;
-mod pieces;
-mod read;
-mod scan;
-mod structs;
-#[cfg(test)]
-mod tests;
-mod write;
 
-use error::Wrong;
-pub use error::{ImplError, ImplProblem};
-use form::forms;
-pub use home::Home;
 use marks::{BEGIN, END, Outside};
 use postcard_dyn_file::FileProblem;
 use postcard_dyn_file::declaration::declarations;
@@ -64,9 +33,10 @@ use postcard_dyn_file::error::Fault;
 use postcard_dyn_file::kept::kept;
 use postcard_dyn_file::lex::tokens;
 use postcard_dyn_file::place::error_at;
-use read::items;
+use postcard_impl_error::Wrong;
+pub use postcard_impl_error::{Home, ImplError, ImplProblem};
+use postcard_impl_text::{impls_of, text_at};
 use std::alloc::Global;
-use write::impls;
 
 /// Returns the file with the impls of its types between its marks. What stands outside of the marks is
 /// kept; in a file without marks, they are put at its end. `home` is the place of the file.
@@ -110,9 +80,7 @@ fn generated(alloc: Global, home: Home, file: &str, outside: Outside) -> Result<
     let all = tokens(alloc, plain.as_slice())?;
     let kept = kept(alloc, all.as_slice())?;
     let known = declarations(alloc, kept.as_slice())?;
-    let items = items(alloc, file, all.as_slice(), known.as_slice())?;
-    let forms = forms(alloc, file, all.as_slice(), items.as_slice())?;
-    impls(alloc, home, items.as_slice(), forms.as_slice())
+    impls_of(alloc, home, file, all.as_slice(), known.as_slice())
 }
 
 /// Returns the bytes of the file, with blanks for what stands between its marks, and `_` for each byte of a
@@ -149,6 +117,6 @@ fn error_of(file: &str, wrong: Wrong) -> ImplError<'_>
         problem: wrong.problem,
         line: place.line,
         column: place.column,
-        what: scan::text_at(file, wrong.left, wrong.length),
+        what: text_at(file, wrong.left, wrong.length),
     }
 }

@@ -2,9 +2,9 @@
 
 ghost use Rattle.std.specs.Prelude.{◌≡◌, IfOk, IfErr, IsTrue, string_bytes};
 ghost use Rattle.postcard_impl.specs.Marks.{IsOutside, IsOpen, IsAlone, marked};
-ghost use Rattle.postcard_impl.specs.declared.error.ImplProblem.TheVariants.{MarkOpen, MarkAlone};
+ghost use Rattle.postcard_impl_error.specs.declared.error.ImplProblem.TheVariants.{MarkOpen, MarkAlone};
 
-use crate::error::{ImplProblem, Wrong};
+use postcard_impl_error::{ImplProblem, Wrong};
 use std::alloc::{AllocError, Global};
 
 /// The line before what is generated, and the blank line before it.

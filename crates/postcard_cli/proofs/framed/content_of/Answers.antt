@@ -1,5 +1,5 @@
 -- What decoding in place leaves at the front is the frame's data, and if it fails, the frame is one of no data.
-use Rattle.std.proofs.Common.{ℕ, ◌≤◌, List, length, ap, sym, ◌∙◌, subst, arith}
+use Rattle.std.proofs.Common.{ℕ, ◌≤◌, List, sym, ◌∙◌, subst, arith}
 use Rattle.std.specs.Vec.{vec_len}
 use Rattle.std.proofs.KnownBytes.{Appends-trans}
 use Rattle.postcard_cobs.specs.Groups.{Groups}

@@ -1,8 +1,5 @@
 -- The words are a call of the command, and no command fails with `Usage`.
-use Rattle.std.specs.Prelude.{IfErr, IsErrOf}
 use Rattle.std.proofs.lemmas.Result.{IfErr-weaker}
-use Rattle.postcard_cli.specs.Command.{IsNoCall}
-use Rattle.postcard_cli.specs.declared.failure.Failure.TheVariants.{Usage}
 use Rattle.postcard_cli.proofs.RefusalLemmas.{call_fails, no_usage}
 use Rattle.postcard_cli.proofs.program.perform.Goals as goal
 

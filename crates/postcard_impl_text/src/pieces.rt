@@ -1,8 +1,8 @@
 //! Pieces of the text of impls: parameters, and tuples of a type's fields.
 
-use crate::error::Wrong;
 use crate::form::name_of;
 use crate::item::{Field, Item, Member, Style};
+use postcard_impl_error::Wrong;
 
 /// How many fields one tuple has at most. More stand in tuples of [`GROUP`].
 const TUPLE: usize = 8;

@@ -1,9 +1,9 @@
 //! How values are read by their parts: what stands once before the impls of a file.
 
-use crate::error::Wrong;
 use crate::form::Form;
 use crate::item::Item;
 use crate::pieces::add;
+use postcard_impl_error::Wrong;
 
 /// The trait of the types that are made of their parts, and what reads them. Where the prover doesn't
 /// follow many signed numbers into one value, it follows its parts.

@@ -1,6 +1,5 @@
 //! The items of a file, read from its tokens.
 
-use crate::error::{ImplProblem, Wrong};
 use crate::item::{Field, Item, Member, Parameters, Span, Style};
 use crate::scan::{
     after_bracket, bare, closing_angle, find_word, inside, parts, raw_between, text_at, text_of,
@@ -9,6 +8,7 @@ use crate::scan::{
 use postcard_dyn_file::FileProblem;
 use postcard_dyn_file::declaration::{Declaration, Kind};
 use postcard_dyn_file::token::{Token, after_word, is_at, is_name_at, token_at};
+use postcard_impl_error::{ImplProblem, Wrong};
 use std::alloc::Global;
 
 /// The greatest number of fields of a struct or a variant: twelve tuples of five.

@@ -1,8 +1,8 @@
 //! The heads of impls and of their functions.
 
-use crate::error::Wrong;
 use crate::item::Item;
 use crate::pieces::{Lifetimes, add, add_arguments, add_declared};
+use postcard_impl_error::Wrong;
 
 /// The `ghost use` line of `via`.
 pub(crate) const USE_VIA: &str = "    ghost use Rattle.postcard_shape.specs.Shape.{via};\n";

@@ -1,7 +1,7 @@
 //! Where a file stands: in which crate, and as which module. The prover names an enum by these.
 
 ghost use Rattle.std.specs.Prelude.{IfSome};
-ghost use Rattle.postcard_impl.specs.Home.{IsHome};
+ghost use Rattle.postcard_impl_error.specs.Home.{IsHome};
 
 /// The place of a file in a repository.
 #[derive(Clone, Copy, Debug, PartialEq, Eq)]
@@ -34,7 +34,7 @@ impl<'a> Home<'a> {
     }
 
     /// Returns whether the file is the root of its crate, whose types stand in no module.
-    pub(crate) fn is_root(self) -> bool {
+    pub fn is_root(self) -> bool {
         self.module == "lib" || self.module == "main"
     }
 }

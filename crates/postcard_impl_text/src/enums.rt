@@ -1,14 +1,13 @@
 //! The impls of an enum, via its variants in a row.
 
-use crate::error::Wrong;
 use crate::form::Form;
 use crate::heads::{
     DESERIALIZE, DESERIALIZE_OWNED, SERIALIZES, Trait, USE_VIA, add_decoded_body, add_head,
     add_own_head, add_owned,
 };
-use crate::home::Home;
 use crate::item::{Item, Member};
 use crate::pieces::{Lifetimes, Piece, add, add_arguments, add_row_variable, add_tuple, add_value};
+use postcard_impl_error::{Home, Wrong};
 
 /// The `ghost use` line of the prover's words for a row.
 const USE_ROW: &str =

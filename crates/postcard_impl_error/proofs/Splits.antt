@@ -5,7 +5,7 @@ use Rattle.std.specs.Str.{NoCharPasses}
 use Rattle.std.specs.Str.Pattern.{RFindsChar, RFindsText, FindsTextSuffix, SplitsAroundMatch, StripsSuffix}
 use Rattle.std.proofs.lemmas.List.{take-append-drop, append_assoc}
 use Rattle.std.proofs.lemmas.Str.Pattern.{drop_at_char}
-use Rattle.postcard_impl.specs.Home.{IsHome}
+use Rattle.postcard_impl_error.specs.Home.{IsHome}
 use denote.Ref.{Bor}
 
 -- A text around the last place of another one.

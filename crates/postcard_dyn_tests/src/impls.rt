@@ -1,7 +1,7 @@
-//! Tests of the impls that are written, and of the files that are refused.
+//! Tests of the impls that are written for the types of a file, and of the files that are refused.
 
-use crate::marks::{BEGIN, END};
-use crate::{Home, impl_file};
+use postcard_impl::marks::{BEGIN, END};
+use postcard_impl::{Home, impl_file};
 use std::process::Abort;
 
 /// A file with a type of each kind, and with other items.
@@ -177,7 +177,12 @@ const REFUSED: [Row; 33] = [
 
 /// Returns the file with the impls of its types, or the error as it is printed.
 fn printed(rt: &(impl Abort + AllocGlobal), file: &str) -> String {
-    let home = Home::of_path("crates/weather/src/net/types.rt").expect(rt, "home");
+    printed_at(rt, "crates/weather/src/net/types.rt", file)
+}
+
+/// The same of a file with this path.
+fn printed_at(rt: &(impl Abort + AllocGlobal), path: &str, file: &str) -> String {
+    let home = Home::of_path(path).expect(rt, "home");
     match impl_file(rt.alloc(), home, file) {
         Ok(written) => written,
         Err(error) => format!(in rt.alloc(); "{error}").expect(rt, "memory"),
@@ -188,6 +193,27 @@ fn printed(rt: &(impl Abort + AllocGlobal), file: &str) -> String {
 fn names_what_is_wrong(rt: HostRuntime) {
     for (file, wanted) in &REFUSED {
         assert_eq!(&rt; printed(&rt, file).as_str(), *wanted, "{file}");
+    }
+}
+
+/// The types of a crate's root stand in no module.
+#[test]
+fn names_an_enum_by_crate_and_module(rt: HostRuntime) {
+    for (path, line) in &[
+        (
+            "weather/src/lib.rt",
+            "ghost use Rattle.weather.specs.declared.Event.{Event};\n",
+        ),
+        (
+            "a/weather/src/main.rt",
+            "ghost use Rattle.weather.specs.declared.Event.{Event};\n",
+        ),
+        (
+            "weather/src/net.rt",
+            "ghost use Rattle.weather.specs.declared.net.Event.{Event};\n",
+        ),
+    ] {
+        assert!(&rt; printed_at(&rt, *path, FILE).contains(*line), "{path}");
     }
 }
 

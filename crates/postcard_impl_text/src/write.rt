@@ -2,12 +2,11 @@
 
 use crate::decoded::add_decoded;
 use crate::enums::add_enum;
-use crate::error::Wrong;
 use crate::form::Form;
-use crate::home::Home;
 use crate::item::Item;
 use crate::structs::add_struct;
 use postcard_dyn_file::declaration::Kind;
+use postcard_impl_error::{Home, Wrong};
 use std::alloc::Global;
 
 /// Returns the impls of these items, which have these forms.

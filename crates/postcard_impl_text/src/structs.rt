@@ -1,6 +1,5 @@
 //! The impls of a struct, via the tuple of its fields.
 
-use crate::error::Wrong;
 use crate::form::Form;
 use crate::heads::{
     DESERIALIZE, DESERIALIZE_OWNED, SERIALIZES, Trait, USE_VIA, add_decoded_body, add_head,
@@ -8,6 +7,7 @@ use crate::heads::{
 };
 use crate::item::{Item, Member};
 use crate::pieces::{Lifetimes, Piece, add, add_tuple, add_value};
+use postcard_impl_error::Wrong;
 
 /// Adds the impls of a struct.
 pub(crate) fn add_struct(out: &mut String, item: &Item, form: Form) -> Result<(), Wrong> {

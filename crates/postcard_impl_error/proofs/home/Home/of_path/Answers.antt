@@ -1,5 +1,5 @@
-use Rattle.postcard_impl.proofs.Splits.{home_within, home_alone}
-use Rattle.postcard_impl.proofs.home.Home.of_path.Goals as goal
+use Rattle.postcard_impl_error.proofs.Splits.{home_within, home_alone}
+use Rattle.postcard_impl_error.proofs.home.Home.of_path.Goals as goal
 
 pub returns-in-Some-rsplit_once : goal.returns-in-Some-rsplit_once
 returns-in-Some-rsplit_once c =

@@ -1,12 +1,12 @@
 //! Which form the impls of each type have, and which types have none.
 
-use crate::error::{ImplProblem, Wrong};
 use crate::item::{Field, Item, Span};
 use crate::scan::{inside, raw_between, wrong_at};
 use postcard_dyn_file::FileProblem;
 use postcard_dyn_file::declaration::Kind;
 use postcard_dyn_file::token::{Token, is_at, is_before, is_name_at, token_at};
 use postcard_dyn_schema::Problem;
+use postcard_impl_error::{ImplProblem, Wrong};
 use std::alloc::Global;
 
 /// Words of types whose values aren't written and read.

@@ -1,13 +1,13 @@
 //! Steps over the tokens of a file, from index to index.
 
-use crate::error::{ImplProblem, Wrong};
 use crate::item::Span;
 use postcard_dyn_file::token::{Token, after_word, is_at, is_before, token_at};
+use postcard_impl_error::{ImplProblem, Wrong};
 use std::alloc::Global;
 
 /// Returns the text with this many bytes that begins `left` bytes before the end of the file, or
 /// nothing if the file has no such text.
-pub(crate) fn text_at(file: &str, left: usize, length: usize) -> &str {
+pub fn text_at(file: &str, left: usize, length: usize) -> &str {
     let start = file.len().saturating_sub(left);
     file.get(start..start.saturating_add(length)).unwrap_or("")
 }

@@ -1,0 +1,57 @@
+//! The impls of the types that a file of Rattle declares, as text: [`impls_of`]. What is read are the tokens of
+//! the file and its declarations, as `postcard_dyn_file` has them.
+//!
+//! | A type | Its impls |
+//! |---|---|
+//! | an alias | none |
+//! | with a lifetime and a parameter | `Repr`, `FromRepr`, `SerializeRepr` |
+//! | any other | `Shaped` by `via`, `Serialize`, `Deserialize`, and `DeserializeOwned` if nothing borrows |
+//!
+//! A struct goes via the tuple of its fields, an enum via its variants in a row, and more than eight
+//! fields via tuples of five. If a struct or a variant has more than one signed number, or an enum more than
+//! three variants, a trait of the file, `FromDecoded`, makes the value of what was read, so that the
+//! prover follows. A type that has no impls that would be
+//! proved is refused with the place of the field, by one of [`ImplProblem`].
+//!
+//! It is done in three steps, one module each: the items of the file (`read`), which impls each item has
+//! ([`form`]), and the text of these; `structs` and `enums` write it.
+#![tactic(auto)]
+
+mod decoded;
+mod enums;
+pub mod form;
+mod heads;
+pub mod item;
+mod pieces;
+mod read;
+mod scan;
+mod structs;
+mod write;
+
+use form::forms;
+use postcard_dyn_file::declaration::Declaration;
+use postcard_dyn_file::token::Token;
+pub use postcard_impl_error::ImplProblem;
+use postcard_impl_error::{Home, Wrong};
+use read::items;
+pub use scan::text_at;
+use std::alloc::Global;
+use write::impls;
+
+/// Returns the impls of the types that a file declares, which has these tokens and these declarations,
+/// and stands at this place.
+///
+/// # Errors
+///
+/// Fails with what is wrong with a declaration, and where, or with `OutOfMemory`.
+pub fn impls_of(
+    alloc: Global,
+    home: Home,
+    file: &str,
+    tokens: &[Token],
+    known: &[Declaration],
+) -> Result<String, Wrong> {
+    let items = items(alloc, file, tokens, known)?;
+    let forms = forms(alloc, file, tokens, items.as_slice())?;
+    impls(alloc, home, items.as_slice(), forms.as_slice())
+}
