@@ -2,7 +2,9 @@
 use Rattle.std.proofs.Common.{◌≡◌, ℕ, ◌<◌, List, [], ◌∷◌, ◌++◌, length, arith, Option, Some, None, true, refl, sym, ap, subst, ◌∙◌, length-append}
 use Rattle.std.specs.Fmt.{◌++?◌}
 use Rattle.std.proofs.KnownBytes.{Appends-nil, Appends-trans}
-use Rattle.std.proofs.Output.{then_text_assoc}
+use Rattle.std.specs.Io.KnownBytes.{Appends}
+use Rattle.std.proofs.lemmas.List.{append-nil}
+use Rattle.std.proofs.Output.{if_some_weaken, then_text_assoc}
 use Rattle.postcard_dyn_schema.specs.declared.schema.Schema.{Schema}
 use Rattle.postcard_dyn_schema.specs.Meaning.{type_of, has_bytes}
 use Rattle.postcard_dyn.specs.declared.value.Value.{Value}
@@ -15,6 +17,15 @@ pub prints_both : (o p : Option (List ℕ)) (a b c : Option (List ℕ)) → Prin
 prints_both None p a b c h k = tt
 prints_both (Some x) None a b c h k = tt
 prints_both (Some x) (Some y) a b c h k = Appends-trans a b c x y h k
+
+-- A text is appended, and then nothing.
+pub appends_no_more : (old mid new : Option (List ℕ)) (shown : List ℕ) → Appends old mid shown → Appends mid new [] → Appends old new shown
+appends_no_more old mid new shown first none =
+    subst (λ (x : List ℕ). Appends old new x) (append-nil shown) (Appends-trans old mid new shown [] first none)
+
+-- The same of a text of which something is said or nothing.
+pub prints_no_more : (said : Option (List ℕ)) (old mid new : Option (List ℕ)) → Prints said old mid → Appends mid new [] → Prints said old new
+prints_no_more said old mid new first none = if_some_weaken said _ _ (λ shown h. appends_no_more old mid new shown h none) first
 
 -- One more value is one more line.
 lines_more : (s : Schema) (vs : List Value) (v : Value) → lines_of s (vs ++ v ∷ []) ≡ lines_of s vs ++? line_of s v

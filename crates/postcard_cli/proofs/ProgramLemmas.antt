@@ -1,8 +1,7 @@
 -- Lemmas on what a call prints: under words that say less, and followed by nothing.
-use Rattle.std.proofs.Common.{◌≡◌, inl, inr, sym, ◌∙◌, arith, ℕ, ◌+◌, length, List, [], ◌∷◌, ◌++◌, Option, Result, Ok, Err, OnOk, subst}
+use Rattle.std.proofs.Common.{◌≡◌, inl, inr, sym, ◌∙◌, arith, ℕ, ◌+◌, length, List, [], ◌∷◌, ◌++◌, Option, Result, Ok, Err, OnOk}
 use Rattle.std.specs.Io.KnownBytes.{Appends}
 use Rattle.std.proofs.KnownBytes.{Appends-trans}
-use Rattle.std.proofs.lemmas.List.{append-nil}
 use Rattle.std.proofs.Output.{if_some_weaken}
 use Rattle.hex.specs.Hex.{encode_lower}
 use Rattle.postcard_shape.specs.Shape.{Shape}
@@ -13,10 +12,10 @@ use Rattle.postcard_cli.specs.Explain.{PrintsRows}
 use Rattle.postcard_cli.specs.declared.explain.Layout.{Layout}
 use Rattle.postcard_cli.specs.Failure.{exit_status, last_line}
 use Rattle.postcard_cli.specs.Program.{Does, Form, form_of, list_of, one_word, PrintsCall, PrintsDecode, PrintsDecoded, PrintsEncode, Performs}
-use Rattle.postcard_cli.specs.JsonMessage.{PrintsJsonLine, PrintsJsonLines}
-use Rattle.postcard_cli.specs.Message.{Prints, PrintsEach, PrintsFront, PrintsGiven}
+use Rattle.postcard_cli.specs.JsonMessage.{PrintsJsonLines}
+use Rattle.postcard_cli.specs.Message.{PrintsEach, PrintsFront, PrintsGiven}
 use Rattle.postcard_cli.specs.Refusal.{Converts, DecodingFails, EncodingFails, Reports, TaskFails}
-use Rattle.postcard_cli.specs.Stream.{PrintsLines, PrintsValues}
+use Rattle.postcard_cli.specs.Stream.{PrintsValues}
 use Rattle.postcard_cli.specs.declared.stream.Format.{Format}
 use Rattle.postcard_cli.specs.Value.{parts, SayEach, SomeSaysNone}
 use Rattle.postcard_cli.specs.declared.program.Task.{Task}
@@ -28,7 +27,10 @@ use Rattle.postcard_cli.specs.declared.failure.Failure.TheVariants as failed
 use Rattle.postcard_cli.specs.declared.command.TypeWord.{TypeWord}
 use Rattle.postcard_cli.specs.declared.command.TypeWord.TheVariants.{Named, Expression}
 use Rattle.postcard_cli.specs.declared.command.Command.{Command}
-use Rattle.postcard_cli.specs.declared.command.Command.TheVariants.{Encode, Decode, DecodeAll, EncodeChecked, DecodeChecked, EncodeJson, DecodeJson, DecodeAllJson, EncodeFramed, DecodeFramed, EncodeRaw, DecodeRaw, DecodeAllRaw, Frames, FramesOf, FramesChecked, FramesHex, Explain, Size, Types, Checksum, Catalog}
+use Rattle.postcard_cli.specs.declared.command.Command.TheVariants.{Encode, Decode, DecodeAll, EncodeChecked, DecodeChecked, EncodeJson, DecodeJson, DecodeAllJson, EncodeFramed, DecodeFramed, EncodeRaw, DecodeRaw, DecodeAllRaw, Frames, FramesOf, FramesChecked, FramesHex, FramesJson, Explain, Size, Types, Checksum, Catalog}
+use Rattle.postcard_cli.proofs.JsonLemmas.{json_line_no_more}
+use Rattle.postcard_cli.proofs.MessageLemmas.{appends_no_more, prints_no_more}
+use Rattle.postcard_cli.proofs.StreamLemmas.{stream_followed}
 
 -- The values of a type, whose words are those of `says`, and which `none` says not to be one.
 abbrev spoken : {T : Type 0} → Shape T → (T → Option (List ℕ)) → (List ℕ → T → Type 0) → (List ℕ → Type 0) → Form
@@ -91,15 +93,6 @@ list_said {T = T} {E = E} {F = F} shape p q text_of old new r task less fewer d 
     said _ _ (λ word vs. SayEach p (parts word) vs) (λ word vs. SayEach q (parts word) vs) (λ word. SomeSaysNone p (parts word)) (λ word. SomeSaysNone q (parts word)) old new
     r task d (λ word vs h. each_said p q (parts word) vs h less) (λ word h. let f = fewer h.1 h.3 h.5 in (h.0, h.1, h.2, f.0, h.4, f.1))
 
--- A text is appended, and then nothing.
-appends_no_more : (old mid new : Option (List ℕ)) (shown : List ℕ) → Appends old mid shown → Appends mid new [] → Appends old new shown
-appends_no_more old mid new shown first none =
-    subst (λ (x : List ℕ). Appends old new x) (append-nil shown) (Appends-trans old mid new shown [] first none)
-
--- The same of a text of which something is said or nothing.
-prints_no_more : (said : Option (List ℕ)) (old mid new : Option (List ℕ)) → Prints said old mid → Appends mid new [] → Prints said old new
-prints_no_more said old mid new first none = if_some_weaken said _ _ (λ shown h. appends_no_more old mid new shown h none) first
-
 decoded_no_more : (form : Form) (bytes : List ℕ) (old mid new : Option (List ℕ)) → PrintsDecoded form bytes old mid → Appends mid new [] → PrintsDecoded form bytes old new
 decoded_no_more form bytes old mid new d none = record {
   value = d.value;
@@ -133,32 +126,16 @@ rows_no_more : (layout : Layout) (at : ℕ) (lines : List Line) (old mid new : O
 rows_no_more layout at [] old mid new d none = Appends-trans old mid new [] [] d none
 rows_no_more layout at (line ∷ lines) old mid new d none = (d.0, d.1, rows_no_more layout (at + length line.bytes.now) lines d.0 mid new d.2 none)
 
-stream_lines_no_more : (format : Format) (longest : ℕ) (given : List ℕ) (old mid new : Option (List ℕ)) → PrintsLines format longest given old mid → Appends mid new []
-    → PrintsLines format longest given old new
-stream_lines_no_more format longest given old mid new d none = record {
-  answered = d.answered;
-  rest = d.rest;
-  cut = d.cut;
-  are = d.are;
-  rest_no_zero = d.rest_no_zero;
-  printed = prints_no_more _ old mid new d.printed none;
-}
-
 values_no_more : (format : Format) (longest : ℕ) (known left old mid new : Option (List ℕ)) → PrintsValues format longest known left old mid → Appends mid new []
     → PrintsValues format longest known left old new
 values_no_more format longest known left old mid new d none = record {
   given = d.given;
   all = record {
     reader = d.all.reader;
-    lines = stream_lines_no_more format longest d.given old mid new d.all.lines none;
+    lines = stream_followed format longest d.given old mid new d.all.lines none;
   };
   at_end = d.at_end;
 }
-
-json_line_no_more : (schema : Schema) (at : ℕ) (v : Value) (rest : List ℕ) (old mid new : Option (List ℕ)) → PrintsJsonLine schema at v rest old mid → Appends mid new []
-    → PrintsJsonLine schema at v rest old new
-json_line_no_more schema at v rest old mid new d none =
-    record { json = d.json; of_value = d.of_value; text = d.text; is = d.is; printed = appends_no_more old mid new _ d.printed none }
 
 json_lines_no_more : (schema : Schema) (all bytes : List ℕ) (vs : List Value) (rest : List ℕ) (old mid new : Option (List ℕ)) → PrintsJsonLines schema all bytes vs rest old mid
     → Appends mid new [] → PrintsJsonLines schema all bytes vs rest old new
@@ -245,8 +222,9 @@ performs_no_more syntax (FramesHex expression hex) known left old mid new d none
   plain = d.plain;
   bytes = d.bytes;
   stands = d.stands;
-  lines = stream_lines_no_more d.format 65536 d.bytes old mid new d.lines none;
+  lines = stream_followed d.format 65536 d.bytes old mid new d.lines none;
 }
+performs_no_more syntax (FramesJson expression) known left old mid new d none = (d.0, d.1, values_no_more d.0 65536 known left old mid new d.2 none)
 performs_no_more syntax (Explain expression hex all) known left old mid new d none = record {
   schema = d.schema;
   spelled = d.spelled;

@@ -1,12 +1,11 @@
 -- Lemmas on the lines of a stream, frame by frame, piece by piece and read by read.
-use Rattle.std.proofs.Common.{◌≡◌, ◌≢◌, ◌⊎◌, inl, inr, ℕ, ◌+◌, ◌-◌, ◌^◌, ◌<◌, ◌≤◌, min, Bool, true, false, List, [], ◌∷◌, ◌++◌, length, length-append, add-zero, zero-add, arith, Option, None, Some, codes, refl, sym, ap, subst, ◌∙◌, nat_lt, Result, Ok, Err, OnOk, take, drop}
-use Rattle.std.specs.Fmt.{decimal, ◌++?◌}
+use Rattle.std.proofs.Common.{◌≡◌, ◌≢◌, inr, ℕ, ◌+◌, ◌-◌, ◌^◌, ◌<◌, ◌≤◌, min, Bool, true, false, List, [], ◌∷◌, ◌++◌, length, length-append, add-zero, zero-add, arith, Option, codes, refl, sym, ap, subst, ◌∙◌, Result, Ok, Err, OnOk, take, drop}
+use Rattle.std.specs.Fmt.{decimal}
 use Rattle.hex.specs.Hex.{encode_lower}
-use Rattle.std.specs.Io.KnownBytes.{Consumes, Keeps}
-use Rattle.std.proofs.KnownBytes.{Appends-nil, Appends-kept, Consumes-kept, Consumes-trans}
+use Rattle.std.specs.Io.KnownBytes.{Appends, Consumes, Keeps}
+use Rattle.std.proofs.KnownBytes.{Appends-nil, Appends-kept, Appends-trans, Consumes-kept, Consumes-trans}
 use Rattle.std.proofs.lemmas.List.{append_assoc, append-nil, drop-drop}
-use Rattle.std.proofs.lemmas.Bool.{lt-ltb, le-ltb}
-use Rattle.std.proofs.Output.{then_text_assoc}
+use Rattle.std.proofs.Output.{if_some_weaken}
 use Rattle.postcard_wire.specs.declared.error.Error.{Error}
 use Rattle.postcard_wire.specs.declared.error.Error.TheVariants as errors
 use Rattle.postcard_cobs.specs.Groups.{NoZero, Groups, EndsFrame, before_zero}
@@ -15,19 +14,20 @@ use Rattle.postcard_accumulator.proofs.Cutting.{before_zero_all}
 use Rattle.postcard_shape.specs.Shape.{memory}
 use Rattle.postcard_de.specs.Reads.{IsReadError}
 use Rattle.postcard_dyn.specs.declared.value.Value.{Value}
-use Rattle.postcard_dyn_text.proofs.Joined.{none_after, none_before}
 use Rattle.postcard_cli.specs.declared.failure.Failure.{Failure}
 use Rattle.postcard_cli.specs.declared.failure.Failure.TheVariants.{BadType, Library, OutOfMemory, Output, ReadFailed, UnknownChecksum}
 use Rattle.postcard_cli.specs.declared.stream.Stream.{Stream}
-use Rattle.postcard_dyn.specs.Explained.{HasNoFront}
 use Rattle.postcard_cli.specs.Message.{Prints, ReadsValue}
-use Rattle.postcard_cli.specs.Place.{IsPlaceOf}
-use Rattle.postcard_cli.specs.Receiving.{IsAfter, Continues, PrintsAnswer, PrintsMessage, Reads, ReadFails}
-use Rattle.postcard_cli.specs.Refusal.{FramesHexFail, StreamCheckedFails, StreamFails, ValuesFail}
+use Rattle.postcard_cli.specs.Place.{IsPathOf}
+use Rattle.postcard_cli.specs.Receiving.{IsAfter, Continues, LacksLine, LinesFail, PrintsAnswer, PrintsMessage, Reads, ReadFails}
+use Rattle.postcard_cli.specs.Refusal.{FramesHexFail, IsStreamError, StreamCheckedFails, StreamFails, ValuesFail}
 use Rattle.postcard_cli.specs.declared.stream.Format.{Format}
-use Rattle.postcard_cli.specs.Stream.{Answer, value, refused, unchecked, damaged, overfull, IsBehind, IsNamed, IsPlain, IsUnchecked, LacksChecksum, ReadsData, Answered, AreAnswered, IsAnswerTo, answer_line, answer_lines, bytes_of, more_text, noun_of, offset, rest_line, PrintsLines, PrintsValues}
+use Rattle.postcard_cli.specs.declared.stream.Notation.{Notation}
+use Rattle.postcard_cli.specs.declared.stream.Notation.TheVariants.{Text, Json}
+use Rattle.postcard_cli.specs.Stream.{Answer, value, refused, unchecked, damaged, overfull, IsBehind, IsNamed, IsPlain, IsUnchecked, LacksChecksum, ReadsData, Answered, AreAnswered, IsAnswerTo, PrintsAnswerLine, PrintsAnswerLines, PrintsIn, PrintsJsonAnswer, answer_line, bytes_of, more_text, noun_of, offset, PrintsLines, PrintsValues}
 use Rattle.postcard_cli.proofs.CheckedLemmas.{front_of}
-use Rattle.postcard_cli.proofs.MessageLemmas.{prints_both}
+use Rattle.postcard_cli.proofs.JsonLemmas.{json_line_no_more, line_after}
+use Rattle.postcard_cli.proofs.MessageLemmas.{appends_no_more, prints_no_more}
 
 no_zero_both : (xs ys : List ℕ) → NoZero xs → NoZero ys → NoZero (xs ++ ys)
 no_zero_both [] ys a b = b
@@ -47,33 +47,63 @@ are_more s longest (x ∷ xs) a are none is = (are.0, are.1, are_more s longest 
 place_after : (n : ℕ) (f bs : List ℕ) → (n + length f + 1) + length bs ≡ n + length ((f ++ 0 ∷ []) ++ bs)
 place_after n f bs = simp length-append (omega arith)
 
-lines_more : (s : Format) (n : ℕ) (xs : List Answered) (a : Answered)
-    → answer_lines s n (xs ++ a ∷ []) ≡ answer_lines s n xs ++? answer_line s (offset (n + length (bytes_of xs))) a.answer
-lines_more s n [] a =
-    none_after (answer_line s (offset n) a.answer)
-    ∙ ap (λ (k : ℕ). answer_line s (offset k) a.answer) (sym (add-zero n))
-    ∙ sym (none_before (answer_line s (offset (n + 0)) a.answer))
-lines_more s n (x ∷ xs) a =
-    ap (λ o. answer_line s (offset n) x.answer ++? o)
-    (lines_more s (n + length x.frame + 1) xs a
-    ∙ ap (λ (k : ℕ). answer_lines s (n + length x.frame + 1) xs ++? answer_line s (offset k) a.answer) (place_after n x.frame (bytes_of xs)))
-    ∙ sym (then_text_assoc (answer_line s (offset n) x.answer) (answer_lines s (n + length x.frame + 1) xs)
-    (answer_line s (offset (n + length (bytes_of (x ∷ xs)))) a.answer))
+-- ---- lines in either notation
 
-lines_more_first : (s : Format) (xs : List Answered) (a : Answered)
-    → answer_lines s 0 (xs ++ a ∷ []) ≡ answer_lines s 0 xs ++? answer_line s (offset (length (bytes_of xs))) a.answer
-lines_more_first s xs a =
-    lines_more s 0 xs a ∙ ap (λ (k : ℕ). answer_lines s 0 xs ++? answer_line s (offset k) a.answer) (zero-add (length (bytes_of xs)))
+pub in_text : (s : Format) (at : ℕ) (a : Answer) (old new : Option (List ℕ)) → s.notation ≡ Text → Prints (answer_line s at a) old new → PrintsAnswerLine s at a old new
+in_text s at a old new is h = subst (λ (n : Notation). PrintsIn n s at a old new) (sym is) h
 
--- ---- the rest
+pub in_json : (s : Format) (at : ℕ) (a : Answer) (old new : Option (List ℕ)) → s.notation ≡ Json → PrintsJsonAnswer s.schema at a old new → PrintsAnswerLine s at a old new
+in_json s at a old new is h = subst (λ (n : Notation). PrintsIn n s at a old new) (sym is) h
 
-over_line : (s : Format) (longest n : ℕ) (rest : List ℕ) → longest < length rest → rest_line s longest n rest ≡ answer_line s (offset n) overfull
-over_line s longest n rest over =
-    let t : nat_lt longest (length rest) ≡ true = lt-ltb longest (length rest) over in rw t refl
+-- A line after nothing.
+in_after : (n : Notation) (s : Format) (at : ℕ) (a : Answer) (old mid new : Option (List ℕ)) → Appends old mid [] → PrintsIn n s at a mid new → PrintsIn n s at a old new
+in_after Text s at a old mid new none h = if_some_weaken (answer_line s at a) _ _ (λ shown p. Appends-trans old mid new [] shown none p) h
+in_after Json s at (value v rest) old mid new none h = line_after s.schema at v rest old mid new none h
+in_after Json s at (refused path e message) old mid new none h = Appends-trans old mid new [] _ none h
+in_after Json s at (unchecked message) old mid new none h = Appends-trans old mid new [] _ none h
+in_after Json s at (damaged bytes) old mid new none h = Appends-trans old mid new [] _ none h
+in_after Json s at overfull old mid new none h = Appends-trans old mid new [] _ none h
 
-none_line : (s : Format) (longest n : ℕ) (rest : List ℕ) → length rest ≤ longest → rest_line s longest n rest ≡ Some []
-none_line s longest n rest fits =
-    let t : nat_lt longest (length rest) ≡ false = le-ltb longest (length rest) fits in rw t refl
+-- A line, and then nothing.
+in_before : (n : Notation) (s : Format) (at : ℕ) (a : Answer) (old mid new : Option (List ℕ)) → PrintsIn n s at a old mid → Appends mid new [] → PrintsIn n s at a old new
+in_before Text s at a old mid new h none = prints_no_more (answer_line s at a) old mid new h none
+in_before Json s at (value v rest) old mid new h none = json_line_no_more s.schema at v rest old mid new h none
+in_before Json s at (refused path e message) old mid new h none = appends_no_more old mid new _ h none
+in_before Json s at (unchecked message) old mid new h none = appends_no_more old mid new _ h none
+in_before Json s at (damaged bytes) old mid new h none = appends_no_more old mid new _ h none
+in_before Json s at overfull old mid new h none = appends_no_more old mid new _ h none
+
+-- One more frame is one more line.
+lines_more : (s : Format) (n : ℕ) (xs : List Answered) (a : Answered) (old mid new : Option (List ℕ)) → PrintsAnswerLines s n xs old mid
+    → PrintsAnswerLine s (offset (n + length (bytes_of xs))) a.answer mid new → PrintsAnswerLines s n (xs ++ a ∷ []) old new
+lines_more s n [] a old mid new h k =
+    let P : ℕ → Type 0 = λ i. PrintsAnswerLine s (offset i) a.answer mid new in
+    (new, in_after s.notation s (offset n) a.answer old mid new h (subst P (add-zero n) k), Appends-nil new)
+lines_more s n (x ∷ xs) a old mid new h k =
+    let P : ℕ → Type 0 = λ i. PrintsAnswerLine s (offset i) a.answer mid new in
+    (h.0, h.1, lines_more s (n + length x.frame + 1) xs a h.0 mid new h.2 (subst P (sym (place_after n x.frame (bytes_of xs))) k))
+
+-- Lines, and then nothing.
+lines_followed : (s : Format) (n : ℕ) (xs : List Answered) (old mid new : Option (List ℕ)) → PrintsAnswerLines s n xs old mid → Appends mid new []
+    → PrintsAnswerLines s n xs old new
+lines_followed s n [] old mid new h none = Appends-trans old mid new [] [] h none
+lines_followed s n (x ∷ xs) old mid new h none = (h.0, h.1, lines_followed s (n + length x.frame + 1) xs h.0 mid new h.2 none)
+
+pub stream_followed : (s : Format) (longest : ℕ) (given : List ℕ) (old mid new : Option (List ℕ)) → PrintsLines s longest given old mid → Appends mid new []
+    → PrintsLines s longest given old new
+stream_followed s longest given old mid new d none = record {
+  answered = d.answered;
+  rest = d.rest;
+  cut = d.cut;
+  are = d.are;
+  rest_no_zero = d.rest_no_zero;
+  mid = d.mid;
+  frames = d.frames;
+  last = record {
+    over = λ o. in_before s.notation s (offset (length (bytes_of d.answered))) overfull d.mid mid new (d.last.over o) none;
+    fits = λ f. Appends-trans d.mid mid new [] [] (d.last.fits f) none;
+  };
+}
 
 -- ---- states
 
@@ -87,9 +117,9 @@ after_none s longest new held limit empty skipping start count = record {
     cut = refl;
     are = tt;
     rest_no_zero = tt;
-    printed =
-        let P : Option (List ℕ) → Type 0 = λ o. Prints (Some [] ++? o) held held in
-        subst P (sym (none_line s longest 0 [] (omega arith))) (Appends-nil held);
+    mid = held;
+    frames = Appends-nil held;
+    last = record { over = λ o. absurd (omega arith); fits = λ _. Appends-nil held };
   };
   limit = limit;
   start = start;
@@ -101,12 +131,8 @@ after_none s longest new held limit empty skipping start count = record {
 module _ (s : Format) (longest : ℕ) (given : List ℕ) (before after : Stream) (first old new : Option (List ℕ)) (was : IsAfter s longest given before first old)
     (limit : after.longest ≡ before.longest) where
   -- The lines of the frames, without one of the rest.
-  frames_printed : before.skipping ≡ false → Prints (answer_lines s 0 was.lines.answered) first old
-  frames_printed off =
-      let none = none_line s longest (length (bytes_of was.lines.answered)) was.lines.rest (was.held off).1 in
-      let P : Option (List ℕ) → Type 0 = λ o. Prints o first old in
-      let with_none = rw none at was.lines.printed in
-      subst P (none_after (answer_lines s 0 was.lines.answered)) with_none
+  frames_printed : before.skipping ≡ false → PrintsAnswerLines s 0 was.lines.answered first old
+  frames_printed off = lines_followed s 0 was.lines.answered first was.lines.mid old was.lines.frames (was.lines.last.fits (was.held off).1)
 
   module _ (part : List ℕ) (free : NoZero part) (start : after.start ≡ before.start) (count : after.count ≡ min (before.count + length part) (2 ^ 64 - 1)) where
     cut_on : given ++ part ≡ bytes_of was.lines.answered ++ (was.lines.rest ++ part)
@@ -127,12 +153,9 @@ module _ (s : Format) (longest : ℕ) (given : List ℕ) (before after : Stream)
             cut = cut_on;
             are = was.lines.are;
             rest_no_zero = no_zero_both was.lines.rest part was.lines.rest_no_zero free;
-            printed =
-                let n = length (bytes_of was.lines.answered) in
-                let same : rest_line s longest n was.lines.rest ≡ rest_line s longest n (was.lines.rest ++ part) =
-                over_line s longest n was.lines.rest over ∙ sym (over_line s longest n (was.lines.rest ++ part) longer) in
-                let P : Option (List ℕ) → Type 0 = λ o. Prints (answer_lines s 0 was.lines.answered ++? o) first old in
-                subst P same was.lines.printed;
+            mid = was.lines.mid;
+            frames = was.lines.frames;
+            last = record { over = λ _. was.lines.last.over over; fits = λ f. absurd (omega arith) };
           };
           limit = limit ∙ was.limit;
           start = start ∙ was.start;
@@ -156,12 +179,9 @@ module _ (s : Format) (longest : ℕ) (given : List ℕ) (before after : Stream)
             cut = cut_on;
             are = was.lines.are;
             rest_no_zero = no_zero_both was.lines.rest part was.lines.rest_no_zero free;
-            printed =
-                let n = length (bytes_of was.lines.answered) in
-                let same : rest_line s longest n was.lines.rest ≡ rest_line s longest n (was.lines.rest ++ part) =
-                none_line s longest n was.lines.rest held.1 ∙ sym (none_line s longest n (was.lines.rest ++ part) fits) in
-                let P : Option (List ℕ) → Type 0 = λ o. Prints (answer_lines s 0 was.lines.answered ++? o) first old in
-                subst P same was.lines.printed;
+            mid = was.lines.mid;
+            frames = was.lines.frames;
+            last = record { over = λ o. absurd (omega arith); fits = λ _. was.lines.last.fits held.1 };
           };
           limit = limit ∙ was.limit;
           start = start ∙ was.start;
@@ -172,7 +192,7 @@ module _ (s : Format) (longest : ℕ) (given : List ℕ) (before after : Stream)
 
     -- Bytes with which the frame is too long: its line is printed.
     pub overflowed : before.skipping ≡ false → after.skipping ≡ true → before.longest - length before.held.items < length part
-        → Prints (answer_line s before.start overfull) old new → IsAfter s longest (given ++ part) after first new
+        → PrintsAnswerLine s before.start overfull old new → IsAfter s longest (given ++ part) after first new
     overflowed off now room printed =
         let held = was.held off in
         let n = ap length held.0 in
@@ -185,11 +205,9 @@ module _ (s : Format) (longest : ℕ) (given : List ℕ) (before after : Stream)
             cut = cut_on;
             are = was.lines.are;
             rest_no_zero = no_zero_both was.lines.rest part was.lines.rest_no_zero free;
-            printed =
-                let n = length (bytes_of was.lines.answered) in
-                let P : Option (List ℕ) → Type 0 = λ o. Prints (answer_lines s 0 was.lines.answered ++? o) first new in
-                subst P (sym (over_line s longest n (was.lines.rest ++ part) longer))
-                (prints_both (answer_lines s 0 was.lines.answered) (answer_line s (offset n) overfull) first old new (frames_printed off) (rw was.start at printed));
+            mid = old;
+            frames = frames_printed off;
+            last = record { over = λ _. rw was.start at printed; fits = λ f. absurd (omega arith) };
           };
           limit = limit ∙ was.limit;
           start = start ∙ was.start;
@@ -200,10 +218,9 @@ module _ (s : Format) (longest : ℕ) (given : List ℕ) (before after : Stream)
 
   module _ (start : after.start ≡ after.count) (count : after.count ≡ min (before.count + 1) (2 ^ 64 - 1)) (holds : after.held.items ≡ []) (ends : after.skipping ≡ false) where
     -- A frame ends whose line is printed.
-    answered_by : (a : Answer) → IsAnswerTo s longest was.lines.rest a
-        → Prints (answer_lines s 0 was.lines.answered ++? answer_line s (offset (length (bytes_of was.lines.answered))) a) first new
-        → IsAfter s longest (given ++ 0 ∷ []) after first new
-    answered_by a is printed =
+    answered_by : (a : Answer) (mid : Option (List ℕ)) → IsAnswerTo s longest was.lines.rest a → PrintsAnswerLines s 0 was.lines.answered first mid
+        → PrintsAnswerLine s (offset (length (bytes_of was.lines.answered))) a mid new → IsAfter s longest (given ++ 0 ∷ []) after first new
+    answered_by a mid is frames line =
         let x : Answered = record { frame = was.lines.rest; answer = a } in
         let all : given ++ 0 ∷ [] ≡ bytes_of (was.lines.answered ++ x ∷ []) =
         ap (λ (t : List ℕ). t ++ 0 ∷ []) was.lines.cut ∙ append_assoc (bytes_of was.lines.answered) was.lines.rest (0 ∷ []) ∙ sym (bytes_more was.lines.answered x) in
@@ -215,12 +232,11 @@ module _ (s : Format) (longest : ℕ) (given : List ℕ) (before after : Stream)
             cut = all ∙ sym (append-nil (bytes_of (was.lines.answered ++ x ∷ [])));
             are = are_more s longest was.lines.answered x was.lines.are was.lines.rest_no_zero is;
             rest_no_zero = tt;
-            printed =
-                let n = length (bytes_of (was.lines.answered ++ x ∷ [])) in
-                let P : Option (List ℕ) → Type 0 = λ o. Prints (answer_lines s 0 (was.lines.answered ++ x ∷ []) ++? o) first new in
-                let Q : Option (List ℕ) → Type 0 = λ o. Prints o first new in
-                subst P (sym (none_line s longest n [] (omega arith)))
-                (subst Q (sym (none_after (answer_lines s 0 (was.lines.answered ++ x ∷ [])))) (subst Q (sym (lines_more_first s was.lines.answered x)) printed));
+            mid = new;
+            frames =
+                let P : ℕ → Type 0 = λ n. PrintsAnswerLine s (offset n) a mid new in
+                lines_more s 0 was.lines.answered x first mid new frames (subst P (sym (zero-add (length (bytes_of was.lines.answered)))) line);
+            last = record { over = λ o. absurd (omega arith); fits = λ _. Appends-nil new };
           };
           limit = limit ∙ was.limit;
           start = start ∙ counted ∙ ap (λ (t : List ℕ). offset (length t)) all;
@@ -232,9 +248,7 @@ module _ (s : Format) (longest : ℕ) (given : List ℕ) (before after : Stream)
     pub ended : before.skipping ≡ false → PrintsAnswer s longest before.start before.held.items old new → IsAfter s longest (given ++ 0 ∷ []) after first new
     ended off (a, is, printed) =
         let held = (was.held off).0 in
-        answered_by a (rw held at is)
-        (prints_both (answer_lines s 0 was.lines.answered) (answer_line s (offset (length (bytes_of was.lines.answered))) a) first old new (frames_printed off)
-        (rw was.start at printed))
+        answered_by a old (rw held at is) (frames_printed off) (rw was.start at printed)
 
 -- A frame ends that was skipped: its line is printed already.
 pub ended_skipped : (s : Format) (longest : ℕ) (given : List ℕ) (before after : Stream) (first old : Option (List ℕ)) (was : IsAfter s longest given before first old)
@@ -242,8 +256,7 @@ pub ended_skipped : (s : Format) (longest : ℕ) (given : List ℕ) (before afte
     → before.skipping ≡ true → IsAfter s longest (given ++ 0 ∷ []) after first old
 ended_skipped s longest given before after first old was limit start count holds ends on =
     let over = was.over on in
-    answered_by s longest given before after first old old was limit start count holds ends overfull (omega arith)
-    (rw (over_line s longest (length (bytes_of was.lines.answered)) was.lines.rest over) at was.lines.printed)
+    answered_by s longest given before after first old old was limit start count holds ends overfull was.lines.mid (omega arith) was.lines.frames (was.lines.last.over over)
 
 -- ---- pieces
 
@@ -291,22 +304,12 @@ takes_frame s a b c d piece eaten rest part after more end old mid mid' new cut 
     )
 
 -- What is printed stays so if the output keeps its bytes.
-prints_kept : (said : Option (List ℕ)) (old mid new : Option (List ℕ)) → Prints said old mid → Keeps mid new → Prints said old new
-prints_kept None old mid new p same = tt
-prints_kept (Some shown) old mid new p same = Appends-kept old mid new shown p same
-
 pub continues_kept : (s : Format) (a b : Stream) (x : List ℕ) (old mid new : Option (List ℕ)) → Continues s a x b old mid → Keeps mid new → Continues s a x b old new
+unfolding stream_followed
 continues_kept s a b x old mid new p same longest given first h =
     let w = p longest given first h in
     record {
-      lines = record {
-        answered = w.lines.answered;
-        rest = w.lines.rest;
-        cut = w.lines.cut;
-        are = w.lines.are;
-        rest_no_zero = w.lines.rest_no_zero;
-        printed = prints_kept (answer_lines s 0 w.lines.answered ++? rest_line s longest (length (bytes_of w.lines.answered)) w.lines.rest) first mid new w.lines.printed same;
-      };
+      lines = stream_followed s longest (given ++ x) first mid new w.lines (Appends-kept mid mid new [] (Appends-nil mid) same);
       limit = w.limit;
       start = w.start;
       count = w.count;
@@ -341,7 +344,7 @@ module _ (s : Format) (longest : ℕ) (given : List ℕ) (known now left old mid
   }
 
   -- The failure of a read is one of the stream.
-  pub read_fails : (steady steady' : Type 0) (e : Failure) → (steady → steady') → ReadFails steady' now left mid new e
+  pub read_fails : (steady steady' : Type 0) (e : Failure) → (steady → steady') → ReadFails s steady' now left mid new e
       → ValuesFail steady s longest known left old new e
   read_fails steady steady' ReadFailed still h = (
     λ t. h.0 (still t),
@@ -353,6 +356,7 @@ module _ (s : Format) (longest : ℕ) (given : List ℕ) (known now left old mid
       },
     ),
   )
+  read_fails steady steady' (Library e) still h = h
   read_fails steady steady' OutOfMemory still h = tt
   read_fails steady steady' Output still h = tt
   read_fails steady steady' e still h = absurd h
@@ -373,35 +377,34 @@ not_behind s bytes behind v is lacks =
 -- The line of a value at the front of the data is printed.
 pub message_value : (r : Result (Unit {0}) Failure) (s : Format) (at : ℕ) (message behind : List ℕ) (v : Value) (rest : List ℕ) (old new : Option (List ℕ))
     → ReadsValue s.schema message v behind → IsBehind s.checksum (take (length message - length behind) message) behind rest
-    → OnOk r (Prints (answer_line s at (value v rest)) old new) → OnOk r (PrintsMessage s at message old new)
+    → OnOk r (PrintsAnswerLine s at (value v rest) old new) → OnOk r (PrintsMessage s at message old new)
 message_value (Ok done) s at message behind v rest old new is follows printed = (value v rest, read_behind s message behind rest v is follows, printed)
 message_value (Err e) s at message behind v rest old new is follows printed = tt
 
 -- The line of data whose checksum is wrong is printed.
 pub message_unchecked : (r : Result (Unit {0}) Failure) (s : Format) (at : ℕ) (message behind : List ℕ) (v : Value) (old new : Option (List ℕ))
     → ReadsValue s.schema message v behind → LacksChecksum s.checksum (take (length message - length behind) message) behind
-    → OnOk r (Prints (answer_line s at (unchecked message)) old new) → OnOk r (PrintsMessage s at message old new)
+    → OnOk r (PrintsAnswerLine s at (unchecked message) old new) → OnOk r (PrintsMessage s at message old new)
 message_unchecked (Ok done) s at message behind v old new is lacks printed = (unchecked message, (refl, not_behind s message behind v is lacks), printed)
 message_unchecked (Err e) s at message behind v old new is lacks printed = tt
 
 -- The line of data that is refused is printed.
 pub message_refused : (r : Result (Unit {0}) Failure) (s : Format) (at : ℕ) (message : List ℕ) (e : Error) (old new : Option (List ℕ))
-    → ((v : Value) (rest : List ℕ) → ReadsValue s.schema message v rest → ⊥) → IsReadError memory e → e ≢ errors.OutOfMemory → HasNoFront s.schema message
-    → OnOk r ((place : List ℕ) × (HasNoFront s.schema message → IsPlaceOf s.schema message place) × Prints (answer_line s at (refused place e message)) old new)
+    → ((v : Value) (rest : List ℕ) → ReadsValue s.schema message v rest → ⊥) → IsReadError memory e → e ≢ errors.OutOfMemory
+    → OnOk r ((path : List ℕ) × IsPathOf s.schema message path × PrintsAnswerLine s at (refused path e message) old new)
     → OnOk r (PrintsMessage s at message old new)
-message_refused (Ok done) s at message e old new none named full unread (place, is, printed) =
-    (refused place e message, (refl, none, named, full, is unread), printed)
-message_refused (Err f) s at message e old new none named full unread printed = tt
+message_refused (Ok done) s at message e old new none named full (path, is, printed) = (refused path e message, (refl, none, named, full, is), printed)
+message_refused (Err f) s at message e old new none named full printed = tt
 
 -- The line of the data of a frame is that of the frame.
 pub frame_answer : (s : Format) (longest at : ℕ) (frame message : List ℕ) (old new : Option (List ℕ)) → length frame + 1 ≤ longest → Groups frame message
     → PrintsMessage s at message old new → PrintsAnswer s longest at frame old new
 frame_answer s longest at frame message old new fits groups (value v rest, is, printed) = (value v rest, (fits, (message, groups, is)), printed)
-frame_answer s longest at frame message old new fits groups (refused place e bytes, is, printed) =
+frame_answer s longest at frame message old new fits groups (refused path e bytes, is, printed) =
     let P : List ℕ → Type 0 = λ t. Groups frame t in
     let Q : List ℕ → Type 0 = λ t. (v : Value) (rest : List ℕ) → ReadsValue s.schema t v rest → ⊥ in
-    let At : List ℕ → Type 0 = λ t. IsPlaceOf s.schema t place in
-    (refused place e bytes, (fits, subst P (sym is.0) groups, subst Q (sym is.0) is.1, is.2, is.3, subst At (sym is.0) is.4), printed)
+    let At : List ℕ → Type 0 = λ t. IsPathOf s.schema t path in
+    (refused path e bytes, (fits, subst P (sym is.0) groups, subst Q (sym is.0) is.1, is.2, is.3, subst At (sym is.0) is.4), printed)
 frame_answer s longest at frame message old new fits groups (unchecked bytes, is, printed) =
     let P : List ℕ → Type 0 = λ t. Groups frame t × IsUnchecked s t in
     let both = subst P (sym is.0) (groups, is.1) in
@@ -428,31 +431,42 @@ one_piece s longest before after piece old new limit held skipping start count h
 
 -- A frame without a zero that no data has is damaged.
 pub damaged_answer : (s : Format) (longest at : ℕ) (frame : List ℕ) (old new : Option (List ℕ)) → length frame + 1 ≤ longest → NoZero frame
-    → ((d : List ℕ) → Groups (before_zero frame) d → ⊥) → Prints (answer_line s at (damaged frame)) old new → PrintsAnswer s longest at frame old new
+    → ((d : List ℕ) → Groups (before_zero frame) d → ⊥) → PrintsAnswerLine s at (damaged frame) old new → PrintsAnswer s longest at frame old new
 damaged_answer s longest at frame old new fits free none printed =
     (damaged frame, (fits, refl, λ d groups. none d (rw (before_zero_all frame free) groups)), printed)
 
--- A failure of a stream of messages without a checksum is one of `frames TYPE`.
-pub plain_fails : (steady : Type 0) (expression : List ℕ) (s : Format) (longest : ℕ) (known left old new : Option (List ℕ)) (e : Failure) → IsPlain s expression
-    → ValuesFail steady s longest known left old new e → StreamFails steady expression longest known left old new e
-plain_fails steady expression s longest known left old new BadType plain h = absurd h
-plain_fails steady expression s longest known left old new (Library e) plain h = absurd h
-plain_fails steady expression s longest known left old new Output plain h = tt
-plain_fails steady expression s longest known left old new e plain h = (s, plain, h)
+-- A value that has no line has none in JSON.
+lacks_line : (n notation : Notation) (e : Error) → n ≡ notation → LacksLine n e → IsStreamError notation e
+lacks_line Text notation e is h = absurd h
+lacks_line Json Text e is h = cc is
+lacks_line Json Json e is h = inr h
+
+-- A failure of a stream of messages without a checksum is one of `frames TYPE`, or of `frames --json TYPE`.
+pub plain_fails : (steady : Type 0) (notation : Notation) (expression : List ℕ) (s : Format) (longest : ℕ) (known left old new : Option (List ℕ)) (e : Failure)
+    → IsPlain notation s expression → ValuesFail steady s longest known left old new e → StreamFails steady notation expression longest known left old new e
+plain_fails steady notation expression s longest known left old new BadType plain h = absurd h
+plain_fails steady notation expression s longest known left old new (Library e) plain h = lacks_line s.notation notation e plain.2 h
+plain_fails steady notation expression s longest known left old new Output plain h = tt
+plain_fails steady notation expression s longest known left old new e plain h = (s, plain, h)
+
+-- In text each value has a line.
+no_lack : (n : Notation) (e : Error) → n ≡ Text → LacksLine n e → ⊥
+no_lack Text e is h = h
+no_lack Json e is h = cc is
 
 -- A failure of a stream of messages with a checksum is one of `frames --crc NAME TYPE`.
 pub named_fails : (steady : Type 0) (name expression : List ℕ) (s : Format) (known left old new : Option (List ℕ)) (e : Failure) → IsNamed s name expression
     → ValuesFail steady s 65536 known left old new e → StreamCheckedFails steady name expression known left old new e
 named_fails steady name expression s known left old new UnknownChecksum named h = absurd h
 named_fails steady name expression s known left old new BadType named h = absurd h
-named_fails steady name expression s known left old new (Library e) named h = absurd h
+named_fails steady name expression s known left old new (Library e) named h = absurd (no_lack s.notation e named.2 h)
 named_fails steady name expression s known left old new Output named h = tt
 named_fails steady name expression s known left old new e named h = (s, named, h)
 
 -- A failure of the lines of a piece is one of `frames --hex`.
-pub hex_frames_fail : (reads : ℕ) (steady : Type 0) (expression hex : List ℕ) (known left old new : Option (List ℕ)) (e : Failure) → (e ≡ OutOfMemory) ⊎ (e ≡ Output)
+pub hex_frames_fail : (reads : ℕ) (steady : Type 0) (expression hex : List ℕ) (s : Format) (known left old new : Option (List ℕ)) (e : Failure) → s.notation ≡ Text → LinesFail s e
     → FramesHexFail reads steady expression hex known left old new e
-hex_frames_fail reads steady expression hex known left old new e (inl is) =
-    let P : Failure → Type 0 = λ x. FramesHexFail reads steady expression hex known left old new x in subst P (sym is) tt
-hex_frames_fail reads steady expression hex known left old new e (inr is) =
-    let P : Failure → Type 0 = λ x. FramesHexFail reads steady expression hex known left old new x in subst P (sym is) tt
+hex_frames_fail reads steady expression hex s known left old new (Library e) text h = absurd (no_lack s.notation e text h)
+hex_frames_fail reads steady expression hex s known left old new OutOfMemory text h = tt
+hex_frames_fail reads steady expression hex s known left old new Output text h = tt
+hex_frames_fail reads steady expression hex s known left old new e text h = absurd h

@@ -13,6 +13,7 @@ use Rattle.postcard_cli.specs.Checked.{IsEncoding}
 use Rattle.postcard_cli.specs.Message.{Prints, ReadsValue, StandsFor}
 use Rattle.postcard_cli.specs.Stream.{IsPlain, PrintsLines, more_text}
 use Rattle.postcard_cli.specs.declared.stream.Format.{Format}
+use Rattle.postcard_cli.specs.declared.stream.Notation.TheVariants.{Text}
 
 -- What `enc --frame` prints: the frame of the encoding, its zero included, in hexadecimal on a line.
 pub record PrintsEncodedFrame (expression word : List ℕ) (old new : Option (List ℕ)) : Type 0 where
@@ -42,7 +43,7 @@ pub record PrintsFirstFrame (expression hex : List ℕ) (known left old new : Op
 -- What `frames --hex` prints: the lines that `frames TYPE` prints for these bytes.
 pub record PrintsHexFrames (expression hex : List ℕ) (known left old new : Option (List ℕ)) : Type 0 where
   pub format : Format
-  pub plain : IsPlain format expression
+  pub plain : IsPlain Text format expression
   pub bytes : List ℕ
   pub stands : StandsFor hex known left bytes
   pub lines : PrintsLines format 65536 bytes old new

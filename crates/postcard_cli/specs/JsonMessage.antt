@@ -19,7 +19,7 @@ use Rattle.postcard_dyn_text.specs.Shown.{layout_of}
 use Rattle.postcard_dyn_json.specs.Reading.{IsJsonText}
 use Rattle.postcard_dyn_json.specs.Written.{json_of}
 use Rattle.postcard_cli.specs.Message.{ReadsValue, StandsFor}
-use Rattle.postcard_cli.specs.Stream.{reason_text}
+use Rattle.postcard_cli.specs.Reason.{reason_text}
 
 -- The text is the JSON (RFC 8259) of this data, without blanks: its items and members are in order, each once, and it is read as the
 -- data, if this nests at most 127 deep. Of the digits of a float only that is said.
@@ -47,6 +47,13 @@ field_text (b ∷ path) = codes ",\"field\":" ++ quoted (b ∷ path)
 abbrev pub refusal_text : ℕ → Error → List ℕ → List ℕ
 refusal_text at e path =
     codes "{\"at\":" ++ (decimal at ++ (codes ",\"error\":\"" ++ (reason_text e ++ (codes "\"" ++ (field_text path ++ codes "}")))))
+
+-- The line of a frame that has no value: the offset at which the frame begins, why, the member `field`, or nothing, and a member of
+-- this name with bytes.
+abbrev pub failed_line : ℕ → List ℕ → List ℕ → List ℕ → List ℕ → List ℕ
+failed_line at why field name bytes =
+    (codes "{\"at\":" ++ (decimal at ++ (codes ",\"error\":\"" ++ (why ++ (codes "\"" ++ (field ++ (codes ",\"" ++ (name ++ codes "\":\""))))))))
+    ++ (encode_lower bytes ++ codes "\"}\n")
 
 -- The line of the value, which begins at this offset, and of the bytes `rest` is printed.
 pub record PrintsJsonLine (schema : Schema) (at : ℕ) (v : Value) (rest : List ℕ) (old new : Option (List ℕ)) : Type 0 where

@@ -10,6 +10,7 @@ pub mod JsonMessage
 pub mod Message
 pub mod Place
 pub mod Program
+pub mod Reason
 pub mod Receiving
 pub mod Refusal
 pub mod Size

@@ -27,6 +27,7 @@ use Rattle.postcard_cli.specs.Value.{parts, SayEach, SomeSaysNone}
 use Rattle.postcard_cli.specs.declared.checksum.TheConstants.{CATALOG}
 use Rattle.postcard_cli.specs.declared.failure.Failure.{Failure}
 use Rattle.postcard_cli.specs.declared.stream.Format.{Format}
+use Rattle.postcard_cli.specs.declared.stream.Notation.TheVariants.{Text, Json}
 use Rattle.postcard_cli.specs.declared.program.Task.{Task}
 use Rattle.postcard_cli.specs.declared.program.Task.TheVariants as tasks
 use Rattle.postcard_cli.specs.declared.command.ValueType.{ValueType}
@@ -34,7 +35,7 @@ use Rattle.postcard_cli.specs.declared.command.ValueType.TheVariants.{U8, U16, U
 use Rattle.postcard_cli.specs.declared.command.TypeWord.{TypeWord}
 use Rattle.postcard_cli.specs.declared.command.TypeWord.TheVariants.{Named, Expression}
 use Rattle.postcard_cli.specs.declared.command.Command.{Command}
-use Rattle.postcard_cli.specs.declared.command.Command.TheVariants.{Encode, Decode, DecodeAll, EncodeChecked, DecodeChecked, EncodeJson, DecodeJson, DecodeAllJson, EncodeFramed, DecodeFramed, EncodeRaw, DecodeRaw, DecodeAllRaw, Frames, FramesOf, FramesChecked, FramesHex, Explain, Size, Types, Checksum, Catalog}
+use Rattle.postcard_cli.specs.declared.command.Command.TheVariants.{Encode, Decode, DecodeAll, EncodeChecked, DecodeChecked, EncodeJson, DecodeJson, DecodeAllJson, EncodeFramed, DecodeFramed, EncodeRaw, DecodeRaw, DecodeAllRaw, Frames, FramesOf, FramesChecked, FramesHex, FramesJson, Explain, Size, Types, Checksum, Catalog}
 
 -- The values of a type: what they are on the wire, in a word, and as text.
 pub record Form : Type 1 where
@@ -171,10 +172,12 @@ Performs syntax (DecodeRaw expression) known left old new = PrintsFirstRaw expre
 Performs syntax (DecodeAllRaw expression) known left old new = PrintsAllRaw expression.now known left old new
 Performs syntax Frames known left old new = PrintsAnswers known left old new
 Performs syntax (FramesOf expression longest) known left old new =
-    (format : Format) × IsPlain format expression.now × PrintsValues format longest known left old new
+    (format : Format) × IsPlain Text format expression.now × PrintsValues format longest known left old new
 Performs syntax (FramesChecked name expression) known left old new =
     (format : Format) × IsNamed format name.now expression.now × PrintsValues format 65536 known left old new
 Performs syntax (FramesHex expression hex) known left old new = PrintsHexFrames expression.now hex.now known left old new
+Performs syntax (FramesJson expression) known left old new =
+    (format : Format) × IsPlain Json format expression.now × PrintsValues format 65536 known left old new
 Performs syntax (Explain expression hex all) known left old new = PrintsExplained expression.now hex.now all known left old new
 Performs syntax (Size expression) known left old new = PrintsSize expression.now old new
 Performs syntax Types known left old new = Appends old new syntax

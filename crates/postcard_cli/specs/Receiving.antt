@@ -1,16 +1,19 @@
 -- The state of a stream between two pieces, and what takes it on.
 use Rattle.std.specs.Prelude.{◌≡◌, ◌≢◌, ℕ, ◌<◌, ◌≤◌, ⊤, Bool, true, false, List, ◌++◌, length, Option}
 use Rattle.std.specs.Io.KnownBytes.{Consumes, IsAtEnd, Keeps}
+use Rattle.postcard_wire.specs.declared.error.Error.{Error}
 use Rattle.postcard_wire.specs.declared.error.Error.TheVariants as errors
 use Rattle.postcard_shape.specs.Shape.{memory}
 use Rattle.postcard_de.specs.Reads.{IsReadError}
 use Rattle.postcard_dyn.specs.declared.value.Value.{Value}
-use Rattle.postcard_cli.specs.Message.{Prints, ReadsValue}
-use Rattle.postcard_cli.specs.Place.{IsPlaceOf}
-use Rattle.postcard_cli.specs.Stream.{Answer, value, refused, unchecked, damaged, overfull, IsAnswerTo, IsUnchecked, ReadsData, answer_line, bytes_of, offset, PrintsLines}
+use Rattle.postcard_cli.specs.Message.{ReadsValue}
+use Rattle.postcard_cli.specs.Place.{IsPathOf}
+use Rattle.postcard_cli.specs.Stream.{Answer, value, refused, unchecked, damaged, overfull, IsAnswerTo, IsUnchecked, PrintsAnswerLine, ReadsData, bytes_of, offset, PrintsLines}
 use Rattle.postcard_cli.specs.declared.failure.Failure.{Failure}
-use Rattle.postcard_cli.specs.declared.failure.Failure.TheVariants.{OutOfMemory, Output, ReadFailed}
+use Rattle.postcard_cli.specs.declared.failure.Failure.TheVariants.{Library, OutOfMemory, Output, ReadFailed}
 use Rattle.postcard_cli.specs.declared.stream.Format.{Format}
+use Rattle.postcard_cli.specs.declared.stream.Notation.{Notation}
+use Rattle.postcard_cli.specs.declared.stream.Notation.TheVariants.{Text, Json}
 use Rattle.postcard_cli.specs.declared.stream.Stream.{Stream}
 
 -- The lines of the bytes `given` are printed, and the state is that after them.
@@ -32,20 +35,20 @@ Continues format before piece after old new =
 -- The answer is right for the data of a frame.
 abbrev pub IsMessageAnswer : Format → List ℕ → Answer → Type 0
 IsMessageAnswer format message (value v rest) = ReadsData format message v rest
-IsMessageAnswer format message (refused place e bytes) =
+IsMessageAnswer format message (refused path e bytes) =
     (bytes ≡ message) × ((v : Value) (rest : List ℕ) → ReadsValue format.schema message v rest → ⊥) × IsReadError memory e × (e ≢ errors.OutOfMemory)
-    × IsPlaceOf format.schema message place
+    × IsPathOf format.schema message path
 IsMessageAnswer format message (unchecked bytes) = (bytes ≡ message) × IsUnchecked format message
 IsMessageAnswer format message (damaged bytes) = ⊥
 IsMessageAnswer format message overfull = ⊥
 
 -- The line of an answer that is right for the data of the frame at an offset is printed.
 abbrev pub PrintsMessage : Format → ℕ → List ℕ → Option (List ℕ) → Option (List ℕ) → Type 0
-PrintsMessage format at message old new = (answer : Answer) × IsMessageAnswer format message answer × Prints (answer_line format at answer) old new
+PrintsMessage format at message old new = (answer : Answer) × IsMessageAnswer format message answer × PrintsAnswerLine format at answer old new
 
 -- The line of an answer that is right for the frame at an offset is printed.
 abbrev pub PrintsAnswer : Format → ℕ → ℕ → List ℕ → Option (List ℕ) → Option (List ℕ) → Type 0
-PrintsAnswer format longest at frame old new = (answer : Answer) × IsAnswerTo format longest frame answer × Prints (answer_line format at answer) old new
+PrintsAnswer format longest at frame old new = (answer : Answer) × IsAnswerTo format longest frame answer × PrintsAnswerLine format at answer old new
 
 -- Of the two states only the room for data differs.
 pub record IsSame (before after : Stream) : Type 0 where
@@ -64,10 +67,20 @@ pub record Reads (format : Format) (before after : Stream) (known left old new :
   pub some : more ≡ true → 0 < length piece
   pub at_end : more ≡ false → IsAtEnd left
 
+-- The error of a value that has no line in a notation: it has no JSON. That no value is so is not proved.
+abbrev pub LacksLine : Notation → Error → Type 0
+LacksLine Text e = ⊥
+LacksLine Json e = e ≡ errors.WontImplement
+
+-- The failures of printing the lines of frames.
+abbrev pub LinesFail : Format → Failure → Type 0
+LinesFail format (Library e) = LacksLine format.notation e
+LinesFail format OutOfMemory = ⊤
+LinesFail format Output = ⊤
+LinesFail format failure = ⊥
+
 -- The failures of a read and of printing its lines. A read that failed took nothing, and printed
 -- nothing.
-abbrev pub ReadFails : Type 0 → Option (List ℕ) → Option (List ℕ) → Option (List ℕ) → Option (List ℕ) → Failure → Type 0
-ReadFails steady known left old new ReadFailed = (steady → ⊥) × Keeps known left × (new ≡ old)
-ReadFails steady known left old new OutOfMemory = ⊤
-ReadFails steady known left old new Output = ⊤
-ReadFails steady known left old new failure = ⊥
+abbrev pub ReadFails : Format → Type 0 → Option (List ℕ) → Option (List ℕ) → Option (List ℕ) → Option (List ℕ) → Failure → Type 0
+ReadFails format steady known left old new ReadFailed = (steady → ⊥) × Keeps known left × (new ≡ old)
+ReadFails format steady known left old new failure = LinesFail format failure

@@ -38,15 +38,19 @@ use Rattle.postcard_cli.specs.JsonMessage.{PrintsJsonLines, SpellsJson, refusal_
 use Rattle.postcard_cli.specs.Message.{lines_of, IsInput, Prints, ReadsValue, ReadsValues, StandsFor}
 use Rattle.postcard_cli.specs.Place.{IsPathOf, IsPlaceOf}
 use Rattle.postcard_cli.specs.Program.{Does, Form, form_of, PrintsCall}
-use Rattle.postcard_cli.specs.Stream.{IsNamed, IsPlain, PrintsSoFar, reason_text, refused_text}
+use Rattle.postcard_cli.specs.Reason.{reason_text}
+use Rattle.postcard_cli.specs.Receiving.{LinesFail}
+use Rattle.postcard_cli.specs.Stream.{IsNamed, IsPlain, PrintsSoFar, refused_text}
 use Rattle.postcard_cli.specs.declared.checksum.Checksum.{Checksum}
 use Rattle.postcard_cli.specs.declared.program.Task.{Task}
 use Rattle.postcard_cli.specs.declared.program.Task.TheVariants as tasks
 use Rattle.postcard_cli.specs.declared.command.TypeWord.{TypeWord}
 use Rattle.postcard_cli.specs.declared.command.TypeWord.TheVariants.{Named, Expression}
 use Rattle.postcard_cli.specs.declared.command.Command.{Command}
-use Rattle.postcard_cli.specs.declared.command.Command.TheVariants.{Encode, Decode, DecodeAll, EncodeChecked, DecodeChecked, EncodeJson, DecodeJson, DecodeAllJson, EncodeFramed, DecodeFramed, EncodeRaw, DecodeRaw, DecodeAllRaw, Frames, FramesOf, FramesChecked, FramesHex, Explain, Size, Types, Checksum as ChecksumOf, Catalog}
+use Rattle.postcard_cli.specs.declared.command.Command.TheVariants.{Encode, Decode, DecodeAll, EncodeChecked, DecodeChecked, EncodeJson, DecodeJson, DecodeAllJson, EncodeFramed, DecodeFramed, EncodeRaw, DecodeRaw, DecodeAllRaw, Frames, FramesOf, FramesChecked, FramesHex, FramesJson, Explain, Size, Types, Checksum as ChecksumOf, Catalog}
 use Rattle.postcard_cli.specs.declared.stream.Format.{Format}
+use Rattle.postcard_cli.specs.declared.stream.Notation.{Notation}
+use Rattle.postcard_cli.specs.declared.stream.Notation.TheVariants.{Text, Json}
 use Rattle.postcard_cli.specs.declared.failure.Failure.{Failure}
 use Rattle.postcard_cli.specs.declared.failure.Failure.TheVariants.{Usage, BadType, BadValue, BadHex, BadHexAt, UnknownChecksum, Library, Refused, Output, Limit, ReadFailed}
 use Rattle.postcard_cli.specs.declared.failure.Failure.TheVariants as failed
@@ -496,16 +500,20 @@ FramesFail steady known left old new failure = ⊥
 abbrev pub ValuesFail : Type 0 → Format → ℕ → Option (List ℕ) → Option (List ℕ) → Option (List ℕ) → Option (List ℕ) → Failure → Type 0
 ValuesFail steady format longest known left old new Limit = (given : List ℕ) × (2 ^ 64 - 1 ≤ length given) × PrintsSoFar format longest given known left old new
 ValuesFail steady format longest known left old new ReadFailed = (steady → ⊥) × ((given : List ℕ) × PrintsSoFar format longest given known left old new)
-ValuesFail steady format longest known left old new failed.OutOfMemory = ⊤
-ValuesFail steady format longest known left old new Output = ⊤
-ValuesFail steady format longest known left old new failure = ⊥
+ValuesFail steady format longest known left old new failure = LinesFail format failure
 
--- The failures of `frames TYPE`.
-abbrev pub StreamFails : Type 0 → List ℕ → ℕ → Option (List ℕ) → Option (List ℕ) → Option (List ℕ) → Option (List ℕ) → Failure → Type 0
-StreamFails steady expression longest known left old new BadType = IsTypeRefused expression old new
-StreamFails steady expression longest known left old new (Library e) = e ≡ OutOfMemory
-StreamFails steady expression longest known left old new Output = ⊤
-StreamFails steady expression longest known left old new failure = (format : Format) × IsPlain format expression × ValuesFail steady format longest known left old new failure
+-- The library's errors of a stream whose lines are in a notation. That a value has JSON is not proved.
+abbrev pub IsStreamError : Notation → Error → Type 0
+IsStreamError Text e = e ≡ OutOfMemory
+IsStreamError Json e = (e ≡ OutOfMemory) ⊎ (e ≡ WontImplement)
+
+-- The failures of `frames TYPE`, and of `frames --json TYPE`.
+abbrev pub StreamFails : Type 0 → Notation → List ℕ → ℕ → Option (List ℕ) → Option (List ℕ) → Option (List ℕ) → Option (List ℕ) → Failure → Type 0
+StreamFails steady notation expression longest known left old new BadType = IsTypeRefused expression old new
+StreamFails steady notation expression longest known left old new (Library e) = IsStreamError notation e
+StreamFails steady notation expression longest known left old new Output = ⊤
+StreamFails steady notation expression longest known left old new failure =
+    (format : Format) × IsPlain notation format expression × ValuesFail steady format longest known left old new failure
 
 -- The failures of `frames --crc NAME TYPE`.
 abbrev pub StreamCheckedFails : Type 0 → List ℕ → List ℕ → Option (List ℕ) → Option (List ℕ) → Option (List ℕ) → Option (List ℕ) → Failure → Type 0
@@ -552,9 +560,10 @@ CommandFails reads steady (EncodeRaw expression value) known left old new failur
 CommandFails reads steady (DecodeRaw expression) known left old new failure = DecodeRawFails reads steady expression.now known left old new failure
 CommandFails reads steady (DecodeAllRaw expression) known left old new failure = DecodeAllRawFails reads steady expression.now known left old new failure
 CommandFails reads steady Frames known left old new failure = FramesFail steady known left old new failure
-CommandFails reads steady (FramesOf expression longest) known left old new failure = StreamFails steady expression.now longest known left old new failure
+CommandFails reads steady (FramesOf expression longest) known left old new failure = StreamFails steady Text expression.now longest known left old new failure
 CommandFails reads steady (FramesChecked name expression) known left old new failure = StreamCheckedFails steady name.now expression.now known left old new failure
 CommandFails reads steady (FramesHex expression hex) known left old new failure = FramesHexFail reads steady expression.now hex.now known left old new failure
+CommandFails reads steady (FramesJson expression) known left old new failure = StreamFails steady Json expression.now 65536 known left old new failure
 CommandFails reads steady (Explain expression hex all) known left old new failure = ExplainFails reads steady expression.now hex.now all known left old new failure
 CommandFails reads steady (Size expression) known left old new failure = TypeFails expression.now old new failure
 CommandFails reads steady Types known left old new failure = failure ≡ Output

@@ -1,31 +1,37 @@
 -- What is printed for a stream of frames whose messages have a type that is given as an expression.
-use Rattle.std.specs.Prelude.{◌≡◌, ◌≢◌, ℕ, ◌+◌, ◌-◌, ◌^◌, ◌<◌, ◌≤◌, ⊤, min, nat_lt, nat_eq, if◌then◌else◌, List, [], ◌∷◌, ◌++◌, length, codes, Option, None, Some}
+use Rattle.std.specs.Prelude.{◌≡◌, ◌≢◌, ℕ, ◌+◌, ◌-◌, ◌^◌, ◌<◌, ◌≤◌, ⊤, min, nat_eq, if◌then◌else◌, List, [], ◌∷◌, ◌++◌, length, codes, Option, None, Some}
 use Rattle.std.specs.Fmt.{decimal, ◌++?◌}
-use Rattle.std.specs.Io.KnownBytes.{Consumes, IsAtEnd}
+use Rattle.std.specs.Io.KnownBytes.{Consumes, IsAtEnd, Appends}
 use Rattle.hex.specs.Hex.{encode_lower}
 use Rattle.postcard_wire.specs.declared.error.Error.{Error}
-use Rattle.postcard_wire.specs.declared.error.Error.TheVariants.{DeserializeUnexpectedEnd, DeserializeBadVarint, DeserializeBadBool, DeserializeBadChar, DeserializeBadUtf8, DeserializeBadOption, SerdeDeCustom, OutOfMemory}
+use Rattle.postcard_wire.specs.declared.error.Error.TheVariants.{OutOfMemory}
 use Rattle.postcard_cobs.specs.Groups.{NoZero, Groups}
 use Rattle.postcard_shape.specs.Shape.{memory}
 use Rattle.postcard_de.specs.Reads.{IsReadError}
 use Rattle.postcard_dyn_schema.specs.Grammar.{IsExpression}
+use Rattle.postcard_dyn_schema.specs.declared.schema.Schema.{Schema}
 use Rattle.postcard_dyn.specs.Tree.{tree}
 use Rattle.postcard_dyn.specs.declared.value.Value.{Value}
 use Rattle.postcard_dyn_text.specs.Shown.{layout_of, text}
 use Rattle.postcard_cli.specs.Checksum.{HasNoTrailer, IsTrailer, checksum_name}
+use Rattle.postcard_cli.specs.JsonMessage.{PrintsJsonLine, failed_line, field_text}
 use Rattle.postcard_cli.specs.Message.{Prints, ReadsValue}
-use Rattle.postcard_cli.specs.Place.{IsPlaceOf}
+use Rattle.postcard_cli.specs.Place.{IsPathOf, place_text}
+use Rattle.postcard_cli.specs.Reason.{reason_text}
 use Rattle.postcard_cli.specs.declared.checksum.Checksum.{Checksum}
 use Rattle.postcard_cli.specs.declared.stream.Format.{Format}
+use Rattle.postcard_cli.specs.declared.stream.Notation.{Notation}
+use Rattle.postcard_cli.specs.declared.stream.Notation.TheVariants.{Text, Json}
 
--- The format of messages of the expression, without a checksum.
-abbrev pub IsPlain : Format → List ℕ → Type 0
-IsPlain format expression = IsExpression format.schema expression × (format.checksum ≡ None)
+-- The format of messages of the expression, without a checksum, whose lines are in this notation.
+abbrev pub IsPlain : Notation → Format → List ℕ → Type 0
+IsPlain notation format expression =
+    IsExpression format.schema expression × (format.checksum ≡ None) × (format.notation ≡ notation)
 
--- The format of messages of the expression, with the checksum of this name behind them.
+-- The format of messages of the expression, with the checksum of this name behind them, whose lines are text.
 abbrev pub IsNamed : Format → List ℕ → List ℕ → Type 0
 IsNamed format name expression =
-    IsExpression format.schema expression × ((c : Checksum) × (name ≡ checksum_name c) × (format.checksum ≡ Some c))
+    IsExpression format.schema expression × ((c : Checksum) × (name ≡ checksum_name c) × (format.checksum ≡ Some c)) × (format.notation ≡ Text)
 
 -- What follows a message: the bytes of its checksum, if there is one, and then `rest`.
 abbrev pub IsBehind : Option Checksum → List ℕ → List ℕ → List ℕ → Type 0
@@ -47,9 +53,9 @@ abbrev pub IsUnchecked : Format → List ℕ → Type 0
 IsUnchecked format bytes =
     (v : Value) × (behind : List ℕ) × (is : ReadsValue format.schema bytes v behind) × LacksChecksum format.checksum is.front behind
 
--- The answer to a frame: the value at the front of its data, and the bytes of the data after it; the
--- place and the error of data that begins with no value, and the data; data without the checksum of its
--- message; the bytes of a frame that is no COBS frame; or that the frame is too long.
+-- The answer to a frame: the value at the front of its data, and the bytes of the data after it; the path
+-- of the part that can't be read, the error and the data of data that begins with no value; data without
+-- the checksum of its message; the bytes of a frame that is no COBS frame; or that the frame is too long.
 pub data Answer : Type 0 where
   value : Value → List ℕ → Answer
   refused : List ℕ → Error → List ℕ → Answer
@@ -62,9 +68,9 @@ pub data Answer : Type 0 where
 abbrev pub IsAnswerTo : Format → ℕ → List ℕ → Answer → Type 0
 IsAnswerTo format longest frame (value v rest) =
     (length frame + 1 ≤ longest) × ((message : List ℕ) × Groups frame message × ReadsData format message v rest)
-IsAnswerTo format longest frame (refused place e message) =
+IsAnswerTo format longest frame (refused path e message) =
     (length frame + 1 ≤ longest) × Groups frame message × ((v : Value) (rest : List ℕ) → ReadsValue format.schema message v rest → ⊥)
-    × IsReadError memory e × (e ≢ OutOfMemory) × IsPlaceOf format.schema message place
+    × IsReadError memory e × (e ≢ OutOfMemory) × IsPathOf format.schema message path
 IsAnswerTo format longest frame (unchecked message) = (length frame + 1 ≤ longest) × Groups frame message × IsUnchecked format message
 IsAnswerTo format longest frame (damaged bytes) =
     (length frame + 1 ≤ longest) × (bytes ≡ frame) × ((message : List ℕ) → Groups frame message → ⊥)
@@ -90,17 +96,6 @@ bytes_of (a ∷ more) = (a.frame ++ 0 ∷ []) ++ bytes_of more
 abbrev pub offset : ℕ → ℕ
 offset n = min n (2 ^ 64 - 1)
 
--- Why a message is no value, in a few words.
-abbrev pub reason_text : Error → List ℕ
-reason_text DeserializeUnexpectedEnd = codes "unexpected end"
-reason_text DeserializeBadVarint = codes "bad varint"
-reason_text DeserializeBadBool = codes "bad bool"
-reason_text DeserializeBadChar = codes "bad char"
-reason_text DeserializeBadUtf8 = codes "bad UTF-8"
-reason_text DeserializeBadOption = codes "bad option"
-reason_text SerdeDeCustom = codes "unknown variant"
-reason_text e = codes "refused"
-
 -- What `dec` prints of a refused message: the offset of the part that can't be read, its place, and why.
 abbrev pub refused_text : ℕ → List ℕ → Error → List ℕ
 refused_text at place e = codes "at byte " ++ (decimal at ++ (codes ": " ++ (place ++ reason_text e)))
@@ -115,27 +110,49 @@ more_text (b ∷ rest) =
     (codes " and " ++ (decimal (length (b ∷ rest)) ++ (codes " " ++ (noun_of (length (b ∷ rest)) ++ codes " more: "))))
     ++ encode_lower (b ∷ rest)
 
+-- The line of the frame at an offset that has no value: the place, why, and bytes.
+abbrev pub error_line : ℕ → List ℕ → List ℕ → List ℕ → List ℕ
+error_line at place why bytes =
+    (codes "error at byte " ++ (decimal at ++ (codes ": " ++ (place ++ (why ++ codes ": "))))) ++ (encode_lower bytes ++ 10 ∷ [])
+
 -- The line of an answer to the frame at an offset, or `None` if nothing is said of a value's text.
 abbrev pub answer_line : Format → ℕ → Answer → Option (List ℕ)
 answer_line format at (value v rest) = text (layout_of format.schema) (tree v) ++? Some (more_text rest ++ 10 ∷ [])
-answer_line format at (refused place e message) =
-    Some ((codes "error at byte " ++ (decimal at ++ (codes ": " ++ (place ++ (reason_text e ++ codes ": "))))) ++ (encode_lower message ++ 10 ∷ []))
-answer_line format at (unchecked message) =
-    Some ((codes "error at byte " ++ (decimal at ++ codes ": bad checksum: ")) ++ (encode_lower message ++ 10 ∷ []))
-answer_line format at (damaged bytes) =
-    Some ((codes "error at byte " ++ (decimal at ++ codes ": no COBS frame: ")) ++ (encode_lower bytes ++ 10 ∷ []))
+answer_line format at (refused path e message) = Some (error_line at (place_text path) (reason_text e) message)
+answer_line format at (unchecked message) = Some (error_line at [] (codes "bad checksum") message)
+answer_line format at (damaged bytes) = Some (error_line at [] (codes "no COBS frame") bytes)
 answer_line format at overfull = Some (codes "overfull at byte " ++ (decimal at ++ 10 ∷ []))
 
--- The lines of answers in order, where `before` bytes of the stream come before the first frame.
-abbrev pub answer_lines : Format → ℕ → List Answered → Option (List ℕ)
-answer_lines format before [] = Some []
-answer_lines format before (a ∷ more) =
-    answer_line format (offset before) a.answer ++? answer_lines format (before + length a.frame + 1) more
+-- The line of JSON of an answer to the frame at an offset is printed.
+abbrev pub PrintsJsonAnswer : Schema → ℕ → Answer → Option (List ℕ) → Option (List ℕ) → Type 0
+PrintsJsonAnswer schema at (value v rest) old new = PrintsJsonLine schema at v rest old new
+PrintsJsonAnswer schema at (refused path e message) old new =
+    Appends old new (failed_line at (reason_text e) (field_text path) (codes "data") message)
+PrintsJsonAnswer schema at (unchecked message) old new = Appends old new (failed_line at (codes "bad checksum") [] (codes "data") message)
+PrintsJsonAnswer schema at (damaged bytes) old new = Appends old new (failed_line at (codes "no COBS frame") [] (codes "frame") bytes)
+PrintsJsonAnswer schema at overfull old new = Appends old new (codes "{\"at\":" ++ (decimal at ++ codes ",\"error\":\"overfull\"}\n"))
 
--- The line of bytes after the last zero, before which there are `before` bytes: none, unless they
--- are too long already.
-abbrev pub rest_line : Format → ℕ → ℕ → List ℕ → Option (List ℕ)
-rest_line format longest before rest = if nat_lt longest (length rest) then answer_line format (offset before) overfull else Some []
+-- The line of an answer to the frame at an offset is printed in a notation.
+abbrev pub PrintsIn : Notation → Format → ℕ → Answer → Option (List ℕ) → Option (List ℕ) → Type 0
+PrintsIn Text format at answer old new = Prints (answer_line format at answer) old new
+PrintsIn Json format at answer old new = PrintsJsonAnswer format.schema at answer old new
+
+-- The same in the notation of the format.
+abbrev pub PrintsAnswerLine : Format → ℕ → Answer → Option (List ℕ) → Option (List ℕ) → Type 0
+PrintsAnswerLine format at answer old new = PrintsIn format.notation format at answer old new
+
+-- The lines of answers are printed, in order, where `before` bytes of the stream come before the first frame.
+abbrev pub PrintsAnswerLines : Format → ℕ → List Answered → Option (List ℕ) → Option (List ℕ) → Type 0
+PrintsAnswerLines format before [] old new = Appends old new []
+PrintsAnswerLines format before (a ∷ more) old new =
+    (mid : Option (List ℕ)) × PrintsAnswerLine format (offset before) a.answer old mid
+    × PrintsAnswerLines format (before + length a.frame + 1) more mid new
+
+-- The line of bytes after the last zero, before which there are `before` bytes, is printed: none, unless
+-- they are too long already.
+pub record PrintsRest (format : Format) (longest before : ℕ) (rest : List ℕ) (old new : Option (List ℕ)) : Type 0 where
+  pub over : longest < length rest → PrintsAnswerLine format (offset before) overfull old new
+  pub fits : length rest ≤ longest → Appends old new []
 
 -- The bytes `given` are frames, each ended by a zero, and then a rest without a zero. The lines of
 -- the frames' answers, and that of the rest, are printed.
@@ -145,7 +162,9 @@ pub record PrintsLines (format : Format) (longest : ℕ) (given : List ℕ) (old
   pub cut : given ≡ bytes_of answered ++ rest
   pub are : AreAnswered format longest answered
   pub rest_no_zero : NoZero rest
-  pub printed : Prints (answer_lines format 0 answered ++? rest_line format longest (length (bytes_of answered)) rest) old new
+  pub mid : Option (List ℕ)
+  pub frames : PrintsAnswerLines format 0 answered old mid
+  pub last : PrintsRest format longest (length (bytes_of answered)) rest mid new
 
 -- The bytes `given` were read, and their lines are printed.
 pub record PrintsSoFar (format : Format) (longest : ℕ) (given : List ℕ) (known left old new : Option (List ℕ)) : Type 0 where

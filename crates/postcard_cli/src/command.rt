@@ -191,6 +191,10 @@ pub enum Command<'a> {
         expression: &'a str,
         hex: &'a str,
     },
+    /// `frames --json TYPE`, where TYPE is taken as an expression.
+    FramesJson {
+        expression: &'a str,
+    },
     /// `explain TYPE HEX` or `explain --all TYPE HEX`, where TYPE is taken as an expression, and `all`
     /// is whether nothing is cut.
     Explain {
@@ -288,6 +292,7 @@ impl<'a> Command<'a> {
                 hex: text,
             }),
             _ if kind == "--raw" => Command::of_input(command, text),
+            "frames" if kind == "--json" => Some(Command::FramesJson { expression: text }),
             _ => Command::of_known_type(command, kind, text),
         }
     }
@@ -311,13 +316,15 @@ impl<'a> Command<'a> {
         }
     }
 
-    /// Returns the command of a call of three words, the second of which isn't `--raw`, but has to be
-    /// a name or count as an expression.
+    /// Returns the command of a call of three words, the second of which isn't `--raw`, and `--json` only
+    /// if the first isn't `frames`, but has to be a name or count as an expression.
     fn of_known_type(command: &'a str, kind: &'a str, text: &'a str) -> Option<Command<'a>>
         ensures found { IfSome result
             (λ found. IsCallOf (command.now ∷ kind.now ∷ text.now ∷ []) found) }
         ensures none { IfNone result (command.now ≢ codes "explain" → command.now ≢ codes "crc"
-            → kind.now ≢ codes "--raw" → IsNoCall (command.now ∷ kind.now ∷ text.now ∷ [])) }
+            → kind.now ≢ codes "--raw"
+            → (command.now ≡ codes "frames" → kind.now ≢ codes "--json")
+            → IsNoCall (command.now ∷ kind.now ∷ text.now ∷ [])) }
     {
         let Some(word) = TypeWord::from_word(kind) else {
             return None;

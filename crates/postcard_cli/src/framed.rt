@@ -8,7 +8,7 @@ ghost use Rattle.postcard_cli.specs.Framed.{PrintsEncodedFrame, PrintsFirstFrame
 ghost use Rattle.postcard_cli.specs.Message.{ReadsValue};
 ghost use Rattle.postcard_cli.specs.Refusal.{ContentFails, CutFails, DecodeFramedFails};
 ghost use Rattle.postcard_cli.specs.Refusal.{EncodeFails, UnpackFails};
-ghost use Rattle.postcard_cli.specs.Stream.{reason_text};
+ghost use Rattle.postcard_cli.specs.Reason.{reason_text};
 
 use crate::failure::Failure;
 use crate::hexadecimal;

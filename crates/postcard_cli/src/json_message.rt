@@ -160,7 +160,7 @@ fn print_front<'a, W: Write>(
 {
     let (value, after) = read_front(alloc, schema, all, rest, output)?;
     let at = all.len().saturating_sub(rest.len());
-    print_line(alloc, schema, &value, at, &[], output)?;
+    print_line(alloc, schema, &value, at as u64, &[], output)?;
     Ok(after)
 }
 
@@ -210,8 +210,9 @@ fn print_refused<W: Write>(
     Ok(())
 }
 
-/// Returns the member with the path of a part, or nothing if the path is empty.
-fn field_of(alloc: Global, path: &str) -> Result<String, AllocError>
+/// Returns the member with the path of a part, or nothing if the path is empty. Fails if an allocation
+/// fails.
+pub fn field_of(alloc: Global, path: &str) -> Result<String, AllocError>
     ensures { IfOk result (λ field. string_bytes field ≡ field_text path.now) }
 {
     if path.is_empty() {
@@ -232,11 +233,17 @@ fn quote(alloc: Global, text: &str) -> Result<String, AllocError>
 
 /// Prints the line of JSON of a value that begins at this offset, and of the bytes left after it, if
 /// there are some.
-fn print_line<W: Write>(
+///
+/// # Errors
+///
+/// Fails with `Library(OutOfMemory)` if an allocation fails, with `Library(WontImplement)` if the
+/// value has no JSON, both before anything is printed, and with `Output` if the output can't be
+/// written.
+pub fn print_line<W: Write>(
     alloc: Global,
     schema: &Schema,
     value: &Value,
-    at: usize,
+    at: u64,
     rest: &[u8],
     output: &mut W,
 ) -> Result<(), Failure>

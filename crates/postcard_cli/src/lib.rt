@@ -14,6 +14,7 @@ pub mod frames;
 pub mod hexadecimal;
 pub mod joined;
 pub mod json_message;
+pub mod json_stream;
 pub mod limits;
 pub mod message;
 pub mod pasted;

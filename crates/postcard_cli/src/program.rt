@@ -31,7 +31,8 @@ ghost use Rattle.postcard_cli.specs.Program.{
 use crate::command::{Command, TypeWord, ValueType};
 use crate::failure::Failure;
 use crate::joined::Joined;
-use crate::limits::{BUFFER, READS};
+use crate::limits::{BUFFER, LONGEST, READS};
+use crate::stream::Notation;
 use crate::syntax::SYNTAX;
 use crate::{
     checksum, explain, framed, frames, hexadecimal, json_message, message, size, stream, syntax,
@@ -181,12 +182,15 @@ fn carry_out<R: Source, W: Write>(
         Command::FramesOf {
             expression,
             longest,
-        } => { stream::print(alloc, expression, longest, input, output) }
+        } => stream::print(alloc, expression, Notation::Text, longest, input, output),
         Command::FramesChecked { name, expression } => {
             stream::print_checked(alloc, name, expression, input, output)
         }
         Command::FramesHex { expression, hex } => {
             stream::print_hex(alloc, expression, hex, input, output)
+        }
+        Command::FramesJson { expression } => {
+            stream::print(alloc, expression, Notation::Json, LONGEST, input, output)
         }
         Command::Explain {
             expression,

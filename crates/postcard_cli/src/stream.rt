@@ -1,33 +1,33 @@
-//! The command `frames TYPE`, which prints the values of a stream of frames, each on a line as soon
-//! as its frame has ended.
+//! The commands `frames TYPE` and `frames --json TYPE`, which print the values of a stream of frames,
+//! each on a line as soon as its frame has ended.
 
-ghost use Rattle.std.specs.Prelude.{◌≡◌, ◌+◌, ◌-◌, ◌^◌, ◌<◌, ◌≤◌, ◌⊎◌, ℕ, List, [], ◌∷◌, ◌++◌, length, codes};
+ghost use Rattle.std.specs.Prelude.{◌≡◌, ◌+◌, ◌-◌, ◌^◌, ◌<◌, ◌≤◌, ℕ, List, [], ◌∷◌, ◌++◌, length};
 ghost use Rattle.std.specs.Prelude.{Some, IfOk, IfErr, IfSome, IfNone, OnOk, false, min, take};
-ghost use Rattle.std.specs.Fmt.{decimal, ◌++?◌};
+ghost use Rattle.std.specs.Fmt.{◌++?◌};
 ghost use Rattle.std.specs.Io.KnownBytes.{Appends};
-ghost use Rattle.hex.specs.Hex.{encode_lower};
 ghost use Rattle.postcard_cobs.specs.Groups.{NoZero};
 ghost use Rattle.postcard_dyn.specs.Explained.{HasNoFront};
 ghost use Rattle.postcard_dyn.specs.Tree.{tree};
 ghost use Rattle.postcard_dyn_text.specs.Shown.{layout_of, text};
 ghost use Rattle.postcard_cli.specs.Framed.{PrintsHexFrames};
 ghost use Rattle.postcard_cli.specs.Message.{Prints};
-ghost use Rattle.postcard_cli.specs.Place.{IsPlaceOf};
-ghost use Rattle.postcard_cli.specs.Receiving.{Continues, IsSame, PrintsAnswer, PrintsMessage};
-ghost use Rattle.postcard_cli.specs.Receiving.{ReadFails, Reads};
+ghost use Rattle.postcard_cli.specs.Place.{IsPathOf};
+ghost use Rattle.postcard_cli.specs.Receiving.{Continues, IsSame, LinesFail, PrintsAnswer};
+ghost use Rattle.postcard_cli.specs.Receiving.{PrintsMessage, ReadFails, Reads};
 ghost use Rattle.postcard_cli.specs.Refusal.{FramesHexFail, StreamCheckedFails, StreamFails};
 ghost use Rattle.postcard_cli.specs.Refusal.{ValuesFail};
 ghost use Rattle.postcard_cli.specs.Stream.{IsBehind, IsNamed, IsPlain, LacksChecksum, PrintsValues};
-ghost use Rattle.postcard_cli.specs.Stream.{more_text, noun_of, reason_text};
+ghost use Rattle.postcard_cli.specs.Stream.{PrintsAnswerLine, damaged, error_line, more_text, noun_of};
+ghost use Rattle.postcard_cli.specs.Stream.{overfull, refused, unchecked, value as value_answer};
 ghost use Rattle.postcard_cli.specs.declared.stream.Format.{Format};
 
 use crate::checksum::Checksum;
 use crate::failure::Failure;
 use crate::limits::{CHUNK, LONGEST, READS};
 use crate::message::schema_of;
-use crate::place::place_of;
+use crate::place::{path_of, place_of};
 use crate::reason::reason;
-use crate::{checksum, hexadecimal};
+use crate::{checksum, hexadecimal, json_stream};
 use postcard_cobs::{decode_in_place, frame_len};
 use postcard_de_flavors::Source;
 use postcard_dyn::{Schema, Value, take_from_bytes};
@@ -37,7 +37,7 @@ use std::alloc::Global;
 use std::io::Write;
 
 /// Reads frames of messages of the type until the input ends, and prints a line for each once its
-/// zero was read:
+/// zero was read, as text or as JSON:
 ///
 /// - its value, and behind it the bytes of its data that come after the value, if there are some;
 /// - `error`, where in the stream it begins, and why, for a frame that begins with no such message
@@ -52,19 +52,21 @@ use std::io::Write;
 ///
 /// Fails with `BadType` if the expression is misspelled, with `Library(OutOfMemory)` if an
 /// allocation fails while it is read, with `OutOfMemory` if another allocation fails, with
-/// `ReadFailed` if a read fails, with `Output` if the output can't be written, and with `Limit`
-/// after 2^64 - 1 reads. The lines of what was read before are printed.
+/// `Library(WontImplement)` if a value has no JSON and JSON is asked for, with `ReadFailed` if a
+/// read fails, with `Output` if the output can't be written, and with `Limit` after 2^64 - 1 reads.
+/// The lines of what was read before are printed.
 pub fn print<R: Source, W: Write>(
     alloc: Global,
     expression: &str,
+    notation: Notation,
     longest: usize,
     input: &mut R,
     output: &mut W,
 ) -> Result<(), Failure>
-    ensures printed { OnOk result ((format : Format) × IsPlain format expression.now
+    ensures printed { OnOk result ((format : Format) × IsPlain notation format expression.now
         × PrintsValues format longest (R.remaining input.old) (R.remaining input.new)
         (W.contents output.old) (W.contents output.new)) }
-    ensures refused { IfErr result (StreamFails (R.steady input.old) expression.now longest
+    ensures refused { IfErr result (StreamFails (R.steady input.old) notation expression.now longest
         (R.remaining input.old) (R.remaining input.new)
         (W.contents output.old) (W.contents output.new)) }
 {
@@ -72,6 +74,7 @@ pub fn print<R: Source, W: Write>(
     let format = Format {
         schema,
         checksum: None,
+        notation,
     };
     print_values(alloc, &format, longest, input, output)
 }
@@ -102,6 +105,7 @@ pub fn print_checked<R: Source, W: Write>(
     let format = Format {
         schema,
         checksum: Some(checksum),
+        notation: Notation::Text,
     };
     print_values(alloc, &format, LONGEST, input, output)
 }
@@ -131,18 +135,31 @@ pub fn print_hex<R: Source, W: Write>(
     let format = Format {
         schema,
         checksum: None,
+        notation: Notation::Text,
     };
     let mut stream = Stream::new(alloc, LONGEST);
     stream.take(alloc, &format, &bytes, output)
 }
 
-/// What the data of a frame is: a message of a type, and the checksum behind it, if there is one.
+/// How the lines of a stream are written.
+#[derive(Clone, Copy)]
+pub enum Notation {
+    /// As text, for people.
+    Text,
+    /// As JSON, for programs.
+    Json,
+}
+
+/// What the data of a frame is: a message of a type, and the checksum behind it, if there is one; and
+/// how its line is written.
 #[derive(Drop)]
 pub struct Format {
     /// The type.
     pub schema: Schema,
     /// The algorithm of the checksum.
     pub checksum: Option<Checksum>,
+    /// The notation of the line.
+    pub notation: Notation,
 }
 
 /// Reads frames of this format until the input ends, and prints their lines.
@@ -222,7 +239,7 @@ impl Stream {
             (R.remaining input.old) (R.remaining input.new)
             (W.contents output.old) (W.contents output.new)) }
         ensures stays_steady { R.steady input.old → R.steady input.new }
-        ensures refused { IfErr result (ReadFails (R.steady input.old)
+        ensures refused { IfErr result (ReadFails format.now (R.steady input.old)
             (R.remaining input.old) (R.remaining input.new)
             (W.contents output.old) (W.contents output.new)) }
     {
@@ -245,7 +262,7 @@ impl Stream {
     ) -> Result<(), Failure>
         ensures printed { OnOk result (Continues format.now self.old piece.now self.new
             (W.contents output.old) (W.contents output.new)) }
-        ensures refused { IfErr result (λ e. (e ≡ Failure.OutOfMemory) ⊎ (e ≡ Failure.Output)) }
+        ensures refused { IfErr result (LinesFail format.now) }
     {
         let mut rest = piece;
         'parts: while !rest.is_empty() {
@@ -272,9 +289,8 @@ impl Stream {
         ensures printed { OnOk result (NoZero part.now
             → Continues format.now self.old part.now self.new
             (W.contents output.old) (W.contents output.new)) }
-        ensures refused { IfErr result (λ e. (e ≡ Failure.OutOfMemory) ⊎ (e ≡ Failure.Output)) }
+        ensures refused { IfErr result (LinesFail format.now) }
     {
-        let _ = format;
         self.count = self.count.saturating_add(part.len() as u64);
         if self.skipping {
             return Ok(());
@@ -282,7 +298,7 @@ impl Stream {
         if part.len() > self.longest.saturating_sub(self.held.len()) {
             self.held.clear();
             self.skipping = true;
-            print_overfull(self.start, output)?;
+            print_overfull(format, self.start, output)?;
             return Ok(());
         }
         match self.held.extend_from_slice(part) {
@@ -300,7 +316,7 @@ impl Stream {
     ) -> Result<(), Failure>
         ensures printed { OnOk result (Continues format.now self.old (0 ∷ []) self.new
             (W.contents output.old) (W.contents output.new)) }
-        ensures refused { IfErr result (λ e. (e ≡ Failure.OutOfMemory) ⊎ (e ≡ Failure.Output)) }
+        ensures refused { IfErr result (LinesFail format.now) }
     {
         if self.skipping {
             self.begin_frame();
@@ -336,10 +352,10 @@ impl Stream {
             → PrintsAnswer format.now self.old.longest self.old.start self.old.held.items
             (W.contents output.old) (W.contents output.new)) }
         ensures kept { OnOk result (IsSame self.old self.new) }
-        ensures refused { IfErr result (λ e. (e ≡ Failure.OutOfMemory) ⊎ (e ≡ Failure.Output)) }
+        ensures refused { IfErr result (LinesFail format.now) }
     {
         if self.held.len() >= self.longest {
-            print_overfull(self.start, output)?;
+            print_overfull(format, self.start, output)?;
             return Ok(());
         }
         print_answer(
@@ -355,12 +371,15 @@ impl Stream {
 }
 
 /// Prints that the frame at this offset is too long.
-fn print_overfull<W: Write>(start: u64, output: &mut W) -> Result<(), Failure>
-    ensures printed { OnOk result (Appends (W.contents output.old) (W.contents output.new)
-        (codes "overfull at byte " ++ (decimal start ++ 10 ∷ []))) }
+fn print_overfull<W: Write>(format: &Format, start: u64, output: &mut W) -> Result<(), Failure>
+    ensures printed { OnOk result (PrintsAnswerLine format.now start overfull
+        (W.contents output.old) (W.contents output.new)) }
     ensures refused { IfErr result (λ e. e ≡ Failure.Output) }
 {
-    writeln!(output, "overfull at byte {start}")?;
+    match format.notation {
+        Notation::Text => writeln!(output, "overfull at byte {start}")?,
+        Notation::Json => writeln!(output, "{{\"at\":{start},\"error\":\"overfull\"}}")?,
+    }
     Ok(())
 }
 
@@ -376,7 +395,7 @@ fn print_answer<W: Write>(
     ensures printed { OnOk result (NoZero frame.now → (longest : ℕ)
         → length frame.now + 1 ≤ longest → PrintsAnswer format.now longest start frame.now
         (W.contents output.old) (W.contents output.new)) }
-    ensures refused { IfErr result (λ e. (e ≡ Failure.OutOfMemory) ⊎ (e ≡ Failure.Output)) }
+    ensures refused { IfErr result (LinesFail format.now) }
 {
     message.clear();
     if message.extend_from_slice(frame).is_err() {
@@ -398,26 +417,31 @@ fn print_decoded<W: Write>(
     ensures printed { OnOk result (NoZero frame.now → (longest : ℕ)
         → length frame.now + 1 ≤ longest → PrintsAnswer format.now longest start frame.now
         (W.contents output.old) (W.contents output.new)) }
-    ensures refused { IfErr result (λ e. (e ≡ Failure.OutOfMemory) ⊎ (e ≡ Failure.Output)) }
+    ensures refused { IfErr result (LinesFail format.now) }
 {
     match decode_in_place(buffer) {
         Ok(count) => print_message(alloc, format, start, &buffer[..count], output)?,
-        Err(_) => print_damaged(start, frame, output)?,
+        Err(_) => print_damaged(format, start, frame, output)?,
     }
     Ok(())
 }
 
 /// Prints that the frame at this offset is no COBS frame, and its bytes.
-fn print_damaged<W: Write>(start: u64, frame: &[u8], output: &mut W) -> Result<(), Failure>
-    ensures printed { OnOk result (Appends (W.contents output.old) (W.contents output.new)
-        ((codes "error at byte " ++ (decimal start ++ codes ": no COBS frame: "))
-        ++ (encode_lower frame.now ++ 10 ∷ []))) }
+fn print_damaged<W: Write>(
+    format: &Format,
+    start: u64,
+    frame: &[u8],
+    output: &mut W,
+) -> Result<(), Failure>
+    ensures printed { OnOk result (PrintsAnswerLine format.now start (damaged frame.now)
+        (W.contents output.old) (W.contents output.new)) }
     ensures refused { IfErr result (λ e. e ≡ Failure.Output) }
 {
-    write!(output, "error at byte {start}: no COBS frame: ")?;
-    hexadecimal::write(frame, output)?;
-    writeln!(output)?;
-    Ok(())
+    let why = "no COBS frame";
+    match format.notation {
+        Notation::Text => print_error(start, "", why, frame, output),
+        Notation::Json => json_stream::print_error(start, why, "", "frame", frame, output),
+    }
 }
 
 /// Prints the line of the frame at this offset with this data.
@@ -430,16 +454,16 @@ fn print_message<W: Write>(
 ) -> Result<(), Failure>
     ensures printed { OnOk result (PrintsMessage format.now start message.now
         (W.contents output.old) (W.contents output.new)) }
-    ensures refused { IfErr result (λ e. (e ≡ Failure.OutOfMemory) ⊎ (e ≡ Failure.Output)) }
+    ensures refused { IfErr result (LinesFail format.now) }
 {
     match take_from_bytes(alloc, &format.schema, message) {
         Ok((value, behind)) => match rest_of(format.checksum, message, behind) {
-            Some(rest) => print_value(&format.schema, &value, rest, output),
-            None => print_unchecked(start, message, output),
+            Some(rest) => print_read(alloc, format, start, &value, rest, output),
+            None => print_unchecked(format, start, message, output),
         },
         Err(error) => match error {
             Error::OutOfMemory => Err(Failure::OutOfMemory),
-            _ => print_unread(alloc, &format.schema, start, message, &error, output),
+            _ => print_unread(alloc, format, start, message, &error, output),
         },
     }
 }
@@ -463,40 +487,74 @@ fn rest_of<'a>(checksum: Option<Checksum>, bytes: &[u8], behind: &'a [u8]) -> Op
 }
 
 /// Prints that the checksum in this data of the frame at this offset is wrong, and the data.
-fn print_unchecked<W: Write>(start: u64, content: &[u8], output: &mut W) -> Result<(), Failure>
-    ensures printed { OnOk result (Appends (W.contents output.old) (W.contents output.new)
-        ((codes "error at byte " ++ (decimal start ++ codes ": bad checksum: "))
-        ++ (encode_lower content.now ++ 10 ∷ []))) }
+fn print_unchecked<W: Write>(
+    format: &Format,
+    start: u64,
+    content: &[u8],
+    output: &mut W,
+) -> Result<(), Failure>
+    ensures printed { OnOk result (PrintsAnswerLine format.now start (unchecked content.now)
+        (W.contents output.old) (W.contents output.new)) }
     ensures refused { IfErr result (λ e. e ≡ Failure.Output) }
 {
-    write!(output, "error at byte {start}: bad checksum: ")?;
-    hexadecimal::write(content, output)?;
-    writeln!(output)?;
-    Ok(())
+    let why = "bad checksum";
+    match format.notation {
+        Notation::Text => print_error(start, "", why, content, output),
+        Notation::Json => json_stream::print_error(start, why, "", "data", content, output),
+    }
 }
 
 /// Prints at which place this data of the frame at this offset is refused, and why, and the data.
 fn print_unread<W: Write>(
     alloc: Global,
-    schema: &Schema,
+    format: &Format,
     start: u64,
     message: &[u8],
     error: &Error,
     output: &mut W,
 ) -> Result<(), Failure>
-    ensures printed { OnOk result ((place : List ℕ)
-        × (HasNoFront schema.now message.now → IsPlaceOf schema.now message.now place)
-        × Appends (W.contents output.old) (W.contents output.new)
-        ((codes "error at byte " ++ (decimal start ++ (codes ": " ++ (place
-        ++ (reason_text error.now ++ codes ": ")))))
-        ++ (encode_lower message.now ++ 10 ∷ []))) }
-    ensures refused { IfErr result (λ e. (e ≡ Failure.OutOfMemory) ⊎ (e ≡ Failure.Output)) }
+    requires { HasNoFront format.now.schema message.now }
+    ensures printed { OnOk result ((path : List ℕ) × IsPathOf format.now.schema message.now path
+        × PrintsAnswerLine format.now start (refused path error.now message.now)
+        (W.contents output.old) (W.contents output.new)) }
+    ensures refused { IfErr result (LinesFail format.now) }
 {
-    let Ok(place) = place_of(alloc, schema, message) else {
-        return Err(Failure::OutOfMemory);
-    };
-    print_refused(start, &place, error, message, output)?;
-    Ok(())
+    match format.notation {
+        Notation::Text => {
+            let Ok(place) = place_of(alloc, &format.schema, message) else {
+                return Err(Failure::OutOfMemory);
+            };
+            print_error(start, &place, reason(error), message, output)
+        }
+        Notation::Json => {
+            let Ok(path) = path_of(alloc, &format.schema, message) else {
+                return Err(Failure::OutOfMemory);
+            };
+            json_stream::print_refused(alloc, start, &path, error, message, output)
+        }
+    }
+}
+
+/// Prints the line of a value that the data of the frame at this offset has, and of the bytes of the
+/// data after it.
+fn print_read<W: Write>(
+    alloc: Global,
+    format: &Format,
+    start: u64,
+    value: &Value,
+    rest: &[u8],
+    output: &mut W,
+) -> Result<(), Failure>
+    ensures printed { OnOk result (PrintsAnswerLine format.now start
+        (value_answer value.now rest.now) (W.contents output.old) (W.contents output.new)) }
+    ensures refused { IfErr result (LinesFail format.now) }
+{
+    match format.notation {
+        Notation::Text => print_value(&format.schema, value, rest, output),
+        Notation::Json => {
+            json_stream::print_value(alloc, &format.schema, start, value, rest, output)
+        }
+    }
 }
 
 /// Prints a value, and the bytes of the frame's data after it, on a line.
@@ -540,23 +598,21 @@ fn noun(count: usize) -> &'static str
     if count == 1 { "byte" } else { "bytes" }
 }
 
-/// Prints that the data of the frame at this offset is refused at this place.
-fn print_refused<W: Write>(
+/// Prints why the frame at this offset has no value, with the place before, and the bytes of the frame
+/// or its data.
+fn print_error<W: Write>(
     start: u64,
     place: &str,
-    error: &Error,
-    message: &[u8],
+    why: &str,
+    bytes: &[u8],
     output: &mut W,
 ) -> Result<(), Failure>
     ensures printed { OnOk result (Appends (W.contents output.old) (W.contents output.new)
-        ((codes "error at byte " ++ (decimal start ++ (codes ": " ++ (place.now
-        ++ (reason_text error.now ++ codes ": ")))))
-        ++ (encode_lower message.now ++ 10 ∷ []))) }
+        (error_line start place.now why.now bytes.now)) }
     ensures refused { IfErr result (λ e. e ≡ Failure.Output) }
 {
-    let why = reason(error);
     write!(output, "error at byte {start}: {place}{why}: ")?;
-    hexadecimal::write(message, output)?;
+    hexadecimal::write(bytes, output)?;
     writeln!(output)?;
     Ok(())
 }

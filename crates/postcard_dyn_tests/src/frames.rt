@@ -141,6 +141,8 @@ const TYPED: [Call; 17] = [
 
 const OVERFULL: &str = "overfull at byte 0\n";
 
+const OVERFULL_JSON: &str = "{\"at\":0,\"error\":\"overfull\"}\n";
+
 /// Calls of `frames --longest LONGEST TYPE`.
 const LONGEST: [Call; 6] = [
     (
@@ -365,6 +367,8 @@ fn skips_frames_that_are_too_long(rt: HostRuntime) {
     let call = ["frames", "--longest", "65536", "(u8)"];
     check_over(&rt, &call, &ones(&rt, 65_537), OVERFULL, 0);
     check_over(&rt, &["frames", "(u8)"], &ones(&rt, 65_536), "", 0);
+    let call = ["frames", "--json", "u8"];
+    check_over(&rt, &call, &ones(&rt, 65_537), OVERFULL_JSON, 0);
 }
 
 #[test]

@@ -1,19 +1,20 @@
 use Rattle.std.proofs.Common.{Some, refl}
 use Rattle.std.proofs.lemmas.Result.{on_ok_weaker, IfErr-weaker}
 use Rattle.postcard_cli.specs.declared.stream.Format.{Format}
+use Rattle.postcard_cli.specs.declared.stream.Notation.TheVariants.{Text}
 use Rattle.postcard_cli.proofs.StreamLemmas.{named_fails}
 use Rattle.postcard_cli.proofs.stream.print_checked.Goals as goal
 
 pub returns-clause-printed : goal.returns-clause-printed
 returns-clause-printed g c =
-    let f : Format = record { schema = c.in_ok-schema.schema; checksum = Some c.in_ok-checksum.checksum } in
+    let f : Format = record { schema = c.in_ok-schema.schema; checksum = Some c.in_ok-checksum.checksum; notation = Text } in
     on_ok_weaker c.print_values.result
-    (λ h. (f, (c.in_ok-schema.ensures.spelled, (c.in_ok-checksum.checksum, c.in_ok-checksum.ensures.named, refl)), h))
+    (λ h. (f, (c.in_ok-schema.ensures.spelled, (c.in_ok-checksum.checksum, c.in_ok-checksum.ensures.named, refl), refl), h))
     (rw (c.in_ok-schema.ensures.untouched, c.in_ok-checksum.ensures.untouched) at c.print_values.ensures.printed)
 
 pub returns-clause-refused : goal.returns-clause-refused
 returns-clause-refused g c =
-    let f : Format = record { schema = c.in_ok-schema.schema; checksum = Some c.in_ok-checksum.checksum } in
+    let f : Format = record { schema = c.in_ok-schema.schema; checksum = Some c.in_ok-checksum.checksum; notation = Text } in
     IfErr-weaker c.print_values.result _ _
-    (λ e h. named_fails _ _ _ f _ _ _ _ e (c.in_ok-schema.ensures.spelled, (c.in_ok-checksum.checksum, c.in_ok-checksum.ensures.named, refl)) h)
+    (λ e h. named_fails _ _ _ f _ _ _ _ e (c.in_ok-schema.ensures.spelled, (c.in_ok-checksum.checksum, c.in_ok-checksum.ensures.named, refl), refl) h)
     (rw (c.in_ok-schema.ensures.untouched, c.in_ok-checksum.ensures.untouched) at c.print_values.ensures.refused)

@@ -1,5 +1,5 @@
 use Rattle.std.proofs.KnownBytes.{Appends-trans}
-use Rattle.postcard_cli.proofs.stream.print_damaged.Goals as goal
+use Rattle.postcard_cli.proofs.stream.print_error.Goals as goal
 
 pub returns-clause-printed : goal.returns-clause-printed
 returns-clause-printed g c =
