@@ -29,7 +29,7 @@ use Rattle.postcard_cli.specs.declared.failure.Failure.TheVariants as failed
 use Rattle.postcard_cli.specs.declared.command.TypeWord.{TypeWord}
 use Rattle.postcard_cli.specs.declared.command.TypeWord.TheVariants.{Named, Expression}
 use Rattle.postcard_cli.specs.declared.command.Command.{Command}
-use Rattle.postcard_cli.specs.declared.command.Command.TheVariants.{Encode, Decode, DecodeAll, EncodeChecked, DecodeChecked, EncodeJson, DecodeJson, DecodeAllJson, EncodeFramed, DecodeFramed, EncodeRaw, DecodeRaw, DecodeAllRaw, Frames, FramesOf, FramesChecked, FramesHex, FramesJson, Explain, ExplainJson, Size, Types, Checksum, Catalog}
+use Rattle.postcard_cli.specs.declared.command.Command.TheVariants.{Encode, Decode, DecodeAll, EncodeChecked, DecodeChecked, EncodeJson, DecodeJson, DecodeAllJson, EncodeFramed, EncodeFramedRaw, DecodeFramed, EncodeRaw, DecodeRaw, DecodeAllRaw, Frames, FramesOf, FramesChecked, FramesHex, FramesJson, Explain, ExplainJson, Size, Types, Checksum, Catalog}
 use Rattle.postcard_cli.proofs.JsonLemmas.{json_line_no_more}
 use Rattle.postcard_cli.proofs.MessageLemmas.{appends_no_more, prints_no_more}
 use Rattle.postcard_cli.proofs.StreamLemmas.{stream_followed}
@@ -200,6 +200,8 @@ performs_no_more syntax (DecodeAllJson expression hex) known left old mid new d 
   printed = json_lines_no_more d.schema d.bytes d.bytes d.values [] old mid new d.printed none;
 }
 performs_no_more syntax (EncodeFramed expression value) known left old mid new d none =
+    record { encoding = d.encoding; encodes = d.encodes; frame = d.frame; is = d.is; printed = appends_no_more old mid new _ d.printed none }
+performs_no_more syntax (EncodeFramedRaw expression value) known left old mid new d none =
     record { encoding = d.encoding; encodes = d.encodes; frame = d.frame; is = d.is; printed = appends_no_more old mid new _ d.printed none }
 performs_no_more syntax (DecodeFramed expression hex) known left old mid new d none = record {
   schema = d.schema;

@@ -48,7 +48,7 @@ use Rattle.postcard_cli.specs.declared.program.Task.TheVariants as tasks
 use Rattle.postcard_cli.specs.declared.command.TypeWord.{TypeWord}
 use Rattle.postcard_cli.specs.declared.command.TypeWord.TheVariants.{Named, Expression}
 use Rattle.postcard_cli.specs.declared.command.Command.{Command}
-use Rattle.postcard_cli.specs.declared.command.Command.TheVariants.{Encode, Decode, DecodeAll, EncodeChecked, DecodeChecked, EncodeJson, DecodeJson, DecodeAllJson, EncodeFramed, DecodeFramed, EncodeRaw, DecodeRaw, DecodeAllRaw, Frames, FramesOf, FramesChecked, FramesHex, FramesJson, Explain, ExplainJson, Size, Types, Checksum as ChecksumOf, Catalog}
+use Rattle.postcard_cli.specs.declared.command.Command.TheVariants.{Encode, Decode, DecodeAll, EncodeChecked, DecodeChecked, EncodeJson, DecodeJson, DecodeAllJson, EncodeFramed, EncodeFramedRaw, DecodeFramed, EncodeRaw, DecodeRaw, DecodeAllRaw, Frames, FramesOf, FramesChecked, FramesHex, FramesJson, Explain, ExplainJson, Size, Types, Checksum as ChecksumOf, Catalog}
 use Rattle.postcard_cli.specs.declared.stream.Format.{Format}
 use Rattle.postcard_cli.specs.declared.stream.Notation.{Notation}
 use Rattle.postcard_cli.specs.declared.stream.Notation.TheVariants.{Text, Json}
@@ -562,6 +562,7 @@ CommandFails reads steady (EncodeJson expression text) known left old new failur
 CommandFails reads steady (DecodeJson expression hex) known left old new failure = DecodeJsonFails reads steady expression.now hex.now known left old new failure
 CommandFails reads steady (DecodeAllJson expression hex) known left old new failure = DecodeAllJsonFails reads steady expression.now hex.now known left old new failure
 CommandFails reads steady (EncodeFramed expression value) known left old new failure = EncodeFails expression.now value.now old new failure
+CommandFails reads steady (EncodeFramedRaw expression value) known left old new failure = EncodeFails expression.now value.now old new failure
 CommandFails reads steady (DecodeFramed expression hex) known left old new failure = DecodeFramedFails reads steady expression.now hex.now known left old new failure
 CommandFails reads steady (EncodeRaw expression value) known left old new failure = EncodeFails expression.now value.now old new failure
 CommandFails reads steady (DecodeRaw expression) known left old new failure = DecodeRawFails reads steady expression.now known left old new failure

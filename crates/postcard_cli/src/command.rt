@@ -155,6 +155,11 @@ pub enum Command<'a> {
         expression: &'a str,
         value: &'a str,
     },
+    /// `enc --frame --raw TYPE VALUE`, where TYPE is taken as an expression.
+    EncodeFramedRaw {
+        expression: &'a str,
+        value: &'a str,
+    },
     /// `dec --frame TYPE HEX`, where TYPE is taken as an expression.
     DecodeFramed {
         expression: &'a str,
@@ -241,10 +246,10 @@ impl<'a> Command<'a> {
                 number.as_str(),
                 kind.as_str(),
             ),
-            [command, option, name, kind, text] => Command::checked(
+            [command, option, second, kind, text] => Command::checked(
                 command.as_str(),
                 option.as_str(),
-                name.as_str(),
+                second.as_str(),
                 kind.as_str(),
                 text.as_str(),
             ),
@@ -455,31 +460,32 @@ impl<'a> Command<'a> {
         }
     }
 
-    /// Returns the command of a call of five words: a command, an option, the name of a checksum, a
-    /// type and a text.
+    /// Returns the command of a call of five words: a command, an option, the name of a checksum or
+    /// another option, a type and a text.
     fn checked(
         command: &'a str,
         option: &'a str,
-        name: &'a str,
+        second: &'a str,
         kind: &'a str,
         text: &'a str,
     ) -> Option<Command<'a>>
         ensures found { IfSome result (λ found. IsCallOf
-            (command.now ∷ option.now ∷ name.now ∷ kind.now ∷ text.now ∷ []) found) }
+            (command.now ∷ option.now ∷ second.now ∷ kind.now ∷ text.now ∷ []) found) }
         ensures none { IfNone result (IsNoCall
-            (command.now ∷ option.now ∷ name.now ∷ kind.now ∷ text.now ∷ [])) }
+            (command.now ∷ option.now ∷ second.now ∷ kind.now ∷ text.now ∷ [])) }
     {
-        if option != "--crc" {
-            return None;
-        }
         match command {
-            "enc" => Some(Command::EncodeChecked {
-                name,
+            "enc" if option == "--crc" => Some(Command::EncodeChecked {
+                name: second,
                 expression: kind,
                 value: text,
             }),
-            "dec" => Some(Command::DecodeChecked {
-                name,
+            "enc" if option == "--frame" && second == "--raw" => Some(Command::EncodeFramedRaw {
+                expression: kind,
+                value: text,
+            }),
+            "dec" if option == "--crc" => Some(Command::DecodeChecked {
+                name: second,
                 expression: kind,
                 hex: text,
             }),

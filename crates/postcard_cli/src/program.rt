@@ -166,6 +166,9 @@ fn carry_out<R: Source, W: Write>(
         Command::EncodeFramed { expression, value } => {
             framed::encode(alloc, expression, value, output)
         }
+        Command::EncodeFramedRaw { expression, value } => {
+            framed::encode_raw(alloc, expression, value, output)
+        }
         Command::DecodeFramed { expression, hex } => {
             framed::decode(alloc, expression, hex, input, output)
         }
