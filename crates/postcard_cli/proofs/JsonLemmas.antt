@@ -34,13 +34,13 @@ field_shown (b ∷ path) some = refl
 pub line_after : (schema : Schema) (at : ℕ) (v : Value) (rest : List ℕ) (old mid new : Option (List ℕ)) → Appends old mid [] → PrintsJsonLine schema at v rest mid new
     → PrintsJsonLine schema at v rest old new
 line_after schema at v rest old mid new none d =
-    record { json = d.json; of_value = d.of_value; text = d.text; is = d.is; printed = Appends-trans old mid new [] _ none d.printed }
+    record { text = d.text; is = d.is; printed = Appends-trans old mid new [] _ none d.printed }
 
 -- A line, and then nothing.
 pub json_line_no_more : (schema : Schema) (at : ℕ) (v : Value) (rest : List ℕ) (old mid new : Option (List ℕ)) → PrintsJsonLine schema at v rest old mid → Appends mid new []
     → PrintsJsonLine schema at v rest old new
 json_line_no_more schema at v rest old mid new d none =
-    record { json = d.json; of_value = d.of_value; text = d.text; is = d.is; printed = appends_no_more old mid new _ d.printed none }
+    record { text = d.text; is = d.is; printed = appends_no_more old mid new _ d.printed none }
 
 -- One more value is one more line.
 one_line : (schema : Schema) (all bytes mid rest : List ℕ) (vs : List Value) (v : Value) (old held new : Option (List ℕ)) → PrintsJsonLines schema all bytes vs mid old held

@@ -1,9 +1,10 @@
 -- Lemmas on what a call prints: under words that say less, and followed by nothing.
-use Rattle.std.proofs.Common.{◌≡◌, inl, inr, sym, ◌∙◌, arith, ℕ, ◌+◌, length, List, [], ◌∷◌, ◌++◌, Option, Result, Ok, Err, OnOk}
+use Rattle.std.proofs.Common.{◌≡◌, inl, inr, sym, ◌∙◌, arith, ℕ, ◌+◌, length, List, [], ◌∷◌, ◌++◌, Option, None, Result, Ok, Err, OnOk}
 use Rattle.std.specs.Io.KnownBytes.{Appends}
 use Rattle.std.proofs.KnownBytes.{Appends-trans}
 use Rattle.std.proofs.Output.{if_some_weaken}
 use Rattle.hex.specs.Hex.{encode_lower}
+use Rattle.postcard_wire.specs.declared.error.Error.{Error}
 use Rattle.postcard_shape.specs.Shape.{Shape}
 use Rattle.postcard_dyn_schema.specs.declared.schema.Schema.{Schema}
 use Rattle.postcard_dyn.specs.declared.value.Value.{Value}
@@ -12,6 +13,7 @@ use Rattle.postcard_cli.specs.Explain.{PrintsRows}
 use Rattle.postcard_cli.specs.declared.explain.Layout.{Layout}
 use Rattle.postcard_cli.specs.Failure.{exit_status, last_line}
 use Rattle.postcard_cli.specs.Program.{Does, Form, form_of, list_of, one_word, PrintsCall, PrintsDecode, PrintsDecoded, PrintsEncode, Performs}
+use Rattle.postcard_cli.specs.JsonExplain.{PrintsJsonRows}
 use Rattle.postcard_cli.specs.JsonMessage.{PrintsJsonLines}
 use Rattle.postcard_cli.specs.Message.{PrintsEach, PrintsFront, PrintsGiven}
 use Rattle.postcard_cli.specs.Refusal.{Converts, DecodingFails, EncodingFails, Reports, TaskFails}
@@ -27,7 +29,7 @@ use Rattle.postcard_cli.specs.declared.failure.Failure.TheVariants as failed
 use Rattle.postcard_cli.specs.declared.command.TypeWord.{TypeWord}
 use Rattle.postcard_cli.specs.declared.command.TypeWord.TheVariants.{Named, Expression}
 use Rattle.postcard_cli.specs.declared.command.Command.{Command}
-use Rattle.postcard_cli.specs.declared.command.Command.TheVariants.{Encode, Decode, DecodeAll, EncodeChecked, DecodeChecked, EncodeJson, DecodeJson, DecodeAllJson, EncodeFramed, DecodeFramed, EncodeRaw, DecodeRaw, DecodeAllRaw, Frames, FramesOf, FramesChecked, FramesHex, FramesJson, Explain, Size, Types, Checksum, Catalog}
+use Rattle.postcard_cli.specs.declared.command.Command.TheVariants.{Encode, Decode, DecodeAll, EncodeChecked, DecodeChecked, EncodeJson, DecodeJson, DecodeAllJson, EncodeFramed, EncodeFramedRaw, DecodeFramed, EncodeRaw, DecodeRaw, DecodeAllRaw, Frames, FramesOf, FramesChecked, FramesHex, FramesJson, Explain, ExplainJson, Size, Types, Checksum, Catalog}
 use Rattle.postcard_cli.proofs.JsonLemmas.{json_line_no_more}
 use Rattle.postcard_cli.proofs.MessageLemmas.{appends_no_more, prints_no_more}
 use Rattle.postcard_cli.proofs.StreamLemmas.{stream_followed}
@@ -126,6 +128,12 @@ rows_no_more : (layout : Layout) (at : ℕ) (lines : List Line) (old mid new : O
 rows_no_more layout at [] old mid new d none = Appends-trans old mid new [] [] d none
 rows_no_more layout at (line ∷ lines) old mid new d none = (d.0, d.1, rows_no_more layout (at + length line.bytes.now) lines d.0 mid new d.2 none)
 
+json_rows_no_more : (refused : Option Error) (at : ℕ) (before lines : List Line) (old mid new : Option (List ℕ)) → PrintsJsonRows refused at before lines old mid → Appends mid new []
+    → PrintsJsonRows refused at before lines old new
+json_rows_no_more refused at before [] old mid new d none = Appends-trans old mid new [] [] d none
+json_rows_no_more refused at before (line ∷ lines) old mid new d none =
+    (d.0, d.1, json_rows_no_more refused (at + length line.bytes.now) (line ∷ before) lines d.0 mid new d.2 none)
+
 values_no_more : (format : Format) (longest : ℕ) (known left old mid new : Option (List ℕ)) → PrintsValues format longest known left old mid → Appends mid new []
     → PrintsValues format longest known left old new
 values_no_more format longest known left old mid new d none = record {
@@ -193,6 +201,8 @@ performs_no_more syntax (DecodeAllJson expression hex) known left old mid new d 
 }
 performs_no_more syntax (EncodeFramed expression value) known left old mid new d none =
     record { encoding = d.encoding; encodes = d.encodes; frame = d.frame; is = d.is; printed = appends_no_more old mid new _ d.printed none }
+performs_no_more syntax (EncodeFramedRaw expression value) known left old mid new d none =
+    record { encoding = d.encoding; encodes = d.encodes; frame = d.frame; is = d.is; printed = appends_no_more old mid new _ d.printed none }
 performs_no_more syntax (DecodeFramed expression hex) known left old mid new d none = record {
   schema = d.schema;
   spelled = d.spelled;
@@ -235,6 +245,15 @@ performs_no_more syntax (Explain expression hex all) known left old mid new d no
   layout = d.layout;
   uncut = d.uncut;
   printed = rows_no_more d.layout 0 d.lines old mid new d.printed none;
+}
+performs_no_more syntax (ExplainJson expression hex) known left old mid new d none = record {
+  schema = d.schema;
+  spelled = d.spelled;
+  bytes = d.bytes;
+  stands = d.stands;
+  lines = d.lines;
+  explained = d.explained;
+  printed = json_rows_no_more None 0 [] d.lines old mid new d.printed none;
 }
 performs_no_more syntax (Size expression) known left old mid new d none = record {
   schema = d.schema;

@@ -23,7 +23,7 @@ use Rattle.postcard_cli.specs.declared.failure.Failure.{Failure}
 use Rattle.postcard_cli.specs.declared.failure.Failure.TheVariants.{Usage, BadHexAt, Library, Refused, Output}
 use Rattle.postcard_cli.specs.declared.command.TypeWord.TheVariants.{Named, Expression}
 use Rattle.postcard_cli.specs.declared.command.Command.{Command}
-use Rattle.postcard_cli.specs.declared.command.Command.TheVariants.{Encode, Decode, DecodeAll, EncodeChecked, DecodeChecked, EncodeJson, DecodeJson, DecodeAllJson, EncodeFramed, DecodeFramed, EncodeRaw, DecodeRaw, DecodeAllRaw, Frames, FramesOf, FramesChecked, FramesHex, FramesJson, Explain, Size, Types, Checksum, Catalog}
+use Rattle.postcard_cli.specs.declared.command.Command.TheVariants.{Encode, Decode, DecodeAll, EncodeChecked, DecodeChecked, EncodeJson, DecodeJson, DecodeAllJson, EncodeFramed, EncodeFramedRaw, DecodeFramed, EncodeRaw, DecodeRaw, DecodeAllRaw, Frames, FramesOf, FramesChecked, FramesHex, FramesJson, Explain, ExplainJson, Size, Types, Checksum, Catalog}
 
 -- A number that isn't at most another is above it.
 pub above : (m n : ℕ) → (m ≤ n → ⊥) → n < m
@@ -85,6 +85,7 @@ no_usage reads steady (EncodeJson expression text) known left old new h = h
 no_usage reads steady (DecodeJson expression hex) known left old new h = h
 no_usage reads steady (DecodeAllJson expression hex) known left old new h = h
 no_usage reads steady (EncodeFramed expression value) known left old new h = h
+no_usage reads steady (EncodeFramedRaw expression value) known left old new h = h
 no_usage reads steady (DecodeFramed expression hex) known left old new h = h
 no_usage reads steady (EncodeRaw expression value) known left old new h = h
 no_usage reads steady (DecodeRaw expression) known left old new h = h
@@ -95,6 +96,7 @@ no_usage reads steady (FramesChecked name expression) known left old new h = abs
 no_usage reads steady (FramesHex expression hex) known left old new h = h
 no_usage reads steady (FramesJson expression) known left old new h = absurd h.2
 no_usage reads steady (Explain expression hex all) known left old new h = h
+no_usage reads steady (ExplainJson expression hex) known left old new h = h
 no_usage reads steady (Size expression) known left old new h = h
 no_usage reads steady Types known left old new h = cc h
 no_usage reads steady (Checksum name hex) known left old new h = h

@@ -8,7 +8,7 @@ use Rattle.postcard_cli.specs.declared.command.ValueType.TheVariants.{U8, U16, U
 use Rattle.postcard_cli.specs.declared.command.TypeWord.{TypeWord}
 use Rattle.postcard_cli.specs.declared.command.TypeWord.TheVariants.{Named, Expression}
 use Rattle.postcard_cli.specs.declared.command.Command.{Command}
-use Rattle.postcard_cli.specs.declared.command.Command.TheVariants.{Encode, Decode, DecodeAll, EncodeChecked, DecodeChecked, EncodeJson, DecodeJson, DecodeAllJson, EncodeFramed, DecodeFramed, EncodeRaw, DecodeRaw, DecodeAllRaw, Frames, FramesOf, FramesChecked, FramesHex, FramesJson, Explain, Size, Types, Checksum, Catalog}
+use Rattle.postcard_cli.specs.declared.command.Command.TheVariants.{Encode, Decode, DecodeAll, EncodeChecked, DecodeChecked, EncodeJson, DecodeJson, DecodeAllJson, EncodeFramed, EncodeFramedRaw, DecodeFramed, EncodeRaw, DecodeRaw, DecodeAllRaw, Frames, FramesOf, FramesChecked, FramesHex, FramesJson, Explain, ExplainJson, Size, Types, Checksum, Catalog}
 
 -- The word that names a type.
 abbrev pub name_of : ValueType → List ℕ
@@ -88,6 +88,7 @@ IsCallOf words (EncodeJson expression text) = words ≡ codes "enc" ∷ codes "-
 IsCallOf words (DecodeJson expression hex) = words ≡ codes "dec" ∷ codes "--json" ∷ expression.now ∷ hex.now ∷ []
 IsCallOf words (DecodeAllJson expression hex) = words ≡ codes "decs" ∷ codes "--json" ∷ expression.now ∷ hex.now ∷ []
 IsCallOf words (EncodeFramed expression value) = words ≡ codes "enc" ∷ codes "--frame" ∷ expression.now ∷ value.now ∷ []
+IsCallOf words (EncodeFramedRaw expression value) = words ≡ codes "enc" ∷ codes "--frame" ∷ codes "--raw" ∷ expression.now ∷ value.now ∷ []
 IsCallOf words (DecodeFramed expression hex) = words ≡ codes "dec" ∷ codes "--frame" ∷ expression.now ∷ hex.now ∷ []
 IsCallOf words (EncodeRaw expression value) = words ≡ codes "enc" ∷ codes "--raw" ∷ expression.now ∷ value.now ∷ []
 IsCallOf words (DecodeRaw expression) = IsRawCall words (codes "dec") expression.now
@@ -98,6 +99,7 @@ IsCallOf words (FramesChecked name expression) = words ≡ codes "frames" ∷ co
 IsCallOf words (FramesHex expression hex) = words ≡ codes "frames" ∷ codes "--hex" ∷ expression.now ∷ hex.now ∷ []
 IsCallOf words (FramesJson expression) = words ≡ codes "frames" ∷ codes "--json" ∷ expression.now ∷ []
 IsCallOf words (Explain expression hex all) = IsExplainCall words expression.now hex.now all
+IsCallOf words (ExplainJson expression hex) = words ≡ codes "explain" ∷ codes "--json" ∷ expression.now ∷ hex.now ∷ []
 IsCallOf words (Size expression) = words ≡ codes "size" ∷ expression.now ∷ []
 IsCallOf words Types = words ≡ codes "types" ∷ []
 IsCallOf words (Checksum name hex) = words ≡ codes "crc" ∷ name.now ∷ hex.now ∷ []

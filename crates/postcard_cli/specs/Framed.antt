@@ -23,6 +23,14 @@ pub record PrintsEncodedFrame (expression word : List ℕ) (old new : Option (Li
   pub is : IsMade encoding frame
   pub printed : Appends old new (encode_lower frame ++ 10 ∷ [])
 
+-- What `enc --frame --raw` prints: the bytes of the frame, and nothing after them.
+pub record PrintsEncodedFrameRaw (expression word : List ℕ) (old new : Option (List ℕ)) : Type 0 where
+  pub encoding : List ℕ
+  pub encodes : IsEncoding expression word encoding
+  pub frame : List ℕ
+  pub is : IsMade encoding frame
+  pub printed : Appends old new frame
+
 -- What `dec --frame` prints: the value of the frame with which the bytes begin, and what its data has after the value, on a line, and the
 -- bytes after the zero that ends the frame on a second.
 pub record PrintsFirstFrame (expression hex : List ℕ) (known left old new : Option (List ℕ)) : Type 0 where

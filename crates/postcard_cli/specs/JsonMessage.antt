@@ -55,12 +55,14 @@ failed_line at why field name bytes =
     (codes "{\"at\":" ++ (decimal at ++ (codes ",\"error\":\"" ++ (why ++ (codes "\"" ++ (field ++ (codes ",\"" ++ (name ++ codes "\":\""))))))))
     ++ (encode_lower bytes ++ codes "\"}\n")
 
+-- The text is the JSON of the value.
+abbrev pub IsJsonOf : Schema → Value → List ℕ → Type 0
+IsJsonOf schema v text = (json : Data) × (Some json ≡ json_of (layout_of schema) (tree v)) × IsCompactText json text
+
 -- The line of the value, which begins at this offset, and of the bytes `rest` is printed.
 pub record PrintsJsonLine (schema : Schema) (at : ℕ) (v : Value) (rest : List ℕ) (old new : Option (List ℕ)) : Type 0 where
-  pub json : Data
-  pub of_value : Some json ≡ json_of (layout_of schema) (tree v)
   pub text : List ℕ
-  pub is : IsCompactText json text
+  pub is : IsJsonOf schema v text
   pub printed : Appends old new (value_line at text rest)
 
 -- The bytes, which are the last of `all`, are messages of the schema with these values, one after another, and then `rest`; the line

@@ -6,6 +6,7 @@ pub mod Failure
 pub mod Framed
 pub mod Frames
 pub mod Hexadecimal
+pub mod JsonExplain
 pub mod JsonMessage
 pub mod Message
 pub mod Place

@@ -17,8 +17,9 @@ use Rattle.postcard_cli.specs.Checked.{PrintsEncodedChecked, PrintsEncodedRaw, P
 use Rattle.postcard_cli.specs.Checksum.{PrintsChecksum}
 use Rattle.postcard_cli.specs.Command.{IsCallOf}
 use Rattle.postcard_cli.specs.Explain.{PrintsExplained}
-use Rattle.postcard_cli.specs.Framed.{PrintsEncodedFrame, PrintsFirstFrame, PrintsHexFrames}
+use Rattle.postcard_cli.specs.Framed.{PrintsEncodedFrame, PrintsEncodedFrameRaw, PrintsFirstFrame, PrintsHexFrames}
 use Rattle.postcard_cli.specs.Frames.{PrintsAnswers}
+use Rattle.postcard_cli.specs.JsonExplain.{PrintsExplainedJson}
 use Rattle.postcard_cli.specs.JsonMessage.{PrintsAllJson, PrintsEncodedJson, PrintsFirstJson}
 use Rattle.postcard_cli.specs.Message.{PrintsEncoded, PrintsFirst, PrintsAll, PrintsFirstRaw, PrintsAllRaw}
 use Rattle.postcard_cli.specs.Size.{PrintsSize}
@@ -35,7 +36,7 @@ use Rattle.postcard_cli.specs.declared.command.ValueType.TheVariants.{U8, U16, U
 use Rattle.postcard_cli.specs.declared.command.TypeWord.{TypeWord}
 use Rattle.postcard_cli.specs.declared.command.TypeWord.TheVariants.{Named, Expression}
 use Rattle.postcard_cli.specs.declared.command.Command.{Command}
-use Rattle.postcard_cli.specs.declared.command.Command.TheVariants.{Encode, Decode, DecodeAll, EncodeChecked, DecodeChecked, EncodeJson, DecodeJson, DecodeAllJson, EncodeFramed, DecodeFramed, EncodeRaw, DecodeRaw, DecodeAllRaw, Frames, FramesOf, FramesChecked, FramesHex, FramesJson, Explain, Size, Types, Checksum, Catalog}
+use Rattle.postcard_cli.specs.declared.command.Command.TheVariants.{Encode, Decode, DecodeAll, EncodeChecked, DecodeChecked, EncodeJson, DecodeJson, DecodeAllJson, EncodeFramed, EncodeFramedRaw, DecodeFramed, EncodeRaw, DecodeRaw, DecodeAllRaw, Frames, FramesOf, FramesChecked, FramesHex, FramesJson, Explain, ExplainJson, Size, Types, Checksum, Catalog}
 
 -- The values of a type: what they are on the wire, in a word, and as text.
 pub record Form : Type 1 where
@@ -166,6 +167,7 @@ Performs syntax (EncodeJson expression text) known left old new = PrintsEncodedJ
 Performs syntax (DecodeJson expression hex) known left old new = PrintsFirstJson expression.now hex.now known left old new
 Performs syntax (DecodeAllJson expression hex) known left old new = PrintsAllJson expression.now hex.now known left old new
 Performs syntax (EncodeFramed expression value) known left old new = PrintsEncodedFrame expression.now value.now old new
+Performs syntax (EncodeFramedRaw expression value) known left old new = PrintsEncodedFrameRaw expression.now value.now old new
 Performs syntax (DecodeFramed expression hex) known left old new = PrintsFirstFrame expression.now hex.now known left old new
 Performs syntax (EncodeRaw expression value) known left old new = PrintsEncodedRaw expression.now value.now old new
 Performs syntax (DecodeRaw expression) known left old new = PrintsFirstRaw expression.now known left old new
@@ -179,6 +181,7 @@ Performs syntax (FramesHex expression hex) known left old new = PrintsHexFrames 
 Performs syntax (FramesJson expression) known left old new =
     (format : Format) × IsPlain Json format expression.now × PrintsValues format 65536 known left old new
 Performs syntax (Explain expression hex all) known left old new = PrintsExplained expression.now hex.now all known left old new
+Performs syntax (ExplainJson expression hex) known left old new = PrintsExplainedJson expression.now hex.now known left old new
 Performs syntax (Size expression) known left old new = PrintsSize expression.now old new
 Performs syntax Types known left old new = Appends old new syntax
 Performs syntax (Checksum name hex) known left old new = PrintsChecksum name.now hex.now known left old new

@@ -34,6 +34,7 @@ use Rattle.postcard_cli.specs.Explain.{IsExplainRefused}
 use Rattle.postcard_cli.specs.Failure.{exit_status, last_line}
 use Rattle.postcard_cli.specs.Frames.{PrintsAnswersSoFar}
 use Rattle.postcard_cli.specs.Hexadecimal.{IsWrongHex}
+use Rattle.postcard_cli.specs.JsonExplain.{IsExplainJsonRefused}
 use Rattle.postcard_cli.specs.JsonMessage.{PrintsJsonLines, SpellsJson, refusal_text}
 use Rattle.postcard_cli.specs.Message.{lines_of, IsInput, Prints, ReadsValue, ReadsValues, StandsFor}
 use Rattle.postcard_cli.specs.Place.{IsPathOf, IsPlaceOf}
@@ -47,7 +48,7 @@ use Rattle.postcard_cli.specs.declared.program.Task.TheVariants as tasks
 use Rattle.postcard_cli.specs.declared.command.TypeWord.{TypeWord}
 use Rattle.postcard_cli.specs.declared.command.TypeWord.TheVariants.{Named, Expression}
 use Rattle.postcard_cli.specs.declared.command.Command.{Command}
-use Rattle.postcard_cli.specs.declared.command.Command.TheVariants.{Encode, Decode, DecodeAll, EncodeChecked, DecodeChecked, EncodeJson, DecodeJson, DecodeAllJson, EncodeFramed, DecodeFramed, EncodeRaw, DecodeRaw, DecodeAllRaw, Frames, FramesOf, FramesChecked, FramesHex, FramesJson, Explain, Size, Types, Checksum as ChecksumOf, Catalog}
+use Rattle.postcard_cli.specs.declared.command.Command.TheVariants.{Encode, Decode, DecodeAll, EncodeChecked, DecodeChecked, EncodeJson, DecodeJson, DecodeAllJson, EncodeFramed, EncodeFramedRaw, DecodeFramed, EncodeRaw, DecodeRaw, DecodeAllRaw, Frames, FramesOf, FramesChecked, FramesHex, FramesJson, Explain, ExplainJson, Size, Types, Checksum as ChecksumOf, Catalog}
 use Rattle.postcard_cli.specs.declared.stream.Format.{Format}
 use Rattle.postcard_cli.specs.declared.stream.Notation.{Notation}
 use Rattle.postcard_cli.specs.declared.stream.Notation.TheVariants.{Text, Json}
@@ -378,6 +379,12 @@ DecodeAllJsonFails reads steady expression hex known left old new Refused = IsLi
 DecodeAllJsonFails reads steady expression hex known left old new (Library e) = (e ≡ OutOfMemory) ⊎ (e ≡ WontImplement)
 DecodeAllJsonFails reads steady expression hex known left old new failure = DecodeAllFails reads steady expression hex known left old new failure
 
+-- The failures of `explain --json`.
+abbrev pub ExplainJsonFails : ℕ → Type 0 → List ℕ → List ℕ → Option (List ℕ) → Option (List ℕ) → Option (List ℕ) → Option (List ℕ) → Failure → Type 0
+ExplainJsonFails reads steady expression hex known left old new Refused = IsExplainJsonRefused expression hex known left old new
+ExplainJsonFails reads steady expression hex known left old new (Library e) = (e ≡ OutOfMemory) ⊎ (e ≡ WontImplement)
+ExplainJsonFails reads steady expression hex known left old new failure = DecodeFails reads steady expression hex known left old new failure
+
 -- ---- a frame in HEX
 
 -- The failures of finding the frame at the front of bytes: none of them is a zero, and they were printed.
@@ -555,6 +562,7 @@ CommandFails reads steady (EncodeJson expression text) known left old new failur
 CommandFails reads steady (DecodeJson expression hex) known left old new failure = DecodeJsonFails reads steady expression.now hex.now known left old new failure
 CommandFails reads steady (DecodeAllJson expression hex) known left old new failure = DecodeAllJsonFails reads steady expression.now hex.now known left old new failure
 CommandFails reads steady (EncodeFramed expression value) known left old new failure = EncodeFails expression.now value.now old new failure
+CommandFails reads steady (EncodeFramedRaw expression value) known left old new failure = EncodeFails expression.now value.now old new failure
 CommandFails reads steady (DecodeFramed expression hex) known left old new failure = DecodeFramedFails reads steady expression.now hex.now known left old new failure
 CommandFails reads steady (EncodeRaw expression value) known left old new failure = EncodeFails expression.now value.now old new failure
 CommandFails reads steady (DecodeRaw expression) known left old new failure = DecodeRawFails reads steady expression.now known left old new failure
@@ -565,6 +573,7 @@ CommandFails reads steady (FramesChecked name expression) known left old new fai
 CommandFails reads steady (FramesHex expression hex) known left old new failure = FramesHexFail reads steady expression.now hex.now known left old new failure
 CommandFails reads steady (FramesJson expression) known left old new failure = StreamFails steady Json expression.now 65536 known left old new failure
 CommandFails reads steady (Explain expression hex all) known left old new failure = ExplainFails reads steady expression.now hex.now all known left old new failure
+CommandFails reads steady (ExplainJson expression hex) known left old new failure = ExplainJsonFails reads steady expression.now hex.now known left old new failure
 CommandFails reads steady (Size expression) known left old new failure = TypeFails expression.now old new failure
 CommandFails reads steady Types known left old new failure = failure ≡ Output
 CommandFails reads steady (ChecksumOf name hex) known left old new failure = ChecksumFails reads steady name.now hex.now known left old new failure

@@ -155,6 +155,11 @@ pub enum Command<'a> {
         expression: &'a str,
         value: &'a str,
     },
+    /// `enc --frame --raw TYPE VALUE`, where TYPE is taken as an expression.
+    EncodeFramedRaw {
+        expression: &'a str,
+        value: &'a str,
+    },
     /// `dec --frame TYPE HEX`, where TYPE is taken as an expression.
     DecodeFramed {
         expression: &'a str,
@@ -202,6 +207,11 @@ pub enum Command<'a> {
         hex: &'a str,
         all: bool,
     },
+    /// `explain --json TYPE HEX`, where TYPE is taken as an expression.
+    ExplainJson {
+        expression: &'a str,
+        hex: &'a str,
+    },
     /// `size TYPE`, where TYPE is taken as an expression.
     Size {
         expression: &'a str,
@@ -236,10 +246,10 @@ impl<'a> Command<'a> {
                 number.as_str(),
                 kind.as_str(),
             ),
-            [command, option, name, kind, text] => Command::checked(
+            [command, option, second, kind, text] => Command::checked(
                 command.as_str(),
                 option.as_str(),
-                name.as_str(),
+                second.as_str(),
                 kind.as_str(),
                 text.as_str(),
             ),
@@ -359,7 +369,7 @@ impl<'a> Command<'a> {
             (IsNoCall (command.now ∷ option.now ∷ third.now ∷ fourth.now ∷ [])) }
     {
         match command {
-            "explain" => Command::uncut(option, third, fourth),
+            "explain" => Command::of_explain(option, third, fourth),
             "frames" => Command::of_stream(option, third, fourth),
             _ => Command::of_message(command, option, third, fourth),
         }
@@ -386,12 +396,13 @@ impl<'a> Command<'a> {
         }
     }
 
-    /// Returns the command of a call of four words: a command, `--json`, a type and a text.
+    /// Returns the command of a call of four words, the first of which isn't `explain`: a command,
+    /// `--json`, a type and a text.
     fn in_json(command: &'a str, kind: &'a str, text: &'a str) -> Option<Command<'a>>
         ensures found { IfSome result (λ found.
             IsCallOf (command.now ∷ codes "--json" ∷ kind.now ∷ text.now ∷ []) found) }
-        ensures none { IfNone result
-            (IsNoCall (command.now ∷ codes "--json" ∷ kind.now ∷ text.now ∷ [])) }
+        ensures none { IfNone result (command.now ≢ codes "explain"
+            → IsNoCall (command.now ∷ codes "--json" ∷ kind.now ∷ text.now ∷ [])) }
     {
         match command {
             "enc" => Some(Command::EncodeJson {
@@ -449,31 +460,32 @@ impl<'a> Command<'a> {
         }
     }
 
-    /// Returns the command of a call of five words: a command, an option, the name of a checksum, a
-    /// type and a text.
+    /// Returns the command of a call of five words: a command, an option, the name of a checksum or
+    /// another option, a type and a text.
     fn checked(
         command: &'a str,
         option: &'a str,
-        name: &'a str,
+        second: &'a str,
         kind: &'a str,
         text: &'a str,
     ) -> Option<Command<'a>>
         ensures found { IfSome result (λ found. IsCallOf
-            (command.now ∷ option.now ∷ name.now ∷ kind.now ∷ text.now ∷ []) found) }
+            (command.now ∷ option.now ∷ second.now ∷ kind.now ∷ text.now ∷ []) found) }
         ensures none { IfNone result (IsNoCall
-            (command.now ∷ option.now ∷ name.now ∷ kind.now ∷ text.now ∷ [])) }
+            (command.now ∷ option.now ∷ second.now ∷ kind.now ∷ text.now ∷ [])) }
     {
-        if option != "--crc" {
-            return None;
-        }
         match command {
-            "enc" => Some(Command::EncodeChecked {
-                name,
+            "enc" if option == "--crc" => Some(Command::EncodeChecked {
+                name: second,
                 expression: kind,
                 value: text,
             }),
-            "dec" => Some(Command::DecodeChecked {
-                name,
+            "enc" if option == "--frame" && second == "--raw" => Some(Command::EncodeFramedRaw {
+                expression: kind,
+                value: text,
+            }),
+            "dec" if option == "--crc" => Some(Command::DecodeChecked {
+                name: second,
                 expression: kind,
                 hex: text,
             }),
@@ -482,20 +494,24 @@ impl<'a> Command<'a> {
     }
 
     /// Returns the command of `explain` with three words after it: an option, a type and a text.
-    fn uncut(option: &'a str, kind: &'a str, text: &'a str) -> Option<Command<'a>>
+    fn of_explain(option: &'a str, kind: &'a str, text: &'a str) -> Option<Command<'a>>
         ensures found { IfSome result (λ found.
             IsCallOf (codes "explain" ∷ option.now ∷ kind.now ∷ text.now ∷ []) found) }
         ensures none { IfNone result
             (IsNoCall (codes "explain" ∷ option.now ∷ kind.now ∷ text.now ∷ [])) }
     {
-        if option != "--all" {
-            return None;
+        match option {
+            "--all" => Some(Command::Explain {
+                expression: kind,
+                hex: text,
+                all: true,
+            }),
+            "--json" => Some(Command::ExplainJson {
+                expression: kind,
+                hex: text,
+            }),
+            _ => None,
         }
-        Some(Command::Explain {
-            expression: kind,
-            hex: text,
-            all: true,
-        })
     }
 
     /// Returns the command of `frames` with three words after it: an option, and its value and a type,

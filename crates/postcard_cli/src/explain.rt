@@ -336,7 +336,7 @@ fn noun(count: u64) -> &'static str
 }
 
 /// Returns what is expected where a part can't be read, in a few words.
-fn words_of(expected: Expected) -> &'static str
+pub fn words_of(expected: Expected) -> &'static str
     ensures { result.now ≡ expected_text expected }
 {
     match expected {

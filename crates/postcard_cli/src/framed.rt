@@ -4,7 +4,8 @@ ghost use Rattle.std.specs.Prelude.{◌≡◌, ◌++◌, codes, IfOk, IfErr, OnO
 ghost use Rattle.std.specs.Io.KnownBytes.{Appends};
 ghost use Rattle.hex.specs.Hex.{encode_lower};
 ghost use Rattle.postcard_cobs.specs.Groups.{EndsFrame, Groups, IsMade, NoZero};
-ghost use Rattle.postcard_cli.specs.Framed.{PrintsEncodedFrame, PrintsFirstFrame};
+ghost use Rattle.postcard_cli.specs.Framed.{PrintsEncodedFrame, PrintsEncodedFrameRaw};
+ghost use Rattle.postcard_cli.specs.Framed.{PrintsFirstFrame};
 ghost use Rattle.postcard_cli.specs.Message.{ReadsValue};
 ghost use Rattle.postcard_cli.specs.Refusal.{ContentFails, CutFails, DecodeFramedFails};
 ghost use Rattle.postcard_cli.specs.Refusal.{EncodeFails, UnpackFails};
@@ -51,6 +52,29 @@ pub fn encode<W: Write>(
     let frame = frame_of(&encoding);
     hexadecimal::write(&frame, output)?;
     writeln!(output)?;
+    Ok(())
+}
+
+/// Encodes the value of a text, and prints the bytes of the frame of its encoding, its zero included,
+/// and nothing after them.
+///
+/// # Errors
+///
+/// Fails as [`encode`] does.
+pub fn encode_raw<W: Write>(
+    alloc: Global,
+    expression: &str,
+    value: &str,
+    output: &mut W,
+) -> Result<(), Failure>
+    ensures printed { OnOk result (PrintsEncodedFrameRaw expression.now value.now
+        (W.contents output.old) (W.contents output.new)) }
+    ensures refused { IfErr result (EncodeFails expression.now value.now
+        (W.contents output.old) (W.contents output.new)) }
+{
+    let encoding = encoding_of(alloc, expression, value, output)?;
+    let frame = frame_of(&encoding);
+    output.write_all(&frame)?;
     Ok(())
 }
 

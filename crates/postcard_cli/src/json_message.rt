@@ -6,7 +6,7 @@ ghost use Rattle.json.specs.Print.{quoted};
 ghost use Rattle.postcard_wire.specs.declared.error.Error.TheVariants.{OutOfMemory, WontImplement};
 ghost use Rattle.postcard_dyn.specs.declared.value.Value.{Value};
 ghost use Rattle.postcard_cli.specs.JsonMessage.{IsJsonEncoding, PrintsAllJson, PrintsEncodedJson};
-ghost use Rattle.postcard_cli.specs.JsonMessage.{PrintsFirstJson, PrintsJsonLine};
+ghost use Rattle.postcard_cli.specs.JsonMessage.{IsJsonOf, PrintsFirstJson, PrintsJsonLine};
 ghost use Rattle.postcard_cli.specs.JsonMessage.{field_text, refusal_text, rest_text};
 ghost use Rattle.postcard_cli.specs.Message.{ReadsValue};
 ghost use Rattle.postcard_cli.specs.Refusal.{DecodeAllJsonFails, DecodeJsonFails, EncodeJsonFails};
@@ -223,8 +223,8 @@ pub fn field_of(alloc: Global, path: &str) -> Result<String, AllocError>
     Ok(field)
 }
 
-/// Returns a text as a string of JSON, with its quotes.
-fn quote(alloc: Global, text: &str) -> Result<String, AllocError>
+/// Returns a text as a string of JSON, with its quotes. Fails if an allocation fails.
+pub fn quote(alloc: Global, text: &str) -> Result<String, AllocError>
     ensures { IfOk result (λ shown. string_bytes shown ≡ quoted text.now) }
 {
     let json = Json::try_from_str(alloc, text)?;
@@ -252,14 +252,29 @@ pub fn print_line<W: Write>(
     ensures refused { IfErr result (λ e. (e ≡ Failure.Output) ⊎ ((e ≡ Failure.Library OutOfMemory)
         ⊎ (e ≡ Failure.Library WontImplement))) }
 {
-    let Some(json) = to_json(alloc, schema, value)? else {
-        return Err(Failure::from(Error::WontImplement));
-    };
-    let text = json.to_string(alloc)?;
+    let text = text_of(alloc, schema, value)?;
     write!(output, "{{\"at\":{at},\"value\":{text}")?;
     print_rest(rest, output)?;
     writeln!(output, "}}")?;
     Ok(())
+}
+
+/// Returns the JSON of a value.
+///
+/// # Errors
+///
+/// Fails with `Library(OutOfMemory)` if an allocation fails, and with `Library(WontImplement)` if the
+/// value has no JSON.
+pub fn text_of(alloc: Global, schema: &Schema, value: &Value) -> Result<String, Failure>
+    ensures text { IfOk result (λ text. IsJsonOf schema.now value.now (string_bytes text)) }
+    ensures refused { IfErr result (λ e. (e ≡ Failure.Library OutOfMemory)
+        ⊎ (e ≡ Failure.Library WontImplement)) }
+{
+    let Some(json) = to_json(alloc, schema, value)? else {
+        return Err(Failure::from(Error::WontImplement));
+    };
+    let text = json.to_string(alloc)?;
+    Ok(text)
 }
 
 /// Prints the member with the bytes left after a value, if there are some.

@@ -13,6 +13,7 @@ pub mod framed;
 pub mod frames;
 pub mod hexadecimal;
 pub mod joined;
+pub mod json_explain;
 pub mod json_message;
 pub mod json_stream;
 pub mod limits;

@@ -53,8 +53,8 @@ pub fn path_of(alloc: Global, schema: &Schema, message: &[u8]) -> Result<String>
     Ok(path)
 }
 
-/// Appends a `.`, unless the path is empty.
-fn push_dot(path: &mut String) -> Result<()>
+/// Appends a `.`, unless the path is empty. Fails with `OutOfMemory` if an allocation fails.
+pub fn push_dot(path: &mut String) -> Result<()>
     ensures added { OnOk result (string_bytes path.new ≡ dotted (string_bytes path.old)) }
     ensures refused { IfErr result (λ e. e ≡ Error.OutOfMemory) }
 {

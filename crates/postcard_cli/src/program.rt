@@ -35,8 +35,8 @@ use crate::limits::{BUFFER, LONGEST, READS};
 use crate::stream::Notation;
 use crate::syntax::SYNTAX;
 use crate::{
-    checksum, explain, framed, frames, hexadecimal, json_message, message, size, stream, syntax,
-    value,
+    checksum, explain, framed, frames, hexadecimal, json_explain, json_message, message, size,
+    stream, syntax, value,
 };
 use postcard_de::{Deserialize, take_from_bytes};
 use postcard_de_flavors::Source;
@@ -166,6 +166,9 @@ fn carry_out<R: Source, W: Write>(
         Command::EncodeFramed { expression, value } => {
             framed::encode(alloc, expression, value, output)
         }
+        Command::EncodeFramedRaw { expression, value } => {
+            framed::encode_raw(alloc, expression, value, output)
+        }
         Command::DecodeFramed { expression, hex } => {
             framed::decode(alloc, expression, hex, input, output)
         }
@@ -197,6 +200,9 @@ fn carry_out<R: Source, W: Write>(
             hex,
             all,
         } => explain::print(alloc, expression, hex, all, input, output),
+        Command::ExplainJson { expression, hex } => {
+            json_explain::print(alloc, expression, hex, input, output)
+        }
         Command::Size { expression } => size::print(alloc, expression, output),
         Command::Types => syntax::print(output),
         Command::Checksum { name, hex } => checksum::print(alloc, name, hex, input, output),

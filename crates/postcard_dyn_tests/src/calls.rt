@@ -123,7 +123,13 @@ const NUMBERS: [Call; 11] = [
 ];
 
 /// Calls of `enc` with a type expression.
-const ENCODE: [Call; 22] = [
+const ENCODE: [Call; 23] = [
+    (
+        &["enc", "--frame", "--raw", "(u32, str)", "(42, \"x\")"],
+        b"",
+        "\u{4}*\u{1}x\0",
+        0,
+    ),
     (
         &["enc", SENSOR, "{id: 42, label: \"x\", samples: [1, 2]}"],
         b"",

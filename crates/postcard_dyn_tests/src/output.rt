@@ -7,7 +7,7 @@ use std::io::{ErrorKind, Write};
 use std::process::Abort;
 
 /// The words of calls, each with the number of bytes that it prints, and its exit status.
-const CALLS: [(&[&str], usize, u8); 14] = [
+const CALLS: [(&[&str], usize, u8); 18] = [
     (&["enc", "u32", "4294967295"], 11, 0),
     (&["dec", "u32", "ffffffff0f99"], 14, 0),
     (&["dec", "list-u32", "0201ac02"], 7, 0),
@@ -16,9 +16,13 @@ const CALLS: [(&[&str], usize, u8); 14] = [
     (&["dec", "u8", "7"], 8, 2),
     (&["frames"], 12, 0),
     (&["enc", "--frame", "u32", "300"], 9, 0),
+    (&["enc", "--frame", "--raw", "u32", "300"], 4, 0),
     (&["dec", "--frame", "u8", "02070099"], 5, 0),
     (&["dec", "--frame", "u8", "0207"], 29, 1),
     (&["frames", "--hex", "u8", "020700"], 2, 0),
+    (&["frames", "--json", "[u8]"], 65, 0),
+    (&["explain", "--json", "u8", "07"], 32, 0),
+    (&["explain", "--json", "u8", ""], 61, 1),
     (&["enc", "--raw", "u8", "7"], 1, 0),
     (&["dec", "--raw", "[u8]"], 13, 0),
     (&["decs", "--raw", "u8"], 10, 0),

@@ -24,14 +24,14 @@ five_words f (x ∷ y ∷ z ∷ w ∷ v ∷ u ∷ xs) a b c d e n i j k l m = ab
 
 pub returns-in-len5-clause-found : goal.returns-in-len5-clause-found
 returns-in-len5-clause-found c =
-    let all = five_words (string_bytes {Z = Global}) c.args.words.now _ _ _ _ _ (omega arith) c.command-item-then-words-lt6.is c.option-item-then-words-lt6.is c.name-item.is
+    let all = five_words (string_bytes {Z = Global}) c.args.words.now _ _ _ _ _ (omega arith) c.command-item-then-words-lt6.is c.option-item-then-words-lt6.is c.second-item.is
     c.kind-item-then-words-lt6.is c.text-item-then-words-lt6.is in
     rw all
     (rw (c.as_str-in-len5.ensures.value, c.as_str-in-len5-2.ensures.value, c.as_str-in-len5-3.ensures.value, c.as_str-in-len5-4.ensures.value, c.as_str-in-len5-5.ensures.value) at c.checked.ensures.found)
 
 pub returns-in-len5-clause-none : goal.returns-in-len5-clause-none
 returns-in-len5-clause-none c =
-    let all = five_words (string_bytes {Z = Global}) c.args.words.now _ _ _ _ _ (omega arith) c.command-item-then-words-lt6.is c.option-item-then-words-lt6.is c.name-item.is
+    let all = five_words (string_bytes {Z = Global}) c.args.words.now _ _ _ _ _ (omega arith) c.command-item-then-words-lt6.is c.option-item-then-words-lt6.is c.second-item.is
     c.kind-item-then-words-lt6.is c.text-item-then-words-lt6.is in
     rw all
     (rw (c.as_str-in-len5.ensures.value, c.as_str-in-len5-2.ensures.value, c.as_str-in-len5-3.ensures.value, c.as_str-in-len5-4.ensures.value, c.as_str-in-len5-5.ensures.value) at c.checked.ensures.none)

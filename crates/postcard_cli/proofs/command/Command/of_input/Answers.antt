@@ -6,7 +6,7 @@ use Rattle.postcard_cli.specs.declared.command.TypeWord.{TypeWord}
 use Rattle.postcard_cli.specs.declared.command.TypeWord.TheVariants.{Named, Expression}
 use Rattle.postcard_cli.specs.declared.command.ValueType.TheVariants.{U8, U16, U32, U64, U128, I8, I16, I32, I64, I128, Bool, Char, Str, ListU8, ListU32}
 use Rattle.postcard_cli.specs.declared.command.Command.{Command}
-use Rattle.postcard_cli.specs.declared.command.Command.TheVariants.{Encode, Decode, DecodeAll, EncodeChecked, DecodeChecked, EncodeJson, DecodeJson, DecodeAllJson, EncodeFramed, DecodeFramed, EncodeRaw, DecodeRaw, DecodeAllRaw, Frames, FramesOf, FramesChecked, FramesHex, FramesJson, Explain, Size, Types, Checksum, Catalog}
+use Rattle.postcard_cli.specs.declared.command.Command.TheVariants.{Encode, Decode, DecodeAll, EncodeChecked, DecodeChecked, EncodeJson, DecodeJson, DecodeAllJson, EncodeFramed, EncodeFramedRaw, DecodeFramed, EncodeRaw, DecodeRaw, DecodeAllRaw, Frames, FramesOf, FramesChecked, FramesHex, FramesJson, Explain, ExplainJson, Size, Types, Checksum, Catalog}
 use Rattle.postcard_cli.proofs.command.Command.of_input.Goals as goal
 
 -- No type has the word `--raw`.
@@ -60,6 +60,7 @@ none_of a t dec decs frames other sum (EncodeJson x text) e = no_four a _ t _ _ 
 none_of a t dec decs frames other sum (DecodeJson x hex) e = no_four a _ t _ _ _ _ e
 none_of a t dec decs frames other sum (DecodeAllJson x hex) e = no_four a _ t _ _ _ _ e
 none_of a t dec decs frames other sum (EncodeFramed x value) e = no_four a _ t _ _ _ _ e
+none_of a t dec decs frames other sum (EncodeFramedRaw x value) e = no_five a _ t _ _ _ _ _ e
 none_of a t dec decs frames other sum (DecodeFramed x hex) e = no_four a _ t _ _ _ _ e
 none_of a t dec decs frames other sum (EncodeRaw x value) e = no_four a _ t _ _ _ _ e
 none_of a t dec decs frames other sum (DecodeRaw x) (inl e) = dec (first a _ t _ _ x.now e)
@@ -76,6 +77,7 @@ none_of a t dec decs frames other sum (FramesHex x hex) e = no_four a _ t _ _ _ 
 none_of a t dec decs frames other sum (FramesJson x) e = cc (second a _ t _ _ x.now e)
 none_of a t dec decs frames other sum (Explain x hex all) (inl e) = other (first a _ t _ x.now hex.now e.1)
 none_of a t dec decs frames other sum (Explain x hex all) (inr e) = no_four a _ t _ _ _ _ e.1
+none_of a t dec decs frames other sum (ExplainJson x hex) e = no_four a _ t _ _ _ _ e
 none_of a t dec decs frames other sum (Size x) e = no_two a _ t _ x.now e
 none_of a t dec decs frames other sum Types e = no_one a _ t _ e
 none_of a t dec decs frames other sum (Checksum name hex) e = sum (first a _ t _ name.now hex.now e)

@@ -4,7 +4,7 @@ use Rattle.postcard_cli.specs.Command.{IsCallOf, LooksLikeExpression, IsWordOf}
 use Rattle.postcard_cli.specs.declared.command.TypeWord.{TypeWord}
 use Rattle.postcard_cli.specs.declared.command.TypeWord.TheVariants.{Expression}
 use Rattle.postcard_cli.specs.declared.command.Command.{Command}
-use Rattle.postcard_cli.specs.declared.command.Command.TheVariants.{Encode, Decode, DecodeAll, EncodeChecked, DecodeChecked, EncodeJson, DecodeJson, DecodeAllJson, EncodeFramed, DecodeFramed, EncodeRaw, DecodeRaw, DecodeAllRaw, Frames, FramesOf, FramesChecked, FramesHex, FramesJson, Explain, Size, Types, Checksum, Catalog}
+use Rattle.postcard_cli.specs.declared.command.Command.TheVariants.{Encode, Decode, DecodeAll, EncodeChecked, DecodeChecked, EncodeJson, DecodeJson, DecodeAllJson, EncodeFramed, EncodeFramedRaw, DecodeFramed, EncodeRaw, DecodeRaw, DecodeAllRaw, Frames, FramesOf, FramesChecked, FramesHex, FramesJson, Explain, ExplainJson, Size, Types, Checksum, Catalog}
 use Rattle.postcard_cli.proofs.command.Command.of_known_type.Goals as goal
 
 second : (a k t b w v : List ℕ) → a ∷ k ∷ t ∷ [] ≡ b ∷ w ∷ v ∷ [] → k ≡ w
@@ -35,6 +35,7 @@ none_of a k t none other sum raw json (EncodeJson x text) e = no_four a k t _ _ 
 none_of a k t none other sum raw json (DecodeJson x hex) e = no_four a k t _ _ _ _ e
 none_of a k t none other sum raw json (DecodeAllJson x hex) e = no_four a k t _ _ _ _ e
 none_of a k t none other sum raw json (EncodeFramed x value) e = no_four a k t _ _ _ _ e
+none_of a k t none other sum raw json (EncodeFramedRaw x value) e = no_five a k t _ _ _ _ _ e
 none_of a k t none other sum raw json (DecodeFramed x hex) e = no_four a k t _ _ _ _ e
 none_of a k t none other sum raw json (EncodeRaw x value) e = no_four a k t _ _ _ _ e
 none_of a k t none other sum raw json (DecodeRaw x) (inl e) = raw (second a k t _ _ _ e)
@@ -50,6 +51,7 @@ none_of a k t none other sum raw json (FramesHex x hex) e = no_four a k t _ _ _ 
 none_of a k t none other sum raw json (FramesJson x) e = json (first a k t _ _ x.now e) (second a k t _ _ x.now e)
 none_of a k t none other sum raw json (Explain x hex all) (inl e) = other (first a k t _ x.now hex.now e.1)
 none_of a k t none other sum raw json (Explain x hex all) (inr e) = no_four a k t _ _ _ _ e.1
+none_of a k t none other sum raw json (ExplainJson x hex) e = no_four a k t _ _ _ _ e
 none_of a k t none other sum raw json (Size x) e = no_two a k t _ x.now e
 none_of a k t none other sum raw json Types e = no_one a k t _ e
 none_of a k t none other sum raw json (Checksum name hex) e = sum (first a k t _ name.now hex.now e)

@@ -1,0 +1,281 @@
+//! The command `explain --json`, which prints which bytes of a message are which part of its value, as
+//! lines of JSON.
+
+ghost use Rattle.std.specs.Prelude.{◌≡◌, ◌⊎◌, ◌++◌, ◌∷◌, ◌≤◌, [], ℕ, IfOk, IfErr, OnOk, codes};
+ghost use Rattle.std.specs.Prelude.{List, length, string_bytes, take};
+ghost use Rattle.postcard_wire.specs.declared.error.Error.TheVariants.{OutOfMemory, WontImplement};
+ghost use Rattle.postcard_cli.specs.Explain.{expected_text};
+ghost use Rattle.postcard_cli.specs.JsonExplain.{IsMembers, PrintsExplainedJson, PrintsJsonRow};
+ghost use Rattle.postcard_cli.specs.JsonExplain.{PrintsJsonRows, entered, error_member, labelled};
+ghost use Rattle.postcard_cli.specs.JsonExplain.{path_in, row_end};
+ghost use Rattle.postcard_cli.specs.Refusal.{ExplainJsonFails};
+ghost use Rattle.postcard_cli.specs.declared.json_explain.Open.{Open};
+
+use crate::explain::words_of;
+use crate::failure::Failure;
+use crate::hexadecimal;
+use crate::json_message::{field_of, quote, text_of};
+use crate::limits::READS;
+use crate::message::schema_of;
+use crate::place::push_dot;
+use crate::reason::reason;
+use postcard_de_flavors::Source;
+use postcard_dyn::explain::{Expected, Label, Line, Node, explain};
+use postcard_wire::Error;
+use std::alloc::Global;
+use std::io::Write;
+
+/// A part that has a line, and that may be around parts with later lines.
+#[derive(Drop)]
+struct Open {
+    /// The depth of its line.
+    depth: usize,
+    /// The path around its parts.
+    path: String,
+}
+
+/// Prints the bytes of HEX as lines of JSON: the offset, the bytes, and which part of a value of the
+/// type they are. Nothing is cut.
+///
+/// # Errors
+///
+/// Fails as [`schema_of`] and [`hexadecimal::read_loose`] do; if the bytes begin with no message of
+/// the type, with `Refused`, after the lines of the parts before the one that can't be read, and the
+/// line of that one, without its end; and with `Library(WontImplement)` if a value has no JSON.
+pub fn print<R: Source, W: Write>(
+    alloc: Global,
+    expression: &str,
+    hex: &str,
+    input: &mut R,
+    output: &mut W,
+) -> Result<(), Failure>
+    ensures printed { OnOk result (PrintsExplainedJson expression.now hex.now
+        (R.remaining input.old) (R.remaining input.new)
+        (W.contents output.old) (W.contents output.new)) }
+    ensures refused { IfErr result (ExplainJsonFails READS (R.steady input.old) expression.now
+        hex.now (R.remaining input.old) (R.remaining input.new)
+        (W.contents output.old) (W.contents output.new)) }
+{
+    let schema = schema_of(alloc, expression, output)?;
+    let bytes = hexadecimal::read_loose(alloc, hex, input)?;
+    let explanation = explain(alloc, &schema, u64::MAX, &bytes)?;
+    print_lines(alloc, &explanation.refused, &explanation.lines, output)?;
+    match explanation.refused {
+        None => Ok(()),
+        Some(_) => Err(Failure::Refused),
+    }
+}
+
+/// Prints the rows of lines, with the error by which the bytes are refused, if they are.
+fn print_lines<W: Write>(
+    alloc: Global,
+    refused: &Option<Error>,
+    lines: &Vec<Line<'_>>,
+    output: &mut W,
+) -> Result<(), Failure>
+    ensures printed { OnOk result (PrintsJsonRows refused.now 0 [] lines.now.items
+        (W.contents output.old) (W.contents output.new)) }
+    ensures refused { IfErr result (λ e. (e ≡ Failure.Output)
+        ⊎ ((e ≡ Failure.Library OutOfMemory) ⊎ (e ≡ Failure.Library WontImplement))) }
+{
+    let mut around = Vec::new(alloc);
+    let mut at = 0u64;
+    for line in lines {
+        leave(&mut around, line.depth);
+        let path = path_of(alloc, &around, line)?;
+        print_row(alloc, refused, at, &path, line, output)?;
+        enter(&mut around, line, path)?;
+        at = at.saturating_add(line.bytes.len() as u64);
+    }
+    Ok(())
+}
+
+/// Takes the parts at the end away that can't be around a line of this depth, since they are as deep or
+/// deeper.
+fn leave(around: &mut Vec<Open>, depth: usize)
+    ensures { (d : ℕ) → d ≤ depth → path_in around.new.items d ≡ path_in around.old.items d }
+{
+    let count = count_around(around, depth);
+    around.truncate(count);
+}
+
+/// Returns how many of the open parts are left without those at the end that are as deep or deeper.
+fn count_around(around: &[Open], depth: usize) -> usize
+    ensures within { result ≤ length around.now }
+    ensures same { (d : ℕ) → d ≤ depth
+        → path_in (take result around.now) d ≡ path_in around.now d }
+{
+    let mut count = around.len();
+    'parts: while count > 0 {
+        if around[count - 1].depth < depth {
+            return count;
+        }
+        count -= 1;
+    }
+    0
+}
+
+/// Returns the path of a line, around which these parts are open.
+fn path_of(alloc: Global, around: &[Open], line: &Line<'_>) -> Result<String, Failure>
+    ensures path { IfOk result (λ path. string_bytes path
+        ≡ labelled (path_in around.now line.now.depth) line.now.label) }
+    ensures refused { IfErr result (λ e. e ≡ Failure.Library OutOfMemory) }
+{
+    let mut path = String::from_str(alloc, innermost(around, line.depth))?;
+    push_label(line.label, &mut path)?;
+    Ok(path)
+}
+
+/// Returns the path of the last of the open parts that is less deep than a line, or an empty one.
+fn innermost(around: &[Open], depth: usize) -> &str
+    ensures { result.now ≡ path_in around.now depth }
+{
+    let mut count = around.len();
+    'parts: while count > 0 {
+        let part = &around[count - 1];
+        if part.depth < depth {
+            return part.path.as_str();
+        }
+        count -= 1;
+    }
+    ""
+}
+
+/// Appends what a part is called to the path of the part around it.
+fn push_label(label: Label<'_>, path: &mut String) -> Result<(), Failure>
+    ensures added { OnOk result
+        (string_bytes path.new ≡ labelled (string_bytes path.old) label.entry) }
+    ensures refused { IfErr result (λ e. e ≡ Failure.Library OutOfMemory) }
+{
+    match label {
+        Label::Whole => Ok(()),
+        Label::Field(name) => {
+            push_dot(path)?;
+            path.push_str(name)?;
+            Ok(())
+        }
+        Label::Part(number) => {
+            push_dot(path)?;
+            write!(path, "{number}")?;
+            Ok(())
+        }
+        Label::Element(number) => {
+            write!(path, "[{number}]")?;
+            Ok(())
+        }
+    }
+}
+
+/// Opens the part of a line with this path.
+fn enter(around: &mut Vec<Open>, line: &Line<'_>, path: String) -> Result<(), Failure>
+    ensures added { OnOk result ((part : Open) × (around.new.items ≡ around.old.items ++ part ∷ [])
+        × (part.depth ≡ line.now.depth)
+        × (string_bytes part.path ≡ entered (string_bytes path) line.now.node)) }
+    ensures refused { IfErr result (λ e. e ≡ Failure.Library OutOfMemory) }
+{
+    let path = inner_path(path, &line.node)?;
+    around.push(Open {
+        depth: line.depth,
+        path,
+    })?;
+    Ok(())
+}
+
+/// Returns the path around the parts of a part with this path: the name of a variant belongs to it.
+fn inner_path(path: String, node: &Node<'_>) -> Result<String, Failure>
+    ensures path { IfOk result
+        (λ inner. string_bytes inner ≡ entered (string_bytes path) node.now) }
+    ensures refused { IfErr result (λ e. e ≡ Failure.Library OutOfMemory) }
+{
+    match node {
+        Node::Variant(_, name) => {
+            let mut inner = path;
+            push_dot(&mut inner)?;
+            inner.push_str(name)?;
+            Ok(inner)
+        }
+        _ => Ok(path),
+    }
+}
+
+/// Prints the row of a line with this path, whose bytes begin at this offset. Everything that needs
+/// memory is made before the row is begun.
+fn print_row<W: Write>(
+    alloc: Global,
+    refused: &Option<Error>,
+    at: u64,
+    path: &str,
+    line: &Line<'_>,
+    output: &mut W,
+) -> Result<(), Failure>
+    ensures printed { OnOk result (PrintsJsonRow refused.now at path.now line.now
+        (W.contents output.old) (W.contents output.new)) }
+    ensures refused { IfErr result (λ e. (e ≡ Failure.Output)
+        ⊎ ((e ≡ Failure.Library OutOfMemory) ⊎ (e ≡ Failure.Library WontImplement))) }
+{
+    let field = field_of(alloc, path)?;
+    let members = members_of(alloc, refused, &line.node)?;
+    let end = end_of(&line.node);
+    write!(output, "{{\"at\":{at},\"bytes\":\"")?;
+    hexadecimal::write(line.bytes, output)?;
+    write!(output, "\"{field}{members}}}{end}")?;
+    Ok(())
+}
+
+/// Returns the members that say what the bytes of a line are.
+fn members_of(alloc: Global, refused: &Option<Error>, node: &Node<'_>) -> Result<String, Failure>
+    ensures told { IfOk result
+        (λ members. IsMembers refused.now node.now (string_bytes members)) }
+    ensures refused { IfErr result (λ e. (e ≡ Failure.Library OutOfMemory)
+        ⊎ (e ≡ Failure.Library WontImplement)) }
+{
+    match node {
+        Node::Value(schema, value) => {
+            let text = text_of(alloc, schema, value)?;
+            Ok(format!(in alloc; ",\"value\":{text}")?)
+        }
+        Node::Absent => Ok(String::from_str(alloc, ",\"option\":\"None\"")?),
+        Node::Present => Ok(String::from_str(alloc, ",\"option\":\"Some\"")?),
+        Node::Count(count) => Ok(format!(in alloc; ",\"count\":{count}")?),
+        Node::Variant(index, name) => {
+            let name = quote(alloc, name)?;
+            Ok(format!(in alloc; ",\"variant\":{name},\"index\":{index}")?)
+        }
+        Node::Parts => Ok(String::new(alloc)),
+        Node::More(count) => Ok(format!(in alloc; ",\"more\":{count}")?),
+        Node::Refused(expected) => expected_members(alloc, refused, *expected),
+        Node::Rest => Ok(String::from_str(alloc, ",\"rest\":true")?),
+    }
+}
+
+/// Returns the members of a part that can't be read: why, if the bytes are refused, and what was
+/// expected.
+fn expected_members(
+    alloc: Global,
+    refused: &Option<Error>,
+    expected: Expected,
+) -> Result<String, Failure>
+    ensures told { IfOk result (λ members. string_bytes members ≡ error_member refused.now
+        ++ (codes ",\"expected\":\"" ++ (expected_text expected ++ codes "\""))) }
+    ensures refused { IfErr result (λ e. e ≡ Failure.Library OutOfMemory) }
+{
+    let words = words_of(expected);
+    match refused {
+        Some(error) => {
+            let why = reason(error);
+            Ok(format!(in alloc; ",\"error\":\"{why}\",\"expected\":\"{words}\"")?)
+        }
+        None => Ok(format!(in alloc; ",\"expected\":\"{words}\"")?),
+    }
+}
+
+/// Returns what ends the row of a line: a line feed, but nothing for a part that can't be read, whose
+/// row ends once the call has failed.
+fn end_of(node: &Node<'_>) -> &'static str
+    ensures { result.now ≡ row_end node.now }
+{
+    match node {
+        Node::Refused(_) => "",
+        _ => "\n",
+    }
+}
