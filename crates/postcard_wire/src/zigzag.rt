@@ -1,8 +1,10 @@
 //! Zigzag: signed numbers as unsigned ones (wire format 1.0, "signed integer encoding"). A number
 //! `n` becomes `2 * n`, or `-2 * n - 1` if it is negative: 0, -1, 1, -2, 2 become 0, 1, 2, 3, 4, so
-//! that a number near zero is short whatever its sign.
+//! that a number near zero is short whatever its sign. An `i8` is not a varint: it is written as
+//! one byte.
 //!
-//! An `i8` is not a varint: it is written as one byte.
+//! The functions `zig_zag_` return the encoding of a number of the width in their name, and
+//! `de_zig_zag_` the number whose encoding `n` is.
 
 ghost use Rattle.std.specs.Prelude.{◌≡◌};
 ghost use Rattle.postcard_wire.specs.Number.{zigzag};
@@ -21,7 +23,6 @@ macro_rules! unfold_sign {
     };
 }
 
-/// Returns the zigzag encoding of an `i16`.
 #[tactic(auto, using(crate::proofs::Folded::folded_16))]
 pub fn zig_zag_i16(n: i16) -> u16
     ensures { result ≡ zigzag n }
@@ -29,7 +30,6 @@ pub fn zig_zag_i16(n: i16) -> u16
     fold_sign!(n, i16)
 }
 
-/// Returns the zigzag encoding of an `i32`.
 #[tactic(auto, using(crate::proofs::Folded::folded_32))]
 pub fn zig_zag_i32(n: i32) -> u32
     ensures { result ≡ zigzag n }
@@ -37,7 +37,6 @@ pub fn zig_zag_i32(n: i32) -> u32
     fold_sign!(n, i32)
 }
 
-/// Returns the zigzag encoding of an `i64`.
 #[tactic(auto, using(crate::proofs::Folded::folded_64))]
 pub fn zig_zag_i64(n: i64) -> u64
     ensures { result ≡ zigzag n }
@@ -45,7 +44,6 @@ pub fn zig_zag_i64(n: i64) -> u64
     fold_sign!(n, i64)
 }
 
-/// Returns the zigzag encoding of an `i128`.
 #[tactic(auto, using(crate::proofs::Folded::folded_128))]
 pub fn zig_zag_i128(n: i128) -> u128
     ensures { result ≡ zigzag n }
@@ -53,7 +51,6 @@ pub fn zig_zag_i128(n: i128) -> u128
     fold_sign!(n, i128)
 }
 
-/// Returns the `i16` whose zigzag encoding is `n`.
 #[tactic(auto, using(crate::proofs::Folded::unfolded))]
 pub fn de_zig_zag_i16(n: u16) -> i16
     ensures { zigzag result ≡ n }
@@ -61,7 +58,6 @@ pub fn de_zig_zag_i16(n: u16) -> i16
     unfold_sign!(n)
 }
 
-/// Returns the `i32` whose zigzag encoding is `n`.
 #[tactic(auto, using(crate::proofs::Folded::unfolded))]
 pub fn de_zig_zag_i32(n: u32) -> i32
     ensures { zigzag result ≡ n }
@@ -69,7 +65,6 @@ pub fn de_zig_zag_i32(n: u32) -> i32
     unfold_sign!(n)
 }
 
-/// Returns the `i64` whose zigzag encoding is `n`.
 #[tactic(auto, using(crate::proofs::Folded::unfolded))]
 pub fn de_zig_zag_i64(n: u64) -> i64
     ensures { zigzag result ≡ n }
@@ -77,7 +72,6 @@ pub fn de_zig_zag_i64(n: u64) -> i64
     unfold_sign!(n)
 }
 
-/// Returns the `i128` whose zigzag encoding is `n`.
 #[tactic(auto, using(crate::proofs::Folded::unfolded))]
 pub fn de_zig_zag_i128(n: u128) -> i128
     ensures { zigzag result ≡ n }
