@@ -34,6 +34,7 @@ fn first_byte(refin: bool, bits: u32, byte: u8) -> u128
     }
 }
 
+/// Returns an entry.
 #[inline]
 pub fn look_up<W: Width>(entries: &[W], at: usize) -> u128
     requires { at < length entries.now }

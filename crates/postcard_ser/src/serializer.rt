@@ -88,6 +88,7 @@ impl<F: Flavor> Serializer<F> {
         false
     }
 
+    /// Writes a `u8` as one byte.
     pub fn serialize_u8(&mut self, v: u8) -> Result<()>
         ensures { Wrote F.Flavor self.old.output (canonical (Byte v)) never ⊥
             result self.new.output }
@@ -95,6 +96,7 @@ impl<F: Flavor> Serializer<F> {
         self.push(v)
     }
 
+    /// Writes a `u16` as a varint of 1 to 3 bytes.
     pub fn serialize_u16(&mut self, v: u16) -> Result<()>
         ensures { Wrote F.Flavor self.old.output (canonical (Num 16 v)) never ⊥
             result self.new.output }
@@ -102,6 +104,7 @@ impl<F: Flavor> Serializer<F> {
         self.serialize_u32(u32::from(v))
     }
 
+    /// Writes a `u32` as a varint of 1 to 5 bytes.
     pub fn serialize_u32(&mut self, v: u32) -> Result<()>
         ensures { Wrote F.Flavor self.old.output (canonical (Num 32 v)) never ⊥
             result self.new.output }
@@ -109,6 +112,7 @@ impl<F: Flavor> Serializer<F> {
         self.varint(u64::from(v))
     }
 
+    /// Writes a `u64` as a varint of 1 to 10 bytes.
     pub fn serialize_u64(&mut self, v: u64) -> Result<()>
         ensures { Wrote F.Flavor self.old.output (canonical (Num 64 v)) never ⊥
             result self.new.output }
@@ -116,6 +120,7 @@ impl<F: Flavor> Serializer<F> {
         self.varint(v)
     }
 
+    /// Writes a `u128` as a varint of 1 to 19 bytes.
     pub fn serialize_u128(&mut self, v: u128) -> Result<()>
         ensures { Wrote F.Flavor self.old.output
             (canonical (Num 128 v)) never ⊥ result self.new.output }
@@ -124,6 +129,7 @@ impl<F: Flavor> Serializer<F> {
         self.extend(varint_u128(v, &mut out))
     }
 
+    /// Writes an `i8` as one byte, in two's complement.
     pub fn serialize_i8(&mut self, v: i8) -> Result<()>
         ensures { Wrote F.Flavor self.old.output (canonical (Byte (cast_unsigned w8 v))) never ⊥
             result self.new.output }
@@ -131,6 +137,7 @@ impl<F: Flavor> Serializer<F> {
         self.push(v.cast_unsigned())
     }
 
+    /// Writes the zigzag encoding of an `i16` as a varint of 1 to 3 bytes.
     pub fn serialize_i16(&mut self, v: i16) -> Result<()>
         ensures { Wrote F.Flavor self.old.output (canonical (Int 16 v)) never ⊥
             result self.new.output }
@@ -138,6 +145,7 @@ impl<F: Flavor> Serializer<F> {
         self.serialize_u16(zig_zag_i16(v))
     }
 
+    /// Writes the zigzag encoding of an `i32` as a varint of 1 to 5 bytes.
     pub fn serialize_i32(&mut self, v: i32) -> Result<()>
         ensures { Wrote F.Flavor self.old.output (canonical (Int 32 v)) never ⊥
             result self.new.output }
@@ -145,6 +153,7 @@ impl<F: Flavor> Serializer<F> {
         self.serialize_u32(zig_zag_i32(v))
     }
 
+    /// Writes the zigzag encoding of an `i64` as a varint of 1 to 10 bytes.
     pub fn serialize_i64(&mut self, v: i64) -> Result<()>
         ensures { Wrote F.Flavor self.old.output (canonical (Int 64 v)) never ⊥
             result self.new.output }
@@ -152,6 +161,7 @@ impl<F: Flavor> Serializer<F> {
         self.serialize_u64(zig_zag_i64(v))
     }
 
+    /// Writes the zigzag encoding of an `i128` as a varint of 1 to 19 bytes.
     pub fn serialize_i128(&mut self, v: i128) -> Result<()>
         ensures { Wrote F.Flavor self.old.output
             (canonical (Int 128 v)) never ⊥ result self.new.output }

@@ -23,6 +23,7 @@ macro_rules! unfold_sign {
     };
 }
 
+/// Returns the zigzag encoding of an `i16`.
 #[tactic(auto, using(crate::proofs::Folded::folded_16))]
 pub fn zig_zag_i16(n: i16) -> u16
     ensures { result ≡ zigzag n }
@@ -30,6 +31,7 @@ pub fn zig_zag_i16(n: i16) -> u16
     fold_sign!(n, i16)
 }
 
+/// Returns the zigzag encoding of an `i32`.
 #[tactic(auto, using(crate::proofs::Folded::folded_32))]
 pub fn zig_zag_i32(n: i32) -> u32
     ensures { result ≡ zigzag n }
@@ -37,6 +39,7 @@ pub fn zig_zag_i32(n: i32) -> u32
     fold_sign!(n, i32)
 }
 
+/// Returns the zigzag encoding of an `i64`.
 #[tactic(auto, using(crate::proofs::Folded::folded_64))]
 pub fn zig_zag_i64(n: i64) -> u64
     ensures { result ≡ zigzag n }
@@ -44,6 +47,7 @@ pub fn zig_zag_i64(n: i64) -> u64
     fold_sign!(n, i64)
 }
 
+/// Returns the zigzag encoding of an `i128`.
 #[tactic(auto, using(crate::proofs::Folded::folded_128))]
 pub fn zig_zag_i128(n: i128) -> u128
     ensures { result ≡ zigzag n }
@@ -51,6 +55,7 @@ pub fn zig_zag_i128(n: i128) -> u128
     fold_sign!(n, i128)
 }
 
+/// Returns the `i16` whose zigzag encoding is `n`.
 #[tactic(auto, using(crate::proofs::Folded::unfolded))]
 pub fn de_zig_zag_i16(n: u16) -> i16
     ensures { zigzag result ≡ n }
@@ -58,6 +63,7 @@ pub fn de_zig_zag_i16(n: u16) -> i16
     unfold_sign!(n)
 }
 
+/// Returns the `i32` whose zigzag encoding is `n`.
 #[tactic(auto, using(crate::proofs::Folded::unfolded))]
 pub fn de_zig_zag_i32(n: u32) -> i32
     ensures { zigzag result ≡ n }
@@ -65,6 +71,7 @@ pub fn de_zig_zag_i32(n: u32) -> i32
     unfold_sign!(n)
 }
 
+/// Returns the `i64` whose zigzag encoding is `n`.
 #[tactic(auto, using(crate::proofs::Folded::unfolded))]
 pub fn de_zig_zag_i64(n: u64) -> i64
     ensures { zigzag result ≡ n }
@@ -72,6 +79,7 @@ pub fn de_zig_zag_i64(n: u64) -> i64
     unfold_sign!(n)
 }
 
+/// Returns the `i128` whose zigzag encoding is `n`.
 #[tactic(auto, using(crate::proofs::Folded::unfolded))]
 pub fn de_zig_zag_i128(n: u128) -> i128
     ensures { zigzag result ≡ n }
