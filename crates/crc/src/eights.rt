@@ -34,7 +34,6 @@ fn word(refin: bool, eight: &[u8]) -> u64
     }
 }
 
-// The eight bytes of such a number.
 #[inline]
 fn spelled(refin: bool, word: u64) -> [u8; 8]
     ensures { message refin result ≡ in_order refin 64 word }

@@ -11,10 +11,8 @@ use crate::{bitwise, table};
 
 /// How a checksum is computed: by which tables.
 pub trait Implementation<W: Width>: Drop {
-    /// The entries of the tables.
     ghost entries: { Self → List ℕ };
 
-    /// The number of entries.
     ghost count: { ℕ };
 
     /// Makes the tables of an algorithm.

@@ -10,7 +10,6 @@ pub trait Width: Copy {
     /// The number of bytes of a value.
     ghost size: { ℕ };
 
-    /// The number of bits of a value.
     fn bits() -> u32
         ensures bits { result ≡ 8 * size }
         ensures some { 8 ≤ result }

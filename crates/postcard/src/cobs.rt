@@ -46,7 +46,7 @@ fn framed<T: Serialize, B: Storage + Drop>(value: &T, storage: B) -> Result<<B a
 /// # Errors
 ///
 /// If `B` is at most `usize::MAX - 2`, fails with `SerializeBufferFull` if and only if the frame is
-/// longer than `B` bytes, but for the [exceptions](crate#errors-of-encoding) on the crate's page.
+/// longer than `B` bytes, but for the [exceptions](crate#errors-of-encoding).
 #[tactic(auto, using(crate::specs::Lemmas::frame_decodes))]
 pub fn to_vec_cobs<T: Serialize, const B: usize>(value: &T) -> Result<ArrayVec<u8, B>>
     ensures gives { IfOk result (λ vec. vec.items ≡ made (canonical (T.shape.tree value.now))) }
@@ -66,16 +66,16 @@ pub fn to_vec_cobs<T: Serialize, const B: usize>(value: &T) -> Result<ArrayVec<u
 /// Encodes a value as a frame into the front of `buf`, and returns that front, which is the frame
 /// with its sentinel. The bytes after it are unchanged. Nothing is allocated.
 ///
-/// The clause `writes_back` says what the buffer holds once the loan has ended. A caller with
-/// proofs of its own about the buffer uses [`fill_slice_cobs`], whose plain clauses say the same.
+/// Once the loan has ended, the buffer holds what the caller made of the frame, and then the old
+/// bytes (clause `writes_back`). A caller with proofs of its own about the buffer uses
+/// [`fill_slice_cobs`], whose plain clauses say the same.
 ///
 /// # Errors
 ///
 /// Fails with `SerializeBufferFull` if and only if the frame is longer than `buf`, but for the
-/// [exceptions](crate#errors-of-encoding) on the crate's page. After a failure the content of the
-/// buffer is unspecified.
+/// [exceptions](crate#errors-of-encoding). After a failure the content of the buffer is
+/// unspecified.
 pub fn to_slice_cobs<'a, T: Serialize>(value: &T, buf: &'a mut [u8]) -> Result<&'a mut [u8]>
-    // After a success, the buffer holds what the caller made of the frame, and then the old bytes.
     ensures* writes_back { sem 𝓛 (LendsSoOk (Array u8 0) (Array u8 0) buf.entry result
         (λ all front. all ≡ front
         ++ drop (length (made (canonical (T.shape.tree value.now)))) buf.old)
@@ -93,8 +93,7 @@ pub fn to_slice_cobs<'a, T: Serialize>(value: &T, buf: &'a mut [u8]) -> Result<&
     lend_front(write_frame(value, buf))
 }
 
-/// Encodes a value as a frame after the bytes that a storage holds. Returns the storage in any
-/// case, and whether it succeeded.
+/// Does what [`framed`] does, but returns the storage in any case, and whether it succeeded.
 fn frame_into<T: Serialize, B: Storage + Drop>(value: &T, storage: B) -> (B, Result<()>)
     ensures gives { OnOk result.1
         (B.held result.0 ≡ B.held storage ++ made (canonical (T.shape.tree value.now))) }
@@ -142,13 +141,10 @@ fn write_frame<'a, T: Serialize>(value: &T, buf: &'a mut [u8]) -> Attempt<'a>
     }
 }
 
-/// Does the same as [`to_slice_cobs`], and returns the number of bytes of the frame, the sentinel
-/// included, for callers that keep the buffer: its contract says what the whole buffer holds after
-/// the call. The Rust crate has no such call.
-///
-/// # Errors
-///
-/// Fails as [`to_slice_cobs`], and leaves the buffer as that does.
+/// Does what [`to_slice_cobs`] does, with the same errors, and returns the number of bytes of the
+/// frame, the sentinel included, for callers that keep the buffer: its contract says what the whole
+/// buffer holds after the call. After a failure its content is unspecified. The Rust crate has no
+/// such call.
 pub fn fill_slice_cobs<T: Serialize>(value: &T, buf: &mut [u8]) -> Result<usize>
     ensures count_is_length { IfOk result
         (λ count. count ≡ length (made (canonical (T.shape.tree value.now)))) }
@@ -177,7 +173,7 @@ pub fn fill_slice_cobs<T: Serialize>(value: &T, buf: &mut [u8]) -> Result<usize>
 /// # Errors
 ///
 /// Fails with `SerializeBufferFull`, and only if an allocation fails, but for the
-/// [exceptions](crate#errors-of-encoding) on the crate's page.
+/// [exceptions](crate#errors-of-encoding).
 #[tactic(auto, using(crate::specs::Lemmas::frame_decodes))]
 pub fn to_allocvec_cobs<T: Serialize>(alloc: Global, value: &T) -> Result<Vec<u8>>
     ensures gives { IfOk result (λ vec. vec.items ≡ made (canonical (T.shape.tree value.now))) }
@@ -189,8 +185,7 @@ pub fn to_allocvec_cobs<T: Serialize>(alloc: Global, value: &T) -> Result<Vec<u8
     framed(value, AllocVec::new(alloc))
 }
 
-/// Does the same as [`to_allocvec_cobs`], under the name that the Rust crate has for users of
-/// `std`.
+/// Does the same as [`to_allocvec_cobs`], under the name that the Rust crate has for `std`.
 pub fn to_stdvec_cobs<T: Serialize>(alloc: Global, value: &T) -> Result<Vec<u8>>
     ensures gives { IfOk result (λ vec. vec.items ≡ made (canonical (T.shape.tree value.now))) }
     ensures decodes { IfOk result
@@ -206,9 +201,7 @@ pub fn to_stdvec_cobs<T: Serialize>(alloc: Global, value: &T) -> Result<Vec<u8>>
 ///
 /// # Errors
 ///
-/// Fails with `SerializeBufferFull`, and only if an allocation fails, but for the
-/// [exceptions](crate#errors-of-encoding) on the crate's page. After a failure the vector is
-/// dropped.
+/// Fails as [`to_allocvec_cobs`], and drops the vector then.
 #[tactic(auto, using(crate::specs::Lemmas::frame_after_decodes))]
 pub fn to_allocvec_cobs_after<T: Serialize>(value: &T, vec: Vec<u8>) -> Result<Vec<u8>>
     ensures gives { IfOk result

@@ -18,7 +18,7 @@ use postcard_wire::Result;
 /// # Errors
 ///
 /// Fails with `SerializeBufferFull` if and only if the number exceeds `usize::MAX`, but for the
-/// [exceptions](crate#errors-of-encoding) on the crate's page.
+/// [exceptions](crate#errors-of-encoding).
 pub fn serialized_size<T: Serialize>(value: &T) -> Result<usize>
     ensures gives { IfOk result (λ count. count ≡ length (canonical (T.shape.tree value.now))) }
     ensures fits_iff { IsWilling T.shape value.now

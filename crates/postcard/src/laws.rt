@@ -69,11 +69,7 @@ pub fn comes_back<T: Serialize + DeserializeOwned>(alloc: Global, value: &T) -> 
 }
 
 /// Encodes a value as a frame, decodes it again in place, and returns the decoded value, which
-/// looks like the first.
-///
-/// # Errors
-///
-/// Fails as [`comes_back`].
+/// looks like the first. Fails as [`comes_back`].
 pub fn frame_comes_back<T: Serialize + DeserializeOwned>(alloc: Global, value: &T) -> Result<T>
     ensures { IfOk result (λ back. T.shape.same back value.now) }
 {

@@ -33,12 +33,10 @@
 //!   `postcard_frame`), and `from_io` from a reader (module `de`).
 //! - `CobsAccumulator` puts frames together from the pieces of a stream (module `accumulator`), and
 //!   `read_frames` reads the frames of a reader (both of `postcard_accumulator`).
-//! - `to_slice_crc32` and the calls of `ser_flavors::checksum` write a value with a checksum after
-//!   it, and `from_bytes_crc32` and the calls of `de_flavors::checksum` check it (all of
-//!   `postcard_crc`); `accumulator::checksum::read_frames` reads such frames from a reader
-//!   (`postcard_crc_frames`).
-//! - `fixint` writes and reads numbers at their full width, the lowest or the highest byte first
-//!   (all of `postcard_fixint`).
+//! - The modules `checksum` of `ser_flavors`, `de_flavors` and `accumulator`, and the calls whose
+//!   names end in `_crc32`, write values with a checksum after each, and check it when they read
+//!   (`postcard_crc`, `postcard_crc_frames`).
+//! - `fixint` writes and reads numbers at their full width (all of `postcard_fixint`).
 //! - `laws` has the laws that tie both directions together.
 #![tactic(auto)]
 

@@ -18,18 +18,16 @@ use postcard_wire::{Error, Result};
 /// value's tree, which is its shortest spelling. The bytes after it are unchanged. Nothing is
 /// allocated.
 ///
-/// The clause `writes_back` says what the buffer holds once the loan has ended. A caller with
-/// proofs of its own about the buffer uses [`fill_slice`], whose plain clauses say the same.
+/// Once the loan has ended, the buffer holds what the caller made of the front, and then the old
+/// bytes (clause `writes_back`). A caller with proofs of its own about the buffer uses
+/// [`fill_slice`], whose plain clauses say the same.
 ///
 /// # Errors
 ///
 /// Fails with `SerializeBufferFull` if and only if the encoding is longer than `buf`, but for the
-/// [exceptions](crate#errors-of-encoding) on the crate's page. The buffer then holds a beginning of
-/// the encoding, and after it the old bytes; if the value refuses itself, its content is
-/// unspecified.
+/// [exceptions](crate#errors-of-encoding). The buffer then holds a beginning of the encoding, and
+/// after it the old bytes; if the value refuses itself, its content is unspecified.
 pub fn to_slice<'a, T: Serialize>(value: &T, buf: &'a mut [u8]) -> Result<&'a mut [u8]>
-    // After a success, the buffer holds what the caller made of the front, and then the old bytes;
-    // after a failure, a beginning of the encoding, and then the old bytes.
     ensures* writes_back { sem 𝓛 (LendsSoOk (Array u8 0) (Array u8 0) buf.entry result
         (λ all front. all ≡ front ++ drop (length (canonical (T.shape.tree value.now))) buf.old)
         (λ all. IsWilling T.shape value.now
@@ -48,13 +46,9 @@ pub fn to_slice<'a, T: Serialize>(value: &T, buf: &'a mut [u8]) -> Result<&'a mu
     lend_front(write_front(value, buf))
 }
 
-/// Does the same as [`to_slice`], and returns the number of bytes written, for callers that keep
-/// the buffer: its contract says what the whole buffer holds after the call. The Rust crate has no
-/// such call.
-///
-/// # Errors
-///
-/// Fails as [`to_slice`], and leaves the buffer as that does.
+/// Does what [`to_slice`] does, with the same errors and the same bytes in the buffer after them,
+/// and returns the number of bytes written, for callers that keep the buffer: its contract says
+/// what the whole buffer holds after the call. The Rust crate has no such call.
 pub fn fill_slice<T: Serialize>(value: &T, buf: &mut [u8]) -> Result<usize>
     ensures count_is_length { IfOk result (λ count. count
         ≡ length (canonical (T.shape.tree value.now))) }
@@ -86,8 +80,7 @@ pub(crate) struct Attempt<'a> {
     pub(crate) error: Error,
 }
 
-/// Writes the value into the front of the buffer, and returns the whole buffer, the same loan, with
-/// the outcome.
+/// Writes the value into the front of the buffer, and returns the whole buffer, the same loan.
 fn write_front<'a, T: Serialize>(value: &T, buf: &'a mut [u8]) -> Attempt<'a>
     ensures same_loan { result.all.ghost_name ≡ buf.entry.ghost_name }
     ensures attempts { IsAttempt T.shape value.now (canonical (T.shape.tree value.now))

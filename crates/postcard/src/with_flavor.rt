@@ -21,8 +21,8 @@ use std::io::Write;
 /// # Errors
 ///
 /// Fails with `SerializeBufferFull` if the flavor refuses bytes or can't end, and never if it has
-/// room for the encoding, but for the [exceptions](crate#errors-of-encoding) on the crate's page.
-/// After a failure the flavor is dropped.
+/// room for the encoding, but for the [exceptions](crate#errors-of-encoding). After a failure the
+/// flavor is dropped.
 pub fn serialize_with_flavor<T: Serialize, S: Flavor<Output = O> + Drop, O>(
     value: &T,
     storage: S,
@@ -49,7 +49,7 @@ pub fn serialize_with_flavor<T: Serialize, S: Flavor<Output = O> + Drop, O>(
 /// # Errors
 ///
 /// Fails with `SerializeBufferFull` if and only if the encoding has more than `B` bytes, but for
-/// the [exceptions](crate#errors-of-encoding) on the crate's page.
+/// the [exceptions](crate#errors-of-encoding).
 pub fn to_vec<T: Serialize, const B: usize>(value: &T) -> Result<ArrayVec<u8, B>>
     ensures gives { IfOk result (λ vec. vec.items ≡ canonical (T.shape.tree value.now)) }
     ensures fits_iff { IsWilling T.shape value.now
@@ -67,7 +67,7 @@ pub fn to_vec<T: Serialize, const B: usize>(value: &T) -> Result<ArrayVec<u8, B>
 /// # Errors
 ///
 /// Fails with `SerializeBufferFull`, and only if an allocation fails, but for the
-/// [exceptions](crate#errors-of-encoding) on the crate's page.
+/// [exceptions](crate#errors-of-encoding).
 pub fn to_allocvec<T: Serialize>(alloc: Global, value: &T) -> Result<Vec<u8>>
     ensures gives { IfOk result (λ vec. vec.items ≡ canonical (T.shape.tree value.now)) }
     ensures named_error { IfErr result (IsErrorOf T.shape value.now) }
@@ -76,7 +76,7 @@ pub fn to_allocvec<T: Serialize>(alloc: Global, value: &T) -> Result<Vec<u8>>
     serialize_with_flavor(value, AllocVec::new(alloc))
 }
 
-/// Does the same as [`to_allocvec`], under the name that the Rust crate has for users of `std`.
+/// Does the same as [`to_allocvec`], under the name that the Rust crate has for `std`.
 pub fn to_stdvec<T: Serialize>(alloc: Global, value: &T) -> Result<Vec<u8>>
     ensures gives { IfOk result (λ vec. vec.items ≡ canonical (T.shape.tree value.now)) }
     ensures named_error { IfErr result (IsErrorOf T.shape value.now) }
@@ -90,8 +90,7 @@ pub fn to_stdvec<T: Serialize>(alloc: Global, value: &T) -> Result<Vec<u8>>
 /// # Errors
 ///
 /// Fails with `SerializeBufferFull` if the target refuses bytes, but for the
-/// [exceptions](crate#errors-of-encoding) on the crate's page. After a failure the target is
-/// dropped.
+/// [exceptions](crate#errors-of-encoding). After a failure the target is dropped.
 pub fn to_extend<T: Serialize, W: ExtendBytes + Drop>(value: &T, writer: W) -> Result<W>
     ensures appends { IfOk result
         (λ target. W.content target ≡ W.content writer ++ canonical (T.shape.tree value.now)) }
@@ -106,8 +105,8 @@ pub fn to_extend<T: Serialize, W: ExtendBytes + Drop>(value: &T, writer: W) -> R
 /// # Errors
 ///
 /// Fails with `SerializeBufferFull` if the writer or its flush fails, but for the
-/// [exceptions](crate#errors-of-encoding) on the crate's page. After a failure the writer is
-/// dropped, and may have been given some of the bytes.
+/// [exceptions](crate#errors-of-encoding). After a failure the writer is dropped, and may have been
+/// given some of the bytes.
 pub fn to_io<T: Serialize, W: Write + Drop>(value: &T, writer: W) -> Result<W>
     ensures appends { IfOk result (λ output. Appends (W.contents writer) (W.contents output)
         (canonical (T.shape.tree value.now))) }

@@ -1,4 +1,4 @@
-//! The accumulator: frames are put together from pieces of a stream, and their values decoded.
+//! The accumulator.
 
 ghost use Rattle.std.specs.Prelude.{◌≡◌, ◌+◌, ◌≤◌, List, ℕ, [], ◌++◌, length, take};
 ghost use Rattle.std.specs.Prelude.{false, IfOk, OnErr};
@@ -40,7 +40,6 @@ impl<const N: usize> Model for CobsAccumulator<N> {
 }
 
 impl<const N: usize> Default for CobsAccumulator<N> {
-    /// Returns an accumulator that holds nothing.
     fn default() -> Self
         ensures { result ≡ holding [] }
     {
@@ -99,7 +98,7 @@ impl<const N: usize> CobsAccumulator<N> {
         }
     }
 
-    /// Returns `true` if an oversized frame is being skipped: `OverFull` was returned, and the
+    /// Returns whether an oversized frame is being skipped: `OverFull` was returned, and the
     /// frame's zero hasn't come yet.
     pub fn skipping(&self) -> bool
         ensures { result ≡ is_skipping self.now }
@@ -107,8 +106,8 @@ impl<const N: usize> CobsAccumulator<N> {
         self.skipping
     }
 
-    /// Adds the bytes of `input` to those held. They must have room and no zero among them, and the
-    /// accumulator must not be skipping a frame.
+    /// Adds bytes to those held. They must have room and no zero among them, and the accumulator
+    /// must not be skipping a frame.
     fn extend(&mut self, input: &[u8])
         requires not_skipping { is_skipping self.old ≡ false }
         requires room { length (held_of self.old) + length input.now ≤ N }
@@ -139,8 +138,8 @@ impl<const N: usize> CobsAccumulator<N> {
         Ok(&all[..n])
     }
 
-    /// Takes in a piece up to the end of a frame, as [`take_in`](CobsAccumulator::take_in) does.
-    /// The accumulator must not be skipping a frame.
+    /// The part of [`take_in`](CobsAccumulator::take_in) for an accumulator that isn't skipping a
+    /// frame.
     fn take_held<'de, 'a>(&'de mut self, input: &'a [u8]) -> FeedResult<'a, &'de [u8]>
         requires { is_skipping self.old ≡ false }
         ensures answer { (after : State)
@@ -176,9 +175,8 @@ impl<const N: usize> CobsAccumulator<N> {
 
     /// Does the same as [`feed`](CobsAccumulator::feed), but decodes only the frame and reads no
     /// value: `Success` has the frame's data, and `DeserError` is returned for a frame that is no
-    /// COBS frame.
-    ///
-    /// The data borrows from the accumulator, which can be used again once that loan ends.
+    /// COBS frame. The data borrows from the accumulator, which can be used again once that loan
+    /// ends.
     pub fn take_in<'de, 'a>(&'de mut self, input: &'a [u8]) -> FeedResult<'a, &'de [u8]>
         ensures answer { (after : State) × IsTaken N self.old input.now result after }
         ensures* after { sem 𝓛 (follows_so (the_row N.row) (the_row N.row)

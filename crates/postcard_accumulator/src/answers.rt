@@ -1,4 +1,4 @@
-//! What an accumulator returns: the result of one feed, and the answer to a frame.
+//! What an accumulator returns.
 
 /// The result of [`feed`](crate::accumulator::CobsAccumulator::feed), and of
 /// [`take_in`](crate::accumulator::CobsAccumulator::take_in), where the value of a frame is its data.
@@ -9,29 +9,26 @@
 pub enum FeedResult<'a, T> {
     /// All of the piece was consumed, and no frame ended except one that was being skipped.
     Consumed,
-    /// A frame has no room in the accumulator. It is dropped up to and including the zero that ends
-    /// it, which may come in a later piece.
+    /// A frame has no room in the accumulator. It is dropped through the zero that ends it, which
+    /// may come in a later piece.
     OverFull(&'a [u8]),
     /// A frame ended that has no value of the type: it is no COBS frame, or no front of its data
-    /// spells a tree that the type reads. Also returned if an allocation for the value failed. The
-    /// frame is dropped.
+    /// spells a tree that the type reads; or an allocation for the value failed. The frame is
+    /// dropped.
     DeserError(&'a [u8]),
     /// A frame ended, and its value was decoded.
     Success {
-        /// The value.
         value: T,
         /// The bytes after the frame's zero.
         remaining: &'a [u8],
     },
 }
 
-/// The answer to one frame of a stream, as [`read_frames`](crate::read_frames) collects them.
+/// The answer to one frame of a stream, as [`read_frames`](crate::read_frames) collects them. The
+/// variants are those of [`FeedResult`].
 #[derive(Debug, PartialEq, Eq, Drop)]
 pub enum Answer<T> {
-    /// The frame has no room in the accumulator.
     OverFull,
-    /// The frame has no value of the type, or an allocation for the value failed.
     DeserError,
-    /// The value of the frame.
     Success(T),
 }

@@ -36,14 +36,8 @@
 //! stream: one for each frame, in order, whatever the pieces are. `specs/Values.antt` says what a
 //! frame's own answer is. The answers of [`read_frames`] are those of all bytes that it read and
 //! fed. [`laws`] has what follows for every stream: above all, [`laws::messages_arrive`].
-//!
-//! # Contents
-//!
-//! - [`accumulator`]: [`CobsAccumulator`], with [`FeedResult`].
-//!   [`take_in`](CobsAccumulator::take_in) is the half of a feed that reads no value, for callers
-//!   with proofs of their own.
-//! - [`read_frames`], with [`Answer`] and [`ReadEnd`].
-//! - [`laws`]: what holds of every stream, as contracts of functions that do nothing.
+//! [`take_in`](CobsAccumulator::take_in) is the half of a feed that reads no value, for callers
+//! with proofs of their own.
 #![tactic(auto)]
 
 pub mod accumulator;

@@ -1,4 +1,4 @@
-//! The reading loop: reads all frames of a reader by an accumulator.
+//! The reading loop.
 
 ghost use Rattle.std.specs.Prelude.{◌≡◌, ◌≢◌, ◌<◌, ◌++◌, ◌∷◌, [], length};
 ghost use Rattle.std.specs.Prelude.{vec_len, vec_capacity};

@@ -74,12 +74,8 @@ pub fn take_from_bytes<'a, T: Deserialize<'a>, W: Width, I: Implementation<W>>(
     Ok((value, rest))
 }
 
-/// Decodes a value from the front of `bytes`, after which its checksum stands, as
-/// [`take_from_bytes`]. Bytes after the checksum are ignored.
-///
-/// # Errors
-///
-/// Fails as [`take_from_bytes`].
+/// Decodes a value as [`take_from_bytes`] does, with the same errors. Bytes after the checksum are
+/// ignored.
 pub fn from_bytes<'a, T: Deserialize<'a>, W: Width, I: Implementation<W>>(
     alloc: Global,
     bytes: &'a [u8],

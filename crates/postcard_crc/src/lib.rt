@@ -11,12 +11,8 @@
 //! that refuses itself may fail in any case, also with an error of its own; if there is room for
 //! the message, only with such an error.
 //!
-//! # Contents
-//!
-//! - [`ser`] has the writing flavor, and the calls that encode.
-//! - [`de`] has the reading flavor, and the calls that decode.
-//! - [`ser_flavors`] and [`de_flavors`] have the names of the Rust crate for each width, as the modules
-//!   `checksum` of `postcard::ser_flavors` and `postcard::de_flavors`.
+//! In reading order: [`ser`], [`de`], and [`ser_flavors`] and [`de_flavors`] with the names of the
+//! Rust crate for each width, as the modules `checksum` of `postcard`.
 #![tactic(auto)]
 
 pub mod de;

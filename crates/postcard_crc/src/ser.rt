@@ -29,8 +29,8 @@ pub use modifier::CrcModifier;
 /// # Errors
 ///
 /// Fails with `SerializeBufferFull` if the flavor refuses bytes or can't end, and never if it has
-/// room for the encoding and the checksum, but for the [exceptions](crate#errors-of-encoding) on
-/// the crate's page. After a failure the flavor is dropped.
+/// room for the encoding and the checksum, but for the [exceptions](crate#errors-of-encoding).
+/// After a failure the flavor is dropped.
 pub fn serialize_with_checksum<
     T: Serialize,
     S: Flavor<Output = O> + Drop,
@@ -63,8 +63,8 @@ pub fn serialize_with_checksum<
 /// # Errors
 ///
 /// Fails with `SerializeBufferFull` if and only if `buf` has no room for the encoding and the
-/// checksum, but for the [exceptions](crate#errors-of-encoding) on the crate's page. After a
-/// failure the content of the buffer is unspecified.
+/// checksum, but for the [exceptions](crate#errors-of-encoding). After a failure the content of the
+/// buffer is unspecified.
 pub fn to_slice<'a, T: Serialize, W: Width, I: Implementation<W>>(
     value: &T,
     buf: &'a mut [u8],
@@ -88,7 +88,7 @@ pub fn to_slice<'a, T: Serialize, W: Width, I: Implementation<W>>(
 /// # Errors
 ///
 /// Fails with `SerializeBufferFull` if and only if the encoding and the checksum have more than `B`
-/// bytes, but for the [exceptions](crate#errors-of-encoding) on the crate's page.
+/// bytes, but for the [exceptions](crate#errors-of-encoding).
 pub fn to_vec<T: Serialize, W: Width, I: Implementation<W>, const B: usize>(
     value: &T,
     digest: Digest<'_, W, I>,
@@ -110,7 +110,7 @@ pub fn to_vec<T: Serialize, W: Width, I: Implementation<W>, const B: usize>(
 /// # Errors
 ///
 /// Fails with `SerializeBufferFull`, and only if an allocation fails, but for the
-/// [exceptions](crate#errors-of-encoding) on the crate's page.
+/// [exceptions](crate#errors-of-encoding).
 pub fn to_allocvec<T: Serialize, W: Width, I: Implementation<W>>(
     alloc: Global,
     value: &T,
@@ -156,8 +156,8 @@ fn framed<T: Serialize, B: Storage + Drop, W: Width, I: Implementation<W>>(
 ///
 /// Fails with `SerializeBufferFull` if the frame is longer than `buf`, and never if `buf` has room
 /// for the frame of the encoding and any checksum, but for the
-/// [exceptions](crate#errors-of-encoding) on the crate's page. After a failure the content of the
-/// buffer is unspecified.
+/// [exceptions](crate#errors-of-encoding). After a failure the content of the buffer is
+/// unspecified.
 pub fn to_slice_cobs<'a, T: Serialize, W: Width, I: Implementation<W>>(
     value: &T,
     buf: &'a mut [u8],
@@ -177,13 +177,8 @@ pub fn to_slice_cobs<'a, T: Serialize, W: Width, I: Implementation<W>>(
     framed(value, Slice::new(buf), digest)
 }
 
-/// Encodes a value and its checksum as a frame into a new `Vec`, the sentinel included. The Rust
-/// crate has no such call.
-///
-/// # Errors
-///
-/// Fails with `SerializeBufferFull`, and only if an allocation fails, but for the
-/// [exceptions](crate#errors-of-encoding) on the crate's page.
+/// Encodes a value and its checksum as a frame into a new `Vec`, the sentinel included. Fails as
+/// [`to_allocvec`]. The Rust crate has no such call.
 pub fn to_allocvec_cobs<T: Serialize, W: Width, I: Implementation<W>>(
     alloc: Global,
     value: &T,

@@ -62,17 +62,15 @@ fn feed_all<T: DeserializeOwned, W: Width, I: Implementation<W>, const N: usize>
     0
 }
 
-/// Reads a stream of frames of values with a checksum, and appends the answers to `out`. The Rust
-/// crate has no such call.
+/// Reads a stream of frames of values with a checksum, and appends the answers to `out`, in all
+/// else as [`read_frames`](postcard_accumulator::read_frames) does: it makes at most `reads` reads,
+/// each into `chunk`, which must not be empty; however it ends, `out` keeps the answers and `acc`
+/// its state, so another call continues there; and after `OutOfMemory` the caller must feed
+/// `chunk[from..to]` next. The Rust crate has no such call.
 ///
-/// It does the same as [`read_frames`](postcard_accumulator::read_frames) in all else: it makes at
-/// most `reads` reads, each into `chunk`, which must not be empty; however it ends, `out` keeps the
-/// answers and `acc` its state, so another call continues there; and after `OutOfMemory` the caller
-/// must feed `chunk[from..to]` next.
-///
-/// The answers are one for each frame of the stream, in order, however the reader cuts it: the value,
-/// if the frame's data is its encoding and then just its checksum; otherwise `DeserError`, or
-/// `OverFull` for a frame that has no room. What holds of damaged frames is in
+/// The answers are one for each frame of the stream, in order, however the reader cuts it: the
+/// value, if the frame's data is its encoding and then just its checksum; otherwise `DeserError`,
+/// or `OverFull` for a frame that has no room. What holds of damaged frames is in
 /// [`laws`](crate::laws).
 pub fn read_frames<R: Source, T: DeserializeOwned, W: Width, I: Implementation<W>, const N: usize>(
     alloc: Global,

@@ -11,6 +11,11 @@ use postcard_wire::{Error, Result};
 
 /// A source of bytes: returns the bytes of a message in order, as a reading flavor of postcard
 /// 1.1.3 does.
+///
+/// # Errors
+///
+/// A call that takes bytes fails only with `DeserializeUnexpectedEnd`, and never if the source is
+/// `able` to give that many. It leaves the source in a state that `may_leave` allows.
 pub trait Flavor: Drop {
     /// What `finalize` returns: what is left of the source.
     type Remainder;
@@ -24,8 +29,8 @@ pub trait Flavor: Drop {
     /// pieces.
     ghost able: { Self → ℕ → Type 0 };
 
-    /// The states, by the state before, that a call of `pop`, `try_take_n` or `try_take_n_temp` may
-    /// leave, whether it succeeds or fails.
+    /// The states, by the state before, that a call that takes bytes may leave, whether it succeeds
+    /// or fails.
     ghost may_leave: { Self → Self → Type 0 };
 
     /// What `finalize` may return.
@@ -39,11 +44,6 @@ pub trait Flavor: Drop {
     ghost lawful: { Laws left able may_leave };
 
     /// Takes the next byte.
-    ///
-    /// # Errors
-    ///
-    /// Fails only with `DeserializeUnexpectedEnd`, and never if the source is able to give one
-    /// byte. The source is left in a state that `may_leave` allows.
     fn pop(&mut self) -> Result<u8>
         ensures gives { IfOk result (λ b. Takes left able self.old (b ∷ []) self.new) }
         ensures accepts { able self.old 1 → IsOk result }
@@ -56,8 +56,7 @@ pub trait Flavor: Drop {
         ensures { result ≡ hint self.now };
 
     /// Returns some of the next bytes: ones that are in memory already, so that taking them
-    /// succeeds. Returns an empty slice if there are none. The default always returns an empty
-    /// slice, as a source over a reader does.
+    /// succeeds. The default returns none, as a source over a reader does.
     fn at_hand(&self) -> &[u8]
         ensures can_take { 0 < length result.now → CanTake left able self.now result.now }
     {
@@ -66,11 +65,6 @@ pub trait Flavor: Drop {
 
     /// Takes the next `ct` bytes. The slice borrows from what the source borrows (`Self: 'de`) and
     /// not from the source itself, so it stays valid after later calls.
-    ///
-    /// # Errors
-    ///
-    /// Fails only with `DeserializeUnexpectedEnd`, and never if the source is able to give `ct`
-    /// bytes. The source is left in a state that `may_leave` allows.
     fn try_take_n<'de>(&mut self, ct: usize) -> Result<&'de [u8]>
     where
         Self: 'de,
@@ -82,11 +76,6 @@ pub trait Flavor: Drop {
             (λ e. e ≡ Error.DeserializeUnexpectedEnd) };
 
     /// Takes the next `ct` bytes. The slice is valid until the next call on this source.
-    ///
-    /// # Errors
-    ///
-    /// Fails only with `DeserializeUnexpectedEnd`, and never if the source is able to give `ct`
-    /// bytes. The source is left in a state that `may_leave` allows.
     fn try_take_n_temp(&mut self, ct: usize) -> Result<&[u8]>
         ensures length { IfOk result (λ front. length front.now ≡ ct) }
         ensures* gives { sem 𝓛 (Rests Self.row self.entry

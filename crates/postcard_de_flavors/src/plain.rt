@@ -1,4 +1,4 @@
-//! Adapts any reader to `Source`, with no promise that a read succeeds.
+//! Any reader as a `Source`.
 
 ghost use Rattle.std.specs.Prelude.{◌≡◌};
 ghost use Rattle.postcard_de_flavors.specs.Plain.{inner_of};

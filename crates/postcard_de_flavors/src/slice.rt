@@ -13,6 +13,9 @@ use postcard_wire::{Error, Result};
 use std::marker::Model;
 
 /// A source that reads from a slice. A contract sees the list of the bytes left.
+///
+/// A call fails with `DeserializeUnexpectedEnd` if and only if fewer bytes are left than it takes,
+/// and changes nothing then. `finalize` returns the bytes left, and never fails.
 #[derive(Drop)]
 pub struct Slice<'de> {
     bytes: Bytes<'de>,
@@ -61,12 +64,6 @@ impl<'de> Flavor for Slice<'de> {
 
     ghost lawful = { slice_laws };
 
-    /// Takes the next byte.
-    ///
-    /// # Errors
-    ///
-    /// Fails with `DeserializeUnexpectedEnd` if and only if no byte is left; nothing is changed
-    /// then.
     fn pop(&mut self) -> Result<u8>
         ensures gives { IfOk result (λ b. Takes ⟦<Slice<'de> as Flavor>⟧.left
             ⟦<Slice<'de> as Flavor>⟧.able self.old (b ∷ []) self.new) }
@@ -98,12 +95,7 @@ impl<'de> Flavor for Slice<'de> {
         self.bytes.view(self.len)
     }
 
-    /// Takes the next `ct` bytes. The slice is valid as long as the slice that is read.
-    ///
-    /// # Errors
-    ///
-    /// Fails with `DeserializeUnexpectedEnd` if and only if fewer than `ct` bytes are left; nothing
-    /// is changed then.
+    /// The slice returned is valid as long as the slice that is read.
     fn try_take_n<'a>(&mut self, ct: usize) -> Result<&'a [u8]>
     where
         Self: 'a,
@@ -122,12 +114,6 @@ impl<'de> Flavor for Slice<'de> {
         Ok(self.bytes.take(ct))
     }
 
-    /// Takes the next `ct` bytes. The slice is valid until the next call on this source.
-    ///
-    /// # Errors
-    ///
-    /// Fails with `DeserializeUnexpectedEnd` if and only if fewer than `ct` bytes are left; nothing
-    /// is changed then.
     fn try_take_n_temp(&mut self, ct: usize) -> Result<&[u8]>
         ensures length { IfOk result (λ front. length front.now ≡ ct) }
         ensures* gives { sem 𝓛 (Rests (the_row (record { mir = named 1; lft = [] })) self.entry
@@ -145,7 +131,6 @@ impl<'de> Flavor for Slice<'de> {
         Ok(front)
     }
 
-    /// Returns the bytes left. Never fails.
     fn finalize(self) -> Result<&'de [u8]> {
         let Slice { bytes, len } = self;
         Ok(bytes.whole(len))

@@ -17,10 +17,9 @@ pub trait Source: Read + Drop {
     /// No read fails while bytes are left.
     ghost steady: { Self → Type 0 };
 
-    /// Reads into the front of `buf` and returns the number of bytes read, as `Read::read` does.
-    ///
-    /// If the reader knows the bytes left, those read are their front, and it returns 0 for a
-    /// buffer that isn't empty only at its end.
+    /// Reads into the front of `buf` and returns the number of bytes read, as `Read::read` does. If
+    /// the reader knows the bytes left, those read are their front, and it returns 0 for a buffer
+    /// that isn't empty only at its end.
     ///
     /// # Errors
     ///

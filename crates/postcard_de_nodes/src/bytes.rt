@@ -9,11 +9,8 @@ use postcard_wire::{Error, Result};
 use std::alloc::Global;
 
 /// Reads a byte string: its length as a varint, and that many bytes (wire format 1.0, "byte
-/// array"). The slice borrows from what the source borrows, and stays valid after later calls.
-///
-/// # Errors
-///
-/// If only the bytes after the length can't be given, the length is taken.
+/// array"). The slice borrows from what the source borrows, and stays valid after later calls. If
+/// only the bytes after the length can't be given, the length is taken.
 pub fn bytes<'de, F: Flavor>(flavor: &mut F) -> Result<&'de [u8]>
 where
     F: 'de,
@@ -25,11 +22,8 @@ where
     Ok(bytes)
 }
 
-/// Reads a byte string into a new `Vec`, which is allocated once the bytes were taken.
-///
-/// # Errors
-///
-/// Fails as [`bytes`], and with `OutOfMemory` if the allocation fails; the bytes are taken then.
+/// Reads a byte string into a new `Vec`, which is allocated once the bytes were taken. Fails as
+/// [`bytes`], and with `OutOfMemory` if the allocation fails.
 pub fn bytes_copy<F: Flavor>(alloc: Global, flavor: &mut F) -> Result<Vec<u8>>
     ensures { ReadsNode F.Flavor bytes_node flavor.old result flavor.new }
 {

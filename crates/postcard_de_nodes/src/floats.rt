@@ -1,4 +1,5 @@
-//! Floating-point numbers: arrays of the bytes of their bits, the lowest first.
+//! Floating-point numbers: arrays of the bytes of their bits, the lowest first. Every NaN is read
+//! as a NaN, whatever its bits.
 
 ghost use Rattle.std.specs.Float.{binary32, binary64};
 ghost use Rattle.postcard_de_nodes.specs.Nodes.{ReadsNode, byte_array_node, float_node};
@@ -19,8 +20,7 @@ pub fn byte_array<F: Flavor, const N: usize>(flavor: &mut F) -> Result<[u8; N]>
     Ok(bytes)
 }
 
-/// Reads an `f32`: the 4 bytes of its bits, the lowest first (wire format 1.0, "f32"). Every NaN is
-/// read as a NaN, whatever its bits.
+/// Reads an `f32` from 4 bytes (wire format 1.0, "f32").
 pub fn float_32<F: Flavor>(flavor: &mut F) -> Result<f32>
     ensures { ReadsNode F.Flavor (float_node binary32) flavor.old result flavor.new }
 {
@@ -28,8 +28,7 @@ pub fn float_32<F: Flavor>(flavor: &mut F) -> Result<f32>
     Ok(f32_from_bits_with_nan(u32::from_le_bytes(bytes)))
 }
 
-/// Reads an `f64`: the 8 bytes of its bits, the lowest first (wire format 1.0, "f64"). Every NaN is
-/// read as a NaN, whatever its bits.
+/// Reads an `f64` from 8 bytes (wire format 1.0, "f64").
 pub fn float_64<F: Flavor>(flavor: &mut F) -> Result<f64>
     ensures { ReadsNode F.Flavor (float_node binary64) flavor.old result flavor.new }
 {

@@ -10,10 +10,8 @@
 //! Each fails with `DeserializeUnexpectedEnd` if the source can't give the bytes that it takes.
 //! What has a length or a count fails as [`numbers::count`] if that can't be read.
 //!
-//! The layer above is `Deserializer`, whose calls for one node are calls of these functions.
-//!
-//! In reading order: [`numbers`] (the varint loop is here), [`choices`], [`texts`], [`bytes`],
-//! [`floats`], [`lists`].
+//! The layer above is `Deserializer`, whose calls for one node are calls of these functions. In
+//! reading order: [`numbers`], [`choices`], [`texts`], [`bytes`], [`floats`], [`lists`].
 #![tactic(auto)]
 
 pub mod bytes;

@@ -18,11 +18,8 @@ const PAUSE: usize = 16;
 /// caller reads the next element.
 ///
 /// `pause` is 0 before the first call for a list, and then what the last call left: how many
-/// elements are to be read one by one before the next try.
-///
-/// # Errors
-///
-/// Fails with `OutOfMemory` if the allocation fails, and takes nothing then.
+/// elements are to be read one by one before the next try. Fails with `OutOfMemory` if the
+/// allocation fails, and takes nothing then.
 #[inline(always)]
 pub fn append_at_hand<T: Shaped + Drop, F: Flavor>(
     items: &mut Vec<T>,

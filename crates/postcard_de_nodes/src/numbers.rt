@@ -8,12 +8,9 @@ use postcard_wire::digits::Digits;
 use postcard_wire::{Error, Result};
 
 /// Reads a number of `bits` bits, which must be 16, 32, 64 or 128: a varint of at most 3, 5, 10 or
-/// 19 bytes (wire format 1.0, "varint"). Padded varints are read too.
-///
-/// # Errors
-///
-/// Also fails with `DeserializeBadVarint` if the varint has more bytes than that or the number more
-/// than `bits` bits; the greatest number of bytes is taken then.
+/// 19 bytes (wire format 1.0, "varint"). Padded varints are read too. Also fails with
+/// `DeserializeBadVarint` if the varint has more bytes than that or the number more than `bits`
+/// bits; the greatest number of bytes is taken then.
 #[inline(always)]
 pub fn number<F: Flavor>(flavor: &mut F, bits: u32) -> Result<u128>
     requires { IsWidth bits }

@@ -15,9 +15,6 @@ const LONGEST_CHAR: usize = 4;
 
 /// Reads a text: its length in bytes as a varint, and that many bytes of UTF-8 (wire format 1.0,
 /// "string"). The text borrows from what the source borrows, and stays valid after later calls.
-///
-/// # Errors
-///
 /// Also fails with `DeserializeBadUtf8` if the bytes aren't UTF-8; they are taken then.
 pub fn text<'de, F: Flavor>(flavor: &mut F) -> Result<&'de str>
 where
@@ -35,11 +32,7 @@ where
 }
 
 /// Reads a text into a new `String`, which is allocated once the bytes were taken and found to be
-/// UTF-8.
-///
-/// # Errors
-///
-/// Fails as [`text`], and with `OutOfMemory` if the allocation fails; the text is taken then.
+/// UTF-8. Fails as [`text`], and with `OutOfMemory` if the allocation fails.
 pub fn text_copy<F: Flavor>(alloc: Global, flavor: &mut F) -> Result<String>
     ensures { ReadsNode F.Flavor text_node flavor.old result flavor.new }
 {
@@ -54,12 +47,9 @@ pub fn text_copy<F: Flavor>(alloc: Global, flavor: &mut F) -> Result<String>
     }
 }
 
-/// Reads a text of at most `CAP` bytes into an `ArrayString`.
-///
-/// # Errors
-///
-/// Fails as [`text`], and with `SerdeDeCustom` if the text has more than `CAP` bytes and they are
-/// UTF-8; the text is taken then.
+/// Reads a text of at most `CAP` bytes into an `ArrayString`. Fails as [`text`], and with
+/// `SerdeDeCustom` if the text has more than `CAP` bytes and they are UTF-8; the text is taken
+/// then.
 pub fn short_text<F: Flavor, const CAP: usize>(flavor: &mut F) -> Result<ArrayString<CAP>>
     ensures { ReadsNode F.Flavor (seen_node (λ v. v.bytes) (short_text_node CAP))
         flavor.old result flavor.new }

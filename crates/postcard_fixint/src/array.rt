@@ -16,12 +16,8 @@ pub trait ByteArray: Shaped + Sized + Drop {
     /// The number of bytes.
     ghost size: { ℕ };
 
-    /// Reads the array from the next bytes.
-    ///
-    /// # Errors
-    ///
-    /// Fails with `DeserializeUnexpectedEnd` if the source can't give as many bytes. Some of them
-    /// may have been taken then.
+    /// Reads the array from the next bytes. Fails with `DeserializeUnexpectedEnd` if the source
+    /// can't give as many; some of them may have been taken then.
     fn read<'de, F: Flavor>(d: &mut Deserializer<'de, F>) -> Result<Self>
         ensures reads { Reads F.Flavor Spells Self.shape.reads Self.shape.value never
             (source_of d.old) result (source_of d.new) }

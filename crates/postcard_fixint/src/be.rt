@@ -20,11 +20,8 @@ use postcard_wire::Result;
 use std::alloc::Global;
 use std::marker::Model;
 
-/// A number that is written as its 2, 4, 8 or 16 bytes, the highest first, without a length. A
-/// signed number is written in two's complement.
-///
-/// Use it in place of the number inside a larger value: in the tuple of a struct's fields, in a
-/// list, in an option. A contract sees the number.
+/// A number that is written with the highest byte first, as the [crate's page](crate) says. A
+/// contract sees the number.
 #[derive(Drop)]
 pub struct BE<T>(T);
 
@@ -35,7 +32,7 @@ impl<T> Model for BE<T> {
 }
 
 impl<T: FixInt> BE<T> {
-    /// Wraps a number, to be written with the highest byte first.
+    /// Wraps a number.
     pub fn new(value: T) -> BE<T>
         ensures { result ≡ value }
     {
@@ -89,12 +86,8 @@ impl<T: FixInt> DeserializeOwned for BE<T> {
     }
 }
 
-/// Writes the 2, 4, 8 or 16 bytes of a number, the highest first, as [`BE`] does (behaviour of
-/// postcard 1.1.3).
-///
-/// # Errors
-///
-/// Fails with `SerializeBufferFull` if the flavor refuses the bytes.
+/// Writes a number as [`BE`] does. Fails with `SerializeBufferFull` if the flavor refuses the
+/// bytes.
 #[tactic(auto, using(crate::proofs::Spelled::bytes_of_bytes))]
 pub fn serialize<T: FixInt, F: postcard_ser::Flavor>(
     value: &T,
@@ -107,13 +100,8 @@ pub fn serialize<T: FixInt, F: postcard_ser::Flavor>(
     BE(*value).serialize(serializer)
 }
 
-/// Reads a number from the next 2, 4, 8 or 16 bytes, the highest first, as [`BE`] does (behaviour
-/// of postcard 1.1.3). Nothing is allocated.
-///
-/// # Errors
-///
-/// Fails with `DeserializeUnexpectedEnd` if the source can't give that many bytes. Some of them may
-/// have been taken then.
+/// Reads a number as [`BE`] does. Fails with `DeserializeUnexpectedEnd` if the source can't give
+/// that many bytes; some of them may have been taken then. Nothing is allocated.
 pub fn deserialize<'de, T: FixInt, F: postcard_de::Flavor>(
     alloc: Global,
     d: &mut Deserializer<'de, F>,

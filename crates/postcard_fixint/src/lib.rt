@@ -1,5 +1,6 @@
 //! Numbers at their full width: 2, 4, 8 or 16 bytes, the lowest or the highest first, in place of a
-//! varint (behaviour of postcard 1.1.3, module `fixint`).
+//! varint (behaviour of postcard 1.1.3, module `fixint`). No length is written, and a signed number
+//! is in two's complement.
 //!
 //! A varint is shorter for small numbers. At its full width a number always has the same length: a
 //! random `u64`, as a hash or an identifier, has 8 bytes in place of 9 or 10.
@@ -9,7 +10,8 @@
 //! its laws: what was written is read back as the same number, and any bytes of that count are
 //! read.
 //!
-//! In a struct, the tuple of the fields has an [`LE`] or [`BE`] for the number:
+//! [`LE`] and [`BE`] stand in place of the number inside a larger value: in a list, in an option,
+//! or in the tuple of a struct's fields:
 //!
 //! ```text
 //! impl Repr for Header {

@@ -11,7 +11,6 @@ use sealed::Sealed;
 
 /// Seals [`FixInt`]: only types of this file can implement it.
 mod sealed {
-    /// The supertrait of `FixInt`, which other crates can't name.
     pub trait Sealed {}
 }
 

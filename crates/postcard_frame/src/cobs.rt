@@ -35,8 +35,6 @@ use std::alloc::Global;
 /// group runs past its end. Otherwise fails as [`from_bytes`] of the frame's data. The bytes before
 /// the first zero are unspecified then.
 pub fn from_bytes_cobs<'a, T: Deserialize<'a>>(alloc: Global, s: &'a mut [u8]) -> Result<T>
-    // Once the loan has ended, the first zero and the bytes after it are as they were, also after a
-    // failure.
     ensures* writes_back { sem 𝓛 (follows_so (Array u8 0) (Array u8 0) s.entry.ghost_name none
         (λ _ _. ⊤) (KeepsFromZero s.old)) }
     ensures gives { IfOk result (ReadsFrame T.shape.reads T.shape.value (before_zero s.old)) }
@@ -55,23 +53,17 @@ pub fn from_bytes_cobs<'a, T: Deserialize<'a>>(alloc: Global, s: &'a mut [u8]) -
     read_data(alloc, front, len)
 }
 
-/// Decodes a value from the frame at the front of the buffer `s`, in place, and returns it with the
-/// bytes after the frame and after the zero that ends it. These bytes are unchanged; there are none
-/// if there is no zero.
+/// Does the same as [`from_bytes_cobs`], and returns the value with the bytes after the frame and
+/// after the zero that ends it. These bytes are unchanged; there are none if there is no zero.
 ///
-/// Otherwise it does the same as [`from_bytes_cobs`]. The value can be used beside the bytes
-/// returned, from which the next call can read the next frame. Once the loan has ended, the buffer
-/// holds the zero as it was, and then what the caller made of the bytes returned (`writes_back`).
-///
-/// # Errors
-///
-/// Fails as [`from_bytes_cobs`], and leaves the buffer as that does.
+/// The value can be used beside the bytes returned, from which the next call can read the next
+/// frame. Once the loan has ended, the buffer holds the zero as it was, and then what the caller
+/// made of the bytes returned (`writes_back`). It fails as [`from_bytes_cobs`], and leaves the
+/// buffer as that does.
 pub fn take_from_bytes_cobs<'a, T: Deserialize<'a>>(
     alloc: Global,
     s: &'a mut [u8],
 ) -> Result<(T, &'a mut [u8])>
-    // Once the loan has ended, the zero is as it was, and what the caller made of the bytes
-    // returned follows; after a failure, the first zero and the bytes after it are as they were.
     ensures* writes_back { sem 𝓛 (follows_so (Array u8 0) (Array u8 0) s.entry.ghost_name
         (name_if_ok (λ read. read.1.ghost_name) result)
         (λ rest all. OnOk result (KeepsZero s.old rest all))
@@ -98,16 +90,14 @@ pub fn take_from_bytes_cobs<'a, T: Deserialize<'a>>(
 
 /// What decoding in place leaves: the whole buffer, and where the parts of the frame end.
 struct Decoded<'a> {
-    /// The whole buffer, the same loan.
     all: &'a mut [u8],
     /// The length of the frame with the zero that ends it, if there is one; 0 if the frame has no
     /// data.
     end: usize,
-    /// The length of the data, which is at the front of the buffer.
     len: usize,
 }
 
-/// Decodes the frame at the front of a buffer in place, and returns the whole buffer.
+/// Decodes the frame at the front of a buffer in place.
 fn decode<'a>(s: &'a mut [u8]) -> Decoded<'a>
     ensures same_loan { result.all.ghost_name ≡ s.entry.ghost_name }
     ensures decodes { IsDecoded s.old result }
@@ -142,7 +132,6 @@ fn read_data<'a, T: Deserialize<'a>>(alloc: Global, front: &'a [u8], len: usize)
     from_bytes(alloc, &front[..len])
 }
 
-/// Returns the value with the bytes after its frame, or the error.
 fn beside<'a, T>(value: Result<T>, rest: &'a mut [u8]) -> Result<(T, &'a mut [u8])>
     ensures* writes_back { sem 𝓛 (follows_if (Array u8 0) (Array u8 0) rest.entry.ghost_name
         (name_if_ok (λ read. read.1.ghost_name) result) (λ w. w) rest.old) }

@@ -4,12 +4,11 @@
 use std::fmt::Debug;
 use std::process::Abort;
 
-/// Asserts that a value is the wanted one.
 pub(crate) fn same<T: PartialEq + Debug + Drop>(rt: &impl Abort, value: T, want: T) {
     assert_eq!(rt; value, want);
 }
 
-/// Asserts that a value is the wanted one. A failure prints `at` too, which says where in a table.
+/// A failure prints `at` too, which says where in a table.
 pub(crate) fn same_at<T: PartialEq + Debug + Drop, A: Debug + Drop>(
     rt: &impl Abort,
     value: T,
@@ -19,12 +18,10 @@ pub(crate) fn same_at<T: PartialEq + Debug + Drop, A: Debug + Drop>(
     assert_eq!(rt; value, want, "{at:?}");
 }
 
-/// Asserts that these are the wanted bytes.
 pub(crate) fn same_bytes(rt: &impl Abort, bytes: &[u8], want: &[u8]) {
     assert_eq!(rt; bytes, want);
 }
 
-/// Returns the value of a call that is to succeed.
 pub(crate) fn value<T: Drop, E: Debug + Drop>(rt: &impl Abort, answer: Result<T, E>) -> T {
     answer.expect(rt, "the call succeeds")
 }

@@ -91,12 +91,10 @@ const TABLE: [(Error, &str, &str); 17] = [
     (Error::OutOfMemory, "OutOfMemory", "Out of memory"),
 ];
 
-/// Returns what an error prints, by the standard library's trait of errors.
 fn text_of<E: error::Error>(rt: &impl Abort, alloc: Global, error: &E) -> String {
     value(rt, error.to_string(alloc))
 }
 
-/// Returns what an error prints for programmers.
 fn name_of(rt: &impl Abort, alloc: Global, error: &Error) -> String {
     value(rt, format!(in alloc; "{error:?}"))
 }

@@ -1,7 +1,6 @@
 //! Tests of the layers below the calls of programs, with values, bytes and errors that were worked
-//! out by hand: numbers and errors of the wire, flavors, and the two halves over them.
-//!
-//! They are in a crate of their own, so that the crates they test are proved without them.
+//! out by hand. They are in a crate of their own, so that the crates they test are proved without
+//! them.
 #![tactic(auto)]
 
 #[cfg(test)]

@@ -8,7 +8,7 @@ use postcard_wire::digits::Digits;
 use postcard_wire::{Error, Result, text, varint, zigzag};
 use std::process::Abort;
 
-/// Reads a number of `bits` bits from the front of `bytes`. Returns it with its count of bytes.
+/// Reads a number from the front of `bytes`. Returns it with its count of bytes.
 fn read(bits: u32, bytes: &[u8]) -> Result<(u128, usize)>
     requires { IsWidth bits }
 {
@@ -76,7 +76,6 @@ fn assert_ends(rt: &impl Abort, written: &[u8], count: usize, last: u8) {
     );
 }
 
-/// The greatest number of each width has the most bytes, and the greatest last byte.
 #[test]
 fn has_its_most_bytes_at_the_greatest(rt: HostRuntime) {
     assert_ends(
@@ -105,7 +104,6 @@ fn has_its_most_bytes_at_the_greatest(rt: HostRuntime) {
     );
 }
 
-/// Asserts what is read from the front of these bytes.
 fn assert_read(rt: &impl Abort, bits: u32, bytes: &[u8], want: Result<(u128, usize)>)
     requires { IsWidth bits }
 {
@@ -124,15 +122,13 @@ fn reads_padded_numbers(rt: HostRuntime) {
     );
 }
 
-/// Asserts that no number is read from the front of these bytes.
 fn assert_bad(rt: &impl Abort, bits: u32, bytes: &[u8])
     requires { IsWidth bits }
 {
     same(rt, read(bits, bytes), Err(Error::DeserializeBadVarint));
 }
 
-/// A full length is refused if its last byte exceeds the greatest of its width or says that another
-/// follows.
+/// A full length is refused for its last byte.
 #[test]
 fn refuses_numbers_past_the_width(rt: HostRuntime) {
     assert_bad(&rt, 16, &[0x80, 0x80, 0x04]);
@@ -141,7 +137,6 @@ fn refuses_numbers_past_the_width(rt: HostRuntime) {
     assert_bad(&rt, 32, &[0xFF, 0xFF, 0xFF, 0xFF, 0xFF, 0x01]);
 }
 
-/// The greatest last byte of 64 bits is 01, and that of 128 bits is 03.
 #[test]
 fn refuses_numbers_past_the_great_widths(rt: HostRuntime) {
     assert_bad(&rt, 64, &[0x80; 10]);
@@ -197,7 +192,6 @@ fn folds_the_least_of_each_width(rt: HostRuntime) {
     same(&rt, zigzag::de_zig_zag_i128(u128::MAX), i128::MIN);
 }
 
-/// Asserts which character a text of at most four bytes begins with.
 fn assert_first(rt: &impl Abort, bytes: &[u8], want: Result<char>)
     requires { length bytes.now ≤ 4 }
 {

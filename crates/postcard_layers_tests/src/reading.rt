@@ -20,12 +20,10 @@ const GREATEST: [u8; 10] = [0xFF, 0xFF, 0xFF, 0xFF, 0xFF, 0xFF, 0xFF, 0xFF, 0xFF
 /// Input and the value that is read from its front, or the error.
 type Row<'a, T> = (&'a [u8], Result<T>);
 
-/// Reads a value from the front of the bytes.
 fn read<'a, T: Deserialize<'a>>(alloc: Global, bytes: &'a [u8]) -> Result<T> {
     T::deserialize(alloc, &mut Deserializer::from_bytes(bytes))
 }
 
-/// Reads a value that borrows nothing from the front of the bytes.
 fn read_owned<T: DeserializeOwned>(alloc: Global, bytes: &[u8]) -> Result<T> {
     T::deserialize_owned(alloc, &mut Deserializer::from_bytes(bytes))
 }
@@ -62,7 +60,6 @@ fn check<'a, T: Deserialize<'a> + DeserializeOwned + PartialEq + Debug>(
     }
 }
 
-/// Asserts that reading by both traits fails with this error.
 fn check_refused<'a, T: Deserialize<'a> + DeserializeOwned>(
     rt: &impl Abort,
     alloc: Global,

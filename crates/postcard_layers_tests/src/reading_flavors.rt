@@ -15,10 +15,8 @@ use std::io;
 use std::io::{ErrorKind, Read};
 use std::process::Abort;
 
-/// The error at the end of the bytes.
 const END: Error = Error::DeserializeUnexpectedEnd;
 
-/// Asserts the result of taking the next byte.
 fn assert_popped<F: Flavor>(rt: &impl Abort, source: &mut F, want: Result<u8>) {
     same(rt, source.pop(), want);
 }
@@ -67,8 +65,8 @@ fn a_slice_gives_no_bytes_at_the_end(rt: HostRuntime) {
     assert_gives_none_at_the_end(&rt, &[7]);
 }
 
-/// Moves the first byte of `bytes` into the front of `buf`. Returns the number of bytes moved: 1,
-/// or 0 if either is empty.
+/// Moves the first byte of `bytes` into the front of `buf`, and returns the number of bytes moved:
+/// 0 if either is empty.
 fn move_first(bytes: &mut &[u8], buf: &mut [u8]) -> usize
     ensures moved { bytes.old.now ≡ take result buf.new ++ bytes.new.now }
     ensures fits { result ≤ length buf.new }
@@ -142,8 +140,7 @@ impl Read for Failing<'_> {
     }
 }
 
-/// Returns whether `try_take_n_temp` succeeds. It uses up no scratch, and with too little scratch
-/// it changes nothing.
+/// Returns whether a take succeeds. It uses up no scratch, and changes nothing if it is too short.
 fn looks<T: Source>(source: &mut IOReader<'_, T>, count: usize) -> bool
     ensures room { length (scratch_of source.new) ≡ length (scratch_of source.old) }
     ensures short { length (scratch_of source.old) < count → source.new ≡ source.old }
@@ -151,7 +148,6 @@ fn looks<T: Source>(source: &mut IOReader<'_, T>, count: usize) -> bool
     source.try_take_n_temp(count).is_ok()
 }
 
-/// A reader over given bytes.
 trait Over: Source {
     fn over(bytes: &'static [u8]) -> Self;
 }
@@ -174,7 +170,6 @@ impl Over for Plain<&'static [u8]> {
     }
 }
 
-/// Asserts that these are the next bytes, one after the other.
 fn assert_all_popped<F: Flavor>(rt: &impl Abort, source: &mut F, bytes: &[u8]) {
     for byte in bytes {
         assert_popped(rt, source, Ok(*byte));
@@ -192,7 +187,6 @@ fn assert_left<T: Source>(rt: &impl Abort, source: IOReader<'_, T>, unread: &[u8
     assert_popped(rt, &mut rest, Err(END));
 }
 
-/// Asserts that a source has `room` bytes of scratch left.
 fn assert_room<T: Source>(rt: &impl Abort, source: IOReader<'_, T>, room: usize) {
     let Ok((_reader, scratch)) = source.finalize() else {
         unreachable!()
@@ -200,7 +194,6 @@ fn assert_room<T: Source>(rt: &impl Abort, source: IOReader<'_, T>, room: usize)
     same(rt, scratch.len(), room);
 }
 
-/// Both takes, with enough bytes and enough scratch.
 fn takes<T: Over>(rt: &impl Abort) {
     let mut memory = [0; 8];
     let mut source = IOReader::new(T::over(&[0xaa, 0xbb, 0xcc, 0xdd, 0xee]), &mut memory);
@@ -222,15 +215,14 @@ fn takes_for_good<T: Over>(rt: &impl Abort) {
     same(rt, second, Ok([0xcc, 0xdd].as_slice()));
 }
 
-/// Single bytes, which need no scratch.
+/// Single bytes need no scratch.
 fn pops<T: Over>(rt: &impl Abort) {
     let mut source = IOReader::new(T::over(&[0xaa, 0xbb, 0xcc]), &mut []);
     assert_all_popped(rt, &mut source, &[0xaa, 0xbb, 0xcc]);
     assert_popped(rt, &mut source, Err(END));
 }
 
-/// An input too short: to take 3 bytes of `01 02` for good with 4 bytes of scratch fails, and
-/// leaves 1 byte of scratch.
+/// A take for good uses up its scratch.
 fn input_too_short<T: Over>(rt: &impl Abort) {
     let mut memory = [0; 4];
     let mut source = IOReader::new(T::over(&[1, 2]), &mut memory);
@@ -238,8 +230,7 @@ fn input_too_short<T: Over>(rt: &impl Abort) {
     assert_room(rt, source, 1);
 }
 
-/// An input too short: to take 3 bytes of `01 02` until the next call with 4 bytes of scratch
-/// fails, and leaves the scratch whole.
+/// A take until the next call leaves the scratch whole.
 fn input_too_short_to_lend<T: Over>(rt: &impl Abort) {
     let mut memory = [0; 4];
     let mut source = IOReader::new(T::over(&[1, 2]), &mut memory);
@@ -247,7 +238,7 @@ fn input_too_short_to_lend<T: Over>(rt: &impl Abort) {
     assert_room(rt, source, 4);
 }
 
-/// A scratch too short: both takes fail, and the reader isn't called.
+/// The reader isn't called.
 fn scratch_too_short<T: Over>(rt: &impl Abort) {
     let mut memory = [0; 1];
     let mut source = IOReader::new(T::over(&[1, 2]), &mut memory);
@@ -256,7 +247,6 @@ fn scratch_too_short<T: Over>(rt: &impl Abort) {
     assert_left(rt, source, &[1, 2], 1);
 }
 
-/// All the tests above, over one kind of reader.
 fn all_rows<T: Over>(rt: &impl Abort) {
     takes::<T>(rt);
     takes_for_good::<T>(rt);
@@ -308,14 +298,12 @@ fn a_failing_reader(rt: HostRuntime) {
     take_three(&rt, 3, true, 0);
 }
 
-/// Asserts that a read of two bytes gives these.
 fn assert_gives_two<T: Source>(rt: &impl Abort, reader: &mut T, want: &[u8]) {
     let mut buf = [0; 2];
     same(rt, reader.read_some(&mut buf).ok(), Some(2));
     same_bytes(rt, &buf, want);
 }
 
-/// Asserts that a read of just two bytes fails.
 fn assert_has_no_two<T: Source>(rt: &impl Abort, reader: &mut T) {
     let mut buf = [0; 2];
     same(rt, reader.read_full(&mut buf).is_err(), true);

@@ -110,7 +110,7 @@ impl Serialize for Even {
     }
 }
 
-/// A flavor that takes `left` pieces, and then fails with an error of its own.
+/// Takes `left` pieces, and then fails with an error of its own.
 #[derive(Drop)]
 struct Pieces<F> {
     inner: F,
@@ -173,7 +173,6 @@ impl<F: Flavor + Drop> Flavor for Pieces<F> {
     }
 }
 
-/// Writes a value into a slice, and returns its encoding.
 fn written<'a, T: Serialize>(value: &T, buffer: &'a mut [u8]) -> Result<&'a [u8]> {
     let mut serializer = Serializer {
         output: Slice::new(buffer),
@@ -190,13 +189,11 @@ fn written<'a, T: Serialize>(value: &T, buffer: &'a mut [u8]) -> Result<&'a [u8]
     }
 }
 
-/// Asserts that the value is written as these bytes.
 fn assert_written<T: Serialize>(rt: &impl Abort, value: &T, want: &[u8]) {
     let mut buffer = [0xAA; 32];
     same(rt, written(value, &mut buffer), Ok(want));
 }
 
-/// Asserts that the bytes written so far are these.
 fn assert_holds(rt: &impl Abort, serializer: Serializer<Slice>, want: &[u8]) {
     let (all, used) = serializer.output.into_parts();
     same(rt, all.get(..used), Some(want));
@@ -258,13 +255,11 @@ fn lists(rt: HostRuntime) {
     assert_written(&rt, &Both(1, 300), &[0x02, 0x01, 0xAC, 0x02]);
 }
 
-/// The reading that the tests write.
 const READING: Reading<'static> = Reading {
     name: "Hi!",
     value: 300,
 };
 
-/// The fault that the tests write.
 const FAULT: Event<'static> = Event::Fault { code: 7, text: "z" };
 
 #[test]

@@ -14,10 +14,10 @@ use std::io;
 use std::io::Write;
 use std::process::Abort;
 
-/// A row: a piece that a flavor is to take, and the result of that.
+/// A piece that a flavor is to take, and the result of that.
 type Row<'a> = (&'a [u8], Result<()>);
 
-/// Asserts the result of a row. A row of one byte is pushed, and any other is taken as a piece.
+/// A row of one byte is pushed, and any other is taken as a piece.
 fn assert_row<F: Flavor>(rt: &impl Abort, flavor: &mut F, piece: &[u8], want: &Result<()>) {
     let result = match piece {
         [byte] => flavor.try_push(*byte),
@@ -26,24 +26,20 @@ fn assert_row<F: Flavor>(rt: &impl Abort, flavor: &mut F, piece: &[u8], want: &R
     same_at(rt, &result, want, piece);
 }
 
-/// Asserts the result of each row, one after the other.
 fn assert_rows<F: Flavor>(rt: &impl Abort, flavor: &mut F, rows: &[Row]) {
     for (piece, want) in rows {
         assert_row(rt, flavor, piece, want);
     }
 }
 
-/// Ends a flavor that is to succeed. Returns its output.
 fn end<F: Flavor + Drop>(rt: &impl Abort, flavor: F) -> F::Output {
     flavor.finalize().expect(rt, "the end succeeds")
 }
 
-/// Returns a vector that holds these bytes.
 fn vec_of(rt: &impl Abort, alloc: Global, bytes: &[u8]) -> Vec<u8> {
     value(rt, bytes.to_vec(alloc))
 }
 
-/// The rows of [`one_to_four`].
 const ONE_TO_FOUR: [Row<'static>; 3] = [(&[1], Ok(())), (&[2, 3, 4], Ok(())), (&[], Ok(()))];
 
 /// Has a flavor take 01, then 02 03 04, then nothing. Returns its output.
@@ -84,14 +80,13 @@ fn change_two<B: Storage>(rt: &impl Abort, storage: &mut B, second: u8) {
     storage[1] = 6;
 }
 
-/// Asserts the number of bytes held.
 fn assert_held<B: Storage>(rt: &impl Abort, storage: &B, count: usize)
     ensures { length (B.held storage.now) ≡ count }
 {
     assert_eq!(rt; storage.held_len(), count);
 }
 
-/// Asserts the number of bytes held at first, and after pushing 01.
+/// The counts are those at first, and after pushing 01.
 fn assert_counts<B: Storage>(rt: &impl Abort, storage: &mut B, before: usize, after: usize) {
     same(rt, storage.held_len(), before);
     same(rt, storage.try_push(1), Ok(()));
@@ -135,7 +130,6 @@ fn each_storage_counts_held_bytes(rt: HostRuntime) {
     same_bytes(&rt, &end(&rt, grown), &[9, 8, 1]);
 }
 
-/// Writes a piece, and once more if it is refused.
 fn retry<F: Flavor>(rt: &impl Abort, flavor: &mut F, piece: &[u8]) {
     if flavor.try_extend(piece).is_err() {
         value(rt, flavor.try_extend(piece));
@@ -168,7 +162,7 @@ fn a_vector_extends(rt: HostRuntime) {
     same_bytes(&rt, &target, &[1, 2, 3]);
 }
 
-/// Pieces that fit six bytes.
+/// Pieces for six bytes.
 const FILLS: [Row<'static>; 2] = [(&[0x03], Ok(())), (b"Hi!", Ok(()))];
 
 #[test]
@@ -199,7 +193,6 @@ fn a_slice_refuses_a_piece_whole(rt: HostRuntime) {
     same_bytes(&rt, all, &[0x03, 0x48, 0x69]);
 }
 
-/// Pieces for no bytes.
 const NOTHING: [Row<'static>; 2] = [(&[0x00], Err(Error::SerializeBufferFull)), (b"", Ok(()))];
 
 #[test]
@@ -219,7 +212,6 @@ const TWO_OF_FOUR: [Row<'static>; 2] = [
     (&[3, 4, 5], Err(Error::SerializeBufferFull)),
 ];
 
-/// Pieces for the two bytes left.
 const FOUR_OF_FOUR: [Row<'static>; 2] = [
     (&[3, 4], Ok(())),
     (&[5], Err(Error::SerializeBufferFull)),
@@ -237,7 +229,6 @@ fn a_fixed_vector_takes_a_piece_whole_or_not(rt: HostRuntime) {
     same_bytes(&rt, &end(&rt, vec), &[1, 9, 3, 4]);
 }
 
-/// Has a flavor over this vector push a byte. Returns the vector that it has then.
 fn pushed(rt: &impl Abort, vec: Vec<u8>) -> Vec<u8> {
     let mut flavor = AllocVec::from_vec(vec);
     value(rt, flavor.try_push(7));

@@ -15,16 +15,14 @@ use postcard_shape::{Case, Cased, NoCase};
 /// [`MaxSize`], followed by other variants. They may be the last variants of an enum, so their
 /// sizes depend on the index of the first of them: `None` if that does not fit `usize`.
 pub trait MaxCases: Cased {
-    /// The greatest size in bytes of a variant with its index, and conditions under which some
-    /// encoding is as long and no content refuses itself when it is written.
+    /// The greatest size of a variant with its index, and its conditions, as in [`MaxSize`].
     ghost limit: { Option ℕ → SizeLimit };
 
-    /// Returns the greatest size in bytes of a variant with its index, if the first variant has the
-    /// index `index`, or `None` if it does not fit `usize`.
+    /// Returns the greatest size in bytes of a variant with its index, or `None` if it does not fit
+    /// `usize`. The first variant has the index `index`.
     fn cases_size(index: Option<usize>) -> Option<usize>
         ensures { result ≡ (limit index).greatest };
 
-    /// `limit` holds of the variants whose content is read, and of their values.
     ghost lawful: { (i : Option ℕ) → IsCasesLimit limit Self.cases.reads Self.cases.refusal i };
 }
 
@@ -51,15 +49,14 @@ impl<A: MaxSize, R: MaxCases> MaxCases for Case<A, R> {
     ghost lawful = { case_lawful A.lawful R.lawful };
 }
 
-/// Returns the greatest size in bytes of a variant with its index, or `None` if there is no index or
-/// the size does not fit `usize`.
+/// The size of one variant with its index.
 fn case_size<A: MaxSize>(index: Option<usize>) -> Option<usize>
     ensures { result ≡ sum_of (len_of index) A.limit.greatest }
 {
     sum(index_len(index), A::postcard_max_size())
 }
 
-/// Returns the number of bytes of the varint of a variant's index, or `None` if there is no index.
+/// The number of bytes of an index, or `None` if there is no index.
 fn index_len(index: Option<usize>) -> Option<usize>
     ensures { result ≡ len_of index }
 {

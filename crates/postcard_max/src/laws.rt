@@ -30,9 +30,9 @@ pub fn sizes<T: MaxSize>()
     ensures reached { T.limit.reached → IsReached T.limit.greatest T.shape.reads }
 {}
 
-/// Does nothing. The value's canonical encoding is no longer than the greatest size of its type, if
-/// the type has one, so a buffer of that size has room for it. If `willing` holds of the type, the
-/// value doesn't refuse itself.
+/// The value's canonical encoding is no longer than the greatest size of its type, if the type has
+/// one, so a buffer of that size has room for it. If `willing` holds of the type, the value doesn't
+/// refuse itself.
 pub fn within_max_size<T: MaxSize>(value: &T)
     ensures willing { T.limit.willing → IsWilling T.shape value.now }
     ensures bounded { IfSome T.limit.greatest

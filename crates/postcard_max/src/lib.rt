@@ -2,11 +2,8 @@
 //! its values.
 //!
 //! [`MaxSize`] has the greatest size of a type, as a number for a program and as a theorem for a
-//! proof: no value of the type is written in more bytes and, if `reached` holds, some encoding has
-//! as many. A struct or an enum has it by [`MaxSizeRepr`]. In reading order: [`max_size`] has the
-//! traits, [`sizes`] the arithmetic of sizes, [`rows`] and [`cases`] what tuples and enums are
-//! written as, `values` the types of std and of `arrayvec`, and [`laws`] the table of all sizes and
-//! what follows from a size.
+//! proof. A struct or an enum has it by [`MaxSizeRepr`]. In reading order: [`max_size`], [`sizes`],
+//! [`rows`], [`cases`], `values`, [`laws`].
 #![tactic(auto)]
 
 pub mod cases;

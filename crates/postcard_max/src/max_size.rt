@@ -36,15 +36,12 @@ pub trait MaxSize: Shaped {
 /// It is [`MaxSize`] without `in_forms`, which a `Case` can't have: that the index of a variant
 /// fits 32 bits is known only of a concrete enum.
 pub trait SizeBound: Shaped {
-    /// The greatest size in bytes, and conditions under which some encoding is as long and no value
-    /// refuses itself when it is written.
     ghost limit: { SizeLimit };
 
     /// Returns the greatest size in bytes, or `None` if none is known that fits `usize`.
     fn size_bound() -> Option<usize>
         ensures { result ≡ limit.greatest };
 
-    /// `limit` holds of the trees that the type reads, and of its values.
     ghost lawful: { IsLimit limit Self.shape.reads Self.shape.refusal };
 }
 

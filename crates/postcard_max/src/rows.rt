@@ -12,15 +12,13 @@ use postcard_shape::{Part, Parts};
 /// Parts in a row that each have a greatest size: `()`, or a `Part` of a type with [`MaxSize`],
 /// followed by other parts.
 pub trait MaxParts: Parts {
-    /// The sum of the parts' greatest sizes in bytes, and conditions under which some encoding is
-    /// as long and no part refuses itself when it is written.
+    /// The sum of the parts' greatest sizes, and its conditions, as in [`MaxSize`].
     ghost limit: { SizeLimit };
 
     /// Returns the sum of the parts' greatest sizes in bytes, or `None` if it does not fit `usize`.
     fn parts_size() -> Option<usize>
         ensures { result ≡ limit.greatest };
 
-    /// `limit` holds of the trees that the parts read, and of their values.
     ghost lawful: { IsRowLimit limit Self.parts.reads Self.parts.refusal };
 }
 

@@ -1,4 +1,4 @@
-//! Sizes from those of parts: sums, products, the greater of two, and the length of a varint.
+//! Sizes in bytes from those of parts.
 //!
 //! A sum, a product or a greater size is `None` if a size is, or if it does not fit `usize`.
 
@@ -7,7 +7,7 @@ ghost use Rattle.postcard_max.specs.Sizes.{sum_of, times, greater_of, varint_len
 
 use postcard_wire::varint::varint_usize;
 
-/// Returns the sum of two sizes, or `None` if one is `None` or the sum does not fit `usize`.
+/// Returns the sum of two sizes.
 pub fn sum(first: Option<usize>, second: Option<usize>) -> Option<usize>
     ensures { result ≡ sum_of first second }
 {
@@ -17,7 +17,7 @@ pub fn sum(first: Option<usize>, second: Option<usize>) -> Option<usize>
     }
 }
 
-/// Returns `count` times a size, or `None` if that is `None` or the product exceeds `usize`.
+/// Returns `count` times a size.
 pub fn product(count: usize, size: Option<usize>) -> Option<usize>
     ensures { result ≡ times count size }
 {
@@ -27,7 +27,7 @@ pub fn product(count: usize, size: Option<usize>) -> Option<usize>
     }
 }
 
-/// Returns the greater of two sizes, or `None` if one is `None`.
+/// Returns the greater of two sizes.
 pub fn greater(first: Option<usize>, second: Option<usize>) -> Option<usize>
     ensures { result ≡ greater_of first second }
 {

@@ -1,4 +1,4 @@
-//! Bytes that a caller lent to be read, reached by a pointer that moves on.
+//! Bytes that a caller lent to be read.
 
 ghost use Rattle.std.specs.Prelude.{◌≡◌, ◌<◌, ◌≤◌, List, ℕ, ◌∷◌, length, take, drop};
 
@@ -10,7 +10,6 @@ use std::slice;
 pub struct Bytes<'de> {
     start: *const u8,
     mark: PhantomData<&'de u8>,
-    /// The bytes.
     pub ghost items: { List ℕ },
 }
 

@@ -4,9 +4,8 @@
 //! written and [`Bytes`] bytes that are read. Both hold one pointer and no slice: the caller keeps
 //! the length, and [`Bytes`] moves its pointer on. A [`Memory`] has no lifetime: the `&` to a
 //! [`Life`] that is made with it shows for how long the bytes are lent, and each of its functions
-//! takes that `&`. [`front`] lends the front of a slice for as long as the whole was lent, and
-//! [`split_front`] the front to be read and the rest to be changed. No pointer becomes a number, and
-//! none is compared.
+//! takes that `&`. [`front`] and [`split_front`] lend parts of a slice for as long as the whole was
+//! lent. No pointer becomes a number, and none is compared.
 #![tactic(auto)]
 
 pub mod bytes;

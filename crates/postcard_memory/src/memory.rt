@@ -1,4 +1,4 @@
-//! Bytes that a caller lent to be written, reached by a pointer.
+//! Bytes that a caller lent to be written.
 
 ghost use Rattle.std.specs.Prelude.{◌≡◌, List, ℕ, length};
 ghost use Rattle.std.specs.Borrow.{GName};
@@ -18,11 +18,8 @@ pub use life::Life;
 pub struct Memory {
     /// Where the first byte lies.
     start: *mut u8,
-    /// How long the loan lasts.
     pub ghost time: { Lft },
-    /// The loan that the bytes are lent by.
     pub ghost loan: { GName },
-    /// The bytes.
     pub ghost items: { List ℕ },
 }
 
@@ -35,7 +32,7 @@ impl Model for Memory {
 }
 
 impl Memory {
-    /// Takes a caller's bytes. The [`Life`] shows for how long they are lent.
+    /// Takes a caller's bytes.
     pub fn new<'a>(buf: &'a mut [u8]) -> (Memory, &'a Life)
         ensures taken { (result.0.loan ≡ buf.entry.ghost_name) × (result.0.items ≡ buf.old) }
         ensures lasts { result.0.time ≡ result.1.now }

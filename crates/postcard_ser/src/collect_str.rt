@@ -72,8 +72,7 @@ impl<F: Flavor, K: Lasting<F>> fmt::Write for FmtWriter<F, K> {
     }
 }
 
-/// Returns the number of bytes that a value prints. Fails if the value fails to format, or prints
-/// more than `usize::MAX` bytes.
+/// Returns the number of bytes that a value prints.
 fn count_text<T: Display>(value: &T) -> std::result::Result<usize, fmt::Error>
     ensures { IfOk result
         (λ n. IfSome (T.output value.now) (λ u. (n ≡ length u) × IsUtf8 u)) }
@@ -102,7 +101,7 @@ fn write_text<T: Display, F: Flavor, K: Lasting<F>>(output: F, value: &T) -> (F,
     (output, result)
 }
 
-/// Writes what a value prints, and returns the flavor, which pushes reach, with the result.
+/// Does the same, and pushes reach the flavor returned.
 fn print<T: Display, F: Flavor>(output: F, value: &T) -> (F, fmt::Result)
     ensures appends { OnOk result.1
         (IfSome (T.output value.now) (λ u. F.appended output u result.0)) }

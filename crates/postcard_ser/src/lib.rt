@@ -29,14 +29,9 @@
 //! the [`Serializer`] itself more than once joins what each call wrote by the lemmas of
 //! `postcard::specs::Lemmas` whose names begin with `wrote_`.
 //!
-//! In reading order:
-//! - the crates `postcard_ser_flavors`, for where the bytes go, of which [`Flavor`] and [`Slice`]
-//!   are re-exported here, and `postcard_shape`, for what a type says of its values.
-//! - `serializer`: the calls by which a type writes itself; `collect_str`: that for texts that
-//!   values print.
-//! - `serialize`: the trait of all types that are written; `repr` and `cases`: how structs and
-//!   enums are written.
-//! - `values`: the types of std and of `arrayvec` that are written.
+//! In reading order: the crates `postcard_ser_flavors`, of which [`Flavor`] and [`Slice`] are
+//! re-exported here, and `postcard_shape`; `serializer`, `collect_str`, `serialize`, `repr`,
+//! `cases`, `values`.
 #![tactic(auto)]
 
 pub mod cases;

@@ -1,5 +1,4 @@
-//! Types that are written as another type: a struct as the tuple of its fields, an enum as its
-//! variants in a row.
+//! Structs and enums that are written as another type.
 
 ghost use Rattle.std.specs.Prelude.{OnOk};
 ghost use Rattle.postcard_wire.specs.Spelling.{canonical};
@@ -17,8 +16,7 @@ use postcard_wire::Result;
 /// An enum writes the variant of each arm of a `match` by `serialize_variant`. The prover needs no
 /// help for either.
 pub trait SerializeRepr: Repr {
-    /// Writes the canonical encoding of the value that `repr` makes of this one. Fails as the
-    /// `serialize` of that value does.
+    /// Writes the value that `repr` makes of this one, as its `serialize` does.
     fn serialize_repr<F: Flavor>(&self, serializer: &mut Serializer<F>) -> Result<()>
         ensures wrote { Wrote F.Flavor serializer.old.output
             (canonical (Self.As.shape.tree (Self.repr self.now)))

@@ -25,23 +25,28 @@ use postcard_wire::{Error, Result};
 /// Writes values into a flavor.
 ///
 /// A call that begins a list, a map, a tuple, a struct or a variant of `len` parts needs exactly
-/// `len` calls for these parts after it; this is not checked. The names of structs, fields and
-/// variants aren't written.
+/// `len` calls for these parts after it, which write each part as its own `serialize` does; their
+/// number is not checked. The names of structs, fields and variants aren't written.
+///
+/// An index is a varint of 1 to 5 bytes, and a count or a length one of 1 to 10. Any other integer
+/// is one byte if it has 8 bits, in two's complement if signed, and else a varint of at most 3, 5,
+/// 10 or 19 bytes for 16, 32, 64 or 128 bits, of the zigzag encoding if signed.
 ///
 /// # Errors
 ///
 /// If the flavor refuses a piece, a call fails with `SerializeBufferFull`, whatever the flavor's
 /// own error is; only in the text of `collect_str` the error is `CollectStrError`. A call for a
-/// part of a value, as `serialize_element`, writes it as the part's own `serialize` does, and also
-/// fails as that does. What the flavor took before the error stays in it: over a tidy flavor a
-/// beginning of what the call writes, or nothing, unless the value refuses itself.
+/// part of a value also fails as that part's own `serialize` does, and a list or a map without a
+/// length with `SerializeSeqLengthUnknown`, before anything is written. A call that writes nothing
+/// never fails. What the flavor took before the error stays in it: over a tidy flavor a beginning
+/// of what the call writes, or nothing, unless the value refuses itself.
 #[derive(Drop)]
 pub struct Serializer<F: Flavor> {
     /// The flavor that the bytes go to.
     pub output: F,
 }
 
-// Returns the error of a call whose flavor refused a piece, whatever the flavor's own error is.
+// Returns the error of a call whose flavor refused a piece.
 fn refusal(_of_flavor: Error) -> Error
     ensures { result ≡ Error.SerializeBufferFull }
 {
@@ -49,28 +54,25 @@ fn refusal(_of_flavor: Error) -> Error
 }
 
 impl<F: Flavor> Serializer<F> {
-    // Writes a byte.
     fn push(&mut self, byte: u8) -> Result<()>
         ensures { Wrote F.Flavor self.old.output (byte ∷ []) never ⊥ result self.new.output }
     {
         self.output.try_push(byte).map_err(refusal)
     }
 
-    // Writes bytes in a row.
     pub(crate) fn extend(&mut self, piece: &[u8]) -> Result<()>
         ensures { Wrote F.Flavor self.old.output piece.now never ⊥ result self.new.output }
     {
         self.output.try_extend(piece).map_err(refusal)
     }
 
-    // Writes the varint of a number.
     fn varint(&mut self, n: u64) -> Result<()>
         ensures { Wrote F.Flavor self.old.output (digits n) never ⊥ result self.new.output }
     {
         self.output.try_varint(n).map_err(refusal)
     }
 
-    // Writes the count of the bytes as a varint, and then the bytes.
+    // Writes the count of the bytes, and then the bytes.
     fn extend_counted(&mut self, piece: &[u8]) -> Result<()>
         ensures { Wrote F.Flavor self.old.output (digits (length piece.now) ++ piece.now) never ⊥
             result self.new.output }
@@ -167,7 +169,7 @@ impl<F: Flavor> Serializer<F> {
         self.serialize_u128(zig_zag_i128(v))
     }
 
-    /// Writes the number of the text's bytes as a varint of 1 to 10 bytes, and then the bytes.
+    /// Writes the number of the text's bytes, and then the bytes.
     pub fn serialize_str(&mut self, v: &str) -> Result<()>
         ensures { Wrote F.Flavor self.old.output
             (canonical (Text v.now)) never ⊥ result self.new.output }
@@ -175,8 +177,7 @@ impl<F: Flavor> Serializer<F> {
         self.extend_counted(v.as_bytes())
     }
 
-    /// Writes the number of the bytes as a varint of 1 to 10 bytes, and then the bytes, as of a
-    /// list of `u8`.
+    /// Writes the number of the bytes, and then the bytes, as of a list of `u8`.
     #[tactic(auto, using(crate::proofs::Elements::elements_count, postcard_shape::proofs::Bytes::bytes_of_bytes))]
     pub fn serialize_bytes(&mut self, v: &[u8]) -> Result<()>
         ensures { Wrote F.Flavor self.old.output (canonical (Seq (trees (map Byte v.now)))) never ⊥
@@ -185,9 +186,8 @@ impl<F: Flavor> Serializer<F> {
         self.extend_counted(v)
     }
 
-    /// Begins a list: writes the number of its elements as a varint of 1 to 10 bytes. Each is then
-    /// written by `serialize_element`. Fails with `SerializeSeqLengthUnknown` if `len` is `None`,
-    /// before anything is written.
+    /// Begins a list: writes the number of its elements. Each is then written by
+    /// `serialize_element`.
     pub fn serialize_seq(&mut self, len: Option<usize>) -> Result<()>
         ensures known { IfSome len (λ n. Wrote F.Flavor self.old.output (canonical (Num 64 n))
             never ⊥ result self.new.output) }
@@ -209,7 +209,7 @@ impl<F: Flavor> Serializer<F> {
         value.serialize(self)
     }
 
-    /// Ends a list. Writes nothing and never fails.
+    /// Ends a list. Writes nothing.
     pub fn end(&mut self) -> Result<()>
         ensures wrote { Wrote F.Flavor self.old.output [] never ⊥ result self.new.output }
         ensures succeeds { IsOk result }

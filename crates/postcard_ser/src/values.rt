@@ -1,4 +1,5 @@
-//! The types of std and of `arrayvec` that are written, a module for each kind.
+//! The types of std and of `arrayvec` that are written, a module for each kind. What is said there
+//! of elements, keys, entries and parts holds of each as its own `serialize` writes it.
 
 mod c_strings;
 mod error;

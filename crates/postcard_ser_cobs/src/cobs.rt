@@ -43,13 +43,9 @@ pub struct Cobs<B: Storage> {
 }
 
 impl<B: Storage + Drop> Cobs<B> {
-    /// Opens a frame after the bytes that `bee` holds, which stay as they are. Pushes a place for
-    /// the first code byte.
-    ///
-    /// # Errors
-    ///
-    /// Fails with `SerializeBufferFull` if the storage has no room for one byte. The storage is
-    /// then dropped; [`open`](Cobs::open) keeps it.
+    /// Opens a frame after the bytes that `bee` holds, which stay as they are, and pushes a place
+    /// for the first code byte. If the storage has no room for it, fails and drops the storage;
+    /// [`open`](Cobs::open) keeps it.
     pub fn try_new(bee: B) -> Result<Cobs<B>>
         ensures opens_after_held { IfOk result (λ c.
             HoldsOpen B.held c.storage c.start c.encoder c.failed (B.held bee) []) }
@@ -67,10 +63,8 @@ impl<B: Storage + Drop> Cobs<B> {
     }
 
     /// Opens a frame as [`try_new`](Cobs::try_new) does, for a caller that wants its storage back
-    /// in any case. The Rust crate has no such call.
-    ///
-    /// If the storage has no room for one byte, the `Cobs` has failed: each byte pushed and
-    /// [`close`](Cobs::close) fail with `SerializeBufferFull`.
+    /// in any case. If the storage has no room for one byte, the `Cobs` has failed. The Rust crate
+    /// has no such call.
     pub fn open(storage: B) -> Cobs<B>
         ensures opens_after_held { IsFalse result.failed → HoldsOpen B.held result.storage
             result.start result.encoder result.failed (B.held storage) [] }
@@ -91,13 +85,9 @@ impl<B: Storage + Drop> Cobs<B> {
     }
 
     /// Closes the frame with its last code byte and the sentinel, and returns the storage, which
-    /// then holds what it held before the frame, followed by the whole frame. The Rust crate has no
-    /// such call.
-    ///
-    /// # Errors
-    ///
-    /// If the second part is an error, a storage of `postcard_ser_flavors` holds what it held
-    /// before the frame, followed by part of a frame.
+    /// then holds what it held before the frame, followed by the whole frame. If the second part is
+    /// an error, a storage of `postcard_ser_flavors` holds only part of a frame after that. The
+    /// Rust crate has no such call.
     pub fn close(self) -> (B, Result<()>)
         ensures holds_frame { OnOk result.1 ((before d : List ℕ)
             → HoldsOpen B.held self.storage self.start self.encoder self.failed before d
@@ -126,9 +116,8 @@ impl<B: Storage + Drop> Cobs<B> {
         (storage, closed)
     }
 
-    /// Gives up the frame, and returns the storage as it is: if no call has failed, with what it
-    /// held before the frame, and then the frame so far, with no sentinel. The Rust crate has no
-    /// such call.
+    /// Gives up the frame, and returns the storage as it is: if no call has failed, with the frame
+    /// so far, with no sentinel. The Rust crate has no such call.
     pub fn into_storage(self) -> B
         ensures { result ≡ self.storage }
     {
@@ -211,7 +200,6 @@ impl<B: Storage + Drop> Flavor for Cobs<B> {
         Ok(())
     }
 
-    /// Takes the varint of a number of at most 64 bits, 1 to 10 bytes.
     fn try_varint(&mut self, n: u64) -> Result<()>
         ensures pushed { PushedBy ⟦<Self as Flavor>⟧ self.old (digits n) result self.new }
         ensures stays_refused { IsTrue self.old.failed → IsErrOf result Error.SerializeBufferFull }
@@ -223,13 +211,8 @@ impl<B: Storage + Drop> Flavor for Cobs<B> {
         self.try_extend(varint_u64(n, &mut out))
     }
 
-    /// Closes the frame with its last code byte and the sentinel, and returns the output of the
-    /// storage, which then holds what it held before the frame, followed by the whole frame.
-    ///
-    /// # Errors
-    ///
-    /// Also fails with `SerializeBufferFull` if the storage's own `finalize` fails. After any
-    /// failure the storage is dropped.
+    /// Closes the frame as [`close`](Cobs::close) does, and returns the output of the storage. Also
+    /// fails if the storage's own `finalize` fails. After any failure the storage is dropped.
     fn finalize(self) -> Result<<B as Flavor>::Output>
         ensures finalized { FinalizedBy ⟦<Self as Flavor>⟧ self result }
         ensures stays_refused { IsTrue self.failed → IsErrOf result Error.SerializeBufferFull }

@@ -12,9 +12,7 @@
 //! ```
 //!
 //! The contracts speak of frames by the definitions of `postcard_cobs`: `made d` is the frame of
-//! the data `d`. In reading order:
-//! - `cobs`: the flavor, and in `cobs/runs` how bytes are taken many at once.
-//! - `steps`: what a storage is asked to do.
+//! the data `d`.
 #![tactic(auto)]
 
 pub mod cobs;

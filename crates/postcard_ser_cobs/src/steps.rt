@@ -1,4 +1,5 @@
-//! What a frame asks of its storage: bytes after those that it holds, and code bytes set.
+//! What a frame asks of its storage: bytes after those that it holds, and code bytes set. A call
+//! that pushes bytes fails with `SerializeBufferFull` if the storage fails, by whatever error.
 
 ghost use Rattle.std.specs.Prelude.{◌≡◌, ℕ, ◌+◌, ◌-◌, ◌<◌, ◌≤◌, List, [], ◌∷◌, ◌++◌};
 ghost use Rattle.std.specs.Prelude.{length, slice_set, IsOkUnless, OnOk, IsOk};
@@ -9,7 +10,7 @@ use postcard_cobs::{EncoderState, PushResult};
 use postcard_ser_flavors::{Flavor, Storage};
 use postcard_wire::{Error, Result};
 
-/// Appends a byte. Fails with `SerializeBufferFull` if the storage fails, by whatever error.
+/// Appends a byte.
 pub(crate) fn push_one<B: Storage>(storage: &mut B, byte: u8) -> Result<()>
     ensures appends { OnOk result (B.held storage.new ≡ B.held storage.old ++ byte ∷ []) }
     ensures has_room { B.free storage.old 1 → IsOk result }
@@ -24,8 +25,7 @@ pub(crate) fn push_one<B: Storage>(storage: &mut B, byte: u8) -> Result<()>
     }
 }
 
-/// Appends bytes in one piece. Fails with `SerializeBufferFull` if the storage fails, by whatever
-/// error.
+/// Appends bytes in one piece.
 pub(crate) fn push_piece<B: Storage>(storage: &mut B, bytes: &[u8]) -> Result<()>
     ensures appends { OnOk result (B.held storage.new ≡ B.held storage.old ++ bytes.now) }
     ensures has_room { B.free storage.old (length bytes.now) → IsOk result }
@@ -85,8 +85,8 @@ pub(crate) fn set_codes<B: Storage>(
     encoder
 }
 
-/// Does what the encoder returned for a byte. Fails with `SerializeBufferFull` if the storage
-/// fails; of two bytes the first may then be appended.
+/// Does what the encoder returned for a byte. After a failure the first of two bytes may be
+/// appended.
 pub(crate) fn take_step<B: Storage>(storage: &mut B, start: usize, step: PushResult) -> Result<()>
     requires { SetsBelow start (length (B.held storage.old)) step }
     ensures changes { OnOk result

@@ -71,7 +71,6 @@ impl Flavor for AllocVec {
 
     ghost lawful = { grows_lawful (λ s. s) };
 
-    /// Writes a byte.
     fn try_push(&mut self, byte: u8) -> Result<()>
         ensures pushed { PushedBy ⟦<Self as Flavor>⟧ self.old (byte ∷ []) result self.new }
         ensures refuses_by_buffer_full { IsOkUnless result Error.SerializeBufferFull }
@@ -80,7 +79,6 @@ impl Flavor for AllocVec {
         self.vec.push(byte).map_err(|_| Error::SerializeBufferFull)
     }
 
-    /// Writes bytes in a row.
     fn try_extend(&mut self, bytes: &[u8]) -> Result<()>
         ensures pushed { PushedBy ⟦<Self as Flavor>⟧ self.old bytes.now result self.new }
         ensures refuses_by_buffer_full { IsOkUnless result Error.SerializeBufferFull }
@@ -91,7 +89,6 @@ impl Flavor for AllocVec {
             .map_err(|_| Error::SerializeBufferFull)
     }
 
-    /// Writes the varint of a number.
     fn try_varint(&mut self, n: u64) -> Result<()>
         ensures pushed { PushedBy ⟦<Self as Flavor>⟧ self.old (digits n) result self.new }
         ensures refuses_by_buffer_full { IsOkUnless result Error.SerializeBufferFull }
@@ -101,7 +98,6 @@ impl Flavor for AllocVec {
         self.try_extend(varint_u64(n, &mut out))
     }
 
-    /// Returns the vector. Never fails.
     fn finalize(self) -> Result<Vec<u8>>
         ensures finalized { FinalizedBy ⟦<Self as Flavor>⟧ self result }
         ensures succeeds { IsOk result }
@@ -117,7 +113,6 @@ impl Index<usize> for AllocVec {
 
     ghost index_gives = { λ s place byte. byte ≡ slice_index s place };
 
-    /// Returns the byte at `place`, counted from 0, which must be held.
     fn index(&self, place: usize) -> &u8 {
         &self.vec[place]
     }
@@ -127,8 +122,6 @@ impl IndexMut<usize> for AllocVec {
     ghost use Rattle.std.specs.Borrow.{sem, Lends, u8 as byte_row};
     ghost use Rattle.postcard_ser_flavors.specs.contracts.alloc_vec.AllocVec.{the_row};
 
-    /// Returns the byte at `place`, counted from 0, which must be held, to be changed. Nothing else
-    /// changes.
     fn index_mut(&mut self, place: usize) -> &mut u8
         requires { place < length self.old }
         ensures* writes_back { sem 𝓛
@@ -146,13 +139,10 @@ impl Storage for AllocVec {
 
     ghost free_lawful = { none_free };
 
-    /// Changes the byte at a place that is held, counted in bytes from 0, and nothing else.
     fn set(&mut self, place: usize, byte: u8) {
         self.vec[place] = byte;
     }
 
-    /// Returns the number of bytes held, those of the vector passed to [`AllocVec::from_vec`]
-    /// included.
     fn held_len(&self) -> usize {
         self.vec.len()
     }

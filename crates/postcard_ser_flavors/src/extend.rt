@@ -77,7 +77,6 @@ impl<T: ExtendBytes + Drop> Flavor for ExtendFlavor<T> {
 
     ghost lawful = { grows_lawful T.content };
 
-    /// Passes a byte on.
     fn try_push(&mut self, byte: u8) -> Result<()>
         ensures pushed { PushedBy ⟦<Self as Flavor>⟧ self.old (byte ∷ []) result self.new }
         ensures refuses_by_buffer_full { IsOkUnless result Error.SerializeBufferFull }
@@ -86,7 +85,6 @@ impl<T: ExtendBytes + Drop> Flavor for ExtendFlavor<T> {
         self.try_extend(&[byte])
     }
 
-    /// Passes bytes on in one piece.
     fn try_extend(&mut self, bytes: &[u8]) -> Result<()>
         ensures pushed { PushedBy ⟦<Self as Flavor>⟧ self.old bytes.now result self.new }
         ensures refuses_by_buffer_full { IsOkUnless result Error.SerializeBufferFull }
@@ -97,7 +95,6 @@ impl<T: ExtendBytes + Drop> Flavor for ExtendFlavor<T> {
             .map_err(|_| Error::SerializeBufferFull)
     }
 
-    /// Passes the varint of a number on in one piece.
     fn try_varint(&mut self, n: u64) -> Result<()>
         ensures pushed { PushedBy ⟦<Self as Flavor>⟧ self.old (digits n) result self.new }
         ensures refuses_by_buffer_full { IsOkUnless result Error.SerializeBufferFull }
@@ -107,7 +104,6 @@ impl<T: ExtendBytes + Drop> Flavor for ExtendFlavor<T> {
         self.try_extend(varint_u64(n, &mut out))
     }
 
-    /// Returns the target. Never fails.
     fn finalize(self) -> Result<T>
         ensures finalized { FinalizedBy ⟦<Self as Flavor>⟧ self result }
         ensures succeeds { IsOk result }

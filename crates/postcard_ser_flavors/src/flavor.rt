@@ -20,7 +20,6 @@ use postcard_wire::varint::{VARINT_MAX_64, varint_u64};
 /// - `finishes last output`: `output` is the output of a flavor whose last state is `last`.
 /// - `lawful`: what holds of these words in each flavor.
 pub trait Flavor {
-    /// The type of the output.
     type Output;
 
     ghost appended: { Self → List ℕ → Self → Type 0 };

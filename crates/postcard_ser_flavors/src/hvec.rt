@@ -52,7 +52,6 @@ impl<const B: usize> HVec<B> {
 impl<const B: usize> Default for HVec<B> {
     ghost is_default = { λ s. s ≡ [] };
 
-    /// Returns a flavor that holds nothing.
     fn default() -> HVec<B> {
         HVec::new()
     }
@@ -73,7 +72,6 @@ impl<const B: usize> Flavor for HVec<B> {
 
     ghost lawful = { fixed_lawful (λ s. s) B };
 
-    /// Writes a byte.
     fn try_push(&mut self, byte: u8) -> Result<()>
         ensures pushed { PushedBy ⟦<Self as Flavor>⟧ self.old (byte ∷ []) result self.new }
         ensures fits_iff { IsOk result ↔ (length self.old + 1 ≤ B) }
@@ -85,7 +83,6 @@ impl<const B: usize> Flavor for HVec<B> {
             .map_err(|_| Error::SerializeBufferFull)
     }
 
-    /// Writes bytes in a row.
     fn try_extend(&mut self, bytes: &[u8]) -> Result<()>
         ensures pushed { PushedBy ⟦<Self as Flavor>⟧ self.old bytes.now result self.new }
         ensures fits_iff { IsOk result ↔ (length self.old + length bytes.now ≤ B) }
@@ -97,7 +94,6 @@ impl<const B: usize> Flavor for HVec<B> {
             .map_err(|_| Error::SerializeBufferFull)
     }
 
-    /// Writes the varint of a number.
     fn try_varint(&mut self, n: u64) -> Result<()>
         ensures pushed { PushedBy ⟦<Self as Flavor>⟧ self.old (digits n) result self.new }
         ensures fits_iff { IsOk result ↔ (length self.old + length (digits n) ≤ B) }
@@ -108,7 +104,6 @@ impl<const B: usize> Flavor for HVec<B> {
         self.try_extend(varint_u64(n, &mut out))
     }
 
-    /// Returns the vector. Never fails.
     fn finalize(self) -> Result<ArrayVec<u8, B>>
         ensures finalized { FinalizedBy ⟦<Self as Flavor>⟧ self.entry result }
         ensures succeeds { IsOk result }
@@ -124,13 +119,11 @@ impl<const B: usize> Index<usize> for HVec<B> {
 
     ghost index_gives = { λ s place byte. byte ≡ slice_index s place };
 
-    /// Returns the byte at `place`, counted from 0, which must be held.
     fn index(&self, place: usize) -> &u8 {
         &self.vec[place]
     }
 }
 
-// Returns the byte at a place of a vector, to be changed.
 fn byte_at<const B: usize>(vec: &mut ArrayVec<u8, B>, place: usize) -> &mut u8
     requires { place < length vec.old.items }
     ensures* writes_back { sem 𝓛 (lends_item byte_row B.row unit_row vec.entry place result) }
@@ -145,8 +138,6 @@ fn byte_at<const B: usize>(vec: &mut ArrayVec<u8, B>, place: usize) -> &mut u8
 impl<const B: usize> IndexMut<usize> for HVec<B> {
     ghost use Rattle.postcard_ser_flavors.specs.contracts.hvec.HVec.{the_row};
 
-    /// Returns the byte at `place`, counted from 0, which must be held, to be changed. Nothing else
-    /// changes.
     fn index_mut(&mut self, place: usize) -> &mut u8
         requires { place < length self.old }
         ensures* writes_back { sem 𝓛
@@ -164,12 +155,10 @@ impl<const B: usize> Storage for HVec<B> {
 
     ghost free_lawful = { fixed_free (λ s. s) B };
 
-    /// Changes the byte at a place that is held, counted in bytes from 0, and nothing else.
     fn set(&mut self, place: usize, byte: u8) {
         self.vec[place] = byte;
     }
 
-    /// Returns the number of bytes held, from 0 to `B`.
     fn held_len(&self) -> usize {
         self.vec.len()
     }

@@ -13,12 +13,8 @@ use std::marker::Model;
 
 /// Writes each piece to a writer, whole, and flushes it at the end. Its output is the writer.
 ///
-/// A contract sees the writer, and its bytes if the writer knows them.
-///
-/// # Errors
-///
 /// A call fails with `SerializeBufferFull` if the writer fails, which may then have got some of the
-/// bytes.
+/// bytes. A contract sees the writer, and its bytes if the writer knows them.
 #[derive(Drop)]
 pub struct WriteFlavor<T: Write> {
     writer: T,
@@ -56,7 +52,6 @@ impl<T: Write + Drop> Flavor for WriteFlavor<T> {
 
     ghost lawful = { writer_lawful T.contents };
 
-    /// Writes a byte to the writer.
     fn try_push(&mut self, byte: u8) -> Result<()>
         ensures pushed { PushedBy ⟦<Self as Flavor>⟧ self.old (byte ∷ []) result self.new }
         ensures refuses_by_buffer_full { IsOkUnless result Error.SerializeBufferFull }
@@ -64,7 +59,7 @@ impl<T: Write + Drop> Flavor for WriteFlavor<T> {
         self.try_extend(&[byte])
     }
 
-    /// Writes bytes to the writer in one piece, by `write_all`.
+    /// Writes the bytes in one piece, by `write_all`.
     fn try_extend(&mut self, bytes: &[u8]) -> Result<()>
         ensures pushed { PushedBy ⟦<Self as Flavor>⟧ self.old bytes.now result self.new }
         ensures refuses_by_buffer_full { IsOkUnless result Error.SerializeBufferFull }

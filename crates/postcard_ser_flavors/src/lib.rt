@@ -1,11 +1,10 @@
 //! Where written bytes go: a flavor takes them one by one or many at once, and returns its output
 //! at the end.
 //!
-//! The one contract is that of [`Flavor`], by the record `Pushed`. After an `Ok` the bytes that were
-//! passed are `appended`; bytes that it has `room` for are taken; `reaches` says what a call leaves,
-//! whether it succeeds or fails. The laws of these words are its member `lawful`. The layer above
-//! cites nothing else, but for a `Slice`, whose `into_parts` says what a caller's buffer holds in
-//! the end.
+//! The one contract is that of [`Flavor`], by the record `Pushed`. After an `Ok` the bytes that
+//! were passed are `appended`; bytes that it has `room` for are taken; `reaches` says what a call
+//! leaves, whether it succeeds or fails. The layer above cites nothing else, but for a `Slice`,
+//! whose `into_parts` says what a caller's buffer holds in the end.
 //!
 //! Which flavor for what:
 //!
@@ -18,15 +17,11 @@
 //! | to a file, a socket or the like | [`io::WriteFlavor`] | the writer, flushed | if it fails |
 //! | nowhere, but is counted | [`Size`] | the number of bytes | above `usize::MAX` |
 //!
-//! Each fails with `SerializeBufferFull`; its page says what a failure leaves. A flavor of your
-//! own, also one over another flavor, implements the same trait; `example_types` has one that
-//! writes to two others.
+//! Each fails with `SerializeBufferFull`; its page says what a failure leaves. Only the `finalize`
+//! of a `WriteFlavor` may fail. A flavor of your own, also one over another flavor, implements the
+//! same trait; `example_types` has one that writes to two others.
 //!
-//! To be read in this order:
-//! - `flavor`: the trait.
-//! - `storage`: the trait of those whose bytes can still be changed, as a frame needs it.
-//! - `slice`: the flavor that fills bytes that a caller lent.
-//! - `hvec`, `alloc_vec`, `extend`, `io`, `size`: the other flavors.
+//! In reading order: `flavor`, `storage`, `slice`, and the other flavors.
 #![tactic(auto)]
 
 pub mod alloc_vec;

@@ -32,7 +32,6 @@ impl Model for Size {
 impl Default for Size {
     ghost is_default = { λ s. s ≡ 0 };
 
-    /// Starts at a count of zero.
     fn default() -> Size {
         Size { count: 0 }
     }
@@ -70,7 +69,6 @@ impl Flavor for Size {
 
     ghost lawful = { count_lawful };
 
-    /// Counts a byte.
     fn try_push(&mut self, byte: u8) -> Result<()>
         ensures pushed { PushedBy ⟦<Self as Flavor>⟧ self.old (byte ∷ []) result self.new }
         ensures fits_iff { IsOk result ↔ (self.old + 1 < 2 ^ 64) }
@@ -81,7 +79,6 @@ impl Flavor for Size {
         self.add(1)
     }
 
-    /// Counts bytes.
     fn try_extend(&mut self, bytes: &[u8]) -> Result<()>
         ensures pushed { PushedBy ⟦<Self as Flavor>⟧ self.old bytes.now result self.new }
         ensures fits_iff { IsOk result ↔ (self.old + length bytes.now < 2 ^ 64) }
@@ -91,7 +88,6 @@ impl Flavor for Size {
         self.add(bytes.len())
     }
 
-    /// Counts the bytes of a varint.
     fn try_varint(&mut self, n: u64) -> Result<()>
         ensures pushed { PushedBy ⟦<Self as Flavor>⟧ self.old (digits n) result self.new }
         ensures fits_iff { IsOk result ↔ (self.old + length (digits n) < 2 ^ 64) }
@@ -102,7 +98,6 @@ impl Flavor for Size {
         self.try_extend(varint_u64(n, &mut out))
     }
 
-    /// Returns the count. Never fails.
     fn finalize(self) -> Result<usize>
         ensures finalized { FinalizedBy ⟦<Self as Flavor>⟧ self result }
         ensures succeeds { IsOk result }

@@ -96,7 +96,6 @@ impl<'a> Flavor for Slice<'a> {
 
     ghost lawful = { slice_lawful };
 
-    /// Writes a byte.
     fn try_push(&mut self, byte: u8) -> Result<()>
         ensures pushed { PushedBy ⟦<Self as Flavor>⟧ self.old (byte ∷ []) result self.new }
         ensures fits_iff { IsOk result ↔ (1 ≤ length (free self.old)) }
@@ -113,7 +112,6 @@ impl<'a> Flavor for Slice<'a> {
         Ok(())
     }
 
-    /// Writes bytes in a row.
     fn try_extend(&mut self, bytes: &[u8]) -> Result<()>
         ensures pushed { PushedBy ⟦<Self as Flavor>⟧ self.old bytes.now result self.new }
         ensures fits_iff { IsOk result ↔ (length bytes.now ≤ length (free self.old)) }
@@ -133,7 +131,7 @@ impl<'a> Flavor for Slice<'a> {
         Ok(())
     }
 
-    /// Writes a varint, in place if 10 bytes are free.
+    /// Writes the varint in place if 10 bytes are free.
     #[inline]
     fn try_varint(&mut self, n: u64) -> Result<()>
         ensures pushed { PushedBy ⟦<Self as Flavor>⟧ self.old (digits n) result self.new }
@@ -155,7 +153,6 @@ impl<'a> Flavor for Slice<'a> {
         Ok(())
     }
 
-    /// Returns the front of the slice, with the bytes written. Never fails.
     fn finalize(self) -> Result<&'a mut [u8]>
         ensures finalized { FinalizedBy ⟦<Self as Flavor>⟧ self.entry result }
         ensures succeeds { IsOk result }

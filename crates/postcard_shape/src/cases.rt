@@ -4,16 +4,14 @@ ghost use Rattle.postcard_shape.specs.Cases.{Cases, no_case, case, variants};
 
 use crate::shape::Shaped;
 
-/// The first variant's content, or one of the variants after it. The last is followed by
-/// [`NoCase`].
+/// The first variant's content (`This`), or one of the variants after it (`Next`). The last is
+/// followed by [`NoCase`].
 ///
 /// An enum `Boot | Reading(u16, i32)` is seen as `Case<(), Case<(u16, i32), NoCase>>`, and a value
 /// `Reading(1, 2)` of it as `Next(This((1, 2)))`. The index of a variant is the count of `Next`.
 #[derive(Drop)]
 pub enum Case<A, R> {
-    /// The first variant.
     This(A),
-    /// One of those after it.
     Next(R),
 }
 

@@ -1,4 +1,4 @@
-//! The encodings of the first items of a list.
+//! What a type returns to write many values at once.
 
 /// The encodings of some first items of a list, one after the other
 /// ([`Shaped::first_bytes`](crate::Shaped::first_bytes)).
@@ -11,8 +11,8 @@ pub enum FirstBytes<'a> {
     Block([u8; 16], usize),
     /// The same of items that have 64 bytes together.
     Row([u8; 64], usize),
-    /// The encodings of no items. So many first items, at least 1, are written one by one, and then
-    /// the type is asked again.
+    /// The encodings of no items. This many first items, at least 1, are written one by one, and
+    /// then the type is asked again.
     SomeOneByOne(usize),
     /// The encodings of no items, which are all written one by one.
     OneByOne,

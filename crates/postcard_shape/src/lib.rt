@@ -1,19 +1,16 @@
 //! The shape of a type: what its values are on the wire, said once for writing and reading.
 //!
 //! A shape (`specs/Shape.antt`) is the tree of each value, the errors by which a value may refuse
-//! itself, whether it is written as a text that it prints, the trees that are read and their values,
-//! when two values look alike, whether reading asks for memory, what holds of every value that a
-//! program has, and the laws: the encodings are prefix-free, what is read is well formed, the values
-//! of one tree look alike, and what was written is read again. `specs/` has the shapes of values
-//! that are one node (`Leaves.antt`, `Floats.antt`, `Spans.antt`, `Enumerations.antt`) and the
-//! combinators (`Shape.antt`, `Lists.antt`, `Options.antt`, `Rows.antt`, `Cases.antt`, `Maps.antt`,
-//! `Refusing.antt`, `Only.antt`), each of which makes a shape from those of its parts, laws
-//! included, so that a type says its shape in one line.
+//! itself, whether it is written as a text that it prints, the trees that are read and their
+//! values, when two values look alike, whether reading asks for memory, what holds of every value
+//! that a program has, and the laws: the encodings are prefix-free, what is read is well formed,
+//! the values of one tree look alike, and what was written is read again. `specs/` has the shapes
+//! of values that are one node (`Leaves`, `Floats`, `Spans`, `Enumerations`) and the combinators
+//! (`Shape`, `Lists`, `Options`, `Rows`, `Cases`, `Maps`, `Refusing`, `Only`), each of which makes
+//! a shape from those of its parts, laws included, so that a type says its shape in one line.
 //!
-//! In reading order: [`shape`] has the traits, [`first`] what one of their methods returns,
-//! [`rows`] and [`cases`] what tuples and enums are written and read as, `runs` and `pieces`
-//! numbers that are read and written many at a time, [`formats`] what the prover has to be told of
-//! floats, `values` the types of std and of `arrayvec`.
+//! In reading order: [`shape`], [`first`], [`rows`], [`cases`], `runs` and `pieces`, [`formats`],
+//! `values`.
 #![tactic(auto)]
 
 pub mod cases;

@@ -5,16 +5,15 @@ ghost use Rattle.postcard_shape.specs.First.{AreFirst};
 use crate::first::FirstBytes;
 use crate::runs::Varint;
 
-/// How many numbers of one byte each are written at once.
+/// The number of numbers of one byte each that are written at once.
 const ROW: usize = 16;
 
-/// How many numbers at most are written one by one before a row is looked for again. Where sizes
+/// The most numbers that are written one by one before a row is looked for again. Where sizes
 /// repeat themselves, the processor foresees them, but not if a row is looked for too often.
 const PAUSE: usize = 256;
 
-/// Returns the encodings of the first 16 numbers, as
-/// [`first_bytes`](crate::shape::Shaped::first_bytes) does, if each has one byte. If not, these and
-/// more are to be written one by one.
+/// Does what [`first_bytes`](crate::shape::Shaped::first_bytes) does: returns a row if each of the
+/// first 16 numbers has one byte.
 #[inline(always)]
 pub(crate) fn first_row<T: Varint>(items: &[T]) -> FirstBytes<'_>
     ensures { AreFirst T.form items.now result }

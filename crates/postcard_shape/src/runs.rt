@@ -17,7 +17,7 @@ use postcard_wire::zigzag::{
 };
 use postcard_wire::{Error, Result};
 
-/// How many numbers of one byte each are read at once.
+/// The number of numbers of one byte each that are read at once.
 const ROW: usize = 64;
 
 /// The fewest numbers for which it pays to look for a row.
@@ -25,14 +25,12 @@ const LEAST: usize = 32;
 
 /// A number that is written as a varint.
 pub(crate) trait Varint: Copy + Default {
-    /// The number of bits of a value.
     ghost width: { ℕ };
 
-    /// The shape of a value. It stands here once more, since the impls of
-    /// [`Shaped`](crate::shape::Shaped) call [`append`], whose bound can't lead back to them.
+    /// The shape of a value, once more: the impls of [`Shaped`](crate::shape::Shaped) call
+    /// [`append`], whose bound can't lead back to them.
     ghost form: { Shape Self };
 
-    /// Returns the number of bits of a value.
     fn bits() -> u32
         ensures bits { result ≡ width }
         ensures narrow { IsNarrow result };
@@ -172,7 +170,6 @@ impl Varint for i64 {
     }
 }
 
-/// Returns the numbers of the digits.
 #[inline(always)]
 fn row_of_digits<T: Varint>(digits: &[u64; RUN]) -> [T; RUN]
     ensures { AreValuesOf T.width T.form digits.now result }
@@ -196,11 +193,7 @@ fn row_of_bytes<T: Varint>(block: &[u8; BLOCK]) -> [T; ROW]
     row
 }
 
-/// Appends a row to a list.
-///
-/// # Errors
-///
-/// Fails with `OutOfMemory` if there is no room and none is given.
+/// Appends a row to a list. Fails with `OutOfMemory` if there is no room and none is given.
 #[inline(always)]
 fn push_row<T: Copy>(items: &mut Vec<T>, row: &[T]) -> Result<()>
     ensures appended { OnOk result (items.new.items ≡ items.old.items ++ row.now) }
@@ -236,8 +229,7 @@ pub(crate) fn append<T: Varint>(
     append_row(items, bytes, most)
 }
 
-/// Appends a row of numbers to a list, as [`append`] does, if the next bytes are as those of most
-/// numbers are and the list has room for them. Asks for no memory, and so never fails. It is a
+/// The part of [`append`] for lists that are long enough, if they have room for a row. It is a
 /// function of its own, so that the loop that calls [`append`] stays small: few lists are long.
 #[inline(never)]
 fn append_row<T: Varint>(items: &mut Vec<T>, bytes: &[u8], most: usize) -> Result<Option<usize>>

@@ -17,11 +17,10 @@ pub trait Shaped {
     /// The tree of each value, the trees that are read, their values, and the laws that tie them.
     ghost shape: { Shape Self };
 
-    /// Returns the encodings of some first `items`, one after the other, for a type whose values are
-    /// written quicker many at a time: those of all items if they are just these bytes in memory, as
-    /// those of a slice of `u8` are, or a block or a row of them, as of four or sixteen `f32`, or of
-    /// sixteen `u32` below 128. With `OneByOne`, which any type may return and which is the default,
-    /// the items are written one by one.
+    /// Returns the encodings of some first `items`, one after the other, for a type whose values
+    /// are written quicker many at a time: those of all items if they are just these bytes in
+    /// memory, as those of a slice of `u8` are, or a block or a row of them, as of four or sixteen
+    /// `f32`, or of sixteen `u32` below 128. Any type may return `OneByOne`, which is the default.
     fn first_bytes(items: &[Self]) -> FirstBytes<'_>
     where
         Self: Sized,
@@ -32,13 +31,10 @@ pub trait Shaped {
     }
 
     /// Appends to `items` the first elements of a list, at most `most` of them, which a front of
-    /// `bytes` encodes, and returns how many bytes that front has. So a list of bytes is one copy, and
-    /// numbers are read many at a time. With `None`, which any type may return and which is the
-    /// default, nothing is appended, and elements are to be read one by one.
-    ///
-    /// # Errors
-    ///
-    /// Fails with `OutOfMemory` if an allocation fails, and with no other error.
+    /// `bytes` encodes, and returns how many bytes that front has. So a list of bytes is one copy,
+    /// and numbers are read many at a time. With `None`, which any type may return and which is the
+    /// default, nothing is appended, and elements are to be read one by one. Fails only with
+    /// `OutOfMemory`, if an allocation fails.
     fn append_at_hand(items: &mut Vec<Self>, bytes: &[u8], most: usize) -> Result<Option<usize>>
     where
         Self: Sized,

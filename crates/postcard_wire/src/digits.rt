@@ -31,9 +31,9 @@ impl Digits {
     ///
     /// # Errors
     ///
-    /// Fails with [`Error::DeserializeBadVarint`] if the varint now has its full length, 3, 5, 10
-    /// or 19 bytes, and this byte says that another follows or exceeds the width. After the number
-    /// or the error, start with new [`Digits`].
+    /// Fails with [`Error::DeserializeBadVarint`] at the last byte that the width allows, if it
+    /// says that another follows or exceeds the width. After the number or the error, start with
+    /// new [`Digits`].
     pub fn push(&mut self, bits: u32, byte: u8) -> Result<Option<u128>>
         requires width { IsWidth bits }
         requires begun { (p : List ℕ) × HasRead bits p self.old }

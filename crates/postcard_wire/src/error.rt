@@ -1,4 +1,4 @@
-//! Why a value was not written or not read.
+//! The errors of both directions.
 
 ghost use Rattle.std.specs.Prelude.{◌≡◌, Some};
 ghost use Rattle.postcard_wire.specs.declared.error.Error.TheVariants.{OutOfMemory};
@@ -8,20 +8,19 @@ use std::alloc::{AllocError, AllocFailed};
 use std::fmt::Display;
 use std::{error, fmt};
 
-/// Why a value was not written or not read.
+/// Why a value was not written or not read: the errors of postcard 1.1.3 in its order, and then
+/// [`Error::OutOfMemory`], which is this port's own.
 ///
-/// The variants are those of postcard 1.1.3 in its order, and then [`Error::OutOfMemory`], which is
-/// this port's own. An error doesn't say where in the bytes or in which part of a value it arose.
-/// No call of this port returns [`Error::NotYetImplemented`] or [`Error::DeserializeBadEnum`]; they
-/// are there so that a `match` can name them.
-///
-/// `Display` prints the texts of postcard 1.1.3, and `Debug` the name of the variant.
+/// An error doesn't say where in the bytes or in which part of a value it arose. No call of this
+/// port returns [`Error::NotYetImplemented`] or [`Error::DeserializeBadEnum`]; they are there so
+/// that a `match` can name them. `Display` prints the texts of postcard 1.1.3, and `Debug` the name
+/// of the variant.
 #[derive(Clone, Debug, Drop, PartialEq, Eq)]
 pub enum Error {
     /// A call that the format can't serve, since a message doesn't say of which type it is: reading
     /// a value of any type, an identifier, or a value to be ignored. Nothing was read.
     WontImplement,
-    /// Never returned by this port: a feature that the format doesn't have yet.
+    /// A feature that the format doesn't have yet. Never returned.
     NotYetImplemented,
     /// A writing flavor refused bytes: it has no room left, an allocation or its writer failed, or
     /// its count of bytes would exceed `usize::MAX`.
@@ -43,15 +42,14 @@ pub enum Error {
     DeserializeBadUtf8,
     /// The first byte of an option is neither 0 nor 1.
     DeserializeBadOption,
-    /// Never returned by this port: a variant's index above 32 bits is
-    /// [`Error::DeserializeBadVarint`].
+    /// Never returned: see [`Error::DeserializeBadVarint`].
     DeserializeBadEnum,
     /// A frame is empty, or one of its groups runs past its end.
     DeserializeBadEncoding,
     /// The checksum after a message is not that of the message.
     DeserializeBadCrc,
-    /// A value refuses itself when it is written. None of this port's types does; it is for types
-    /// of your own (see [`Error::ser_custom`]).
+    /// A value refuses itself when it is written, as one of your own types may (see
+    /// [`Error::ser_custom`]).
     SerdeSerCustom,
     /// The bytes spell no value of the type: an unknown variant, a zero for a type without one, a
     /// duration that is too long, more elements than the capacity. Types of your own may return it,
@@ -69,16 +67,15 @@ pub enum Error {
 pub type Result<T> = std::result::Result<T, Error>;
 
 impl Error {
-    /// Returns [`Error::SerdeSerCustom`], for a type whose value refuses to be written. The message
-    /// is not kept.
+    /// Returns [`Error::SerdeSerCustom`], for a value that refuses to be written. The message is
+    /// not kept.
     pub fn ser_custom<M: Display + Drop>(_msg: M) -> Error
         ensures { result ≡ Error.SerdeSerCustom }
     {
         Self::SerdeSerCustom
     }
 
-    /// Returns [`Error::SerdeDeCustom`], for a type that has no value for the bytes. The message is
-    /// not kept.
+    /// Returns [`Error::SerdeDeCustom`], for bytes that spell no value. The message is not kept.
     pub fn de_custom<M: Display + Drop>(_msg: M) -> Error
         ensures { result ≡ Error.SerdeDeCustom }
     {
@@ -117,8 +114,8 @@ impl fmt::Display for Error {
 
 impl error::Error for Error {}
 
-/// Converts a refused allocation into [`Error::OutOfMemory`], so that a type which grows may be
-/// read with `?`, as in `String::from_str(alloc, text)?`.
+/// A refused allocation is [`Error::OutOfMemory`], so that a type which grows may be read with `?`,
+/// as in `String::from_str(alloc, text)?`.
 impl From<AllocError> for Error {
     ghost from_gives = { λ _ e. e ≡ OutOfMemory };
 
@@ -127,8 +124,8 @@ impl From<AllocError> for Error {
     }
 }
 
-/// Converts a refused allocation into [`Error::OutOfMemory`] and drops the value that was to be
-/// stored, so that `items.push(item)?` can be written while reading.
+/// So is one that hands back the value that was to be stored, which is dropped, so that
+/// `items.push(item)?` can be written while reading.
 impl<T: Drop> From<AllocFailed<T>> for Error {
     ghost from_gives = { λ _ e. e ≡ OutOfMemory };
 

@@ -1,7 +1,6 @@
 //! Laws of bytes and of spellings. The functions do nothing: their contracts are the laws.
 //!
-//! A law over any set of trees is about a type that names the set: [`TreeSet`] for trees,
-//! [`PartsSet`] for trees in a row, [`ContentSet`] for the content of an enum by its index.
+//! A law over any set of trees is about a type that names the set.
 
 ghost use Rattle.std.specs.Prelude.{◌≡◌, ℕ, ℤ, ◌+◌, ◌-◌, ◌≤◌, ◌*◌, ◌%◌, ◌^◌, ◌<◌, ◌⊎◌, ◌++◌, ◌∷◌};
 ghost use Rattle.std.specs.Prelude.{[], List, length, slice_index};
@@ -25,7 +24,7 @@ pub trait PartsSet {
     ghost have: { Trees → Type 0 };
 }
 
-/// A set of trees for each index of an enum.
+/// A set of trees for the content of each index of an enum.
 pub trait ContentSet {
     ghost holds: { ℕ → Tree → Type 0 };
 }

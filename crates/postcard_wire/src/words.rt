@@ -102,8 +102,8 @@ pub fn number_of(digits: u64, bits: u32) -> u64
 }
 
 /// Returns the faults and the digits, each in a byte of its own, of a varint of `bits` bits, whose
-/// `len` bytes are the first of `word`. The faults are 0 if these bytes are a varint of exactly
-/// that length, of at most eight bytes, and in range.
+/// `len` bytes are the first of `word`. The faults are 0 if these bytes are a varint of that
+/// length, of at most eight bytes, and in range.
 #[inline(always)]
 fn cut_one(word: u64, len: usize, bits: u32) -> (u64, u64)
     requires width { IsNarrow bits }
@@ -141,7 +141,7 @@ fn word_at(block: &[u8; BLOCK], at: usize) -> u64
 }
 
 /// Returns which of the first 64 bytes end a varint, because they are below 128: bit `i` stands for
-/// byte `i`. So it is `u64::MAX` if each byte is a varint of its own.
+/// byte `i`.
 #[inline(always)]
 pub fn ends(block: &[u8; BLOCK]) -> u64
     ensures { result ≡ u64.MAX → (k : ℕ) → k < 64 → slice_index block.now k < 128 }

@@ -39,8 +39,6 @@ pub fn from_bytes_cobs<'a, T: Deserialize<'a>, W: Width, I: Implementation<W>>(
     s: &'a mut [u8],
     digest: Digest<'a, W, I>,
 ) -> Result<T>
-    // Once the loan has ended, the first zero and the bytes after it are as they were, also after a
-    // failure.
     ensures* writes_back { sem 𝓛 (follows_so (Array u8 0) (Array u8 0) s.entry.ghost_name none
         (λ _ _. ⊤) (KeepsFromZero s.old)) }
     ensures gives { IfOk result (ReadsFrameChecked T.shape.reads T.shape.value W.size
@@ -61,15 +59,13 @@ pub fn from_bytes_cobs<'a, T: Deserialize<'a>, W: Width, I: Implementation<W>>(
 
 /// What decoding in place leaves: the whole buffer, and where the parts of the frame end.
 struct Decoded<'a> {
-    /// The whole buffer, the same loan.
     all: &'a mut [u8],
     /// The length of the frame, without the zero that ends it; 0 if the frame has no data.
     end: usize,
-    /// The length of the data, which is at the front of the buffer.
     len: usize,
 }
 
-/// Decodes the frame at the front of a buffer in place, and returns the whole buffer.
+/// Decodes the frame at the front of a buffer in place.
 fn decode<'a>(s: &'a mut [u8]) -> Decoded<'a>
     ensures same_loan { result.all.ghost_name ≡ s.entry.ghost_name }
     ensures decodes { IsDecoded s.old result }

@@ -13,11 +13,10 @@ use postcard_wire::Result;
 /// many as its type has, the lowest first.
 ///
 /// The Rust crate has it over any flavor; here it serves [`Slice`] alone. The interface of a source
-/// doesn't say which bytes a call that fails has taken, so over another source nothing could be said
-/// of the digest.
+/// doesn't say which bytes a call that fails has taken, so over another source nothing could be
+/// said of the digest.
 #[derive(Drop)]
 pub struct CrcModifier<'de, B, W: Width, I: Implementation<W> = Table<W>> {
-    /// The source of the bytes.
     pub flavor: B,
     /// The checksum of the bytes so far.
     pub digest: Digest<'de, W, I>,

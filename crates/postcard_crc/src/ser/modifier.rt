@@ -17,7 +17,6 @@ use postcard_wire::Result;
 /// checksum.
 #[derive(Drop)]
 pub struct CrcModifier<'a, B, W: Width, I: Implementation<W> = Table<W>> {
-    /// The flavor to which all bytes are written.
     pub flavor: B,
     /// The checksum of the bytes so far.
     pub digest: Digest<'a, W, I>,

@@ -20,12 +20,18 @@ use postcard_wire::{Error, Result};
 ///
 /// No byte is read before it is asked for, so what follows a message stays unread. `pop` needs no
 /// scratch. The takes read into the front of the scratch and lend that: `try_take_n` uses up `ct`
-/// bytes of scratch, even if the read fails, and `try_take_n_temp` leaves them free for the next
-/// call.
+/// bytes of scratch, even if the read fails, and lends them for as long as the scratch buffer;
+/// `try_take_n_temp` leaves them free for the next call.
 ///
 /// A contract sees a reader, `reader_of`, and the scratch left, `scratch_of`. A call succeeds if
 /// the reader is steady and has enough bytes left, and enough scratch is left. If the reader knows
 /// its bytes, steady or not, the bytes returned are the next of them.
+///
+/// # Errors
+///
+/// A take fails with `DeserializeUnexpectedEnd` if fewer than `ct` bytes of scratch are left; the
+/// reader isn't called then, and nothing is changed. Any call fails with the same error if fewer
+/// bytes are left to read or the reader fails; some bytes of the reader may be lost then.
 #[derive(Drop)]
 pub struct IOReader<'de, T: Source> {
     reader: T,
@@ -63,12 +69,6 @@ impl<'de, T: Source> Flavor for IOReader<'de, T> {
 
     ghost lawful = { reader_laws T.remaining T.steady };
 
-    /// Reads the next byte. Needs no scratch.
-    ///
-    /// # Errors
-    ///
-    /// Fails with `DeserializeUnexpectedEnd` if no byte is left or the reader fails. The scratch is
-    /// unchanged.
     fn pop(&mut self) -> Result<u8>
         ensures gives { IfOk result (λ b. Takes ⟦<IOReader<'de, T> as Flavor>⟧.left
             ⟦<IOReader<'de, T> as Flavor>⟧.able self.old (b ∷ []) self.new) }
@@ -93,15 +93,6 @@ impl<'de, T: Source> Flavor for IOReader<'de, T> {
         None
     }
 
-    /// Reads the next `ct` bytes into the first `ct` bytes of the scratch, which are used up. The
-    /// slice is valid as long as the scratch buffer.
-    ///
-    /// # Errors
-    ///
-    /// Fails with `DeserializeUnexpectedEnd` if fewer than `ct` bytes of scratch are left; the
-    /// reader isn't called then, and nothing is changed. Fails with the same error if fewer than
-    /// `ct` bytes are left to read or the reader fails; the `ct` bytes of scratch are used up then,
-    /// and some bytes of the reader may be lost.
     fn try_take_n<'a>(&mut self, ct: usize) -> Result<&'a [u8]>
     where
         Self: 'a,
@@ -123,15 +114,6 @@ impl<'de, T: Source> Flavor for IOReader<'de, T> {
         }
     }
 
-    /// Reads the next `ct` bytes into the first `ct` bytes of the scratch. The slice is valid until
-    /// the next call, which can use the same scratch again.
-    ///
-    /// # Errors
-    ///
-    /// Fails with `DeserializeUnexpectedEnd` if fewer than `ct` bytes of scratch are left; the
-    /// reader isn't called then, and nothing is changed. Fails with the same error if fewer than
-    /// `ct` bytes are left to read or the reader fails; no scratch is used up then, but some bytes
-    /// of the reader may be lost.
     fn try_take_n_temp(&mut self, ct: usize) -> Result<&[u8]>
         ensures length { IfOk result (λ front. length front.now ≡ ct) }
         ensures* gives { sem 𝓛 (Rests (the_row

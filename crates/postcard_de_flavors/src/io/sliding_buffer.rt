@@ -41,12 +41,8 @@ impl<'de> SlidingBuffer<'de> {
         SlidingBuffer { memory, life, len }
     }
 
-    /// Takes the first `n` free bytes for good.
-    ///
-    /// # Errors
-    ///
-    /// Fails with `DeserializeUnexpectedEnd` if and only if fewer than `n` bytes are free; nothing
-    /// is changed then.
+    /// Takes the first `n` free bytes for good. Fails with `DeserializeUnexpectedEnd` if and only
+    /// if fewer are free; nothing is changed then.
     pub fn take_n(&mut self, n: usize) -> Result<&'de mut [u8]>
         ensures taken { IfOk result (λ front. (length front.now ≡ n)
             × (self.old ≡ front.now ++ self.new)) }
@@ -66,13 +62,9 @@ impl<'de> SlidingBuffer<'de> {
     }
 
     /// Reads the next `n` bytes of a reader into the first `n` free bytes, which stay free. The
-    /// bytes after them are unchanged, also after a failure.
-    ///
-    /// # Errors
-    ///
-    /// Fails with `DeserializeUnexpectedEnd` if fewer than `n` bytes are free, and nothing is
-    /// changed then. Fails with the same error if the read fails; the first `n` bytes are
-    /// unspecified then.
+    /// bytes after them are unchanged, also after a failure. Fails with `DeserializeUnexpectedEnd`
+    /// if fewer bytes are free, and nothing is changed then, or if the read fails; the first `n`
+    /// bytes are unspecified then.
     pub fn fill<R: Source>(&mut self, reader: &mut R, n: usize) -> Result<()>
         ensures length { length self.new ≡ length self.old }
         ensures rest_unchanged { drop n self.new ≡ drop n self.old }

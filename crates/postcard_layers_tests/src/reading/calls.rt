@@ -26,7 +26,6 @@ fn counts_elements(rt: HostRuntime) {
     same_bytes(&rt, value(&rt, all.finalize()), &[0x02, 0x03]);
 }
 
-/// Asserts the result of reading the next element, a `u16`.
 fn assert_next(
     rt: &impl Abort,
     alloc: Global,

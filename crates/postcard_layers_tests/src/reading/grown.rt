@@ -13,7 +13,6 @@ use std::rc::Rc;
 // A run with `rt try --test --fail-alloc N`, in which only the Nth allocation fails, ends as a run
 // without it: what is read is read once more if an allocation failed.
 
-/// Reads a value in two tries.
 fn read_twice<'a, T: Deserialize<'a>>(alloc: Global, bytes: &'a [u8]) -> Result<T> {
     match read(alloc, bytes) {
         Err(Error::OutOfMemory) => read(alloc, bytes),
@@ -21,7 +20,6 @@ fn read_twice<'a, T: Deserialize<'a>>(alloc: Global, bytes: &'a [u8]) -> Result<
     }
 }
 
-/// Reads a value by `DeserializeOwned`, in two tries.
 fn read_owned_twice<T: DeserializeOwned>(alloc: Global, bytes: &[u8]) -> Result<T> {
     match read_owned(alloc, bytes) {
         Err(Error::OutOfMemory) => read_owned(alloc, bytes),
@@ -34,18 +32,16 @@ fn read_well<'a, T: Deserialize<'a>>(rt: &impl Abort, alloc: Global, bytes: &'a 
     value(rt, read_twice(alloc, bytes))
 }
 
-/// Reads a value that is to be read, by `DeserializeOwned`, in two tries.
 fn read_owned_well<T: DeserializeOwned>(rt: &impl Abort, alloc: Global, bytes: &[u8]) -> T {
     value(rt, read_owned_twice(alloc, bytes))
 }
 
-/// Reads a value that is to be read, by the `Deserialize` of `Owned`, in two tries.
+/// Reads such a value by the `Deserialize` of `Owned`.
 fn lead_back<T: DeserializeOwned>(rt: &impl Abort, alloc: Global, bytes: &[u8]) -> T {
     let Owned(read) = read_well::<Owned<T>>(rt, alloc, bytes);
     read
 }
 
-/// Reads a list of bytes from the front of `bytes`, as a vector.
 fn copy_bytes(alloc: Global, bytes: &[u8]) -> Result<Vec<u8>> {
     Deserializer::from_bytes(bytes).deserialize_byte_buf(alloc)
 }
@@ -61,7 +57,6 @@ fn check_bytes<'a, T: Deserialize<'a> + DeserializeOwned + AsSlice<u8>>(
     same_bytes(rt, read_owned_well::<T>(rt, alloc, bytes).as_slice(), want);
 }
 
-/// Reads a list of bytes that is to be read, as a vector, in two tries.
 fn copy_well(rt: &impl Abort, alloc: Global, bytes: &[u8]) -> Vec<u8> {
     let copy = match copy_bytes(alloc, bytes) {
         Err(Error::OutOfMemory) => copy_bytes(alloc, bytes),
@@ -84,7 +79,6 @@ fn reads_texts_and_lists_of_bytes(rt: HostRuntime) {
     same_bytes(&rt, &copy_well(&rt, alloc, &[0x02, 0x05, 0x06]), &[5, 6]);
 }
 
-/// Asserts that reading by both traits, in two tries, fails with this error.
 fn check_refused_twice<'a, T: Deserialize<'a> + DeserializeOwned>(
     rt: &impl Abort,
     alloc: Global,
@@ -116,7 +110,6 @@ const ANNOUNCED: [u8; 13] = [
     0xFF, 0xFF, 0xFF, 0xFF, 0xFF, 0xFF, 0xFF, 0xFF, 0xFF, 0x01, 0x61, 0x62, 0x63,
 ];
 
-/// Asserts that a list of bytes is not read, since the bytes end.
 fn assert_copy_ends(rt: &impl Abort, alloc: Global, bytes: &[u8]) {
     let refused = copy_bytes(alloc, bytes).err();
     same(rt, refused, Some(Error::DeserializeUnexpectedEnd));
@@ -159,7 +152,6 @@ fn reads_texts_into_fixed_room(rt: HostRuntime) {
     check_refused::<ArrayString<2>>(&rt, alloc, &long, &Error::DeserializeBadUtf8);
 }
 
-/// Asserts the pairs of a map.
 fn assert_pairs(rt: &impl Abort, map: &BTreeMap<u8, u8>, want: &[(u8, u8)]) {
     same(rt, map.len(), want.len());
     for (key, value) in want {
@@ -167,7 +159,6 @@ fn assert_pairs(rt: &impl Abort, map: &BTreeMap<u8, u8>, want: &[(u8, u8)]) {
     }
 }
 
-/// Asserts the pairs of a map that is read by both traits.
 fn check_map(rt: &impl Abort, alloc: Global, bytes: &[u8], want: &[(u8, u8)]) {
     assert_pairs(rt, &read_well(rt, alloc, bytes), want);
     assert_pairs(rt, &read_owned_well(rt, alloc, bytes), want);

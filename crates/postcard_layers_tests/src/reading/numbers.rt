@@ -137,7 +137,6 @@ fn reads_great_numbers_with_a_sign(rt: HostRuntime) {
     check(&rt, alloc, &ROWS_ISIZE);
 }
 
-/// Asserts that the bytes are read as this number, and that the byte 0 is refused.
 fn check_nonzero<'a, T: Deserialize<'a> + DeserializeOwned + PartialEq + Debug>(
     rt: &impl Abort,
     alloc: Global,

@@ -7,7 +7,6 @@ use std::marker::PhantomData;
 use std::ops::{Range, RangeFrom, RangeInclusive, RangeTo};
 use std::time::Duration;
 
-/// Bytes, each beside the result of reading a `bool`.
 const BOOLS: [Row<'static, bool>; 4] = [
     (&[0x00], Ok(false)),
     (&[0x01], Ok(true)),
@@ -15,7 +14,6 @@ const BOOLS: [Row<'static, bool>; 4] = [
     (&[], Err(Error::DeserializeUnexpectedEnd)),
 ];
 
-/// Bytes, each beside the result of reading an option.
 const OPTIONS: [Row<'static, Option<u8>>; 5] = [
     (&[0x00], Ok(None)),
     (&[0x01, 0x07], Ok(Some(7))),
@@ -24,7 +22,6 @@ const OPTIONS: [Row<'static, Option<u8>>; 5] = [
     (&[0x01], Err(Error::DeserializeUnexpectedEnd)),
 ];
 
-/// Bytes, each beside the result of reading a `Result`.
 const RESULTS: [Row<'static, Result<u8, u8>>; 5] = [
     (&[0x80, 0x00, 0x07], Ok(Ok(7))),
     (&[0x01, 0x07], Ok(Err(7))),
@@ -45,7 +42,6 @@ fn reads_what_chooses(rt: HostRuntime) {
     check(&rt, alloc, &RESULTS);
 }
 
-/// Bytes, each beside the result of reading a character.
 const CHARACTERS: [Row<'static, char>; 9] = [
     (&[0x01, 0x7A], Ok('z')),
     (&[0x02, 0xC2, 0xA2], Ok('¢')),

@@ -7,14 +7,12 @@ use postcard_ser_flavors::Slice;
 use postcard_wire::{Error, Result};
 use std::process::Abort;
 
-/// Asserts that each call succeeded.
 fn assert_done(rt: &impl Abort, answers: &[Result<()>]) {
     for answer in answers {
         same(rt, answer, &Ok(()));
     }
 }
 
-/// Calls for a leaf each.
 fn call_for_leaves(rt: &impl Abort, serializer: &mut Serializer<Slice>) {
     let answers = [
         serializer.serialize_bool(true),
@@ -27,7 +25,6 @@ fn call_for_leaves(rt: &impl Abort, serializer: &mut Serializer<Slice>) {
     assert_done(rt, &answers);
 }
 
-/// Calls for a struct, a tuple and their parts.
 fn call_for_structs(rt: &impl Abort, serializer: &mut Serializer<Slice>) {
     let answers = [
         serializer.serialize_newtype_struct("Meters", &300u16),
@@ -41,7 +38,6 @@ fn call_for_structs(rt: &impl Abort, serializer: &mut Serializer<Slice>) {
     assert_done(rt, &answers);
 }
 
-/// Calls for a map and its end.
 fn call_for_a_map(rt: &impl Abort, serializer: &mut Serializer<Slice>) {
     let answers = [
         serializer.serialize_map(Some(1)),
@@ -68,7 +64,6 @@ fn calls_for_leaves_and_parts(rt: HostRuntime) {
     assert_holds(&rt, serializer, &want);
 }
 
-/// Calls for variants without named fields, and their parts.
 fn call_for_variants(rt: &impl Abort, serializer: &mut Serializer<Slice>) {
     let answers = [
         serializer.serialize_unit_variant("Kind", 300, "Unit"),
@@ -80,7 +75,7 @@ fn call_for_variants(rt: &impl Abort, serializer: &mut Serializer<Slice>) {
     assert_done(rt, &answers);
 }
 
-/// Calls for a variant with named fields, and the call that the impl of a user's enum makes.
+/// The last call is the one that the impl of a user's enum makes.
 fn call_for_struct_variants(rt: &impl Abort, serializer: &mut Serializer<Slice>) {
     let answers = [
         serializer.serialize_struct_variant("Kind", u32::MAX, "Last", 1),

@@ -214,7 +214,7 @@ fn arrays(rt: HostRuntime) {
     assert_written(&rt, &[0u8; 32], &[0; 32]);
 }
 
-/// Writes a value into a flavor that takes `pieces` pieces and refuses the next.
+/// The flavor refuses the piece after `pieces`.
 fn written_in<T: Serialize>(value: &T, pieces: usize) -> Result<()> {
     let mut buffer = [0; 8];
     let mut serializer = Serializer {
@@ -226,7 +226,6 @@ fn written_in<T: Serialize>(value: &T, pieces: usize) -> Result<()> {
     value.serialize(&mut serializer)
 }
 
-/// Asserts that a value is written in this many pieces.
 fn assert_pieces<T: Serialize>(rt: &impl Abort, value: &T, pieces: usize) {
     same(rt, written_in(value, pieces), Ok(()));
 }

@@ -1,4 +1,5 @@
-//! The greatest sizes of arrays, and of vectors and texts of a fixed capacity.
+//! The greatest sizes of arrays, and of vectors and texts of a fixed capacity: that of all elements
+//! and, but for arrays, of their count as a varint.
 
 ghost use Rattle.postcard_shape.specs.Lists.{AllFit};
 ghost use Rattle.postcard_max.specs.SizeLimit.{array_limit, few_limit, short_text_limit};
@@ -10,7 +11,7 @@ use crate::max_size::MaxSize;
 use crate::sizes::{product, sum, varint_len};
 use arrayvec::{ArrayString, ArrayVec};
 
-/// Does nothing. Its contract tells the prover that each element of the slice fits its type.
+/// Tells the prover that each element of the slice fits its type.
 fn each_in_forms<T: MaxSize>(items: &[T])
     ensures { AllFit T.shape.fits items.now }
 {
@@ -19,7 +20,6 @@ fn each_in_forms<T: MaxSize>(items: &[T])
     }
 }
 
-/// The greatest size is `N` times that of an element.
 impl<T: MaxSize, const N: usize> MaxSize for [T; N] {
     ghost limit = { array_limit N T.limit };
 
@@ -34,7 +34,6 @@ impl<T: MaxSize, const N: usize> MaxSize for [T; N] {
     ghost lawful = { array_lawful N T.lawful };
 }
 
-/// The greatest size is `CAP` times that of an element, and that of the count `CAP` as a varint.
 impl<T: MaxSize, const CAP: usize> MaxSize for ArrayVec<T, CAP> {
     ghost limit = { few_limit CAP T.limit };
 
@@ -50,7 +49,6 @@ impl<T: MaxSize, const CAP: usize> MaxSize for ArrayVec<T, CAP> {
     ghost lawful = { via_lawful (λ v. v.items) (few_lawful CAP T.lawful) };
 }
 
-/// The greatest size is `CAP` bytes, and that of the count `CAP` as a varint.
 impl<const CAP: usize> MaxSize for ArrayString<CAP> {
     ghost limit = { short_text_limit CAP };
 

@@ -1,4 +1,4 @@
-//! The greatest sizes of floating-point numbers.
+//! The greatest sizes of floating-point numbers: 4 and 8 bytes.
 //!
 //! In each `in_forms` the value is read for the prover, which learns from it that it is a float of
 //! its type.
@@ -10,7 +10,6 @@ ghost use Rattle.postcard_max.specs.Floats.{float_lawful};
 use crate::max_size::MaxSize;
 use postcard_shape::formats::{known_f32, known_f64};
 
-/// The size is 4 bytes.
 impl MaxSize for f32 {
     ghost limit = { exactly 4 };
 
@@ -25,7 +24,6 @@ impl MaxSize for f32 {
     ghost lawful = { float_lawful binary32 };
 }
 
-/// The size is 8 bytes.
 impl MaxSize for f64 {
     ghost limit = { exactly 8 };
 

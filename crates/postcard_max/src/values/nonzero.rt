@@ -12,7 +12,6 @@ use std::num::{
     NonZeroU16, NonZeroU32, NonZeroU64, NonZeroU128, NonZeroUsize,
 };
 
-/// The greatest size is 1 byte, as of a `u8`.
 impl MaxSize for NonZeroU8 {
     ghost limit = { exactly 1 };
 
@@ -27,7 +26,6 @@ impl MaxSize for NonZeroU8 {
     ghost lawful = { nonzero_byte_lawful };
 }
 
-/// The greatest size is 3 bytes, as of a `u16`.
 impl MaxSize for NonZeroU16 {
     ghost limit = { exactly 3 };
 
@@ -42,7 +40,6 @@ impl MaxSize for NonZeroU16 {
     ghost lawful = { nonzero_num_lawful 16 (inl refl) };
 }
 
-/// The greatest size is 5 bytes, as of a `u32`.
 impl MaxSize for NonZeroU32 {
     ghost limit = { exactly 5 };
 
@@ -57,7 +54,6 @@ impl MaxSize for NonZeroU32 {
     ghost lawful = { nonzero_num_lawful 32 (inr (inl refl)) };
 }
 
-/// The greatest size is 10 bytes, as of a `u64`.
 impl MaxSize for NonZeroU64 {
     ghost limit = { exactly 10 };
 
@@ -72,7 +68,6 @@ impl MaxSize for NonZeroU64 {
     ghost lawful = { nonzero_num_lawful 64 (inr (inr (inl refl))) };
 }
 
-/// The greatest size is 19 bytes, as of a `u128`.
 impl MaxSize for NonZeroU128 {
     ghost limit = { exactly 19 };
 
@@ -87,7 +82,6 @@ impl MaxSize for NonZeroU128 {
     ghost lawful = { nonzero_num_lawful 128 (inr (inr (inr refl))) };
 }
 
-/// The greatest size is 10 bytes, as of a `usize`.
 impl MaxSize for NonZeroUsize {
     ghost limit = { exactly 10 };
 
@@ -102,7 +96,6 @@ impl MaxSize for NonZeroUsize {
     ghost lawful = { nonzero_num_lawful 64 (inr (inr (inl refl))) };
 }
 
-/// The greatest size is 1 byte, as of an `i8`.
 impl MaxSize for NonZeroI8 {
     ghost limit = { exactly 1 };
 
@@ -117,7 +110,6 @@ impl MaxSize for NonZeroI8 {
     ghost lawful = { nonzero_byte_lawful };
 }
 
-/// The greatest size is 3 bytes, as of an `i16`.
 impl MaxSize for NonZeroI16 {
     ghost limit = { exactly 3 };
 
@@ -132,7 +124,6 @@ impl MaxSize for NonZeroI16 {
     ghost lawful = { nonzero_int_lawful 16 (inl refl) };
 }
 
-/// The greatest size is 5 bytes, as of an `i32`.
 impl MaxSize for NonZeroI32 {
     ghost limit = { exactly 5 };
 
@@ -147,7 +138,6 @@ impl MaxSize for NonZeroI32 {
     ghost lawful = { nonzero_int_lawful 32 (inr (inl refl)) };
 }
 
-/// The greatest size is 10 bytes, as of an `i64`.
 impl MaxSize for NonZeroI64 {
     ghost limit = { exactly 10 };
 
@@ -162,7 +152,6 @@ impl MaxSize for NonZeroI64 {
     ghost lawful = { nonzero_int_lawful 64 (inr (inr (inl refl))) };
 }
 
-/// The greatest size is 19 bytes, as of an `i128`.
 impl MaxSize for NonZeroI128 {
     ghost limit = { exactly 19 };
 
@@ -177,7 +166,6 @@ impl MaxSize for NonZeroI128 {
     ghost lawful = { nonzero_int_lawful 128 (inr (inr (inr refl))) };
 }
 
-/// The greatest size is 10 bytes, as of an `isize`.
 impl MaxSize for NonZeroIsize {
     ghost limit = { exactly 10 };
 

@@ -1,4 +1,5 @@
-//! The greatest sizes of numbers of a fixed width.
+//! The greatest sizes of numbers of a fixed width: 1 byte for 8 bits, and that of a varint, 3, 5,
+//! 10 or 19 bytes, for 16, 32, 64 or 128.
 //!
 //! In each `in_forms` the value is read for the prover, which learns from it that the number has
 //! its width.
@@ -10,7 +11,6 @@ ghost use Rattle.postcard_max.specs.Leaves.{byte_lawful, num_lawful, int_lawful}
 
 use crate::max_size::MaxSize;
 
-/// The greatest size is 1 byte: a `u8` is not a varint.
 impl MaxSize for u8 {
     ghost limit = { exactly 1 };
 
@@ -25,7 +25,6 @@ impl MaxSize for u8 {
     ghost lawful = { byte_lawful };
 }
 
-/// The greatest size is 3 bytes, that of a varint of 16 bits.
 impl MaxSize for u16 {
     ghost limit = { exactly 3 };
 
@@ -40,7 +39,6 @@ impl MaxSize for u16 {
     ghost lawful = { num_lawful 16 (inl refl) };
 }
 
-/// The greatest size is 5 bytes, that of a varint of 32 bits.
 impl MaxSize for u32 {
     ghost limit = { exactly 5 };
 
@@ -55,7 +53,6 @@ impl MaxSize for u32 {
     ghost lawful = { num_lawful 32 (inr (inl refl)) };
 }
 
-/// The greatest size is 10 bytes, that of a varint of 64 bits.
 impl MaxSize for u64 {
     ghost limit = { exactly 10 };
 
@@ -70,7 +67,6 @@ impl MaxSize for u64 {
     ghost lawful = { num_lawful 64 (inr (inr (inl refl))) };
 }
 
-/// The greatest size is 19 bytes, that of a varint of 128 bits.
 impl MaxSize for u128 {
     ghost limit = { exactly 19 };
 
@@ -85,7 +81,6 @@ impl MaxSize for u128 {
     ghost lawful = { num_lawful 128 (inr (inr (inr refl))) };
 }
 
-/// The greatest size is 1 byte: an `i8` is not a varint.
 impl MaxSize for i8 {
     ghost limit = { exactly 1 };
 
@@ -100,7 +95,6 @@ impl MaxSize for i8 {
     ghost lawful = { byte_lawful };
 }
 
-/// The greatest size is 3 bytes, that of a varint of 16 bits.
 impl MaxSize for i16 {
     ghost limit = { exactly 3 };
 
@@ -115,7 +109,6 @@ impl MaxSize for i16 {
     ghost lawful = { int_lawful 16 (inl refl) };
 }
 
-/// The greatest size is 5 bytes, that of a varint of 32 bits.
 impl MaxSize for i32 {
     ghost limit = { exactly 5 };
 
@@ -130,7 +123,6 @@ impl MaxSize for i32 {
     ghost lawful = { int_lawful 32 (inr (inl refl)) };
 }
 
-/// The greatest size is 10 bytes, that of a varint of 64 bits.
 impl MaxSize for i64 {
     ghost limit = { exactly 10 };
 
@@ -145,7 +137,6 @@ impl MaxSize for i64 {
     ghost lawful = { int_lawful 64 (inr (inr (inl refl))) };
 }
 
-/// The greatest size is 19 bytes, that of a varint of 128 bits.
 impl MaxSize for i128 {
     ghost limit = { exactly 19 };
 

@@ -1,4 +1,4 @@
-//! The greatest sizes of options and results.
+//! The greatest sizes of options and results: 1 byte, and the greatest size of the content.
 
 ghost use Rattle.postcard_max.specs.SizeLimit.{option_limit, result_limit};
 ghost use Rattle.postcard_max.specs.Containers.{option_lawful, result_lawful};
@@ -6,7 +6,6 @@ ghost use Rattle.postcard_max.specs.Containers.{option_lawful, result_lawful};
 use crate::max_size::MaxSize;
 use crate::sizes::{greater, sum};
 
-/// The greatest size is 1 byte, and that of the value in the option.
 impl<T: MaxSize> MaxSize for Option<T> {
     ghost limit = { option_limit T.limit };
 
@@ -23,7 +22,6 @@ impl<T: MaxSize> MaxSize for Option<T> {
     ghost lawful = { option_lawful T.lawful };
 }
 
-/// The greatest size is 1 byte, and the greater of those of the values in `Ok` and in `Err`.
 impl<T: MaxSize, E: MaxSize> MaxSize for Result<T, E> {
     ghost limit = { result_limit T.limit E.limit };
 

@@ -1,9 +1,9 @@
-//! The greatest sizes of ranges, that of the tuple of their ends, and of one end of a range.
+//! The greatest sizes of ranges, that of the tuple of their ends, and of one end of a range: 1 byte
+//! for the index, and the end.
 
 use crate::max_size::{MaxSize, MaxSizeRepr};
 use std::ops::{Bound, Range, RangeFrom, RangeInclusive, RangeTo};
 
-/// The greatest size is twice that of an end.
 impl<T: MaxSize> MaxSizeRepr for Range<T> {
     fn in_forms_repr(&self) {
         self.start.in_forms();
@@ -11,7 +11,6 @@ impl<T: MaxSize> MaxSizeRepr for Range<T> {
     }
 }
 
-/// The greatest size is twice that of an end.
 impl<T: MaxSize> MaxSizeRepr for RangeInclusive<T> {
     fn in_forms_repr(&self) {
         self.start().in_forms();
@@ -19,21 +18,18 @@ impl<T: MaxSize> MaxSizeRepr for RangeInclusive<T> {
     }
 }
 
-/// The greatest size is that of the start.
 impl<T: MaxSize> MaxSizeRepr for RangeFrom<T> {
     fn in_forms_repr(&self) {
         self.start.in_forms();
     }
 }
 
-/// The greatest size is that of the end.
 impl<T: MaxSize> MaxSizeRepr for RangeTo<T> {
     fn in_forms_repr(&self) {
         self.end.in_forms();
     }
 }
 
-/// The greatest size is 1 byte, the index, and that of the end.
 impl<T: MaxSize> MaxSizeRepr for Bound<T> {
     fn in_forms_repr(&self) {
         match self {

@@ -1,4 +1,5 @@
-//! The greatest sizes of booleans, of characters, and of `usize` and `isize` as numbers of 64 bits.
+//! The greatest sizes of booleans, 1 byte; of characters, 5 bytes: a count, and at most four bytes
+//! of UTF-8; and of `usize` and `isize`, 10 bytes, as of numbers of 64 bits.
 //!
 //! In the `in_forms` of a number or a character the value is read for the prover, which learns its
 //! range from that.
@@ -10,7 +11,6 @@ ghost use Rattle.postcard_max.specs.Leaves.{boolean_lawful, char_lawful, num_law
 
 use crate::max_size::MaxSize;
 
-/// The greatest size is 1 byte.
 impl MaxSize for bool {
     ghost limit = { exactly 1 };
 
@@ -23,7 +23,6 @@ impl MaxSize for bool {
     ghost lawful = { boolean_lawful };
 }
 
-/// The greatest size is 5 bytes: a count of one byte, and at most four bytes of UTF-8.
 impl MaxSize for char {
     ghost limit = { exactly 5 };
 
@@ -38,7 +37,6 @@ impl MaxSize for char {
     ghost lawful = { char_lawful };
 }
 
-/// The greatest size is 10 bytes, that of a varint of 64 bits.
 impl MaxSize for usize {
     ghost limit = { exactly 10 };
 
@@ -53,7 +51,6 @@ impl MaxSize for usize {
     ghost lawful = { num_lawful 64 (inr (inr (inl refl))) };
 }
 
-/// The greatest size is 10 bytes, that of a varint of 64 bits.
 impl MaxSize for isize {
     ghost limit = { exactly 10 };
 

@@ -1,4 +1,5 @@
-//! The greatest size of spans of time.
+//! The greatest size of spans of time, 15 bytes: 10 for the seconds, of 64 bits, and 5 for the
+//! nanoseconds, of 32.
 
 ghost use Rattle.postcard_max.specs.SizeLimit.{exactly};
 ghost use Rattle.postcard_max.specs.Leaves.{span_lawful};
@@ -6,7 +7,6 @@ ghost use Rattle.postcard_max.specs.Leaves.{span_lawful};
 use crate::max_size::MaxSize;
 use std::time::Duration;
 
-/// The greatest size is 15 bytes: 10 for the seconds, of 64 bits, and 5 for the nanoseconds, of 32.
 impl MaxSize for Duration {
     ghost limit = { exactly 15 };
 

@@ -1,15 +1,13 @@
-//! The greatest sizes of tuples of one to twelve parts: that of the parts in a row.
+//! The greatest sizes of tuples of one to twelve parts: the sums of those of the parts.
 
 use crate::max_size::{MaxSize, MaxSizeRepr};
 
-/// The greatest size is that of the part.
 impl<A: MaxSize> MaxSizeRepr for (A,) {
     fn in_forms_repr(&self) {
         self.0.in_forms();
     }
 }
 
-/// The greatest size is the sum of those of the parts.
 impl<A: MaxSize, B: MaxSize> MaxSizeRepr for (A, B) {
     fn in_forms_repr(&self) {
         self.0.in_forms();
@@ -17,7 +15,6 @@ impl<A: MaxSize, B: MaxSize> MaxSizeRepr for (A, B) {
     }
 }
 
-/// The greatest size is the sum of those of the parts.
 impl<A: MaxSize, B: MaxSize, C: MaxSize> MaxSizeRepr for (A, B, C) {
     fn in_forms_repr(&self) {
         self.0.in_forms();
@@ -26,7 +23,6 @@ impl<A: MaxSize, B: MaxSize, C: MaxSize> MaxSizeRepr for (A, B, C) {
     }
 }
 
-/// The greatest size is the sum of those of the parts.
 impl<A: MaxSize, B: MaxSize, C: MaxSize, D: MaxSize> MaxSizeRepr for (A, B, C, D) {
     fn in_forms_repr(&self) {
         self.0.in_forms();
@@ -36,7 +32,6 @@ impl<A: MaxSize, B: MaxSize, C: MaxSize, D: MaxSize> MaxSizeRepr for (A, B, C, D
     }
 }
 
-/// The greatest size is the sum of those of the parts.
 impl<A: MaxSize, B: MaxSize, C: MaxSize, D: MaxSize, E: MaxSize> MaxSizeRepr for (A, B, C, D, E) {
     fn in_forms_repr(&self) {
         self.0.in_forms();
@@ -47,7 +42,6 @@ impl<A: MaxSize, B: MaxSize, C: MaxSize, D: MaxSize, E: MaxSize> MaxSizeRepr for
     }
 }
 
-/// The greatest size is the sum of those of the parts.
 impl<A: MaxSize, B: MaxSize, C: MaxSize, D: MaxSize, E: MaxSize, G: MaxSize> MaxSizeRepr
     for (A, B, C, D, E, G) {
     fn in_forms_repr(&self) {
@@ -60,7 +54,6 @@ impl<A: MaxSize, B: MaxSize, C: MaxSize, D: MaxSize, E: MaxSize, G: MaxSize> Max
     }
 }
 
-/// The greatest size is the sum of those of the parts.
 impl<A: MaxSize, B: MaxSize, C: MaxSize, D: MaxSize, E: MaxSize, G: MaxSize, H: MaxSize> MaxSizeRepr
     for (A, B, C, D, E, G, H) {
     fn in_forms_repr(&self) {
@@ -74,7 +67,6 @@ impl<A: MaxSize, B: MaxSize, C: MaxSize, D: MaxSize, E: MaxSize, G: MaxSize, H: 
     }
 }
 
-/// The greatest size is the sum of those of the parts.
 impl<
     A: MaxSize,
     B: MaxSize,
@@ -97,7 +89,6 @@ impl<
     }
 }
 
-/// The greatest size is the sum of those of the parts.
 impl<
     A: MaxSize,
     B: MaxSize,
@@ -122,7 +113,6 @@ impl<
     }
 }
 
-/// The greatest size is the sum of those of the parts.
 impl<
     A: MaxSize,
     B: MaxSize,
@@ -149,7 +139,6 @@ impl<
     }
 }
 
-/// The greatest size is the sum of those of the parts.
 impl<
     A: MaxSize,
     B: MaxSize,
@@ -178,7 +167,6 @@ impl<
     }
 }
 
-/// The greatest size is the sum of those of the parts.
 impl<
     A: MaxSize,
     B: MaxSize,

@@ -6,7 +6,6 @@ ghost use Rattle.postcard_max.specs.Rows.{end_lawful, group_lawful};
 use crate::max_size::MaxSize;
 use std::marker::PhantomData;
 
-/// The greatest size is 0 bytes.
 impl MaxSize for () {
     ghost limit = { exactly 0 };
 
@@ -19,7 +18,6 @@ impl MaxSize for () {
     ghost lawful = { group_lawful end_lawful };
 }
 
-/// The greatest size is 0 bytes.
 impl<T> MaxSize for PhantomData<T> {
     ghost limit = { exactly 0 };
 

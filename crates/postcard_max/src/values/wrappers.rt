@@ -9,21 +9,18 @@ use std::num::{Saturating, Wrapping};
 use std::rc::Rc;
 use std::sync::Arc;
 
-/// The greatest size is that of the value pointed to.
 impl<T: MaxSize> MaxSizeRepr for &T {
     fn in_forms_repr(&self) {
         (**self).in_forms();
     }
 }
 
-/// The greatest size is that of the value pointed to.
 impl<T: MaxSize> MaxSizeRepr for &mut T {
     fn in_forms_repr(&self) {
         (**self).in_forms();
     }
 }
 
-/// The greatest size is that of the value in the box.
 impl<T: MaxSize> MaxSize for Box<T> {
     ghost limit = { T.limit };
 
@@ -38,7 +35,6 @@ impl<T: MaxSize> MaxSize for Box<T> {
     ghost lawful = { via_lawful (λ v. v.value) T.lawful };
 }
 
-/// The greatest size is that of the value in the `Rc`.
 impl<T: MaxSize> MaxSize for Rc<T> {
     ghost limit = { T.limit };
 
@@ -54,14 +50,12 @@ impl<T: MaxSize> MaxSize for Rc<T> {
     ghost lawful = { via_lawful (λ v. v.value) T.lawful };
 }
 
-/// The greatest size is that of the number.
 impl<T: MaxSize> MaxSizeRepr for Wrapping<T> {
     fn in_forms_repr(&self) {
         self.0.in_forms();
     }
 }
 
-/// The greatest size is that of the value.
 impl<T: MaxSize> MaxSizeRepr for Reverse<T> {
     fn in_forms_repr(&self) {
         let Reverse(value) = self;
@@ -69,7 +63,6 @@ impl<T: MaxSize> MaxSizeRepr for Reverse<T> {
     }
 }
 
-/// The greatest size is that of the value.
 impl<T: MaxSize> MaxSizeRepr for Saturating<T> {
     fn in_forms_repr(&self) {
         let Saturating(number) = self;
@@ -77,7 +70,6 @@ impl<T: MaxSize> MaxSizeRepr for Saturating<T> {
     }
 }
 
-/// The greatest size is that of the value in the `Arc`.
 impl<T: MaxSize> MaxSize for Arc<T> {
     ghost limit = { T.limit };
 
@@ -93,7 +85,6 @@ impl<T: MaxSize> MaxSize for Arc<T> {
     ghost lawful = { via_lawful (λ v. v.value) T.lawful };
 }
 
-/// The greatest size is that of the value.
 impl<T: MaxSize> MaxSizeRepr for Cow<'_, T> {
     fn in_forms_repr(&self) {
         match self {

@@ -20,8 +20,7 @@ impl Memory {
         unsafe { slice::from_raw_parts_mut(self.start, len) }
     }
 
-    /// Returns the byte at `place`, counted from 0, to be changed. The memory then holds there what
-    /// the borrower left.
+    /// Returns the byte at `place`, counted from 0, to be changed, as [`lend`](Memory::lend) does.
     pub fn at<'a>(&'a mut self, _life: &'a Life, place: usize) -> &'a mut u8
         requires { (self.old.time ≡ _life.now) × (place < length self.old.items) }
         ensures* writes_back { sem 𝓛 (Lends the_row u8

@@ -12,7 +12,7 @@ use postcard_ser_flavors::Flavor;
 use postcard_wire::Result;
 
 impl<F: Flavor> Serializer<F> {
-    /// Writes a variant without content: its index as a varint of 1 to 5 bytes.
+    /// Writes the index of a variant without content.
     pub fn serialize_unit_variant(&mut self, name: &str, index: u32, variant: &str) -> Result<()>
         ensures { Wrote F.Flavor self.old.output (canonical (unit_variant index)) never ⊥ result
             self.new.output }
@@ -20,7 +20,7 @@ impl<F: Flavor> Serializer<F> {
         self.serialize_tuple_variant(name, index, variant, 0)
     }
 
-    /// Writes a variant with one field: its index as a varint of 1 to 5 bytes, and then the value.
+    /// Writes the index of a variant with one field, and then the value.
     pub fn serialize_newtype_variant<T: Serialize>(
         &mut self,
         name: &str,
@@ -37,8 +37,8 @@ impl<F: Flavor> Serializer<F> {
         value.serialize(self)
     }
 
-    /// Begins a variant with `len` fields, each then written by `serialize_field`: writes its index
-    /// as a varint of 1 to 5 bytes. The number of fields isn't written.
+    /// Begins a variant with `len` fields: writes its index. Each is then written by
+    /// `serialize_field`.
     pub fn serialize_tuple_variant(
         &mut self,
         _name: &str,
@@ -52,8 +52,8 @@ impl<F: Flavor> Serializer<F> {
         self.serialize_u32(index)
     }
 
-    /// Begins a variant with `len` named fields, each then written by `serialize_struct_field`:
-    /// writes its index as a varint of 1 to 5 bytes. The number of fields isn't written.
+    /// Begins a variant with `len` named fields: writes its index. Each is then written by
+    /// `serialize_struct_field`.
     pub fn serialize_struct_variant(
         &mut self,
         name: &str,

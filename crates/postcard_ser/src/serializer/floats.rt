@@ -11,8 +11,7 @@ use postcard_wire::Result;
 use std::num::{f32_to_bits_with_nan, f64_to_bits_with_nan};
 
 impl<F: Flavor> Serializer<F> {
-    /// Writes an `f32` as the 4 bytes of its bits, the lowest first. Every NaN is written as the
-    /// same bytes, `00 00 C0 7F`.
+    /// Writes an `f32` in 4 bytes. Every NaN is written as the same bytes, `00 00 C0 7F`.
     #[tactic(auto, using(postcard_shape::proofs::Floats::f32_encoded))]
     pub fn serialize_f32(&mut self, v: f32) -> Result<()>
         ensures { Wrote F.Flavor self.old.output (canonical (float_tree binary32 v)) never ⊥ result
@@ -22,8 +21,8 @@ impl<F: Flavor> Serializer<F> {
         self.extend(&bytes)
     }
 
-    /// Writes an `f64` as the 8 bytes of its bits, the lowest first. Every NaN is written as the
-    /// same bytes, `00 00 00 00 00 00 F8 7F`.
+    /// Writes an `f64` in 8 bytes. Every NaN is written as the same bytes,
+    /// `00 00 00 00 00 00 F8 7F`.
     #[tactic(auto, using(postcard_shape::proofs::Floats::f64_encoded))]
     pub fn serialize_f64(&mut self, v: f64) -> Result<()>
         ensures { Wrote F.Flavor self.old.output (canonical (float_tree binary64 v)) never ⊥ result

@@ -1,4 +1,5 @@
-//! The calls for tuples, structs and maps, and for their parts.
+//! The calls for tuples, structs and maps, and for their parts. A tuple or a struct begins with
+//! nothing written.
 
 ghost use Rattle.std.specs.Prelude.{◌≡◌, [], IsOk, IsErrOf, IfSome, OnOk};
 ghost use Rattle.std.specs.Option.{IfNone};
@@ -13,7 +14,6 @@ use postcard_wire::{Error, Result};
 
 impl<F: Flavor> Serializer<F> {
     /// Begins a tuple or an array of `len` elements, each then written by `serialize_element`.
-    /// Writes nothing and never fails.
     pub fn serialize_tuple(&mut self, _len: usize) -> Result<()>
         ensures wrote { Wrote F.Flavor self.old.output [] never ⊥ result self.new.output }
         ensures succeeds { IsOk result }
@@ -23,7 +23,6 @@ impl<F: Flavor> Serializer<F> {
     }
 
     /// Begins a struct of `len` fields without names, each then written by `serialize_field`.
-    /// Writes nothing and never fails.
     pub fn serialize_tuple_struct(&mut self, _name: &str, len: usize) -> Result<()>
         ensures wrote { Wrote F.Flavor self.old.output [] never ⊥ result self.new.output }
         ensures succeeds { IsOk result }
@@ -32,8 +31,7 @@ impl<F: Flavor> Serializer<F> {
         self.serialize_tuple(len)
     }
 
-    /// Begins a struct of `len` named fields, each then written by `serialize_struct_field`. Writes
-    /// nothing and never fails.
+    /// Begins a struct of `len` named fields, each then written by `serialize_struct_field`.
     pub fn serialize_struct(&mut self, name: &str, len: usize) -> Result<()>
         ensures wrote { Wrote F.Flavor self.old.output [] never ⊥ result self.new.output }
         ensures succeeds { IsOk result }
@@ -42,9 +40,8 @@ impl<F: Flavor> Serializer<F> {
         self.serialize_tuple_struct(name, len)
     }
 
-    /// Begins a map: writes the number of its entries as a varint of 1 to 10 bytes. Each is then
-    /// written by `serialize_key` and `serialize_value`. Fails with `SerializeSeqLengthUnknown` if
-    /// `len` is `None`, before anything is written.
+    /// Begins a map: writes the number of its entries. Each is then written by `serialize_key` and
+    /// `serialize_value`.
     pub fn serialize_map(&mut self, len: Option<usize>) -> Result<()>
         ensures known { IfSome len (λ n. Wrote F.Flavor self.old.output (canonical (Num 64 n))
             never ⊥ result self.new.output) }

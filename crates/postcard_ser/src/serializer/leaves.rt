@@ -28,7 +28,7 @@ impl<F: Flavor> Serializer<F> {
         self.serialize_str(v.encode_utf8(&mut buffer))
     }
 
-    /// Writes the unit value, which has no bytes. Never fails.
+    /// Writes the unit value, which has no bytes.
     pub fn serialize_unit(&mut self) -> Result<()>
         ensures wrote { Wrote F.Flavor self.old.output (canonical (Group NoTrees)) never ⊥ result
             self.new.output }
@@ -38,7 +38,7 @@ impl<F: Flavor> Serializer<F> {
         Ok(())
     }
 
-    /// Writes a struct without fields, which has no bytes. Never fails.
+    /// Writes a struct without fields, which has no bytes.
     pub fn serialize_unit_struct(&mut self, _name: &str) -> Result<()>
         ensures wrote { Wrote F.Flavor self.old.output (canonical (Group NoTrees)) never ⊥ result
             self.new.output }

@@ -1,4 +1,5 @@
-//! The texts of C, written as lists of bytes.
+//! The texts of C, written as the number of the bytes before the NUL at the end, and then these
+//! bytes.
 
 use crate::serialize::Serialize;
 use crate::serializer::Serializer;
@@ -6,7 +7,6 @@ use postcard_ser_flavors::Flavor;
 use postcard_wire::Result;
 use std::ffi::{CStr, CString};
 
-/// Written as the number of the bytes before the NUL at the end, and then these bytes.
 impl Serialize for CStr<'_> {
     fn serialize<F: Flavor>(&self, serializer: &mut Serializer<F>) -> Result<()> {
         let bytes: &[u8] = self.to_bytes();
@@ -14,7 +14,6 @@ impl Serialize for CStr<'_> {
     }
 }
 
-/// Written as the number of the bytes before the NUL at the end, and then these bytes.
 impl Serialize for CString {
     fn serialize<F: Flavor>(&self, serializer: &mut Serializer<F>) -> Result<()> {
         self.as_c_str().serialize(serializer)

@@ -1,4 +1,5 @@
-//! Errors as values: written as their index.
+//! Errors as values: an enum without content, the index of the error, 0 to 16, as a varint of 1
+//! byte.
 
 ghost use Rattle.std.specs.Prelude.{◌≡◌, ◌<◌};
 ghost use Rattle.postcard_shape.specs.Enumerations.{error_index};
@@ -9,14 +10,13 @@ use crate::serializer::Serializer;
 use postcard_ser_flavors::Flavor;
 use postcard_wire::{Error, Result};
 
-/// Written as an enum without content: the index of the error, 0 to 16, as a varint of 1 byte.
 impl Serialize for Error {
     fn serialize<F: Flavor>(&self, serializer: &mut Serializer<F>) -> Result<()> {
         serialize_variant(index_of(self), &(), serializer)
     }
 }
 
-/// Returns the index of an error: its position in [`Error`].
+/// Returns the position of an error in [`Error`].
 fn index_of(error: &Error) -> u32
     ensures index { result ≡ error_index error.now }
     ensures few { result < 17 }

@@ -1,5 +1,5 @@
-//! Sets and maps that find a key by its hash: the number of the keys or entries, and then these in
-//! the order in which the set or the map keeps them.
+//! Sets and maps that find a key by its hash: the number of the keys or entries, a varint, and then
+//! these in the order in which the set or the map keeps them, a value after its key.
 
 ghost use Rattle.std.specs.Prelude.{Any, map, OnOk};
 ghost use Rattle.postcard_wire.specs.Spelling.{canonical_all};
@@ -15,7 +15,6 @@ use postcard_wire::Result;
 use std::collections::{HashMap, HashSet};
 use std::hash::{BuildHasher, Hash};
 
-/// Writes the keys one by one, with no count before them.
 fn serialize_keys<K: Serialize + Eq + Hash, S: BuildHasher, F: Flavor>(
     keys: &HashSet<K, S>,
     serializer: &mut Serializer<F>,
@@ -32,7 +31,6 @@ fn serialize_keys<K: Serialize + Eq + Hash, S: BuildHasher, F: Flavor>(
     Ok(())
 }
 
-/// Written as the number of keys, a varint, and then each key, in no particular order.
 impl<K: Serialize + Eq + Hash, S: BuildHasher> Serialize for HashSet<K, S> {
     fn serialize<F: Flavor>(&self, serializer: &mut Serializer<F>) -> Result<()> {
         serializer.serialize_seq(Some(self.len()))?;
@@ -40,7 +38,6 @@ impl<K: Serialize + Eq + Hash, S: BuildHasher> Serialize for HashSet<K, S> {
     }
 }
 
-/// Writes the entries one by one, with no count before them.
 fn serialize_pairs<K: Serialize + Eq + Hash, V: Serialize, S: BuildHasher, F: Flavor>(
     entries: &HashMap<K, V, S>,
     serializer: &mut Serializer<F>,
@@ -57,8 +54,6 @@ fn serialize_pairs<K: Serialize + Eq + Hash, V: Serialize, S: BuildHasher, F: Fl
     Ok(())
 }
 
-/// Written as the number of entries, a varint, and then each key and its value, in no particular
-/// order.
 impl<K: Serialize + Eq + Hash, V: Serialize, S: BuildHasher> Serialize for HashMap<K, V, S> {
     fn serialize<F: Flavor>(&self, serializer: &mut Serializer<F>) -> Result<()> {
         serializer.serialize_map(Some(self.len()))?;

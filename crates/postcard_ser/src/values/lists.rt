@@ -46,7 +46,6 @@ pub(crate) fn serialize_all<T: Serialize, F: Flavor>(
     }
 }
 
-/// Writes the elements one by one.
 fn serialize_each<T: Serialize, F: Flavor>(
     items: &[T],
     serializer: &mut Serializer<F>,
@@ -63,7 +62,6 @@ fn serialize_each<T: Serialize, F: Flavor>(
     Ok(())
 }
 
-/// Written as the number of elements, and then the elements.
 impl<T: Serialize> Serialize for &[T] {
     fn serialize<F: Flavor>(&self, serializer: &mut Serializer<F>) -> Result<()> {
         serializer.serialize_seq(Some(self.len()))?;
@@ -71,14 +69,12 @@ impl<T: Serialize> Serialize for &[T] {
     }
 }
 
-/// Written as the number of elements, and then the elements.
 impl<T: Serialize> Serialize for Vec<T> {
     fn serialize<F: Flavor>(&self, serializer: &mut Serializer<F>) -> Result<()> {
         self.as_slice().serialize(serializer)
     }
 }
 
-/// Written as the number of elements, and then the elements.
 impl<T: Serialize> Serialize for VecDeque<T> {
     fn serialize<F: Flavor>(&self, serializer: &mut Serializer<F>) -> Result<()> {
         let (front, back) = self.as_slices();
@@ -88,7 +84,6 @@ impl<T: Serialize> Serialize for VecDeque<T> {
     }
 }
 
-/// Writes the elements of a linked list one by one, with no count before them.
 fn serialize_linked<T: Serialize, F: Flavor>(
     items: &LinkedList<T>,
     serializer: &mut Serializer<F>,
@@ -105,7 +100,6 @@ fn serialize_linked<T: Serialize, F: Flavor>(
     Ok(())
 }
 
-/// Written as the number of elements, and then the elements.
 impl<T: Serialize> Serialize for LinkedList<T> {
     fn serialize<F: Flavor>(&self, serializer: &mut Serializer<F>) -> Result<()> {
         let count = self.len();

@@ -6,7 +6,6 @@ use crate::serializer::Serializer;
 use postcard_ser_flavors::Flavor;
 use postcard_wire::Result;
 
-/// Written as the thirteen parts in order.
 impl<
     A: Serialize,
     B: Serialize,
@@ -44,7 +43,6 @@ impl<
     }
 }
 
-/// Written as the fourteen parts in order.
 impl<
     A: Serialize,
     B: Serialize,
@@ -84,7 +82,6 @@ impl<
     }
 }
 
-/// Written as the fifteen parts in order.
 impl<
     A: Serialize,
     B: Serialize,
@@ -128,7 +125,6 @@ impl<
     }
 }
 
-/// Written as the sixteen parts in order.
 impl<
     A: Serialize,
     B: Serialize,

@@ -1,4 +1,5 @@
-//! Maps: the number of the entries, and then the entries in the order of their keys.
+//! Maps: the number of the entries, a varint, and then each key and its value, in the order of the
+//! keys.
 
 ghost use Rattle.std.specs.Prelude.{◌⊎◌, Any, map, OnOk};
 ghost use Rattle.postcard_wire.specs.Spelling.{canonical_all};
@@ -13,7 +14,6 @@ use postcard_ser_flavors::Flavor;
 use postcard_wire::Result;
 use std::collections::BTreeMap;
 
-/// Writes the entries in order, with no count before them.
 fn serialize_entries<K: Serialize + Ord, V: Serialize, F: Flavor>(
     entries: &BTreeMap<K, V>,
     serializer: &mut Serializer<F>,
@@ -31,7 +31,6 @@ fn serialize_entries<K: Serialize + Ord, V: Serialize, F: Flavor>(
     Ok(())
 }
 
-/// Written as the number of entries, a varint, and then each key and its value.
 impl<K: Serialize + Ord, V: Serialize> Serialize for BTreeMap<K, V> {
     fn serialize<F: Flavor>(&self, serializer: &mut Serializer<F>) -> Result<()> {
         serializer.serialize_map(Some(self.len()))?;

@@ -1,5 +1,6 @@
-//! Addresses of the Internet: the bytes of an address in network order, the highest first, and the
-//! port of a socket.
+//! Addresses of the Internet: the 4 or 16 bytes of an address in network order, the highest first,
+//! with no count before them, and then the port of a socket, a number of 16 bits. Where an address
+//! is of either version, `V4` has the index 0 and `V6` the index 1.
 
 use crate::cases::serialize_variant;
 use crate::repr::SerializeRepr;
@@ -9,14 +10,12 @@ use postcard_ser_flavors::Flavor;
 use postcard_wire::Result;
 use std::net::{IpAddr, Ipv4Addr, Ipv6Addr, SocketAddr, SocketAddrV4, SocketAddrV6};
 
-/// Written as its 4 bytes, with no count before them.
 impl SerializeRepr for Ipv4Addr {
     fn serialize_repr<F: Flavor>(&self, serializer: &mut Serializer<F>) -> Result<()> {
         self.octets().serialize(serializer)
     }
 }
 
-/// Written as its 16 bytes, with no count before them.
 impl SerializeRepr for Ipv6Addr {
     fn serialize_repr<F: Flavor>(&self, serializer: &mut Serializer<F>) -> Result<()> {
         let octets: [u8; 16] = self.octets();
@@ -24,7 +23,6 @@ impl SerializeRepr for Ipv6Addr {
     }
 }
 
-/// Written as an enum: `V4` at index 0, `V6` at index 1.
 impl SerializeRepr for IpAddr {
     fn serialize_repr<F: Flavor>(&self, serializer: &mut Serializer<F>) -> Result<()> {
         match self {
@@ -34,15 +32,13 @@ impl SerializeRepr for IpAddr {
     }
 }
 
-/// Written as the address, and then the port, a number of 16 bits.
 impl SerializeRepr for SocketAddrV4 {
     fn serialize_repr<F: Flavor>(&self, serializer: &mut Serializer<F>) -> Result<()> {
         (self.ip(), self.port()).serialize(serializer)
     }
 }
 
-/// Written as the address, and then the port, a number of 16 bits. The flow information and the
-/// scope aren't written.
+/// The flow information and the scope aren't written.
 impl SerializeRepr for SocketAddrV6 {
     fn serialize_repr<F: Flavor>(&self, serializer: &mut Serializer<F>) -> Result<()> {
         let parts = (self.ip(), self.port());
@@ -50,7 +46,6 @@ impl SerializeRepr for SocketAddrV6 {
     }
 }
 
-/// Written as an enum: `V4` at index 0, `V6` at index 1.
 impl SerializeRepr for SocketAddr {
     fn serialize_repr<F: Flavor>(&self, serializer: &mut Serializer<F>) -> Result<()> {
         match self {

@@ -1,11 +1,11 @@
-//! Options and results.
+//! Options, written as the byte 0, or as the byte 1 and the value; and results, written as an enum:
+//! `Ok` at index 0, `Err` at index 1.
 
 use crate::serialize::Serialize;
 use crate::serializer::Serializer;
 use postcard_ser_flavors::Flavor;
 use postcard_wire::Result as WireResult;
 
-/// Written as the byte 0, or as the byte 1 and the value.
 impl<T: Serialize> Serialize for Option<T> {
     fn serialize<F: Flavor>(&self, serializer: &mut Serializer<F>) -> WireResult<()> {
         match self {
@@ -15,7 +15,6 @@ impl<T: Serialize> Serialize for Option<T> {
     }
 }
 
-/// Written as an enum: `Ok` at index 0, `Err` at index 1.
 impl<T: Serialize, E: Serialize> Serialize for Result<T, E> {
     fn serialize<F: Flavor>(&self, serializer: &mut Serializer<F>) -> WireResult<()> {
         match self {

@@ -6,14 +6,12 @@ use postcard_ser_flavors::Flavor;
 use postcard_wire::Result;
 use std::path::{AsPath, Path, PathBuf};
 
-/// Written as its text.
 impl Serialize for Path<'_> {
     fn serialize<F: Flavor>(&self, serializer: &mut Serializer<F>) -> Result<()> {
         serializer.serialize_str(self.path_text())
     }
 }
 
-/// Written as its text.
 impl Serialize for PathBuf {
     fn serialize<F: Flavor>(&self, serializer: &mut Serializer<F>) -> Result<()> {
         let text = self.path_text();

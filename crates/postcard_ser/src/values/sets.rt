@@ -1,4 +1,4 @@
-//! Sets: the number of the keys, and then the keys in their order.
+//! Sets: the number of the keys, a varint, and then the keys in their order.
 
 ghost use Rattle.std.specs.Prelude.{Any, map, OnOk};
 ghost use Rattle.postcard_wire.specs.Spelling.{canonical_all};
@@ -12,7 +12,6 @@ use postcard_ser_flavors::Flavor;
 use postcard_wire::Result;
 use std::collections::BTreeSet;
 
-/// Writes the keys in order, with no count before them.
 fn serialize_keys<K: Serialize + Ord, F: Flavor>(
     keys: &BTreeSet<K>,
     serializer: &mut Serializer<F>,
@@ -29,7 +28,6 @@ fn serialize_keys<K: Serialize + Ord, F: Flavor>(
     Ok(())
 }
 
-/// Written as the number of keys, a varint, and then each key.
 impl<K: Serialize + Ord> Serialize for BTreeSet<K> {
     fn serialize<F: Flavor>(&self, serializer: &mut Serializer<F>) -> Result<()> {
         serializer.serialize_seq(Some(self.len()))?;

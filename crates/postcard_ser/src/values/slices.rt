@@ -9,7 +9,6 @@ use std::boxed::BoxedSlice;
 use std::rc::RcSlice;
 use std::sync::ArcSlice;
 
-/// Written as a list.
 impl<T: Serialize> Serialize for BoxedSlice<T> {
     fn serialize<F: Flavor>(&self, serializer: &mut Serializer<F>) -> Result<()> {
         let boxed = self.as_slice();
@@ -17,7 +16,6 @@ impl<T: Serialize> Serialize for BoxedSlice<T> {
     }
 }
 
-/// Written as a list.
 impl<T: Serialize> Serialize for RcSlice<T> {
     fn serialize<F: Flavor>(&self, serializer: &mut Serializer<F>) -> Result<()> {
         let shared = self.as_slice();
@@ -25,7 +23,6 @@ impl<T: Serialize> Serialize for RcSlice<T> {
     }
 }
 
-/// Written as a list.
 impl<T: Serialize> Serialize for ArcSlice<T> {
     fn serialize<F: Flavor>(&self, serializer: &mut Serializer<F>) -> Result<()> {
         let held = self.as_slice();
@@ -33,7 +30,6 @@ impl<T: Serialize> Serialize for ArcSlice<T> {
     }
 }
 
-/// Written as a list.
 impl<T: Serialize> Serialize for CowSlice<'_, T> {
     fn serialize<F: Flavor>(&self, serializer: &mut Serializer<F>) -> Result<()> {
         let items = self.as_slice();

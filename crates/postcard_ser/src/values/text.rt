@@ -10,21 +10,18 @@ use std::boxed::BoxedStr;
 use std::rc::RcStr;
 use std::sync::ArcStr;
 
-/// Written as a text: the number of its bytes, and then the bytes.
 impl Serialize for &str {
     fn serialize<F: Flavor>(&self, serializer: &mut Serializer<F>) -> Result<()> {
         serializer.serialize_str(self)
     }
 }
 
-/// Written as a text: the number of its bytes, and then the bytes.
 impl Serialize for String {
     fn serialize<F: Flavor>(&self, serializer: &mut Serializer<F>) -> Result<()> {
         serializer.serialize_str(self.as_str())
     }
 }
 
-/// Written as a text: the number of its bytes, and then the bytes.
 impl Serialize for BoxedStr {
     fn serialize<F: Flavor>(&self, serializer: &mut Serializer<F>) -> Result<()> {
         let boxed = self.as_str();
@@ -32,7 +29,6 @@ impl Serialize for BoxedStr {
     }
 }
 
-/// Written as a text: the number of its bytes, and then the bytes.
 impl Serialize for RcStr {
     fn serialize<F: Flavor>(&self, serializer: &mut Serializer<F>) -> Result<()> {
         let shared = self.as_str();
@@ -40,7 +36,6 @@ impl Serialize for RcStr {
     }
 }
 
-/// Written as a text: the number of its bytes, and then the bytes.
 impl Serialize for ArcStr {
     fn serialize<F: Flavor>(&self, serializer: &mut Serializer<F>) -> Result<()> {
         let held = self.as_str();
@@ -48,7 +43,6 @@ impl Serialize for ArcStr {
     }
 }
 
-/// Written as a text: the number of its bytes, and then the bytes.
 impl Serialize for CowStr<'_> {
     fn serialize<F: Flavor>(&self, serializer: &mut Serializer<F>) -> Result<()> {
         let text = self.as_str();

@@ -6,8 +6,7 @@ use postcard_ser_flavors::Flavor;
 use postcard_wire::{Error, Result};
 use std::time::{Duration, SystemTime, UNIX_EPOCH};
 
-/// Written as the whole seconds, a number of 64 bits, and then the nanoseconds beyond them, a
-/// number of 32 bits.
+/// Written as the whole seconds, a number of 64 bits, and the nanoseconds beyond them, one of 32.
 impl Serialize for Duration {
     fn serialize<F: Flavor>(&self, serializer: &mut Serializer<F>) -> Result<()> {
         (self.as_secs(), self.subsec_nanos()).serialize(serializer)

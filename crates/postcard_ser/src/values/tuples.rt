@@ -1,4 +1,7 @@
 //! Tuples of one to twelve parts: written as the parts in order, with no count before them.
+//!
+//! A tuple passes its parts to a function with one parameter each, since the prover's work for a
+//! tuple within a tuple grows fast with its length.
 
 ghost use Rattle.std.specs.Prelude.{OnOk};
 ghost use Rattle.postcard_shape.specs.Rows.{no_part, then};
@@ -9,7 +12,6 @@ use crate::serializer::Serializer;
 use postcard_ser_flavors::Flavor;
 use postcard_wire::Result;
 
-/// Writes a value, and then another.
 fn serialize_both<P: Serialize, Q: Serialize, F: Flavor>(
     first: &P,
     second: &Q,
@@ -27,8 +29,6 @@ fn serialize_both<P: Serialize, Q: Serialize, F: Flavor>(
     second.serialize(serializer)
 }
 
-/// Writes three values in order. A tuple passes its parts to such a function, one parameter each,
-/// since the prover's work for a tuple within a tuple grows fast with its length.
 fn serialize_three<P: Serialize, Q: Serialize, R: Serialize, F: Flavor>(
     first: &P,
     second: &Q,
@@ -47,7 +47,6 @@ fn serialize_three<P: Serialize, Q: Serialize, R: Serialize, F: Flavor>(
     serialize_both(second, third, serializer)
 }
 
-/// Writes four values in order.
 fn serialize_four<P: Serialize, Q: Serialize, R: Serialize, S: Serialize, F: Flavor>(
     first: &P,
     second: &Q,
@@ -67,7 +66,6 @@ fn serialize_four<P: Serialize, Q: Serialize, R: Serialize, S: Serialize, F: Fla
     serialize_three(second, third, fourth, serializer)
 }
 
-/// Writes five values in order.
 fn serialize_five<P: Serialize, Q: Serialize, R: Serialize, S: Serialize, T: Serialize, F: Flavor>(
     first: &P,
     second: &Q,
@@ -88,7 +86,6 @@ fn serialize_five<P: Serialize, Q: Serialize, R: Serialize, S: Serialize, T: Ser
     serialize_four(second, third, fourth, fifth, serializer)
 }
 
-/// Writes six values in order.
 fn serialize_six<
     P: Serialize,
     Q: Serialize,
@@ -122,7 +119,6 @@ fn serialize_six<
     serialize_five(second, third, fourth, fifth, sixth, serializer)
 }
 
-/// Writes seven values in order.
 fn serialize_seven<
     P: Serialize,
     Q: Serialize,
@@ -158,7 +154,6 @@ fn serialize_seven<
     serialize_six(second, third, fourth, fifth, sixth, seventh, serializer)
 }
 
-/// Writes eight values in order.
 fn serialize_eight<
     P: Serialize,
     Q: Serialize,
@@ -198,7 +193,6 @@ fn serialize_eight<
     )
 }
 
-/// Writes nine values in order.
 fn serialize_nine<
     P: Serialize,
     Q: Serialize,
@@ -240,7 +234,6 @@ fn serialize_nine<
     )
 }
 
-/// Writes ten values in order.
 fn serialize_ten<
     P: Serialize,
     Q: Serialize,
@@ -286,7 +279,6 @@ fn serialize_ten<
     )
 }
 
-/// Writes eleven values in order.
 fn serialize_eleven<
     P: Serialize,
     Q: Serialize,
@@ -335,7 +327,6 @@ fn serialize_eleven<
     )
 }
 
-/// Writes twelve values in order.
 fn serialize_twelve<
     P: Serialize,
     Q: Serialize,
@@ -388,35 +379,30 @@ fn serialize_twelve<
     )
 }
 
-/// Written as the part.
 impl<A: Serialize> Serialize for (A,) {
     fn serialize<F: Flavor>(&self, serializer: &mut Serializer<F>) -> Result<()> {
         serializer.serialize_element(&self.0)
     }
 }
 
-/// Written as the two parts in order.
 impl<A: Serialize, B: Serialize> Serialize for (A, B) {
     fn serialize<F: Flavor>(&self, serializer: &mut Serializer<F>) -> Result<()> {
         serialize_both(&self.0, &self.1, serializer)
     }
 }
 
-/// Written as the three parts in order.
 impl<A: Serialize, B: Serialize, C: Serialize> Serialize for (A, B, C) {
     fn serialize<F: Flavor>(&self, serializer: &mut Serializer<F>) -> Result<()> {
         serialize_three(&self.0, &self.1, &self.2, serializer)
     }
 }
 
-/// Written as the four parts in order.
 impl<A: Serialize, B: Serialize, C: Serialize, D: Serialize> Serialize for (A, B, C, D) {
     fn serialize<F: Flavor>(&self, serializer: &mut Serializer<F>) -> Result<()> {
         serialize_four(&self.0, &self.1, &self.2, &self.3, serializer)
     }
 }
 
-/// Written as the five parts in order.
 impl<A: Serialize, B: Serialize, C: Serialize, D: Serialize, E: Serialize> Serialize
     for (A, B, C, D, E) {
     fn serialize<F: Flavor>(&self, serializer: &mut Serializer<F>) -> Result<()> {
@@ -424,7 +410,6 @@ impl<A: Serialize, B: Serialize, C: Serialize, D: Serialize, E: Serialize> Seria
     }
 }
 
-/// Written as the six parts in order.
 impl<A: Serialize, B: Serialize, C: Serialize, D: Serialize, E: Serialize, G: Serialize> Serialize
     for (A, B, C, D, E, G) {
     fn serialize<F: Flavor>(&self, serializer: &mut Serializer<F>) -> Result<()> {
@@ -434,7 +419,6 @@ impl<A: Serialize, B: Serialize, C: Serialize, D: Serialize, E: Serialize, G: Se
     }
 }
 
-/// Written as the seven parts in order.
 impl<
     A: Serialize,
     B: Serialize,
@@ -451,7 +435,6 @@ impl<
     }
 }
 
-/// Written as the eight parts in order.
 impl<
     A: Serialize,
     B: Serialize,
@@ -469,7 +452,6 @@ impl<
     }
 }
 
-/// Written as the nine parts in order.
 impl<
     A: Serialize,
     B: Serialize,
@@ -489,7 +471,6 @@ impl<
     }
 }
 
-/// Written as the ten parts in order.
 impl<
     A: Serialize,
     B: Serialize,
@@ -510,7 +491,6 @@ impl<
     }
 }
 
-/// Written as the eleven parts in order.
 impl<
     A: Serialize,
     B: Serialize,
@@ -534,7 +514,6 @@ impl<
     }
 }
 
-/// Written as the twelve parts in order.
 impl<
     A: Serialize,
     B: Serialize,

@@ -6,14 +6,12 @@ use postcard_ser_flavors::Flavor;
 use postcard_wire::Result;
 use std::marker::PhantomData;
 
-/// Writes no bytes.
 impl Serialize for () {
     fn serialize<F: Flavor>(&self, serializer: &mut Serializer<F>) -> Result<()> {
         serializer.serialize_unit()
     }
 }
 
-/// Writes no bytes.
 impl<T> Serialize for PhantomData<T> {
     fn serialize<F: Flavor>(&self, serializer: &mut Serializer<F>) -> Result<()> {
         serializer.serialize_unit_struct("PhantomData")

@@ -1,4 +1,5 @@
-//! Types that hold one value of another, or point to it: written as that value.
+//! Types that hold one value of another, or point to it: written as that value, a shared one each
+//! time.
 
 use crate::repr::SerializeRepr;
 use crate::serialize::Serialize;
@@ -11,28 +12,24 @@ use std::num::{Saturating, Wrapping};
 use std::rc::Rc;
 use std::sync::Arc;
 
-/// Written as the value pointed to.
 impl<T: Serialize> SerializeRepr for &T {
     fn serialize_repr<F: Flavor>(&self, serializer: &mut Serializer<F>) -> Result<()> {
         T::serialize(self, serializer)
     }
 }
 
-/// Written as the value pointed to.
 impl<T: Serialize> SerializeRepr for &mut T {
     fn serialize_repr<F: Flavor>(&self, serializer: &mut Serializer<F>) -> Result<()> {
         (**self).serialize(serializer)
     }
 }
 
-/// Written as the value in the box.
 impl<T: Serialize> Serialize for Box<T> {
     fn serialize<F: Flavor>(&self, serializer: &mut Serializer<F>) -> Result<()> {
         self.as_ref().serialize(serializer)
     }
 }
 
-/// Written as the value in the `Rc`. A shared value is written each time.
 impl<T: Serialize> Serialize for Rc<T> {
     fn serialize<F: Flavor>(&self, serializer: &mut Serializer<F>) -> Result<()> {
         let shared: &T = self;
@@ -40,14 +37,12 @@ impl<T: Serialize> Serialize for Rc<T> {
     }
 }
 
-/// Written as the number.
 impl<T: Serialize> SerializeRepr for Wrapping<T> {
     fn serialize_repr<F: Flavor>(&self, serializer: &mut Serializer<F>) -> Result<()> {
         self.0.serialize(serializer)
     }
 }
 
-/// Written as the value.
 impl<T: Serialize> SerializeRepr for Reverse<T> {
     fn serialize_repr<F: Flavor>(&self, serializer: &mut Serializer<F>) -> Result<()> {
         let Reverse(value) = self;
@@ -55,7 +50,6 @@ impl<T: Serialize> SerializeRepr for Reverse<T> {
     }
 }
 
-/// Written as the value.
 impl<T: Serialize> SerializeRepr for Saturating<T> {
     fn serialize_repr<F: Flavor>(&self, serializer: &mut Serializer<F>) -> Result<()> {
         let number = &self.0;
@@ -63,7 +57,6 @@ impl<T: Serialize> SerializeRepr for Saturating<T> {
     }
 }
 
-/// Written as the value in the `Arc`. A shared value is written each time.
 impl<T: Serialize> Serialize for Arc<T> {
     fn serialize<F: Flavor>(&self, serializer: &mut Serializer<F>) -> Result<()> {
         let held: &T = self;
@@ -71,7 +64,6 @@ impl<T: Serialize> Serialize for Arc<T> {
     }
 }
 
-/// Written as the value.
 impl<T: Serialize> SerializeRepr for Cow<'_, T> {
     fn serialize_repr<F: Flavor>(&self, serializer: &mut Serializer<F>) -> Result<()> {
         match self {

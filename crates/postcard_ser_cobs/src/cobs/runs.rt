@@ -16,8 +16,7 @@ use std::mem;
 /// The number of bytes that are searched for more zeros if the first zero is near.
 const WINDOW: usize = 16;
 
-/// If the bytes searched have at least this many zeros, it is cheaper to take them together than
-/// run by run.
+/// If the bytes searched have this many zeros, it is cheaper to take them together than run by run.
 const MANY_ZEROS: u8 = 2;
 
 /// Returns the number of bytes to take together with their zeros, at most `most`, or 0 if zeros are
@@ -81,10 +80,9 @@ impl<B: Storage + Drop> Cobs<B> {
         Ok(())
     }
 
-    /// Takes a piece at once, zeros included. It must be too short to make the open group full.
-    ///
-    /// A zero of the data is at the place of the next code in the frame, so the piece is pushed as
-    /// it is, and the codes are set after that.
+    /// Takes a piece at once, zeros included. It must be too short to make the open group full. A
+    /// zero of the data is at the place of the next code in the frame, so the piece is pushed as it
+    /// is, and the codes are set after that.
     #[inline(never)]
     fn push_dense(&mut self, piece: &[u8]) -> Result<()>
         requires short { length piece.now < 255 - self.old.encoder.code }

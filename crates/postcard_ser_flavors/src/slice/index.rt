@@ -12,8 +12,7 @@ impl<'a> Index<usize> for Slice<'a> {
 
     ghost index_gives = { λ s place byte. byte ≡ slice_index s.buffer place };
 
-    /// Returns the byte at `place`, counted from 0 and inside the whole slice, also one that was
-    /// not written yet.
+    /// Returns the byte at `place` of the whole slice, also one that was not written yet.
     fn index(&self, place: usize) -> &u8 {
         let all = self.memory.view(self.life, self.len);
         &all[place]
@@ -25,8 +24,6 @@ impl<'a> IndexMut<usize> for Slice<'a> {
     ghost use Rattle.postcard_ser_flavors.specs.contracts.slice.Slice.{the_row};
     ghost use mir.Syntax.{named};
 
-    /// Returns the byte at `place`, counted from 0 and inside the whole slice, to be changed.
-    /// Nothing else changes.
     fn index_mut(&mut self, place: usize) -> &mut u8
         requires { place < length self.old.buffer }
         ensures* writes_back { sem 𝓛 (Lends (the_row (record { mir = named 1; lft = [] }))

@@ -16,8 +16,6 @@ impl<'a> Storage for Slice<'a> {
 
     ghost free_lawful = { slice_free };
 
-    /// Changes the byte at a place that is held, counted in bytes from 0, and nothing else of the
-    /// whole slice.
     fn set(&mut self, place: usize, byte: u8)
         requires { place < length (held self.old) }
         ensures sets { ⟦<Self as Storage>⟧.held self.new
@@ -34,7 +32,6 @@ impl<'a> Storage for Slice<'a> {
         *self.memory.at(self.life, place) = byte;
     }
 
-    /// Returns the number of bytes written at the front of the slice.
     fn held_len(&self) -> usize {
         self.position
     }

@@ -1,4 +1,7 @@
 //! The shapes of floating-point numbers, and their encodings many at a time.
+//!
+//! The functions `bytes_of_` return the encodings one after the other, and `bits_of_` the bits of
+//! each number, and for a NaN those of the usual one, 7FC00000 or 7FF8000000000000.
 
 ghost use Rattle.std.specs.Prelude.{◌≡◌, ◌<◌, ◌≤◌, [], ◌∷◌, length, map, T};
 ghost use Rattle.std.specs.Float.{binary32, binary64};
@@ -60,7 +63,6 @@ impl Shaped for f64 {
     }
 }
 
-/// Returns the encodings of 16 numbers, one after the other.
 #[inline(always)]
 fn bytes_of_sixteen(
     a: f32,
@@ -90,7 +92,6 @@ fn bytes_of_sixteen(
         .to_array()
 }
 
-/// Returns the bits of 16 numbers, and for a NaN those of the usual one, 7FC00000.
 #[inline(always)]
 fn bits_of_sixteen(
     a: f32,
@@ -121,7 +122,6 @@ fn bits_of_sixteen(
     bits | nan.select(u32x16::splat(0x7FC0_0000), u32x16::splat(0))
 }
 
-/// Returns the encodings of eight numbers, one after the other.
 #[inline(always)]
 fn bytes_of_eight(a: f64, b: f64, c: f64, d: f64, e: f64, f: f64, g: f64, h: f64) -> [u8; 64]
     ensures gives { result ≡ canonical_all (trees (map (float_tree binary64)
@@ -134,7 +134,6 @@ fn bytes_of_eight(a: f64, b: f64, c: f64, d: f64, e: f64, f: f64, g: f64, h: f64
         .to_array()
 }
 
-/// Returns the bits of eight numbers, and for a NaN those of the usual one, 7FF8000000000000.
 #[inline(always)]
 fn bits_of_eight(a: f64, b: f64, c: f64, d: f64, e: f64, f: f64, g: f64, h: f64) -> u64x8
     ensures bits { result ≡ map (to_bits binary64)
@@ -148,7 +147,6 @@ fn bits_of_eight(a: f64, b: f64, c: f64, d: f64, e: f64, f: f64, g: f64, h: f64)
     bits | nan.select(u64x8::splat(0x7FF8_0000_0000_0000), u64x8::splat(0))
 }
 
-/// Returns the encodings of four numbers, one after the other.
 fn bytes_of_four(a: f32, b: f32, c: f32, d: f32) -> [u8; 16]
     ensures gives { result ≡ canonical_all (trees
         (map (float_tree binary32) (a ∷ b ∷ c ∷ d ∷ []))) }
@@ -157,7 +155,6 @@ fn bytes_of_four(a: f32, b: f32, c: f32, d: f32) -> [u8; 16]
     bits_of_four(a, b, c, d).to_le_bytes().to_array()
 }
 
-/// Returns the bits of four numbers, and for a NaN those of the usual one, 7FC00000.
 fn bits_of_four(a: f32, b: f32, c: f32, d: f32) -> u32x4
     ensures bits { result ≡ map (to_bits binary32) (a ∷ b ∷ c ∷ d ∷ []) }
     ensures fits { AllFit (λ x. T (fits binary32 x)) (a ∷ b ∷ c ∷ d ∷ []) }
@@ -168,7 +165,6 @@ fn bits_of_four(a: f32, b: f32, c: f32, d: f32) -> u32x4
     bits | nan.select(u32x4::splat(0x7FC0_0000), u32x4::splat(0))
 }
 
-/// Returns the encodings of two numbers, one after the other.
 fn bytes_of_two(a: f64, b: f64) -> [u8; 16]
     ensures gives { result ≡ canonical_all (trees (map (float_tree binary64) (a ∷ b ∷ []))) }
     ensures fits { AllFit (λ x. T (fits binary64 x)) (a ∷ b ∷ []) }
@@ -176,7 +172,6 @@ fn bytes_of_two(a: f64, b: f64) -> [u8; 16]
     bits_of_two(a, b).to_le_bytes().to_array()
 }
 
-/// Returns the bits of two numbers, and for a NaN those of the usual one, 7FF8000000000000.
 fn bits_of_two(a: f64, b: f64) -> u64x2
     ensures bits { result ≡ map (to_bits binary64) (a ∷ b ∷ []) }
     ensures fits { AllFit (λ x. T (fits binary64 x)) (a ∷ b ∷ []) }

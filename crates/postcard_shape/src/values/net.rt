@@ -35,7 +35,7 @@ impl Repr for SocketAddrV4 {
     ghost repr = { λ a. (v4_ip a, v4_port a) };
 }
 
-/// The shape has the address and the port. The flow information and the scope aren't written.
+/// The flow information and the scope aren't written.
 impl Repr for SocketAddrV6 {
     type As = (Ipv6Addr, u16);
 

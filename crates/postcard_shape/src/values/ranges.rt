@@ -1,4 +1,5 @@
-//! The shapes of ranges, that of the tuple of their ends, and of one end.
+//! The shapes of ranges, that of the tuple of their ends, and of one end. Whether a range is
+//! exhausted is not written.
 
 ghost use Rattle.std.specs.Range.{range_inclusive_start, range_inclusive_end};
 ghost use Rattle.std.specs.declared.ops.Bound.TheVariants as End;
@@ -14,7 +15,6 @@ impl<T: Shaped> Repr for Range<T> {
     ghost repr = { λ v. (v.start, v.end) };
 }
 
-/// The shape has the start and the end. Whether the range is exhausted is not written.
 impl<T: Shaped> Repr for RangeInclusive<T> {
     type As = (T, T);
 
@@ -33,7 +33,7 @@ impl<T: Shaped> Repr for RangeTo<T> {
     ghost repr = { λ v. record { 0 = v.end } };
 }
 
-/// The variants are in the order of serde: `Unbounded` at index 0, `Included` at 1 and `Excluded` at 2.
+/// The variants are in the order of serde.
 impl<T: Shaped> Repr for Bound<T> {
     type As = Case<(), Case<T, Case<T, NoCase>>>;
 

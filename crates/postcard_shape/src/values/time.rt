@@ -9,8 +9,8 @@ impl Shaped for Duration {
     ghost shape = { span_of_time };
 }
 
-/// The shape is that of the span since the beginning of 1970, of fewer than 2^63 seconds. A point of
-/// time beyond that refuses itself; no call of std makes one.
+/// The span since the beginning of 1970, of fewer than 2^63 seconds. A point of time beyond that
+/// refuses itself; no call of std makes one.
 impl Shaped for SystemTime {
     ghost shape = { point_of_time };
 }
