@@ -7,8 +7,9 @@ ghost use Rattle.postcard_dyn_schema.specs.Fronts.{IsRefusal};
 ghost use Rattle.postcard_dyn_schema.specs.Meaning.{type_of};
 
 use crate::error::Problem;
+use crate::fixed::ByteOrder;
 use crate::scan::{Fault, boxed, fault_at, named, push};
-use crate::schema::Schema;
+use crate::schema::{Leaf, Schema};
 use std::alloc::Global;
 
 /// A type that has types in `<` and `>`.
@@ -29,6 +30,8 @@ pub enum Holder {
     List,
     /// `Option<T>`: no value, or a value of `T`.
     Option,
+    /// `LE<T>` or `BE<T>`: the number `T` at its full width.
+    Fixed(ByteOrder),
 }
 
 impl Holder {
@@ -36,7 +39,8 @@ impl Holder {
     ///
     /// # Errors
     ///
-    /// Fails at the front of `start`: with `NoBytes` if it is a list and `T` has no bytes, and with
+    /// Fails at the front of `start`: with `NoBytes` if it is a list and `T` has no bytes, with
+    /// `NumberExpected` if it is `LE` or `BE` and `T` is no number of 16 to 128 bits, and with
     /// `OutOfMemory` if an allocation fails.
     pub fn of_type(self, alloc: Global, inner: Schema, start: &[u8]) -> Result<Schema, Fault>
         ensures made { IfOk result (λ schema. MayHold self (type_of inner) × IsHolderOf self inner schema) }
@@ -47,6 +51,10 @@ impl Holder {
             Holder::List if !inner.has_bytes() => Err(fault_at(Problem::NoBytes, start)),
             Holder::List => Ok(Schema::Seq(boxed(alloc, inner, start)?)),
             Holder::Option => Ok(Schema::Option(boxed(alloc, inner, start)?)),
+            Holder::Fixed(order) => match inner.as_integer() {
+                Some(integer) => Ok(Schema::Leaf(Leaf::Fixed(order, integer))),
+                None => Err(fault_at(Problem::NumberExpected, start)),
+            },
         }
     }
 }

@@ -7,7 +7,7 @@
 //! plain    = word | holder "<" type ">" | pair "<" type "," type ">"
 //!          | "[" type "]" | "[" type ";" count "]" | tuple
 //!          | "{" fields "}" | "{" type "=>" type "}"
-//! holder   = "Box" | "Vec" | "Option"
+//! holder   = "Box" | "Vec" | "Option" | "LE" | "BE"
 //! pair     = "BTreeMap" | "HashMap" | "Result"
 //! tuple    = "(" [type {"," type} [","]] ")"
 //! fields   = name ":" type {"," name ":" type} [","]
@@ -25,7 +25,9 @@
 //! `Box<T>` is the type `T`, `Vec<T>` is `[T]`, `Option<T>` is `T?`, a `BTreeMap<K, V>` or
 //! `HashMap<K, V>` is `{K => V}`, and `Result<T, E>` is `Ok(T) | Err(E)`. `&T` is the type `T`, since
 //! a reference is written as what it refers to; the name of a lifetime, as `a` in `&'a str`, begins
-//! with no digit.
+//! with no digit. `LE<T>` and `BE<T>` are the number `T` at its full width, the lowest byte first or
+//! the highest; `T` is one of `u16` to `u128` and `i16` to `i128`, or `usize` or `isize`, which are
+//! `u64` and `i64`.
 
 ghost use Rattle.std.specs.Prelude.{◌≡◌, ℕ, List, ◌+◌, ◌≤◌, true, length, Decides, IfOk, IfErr, OnOk, OnErr};
 ghost use Rattle.postcard_dyn_schema.specs.Text.{characters, TakesPhrase, IsSign, EndsWord, GoesOnBy};
@@ -67,7 +69,8 @@ const MAX_OPTIONS: usize = 4;
 ///
 /// The problem is `NoBytes` if the elements of a list or an array, or the entries of a map, have no
 /// bytes, since a short message could then hold any number of them. It is `TooDeep` if types are
-/// nested more than 64 deep in brackets, or if more than 4 `?` follow a type.
+/// nested more than 64 deep in brackets, or if more than 4 `?` follow a type. It is `NumberExpected`
+/// if the type in the `<` of `LE` or `BE` is no number of 16 to 128 bits.
 pub fn parse(alloc: Global, text: &str) -> Result<Schema, ExpressionError>
     ensures spelled { IfOk result (λ schema. IsExpression schema text.now) }
     ensures one { IfOk result (λ schema. (other : Schema)

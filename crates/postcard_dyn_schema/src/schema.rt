@@ -1,11 +1,16 @@
 //! Types of messages, as values of a program.
 
-ghost use Rattle.std.specs.Prelude.{◌≡◌};
-ghost use Rattle.postcard_dyn_schema.specs.Meaning.{has_bytes, some_has_bytes, type_of, types_of};
+ghost use Rattle.std.specs.Prelude.{◌≡◌, IfSome, IfNone};
+ghost use Rattle.postcard_dyn_schema.specs.declared.fixed.Integer.{Integer};
+ghost use Rattle.postcard_dyn_schema.specs.Fixed.{number_of};
+ghost use Rattle.postcard_dyn_schema.specs.Meaning.{leaf, has_bytes, some_has_bytes, type_of};
+ghost use Rattle.postcard_dyn_schema.specs.Meaning.{types_of};
+
+use crate::fixed::{ByteOrder, Integer};
 
 /// A type without parts. Each is read by one call of `Deserializer` and written by one of
 /// `Serializer`, but for the floats, whose bits are read and written at their full width, so that
-/// each NaN is kept.
+/// each NaN is kept, and the numbers of a fixed width.
 ///
 /// `usize` and `isize` are `U64` and `I64` here, since the format writes them as numbers of 64 bits.
 #[derive(Clone, Copy, Debug, PartialEq, Eq)]
@@ -26,6 +31,28 @@ pub enum Leaf {
     Char,
     Str,
     Bytes,
+    /// `LE<T>` or `BE<T>`: a number at its full width, as the array of its bytes.
+    Fixed(ByteOrder, Integer),
+}
+
+impl Leaf {
+    /// Returns the type of numbers that may have a fixed width, or `None` if it is none of these.
+    pub fn as_integer(self) -> Option<Integer>
+        ensures found { IfSome result (λ integer. self ≡ number_of integer) }
+        ensures none { IfNone result ((integer : Integer) → self ≡ number_of integer → ⊥) }
+    {
+        match self {
+            Leaf::U16 => Some(Integer::U16),
+            Leaf::U32 => Some(Integer::U32),
+            Leaf::U64 => Some(Integer::U64),
+            Leaf::U128 => Some(Integer::U128),
+            Leaf::I16 => Some(Integer::I16),
+            Leaf::I32 => Some(Integer::I32),
+            Leaf::I64 => Some(Integer::I64),
+            Leaf::I128 => Some(Integer::I128),
+            _ => None,
+        }
+    }
 }
 
 /// The type of a message.
@@ -68,6 +95,20 @@ impl Schema {
             Schema::Group(parts) => any_has_bytes(parts),
             Schema::Named(_, content) => content.has_bytes(),
             _ => true,
+        }
+    }
+
+    /// Returns the type of numbers that may have a fixed width, if the type is one of these. The
+    /// name of a field or a variant makes no difference.
+    pub fn as_integer(&self) -> Option<Integer>
+        ensures found { IfSome result (λ integer. type_of self.now ≡ leaf (number_of integer)) }
+        ensures none { IfNone result ((integer : Integer)
+            → type_of self.now ≡ leaf (number_of integer) → ⊥) }
+    {
+        match self {
+            Schema::Leaf(leaf) => leaf.as_integer(),
+            Schema::Named(_, content) => content.as_integer(),
+            _ => None,
         }
     }
 }
