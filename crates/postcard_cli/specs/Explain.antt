@@ -9,6 +9,10 @@ use Rattle.postcard_wire.specs.declared.error.Error.{Error}
 use Rattle.postcard_wire.specs.declared.error.Error.TheVariants.{OutOfMemory}
 use Rattle.postcard_shape.specs.Shape.{memory}
 use Rattle.postcard_de.specs.Reads.{IsReadError}
+use Rattle.postcard_dyn_schema.specs.declared.fixed.ByteOrder.{ByteOrder}
+use Rattle.postcard_dyn_schema.specs.declared.fixed.ByteOrder.TheVariants.{Little, Big}
+use Rattle.postcard_dyn_schema.specs.declared.fixed.Integer.{Integer}
+use Rattle.postcard_dyn_schema.specs.Fixed.{name_of}
 use Rattle.postcard_dyn_schema.specs.declared.schema.Leaf.{Leaf}
 use Rattle.postcard_dyn_schema.specs.declared.schema.Leaf.TheVariants as leaves
 use Rattle.postcard_dyn_schema.specs.declared.schema.Schema.{Schema}
@@ -45,6 +49,14 @@ separator_text _ _ = codes ": "
 abbrev pub elements_text : ℕ → List ℕ
 elements_text n = if nat_eq n 1 then codes "element" else codes "elements"
 
+-- The name of a type of numbers of a fixed width, as `LE<u32>`.
+abbrev pub order_text : ByteOrder → List ℕ
+order_text Little = codes "LE"
+order_text Big = codes "BE"
+
+abbrev pub fixed_text : ByteOrder → Integer → List ℕ
+fixed_text order integer = order_text order ++ (codes "<" ++ (name_of integer ++ codes ">"))
+
 -- What a type without parts is called where it is expected.
 abbrev pub leaf_text : Leaf → List ℕ
 leaf_text leaves.Bool = codes "bool: 00 or 01"
@@ -63,6 +75,7 @@ leaf_text leaves.F64 = codes "f64"
 leaf_text leaves.Char = codes "char"
 leaf_text leaves.Str = codes "str"
 leaf_text leaves.Bytes = codes "bytes"
+leaf_text (leaves.Fixed order integer) = fixed_text order integer
 
 -- What is expected where a part can't be read.
 abbrev pub expected_text : Expected → List ℕ

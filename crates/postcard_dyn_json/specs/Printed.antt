@@ -1,6 +1,7 @@
 -- The places of errors, and the texts as which errors are printed.
 use Rattle.std.specs.Prelude.{◌≡◌, ℕ, ◌+◌, ◌≤◌, ◌⊎◌, List, [], ◌∷◌, ◌++◌, codes, string_bytes, nat_eq, if◌then◌else◌}
 use Rattle.std.specs.Fmt.{decimal}
+use Rattle.postcard_dyn_schema.specs.Fixed.{name_of}
 use Rattle.postcard_dyn_schema.specs.declared.schema.Leaf.{Leaf}
 use Rattle.postcard_dyn_schema.specs.declared.schema.Leaf.TheVariants as leaves
 use Rattle.postcard_dyn_schema.specs.Text.{characters}
@@ -32,7 +33,7 @@ abbrev pub part_step : ℕ → Layout → List ℕ
 part_step i (named n x) = n
 part_step i x = codes "[" ++ decimal i ++ codes "]"
 
--- The name of a type without parts.
+-- The name of a type without parts. That of a number of a fixed width is the number's.
 abbrev pub leaf_name : Leaf → List ℕ
 leaf_name leaves.Bool = codes "bool"
 leaf_name leaves.U8 = codes "u8"
@@ -50,6 +51,7 @@ leaf_name leaves.F64 = codes "f64"
 leaf_name leaves.Char = codes "char"
 leaf_name leaves.Str = codes "str"
 leaf_name leaves.Bytes = codes "bytes"
+leaf_name (leaves.Fixed order integer) = name_of integer
 
 -- The word for n members.
 abbrev pub members_text : ℕ → List ℕ

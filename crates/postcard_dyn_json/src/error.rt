@@ -174,5 +174,6 @@ fn name_of(leaf: Leaf) -> &'static str
         Leaf::Char => "char",
         Leaf::Str => "str",
         Leaf::Bytes => "bytes",
+        Leaf::Fixed(_, integer) => integer.name(),
     }
 }
