@@ -271,7 +271,7 @@ fn long_lists(rt: HostRuntime) {
 #[test]
 fn a_long_list_from_a_reader(rt: HostRuntime) {
     let bytes = three_hundred();
-    let mut scratch = [];
+    let mut scratch = [0; 1];
     match from_io::<Vec<LE<u32>>, _>(rt.alloc(), (bytes.as_slice(), &mut scratch)) {
         Ok((numbers, _)) => assert_three_hundred(&rt, numbers),
         Err(e) => panic!(rt; "{e}"),
