@@ -260,12 +260,18 @@ fn assert_three_hundred(rt: &impl Abort, mut numbers: Vec<LE<u32>>) {
     same(rt, numbers.is_empty(), true);
 }
 
+/// Asserts that no list is read from the first `len` bytes.
+fn assert_cut(rt: &(impl Abort + AllocGlobal), bytes: &[u8], len: usize) {
+    let front = bytes.get(..len).unwrap_or(bytes);
+    assert_refused::<Vec<LE<u32>>>(rt, front, END);
+}
+
 #[test]
 fn long_lists(rt: HostRuntime) {
     let bytes = three_hundred();
     assert_three_hundred(&rt, read(&rt, &bytes));
-    assert_refused::<Vec<LE<u32>>>(&rt, &bytes[..1200], END);
-    assert_refused::<Vec<LE<u32>>>(&rt, &bytes[..3], END);
+    assert_cut(&rt, &bytes, 1200);
+    assert_cut(&rt, &bytes, 3);
 }
 
 #[test]
