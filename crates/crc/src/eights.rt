@@ -9,7 +9,7 @@ ghost use Rattle.crc.specs.Register.{AreEntries, Holds, IsSumFor, leaving, stayi
 use crate::algorithm::Algorithm;
 use crate::implementation::{Implementation, by_bytes};
 use crate::width::Width;
-use crate::{bitwise, table};
+use crate::{register, table};
 
 /// Eight tables of 256 entries each, by which a register takes eight bytes at a time. They have
 /// 2048 bytes for each byte of a checksum's type: 8 KiB at `u32`, and 16 KiB at `u64`.
@@ -72,7 +72,7 @@ fn staying(refin: bool, bits: u32, register: u128) -> u128
     if refin {
         register >> 64
     } else {
-        bitwise::raised(register, 64, bits)
+        register::raised(register, 64, bits)
     }
 }
 

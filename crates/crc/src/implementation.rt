@@ -7,7 +7,7 @@ ghost use Rattle.crc.specs.Register.{AreEntries, Holds, Takes};
 
 use crate::algorithm::Algorithm;
 use crate::width::Width;
-use crate::{bitwise, table};
+use crate::{register, table};
 
 /// How a checksum is computed: by which tables.
 pub trait Implementation<W: Width>: Drop {
@@ -57,9 +57,9 @@ fn step<W: Width>(algorithm: &Algorithm<W>, entries: &[W], register: W, byte: u8
         let entry = table::look_up(entries, at as usize);
         W::from_u128((register >> 8) ^ entry)
     } else {
-        let at = bitwise::top_byte(register, bits) ^ byte;
+        let at = register::top_byte(register, bits) ^ byte;
         let entry = table::look_up(entries, at as usize);
-        W::from_u128(bitwise::raised(register, 8, bits) ^ entry)
+        W::from_u128(register::raised(register, 8, bits) ^ entry)
     }
 }
 

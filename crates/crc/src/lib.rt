@@ -7,7 +7,6 @@
 #![tactic(auto)]
 
 pub mod algorithm;
-mod bitwise;
 pub mod catalog;
 mod crc;
 pub mod digest;
@@ -15,6 +14,7 @@ mod eights;
 pub mod implementation;
 pub mod laws;
 mod order;
+mod register;
 mod table;
 pub mod width;
 

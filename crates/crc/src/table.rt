@@ -6,7 +6,7 @@ ghost use Rattle.crc.specs.Crc.{IsValid};
 ghost use Rattle.crc.specs.Register.{AreEntries, feedback, first_byte};
 
 use crate::algorithm::Algorithm;
-use crate::bitwise;
+use crate::register;
 use crate::width::Width;
 
 // The generator without its highest power, as a register has it.
@@ -17,8 +17,8 @@ fn feedback<W: Width>(algorithm: &Algorithm<W>) -> u128
 {
     let bits = W::bits();
     let gap = bits - u32::from(algorithm.width);
-    let lifted = bitwise::raised(algorithm.poly.to_u128(), gap, bits);
-    bitwise::in_order(algorithm.refin, bits, lifted)
+    let lifted = register::raised(algorithm.poly.to_u128(), gap, bits);
+    register::in_order(algorithm.refin, bits, lifted)
 }
 
 // The byte in a register, as its first eight bits.
@@ -30,7 +30,7 @@ fn first_byte(refin: bool, bits: u32, byte: u8) -> u128
     if refin {
         u128::from(byte)
     } else {
-        bitwise::raised(u128::from(byte), bits - 8, bits)
+        register::raised(u128::from(byte), bits - 8, bits)
     }
 }
 
@@ -59,6 +59,6 @@ pub fn fill<W: Width>(algorithm: &Algorithm<W>, entries: &mut [W])
         } else {
             look_up(entries, j - 256)
         };
-        entries[j] = W::from_u128(bitwise::eight(refin, bits, feedback, start));
+        entries[j] = W::from_u128(register::eight(refin, bits, feedback, start));
     }
 }

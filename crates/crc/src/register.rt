@@ -1,10 +1,11 @@
-//! Registers of 8 to 128 bits, a bit at a time.
+//! The register of a checksum, of 1 to 128 bits: its shifts, its order of bits, and one or eight
+//! more powers of x.
 
 ghost use Rattle.std.specs.Prelude.{◌≡◌, ◌<◌, ◌≤◌, ◌*◌, ◌-◌, ◌/◌, ◌%◌, ◌^◌};
 ghost use Rattle.crc.specs.Crc.{in_order};
 ghost use Rattle.crc.specs.Register.{next, rounds};
 
-/// Returns the lowest `bits` bits of a number, in reverse order if `reflected`.
+/// Returns a number of `bits` bits, in reverse order if `reflected`.
 #[inline]
 pub fn in_order(reflected: bool, bits: u32, n: u128) -> u128
     requires some { 1 ≤ bits }

@@ -2,7 +2,7 @@
 use Rattle.std.proofs.Common.{◌∙◌, ap, sym, ◌-◌, ◌/◌, ◌^◌}
 use Rattle.crc.specs.Crc.{in_order}
 use Rattle.crc.proofs.ReflectionLemmas.{reversed}
-use Rattle.crc.proofs.bitwise.in_order.Goals as goal
+use Rattle.crc.proofs.register.in_order.Goals as goal
 
 pub returns-then-reflected : goal.returns-then-reflected
 returns-then-reflected c =
