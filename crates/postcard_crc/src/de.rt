@@ -8,7 +8,7 @@ ghost use Rattle.std.specs.Prelude.{◌≡◌, ◌≢◌, ◌≤◌, ◌<◌, �
 ghost use Rattle.std.specs.Prelude.{ℕ, List, IfOk, IfErr, IsErrOf, IsErrAnd, OnOk, MatchResult};
 ghost use Rattle.crc.specs.Crc.{Parameters, IsCrc, IsSound};
 ghost use Rattle.crc.specs.Digest.{Took};
-ghost use Rattle.crc.specs.Frame.{low_bytes};
+ghost use Rattle.crc.specs.Checked.{low_bytes};
 ghost use Rattle.postcard_wire.specs.Tree.{Tree};
 ghost use Rattle.postcard_wire.specs.Spelling.{Spells, canonical};
 ghost use Rattle.postcard_de.specs.Reads.{IsReadError};

@@ -1,8 +1,8 @@
 -- The rest begins with the checksum of the bytes before it.
 use Rattle.std.proofs.Common.{◌≡◌, ◌++◌, ap, ◌∙◌}
 use Rattle.std.proofs.lemmas.Result.{IfOk-weaker}
-use Rattle.crc.specs.Frame.{low_bytes}
-use Rattle.crc.proofs.FrameLemmas.{one_crc}
+use Rattle.crc.specs.Checked.{low_bytes}
+use Rattle.crc.proofs.CheckedLemmas.{one_crc}
 use Rattle.postcard_crc.proofs.de.checked.Goals as goal
 
 pub returns-clause-gives : goal.returns-clause-gives

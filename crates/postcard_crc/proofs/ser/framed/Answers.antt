@@ -2,8 +2,8 @@
 use Rattle.std.proofs.Common.{◌≡◌, ◌+◌, [], ◌++◌, length, ap, ◌∙◌, length-append}
 use Rattle.std.proofs.lemmas.Result.{err_from_is_err_and, IfOk-weaker}
 use Rattle.postcard_wire.specs.Spelling.{canonical}
-use Rattle.crc.specs.Frame.{low_bytes}
-use Rattle.crc.proofs.FrameLemmas.{length_low}
+use Rattle.crc.specs.Checked.{low_bytes}
+use Rattle.crc.proofs.CheckedLemmas.{length_low}
 use Rattle.postcard_ser.proofs.Refusals.{succeeds}
 use Rattle.postcard_crc.proofs.Framed.{one_free, data_room}
 use Rattle.postcard_crc.proofs.ser.framed.Goals as goal

@@ -7,7 +7,7 @@ use Rattle.std.specs.Int.Digits.{number_from_digits, number_from_digits_after}
 use lib.Bits.{xor_assoc, xor_comm, xor_self, xor_zero_r, xor_shifted, xor_lt}
 use Rattle.crc.specs.Polynomial.{Congruent}
 use Rattle.crc.specs.Crc.{Parameters, in_order, message, generator, dividend, IsCrc, IsSound, IsValid}
-use Rattle.crc.specs.Frame.{low_bytes, AreBytes, IsChecked}
+use Rattle.crc.specs.Checked.{low_bytes, AreBytes, IsChecked}
 use Rattle.crc.specs.Damage.{IsBurst, ones, IsOddDamage, HasParity, AreTwo, HasOrderFrom}
 use Rattle.crc.proofs.PolynomialLemmas.{sum_shift, sum_swap, sum_cancel, same, back, chain, sums, twice, shifted, one_remainder, no_burst, no_factor, through}
 use Rattle.crc.proofs.ReflectionLemmas.{mirror, is_mirror, mirror_below, mirror_sum, mirror_split, mirror_short, mirror_twice, mirror_low, mirror_none}
@@ -137,16 +137,16 @@ module _ (a : Parameters) (sound : IsSound a) where
         let cut = no_factor a.width (generator a) generator_high generator_low generator_odd two.place (bit_xor (2 ^ d) 1) agree.quotient (sym two.is ∙ agree.differ_by) in
         order d some near (record { quotient = cut.0; differ_by = cut.1 })
 
-  -- ---- frames
+  -- ---- checked messages
 
   module _ (k i : ℕ) (refin : a.refin ≡ true) (refout : a.refout ≡ true) (size : a.width + i ≡ 8 * k) where
-    -- What every frame of n bytes of message is congruent to.
+    -- What every checked message with n bytes before its checksum is congruent to.
     residue : ℕ → ℕ
     residue n = bit_xor (a.init * 2 ^ (8 * n)) (mirror a.width a.xorout) * 2 ^ i
 
-    frame_is : (bytes : List ℕ) (c : ℕ) → IsCrc a bytes c → Congruent (generator a) (message a.refin (bytes ++ low_bytes k c)) (residue (length bytes))
+    checked_is : (bytes : List ℕ) (c : ℕ) → IsCrc a bytes c → Congruent (generator a) (message a.refin (bytes ++ low_bytes k c)) (residue (length bytes))
     unfolding residue
-    frame_is bytes c h =
+    checked_is bytes c h =
         let W = a.width in
         let M = message a.refin bytes in
         let I = a.init * 2 ^ (8 * length bytes) in
@@ -180,28 +180,28 @@ module _ (a : Parameters) (sound : IsSound a) where
             xor_assoc m i (bit_xor r (bit_xor i x))
             ∙ ap (λ y. bit_xor m y) (sym (xor_assoc i r (bit_xor i x)) ∙ ap (λ y. bit_xor y (bit_xor i x)) (xor_comm i r) ∙ xor_assoc r i (bit_xor i x) ∙ ap (λ y. bit_xor r y) (sum_cancel i x))
 
-    -- Frames of one length are congruent.
-    pub frames_agree : (f g : List ℕ) → length f ≡ length g → IsChecked a k f → IsChecked a k g → Congruent (generator a) (message a.refin f) (message a.refin g)
+    -- Checked messages of one length are congruent.
+    pub checked_agree : (f g : List ℕ) → length f ≡ length g → IsChecked a k f → IsChecked a k g → Congruent (generator a) (message a.refin f) (message a.refin g)
     unfolding residue
-    frames_agree f g len p q =
+    checked_agree f g len p q =
         let lf : length f ≡ length p.bytes + k = ap length p.joins ∙ length-append p.bytes (low_bytes k p.crc) ∙ ap (λ y. length p.bytes + y) (length_low k p.crc) in
         let lg : length g ≡ length q.bytes + k = ap length q.joins ∙ length-append q.bytes (low_bytes k q.crc) ∙ ap (λ y. length q.bytes + y) (length_low k q.crc) in
         let n : length p.bytes ≡ length q.bytes = omega arith in
-        let F : Congruent (generator a) (message a.refin f) (residue (length p.bytes)) = subst (λ y. Congruent (generator a) (message a.refin y) (residue (length p.bytes))) (sym p.joins) (frame_is p.bytes p.crc p.is_crc) in
-        let G : Congruent (generator a) (message a.refin g) (residue (length q.bytes)) = subst (λ y. Congruent (generator a) (message a.refin y) (residue (length q.bytes))) (sym q.joins) (frame_is q.bytes q.crc q.is_crc) in
+        let F : Congruent (generator a) (message a.refin f) (residue (length p.bytes)) = subst (λ y. Congruent (generator a) (message a.refin y) (residue (length p.bytes))) (sym p.joins) (checked_is p.bytes p.crc p.is_crc) in
+        let G : Congruent (generator a) (message a.refin g) (residue (length q.bytes)) = subst (λ y. Congruent (generator a) (message a.refin y) (residue (length q.bytes))) (sym q.joins) (checked_is q.bytes q.crc q.is_crc) in
         chain F (back (subst (λ y. Congruent (generator a) (message a.refin g) (residue y)) (sym n) G))
 
-    -- Two frames of one length that differ only within `width` bits in a row are the same frame.
-    pub no_burst_in_frame : (f g : List ℕ) → length f ≡ length g → AreBytes f → AreBytes g → IsChecked a k f → IsChecked a k g
+    -- Two checked messages of one length that differ only within `width` bits in a row are the same.
+    pub no_burst_in_checked : (f g : List ℕ) → length f ≡ length g → AreBytes f → AreBytes g → IsChecked a k f → IsChecked a k g
         → IsBurst a.width (bit_xor (message a.refin f) (message a.refin g)) → f ≡ g
-    no_burst_in_frame f g len bf bg p q burst =
-        same_bytes a.refin f g len bf bg (no_burst_between (message a.refin f) (message a.refin g) (frames_agree f g len p q) burst)
+    no_burst_in_checked f g len bf bg p q burst =
+        same_bytes a.refin f g len bf bg (no_burst_between (message a.refin f) (message a.refin g) (checked_agree f g len p q) burst)
 
     -- And so are two that differ only in bytes in a row, as many as the checksum has or fewer.
-    pub replaced_in_frame : (p x y s : List ℕ) → length x ≡ length y → 8 * length x ≤ a.width → AreBytes p → AreBytes x → AreBytes y → AreBytes s
+    pub replaced_in_checked : (p x y s : List ℕ) → length x ≡ length y → 8 * length x ≤ a.width → AreBytes p → AreBytes x → AreBytes y → AreBytes s
         → IsChecked a k (p ++ x ++ s) → IsChecked a k (p ++ y ++ s) → x ≡ y
-    replaced_in_frame p x y s len few bp bx by bs m n =
+    replaced_in_checked p x y s len few bp bx by bs m n =
         let same_length : length (p ++ x ++ s) ≡ length (p ++ y ++ s) = omega (arith, length-append (p ++ x) s, length-append (p ++ y) s, length-append p x, length-append p y) in
         were_same a.refin p x y s len bx by bs
-        (no_burst_between (message a.refin (p ++ x ++ s)) (message a.refin (p ++ y ++ s)) (frames_agree (p ++ x ++ s) (p ++ y ++ s) same_length m n)
+        (no_burst_between (message a.refin (p ++ x ++ s)) (message a.refin (p ++ y ++ s)) (checked_agree (p ++ x ++ s) (p ++ y ++ s) same_length m n)
         (record { bits = bit_xor (message a.refin x) (message a.refin y); place = 8 * length s; is = differ_there a.refin p x y s len bx by bs; short = short a.refin a.width x y len bx by few }))

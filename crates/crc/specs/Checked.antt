@@ -1,4 +1,5 @@
--- A message with its checksum after it, lowest byte first: what postcard calls a message with a CRC.
+-- A checked message: a message with its checksum after it, lowest byte first. postcard calls it a
+-- message with a CRC.
 use Rattle.std.specs.Prelude.{◌≡◌, ℕ, zero, suc, ◌/◌, ◌%◌, ◌<◌, List, [], ◌∷◌, ◌++◌}
 use Rattle.std.specs.Prelude.{⊤}
 use Rattle.crc.specs.Crc.{Parameters, IsCrc}
@@ -13,9 +14,9 @@ abbrev pub AreBytes : List ℕ → Type 0
 AreBytes [] = ⊤
 AreBytes (b ∷ bs) = (b < 256) × AreBytes bs
 
--- The frame is some bytes, and then their checksum of k bytes.
-pub record IsChecked (a : Parameters) (k : ℕ) (frame : List ℕ) : Type 0 where
+-- The checked message is some bytes, and then their checksum of k bytes.
+pub record IsChecked (a : Parameters) (k : ℕ) (checked : List ℕ) : Type 0 where
   pub bytes : List ℕ
   pub crc : ℕ
   pub is_crc : IsCrc a bytes crc
-  pub joins : frame ≡ bytes ++ low_bytes k crc
+  pub joins : checked ≡ bytes ++ low_bytes k crc
