@@ -5,9 +5,9 @@ ghost use Rattle.crc.specs.Crc.{Parameters, IsCrc};
 ghost use Rattle.crc.specs.Digest.{Progress, Took};
 ghost use Rattle.crc.specs.Register.{read};
 
-use crate::register;
 use crate::crc::Crc;
 use crate::implementation::{Implementation, Table};
+use crate::register;
 use crate::width::Width;
 use std::marker::Model;
 
@@ -66,7 +66,7 @@ impl<'a, W: Width, I: Implementation<W>> Digest<'a, W, I> {
     }
 }
 
-// What is read from a register at the end.
+/// Returns what is read from a register at the end.
 fn read(refin: bool, refout: bool, bits: u32, gap: u32, register: u128) -> u128
     requires some { 1 ≤ bits }
     requires few { bits ≤ 128 }

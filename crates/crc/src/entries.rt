@@ -9,7 +9,7 @@ use crate::algorithm::Algorithm;
 use crate::register;
 use crate::width::Width;
 
-// The generator without its highest power, as a register has it.
+/// Returns the generator without its highest power, as a register has it.
 fn feedback<W: Width>(algorithm: &Algorithm<W>) -> u128
     requires { IsValid (8 * W.size) (parameters W.number algorithm.now) }
     ensures is { result ≡ feedback (8 * W.size) (parameters W.number algorithm.now) }
@@ -21,7 +21,7 @@ fn feedback<W: Width>(algorithm: &Algorithm<W>) -> u128
     register::in_order(algorithm.refin, bits, lifted)
 }
 
-// The byte in a register, as its first eight bits.
+/// Returns a register whose first eight bits are those of the byte.
 fn first_byte(refin: bool, bits: u32, byte: u8) -> u128
     requires some { 8 ≤ bits }
     requires few { bits ≤ 128 }

@@ -6,9 +6,8 @@ ghost use Rattle.crc.specs.Crc.{IsValid};
 ghost use Rattle.crc.specs.Register.{AreEntries, Holds};
 
 use crate::algorithm::Algorithm;
-use crate::width::Width;
-
 pub use crate::table::Table;
+use crate::width::Width;
 
 /// How a checksum is computed: by which tables.
 pub trait Implementation<W: Width>: Drop {

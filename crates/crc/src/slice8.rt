@@ -20,7 +20,7 @@ pub struct Slice8<W> {
     entries: [W; 2048],
 }
 
-// The number whose 64 bits are those of eight bytes, in the order of a message.
+/// Returns the number whose 64 bits are those of eight bytes, in the order of a message.
 #[inline]
 fn word(refin: bool, eight: &[u8]) -> u64
     requires { length eight.now ≡ 8 }
@@ -36,6 +36,7 @@ fn word(refin: bool, eight: &[u8]) -> u64
     }
 }
 
+/// Returns the eight bytes of a number: the reverse of [`word`].
 #[inline]
 fn spelled(refin: bool, word: u64) -> [u8; 8]
     ensures { message refin result ≡ in_order refin 64 word }
@@ -47,7 +48,7 @@ fn spelled(refin: bool, word: u64) -> [u8; 8]
     }
 }
 
-// The 64 bits that leave a register when eight bytes come.
+/// Returns the 64 bits that leave a register when eight bytes come.
 #[inline]
 fn leaving(refin: bool, bits: u32, register: u128) -> u64
     requires some { 8 ≤ bits }
@@ -62,7 +63,7 @@ fn leaving(refin: bool, bits: u32, register: u128) -> u64
     }
 }
 
-// What is left of a register when eight bytes come.
+/// Returns what is left of a register when eight bytes come.
 #[inline]
 fn staying(refin: bool, bits: u32, register: u128) -> u128
     requires some { 8 ≤ bits }
@@ -78,7 +79,7 @@ fn staying(refin: bool, bits: u32, register: u128) -> u128
     }
 }
 
-// The sum of the entries of eight bytes, each from the table of its place.
+/// Returns the sum of the entries of eight bytes, each from the table of its place.
 #[inline]
 fn pick<W: Width>(entries: &[W], bytes: &[u8]) -> u128
     requires enough { 2048 ≤ length entries.now }
@@ -95,7 +96,7 @@ fn pick<W: Width>(entries: &[W], bytes: &[u8]) -> u128
     sum
 }
 
-// The register after eight bytes more.
+/// Returns the register after eight bytes more.
 #[inline]
 fn step_eight<W: Width>(algorithm: &Algorithm<W>, entries: &[W], register: W, eight: &[u8]) -> W
     requires valid { IsValid (8 * W.size) (parameters W.number algorithm.now) }

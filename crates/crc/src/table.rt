@@ -1,6 +1,6 @@
 //! One table of an algorithm, and the register that takes a message by it, a byte at a time.
 
-ghost use Rattle.std.specs.Prelude.{◌≡◌, ◌<◌, ◌≤◌, ◌*◌, ◌^◌, ◌++◌, ℕ, List, length, map};
+ghost use Rattle.std.specs.Prelude.{◌<◌, ◌≤◌, ◌*◌, ◌^◌, ◌++◌, ℕ, List, length, map};
 ghost use Rattle.crc.specs.Algorithm.{parameters};
 ghost use Rattle.crc.specs.Crc.{IsValid, in_order};
 ghost use Rattle.crc.specs.Register.{AreEntries, Holds, Takes};
@@ -18,7 +18,7 @@ pub struct Table<W> {
     entries: [W; 256],
 }
 
-// The register after one byte more.
+/// Returns the register after one byte more.
 #[inline]
 fn step<W: Width>(algorithm: &Algorithm<W>, entries: &[W], register: W, byte: u8) -> W
     requires valid { IsValid (8 * W.size) (parameters W.number algorithm.now) }
