@@ -4,7 +4,7 @@ ghost use Rattle.std.specs.Prelude.{◌≡◌, ◌≤◌, Some, length};
 ghost use Rattle.postcard_de_flavors.specs.Source.{known};
 ghost use Rattle.postcard_crc.specs.Source.{TookBoth, Finishes, crc_laws};
 
-use super::after_crc;
+use super::after_checksum;
 use crc::{Digest, Implementation, Table, Width};
 use postcard_de_flavors::{Flavor, Slice};
 use postcard_wire::Result;
@@ -85,6 +85,6 @@ impl<'de, W: Width, I: Implementation<W>> Flavor for CrcModifier<'de, Slice<'de>
     fn finalize(self) -> Result<&'de [u8]> {
         let CrcModifier { flavor, digest } = self;
         let rest = flavor.finalize()?;
-        after_crc(rest, digest.finalize())
+        after_checksum(rest, digest.finalize())
     }
 }

@@ -7,11 +7,11 @@ use Rattle.postcard_crc.proofs.de.checked.Goals as goal
 
 pub returns-clause-gives : goal.returns-clause-gives
 returns-clause-gives g c =
-    IfOk-weaker c.after_crc.result _ _ (λ after h front b. (g.W.Width.number c.crc_before.result, c.crc_before.ensures front b, h)) c.after_crc.ensures.gives
+    IfOk-weaker c.after_checksum.result _ _ (λ after h front b. (g.W.Width.number c.crc_before.result, c.crc_before.ensures front b, h)) c.after_checksum.ensures.gives
 
 pub returns-clause-accepts : goal.returns-clause-accepts
 returns-clause-accepts g c a m front after crc sound took e is rest_is =
     let k = g.W.Width.size in
     let got = g.W.Width.number c.crc_before.result in
     let one : crc ≡ got = one_crc a sound (m ++ front) crc got is (c.crc_before.ensures front e a m took) in
-    c.after_crc.ensures.accepts after (rest_is ∙ ap (λ n. low_bytes k n ++ after) one)
+    c.after_checksum.ensures.accepts after (rest_is ∙ ap (λ n. low_bytes k n ++ after) one)
