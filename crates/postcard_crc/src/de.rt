@@ -223,7 +223,7 @@ fn is_end(rest: &[u8]) -> bool
     rest.is_empty()
 }
 
-/// Is `*found == *wanted`; apart for its clause, which the proofs cite.
+/// Is `found == wanted`; apart for its clause, which the proofs cite.
 fn are_same(found: &[u8], wanted: &[u8]) -> bool
     ensures { IsTrue result ↔ (found.now ≡ wanted.now) }
 {
