@@ -6,7 +6,7 @@ use Rattle.crc.specs.Checked.{low_bytes}
 use Rattle.crc.proofs.CheckedLemmas.{length_low}
 use Rattle.postcard_ser.proofs.Refusals.{succeeds}
 use Rattle.postcard_crc.proofs.Framed.{one_free, data_room}
-use Rattle.postcard_crc.proofs.ser.framed.Goals as goal
+use Rattle.postcard_crc.proofs.ser.cobs.framed.Goals as goal
 
 pub returns-in_err-try_new-clause-own_error : goal.returns-in_err-try_new-clause-own_error
 returns-in_err-try_new-clause-own_error g c few free =

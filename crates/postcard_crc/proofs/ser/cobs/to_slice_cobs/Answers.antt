@@ -5,7 +5,7 @@ use Rattle.postcard_wire.specs.Spelling.{canonical}
 use Rattle.crc.specs.Checked.{low_bytes}
 use Rattle.postcard_cobs.specs.Groups.{made}
 use Rattle.postcard_crc.specs.Writing.{IsFrameWithCrc}
-use Rattle.postcard_crc.proofs.ser.to_slice_cobs.Goals as goal
+use Rattle.postcard_crc.proofs.ser.cobs.to_slice_cobs.Goals as goal
 
 pub returns-clause-gives : goal.returns-clause-gives
 returns-clause-gives g c =
