@@ -1,7 +1,7 @@
--- What is left in the buffer, and where the parts of the frame end.
+-- What is left in the buffer, and how long the frame and its data are.
 use Rattle.std.proofs.Common.{refl}
 use Rattle.postcard_crc.proofs.Decoding.{is_decoded, has_none}
-use Rattle.postcard_crc.proofs.de.cobs.decode.Goals as goal
+use Rattle.postcard_crc.proofs.de.cobs.decode_frame.Goals as goal
 
 pub returns-in-Ok-clause-decodes : goal.returns-in-Ok-clause-decodes
 returns-in-Ok-clause-decodes c =

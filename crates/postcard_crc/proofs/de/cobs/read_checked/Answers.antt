@@ -2,7 +2,7 @@
 use Rattle.std.proofs.Common.{length, sym, arith}
 use Rattle.std.proofs.lemmas.Bool.{eqb-true, eqb-false}
 use Rattle.postcard_crc.proofs.InFrame.{of_no_data, of_data}
-use Rattle.postcard_crc.proofs.de.cobs.read_data.Goals as goal
+use Rattle.postcard_crc.proofs.de.cobs.read_checked.Goals as goal
 
 pub returns-then-is_empty : goal.returns-then-is_empty
 returns-then-is_empty g c = record {
