@@ -6,15 +6,15 @@ use std::time::Duration;
 
 /// A generator of random choices, which are the same for the same seed.
 #[derive(Drop)]
-pub(crate) struct Source {
+pub(crate) struct Random {
     state: u64,
     alloc: Global,
 }
 
-impl Source {
+impl Random {
     /// Returns a generator with this seed.
-    pub(crate) fn new(alloc: Global, seed: u64) -> Source {
-        Source { state: seed, alloc }
+    pub(crate) fn new(alloc: Global, seed: u64) -> Random {
+        Random { state: seed, alloc }
     }
 
     /// Returns the next 64 random bits.
@@ -44,7 +44,7 @@ impl Source {
         if self.one_in(2) { number } else { !number }
     }
 
-    /// Returns the low 8 bits of such a number.
+    /// Returns the low 8 bits of a number of a random length.
     pub(crate) fn low_byte(&mut self) -> u8 {
         (self.bits() & 0xFF) as u8
     }
@@ -56,7 +56,7 @@ impl Source {
     }
 }
 
-impl Choices for Source {
+impl Choices for Random {
     fn alloc(&self) -> Global {
         self.alloc
     }
