@@ -1,11 +1,11 @@
-//! What is wrong with a call of a session.
+//! The errors of a session's calls, which `main` prints.
 
 use std::alloc::{AllocError, AllocFailed};
 use std::fmt;
 
 /// What is wrong with a call of a session.
 #[derive(Drop)]
-pub enum Fault {
+pub enum CallError {
     /// A quote has no end.
     Quote,
     /// The bytes after `<` are not hexadecimal digits, two for each byte.
@@ -23,30 +23,30 @@ pub enum Fault {
     OutOfMemory,
 }
 
-impl fmt::Display for Fault {
+impl fmt::Display for CallError {
     fn fmt<W: fmt::Write>(&self, f: &mut fmt::Formatter<W>) -> fmt::Result {
         match self {
-            Fault::Quote => f.write_str("    a quote has no end"),
-            Fault::Input => f.write_str(
+            CallError::Quote => f.write_str("    a quote has no end"),
+            CallError::Input => f.write_str(
                 "    its input is not hexadecimal digits, two for each byte",
             ),
-            Fault::NoText => f.write_str("    it prints what is no text"),
-            Fault::Other { written, found } => {
+            CallError::NoText => f.write_str("    it prints what is no text"),
+            CallError::Other { written, found } => {
                 write!(f, "    written:\n{written}    answered:\n{found}")
             }
-            Fault::OutOfMemory => f.write_str("    out of memory"),
+            CallError::OutOfMemory => f.write_str("    out of memory"),
         }
     }
 }
 
-impl From<AllocError> for Fault {
-    fn from(_: AllocError) -> Fault {
-        Fault::OutOfMemory
+impl From<AllocError> for CallError {
+    fn from(_: AllocError) -> CallError {
+        CallError::OutOfMemory
     }
 }
 
-impl<T: Drop> From<AllocFailed<T>> for Fault {
-    fn from(_: AllocFailed<T>) -> Fault {
-        Fault::OutOfMemory
+impl<T: Drop> From<AllocFailed<T>> for CallError {
+    fn from(_: AllocFailed<T>) -> CallError {
+        CallError::OutOfMemory
     }
 }

@@ -1,4 +1,4 @@
-//! What is wrong with a line of the table.
+//! The errors of the table's rows, which `main` prints.
 
 use std::alloc::{AllocError, AllocFailed};
 use std::fmt;
@@ -35,7 +35,7 @@ impl fmt::Display for Reason {
 
 /// What is wrong with a line of the table.
 #[derive(Drop)]
-pub enum Fault {
+pub enum RowError {
     /// The line is not a row.
     NotARow(Reason),
     /// A call has another result than the row says.
@@ -53,25 +53,25 @@ pub enum Fault {
     OutOfMemory,
 }
 
-impl fmt::Display for Fault {
+impl fmt::Display for RowError {
     fn fmt<W: fmt::Write>(&self, f: &mut fmt::Formatter<W>) -> fmt::Result {
         match self {
-            Fault::NotARow(reason) => write!(f, "not a row: {reason}"),
-            Fault::Other { call, want, got } => write!(f, "{call}: wanted {want}, got {got}"),
-            Fault::Passes => f.write_str("the row must fail, and passes"),
-            Fault::OutOfMemory => f.write_str("out of memory"),
+            RowError::NotARow(reason) => write!(f, "not a row: {reason}"),
+            RowError::Other { call, want, got } => write!(f, "{call}: wanted {want}, got {got}"),
+            RowError::Passes => f.write_str("the row must fail, and passes"),
+            RowError::OutOfMemory => f.write_str("out of memory"),
         }
     }
 }
 
-impl From<AllocError> for Fault {
-    fn from(_: AllocError) -> Fault {
-        Fault::OutOfMemory
+impl From<AllocError> for RowError {
+    fn from(_: AllocError) -> RowError {
+        RowError::OutOfMemory
     }
 }
 
-impl<T: Drop> From<AllocFailed<T>> for Fault {
-    fn from(_: AllocFailed<T>) -> Fault {
-        Fault::OutOfMemory
+impl<T: Drop> From<AllocFailed<T>> for RowError {
+    fn from(_: AllocFailed<T>) -> RowError {
+        RowError::OutOfMemory
     }
 }
