@@ -1,6 +1,7 @@
 //! Reading a value without parts from JSON.
 
-ghost use Rattle.std.specs.Prelude.{ℕ, ℤ, ◌<◌, ◌^◌, ◌≡◌, IfOk, MatchOption, FitsSigned, true, false};
+ghost use Rattle.std.specs.Prelude.{ℕ, ℤ, ◌<◌, ◌^◌, ◌≡◌, IfOk, IfSome, MatchOption, FitsSigned};
+ghost use Rattle.std.specs.Prelude.{true, false};
 ghost use Rattle.std.specs.Int.{w128};
 ghost use Rattle.postcard_dyn_schema.specs.declared.schema.Leaf.TheVariants as leaves;
 ghost use Rattle.postcard_dyn_schema.specs.Fixed.{is_signed};
@@ -192,7 +193,8 @@ fn unsigned(json: &Json) -> Option<u128>
 /// Returns the signed number that the JSON is, as a number or as a string, or `None` if it is none
 /// that fits in 128 bits.
 fn signed(json: &Json) -> Option<i128>
-    ensures { MatchOption result
+    ensures fits { IfSome result (FitsSigned w128) }
+    ensures found { MatchOption result
         ((n : ℤ) → FitsSigned w128 n → IsSignedJson n (view json.now) → ⊥)
         (λ n. IsSignedJson n (view json.now)) }
 {
