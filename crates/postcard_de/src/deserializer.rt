@@ -1,4 +1,8 @@
-//! The deserializer, with a call for each kind of node.
+//! The deserializer, and its calls for integers, texts, byte strings and the count of a list.
+//!
+//! The modules below have those for booleans, characters and units (`leaves`), `floats`, `options`,
+//! tuples, structs and maps (`groups`), `enums`, and whole containers (`elements`); `unsupported`
+//! refuses the rest.
 
 ghost use Rattle.std.specs.Prelude.{◌≡◌, false};
 ghost use Rattle.postcard_de.specs.Reads.{ReadsNode, byte_node, bytes_node, int_node};
