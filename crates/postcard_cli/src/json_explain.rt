@@ -1,8 +1,8 @@
 //! The command `explain --json`, which prints which bytes of a message are which part of its value, as
 //! lines of JSON.
 
-ghost use Rattle.std.specs.Prelude.{◌≡◌, ◌⊎◌, ◌++◌, ◌∷◌, ◌≤◌, [], ℕ, IfOk, IfErr, OnOk, codes};
-ghost use Rattle.std.specs.Prelude.{List, length, string_bytes, take};
+ghost use Rattle.std.specs.Prelude.{◌≡◌, ◌⊎◌, ◌++◌, ◌∷◌, ◌-◌, ◌<◌, ◌≤◌, [], ℕ, IfOk, IfErr, OnOk, codes};
+ghost use Rattle.std.specs.Prelude.{List, get_or, length, string_bytes, take};
 ghost use Rattle.postcard_wire.specs.declared.error.Error.TheVariants.{OutOfMemory, WontImplement};
 ghost use Rattle.postcard_cli.specs.Explain.{expected_text};
 ghost use Rattle.postcard_cli.specs.JsonExplain.{IsMembers, PrintsExplainedJson, PrintsJsonRow};
@@ -102,6 +102,8 @@ fn leave(around: &mut Vec<Open>, depth: usize)
 /// Returns how many of the open parts are left without those at the end that are as deep or deeper.
 fn count_around(around: &[Open], depth: usize) -> usize
     ensures within { result ≤ length around.now }
+    ensures last { 0 < result → (part : Open) → part ≡ get_or around.now (result - 1) part
+        → part.depth < depth }
     ensures same { (d : ℕ) → d ≤ depth
         → path_in (take result around.now) d ≡ path_in around.now d }
 {
@@ -130,15 +132,10 @@ fn path_of(alloc: Global, around: &[Open], line: &Line<'_>) -> Result<String, Fa
 fn innermost(around: &[Open], depth: usize) -> &str
     ensures { result.now ≡ path_in around.now depth }
 {
-    let mut count = around.len();
-    'parts: while count > 0 {
-        let part = &around[count - 1];
-        if part.depth < depth {
-            return part.path.as_str();
-        }
-        count -= 1;
+    match count_around(around, depth).checked_sub(1) {
+        Some(last) => around[last].path.as_str(),
+        None => "",
     }
-    ""
 }
 
 /// Appends what a part is called to the path of the part around it.
