@@ -9,11 +9,7 @@ use Rattle.postcard_wire.specs.declared.error.Error.{Error}
 use Rattle.postcard_wire.specs.declared.error.Error.TheVariants.{OutOfMemory}
 use Rattle.postcard_shape.specs.Shape.{memory}
 use Rattle.postcard_de.specs.Reads.{IsReadError}
-use Rattle.postcard_dyn_schema.specs.declared.fixed.ByteOrder.{ByteOrder}
-use Rattle.postcard_dyn_schema.specs.declared.fixed.ByteOrder.TheVariants.{Little, Big}
-use Rattle.postcard_dyn_schema.specs.declared.fixed.Integer.{Integer}
-use Rattle.postcard_dyn_schema.specs.Fixed.{name_of}
-use Rattle.postcard_dyn_schema.specs.declared.schema.Leaf.{Leaf}
+use Rattle.postcard_dyn_schema.specs.LeafNames.{leaf_name}
 use Rattle.postcard_dyn_schema.specs.declared.schema.Leaf.TheVariants as leaves
 use Rattle.postcard_dyn_schema.specs.declared.schema.Schema.{Schema}
 use Rattle.postcard_dyn_schema.specs.Grammar.{IsExpression}
@@ -49,37 +45,10 @@ separator_text _ _ = codes ": "
 abbrev pub elements_text : ℕ → List ℕ
 elements_text n = if nat_eq n 1 then codes "element" else codes "elements"
 
--- The name of a type of numbers of a fixed width, as `LE<u32>`.
-abbrev pub order_text : ByteOrder → List ℕ
-order_text Little = codes "LE"
-order_text Big = codes "BE"
-
-abbrev pub fixed_text : ByteOrder → Integer → List ℕ
-fixed_text order integer = order_text order ++ (codes "<" ++ (name_of integer ++ codes ">"))
-
--- What a type without parts is called where it is expected.
-abbrev pub leaf_text : Leaf → List ℕ
-leaf_text leaves.Bool = codes "bool: 00 or 01"
-leaf_text leaves.U8 = codes "u8"
-leaf_text leaves.U16 = codes "u16"
-leaf_text leaves.U32 = codes "u32"
-leaf_text leaves.U64 = codes "u64"
-leaf_text leaves.U128 = codes "u128"
-leaf_text leaves.I8 = codes "i8"
-leaf_text leaves.I16 = codes "i16"
-leaf_text leaves.I32 = codes "i32"
-leaf_text leaves.I64 = codes "i64"
-leaf_text leaves.I128 = codes "i128"
-leaf_text leaves.F32 = codes "f32"
-leaf_text leaves.F64 = codes "f64"
-leaf_text leaves.Char = codes "char"
-leaf_text leaves.Str = codes "str"
-leaf_text leaves.Bytes = codes "bytes"
-leaf_text (leaves.Fixed order integer) = fixed_text order integer
-
 -- What is expected where a part can't be read.
 abbrev pub expected_text : Expected → List ℕ
-expected_text (expectations.Leaf l) = leaf_text l
+expected_text (expectations.Leaf leaves.Bool) = codes "bool: 00 or 01"
+expected_text (expectations.Leaf l) = leaf_name l
 expected_text expectations.Option = codes "an option: 00 or 01"
 expected_text expectations.Count = codes "the number of elements"
 expected_text expectations.Variant = codes "the index of a variant"

@@ -8,8 +8,8 @@ ghost use Rattle.postcard_wire.specs.declared.error.Error.TheVariants.{OutOfMemo
 ghost use Rattle.postcard_dyn.specs.Tree.{tree};
 ghost use Rattle.postcard_dyn_text.specs.Shown.{layout_of, text};
 ghost use Rattle.postcard_cli.specs.Explain.{IsCut, PrintsExplained, PrintsRow, PrintsRows};
-ghost use Rattle.postcard_cli.specs.Explain.{bytes_text, elements_text, expected_text, fixed_text};
-ghost use Rattle.postcard_cli.specs.Explain.{kind_text, leaf_text, offset_text};
+ghost use Rattle.postcard_cli.specs.Explain.{bytes_text, elements_text, expected_text};
+ghost use Rattle.postcard_cli.specs.Explain.{kind_text, offset_text};
 ghost use Rattle.postcard_cli.specs.Explain.{separator_text, spaced, title_text, told_text};
 ghost use Rattle.postcard_cli.specs.Refusal.{ExplainFails};
 ghost use Rattle.postcard_cli.specs.declared.explain.Layout.{Layout};
@@ -21,7 +21,7 @@ use crate::message::{print_refused, schema_of};
 use crate::place::place_of;
 use postcard_de_flavors::Source;
 use postcard_dyn::explain::{Expected, Label, Line, LineKind, explain};
-use postcard_dyn::{ByteOrder, Integer, Leaf, Schema, Value, refused_at};
+use postcard_dyn::{Leaf, Schema, Value, refused_at};
 use postcard_dyn_text::Shown;
 use std::alloc::Global;
 use std::fmt;
@@ -341,59 +341,11 @@ pub fn words_of(expected: Expected) -> &'static str
     ensures { result.now ≡ expected_text expected }
 {
     match expected {
-        Expected::Leaf(leaf) => name_of(leaf),
+        Expected::Leaf(Leaf::Bool) => "bool: 00 or 01",
+        Expected::Leaf(leaf) => leaf.name(),
         Expected::Option => "an option: 00 or 01",
         Expected::Count => "the number of elements",
         Expected::Variant => "the index of a variant",
         Expected::Element => "an element",
-    }
-}
-
-/// Returns the name of a type without parts.
-fn name_of(leaf: Leaf) -> &'static str
-    ensures { result.now ≡ leaf_text leaf }
-{
-    match leaf {
-        Leaf::Bool => "bool: 00 or 01",
-        Leaf::U8 => "u8",
-        Leaf::U16 => "u16",
-        Leaf::U32 => "u32",
-        Leaf::U64 => "u64",
-        Leaf::U128 => "u128",
-        Leaf::I8 => "i8",
-        Leaf::I16 => "i16",
-        Leaf::I32 => "i32",
-        Leaf::I64 => "i64",
-        Leaf::I128 => "i128",
-        Leaf::F32 => "f32",
-        Leaf::F64 => "f64",
-        Leaf::Char => "char",
-        Leaf::Str => "str",
-        Leaf::Bytes => "bytes",
-        Leaf::Fixed(order, integer) => name_of_fixed(order, integer),
-    }
-}
-
-/// Returns the name of a type of numbers of a fixed width.
-fn name_of_fixed(order: ByteOrder, integer: Integer) -> &'static str
-    ensures { result.now ≡ fixed_text order integer }
-{
-    match (order, integer) {
-        (ByteOrder::Little, Integer::U16) => "LE<u16>",
-        (ByteOrder::Little, Integer::U32) => "LE<u32>",
-        (ByteOrder::Little, Integer::U64) => "LE<u64>",
-        (ByteOrder::Little, Integer::U128) => "LE<u128>",
-        (ByteOrder::Little, Integer::I16) => "LE<i16>",
-        (ByteOrder::Little, Integer::I32) => "LE<i32>",
-        (ByteOrder::Little, Integer::I64) => "LE<i64>",
-        (ByteOrder::Little, Integer::I128) => "LE<i128>",
-        (ByteOrder::Big, Integer::U16) => "BE<u16>",
-        (ByteOrder::Big, Integer::U32) => "BE<u32>",
-        (ByteOrder::Big, Integer::U64) => "BE<u64>",
-        (ByteOrder::Big, Integer::U128) => "BE<u128>",
-        (ByteOrder::Big, Integer::I16) => "BE<i16>",
-        (ByteOrder::Big, Integer::I32) => "BE<i32>",
-        (ByteOrder::Big, Integer::I64) => "BE<i64>",
-        (ByteOrder::Big, Integer::I128) => "BE<i128>",
     }
 }
