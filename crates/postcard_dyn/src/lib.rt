@@ -17,7 +17,7 @@ pub mod value;
 pub mod write;
 
 pub use calls::{take_from_bytes, to_flavor};
-pub use explain::{Expected, Explanation, Label, Line, Node};
+pub use explain::{Expected, Explanation, Label, Line, LineKind};
 pub use locate::refused_at;
 pub use postcard_dyn_schema::{ByteOrder, ExpressionError, Integer, Leaf, Problem, Schema, parse};
 pub use read::read_value;

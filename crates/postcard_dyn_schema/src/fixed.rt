@@ -2,6 +2,7 @@
 
 ghost use Rattle.std.specs.Prelude.{◌≡◌};
 ghost use Rattle.postcard_dyn_schema.specs.Fixed.{size_of, is_signed, number_of, name_of};
+ghost use Rattle.postcard_dyn_schema.specs.LeafNames.{fixed_name};
 
 use crate::schema::Leaf;
 
@@ -12,6 +13,32 @@ pub enum ByteOrder {
     Little,
     /// `BE<T>`: the highest byte first.
     Big,
+}
+
+impl ByteOrder {
+    /// Returns the name of the type of numbers at their full width in this order, as `LE<u16>`.
+    pub fn name_with(self, integer: Integer) -> &'static str
+        ensures { result.now ≡ fixed_name self integer }
+    {
+        match (self, integer) {
+            (ByteOrder::Little, Integer::U16) => "LE<u16>",
+            (ByteOrder::Little, Integer::U32) => "LE<u32>",
+            (ByteOrder::Little, Integer::U64) => "LE<u64>",
+            (ByteOrder::Little, Integer::U128) => "LE<u128>",
+            (ByteOrder::Little, Integer::I16) => "LE<i16>",
+            (ByteOrder::Little, Integer::I32) => "LE<i32>",
+            (ByteOrder::Little, Integer::I64) => "LE<i64>",
+            (ByteOrder::Little, Integer::I128) => "LE<i128>",
+            (ByteOrder::Big, Integer::U16) => "BE<u16>",
+            (ByteOrder::Big, Integer::U32) => "BE<u32>",
+            (ByteOrder::Big, Integer::U64) => "BE<u64>",
+            (ByteOrder::Big, Integer::U128) => "BE<u128>",
+            (ByteOrder::Big, Integer::I16) => "BE<i16>",
+            (ByteOrder::Big, Integer::I32) => "BE<i32>",
+            (ByteOrder::Big, Integer::I64) => "BE<i64>",
+            (ByteOrder::Big, Integer::I128) => "BE<i128>",
+        }
+    }
 }
 
 /// A type of numbers that may have a fixed width: the `T` of `LE<T>` and `BE<T>`.

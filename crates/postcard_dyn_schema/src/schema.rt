@@ -3,6 +3,7 @@
 ghost use Rattle.std.specs.Prelude.{◌≡◌, IfSome, IfNone};
 ghost use Rattle.postcard_dyn_schema.specs.declared.fixed.Integer.{Integer};
 ghost use Rattle.postcard_dyn_schema.specs.Fixed.{number_of};
+ghost use Rattle.postcard_dyn_schema.specs.LeafNames.{leaf_name};
 ghost use Rattle.postcard_dyn_schema.specs.Meaning.{leaf, has_bytes, some_has_bytes, type_of};
 ghost use Rattle.postcard_dyn_schema.specs.Meaning.{types_of};
 
@@ -51,6 +52,31 @@ impl Leaf {
             Leaf::I64 => Some(Integer::I64),
             Leaf::I128 => Some(Integer::I128),
             _ => None,
+        }
+    }
+
+    /// Returns the name of the type, as `u16` or `LE<u16>`.
+    pub fn name(self) -> &'static str
+        ensures { result.now ≡ leaf_name self }
+    {
+        match self {
+            Leaf::Bool => "bool",
+            Leaf::U8 => "u8",
+            Leaf::U16 => "u16",
+            Leaf::U32 => "u32",
+            Leaf::U64 => "u64",
+            Leaf::U128 => "u128",
+            Leaf::I8 => "i8",
+            Leaf::I16 => "i16",
+            Leaf::I32 => "i32",
+            Leaf::I64 => "i64",
+            Leaf::I128 => "i128",
+            Leaf::F32 => "f32",
+            Leaf::F64 => "f64",
+            Leaf::Char => "char",
+            Leaf::Str => "str",
+            Leaf::Bytes => "bytes",
+            Leaf::Fixed(order, integer) => order.name_with(integer),
         }
     }
 }
