@@ -1,13 +1,10 @@
-//! The calls for tuples, structs and maps.
+//! The calls for tuples and structs.
 
 ghost use Rattle.std.specs.Prelude.{◌≡◌, length, Ok};
-ghost use Rattle.postcard_de.specs.Reads.{ReadsNode, number_node, source_of};
 
 use crate::access::SeqAccess;
 use crate::deserializer::Deserializer;
-use crate::map_access::MapAccess;
 use postcard_de_flavors::Flavor;
-use postcard_de_nodes::numbers;
 use postcard_wire::Result;
 
 impl<'de, F: Flavor> Deserializer<'de, F> {
@@ -37,16 +34,5 @@ impl<'de, F: Flavor> Deserializer<'de, F> {
         ensures unchanged { self.new ≡ self.old }
     {
         Ok(SeqAccess::new(fields.len()))
-    }
-
-    /// Reads the number of pairs of a map, a varint of at most 10 bytes. Their keys and values are
-    /// then read in turn by [`next_key`](MapAccess::next_key) and
-    /// [`next_value`](MapAccess::next_value).
-    pub fn deserialize_map(&mut self) -> Result<MapAccess>
-        ensures { ReadsNode F.Flavor (number_node 64)
-            (source_of self.old) result (source_of self.new) }
-    {
-        let count = numbers::count(&mut self.flavor)?;
-        Ok(MapAccess::new(count))
     }
 }

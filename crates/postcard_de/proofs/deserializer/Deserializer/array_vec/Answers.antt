@@ -4,7 +4,7 @@ use Rattle.std.proofs.lemmas.Grind.{common_steps}
 use Rattle.postcard_de_nodes.specs.ReadLemmas.{is_refusal}
 use Rattle.postcard_de.proofs.Entries.{few_read, few_refused, too_many, few_count_refused}
 use Rattle.postcard_de.proofs.Lists.{going, goes_on, going_stops, going_done}
-use Rattle.postcard_de.proofs.deserializer.Deserializer.few.Goals as goal
+use Rattle.postcard_de.proofs.deserializer.Deserializer.array_vec.Goals as goal
 
 pub returns-in_err-count : goal.returns-in_err-count
 returns-in_err-count g c =

@@ -1,7 +1,7 @@
 use Rattle.std.proofs.Common.{◌≡◌, ◌-◌, ◌≤◌, length}
 use Rattle.postcard_de.specs.Deserializer.{source_of}
 use Rattle.postcard_de.proofs.Lists.{Going}
-use Rattle.postcard_de.proofs.deserializer.Deserializer.few.Given as goal
+use Rattle.postcard_de.proofs.deserializer.Deserializer.array_vec.Given as goal
 
 abbrev pub invariant-loop : goal.invariant-loop
 invariant-loop g l = let f = g.F.Flavor in let t = g.T.Shaped.shape in

@@ -1,10 +1,10 @@
-//! The calls that read elements in a row, each by one loop.
+//! The calls that read a whole container: its count, if it has one, and its elements in one loop.
 
 ghost use Rattle.std.specs.Prelude.{◌≡◌, [], ◌∷◌, ◌++◌, IfErr, OnOk};
 ghost use Rattle.postcard_de.specs.Reads.{ReadsShape, source_of};
 
 use crate::deserializer::Deserializer;
-use crate::element::Element;
+use crate::read_element::ReadElement;
 use arrayvec::ArrayVec;
 use postcard_de_flavors::Flavor;
 use postcard_de_nodes::{lists, numbers};
@@ -50,7 +50,7 @@ impl<'de, F: Flavor> Deserializer<'de, F> {
     /// # Errors
     ///
     /// Also fails with `OutOfMemory` if an allocation fails.
-    pub(crate) fn list<T: Shaped + Drop, E: Element<'de, T>>(
+    pub(crate) fn list<T: Shaped + Drop, E: ReadElement<'de, T>>(
         &mut self,
         alloc: Global,
     ) -> Result<Vec<T>>
@@ -64,11 +64,11 @@ impl<'de, F: Flavor> Deserializer<'de, F> {
         let mut pause = 0;
         'elements: while items.len() < count {
             let left = count - items.len();
-            let some = lists::append_at_hand(&mut items, &mut self.flavor, left, &mut pause)?;
-            if some {
+            let appended = lists::append_at_hand(&mut items, &mut self.flavor, left, &mut pause)?;
+            if appended {
                 continue;
             }
-            let item = E::element(alloc, self)?;
+            let item = E::read_element(alloc, self)?;
             push_announced(&mut items, item, first, left)?;
         }
         Ok(items)
@@ -80,7 +80,7 @@ impl<'de, F: Flavor> Deserializer<'de, F> {
     ///
     /// Also fails with `SerdeDeCustom` if there are more than `CAP` elements, once `CAP + 1` of
     /// them have been read.
-    pub(crate) fn few<T: Shaped + Drop + Default, E: Element<'de, T>, const CAP: usize>(
+    pub(crate) fn array_vec<T: Shaped + Drop + Default, E: ReadElement<'de, T>, const CAP: usize>(
         &mut self,
         alloc: Global,
     ) -> Result<ArrayVec<T, CAP>>
@@ -90,7 +90,7 @@ impl<'de, F: Flavor> Deserializer<'de, F> {
         let count = numbers::count(&mut self.flavor)?;
         let mut items = ArrayVec::new();
         for _ in 0..count {
-            let item = E::element(alloc, self)?;
+            let item = E::read_element(alloc, self)?;
             if items.try_push(item).is_err() {
                 return Err(Error::SerdeDeCustom);
             }
@@ -99,7 +99,7 @@ impl<'de, F: Flavor> Deserializer<'de, F> {
     }
 
     /// Reads an array: `N` elements, without a count.
-    pub(crate) fn array<T: Shaped + Drop + Copy + Default, E: Element<'de, T>, const N: usize>(
+    pub(crate) fn array<T: Shaped + Drop + Copy + Default, E: ReadElement<'de, T>, const N: usize>(
         &mut self,
         alloc: Global,
     ) -> Result<[T; N]>
@@ -108,7 +108,7 @@ impl<'de, F: Flavor> Deserializer<'de, F> {
     {
         let mut items = [T::default(); N];
         for i in 0..N {
-            items[i] = E::element(alloc, self)?;
+            items[i] = E::read_element(alloc, self)?;
         }
         Ok(items)
     }
@@ -122,7 +122,7 @@ impl<'de, F: Flavor> Deserializer<'de, F> {
     pub(crate) fn map<
         K: Shaped + Ord + Drop,
         V: Shaped + Drop,
-        E: Element<'de, K> + Element<'de, V>,
+        E: ReadElement<'de, K> + ReadElement<'de, V>,
     >(&mut self, alloc: Global) -> Result<BTreeMap<K, V>>
         ensures { ReadsShape F.Flavor ⟦<BTreeMap<K, V> as Shaped>⟧.shape
             (source_of self.old) result (source_of self.new) }
@@ -130,8 +130,8 @@ impl<'de, F: Flavor> Deserializer<'de, F> {
         let count = numbers::count(&mut self.flavor)?;
         let mut map = BTreeMap::new(alloc);
         for _ in 0..count {
-            let key: K = E::element(alloc, self)?;
-            let value: V = E::element(alloc, self)?;
+            let key: K = E::read_element(alloc, self)?;
+            let value: V = E::read_element(alloc, self)?;
             if map.insert(key, value).is_err() {
                 return Err(Error::OutOfMemory);
             }
@@ -145,7 +145,7 @@ impl<'de, F: Flavor> Deserializer<'de, F> {
     /// # Errors
     ///
     /// Also fails with `OutOfMemory` if an allocation fails.
-    pub(crate) fn set<K: Shaped + Ord + Drop, E: Element<'de, K>>(
+    pub(crate) fn set<K: Shaped + Ord + Drop, E: ReadElement<'de, K>>(
         &mut self,
         alloc: Global,
     ) -> Result<BTreeSet<K>>
@@ -155,7 +155,7 @@ impl<'de, F: Flavor> Deserializer<'de, F> {
         let count = numbers::count(&mut self.flavor)?;
         let mut set = BTreeSet::new(alloc);
         for _ in 0..count {
-            let key = E::element(alloc, self)?;
+            let key = E::read_element(alloc, self)?;
             if set.insert(key).is_err() {
                 return Err(Error::OutOfMemory);
             }
