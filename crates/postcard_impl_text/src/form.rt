@@ -341,7 +341,7 @@ fn check_fields(
 ) -> Result<(), ImplProblemAt> {
     for member in &item.members {
         for field in &member.fields {
-            if let Some(problem) = problem_of(file, tokens, items, light, item, field) {
+            if let Some(problem) = refusal_of(file, tokens, items, light, item, field) {
                 return Err(ImplProblemAt {
                     problem,
                     left: field.left,
@@ -354,7 +354,7 @@ fn check_fields(
 }
 
 /// Returns what is wrong with a field, or `None` if nothing is.
-fn problem_of(
+fn refusal_of(
     file: &str,
     tokens: &[Token],
     items: &[Item],
@@ -370,7 +370,7 @@ fn problem_of(
         return Some(ImplProblem::Comment);
     }
     for at in field.words.start..field.words.end {
-        if let Some(problem) = problem_at(file, tokens, item, at, field.words.end) {
+        if let Some(problem) = refusal_at(file, tokens, item, at, field.words.end) {
             return Some(problem);
         }
     }
@@ -396,7 +396,7 @@ fn names_seen(tokens: &[Token], items: &[Item], field: &Field) -> bool {
 }
 
 /// Returns what is wrong with the token at the index of a type that ends before `end`.
-fn problem_at(
+fn refusal_at(
     file: &str,
     tokens: &[Token],
     item: &Item,
