@@ -70,6 +70,10 @@ class Calls(unittest.TestCase):
         self.assertEqual(message.hex(), "2a0178020204")
         self.assertEqual(postcard.dec(MESSAGE, message + b"\x99"), ('{id: 42, label: "x", samples: [1, 2]}', b"\x99"))
 
+    def test_fixed_width(self):
+        self.assertEqual(postcard.enc("[LE<u16>]", "[300]").hex(), "012c01")
+        self.assertEqual(postcard.dec("BE<i32>", bytes.fromhex("fffffffe07")), ("-2", b"\x07"))
+
     def test_larger_than_the_first_buffer(self):
         text = '"' + "long" * 200 + '"'
         message = postcard.enc("str", text)

@@ -37,6 +37,7 @@ static void to_text(void) {
 
 static void from_text(void) {
     CHECK(encode(type, value, sizeof bytes) == POSTCARD_OK && count == 6 && memcmp(bytes, message, 6) == 0 && bytes[6] == 0xEE);
+    CHECK(encode("(LE<u16>, BE<i32>)", "(300, -2)", sizeof bytes) == POSTCARD_OK && count == 6 && memcmp(bytes, "\x2C\x01\xFF\xFF\xFF\xFE", 6) == 0);
     CHECK(encode(type, value, 5) == POSTCARD_BUFFER_FULL && count == 6 && bytes[0] == 0xEE);
     CHECK(encode("u8", "256", sizeof bytes) == POSTCARD_BAD_TEXT && bytes[0] == 0xEE);
     CHECK(encode("(u8, bool)", "(1, maybe)", sizeof bytes) == POSTCARD_BAD_TEXT && place == 5);

@@ -5,7 +5,7 @@ use lib.Bits.{xor_assoc, xor_comm, xor_shifted, xor_lt, and_mask}
 use Rattle.std.proofs.Math.Nat.{mul-div-mul_right, div-le_self}
 use Rattle.crc.specs.Polynomial.{Congruent}
 use Rattle.crc.specs.Crc.{Parameters, in_order, message, generator, dividend, IsCrc, IsValid}
-use Rattle.crc.specs.Frame.{AreBytes}
+use Rattle.crc.specs.Checked.{AreBytes}
 use Rattle.crc.specs.Register.{AreEntries, gap, feedback, rounds, first_byte, entry, Holds, Takes, read}
 use Rattle.crc.proofs.PolynomialLemmas.{sum_shift, same, back, chain, sums, shifted, narrowed}
 use Rattle.crc.proofs.ReflectionLemmas.{mirror, is_mirror, mirror_twice, mirror_scaled}

@@ -8,13 +8,13 @@ use Rattle.std.proofs.lemmas.List.{length-drop, get_or-drop}
 use lib.Bits.{xor_comm, xor_shifted, xor_lt}
 use Rattle.crc.specs.Polynomial.{Congruent}
 use Rattle.crc.specs.Crc.{Parameters, in_order, message, generator, IsValid}
-use Rattle.crc.specs.Frame.{low_bytes, AreBytes}
+use Rattle.crc.specs.Checked.{low_bytes, AreBytes}
 use Rattle.crc.specs.Register.{AreEntries, IsSumFor, Takes, Holds, leaving, staying, gap, entry}
 use Rattle.crc.proofs.PolynomialLemmas.{sum_shift, same, sums}
 use Rattle.crc.proofs.ReflectionLemmas.{is_mirror, mirror_zero}
 use Rattle.crc.proofs.RegisterLemmas.{in_order_sum}
 use Rattle.crc.proofs.MessageLemmas.{message_append, message_byte, message_small}
-use Rattle.crc.proofs.FrameLemmas.{low_message}
+use Rattle.crc.proofs.CheckedLemmas.{low_message}
 use Rattle.crc.proofs.CrcLemmas.{entry_is, takes_reflected, takes_plain, holds_more}
 
 -- The bytes of a slice are bytes.

@@ -5,7 +5,7 @@ pub mod RegisterLemmas
 pub mod MessageLemmas
 pub mod CrcLemmas
 pub mod DigestLemmas
-pub mod FrameLemmas
+pub mod CheckedLemmas
 pub mod EightLemmas
 pub mod OrderLemmas
 pub mod Divisors

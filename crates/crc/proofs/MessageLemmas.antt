@@ -7,7 +7,7 @@ use Rattle.std.proofs.lemmas.Int.Digits.{number_after_append}
 use Rattle.std.specs.Int.Digits.{number_from_digits, number_from_digits_after}
 use lib.Bits.{xor_self, xor_block, xor_lt}
 use Rattle.crc.specs.Crc.{in_order, message}
-use Rattle.crc.specs.Frame.{AreBytes}
+use Rattle.crc.specs.Checked.{AreBytes}
 use Rattle.crc.proofs.PolynomialLemmas.{same_if_no_sum}
 use Rattle.crc.proofs.ReflectionLemmas.{mirror, is_mirror, mirror_twice}
 use Rattle.crc.proofs.RegisterLemmas.{in_order_below}

@@ -1,4 +1,4 @@
--- How a message or a frame may be damaged, as the polynomial of the bits that were changed.
+-- How a message, checked or not, may be damaged, as the polynomial of the bits that were changed.
 use Rattle.std.specs.Prelude.{◌≡◌, ℕ, zero, suc, ◌+◌, ◌*◌, ◌/◌, ◌%◌, ◌^◌, ◌<◌, bit_xor}
 use Rattle.crc.specs.Polynomial.{Congruent}
 use Rattle.crc.specs.Crc.{Parameters, generator}

@@ -1,7 +1,7 @@
 -- The definitions that contracts cite.
 pub mod Polynomial
 pub mod Crc
-pub mod Frame
+pub mod Checked
 pub mod Algorithm
 pub mod Register
 pub mod Digest

@@ -1,10 +1,10 @@
 //! Algorithms by their names in Koopman's and Cook's catalogue of parametrised CRC algorithms.
 //!
 //! The checksum of the text `123456789` is each algorithm's `check`, and the remainder of a message
-//! with its checksum is its `residue`. Where a frame is a message and then its checksum lowest byte
-//! first, as `postcard` sends it, take an algorithm whose `refin` and `refout` are true: it sees
-//! every burst of changed bits that is not longer than the checksum, also across the end of the
-//! message.
+//! with its checksum is its `residue`. Where the checksum follows the message lowest byte first, as
+//! in the checked messages of [`laws`](crate::laws) and of `postcard`, take an algorithm whose
+//! `refin` and `refout` are true: it sees every burst of changed bits that is not longer than the
+//! checksum, also across the end of the message.
 
 ghost use Rattle.std.specs.Prelude.{◌-◌, ◌^◌};
 ghost use Rattle.crc.specs.Algorithm.{parameters};
@@ -195,8 +195,8 @@ pub const CRC_82_DARC: Algorithm<u128> = Algorithm {
 /// How far apart two changed bits have to be to pass: the order of x modulo the generator of each
 /// entry is at least this. No two changed bits pass that are closer
 /// ([`two_in_message`](crate::laws::two_in_message), and of a reflected entry
-/// [`two_in_frame`](crate::laws::two_in_frame)). The numbers are the orders themselves, so some two
-/// bits that far apart do pass. The function does nothing.
+/// [`two_in_checked`](crate::laws::two_in_checked)). The numbers are the orders themselves, so some
+/// two bits that far apart do pass. The function does nothing.
 pub fn orders()
     ensures crc_8_smbus { HasOrderFrom 127 (parameters (λ n. n) CRC_8_SMBUS) }
     ensures crc_8_maxim_dow { HasOrderFrom 127 (parameters (λ n. n) CRC_8_MAXIM_DOW) }

@@ -5,9 +5,9 @@ ghost use Rattle.crc.specs.Crc.{Parameters, IsCrc};
 ghost use Rattle.crc.specs.Digest.{Progress, Took};
 ghost use Rattle.crc.specs.Register.{read};
 
-use crate::bitwise;
 use crate::crc::Crc;
 use crate::implementation::{Implementation, Table};
+use crate::register;
 use crate::width::Width;
 use std::marker::Model;
 
@@ -37,8 +37,8 @@ impl<'a, W: Width, I: Implementation<W>> Digest<'a, W, I> {
     {
         let bits = W::bits();
         let gap = bits - u32::from(crc.algorithm.width);
-        let lifted = bitwise::raised(initial.to_u128(), gap, bits);
-        let register = W::from_u128(bitwise::in_order(crc.algorithm.refin, bits, lifted));
+        let lifted = register::raised(initial.to_u128(), gap, bits);
+        let register = W::from_u128(register::in_order(crc.algorithm.refin, bits, lifted));
         Digest { crc, register }
     }
 
@@ -66,7 +66,7 @@ impl<'a, W: Width, I: Implementation<W>> Digest<'a, W, I> {
     }
 }
 
-// What is read from a register at the end.
+/// Returns what is read from a register at the end.
 fn read(refin: bool, refout: bool, bits: u32, gap: u32, register: u128) -> u128
     requires some { 1 ≤ bits }
     requires few { bits ≤ 128 }
@@ -77,7 +77,7 @@ fn read(refin: bool, refout: bool, bits: u32, gap: u32, register: u128) -> u128
     match (refin, refout) {
         (true, true) => register,
         (false, false) => register >> gap,
-        (true, false) => bitwise::in_order(true, bits, register) >> gap,
-        (false, true) => bitwise::in_order(true, bits, register),
+        (true, false) => register::in_order(true, bits, register) >> gap,
+        (false, true) => register::in_order(true, bits, register),
     }
 }

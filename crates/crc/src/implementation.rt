@@ -1,18 +1,20 @@
-//! Tables of an algorithm, and the register that takes a message by them.
+//! The interface of the tables of an algorithm, by which a register takes a message.
 
-ghost use Rattle.std.specs.Prelude.{◌≡◌, ◌<◌, ◌≤◌, ◌*◌, ◌^◌, ◌++◌, ℕ, List, length, map};
+ghost use Rattle.std.specs.Prelude.{◌*◌, ◌++◌, ℕ, List};
 ghost use Rattle.crc.specs.Algorithm.{parameters};
-ghost use Rattle.crc.specs.Crc.{IsValid, in_order, message};
-ghost use Rattle.crc.specs.Register.{AreEntries, Holds, Takes};
+ghost use Rattle.crc.specs.Crc.{IsValid};
+ghost use Rattle.crc.specs.Register.{AreEntries, Holds};
 
 use crate::algorithm::Algorithm;
+pub use crate::table::Table;
 use crate::width::Width;
-use crate::{bitwise, table};
 
 /// How a checksum is computed: by which tables.
 pub trait Implementation<W: Width>: Drop {
+    /// The entries of the tables, one table after another.
     ghost entries: { Self → List ℕ };
 
+    /// The number of entries.
     ghost count: { ℕ };
 
     /// Makes the tables of an algorithm.
@@ -30,73 +32,4 @@ pub trait Implementation<W: Width>: Drop {
         ensures { (i : ℕ) (m : List ℕ) → let a = record (parameters W.number algorithm.now) { init = i } in
             Holds (8 * W.size) a (W.number register) m
             → Holds (8 * W.size) a (W.number result) (m ++ bytes.now) };
-}
-
-/// A table of 256 entries, by which a register takes one byte at a time. It has 256 bytes for each
-/// byte of a checksum's type: 1 KiB at `u32`, and 2 KiB at `u64`.
-#[derive(Drop)]
-pub struct Table<W> {
-    entries: [W; 256],
-}
-
-// The register after one byte more.
-#[inline]
-fn step<W: Width>(algorithm: &Algorithm<W>, entries: &[W], register: W, byte: u8) -> W
-    requires valid { IsValid (8 * W.size) (parameters W.number algorithm.now) }
-    requires enough { 256 ≤ length entries.now }
-    requires served { AreEntries (8 * W.size) (parameters W.number algorithm.now) 256
-        (map W.number entries.now) }
-    ensures takes { Takes (8 * W.size) (parameters W.number algorithm.now) 8 (W.number register)
-        (in_order algorithm.now.refin 8 byte) (W.number result) }
-    ensures fits { W.number result < 2 ^ (8 * W.size) }
-{
-    let bits = W::bits();
-    let register = register.to_u128();
-    if algorithm.refin {
-        let at = (register & 0xff) as u8 ^ byte;
-        let entry = table::look_up(entries, at as usize);
-        W::from_u128((register >> 8) ^ entry)
-    } else {
-        let at = bitwise::top_byte(register, bits) ^ byte;
-        let entry = table::look_up(entries, at as usize);
-        W::from_u128(bitwise::raised(register, 8, bits) ^ entry)
-    }
-}
-
-/// Returns the register after more bytes, by the first of the tables.
-pub(crate) fn by_bytes<W: Width>(
-    algorithm: &Algorithm<W>,
-    entries: &[W],
-    register: W,
-    bytes: &[u8],
-) -> W
-    requires valid { IsValid (8 * W.size) (parameters W.number algorithm.now) }
-    requires enough { 256 ≤ length entries.now }
-    requires served { AreEntries (8 * W.size) (parameters W.number algorithm.now) 256
-        (map W.number entries.now) }
-    ensures { (i : ℕ) (m : List ℕ) → let a = record (parameters W.number algorithm.now) { init = i } in
-        Holds (8 * W.size) a (W.number register) m
-        → Holds (8 * W.size) a (W.number result) (m ++ bytes.now) }
-{
-    let mut register = register;
-    for byte in bytes {
-        register = step(algorithm, entries, register, *byte);
-    }
-    register
-}
-
-impl<W: Width> Implementation<W> for Table<W> {
-    ghost entries = { λ t. map W.number t.entries };
-
-    ghost count = { 256 };
-
-    fn new(algorithm: &Algorithm<W>) -> Table<W> {
-        let mut entries = [W::from_u128(0); 256];
-        table::fill(algorithm, &mut entries);
-        Table { entries }
-    }
-
-    fn update(&self, algorithm: &Algorithm<W>, register: W, bytes: &[u8]) -> W {
-        by_bytes(algorithm, &self.entries, register, bytes)
-    }
 }

@@ -7,7 +7,7 @@
 ghost use Rattle.std.specs.Prelude.{◌≡◌, ◌+◌, ◌*◌, ◌^◌, ◌<◌, ◌≤◌, ◌++◌, true, ℕ, List, length};
 ghost use Rattle.std.specs.Prelude.{bit_xor, IsTrue};
 ghost use Rattle.crc.specs.Crc.{Parameters, IsCrc, IsSound, generator, message};
-ghost use Rattle.crc.specs.Frame.{AreBytes, IsChecked};
+ghost use Rattle.crc.specs.Checked.{AreBytes, IsChecked};
 ghost use Rattle.crc.specs.Damage.{IsBurst, IsOddDamage, HasParity, AreTwo, HasOrderFrom};
 ghost use Rattle.crc.specs.Order.{shows_order, product};
 ghost use Rattle.crc.specs.Polynomial.{Congruent};
@@ -42,37 +42,38 @@ pub fn two_in_message()
         → AreTwo d (bit_xor (message a.refin m) (message a.refin n)) → ⊥ }
 {}
 
-/// Two frames of one length that differ only within `width` bits in a row, those of their checksums
-/// included, are equal. A frame is a message and then its checksum in `k` bytes, the lowest first;
-/// `refin` and `refout` are true. Without them the checksum's bits aren't in the message's order,
-/// and a burst across the end of a message may pass.
-pub fn burst_in_frame()
+/// Two checked messages of one length that differ only within `width` bits in a row, those of their
+/// checksums included, are equal. A checked message is a message and then its checksum in `k` bytes,
+/// the lowest first; `refin` and `refout` are true. Without them the checksum's bits aren't in the
+/// message's order, and a burst across the end of a message may pass.
+pub fn burst_in_checked()
     ensures { (a : Parameters) (k i : ℕ) → IsSound a → a.refin ≡ true → a.refout ≡ true
         → a.width + i ≡ 8 * k → (f g : List ℕ) → length f ≡ length g
         → AreBytes f → AreBytes g → IsChecked a k f → IsChecked a k g
         → IsBurst a.width (bit_xor (message a.refin f) (message a.refin g)) → f ≡ g }
 {}
 
-/// The same of whole bytes: two frames that differ only in bytes in a row, as many as the checksum
-/// has or fewer, are equal.
-pub fn bytes_in_frame()
+/// The same of whole bytes: two checked messages that differ only in bytes in a row, as many as the
+/// checksum has or fewer, are equal.
+pub fn bytes_in_checked()
     ensures { (a : Parameters) (k i : ℕ) → IsSound a → a.refin ≡ true → a.refout ≡ true
         → a.width + i ≡ 8 * k → (p x y s : List ℕ) → length x ≡ length y → 8 * length x ≤ a.width
         → AreBytes p → AreBytes x → AreBytes y → AreBytes s
         → IsChecked a k (p ++ x ++ s) → IsChecked a k (p ++ y ++ s) → x ≡ y }
 {}
 
-/// Two frames of one length don't differ in an odd number of bits, if x + 1 divides the generator.
-pub fn odd_in_frame()
+/// Two checked messages of one length don't differ in an odd number of bits, if x + 1 divides the
+/// generator.
+pub fn odd_in_checked()
     ensures { (a : Parameters) (k i : ℕ) → IsSound a → a.refin ≡ true → a.refout ≡ true
         → a.width + i ≡ 8 * k → HasParity a → (f g : List ℕ) (b : ℕ) → length f ≡ length g
         → IsChecked a k f → IsChecked a k g
         → IsOddDamage b (bit_xor (message a.refin f) (message a.refin g)) → ⊥ }
 {}
 
-/// Two frames of one length don't differ in just two bits that are less than the order of x modulo
-/// the generator apart.
-pub fn two_in_frame()
+/// Two checked messages of one length don't differ in just two bits that are less than the order of
+/// x modulo the generator apart.
+pub fn two_in_checked()
     ensures { (a : Parameters) (k i : ℕ) → IsSound a → a.refin ≡ true → a.refout ≡ true
         → a.width + i ≡ 8 * k → (b d : ℕ) → HasOrderFrom b a → 0 < d → d < b
         → (f g : List ℕ) → length f ≡ length g → IsChecked a k f → IsChecked a k g

@@ -7,14 +7,15 @@
 #![tactic(auto)]
 
 pub mod algorithm;
-mod bitwise;
 pub mod catalog;
 mod crc;
 pub mod digest;
-mod eights;
+mod entries;
 pub mod implementation;
 pub mod laws;
 mod order;
+mod register;
+mod slice8;
 mod table;
 pub mod width;
 
@@ -26,7 +27,7 @@ pub use catalog::{
 };
 pub use crc::Crc;
 pub use digest::Digest;
-pub use eights::Slice8;
 pub use implementation::{Implementation, Table};
 pub use order::order_from;
+pub use slice8::Slice8;
 pub use width::Width;

@@ -7,7 +7,7 @@ ghost use Rattle.crc.specs.Damage.{HasOrderFrom};
 ghost use Rattle.crc.specs.Polynomial.{Congruent};
 
 use crate::algorithm::Algorithm;
-use crate::bitwise;
+use crate::register;
 use crate::width::Width;
 
 /// Returns the order of x modulo the generator of an algorithm, which is the least d above 0 with
@@ -32,7 +32,7 @@ pub fn order_from<W: Width>(algorithm: &Algorithm<W>, limit: u64) -> u64
     let poly = algorithm.poly.to_u128();
     let mut power = 1;
     for d in 1..limit {
-        power = bitwise::next(false, width, poly, power);
+        power = register::next(false, width, poly, power);
         if power == 1 {
             return d;
         }

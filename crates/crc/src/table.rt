@@ -1,64 +1,81 @@
-//! The entries of tables.
+//! One table of an algorithm, and the register that takes a message by it, a byte at a time.
 
-ghost use Rattle.std.specs.Prelude.{◌<◌, ◌≤◌, ◌≡◌, ◌*◌, ◌^◌, length, map, slice_index};
+ghost use Rattle.std.specs.Prelude.{◌<◌, ◌≤◌, ◌*◌, ◌^◌, ◌++◌, ℕ, List, length, map};
 ghost use Rattle.crc.specs.Algorithm.{parameters};
-ghost use Rattle.crc.specs.Crc.{IsValid};
-ghost use Rattle.crc.specs.Register.{AreEntries, feedback, first_byte};
+ghost use Rattle.crc.specs.Crc.{IsValid, in_order};
+ghost use Rattle.crc.specs.Register.{AreEntries, Holds, Takes};
 
 use crate::algorithm::Algorithm;
-use crate::bitwise;
+use crate::entries::{fill, look_up};
+use crate::implementation::Implementation;
+use crate::register;
 use crate::width::Width;
 
-// The generator without its highest power, as a register has it.
-fn feedback<W: Width>(algorithm: &Algorithm<W>) -> u128
-    requires { IsValid (8 * W.size) (parameters W.number algorithm.now) }
-    ensures is { result ≡ feedback (8 * W.size) (parameters W.number algorithm.now) }
-    ensures fits { result < 2 ^ (8 * W.size) }
-{
-    let bits = W::bits();
-    let gap = bits - u32::from(algorithm.width);
-    let lifted = bitwise::raised(algorithm.poly.to_u128(), gap, bits);
-    bitwise::in_order(algorithm.refin, bits, lifted)
+/// A table of 256 entries, by which a register takes one byte at a time. It has 256 bytes for each
+/// byte of a checksum's type: 1 KiB at `u32`, and 2 KiB at `u64`.
+#[derive(Drop)]
+pub struct Table<W> {
+    entries: [W; 256],
 }
 
-// The byte in a register, as its first eight bits.
-fn first_byte(refin: bool, bits: u32, byte: u8) -> u128
-    requires some { 8 ≤ bits }
-    requires few { bits ≤ 128 }
-    ensures { result ≡ first_byte refin bits byte }
+/// Returns the register after one byte more.
+#[inline]
+fn step<W: Width>(algorithm: &Algorithm<W>, entries: &[W], register: W, byte: u8) -> W
+    requires valid { IsValid (8 * W.size) (parameters W.number algorithm.now) }
+    requires enough { 256 ≤ length entries.now }
+    requires served { AreEntries (8 * W.size) (parameters W.number algorithm.now) 256
+        (map W.number entries.now) }
+    ensures takes { Takes (8 * W.size) (parameters W.number algorithm.now) 8 (W.number register)
+        (in_order algorithm.now.refin 8 byte) (W.number result) }
+    ensures fits { W.number result < 2 ^ (8 * W.size) }
 {
-    if refin {
-        u128::from(byte)
+    let bits = W::bits();
+    let register = register.to_u128();
+    if algorithm.refin {
+        let at = (register & 0xff) as u8 ^ byte;
+        let entry = look_up(entries, at as usize);
+        W::from_u128((register >> 8) ^ entry)
     } else {
-        bitwise::raised(u128::from(byte), bits - 8, bits)
+        let at = register::top_byte(register, bits) ^ byte;
+        let entry = look_up(entries, at as usize);
+        W::from_u128(register::raised(register, 8, bits) ^ entry)
     }
 }
 
-/// Returns an entry.
-#[inline]
-pub fn look_up<W: Width>(entries: &[W], at: usize) -> u128
-    requires { at < length entries.now }
-    ensures number { result ≡ slice_index (map W.number entries.now) at }
-    ensures fits { result < 2 ^ (8 * W.size) }
+/// Returns the register after more bytes, by the first of the tables.
+pub(crate) fn by_bytes<W: Width>(
+    algorithm: &Algorithm<W>,
+    entries: &[W],
+    register: W,
+    bytes: &[u8],
+) -> W
+    requires valid { IsValid (8 * W.size) (parameters W.number algorithm.now) }
+    requires enough { 256 ≤ length entries.now }
+    requires served { AreEntries (8 * W.size) (parameters W.number algorithm.now) 256
+        (map W.number entries.now) }
+    ensures { (i : ℕ) (m : List ℕ) → let a = record (parameters W.number algorithm.now) { init = i } in
+        Holds (8 * W.size) a (W.number register) m
+        → Holds (8 * W.size) a (W.number result) (m ++ bytes.now) }
 {
-    entries[at].to_u128()
+    let mut register = register;
+    for byte in bytes {
+        register = step(algorithm, entries, register, *byte);
+    }
+    register
 }
 
-/// Fills tables of 256 entries each, one after the other.
-pub fn fill<W: Width>(algorithm: &Algorithm<W>, entries: &mut [W])
-    requires { IsValid (8 * W.size) (parameters W.number algorithm.now) }
-    ensures { AreEntries (8 * W.size) (parameters W.number algorithm.now) (length entries.old)
-        (map W.number entries.new) }
-{
-    let bits = W::bits();
-    let refin = algorithm.refin;
-    let feedback = feedback(algorithm);
-    for j in 0..entries.len() {
-        let start = if j < 256 {
-            first_byte(refin, bits, j as u8)
-        } else {
-            look_up(entries, j - 256)
-        };
-        entries[j] = W::from_u128(bitwise::eight(refin, bits, feedback, start));
+impl<W: Width> Implementation<W> for Table<W> {
+    ghost entries = { λ t. map W.number t.entries };
+
+    ghost count = { 256 };
+
+    fn new(algorithm: &Algorithm<W>) -> Table<W> {
+        let mut entries = [W::from_u128(0); 256];
+        fill(algorithm, &mut entries);
+        Table { entries }
+    }
+
+    fn update(&self, algorithm: &Algorithm<W>, register: W, bytes: &[u8]) -> W {
+        by_bytes(algorithm, &self.entries, register, bytes)
     }
 }

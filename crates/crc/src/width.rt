@@ -3,6 +3,9 @@
 ghost use Rattle.std.specs.Prelude.{◌≡◌, ◌<◌, ◌≤◌, ◌*◌, ◌^◌, ℕ};
 
 /// The type of a checksum: an unsigned integer of 8, 16, 32, 64 or 128 bits.
+///
+/// Named as in the Rust crate `crc`. It is not `Algorithm::width`, the number of bits of a checksum,
+/// which may be less than `bits`.
 pub trait Width: Copy {
     /// The number that a value is.
     ghost number: { Self → ℕ };
@@ -10,6 +13,7 @@ pub trait Width: Copy {
     /// The number of bytes of a value.
     ghost size: { ℕ };
 
+    /// Returns the number of bits of the type.
     fn bits() -> u32
         ensures bits { result ≡ 8 * size }
         ensures some { 8 ≤ result }

@@ -45,7 +45,8 @@ pub struct Telemetry {
     pub label: String,
 }
 
-/// The fields, as tuples of five.
+/// The fields, as three tuples of five: the bytes are those of the fields in a row, and short tuples
+/// are proved faster than one of fifteen.
 type Parts = (
     (u32, u64, u16, i16, i16),
     (u8, u32, i32, i32, i16),

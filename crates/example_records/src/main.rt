@@ -8,8 +8,7 @@ use anyhow::Result;
 use postcard::de_flavors::Plain;
 use postcard::to_slice;
 use record::{Record, append};
-use std::fs;
-use std::fs::{File, OpenOptions};
+use std::fs::{self, File, OpenOptions};
 use std::io::{BufRead, BufReader, Write};
 
 /// The name of the file.

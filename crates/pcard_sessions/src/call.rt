@@ -1,6 +1,6 @@
 //! A call of a session, and the answer that is written below it.
 
-use crate::fault::Fault;
+use crate::call_error::CallError;
 use crate::words::words_of;
 use postcard_cli_files::{Disk, run};
 use std::alloc::{AllocError, Global};
@@ -47,7 +47,7 @@ impl Call {
     }
 
     /// Requires that the call answers as written, or, if it begins with `not`, that it doesn't.
-    pub fn check(&self, rt: &HostRuntime) -> Result<(), Fault> {
+    pub fn check(&self, rt: &HostRuntime) -> Result<(), CallError> {
         let line = without(&self.line, NOT);
         let is_wrong = self.line.starts_with(NOT);
         let found = answer_of(rt, without(line, PROMPT))?;
@@ -55,7 +55,7 @@ impl Call {
             return Ok(());
         }
         let written = self.answer.clone()?;
-        Err(Fault::Other { written, found })
+        Err(CallError::Other { written, found })
     }
 }
 
@@ -73,7 +73,7 @@ fn without<'a>(text: &'a str, front: &str) -> &'a str {
 
 /// Returns the answer to a call of these words, as it is written in a session: the exit status after a
 /// `?`, unless it is 0, what is printed to the output, and what is printed to standard error.
-fn answer_of(rt: &HostRuntime, text: &str) -> Result<String, Fault> {
+fn answer_of(rt: &HostRuntime, text: &str) -> Result<String, CallError> {
     let alloc = rt.alloc();
     let (mut words, digits) = words_of(alloc, text)?;
     let bytes = bytes_of(alloc, &digits)?;
@@ -89,7 +89,7 @@ fn answer_of(rt: &HostRuntime, text: &str) -> Result<String, Fault> {
     );
     printed.extend_from_slice(&errors)?;
     let Ok(printed) = String::from_utf8(printed) else {
-        return Err(Fault::NoText);
+        return Err(CallError::NoText);
     };
     if status == 0 {
         return Ok(printed);
@@ -98,10 +98,10 @@ fn answer_of(rt: &HostRuntime, text: &str) -> Result<String, Fault> {
 }
 
 /// Returns the bytes of hexadecimal digits.
-fn bytes_of(alloc: Global, digits: &str) -> Result<Vec<u8>, Fault> {
+fn bytes_of(alloc: Global, digits: &str) -> Result<Vec<u8>, CallError> {
     match hex::decode(alloc, digits) {
         Ok(bytes) => Ok(bytes),
-        Err(hex::FromHexError::OutOfMemory) => Err(Fault::OutOfMemory),
-        Err(_) => Err(Fault::Input),
+        Err(hex::FromHexError::OutOfMemory) => Err(CallError::OutOfMemory),
+        Err(_) => Err(CallError::Input),
     }
 }

@@ -8,11 +8,11 @@
 #![tactic(auto)]
 
 mod call;
-mod fault;
+mod call_error;
 mod words;
 
 use call::Call;
-use fault::Fault;
+use call_error::CallError;
 use std::alloc::Global;
 use std::io;
 use std::process::ExitCode;
@@ -62,9 +62,9 @@ impl Sessions {
                 self.passed = self.passed.saturating_add(1);
                 Ok(())
             }
-            Err(fault) => {
+            Err(error) => {
                 self.failed = self.failed.saturating_add(1);
-                println!(rt; "{call}\n{fault}")
+                println!(rt; "{call}\n{error}")
             }
         }
     }

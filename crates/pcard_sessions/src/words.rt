@@ -1,6 +1,6 @@
 //! The words of a call, as a shell reads them.
 
-use crate::fault::Fault;
+use crate::call_error::CallError;
 use std::alloc::Global;
 
 /// What is taken of the words of a call.
@@ -18,7 +18,7 @@ struct Words {
 
 impl Words {
     /// Takes the next character.
-    fn take(&mut self, alloc: Global, c: char) -> Result<(), Fault> {
+    fn take(&mut self, alloc: Global, c: char) -> Result<(), CallError> {
         if self.quote == Some(c) {
             self.quote = None;
             return Ok(());
@@ -39,7 +39,7 @@ impl Words {
     }
 
     /// Ends the word, if it has begun.
-    fn end_word(&mut self, alloc: Global) -> Result<(), Fault> {
+    fn end_word(&mut self, alloc: Global) -> Result<(), CallError> {
         if self.has_begun {
             let word = std::mem::replace(&mut self.word, String::new(alloc));
             self.words.push(word)?;
@@ -52,8 +52,8 @@ impl Words {
 /// Returns the words of a call up to the word `<`, and the words after it, one behind the other.
 ///
 /// A word ends at a blank. Of what stands between two `'` or two `"`, each character stands for itself,
-/// and the quotes for nothing.
-pub fn words_of(alloc: Global, text: &str) -> Result<(Vec<String>, String), Fault> {
+/// and the quotes for nothing. A word `<` begins the input even if it is quoted.
+pub fn words_of(alloc: Global, text: &str) -> Result<(Vec<String>, String), CallError> {
     let mut taken = Words {
         words: Vec::new(alloc),
         word: String::new(alloc),
@@ -65,7 +65,7 @@ pub fn words_of(alloc: Global, text: &str) -> Result<(Vec<String>, String), Faul
     }
     taken.end_word(alloc)?;
     if taken.quote.is_some() {
-        return Err(Fault::Quote);
+        return Err(CallError::Quote);
     }
     let mut words = Vec::new(alloc);
     let mut digits = String::new(alloc);

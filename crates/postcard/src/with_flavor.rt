@@ -25,17 +25,17 @@ use std::io::Write;
 /// flavor is dropped.
 pub fn serialize_with_flavor<T: Serialize, S: Flavor<Output = O> + Drop, O>(
     value: &T,
-    storage: S,
+    flavor: S,
 ) -> Result<O>
-    ensures gives { IfOk result (Finished S.Flavor storage (canonical (T.shape.tree value.now))) }
+    ensures gives { IfOk result (Finished S.Flavor flavor (canonical (T.shape.tree value.now))) }
     ensures has_room { IsWilling T.shape value.now
-        → S.room storage (canonical (T.shape.tree value.now)) → IsOk result }
-    ensures own_error { S.room storage (canonical (T.shape.tree value.now))
+        → S.room flavor (canonical (T.shape.tree value.now)) → IsOk result }
+    ensures own_error { S.room flavor (canonical (T.shape.tree value.now))
         → IfErr result (T.shape.refusal value.now) }
     ensures named_error { IfErr result (IsErrorOf T.shape value.now) }
     ensures fits { OnOk result (T.shape.fits value.now) }
 {
-    let mut serializer = Serializer { output: storage };
+    let mut serializer = Serializer { output: flavor };
     value.serialize(&mut serializer)?;
     match serializer.output.finalize() {
         Ok(output) => Ok(output),

@@ -1,7 +1,7 @@
 -- The checksums that C can ask for, and what a call with one leaves in a writer or a reader of C.
 use Rattle.std.specs.Prelude.{◌≡◌, ◌≢◌, ℕ, ◌+◌, ◌<◌, ◌≤◌, true, List, ◌++◌, length, take}
 use Rattle.crc.specs.Crc.{Parameters, IsCrc, IsValid}
-use Rattle.crc.specs.Frame.{low_bytes}
+use Rattle.crc.specs.Checked.{low_bytes}
 use Rattle.crc.specs.Register.{feedback}
 use Rattle.postcard_c.specs.declared.reader.Reader.{Reader}
 use Rattle.postcard_c.specs.declared.writer.Writer.{Writer}

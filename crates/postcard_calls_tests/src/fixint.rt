@@ -4,7 +4,7 @@
 use crate::asserts::{OLD, assert_refused, assert_written, read, same, taken};
 use postcard::fixint::{BE, FixInt, LE, be, le};
 use postcard::ser_flavors::{Flavor, Slice};
-use postcard::{Deserializer, Error, Owned, Result, Serializer, from_bytes, to_slice};
+use postcard::{Deserializer, Error, Owned, Result, Serializer, from_bytes, from_io, to_slice};
 use std::alloc::AllocGlobal;
 use std::fmt::Debug;
 use std::process::Abort;
@@ -236,4 +236,69 @@ fn in_other_values(rt: HostRuntime) {
     same(&rt, numbers.is_empty(), true);
     let number = read::<Option<BE<i16>>>(&rt, &[0x01, 0x00, 0x05]);
     same(&rt, number.map(BE::get), Some(5));
+}
+
+/// The count 300 and 300 numbers of 32 bits from 0x09070000 on, the lowest byte first.
+fn three_hundred() -> [u8; 1202] {
+    let mut bytes = [0; 1202];
+    bytes[0] = 0xAC;
+    bytes[1] = 0x02;
+    for i in 0..300 {
+        bytes[4 * i + 2] = (i % 256) as u8;
+        bytes[4 * i + 3] = (i / 256) as u8;
+        bytes[4 * i + 4] = 0x07;
+        bytes[4 * i + 5] = 0x09;
+    }
+    bytes
+}
+
+/// Asserts that these are the numbers of [`three_hundred`].
+fn assert_three_hundred(rt: &impl Abort, mut numbers: Vec<LE<u32>>) {
+    for number in (0x0907_0000..0x0907_012C).rev() {
+        same(rt, numbers.pop().map(LE::get), Some(number));
+    }
+    same(rt, numbers.is_empty(), true);
+}
+
+/// Asserts that no list is read from the first `len` bytes.
+fn assert_cut(rt: &(impl Abort + AllocGlobal), bytes: &[u8], len: usize) {
+    let front = bytes.get(..len).unwrap_or(bytes);
+    assert_refused::<Vec<LE<u32>>>(rt, front, END);
+}
+
+#[test]
+fn long_lists(rt: HostRuntime) {
+    let bytes = three_hundred();
+    assert_three_hundred(&rt, read(&rt, &bytes));
+    assert_cut(&rt, &bytes, 1200);
+    assert_cut(&rt, &bytes, 3);
+}
+
+#[test]
+fn a_long_list_from_a_reader(rt: HostRuntime) {
+    let bytes = three_hundred();
+    let mut scratch = [0; 1];
+    match from_io::<Vec<LE<u32>>, _>(rt.alloc(), (bytes.as_slice(), &mut scratch)) {
+        Ok((numbers, _)) => assert_three_hundred(&rt, numbers),
+        Err(e) => panic!(rt; "{e}"),
+    }
+}
+
+#[test]
+fn lists_of_other_widths(rt: HostRuntime) {
+    let bytes = [0x02, 0x01, 0x02, 0xFF, 0xFE, 0x09];
+    let (mut numbers, rest) = taken::<Vec<BE<u16>>>(&rt, &bytes);
+    same(&rt, rest, [0x09].as_slice());
+    same(&rt, numbers.pop().map(BE::get), Some(0xFFFE));
+    same(&rt, numbers.pop().map(BE::get), Some(0x0102));
+    same(&rt, numbers.is_empty(), true);
+    let mut bytes = [0; 33];
+    bytes[0] = 0x02;
+    bytes[1] = 0x03;
+    bytes[32] = 0x80;
+    let mut numbers = read::<Vec<LE<u128>>>(&rt, &bytes);
+    same(&rt, numbers.pop().map(LE::get), Some(1 << 127));
+    same(&rt, numbers.pop().map(LE::get), Some(3));
+    same(&rt, numbers.is_empty(), true);
+    assert_refused::<Vec<LE<u128>>>(&rt, &bytes[..32], END);
 }

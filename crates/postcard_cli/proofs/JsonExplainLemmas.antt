@@ -50,7 +50,7 @@ last_one xs o n i d next low found less all =
 
 -- Once the part of a line is open, the paths around later lines are those after this line.
 pub opened : (seen : List Line) (line : Line) (old closed : List Open) (o : Open) → ((d : ℕ) → path_in old d ≡ path_around seen d)
-    → ((d : ℕ) → d ≤ line.depth → path_in closed d ≡ path_in old d) → o.depth ≡ line.depth → string_bytes o.path ≡ entered (path_after seen line) line.node
+    → ((d : ℕ) → d ≤ line.depth → path_in closed d ≡ path_in old d) → o.depth ≡ line.depth → string_bytes o.path ≡ entered (path_after seen line) line.kind
     → (d : ℕ) → path_in (closed ++ o ∷ []) d ≡ path_around (line ∷ seen) d
 opened seen line old closed o is kept deep path d = by_depth (nat_lt line.depth d) refl where
   own : path_in (closed ++ o ∷ []) d ≡ (if nat_lt line.depth d then string_bytes o.path else path_in closed d)
@@ -59,11 +59,11 @@ opened seen line old closed o is kept deep path d = by_depth (nat_lt line.depth 
   by_depth : (b : Bool) → nat_lt line.depth d ≡ b → path_in (closed ++ o ∷ []) d ≡ path_around (line ∷ seen) d
   by_depth true less =
       own ∙ ap (λ (b : Bool). if b then string_bytes o.path else path_in closed d) less ∙ path
-      ∙ sym (ap (λ (b : Bool). if b then entered (path_after seen line) line.node else path_around seen d) less)
+      ∙ sym (ap (λ (b : Bool). if b then entered (path_after seen line) line.kind else path_around seen d) less)
   by_depth false other =
       let low = ltb-false line.depth d other in
       own ∙ ap (λ (b : Bool). if b then string_bytes o.path else path_in closed d) other ∙ kept d (omega arith) ∙ is d
-      ∙ sym (ap (λ (b : Bool). if b then entered (path_after seen line) line.node else path_around seen d) other)
+      ∙ sym (ap (λ (b : Bool). if b then entered (path_after seen line) line.kind else path_around seen d) other)
 
 -- ---- rows
 
@@ -77,20 +77,20 @@ seen_more seen [] line = refl
 seen_more seen (x ∷ xs) line = seen_more (x ∷ seen) xs line
 
 -- The row at an offset that is counted is that at the offset.
-pub json_row_at : (refused : Option Error) (n : ℕ) (path : List ℕ) (line : Line) (old new : Option (List ℕ)) → PrintsJsonRow refused (counted n) path line old new
-    → PrintsJsonRow refused n path line old new
-json_row_at refused n path line old new h =
+pub json_row_at : (error : Option Error) (n : ℕ) (path : List ℕ) (line : Line) (old new : Option (List ℕ)) → PrintsJsonRow error (counted n) path line old new
+    → PrintsJsonRow error n path line old new
+json_row_at error n path line old new h =
     let same : min (counted n) (2 ^ 64 - 1) ≡ counted n = omega arith in
     rw same at h
 
 -- One row more.
-pub json_rows_more : (refused : Option Error) (n : ℕ) (seen lines : List Line) (line : Line) (old mid new : Option (List ℕ)) → PrintsJsonRows refused n seen lines old mid
-    → PrintsJsonRow refused (n + length (bytes_of lines)) (path_after (seen_after seen lines) line) line mid new → PrintsJsonRows refused n seen (lines ++ line ∷ []) old new
-json_rows_more refused n seen [] line old mid new h k =
+pub json_rows_more : (error : Option Error) (n : ℕ) (seen lines : List Line) (line : Line) (old mid new : Option (List ℕ)) → PrintsJsonRows error n seen lines old mid
+    → PrintsJsonRow error (n + length (bytes_of lines)) (path_after (seen_after seen lines) line) line mid new → PrintsJsonRows error n seen (lines ++ line ∷ []) old new
+json_rows_more error n seen [] line old mid new h k =
     let none : n + 0 ≡ n = omega arith in
-    let row : PrintsJsonRow refused n (path_after seen line) line mid new = rw none at k in
+    let row : PrintsJsonRow error n (path_after seen line) line mid new = rw none at k in
     (new, (row.0, row.1, Appends-trans old mid new [] _ h row.2), Appends-nil new)
-json_rows_more refused n seen (x ∷ xs) line old mid new h k =
+json_rows_more error n seen (x ∷ xs) line old mid new h k =
     let on : n + length (x.bytes.now ++ bytes_of xs) ≡ (n + length x.bytes.now) + length (bytes_of xs) =
     omega (arith, length-append x.bytes.now (bytes_of xs)) in
-    (h.0, h.1, json_rows_more refused (n + length x.bytes.now) (x ∷ seen) xs line h.0 mid new h.2 (rw on at k))
+    (h.0, h.1, json_rows_more error (n + length x.bytes.now) (x ∷ seen) xs line h.0 mid new h.2 (rw on at k))

@@ -1,16 +1,19 @@
 -- Lemmas on the lines of values, one after another.
-use Rattle.std.proofs.Common.{◌≡◌, ℕ, ◌<◌, List, [], ◌∷◌, ◌++◌, length, arith, Option, Some, None, true, refl, sym, ap, subst, ◌∙◌, length-append}
+use Rattle.std.proofs.Common.{◌≡◌, ℕ, ◌<◌, List, [], ◌∷◌, ◌++◌, length, arith, Option, Some, None, Result, OnOk, true, refl, sym, ap, subst, ◌∙◌, length-append}
 use Rattle.std.specs.Fmt.{◌++?◌}
 use Rattle.std.proofs.KnownBytes.{Appends-nil, Appends-trans}
 use Rattle.std.specs.Io.KnownBytes.{Appends}
 use Rattle.std.proofs.lemmas.List.{append-nil}
+use Rattle.std.proofs.lemmas.Result.{on_ok_weaker}
 use Rattle.std.proofs.Output.{if_some_weaken, then_text_assoc}
 use Rattle.postcard_dyn_schema.specs.declared.schema.Schema.{Schema}
+use Rattle.postcard_dyn_schema.specs.Grammar.{IsExpression}
 use Rattle.postcard_dyn_schema.specs.Meaning.{type_of, has_bytes}
 use Rattle.postcard_dyn.specs.declared.value.Value.{Value}
 use Rattle.postcard_dyn.proofs.Bytes.{type_some}
 use Rattle.postcard_dyn_text.proofs.Joined.{none_after, none_before}
-use Rattle.postcard_cli.specs.Message.{line_of, lines_of, Prints, ReadsValue, ReadsValues}
+use Rattle.postcard_cli.specs.Message.{line_of, lines_of, Prints, PrintsGiven, ReadsValue, ReadsValues}
+use Rattle.postcard_cli.specs.declared.failure.Failure.{Failure}
 
 -- Two texts in a row are printed if each is.
 pub prints_both : (o p : Option (List ℕ)) (a b c : Option (List ℕ)) → Prints o a b → Prints p b c → Prints (o ++? p) a c
@@ -65,3 +68,10 @@ takes_some s bytes v rest h r =
     let some = type_some (type_of s) h r.tree r.front r.is_read r.is_spelled in
     let n = ap length r.joins ∙ length-append r.front rest in
     omega arith
+
+-- What is printed of bytes that are given is printed of the expression.
+pub given_printed : (Shows : Schema → List ℕ → Option (List ℕ) → Option (List ℕ) → Type 0) (IsGiven : List ℕ → Type 0) (expression : List ℕ) (old new : Option (List ℕ))
+    (schema : Schema) (bytes : List ℕ) (r : Result (Unit {0}) Failure) → IsExpression schema expression → IsGiven bytes → OnOk r (Shows schema bytes old new)
+    → OnOk r (PrintsGiven Shows IsGiven expression old new)
+given_printed Shows IsGiven expression old new schema bytes r spelled given shown =
+    on_ok_weaker r (λ h. record { schema = schema; spelled = spelled; bytes = bytes; given = given; shown = h }) shown

@@ -9,7 +9,7 @@ use Rattle.postcard_wire.specs.declared.error.Error.{Error}
 use Rattle.postcard_wire.specs.declared.error.Error.TheVariants.{OutOfMemory}
 use Rattle.postcard_shape.specs.Shape.{memory}
 use Rattle.postcard_de.specs.Reads.{IsReadError}
-use Rattle.postcard_dyn_schema.specs.declared.schema.Leaf.{Leaf}
+use Rattle.postcard_dyn_schema.specs.LeafNames.{leaf_name}
 use Rattle.postcard_dyn_schema.specs.declared.schema.Leaf.TheVariants as leaves
 use Rattle.postcard_dyn_schema.specs.declared.schema.Schema.{Schema}
 use Rattle.postcard_dyn_schema.specs.Grammar.{IsExpression}
@@ -19,8 +19,8 @@ use Rattle.postcard_dyn.specs.declared.explain.Expected.{Expected}
 use Rattle.postcard_dyn.specs.declared.explain.Expected.TheVariants as expectations
 use Rattle.postcard_dyn.specs.declared.explain.Label.{Label}
 use Rattle.postcard_dyn.specs.declared.explain.Label.TheVariants.{Whole, Field, Part, Element}
-use Rattle.postcard_dyn.specs.declared.explain.Node.{Node}
-use Rattle.postcard_dyn.specs.declared.explain.Node.TheVariants.{Value, Absent, Present, Count, Variant, Parts, More, Refused, Rest}
+use Rattle.postcard_dyn.specs.declared.explain.LineKind.{LineKind}
+use Rattle.postcard_dyn.specs.declared.explain.LineKind.TheVariants.{Value, Absent, Present, Count, Variant, Parts, MoreElements, Refused, AfterValue}
 use Rattle.postcard_dyn.specs.declared.explain.Line.{Line}
 use Rattle.postcard_dyn_text.specs.Shown.{layout_of, text}
 use Rattle.postcard_cli.specs.Message.{StandsFor}
@@ -36,8 +36,8 @@ title_text (Part i) = codes "." ++ decimal i
 title_text (Element i) = codes "[" ++ (decimal i ++ codes "]")
 
 -- What stands between what a part is called and its value.
-abbrev pub separator_text : Label → Node → List ℕ
-separator_text Whole node = []
+abbrev pub separator_text : Label → LineKind → List ℕ
+separator_text Whole kind = []
 separator_text _ Parts = codes ":"
 separator_text _ _ = codes ": "
 
@@ -45,47 +45,29 @@ separator_text _ _ = codes ": "
 abbrev pub elements_text : ℕ → List ℕ
 elements_text n = if nat_eq n 1 then codes "element" else codes "elements"
 
--- What a type without parts is called where it is expected.
-abbrev pub leaf_text : Leaf → List ℕ
-leaf_text leaves.Bool = codes "bool: 00 or 01"
-leaf_text leaves.U8 = codes "u8"
-leaf_text leaves.U16 = codes "u16"
-leaf_text leaves.U32 = codes "u32"
-leaf_text leaves.U64 = codes "u64"
-leaf_text leaves.U128 = codes "u128"
-leaf_text leaves.I8 = codes "i8"
-leaf_text leaves.I16 = codes "i16"
-leaf_text leaves.I32 = codes "i32"
-leaf_text leaves.I64 = codes "i64"
-leaf_text leaves.I128 = codes "i128"
-leaf_text leaves.F32 = codes "f32"
-leaf_text leaves.F64 = codes "f64"
-leaf_text leaves.Char = codes "char"
-leaf_text leaves.Str = codes "str"
-leaf_text leaves.Bytes = codes "bytes"
-
 -- What is expected where a part can't be read.
 abbrev pub expected_text : Expected → List ℕ
-expected_text (expectations.Leaf l) = leaf_text l
+expected_text (expectations.Leaf leaves.Bool) = codes "bool: 00 or 01"
+expected_text (expectations.Leaf l) = leaf_name l
 expected_text expectations.Option = codes "an option: 00 or 01"
 expected_text expectations.Count = codes "the number of elements"
 expected_text expectations.Variant = codes "the index of a variant"
 expected_text expectations.Element = codes "an element"
 
 -- What a line's bytes are, or `None` if nothing is said of the text of a value, as for `dec`.
-abbrev pub node_text : Node → Option (List ℕ)
-node_text (Value s v) = text (layout_of s.now) (tree v)
-node_text Absent = Some (codes "None")
-node_text Present = Some (codes "Some")
-node_text (Count n) = Some (decimal n ++ (codes " " ++ elements_text n))
-node_text (Variant i r) = Some (r.now ++ (codes " (variant " ++ (decimal i ++ codes ")")))
-node_text Parts = Some []
-node_text (More n) = Some (codes "and " ++ (decimal n ++ codes " more"))
-node_text (Refused e) = Some (codes "expected " ++ expected_text e)
-node_text Rest = Some (codes "after the value")
+abbrev pub kind_text : LineKind → Option (List ℕ)
+kind_text (Value s v) = text (layout_of s.now) (tree v)
+kind_text Absent = Some (codes "None")
+kind_text Present = Some (codes "Some")
+kind_text (Count n) = Some (decimal n ++ (codes " " ++ elements_text n))
+kind_text (Variant i r) = Some (r.now ++ (codes " (variant " ++ (decimal i ++ codes ")")))
+kind_text Parts = Some []
+kind_text (MoreElements n) = Some (codes "and " ++ (decimal n ++ codes " more"))
+kind_text (Refused e) = Some (codes "expected " ++ expected_text e)
+kind_text AfterValue = Some (codes "after the value")
 
 abbrev pub told_text : Line → Option (List ℕ)
-told_text line = Some (title_text line.label ++ separator_text line.label line.node) ++? node_text line.node
+told_text line = Some (title_text line.label ++ separator_text line.label line.kind) ++? kind_text line.kind
 
 -- A byte in hexadecimal, with a blank after it, and bytes so.
 abbrev pub spaced_byte : ℕ → List ℕ

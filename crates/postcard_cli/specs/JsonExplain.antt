@@ -13,8 +13,8 @@ use Rattle.postcard_dyn_schema.specs.Grammar.{IsExpression}
 use Rattle.postcard_dyn.specs.Explained.{IsExplained, HasNoFront, bytes_of}
 use Rattle.postcard_dyn.specs.declared.explain.Label.{Label}
 use Rattle.postcard_dyn.specs.declared.explain.Label.TheVariants.{Whole, Field, Part, Element}
-use Rattle.postcard_dyn.specs.declared.explain.Node.{Node}
-use Rattle.postcard_dyn.specs.declared.explain.Node.TheVariants.{Value, Absent, Present, Count, Variant, Parts, More, Refused, Rest}
+use Rattle.postcard_dyn.specs.declared.explain.LineKind.{LineKind}
+use Rattle.postcard_dyn.specs.declared.explain.LineKind.TheVariants.{Value, Absent, Present, Count, Variant, Parts, MoreElements, Refused, AfterValue}
 use Rattle.postcard_dyn.specs.declared.explain.Line.{Line}
 use Rattle.postcard_cli.specs.Explain.{expected_text}
 use Rattle.postcard_cli.specs.JsonMessage.{IsJsonOf, field_text}
@@ -33,15 +33,15 @@ labelled around (Part i) = dotted around ++ decimal i
 labelled around (Element i) = element_path around i
 
 -- The path around the parts of a part with this path: the name of a variant belongs to it.
-abbrev pub entered : List ℕ → Node → List ℕ
+abbrev pub entered : List ℕ → LineKind → List ℕ
 entered path (Variant i r) = dotted path ++ r.now
-entered path node = path
+entered path kind = path
 
 -- The path around a line of this depth after other lines, of which the last comes first here: that of the last line that is less deep.
 abbrev pub path_around : List Line → ℕ → List ℕ
 path_around [] depth = []
 path_around (line ∷ before) depth =
-    if nat_lt line.depth depth then entered (labelled (path_around before line.depth) line.label) line.node else path_around before depth
+    if nat_lt line.depth depth then entered (labelled (path_around before line.depth) line.label) line.kind else path_around before depth
 
 -- The path of a line after these.
 abbrev pub path_after : List Line → Line → List ℕ
@@ -63,21 +63,21 @@ error_member None = []
 error_member (Some e) = codes ",\"error\":\"" ++ (reason_text e ++ codes "\"")
 
 -- The members that say what a line's bytes are.
-abbrev pub IsMembers : Option Error → Node → List ℕ → Type 0
-IsMembers refused (Value s v) members = (text : List ℕ) × IsJsonOf s.now v text × (members ≡ codes ",\"value\":" ++ text)
-IsMembers refused Absent members = members ≡ codes ",\"option\":\"None\""
-IsMembers refused Present members = members ≡ codes ",\"option\":\"Some\""
-IsMembers refused (Count n) members = members ≡ codes ",\"count\":" ++ decimal n
-IsMembers refused (Variant i r) members = members ≡ codes ",\"variant\":" ++ (quoted r.now ++ (codes ",\"index\":" ++ decimal i))
-IsMembers refused Parts members = members ≡ []
-IsMembers refused (More n) members = members ≡ codes ",\"more\":" ++ decimal n
-IsMembers refused (Refused x) members = members ≡ error_member refused ++ (codes ",\"expected\":\"" ++ (expected_text x ++ codes "\""))
-IsMembers refused Rest members = members ≡ codes ",\"rest\":true"
+abbrev pub IsMembers : Option Error → LineKind → List ℕ → Type 0
+IsMembers error (Value s v) members = (text : List ℕ) × IsJsonOf s.now v text × (members ≡ codes ",\"value\":" ++ text)
+IsMembers error Absent members = members ≡ codes ",\"option\":\"None\""
+IsMembers error Present members = members ≡ codes ",\"option\":\"Some\""
+IsMembers error (Count n) members = members ≡ codes ",\"count\":" ++ decimal n
+IsMembers error (Variant i r) members = members ≡ codes ",\"variant\":" ++ (quoted r.now ++ (codes ",\"index\":" ++ decimal i))
+IsMembers error Parts members = members ≡ []
+IsMembers error (MoreElements n) members = members ≡ codes ",\"more\":" ++ decimal n
+IsMembers error (Refused x) members = members ≡ error_member error ++ (codes ",\"expected\":\"" ++ (expected_text x ++ codes "\""))
+IsMembers error AfterValue members = members ≡ codes ",\"rest\":true"
 
 -- The end of a row. That of a part that can't be read comes once the call has failed.
-abbrev pub row_end : Node → List ℕ
+abbrev pub row_end : LineKind → List ℕ
 row_end (Refused x) = []
-row_end node = 10 ∷ []
+row_end kind = 10 ∷ []
 
 -- The row of a line before whose bytes there are `at`: this offset, the bytes, the path, and what the bytes are.
 abbrev pub row_text : ℕ → List ℕ → List ℕ → List ℕ → List ℕ → List ℕ
@@ -87,16 +87,16 @@ row_text at bytes path members end =
 
 -- The row of a line with this path is printed.
 abbrev pub PrintsJsonRow : Option Error → ℕ → List ℕ → Line → Option (List ℕ) → Option (List ℕ) → Type 0
-PrintsJsonRow refused at path line old new =
-    (members : List ℕ) × IsMembers refused line.node members
-    × Appends old new (row_text at line.bytes.now path members (row_end line.node))
+PrintsJsonRow error at path line old new =
+    (members : List ℕ) × IsMembers error line.kind members
+    × Appends old new (row_text at line.bytes.now path members (row_end line.kind))
 
 -- The rows of lines are printed, in order, where `at` bytes and the lines `before` come before the first, the last of them first.
 abbrev pub PrintsJsonRows : Option Error → ℕ → List Line → List Line → Option (List ℕ) → Option (List ℕ) → Type 0
-PrintsJsonRows refused at before [] old new = Appends old new []
-PrintsJsonRows refused at before (line ∷ lines) old new =
-    (mid : Option (List ℕ)) × PrintsJsonRow refused at (path_after before line) line old mid
-    × PrintsJsonRows refused (at + length line.bytes.now) (line ∷ before) lines mid new
+PrintsJsonRows error at before [] old new = Appends old new []
+PrintsJsonRows error at before (line ∷ lines) old new =
+    (mid : Option (List ℕ)) × PrintsJsonRow error at (path_after before line) line old mid
+    × PrintsJsonRows error (at + length line.bytes.now) (line ∷ before) lines mid new
 
 -- The bytes of HEX begin with a value of the expression, and the rows of lines that explain them are printed.
 pub record PrintsExplainedJson (expression hex : List ℕ) (known left old new : Option (List ℕ)) : Type 0 where

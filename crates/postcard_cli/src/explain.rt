@@ -8,7 +8,8 @@ ghost use Rattle.postcard_wire.specs.declared.error.Error.TheVariants.{OutOfMemo
 ghost use Rattle.postcard_dyn.specs.Tree.{tree};
 ghost use Rattle.postcard_dyn_text.specs.Shown.{layout_of, text};
 ghost use Rattle.postcard_cli.specs.Explain.{IsCut, PrintsExplained, PrintsRow, PrintsRows};
-ghost use Rattle.postcard_cli.specs.Explain.{bytes_text, elements_text, expected_text, leaf_text, node_text, offset_text};
+ghost use Rattle.postcard_cli.specs.Explain.{bytes_text, elements_text, expected_text};
+ghost use Rattle.postcard_cli.specs.Explain.{kind_text, offset_text};
 ghost use Rattle.postcard_cli.specs.Explain.{separator_text, spaced, title_text, told_text};
 ghost use Rattle.postcard_cli.specs.Refusal.{ExplainFails};
 ghost use Rattle.postcard_cli.specs.declared.explain.Layout.{Layout};
@@ -19,7 +20,7 @@ use crate::limits::READS;
 use crate::message::{print_refused, schema_of};
 use crate::place::place_of;
 use postcard_de_flavors::Source;
-use postcard_dyn::explain::{Expected, Label, Line, Node, explain};
+use postcard_dyn::explain::{Expected, Label, Line, LineKind, explain};
 use postcard_dyn::{Leaf, Schema, Value, refused_at};
 use postcard_dyn_text::Shown;
 use std::alloc::Global;
@@ -262,8 +263,8 @@ impl fmt::Display for Told<'_> {
     fn fmt<W: fmt::Write>(&self, f: &mut fmt::Formatter<W>) -> fmt::Result {
         let line = self.0;
         show_title(line.label, f)?;
-        f.write_str(separator(line.label, &line.node))?;
-        show_node(&line.node, f)
+        f.write_str(separator(line.label, &line.kind))?;
+        show_kind(&line.kind, f)
     }
 }
 
@@ -280,38 +281,38 @@ fn show_title<W: fmt::Write>(label: Label<'_>, f: &mut fmt::Formatter<W>) -> fmt
 }
 
 /// Returns what stands between what a part is called and its value.
-fn separator(label: Label<'_>, node: &Node<'_>) -> &'static str
-    ensures { result.now ≡ separator_text label.entry node.now }
+fn separator(label: Label<'_>, kind: &LineKind<'_>) -> &'static str
+    ensures { result.now ≡ separator_text label.entry kind.now }
 {
     match label {
         Label::Whole => "",
-        _ => match node {
-            Node::Parts => ":",
+        _ => match kind {
+            LineKind::Parts => ":",
             _ => ": ",
         },
     }
 }
 
 /// Prints what the bytes of a line are.
-fn show_node<W: fmt::Write>(node: &Node<'_>, f: &mut fmt::Formatter<W>) -> fmt::Result
-    ensures { DisplaysOnOk W.write_str_gives f.old result (node_text node.now) f.new }
+fn show_kind<W: fmt::Write>(kind: &LineKind<'_>, f: &mut fmt::Formatter<W>) -> fmt::Result
+    ensures { DisplaysOnOk W.write_str_gives f.old result (kind_text kind.now) f.new }
 {
-    match node {
-        Node::Value(schema, value) => show_value(schema, value, f),
-        Node::Absent => f.write_str("None"),
-        Node::Present => f.write_str("Some"),
-        Node::Count(count) => {
+    match kind {
+        LineKind::Value(schema, value) => show_value(schema, value, f),
+        LineKind::Absent => f.write_str("None"),
+        LineKind::Present => f.write_str("Some"),
+        LineKind::Count(count) => {
             let noun = noun(*count);
             write!(f, "{count} {noun}")
         }
-        Node::Variant(index, name) => write!(f, "{name} (variant {index})"),
-        Node::Parts => Ok(()),
-        Node::More(count) => write!(f, "and {count} more"),
-        Node::Refused(expected) => {
+        LineKind::Variant(index, name) => write!(f, "{name} (variant {index})"),
+        LineKind::Parts => Ok(()),
+        LineKind::MoreElements(count) => write!(f, "and {count} more"),
+        LineKind::Refused(expected) => {
             f.write_str("expected ")?;
             f.write_str(words_of(*expected))
         }
-        Node::Rest => f.write_str("after the value"),
+        LineKind::AfterValue => f.write_str("after the value"),
     }
 }
 
@@ -340,34 +341,11 @@ pub fn words_of(expected: Expected) -> &'static str
     ensures { result.now ≡ expected_text expected }
 {
     match expected {
-        Expected::Leaf(leaf) => name_of(leaf),
+        Expected::Leaf(Leaf::Bool) => "bool: 00 or 01",
+        Expected::Leaf(leaf) => leaf.name(),
         Expected::Option => "an option: 00 or 01",
         Expected::Count => "the number of elements",
         Expected::Variant => "the index of a variant",
         Expected::Element => "an element",
-    }
-}
-
-/// Returns the name of a type without parts.
-fn name_of(leaf: Leaf) -> &'static str
-    ensures { result.now ≡ leaf_text leaf }
-{
-    match leaf {
-        Leaf::Bool => "bool: 00 or 01",
-        Leaf::U8 => "u8",
-        Leaf::U16 => "u16",
-        Leaf::U32 => "u32",
-        Leaf::U64 => "u64",
-        Leaf::U128 => "u128",
-        Leaf::I8 => "i8",
-        Leaf::I16 => "i16",
-        Leaf::I32 => "i32",
-        Leaf::I64 => "i64",
-        Leaf::I128 => "i128",
-        Leaf::F32 => "f32",
-        Leaf::F64 => "f64",
-        Leaf::Char => "char",
-        Leaf::Str => "str",
-        Leaf::Bytes => "bytes",
     }
 }

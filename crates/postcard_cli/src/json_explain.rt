@@ -1,8 +1,8 @@
 //! The command `explain --json`, which prints which bytes of a message are which part of its value, as
 //! lines of JSON.
 
-ghost use Rattle.std.specs.Prelude.{◌≡◌, ◌⊎◌, ◌++◌, ◌∷◌, ◌≤◌, [], ℕ, IfOk, IfErr, OnOk, codes};
-ghost use Rattle.std.specs.Prelude.{List, length, string_bytes, take};
+ghost use Rattle.std.specs.Prelude.{◌≡◌, ◌⊎◌, ◌++◌, ◌∷◌, ◌-◌, ◌<◌, ◌≤◌, [], ℕ, IfOk, IfErr, OnOk, codes};
+ghost use Rattle.std.specs.Prelude.{List, get_or, length, string_bytes, take};
 ghost use Rattle.postcard_wire.specs.declared.error.Error.TheVariants.{OutOfMemory, WontImplement};
 ghost use Rattle.postcard_cli.specs.Explain.{expected_text};
 ghost use Rattle.postcard_cli.specs.JsonExplain.{IsMembers, PrintsExplainedJson, PrintsJsonRow};
@@ -20,7 +20,7 @@ use crate::message::schema_of;
 use crate::place::push_dot;
 use crate::reason::reason;
 use postcard_de_flavors::Source;
-use postcard_dyn::explain::{Expected, Label, Line, Node, explain};
+use postcard_dyn::explain::{Expected, Label, Line, LineKind, explain};
 use postcard_wire::Error;
 use std::alloc::Global;
 use std::io::Write;
@@ -69,11 +69,11 @@ pub fn print<R: Source, W: Write>(
 /// Prints the rows of lines, with the error by which the bytes are refused, if they are.
 fn print_lines<W: Write>(
     alloc: Global,
-    refused: &Option<Error>,
+    error: &Option<Error>,
     lines: &Vec<Line<'_>>,
     output: &mut W,
 ) -> Result<(), Failure>
-    ensures printed { OnOk result (PrintsJsonRows refused.now 0 [] lines.now.items
+    ensures printed { OnOk result (PrintsJsonRows error.now 0 [] lines.now.items
         (W.contents output.old) (W.contents output.new)) }
     ensures refused { IfErr result (λ e. (e ≡ Failure.Output)
         ⊎ ((e ≡ Failure.Library OutOfMemory) ⊎ (e ≡ Failure.Library WontImplement))) }
@@ -83,7 +83,7 @@ fn print_lines<W: Write>(
     for line in lines {
         leave(&mut around, line.depth);
         let path = path_of(alloc, &around, line)?;
-        print_row(alloc, refused, at, &path, line, output)?;
+        print_row(alloc, error, at, &path, line, output)?;
         enter(&mut around, line, path)?;
         at = at.saturating_add(line.bytes.len() as u64);
     }
@@ -102,6 +102,8 @@ fn leave(around: &mut Vec<Open>, depth: usize)
 /// Returns how many of the open parts are left without those at the end that are as deep or deeper.
 fn count_around(around: &[Open], depth: usize) -> usize
     ensures within { result ≤ length around.now }
+    ensures last { 0 < result → (part : Open) → part ≡ get_or around.now (result - 1) part
+        → part.depth < depth }
     ensures same { (d : ℕ) → d ≤ depth
         → path_in (take result around.now) d ≡ path_in around.now d }
 {
@@ -130,15 +132,10 @@ fn path_of(alloc: Global, around: &[Open], line: &Line<'_>) -> Result<String, Fa
 fn innermost(around: &[Open], depth: usize) -> &str
     ensures { result.now ≡ path_in around.now depth }
 {
-    let mut count = around.len();
-    'parts: while count > 0 {
-        let part = &around[count - 1];
-        if part.depth < depth {
-            return part.path.as_str();
-        }
-        count -= 1;
+    match count_around(around, depth).checked_sub(1) {
+        Some(last) => around[last].path.as_str(),
+        None => "",
     }
-    ""
 }
 
 /// Appends what a part is called to the path of the part around it.
@@ -170,10 +167,10 @@ fn push_label(label: Label<'_>, path: &mut String) -> Result<(), Failure>
 fn enter(around: &mut Vec<Open>, line: &Line<'_>, path: String) -> Result<(), Failure>
     ensures added { OnOk result ((part : Open) × (around.new.items ≡ around.old.items ++ part ∷ [])
         × (part.depth ≡ line.now.depth)
-        × (string_bytes part.path ≡ entered (string_bytes path) line.now.node)) }
+        × (string_bytes part.path ≡ entered (string_bytes path) line.now.kind)) }
     ensures refused { IfErr result (λ e. e ≡ Failure.Library OutOfMemory) }
 {
-    let path = inner_path(path, &line.node)?;
+    let path = inner_path(path, &line.kind)?;
     around.push(Open {
         depth: line.depth,
         path,
@@ -182,13 +179,13 @@ fn enter(around: &mut Vec<Open>, line: &Line<'_>, path: String) -> Result<(), Fa
 }
 
 /// Returns the path around the parts of a part with this path: the name of a variant belongs to it.
-fn inner_path(path: String, node: &Node<'_>) -> Result<String, Failure>
+fn inner_path(path: String, kind: &LineKind<'_>) -> Result<String, Failure>
     ensures path { IfOk result
-        (λ inner. string_bytes inner ≡ entered (string_bytes path) node.now) }
+        (λ inner. string_bytes inner ≡ entered (string_bytes path) kind.now) }
     ensures refused { IfErr result (λ e. e ≡ Failure.Library OutOfMemory) }
 {
-    match node {
-        Node::Variant(_, name) => {
+    match kind {
+        LineKind::Variant(_, name) => {
             let mut inner = path;
             push_dot(&mut inner)?;
             inner.push_str(name)?;
@@ -202,20 +199,20 @@ fn inner_path(path: String, node: &Node<'_>) -> Result<String, Failure>
 /// memory is made before the row is begun.
 fn print_row<W: Write>(
     alloc: Global,
-    refused: &Option<Error>,
+    error: &Option<Error>,
     at: u64,
     path: &str,
     line: &Line<'_>,
     output: &mut W,
 ) -> Result<(), Failure>
-    ensures printed { OnOk result (PrintsJsonRow refused.now at path.now line.now
+    ensures printed { OnOk result (PrintsJsonRow error.now at path.now line.now
         (W.contents output.old) (W.contents output.new)) }
     ensures refused { IfErr result (λ e. (e ≡ Failure.Output)
         ⊎ ((e ≡ Failure.Library OutOfMemory) ⊎ (e ≡ Failure.Library WontImplement))) }
 {
     let field = field_of(alloc, path)?;
-    let members = members_of(alloc, refused, &line.node)?;
-    let end = end_of(&line.node);
+    let members = members_of(alloc, error, &line.kind)?;
+    let end = end_of(&line.kind);
     write!(output, "{{\"at\":{at},\"bytes\":\"")?;
     hexadecimal::write(line.bytes, output)?;
     write!(output, "\"{field}{members}}}{end}")?;
@@ -223,28 +220,28 @@ fn print_row<W: Write>(
 }
 
 /// Returns the members that say what the bytes of a line are.
-fn members_of(alloc: Global, refused: &Option<Error>, node: &Node<'_>) -> Result<String, Failure>
+fn members_of(alloc: Global, error: &Option<Error>, kind: &LineKind<'_>) -> Result<String, Failure>
     ensures told { IfOk result
-        (λ members. IsMembers refused.now node.now (string_bytes members)) }
+        (λ members. IsMembers error.now kind.now (string_bytes members)) }
     ensures refused { IfErr result (λ e. (e ≡ Failure.Library OutOfMemory)
         ⊎ (e ≡ Failure.Library WontImplement)) }
 {
-    match node {
-        Node::Value(schema, value) => {
+    match kind {
+        LineKind::Value(schema, value) => {
             let text = text_of(alloc, schema, value)?;
             Ok(format!(in alloc; ",\"value\":{text}")?)
         }
-        Node::Absent => Ok(String::from_str(alloc, ",\"option\":\"None\"")?),
-        Node::Present => Ok(String::from_str(alloc, ",\"option\":\"Some\"")?),
-        Node::Count(count) => Ok(format!(in alloc; ",\"count\":{count}")?),
-        Node::Variant(index, name) => {
+        LineKind::Absent => Ok(String::from_str(alloc, ",\"option\":\"None\"")?),
+        LineKind::Present => Ok(String::from_str(alloc, ",\"option\":\"Some\"")?),
+        LineKind::Count(count) => Ok(format!(in alloc; ",\"count\":{count}")?),
+        LineKind::Variant(index, name) => {
             let name = quote(alloc, name)?;
             Ok(format!(in alloc; ",\"variant\":{name},\"index\":{index}")?)
         }
-        Node::Parts => Ok(String::new(alloc)),
-        Node::More(count) => Ok(format!(in alloc; ",\"more\":{count}")?),
-        Node::Refused(expected) => expected_members(alloc, refused, *expected),
-        Node::Rest => Ok(String::from_str(alloc, ",\"rest\":true")?),
+        LineKind::Parts => Ok(String::new(alloc)),
+        LineKind::MoreElements(count) => Ok(format!(in alloc; ",\"more\":{count}")?),
+        LineKind::Refused(expected) => expected_members(alloc, error, *expected),
+        LineKind::AfterValue => Ok(String::from_str(alloc, ",\"rest\":true")?),
     }
 }
 
@@ -252,15 +249,15 @@ fn members_of(alloc: Global, refused: &Option<Error>, node: &Node<'_>) -> Result
 /// expected.
 fn expected_members(
     alloc: Global,
-    refused: &Option<Error>,
+    error: &Option<Error>,
     expected: Expected,
 ) -> Result<String, Failure>
-    ensures told { IfOk result (λ members. string_bytes members ≡ error_member refused.now
+    ensures told { IfOk result (λ members. string_bytes members ≡ error_member error.now
         ++ (codes ",\"expected\":\"" ++ (expected_text expected ++ codes "\""))) }
     ensures refused { IfErr result (λ e. e ≡ Failure.Library OutOfMemory) }
 {
     let words = words_of(expected);
-    match refused {
+    match error {
         Some(error) => {
             let why = reason(error);
             Ok(format!(in alloc; ",\"error\":\"{why}\",\"expected\":\"{words}\"")?)
@@ -271,11 +268,11 @@ fn expected_members(
 
 /// Returns what ends the row of a line: a line feed, but nothing for a part that can't be read, whose
 /// row ends once the call has failed.
-fn end_of(node: &Node<'_>) -> &'static str
-    ensures { result.now ≡ row_end node.now }
+fn end_of(kind: &LineKind<'_>) -> &'static str
+    ensures { result.now ≡ row_end kind.now }
 {
-    match node {
-        Node::Refused(_) => "",
+    match kind {
+        LineKind::Refused(_) => "",
         _ => "\n",
     }
 }

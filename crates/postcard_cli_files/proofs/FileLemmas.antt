@@ -1,7 +1,7 @@
 -- What the bytes are that were read of a file, of which one byte more than the longest file has is asked for, and what is wrong with it.
 use Rattle.std.proofs.Common.{◌≡◌, ℕ, ◌<◌, ◌≤◌, List, length, take, take_all, sym, ap, subst, ◌∙◌, arith}
 use Rattle.std.proofs.lemmas.List.{length-take}
-use Rattle.postcard_dyn_file.specs.Files.{HasFaultOf, IsWithin}
+use Rattle.postcard_dyn_file.specs.Files.{HasProblemOf, IsWithin}
 use Rattle.postcard_dyn_file.specs.declared.error.FileError.{FileError}
 use Rattle.postcard_cli_files.specs.TypeName.{IsWrong, IsFaultOf, IsFaultBy}
 use Rattle.postcard_cli_files.specs.declared.fault.TypeFault.{TypeFault}
@@ -27,11 +27,11 @@ long_file gives lacks file name bytes fault (content, given, is) equal more =
 
 -- The fault of an error of the file with these bytes.
 pub fault_from : (gives : List ℕ → List ℕ → Type 0) (lacks : List ℕ → Type 0) (file name content text : List ℕ) (error : FileError) (fault : TypeFault)
-    → gives file content → text ≡ content → HasFaultOf text name error.problem → IsWithin text error → IsFaultBy error fault → IsFaultOf gives lacks file name fault
+    → gives file content → text ≡ content → HasProblemOf text name error.problem → IsWithin text error → IsFaultBy error fault → IsFaultOf gives lacks file name fault
 fault_from gives lacks file name content text error Unreadable given same has within by = absurd by
 fault_from gives lacks file name content text error TooLong given same has within by = absurd by
 fault_from gives lacks file name content text error NoText given same has within by = absurd by
 fault_from gives lacks file name content text error (Wrong wrong) given same has within (is, other) =
-    let moved : IsWrong content name error = (subst (λ t. HasFaultOf t name error.problem) same has, subst (λ t. IsWithin t error) same within, other) in
+    let moved : IsWrong content name error = (subst (λ t. HasProblemOf t name error.problem) same has, subst (λ t. IsWithin t error) same within, other) in
     (content, given, subst (IsWrong content name) (sym is) moved)
 fault_from gives lacks file name content text error OutOfMemory given same has within by = tt

@@ -2,7 +2,7 @@
 use Rattle.std.specs.Prelude.{◌≡◌, ◌≢◌, ⊤, ℕ, ◌<◌, List, ◌∷◌, ◌++◌, length, slice_index}
 use Rattle.std.specs.Str.{IsUtf8}
 use Rattle.postcard_dyn_schema.specs.declared.error.Problem.TheVariants as problems
-use Rattle.postcard_dyn_file.specs.Files.{IsExpressionOf, HasFaultOf, IsWithin}
+use Rattle.postcard_dyn_file.specs.Files.{IsExpressionOf, HasProblemOf, IsWithin}
 use Rattle.postcard_dyn_file.specs.declared.error.FileError.{FileError}
 use Rattle.postcard_dyn_file.specs.declared.error.FileProblem.TheVariants.{Expression}
 use Rattle.postcard_cli_files.specs.declared.fault.TypeFault.{TypeFault}
@@ -18,7 +18,7 @@ Declares gives file name text = (content : List ℕ) × gives file content × Is
 
 -- The file has no such type, by this error, whose place is one in the file, and which is none of memory.
 abbrev pub IsWrong : List ℕ → List ℕ → FileError → Type 0
-IsWrong content name error = HasFaultOf content name error.problem × IsWithin content error × (error.problem ≢ Expression problems.OutOfMemory)
+IsWrong content name error = HasProblemOf content name error.problem × IsWithin content error × (error.problem ≢ Expression problems.OutOfMemory)
 
 -- The name stands for no type, since the file can't be read, has too many bytes, is no text, or has no such type; or memory is lacking.
 abbrev pub IsFaultOf : (List ℕ → List ℕ → Type 0) → (List ℕ → Type 0) → List ℕ → List ℕ → TypeFault → Type 0

@@ -2,7 +2,7 @@
 use Rattle.std.proofs.Common.{◌≡◌, ℕ, zero, suc, ◌/◌, ◌%◌, ◌^◌, ◌≤◌, List, ◌∷◌, take, refl, sym, ap, ap₂, ◌∙◌, pow-suc, div-one, arith}
 use Rattle.std.specs.Int.{w128, byte_at, bytes_low_first, to_le_bytes}
 use Rattle.std.proofs.Math.Nat.{div-div-eq-div-mul}
-use Rattle.crc.specs.Frame.{low_bytes}
+use Rattle.crc.specs.Checked.{low_bytes}
 
 -- The bytes of a number by their places.
 by_places : (k i n : ℕ) → bytes_low_first i k n ≡ low_bytes k (n / 256 ^ i)

@@ -1,10 +1,10 @@
--- What was read to its end is a frame, so that a burst is seen.
+-- What was read to its end is a checked message, so that a burst is seen.
 use Rattle.std.proofs.Common.{◌≡◌, ℕ, suc, ◌+◌, ◌-◌, ◌*◌, ◌<◌, List, [], ◌∷◌, ◌++◌, get_or, sym, ap, subst, ◌∙◌, append-nil, bit_xor, arith}
 use Rattle.crc.specs.Crc.{Parameters, message}
 use Rattle.crc.specs.Digest.{Progress, Took}
-use Rattle.crc.specs.Frame.{low_bytes, AreBytes}
+use Rattle.crc.specs.Checked.{low_bytes, AreBytes}
 use Rattle.crc.specs.Damage.{IsBurst}
-use Rattle.crc.proofs.FrameLemmas.{no_burst_in_frame}
+use Rattle.crc.proofs.CheckedLemmas.{no_burst_in_checked}
 use Rattle.postcard_wire.specs.Tree.{Tree}
 use Rattle.postcard_crc.specs.Reading.{ReadsChecked, IsDamaged}
 
@@ -21,5 +21,5 @@ not_damaged reads value k d bytes v rest r are a sent none damage end =
     let narrow = damage.narrow in
     let size : a.width + (8 * k - a.width) ≡ 8 * k = omega arith in
     let burst : IsBurst a.width (bit_xor (message a.refin sent) (message a.refin bytes)) = subst (λ o. IsBurst a.width (bit_xor (message o sent) (message o bytes))) (sym damage.refin) damage.burst in
-    no_burst_in_frame a damage.sound k (8 * k - a.width) damage.refin damage.refout size sent bytes damage.length damage.are_bytes are damage.is_frame
+    no_burst_in_checked a damage.sound k (8 * k - a.width) damage.refin damage.refout size sent bytes damage.length damage.are_bytes are damage.is_checked
     (record { bytes = r.front; crc = r.crc; is_crc = r.is_crc a [] none; joins = whole }) burst

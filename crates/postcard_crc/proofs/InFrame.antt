@@ -4,7 +4,7 @@ use Rattle.std.specs.Prelude.{Result, MatchResult, IfErr}
 use Rattle.std.proofs.lemmas.Result.{IfOk-weaker}
 use Rattle.crc.specs.Crc.{Parameters, IsCrc, IsSound}
 use Rattle.crc.specs.Digest.{Progress, Took}
-use Rattle.crc.specs.Frame.{low_bytes}
+use Rattle.crc.specs.Checked.{low_bytes}
 use Rattle.postcard_wire.specs.declared.error.Error.{Error}
 use Rattle.postcard_wire.specs.declared.error.Error.TheVariants.{OutOfMemory, DeserializeBadCrc, DeserializeBadEncoding}
 use Rattle.postcard_wire.specs.Tree.{Tree}

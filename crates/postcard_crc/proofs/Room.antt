@@ -2,8 +2,8 @@
 use Rattle.std.proofs.Common.{◌≡◌, ℕ, ◌+◌, ◌≤◌, List, [], ◌++◌, length, take, ap, Result, Ok, Err, arith, length-append}
 use Rattle.std.specs.Result.{IfOk, IsOk}
 use Rattle.std.proofs.lemmas.List.{length-take}
-use Rattle.crc.specs.Frame.{low_bytes}
-use Rattle.crc.proofs.FrameLemmas.{length_low}
+use Rattle.crc.specs.Checked.{low_bytes}
+use Rattle.crc.proofs.CheckedLemmas.{length_low}
 use Rattle.postcard_ser_flavors.specs.Slice.{Written, Appended, HasRoom, Reaches}
 
 -- What follows at every success from two facts holds at this one.

@@ -2,8 +2,8 @@
 use Rattle.std.proofs.Common.{◌≡◌, ℕ, ◌-◌, ◌<◌, ◌≤◌, List, ◌++◌, length, take, drop, ap, ◌∙◌, length-append, take_all, arith}
 use Rattle.std.proofs.lemmas.List.{take-append-le}
 use Rattle.std.proofs.Math.Seq.{drop-append_seam}
-use Rattle.crc.specs.Frame.{low_bytes}
-use Rattle.crc.proofs.FrameLemmas.{length_low}
+use Rattle.crc.specs.Checked.{low_bytes}
+use Rattle.crc.proofs.CheckedLemmas.{length_low}
 
 -- The bytes before the rest.
 pub front_of : (bytes front rest : List ℕ) → bytes ≡ front ++ rest → take (length bytes - length rest) bytes ≡ front

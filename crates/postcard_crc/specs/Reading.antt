@@ -3,7 +3,7 @@ use Rattle.std.specs.Prelude.{◌≡◌, ◌⊎◌, ℕ, ◌*◌, ◌<◌, ◌�
 use Rattle.std.specs.Prelude.{Result, MatchResult}
 use Rattle.crc.specs.Crc.{Parameters, IsCrc, IsSound, message}
 use Rattle.crc.specs.Digest.{Progress, Took}
-use Rattle.crc.specs.Frame.{low_bytes, AreBytes, IsChecked}
+use Rattle.crc.specs.Checked.{low_bytes, AreBytes, IsChecked}
 use Rattle.crc.specs.Damage.{IsBurst}
 use Rattle.postcard_cobs.specs.Groups.{Groups}
 use Rattle.postcard_wire.specs.Tree.{Tree}
@@ -85,7 +85,7 @@ pub record IsDamaged (k : ℕ) (a : Parameters) (sent came : List ℕ) : Type 0 
   pub narrow : a.width ≤ 8 * k
   pub refin : a.refin ≡ true
   pub refout : a.refout ≡ true
-  pub is_frame : IsChecked a k sent
+  pub is_checked : IsChecked a k sent
   pub are_bytes : AreBytes sent
   pub length : length sent ≡ length came
   pub burst : IsBurst a.width (bit_xor (message true sent) (message true came))

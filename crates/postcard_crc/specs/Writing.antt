@@ -4,7 +4,7 @@ use Rattle.std.proofs.Common.{sym, subst, ◌∙◌, append_assoc, append-nil, a
 use Rattle.std.proofs.lemmas.List.{length-append}
 use Rattle.crc.specs.Crc.{Parameters, IsCrc}
 use Rattle.crc.specs.Digest.{Progress, Took}
-use Rattle.crc.specs.Frame.{low_bytes}
+use Rattle.crc.specs.Checked.{low_bytes}
 use Rattle.postcard_ser_flavors.specs.Flavor.{IsFlavor}
 use Rattle.postcard_cobs.specs.Groups.{made}
 use Rattle.postcard_ser.specs.Finished.{Finished}

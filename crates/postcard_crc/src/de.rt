@@ -8,7 +8,7 @@ ghost use Rattle.std.specs.Prelude.{◌≡◌, ◌≢◌, ◌≤◌, ◌<◌, �
 ghost use Rattle.std.specs.Prelude.{ℕ, List, IfOk, IfErr, IsErrOf, IsErrAnd, OnOk, MatchResult};
 ghost use Rattle.crc.specs.Crc.{Parameters, IsCrc, IsSound};
 ghost use Rattle.crc.specs.Digest.{Took};
-ghost use Rattle.crc.specs.Frame.{low_bytes};
+ghost use Rattle.crc.specs.Checked.{low_bytes};
 ghost use Rattle.postcard_wire.specs.Tree.{Tree};
 ghost use Rattle.postcard_wire.specs.Spelling.{Spells, canonical};
 ghost use Rattle.postcard_de.specs.Reads.{IsReadError};
@@ -149,7 +149,7 @@ pub fn from_bytes_whole<'a, T: Deserialize<'a>, W: Width, I: Implementation<W>>(
     }
 }
 
-// Returns what follows the checksum of the bytes before `rest`, with which `rest` is to begin.
+/// Returns what follows the checksum of the bytes before `rest`, with which `rest` is to begin.
 fn checked<'a, W: Width, I: Implementation<W>>(
     bytes: &'a [u8],
     rest: &'a [u8],
@@ -166,10 +166,10 @@ fn checked<'a, W: Width, I: Implementation<W>>(
     ensures short { length rest.now < W.size → IsErrOf result Error.DeserializeUnexpectedEnd }
     ensures long { W.size ≤ length rest.now → IfErr result (λ e. e ≡ Error.DeserializeBadCrc) }
 {
-    after_crc(rest, crc_before(bytes, rest, digest))
+    after_checksum(rest, crc_before(bytes, rest, digest))
 }
 
-// Returns the checksum of what the digest has taken, and then the bytes before `rest`.
+/// Returns the checksum of what the digest has taken, and then the bytes before `rest`.
 fn crc_before<W: Width, I: Implementation<W>>(
     bytes: &[u8],
     rest: &[u8],
@@ -184,8 +184,8 @@ fn crc_before<W: Width, I: Implementation<W>>(
     digest.finalize()
 }
 
-// Returns what follows the bytes of a checksum, with which `rest` is to begin.
-fn after_crc<W: Width>(rest: &[u8], crc: W) -> Result<&[u8]>
+/// Returns what follows the trailer of the checksum `crc`, with which `rest` is to begin.
+fn after_checksum<W: Width>(rest: &[u8], crc: W) -> Result<&[u8]>
     ensures gives { IfOk result (λ after. rest.now
         ≡ low_bytes W.size (W.number crc) ++ after.now) }
     ensures accepts { (after : List ℕ) → rest.now ≡ low_bytes W.size (W.number crc) ++ after
@@ -197,31 +197,33 @@ fn after_crc<W: Width>(rest: &[u8], crc: W) -> Result<&[u8]>
     if rest.len() < wanted.len {
         return Err(Error::DeserializeUnexpectedEnd);
     }
-    after_checksum(rest, &wanted.bytes[..wanted.len])
+    after_trailer(rest, &wanted.bytes[..wanted.len])
 }
 
-// Returns what follows the checksum `wanted`, with which `rest` is to begin.
-fn after_checksum<'a>(rest: &'a [u8], wanted: &[u8]) -> Result<&'a [u8]>
-    requires { length wanted.now ≤ length rest.now }
-    ensures gives { IfOk result (λ after. rest.now ≡ wanted.now ++ after.now) }
-    ensures accepts { (after : List ℕ) → rest.now ≡ wanted.now ++ after
+/// Returns what follows `trailer`, with which `rest` is to begin.
+fn after_trailer<'a>(rest: &'a [u8], trailer: &[u8]) -> Result<&'a [u8]>
+    requires { length trailer.now ≤ length rest.now }
+    ensures gives { IfOk result (λ after. rest.now ≡ trailer.now ++ after.now) }
+    ensures accepts { (after : List ℕ) → rest.now ≡ trailer.now ++ after
         → MatchResult result (λ r. r.now ≡ after) (λ _. ⊥) }
     ensures named { IfErr result (λ e. e ≡ Error.DeserializeBadCrc) }
 {
-    let (found, after) = rest.split_at(wanted.len());
-    if are_same(found, wanted) {
+    let (found, after) = rest.split_at(trailer.len());
+    if are_same(found, trailer) {
         Ok(after)
     } else {
         Err(Error::DeserializeBadCrc)
     }
 }
 
+/// Is `rest.is_empty()`; apart for its clause, which the proofs cite.
 fn is_end(rest: &[u8]) -> bool
     ensures { IsTrue result ↔ (rest.now ≡ []) }
 {
     rest.is_empty()
 }
 
+/// Is `found == wanted`; apart for its clause, which the proofs cite.
 fn are_same(found: &[u8], wanted: &[u8]) -> bool
     ensures { IsTrue result ↔ (found.now ≡ wanted.now) }
 {

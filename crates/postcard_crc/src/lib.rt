@@ -1,5 +1,5 @@
-//! Messages with a checksum after them: the flavors that write and check it, and the calls over
-//! them.
+//! Messages with a checksum after them, also in frames: the flavors that write and check it, and
+//! the calls over them.
 //!
 //! A message with its checksum is the encoding of a value, and then the checksum of the encoding in
 //! as many bytes as the checksum's type has, the lowest first.

@@ -1,7 +1,7 @@
 //! The bytes of a checksum after a message.
 
 ghost use Rattle.std.specs.Prelude.{◌≡◌, ◌≤◌, take};
-ghost use Rattle.crc.specs.Frame.{low_bytes};
+ghost use Rattle.crc.specs.Checked.{low_bytes};
 
 use crc::Width;
 

@@ -3,8 +3,8 @@ use Rattle.std.proofs.Common.{◌≡◌, ◌+◌, ◌-◌, ◌*◌, ℕ, List, [
 use Rattle.crc.specs.Crc.{Parameters, IsCrc, IsSound, message}
 use Rattle.crc.specs.Digest.{Progress, Took}
 use Rattle.crc.specs.Damage.{IsBurst}
-use Rattle.crc.specs.Frame.{low_bytes}
-use Rattle.crc.proofs.FrameLemmas.{no_burst_in_frame}
+use Rattle.crc.specs.Checked.{low_bytes}
+use Rattle.crc.proofs.CheckedLemmas.{no_burst_in_checked}
 use Rattle.postcard_cobs.specs.Groups.{Groups}
 use Rattle.postcard_cobs.proofs.Frames.{data_is_one}
 use Rattle.postcard_wire.specs.Tree.{Tree}
@@ -79,6 +79,6 @@ damage_law shape k a x v crc f came fits is damage are g o =
     let narrow = damage.narrow in
     let size : a.width + (8 * k - a.width) ≡ 8 * k = omega arith in
     let burst : IsBurst a.width (bit_xor (message a.refin sent) (message a.refin came)) = subst (λ r. IsBurst a.width (bit_xor (message r sent) (message r came))) (sym damage.refin) damage.burst in
-    let same : sent ≡ came = no_burst_in_frame a damage.sound k (8 * k - a.width) damage.refin damage.refout size sent came damage.length damage.are_bytes are damage.is_frame
+    let same : sent ≡ came = no_burst_in_checked a damage.sound k (8 * k - a.width) damage.refin damage.refout size sent came damage.length damage.are_bytes are damage.is_checked
     (record { bytes = o.front; crc = o.crc; is_crc = o.is_crc; joins = whole }) burst in
     (sym same, same_value shape k a x v crc f fits (subst (λ (z : List ℕ). Groups f z) (sym same) g) o)

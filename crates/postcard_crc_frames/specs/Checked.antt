@@ -1,7 +1,7 @@
 -- The own answer of a frame to a reader of values that have a checksum after them.
 use Rattle.std.specs.Prelude.{◌≡◌, ℕ, List, ◌++◌}
 use Rattle.crc.specs.Crc.{Parameters, IsCrc, IsSound}
-use Rattle.crc.specs.Frame.{low_bytes}
+use Rattle.crc.specs.Checked.{low_bytes}
 use Rattle.postcard_cobs.specs.Groups.{Groups}
 use Rattle.postcard_wire.specs.Tree.{Tree}
 use Rattle.postcard_wire.specs.Spelling.{Spells}

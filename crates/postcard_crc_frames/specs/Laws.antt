@@ -1,7 +1,7 @@
 -- The laws of frames with a checksum, in terms of values.
 use Rattle.std.specs.Prelude.{◌≡◌, ℕ, List, ◌++◌}
 use Rattle.crc.specs.Crc.{Parameters, IsCrc, IsSound}
-use Rattle.crc.specs.Frame.{low_bytes, AreBytes}
+use Rattle.crc.specs.Checked.{low_bytes, AreBytes}
 use Rattle.postcard_cobs.specs.Groups.{Groups}
 use Rattle.postcard_wire.specs.Spelling.{canonical}
 use Rattle.postcard_shape.specs.Shape.{Shape, Grows}

@@ -14,7 +14,7 @@ use postcard_de::DeserializeOwned;
 use postcard_de_flavors::Source;
 use std::alloc::Global;
 
-// Appends an answer to a vector, which must have capacity for it.
+/// Appends an answer to a vector, which must have capacity for it.
 fn keep<T: Drop>(out: &mut Vec<Answer<T>>, answer: Answer<T>)
     requires { vec_len out.old < vec_capacity out.old }
     ensures { out.new.items ≡ out.old.items ++ answer ∷ [] }
@@ -22,8 +22,8 @@ fn keep<T: Drop>(out: &mut Vec<Answer<T>>, answer: Answer<T>)
     let _ = out.push(answer);
 }
 
-// Feeds a piece and appends the answers to `out`. Returns the number of bytes at the end of the
-// piece that weren't fed, which is above 0 only if an allocation for an answer failed.
+/// Feeds a piece and appends the answers to `out`. Returns the number of bytes at the end of the
+/// piece that weren't fed, which is above 0 only if an allocation for an answer failed.
 fn feed_all<T: DeserializeOwned, W: Width, I: Implementation<W>, const N: usize>(
     alloc: Global,
     piece: &[u8],

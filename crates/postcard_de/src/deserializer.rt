@@ -1,19 +1,25 @@
-//! The deserializer, with a call for each kind of node.
+//! The deserializer, and its calls for integers, texts, byte strings and the counts of lists and
+//! maps.
+//!
+//! The modules below have those for booleans, characters and units (`leaves`), `floats`, `options`,
+//! tuples and structs (`tuples`), `enums`, and whole containers (`containers`); `unsupported`
+//! refuses the rest.
 
 ghost use Rattle.std.specs.Prelude.{◌≡◌, false};
 ghost use Rattle.postcard_de.specs.Reads.{ReadsNode, byte_node, bytes_node, int_node};
 ghost use Rattle.postcard_de.specs.Reads.{lent_bytes_node, lent_text_node, num_node, number_node};
 ghost use Rattle.postcard_de.specs.Reads.{signed_byte_node, text_node, source_of};
 
-mod elements;
-pub mod enums;
-pub mod floats;
-pub mod groups;
-pub mod leaves;
-pub mod options;
-pub mod unsupported;
+mod containers;
+mod enums;
+mod floats;
+mod leaves;
+mod options;
+mod tuples;
+mod unsupported;
 
 use crate::access::SeqAccess;
+use crate::map_access::MapAccess;
 use postcard_de_flavors::{Flavor, Slice};
 use postcard_de_nodes::{bytes, numbers, texts};
 use postcard_wire::{Result, zigzag};
@@ -216,5 +222,16 @@ impl<'de, F: Flavor> Deserializer<'de, F> {
     {
         let count = numbers::count(&mut self.flavor)?;
         Ok(SeqAccess::new(count))
+    }
+
+    /// Reads the number of pairs of a map, a varint of at most 10 bytes. Their keys and values are
+    /// then read in turn by [`next_key`](MapAccess::next_key) and
+    /// [`next_value`](MapAccess::next_value).
+    pub fn deserialize_map(&mut self) -> Result<MapAccess>
+        ensures { ReadsNode F.Flavor (number_node 64)
+            (source_of self.old) result (source_of self.new) }
+    {
+        let pairs = numbers::count(&mut self.flavor)?;
+        Ok(MapAccess::new(pairs))
     }
 }

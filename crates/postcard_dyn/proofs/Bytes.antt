@@ -6,7 +6,9 @@ use Rattle.postcard_wire.specs.Tree.{Tree, Trees, NoTrees, Then, count}
 use Rattle.postcard_wire.specs.Reading.{IsByte, IsArray, Each}
 use Rattle.postcard_wire.specs.Spelling.{Spells, SpellsAll}
 use Rattle.postcard_dyn_schema.specs.declared.schema.Leaf.{Leaf}
-use Rattle.postcard_dyn_schema.specs.declared.schema.Leaf.TheVariants.{Bool as Truth, U8, U16, U32, U64, U128, I8, I16, I32, I64, I128, F32, F64, Char, Str, Bytes}
+use Rattle.postcard_dyn_schema.specs.declared.schema.Leaf.TheVariants.{Bool as Truth, U8, U16, U32, U64, U128, I8, I16, I32, I64, I128, F32, F64, Char, Str, Bytes, Fixed}
+use Rattle.postcard_dyn_schema.specs.Fixed.{size_of}
+use Rattle.postcard_dyn_schema.specs.Lemmas.{size_some}
 use Rattle.postcard_dyn_schema.specs.Meaning.{MessageType, MessageTypes, leaf, option, seq, array, group, choice, no_types, then_type, leaf_reads, reads, reads_all, has_bytes, some_has_bytes}
 
 digits_some : (p : List ℕ) → AreDigits p → 0 < length p
@@ -31,7 +33,7 @@ elements_some : (R : Tree → Type 0) → ((s : Tree) (p : List ℕ) → R s →
 elements_some R one NoTrees p n r q = absurd (omega arith)
 elements_some R one (Then s ss) p n r q = front_some p q.0 q.1 q.4 (one s q.0 r.0 q.2)
 
--- A float has bytes.
+-- A float has bytes, and so has a number of a fixed width.
 array_some : (k : ℕ) → 0 < k → (s : Tree) (p : List ℕ) → IsArray k IsByte s → Spells s p → 0 < length p
 array_some k some s p r q = elements_some IsByte (λ t u b l. one_some u _ (rw b.1 at l)) r.0 p (rw r.2 some) r.3 (rw r.1 at q)
 
@@ -52,6 +54,7 @@ leaf_some F64 s p r q = array_some 8 (omega arith) s p r q
 leaf_some Char s p r q = let k = rw r.1 at q in front_some p k.2.0 k.2.1 k.2.4 (num_some 64 _ k.2.0 k.2.2)
 leaf_some Str s p r q = let k = rw r.1 at q in front_some p k.0 k.1 k.4 (num_some 64 _ k.0 k.2)
 leaf_some Bytes s p r q = let k = rw r.1 at q in front_some p k.0 k.1 k.4 (num_some 64 _ k.0 k.2)
+leaf_some (Fixed order integer) s p r q = array_some (size_of integer) (size_some integer) s p r q
 
 both : (a b : Bool) → (if a then b else false) ≡ true → b ≡ true
 both true b h = h

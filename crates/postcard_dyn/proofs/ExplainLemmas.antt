@@ -67,19 +67,19 @@ list_spelled R n line more low num (ts, (size, each), s) =
 mutual
   -- Lines that explain a value of a type have bytes that spell one.
   pub spelled : (depth : ℕ) (label : Label) (s : Schema) (lines : List Line) → Explains depth label s lines → FrontSpells (type_of s) (bytes_of lines)
-  spelled depth label s lines (rule.of_leaf d b x line l v is at node r) =
+  spelled depth label s lines (rule.of_leaf d b x line l v is at kind r) =
       (r.tree, r.is_read, subst (λ p. Spells r.tree p) (trail _ _ r.joins) r.is_spelled)
-  spelled depth label s lines (rule.of_absent d b x line content is at node e) =
+  spelled depth label s lines (rule.of_absent d b x line content is at kind e) =
       let step : type_of (schemas.Option content) ≡ option (type_of content.value) = search (rules, the_lemmas) in
       rw (is, step, e) (Absent, inl refl, refl)
-  spelled depth label s lines (rule.of_present d b x line content more is at node e h) =
+  spelled depth label s lines (rule.of_present d b x line content more is at kind e h) =
       let step : type_of (schemas.Option content) ≡ option (type_of content.value) = search (rules, the_lemmas) in
       let k = spelled _ _ _ more h in
       rw (is, step, e) (Present k.0, inr (k.0, refl, k.1), (1 ∷ [], bytes_of more, refl, k.2, refl))
-  spelled depth label s lines (rule.of_list d b x line element n more (inl is) at node low num h) =
+  spelled depth label s lines (rule.of_list d b x line element n more (inl is) at kind low num h) =
       let step : type_of (schemas.Seq element) ≡ seq (type_of element.value) = search (rules, the_lemmas) in
       rw (is, step) (list_spelled _ n line more low num (each_spelled _ _ _ more h))
-  spelled depth label s lines (rule.of_list d b x line element n more (inr is) at node low num h) =
+  spelled depth label s lines (rule.of_list d b x line element n more (inr is) at kind low num h) =
       let step : type_of (schemas.Map element) ≡ seq (type_of element.value) = search (rules, the_lemmas) in
       rw (is, step) (list_spelled _ n line more low num (each_spelled _ _ _ more h))
   spelled depth label s lines (rule.of_array d b x element n inner head more is o h) =
@@ -90,7 +90,7 @@ mutual
       let step : type_of (schemas.Group parts) ≡ group (types_of parts.items) = search (rules, the_lemmas) in
       let k = parts_spelled _ _ more h in
       rw (is, step, bytes_join head more, opens_nothing _ _ _ head o) (Group k.0, (k.0, refl, k.1), k.2)
-  spelled depth label s lines (rule.of_variant d b x line variants i own name more is at low found called node few num h) =
+  spelled depth label s lines (rule.of_variant d b x line variants i own name more is at low found called kind few num h) =
       let step : type_of (schemas.Enum variants) ≡ choice (types_of variants.items) = search (rules, the_lemmas) in
       let here : reads_at (types_of variants.items) i ≡ reads (type_of own) = type_at variants.items i own low found in
       let k = spelled _ _ _ more h in
@@ -106,7 +106,7 @@ mutual
       let b = spelled _ _ _ more j in
       rw (bytes_join before more)
       (join a.0 (Then b.0 NoTrees), (omega (arith, count_join a.0 (Then b.0 NoTrees), a.1.0), each_join _ a.0 _ a.1.1 (b.1, tt)), all_join a.0 _ _ _ a.2 (alone b.0 _ b.2))
-  each_spelled depth s n lines (rule.more_elements d x k m before line h at node b) =
+  each_spelled depth s n lines (rule.more_elements d x k m before line h at kind b) =
       let a = each_spelled _ _ k before h in
       rw (bytes_join before (line ∷ []), append-nil line.bytes.now)
       (join a.0 b.0, (omega (arith, count_join a.0 b.0, a.1.0, b.1.0), each_join _ a.0 _ a.1.1 b.1.1), all_join a.0 b.0 _ _ a.2 b.2)

@@ -11,7 +11,7 @@ use Rattle.postcard_wire.specs.Spelling.{Spells, SpellsAll}
 use Rattle.postcard_wire.specs.Reading.{IsByte, IsNum, IsOption, IsGroup, IsArray, Each}
 use Rattle.postcard_de_flavors.specs.Source.{Left, CanTake, Takes, Laws}
 use Rattle.postcard_de.specs.Reads.{ReadsFrom}
-use Rattle.postcard_shape.specs.Base256.{AreBytes, little, low_first, low_counts, low_bytes, low_worth, low_one}
+use Rattle.postcard_shape.specs.Base256.{AreBytes, little}
 use Rattle.postcard_fixint.specs.Fixed.{IsFixed, unsigned}
 use Rattle.postcard_shape.specs.Leaves.{Same}
 use Rattle.postcard_shape.specs.Lists.{EachIs, ListIs, AreRead}
@@ -26,6 +26,9 @@ use Rattle.postcard_de_nodes.specs.SeenLemmas.{recast, refused_too}
 use Rattle.postcard_de_nodes.specs.TakeLemmas.{nothing_taken, both_taken, faces, can_first, can_second}
 use Rattle.postcard_dyn_schema.specs.Meaning.{MessageType, MessageTypes, no_types, then_type, reads, reads_all}
 use Rattle.postcard_dyn.specs.declared.value.Value.{Value}
+use Rattle.postcard_dyn_schema.specs.declared.fixed.ByteOrder.{ByteOrder}
+use Rattle.postcard_dyn_schema.specs.declared.fixed.ByteOrder.TheVariants.{Little}
+use Rattle.postcard_dyn.specs.Fixed.{order_of, fixed_tree}
 use Rattle.postcard_dyn.specs.Tree.{bits_tree, tree, IsTree, AreTrees}
 
 -- If each tree is that of its value, the trees are those of the list of values.
@@ -66,13 +69,17 @@ array_bytes (Then t ts) (b ∷ bs) r h =
     ((subst (λ n. n < 256) same r.0.2, k.0), ap suc k.1)
 
 -- The tree of the k bytes of a number is that of the bits.
-pub bits_are : (k n : ℕ) (t : Tree) → IsArray k IsByte t → IsFixed little (unsigned k) t n → t ≡ bits_tree k n
-bits_are k n t (ts, is, many, r) (bs, (us, was, h), worth, fits) =
+pub fixed_are : (order : ByteOrder) (k n : ℕ) (t : Tree) → IsArray k IsByte t → IsFixed (order_of order) (unsigned k) t n → t ≡ fixed_tree order k n
+fixed_are order k n t (ts, is, many, r) (bs, (us, was, h), worth, fits) =
+    let o = order_of order in
     let same : ts ≡ us = group_same ts us (sym is ∙ was) in
     let k' = array_bytes us bs (subst (Each IsByte) same r) h in
-    let long : length bs ≡ length (low_first k n) = k'.1 ∙ ap count (sym same) ∙ many ∙ sym (low_counts k n) in
-    let bytes : bs ≡ low_first k n = low_one bs (low_first k n) long k'.0 (low_bytes k n) (worth ∙ sym (low_worth k n fits)) in
+    let long : length bs ≡ length (o.spell k n) = k'.1 ∙ ap count (sym same) ∙ many ∙ sym (o.counts k n) in
+    let bytes : bs ≡ o.spell k n = o.one bs (o.spell k n) long k'.0 (o.bytes k n) (worth ∙ sym (o.worth k n fits)) in
     was ∙ ap Group (each_byte us bs h ∙ ap (λ (xs : List ℕ). trees (map Byte xs)) bytes)
+
+pub bits_are : (k n : ℕ) (t : Tree) → IsArray k IsByte t → IsFixed little (unsigned k) t n → t ≡ bits_tree k n
+bits_are = fixed_are Little
 
 -- Equal trees of numbers have equal numbers.
 num_same : (w n m : ℕ) → Num w n ≡ Num w m → n ≡ m

@@ -20,8 +20,8 @@ use Rattle.postcard_dyn.specs.Tree.{IsTree}
 use Rattle.postcard_dyn.specs.declared.value.Value.{Value as AValue}
 use Rattle.postcard_dyn.specs.declared.explain.Label.{Label}
 use Rattle.postcard_dyn.specs.declared.explain.Label.TheVariants.{Whole, Field, Part, Element}
-use Rattle.postcard_dyn.specs.declared.explain.Node.{Node}
-use Rattle.postcard_dyn.specs.declared.explain.Node.TheVariants.{Value, Absent, Present, Count, Variant, Parts, More, Rest}
+use Rattle.postcard_dyn.specs.declared.explain.LineKind.{LineKind}
+use Rattle.postcard_dyn.specs.declared.explain.LineKind.TheVariants.{Value, Absent, Present, Count, Variant, Parts, MoreElements, AfterValue}
 use Rattle.postcard_dyn.specs.declared.explain.Line.{Line}
 
 -- The bytes of lines, joined in order.
@@ -43,13 +43,13 @@ IsOwn Whole name own = own ≡ Whole
 IsOwn label name (Field r) = r.now ≡ name
 IsOwn label name own = ⊥
 
--- The node is this value of the schema.
-abbrev pub IsValue : Node → Schema → AValue → Type 0
+-- The kind is this value of the schema.
+abbrev pub IsValue : LineKind → Schema → AValue → Type 0
 IsValue (Value r v) s w = (r.now ≡ s) × (v ≡ w)
 IsValue _ s w = ⊥
 
--- The node is the index and the name of a variant.
-abbrev pub IsIndex : Node → ℕ → List ℕ → Type 0
+-- The kind is the index and the name of a variant.
+abbrev pub IsIndex : LineKind → ℕ → List ℕ → Type 0
 IsIndex (Variant i r) j name = (i ≡ j) × (r.now ≡ name)
 IsIndex _ j name = ⊥
 
@@ -72,23 +72,23 @@ FrontSpells t bytes = (tree : Tree) × reads t tree × Spells tree bytes
 abbrev pub Opens : ℕ → Label → ℕ → List Line → Type 0
 Opens depth label inner lines =
     ((label ≡ Whole) × (inner ≡ depth) × (lines ≡ []))
-    ⊎ ((line : Line) × IsAt depth label line × (line.node ≡ Parts) × (line.bytes.now ≡ []) × (inner ≡ deeper depth) × (lines ≡ line ∷ []))
+    ⊎ ((line : Line) × IsAt depth label line × (line.kind ≡ Parts) × (line.bytes.now ≡ []) × (inner ≡ deeper depth) × (lines ≡ line ∷ []))
 
 mutual
   -- The lines explain a value of the schema at this depth and with this label.
   pub data Explains : ℕ → Label → Schema → List Line → Type 0 where
     -- A value without parts.
     of_leaf : (depth : ℕ) (label : Label) (s : Schema) (line : Line) (l : Leaf) (v : AValue) → s ≡ schemas.Leaf l → IsAt depth label line
-        → IsValue line.node s v → ReadsFront (reads (type_of s)) IsTree line.bytes.now v [] → Explains depth label s (line ∷ [])
+        → IsValue line.kind s v → ReadsFront (reads (type_of s)) IsTree line.bytes.now v [] → Explains depth label s (line ∷ [])
     -- An option without a value, and one with a value.
     of_absent : (depth : ℕ) (label : Label) (s : Schema) (line : Line) (content : Box Schema Global) → s ≡ schemas.Option content → IsAt depth label line
-        → line.node ≡ Absent → line.bytes.now ≡ 0 ∷ [] → Explains depth label s (line ∷ [])
+        → line.kind ≡ Absent → line.bytes.now ≡ 0 ∷ [] → Explains depth label s (line ∷ [])
     of_present : (depth : ℕ) (label : Label) (s : Schema) (line : Line) (content : Box Schema Global) (more : List Line) → s ≡ schemas.Option content
-        → IsAt depth label line → line.node ≡ Present → line.bytes.now ≡ 1 ∷ [] → Explains (deeper depth) Whole content.value more
+        → IsAt depth label line → line.kind ≡ Present → line.bytes.now ≡ 1 ∷ [] → Explains (deeper depth) Whole content.value more
         → Explains depth label s (line ∷ more)
     -- A list or a map, and an array.
     of_list : (depth : ℕ) (label : Label) (s : Schema) (line : Line) (element : Box Schema Global) (n : ℕ) (more : List Line)
-        → (s ≡ schemas.Seq element) ⊎ (s ≡ schemas.Map element) → IsAt depth label line → line.node ≡ Count n → n < 2 ^ 64 → SpellsNum 64 n line.bytes.now
+        → (s ≡ schemas.Seq element) ⊎ (s ≡ schemas.Map element) → IsAt depth label line → line.kind ≡ Count n → n < 2 ^ 64 → SpellsNum 64 n line.bytes.now
         → ExplainsElements (deeper depth) element.value n more → Explains depth label s (line ∷ more)
     of_array : (depth : ℕ) (label : Label) (s : Schema) (element : Box Schema Global) (n inner : ℕ) (head more : List Line) → s ≡ schemas.Array element n
         → Opens depth label inner head → ExplainsElements inner element.value n more → Explains depth label s (head ++ more)
@@ -98,7 +98,7 @@ mutual
     -- A variant of an enum.
     of_variant : (depth : ℕ) (label : Label) (s : Schema) (line : Line) (variants : Vec Schema Global) (i : ℕ) (x : Schema) (name : List ℕ) (more : List Line)
         → s ≡ schemas.Enum variants → IsAt depth label line → i < length variants.items → x ≡ get_or variants.items i x → IsNameOf x name
-        → IsIndex line.node i name → i < 2 ^ 32 → SpellsNum 32 i line.bytes.now → Explains (deeper depth) Whole x more → Explains depth label s (line ∷ more)
+        → IsIndex line.kind i name → i < 2 ^ 32 → SpellsNum 32 i line.bytes.now → Explains (deeper depth) Whole x more → Explains depth label s (line ∷ more)
     -- A field, which is called by its name, and what a variant holds.
     of_field : (depth : ℕ) (label own : Label) (s : Schema) (name : String Global) (content : Box Schema Global) (lines : List Line) → s ≡ schemas.Named name content
         → IsOwn label (string_bytes name) own → Explains depth own content.value lines → Explains depth label s lines
@@ -109,7 +109,7 @@ mutual
     one_element : (depth : ℕ) (s : Schema) (n : ℕ) (lines more : List Line) → ExplainsElements depth s n lines → Explains depth (Element n) s more
         → ExplainsElements depth s (n + 1) (lines ++ more)
     more_elements : (depth : ℕ) (s : Schema) (n k : ℕ) (lines : List Line) (line : Line) → ExplainsElements depth s n lines → IsAt depth (Element n) line
-        → line.node ≡ More k → SpellsEach (type_of s) k line.bytes.now → ExplainsElements depth s (n + k) (lines ++ line ∷ [])
+        → line.kind ≡ MoreElements k → SpellsEach (type_of s) k line.bytes.now → ExplainsElements depth s (n + k) (lines ++ line ∷ [])
 
   -- The lines explain a value of each schema, in order, each with its number.
   pub data ExplainsParts : ℕ → List Schema → List Line → Type 0 where
@@ -120,11 +120,11 @@ mutual
 -- The lines are one for n elements.
 abbrev pub ExplainsMore : ℕ → Label → Schema → ℕ → List Line → Type 0
 ExplainsMore depth label element n lines =
-    (line : Line) × IsAt depth label line × (line.node ≡ More n) × SpellsEach (type_of element) n line.bytes.now × (lines ≡ line ∷ [])
+    (line : Line) × IsAt depth label line × (line.kind ≡ MoreElements n) × SpellsEach (type_of element) n line.bytes.now × (lines ≡ line ∷ [])
 
 -- The lines are none, or one of the bytes after a value.
 abbrev pub IsLast : List Line → Type 0
-IsLast lines = (lines ≡ []) ⊎ ((line : Line) × (lines ≡ line ∷ []) × (line.node ≡ Rest))
+IsLast lines = (lines ≡ []) ⊎ ((line : Line) × (lines ≡ line ∷ []) × (line.kind ≡ AfterValue))
 
 -- Lines of this kind were added for a front of the bytes, and `rest` is the bytes after it.
 abbrev pub Adds : (List Line → Type 0) → List Line → List ℕ → List Line → List ℕ → Type 0

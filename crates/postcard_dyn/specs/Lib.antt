@@ -1,3 +1,5 @@
+pub mod Fixed
+pub mod FixedLemmas
 pub mod Tree
 pub mod TypeLaws
 pub mod Shape

@@ -4,14 +4,16 @@ use Rattle.std.specs.Int.{w8, cast_unsigned}
 use Rattle.std.specs.declared.alloc.Global.{Global}
 use Rattle.postcard_wire.specs.Tree.{Tree, Trees, Byte, Boolean, Num, Int, Text, trees}
 use Rattle.postcard_wire.specs.Tree as nodes
-use Rattle.postcard_shape.specs.Base256.{low_first}
 use Rattle.postcard_shape.specs.Lists.{EachIs}
+use Rattle.postcard_dyn_schema.specs.declared.fixed.ByteOrder.TheVariants.{Little}
+use Rattle.postcard_dyn_schema.specs.Fixed.{size_of}
+use Rattle.postcard_dyn.specs.Fixed.{fixed_tree}
 use Rattle.postcard_dyn.specs.declared.value.Value.{Value, fold-Value}
 use Rattle.postcard_dyn.specs.declared.value.Value.TheOpen.{Value-F}
 
 -- The tree of a float of k bytes with these bits: the array of the bytes, the lowest first (wire format 1.0, "f32" and "f64").
 abbrev pub bits_tree : ℕ → ℕ → Tree
-bits_tree k bits = nodes.Group (trees (map Byte (low_first k bits)))
+bits_tree = fixed_tree Little
 
 -- One step of the fold `tree`: the tree of a value whose parts are already trees. An `i8` is a byte in two's
 -- complement, and a byte string is a list of bytes.
@@ -32,6 +34,7 @@ tree_step (Value-F.F64 bits) = bits_tree 8 bits
 tree_step (Value-F.Char c) = nodes.Char c
 tree_step (Value-F.Str s) = Text (string_bytes s)
 tree_step (Value-F.Bytes v) = nodes.Seq (trees (map Byte v.items))
+tree_step (Value-F.Fixed order integer bits) = fixed_tree order (size_of integer) bits
 tree_step Value-F.Absent = nodes.Absent
 tree_step (Value-F.Present t) = nodes.Present (box_value t)
 tree_step (Value-F.Seq v) = nodes.Seq (trees v.items)

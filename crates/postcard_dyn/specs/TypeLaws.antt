@@ -4,7 +4,8 @@ use Rattle.postcard_wire.specs.Reading.{IsDelimited, AreDelimited, ReadsWellForm
 use Rattle.postcard_wire.proofs.Delimited as delimited
 use Rattle.postcard_wire.proofs.WellFormed as formed
 use Rattle.postcard_dyn_schema.specs.declared.schema.Leaf.{Leaf}
-use Rattle.postcard_dyn_schema.specs.declared.schema.Leaf.TheVariants.{Bool, U8, U16, U32, U64, U128, I8, I16, I32, I64, I128, F32, F64, Char, Str, Bytes}
+use Rattle.postcard_dyn_schema.specs.declared.schema.Leaf.TheVariants.{Bool, U8, U16, U32, U64, U128, I8, I16, I32, I64, I128, F32, F64, Char, Str, Bytes, Fixed}
+use Rattle.postcard_dyn_schema.specs.Fixed.{size_of}
 use Rattle.postcard_dyn_schema.specs.Meaning.{MessageType, MessageTypes, leaf, option, seq, array, group, choice, no_types, then_type, leaf_reads, reads, reads_all, reads_at}
 
 pub leaf_delimited : (l : Leaf) → IsDelimited (leaf_reads l)
@@ -24,6 +25,7 @@ leaf_delimited F64 = delimited.array_delimited 8 _ delimited.byte_delimited
 leaf_delimited Char = delimited.char_delimited
 leaf_delimited Str = delimited.text_delimited
 leaf_delimited Bytes = delimited.seq_delimited _ delimited.byte_delimited
+leaf_delimited (Fixed order integer) = delimited.array_delimited (size_of integer) _ delimited.byte_delimited
 
 mutual
   pub type_delimited : (t : MessageType) → IsDelimited (reads t)
@@ -60,6 +62,7 @@ leaf_well_formed F64 = formed.array_well_formed 8 _ formed.byte_well_formed
 leaf_well_formed Char = formed.char_well_formed
 leaf_well_formed Str = formed.text_well_formed
 leaf_well_formed Bytes = formed.seq_well_formed _ formed.byte_well_formed
+leaf_well_formed (Fixed order integer) = formed.array_well_formed (size_of integer) _ formed.byte_well_formed
 
 mutual
   pub type_well_formed : (t : MessageType) → ReadsWellFormed (reads t)

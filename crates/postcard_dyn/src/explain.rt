@@ -53,7 +53,7 @@ pub enum Expected {
 
 /// What the bytes of a line are.
 #[derive(Debug, Drop)]
-pub enum Node<'a> {
+pub enum LineKind<'a> {
     /// A value without parts, and its type.
     Value(&'a Schema, Value),
     /// The byte 0 of an option without a value.
@@ -67,11 +67,11 @@ pub enum Node<'a> {
     /// No bytes: a tuple, a struct or an array, whose parts are on the lines after it.
     Parts,
     /// This many elements or entries, one after another, of which the line's label is the first.
-    More(u64),
+    MoreElements(u64),
     /// A part that can't be read, with all bytes after it, and what was expected.
     Refused(Expected),
     /// The bytes after the value.
-    Rest,
+    AfterValue,
 }
 
 /// Some bytes of a message, and what they are.
@@ -82,7 +82,7 @@ pub struct Line<'a> {
     /// What the part is called.
     pub label: Label<'a>,
     /// What the bytes are.
-    pub node: Node<'a>,
+    pub kind: LineKind<'a>,
     /// The bytes.
     pub bytes: &'a [u8],
 }
@@ -135,7 +135,7 @@ pub fn explain<'a>(
     ensures every_byte { IfOk result (λ told. bytes_of told.lines.items ≡ bytes.now) }
     ensures read { IfOk result (λ told. told.refused ≡ None
         → IsExplained schema.now bytes.now told.lines.items) }
-    ensures refused { IfOk result (λ told. IfSome told.refused (λ error.
+    ensures stopped { IfOk result (λ told. IfSome told.refused (λ error.
         HasNoFront schema.now bytes.now × IsReadError memory error × (error ≢ Error.OutOfMemory))) }
     ensures named_error { IfErr result
         (λ e. (e ≡ Error.OutOfMemory) ⊎ (e ≡ Error.WontImplement)) }
@@ -182,21 +182,26 @@ fn push_rest<'a>(walk: &mut Walk<'a>, rest: &'a [u8]) -> Result<()>
         depth: 0,
         label: Label::Whole,
     };
-    push(walk, place, Node::Rest, rest)
+    push(walk, place, LineKind::AfterValue, rest)
 }
 
 /// Adds a line.
-fn push<'a>(walk: &mut Walk<'a>, place: Place<'a>, node: Node<'a>, bytes: &'a [u8]) -> Result<()>
+fn push<'a>(
+    walk: &mut Walk<'a>,
+    place: Place<'a>,
+    kind: LineKind<'a>,
+    bytes: &'a [u8],
+) -> Result<()>
     ensures added { OnOk result ((line : Line)
         × (walk.new.lines.items ≡ walk.old.lines.items ++ line ∷ [])
-        × IsAt place.entry.depth place.entry.label line × (line.node ≡ node.entry)
+        × IsAt place.entry.depth place.entry.label line × (line.kind ≡ kind.entry)
         × (line.bytes.now ≡ bytes.now)) }
     ensures refused { IfErr result (λ e. e ≡ Error.OutOfMemory) }
 {
     let line = Line {
         depth: place.depth,
         label: place.label,
-        node,
+        kind,
         bytes,
     };
     match walk.lines.push(line) {
@@ -219,7 +224,7 @@ fn refuse<'a>(
         walk.old.lines.items bytes.now walk.new.lines.items result }
 {
     if error != Error::OutOfMemory {
-        push(walk, place, Node::Refused(expected), bytes)?;
+        push(walk, place, LineKind::Refused(expected), bytes)?;
     }
     Err(error)
 }
@@ -235,7 +240,7 @@ fn open_parts<'a>(walk: &mut Walk<'a>, place: Place<'a>) -> Result<usize>
     match place.label {
         Label::Whole => Ok(place.depth),
         _ => {
-            push(walk, place, Node::Parts, &[])?;
+            push(walk, place, LineKind::Parts, &[])?;
             Ok(place.depth.saturating_add(1))
         }
     }
@@ -325,7 +330,7 @@ fn explain_leaf<'a>(
             push(
                 walk,
                 place,
-                Node::Value(schema, value),
+                LineKind::Value(schema, value),
                 front_of(bytes, rest),
             )?;
             Ok(rest)
@@ -352,11 +357,11 @@ fn explain_option<'a>(
     };
     match *first {
         0 => {
-            push(walk, place, Node::Absent, front_of(bytes, rest))?;
+            push(walk, place, LineKind::Absent, front_of(bytes, rest))?;
             Ok(rest)
         }
         1 => {
-            push(walk, place, Node::Present, front_of(bytes, rest))?;
+            push(walk, place, LineKind::Present, front_of(bytes, rest))?;
             explain_part(walk, content, inside(place), rest)
         }
         _ => {
@@ -381,7 +386,7 @@ fn explain_list<'a>(
 {
     match postcard_de::take_from_bytes::<u64>(walk.alloc, bytes) {
         Ok((count, rest)) => {
-            push(walk, place, Node::Count(count), front_of(bytes, rest))?;
+            push(walk, place, LineKind::Count(count), front_of(bytes, rest))?;
             explain_elements(walk, element, count, inside(place).depth, rest)
         }
         Err(error) => refuse(walk, Expected::Count, place, bytes, error),
@@ -455,7 +460,12 @@ fn explain_more<'a>(
             Ok((_, after)) => rest = after,
             Err(error) => {
                 let place = Place { depth, label };
-                push(walk, place, Node::More(i), front_of(bytes, rest))?;
+                push(
+                    walk,
+                    place,
+                    LineKind::MoreElements(i),
+                    front_of(bytes, rest),
+                )?;
                 let refused = Place {
                     depth,
                     label: Label::Element(first.saturating_add(i)),
@@ -466,7 +476,12 @@ fn explain_more<'a>(
         }
     }
     let place = Place { depth, label };
-    push(walk, place, Node::More(count), front_of(bytes, rest))?;
+    push(
+        walk,
+        place,
+        LineKind::MoreElements(count),
+        front_of(bytes, rest),
+    )?;
     Ok(rest)
 }
 
@@ -527,7 +542,7 @@ fn explain_variant<'a>(
     let Some(variant) = variants.get(index as usize) else {
         return refuse(walk, Expected::Variant, place, bytes, Error::SerdeDeCustom);
     };
-    let node = Node::Variant(index, name_of(variant));
-    push(walk, place, node, front_of(bytes, rest))?;
+    let kind = LineKind::Variant(index, name_of(variant));
+    push(walk, place, kind, front_of(bytes, rest))?;
     explain_part(walk, variant, inside(place), rest)
 }

@@ -11,6 +11,7 @@ ghost use Rattle.postcard_dyn_schema.specs.Meaning.{type_of, types_of, reads, re
 ghost use Rattle.postcard_dyn_schema.specs.Meaning.{leaf_reads};
 ghost use Rattle.postcard_dyn.specs.Tree.{IsTree, AreTrees};
 
+use crate::fixed::read_bits;
 use crate::value::Value;
 use postcard_de::{Deserializer, Error, Flavor, Result};
 use postcard_dyn_schema::{Leaf, Schema};
@@ -203,5 +204,10 @@ fn read_leaf<'de, F: Flavor>(
         Leaf::Char => Ok(Value::Char(d.deserialize_char()?)),
         Leaf::Str => Ok(Value::Str(d.deserialize_string(alloc)?)),
         Leaf::Bytes => Ok(Value::Bytes(d.deserialize_byte_buf(alloc)?)),
+        Leaf::Fixed(order, integer) => Ok(Value::Fixed(
+            order,
+            integer,
+            read_bits(alloc, order, integer, d)?,
+        )),
     }
 }

@@ -1,5 +1,7 @@
 //! Values of a type that is known only at run time.
 
+use postcard_dyn_schema::{ByteOrder, Integer};
+
 /// A value of some [`Schema`](postcard_dyn_schema::Schema).
 ///
 /// The names of fields and variants are in the schema, and not in the value.
@@ -25,6 +27,10 @@ pub enum Value {
     Char(char),
     Str(String),
     Bytes(Vec<u8>),
+    /// A number of `LE<T>` or `BE<T>`: the order of its bytes, the type `T`, and its bits, which are
+    /// the number itself, or the two's complement of a negative one. Only as many bits as `T` has
+    /// are written.
+    Fixed(ByteOrder, Integer, u128),
     /// An option without a value.
     Absent,
     /// An option with a value.

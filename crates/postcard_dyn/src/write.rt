@@ -6,6 +6,7 @@ ghost use Rattle.postcard_wire.specs.Tree.{trees};
 ghost use Rattle.postcard_ser.specs.Writing.{Wrote, never};
 ghost use Rattle.postcard_dyn.specs.Tree.{tree};
 
+use crate::fixed::write_bits;
 use crate::value::Value;
 use postcard_fixint::le;
 use postcard_ser::Serializer;
@@ -44,6 +45,7 @@ pub fn write_value<F: Flavor>(value: &Value, serializer: &mut Serializer<F>) -> 
         Value::Char(c) => serializer.serialize_char(*c),
         Value::Str(text) => serializer.serialize_str(text),
         Value::Bytes(held) => serializer.serialize_bytes(held),
+        Value::Fixed(order, integer, bits) => write_bits(*order, *integer, *bits, serializer),
         Value::Absent => serializer.serialize_none(),
         Value::Present(content) => {
             serializer.serialize_u8(1)?;

@@ -12,8 +12,8 @@ use Rattle.postcard_dyn_file.specs.Printed.{is_limit, is_of_type}
 use Rattle.postcard_dyn_file.specs.Lexical.{IsRead}
 use Rattle.postcard_dyn_file.specs.Kept.{AreKept}
 use Rattle.postcard_dyn_file.specs.Items.{AreDeclarations}
-use Rattle.postcard_dyn_file.specs.Expands.{IsSpelledBy, HasFault}
-use Rattle.postcard_dyn_file.specs.Files.{IsFileOf, IsExpressionOf, HasFaultOf}
+use Rattle.postcard_dyn_file.specs.Expands.{IsSpelledBy, HasProblem}
+use Rattle.postcard_dyn_file.specs.Files.{IsFileOf, IsExpressionOf, HasProblemOf}
 
 pub file_of : (file : List ℕ) (all lent kept shown : List Token) (known : List Declaration) → IsRead file all → lent ≡ all → AreKept lent kept → shown ≡ kept → AreDeclarations shown known → IsFileOf file kept known
 file_of file all lent kept shown known read is are_kept is_kept declared =
@@ -25,15 +25,15 @@ expression_of file name text words kept shown known seen read is_kept is_known s
     let held = subst (λ ts. IsSpelledBy ts known name words) is_kept (subst (λ ds. IsSpelledBy shown ds name words) is_known spelled) in
     (kept, known, read, subst (IsSpelledBy kept known name) (sym same) held)
 
-pub fault_of : (file name : List ℕ) (problem : FileProblem) (kept shown : List Token) (known seen : List Declaration) → IsFileOf file kept known → shown ≡ kept → seen ≡ known
-    → (is_of_type problem ≡ true → HasFault shown seen name problem) → HasFaultOf file name problem
-fault_of file name problem kept shown known seen read is_kept is_known faults = λ is.
-    (kept, known, read, subst (λ ts. HasFault ts known name problem) is_kept (subst (λ ds. HasFault shown ds name problem) is_known (faults is)))
+pub problem_of : (file name : List ℕ) (problem : FileProblem) (kept shown : List Token) (known seen : List Declaration) → IsFileOf file kept known → shown ≡ kept → seen ≡ known
+    → (is_of_type problem ≡ true → HasProblem shown seen name problem) → HasProblemOf file name problem
+problem_of file name problem kept shown known seen read is_kept is_known problems = λ is.
+    (kept, known, read, subst (λ ts. HasProblem ts known name problem) is_kept (subst (λ ds. HasProblem shown ds name problem) is_known (problems is)))
 
 -- What the declaration stands for is refused as an expression.
-pub fault_of_text : (file name text words : List ℕ) (p : Problem) (kept shown : List Token) (known seen : List Declaration) → IsFileOf file kept known → shown ≡ kept → seen ≡ known
-    → IsSpelledBy shown seen name words → text ≡ words → IsRefusal p ((other : Schema) × IsExpression other text) → HasFaultOf file name (Expression p)
-fault_of_text file name text words p kept shown known seen read is_kept is_known spelled same refusal = λ of_type.
+pub problem_of_text : (file name text words : List ℕ) (p : Problem) (kept shown : List Token) (known seen : List Declaration) → IsFileOf file kept known → shown ≡ kept → seen ≡ known
+    → IsSpelledBy shown seen name words → text ≡ words → IsRefusal p ((other : Schema) × IsExpression other text) → HasProblemOf file name (Expression p)
+problem_of_text file name text words p kept shown known seen read is_kept is_known spelled same refusal = λ of_type.
     let held = subst (λ ts. IsSpelledBy ts known name words) is_kept (subst (λ ds. IsSpelledBy shown ds name words) is_known spelled) in (
       kept,
       known,
@@ -52,7 +52,7 @@ fault_of_text file name text words p kept shown known seen read is_kept is_known
       ),
     )
 
--- The same fault of the same texts.
-pub fault_moved : (file seen name asked : List ℕ) (p q : FileProblem) → seen ≡ file → asked ≡ name → q ≡ p → HasFaultOf seen asked p → HasFaultOf file name q
-fault_moved file seen name asked p q is_file is_name is fault =
-    subst (λ t. HasFaultOf t name q) is_file (subst (λ n. HasFaultOf seen n q) is_name (subst (HasFaultOf seen asked) (sym is) fault))
+-- The same problem of the same texts.
+pub problem_moved : (file seen name asked : List ℕ) (p q : FileProblem) → seen ≡ file → asked ≡ name → q ≡ p → HasProblemOf seen asked p → HasProblemOf file name q
+problem_moved file seen name asked p q is_file is_name is has =
+    subst (λ t. HasProblemOf t name q) is_file (subst (λ n. HasProblemOf seen n q) is_name (subst (HasProblemOf seen asked) (sym is) has))

@@ -10,7 +10,7 @@ use Rattle.postcard_dyn_file.specs.declared.error.FileProblem.TheVariants as pro
 use Rattle.postcard_dyn_file.specs.Tokens.{Says}
 use Rattle.postcard_dyn_file.specs.Items.{AreDeclarations, NamesDiffer}
 use Rattle.postcard_dyn_file.specs.Printed.{is_of_type}
-use Rattle.postcard_dyn_file.specs.Expands.{Spells, own, named, Writes, Spelled, AreInOrder, alone, Refers, FindsRecursion, EntersAgain, HasFault, IsSpelledBy}
+use Rattle.postcard_dyn_file.specs.Expands.{Spells, own, named, Writes, Spelled, AreInOrder, alone, Refers, FindsRecursion, EntersAgain, HasProblem, IsSpelledBy}
 use Rattle.postcard_dyn_file.proofs.Recursion.{spelled_not_recursive, comes_again, longer}
 
 -- The tokens of d before index i stand for what is written since `first`.
@@ -25,9 +25,9 @@ spelled_more tokens known d i first before after (text, is, spelled) (more, grow
     (text ++ more, grows ∙ ap (λ t. t ++ more) is ∙ append_assoc first text more, named d e i (i + 1) text more (text ++ more) spelled refers whole refl refl)
 
 -- The problem of writing the declaration with the name.
-pub fault_of_declaration : (tokens : List Token) (known within : List Declaration) (name : List ℕ) (d : Declaration) (problem : FileProblem)
-    → Contains known d → Says name d.name → within ≡ d ∷ [] → is_of_type problem ≡ true → (is_of_type problem ≡ true → FindsRecursion tokens known within d problem) → HasFault tokens known name problem
-fault_of_declaration tokens known within name d problem held says is of_type finds = (
+pub problem_of_declaration : (tokens : List Token) (known within : List Declaration) (name : List ℕ) (d : Declaration) (problem : FileProblem)
+    → Contains known d → Says name d.name → within ≡ d ∷ [] → is_of_type problem ≡ true → (is_of_type problem ≡ true → FindsRecursion tokens known within d problem) → HasProblem tokens known name problem
+problem_of_declaration tokens known within name d problem held says is of_type finds = (
   λ none. absurd (let h = (finds (ap is_of_type none)).0 in let e : NotDeclared ≡ Recursive = sym none ∙ h in cc),
   λ recursive. (d, held, says, (finds (ap is_of_type recursive)).1 d (alone held within is)),
   λ p expression. absurd (let h = (finds of_type).0 in let e : problems.Expression p ≡ Recursive = sym expression ∙ h in cc),

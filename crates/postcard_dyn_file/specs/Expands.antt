@@ -84,8 +84,8 @@ IsSpelledBy tokens known name text = (d : Declaration) × Contains known d × Sa
 
 -- If the problem is one of the type with this name: no declaration has the name, the one that has it is recursive, or what it stands
 -- for is no type expression.
-abbrev pub HasFault : List Token → List Declaration → List ℕ → FileProblem → Type 0
-HasFault tokens known name problem =
+abbrev pub HasProblem : List Token → List Declaration → List ℕ → FileProblem → Type 0
+HasProblem tokens known name problem =
     (problem ≡ NotDeclared → All (λ d. Says name d.name → ⊥) known)
     × (problem ≡ Recursive → (d : Declaration) × Contains known d × Says name d.name × IsRecursive tokens known d)
     × ((p : Problem) → problem ≡ problems.Expression p → (text : List ℕ) × IsSpelledBy tokens known name text × ((schema : Schema) → IsExpression schema text → ⊥))

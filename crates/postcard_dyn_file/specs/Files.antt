@@ -9,7 +9,7 @@ use Rattle.postcard_dyn_file.specs.declared.error.FileError.{FileError}
 use Rattle.postcard_dyn_file.specs.Lexical.{IsRead}
 use Rattle.postcard_dyn_file.specs.Kept.{AreKept}
 use Rattle.postcard_dyn_file.specs.Items.{AreDeclarations}
-use Rattle.postcard_dyn_file.specs.Expands.{IsSpelledBy, HasFault}
+use Rattle.postcard_dyn_file.specs.Expands.{IsSpelledBy, HasProblem}
 use Rattle.postcard_dyn_file.specs.Places.{IsPlace}
 use Rattle.postcard_dyn_file.specs.Printed.{is_of_type}
 
@@ -26,8 +26,8 @@ abbrev pub IsTypeOf : List ℕ → List ℕ → Schema → Type 0
 IsTypeOf file name schema = (text : List ℕ) × IsExpressionOf file name text × IsExpression schema text
 
 -- If the problem is one of the type with this name: the file has no declaration of the name, it is recursive, or it is no type.
-abbrev pub HasFaultOf : List ℕ → List ℕ → FileProblem → Type 0
-HasFaultOf file name problem = (is_of_type problem ≡ true) → (kept : List Token) × (known : List Declaration) × IsFileOf file kept known × HasFault kept known name problem
+abbrev pub HasProblemOf : List ℕ → List ℕ → FileProblem → Type 0
+HasProblemOf file name problem = (is_of_type problem ≡ true) → (kept : List Token) × (known : List Declaration) × IsFileOf file kept known × HasProblem kept known name problem
 
 -- The error's line and column are those of a place in the file.
 abbrev pub IsWithin : List ℕ → FileError → Type 0

@@ -33,7 +33,7 @@ file_problem_text (problems.Expression problem) = problem_text problem
 abbrev pub file_error_text : FileError → List ℕ
 file_error_text e = codes "line " ++ decimal e.line ++ codes ", column " ++ decimal e.column ++ codes ": " ++ file_problem_text e.problem
 
--- The problem is no fault of a type: memory is lacking, or types nest too deeply.
+-- The problem is none of a type: memory is lacking, or types nest too deeply.
 abbrev pub is_limit : Problem → Bool
 is_limit OutOfMemory = true
 is_limit TooDeep = true

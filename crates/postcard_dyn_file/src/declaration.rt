@@ -9,7 +9,7 @@ ghost use Rattle.postcard_dyn_file.specs.Items.{IsKeyword, EndsItem, BeginsItem,
 ghost use Rattle.postcard_dyn_file.specs.Items.{Declares, ReadsItem, AreDeclarations};
 ghost use Rattle.postcard_dyn_file.specs.Printed.{is_of_type};
 
-use crate::error::{Fault, FileProblem, out_of_memory};
+use crate::error::{FileProblem, ProblemAt, out_of_memory};
 use crate::token::{Token, is_name_at, place_of, token_at};
 use std::alloc::Global;
 
@@ -58,9 +58,12 @@ pub struct Declaration<'a> {
 ///
 /// Fails with `NameExpected` at a declaration without a name, with `ItemOpen` at one that doesn't
 /// end, with `DeclaredTwice` at a name that a declaration before has, and with `OutOfMemory`.
-pub fn declarations<'a>(alloc: Global, tokens: &[Token<'a>]) -> Result<Vec<Declaration<'a>>, Fault>
+pub fn declarations<'a>(
+    alloc: Global,
+    tokens: &[Token<'a>],
+) -> Result<Vec<Declaration<'a>>, ProblemAt>
     ensures declared { IfOk result (λ known. AreDeclarations tokens.now known.items) }
-    ensures other { IfErr result (λ fault. is_of_type fault.problem ≡ false) }
+    ensures other { IfErr result (λ e. is_of_type e.problem ≡ false) }
 {
     let mut known = Vec::new(alloc);
     for at in 0..tokens.len() {
@@ -94,17 +97,17 @@ fn read_item<'a>(
     tokens: &[Token<'a>],
     at: usize,
     known: &mut Vec<Declaration<'a>>,
-) -> Result<(), Fault>
+) -> Result<(), ProblemAt>
     requires { at < length tokens.now }
     ensures read { OnOk result (ReadsItem tokens.now at known.old.items known.new.items) }
-    ensures other { IfErr result (λ fault. is_of_type fault.problem ≡ false) }
+    ensures other { IfErr result (λ e. is_of_type e.problem ≡ false) }
 {
     let Some(declaration) = declared(tokens, at)? else {
         return Ok(());
     };
     let left = declaration.name.left;
     if named(known.as_slice(), declaration.name.text).is_some() {
-        return Err(Fault {
+        return Err(ProblemAt {
             problem: FileProblem::DeclaredTwice,
             left,
         });
@@ -116,12 +119,12 @@ fn read_item<'a>(
 }
 
 /// Returns the declaration that an item at the index is, or `None` if none is.
-fn declared<'a>(tokens: &[Token<'a>], at: usize) -> Result<Option<Declaration<'a>>, Fault>
+fn declared<'a>(tokens: &[Token<'a>], at: usize) -> Result<Option<Declaration<'a>>, ProblemAt>
     requires { at < length tokens.now }
     ensures found { IfOk result (λ found. IfSome found (λ d. Declares tokens.now at d)) }
     ensures none { IfOk result (λ found. IfNone found
         ((d : Declaration) → Declares tokens.now at d → ⊥)) }
-    ensures other { IfErr result (λ fault. is_of_type fault.problem ≡ false) }
+    ensures other { IfErr result (λ e. is_of_type e.problem ≡ false) }
 {
     if !begins_item(tokens, at) {
         return Ok(None);
@@ -130,7 +133,7 @@ fn declared<'a>(tokens: &[Token<'a>], at: usize) -> Result<Option<Declaration<'a
         return Ok(None);
     };
     if at + 1 >= tokens.len() || !is_name_at(tokens, at + 1) {
-        return Err(Fault {
+        return Err(ProblemAt {
             problem: FileProblem::NameExpected,
             left: place_of(tokens, at + 1),
         });
@@ -142,7 +145,7 @@ fn declared<'a>(tokens: &[Token<'a>], at: usize) -> Result<Option<Declaration<'a
             start: at + 2,
             end,
         })),
-        None => Err(Fault {
+        None => Err(ProblemAt {
             problem: FileProblem::ItemOpen,
             left: place_of(tokens, at),
         }),

@@ -96,18 +96,20 @@ impl fmt::Display for FileError {
     }
 }
 
-/// What is wrong, and where: the number of bytes from there to the end of the file.
+/// What is wrong, and where.
 #[derive(Clone, Copy)]
-pub struct Fault {
+pub struct ProblemAt {
+    /// What is wrong.
     pub problem: FileProblem,
+    /// The number of bytes from there to the end of the file.
     pub left: usize,
 }
 
-/// Returns the fault that an allocation failed.
-pub fn out_of_memory(left: usize) -> Fault
+/// Returns that an allocation failed.
+pub fn out_of_memory(left: usize) -> ProblemAt
     ensures { is_of_type result.problem ≡ false }
 {
-    Fault {
+    ProblemAt {
         problem: FileProblem::Expression(Problem::OutOfMemory),
         left,
     }

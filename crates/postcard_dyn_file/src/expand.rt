@@ -11,10 +11,10 @@ ghost use Rattle.postcard_dyn_file.specs.Items.{NamesDiffer};
 ghost use Rattle.postcard_dyn_file.specs.Tokens.{spelling};
 ghost use Rattle.postcard_dyn_file.specs.Printed.{is_of_type};
 ghost use Rattle.postcard_dyn_file.specs.Expands.{IsMember, Refers, Writes, Spelled, AreInOrder};
-ghost use Rattle.postcard_dyn_file.specs.Expands.{IsSpelledBy, FindsRecursion, EntersAgain, HasFault};
+ghost use Rattle.postcard_dyn_file.specs.Expands.{IsSpelledBy, FindsRecursion, EntersAgain, HasProblem};
 
 use crate::declaration::{Declaration, Kind, named};
-use crate::error::{Fault, FileProblem, out_of_memory};
+use crate::error::{FileProblem, ProblemAt, out_of_memory};
 use crate::token::{Token, is_at};
 use crate::words::{check_body, text_of};
 use postcard_dyn_schema::Problem;
@@ -37,16 +37,16 @@ pub fn words_of<'a>(
     tokens: &[Token<'a>],
     known: &[Declaration<'a>],
     name: &[u8],
-) -> Result<Vec<Token<'a>>, Fault>
+) -> Result<Vec<Token<'a>>, ProblemAt>
     requires order { AreInOrder tokens.now known.now }
     requires differ { NamesDiffer known.now }
     ensures spelled { IfOk result (λ words. IsSpelledBy tokens.now known.now name.now
         (spelling words.items)) }
-    ensures fault { IfErr result (λ fault. is_of_type fault.problem ≡ true
-        → HasFault tokens.now known.now name.now fault.problem) }
+    ensures problem { IfErr result (λ e. is_of_type e.problem ≡ true
+        → HasProblem tokens.now known.now name.now e.problem) }
 {
     let Some(declaration) = named(known, name) else {
-        return Err(Fault {
+        return Err(ProblemAt {
             problem: FileProblem::NotDeclared,
             left: 0,
         });
@@ -76,15 +76,15 @@ fn write_declaration<'a>(
     depth: usize,
     within: &mut Vec<Declaration<'a>>,
     out: &mut Vec<Token<'a>>,
-) -> Result<(), Fault>
+) -> Result<(), ProblemAt>
     requires order { AreInOrder tokens.now known.now }
     requires here { declaration.now.start ≤ declaration.now.end }
     requires inside { declaration.now.end ≤ length tokens.now }
     ensures written { OnOk result (Spelled tokens.now known.now declaration.now
         (spelling out.old.items) (spelling out.new.items)) }
     ensures kept { OnOk result (within.new.items ≡ within.old.items) }
-    ensures fault { IfErr result (λ fault. is_of_type fault.problem ≡ true
-        → FindsRecursion tokens.now known.now within.old.items declaration.now fault.problem) }
+    ensures problem { IfErr result (λ e. is_of_type e.problem ≡ true
+        → FindsRecursion tokens.now known.now within.old.items declaration.now e.problem) }
 {
     check_body(tokens, declaration)?;
     for at in declaration.start..declaration.end {
@@ -103,7 +103,7 @@ fn write_token<'a>(
     depth: usize,
     within: &mut Vec<Declaration<'a>>,
     out: &mut Vec<Token<'a>>,
-) -> Result<(), Fault>
+) -> Result<(), ProblemAt>
     requires order { AreInOrder tokens.now known.now }
     requires start { declaration.now.start ≤ at }
     requires end { at < declaration.now.end }
@@ -111,8 +111,8 @@ fn write_token<'a>(
     ensures written { OnOk result (Writes tokens.now known.now declaration.now at
         (spelling out.old.items) (spelling out.new.items)) }
     ensures kept { OnOk result (within.new.items ≡ within.old.items) }
-    ensures fault { IfErr result (λ fault. is_of_type fault.problem ≡ true
-        → FindsRecursion tokens.now known.now within.old.items declaration.now fault.problem) }
+    ensures problem { IfErr result (λ e. is_of_type e.problem ≡ true
+        → FindsRecursion tokens.now known.now within.old.items declaration.now e.problem) }
 {
     let left = tokens[at].left;
     let Some(other) = referred(tokens, known, declaration, at) else {
@@ -120,7 +120,7 @@ fn write_token<'a>(
         return Ok(());
     };
     if depth == 0 {
-        return Err(Fault {
+        return Err(ProblemAt {
             problem: FileProblem::Expression(Problem::TooDeep),
             left,
         });
@@ -172,13 +172,13 @@ fn enter<'a>(
     within: &mut Vec<Declaration<'a>>,
     other: &Declaration<'a>,
     left: usize,
-) -> Result<(), Fault>
+) -> Result<(), ProblemAt>
     ensures entered { OnOk result (within.new.items ≡ within.old.items ++ other.now ∷ []) }
-    ensures fault { IfErr result (λ fault. is_of_type fault.problem ≡ true
-        → EntersAgain within.old.items other.now fault.problem) }
+    ensures problem { IfErr result (λ e. is_of_type e.problem ≡ true
+        → EntersAgain within.old.items other.now e.problem) }
 {
     if named(within.as_slice(), other.name.text).is_some() {
-        return Err(Fault {
+        return Err(ProblemAt {
             problem: FileProblem::Recursive,
             left,
         });
@@ -194,13 +194,13 @@ fn enter<'a>(
 /// # Errors
 ///
 /// Fails with `TooLong` if there are `MAX_WORDS` before it, and with `OutOfMemory`.
-fn push<'a>(out: &mut Vec<Token<'a>>, text: &'a [u8], left: usize) -> Result<(), Fault>
+fn push<'a>(out: &mut Vec<Token<'a>>, text: &'a [u8], left: usize) -> Result<(), ProblemAt>
     ensures pushed { OnOk result (spelling out.new.items
         ≡ spelling out.old.items ++ (text.now ++ 32 ∷ [])) }
-    ensures other { IfErr result (λ fault. is_of_type fault.problem ≡ false) }
+    ensures other { IfErr result (λ e. is_of_type e.problem ≡ false) }
 {
     if out.len() >= MAX_WORDS {
-        return Err(Fault {
+        return Err(ProblemAt {
             problem: FileProblem::TooLong,
             left,
         });

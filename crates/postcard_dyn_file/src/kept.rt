@@ -6,7 +6,7 @@ ghost use Rattle.postcard_dyn_file.specs.Kept.{IsAttribute, IsLimit, IsScope, Ha
 ghost use Rattle.postcard_dyn_file.specs.Kept.{EndsBefore, IsEmptyAngle, IsPassed, KeepStep, AreKept};
 ghost use Rattle.postcard_dyn_file.specs.Printed.{is_of_type};
 
-use crate::error::{Fault, FileProblem, out_of_memory};
+use crate::error::{FileProblem, ProblemAt, out_of_memory};
 use crate::token::{Token, after_word, is_at, is_before, is_name_at, place_of};
 use std::alloc::Global;
 
@@ -15,9 +15,9 @@ use std::alloc::Global;
 /// # Errors
 ///
 /// Fails with `OutOfMemory` if an allocation fails.
-pub fn kept<'a>(alloc: Global, tokens: &[Token<'a>]) -> Result<Vec<Token<'a>>, Fault>
+pub fn kept<'a>(alloc: Global, tokens: &[Token<'a>]) -> Result<Vec<Token<'a>>, ProblemAt>
     ensures kept { IfOk result (λ kept. AreKept tokens.now kept.items) }
-    ensures other { IfErr result (λ fault. is_of_type fault.problem ≡ false) }
+    ensures other { IfErr result (λ e. is_of_type e.problem ≡ false) }
 {
     let mut kept = Vec::new(alloc);
     let mut at = 0;
@@ -29,12 +29,16 @@ pub fn kept<'a>(alloc: Global, tokens: &[Token<'a>]) -> Result<Vec<Token<'a>>, F
 
 /// Passes over what begins at the index, or adds its token to the end of the list, and returns the
 /// index that is read next.
-fn keep_next<'a>(tokens: &[Token<'a>], at: usize, kept: &mut Vec<Token<'a>>) -> Result<usize, Fault>
+fn keep_next<'a>(
+    tokens: &[Token<'a>],
+    at: usize,
+    kept: &mut Vec<Token<'a>>,
+) -> Result<usize, ProblemAt>
     requires { at < length tokens.now }
     ensures kept { IfOk result (λ after. KeepStep tokens.now (at, kept.old.items)
         (after, kept.new.items)) }
     ensures further { IfOk result (λ after. at < after) }
-    ensures other { IfErr result (λ fault. is_of_type fault.problem ≡ false) }
+    ensures other { IfErr result (λ e. is_of_type e.problem ≡ false) }
 {
     if let Some(bracket) = bracket_from(tokens, at) {
         return after_bracket(tokens, bracket);
@@ -108,9 +112,9 @@ fn after_limit(tokens: &[Token], at: usize) -> Option<usize>
 }
 
 /// Returns the index after the bracket that closes the one at the index.
-fn after_bracket(tokens: &[Token], at: usize) -> Result<usize, Fault>
+fn after_bracket(tokens: &[Token], at: usize) -> Result<usize, ProblemAt>
     ensures ends { IfOk result (λ after. EndsBefore tokens.now at after) }
-    ensures other { IfErr result (λ fault. is_of_type fault.problem ≡ false) }
+    ensures other { IfErr result (λ e. is_of_type e.problem ≡ false) }
 {
     if at < tokens.len() {
         for last in at + 1..tokens.len() {
@@ -119,7 +123,7 @@ fn after_bracket(tokens: &[Token], at: usize) -> Result<usize, Fault>
             }
         }
     }
-    Err(Fault {
+    Err(ProblemAt {
         problem: FileProblem::BracketOpen,
         left: place_of(tokens, at),
     })

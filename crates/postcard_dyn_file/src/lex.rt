@@ -12,7 +12,7 @@ ghost use Rattle.postcard_dyn_file.specs.Lexical.{IsQuoted, IsLiteral, IsWordFro
 ghost use Rattle.postcard_dyn_file.specs.Lexical.{IsBlank, IsGap, HasDepth, IsSignAt, IsOtherAt};
 ghost use Rattle.postcard_dyn_file.specs.Lexical.{IsTokenAt, ReadStep, IsRead};
 
-use crate::error::{Fault, FileProblem, out_of_memory};
+use crate::error::{FileProblem, ProblemAt, out_of_memory};
 use crate::token::Token;
 use std::alloc::Global;
 
@@ -23,9 +23,9 @@ use std::alloc::Global;
 /// Fails with `CommentOpen` or `LiteralOpen` where one begins that isn't closed, with `AsciiExpected`
 /// at another character than of ASCII that is in none of them, with `NotOpen` at a bracket that is
 /// closed and isn't open, with `BracketOpen` at one that isn't closed, and with `OutOfMemory`.
-pub fn tokens<'a>(alloc: Global, file: &'a [u8]) -> Result<Vec<Token<'a>>, Fault>
+pub fn tokens<'a>(alloc: Global, file: &'a [u8]) -> Result<Vec<Token<'a>>, ProblemAt>
     ensures read { IfOk result (λ tokens. IsRead file.now tokens.items) }
-    ensures other { IfErr result (λ fault. is_of_type fault.problem ≡ false) }
+    ensures other { IfErr result (λ e. is_of_type e.problem ≡ false) }
 {
     let mut tokens = Vec::new(alloc);
     let mut rest = file;
@@ -43,12 +43,12 @@ pub fn tokens<'a>(alloc: Global, file: &'a [u8]) -> Result<Vec<Token<'a>>, Fault
 /// # Errors
 ///
 /// Fails with `BracketOpen` if brackets are open at its end.
-fn closed(tokens: Vec<Token>, depth: usize) -> Result<Vec<Token>, Fault>
+fn closed(tokens: Vec<Token>, depth: usize) -> Result<Vec<Token>, ProblemAt>
     ensures closed { IfOk result (λ all. (all.items ≡ tokens.entry.items) × (depth ≡ 0)) }
-    ensures other { IfErr result (λ fault. is_of_type fault.problem ≡ false) }
+    ensures other { IfErr result (λ e. is_of_type e.problem ≡ false) }
 {
     if depth > 0 {
-        return Err(Fault {
+        return Err(ProblemAt {
             problem: FileProblem::BracketOpen,
             left: last_within(tokens.as_slice(), depth),
         });
@@ -73,11 +73,11 @@ fn read_next<'a>(
     text: &'a [u8],
     depth: usize,
     tokens: &mut Vec<Token<'a>>,
-) -> Result<(&'a [u8], usize), Fault>
+) -> Result<(&'a [u8], usize), ProblemAt>
     ensures read { IfOk result (λ found. ReadStep (text.now, depth, tokens.old.items)
         (found.0.now, found.1, tokens.new.items)) }
     ensures shorter { IfOk result (λ found. length found.0.now < length text.now) }
-    ensures other { IfErr result (λ fault. is_of_type fault.problem ≡ false) }
+    ensures other { IfErr result (λ e. is_of_type e.problem ≡ false) }
 {
     let left = text.len();
     if let Some(rest) = after_gap(text)? {
@@ -85,7 +85,7 @@ fn read_next<'a>(
     }
     let (word, rest) = token_front(text)?;
     let Some((around, after)) = depths(word, depth) else {
-        return Err(Fault {
+        return Err(ProblemAt {
             problem: FileProblem::NotOpen,
             left,
         });
@@ -122,10 +122,10 @@ fn depths(word: &[u8], depth: usize) -> Option<(usize, usize)>
 /// Returns the text after what stands between tokens: a blank, a comment, or a lifetime and the comma
 /// behind it.
 #[tactic(auto, unfolding(crate::specs::Lexical::IsGap))]
-fn after_gap(text: &[u8]) -> Result<Option<&[u8]>, Fault>
+fn after_gap(text: &[u8]) -> Result<Option<&[u8]>, ProblemAt>
     ensures found { IfOk result (λ found. IfSome found (λ rest. IsGap text.now rest.now)) }
     ensures none { IfOk result (λ found. IfNone found ((rest : List ℕ) → IsGap text.now rest → ⊥)) }
-    ensures other { IfErr result (λ fault. is_of_type fault.problem ≡ false) }
+    ensures other { IfErr result (λ e. is_of_type e.problem ≡ false) }
 {
     if let Some(rest) = after_blank(text) {
         return Ok(Some(rest));
@@ -189,10 +189,10 @@ fn after_line(text: &[u8]) -> Option<&[u8]>
 }
 
 /// Returns the text after a comment in `/*` and `*/`, in which others may stand.
-fn after_comment(text: &[u8]) -> Result<Option<&[u8]>, Fault>
+fn after_comment(text: &[u8]) -> Result<Option<&[u8]>, ProblemAt>
     ensures found { IfOk result (λ found. IfSome found (λ rest. IsComment text.now rest.now)) }
     ensures none { IfOk result (λ found. IfNone found (Begins 47 42 text.now → ⊥)) }
-    ensures other { IfErr result (λ fault. is_of_type fault.problem ≡ false) }
+    ensures other { IfErr result (λ e. is_of_type e.problem ≡ false) }
 {
     let Some(inner) = after_two(text, b'/', b'*') else {
         return Ok(None);
@@ -209,7 +209,7 @@ fn after_comment(text: &[u8]) -> Result<Option<&[u8]>, Fault>
         rest = after;
         depth = next;
     }
-    Err(Fault {
+    Err(ProblemAt {
         problem: FileProblem::CommentOpen,
         left: text.len(),
     })
@@ -280,9 +280,9 @@ fn is_of_word(byte: u8) -> bool
 
 /// Returns the token that the text begins with, and the text after it.
 #[tactic(auto, unfolding(crate::specs::Lexical::IsTokenAt))]
-fn token_front(text: &[u8]) -> Result<(&[u8], &[u8]), Fault>
+fn token_front(text: &[u8]) -> Result<(&[u8], &[u8]), ProblemAt>
     ensures read { IfOk result (λ found. IsTokenAt found.0.now text.now found.1.now) }
-    ensures other { IfErr result (λ fault. is_of_type fault.problem ≡ false) }
+    ensures other { IfErr result (λ e. is_of_type e.problem ≡ false) }
 {
     let (word, after) = word_front(text);
     if !word.is_empty() {
@@ -292,9 +292,9 @@ fn token_front(text: &[u8]) -> Result<(&[u8], &[u8]), Fault>
 }
 
 /// Returns the token that the text begins with, where no word begins it, and the text after it.
-fn other_front(text: &[u8]) -> Result<(&[u8], &[u8]), Fault>
+fn other_front(text: &[u8]) -> Result<(&[u8], &[u8]), ProblemAt>
     ensures read { IfOk result (λ found. IsOtherAt found.0.now text.now found.1.now) }
-    ensures other { IfErr result (λ fault. is_of_type fault.problem ≡ false) }
+    ensures other { IfErr result (λ e. is_of_type e.problem ≡ false) }
 {
     if let Some(rest) = after_two(text, b':', b':') {
         return Ok((b"::", rest));
@@ -309,14 +309,14 @@ fn other_front(text: &[u8]) -> Result<(&[u8], &[u8]), Fault>
 }
 
 /// Returns the first byte of the text, and the text after it.
-fn sign_front(text: &[u8]) -> Result<(&[u8], &[u8]), Fault>
+fn sign_front(text: &[u8]) -> Result<(&[u8], &[u8]), ProblemAt>
     ensures read { IfOk result (λ found. IsSignAt found.0.now text.now found.1.now) }
-    ensures other { IfErr result (λ fault. is_of_type fault.problem ≡ false) }
+    ensures other { IfErr result (λ e. is_of_type e.problem ≡ false) }
 {
     if !text.is_empty() && text[0].is_ascii() {
         return Ok(text.split_at(1));
     }
-    Err(Fault {
+    Err(ProblemAt {
         problem: FileProblem::AsciiExpected,
         left: text.len(),
     })
@@ -328,14 +328,14 @@ fn literal_front<'a>(
     text: &'a [u8],
     inner: &'a [u8],
     quote: u8,
-) -> Result<(&'a [u8], &'a [u8]), Fault>
+) -> Result<(&'a [u8], &'a [u8]), ProblemAt>
     requires { text.now ≡ quote ∷ inner.now }
     ensures read { IfOk result (λ found. IsLiteral quote found.0.now text.now found.1.now) }
-    ensures other { IfErr result (λ fault. is_of_type fault.problem ≡ false) }
+    ensures other { IfErr result (λ e. is_of_type e.problem ≡ false) }
 {
     let left = text.len();
     let Some(rest) = after_letters(inner, quote) else {
-        return Err(Fault {
+        return Err(ProblemAt {
             problem: FileProblem::LiteralOpen,
             left,
         });

@@ -39,7 +39,7 @@
 ghost use Rattle.std.specs.Prelude.{IfOk, IfErr, string_bytes};
 ghost use Rattle.postcard_dyn_schema.specs.declared.schema.Schema.{Schema};
 ghost use Rattle.postcard_dyn_schema.specs.Grammar.{IsExpression};
-ghost use Rattle.postcard_dyn_file.specs.Files.{IsExpressionOf, IsTypeOf, HasFaultOf, IsWithin};
+ghost use Rattle.postcard_dyn_file.specs.Files.{IsExpressionOf, IsTypeOf, HasProblemOf, IsWithin};
 
 pub mod declaration;
 pub mod error;
@@ -53,7 +53,7 @@ pub mod token;
 pub mod words;
 
 use declaration::declarations;
-use error::Fault;
+use error::ProblemAt;
 pub use error::{FileError, FileProblem};
 use expand::words_of;
 use kept::kept;
@@ -71,12 +71,12 @@ use std::alloc::Global;
 /// declaration of the name and those that it needs consist of: what is wrong in another one isn't found.
 pub fn find(alloc: Global, file: &str, name: &str) -> Result<Schema, FileError>
     ensures found { IfOk result (λ schema. IsTypeOf file.now name.now schema) }
-    ensures fault { IfErr result (λ e. HasFaultOf file.now name.now e.problem) }
+    ensures problem { IfErr result (λ e. HasProblemOf file.now name.now e.problem) }
     ensures place { IfErr result (λ e. IsWithin file.now e) }
 {
     match read(alloc, file.as_bytes(), name.as_bytes()) {
         Ok(found) => Ok(found.schema),
-        Err(fault) => Err(error_at(file.as_bytes(), fault)),
+        Err(problem_at) => Err(error_at(file.as_bytes(), problem_at)),
     }
 }
 
@@ -89,12 +89,12 @@ pub fn find(alloc: Global, file: &str, name: &str) -> Result<Schema, FileError>
 pub fn expression(alloc: Global, file: &str, name: &str) -> Result<String, FileError>
     ensures spelled { IfOk result (λ text. IsExpressionOf file.now name.now (string_bytes text)) }
     ensures read { IfOk result (λ text. (schema : Schema) × IsExpression schema (string_bytes text)) }
-    ensures fault { IfErr result (λ e. HasFaultOf file.now name.now e.problem) }
+    ensures problem { IfErr result (λ e. HasProblemOf file.now name.now e.problem) }
     ensures place { IfErr result (λ e. IsWithin file.now e) }
 {
     match read(alloc, file.as_bytes(), name.as_bytes()) {
         Ok(found) => Ok(found.text),
-        Err(fault) => Err(error_at(file.as_bytes(), fault)),
+        Err(problem_at) => Err(error_at(file.as_bytes(), problem_at)),
     }
 }
 
@@ -106,11 +106,11 @@ struct Found {
 }
 
 /// Returns the type with this name, and its expression.
-fn read(alloc: Global, file: &[u8], name: &[u8]) -> Result<Found, Fault>
+fn read(alloc: Global, file: &[u8], name: &[u8]) -> Result<Found, ProblemAt>
     ensures spelled { IfOk result (λ found. IsExpressionOf file.now name.now
         (string_bytes found.text)) }
     ensures read { IfOk result (λ found. IsExpression found.schema (string_bytes found.text)) }
-    ensures fault { IfErr result (λ fault. HasFaultOf file.now name.now fault.problem) }
+    ensures problem { IfErr result (λ e. HasProblemOf file.now name.now e.problem) }
 {
     let all = tokens(alloc, file)?;
     let kept = kept(alloc, all.as_slice())?;
@@ -119,7 +119,7 @@ fn read(alloc: Global, file: &[u8], name: &[u8]) -> Result<Found, Fault>
     let text = spelled(alloc, words.as_slice())?;
     match parse(alloc, text.as_str()) {
         Ok(schema) => Ok(Found { text, schema }),
-        Err(e) => Err(Fault {
+        Err(e) => Err(ProblemAt {
             problem: FileProblem::Expression(e.problem),
             left: left_of(words.as_slice(), e.character),
         }),

@@ -6,7 +6,7 @@ ghost use Rattle.postcard_dyn_file.specs.Tokens.{spelling};
 ghost use Rattle.postcard_dyn_file.specs.Places.{IsLineStart, IsPlace};
 ghost use Rattle.postcard_dyn_file.specs.Printed.{is_of_type};
 
-use crate::error::{Fault, FileError, FileProblem, out_of_memory};
+use crate::error::{FileError, FileProblem, ProblemAt, out_of_memory};
 use crate::token::Token;
 use postcard_dyn_schema::scan::character_of;
 use std::alloc::Global;
@@ -17,14 +17,14 @@ use std::alloc::Global;
 ///
 /// Fails with `AsciiExpected` at a word that is no UTF-8, as no token of a text is, and with
 /// `OutOfMemory`.
-pub fn spelled(alloc: Global, words: &[Token]) -> Result<String, Fault>
+pub fn spelled(alloc: Global, words: &[Token]) -> Result<String, ProblemAt>
     ensures spelled { IfOk result (λ text. string_bytes text ≡ spelling words.now) }
-    ensures other { IfErr result (λ fault. is_of_type fault.problem ≡ false) }
+    ensures other { IfErr result (λ e. is_of_type e.problem ≡ false) }
 {
     let mut text = String::new(alloc);
     for word in words {
         let Ok(letters) = str::from_utf8(word.text) else {
-            return Err(Fault {
+            return Err(ProblemAt {
                 problem: FileProblem::AsciiExpected,
                 left: word.left,
             });
@@ -35,10 +35,10 @@ pub fn spelled(alloc: Global, words: &[Token]) -> Result<String, Fault>
 }
 
 /// Adds a word and a blank to the text.
-fn add(text: &mut String, word: &str, left: usize) -> Result<(), Fault>
+fn add(text: &mut String, word: &str, left: usize) -> Result<(), ProblemAt>
     ensures added { OnOk result (string_bytes text.new
         ≡ string_bytes text.old ++ (word.now ++ 32 ∷ [])) }
-    ensures other { IfErr result (λ fault. is_of_type fault.problem ≡ false) }
+    ensures other { IfErr result (λ e. is_of_type e.problem ≡ false) }
 {
     if text.push_str(word).is_err() {
         return Err(out_of_memory(left));
@@ -65,16 +65,16 @@ pub fn left_of(words: &[Token], character: usize) -> usize {
     left
 }
 
-/// Returns the error of a fault, with its line and column, each counted from 1.
-pub fn error_at(file: &[u8], fault: Fault) -> FileError
-    ensures problem { result.problem ≡ fault.problem }
-    ensures place { IsPlace file.now (length file.now - fault.left) result.line result.column }
+/// Returns the error of a problem, with its line and column, each counted from 1.
+pub fn error_at(file: &[u8], problem_at: ProblemAt) -> FileError
+    ensures problem { result.problem ≡ problem_at.problem }
+    ensures place { IsPlace file.now (length file.now - problem_at.left) result.line result.column }
 {
-    let (_, line) = file.split_at(line_start(file, file.len().saturating_sub(fault.left)));
+    let (_, line) = file.split_at(line_start(file, file.len().saturating_sub(problem_at.left)));
     FileError {
-        problem: fault.problem,
-        line: line_of(file, fault.left),
-        column: character_of(line, fault.left),
+        problem: problem_at.problem,
+        line: line_of(file, problem_at.left),
+        column: character_of(line, problem_at.left),
     }
 }
 

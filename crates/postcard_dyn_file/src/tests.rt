@@ -32,7 +32,7 @@ mod other;
 ";
 
 /// Files with declarations that are read.
-const TYPES: [Row; 25] = [
+const TYPES: [Row; 26] = [
     (
         "struct Reading { id: u32, label: String, samples: Vec<i16> }",
         "Reading",
@@ -126,6 +126,11 @@ const TYPES: [Row; 25] = [
         "A",
         "Group([Group([Group([Leaf(U8), Leaf(U8)]), Group([Leaf(U8), Leaf(U8)])]), \
          Group([Group([Leaf(U8), Leaf(U8)]), Group([Leaf(U8), Leaf(U8)])])])",
+    ),
+    (
+        "struct A { a: LE<u16>, b: postcard::fixint::BE<B> } type B = i32;",
+        "A",
+        "Group([Named(\"a\", Leaf(Fixed(Little, U16))), Named(\"b\", Leaf(Fixed(Big, I32)))])",
     ),
     ("struct A(u8); struct B<T>(T);", "A", "Leaf(U8)"),
     ("struct A(u8); struct B(u9);", "A", "Leaf(U8)"),

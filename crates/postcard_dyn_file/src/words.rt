@@ -6,12 +6,12 @@ ghost use Rattle.postcard_dyn_file.specs.Words.{IsSign, IsDiscriminant, IsText, 
 ghost use Rattle.postcard_dyn_file.specs.Words.{IsEnumText, IsAliasText, IsPlainText};
 
 use crate::declaration::{Declaration, Kind};
-use crate::error::{Fault, FileProblem};
+use crate::error::{FileProblem, ProblemAt};
 use crate::token::{Token, is_at, is_before, place_of};
 
 /// Fails where the tokens after the name of a declaration don't begin or end as its kind has to.
-pub fn check_body(tokens: &[Token], declaration: &Declaration) -> Result<(), Fault>
-    ensures { IfErr result (λ fault. is_of_type fault.problem ≡ false) }
+pub fn check_body(tokens: &[Token], declaration: &Declaration) -> Result<(), ProblemAt>
+    ensures { IfErr result (λ e. is_of_type e.problem ≡ false) }
 {
     let start = declaration.start;
     let problem = match declaration.kind {
@@ -20,14 +20,14 @@ pub fn check_body(tokens: &[Token], declaration: &Declaration) -> Result<(), Fau
         Kind::Enum if !is_at(tokens, start, b"{") => FileProblem::BraceExpected,
         Kind::Alias if !is_at(tokens, start, b"=") => FileProblem::EqualsExpected,
         Kind::Alias if !is_before(tokens, declaration.end, b";") => {
-            return Err(Fault {
+            return Err(ProblemAt {
                 problem: FileProblem::SemicolonExpected,
                 left: place_of(tokens, declaration.end),
             });
         }
         _ => return Ok(()),
     };
-    Err(Fault {
+    Err(ProblemAt {
         problem,
         left: place_of(tokens, start),
     })

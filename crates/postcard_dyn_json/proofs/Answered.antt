@@ -4,8 +4,10 @@ use Rattle.std.specs.Prelude.{Result, Ok, Err, IsErrAnd, IfOk, MatchResult}
 use Rattle.postcard_wire.specs.Tree.{Tree, Trees, NoTrees, Then, trees, count}
 use Rattle.postcard_wire.specs.Tree as nodes
 use Rattle.postcard_wire.specs.Reading.{Each}
+use Rattle.postcard_dyn_schema.specs.declared.fixed.Integer.{Integer}
+use Rattle.postcard_dyn_schema.specs.Fixed.{is_signed}
 use Rattle.postcard_dyn_schema.specs.declared.schema.Leaf.{Leaf}
-use Rattle.postcard_dyn_schema.specs.declared.schema.Leaf.TheVariants.{U8, U16, U32, U64, U128, I8, I16, I32, I64, I128, F32, F64, Char, Str, Bytes}
+use Rattle.postcard_dyn_schema.specs.declared.schema.Leaf.TheVariants.{U8, U16, U32, U64, U128, I8, I16, I32, I64, I128, F32, F64, Char, Str, Bytes, Fixed}
 use Rattle.postcard_dyn_schema.specs.declared.schema.Leaf.TheVariants as leaves
 use Rattle.postcard_dyn_schema.specs.declared.schema.Schema.{Schema}
 use Rattle.postcard_dyn_schema.specs.Meaning.{MessageType, option, seq, array, group, no_types, type_of, types_of, reads, reads_all}
@@ -22,7 +24,7 @@ use Rattle.serde_json.specs.View.{view, items_view}
 use Rattle.postcard_dyn_json.specs.declared.error.JsonError.{JsonError}
 use Rattle.postcard_dyn_json.specs.declared.error.JsonError.TheVariants.{OutOfMemory}
 use Rattle.postcard_dyn_json.specs.Written.{alone, can_be_null}
-use Rattle.postcard_dyn_json.specs.Reading.{Reading, IsLeafJson, IsOptionJson, IsListJson, IsArrayJson, IsGroupJson, IsContentJson, AreItems, ArePartsFrom, HasLength, IsJsonOf, IsJsonAt, IsVariantJson, layouts_len, part_of}
+use Rattle.postcard_dyn_json.specs.Reading.{Reading, IsLeafJson, IsBitsJson, IsOptionJson, IsListJson, IsArrayJson, IsGroupJson, IsContentJson, AreItems, ArePartsFrom, HasLength, IsJsonOf, IsJsonAt, IsVariantJson, layouts_len, part_of}
 use Rattle.postcard_dyn_json.specs.Accepted.{Answers, IsOnly, IsReading, AreParts, IsPart}
 
 -- An answer under one condition is one under each that it follows from.
@@ -31,6 +33,10 @@ under D E see R d (Ok v) f (h, one) = (h, λ e. one (f e))
 under D E see R d (Err x) f none = λ e. none (f e)
 
 -- ---- null
+
+bits_not_null : (signed : Bool) (i : Integer) (n : ℕ) → IsBitsJson signed i n null → ⊥
+bits_not_null true i n (z, is, h) = h
+bits_not_null false i n (low, h) = h
 
 leaf_not_null : (l : Leaf) (t : Tree) → IsLeafJson l t null → ⊥
 leaf_not_null leaves.Bool (nodes.Boolean x) h = cc h
@@ -49,6 +55,7 @@ leaf_not_null I16 (nodes.Int w z) h = h
 leaf_not_null I32 (nodes.Int w z) h = h
 leaf_not_null I64 (nodes.Int w z) h = h
 leaf_not_null I128 (nodes.Int w z) h = h
+leaf_not_null (Fixed order i) t (n, is, h) = bits_not_null (is_signed i) i n h
 leaf_not_null l t h = h
 
 no_length : (b : Bool) (n : ℕ) → HasLength b n null → ⊥

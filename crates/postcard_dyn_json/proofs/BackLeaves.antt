@@ -1,11 +1,12 @@
 -- The JSON of values without parts that was written is read as the tree that it was written of.
 use Rattle.std.proofs.Common.{◌≡◌, ℕ, ℤ, pos, negsuc, zero, suc, ◌<◌, ◌^◌, neg_ℤ, Bool, true, false, List, [], ◌∷◌, map, length, get_or, Some, if◌then◌else◌, refl, sym, ap, subst, ◌∙◌, arith}
-use Rattle.std.specs.Prelude.{FitsSigned, slice_index, nat_lt, ◌≢◌}
+use Rattle.std.specs.Prelude.{FitsSigned, slice_index, nat_lt, ◌≢◌, reverse}
 use Rattle.std.specs.Char.{encode_utf8, digit_value}
 use Rattle.std.specs.Fmt.{decimal, signed_decimal}
 use Rattle.std.specs.Int.{w8, w128, cast_signed}
 use Rattle.std.specs.Str.Parse.{IsNumeral, digits_value, without_leading_plus, without_leading_sign}
 use Rattle.std.proofs.Math.Nat.{pow-suc}
+use Rattle.std.proofs.lemmas.List.{length-reverse}
 use Rattle.std.specs.Bool.{◌==◌}
 use Rattle.std.proofs.lemmas.Fmt.{decimal_is_IsNumeral_wide}
 use Rattle.std.proofs.lemmas.Int.{ints}
@@ -15,17 +16,23 @@ use Rattle.hex.proofs.HexLemmas.{decode_of-encode_lower}
 use Rattle.postcard_wire.specs.Tree.{Tree, Trees, Byte, Boolean, Num, Int, Text, NoTrees, Then, trees, count}
 use Rattle.postcard_wire.specs.Tree as nodes
 use Rattle.postcard_wire.specs.Reading.{Each, IsByte}
-use Rattle.postcard_shape.specs.Base256.{AreBytes, low_value, low_first, low_counts, low_bytes, low_worth, low_one}
+use Rattle.postcard_shape.specs.Base256.{Order, AreBytes, low_value, reversed_bytes}
+use Rattle.postcard_dyn_schema.specs.declared.fixed.ByteOrder.{ByteOrder}
+use Rattle.postcard_dyn_schema.specs.declared.fixed.ByteOrder.TheVariants.{Little, Big}
+use Rattle.postcard_dyn_schema.specs.declared.fixed.Integer.{Integer}
+use Rattle.postcard_dyn_schema.specs.Fixed.{size_of, is_signed}
+use Rattle.postcard_dyn.specs.Fixed.{order_of, bytes_of, signed_of}
+use Rattle.postcard_dyn.specs.FixedLemmas.{at_most_128, fits_128, bits_are_of}
 use Rattle.postcard_dyn_schema.specs.declared.schema.Leaf.{Leaf}
-use Rattle.postcard_dyn_schema.specs.declared.schema.Leaf.TheVariants.{U8, U16, U32, U64, U128, I8, I16, I32, I64, I128, F32, F64, Char, Str, Bytes}
+use Rattle.postcard_dyn_schema.specs.declared.schema.Leaf.TheVariants.{U8, U16, U32, U64, U128, I8, I16, I32, I64, I128, F32, F64, Char, Str, Bytes, Fixed}
 use Rattle.postcard_dyn_schema.specs.declared.schema.Leaf.TheVariants as leaves
 use Rattle.postcard_dyn_schema.specs.Meaning.{leaf, reads}
 use Rattle.postcard_dyn_text.specs.Shown as layouts
 use Rattle.postcard_dyn_text.proofs.Spellings.{unequal}
 use Rattle.serde_json.specs.Data.{Data, boolean, number, string, unsigned}
 use Rattle.serde_json.specs.Find.{of_integer}
-use Rattle.postcard_dyn_json.specs.Written.{json_of, unsigned_json, signed_json, is_small, bytes_of, f32_json, f64_json}
-use Rattle.postcard_dyn_json.specs.Reading.{IsJsonOf, IsUnsigned, IsSigned, IsUnsignedJson, IsSignedJson, IsF32Json, IsF64Json}
+use Rattle.postcard_dyn_json.specs.Written.{json_of, unsigned_json, signed_json, bits_json, is_small, f32_json, f64_json}
+use Rattle.postcard_dyn_json.specs.Reading.{IsJsonOf, IsUnsigned, IsSigned, IsUnsignedJson, IsSignedJson, IsF32Json, IsF64Json, IsBitsJson}
 use Rattle.postcard_dyn_json.proofs.Leaves.{wide_8, wide_16, wide_32, wide_64, wide_128}
 use Rattle.postcard_dyn_json.proofs.BackFloats.{f32_back, f64_back}
 use Rattle.postcard_dyn_json.proofs.Rows.{some_is}
@@ -103,14 +110,21 @@ value_below : (bs : List ℕ) → AreBytes bs → low_value bs < 256 ^ length bs
 value_below [] h = omega arith
 value_below (b ∷ bs) h = let rest = value_below bs h.1 in let p = pow-suc 256 (length bs) in omega (arith, h.0, rest, p)
 
--- The bytes of a float are those of its bits.
-float_whole : (k : ℕ) (ts : Trees) → count ts ≡ k → Each IsByte ts → ts ≡ trees (map Byte (low_first k (low_value (bytes_of ts))))
-float_whole k ts long each =
+value_under : (order : ByteOrder) (bs : List ℕ) → AreBytes bs → (order_of order).value bs < 256 ^ length bs
+value_under Little bs are = value_below bs are
+value_under Big bs are = subst (λ n. low_value (reverse bs) < 256 ^ n) (length-reverse bs) (value_below (reverse bs) (reversed_bytes bs are))
+
+tree_below : (order : ByteOrder) (k : ℕ) (ts : Trees) → count ts ≡ k → Each IsByte ts → (order_of order).value (bytes_of ts) < 256 ^ k
+tree_below order k ts long each = subst (λ n. (order_of order).value (bytes_of ts) < 256 ^ n) (bytes_count ts each ∙ long) (value_under order (bytes_of ts) (bytes_are ts each))
+
+-- The bytes of a number, or a float, are those of its bits.
+fixed_whole : (order : ByteOrder) (k : ℕ) (ts : Trees) → count ts ≡ k → Each IsByte ts → ts ≡ trees (map Byte ((order_of order).spell k ((order_of order).value (bytes_of ts))))
+fixed_whole order k ts long each =
+    let o = order_of order in
     let bs = bytes_of ts in
-    let are = bytes_are ts each in
-    let size : length bs ≡ k = bytes_count ts each ∙ long in
-    let below : low_value bs < 256 ^ k = subst (λ n. low_value bs < 256 ^ n) size (value_below bs are) in
-    bytes_whole ts each ∙ ap (λ xs. trees (map Byte xs)) (low_one bs (low_first k (low_value bs)) (size ∙ sym (low_counts k (low_value bs))) are (low_bytes k (low_value bs)) (sym (low_worth k (low_value bs) below)))
+    let n = o.value bs in
+    let same = o.one bs (o.spell k n) (bytes_count ts each ∙ long ∙ sym (o.counts k n)) (bytes_are ts each) (o.bytes k n) (sym (o.worth k n (tree_below order k ts long each))) in
+    bytes_whole ts each ∙ ap (λ xs. trees (map Byte xs)) same
 
 -- ---- leaves
 
@@ -132,8 +146,14 @@ unsigned_from n k d same low e = subst (IsUnsignedJson n) (some_is (unsigned_jso
 signed_from : (z y : ℤ) (d : Data) → z ≡ y → FitsSigned w128 y → Some (signed_json z) ≡ Some d → IsSignedJson z d
 signed_from z y d same fits e = subst (IsSignedJson z) (some_is (signed_json z) d e) (signed_back z (subst (FitsSigned w128) (sym same) fits))
 
-float_below : (k : ℕ) (ts : Trees) → count ts ≡ k → Each IsByte ts → low_value (bytes_of ts) < 256 ^ k
-float_below k ts long each = subst (λ n. low_value (bytes_of ts) < 256 ^ n) (bytes_count ts each ∙ long) (value_below (bytes_of ts) (bytes_are ts each))
+bits_from : (signed : Bool) (i : Integer) (n : ℕ) (d : Data) → n < 256 ^ size_of i → Some (bits_json signed (size_of i) n) ≡ Some d → IsBitsJson signed i n d
+bits_from true i n d below e =
+    let z = signed_of (size_of i) n in
+    let is = bits_are_of i n below in
+    (z, is, subst (IsSignedJson z) (some_is (signed_json z) d e) (signed_back z (fits_128 i z n is)))
+bits_from false i n d below e =
+    let few = at_most_128 i in
+    (below, subst (IsUnsignedJson n) (some_is (unsigned_json n) d e) (unsigned_back n (omega (arith, below, few))))
 
 -- What is written of each tree of a type without parts is read as that tree.
 pub leaf_back : (l : Leaf) (t : Tree) (d : Data) → reads (leaf l) t → json_of (layouts.leaf l) t ≡ Some d → IsJsonOf (layouts.leaf l) t d
@@ -153,17 +173,23 @@ leaf_back F32 (nodes.Group ts) d (us, is, long, each) e =
     let each' = subst (Each IsByte) (sym same) each in
     let long' : count ts ≡ 4 = ap count same ∙ long in
     let bits = low_value (bytes_of ts) in
-    (bits, ap nodes.Group (float_whole 4 ts long' each'), subst (IsF32Json bits) (some_is (f32_json bits) d e) (f32_back bits (float_below 4 ts long' each')))
+    (bits, ap nodes.Group (fixed_whole Little 4 ts long' each'), subst (IsF32Json bits) (some_is (f32_json bits) d e) (f32_back bits (tree_below Little 4 ts long' each')))
 leaf_back F64 (nodes.Group ts) d (us, is, long, each) e =
     let same = same_group ts us is in
     let each' = subst (Each IsByte) (sym same) each in
     let long' : count ts ≡ 8 = ap count same ∙ long in
     let bits = low_value (bytes_of ts) in
-    (bits, ap nodes.Group (float_whole 8 ts long' each'), subst (IsF64Json bits) (some_is (f64_json bits) d e) (f64_back bits (float_below 8 ts long' each')))
+    (bits, ap nodes.Group (fixed_whole Little 8 ts long' each'), subst (IsF64Json bits) (some_is (f64_json bits) d e) (f64_back bits (tree_below Little 8 ts long' each')))
 leaf_back Char (nodes.Char c) d r e = sym (some_is (string (encode_utf8 c)) d e)
 leaf_back Str (Text u) d r e = sym (some_is (string u) d e)
 leaf_back Bytes (nodes.Seq ts) d (us, is, few, each) e =
     let each' = subst (Each IsByte) (sym (same_seq ts us is)) each in
     let bs = bytes_of ts in
     (bs, encode_lower bs, bytes_whole ts each', sym (some_is (string (encode_lower bs)) d e), decode_of-encode_lower bs (each_below bs (bytes_are ts each')))
+leaf_back (Fixed order i) (nodes.Group ts) d (us, is, long, each) e =
+    let same = same_group ts us is in
+    let each' = subst (Each IsByte) (sym same) each in
+    let long' : count ts ≡ size_of i = ap count same ∙ long in
+    let n = (order_of order).value (bytes_of ts) in
+    (n, ap nodes.Group (fixed_whole order (size_of i) ts long' each'), bits_from (is_signed i) i n d (tree_below order (size_of i) ts long' each') e)
 leaf_back l t d r e = absurd (cc e)

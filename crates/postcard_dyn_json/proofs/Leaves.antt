@@ -1,5 +1,5 @@
 -- Lemmas on values without parts that are read from JSON.
-use Rattle.std.proofs.Common.{◌≡◌, ℕ, ℤ, pos, negsuc, suc, ◌-◌, ◌<◌, ◌≤◌, ◌^◌, Bool, true, List, [], ◌∷◌, ◌++◌, map, length, refl, sym, ap, subst, ◌∙◌, append-nil, arith, ◌⊎◌, inl, inr}
+use Rattle.std.proofs.Common.{◌≡◌, ℕ, ℤ, pos, negsuc, suc, ◌-◌, ◌<◌, ◌≤◌, ◌^◌, Bool, true, false, List, [], ◌∷◌, ◌++◌, map, length, refl, sym, ap, subst, ◌∙◌, append-nil, arith, ◌⊎◌, inl, inr}
 use Rattle.std.specs.Bool.{◌==◌}
 use Rattle.std.specs.Char.{encode_utf8, IsScalar}
 use Rattle.std.specs.Int.{w8, w128, cast_signed}
@@ -11,16 +11,21 @@ use Rattle.std.specs.Prelude.{Ok, FitsSigned}
 use Rattle.postcard_wire.specs.Number.{InRange}
 use Rattle.postcard_wire.specs.Tree.{Tree, Trees, Byte, Boolean, Num, Int, Text, trees}
 use Rattle.postcard_wire.specs.Tree as nodes
-use Rattle.postcard_dyn_schema.specs.declared.schema.Leaf.TheVariants.{U8, U16, U32, U64, U128, I8, I16, I32, I64, I128, F32, F64, Char, Str, Bytes}
+use Rattle.postcard_dyn_schema.specs.declared.schema.Leaf.TheVariants.{U8, U16, U32, U64, U128, I8, I16, I32, I64, I128, F32, F64, Char, Str, Bytes, Fixed}
 use Rattle.postcard_dyn_schema.specs.declared.schema.Leaf.TheVariants as leaves
 use Rattle.postcard_dyn_schema.specs.declared.schema.Leaf.{Leaf}
 use Rattle.postcard_dyn_schema.specs.Meaning.{leaf}
 use Rattle.postcard_dyn_schema.specs.Text.{TakesPhrase, IsSign}
+use Rattle.postcard_dyn_schema.specs.declared.fixed.ByteOrder.{ByteOrder}
+use Rattle.postcard_dyn_schema.specs.declared.fixed.Integer.{Integer}
+use Rattle.postcard_dyn_schema.specs.Fixed.{size_of, is_signed}
+use Rattle.postcard_dyn.specs.Fixed.{fixed_tree}
+use Rattle.postcard_dyn.specs.FixedLemmas.{same_bits}
 use Rattle.postcard_dyn.specs.Tree.{bits_tree}
 use Rattle.postcard_dyn_text.specs.Floats.{EndsFloat}
 use Rattle.postcard_dyn_text.specs.Shown as layouts
 use Rattle.serde_json.specs.Data.{Data, boolean, number, string, unsigned, negative}
-use Rattle.postcard_dyn_json.specs.Reading.{Reading, IsLeafJson, IsUnsignedJson, IsSignedJson, IsF32Json, IsF64Json}
+use Rattle.postcard_dyn_json.specs.Reading.{Reading, IsLeafJson, IsUnsignedJson, IsSignedJson, IsF32Json, IsF64Json, IsBitsJson}
 use Rattle.postcard_dyn_json.specs.Accepted.{IsOnly, IsReading, IsUnsignedType, IsSignedType}
 
 -- ---- texts
@@ -57,6 +62,10 @@ signed_one a b (number (unsigned m)) x y = x ∙ sym y
 signed_one a b (number (negative m)) x y = x ∙ sym y
 signed_one a b (string s) x y = x.1 ∙ sym y.1
 signed_one a b d x y = absurd x
+
+pub one_bits : (signed : Bool) (i : Integer) (a b : ℕ) (d : Data) → IsBitsJson signed i a d → IsBitsJson signed i b d → a ≡ b
+one_bits true i a b d (y, is, h) (z, was, g) = same_bits i y z a b (signed_one y z d h g) is was
+one_bits false i a b d h g = unsigned_one a b d h.1 g.1
 
 -- ---- the only tree
 
@@ -111,6 +120,9 @@ f32_form d u (r, h) = h
 
 pub f64_form : (d : Data) (u : Tree) → LeafReading F64 u d → (bits : ℕ) × (u ≡ bits_tree 8 bits) × IsF64Json bits d
 f64_form d u (r, h) = h
+
+pub fixed_form : (order : ByteOrder) (i : Integer) (d : Data) (u : Tree) → LeafReading (Fixed order i) u d → (n : ℕ) × (u ≡ fixed_tree order (size_of i) n) × IsBitsJson (is_signed i) i n d
+fixed_form order i d u (r, h) = h
 
 pub char_form : (d : Data) (u : Tree) → LeafReading Char u d → (c : ℕ) × (u ≡ nodes.Char c) × (IsScalar c × (d ≡ string (encode_utf8 c)))
 char_form d u ((c, is, scalar), h) = (c, is, (scalar, subst (λ z. IsLeafJson Char z d) is h))

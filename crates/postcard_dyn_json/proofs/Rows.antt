@@ -4,7 +4,10 @@ use Rattle.std.specs.Prelude.{option_and_then, is_some}
 use Rattle.std.specs.Bool.{◌==◌}
 use Rattle.std.proofs.Math.Dec.{eqb-suc-zero}
 use Rattle.postcard_wire.specs.Tree.{Tree, Trees, Byte, NoTrees, trees}
-use Rattle.postcard_shape.specs.Base256.{low_value, low_first, low_worth}
+use Rattle.postcard_shape.specs.Base256.{low_value, low_first}
+use Rattle.postcard_dyn_schema.specs.declared.fixed.ByteOrder.TheVariants.{Little}
+use Rattle.postcard_dyn.specs.FixedLemmas.{value_of_bytes}
+use Rattle.postcard_dyn.specs.Fixed.{bytes_of}
 use Rattle.postcard_dyn_schema.specs.declared.schema.Schema.{Schema}
 use Rattle.postcard_dyn_text.specs.Shown.{group, layout_of, layouts_of}
 use Rattle.serde_json.specs.declared.value.Value as json
@@ -12,7 +15,7 @@ use Rattle.serde_json.specs.Data.{Data, Members, put}
 use Rattle.serde_json.specs.Data as values
 use Rattle.serde_json.specs.Find.{get_member}
 use Rattle.serde_json.specs.View.{view, items_view}
-use Rattle.postcard_dyn_json.specs.Written.{Writer, Part, json_of, all_json, parts_json, items, fields, field, add_member, json_at, variant_of, bytes_of, can_be_null, tuple}
+use Rattle.postcard_dyn_json.specs.Written.{Writer, Part, json_of, all_json, parts_json, items, fields, field, add_member, json_at, variant_of, can_be_null, tuple}
 
 -- The elements of a list after one of them.
 abbrev with_first : Option (List Data) → Data → Option (List Data)
@@ -105,14 +108,9 @@ null_group (s ∷ ss) = eqb-suc-zero (length ss)
 
 -- ---- values without parts
 
--- The bytes of trees that are bytes.
-pub bytes_back : (bs : List ℕ) → bytes_of (trees (map Byte bs)) ≡ bs
-bytes_back [] = refl
-bytes_back (b ∷ bs) = ap (λ xs. b ∷ xs) (bytes_back bs)
-
 -- The bits of a float, from its tree.
 pub bits_back : (k n : ℕ) → n < 256 ^ k → low_value (bytes_of (trees (map Byte (low_first k n)))) ≡ n
-bits_back k n low = ap low_value (bytes_back (low_first k n)) ∙ low_worth k n low
+bits_back = value_of_bytes Little
 
 -- ---- tuples
 

@@ -1,6 +1,8 @@
 -- The places of errors, and the texts as which errors are printed.
 use Rattle.std.specs.Prelude.{◌≡◌, ℕ, ◌+◌, ◌≤◌, ◌⊎◌, List, [], ◌∷◌, ◌++◌, codes, string_bytes, nat_eq, if◌then◌else◌}
 use Rattle.std.specs.Fmt.{decimal}
+use Rattle.postcard_dyn_schema.specs.Fixed.{name_of}
+use Rattle.postcard_dyn_schema.specs.LeafNames.{leaf_name}
 use Rattle.postcard_dyn_schema.specs.declared.schema.Leaf.{Leaf}
 use Rattle.postcard_dyn_schema.specs.declared.schema.Leaf.TheVariants as leaves
 use Rattle.postcard_dyn_schema.specs.Text.{characters}
@@ -32,24 +34,10 @@ abbrev pub part_step : ℕ → Layout → List ℕ
 part_step i (named n x) = n
 part_step i x = codes "[" ++ decimal i ++ codes "]"
 
--- The name of a type without parts.
-abbrev pub leaf_name : Leaf → List ℕ
-leaf_name leaves.Bool = codes "bool"
-leaf_name leaves.U8 = codes "u8"
-leaf_name leaves.U16 = codes "u16"
-leaf_name leaves.U32 = codes "u32"
-leaf_name leaves.U64 = codes "u64"
-leaf_name leaves.U128 = codes "u128"
-leaf_name leaves.I8 = codes "i8"
-leaf_name leaves.I16 = codes "i16"
-leaf_name leaves.I32 = codes "i32"
-leaf_name leaves.I64 = codes "i64"
-leaf_name leaves.I128 = codes "i128"
-leaf_name leaves.F32 = codes "f32"
-leaf_name leaves.F64 = codes "f64"
-leaf_name leaves.Char = codes "char"
-leaf_name leaves.Str = codes "str"
-leaf_name leaves.Bytes = codes "bytes"
+-- The name of a type without parts, where one is expected. That of a number of a fixed width is the number's.
+abbrev pub expected_leaf_text : Leaf → List ℕ
+expected_leaf_text (leaves.Fixed order integer) = name_of integer
+expected_leaf_text leaf = leaf_name leaf
 
 -- The word for n members.
 abbrev pub members_text : ℕ → List ℕ
@@ -57,7 +45,7 @@ members_text n = if nat_eq n 1 then codes "member" else codes "members"
 
 -- The phrase for what is expected.
 abbrev pub expected_text : Expected → List ℕ
-expected_text (places.Leaf leaf) = leaf_name leaf
+expected_text (places.Leaf leaf) = expected_leaf_text leaf
 expected_text places.Option = codes "null or an object with the member Some alone"
 expected_text places.Array = codes "an array"
 expected_text (places.ArrayOf count) = codes "an array of length " ++ decimal count

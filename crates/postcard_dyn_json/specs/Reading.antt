@@ -1,6 +1,6 @@
 -- Which JSON is read as a tree of a type with names: what `json_of` gives, and other forms of numbers, of byte strings and of
 -- floats. Members may stand in any order.
-use Rattle.std.specs.Prelude.{◌≡◌, ℕ, zero, suc, ℤ, pos, Bool, true, false, List, map, codes, Some, None, Ok, to_bits, Option}
+use Rattle.std.specs.Prelude.{◌≡◌, ℕ, zero, suc, ◌<◌, ◌^◌, ℤ, pos, Bool, true, false, List, map, codes, Some, None, Ok, to_bits, Option}
 use Rattle.std.specs.Char.{encode_utf8}
 use Rattle.std.specs.Float.{binary32, binary64, round_to_format}
 use Rattle.std.specs.Int.{w8, cast_signed}
@@ -9,8 +9,11 @@ use Rattle.hex.specs.Hex.{decode_of}
 use Rattle.postcard_wire.specs.Tree.{Tree, Trees, Byte, Boolean, Num, Int, Text, NoTrees, Then, trees}
 use Rattle.postcard_wire.specs.Tree as nodes
 use Rattle.postcard_dyn_schema.specs.declared.schema.Leaf.{Leaf}
-use Rattle.postcard_dyn_schema.specs.declared.schema.Leaf.TheVariants.{U8, U16, U32, U64, U128, I8, I16, I32, I64, I128, F32, F64, Char, Str, Bytes}
+use Rattle.postcard_dyn_schema.specs.declared.schema.Leaf.TheVariants.{U8, U16, U32, U64, U128, I8, I16, I32, I64, I128, F32, F64, Char, Str, Bytes, Fixed}
 use Rattle.postcard_dyn_schema.specs.declared.schema.Leaf.TheVariants as leaves
+use Rattle.postcard_dyn_schema.specs.declared.fixed.Integer.{Integer}
+use Rattle.postcard_dyn_schema.specs.Fixed.{size_of, is_signed}
+use Rattle.postcard_dyn.specs.Fixed.{fixed_tree, IsBitsOf}
 use Rattle.postcard_dyn.specs.Tree.{bits_tree}
 use Rattle.postcard_dyn_text.specs.Floats.{SpellsFloat}
 use Rattle.postcard_dyn_text.specs.Shown.{Layout, Layouts, leaf, option, list, mapping, array, group, choice, named, no_layouts, then_layout, have_names}
@@ -39,6 +42,11 @@ IsSignedJson z (number (unsigned m)) = z ≡ pos m
 IsSignedJson z (number (negative w)) = z ≡ w
 IsSignedJson z (string s) = IsSigned z s
 IsSignedJson z d = ⊥
+
+-- The JSON is the number of the type with these bits, which are in two's complement if the first argument is true.
+abbrev pub IsBitsJson : Bool → Integer → ℕ → Data → Type 0
+IsBitsJson true integer n d = (z : ℤ) × IsBitsOf integer z n × IsSignedJson z d
+IsBitsJson false integer n d = (n < 256 ^ size_of integer) × IsUnsignedJson n d
 
 -- The JSON is a number whose nearest float has these bits, or a string that spells them in the notation of `postcard_dyn_text`.
 -- The number is first rounded to 64 bits.
@@ -71,6 +79,7 @@ IsLeafJson F64 t d = (bits : ℕ) × (t ≡ bits_tree 8 bits) × IsF64Json bits 
 IsLeafJson Char (nodes.Char c) d = d ≡ string (encode_utf8 c)
 IsLeafJson Str (Text u) d = d ≡ string u
 IsLeafJson Bytes (nodes.Seq ts) d = (bytes : List ℕ) × (s : List ℕ) × (ts ≡ trees (map Byte bytes)) × (d ≡ string s) × (decode_of s ≡ Ok bytes)
+IsLeafJson (Fixed order integer) t d = (n : ℕ) × (t ≡ fixed_tree order (size_of integer) n) × IsBitsJson (is_signed integer) integer n d
 IsLeafJson l t d = ⊥
 
 -- Which JSON is read as a tree.

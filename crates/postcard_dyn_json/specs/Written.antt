@@ -7,9 +7,11 @@ use Rattle.std.specs.Float.{binary32, binary64, float_is_finite}
 use Rattle.hex.specs.Hex.{encode_lower}
 use Rattle.postcard_wire.specs.Tree.{Tree, Trees, Byte, Boolean, Num, Int, Text, NoTrees, Then}
 use Rattle.postcard_wire.specs.Tree as nodes
-use Rattle.postcard_shape.specs.Base256.{low_value}
+use Rattle.postcard_shape.specs.Base256.{Order, low_value}
+use Rattle.postcard_dyn_schema.specs.Fixed.{size_of, is_signed}
+use Rattle.postcard_dyn.specs.Fixed.{order_of, bytes_of, signed_of}
 use Rattle.postcard_dyn_schema.specs.declared.schema.Leaf.{Leaf}
-use Rattle.postcard_dyn_schema.specs.declared.schema.Leaf.TheVariants.{U8, U16, U32, U64, U128, I8, I16, I32, I64, I128, F32, F64, Char, Str, Bytes}
+use Rattle.postcard_dyn_schema.specs.declared.schema.Leaf.TheVariants.{U8, U16, U32, U64, U128, I8, I16, I32, I64, I128, F32, F64, Char, Str, Bytes, Fixed}
 use Rattle.postcard_dyn_schema.specs.declared.schema.Leaf.TheVariants as leaves
 use Rattle.postcard_dyn_text.specs.Shown.{Layout, Layouts, leaf, option, list, mapping, array, group, choice, named, no_layouts, then_layout, have_names, is_empty_group}
 use Rattle.serde_json.specs.Data.{Data, Members, null, boolean, number, string, object, unsigned, float, no_members, member, put}
@@ -32,10 +34,10 @@ is_small z = int_lt (negsuc 9007199254740991) z && int_lt z (pos 900719925474099
 abbrev pub signed_json : ℤ → Data
 signed_json z = if is_small z then number (of_integer z) else string (signed_decimal z)
 
--- The bytes of a row of trees.
-abbrev pub bytes_of : Trees → List ℕ
-bytes_of (Then (Byte b) ts) = b ∷ bytes_of ts
-bytes_of ts = []
+-- The JSON of the number with these bits in k bytes, which are in two's complement if the first argument is true.
+abbrev pub bits_json : Bool → ℕ → ℕ → Data
+bits_json true k n = signed_json (signed_of k n)
+bits_json false k n = unsigned_json n
 
 -- The text of the bits of a float that is not finite, where `infinite`, `negative` and `nan` are the bits of the infinities and of
 -- the usual NaN. Another NaN has its bits in hexadecimal.
@@ -67,6 +69,7 @@ leaf_json F64 (nodes.Group ts) = Some (f64_json (low_value (bytes_of ts)))
 leaf_json Char (nodes.Char c) = Some (string (encode_utf8 c))
 leaf_json Str (Text u) = Some (string u)
 leaf_json Bytes (nodes.Seq ts) = Some (string (encode_lower (bytes_of ts)))
+leaf_json (Fixed order integer) (nodes.Group ts) = Some (bits_json (is_signed integer) (size_of integer) ((order_of order).value (bytes_of ts)))
 leaf_json l t = None
 
 -- Whether the JSON of a value of the type may be `null`.

@@ -2,7 +2,7 @@
 
 ghost use Rattle.std.specs.Prelude.{◌≡◌, Some, OnOk, IfErr, ◌++◌, ◌∷◌, [], codes};
 ghost use Rattle.std.specs.Fmt.{decimal};
-ghost use Rattle.postcard_dyn_json.specs.Printed.{expected_text, json_error_text, leaf_name};
+ghost use Rattle.postcard_dyn_json.specs.Printed.{expected_leaf_text, expected_text, json_error_text};
 ghost use Rattle.postcard_dyn_json.specs.Printed.{IsAt, IsWithin, dot_before, members_text};
 ghost use Rattle.postcard_dyn_json.specs.declared.error.JsonError.TheVariants as errors;
 
@@ -153,26 +153,12 @@ fn noun(count: usize) -> &'static str
     if count == 1 { "member" } else { "members" }
 }
 
-/// Returns the name of a type without parts.
+/// Returns the name of a type without parts. That of a number of a fixed width is the number's.
 fn name_of(leaf: Leaf) -> &'static str
-    ensures { result.now ≡ leaf_name leaf }
+    ensures { result.now ≡ expected_leaf_text leaf }
 {
     match leaf {
-        Leaf::Bool => "bool",
-        Leaf::U8 => "u8",
-        Leaf::U16 => "u16",
-        Leaf::U32 => "u32",
-        Leaf::U64 => "u64",
-        Leaf::U128 => "u128",
-        Leaf::I8 => "i8",
-        Leaf::I16 => "i16",
-        Leaf::I32 => "i32",
-        Leaf::I64 => "i64",
-        Leaf::I128 => "i128",
-        Leaf::F32 => "f32",
-        Leaf::F64 => "f64",
-        Leaf::Char => "char",
-        Leaf::Str => "str",
-        Leaf::Bytes => "bytes",
+        Leaf::Fixed(_, integer) => integer.name(),
+        _ => leaf.name(),
     }
 }

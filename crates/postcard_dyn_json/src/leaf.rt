@@ -1,8 +1,10 @@
 //! Reading a value without parts from JSON.
 
-ghost use Rattle.std.specs.Prelude.{ℕ, ℤ, ◌<◌, ◌^◌, ◌≡◌, IfOk, MatchOption, FitsSigned};
+ghost use Rattle.std.specs.Prelude.{ℕ, ℤ, ◌<◌, ◌^◌, ◌≡◌, IfOk, IfSome, MatchOption, FitsSigned};
+ghost use Rattle.std.specs.Prelude.{true, false};
 ghost use Rattle.std.specs.Int.{w128};
 ghost use Rattle.postcard_dyn_schema.specs.declared.schema.Leaf.TheVariants as leaves;
+ghost use Rattle.postcard_dyn_schema.specs.Fixed.{is_signed};
 ghost use Rattle.postcard_dyn_schema.specs.Meaning.{leaf as leaf_type};
 ghost use Rattle.postcard_dyn.specs.Tree.{tree};
 ghost use Rattle.postcard_dyn_text.specs.Shown.{leaf as leaf_layout};
@@ -10,10 +12,11 @@ ghost use Rattle.serde_json.specs.View.{view};
 ghost use Rattle.postcard_dyn_json.specs.Accepted.{Finds, Reads, IsReading};
 ghost use Rattle.postcard_dyn_json.specs.Accepted.{IsUnsignedType, IsSignedType};
 ghost use Rattle.postcard_dyn_json.specs.Reading.{IsUnsignedJson, IsSignedJson};
-ghost use Rattle.postcard_dyn_json.specs.Reading.{IsF32Json, IsF64Json};
+ghost use Rattle.postcard_dyn_json.specs.Reading.{IsF32Json, IsF64Json, IsBitsJson};
 
 use crate::error::{Expected, JsonError};
-use postcard_dyn::{Leaf, Value};
+use postcard_dyn::fixed::{are_bits, bits_of};
+use postcard_dyn::{ByteOrder, Integer, Leaf, Value};
 use postcard_dyn_text::float::{read_f32, read_f64};
 use postcard_wire::laws::in_range;
 use serde_json::Value as Json;
@@ -50,6 +53,7 @@ fn find_leaf(alloc: Global, leaf: Leaf, json: &Json) -> Result<Option<Value>, Al
         Leaf::Char => Ok(find_char(json)),
         Leaf::Str => find_text(alloc, json),
         Leaf::Bytes => find_bytes(alloc, json),
+        Leaf::Fixed(order, integer) => Ok(find_fixed(order, integer, json)),
     }
 }
 
@@ -122,6 +126,52 @@ fn find_signed(leaf: Leaf, json: &Json) -> Option<Value>
     }
 }
 
+/// Returns the number of a fixed width, or `None` if the JSON is no value of its type.
+fn find_fixed(order: ByteOrder, integer: Integer, json: &Json) -> Option<Value>
+    ensures { Finds tree (IsReading (leaf_type (leaves.Fixed order integer))
+        (leaf_layout (leaves.Fixed order integer))) (view json.now) result }
+{
+    match find_bits(integer, json) {
+        Some(bits) => Some(Value::Fixed(order, integer, bits)),
+        None => None,
+    }
+}
+
+/// Returns the bits of a number of the type, or `None` if the JSON is none.
+fn find_bits(integer: Integer, json: &Json) -> Option<u128>
+    ensures { MatchOption result
+        ((n : ℕ) → IsBitsJson (is_signed integer) integer n (view json.now) → ⊥)
+        (λ n. IsBitsJson (is_signed integer) integer n (view json.now)) }
+{
+    if integer.is_signed() {
+        find_signed_bits(integer, json)
+    } else {
+        find_unsigned_bits(integer, json)
+    }
+}
+
+/// Returns the number of an unsigned type, which is its bits, or `None` if the JSON is none.
+fn find_unsigned_bits(integer: Integer, json: &Json) -> Option<u128>
+    ensures { MatchOption result ((n : ℕ) → IsBitsJson false integer n (view json.now) → ⊥)
+        (λ n. IsBitsJson false integer n (view json.now)) }
+{
+    match unsigned(json) {
+        Some(n) => { if are_bits(integer, n) { Some(n) } else { None } }
+        None => None,
+    }
+}
+
+/// Returns the bits of a number of a signed type, or `None` if the JSON is none.
+fn find_signed_bits(integer: Integer, json: &Json) -> Option<u128>
+    ensures { MatchOption result ((n : ℕ) → IsBitsJson true integer n (view json.now) → ⊥)
+        (λ n. IsBitsJson true integer n (view json.now)) }
+{
+    match signed(json) {
+        Some(z) => bits_of(integer, z),
+        None => None,
+    }
+}
+
 /// Returns the number that the JSON is, as a number or as a string, or `None` if it is none that
 /// fits in 128 bits.
 fn unsigned(json: &Json) -> Option<u128>
@@ -143,7 +193,8 @@ fn unsigned(json: &Json) -> Option<u128>
 /// Returns the signed number that the JSON is, as a number or as a string, or `None` if it is none
 /// that fits in 128 bits.
 fn signed(json: &Json) -> Option<i128>
-    ensures { MatchOption result
+    ensures fits { IfSome result (FitsSigned w128) }
+    ensures found { MatchOption result
         ((n : ℤ) → FitsSigned w128 n → IsSignedJson n (view json.now) → ⊥)
         (λ n. IsSignedJson n (view json.now)) }
 {

@@ -1,21 +1,24 @@
 //! The JSON of a value: [`to_json`].
 
-ghost use Rattle.std.specs.Prelude.{◌≡◌, IfOk, IfSome, Some, map, option_map};
+ghost use Rattle.std.specs.Prelude.{◌≡◌, ◌<◌, ◌^◌, IfOk, IfSome, Some, map, option_map};
 ghost use Rattle.std.specs.Char.{encode_utf8};
 ghost use Rattle.std.specs.Int.{w8, cast_signed, cast_unsigned};
 ghost use Rattle.postcard_wire.specs.Tree.{trees, Byte, Group, Seq};
 ghost use Rattle.postcard_dyn.specs.Tree.{tree, bits_tree};
+ghost use Rattle.postcard_dyn_schema.specs.Fixed.{size_of, is_signed};
 ghost use Rattle.postcard_dyn_schema.specs.declared.schema.Leaf.TheVariants.{F32, F64, Bytes};
 ghost use Rattle.postcard_dyn_text.specs.Shown.{layout_of, layouts_of, have_names};
 ghost use Rattle.serde_json.specs.Data.{string};
 ghost use Rattle.serde_json.specs.View.{view};
 ghost use Rattle.postcard_dyn_json.specs.Written.{json_of, leaf_json, unsigned_json, signed_json};
+ghost use Rattle.postcard_dyn_json.specs.Written.{bits_json};
 ghost use Rattle.postcard_dyn_json.specs.Written.{can_be_null, alone};
 ghost use Rattle.postcard_dyn_json.specs.Written.{option_json, all_json, row, group_json};
 ghost use Rattle.postcard_dyn_json.specs.Written.{struct_json, tuple_json, fields, variant_of};
 ghost use Rattle.postcard_dyn_json.specs.Written.{items as parts_of};
 
-use postcard_dyn::{Leaf, Schema, Value};
+use postcard_dyn::fixed::{are_bits, signed_of};
+use postcard_dyn::{Integer, Leaf, Schema, Value};
 use postcard_dyn_text::{is_struct, is_unit};
 use serde_json::{Map, Number, Value as Json, put};
 use std::alloc::{AllocError, Global};
@@ -246,7 +249,30 @@ fn write_leaf(alloc: Global, leaf: Leaf, value: &Value) -> Result<Option<Json>, 
         (Leaf::Char, Value::Char(c)) => write_char(alloc, *c),
         (Leaf::Str, Value::Str(text)) => write_text(alloc, text),
         (Leaf::Bytes, Value::Bytes(held)) => write_bytes(alloc, held),
+        (Leaf::Fixed(order, integer), Value::Fixed(own_order, own_integer, bits)) => {
+            if order != *own_order || integer != *own_integer {
+                return Ok(None);
+            }
+            write_bits(alloc, integer, *bits)
+        }
         _ => Ok(None),
+    }
+}
+
+/// Returns the JSON of the number of the type with these bits, or `None` if the type has fewer.
+fn write_bits(alloc: Global, integer: Integer, bits: u128) -> Result<Option<Json>, AllocError>
+    ensures { IfOk result (λ o. IfSome o (λ j. (bits < 256 ^ size_of integer)
+        × (Some (view j) ≡ Some (bits_json (is_signed integer) (size_of integer) bits)))) }
+{
+    if !are_bits(integer, bits) {
+        return Ok(None);
+    }
+    if !integer.is_signed() {
+        return write_unsigned(alloc, bits);
+    }
+    match signed_of(integer, bits) {
+        Some(number) => write_signed(alloc, number),
+        None => Ok(None),
     }
 }
 

@@ -2,6 +2,7 @@
 use Rattle.std.proofs.Common.{◌≡◌, ℕ, zero, suc, ◌+◌, ◌*◌, ◌≤◌, true, List, [], ◌∷◌, arith, inl, inr}
 use Rattle.postcard_dyn_schema.specs.declared.schema.Schema.{Schema}
 use Rattle.postcard_dyn_schema.specs.declared.schema.Schema.TheVariants.{Named}
+use Rattle.postcard_dyn_schema.specs.declared.schema.Leaf.TheVariants.{Fixed}
 use Rattle.postcard_dyn_schema.specs.declared.angled.Holder.{Holder}
 use Rattle.postcard_dyn_schema.specs.declared.angled.Holder.TheVariants as holders
 use Rattle.postcard_dyn_schema.specs.declared.angled.Pair.{Pair}
@@ -74,6 +75,7 @@ of_one : (n : ℕ) (h : Holder) (x s : Schema) → MayHold h (type_of x) → IsH
 of_one n holders.Itself x s may is inside = rw is (more n (n + 1) (type_of x) (omega arith) inside)
 of_one n holders.List x s may (b, is, value) inside = rw (is, type_of_seq b, value) (bounded_seq n (type_of x) may inside)
 of_one n holders.Option x s may (b, is, value) inside = rw (is, type_of_option b, value) record { full = inside.full; low = omega (arith, inside.low) }
+of_one n (holders.Fixed order) x s may (integer, is, made) inside = rw (made, type_of_leaf (Fixed order integer)) record { full = tt; low = omega arith }
 
 of_two : (n : ℕ) (p : Pair) (x y s : Schema) → MayPair p (type_of x) (type_of y) → IsPairOf p x y s → Bounded n (type_of x) → Bounded n (type_of y) → Bounded (n + 2) (type_of s)
 of_two n pairs.Map x y s may (b, v, is, entry, items) first second =

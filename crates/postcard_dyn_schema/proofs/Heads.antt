@@ -4,8 +4,9 @@ use Rattle.std.specs.Prelude.{slice_index, if◌then◌else◌}
 use Rattle.std.specs.Str.{IsTrimAsciiStart}
 use Rattle.std.specs.Char.{is_ascii_uppercase, is_ascii_whitespace}
 use Rattle.postcard_dyn_schema.specs.declared.schema.Schema.{Schema}
-use Rattle.postcard_dyn_schema.specs.declared.schema.Leaf.TheVariants.{U8, U16, U32, U64, U128, I8, I16, I32, I64, I128, F32, F64, Char, Str, Bytes}
+use Rattle.postcard_dyn_schema.specs.declared.schema.Leaf.TheVariants.{U8, U16, U32, U64, U128, I8, I16, I32, I64, I128, F32, F64, Char, Str, Bytes, Fixed}
 use Rattle.postcard_dyn_schema.specs.declared.schema.Leaf.TheVariants as leaves
+use Rattle.postcard_dyn_schema.specs.declared.fixed.ByteOrder.TheVariants.{Little, Big}
 use Rattle.postcard_dyn_schema.specs.declared.angled.Holder.TheVariants as holders
 use Rattle.postcard_dyn_schema.specs.declared.angled.Pair.TheVariants as pairs
 use Rattle.postcard_dyn_schema.specs.declared.names.TypeName.{TypeName}
@@ -54,9 +55,11 @@ type_named w =
     (if bytes_eq w (codes "Box") then Some (names.Angled (kinds.Holder holders.Itself)) else
     (if bytes_eq w (codes "Vec") then Some (names.Angled (kinds.Holder holders.List)) else
     (if bytes_eq w (codes "Option") then Some (names.Angled (kinds.Holder holders.Option)) else
+    (if bytes_eq w (codes "LE") then Some (names.Angled (kinds.Holder (holders.Fixed Little))) else
+    (if bytes_eq w (codes "BE") then Some (names.Angled (kinds.Holder (holders.Fixed Big))) else
     (if bytes_eq w (codes "BTreeMap") then Some (names.Angled (kinds.Pair pairs.Map)) else
     (if bytes_eq w (codes "HashMap") then Some (names.Angled (kinds.Pair pairs.Map)) else
-    (if bytes_eq w (codes "Result") then Some (names.Angled (kinds.Pair pairs.Result)) else None))))))))))))))))))))))))
+    (if bytes_eq w (codes "Result") then Some (names.Angled (kinds.Pair pairs.Result)) else None))))))))))))))))))))))))))
 
 named_is : (w : List ℕ) (k : TypeName) → IsTypeName w k → type_named w ≡ Some k
 named_is w (names.Leaf leaves.Bool) h = ap type_named h
@@ -78,9 +81,12 @@ named_is w (names.Leaf Char) h = ap type_named h
 named_is w (names.Leaf Str) (inl h) = ap type_named h
 named_is w (names.Leaf Str) (inr h) = ap type_named h
 named_is w (names.Leaf Bytes) h = ap type_named h
+named_is w (names.Leaf (Fixed order integer)) h = absurd h
 named_is w (names.Angled (kinds.Holder holders.Itself)) h = ap type_named h
 named_is w (names.Angled (kinds.Holder holders.List)) h = ap type_named h
 named_is w (names.Angled (kinds.Holder holders.Option)) h = ap type_named h
+named_is w (names.Angled (kinds.Holder (holders.Fixed Little))) h = ap type_named h
+named_is w (names.Angled (kinds.Holder (holders.Fixed Big))) h = ap type_named h
 named_is w (names.Angled (kinds.Pair pairs.Map)) (inl h) = ap type_named h
 named_is w (names.Angled (kinds.Pair pairs.Map)) (inr h) = ap type_named h
 named_is w (names.Angled (kinds.Pair pairs.Result)) h = ap type_named h

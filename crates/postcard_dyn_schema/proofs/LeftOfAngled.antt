@@ -1,30 +1,51 @@
 -- What is left of a type of one type or two, after the first.
-use Rattle.std.proofs.Common.{◌≡◌, ℕ, List, refl, ap, ◌∙◌, subst}
+use Rattle.std.proofs.Common.{◌≡◌, ℕ, List, refl, sym, ap, ◌∙◌, subst}
 use Rattle.postcard_dyn_schema.specs.declared.schema.Schema.{Schema}
 use Rattle.postcard_dyn_schema.specs.declared.schema.Schema.TheVariants.{Named}
 use Rattle.postcard_dyn_schema.specs.declared.angled.Holder.{Holder}
 use Rattle.postcard_dyn_schema.specs.declared.angled.Holder.TheVariants as holders
 use Rattle.postcard_dyn_schema.specs.declared.angled.Pair.{Pair}
 use Rattle.postcard_dyn_schema.specs.declared.angled.Pair.TheVariants as pairs
-use Rattle.postcard_dyn_schema.specs.Meaning.{MessageType, option, seq, group, choice, no_types, then_type, type_of, types_of}
+use Rattle.postcard_dyn_schema.specs.declared.fixed.ByteOrder.{ByteOrder}
+use Rattle.postcard_dyn_schema.specs.declared.fixed.Integer.{Integer}
+use Rattle.postcard_dyn_schema.specs.declared.fixed.Integer.TheVariants as integers
+use Rattle.postcard_dyn_schema.specs.declared.schema.Leaf.TheVariants.{Fixed}
+use Rattle.postcard_dyn_schema.specs.Fixed.{number_of, fixed_of}
+use Rattle.postcard_dyn_schema.specs.Meaning.{MessageType, leaf, option, seq, group, choice, no_types, then_type, type_of, types_of}
 use Rattle.postcard_dyn_schema.specs.Text.{Then, TakesPhrase, IsSign, GoesOnBy}
 use Rattle.postcard_dyn_schema.specs.Angled.{MayHold, IsHolderOf, MayPair, IsPairOf}
 use Rattle.postcard_dyn_schema.specs.Grammar.{IsEndedBy, IsOfOne, IsOfTwo, IsMapValue, IsMapRest}
 use Rattle.postcard_dyn_schema.specs.Fronts.{follows_type, Anything, HasFront, IsOnlyFront}
 use Rattle.postcard_dyn_schema.specs.FrontLemmas.{takes_split}
 use Rattle.postcard_dyn_schema.specs.Phrases.{takes_two, takes_as}
-use Rattle.postcard_dyn_schema.proofs.TypeOf.{type_of_option, type_of_seq, type_of_map, type_of_group, type_of_enum, type_of_named}
+use Rattle.postcard_dyn_schema.proofs.TypeOf.{type_of_leaf, type_of_option, type_of_seq, type_of_map, type_of_group, type_of_enum, type_of_named}
 use Rattle.postcard_dyn_schema.proofs.Left.{behind_sign}
 use Rattle.postcard_dyn_schema.proofs.LeftOfList.{ended_begins}
 
 abbrev Types : Type 1
 Types = Schema → List ℕ → Type 0
 
+-- The type of the numbers of a type at their full width.
+abbrev pub fixed_type : ByteOrder → MessageType → MessageType
+fixed_type order (leaf l) = leaf (fixed_of order l)
+fixed_type order t = t
+
+made_fixed : (order : ByteOrder) (integer : Integer) → leaf (Fixed order integer) ≡ fixed_type order (leaf (number_of integer))
+made_fixed order integers.U16 = refl
+made_fixed order integers.U32 = refl
+made_fixed order integers.U64 = refl
+made_fixed order integers.U128 = refl
+made_fixed order integers.I16 = refl
+made_fixed order integers.I32 = refl
+made_fixed order integers.I64 = refl
+made_fixed order integers.I128 = refl
+
 -- The type of a schema that is of one type, or of two.
 abbrev pub holder_type : Holder → MessageType → MessageType
 holder_type holders.Itself t = t
 holder_type holders.List t = seq t
 holder_type holders.Option t = option t
+holder_type (holders.Fixed order) t = fixed_type order t
 
 abbrev pub pair_type : Pair → MessageType → MessageType → MessageType
 pair_type pairs.Map t u = seq (group (then_type t (then_type u no_types)))
@@ -34,6 +55,8 @@ pub type_of_holder : (h : Holder) (x s : Schema) → IsHolderOf h x s → type_o
 type_of_holder holders.Itself x s is = ap type_of is
 type_of_holder holders.List x s (b, is, value) = ap type_of is ∙ type_of_seq b ∙ ap (λ z. seq (type_of z)) value
 type_of_holder holders.Option x s (b, is, value) = ap type_of is ∙ type_of_option b ∙ ap (λ z. option (type_of z)) value
+type_of_holder (holders.Fixed order) x s (integer, is, made) =
+    ap type_of made ∙ type_of_leaf (Fixed order integer) ∙ made_fixed order integer ∙ ap (fixed_type order) (sym is)
 
 pub type_of_pair : (p : Pair) (x y s : Schema) → IsPairOf p x y s → type_of s ≡ pair_type p (type_of x) (type_of y)
 type_of_pair pairs.Map x y s (b, v, is, entry, items) =

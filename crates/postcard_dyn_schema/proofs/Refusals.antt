@@ -4,7 +4,7 @@ use Rattle.std.specs.Prelude.{Result, Ok, Err, IfErr, IsErrAnd}
 use Rattle.std.proofs.lemmas.List.{length-append}
 use Rattle.postcard_dyn_schema.specs.declared.error.Problem.{Problem}
 use Rattle.postcard_dyn_schema.specs.declared.error.Problem.TheVariants.{OutOfMemory}
-use Rattle.postcard_dyn_schema.specs.declared.scan.Fault.{Fault}
+use Rattle.postcard_dyn_schema.specs.declared.scan.ProblemAt.{ProblemAt}
 use Rattle.postcard_dyn_schema.specs.declared.schema.Schema.{Schema}
 use Rattle.postcard_dyn_schema.specs.Text.{TakesPhrase, IsSign}
 use Rattle.postcard_dyn_schema.specs.Names.{HasNewName}
@@ -22,7 +22,7 @@ refusal_as f (inl memory) = inl (f memory)
 refusal_as f (inr none) = inr none
 
 -- The error that a `?` passes on.
-pub refused_err : {R : Type 0} {A : Type 0} (r : Result R Fault) (e : Fault) → IsErrAnd r (λ y. y ≡ e) → IsRefusal e.problem A → IfErr r (λ fault. IsRefusal fault.problem A)
+pub refused_err : {R : Type 0} {A : Type 0} (r : Result R ProblemAt) (e : ProblemAt) → IsErrAnd r (λ y. y ≡ e) → IsRefusal e.problem A → IfErr r (λ found. IsRefusal found.problem A)
 refused_err (Ok x) e h k = absurd h
 refused_err {R} {A} (Err y) e h k = subst (λ z. IsRefusal z.problem A) (sym h) k
 

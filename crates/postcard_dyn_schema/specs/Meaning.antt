@@ -2,13 +2,15 @@
 use Rattle.std.specs.Prelude.{◌≡◌, ℕ, zero, suc, nat_lt, Bool, true, false, if◌then◌else◌, ◌⊎◌, List, [], ◌∷◌, map, codes, box_value}
 use Rattle.postcard_wire.specs.Tree.{Tree, Trees}
 use Rattle.postcard_wire.specs.Reading.{IsByte, IsBoolean, IsNum, IsInt, IsChar, IsText, IsOption, IsEnd, IsThen, IsGroup, IsSeq, IsArray, IsVariant}
+use Rattle.postcard_dyn_schema.specs.Fixed.{size_of}
 use Rattle.postcard_dyn_schema.specs.declared.schema.Leaf.{Leaf}
-use Rattle.postcard_dyn_schema.specs.declared.schema.Leaf.TheVariants.{U8, U16, U32, U64, U128, I8, I16, I32, I64, I128, F32, F64, Char, Str, Bytes}
+use Rattle.postcard_dyn_schema.specs.declared.schema.Leaf.TheVariants.{U8, U16, U32, U64, U128, I8, I16, I32, I64, I128, F32, F64, Char, Str, Bytes, Fixed}
 use Rattle.postcard_dyn_schema.specs.declared.schema.Leaf.TheVariants as leaves
 use Rattle.postcard_dyn_schema.specs.declared.schema.Schema.{Schema, fold-Schema}
 use Rattle.postcard_dyn_schema.specs.declared.schema.Schema.TheOpen.{Schema-F}
 
--- The word names the type without parts. A `usize` is a number of 64 bits (wire format 1.0, "varint encoded integers").
+-- The word names the type without parts. A `usize` is a number of 64 bits (wire format 1.0, "varint encoded integers"). No word
+-- alone names a type of numbers of a fixed width.
 abbrev pub IsNameOf : List ℕ → Leaf → Type 0
 IsNameOf word leaves.Bool = word ≡ codes "bool"
 IsNameOf word U8 = word ≡ codes "u8"
@@ -26,6 +28,7 @@ IsNameOf word F64 = word ≡ codes "f64"
 IsNameOf word Char = word ≡ codes "char"
 IsNameOf word Str = (word ≡ codes "str") ⊎ (word ≡ codes "String")
 IsNameOf word Bytes = word ≡ codes "bytes"
+IsNameOf word (Fixed order integer) = ⊥
 
 mutual
   -- A type without the names of its fields and variants. A map is a `seq` of groups of two.
@@ -42,7 +45,7 @@ mutual
     then_type : MessageType → MessageTypes → MessageTypes
 
 -- The trees of a type without parts. An `i8` is a byte, a float the array of the 4 or 8 bytes of its bits (wire format 1.0,
--- "f32" and "f64"), and `bytes` a counted list of bytes.
+-- "f32" and "f64"), `bytes` a counted list of bytes, and a number of a fixed width the array of its bytes.
 abbrev pub leaf_reads : Leaf → Tree → Type 0
 leaf_reads leaves.Bool = IsBoolean
 leaf_reads U8 = IsByte
@@ -60,6 +63,7 @@ leaf_reads F64 = IsArray 8 IsByte
 leaf_reads Char = IsChar
 leaf_reads Str = IsText
 leaf_reads Bytes = IsSeq IsByte
+leaf_reads (Fixed order integer) = IsArray (size_of integer) IsByte
 
 -- The trees of a type's messages.
 abbrev mutual

@@ -2,7 +2,7 @@
 use Rattle.std.specs.Prelude.{ℕ, List, ◌++◌, codes}
 use Rattle.std.specs.Fmt.{decimal}
 use Rattle.postcard_dyn_schema.specs.declared.error.Problem.{Problem}
-use Rattle.postcard_dyn_schema.specs.declared.error.Problem.TheVariants.{TypeExpected, UnknownType, VariantExpected, FieldExpected, LifetimeExpected, NameTwice, CommaOrParenthesis, CommaOrBrace, SemicolonOrBracket, BracketExpected, CommaExpected, GreaterExpected, ColonExpected, ArrowExpected, BraceExpected, CountExpected, CountTooLarge, NoBytes, TooDeep, EndExpected, OutOfMemory}
+use Rattle.postcard_dyn_schema.specs.declared.error.Problem.TheVariants.{TypeExpected, UnknownType, VariantExpected, FieldExpected, LifetimeExpected, NameTwice, CommaOrParenthesis, CommaOrBrace, SemicolonOrBracket, BracketExpected, CommaExpected, GreaterExpected, ColonExpected, ArrowExpected, BraceExpected, CountExpected, CountTooLarge, NoBytes, NumberExpected, TooDeep, EndExpected, OutOfMemory}
 use Rattle.postcard_dyn_schema.specs.declared.error.ExpressionError.{ExpressionError}
 
 -- The text of a problem, in ASCII.
@@ -25,6 +25,7 @@ problem_text BraceExpected = codes "expected `}`"
 problem_text CountExpected = codes "expected the count of an array"
 problem_text CountTooLarge = codes "this count is too large"
 problem_text NoBytes = codes "elements of this type have no bytes"
+problem_text NumberExpected = codes "LE and BE hold u16 to u128 or i16 to i128"
 problem_text TooDeep = codes "nested too deeply"
 problem_text EndExpected = codes "expected the end of the type"
 problem_text OutOfMemory = codes "out of memory"

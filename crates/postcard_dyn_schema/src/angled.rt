@@ -7,8 +7,9 @@ ghost use Rattle.postcard_dyn_schema.specs.Fronts.{IsRefusal};
 ghost use Rattle.postcard_dyn_schema.specs.Meaning.{type_of};
 
 use crate::error::Problem;
-use crate::scan::{Fault, boxed, fault_at, named, push};
-use crate::schema::Schema;
+use crate::fixed::ByteOrder;
+use crate::scan::{ProblemAt, boxed, named, problem_at, push};
+use crate::schema::{Leaf, Schema};
 use std::alloc::Global;
 
 /// A type that has types in `<` and `>`.
@@ -29,6 +30,8 @@ pub enum Holder {
     List,
     /// `Option<T>`: no value, or a value of `T`.
     Option,
+    /// `LE<T>` or `BE<T>`: the number `T` at its full width.
+    Fixed(ByteOrder),
 }
 
 impl Holder {
@@ -36,17 +39,22 @@ impl Holder {
     ///
     /// # Errors
     ///
-    /// Fails at the front of `start`: with `NoBytes` if it is a list and `T` has no bytes, and with
+    /// Fails at the front of `start`: with `NoBytes` if it is a list and `T` has no bytes, with
+    /// `NumberExpected` if it is `LE` or `BE` and `T` is no number of 16 to 128 bits, and with
     /// `OutOfMemory` if an allocation fails.
-    pub fn of_type(self, alloc: Global, inner: Schema, start: &[u8]) -> Result<Schema, Fault>
+    pub fn of_type(self, alloc: Global, inner: Schema, start: &[u8]) -> Result<Schema, ProblemAt>
         ensures made { IfOk result (λ schema. MayHold self (type_of inner) × IsHolderOf self inner schema) }
-        ensures refused { IfErr result (λ fault. IsRefusal fault.problem (MayHold self (type_of inner))) }
+        ensures refused { IfErr result (λ found. IsRefusal found.problem (MayHold self (type_of inner))) }
     {
         match self {
             Holder::Itself => Ok(inner),
-            Holder::List if !inner.has_bytes() => Err(fault_at(Problem::NoBytes, start)),
+            Holder::List if !inner.has_bytes() => Err(problem_at(Problem::NoBytes, start)),
             Holder::List => Ok(Schema::Seq(boxed(alloc, inner, start)?)),
             Holder::Option => Ok(Schema::Option(boxed(alloc, inner, start)?)),
+            Holder::Fixed(order) => match inner.as_integer() {
+                Some(integer) => Ok(Schema::Leaf(Leaf::Fixed(order, integer))),
+                None => Err(problem_at(Problem::NumberExpected, start)),
+            },
         }
     }
 }
@@ -73,11 +81,11 @@ impl Pair {
         first: Schema,
         second: Schema,
         start: &[u8],
-    ) -> Result<Schema, Fault>
+    ) -> Result<Schema, ProblemAt>
         ensures made { IfOk result (λ schema. MayPair self (type_of first) (type_of second)
             × IsPairOf self first second schema) }
-        ensures refused { IfErr result (λ fault.
-            IsRefusal fault.problem (MayPair self (type_of first) (type_of second))) }
+        ensures refused { IfErr result (λ found.
+            IsRefusal found.problem (MayPair self (type_of first) (type_of second))) }
     {
         match self {
             Pair::Map => map_of(alloc, first, second, start),
@@ -92,23 +100,23 @@ impl Pair {
 ///
 /// Fails at the front of `start`: with `NoBytes` if its entries have no bytes, and with
 /// `OutOfMemory` if an allocation fails.
-pub fn map_of(alloc: Global, key: Schema, value: Schema, start: &[u8]) -> Result<Schema, Fault>
+pub fn map_of(alloc: Global, key: Schema, value: Schema, start: &[u8]) -> Result<Schema, ProblemAt>
     ensures made { IfOk result (λ schema. MayPair pairs.Map (type_of key) (type_of value)
         × IsPairOf pairs.Map key value schema) }
-    ensures refused { IfErr result (λ fault.
-        IsRefusal fault.problem (MayPair pairs.Map (type_of key) (type_of value))) }
+    ensures refused { IfErr result (λ found.
+        IsRefusal found.problem (MayPair pairs.Map (type_of key) (type_of value))) }
 {
     let entry = Schema::Group(two(alloc, key, value, start)?);
     if !entry.has_bytes() {
-        return Err(fault_at(Problem::NoBytes, start));
+        return Err(problem_at(Problem::NoBytes, start));
     }
     Ok(Schema::Map(boxed(alloc, entry, start)?))
 }
 
 /// Returns the enum `Ok(T) | Err(E)`, where `T` and `E` are these types.
-fn result_of(alloc: Global, value: Schema, error: Schema, start: &[u8]) -> Result<Schema, Fault>
+fn result_of(alloc: Global, value: Schema, error: Schema, start: &[u8]) -> Result<Schema, ProblemAt>
     ensures made { IfOk result (λ schema. IsPairOf pairs.Result value error schema) }
-    ensures refused { IfErr result (λ fault. fault.problem ≡ Problem.OutOfMemory) }
+    ensures refused { IfErr result (λ found. found.problem ≡ Problem.OutOfMemory) }
 {
     let value = named(alloc, b"Ok", value, start)?;
     let error = named(alloc, b"Err", error, start)?;
@@ -116,9 +124,9 @@ fn result_of(alloc: Global, value: Schema, error: Schema, start: &[u8]) -> Resul
 }
 
 /// Returns the list of two schemas.
-fn two(alloc: Global, first: Schema, second: Schema, start: &[u8]) -> Result<Vec<Schema>, Fault>
+fn two(alloc: Global, first: Schema, second: Schema, start: &[u8]) -> Result<Vec<Schema>, ProblemAt>
     ensures held { IfOk result (λ list. list.items ≡ first ∷ second ∷ []) }
-    ensures refused { IfErr result (λ fault. fault.problem ≡ Problem.OutOfMemory) }
+    ensures refused { IfErr result (λ found. found.problem ≡ Problem.OutOfMemory) }
 {
     let mut list = Vec::new(alloc);
     push(&mut list, first, start)?;

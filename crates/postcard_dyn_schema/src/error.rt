@@ -45,6 +45,8 @@ pub enum Problem {
     CountTooLarge,
     /// The elements of a list or an array, or the entries of a map, have no bytes.
     NoBytes,
+    /// The type in the `<` of `LE` or `BE` is no number of 16 to 128 bits.
+    NumberExpected,
     /// Types are nested more than 64 deep in brackets, or more than 4 `?` follow a type.
     TooDeep,
     /// The type expression is complete, and more text follows it.
@@ -76,6 +78,7 @@ impl fmt::Display for Problem {
             Problem::CountExpected => "expected the count of an array",
             Problem::CountTooLarge => "this count is too large",
             Problem::NoBytes => "elements of this type have no bytes",
+            Problem::NumberExpected => "LE and BE hold u16 to u128 or i16 to i128",
             Problem::TooDeep => "nested too deeply",
             Problem::EndExpected => "expected the end of the type",
             Problem::OutOfMemory => "out of memory",

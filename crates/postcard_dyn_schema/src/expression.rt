@@ -7,7 +7,7 @@
 //! plain    = word | holder "<" type ">" | pair "<" type "," type ">"
 //!          | "[" type "]" | "[" type ";" count "]" | tuple
 //!          | "{" fields "}" | "{" type "=>" type "}"
-//! holder   = "Box" | "Vec" | "Option"
+//! holder   = "Box" | "Vec" | "Option" | "LE" | "BE"
 //! pair     = "BTreeMap" | "HashMap" | "Result"
 //! tuple    = "(" [type {"," type} [","]] ")"
 //! fields   = name ":" type {"," name ":" type} [","]
@@ -25,7 +25,9 @@
 //! `Box<T>` is the type `T`, `Vec<T>` is `[T]`, `Option<T>` is `T?`, a `BTreeMap<K, V>` or
 //! `HashMap<K, V>` is `{K => V}`, and `Result<T, E>` is `Ok(T) | Err(E)`. `&T` is the type `T`, since
 //! a reference is written as what it refers to; the name of a lifetime, as `a` in `&'a str`, begins
-//! with no digit.
+//! with no digit. `LE<T>` and `BE<T>` are the number `T` at its full width, the lowest byte first or
+//! the highest; `T` is one of `u16` to `u128` and `i16` to `i128`, or `usize` or `isize`, which are
+//! `u64` and `i64`.
 
 ghost use Rattle.std.specs.Prelude.{◌≡◌, ℕ, List, ◌+◌, ◌≤◌, true, length, Decides, IfOk, IfErr, OnOk, OnErr};
 ghost use Rattle.postcard_dyn_schema.specs.Text.{characters, TakesPhrase, IsSign, EndsWord, GoesOnBy};
@@ -46,8 +48,8 @@ use crate::angled::{Angled, Holder, Pair, map_of};
 use crate::error::{ExpressionError, Problem};
 use crate::names::TypeName;
 use crate::scan::{
-    Fault, boxed, character_of, expect, fault_at, named, push, skip_blanks, skip_lifetime, take,
-    take_count, take_word,
+    ProblemAt, boxed, character_of, expect, named, problem_at, push, skip_blanks, skip_lifetime,
+    take, take_count, take_word,
 };
 use crate::schema::Schema;
 use std::alloc::Global;
@@ -67,7 +69,8 @@ const MAX_OPTIONS: usize = 4;
 ///
 /// The problem is `NoBytes` if the elements of a list or an array, or the entries of a map, have no
 /// bytes, since a short message could then hold any number of them. It is `TooDeep` if types are
-/// nested more than 64 deep in brackets, or if more than 4 `?` follow a type.
+/// nested more than 64 deep in brackets, or if more than 4 `?` follow a type. It is `NumberExpected`
+/// if the type in the `<` of `LE` or `BE` is no number of 16 to 128 bits.
 pub fn parse(alloc: Global, text: &str) -> Result<Schema, ExpressionError>
     ensures spelled { IfOk result (λ schema. IsExpression schema text.now) }
     ensures one { IfOk result (λ schema. (other : Schema)
@@ -82,7 +85,7 @@ pub fn parse(alloc: Global, text: &str) -> Result<Schema, ExpressionError>
     let mut rest = text.as_bytes();
     match read_whole(alloc, &mut rest) {
         Ok(schema) => Ok(schema),
-        Err(Fault { problem, left }) => Err(ExpressionError {
+        Err(ProblemAt { problem, left }) => Err(ExpressionError {
             problem,
             character: character_of(text.as_bytes(), left),
         }),
@@ -90,33 +93,33 @@ pub fn parse(alloc: Global, text: &str) -> Result<Schema, ExpressionError>
 }
 
 /// Reads a type, after which only blanks may follow.
-fn read_whole(alloc: Global, rest: &mut &[u8]) -> Result<Schema, Fault>
+fn read_whole(alloc: Global, rest: &mut &[u8]) -> Result<Schema, ProblemAt>
     ensures spelled { IfOk result (λ schema. IsExpression schema rest.old.now) }
     ensures one { IfOk result (λ schema. (other : Schema)
         → IsExpression other rest.old.now → type_of other ≡ type_of schema) }
-    ensures refused { IfErr result (λ fault. IsRefusal fault.problem
+    ensures refused { IfErr result (λ found. IsRefusal found.problem
         ((other : Schema) × IsExpression other rest.old.now)) }
 {
     let schema = read_type(alloc, rest, MAX_DEPTH)?;
     skip_blanks(rest);
     if !rest.is_empty() {
-        return Err(fault_at(Problem::EndExpected, rest));
+        return Err(problem_at(Problem::EndExpected, rest));
     }
     Ok(schema)
 }
 
 /// Reads a type: an enum, or another type with up to `MAX_OPTIONS` `?` after it.
 #[cycle(expression)]
-fn read_type(alloc: Global, rest: &mut &[u8], depth: usize) -> Result<Schema, Fault>
+fn read_type(alloc: Global, rest: &mut &[u8], depth: usize) -> Result<Schema, ProblemAt>
     ensures spelled { IfOk result (λ schema. TakesPhrase (IsType depth schema) rest.old.now rest.new.now) }
     ensures one { IfOk result (λ schema.
         IsOnlyFront (GoesOnBy follows_type) (IsType depth) schema rest.old.now rest.new.now) }
-    ensures refused { IfErr result (λ fault.
-        IsRefusal fault.problem (HasFront (GoesOnBy follows_type) (IsType depth) rest.old.now)) }
+    ensures refused { IfErr result (λ found.
+        IsRefusal found.problem (HasFront (GoesOnBy follows_type) (IsType depth) rest.old.now)) }
 {
     let start = rest.trim_ascii_start();
     if depth == 0 {
-        return Err(fault_at(Problem::TooDeep, start));
+        return Err(problem_at(Problem::TooDeep, start));
     }
     if begins_enum(rest) {
         return read_enum(alloc, rest, depth - 1);
@@ -130,7 +133,7 @@ fn read_type(alloc: Global, rest: &mut &[u8], depth: usize) -> Result<Schema, Fa
     }
     let start = rest.trim_ascii_start();
     if take(rest, b'?') {
-        return Err(fault_at(Problem::TooDeep, start));
+        return Err(problem_at(Problem::TooDeep, start));
     }
     Ok(schema)
 }
@@ -170,13 +173,13 @@ fn is_after_name(byte: u8) -> bool
 
 /// Reads a type that is no enum, with any number of `&` before it and without the `?` after it.
 #[cycle(expression)]
-fn read_referred(alloc: Global, rest: &mut &[u8], depth: usize) -> Result<Schema, Fault>
+fn read_referred(alloc: Global, rest: &mut &[u8], depth: usize) -> Result<Schema, ProblemAt>
     ensures spelled { IfOk result (λ schema. TakesPhrase (IsReferred (IsType depth) schema)
         rest.old.now rest.new.now) }
     ensures one { IfOk result (λ schema.
         IsOnlyFront EndsWord (IsReferred (IsType depth)) schema rest.old.now rest.new.now) }
-    ensures refused { IfErr result (λ fault.
-        IsRefusal fault.problem (HasFront EndsWord (IsReferred (IsType depth)) rest.old.now)) }
+    ensures refused { IfErr result (λ found.
+        IsRefusal found.problem (HasFront EndsWord (IsReferred (IsType depth)) rest.old.now)) }
 {
     'references: while take(rest, b'&') {
         skip_lifetime(rest)?;
@@ -186,13 +189,13 @@ fn read_referred(alloc: Global, rest: &mut &[u8], depth: usize) -> Result<Schema
 
 /// Reads a type that is no enum, with no `&` before it and without the `?` after it.
 #[cycle(expression)]
-fn read_plain(alloc: Global, rest: &mut &[u8], depth: usize) -> Result<Schema, Fault>
+fn read_plain(alloc: Global, rest: &mut &[u8], depth: usize) -> Result<Schema, ProblemAt>
     ensures spelled { IfOk result (λ schema. TakesPhrase (IsPlain (IsType depth) schema)
         rest.old.now rest.new.now) }
     ensures one { IfOk result (λ schema.
         IsOnlyFront EndsWord (IsPlain (IsType depth)) schema rest.old.now rest.new.now) }
-    ensures refused { IfErr result (λ fault.
-        IsRefusal fault.problem (HasFront EndsWord (IsPlain (IsType depth)) rest.old.now)) }
+    ensures refused { IfErr result (λ found.
+        IsRefusal found.problem (HasFront EndsWord (IsPlain (IsType depth)) rest.old.now)) }
 {
     if take(rest, b'[') {
         return read_list(alloc, rest, depth);
@@ -208,21 +211,21 @@ fn read_plain(alloc: Global, rest: &mut &[u8], depth: usize) -> Result<Schema, F
 
 /// Reads a type that begins with a word.
 #[cycle(expression)]
-fn read_worded(alloc: Global, rest: &mut &[u8], depth: usize) -> Result<Schema, Fault>
+fn read_worded(alloc: Global, rest: &mut &[u8], depth: usize) -> Result<Schema, ProblemAt>
     ensures spelled { IfOk result (λ schema. TakesPhrase (IsWorded (IsType depth) schema)
         rest.old.now rest.new.now) }
     ensures one { IfOk result (λ schema.
         IsOnlyFront EndsWord (IsWorded (IsType depth)) schema rest.old.now rest.new.now) }
-    ensures refused { IfErr result (λ fault.
-        IsRefusal fault.problem (HasFront EndsWord (IsWorded (IsType depth)) rest.old.now)) }
+    ensures refused { IfErr result (λ found.
+        IsRefusal found.problem (HasFront EndsWord (IsWorded (IsType depth)) rest.old.now)) }
 {
     let start = rest.trim_ascii_start();
     let word = take_word(rest);
     if word.is_empty() {
-        return Err(fault_at(Problem::TypeExpected, start));
+        return Err(problem_at(Problem::TypeExpected, start));
     }
     let Some(name) = TypeName::from_word(word) else {
-        return Err(fault_at(Problem::UnknownType, start));
+        return Err(problem_at(Problem::UnknownType, start));
     };
     match name {
         TypeName::Leaf(leaf) => Ok(Schema::Leaf(leaf)),
@@ -238,7 +241,7 @@ fn read_worded(alloc: Global, rest: &mut &[u8], depth: usize) -> Result<Schema, 
 /// # Errors
 ///
 /// Fails with `UnknownType` at the name if something else follows it.
-fn open_angle(rest: &mut &[u8], name: &[u8]) -> Result<(), Fault>
+fn open_angle(rest: &mut &[u8], name: &[u8]) -> Result<(), ProblemAt>
     ensures taken { OnOk result (TakesPhrase (IsSign 60) rest.old.now rest.new.now) }
     ensures none { OnErr result ((after : List ℕ)
         → TakesPhrase (IsSign 60) rest.old.now after → ⊥) }
@@ -246,18 +249,23 @@ fn open_angle(rest: &mut &[u8], name: &[u8]) -> Result<(), Fault>
     if take(rest, b'<') {
         return Ok(());
     }
-    Err(fault_at(Problem::UnknownType, name))
+    Err(problem_at(Problem::UnknownType, name))
 }
 
 /// Reads the types and the `>` after the `<` of a type, and returns that type.
 #[cycle(expression)]
-fn read_angled(alloc: Global, kind: Angled, rest: &mut &[u8], depth: usize) -> Result<Schema, Fault>
+fn read_angled(
+    alloc: Global,
+    kind: Angled,
+    rest: &mut &[u8],
+    depth: usize,
+) -> Result<Schema, ProblemAt>
     ensures spelled { IfOk result (λ schema. TakesPhrase (IsAngledRest (IsType depth) kind schema)
         rest.old.now rest.new.now) }
     ensures one { IfOk result (λ schema.
         IsOnlyFront Anything (IsAngledRest (IsType depth) kind) schema rest.old.now rest.new.now) }
-    ensures refused { IfErr result (λ fault.
-        IsRefusal fault.problem (HasFront Anything (IsAngledRest (IsType depth) kind) rest.old.now)) }
+    ensures refused { IfErr result (λ found.
+        IsRefusal found.problem (HasFront Anything (IsAngledRest (IsType depth) kind) rest.old.now)) }
 {
     match kind {
         Angled::Holder(holder) => read_holder(alloc, holder, rest, depth),
@@ -272,12 +280,12 @@ fn read_holder(
     holder: Holder,
     rest: &mut &[u8],
     depth: usize,
-) -> Result<Schema, Fault>
+) -> Result<Schema, ProblemAt>
     ensures spelled { IfOk result (λ schema.
         TakesPhrase (IsOfOne holder (IsEndedBy (IsType depth) 62) schema) rest.old.now rest.new.now) }
     ensures one { IfOk result (λ schema. IsOnlyFront Anything
         (IsOfOne holder (IsEndedBy (IsType depth) 62)) schema rest.old.now rest.new.now) }
-    ensures refused { IfErr result (λ fault. IsRefusal fault.problem
+    ensures refused { IfErr result (λ found. IsRefusal found.problem
         (HasFront Anything (IsOfOne holder (IsEndedBy (IsType depth) 62)) rest.old.now)) }
 {
     let start = rest.trim_ascii_start();
@@ -288,14 +296,14 @@ fn read_holder(
 /// Reads two types, with `,` between them, and `>` after the `<` of a type of two types, and
 /// returns that type.
 #[cycle(expression)]
-fn read_pair(alloc: Global, pair: Pair, rest: &mut &[u8], depth: usize) -> Result<Schema, Fault>
+fn read_pair(alloc: Global, pair: Pair, rest: &mut &[u8], depth: usize) -> Result<Schema, ProblemAt>
     ensures spelled { IfOk result (λ schema. TakesPhrase
         (IsOfTwo pair (IsEndedBy (IsType depth) 44) (IsEndedBy (IsType depth) 62) schema)
         rest.old.now rest.new.now) }
     ensures one { IfOk result (λ schema. IsOnlyFront Anything
         (IsOfTwo pair (IsEndedBy (IsType depth) 44) (IsEndedBy (IsType depth) 62))
         schema rest.old.now rest.new.now) }
-    ensures refused { IfErr result (λ fault. IsRefusal fault.problem (HasFront Anything
+    ensures refused { IfErr result (λ found. IsRefusal found.problem (HasFront Anything
         (IsOfTwo pair (IsEndedBy (IsType depth) 44) (IsEndedBy (IsType depth) 62)) rest.old.now)) }
 {
     let start = rest.trim_ascii_start();
@@ -312,14 +320,14 @@ fn read_ended(
     depth: usize,
     sign: u8,
     problem: Problem,
-) -> Result<Schema, Fault>
+) -> Result<Schema, ProblemAt>
     requires { follows_type sign ≡ true }
     ensures spelled { IfOk result (λ schema. TakesPhrase (IsEndedBy (IsType depth) sign schema)
         rest.old.now rest.new.now) }
     ensures one { IfOk result (λ schema.
         IsOnlyFront Anything (IsEndedBy (IsType depth) sign) schema rest.old.now rest.new.now) }
-    ensures refused { IfErr result (λ fault.
-        IsRefusal fault.problem (HasFront Anything (IsEndedBy (IsType depth) sign) rest.old.now)) }
+    ensures refused { IfErr result (λ found.
+        IsRefusal found.problem (HasFront Anything (IsEndedBy (IsType depth) sign) rest.old.now)) }
 {
     let schema = read_type(alloc, rest, depth)?;
     expect(rest, sign, problem)?;
@@ -328,18 +336,18 @@ fn read_ended(
 
 /// Reads a list or an array after its `[`.
 #[cycle(expression)]
-fn read_list(alloc: Global, rest: &mut &[u8], depth: usize) -> Result<Schema, Fault>
+fn read_list(alloc: Global, rest: &mut &[u8], depth: usize) -> Result<Schema, ProblemAt>
     ensures spelled { IfOk result (λ schema. TakesPhrase (IsListRest (IsType depth) schema)
         rest.old.now rest.new.now) }
     ensures one { IfOk result (λ schema.
         IsOnlyFront Anything (IsListRest (IsType depth)) schema rest.old.now rest.new.now) }
-    ensures refused { IfErr result (λ fault.
-        IsRefusal fault.problem (HasFront Anything (IsListRest (IsType depth)) rest.old.now)) }
+    ensures refused { IfErr result (λ found.
+        IsRefusal found.problem (HasFront Anything (IsListRest (IsType depth)) rest.old.now)) }
 {
     let start = rest.trim_ascii_start();
     let element = read_type(alloc, rest, depth)?;
     if !element.has_bytes() {
-        return Err(fault_at(Problem::NoBytes, start));
+        return Err(problem_at(Problem::NoBytes, start));
     }
     let element = boxed(alloc, element, rest)?;
     if take(rest, b';') {
@@ -353,13 +361,13 @@ fn read_list(alloc: Global, rest: &mut &[u8], depth: usize) -> Result<Schema, Fa
 
 /// Reads a tuple after its `(`. A single type without `,` is returned as that type.
 #[cycle(expression)]
-fn read_tuple(alloc: Global, rest: &mut &[u8], depth: usize) -> Result<Schema, Fault>
+fn read_tuple(alloc: Global, rest: &mut &[u8], depth: usize) -> Result<Schema, ProblemAt>
     ensures spelled { IfOk result (λ schema. TakesPhrase (IsTupleRest (IsType depth) schema)
         rest.old.now rest.new.now) }
     ensures one { IfOk result (λ schema.
         IsOnlyFront Anything (IsTupleRest (IsType depth)) schema rest.old.now rest.new.now) }
-    ensures refused { IfErr result (λ fault.
-        IsRefusal fault.problem (HasFront Anything (IsTupleRest (IsType depth)) rest.old.now)) }
+    ensures refused { IfErr result (λ found.
+        IsRefusal found.problem (HasFront Anything (IsTupleRest (IsType depth)) rest.old.now)) }
 {
     let mut parts = Vec::new(alloc);
     if take(rest, b')') {
@@ -381,18 +389,18 @@ fn read_tuple(alloc: Global, rest: &mut &[u8], depth: usize) -> Result<Schema, F
             return Ok(Schema::Group(parts));
         }
     }
-    Err(fault_at(Problem::CommaOrParenthesis, rest))
+    Err(problem_at(Problem::CommaOrParenthesis, rest))
 }
 
 /// Reads a struct or a map after its `{`. It is a struct if a word and `:` come first.
 #[cycle(expression)]
-fn read_braces(alloc: Global, rest: &mut &[u8], depth: usize) -> Result<Schema, Fault>
+fn read_braces(alloc: Global, rest: &mut &[u8], depth: usize) -> Result<Schema, ProblemAt>
     ensures spelled { IfOk result (λ schema.
         TakesPhrase (IsBracesRest (IsType depth) schema) rest.old.now rest.new.now) }
     ensures one { IfOk result (λ schema.
         IsOnlyFront Anything (IsBracesRest (IsType depth)) schema rest.old.now rest.new.now) }
-    ensures refused { IfErr result (λ fault.
-        IsRefusal fault.problem (HasFront Anything (IsBracesRest (IsType depth)) rest.old.now)) }
+    ensures refused { IfErr result (λ found.
+        IsRefusal found.problem (HasFront Anything (IsBracesRest (IsType depth)) rest.old.now)) }
 {
     if begins_field(rest) {
         return read_fields(alloc, rest, depth);
@@ -400,27 +408,27 @@ fn read_braces(alloc: Global, rest: &mut &[u8], depth: usize) -> Result<Schema, 
     let start = *rest;
     match read_map(alloc, rest, depth) {
         Ok(schema) => Ok(schema),
-        Err(fault) => Err(or_colon(fault, start)),
+        Err(found) => Err(or_colon(found, start)),
     }
 }
 
-/// Returns what is wrong with the text after a `{`, which is refused as a map with this fault. If
+/// Returns what is wrong with the text after a `{`, which is refused as a map for what was found. If
 /// its first word is no type and neither `=>` nor `<` follows the word, it is a field whose `:` is
 /// missing.
-fn or_colon(fault: Fault, text: &[u8]) -> Fault
-    ensures refused { fault.problem ≡ Problem.OutOfMemory → result.problem ≡ Problem.OutOfMemory }
+fn or_colon(found: ProblemAt, text: &[u8]) -> ProblemAt
+    ensures refused { found.problem ≡ Problem.OutOfMemory → result.problem ≡ Problem.OutOfMemory }
 {
     let mut rest = text.trim_ascii_start();
-    if fault.problem != Problem::UnknownType || fault.left != rest.len() {
-        return fault;
+    if found.problem != Problem::UnknownType || found.left != rest.len() {
+        return found;
     }
     let _ = take_word(&mut rest);
     skip_blanks(&mut rest);
     let after = rest;
     if take(&mut rest, b'<') || take(&mut rest, b'=') && take(&mut rest, b'>') {
-        return fault;
+        return found;
     }
-    fault_at(Problem::ColonExpected, after)
+    problem_at(Problem::ColonExpected, after)
 }
 
 /// Returns whether a word that isn't empty comes next, and then `:`.
@@ -434,20 +442,20 @@ fn begins_field(text: &[u8]) -> bool
 
 /// Reads the fields of a struct after its `{`, and the `}`.
 #[cycle(expression)]
-fn read_fields(alloc: Global, rest: &mut &[u8], depth: usize) -> Result<Schema, Fault>
+fn read_fields(alloc: Global, rest: &mut &[u8], depth: usize) -> Result<Schema, ProblemAt>
     ensures spelled { IfOk result (λ schema. TakesPhrase (IsFieldsRest (IsType depth) schema)
         rest.old.now rest.new.now) }
     ensures one { IfOk result (λ schema.
         IsOnlyFront Anything (IsFieldsRest (IsType depth)) schema rest.old.now rest.new.now) }
-    ensures refused { IfErr result (λ fault.
-        IsRefusal fault.problem (HasFront Anything (IsFieldsRest (IsType depth)) rest.old.now)) }
+    ensures refused { IfErr result (λ found.
+        IsRefusal found.problem (HasFront Anything (IsFieldsRest (IsType depth)) rest.old.now)) }
 {
     let mut fields = Vec::new(alloc);
     for _ in 0..rest.len() {
         let start = rest.trim_ascii_start();
         let name = take_word(rest);
         if name.is_empty() || name[0].is_ascii_digit() {
-            return Err(fault_at(Problem::FieldExpected, start));
+            return Err(problem_at(Problem::FieldExpected, start));
         }
         check_new(&fields, name, start)?;
         expect(rest, b':', Problem::ColonExpected)?;
@@ -461,18 +469,18 @@ fn read_fields(alloc: Global, rest: &mut &[u8], depth: usize) -> Result<Schema, 
             return Ok(Schema::Group(fields));
         }
     }
-    Err(fault_at(Problem::FieldExpected, rest))
+    Err(problem_at(Problem::FieldExpected, rest))
 }
 
 /// Reads the key type and the value type of a map after its `{`, and the `}`.
 #[cycle(expression)]
-fn read_map(alloc: Global, rest: &mut &[u8], depth: usize) -> Result<Schema, Fault>
+fn read_map(alloc: Global, rest: &mut &[u8], depth: usize) -> Result<Schema, ProblemAt>
     ensures spelled { IfOk result (λ schema. TakesPhrase (IsMapRest (IsType depth) schema)
         rest.old.now rest.new.now) }
     ensures one { IfOk result (λ schema.
         IsOnlyFront Anything (IsMapRest (IsType depth)) schema rest.old.now rest.new.now) }
-    ensures refused { IfErr result (λ fault.
-        IsRefusal fault.problem (HasFront Anything (IsMapRest (IsType depth)) rest.old.now)) }
+    ensures refused { IfErr result (λ found.
+        IsRefusal found.problem (HasFront Anything (IsMapRest (IsType depth)) rest.old.now)) }
 {
     let start = rest.trim_ascii_start();
     let key = read_ended(alloc, rest, depth, b'=', Problem::ArrowExpected)?;
@@ -483,13 +491,13 @@ fn read_map(alloc: Global, rest: &mut &[u8], depth: usize) -> Result<Schema, Fau
 
 /// Reads an enum: its variants, with `|` between them.
 #[cycle(expression)]
-fn read_enum(alloc: Global, rest: &mut &[u8], depth: usize) -> Result<Schema, Fault>
+fn read_enum(alloc: Global, rest: &mut &[u8], depth: usize) -> Result<Schema, ProblemAt>
     ensures spelled { IfOk result (λ schema. TakesPhrase (IsEnumText (IsType depth) schema)
         rest.old.now rest.new.now) }
     ensures one { IfOk result (λ schema.
         IsOnlyFront (GoesOnBy follows_type) (IsEnumText (IsType depth)) schema rest.old.now rest.new.now) }
-    ensures refused { IfErr result (λ fault.
-        IsRefusal fault.problem (HasFront (GoesOnBy follows_type) (IsEnumText (IsType depth)) rest.old.now)) }
+    ensures refused { IfErr result (λ found.
+        IsRefusal found.problem (HasFront (GoesOnBy follows_type) (IsEnumText (IsType depth)) rest.old.now)) }
 {
     let start = rest.trim_ascii_start();
     let leads = take(rest, b'|');
@@ -499,12 +507,12 @@ fn read_enum(alloc: Global, rest: &mut &[u8], depth: usize) -> Result<Schema, Fa
         push(&mut variants, variant, rest)?;
         if !take(rest, b'|') {
             if variants.len() == 1 && !leads {
-                return Err(fault_at(Problem::UnknownType, start));
+                return Err(problem_at(Problem::UnknownType, start));
             }
             return Ok(Schema::Enum(variants));
         }
     }
-    Err(fault_at(Problem::VariantExpected, rest))
+    Err(problem_at(Problem::VariantExpected, rest))
 }
 
 /// Reads a variant, whose name must differ from those of the variants before it.
@@ -514,7 +522,7 @@ fn read_variant(
     before: &Vec<Schema>,
     rest: &mut &[u8],
     depth: usize,
-) -> Result<Schema, Fault>
+) -> Result<Schema, ProblemAt>
     ensures spelled { IfOk result (λ schema. TakesPhrase (IsNewVariant before.now.items (IsType depth) schema)
         rest.old.now rest.new.now) }
     ensures one { IfOk result (λ schema.
@@ -522,13 +530,13 @@ fn read_variant(
     ensures called { IfOk result (λ schema. (other : Schema) (after : List ℕ)
         → TakesPhrase (IsNewVariant before.now.items (IsType depth) other) rest.old.now after
         → GoesOnBy follows_variant after → HasNamesOf other schema) }
-    ensures refused { IfErr result (λ fault.
-        IsRefusal fault.problem (HasFront (GoesOnBy follows_variant) (IsNewVariant before.now.items (IsType depth)) rest.old.now)) }
+    ensures refused { IfErr result (λ found.
+        IsRefusal found.problem (HasFront (GoesOnBy follows_variant) (IsNewVariant before.now.items (IsType depth)) rest.old.now)) }
 {
     let start = rest.trim_ascii_start();
     let name = take_word(rest);
     if name.is_empty() || !name[0].is_ascii_uppercase() {
-        return Err(fault_at(Problem::VariantExpected, start));
+        return Err(problem_at(Problem::VariantExpected, start));
     }
     check_new(before, name, start)?;
     let content = read_content(alloc, rest, depth)?;
@@ -537,13 +545,13 @@ fn read_variant(
 
 /// Reads the content of a variant: a tuple, a struct, or nothing.
 #[cycle(expression)]
-fn read_content(alloc: Global, rest: &mut &[u8], depth: usize) -> Result<Schema, Fault>
+fn read_content(alloc: Global, rest: &mut &[u8], depth: usize) -> Result<Schema, ProblemAt>
     ensures spelled { IfOk result (λ schema. TakesPhrase (IsContent (IsType depth) schema)
         rest.old.now rest.new.now) }
     ensures one { IfOk result (λ schema.
         IsOnlyFront (GoesOnBy follows_variant) (IsContent (IsType depth)) schema rest.old.now rest.new.now) }
-    ensures refused { IfErr result (λ fault.
-        IsRefusal fault.problem (HasFront (GoesOnBy follows_variant) (IsContent (IsType depth)) rest.old.now)) }
+    ensures refused { IfErr result (λ found.
+        IsRefusal found.problem (HasFront (GoesOnBy follows_variant) (IsContent (IsType depth)) rest.old.now)) }
 {
     if take(rest, b'(') {
         return read_tuple(alloc, rest, depth);
@@ -555,15 +563,15 @@ fn read_content(alloc: Global, rest: &mut &[u8], depth: usize) -> Result<Schema,
 }
 
 /// Fails with `NameTwice` at `start` if one of the fields or variants has the name already.
-fn check_new(before: &Vec<Schema>, name: &[u8], start: &[u8]) -> Result<(), Fault>
+fn check_new(before: &Vec<Schema>, name: &[u8], start: &[u8]) -> Result<(), ProblemAt>
     ensures new { OnOk result (IsNewTo before.now.items name.now) }
-    ensures twice { IfErr result (λ fault. (fault.problem ≡ Problem.NameTwice)
-        × (fault.left ≡ length start.now) × IsTakenIn before.now.items name.now) }
+    ensures twice { IfErr result (λ found. (found.problem ≡ Problem.NameTwice)
+        × (found.left ≡ length start.now) × IsTakenIn before.now.items name.now) }
 {
     for schema in before {
         if let Schema::Named(other, _) = schema {
             if other.as_bytes() == name {
-                return Err(fault_at(Problem::NameTwice, start));
+                return Err(problem_at(Problem::NameTwice, start));
             }
         }
     }

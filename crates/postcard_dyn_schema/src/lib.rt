@@ -8,10 +8,12 @@
 pub mod angled;
 pub mod error;
 pub mod expression;
+pub mod fixed;
 pub mod names;
 pub mod scan;
 pub mod schema;
 
 pub use error::{ExpressionError, Problem};
 pub use expression::parse;
+pub use fixed::{ByteOrder, Integer};
 pub use schema::{Leaf, Schema};

@@ -5,6 +5,7 @@ ghost use Rattle.postcard_dyn_schema.specs.Angled.{IsTypeName};
 ghost use Rattle.postcard_dyn_schema.specs.declared.names.TypeName.{TypeName};
 
 use crate::angled::{Angled, Holder, Pair};
+use crate::fixed::ByteOrder;
 use crate::schema::Leaf;
 
 /// What the name of a type stands for.
@@ -44,6 +45,8 @@ impl TypeName {
             b"Box" => Some(TypeName::Angled(Angled::Holder(Holder::Itself))),
             b"Vec" => Some(TypeName::Angled(Angled::Holder(Holder::List))),
             b"Option" => Some(TypeName::Angled(Angled::Holder(Holder::Option))),
+            b"LE" => Some(TypeName::Angled(Angled::Holder(Holder::Fixed(ByteOrder::Little)))),
+            b"BE" => Some(TypeName::Angled(Angled::Holder(Holder::Fixed(ByteOrder::Big)))),
             b"BTreeMap" | b"HashMap" => Some(TypeName::Angled(Angled::Pair(Pair::Map))),
             b"Result" => Some(TypeName::Angled(Angled::Pair(Pair::Result))),
             _ => None,

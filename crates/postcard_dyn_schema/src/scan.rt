@@ -19,19 +19,21 @@ use crate::error::Problem;
 use crate::schema::Schema;
 use std::alloc::Global;
 
-/// What is wrong, and where: the number of bytes from there to the end of the text.
+/// What is wrong, and where.
 #[derive(Clone, Copy)]
-pub struct Fault {
+pub struct ProblemAt {
+    /// What is wrong.
     pub problem: Problem,
+    /// The number of bytes from there to the end of the text.
     pub left: usize,
 }
 
-/// Returns the fault of this problem at the front of `rest`.
-pub fn fault_at(problem: Problem, rest: &[u8]) -> Fault
+/// Returns this problem at the front of `rest`.
+pub fn problem_at(problem: Problem, rest: &[u8]) -> ProblemAt
     ensures problem { result.problem ≡ problem }
     ensures left { result.left ≡ length rest.now }
 {
-    Fault {
+    ProblemAt {
         problem,
         left: rest.len(),
     }
@@ -76,11 +78,11 @@ pub fn take(rest: &mut &[u8], byte: u8) -> bool
 /// # Errors
 ///
 /// Fails with `problem` if another byte follows the blanks, or none. The blanks are taken, and the
-/// fault is at what follows them.
-pub fn expect(rest: &mut &[u8], byte: u8, problem: Problem) -> Result<(), Fault>
+/// problem is at what follows them.
+pub fn expect(rest: &mut &[u8], byte: u8, problem: Problem) -> Result<(), ProblemAt>
     ensures taken { OnOk result (TakesPhrase (IsSign byte) rest.old.now rest.new.now) }
-    ensures refused { IfErr result (λ fault. (fault.problem ≡ problem)
-        × (fault.left ≡ length rest.new.now) × IsTrimAsciiStart rest.old.now rest.new.now) }
+    ensures refused { IfErr result (λ found. (found.problem ≡ problem)
+        × (found.left ≡ length rest.new.now) × IsTrimAsciiStart rest.old.now rest.new.now) }
     ensures none { OnErr result (is_ascii_whitespace byte ≡ false → (after : List ℕ)
         → TakesPhrase (IsSign byte) rest.old.now after → ⊥) }
 {
@@ -88,7 +90,7 @@ pub fn expect(rest: &mut &[u8], byte: u8, problem: Problem) -> Result<(), Fault>
         return Ok(());
     }
     skip_blanks(rest);
-    Err(fault_at(problem, rest))
+    Err(problem_at(problem, rest))
 }
 
 /// Takes the blanks at the front and then a word, and returns the word: all letters and digits of
@@ -122,7 +124,7 @@ fn is_of_word(byte: u8) -> bool
 /// # Errors
 ///
 /// Fails with `LifetimeExpected` if no name follows the `'`, or one that begins with a digit.
-pub fn skip_lifetime(rest: &mut &[u8]) -> Result<(), Fault>
+pub fn skip_lifetime(rest: &mut &[u8]) -> Result<(), ProblemAt>
     ensures taken { OnOk result (TakesLifetime rest.old.now rest.new.now) }
     ensures none { OnErr result ((after : List ℕ) → TakesLifetime rest.old.now after → ⊥) }
 {
@@ -132,7 +134,7 @@ pub fn skip_lifetime(rest: &mut &[u8]) -> Result<(), Fault>
     let start = rest.trim_ascii_start();
     let name = take_word(rest);
     if name.is_empty() || name[0].is_ascii_digit() {
-        return Err(fault_at(Problem::LifetimeExpected, start));
+        return Err(problem_at(Problem::LifetimeExpected, start));
     }
     Ok(())
 }
@@ -143,7 +145,7 @@ pub fn skip_lifetime(rest: &mut &[u8]) -> Result<(), Fault>
 ///
 /// Fails with `CountExpected` if the next word isn't digits alone, and with `CountTooLarge` if the
 /// count doesn't fit in a `usize`.
-pub fn take_count(rest: &mut &[u8]) -> Result<usize, Fault>
+pub fn take_count(rest: &mut &[u8]) -> Result<usize, ProblemAt>
     ensures taken { IfOk result (λ count. TakesPhrase (IsCount count) rest.old.now rest.new.now) }
     ensures one { IfOk result (λ count. (n : ℕ) (after : List ℕ)
         → TakesPhrase (IsCount n) rest.old.now after → EndsWord after
@@ -154,13 +156,13 @@ pub fn take_count(rest: &mut &[u8]) -> Result<usize, Fault>
     let start = rest.trim_ascii_start();
     let digits = take_word(rest);
     if digits.is_empty() || !are_digits(digits) {
-        return Err(fault_at(Problem::CountExpected, start));
+        return Err(problem_at(Problem::CountExpected, start));
     }
     let mut count: usize = 0;
     for digit in digits {
         count = match with_digit(count, *digit) {
             Some(count) => count,
-            None => return Err(fault_at(Problem::CountTooLarge, start)),
+            None => return Err(problem_at(Problem::CountTooLarge, start)),
         };
     }
     Ok(count)
@@ -187,13 +189,13 @@ fn are_digits(word: &[u8]) -> bool
 /// # Errors
 ///
 /// Fails with `OutOfMemory` at the front of `rest` if the allocation fails.
-pub fn boxed(alloc: Global, schema: Schema, rest: &[u8]) -> Result<Box<Schema>, Fault>
+pub fn boxed(alloc: Global, schema: Schema, rest: &[u8]) -> Result<Box<Schema>, ProblemAt>
     ensures held { IfOk result (λ held. held.value ≡ schema) }
-    ensures refused { IfErr result (λ fault. fault.problem ≡ Problem.OutOfMemory) }
+    ensures refused { IfErr result (λ found. found.problem ≡ Problem.OutOfMemory) }
 {
     match Box::new(alloc, schema) {
         Ok(held) => Ok(held),
-        Err(_) => Err(fault_at(Problem::OutOfMemory, rest)),
+        Err(_) => Err(problem_at(Problem::OutOfMemory, rest)),
     }
 }
 
@@ -203,18 +205,18 @@ pub fn boxed(alloc: Global, schema: Schema, rest: &[u8]) -> Result<Box<Schema>, 
 ///
 /// Fails at the front of `rest`: with `OutOfMemory` if an allocation fails, and with
 /// `FieldExpected` if the name is not UTF-8.
-pub fn named(alloc: Global, name: &[u8], schema: Schema, rest: &[u8]) -> Result<Schema, Fault>
+pub fn named(alloc: Global, name: &[u8], schema: Schema, rest: &[u8]) -> Result<Schema, ProblemAt>
     ensures held { IfOk result (λ whole. (text : String Global) × (held : Box Schema Global)
         × (whole ≡ Named text held) × (string_bytes text ≡ name.now) × (held.value ≡ schema)) }
-    ensures refused { IfErr result (λ fault. (fault.problem ≡ Problem.OutOfMemory)
+    ensures refused { IfErr result (λ found. (found.problem ≡ Problem.OutOfMemory)
         ⊎ (AllPass is_of_word_byte name.now → ⊥)) }
 {
     let Ok(text) = str::from_utf8(name) else {
-        return Err(fault_at(Problem::FieldExpected, rest));
+        return Err(problem_at(Problem::FieldExpected, rest));
     };
     match String::from_str(alloc, text) {
         Ok(name) => Ok(Schema::Named(name, boxed(alloc, schema, rest)?)),
-        Err(_) => Err(fault_at(Problem::OutOfMemory, rest)),
+        Err(_) => Err(problem_at(Problem::OutOfMemory, rest)),
     }
 }
 
@@ -223,12 +225,12 @@ pub fn named(alloc: Global, name: &[u8], schema: Schema, rest: &[u8]) -> Result<
 /// # Errors
 ///
 /// Fails with `OutOfMemory` at the front of `rest` if an allocation fails.
-pub fn push(schemas: &mut Vec<Schema>, schema: Schema, rest: &[u8]) -> Result<(), Fault>
+pub fn push(schemas: &mut Vec<Schema>, schema: Schema, rest: &[u8]) -> Result<(), ProblemAt>
     ensures added { OnOk result (schemas.new.items ≡ schemas.old.items ++ schema ∷ []) }
-    ensures refused { IfErr result (λ fault. fault.problem ≡ Problem.OutOfMemory) }
+    ensures refused { IfErr result (λ found. found.problem ≡ Problem.OutOfMemory) }
 {
     match schemas.push(schema) {
         Ok(()) => Ok(()),
-        Err(_) => Err(fault_at(Problem::OutOfMemory, rest)),
+        Err(_) => Err(problem_at(Problem::OutOfMemory, rest)),
     }
 }

@@ -1,11 +1,17 @@
 //! Types of messages, as values of a program.
 
-ghost use Rattle.std.specs.Prelude.{◌≡◌};
-ghost use Rattle.postcard_dyn_schema.specs.Meaning.{has_bytes, some_has_bytes, type_of, types_of};
+ghost use Rattle.std.specs.Prelude.{◌≡◌, IfSome, IfNone};
+ghost use Rattle.postcard_dyn_schema.specs.declared.fixed.Integer.{Integer};
+ghost use Rattle.postcard_dyn_schema.specs.Fixed.{number_of};
+ghost use Rattle.postcard_dyn_schema.specs.LeafNames.{leaf_name};
+ghost use Rattle.postcard_dyn_schema.specs.Meaning.{leaf, has_bytes, some_has_bytes, type_of};
+ghost use Rattle.postcard_dyn_schema.specs.Meaning.{types_of};
+
+use crate::fixed::{ByteOrder, Integer};
 
 /// A type without parts. Each is read by one call of `Deserializer` and written by one of
 /// `Serializer`, but for the floats, whose bits are read and written at their full width, so that
-/// each NaN is kept.
+/// each NaN is kept, and the numbers of a fixed width.
 ///
 /// `usize` and `isize` are `U64` and `I64` here, since the format writes them as numbers of 64 bits.
 #[derive(Clone, Copy, Debug, PartialEq, Eq)]
@@ -26,6 +32,53 @@ pub enum Leaf {
     Char,
     Str,
     Bytes,
+    /// `LE<T>` or `BE<T>`: a number at its full width, as the array of its bytes.
+    Fixed(ByteOrder, Integer),
+}
+
+impl Leaf {
+    /// Returns the type of numbers that may have a fixed width, or `None` if it is none of these.
+    pub fn as_integer(self) -> Option<Integer>
+        ensures found { IfSome result (λ integer. self ≡ number_of integer) }
+        ensures none { IfNone result ((integer : Integer) → self ≡ number_of integer → ⊥) }
+    {
+        match self {
+            Leaf::U16 => Some(Integer::U16),
+            Leaf::U32 => Some(Integer::U32),
+            Leaf::U64 => Some(Integer::U64),
+            Leaf::U128 => Some(Integer::U128),
+            Leaf::I16 => Some(Integer::I16),
+            Leaf::I32 => Some(Integer::I32),
+            Leaf::I64 => Some(Integer::I64),
+            Leaf::I128 => Some(Integer::I128),
+            _ => None,
+        }
+    }
+
+    /// Returns the name of the type, as `u16` or `LE<u16>`.
+    pub fn name(self) -> &'static str
+        ensures { result.now ≡ leaf_name self }
+    {
+        match self {
+            Leaf::Bool => "bool",
+            Leaf::U8 => "u8",
+            Leaf::U16 => "u16",
+            Leaf::U32 => "u32",
+            Leaf::U64 => "u64",
+            Leaf::U128 => "u128",
+            Leaf::I8 => "i8",
+            Leaf::I16 => "i16",
+            Leaf::I32 => "i32",
+            Leaf::I64 => "i64",
+            Leaf::I128 => "i128",
+            Leaf::F32 => "f32",
+            Leaf::F64 => "f64",
+            Leaf::Char => "char",
+            Leaf::Str => "str",
+            Leaf::Bytes => "bytes",
+            Leaf::Fixed(order, integer) => order.name_with(integer),
+        }
+    }
 }
 
 /// The type of a message.
@@ -68,6 +121,20 @@ impl Schema {
             Schema::Group(parts) => any_has_bytes(parts),
             Schema::Named(_, content) => content.has_bytes(),
             _ => true,
+        }
+    }
+
+    /// Returns the type of numbers that may have a fixed width, if the type is one of these. The
+    /// name of a field or a variant makes no difference.
+    pub fn as_integer(&self) -> Option<Integer>
+        ensures found { IfSome result (λ integer. type_of self.now ≡ leaf (number_of integer)) }
+        ensures none { IfNone result ((integer : Integer)
+            → type_of self.now ≡ leaf (number_of integer) → ⊥) }
+    {
+        match self {
+            Schema::Leaf(leaf) => leaf.as_integer(),
+            Schema::Named(_, content) => content.as_integer(),
+            _ => None,
         }
     }
 }

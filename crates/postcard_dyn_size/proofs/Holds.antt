@@ -1,13 +1,15 @@
 -- The limit of a type holds of its messages.
-use Rattle.std.proofs.Common.{◌≡◌, ◌≤◌, ℕ, zero, suc, inl, inr, refl, arith}
-use Rattle.std.specs.Prelude.{Option, Some, None}
+use Rattle.std.proofs.Common.{◌≡◌, ◌≤◌, ℕ, zero, suc, inl, inr, refl, subst, arith}
+use Rattle.std.specs.Prelude.{Option, Some, None, ⊤}
 use Rattle.std.specs.Float.{binary32, binary64}
 use Rattle.postcard_wire.specs.Tree.{Tree, Trees, Group, NoTrees, Then, count}
-use Rattle.postcard_wire.specs.Reading.{IsArray}
+use Rattle.postcard_wire.specs.Reading.{IsByte, IsArray}
 use Rattle.postcard_wire.specs.declared.error.Error.{Error}
 use Rattle.postcard_dyn_schema.specs.Meaning.{MessageType, MessageTypes, leaf, option, seq, array, group, choice, no_types, then_type, reads, reads_all, reads_at, leaf_reads}
+use Rattle.postcard_dyn_schema.specs.declared.fixed.Integer.{Integer}
+use Rattle.postcard_dyn_schema.specs.Fixed.{size_of}
 use Rattle.postcard_dyn_schema.specs.declared.schema.Leaf.{Leaf}
-use Rattle.postcard_dyn_schema.specs.declared.schema.Leaf.TheVariants.{U8, U16, U32, U64, U128, I8, I16, I32, I64, I128, F32, F64, Char, Str, Bytes}
+use Rattle.postcard_dyn_schema.specs.declared.schema.Leaf.TheVariants.{U8, U16, U32, U64, U128, I8, I16, I32, I64, I128, F32, F64, Char, Str, Bytes, Fixed}
 use Rattle.postcard_dyn_schema.specs.declared.schema.Leaf.TheVariants as leaves
 use Rattle.postcard_shape.specs.Cases.{case_reads}
 use Rattle.postcard_shape.specs.Shape.{never}
@@ -21,6 +23,7 @@ use Rattle.postcard_max.specs.Containers.{option_lawful, array_lawful}
 use Rattle.postcard_max.specs.Rows.{end_lawful, then_lawful, group_lawful}
 use Rattle.postcard_max.specs.Cases.{CasesBounded, CasesReached, zero_index, no_case_bounded, no_case_reached, case_bounded, case_reached, variants_bounded, variants_reached}
 use Rattle.postcard_dyn_size.specs.Sizes.{repeated, limit, limit_all, limit_of_choice, limit_from}
+use Rattle.postcard_dyn_size.proofs.FixedSizes.{as_many}
 
 -- The limit's greatest size is that of a set of trees, of rows of trees, or of variants from an index
 -- on: nothing is longer and, if `reached` holds, something is as long.
@@ -69,6 +72,24 @@ module _ {P Q : ℕ → Tree → Type 0} where
   more (Some i) None f h = tt
   more (Some i) (Some m) f h = λ some. let (j, s, p, few, e) = h some in (j, s, f j s p, few, e)
 
+-- The limit of an array holds if that of its elements does. An empty array has no bytes.
+no_bytes : (ts : Trees) → count ts ≡ 0 → trees_len ts ≤ 0
+no_bytes NoTrees e = omega arith
+no_bytes (Then t ts) e = absurd (omega (arith, e))
+
+array_holds : (n : ℕ) (l : SizeLimit) (has : Tree → Type 0) → Holds l has → Holds (record l { greatest = repeated n l.greatest }) (IsArray n has)
+array_holds zero l has h = record {
+  bounded = λ t f. rw f.1 (no_bytes f.0 f.2);
+  is_reached = λ may. (Group NoTrees, (NoTrees, refl, refl, tt), refl);
+}
+array_holds (suc n) l has h = holding (array_lawful (suc n) (limits h))
+
+-- A number of a fixed width is an array of bytes.
+fixed_holds : (i : Integer) → Holds (record { greatest = Some (size_of i); reached = ⊤; willing = ⊤ }) (IsArray (size_of i) IsByte)
+fixed_holds i =
+    let one : Holds (limit (leaf U8)) IsByte = holding (byte_lawful {V = Unit {0}}) in
+    subst (λ g. Holds (record { greatest = g; reached = ⊤; willing = ⊤ }) (IsArray (size_of i) IsByte)) (as_many i) (array_holds (size_of i) (limit (leaf U8)) IsByte one)
+
 leaf_holds : (l : Leaf) → Holds (limit (leaf l)) (leaf_reads l)
 leaf_holds leaves.Bool = holding (boolean_lawful {V = Unit {0}})
 leaf_holds U8 = holding (byte_lawful {V = Unit {0}})
@@ -86,18 +107,7 @@ leaf_holds F64 = holding (float_lawful {V = Unit {0}} binary64)
 leaf_holds Char = holding (char_lawful {V = Unit {0}})
 leaf_holds Str = record { bounded = tt; is_reached = λ _. tt }
 leaf_holds Bytes = record { bounded = tt; is_reached = λ _. tt }
-
--- The limit of an array holds if that of its elements does. An empty array has no bytes.
-no_bytes : (ts : Trees) → count ts ≡ 0 → trees_len ts ≤ 0
-no_bytes NoTrees e = omega arith
-no_bytes (Then t ts) e = absurd (omega (arith, e))
-
-array_holds : (n : ℕ) (l : SizeLimit) (has : Tree → Type 0) → Holds l has → Holds (record l { greatest = repeated n l.greatest }) (IsArray n has)
-array_holds zero l has h = record {
-  bounded = λ t f. rw f.1 (no_bytes f.0 f.2);
-  is_reached = λ may. (Group NoTrees, (NoTrees, refl, refl, tt), refl);
-}
-array_holds (suc n) l has h = holding (array_lawful (suc n) (limits h))
+leaf_holds (Fixed order integer) = fixed_holds integer
 
 -- The limit of a variant and those after it holds if those of both do.
 with_others : (t : MessageType) (ts : MessageTypes) → Holds (limit t) (reads t) → ((i : Option ℕ) → CasesHold (limit_from ts) (reads_at ts) i)

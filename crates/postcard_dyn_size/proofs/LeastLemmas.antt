@@ -14,6 +14,7 @@ use Rattle.postcard_wire.specs.Spelling.{canonical, canonical_all}
 use Rattle.postcard_wire.specs.Reading.{IsByte, IsBoolean, IsNum, IsInt, IsChar, IsText, IsOption, IsEnd, IsThen, IsGroup, IsSeq, IsArray, IsVariant, Each}
 use Rattle.postcard_wire.proofs.Ranged.{zig_onto}
 use Rattle.postcard_dyn_schema.specs.Meaning.{reads, reads_all, reads_at, leaf_reads, type_of, types_of}
+use Rattle.postcard_dyn_schema.specs.Fixed.{size_of}
 use Rattle.postcard_dyn_schema.specs.Lemmas.{type_at, none_at}
 use Rattle.postcard_dyn_schema.specs.declared.schema.Leaf.{Leaf}
 use Rattle.postcard_dyn_schema.specs.declared.schema.Leaf.TheVariants as leaves
@@ -26,6 +27,7 @@ use Rattle.postcard_max.specs.Counts.{count_len, one_count, some_count}
 use Rattle.postcard_dyn_size.specs.Sizes.{repeated}
 use Rattle.postcard_dyn_size.specs.Least.{IsLeast, IsLeastSize, IsLeastOfRow, IsVariantAt, lesser_of, leaf_least}
 use Rattle.postcard_dyn_size.proofs.Sums.{IsSmall, small, large, zero_first, zero_last, sums}
+use Rattle.postcard_dyn_size.proofs.FixedSizes.{as_many}
 use Rattle.postcard_dyn_size.proofs.Rows.{cut}
 
 -- What a number is the least of has `limited n` as its least size, which is none if n takes more than 64 bits.
@@ -168,6 +170,7 @@ leaf_is_least leaves.F64 = array_least 8 (Some 1) IsByte byte_least
 leaf_is_least leaves.Char = char_least
 leaf_is_least leaves.Str = text_least
 leaf_is_least leaves.Bytes = list_least IsByte
+leaf_is_least (leaves.Fixed order integer) = subst (λ g. IsLeastSize g (IsArray (size_of integer) IsByte)) (as_many integer) (array_least (size_of integer) (Some 1) IsByte byte_least)
 
 -- ---- Parts in a row
 

@@ -2,8 +2,9 @@
 use Rattle.std.specs.Prelude.{◌≡◌, ℕ, ◌^◌, ◌<◌, ◌≤◌, min, Option, Some, None}
 use Rattle.postcard_wire.specs.Tree.{Tree, Trees, Variant}
 use Rattle.postcard_max.specs.Limits.{tree_len, trees_len}
+use Rattle.postcard_dyn_schema.specs.Fixed.{size_of}
 use Rattle.postcard_dyn_schema.specs.declared.schema.Leaf.{Leaf}
-use Rattle.postcard_dyn_schema.specs.declared.schema.Leaf.TheVariants.{F32, F64, Char}
+use Rattle.postcard_dyn_schema.specs.declared.schema.Leaf.TheVariants.{F32, F64, Char, Fixed}
 
 -- By the measure, n is the least number of bytes of what is in the set, and it fits 64 bits.
 pub record HasLeast {X : Type 0} (measure : X → ℕ) (n : ℕ) (has : X → Type 0) : Type 0 where
@@ -36,10 +37,11 @@ lesser_of None b = b
 lesser_of (Some a) None = Some a
 lesser_of (Some a) (Some b) = Some (min a b)
 
--- The least size of a type without parts. A float has all bytes of its bits, a character one byte of UTF-8 or more, and the
--- count of these.
+-- The least size of a type without parts. A float and a number of a fixed width have all their bytes, a character one byte of
+-- UTF-8 or more, and the count of these.
 abbrev pub leaf_least : Leaf → ℕ
 leaf_least F32 = 4
 leaf_least F64 = 8
 leaf_least Char = 2
+leaf_least (Fixed order integer) = size_of integer
 leaf_least l = 1

@@ -2,8 +2,9 @@
 use Rattle.std.specs.Prelude.{ℕ, zero, suc, Option, Some, None, ⊤}
 use Rattle.postcard_wire.specs.Number.{max_digits}
 use Rattle.postcard_dyn_schema.specs.Meaning.{MessageType, MessageTypes, leaf, option, seq, array, group, choice, no_types, then_type}
+use Rattle.postcard_dyn_schema.specs.Fixed.{size_of}
 use Rattle.postcard_dyn_schema.specs.declared.schema.Leaf.{Leaf}
-use Rattle.postcard_dyn_schema.specs.declared.schema.Leaf.TheVariants.{U8, U16, U32, U64, U128, I8, I16, I32, I64, I128, F32, F64, Char, Str, Bytes}
+use Rattle.postcard_dyn_schema.specs.declared.schema.Leaf.TheVariants.{U8, U16, U32, U64, U128, I8, I16, I32, I64, I128, F32, F64, Char, Str, Bytes, Fixed}
 use Rattle.postcard_dyn_schema.specs.declared.schema.Leaf.TheVariants as leaves
 use Rattle.postcard_max.specs.Sizes.{times}
 use Rattle.postcard_max.specs.SizeLimit.{SizeLimit, exactly, option_limit, then_limit, no_case_limit, case_limit, variants_limit}
@@ -36,6 +37,7 @@ leaf_greatest F64 = Some 8
 leaf_greatest Char = Some 5
 leaf_greatest Str = None
 leaf_greatest Bytes = None
+leaf_greatest (Fixed order integer) = Some (size_of integer)
 
 abbrev mutual
   -- The limit of a type's messages. A list has none, nor has an enum without variants.

@@ -40,6 +40,7 @@ fn min_leaf_size(leaf: Leaf) -> usize
         Leaf::F64 => 8,
         Leaf::Char => 2,
         Leaf::Str | Leaf::Bytes => 1,
+        Leaf::Fixed(_, integer) => integer.size(),
     }
 }
 

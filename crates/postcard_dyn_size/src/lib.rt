@@ -60,6 +60,7 @@ fn leaf_size(leaf: Leaf) -> Option<usize>
         Leaf::U64 | Leaf::I64 => Some(10),
         Leaf::U128 | Leaf::I128 => Some(19),
         Leaf::Str | Leaf::Bytes => None,
+        Leaf::Fixed(_, integer) => Some(integer.size()),
     }
 }
 

@@ -6,7 +6,7 @@ use postcard_dyn_schema::parse;
 use std::process::Abort;
 
 /// Expressions, each beside the schema that is read from it, printed by `Debug`.
-const TYPES: [(&str, &str); 51] = [
+const TYPES: [(&str, &str); 54] = [
     ("u8", "Leaf(U8)"),
     (" usize ", "Leaf(U64)"),
     ("u16??", "Option(Option(Leaf(U16)))"),
@@ -52,6 +52,12 @@ const TYPES: [(&str, &str); 51] = [
     (
         "Result<(), u8>",
         "Enum([Named(\"Ok\", Group([])), Named(\"Err\", Leaf(U8))])",
+    ),
+    ("LE<u16>", "Leaf(Fixed(Little, U16))"),
+    ("[BE < Box<isize> >]", "Seq(Leaf(Fixed(Big, I64)))"),
+    (
+        "LE | BE(LE<(i128)>)",
+        "Enum([Named(\"LE\", Group([])), Named(\"BE\", Leaf(Fixed(Little, I128)))])",
     ),
     ("String", "Leaf(Str)"),
     ("[String; 2]", "Array(Leaf(Str), 2)"),
@@ -104,7 +110,18 @@ const TYPES: [(&str, &str); 51] = [
 ];
 
 /// Texts that are no expressions, each beside the error as it is printed.
-const REFUSED: [(&str, &str); 82] = [
+const REFUSED: [(&str, &str); 87] = [
+    (
+        "LE<i8>",
+        "LE and BE hold u16 to u128 or i16 to i128 at character 4",
+    ),
+    (
+        "[BE< u16?>]",
+        "LE and BE hold u16 to u128 or i16 to i128 at character 6",
+    ),
+    ("LE", "unknown type at character 1"),
+    ("BE<>", "expected a type at character 4"),
+    ("LE<u16, u16>", "expected `>` at character 7"),
     ("", "expected a type at character 1"),
     ("  ", "expected a type at character 3"),
     ("u9", "unknown type at character 1"),

@@ -3,6 +3,7 @@ use Rattle.std.proofs.Common.{◌≡◌, ℕ, zero, suc, ◌<◌, List, [], ◌�
 use Rattle.std.specs.declared.alloc.Global.{Global}
 use Rattle.std.specs.declared.string.String.{String}
 use Rattle.std.proofs.lemmas.List.Elements.{All-head, All-tail}
+use Rattle.postcard_dyn_schema.specs.declared.schema.Leaf.TheVariants as leaves
 use Rattle.postcard_dyn_schema.specs.declared.schema.Schema.{Schema, the_lemmas}
 use Rattle.postcard_dyn_schema.specs.declared.schema.Schema.TheVariants.{Option, Seq, Map, Array, Group, Enum, Named}
 use Rattle.postcard_dyn_schema.specs.declared.schema.Schema.TheVariants as schemas
@@ -72,6 +73,7 @@ of_one : (h : Holder) (x s : Schema) → IsHolderOf h x s → HasDistinctNames (
 of_one holders.Itself x s is inside = rw is inside
 of_one holders.List x s (b, is, value) inside = rw (is, layout_seq b, value) inside
 of_one holders.Option x s (b, is, value) inside = rw (is, layout_option b, value) inside
+of_one (holders.Fixed order) x s (integer, same, is) inside = rw (is, layout_leaf (leaves.Fixed order integer)) tt
 
 -- The names of the variants of a result.
 result_names : (n m : List ℕ) → n ≡ codes "Ok" → m ≡ codes "Err" → n ≡ m → ⊥

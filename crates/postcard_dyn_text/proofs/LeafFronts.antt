@@ -12,16 +12,20 @@ use Rattle.postcard_wire.specs.Number.{InRange}
 use Rattle.postcard_wire.specs.Tree.{Tree, Byte, Boolean, Num, Int, Text, trees}
 use Rattle.postcard_wire.specs.Tree as nodes
 use Rattle.postcard_wire.specs.Reading.{IsByte, IsBoolean, IsNum, IsInt, IsChar, IsText, IsSeq}
+use Rattle.postcard_dyn_schema.specs.declared.fixed.ByteOrder.{ByteOrder}
+use Rattle.postcard_dyn_schema.specs.declared.fixed.Integer.{Integer}
+use Rattle.postcard_dyn_schema.specs.Fixed.{size_of, is_signed}
 use Rattle.postcard_dyn_schema.specs.declared.schema.Leaf.{Leaf}
-use Rattle.postcard_dyn_schema.specs.declared.schema.Leaf.TheVariants.{U8, U16, U32, U64, U128, I8, I16, I32, I64, I128, F32, F64, Char, Str, Bytes}
+use Rattle.postcard_dyn_schema.specs.declared.schema.Leaf.TheVariants.{U8, U16, U32, U64, U128, I8, I16, I32, I64, I128, F32, F64, Char, Str, Bytes, Fixed}
 use Rattle.postcard_dyn_schema.specs.declared.schema.Leaf.TheVariants as leaves
 use Rattle.postcard_dyn_schema.specs.Text.{AreBlank, Led, Then, TakesPhrase, IsSign, IsWord}
 use Rattle.postcard_dyn_schema.specs.FrontLemmas.{trim_is, takes_split, next_sign}
-use Rattle.postcard_dyn_schema.specs.Phrases.{takes_two}
+use Rattle.postcard_dyn_schema.specs.Phrases.{takes_two, takes_as}
+use Rattle.postcard_dyn.specs.Fixed.{fixed_tree}
 use Rattle.postcard_dyn.specs.Tree.{bits_tree}
 use Rattle.postcard_dyn_text.specs.Floats.{SpellsFloat, IsHexadecimal}
 use Rattle.postcard_dyn_text.specs.Quoted.{ArePieces, IsQuoted, IsByteString}
-use Rattle.postcard_dyn_text.specs.Numbers.{IsUnsigned, IsSigned}
+use Rattle.postcard_dyn_text.specs.Numbers.{IsUnsigned, IsSigned, SpellsBits}
 use Rattle.postcard_dyn_text.specs.Spelled.{Phrase, IsTruth, SpellsLeaf}
 use Rattle.postcard_dyn_text.proofs.Choices.{word_trimmed}
 use Rattle.postcard_dyn_text.proofs.FloatFronts.{number_first}
@@ -164,6 +168,17 @@ f32_front t a b r trim (front, (bits, is, h), whole) = (bits, is, float_trimmed 
 
 pub f64_front : (t : Tree) (a b r : List ℕ) → IsTrimAsciiStart a b → TakesPhrase (SpellsLeaf F64 t) a r → (bits : ℕ) × (t ≡ bits_tree 8 bits) × TakesPhrase (SpellsFloat binary64 bits) b r
 f64_front t a b r trim (front, (bits, is, h), whole) = (bits, is, float_trimmed binary64 bits a b r trim (front, h, whole))
+
+-- The bits of a number of a fixed width, its text after the blanks.
+bits_trimmed : (signed : Bool) (i : Integer) (n : ℕ) (a b r : List ℕ) → IsTrimAsciiStart a b → TakesPhrase (SpellsBits signed i n) a r → TakesPhrase (SpellsBits signed i n) b r
+bits_trimmed true i n a b r trim (front, (z, is, h), whole) =
+    takes_as (Led (IsSigned z)) (SpellsBits true i n) b r (λ t k. (z, is, k)) (scalar_trimmed (IsSigned z) a b r (signed_scalars z) trim (front, h, whole))
+bits_trimmed false i n a b r trim (front, (low, h), whole) =
+    takes_as (Led (IsUnsigned n)) (SpellsBits false i n) b r (λ t k. (low, k)) (scalar_trimmed (IsUnsigned n) a b r (unsigned_scalars n) trim (front, h, whole))
+
+pub fixed_front : (order : ByteOrder) (i : Integer) (t : Tree) (a b r : List ℕ) → IsTrimAsciiStart a b → TakesPhrase (SpellsLeaf (Fixed order i) t) a r
+    → (n : ℕ) × (t ≡ fixed_tree order (size_of i) n) × TakesPhrase (SpellsBits (is_signed i) i n) b r
+fixed_front order i t a b r trim (front, (n, is, h), whole) = (n, is, bits_trimmed (is_signed i) i n a b r trim (front, h, whole))
 
 pub char_front : (t : Tree) (a b r : List ℕ) → IsTrimAsciiStart a b → IsChar t → TakesPhrase (SpellsLeaf Char t) a r → (c : ℕ) × (t ≡ nodes.Char c) × IsScalar c × TakesPhrase (IsQuoted 39 (encode_utf8 c)) b r
 char_front t a b r trim (c, is, scalar) h = (c, is, scalar, quoted_trimmed 39 (encode_utf8 c) a b r refl trim (subst (λ s. TakesPhrase (SpellsLeaf Char s) a r) is h))

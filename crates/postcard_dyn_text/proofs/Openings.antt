@@ -6,15 +6,17 @@ use Rattle.std.specs.Float.{Format}
 use Rattle.std.specs.List.{AllPass}
 use Rattle.postcard_wire.specs.Tree.{Tree, Byte, Boolean, Num, Int, Text, NoTrees}
 use Rattle.postcard_wire.specs.Tree as nodes
+use Rattle.postcard_dyn_schema.specs.declared.fixed.Integer.{Integer}
+use Rattle.postcard_dyn_schema.specs.Fixed.{is_signed}
 use Rattle.postcard_dyn_schema.specs.declared.schema.Leaf.{Leaf}
-use Rattle.postcard_dyn_schema.specs.declared.schema.Leaf.TheVariants.{U8, U16, U32, U64, U128, I8, I16, I32, I64, I128, F32, F64, Char, Str, Bytes}
+use Rattle.postcard_dyn_schema.specs.declared.schema.Leaf.TheVariants.{U8, U16, U32, U64, U128, I8, I16, I32, I64, I128, F32, F64, Char, Str, Bytes, Fixed}
 use Rattle.postcard_dyn_schema.specs.declared.schema.Leaf.TheVariants as leaves
 use Rattle.postcard_dyn_schema.specs.Text.{unblank, is_of_word, Led, Then, TakesPhrase, IsSign, IsWord}
 use Rattle.postcard_dyn_schema.specs.Fronts.{follows_type, Starts}
 use Rattle.postcard_dyn_schema.specs.FrontLemmas.{pass_head, takes_split, sign_unblank, word_unblank}
 use Rattle.postcard_dyn_text.specs.Accepted.{HasPart, HasDistinctNames, HaveDistinctNames, HasDistinctItems}
 use Rattle.postcard_dyn_text.specs.Floats.{is_of_float, SpellsFloat}
-use Rattle.postcard_dyn_text.specs.Numbers.{IsUnsigned, IsSigned}
+use Rattle.postcard_dyn_text.specs.Numbers.{IsUnsigned, IsSigned, SpellsBits}
 use Rattle.postcard_dyn_text.specs.Quoted.{IsQuoted, ArePieces}
 use Rattle.postcard_dyn_text.specs.Shown.{Layout, Layouts, leaf, option, list, mapping, array, group, choice, named, no_layouts, then_layout, have_names}
 use Rattle.postcard_dyn_text.specs.Spelled.{Phrase, IsTruth, IsQuotedName, IsFieldName, SpellsLeaf, SpellsContent, AreClosed, AreSigns, RowAfter, phrases, SpellsTree, SpellsEntry, SpellsItem, SpellsAt, part_phrases, opening_sign, closing_sign}
@@ -73,6 +75,10 @@ float_opens f bits a r (front, inr p, whole) =
 quoted_opens : (quote : ℕ) (held a r : List ℕ) → is_ascii_whitespace quote ≡ false → begins_value quote ≡ true → TakesPhrase (IsQuoted quote held) a r → Starts begins_value a
 quoted_opens quote held a r black begins h = then_sign_opens quote (Then (ArePieces quote held) (λ end. end ≡ quote ∷ [])) a r black begins h
 
+bits_opens : (signed : Bool) (i : Integer) (n : ℕ) (a r : List ℕ) → TakesPhrase (SpellsBits signed i n) a r → Starts begins_value a
+bits_opens true i n a r (front, (z, is, h), whole) = scalar_opens (IsSigned z) a r (signed_scalars z) (front, h, whole)
+bits_opens false i n a r (front, (low, h), whole) = scalar_opens (IsUnsigned n) a r (unsigned_scalars n) (front, h, whole)
+
 leaf_opens : (l : Leaf) (t : Tree) (a r : List ℕ) → TakesPhrase (SpellsLeaf l t) a r → Starts begins_value a
 leaf_opens leaves.Bool (Boolean x) a r h = scalar_opens (IsTruth x) a r (truth_scalars x) h
 leaf_opens U8 (Byte n) a r h = scalar_opens (IsUnsigned n) a r (unsigned_scalars n) h
@@ -90,6 +96,7 @@ leaf_opens F64 t a r (front, (bits, is, h), whole) = float_opens _ bits a r (fro
 leaf_opens Char (nodes.Char c) a r h = quoted_opens 39 _ a r refl refl h
 leaf_opens Str (Text bytes) a r h = quoted_opens 34 bytes a r refl refl h
 leaf_opens Bytes (nodes.Seq ts) a r (front, (bytes, is, (digits, held, word)), whole) = word_opens (48 ∷ 120 ∷ digits) a r (omega arith) (front, word, whole)
+leaf_opens (Fixed order i) t a r (front, (n, is, h), whole) = bits_opens (is_signed i) i n a r (front, h, whole)
 leaf_opens l t a r (front, none, whole) = absurd none
 
 -- The opening bracket of a tuple or a struct, and the closing one.

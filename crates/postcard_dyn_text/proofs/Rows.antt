@@ -7,7 +7,10 @@ use Rattle.postcard_wire.specs.Reading.{IsByte, IsSeq, IsArray, Each}
 use Rattle.postcard_ser.proofs.Elements.{elements_count}
 use Rattle.postcard_dyn_schema.specs.Meaning.{MessageType, MessageTypes, no_types, then_type, reads, reads_all}
 use Rattle.postcard_dyn.specs.declared.value.Value.{Value}
-use Rattle.postcard_shape.specs.Base256.{AreBytes, low_first, low_counts, low_bytes}
+use Rattle.postcard_dyn_schema.specs.declared.fixed.ByteOrder.{ByteOrder}
+use Rattle.postcard_dyn_schema.specs.declared.fixed.ByteOrder.TheVariants.{Little}
+use Rattle.postcard_shape.specs.Base256.{AreBytes}
+use Rattle.postcard_dyn.specs.Fixed.{order_of, fixed_tree}
 use Rattle.postcard_dyn.specs.Tree.{tree, bits_tree}
 
 -- One value more.
@@ -35,9 +38,15 @@ bytes_each : (bs : List ℕ) → AreBytes bs → Each IsByte (trees (map Byte bs
 bytes_each [] h = tt
 bytes_each (b ∷ bs) h = ((b, refl, h.0), bytes_each bs h.1)
 
--- The bits of a float of k bytes are an array of k bytes.
+-- The bits of a number of k bytes are an array of k bytes, and so are those of a float.
+pub is_fixed : (order : ByteOrder) (k n : ℕ) (v : Value) → tree v ≡ fixed_tree order k n → IsArray k IsByte (tree v)
+is_fixed order k n v seen =
+    let o = order_of order in
+    let p = o.spell k n in
+    (trees (map Byte p), seen, elements_count Byte p ∙ o.counts k n, bytes_each p (o.bytes k n))
+
 pub is_float : (k n : ℕ) (v : Value) → tree v ≡ bits_tree k n → IsArray k IsByte (tree v)
-is_float k n v seen = (trees (map Byte (low_first k n)), seen, elements_count Byte (low_first k n) ∙ low_counts k n, bytes_each (low_first k n) (low_bytes k n))
+is_float = is_fixed Little
 
 -- The trees of values, followed by other trees.
 abbrev pub trees_then : List Value → Trees → Trees

@@ -12,6 +12,8 @@ use Rattle.postcard_dyn_schema.specs.Text.{Then, TakesPhrase, Led, IsSign, IsWor
 use Rattle.postcard_dyn_schema.specs.Phrases.{takes_two, takes_as, led_more, trim_takes, word_more}
 use Rattle.std.specs.Float.{Format}
 use Rattle.postcard_dyn_text.specs.Floats.{IsFloatWord, IsHexadecimal, SpellsFloat}
+use Rattle.postcard_dyn_schema.specs.declared.fixed.Integer.{Integer}
+use Rattle.postcard_dyn_text.specs.Numbers.{IsUnsigned, IsSigned, SpellsBits}
 use Rattle.postcard_dyn_text.specs.Quoted.{ArePieces, IsQuoted, IsByteString}
 use Rattle.postcard_dyn_text.specs.Shown.{Layout, group, no_layouts, then_layout, layout_of, layouts_of, is_empty_group, is_group}
 use Rattle.postcard_dyn_text.specs.Spelled.{Phrase, Speller, RowAfter, Row, AreSigns, are_none, Unless, AreClosed, phrases, part_phrases, opening_sign, closing_sign, SpellsTree, SpellsGroup, SpellsAt, SpellsVariant, SpellsContent}
@@ -219,6 +221,13 @@ maybe_taken false a b sign none = ([], inl refl, sym (none refl))
 -- Blanks may come before a number or a bool.
 pub number_led : {N : Type 0} (P : N → Phrase) (x y : N) (a b c : List ℕ) → IsTrimAsciiStart a b → x ≡ y → TakesPhrase (Led (P x)) b c → TakesPhrase (Led (P y)) a c
 number_led P x y a b c trim same h = led_more (P y) a b c (trim_takes a b trim) (subst (λ z. TakesPhrase (Led (P z)) b c) same h)
+
+-- They may come before the bits of a number.
+pub bits_led : (signed : Bool) (i : Integer) (n : ℕ) (a b c : List ℕ) → IsTrimAsciiStart a b → TakesPhrase (SpellsBits signed i n) b c → TakesPhrase (SpellsBits signed i n) a c
+bits_led true i n a b c trim (front, (z, is, h), whole) =
+    takes_as (Led (IsSigned z)) (SpellsBits true i n) a c (λ t k. (z, is, k)) (number_led IsSigned z z a b c trim refl (front, h, whole))
+bits_led false i n a b c trim (front, (low, h), whole) =
+    takes_as (Led (IsUnsigned n)) (SpellsBits false i n) a c (λ t k. (low, k)) (number_led IsUnsigned n n a b c trim refl (front, h, whole))
 
 -- They may come before a quoted text or a byte string.
 pub quoted_led : (quote : ℕ) (held a b c : List ℕ) → IsTrimAsciiStart a b → TakesPhrase (IsQuoted quote held) b c → TakesPhrase (IsQuoted quote held) a c

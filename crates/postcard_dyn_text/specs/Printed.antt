@@ -2,6 +2,8 @@
 use Rattle.std.specs.Prelude.{ℕ, nat_eq, if◌then◌else◌, List, ◌++◌, codes}
 use Rattle.std.specs.Char.{encode_utf8}
 use Rattle.std.specs.Fmt.{decimal}
+use Rattle.postcard_dyn_schema.specs.declared.fixed.Integer.{Integer}
+use Rattle.postcard_dyn_schema.specs.declared.fixed.Integer.TheVariants as integers
 use Rattle.postcard_dyn_schema.specs.declared.schema.Leaf.{Leaf}
 use Rattle.postcard_dyn_schema.specs.declared.schema.Leaf.TheVariants as leaves
 use Rattle.postcard_dyn_text.specs.declared.expected.Expected.{Expected}
@@ -9,24 +11,36 @@ use Rattle.postcard_dyn_text.specs.declared.expected.Expected.TheVariants as pla
 use Rattle.postcard_dyn_text.specs.declared.read.TextError.{TextError}
 use Rattle.postcard_dyn_text.specs.declared.read.TextError.TheVariants.{NotAValue, OutOfMemory}
 
+-- The phrase for a number of a type that may have a fixed width, with its range.
+abbrev pub number_phrase : Integer → List ℕ
+number_phrase integers.U16 = codes "a number of u16, 0 to 65535"
+number_phrase integers.U32 = codes "a number of u32, 0 to 4294967295"
+number_phrase integers.U64 = codes "a number of u64, 0 to 2^64 - 1"
+number_phrase integers.U128 = codes "a number of u128, 0 to 2^128 - 1"
+number_phrase integers.I16 = codes "a number of i16, -32768 to 32767"
+number_phrase integers.I32 = codes "a number of i32, -2147483648 to 2147483647"
+number_phrase integers.I64 = codes "a number of i64, -2^63 to 2^63 - 1"
+number_phrase integers.I128 = codes "a number of i128, -2^127 to 2^127 - 1"
+
 -- The phrase for a value of a type without parts, with its range.
 abbrev pub leaf_phrase : Leaf → List ℕ
 leaf_phrase leaves.Bool = codes "`true` or `false`"
 leaf_phrase leaves.U8 = codes "a number of u8, 0 to 255"
-leaf_phrase leaves.U16 = codes "a number of u16, 0 to 65535"
-leaf_phrase leaves.U32 = codes "a number of u32, 0 to 4294967295"
-leaf_phrase leaves.U64 = codes "a number of u64, 0 to 2^64 - 1"
-leaf_phrase leaves.U128 = codes "a number of u128, 0 to 2^128 - 1"
+leaf_phrase leaves.U16 = number_phrase integers.U16
+leaf_phrase leaves.U32 = number_phrase integers.U32
+leaf_phrase leaves.U64 = number_phrase integers.U64
+leaf_phrase leaves.U128 = number_phrase integers.U128
 leaf_phrase leaves.I8 = codes "a number of i8, -128 to 127"
-leaf_phrase leaves.I16 = codes "a number of i16, -32768 to 32767"
-leaf_phrase leaves.I32 = codes "a number of i32, -2147483648 to 2147483647"
-leaf_phrase leaves.I64 = codes "a number of i64, -2^63 to 2^63 - 1"
-leaf_phrase leaves.I128 = codes "a number of i128, -2^127 to 2^127 - 1"
+leaf_phrase leaves.I16 = number_phrase integers.I16
+leaf_phrase leaves.I32 = number_phrase integers.I32
+leaf_phrase leaves.I64 = number_phrase integers.I64
+leaf_phrase leaves.I128 = number_phrase integers.I128
 leaf_phrase leaves.F32 = codes "a number of f32, as 1.5, inf or nan"
 leaf_phrase leaves.F64 = codes "a number of f64, as 1.5, inf or nan"
 leaf_phrase leaves.Char = codes "a character in single quotes"
 leaf_phrase leaves.Str = codes "a text in double quotes"
 leaf_phrase leaves.Bytes = codes "bytes, as 0x00ff"
+leaf_phrase (leaves.Fixed order integer) = number_phrase integer
 
 -- The word for n elements.
 abbrev pub elements_text : ℕ → List ℕ

@@ -6,8 +6,11 @@ use Rattle.std.specs.Int.{w8, cast_signed}
 use Rattle.std.specs.Fmt.{◌++?◌, decimal, signed_decimal, digits, debug_char, debug_str}
 use Rattle.postcard_wire.specs.Tree.{Tree, Trees, Byte, Boolean, Num, Int, Text, NoTrees, Then}
 use Rattle.postcard_wire.specs.Tree as nodes
+use Rattle.postcard_shape.specs.Base256.{Order}
+use Rattle.postcard_dyn_schema.specs.Fixed.{size_of, is_signed}
+use Rattle.postcard_dyn.specs.Fixed.{order_of, bytes_of, signed_of}
 use Rattle.postcard_dyn_schema.specs.declared.schema.Leaf.{Leaf}
-use Rattle.postcard_dyn_schema.specs.declared.schema.Leaf.TheVariants.{U8, U16, U32, U64, U128, I8, I16, I32, I64, I128, Char, Str, Bytes}
+use Rattle.postcard_dyn_schema.specs.declared.schema.Leaf.TheVariants.{U8, U16, U32, U64, U128, I8, I16, I32, I64, I128, Char, Str, Bytes, Fixed}
 use Rattle.postcard_dyn_schema.specs.declared.schema.Leaf.TheVariants as leaves
 use Rattle.postcard_dyn_schema.specs.declared.schema.Schema.{Schema, fold-Schema}
 use Rattle.postcard_dyn_schema.specs.declared.schema.Schema.TheOpen.{Schema-F}
@@ -61,6 +64,11 @@ abbrev pub hexadecimal : Trees → List ℕ
 hexadecimal (Then (Byte b) ts) = digits 16 false (b / 16) ++ digits 16 false (b % 16) ++ hexadecimal ts
 hexadecimal ts = []
 
+-- The text of the number with these bits in k bytes, which are in two's complement if the first argument is true.
+abbrev pub bits_text : Bool → ℕ → ℕ → List ℕ
+bits_text true k n = signed_decimal (signed_of k n)
+bits_text false k n = decimal n
+
 -- The text of a value without parts. The tree of an `i8` is the byte of its two's complement.
 abbrev pub leaf_text : Leaf → Printer
 leaf_text leaves.Bool (Boolean x) = Some (if x then codes "true" else codes "false")
@@ -77,6 +85,7 @@ leaf_text I128 (Int w z) = Some (signed_decimal z)
 leaf_text Char (nodes.Char c) = debug_char c
 leaf_text Str (Text u) = debug_str u
 leaf_text Bytes (nodes.Seq ts) = Some (codes "0x" ++ hexadecimal ts)
+leaf_text (Fixed order integer) (nodes.Group ts) = Some (bits_text (is_signed integer) (size_of integer) ((order_of order).value (bytes_of ts)))
 leaf_text l t = None
 
 -- The texts of parts in a row: `each_after` has a separator before each, `joined` before each but the first.

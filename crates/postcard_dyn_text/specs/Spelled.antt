@@ -7,14 +7,16 @@ use Rattle.std.specs.Int.{w8, cast_signed}
 use Rattle.postcard_wire.specs.Tree.{Tree, Trees, Byte, Boolean, Num, Int, Text, NoTrees, trees}
 use Rattle.postcard_wire.specs.Tree as nodes
 use Rattle.postcard_dyn_schema.specs.declared.schema.Leaf.{Leaf}
-use Rattle.postcard_dyn_schema.specs.declared.schema.Leaf.TheVariants.{U8, U16, U32, U64, U128, I8, I16, I32, I64, I128, F32, F64, Char, Str, Bytes}
+use Rattle.postcard_dyn_schema.specs.declared.schema.Leaf.TheVariants.{U8, U16, U32, U64, U128, I8, I16, I32, I64, I128, F32, F64, Char, Str, Bytes, Fixed}
 use Rattle.postcard_dyn_schema.specs.declared.schema.Leaf.TheVariants as leaves
 use Rattle.postcard_dyn_schema.specs.declared.schema.Schema.{Schema}
 use Rattle.postcard_dyn_schema.specs.Text.{AreBlank, Led, Then, IsSign, IsMaybe, IsWord}
 use Rattle.postcard_dyn.specs.declared.value.Value.{Value}
+use Rattle.postcard_dyn_schema.specs.Fixed.{size_of, is_signed}
+use Rattle.postcard_dyn.specs.Fixed.{fixed_tree}
 use Rattle.postcard_dyn.specs.Tree.{tree, bits_tree}
 use Rattle.postcard_dyn_text.specs.Floats.{SpellsFloat}
-use Rattle.postcard_dyn_text.specs.Numbers.{IsUnsigned, IsSigned}
+use Rattle.postcard_dyn_text.specs.Numbers.{IsUnsigned, IsSigned, SpellsBits}
 use Rattle.postcard_dyn_text.specs.Quoted.{IsQuoted, IsByteString}
 use Rattle.postcard_dyn_text.specs.Shown.{Layout, Layouts, leaf, option, list, mapping, array, group, choice, named, no_layouts, then_layout, layout_of, have_names}
 
@@ -56,6 +58,7 @@ SpellsLeaf F64 t text = (bits : ℕ) × (t ≡ bits_tree 8 bits) × SpellsFloat 
 SpellsLeaf Char (nodes.Char c) text = IsQuoted 39 (encode_utf8 c) text
 SpellsLeaf Str (Text bytes) text = IsQuoted 34 bytes text
 SpellsLeaf Bytes (nodes.Seq ts) text = (bytes : List ℕ) × (ts ≡ trees (map Byte bytes)) × IsByteString bytes text
+SpellsLeaf (Fixed order integer) t text = (n : ℕ) × (t ≡ fixed_tree order (size_of integer) n) × SpellsBits (is_signed integer) integer n text
 SpellsLeaf l t text = ⊥
 
 -- Phrases one after another: `RowAfter` has a phrase of `between` before each, `Row` before each but the first.

@@ -1,9 +1,9 @@
 //! What is expected where a text is no value: [`Expected`].
 
 ghost use Rattle.std.specs.Prelude.{◌≡◌, Some};
-ghost use Rattle.postcard_dyn_text.specs.Printed.{elements_text, expected_text, leaf_phrase};
+ghost use Rattle.postcard_dyn_text.specs.Printed.{elements_text, expected_text, leaf_phrase, number_phrase};
 
-use postcard_dyn::Leaf;
+use postcard_dyn::{Integer, Leaf};
 use std::fmt;
 
 /// What is expected at the place where a text stops being a value. It is printed as a short phrase,
@@ -77,19 +77,36 @@ fn phrase_of(leaf: Leaf) -> &'static str
     match leaf {
         Leaf::Bool => "`true` or `false`",
         Leaf::U8 => "a number of u8, 0 to 255",
-        Leaf::U16 => "a number of u16, 0 to 65535",
-        Leaf::U32 => "a number of u32, 0 to 4294967295",
-        Leaf::U64 => "a number of u64, 0 to 2^64 - 1",
-        Leaf::U128 => "a number of u128, 0 to 2^128 - 1",
+        Leaf::U16 => number_phrase(Integer::U16),
+        Leaf::U32 => number_phrase(Integer::U32),
+        Leaf::U64 => number_phrase(Integer::U64),
+        Leaf::U128 => number_phrase(Integer::U128),
         Leaf::I8 => "a number of i8, -128 to 127",
-        Leaf::I16 => "a number of i16, -32768 to 32767",
-        Leaf::I32 => "a number of i32, -2147483648 to 2147483647",
-        Leaf::I64 => "a number of i64, -2^63 to 2^63 - 1",
-        Leaf::I128 => "a number of i128, -2^127 to 2^127 - 1",
+        Leaf::I16 => number_phrase(Integer::I16),
+        Leaf::I32 => number_phrase(Integer::I32),
+        Leaf::I64 => number_phrase(Integer::I64),
+        Leaf::I128 => number_phrase(Integer::I128),
         Leaf::F32 => "a number of f32, as 1.5, inf or nan",
         Leaf::F64 => "a number of f64, as 1.5, inf or nan",
         Leaf::Char => "a character in single quotes",
         Leaf::Str => "a text in double quotes",
         Leaf::Bytes => "bytes, as 0x00ff",
+        Leaf::Fixed(_, integer) => number_phrase(integer),
+    }
+}
+
+/// Returns the phrase for a number of the type.
+fn number_phrase(integer: Integer) -> &'static str
+    ensures { result.now ≡ number_phrase integer }
+{
+    match integer {
+        Integer::U16 => "a number of u16, 0 to 65535",
+        Integer::U32 => "a number of u32, 0 to 4294967295",
+        Integer::U64 => "a number of u64, 0 to 2^64 - 1",
+        Integer::U128 => "a number of u128, 0 to 2^128 - 1",
+        Integer::I16 => "a number of i16, -32768 to 32767",
+        Integer::I32 => "a number of i32, -2147483648 to 2147483647",
+        Integer::I64 => "a number of i64, -2^63 to 2^63 - 1",
+        Integer::I128 => "a number of i128, -2^127 to 2^127 - 1",
     }
 }

@@ -4,17 +4,20 @@
 //! for a type with a sign also a `-`: `42`, `+42`, `0x2a`, `-0x2A`.
 
 ghost use Rattle.std.specs.Prelude.{◌≡◌, ℕ, ℤ, ◌^◌, ◌<◌, ◌⊎◌, List, FitsSigned};
-ghost use Rattle.std.specs.Prelude.{IfOk, IfSome, IfNone, MatchResult, Ok, Err};
+ghost use Rattle.std.specs.Prelude.{IfOk, IfSome, IfNone, MatchResult, Ok, Err, true, false};
 ghost use Rattle.std.specs.Int.{w128};
 ghost use Rattle.std.specs.Str.Parse.{without_leading_plus};
+ghost use Rattle.postcard_dyn_schema.specs.Fixed.{is_signed};
 ghost use Rattle.postcard_dyn_schema.specs.Text.{Led, TakesPhrase};
 ghost use Rattle.postcard_dyn_text.specs.Floats.{EndsNumber};
 ghost use Rattle.postcard_dyn_text.specs.Numbers.{AreDigits, IsMagnitude, IsUnsigned, IsSigned};
+ghost use Rattle.postcard_dyn_text.specs.Numbers.{SpellsBits};
 
 use crate::expected::Expected;
 use crate::float::take_number;
 use crate::read::Stop;
-use postcard_dyn::Leaf;
+use postcard_dyn::fixed::{are_bits, bits_of};
+use postcard_dyn::{Integer, Leaf};
 
 /// Takes blanks and then a number of the type `leaf`, which has no sign.
 ///
@@ -63,6 +66,58 @@ where
     match T::try_from(z) {
         Ok(x) => Ok(x),
         Err(_) => Err(Stop::here(start, Expected::Leaf(leaf))),
+    }
+}
+
+/// Takes blanks and then a number of the type, and returns its bits.
+///
+/// # Errors
+///
+/// Stops at the front of `rest` if no number of the type is next.
+pub fn read_bits(rest: &mut &[u8], integer: Integer) -> Result<u128, Stop<'static>>
+    ensures spelled { IfOk result (λ n. TakesPhrase (SpellsBits (is_signed integer) integer n)
+        rest.old.now rest.new.now) }
+    ensures accepted { (n : ℕ) (after : List ℕ)
+        → TakesPhrase (SpellsBits (is_signed integer) integer n) rest.old.now after
+        → EndsNumber after → MatchResult result (λ bits. (bits ≡ n) × (rest.new.now ≡ after))
+        (λ stop. ⊥) }
+{
+    if integer.is_signed() {
+        read_signed_bits(rest, integer)
+    } else {
+        read_unsigned_bits(rest, integer)
+    }
+}
+
+/// Takes blanks and then a number of an unsigned type, which is its bits.
+fn read_unsigned_bits(rest: &mut &[u8], integer: Integer) -> Result<u128, Stop<'static>>
+    ensures spelled { IfOk result (λ n.
+        TakesPhrase (SpellsBits false integer n) rest.old.now rest.new.now) }
+    ensures accepted { (n : ℕ) (after : List ℕ)
+        → TakesPhrase (SpellsBits false integer n) rest.old.now after → EndsNumber after
+        → MatchResult result (λ bits. (bits ≡ n) × (rest.new.now ≡ after)) (λ stop. ⊥) }
+{
+    let start = *rest;
+    let n = read_unsigned::<u128>(rest, integer.leaf())?;
+    if are_bits(integer, n) {
+        return Ok(n);
+    }
+    Err(Stop::here(start, Expected::Leaf(integer.leaf())))
+}
+
+/// Takes blanks and then a number of a signed type, and returns its bits.
+fn read_signed_bits(rest: &mut &[u8], integer: Integer) -> Result<u128, Stop<'static>>
+    ensures spelled { IfOk result (λ n.
+        TakesPhrase (SpellsBits true integer n) rest.old.now rest.new.now) }
+    ensures accepted { (n : ℕ) (after : List ℕ)
+        → TakesPhrase (SpellsBits true integer n) rest.old.now after → EndsNumber after
+        → MatchResult result (λ bits. (bits ≡ n) × (rest.new.now ≡ after)) (λ stop. ⊥) }
+{
+    let start = *rest;
+    let z = read_signed::<i128>(rest, integer.leaf())?;
+    match bits_of(integer, z) {
+        Some(n) => Ok(n),
+        None => Err(Stop::here(start, Expected::Leaf(integer.leaf()))),
     }
 }
 

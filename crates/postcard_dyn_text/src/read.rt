@@ -30,7 +30,7 @@ ghost use Rattle.postcard_dyn.specs.Tree.{tree};
 
 use crate::expected::Expected;
 use crate::float::{read_f32, read_f64, take_number};
-use crate::number::{read_signed, read_unsigned};
+use crate::number::{read_bits, read_signed, read_unsigned};
 use crate::quoted::{bytes_of, take_quoted};
 use crate::show::{has_brackets, is_struct, is_unit};
 use postcard_dyn::{Leaf, Schema, Value};
@@ -639,6 +639,9 @@ fn read_leaf(alloc: Global, leaf: Leaf, rest: &mut &[u8]) -> Result<Value, Stop<
         Leaf::Char => Ok(Value::Char(read_char(alloc, rest)?)),
         Leaf::Str => Ok(Value::Str(take_quoted(alloc, rest, b'"', leaf)?)),
         Leaf::Bytes => Ok(Value::Bytes(read_bytes(alloc, rest)?)),
+        Leaf::Fixed(order, integer) => {
+            Ok(Value::Fixed(order, integer, read_bits(rest, integer)?))
+        }
     }
 }
 

@@ -1,6 +1,6 @@
 //! Printing a value with the names of its schema: [`Shown`].
 
-ghost use Rattle.std.specs.Prelude.{◌≡◌, ℕ, ◌++◌, ◌/◌, ◌%◌, true, false, Vec, codes, map};
+ghost use Rattle.std.specs.Prelude.{◌≡◌, ℕ, ◌++◌, ◌/◌, ◌%◌, ◌<◌, ◌^◌, true, false, Vec, codes, map, OnOk};
 ghost use Rattle.std.specs.Float.{binary32, binary64};
 ghost use Rattle.std.specs.Fmt.{DisplaysOnOk, WritesOnOk, digits, signed_decimal};
 ghost use Rattle.std.specs.Int.{w8, cast_signed, cast_unsigned};
@@ -10,18 +10,21 @@ ghost use Rattle.postcard_dyn_schema.specs.declared.schema.Leaf.TheVariants as l
 ghost use Rattle.postcard_dyn_schema.specs.declared.schema.Schema.{Schema};
 ghost use Rattle.postcard_dyn_schema.specs.declared.schema.Schema.TheVariants.{Group};
 ghost use Rattle.postcard_dyn_schema.specs.Meaning.{type_of, group, no_types};
+ghost use Rattle.postcard_dyn_schema.specs.Fixed.{size_of, is_signed};
 ghost use Rattle.postcard_dyn.specs.Tree.{tree};
 ghost use Rattle.postcard_dyn.specs.declared.value.Value.TheVariants as values;
 ghost use Rattle.postcard_dyn_text.specs.Floats.{ShowsFloat};
 ghost use Rattle.postcard_dyn_text.specs.Shown.{layout_of, layouts_of, text, texts, joined};
 ghost use Rattle.postcard_dyn_text.specs.Shown.{each_by};
-ghost use Rattle.postcard_dyn_text.specs.Shown.{leaf_text, option_text, items_text, entries_text};
+ghost use Rattle.postcard_dyn_text.specs.Shown.{leaf_text, bits_text, option_text, items_text};
+ghost use Rattle.postcard_dyn_text.specs.Shown.{entries_text};
 ghost use Rattle.postcard_dyn_text.specs.Shown.{entry_text, parts_text, variant_text, hexadecimal};
 ghost use Rattle.postcard_dyn_text.specs.Shown.{have_names, is_empty_group, is_group, lead};
 ghost use Rattle.postcard_dyn_text.specs.Shown.{opening_of, closing_of};
 
 use crate::float::{show_f32, show_f64};
-use postcard_dyn::{Leaf, Schema, Value};
+use postcard_dyn::fixed::{are_bits, signed_of};
+use postcard_dyn::{Integer, Leaf, Schema, Value};
 use std::fmt;
 use std::fmt::{Display, Formatter, Write};
 
@@ -293,7 +296,31 @@ fn show_leaf<W: Write>(leaf: Leaf, value: &Value, f: &mut Formatter<W>) -> fmt::
         (Leaf::Char, Value::Char(c)) => write!(f, "{c:?}"),
         (Leaf::Str, Value::Str(text)) => write!(f, "{text:?}"),
         (Leaf::Bytes, Value::Bytes(held)) => show_bytes(held, f),
+        (Leaf::Fixed(order, integer), Value::Fixed(own_order, own_integer, bits)) => {
+            if order != *own_order || integer != *own_integer {
+                return Err(fmt::Error);
+            }
+            show_bits(integer, *bits, f)
+        }
         _ => Err(fmt::Error),
+    }
+}
+
+/// Prints the number of the type with these bits. Fails if the type has fewer bits.
+fn show_bits<W: Write>(integer: Integer, bits: u128, f: &mut Formatter<W>) -> fmt::Result
+    ensures fits { OnOk result (bits < 256 ^ size_of integer) }
+    ensures shown { WritesOnOk W.write_str_gives f.old result
+        (bits_text (is_signed integer) (size_of integer) bits) f.new }
+{
+    if !are_bits(integer, bits) {
+        return Err(fmt::Error);
+    }
+    if !integer.is_signed() {
+        return write!(f, "{bits}");
+    }
+    match signed_of(integer, bits) {
+        Some(number) => write!(f, "{number}"),
+        None => Err(fmt::Error),
     }
 }
 

@@ -12,6 +12,7 @@ ghost use Rattle.postcard_shape.specs.Base256.{big};
 ghost use Rattle.postcard_fixint.specs.Fixed.{IsFixed, fixed};
 
 use crate::array::ByteArray;
+use crate::block::{self, OfBytes};
 use crate::number::FixInt;
 use postcard_de::{Deserialize, DeserializeOwned, Deserializer};
 use postcard_ser::{Serialize, Serializer};
@@ -47,8 +48,24 @@ impl<T: FixInt> BE<T> {
     }
 }
 
+impl<T: FixInt> OfBytes for BE<T> {
+    type Bytes = T::Bytes;
+
+    ghost form = { fixed big T.width };
+
+    #[inline(always)]
+    fn of_bytes(bytes: T::Bytes) -> Self {
+        BE(T::decode_be(bytes))
+    }
+}
+
 impl<T: FixInt> Shaped for BE<T> {
     ghost shape = { fixed big T.width };
+
+    #[inline(always)]
+    fn append_at_hand(items: &mut Vec<Self>, bytes: &[u8], most: usize) -> Result<Option<usize>> {
+        block::append(items, bytes, most)
+    }
 }
 
 impl<T: FixInt> Serialize for BE<T> {

@@ -12,6 +12,7 @@ ghost use Rattle.postcard_shape.specs.Base256.{little};
 ghost use Rattle.postcard_fixint.specs.Fixed.{IsFixed, fixed};
 
 use crate::array::ByteArray;
+use crate::block::{self, OfBytes};
 use crate::number::FixInt;
 use postcard_de::{Deserialize, DeserializeOwned, Deserializer};
 use postcard_ser::{Serialize, Serializer};
@@ -47,8 +48,24 @@ impl<T: FixInt> LE<T> {
     }
 }
 
+impl<T: FixInt> OfBytes for LE<T> {
+    type Bytes = T::Bytes;
+
+    ghost form = { fixed little T.width };
+
+    #[inline(always)]
+    fn of_bytes(bytes: T::Bytes) -> Self {
+        LE(T::decode_le(bytes))
+    }
+}
+
 impl<T: FixInt> Shaped for LE<T> {
     ghost shape = { fixed little T.width };
+
+    #[inline(always)]
+    fn append_at_hand(items: &mut Vec<Self>, bytes: &[u8], most: usize) -> Result<Option<usize>> {
+        block::append(items, bytes, most)
+    }
 }
 
 impl<T: FixInt> Serialize for LE<T> {

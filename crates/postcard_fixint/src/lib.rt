@@ -34,11 +34,13 @@
 //! ```
 //!
 //! In reading order: [`FixInt`] is the trait of the numbers and [`ByteArray`] that of their bytes,
-//! [`le`] and [`be`] write and read them, and [`laws`] has what holds of their bytes.
+//! [`le`] and [`be`] write and read them, `block` reads lists of them from memory, and [`laws`] has
+//! what holds of their bytes.
 #![tactic(auto)]
 
 mod array;
 pub mod be;
+mod block;
 pub mod laws;
 pub mod le;
 mod number;

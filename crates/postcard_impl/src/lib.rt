@@ -29,11 +29,11 @@ pub mod marks;
 use marks::{BEGIN, END, Outside};
 use postcard_dyn_file::FileProblem;
 use postcard_dyn_file::declaration::declarations;
-use postcard_dyn_file::error::Fault;
+use postcard_dyn_file::error::ProblemAt;
 use postcard_dyn_file::kept::kept;
 use postcard_dyn_file::lex::tokens;
 use postcard_dyn_file::place::error_at;
-use postcard_impl_error::Wrong;
+use postcard_impl_error::ImplProblemAt;
 pub use postcard_impl_error::{Home, ImplError, ImplProblem};
 use postcard_impl_text::{impls_of, text_at};
 use std::alloc::Global;
@@ -52,12 +52,12 @@ pub fn impl_file<'a>(alloc: Global, home: Home, file: &'a str) -> Result<String,
 {
     match written(alloc, home, file) {
         Ok(written) => Ok(written),
-        Err(wrong) => Err(error_of(file, wrong)),
+        Err(problem_at) => Err(error_of(file, problem_at)),
     }
 }
 
 /// Returns the file with the impls of its types between its marks.
-fn written(alloc: Global, home: Home, file: &str) -> Result<String, Wrong>
+fn written(alloc: Global, home: Home, file: &str) -> Result<String, ImplProblemAt>
     ensures { IfOk result (λ written. IsMarked BEGIN.now END.now file.now
         (string_bytes written)) }
 {
@@ -67,7 +67,7 @@ fn written(alloc: Global, home: Home, file: &str) -> Result<String, Wrong>
     if outside.is_of(written.as_str()) {
         return Ok(written);
     }
-    Err(Wrong {
+    Err(ImplProblemAt {
         problem: ImplProblem::MarkLost,
         left: outside.after.len(),
         length: 0,
@@ -75,7 +75,12 @@ fn written(alloc: Global, home: Home, file: &str) -> Result<String, Wrong>
 }
 
 /// Returns the impls of the types that the file declares outside of its marks.
-fn generated(alloc: Global, home: Home, file: &str, outside: Outside) -> Result<String, Wrong> {
+fn generated(
+    alloc: Global,
+    home: Home,
+    file: &str,
+    outside: Outside,
+) -> Result<String, ImplProblemAt> {
     let plain = plain(alloc, file, outside)?;
     let all = tokens(alloc, plain.as_slice())?;
     let kept = kept(alloc, all.as_slice())?;
@@ -85,7 +90,7 @@ fn generated(alloc: Global, home: Home, file: &str, outside: Outside) -> Result<
 
 /// Returns the bytes of the file, with blanks for what stands between its marks, and `_` for each byte of a
 /// character beyond ASCII.
-fn plain(alloc: Global, file: &str, outside: Outside) -> Result<Vec<u8>, Wrong> {
+fn plain(alloc: Global, file: &str, outside: Outside) -> Result<Vec<u8>, ImplProblemAt> {
     let start = outside.before.len();
     let end = file.len().saturating_sub(outside.after.len());
     let mut plain = Vec::new(alloc);
@@ -102,21 +107,21 @@ fn plain(alloc: Global, file: &str, outside: Outside) -> Result<Vec<u8>, Wrong> 
 }
 
 /// Returns the error of what is wrong.
-fn error_of(file: &str, wrong: Wrong) -> ImplError<'_>
-    ensures problem { result.problem ≡ wrong.problem }
+fn error_of(file: &str, problem_at: ImplProblemAt) -> ImplError<'_>
+    ensures problem { result.problem ≡ problem_at.problem }
     ensures place { IsIn file.now result }
 {
     let place = error_at(
         file.as_bytes(),
-        Fault {
+        ProblemAt {
             problem: FileProblem::NotDeclared,
-            left: wrong.left,
+            left: problem_at.left,
         },
     );
     ImplError {
-        problem: wrong.problem,
+        problem: problem_at.problem,
         line: place.line,
         column: place.column,
-        what: text_at(file, wrong.left, wrong.length),
+        what: text_at(file, problem_at.left, problem_at.length),
     }
 }

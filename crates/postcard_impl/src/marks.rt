@@ -4,7 +4,7 @@ ghost use Rattle.std.specs.Prelude.{◌≡◌, IfOk, IfErr, IsTrue, string_bytes
 ghost use Rattle.postcard_impl.specs.Marks.{IsOutside, IsOpen, IsAlone, marked};
 ghost use Rattle.postcard_impl_error.specs.declared.error.ImplProblem.TheVariants.{MarkOpen, MarkAlone};
 
-use postcard_impl_error::{ImplProblem, Wrong};
+use postcard_impl_error::{ImplProblem, ImplProblemAt};
 use std::alloc::{AllocError, Global};
 
 /// The line before what is generated, and the blank line before it.
@@ -30,25 +30,25 @@ impl<'a> Outside<'a> {
     ///
     /// Fails with `MarkOpen` at a first mark that no second one follows, and with `MarkAlone` at a
     /// second one in a file without a first one.
-    pub fn of(file: &'a str) -> Result<Outside<'a>, Wrong>
+    pub fn of(file: &'a str) -> Result<Outside<'a>, ImplProblemAt>
         ensures outside { IfOk result (λ outside. IsOutside BEGIN.now END.now file.now
             outside.before.now outside.after.now) }
-        ensures open { IfErr result (λ wrong. wrong.problem ≡ MarkOpen
+        ensures open { IfErr result (λ e. e.problem ≡ MarkOpen
             → IsOpen BEGIN.now END.now file.now) }
-        ensures alone { IfErr result (λ wrong. wrong.problem ≡ MarkAlone
+        ensures alone { IfErr result (λ e. e.problem ≡ MarkAlone
             → IsAlone BEGIN.now END.now file.now) }
     {
         match file.split_once(BEGIN) {
             Some((before, rest)) => match rest.split_once(END) {
                 Some((_, after)) => Ok(Outside { before, after }),
-                None => Err(Wrong {
+                None => Err(ImplProblemAt {
                     problem: ImplProblem::MarkOpen,
                     left: rest.len(),
                     length: 0,
                 }),
             },
             None => match file.split_once(END) {
-                Some((_, after)) => Err(Wrong {
+                Some((_, after)) => Err(ImplProblemAt {
                     problem: ImplProblem::MarkAlone,
                     left: after.len(),
                     length: 0,

@@ -7,7 +7,7 @@ ghost use Rattle.postcard_dyn_schema.specs.declared.error.Problem.TheVariants.{O
 ghost use Rattle.postcard_impl_error.specs.Printed.{impl_problem_text, impl_error_text};
 
 use postcard_dyn_file::FileProblem;
-use postcard_dyn_file::error::Fault;
+use postcard_dyn_file::error::ProblemAt;
 use postcard_dyn_schema::Problem;
 use std::alloc::{AllocError, AllocFailed};
 use std::fmt;
@@ -127,7 +127,8 @@ impl fmt::Display for ImplError<'_> {
 
 /// What is wrong, and where.
 #[derive(Clone, Copy)]
-pub struct Wrong {
+pub struct ImplProblemAt {
+    /// What is wrong.
     pub problem: ImplProblem,
     /// The number of bytes from there to the end of the file.
     pub left: usize,
@@ -135,38 +136,38 @@ pub struct Wrong {
     pub length: usize,
 }
 
-impl From<Fault> for Wrong {
-    ghost from_gives = { λ fault wrong.
-        (wrong.problem ≡ File fault.problem) × (wrong.left ≡ fault.left) };
+impl From<ProblemAt> for ImplProblemAt {
+    ghost from_gives = { λ problem_at e.
+        (e.problem ≡ File problem_at.problem) × (e.left ≡ problem_at.left) };
 
-    fn from(fault: Fault) -> Wrong {
-        Wrong {
-            problem: ImplProblem::File(fault.problem),
-            left: fault.left,
+    fn from(problem_at: ProblemAt) -> ImplProblemAt {
+        ImplProblemAt {
+            problem: ImplProblem::File(problem_at.problem),
+            left: problem_at.left,
             length: 0,
         }
     }
 }
 
 /// That an allocation failed.
-const OUT_OF_MEMORY: Wrong = Wrong {
+const OUT_OF_MEMORY: ImplProblemAt = ImplProblemAt {
     problem: ImplProblem::File(FileProblem::Expression(Problem::OutOfMemory)),
     left: 0,
     length: 0,
 };
 
-impl From<AllocError> for Wrong {
-    ghost from_gives = { λ _ wrong. wrong.problem ≡ File (Expression OutOfMemory) };
+impl From<AllocError> for ImplProblemAt {
+    ghost from_gives = { λ _ e. e.problem ≡ File (Expression OutOfMemory) };
 
-    fn from(_error: AllocError) -> Wrong {
+    fn from(_error: AllocError) -> ImplProblemAt {
         OUT_OF_MEMORY
     }
 }
 
-impl<T: Drop> From<AllocFailed<T>> for Wrong {
-    ghost from_gives = { λ _ wrong. wrong.problem ≡ File (Expression OutOfMemory) };
+impl<T: Drop> From<AllocFailed<T>> for ImplProblemAt {
+    ghost from_gives = { λ _ e. e.problem ≡ File (Expression OutOfMemory) };
 
-    fn from(_error: AllocFailed<T>) -> Wrong {
+    fn from(_error: AllocFailed<T>) -> ImplProblemAt {
         OUT_OF_MEMORY
     }
 }

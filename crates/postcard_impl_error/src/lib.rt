@@ -5,5 +5,5 @@
 pub mod error;
 pub mod home;
 
-pub use error::{ImplError, ImplProblem, Wrong};
+pub use error::{ImplError, ImplProblem, ImplProblemAt};
 pub use home::Home;

@@ -3,7 +3,7 @@
 use crate::form::Form;
 use crate::item::Item;
 use crate::pieces::add;
-use postcard_impl_error::Wrong;
+use postcard_impl_error::ImplProblemAt;
 
 /// The trait of the types that are made of their parts, and what reads them. Where the prover doesn't
 /// follow many signed numbers into one value, it follows its parts.
@@ -60,7 +60,11 @@ const CLAUSE: &str = "        ensures { Reads F.Flavor Spells T.Parts.shape.read
 ";
 
 /// Adds the trait and the functions that read, if a type is read by its parts.
-pub(crate) fn add_decoded(out: &mut String, items: &[Item], forms: &[Form]) -> Result<(), Wrong> {
+pub(crate) fn add_decoded(
+    out: &mut String,
+    items: &[Item],
+    forms: &[Form],
+) -> Result<(), ImplProblemAt> {
     if !forms.contains(&Form::ByParts) {
         return Ok(());
     }

@@ -7,7 +7,7 @@ use crate::heads::{
 };
 use crate::item::{Item, Member};
 use crate::pieces::{Lifetimes, Piece, add, add_arguments, add_row_variable, add_tuple, add_value};
-use postcard_impl_error::{Home, Wrong};
+use postcard_impl_error::{Home, ImplProblemAt};
 
 /// The `ghost use` line of the prover's words for a row.
 const USE_ROW: &str =
@@ -17,7 +17,12 @@ const USE_ROW: &str =
 const USE_CASES: &str = "        use postcard::Case::{Next, This};\n";
 
 /// Adds the impls of an enum.
-pub(crate) fn add_enum(out: &mut String, home: Home, item: &Item, form: Form) -> Result<(), Wrong> {
+pub(crate) fn add_enum(
+    out: &mut String,
+    home: Home,
+    item: &Item,
+    form: Form,
+) -> Result<(), ImplProblemAt> {
     add_row_type(out, item)?;
     if form == Form::Seen {
         return add_seen(out, home, item);
@@ -40,7 +45,7 @@ pub(crate) fn add_enum(out: &mut String, home: Home, item: &Item, form: Form) ->
 }
 
 /// Adds the type of what the variants hold, in a row.
-fn add_row_type(out: &mut String, item: &Item) -> Result<(), Wrong> {
+fn add_row_type(out: &mut String, item: &Item) -> Result<(), ImplProblemAt> {
     add(
         out,
         &[
@@ -65,7 +70,7 @@ fn add_row_type(out: &mut String, item: &Item) -> Result<(), Wrong> {
 }
 
 /// Adds the `ghost use` line of the enum's own name.
-fn add_enum_use(out: &mut String, home: Home, item: &Item) -> Result<(), Wrong> {
+fn add_enum_use(out: &mut String, home: Home, item: &Item) -> Result<(), ImplProblemAt> {
     add(
         out,
         &["    ghost use Rattle.", home.library, ".specs.declared"],
@@ -79,7 +84,7 @@ fn add_enum_use(out: &mut String, home: Home, item: &Item) -> Result<(), Wrong> 
 }
 
 /// Adds the prover's function from the enum to its row.
-fn add_rows(out: &mut String, item: &Item) -> Result<(), Wrong> {
+fn add_rows(out: &mut String, item: &Item) -> Result<(), ImplProblemAt> {
     add(out, &["(elim [\n"])?;
     let mut index: usize = 0;
     for member in &item.members {
@@ -102,7 +107,7 @@ fn add_ghost_value(
     item: &Item,
     member: &Member,
     behind: bool,
-) -> Result<(), Wrong> {
+) -> Result<(), ImplProblemAt> {
     add(out, &[item.name, ".", member.name])?;
     for field in &member.fields {
         add(out, &[" "])?;
@@ -115,7 +120,7 @@ fn add_ghost_value(
 }
 
 /// Adds a text so many times.
-fn add_nested(out: &mut String, text: &str, count: usize) -> Result<(), Wrong> {
+fn add_nested(out: &mut String, text: &str, count: usize) -> Result<(), ImplProblemAt> {
     for _ in 0..count {
         out.push_str(text)?;
     }
@@ -142,7 +147,7 @@ const PLAIN: [&str; 16] = [
 ];
 
 /// Adds the functions that write the variants which have one.
-fn add_writers(out: &mut String, home: Home, item: &Item) -> Result<(), Wrong> {
+fn add_writers(out: &mut String, home: Home, item: &Item) -> Result<(), ImplProblemAt> {
     if !item.members.iter().any(|member| has_writer(item, member)) {
         return Ok(());
     }
@@ -168,7 +173,12 @@ fn add_writers(out: &mut String, home: Home, item: &Item) -> Result<(), Wrong> {
 }
 
 /// Adds the function that writes a variant.
-fn add_writer(out: &mut String, item: &Item, member: &Member, index: usize) -> Result<(), Wrong> {
+fn add_writer(
+    out: &mut String,
+    item: &Item,
+    member: &Member,
+    index: usize,
+) -> Result<(), ImplProblemAt> {
     add(
         out,
         &[
@@ -200,7 +210,7 @@ fn add_writer(out: &mut String, item: &Item, member: &Member, index: usize) -> R
 }
 
 /// Adds the clauses of the function that writes a variant: those of `serialize`, of this variant.
-fn add_writer_clauses(out: &mut String, item: &Item, member: &Member) -> Result<(), Wrong> {
+fn add_writer_clauses(out: &mut String, item: &Item, member: &Member) -> Result<(), ImplProblemAt> {
     add(
         out,
         &["        ensures wrote { Wrote F.Flavor serializer.old.output\n"],
@@ -223,14 +233,14 @@ fn add_writer_clauses(out: &mut String, item: &Item, member: &Member) -> Result<
 }
 
 /// Adds the shape of the enum, as it is quoted in clauses.
-fn add_shape(out: &mut String, item: &Item) -> Result<(), Wrong> {
+fn add_shape(out: &mut String, item: &Item) -> Result<(), ImplProblemAt> {
     add(out, &["⟦<", item.name])?;
     add_arguments(out, item, Lifetimes::Own)?;
     add(out, &[" as postcard::Shaped>⟧.shape"])
 }
 
 /// Adds the body of a `serialize`, and the end of its impl.
-fn add_serialize_body(out: &mut String, item: &Item) -> Result<(), Wrong> {
+fn add_serialize_body(out: &mut String, item: &Item) -> Result<(), ImplProblemAt> {
     add(out, &["        match self {\n"])?;
     let mut index: usize = 0;
     for member in &item.members {
@@ -257,7 +267,7 @@ fn add_serialize_body(out: &mut String, item: &Item) -> Result<(), Wrong> {
 }
 
 /// Adds the `match` that makes the enum of its row.
-fn add_match(out: &mut String, item: &Item, indent: &str) -> Result<(), Wrong> {
+fn add_match(out: &mut String, item: &Item, indent: &str) -> Result<(), ImplProblemAt> {
     add(out, &["match row {\n"])?;
     let mut index: usize = 0;
     for member in &item.members {
@@ -280,7 +290,7 @@ fn add_match(out: &mut String, item: &Item, indent: &str) -> Result<(), Wrong> {
 }
 
 /// Adds the impl by which an enum is made of its row.
-fn add_from_row(out: &mut String, home: Home, item: &Item) -> Result<(), Wrong> {
+fn add_from_row(out: &mut String, home: Home, item: &Item) -> Result<(), ImplProblemAt> {
     add_head(out, item, Trait::FromDecoded)?;
     add_enum_use(out, home, item)?;
     add(out, &[USE_ROW, "\n    type Parts = ", item.name, "Row"])?;
@@ -297,7 +307,7 @@ fn add_from_row(out: &mut String, home: Home, item: &Item) -> Result<(), Wrong> 
 }
 
 /// Adds the impl of `Deserialize`, and that of `DeserializeOwned` if nothing in the enum borrows.
-fn add_reads(out: &mut String, item: &Item, form: Form) -> Result<(), Wrong> {
+fn add_reads(out: &mut String, item: &Item, form: Form) -> Result<(), ImplProblemAt> {
     add_head(out, item, Trait::Deserialize)?;
     add(out, &[DESERIALIZE])?;
     add_read_body(out, item, form, Lifetimes::Read, "Deserialize::deserialize")?;
@@ -320,7 +330,7 @@ fn add_read_body(
     form: Form,
     lifetimes: Lifetimes,
     call: &str,
-) -> Result<(), Wrong> {
+) -> Result<(), ImplProblemAt> {
     if form == Form::ByParts {
         return add_decoded_body(out, lifetimes);
     }
@@ -332,7 +342,7 @@ fn add_read_body(
 }
 
 /// Adds the impls of an enum that is seen as its row.
-fn add_seen(out: &mut String, home: Home, item: &Item) -> Result<(), Wrong> {
+fn add_seen(out: &mut String, home: Home, item: &Item) -> Result<(), ImplProblemAt> {
     add_head(out, item, Trait::Repr)?;
     add_enum_use(out, home, item)?;
     add(out, &[USE_ROW, "\n    type As = ", item.name, "Row"])?;

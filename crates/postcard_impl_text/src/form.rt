@@ -1,12 +1,12 @@
 //! Which form the impls of each type have, and which types have none.
 
 use crate::item::{Field, Item, Span};
-use crate::scan::{inside, raw_between, wrong_at};
+use crate::scan::{inside, problem_at, raw_between};
 use postcard_dyn_file::FileProblem;
 use postcard_dyn_file::declaration::Kind;
 use postcard_dyn_file::token::{Token, is_at, is_before, is_name_at, token_at};
 use postcard_dyn_schema::Problem;
-use postcard_impl_error::{ImplProblem, Wrong};
+use postcard_impl_error::{ImplProblem, ImplProblemAt};
 use std::alloc::Global;
 
 /// Words of types whose values aren't written and read.
@@ -120,7 +120,7 @@ pub(crate) fn forms(
     file: &str,
     tokens: &[Token],
     items: &[Item],
-) -> Result<Vec<Form>, Wrong> {
+) -> Result<Vec<Form>, ImplProblemAt> {
     check_recursion(alloc, tokens, items)?;
     let light = light(alloc, tokens, items)?;
     let mut forms = Vec::new(alloc);
@@ -198,7 +198,7 @@ fn named(items: &[Item], token: Token) -> Option<usize> {
 }
 
 /// Fails at a field of the first item that has itself in it.
-fn check_recursion(alloc: Global, tokens: &[Token], items: &[Item]) -> Result<(), Wrong> {
+fn check_recursion(alloc: Global, tokens: &[Token], items: &[Item]) -> Result<(), ImplProblemAt> {
     let mut done = Vec::new(alloc);
     for _ in items {
         done.push(false)?;
@@ -214,7 +214,7 @@ fn check_recursion(alloc: Global, tokens: &[Token], items: &[Item]) -> Result<()
     }
     for item in items {
         if let Some(at) = first_open(tokens, items, done.as_slice(), item) {
-            return Err(wrong_at(tokens, at, ImplProblem::Recursive));
+            return Err(problem_at(tokens, at, ImplProblem::Recursive));
         }
     }
     Ok(())
@@ -251,7 +251,7 @@ fn open_in(tokens: &[Token], items: &[Item], done: &[bool], words: Span) -> Opti
 }
 
 /// Returns of each item whether it holds no memory, unless one of its parameters does.
-fn light(alloc: Global, tokens: &[Token], items: &[Item]) -> Result<Vec<bool>, Wrong> {
+fn light(alloc: Global, tokens: &[Token], items: &[Item]) -> Result<Vec<bool>, ImplProblemAt> {
     let mut light = Vec::new(alloc);
     for _ in items {
         light.push(false)?;
@@ -338,11 +338,11 @@ fn check_fields(
     items: &[Item],
     light: &[bool],
     item: &Item,
-) -> Result<(), Wrong> {
+) -> Result<(), ImplProblemAt> {
     for member in &item.members {
         for field in &member.fields {
-            if let Some(problem) = problem_of(file, tokens, items, light, item, field) {
-                return Err(Wrong {
+            if let Some(problem) = refusal_of(file, tokens, items, light, item, field) {
+                return Err(ImplProblemAt {
                     problem,
                     left: field.left,
                     length: field.length,
@@ -354,7 +354,7 @@ fn check_fields(
 }
 
 /// Returns what is wrong with a field, or `None` if nothing is.
-fn problem_of(
+fn refusal_of(
     file: &str,
     tokens: &[Token],
     items: &[Item],
@@ -370,7 +370,7 @@ fn problem_of(
         return Some(ImplProblem::Comment);
     }
     for at in field.words.start..field.words.end {
-        if let Some(problem) = problem_at(file, tokens, item, at, field.words.end) {
+        if let Some(problem) = refusal_at(file, tokens, item, at, field.words.end) {
             return Some(problem);
         }
     }
@@ -396,7 +396,7 @@ fn names_seen(tokens: &[Token], items: &[Item], field: &Field) -> bool {
 }
 
 /// Returns what is wrong with the token at the index of a type that ends before `end`.
-fn problem_at(
+fn refusal_at(
     file: &str,
     tokens: &[Token],
     item: &Item,

@@ -2,7 +2,7 @@
 
 use crate::item::Item;
 use crate::pieces::{Lifetimes, add, add_arguments, add_declared};
-use postcard_impl_error::Wrong;
+use postcard_impl_error::ImplProblemAt;
 
 /// The `ghost use` line of `via`.
 pub(crate) const USE_VIA: &str = "    ghost use Rattle.postcard_shape.specs.Shape.{via};\n";
@@ -79,7 +79,7 @@ impl Trait {
 }
 
 /// Adds the head of an impl of a trait for a type.
-pub(crate) fn add_head(out: &mut String, item: &Item, of: Trait) -> Result<(), Wrong> {
+pub(crate) fn add_head(out: &mut String, item: &Item, of: Trait) -> Result<(), ImplProblemAt> {
     add(out, &["\nimpl"])?;
     add_declared(out, item, of.lifetimes(), of.bound())?;
     add(out, &[" ", of.name(), " for "])?;
@@ -89,7 +89,11 @@ pub(crate) fn add_head(out: &mut String, item: &Item, of: Trait) -> Result<(), W
 }
 
 /// Adds the head of an impl of a type's own functions, which ask `bound` of each parameter.
-pub(crate) fn add_own_head(out: &mut String, item: &Item, bound: &str) -> Result<(), Wrong> {
+pub(crate) fn add_own_head(
+    out: &mut String,
+    item: &Item,
+    bound: &str,
+) -> Result<(), ImplProblemAt> {
     add(out, &["\nimpl"])?;
     add_declared(out, item, Lifetimes::Own, bound)?;
     add(out, &[" ", item.name])?;
@@ -98,7 +102,7 @@ pub(crate) fn add_own_head(out: &mut String, item: &Item, bound: &str) -> Result
 }
 
 /// Adds the impl of `DeserializeOwned` for a type without parameters.
-pub(crate) fn add_owned(out: &mut String, item: &Item) -> Result<(), Wrong> {
+pub(crate) fn add_owned(out: &mut String, item: &Item) -> Result<(), ImplProblemAt> {
     add_head(out, item, Trait::DeserializeOwned)?;
     add(out, &[DESERIALIZE_OWNED])?;
     add(
@@ -109,7 +113,10 @@ pub(crate) fn add_owned(out: &mut String, item: &Item) -> Result<(), Wrong> {
 
 /// Adds the body of a function that reads a value by its parts, with the lifetime of what is read or with
 /// none, and the end of its impl.
-pub(crate) fn add_decoded_body(out: &mut String, lifetimes: Lifetimes) -> Result<(), Wrong> {
+pub(crate) fn add_decoded_body(
+    out: &mut String,
+    lifetimes: Lifetimes,
+) -> Result<(), ImplProblemAt> {
     let call = match lifetimes {
         Lifetimes::Read => "read",
         _ => "read_owned",

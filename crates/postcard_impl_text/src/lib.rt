@@ -32,7 +32,7 @@ use form::forms;
 use postcard_dyn_file::declaration::Declaration;
 use postcard_dyn_file::token::Token;
 pub use postcard_impl_error::ImplProblem;
-use postcard_impl_error::{Home, Wrong};
+use postcard_impl_error::{Home, ImplProblemAt};
 use read::items;
 pub use scan::text_at;
 use std::alloc::Global;
@@ -50,7 +50,7 @@ pub fn impls_of(
     file: &str,
     tokens: &[Token],
     known: &[Declaration],
-) -> Result<String, Wrong> {
+) -> Result<String, ImplProblemAt> {
     let items = items(alloc, file, tokens, known)?;
     let forms = forms(alloc, file, tokens, items.as_slice())?;
     impls(alloc, home, items.as_slice(), forms.as_slice())

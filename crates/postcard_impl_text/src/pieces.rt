@@ -2,7 +2,7 @@
 
 use crate::form::name_of;
 use crate::item::{Field, Item, Member, Style};
-use postcard_impl_error::Wrong;
+use postcard_impl_error::ImplProblemAt;
 
 /// How many fields one tuple has at most. More stand in tuples of [`GROUP`].
 const TUPLE: usize = 8;
@@ -28,7 +28,7 @@ pub enum Piece {
 }
 
 /// Adds texts to the end of a text.
-pub(crate) fn add(out: &mut String, texts: &[&str]) -> Result<(), Wrong> {
+pub(crate) fn add(out: &mut String, texts: &[&str]) -> Result<(), ImplProblemAt> {
     for text in texts {
         out.push_str(text)?;
     }
@@ -36,7 +36,7 @@ pub(crate) fn add(out: &mut String, texts: &[&str]) -> Result<(), Wrong> {
 }
 
 /// Adds what stands for a field.
-fn add_piece(out: &mut String, field: &Field, piece: Piece) -> Result<(), Wrong> {
+fn add_piece(out: &mut String, field: &Field, piece: Piece) -> Result<(), ImplProblemAt> {
     let name = field.name.as_str();
     match piece {
         Piece::Type => add_type(out, field.text),
@@ -52,13 +52,13 @@ fn add_piece(out: &mut String, field: &Field, piece: Piece) -> Result<(), Wrong>
 }
 
 /// Adds the prover's variable for a field of a variant.
-pub(crate) fn add_row_variable(out: &mut String, field: &Field) -> Result<(), Wrong> {
+pub(crate) fn add_row_variable(out: &mut String, field: &Field) -> Result<(), ImplProblemAt> {
     write!(out, "x{}", field.number)?;
     Ok(())
 }
 
 /// Adds the text of a type, with one blank where it has several or the end of a line.
-pub(crate) fn add_type(out: &mut String, text: &str) -> Result<(), Wrong> {
+pub(crate) fn add_type(out: &mut String, text: &str) -> Result<(), ImplProblemAt> {
     let mut is_first = true;
     for word in text.split_whitespace() {
         if !is_first {
@@ -72,7 +72,11 @@ pub(crate) fn add_type(out: &mut String, text: &str) -> Result<(), Wrong> {
 
 /// Adds the tuple of the fields: nothing in brackets for none, of one itself, and past eight a tuple of
 /// tuples of five.
-pub(crate) fn add_tuple(out: &mut String, fields: &[Field], piece: Piece) -> Result<(), Wrong> {
+pub(crate) fn add_tuple(
+    out: &mut String,
+    fields: &[Field],
+    piece: Piece,
+) -> Result<(), ImplProblemAt> {
     if fields.len() <= TUPLE {
         return add_group(out, fields, piece);
     }
@@ -86,7 +90,7 @@ pub(crate) fn add_tuple(out: &mut String, fields: &[Field], piece: Piece) -> Res
 }
 
 /// Adds one tuple of these fields.
-fn add_group(out: &mut String, fields: &[Field], piece: Piece) -> Result<(), Wrong> {
+fn add_group(out: &mut String, fields: &[Field], piece: Piece) -> Result<(), ImplProblemAt> {
     if let [field] = fields {
         return add_piece(out, field, piece);
     }
@@ -113,7 +117,11 @@ fn empty(piece: Piece) -> &'static str {
 
 /// Adds the struct or the variant with the values of these variables. `path` is its name, and of a variant
 /// that of its enum before it.
-pub(crate) fn add_value(out: &mut String, path: &[&str], member: &Member) -> Result<(), Wrong> {
+pub(crate) fn add_value(
+    out: &mut String,
+    path: &[&str],
+    member: &Member,
+) -> Result<(), ImplProblemAt> {
     add(out, path)?;
     let (opening, closing) = match member.style {
         Style::Unit => return Ok(()),
@@ -152,7 +160,7 @@ pub(crate) fn add_arguments(
     out: &mut String,
     item: &Item,
     lifetimes: Lifetimes,
-) -> Result<(), Wrong> {
+) -> Result<(), ImplProblemAt> {
     let mut separator = "<";
     for lifetime in &item.parameters.lifetimes {
         let text = match lifetimes {
@@ -177,7 +185,7 @@ pub(crate) fn add_declared(
     item: &Item,
     lifetimes: Lifetimes,
     bound: &str,
-) -> Result<(), Wrong> {
+) -> Result<(), ImplProblemAt> {
     let mut separator = "<";
     if lifetimes == Lifetimes::Read {
         add(out, &["<'de"])?;
@@ -198,7 +206,7 @@ pub(crate) fn add_declared(
 }
 
 /// Adds the `>` of parameters, if one was before this separator.
-fn close(out: &mut String, separator: &str) -> Result<(), Wrong> {
+fn close(out: &mut String, separator: &str) -> Result<(), ImplProblemAt> {
     if separator == "<" {
         return Ok(());
     }

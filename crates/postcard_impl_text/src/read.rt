@@ -2,13 +2,13 @@
 
 use crate::item::{Field, Item, Member, Parameters, Span, Style};
 use crate::scan::{
-    after_bracket, bare, closing_angle, find_word, inside, parts, raw_between, text_at, text_of,
-    wrong, wrong_at,
+    after_bracket, bare, closing_angle, find_word, inside, parts, problem_at, problem_of,
+    raw_between, text_at, text_of,
 };
 use postcard_dyn_file::FileProblem;
 use postcard_dyn_file::declaration::{Declaration, Kind};
 use postcard_dyn_file::token::{Token, after_word, is_at, is_name_at, token_at};
-use postcard_impl_error::{ImplProblem, Wrong};
+use postcard_impl_error::{ImplProblem, ImplProblemAt};
 use std::alloc::Global;
 
 /// The greatest number of fields of a struct or a variant: twelve tuples of five.
@@ -31,7 +31,7 @@ pub(crate) fn items<'a>(
     file: &'a str,
     tokens: &[Token],
     known: &[Declaration],
-) -> Result<Vec<Item<'a>>, Wrong> {
+) -> Result<Vec<Item<'a>>, ImplProblemAt> {
     let mut items = Vec::new(alloc);
     for declaration in known {
         items.push(item(alloc, file, tokens, declaration)?)?;
@@ -45,7 +45,7 @@ fn item<'a>(
     file: &'a str,
     tokens: &[Token],
     declaration: &Declaration,
-) -> Result<Item<'a>, Wrong> {
+) -> Result<Item<'a>, ImplProblemAt> {
     let name = declaration.name;
     let at = index_of(tokens, name.left);
     if declaration.kind != Kind::Alias {
@@ -55,7 +55,7 @@ fn item<'a>(
     let (parameters, body) = parameters(alloc, file, tokens, after_name)?;
     let name = text_at(file, name.left, name.text.len());
     if is_at(tokens, body, b"where") {
-        return Err(wrong_at(tokens, body, ImplProblem::Where));
+        return Err(problem_at(tokens, body, ImplProblem::Where));
     }
     let members = match declaration.kind {
         Kind::Struct => whole(alloc, file, tokens, name, body)?,
@@ -117,14 +117,14 @@ fn item_start(tokens: &[Token], name: usize) -> usize {
 }
 
 /// Fails where the attributes of the item whose name is at the index change its impls, or lack `Drop`.
-fn check_attributes(tokens: &[Token], name: usize) -> Result<(), Wrong> {
+fn check_attributes(tokens: &[Token], name: usize) -> Result<(), ImplProblemAt> {
     let words = Span {
         start: item_start(tokens, name),
         end: name,
     };
     for derived in [b"Serialize".as_slice(), b"Deserialize".as_slice()] {
         if let Some(at) = find_word(tokens, words, derived) {
-            return Err(wrong_at(tokens, at, ImplProblem::SerdeDerive));
+            return Err(problem_at(tokens, at, ImplProblem::SerdeDerive));
         }
     }
     check_serde(tokens, words)?;
@@ -132,13 +132,13 @@ fn check_attributes(tokens: &[Token], name: usize) -> Result<(), Wrong> {
     if drops || find_word(tokens, words, b"Copy").is_some() {
         return Ok(());
     }
-    Err(wrong_at(tokens, name, ImplProblem::NotDrop))
+    Err(problem_at(tokens, name, ImplProblem::NotDrop))
 }
 
 /// Fails where one of these tokens is `serde`.
-fn check_serde(tokens: &[Token], words: Span) -> Result<(), Wrong> {
+fn check_serde(tokens: &[Token], words: Span) -> Result<(), ImplProblemAt> {
     match find_word(tokens, words, b"serde") {
-        Some(at) => Err(wrong_at(tokens, at, ImplProblem::SerdeAttribute)),
+        Some(at) => Err(problem_at(tokens, at, ImplProblem::SerdeAttribute)),
         None => Ok(()),
     }
 }
@@ -149,7 +149,7 @@ fn parameters<'a>(
     file: &'a str,
     tokens: &[Token],
     start: usize,
-) -> Result<(Parameters<'a>, usize), Wrong> {
+) -> Result<(Parameters<'a>, usize), ImplProblemAt> {
     let mut parameters = Parameters {
         lifetimes: Vec::new(alloc),
         types: Vec::new(alloc),
@@ -165,7 +165,7 @@ fn parameters<'a>(
             break;
         }
         if lifetime.contains(':') {
-            return Err(wrong_at(tokens, start, ImplProblem::LifetimeBound));
+            return Err(problem_at(tokens, start, ImplProblem::LifetimeBound));
         }
         parameters.lifetimes.push(lifetime)?;
     }
@@ -176,7 +176,7 @@ fn parameters<'a>(
 }
 
 /// Returns the parameter that these tokens are, a type with its bounds.
-fn parameter<'a>(file: &'a str, tokens: &[Token], words: Span) -> Result<&'a str, Wrong> {
+fn parameter<'a>(file: &'a str, tokens: &[Token], words: Span) -> Result<&'a str, ImplProblemAt> {
     let text = text_of(file, tokens, words);
     let problem = if is_at(tokens, words.start, b"const") {
         ImplProblem::ConstParameter
@@ -189,7 +189,7 @@ fn parameter<'a>(file: &'a str, tokens: &[Token], words: Span) -> Result<&'a str
     } else {
         return Ok(text);
     };
-    Err(wrong(file, tokens, words, problem))
+    Err(problem_of(file, tokens, words, problem))
 }
 
 /// Returns the struct of this name, whose body begins at the index, as the only member of its type.
@@ -199,11 +199,11 @@ fn whole<'a>(
     tokens: &[Token],
     name: &'a str,
     body: usize,
-) -> Result<Vec<Member<'a>>, Wrong> {
+) -> Result<Vec<Member<'a>>, ImplProblemAt> {
     let mut members = Vec::new(alloc);
     if !is_at(tokens, body, b"{") && !is_at(tokens, body, b"(") && !is_at(tokens, body, b";") {
         let problem = ImplProblem::File(FileProblem::BodyExpected);
-        return Err(wrong_at(tokens, body, problem));
+        return Err(problem_at(tokens, body, problem));
     }
     members.push(member(alloc, file, tokens, name, body)?)?;
     Ok(members)
@@ -215,10 +215,10 @@ fn variants<'a>(
     file: &'a str,
     tokens: &[Token],
     body: usize,
-) -> Result<Vec<Member<'a>>, Wrong> {
+) -> Result<Vec<Member<'a>>, ImplProblemAt> {
     if !is_at(tokens, body, b"{") {
         let problem = ImplProblem::File(FileProblem::BraceExpected);
-        return Err(wrong_at(tokens, body, problem));
+        return Err(problem_at(tokens, body, problem));
     }
     let mut members = Vec::new(alloc);
     for words in parts(alloc, tokens, inside(tokens, body), false)? {
@@ -232,7 +232,7 @@ fn variants<'a>(
         )?;
         if !is_name_at(tokens, own.start) {
             let problem = ImplProblem::File(FileProblem::NameExpected);
-            return Err(wrong_at(tokens, own.start, problem));
+            return Err(problem_at(tokens, own.start, problem));
         }
         let end = own.start.saturating_add(1);
         let name = text_of(
@@ -247,21 +247,21 @@ fn variants<'a>(
         members.push(member(alloc, file, tokens, name, end)?)?;
     }
     if members.is_empty() {
-        return Err(wrong_at(tokens, body, ImplProblem::NoVariant));
+        return Err(problem_at(tokens, body, ImplProblem::NoVariant));
     }
     Ok(members)
 }
 
 /// Fails where something else than its number follows the fields of the variant that begin at the index, if
 /// it has some, and that ends before `end`.
-fn check_end(tokens: &[Token], fields: usize, end: usize) -> Result<(), Wrong> {
+fn check_end(tokens: &[Token], fields: usize, end: usize) -> Result<(), ImplProblemAt> {
     let after = if is_at(tokens, fields, b"{") || is_at(tokens, fields, b"(") {
         after_bracket(tokens, fields)
     } else {
         fields
     };
     if after < end && !is_at(tokens, after, b"=") {
-        return Err(wrong_at(tokens, after, ImplProblem::CommaExpected));
+        return Err(problem_at(tokens, after, ImplProblem::CommaExpected));
     }
     Ok(())
 }
@@ -273,7 +273,7 @@ fn member<'a>(
     tokens: &[Token],
     name: &'a str,
     body: usize,
-) -> Result<Member<'a>, Wrong> {
+) -> Result<Member<'a>, ImplProblemAt> {
     let style = match token_at(tokens, body) {
         Some(token) if token.says(b"{") => Style::Named,
         Some(token) if token.says(b"(") => Style::Tuple,
@@ -284,7 +284,7 @@ fn member<'a>(
         for words in parts(alloc, tokens, inside(tokens, body), true)? {
             let number = fields.len();
             if number >= MAX_FIELDS {
-                return Err(wrong_at(tokens, words.start, ImplProblem::TooManyFields));
+                return Err(problem_at(tokens, words.start, ImplProblem::TooManyFields));
             }
             fields.push(field(alloc, file, tokens, words, style, number)?)?;
         }
@@ -304,7 +304,7 @@ fn field<'a>(
     words: Span,
     style: Style,
     number: usize,
-) -> Result<Field<'a>, Wrong> {
+) -> Result<Field<'a>, ImplProblemAt> {
     let own = bare(tokens, words);
     check_serde(
         tokens,
@@ -326,7 +326,7 @@ fn tuple_field<'a>(
     tokens: &[Token],
     words: Span,
     number: usize,
-) -> Result<Field<'a>, Wrong> {
+) -> Result<Field<'a>, ImplProblemAt> {
     let text = text_of(file, tokens, words);
     Ok(Field {
         number,
@@ -346,17 +346,17 @@ fn named_field<'a>(
     tokens: &[Token],
     words: Span,
     number: usize,
-) -> Result<Field<'a>, Wrong> {
+) -> Result<Field<'a>, ImplProblemAt> {
     if is_at(tokens, words.start, b"ghost") {
-        return Err(wrong_at(tokens, words.start, ImplProblem::GhostField));
+        return Err(problem_at(tokens, words.start, ImplProblem::GhostField));
     }
     if !is_name_at(tokens, words.start) {
         let problem = ImplProblem::File(FileProblem::NameExpected);
-        return Err(wrong_at(tokens, words.start, problem));
+        return Err(problem_at(tokens, words.start, problem));
     }
     let end = words.start.saturating_add(1);
     let Some(start) = after_word(tokens, end, b":") else {
-        return Err(wrong_at(tokens, end, ImplProblem::ColonExpected));
+        return Err(problem_at(tokens, end, ImplProblem::ColonExpected));
     };
     let name = text_of(
         file,

@@ -2,7 +2,7 @@
 
 use crate::item::Span;
 use postcard_dyn_file::token::{Token, after_word, is_at, is_before, token_at};
-use postcard_impl_error::{ImplProblem, Wrong};
+use postcard_impl_error::{ImplProblem, ImplProblemAt};
 use std::alloc::Global;
 
 /// Returns the text with this many bytes that begins `left` bytes before the end of the file, or
@@ -46,12 +46,17 @@ pub(crate) fn raw_between<'a>(
 }
 
 /// Returns what is wrong with these tokens.
-pub(crate) fn wrong(file: &str, tokens: &[Token], words: Span, problem: ImplProblem) -> Wrong {
+pub(crate) fn problem_of(
+    file: &str,
+    tokens: &[Token],
+    words: Span,
+    problem: ImplProblem,
+) -> ImplProblemAt {
     let left = match token_at(tokens, words.start) {
         Some(token) => token.left,
         None => 0,
     };
-    Wrong {
+    ImplProblemAt {
         problem,
         left,
         length: text_of(file, tokens, words).len(),
@@ -59,14 +64,14 @@ pub(crate) fn wrong(file: &str, tokens: &[Token], words: Span, problem: ImplProb
 }
 
 /// Returns what is wrong at the token with this index.
-pub(crate) fn wrong_at(tokens: &[Token], at: usize, problem: ImplProblem) -> Wrong {
+pub(crate) fn problem_at(tokens: &[Token], at: usize, problem: ImplProblem) -> ImplProblemAt {
     match token_at(tokens, at) {
-        Some(token) => Wrong {
+        Some(token) => ImplProblemAt {
             problem,
             left: token.left,
             length: token.text.len(),
         },
-        None => Wrong {
+        None => ImplProblemAt {
             problem,
             left: 0,
             length: 0,
@@ -136,7 +141,7 @@ pub(crate) fn parts(
     tokens: &[Token],
     words: Span,
     angles: bool,
-) -> Result<Vec<Span>, Wrong> {
+) -> Result<Vec<Span>, ImplProblemAt> {
     let mut parts = Vec::new(alloc);
     let mut start = words.start;
     let mut open = 0;

@@ -7,10 +7,10 @@ use crate::heads::{
 };
 use crate::item::{Item, Member};
 use crate::pieces::{Lifetimes, Piece, add, add_tuple, add_value};
-use postcard_impl_error::Wrong;
+use postcard_impl_error::ImplProblemAt;
 
 /// Adds the impls of a struct.
-pub(crate) fn add_struct(out: &mut String, item: &Item, form: Form) -> Result<(), Wrong> {
+pub(crate) fn add_struct(out: &mut String, item: &Item, form: Form) -> Result<(), ImplProblemAt> {
     let Some(member) = item.members.first() else {
         return Ok(());
     };
@@ -28,7 +28,7 @@ pub(crate) fn add_struct(out: &mut String, item: &Item, form: Form) -> Result<()
 }
 
 /// Adds the impl of `Shaped`.
-fn add_shape(out: &mut String, item: &Item, member: &Member) -> Result<(), Wrong> {
+fn add_shape(out: &mut String, item: &Item, member: &Member) -> Result<(), ImplProblemAt> {
     let fields = member.fields.as_slice();
     add_head(out, item, Trait::Shaped)?;
     add(out, &[USE_VIA, "\n    ghost shape = { via (λ v. "])?;
@@ -39,7 +39,7 @@ fn add_shape(out: &mut String, item: &Item, member: &Member) -> Result<(), Wrong
 }
 
 /// Adds the impl by which a struct is made of its parts.
-fn add_from_parts(out: &mut String, item: &Item, member: &Member) -> Result<(), Wrong> {
+fn add_from_parts(out: &mut String, item: &Item, member: &Member) -> Result<(), ImplProblemAt> {
     let fields = member.fields.as_slice();
     add_head(out, item, Trait::FromDecoded)?;
     add(out, &["    type Parts = "])?;
@@ -57,7 +57,7 @@ fn add_from_parts(out: &mut String, item: &Item, member: &Member) -> Result<(), 
 }
 
 /// Adds the body of a `serialize`, and the end of its impl.
-fn add_serialize_body(out: &mut String, member: &Member) -> Result<(), Wrong> {
+fn add_serialize_body(out: &mut String, member: &Member) -> Result<(), ImplProblemAt> {
     let fields = member.fields.as_slice();
     if fields.len() < 2 {
         add(out, &["        postcard::Serialize::serialize("])?;
@@ -73,7 +73,12 @@ fn add_serialize_body(out: &mut String, member: &Member) -> Result<(), Wrong> {
 }
 
 /// Adds the impl of `Deserialize`, and that of `DeserializeOwned` if nothing in the struct borrows.
-fn add_reads(out: &mut String, item: &Item, member: &Member, form: Form) -> Result<(), Wrong> {
+fn add_reads(
+    out: &mut String,
+    item: &Item,
+    member: &Member,
+    form: Form,
+) -> Result<(), ImplProblemAt> {
     add_head(out, item, Trait::Deserialize)?;
     add(out, &[DESERIALIZE])?;
     add_read_body(out, item, member, form, Lifetimes::Read)?;
@@ -96,7 +101,7 @@ fn add_read_body(
     member: &Member,
     form: Form,
     lifetimes: Lifetimes,
-) -> Result<(), Wrong> {
+) -> Result<(), ImplProblemAt> {
     if form == Form::ByParts {
         return add_decoded_body(out, lifetimes);
     }
@@ -112,7 +117,7 @@ fn add_read_body(
 }
 
 /// Adds the impls of a struct that is seen as the tuple of its fields.
-fn add_seen(out: &mut String, item: &Item, member: &Member) -> Result<(), Wrong> {
+fn add_seen(out: &mut String, item: &Item, member: &Member) -> Result<(), ImplProblemAt> {
     let fields = member.fields.as_slice();
     add_head(out, item, Trait::Repr)?;
     add(out, &["    type As = "])?;

@@ -6,7 +6,7 @@ use crate::form::Form;
 use crate::item::Item;
 use crate::structs::add_struct;
 use postcard_dyn_file::declaration::Kind;
-use postcard_impl_error::{Home, Wrong};
+use postcard_impl_error::{Home, ImplProblemAt};
 use std::alloc::Global;
 
 /// Returns the impls of these items, which have these forms.
@@ -15,7 +15,7 @@ pub(crate) fn impls(
     home: Home,
     items: &[Item],
     forms: &[Form],
-) -> Result<String, Wrong> {
+) -> Result<String, ImplProblemAt> {
     let mut out = String::new(alloc);
     add_decoded(&mut out, items, forms)?;
     for (item, form) in items.iter().zip(forms) {

@@ -3,7 +3,7 @@
 use crate::choices::Choices;
 use crate::made::Made;
 use crate::plain::Plain;
-use crate::source::Source;
+use crate::random::Random;
 use postcard::experimental::serialized_size;
 use postcard::{
     DeserializeOwned, Owned, Serialize, from_bytes, from_bytes_cobs, from_io, take_from_bytes,
@@ -130,11 +130,11 @@ fn is_taken<T: DeserializeOwned + PartialEq>(alloc: Global, value: &T, frame: &[
 /// Asserts that the value is written and read back by each call.
 pub(crate) fn comes_back<T: Made + Serialize + DeserializeOwned + PartialEq + Debug>(
     rt: &impl Abort,
-    source: &mut Source,
+    random: &mut Random,
     value: &T,
 ) {
-    let alloc = source.alloc();
-    let lengths = [source.below(9), source.below(9), source.below(9)];
+    let alloc = random.alloc();
+    let lengths = [random.below(9), random.below(9), random.below(9)];
     let bytes = to_allocvec(alloc, value).expect(rt, "to_allocvec");
     let frame = to_allocvec_cobs(alloc, value).expect(rt, "to_allocvec_cobs");
     let checks = [

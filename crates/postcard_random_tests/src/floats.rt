@@ -1,6 +1,6 @@
 //! Tests with random bits of floating-point numbers, a hundred thousand of each width.
 
-use crate::source::Source;
+use crate::random::Random;
 use postcard::{from_bytes, to_slice};
 use std::alloc::Global;
 use std::num::{f32_to_bits_with_nan, f64_to_bits_with_nan};
@@ -53,9 +53,9 @@ fn comes_back(rt: &impl Abort, back: bool, bits: u64) {
 
 #[test]
 fn random_bits(rt: HostRuntime) {
-    let mut source = Source::new(rt.alloc(), 40);
+    let mut random = Random::new(rt.alloc(), 40);
     for _ in 0..100_000 {
-        let bits = source.next();
+        let bits = random.next();
         let low = (bits & 0xFFFF_FFFF) as u32;
         comes_back(&rt, f32_comes_back(rt.alloc(), low), u64::from(low));
         comes_back(&rt, f64_comes_back(rt.alloc(), bits), bits);

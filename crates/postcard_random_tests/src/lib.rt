@@ -17,7 +17,7 @@ mod made;
 #[cfg(test)]
 mod plain;
 #[cfg(test)]
-mod source;
+mod random;
 #[cfg(test)]
 mod streams;
 #[cfg(test)]

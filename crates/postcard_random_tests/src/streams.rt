@@ -4,7 +4,7 @@
 use crate::choices::Choices;
 use crate::made::Made;
 use crate::plain::{Plain, data_of};
-use crate::source::Source;
+use crate::random::Random;
 use postcard::accumulator::{CobsAccumulator, FeedResult};
 use postcard::{Answer, DeserializeOwned, Serialize, to_allocvec_cobs};
 use std::alloc::{AllocError, Global};
@@ -16,16 +16,16 @@ const ROOM: usize = 512;
 
 /// Adds the frame to a stream, with a few of its bytes changed, lost or doubled, and sometimes with
 /// more bytes after it than there is room for, and then a zero.
-fn add_damaged(source: &mut Source, stream: &mut Vec<u8>, frame: &[u8]) -> Result<(), AllocError> {
+fn add_damaged(random: &mut Random, stream: &mut Vec<u8>, frame: &[u8]) -> Result<(), AllocError> {
     for byte in frame {
-        match source.below(12) {
-            0 => stream.push(source.low_byte())?,
+        match random.below(12) {
+            0 => stream.push(random.low_byte())?,
             1 => {}
             2 => stream.extend_from_slice(&[*byte, *byte])?,
             _ => stream.push(*byte)?,
         }
     }
-    if source.one_in(8) {
+    if random.one_in(8) {
         stream.extend_from_slice(&[0x11; 600])?;
     }
     Ok(stream.push(0)?)
@@ -68,16 +68,16 @@ fn right_answers<T: Made>(rt: &impl Abort, alloc: Global, stream: &[u8]) -> Vec<
 
 /// Returns a stream of ten values, with damaged frames between theirs. Asserts that the right answer
 /// to a value's frame is the value.
-fn random_stream<T: Made + Serialize + PartialEq>(rt: &impl Abort, source: &mut Source) -> Vec<u8> {
-    let mut stream = Vec::new(source.alloc());
+fn random_stream<T: Made + Serialize + PartialEq>(rt: &impl Abort, random: &mut Random) -> Vec<u8> {
+    let mut stream = Vec::new(random.alloc());
     for _ in 0..10 {
-        let value = T::made(source).expect(rt, "a value");
-        let frame = to_allocvec_cobs(source.alloc(), &value).expect(rt, "a frame");
-        if source.one_in(2) {
-            add_damaged(source, &mut stream, &frame).expect(rt, "a stream");
+        let value = T::made(random).expect(rt, "a value");
+        let frame = to_allocvec_cobs(random.alloc(), &value).expect(rt, "a frame");
+        if random.one_in(2) {
+            add_damaged(random, &mut stream, &frame).expect(rt, "a stream");
         }
         stream.extend_from_slice(&frame).expect(rt, "a stream");
-        assert!(rt; is_sent(source.alloc(), &frame, &value), "{frame:?}");
+        assert!(rt; is_sent(random.alloc(), &frame, &value), "{frame:?}");
     }
     stream
 }
@@ -85,18 +85,18 @@ fn random_stream<T: Made + Serialize + PartialEq>(rt: &impl Abort, source: &mut 
 /// Feeds a stream in random pieces, each until nothing is left of it, and returns the answers.
 fn answers<T: DeserializeOwned>(
     rt: &impl Abort,
-    source: &mut Source,
+    random: &mut Random,
     acc: &mut CobsAccumulator<ROOM>,
     stream: &[u8],
 ) -> Vec<Answer<T>> {
-    let mut answers = Vec::new(source.alloc());
+    let mut answers = Vec::new(random.alloc());
     let (mut piece, mut later) = stream.split_at(0);
     for _ in 0..stream.len().saturating_mul(2) {
         if piece.is_empty() {
-            let count = source.below(40).saturating_add(1).min(later.len());
+            let count = random.below(40).saturating_add(1).min(later.len());
             (piece, later) = later.split_at(count);
         }
-        let (answer, rest) = match acc.feed::<T>(source.alloc(), piece) {
+        let (answer, rest) = match acc.feed::<T>(random.alloc(), piece) {
             FeedResult::Consumed => {
                 piece = &[];
                 continue;
@@ -118,15 +118,15 @@ fn answers<T: DeserializeOwned>(
 /// Asserts that the answers to a hundred streams of ten values each are right.
 pub(crate) fn arrive<T: Made + Serialize + DeserializeOwned + PartialEq + Debug>(
     rt: &impl Abort,
-    source: &mut Source,
+    random: &mut Random,
 ) {
     let mut acc = CobsAccumulator::<ROOM>::new();
     for _ in 0..100 {
-        let stream = random_stream::<T>(rt, source);
-        let answers = answers::<T>(rt, source, &mut acc, &stream);
+        let stream = random_stream::<T>(rt, random);
+        let answers = answers::<T>(rt, random, &mut acc, &stream);
         assert_eq!(rt;
             answers,
-            right_answers(rt, source.alloc(), &stream),
+            right_answers(rt, random.alloc(), &stream),
             "{stream:?}"
         );
     }

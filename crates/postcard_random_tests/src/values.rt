@@ -2,7 +2,7 @@
 
 use crate::calls::comes_back;
 use crate::made::Made;
-use crate::source::Source;
+use crate::random::Random;
 use crate::streams::arrive;
 use arrayvec::{ArrayString, ArrayVec};
 use postcard::{DeserializeOwned, Serialize};
@@ -21,12 +21,12 @@ fn check<T: Made + Serialize + DeserializeOwned + PartialEq + Debug>(
     alloc: Global,
     seed: u64,
 ) {
-    let mut source = Source::new(alloc, seed);
+    let mut random = Random::new(alloc, seed);
     for _ in 0..5_000 {
-        let value = T::made(&mut source).expect(rt, "a value");
-        comes_back::<T>(rt, &mut source, &value);
+        let value = T::made(&mut random).expect(rt, "a value");
+        comes_back::<T>(rt, &mut random, &value);
     }
-    arrive::<T>(rt, &mut source);
+    arrive::<T>(rt, &mut random);
 }
 
 #[test]

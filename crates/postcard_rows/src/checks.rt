@@ -1,7 +1,7 @@
 //! The checks of a row, for any type.
 
-use crate::fault::{Fault, Reason};
 use crate::row::{Mark, Row};
+use crate::row_error::{Reason, RowError};
 use postcard::experimental::max_size::{MaxSize, fill_max_size};
 use postcard::experimental::serialized_size;
 use postcard::{
@@ -12,7 +12,7 @@ use std::alloc::Global;
 use std::fmt::Debug;
 
 /// The outcome of a check.
-pub type Outcome = std::result::Result<(), Fault>;
+pub type Outcome = std::result::Result<(), RowError>;
 
 /// A byte of a buffer before anything is written.
 const OLD: u8 = 0xAA;
@@ -28,7 +28,7 @@ fn same<R: Debug>(alloc: Global, call: &str, found: &R, want: &str) -> Outcome {
     }
     let call = String::from_str(alloc, call)?;
     let want = String::from_str(alloc, want)?;
-    Err(Fault::Other { call, want, got })
+    Err(RowError::Other { call, want, got })
 }
 
 /// Requires that the result of the call is printed as this value is.
@@ -217,7 +217,7 @@ pub fn borrowed<'a, T: Serialize + Deserialize<'a> + Debug>(
 ) -> Outcome {
     match row.mark {
         Mark::Same | Mark::Refused => check::<T>(alloc, row, scratch),
-        _ => Err(Fault::NotARow(Reason::Borrows)),
+        _ => Err(RowError::NotARow(Reason::Borrows)),
     }
 }
 
@@ -243,7 +243,7 @@ pub fn owned_with<'a, T: Serialize + Deserialize<'a> + DeserializeOwned + Debug>
     scratch: &'a mut [u8],
 ) -> Outcome {
     match row.mark {
-        Mark::Greatest => Err(Fault::NotARow(Reason::NoSize)),
+        Mark::Greatest => Err(RowError::NotARow(Reason::NoSize)),
         _ => check_owned::<T>(alloc, row, scratch),
     }
 }

@@ -7,12 +7,12 @@
 #![tactic(auto)]
 
 mod checks;
-mod fault;
 mod row;
+mod row_error;
 mod types;
 
-use fault::Fault;
 use row::Row;
+use row_error::RowError;
 use std::alloc::Global;
 use std::io;
 use std::process::ExitCode;
@@ -21,7 +21,7 @@ use std::process::ExitCode;
 const SCRATCH: usize = 2048;
 
 /// Checks the row of a line. Returns `false` if there is none on the line: it is empty or a comment.
-fn check(alloc: Global, line: &str) -> Result<bool, Fault> {
+fn check(alloc: Global, line: &str) -> Result<bool, RowError> {
     match Row::read(alloc, line)? {
         Some(row) => {
             let mut scratch = [0; SCRATCH];
@@ -45,9 +45,9 @@ fn run(rt: &HostRuntime) -> io::Result<u64> {
         match check(alloc, &line) {
             Ok(true) => passed = passed.saturating_add(1),
             Ok(false) => {}
-            Err(fault) => {
+            Err(error) => {
                 failed = failed.saturating_add(1);
-                println!(rt; "line {number}: {line}\n    {fault}")?;
+                println!(rt; "line {number}: {line}\n    {error}")?;
             }
         }
     }

@@ -1,6 +1,6 @@
 //! A row of the table.
 
-use crate::fault::{Fault, Reason};
+use crate::row_error::{Reason, RowError};
 use hex::FromHexError;
 use std::alloc::Global;
 
@@ -37,25 +37,25 @@ pub struct Row<'a> {
 }
 
 /// Returns the bytes of a text of hexadecimal digits, or of `-`, which has none.
-fn bytes_of(alloc: Global, text: &str) -> Result<Vec<u8>, Fault> {
+fn bytes_of(alloc: Global, text: &str) -> Result<Vec<u8>, RowError> {
     if text == "-" {
         return Ok(Vec::new(alloc));
     }
     match hex::decode(alloc, text) {
         Ok(bytes) => Ok(bytes),
-        Err(FromHexError::OutOfMemory) => Err(Fault::OutOfMemory),
-        Err(_) => Err(Fault::NotARow(Reason::Bytes)),
+        Err(FromHexError::OutOfMemory) => Err(RowError::OutOfMemory),
+        Err(_) => Err(RowError::NotARow(Reason::Bytes)),
     }
 }
 
 /// Returns the mark of this spelling.
-fn mark_of(word: &str) -> Result<Mark, Fault> {
+fn mark_of(word: &str) -> Result<Mark, RowError> {
     match word {
         "=" => Ok(Mark::Same),
         "reads" => Ok(Mark::Reads),
         "greatest" => Ok(Mark::Greatest),
         "error" => Ok(Mark::Refused),
-        _ => Err(Fault::NotARow(Reason::Mark)),
+        _ => Err(RowError::NotARow(Reason::Mark)),
     }
 }
 
@@ -69,7 +69,7 @@ fn parts_of(line: &str) -> Option<(&str, &str, &str, &str)> {
 
 impl<'a> Row<'a> {
     /// Returns the row of this line, or `None` if the line is empty or a comment.
-    pub fn read(alloc: Global, line: &'a str) -> Result<Option<Row<'a>>, Fault> {
+    pub fn read(alloc: Global, line: &'a str) -> Result<Option<Row<'a>>, RowError> {
         if line.is_empty() || line.starts_with('#') {
             return Ok(None);
         }
@@ -78,7 +78,7 @@ impl<'a> Row<'a> {
             None => (false, line),
         };
         let Some((name, digits, word, text)) = parts_of(line) else {
-            return Err(Fault::NotARow(Reason::Form));
+            return Err(RowError::NotARow(Reason::Form));
         };
         let mark = mark_of(word)?;
         let (front, after) = digits.split_once('+').unwrap_or((digits, "-"));
@@ -105,10 +105,10 @@ impl<'a> Row<'a> {
     }
 
     /// Turns the outcome of a row that must fail.
-    pub fn judge(&self, outcome: Result<(), Fault>) -> Result<(), Fault> {
+    pub fn judge(&self, outcome: Result<(), RowError>) -> Result<(), RowError> {
         match outcome {
-            Ok(()) if self.fails => Err(Fault::Passes),
-            Err(Fault::Other { .. }) if self.fails => Ok(()),
+            Ok(()) if self.fails => Err(RowError::Passes),
+            Err(RowError::Other { .. }) if self.fails => Ok(()),
             _ => outcome,
         }
     }

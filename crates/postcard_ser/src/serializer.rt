@@ -46,7 +46,7 @@ pub struct Serializer<F: Flavor> {
     pub output: F,
 }
 
-// Returns the error of a call whose flavor refused a piece.
+/// Returns the error of a call whose flavor refused a piece.
 fn refusal(_of_flavor: Error) -> Error
     ensures { result ≡ Error.SerializeBufferFull }
 {
@@ -72,7 +72,7 @@ impl<F: Flavor> Serializer<F> {
         self.output.try_varint(n).map_err(refusal)
     }
 
-    // Writes the count of the bytes, and then the bytes.
+    /// Writes the count of the bytes, and then the bytes.
     fn extend_counted(&mut self, piece: &[u8]) -> Result<()>
         ensures { Wrote F.Flavor self.old.output (digits (length piece.now) ++ piece.now) never ⊥
             result self.new.output }

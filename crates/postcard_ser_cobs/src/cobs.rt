@@ -32,11 +32,11 @@ mod runs;
 #[derive(Drop)]
 pub struct Cobs<B: Storage> {
     storage: B,
-    // The number of bytes that the storage held before the frame: the place of the frame's first
-    // byte.
+    /// The number of bytes that the storage held before the frame: the place of the frame's first
+    /// byte.
     start: usize,
     encoder: EncoderState,
-    // Whether a byte was refused. The storage may then hold a part of what it was asked to write.
+    /// Whether a byte was refused. The storage may then hold a part of what it was asked to write.
     failed: bool,
     ghost stands: { ∥ (IsFalse failed → (before : List ℕ) × (d : List ℕ)
         × HoldsOpen B.held storage start encoder failed before d) ∥₁ },

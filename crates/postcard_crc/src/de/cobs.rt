@@ -10,7 +10,7 @@ ghost use Rattle.postcard_frame.specs.Buffer.{KeepsFromZero, HasDataOf};
 ghost use Rattle.postcard_crc.specs.Reading.{ReadsFrameChecked};
 ghost use Rattle.postcard_crc.specs.InFrame.{AcceptsChecked, ReadsBackChecked, RefusesDamage};
 ghost use Rattle.postcard_crc.specs.InFrame.{HasDataErrors, IsReadOf};
-ghost use Rattle.postcard_crc.specs.Parts.{IsDecoded};
+ghost use Rattle.postcard_crc.specs.Parts.{IsDecodedFrame};
 
 use crate::de::from_bytes_whole;
 use crc::{Digest, Implementation, Width};
@@ -52,52 +52,59 @@ pub fn from_bytes_cobs<'a, T: Deserialize<'a>, W: Width, I: Implementation<W>>(
     ensures named_error { IfErr result (λ e. IsReadError T.shape.other e
         ⊎ ((e ≡ Error.DeserializeBadCrc) ⊎ (e ≡ Error.DeserializeBadEncoding))) }
 {
-    let Decoded { all, end, len } = decode(s);
-    let (front, _) = split_front(all, end);
-    read_data(alloc, front, len, digest)
+    let DecodedFrame {
+        all,
+        frame_len,
+        data_len,
+    } = decode_frame(s);
+    let (front, _) = split_front(all, frame_len);
+    read_checked(alloc, front, data_len, digest)
 }
 
-/// What decoding in place leaves: the whole buffer, and where the parts of the frame end.
-struct Decoded<'a> {
+/// What decoding in place leaves: the whole buffer, and the lengths of the frame at its front and
+/// of the frame's data. The zero that ends the frame isn't counted, since no call here returns what
+/// follows it.
+struct DecodedFrame<'a> {
     all: &'a mut [u8],
-    /// The length of the frame, without the zero that ends it; 0 if the frame has no data.
-    end: usize,
-    len: usize,
+    /// The length of the frame; 0 if it has no data.
+    frame_len: usize,
+    /// The length of the data, which is at the front of the buffer.
+    data_len: usize,
 }
 
 /// Decodes the frame at the front of a buffer in place.
-fn decode<'a>(s: &'a mut [u8]) -> Decoded<'a>
+fn decode_frame<'a>(s: &'a mut [u8]) -> DecodedFrame<'a>
     ensures same_loan { result.all.ghost_name ≡ s.entry.ghost_name }
-    ensures decodes { IsDecoded s.old result }
+    ensures decodes { IsDecodedFrame s.old result }
 {
     match decode_in_place_report(s) {
-        Ok(report) => Decoded {
+        Ok(report) => DecodedFrame {
             all: s,
-            end: report.src_used,
-            len: report.dst_used,
+            frame_len: report.src_used,
+            data_len: report.dst_used,
         },
-        Err(_) => Decoded {
+        Err(_) => DecodedFrame {
             all: s,
-            end: 0,
-            len: 0,
+            frame_len: 0,
+            data_len: 0,
         },
     }
 }
 
-/// Reads a value with its checksum from the first `len` bytes of `front`, the data of a frame;
-/// `front` is empty if the frame has no data.
-fn read_data<'a, T: Deserialize<'a>, W: Width, I: Implementation<W>>(
+/// Reads a value and then just its checksum from the first `data_len` bytes of `front`, the data of
+/// a frame; `front` is empty if the frame has no data.
+fn read_checked<'a, T: Deserialize<'a>, W: Width, I: Implementation<W>>(
     alloc: Global,
     front: &'a [u8],
-    len: usize,
+    data_len: usize,
     digest: Digest<'a, W, I>,
 ) -> Result<T>
-    requires { len ≤ length front.now }
-    ensures reads { (frame : List ℕ) → HasDataOf frame front.now len
+    requires { data_len ≤ length front.now }
+    ensures reads { (frame : List ℕ) → HasDataOf frame front.now data_len
         → IsReadOf T.shape W.size digest.entry frame result }
 {
     if front.is_empty() {
         return Err(Error::DeserializeBadEncoding);
     }
-    from_bytes_whole(alloc, &front[..len], digest)
+    from_bytes_whole(alloc, &front[..data_len], digest)
 }

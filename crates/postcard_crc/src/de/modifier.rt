@@ -4,7 +4,7 @@ ghost use Rattle.std.specs.Prelude.{◌≡◌, ◌≤◌, Some, length};
 ghost use Rattle.postcard_de_flavors.specs.Source.{known};
 ghost use Rattle.postcard_crc.specs.Source.{TookBoth, Finishes, crc_laws};
 
-use super::after_crc;
+use super::after_checksum;
 use crc::{Digest, Implementation, Table, Width};
 use postcard_de_flavors::{Flavor, Slice};
 use postcard_wire::Result;
@@ -18,7 +18,7 @@ use postcard_wire::Result;
 #[derive(Drop)]
 pub struct CrcModifier<'de, B, W: Width, I: Implementation<W> = Table<W>> {
     pub flavor: B,
-    /// The checksum of the bytes so far.
+    /// What has taken the bytes so far; its `finalize` is their checksum.
     pub digest: Digest<'de, W, I>,
 }
 
@@ -59,9 +59,9 @@ impl<'de, W: Width, I: Implementation<W>> Flavor for CrcModifier<'de, Slice<'de>
         self.flavor.size_hint()
     }
 
-    /// Returns no bytes: what is at hand isn't in the checksum yet.
+    /// Returns all bytes left; those that are taken enter the checksum then.
     fn at_hand(&self) -> &[u8] {
-        &[]
+        self.flavor.at_hand()
     }
 
     fn try_take_n<'a>(&mut self, ct: usize) -> Result<&'a [u8]>
@@ -85,6 +85,6 @@ impl<'de, W: Width, I: Implementation<W>> Flavor for CrcModifier<'de, Slice<'de>
     fn finalize(self) -> Result<&'de [u8]> {
         let CrcModifier { flavor, digest } = self;
         let rest = flavor.finalize()?;
-        after_crc(rest, digest.finalize())
+        after_checksum(rest, digest.finalize())
     }
 }

@@ -18,7 +18,7 @@ use postcard_wire::Result;
 #[derive(Drop)]
 pub struct CrcModifier<'a, B, W: Width, I: Implementation<W> = Table<W>> {
     pub flavor: B,
-    /// The checksum of the bytes so far.
+    /// What has taken the bytes so far; its `finalize` is their checksum.
     pub digest: Digest<'a, W, I>,
 }
 

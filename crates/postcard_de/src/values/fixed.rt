@@ -4,8 +4,8 @@ ghost use Rattle.postcard_de.specs.Reads.{ReadsNode, seen_node, short_text_node,
 
 use crate::deserialize::Deserialize;
 use crate::deserializer::Deserializer;
-use crate::element::{ByDeserialize, ByDeserializeOwned};
 use crate::owned::DeserializeOwned;
+use crate::read_element::{ByDeserialize, ByDeserializeOwned};
 use arrayvec::{ArrayString, ArrayVec};
 use postcard_de_flavors::Flavor;
 use postcard_de_nodes::texts;
@@ -31,7 +31,7 @@ impl<T: DeserializeOwned + Copy + Default, const N: usize> DeserializeOwned for 
 /// element that doesn't fit has been read.
 impl<'de, T: Deserialize<'de> + Default, const CAP: usize> Deserialize<'de> for ArrayVec<T, CAP> {
     fn deserialize<F: Flavor>(alloc: Global, d: &mut Deserializer<'de, F>) -> Result<Self> {
-        d.few::<T, ByDeserialize, CAP>(alloc)
+        d.array_vec::<T, ByDeserialize, CAP>(alloc)
     }
 }
 
@@ -40,7 +40,7 @@ impl<T: DeserializeOwned + Default, const CAP: usize> DeserializeOwned for Array
         alloc: Global,
         d: &mut Deserializer<'de, F>,
     ) -> Result<Self> {
-        d.few::<T, ByDeserializeOwned, CAP>(alloc)
+        d.array_vec::<T, ByDeserializeOwned, CAP>(alloc)
     }
 }
 

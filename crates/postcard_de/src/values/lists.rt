@@ -6,8 +6,8 @@ ghost use Rattle.postcard_de.specs.Reads.{ReadsNode, lent_bytes_node, source_of}
 
 use crate::deserialize::Deserialize;
 use crate::deserializer::Deserializer;
-use crate::element::{ByDeserialize, ByDeserializeOwned};
 use crate::owned::DeserializeOwned;
+use crate::read_element::{ByDeserialize, ByDeserializeOwned};
 use postcard_de_flavors::Flavor;
 use postcard_wire::{Error, Result};
 use std::alloc::Global;

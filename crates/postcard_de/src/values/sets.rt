@@ -2,8 +2,8 @@
 
 use crate::deserialize::Deserialize;
 use crate::deserializer::Deserializer;
-use crate::element::{ByDeserialize, ByDeserializeOwned};
 use crate::owned::DeserializeOwned;
+use crate::read_element::{ByDeserialize, ByDeserializeOwned};
 use postcard_de_flavors::Flavor;
 use postcard_wire::Result;
 use std::alloc::Global;

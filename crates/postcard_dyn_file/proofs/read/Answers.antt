@@ -3,7 +3,7 @@ use Rattle.std.proofs.lemmas.Result.{err_from_is_err_and}
 use Rattle.postcard_dyn_file.specs.Tokens.{spelling}
 use Rattle.postcard_dyn_file.specs.Expands.{AreInOrder}
 use Rattle.postcard_dyn_file.proofs.Spelled.{in_order}
-use Rattle.postcard_dyn_file.proofs.Files.{file_of, expression_of, fault_of, fault_of_text}
+use Rattle.postcard_dyn_file.proofs.Files.{file_of, expression_of, problem_of, problem_of_text}
 use Rattle.postcard_dyn_file.proofs.read.Goals as goal
 
 pub words_of-requires-clause-order : goal.words_of-requires-clause-order
@@ -11,12 +11,12 @@ words_of-requires-clause-order c =
     let ordered = subst (AreInOrder c.as_slice-2.result.now) (sym c.as_slice-4.ensures.value) (in_order _ _ c.in_ok-known.ensures.declared) in
     subst (λ ts. AreInOrder ts c.as_slice-4.result.now) (c.as_slice-2.ensures.value ∙ sym c.as_slice-3.ensures.value) ordered
 
-pub returns-in_err-words-clause-fault : goal.returns-in_err-words-clause-fault
-returns-in_err-words-clause-fault c =
+pub returns-in_err-words-clause-problem : goal.returns-in_err-words-clause-problem
+returns-in_err-words-clause-problem c =
     let p = err_from_is_err_and c.from_residual-in_err-words.result c.from_residual-in_err-words.ensures.1 in
-    rw (p.1, p.2) (fault_of c.args.file.now c.args.name.now _ _ _ _ _
+    rw (p.1, p.2) (problem_of c.args.file.now c.args.name.now _ _ _ _ _
     (file_of c.args.file.now _ _ _ _ _ c.in_ok-all.ensures.read c.as_slice.ensures.value c.in_ok-kept.ensures.kept c.as_slice-2.ensures.value c.in_ok-known.ensures.declared)
-    c.as_slice-3.ensures.value c.as_slice-4.ensures.value c.in_err-words.ensures.fault)
+    c.as_slice-3.ensures.value c.as_slice-4.ensures.value c.in_err-words.ensures.problem)
 
 pub returns-in-Ok-clause-spelled : goal.returns-in-Ok-clause-spelled
 returns-in-Ok-clause-spelled c =
@@ -24,9 +24,9 @@ returns-in-Ok-clause-spelled c =
     (file_of c.args.file.now _ _ _ _ _ c.in_ok-all.ensures.read c.as_slice.ensures.value c.in_ok-kept.ensures.kept c.as_slice-2.ensures.value c.in_ok-known.ensures.declared)
     c.as_slice-3.ensures.value c.as_slice-4.ensures.value c.in_ok-words.ensures.spelled (c.in_ok-text.ensures.spelled ∙ ap spelling c.as_slice-5.ensures.value)
 
-pub returns-clause-fault : goal.returns-clause-fault
-returns-clause-fault c =
-    fault_of_text c.args.file.now c.args.name.now _ _ c.in-Err.e.problem _ _ _ _
+pub returns-clause-problem : goal.returns-clause-problem
+returns-clause-problem c =
+    problem_of_text c.args.file.now c.args.name.now _ _ c.in-Err.e.problem _ _ _ _
     (file_of c.args.file.now _ _ _ _ _ c.in_ok-all.ensures.read c.as_slice.ensures.value c.in_ok-kept.ensures.kept c.as_slice-2.ensures.value c.in_ok-known.ensures.declared)
     c.as_slice-3.ensures.value c.as_slice-4.ensures.value c.in_ok-words.ensures.spelled
     (c.as_str.ensures.value ∙ c.in_ok-text.ensures.spelled ∙ ap spelling c.as_slice-5.ensures.value) c.in-Err.ensures.refused

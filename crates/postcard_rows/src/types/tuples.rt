@@ -2,8 +2,8 @@
 
 use super::floats;
 use crate::checks::{Outcome, borrowed, owned, sized};
-use crate::fault::{Fault, Reason};
 use crate::row::Row;
+use crate::row_error::{Reason, RowError};
 use postcard::Error;
 use std::alloc::Global;
 use std::ops::{Bound, Range, RangeFrom, RangeInclusive, RangeTo};
@@ -47,6 +47,6 @@ fn ranges(alloc: Global, row: &Row<'_>) -> Outcome {
         "RangeInclusive<i8>" => sized::<RangeInclusive<i8>>(alloc, row),
         "RangeInclusive<u16>" => sized::<RangeInclusive<u16>>(alloc, row),
         "RangeTo<u16>" => sized::<RangeTo<u16>>(alloc, row),
-        _ => Err(Fault::NotARow(Reason::Type)),
+        _ => Err(RowError::NotARow(Reason::Type)),
     }
 }

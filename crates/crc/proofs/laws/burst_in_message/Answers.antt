@@ -1,6 +1,6 @@
 -- The polynomials are equal, and so are the bytes.
 use Rattle.crc.specs.Crc.{message}
-use Rattle.crc.proofs.FrameLemmas.{messages_agree, no_burst_between}
+use Rattle.crc.proofs.CheckedLemmas.{messages_agree, no_burst_between}
 use Rattle.crc.proofs.MessageLemmas.{same_bytes}
 use Rattle.crc.proofs.laws.burst_in_message.Goals as goal
 

@@ -1,5 +1,5 @@
 -- By the lemma on polynomials.
-use Rattle.crc.proofs.FrameLemmas.{one_crc}
+use Rattle.crc.proofs.CheckedLemmas.{one_crc}
 use Rattle.crc.proofs.laws.one_checksum.Goals as goal
 
 pub returns : goal.returns

@@ -1,6 +1,6 @@
 -- By the lemma on polynomials.
 use Rattle.crc.specs.Crc.{message}
-use Rattle.crc.proofs.FrameLemmas.{messages_agree, no_two_between}
+use Rattle.crc.proofs.CheckedLemmas.{messages_agree, no_two_between}
 use Rattle.crc.proofs.laws.two_in_message.Goals as goal
 
 pub returns : goal.returns

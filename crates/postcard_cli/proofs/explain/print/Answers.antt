@@ -4,7 +4,7 @@ use Rattle.postcard_cli.proofs.explain.print.Goals as goal
 pub returns-clause-refused : goal.returns-clause-refused
 returns-clause-refused g c =
     let told = c.in_ok-explanation.ensures in
-    let none = rw c.in-Some.is at told.refused in
+    let none = rw c.in-Some.is at told.stopped in
     let rows = c.in_ok-print_lines.ensures.printed in
     record {
       schema = c.in_ok-schema.schema;

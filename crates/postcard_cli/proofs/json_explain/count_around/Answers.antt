@@ -1,7 +1,13 @@
-use Rattle.std.proofs.Common.{◌≤◌, sym, subst, arith}
+use Rattle.std.proofs.Common.{◌-◌, ◌≤◌, ◌<◌, sym, subst, ◌∙◌, arith}
+use Rattle.std.proofs.lemmas.List.{get_or_default}
 use Rattle.postcard_cli.specs.declared.json_explain.Open.{Open}
 use Rattle.postcard_cli.proofs.JsonExplainLemmas.{one_fewer}
 use Rattle.postcard_cli.proofs.json_explain.count_around.Goals as goal
+
+pub returns-then-around-count-clause-last : goal.returns-then-around-count-clause-last
+returns-then-around-count-clause-last c = λ some part is.
+    let same = get_or_default c.args.around.now (c.parts.count - 1) c.index-around-count.result part (omega (arith, c.parts.invariant.within)) ∙ sym is in
+    subst (λ (o : Open). o.depth < c.args.depth) same c.if-around-count.true
 
 pub parts-preserved : goal.parts-preserved
 parts-preserved c =

@@ -8,7 +8,7 @@ use Rattle.postcard_cli.proofs.json_explain.print_lines.Given as goal
 
 abbrev pub invariant-loop-line : goal.invariant-loop-line
 invariant-loop-line g l = let before = take l.line-index l.line-items in record {
-  rows : PrintsJsonRows l.fn.refused 0 [] before (g.W.Write.contents l.initial.output) (g.W.Write.contents l.output);
+  rows : PrintsJsonRows l.fn.error 0 [] before (g.W.Write.contents l.initial.output) (g.W.Write.contents l.output);
   count : l.at ≡ counted (length (bytes_of before));
   parts : (d : ℕ) → path_in l.around.items d ≡ path_around (seen_after [] before) d;
 }

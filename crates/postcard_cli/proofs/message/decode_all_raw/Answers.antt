@@ -1,17 +1,12 @@
-use Rattle.std.proofs.lemmas.Result.{on_ok_weaker, IfErr-weaker}
+use Rattle.std.proofs.lemmas.Result.{IfErr-weaker}
+use Rattle.postcard_cli.specs.Message.{PrintsEach}
+use Rattle.postcard_cli.proofs.MessageLemmas.{given_printed}
 use Rattle.postcard_cli.proofs.RefusalLemmas.{all_raw_fail}
 use Rattle.postcard_cli.proofs.message.decode_all_raw.Goals as goal
 
 pub returns-clause-printed : goal.returns-clause-printed
 returns-clause-printed g c =
-    on_ok_weaker c.print_all.result
-    (λ h. record {
-      schema = c.in_ok-schema.schema;
-      spelled = c.in_ok-schema.ensures.spelled;
-      bytes = c.in_ok-held.held.items;
-      given = c.in_ok-held.ensures.all;
-      shown = h;
-    })
+    given_printed PrintsEach _ _ _ _ c.in_ok-schema.schema c.in_ok-held.held.items c.print_all.result c.in_ok-schema.ensures.spelled c.in_ok-held.ensures.all
     (rw (c.deref.ensures.value, c.in_ok-schema.ensures.untouched) at c.print_all.ensures.printed)
 
 pub returns-clause-refused : goal.returns-clause-refused

@@ -1,18 +1,17 @@
--- The rest is what it begins with, and then what follows.
-use Rattle.std.proofs.Common.{ℕ, List, ◌++◌, length, sym, ap₂, ◌∙◌, take-append-drop}
-use Rattle.postcard_crc.proofs.Split.{begins_with, follows}
+-- The bytes of the checksum, and what follows them.
+use Rattle.std.proofs.Common.{◌∙◌, ℕ, List, ◌++◌, ap, sym}
+use Rattle.std.proofs.lemmas.Result.{IfOk-weaker}
+use Rattle.postcard_crc.proofs.Split.{too_short}
 use Rattle.postcard_crc.proofs.de.after_checksum.Goals as goal
 
-pub returns-then-are_same-clause-gives : goal.returns-then-are_same-clause-gives
-returns-then-are_same-clause-gives c =
-    sym (take-append-drop (length c.args.wanted.now) c.args.rest.now)
-    ∙ ap₂ (λ (x y : List ℕ). x ++ y) (sym c.split_at.ensures.front ∙ c.are_same.ensures.0 c.if-are_same.true) (sym c.split_at.ensures.back)
+pub returns-then-rest-wanted-clause-accepts : goal.returns-then-rest-wanted-clause-accepts
+returns-then-rest-wanted-clause-accepts g c after is =
+    too_short g.W.Width.size c.trailer_of-wanted.result.len c.args.rest.now after (g.W.Width.number c.args.crc) c.trailer_of-wanted.ensures.len c.if-rest-wanted.true is
 
-pub returns-then-are_same-clause-accepts : goal.returns-then-are_same-clause-accepts
-returns-then-are_same-clause-accepts c after e = c.split_at.ensures.back ∙ follows c.args.wanted.now after c.args.rest.now e
+pub returns-clause-gives : goal.returns-clause-gives
+returns-clause-gives g c =
+    IfOk-weaker c.after_trailer.result _ _ (λ after h. h ∙ ap (λ (l : List ℕ). l ++ after.now) c.trailer_of-wanted.ensures.bytes) c.after_trailer.ensures.gives
 
-pub returns-else-are_same-clause-accepts : goal.returns-else-are_same-clause-accepts
-returns-else-are_same-clause-accepts c after e =
-    let same = c.are_same.ensures.1 (c.split_at.ensures.front ∙ begins_with c.args.wanted.now after c.args.rest.now e) in
-    let other = c.if-are_same.false in
-    cc
+pub returns-clause-accepts : goal.returns-clause-accepts
+returns-clause-accepts g c after is =
+    c.after_trailer.ensures.accepts after (is ∙ ap (λ (l : List ℕ). l ++ after) (sym c.trailer_of-wanted.ensures.bytes))

@@ -2,7 +2,7 @@
 use Rattle.std.proofs.Common.{◌++◌, [], inl, inr, refl, ap, subst, sym, ◌∙◌, append-nil}
 use Rattle.postcard_de_nodes.specs.ReadLemmas.{is_refusal}
 use Rattle.postcard_wire.specs.Spelling.{canonical}
-use Rattle.crc.specs.Frame.{low_bytes}
+use Rattle.crc.specs.Checked.{low_bytes}
 use Rattle.postcard_wire.specs.declared.error.Error.TheVariants.{DeserializeBadEncoding}
 use Rattle.postcard_shape.specs.Shape.{Grows}
 use Rattle.postcard_crc.proofs.Errors.{of_faultless}

@@ -1,8 +1,9 @@
--- The front is followed by its checksum, so the check succeeds; what was read to its end is a frame.
+-- The front is followed by its checksum, so the check succeeds; what was read to its end is a checked
+-- message.
 use Rattle.std.proofs.Common.{◌++◌, sym, ap, ◌∙◌, append_assoc}
 use Rattle.postcard_wire.specs.Spelling.{canonical}
 use Rattle.postcard_shape.specs.Shape.{Grows}
-use Rattle.crc.specs.Frame.{low_bytes}
+use Rattle.crc.specs.Checked.{low_bytes}
 use Rattle.postcard_de_nodes.specs.ReadLemmas.{is_refusal}
 use Rattle.postcard_crc.proofs.Errors.{of_value, of_check, of_success}
 use Rattle.postcard_crc.proofs.Damage.{are_bytes, not_damaged}

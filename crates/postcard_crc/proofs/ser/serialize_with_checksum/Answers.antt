@@ -3,7 +3,7 @@ use Rattle.std.proofs.Common.{◌++◌, sym, subst}
 use Rattle.postcard_wire.specs.Spelling.{canonical}
 use Rattle.postcard_ser.proofs.PartByPart.{wrote_closes}
 use Rattle.crc.specs.Digest.{Took}
-use Rattle.crc.specs.Frame.{low_bytes}
+use Rattle.crc.specs.Checked.{low_bytes}
 use Rattle.postcard_crc.specs.Writing.{HasRoom}
 use Rattle.postcard_crc.proofs.ser.serialize_with_checksum.Goals as goal
 

@@ -2,7 +2,7 @@
 use Rattle.std.proofs.Common.{◌++◌, List, ℕ, ap, ◌∙◌}
 use Rattle.std.proofs.lemmas.Result.{IfOk-weaker}
 use Rattle.postcard_wire.specs.Spelling.{canonical}
-use Rattle.crc.specs.Frame.{low_bytes}
+use Rattle.crc.specs.Checked.{low_bytes}
 use Rattle.postcard_crc.specs.Reading.{IsWithCrc}
 use Rattle.postcard_crc.proofs.ser.to_allocvec.Goals as goal
 

@@ -1,7 +1,7 @@
 -- What was written is within the buffer.
 use Rattle.std.proofs.Common.{◌+◌, ◌≤◌, ◌++◌, length, take, subst, sym, ap, ◌∙◌}
 use Rattle.std.proofs.lemmas.Result.{IfOk-weaker}
-use Rattle.crc.specs.Frame.{low_bytes}
+use Rattle.crc.specs.Checked.{low_bytes}
 use Rattle.postcard_crc.specs.Reading.{IsWithCrc}
 use Rattle.postcard_wire.specs.Spelling.{canonical}
 use Rattle.postcard_crc.proofs.Room.{at_success, slice_within, slice_room}

@@ -2,7 +2,7 @@
 use Rattle.std.proofs.Common.{◌+◌, ◌≤◌, ◌++◌, List, ℕ, length, ap, ◌∙◌, rules, arith}
 use Rattle.std.specs.Result.{IfOk}
 use Rattle.std.proofs.lemmas.Result.{IfOk-weaker}
-use Rattle.crc.specs.Frame.{low_bytes}
+use Rattle.crc.specs.Checked.{low_bytes}
 use Rattle.postcard_crc.specs.Reading.{IsWithCrc}
 use Rattle.postcard_wire.specs.Spelling.{canonical}
 use Rattle.postcard_crc.proofs.Room.{at_success, list_within}

@@ -1,6 +1,6 @@
 -- The front of the bytes of a wider number.
 use Rattle.std.proofs.Common.{◌≡◌, ◌/◌, ◌≤◌, take, ap, ◌∙◌, arith}
-use Rattle.crc.specs.Frame.{low_bytes}
+use Rattle.crc.specs.Checked.{low_bytes}
 use Rattle.postcard_crc.proofs.Bytes.{front_bytes}
 use Rattle.postcard_crc.proofs.trailer.trailer_of.Goals as goal
 

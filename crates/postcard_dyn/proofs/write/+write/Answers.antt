@@ -11,7 +11,9 @@ use Rattle.postcard_ser.proofs.PartByPart.{wrote_then, wrote_stop, wrote_err, wr
 use Rattle.postcard_shape.specs.Base256.{low_first}
 use Rattle.postcard_shape.proofs.Bytes.{bytes_of_bytes}
 use Rattle.postcard_dyn.specs.Tree.{bits_tree, tree}
-use Rattle.postcard_dyn.specs.declared.value.Value.{F32, F64, Present, Seq, Variant, the_lemmas}
+use Rattle.postcard_dyn_schema.specs.Fixed.{size_of}
+use Rattle.postcard_dyn.specs.Fixed.{order_of, fixed_tree}
+use Rattle.postcard_dyn.specs.declared.value.Value.{F32, F64, Fixed, Present, Seq, Variant, the_lemmas}
 use Rattle.postcard_dyn.proofs.write.+write.Goals as goal
 
 pub write_all-returns-in_err-write_value : goal.write_all-returns-in_err-write_value
@@ -83,3 +85,11 @@ write_value-returns-in-F64 g t c =
     let n = c.in-F64.bits in
     let seen : tree (F64 n) ≡ bits_tree 8 n = search (rules, the_lemmas) in
     rw (c.in-F64.is, seen, bytes_of_bytes (low_first 8 n)) c.serialize-in-F64.ensures.wrote
+
+pub write_value-returns-in-Fixed : goal.write_value-returns-in-Fixed
+write_value-returns-in-Fixed g t c =
+    let o = c.in-Fixed.order in
+    let i = c.in-Fixed.integer in
+    let n = c.in-Fixed.bits in
+    let seen : tree (Fixed o i n) ≡ fixed_tree o (size_of i) n = search (rules, the_lemmas) in
+    rw (c.in-Fixed.is, seen, bytes_of_bytes ((order_of o).spell (size_of i) n)) c.write_bits.ensures

@@ -14,14 +14,14 @@ write_declaration-loop-at-preserved t c = (
   spelled_more c.args.tokens.now c.args.known.now c.args.declaration.now c.loop-at.at _ _ _ c.loop-at.invariant.1 c.in_ok-write_token.ensures.written,
 )
 
-pub write_token-returns-in_err-enter-clause-fault : goal.write_token-returns-in_err-enter-clause-fault
-write_token-returns-in_err-enter-clause-fault t c =
+pub write_token-returns-in_err-enter-clause-problem : goal.write_token-returns-in_err-enter-clause-problem
+write_token-returns-in_err-enter-clause-problem t c =
     let p = err_from_is_err_and c.from_residual-in_err-enter.result c.from_residual-in_err-enter.ensures.1 in
     rw (p.1, p.2) (λ is. found_again c.args.tokens.now c.args.known.now c.args.within.now.items c.args.declaration.now c.in-Some.other c.args.at _
-    c.requires.start c.requires.end c.in-Some.ensures.found (c.in_err-enter.ensures.fault is))
+    c.requires.start c.requires.end c.in-Some.ensures.found (c.in_err-enter.ensures.problem is))
 
-pub write_token-returns-in_err-write_declaration-clause-fault : goal.write_token-returns-in_err-write_declaration-clause-fault
-write_token-returns-in_err-write_declaration-clause-fault t c =
+pub write_token-returns-in_err-write_declaration-clause-problem : goal.write_token-returns-in_err-write_declaration-clause-problem
+write_token-returns-in_err-write_declaration-clause-problem t c =
     let p = err_from_is_err_and c.from_residual-in_err-write_declaration.result c.from_residual-in_err-write_declaration.ensures.1 in
     rw (p.1, p.2) (λ is. found_deeper c.args.tokens.now c.args.known.now c.args.within.now.items _ c.args.declaration.now c.in-Some.other c.args.at _
-    c.requires.start c.requires.end c.in-Some.ensures.found c.in_ok-enter.ensures.entered (c.in_err-write_declaration.ensures.fault is))
+    c.requires.start c.requires.end c.in-Some.ensures.found c.in_ok-enter.ensures.entered (c.in_err-write_declaration.ensures.problem is))

@@ -1,16 +1,16 @@
 use Rattle.std.proofs.Common.{◌≡◌, [], ◌∷◌, ◌++◌, ap, ◌∙◌, rules}
 use Rattle.std.proofs.lemmas.Result.{err_from_is_err_and}
 use Rattle.postcard_dyn_file.specs.Tokens.{spelling}
-use Rattle.postcard_dyn_file.proofs.Spelled.{fault_of_declaration, spelled_by}
+use Rattle.postcard_dyn_file.proofs.Spelled.{problem_of_declaration, spelled_by}
 use Rattle.postcard_dyn_file.proofs.expand.words_of.Goals as goal
 
-pub returns-in_err-write_declaration-clause-fault : goal.returns-in_err-write_declaration-clause-fault
-returns-in_err-write_declaration-clause-fault c =
+pub returns-in_err-write_declaration-clause-problem : goal.returns-in_err-write_declaration-clause-problem
+returns-in_err-write_declaration-clause-problem c =
     let p = err_from_is_err_and c.from_residual.result c.from_residual.ensures.1 in
     let pushed : c.push.new.self.items ≡ c.new-within.result.items ++ c.in-Some.declaration ∷ [] = search rules in
     let first = pushed ∙ ap (λ ds. ds ++ c.in-Some.declaration ∷ []) c.new-within.ensures.items in
-    rw (p.1, p.2) (λ is. fault_of_declaration c.args.tokens.now c.args.known.now _ c.args.name.now c.in-Some.declaration _ c.in-Some.ensures.found.0 c.in-Some.ensures.found.1
-    first is c.in_err-write_declaration.ensures.fault)
+    rw (p.1, p.2) (λ is. problem_of_declaration c.args.tokens.now c.args.known.now _ c.args.name.now c.in-Some.declaration _ c.in-Some.ensures.found.0 c.in-Some.ensures.found.1
+    first is c.in_err-write_declaration.ensures.problem)
 
 pub returns-clause-spelled : goal.returns-clause-spelled
 returns-clause-spelled c =

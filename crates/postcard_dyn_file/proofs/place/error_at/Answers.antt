@@ -5,7 +5,7 @@ use Rattle.postcard_dyn_file.proofs.place.error_at.Goals as goal
 
 pub returns-clause-place : goal.returns-clause-place
 returns-clause-place c =
-    let file = c.args.file.now in let left = c.args.fault.left in let start = c.line_start.result in
+    let file = c.args.file.now in let left = c.args.problem_at.left in let start = c.line_start.result in
     let size : length (drop start file) - left ≡ (length file - left) - start = omega (arith, length-drop start file) in
     let counted = ap (λ text. characters (take (length text - left) text) + 1) c.split_at.ensures.back in (
       omega arith,

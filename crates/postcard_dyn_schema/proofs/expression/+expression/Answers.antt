@@ -49,7 +49,7 @@ pub read_braces-returns-then-begins_field-clause-refused : goal.read_braces-retu
 read_braces-returns-then-begins_field-clause-refused t c =
     let T = IsType c.args.depth in
     let a = c.args.rest.now.now in
-    if_err_as (λ fault. IsRefusal fault.problem (HasFront Anything (IsFieldsRest T) a)) (λ fault. IsRefusal fault.problem (HasFront Anything (IsBracesRest T) a)) c.read_fields.result (λ fault k. refusal (λ (s, r, h, free). (s, r, braces_as_fields c.args.depth s a r (c.begins_field.ensures.0 c.if-begins_field.true) h, free)) k) c.read_fields.ensures.refused
+    if_err_as (λ found. IsRefusal found.problem (HasFront Anything (IsFieldsRest T) a)) (λ found. IsRefusal found.problem (HasFront Anything (IsBracesRest T) a)) c.read_fields.result (λ found k. refusal (λ (s, r, h, free). (s, r, braces_as_fields c.args.depth s a r (c.begins_field.ensures.0 c.if-begins_field.true) h, free)) k) c.read_fields.ensures.refused
 
 pub read_braces-returns-in-Ok-clause-one : goal.read_braces-returns-in-Ok-clause-one
 read_braces-returns-in-Ok-clause-one t c = λ s r h free.
@@ -84,7 +84,7 @@ read_content-returns-then-take-clause-refused t c =
     let b = c.take.new.rest.now in
     let d = c.read_tuple.new.rest.now in
     let sign = c.take.ensures.taken c.if-take.true in
-    if_err_as (λ fault. IsRefusal fault.problem (HasFront Anything (IsTupleRest T) b)) (λ fault. IsRefusal fault.problem (HasFront (GoesOnBy follows_variant) (IsContent T) a)) c.read_tuple.result (λ fault k. refusal (λ (s, r, h, goes). (s, r, content_in_tuple T s a b r h goes sign, tt)) k) c.read_tuple.ensures.refused
+    if_err_as (λ found. IsRefusal found.problem (HasFront Anything (IsTupleRest T) b)) (λ found. IsRefusal found.problem (HasFront (GoesOnBy follows_variant) (IsContent T) a)) c.read_tuple.result (λ found k. refusal (λ (s, r, h, goes). (s, r, content_in_tuple T s a b r h goes sign, tt)) k) c.read_tuple.ensures.refused
 
 pub read_content-returns-then-take-2-clause-spelled : goal.read_content-returns-then-take-2-clause-spelled
 read_content-returns-then-take-2-clause-spelled t c =
@@ -111,7 +111,7 @@ read_content-returns-then-take-2-clause-refused t c =
     let b = c.take-2.new.rest.now in
     let d = c.read_fields.new.rest.now in
     let sign = rw (c.take.ensures.left c.if-take.false) at (c.take-2.ensures.taken c.if-take-2.true) in
-    if_err_as (λ fault. IsRefusal fault.problem (HasFront Anything (IsFieldsRest T) b)) (λ fault. IsRefusal fault.problem (HasFront (GoesOnBy follows_variant) (IsContent T) a)) c.read_fields.result (λ fault k. refusal (λ (s, r, h, goes). (s, r, content_in_fields T s a b r h goes sign, tt)) k) c.read_fields.ensures.refused
+    if_err_as (λ found. IsRefusal found.problem (HasFront Anything (IsFieldsRest T) b)) (λ found. IsRefusal found.problem (HasFront (GoesOnBy follows_variant) (IsContent T) a)) c.read_fields.result (λ found k. refusal (λ (s, r, h, goes). (s, r, content_in_fields T s a b r h goes sign, tt)) k) c.read_fields.ensures.refused
 
 pub read_content-returns-clause-spelled : goal.read_content-returns-clause-spelled
 read_content-returns-clause-spelled t c =
@@ -151,7 +151,7 @@ read_plain-returns-then-take-clause-refused t c =
     let b = c.take.new.rest.now in
     let d = c.read_list.new.rest.now in
     let sign = c.take.ensures.taken c.if-take.true in
-    if_err_as (λ fault. IsRefusal fault.problem (HasFront Anything (IsListRest T) b)) (λ fault. IsRefusal fault.problem (HasFront EndsWord (IsPlain T) a)) c.read_list.result (λ fault k. refusal (λ (s, r, h, goes). (s, r, plain_list_left T s a b r h sign, tt)) k) c.read_list.ensures.refused
+    if_err_as (λ found. IsRefusal found.problem (HasFront Anything (IsListRest T) b)) (λ found. IsRefusal found.problem (HasFront EndsWord (IsPlain T) a)) c.read_list.result (λ found k. refusal (λ (s, r, h, goes). (s, r, plain_list_left T s a b r h sign, tt)) k) c.read_list.ensures.refused
 
 pub read_plain-returns-then-take-2-clause-spelled : goal.read_plain-returns-then-take-2-clause-spelled
 read_plain-returns-then-take-2-clause-spelled t c =
@@ -178,7 +178,7 @@ read_plain-returns-then-take-2-clause-refused t c =
     let b = c.take-2.new.rest.now in
     let d = c.read_tuple.new.rest.now in
     let sign = rw (c.take.ensures.left c.if-take.false) at (c.take-2.ensures.taken c.if-take-2.true) in
-    if_err_as (λ fault. IsRefusal fault.problem (HasFront Anything (IsTupleRest T) b)) (λ fault. IsRefusal fault.problem (HasFront EndsWord (IsPlain T) a)) c.read_tuple.result (λ fault k. refusal (λ (s, r, h, goes). (s, r, plain_tuple_left T s a b r h sign, tt)) k) c.read_tuple.ensures.refused
+    if_err_as (λ found. IsRefusal found.problem (HasFront Anything (IsTupleRest T) b)) (λ found. IsRefusal found.problem (HasFront EndsWord (IsPlain T) a)) c.read_tuple.result (λ found k. refusal (λ (s, r, h, goes). (s, r, plain_tuple_left T s a b r h sign, tt)) k) c.read_tuple.ensures.refused
 
 pub read_plain-returns-then-take-3-clause-spelled : goal.read_plain-returns-then-take-3-clause-spelled
 read_plain-returns-then-take-3-clause-spelled t c =
@@ -205,7 +205,7 @@ read_plain-returns-then-take-3-clause-refused t c =
     let b = c.take-3.new.rest.now in
     let d = c.read_braces.new.rest.now in
     let sign = rw (c.take-2.ensures.left c.if-take-2.false ∙ c.take.ensures.left c.if-take.false) at (c.take-3.ensures.taken c.if-take-3.true) in
-    if_err_as (λ fault. IsRefusal fault.problem (HasFront Anything (IsBracesRest T) b)) (λ fault. IsRefusal fault.problem (HasFront EndsWord (IsPlain T) a)) c.read_braces.result (λ fault k. refusal (λ (s, r, h, goes). (s, r, plain_braces_left T s a b r h sign, tt)) k) c.read_braces.ensures.refused
+    if_err_as (λ found. IsRefusal found.problem (HasFront Anything (IsBracesRest T) b)) (λ found. IsRefusal found.problem (HasFront EndsWord (IsPlain T) a)) c.read_braces.result (λ found k. refusal (λ (s, r, h, goes). (s, r, plain_braces_left T s a b r h sign, tt)) k) c.read_braces.ensures.refused
 
 pub read_plain-returns-clause-spelled : goal.read_plain-returns-clause-spelled
 read_plain-returns-clause-spelled t c =
@@ -247,7 +247,7 @@ read_plain-returns-clause-refused t c =
     subst (λ z. TakesPhrase (IsWorded T s) z r) (sym three) (plain_word_left T s a r (c.take.ensures.none c.if-take.false refl)
     (λ b sign. c.take-2.ensures.none c.if-take-2.false refl b (subst (λ z. TakesPhrase (IsSign 40) z b) (sym one) sign))
     (λ b sign. c.take-3.ensures.none c.if-take-3.false refl b (subst (λ z. TakesPhrase (IsSign 123) z b) (sym two) sign)) h) in
-    if_err_as (λ fault. IsRefusal fault.problem (HasFront EndsWord (IsWorded T) b)) (λ fault. IsRefusal fault.problem (HasFront EndsWord (IsPlain T) a)) c.read_worded.result (λ fault k. refusal (λ (s, r, h, ends). (s, r, left s r h, ends)) k) c.read_worded.ensures.refused
+    if_err_as (λ found. IsRefusal found.problem (HasFront EndsWord (IsWorded T) b)) (λ found. IsRefusal found.problem (HasFront EndsWord (IsPlain T) a)) c.read_worded.result (λ found k. refusal (λ (s, r, h, ends). (s, r, left s r h, ends)) k) c.read_worded.ensures.refused
 
 pub read_worded-returns-then-is_empty-clause-refused : goal.read_worded-returns-then-is_empty-clause-refused
 read_worded-returns-then-is_empty-clause-refused t c =
@@ -354,8 +354,8 @@ read_worded-returns-in_ok-open_angle-in-Angled-clause-refused t c =
     let e = c.read_angled.new.rest.now in
     let left : (s : Schema) (r : List ℕ) → TakesPhrase (IsWorded T s) a r → EndsWord r → TakesPhrase (P s) d r = λ s r h ends.
     behind_sign 60 (P s) b d r refl c.in_ok-open_angle-in-Angled.ensures.taken (rest s r h ends) in
-    if_err_as (λ fault. IsRefusal fault.problem (HasFront Anything P d)) (λ fault. IsRefusal fault.problem (HasFront EndsWord (IsWorded T) a)) c.read_angled.result
-    (λ fault f. refusal (λ (s, r, h, ends). (s, r, left s r h ends, tt)) f) c.read_angled.ensures.refused
+    if_err_as (λ found. IsRefusal found.problem (HasFront Anything P d)) (λ found. IsRefusal found.problem (HasFront EndsWord (IsWorded T) a)) c.read_angled.result
+    (λ found f. refusal (λ (s, r, h, ends). (s, r, left s r h ends, tt)) f) c.read_angled.ensures.refused
 
 pub read_angled-returns-in-Holder-clause-one : goal.read_angled-returns-in-Holder-clause-one
 read_angled-returns-in-Holder-clause-one t c =
@@ -440,7 +440,7 @@ read_holder-returns-clause-refused t c =
     let x = c.in_ok-inner.inner in
     let d = c.read_ended.new.rest.now in
     let read : (s : Schema) (r : List ℕ) → TakesPhrase (IsOfOne h P s) a r → OneRead h s (type_of x) d r = λ s r k. one_read P h s x a d r c.in_ok-inner.ensures.one k in
-    if_err_as (λ fault. IsRefusal fault.problem (MayHold h (type_of x))) (λ fault. IsRefusal fault.problem (HasFront Anything (IsOfOne h P) a)) c.of_type.result (λ fault f. refusal (λ (s, r, k, free). (read s r k).may) f) c.of_type.ensures.refused
+    if_err_as (λ found. IsRefusal found.problem (MayHold h (type_of x))) (λ found. IsRefusal found.problem (HasFront Anything (IsOfOne h P) a)) c.of_type.result (λ found f. refusal (λ (s, r, k, free). (read s r k).may) f) c.of_type.ensures.refused
 
 pub read_pair-returns-in_err-first-clause-refused : goal.read_pair-returns-in_err-first-clause-refused
 read_pair-returns-in_err-first-clause-refused t c =
@@ -501,8 +501,8 @@ read_pair-returns-clause-refused t c =
     let y = c.in_ok-second.second in
     let d = c.read_ended-2.new.rest.now in
     let read : (s : Schema) (r : List ℕ) → TakesPhrase (IsOfTwo p P Q s) a r → TwoRead p s (type_of x) (type_of y) d r = λ s r k. two_read Q p s y (type_of x) c1 d r c.in_ok-second.ensures.one (left s r k) in
-    if_err_as (λ fault. IsRefusal fault.problem (MayPair p (type_of x) (type_of y))) (λ fault. IsRefusal fault.problem (HasFront Anything (IsOfTwo p P Q) a)) c.of_types.result
-    (λ fault f. refusal (λ (s, r, k, free). (read s r k).may) f) c.of_types.ensures.refused
+    if_err_as (λ found. IsRefusal found.problem (MayPair p (type_of x) (type_of y))) (λ found. IsRefusal found.problem (HasFront Anything (IsOfTwo p P Q) a)) c.of_types.result
+    (λ found f. refusal (λ (s, r, k, free). (read s r k).may) f) c.of_types.ensures.refused
 
 pub read_list-returns-in_err-element-clause-refused : goal.read_list-returns-in_err-element-clause-refused
 read_list-returns-in_err-element-clause-refused t c =
@@ -669,8 +669,8 @@ read_map-returns-clause-refused t c =
     let d = c.read_ended-2.new.rest.now in
     let read : (s : Schema) (r : List ℕ) → TakesPhrase (IsMapRest T s) a r → TwoRead pairs.Map s (type_of x) (type_of y) d r = λ s r h.
     two_read (IsEndedBy T 125) pairs.Map s y (type_of x) c2 d r c.in_ok-value.ensures.one (value s r h) in
-    if_err_as (λ fault. IsRefusal fault.problem (MayPair pairs.Map (type_of x) (type_of y))) (λ fault. IsRefusal fault.problem (HasFront Anything (IsMapRest T) a)) c.map_of.result
-    (λ fault f. refusal (λ (s, r, h, free). (read s r h).may) f) c.map_of.ensures.refused
+    if_err_as (λ found. IsRefusal found.problem (MayPair pairs.Map (type_of x) (type_of y))) (λ found. IsRefusal found.problem (HasFront Anything (IsMapRest T) a)) c.map_of.result
+    (λ found f. refusal (λ (s, r, h, free). (read s r h).may) f) c.map_of.ensures.refused
 
 pub read_enum-loop-init : goal.read_enum-loop-init
 read_enum-loop-init t c =
@@ -1219,7 +1219,7 @@ read_referred-returns-clause-refused t c =
     let same : b ≡ x = c.take.ensures.left c.references-test.false in
     let left : (s : Schema) (r : List ℕ) → TakesPhrase (IsReferred T s) a r → TakesPhrase (IsPlain T s) b r = λ s r h.
     subst (λ z. TakesPhrase (IsPlain T s) z r) (sym same) (referred_is_plain T s x r (c.take.ensures.none c.references-test.false refl) (c.references.invariant.left s r h)) in
-    if_err_as (λ fault. IsRefusal fault.problem (HasFront EndsWord (IsPlain T) b)) (λ fault. IsRefusal fault.problem (HasFront EndsWord (IsReferred T) a)) c.read_plain.result (λ fault k. refusal (λ (s, r, h, ends). (s, r, left s r h, ends)) k) c.read_plain.ensures.refused
+    if_err_as (λ found. IsRefusal found.problem (HasFront EndsWord (IsPlain T) b)) (λ found. IsRefusal found.problem (HasFront EndsWord (IsReferred T) a)) c.read_plain.result (λ found k. refusal (λ (s, r, h, ends). (s, r, left s r h, ends)) k) c.read_plain.ensures.refused
 
 pub read_type-returns-then-depth-eq0-clause-refused : goal.read_type-returns-then-depth-eq0-clause-refused
 read_type-returns-then-depth-eq0-clause-refused t c =
@@ -1251,7 +1251,7 @@ read_type-returns-then-begins_enum-clause-refused t c =
     let a = c.args.rest.now.now in
     let starts = c.begins_enum.ensures.0 c.if-begins_enum.true in
     let d = c.read_enum.new.rest.now in
-    if_err_as (λ fault. IsRefusal fault.problem (HasFront (GoesOnBy follows_type) (IsEnumText (IsType e)) a)) (λ fault. IsRefusal fault.problem (HasFront (GoesOnBy follows_type) (IsType c.args.depth) a)) c.read_enum.result (λ fault k. refusal (λ (s, r, h, goes). (s, r, type_as_enum c.args.depth e s a r deep starts goes h, goes)) k) c.read_enum.ensures.refused
+    if_err_as (λ found. IsRefusal found.problem (HasFront (GoesOnBy follows_type) (IsEnumText (IsType e)) a)) (λ found. IsRefusal found.problem (HasFront (GoesOnBy follows_type) (IsType c.args.depth) a)) c.read_enum.result (λ found k. refusal (λ (s, r, h, goes). (s, r, type_as_enum c.args.depth e s a r deep starts goes h, goes)) k) c.read_enum.ensures.refused
 
 pub read_type-returns-in_err-schema-clause-refused : goal.read_type-returns-in_err-schema-clause-refused
 read_type-returns-in_err-schema-clause-refused t c =

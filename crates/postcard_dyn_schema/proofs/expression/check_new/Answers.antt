@@ -12,8 +12,8 @@ pub returns-then-eq-clause-twice : goal.returns-then-eq-clause-twice
 returns-then-eq-clause-twice c =
     let same : string_bytes c.in-Named.other ≡ c.args.name.now = sym c.as_bytes.ensures.value ∙ (slice_eq-Decides Decides-eqb _ _ _ c.eq.ensures).0 c.if-eq.true in
     let low : c.loop-schema.schema-index < length c.args.before.now.items = grind (arith, common_steps) in (
-      c.fault_at.ensures.problem,
-      c.fault_at.ensures.left,
+      c.problem_at.ensures.problem,
+      c.problem_at.ensures.left,
       (c.schema-item.result, (c.loop-schema.schema-index, low, sym (rw c.deref-schema-items.ensures.value at c.schema-item.is)), (c.in-Named.other, c.in-Named.field-1, c.in-Named.is, same)),
     )
 

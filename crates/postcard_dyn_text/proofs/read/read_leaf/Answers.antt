@@ -7,6 +7,8 @@ use Rattle.std.proofs.lemmas.Str.{IsUtf8-string_bytes}
 use Rattle.postcard_wire.specs.Tree.{Byte, Boolean, Num, Int, Text, Seq, trees}
 use Rattle.postcard_wire.specs.Tree as nodes
 use Rattle.std.specs.Float.{binary32, binary64}
+use Rattle.postcard_dyn_schema.specs.Fixed.{size_of, is_signed}
+use Rattle.postcard_dyn.specs.Fixed.{fixed_tree}
 use Rattle.postcard_dyn.specs.Tree.{tree, bits_tree}
 use Rattle.postcard_dyn.specs.declared.value.Value.{Str, Bytes, the_lemmas}
 use Rattle.postcard_dyn.specs.declared.value.Value as values
@@ -14,9 +16,9 @@ use Rattle.postcard_dyn_text.specs.Numbers.{IsUnsigned, IsSigned}
 use Rattle.postcard_dyn_text.specs.Spelled.{IsTruth}
 use Rattle.postcard_dyn_text.proofs.BracketFronts.{memory_passed}
 use Rattle.postcard_dyn_text.proofs.Fronts.{goes_number, goes_word, goes_float}
-use Rattle.postcard_dyn_text.proofs.LeafFronts.{byte_of, wide, truth_front, u8_front, u16_front, u32_front, u64_front, u128_front, i8_front, i16_front, i32_front, i64_front, i128_front, f32_front, f64_front, char_front, text_front, bytes_front}
-use Rattle.postcard_dyn_text.proofs.Rows.{is_bytes, is_float}
-use Rattle.postcard_dyn_text.proofs.Spellings.{number_led, quoted_led, bytes_led, float_led}
+use Rattle.postcard_dyn_text.proofs.LeafFronts.{byte_of, wide, truth_front, u8_front, u16_front, u32_front, u64_front, u128_front, i8_front, i16_front, i32_front, i64_front, i128_front, f32_front, f64_front, fixed_front, char_front, text_front, bytes_front}
+use Rattle.postcard_dyn_text.proofs.Rows.{is_bytes, is_fixed, is_float}
+use Rattle.postcard_dyn_text.proofs.Spellings.{number_led, bits_led, quoted_led, bytes_led, float_led}
 use Rattle.postcard_dyn_text.proofs.read.read_leaf.Goals as goal
 
 -- A number that fits in the width is kept as it is.
@@ -422,3 +424,39 @@ returns-in_err-read_bytes-in-Bytes-clause-accepted c =
     rw c.in-Bytes.is (λ t after r h goes.
     let k = bytes_front t c.args.rest.now.now c.skip_blanks.new.rest.now after c.skip_blanks.ensures r h in
     memory_passed _ c.from_residual-in_err-read_bytes-in-Bytes.result _ c.from_residual-in_err-read_bytes-in-Bytes.ensures.1 (c.in_err-read_bytes-in-Bytes.ensures.accepted k.0 after k.2 (goes_word after goes)))
+
+pub returns-in_ok-read_bits-in-Fixed-clause-value : goal.returns-in_ok-read_bits-in-Fixed-clause-value
+returns-in_ok-read_bits-in-Fixed-clause-value c =
+    let o = c.in-Fixed.order in
+    let i = c.in-Fixed.integer in
+    let n = c.in_ok-read_bits-in-Fixed.field-0 in
+    let seen : tree (values.Fixed o i n) ≡ fixed_tree o (size_of i) n = search (rules, the_lemmas) in
+    rw c.in-Fixed.is (is_fixed o (size_of i) n (values.Fixed o i n) seen)
+
+pub returns-in_ok-read_bits-in-Fixed-clause-spelled : goal.returns-in_ok-read_bits-in-Fixed-clause-spelled
+returns-in_ok-read_bits-in-Fixed-clause-spelled c =
+    let o = c.in-Fixed.order in
+    let i = c.in-Fixed.integer in
+    let n = c.in_ok-read_bits-in-Fixed.field-0 in
+    let seen : tree (values.Fixed o i n) ≡ fixed_tree o (size_of i) n = search (rules, the_lemmas) in
+    let taken = bits_led (is_signed i) i n c.args.rest.now.now c.skip_blanks.new.rest.now c.read_bits.new.rest.now c.skip_blanks.ensures c.in_ok-read_bits-in-Fixed.ensures.spelled in
+    rw (c.in-Fixed.is, seen) (taken.0, (n, refl, taken.1), taken.2)
+
+pub returns-in_ok-read_bits-in-Fixed-clause-accepted : goal.returns-in_ok-read_bits-in-Fixed-clause-accepted
+returns-in_ok-read_bits-in-Fixed-clause-accepted c =
+    let o = c.in-Fixed.order in
+    let i = c.in-Fixed.integer in
+    let n = c.in_ok-read_bits-in-Fixed.field-0 in
+    let seen : tree (values.Fixed o i n) ≡ fixed_tree o (size_of i) n = search (rules, the_lemmas) in
+    rw c.in-Fixed.is (λ t after r h goes.
+    let k = fixed_front o i t c.args.rest.now.now c.skip_blanks.new.rest.now after c.skip_blanks.ensures h in
+    let got = c.in_ok-read_bits-in-Fixed.ensures.accepted k.0 after k.2 (goes_number after goes) in
+    (k.1 ∙ ap (fixed_tree o (size_of i)) (sym got.0) ∙ sym seen, got.1))
+
+pub returns-in_err-read_bits-in-Fixed-clause-accepted : goal.returns-in_err-read_bits-in-Fixed-clause-accepted
+returns-in_err-read_bits-in-Fixed-clause-accepted c =
+    let o = c.in-Fixed.order in
+    let i = c.in-Fixed.integer in
+    rw c.in-Fixed.is (λ t after r h goes.
+    let k = fixed_front o i t c.args.rest.now.now c.skip_blanks.new.rest.now after c.skip_blanks.ensures h in
+    absurd (c.in_err-read_bits-in-Fixed.ensures.accepted k.0 after k.2 (goes_number after goes)))

@@ -41,29 +41,29 @@ use prog.Wp.{WpFn}
 use types.Kit.{use0, given, learn}
 use Rattle.postcard_frame.specs.Frame.{HasNoData}
 use Rattle.postcard_frame.specs.Buffer.{KeepsFromZero, HasDataOf}
-use Rattle.postcard_crc.specs.Parts.{IsDecoded}
+use Rattle.postcard_crc.specs.Parts.{IsDecodedFrame}
 use Rattle.postcard_crc.specs.InFrame.{AcceptsChecked, ReadsBackChecked, RefusesDamage, HasDataErrors, IsReadOf}
 use Rattle.postcard_crc.specs.Reading.{ReadsFrameChecked}
-use Rattle.postcard_crc.specs.declared.de.cobs.Decoded.{Decoded}
-use Rattle.postcard_crc.specs.contracts.de.cobs.Decoded as decoded
-use Rattle.postcard_crc.proofs.de.cobs.Decoded.TheLaws as decoded_laws
+use Rattle.postcard_crc.specs.declared.de.cobs.DecodedFrame.{DecodedFrame}
+use Rattle.postcard_crc.specs.contracts.de.cobs.DecodedFrame as decoded
+use Rattle.postcard_crc.proofs.de.cobs.DecodedFrame.TheLaws as decoded_laws
 use Rattle.postcard_crc.specs.contracts.de.cobs.from_bytes_cobs as f
 use Rattle.postcard_crc.proofs.de.cobs.from_bytes_cobs.Statement.{statement}
 use Rattle.postcard_crc.proofs.de.cobs.from_bytes_cobs.Code as code
-use Rattle.postcard_crc.specs.contracts.de.cobs.decode as g
-use Rattle.postcard_crc.proofs.de.cobs.decode.Met as g-thm
-use Rattle.postcard_crc.proofs.de.cobs.decode.Statement.{statement as decode_says}
+use Rattle.postcard_crc.specs.contracts.de.cobs.decode_frame as g
+use Rattle.postcard_crc.proofs.de.cobs.decode_frame.Met as g-thm
+use Rattle.postcard_crc.proofs.de.cobs.decode_frame.Statement.{statement as decode_frame_says}
 use Rattle.postcard_memory.specs.contracts.cut.split_front as h
 use Rattle.postcard_memory.proofs.cut.split_front.Met as h-thm
-use Rattle.postcard_crc.specs.contracts.de.cobs.read_data as r
-use Rattle.postcard_crc.proofs.de.cobs.read_data.Met as r-thm
-use Rattle.postcard_crc.proofs.de.cobs.read_data.Statement.{statement as read_data_says}
+use Rattle.postcard_crc.specs.contracts.de.cobs.read_checked as r
+use Rattle.postcard_crc.proofs.de.cobs.read_checked.Met as r-thm
+use Rattle.postcard_crc.proofs.de.cobs.read_checked.Statement.{statement as read_checked_says}
 use Rattle.postcard_crc.proofs.Decoding.{data_within, keeps_all}
 use Rattle.postcard_frame.proofs.Follows.{ends_so}
 use Rattle.postcard_frame.proofs.Values.{one, Paired, pair_in}
 
 -- The walk, by what the functions that it calls promise.
-walk : {M : Type 1} → decode_says M → read_data_says M → statement M
+walk : {M : Type 1} → decode_frame_says M → read_checked_says M → statement M
 walk decodes reads 𝓤 𝓛 𝓜 𝓡 wired T W I LT LW LI copies Gh D Sh Ds Wh Dw Ch Dc Ih Di Dt De P met shaped width clone implements glue glue' =
     let 𝓣 = tables 𝓤 𝓛.H 𝓜 𝓡 𝓡.env in let En = f.ended T W I Gh D Sh Ds Wh Dw Ch Dc Ih Di Dt De P in
     let args : Args = bounded (a_type ∷ a_type ∷ a_type ∷ []) (T, (W, (I, tt))) (dcons D (dcons Ds (dcons Dw (dcons Dc (dcons Di (dcons Dt (dcons De dnil))))))) in let fn : Fn = inst_fn args code.function in
@@ -92,18 +92,18 @@ walk decodes reads 𝓤 𝓛 𝓜 𝓡 wired T W I LT LW LI copies Gh D Sh Ds Wh
     enter ! _ _ _ _ _ $ alloc_all ! (λ l. pass_all ! refl (ready.2, ((tt, (tt, (record { fits = long }, tt))), (digest_ready.2, tt))) $
     sets ! (addr ! (from ! (fld ! refl (hop ! (look_in_at ! 2 (sub ! 0 refl (whole !))) (stop !))))) refl (tt, tt) $
     sets ! (agg ! (and_then ! (get ! refl) (and_then ! (get_in ! (fld ! refl (stop !)) (sub ! 1 refl (whole !))) (no_more !)))) refl (tt, (tt, (record { fits = long }, tt))) $
-    -- `decode`
+    -- `decode_frame`
     let G = triple_of 𝓛 g.signature (g.spec 𝓛 𝓜.mem 𝓡.returns) in
     let z : G.Ghost = (((κ, tt), (q, tt), tt, (s, tt), (mut_slice_vals s, tt)), tt) in
     nothing ! $ move ! (1 ∷ 0 ∷ []) $ join ! $ nothing ! $ move ! (3 ∷ 0 ∷ []) $ join ! $ join ! $ nothing ! $ move ! (1 ∷ 0 ∷ []) $ use2 𝓛 (raw (G.pre z)) (id⊢ 𝓤 _) $
-    calls_at ! (framed 𝓤 𝓛.H 𝓜 𝓣) G (decodes 𝓤 𝓛 𝓜 𝓡 (code.calls-postcard_crc::de::cobs::decode 𝓡.env wired)) z (and_then ! (get ! refl) (no_more !)) (λ v.
-    use1 𝓛 (later (some (λ (d : Decoded). ((‵ (flft κ q) ⊛ ‵ ftrue) ⊛ ‵ (Dec.own_val d (v ∷ []))) ⊛
-    some (λ (ws : Lasts g.ended (κ, tt) (s, tt)). ‵ (lasts g.ended (κ, tt) (s, tt) ws) ⊛ raw (fact 𝓤 (d.all.ghost_name ≡ γ)) ⊛ raw (fact 𝓤 (IsDecoded xs d)))))) (id⊢ 𝓤 _) $
+    calls_at ! (framed 𝓤 𝓛.H 𝓜 𝓣) G (decodes 𝓤 𝓛 𝓜 𝓡 (code.calls-postcard_crc::de::cobs::decode_frame 𝓡.env wired)) z (and_then ! (get ! refl) (no_more !)) (λ v.
+    use1 𝓛 (later (some (λ (d : DecodedFrame). ((‵ (flft κ q) ⊛ ‵ ftrue) ⊛ ‵ (Dec.own_val d (v ∷ []))) ⊛
+    some (λ (ws : Lasts g.ended (κ, tt) (s, tt)). ‵ (lasts g.ended (κ, tt) (s, tt) ws) ⊛ raw (fact 𝓤 (d.all.ghost_name ≡ γ)) ⊛ raw (fact 𝓤 (IsDecodedFrame xs d)))))) (id⊢ 𝓤 _) $
     await ! tt $ pick ! (λ d. split ! $ split ! $ move ! (2 ∷ []) $ pick ! (λ ws. split ! $ drop ! $ split ! $ heard ! _ (λ same. heard ! _ (λ made.
     -- [the token; the struct; the allocator; the other tokens; the digest]
     move ! (1 ∷ []) $ peeks ! Dec (Is Dec) (shows 𝓛 Dec) d (v ∷ []) (λ is.
-    let spelled = (decoded_laws.lowers (named_lft 1 0 tt (κ, tt))).val_is d (v ∷ []) is in let all : List ℕ = d.all.now in let n : ℕ = d.end in let front : List ℕ = take n all in let back : List ℕ = drop_list n all in
-    let long₁ : length all < 2 ^ 64 = is.1.1.0.0.1.0 in let fits₁ : n < 2 ^ 64 = is.1.1.1.0.1 in let fits₂ : d.len < 2 ^ 64 = is.1.1.1.1.0.1 in
+    let spelled = (decoded_laws.lowers (named_lft 1 0 tt (κ, tt))).val_is d (v ∷ []) is in let all : List ℕ = d.all.now in let n : ℕ = d.frame_len in let front : List ℕ = take n all in let back : List ℕ = drop_list n all in
+    let long₁ : length all < 2 ^ 64 = is.1.1.0.0.1.0 in let fits₁ : n < 2 ^ 64 = is.1.1.1.0.1 in let fits₂ : d.data_len < 2 ^ 64 = is.1.1.1.1.0.1 in
     lands_as ! (ap only spelled) refl (tt, ((tt, (record { fits = long₁ }, tt)), (record { fits = fits₁ }, (record { fits = fits₂ }, tt)))) $
     fpick ! (λ vss. fsplit ! $ drop ! $ fsplit ! $ move ! (1 ∷ []) $ drop ! $
     peeks ! Own (Is Own) (shows 𝓛 Own) d.all vss.0 (λ isS. rewrite ! 0 (λ (vs : List Val). ‵ (Own.own_val d.all vs)) isS.0.0 refl $
@@ -138,18 +138,18 @@ walk decodes reads 𝓤 𝓛 𝓜 𝓡 wired T W I LT LW LI copies Gh D Sh Ds Wh
     rewrite ! 0 (λ (δ : GName). ‵ (follows_so (Array u8 0) (Array u8 0) δ none (λ _ _. ⊤) (KeepsFromZero xs))) same refl $
     -- [what the whole ends as; the front; the token; the allocator; the other tokens; the digest]
     sets ! (of_opd ! (get ! refl)) refl digest_ready.2 $
-    -- `read_data`
+    -- `read_checked`
     let R = triple_of 𝓛 (r.signature T W I Gh D Sh Ds Wh Dw Ch Dc Ih Di Dt De P) (r.spec T W I Gh D Sh Ds Wh Dw Ch Dc Ih Di Dt De P 𝓛 𝓜.mem 𝓡.returns) in
-    let k : R.Ghost = ((κs, qs, y₀.0.2, (a.0, (p.0, (d.len, (progress, tt)))), (hv ∷ [], (slice_val p.0.ref_ptr (length p.0.now) ∷ [], (vint w64 d.len ∷ [], (dv ∷ [], tt))))), tt) in
-    let fits : d.len ≤ length p.0.now = subst (λ (m : List ℕ). d.len ≤ length m) (sym front_is) (data_within xs d made) in
+    let k : R.Ghost = ((κs, qs, y₀.0.2, (a.0, (p.0, (d.data_len, (progress, tt)))), (hv ∷ [], (slice_val p.0.ref_ptr (length p.0.now) ∷ [], (vint w64 d.data_len ∷ [], (dv ∷ [], tt))))), tt) in
+    let fits : d.data_len ≤ length p.0.now = subst (λ (m : List ℕ). d.data_len ≤ length m) (sym front_is) (data_within xs d made) in
     move ! (2 ∷ []) $ split ! $ move ! (1 ∷ []) $ drop ! $ move ! (0 ∷ 4 ∷ []) $ join ! $
-    nothing ! $ move ! (5 ∷ 0 ∷ []) $ fjoin ! $ owned ! usize _ (uint_Makes 𝓛 w64) d.len _ (refl, fits₂) $ fjoin ! $ move ! (3 ∷ 0 ∷ []) $ fjoin ! $ move ! (3 ∷ 0 ∷ []) $ fjoin ! $ move ! (1 ∷ 0 ∷ []) $ join ! $
-    use0 𝓛 (raw (fact 𝓤 (d.len ≤ length p.0.now))) (fact_i 𝓤 _ (emp 𝓤) fits) $ use0 𝓛 (raw (fact 𝓤 (P κs))) (fact_i 𝓤 _ (emp 𝓤) pk) $ join ! $
+    nothing ! $ move ! (5 ∷ 0 ∷ []) $ fjoin ! $ owned ! usize _ (uint_Makes 𝓛 w64) d.data_len _ (refl, fits₂) $ fjoin ! $ move ! (3 ∷ 0 ∷ []) $ fjoin ! $ move ! (3 ∷ 0 ∷ []) $ fjoin ! $ move ! (1 ∷ 0 ∷ []) $ join ! $
+    use0 𝓛 (raw (fact 𝓤 (d.data_len ≤ length p.0.now))) (fact_i 𝓤 _ (emp 𝓤) fits) $ use0 𝓛 (raw (fact 𝓤 (P κs))) (fact_i 𝓤 _ (emp 𝓤) pk) $ join ! $
     use0 𝓛 (raw (fact 𝓤 IL)) (fact_i 𝓤 _ (emp 𝓤) il) $ join ! $ use0 𝓛 (raw (fact 𝓤 WL)) (fact_i 𝓤 _ (emp 𝓤) wl) $ join ! $
     use0 𝓛 (raw (fact 𝓤 TL)) (fact_i 𝓤 _ (emp 𝓤) tl) $ join ! $ move ! (1 ∷ 0 ∷ []) $ use2 𝓛 (raw (R.pre k)) (id⊢ 𝓤 _) $
-    calls_at ! (framed 𝓤 𝓛.H 𝓜 𝓣) R (reads 𝓤 𝓛 𝓜 𝓡 (code.calls-postcard_crc::de::cobs::read_data 𝓡.env wired) T W I LT LW LI copies Gh D Sh Ds Wh Dw Ch Dc Ih Di Dt De P met shaped width clone implements glue glue') k
+    calls_at ! (framed 𝓤 𝓛.H 𝓜 𝓣) R (reads 𝓤 𝓛 𝓜 𝓡 (code.calls-postcard_crc::de::cobs::read_checked 𝓡.env wired) T W I LT LW LI copies Gh D Sh Ds Wh Dw Ch Dc Ih Di Dt De P met shaped width clone implements glue glue') k
     (and_then ! (get ! refl) (and_then ! (get ! refl) (and_then ! (get ! refl) (and_then ! (get ! refl) (no_more !))))) (λ u.
-    let Read : Out.Denot → Type 0 = λ w. (frame : List ℕ) → HasDataOf frame p.0.now d.len → IsReadOf Sh.shape Wh.size progress frame w in
+    let Read : Out.Denot → Type 0 = λ w. (frame : List ℕ) → HasDataOf frame p.0.now d.data_len → IsReadOf Sh.shape Wh.size progress frame w in
     use1 𝓛 (later (some (λ (w : Out.Denot). ((‵ (flft κ q) ⊛ ‵ (flft κs.1.0 qs.1.0) ⊛ ‵ (flft κs.1.1.0 qs.1.1.0) ⊛ ‵ (flft κs.1.1.1.0 qs.1.1.1.0) ⊛ ‵ ftrue) ⊛ ‵ (Out.own_val w (u ∷ []))) ⊛
     some (λ (ws : Lasts (r.ended T W I Gh D Sh Ds Wh Dw Ch Dc Ih Di Dt De P) k.0.0 k.0.3). ‵ (lasts (r.ended T W I Gh D Sh Ds Wh Dw Ch Dc Ih Di Dt De P) k.0.0 k.0.3 ws) ⊛ raw (fact 𝓤 (Read w)))))) (id⊢ 𝓤 _) $
     await ! tt $ pick ! (λ w. split ! $ split ! $ move ! (2 ∷ []) $ pick ! (λ ws. split ! $ drop ! $ heard ! (Read w) (λ read.
@@ -158,7 +158,7 @@ walk decodes reads 𝓤 𝓛 𝓜 𝓡 wired T W I LT LW LI copies Gh D Sh Ds Wh
     lands_as ! refl refl (((result_laws (param 0 T) err_row (param_laws 0 T LT) err_laws).lawful 𝓛).typed w (u ∷ []) is').0 $
     returns ! (look_at ! 0 refl) $ free_all ! refl $
     let F : List ℕ = before_zero xs in
-    let is-read = read F (subst (λ (m : List ℕ). HasDataOf F m d.len) (sym front_is) made.has_data) in
+    let is-read = read F (subst (λ (m : List ℕ). HasDataOf F m d.data_len) (sym front_is) made.has_data) in
     use0 𝓛 (raw (fact 𝓤 (IfErr w (λ e. IsReadError Sh.shape.other e ⊎ ((e ≡ DeserializeBadCrc) ⊎ (e ≡ DeserializeBadEncoding)))))) (fact_i 𝓤 _ (emp 𝓤) is-read.named_error) $
     use0 𝓛 (raw (fact 𝓤 (HasDataErrors Sh.shape Wh.size progress F w))) (fact_i 𝓤 _ (emp 𝓤) is-read.exact_errors) $
     use0 𝓛 (raw (fact 𝓤 (HasNoData F → IsErrOf w DeserializeBadEncoding))) (fact_i 𝓤 _ (emp 𝓤) is-read.no_frame) $

@@ -19,27 +19,27 @@ elements-init g c =
       so = rw (whole, c.new-items.ensures.items) (going g.F.Flavor.lawful);
     }
 
-pub returns-in_err-some : goal.returns-in_err-some
-returns-in_err-some g c =
+pub returns-in_err-appended : goal.returns-in_err-appended
+returns-in_err-appended g c =
     let laws = g.F.Flavor.lawful in
     let len = vec_len c.elements.items in
     let n = c.in_ok-count.count in
     let more : n - len ≡ suc (n - (len + 1)) = omega (arith, c.elements-test.true) in
-    let e = c.in_err-some.field-0.0 in
-    let why = c.in_err-some.ensures.refused in
+    let e = c.in_err-appended.field-0.0 in
+    let why = c.in_err-appended.ensures.refused in
     rw (
-      is_refusal c.from_residual-in_err-some.result e c.from_residual-in_err-some.ensures.1,
+      is_refusal c.from_residual-in_err-appended.result e c.from_residual-in_err-appended.ensures.1,
       why.0,
     )
     (list_refused laws (λ (v : Vec g.row.T.Denot Global). v.items) c.in_ok-count.ensures.reads
     (going_full laws tt (rw more at c.elements.invariant.so) (rw why.1 (laws.itself _))))
 
-pub elements-preserved-then-some : goal.elements-preserved-then-some
-elements-preserved-then-some g c =
+pub elements-preserved-then-appended : goal.elements-preserved-then-appended
+elements-preserved-then-appended g c =
     let n = c.in_ok-count.count in
     let old = c.elements.items in
     let new = c.append_at_hand.new.items in
-    let read = rw c.if-some.true at c.in_ok-some.ensures.reads in
+    let read = rw c.if-appended.true at c.in_ok-appended.ensures.reads in
     let grown = ap (λ (z : List g.row.T.Denot). length z) read.1 in
     let sum = length-append old.items read.0 in
     let rest : n - vec_len old ≡ length read.0 + (n - vec_len new) =
@@ -49,11 +49,11 @@ elements-preserved-then-some g c =
       so = rw read.1 (goes_on_by g.F.Flavor.lawful (rw rest at c.elements.invariant.so) read.4);
     }
 
-pub elements-smaller-then-some : goal.elements-smaller-then-some
-elements-smaller-then-some g c =
+pub elements-smaller-then-appended : goal.elements-smaller-then-appended
+elements-smaller-then-appended g c =
     let old = c.elements.items in
     let new = c.append_at_hand.new.items in
-    let read = rw c.if-some.true at c.in_ok-some.ensures.reads in
+    let read = rw c.if-appended.true at c.in_ok-appended.ensures.reads in
     let grown = ap (λ (z : List g.row.T.Denot). length z) read.1 in
     let sum = length-append old.items read.0 in
     omega (arith, old.ok.0, new.ok.0, grown, sum, read.2, read.3, c.elements-test.true)
@@ -64,7 +64,7 @@ returns-in_err-item g c =
     let len = vec_len c.elements.items in
     let n = c.in_ok-count.count in
     let more : n - len ≡ suc (n - (len + 1)) = omega (arith, c.elements-test.true) in
-    let same = rw c.if-some.false at c.in_ok-some.ensures.reads in
+    let same = rw c.if-appended.false at c.in_ok-appended.ensures.reads in
     let e = c.in_err-item.field-0.0 in
     rw (is_refusal c.from_residual-in_err-item.result e c.from_residual-in_err-item.ensures.1)
     (list_refused laws (λ (v : Vec g.row.T.Denot Global). v.items) c.in_ok-count.ensures.reads
@@ -77,7 +77,7 @@ returns-in_err-push_announced g c =
     let len = vec_len c.elements.items in
     let n = c.in_ok-count.count in
     let more : n - len ≡ suc (n - (len + 1)) = omega (arith, c.elements-test.true) in
-    let same = rw c.if-some.false at c.in_ok-some.ensures.reads in
+    let same = rw c.if-appended.false at c.in_ok-appended.ensures.reads in
     let e = c.in_err-push_announced.field-0.0 in
     rw (
       is_refusal c.from_residual-in_err-push_announced.result e
@@ -93,7 +93,7 @@ elements-preserved g c =
     let n = c.in_ok-count.count in
     let old = c.elements.items in
     let new = c.push_announced.new.items in
-    let same = rw c.if-some.false at c.in_ok-some.ensures.reads in
+    let same = rw c.if-appended.false at c.in_ok-appended.ensures.reads in
     let more : n - vec_len old ≡ suc (n - (vec_len old + 1)) = omega (arith, c.elements-test.true) in
     let kept = ap (λ (z : List g.row.T.Denot). length z) same.0 in
     let pushed = c.in_ok-push_announced.ensures.pushed in
@@ -111,7 +111,7 @@ pub elements-smaller : goal.elements-smaller
 elements-smaller g c =
     let old = c.elements.items in
     let new = c.push_announced.new.items in
-    let same = rw c.if-some.false at c.in_ok-some.ensures.reads in
+    let same = rw c.if-appended.false at c.in_ok-appended.ensures.reads in
     let kept = ap (λ (z : List g.row.T.Denot). length z) same.0 in
     let grown = ap (λ (z : List g.row.T.Denot). length z) c.in_ok-push_announced.ensures.pushed in
     let sum = length-append c.append_at_hand.new.items.items (c.in_ok-item.item ∷ []) in

@@ -8,7 +8,7 @@ pub returns : goal.returns
 returns g c =
     let k = g.W.Width.size in
     let d = c.args.self.digest in
-    let r = c.after_crc.result in
-    let h = c.after_crc.ensures in
+    let r = c.after_checksum.result in
+    let h = c.after_checksum.ensures in
     subst (λ (left : List ℕ). Finishes k left d r) c.in_ok-rest.ensures
     (finishes k c.in_ok-rest.rest.now d (g.W.Width.number c.finalize-2.result) r c.finalize-2.ensures h.gives h.accepts h.short h.long)

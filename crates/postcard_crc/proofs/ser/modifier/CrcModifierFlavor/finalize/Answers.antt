@@ -1,7 +1,7 @@
 -- With room for no bytes, there is room for the checksum, and after it room to end.
 use Rattle.std.proofs.Common.{take, length, ap, subst, ◌∙◌, arith, rules}
 use Rattle.std.proofs.lemmas.Result.{IfOk-weaker}
-use Rattle.crc.proofs.FrameLemmas.{length_low}
+use Rattle.crc.proofs.CheckedLemmas.{length_low}
 use Rattle.postcard_crc.specs.Writing.{EndsWithCrc, end_has_room}
 use Rattle.postcard_crc.proofs.ser.modifier.CrcModifierFlavor.finalize.Goals as goal
 

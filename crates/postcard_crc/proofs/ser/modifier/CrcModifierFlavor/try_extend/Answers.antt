@@ -1,8 +1,8 @@
 -- The inner flavor takes the bytes, as the digest did, and has room for them.
 use Rattle.std.proofs.Common.{rules}
 use Rattle.std.proofs.lemmas.Result.{on_ok_weaker}
-use Rattle.crc.specs.Frame.{low_bytes}
-use Rattle.crc.proofs.FrameLemmas.{length_low}
+use Rattle.crc.specs.Checked.{low_bytes}
+use Rattle.crc.proofs.CheckedLemmas.{length_low}
 use Rattle.postcard_crc.specs.Writing.{Continues, bytes_have_room}
 use Rattle.postcard_crc.proofs.ser.modifier.CrcModifierFlavor.try_extend.Goals as goal
 

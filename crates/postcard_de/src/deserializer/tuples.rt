@@ -1,0 +1,38 @@
+//! The calls for tuples and structs.
+
+ghost use Rattle.std.specs.Prelude.{◌≡◌, length, Ok};
+
+use crate::access::SeqAccess;
+use crate::deserializer::Deserializer;
+use postcard_de_flavors::Flavor;
+use postcard_wire::Result;
+
+impl<'de, F: Flavor> Deserializer<'de, F> {
+    /// Begins a tuple of `len` parts, which are then read by
+    /// [`next_element`](SeqAccess::next_element). Reads nothing, and never fails.
+    pub fn deserialize_tuple(&mut self, len: usize) -> Result<SeqAccess>
+        ensures parts { result ≡ Ok len }
+        ensures unchanged { self.new ≡ self.old }
+    {
+        Ok(SeqAccess::new(len))
+    }
+
+    /// Begins a tuple struct of `len` parts, which are then read by
+    /// [`next_element`](SeqAccess::next_element). Reads nothing, and never fails.
+    pub fn deserialize_tuple_struct(&mut self, _name: &str, len: usize) -> Result<SeqAccess>
+        ensures parts { result ≡ Ok len }
+        ensures unchanged { self.new ≡ self.old }
+    {
+        self.deserialize_tuple(len)
+    }
+
+    /// Begins a struct with these fields, which are then read by
+    /// [`next_element`](SeqAccess::next_element). Only their number is used. Reads nothing, and
+    /// never fails.
+    pub fn deserialize_struct(&mut self, _name: &str, fields: &[&str]) -> Result<SeqAccess>
+        ensures parts { result ≡ Ok (length fields.now) }
+        ensures unchanged { self.new ≡ self.old }
+    {
+        Ok(SeqAccess::new(fields.len()))
+    }
+}
