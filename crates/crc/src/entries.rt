@@ -1,4 +1,5 @@
-//! The entries of tables.
+//! The entries of the tables of an algorithm: what a byte, and zero bytes after it, do to a
+//! register.
 
 ghost use Rattle.std.specs.Prelude.{◌<◌, ◌≤◌, ◌≡◌, ◌*◌, ◌^◌, length, map, slice_index};
 ghost use Rattle.crc.specs.Algorithm.{parameters};
@@ -21,7 +22,8 @@ fn feedback<W: Width>(algorithm: &Algorithm<W>) -> u128
     register::in_order(algorithm.refin, bits, lifted)
 }
 
-/// Returns a register whose first eight bits are those of the byte.
+/// Returns a register of `bits` bits whose first eight are those of the byte, the lowest of it first if
+/// `refin`, and whose others are 0.
 fn first_byte(refin: bool, bits: u32, byte: u8) -> u128
     requires some { 8 ≤ bits }
     requires few { bits ≤ 128 }
@@ -34,7 +36,7 @@ fn first_byte(refin: bool, bits: u32, byte: u8) -> u128
     }
 }
 
-/// Returns an entry.
+/// Returns the entry at an index, as a number.
 #[inline]
 pub fn look_up<W: Width>(entries: &[W], at: usize) -> u128
     requires { at < length entries.now }

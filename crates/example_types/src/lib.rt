@@ -12,8 +12,8 @@
 //! - [`chain`]: a recursive type, with a limit on its depth.
 //! - [`tally`]: a list of lists of elements without bytes, with a capacity.
 //! - [`store`]: a struct and an enum that have a greatest size, and a store of that size.
-//! - [`flavor`], [`trailer`]: writing flavors. [`source`]: a reading source.
-//! - [`limited`]: a reading flavor.
+//! - [`flavor`], [`trailer`]: writing flavors. [`limited`]: a reading flavor.
+//! - [`source`]: a reader from which a source reads.
 //! - [`theorems`]: theorems that a caller proves of its own functions.
 #![tactic(auto)]
 

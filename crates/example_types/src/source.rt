@@ -1,4 +1,4 @@
-//! A user's own source: it counts the bytes that are read from another source.
+//! A user's own reader for a source: it counts the bytes that are read from another reader.
 
 use postcard::de_flavors::Source;
 use std::io;

@@ -1,4 +1,4 @@
-//! A call of a session, and the answer that is written below it.
+//! A call of a session, and what it must print, which is written below it.
 
 use crate::call_error::CallError;
 use crate::words::words_of;
@@ -9,18 +9,18 @@ use std::fmt;
 /// What is before the words of a call.
 const PROMPT: &str = "$ pcard";
 
-/// What is before a call that must not answer as written.
+/// What is before a call that must not print what is written below it.
 const NOT: &str = "not ";
 
-/// A call, and the answer that is written below it.
+/// A call, and what is written below it.
 #[derive(Drop)]
 pub struct Call {
     /// The number of its line.
     number: u64,
     /// Its line.
     line: String,
-    /// The lines of the answer, each with its end.
-    answer: String,
+    /// The lines that are written below it, each with its line feed.
+    expected: String,
 }
 
 impl Call {
@@ -29,32 +29,33 @@ impl Call {
         without(line, NOT).starts_with(PROMPT)
     }
 
-    /// Returns the call of the line with this number, without an answer.
+    /// Returns the call of the line with this number, with nothing below it yet.
     pub fn new(alloc: Global, number: u64, line: &str) -> Result<Call, AllocError> {
         let line = String::from_str(alloc, line)?;
-        let answer = String::new(alloc);
+        let expected = String::new(alloc);
         Ok(Call {
             number,
             line,
-            answer,
+            expected,
         })
     }
 
-    /// Takes a line of the answer.
+    /// Adds a line that is written below the call.
     pub fn add(&mut self, line: &str) -> Result<(), AllocError> {
-        self.answer.push_str(line)?;
-        self.answer.push_str("\n")
+        self.expected.push_str(line)?;
+        self.expected.push_str("\n")
     }
 
-    /// Requires that the call answers as written, or, if it begins with `not`, that it doesn't.
+    /// Requires that the call prints what is written below it, or, if it begins with `not`, that it
+    /// doesn't.
     pub fn check(&self, rt: &HostRuntime) -> Result<(), CallError> {
         let line = without(&self.line, NOT);
         let is_wrong = self.line.starts_with(NOT);
-        let found = answer_of(rt, without(line, PROMPT))?;
-        if (found.as_str() == self.answer.as_str()) != is_wrong {
+        let found = output_of(rt, without(line, PROMPT))?;
+        if (found.as_str() == self.expected.as_str()) != is_wrong {
             return Ok(());
         }
-        let written = self.answer.clone()?;
+        let written = self.expected.clone()?;
         Err(CallError::Other { written, found })
     }
 }
@@ -71,9 +72,9 @@ fn without<'a>(text: &'a str, front: &str) -> &'a str {
     text.strip_prefix(front).unwrap_or(text)
 }
 
-/// Returns the answer to a call of these words, as it is written in a session: the exit status after a
+/// Returns what a call of these words prints, as it is written in a session: the exit status after a
 /// `?`, unless it is 0, what is printed to the output, and what is printed to standard error.
-fn answer_of(rt: &HostRuntime, text: &str) -> Result<String, CallError> {
+fn output_of(rt: &HostRuntime, text: &str) -> Result<String, CallError> {
     let alloc = rt.alloc();
     let (mut words, digits) = words_of(alloc, text)?;
     let bytes = bytes_of(alloc, &digits)?;

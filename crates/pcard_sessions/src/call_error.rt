@@ -12,11 +12,11 @@ pub enum CallError {
     Input,
     /// What the call prints is no text.
     NoText,
-    /// The call answers otherwise than is written.
+    /// The call prints something else than what is written below it.
     Other {
-        /// The answer that is written.
+        /// What is written below it.
         written: String,
-        /// The answer.
+        /// What it prints.
         found: String,
     },
     /// An allocation failed.

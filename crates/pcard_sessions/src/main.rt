@@ -2,8 +2,8 @@
 //! calls, each with all that it must print; the comments at the head of the input say how they are
 //! written.
 //!
-//! It prints each call that answers otherwise, with the number of its line, what is written and the
-//! answer, and then the number of calls that passed and failed. The exit status is 0 only if none
+//! It prints each call that prints something else, with the number of its line, what is written and
+//! what was printed, and then the number of calls that passed and failed. The exit status is 0 only if none
 //! failed.
 #![tactic(auto)]
 
@@ -22,16 +22,16 @@ use std::process::ExitCode;
 struct Sessions {
     /// The number of lines.
     lines: u64,
-    /// The last call, whose answer may go on.
+    /// The last call, below which more lines may be written.
     last: Option<Call>,
-    /// The number of calls before it that answered as written.
+    /// The number of calls before it that printed what is written.
     passed: u64,
     /// The number of calls before it that didn't.
     failed: u64,
 }
 
 impl Sessions {
-    /// Takes the next line: a comment, the first line of a call, or a line of its answer.
+    /// Takes the next line: a comment, the first line of a call, or a line of what it must print.
     fn take(&mut self, rt: &HostRuntime, line: &str) -> io::Result<()> {
         self.lines = self.lines.saturating_add(1);
         if line.starts_with('#') {
@@ -52,7 +52,8 @@ impl Sessions {
         }
     }
 
-    /// Ends the last call: requires that it answers as written, and prints what is wrong if it doesn't.
+    /// Ends the last call: requires that it prints what is written, and prints what is wrong if it
+    /// doesn't.
     fn end_call(&mut self, rt: &HostRuntime) -> io::Result<()> {
         let Some(call) = self.last.take() else {
             return Ok(());

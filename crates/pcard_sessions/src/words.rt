@@ -49,7 +49,7 @@ impl Words {
     }
 }
 
-/// Returns the words of a call up to the word `<`, and the words after it, one behind the other.
+/// Returns the words of a call up to the word `<`, and the words after it, in a row.
 ///
 /// A word ends at a blank. Of what stands between two `'` or two `"`, each character stands for itself,
 /// and the quotes for nothing. A word `<` begins the input even if it is quoted.

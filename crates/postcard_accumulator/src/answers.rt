@@ -1,4 +1,4 @@
-//! What an accumulator returns.
+//! What a feed of an accumulator returns, and what `read_frames` collects, one answer for each frame.
 
 /// The result of [`feed`](crate::accumulator::CobsAccumulator::feed), and of
 /// [`take_in`](crate::accumulator::CobsAccumulator::take_in), where the value of a frame is its data.

@@ -1,4 +1,4 @@
-//! The reading loop.
+//! The loop that reads the frames of a reader: [`read_frames`].
 
 ghost use Rattle.std.specs.Prelude.{◌≡◌, ◌≢◌, ◌<◌, ◌++◌, ◌∷◌, [], length};
 ghost use Rattle.std.specs.Prelude.{vec_len, vec_capacity};

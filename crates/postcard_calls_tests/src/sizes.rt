@@ -1,5 +1,5 @@
-//! Tests of the greatest sizes of types that have no rows in `postcard_rows`: of a user, of pointers
-//! that can't be read, and of sizes that don't fit 64 bits.
+//! Tests of the greatest sizes of types that have no rows in `postcard_rows`: those of a user, those
+//! that can only be written, long lists, and types whose greatest size doesn't fit 64 bits.
 
 ghost use Rattle.postcard_calls_tests.specs.declared.sizes.Choice.{Choice};
 

@@ -1,4 +1,4 @@
-//! Tests of the flavors and the source of `example_types`, with bytes worked out by hand.
+//! Tests of the flavors and the reader of `example_types`, with bytes worked out by hand.
 
 use crate::asserts::same;
 use example_types::flavor::Both;

@@ -113,8 +113,8 @@ impl Checksum {
         }
     }
 
-    /// Returns the number of bytes behind a message: those of the smallest unsigned integer type
-    /// that has the bits.
+    /// Returns the number of bytes of a checksum after its message: those of the smallest unsigned
+    /// integer type that has the bits.
     pub fn size(self) -> usize
         ensures { result ≡ bytes_for (parameters_of self).width }
     {
@@ -150,7 +150,8 @@ impl Checksum {
         }
     }
 
-    /// Returns what follows the checksum of the bytes `front`, with which `behind` is to begin.
+    /// Checks that `behind`, what comes after the message `front`, begins with the checksum of that
+    /// message, and returns the bytes after the checksum.
     ///
     /// # Errors
     ///

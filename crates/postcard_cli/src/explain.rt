@@ -280,7 +280,7 @@ fn show_title<W: fmt::Write>(label: Label<'_>, f: &mut fmt::Formatter<W>) -> fmt
     }
 }
 
-/// Returns what stands between what a part is called and its value.
+/// Returns what is printed between what a part is called and its value.
 fn separator(label: Label<'_>, kind: &LineKind<'_>) -> &'static str
     ensures { result.now ≡ separator_text label.entry kind.now }
 {

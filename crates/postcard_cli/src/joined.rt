@@ -1,4 +1,4 @@
-//! The texts of lists.
+//! The text of a list of numbers, as `dec` prints it: [`Joined`].
 
 ghost use Rattle.std.specs.Prelude.{codes, map};
 ghost use Rattle.postcard_dyn_text.specs.Shown.{joined};

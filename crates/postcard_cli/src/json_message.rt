@@ -91,8 +91,8 @@ fn encoding_of<W: Write>(
 /// # Errors
 ///
 /// Fails as [`schema_of`] and [`hexadecimal::read_loose`] do, with `Refused` if the bytes begin with
-/// no message of the type, after a line of JSON without its end is printed that says where and why,
-/// and with `Library(WontImplement)` if the value has no JSON.
+/// no message of the type, after a line of JSON is printed, without its line feed, that says where and
+/// why, and with `Library(WontImplement)` if the value has no JSON.
 pub fn decode<R: Source, W: Write>(
     alloc: Global,
     expression: &str,
@@ -142,8 +142,8 @@ pub fn decode_all<R: Source, W: Write>(
     Ok(())
 }
 
-/// Decodes a value from the front of `rest`, the last of the bytes `all`, and prints the line of
-/// JSON of it, or of the refusal. Returns the bytes after it.
+/// Decodes a value from the front of `rest`, with which `all` ends, and prints the line of JSON of it,
+/// or of the refusal. Returns the bytes after it. Offsets are counted from the first byte of `all`.
 fn print_front<'a, W: Write>(
     alloc: Global,
     schema: &Schema,
@@ -164,8 +164,9 @@ fn print_front<'a, W: Write>(
     Ok(after)
 }
 
-/// Decodes a value from the front of `rest`, the last of the bytes `all`. Returns it, and the bytes
-/// after it. If the bytes are refused, prints the line of JSON that says so, without its end.
+/// Decodes a value from the front of `rest`, with which `all` ends. Returns it, and the bytes after
+/// it. If the bytes are refused, prints the line of JSON that says so, without its line feed, with an
+/// offset that is counted from the first byte of `all`.
 fn read_front<'a, W: Write>(
     alloc: Global,
     schema: &Schema,
@@ -191,8 +192,8 @@ fn read_front<'a, W: Write>(
     }
 }
 
-/// Prints the line of JSON of a refusal, without its end: the offset of the part that can't be read,
-/// why, and the path of the part, if it isn't the whole value.
+/// Prints the line of JSON of a refusal, without its line feed: the offset of the part that can't be
+/// read, why, and the path of the part, if it isn't the whole value.
 fn print_refused<W: Write>(
     alloc: Global,
     offset: usize,

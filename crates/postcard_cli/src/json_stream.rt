@@ -1,4 +1,4 @@
-//! The lines of JSON of a stream of frames.
+//! The lines that `frames --json` prints, one for each frame of a stream.
 
 ghost use Rattle.std.specs.Prelude.{◌≡◌, ◌⊎◌, IfErr, OnOk, codes};
 ghost use Rattle.std.specs.Io.KnownBytes.{Appends};

@@ -1,8 +1,8 @@
 //! What the program `pcard` does: it encodes a value in the Postcard format, or decodes bytes or a
 //! stream of frames.
 //!
-//! [`program::run`] does the call of some words, which reads its input from any source and prints to
-//! any writer.
+//! [`program::run`] runs the call of some words, over any reader as its input and any writer as its
+//! output.
 #![tactic(auto)]
 
 pub mod checksum;

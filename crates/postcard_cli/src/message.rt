@@ -59,7 +59,7 @@ pub fn schema_of<W: Write>(alloc: Global, text: &str, output: &mut W) -> Result<
     }
 }
 
-/// Returns what to print behind a problem of a type expression, if it doesn't say what would do.
+/// Returns what to print after a problem of a type expression, if it doesn't say what would do.
 fn hint_of(problem: Problem) -> &'static str
     ensures { result.now ≡ hint_text problem }
 {
@@ -302,8 +302,9 @@ pub fn decode_checked<R: Source, W: Write>(
     Ok(())
 }
 
-/// Returns what follows the checksum of the bytes of `all` before `behind`, its last, with which
-/// `behind` is to begin. If it doesn't, prints the offset in `all` where it does.
+/// Checks that `behind`, what comes after the message with which `all` begins, begins with the
+/// checksum of that message, and returns the bytes after the checksum. If it doesn't begin so, prints
+/// the offset in `all` at which the checksum should begin.
 fn skip_trailer<'a, W: Write>(
     checksum: Checksum,
     all: &[u8],
@@ -395,9 +396,9 @@ fn print_all<W: Write>(
     Ok(())
 }
 
-/// Decodes a value from the front of `rest`, the last of the bytes `all`, and prints it on a line.
-/// Returns the bytes after it. If the bytes are refused, prints the offset in `all` of the part that
-/// can't be read, its place, and why.
+/// Decodes a value from the front of `rest`, with which `all` ends, and prints it on a line. Returns
+/// the bytes after it. If the bytes are refused, prints the offset in `all` of the part that can't be
+/// read, its place, and why.
 fn print_front<'a, W: Write>(
     alloc: Global,
     schema: &Schema,
@@ -416,9 +417,9 @@ fn print_front<'a, W: Write>(
     Ok(after)
 }
 
-/// Decodes a value from the front of `rest`, the last of the bytes `all`. Returns it, and the bytes
-/// after it. If the bytes are refused, prints the offset in `all` of the part that can't be read, its
-/// place, and why.
+/// Decodes a value from the front of `rest`, with which `all` ends. Returns it, and the bytes after
+/// it. If the bytes are refused, prints the offset in `all` of the part that can't be read, its place,
+/// and why.
 fn read_front<'a, W: Write>(
     alloc: Global,
     schema: &Schema,

@@ -1,5 +1,5 @@
-//! Reading bytes from a text of hexadecimal digits as it is pasted: with signs between the bytes, or
-//! as the lines of a dump.
+//! Reading bytes from a text of hexadecimal digits as it is pasted: with blanks, `:`, `,` or `-` between
+//! the bytes, or as the lines of a dump.
 
 ghost use Rattle.std.specs.Prelude.{◌≡◌, ◌==◌, ◌≤◌, ◌+◌, ◌⊎◌, ℕ, List, length, take, true, not};
 ghost use Rattle.std.specs.Prelude.{IfOk, IfErr};
@@ -20,7 +20,7 @@ use postcard_dyn_schema::scan::character_of;
 use std::alloc::Global;
 
 /// Returns the bytes of a text, which are those of the words of its lines, in order. Of a line that
-/// `xxd` or `hexdump -C` printed, the offset and the text behind the bytes are passed over.
+/// `xxd` or `hexdump -C` printed, the offset and the text after the bytes are passed over.
 ///
 /// # Errors
 ///
@@ -47,7 +47,7 @@ pub fn read(alloc: Global, text: &[u8]) -> Result<Vec<u8>, Failure>
 }
 
 /// Returns the bytes of a line, which begins at the index `place` of the text. In a `dump`, eight
-/// digits alone are an offset.
+/// digits alone are an offset. Fails as [`read`] does.
 fn read_line(
     alloc: Global,
     text: &[u8],
@@ -65,7 +65,7 @@ fn read_line(
     read_words(alloc, text, place + start, column)
 }
 
-/// Returns the bytes of words, which begin at the index `place` of the text.
+/// Returns the bytes of words, which begin at the index `place` of the text. Fails as [`read`] does.
 fn read_words(alloc: Global, text: &[u8], place: usize, words: &[u8]) -> Result<Vec<u8>, Failure>
     requires { place + length words.now ≤ length text.now }
     ensures value { IfOk result (λ bytes. AreBytesOf IsWord (words_of words.now) bytes.items) }
@@ -86,7 +86,7 @@ fn read_words(alloc: Global, text: &[u8], place: usize, words: &[u8]) -> Result<
     Ok(bytes)
 }
 
-/// Returns the bytes of a word, which begins at the index `place` of the text.
+/// Returns the bytes of a word, which begins at the index `place` of the text. Fails as [`read`] does.
 fn read_word(alloc: Global, text: &[u8], place: usize, word: &[u8]) -> Result<Vec<u8>, Failure>
     requires { place + length word.now ≤ length text.now }
     ensures value { IfOk result (λ bytes. IsWord word.now bytes.items) }
@@ -148,7 +148,7 @@ fn end_of_line(text: &[u8]) -> Option<usize>
     text.iter().position(|byte| *byte == b'\n')
 }
 
-/// Returns whether a line of a text is one of `hexdump -C`.
+/// Returns whether some line of a text begins as those of `hexdump -C` do.
 #[tactic(auto, unfolding(crate::specs::Hexadecimal::is_dump))]
 fn is_dump(text: &[u8]) -> bool
     ensures { result ≡ is_dump text.now }
@@ -163,8 +163,8 @@ fn is_dump(text: &[u8]) -> bool
     is_of_hexdump(rest)
 }
 
-/// Returns the bytes of a line without its offset and the text behind, and the index at which they
-/// begin.
+/// Returns the index at which the digits of a line begin, and the digits: the line without its offset
+/// and the text after the bytes.
 #[tactic(auto, unfolding(crate::specs::Hexadecimal::start_of, crate::specs::Hexadecimal::column_of))]
 fn column(line: &[u8], dump: bool) -> (usize, &[u8])
     ensures start { result.0 ≡ start_of line.now }
@@ -219,7 +219,7 @@ fn begins_blank(text: &[u8]) -> bool
     }
 }
 
-/// Returns whether a line is eight digits alone, or with blanks behind them.
+/// Returns whether a line is eight digits alone, or with blanks after them.
 #[tactic(auto, unfolding(crate::specs::Hexadecimal::is_lone_offset))]
 fn is_lone_offset(line: &[u8]) -> bool
     ensures { result ≡ is_lone_offset line.now }
@@ -250,7 +250,7 @@ fn are_blank(text: &[u8]) -> bool
     text.iter().all(|byte| byte.is_ascii_whitespace())
 }
 
-/// Returns the text before the first place where the mark stands, or the whole text.
+/// Returns the text before the first `mark` in it, or the whole text.
 fn up_to<'a>(text: &'a [u8], mark: &[u8]) -> &'a [u8]
     ensures before { result.now ≡ up_to mark.now text.now }
     ensures within { length result.now ≤ length text.now }

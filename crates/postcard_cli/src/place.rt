@@ -38,7 +38,7 @@ pub fn place_of(alloc: Global, schema: &Schema, message: &[u8]) -> Result<String
     Ok(path)
 }
 
-/// Returns that path alone.
+/// Returns the path of that part, without the `: ` after it.
 ///
 /// # Errors
 ///

@@ -39,14 +39,13 @@ use std::io::Write;
 /// Reads frames of messages of the type until the input ends, and prints a line for each once its
 /// zero was read, as text or as JSON:
 ///
-/// - its value, and behind it the bytes of its data that come after the value, if there are some;
+/// - its value, and after it the bytes of its data that come after the value, if there are some;
 /// - `error`, where in the stream it begins, and why, for a frame that begins with no such message
 ///   or is no COBS frame;
 /// - `overfull` and where it begins for a frame of more than `longest` bytes, its zero included,
 ///   once it has that many.
 ///
-/// The output is flushed after each read. Memory is used for one frame and
-/// its value only.
+/// The output is flushed after each read. Memory is used for one frame and its value only.
 ///
 /// # Errors
 ///
@@ -150,7 +149,7 @@ pub enum Notation {
     Json,
 }
 
-/// What the data of a frame is: a message of a type, and the checksum behind it, if there is one; and
+/// What the data of a frame is: a message of a type, and the checksum after it, if there is one; and
 /// how its line is written.
 #[derive(Drop)]
 pub struct Format {
@@ -468,8 +467,9 @@ fn print_message<W: Write>(
     }
 }
 
-/// Returns what follows the message of `bytes` before `behind`, its last bytes: without a checksum
-/// `behind` itself, and else what follows its checksum, or `None` if `behind` doesn't begin with it.
+/// Returns what is left of `behind`, what comes after the message with which `bytes` begin: all of it
+/// if messages have no checksum, and else what comes after the checksum, or `None` if `behind` doesn't
+/// begin with that.
 fn rest_of<'a>(checksum: Option<Checksum>, bytes: &[u8], behind: &'a [u8]) -> Option<&'a [u8]>
     requires { length behind.now ≤ length bytes.now }
     ensures follows { IfSome result (λ rest. IsBehind checksum

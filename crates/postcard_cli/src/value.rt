@@ -1,4 +1,4 @@
-//! Reading the word VALUE of a type that has a name.
+//! Reading the word VALUE of `enc` where TYPE is a name, as `u32`, and no expression.
 
 ghost use Rattle.std.specs.Prelude.{IfOk, IfErr};
 ghost use Rattle.postcard_cli.specs.Value.{ReadsScalar, SayEach, RefusesList, parts};

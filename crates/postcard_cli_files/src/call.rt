@@ -105,7 +105,7 @@ fn takes_type(command: &str) -> bool
     )
 }
 
-/// Returns the index of the first word behind the command and its options, or `None` if there is none.
+/// Returns the index of the first word after the command and its options, or `None` if there is none.
 fn after_options(words: &[String]) -> Option<usize>
     ensures found { IfSome result (ComesAfterOptions (map string_bytes words.now) 1) }
     ensures none { IfNone result ((i : ℕ)

@@ -1,8 +1,8 @@
 //! Calls of the program `pcard` whose TYPE is in a file: the word `@FILE:NAME` stands for the type that
 //! FILE declares with the name NAME.
 //!
-//! [`run`] does the call of some words, as that of `postcard_cli` does, with a type expression in the
-//! place of such a word. TYPE is the first word behind the command and its options.
+//! [`run`] runs the call of some words, as that of `postcard_cli` does, with a type expression in the
+//! place of such a word. TYPE is the first word after the command and its options.
 #![tactic(auto)]
 
 pub mod call;

@@ -50,7 +50,7 @@ fn content_of(alloc: Global, name: &str) -> Result<Vec<u8>, ReadError> {
     }
 }
 
-/// Returns the bytes, and blanks behind them, if they are fewer than `least`.
+/// Returns the bytes, and blanks after them, if they are fewer than `least`.
 fn padded(alloc: Global, bytes: &[u8], least: usize) -> Result<Vec<u8>, ReadError> {
     let Ok(mut content) = Vec::from_slice(alloc, bytes) else {
         return Err(ReadError::OutOfMemory);

@@ -29,8 +29,8 @@ mod modifier;
 pub use cobs::from_bytes_cobs;
 pub use modifier::CrcModifier;
 
-/// Decodes a value from the front of `bytes`, after which its checksum stands, and returns it with
-/// the bytes after the checksum. The checksum is that of what `digest` has taken, and then the bytes
+/// Decodes a value from the front of `bytes`, which its checksum follows, and returns it with the
+/// bytes after the checksum. The checksum is that of what `digest` has taken, and then the bytes
 /// of the value.
 ///
 /// It succeeds if and only if a front of `bytes` spells a tree that the type reads, the bytes of its

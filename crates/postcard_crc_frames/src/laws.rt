@@ -11,8 +11,8 @@ pub fn message_arrives<T: DeserializeOwned>()
     ensures { MessageArrives T.shape }
 {}
 
-/// A frame whose data was damaged within as many bits in a row as the checksum has is never
-/// answered by a value, unless nothing was changed; the algorithm's `refin` and `refout` are true.
+/// A frame whose data was damaged within as many bits in a row as the checksum has never has a
+/// value as its answer, unless nothing was changed; the algorithm's `refin` and `refout` are true.
 pub fn damage_refused<T: DeserializeOwned>()
     ensures { DamageRefused T.shape }
 {}

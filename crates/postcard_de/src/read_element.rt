@@ -1,5 +1,5 @@
-//! How a container reads its elements, each a `T`: what the loops of `deserializer::containers`
-//! take.
+//! What the loops of `deserializer::containers` take: elements that are read by `Deserialize`, or by
+//! `DeserializeOwned`.
 
 ghost use Rattle.postcard_de.specs.Reads.{ReadsShape, source_of};
 

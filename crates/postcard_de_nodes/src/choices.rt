@@ -1,4 +1,4 @@
-//! Booleans.
+//! Booleans, which are written as the byte 0 or 1.
 
 ghost use Rattle.postcard_de_nodes.specs.Nodes.{ReadsNode, boolean_node};
 

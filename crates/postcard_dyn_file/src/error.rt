@@ -13,7 +13,7 @@ pub enum FileProblem {
     CommentOpen,
     /// A literal in quotes isn't closed.
     LiteralOpen,
-    /// A character beyond ASCII stands outside of comments and literals.
+    /// A character beyond ASCII is outside of comments and literals.
     AsciiExpected,
     /// A bracket isn't closed.
     BracketOpen,

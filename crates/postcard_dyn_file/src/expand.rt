@@ -1,8 +1,9 @@
 //! The words that a declaration stands for, where each name of another one is replaced by what that stands
 //! for.
 //!
-//! `known` has the declarations of the file, `within` those that are being replaced, of which the last
-//! is the one that is written, and `depth` is how many more may be.
+//! `known` has the declarations of the file, and `within` those that are being replaced, each in the
+//! one before it; the last is the one that is being written. `depth` is the number that may still be
+//! replaced inside of that.
 
 ghost use Rattle.std.specs.Prelude.{◌≡◌, ℕ, ◌+◌, ◌<◌, ◌≤◌, ◌++◌, ◌∷◌, [], true, false, length};
 ghost use Rattle.std.specs.Prelude.{Decides, OnOk, IfOk, IfErr, IfSome, IfNone};

@@ -119,8 +119,8 @@ fn depths(word: &[u8], depth: usize) -> Option<(usize, usize)>
     }
 }
 
-/// Returns the text after what stands between tokens: a blank, a comment, or a lifetime and the comma
-/// behind it.
+/// Returns the text after what is between tokens: a blank, a comment, or a lifetime and the comma after
+/// it.
 #[tactic(auto, unfolding(crate::specs::Lexical::IsGap))]
 fn after_gap(text: &[u8]) -> Result<Option<&[u8]>, ProblemAt>
     ensures found { IfOk result (λ found. IfSome found (λ rest. IsGap text.now rest.now)) }
@@ -188,7 +188,7 @@ fn after_line(text: &[u8]) -> Option<&[u8]>
     Some(rest)
 }
 
-/// Returns the text after a comment in `/*` and `*/`, in which others may stand.
+/// Returns the text after a comment in `/*` and `*/`, which may have others in it.
 fn after_comment(text: &[u8]) -> Result<Option<&[u8]>, ProblemAt>
     ensures found { IfOk result (λ found. IfSome found (λ rest. IsComment text.now rest.now)) }
     ensures none { IfOk result (λ found. IfNone found (Begins 47 42 text.now → ⊥)) }
@@ -238,7 +238,7 @@ fn in_comment(text: &[u8], depth: usize) -> Option<(usize, &[u8])>
     }
 }
 
-/// Returns the text after a lifetime, as `'a`, and the comma behind it if there is one.
+/// Returns the text after a lifetime, as `'a`, and the comma after it if there is one.
 #[tactic(auto, unfolding(crate::specs::Lexical::IsLifetime))]
 fn after_lifetime(text: &[u8]) -> Option<&[u8]>
     ensures found { IfSome result (λ rest. IsLifetime text.now rest.now) }

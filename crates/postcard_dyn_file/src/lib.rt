@@ -25,8 +25,8 @@
 //! | `type A = T;` | `(T)` |
 //!
 //! Passed over are comments, attributes, lifetimes, `pub` and its limit, as `pub(crate)`, paths before
-//! a name, as in `std::string::String`, and the number of a variant, which is one word behind `=` and
-//! maybe `-`. An item ends with its first `;` or `}` outside of all brackets; one that doesn't begin with
+//! a name, as in `std::string::String`, and the number of a variant, which is one word after `=`, or
+//! after `=` and `-`. An item ends with its first `;` or `}` outside of all brackets; one that doesn't begin with
 //! `struct`, `enum` or `type` is passed over. Types with parameters aren't supported. With its names
 //! replaced, a type has at most 65,536 words and signs, and in it names stand for one another at most
 //! 64 deep.

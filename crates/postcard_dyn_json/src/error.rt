@@ -89,7 +89,7 @@ impl JsonError {
     }
 }
 
-/// Returns what stands between a place and the path from there on: `.`, but nothing before an
+/// Returns what is printed between a place and the path from there on: `.`, but nothing before an
 /// index or at the end.
 fn separator(path: &str) -> &'static str
     ensures { result.now ≡ dot_before path.now }

@@ -236,7 +236,7 @@ fn read_worded(alloc: Global, rest: &mut &[u8], depth: usize) -> Result<Schema, 
     }
 }
 
-/// Takes the `<` after the name of a type, which stands at `name`.
+/// Takes the `<` after the name of a type, with which `name` begins.
 ///
 /// # Errors
 ///

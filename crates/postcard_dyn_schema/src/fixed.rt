@@ -93,7 +93,7 @@ impl Integer {
         }
     }
 
-    /// Returns the type of these numbers where they have no fixed width.
+    /// Returns the type of these numbers where they are not at their full width: `U16` for `u16`.
     pub fn leaf(self) -> Leaf
         ensures { result ≡ number_of self }
     {

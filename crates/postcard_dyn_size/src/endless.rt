@@ -30,7 +30,7 @@ pub fn endless_parts(alloc: Global, schema: &Schema) -> Result<Vec<String>>
     Ok(paths)
 }
 
-/// Appends the paths of the parts of the type that stands at a path.
+/// Appends the paths of the parts without a greatest size of the type of the part at `path`.
 #[cycle(endless)]
 fn push_endless(alloc: Global, schema: &Schema, path: &str, paths: &mut Vec<String>) -> Result<()>
     ensures added { OnOk result (map string_bytes paths.new.items

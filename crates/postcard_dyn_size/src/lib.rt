@@ -1,4 +1,4 @@
-//! How many bytes the messages of a type have that is given at run time: at most [`max_size`], and
+//! How many bytes the messages of a type have that is known only at run time: at most [`max_size`], and
 //! at least [`min_size`]; and which of its parts have no greatest size: [`endless_parts`].
 #![tactic(auto)]
 

@@ -1,4 +1,4 @@
-//! Sizes from those of parts: what `postcard_max` doesn't have.
+//! The greatest size of a type from those of its parts: the functions that `postcard_max` doesn't have.
 
 ghost use Rattle.std.specs.Prelude.{◌≡◌};
 ghost use Rattle.postcard_dyn_size.specs.Least.{lesser_of};

@@ -106,7 +106,7 @@ const CALLS: [Call; 17] = [
 ];
 
 /// A sensor's frame with its checksum; the same with a bit of it changed, with its last byte lost,
-/// and with a byte behind it; a frame that is no sensor's; and the first again.
+/// and with a byte after it; a frame that is no sensor's; and the first again.
 const FRAMES: [u8; 66] = [
     11, 42, 1, 0x78, 2, 2, 4, 0xc5, 0x54, 0xc1, 0xb2, 0, 11, 42, 1, 0x78, 2, 2, 4, 0xc4, 0x54,
     0xc1, 0xb2, 0, 10, 42, 1, 0x78, 2, 2, 4, 0xc5, 0x54, 0xc1, 0, 12, 42, 1, 0x78, 2, 2, 4, 0xc5,

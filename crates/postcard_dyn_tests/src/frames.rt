@@ -343,7 +343,7 @@ fn reports_a_failed_read_of_all_bytes(rt: HostRuntime) {
     }
 }
 
-/// Returns so many bytes 1.
+/// Returns `count` bytes, each of them 1.
 fn ones(rt: &(impl Abort + AllocGlobal), count: usize) -> Vec<u8> {
     [1].repeat(rt.alloc(), count).expect(rt, "memory")
 }

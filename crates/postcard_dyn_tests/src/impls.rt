@@ -196,7 +196,7 @@ fn names_what_is_wrong(rt: HostRuntime) {
     }
 }
 
-/// The types of a crate's root stand in no module.
+/// The types of a crate's root are in no module.
 #[test]
 fn names_an_enum_by_crate_and_module(rt: HostRuntime) {
     for (path, line) in &[
@@ -217,7 +217,7 @@ fn names_an_enum_by_crate_and_module(rt: HostRuntime) {
     }
 }
 
-/// What is written stands between the marks, and is written again just so.
+/// What is written is between the marks, and is written again just so.
 #[test]
 fn writes_the_same_again(rt: HostRuntime) {
     let once = printed(&rt, FILE);

@@ -55,7 +55,7 @@ impl Write for Failing {
     }
 }
 
-/// Asserts that the call of these words, over an output that takes so many writes, has this status,
+/// Asserts that the call of these words, over an output that takes this number of writes, has this status,
 /// and that it flushes the output.
 fn check(
     rt: &(impl Abort + AllocGlobal),

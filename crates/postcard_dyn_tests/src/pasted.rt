@@ -1,4 +1,4 @@
-//! Tests of HEX as it is pasted: with signs between the bytes, as the lines that `xxd` and
+//! Tests of HEX as it is pasted: with separators between the bytes, as the lines that `xxd` and
 //! `hexdump -C` print, and as a text with a wrong character.
 
 use crate::calls::{Call, SENSOR, check_all, check_over};

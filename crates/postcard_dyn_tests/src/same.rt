@@ -1,5 +1,5 @@
-//! The assertion of all the tests: a function, since each macro that asserts is proved where it
-//! stands.
+//! The assertion of all the tests: a function, since each macro that asserts is proved where it is
+//! called.
 
 use std::fmt::Debug;
 use std::process::Abort;

@@ -52,7 +52,7 @@ pub fn show_f64<W: Write>(bits: u64, f: &mut Formatter<W>) -> fmt::Result
 }
 
 /// Takes blanks and then the text of an `f32`, and returns its bits: those of the float that is
-/// nearest to a number, or those that stand in parentheses after `nan`.
+/// nearest to a number, or those in parentheses after `nan`.
 ///
 /// # Errors
 ///
@@ -86,7 +86,7 @@ pub fn read_f32(rest: &mut &[u8]) -> Result<u32, Stop<'static>>
 }
 
 /// Takes blanks and then the text of an `f64`, and returns its bits: those of the float that is
-/// nearest to a number, or those that stand in parentheses after `nan`.
+/// nearest to a number, or those in parentheses after `nan`.
 ///
 /// # Errors
 ///

@@ -259,7 +259,7 @@ fn separate<'a>(
     expect_all(rest, between, expected)
 }
 
-/// Returns what is expected before a part behind another one: `=>` in an entry of a map, and else
+/// Returns what is expected before a part after another one: `=>` in an entry of a map, and else
 /// `,`, with the name of the field that is to follow.
 fn before<'a>(part: &'a Schema, between: &[u8]) -> Expected<'a>
     ensures { between.now ≡ codes "=>" → result ≡ Expected.Arrow }

@@ -1,4 +1,4 @@
-//! Lists of numbers whose bytes are in memory.
+//! Lists of numbers at their full width, read many at a time from bytes that are in memory.
 
 ghost use Rattle.std.specs.Prelude.{◌≡◌, ◌<◌, ◌≤◌, ℕ, List, length, take, IfErr, IfOk, IfSome};
 ghost use Rattle.std.specs.Option.{IfNone};

@@ -12,9 +12,9 @@
 //! type Millimetres = i32;
 //! ```
 //!
-//! The impls are written between two marks ([`marks`]), behind the text of a file that has none. What
-//! stands between the marks isn't read, and what stands outside of them is kept as it is, so that a second
-//! run replaces just the impls. They name all that they use by its path, and no `use` line of the file.
+//! The impls are written between two marks ([`marks`]), after the text of a file that has none. What is
+//! between the marks isn't read, and what is outside of them is kept as it is, so that a second run
+//! replaces just the impls. They name all that they use by its path, and no `use` line of the file.
 //!
 //! Which impls a type has, and which types have none, `postcard_impl_text` says.
 #![tactic(auto)]
@@ -38,7 +38,7 @@ pub use postcard_impl_error::{Home, ImplError, ImplProblem};
 use postcard_impl_text::{impls_of, text_at};
 use std::alloc::Global;
 
-/// Returns the file with the impls of its types between its marks. What stands outside of the marks is
+/// Returns the file with the impls of its types between its marks. What is outside of the marks is
 /// kept; in a file without marks, they are put at its end. `home` is the place of the file.
 ///
 /// # Errors
@@ -88,7 +88,7 @@ fn generated(
     impls_of(alloc, home, file, all.as_slice(), known.as_slice())
 }
 
-/// Returns the bytes of the file, with blanks for what stands between its marks, and `_` for each byte of a
+/// Returns the bytes of the file, with blanks for what is between its marks, and `_` for each byte of a
 /// character beyond ASCII.
 fn plain(alloc: Global, file: &str, outside: Outside) -> Result<Vec<u8>, ImplProblemAt> {
     let start = outside.before.len();

@@ -15,7 +15,7 @@ use std::fmt;
 /// Why no impls are written.
 #[derive(Clone, Copy, Debug, PartialEq, Eq)]
 pub enum ImplProblem {
-    /// The first mark stands in the file, and no second one after it.
+    /// The first mark is in the file, and no second one after it.
     MarkOpen,
     /// The second mark stands in the file, and no first one before it.
     MarkAlone,

@@ -10,8 +10,8 @@
 //! A struct goes via the tuple of its fields, an enum via its variants in a row, and more than eight
 //! fields via tuples of five. If a struct or a variant has more than one signed number, or an enum more than
 //! three variants, a trait of the file, `FromDecoded`, makes the value of what was read, so that the
-//! prover follows. A type that has no impls that would be
-//! proved is refused with the place of the field, by one of [`ImplProblem`].
+//! prover follows. A type that has no impls that would be proved is refused with the place of the
+//! field, by one of [`ImplProblem`].
 //!
 //! It is done in three steps, one module each: the items of the file (`read`), which impls each item has
 //! ([`form`]), and the text of these; `structs` and `enums` write it.
@@ -38,8 +38,8 @@ pub use scan::text_at;
 use std::alloc::Global;
 use write::impls;
 
-/// Returns the impls of the types that a file declares, which has these tokens and these declarations,
-/// and stands at this place.
+/// Returns the impls of the types that a file declares, which has these tokens and these declarations.
+/// `home` is the place of the file.
 ///
 /// # Errors
 ///

@@ -1,4 +1,4 @@
-//! What a type returns to write many values at once.
+//! The encodings of the first items of a list, by which many are written at once.
 
 /// The encodings of some first items of a list, one after the other
 /// ([`Shaped::first_bytes`](crate::Shaped::first_bytes)).

@@ -1,11 +1,11 @@
-//! Floating-point numbers are values of their formats.
+//! Functions that tell the prover that a floating-point number is a value of its format.
 
 ghost use Rattle.std.specs.Prelude.{◌≡◌, T};
 ghost use Rattle.std.specs.Float.{binary32, binary64};
 ghost use Rattle.std.specs.Float.Ieee.{fits};
 
-/// Returns the same number. Its contract tells the prover that it is a value of its format, which
-/// the prover doesn't know of a number behind a reference.
+/// Returns the same number. The prover doesn't know of a number that it finds behind a reference that
+/// it is a value of its format.
 pub fn known_f32(x: f32) -> f32
     ensures same { result ≡ x }
     ensures fits { T (fits binary32 x) }

@@ -1,4 +1,4 @@
-//! Numbers of a fixed width, from 8 to 128 bits.
+//! Integers of 8 to 128 bits.
 
 ghost use Rattle.postcard_de.specs.Reads.{ReadsNode, byte_node, int_node, num_node};
 ghost use Rattle.postcard_de.specs.Reads.{signed_byte_node, source_of};

@@ -1,5 +1,5 @@
-//! The calls for tuples, structs and maps, and for their parts. A tuple or a struct begins with
-//! nothing written.
+//! The calls for tuples, structs and maps, and for their parts. Nothing is written before the parts
+//! of a tuple or a struct.
 
 ghost use Rattle.std.specs.Prelude.{◌≡◌, [], IsOk, IsErrOf, IfSome, OnOk};
 ghost use Rattle.std.specs.Option.{IfNone};

@@ -1,4 +1,4 @@
-//! Numbers of a fixed width: one byte for 8 bits, in two's complement if signed, and else a varint
+//! Integers of 8 to 128 bits: one byte for 8 bits, in two's complement if signed, and else a varint
 //! of at most 3, 5, 10 or 19 bytes, of the zigzag encoding if signed.
 
 use crate::serialize::Serialize;

@@ -1,4 +1,4 @@
-//! The shapes of numbers of a fixed width.
+//! The shapes of integers of 8 to 128 bits.
 
 ghost use Rattle.std.specs.Prelude.{◌≡◌, ◌<◌, ◌≤◌, length, take, refl};
 ghost use Rattle.std.specs.Prelude.{IfErr, IfOk, IfSome, IsSome};
