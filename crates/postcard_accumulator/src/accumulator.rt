@@ -1,4 +1,4 @@
-//! The accumulator, which puts frames together from the pieces of a stream: [`CobsAccumulator`].
+//! The accumulator: [`CobsAccumulator`].
 
 ghost use Rattle.std.specs.Prelude.{◌≡◌, ◌+◌, ◌≤◌, List, ℕ, [], ◌++◌, length, take};
 ghost use Rattle.std.specs.Prelude.{false, IfOk, OnErr};

@@ -28,7 +28,7 @@ pub enum Failure {
     /// The library failed to encode or decode the value, or an allocation failed while TYPE, VALUE
     /// or HEX was read.
     Library(Error),
-    /// The library failed to decode, and a line that says so is printed, but for its end.
+    /// The library failed to decode, and a line that says so is printed, but for its line feed.
     Refused,
     /// The output can't be written.
     Output,

@@ -1,4 +1,5 @@
-//! The command `frames`, which prints the frames of a stream, each on a line.
+//! The command `frames` without a TYPE, which prints each frame of a stream as a list of bytes, on a
+//! line.
 
 ghost use Rattle.std.specs.Prelude.{◌≡◌, IfErr, OnOk};
 ghost use Rattle.std.specs.Io.KnownBytes.{Appends};

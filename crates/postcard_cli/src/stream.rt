@@ -1,5 +1,5 @@
-//! The commands `frames TYPE` and `frames --json TYPE`, which print the values of a stream of frames,
-//! each on a line as soon as its frame has ended.
+//! The command `frames` with a TYPE, which prints the values of a stream of frames, each on a line as
+//! soon as its frame has ended.
 
 ghost use Rattle.std.specs.Prelude.{◌≡◌, ◌+◌, ◌-◌, ◌^◌, ◌<◌, ◌≤◌, ℕ, List, [], ◌∷◌, ◌++◌, length};
 ghost use Rattle.std.specs.Prelude.{Some, IfOk, IfErr, IfSome, IfNone, OnOk, false, min, take};

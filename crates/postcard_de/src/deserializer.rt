@@ -35,9 +35,9 @@ use std::marker::PhantomData;
 ///
 /// A call fails with `DeserializeUnexpectedEnd` if the source can't give the bytes that it takes. A
 /// number of 16 or more bits fails with `DeserializeBadVarint` if its varint has more bytes than
-/// the width allows, 3, 5, 10 or 19, or its number more bits; as many bytes are taken then. The
-/// index of a variant is a number of 32 bits, and a count or a length one of 64. A call that reads
-/// other values fails as reading the first of them that can't be read does.
+/// the width allows, 3, 5, 10 or 19, or its number more bits; the greatest number of bytes is taken
+/// then. The index of a variant is a number of 32 bits, and a count or a length one of 64. A call
+/// that reads other values fails as reading the first of them that can't be read does.
 #[derive(Drop)]
 pub struct Deserializer<'de, F: Flavor> {
     pub(crate) flavor: F,
@@ -131,7 +131,7 @@ impl<'de, F: Flavor> Deserializer<'de, F> {
         Ok(n)
     }
 
-    /// Reads a signed number of 16 bits: its zigzag form, a varint of at most 3 bytes.
+    /// Reads a signed number of 16 bits: its zigzag encoding, a varint of at most 3 bytes.
     pub fn deserialize_i16(&mut self) -> Result<i16>
         ensures { ReadsNode F.Flavor (int_node 16)
             (source_of self.old) result (source_of self.new) }
@@ -140,7 +140,7 @@ impl<'de, F: Flavor> Deserializer<'de, F> {
         Ok(zigzag::de_zig_zag_i16(folded as u16))
     }
 
-    /// Reads a signed number of 32 bits: its zigzag form, a varint of at most 5 bytes.
+    /// Reads a signed number of 32 bits: its zigzag encoding, a varint of at most 5 bytes.
     pub fn deserialize_i32(&mut self) -> Result<i32>
         ensures { ReadsNode F.Flavor (int_node 32)
             (source_of self.old) result (source_of self.new) }
@@ -149,7 +149,7 @@ impl<'de, F: Flavor> Deserializer<'de, F> {
         Ok(zigzag::de_zig_zag_i32(folded as u32))
     }
 
-    /// Reads a signed number of 64 bits: its zigzag form, a varint of at most 10 bytes.
+    /// Reads a signed number of 64 bits: its zigzag encoding, a varint of at most 10 bytes.
     pub fn deserialize_i64(&mut self) -> Result<i64>
         ensures { ReadsNode F.Flavor (int_node 64)
             (source_of self.old) result (source_of self.new) }
@@ -158,7 +158,7 @@ impl<'de, F: Flavor> Deserializer<'de, F> {
         Ok(zigzag::de_zig_zag_i64(folded as u64))
     }
 
-    /// Reads a signed number of 128 bits: its zigzag form, a varint of at most 19 bytes.
+    /// Reads a signed number of 128 bits: its zigzag encoding, a varint of at most 19 bytes.
     pub fn deserialize_i128(&mut self) -> Result<i128>
         ensures { ReadsNode F.Flavor (int_node 128)
             (source_of self.old) result (source_of self.new) }

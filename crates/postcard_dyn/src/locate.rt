@@ -112,7 +112,7 @@ fn refused_content(alloc: Global, variants: &Vec<Schema>, bytes: &[u8]) -> Resul
     }
 }
 
-/// Converts an offset in `rest`, the last of the bytes, to an offset in all of them.
+/// Converts an offset in `rest`, with which the bytes end, to an offset in all of them.
 fn offset_after(bytes: &[u8], rest: &[u8], offset: usize) -> usize
     ensures { result ≤ length bytes.now }
 {

@@ -1,5 +1,5 @@
-//! Tests of the crates for types known only at run time: expressions, messages, the texts of
-//! values, all three from end to end, the calls of `pcard`, and the impls of a file's types.
+//! Tests of the crates for types known only at run time: expressions, messages, the texts and the
+//! JSON of values, all of these from end to end, the calls of `pcard`, and the impls of a file's types.
 #![tactic(auto)]
 
 #[cfg(test)]
