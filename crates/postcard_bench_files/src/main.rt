@@ -27,7 +27,7 @@ fn numbered(i: u32) -> Record<'static> {
     (mixed >> (i % 4 * 8), b as u16, c, "twelve bytes")
 }
 
-/// Writes `count` records behind a buffer of 8,192 bytes, each by a call of `to_io`, which flushes the buffer.
+/// Writes `count` records through a buffer of 8,192 bytes, each by a call of `to_io`, which flushes the buffer.
 fn write_records(alloc: Global, count: u32, file: File) -> Result<u64> {
     let mut writer = BufWriter::new(alloc, file)?;
     for i in 0..count {
@@ -36,7 +36,7 @@ fn write_records(alloc: Global, count: u32, file: File) -> Result<u64> {
     Ok(u64::from(count))
 }
 
-/// Reads `count` records behind a buffer of 8,192 bytes, each by a call of `from_io`. Returns the sum of their first fields.
+/// Reads `count` records through a buffer of 8,192 bytes, each by a call of `from_io`. Returns the sum of their first fields.
 fn read_records(alloc: Global, count: u32, file: File) -> Result<u64> {
     let mut reader = Plain::new(BufReader::new(alloc, file)?);
     let mut sum: u64 = 0;
