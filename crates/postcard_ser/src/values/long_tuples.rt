@@ -3,6 +3,7 @@
 use crate::repr::SerializeRepr;
 use crate::serialize::Serialize;
 use crate::serializer::Serializer;
+use crate::values::tuples::{serialize_eight, serialize_five, serialize_seven, serialize_six};
 use postcard_ser_flavors::Flavor;
 use postcard_wire::Result;
 
@@ -37,9 +38,10 @@ impl<
             twelfth,
             thirteenth,
         ) = self;
-        let front = (first, second, third, fourth, fifth, sixth, seventh, eighth);
-        let five = (ninth, tenth, eleventh, twelfth, thirteenth);
-        (front, five).serialize(serializer)
+        serialize_eight(
+            first, second, third, fourth, fifth, sixth, seventh, eighth, serializer,
+        )?;
+        serialize_five(ninth, tenth, eleventh, twelfth, thirteenth, serializer)
     }
 }
 
@@ -76,9 +78,12 @@ impl<
             thirteenth,
             fourteenth,
         ) = self;
-        let front = (first, second, third, fourth, fifth, sixth, seventh, eighth);
-        let six = (ninth, tenth, eleventh, twelfth, thirteenth, fourteenth);
-        (front, six).serialize(serializer)
+        serialize_eight(
+            first, second, third, fourth, fifth, sixth, seventh, eighth, serializer,
+        )?;
+        serialize_six(
+            ninth, tenth, eleventh, twelfth, thirteenth, fourteenth, serializer,
+        )
     }
 }
 
@@ -117,11 +122,12 @@ impl<
             fourteenth,
             fifteenth,
         ) = self;
-        let front = (first, second, third, fourth, fifth, sixth, seventh, eighth);
-        let seven = (
-            ninth, tenth, eleventh, twelfth, thirteenth, fourteenth, fifteenth,
-        );
-        (front, seven).serialize(serializer)
+        serialize_eight(
+            first, second, third, fourth, fifth, sixth, seventh, eighth, serializer,
+        )?;
+        serialize_seven(
+            ninth, tenth, eleventh, twelfth, thirteenth, fourteenth, fifteenth, serializer,
+        )
     }
 }
 
@@ -162,10 +168,12 @@ impl<
             fifteenth,
             sixteenth,
         ) = self;
-        let front = (first, second, third, fourth, fifth, sixth, seventh, eighth);
-        let eight = (
+        serialize_eight(
+            first, second, third, fourth, fifth, sixth, seventh, eighth, serializer,
+        )?;
+        serialize_eight(
             ninth, tenth, eleventh, twelfth, thirteenth, fourteenth, fifteenth, sixteenth,
-        );
-        (front, eight).serialize(serializer)
+            serializer,
+        )
     }
 }

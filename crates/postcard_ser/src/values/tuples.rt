@@ -66,7 +66,14 @@ fn serialize_four<P: Serialize, Q: Serialize, R: Serialize, S: Serialize, F: Fla
     serialize_three(second, third, fourth, serializer)
 }
 
-fn serialize_five<P: Serialize, Q: Serialize, R: Serialize, S: Serialize, T: Serialize, F: Flavor>(
+pub(super) fn serialize_five<
+    P: Serialize,
+    Q: Serialize,
+    R: Serialize,
+    S: Serialize,
+    T: Serialize,
+    F: Flavor,
+>(
     first: &P,
     second: &Q,
     third: &R,
@@ -86,7 +93,7 @@ fn serialize_five<P: Serialize, Q: Serialize, R: Serialize, S: Serialize, T: Ser
     serialize_four(second, third, fourth, fifth, serializer)
 }
 
-fn serialize_six<
+pub(super) fn serialize_six<
     P: Serialize,
     Q: Serialize,
     R: Serialize,
@@ -119,7 +126,7 @@ fn serialize_six<
     serialize_five(second, third, fourth, fifth, sixth, serializer)
 }
 
-fn serialize_seven<
+pub(super) fn serialize_seven<
     P: Serialize,
     Q: Serialize,
     R: Serialize,
@@ -154,7 +161,7 @@ fn serialize_seven<
     serialize_six(second, third, fourth, fifth, sixth, seventh, serializer)
 }
 
-fn serialize_eight<
+pub(super) fn serialize_eight<
     P: Serialize,
     Q: Serialize,
     R: Serialize,
