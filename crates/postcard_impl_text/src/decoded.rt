@@ -2,8 +2,7 @@
 
 use crate::form::Form;
 use crate::item::Item;
-use crate::pieces::add;
-use postcard_impl_error::ImplProblemAt;
+use crate::text::Text;
 
 /// The trait of the types that are made of their parts, and what reads them. Where the prover doesn't
 /// follow many signed numbers into one value, it follows its parts.
@@ -60,39 +59,23 @@ const CLAUSE: &str = "        ensures { Reads F.Flavor Spells T.Parts.shape.read
 ";
 
 /// Adds the trait and the functions that read, if a type is read by its parts.
-pub(crate) fn add_decoded(
-    out: &mut String,
-    items: &[Item],
-    forms: &[Form],
-) -> Result<(), ImplProblemAt> {
+pub(crate) fn add_decoded(out: &mut Text, items: &[Item], forms: &[Form]) {
     if !forms.contains(&Form::ByParts) {
-        return Ok(());
+        return;
     }
-    add(out, &[FROM_DECODED, READ, CLAUSE])?;
-    add(
-        out,
-        &["    {\n        let parts = <T::Parts as postcard::Deserialize<'de>>"],
-    )?;
-    add(
-        out,
-        &["::deserialize(alloc, d)?;\n        Ok(T::from_decoded(parts))\n    }\n"],
-    )?;
+    out.add_all(&[FROM_DECODED, READ, CLAUSE]);
+    out.add("    {\n        let parts = <T::Parts as postcard::Deserialize<'de>>");
+    out.add("::deserialize(alloc, d)?;\n        Ok(T::from_decoded(parts))\n    }\n");
     if items
         .iter()
         .zip(forms)
         .any(|(item, form)| reads_owned(item, *form))
     {
-        add(out, &[READ_OWNED, CLAUSE])?;
-        add(
-            out,
-            &["    {\n        let parts = <T::Parts as postcard::DeserializeOwned>"],
-        )?;
-        add(
-            out,
-            &["::deserialize_owned(alloc, d)?;\n        Ok(T::from_decoded(parts))\n    }\n"],
-        )?;
+        out.add_all(&[READ_OWNED, CLAUSE]);
+        out.add("    {\n        let parts = <T::Parts as postcard::DeserializeOwned>");
+        out.add("::deserialize_owned(alloc, d)?;\n        Ok(T::from_decoded(parts))\n    }\n");
     }
-    add(out, &["}\n"])
+    out.add("}\n");
 }
 
 /// Returns whether the type is read by its parts, and by its own parameters' `DeserializeOwned`.

@@ -9,8 +9,11 @@ use postcard_dyn_schema::Problem;
 use postcard_impl_error::{ImplProblem, ImplProblemAt};
 use std::alloc::Global;
 
-/// Words of types whose values aren't written and read.
-const NOT_SERVED: [&[u8]; 24] = [
+/// Words and signs of types whose values aren't written and read.
+const NOT_SERVED: [&[u8]; 27] = [
+    b"*",
+    b"?",
+    b"!",
     b"dyn",
     b"impl",
     b"fn",
@@ -96,8 +99,8 @@ const FEW_VARIANTS: usize = 3;
 const SIGNED: [&[u8]; 6] = [b"i8", b"i16", b"i32", b"i64", b"i128", b"isize"];
 
 /// Which impls a type has.
-#[derive(Clone, Copy, Debug, PartialEq, Eq)]
-pub enum Form {
+#[derive(Clone, Copy, PartialEq, Eq)]
+pub(crate) enum Form {
     /// None: it is an alias.
     Alias,
     /// `Shaped` by `via`, `Serialize`, `Deserialize`, and `DeserializeOwned` if nothing in it borrows.
@@ -197,12 +200,18 @@ fn named(items: &[Item], token: Token) -> Option<usize> {
         .position(|item| token.says(item.name.as_bytes()))
 }
 
+/// Returns `false` for each item.
+fn flags(alloc: Global, items: &[Item]) -> Result<Vec<bool>, ImplProblemAt> {
+    let mut flags = Vec::new(alloc);
+    for _ in items {
+        flags.push(false)?;
+    }
+    Ok(flags)
+}
+
 /// Fails at a field of the first item that has itself in it.
 fn check_recursion(alloc: Global, tokens: &[Token], items: &[Item]) -> Result<(), ImplProblemAt> {
-    let mut done = Vec::new(alloc);
-    for _ in items {
-        done.push(false)?;
-    }
+    let mut done = flags(alloc, items)?;
     for _ in items {
         for (index, item) in items.iter().enumerate() {
             if first_open(tokens, items, done.as_slice(), item).is_none() {
@@ -252,10 +261,7 @@ fn open_in(tokens: &[Token], items: &[Item], done: &[bool], words: Span) -> Opti
 
 /// Returns of each item whether it holds no memory, unless one of its parameters does.
 fn light(alloc: Global, tokens: &[Token], items: &[Item]) -> Result<Vec<bool>, ImplProblemAt> {
-    let mut light = Vec::new(alloc);
-    for _ in items {
-        light.push(false)?;
-    }
+    let mut light = flags(alloc, items)?;
     for _ in items {
         for (index, item) in items.iter().enumerate() {
             if is_light(tokens, items, light.as_slice(), item) {
@@ -362,9 +368,9 @@ fn refusal_of(
     item: &Item,
     field: &Field,
 ) -> Option<ImplProblem> {
-    let expression = |problem| ImplProblem::File(FileProblem::Expression(problem));
     if field.text.is_empty() {
-        return Some(expression(Problem::TypeExpected));
+        let problem = FileProblem::Expression(Problem::TypeExpected);
+        return Some(ImplProblem::File(problem));
     }
     if field.text.contains("//") || field.text.contains("/*") {
         return Some(ImplProblem::Comment);
@@ -414,8 +420,7 @@ fn refusal_at(
     if (is_slice || token.says(b"str")) && !is_before(tokens, at, b"&") {
         return Some(ImplProblem::NotServed);
     }
-    let is_pointer = token.says(b"*") || token.says(b"?") || token.says(b"!");
-    if is_pointer || NOT_SERVED.iter().any(|word| token.says(word)) {
+    if NOT_SERVED.iter().any(|word| token.says(word)) {
         return Some(ImplProblem::NotServed);
     }
     if token.says(b":") || is_name_at(tokens, at) && next < end && is_name_at(tokens, next) {

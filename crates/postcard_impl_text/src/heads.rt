@@ -1,8 +1,8 @@
 //! The heads of impls and of their functions.
 
 use crate::item::Item;
-use crate::pieces::{Lifetimes, add, add_arguments, add_declared};
-use postcard_impl_error::ImplProblemAt;
+use crate::pieces::{Lifetimes, add_arguments, add_declared};
+use crate::text::Text;
 
 /// The `ghost use` line of `via`.
 pub(crate) const USE_VIA: &str = "    ghost use Rattle.postcard_shape.specs.Shape.{via};\n";
@@ -30,8 +30,8 @@ pub(crate) const DESERIALIZE_OWNED: &str =
 ";
 
 /// A trait whose impl is written: one of the library, or `FromDecoded`.
-#[derive(Clone, Copy, Debug, PartialEq, Eq)]
-pub enum Trait {
+#[derive(Clone, Copy)]
+pub(crate) enum Trait {
     Shaped,
     Serialize,
     Deserialize,
@@ -79,47 +79,37 @@ impl Trait {
 }
 
 /// Adds the head of an impl of a trait for a type.
-pub(crate) fn add_head(out: &mut String, item: &Item, of: Trait) -> Result<(), ImplProblemAt> {
-    add(out, &["\nimpl"])?;
-    add_declared(out, item, of.lifetimes(), of.bound())?;
-    add(out, &[" ", of.name(), " for "])?;
-    add(out, &[item.name])?;
-    add_arguments(out, item, of.lifetimes())?;
-    add(out, &[" {\n"])
+pub(crate) fn add_head(out: &mut Text, item: &Item, of: Trait) {
+    out.add("\nimpl");
+    add_declared(out, item, of.lifetimes(), of.bound());
+    out.add_all(&[" ", of.name(), " for "]);
+    out.add(item.name);
+    add_arguments(out, item, of.lifetimes());
+    out.add(" {\n");
 }
 
 /// Adds the head of an impl of a type's own functions, which ask `bound` of each parameter.
-pub(crate) fn add_own_head(
-    out: &mut String,
-    item: &Item,
-    bound: &str,
-) -> Result<(), ImplProblemAt> {
-    add(out, &["\nimpl"])?;
-    add_declared(out, item, Lifetimes::Own, bound)?;
-    add(out, &[" ", item.name])?;
-    add_arguments(out, item, Lifetimes::Own)?;
-    add(out, &[" {\n"])
+pub(crate) fn add_own_head(out: &mut Text, item: &Item, bound: &str) {
+    out.add("\nimpl");
+    add_declared(out, item, Lifetimes::Own, bound);
+    out.add_all(&[" ", item.name]);
+    add_arguments(out, item, Lifetimes::Own);
+    out.add(" {\n");
 }
 
 /// Adds the impl of `DeserializeOwned` for a type without parameters.
-pub(crate) fn add_owned(out: &mut String, item: &Item) -> Result<(), ImplProblemAt> {
-    add_head(out, item, Trait::DeserializeOwned)?;
-    add(out, &[DESERIALIZE_OWNED])?;
-    add(
-        out,
-        &["        postcard::Deserialize::deserialize(alloc, d)\n    }\n}\n"],
-    )
+pub(crate) fn add_owned(out: &mut Text, item: &Item) {
+    add_head(out, item, Trait::DeserializeOwned);
+    out.add(DESERIALIZE_OWNED);
+    out.add("        postcard::Deserialize::deserialize(alloc, d)\n    }\n}\n");
 }
 
 /// Adds the body of a function that reads a value by its parts, with the lifetime of what is read or with
 /// none, and the end of its impl.
-pub(crate) fn add_decoded_body(
-    out: &mut String,
-    lifetimes: Lifetimes,
-) -> Result<(), ImplProblemAt> {
+pub(crate) fn add_decoded_body(out: &mut Text, lifetimes: Lifetimes) {
     let call = match lifetimes {
         Lifetimes::Read => "read",
         _ => "read_owned",
     };
-    add(out, &["        Decoded::", call, "(alloc, d)\n    }\n}\n"])
+    out.add_all(&["        Decoded::", call, "(alloc, d)\n    }\n}\n"]);
 }

@@ -3,15 +3,15 @@
 use postcard_dyn_file::declaration::Kind;
 
 /// Some of the tokens of the file: from the index `start` to the one before `end`.
-#[derive(Clone, Copy, Debug)]
-pub struct Span {
+#[derive(Clone, Copy)]
+pub(crate) struct Span {
     pub start: usize,
     pub end: usize,
 }
 
 /// How the fields of a struct or a variant are written.
-#[derive(Clone, Copy, Debug, PartialEq, Eq)]
-pub enum Style {
+#[derive(Clone, Copy, PartialEq, Eq)]
+pub(crate) enum Style {
     /// There are none, and no brackets.
     Unit,
     /// `(A, B)`
@@ -21,8 +21,8 @@ pub enum Style {
 }
 
 /// A field.
-#[derive(Drop, Debug)]
-pub struct Field<'a> {
+#[derive(Drop)]
+pub(crate) struct Field<'a> {
     /// Its number in its struct or variant, counted from 0.
     pub number: usize,
     /// Its name, or its number in a tuple.
@@ -40,16 +40,16 @@ pub struct Field<'a> {
 }
 
 /// A struct or a variant: its name and its fields.
-#[derive(Drop, Debug)]
-pub struct Member<'a> {
+#[derive(Drop)]
+pub(crate) struct Member<'a> {
     pub name: &'a str,
     pub style: Style,
     pub fields: Vec<Field<'a>>,
 }
 
 /// The parameters of a type, as they stand in the file.
-#[derive(Drop, Debug)]
-pub struct Parameters<'a> {
+#[derive(Drop)]
+pub(crate) struct Parameters<'a> {
     /// Its lifetimes, as `'a`, with their bounds.
     pub lifetimes: Vec<&'a str>,
     /// Its parameters that are types, with their bounds.
@@ -57,8 +57,8 @@ pub struct Parameters<'a> {
 }
 
 /// A declaration.
-#[derive(Drop, Debug)]
-pub struct Item<'a> {
+#[derive(Drop)]
+pub(crate) struct Item<'a> {
     pub kind: Kind,
     pub name: &'a str,
     pub parameters: Parameters<'a>,

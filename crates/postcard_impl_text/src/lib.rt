@@ -14,18 +14,20 @@
 //! field, by one of [`ImplProblem`].
 //!
 //! It is done in three steps, one module each: the items of the file (`read`), which impls each item has
-//! ([`form`]), and the text of these; `structs` and `enums` write it.
+//! (`form`), and the text of these; `structs` and `enums` write it, into a `Text`
+//! that keeps its failure for the end.
 #![tactic(auto)]
 
 mod decoded;
 mod enums;
-pub mod form;
+mod form;
 mod heads;
-pub mod item;
+mod item;
 mod pieces;
 mod read;
 mod scan;
 mod structs;
+mod text;
 mod write;
 
 use form::forms;

@@ -2,7 +2,7 @@
 
 use crate::form::name_of;
 use crate::item::{Field, Item, Member, Style};
-use postcard_impl_error::ImplProblemAt;
+use crate::text::Text;
 
 /// How many fields one tuple has at most. More stand in tuples of [`GROUP`].
 const TUPLE: usize = 8;
@@ -11,105 +11,90 @@ const TUPLE: usize = 8;
 const GROUP: usize = 5;
 
 /// What stands for a field in a tuple.
-#[derive(Clone, Copy, Debug, PartialEq, Eq)]
-pub enum Piece {
+#[derive(Clone, Copy)]
+pub(crate) enum Piece {
     /// Its type, as `u8`.
     Type,
     /// The field of the prover's `v`, as `v.name`.
     OfValue,
     /// The prover's variable in the row of a variant, as `x0`.
     InRow,
-    /// The value behind that, as `x0.now`.
-    BehindRow,
     /// A reference to the field of `self`, as `&self.name`.
     Borrowed,
     /// The variable that has its value, as `name`.
     Variable,
 }
 
-/// Adds texts to the end of a text.
-pub(crate) fn add(out: &mut String, texts: &[&str]) -> Result<(), ImplProblemAt> {
-    for text in texts {
-        out.push_str(text)?;
-    }
-    Ok(())
-}
-
 /// Adds what stands for a field.
-fn add_piece(out: &mut String, field: &Field, piece: Piece) -> Result<(), ImplProblemAt> {
+fn add_piece(out: &mut Text, field: &Field, piece: Piece) {
     let name = field.name.as_str();
     match piece {
         Piece::Type => add_type(out, field.text),
-        Piece::OfValue => add(out, &["v.", name]),
+        Piece::OfValue => out.add_all(&["v.", name]),
         Piece::InRow => add_row_variable(out, field),
-        Piece::BehindRow => {
-            add_row_variable(out, field)?;
-            add(out, &[".now"])
-        }
-        Piece::Borrowed => add(out, &["&self.", name]),
-        Piece::Variable => add(out, &[field.variable.as_str()]),
+        Piece::Borrowed => out.add_all(&["&self.", name]),
+        Piece::Variable => out.add(field.variable.as_str()),
     }
 }
 
 /// Adds the prover's variable for a field of a variant.
-pub(crate) fn add_row_variable(out: &mut String, field: &Field) -> Result<(), ImplProblemAt> {
-    write!(out, "x{}", field.number)?;
-    Ok(())
+pub(crate) fn add_row_variable(out: &mut Text, field: &Field) {
+    out.add("x");
+    out.add_number(field.number);
 }
 
 /// Adds the text of a type, with one blank where it has several or the end of a line.
-pub(crate) fn add_type(out: &mut String, text: &str) -> Result<(), ImplProblemAt> {
+pub(crate) fn add_type(out: &mut Text, text: &str) {
     let mut is_first = true;
     for word in text.split_whitespace() {
         if !is_first {
-            out.push_str(" ")?;
+            out.add(" ");
         }
-        out.push_str(word)?;
+        out.add(word);
         is_first = false;
     }
-    Ok(())
 }
 
 /// Adds the tuple of the fields: nothing in brackets for none, of one itself, and past eight a tuple of
 /// tuples of five.
-pub(crate) fn add_tuple(
-    out: &mut String,
-    fields: &[Field],
-    piece: Piece,
-) -> Result<(), ImplProblemAt> {
+pub(crate) fn add_tuple(out: &mut Text, fields: &[Field], piece: Piece) {
     if fields.len() <= TUPLE {
-        return add_group(out, fields, piece);
+        add_group(out, fields, piece);
+        return;
     }
     let mut is_first = true;
     for group in fields.chunks(GROUP) {
-        add(out, &[if is_first { "(" } else { ", " }])?;
-        add_group(out, group, piece)?;
+        out.add(if is_first { "(" } else { ", " });
+        add_group(out, group, piece);
         is_first = false;
     }
-    add(out, &[")"])
+    out.add(")");
 }
 
 /// Adds one tuple of these fields.
-fn add_group(out: &mut String, fields: &[Field], piece: Piece) -> Result<(), ImplProblemAt> {
-    if let [field] = fields {
-        return add_piece(out, field, piece);
+fn add_group(out: &mut Text, fields: &[Field], piece: Piece) {
+    match fields {
+        [] => out.add(empty(piece)),
+        [field] => add_piece(out, field, piece),
+        _ => add_several(out, fields, piece),
     }
-    if fields.is_empty() {
-        return add(out, &[empty(piece)]);
-    }
+}
+
+/// Adds the tuple of two fields or more.
+fn add_several(out: &mut Text, fields: &[Field], piece: Piece) {
     let mut separator = "(";
     for field in fields {
-        add(out, &[separator])?;
-        add_piece(out, field, piece)?;
+        out.add(separator);
+        add_piece(out, field, piece);
         separator = ", ";
     }
-    add(out, &[")"])
+    out.add(")");
 }
 
 /// Returns what stands for no field.
 fn empty(piece: Piece) -> &'static str {
     match piece {
-        Piece::OfValue | Piece::InRow | Piece::BehindRow => "tt",
+        Piece::OfValue | Piece::InRow => "tt",
         Piece::Borrowed => "&()",
         Piece::Type | Piece::Variable => "()",
     }
@@ -117,36 +102,37 @@ fn empty(piece: Piece) -> &'static str {
 
 /// Adds the struct or the variant with the values of these variables. `path` is its name, and of a variant
 /// that of its enum before it.
-pub(crate) fn add_value(
-    out: &mut String,
-    path: &[&str],
-    member: &Member,
-) -> Result<(), ImplProblemAt> {
-    add(out, path)?;
+pub(crate) fn add_value(out: &mut Text, path: &[&str], member: &Member) {
+    out.add_all(path);
     let (opening, closing) = match member.style {
-        Style::Unit => return Ok(()),
+        Style::Unit => return,
         Style::Tuple => ("(", ")"),
         Style::Named if member.fields.is_empty() => (" {", "}"),
         Style::Named => (" { ", " }"),
     };
-    add(out, &[opening])?;
+    out.add(opening);
     let mut separator = "";
     for field in &member.fields {
-        add(out, &[separator])?;
-        let name = field.name.as_str();
-        let variable = field.variable.as_str();
-        if member.style == Style::Named && name != variable {
-            add(out, &[name, ": "])?;
-        }
-        add(out, &[variable])?;
+        out.add(separator);
+        add_field_value(out, member.style, field);
         separator = ", ";
     }
-    add(out, &[closing])
+    out.add(closing);
+}
+
+/// Adds the variable with the value of a field, after the field's name if it has another.
+fn add_field_value(out: &mut Text, style: Style, field: &Field) {
+    let name = field.name.as_str();
+    let variable = field.variable.as_str();
+    if style == Style::Named && name != variable {
+        out.add_all(&[name, ": "]);
+    }
+    out.add(variable);
 }
 
 /// Which lifetimes stand in the parameters of a type.
-#[derive(Clone, Copy, Debug, PartialEq, Eq)]
-pub enum Lifetimes {
+#[derive(Clone, Copy, PartialEq, Eq)]
+pub(crate) enum Lifetimes {
     /// Its own.
     Own,
     /// `'_` for each.
@@ -156,11 +142,7 @@ pub enum Lifetimes {
 }
 
 /// Adds the parameters of a type, in `<` and `>`, or nothing if it has none.
-pub(crate) fn add_arguments(
-    out: &mut String,
-    item: &Item,
-    lifetimes: Lifetimes,
-) -> Result<(), ImplProblemAt> {
+pub(crate) fn add_arguments(out: &mut Text, item: &Item, lifetimes: Lifetimes) {
     let mut separator = "<";
     for lifetime in &item.parameters.lifetimes {
         let text = match lifetimes {
@@ -168,47 +150,41 @@ pub(crate) fn add_arguments(
             Lifetimes::Any => "'_",
             Lifetimes::Read => "'de",
         };
-        add(out, &[separator, text])?;
+        out.add_all(&[separator, text]);
         separator = ", ";
     }
     for parameter in &item.parameters.types {
-        add(out, &[separator, name_of(parameter)])?;
+        out.add_all(&[separator, name_of(parameter)]);
         separator = ", ";
     }
-    close(out, separator)
+    close(out, separator);
 }
 
 /// Adds what an impl declares, in `<` and `>`, or nothing: the lifetime `'de` if the impl reads, the type's
 /// own lifetimes if it names them, and its parameters, each with `bound`.
-pub(crate) fn add_declared(
-    out: &mut String,
-    item: &Item,
-    lifetimes: Lifetimes,
-    bound: &str,
-) -> Result<(), ImplProblemAt> {
+pub(crate) fn add_declared(out: &mut Text, item: &Item, lifetimes: Lifetimes, bound: &str) {
     let mut separator = "<";
     if lifetimes == Lifetimes::Read {
-        add(out, &["<'de"])?;
+        out.add("<'de");
         separator = ", ";
     }
     if lifetimes == Lifetimes::Own {
         for lifetime in &item.parameters.lifetimes {
-            add(out, &[separator, lifetime])?;
+            out.add_all(&[separator, lifetime]);
             separator = ", ";
         }
     }
     for parameter in &item.parameters.types {
         let joint = if parameter.contains(':') { " + " } else { ": " };
-        add(out, &[separator, parameter, joint, bound])?;
+        out.add_all(&[separator, parameter, joint, bound]);
         separator = ", ";
     }
-    close(out, separator)
+    close(out, separator);
 }
 
 /// Adds the `>` of parameters, if one was before this separator.
-fn close(out: &mut String, separator: &str) -> Result<(), ImplProblemAt> {
-    if separator == "<" {
-        return Ok(());
+fn close(out: &mut Text, separator: &str) {
+    if separator != "<" {
+        out.add(">");
     }
-    add(out, &[">"])
 }

@@ -150,15 +150,28 @@ fn parameters<'a>(
     tokens: &[Token],
     start: usize,
 ) -> Result<(Parameters<'a>, usize), ImplProblemAt> {
-    let mut parameters = Parameters {
-        lifetimes: Vec::new(alloc),
-        types: Vec::new(alloc),
-    };
     let Some(inner) = after_word(tokens, start, b"<") else {
-        return Ok((parameters, start));
+        let none = Parameters {
+            lifetimes: Vec::new(alloc),
+            types: Vec::new(alloc),
+        };
+        return Ok((none, start));
     };
     let end = closing_angle(tokens, start);
-    let words = Span { start: inner, end };
+    let lifetimes = lifetimes(alloc, file, tokens, start, end)?;
+    let types = types(alloc, file, tokens, Span { start: inner, end })?;
+    Ok((Parameters { lifetimes, types }, end.saturating_add(1)))
+}
+
+/// Returns the lifetimes that parameters begin with, between the `<` and the `>` at these indices.
+fn lifetimes<'a>(
+    alloc: Global,
+    file: &'a str,
+    tokens: &[Token],
+    start: usize,
+    end: usize,
+) -> Result<Vec<&'a str>, ImplProblemAt> {
+    let mut lifetimes = Vec::new(alloc);
     for lifetime in raw_between(file, tokens, start, end).split(',') {
         let lifetime = lifetime.trim();
         if !lifetime.starts_with('\'') {
@@ -167,12 +180,23 @@ fn parameters<'a>(
         if lifetime.contains(':') {
             return Err(problem_at(tokens, start, ImplProblem::LifetimeBound));
         }
-        parameters.lifetimes.push(lifetime)?;
+        lifetimes.push(lifetime)?;
     }
+    Ok(lifetimes)
+}
+
+/// Returns the parameters that are types, of those that these tokens are.
+fn types<'a>(
+    alloc: Global,
+    file: &'a str,
+    tokens: &[Token],
+    words: Span,
+) -> Result<Vec<&'a str>, ImplProblemAt> {
+    let mut types = Vec::new(alloc);
     for part in parts(alloc, tokens, words, true)? {
-        parameters.types.push(parameter(file, tokens, part)?)?;
+        types.push(parameter(file, tokens, part)?)?;
     }
-    Ok((parameters, end.saturating_add(1)))
+    Ok(types)
 }
 
 /// Returns the parameter that these tokens are, a type with its bounds.
@@ -222,34 +246,44 @@ fn variants<'a>(
     }
     let mut members = Vec::new(alloc);
     for words in parts(alloc, tokens, inside(tokens, body), false)? {
-        let own = bare(tokens, words);
-        check_serde(
-            tokens,
-            Span {
-                start: words.start,
-                end: own.start,
-            },
-        )?;
-        if !is_name_at(tokens, own.start) {
-            let problem = ImplProblem::File(FileProblem::NameExpected);
-            return Err(problem_at(tokens, own.start, problem));
-        }
-        let end = own.start.saturating_add(1);
-        let name = text_of(
-            file,
-            tokens,
-            Span {
-                start: own.start,
-                end,
-            },
-        );
-        check_end(tokens, end, own.end)?;
-        members.push(member(alloc, file, tokens, name, end)?)?;
+        members.push(variant(alloc, file, tokens, words)?)?;
     }
     if members.is_empty() {
         return Err(problem_at(tokens, body, ImplProblem::NoVariant));
     }
     Ok(members)
+}
+
+/// Returns the variant that these tokens are.
+fn variant<'a>(
+    alloc: Global,
+    file: &'a str,
+    tokens: &[Token],
+    words: Span,
+) -> Result<Member<'a>, ImplProblemAt> {
+    let own = bare(tokens, words);
+    check_serde(
+        tokens,
+        Span {
+            start: words.start,
+            end: own.start,
+        },
+    )?;
+    if !is_name_at(tokens, own.start) {
+        let problem = ImplProblem::File(FileProblem::NameExpected);
+        return Err(problem_at(tokens, own.start, problem));
+    }
+    let end = own.start.saturating_add(1);
+    let name = text_of(
+        file,
+        tokens,
+        Span {
+            start: own.start,
+            end,
+        },
+    );
+    check_end(tokens, end, own.end)?;
+    member(alloc, file, tokens, name, end)
 }
 
 /// Fails where something else than its number follows the fields of the variant that begin at the index, if
@@ -283,9 +317,6 @@ fn member<'a>(
     if style != Style::Unit {
         for words in parts(alloc, tokens, inside(tokens, body), true)? {
             let number = fields.len();
-            if number >= MAX_FIELDS {
-                return Err(problem_at(tokens, words.start, ImplProblem::TooManyFields));
-            }
             fields.push(field(alloc, file, tokens, words, style, number)?)?;
         }
     }
@@ -305,6 +336,9 @@ fn field<'a>(
     style: Style,
     number: usize,
 ) -> Result<Field<'a>, ImplProblemAt> {
+    if number >= MAX_FIELDS {
+        return Err(problem_at(tokens, words.start, ImplProblem::TooManyFields));
+    }
     let own = bare(tokens, words);
     check_serde(
         tokens,

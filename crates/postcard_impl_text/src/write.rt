@@ -5,6 +5,7 @@ use crate::enums::add_enum;
 use crate::form::Form;
 use crate::item::Item;
 use crate::structs::add_struct;
+use crate::text::Text;
 use postcard_dyn_file::declaration::Kind;
 use postcard_impl_error::{Home, ImplProblemAt};
 use std::alloc::Global;
@@ -16,14 +17,14 @@ pub(crate) fn impls(
     items: &[Item],
     forms: &[Form],
 ) -> Result<String, ImplProblemAt> {
-    let mut out = String::new(alloc);
-    add_decoded(&mut out, items, forms)?;
+    let mut out = Text::new(alloc);
+    add_decoded(&mut out, items, forms);
     for (item, form) in items.iter().zip(forms) {
         match item.kind {
-            Kind::Struct => add_struct(&mut out, item, *form)?,
-            Kind::Enum => add_enum(&mut out, home, item, *form)?,
+            Kind::Struct => add_struct(&mut out, item, *form),
+            Kind::Enum => add_enum(&mut out, home, item, *form),
             Kind::Alias => {}
         }
     }
-    Ok(out)
+    out.finish()
 }
