@@ -8,8 +8,6 @@
 pub mod call;
 pub mod fault;
 pub mod files;
-#[cfg(test)]
-mod tests;
 pub mod type_name;
 
 pub use call::run;

@@ -47,8 +47,6 @@ pub mod expand;
 pub mod kept;
 pub mod lex;
 pub mod place;
-#[cfg(test)]
-mod tests;
 pub mod token;
 pub mod words;
 

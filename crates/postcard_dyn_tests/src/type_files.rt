@@ -2,8 +2,9 @@
 
 ghost use Rattle.std.specs.Prelude.{⊤};
 
-use crate::type_name::LONGEST_FILE;
-use crate::{Files, ReadError, run};
+use crate::same::same;
+use postcard_cli_files::type_name::LONGEST_FILE;
+use postcard_cli_files::{Files, ReadError, run};
 use std::alloc::Global;
 use std::process::Abort;
 
@@ -175,9 +176,9 @@ fn check(rt: &(impl Abort + AllocGlobal), call: &Call) {
         &mut output,
         &mut errors,
     );
-    assert_eq!(rt; output.as_slice(), printed.as_bytes(), "{call:?}");
-    assert_eq!(rt; errors.as_slice(), told.as_bytes(), "{call:?}");
-    assert_eq!(rt; found, *status, "{call:?}");
+    same(rt, output.as_slice(), printed.as_bytes(), call);
+    same(rt, errors.as_slice(), told.as_bytes(), call);
+    same(rt, found, *status, call);
 }
 
 #[test]
@@ -201,6 +202,6 @@ fn ends_with_three_if_an_error_is_not_written(rt: HostRuntime) {
         &mut output,
         &mut room.as_mut_slice(),
     );
-    assert_eq!(rt; status, 3);
-    assert!(rt; output.is_empty());
+    same(&rt, status, 3, "status");
+    same(&rt, output.as_slice(), b"".as_slice(), "output");
 }

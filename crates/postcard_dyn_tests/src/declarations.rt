@@ -1,6 +1,7 @@
 //! Tests of files of declarations: the types that their names stand for, and what is refused where.
 
-use crate::{expression, find};
+use crate::same::same;
+use postcard_dyn_file::{expression, find};
 use std::process::Abort;
 
 /// A file, a name, and the type that it stands for, printed by `Debug`, or the error as it is printed.
@@ -319,7 +320,7 @@ fn printed(rt: &(impl Abort + AllocGlobal), file: &str, name: &str) -> String {
 /// Asserts that each name stands for the type, or is refused with the error, that is printed so.
 fn check(rt: &(impl Abort + AllocGlobal), rows: &[Row]) {
     for (file, name, wanted) in rows {
-        assert_eq!(rt; printed(rt, file, name).as_str(), *wanted, "{file}");
+        same(rt, printed(rt, file, name).as_str(), *wanted, file);
     }
 }
 
@@ -338,8 +339,6 @@ fn refuses_files(rt: HostRuntime) {
 fn spells_types(rt: HostRuntime) {
     let file = "struct A { a: B, b: [&'static str; 2] } enum B { C, D(u8) }";
     let text = expression(rt.alloc(), file, "A").expect(&rt, "A");
-    assert_eq!(rt;
-        text.as_str(),
-        "{ a : (| C | D ( u8 ) ) , b : [ & str ; 2 ] } "
-    );
+    let wanted = "{ a : (| C | D ( u8 ) ) , b : [ & str ; 2 ] } ";
+    same(&rt, text.as_str(), wanted, "A");
 }
