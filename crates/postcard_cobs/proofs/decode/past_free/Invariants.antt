@@ -1,7 +1,7 @@
 -- The bytes of the blocks so far have no zero.
 use Rattle.std.proofs.Common.{◌-◌, ◌≤◌, length, take}
 use Rattle.postcard_cobs.specs.Groups.{NoZero}
-use Rattle.postcard_cobs.proofs.decode.run_by.Given as goal
+use Rattle.postcard_cobs.proofs.decode.past_free.Given as goal
 
 abbrev pub invariant-loop-n : goal.invariant-loop-n
 invariant-loop-n g l = record {
