@@ -1,11 +1,10 @@
 -- Lemmas on the digits of a literal, with a `_` anywhere among them.
-use Rattle.std.proofs.lemmas.Grind.{common_steps}
-use Rattle.std.proofs.Common.{◌≡◌, ◌≢◌, ℕ, ◌+◌, ◌*◌, ◌^◌, ◌<◌, ◌≤◌, Bool, true, false, cond, ◌||◌, ◌⊎◌, List, [], ◌∷◌, length, get_or, refl, subst, eqb-true, le-mul_of_pos_right, arith, inl, inr, zero, suc, nat_eq, sym, ap, ◌∙◌, true≢false}
+use Rattle.std.proofs.Common.{◌≡◌, ◌≢◌, ℕ, ◌+◌, ◌*◌, ◌^◌, ◌<◌, ◌≤◌, Bool, true, false, cond, ◌||◌, ◌⊎◌, List, [], ◌∷◌, length, get_or, refl, subst, eqb-true, le-mul_of_pos_right, arith, inl, inr}
 use Rattle.std.proofs.lemmas.Bool.Decides.{nat_tests}
 use Rattle.std.specs.Char.{digit_value, is_digit}
 use Rattle.std.specs.List.{AllPass}
 use Rattle.std.specs.Prelude.{Result, Ok, Err, IfErr}
-use Rattle.std.specs.Str.Parse.{AllDigits, digits_value_after, IsNumeral}
+use Rattle.std.specs.Str.Parse.{AllDigits, digits_value_after}
 use Rattle.postcard_dyn_schema.specs.declared.literal.LiteralError.{LiteralError}
 use Rattle.postcard_dyn_schema.specs.declared.literal.LiteralError.TheVariants.{Malformed, TooLarge}
 use Rattle.postcard_dyn_schema.specs.Literals.{is_underscore, without_underscores, AreDigits, radix_of, IsLiteral, IsNoNumber, with_byte, is_of_digits}

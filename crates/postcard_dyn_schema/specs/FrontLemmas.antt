@@ -1,12 +1,12 @@
 -- Lemmas on the front of a text: at most one sign, or one whole word, is next after blanks.
-use Rattle.std.proofs.Common.{◌≡◌, ℕ, zero, suc, ◌+◌, ◌-◌, ◌<◌, Bool, true, false, cond, List, [], ◌∷◌, ◌++◌, length, get_or, drop, refl, sym, ap, subst, ◌∙◌, true≢false, arith, inl, inr, ◌*◌, ◌^◌, ◌≤◌}
+use Rattle.std.proofs.Common.{◌≡◌, ℕ, zero, suc, ◌+◌, ◌-◌, ◌<◌, Bool, true, false, cond, List, [], ◌∷◌, ◌++◌, length, get_or, drop, refl, sym, ap, subst, ◌∙◌, true≢false, arith, inl, inr}
 use Rattle.std.proofs.lemmas.Bool.Decides.{nat_tests}
 use Rattle.std.proofs.lemmas.List.{append_assoc}
 use Rattle.std.proofs.lemmas.Str.{IsUtf8-from_ascii}
 use Rattle.std.proofs.lemmas.Str.Ascii.{trim_ascii_start_is, IsAscii-from_all}
 use Rattle.std.specs.List.{AllPass, prefix_len}
 use Rattle.std.specs.Str.{IsTrimAsciiStart, IsUtf8}
-use Rattle.std.specs.Char.{is_ascii_whitespace, is_ascii_digit}
+use Rattle.std.specs.Char.{is_ascii_whitespace}
 use Rattle.postcard_dyn_schema.specs.Text.{unblank, AreBlank, Led, Then, TakesPhrase, IsSign, IsWord, is_of_word, EndsWord, GoesOnBy}
 
 pub pass_head : (p : ℕ → Bool) (x : ℕ) (xs : List ℕ) → AllPass p (x ∷ xs) → p x ≡ true

@@ -1,12 +1,12 @@
 -- Lemmas on literals: a text spells one number at most, in bytes of a word, and which one.
-use Rattle.std.proofs.Common.{◌≡◌, ℕ, zero, suc, ◌<◌, ◌≤◌, Bool, true, false, cond, List, [], ◌∷◌, length, get_or, refl, sym, ap, subst, ◌∙◌, true≢false, arith, ◌⊎◌, inl, inr, ◌||◌}
+use Rattle.std.proofs.Common.{◌≡◌, ℕ, zero, suc, ◌<◌, ◌≤◌, Bool, true, false, cond, List, [], ◌∷◌, length, get_or, refl, sym, ap, subst, ◌∙◌, true≢false, arith, ◌⊎◌, inl, inr}
 use Rattle.std.proofs.lemmas.Bool.Decides.{nat_tests}
-use Rattle.std.specs.Char.{is_digit, digit_value}
+use Rattle.std.specs.Char.{is_digit}
 use Rattle.std.specs.List.{AllPass}
-use Rattle.std.specs.Str.Parse.{AllDigits, IsNumeral, digits_value}
-use Rattle.postcard_dyn_schema.specs.Literals.{is_underscore, without_underscores, AreDigits, IsDecimal, radix_of, IsLiteral, is_of_digits, IsMarked}
+use Rattle.std.specs.Str.Parse.{AllDigits, IsNumeral}
+use Rattle.postcard_dyn_schema.specs.Literals.{is_underscore, without_underscores, AreDigits, IsDecimal, radix_of, IsLiteral, is_of_digits}
 use Rattle.postcard_dyn_schema.specs.Text.{is_of_word}
-use Rattle.postcard_dyn_schema.specs.FrontLemmas.{same_first, same_rest, pass_head, pass_tail}
+use Rattle.postcard_dyn_schema.specs.FrontLemmas.{same_first, same_rest}
 
 pub pass_cons : (p : ℕ → Bool) (b : ℕ) (bs : List ℕ) → p b ≡ true → AllPass p bs → AllPass p (b ∷ bs)
 pass_cons p b bs h all zero d inside = h

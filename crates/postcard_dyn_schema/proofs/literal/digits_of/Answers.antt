@@ -1,4 +1,4 @@
-use Rattle.std.proofs.Common.{◌+◌, ◌≤◌, ◌^◌, drop, get_or, refl, arith, ◌≡◌, sym, ◌∙◌}
+use Rattle.std.proofs.Common.{◌+◌, ◌≤◌, ◌^◌, drop, get_or, refl, arith}
 use Rattle.std.proofs.lemmas.List.{at_drop_more}
 use Rattle.std.specs.Str.Parse.{digits_value, digits_value_after}
 use Rattle.postcard_dyn_schema.specs.Literals.{without_underscores, with_byte}

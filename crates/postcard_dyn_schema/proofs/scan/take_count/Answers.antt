@@ -1,4 +1,4 @@
-use Rattle.std.proofs.Common.{◌≡◌, ◌<◌, ◌^◌, arith, subst, ◌∙◌, ◌≤◌, sym}
+use Rattle.std.proofs.Common.{◌≡◌, ◌<◌, ◌^◌, arith, subst, ◌∙◌}
 use Rattle.postcard_dyn_schema.specs.Literals.{IsLiteral}
 use Rattle.postcard_dyn_schema.specs.Text.{IsWord, IsCount}
 use Rattle.postcard_dyn_schema.specs.Phrases.{takes_as}
