@@ -21,6 +21,7 @@ use crate::reason::reason;
 use arrayvec::ArrayVec;
 use postcard_de_flavors::Source;
 use postcard_dyn::{Schema, Value, refused_at, take_from_bytes, to_flavor};
+use postcard_dyn_json::error::colon_behind;
 use postcard_dyn_json::{JsonTextError, read_json, to_json};
 use postcard_ser_flavors::HVec;
 use postcard_wire::Error;
@@ -33,7 +34,7 @@ use std::io::Write;
 /// # Errors
 ///
 /// Fails as [`schema_of`] does, with `BadValue` if the text is no JSON of a value of the type, after
-/// the character of the text where it stops being one and what is expected there are printed, and
+/// the character of the text where it stops being one, the path to it and what is wrong are printed, and
 /// with `Library(SerializeBufferFull)` if the encoding is longer than 4,096 bytes.
 pub fn encode<W: Write>(
     alloc: Global,
@@ -71,10 +72,15 @@ fn encoding_of<W: Write>(
         Err(
             JsonTextError::NotAValue {
                 character,
+                path,
                 expected,
             },
         ) => {
-            write!(output, "at character {character}: expected {expected}: ")?;
+            let colon = colon_behind(&path);
+            write!(
+                output,
+                "at character {character}: {path}{colon}{expected}: "
+            )?;
             return Err(Failure::BadValue);
         }
         Err(JsonTextError::OutOfMemory) => return Err(Failure::from(Error::OutOfMemory)),
