@@ -21,7 +21,7 @@ use crate::reason::reason;
 use arrayvec::ArrayVec;
 use postcard_de_flavors::Reader;
 use postcard_dyn::{Schema, Value, refused_at, take_from_bytes, to_flavor};
-use postcard_dyn_json::error::colon_behind;
+use postcard_dyn_json::error::colon_after;
 use postcard_dyn_json::{JsonTextError, read_json, to_json};
 use postcard_ser_flavors::HVec;
 use postcard_wire::Error;
@@ -76,7 +76,7 @@ fn encoding_of<W: Write>(
                 expected,
             },
         ) => {
-            let colon = colon_behind(&path);
+            let colon = colon_after(&path);
             write!(
                 output,
                 "at character {character}: {path}{colon}{expected}: "
