@@ -12,7 +12,7 @@ use std::io::{self, Read};
 /// Why a file isn't read.
 #[derive(Clone, Copy, Debug, PartialEq, Eq)]
 pub enum ReadError {
-    /// There is no file with the name, or it can't be read.
+    /// There is no file with the name, or it can't be opened or read.
     Failed,
     /// An allocation failed.
     OutOfMemory,
@@ -43,7 +43,7 @@ pub trait Files {
     ///
     /// # Errors
     ///
-    /// Fails with `Failed` if it can't be read, and with `OutOfMemory` if an allocation fails. No file is
+    /// Fails with `Failed` if it can't be opened, and with `OutOfMemory` if memory is lacking. No file is
     /// open then.
     fn open(&self, name: &str) -> Result<Self::Opened, ReadError>
         ensures given { IfOk result
@@ -100,7 +100,7 @@ impl Source for DiskFile {
     ghost steady = { λ _. ⊥ };
 
     fn read_some(&mut self, buf: &mut [u8]) -> io::Result<usize> {
-        self.file.read(buf)
+        self.read(buf)
     }
 
     fn read_full(&mut self, buf: &mut [u8]) -> io::Result<()> {
