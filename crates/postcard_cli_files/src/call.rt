@@ -54,8 +54,8 @@ pub fn run<F: Files, R: Reader, W: Write, E: Write>(
     }
 }
 
-/// Prints a line that says why a name stands for no type of this file, and returns the exit status.
-fn tell<E: Write>(file: &str, fault: TypeFault, errors: &mut E) -> u8
+/// Prints a line that says what is wrong with this file, and returns the exit status.
+pub(crate) fn tell<E: Write>(file: &str, fault: TypeFault, errors: &mut E) -> u8
     ensures { Tells file.now fault (E.contents errors.old) (E.contents errors.new) result }
 {
     let printed = writeln!(errors, "pcard: {file}: {fault}");
