@@ -4,7 +4,7 @@ ghost use Rattle.std.specs.Prelude.{◌≡◌, ℕ, List, ⊤, take, IfOk, IfErr
 ghost use Rattle.postcard_cli_files.specs.Input.{MayHave};
 ghost use Rattle.postcard_cli_files.specs.declared.files.ReadError.TheVariants.{Failed};
 
-use postcard_de_flavors::Source;
+use postcard_de_flavors::Reader;
 use std::alloc::Global;
 use std::fs::File;
 use std::io::{self, Read};
@@ -21,7 +21,7 @@ pub enum ReadError {
 /// Files by their names.
 pub trait Files {
     /// A file that is open, from which its bytes are read in order.
-    type Opened: Source;
+    type Opened: Reader;
 
     /// A file with this name may have these bytes.
     ghost gives: { Self → List ℕ → List ℕ → Type 0 };
@@ -96,7 +96,7 @@ impl Read for DiskFile {
     }
 }
 
-impl Source for DiskFile {
+impl Reader for DiskFile {
     ghost steady = { λ _. ⊥ };
 
     fn read_some(&mut self, buf: &mut [u8]) -> io::Result<usize> {

@@ -26,7 +26,7 @@ use crate::fault::TypeFault;
 use crate::files::{Files, ReadError};
 use postcard_cli::limits::READS;
 use postcard_cli::syntax::SYNTAX;
-use postcard_de_flavors::Source;
+use postcard_de_flavors::Reader;
 use std::alloc::Global;
 use std::io::Write;
 
@@ -40,7 +40,7 @@ const CALL: usize = 3;
 /// If the file can't be opened, a line on `errors` says why, nothing is read, and nothing is printed to
 /// `output`. The status is then 1 if memory is lacking, 3 if the line can't be written, and else 2.
 /// If a read of the file fails, that is said as of an input whose read fails.
-pub fn run<F: Files, R: Source, W: Write, E: Write>(
+pub fn run<F: Files, R: Reader, W: Write, E: Write>(
     alloc: Global,
     words: &mut [String],
     files: &F,

@@ -4,7 +4,7 @@ ghost use Rattle.std.specs.Prelude.{⊤};
 
 use postcard_cli_files::type_name::LONGEST_FILE;
 use postcard_cli_files::{Files, ReadError};
-use postcard_de_flavors::Source;
+use postcard_de_flavors::Reader;
 use std::alloc::Global;
 use std::io::{self, ErrorKind, Read};
 use std::process::Abort;
@@ -46,7 +46,7 @@ impl Read for Open {
     }
 }
 
-impl Source for Open {
+impl Reader for Open {
     ghost steady = { λ _. ⊥ };
 
     fn read_some(&mut self, buf: &mut [u8]) -> io::Result<usize> {
