@@ -1,14 +1,14 @@
 //! The accumulator: [`CobsAccumulator`].
 
-ghost use Rattle.std.specs.Prelude.{◌≡◌, ◌+◌, ◌≤◌, List, ℕ, [], ◌++◌, length, take};
+ghost use Rattle.std.specs.Prelude.{◌≡◌, ◌+◌, ◌<◌, ◌≤◌, List, ℕ, [], ◌++◌, length, take, drop};
 ghost use Rattle.std.specs.Prelude.{false, IfOk, OnErr};
-ghost use Rattle.postcard_cobs.specs.Groups.{Groups, NoZero, before_zero};
+ghost use Rattle.postcard_cobs.specs.Groups.{Groups, NoZero};
 ghost use Rattle.postcard_accumulator.specs.State.{State, holding, held_of, is_skipping};
 ghost use Rattle.postcard_accumulator.specs.Feeding.{IsFedHolding};
 ghost use Rattle.postcard_accumulator.specs.Values.{IsDecoded, IsFed, IsOwn, IsReadOf, IsTaken};
 
 pub use crate::answers::FeedResult;
-use postcard_cobs::{decode_in_place, frame_len};
+use postcard_cobs::{decode_behind_code, frame_len};
 use postcard_de::{Deserialize, DeserializeOwned, Owned, from_bytes};
 use postcard_wire::Result;
 use std::alloc::Global;
@@ -47,16 +47,16 @@ impl<const N: usize> Default for CobsAccumulator<N> {
     }
 }
 
-/// Decodes the frame at the front of the first `end` bytes of a buffer in place, and returns the
-/// length of its data. Fails if and only if the frame has no data.
+/// Decodes the frame of the first `end` bytes of a buffer in place, and returns the length of its
+/// data, which begins at place 1. Fails if and only if the frame has no data.
 fn decode_front(buf: &mut [u8], end: usize) -> Result<usize>
-    requires { end ≤ length buf.old }
-    ensures decodes { IfOk result (λ n. (n ≤ length buf.new)
-        × Groups (before_zero (take end buf.old)) (take n buf.new)) }
-    ensures no_groups { OnErr result
-        ((d : List ℕ) → Groups (before_zero (take end buf.old)) d → ⊥) }
+    requires within { end ≤ length buf.old }
+    requires no_zero { NoZero (take end buf.old) }
+    ensures decodes { IfOk result (λ n. (n < length buf.new)
+        × Groups (take end buf.old) (take n (drop 1 buf.new))) }
+    ensures no_groups { OnErr result ((d : List ℕ) → Groups (take end buf.old) d → ⊥) }
 {
-    decode_in_place(&mut buf[..end])
+    decode_behind_code(&mut buf[..end])
 }
 
 /// Reads the value of a frame that was taken in, and so makes the result of a feed. The value may
@@ -135,7 +135,7 @@ impl<const N: usize> CobsAccumulator<N> {
         let all = &mut self.buf[..];
         let n = decode_front(all, end)?;
         let all = &self.buf[..];
-        Ok(&all[..n])
+        Ok(&all[1..n + 1])
     }
 
     /// The part of [`take_in`](CobsAccumulator::take_in) for an accumulator that isn't skipping a

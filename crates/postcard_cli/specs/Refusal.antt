@@ -1,7 +1,9 @@
 -- Which failure comes when, and what a command has printed before the line of its failure.
-use Rattle.std.specs.Prelude.{◌≡◌, ◌≢◌, ℕ, ◌+◌, ◌-◌, ◌^◌, ◌<◌, ◌≤◌, ◌⊎◌, ⊤, min, Bool, false, List, [], ◌++◌, length, codes, Option, Some, Result, Ok, IsErr, MatchResult}
+use Rattle.std.specs.Prelude.{◌≡◌, ◌≢◌, ℕ, ◌+◌, ◌-◌, ◌^◌, ◌<◌, ◌≤◌, ◌⊎◌, ⊤, min, Bool, false, List, [], ◌++◌, length, codes, string_bytes, Option, Some, Result, Ok, IsErr, MatchResult}
 use Rattle.std.specs.Fmt.{decimal, ◌++?◌}
 use Rattle.std.specs.Io.KnownBytes.{Consumes, IsAtEnd, Appends}
+use Rattle.std.specs.declared.alloc.Global.{Global}
+use Rattle.std.specs.declared.string.String.{String}
 use Rattle.hex.specs.Hex.{decode_of, encode_lower}
 use Rattle.postcard_wire.specs.Spelling.{canonical}
 use Rattle.postcard_wire.specs.declared.error.Error.{Error}
@@ -20,7 +22,7 @@ use Rattle.postcard_dyn_schema.specs.Printed.{expression_error_text}
 use Rattle.postcard_dyn_schema.specs.Text.{characters}
 use Rattle.postcard_dyn.specs.Tree.{tree}
 use Rattle.postcard_dyn.specs.declared.value.Value.{Value}
-use Rattle.postcard_dyn_json.specs.Printed.{IsPlaceIn as IsJsonPlace, expected_text as json_expected_text}
+use Rattle.postcard_dyn_json.specs.Printed.{IsPlaceIn as IsJsonPlace, colon_after, expected_text as json_expected_text}
 use Rattle.postcard_dyn_json.specs.declared.error.Expected.{Expected as JsonExpected}
 use Rattle.postcard_dyn_json.specs.declared.text.JsonTextError.TheVariants.{NotAValue as NoJson}
 use Rattle.postcard_dyn_text.specs.Place.{IsPlaceIn}
@@ -302,15 +304,16 @@ DecodeCheckedFails reads steady name expression hex known left old new failure =
 
 -- ---- JSON
 
--- The text is no JSON of a value of the expression, and the place of the error in it and what is expected there were printed.
+-- The text is no JSON of a value of the expression, and the place of the error in it, the path to it and what is wrong were printed.
 pub record IsJsonRefused (expression text : List ℕ) (old new : Option (List ℕ)) : Type 0 where
   pub schema : Schema
   pub spelled : IsExpression schema expression
   pub no_value : (v : Value) → reads (type_of schema) (tree v) → SpellsJson schema v text → ⊥
   pub character : ℕ
+  pub path : String Global
   pub expected : JsonExpected
-  pub within : IsJsonPlace text (NoJson character expected)
-  pub printed : Appends old new (codes "at character " ++ (decimal character ++ (codes ": expected " ++ (json_expected_text expected ++ codes ": "))))
+  pub within : IsJsonPlace text (NoJson character path expected)
+  pub printed : Appends old new (codes "at character " ++ (decimal character ++ (codes ": " ++ (string_bytes path ++ (colon_after (string_bytes path) ++ (json_expected_text expected ++ codes ": "))))))
 
 -- The text is JSON of a value of the expression whose encoding has more than 4,096 bytes.
 pub record HasLongJson (expression text : List ℕ) : Type 0 where

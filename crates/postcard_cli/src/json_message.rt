@@ -19,8 +19,9 @@ use crate::message::{schema_of, schema_of_records};
 use crate::place::path_of;
 use crate::reason::reason;
 use arrayvec::ArrayVec;
-use postcard_de_flavors::Source;
+use postcard_de_flavors::Reader;
 use postcard_dyn::{Schema, Value, refused_at, take_from_bytes, to_flavor};
+use postcard_dyn_json::error::colon_after;
 use postcard_dyn_json::{JsonTextError, read_json, to_json};
 use postcard_ser_flavors::HVec;
 use postcard_wire::Error;
@@ -33,7 +34,7 @@ use std::io::Write;
 /// # Errors
 ///
 /// Fails as [`schema_of`] does, with `BadValue` if the text is no JSON of a value of the type, after
-/// the character of the text where it stops being one and what is expected there are printed, and
+/// the character of the text where it stops being one, the path to it and what is wrong are printed, and
 /// with `Library(SerializeBufferFull)` if the encoding is longer than 4,096 bytes.
 pub fn encode<W: Write>(
     alloc: Global,
@@ -71,10 +72,15 @@ fn encoding_of<W: Write>(
         Err(
             JsonTextError::NotAValue {
                 character,
+                path,
                 expected,
             },
         ) => {
-            write!(output, "at character {character}: expected {expected}: ")?;
+            let colon = colon_after(&path);
+            write!(
+                output,
+                "at character {character}: {path}{colon}{expected}: "
+            )?;
             return Err(Failure::BadValue);
         }
         Err(JsonTextError::OutOfMemory) => return Err(Failure::from(Error::OutOfMemory)),
@@ -93,7 +99,7 @@ fn encoding_of<W: Write>(
 /// Fails as [`schema_of`] and [`hexadecimal::read_loose`] do, with `Refused` if the bytes begin with
 /// no message of the type, after a line of JSON is printed, without its line feed, that says where and
 /// why, and with `Library(WontImplement)` if the value has no JSON.
-pub fn decode<R: Source, W: Write>(
+pub fn decode<R: Reader, W: Write>(
     alloc: Global,
     expression: &str,
     hex: &str,
@@ -119,7 +125,7 @@ pub fn decode<R: Source, W: Write>(
 ///
 /// Fails as [`decode`] does, and with `BadType` if messages of the type have no bytes. The lines of
 /// the values before an error are printed.
-pub fn decode_all<R: Source, W: Write>(
+pub fn decode_all<R: Reader, W: Write>(
     alloc: Global,
     expression: &str,
     hex: &str,

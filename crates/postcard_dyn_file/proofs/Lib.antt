@@ -4,6 +4,7 @@ pub mod Fronts
 pub mod Declared
 pub mod Recursion
 pub mod Spelled
+pub mod Openings
 pub mod Limits
 pub mod Files
 pub mod Gaps

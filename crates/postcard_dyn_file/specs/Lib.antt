@@ -6,5 +6,6 @@ pub mod Items
 pub mod Printed
 pub mod Words
 pub mod Expands
+pub mod Openings
 pub mod Places
 pub mod Files

@@ -12,6 +12,7 @@ ghost use Rattle.postcard_dyn_file.specs.Items.{NamesDiffer};
 ghost use Rattle.postcard_dyn_file.specs.Tokens.{spelling};
 ghost use Rattle.postcard_dyn_file.specs.Printed.{is_of_type};
 ghost use Rattle.postcard_dyn_file.specs.Expands.{IsMember, Refers, Writes, Spelled, AreInOrder};
+ghost use Rattle.postcard_dyn_file.specs.Openings.{BeginsType, IsOpened};
 ghost use Rattle.postcard_dyn_file.specs.Expands.{IsSpelledBy, FindsRecursion, EntersAgain, HasProblem};
 
 use crate::declaration::{Declaration, Kind, named};
@@ -43,6 +44,7 @@ pub fn words_of<'a>(
     requires differ { NamesDiffer known.now }
     ensures spelled { IfOk result (λ words. IsSpelledBy tokens.now known.now name.now
         (spelling words.items)) }
+    ensures opens { IfOk result (λ words. IsOpened tokens.now known.now (spelling words.items)) }
     ensures problem { IfErr result (λ e. is_of_type e.problem ≡ true
         → HasProblem tokens.now known.now name.now e.problem) }
 {
@@ -83,6 +85,7 @@ fn write_declaration<'a>(
     requires inside { declaration.now.end ≤ length tokens.now }
     ensures written { OnOk result (Spelled tokens.now known.now declaration.now
         (spelling out.old.items) (spelling out.new.items)) }
+    ensures begins { OnOk result (BeginsType tokens.now declaration.now) }
     ensures kept { OnOk result (within.new.items ≡ within.old.items) }
     ensures problem { IfErr result (λ e. is_of_type e.problem ≡ true
         → FindsRecursion tokens.now known.now within.old.items declaration.now e.problem) }

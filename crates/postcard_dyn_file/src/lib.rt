@@ -39,6 +39,7 @@
 ghost use Rattle.std.specs.Prelude.{IfOk, IfErr, string_bytes};
 ghost use Rattle.postcard_dyn_schema.specs.declared.schema.Schema.{Schema};
 ghost use Rattle.postcard_dyn_schema.specs.Grammar.{IsExpression};
+ghost use Rattle.postcard_dyn_file.specs.Openings.{Opens};
 ghost use Rattle.postcard_dyn_file.specs.Files.{IsExpressionOf, IsTypeOf, HasProblemOf, IsWithin};
 
 pub mod declaration;
@@ -47,8 +48,6 @@ pub mod expand;
 pub mod kept;
 pub mod lex;
 pub mod place;
-#[cfg(test)]
-mod tests;
 pub mod token;
 pub mod words;
 
@@ -89,6 +88,7 @@ pub fn find(alloc: Global, file: &str, name: &str) -> Result<Schema, FileError>
 pub fn expression(alloc: Global, file: &str, name: &str) -> Result<String, FileError>
     ensures spelled { IfOk result (λ text. IsExpressionOf file.now name.now (string_bytes text)) }
     ensures read { IfOk result (λ text. (schema : Schema) × IsExpression schema (string_bytes text)) }
+    ensures opens { IfOk result (λ text. Opens (string_bytes text)) }
     ensures problem { IfErr result (λ e. HasProblemOf file.now name.now e.problem) }
     ensures place { IfErr result (λ e. IsWithin file.now e) }
 {
@@ -110,6 +110,7 @@ fn read(alloc: Global, file: &[u8], name: &[u8]) -> Result<Found, ProblemAt>
     ensures spelled { IfOk result (λ found. IsExpressionOf file.now name.now
         (string_bytes found.text)) }
     ensures read { IfOk result (λ found. IsExpression found.schema (string_bytes found.text)) }
+    ensures opens { IfOk result (λ found. Opens (string_bytes found.text)) }
     ensures problem { IfErr result (λ e. HasProblemOf file.now name.now e.problem) }
 {
     let all = tokens(alloc, file)?;

@@ -1,22 +1,24 @@
 //! What the tokens of a declaration stand for, and which tokens it may begin and end with.
 
-ghost use Rattle.std.specs.Prelude.{◌≡◌, ◌<◌, false, length, Decides, IfErr};
+ghost use Rattle.std.specs.Prelude.{◌≡◌, ◌<◌, true, false, length, Decides, IfErr, OnOk};
+ghost use Rattle.postcard_dyn_file.specs.Openings.{Opens, BeginsType};
 ghost use Rattle.postcard_dyn_file.specs.Printed.{is_of_type};
 ghost use Rattle.postcard_dyn_file.specs.Words.{IsSign, IsDiscriminant, IsText, IsStructText};
 ghost use Rattle.postcard_dyn_file.specs.Words.{IsEnumText, IsAliasText, IsPlainText};
 
 use crate::declaration::{Declaration, Kind};
 use crate::error::{FileProblem, ProblemAt};
-use crate::token::{Token, is_at, is_before, place_of};
+use crate::token::{Token, is_at, is_before, is_name_at, place_of};
 
-/// Fails where the tokens after the name of a declaration don't begin or end as its kind has to.
+/// Fails where the tokens after the name of a declaration don't begin or end as its kind has to. What
+/// the first of them stands for begins with `(` or `{` otherwise.
 pub fn check_body(tokens: &[Token], declaration: &Declaration) -> Result<(), ProblemAt>
-    ensures { IfErr result (λ e. is_of_type e.problem ≡ false) }
+    ensures begins { OnOk result (BeginsType tokens.now declaration.now) }
+    ensures other { IfErr result (λ e. is_of_type e.problem ≡ false) }
 {
     let start = declaration.start;
     let problem = match declaration.kind {
         _ if is_at(tokens, start, b"<") => FileProblem::Generic,
-        Kind::Struct if !begins_struct(tokens, start) => FileProblem::BodyExpected,
         Kind::Enum if !is_at(tokens, start, b"{") => FileProblem::BraceExpected,
         Kind::Alias if !is_at(tokens, start, b"=") => FileProblem::EqualsExpected,
         Kind::Alias if !is_before(tokens, declaration.end, b";") => {
@@ -25,7 +27,8 @@ pub fn check_body(tokens: &[Token], declaration: &Declaration) -> Result<(), Pro
                 left: place_of(tokens, declaration.end),
             });
         }
-        _ => return Ok(()),
+        _ if begins_type(tokens, declaration) => return Ok(()),
+        _ => FileProblem::BodyExpected,
     };
     Err(ProblemAt {
         problem,
@@ -33,9 +36,25 @@ pub fn check_body(tokens: &[Token], declaration: &Declaration) -> Result<(), Pro
     })
 }
 
-/// Returns whether `{`, `(` or `;` is at the index.
-fn begins_struct(tokens: &[Token], at: usize) -> bool {
-    is_at(tokens, at, b"{") || is_at(tokens, at, b"(") || is_at(tokens, at, b";")
+/// Returns whether a type may begin with the first token behind the name of a declaration: whether it is
+/// no name, and stands for a text that begins with `(` or `{`.
+fn begins_type(tokens: &[Token], declaration: &Declaration) -> bool
+    ensures { result ≡ true → BeginsType tokens.now declaration.now }
+{
+    let start = declaration.start;
+    start < tokens.len()
+        && !is_name_at(tokens, start)
+        && opens(text_of(tokens, declaration.kind, start))
+}
+
+/// Returns whether a text begins with `(` or `{`.
+fn opens(text: &[u8]) -> bool
+    ensures { result ≡ true → Opens text.now }
+{
+    match text.split_first() {
+        Some((first, _)) => *first == b'(' || *first == b'{',
+        None => false,
+    }
 }
 
 /// Returns the text that the token at the index stands for in a declaration of this kind.

@@ -43,17 +43,18 @@ expected_leaf_text leaf = leaf_name leaf
 abbrev pub members_text : ℕ → List ℕ
 members_text n = if nat_eq n 1 then codes "member" else codes "members"
 
--- The phrase for what is expected.
+-- The phrase for what is wrong: what is expected, or that a member is missing or unknown.
 abbrev pub expected_text : Expected → List ℕ
-expected_text (places.Leaf leaf) = expected_leaf_text leaf
-expected_text places.Option = codes "null or an object with the member Some alone"
-expected_text places.Array = codes "an array"
-expected_text (places.ArrayOf count) = codes "an array of length " ++ decimal count
-expected_text places.Null = codes "null"
-expected_text (places.ObjectOf count) = codes "an object with " ++ (decimal count ++ (codes " " ++ members_text count))
-expected_text places.Present = codes "a value"
-expected_text places.Variant = codes "a variant"
-expected_text places.Json = codes "JSON"
+expected_text (places.Leaf leaf) = codes "expected " ++ expected_leaf_text leaf
+expected_text places.Option = codes "expected null or an object with the member Some alone"
+expected_text places.Array = codes "expected an array"
+expected_text (places.ArrayOf count) = codes "expected an array of length " ++ decimal count
+expected_text places.Null = codes "expected null"
+expected_text (places.ObjectOf count) = codes "expected an object with " ++ (decimal count ++ (codes " " ++ members_text count))
+expected_text places.Present = codes "missing member"
+expected_text places.Absent = codes "unknown member"
+expected_text places.Variant = codes "expected a variant"
+expected_text places.Json = codes "expected JSON"
 
 -- What stands after a path.
 abbrev pub colon_after : List ℕ → List ℕ
@@ -62,15 +63,16 @@ colon_after (b ∷ path) = codes ": "
 
 -- The text of an error.
 abbrev pub json_error_text : JsonError → List ℕ
-json_error_text (NotAValue path expected) = string_bytes path ++ (colon_after (string_bytes path) ++ (codes "expected " ++ expected_text expected))
+json_error_text (NotAValue path expected) = string_bytes path ++ (colon_after (string_bytes path) ++ expected_text expected)
 json_error_text OutOfMemory = codes "out of memory"
 
 -- The place is the number of a character of the text, counted from 1, or the next number after the last.
 abbrev pub IsPlaceIn : List ℕ → JsonTextError → Type 0
-IsPlaceIn text (text_errors.NotAValue character expected) = (1 ≤ character) × (character ≤ characters text + 1)
+IsPlaceIn text (text_errors.NotAValue character path expected) = (1 ≤ character) × (character ≤ characters text + 1)
 IsPlaceIn text text_errors.OutOfMemory = Unit {0}
 
 -- The text of an error of reading a text.
 abbrev pub text_error_text : JsonTextError → List ℕ
-text_error_text (text_errors.NotAValue character expected) = codes "bad value at character " ++ (decimal character ++ (codes ": expected " ++ expected_text expected))
+text_error_text (text_errors.NotAValue character path expected) =
+    codes "bad value at character " ++ (decimal character ++ (codes ": " ++ (string_bytes path ++ (colon_after (string_bytes path) ++ expected_text expected))))
 text_error_text text_errors.OutOfMemory = codes "out of memory"

@@ -3,15 +3,15 @@
 ghost use Rattle.std.specs.Prelude.{◌≡◌, Some, OnOk, IfErr, ◌++◌, ◌∷◌, [], codes};
 ghost use Rattle.std.specs.Fmt.{decimal};
 ghost use Rattle.postcard_dyn_json.specs.Printed.{expected_leaf_text, expected_text, json_error_text};
-ghost use Rattle.postcard_dyn_json.specs.Printed.{IsAt, IsWithin, dot_before, members_text};
+ghost use Rattle.postcard_dyn_json.specs.Printed.{IsAt, IsWithin, colon_after, dot_before, members_text};
 ghost use Rattle.postcard_dyn_json.specs.declared.error.JsonError.TheVariants as errors;
 
 use postcard_dyn::{Leaf, Value};
 use std::alloc::Global;
 use std::fmt;
 
-/// What is expected in place of JSON that is no value. It is printed as a short phrase, such as `an
-/// array of length 2`.
+/// What is wrong with JSON that is no value. It is printed as a short phrase, such as `expected an
+/// array of length 2` or `unknown member`.
 #[derive(Clone, Copy, Debug, PartialEq, Eq)]
 pub enum Expected {
     /// A value of this type without parts.
@@ -28,6 +28,8 @@ pub enum Expected {
     ObjectOf(usize),
     /// The item or the member with which the path ends.
     Present,
+    /// No member with the name with which the path ends, since no field has it.
+    Absent,
     /// The name of a variant, or an object with the name and the content of a variant alone.
     Variant,
     /// JSON, in a text that isn't.
@@ -116,18 +118,24 @@ impl fmt::Display for Expected {
 
     fn fmt<W: fmt::Write>(&self, f: &mut fmt::Formatter<W>) -> fmt::Result {
         match self {
-            Expected::Leaf(leaf) => f.write_str(name_of(*leaf)),
-            Expected::Option => f.write_str("null or an object with the member Some alone"),
-            Expected::Array => f.write_str("an array"),
-            Expected::ArrayOf(count) => write!(f, "an array of length {count}"),
-            Expected::Null => f.write_str("null"),
+            Expected::Leaf(leaf) => {
+                let name = name_of(*leaf);
+                write!(f, "expected {name}")
+            }
+            Expected::Option => {
+                f.write_str("expected null or an object with the member Some alone")
+            }
+            Expected::Array => f.write_str("expected an array"),
+            Expected::ArrayOf(count) => write!(f, "expected an array of length {count}"),
+            Expected::Null => f.write_str("expected null"),
             Expected::ObjectOf(count) => {
                 let noun = noun(*count);
-                write!(f, "an object with {count} {noun}")
+                write!(f, "expected an object with {count} {noun}")
             }
-            Expected::Present => f.write_str("a value"),
-            Expected::Variant => f.write_str("a variant"),
-            Expected::Json => f.write_str("JSON"),
+            Expected::Present => f.write_str("missing member"),
+            Expected::Absent => f.write_str("unknown member"),
+            Expected::Variant => f.write_str("expected a variant"),
+            Expected::Json => f.write_str("expected JSON"),
         }
     }
 }
@@ -138,12 +146,19 @@ impl fmt::Display for JsonError {
     fn fmt<W: fmt::Write>(&self, f: &mut fmt::Formatter<W>) -> fmt::Result {
         match self {
             JsonError::NotAValue { path, expected } => {
-                let colon = if path.is_empty() { "" } else { ": " };
-                write!(f, "{path}{colon}expected {expected}")
+                let colon = colon_after(path);
+                write!(f, "{path}{colon}{expected}")
             }
             JsonError::OutOfMemory => f.write_str("out of memory"),
         }
     }
+}
+
+/// Returns what stands behind a path: `: `, but nothing behind an empty one.
+pub fn colon_after(path: &str) -> &'static str
+    ensures { result.now ≡ colon_after path.now }
+{
+    if path.is_empty() { "" } else { ": " }
 }
 
 /// Returns the word for this number of members.

@@ -6,11 +6,13 @@ ghost use Rattle.postcard_wire.specs.Tree.{Tree, trees, Present};
 ghost use Rattle.postcard_dyn.specs.Tree.{tree};
 ghost use Rattle.postcard_dyn_schema.specs.Meaning.{type_of, types_of, reads};
 ghost use Rattle.postcard_dyn_schema.specs.Meaning as types;
+ghost use Rattle.postcard_dyn_schema.specs.Names.{IsNewTo};
 ghost use Rattle.postcard_dyn_schema.specs.declared.schema.Schema.{Schema};
 ghost use Rattle.postcard_dyn_text.specs.Accepted.{HasDistinctNames, HaveDistinctNames};
 ghost use Rattle.postcard_dyn_text.specs.Shown.{layout_of, layouts_of, have_names};
 ghost use Rattle.postcard_dyn_text.specs.Shown as layouts;
 ghost use Rattle.serde_json.specs.Data.{string, Data};
+ghost use Rattle.serde_json.specs.Find.{get};
 ghost use Rattle.serde_json.specs.View.{view, items_view};
 ghost use Rattle.postcard_dyn_json.specs.Written.{alone, json_of};
 ghost use Rattle.postcard_dyn_json.specs.Reading.{IsJsonOf, AreItems, HasLength, part_of};
@@ -175,7 +177,7 @@ fn read_group(alloc: Global, parts: &Vec<Schema>, json: &Json) -> Result<Value, 
     }
     let named = is_struct(parts);
     if !has_length(json, named, parts.len()) {
-        return Err(JsonError::here(alloc, expected_of(named, parts.len())));
+        return Err(length_error(alloc, parts, json, named));
     }
     let values = read_parts(alloc, parts, json, named)?;
     Ok(Value::Group(values))
@@ -192,12 +194,64 @@ fn read_unit(alloc: Global, json: &Json) -> Result<Value, JsonError>
     Err(JsonError::here(alloc, Expected::Null))
 }
 
-/// Returns what is expected in place of a struct or a tuple of `count` parts.
-fn expected_of(named: bool, count: usize) -> Expected {
-    if named {
-        Expected::ObjectOf(count)
+/// Returns the error for JSON that isn't an object with as many members, or, if `named` is false, an
+/// array with as many items as a struct or a tuple has parts. It names the first field that an object
+/// lacks, or else a member that is no field.
+fn length_error(alloc: Global, parts: &Vec<Schema>, json: &Json, named: bool) -> JsonError {
+    if !named {
+        return JsonError::here(alloc, Expected::ArrayOf(parts.len()));
+    }
+    let Some(members) = json.as_object() else {
+        return JsonError::here(alloc, Expected::ObjectOf(parts.len()));
+    };
+    if let Some(name) = missing(parts, json) {
+        return JsonError::here(alloc, Expected::Present).at_name(alloc, name);
+    }
+    for name in members.keys() {
+        if !has_field(parts, name.as_bytes()) {
+            return unknown(alloc, name);
+        }
+    }
+    JsonError::here(alloc, Expected::ObjectOf(parts.len()))
+}
+
+/// Returns the name of the first field that JSON has no member for.
+fn missing<'a>(parts: &'a Vec<Schema>, json: &Json) -> Option<&'a str>
+    ensures { IfSome result (λ name. (e : Data) → get name.now (view json.now) ≡ Some e → ⊥) }
+{
+    for part in parts {
+        if let Schema::Named(name, _) = part {
+            if json.get(name.as_str()).is_none() {
+                return Some(name.as_str());
+            }
+        }
+    }
+    None
+}
+
+/// Returns whether a field has this name.
+fn has_field(parts: &Vec<Schema>, name: &[u8]) -> bool
+    ensures { result ≡ false → IsNewTo parts.now.items name.now }
+{
+    for part in parts {
+        if let Schema::Named(other, _) = part {
+            if other.as_bytes() == name {
+                return true;
+            }
+        }
+    }
+    false
+}
+
+/// Returns the error of a member that is no field. Its name is left out if it isn't letters and digits
+/// of ASCII and `_`, so that no control character is printed.
+fn unknown(alloc: Global, name: &str) -> JsonError {
+    let error = JsonError::here(alloc, Expected::Absent);
+    let is_plain = |byte: &u8| byte.is_ascii_alphanumeric() || *byte == b'_';
+    if name.as_bytes().iter().all(is_plain) {
+        error.at_name(alloc, name)
     } else {
-        Expected::ArrayOf(count)
+        error
     }
 }
 

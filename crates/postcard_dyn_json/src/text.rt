@@ -11,7 +11,7 @@ ghost use Rattle.postcard_dyn_json.specs.Printed.{IsPlaceIn, text_error_text};
 ghost use Rattle.postcard_dyn_json.specs.Reading.{IsJsonText};
 ghost use Rattle.postcard_dyn_json.specs.declared.error.JsonError.TheVariants as errors;
 
-use crate::error::{Expected, JsonError};
+use crate::error::{Expected, JsonError, colon_after};
 use crate::place::{from_line, from_part};
 use crate::read::from_json;
 use postcard_dyn::{Schema, Value};
@@ -21,14 +21,17 @@ use std::alloc::Global;
 use std::fmt;
 
 /// The error of reading a value from a JSON text. It is printed as `bad value at character 5:
-/// expected u8`.
-#[derive(Clone, Copy, Debug, PartialEq, Eq)]
+/// [1]: expected u8`.
+#[derive(Debug, Drop)]
 pub enum JsonTextError {
     /// The text is no JSON of a value of the schema.
     NotAValue {
         /// The place, counted from 1, where the text stops being JSON, or else where the first part
         /// begins that is no value. At the end of the text it is the number of characters plus 1.
         character: usize,
+        /// The path to that part, as `samples[1].id`, or to the member that is missing or unknown. Empty
+        /// for the whole, and for a text that isn't JSON.
+        path: String,
         /// What is expected there.
         expected: Expected,
     },
@@ -43,8 +46,15 @@ impl fmt::Display for JsonTextError {
         match self {
             JsonTextError::NotAValue {
                 character,
+                path,
                 expected,
-            } => write!(f, "bad value at character {character}: expected {expected}"),
+            } => {
+                let colon = colon_after(path);
+                write!(
+                    f,
+                    "bad value at character {character}: {path}{colon}{expected}"
+                )
+            }
             JsonTextError::OutOfMemory => f.write_str("out of memory"),
         }
     }
@@ -66,16 +76,16 @@ pub fn read_json(alloc: Global, schema: &Schema, text: &str) -> Result<Value, Js
 {
     let json = match Json::from_str(alloc, text) {
         Ok(json) => json,
-        Err(error) => return Err(syntax_error(text, &error)),
+        Err(error) => return Err(syntax_error(alloc, text, &error)),
     };
     match from_json(alloc, schema, &json) {
         Ok(value) => Ok(value),
-        Err(error) => Err(error_in(text, &error)),
+        Err(error) => Err(error_in(text, error)),
     }
 }
 
 /// Returns the error for a text that isn't JSON.
-fn syntax_error(text: &str, error: &Error) -> JsonTextError
+fn syntax_error(alloc: Global, text: &str, error: &Error) -> JsonTextError
     ensures place { IsPlaceIn text.now result }
     ensures memory { IsMemory error.now → result ≡ JsonTextError.OutOfMemory }
 {
@@ -87,29 +97,31 @@ fn syntax_error(text: &str, error: &Error) -> JsonTextError
     } else {
         from_line(text.as_bytes(), error.line(), error.column()).len()
     };
-    not_a_value(text, left, Expected::Json)
+    not_a_value(text, left, String::new(alloc), Expected::Json)
 }
 
 /// Returns the error for JSON that is no value of the schema.
-fn error_in(text: &str, error: &JsonError) -> JsonTextError
+fn error_in(text: &str, error: JsonError) -> JsonTextError
     ensures place { IsPlaceIn text.now result }
-    ensures memory { error.now ≡ errors.OutOfMemory → result ≡ JsonTextError.OutOfMemory }
+    ensures memory { error ≡ errors.OutOfMemory → result ≡ JsonTextError.OutOfMemory }
 {
     match error {
         JsonError::NotAValue { path, expected } => {
-            let rest = from_part(text.as_bytes(), path.as_bytes());
-            not_a_value(text, rest.len(), *expected)
+            let left = from_part(text.as_bytes(), path.as_bytes()).len();
+            not_a_value(text, left, path, expected)
         }
         JsonError::OutOfMemory => JsonTextError::OutOfMemory,
     }
 }
 
-/// Returns the error at the character that begins `left` bytes before the end of the text.
-fn not_a_value(text: &str, left: usize, expected: Expected) -> JsonTextError
+/// Returns the error of the part with this path, at the character that begins `left` bytes before the
+/// end of the text.
+fn not_a_value(text: &str, left: usize, path: String, expected: Expected) -> JsonTextError
     ensures place { IsPlaceIn text.now result }
 {
     JsonTextError::NotAValue {
         character: character_of(text.as_bytes(), left),
+        path,
         expected,
     }
 }

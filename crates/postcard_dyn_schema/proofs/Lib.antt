@@ -1,3 +1,4 @@
+pub mod Literals
 pub mod Rows
 pub mod Types
 pub mod TypeOf

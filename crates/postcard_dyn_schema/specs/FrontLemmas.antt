@@ -1,13 +1,13 @@
 -- Lemmas on the front of a text: at most one sign, or one whole word, is next after blanks.
-use Rattle.std.proofs.Common.{◌≡◌, ℕ, zero, suc, ◌+◌, ◌*◌, ◌-◌, ◌^◌, ◌<◌, ◌≤◌, Bool, true, false, cond, List, [], ◌∷◌, ◌++◌, length, get_or, drop, refl, sym, ap, subst, ◌∙◌, true≢false, arith, inl, inr}
+use Rattle.std.proofs.Common.{◌≡◌, ℕ, zero, suc, ◌+◌, ◌-◌, ◌<◌, Bool, true, false, cond, List, [], ◌∷◌, ◌++◌, length, get_or, drop, refl, sym, ap, subst, ◌∙◌, true≢false, arith, inl, inr}
 use Rattle.std.proofs.lemmas.Bool.Decides.{nat_tests}
 use Rattle.std.proofs.lemmas.List.{append_assoc}
 use Rattle.std.proofs.lemmas.Str.{IsUtf8-from_ascii}
 use Rattle.std.proofs.lemmas.Str.Ascii.{trim_ascii_start_is, IsAscii-from_all}
 use Rattle.std.specs.List.{AllPass, prefix_len}
 use Rattle.std.specs.Str.{IsTrimAsciiStart, IsUtf8}
-use Rattle.std.specs.Char.{is_ascii_whitespace, is_ascii_digit}
-use Rattle.postcard_dyn_schema.specs.Text.{unblank, AreBlank, Led, Then, TakesPhrase, IsSign, IsWord, IsCount, decimal, is_of_word, EndsWord, GoesOnBy}
+use Rattle.std.specs.Char.{is_ascii_whitespace}
+use Rattle.postcard_dyn_schema.specs.Text.{unblank, AreBlank, Led, Then, TakesPhrase, IsSign, IsWord, is_of_word, EndsWord, GoesOnBy}
 
 pub pass_head : (p : ℕ → Bool) (x : ℕ) (xs : List ℕ) → AllPass p (x ∷ xs) → p x ≡ true
 pass_head p x xs h = h 0 x (omega arith)
@@ -119,9 +119,6 @@ ends_at zero (b ∷ text) h = h (omega arith)
 ends_at (suc n) [] h = tt
 ends_at (suc n) (b ∷ text) h = ends_at n text (λ low. h (omega (arith, low)))
 
-pub digit_of_word : (b : ℕ) → is_ascii_digit b ≡ true → is_of_word b ≡ true
-digit_of_word b h = grind (arith, nat_tests)
-
 word_ascii : (b : ℕ) → is_of_word b ≡ true → b < 128
 word_ascii b h = grind (arith, nat_tests)
 
@@ -138,26 +135,6 @@ word_taken {text} {word} {after} (front, (pass, led), whole) (trimmed, trim, e) 
 pub same_word : (x : ℕ) (word v text after rest : List ℕ) → WordTaken text v after → TakesPhrase (IsWord (x ∷ word)) text rest → EndsWord rest → (x ∷ word ≡ v) × (rest ≡ after)
 same_word x word v text after rest taken (front, (pass, led), whole) ends =
     one_word (x ∷ word) v rest after pass taken.bytes ends taken.ends (sym (word_unblank x word text rest (front, (pass, led), whole)) ∙ taken.first)
-
--- What a count says of the word that is next.
-pub record CountOf (n : ℕ) (word after rest : List ℕ) : Type 0 where
-  pub filled : 0 < length word
-  pub digits : AllPass is_ascii_digit word
-  pub says : n ≡ decimal 0 word
-  pub low : n < 2 ^ 64
-  pub left : rest ≡ after
-
-pub count_of : (n : ℕ) (text word after rest : List ℕ) → WordTaken text word after → TakesPhrase (IsCount n) text rest → EndsWord rest → CountOf n word after rest
-count_of n text word after rest taken (front, ([], filled, pass, says, low, led), whole) ends = absurd (omega (arith, filled))
-count_of n text word after rest taken (front, (x ∷ ds, filled, pass, says, low, led), whole) ends =
-    let all : AllPass is_of_word (x ∷ ds) = λ k d inside. digit_of_word (get_or (x ∷ ds) k d) (pass k d inside) in
-    let same = same_word x ds word text after rest taken (front, (all, led), whole) ends in
-    record { filled = rw (← same.0) filled; digits = rw (← same.0) pass; says = rw (← same.0) says; low = low; left = same.1 }
-
--- More digits make a count no smaller.
-pub decimal_grows : (n : ℕ) (ds : List ℕ) → n ≤ decimal n ds
-decimal_grows n [] = omega arith
-decimal_grows n (d ∷ ds) = let more = decimal_grows (n * 10 + (d - 48)) ds in omega (arith, more)
 
 -- The bytes of a word are UTF-8.
 pub word_utf8 : (word : List ℕ) → AllPass is_of_word word → IsUtf8 word

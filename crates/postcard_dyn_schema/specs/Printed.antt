@@ -2,7 +2,7 @@
 use Rattle.std.specs.Prelude.{ℕ, List, ◌++◌, codes}
 use Rattle.std.specs.Fmt.{decimal}
 use Rattle.postcard_dyn_schema.specs.declared.error.Problem.{Problem}
-use Rattle.postcard_dyn_schema.specs.declared.error.Problem.TheVariants.{TypeExpected, UnknownType, VariantExpected, FieldExpected, LifetimeExpected, NameTwice, CommaOrParenthesis, CommaOrBrace, SemicolonOrBracket, BracketExpected, CommaExpected, GreaterExpected, ColonExpected, ArrowExpected, BraceExpected, CountExpected, CountTooLarge, NoBytes, NumberExpected, TooDeep, EndExpected, OutOfMemory}
+use Rattle.postcard_dyn_schema.specs.declared.error.Problem.TheVariants.{TypeExpected, UnknownType, VariantExpected, FieldExpected, LifetimeExpected, AsciiExpected, NameTwice, CommaOrParenthesis, CommaOrBrace, SemicolonOrBracket, BracketExpected, CommaExpected, GreaterExpected, ColonExpected, ArrowExpected, BraceExpected, CountExpected, CountTooLarge, NoBytes, NumberExpected, TooDeep, EndExpected, OutOfMemory}
 use Rattle.postcard_dyn_schema.specs.declared.error.ExpressionError.{ExpressionError}
 
 -- The text of a problem, in ASCII.
@@ -12,6 +12,7 @@ problem_text UnknownType = codes "unknown type"
 problem_text VariantExpected = codes "expected the name of a variant"
 problem_text FieldExpected = codes "expected the name of a field"
 problem_text LifetimeExpected = codes "expected the name of a lifetime"
+problem_text AsciiExpected = codes "expected a letter of ASCII, a digit or `_`"
 problem_text NameTwice = codes "this name was used before"
 problem_text CommaOrParenthesis = codes "expected `,` or `)`"
 problem_text CommaOrBrace = codes "expected `,` or `}`"

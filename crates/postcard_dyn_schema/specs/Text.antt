@@ -1,7 +1,8 @@
 -- Texts of type expressions as lists of bytes: their characters, blanks, signs and words.
-use Rattle.std.specs.Prelude.{◌≡◌, ℕ, ◌+◌, ◌*◌, ◌-◌, ◌^◌, ◌<◌, nat_eq, Bool, true, false, cond, not, ◌||◌, ◌⊎◌, List, [], ◌∷◌, ◌++◌, length, slice_index, bit_and}
+use Rattle.std.specs.Prelude.{◌≡◌, ℕ, ◌+◌, ◌^◌, ◌<◌, nat_eq, Bool, true, false, cond, not, ◌||◌, ◌⊎◌, List, [], ◌∷◌, ◌++◌, length, slice_index, bit_and}
 use Rattle.std.specs.List.{count_by, AllPass}
 use Rattle.std.specs.Char.{is_ascii_whitespace, is_ascii_alphanumeric, is_ascii_digit}
+use Rattle.postcard_dyn_schema.specs.Literals.{IsLiteral}
 
 -- Whether a byte of UTF-8 is the first of a character, so not of the form 0b10xx_xxxx.
 abbrev pub begins_character : ℕ → Bool
@@ -67,11 +68,6 @@ TakesLifetime text rest =
 abbrev pub GoesOnBy : (ℕ → Bool) → List ℕ → Type 0
 GoesOnBy passes text = AreBlank text ⊎ ((sign : ℕ) × (after : List ℕ) × (passes sign ≡ true) × TakesPhrase (IsSign sign) text after)
 
--- The number that is spelled by the decimal digits of n followed by these.
-abbrev pub decimal : ℕ → List ℕ → ℕ
-decimal n [] = n
-decimal n (d ∷ ds) = decimal (n * 10 + (d - 48)) ds
-
--- The text is blanks, or none, and then the number n, below 2 ^ 64, in decimal digits, at least one. Leading zeros are allowed.
+-- The text is blanks, or none, and then a literal of the number n, below 2 ^ 64.
 abbrev pub IsCount : ℕ → List ℕ → Type 0
-IsCount n text = (digits : List ℕ) × (0 < length digits) × AllPass is_ascii_digit digits × (n ≡ decimal 0 digits) × (n < 2 ^ 64) × Led (λ phrase. phrase ≡ digits) text
+IsCount n text = (word : List ℕ) × IsLiteral n word × (n < 2 ^ 64) × Led (λ phrase. phrase ≡ word) text

@@ -19,6 +19,8 @@ pub enum Problem {
     FieldExpected,
     /// After the `'` of a lifetime its name is expected, which doesn't begin with a digit.
     LifetimeExpected,
+    /// A name goes on, or begins, with a letter beyond ASCII.
+    AsciiExpected,
     /// Two fields of a struct, or two variants of an enum, have the same name.
     NameTwice,
     /// After a type in a tuple, neither `,` nor `)` follows.
@@ -39,7 +41,7 @@ pub enum Problem {
     ArrowExpected,
     /// After the value type of a map, no `}` follows.
     BraceExpected,
-    /// The count of an array is expected, in decimal digits.
+    /// The count of an array is expected, as `16`, `0x10` or `1_024`.
     CountExpected,
     /// The count of an array is 2^64 or more.
     CountTooLarge,
@@ -65,6 +67,7 @@ impl fmt::Display for Problem {
             Problem::VariantExpected => "expected the name of a variant",
             Problem::FieldExpected => "expected the name of a field",
             Problem::LifetimeExpected => "expected the name of a lifetime",
+            Problem::AsciiExpected => "expected a letter of ASCII, a digit or `_`",
             Problem::NameTwice => "this name was used before",
             Problem::CommaOrParenthesis => "expected `,` or `)`",
             Problem::CommaOrBrace => "expected `,` or `}`",

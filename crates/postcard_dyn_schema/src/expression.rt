@@ -16,7 +16,10 @@
 //!
 //! An enum with a single variant needs the leading `|`. As in Rust, `(T)` is the type `T`, and
 //! `(T,)` is a tuple of one part. The fields of a struct have different names, and so have the
-//! variants of an enum; a count is below 2^64.
+//! variants of an enum; a count is an integer literal, as `16`, `0x10` or `1_024` ([`number_of`]),
+//! below 2^64.
+//!
+//! [`number_of`]: crate::literal::number_of
 //!
 //! A word is the name of a type without parts, such as `u16` or `String` ([`TypeName`]). A type that
 //! begins with a capital letter is an enum if `|`, `(` or `{` follows its first word, and else that
@@ -48,8 +51,8 @@ use crate::angled::{Angled, Holder, Pair, map_of};
 use crate::error::{ExpressionError, Problem};
 use crate::names::TypeName;
 use crate::scan::{
-    ProblemAt, boxed, character_of, expect, named, problem_at, push, skip_blanks, skip_lifetime,
-    take, take_count, take_word,
+    ProblemAt, boxed, character_of, expect, named, or_letter, problem_at, push, skip_blanks,
+    skip_lifetime, take, take_count, take_word,
 };
 use crate::schema::Schema;
 use std::alloc::Global;
@@ -70,7 +73,8 @@ const MAX_OPTIONS: usize = 4;
 /// The problem is `NoBytes` if the elements of a list or an array, or the entries of a map, have no
 /// bytes, since a short message could then hold any number of them. It is `TooDeep` if types are
 /// nested more than 64 deep in brackets, or if more than 4 `?` follow a type. It is `NumberExpected`
-/// if the type in the `<` of `LE` or `BE` is no number of 16 to 128 bits.
+/// if the type in the `<` of `LE` or `BE` is no number of 16 to 128 bits. It is `AsciiExpected`, at that
+/// letter, if a name begins or goes on with a letter beyond ASCII.
 pub fn parse(alloc: Global, text: &str) -> Result<Schema, ExpressionError>
     ensures spelled { IfOk result (λ schema. IsExpression schema text.now) }
     ensures one { IfOk result (λ schema. (other : Schema)
@@ -85,10 +89,13 @@ pub fn parse(alloc: Global, text: &str) -> Result<Schema, ExpressionError>
     let mut rest = text.as_bytes();
     match read_whole(alloc, &mut rest) {
         Ok(schema) => Ok(schema),
-        Err(ProblemAt { problem, left }) => Err(ExpressionError {
-            problem,
-            character: character_of(text.as_bytes(), left),
-        }),
+        Err(found) => {
+            let ProblemAt { problem, left } = or_letter(found, text.as_bytes());
+            Err(ExpressionError {
+                problem,
+                character: character_of(text.as_bytes(), left),
+            })
+        }
     }
 }
 

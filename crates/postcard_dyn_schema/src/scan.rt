@@ -16,6 +16,7 @@ ghost use Rattle.postcard_dyn_schema.specs.Text.{characters, TakesPhrase, IsSign
 ghost use Rattle.postcard_dyn_schema.specs.Text.{is_of_word as is_of_word_byte, EndsWord, TakesLifetime};
 
 use crate::error::Problem;
+use crate::literal::{LiteralError, number_of};
 use crate::schema::Schema;
 use std::alloc::Global;
 
@@ -36,6 +37,35 @@ pub fn problem_at(problem: Problem, rest: &[u8]) -> ProblemAt
     ProblemAt {
         problem,
         left: rest.len(),
+    }
+}
+
+/// Returns what is wrong with a text that is refused for what was found. If a letter beyond ASCII
+/// follows the word there, or is where a word goes on or is expected, it is that letter.
+pub fn or_letter(found: ProblemAt, text: &[u8]) -> ProblemAt
+    ensures { found.problem ≡ Problem.OutOfMemory → result.problem ≡ Problem.OutOfMemory }
+{
+    let (before, mut rest) = text.split_at(text.len().saturating_sub(found.left));
+    let has_word = !take_word(&mut rest).is_empty();
+    let may_be_letter = match found.problem {
+        Problem::OutOfMemory => false,
+        Problem::TypeExpected
+        | Problem::VariantExpected
+        | Problem::FieldExpected
+        | Problem::LifetimeExpected => true,
+        _ => has_word || ends_by_word(before),
+    };
+    match rest.first() {
+        Some(byte) if may_be_letter && !byte.is_ascii() => problem_at(Problem::AsciiExpected, rest),
+        _ => found,
+    }
+}
+
+/// Returns whether the last byte may be part of a word.
+fn ends_by_word(text: &[u8]) -> bool {
+    match text.last() {
+        Some(byte) => is_of_word(*byte),
+        None => false,
     }
 }
 
@@ -139,12 +169,13 @@ pub fn skip_lifetime(rest: &mut &[u8]) -> Result<(), ProblemAt>
     Ok(())
 }
 
-/// Takes the blanks at the front and then the decimal digits of an array's count, which it returns.
+/// Takes the blanks at the front and then the count of an array, which it returns: an integer literal,
+/// as `16`, `0x10` or `1_024`.
 ///
 /// # Errors
 ///
-/// Fails with `CountExpected` if the next word isn't digits alone, and with `CountTooLarge` if the
-/// count doesn't fit in a `usize`.
+/// Fails with `CountExpected` if the next word isn't one, and with `CountTooLarge` if the count
+/// doesn't fit in a `usize`.
 pub fn take_count(rest: &mut &[u8]) -> Result<usize, ProblemAt>
     ensures taken { IfOk result (λ count. TakesPhrase (IsCount count) rest.old.now rest.new.now) }
     ensures one { IfOk result (λ count. (n : ℕ) (after : List ℕ)
@@ -154,34 +185,16 @@ pub fn take_count(rest: &mut &[u8]) -> Result<usize, ProblemAt>
         → TakesPhrase (IsCount n) rest.old.now after → EndsWord after → ⊥) }
 {
     let start = rest.trim_ascii_start();
-    let digits = take_word(rest);
-    if digits.is_empty() || !are_digits(digits) {
-        return Err(problem_at(Problem::CountExpected, start));
+    let word = take_word(rest);
+    let number = match number_of(word) {
+        Ok(number) => number,
+        Err(LiteralError::Malformed) => return Err(problem_at(Problem::CountExpected, start)),
+        Err(LiteralError::TooLarge) => return Err(problem_at(Problem::CountTooLarge, start)),
+    };
+    match usize::try_from(number) {
+        Ok(count) => Ok(count),
+        Err(_) => Err(problem_at(Problem::CountTooLarge, start)),
     }
-    let mut count: usize = 0;
-    for digit in digits {
-        count = match with_digit(count, *digit) {
-            Some(count) => count,
-            None => return Err(problem_at(Problem::CountTooLarge, start)),
-        };
-    }
-    Ok(count)
-}
-
-/// Returns the number with one more decimal digit, or `None` if it doesn't fit in a `usize`.
-fn with_digit(count: usize, digit: u8) -> Option<usize>
-    ensures { SomeIff result (count * 10 + (digit - 48) < 2 ^ 64) (count * 10 + (digit - 48)) }
-{
-    count
-        .checked_mul(10)?
-        .checked_add(usize::from(digit.saturating_sub(b'0')))
-}
-
-/// Returns whether each byte is a decimal digit.
-fn are_digits(word: &[u8]) -> bool
-    ensures { Decides result (AllPass is_ascii_digit word.now) }
-{
-    word.iter().all(|byte| byte.is_ascii_digit())
 }
 
 /// Puts a type into a `Box`.

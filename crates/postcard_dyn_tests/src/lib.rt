@@ -1,5 +1,6 @@
 //! Tests of the crates for types known only at run time: expressions, messages, the texts and the
-//! JSON of values, all of these from end to end, the calls of `pcard`, and the impls of a file's types.
+//! JSON of values, all of these from end to end, the calls of `pcard`, files of declarations, and the
+//! impls of a file's types.
 #![tactic(auto)]
 
 #[cfg(test)]
@@ -9,6 +10,8 @@ mod checksums;
 #[cfg(test)]
 mod control;
 #[cfg(test)]
+mod declarations;
+#[cfg(test)]
 mod explain;
 #[cfg(test)]
 mod expressions;
@@ -17,9 +20,13 @@ mod floats;
 #[cfg(test)]
 mod frames;
 #[cfg(test)]
+mod held;
+#[cfg(test)]
 mod helpers;
 #[cfg(test)]
 mod impls;
+#[cfg(test)]
+mod input_files;
 #[cfg(test)]
 mod json;
 #[cfg(test)]
@@ -40,5 +47,7 @@ mod same;
 mod size;
 #[cfg(test)]
 mod texts;
+#[cfg(test)]
+mod type_files;
 #[cfg(test)]
 mod vectors;

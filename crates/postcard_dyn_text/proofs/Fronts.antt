@@ -1,20 +1,22 @@
 -- What is at the front of a text of the grammar of values: numbers, words and signs, and what may follow them.
-use Rattle.std.proofs.Common.{◌≡◌, ◌≢◌, ℕ, zero, suc, ◌<◌, ◌≤◌, Bool, true, false, cond, List, [], ◌∷◌, ◌++◌, length, drop, codes, refl, sym, ap, subst, ◌∙◌, arith, inl, inr}
+use Rattle.std.proofs.Common.{◌≡◌, ◌≢◌, ℕ, zero, suc, ◌<◌, Bool, true, false, cond, List, [], ◌∷◌, ◌++◌, length, get_or, drop, codes, refl, sym, ap, subst, ◌∙◌, arith, inl, inr}
 use Rattle.std.proofs.lemmas.Bool.Decides.{nat_tests}
 use Rattle.std.proofs.lemmas.List.{append_assoc}
 use Rattle.std.specs.Bool.{◌==◌}
-use Rattle.std.specs.Char.{is_ascii_whitespace, digit_value}
+use Rattle.std.specs.Char.{is_ascii_whitespace}
 use Rattle.std.specs.List.{AllPass}
 use Rattle.std.specs.Prelude.{ℤ, slice_index}
 use Rattle.std.specs.Str.{IsTrimAsciiStart}
-use Rattle.std.specs.Str.Parse.{AllDigits, without_leading_plus, without_leading_sign}
-use Rattle.postcard_dyn_schema.specs.Text.{unblank, Led, TakesPhrase, IsSign, EndsWord}
+use Rattle.std.specs.Str.Parse.{without_leading_plus, without_leading_sign}
+use Rattle.postcard_dyn_schema.specs.Text.{unblank, is_of_word, Led, TakesPhrase, IsSign, EndsWord}
 use Rattle.postcard_dyn_schema.specs.Fronts.{follows_type}
 use Rattle.postcard_dyn_schema.specs.FrontLemmas.{trim_is, pass_head, unblank_more, unblank_black, same_first, same_rest, sign_unblank}
 use Rattle.postcard_dyn_schema.proofs.Left.{goes_variant, goes_ends_word, not_next_type}
 use Rattle.postcard_dyn_text.specs.Accepted.{FollowsValue}
 use Rattle.postcard_dyn_text.specs.Floats.{is_of_float, EndsNumber, EndsFloat}
-use Rattle.postcard_dyn_text.specs.Numbers.{IsMagnitude, IsUnsigned, IsSigned}
+use Rattle.postcard_dyn_schema.specs.Literals.{IsLiteral}
+use Rattle.postcard_dyn_schema.specs.LiteralLemmas.{literal_bytes, literal_some}
+use Rattle.postcard_dyn_text.specs.Numbers.{IsUnsigned, IsSigned}
 use Rattle.postcard_dyn_text.specs.Spelled.{Phrase, IsTruth}
 use Rattle.postcard_dyn_text.proofs.FloatTexts.{pass_cons, pass_none}
 use Rattle.postcard_dyn_text.proofs.FloatFronts.{one_number}
@@ -99,21 +101,11 @@ scalar_taken P a after word left each h ends all over (trimmed, trim, is) =
     let same = one_number k.word word after left k.all all ends over (sym k.whole ∙ is) in
     (subst P same.0 k.is, sym same.1)
 
-digit_scalar : (c : ℕ) → digit_value c < 16 → is_of_float c ≡ true
-digit_scalar c h = grind (arith, nat_tests, h)
+word_scalar : (b : ℕ) → is_of_word b ≡ true → is_of_float b ≡ true
+word_scalar b h = grind (arith, nat_tests, h)
 
-digits_scalar : (radix : ℕ) (w : List ℕ) → radix ≤ 16 → AllDigits radix w → AllPass is_of_float w
-digits_scalar radix [] low h = pass_none is_of_float
-digits_scalar radix (c ∷ w) low h = pass_cons is_of_float c w (digit_scalar c (omega (arith, low, h.0))) (digits_scalar radix w low h.1)
-
-magnitude_scalar : (n : ℕ) (w : List ℕ) → IsMagnitude n w → AllPass is_of_float w
-magnitude_scalar n w (inl decimal) = digits_scalar 10 w (omega arith) decimal.0.1
-magnitude_scalar n w (inr (digits, hexadecimal, e)) =
-    rw e (pass_cons is_of_float 48 (120 ∷ digits) refl (pass_cons is_of_float 120 digits refl (digits_scalar 16 digits (omega arith) hexadecimal.0.1)))
-
-magnitude_some : (n : ℕ) (w : List ℕ) → IsMagnitude n w → 0 < length w
-magnitude_some n w (inl decimal) = decimal.0.0
-magnitude_some n w (inr (digits, hexadecimal, e)) = let some : 0 < length (48 ∷ 120 ∷ digits) = omega arith in rw e some
+literal_scalar : (n : ℕ) (w : List ℕ) → IsLiteral n w → AllPass is_of_float w
+literal_scalar n w is = λ k d inside. word_scalar (get_or w k d) (literal_bytes n w is k d inside)
 
 -- A sign before a number, or the first byte of it.
 after_plus : (x : ℕ) (w : List ℕ) (plus : Bool) → (plus ≡ true → is_of_float x ≡ true) → AllPass is_of_float (drop (cond plus 1 0) (x ∷ w)) → AllPass is_of_float (x ∷ w)
@@ -132,8 +124,8 @@ dropped_none (suc n) = refl
 
 pub unsigned_scalars : (n : ℕ) → AreScalars (IsUnsigned n)
 unfolding AreScalars
-unsigned_scalars n [] is = absurd (omega (arith, magnitude_some n (without_leading_plus []) is, dropped_none (cond (slice_index [] 0 == 43) 1 0)))
-unsigned_scalars n (x ∷ w) is = (omega arith, after_plus x w (x == 43) (plus_scalar x) (magnitude_scalar n (without_leading_plus (x ∷ w)) is))
+unsigned_scalars n [] is = absurd (omega (arith, literal_some n (without_leading_plus []) is, dropped_none (cond (slice_index [] 0 == 43) 1 0)))
+unsigned_scalars n (x ∷ w) is = (omega arith, after_plus x w (x == 43) (plus_scalar x) (literal_scalar n (without_leading_plus (x ∷ w)) is))
 
 after_sign : (x : ℕ) (w : List ℕ) (minus : Bool) → (minus ≡ true → is_of_float x ≡ true)
     → AllPass is_of_float (cond minus (drop 1 (x ∷ w)) (without_leading_plus (x ∷ w))) → AllPass is_of_float (x ∷ w)
@@ -142,8 +134,8 @@ after_sign x w false first h = after_plus x w (x == 43) (plus_scalar x) h
 
 pub signed_scalars : (z : ℤ) → AreScalars (IsSigned z)
 unfolding AreScalars
-signed_scalars z [] (n, is, e) = absurd (omega (arith, magnitude_some n (without_leading_sign []) is))
-signed_scalars z (x ∷ w) (n, is, e) = (omega arith, after_sign x w (x == 45) (minus_scalar x) (magnitude_scalar n (without_leading_sign (x ∷ w)) is))
+signed_scalars z [] (n, is, e) = absurd (omega (arith, literal_some n (without_leading_sign []) is))
+signed_scalars z (x ∷ w) (n, is, e) = (omega arith, after_sign x w (x == 45) (minus_scalar x) (literal_scalar n (without_leading_sign (x ∷ w)) is))
 
 true_all : AllPass is_of_float (codes "true")
 true_all = pass_cons is_of_float 116 (114 ∷ 117 ∷ 101 ∷ []) refl (pass_cons is_of_float 114 (117 ∷ 101 ∷ []) refl (pass_cons is_of_float 117 (101 ∷ []) refl (pass_cons is_of_float 101 [] refl (pass_none is_of_float))))

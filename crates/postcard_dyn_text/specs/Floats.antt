@@ -1,6 +1,5 @@
 -- Which texts spell the bits of a float.
 use Rattle.std.specs.Prelude.{◌≡◌, ℕ, ◌*◌, ◌<◌, nat_eq, Bool, true, false, ◌||◌, ◌⊎◌, List, [], ◌∷◌, ◌++◌, Result, Some, codes}
-use Rattle.std.specs.Char.{is_ascii_alphanumeric}
 use Rattle.std.specs.Fmt.{WritesOnOk}
 use Rattle.std.specs.declared.fmt.Error.{Error}
 use Rattle.std.specs.declared.fmt.Formatter.{Formatter}
@@ -8,11 +7,11 @@ use Rattle.std.specs.Float.{Float, Format}
 use Rattle.std.specs.Float.Ieee.{is_nan, of_bits, to_bits, top}
 use Rattle.std.specs.Float.Parse.{parse_float}
 use Rattle.std.specs.Str.Parse.{IsNumeral, digits_value}
-use Rattle.postcard_dyn_schema.specs.Text.{Led, Then, TakesPhrase, IsSign, IsWord}
+use Rattle.postcard_dyn_schema.specs.Text.{is_of_word, Led, Then, TakesPhrase, IsSign, IsWord}
 
--- Whether a byte may be part of a float's text, but for that of an unusual NaN: a letter or a digit of ASCII, `+`, `-` or `.`.
+-- Whether a byte may be part of a number's text, but for that of an unusual NaN: a letter or a digit of ASCII, `_`, `+`, `-` or `.`.
 abbrev pub is_of_float : ℕ → Bool
-is_of_float b = is_ascii_alphanumeric b || (nat_eq b 43 || (nat_eq b 45 || nat_eq b 46))
+is_of_float b = is_of_word b || (nat_eq b 43 || (nat_eq b 45 || nat_eq b 46))
 
 -- The text is a number in decimal, perhaps with a point and an exponent, or `inf`, `infinity` or `nan`, as std's `parse` reads
 -- them, and the bits are those of the float nearest to it.

@@ -161,9 +161,10 @@ pub(crate) fn take_number<'a>(rest: &mut &'a [u8]) -> &'a [u8]
     word
 }
 
-/// Returns whether a byte may be part of a number: a letter or a digit of ASCII, `+`, `-` or `.`.
+/// Returns whether a byte may be part of a number: a letter or a digit of ASCII, `_`, `+`, `-` or
+/// `.`.
 fn is_of_float(byte: u8) -> bool
     ensures { result ≡ is_of_number byte }
 {
-    byte.is_ascii_alphanumeric() || byte == b'+' || byte == b'-' || byte == b'.'
+    byte.is_ascii_alphanumeric() || matches!(byte, b'_' | b'+' | b'-' | b'.')
 }

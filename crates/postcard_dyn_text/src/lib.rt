@@ -1,7 +1,7 @@
 //! Texts of values whose type is known only at run time: printing with [`Shown`], and reading with
 //! [`read_text`].
 //!
-//! Numbers are printed in decimal digits, and read in hexadecimal ones after `0x`, too ([`number`]).
+//! Numbers are printed in decimal digits, and read as any integer literals of Rust ([`number`]).
 //! A float is printed as the shortest number that reads back, with a point or an exponent, or as
 //! `inf`, `-inf` or `nan` ([`mod@float`]). Texts and characters are quoted, with the escapes of Rust,
 //! and byte strings are hexadecimal after `0x`. An option is `None` or `Some(7)`, a list or an array

@@ -1,16 +1,17 @@
 //! Numbers of the integer types, as texts.
 //!
-//! The digits are decimal, or hexadecimal, of either case, after `0x`. A `+` may be before them, and
-//! for a type with a sign also a `-`: `42`, `+42`, `0x2a`, `-0x2A`.
+//! A number is an integer literal of Rust ([`number_of`]). A `+` may be before it, and for a type with a
+//! sign also a `-`: `42`, `+42`, `1_000`, `0x2a`, `-0x2A`, `0b10_1010`, `0o52`.
 
-ghost use Rattle.std.specs.Prelude.{◌≡◌, ℕ, ℤ, ◌^◌, ◌<◌, ◌⊎◌, List, FitsSigned};
+ghost use Rattle.std.specs.Prelude.{◌≡◌, ℕ, ℤ, ◌^◌, ◌<◌, List, FitsSigned};
 ghost use Rattle.std.specs.Prelude.{IfOk, IfSome, IfNone, MatchResult, Ok, Err, true, false};
 ghost use Rattle.std.specs.Int.{w128};
 ghost use Rattle.std.specs.Str.Parse.{without_leading_plus};
 ghost use Rattle.postcard_dyn_schema.specs.Fixed.{is_signed};
+ghost use Rattle.postcard_dyn_schema.specs.Literals.{IsLiteral};
 ghost use Rattle.postcard_dyn_schema.specs.Text.{Led, TakesPhrase};
 ghost use Rattle.postcard_dyn_text.specs.Floats.{EndsNumber};
-ghost use Rattle.postcard_dyn_text.specs.Numbers.{AreDigits, IsMagnitude, IsUnsigned, IsSigned};
+ghost use Rattle.postcard_dyn_text.specs.Numbers.{IsUnsigned, IsSigned};
 ghost use Rattle.postcard_dyn_text.specs.Numbers.{SpellsBits};
 
 use crate::expected::Expected;
@@ -18,6 +19,7 @@ use crate::float::take_number;
 use crate::read::Stop;
 use postcard_dyn::fixed::{are_bits, bits_of};
 use postcard_dyn::{Integer, Leaf};
+use postcard_dyn_schema::literal::number_of;
 
 /// Takes blanks and then a number of the type `leaf`, which has no sign.
 ///
@@ -161,29 +163,10 @@ fn after_plus(word: &[u8]) -> &[u8]
 /// Returns the number that a word without a sign spells, or `None` if it spells none that `u128`
 /// holds.
 fn magnitude(word: &[u8]) -> Option<u128>
-    ensures found { IfSome result (λ n. IsMagnitude n word.now) }
-    ensures none { IfNone result ((n : ℕ) → n < 2 ^ 128 → IsMagnitude n word.now → ⊥) }
+    ensures found { IfSome result (λ n. IsLiteral n word.now) }
+    ensures none { IfNone result ((n : ℕ) → n < 2 ^ 128 → IsLiteral n word.now → ⊥) }
 {
-    match word.strip_prefix(b"0x") {
-        Some(digits) => number_of(digits, 16),
-        None => number_of(word, 10),
-    }
-}
-
-/// Returns the number that digits spell, or `None` if they are none, or spell none that `u128`
-/// holds.
-fn number_of(digits: &[u8], radix: u32) -> Option<u128>
-    requires { (radix ≡ 10) ⊎ (radix ≡ 16) }
-    ensures found { IfSome result (λ n. AreDigits radix n digits.now) }
-    ensures none { IfNone result ((n : ℕ) → n < 2 ^ 128 → AreDigits radix n digits.now → ⊥) }
-{
-    if digits.starts_with(b"+") {
-        return None;
-    }
-    let Ok(text) = str::from_utf8(digits) else {
-        return None;
-    };
-    match u128::from_str_radix(text, radix) {
+    match number_of(word) {
         Ok(n) => Some(n),
         Err(_) => None,
     }

@@ -7,7 +7,7 @@ use Rattle.postcard_wire.proofs.WellFormed.{variant_well_formed}
 use Rattle.postcard_wire.specs.Reading.{IsDelimited, ReadsWellFormed, IsVariant}
 use Rattle.postcard_wire.specs.Tree.{Tree, Variant, Absent}
 use Rattle.postcard_wire.specs.declared.error.Error.{Error}
-use Rattle.postcard_shape.specs.Shape.{HasOne, Shape, never, either}
+use Rattle.postcard_shape.specs.Shape.{ComesBack, HasOne, Shape, never, either}
 use Rattle.postcard_shape.specs.declared.cases.Case.{Case}
 use Rattle.postcard_shape.specs.declared.cases.Case.TheVariants.{This, Next}
 
@@ -28,6 +28,10 @@ variant_one values same one t v w h k =
     let a : values h.0 k.1 w = subst (λ i. values i k.1 w) (index_same k.0 h.0 k.1 h.1 e) k.3 in
     one h.0 h.1 v w h.3 (subst (λ s. values h.0 s w) (content_same k.0 h.0 k.1 h.1 e) a)
 
+-- What the law `again` says of the variants of an enum.
+abbrev pub VariantsComeBack : {V : Type 0} → (V → ℕ) → (V → Tree) → (ℕ → Tree → Type 0) → (ℕ → Tree → V → Type 0) → (V → Type 0) → Type 0
+VariantsComeBack {V} index content reads value fits = (v : V) → fits v → reads (index v) (content v) × value (index v) (content v) v
+
 -- What a `Shape` says, said of the variants of an enum: the index and the content of each value,
 -- and at each index what is read.
 pub record Cases (V : Type 0) : Type 1 where
@@ -43,7 +47,7 @@ pub record Cases (V : Type 0) : Type 1 where
   pub delimited : (i : ℕ) → IsDelimited (reads i)
   pub well_formed : (i : ℕ) → ReadsWellFormed (reads i)
   pub one_value : (i : ℕ) → HasOne (value i) same
-  pub again : (v : V) → fits v → reads (index v) (content v) × value (index v) (content v) v
+  pub again : VariantsComeBack index content reads value fits
 
 -- The row of no variants.
 abbrev pub no_case : {V : Type 0} → Cases V
@@ -102,9 +106,12 @@ case_one s r same other one two (suc i) t (Next v) (Next w) h k = two i t v w h 
 case_one s r same other one two (suc i) t (Next v) (This b) h k = absurd k
 case_one s r same other one two (suc i) t (This a) w h k = absurd h
 
-pub case_again : {A R : Type 0} (s : Shape A) (r : Cases R) (v : Case A R) → case_of s.fits r.fits v → case_reads s.reads r.reads (case_index r.index v) (case_of s.tree r.content v) × case_value s.value r.value (case_index r.index v) (case_of s.tree r.content v) v
-case_again s r (This a) f = s.again a f
-case_again s r (Next v) f = r.again v f
+-- The content of a variant comes back, or that of one of the others does.
+pub case_again : {A R : Type 0} (tree : A → Tree) (I : Tree → Type 0) (J : Tree → A → Type 0) (fits : A → Type 0) → ComesBack tree I J fits →
+    (index : R → ℕ) (content : R → Tree) (K : ℕ → Tree → Type 0) (L : ℕ → Tree → R → Type 0) (fit : R → Type 0) → VariantsComeBack index content K L fit →
+    VariantsComeBack (case_index index) (case_of tree content) (case_reads I K) (case_value J L) (case_of fits fit)
+case_again tree I J fits first index content K L fit rest (This a) f = first a f
+case_again tree I J fits first index content K L fit rest (Next v) f = rest v f
 
 -- A variant of the shape s, followed by the variants r, whose indices are one higher here.
 abbrev pub case : {A R : Type 0} → Shape A → Cases R → Cases (Case A R)
@@ -121,8 +128,13 @@ case s r = record {
   delimited = case_delimited s.reads r.reads s.delimited r.delimited;
   well_formed = case_well_formed s.reads r.reads s.well_formed r.well_formed;
   one_value = case_one s.value r.value s.same r.same s.one_value r.one_value;
-  again = case_again s r;
+  again = case_again s.tree s.reads s.value s.fits s.again r.index r.content r.reads r.value r.fits r.again;
 }
+
+-- An enum comes back if the contents of its variants do.
+pub variants_again : {V : Type 0} (index : V → ℕ) (content : V → Tree) (K : ℕ → Tree → Type 0) (L : ℕ → Tree → V → Type 0) (fits : V → Type 0) → VariantsComeBack index content K L fits →
+    ComesBack (λ v. Variant (index v) (content v)) (IsVariant K) (VariantIs L) (λ v. (index v < 2 ^ 32) × fits v)
+variants_again index content K L fits again v f = let k = again v f.1 in ((index v, content v, refl, f.0, k.0), (index v, content v, refl, k.1))
 
 -- The shape of an enum of these variants.
 abbrev pub variants : {V : Type 0} → Cases V → Shape V
@@ -138,5 +150,5 @@ variants c = record {
   delimited = variant_delimited c.reads c.delimited;
   well_formed = variant_well_formed c.reads c.well_formed;
   one_value = variant_one c.value c.same c.one_value;
-  again = λ v f. let k = c.again v f.1 in ((c.index v, c.content v, refl, f.0, k.0), (c.index v, c.content v, refl, k.1));
+  again = variants_again c.index c.content c.reads c.value c.fits c.again;
 }

@@ -10,7 +10,7 @@ use Rattle.postcard_wire.proofs.WellFormed.{byte_well_formed, boolean_well_forme
 use Rattle.postcard_wire.specs.Number.{InRange}
 use Rattle.postcard_wire.specs.Reading.{IsDelimited, ReadsWellFormed, IsByte, IsBoolean, IsNum, IsInt, IsChar, IsText}
 use Rattle.postcard_wire.specs.Tree.{Byte, Num, Int, Text, Boolean, Char, Tree, IsWidth}
-use Rattle.postcard_shape.specs.Shape.{HasOne, Shape, never}
+use Rattle.postcard_shape.specs.Shape.{ComesBack, HasOne, Shape, never}
 
 -- The number is equal to the value.
 abbrev pub Same : ℕ → ℕ → Type 0
@@ -224,6 +224,11 @@ without_delimited one reads law = fewer_delimited (Without one reads) reads (λ 
 pub without_well_formed : (one : Tree) (reads : Tree → Type 0) → ReadsWellFormed reads → ReadsWellFormed (Without one reads)
 without_well_formed one reads law t r = law t r.0
 
+-- A value that comes back does so without the tree `one`, if its own is another.
+pub without_again : {V : Type 0} (one : Tree) (tree : V → Tree) (reads : Tree → Type 0) (value : Tree → V → Type 0) (fits : V → Type 0) → ComesBack tree reads value fits →
+    ComesBack tree (Without one reads) value (λ v. fits v × (tree v ≢ one))
+without_again one tree reads value fits again v f = let k = again v f.0 in ((k.0, f.1), k.1)
+
 -- The shape s without the values of the tree `one`, as for the numbers that aren't 0.
 abbrev pub without : {V : Type 0} → Tree → Shape V → Shape V
 without one s = record {
@@ -238,5 +243,5 @@ without one s = record {
   delimited = without_delimited one s.reads s.delimited;
   well_formed = without_well_formed one s.reads s.well_formed;
   one_value = s.one_value;
-  again = λ v f. let k = s.again v f.0 in ((k.0, f.1), k.1);
+  again = without_again one s.tree s.reads s.value s.fits s.again;
 }

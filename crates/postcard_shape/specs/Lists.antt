@@ -10,7 +10,7 @@ use Rattle.postcard_wire.specs.Reading.{Each, IsGroup, IsSeq, IsArray}
 use Rattle.postcard_wire.specs.Spelling.{SpellsAll}
 use Rattle.postcard_wire.specs.Tree.{Tree, Trees, Seq, NoTrees, Then, count, Group, trees}
 use Rattle.postcard_shape.specs.Rows.{group_one}
-use Rattle.postcard_shape.specs.Shape.{Shape, HasOne}
+use Rattle.postcard_shape.specs.Shape.{ComesBack, Shape, HasOne}
 
 -- Each value of the list is one of its tree in the row, in order.
 abbrev pub EachIs : {V : Type 0} → (Tree → V → Type 0) → Trees → List V → Type 0
@@ -96,6 +96,13 @@ pub each_is : {V : Type 0} (tree : V → Tree) (value : Tree → V → Type 0) (
 each_is tree value fits h [] f = tt
 each_is tree value fits h (v ∷ vs) f = (h v f.0, each_is tree value fits h vs f.1)
 
+-- A list comes back if its elements do.
+pub seq_again : {V : Type 0} (tree : V → Tree) (reads : Tree → Type 0) (value : Tree → V → Type 0) (fits : V → Type 0) → ComesBack tree reads value fits →
+    ComesBack (λ v. Seq (trees (map tree v))) (IsSeq reads) (ListIs value) (λ v. (length v < 2 ^ 64) × AllFit fits v)
+seq_again tree reads value fits again v f =
+    let (n, r) = each_read tree reads fits (λ a k. (again a k).0) v f.1 f.0 in
+    ((trees (map tree v), refl, n, r), (trees (map tree v), refl, each_is tree value fits (λ a k. (again a k).1) v f.1))
+
 -- The shape of a list, with its count before it.
 abbrev pub seq : {V : Type 0} → Shape V → Shape (List V)
 seq s = record {
@@ -110,8 +117,14 @@ seq s = record {
   delimited = seq_delimited s.reads s.delimited;
   well_formed = seq_well_formed s.reads s.well_formed;
   one_value = list_one (λ v. v) s.value s.same s.one_value;
-  again = λ v f. let (n, r) = each_read s.tree s.reads s.fits (λ a k. (s.again a k).0) v f.1 f.0 in ((trees (map s.tree v), refl, n, r), (trees (map s.tree v), refl, each_is s.tree s.value s.fits (λ a k. (s.again a k).1) v f.1));
+  again = seq_again s.tree s.reads s.value s.fits s.again;
 }
+
+-- An array comes back if its elements do.
+pub array_again : {V : Type 0} (n : ℕ) (tree : V → Tree) (reads : Tree → Type 0) (value : Tree → V → Type 0) (fits : V → Type 0) → ComesBack tree reads value fits →
+    ComesBack (λ v. Group (trees (map tree v))) (IsArray n reads) (λ t v. IsGroup (λ ts. EachIs value ts v) t) (λ v. (length v ≡ n) × AllFit fits v)
+array_again n tree reads value fits again v f =
+    ((trees (map tree v), refl, counted tree v ∙ f.0, each tree reads fits (λ a k. (again a k).0) v f.1), (trees (map tree v), refl, each_is tree value fits (λ a k. (again a k).1) v f.1))
 
 -- The shape of an array of n elements.
 abbrev pub array : {V : Type 0} → ℕ → Shape V → Shape (List V)
@@ -127,7 +140,7 @@ array n s = record {
   delimited = array_delimited n s.reads s.delimited;
   well_formed = array_well_formed n s.reads s.well_formed;
   one_value = λ t v w. group_one (λ ts. each_one s.value s.same s.one_value ts v w) t;
-  again = λ v f. ((trees (map s.tree v), refl, counted s.tree v ∙ f.0, each s.tree s.reads s.fits (λ a k. (s.again a k).0) v f.1), (trees (map s.tree v), refl, each_is s.tree s.value s.fits (λ a k. (s.again a k).1) v f.1));
+  again = array_again n s.tree s.reads s.value s.fits s.again;
 }
 
 -- The tree is a list of at most n trees of the set.
@@ -136,6 +149,13 @@ IsFewSeq n reads t = (ts : Trees) × (t ≡ Seq ts) × (count ts ≤ n) × (coun
 
 pub few_seq_inside : (n : ℕ) (reads : Tree → Type 0) (t : Tree) → IsFewSeq n reads t → IsSeq reads t
 few_seq_inside n reads t r = (r.0, r.1, r.3, r.4)
+
+-- A list of at most n elements comes back if these do.
+pub few_again : {V : Type 0} (n : ℕ) (tree : V → Tree) (reads : Tree → Type 0) (value : Tree → V → Type 0) (fits : V → Type 0) → ComesBack tree reads value fits →
+    ComesBack (λ v. Seq (trees (map tree v))) (IsFewSeq n reads) (ListIs value) (λ v. (length v ≤ n) × (length v < 2 ^ 64) × AllFit fits v)
+few_again n tree reads value fits again v f =
+    let (k, r) = each_read tree reads fits (λ a q. (again a q).0) v f.2 f.1 in
+    ((trees (map tree v), refl, subst (λ m. m ≤ n) (sym (counted tree v)) f.0, k, r), (trees (map tree v), refl, each_is tree value fits (λ a q. (again a q).1) v f.2))
 
 -- The shape of a list of at most n elements, with its count before it.
 abbrev pub few : {V : Type 0} → ℕ → Shape V → Shape (List V)
@@ -151,9 +171,13 @@ few n s = record {
   delimited = fewer_delimited _ _ (few_seq_inside n s.reads) (seq_delimited s.reads s.delimited);
   well_formed = λ t r. seq_well_formed s.reads s.well_formed t (few_seq_inside n s.reads t r);
   one_value = list_one (λ v. v) s.value s.same s.one_value;
-  again = λ v f. let (k, r) = each_read s.tree s.reads s.fits (λ a q. (s.again a q).0) v f.2 f.1 in
-      ((trees (map s.tree v), refl, subst (λ m. m ≤ n) (sym (counted s.tree v)) f.0, k, r), (trees (map s.tree v), refl, each_is s.tree s.value s.fits (λ a q. (s.again a q).1) v f.2));
+  again = few_again n s.tree s.reads s.value s.fits s.again;
 }
+
+-- A list that comes back does so in any order.
+pub any_order_again : {V : Type 0} (tree : List V → Tree) (reads : Tree → Type 0) (value : Tree → List V → Type 0) (fits : List V → Type 0) → ComesBack tree reads value fits →
+    ComesBack tree reads (λ t vs. (xs : List V) × value t xs × IsPermutation xs vs) fits
+any_order_again tree reads value fits again vs f = let k = again vs f in (k.0, (vs, k.1, IsPermutation-refl vs))
 
 -- The shape s of a list, for a type that keeps the elements that it reads in any order.
 abbrev pub in_any_order : {V : Type 0} → Shape (List V) → Shape (List V)
@@ -169,5 +193,5 @@ in_any_order {V} s = record {
   delimited = s.delimited;
   well_formed = s.well_formed;
   one_value = λ t vs ws h k. (h.0, k.0, s.one_value t h.0 k.0 h.1 k.1, h.2, k.2);
-  again = λ vs f. let k = s.again vs f in (k.0, (vs, k.1, IsPermutation-refl vs));
+  again = any_order_again s.tree s.reads s.value s.fits s.again;
 }

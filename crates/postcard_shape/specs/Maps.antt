@@ -15,7 +15,7 @@ use Rattle.postcard_wire.specs.Reading.{IsSeq, IsEnd, IsThen, IsGroup}
 use Rattle.postcard_wire.specs.Tree.{Tree, Seq, trees, NoTrees, Then}
 use Rattle.postcard_shape.specs.Lists.{AllFit, each_read, each_is, SameList, list_one, ListIs}
 use Rattle.postcard_shape.specs.Rows.{end_one, then_one, group_one, none, then, along, group, pair_tree}
-use Rattle.postcard_shape.specs.Shape.{HasOne, Shape, or_memory, either}
+use Rattle.postcard_shape.specs.Shape.{ComesBack, HasOne, Shape, or_memory, either}
 
 -- The keys of a set after these keys are inserted one after another: a key that is equal to one of
 -- the set changes nothing.
@@ -35,6 +35,13 @@ SameSet {A} cmp same ks ls = (xs : List A) × (ys : List A) × SameList same xs 
 pub set_one : {A : Type 0} (cmp : A → A → Ordering) (value : Tree → A → Type 0) (same : A → A → Type 0) → HasOne value same → HasOne (SetIs cmp value) (SameSet cmp same)
 set_one {A} cmp value same one t ks ls (xs, h, a) (ys, k, b) = (xs, ys, list_one (λ (x : List A). x) value same one t xs ys h k, a, b)
 
+-- A set comes back if its keys do.
+pub keys_again : {A : Type 0} (cmp : A → A → Ordering) (tree : A → Tree) (reads : Tree → Type 0) (value : Tree → A → Type 0) (fits : A → Type 0) → ComesBack tree reads value fits →
+    ComesBack (λ ks. Seq (trees (map tree ks))) (IsSeq reads) (SetIs cmp value) (λ ks. (length ks < 2 ^ 64) × AllFit fits ks × (ks ≡ keys_inserted cmp ks []))
+keys_again cmp tree reads value fits again ks f =
+    let (n, r) = each_read tree reads fits (λ a k. (again a k).0) ks f.1 f.0 in
+    ((trees (map tree ks), refl, n, r), (ks, (trees (map tree ks), refl, each_is tree value fits (λ a k. (again a k).1) ks f.1), f.2))
+
 -- The shape of a set, seen as the list of its keys.
 abbrev pub keys : {A : Type 0} → (A → A → Ordering) → Shape A → Shape (List A)
 keys cmp s = record {
@@ -49,8 +56,7 @@ keys cmp s = record {
   delimited = seq_delimited s.reads s.delimited;
   well_formed = seq_well_formed s.reads s.well_formed;
   one_value = set_one cmp s.value s.same s.one_value;
-  again = λ ks f. let (n, r) = each_read s.tree s.reads s.fits (λ a k. (s.again a k).0) ks f.1 f.0 in
-      ((trees (map s.tree ks), refl, n, r), (ks, (trees (map s.tree ks), refl, each_is s.tree s.value s.fits (λ a k. (s.again a k).1) ks f.1), f.2));
+  again = keys_again cmp s.tree s.reads s.value s.fits s.again;
 }
 
 -- The tree of a map's entry: the key, followed by the value.
@@ -92,16 +98,16 @@ pub map_one : {A B M : Type 0} (see : M → List (A × B)) (cmp : A → A → Or
     HasOne (λ t m. MapIs cmp I J t (see m)) (λ m n. SameMap cmp same other (see m) (see n))
 map_one {A} {B} see cmp I J same other one two t m n (ps, h, a) (qs, k, b) = (ps, qs, list_one (λ (x : List (A × B)). x) (EntryIs I J) (SameEntry same other) (entry_one I J same other one two) t ps qs h k, a, b)
 
--- The entries of a map that fits are read again: its tree is one that a map reads, and the map is a
--- value of that tree.
-pub map_again : {A B : Type 0} (cmp : A → A → Ordering) (k : Shape A) (s : Shape B) (es : List (A × B)) → (length es < 2 ^ 64) × AllFit (λ e. k.fits e.0 × s.fits e.1) es × (es ≡ inserted cmp es []) →
-    IsSeq (IsEntry k.reads s.reads) (Seq (trees (map (entry_tree k.tree s.tree) es))) × MapIs cmp k.value s.value (Seq (trees (map (entry_tree k.tree s.tree) es))) es
-map_again {A} {B} cmp k s es (n, f, e) =
-    let fits = λ (x : A × B). k.fits x.0 × s.fits x.1 in
-    let tree = entry_tree k.tree s.tree in
-    let (a, r) = each_read tree (IsEntry k.reads s.reads) fits (λ x q. (Then (k.tree x.0) (Then (s.tree x.1) NoTrees), refl, (k.tree x.0, Then (s.tree x.1) NoTrees, refl, (k.again x.0 q.0).0, (s.tree x.1, NoTrees, refl, (s.again x.1 q.1).0, refl)))) es f n in (
-      (trees (map tree es), refl, a, r),
-      (es, (trees (map tree es), refl, each_is tree (EntryIs k.value s.value) fits (λ x q. (Then (k.tree x.0) (Then (s.tree x.1) NoTrees), refl, (k.tree x.0, Then (s.tree x.1) NoTrees, refl, (k.again x.0 q.0).1, (s.tree x.1, NoTrees, refl, (s.again x.1 q.1).1, refl)))) es f), e),
+-- A map comes back if its keys and its values do.
+pub map_again : {A B : Type 0} (cmp : A → A → Ordering) (tree : A → Tree) (I : Tree → Type 0) (J : Tree → A → Type 0) (fits : A → Type 0) → ComesBack tree I J fits →
+    (of : B → Tree) (K : Tree → Type 0) (L : Tree → B → Type 0) (fit : B → Type 0) → ComesBack of K L fit →
+    ComesBack (λ es. Seq (trees (map (entry_tree tree of) es))) (IsSeq (IsEntry I K)) (MapIs cmp J L) (λ es. (length es < 2 ^ 64) × AllFit (λ e. fits e.0 × fit e.1) es × (es ≡ inserted cmp es []))
+map_again {A} {B} cmp tree I J fits keys of K L fit values es (n, f, e) =
+    let both = λ (x : A × B). fits x.0 × fit x.1 in
+    let pairs = entry_tree tree of in
+    let (a, r) = each_read pairs (IsEntry I K) both (λ x q. (Then (tree x.0) (Then (of x.1) NoTrees), refl, (tree x.0, Then (of x.1) NoTrees, refl, (keys x.0 q.0).0, (of x.1, NoTrees, refl, (values x.1 q.1).0, refl)))) es f n in (
+      (trees (map pairs es), refl, a, r),
+      (es, (trees (map pairs es), refl, each_is pairs (EntryIs J L) both (λ x q. (Then (tree x.0) (Then (of x.1) NoTrees), refl, (tree x.0, Then (of x.1) NoTrees, refl, (keys x.0 q.0).1, (of x.1, NoTrees, refl, (values x.1 q.1).1, refl)))) es f), e),
     )
 
 -- The shape of a map, seen as the list of its entries.
@@ -118,7 +124,7 @@ entries cmp k s = record {
   delimited = seq_delimited _ (group_delimited _ (then_delimited _ _ k.delimited (then_delimited _ _ s.delimited end_delimited)));
   well_formed = seq_well_formed _ (group_well_formed _ (then_well_formed _ _ k.well_formed (then_well_formed _ _ s.well_formed end_well_formed)));
   one_value = map_one (λ m. m) cmp k.value s.value k.same s.same k.one_value s.one_value;
-  again = map_again cmp k s;
+  again = map_again cmp k.tree k.reads k.value k.fits k.again s.tree s.reads s.value s.fits s.again;
 }
 
 -- Putting these elements one after another into a container of the elements vs gives one of ws, where
@@ -139,6 +145,11 @@ PutsPair eq p es fs = MatchOption (lookup (eq p.0) es) (IsPermutation (p ∷ es)
 abbrev pub pair : {A B : Type 0} → Shape A → Shape B → Shape (A × B)
 pair k v = group (along (λ e. (e.0, (e.1, tt))) (then k (then v (none {V = Unit {0}}))))
 
+-- A container comes back if the list does whose elements are put into it.
+pub put_again : {V : Type 0} (step : V → List V → List V → Type 0) (tree : List V → Tree) (reads : Tree → Type 0) (value : Tree → List V → Type 0) (fits : List V → Type 0) → ComesBack tree reads value fits →
+    ComesBack tree reads (λ t vs. (xs : List V) × value t xs × Puts step xs [] vs) (λ vs. fits vs × Puts step vs [] vs)
+put_again step tree reads value fits again vs f = let k = again vs f.0 in (k.0, (vs, k.1, f.1))
+
 -- The shape of a container into which the elements of a list of the shape s are put one after another.
 abbrev pub put_in : {V : Type 0} → (V → List V → List V → Type 0) → Shape (List V) → Shape (List V)
 put_in {V} step s = record {
@@ -153,5 +164,5 @@ put_in {V} step s = record {
   delimited = s.delimited;
   well_formed = s.well_formed;
   one_value = λ t vs ws h k. (h.0, k.0, s.one_value t h.0 k.0 h.1 k.1, h.2, k.2);
-  again = λ vs f. let k = s.again vs f.0 in (k.0, (vs, k.1, f.1));
+  again = put_again step s.tree s.reads s.value s.fits s.again;
 }

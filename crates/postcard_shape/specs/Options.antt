@@ -7,7 +7,7 @@ use Rattle.postcard_wire.specs.Reading.{IsDelimited, ReadsWellFormed, IsOption, 
 use Rattle.postcard_wire.specs.Tree.{Tree, Variant, Absent, Present}
 use Rattle.postcard_wire.specs.declared.error.Error.{Error}
 use Rattle.postcard_shape.specs.Cases.{VariantIs, variant_one}
-use Rattle.postcard_shape.specs.Shape.{HasOne, Shape, either}
+use Rattle.postcard_shape.specs.Shape.{ComesBack, HasOne, Shape, either}
 
 -- The tree of an option: absent, or present with the tree of its value.
 abbrev pub option_tree : {A : Type 0} → (A → Tree) → Option A → Tree
@@ -48,9 +48,11 @@ abbrev pub OptionFits : {V : Type 0} → (V → Type 0) → Option V → Type 0
 OptionFits fits None = ⊤
 OptionFits fits (Some v) = fits v
 
-pub option_again : {V : Type 0} (s : Shape V) (v : Option V) → OptionFits s.fits v → IsOption s.reads (option_tree s.tree v) × OptionIs s.value (option_tree s.tree v) v
-option_again s None f = (inl refl, refl)
-option_again s (Some v) f = let k = s.again v f in (inr (s.tree v, refl, k.0), (s.tree v, refl, k.1))
+-- An option comes back if the value in it does.
+pub option_again : {V : Type 0} (tree : V → Tree) (reads : Tree → Type 0) (value : Tree → V → Type 0) (fits : V → Type 0) → ComesBack tree reads value fits →
+    ComesBack (option_tree tree) (IsOption reads) (OptionIs value) (OptionFits fits)
+option_again tree reads value fits again None f = (inl refl, refl)
+option_again tree reads value fits again (Some v) f = let k = again v f in (inr (tree v, refl, k.0), (tree v, refl, k.1))
 
 -- The shape of an option of a value of this shape.
 abbrev pub option : {V : Type 0} → Shape V → Shape (Option V)
@@ -66,7 +68,7 @@ option s = record {
   delimited = option_delimited s.reads s.delimited;
   well_formed = option_well_formed s.reads s.well_formed;
   one_value = option_one s.value s.same s.one_value;
-  again = option_again s;
+  again = option_again s.tree s.reads s.value s.fits s.again;
 }
 
 -- The tree of a result: an enum with `Ok` at index 0 and `Err` at index 1.
@@ -119,9 +121,12 @@ abbrev pub ResultFits : {V W : Type 0} → (V → Type 0) → (W → Type 0) →
 ResultFits good bad (Ok v) = good v
 ResultFits good bad (Err w) = bad w
 
-pub result_again : {V W : Type 0} (s : Shape V) (e : Shape W) (v : Result V W) → ResultFits s.fits e.fits v → IsVariant (ResultReads s.reads e.reads) (result_tree s.tree e.tree v) × VariantIs (ResultIs s.value e.value) (result_tree s.tree e.tree v) v
-result_again s e (Ok v) f = let k = s.again v f in ((0, s.tree v, refl, omega arith, k.0), (0, s.tree v, refl, k.1))
-result_again s e (Err w) f = let k = e.again w f in ((1, e.tree w, refl, omega arith, k.0), (1, e.tree w, refl, k.1))
+-- A result comes back if the value in it does, of either variant.
+pub result_again : {V W : Type 0} (tree : V → Tree) (I : Tree → Type 0) (J : Tree → V → Type 0) (fits : V → Type 0) → ComesBack tree I J fits →
+    (of : W → Tree) (K : Tree → Type 0) (L : Tree → W → Type 0) (fit : W → Type 0) → ComesBack of K L fit →
+    ComesBack (result_tree tree of) (IsVariant (ResultReads I K)) (VariantIs (ResultIs J L)) (ResultFits fits fit)
+result_again tree I J fits good of K L fit bad (Ok v) f = let k = good v f in ((0, tree v, refl, omega arith, k.0), (0, tree v, refl, k.1))
+result_again tree I J fits good of K L fit bad (Err w) f = let k = bad w f in ((1, of w, refl, omega arith, k.0), (1, of w, refl, k.1))
 
 -- The value in a result, of either variant, refuses itself with the error.
 abbrev pub result_refusal : {V W : Type 0} → (V → Error → Type 0) → (W → Error → Type 0) → Result V W → Error → Type 0
@@ -142,5 +147,5 @@ result s t = record {
   delimited = variant_delimited _ (result_delimited s.reads t.reads s.delimited t.delimited);
   well_formed = variant_well_formed _ (result_well_formed s.reads t.reads s.well_formed t.well_formed);
   one_value = variant_one _ _ (result_one s.value t.value s.same t.same s.one_value t.one_value);
-  again = result_again s t;
+  again = result_again s.tree s.reads s.value s.fits s.again t.tree t.reads t.value t.fits t.again;
 }

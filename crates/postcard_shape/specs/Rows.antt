@@ -6,7 +6,7 @@ use Rattle.postcard_wire.proofs.WellFormed.{end_well_formed, then_well_formed, g
 use Rattle.postcard_wire.specs.Reading.{IsEnd, IsThen, IsGroup, AreDelimited, PartsWellFormed}
 use Rattle.postcard_wire.specs.Tree.{Tree, Group, Then, NoTrees, Trees}
 use Rattle.postcard_wire.specs.declared.error.Error.{Error}
-use Rattle.postcard_shape.specs.Shape.{HasOne, Shape, never, either}
+use Rattle.postcard_shape.specs.Shape.{ComesBack, HasOne, Shape, never, either}
 
 -- The tree of two values one after the other, with no count before them.
 abbrev pub pair_tree : Tree → Tree → Tree
@@ -36,6 +36,24 @@ then_one {I = I} {v = v} {w = w} {L = L} one rest ts (s, ss, e, a, b) (r, rs, f,
 pub group_one : {K L : Trees → Type 0} {Z : Type 0} → ((ts : Trees) → K ts → L ts → Z) → (t : Tree) → IsGroup K t → IsGroup L t → Z
 group_one {L = L} one t (ts, e, a) (ss, f, b) = one ts a (subst L (group_same ss ts (sym f ∙ e)) b)
 
+-- What the law `again` says of parts in a row.
+abbrev pub ComeBack : {V : Type 0} → (V → Trees) → (Trees → Type 0) → (V → Trees → Type 0) → (V → Type 0) → Type 0
+ComeBack {V} trees reads value fits = (v : V) → fits v → reads (trees v) × value v (trees v)
+
+-- A first part and those after it come back, each by its own law.
+pub then_again : {A B : Type 0} (tree : A → Tree) (I : Tree → Type 0) (J : Tree → A → Type 0) (fits : A → Type 0) → ComesBack tree I J fits →
+    (trees : B → Trees) (K : Trees → Type 0) (L : B → Trees → Type 0) (fit : B → Type 0) → ComeBack trees K L fit →
+    (v : A × B) → fits v.0 × fit v.1 → IsThen I K (Then (tree v.0) (trees v.1)) × IsThen (λ t. J t v.0) (L v.1) (Then (tree v.0) (trees v.1))
+then_again tree I J fits first trees K L fit rest v f =
+    let k = first v.0 f.0 in
+    let m = rest v.1 f.1 in
+    ((tree v.0, trees v.1, refl, k.0, m.0), (tree v.0, trees v.1, refl, k.1, m.1))
+
+-- A tuple or a struct comes back if its parts do.
+pub group_again : {V : Type 0} (trees : V → Trees) (K : Trees → Type 0) (L : V → Trees → Type 0) (fits : V → Type 0) → ComeBack trees K L fits →
+    ComesBack (λ v. Group (trees v)) (IsGroup K) (λ t v. IsGroup (L v) t) fits
+group_again trees K L fits parts v f = let k = parts v f in ((trees v, refl, k.0), (trees v, refl, k.1))
+
 -- What a `Shape` says, said of parts in a row: the trees of the parts, in order, and the laws that
 -- tie them.
 pub record Row (V : Type 0) : Type 1 where
@@ -50,7 +68,7 @@ pub record Row (V : Type 0) : Type 1 where
   pub delimited : AreDelimited reads
   pub well_formed : PartsWellFormed reads
   pub one_value : (v w : V) (ts : Trees) → value v ts → value w ts → same v w
-  pub again : (v : V) → fits v → reads (trees v) × value v (trees v)
+  pub again : ComeBack trees reads value fits
 
 -- The row of no parts.
 abbrev pub none : {V : Type 0} → Row V
@@ -87,7 +105,7 @@ then s r = record {
   delimited = then_delimited s.reads r.reads s.delimited r.delimited;
   well_formed = then_well_formed s.reads r.reads s.well_formed r.well_formed;
   one_value = λ v w. then_one s.one_value (r.one_value v.1 w.1);
-  again = λ v f. let k = s.again v.0 f.0 in let m = r.again v.1 f.1 in ((s.tree v.0, r.trees v.1, refl, k.0, m.0), (s.tree v.0, r.trees v.1, refl, k.1, m.1));
+  again = then_again s.tree s.reads s.value s.fits s.again r.trees r.reads r.value r.fits r.again;
 }
 
 -- The row r, for a type whose values are seen as those of r by `see`.
@@ -121,5 +139,5 @@ group r = record {
   delimited = group_delimited r.reads r.delimited;
   well_formed = group_well_formed r.reads r.well_formed;
   one_value = λ t v w. group_one (r.one_value v w) t;
-  again = λ v f. let k = r.again v f in ((r.trees v, refl, k.0), (r.trees v, refl, k.1));
+  again = group_again r.trees r.reads r.value r.fits r.again;
 }

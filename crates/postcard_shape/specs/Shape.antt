@@ -10,6 +10,12 @@ use Rattle.postcard_wire.specs.declared.error.Error.TheVariants.{OutOfMemory}
 abbrev pub HasOne : {V : Type 0} → (Tree → V → Type 0) → (V → V → Type 0) → Type 0
 HasOne {V} value same = (t : Tree) (v w : V) → value t v → value t w → same v w
 
+-- The tree of a value that fits is one that is read, and the value is one of that tree. The laws of this
+-- kind of a combinator's parts stand in its own as arguments of a lemma, each once: written out, a law
+-- that has another twice doubles with each part and each type inside.
+abbrev pub ComesBack : {V : Type 0} → (V → Tree) → (Tree → Type 0) → (Tree → V → Type 0) → (V → Type 0) → Type 0
+ComesBack {V} tree reads value fits = (v : V) → fits v → reads (tree v) × value (tree v) v
+
 -- The shape of a type: all that a contract says of its values on the wire.
 pub record Shape (V : Type 0) : Type 1 where
   -- The tree that a value is written as.
@@ -36,9 +42,8 @@ pub record Shape (V : Type 0) : Type 1 where
   pub well_formed : ReadsWellFormed reads
   -- All values of one tree look alike.
   pub one_value : HasOne value same
-  -- The tree of a value that fits is one that is read, and the value is one of that tree: what was
-  -- written is read again.
-  pub again : (v : V) → fits v → reads (tree v) × value (tree v) v
+  -- What was written is read again.
+  pub again : ComesBack tree reads value fits
 
 -- No error: the refusal of a value that never refuses itself.
 abbrev pub never : Error → Type 0

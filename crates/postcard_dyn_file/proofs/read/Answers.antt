@@ -3,6 +3,8 @@ use Rattle.std.proofs.lemmas.Result.{err_from_is_err_and}
 use Rattle.postcard_dyn_file.specs.Tokens.{spelling}
 use Rattle.postcard_dyn_file.specs.Expands.{AreInOrder}
 use Rattle.postcard_dyn_file.proofs.Spelled.{in_order}
+use Rattle.postcard_dyn_file.specs.Items.{AreDeclarations}
+use Rattle.postcard_dyn_file.proofs.Openings.{text_opens}
 use Rattle.postcard_dyn_file.proofs.Files.{file_of, expression_of, problem_of, problem_of_text}
 use Rattle.postcard_dyn_file.proofs.read.Goals as goal
 
@@ -30,3 +32,8 @@ returns-clause-problem c =
     (file_of c.args.file.now _ _ _ _ _ c.in_ok-all.ensures.read c.as_slice.ensures.value c.in_ok-kept.ensures.kept c.as_slice-2.ensures.value c.in_ok-known.ensures.declared)
     c.as_slice-3.ensures.value c.as_slice-4.ensures.value c.in_ok-words.ensures.spelled
     (c.as_str.ensures.value ∙ c.in_ok-text.ensures.spelled ∙ ap spelling c.as_slice-5.ensures.value) c.in-Err.ensures.refused
+
+pub returns-in-Ok-clause-opens : goal.returns-in-Ok-clause-opens
+returns-in-Ok-clause-opens c =
+    text_opens _ _ _ _ _ _ (subst (λ ts. AreDeclarations ts c.in_ok-known.known.items) c.as_slice-2.ensures.value c.in_ok-known.ensures.declared) c.as_slice-3.ensures.value c.as_slice-4.ensures.value
+    c.in_ok-words.ensures.opens (c.in_ok-text.ensures.spelled ∙ ap spelling c.as_slice-5.ensures.value)

@@ -1,6 +1,7 @@
 use Rattle.std.proofs.Common.{◌≡◌, [], ◌∷◌, ◌++◌, ap, ◌∙◌, rules}
 use Rattle.std.proofs.lemmas.Result.{err_from_is_err_and}
 use Rattle.postcard_dyn_file.specs.Tokens.{spelling}
+use Rattle.postcard_dyn_file.proofs.Openings.{opened_by}
 use Rattle.postcard_dyn_file.proofs.Spelled.{problem_of_declaration, spelled_by}
 use Rattle.postcard_dyn_file.proofs.expand.words_of.Goals as goal
 
@@ -16,3 +17,8 @@ pub returns-clause-spelled : goal.returns-clause-spelled
 returns-clause-spelled c =
     spelled_by c.args.tokens.now c.args.known.now c.args.name.now _ _ c.in-Some.declaration c.requires.differ c.in-Some.ensures.found.0 c.in-Some.ensures.found.1
     (ap spelling c.new-out.ensures.items) c.in_ok-write_declaration.ensures.written
+
+pub returns-clause-opens : goal.returns-clause-opens
+returns-clause-opens c =
+    opened_by c.args.tokens.now c.args.known.now _ _ c.in-Some.declaration c.in-Some.ensures.found.0 c.in_ok-write_declaration.ensures.begins (ap spelling c.new-out.ensures.items)
+    c.in_ok-write_declaration.ensures.written

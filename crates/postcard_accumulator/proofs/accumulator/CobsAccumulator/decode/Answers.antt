@@ -1,6 +1,5 @@
-use Rattle.std.proofs.Common.{take, refl}
+use Rattle.std.proofs.Common.{◌≡◌, ◌+◌, ◌-◌, refl, arith}
 use Rattle.std.proofs.lemmas.Result.{err_from_is_err_and}
-use Rattle.postcard_accumulator.proofs.Cutting.{before_zero_all}
 use Rattle.postcard_accumulator.proofs.Holding.{not_skipping}
 use Rattle.postcard_accumulator.proofs.accumulator.CobsAccumulator.decode.Goals as goal
 
@@ -11,21 +10,18 @@ returns-in_err-n g c =
       (refl, (λ x. tt), rw s.0 refl),
       record {
         decodes = rw p.1 tt;
-        no_groups =
-            rw (p.1, ← s.1) (rw (before_zero_all
-            (take c.self.inside.idx c.self.inside.buf) c.self.invariant.1) at c.in_err-n.ensures.no_groups);
+        no_groups = rw (p.1, ← s.1) c.in_err-n.ensures.no_groups;
         held = tt;
       },
     )
 
 pub returns : goal.returns
 returns g c =
-    let s = not_skipping _ _ _ c.self.view_is c.requires in (
+    let s = not_skipping _ _ _ c.self.view_is c.requires in
+    let same : c.in_ok-n.n + 1 - 1 ≡ c.in_ok-n.n = omega arith in (
       (refl, (λ x. tt), rw s.0 refl),
       record {
-        decodes = rw (← s.1)
-            (rw (before_zero_all (take c.self.inside.idx c.self.inside.buf) c.self.invariant.1)
-            at c.in_ok-n.ensures.decodes.1);
+        decodes = rw (← s.1, same) c.in_ok-n.ensures.decodes.1;
         no_groups = tt;
         held = tt;
       },

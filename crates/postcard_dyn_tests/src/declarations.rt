@@ -1,0 +1,344 @@
+//! Tests of files of declarations: the types that their names stand for, and what is refused where.
+
+use crate::same::same;
+use postcard_dyn_file::{expression, find};
+use std::process::Abort;
+
+/// A file, a name, and the type that it stands for, printed by `Debug`, or the error as it is printed.
+type Row<'a> = (&'a str, &'a str, &'a str);
+
+const LONG_FILE: &str = "//! A file.
+#![no_std]
+use serde::{Deserialize, Serialize};
+
+/// What a sensor sends. /* this is no comment
+#[derive(Debug, Serialize)]
+#[serde(rename = \"a]\")]
+pub(crate) struct Reading {
+    /* outer /* inner } */ outer */
+    pub id: u32, // id: u8
+    #[serde(default)]
+    pub(super) is_new: bool,
+}
+
+impl Reading {
+    fn text(&self) -> &'static str {
+        let _brackets = ('{', b'\\'', \"}\\\"}\");
+        \"struct Reading(u8);\"
+    }
+}
+
+const SIZES: [usize; 2] = [1 / 2, 2];
+mod other;
+";
+
+/// Files with declarations that are read.
+const TYPES: [Row; 26] = [
+    (
+        "struct Reading { id: u32, label: String, samples: Vec<i16> }",
+        "Reading",
+        "Group([Named(\"id\", Leaf(U32)), Named(\"label\", Leaf(Str)), \
+         Named(\"samples\", Seq(Leaf(I16)))])",
+    ),
+    (
+        "struct Pair(u8, u16);",
+        "Pair",
+        "Group([Leaf(U8), Leaf(U16)])",
+    ),
+    ("struct Unit;", "Unit", "Group([])"),
+    ("struct Unit {}", "Unit", "Group([])"),
+    ("struct Unit();", "Unit", "Group([])"),
+    ("struct Metres(i32);", "Metres", "Leaf(I32)"),
+    ("type Metres = i32;", "Metres", "Leaf(I32)"),
+    (
+        "enum Event { Boot, Reading(Reading), Fault { code: u8, text: String }, }
+         struct Reading { id: u32 }",
+        "Event",
+        "Enum([Named(\"Boot\", Group([])), \
+         Named(\"Reading\", Group([Named(\"id\", Leaf(U32))])), \
+         Named(\"Fault\", Group([Named(\"code\", Leaf(U8)), Named(\"text\", Leaf(Str))]))])",
+    ),
+    (
+        "enum Level { Low = 1, High = -2 }",
+        "Level",
+        "Enum([Named(\"Low\", Group([])), Named(\"High\", Group([]))])",
+    ),
+    (
+        "enum One { Only }",
+        "One",
+        "Enum([Named(\"Only\", Group([]))])",
+    ),
+    (
+        "enum Empty { A {}, B() }",
+        "Empty",
+        "Enum([Named(\"A\", Group([])), Named(\"B\", Group([]))])",
+    ),
+    (
+        LONG_FILE,
+        "Reading",
+        "Group([Named(\"id\", Leaf(U32)), Named(\"is_new\", Leaf(Bool))])",
+    ),
+    (
+        "struct Log<'a> { text: &'a str, data: &'a [u8] }",
+        "Log",
+        "Group([Named(\"text\", Leaf(Str)), Named(\"data\", Seq(Leaf(U8)))])",
+    ),
+    (
+        "type Both<'a> = (Log<'a, 'a>, u8); struct Log<'a, 'b>(&'a str, &'b str);",
+        "Both",
+        "Group([Group([Leaf(Str), Leaf(Str)]), Leaf(U8)])",
+    ),
+    (
+        "struct A { a: std::string::String, b: crate::types::B, c: ::std::vec::Vec<B> } struct B(u8);",
+        "A",
+        "Group([Named(\"a\", Leaf(Str)), Named(\"b\", Leaf(U8)), Named(\"c\", Seq(Leaf(U8)))])",
+    ),
+    (
+        "type Samples = [i16]; type State = Boot | Fault(u8); struct A(Samples, State?);",
+        "A",
+        "Group([Seq(Leaf(I16)), \
+         Option(Enum([Named(\"Boot\", Group([])), Named(\"Fault\", Leaf(U8))]))])",
+    ),
+    (
+        "enum A { B(B), C } struct B(u8);",
+        "A",
+        "Enum([Named(\"B\", Leaf(U8)), Named(\"C\", Group([]))])",
+    ),
+    (
+        "struct A { a: [B; 2], b: BTreeMap<u8, B>, c: Result<B, ()>, d: Option<Box<B>> } type B = u16;",
+        "A",
+        "Group([Named(\"a\", Array(Leaf(U16), 2)), \
+         Named(\"b\", Map(Group([Leaf(U8), Leaf(U16)]))), \
+         Named(\"c\", Enum([Named(\"Ok\", Leaf(U16)), Named(\"Err\", Group([]))])), \
+         Named(\"d\", Option(Leaf(U16)))])",
+    ),
+    (
+        "struct A { B: B } struct B(bool);",
+        "A",
+        "Group([Named(\"B\", Leaf(Bool))])",
+    ),
+    (
+        "pub struct A(pub u8, pub(crate) u16);",
+        "A",
+        "Group([Leaf(U8), Leaf(U16)])",
+    ),
+    (
+        "struct A(B, B); struct B(C, C); struct C(u8, u8);",
+        "A",
+        "Group([Group([Group([Leaf(U8), Leaf(U8)]), Group([Leaf(U8), Leaf(U8)])]), \
+         Group([Group([Leaf(U8), Leaf(U8)]), Group([Leaf(U8), Leaf(U8)])])])",
+    ),
+    (
+        "struct A { a: LE<u16>, b: postcard::fixint::BE<B> } type B = i32;",
+        "A",
+        "Group([Named(\"a\", Leaf(Fixed(Little, U16))), Named(\"b\", Leaf(Fixed(Big, I32)))])",
+    ),
+    ("struct A(u8); struct B<T>(T);", "A", "Leaf(U8)"),
+    ("struct A(u8); struct B(u9);", "A", "Leaf(U8)"),
+    (
+        "struct A(pub (u8, u8));",
+        "A",
+        "Group([Leaf(U8), Leaf(U8)])",
+    ),
+    (
+        "struct A{a:u8,b:u8,}struct B;",
+        "A",
+        "Group([Named(\"a\", Leaf(U8)), Named(\"b\", Leaf(U8))])",
+    ),
+];
+
+/// Files in which something is wrong.
+const REFUSED: [Row; 38] = [
+    ("", "A", "line 1, column 1: no declaration has the name"),
+    (
+        "struct B;\n",
+        "A",
+        "line 2, column 1: no declaration has the name",
+    ),
+    (
+        "struct A { b: u8",
+        "A",
+        "line 1, column 10: this bracket isn't closed",
+    ),
+    ("struct A { b: u9 }", "A", "line 1, column 15: unknown type"),
+    (
+        "struct A {\n    b: Vec<C>,\n}",
+        "A",
+        "line 2, column 12: unknown type",
+    ),
+    (
+        "// \u{e9}\nstruct A(u9);",
+        "A",
+        "line 2, column 10: unknown type",
+    ),
+    (
+        "/* \u{e9} */ struct A(u9);",
+        "A",
+        "line 1, column 18: unknown type",
+    ),
+    ("struct A { b u8 }", "A", "line 1, column 14: expected `:`"),
+    (
+        "struct A { b: u8 c: u8 }",
+        "A",
+        "line 1, column 18: expected `,` or `}`",
+    ),
+    (
+        "struct A { b: u8, b: u8 }",
+        "A",
+        "line 1, column 19: this name was used before",
+    ),
+    (
+        "struct A { b: A }",
+        "A",
+        "line 1, column 15: this type has itself in it",
+    ),
+    (
+        "struct A(Vec<B>); struct B { a: Option<A> }",
+        "A",
+        "line 1, column 40: this type has itself in it",
+    ),
+    (
+        "type A = A;",
+        "A",
+        "line 1, column 10: this type has itself in it",
+    ),
+    (
+        "struct A; struct A;",
+        "A",
+        "line 1, column 18: this name was declared before",
+    ),
+    (
+        "struct A<T> { b: T }",
+        "A",
+        "line 1, column 9: types with parameters aren't supported",
+    ),
+    (
+        "enum A {}",
+        "A",
+        "line 1, column 9: expected the name of a variant",
+    ),
+    (
+        "enum A { b }",
+        "A",
+        "line 1, column 10: expected the name of a variant",
+    ),
+    (
+        "enum A { B C }",
+        "A",
+        "line 1, column 12: expected `,` or `)`",
+    ),
+    (
+        "enum A { B, B }",
+        "A",
+        "line 1, column 13: this name was used before",
+    ),
+    ("enum A;", "A", "line 1, column 7: expected `{`"),
+    (
+        "struct A where u8: B { }",
+        "A",
+        "line 1, column 10: expected `{`, `(` or `;`",
+    ),
+    ("type A u8;", "A", "line 1, column 8: expected `=`"),
+    (
+        "type A = u8",
+        "A",
+        "line 1, column 1: this declaration doesn't end",
+    ),
+    (
+        "type A = {u8 => u8}",
+        "A",
+        "line 1, column 20: expected `;`",
+    ),
+    (
+        "struct /* A;",
+        "A",
+        "line 1, column 8: this comment isn't closed",
+    ),
+    (
+        "const A: &str = \"b;",
+        "A",
+        "line 1, column 17: this literal isn't closed",
+    ),
+    (
+        "struct \u{e9};",
+        "A",
+        "line 1, column 8: expected a character of ASCII",
+    ),
+    (
+        "struct A; }",
+        "A",
+        "line 1, column 11: no bracket is open here",
+    ),
+    (
+        "struct A(u8];",
+        "A",
+        "line 1, column 12: expected `,` or `)`",
+    ),
+    (
+        "# struct A;",
+        "A",
+        "line 1, column 12: no declaration has the name",
+    ),
+    (
+        "#[a struct A;",
+        "A",
+        "line 1, column 2: this bracket isn't closed",
+    ),
+    ("struct { }", "A", "line 1, column 8: expected a name"),
+    (
+        "struct A { b: [(); 2] }",
+        "A",
+        "line 1, column 16: elements of this type have no bytes",
+    ),
+    (
+        "struct A { b: [u8; N] }",
+        "A",
+        "line 1, column 20: expected the count of an array",
+    ),
+    (
+        "struct A { b: &mut u8 }",
+        "A",
+        "line 1, column 16: unknown type",
+    ),
+    ("struct A { b: }", "A", "line 1, column 15: expected a type"),
+    ("struct A(Vec<u8);", "A", "line 1, column 16: expected `>`"),
+    (
+        "struct A { : u8 }",
+        "A",
+        "line 1, column 12: expected a type",
+    ),
+];
+
+/// Returns the type that a name of a file stands for, or the error, as it is printed.
+fn printed(rt: &(impl Abort + AllocGlobal), file: &str, name: &str) -> String {
+    match find(rt.alloc(), file, name) {
+        Ok(schema) => format!(in rt.alloc(); "{schema:?}").expect(rt, name),
+        Err(error) => format!(in rt.alloc(); "{error}").expect(rt, name),
+    }
+}
+
+/// Asserts that each name stands for the type, or is refused with the error, that is printed so.
+fn check(rt: &(impl Abort + AllocGlobal), rows: &[Row]) {
+    for (file, name, wanted) in rows {
+        same(rt, printed(rt, file, name).as_str(), *wanted, file);
+    }
+}
+
+#[test]
+fn reads_declarations(rt: HostRuntime) {
+    check(&rt, &TYPES);
+}
+
+#[test]
+fn refuses_files(rt: HostRuntime) {
+    check(&rt, &REFUSED);
+}
+
+/// The type of a name may be given as a type expression, too.
+#[test]
+fn spells_types(rt: HostRuntime) {
+    let file = "struct A { a: B, b: [&'static str; 2] } enum B { C, D(u8) }";
+    let text = expression(rt.alloc(), file, "A").expect(&rt, "A");
+    let wanted = "{ a : (| C | D ( u8 ) ) , b : [ & str ; 2 ] } ";
+    same(&rt, text.as_str(), wanted, "A");
+}
