@@ -76,7 +76,7 @@ fn encoding_of<W: Write>(
                 expected,
             },
         ) => {
-            let colon = colon_after(&path);
+            let colon = colon_after(path.as_str());
             write!(
                 output,
                 "at character {character}: {path}{colon}{expected}: "
