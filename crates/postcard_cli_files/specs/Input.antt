@@ -3,7 +3,7 @@ use Rattle.std.specs.Prelude.{◌≡◌, ◌⊎◌, ⊤, ℕ, List, [], ◌∷�
 use Rattle.postcard_cli_files.specs.Call.{AnswersNamed}
 use Rattle.postcard_cli_files.specs.Fault.{Tells}
 use Rattle.postcard_cli_files.specs.declared.fault.TypeFault.{TypeFault}
-use Rattle.postcard_cli_files.specs.declared.fault.TypeFault.TheVariants.{Unreadable, TooLong, NoText, Wrong, OutOfMemory}
+use Rattle.postcard_cli_files.specs.declared.fault.TypeFault.TheVariants.{Unreadable, OutOfMemory}
 use Rattle.postcard_cli_files.specs.declared.files.ReadError.{ReadError}
 use Rattle.postcard_cli_files.specs.declared.files.ReadError.TheVariants as errors
 
