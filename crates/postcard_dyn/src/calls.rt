@@ -25,8 +25,7 @@ use std::alloc::Global;
 /// that front.
 ///
 /// It succeeds if and only if a front of the bytes spells a tree of the schema, padded numbers
-/// included, unless an allocation fails. There is at most one such front. If the bytes begin with
-/// the encoding of a value of the schema, a value with the same tree is returned, whatever follows.
+/// included, unless an allocation fails. There is at most one such front.
 ///
 /// # Errors
 ///

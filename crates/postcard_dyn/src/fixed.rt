@@ -42,7 +42,7 @@ pub fn read_bits<'de, F: postcard_de::Flavor>(
     }
 }
 
-/// Reads a number from its bytes, in this order.
+/// Reads a number from its bytes, in this order. Fails as [`read_bits`] does.
 fn read_number<'de, T: FixInt, F: postcard_de::Flavor>(
     alloc: Global,
     order: ByteOrder,
@@ -80,7 +80,7 @@ pub fn write_bits<F: postcard_ser::Flavor>(
     }
 }
 
-/// Writes the bytes of a number, in this order.
+/// Writes the bytes of a number, in this order. Fails as [`write_bits`] does.
 fn write_number<T: FixInt, F: postcard_ser::Flavor>(
     order: ByteOrder,
     value: T,

@@ -1,4 +1,5 @@
-//! The place in a message where reading fails: [`refused_at`].
+//! The place in a message where reading fails: [`refused_at`], as which the functions below it
+//! fail.
 
 ghost use Rattle.std.specs.Prelude.{◌≡◌, ◌≤◌, length, IfOk, IfErr};
 
@@ -37,8 +38,7 @@ pub fn refused_at(alloc: Global, schema: &Schema, bytes: &[u8]) -> Result<usize>
     }
 }
 
-/// Returns the offset of the refused part in the bytes of a list: the count, or a part of an
-/// element.
+/// Returns the offset of the refused part in the bytes of a list: the countor a part of an element.
 #[cycle(locate)]
 fn refused_after_count(alloc: Global, element: &Schema, bytes: &[u8]) -> Result<usize>
     ensures within { IfOk result (λ place. place ≤ length bytes.now) }
@@ -53,7 +53,9 @@ fn refused_after_count(alloc: Global, element: &Schema, bytes: &[u8]) -> Result<
     }
 }
 
-/// Returns the offset of the refused part in the bytes of elements in a row.
+/// Returns the offset of the refused part in the bytes of elements in a row. Each element before it
+/// has at least one byte, so there are no more of them than bytes; if they use up all bytes, the
+/// next one is refused at the end.
 #[cycle(locate)]
 fn refused_element(alloc: Global, element: &Schema, bytes: &[u8]) -> Result<usize>
     ensures within { IfOk result (λ place. place ≤ length bytes.now) }

@@ -1,4 +1,4 @@
-//! Reading a value of a schema from a source: [`read_value`].
+//! Reading a value of a schema from a source: [`read_value`]. The functions below it fail as it does.
 
 ghost use Rattle.std.specs.Prelude.{◌≡◌, ◌++◌, ◌∷◌, [], IfOk, IfErr, OnOk};
 ghost use Rattle.postcard_wire.specs.Spelling.{Spells, SpellsAll};
@@ -156,7 +156,6 @@ fn read_variant<'de, F: Flavor>(
     Ok(Value::Variant(index, held))
 }
 
-/// Adds a value to the end of the list.
 fn push(items: &mut Vec<Value>, item: Value) -> Result<()>
     ensures added { OnOk result (items.new.items ≡ items.old.items ++ item ∷ []) }
     ensures refused { IfErr result (λ e. e ≡ Error.OutOfMemory) }
@@ -167,7 +166,6 @@ fn push(items: &mut Vec<Value>, item: Value) -> Result<()>
     }
 }
 
-/// Puts a value into a `Box`.
 fn boxed(alloc: Global, value: Value) -> Result<Box<Value>>
     ensures held { IfOk result (λ held. held.value ≡ value) }
     ensures refused { IfErr result (λ e. e ≡ Error.OutOfMemory) }
@@ -178,7 +176,6 @@ fn boxed(alloc: Global, value: Value) -> Result<Box<Value>>
     }
 }
 
-/// Reads a value of a type without parts.
 fn read_leaf<'de, F: Flavor>(
     alloc: Global,
     leaf: Leaf,

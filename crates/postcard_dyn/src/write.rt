@@ -63,7 +63,7 @@ pub fn write_value<F: Flavor>(value: &Value, serializer: &mut Serializer<F>) -> 
     }
 }
 
-/// Writes the values in order, without a count.
+/// Writes the values in order, without a count. Fails as [`write_value`] does.
 #[cycle(write)]
 fn write_all<F: Flavor>(items: &Vec<Value>, serializer: &mut Serializer<F>) -> Result<()>
     ensures { Wrote F.Flavor serializer.old.output

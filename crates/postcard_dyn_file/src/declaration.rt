@@ -92,7 +92,8 @@ fn ends_item(tokens: &[Token], at: usize) -> bool
     }
 }
 
-/// Adds the declaration that an item at the index is, if one is, to the end of the list.
+/// Adds the declaration that an item at the index is, if one is, to the end of the list. Fails as
+/// [`declarations`] does.
 fn read_item<'a>(
     tokens: &[Token<'a>],
     at: usize,
@@ -118,7 +119,8 @@ fn read_item<'a>(
     }
 }
 
-/// Returns the declaration that an item at the index is, or `None` if none is.
+/// Returns the declaration that an item at the index is, or `None` if none is. Fails as
+/// [`declarations`] does, but never with `DeclaredTwice`.
 fn declared<'a>(tokens: &[Token<'a>], at: usize) -> Result<Option<Declaration<'a>>, ProblemAt>
     requires { at < length tokens.now }
     ensures found { IfOk result (λ found. IfSome found (λ d. Declares tokens.now at d)) }

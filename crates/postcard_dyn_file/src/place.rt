@@ -34,7 +34,7 @@ pub fn spelled(alloc: Global, words: &[Token]) -> Result<String, ProblemAt>
     Ok(text)
 }
 
-/// Adds a word and a blank to the text.
+/// Adds a word and a blank to the text, or fails with `OutOfMemory`.
 fn add(text: &mut String, word: &str, left: usize) -> Result<(), ProblemAt>
     ensures added { OnOk result (string_bytes text.new
         ≡ string_bytes text.old ++ (word.now ++ 32 ∷ [])) }
@@ -65,7 +65,7 @@ pub fn left_of(words: &[Token], character: usize) -> usize {
     left
 }
 
-/// Returns the error of a problem, with its line and column, each counted from 1.
+/// Returns the error of a problem, with its line and column.
 pub fn error_at(file: &[u8], problem_at: ProblemAt) -> FileError
     ensures problem { result.problem ≡ problem_at.problem }
     ensures place { IsPlace file.now (length file.now - problem_at.left) result.line result.column }

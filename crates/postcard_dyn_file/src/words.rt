@@ -69,7 +69,6 @@ pub fn text_of<'a>(tokens: &[Token<'a>], kind: Kind, at: usize) -> &'a [u8]
     }
 }
 
-/// Returns the text that the token at the index stands for in a struct.
 fn struct_text<'a>(tokens: &[Token<'a>], at: usize) -> &'a [u8]
     requires { at < length tokens.now }
     ensures { IsStructText tokens.now at result.now }
@@ -83,7 +82,6 @@ fn struct_text<'a>(tokens: &[Token<'a>], at: usize) -> &'a [u8]
     b"()"
 }
 
-/// Returns the text that the token at the index stands for in a type alias.
 fn alias_text<'a>(tokens: &[Token<'a>], at: usize) -> &'a [u8]
     requires { at < length tokens.now }
     ensures { IsAliasText tokens.now at result.now }
@@ -97,7 +95,6 @@ fn alias_text<'a>(tokens: &[Token<'a>], at: usize) -> &'a [u8]
     plain_text(tokens, at)
 }
 
-/// Returns the text that the token at the index stands for in an enum.
 fn enum_text<'a>(tokens: &[Token<'a>], at: usize) -> &'a [u8]
     requires { at < length tokens.now }
     ensures { IsEnumText tokens.now at result.now }

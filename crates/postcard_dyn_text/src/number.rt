@@ -46,11 +46,8 @@ where
     }
 }
 
-/// Takes blanks and then a number of the type `leaf`, which has a sign.
-///
-/// # Errors
-///
-/// Stops at the front of `rest` if no number is next, or one that `T` doesn't hold.
+/// Takes blanks and then a number of the type `leaf`, which has a sign. It stops as
+/// [`read_unsigned`].
 pub fn read_signed<T: TryFrom<i128>>(rest: &mut &[u8], leaf: Leaf) -> Result<T, Stop<'static>>
 where
     T::Error: Drop,
@@ -91,7 +88,7 @@ pub fn read_bits(rest: &mut &[u8], integer: Integer) -> Result<u128, Stop<'stati
     }
 }
 
-/// Takes blanks and then a number of an unsigned type, which is its bits.
+/// Takes blanks and then a number of an unsigned type, which is its bits. Stops as [`read_bits`].
 fn read_unsigned_bits(rest: &mut &[u8], integer: Integer) -> Result<u128, Stop<'static>>
     ensures spelled { IfOk result (λ n.
         TakesPhrase (SpellsBits false integer n) rest.old.now rest.new.now) }
@@ -107,7 +104,7 @@ fn read_unsigned_bits(rest: &mut &[u8], integer: Integer) -> Result<u128, Stop<'
     Err(Stop::here(start, Expected::Leaf(integer.leaf())))
 }
 
-/// Takes blanks and then a number of a signed type, and returns its bits.
+/// Takes blanks and then a number of a signed type, and returns its bits. Stops as [`read_bits`].
 fn read_signed_bits(rest: &mut &[u8], integer: Integer) -> Result<u128, Stop<'static>>
     ensures spelled { IfOk result (λ n.
         TakesPhrase (SpellsBits true integer n) rest.old.now rest.new.now) }

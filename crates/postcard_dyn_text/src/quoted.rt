@@ -72,7 +72,8 @@ fn take_byte(rest: &mut &[u8], expected: Expected<'static>) -> Result<u8, Stop<'
     }
 }
 
-/// Takes an escape after its `\`, and adds the character that it stands for to `bytes`.
+/// Takes an escape after its `\`, and adds the character that it stands for to `bytes`. Stops as
+/// [`take_quoted`] does.
 fn take_escape(rest: &mut &[u8], bytes: &mut Vec<u8>) -> Result<(), Stop<'static>>
     ensures taken { OnOk result ((held : List ℕ) × (bytes.new.items ≡ bytes.old.items ++ held)
         × TakesPhrase (IsEscape held) rest.old.now rest.new.now) }
@@ -210,7 +211,6 @@ fn digit_of(byte: u8, start: &[u8], expected: Expected<'static>) -> Result<u8, S
     }
 }
 
-/// Adds a byte to the end.
 fn push(bytes: &mut Vec<u8>, byte: u8) -> Result<(), Stop<'static>>
     ensures added { OnOk result (bytes.new.items ≡ bytes.old.items ++ byte ∷ []) }
     ensures refused { IfErr result (λ stop. stop ≡ Stop.Memory) }
@@ -221,7 +221,7 @@ fn push(bytes: &mut Vec<u8>, byte: u8) -> Result<(), Stop<'static>>
     }
 }
 
-/// Adds a character's UTF-8 to the end.
+/// Adds a character's UTF-8 to the end, or stops with `Memory`.
 fn push_character(bytes: &mut Vec<u8>, c: char) -> Result<(), Stop<'static>>
     ensures added { OnOk result (bytes.new.items ≡ bytes.old.items ++ encode_utf8 c) }
     ensures refused { IfErr result (λ stop. stop ≡ Stop.Memory) }

@@ -1,4 +1,5 @@
-//! Reading a value from its text: [`read_text`].
+//! Reading a value from its text: [`read_text`]. A function with a [`Stop`] stops where the text
+//! isn't what it takes, and with `Memory` if an allocation fails.
 
 ghost use Rattle.std.specs.Prelude.{◌≡◌, ◌≢◌, ℕ, ◌<◌, List, [], ◌∷◌, ◌++◌, codes, map, slice_index, length};
 ghost use Rattle.std.specs.Prelude.{IfOk, IfErr, IfSome, IfNone, OnOk, MatchResult, Some, Bool, true, false, get_or};
@@ -273,7 +274,6 @@ fn before<'a>(part: &'a Schema, between: &[u8]) -> Expected<'a>
     }
 }
 
-/// Adds a value to the end of the list.
 fn push(items: &mut Vec<Value>, item: Value) -> Result<(), Stop<'static>>
     ensures added { OnOk result (items.new.items ≡ items.old.items ++ item ∷ []) }
     ensures refused { IfErr result (λ stop. stop ≡ Stop.Memory) }
@@ -284,7 +284,6 @@ fn push(items: &mut Vec<Value>, item: Value) -> Result<(), Stop<'static>>
     }
 }
 
-/// Reads a value.
 #[cycle(text)]
 fn read<'a>(alloc: Global, schema: &'a Schema, rest: &mut &[u8]) -> Result<Value, Stop<'a>>
     ensures value { IfOk result (λ v. reads (type_of schema.now) (tree v)) }
@@ -614,7 +613,6 @@ fn read_content<'a>(alloc: Global, content: &'a Schema, rest: &mut &[u8]) -> Res
     Ok(value)
 }
 
-/// Reads a value without parts.
 fn read_leaf(alloc: Global, leaf: Leaf, rest: &mut &[u8]) -> Result<Value, Stop<'static>>
     ensures value { IfOk result (λ v. leaf_reads leaf (tree v)) }
     ensures spelled { IfOk result (λ v. TakesPhrase (SpellsLeaf leaf (tree v))
