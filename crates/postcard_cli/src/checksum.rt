@@ -197,7 +197,8 @@ impl Checksum {
     }
 }
 
-/// Returns the checksum of bytes by an algorithm of at most 8 bits.
+/// Returns the checksum of bytes by an algorithm of at most 8 bits. The functions below do so for
+/// more.
 fn checksum_in_u8(algorithm: &Algorithm<u8>, bytes: &[u8]) -> u128
     requires { IsValid 8 (parameters (λ n. n) algorithm.now) }
     ensures { IsCrc (parameters (λ n. n) algorithm.now) bytes.now result }
@@ -206,7 +207,6 @@ fn checksum_in_u8(algorithm: &Algorithm<u8>, bytes: &[u8]) -> u128
     u128::from(crc.checksum(bytes))
 }
 
-/// Returns the checksum of bytes by an algorithm of at most 16 bits.
 fn checksum_in_u16(algorithm: &Algorithm<u16>, bytes: &[u8]) -> u128
     requires { IsValid 16 (parameters (λ n. n) algorithm.now) }
     ensures { IsCrc (parameters (λ n. n) algorithm.now) bytes.now result }
@@ -215,7 +215,6 @@ fn checksum_in_u16(algorithm: &Algorithm<u16>, bytes: &[u8]) -> u128
     u128::from(crc.checksum(bytes))
 }
 
-/// Returns the checksum of bytes by an algorithm of at most 32 bits.
 fn checksum_in_u32(algorithm: &Algorithm<u32>, bytes: &[u8]) -> u128
     requires { IsValid 32 (parameters (λ n. n) algorithm.now) }
     ensures { IsCrc (parameters (λ n. n) algorithm.now) bytes.now result }
@@ -224,7 +223,6 @@ fn checksum_in_u32(algorithm: &Algorithm<u32>, bytes: &[u8]) -> u128
     u128::from(crc.checksum(bytes))
 }
 
-/// Returns the checksum of bytes by an algorithm of at most 64 bits.
 fn checksum_in_u64(algorithm: &Algorithm<u64>, bytes: &[u8]) -> u128
     requires { IsValid 64 (parameters (λ n. n) algorithm.now) }
     ensures { IsCrc (parameters (λ n. n) algorithm.now) bytes.now result }
@@ -233,7 +231,6 @@ fn checksum_in_u64(algorithm: &Algorithm<u64>, bytes: &[u8]) -> u128
     u128::from(crc.checksum(bytes))
 }
 
-/// Returns the checksum of bytes by an algorithm of at most 128 bits.
 fn checksum_in_u128(algorithm: &Algorithm<u128>, bytes: &[u8]) -> u128
     requires { IsValid 128 (parameters (λ n. n) algorithm.now) }
     ensures { IsCrc (parameters (λ n. n) algorithm.now) bytes.now result }
@@ -242,18 +239,17 @@ fn checksum_in_u128(algorithm: &Algorithm<u128>, bytes: &[u8]) -> u128
     crc.checksum(bytes)
 }
 
-/// Returns whether the bytes are the same.
 fn is_same(found: &[u8], wanted: &[u8]) -> bool
     ensures { IsTrue result ↔ (found.now ≡ wanted.now) }
 {
     *found == *wanted
 }
 
-/// Returns the algorithm with this name. If there is none, prints the name.
+/// Returns the algorithm with this name.
 ///
 /// # Errors
 ///
-/// Fails with `UnknownChecksum` if there is none, and with `Output` if the output can't be written.
+/// Fails with `UnknownChecksum` if there is none, after the name is printed.
 pub fn named<W: Write>(name: &str, output: &mut W) -> Result<Checksum, Failure>
     ensures named { IfOk result (λ checksum. name.now ≡ checksum_name checksum) }
     ensures untouched { OnOk result (output.new ≡ output.old) }
@@ -294,7 +290,7 @@ pub fn print<R: Reader, W: Write>(
     Ok(())
 }
 
-/// Prints the catalogue. Fails with `Output` if the output can't be written.
+/// Prints the catalogue.
 pub fn print_catalog<W: Write>(output: &mut W) -> Result<(), Failure>
     ensures printed { OnOk result (Appends (W.contents output.old) (W.contents output.new)
         CATALOG.now) }

@@ -1,4 +1,5 @@
-//! The commands, and how they are read from the words of a call.
+//! The commands, and how they are read from the words of a call. The functions below
+//! [`Command::from_words`] return `None` if the words are no call.
 
 ghost use Rattle.std.specs.Prelude.{◌≡◌, ◌≢◌, ℕ, [], ◌∷◌, codes, IfSome, IfNone, map, string_bytes};
 ghost use Rattle.postcard_cli.specs.Command.{IsCallOf, IsNoCall, IsWordOf, SaysLongest};
@@ -105,15 +106,16 @@ impl<'a> TypeWord<'a> {
 }
 
 /// A call with a known command, the right number of words, and a TYPE that is a name or counts as
-/// an expression. The expression, VALUE and HEX aren't read yet.
+/// an expression. The expression, VALUE and HEX aren't read yet. Where nothing else is said, TYPE
+/// is taken as an expression.
 #[derive(Clone, Copy, Debug, PartialEq, Eq)]
 pub enum Command<'a> {
-    /// `enc TYPE VALUE`.
+    /// `enc TYPE VALUE`, where TYPE may be a name.
     Encode {
         kind: TypeWord<'a>,
         value: &'a str,
     },
-    /// `dec TYPE HEX`.
+    /// `dec TYPE HEX`, where TYPE may be a name.
     Decode {
         kind: TypeWord<'a>,
         hex: &'a str,
@@ -123,58 +125,58 @@ pub enum Command<'a> {
         expression: &'a str,
         hex: &'a str,
     },
-    /// `enc --crc NAME TYPE VALUE`, where TYPE is taken as an expression.
+    /// `enc --crc NAME TYPE VALUE`.
     EncodeChecked {
         name: &'a str,
         expression: &'a str,
         value: &'a str,
     },
-    /// `dec --crc NAME TYPE HEX`, where TYPE is taken as an expression.
+    /// `dec --crc NAME TYPE HEX`.
     DecodeChecked {
         name: &'a str,
         expression: &'a str,
         hex: &'a str,
     },
-    /// `enc --json TYPE JSON`, where TYPE is taken as an expression.
+    /// `enc --json TYPE JSON`.
     EncodeJson {
         expression: &'a str,
         text: &'a str,
     },
-    /// `dec --json TYPE HEX`, where TYPE is taken as an expression.
+    /// `dec --json TYPE HEX`.
     DecodeJson {
         expression: &'a str,
         hex: &'a str,
     },
-    /// `decs --json TYPE HEX`, where TYPE is taken as an expression.
+    /// `decs --json TYPE HEX`.
     DecodeAllJson {
         expression: &'a str,
         hex: &'a str,
     },
-    /// `enc --frame TYPE VALUE`, where TYPE is taken as an expression.
+    /// `enc --frame TYPE VALUE`.
     EncodeFramed {
         expression: &'a str,
         value: &'a str,
     },
-    /// `enc --frame --raw TYPE VALUE`, where TYPE is taken as an expression.
+    /// `enc --frame --raw TYPE VALUE`.
     EncodeFramedRaw {
         expression: &'a str,
         value: &'a str,
     },
-    /// `dec --frame TYPE HEX`, where TYPE is taken as an expression.
+    /// `dec --frame TYPE HEX`.
     DecodeFramed {
         expression: &'a str,
         hex: &'a str,
     },
-    /// `enc --raw TYPE VALUE`, where TYPE is taken as an expression.
+    /// `enc --raw TYPE VALUE`.
     EncodeRaw {
         expression: &'a str,
         value: &'a str,
     },
-    /// `dec --raw TYPE` or `dec --raw TYPE -`, where TYPE is taken as an expression.
+    /// `dec --raw TYPE` or `dec --raw TYPE -`.
     DecodeRaw {
         expression: &'a str,
     },
-    /// `decs --raw TYPE` or `decs --raw TYPE -`, where TYPE is taken as an expression.
+    /// `decs --raw TYPE` or `decs --raw TYPE -`.
     DecodeAllRaw {
         expression: &'a str,
     },
@@ -186,33 +188,32 @@ pub enum Command<'a> {
         expression: &'a str,
         longest: usize,
     },
-    /// `frames --crc NAME TYPE`, where TYPE is taken as an expression.
+    /// `frames --crc NAME TYPE`.
     FramesChecked {
         name: &'a str,
         expression: &'a str,
     },
-    /// `frames --hex TYPE HEX`, where TYPE is taken as an expression.
+    /// `frames --hex TYPE HEX`.
     FramesHex {
         expression: &'a str,
         hex: &'a str,
     },
-    /// `frames --json TYPE`, where TYPE is taken as an expression.
+    /// `frames --json TYPE`.
     FramesJson {
         expression: &'a str,
     },
-    /// `explain TYPE HEX` or `explain --all TYPE HEX`, where TYPE is taken as an expression, and `all`
-    /// is whether nothing is cut.
+    /// `explain TYPE HEX`, or `explain --all TYPE HEX`, by which nothing is cut.
     Explain {
         expression: &'a str,
         hex: &'a str,
         all: bool,
     },
-    /// `explain --json TYPE HEX`, where TYPE is taken as an expression.
+    /// `explain --json TYPE HEX`.
     ExplainJson {
         expression: &'a str,
         hex: &'a str,
     },
-    /// `size TYPE`, where TYPE is taken as an expression.
+    /// `size TYPE`.
     Size {
         expression: &'a str,
     },

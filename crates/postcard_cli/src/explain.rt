@@ -91,7 +91,7 @@ pub fn print<R: Reader, W: Write>(
     }
 }
 
-/// Prints the rows of lines.
+/// Prints each line of an explanation as a row, with the offset of its bytes in the message.
 fn print_lines<W: Write>(
     alloc: Global,
     lines: &Vec<Line<'_>>,
@@ -316,7 +316,6 @@ fn show_kind<W: fmt::Write>(kind: &LineKind<'_>, f: &mut fmt::Formatter<W>) -> f
     }
 }
 
-/// Prints a value without parts.
 fn show_value<W: fmt::Write>(
     schema: &Schema,
     value: &Value,
@@ -329,7 +328,6 @@ fn show_value<W: fmt::Write>(
     write!(f, "{shown}")
 }
 
-/// Returns the word for this number of elements.
 fn noun(count: u64) -> &'static str
     ensures { result.now ≡ elements_text count }
 {

@@ -34,14 +34,14 @@ struct Open {
     path: String,
 }
 
-/// Prints the bytes of HEX as lines of JSON: the offset, the bytes, and which part of a value of the
-/// type they are. Nothing is cut.
+/// Prints the bytes of HEX as lines of JSON: the offset, the bytes, and which part of a value of
+/// the type they are. Nothing is cut.
 ///
 /// # Errors
 ///
-/// Fails as [`schema_of`] and [`hexadecimal::read_loose`] do; if the bytes begin with no message of
-/// the type, with `Refused`, after the lines of the parts before the one that can't be read, and the
-/// line of that one, without its end; and with `Library(WontImplement)` if a value has no JSON.
+/// Fails as [`schema_of`] and [`hexadecimal::read_loose`] do, and if the bytes begin with no
+/// message of the type, with `Refused`, after the lines of the parts before the one that can't be
+/// read, and the line of that one, without its end.
 pub fn print<R: Reader, W: Write>(
     alloc: Global,
     expression: &str,
@@ -66,7 +66,8 @@ pub fn print<R: Reader, W: Write>(
     }
 }
 
-/// Prints the rows of lines, with the error by which the bytes are refused, if they are.
+/// Prints each line of an explanation as a row, with the offset of its bytes in the message, and
+/// the error by which the bytes are refused, if they are.
 fn print_lines<W: Write>(
     alloc: Global,
     error: &Option<Error>,

@@ -15,13 +15,13 @@ use postcard_wire::Error;
 use std::alloc::Global;
 use std::io::Write;
 
-/// Prints the line of a value that the data of the frame at this offset has, and of the bytes of the
-/// data after it, if there are some.
+/// Prints the line of a value that the data of the frame at this offset has, and of the bytes of
+/// the data after it, if there are some.
 ///
 /// # Errors
 ///
-/// Fails with `OutOfMemory` if an allocation fails, with `Library(WontImplement)` if the value has no
-/// JSON, both before anything is printed, and with `Output` if the output can't be written.
+/// Fails with `OutOfMemory` if an allocation fails, and with `Library(WontImplement)` if the value
+/// has no JSON, both before anything is printed.
 pub fn print_value<W: Write>(
     alloc: Global,
     schema: &Schema,
@@ -46,8 +46,7 @@ pub fn print_value<W: Write>(
 ///
 /// # Errors
 ///
-/// Fails with `OutOfMemory` if an allocation fails, before anything is printed, and with `Output` if
-/// the output can't be written.
+/// Fails with `OutOfMemory` if an allocation fails, before anything is printed.
 pub fn print_refused<W: Write>(
     alloc: Global,
     start: u64,
@@ -69,10 +68,6 @@ pub fn print_refused<W: Write>(
 
 /// Prints the line of a frame at this offset that has no value: why, a member with more of it or
 /// nothing, and a member of this name with bytes.
-///
-/// # Errors
-///
-/// Fails with `Output` if the output can't be written.
 pub fn print_error<W: Write>(
     start: u64,
     why: &str,

@@ -33,13 +33,12 @@ use postcard_wire::Error;
 use std::alloc::Global;
 use std::io::Write;
 
-/// Reads a type expression. If it is misspelled, prints what is wrong and where, and of an unknown
-/// type what would do.
+/// Reads a type expression.
 ///
 /// # Errors
 ///
-/// Fails with `BadType` if it is misspelled, with `Library(OutOfMemory)` if an allocation fails,
-/// and with `Output` if the output can't be written.
+/// Fails with `BadType` if it is misspelled, after what is wrong and where, and of an unknown type
+/// what would do, are printed.
 pub fn schema_of<W: Write>(alloc: Global, text: &str, output: &mut W) -> Result<Schema, Failure>
     ensures spelled { IfOk result (λ schema. IsExpression schema text.now) }
     ensures untouched { OnOk result (output.new ≡ output.old) }
@@ -120,11 +119,8 @@ pub fn encode<W: Write>(
     Ok(())
 }
 
-/// Encodes the value of a text, and prints the bytes of its encoding, and nothing after them.
-///
-/// # Errors
-///
-/// Fails as [`encode`] does.
+/// Does what [`encode`] does, with the same errors, but prints the bytes themselves, and nothing
+/// after them.
 pub fn encode_raw<W: Write>(
     alloc: Global,
     expression: &str,
@@ -229,8 +225,7 @@ pub fn decode<R: Reader, W: Write>(
 ///
 /// # Errors
 ///
-/// Fails as [`schema_of`] and [`hexadecimal::read_input`] do, and with `Refused` if the bytes begin
-/// with no message of the type, after which part can't be read, where, and why are printed.
+/// Fails as [`schema_of`] and [`hexadecimal::read_input`] do, and with `Refused` as [`decode`].
 pub fn decode_raw<R: Reader, W: Write>(
     alloc: Global,
     expression: &str,
@@ -249,7 +244,7 @@ pub fn decode_raw<R: Reader, W: Write>(
 }
 
 /// Prints the value at the front of bytes on a line, and the bytes after it as hexadecimal on a
-/// second.
+/// second. Fails as [`read_front`] does.
 fn print_first<W: Write>(
     alloc: Global,
     schema: &Schema,
@@ -302,9 +297,9 @@ pub fn decode_checked<R: Reader, W: Write>(
     Ok(())
 }
 
-/// Checks that `behind`, what comes after the message with which `all` begins, begins with the
-/// checksum of that message, and returns the bytes after the checksum. If it doesn't begin so, prints
-/// the offset in `all` at which the checksum should begin.
+/// Returns the bytes after the checksum of the message with which `all` begins; the checksum is to
+/// come first in `behind`, what comes after the message. If it doesn't, prints the offset in `all`
+/// at which it should begin, and fails as [`Checksum::after_trailer`] does.
 fn skip_trailer<'a, W: Write>(
     checksum: Checksum,
     all: &[u8],
@@ -357,8 +352,7 @@ pub fn decode_all<R: Reader, W: Write>(
 ///
 /// # Errors
 ///
-/// Fails as [`decode_raw`] does, and with `BadType` if messages of the type have no bytes. The
-/// values before an error are printed.
+/// Fails as [`decode_raw`] does, and with `BadType` as [`decode_all`].
 pub fn decode_all_raw<R: Reader, W: Write>(
     alloc: Global,
     expression: &str,
@@ -376,7 +370,8 @@ pub fn decode_all_raw<R: Reader, W: Write>(
     print_all(alloc, &schema, &held, output)
 }
 
-/// Prints the values of bytes, one after another until no byte is left, each on a line.
+/// Prints the values of bytes, one after another until no byte is left, each on a line. Fails as
+/// [`read_front`] does.
 fn print_all<W: Write>(
     alloc: Global,
     schema: &Schema,
@@ -396,9 +391,8 @@ fn print_all<W: Write>(
     Ok(())
 }
 
-/// Decodes a value from the front of `rest`, with which `all` ends, and prints it on a line. Returns
-/// the bytes after it. If the bytes are refused, prints the offset in `all` of the part that can't be
-/// read, its place, and why.
+/// Prints the value at the front of `rest`, with which `all` ends, on a line, and returns the bytes
+/// after it. Fails as [`read_front`] does.
 fn print_front<'a, W: Write>(
     alloc: Global,
     schema: &Schema,
@@ -417,9 +411,9 @@ fn print_front<'a, W: Write>(
     Ok(after)
 }
 
-/// Decodes a value from the front of `rest`, with which `all` ends. Returns it, and the bytes after
-/// it. If the bytes are refused, prints the offset in `all` of the part that can't be read, its place,
-/// and why.
+/// Decodes a value from the front of `rest`, with which `all` ends, and returns it and the bytes
+/// after it. If the bytes are refused, prints the offset in `all` of the part that can't be read,
+/// its place, and why, and fails with `Refused`.
 fn read_front<'a, W: Write>(
     alloc: Global,
     schema: &Schema,

@@ -1,4 +1,5 @@
-//! The work of the program: from the words of a call to its output and exit status.
+//! The work of the program: from the words of a call to its output and exit status. [`Failure`]
+//! says when a call fails.
 
 ghost use Rattle.std.specs.Prelude.{◌≡◌, ◌≢◌, ◌≤◌, ◌⊎◌, ◌↔◌, ℕ, List, [], ◌∷◌, ◌++◌, map};
 ghost use Rattle.std.specs.Prelude.{string_bytes, IfSome, IfErr, OnOk, IsErrOf};
@@ -336,7 +337,8 @@ where
     }
 }
 
-/// Prints the encoding of a value as hexadecimal on a line.
+/// Prints the encoding of a value as hexadecimal on a line, or fails with the error of encoding it
+/// into 4,096 bytes.
 fn print_encoded<T: Serialize, W: Write>(value: &T, output: &mut W) -> Result<(), Failure>
     ensures printed { OnOk result (Appends (W.contents output.old) (W.contents output.new)
         (encode_lower (canonical (T.shape.tree value.now)) ++ 10 ∷ [])) }

@@ -19,8 +19,7 @@ use std::io::Write;
 ///
 /// # Errors
 ///
-/// Fails as [`schema_of`] does if the expression is misspelled, with `Library(OutOfMemory)` if an
-/// allocation fails, and with `Output` if the output can't be written.
+/// Fails as [`schema_of`] does.
 pub fn print<W: Write>(alloc: Global, expression: &str, output: &mut W) -> Result<(), Failure>
     ensures printed { OnOk result (PrintsSize expression.now (W.contents output.old)
         (W.contents output.new)) }

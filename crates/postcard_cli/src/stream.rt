@@ -1,5 +1,5 @@
-//! The command `frames` with a TYPE, which prints the values of a stream of frames, each on a line as
-//! soon as its frame has ended.
+//! The command `frames` with a TYPE, which prints the values of a stream of frames, each on a line
+//! as soon as its frame has ended.
 
 ghost use Rattle.std.specs.Prelude.{◌≡◌, ◌+◌, ◌-◌, ◌^◌, ◌<◌, ◌≤◌, ℕ, List, [], ◌∷◌, ◌++◌, length};
 ghost use Rattle.std.specs.Prelude.{Some, IfOk, IfErr, IfSome, IfNone, OnOk, false, min, take};
@@ -49,11 +49,9 @@ use std::io::Write;
 ///
 /// # Errors
 ///
-/// Fails with `BadType` if the expression is misspelled, with `Library(OutOfMemory)` if an
-/// allocation fails while it is read, with `OutOfMemory` if another allocation fails, with
-/// `Library(WontImplement)` if a value has no JSON and JSON is asked for, with `ReadFailed` if a
-/// read fails, with `Output` if the output can't be written, and with `Limit` after 2^64 - 1 reads.
-/// The lines of what was read before are printed.
+/// Fails as [`schema_of`] does, with `OutOfMemory` if another allocation fails, with `ReadFailed`
+/// if a read fails, and with `Limit` after 2^64 - 1 reads. The lines of what was read before are
+/// printed.
 pub fn print<R: Reader, W: Write>(
     alloc: Global,
     expression: &str,
@@ -114,8 +112,8 @@ pub fn print_checked<R: Reader, W: Write>(
 ///
 /// # Errors
 ///
-/// Fails as [`schema_of`] and [`hexadecimal::read_loose`] do, with `OutOfMemory` if another
-/// allocation fails, and with `Output` if the output can't be written.
+/// Fails as [`schema_of`] and [`hexadecimal::read_loose`] do, and with `OutOfMemory` if another
+/// allocation fails.
 pub fn print_hex<R: Reader, W: Write>(
     alloc: Global,
     expression: &str,
@@ -161,7 +159,8 @@ pub struct Format {
     pub notation: Notation,
 }
 
-/// Reads frames of this format until the input ends, and prints their lines.
+/// Reads frames of this format until the input ends, and prints their lines. Fails as [`print`]
+/// does once its expression is read.
 fn print_values<R: Reader, W: Write>(
     alloc: Global,
     format: &Format,
@@ -187,7 +186,8 @@ fn print_values<R: Reader, W: Write>(
     Err(Failure::Limit)
 }
 
-/// What is kept of a stream between two reads.
+/// What is kept of a stream between two reads. Its methods and the functions below fail with
+/// `OutOfMemory` if an allocation fails.
 #[derive(Drop)]
 struct Stream {
     /// The greatest length of a frame, its zero included.
@@ -224,7 +224,7 @@ impl Stream {
     }
 
     /// Reads once, prints the lines of what was read, and flushes them. Returns `false` at the end
-    /// of the input.
+    /// of the input. Fails with `ReadFailed` if the read fails.
     fn read<R: Reader, W: Write>(
         &mut self,
         alloc: Global,
@@ -278,7 +278,8 @@ impl Stream {
         Ok(())
     }
 
-    /// Takes bytes without a zero. Prints the line of their frame if it becomes too long.
+    /// Adds bytes without a zero to those held of their frame. If it becomes too long, prints its
+    /// line, holds nothing, and drops what comes of it from then on.
     fn hold<W: Write>(
         &mut self,
         format: &Format,
@@ -535,8 +536,8 @@ fn print_unread<W: Write>(
     }
 }
 
-/// Prints the line of a value that the data of the frame at this offset has, and of the bytes of the
-/// data after it.
+/// Prints the line of this value of the frame at this offset, and of the bytes of the data after
+/// it.
 fn print_read<W: Write>(
     alloc: Global,
     format: &Format,
@@ -591,7 +592,6 @@ fn print_rest<W: Write>(rest: &[u8], output: &mut W) -> Result<(), Failure>
     Ok(())
 }
 
-/// Returns the word for this number of bytes.
 fn noun(count: usize) -> &'static str
     ensures { result.now ≡ noun_of count }
 {

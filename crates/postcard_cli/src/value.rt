@@ -29,8 +29,7 @@ where
 ///
 /// # Errors
 ///
-/// Fails with `BadValue` if a part of the word is no number of the type, and with
-/// `Library(OutOfMemory)` if an allocation fails.
+/// Fails with `BadValue` if a part of the word is no number of the type.
 pub fn list<T: FromStr + Drop>(alloc: Global, word: &str) -> Result<Vec<T>, Failure>
 where
     T::Err: Drop,
