@@ -14,11 +14,9 @@ use postcard_wire::Result;
 use std::alloc::Global;
 use std::marker::Model;
 
-/// Puts COBS frames together from pieces of a stream, and decodes their values.
-///
-/// It holds at most `N` bytes: the front of a frame that hasn't ended yet. A frame has room if it
-/// has at most `N` bytes, its zero included. A frame that has no room is skipped through its zero
-/// and has one answer, `OverFull`; while it is skipped, nothing is held.
+/// Puts COBS frames together from pieces of a stream, and decodes their values, by the
+/// [rule](crate#the-rule) on the crate's page. It holds at most `N` bytes: the front of a frame
+/// that hasn't ended yet.
 #[derive(Drop)]
 pub struct CobsAccumulator<const N: usize> {
     buf: [u8; N],
@@ -173,10 +171,9 @@ impl<const N: usize> CobsAccumulator<N> {
         }
     }
 
-    /// Does the same as [`feed`](CobsAccumulator::feed), but decodes only the frame and reads no
-    /// value: `Success` has the frame's data, and `DeserError` is returned for a frame that is no
-    /// COBS frame. The data borrows from the accumulator, which can be used again once that loan
-    /// ends.
+    /// Does the same as [`feed`](CobsAccumulator::feed), but reads no value: `Success` has the
+    /// frame's data, and `DeserError` is returned for a frame that is no COBS frame. The data
+    /// borrows from the accumulator, which can be used again once that loan ends.
     pub fn take_in<'de, 'a>(&'de mut self, input: &'a [u8]) -> FeedResult<'a, &'de [u8]>
         ensures answer { (after : State) × IsTaken N self.old input.now result after }
         ensures* after { sem 𝓛 (follows_so (the_row N.row) (the_row N.row)
@@ -193,9 +190,8 @@ impl<const N: usize> CobsAccumulator<N> {
         self.take_held(&input[n + 1..])
     }
 
-    /// Takes in a piece of a stream up to the end of a frame, and decodes that frame's value, by
-    /// the [rule](crate#the-rule) on the crate's page. Bytes after the value in a frame's data are
-    /// ignored.
+    /// Takes in a piece of a stream up to the end of a frame, and decodes that frame's value. Bytes
+    /// after the value in a frame's data are ignored.
     pub fn feed<'a, T: DeserializeOwned>(
         &mut self,
         alloc: Global,

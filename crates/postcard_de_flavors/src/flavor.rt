@@ -9,8 +9,8 @@ ghost use Rattle.postcard_de_flavors.specs.Source.{Left, Takes, CanTake, LendsFr
 
 use postcard_wire::{Error, Result};
 
-/// A source of bytes: returns the bytes of a message in order, as a reading flavor of postcard
-/// 1.1.3 does.
+/// A source of bytes, as a reading flavor of postcard 1.1.3: returns the bytes of a message in
+/// order.
 ///
 /// # Errors
 ///

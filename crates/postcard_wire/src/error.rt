@@ -8,7 +8,7 @@ use std::alloc::{AllocError, AllocFailed};
 use std::fmt::Display;
 use std::{error, fmt};
 
-/// Why a value was not written or not read: the errors of postcard 1.1.3 in its order, and then
+/// Why a value was not written or not read: the errors of postcard 1.1.3, and then
 /// [`Error::OutOfMemory`], which is this port's own.
 ///
 /// An error doesn't say where in the bytes or in which part of a value it arose. No call of this
@@ -114,8 +114,7 @@ impl fmt::Display for Error {
 
 impl error::Error for Error {}
 
-/// A refused allocation is [`Error::OutOfMemory`], so that a type which grows may be read with `?`,
-/// as in `String::from_str(alloc, text)?`.
+/// For `?` after a call that allocates, as in `String::from_str(alloc, text)?`.
 impl From<AllocError> for Error {
     ghost from_gives = { λ _ e. e ≡ OutOfMemory };
 
@@ -124,8 +123,8 @@ impl From<AllocError> for Error {
     }
 }
 
-/// So is one that hands back the value that was to be stored, which is dropped, so that
-/// `items.push(item)?` can be written while reading.
+/// The same where the value that was to be stored is handed back, which is dropped, as in
+/// `items.push(item)?`.
 impl<T: Drop> From<AllocFailed<T>> for Error {
     ghost from_gives = { λ _ e. e ≡ OutOfMemory };
 
