@@ -49,12 +49,8 @@ pub fn take_from_bytes<'a, T: Deserialize<'a>>(
     Ok((value, rest))
 }
 
-/// Decodes a value from the front of `bytes`. Bytes after that front are ignored. Slices and texts
-/// in the value, as a `&str`, borrow from `bytes`.
-///
-/// # Errors
-///
-/// Fails as [`take_from_bytes`].
+/// Decodes a value as [`take_from_bytes`] does, with the same errors. Bytes after that front are
+/// ignored.
 pub fn from_bytes<'a, T: Deserialize<'a>>(alloc: Global, bytes: &'a [u8]) -> Result<T>
     ensures gives { IfOk result (λ value. (rest : List ℕ)
         × ReadsFront T.shape.reads T.shape.value bytes.now value rest) }

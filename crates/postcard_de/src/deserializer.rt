@@ -1,9 +1,5 @@
 //! The deserializer, and its calls for integers, texts, byte strings and the counts of lists and
-//! maps.
-//!
-//! The modules below have those for booleans, characters and units (`leaves`), `floats`, `options`,
-//! tuples and structs (`tuples`), `enums`, and whole containers (`containers`); `unsupported`
-//! refuses the rest.
+//! maps. The modules below have the others; `unsupported` refuses what the format can't serve.
 
 ghost use Rattle.std.specs.Prelude.{◌≡◌, false};
 ghost use Rattle.postcard_de.specs.Reads.{ReadsNode, byte_node, bytes_node, int_node};
@@ -29,7 +25,9 @@ use std::marker::PhantomData;
 /// Reads values from a source, each from the front of what is left. Padded varints are read too.
 /// The names of structs, fields and variants aren't used.
 ///
-/// A contract sees the source, by `source_of`.
+/// A call that begins a tuple, a struct or the content of a variant returns a [`SeqAccess`], which
+/// reads the parts. It reads nothing itself, and never fails. A contract sees the source, by
+/// `source_of`.
 ///
 /// # Errors
 ///
@@ -64,8 +62,7 @@ impl<'de, F: Flavor> Deserializer<'de, F> {
         }
     }
 
-    /// Ends reading, and returns what `finalize` of the source does: what is left of it, or an
-    /// error.
+    /// Ends reading, and returns what is left of the source, or the error of its `finalize`.
     pub fn finalize(self) -> Result<F::Remainder>
         ensures { F.finishes (source_of self.entry) result }
     {
@@ -168,11 +165,8 @@ impl<'de, F: Flavor> Deserializer<'de, F> {
     }
 
     /// Reads a text: its length in bytes, and that many bytes of UTF-8. The text borrows from what
-    /// the source borrows.
-    ///
-    /// # Errors
-    ///
-    /// Also fails with `DeserializeBadUtf8` if the bytes aren't UTF-8; they are taken then.
+    /// the source borrows. Also fails with `DeserializeBadUtf8` if the bytes aren't UTF-8; they are
+    /// taken then.
     pub fn deserialize_str(&mut self) -> Result<&'de str>
         ensures { ReadsNode F.Flavor lent_text_node
             (source_of self.old) result (source_of self.new) }
@@ -180,13 +174,8 @@ impl<'de, F: Flavor> Deserializer<'de, F> {
         texts::text(&mut self.flavor)
     }
 
-    /// Reads a text, and returns a copy of it, which is allocated once the bytes were taken and
-    /// found to be UTF-8.
-    ///
-    /// # Errors
-    ///
-    /// Fails as `deserialize_str`, and with `OutOfMemory` if the allocation fails; the text is
-    /// taken then.
+    /// Reads a text as `deserialize_str` does, and returns a copy of it. Also fails with
+    /// `OutOfMemory` if the allocation fails; the text is taken then.
     pub fn deserialize_string(&mut self, alloc: Global) -> Result<String>
         ensures { ReadsNode F.Flavor text_node (source_of self.old) result (source_of self.new) }
     {
@@ -202,20 +191,16 @@ impl<'de, F: Flavor> Deserializer<'de, F> {
         bytes::bytes(&mut self.flavor)
     }
 
-    /// Reads a byte string, and returns a copy of its bytes, which is allocated once they were
-    /// taken.
-    ///
-    /// # Errors
-    ///
-    /// Also fails with `OutOfMemory` if the allocation fails; the bytes are taken then.
+    /// Reads a byte string, and returns a copy of its bytes. Also fails with `OutOfMemory` if the
+    /// allocation fails; the bytes are taken then.
     pub fn deserialize_byte_buf(&mut self, alloc: Global) -> Result<Vec<u8>>
         ensures { ReadsNode F.Flavor bytes_node (source_of self.old) result (source_of self.new) }
     {
         bytes::bytes_copy(alloc, &mut self.flavor)
     }
 
-    /// Reads the number of elements of a list, a varint of at most 10 bytes. The elements are then
-    /// read by [`next_element`](SeqAccess::next_element).
+    /// Reads the number of elements of a list, a varint of at most 10 bytes.
+    /// [`next_element`](SeqAccess::next_element) then reads each.
     pub fn deserialize_seq(&mut self) -> Result<SeqAccess>
         ensures { ReadsNode F.Flavor (number_node 64)
             (source_of self.old) result (source_of self.new) }
@@ -224,9 +209,9 @@ impl<'de, F: Flavor> Deserializer<'de, F> {
         Ok(SeqAccess::new(count))
     }
 
-    /// Reads the number of pairs of a map, a varint of at most 10 bytes. Their keys and values are
-    /// then read in turn by [`next_key`](MapAccess::next_key) and
-    /// [`next_value`](MapAccess::next_value).
+    /// Reads the number of pairs of a map, a varint of at most 10 bytes.
+    /// [`next_key`](MapAccess::next_key) and [`next_value`](MapAccess::next_value) then read each
+    /// in turn.
     pub fn deserialize_map(&mut self) -> Result<MapAccess>
         ensures { ReadsNode F.Flavor (number_node 64)
             (source_of self.old) result (source_of self.new) }

@@ -72,7 +72,7 @@ impl<F: Flavor, K: Lasting<F>> fmt::Write for FmtWriter<F, K> {
     }
 }
 
-/// Returns the number of bytes that a value prints.
+/// Returns the number of bytes that a value prints, or fails if its `Display` does.
 fn count_text<T: Display>(value: &T) -> std::result::Result<usize, fmt::Error>
     ensures { IfOk result
         (λ n. IfSome (T.output value.now) (λ u. (n ≡ length u) × IsUtf8 u)) }

@@ -2,11 +2,8 @@
 //!
 //! The one contract is that of [`Serialize`]: a call of `serialize` has `Wrote` the bytes of the
 //! value's tree, which the type's shape says (`Shaped`, of the crate `postcard_shape`). After an
-//! `Ok` exactly these bytes are appended, and the value `fits`, so that they are read again. If the
-//! flavor has room for them, an error is one by which the value refuses itself; without room also
-//! `SerializeBufferFull`, or `CollectStrError` in a text that a value prints. If the value doesn't
-//! refuse itself, a tidy flavor then has appended a beginning of them. The layer above cites
-//! nothing else.
+//! `Ok` exactly these bytes are appended, and the value `fits`, so that they are read again. The
+//! layer above cites nothing else.
 //!
 //! A struct of your own needs one ghost line and two impls to be written, and `FromRepr` of
 //! `postcard_de` to be read:
@@ -29,9 +26,8 @@
 //! the [`Serializer`] itself more than once joins what each call wrote by the lemmas of
 //! `postcard::specs::Lemmas` whose names begin with `wrote_`.
 //!
-//! In reading order: the crates `postcard_ser_flavors`, of which [`Flavor`] and [`Slice`] are
-//! re-exported here, and `postcard_shape`; `serializer`, `collect_str`, `serialize`, `repr`,
-//! `cases`, `values`.
+//! In reading order: `serializer`, `collect_str`, `serialize`, `repr`, `cases`, `values`.
+//! [`Flavor`] and [`Slice`] are those of `postcard_ser_flavors`.
 #![tactic(auto)]
 
 pub mod cases;

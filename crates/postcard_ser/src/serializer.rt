@@ -1,5 +1,5 @@
-//! The calls by which a type writes itself, one for each node of the wire format. Here are those
-//! for numbers, texts and lists.
+//! The calls by which a type writes itself, one for each node of the format: here those for
+//! numbers, texts and lists.
 
 ghost use Rattle.std.specs.Prelude.{◌≡◌, [], ◌∷◌, ◌++◌, length, map, false, IsOk, IsErrOf, IfSome};
 ghost use Rattle.std.specs.Prelude.{OnOk};

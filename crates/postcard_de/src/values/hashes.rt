@@ -16,11 +16,7 @@ use std::collections::{HashMap, HashSet};
 use std::hash::{BuildHasher, Hash};
 
 /// Returns a set that hashes by `hasher`, into which the keys were put one by one. Of equal keys
-/// the first is kept.
-///
-/// # Errors
-///
-/// Fails with `OutOfMemory` if an allocation fails.
+/// the first is kept. Fails with `OutOfMemory` if an allocation fails.
 fn set_of<K: Eq + Hash + Drop, S: BuildHasher + Drop>(
     alloc: Global,
     keys: Vec<K>,
@@ -37,11 +33,7 @@ fn set_of<K: Eq + Hash + Drop, S: BuildHasher + Drop>(
 }
 
 /// Returns a map that hashes by `hasher`, into which the pairs were put one by one. Of equal keys
-/// the last value is kept.
-///
-/// # Errors
-///
-/// Fails with `OutOfMemory` if an allocation fails.
+/// the last value is kept. Fails with `OutOfMemory` if an allocation fails.
 fn map_of<K: Eq + Hash + Drop, V: Drop, S: BuildHasher + Drop>(
     alloc: Global,
     pairs: Vec<(K, V)>,
@@ -80,11 +72,7 @@ pub fn read_hash_set<'de, K: Deserialize<'de> + Eq + Hash, S: BuildHasher + Drop
 }
 
 /// Reads a map that hashes by `hasher`: the pairs in any order, of which the last value of equal
-/// keys is kept.
-///
-/// The `deserialize` of `HashMap` takes the default of its hasher. The hasher of std has a fixed
-/// seed, so a sender can choose keys that make the map slow. From input that isn't trusted, read a
-/// map by this call with a `RandomState`, or a `BTreeMap`.
+/// keys is kept. What [`read_hash_set`] says of hashers holds here too.
 ///
 /// # Errors
 ///
