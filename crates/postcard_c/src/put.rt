@@ -65,7 +65,6 @@ pub extern "C" fn postcard_put_u128(writer: &mut Writer<'_>, low: u64, high: u64
     put_wide(writer, joined(low, high))
 }
 
-/// Appends the varint of a number of 128 bits.
 fn put_wide(writer: &mut Writer<'_>, value: u128) -> u32
     ensures { Puts (canonical (Num 128 value)) writer.old writer.new result }
 {

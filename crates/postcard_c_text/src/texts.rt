@@ -61,11 +61,7 @@ pub extern "C" fn postcard_to_text(
     }
 }
 
-/// Returns the text of a value.
-///
-/// # Errors
-///
-/// Fails with `OUT_OF_MEMORY` if an allocation fails.
+/// Returns the text of a value, or fails with `OUT_OF_MEMORY` if an allocation fails.
 fn text_of(alloc: Global, schema: &Schema, value: &Value) -> Result<String, u32>
     ensures printed { IfOk result (λ shown. IfSome (text_of_tree (layout_of schema.now) (tree value.now))
         (λ printed. string_bytes shown ≡ printed)) }
@@ -118,13 +114,8 @@ pub extern "C" fn postcard_from_text(
     }
 }
 
-/// Reads the value of a type that a text spells.
-///
-/// # Errors
-///
-/// Fails with `BAD_TEXT` if the text is no value of the type, and writes the number of the character
-/// where it isn't, counted from 1, into `place`; or 0 if the text is not UTF-8. Fails with
-/// `OUT_OF_MEMORY` if an allocation fails.
+/// Reads the value of a type that a text spells. Fails as [`postcard_from_text`] does for the text,
+/// with `place` as there.
 fn value_of(alloc: Global, schema: &Schema, text: &[u8], place: &mut usize) -> Result<Value, u32>
     ensures value { IfOk result (λ v. reads (type_of schema.now) (tree v)) }
     ensures spelled { IfOk result (λ v. SpellsValue schema.now v text.now) }
@@ -145,11 +136,8 @@ fn value_of(alloc: Global, schema: &Schema, text: &[u8], place: &mut usize) -> R
     }
 }
 
-/// Returns the message of a value: the canonical encoding of its tree.
-///
-/// # Errors
-///
-/// Fails with `OUT_OF_MEMORY` if an allocation fails.
+/// Returns the canonical encoding of a value's tree, or fails with `OUT_OF_MEMORY` if an allocation
+/// fails.
 fn encoded(alloc: Global, value: &Value) -> Result<Vec<u8>, u32>
     ensures gives { IfOk result (λ message. message.items ≡ canonical (tree value.now)) }
     ensures out_of_memory { IfErr result (λ status. status ≡ 16) }

@@ -83,8 +83,8 @@ impl Files for Disk<'_> {
     }
 }
 
-/// An open file of the system. Nothing is claimed of what it has left, and it is never steady: no read
-/// is promised to succeed.
+/// An open file of the system. Nothing is claimed of what it has left, and no read is promised to
+/// succeed.
 #[derive(Drop)]
 pub struct DiskFile {
     file: File,

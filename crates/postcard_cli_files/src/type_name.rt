@@ -23,8 +23,8 @@ pub struct TypeName<'a> {
 }
 
 impl<'a> TypeName<'a> {
-    /// Returns the name that a word is: `@`, the name of the file, `:`, and the name of the type, which
-    /// has no `:`. Returns `None` for another word.
+    /// Returns the name that a word is: `@`, the name of the file, `:`, and the name of the type,
+    /// which has no `:`. `None` for another word.
     pub fn from_word(word: &'a str) -> Option<TypeName<'a>>
         ensures found { IfSome result (λ found. IsNameWord word.now found.file.now found.name.now) }
         ensures none { IfNone result
@@ -62,7 +62,8 @@ impl<'a> TypeName<'a> {
         }
     }
 
-    /// Returns the bytes of the file.
+    /// Returns the bytes of the file. Fails with `Unreadable`, `TooLong` and `OutOfMemory`, as
+    /// [`expression`](TypeName::expression) does.
     fn bytes<F: Files>(self, alloc: Global, files: &F) -> Result<Vec<u8>, TypeFault>
         ensures given { IfOk result (λ bytes. F.gives files.now self.entry.file.now bytes.items) }
         ensures refused { IfErr result (IsFaultOf (F.gives files.now) (F.lacks files.now)

@@ -1,4 +1,5 @@
-//! Types of Rust that have types in `<` and `>`, such as `Vec<T>`, and their schemas.
+//! Types of Rust that have types in `<` and `>`, such as `Vec<T>`, and their schemas. Each function
+//! fails at the front of `start`, and with `OutOfMemory` if an allocation fails.
 
 ghost use Rattle.std.specs.Prelude.{◌≡◌, [], ◌∷◌, IfOk, IfErr};
 ghost use Rattle.postcard_dyn_schema.specs.declared.angled.Pair.TheVariants as pairs;
@@ -39,9 +40,8 @@ impl Holder {
     ///
     /// # Errors
     ///
-    /// Fails at the front of `start`: with `NoBytes` if it is a list and `T` has no bytes, with
-    /// `NumberExpected` if it is `LE` or `BE` and `T` is no number of 16 to 128 bits, and with
-    /// `OutOfMemory` if an allocation fails.
+    /// Also fails with `NoBytes` if it is a list and `T` has no bytes, and with `NumberExpected` if
+    /// it is `LE` or `BE` and `T` is no number of 16 to 128 bits.
     pub fn of_type(self, alloc: Global, inner: Schema, start: &[u8]) -> Result<Schema, ProblemAt>
         ensures made { IfOk result (λ schema. MayHold self (type_of inner) × IsHolderOf self inner schema) }
         ensures refused { IfErr result (λ found. IsRefusal found.problem (MayHold self (type_of inner))) }
@@ -73,8 +73,7 @@ impl Pair {
     ///
     /// # Errors
     ///
-    /// Fails at the front of `start`: with `NoBytes` if it is a map and its entries have no bytes,
-    /// and with `OutOfMemory` if an allocation fails.
+    /// Also fails with `NoBytes` if it is a map and its entries have no bytes.
     pub fn of_types(
         self,
         alloc: Global,
@@ -98,8 +97,7 @@ impl Pair {
 ///
 /// # Errors
 ///
-/// Fails at the front of `start`: with `NoBytes` if its entries have no bytes, and with
-/// `OutOfMemory` if an allocation fails.
+/// Also fails with `NoBytes` if its entries have no bytes.
 pub fn map_of(alloc: Global, key: Schema, value: Schema, start: &[u8]) -> Result<Schema, ProblemAt>
     ensures made { IfOk result (λ schema. MayPair pairs.Map (type_of key) (type_of value)
         × IsPairOf pairs.Map key value schema) }

@@ -64,17 +64,14 @@ const MAX_DEPTH: usize = 64;
 const MAX_OPTIONS: usize = 4;
 
 /// Reads a type expression, such as `{id: u16, label: str, samples: [i32]}`, and returns its type.
-/// Each text of the grammar of this module is accepted, within the limits below, if no allocation fails.
+/// Each text of the grammar of this module is accepted, but for the limits that [`Problem`] names,
+/// if no allocation fails. The functions below fail as this does.
 ///
 /// # Errors
 ///
 /// Fails with what is wrong, one of [`Problem`], and the character where it is, counted from 1.
-///
-/// The problem is `NoBytes` if the elements of a list or an array, or the entries of a map, have no
-/// bytes, since a short message could then hold any number of them. It is `TooDeep` if types are
-/// nested more than 64 deep in brackets, or if more than 4 `?` follow a type. It is `NumberExpected`
-/// if the type in the `<` of `LE` or `BE` is no number of 16 to 128 bits. It is `AsciiExpected`, at that
-/// letter, if a name begins or goes on with a letter beyond ASCII.
+/// `AsciiExpected` is at the letter beyond ASCII. `NoBytes` is a problem since a short message
+/// could then hold any number of elements.
 pub fn parse(alloc: Global, text: &str) -> Result<Schema, ExpressionError>
     ensures spelled { IfOk result (λ schema. IsExpression schema text.now) }
     ensures one { IfOk result (λ schema. (other : Schema)
@@ -194,7 +191,7 @@ fn read_referred(alloc: Global, rest: &mut &[u8], depth: usize) -> Result<Schema
     read_plain(alloc, rest, depth)
 }
 
-/// Reads a type that is no enum, with no `&` before it and without the `?` after it.
+/// Reads a type that is no enum, without the `&` before it and the `?` after it.
 #[cycle(expression)]
 fn read_plain(alloc: Global, rest: &mut &[u8], depth: usize) -> Result<Schema, ProblemAt>
     ensures spelled { IfOk result (λ schema. TakesPhrase (IsPlain (IsType depth) schema)
@@ -243,11 +240,8 @@ fn read_worded(alloc: Global, rest: &mut &[u8], depth: usize) -> Result<Schema, 
     }
 }
 
-/// Takes the `<` after the name of a type, with which `name` begins.
-///
-/// # Errors
-///
-/// Fails with `UnknownType` at the name if something else follows it.
+/// Takes the `<` after the name of a type, with which `name` begins, or fails with `UnknownType` at
+/// the name if something else follows it.
 fn open_angle(rest: &mut &[u8], name: &[u8]) -> Result<(), ProblemAt>
     ensures taken { OnOk result (TakesPhrase (IsSign 60) rest.old.now rest.new.now) }
     ensures none { OnErr result ((after : List ℕ)
@@ -259,7 +253,6 @@ fn open_angle(rest: &mut &[u8], name: &[u8]) -> Result<(), ProblemAt>
     Err(problem_at(Problem::UnknownType, name))
 }
 
-/// Reads the types and the `>` after the `<` of a type, and returns that type.
 #[cycle(expression)]
 fn read_angled(
     alloc: Global,
@@ -280,7 +273,7 @@ fn read_angled(
     }
 }
 
-/// Reads a type and `>` after the `<` of a type of one type, and returns that type.
+/// Reads a type and `>`, and returns the type of the holder.
 #[cycle(expression)]
 fn read_holder(
     alloc: Global,
@@ -300,8 +293,7 @@ fn read_holder(
     holder.of_type(alloc, inner, start)
 }
 
-/// Reads two types, with `,` between them, and `>` after the `<` of a type of two types, and
-/// returns that type.
+/// Reads two types, with `,` between them, and `>`, and returns the type of the pair.
 #[cycle(expression)]
 fn read_pair(alloc: Global, pair: Pair, rest: &mut &[u8], depth: usize) -> Result<Schema, ProblemAt>
     ensures spelled { IfOk result (λ schema. TakesPhrase

@@ -57,7 +57,7 @@ fn marked(word: &[u8]) -> Option<(u32, &[u8])>
     }
 }
 
-/// Returns the number that digits of a radix spell.
+/// Returns the number that digits of a radix spell. Fails as [`number_of`] does.
 fn digits_of(digits: &[u8], radix: u32) -> Result<u128, LiteralError>
     requires low { 2 ≤ radix }
     requires high { radix ≤ 16 }

@@ -1,4 +1,5 @@
-//! The parts of a type that have no greatest size: [`endless_parts`].
+//! The parts of a type that have no greatest size: [`endless_parts`]. The functions below it fail
+//! as it does.
 
 ghost use Rattle.std.specs.Prelude.{◌≡◌, ◌++◌, ◌∷◌, [], if◌then◌else◌, None, Some};
 ghost use Rattle.std.specs.Prelude.{IfErr, IfOk, OnOk, map, string_bytes};
@@ -75,7 +76,6 @@ fn push_leaf(alloc: Global, leaf: Leaf, path: &str, paths: &mut Vec<String>) -> 
     }
 }
 
-/// Appends a path.
 fn push_path(alloc: Global, path: &str, paths: &mut Vec<String>) -> Result<()>
     ensures added { OnOk result (map string_bytes paths.new.items
         ≡ map string_bytes paths.old.items ++ path.now ∷ []) }

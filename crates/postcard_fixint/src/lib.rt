@@ -2,8 +2,8 @@
 //! varint (behaviour of postcard 1.1.3, module `fixint`). No length is written, and a signed number
 //! is in two's complement.
 //!
-//! A varint is shorter for small numbers. At its full width a number always has the same length: a
-//! random `u64`, as a hash or an identifier, has 8 bytes in place of 9 or 10.
+//! A varint is shorter for small numbers. A random `u64`, as a hash or an identifier, has 8 bytes
+//! here in place of 9 or 10.
 //!
 //! `specs/Base256.antt` of `postcard_shape` defines the bytes of a number: those, as many as its
 //! type has, whose value in base 256 is the number. `specs/Fixed.antt` defines the shape and proves
@@ -32,10 +32,7 @@
 //!     }
 //! }
 //! ```
-//!
-//! In reading order: [`FixInt`] is the trait of the numbers and [`ByteArray`] that of their bytes,
-//! [`le`] and [`be`] write and read them, `block` reads lists of them from memory, and [`laws`] has
-//! what holds of their bytes.
+//! | In reading order: [`FixInt`], [`ByteArray`], [`le`], [`be`], `block`, [`laws`].
 #![tactic(auto)]
 
 mod array;
