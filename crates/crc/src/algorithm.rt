@@ -1,7 +1,7 @@
 //! The parameters of an algorithm.
 
 /// The parameters of an algorithm, after R. Williams, "A painless guide to CRC error detection
-/// algorithms", 1993. Catalogues list algorithms by them.
+/// algorithms", 1993.
 ///
 /// The checksums are of the type `W`: `u8`, `u16`, `u32`, `u64` or `u128`.
 #[derive(Clone, Copy)]

@@ -12,8 +12,7 @@ use crate::implementation::{Implementation, Table};
 use crate::width::Width;
 use std::marker::Model;
 
-/// An algorithm with its tables, which are those of the implementation `I`, by default a [`Table`] of
-/// 256 entries.
+/// An algorithm with its tables, which are those of the implementation `I`, by default a [`Table`].
 ///
 /// A contract sees it as the parameters of its algorithm.
 #[derive(Drop)]

@@ -15,9 +15,8 @@ use crate::width::Width;
 /// checksum don't differ in just two bits that are less than the order apart
 /// ([`two_in_message`](crate::laws::two_in_message)).
 ///
-/// It makes as many steps as the result has. The order is at most 2^width - 1. A generator with no
-/// constant term, as no algorithm of the catalogue has, has no such d. The Rust crate has no such
-/// call.
+/// It makes as many steps as the result has; the order is at most 2^width - 1. A generator with no
+/// constant term, as none of the catalogue is, has no such d. The Rust crate has no such call.
 pub fn order_from<W: Width>(algorithm: &Algorithm<W>, limit: u64) -> u64
     requires { IsValid (8 * W.size) (parameters W.number algorithm.now) }
     ensures at_most_limit { result ≤ limit }

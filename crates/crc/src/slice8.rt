@@ -13,8 +13,8 @@ use crate::register;
 use crate::table::by_bytes;
 use crate::width::Width;
 
-/// Eight tables of 256 entries each, by which a register takes eight bytes at a time. They have
-/// 2048 bytes for each byte of a checksum's type: 8 KiB at `u32`, and 16 KiB at `u64`.
+/// Eight tables of 256 entries each, by which a register takes eight bytes at a time: 2048 bytes
+/// for each byte of a checksum's type, 8 KiB at `u32`.
 #[derive(Drop)]
 pub struct Slice8<W> {
     entries: [W; 2048],

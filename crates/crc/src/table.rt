@@ -11,8 +11,8 @@ use crate::implementation::Implementation;
 use crate::register;
 use crate::width::Width;
 
-/// A table of 256 entries, by which a register takes one byte at a time. It has 256 bytes for each
-/// byte of a checksum's type: 1 KiB at `u32`, and 2 KiB at `u64`.
+/// A table of 256 entries, by which a register takes one byte at a time: 256 bytes for each byte of
+/// a checksum's type, 1 KiB at `u32`.
 #[derive(Drop)]
 pub struct Table<W> {
     entries: [W; 256],

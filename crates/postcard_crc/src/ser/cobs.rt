@@ -18,7 +18,8 @@ use postcard_wire::Result;
 use std::alloc::Global;
 
 /// Encodes a value and its checksum as a frame after the bytes that a storage holds, ends the
-/// storage, and returns its output.
+/// storage, and returns its output. Fails with `SerializeBufferFull` if the storage refuses bytes
+/// or can't end, but for the [exceptions](crate#errors-of-encoding).
 fn framed<T: Serialize, B: Storage + Drop, W: Width, I: Implementation<W>>(
     value: &T,
     storage: B,
