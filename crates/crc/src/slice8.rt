@@ -96,7 +96,6 @@ fn pick<W: Width>(entries: &[W], bytes: &[u8]) -> u128
     sum
 }
 
-/// Returns the register after eight bytes more.
 #[inline]
 fn step_eight<W: Width>(algorithm: &Algorithm<W>, entries: &[W], register: W, eight: &[u8]) -> W
     requires valid { IsValid (8 * W.size) (parameters W.number algorithm.now) }

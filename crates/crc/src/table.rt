@@ -18,7 +18,6 @@ pub struct Table<W> {
     entries: [W; 256],
 }
 
-/// Returns the register after one byte more.
 #[inline]
 fn step<W: Width>(algorithm: &Algorithm<W>, entries: &[W], register: W, byte: u8) -> W
     requires valid { IsValid (8 * W.size) (parameters W.number algorithm.now) }

@@ -57,7 +57,6 @@ fn decode_front(buf: &mut [u8], end: usize) -> Result<usize>
     decode_in_place(&mut buf[..end])
 }
 
-/// Writes a piece of a frame after the bytes held.
 fn extend(buf: &mut [u8], held: usize, piece: &[u8])
     requires { held + length piece.now ≤ length buf.old }
     ensures { take (held + length piece.now) buf.new ≡ take held buf.old ++ piece.now }

@@ -98,7 +98,6 @@ fn front_at(bytes: &[u8], place: usize) -> &[u8]
     &bytes[..place]
 }
 
-/// Returns the bytes that a writer holds.
 fn held<'b>(writer: &'b Writer<'_>) -> &'b [u8]
     ensures { result.now ≡ take writer.now.used writer.now.buffer.now }
 {

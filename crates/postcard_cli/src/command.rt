@@ -258,7 +258,7 @@ impl<'a> Command<'a> {
         }
     }
 
-    /// Returns the command of a call of one word.
+    /// A call of one word.
     fn alone(command: &'a str) -> Option<Command<'a>>
         ensures found { IfSome result (λ found. IsCallOf (command.now ∷ []) found) }
         ensures none { IfNone result (IsNoCall (command.now ∷ [])) }
@@ -271,7 +271,7 @@ impl<'a> Command<'a> {
         }
     }
 
-    /// Returns the command of a call of two words, the second of which is a type.
+    /// A call of two words, the second of which is a type.
     fn of_type(command: &'a str, kind: &'a str) -> Option<Command<'a>>
         ensures found { IfSome result (λ found. IsCallOf (command.now ∷ kind.now ∷ []) found) }
         ensures none { IfNone result (IsNoCall (command.now ∷ kind.now ∷ [])) }
@@ -286,7 +286,7 @@ impl<'a> Command<'a> {
         }
     }
 
-    /// Returns the command of a call of three words: a command, a type and a text.
+    /// A call of three words: a command, a type and a text.
     fn of_text(command: &'a str, kind: &'a str, text: &'a str) -> Option<Command<'a>>
         ensures found { IfSome result
             (λ found. IsCallOf (command.now ∷ kind.now ∷ text.now ∷ []) found) }
@@ -308,8 +308,8 @@ impl<'a> Command<'a> {
         }
     }
 
-    /// Returns the command of a call of three words, the first of which is neither `explain` nor
-    /// `crc`: a command, `--raw`, and a type.
+    /// A call of three words, the first of which is neither `explain` nor `crc`: a command,
+    /// `--raw`, and a type.
     fn of_input(command: &'a str, expression: &'a str) -> Option<Command<'a>>
         ensures found { IfSome result
             (λ found. IsCallOf (command.now ∷ codes "--raw" ∷ expression.now ∷ []) found) }
@@ -327,8 +327,8 @@ impl<'a> Command<'a> {
         }
     }
 
-    /// Returns the command of a call of three words, the second of which isn't `--raw`, and `--json` only
-    /// if the first isn't `frames`, but has to be a name or count as an expression.
+    /// A call of three words, the second of which isn't `--raw`, and `--json` only if the first
+    /// isn't `frames`, but has to be a name or count as an expression.
     fn of_known_type(command: &'a str, kind: &'a str, text: &'a str) -> Option<Command<'a>>
         ensures found { IfSome result
             (λ found. IsCallOf (command.now ∷ kind.now ∷ text.now ∷ []) found) }
@@ -357,7 +357,7 @@ impl<'a> Command<'a> {
         }
     }
 
-    /// Returns the command of a call of four words: a command, an option, and two words more.
+    /// A call of four words: a command, an option, and two words more.
     fn with_option(
         command: &'a str,
         option: &'a str,
@@ -376,8 +376,8 @@ impl<'a> Command<'a> {
         }
     }
 
-    /// Returns the command of a call of four words, the first of which is neither `explain` nor
-    /// `frames`: a command, an option, a type and a text.
+    /// A call of four words, the first of which is neither `explain` nor `frames`: a command, an
+    /// option, a type and a text.
     fn of_message(
         command: &'a str,
         option: &'a str,
@@ -397,8 +397,8 @@ impl<'a> Command<'a> {
         }
     }
 
-    /// Returns the command of a call of four words, the first of which isn't `explain`: a command,
-    /// `--json`, a type and a text.
+    /// A call of four words, the first of which isn't `explain`: a command, `--json`, a type and a
+    /// text.
     fn in_json(command: &'a str, kind: &'a str, text: &'a str) -> Option<Command<'a>>
         ensures found { IfSome result (λ found.
             IsCallOf (command.now ∷ codes "--json" ∷ kind.now ∷ text.now ∷ []) found) }
@@ -422,7 +422,7 @@ impl<'a> Command<'a> {
         }
     }
 
-    /// Returns the command of a call of four words: a command, `--frame`, a type and a text.
+    /// A call of four words: a command, `--frame`, a type and a text.
     fn framed(command: &'a str, kind: &'a str, text: &'a str) -> Option<Command<'a>>
         ensures found { IfSome result (λ found.
             IsCallOf (command.now ∷ codes "--frame" ∷ kind.now ∷ text.now ∷ []) found) }
@@ -442,8 +442,8 @@ impl<'a> Command<'a> {
         }
     }
 
-    /// Returns the command of a call of four words: a command, `--raw`, a type and a text, which is
-    /// `-` unless the command is `enc`.
+    /// A call of four words: a command, `--raw`, a type and a text, which is `-` unless the command
+    /// is `enc`.
     fn raw(command: &'a str, kind: &'a str, text: &'a str) -> Option<Command<'a>>
         ensures found { IfSome result (λ found.
             IsCallOf (command.now ∷ codes "--raw" ∷ kind.now ∷ text.now ∷ []) found) }
@@ -461,8 +461,8 @@ impl<'a> Command<'a> {
         }
     }
 
-    /// Returns the command of a call of five words: a command, an option, the name of a checksum or
-    /// another option, a type and a text.
+    /// A call of five words: a command, an option, the name of a checksum or another option, a type
+    /// and a text.
     fn checked(
         command: &'a str,
         option: &'a str,
@@ -494,7 +494,7 @@ impl<'a> Command<'a> {
         }
     }
 
-    /// Returns the command of `explain` with three words after it: an option, a type and a text.
+    /// `explain` with three words after it: an option, a type and a text.
     fn of_explain(option: &'a str, kind: &'a str, text: &'a str) -> Option<Command<'a>>
         ensures found { IfSome result (λ found.
             IsCallOf (codes "explain" ∷ option.now ∷ kind.now ∷ text.now ∷ []) found) }
@@ -515,8 +515,7 @@ impl<'a> Command<'a> {
         }
     }
 
-    /// Returns the command of `frames` with three words after it: an option, and its value and a type,
-    /// or a type and HEX.
+    /// `frames` with three words after it: an option, and its value and a type, or a type and HEX.
     fn of_stream(option: &'a str, third: &'a str, fourth: &'a str) -> Option<Command<'a>>
         ensures found { IfSome result (λ found.
             IsCallOf (codes "frames" ∷ option.now ∷ third.now ∷ fourth.now ∷ []) found) }

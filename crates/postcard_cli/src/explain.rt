@@ -268,7 +268,6 @@ impl fmt::Display for Told<'_> {
     }
 }
 
-/// Prints what a part is called.
 fn show_title<W: fmt::Write>(label: Label<'_>, f: &mut fmt::Formatter<W>) -> fmt::Result
     ensures { WritesOnOk W.write_str_gives f.old result (title_text label.entry) f.new }
 {
@@ -293,7 +292,6 @@ fn separator(label: Label<'_>, kind: &LineKind<'_>) -> &'static str
     }
 }
 
-/// Prints what the bytes of a line are.
 fn show_kind<W: fmt::Write>(kind: &LineKind<'_>, f: &mut fmt::Formatter<W>) -> fmt::Result
     ensures { DisplaysOnOk W.write_str_gives f.old result (kind_text kind.now) f.new }
 {

@@ -63,7 +63,6 @@ pub fn print<R: Reader, W: Write>(
     }
 }
 
-/// Prints the answer to a frame on a line.
 fn print_answer<W: Write>(answer: &Answer<Vec<u8>>, output: &mut W) -> Result<(), Failure>
     ensures printed { OnOk result (Appends (W.contents output.old) (W.contents output.new)
         (answer_line answer.now)) }

@@ -108,7 +108,6 @@ pub fn write<W: Write>(bytes: &[u8], output: &mut W) -> io::Result<()>
     Ok(())
 }
 
-/// Writes at most [`PIECE`] bytes at once.
 fn write_piece<W: Write>(piece: &[u8], output: &mut W) -> io::Result<()>
     requires { length piece.now ≤ PIECE }
     ensures { OnOk result (Appends (W.contents output.old) (W.contents output.new)

@@ -28,7 +28,6 @@ use std::io::Write;
 /// A part that has a line, and that may be around parts with later lines.
 #[derive(Drop)]
 struct Open {
-    /// The depth of its line.
     depth: usize,
     /// The path around its parts.
     path: String,

@@ -273,7 +273,6 @@ pub fn text_of(alloc: Global, schema: &Schema, value: &Value) -> Result<String, 
     Ok(text)
 }
 
-/// Prints the member with the bytes left after a value, if there are some.
 fn print_rest<W: Write>(rest: &[u8], output: &mut W) -> Result<(), Failure>
     ensures printed { OnOk result (Appends (W.contents output.old) (W.contents output.new)
         (rest_text rest.now)) }

@@ -140,7 +140,6 @@ fn end_of_word(text: &[u8]) -> Option<usize>
     text.iter().position(|byte| byte.is_ascii_whitespace() || matches!(byte, b':' | b',' | b'-'))
 }
 
-/// Returns the index of the first end of a line, if there is one.
 fn end_of_line(text: &[u8]) -> Option<usize>
     ensures { result ≡ position (λ b. b == 10) text.now }
 {
@@ -182,7 +181,6 @@ fn column(line: &[u8], dump: bool) -> (usize, &[u8])
     }
 }
 
-/// Returns whether a line begins as those of `xxd` do.
 #[tactic(auto, unfolding(crate::specs::Hexadecimal::is_of_xxd))]
 fn is_of_xxd(line: &[u8]) -> bool
     ensures is { result ≡ is_of_xxd line.now }
@@ -191,7 +189,6 @@ fn is_of_xxd(line: &[u8]) -> bool
     begins_with_digits(line, 8) && line[8..].starts_with(b": ")
 }
 
-/// Returns whether a line begins as those of `hexdump -C` do.
 #[tactic(auto, unfolding(crate::specs::Hexadecimal::is_of_hexdump))]
 fn is_of_hexdump(line: &[u8]) -> bool
     ensures is { result ≡ is_of_hexdump line.now }
@@ -226,7 +223,6 @@ fn is_lone_offset(line: &[u8]) -> bool
     begins_with_digits(line, 8) && are_blank(&line[8..])
 }
 
-/// Returns whether a text begins with this number of digits.
 #[tactic(auto, unfolding(crate::specs::Hexadecimal::begins_with_digits))]
 fn begins_with_digits(text: &[u8], count: usize) -> bool
     ensures is { result ≡ begins_with_digits count text.now }

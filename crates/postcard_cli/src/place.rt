@@ -57,7 +57,6 @@ pub fn push_dot(path: &mut String) -> Result<()>
     Ok(())
 }
 
-/// Appends the path in a value of the schema.
 #[cycle(place)]
 fn push_path(alloc: Global, schema: &Schema, bytes: &[u8], path: &mut String) -> Result<()>
     ensures stops { OnOk result (HasNoFront schema.now bytes.now

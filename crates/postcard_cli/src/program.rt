@@ -125,7 +125,6 @@ fn perform<R: Reader, W: Write>(
     }
 }
 
-/// Does what a command asks for.
 fn carry_out<R: Reader, W: Write>(
     alloc: Global,
     command: Command<'_>,
@@ -211,7 +210,6 @@ fn carry_out<R: Reader, W: Write>(
     }
 }
 
-/// Encodes the value of the word VALUE.
 fn encode<W: Write>(
     alloc: Global,
     kind: TypeWord<'_>,
@@ -229,7 +227,6 @@ fn encode<W: Write>(
     }
 }
 
-/// Decodes a value from the front of the bytes of the word HEX.
 fn decode<R: Reader, W: Write>(
     alloc: Global,
     kind: TypeWord<'_>,
@@ -302,7 +299,6 @@ where
     }
 }
 
-/// Encodes or decodes a text.
 fn convert_text<W: Write>(alloc: Global, task: Task<'_>, output: &mut W) -> Result<(), Failure>
     ensures { Converts task.entry whole_word
         (W.contents output.old) (W.contents output.new) result }
@@ -316,7 +312,6 @@ fn convert_text<W: Write>(alloc: Global, task: Task<'_>, output: &mut W) -> Resu
     }
 }
 
-/// Encodes or decodes a list of numbers.
 fn convert_list<'a, T, W: Write>(
     alloc: Global,
     task: Task<'a>,

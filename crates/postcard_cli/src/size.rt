@@ -115,7 +115,6 @@ fn print_parts<W: Write>(parts: &[String], output: &mut W) -> Result<(), Failure
     print_others(others, output)
 }
 
-/// Prints paths, each with a comma before it.
 fn print_others<W: Write>(parts: &[String], output: &mut W) -> Result<(), Failure>
     ensures printed { OnOk result (Appends (W.contents output.old) (W.contents output.new)
         (others_text (map string_bytes parts.now))) }

@@ -205,7 +205,6 @@ struct Stream {
 }
 
 impl Stream {
-    /// Returns the state before the first byte of a stream.
     fn new(alloc: Global, longest: usize) -> Stream
         ensures limit { result.longest ≡ longest }
         ensures held { result.held.items ≡ [] }
@@ -370,7 +369,6 @@ impl Stream {
     }
 }
 
-/// Prints that the frame at this offset is too long.
 fn print_overfull<W: Write>(format: &Format, start: u64, output: &mut W) -> Result<(), Failure>
     ensures printed { OnOk result (PrintsAnswerLine format.now start overfull
         (W.contents output.old) (W.contents output.new)) }
@@ -576,7 +574,6 @@ pub fn print_value<W: Write>(
     Ok(())
 }
 
-/// Prints the bytes of the frame's data after a value, if there are some.
 fn print_rest<W: Write>(rest: &[u8], output: &mut W) -> Result<(), Failure>
     ensures printed { OnOk result (Appends (W.contents output.old) (W.contents output.new)
         (more_text rest.now)) }

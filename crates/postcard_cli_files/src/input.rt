@@ -91,7 +91,6 @@ fn takes_bytes(command: &str, option: &str) -> bool
     option == "--raw" && matches!(command, "dec" | "decs" | "frames")
 }
 
-/// Returns the fault of an error of opening.
 fn fault_of(error: ReadError) -> TypeFault
     ensures { result ≡ open_fault error }
 {

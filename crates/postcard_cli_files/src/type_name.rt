@@ -89,7 +89,6 @@ fn checked(bytes: Vec<u8>) -> Result<Vec<u8>, TypeFault>
     Ok(bytes)
 }
 
-/// Returns the fault of an error of the file.
 fn fault_of(error: FileError) -> TypeFault
     ensures { IsFaultBy error result }
 {

@@ -412,7 +412,6 @@ fn explain_array<'a>(
     explain_elements(walk, element, count as u64, depth, bytes)
 }
 
-/// Adds the lines of `count` elements in a row.
 #[cycle(explain)]
 fn explain_elements<'a>(
     walk: &mut Walk<'a>,
@@ -486,7 +485,6 @@ fn explain_more<'a>(
     Ok(rest)
 }
 
-/// Adds the lines of a tuple or a struct.
 #[cycle(explain)]
 fn explain_group<'a>(
     walk: &mut Walk<'a>,
@@ -502,7 +500,6 @@ fn explain_group<'a>(
     explain_parts(walk, parts, depth, bytes)
 }
 
-/// Adds the lines of a value of each type, in order.
 #[cycle(explain)]
 fn explain_parts<'a>(
     walk: &mut Walk<'a>,

@@ -38,7 +38,7 @@ pub fn refused_at(alloc: Global, schema: &Schema, bytes: &[u8]) -> Result<usize>
     }
 }
 
-/// Returns the offset of the refused part in the bytes of a list: the countor a part of an element.
+/// Returns the offset of the refused part in the bytes of a list: the count, or a part of an element.
 #[cycle(locate)]
 fn refused_after_count(alloc: Global, element: &Schema, bytes: &[u8]) -> Result<usize>
     ensures within { IfOk result (λ place. place ≤ length bytes.now) }

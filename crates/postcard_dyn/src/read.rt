@@ -49,7 +49,6 @@ pub fn read_value<'de, F: Flavor>(
     }
 }
 
-/// Reads an option: the byte 0, or the byte 1 and then the content.
 #[cycle(read)]
 fn read_option<'de, F: Flavor>(
     alloc: Global,
@@ -70,7 +69,6 @@ fn read_option<'de, F: Flavor>(
     }
 }
 
-/// Reads a list or a map: the number of its elements, and then the elements.
 #[cycle(read)]
 fn read_list<'de, F: Flavor>(
     alloc: Global,
@@ -85,7 +83,6 @@ fn read_list<'de, F: Flavor>(
     Ok(Value::Seq(items))
 }
 
-/// Reads an array: its `count` elements. The message has no count.
 #[cycle(read)]
 fn read_array<'de, F: Flavor>(
     alloc: Global,
@@ -100,7 +97,6 @@ fn read_array<'de, F: Flavor>(
     Ok(Value::Group(items))
 }
 
-/// Reads `count` values of the type in a row.
 #[cycle(read)]
 fn read_elements<'de, F: Flavor>(
     alloc: Global,
@@ -119,7 +115,6 @@ fn read_elements<'de, F: Flavor>(
     Ok(items)
 }
 
-/// Reads a tuple or a struct: a value of each of the types, in order.
 #[cycle(read)]
 fn read_group<'de, F: Flavor>(
     alloc: Global,
@@ -137,7 +132,6 @@ fn read_group<'de, F: Flavor>(
     Ok(Value::Group(items))
 }
 
-/// Reads an enum: the index of a variant, and then the variant's content.
 #[cycle(read)]
 fn read_variant<'de, F: Flavor>(
     alloc: Global,

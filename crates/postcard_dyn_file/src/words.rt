@@ -47,7 +47,6 @@ fn begins_type(tokens: &[Token], declaration: &Declaration) -> bool
         && opens(text_of(tokens, declaration.kind, start))
 }
 
-/// Returns whether a text begins with `(` or `{`.
 fn opens(text: &[u8]) -> bool
     ensures { result ≡ true → Opens text.now }
 {

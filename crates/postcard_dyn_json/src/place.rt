@@ -96,7 +96,6 @@ fn value_len(text: &[u8]) -> usize {
     }
 }
 
-/// Returns the number of bytes of the string at the front, with its quotes.
 fn string_len(text: &[u8]) -> usize {
     let mut escaped = true;
     for (i, byte) in text.iter().enumerate() {
@@ -108,7 +107,6 @@ fn string_len(text: &[u8]) -> usize {
     text.len()
 }
 
-/// Returns the number of bytes of the array or object at the front.
 fn nested_len(text: &[u8]) -> usize {
     let mut depth = 0usize;
     let mut is_text = false;
@@ -132,13 +130,11 @@ fn nested_len(text: &[u8]) -> usize {
     text.len()
 }
 
-/// Returns the number of bytes of the number or word at the front.
 fn scalar_len(text: &[u8]) -> usize {
     let end = |byte: &u8| byte.is_ascii_whitespace() || matches!(*byte, b',' | b']' | b'}');
     text.iter().position(end).unwrap_or(text.len())
 }
 
-/// Returns what is left after this number of bytes.
 fn after(text: &[u8], count: usize) -> &[u8] {
     split(text, count).1
 }

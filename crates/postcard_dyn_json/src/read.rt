@@ -87,7 +87,6 @@ fn read_option(alloc: Global, content: &Schema, json: &Json) -> Result<Value, Js
     }
 }
 
-/// Returns an option with a value.
 fn present(alloc: Global, value: Value) -> Result<Value, JsonError>
     ensures { MatchResult result (λ v. tree v ≡ Present (tree value))
         (λ e. e ≡ errors.OutOfMemory) }
@@ -146,7 +145,6 @@ fn read_array(
     Ok(Value::Group(values))
 }
 
-/// Reads each element from its item.
 #[cycle(read)]
 fn read_items(alloc: Global, element: &Schema, items: &Vec<Json>) -> Result<Vec<Value>, JsonError>
     ensures { Answers (HasDistinctNames (layout_of element.now)) (λ v. trees (map tree v.items))
@@ -226,7 +224,6 @@ fn missing<'a>(parts: &'a Vec<Schema>, json: &Json) -> Option<&'a str>
     None
 }
 
-/// Returns whether a field has this name.
 fn has_field(parts: &Vec<Schema>, name: &[u8]) -> bool
     ensures { result ≡ false → IsNewTo parts.now.items name.now }
 {
@@ -396,7 +393,6 @@ fn is_called(json: &Json, variant: &Schema) -> bool
     }
 }
 
-/// Returns whether the JSON is this string.
 fn is_text(json: &Json, text: &str) -> bool
     ensures same { result ≡ true → view json.now ≡ string text.now }
     ensures other { result ≡ false → view json.now ≡ string text.now → ⊥ }
@@ -407,7 +403,6 @@ fn is_text(json: &Json, text: &str) -> bool
     }
 }
 
-/// Reads the content of the variant with this name.
 #[cycle(read)]
 fn read_content(
     alloc: Global,

@@ -65,7 +65,6 @@ pub fn to_json(alloc: Global, schema: &Schema, value: &Value) -> Result<Option<J
     }
 }
 
-/// Returns an object with one member.
 fn alone(alloc: Global, name: &str, content: Json) -> Result<Json, AllocError>
     ensures { IfOk result (λ j. view j ≡ alone name.now (view content)) }
 {

@@ -213,7 +213,6 @@ fn read_plain(alloc: Global, rest: &mut &[u8], depth: usize) -> Result<Schema, P
     read_worded(alloc, rest, depth)
 }
 
-/// Reads a type that begins with a word.
 #[cycle(expression)]
 fn read_worded(alloc: Global, rest: &mut &[u8], depth: usize) -> Result<Schema, ProblemAt>
     ensures spelled { IfOk result (λ schema. TakesPhrase (IsWorded (IsType depth) schema)

@@ -103,7 +103,6 @@ fn are_digits(bytes: &[u8], radix: u32) -> bool
     !are_underscores(bytes) && are_of_digits(bytes, radix)
 }
 
-/// Returns whether each byte is a `_`.
 fn are_underscores(bytes: &[u8]) -> bool
     ensures { Decides result (AllPass is_underscore bytes.now) }
 {

@@ -111,7 +111,6 @@ pub fn read_text<'a>(alloc: Global, schema: &'a Schema, text: &str) -> Result<Va
     }
 }
 
-/// Returns the error for a text in which reading stops.
 fn error_in<'a>(text: &str, stop: Stop<'a>) -> TextError<'a>
     ensures place { IsPlaceIn text.now result }
     ensures memory { stop.entry ≡ Stop.Memory → result ≡ TextError.OutOfMemory }
@@ -339,7 +338,6 @@ fn read_option<'a>(alloc: Global, content: &'a Schema, rest: &mut &[u8]) -> Resu
     }
 }
 
-/// Reads a list or a map between the brackets `opening` and `closing`.
 #[cycle(text)]
 fn read_list<'a>(
     alloc: Global,
@@ -424,7 +422,6 @@ fn read_item<'a>(
     Ok(Value::Group(read_parts(alloc, parts, rest, b"=>")?))
 }
 
-/// Reads an array, or stops if it hasn't exactly `count` elements.
 #[cycle(text)]
 fn read_array<'a>(
     alloc: Global,
@@ -525,7 +522,6 @@ fn read_parts<'a>(
     Ok(items)
 }
 
-/// Reads a variant: its name, and then its content.
 #[cycle(text)]
 fn read_variant<'a>(
     alloc: Global,
@@ -643,7 +639,6 @@ fn read_leaf(alloc: Global, leaf: Leaf, rest: &mut &[u8]) -> Result<Value, Stop<
     }
 }
 
-/// Takes blanks and then `true` or `false`.
 fn read_bool(rest: &mut &[u8]) -> Result<bool, Stop<'static>>
     ensures spelled { IfOk result (λ x. TakesPhrase (Led (IsTruth x)) rest.old.now rest.new.now) }
     ensures accepted { (x : Bool) (after : List ℕ)
@@ -669,7 +664,6 @@ fn truth_of(word: &[u8]) -> Option<bool>
     }
 }
 
-/// Reads one character between single quotes.
 fn read_char(alloc: Global, rest: &mut &[u8]) -> Result<char, Stop<'static>>
     ensures spelled { IfOk result (λ c.
         TakesPhrase (IsQuoted 39 (encode_utf8 c)) rest.old.now rest.new.now) }

@@ -48,7 +48,6 @@ impl Display for Shown<'_> {
     }
 }
 
-/// Prints a value of the schema.
 #[cycle(show)]
 fn show<W: Write>(schema: &Schema, value: &Value, f: &mut Formatter<W>) -> fmt::Result
     ensures { DisplaysOnOk W.write_str_gives f.old result
@@ -218,7 +217,6 @@ fn show_parts<W: Write>(
     Ok(())
 }
 
-/// Prints the name and the content of a variant.
 #[cycle(show)]
 fn show_variant<W: Write>(variant: &Schema, content: &Value, f: &mut Formatter<W>) -> fmt::Result
     ensures { DisplaysOnOk W.write_str_gives f.old result
@@ -270,7 +268,6 @@ pub fn has_brackets(schema: &Schema) -> bool
     }
 }
 
-/// Prints a value without parts.
 fn show_leaf<W: Write>(leaf: Leaf, value: &Value, f: &mut Formatter<W>) -> fmt::Result
     ensures shown { DisplaysOnOk W.write_str_gives f.old result
         (leaf_text leaf (tree value.now)) f.new }

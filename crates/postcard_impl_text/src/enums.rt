@@ -28,7 +28,6 @@ const WRITES: &str = "        serializer: &mut postcard::Serializer<F>,
     ) -> postcard::Result<()>
 ";
 
-/// Adds the impls of an enum.
 pub(crate) fn add_enum(out: &mut Text, home: Home, item: &Item, form: Form) {
     add_row_type(out, item);
     if form == Form::Seen {
@@ -68,7 +67,6 @@ fn add_row_type(out: &mut Text, item: &Item) {
     out.add(";\n");
 }
 
-/// Adds the `ghost use` line of the enum's own name.
 fn add_enum_use(out: &mut Text, home: Home, item: &Item) {
     out.add_all(&["    ghost use Rattle.", home.library, ".specs.declared"]);
     if !home.is_root() {
@@ -151,7 +149,6 @@ fn add_writers(out: &mut Text, home: Home, item: &Item) {
     out.add("}\n");
 }
 
-/// Adds the function that writes a variant.
 fn add_writer(out: &mut Text, item: &Item, member: &Member, index: usize) {
     out.add_all(&["\n    /// Writes the variant `", member.name]);
     out.add("`.\n    fn write_");
@@ -234,7 +231,6 @@ fn add_serialize_arm(out: &mut Text, item: &Item, member: &Member, index: usize)
     out.add(",\n");
 }
 
-/// Adds the call of the function that writes a variant.
 fn add_writer_call(out: &mut Text, member: &Member, index: usize) {
     out.add("Self::write_");
     out.add_number(index);

@@ -95,7 +95,6 @@ const NO_MEMORY: [&[u8]; 48] = [
 /// How many variants an enum has at most that the prover follows from its row into its value.
 const FEW_VARIANTS: usize = 3;
 
-/// The signed numbers.
 const SIGNED: [&[u8]; 6] = [b"i8", b"i16", b"i32", b"i64", b"i128", b"isize"];
 
 /// Which impls a type has.
@@ -134,7 +133,6 @@ pub(crate) fn forms(
     Ok(forms)
 }
 
-/// Returns the form of an item.
 fn form_of(tokens: &[Token], items: &[Item], item: &Item) -> Form {
     if item.kind == Kind::Alias {
         return Form::Alias;

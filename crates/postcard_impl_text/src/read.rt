@@ -39,7 +39,6 @@ pub(crate) fn items<'a>(
     Ok(items)
 }
 
-/// Returns the item that a declaration is.
 fn item<'a>(
     alloc: Global,
     file: &'a str,
@@ -254,7 +253,6 @@ fn variants<'a>(
     Ok(members)
 }
 
-/// Returns the variant that these tokens are.
 fn variant<'a>(
     alloc: Global,
     file: &'a str,

@@ -45,7 +45,6 @@ pub(crate) fn raw_between<'a>(
     }
 }
 
-/// Returns what is wrong with these tokens.
 pub(crate) fn problem_of(
     file: &str,
     tokens: &[Token],
@@ -63,7 +62,6 @@ pub(crate) fn problem_of(
     }
 }
 
-/// Returns what is wrong at the token with this index.
 pub(crate) fn problem_at(tokens: &[Token], at: usize, problem: ImplProblem) -> ImplProblemAt {
     match token_at(tokens, at) {
         Some(token) => ImplProblemAt {
@@ -203,7 +201,6 @@ fn after_modifier(tokens: &[Token], at: usize) -> Option<usize> {
     }
 }
 
-/// Returns whether `crate`, `self`, `super` or `in` is at the index.
 fn is_scope(tokens: &[Token], at: usize) -> bool {
     is_at(tokens, at, b"crate")
         || is_at(tokens, at, b"self")

@@ -16,7 +16,6 @@ pub(crate) struct Text {
 }
 
 impl Text {
-    /// Returns an empty text.
     pub(crate) fn new(alloc: Global) -> Text {
         Text {
             added: String::new(alloc),
@@ -24,14 +23,12 @@ impl Text {
         }
     }
 
-    /// Adds a text to the end.
     pub(crate) fn add(&mut self, text: &str) {
         if self.outcome.is_ok() {
             self.outcome = self.added.push_str(text);
         }
     }
 
-    /// Adds texts to the end, in their order.
     pub(crate) fn add_all(&mut self, texts: &[&str]) {
         for text in texts {
             self.add(text);
