@@ -193,9 +193,8 @@ pub const CRC_82_DARC: Algorithm<u128> = Algorithm {
 };
 
 /// How far apart two changed bits have to be to pass: the order of x modulo the generator of each
-/// entry is at least this. No two changed bits pass that are closer
-/// ([`two_in_message`](crate::laws::two_in_message), and of a reflected entry
-/// [`two_in_checked`](crate::laws::two_in_checked)). The function does nothing.
+/// entry is at least this ([`two_in_message`](crate::laws::two_in_message), and of a reflected
+/// entry [`two_in_checked`](crate::laws::two_in_checked)).
 pub fn orders()
     ensures crc_8_smbus { HasOrderFrom 127 (parameters (λ n. n) CRC_8_SMBUS) }
     ensures crc_8_maxim_dow { HasOrderFrom 127 (parameters (λ n. n) CRC_8_MAXIM_DOW) }

@@ -1,8 +1,8 @@
 //! What a checksum says of its message. The functions do nothing: their contracts are the laws.
 //!
-//! A message is read as the bits of its bytes in a row, of each byte the lowest first if `refin`.
-//! That is the order in which a serial line sends them. A checked message is a message and then its
-//! checksum in `k` bytes, the lowest first; `refin` and `refout` are true.
+//! A message is read as the bits of its bytes in a row, of each byte the lowest first if `refin`,
+//! as a serial line sends them. A checked message is a message and then its checksum in `k` bytes,
+//! the lowest first; `refin` and `refout` are true.
 
 ghost use Rattle.std.specs.Prelude.{◌≡◌, ◌+◌, ◌*◌, ◌^◌, ◌<◌, ◌≤◌, ◌++◌, true, ℕ, List, length};
 ghost use Rattle.std.specs.Prelude.{bit_xor, IsTrue};
@@ -78,11 +78,10 @@ pub fn two_in_checked()
         → AreTwo d (bit_xor (message a.refin f) (message a.refin g)) → ⊥ }
 {}
 
-/// The order of x modulo a generator is the product of some primes if they pass a test that
-/// computes: x to the product is congruent to 1, and not if a prime is left out. It takes about as
-/// many steps as the order has digits, where [`order_from`](crate::order_from) takes as many as the
-/// order. The primes are tested by each number up to `k + 1`, and are below `(k + 2)^2`.
-/// [`orders`](crate::catalog::orders) has the orders of the catalogue.
+/// The order of x modulo a generator is the product of some primes if x to the product is congruent
+/// to 1, and not if a prime is left out. The test takes about as many steps as the order has
+/// digits, where [`order_from`](crate::order_from) takes as many as the order. The primes are
+/// tested by each number up to `k + 1`, and are below `(k + 2)^2`.
 pub fn order_by_primes()
     ensures none_below { (a : Parameters) (k : ℕ) (primes : List ℕ)
         → IsTrue (shows_order a.width a.poly k primes) → HasOrderFrom (product primes) a }

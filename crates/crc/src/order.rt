@@ -11,9 +11,8 @@ use crate::register;
 use crate::width::Width;
 
 /// Returns the order of x modulo the generator of an algorithm, which is the least d above 0 with
-/// x^d congruent to 1; or `limit` if the order isn't below that. Two messages of one length and one
-/// checksum don't differ in just two bits that are less than the order apart
-/// ([`two_in_message`](crate::laws::two_in_message)).
+/// x^d congruent to 1; or `limit` if the order isn't below that.
+/// [`two_in_message`](crate::laws::two_in_message) says what it tells of damage.
 ///
 /// It makes as many steps as the result has; the order is at most 2^width - 1. A generator with no
 /// constant term, as none of the catalogue is, has no such d. The Rust crate has no such call.

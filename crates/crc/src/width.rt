@@ -2,8 +2,8 @@
 
 ghost use Rattle.std.specs.Prelude.{◌≡◌, ◌<◌, ◌≤◌, ◌*◌, ◌^◌, ℕ};
 
-/// The type of a checksum: an unsigned integer of 8, 16, 32, 64 or 128 bits. A checksum may have
-/// fewer bits (`Algorithm::width`).
+/// The type of a checksum: an unsigned integer of 8, 16, 32, 64 or 128 bits, of which a checksum
+/// may have fewer.
 pub trait Width: Copy {
     /// The number that a value is.
     ghost number: { Self → ℕ };

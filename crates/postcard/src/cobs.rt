@@ -1,6 +1,6 @@
 //! Encoding into frames of COBS (Cheshire and Baker, 1999): the frame of a value's canonical
-//! encoding, and the zero that ends it, the sentinel, which counts as a byte of the frame. The
-//! clause `decodes` of each call says that what it wrote decodes to that encoding.
+//! encoding, and the zero that ends it, the sentinel, which counts as a byte of the frame. By the
+//! clause `decodes` it decodes to that encoding.
 
 ghost use Rattle.std.specs.Prelude.{◌≡◌, [], ◌-◌, ◌≤◌, ◌↔◌, ◌++◌, length, take, drop};
 ghost use Rattle.std.specs.Prelude.{IfOk, IfErr, IsOk, OnOk, ⊤};
@@ -140,8 +140,8 @@ fn write_frame<'a, T: Serialize>(value: &T, buf: &'a mut [u8]) -> Attempt<'a>
     }
 }
 
-/// Does what [`to_slice_cobs`] does, with the same errors, for callers that keep the buffer, and
-/// returns the number of the frame's bytes. The Rust crate has no such call.
+/// Does what [`to_slice_cobs`] does, with the same errors, and returns the number of the frame's
+/// bytes, for callers that keep the buffer. The Rust crate has no such call.
 pub fn fill_slice_cobs<T: Serialize>(value: &T, buf: &mut [u8]) -> Result<usize>
     ensures count_is_length { IfOk result
         (λ count. count ≡ length (made (canonical (T.shape.tree value.now)))) }

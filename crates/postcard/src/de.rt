@@ -15,9 +15,8 @@ use postcard_de_flavors::io::io::IOReader;
 use postcard_wire::{Error, Result};
 use std::alloc::Global;
 
-/// Decodes a value from a reader and a scratch buffer, and returns it with the reader and the
-/// scratch left. The bytes after the value stay unread, so the next call can take what this one
-/// returned.
+/// Decodes a value from a reader and a scratch buffer, and returns it with what is left of both,
+/// for the next call. The bytes after the value stay unread.
 ///
 /// Slices and texts that the value borrows, as a `&str`, are in the scratch buffer, of which they
 /// use up as many bytes. A `String` needs as many while it is read and uses up none; numbers need

@@ -1,8 +1,8 @@
 //! Postcard: encodes values compactly in binary, and decodes them.
 //!
-//! This is the crate that programs use. Its contracts say what each call promises from end to end,
-//! by the wire format: trees, the bytes that spell them, and the canonical encoding of a tree,
-//! which is its one shortest spelling.
+//! This is the crate that programs use. Its contracts say what each call promises from end to end:
+//! values have trees, bytes spell trees, and the canonical encoding of a tree is its one shortest
+//! spelling.
 //!
 //! A value *refuses itself* if its own `Serialize` may fail whatever flavor it is written to: it
 //! breaks a rule of its type, its type begins a list without a length, or it is written as a text

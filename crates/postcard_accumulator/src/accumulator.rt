@@ -57,8 +57,7 @@ fn decode_front(buf: &mut [u8], end: usize) -> Result<usize>
     decode_behind_code(&mut buf[..end])
 }
 
-/// Reads the value of a frame that was taken in, and so makes the result of a feed. The value may
-/// borrow from the frame's data.
+/// Reads the value of a frame that was taken in, and so makes the result of a feed.
 fn read<'de, 'a, T: Deserialize<'de>>(
     alloc: Global,
     taken: FeedResult<'a, &'de [u8]>,
@@ -119,8 +118,8 @@ impl<const N: usize> CobsAccumulator<N> {
     }
 
     /// Decodes the bytes held as a frame, and lends its data. The accumulator must not be skipping
-    /// a frame. Fails if and only if the bytes held are a frame of no data. Nothing is held once
-    /// the loan ends, also after a failure.
+    /// a frame. Fails if and only if the frame has no data. Nothing is held once the loan ends,
+    /// also after a failure.
     fn decode<'de>(&'de mut self) -> Result<&'de [u8]>
         requires { is_skipping self.old ≡ false }
         ensures decodes { IfOk result (λ d. Groups (held_of self.old) d.now) }
@@ -172,8 +171,8 @@ impl<const N: usize> CobsAccumulator<N> {
     }
 
     /// Does the same as [`feed`](CobsAccumulator::feed), but reads no value: `Success` has the
-    /// frame's data, and `DeserError` is returned for a frame that is no COBS frame. The data
-    /// borrows from the accumulator, which can be used again once that loan ends.
+    /// frame's data, and `DeserError` is for what is no COBS frame. The data borrows from the
+    /// accumulator.
     pub fn take_in<'de, 'a>(&'de mut self, input: &'a [u8]) -> FeedResult<'a, &'de [u8]>
         ensures answer { (after : State) × IsTaken N self.old input.now result after }
         ensures* after { sem 𝓛 (follows_so (the_row N.row) (the_row N.row)
@@ -217,7 +216,7 @@ impl<const N: usize> CobsAccumulator<N> {
     }
 
     /// Does the same as [`feed`](CobsAccumulator::feed), for a value that may borrow from the
-    /// accumulator, which can be used again once that loan ends.
+    /// accumulator.
     pub fn feed_ref<'de, 'a, T: Deserialize<'de>>(
         &'de mut self,
         alloc: Global,

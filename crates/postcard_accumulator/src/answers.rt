@@ -2,7 +2,6 @@
 
 /// The result of [`feed`](crate::accumulator::CobsAccumulator::feed), and of
 /// [`take_in`](crate::accumulator::CobsAccumulator::take_in), where the value is the frame's data.
-///
 /// Except for `Consumed`, each has the bytes of the piece that weren't taken in, which may be none.
 /// Feed these next.
 #[derive(Drop)]
@@ -24,8 +23,7 @@ pub enum FeedResult<'a, T> {
     },
 }
 
-/// The answer to one frame of a stream, as [`read_frames`](crate::read_frames) collects them: a
-/// [`FeedResult`] without the rest of the piece.
+/// The answer to one frame of a stream: a [`FeedResult`] without the rest of the piece.
 #[derive(Debug, PartialEq, Eq, Drop)]
 pub enum Answer<T> {
     OverFull,

@@ -1,8 +1,8 @@
 //! Frames from a stream: an accumulator that is fed pieces, and a loop that reads them.
 //!
 //! A stream is COBS frames, each ended by a zero, and comes in pieces, of which one may have half a
-//! frame or many frames. A [`CobsAccumulator`] holds the front of a frame until its zero comes,
-//! decodes the frame and reads its value. [`read_frames`] does so for all bytes of a reader.
+//! frame or many frames. A [`CobsAccumulator`] holds the front of a frame until its zero comes, and
+//! then reads its value; [`read_frames`] does so for all bytes of a reader.
 //!
 //! # The rule
 //!

@@ -39,8 +39,8 @@ fn keep<T: Drop>(out: &mut Vec<Answer<T>>, answer: Answer<T>)
     let _ = out.push(answer);
 }
 
-/// Feeds a piece and appends the answers to `out`. Returns the number of bytes at the end of the
-/// piece that weren't fed, which is above 0 only if an allocation for an answer failed.
+/// Feeds a piece and appends the answers to `out`. Returns how many bytes at its end weren't fed:
+/// 0, unless an allocation for an answer failed.
 fn feed_all<T: DeserializeOwned, const N: usize>(
     alloc: Global,
     piece: &[u8],

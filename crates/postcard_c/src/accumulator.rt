@@ -152,9 +152,9 @@ fn take_in(buf: &mut [u8], held: usize, skipping: bool, piece: &[u8]) -> Outcome
 /// Takes in a piece of a stream up to the end of a frame, and returns what that completed: 0 if no
 /// frame ended, 1 for a frame, 2 for one that has no room, 3 for one that is no COBS frame.
 ///
-/// Writes the number of bytes of the piece that were taken into `taken`; the caller feeds the
-/// others next. Writes the number of bytes of a frame's data into `count`, and 0 without a frame;
-/// the data is at the front of the buffer until the next feed.
+/// Writes into `taken` how many bytes of the piece were taken; the caller feeds the others next.
+/// Writes into `count` how many a frame's data has, or 0 without a frame; the data is at the front
+/// of the buffer until the next feed.
 ///
 /// If C changes the fields between two feeds to what no feed leaves, the answer may be any, but
 /// nothing outside of the buffer is touched.

@@ -1,8 +1,7 @@
 //! Checksums: of bytes, of what a writer holds, and of what a reader has read.
 //!
 //! The algorithms are two of Koopman's and Cook's catalogue of parametrised CRC algorithms. Both
-//! take and give the lowest bit first. A register takes a message without a table, so that the code
-//! is small.
+//! take and give the lowest bit first, here without a table, so that the code is small.
 
 ghost use Rattle.std.specs.Prelude.{◌≡◌, ◌↔◌, ◌++◌, ℕ, List, length, take, true, IsTrue};
 ghost use Rattle.crc.specs.Crc.{Parameters, IsCrc};

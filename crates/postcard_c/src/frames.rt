@@ -29,8 +29,7 @@ fn frame_into<B: Storage + Drop>(bytes: &[u8], storage: B) -> (B, Result<()>)
 }
 
 /// Writes bytes as a frame into the front of a buffer, and returns the whole buffer in any case,
-/// with the number of the frame's bytes. Fails with `SerializeBufferFull` if and only if the frame
-/// has no room.
+/// with the number of the frame's bytes, or `SerializeBufferFull` if it has no room.
 fn write_frame<'a>(bytes: &[u8], buffer: &'a mut [u8]) -> (&'a mut [u8], Result<usize>)
     ensures same_loan { result.0.ghost_name ≡ buffer.entry.ghost_name }
     ensures count_is_length { IfOk result.1 (λ count. count ≡ length (made bytes.now)) }
@@ -46,8 +45,8 @@ fn write_frame<'a>(bytes: &[u8], buffer: &'a mut [u8]) -> (&'a mut [u8], Result<
 }
 
 /// Writes bytes as a COBS frame (Cheshire and Baker 1999), the zero that ends it included, into the
-/// front of `frame`, and the number of the frame's bytes into `count`. The bytes after it are
-/// unchanged. A frame of `n` bytes of data has at most `n + n / 254 + 2`.
+/// front of `frame`, and the frame's size into `count`. The bytes after it are unchanged. The frame
+/// of `n` bytes has at most `n + n / 254 + 2`.
 ///
 /// # Errors
 ///

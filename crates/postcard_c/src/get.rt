@@ -136,8 +136,8 @@ pub extern "C" fn postcard_get_variant(reader: &mut Reader<'_>, value: &mut u32)
     postcard_get_u32(reader, value)
 }
 
-/// Reads the number of elements of a list or of pairs of a map, of 64 bits. They are read next.
-/// Nothing says that the bytes have that many.
+/// Reads the number of elements of a list or of pairs of a map, of 64 bits. They are read next, if
+/// the bytes have that many.
 #[unsafe(no_mangle)]
 pub extern "C" fn postcard_get_count(reader: &mut Reader<'_>, value: &mut usize) -> u32
     ensures { Gets (IsNum 64) (λ t v. t ≡ Num 64 v) (WantsDigit 64) (BadNumber 64)

@@ -6,10 +6,9 @@
 //! passes, and whatever it writes into the fields of a struct, a call returns and touches only the
 //! memory that it was given. Nothing allocates.
 //!
-//! In reading order: [`writer`] with its calls [`put`] and [`put_fixed`], [`reader`] with its calls
-//! [`get`] and [`get_fixed`], [`checksum`], [`frames`], [`accumulator`]. What a call promises is in
-//! `specs/`: `Writing` (`Puts`, `Refuses`), `Reading` (`Gets`), `Checksums` (`PutsCrc`, `GetsCrc`),
-//! `Feeding` (`Feeds`).
+//! In reading order: [`writer`], [`put`], [`put_fixed`], [`reader`], [`get`], [`get_fixed`],
+//! [`checksum`], [`frames`], [`accumulator`]; in `specs/`: `Writing`, `Reading`, `Checksums`,
+//! `Feeding`.
 #![tactic(auto)]
 
 mod accumulator;

@@ -1,8 +1,8 @@
 //! The calls that write: one for each node of the format.
 //!
 //! Each appends to a [`Writer`], and returns the writer's status, which is 0 for success. It fails
-//! with `SerializeBufferFull` if and only if the bytes have no room, and as before if the writer has
-//! failed before; where a call has an error of its own, its page says so.
+//! with `SerializeBufferFull` if and only if the bytes have no room, and as before if the writer
+//! has failed before. A call with an error of its own says so.
 
 ghost use Rattle.std.specs.Prelude.{◌≡◌, ◌∷◌, [], ◌+◌, ◌*◌, ◌^◌, ◌<◌, map, length, IsUtf8};
 ghost use Rattle.std.specs.Char.{IsScalar};
@@ -115,11 +115,8 @@ pub extern "C" fn postcard_put_i128(writer: &mut Writer<'_>, low: u64, high: u64
     put_wide(writer, zig_zag_i128(value))
 }
 
-/// Appends a character, which is passed as its code.
-///
-/// # Errors
-///
-/// Fails with `DeserializeBadChar` if the code is no Unicode scalar value.
+/// Appends a character, which is passed as its code. Fails with `DeserializeBadChar` if the code is
+/// no Unicode scalar value.
 #[unsafe(no_mangle)]
 pub extern "C" fn postcard_put_char(writer: &mut Writer<'_>, code: u32) -> u32
     ensures written { IsScalar code → Puts (canonical (Char code)) writer.old writer.new result }
@@ -135,11 +132,8 @@ pub extern "C" fn postcard_put_char(writer: &mut Writer<'_>, code: u32) -> u32
     }
 }
 
-/// Appends a text: its length in bytes as a varint, and its bytes.
-///
-/// # Errors
-///
-/// Fails with `DeserializeBadUtf8` if the bytes are not UTF-8.
+/// Appends a text: its length in bytes as a varint, and its bytes. Fails with `DeserializeBadUtf8`
+/// if they are not UTF-8.
 #[unsafe(no_mangle)]
 pub extern "C" fn postcard_put_str(writer: &mut Writer<'_>, text: &[u8]) -> u32
     ensures written { IsUtf8 text.now → Puts (canonical (Text text.now)) writer.old writer.new result }

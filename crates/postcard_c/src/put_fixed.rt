@@ -1,8 +1,6 @@
 //! The calls that write numbers at their full width: 2, 4, 8 or 16 bytes, the lowest first (`_le`)
-//! or the highest first (`_be`), in place of a varint.
-//!
-//! Each returns the writer's status, which is 0 for success. It fails with `SerializeBufferFull` if
-//! and only if the bytes have no room, and as before if the writer has failed before.
+//! or the highest first (`_be`), in place of a varint. What [`put`](crate::put) says of its calls
+//! holds of these.
 //!
 //! A signed number is the unsigned number of its two's complement; `c/postcard.h` has the casts.
 

@@ -79,10 +79,9 @@ fn text_of(alloc: Global, schema: &Schema, value: &Value) -> Result<String, u32>
 ///
 /// # Errors
 ///
-/// Fails with 17 if `expression` is no type, and with 18 if `text` is no value of it; `place` is then
-/// the number of the character where it isn't, counted from 1, or 0 if it is not UTF-8. Fails with 2 if
-/// the message has no room; `count` is then the size that it needs. Fails with 16 if an allocation
-/// fails. After any error `bytes` is unchanged.
+/// Fails with 17 as [`postcard_to_text`] does, and with 18 if `text` is no value of the type;
+/// `place` is then as there. Fails with 2 if the message has no room; `count` is then the size that
+/// it needs. Fails with 16 if an allocation fails. After any error `bytes` is unchanged.
 #[unsafe(no_mangle)]
 pub extern "C" fn postcard_from_text(
     alloc: Global,

@@ -327,8 +327,8 @@ impl<'a> Command<'a> {
         }
     }
 
-    /// A call of three words, the second of which isn't `--raw`, and `--json` only if the first
-    /// isn't `frames`, but has to be a name or count as an expression.
+    /// A call of three words, the second of which is neither `--raw` nor, after `frames`, `--json`,
+    /// but a name or an expression.
     fn of_known_type(command: &'a str, kind: &'a str, text: &'a str) -> Option<Command<'a>>
         ensures found { IfSome result
             (λ found. IsCallOf (command.now ∷ kind.now ∷ text.now ∷ []) found) }

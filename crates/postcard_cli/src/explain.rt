@@ -57,9 +57,8 @@ struct Layout {
 ///
 /// # Errors
 ///
-/// Fails as `dec` does: if the bytes begin with no message of the type, with `Refused`, after the
-/// lines of the parts before the one that can't be read, the line of what was expected there, and
-/// what `dec` prints.
+/// Fails as `dec` does. If that is with `Refused`, the lines of the parts before the one that can't
+/// be read, and of what was expected there, are printed before what `dec` prints.
 pub fn print<R: Reader, W: Write>(
     alloc: Global,
     expression: &str,

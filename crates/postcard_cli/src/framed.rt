@@ -89,9 +89,9 @@ fn frame_of(encoding: &ArrayVec<u8, BUFFER>) -> ArrayVec<u8, FRAME>
 ///
 /// # Errors
 ///
-/// Fails as [`schema_of`] and [`hexadecimal::read_loose`] do, and with `Refused` if no zero ends the
-/// frame, if the bytes before it are no frame, or if its data begins with no message of the type,
-/// after a line without its end is printed that says so.
+/// Fails as [`schema_of`] and [`hexadecimal::read_loose`] do, and with `Refused`, after a line
+/// without its end says why, if no zero ends the frame, if the bytes before it are no frame, or if
+/// its data begins with no message of the type.
 pub fn decode<R: Reader, W: Write>(
     alloc: Global,
     expression: &str,

@@ -30,7 +30,7 @@ pub const READS: usize = 65_536;
 ///
 /// Fails with `Limit` if the input doesn't end within 65,536 reads, with `ReadFailed` if a read
 /// fails, and with `OutOfMemory` if an allocation for an answer fails; the lines of the frames
-/// until then are printed. Fails with `Output` if the output can't be written.
+/// until then are printed.
 pub fn print<R: Reader, W: Write>(
     alloc: Global,
     input: &mut R,

@@ -38,9 +38,9 @@ struct Open {
 ///
 /// # Errors
 ///
-/// Fails as [`schema_of`] and [`hexadecimal::read_loose`] do, and if the bytes begin with no
-/// message of the type, with `Refused`, after the lines of the parts before the one that can't be
-/// read, and the line of that one, without its end.
+/// Fails as [`schema_of`] and [`hexadecimal::read_loose`] do, and with `Refused` if the bytes begin
+/// with no message of the type, after the lines of the parts up to the one that can't be read; that
+/// one has no end.
 pub fn print<R: Reader, W: Write>(
     alloc: Global,
     expression: &str,

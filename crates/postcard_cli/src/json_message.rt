@@ -33,8 +33,8 @@ use std::io::Write;
 ///
 /// # Errors
 ///
-/// Fails as [`schema_of`] does, with `BadValue` if the text is no JSON of a value of the type, after
-/// the character of the text where it stops being one, the path to it and what is wrong are printed, and
+/// Fails as [`schema_of`] does, with `BadValue` if the text is no JSON of a value of the type,
+/// after the character where it stops being one, the path to it and what is wrong are printed, and
 /// with `Library(SerializeBufferFull)` if the encoding is longer than 4,096 bytes.
 pub fn encode<W: Write>(
     alloc: Global,
@@ -123,8 +123,8 @@ pub fn decode<R: Reader, W: Write>(
 ///
 /// # Errors
 ///
-/// Fails as [`decode`] does, and with `BadType` if messages of the type have no bytes. The lines of
-/// the values before an error are printed.
+/// Fails as [`decode`] does, and with `BadType` if messages of the type have no bytes. The values
+/// before an error are printed.
 pub fn decode_all<R: Reader, W: Write>(
     alloc: Global,
     expression: &str,

@@ -16,12 +16,8 @@ use std::alloc::Global;
 use std::io::Write;
 
 /// Prints the line of a value that the data of the frame at this offset has, and of the bytes of
-/// the data after it, if there are some.
-///
-/// # Errors
-///
-/// Fails with `OutOfMemory` if an allocation fails, and with `Library(WontImplement)` if the value
-/// has no JSON, both before anything is printed.
+/// the data after it, if there are some. Fails with `OutOfMemory` if an allocation fails, and with
+/// `Library(WontImplement)` if the value has no JSON, both before anything is printed.
 pub fn print_value<W: Write>(
     alloc: Global,
     schema: &Schema,
@@ -42,11 +38,8 @@ pub fn print_value<W: Write>(
 }
 
 /// Prints the line of a frame at this offset whose data is refused: why, the path of the part that
-/// can't be read, if it isn't the whole value, and the data.
-///
-/// # Errors
-///
-/// Fails with `OutOfMemory` if an allocation fails, before anything is printed.
+/// can't be read, if it isn't the whole value, and the data. Fails with `OutOfMemory` if an
+/// allocation fails, before anything is printed.
 pub fn print_refused<W: Write>(
     alloc: Global,
     start: u64,

@@ -262,15 +262,13 @@ fn print_first<W: Write>(
     Ok(())
 }
 
-/// Decodes a value from the front of the bytes of HEX, checks that the checksum of its message by the
-/// algorithm with this name follows, and prints the value on a line, and the bytes after the
-/// checksum as hexadecimal on a second.
+/// Does what [`decode`] does, and checks that the checksum of the message by the algorithm with
+/// this name follows it. The bytes on the second line are those after the checksum.
 ///
 /// # Errors
 ///
-/// Fails as [`checksum::named`] and [`decode`] do, and with `Library(DeserializeBadCrc)` or, if fewer
-/// bytes follow, `Library(DeserializeUnexpectedEnd)` if it isn't the checksum that follows, after
-/// the place where it should begin is printed.
+/// Fails as [`checksum::named`] and [`decode`] do, and as [`Checksum::after_trailer`] if it isn't
+/// the checksum that follows, after the place where it should begin is printed.
 pub fn decode_checked<R: Reader, W: Write>(
     alloc: Global,
     name: &str,
@@ -297,9 +295,9 @@ pub fn decode_checked<R: Reader, W: Write>(
     Ok(())
 }
 
-/// Returns the bytes after the checksum of the message with which `all` begins; the checksum is to
-/// come first in `behind`, what comes after the message. If it doesn't, prints the offset in `all`
-/// at which it should begin, and fails as [`Checksum::after_trailer`] does.
+/// Returns the bytes after the checksum that is to follow the message with which `all` begins;
+/// `behind` are the bytes after the message. If it doesn't follow, prints the offset in `all` at
+/// which it should begin, and fails as [`Checksum::after_trailer`] does.
 fn skip_trailer<'a, W: Write>(
     checksum: Checksum,
     all: &[u8],

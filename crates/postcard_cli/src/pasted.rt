@@ -1,5 +1,5 @@
-//! Reading bytes from a text of hexadecimal digits as it is pasted: with blanks, `:`, `,` or `-`
-//! between the bytes, or as the lines of a dump. The functions below [`read`] fail as it does.
+//! Reading bytes from a text of hexadecimal digits as it is pasted: with separators between the
+//! bytes, or as the lines of a dump. The functions below [`read`] fail as it does.
 
 ghost use Rattle.std.specs.Prelude.{◌≡◌, ◌==◌, ◌≤◌, ◌+◌, ◌⊎◌, ℕ, List, length, take, true, not};
 ghost use Rattle.std.specs.Prelude.{IfOk, IfErr};

@@ -102,8 +102,8 @@ pub fn report<W: Write>(outcome: Result<(), Failure>, output: &mut W) -> u8
     }
 }
 
-/// Runs the call that these words are. If they are no call of a command, prints nothing and fails
-/// with `Usage`, which comes for nothing else.
+/// Runs the call that these words are. If they are none of a command, fails with `Usage`, which
+/// comes for nothing else.
 fn perform<R: Reader, W: Write>(
     alloc: Global,
     words: &[String],

@@ -77,8 +77,8 @@ pub fn print<R: Reader, W: Write>(
 }
 
 /// Does the same for frames whose data is a message and then the bytes of its checksum by the
-/// algorithm with this name, the lowest first. The line of a frame in which the message isn't
-/// followed by its checksum is an `error` too. A frame has at most [`LONGEST`] bytes.
+/// algorithm with this name, the lowest first; if the checksum doesn't follow, the line is an
+/// `error` too. A frame has at most [`LONGEST`] bytes.
 ///
 /// # Errors
 ///

@@ -43,9 +43,8 @@ impl<'a> TypeName<'a> {
     ///
     /// # Errors
     ///
-    /// Fails with `Unreadable` if the file can't be read, with `TooLong` if it has more than
-    /// [`LONGEST_FILE`] bytes, with `NoText` if it is no UTF-8, with `Wrong` if [`expression`] refuses
-    /// it, and with `OutOfMemory` if an allocation fails.
+    /// Fails with `Unreadable` if the file can't be read, with `TooLong`, with `NoText`, with
+    /// `Wrong` if [`expression`] refuses it, and with `OutOfMemory` if an allocation fails.
     pub fn expression<F: Files>(self, alloc: Global, files: &F) -> Result<String, TypeFault>
         ensures declared { IfOk result (λ text. Declares (F.gives files.now)
             self.entry.file.now self.entry.name.now (string_bytes text)) }

@@ -1,8 +1,5 @@
-//! Decoding with a checksum.
-//!
-//! A decoding call reads the value first, and then compares the bytes after it with the checksum of
-//! the bytes of the value. So a value that can't be read is refused by its own error, whatever its
-//! checksum.
+//! Decoding with a checksum. The value is read first, and then the bytes after it are compared with
+//! the checksum. So a value that can't be read is refused by its own error, whatever its checksum.
 
 ghost use Rattle.std.specs.Prelude.{◌≡◌, ◌≢◌, ◌≤◌, ◌<◌, ◌*◌, ◌⊎◌, ◌↔◌, IsTrue, [], ◌++◌, length, take};
 ghost use Rattle.std.specs.Prelude.{ℕ, List, IfOk, IfErr, IsErrOf, IsErrAnd, OnOk, MatchResult};

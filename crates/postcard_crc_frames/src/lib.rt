@@ -3,12 +3,10 @@
 //!
 //! A frame's data is the encoding of a value, and then just its checksum in as many bytes as the
 //! checksum's type has, the lowest first, as [`to_slice_cobs`](postcard_crc::ser::to_slice_cobs)
-//! writes it. A frame whose data is anything else has the answer `DeserError`.
+//! writes it. A frame whose data is anything else has the answer `DeserError`. In all else the
+//! answers of a stream are as in `postcard_accumulator` (`specs/Checked.antt`).
 //!
-//! [`feed`] takes in a piece of a stream, [`read_frames`] reads all frames of a reader, and
-//! [`laws`] has what holds of frames that were sent or damaged. A whole stream has one answer for
-//! each frame, in order, whatever the pieces are, as in `postcard_accumulator`;
-//! `specs/Checked.antt` says which.
+//! In reading order: [`feed`], [`read_frames`], [`laws`].
 #![tactic(auto)]
 
 mod feeding;

@@ -22,8 +22,8 @@ fn keep<T: Drop>(out: &mut Vec<Answer<T>>, answer: Answer<T>)
     let _ = out.push(answer);
 }
 
-/// Feeds a piece and appends the answers to `out`. Returns the number of bytes at the end of the
-/// piece that weren't fed, which is above 0 only if an allocation for an answer failed.
+/// Feeds a piece and appends the answers to `out`. Returns how many bytes at its end weren't fed:
+/// 0, unless an allocation for an answer failed.
 fn feed_all<T: DeserializeOwned, W: Width, I: Implementation<W>, const N: usize>(
     alloc: Global,
     piece: &[u8],
@@ -66,9 +66,8 @@ fn feed_all<T: DeserializeOwned, W: Width, I: Implementation<W>, const N: usize>
 /// else as [`read_frames`](postcard_accumulator::read_frames) does. The Rust crate has no such
 /// call.
 ///
-/// The answers are one for each frame of the stream, in order, however the reader cuts it: the
-/// value, if the frame's data is its encoding and then just its checksum; otherwise `DeserError`,
-/// or `OverFull` for a frame that has no room.
+/// The answer to a frame is the value, if the frame's data is its encoding and then just its
+/// checksum; otherwise `DeserError`, or `OverFull` for a frame that has no room.
 pub fn read_frames<R: Reader, T: DeserializeOwned, W: Width, I: Implementation<W>, const N: usize>(
     alloc: Global,
     reader: &mut R,

@@ -20,10 +20,9 @@ use std::alloc::Global;
 ///
 /// # Errors
 ///
-/// Fails with the error of the first part that can't be read: with `DeserializeUnexpectedEnd` if
-/// the bytes end before the value does, with the errors of `Deserializer`'s calls, and with
-/// `SerdeDeCustom` if a type refuses what was read. Fails with `OutOfMemory` if an allocation
-/// fails, and only for a type that grows.
+/// Fails with the error of the first part that can't be read: `DeserializeUnexpectedEnd` if the
+/// bytes end, an error of `Deserializer`'s calls, or `SerdeDeCustom` if a type refuses what was
+/// read. Fails with `OutOfMemory` if an allocation fails, and only for a type that grows.
 #[inline(always)]
 pub fn take_from_bytes<'a, T: Deserialize<'a>>(
     alloc: Global,

@@ -4,13 +4,11 @@
 //! one contract, that of [`Deserialize::deserialize`]: `ReadsShape F.Flavor shape ..` says that the
 //! result is the value of a front that spells a tree that the type reads, that such a front is read
 //! if the source is able to give it and no allocation fails, what is left, and which errors may be
-//! returned. A type that is one node has the clause `ReadsNode F.Flavor node ..` of
-//! `postcard_de_nodes`, which adds the exact reason of a failure (`refused`); options and `Result`
-//! have `ReadsOption` and `ReadsResult`, likewise.
+//! returned. A type that is one node has the clause `ReadsNode` of `postcard_de_nodes`, which adds
+//! the exact reason of a failure; options and `Result` have `ReadsOption` and `ReadsResult`.
 //!
 //! A struct is read as the tuple of its fields and an enum as its variants in a row ([`FromRepr`]),
-//! with no proof of its own. [`from_bytes`] and [`take_from_bytes`] are the calls for bytes in
-//! memory.
+//! with no proof of its own.
 //!
 //! In reading order: [`deserialize`], [`owned`], [`repr`], [`rows`], [`cases`], [`deserializer`],
 //! [`access`], [`map_access`], [`values`], [`laws`].

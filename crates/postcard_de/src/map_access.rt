@@ -52,7 +52,7 @@ impl MapAccess {
         self.keys.next_element(alloc, d)
     }
 
-    /// Reads the value of the key that was read last. The caller must have read that key by
+    /// Reads the value of the key that was read last, which must be by
     /// [`next_key`](MapAccess::next_key) just before; this is not checked.
     pub fn next_value<'de, V: Deserialize<'de>, F: Flavor>(
         &mut self,

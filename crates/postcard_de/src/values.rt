@@ -1,5 +1,5 @@
 //! The types that are read, a module for each kind. The contract of a type that is one node states
-//! the exact reason of a failure, as the call for that node does.
+//! the exact reason of a failure.
 
 pub mod c_strings;
 pub mod error;

@@ -63,8 +63,8 @@ pub trait Flavor: Drop {
         &[]
     }
 
-    /// Takes the next `ct` bytes. The slice borrows from what the source borrows (`Self: 'de`) and
-    /// not from the source itself, so it stays valid after later calls.
+    /// Takes the next `ct` bytes. The slice borrows from what the source borrows (`Self: 'de`), so
+    /// it stays valid after later calls.
     fn try_take_n<'de>(&mut self, ct: usize) -> Result<&'de [u8]>
     where
         Self: 'de,

@@ -9,10 +9,8 @@ use std::io;
 use std::io::Read;
 
 /// A reader whose contract says when it is *steady*: no read fails while bytes are left. The bytes
-/// left are the ghost `remaining` of `Read`.
-///
-/// The sources of this crate read only by these two methods. Wrap a reader that has no such
-/// contract in [`Plain`](crate::plain::Plain).
+/// left are the ghost `remaining` of `Read`. [`Plain`](crate::plain::Plain) wraps a reader that has
+/// no such contract.
 pub trait Reader: Read + Drop {
     /// No read fails while bytes are left.
     ghost steady: { Self → Type 0 };

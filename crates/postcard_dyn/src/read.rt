@@ -23,11 +23,10 @@ use std::alloc::Global;
 ///
 /// # Errors
 ///
-/// Fails with the error of the first part that can't be read: with `DeserializeUnexpectedEnd` if
-/// the bytes end in it, with an error of the `deserialize_*` calls of [`Deserializer`], with
-/// `DeserializeBadOption` if the first byte of an option is neither 0 nor 1, or with
-/// `SerdeDeCustom` if an index has no variant. Fails with `OutOfMemory` if an allocation fails. A
-/// count or a length in the message alone never decides how much memory is requested.
+/// Fails with the error of the first part that can't be read: an error of the `deserialize_*` calls
+/// of [`Deserializer`], or `SerdeDeCustom` if an index has no variant. Fails with `OutOfMemory` if
+/// an allocation fails. A count or a length in the message alone never decides how much memory is
+/// requested.
 #[cycle(read)]
 pub fn read_value<'de, F: Flavor>(
     alloc: Global,

@@ -2,8 +2,8 @@
 //! stands for.
 //!
 //! `known` has the declarations of the file, and `within` those that are being replaced, each in
-//! the one before it; the last is the one that is being written. `depth` is the number that may
-//! still be replaced inside of that. The functions below [`words_of`] fail as it does.
+//! the one before it. `depth` is how many more may be replaced inside of the last. The functions
+//! below [`words_of`] fail as it does.
 
 ghost use Rattle.std.specs.Prelude.{◌≡◌, ℕ, ◌+◌, ◌<◌, ◌≤◌, ◌++◌, ◌∷◌, [], true, false, length};
 ghost use Rattle.std.specs.Prelude.{Decides, OnOk, IfOk, IfErr, IfSome, IfNone};

@@ -67,8 +67,8 @@ use std::alloc::Global;
 /// # Errors
 ///
 /// Fails with what is wrong, one of [`FileProblem`], and the line and column where it is. The
-/// file's tokens and declarations are looked at first, to its end, and then what the declaration of
-/// the name and those that it needs consist of: what is wrong in another one isn't found.
+/// file's tokens and declarations are looked at first, to its end, and then the bodies of the
+/// declaration of the name and of those that it needs: what is wrong in another one isn't found.
 pub fn find(alloc: Global, file: &str, name: &str) -> Result<Schema, FileError>
     ensures found { IfOk result (λ schema. IsTypeOf file.now name.now schema) }
     ensures problem { IfErr result (λ e. HasProblemOf file.now name.now e.problem) }

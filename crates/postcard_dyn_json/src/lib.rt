@@ -1,12 +1,11 @@
 //! JSON of values whose type is known only at run time: [`to_json`], [`from_json`], and from a text
 //! [`read_json`].
 //!
-//! A bool is `true` or `false`, and a number a number, but from 2^53 on a string of its decimal
-//! digits, since many readers of JSON keep no greater ones; either form is read, whatever the
-//! number. A `char` and a `str` are strings, and `bytes` a string of two hexadecimal digits a byte.
-//! A finite float is a number, and the others are `"inf"`, `"-inf"`, `"nan"`, and
-//! `"nan(0x7fc00001)"` for a NaN with other bits; a string is read in the notation of
-//! `postcard_dyn_text`.
+//! A bool is `true` or `false`, and an integer a number, but from 2^53 on a string of its decimal
+//! digits, since many readers of JSON keep no greater ones; either form is read. A `char` and a
+//! `str` are strings, and `bytes` a string of two hexadecimal digits a byte. A finite float is a
+//! number, and the others are `"inf"`, `"-inf"`, `"nan"`, and `"nan(0x7fc00001)"` for a NaN with
+//! other bits; a string is read in the notation of `postcard_dyn_text`.
 //!
 //! An option is `null` or its content, and `{"Some": content}` if the content itself may be `null`.
 //! Lists, arrays and tuples are arrays, the unit is `null`, and a struct is an object with its

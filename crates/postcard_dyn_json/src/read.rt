@@ -189,9 +189,9 @@ fn read_unit(alloc: Global, json: &Json) -> Result<Value, JsonError>
     Err(JsonError::here(alloc, Expected::Null))
 }
 
-/// Returns the error for JSON that isn't an object with as many members, or, if `named` is false, an
-/// array with as many items as a struct or a tuple has parts. It names the first field that an object
-/// lacks, or else a member that is no field.
+/// Returns the error for JSON that isn't an object with as many members, or, if `named` is false,
+/// an array with as many items as there are parts. It names the first field that an object lacks,
+/// or else a member that is no field.
 fn length_error(alloc: Global, parts: &Vec<Schema>, json: &Json, named: bool) -> JsonError {
     if !named {
         return JsonError::here(alloc, Expected::ArrayOf(parts.len()));

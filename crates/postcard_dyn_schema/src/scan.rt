@@ -1,8 +1,8 @@
 //! Functions that take signs, words and counts from the front of a text.
 //!
 //! The parameter `rest` is the part of the text that isn't read yet; what a function takes is
-//! dropped from its front. Blanks are the white space of ASCII. A function that allocates fails
-//! with `OutOfMemory` at the front of `rest` if the allocation fails.
+//! dropped from its front. Blanks are the white space of ASCII. A function fails with `OutOfMemory`
+//! at the front of `rest` if an allocation fails.
 
 ghost use Rattle.std.specs.Prelude.{◌≡◌, ◌⊎◌, ℕ, ◌+◌, ◌-◌, ◌*◌, ◌^◌, ◌<◌, ◌++◌, ◌≤◌, List, [], ◌∷◌, true, false, take, length};
 ghost use Rattle.std.specs.Prelude.{Box, Decides, SomeIff, IfOk, IfErr, OnErr, OnOk, string_bytes};

@@ -15,8 +15,8 @@ use std::alloc::Global;
 ///
 /// A field and a variant is its name, and a part of a tuple its number, counted from 0, each with a
 /// `.` before it, unless it comes first; `[]` stands for each element of a list or an array, and
-/// each entry of a map, whose key is part 0 and whose value part 1. An array without elements has no
-/// parts.
+/// each entry of a map, whose key is part 0 and whose value part 1. An array without elements has
+/// no parts.
 ///
 /// # Errors
 ///

@@ -1,7 +1,6 @@
-//! Numbers of the integer types, as texts.
-//!
-//! A number is an integer literal of Rust ([`number_of`]). A `+` may be before it, and for a type with a
-//! sign also a `-`: `42`, `+42`, `1_000`, `0x2a`, `-0x2A`, `0b10_1010`, `0o52`.
+//! Numbers of the integer types, as texts: integer literals of Rust ([`number_of`]), with a `+`
+//! before them or not, and for a type with a sign also a `-`: `42`, `+42`, `1_000`, `0x2a`,
+//! `-0x2A`, `0b10_1010`, `0o52`.
 
 ghost use Rattle.std.specs.Prelude.{◌≡◌, ℕ, ℤ, ◌^◌, ◌<◌, List, FitsSigned};
 ghost use Rattle.std.specs.Prelude.{IfOk, IfSome, IfNone, MatchResult, Ok, Err, true, false};

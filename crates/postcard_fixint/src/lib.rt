@@ -32,7 +32,8 @@
 //!     }
 //! }
 //! ```
-//! | In reading order: [`FixInt`], [`ByteArray`], [`le`], [`be`], `block`, [`laws`].
+//!
+//! In reading order: [`FixInt`], [`ByteArray`], [`le`], [`be`], `block`, [`laws`].
 #![tactic(auto)]
 
 mod array;

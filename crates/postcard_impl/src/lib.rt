@@ -43,8 +43,7 @@ use std::alloc::Global;
 ///
 /// # Errors
 ///
-/// Fails with what is wrong, one of [`ImplProblem`], and the line and column where it is, each counted
-/// from 1.
+/// Fails with what is wrong, one of [`ImplProblem`], and the line and column where it is.
 pub fn impl_file<'a>(alloc: Global, home: Home, file: &'a str) -> Result<String, ImplError<'a>>
     ensures marked { IfOk result (λ written. IsMarked BEGIN.now END.now file.now
         (string_bytes written)) }
@@ -56,7 +55,7 @@ pub fn impl_file<'a>(alloc: Global, home: Home, file: &'a str) -> Result<String,
     }
 }
 
-/// Returns the file with the impls of its types between its marks.
+/// Does what [`impl_file`] does. The functions below fail as it does.
 fn written(alloc: Global, home: Home, file: &str) -> Result<String, ImplProblemAt>
     ensures { IfOk result (λ written. IsMarked BEGIN.now END.now file.now
         (string_bytes written)) }

@@ -1,4 +1,5 @@
-//! The items of a file, read from its tokens.
+//! The items of a file, read from its tokens. The functions below [`items`] fail with what is wrong
+//! with a declaration, and where, and with `OutOfMemory`.
 
 use crate::item::{Field, Item, Member, Parameters, Span, Style};
 use crate::scan::{

@@ -132,8 +132,8 @@ pub(crate) fn closing_angle(tokens: &[Token], start: usize) -> usize {
     tokens.len()
 }
 
-/// Returns the parts of these tokens that commas divide, outside of brackets, and with `angles` outside of
-/// `<` and `>`, too.
+/// Returns the parts of these tokens that commas divide, outside of brackets, and with `angles`
+/// outside of `<` and `>`, too. Fails with `OutOfMemory`.
 pub(crate) fn parts(
     alloc: Global,
     tokens: &[Token],

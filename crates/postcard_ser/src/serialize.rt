@@ -12,8 +12,7 @@ use postcard_wire::Result;
 /// A type whose values are written, as their shape says.
 ///
 /// Your own struct or enum implements `SerializeRepr`, and gets this trait by that. A type that
-/// implements `Shaped` itself, as one that refuses values or whose text may fail to print,
-/// implements this trait itself, too.
+/// implements `Shaped` itself implements this trait itself, too.
 pub trait Serialize: Shaped {
     /// Writes the canonical encoding of the value's tree.
     ///

@@ -59,11 +59,10 @@ pub fn from_bytes_cobs<'a, T: Deserialize<'a>, W: Width, I: Implementation<W>>(
     read_checked(alloc, front, data_len, digest)
 }
 
-/// What decoding in place leaves: the whole buffer, and the lengths of the frame at its front,
-/// without the zero that ends it, and of the frame's data.
+/// What decoding in place leaves: the whole buffer, and where its parts end.
 struct DecodedFrame<'a> {
     all: &'a mut [u8],
-    /// The length of the frame; 0 if it has no data.
+    /// The length of the frame without the zero that ends it; 0 if it has no data.
     frame_len: usize,
     /// The length of the data, which is at the front of the buffer.
     data_len: usize,
@@ -88,8 +87,8 @@ fn decode_frame<'a>(s: &'a mut [u8]) -> DecodedFrame<'a>
     }
 }
 
-/// Reads a value and then just its checksum from the first `data_len` bytes of `front`, the data of
-/// a frame; `front` is empty if the frame has no data. Fails as [`from_bytes_cobs`] does.
+/// Reads a value and then just its checksum from the first `data_len` bytes of `front`, a frame's
+/// data; `front` is empty if there is none. Fails as [`from_bytes_cobs`] does.
 fn read_checked<'a, T: Deserialize<'a>, W: Width, I: Implementation<W>>(
     alloc: Global,
     front: &'a [u8],

@@ -43,8 +43,8 @@ fn framed<T: Serialize, B: Storage + Drop, W: Width, I: Implementation<W>>(
     serialize_with_checksum(value, Cobs::try_new(storage)?, digest)
 }
 
-/// Encodes a value and its checksum as a frame into the front of `buf`, and returns that front,
-/// which is the frame with its sentinel. Nothing is allocated. The Rust crate has no such call.
+/// Encodes a value and its checksum as a frame into the front of `buf`, and returns the frame with
+/// its sentinel. Nothing is allocated. The Rust crate has no such call.
 ///
 /// # Errors
 ///

@@ -20,8 +20,8 @@ impl<'de, F: Flavor> Deserializer<'de, F> {
     }
 
     /// Reads a character: a length of at most 4, and that many bytes of UTF-8. Returns the first
-    /// character; others are ignored, as in postcard 1.1.3. Also fails with `DeserializeBadChar` if
-    /// the length is above 4, which alone is taken then, or if the length is 0 or the bytes aren't
+    /// character; others are ignored, as in postcard 1.1.3. Also fails with `DeserializeBadChar`:
+    /// if the length is above 4, which alone is taken then, if it is 0, or if the bytes aren't
     /// UTF-8, which are taken too.
     pub fn deserialize_char(&mut self) -> Result<char>
         ensures { ReadsNode F.Flavor char_node (source_of self.old) result (source_of self.new) }

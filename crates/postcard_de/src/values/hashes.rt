@@ -1,4 +1,5 @@
-//! Sets and maps that find a key by its hash, read as lists of their keys or pairs.
+//! Sets and maps that find a key by its hash, read as lists of their keys or pairs. Each function
+//! fails with `OutOfMemory` if an allocation fails.
 
 ghost use Rattle.std.specs.Prelude.{◌≡◌, [], IfErr, IfOk};
 ghost use Rattle.postcard_wire.specs.declared.error.Error.{Error};
@@ -16,7 +17,7 @@ use std::collections::{HashMap, HashSet};
 use std::hash::{BuildHasher, Hash};
 
 /// Returns a set that hashes by `hasher`, into which the keys were put one by one. Of equal keys
-/// the first is kept. Fails with `OutOfMemory` if an allocation fails.
+/// the first is kept.
 fn set_of<K: Eq + Hash + Drop, S: BuildHasher + Drop>(
     alloc: Global,
     keys: Vec<K>,
@@ -33,7 +34,7 @@ fn set_of<K: Eq + Hash + Drop, S: BuildHasher + Drop>(
 }
 
 /// Returns a map that hashes by `hasher`, into which the pairs were put one by one. Of equal keys
-/// the last value is kept. Fails with `OutOfMemory` if an allocation fails.
+/// the last value is kept.
 fn map_of<K: Eq + Hash + Drop, V: Drop, S: BuildHasher + Drop>(
     alloc: Global,
     pairs: Vec<(K, V)>,

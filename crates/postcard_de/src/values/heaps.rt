@@ -13,8 +13,6 @@ use postcard_wire::Result;
 use std::alloc::Global;
 use std::collections::BinaryHeap;
 
-/// Returns a heap into which the elements were put one by one, in their order. Fails with
-/// `OutOfMemory` if an allocation fails.
 fn heap_of<T: Ord + Drop>(alloc: Global, items: Vec<T>) -> Result<BinaryHeap<T>>
     ensures items { IfOk result (λ heap. IsPermutation items.items (heap_items heap)) }
     ensures refused { IfErr result (λ e. e ≡ Error.OutOfMemory) }

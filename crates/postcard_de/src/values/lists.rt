@@ -53,8 +53,6 @@ impl<T: DeserializeOwned> DeserializeOwned for VecDeque<T> {
     }
 }
 
-/// Moves the elements of a list into the nodes of another, in their order. Fails with `OutOfMemory`
-/// if an allocation fails.
 fn linked_of<T: Drop>(alloc: Global, items: Vec<T>) -> Result<LinkedList<T>>
     ensures same { IfOk result (λ linked. linked ≡ items.items) }
     ensures refused { IfErr result (λ e. e ≡ Error.OutOfMemory) }
