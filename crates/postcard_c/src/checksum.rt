@@ -156,13 +156,9 @@ fn take_just(reader: &mut Reader<'_>, wanted: &[u8]) -> u32
     0
 }
 
-/// Takes the next 4 bytes, which must be the CRC-32/ISO-HDLC of all bytes that were read before, the
-/// lowest first.
-///
-/// # Errors
-///
-/// Fails with `DeserializeUnexpectedEnd` if fewer bytes are left, and with `DeserializeBadCrc` if they
-/// are others.
+/// Takes the next 4 bytes, which must be the CRC-32/ISO-HDLC of all bytes that were read before,
+/// the lowest first. Fails with `DeserializeUnexpectedEnd` if fewer bytes are left, and with
+/// `DeserializeBadCrc` if they are others.
 #[unsafe(no_mangle)]
 pub extern "C" fn postcard_get_crc32(reader: &mut Reader<'_>) -> u32
     ensures { GetsCrc crc_32 4 reader.old reader.new result }

@@ -151,12 +151,9 @@ impl Checksum {
     }
 
     /// Checks that `behind`, what comes after the message `front`, begins with the checksum of that
-    /// message, and returns the bytes after the checksum.
-    ///
-    /// # Errors
-    ///
-    /// Fails with `DeserializeUnexpectedEnd` if `behind` has fewer bytes than a checksum, and with
-    /// `DeserializeBadCrc` if it begins with another.
+    /// message, and returns the bytes after the checksum. Fails with `DeserializeUnexpectedEnd` if
+    /// `behind` has fewer bytes than a checksum, and with `DeserializeBadCrc` if it begins with
+    /// another.
     pub fn after_trailer<'a>(self, front: &[u8], behind: &'a [u8]) -> WireResult<&'a [u8]>
         ensures follows { IfOk result (λ rest. IsTrailer self front.now behind.now rest.now) }
         ensures refused { IfErr result (λ e. HasNoTrailer self front.now behind.now e) }
@@ -245,11 +242,8 @@ fn is_same(found: &[u8], wanted: &[u8]) -> bool
     *found == *wanted
 }
 
-/// Returns the algorithm with this name.
-///
-/// # Errors
-///
-/// Fails with `UnknownChecksum` if there is none, after the name is printed.
+/// Returns the algorithm with this name. Fails with `UnknownChecksum` if there is none, after the
+/// name is printed.
 pub fn named<W: Write>(name: &str, output: &mut W) -> Result<Checksum, Failure>
     ensures named { IfOk result (λ checksum. name.now ≡ checksum_name checksum) }
     ensures untouched { OnOk result (output.new ≡ output.old) }
@@ -265,11 +259,8 @@ pub fn named<W: Write>(name: &str, output: &mut W) -> Result<Checksum, Failure>
     }
 }
 
-/// Prints the checksum of the bytes of HEX by the algorithm with this name, on a line.
-///
-/// # Errors
-///
-/// Fails as [`named`] and [`hexadecimal::read_loose`] do.
+/// Prints the checksum of the bytes of HEX by the algorithm with this name, on a line. Fails as
+/// [`named`] and [`hexadecimal::read_loose`] do.
 pub fn print<R: Reader, W: Write>(
     alloc: Global,
     name: &str,

@@ -92,13 +92,9 @@ fn encoding_of<W: Write>(
 }
 
 /// Decodes a value from the front of the bytes of HEX, and prints a line of JSON with it and the
-/// bytes after it.
-///
-/// # Errors
-///
-/// Fails as [`schema_of`] and [`hexadecimal::read_loose`] do, and with `Refused` if the bytes begin
-/// with no message of the type, after a line of JSON is printed, without its line feed, that says
-/// where and why.
+/// bytes after it. Fails as [`schema_of`] and [`hexadecimal::read_loose`] do, and with `Refused` if
+/// the bytes begin with no message of the type, after a line of JSON is printed, without its line
+/// feed, that says where and why.
 pub fn decode<R: Reader, W: Write>(
     alloc: Global,
     expression: &str,
@@ -119,12 +115,8 @@ pub fn decode<R: Reader, W: Write>(
 }
 
 /// Decodes values one after another until no byte of HEX is left, and prints a line of JSON for
-/// each.
-///
-/// # Errors
-///
-/// Fails as [`decode`] does, and with `BadType` if messages of the type have no bytes. The values
-/// before an error are printed.
+/// each. Fails as [`decode`] does, and with `BadType` if messages of the type have no bytes. The
+/// values before an error are printed.
 pub fn decode_all<R: Reader, W: Write>(
     alloc: Global,
     expression: &str,

@@ -33,12 +33,8 @@ use postcard_wire::Error;
 use std::alloc::Global;
 use std::io::Write;
 
-/// Reads a type expression.
-///
-/// # Errors
-///
-/// Fails with `BadType` if it is misspelled, after what is wrong and where, and of an unknown type
-/// what would do, are printed.
+/// Reads a type expression. Fails with `BadType` if it is misspelled, after what is wrong and
+/// where, and of an unknown type what would do, are printed.
 pub fn schema_of<W: Write>(alloc: Global, text: &str, output: &mut W) -> Result<Schema, Failure>
     ensures spelled { IfOk result (λ schema. IsExpression schema text.now) }
     ensures untouched { OnOk result (output.new ≡ output.old) }
@@ -70,12 +66,9 @@ fn hint_of(problem: Problem) -> &'static str
     }
 }
 
-/// Reads a type expression of records, one after another, each of which has to have a byte.
-///
-/// # Errors
-///
-/// Fails as [`schema_of`] does, and with `BadType` if messages of the type have no bytes, after this
-/// is printed.
+/// Reads a type expression of records, one after another, each of which has to have a byte. Fails
+/// as [`schema_of`] does, and with `BadType` if messages of the type have no bytes, after this is
+/// printed.
 pub fn schema_of_records<W: Write>(
     alloc: Global,
     text: &str,
@@ -95,13 +88,10 @@ pub fn schema_of_records<W: Write>(
     Ok(schema)
 }
 
-/// Encodes the value of a text, and prints its encoding as hexadecimal on a line.
-///
-/// # Errors
-///
-/// Fails as [`schema_of`] does, with `BadValue` if the text is no value of the type, after the
-/// place of the error and what is expected there are printed, and with
-/// `Library(SerializeBufferFull)` if the encoding is longer than 4,096 bytes.
+/// Encodes the value of a text, and prints its encoding as hexadecimal on a line. Fails as
+/// [`schema_of`] does, with `BadValue` if the text is no value of the type, after the place of the
+/// error and what is expected there are printed, and with `Library(SerializeBufferFull)` if the
+/// encoding is longer than 4,096 bytes.
 pub fn encode<W: Write>(
     alloc: Global,
     expression: &str,
@@ -138,11 +128,8 @@ pub fn encode_raw<W: Write>(
 }
 
 /// Encodes the value of a text, and prints its encoding and the bytes of its checksum by the
-/// algorithm with this name, the lowest first, as hexadecimal on a line.
-///
-/// # Errors
-///
-/// Fails as [`checksum::named`] and [`encode`] do. The 4,096 bytes are those of the encoding.
+/// algorithm with this name, the lowest first, as hexadecimal on a line. Fails as
+/// [`checksum::named`] and [`encode`] do. The 4,096 bytes are those of the encoding.
 pub fn encode_checked<W: Write>(
     alloc: Global,
     name: &str,
@@ -197,12 +184,9 @@ pub fn encoding_of<W: Write>(
 }
 
 /// Decodes a value from the front of the bytes of HEX, and prints it on a line, and the bytes after
-/// it as hexadecimal on a second.
-///
-/// # Errors
-///
-/// Fails as [`schema_of`] and [`hexadecimal::read_loose`] do, and with `Refused` if the bytes begin
-/// with no message of the type, after which part can't be read, where, and why are printed.
+/// it as hexadecimal on a second. Fails as [`schema_of`] and [`hexadecimal::read_loose`] do, and
+/// with `Refused` if the bytes begin with no message of the type, after which part can't be read,
+/// where, and why are printed.
 pub fn decode<R: Reader, W: Write>(
     alloc: Global,
     expression: &str,
@@ -221,11 +205,8 @@ pub fn decode<R: Reader, W: Write>(
     print_first(alloc, &schema, &bytes, output)
 }
 
-/// Does what [`decode`] does with all bytes of the input.
-///
-/// # Errors
-///
-/// Fails as [`schema_of`] and [`hexadecimal::read_input`] do, and with `Refused` as [`decode`].
+/// Does what [`decode`] does with all bytes of the input. Fails as [`schema_of`] and
+/// [`hexadecimal::read_input`] do, and with `Refused` as [`decode`].
 pub fn decode_raw<R: Reader, W: Write>(
     alloc: Global,
     expression: &str,
@@ -322,12 +303,9 @@ fn skip_trailer<'a, W: Write>(
     }
 }
 
-/// Decodes values one after another until no byte of HEX is left, and prints each on a line.
-///
-/// # Errors
-///
-/// Fails as [`decode`] does, and with `BadType` if messages of the type have no bytes. The values
-/// before an error are printed.
+/// Decodes values one after another until no byte of HEX is left, and prints each on a line. Fails
+/// as [`decode`] does, and with `BadType` if messages of the type have no bytes. The values before
+/// an error are printed.
 pub fn decode_all<R: Reader, W: Write>(
     alloc: Global,
     expression: &str,
@@ -346,11 +324,8 @@ pub fn decode_all<R: Reader, W: Write>(
     print_all(alloc, &schema, &bytes, output)
 }
 
-/// Does what [`decode_all`] does with all bytes of the input.
-///
-/// # Errors
-///
-/// Fails as [`decode_raw`] does, and with `BadType` as [`decode_all`].
+/// Does what [`decode_all`] does with all bytes of the input. Fails as [`decode_raw`] does, and
+/// with `BadType` as [`decode_all`].
 pub fn decode_all_raw<R: Reader, W: Write>(
     alloc: Global,
     expression: &str,

@@ -15,11 +15,8 @@ use std::fmt;
 use std::io::Write;
 
 /// Prints the least and the greatest number of bytes of a message of the type, and of its frame, on
-/// a line. If there is no greatest number, prints the paths of the parts that have none.
-///
-/// # Errors
-///
-/// Fails as [`schema_of`] does.
+/// a line. If there is no greatest number, prints the paths of the parts that have none. Fails as
+/// [`schema_of`] does.
 pub fn print<W: Write>(alloc: Global, expression: &str, output: &mut W) -> Result<(), Failure>
     ensures printed { OnOk result (PrintsSize expression.now (W.contents output.old)
         (W.contents output.new)) }

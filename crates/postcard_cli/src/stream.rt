@@ -78,11 +78,8 @@ pub fn print<R: Reader, W: Write>(
 
 /// Does the same for frames whose data is a message and then the bytes of its checksum by the
 /// algorithm with this name, the lowest first; if the checksum doesn't follow, the line is an
-/// `error` too. A frame has at most [`LONGEST`] bytes.
-///
-/// # Errors
-///
-/// Fails as [`checksum::named`] and [`print`] do.
+/// `error` too. A frame has at most [`LONGEST`] bytes. Fails as [`checksum::named`] and [`print`]
+/// do.
 pub fn print_checked<R: Reader, W: Write>(
     alloc: Global,
     name: &str,
@@ -108,12 +105,8 @@ pub fn print_checked<R: Reader, W: Write>(
 }
 
 /// Prints what [`print`] prints if the bytes of HEX are its input. A frame has at most [`LONGEST`]
-/// bytes.
-///
-/// # Errors
-///
-/// Fails as [`schema_of`] and [`hexadecimal::read_loose`] do, and with `OutOfMemory` if another
-/// allocation fails.
+/// bytes. Fails as [`schema_of`] and [`hexadecimal::read_loose`] do, and with `OutOfMemory` if
+/// another allocation fails.
 pub fn print_hex<R: Reader, W: Write>(
     alloc: Global,
     expression: &str,

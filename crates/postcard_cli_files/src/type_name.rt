@@ -39,12 +39,9 @@ impl<'a> TypeName<'a> {
         }
     }
 
-    /// Returns a type expression of the type.
-    ///
-    /// # Errors
-    ///
-    /// Fails with `Unreadable` if the file can't be read, with `TooLong`, with `NoText`, with
-    /// `Wrong` if [`expression`] refuses it, and with `OutOfMemory` if an allocation fails.
+    /// Returns a type expression of the type. Fails with `Unreadable` if the file can't be read,
+    /// with `TooLong`, with `NoText`, with `Wrong` if [`expression`] refuses it, and with
+    /// `OutOfMemory` if an allocation fails.
     pub fn expression<F: Files>(self, alloc: Global, files: &F) -> Result<String, TypeFault>
         ensures declared { IfOk result (λ text. Declares (F.gives files.now)
             self.entry.file.now self.entry.name.now (string_bytes text)) }

@@ -30,12 +30,9 @@ pub trait Reader: Read + Drop {
         ensures succeeds { steady self.old → IsOk result }
         ensures stays_steady { steady self.old → steady self.new };
 
-    /// Fills all of `buf` with the next `buf.len()` bytes, as `Read::read_exact` does.
-    ///
-    /// # Errors
-    ///
-    /// Fails if the reader fails or ends first. A steady reader that is known to have at least
-    /// `buf.len()` bytes left succeeds. It stays steady, also after a failure.
+    /// Fills all of `buf` with the next `buf.len()` bytes, as `Read::read_exact` does. Fails if the
+    /// reader fails or ends first. A steady reader that is known to have at least `buf.len()` bytes
+    /// left succeeds. It stays steady, also after a failure.
     fn read_full(&mut self, buf: &mut [u8]) -> io::Result<()>
         ensures bytes { OnOk result (Consumes (Self.remaining self.old)
             (Self.remaining self.new) buf.new) }

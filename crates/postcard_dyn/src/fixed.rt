@@ -19,11 +19,8 @@ use postcard_fixint::{FixInt, be, le};
 use postcard_ser::Serializer;
 use std::alloc::Global;
 
-/// Reads the bits of a number from its bytes.
-///
-/// # Errors
-///
-/// Fails with `DeserializeUnexpectedEnd` if the source can't give as many bytes.
+/// Reads the bits of a number from its bytes. Fails with `DeserializeUnexpectedEnd` if the source
+/// can't give as many bytes.
 pub fn read_bits<'de, F: postcard_de::Flavor>(
     alloc: Global,
     order: ByteOrder,
@@ -59,9 +56,6 @@ fn read_number<'de, T: FixInt, F: postcard_de::Flavor>(
 }
 
 /// Writes the bytes of the number with these bits, of which those beyond its width are left out.
-///
-/// # Errors
-///
 /// Fails with `SerializeBufferFull` if the flavor refuses the bytes.
 pub fn write_bits<F: postcard_ser::Flavor>(
     order: ByteOrder,

@@ -1,5 +1,5 @@
-//! The place in a message where reading fails: [`refused_at`], as which the functions below it
-//! fail.
+//! The place in a message where reading fails: [`refused_at`]. The functions below it fail as it
+//! does.
 
 ghost use Rattle.std.specs.Prelude.{◌≡◌, ◌≤◌, length, IfOk, IfErr};
 

@@ -52,12 +52,9 @@ pub struct Declaration<'a> {
     pub end: usize,
 }
 
-/// Returns the declarations of a file with these tokens, in their order. Their names differ.
-///
-/// # Errors
-///
-/// Fails with `NameExpected` at a declaration without a name, with `ItemOpen` at one that doesn't
-/// end, with `DeclaredTwice` at a name that a declaration before has, and with `OutOfMemory`.
+/// Returns the declarations of a file with these tokens, in their order. Their names differ. Fails
+/// with `NameExpected` at a declaration without a name, with `ItemOpen` at one that doesn't end,
+/// with `DeclaredTwice` at a name that a declaration before has, and with `OutOfMemory`.
 pub fn declarations<'a>(
     alloc: Global,
     tokens: &[Token<'a>],

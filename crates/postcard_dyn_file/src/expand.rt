@@ -28,11 +28,8 @@ const MAX_DEPTH: usize = 64;
 /// How many words and signs a type may have, with its names replaced.
 const MAX_WORDS: usize = 65_536;
 
-/// Returns the words of a type expression that spell the type with this name.
-///
-/// # Errors
-///
-/// Fails with `NotDeclared` at the end of the file if no declaration has the name, and otherwise as
+/// Returns the words of a type expression that spell the type with this name. Fails with
+/// `NotDeclared` at the end of the file if no declaration has the name, and otherwise as
 /// [`FileProblem`] says, where the declaration, or one that it needs, is wrong.
 pub fn words_of<'a>(
     alloc: Global,

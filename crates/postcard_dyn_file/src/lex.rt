@@ -16,13 +16,10 @@ use crate::error::{FileProblem, ProblemAt, out_of_memory};
 use crate::token::Token;
 use std::alloc::Global;
 
-/// Returns the tokens of a file, in order.
-///
-/// # Errors
-///
-/// Fails with `CommentOpen` or `LiteralOpen` where one begins that isn't closed, with
-/// `AsciiExpected` at a character beyond ASCII outside of both, with `NotOpen` at a bracket that is
-/// closed and isn't open, with `BracketOpen` at one that isn't closed, and with `OutOfMemory`.
+/// Returns the tokens of a file, in order. Fails with `CommentOpen` or `LiteralOpen` where one
+/// begins that isn't closed, with `AsciiExpected` at a character beyond ASCII outside of both, with
+/// `NotOpen` at a bracket that is closed and isn't open, with `BracketOpen` at one that isn't
+/// closed, and with `OutOfMemory`.
 pub fn tokens<'a>(alloc: Global, file: &'a [u8]) -> Result<Vec<Token<'a>>, ProblemAt>
     ensures read { IfOk result (λ tokens. IsRead file.now tokens.items) }
     ensures other { IfErr result (λ e. is_of_type e.problem ≡ false) }

@@ -11,12 +11,8 @@ use crate::token::Token;
 use postcard_dyn_schema::scan::character_of;
 use std::alloc::Global;
 
-/// Returns the text of the words: each of them and a blank.
-///
-/// # Errors
-///
-/// Fails with `AsciiExpected` at a word that is no UTF-8, as no token of a text is, and with
-/// `OutOfMemory`.
+/// Returns the text of the words: each of them and a blank. Fails with `AsciiExpected` at a word
+/// that is no UTF-8, as no token of a text is, and with `OutOfMemory`.
 pub fn spelled(alloc: Global, words: &[Token]) -> Result<String, ProblemAt>
     ensures spelled { IfOk result (λ text. string_bytes text ≡ spelling words.now) }
     ensures other { IfErr result (λ e. is_of_type e.problem ≡ false) }

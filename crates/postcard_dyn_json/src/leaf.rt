@@ -26,12 +26,8 @@ use serde_json::Value as Json;
 use std::alloc::{AllocError, Global};
 use std::num::{f32_to_bits_with_nan, f64_to_bits_with_nan, nearest_f64_to_f32_with_nan};
 
-/// Reads a value without parts.
-///
-/// # Errors
-///
-/// Fails with `NotAValue` if the JSON is no value of the type, and with `OutOfMemory` if an
-/// allocation fails.
+/// Reads a value without parts. Fails with `NotAValue` if the JSON is no value of the type, and
+/// with `OutOfMemory` if an allocation fails.
 pub fn read_leaf(alloc: Global, leaf: Leaf, json: &Json) -> Result<Value, JsonError>
     ensures { Reads (leaf_type leaf) (leaf_layout leaf) (view json.now) result }
 {

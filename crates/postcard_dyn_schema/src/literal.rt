@@ -22,12 +22,8 @@ pub enum LiteralError {
     TooLarge,
 }
 
-/// Returns the number that a word spells.
-///
-/// # Errors
-///
-/// Fails with `Malformed` if the word is no integer literal, and with `TooLarge` if it is one of a
-/// number that `u128` doesn't hold.
+/// Returns the number that a word spells. Fails with `Malformed` if the word is no integer literal,
+/// and with `TooLarge` if it is one of a number that `u128` doesn't hold.
 pub fn number_of(word: &[u8]) -> Result<u128, LiteralError>
     ensures spelled { IfOk result (λ n. IsLiteral n word.now) }
     ensures refused { IfErr result (λ e. IsNoNumber (λ n. IsLiteral n word.now) e) }

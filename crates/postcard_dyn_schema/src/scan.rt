@@ -104,12 +104,8 @@ pub fn take(rest: &mut &[u8], byte: u8) -> bool
     }
 }
 
-/// Takes the blanks at the front and then `byte`.
-///
-/// # Errors
-///
-/// Fails with `problem` at what follows the blanks if it is something else. The blanks are taken
-/// then.
+/// Takes the blanks at the front and then `byte`. Fails with `problem` at what follows the blanks
+/// if it is something else. The blanks are taken then.
 pub fn expect(rest: &mut &[u8], byte: u8, problem: Problem) -> Result<(), ProblemAt>
     ensures taken { OnOk result (TakesPhrase (IsSign byte) rest.old.now rest.new.now) }
     ensures refused { IfErr result (λ found. (found.problem ≡ problem)
@@ -150,11 +146,8 @@ fn is_of_word(byte: u8) -> bool
     byte.is_ascii_alphanumeric() || byte == b'_'
 }
 
-/// Takes a lifetime, such as `'a`, if `'` comes next.
-///
-/// # Errors
-///
-/// Fails with `LifetimeExpected` if no name follows the `'`, or one that begins with a digit.
+/// Takes a lifetime, such as `'a`, if `'` comes next. Fails with `LifetimeExpected` if no name
+/// follows the `'`, or one that begins with a digit.
 pub fn skip_lifetime(rest: &mut &[u8]) -> Result<(), ProblemAt>
     ensures taken { OnOk result (TakesLifetime rest.old.now rest.new.now) }
     ensures none { OnErr result ((after : List ℕ) → TakesLifetime rest.old.now after → ⊥) }
@@ -170,13 +163,9 @@ pub fn skip_lifetime(rest: &mut &[u8]) -> Result<(), ProblemAt>
     Ok(())
 }
 
-/// Takes the blanks at the front and then the count of an array, which it returns: an integer literal,
-/// as `16`, `0x10` or `1_024`.
-///
-/// # Errors
-///
-/// Fails with `CountExpected` if the next word isn't one, and with `CountTooLarge` if the count
-/// doesn't fit in a `usize`.
+/// Takes the blanks at the front and then the count of an array, which it returns: an integer
+/// literal, as `16`, `0x10` or `1_024`. Fails with `CountExpected` if the next word isn't one, and
+/// with `CountTooLarge` if the count doesn't fit in a `usize`.
 pub fn take_count(rest: &mut &[u8]) -> Result<usize, ProblemAt>
     ensures taken { IfOk result (λ count. TakesPhrase (IsCount count) rest.old.now rest.new.now) }
     ensures one { IfOk result (λ count. (n : ℕ) (after : List ℕ)
@@ -209,11 +198,8 @@ pub fn boxed(alloc: Global, schema: Schema, rest: &[u8]) -> Result<Box<Schema>, 
     }
 }
 
-/// Returns a [`Schema::Named`] of the name and the type.
-///
-/// # Errors
-///
-/// Also fails with `FieldExpected`, at the front of `rest`, if the name is not UTF-8.
+/// Returns a [`Schema::Named`] of the name and the type. Also fails with `FieldExpected`, at the
+/// front of `rest`, if the name is not UTF-8.
 pub fn named(alloc: Global, name: &[u8], schema: Schema, rest: &[u8]) -> Result<Schema, ProblemAt>
     ensures held { IfOk result (λ whole. (text : String Global) × (held : Box Schema Global)
         × (whole ≡ Named text held) × (string_bytes text ≡ name.now) × (held.value ≡ schema)) }

@@ -20,11 +20,8 @@ use postcard_dyn::fixed::{are_bits, bits_of};
 use postcard_dyn::{Integer, Leaf};
 use postcard_dyn_schema::literal::number_of;
 
-/// Takes blanks and then a number of the type `leaf`, which has no sign.
-///
-/// # Errors
-///
-/// Stops at the front of `rest` if no number is next, or one that `T` doesn't hold.
+/// Takes blanks and then a number of the type `leaf`, which has no sign. Stops at the front of
+/// `rest` if no number is next, or one that `T` doesn't hold.
 pub fn read_unsigned<T: TryFrom<u128>>(rest: &mut &[u8], leaf: Leaf) -> Result<T, Stop<'static>>
 where
     T::Error: Drop,
@@ -67,11 +64,8 @@ where
     }
 }
 
-/// Takes blanks and then a number of the type, and returns its bits.
-///
-/// # Errors
-///
-/// Stops at the front of `rest` if no number of the type is next.
+/// Takes blanks and then a number of the type, and returns its bits. Stops at the front of `rest`
+/// if no number of the type is next.
 pub fn read_bits(rest: &mut &[u8], integer: Integer) -> Result<u128, Stop<'static>>
     ensures spelled { IfOk result (λ n. TakesPhrase (SpellsBits (is_signed integer) integer n)
         rest.old.now rest.new.now) }

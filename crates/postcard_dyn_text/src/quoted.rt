@@ -17,11 +17,8 @@ use std::alloc::Global;
 
 /// Takes blanks, and then a text between two bytes `quote`, which may have the escapes `\n`, `\r`,
 /// `\t`, `\0`, `\\`, `\'`, `\"` and `\u{..}`. Returns the text with the escapes replaced. Where the
-/// first `quote` should be, a value of `leaf` is expected.
-///
-/// # Errors
-///
-/// Stops where the text stops being one, and with `Memory` if an allocation fails.
+/// first `quote` should be, a value of `leaf` is expected. Stops where the text stops being one,
+/// and with `Memory` if an allocation fails.
 pub fn take_quoted(
     alloc: Global,
     rest: &mut &[u8],
@@ -111,9 +108,6 @@ fn short_escape(letter: u8) -> Option<u8>
 }
 
 /// Takes `{`, one to six hexadecimal digits and `}`, and returns the character with this code.
-///
-/// # Errors
-///
 /// Stops at the front of `rest` if something else is next, and at the end of the text if it ends
 /// before the `}`.
 fn take_code(rest: &mut &[u8]) -> Result<char, Stop<'static>>
@@ -155,12 +149,8 @@ fn character(code: u32, count: usize, start: &[u8]) -> Result<char, Stop<'static
     }
 }
 
-/// Returns the bytes of hexadecimal digits of either case, two for each byte.
-///
-/// # Errors
-///
-/// Stops at the front of `start` if a digit is missing or isn't hexadecimal, and with `Memory` if
-/// an allocation fails.
+/// Returns the bytes of hexadecimal digits of either case, two for each byte. Stops at the front of
+/// `start` if a digit is missing or isn't hexadecimal, and with `Memory` if an allocation fails.
 pub fn bytes_of(alloc: Global, digits: &[u8], start: &[u8]) -> Result<Vec<u8>, Stop<'static>>
     ensures held { IfOk result (λ held. AreDigitsOf held.items digits.now) }
     ensures refused { IfErr result (λ stop. (stop ≡ Stop.Memory)

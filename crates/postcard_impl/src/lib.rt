@@ -1,7 +1,8 @@
-//! The impls of the types that a file of Rattle declares, as text: [`impl_file`].
+//! Puts the impls of the types that a file of Rattle declares into the text of that file:
+//! [`impl_file`].
 //!
-//! A file has items as they are written in a program's source. Of these the declarations are read, `struct`,
-//! `enum` and `type`, with lifetimes, parameters, attributes, comments and visibilities:
+//! A file has items as they are written in a program's source. Of these the declarations are read,
+//! `struct`, `enum` and `type`, with lifetimes, parameters, attributes, comments and visibilities:
 //!
 //! ```text
 //! /// What a sensor sends.
@@ -12,9 +13,10 @@
 //! type Millimetres = i32;
 //! ```
 //!
-//! The impls are written between two marks ([`marks`]), after the text of a file that has none. What is
-//! between the marks isn't read, and what is outside of them is kept as it is, so that a second run
-//! replaces just the impls. They name all that they use by its path, and no `use` line of the file.
+//! The impls are written between two marks ([`marks`]), after the text of a file that has none.
+//! What is between the marks isn't read, and what is outside of them is kept as it is, so that a
+//! second run replaces just the impls. They name all that they use by its path, and no `use` line
+//! of the file.
 //!
 //! Which impls a type has, and which types have none, `postcard_impl_text` says.
 #![tactic(auto)]

@@ -111,12 +111,8 @@ pub(crate) enum Form {
     Seen,
 }
 
-/// Returns the form of each item.
-///
-/// # Errors
-///
-/// Fails at the first item that has itself in it, and else at the first field whose type has no impls
-/// that would be proved.
+/// Returns the form of each item. Fails at the first item that has itself in it, and else at the
+/// first field whose type has no impls that would be proved.
 pub(crate) fn forms(
     alloc: Global,
     file: &str,

@@ -1,4 +1,4 @@
-//! The heads of impls and of their functions.
+//! The text of the heads of impls and of their functions, and of the bodies that name no field.
 
 use crate::item::Item;
 use crate::pieces::{Lifetimes, add_arguments, add_declared};

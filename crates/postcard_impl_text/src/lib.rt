@@ -39,12 +39,9 @@ pub use scan::text_at;
 use std::alloc::Global;
 use write::impls;
 
-/// Returns the impls of the types that a file declares, which has these tokens and these declarations.
-/// `home` is the place of the file.
-///
-/// # Errors
-///
-/// Fails with what is wrong with a declaration, and where, or with `OutOfMemory`.
+/// Returns the impls of the types that a file declares, which has these tokens and these
+/// declarations. `home` is the place of the file. Fails with what is wrong with a declaration, and
+/// where, or with `OutOfMemory`.
 pub fn impls_of(
     alloc: Global,
     home: Home,

@@ -49,11 +49,8 @@ impl Text {
         }
     }
 
-    /// Returns all that was added.
-    ///
-    /// # Errors
-    ///
-    /// Fails with `OutOfMemory` if memory lacked for a text that was to be added.
+    /// Returns all that was added. Fails with `OutOfMemory` if memory lacked for a text that was to
+    /// be added.
     pub(crate) fn finish(self) -> Result<String, ImplProblemAt> {
         self.outcome?;
         Ok(self.added)
