@@ -51,8 +51,8 @@ pub fn burst_in_checked()
         → IsBurst a.width (bit_xor (message a.refin f) (message a.refin g)) → f ≡ g }
 {}
 
-/// The same of whole bytes: two checked messages that differ only in bytes in a row, as many as the
-/// checksum has or fewer, are equal.
+/// Two checked messages of one length that differ only in bytes in a row, as many as the checksum
+/// has or fewer, are equal.
 pub fn bytes_in_checked()
     ensures { (a : Parameters) (k i : ℕ) → IsSound a → a.refin ≡ true → a.refout ≡ true
         → a.width + i ≡ 8 * k → (p x y s : List ℕ) → length x ≡ length y → 8 * length x ≤ a.width

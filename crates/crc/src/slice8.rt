@@ -1,5 +1,4 @@
-//! Eight tables of an algorithm, and the register that takes a message by them, eight bytes at a
-//! time.
+//! Eight tables of an algorithm, by which a register takes eight bytes at a time.
 
 ghost use Rattle.std.specs.Prelude.{◌≡◌, ◌<◌, ◌≤◌, ◌*◌, ◌^◌, ◌++◌, ℕ, List, length, map};
 ghost use Rattle.crc.specs.Algorithm.{parameters};
@@ -13,8 +12,7 @@ use crate::register;
 use crate::table::by_bytes;
 use crate::width::Width;
 
-/// Eight tables of 256 entries each, by which a register takes eight bytes at a time: 2048 bytes
-/// for each byte of a checksum's type, 8 KiB at `u32`.
+/// Eight tables of 256 entries each: 2048 bytes for each byte of a checksum's type, 8 KiB at `u32`.
 #[derive(Drop)]
 pub struct Slice8<W> {
     entries: [W; 2048],

@@ -68,8 +68,8 @@ pub fn fill_slice<T: Serialize>(value: &T, buf: &mut [u8]) -> Result<usize>
     if failed { Err(error) } else { Ok(count) }
 }
 
-/// What an attempt to write returns: the whole buffer, the number of bytes written, and the error,
-/// which counts only if the attempt `failed`.
+/// The whole buffer, the number of bytes written, and the error, which counts only if the attempt
+/// `failed`.
 pub(crate) struct Attempt<'a> {
     pub(crate) all: &'a mut [u8],
     pub(crate) count: usize,

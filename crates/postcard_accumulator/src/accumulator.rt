@@ -46,7 +46,7 @@ impl<const N: usize> Default for CobsAccumulator<N> {
 }
 
 /// Decodes the frame of the first `end` bytes of a buffer in place, and returns the length of its
-/// data, which begins at place 1. Fails if and only if the frame has no data.
+/// data, which begins at place 1. Fails if and only if there is no data.
 fn decode_front(buf: &mut [u8], end: usize) -> Result<usize>
     requires within { end ≤ length buf.old }
     requires no_zero { NoZero (take end buf.old) }
@@ -135,8 +135,7 @@ impl<const N: usize> CobsAccumulator<N> {
         Ok(&all[1..n + 1])
     }
 
-    /// The part of [`take_in`](CobsAccumulator::take_in) for an accumulator that isn't skipping a
-    /// frame.
+    /// [`take_in`](CobsAccumulator::take_in) of an accumulator that isn't skipping a frame.
     fn take_held<'de, 'a>(&'de mut self, input: &'a [u8]) -> FeedResult<'a, &'de [u8]>
         requires { is_skipping self.old ≡ false }
         ensures answer { (after : State)

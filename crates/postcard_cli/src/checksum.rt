@@ -67,7 +67,7 @@ pub enum Checksum {
 }
 
 impl Checksum {
-    /// Returns the algorithm with this name, or `None` if no algorithm has it.
+    /// Returns the algorithm with this name, if there is one.
     pub fn from_name(name: &str) -> Option<Checksum>
         ensures found { IfSome result (λ checksum. name.now ≡ checksum_name checksum) }
         ensures none { IfNone result ((checksum : Checksum) → name.now ≢ checksum_name checksum) }

@@ -30,7 +30,7 @@ pub enum ValueType {
 }
 
 impl ValueType {
-    /// Returns the type with this name, or `None` if no type has it.
+    /// Returns the type with this name, if there is one.
     pub fn from_name(name: &str) -> Option<ValueType>
         ensures found { IfSome result (λ kind. name.now ≡ name_of kind) }
         ensures none { IfNone result ((kind : ValueType) → name.now ≢ name_of kind) }

@@ -1,5 +1,5 @@
 //! The command `frames` with a TYPE, which prints the values of a stream of frames, each on a line
-//! as soon as its frame has ended.
+//! as soon as its frame has ended. `start` is the offset of a frame in the stream.
 
 ghost use Rattle.std.specs.Prelude.{◌≡◌, ◌+◌, ◌-◌, ◌^◌, ◌<◌, ◌≤◌, ℕ, List, [], ◌∷◌, ◌++◌, length};
 ghost use Rattle.std.specs.Prelude.{Some, IfOk, IfErr, IfSome, IfNone, OnOk, false, min, take};
@@ -374,7 +374,7 @@ fn print_overfull<W: Write>(format: &Format, start: u64, output: &mut W) -> Resu
     Ok(())
 }
 
-/// Prints the line of the frame at this offset, whose data is put into `message`.
+/// Prints the line of a frame, whose data is put into `message`.
 fn print_answer<W: Write>(
     alloc: Global,
     format: &Format,
@@ -395,7 +395,7 @@ fn print_answer<W: Write>(
     print_decoded(alloc, format, start, frame, message, output)
 }
 
-/// Prints the line of the frame at this offset, of which `buffer` is a copy, in which it is decoded.
+/// Prints the line of a frame, of which `buffer` is a copy, in which it is decoded.
 fn print_decoded<W: Write>(
     alloc: Global,
     format: &Format,
@@ -417,7 +417,7 @@ fn print_decoded<W: Write>(
     Ok(())
 }
 
-/// Prints that the frame at this offset is no COBS frame, and its bytes.
+/// Prints that a frame is no COBS frame, and its bytes.
 fn print_damaged<W: Write>(
     format: &Format,
     start: u64,
@@ -435,7 +435,7 @@ fn print_damaged<W: Write>(
     }
 }
 
-/// Prints the line of the frame at this offset with this data.
+/// Prints the line of a frame with this data.
 fn print_message<W: Write>(
     alloc: Global,
     format: &Format,
@@ -478,7 +478,7 @@ fn rest_of<'a>(checksum: Option<Checksum>, bytes: &[u8], behind: &'a [u8]) -> Op
     }
 }
 
-/// Prints that the checksum in this data of the frame at this offset is wrong, and the data.
+/// Prints that the checksum in a frame's data is wrong, and the data.
 fn print_unchecked<W: Write>(
     format: &Format,
     start: u64,
@@ -496,7 +496,7 @@ fn print_unchecked<W: Write>(
     }
 }
 
-/// Prints at which place this data of the frame at this offset is refused, and why, and the data.
+/// Prints at which place a frame's data is refused, and why, and the data.
 fn print_unread<W: Write>(
     alloc: Global,
     format: &Format,
@@ -527,8 +527,7 @@ fn print_unread<W: Write>(
     }
 }
 
-/// Prints the line of this value of the frame at this offset, and of the bytes of the data after
-/// it.
+/// Prints the line of a frame's value, and of the bytes of the data after it.
 fn print_read<W: Write>(
     alloc: Global,
     format: &Format,
@@ -588,8 +587,7 @@ fn noun(count: usize) -> &'static str
     if count == 1 { "byte" } else { "bytes" }
 }
 
-/// Prints why the frame at this offset has no value, with the place before, and the bytes of the frame
-/// or its data.
+/// Prints why a frame has no value, with the place before, and the bytes of the frame or its data.
 fn print_error<W: Write>(
     start: u64,
     place: &str,

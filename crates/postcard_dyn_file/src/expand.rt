@@ -94,7 +94,7 @@ fn write_declaration<'a>(
     Ok(())
 }
 
-/// Adds what the token at the index, which is one of the declaration, stands for to the end of `out`.
+/// Adds what a token of the declaration stands for to the end of `out`.
 #[cycle(expand)]
 fn write_token<'a>(
     tokens: &[Token<'a>],

@@ -1,20 +1,9 @@
 //! Types of messages that a file declares, in Rust's own form: [`find`].
 //!
-//! A file has the declarations of a program's source, so that these may be pasted:
-//!
-//! ```text
-//! /// What a sensor sends.
-//! #[derive(Serialize, Deserialize)]
-//! pub struct Reading { id: u32, label: String, samples: Vec<i16> }
-//! struct Pair(u8, u16);
-//! struct Unit;
-//! enum Event { Boot, Reading(Reading), Fault { code: u8, text: String } }
-//! type Millimetres = i32;
-//! ```
-//!
-//! A name stands for its declaration, wherever in the file that is: each name in the place of a
-//! type is replaced by what its declaration stands for, until a type expression is left, which is
-//! read by [`postcard_dyn_schema::parse`].
+//! A file has the declarations of a program's source, so that these may be pasted. A name stands
+//! for its declaration, wherever in the file that is: each name in the place of a type is replaced
+//! by what its declaration stands for, until a type expression is left, which is read by
+//! [`postcard_dyn_schema::parse`].
 //!
 //! | A declaration | What it stands for |
 //! |---|---|
@@ -25,11 +14,11 @@
 //! | `type A = T;` | `(T)` |
 //!
 //! Passed over are comments, attributes, lifetimes, `pub` and its limit, as `pub(crate)`, paths
-//! before a name, as in `std::string::String`, and the number of a variant, which is one word after
-//! `=`, or after `=` and `-`. An item ends with its first `;` or `}` outside of all brackets; one
-//! that doesn't begin with `struct`, `enum` or `type` is passed over. Types with parameters aren't
-//! supported. With its names replaced, a type has at most 65,536 words and signs, and in it names
-//! stand for one another at most 64 deep.
+//! before a name, and the number of a variant, which is one word after `=`, or after `=` and `-`.
+//! An item ends with its first `;` or `}` outside of all brackets; one that doesn't begin with
+//! `struct`, `enum` or `type` is passed over. Types with parameters aren't supported. With its
+//! names replaced, a type has at most 65,536 words and signs, and in it names stand for one another
+//! at most 64 deep.
 //!
 //! A file is read in five steps, one module each: its tokens ([`lex`]), those that are kept
 //! ([`kept`]), the declarations ([`declaration`]), the words of a type with its names replaced

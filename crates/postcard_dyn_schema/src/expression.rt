@@ -14,23 +14,15 @@
 //! variant  = Name [tuple | "{" fields "}"]
 //! ```
 //!
-//! An enum with a single variant needs the leading `|`. As in Rust, `(T)` is the type `T`, and
-//! `(T,)` is a tuple of one part. The fields of a struct have different names, and so have the
-//! variants of an enum; a count is an integer literal, as `16`, `0x10` or `1_024` ([`number_of`]),
-//! below 2^64.
+//! An enum with a single variant needs the leading `|`. `(T)` is the type `T`, and `(T,)` is a
+//! tuple of one part. The fields of a struct have different names, and so have the variants of an
+//! enum; a count is an integer literal below 2^64.
 //!
-//! [`number_of`]: crate::literal::number_of
-//!
-//! A word is the name of a type without parts, such as `u16` or `String` ([`TypeName`]). A type that
-//! begins with a capital letter is an enum if `|`, `(` or `{` follows its first word, and else that
-//! word names a type of Rust. So `String | Number` is an enum, and `[String]` a list of texts.
-//!
-//! `Box<T>` is the type `T`, `Vec<T>` is `[T]`, `Option<T>` is `T?`, a `BTreeMap<K, V>` or
-//! `HashMap<K, V>` is `{K => V}`, and `Result<T, E>` is `Ok(T) | Err(E)`. `&T` is the type `T`, since
-//! a reference is written as what it refers to; the name of a lifetime, as `a` in `&'a str`, begins
-//! with no digit. `LE<T>` and `BE<T>` are the number `T` at its full width, the lowest byte first or
-//! the highest; `T` is one of `u16` to `u128` and `i16` to `i128`, or `usize` or `isize`, which are
-//! `u64` and `i64`.
+//! A word is the name of a type without parts ([`TypeName`]), and [`Angled`](crate::angled::Angled)
+//! has the names before a `<`. A type that begins with a capital letter is an enum if `|`, `(` or
+//! `{` follows its first word, and else that word names a type of Rust. So `String | Number` is an
+//! enum, and `[String]` a list of texts. `&T` is the type `T`, since a reference is written as what
+//! it refers to; the name of a lifetime begins with no digit.
 
 ghost use Rattle.std.specs.Prelude.{◌≡◌, ℕ, List, ◌+◌, ◌≤◌, true, length, Decides, IfOk, IfErr, OnOk, OnErr};
 ghost use Rattle.postcard_dyn_schema.specs.Text.{characters, TakesPhrase, IsSign, EndsWord, GoesOnBy};
@@ -158,7 +150,6 @@ fn begins_enum(text: &[u8]) -> bool
     follows_name(rest)
 }
 
-/// Returns whether `|`, `(` or `{` comes next.
 fn follows_name(text: &[u8]) -> bool
     ensures { Decides result (Starts is_after_first_name text.now) }
 {
@@ -175,7 +166,7 @@ fn is_after_name(byte: u8) -> bool
     byte == b'|' || byte == b'(' || byte == b'{'
 }
 
-/// Reads a type that is no enum, with any number of `&` before it and without the `?` after it.
+/// Reads a type that is no enum, without the `?` after it.
 #[cycle(expression)]
 fn read_referred(alloc: Global, rest: &mut &[u8], depth: usize) -> Result<Schema, ProblemAt>
     ensures spelled { IfOk result (λ schema. TakesPhrase (IsReferred (IsType depth) schema)

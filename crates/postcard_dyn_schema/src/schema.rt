@@ -140,7 +140,6 @@ impl Schema {
     }
 }
 
-/// Returns whether at least one of the types has only messages of one byte or more.
 #[cycle(has_bytes)]
 fn any_has_bytes(parts: &Vec<Schema>) -> bool
     ensures { result ≡ some_has_bytes (types_of parts.now.items) }

@@ -30,7 +30,6 @@ pub fn min_size(schema: &Schema) -> Option<usize>
     }
 }
 
-/// Returns the least number of bytes of a message of a type without parts.
 fn min_leaf_size(leaf: Leaf) -> usize
     ensures { result ≡ leaf_least leaf }
 {

@@ -81,7 +81,7 @@ pub fn read_bits(rest: &mut &[u8], integer: Integer) -> Result<u128, Stop<'stati
     }
 }
 
-/// Takes blanks and then a number of an unsigned type, which is its bits. Stops as [`read_bits`].
+/// [`read_bits`] of an unsigned type.
 fn read_unsigned_bits(rest: &mut &[u8], integer: Integer) -> Result<u128, Stop<'static>>
     ensures spelled { IfOk result (λ n.
         TakesPhrase (SpellsBits false integer n) rest.old.now rest.new.now) }
@@ -97,7 +97,7 @@ fn read_unsigned_bits(rest: &mut &[u8], integer: Integer) -> Result<u128, Stop<'
     Err(Stop::here(start, Expected::Leaf(integer.leaf())))
 }
 
-/// Takes blanks and then a number of a signed type, and returns its bits. Stops as [`read_bits`].
+/// [`read_bits`] of a signed type.
 fn read_signed_bits(rest: &mut &[u8], integer: Integer) -> Result<u128, Stop<'static>>
     ensures spelled { IfOk result (λ n.
         TakesPhrase (SpellsBits true integer n) rest.old.now rest.new.now) }

@@ -131,7 +131,6 @@ const PLAIN: [&str; 16] = [
     "f64", "bool", "String",
 ];
 
-/// Adds the functions that write the variants which have one.
 fn add_writers(out: &mut Text, home: Home, item: &Item) {
     if !item.members.iter().any(|member| has_writer(item, member)) {
         return;
@@ -207,7 +206,6 @@ fn add_shape(out: &mut Text, item: &Item) {
     out.add(" as postcard::Shaped>⟧.shape");
 }
 
-/// Adds the body of a `serialize`, and the end of its impl.
 fn add_serialize_body(out: &mut Text, item: &Item) {
     out.add("        match self {\n");
     let mut index: usize = 0;
