@@ -1,4 +1,4 @@
-//! What a checksum says of its message. The functions do nothing: their contracts are the laws.
+//! What a checksum says of its message, as contracts of functions that do nothing.
 //!
 //! A message is read as the bits of its bytes in a row, of each byte the lowest first if `refin`,
 //! as a serial line sends them. A checked message is a message and then its checksum in `k` bytes,

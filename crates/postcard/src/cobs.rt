@@ -23,8 +23,7 @@ use postcard_wire::{Error, Result};
 use std::alloc::Global;
 
 /// Encodes a value as a frame after the bytes that a storage holds, ends the storage, and returns
-/// its output. Fails with `SerializeBufferFull` if the storage refuses bytes or can't end, but for
-/// the [exceptions](crate#errors-of-encoding).
+/// its output. Fails as [`serialize_with_flavor`] does.
 fn framed<T: Serialize, B: Storage + Drop>(value: &T, storage: B) -> Result<<B as Flavor>::Output>
     ensures gives { IfOk result (λ output. (last : B)
         × (B.held last ≡ B.held storage ++ made (canonical (T.shape.tree value.now)))

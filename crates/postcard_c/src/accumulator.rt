@@ -9,13 +9,13 @@ ghost use Rattle.postcard_c.specs.Feeding.{Takes, Stands, Feeds};
 use postcard_cobs::{decode_in_place, frame_len};
 use postcard_wire::Result;
 
-/// All of the piece was taken, and no frame ended except one that was being skipped.
+/// No frame ended, except one that was being skipped.
 const CONSUMED: u32 = 0;
-/// A frame ended, and its data is at the front of the buffer.
+/// A frame ended.
 const FRAME: u32 = 1;
 /// A frame has no room.
 const OVERSIZED: u32 = 2;
-/// A frame ended that is no COBS frame: it is empty, or one of its groups runs past its end.
+/// A frame ended that is no COBS frame.
 const DAMAGED: u32 = 3;
 
 /// Puts COBS frames together from the pieces of a stream.

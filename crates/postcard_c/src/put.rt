@@ -2,7 +2,8 @@
 //!
 //! Each appends to a [`Writer`], and returns the writer's status, which is 0 for success. It fails
 //! with `SerializeBufferFull` if and only if the bytes have no room, and as before if the writer
-//! has failed before. A call with an error of its own says so.
+//! has failed before. A call with an error of its own says so. A number of 16 bits or more is
+//! written as a varint, of its zigzag encoding if signed.
 
 ghost use Rattle.std.specs.Prelude.{◌≡◌, ◌∷◌, [], ◌+◌, ◌*◌, ◌^◌, ◌<◌, map, length, IsUtf8};
 ghost use Rattle.std.specs.Char.{IsScalar};
@@ -33,7 +34,7 @@ pub extern "C" fn postcard_put_u8(writer: &mut Writer<'_>, value: u8) -> u32
     append(writer, &[value], &[])
 }
 
-/// Appends a number of 16 bits as a varint.
+/// Appends a number of 16 bits.
 #[unsafe(no_mangle)]
 pub extern "C" fn postcard_put_u16(writer: &mut Writer<'_>, value: u16) -> u32
     ensures { Puts (canonical (Num 16 value)) writer.old writer.new result }
@@ -41,7 +42,7 @@ pub extern "C" fn postcard_put_u16(writer: &mut Writer<'_>, value: u16) -> u32
     put_number(writer, value.into())
 }
 
-/// Appends a number of 32 bits as a varint.
+/// Appends a number of 32 bits.
 #[unsafe(no_mangle)]
 pub extern "C" fn postcard_put_u32(writer: &mut Writer<'_>, value: u32) -> u32
     ensures { Puts (canonical (Num 32 value)) writer.old writer.new result }
@@ -49,7 +50,7 @@ pub extern "C" fn postcard_put_u32(writer: &mut Writer<'_>, value: u32) -> u32
     put_number(writer, u64::from(value))
 }
 
-/// Appends a number of 64 bits as a varint.
+/// Appends a number of 64 bits.
 #[unsafe(no_mangle)]
 pub extern "C" fn postcard_put_u64(writer: &mut Writer<'_>, value: u64) -> u32
     ensures { Puts (canonical (Num 64 value)) writer.old writer.new result }
@@ -57,7 +58,7 @@ pub extern "C" fn postcard_put_u64(writer: &mut Writer<'_>, value: u64) -> u32
     put_number(writer, value)
 }
 
-/// Appends a number of 128 bits as a varint. It is passed as its lower and its higher 64 bits.
+/// Appends a number of 128 bits, passed as its lower and its higher 64 bits.
 #[unsafe(no_mangle)]
 pub extern "C" fn postcard_put_u128(writer: &mut Writer<'_>, low: u64, high: u64) -> u32
     ensures { Puts (canonical (Num 128 (low + 2 ^ 64 * high))) writer.old writer.new result }
@@ -80,7 +81,7 @@ pub extern "C" fn postcard_put_i8(writer: &mut Writer<'_>, value: i8) -> u32
     append(writer, &[value.cast_unsigned()], &[])
 }
 
-/// Appends a signed number of 16 bits as the varint of its zigzag encoding.
+/// Appends a signed number of 16 bits.
 #[unsafe(no_mangle)]
 pub extern "C" fn postcard_put_i16(writer: &mut Writer<'_>, value: i16) -> u32
     ensures { Puts (canonical (Int 16 value)) writer.old writer.new result }
@@ -88,7 +89,7 @@ pub extern "C" fn postcard_put_i16(writer: &mut Writer<'_>, value: i16) -> u32
     put_number(writer, u64::from(zig_zag_i16(value)))
 }
 
-/// Appends a signed number of 32 bits as the varint of its zigzag encoding.
+/// Appends a signed number of 32 bits.
 #[unsafe(no_mangle)]
 pub extern "C" fn postcard_put_i32(writer: &mut Writer<'_>, value: i32) -> u32
     ensures { Puts (canonical (Int 32 value)) writer.old writer.new result }
@@ -96,7 +97,7 @@ pub extern "C" fn postcard_put_i32(writer: &mut Writer<'_>, value: i32) -> u32
     put_number(writer, u64::from(zig_zag_i32(value)))
 }
 
-/// Appends a signed number of 64 bits as the varint of its zigzag encoding.
+/// Appends a signed number of 64 bits.
 #[unsafe(no_mangle)]
 pub extern "C" fn postcard_put_i64(writer: &mut Writer<'_>, value: i64) -> u32
     ensures { Puts (canonical (Int 64 value)) writer.old writer.new result }
@@ -104,8 +105,8 @@ pub extern "C" fn postcard_put_i64(writer: &mut Writer<'_>, value: i64) -> u32
     put_number(writer, zig_zag_i64(value))
 }
 
-/// Appends a signed number of 128 bits as the varint of its zigzag encoding. It is passed as the
-/// lower and the higher 64 bits of its two's complement.
+/// Appends a signed number of 128 bits, passed as the lower and the higher 64 bits of its two's
+/// complement.
 #[unsafe(no_mangle)]
 pub extern "C" fn postcard_put_i128(writer: &mut Writer<'_>, low: u64, high: u64) -> u32
     ensures { Puts (canonical (Int 128 (cast_signed w128 (low + 2 ^ 64 * high))))
@@ -145,7 +146,7 @@ pub extern "C" fn postcard_put_str(writer: &mut Writer<'_>, text: &[u8]) -> u32
     }
 }
 
-/// Appends a byte string, which is a list of `u8`: its length as a varint, and its bytes.
+/// Appends a byte string, a list of `u8`: its length as a varint, and its bytes.
 #[unsafe(no_mangle)]
 #[tactic(auto, using(crate::proofs::Bytes::counted_bytes))]
 pub extern "C" fn postcard_put_bytes(writer: &mut Writer<'_>, bytes: &[u8]) -> u32

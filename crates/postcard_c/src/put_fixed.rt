@@ -60,8 +60,7 @@ pub extern "C" fn postcard_put_u64_be(writer: &mut Writer<'_>, value: u64) -> u3
     append(writer, &u64::encode_be(value), &[])
 }
 
-/// Appends the 16 bytes of a number, the lowest first. It is passed as its lower and its higher 64
-/// bits.
+/// Appends the 16 bytes of a number, passed as its lower and its higher 64 bits, the lowest first.
 #[unsafe(no_mangle)]
 pub extern "C" fn postcard_put_u128_le(writer: &mut Writer<'_>, low: u64, high: u64) -> u32
     ensures { Puts (little.spell 16 (low + 2 ^ 64 * high)) writer.old writer.new result }
@@ -75,8 +74,7 @@ fn put_wide_le(writer: &mut Writer<'_>, value: u128) -> u32
     append(writer, &u128::encode_le(value), &[])
 }
 
-/// Appends the 16 bytes of a number, the highest first. It is passed as its lower and its higher 64
-/// bits.
+/// Appends the 16 bytes of a number, passed as its lower and its higher 64 bits, the highest first.
 #[unsafe(no_mangle)]
 pub extern "C" fn postcard_put_u128_be(writer: &mut Writer<'_>, low: u64, high: u64) -> u32
     ensures { Puts (big.spell 16 (low + 2 ^ 64 * high)) writer.old writer.new result }

@@ -23,7 +23,8 @@ use std::alloc::Global;
 use std::marker::PhantomData;
 
 /// Reads values from a source, each from the front of what is left. Padded varints are read too.
-/// The names of structs, fields and variants aren't used.
+/// The names of structs, fields and variants aren't used. A signed number of 16 or more bits is
+/// read from its zigzag encoding.
 ///
 /// A call that begins a tuple, a struct or the content of a variant returns a [`SeqAccess`], which
 /// reads the parts. It reads nothing itself, and never fails. A contract sees the source, by
@@ -92,7 +93,7 @@ impl<'de, F: Flavor> Deserializer<'de, F> {
         Ok(bits.cast_signed())
     }
 
-    /// Reads a number of 16 bits: a varint of at most 3 bytes.
+    /// Reads a number of 16 bits.
     pub fn deserialize_u16(&mut self) -> Result<u16>
         ensures { ReadsNode F.Flavor (num_node 16)
             (source_of self.old) result (source_of self.new) }
@@ -101,7 +102,7 @@ impl<'de, F: Flavor> Deserializer<'de, F> {
         Ok(n as u16)
     }
 
-    /// Reads a number of 32 bits: a varint of at most 5 bytes.
+    /// Reads a number of 32 bits.
     pub fn deserialize_u32(&mut self) -> Result<u32>
         ensures { ReadsNode F.Flavor (num_node 32)
             (source_of self.old) result (source_of self.new) }
@@ -110,7 +111,7 @@ impl<'de, F: Flavor> Deserializer<'de, F> {
         Ok(n as u32)
     }
 
-    /// Reads a number of 64 bits: a varint of at most 10 bytes.
+    /// Reads a number of 64 bits.
     pub fn deserialize_u64(&mut self) -> Result<u64>
         ensures { ReadsNode F.Flavor (num_node 64)
             (source_of self.old) result (source_of self.new) }
@@ -119,7 +120,7 @@ impl<'de, F: Flavor> Deserializer<'de, F> {
         Ok(n as u64)
     }
 
-    /// Reads a number of 128 bits: a varint of at most 19 bytes.
+    /// Reads a number of 128 bits.
     pub fn deserialize_u128(&mut self) -> Result<u128>
         ensures { ReadsNode F.Flavor (num_node 128)
             (source_of self.old) result (source_of self.new) }
@@ -128,7 +129,7 @@ impl<'de, F: Flavor> Deserializer<'de, F> {
         Ok(n)
     }
 
-    /// Reads a signed number of 16 bits: its zigzag encoding, a varint of at most 3 bytes.
+    /// Reads a signed number of 16 bits.
     pub fn deserialize_i16(&mut self) -> Result<i16>
         ensures { ReadsNode F.Flavor (int_node 16)
             (source_of self.old) result (source_of self.new) }
@@ -137,7 +138,7 @@ impl<'de, F: Flavor> Deserializer<'de, F> {
         Ok(zigzag::de_zig_zag_i16(folded as u16))
     }
 
-    /// Reads a signed number of 32 bits: its zigzag encoding, a varint of at most 5 bytes.
+    /// Reads a signed number of 32 bits.
     pub fn deserialize_i32(&mut self) -> Result<i32>
         ensures { ReadsNode F.Flavor (int_node 32)
             (source_of self.old) result (source_of self.new) }
@@ -146,7 +147,7 @@ impl<'de, F: Flavor> Deserializer<'de, F> {
         Ok(zigzag::de_zig_zag_i32(folded as u32))
     }
 
-    /// Reads a signed number of 64 bits: its zigzag encoding, a varint of at most 10 bytes.
+    /// Reads a signed number of 64 bits.
     pub fn deserialize_i64(&mut self) -> Result<i64>
         ensures { ReadsNode F.Flavor (int_node 64)
             (source_of self.old) result (source_of self.new) }
@@ -155,7 +156,7 @@ impl<'de, F: Flavor> Deserializer<'de, F> {
         Ok(zigzag::de_zig_zag_i64(folded as u64))
     }
 
-    /// Reads a signed number of 128 bits: its zigzag encoding, a varint of at most 19 bytes.
+    /// Reads a signed number of 128 bits.
     pub fn deserialize_i128(&mut self) -> Result<i128>
         ensures { ReadsNode F.Flavor (int_node 128)
             (source_of self.old) result (source_of self.new) }
@@ -199,8 +200,8 @@ impl<'de, F: Flavor> Deserializer<'de, F> {
         bytes::bytes_copy(alloc, &mut self.flavor)
     }
 
-    /// Reads the number of elements of a list, a varint of at most 10 bytes.
-    /// [`next_element`](SeqAccess::next_element) then reads each.
+    /// Reads the number of elements of a list. [`next_element`](SeqAccess::next_element) then reads
+    /// each.
     pub fn deserialize_seq(&mut self) -> Result<SeqAccess>
         ensures { ReadsNode F.Flavor (number_node 64)
             (source_of self.old) result (source_of self.new) }
@@ -209,9 +210,8 @@ impl<'de, F: Flavor> Deserializer<'de, F> {
         Ok(SeqAccess::new(count))
     }
 
-    /// Reads the number of pairs of a map, a varint of at most 10 bytes.
-    /// [`next_key`](MapAccess::next_key) and [`next_value`](MapAccess::next_value) then read each
-    /// in turn.
+    /// Reads the number of pairs of a map. [`next_key`](MapAccess::next_key) and
+    /// [`next_value`](MapAccess::next_value) then read each in turn.
     pub fn deserialize_map(&mut self) -> Result<MapAccess>
         ensures { ReadsNode F.Flavor (number_node 64)
             (source_of self.old) result (source_of self.new) }

@@ -1,4 +1,4 @@
-//! Laws of every type that is read. The functions do nothing: their contracts are the laws.
+//! Laws of every type that is read, as contracts of functions that do nothing.
 
 ghost use Rattle.std.specs.Prelude.{◌≡◌, ℕ, List, ◌++◌};
 ghost use Rattle.postcard_wire.specs.Tree.{Tree};

@@ -12,7 +12,6 @@ use std::io::Read;
 /// left are the ghost `remaining` of `Read`. [`Plain`](crate::plain::Plain) wraps a reader that has
 /// no such contract.
 pub trait Reader: Read + Drop {
-    /// No read fails while bytes are left.
     ghost steady: { Self → Type 0 };
 
     /// Reads into the front of `buf` and returns the number of bytes read, as `Read::read` does. If

@@ -18,8 +18,8 @@ pub trait MaxCases: Cased {
     /// The greatest size of a variant with its index, and its conditions, as in [`MaxSize`].
     ghost limit: { Option ℕ → SizeLimit };
 
-    /// Returns the greatest size in bytes of a variant with its index, or `None` if it does not fit
-    /// `usize`. The first variant has the index `index`.
+    /// Returns the greatest size of a variant with its index, or `None` if it does not fit `usize`.
+    /// The first variant has the index `index`.
     fn cases_size(index: Option<usize>) -> Option<usize>
         ensures { result ≡ (limit index).greatest };
 

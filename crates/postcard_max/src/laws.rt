@@ -1,4 +1,4 @@
-//! Laws of greatest sizes. The functions do nothing: their contracts are the laws.
+//! Laws of greatest sizes, as contracts of functions that do nothing.
 
 ghost use Rattle.std.specs.Prelude.{◌≤◌, length, Some, IfSome, [], ◌∷◌, ⊤};
 ghost use Rattle.postcard_wire.specs.Spelling.{canonical};

@@ -88,7 +88,7 @@ impl<F: Flavor> Serializer<F> {
         false
     }
 
-    /// Writes a `u8` as one byte.
+    /// Writes a `u8`.
     pub fn serialize_u8(&mut self, v: u8) -> Result<()>
         ensures { Wrote F.Flavor self.old.output (canonical (Byte v)) never ⊥
             result self.new.output }
@@ -96,7 +96,7 @@ impl<F: Flavor> Serializer<F> {
         self.push(v)
     }
 
-    /// Writes a `u16` as a varint of 1 to 3 bytes.
+    /// Writes a `u16`.
     pub fn serialize_u16(&mut self, v: u16) -> Result<()>
         ensures { Wrote F.Flavor self.old.output (canonical (Num 16 v)) never ⊥
             result self.new.output }
@@ -104,7 +104,7 @@ impl<F: Flavor> Serializer<F> {
         self.serialize_u32(u32::from(v))
     }
 
-    /// Writes a `u32` as a varint of 1 to 5 bytes.
+    /// Writes a `u32`.
     pub fn serialize_u32(&mut self, v: u32) -> Result<()>
         ensures { Wrote F.Flavor self.old.output (canonical (Num 32 v)) never ⊥
             result self.new.output }
@@ -112,7 +112,7 @@ impl<F: Flavor> Serializer<F> {
         self.varint(u64::from(v))
     }
 
-    /// Writes a `u64` as a varint of 1 to 10 bytes.
+    /// Writes a `u64`.
     pub fn serialize_u64(&mut self, v: u64) -> Result<()>
         ensures { Wrote F.Flavor self.old.output (canonical (Num 64 v)) never ⊥
             result self.new.output }
@@ -120,7 +120,7 @@ impl<F: Flavor> Serializer<F> {
         self.varint(v)
     }
 
-    /// Writes a `u128` as a varint of 1 to 19 bytes.
+    /// Writes a `u128`.
     pub fn serialize_u128(&mut self, v: u128) -> Result<()>
         ensures { Wrote F.Flavor self.old.output
             (canonical (Num 128 v)) never ⊥ result self.new.output }
@@ -129,7 +129,7 @@ impl<F: Flavor> Serializer<F> {
         self.extend(varint_u128(v, &mut out))
     }
 
-    /// Writes an `i8` as one byte, in two's complement.
+    /// Writes an `i8`.
     pub fn serialize_i8(&mut self, v: i8) -> Result<()>
         ensures { Wrote F.Flavor self.old.output (canonical (Byte (cast_unsigned w8 v))) never ⊥
             result self.new.output }
@@ -137,7 +137,7 @@ impl<F: Flavor> Serializer<F> {
         self.push(v.cast_unsigned())
     }
 
-    /// Writes the zigzag encoding of an `i16` as a varint of 1 to 3 bytes.
+    /// Writes an `i16`.
     pub fn serialize_i16(&mut self, v: i16) -> Result<()>
         ensures { Wrote F.Flavor self.old.output (canonical (Int 16 v)) never ⊥
             result self.new.output }
@@ -145,7 +145,7 @@ impl<F: Flavor> Serializer<F> {
         self.serialize_u16(zig_zag_i16(v))
     }
 
-    /// Writes the zigzag encoding of an `i32` as a varint of 1 to 5 bytes.
+    /// Writes an `i32`.
     pub fn serialize_i32(&mut self, v: i32) -> Result<()>
         ensures { Wrote F.Flavor self.old.output (canonical (Int 32 v)) never ⊥
             result self.new.output }
@@ -153,7 +153,7 @@ impl<F: Flavor> Serializer<F> {
         self.serialize_u32(zig_zag_i32(v))
     }
 
-    /// Writes the zigzag encoding of an `i64` as a varint of 1 to 10 bytes.
+    /// Writes an `i64`.
     pub fn serialize_i64(&mut self, v: i64) -> Result<()>
         ensures { Wrote F.Flavor self.old.output (canonical (Int 64 v)) never ⊥
             result self.new.output }
@@ -161,7 +161,7 @@ impl<F: Flavor> Serializer<F> {
         self.serialize_u64(zig_zag_i64(v))
     }
 
-    /// Writes the zigzag encoding of an `i128` as a varint of 1 to 19 bytes.
+    /// Writes an `i128`.
     pub fn serialize_i128(&mut self, v: i128) -> Result<()>
         ensures { Wrote F.Flavor self.old.output
             (canonical (Int 128 v)) never ⊥ result self.new.output }

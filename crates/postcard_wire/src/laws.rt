@@ -1,6 +1,5 @@
-//! Laws of bytes and of spellings. The functions do nothing: their contracts are the laws.
-//!
-//! A law over any set of trees is about a type that names the set.
+//! Laws of bytes and of spellings, as contracts of functions that do nothing. A law over any set of
+//! trees is about a type that names the set.
 
 ghost use Rattle.std.specs.Prelude.{◌≡◌, ℕ, ℤ, ◌+◌, ◌-◌, ◌≤◌, ◌*◌, ◌%◌, ◌^◌, ◌<◌, ◌⊎◌, ◌++◌, ◌∷◌};
 ghost use Rattle.std.specs.Prelude.{[], List, length, slice_index};

@@ -1,4 +1,5 @@
 //! The calls that read a whole container: its count, if it has one, and its elements in one loop.
+//! They fail with `OutOfMemory` if an allocation fails.
 
 ghost use Rattle.std.specs.Prelude.{◌≡◌, [], ◌∷◌, ◌++◌, IfErr, OnOk};
 ghost use Rattle.postcard_de.specs.Reads.{ReadsShape, source_of};
@@ -42,8 +43,7 @@ fn push_announced<T: Drop>(
 }
 
 impl<'de, F: Flavor> Deserializer<'de, F> {
-    /// Reads a list: a count, and that many elements. Also fails with `OutOfMemory` if an
-    /// allocation fails.
+    /// Reads a list: a count, and that many elements.
     pub(crate) fn list<T: Shaped + Drop, E: ReadElement<'de, T>>(
         &mut self,
         alloc: Global,
@@ -104,8 +104,7 @@ impl<'de, F: Flavor> Deserializer<'de, F> {
     }
 
     /// Reads a map: a count, and that many pairs of a key and a value, in any order of the keys. If
-    /// a key is repeated, its last value is kept. Also fails with `OutOfMemory` if an allocation
-    /// fails.
+    /// a key is repeated, its last value is kept.
     pub(crate) fn map<
         K: Shaped + Ord + Drop,
         V: Shaped + Drop,
@@ -127,7 +126,7 @@ impl<'de, F: Flavor> Deserializer<'de, F> {
     }
 
     /// Reads a set: a count, and that many keys, in any order. If a key is repeated, the first is
-    /// kept. Also fails with `OutOfMemory` if an allocation fails.
+    /// kept.
     pub(crate) fn set<K: Shaped + Ord + Drop, E: ReadElement<'de, K>>(
         &mut self,
         alloc: Global,

@@ -29,7 +29,7 @@ fn text_of(alloc: Global, bytes: Vec<u8>) -> Result<Option<CString>>
 }
 
 /// Reads the bytes before the NUL at the end. Fails with `SerdeDeCustom` if one of them is 0, once
-/// all were read, and with `OutOfMemory` if an allocation fails.
+/// all were read.
 impl<'de> Deserialize<'de> for CString {
     fn deserialize<F: Flavor>(alloc: Global, d: &mut Deserializer<'de, F>) -> Result<Self> {
         let bytes = <Vec<u8>>::deserialize(alloc, d)?;

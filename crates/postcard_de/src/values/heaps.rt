@@ -25,7 +25,7 @@ fn heap_of<T: Ord + Drop>(alloc: Global, items: Vec<T>) -> Result<BinaryHeap<T>>
 }
 
 /// Reads the elements in any order, and puts them into a heap in the order in which they were read,
-/// as the Rust crate does. Fails with `OutOfMemory` if an allocation fails.
+/// as the Rust crate does.
 impl<'de, T: Deserialize<'de> + Ord> Deserialize<'de> for BinaryHeap<T> {
     fn deserialize<F: Flavor>(alloc: Global, d: &mut Deserializer<'de, F>) -> Result<Self> {
         let items = <Vec<T>>::deserialize(alloc, d)?;

@@ -66,8 +66,7 @@ fn linked_of<T: Drop>(alloc: Global, items: Vec<T>) -> Result<LinkedList<T>>
     Ok(linked)
 }
 
-/// Reads the elements, and then moves each into a node. Fails with `OutOfMemory` if an allocation
-/// fails.
+/// Reads the elements, and then moves each into a node.
 impl<'de, T: Deserialize<'de>> Deserialize<'de> for LinkedList<T> {
     fn deserialize<F: Flavor>(alloc: Global, d: &mut Deserializer<'de, F>) -> Result<Self> {
         let elements: Vec<T> = Deserialize::deserialize(alloc, d)?;
