@@ -150,10 +150,9 @@ impl Checksum {
         }
     }
 
-    /// Checks that `behind`, what comes after the message `front`, begins with the checksum of that
-    /// message, and returns the bytes after the checksum. Fails with `DeserializeUnexpectedEnd` if
-    /// `behind` has fewer bytes than a checksum, and with `DeserializeBadCrc` if it begins with
-    /// another.
+    /// Returns the bytes after the checksum of the message `front`, with which `behind`, what comes
+    /// after the message, is to begin. Fails with `DeserializeUnexpectedEnd` if `behind` has fewer
+    /// bytes than a checksum, and with `DeserializeBadCrc` if it begins with another.
     pub fn after_trailer<'a>(self, front: &[u8], behind: &'a [u8]) -> WireResult<&'a [u8]>
         ensures follows { IfOk result (λ rest. IsTrailer self front.now behind.now rest.now) }
         ensures refused { IfErr result (λ e. HasNoTrailer self front.now behind.now e) }

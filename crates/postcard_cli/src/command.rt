@@ -1,5 +1,6 @@
 //! The commands, and how they are read from the words of a call. The functions below
-//! [`Command::from_words`] return `None` if the words are no call.
+//! [`Command::from_words`] serve the calls of the words that their pages name, and return `None` if
+//! the words are no call.
 
 ghost use Rattle.std.specs.Prelude.{◌≡◌, ◌≢◌, ℕ, [], ◌∷◌, codes, IfSome, IfNone, map, string_bytes};
 ghost use Rattle.postcard_cli.specs.Command.{IsCallOf, IsNoCall, IsWordOf, SaysLongest};
@@ -90,7 +91,7 @@ pub enum TypeWord<'a> {
 }
 
 impl<'a> TypeWord<'a> {
-    /// Returns the type of a word, or `None` if the word is neither a name nor an expression.
+    /// Returns the type of a word, or `None` if it is neither a name nor an expression.
     pub fn from_word(word: &'a str) -> Option<TypeWord<'a>>
         ensures found { IfSome result (λ kind. IsWordOf word.now kind) }
         ensures none { IfNone result ((kind : TypeWord) → IsWordOf word.now kind → ⊥) }
@@ -229,8 +230,8 @@ pub enum Command<'a> {
 }
 
 impl<'a> Command<'a> {
-    /// Returns the command of these words, or `None` if they are no call: if the command or the
-    /// type is unknown, or if there are too few or too many words.
+    /// Returns the command of these words, or `None` if the command or the type is unknown, or if
+    /// there are too few or too many words.
     pub fn from_words(words: &'a [String]) -> Option<Command<'a>>
         ensures found { IfSome result (λ command. IsCallOf (map string_bytes words.now) command) }
         ensures none { IfNone result (IsNoCall (map string_bytes words.now)) }
@@ -258,7 +259,7 @@ impl<'a> Command<'a> {
         }
     }
 
-    /// A call of one word.
+    /// One word.
     fn alone(command: &'a str) -> Option<Command<'a>>
         ensures found { IfSome result (λ found. IsCallOf (command.now ∷ []) found) }
         ensures none { IfNone result (IsNoCall (command.now ∷ [])) }
@@ -271,7 +272,7 @@ impl<'a> Command<'a> {
         }
     }
 
-    /// A call of two words, the second of which is a type.
+    /// A command and a type.
     fn of_type(command: &'a str, kind: &'a str) -> Option<Command<'a>>
         ensures found { IfSome result (λ found. IsCallOf (command.now ∷ kind.now ∷ []) found) }
         ensures none { IfNone result (IsNoCall (command.now ∷ kind.now ∷ [])) }
@@ -286,7 +287,7 @@ impl<'a> Command<'a> {
         }
     }
 
-    /// A call of three words: a command, a type and a text.
+    /// A command, a type and a text.
     fn of_text(command: &'a str, kind: &'a str, text: &'a str) -> Option<Command<'a>>
         ensures found { IfSome result
             (λ found. IsCallOf (command.now ∷ kind.now ∷ text.now ∷ []) found) }
@@ -308,8 +309,7 @@ impl<'a> Command<'a> {
         }
     }
 
-    /// A call of three words, the first of which is neither `explain` nor `crc`: a command,
-    /// `--raw`, and a type.
+    /// A command that is neither `explain` nor `crc`, `--raw`, and a type.
     fn of_input(command: &'a str, expression: &'a str) -> Option<Command<'a>>
         ensures found { IfSome result
             (λ found. IsCallOf (command.now ∷ codes "--raw" ∷ expression.now ∷ []) found) }
@@ -327,8 +327,8 @@ impl<'a> Command<'a> {
         }
     }
 
-    /// A call of three words, the second of which is neither `--raw` nor, after `frames`, `--json`,
-    /// but a name or an expression.
+    /// Three words, the second of which is neither `--raw` nor, after `frames`, `--json`, but a
+    /// name or an expression.
     fn of_known_type(command: &'a str, kind: &'a str, text: &'a str) -> Option<Command<'a>>
         ensures found { IfSome result
             (λ found. IsCallOf (command.now ∷ kind.now ∷ text.now ∷ []) found) }
@@ -357,7 +357,7 @@ impl<'a> Command<'a> {
         }
     }
 
-    /// A call of four words: a command, an option, and two words more.
+    /// A command, an option, and two words more.
     fn with_option(
         command: &'a str,
         option: &'a str,
@@ -376,8 +376,7 @@ impl<'a> Command<'a> {
         }
     }
 
-    /// A call of four words, the first of which is neither `explain` nor `frames`: a command, an
-    /// option, a type and a text.
+    /// A command that is neither `explain` nor `frames`, an option, a type and a text.
     fn of_message(
         command: &'a str,
         option: &'a str,
@@ -397,8 +396,7 @@ impl<'a> Command<'a> {
         }
     }
 
-    /// A call of four words, the first of which isn't `explain`: a command, `--json`, a type and a
-    /// text.
+    /// A command that isn't `explain`, `--json`, a type and a text.
     fn in_json(command: &'a str, kind: &'a str, text: &'a str) -> Option<Command<'a>>
         ensures found { IfSome result (λ found.
             IsCallOf (command.now ∷ codes "--json" ∷ kind.now ∷ text.now ∷ []) found) }
@@ -422,7 +420,7 @@ impl<'a> Command<'a> {
         }
     }
 
-    /// A call of four words: a command, `--frame`, a type and a text.
+    /// A command, `--frame`, a type and a text.
     fn framed(command: &'a str, kind: &'a str, text: &'a str) -> Option<Command<'a>>
         ensures found { IfSome result (λ found.
             IsCallOf (command.now ∷ codes "--frame" ∷ kind.now ∷ text.now ∷ []) found) }
@@ -442,8 +440,7 @@ impl<'a> Command<'a> {
         }
     }
 
-    /// A call of four words: a command, `--raw`, a type and a text, which is `-` unless the command
-    /// is `enc`.
+    /// A command, `--raw`, a type and a text, which is `-` unless the command is `enc`.
     fn raw(command: &'a str, kind: &'a str, text: &'a str) -> Option<Command<'a>>
         ensures found { IfSome result (λ found.
             IsCallOf (command.now ∷ codes "--raw" ∷ kind.now ∷ text.now ∷ []) found) }
@@ -461,8 +458,7 @@ impl<'a> Command<'a> {
         }
     }
 
-    /// A call of five words: a command, an option, the name of a checksum or another option, a type
-    /// and a text.
+    /// A command, an option, the name of a checksum or another option, a type and a text.
     fn checked(
         command: &'a str,
         option: &'a str,
@@ -494,7 +490,7 @@ impl<'a> Command<'a> {
         }
     }
 
-    /// `explain` with three words after it: an option, a type and a text.
+    /// `explain`, an option, a type and a text.
     fn of_explain(option: &'a str, kind: &'a str, text: &'a str) -> Option<Command<'a>>
         ensures found { IfSome result (λ found.
             IsCallOf (codes "explain" ∷ option.now ∷ kind.now ∷ text.now ∷ []) found) }
@@ -515,7 +511,7 @@ impl<'a> Command<'a> {
         }
     }
 
-    /// `frames` with three words after it: an option, and its value and a type, or a type and HEX.
+    /// `frames`, an option, and its value and a type, or a type and HEX.
     fn of_stream(option: &'a str, third: &'a str, fourth: &'a str) -> Option<Command<'a>>
         ensures found { IfSome result (λ found.
             IsCallOf (codes "frames" ∷ option.now ∷ third.now ∷ fourth.now ∷ []) found) }

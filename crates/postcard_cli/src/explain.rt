@@ -27,14 +27,14 @@ use std::alloc::Global;
 use std::fmt;
 use std::io::Write;
 
-/// The greatest number of columns of a line that is cut.
+/// The most columns of a line that is cut.
 pub const COLUMNS: usize = 80;
 
-/// The greatest number of bytes on a line that is cut, and of elements of a list that have lines of
+/// The most bytes on a line that is cut, and of elements of a list that have lines of
 /// their own then.
 pub const SHOWN: usize = 8;
 
-/// The greatest number of elements of one list that have lines of their own, unless all have.
+/// The most elements of one list that have lines of their own, unless all have.
 pub const ELEMENTS: u64 = 16;
 
 /// The greatest depth to which a line is indented.

@@ -13,13 +13,13 @@ use postcard_de_flavors::Reader;
 use std::alloc::Global;
 use std::io::Write;
 
-/// The greatest number of bytes of a frame, its zero included.
+/// The most bytes of a frame, its zero included.
 pub const LONGEST_FRAME: usize = 64;
 
-/// The greatest number of bytes of one read.
+/// The most bytes of one read.
 pub const CHUNK: usize = 16;
 
-/// The greatest number of reads.
+/// The most reads.
 pub const READS: usize = 65_536;
 
 /// Reads frames of lists of bytes until the input ends, and prints a line for each: `ok` and the

@@ -16,7 +16,7 @@ use std::alloc::Global;
 use std::io;
 use std::io::Write;
 
-/// The greatest number of bytes that are written at once.
+/// The most bytes that are written at once.
 const PIECE: usize = 64;
 
 /// Returns the bytes of a text of hexadecimal digits, of either case. Fails with `BadHex` if the

@@ -90,8 +90,8 @@ fn print_lines<W: Write>(
     Ok(())
 }
 
-/// Removes from the end the parts that can't be around a line of this depth, since they are as deep or
-/// deeper.
+/// Removes from the end the parts that are as deep as a line of this depth, or deeper, which can't
+/// be around it.
 fn leave(around: &mut Vec<Open>, depth: usize)
     ensures { (d : ℕ) → d ≤ depth → path_in around.new.items d ≡ path_in around.old.items d }
 {
@@ -99,7 +99,7 @@ fn leave(around: &mut Vec<Open>, depth: usize)
     around.truncate(count);
 }
 
-/// Returns the number of open parts without those at the end that are as deep as a line, or deeper.
+/// Returns the number of open parts without those at the end.
 fn count_around(around: &[Open], depth: usize) -> usize
     ensures within { result ≤ length around.now }
     ensures last { 0 < result → (part : Open) → part ≡ get_or around.now (result - 1) part

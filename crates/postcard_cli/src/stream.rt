@@ -333,7 +333,7 @@ impl Stream {
         self.start = self.count;
     }
 
-    /// Prints the line of the frame that is held, to which its zero has come.
+    /// Prints the line of the frame that is held, which has ended.
     fn print_frame<W: Write>(
         &mut self,
         alloc: Global,
@@ -459,9 +459,9 @@ fn print_message<W: Write>(
     }
 }
 
-/// Returns what is left of `behind`, what comes after the message with which `bytes` begin: all of it
-/// if messages have no checksum, and else what comes after the checksum, or `None` if `behind` doesn't
-/// begin with that.
+/// Returns what is left of `behind`, what comes after the message with which `bytes` begin: all of
+/// it if messages have no checksum, and else what comes after that, or `None` if it doesn't come
+/// first.
 fn rest_of<'a>(checksum: Option<Checksum>, bytes: &[u8], behind: &'a [u8]) -> Option<&'a [u8]>
     requires { length behind.now ≤ length bytes.now }
     ensures follows { IfSome result (λ rest. IsBehind checksum

@@ -10,7 +10,7 @@ use postcard_dyn_file::{FileError, FileProblem, expression};
 use postcard_dyn_schema::Problem;
 use std::alloc::Global;
 
-/// The greatest number of bytes of a file of types.
+/// The most bytes of a file of types.
 pub const LONGEST_FILE: usize = 1_048_576;
 
 /// The name of a type in a file.

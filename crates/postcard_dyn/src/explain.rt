@@ -111,7 +111,7 @@ struct Place<'a> {
 #[derive(Drop)]
 struct Walk<'a> {
     alloc: Global,
-    /// The greatest number of elements of one list that have lines of their own.
+    /// The most elements of one list that have lines of their own.
     most: u64,
     lines: Vec<Line<'a>>,
 }

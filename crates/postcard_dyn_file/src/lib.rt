@@ -69,8 +69,8 @@ pub fn find(alloc: Global, file: &str, name: &str) -> Result<Schema, FileError>
     }
 }
 
-/// Returns a type expression of the type with this name, which the file declares: what its declaration
-/// stands for. It begins with `(` or `{`.
+/// Returns what the declaration with this name stands for, a type expression that begins with `(`
+/// or `{`.
 ///
 /// # Errors
 ///

@@ -45,9 +45,8 @@ fn add(text: &mut String, word: &str, left: usize) -> Result<(), ProblemAt>
     }
 }
 
-/// Returns the place in the file of the word that has this character of the words' text, counted
-/// from 1: how many bytes of the file there are from the word on. Past the last word it is that of
-/// the last one.
+/// Returns how many bytes of the file there are from the word on that has this character of the
+/// words' text, counted from 1. Past the last word it is that of the last one.
 pub fn left_of(words: &[Token], character: usize) -> usize {
     let mut left = 0;
     let mut characters = character;

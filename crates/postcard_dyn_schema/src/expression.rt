@@ -52,7 +52,7 @@ use std::alloc::Global;
 /// How deep types may nest in brackets, where the outermost type has depth 1.
 const MAX_DEPTH: usize = 64;
 
-/// The greatest number of `?` after a type.
+/// The most `?` after a type.
 const MAX_OPTIONS: usize = 4;
 
 /// Reads a type expression, such as `{id: u16, label: str, samples: [i32]}`, and returns its type.
@@ -429,7 +429,6 @@ fn begins_field(text: &[u8]) -> bool
     !word.is_empty() && take(&mut rest, b':')
 }
 
-/// Reads the fields of a struct after its `{`, and the `}`.
 #[cycle(expression)]
 fn read_fields(alloc: Global, rest: &mut &[u8], depth: usize) -> Result<Schema, ProblemAt>
     ensures spelled { IfOk result (λ schema. TakesPhrase (IsFieldsRest (IsType depth) schema)
@@ -461,7 +460,6 @@ fn read_fields(alloc: Global, rest: &mut &[u8], depth: usize) -> Result<Schema, 
     Err(problem_at(Problem::FieldExpected, rest))
 }
 
-/// Reads the key type and the value type of a map after its `{`, and the `}`.
 #[cycle(expression)]
 fn read_map(alloc: Global, rest: &mut &[u8], depth: usize) -> Result<Schema, ProblemAt>
     ensures spelled { IfOk result (λ schema. TakesPhrase (IsMapRest (IsType depth) schema)
@@ -478,7 +476,6 @@ fn read_map(alloc: Global, rest: &mut &[u8], depth: usize) -> Result<Schema, Pro
     map_of(alloc, key, value, start)
 }
 
-/// Reads an enum: its variants, with `|` between them.
 #[cycle(expression)]
 fn read_enum(alloc: Global, rest: &mut &[u8], depth: usize) -> Result<Schema, ProblemAt>
     ensures spelled { IfOk result (λ schema. TakesPhrase (IsEnumText (IsType depth) schema)
@@ -532,7 +529,6 @@ fn read_variant(
     named(alloc, name, content, start)
 }
 
-/// Reads the content of a variant: a tuple, a struct, or nothing.
 #[cycle(expression)]
 fn read_content(alloc: Global, rest: &mut &[u8], depth: usize) -> Result<Schema, ProblemAt>
     ensures spelled { IfOk result (λ schema. TakesPhrase (IsContent (IsType depth) schema)

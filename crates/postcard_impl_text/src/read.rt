@@ -12,7 +12,7 @@ use postcard_dyn_file::token::{Token, after_word, is_at, is_name_at, token_at};
 use postcard_impl_error::{ImplProblem, ImplProblemAt};
 use std::alloc::Global;
 
-/// The greatest number of fields of a struct or a variant: twelve tuples of five.
+/// The most fields of a struct or a variant: twelve tuples of five.
 const MAX_FIELDS: usize = 60;
 
 /// The names of variables that the impls have themselves.

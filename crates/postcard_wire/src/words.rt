@@ -159,8 +159,8 @@ pub struct Run {
 }
 
 /// Cuts the next numbers of `bits` bits, which must be 16, 32 or 64, from the front of a block, for
-/// which [`ends`] returned `ends`. Returns `None` if one of them has more than eight bytes or is
-/// out of range, or if they have more than 64 bytes together.
+/// which [`ends`] returned `ends`. Returns `None` if one has more than eight bytes or is out of
+/// range, or if they have more than 64 bytes together.
 #[inline(always)]
 pub fn cut(block: &[u8; BLOCK], ends: u64, bits: u32) -> Option<Run>
     requires { IsNarrow bits }
