@@ -30,8 +30,7 @@ use std::io::Write;
 /// The most columns of a line that is cut.
 pub const COLUMNS: usize = 80;
 
-/// The most bytes on a line that is cut, and of elements of a list that have lines of
-/// their own then.
+/// The most bytes on a line that is cut.
 pub const SHOWN: usize = 8;
 
 /// The most elements of one list that have lines of their own, unless all have.

@@ -112,7 +112,7 @@ pub(crate) enum Form {
 }
 
 /// Returns the form of each item. Fails at the first item that has itself in it, and else at the
-/// first field whose type has no impls that would be proved.
+/// first field whose type has no impls that would be proved, and with `OutOfMemory`.
 pub(crate) fn forms(
     alloc: Global,
     file: &str,
@@ -187,14 +187,14 @@ fn is_signed_alias(tokens: &[Token], items: &[Item], token: Token) -> bool {
     false
 }
 
-/// Returns the index of the item that has the token's text as its name, or `None` if none has.
+/// Returns the index of the item with the token's text as its name, if there is one.
 fn named(items: &[Item], token: Token) -> Option<usize> {
     items
         .iter()
         .position(|item| token.says(item.name.as_bytes()))
 }
 
-/// Returns `false` for each item.
+/// Returns `false` for each item, or fails with `OutOfMemory`.
 fn flags(alloc: Global, items: &[Item]) -> Result<Vec<bool>, ImplProblemAt> {
     let mut flags = Vec::new(alloc);
     for _ in items {
@@ -223,8 +223,8 @@ fn check_recursion(alloc: Global, tokens: &[Token], items: &[Item]) -> Result<()
     Ok(())
 }
 
-/// Returns the index of the first token in the types of an item that names one that isn't done, or `None`
-/// if none does.
+/// Returns the index of the first token in the types of an item that [`open_in`] finds, if there is
+/// one.
 fn first_open(tokens: &[Token], items: &[Item], done: &[bool], item: &Item) -> Option<usize> {
     if item.kind == Kind::Alias {
         return open_in(tokens, items, done, item.words);
@@ -239,7 +239,8 @@ fn first_open(tokens: &[Token], items: &[Item], done: &[bool], item: &Item) -> O
     None
 }
 
-/// Returns the index of the first of these tokens that names an item that isn't done.
+/// Returns the index of the first of these tokens that names an item that isn't done, if there is
+/// one.
 fn open_in(tokens: &[Token], items: &[Item], done: &[bool], words: Span) -> Option<usize> {
     for at in words.start..words.end {
         if let Some(token) = token_at(tokens, at) {
@@ -253,7 +254,7 @@ fn open_in(tokens: &[Token], items: &[Item], done: &[bool], words: Span) -> Opti
     None
 }
 
-/// Returns of each item whether it holds no memory, unless one of its parameters does.
+/// Returns of each item whether [`is_light`] holds of it, or fails with `OutOfMemory`.
 fn light(alloc: Global, tokens: &[Token], items: &[Item]) -> Result<Vec<bool>, ImplProblemAt> {
     let mut light = flags(alloc, items)?;
     for _ in items {
@@ -395,7 +396,8 @@ fn names_seen(tokens: &[Token], items: &[Item], field: &Field) -> bool {
     false
 }
 
-/// Returns what is wrong with the token at the index of a type that ends before `end`.
+/// Returns what is wrong with the token at the index of a type that ends before `end`, if anything
+/// is.
 fn refusal_at(
     file: &str,
     tokens: &[Token],
@@ -436,7 +438,7 @@ fn has_count(tokens: &[Token], open: usize) -> bool {
     false
 }
 
-/// Returns what is wrong with the reference whose `&` is at the index.
+/// Returns what is wrong with the reference whose `&` is at the index, if anything is.
 fn reference_problem(file: &str, tokens: &[Token], item: &Item, at: usize) -> Option<ImplProblem> {
     let next = at.saturating_add(1);
     if is_at(tokens, next, b"mut") {
