@@ -12,10 +12,10 @@
 //!
 //! # Errors of encoding
 //!
-//! Each call that encodes says when it fails with `SerializeBufferFull`. There are two exceptions.
-//! For a type whose text may fail to print, the error may be `CollectStrError` instead. A value
-//! that refuses itself may fail in any case, also with an error of its own; if there is room for
-//! its encoding, only with such an error.
+//! Each call that encodes says when it fails with `SerializeBufferFull`, with two exceptions. For a
+//! type whose text may fail to print, the error may be `CollectStrError` instead. A value that
+//! refuses itself may fail in any case, also with an error of its own; if there is room for its
+//! encoding, only with such an error.
 //!
 //! # Contents
 //!

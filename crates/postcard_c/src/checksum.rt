@@ -16,7 +16,7 @@ use postcard_fixint::FixInt;
 
 /// The generator of CRC-32/ISO-HDLC without its highest power, the lowest bit first.
 const GENERATOR_32: u32 = 0xedb8_8320;
-/// That of CRC-16/IBM-SDLC.
+/// The generator of CRC-16/IBM-SDLC, likewise.
 const GENERATOR_16: u32 = 0x8408;
 
 /// Returns the register after one more power of x.

@@ -148,7 +148,6 @@ pub extern "C" fn postcard_get_count(reader: &mut Reader<'_>, value: &mut usize)
     settle(reader, source, read, value)
 }
 
-/// Returns a number of 64 bits that was read as a count, or the error.
 fn count_of(read: Result<u64>) -> Result<usize>
     ensures { result ≡ read }
 {
@@ -223,7 +222,6 @@ pub extern "C" fn postcard_get_char(reader: &mut Reader<'_>, code: &mut u32) -> 
     settle(reader, source, read, code)
 }
 
-/// Returns the code of a character that was read, or the error.
 fn code_of(read: Result<char>) -> Result<u32>
     ensures { result ≡ read }
 {
@@ -245,7 +243,6 @@ pub extern "C" fn postcard_get_str<'a>(reader: &mut Reader<'a>, text: &mut &'a [
     settle(reader, source, read, text)
 }
 
-/// Returns the bytes of a text that was read, or the error.
 fn bytes_of(read: Result<&str>) -> Result<&[u8]>
     ensures { AreBytesOf read.entry result }
 {

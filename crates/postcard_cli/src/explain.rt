@@ -203,7 +203,6 @@ fn print_bytes<W: Write>(layout: Layout, bytes: &[u8], output: &mut W) -> Result
     Ok(())
 }
 
-/// Prints bytes as hexadecimal, each with a blank after it.
 fn print_spaced<W: Write>(bytes: &[u8], output: &mut W) -> Result<(), Failure>
     ensures printed { OnOk result (Appends (W.contents output.old) (W.contents output.new)
         (spaced bytes.now)) }

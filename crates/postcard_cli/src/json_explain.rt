@@ -163,7 +163,6 @@ fn push_label(label: Label<'_>, path: &mut String) -> Result<(), Failure>
     }
 }
 
-/// Opens the part of a line with this path.
 fn enter(around: &mut Vec<Open>, line: &Line<'_>, path: String) -> Result<(), Failure>
     ensures added { OnOk result ((part : Open) × (around.new.items ≡ around.old.items ++ part ∷ [])
         × (part.depth ≡ line.now.depth)

@@ -34,7 +34,6 @@ pub fn print<W: Write>(alloc: Global, expression: &str, output: &mut W) -> Resul
     }
 }
 
-/// Prints the least and the greatest number of bytes, of a message and of its frame, on a line.
 fn print_bounded<W: Write>(
     least: Option<usize>,
     greatest: usize,

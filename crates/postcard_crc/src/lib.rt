@@ -3,10 +3,10 @@
 //!
 //! # Errors of encoding
 //!
-//! Each call that encodes says when it fails with `SerializeBufferFull`. There are two exceptions.
-//! For a type whose text may fail to print, the error may be `CollectStrError` instead. A value
-//! that refuses itself may fail in any case, also with an error of its own; if there is room for
-//! the message, only with such an error.
+//! Each call that encodes says when it fails with `SerializeBufferFull`, with two exceptions. For a
+//! type whose text may fail to print, the error may be `CollectStrError` instead. A value that
+//! refuses itself may fail in any case, also with an error of its own; if there is room for the
+//! message, only with such an error.
 //!
 //! In reading order: [`ser`], [`de`], and [`ser_flavors`] and [`de_flavors`] with the names of the
 //! Rust crate for each width.

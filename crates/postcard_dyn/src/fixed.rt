@@ -135,7 +135,6 @@ pub fn are_bits(integer: Integer, bits: u128) -> bool
     bits / 2 < half_of(integer)
 }
 
-/// Returns half of the number of values that the type has.
 fn half_of(integer: Integer) -> u128
     ensures { 2 * result ≡ 256 ^ size_of integer }
 {

@@ -132,7 +132,6 @@ fn plain_text<'a>(tokens: &[Token<'a>], at: usize) -> &'a [u8]
     tokens[at].text
 }
 
-/// Returns whether this sign is at the index, with this number of brackets around it.
 fn is_sign(tokens: &[Token], at: usize, depth: usize, sign: &[u8]) -> bool
     requires { at < length tokens.now }
     ensures { Decides result (IsSign depth sign.now tokens.now at) }

@@ -37,7 +37,6 @@ fn number_of(digits: &[u8]) -> usize {
     }
 }
 
-/// Returns what is left of an array from the item at the index on.
 fn from_item(array: &[u8], index: usize) -> &[u8] {
     let mut rest = array;
     let _ = take(&mut rest, b'[');
@@ -72,7 +71,6 @@ fn from_member<'a>(object: &'a [u8], name: &[u8]) -> &'a [u8] {
     found
 }
 
-/// Returns whether a text is the name in quotes.
 fn is_quoted(text: &[u8], name: &[u8]) -> bool {
     match text.strip_prefix(b"\"") {
         Some(behind) => behind.strip_suffix(b"\"") == Some(name),

@@ -105,7 +105,6 @@ fn are_underscores(bytes: &[u8]) -> bool
     bytes.iter().all(|byte| *byte == b'_')
 }
 
-/// Returns whether each byte is a digit of the radix or a `_`.
 fn are_of_digits(bytes: &[u8], radix: u32) -> bool
     requires low { 2 ≤ radix }
     requires high { radix ≤ 16 }

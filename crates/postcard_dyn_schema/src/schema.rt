@@ -10,8 +10,8 @@ ghost use Rattle.postcard_dyn_schema.specs.Meaning.{types_of};
 use crate::fixed::{ByteOrder, Integer};
 
 /// A type without parts. Each is read and written by one call of `Deserializer` and `Serializer`,
-/// but for the numbers of a fixed width, and for the floats, whose bits are kept, so that each NaN
-/// is.
+/// but for the numbers of a fixed width, and for the floats, whose bits are kept, also those of a
+/// NaN.
 ///
 /// `usize` and `isize` are `U64` and `I64` here, since the format writes them as numbers of 64
 /// bits.

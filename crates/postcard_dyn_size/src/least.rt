@@ -51,7 +51,6 @@ fn min_array_size(element: &Schema, count: usize) -> Option<usize>
     array_size(count, min_size(element))
 }
 
-/// Returns the least number of bytes of the parts in a row.
 #[cycle(least)]
 fn min_group_size(parts: &Vec<Schema>) -> Option<usize>
     ensures { IsLeastSize result (IsGroup (reads_all (types_of parts.now.items))) }

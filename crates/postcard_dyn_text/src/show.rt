@@ -114,7 +114,6 @@ fn separate<W: Write>(index: usize, separator: &str, f: &mut Formatter<W>) -> fm
     f.write_str(separator)
 }
 
-/// Prints the elements of a list or an array between `[` and `]`.
 #[cycle(show)]
 fn show_list<W: Write>(element: &Schema, items: &Vec<Value>, f: &mut Formatter<W>) -> fmt::Result
     ensures { DisplaysOnOk W.write_str_gives f.old result
@@ -128,7 +127,6 @@ fn show_list<W: Write>(element: &Schema, items: &Vec<Value>, f: &mut Formatter<W
     f.write_str("]")
 }
 
-/// Prints the entries of a map between `{` and `}`.
 #[cycle(show)]
 fn show_map<W: Write>(entry: &Schema, items: &Vec<Value>, f: &mut Formatter<W>) -> fmt::Result
     ensures { DisplaysOnOk W.write_str_gives f.old result
@@ -142,7 +140,6 @@ fn show_map<W: Write>(entry: &Schema, items: &Vec<Value>, f: &mut Formatter<W>) 
     f.write_str("}")
 }
 
-/// Prints an entry of a map: its key, `=>` and its value.
 #[cycle(show)]
 fn show_entry<W: Write>(entry: &Schema, item: &Value, f: &mut Formatter<W>) -> fmt::Result
     ensures { DisplaysOnOk W.write_str_gives f.old result

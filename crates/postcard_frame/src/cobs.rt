@@ -97,7 +97,6 @@ struct Decoded<'a> {
     len: usize,
 }
 
-/// Decodes the frame at the front of a buffer in place.
 fn decode<'a>(s: &'a mut [u8]) -> Decoded<'a>
     ensures same_loan { result.all.ghost_name ≡ s.entry.ghost_name }
     ensures decodes { IsDecoded s.old result }

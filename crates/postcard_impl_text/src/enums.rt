@@ -199,7 +199,6 @@ fn add_of_shape(out: &mut Text, item: &Item, member: &Member, word: &str) {
     out.add(")");
 }
 
-/// Adds the shape of the enum, as it is quoted in clauses.
 fn add_shape(out: &mut Text, item: &Item) {
     out.add_all(&["⟦<", item.name]);
     add_arguments(out, item, Lifetimes::Own);

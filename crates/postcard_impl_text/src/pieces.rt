@@ -78,7 +78,6 @@ fn add_group(out: &mut Text, fields: &[Field], piece: Piece) {
     }
 }
 
-/// Adds the tuple of two fields or more.
 fn add_several(out: &mut Text, fields: &[Field], piece: Piece) {
     let mut separator = "(";
     for field in fields {

@@ -185,7 +185,6 @@ fn lifetimes<'a>(
     Ok(lifetimes)
 }
 
-/// Returns the parameters that are types, of those that these tokens are.
 fn types<'a>(
     alloc: Global,
     file: &'a str,
@@ -233,7 +232,6 @@ fn whole<'a>(
     Ok(members)
 }
 
-/// Returns the variants of an enum whose body begins at the index.
 fn variants<'a>(
     alloc: Global,
     file: &'a str,
@@ -352,7 +350,6 @@ fn field<'a>(
     }
 }
 
-/// Returns the field of a tuple with this type.
 fn tuple_field<'a>(
     alloc: Global,
     file: &'a str,

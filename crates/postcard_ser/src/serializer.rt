@@ -72,7 +72,6 @@ impl<F: Flavor> Serializer<F> {
         self.output.try_varint(n).map_err(refusal)
     }
 
-    /// Writes the count of the bytes, and then the bytes.
     fn extend_counted(&mut self, piece: &[u8]) -> Result<()>
         ensures { Wrote F.Flavor self.old.output (digits (length piece.now) ++ piece.now) never ⊥
             result self.new.output }

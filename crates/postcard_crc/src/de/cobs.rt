@@ -68,7 +68,6 @@ struct DecodedFrame<'a> {
     data_len: usize,
 }
 
-/// Decodes the frame at the front of a buffer in place.
 fn decode_frame<'a>(s: &'a mut [u8]) -> DecodedFrame<'a>
     ensures same_loan { result.all.ghost_name ≡ s.entry.ghost_name }
     ensures decodes { IsDecodedFrame s.old result }

@@ -1,6 +1,6 @@
-//! Slices in a box, an `Rc` or an `Arc`, and slices that may be borrowed, and are owned once read:
-//! read as a `Vec`, with the same errors. An `Rc` or an `Arc` is allocated after that, and may fail
-//! with `OutOfMemory`.
+//! Slices in a box, an `Rc` or an `Arc`, and slices that may be borrowed, as owned ones: read as a
+//! `Vec`, with the same errors. An `Rc` or an `Arc` is allocated after that, and may fail with
+//! `OutOfMemory`.
 
 use crate::deserialize::Deserialize;
 use crate::deserializer::Deserializer;

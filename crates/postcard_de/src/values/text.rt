@@ -1,6 +1,5 @@
-//! Texts: `&str`, which borrows from the source, and texts that are owned or shared, or owned once
-//! read, which are read as a `String`, with the same errors. An `Rc` or an `Arc` is allocated after
-//! that, and may fail with `OutOfMemory`.
+//! Texts: `&str`, which borrows from the source, and the others, which are read as a `String`, with
+//! the same errors. An `Rc` or an `Arc` is allocated after that, and may fail with `OutOfMemory`.
 
 ghost use Rattle.postcard_de.specs.Reads.{ReadsNode, lent_text_node, text_node, source_of};
 
