@@ -89,7 +89,8 @@ pub fn print<R: Reader, W: Write>(
     }
 }
 
-/// Prints each line of an explanation as a row, with the offset of its bytes in the message.
+/// Prints each line of an explanation as a row, with the offset of its bytes in the message. Fails
+/// with `Output`, and with `Library(OutOfMemory)`.
 fn print_lines<W: Write>(
     alloc: Global,
     lines: &Vec<Line<'_>>,

@@ -271,7 +271,8 @@ impl Stream {
     }
 
     /// Adds bytes without a zero to those held of their frame. If it becomes too long, prints its
-    /// line, holds nothing, and drops what comes of it from then on.
+    /// line, holds nothing, and drops what comes of it from then on. Fails with `OutOfMemory` if
+    /// they can't be held, and with `Output` if the line can't be written.
     fn hold<W: Write>(
         &mut self,
         format: &Format,
