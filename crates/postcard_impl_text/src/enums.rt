@@ -28,7 +28,6 @@ const WRITES: &str = "        serializer: &mut postcard::Serializer<F>,
     ) -> postcard::Result<()>
 ";
 
-/// Adds the impls of an enum.
 pub(crate) fn add_enum(out: &mut Text, home: Home, item: &Item, form: Form) {
     add_row_type(out, item);
     if form == Form::Seen {
@@ -68,7 +67,6 @@ fn add_row_type(out: &mut Text, item: &Item) {
     out.add(";\n");
 }
 
-/// Adds the `ghost use` line of the enum's own name.
 fn add_enum_use(out: &mut Text, home: Home, item: &Item) {
     out.add_all(&["    ghost use Rattle.", home.library, ".specs.declared"]);
     if !home.is_root() {
@@ -133,7 +131,6 @@ const PLAIN: [&str; 16] = [
     "f64", "bool", "String",
 ];
 
-/// Adds the functions that write the variants which have one.
 fn add_writers(out: &mut Text, home: Home, item: &Item) {
     if !item.members.iter().any(|member| has_writer(item, member)) {
         return;
@@ -151,7 +148,6 @@ fn add_writers(out: &mut Text, home: Home, item: &Item) {
     out.add("}\n");
 }
 
-/// Adds the function that writes a variant.
 fn add_writer(out: &mut Text, item: &Item, member: &Member, index: usize) {
     out.add_all(&["\n    /// Writes the variant `", member.name]);
     out.add("`.\n    fn write_");
@@ -203,14 +199,12 @@ fn add_of_shape(out: &mut Text, item: &Item, member: &Member, word: &str) {
     out.add(")");
 }
 
-/// Adds the shape of the enum, as it is quoted in clauses.
 fn add_shape(out: &mut Text, item: &Item) {
     out.add_all(&["⟦<", item.name]);
     add_arguments(out, item, Lifetimes::Own);
     out.add(" as postcard::Shaped>⟧.shape");
 }
 
-/// Adds the body of a `serialize`, and the end of its impl.
 fn add_serialize_body(out: &mut Text, item: &Item) {
     out.add("        match self {\n");
     let mut index: usize = 0;
@@ -234,7 +228,6 @@ fn add_serialize_arm(out: &mut Text, item: &Item, member: &Member, index: usize)
     out.add(",\n");
 }
 
-/// Adds the call of the function that writes a variant.
 fn add_writer_call(out: &mut Text, member: &Member, index: usize) {
     out.add("Self::write_");
     out.add_number(index);

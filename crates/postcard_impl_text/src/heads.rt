@@ -1,4 +1,4 @@
-//! The heads of impls and of their functions.
+//! The text of the heads of impls and of their functions, and of the bodies that name no field.
 
 use crate::item::Item;
 use crate::pieces::{Lifetimes, add_arguments, add_declared};
@@ -43,7 +43,6 @@ pub(crate) enum Trait {
 }
 
 impl Trait {
-    /// Returns its path.
     fn name(self) -> &'static str {
         match self {
             Trait::Shaped => "postcard::Shaped",
@@ -78,7 +77,6 @@ impl Trait {
     }
 }
 
-/// Adds the head of an impl of a trait for a type.
 pub(crate) fn add_head(out: &mut Text, item: &Item, of: Trait) {
     out.add("\nimpl");
     add_declared(out, item, of.lifetimes(), of.bound());

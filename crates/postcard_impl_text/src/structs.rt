@@ -9,7 +9,6 @@ use crate::item::{Item, Member};
 use crate::pieces::{Lifetimes, Piece, add_tuple, add_value};
 use crate::text::Text;
 
-/// Adds the impls of a struct.
 pub(crate) fn add_struct(out: &mut Text, item: &Item, form: Form) {
     let Some(member) = item.members.first() else {
         return;
@@ -28,7 +27,6 @@ pub(crate) fn add_struct(out: &mut Text, item: &Item, form: Form) {
     add_reads(out, item, member, form);
 }
 
-/// Adds the impl of `Shaped`.
 fn add_shape(out: &mut Text, item: &Item, member: &Member) {
     let fields = member.fields.as_slice();
     add_head(out, item, Trait::Shaped);
@@ -54,7 +52,6 @@ fn add_from_parts(out: &mut Text, item: &Item, member: &Member) {
     out.add("\n    }\n}\n");
 }
 
-/// Adds the body of a `serialize`, and the end of its impl.
 fn add_serialize_body(out: &mut Text, member: &Member) {
     let fields = member.fields.as_slice();
     if fields.len() < 2 {

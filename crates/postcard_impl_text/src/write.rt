@@ -1,4 +1,5 @@
-//! The impls of the types of a file, as they are written between its marks.
+//! The text of all impls of a file: what is read by parts first, if a type needs it, and then each
+//! type's.
 
 use crate::decoded::add_decoded;
 use crate::enums::add_enum;
