@@ -37,6 +37,8 @@
 //!   names end in `_crc32`, write values with a checksum after each, and check it when they read
 //!   (`postcard_crc`, `postcard_crc_frames`).
 //! - `fixint` writes and reads numbers at their full width (all of `postcard_fixint`).
+//! - `write_variant`, `FromParts` and `read_parts` are for the impls of types of your own (module
+//!   `own`).
 //! - `laws` has the laws that tie both directions together.
 #![tactic(auto)]
 
@@ -46,6 +48,7 @@ mod de;
 pub mod de_flavors;
 pub mod experimental;
 pub mod laws;
+mod own;
 mod ser;
 pub mod ser_flavors;
 mod with_flavor;
@@ -55,6 +58,7 @@ pub use cobs::{
     to_vec_cobs,
 };
 pub use de::from_io;
+pub use own::{FromParts, read_parts, write_variant};
 pub use postcard_accumulator::{Answer, ReadEnd, read_frames};
 pub use postcard_crc::de::{
     from_bytes as from_bytes_crc32, take_from_bytes as take_from_bytes_crc32,
