@@ -8,7 +8,7 @@ ghost use Rattle.postcard_shape.specs.Lists.{SameList};
 ghost use Rattle.example_config.specs.declared.config.Config.{Config};
 
 use crate::config::{Config, Filter};
-use postcard::de_flavors::Source;
+use postcard::de_flavors::Reader;
 use postcard::{Result, Shaped, from_io, to_io};
 use std::alloc::Global;
 use std::io::Write;
@@ -35,7 +35,7 @@ pub fn save<W: Write + Drop>(file: W, config: &Config) -> Result<W>
 /// Fails as `from_bytes` does if the file begins with no configuration, with
 /// `DeserializeUnexpectedEnd` also if it can't be read, or if `scratch` is too short, and with
 /// `OutOfMemory` if an allocation fails.
-pub fn load<R: Source>(alloc: Global, file: R, scratch: &mut [u8]) -> Result<Config>
+pub fn load<R: Reader>(alloc: Global, file: R, scratch: &mut [u8]) -> Result<Config>
     ensures comes_back { (saved : Config) → ⟦<Config as Shaped>⟧.shape.fits saved → R.steady file
         → Begins (R.remaining file) (canonical (⟦<Config as Shaped>⟧.shape.tree saved))
         → length (canonical (⟦<Config as Shaped>⟧.shape.tree saved)) ≤ length scratch.old

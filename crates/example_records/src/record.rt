@@ -6,7 +6,7 @@ ghost use Rattle.postcard_wire.specs.Spelling.{canonical};
 ghost use Rattle.postcard_de_flavors.specs.Source.{Begins};
 ghost use Rattle.example_records.specs.declared.record.Record.{Record};
 
-use postcard::de_flavors::Source;
+use postcard::de_flavors::Reader;
 use postcard::ser_flavors::Flavor;
 use postcard::{
     FromRepr, Repr, Result, Serialize, SerializeRepr, Serializer, Shaped, from_io, to_io,
@@ -65,7 +65,7 @@ pub fn append<W: Write + Drop>(file: W, item: &Record) -> Result<W>
 /// Fails with `DeserializeUnexpectedEnd` if the record is unfinished, if its note is longer than
 /// `scratch`, or if the file can't be read, and as `from_bytes` does if the record is damaged. The
 /// file is then dropped.
-pub fn read<'a, R: Source + 'a>(
+pub fn read<'a, R: Reader + 'a>(
     alloc: Global,
     file: R,
     scratch: &'a mut [u8],

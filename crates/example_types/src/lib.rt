@@ -13,7 +13,7 @@
 //! - [`tally`]: a list of lists of elements without bytes, with a capacity.
 //! - [`store`]: a struct and an enum that have a greatest size, and a store of that size.
 //! - [`flavor`], [`trailer`]: writing flavors. [`limited`]: a reading flavor.
-//! - [`source`]: a reader from which a source reads.
+//! - [`reader`]: a reader from which a source reads.
 //! - [`theorems`]: theorems that a caller proves of its own functions.
 #![tactic(auto)]
 
@@ -25,9 +25,9 @@ pub mod limited;
 pub mod numbers;
 pub mod pair;
 pub mod percent;
+pub mod reader;
 pub mod reading;
 pub mod sample;
-pub mod source;
 pub mod station;
 pub mod store;
 pub mod tally;

@@ -10,7 +10,7 @@ ghost use Rattle.postcard_shape.specs.Shape.{Grows};
 ghost use Rattle.postcard.specs.Front.{ReadsReader};
 
 use postcard_de::{Deserialize, Deserializer};
-use postcard_de_flavors::Source;
+use postcard_de_flavors::Reader;
 use postcard_de_flavors::io::io::IOReader;
 use postcard_wire::{Error, Result};
 use std::alloc::Global;
@@ -26,7 +26,7 @@ use std::alloc::Global;
 ///
 /// If the reader knows its bytes, the value is that of a front of them, and just that front was
 /// read. Over a steady reader it succeeds if a front spells a tree that the type reads, the scratch
-/// is at least as long as that front, and no allocation fails. Wrap a reader that isn't a `Source`
+/// is at least as long as that front, and no allocation fails. Wrap a reader that isn't a `Reader`
 /// in [`Plain`](crate::de_flavors::Plain).
 ///
 /// # Errors
@@ -34,7 +34,7 @@ use std::alloc::Global;
 /// Fails as [`take_from_bytes`](crate::take_from_bytes), and with `DeserializeUnexpectedEnd` also
 /// if the reader fails or the scratch is too short. After a failure the reader and the scratch are
 /// dropped.
-pub fn from_io<'a, T: Deserialize<'a>, R: Source + 'a>(
+pub fn from_io<'a, T: Deserialize<'a>, R: Reader + 'a>(
     alloc: Global,
     from: (R, &'a mut [u8]),
 ) -> Result<(T, (R, &'a mut [u8]))>

@@ -11,7 +11,7 @@ ghost use Rattle.postcard.specs.Front.{ReadsReader};
 use crate::cobs::to_allocvec_cobs;
 use crate::with_flavor::to_allocvec;
 use postcard_de::{Deserialize, DeserializeOwned, Owned, from_bytes};
-use postcard_de_flavors::Source;
+use postcard_de_flavors::Reader;
 use postcard_frame::from_bytes_cobs;
 use postcard_ser::Serialize;
 use postcard_wire::Result;
@@ -38,7 +38,7 @@ pub fn decodes_alike<'a, T: Deserialize<'a>>()
 /// `from_io` and of `take_from_bytes` look alike, and what stays unread is the rest. If `from_io`
 /// succeeds, the bytes can be decoded; and if they can, `from_io` succeeds over a steady reader
 /// with scratch as long as the bytes, unless an allocation fails.
-pub fn reads_alike<'a, T: Deserialize<'a>, R: Source>()
+pub fn reads_alike<'a, T: Deserialize<'a>, R: Reader>()
     ensures alike { (old new : R) (all scratch room rest : List ℕ) (v w : T)
         → R.remaining old ≡ Some all
         → ReadsReader T.shape.reads T.shape.value R.remaining R.steady old scratch v new room

@@ -10,7 +10,7 @@ use crate::accumulator::CobsAccumulator;
 use crate::answers::{Answer, FeedResult};
 use crate::laws::held_fits;
 use postcard_de::DeserializeOwned;
-use postcard_de_flavors::Source;
+use postcard_de_flavors::Reader;
 use std::alloc::Global;
 
 /// How [`read_frames`] ended.
@@ -91,7 +91,7 @@ fn feed_all<T: DeserializeOwned, const N: usize>(
 /// `ReadFailed` is never returned for a steady reader. At `Limit` at least `reads` bytes were read,
 /// and in any case at most `reads * chunk.len()`. What is said here of the bytes read is promised
 /// of a reader that knows its bytes.
-pub fn read_frames<R: Source, T: DeserializeOwned, const N: usize>(
+pub fn read_frames<R: Reader, T: DeserializeOwned, const N: usize>(
     alloc: Global,
     reader: &mut R,
     chunk: &mut [u8],

@@ -2,7 +2,7 @@
 
 use crate::lists::ends_of;
 use crate::records::Record;
-use postcard::de_flavors::Source;
+use postcard::de_flavors::Reader;
 use postcard::{from_io, to_io};
 use std::alloc::Global;
 use std::io::Write;
@@ -20,7 +20,7 @@ fn write_records<W: Write + Drop>(count: u32, writer: W) -> u64 {
 }
 
 /// Reads `count` records, each by a call of `from_io` with 32 bytes of scratch. Returns the sum of [`Record::sum`] over them.
-fn read_records<R: Source>(alloc: Global, count: u32, reader: R) -> u64 {
+fn read_records<R: Reader>(alloc: Global, count: u32, reader: R) -> u64 {
     let mut reader = reader;
     let mut sum: u64 = 0;
     for _ in 0..count {
@@ -45,7 +45,7 @@ fn write_bytes<W: Write + Drop>(values: &[u8], writer: W) -> u64 {
 }
 
 /// Reads a list of bytes into the scratch by a call of `from_io`. Returns the sum of its length and its last byte.
-fn read_bytes<R: Source>(alloc: Global, reader: R, scratch: &mut [u8]) -> u64 {
+fn read_bytes<R: Reader>(alloc: Global, reader: R, scratch: &mut [u8]) -> u64 {
     match from_io::<&[u8], R>(alloc, (reader, scratch)) {
         Ok((list, _)) => ends_of(list),
         Err(_) => u64::MAX,

@@ -3,7 +3,7 @@
 use crate::asserts::same;
 use example_types::flavor::Both;
 use example_types::limited::Limited;
-use example_types::source::Counted;
+use example_types::reader::Counted;
 use example_types::trailer::Trailed;
 use postcard::de_flavors::io::io::IOReader;
 use postcard::de_flavors::{Flavor, Slice};

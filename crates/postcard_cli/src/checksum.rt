@@ -20,7 +20,7 @@ use crc::{
     CRC_16_USB, CRC_16_XMODEM, CRC_24_OPENPGP, CRC_32_BZIP2, CRC_32_ISCSI, CRC_32_ISO_HDLC,
     CRC_32_MPEG_2, CRC_64_ECMA_182, CRC_64_XZ, CRC_82_DARC, Crc,
 };
-use postcard_de_flavors::Source;
+use postcard_de_flavors::Reader;
 use postcard_wire::{Error, Result as WireResult};
 use std::alloc::Global;
 use std::io;
@@ -274,7 +274,7 @@ pub fn named<W: Write>(name: &str, output: &mut W) -> Result<Checksum, Failure>
 /// # Errors
 ///
 /// Fails as [`named`] and [`hexadecimal::read_loose`] do.
-pub fn print<R: Source, W: Write>(
+pub fn print<R: Reader, W: Write>(
     alloc: Global,
     name: &str,
     hex: &str,

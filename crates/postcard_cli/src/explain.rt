@@ -19,7 +19,7 @@ use crate::hexadecimal;
 use crate::limits::READS;
 use crate::message::{print_refused, schema_of};
 use crate::place::place_of;
-use postcard_de_flavors::Source;
+use postcard_de_flavors::Reader;
 use postcard_dyn::explain::{Expected, Label, Line, LineKind, explain};
 use postcard_dyn::{Leaf, Schema, Value, refused_at};
 use postcard_dyn_text::Shown;
@@ -60,7 +60,7 @@ struct Layout {
 /// Fails as `dec` does: if the bytes begin with no message of the type, with `Refused`, after the
 /// lines of the parts before the one that can't be read, the line of what was expected there, and
 /// what `dec` prints.
-pub fn print<R: Source, W: Write>(
+pub fn print<R: Reader, W: Write>(
     alloc: Global,
     expression: &str,
     hex: &str,

@@ -20,7 +20,7 @@ use crate::reason::reason;
 use crate::stream::print_value;
 use arrayvec::ArrayVec;
 use postcard_cobs::{decode_in_place, frame_len};
-use postcard_de_flavors::Source;
+use postcard_de_flavors::Reader;
 use postcard_dyn::{Schema, Value, take_from_bytes};
 use postcard_ser_cobs::Cobs;
 use postcard_ser_flavors::{Flavor, HVec};
@@ -96,7 +96,7 @@ fn frame_of(encoding: &ArrayVec<u8, BUFFER>) -> ArrayVec<u8, FRAME>
 /// Fails as [`schema_of`] and [`hexadecimal::read_loose`] do, and with `Refused` if no zero ends the
 /// frame, if the bytes before it are no frame, or if its data begins with no message of the type,
 /// after a line without its end is printed that says so.
-pub fn decode<R: Source, W: Write>(
+pub fn decode<R: Reader, W: Write>(
     alloc: Global,
     expression: &str,
     hex: &str,

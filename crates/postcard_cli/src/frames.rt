@@ -9,7 +9,7 @@ ghost use Rattle.postcard_cli.specs.Refusal.{FramesFail};
 use crate::failure::Failure;
 use crate::hexadecimal;
 use postcard_accumulator::{Answer, CobsAccumulator, ReadEnd, read_frames};
-use postcard_de_flavors::Source;
+use postcard_de_flavors::Reader;
 use std::alloc::Global;
 use std::io::Write;
 
@@ -31,7 +31,7 @@ pub const READS: usize = 65_536;
 /// Fails with `Limit` if the input doesn't end within 65,536 reads, with `ReadFailed` if a read
 /// fails, and with `OutOfMemory` if an allocation for an answer fails; the lines of the frames
 /// until then are printed. Fails with `Output` if the output can't be written.
-pub fn print<R: Source, W: Write>(
+pub fn print<R: Reader, W: Write>(
     alloc: Global,
     input: &mut R,
     output: &mut W,

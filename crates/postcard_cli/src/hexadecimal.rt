@@ -11,7 +11,7 @@ use crate::failure::Failure;
 use crate::limits::{CHUNK, READS};
 use crate::pasted;
 use hex::FromHex;
-use postcard_de_flavors::Source;
+use postcard_de_flavors::Reader;
 use std::alloc::Global;
 use std::io;
 use std::io::Write;
@@ -54,7 +54,7 @@ pub fn read(alloc: Global, text: &[u8]) -> Result<Vec<u8>, Failure>
 ///
 /// Fails as [`pasted::read`] does, with `ReadFailed` if a read of the input fails, and with `Limit`
 /// if the input doesn't end within [`READS`] reads, which no input does.
-pub fn read_loose<R: Source>(alloc: Global, text: &str, input: &mut R) -> Result<Vec<u8>, Failure>
+pub fn read_loose<R: Reader>(alloc: Global, text: &str, input: &mut R) -> Result<Vec<u8>, Failure>
     ensures value { IfOk result (λ bytes. StandsFor text.now (R.remaining input.old)
         (R.remaining input.new) bytes.items) }
     ensures refused { IfErr result (HexFails READS (R.steady input.old) text.now
@@ -73,7 +73,7 @@ pub fn read_loose<R: Source>(alloc: Global, text: &str, input: &mut R) -> Result
 ///
 /// Fails with `ReadFailed` if a read of the input fails, with `Library(OutOfMemory)` if an allocation
 /// fails, and with `Limit` if the input doesn't end within [`READS`] reads, which no input does.
-pub fn read_input<R: Source>(alloc: Global, input: &mut R) -> Result<Vec<u8>, Failure>
+pub fn read_input<R: Reader>(alloc: Global, input: &mut R) -> Result<Vec<u8>, Failure>
     ensures all { IfOk result (λ held. Consumes (R.remaining input.old) (R.remaining input.new)
         held.items × IsAtEnd (R.remaining input.new)) }
     ensures refused { IfErr result (InputFails READS (R.steady input.old)

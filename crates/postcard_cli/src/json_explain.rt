@@ -19,7 +19,7 @@ use crate::limits::READS;
 use crate::message::schema_of;
 use crate::place::push_dot;
 use crate::reason::reason;
-use postcard_de_flavors::Source;
+use postcard_de_flavors::Reader;
 use postcard_dyn::explain::{Expected, Label, Line, LineKind, explain};
 use postcard_wire::Error;
 use std::alloc::Global;
@@ -42,7 +42,7 @@ struct Open {
 /// Fails as [`schema_of`] and [`hexadecimal::read_loose`] do; if the bytes begin with no message of
 /// the type, with `Refused`, after the lines of the parts before the one that can't be read, and the
 /// line of that one, without its end; and with `Library(WontImplement)` if a value has no JSON.
-pub fn print<R: Source, W: Write>(
+pub fn print<R: Reader, W: Write>(
     alloc: Global,
     expression: &str,
     hex: &str,

@@ -19,9 +19,9 @@ use crate::message::{schema_of, schema_of_records};
 use crate::place::path_of;
 use crate::reason::reason;
 use arrayvec::ArrayVec;
-use postcard_de_flavors::Source;
+use postcard_de_flavors::Reader;
 use postcard_dyn::{Schema, Value, refused_at, take_from_bytes, to_flavor};
-use postcard_dyn_json::error::colon_behind;
+use postcard_dyn_json::error::colon_after;
 use postcard_dyn_json::{JsonTextError, read_json, to_json};
 use postcard_ser_flavors::HVec;
 use postcard_wire::Error;
@@ -76,7 +76,7 @@ fn encoding_of<W: Write>(
                 expected,
             },
         ) => {
-            let colon = colon_behind(&path);
+            let colon = colon_after(&path);
             write!(
                 output,
                 "at character {character}: {path}{colon}{expected}: "
@@ -99,7 +99,7 @@ fn encoding_of<W: Write>(
 /// Fails as [`schema_of`] and [`hexadecimal::read_loose`] do, with `Refused` if the bytes begin with
 /// no message of the type, after a line of JSON is printed, without its line feed, that says where and
 /// why, and with `Library(WontImplement)` if the value has no JSON.
-pub fn decode<R: Source, W: Write>(
+pub fn decode<R: Reader, W: Write>(
     alloc: Global,
     expression: &str,
     hex: &str,
@@ -125,7 +125,7 @@ pub fn decode<R: Source, W: Write>(
 ///
 /// Fails as [`decode`] does, and with `BadType` if messages of the type have no bytes. The lines of
 /// the values before an error are printed.
-pub fn decode_all<R: Source, W: Write>(
+pub fn decode_all<R: Reader, W: Write>(
     alloc: Global,
     expression: &str,
     hex: &str,

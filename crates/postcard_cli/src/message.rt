@@ -25,7 +25,7 @@ use crate::place::place_of;
 use crate::reason::reason;
 use crate::{checksum, hexadecimal};
 use arrayvec::ArrayVec;
-use postcard_de_flavors::Source;
+use postcard_de_flavors::Reader;
 use postcard_dyn::{Problem, Schema, Value, parse, refused_at, take_from_bytes, to_flavor};
 use postcard_dyn_text::{Shown, TextError, read_text};
 use postcard_ser_flavors::HVec;
@@ -207,7 +207,7 @@ pub fn encoding_of<W: Write>(
 ///
 /// Fails as [`schema_of`] and [`hexadecimal::read_loose`] do, and with `Refused` if the bytes begin
 /// with no message of the type, after which part can't be read, where, and why are printed.
-pub fn decode<R: Source, W: Write>(
+pub fn decode<R: Reader, W: Write>(
     alloc: Global,
     expression: &str,
     hex: &str,
@@ -231,7 +231,7 @@ pub fn decode<R: Source, W: Write>(
 ///
 /// Fails as [`schema_of`] and [`hexadecimal::read_input`] do, and with `Refused` if the bytes begin
 /// with no message of the type, after which part can't be read, where, and why are printed.
-pub fn decode_raw<R: Source, W: Write>(
+pub fn decode_raw<R: Reader, W: Write>(
     alloc: Global,
     expression: &str,
     input: &mut R,
@@ -276,7 +276,7 @@ fn print_first<W: Write>(
 /// Fails as [`checksum::named`] and [`decode`] do, and with `Library(DeserializeBadCrc)` or, if fewer
 /// bytes follow, `Library(DeserializeUnexpectedEnd)` if it isn't the checksum that follows, after
 /// the place where it should begin is printed.
-pub fn decode_checked<R: Source, W: Write>(
+pub fn decode_checked<R: Reader, W: Write>(
     alloc: Global,
     name: &str,
     expression: &str,
@@ -335,7 +335,7 @@ fn skip_trailer<'a, W: Write>(
 ///
 /// Fails as [`decode`] does, and with `BadType` if messages of the type have no bytes. The values
 /// before an error are printed.
-pub fn decode_all<R: Source, W: Write>(
+pub fn decode_all<R: Reader, W: Write>(
     alloc: Global,
     expression: &str,
     hex: &str,
@@ -359,7 +359,7 @@ pub fn decode_all<R: Source, W: Write>(
 ///
 /// Fails as [`decode_raw`] does, and with `BadType` if messages of the type have no bytes. The
 /// values before an error are printed.
-pub fn decode_all_raw<R: Source, W: Write>(
+pub fn decode_all_raw<R: Reader, W: Write>(
     alloc: Global,
     expression: &str,
     input: &mut R,

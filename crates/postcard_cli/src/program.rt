@@ -39,7 +39,7 @@ use crate::{
     stream, syntax, value,
 };
 use postcard_de::{Deserialize, take_from_bytes};
-use postcard_de_flavors::Source;
+use postcard_de_flavors::Reader;
 use postcard_ser::{Serialize, Serializer};
 use postcard_ser_flavors::{Flavor, HVec};
 use std::alloc::Global;
@@ -66,7 +66,7 @@ enum Task<'a> {
 ///   fails, or, whatever else happened, if the output can't be written.
 ///
 /// The input is read by `frames`, for `--raw`, and for a HEX of `-` if TYPE is an expression.
-pub fn run<R: Source, W: Write>(
+pub fn run<R: Reader, W: Write>(
     alloc: Global,
     words: &[String],
     input: &mut R,
@@ -103,7 +103,7 @@ pub fn report<W: Write>(outcome: Result<(), Failure>, output: &mut W) -> u8
 
 /// Runs the call that these words are. If they are no call of a command, prints nothing and fails
 /// with `Usage`, which comes for nothing else.
-fn perform<R: Source, W: Write>(
+fn perform<R: Reader, W: Write>(
     alloc: Global,
     words: &[String],
     input: &mut R,
@@ -125,7 +125,7 @@ fn perform<R: Source, W: Write>(
 }
 
 /// Does what a command asks for.
-fn carry_out<R: Source, W: Write>(
+fn carry_out<R: Reader, W: Write>(
     alloc: Global,
     command: Command<'_>,
     input: &mut R,
@@ -229,7 +229,7 @@ fn encode<W: Write>(
 }
 
 /// Decodes a value from the front of the bytes of the word HEX.
-fn decode<R: Source, W: Write>(
+fn decode<R: Reader, W: Write>(
     alloc: Global,
     kind: TypeWord<'_>,
     hex: &str,

@@ -29,7 +29,7 @@ use crate::place::{path_of, place_of};
 use crate::reason::reason;
 use crate::{checksum, hexadecimal, json_stream};
 use postcard_cobs::{decode_in_place, frame_len};
-use postcard_de_flavors::Source;
+use postcard_de_flavors::Reader;
 use postcard_dyn::{Schema, Value, take_from_bytes};
 use postcard_dyn_text::Shown;
 use postcard_wire::Error;
@@ -54,7 +54,7 @@ use std::io::Write;
 /// `Library(WontImplement)` if a value has no JSON and JSON is asked for, with `ReadFailed` if a
 /// read fails, with `Output` if the output can't be written, and with `Limit` after 2^64 - 1 reads.
 /// The lines of what was read before are printed.
-pub fn print<R: Source, W: Write>(
+pub fn print<R: Reader, W: Write>(
     alloc: Global,
     expression: &str,
     notation: Notation,
@@ -85,7 +85,7 @@ pub fn print<R: Source, W: Write>(
 /// # Errors
 ///
 /// Fails as [`checksum::named`] and [`print`] do.
-pub fn print_checked<R: Source, W: Write>(
+pub fn print_checked<R: Reader, W: Write>(
     alloc: Global,
     name: &str,
     expression: &str,
@@ -116,7 +116,7 @@ pub fn print_checked<R: Source, W: Write>(
 ///
 /// Fails as [`schema_of`] and [`hexadecimal::read_loose`] do, with `OutOfMemory` if another
 /// allocation fails, and with `Output` if the output can't be written.
-pub fn print_hex<R: Source, W: Write>(
+pub fn print_hex<R: Reader, W: Write>(
     alloc: Global,
     expression: &str,
     hex: &str,
@@ -162,7 +162,7 @@ pub struct Format {
 }
 
 /// Reads frames of this format until the input ends, and prints their lines.
-fn print_values<R: Source, W: Write>(
+fn print_values<R: Reader, W: Write>(
     alloc: Global,
     format: &Format,
     longest: usize,
@@ -225,7 +225,7 @@ impl Stream {
 
     /// Reads once, prints the lines of what was read, and flushes them. Returns `false` at the end
     /// of the input.
-    fn read<R: Source, W: Write>(
+    fn read<R: Reader, W: Write>(
         &mut self,
         alloc: Global,
         format: &Format,

@@ -1,4 +1,5 @@
 pub mod ColonLemmas
 pub mod FileLemmas
+pub mod InputLemmas
 pub mod OptionLemmas
 pub mod WordLemmas

@@ -1,3 +1,4 @@
 pub mod Fault
 pub mod TypeName
 pub mod Call
+pub mod Input

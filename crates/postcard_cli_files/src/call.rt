@@ -17,7 +17,7 @@ use crate::type_name::TypeName;
 use postcard_cli::Failure;
 use postcard_cli::limits::READS;
 use postcard_cli::syntax::SYNTAX;
-use postcard_de_flavors::Source;
+use postcard_de_flavors::Reader;
 use std::alloc::Global;
 use std::io::Write;
 
@@ -27,7 +27,7 @@ use std::io::Write;
 ///
 /// If there is no such type, a line on `errors` says why, no input is read, and nothing is printed to
 /// `output`. The status is then 1 if memory is lacking, 3 if the line can't be written, and else 2.
-pub fn run<F: Files, R: Source, W: Write, E: Write>(
+pub fn run<F: Files, R: Reader, W: Write, E: Write>(
     alloc: Global,
     words: &mut [String],
     files: &F,
@@ -54,8 +54,8 @@ pub fn run<F: Files, R: Source, W: Write, E: Write>(
     }
 }
 
-/// Prints a line that says why a name stands for no type of this file, and returns the exit status.
-fn tell<E: Write>(file: &str, fault: TypeFault, errors: &mut E) -> u8
+/// Prints a line that says what is wrong with this file, and returns the exit status.
+pub(crate) fn tell<E: Write>(file: &str, fault: TypeFault, errors: &mut E) -> u8
     ensures { Tells file.now fault (E.contents errors.old) (E.contents errors.new) result }
 {
     let printed = writeln!(errors, "pcard: {file}: {fault}");

@@ -1,4 +1,4 @@
-//! Why the name of a type in a file stands for no type.
+//! What is wrong with a file that a call names.
 
 ghost use Rattle.std.specs.Prelude.{◌≡◌, Some};
 ghost use Rattle.postcard_cli_files.specs.Fault.{fault_status, fault_text};
@@ -6,7 +6,8 @@ ghost use Rattle.postcard_cli_files.specs.Fault.{fault_status, fault_text};
 use postcard_dyn_file::FileError;
 use std::fmt;
 
-/// Why the name of a type in a file stands for no type.
+/// Why the name of a type in a file stands for no type, or a file isn't opened: that is `Unreadable` or
+/// `OutOfMemory`.
 #[derive(Clone, Copy, Debug, PartialEq, Eq)]
 pub enum TypeFault {
     /// The file can't be read.

@@ -1,8 +1,10 @@
-//! The files that a call reads types from.
+//! The files that a call reads types from, or the bytes of messages.
 
 ghost use Rattle.std.specs.Prelude.{◌≡◌, ℕ, List, ⊤, take, IfOk, IfErr};
+ghost use Rattle.postcard_cli_files.specs.Input.{MayHave};
 ghost use Rattle.postcard_cli_files.specs.declared.files.ReadError.TheVariants.{Failed};
 
+use postcard_de_flavors::Reader;
 use std::alloc::Global;
 use std::fs::File;
 use std::io::{self, Read};
@@ -10,7 +12,7 @@ use std::io::{self, Read};
 /// Why a file isn't read.
 #[derive(Clone, Copy, Debug, PartialEq, Eq)]
 pub enum ReadError {
-    /// There is no file with the name, or it can't be read.
+    /// There is no file with the name, or it can't be opened or read.
     Failed,
     /// An allocation failed.
     OutOfMemory,
@@ -18,6 +20,9 @@ pub enum ReadError {
 
 /// Files by their names.
 pub trait Files {
+    /// A file that is open, from which its bytes are read in order.
+    type Opened: Reader;
+
     /// A file with this name may have these bytes.
     ghost gives: { Self → List ℕ → List ℕ → Type 0 };
 
@@ -33,6 +38,17 @@ pub trait Files {
         ensures given { IfOk result (λ bytes. (content : List ℕ)
             × gives self.now name.now content × (bytes.items ≡ take most content)) }
         ensures lacking { IfErr result (λ e. e ≡ Failed → lacks self.now name.now) };
+
+    /// Opens the file with this name. Reads nothing from it.
+    ///
+    /// # Errors
+    ///
+    /// Fails with `Failed` if it can't be opened, and with `OutOfMemory` if memory is lacking. No file is
+    /// open then.
+    fn open(&self, name: &str) -> Result<Self::Opened, ReadError>
+        ensures given { IfOk result
+            (λ opened. MayHave Self.Opened.remaining (gives self.now name.now) opened) }
+        ensures lacking { IfErr result (λ e. e ≡ Failed → lacks self.now name.now) };
 }
 
 /// The files of the system. Nothing is claimed of what they have.
@@ -40,6 +56,8 @@ pub trait Files {
 pub struct Disk<'a>(pub &'a HostRuntime);
 
 impl Files for Disk<'_> {
+    type Opened = DiskFile;
+
     ghost gives = { λ _ _ _. ⊤ };
 
     ghost lacks = { λ _ _. ⊤ };
@@ -53,8 +71,47 @@ impl Files for Disk<'_> {
         bytes.truncate(most);
         match outcome {
             Ok(_) => Ok(bytes),
-            Err(e) if e.kind() == io::ErrorKind::OutOfMemory => Err(ReadError::OutOfMemory),
-            Err(_) => Err(ReadError::Failed),
+            Err(error) => Err(read_error(error)),
         }
+    }
+
+    fn open(&self, name: &str) -> Result<DiskFile, ReadError> {
+        match File::open(self.0, name) {
+            Ok(file) => Ok(DiskFile { file }),
+            Err(error) => Err(read_error(error)),
+        }
+    }
+}
+
+/// An open file of the system. Nothing is claimed of what it has left, and it is never steady: no read
+/// is promised to succeed.
+#[derive(Drop)]
+pub struct DiskFile {
+    file: File,
+}
+
+impl Read for DiskFile {
+    fn read(&mut self, buf: &mut [u8]) -> io::Result<usize> {
+        self.file.read(buf)
+    }
+}
+
+impl Reader for DiskFile {
+    ghost steady = { λ _. ⊥ };
+
+    fn read_some(&mut self, buf: &mut [u8]) -> io::Result<usize> {
+        self.read(buf)
+    }
+
+    fn read_full(&mut self, buf: &mut [u8]) -> io::Result<()> {
+        self.file.read_exact(buf)
+    }
+}
+
+/// Returns why a file isn't read whose opening or reading failed with this error.
+fn read_error(error: io::Error) -> ReadError {
+    match error.kind() {
+        io::ErrorKind::OutOfMemory => ReadError::OutOfMemory,
+        _ => ReadError::Failed,
     }
 }

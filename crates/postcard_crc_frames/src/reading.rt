@@ -11,7 +11,7 @@ use crc::{Crc, Implementation, Width};
 use postcard_accumulator::laws::held_fits;
 use postcard_accumulator::{Answer, CobsAccumulator, FeedResult, ReadEnd};
 use postcard_de::DeserializeOwned;
-use postcard_de_flavors::Source;
+use postcard_de_flavors::Reader;
 use std::alloc::Global;
 
 /// Appends an answer to a vector, which must have capacity for it.
@@ -72,7 +72,7 @@ fn feed_all<T: DeserializeOwned, W: Width, I: Implementation<W>, const N: usize>
 /// value, if the frame's data is its encoding and then just its checksum; otherwise `DeserError`,
 /// or `OverFull` for a frame that has no room. What holds of damaged frames is in
 /// [`laws`](crate::laws).
-pub fn read_frames<R: Source, T: DeserializeOwned, W: Width, I: Implementation<W>, const N: usize>(
+pub fn read_frames<R: Reader, T: DeserializeOwned, W: Width, I: Implementation<W>, const N: usize>(
     alloc: Global,
     reader: &mut R,
     chunk: &mut [u8],

@@ -6,17 +6,17 @@
 //! `gives`), and fail only with `DeserializeUnexpectedEnd` (`refuses_by_unexpected_end`). `lawful`
 //! states the laws that tie these together.
 //!
-//! In reading order: [`flavor`]; the sources, [`slice`] and [`io`]; [`source`], the interface that
+//! In reading order: [`flavor`]; the sources, [`slice`] and [`io`]; [`reader`], the interface that
 //! a reader needs, and [`plain`], which adapts any reader to it.
 #![tactic(auto)]
 
 pub mod flavor;
 pub mod io;
 pub mod plain;
+pub mod reader;
 pub mod slice;
-pub mod source;
 
 pub use flavor::Flavor;
 pub use plain::Plain;
+pub use reader::Reader;
 pub use slice::Slice;
-pub use source::Source;

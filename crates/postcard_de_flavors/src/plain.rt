@@ -1,13 +1,13 @@
-//! Any reader as a `Source`.
+//! Any reader as a `Reader`.
 
 ghost use Rattle.std.specs.Prelude.{◌≡◌};
 ghost use Rattle.postcard_de_flavors.specs.Plain.{inner_of};
 
-use crate::source::Source;
+use crate::reader::Reader;
 use std::io;
 use std::io::Read;
 
-/// Adapts any reader to [`Source`](crate::source::Source). Its bytes left are those of `R`. It is
+/// Adapts any reader to [`Reader`](crate::reader::Reader). Its bytes left are those of `R`. It is
 /// never steady: no read is promised to succeed.
 #[derive(Drop)]
 pub struct Plain<R> {
@@ -39,7 +39,7 @@ impl<R: Read> Read for Plain<R> {
     }
 }
 
-impl<R: Read + Drop> Source for Plain<R> {
+impl<R: Read + Drop> Reader for Plain<R> {
     ghost steady = { λ _. ⊥ };
 
     fn read_some(&mut self, buf: &mut [u8]) -> io::Result<usize> {

@@ -2,7 +2,7 @@
 //! that read from readers, with what they have to return.
 
 use postcard::de_flavors::io::io::IOReader;
-use postcard::de_flavors::{Flavor, Source};
+use postcard::de_flavors::{Flavor, Reader};
 use postcard::{Deserialize, Error, from_io};
 use std::alloc::AllocGlobal;
 use std::fmt::Debug;
@@ -19,7 +19,7 @@ pub fn same_bytes(rt: &impl Abort, got: &[u8], want: &[u8]) {
 }
 
 /// Asserts that a value is read. Returns it, the reader and the scratch that is left.
-pub fn assert_read<'a, T: Deserialize<'a>, R: Source + 'a>(
+pub fn assert_read<'a, T: Deserialize<'a>, R: Reader + 'a>(
     rt: &(impl Abort + AllocGlobal),
     from: (R, &'a mut [u8]),
 ) -> (T, (R, &'a mut [u8])) {
@@ -27,7 +27,7 @@ pub fn assert_read<'a, T: Deserialize<'a>, R: Source + 'a>(
 }
 
 /// Asserts that reading a value fails with `DeserializeUnexpectedEnd`.
-pub fn assert_refused<'a, T: Deserialize<'a>, R: Source + 'a>(
+pub fn assert_refused<'a, T: Deserialize<'a>, R: Reader + 'a>(
     rt: &(impl Abort + AllocGlobal),
     from: (R, &'a mut [u8]),
 ) {
@@ -36,7 +36,7 @@ pub fn assert_refused<'a, T: Deserialize<'a>, R: Source + 'a>(
 }
 
 /// Asserts that a source has `left` bytes of scratch left. Returns its reader.
-pub fn assert_scratch<R: Source>(rt: &impl Abort, source: IOReader<'_, R>, left: usize) -> R {
+pub fn assert_scratch<R: Reader>(rt: &impl Abort, source: IOReader<'_, R>, left: usize) -> R {
     let (reader, scratch) = source.finalize().expect(rt, "the source comes back");
     same(rt, scratch.len(), left);
     reader

@@ -1,7 +1,7 @@
 //! Tests of the readers and writers of `devices` themselves, call by call.
 
 use crate::asserts::{same, same_bytes};
-use postcard::de_flavors::Source;
+use postcard::de_flavors::Reader;
 use postcard_test_support::devices::readers::{FailingReader, Pieces};
 use postcard_test_support::devices::writers::{Bounded, FailingWriter};
 use std::io::{Read, Write};

@@ -4,7 +4,7 @@
 use crate::OLD;
 use crate::asserts::{assert_read, assert_scratch, same, same_bytes};
 use postcard::de_flavors::io::io::IOReader;
-use postcard::de_flavors::{Flavor, Plain, Source};
+use postcard::de_flavors::{Flavor, Plain, Reader};
 use postcard::{Error, to_io};
 use postcard_test_support::devices::readers::{InterruptedReader, Pieces};
 use postcard_test_support::devices::writers::{Bounded, InterruptedWriter};
@@ -57,7 +57,7 @@ fn every_other_call(rt: HostRuntime) {
 }
 
 /// Takes the bytes from 1 to 5 in each way that a source has. Then no byte is left.
-fn takes_each_way<'b, R: Source + 'b>(rt: &impl Abort, reader: R) {
+fn takes_each_way<'b, R: Reader + 'b>(rt: &impl Abort, reader: R) {
     let mut scratch = [OLD; 3];
     let mut source = IOReader::new(reader, &mut scratch);
     same(rt, source.pop(), Ok(1));

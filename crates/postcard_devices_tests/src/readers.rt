@@ -4,7 +4,7 @@
 use crate::OLD;
 use crate::asserts::{assert_read, assert_refused, assert_scratch, same, same_bytes};
 use postcard::de_flavors::io::io::IOReader;
-use postcard::de_flavors::{Flavor, Plain, Source};
+use postcard::de_flavors::{Flavor, Plain, Reader};
 use postcard::{Error, from_io};
 use postcard_test_support::devices::readers::{FailingReader, Pieces};
 use std::alloc::AllocGlobal;
@@ -26,7 +26,7 @@ const RECORDS: [u8; 11] = [
 ];
 
 /// A reader over given bytes.
-trait Over: Source {
+trait Over: Reader {
     /// Returns a reader of these bytes, in pieces of these lengths if it reads in pieces.
     fn over(bytes: &'static [u8], lengths: &'static [usize]) -> Self;
 }
@@ -56,7 +56,7 @@ impl Over for Plain<Pieces<'static>> {
 }
 
 /// Asserts that just these bytes are left in the reader, which gives them with no scratch.
-fn assert_unread<R: Source>(rt: &impl Abort, reader: R, unread: &[u8]) {
+fn assert_unread<R: Reader>(rt: &impl Abort, reader: R, unread: &[u8]) {
     let mut rest = IOReader::new(reader, &mut []);
     for byte in unread {
         same(rt, rest.pop(), Ok(*byte));
@@ -65,7 +65,7 @@ fn assert_unread<R: Source>(rt: &impl Abort, reader: R, unread: &[u8]) {
 }
 
 /// Reads two texts that borrow from a scratch buffer with just room for them, to the reader's end.
-fn lends_all<'b, R: Source + 'b>(rt: &(impl Abort + AllocGlobal), reader: R) {
+fn lends_all<'b, R: Reader + 'b>(rt: &(impl Abort + AllocGlobal), reader: R) {
     let mut memory = [OLD; 3];
     let ((first, last), (reader, left)) = assert_read::<(&str, &str), _>(rt, (reader, &mut memory));
     same(rt, first, "ab");
@@ -75,7 +75,7 @@ fn lends_all<'b, R: Source + 'b>(rt: &(impl Abort + AllocGlobal), reader: R) {
 }
 
 /// Reads a text that borrows from a part of the scratch buffer. A byte is left in the reader.
-fn lends_one<'b, R: Source + 'b>(rt: &(impl Abort + AllocGlobal), reader: R) {
+fn lends_one<'b, R: Reader + 'b>(rt: &(impl Abort + AllocGlobal), reader: R) {
     let mut memory = [OLD; 2];
     let (text, (reader, left)) = assert_read::<&str, _>(rt, (reader, &mut memory));
     same(rt, text, "z");
@@ -85,7 +85,7 @@ fn lends_one<'b, R: Source + 'b>(rt: &(impl Abort + AllocGlobal), reader: R) {
 
 /// Reads two texts that borrow from a scratch buffer with just room for them, and a character
 /// between them, which doesn't.
-fn lends_around<'b, R: Source + 'b>(rt: &(impl Abort + AllocGlobal), reader: R) {
+fn lends_around<'b, R: Reader + 'b>(rt: &(impl Abort + AllocGlobal), reader: R) {
     let mut memory = [OLD; 3];
     let ((first, letter, last), (_, left)) = assert_read::<(&str, char, &str), _>(
         rt,
@@ -98,19 +98,19 @@ fn lends_around<'b, R: Source + 'b>(rt: &(impl Abort + AllocGlobal), reader: R) 
 }
 
 /// Reads two texts for which the scratch is too short.
-fn refuses_texts<'b, R: Source + 'b>(rt: &(impl Abort + AllocGlobal), reader: R) {
+fn refuses_texts<'b, R: Reader + 'b>(rt: &(impl Abort + AllocGlobal), reader: R) {
     let mut memory = [OLD; 2];
     assert_refused::<(&str, &str), _>(rt, (reader, &mut memory));
 }
 
 /// Reads a text with no scratch.
-fn refuses_a_text<'b, R: Source + 'b>(rt: &(impl Abort + AllocGlobal), reader: R) {
+fn refuses_a_text<'b, R: Reader + 'b>(rt: &(impl Abort + AllocGlobal), reader: R) {
     let mut memory = [OLD; 0];
     assert_refused::<&str, _>(rt, (reader, &mut memory));
 }
 
 /// Reads texts as `String`s, which need the scratch only for a while.
-fn copies_texts<'b, R: Source + 'b>(rt: &(impl Abort + AllocGlobal), reader: R) {
+fn copies_texts<'b, R: Reader + 'b>(rt: &(impl Abort + AllocGlobal), reader: R) {
     let mut memory = [OLD; 2];
     let ((first, last), (reader, left)) = assert_read::<(String, String), _>(
         rt,
@@ -123,7 +123,7 @@ fn copies_texts<'b, R: Source + 'b>(rt: &(impl Abort + AllocGlobal), reader: R) 
 }
 
 /// Takes bytes that stay borrowed until too few are left.
-fn takes<'b, R: Source + 'b>(rt: &impl Abort, reader: R) {
+fn takes<'b, R: Reader + 'b>(rt: &impl Abort, reader: R) {
     let mut memory = [OLD; 8];
     let mut source = IOReader::new(reader, &mut memory);
     same(rt, source.try_take_n(2), Ok([0xAA, 0xBB].as_slice()));
@@ -137,7 +137,7 @@ fn takes<'b, R: Source + 'b>(rt: &impl Abort, reader: R) {
 
 /// Takes more bytes than the reader has, which is one call for all of them. Their scratch is used
 /// up.
-fn refuses_a_take<'b, R: Source + 'b>(rt: &impl Abort, reader: R) {
+fn refuses_a_take<'b, R: Reader + 'b>(rt: &impl Abort, reader: R) {
     let mut memory = [OLD; 4];
     let mut source = IOReader::new(reader, &mut memory);
     same(
@@ -149,7 +149,7 @@ fn refuses_a_take<'b, R: Source + 'b>(rt: &impl Abort, reader: R) {
 }
 
 /// Takes more bytes than the reader has, for a while, which uses up no scratch.
-fn refuses_a_temporary_take<'b, R: Source + 'b>(rt: &impl Abort, reader: R) {
+fn refuses_a_temporary_take<'b, R: Reader + 'b>(rt: &impl Abort, reader: R) {
     let mut memory = [OLD; 4];
     let mut source = IOReader::new(reader, &mut memory);
     let refused = source.try_take_n_temp(3);
@@ -158,7 +158,7 @@ fn refuses_a_temporary_take<'b, R: Source + 'b>(rt: &impl Abort, reader: R) {
 }
 
 /// Takes more bytes than the scratch has room for. They stay in the reader.
-fn lacks_scratch<'b, R: Source + 'b>(rt: &impl Abort, reader: R) {
+fn lacks_scratch<'b, R: Reader + 'b>(rt: &impl Abort, reader: R) {
     let mut memory = [OLD; 1];
     let mut source = IOReader::new(reader, &mut memory);
     same(
@@ -172,7 +172,7 @@ fn lacks_scratch<'b, R: Source + 'b>(rt: &impl Abort, reader: R) {
 
 /// Reads records one after another, each with the scratch that the one before left. The bytes after
 /// the records aren't read.
-fn reads_records<'b, R: Source + 'b>(rt: &(impl Abort + AllocGlobal), reader: R) {
+fn reads_records<'b, R: Reader + 'b>(rt: &(impl Abort + AllocGlobal), reader: R) {
     let mut memory = [OLD; 6];
     let (text, from) = assert_read::<&str, _>(rt, (reader, &mut memory));
     let (number, from) = assert_read::<u16, _>(rt, from);

@@ -1,6 +1,5 @@
 -- What a declaration stands for begins with an opening bracket if its first token does.
-use Rattle.std.proofs.Common.{◌≡◌, ℕ, ◌+◌, ◌<◌, ◌≤◌, List, [], ◌∷◌, ◌++◌, codes, refl, sym, ap, subst, ◌∙◌, arith, ◌⊎◌, inl, inr}
-use Rattle.std.proofs.lemmas.List.{append_assoc}
+use Rattle.std.proofs.Common.{◌≡◌, ℕ, ◌<◌, ◌≤◌, List, [], ◌∷◌, ◌++◌, codes, refl, sym, ap, subst, ◌∙◌, arith, ◌⊎◌, inl, inr}
 use Rattle.std.proofs.lemmas.Option.{same_Some}
 use Rattle.std.specs.Prelude.{Contains}
 use Rattle.postcard_dyn_file.specs.declared.token.Token.{Token}
@@ -8,7 +7,7 @@ use Rattle.postcard_dyn_file.specs.declared.declaration.Declaration.{Declaration
 use Rattle.postcard_dyn_file.specs.declared.declaration.Kind.{Kind}
 use Rattle.postcard_dyn_file.specs.declared.declaration.Kind.TheVariants.{Struct, Enum, Alias}
 use Rattle.postcard_dyn_file.specs.Tokens.{IsName, IsNameAt}
-use Rattle.postcard_dyn_file.specs.Words.{Where, IsPlainText, IsStructText, IsAliasText, IsEnumText, IsText}
+use Rattle.postcard_dyn_file.specs.Words.{Where, IsPlainText, IsText}
 use Rattle.postcard_dyn_file.specs.Items.{AreDeclarations}
 use Rattle.postcard_dyn_file.specs.Expands.{Refers, Spells, begun, own, named, Spelled}
 use Rattle.postcard_dyn_file.specs.Openings.{Opens, BeginsType, IsOpened}

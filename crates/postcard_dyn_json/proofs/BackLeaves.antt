@@ -16,7 +16,7 @@ use Rattle.hex.proofs.HexLemmas.{decode_of-encode_lower}
 use Rattle.postcard_wire.specs.Tree.{Tree, Trees, Byte, Boolean, Num, Int, Text, NoTrees, Then, trees, count}
 use Rattle.postcard_wire.specs.Tree as nodes
 use Rattle.postcard_wire.specs.Reading.{Each, IsByte}
-use Rattle.postcard_shape.specs.Base256.{Order, AreBytes, low_value, reversed_bytes}
+use Rattle.postcard_shape.specs.Base256.{AreBytes, low_value, reversed_bytes}
 use Rattle.postcard_dyn_schema.specs.declared.fixed.ByteOrder.{ByteOrder}
 use Rattle.postcard_dyn_schema.specs.declared.fixed.ByteOrder.TheVariants.{Little, Big}
 use Rattle.postcard_dyn_schema.specs.declared.fixed.Integer.{Integer}

@@ -7,7 +7,7 @@ use Rattle.std.specs.Float.{binary32, binary64, float_is_finite}
 use Rattle.hex.specs.Hex.{encode_lower}
 use Rattle.postcard_wire.specs.Tree.{Tree, Trees, Byte, Boolean, Num, Int, Text, NoTrees, Then}
 use Rattle.postcard_wire.specs.Tree as nodes
-use Rattle.postcard_shape.specs.Base256.{Order, low_value}
+use Rattle.postcard_shape.specs.Base256.{low_value}
 use Rattle.postcard_dyn_schema.specs.Fixed.{size_of, is_signed}
 use Rattle.postcard_dyn.specs.Fixed.{order_of, bytes_of, signed_of}
 use Rattle.postcard_dyn_schema.specs.declared.schema.Leaf.{Leaf}

@@ -146,7 +146,7 @@ impl fmt::Display for JsonError {
     fn fmt<W: fmt::Write>(&self, f: &mut fmt::Formatter<W>) -> fmt::Result {
         match self {
             JsonError::NotAValue { path, expected } => {
-                let colon = colon_behind(path);
+                let colon = colon_after(path);
                 write!(f, "{path}{colon}{expected}")
             }
             JsonError::OutOfMemory => f.write_str("out of memory"),
@@ -155,7 +155,7 @@ impl fmt::Display for JsonError {
 }
 
 /// Returns what stands behind a path: `: `, but nothing behind an empty one.
-pub fn colon_behind(path: &str) -> &'static str
+pub fn colon_after(path: &str) -> &'static str
     ensures { result.now ≡ colon_after path.now }
 {
     if path.is_empty() { "" } else { ": " }

@@ -208,7 +208,7 @@ fn length_error(alloc: Global, parts: &Vec<Schema>, json: &Json, named: bool) ->
         return JsonError::here(alloc, Expected::Present).at_name(alloc, name);
     }
     for name in members.keys() {
-        if !has_field(parts, name) {
+        if !has_field(parts, name.as_bytes()) {
             return unknown(alloc, name);
         }
     }
@@ -230,12 +230,12 @@ fn missing<'a>(parts: &'a Vec<Schema>, json: &Json) -> Option<&'a str>
 }
 
 /// Returns whether a field has this name.
-fn has_field(parts: &Vec<Schema>, name: &str) -> bool
+fn has_field(parts: &Vec<Schema>, name: &[u8]) -> bool
     ensures { result ≡ false → IsNewTo parts.now.items name.now }
 {
     for part in parts {
         if let Schema::Named(other, _) = part {
-            if other.as_str() == name {
+            if other.as_bytes() == name {
                 return true;
             }
         }

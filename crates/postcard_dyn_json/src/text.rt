@@ -11,7 +11,7 @@ ghost use Rattle.postcard_dyn_json.specs.Printed.{IsPlaceIn, text_error_text};
 ghost use Rattle.postcard_dyn_json.specs.Reading.{IsJsonText};
 ghost use Rattle.postcard_dyn_json.specs.declared.error.JsonError.TheVariants as errors;
 
-use crate::error::{Expected, JsonError, colon_behind};
+use crate::error::{Expected, JsonError, colon_after};
 use crate::place::{from_line, from_part};
 use crate::read::from_json;
 use postcard_dyn::{Schema, Value};
@@ -49,7 +49,7 @@ impl fmt::Display for JsonTextError {
                 path,
                 expected,
             } => {
-                let colon = colon_behind(path);
+                let colon = colon_after(path);
                 write!(
                     f,
                     "bad value at character {character}: {path}{colon}{expected}"

@@ -3,7 +3,7 @@
 use crate::helpers::{joined, text_with};
 use crate::same::same;
 use postcard_cli::run;
-use postcard_de_flavors::Source;
+use postcard_de_flavors::Reader;
 use std::io::Write;
 use std::process::Abort;
 
@@ -325,7 +325,7 @@ fn words(rt: &(impl Abort + AllocGlobal), call: &[&str]) -> Vec<String> {
 }
 
 /// Does the call of these words, and returns its exit status.
-pub fn answer<R: Source, W: Write>(
+pub fn answer<R: Reader, W: Write>(
     rt: &(impl Abort + AllocGlobal),
     call: &[&str],
     input: &mut R,
@@ -336,7 +336,7 @@ pub fn answer<R: Source, W: Write>(
 }
 
 /// Asserts that a call over this input prints `printed` and has this status.
-pub fn check<R: Source>(
+pub fn check<R: Reader>(
     rt: &(impl Abort + AllocGlobal),
     call: &[&str],
     input: &mut R,

@@ -182,7 +182,10 @@ const REFUSED: [(&str, &str); 87] = [
     ("A | B?", "expected the end of the type at character 6"),
     ("A | B(u8", "expected `,` or `)` at character 9"),
     ("u8?????", "nested too deeply at character 7"),
-    ("(u8, \u{e9}\u{e9}, u9)", "expected a type at character 6"),
+    (
+        "(u8, \u{e9}\u{e9}, u9)",
+        "expected a letter of ASCII, a digit or `_` at character 6",
+    ),
     ("?", "expected a type at character 1"),
     (
         "Vec<()>",
@@ -215,7 +218,7 @@ const REFUSED: [(&str, &str); 87] = [
     ("&'1a u8", "expected the name of a lifetime at character 3"),
     (
         "[&'\u{e9} u8]",
-        "expected the name of a lifetime at character 4",
+        "expected a letter of ASCII, a digit or `_` at character 4",
     ),
     ("&'a", "expected a type at character 4"),
     ("&'astr", "expected a type at character 7"),

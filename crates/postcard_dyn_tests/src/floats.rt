@@ -237,7 +237,11 @@ const REFUSED: [(&str, &str, &str); 13] = [
         "one",
         "bad value at character 1: expected a number of f64, as 1.5, inf or nan",
     ),
-    ("f64", "1_0", "bad value at character 2: expected the end"),
+    (
+        "f64",
+        "1_0",
+        "bad value at character 1: expected a number of f64, as 1.5, inf or nan",
+    ),
     (
         "f32",
         "1.5 (2)",

@@ -85,7 +85,7 @@ const CALLS: [Call; 22] = [
             "{\"samples\": [1, \"a\"], \"id\": 42, \"label\": \"x\"}",
         ],
         b"",
-        "at character 17: expected i16: bad value\n",
+        "at character 17: samples[1]: expected i16: bad value\n",
         2,
     ),
     (

@@ -20,9 +20,13 @@ mod floats;
 #[cfg(test)]
 mod frames;
 #[cfg(test)]
+mod held;
+#[cfg(test)]
 mod helpers;
 #[cfg(test)]
 mod impls;
+#[cfg(test)]
+mod input_files;
 #[cfg(test)]
 mod json;
 #[cfg(test)]

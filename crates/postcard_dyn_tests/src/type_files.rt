@@ -1,66 +1,9 @@
 //! Tests of calls whose TYPE is in a file: what they print, and their status.
 
-ghost use Rattle.std.specs.Prelude.{⊤};
-
+use crate::held::{Held, words_of};
 use crate::same::same;
-use postcard_cli_files::type_name::LONGEST_FILE;
-use postcard_cli_files::{Files, ReadError, run};
-use std::alloc::Global;
+use postcard_cli_files::run;
 use std::process::Abort;
-
-/// A file of types.
-const TYPES: &str = "use serde::{Deserialize, Serialize};
-
-/// What a sensor sends.
-#[derive(Serialize, Deserialize)]
-pub struct Reading { pub id: u32, label: String, samples: Vec<i16> }
-pub enum Event { Boot, Reading(Reading), Fault { code: u8, text: String } }
-type Millimetres = i32;
-struct Wrong {
-    id: u9,
-}
-";
-
-/// Files that a test has.
-#[derive(Clone, Copy)]
-struct Held;
-
-impl Files for Held {
-    ghost gives = { λ _ _ _. ⊤ };
-
-    ghost lacks = { λ _ _. ⊤ };
-
-    fn read(&self, alloc: Global, name: &str, most: usize) -> Result<Vec<u8>, ReadError> {
-        let mut bytes = content_of(alloc, name)?;
-        bytes.truncate(most);
-        Ok(bytes)
-    }
-}
-
-/// Returns the bytes of a file: of `types.rs`, `a:b.rs`, `latin1.rs`, which is no UTF-8, or
-/// `longest.rs` and `long.rs`, of which the second is one byte too long. For `full.rs` memory is lacking.
-fn content_of(alloc: Global, name: &str) -> Result<Vec<u8>, ReadError> {
-    match name {
-        "types.rs" => padded(alloc, TYPES.as_bytes(), 0),
-        "a:b.rs" => padded(alloc, b"struct Pair(u8, u16);", 0),
-        "latin1.rs" => padded(alloc, b"// caf\xe9\nstruct Pair(u8, u16);", 0),
-        "longest.rs" => padded(alloc, b"struct Pair(u8, u16);", LONGEST_FILE),
-        "long.rs" => padded(alloc, b"struct Pair(u8, u16);", LONGEST_FILE + 1),
-        "full.rs" => Err(ReadError::OutOfMemory),
-        _ => Err(ReadError::Failed),
-    }
-}
-
-/// Returns the bytes, and blanks after them, if they are fewer than `least`.
-fn padded(alloc: Global, bytes: &[u8], least: usize) -> Result<Vec<u8>, ReadError> {
-    let Ok(mut content) = Vec::from_slice(alloc, bytes) else {
-        return Err(ReadError::OutOfMemory);
-    };
-    match content.resize(least.max(bytes.len()), b' ') {
-        Ok(()) => Ok(content),
-        Err(_) => Err(ReadError::OutOfMemory),
-    }
-}
 
 /// The words of a call, what it prints to the output and as errors, and its status.
 type Call<'a> = (&'a [&'a str], &'a str, &'a str, u8);
@@ -150,16 +93,6 @@ const CALLS: [Call; 12] = [
         1,
     ),
 ];
-
-/// Returns the words of a call.
-fn words_of(rt: &(impl Abort + AllocGlobal), call: &[&str]) -> Vec<String> {
-    let mut words = Vec::new(rt.alloc());
-    for word in call {
-        let word = String::from_str(rt.alloc(), word).expect(rt, "memory");
-        words.push(word).expect(rt, "memory");
-    }
-    words
-}
 
 /// Asserts that a call over a frame prints this and has this status.
 fn check(rt: &(impl Abort + AllocGlobal), call: &Call) {

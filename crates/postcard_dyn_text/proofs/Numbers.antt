@@ -2,7 +2,7 @@
 use Rattle.std.proofs.Common.{◌≡◌, ◌≢◌, ℕ, ℤ, pos, neg_ℤ, zero, suc, ◌<◌, true, false, cond, ◌^◌, List, [], ◌∷◌, ◌++◌, drop, codes, refl, sym, ap, subst, ◌∙◌, arith}
 use Rattle.std.proofs.lemmas.Bool.Decides.{nat_tests}
 use Rattle.std.specs.Int.{w128}
-use Rattle.std.specs.Prelude.{FitsSigned, Option, Some, None, IfSome, SomeIff}
+use Rattle.std.specs.Prelude.{FitsSigned, Option, Some, None, IfSome, IfNone, SomeIff}
 use Rattle.std.specs.Str.Parse.{starts_with_minus, without_leading_plus, without_leading_sign}
 use Rattle.std.proofs.lemmas.Int.{ints}
 use Rattle.std.proofs.lemmas.Str.Parse.{without_leading_plus_none}
@@ -78,3 +78,20 @@ minus_found word rest n None z e is some same = tt
 minus_found word rest n (Some x) z e is (fits, eq) same =
     let k = minus_taken word rest e in
     (n, subst (IsLiteral n) (sym k.1) is, eq ∙ same ∙ ap (λ b. cond b (minus n) (pos n)) (sym k.0))
+
+-- The word spells no number that fits, since the one that it spells doesn't.
+pub minus_refused : (word rest : List ℕ) (n : ℕ) (r : Option ℤ) (z : ℤ) → word ≡ codes "-" ++ rest → IsLiteral n rest → SomeIff r (FitsSigned w128 z) z → z ≡ minus n
+    → IfNone r ((y : ℤ) → FitsSigned w128 y → IsSigned y word → ⊥)
+minus_refused word rest n None z e is some same = λ y fits h.
+    let (m, low, literal, value) = minus_spelled word rest y e fits h in
+    let number : m ≡ n = one_literal m n rest literal is in
+    some (subst (FitsSigned w128) (value ∙ ap minus number ∙ sym same) fits)
+minus_refused word rest n (Some x) z e is some same = tt
+
+pub plain_refused : (word digits : List ℕ) (n : ℕ) (r : Option ℤ) (z : ℤ) → ((rest : List ℕ) → word ≢ codes "-" ++ rest) → digits ≡ without_leading_plus word → IsLiteral n digits
+    → SomeIff r (FitsSigned w128 z) z → z ≡ pos n → IfNone r ((y : ℤ) → FitsSigned w128 y → IsSigned y word → ⊥)
+plain_refused word digits n None z none plus is some same = λ y fits h.
+    let (m, low, literal, value) = plain_spelled word y none fits h in
+    let number : m ≡ n = one_literal m n (without_leading_plus word) literal (subst (IsLiteral n) plus is) in
+    some (subst (FitsSigned w128) (value ∙ ap pos number ∙ sym same) fits)
+plain_refused word digits n (Some x) z none plus is some same = tt

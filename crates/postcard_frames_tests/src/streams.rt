@@ -6,7 +6,7 @@ use crate::rows::joined;
 use crate::same::{same, same_at};
 use postcard_accumulator::{Answer, CobsAccumulator, ReadEnd, read_frames};
 use postcard_de::DeserializeOwned;
-use postcard_de_flavors::{Plain, Source};
+use postcard_de_flavors::{Plain, Reader};
 use postcard_test_support::devices::readers::FailingReader;
 use std::alloc::AllocGlobal;
 use std::fmt::Debug;
@@ -19,7 +19,7 @@ const STREAM: [u8; 9] = [5, 1, 1, 1, 1, 0, 2, 7, 0];
 const BOTH: [Answer<u8>; 2] = [Answer::OverFull, Answer::Success(7)];
 
 /// Reads a stream by at most `reads` reads, with a chunk of `size` bytes.
-fn read<R: Source, T: DeserializeOwned, const N: usize>(
+fn read<R: Reader, T: DeserializeOwned, const N: usize>(
     rt: &impl AllocGlobal,
     reader: &mut R,
     size: usize,

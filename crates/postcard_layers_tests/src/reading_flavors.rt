@@ -9,7 +9,7 @@ ghost use Rattle.std.specs.Io.KnownBytes.{ReadConsumes};
 
 use crate::asserts::{same, same_bytes};
 use postcard_de_flavors::io::io::IOReader;
-use postcard_de_flavors::{Flavor, Plain, Slice, Source};
+use postcard_de_flavors::{Flavor, Plain, Reader, Slice};
 use postcard_wire::{Error, Result};
 use std::io;
 use std::io::{ErrorKind, Read};
@@ -102,7 +102,7 @@ impl Read for OneByte<'_> {
     }
 }
 
-impl Source for OneByte<'_> {
+impl Reader for OneByte<'_> {
     ghost steady = { λ _. ⊤ };
 
     fn read_some(&mut self, buf: &mut [u8]) -> io::Result<usize> {
@@ -141,14 +141,14 @@ impl Read for Failing<'_> {
 }
 
 /// Returns whether a take succeeds. It uses up no scratch, and changes nothing if it is too short.
-fn looks<T: Source>(source: &mut IOReader<'_, T>, count: usize) -> bool
+fn looks<T: Reader>(source: &mut IOReader<'_, T>, count: usize) -> bool
     ensures room { length (scratch_of source.new) ≡ length (scratch_of source.old) }
     ensures short { length (scratch_of source.old) < count → source.new ≡ source.old }
 {
     source.try_take_n_temp(count).is_ok()
 }
 
-trait Over: Source {
+trait Over: Reader {
     fn over(bytes: &'static [u8]) -> Self;
 }
 
@@ -177,7 +177,7 @@ fn assert_all_popped<F: Flavor>(rt: &impl Abort, source: &mut F, bytes: &[u8]) {
 }
 
 /// Asserts that a source has just the bytes `unread` left, and `room` bytes of scratch.
-fn assert_left<T: Source>(rt: &impl Abort, source: IOReader<'_, T>, unread: &[u8], room: usize) {
+fn assert_left<T: Reader>(rt: &impl Abort, source: IOReader<'_, T>, unread: &[u8], room: usize) {
     let Ok((reader, scratch)) = source.finalize() else {
         unreachable!()
     };
@@ -187,7 +187,7 @@ fn assert_left<T: Source>(rt: &impl Abort, source: IOReader<'_, T>, unread: &[u8
     assert_popped(rt, &mut rest, Err(END));
 }
 
-fn assert_room<T: Source>(rt: &impl Abort, source: IOReader<'_, T>, room: usize) {
+fn assert_room<T: Reader>(rt: &impl Abort, source: IOReader<'_, T>, room: usize) {
     let Ok((_reader, scratch)) = source.finalize() else {
         unreachable!()
     };
@@ -298,13 +298,13 @@ fn a_failing_reader(rt: HostRuntime) {
     take_three(&rt, 3, true, 0);
 }
 
-fn assert_gives_two<T: Source>(rt: &impl Abort, reader: &mut T, want: &[u8]) {
+fn assert_gives_two<T: Reader>(rt: &impl Abort, reader: &mut T, want: &[u8]) {
     let mut buf = [0; 2];
     same(rt, reader.read_some(&mut buf).ok(), Some(2));
     same_bytes(rt, &buf, want);
 }
 
-fn assert_has_no_two<T: Source>(rt: &impl Abort, reader: &mut T) {
+fn assert_has_no_two<T: Reader>(rt: &impl Abort, reader: &mut T) {
     let mut buf = [0; 2];
     same(rt, reader.read_full(&mut buf).is_err(), true);
 }

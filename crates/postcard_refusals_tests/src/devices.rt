@@ -1,7 +1,7 @@
 //! Tests of readers and writers that fail at each of their calls, with interruptions in between, and
 //! of scratch buffers of each length.
 
-use postcard::de_flavors::{Plain, Source};
+use postcard::de_flavors::{Plain, Reader};
 use postcard::{Deserialize, DeserializeOwned, Error, Owned, Serialize, from_io, to_io};
 use postcard_test_support::devices::readers::{FailingReader, InterruptedReader, Pieces};
 use postcard_test_support::devices::writers::{FailingWriter, InterruptedWriter};
@@ -41,7 +41,7 @@ fn is_read_or_refused<T: DeserializeOwned + PartialEq>(
 }
 
 /// Returns whether reading a value from this reader fails with `DeserializeUnexpectedEnd`.
-fn ends<T: DeserializeOwned, R: Source>(alloc: Global, reader: R) -> bool {
+fn ends<T: DeserializeOwned, R: Reader>(alloc: Global, reader: R) -> bool {
     let mut scratch = [0; 16];
     from_io::<Owned<T>, _>(alloc, (reader, &mut scratch)).err() == Some(END)
 }

@@ -13,7 +13,7 @@ ghost use Rattle.postcard_de_flavors.specs.IOReader.{LendsScratch, reader_laws};
 
 use super::sliding_buffer::SlidingBuffer;
 use crate::flavor::Flavor;
-use crate::source::Source;
+use crate::reader::Reader;
 use postcard_wire::{Error, Result};
 
 /// A source that reads from a reader into a scratch buffer, from which it lends the bytes.
@@ -33,12 +33,12 @@ use postcard_wire::{Error, Result};
 /// reader isn't called then, and nothing is changed. Any call fails with the same error if fewer
 /// bytes are left to read or the reader fails; some bytes of the reader may be lost then.
 #[derive(Drop)]
-pub struct IOReader<'de, T: Source> {
+pub struct IOReader<'de, T: Reader> {
     reader: T,
     scratch: SlidingBuffer<'de>,
 }
 
-impl<'de, T: Source> IOReader<'de, T> {
+impl<'de, T: Reader> IOReader<'de, T> {
     /// Returns a source over `reader`, with all of `buff` as its scratch.
     pub fn new(reader: T, buff: &'de mut [u8]) -> IOReader<'de, T>
         ensures reader { reader_of result ≡ reader }
@@ -51,7 +51,7 @@ impl<'de, T: Source> IOReader<'de, T> {
     }
 }
 
-impl<'de, T: Source> Flavor for IOReader<'de, T> {
+impl<'de, T: Reader> Flavor for IOReader<'de, T> {
     type Remainder = (T, &'de mut [u8]);
 
     type Source = &'de [u8];

@@ -6,7 +6,7 @@ ghost use Rattle.std.specs.Prelude.{OnOk, OnErr, IsOk, IsErr};
 ghost use Rattle.std.specs.Io.KnownBytes.{Consumes};
 ghost use Rattle.postcard_de_flavors.specs.Reader.{AtLeast};
 
-use crate::source::Source;
+use crate::reader::Reader;
 use postcard_memory::{Life, Memory};
 use postcard_wire::{Error, Result};
 use std::marker::Model;
@@ -65,7 +65,7 @@ impl<'de> SlidingBuffer<'de> {
     /// bytes after them are unchanged, also after a failure. Fails with `DeserializeUnexpectedEnd`
     /// if fewer bytes are free, and nothing is changed then, or if the read fails; the first `n`
     /// bytes are unspecified then.
-    pub fn fill<R: Source>(&mut self, reader: &mut R, n: usize) -> Result<()>
+    pub fn fill<R: Reader>(&mut self, reader: &mut R, n: usize) -> Result<()>
         ensures length { length self.new ≡ length self.old }
         ensures rest_unchanged { drop n self.new ≡ drop n self.old }
         ensures room { OnOk result (n ≤ length self.old) }

@@ -35,5 +35,5 @@ returns-clause-problem c =
 
 pub returns-in-Ok-clause-opens : goal.returns-in-Ok-clause-opens
 returns-in-Ok-clause-opens c =
-    text_opens _ _ _ _ _ _ (subst (λ ts. AreDeclarations ts _) c.as_slice-2.ensures.value c.in_ok-known.ensures.declared) c.as_slice-3.ensures.value c.as_slice-4.ensures.value
+    text_opens _ _ _ _ _ _ (subst (λ ts. AreDeclarations ts c.in_ok-known.known.items) c.as_slice-2.ensures.value c.in_ok-known.ensures.declared) c.as_slice-3.ensures.value c.as_slice-4.ensures.value
     c.in_ok-words.ensures.opens (c.in_ok-text.ensures.spelled ∙ ap spelling c.as_slice-5.ensures.value)

@@ -7,7 +7,7 @@ ghost use Rattle.postcard_test_support.specs.Lengths.{turn, piece_length};
 ghost use Rattle.std.specs.Io.{ReadsAtMost};
 ghost use Rattle.std.specs.Io.KnownBytes.{ReadConsumes};
 
-use postcard::de_flavors::Source;
+use postcard::de_flavors::Reader;
 use std::io;
 use std::io::{ErrorKind, Read};
 
@@ -92,7 +92,7 @@ impl Read for Pieces<'_> {
     }
 }
 
-impl Source for Pieces<'_> {
+impl Reader for Pieces<'_> {
     ghost steady = { λ _. ⊤ };
 
     fn read_some(&mut self, buf: &mut [u8]) -> io::Result<usize> {

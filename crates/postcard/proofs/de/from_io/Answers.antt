@@ -13,15 +13,15 @@ pub returns-clause-accepts : goal.returns-clause-accepts
 returns-clause-accepts g c t front is_read is_spelled steady begins room =
     let reader = ap reader_of c.from_flavor-deserializer.ensures ∙ c.new.ensures.reader in
     let scratch = ap scratch_of c.from_flavor-deserializer.ensures ∙ c.new.ensures.scratch in
-    let found = c.in_ok-value.ensures.accepts t front is_read is_spelled (can_take g.R.Read.remaining g.R.Source.steady _ _ _ front reader scratch steady begins room) in
-    (found.0, consumed g.R.Read.remaining g.R.Source.steady _ _ _ _ front reader c.in_ok-left.ensures.0 found.1.drops)
+    let found = c.in_ok-value.ensures.accepts t front is_read is_spelled (can_take g.R.Read.remaining g.R.Reader.steady _ _ _ front reader scratch steady begins room) in
+    (found.0, consumed g.R.Read.remaining g.R.Reader.steady _ _ _ _ front reader c.in_ok-left.ensures.0 found.1.drops)
 
 pub returns-in_err-value-clause-reads_back : goal.returns-in_err-value-clause-reads_back
 returns-in_err-value-clause-reads_back g c x f steady begins room =
     let s = g.T.Shaped.shape in
     let reader = ap reader_of c.from_flavor-deserializer.ensures ∙ c.new.ensures.reader in
     let scratch = ap scratch_of c.from_flavor-deserializer.ensures ∙ c.new.ensures.scratch in
-    let found = c.in_err-value.ensures.accepts (s.tree x) (canonical (s.tree x)) (s.again x f).0 (is_spelled s x f) (can_take g.R.Read.remaining g.R.Source.steady _ _ _ (canonical (s.tree x)) reader scratch steady begins room) in
+    let found = c.in_err-value.ensures.accepts (s.tree x) (canonical (s.tree x)) (s.again x f).0 (is_spelled s x f) (can_take g.R.Read.remaining g.R.Reader.steady _ _ _ (canonical (s.tree x)) reader scratch steady begins room) in
     rw (is_refusal c.from_residual.result c.in_err-value.field-0.0 c.from_residual.ensures.1) (found, only_grown s.other _ c.in_err-value.ensures.named_error found)
 
 pub returns-clause-reads_back : goal.returns-clause-reads_back
@@ -33,7 +33,7 @@ returns-clause-reads_back g c x f steady begins room =
 pub returns-clause-gives : goal.returns-clause-gives
 returns-clause-gives g c =
     let remaining = g.R.Read.remaining in
-    let steady = g.R.Source.steady in
+    let steady = g.R.Reader.steady in
     let reader = ap reader_of c.from_flavor-deserializer.ensures ∙ c.new.ensures.reader in
     let scratch = ap scratch_of c.from_flavor-deserializer.ensures ∙ c.new.ensures.scratch in
     let found = c.in_ok-value.ensures.gives in

@@ -6,6 +6,6 @@ use Rattle.postcard_cli.proofs.hexadecimal.read_input.Given as goal
 abbrev pub invariant-reads : goal.invariant-reads
 invariant-reads g l = record {
   reader : Consumes (g.R.Read.remaining l.fn.input) (g.R.Read.remaining l.input) l.held.items;
-  steady : g.R.Source.steady l.fn.input → g.R.Source.steady l.input;
+  steady : g.R.Reader.steady l.fn.input → g.R.Reader.steady l.input;
   count : l.counter ≤ length l.held.items;
 }

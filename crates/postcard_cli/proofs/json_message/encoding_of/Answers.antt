@@ -17,9 +17,9 @@ returns-in-Err-NotAValue-clause-refused g c = record {
   path = c.in-Err-NotAValue.path;
   expected = c.in-Err-NotAValue.expected;
   within = subst (IsPlaceIn c.args.text.now) c.in-Err-NotAValue.field-0-is c.in-Err-NotAValue.ensures.place;
-  printed = rw (← c.colon_behind-colon.ensures) subst (λ z. Appends (g.W.Write.contents z) (g.W.Write.contents c.write.new.self)
+  printed = rw (← c.colon_after-colon.ensures) subst (λ z. Appends (g.W.Write.contents z) (g.W.Write.contents c.write.new.self)
       (codes "at character "
       ++ (decimal c.in-Err-NotAValue.character
-      ++ (codes ": " ++ (string_bytes c.in-Err-NotAValue.path ++ (c.colon_behind-colon.result.now ++ (expected_text c.in-Err-NotAValue.expected ++ codes ": ")))))))
+      ++ (codes ": " ++ (string_bytes c.in-Err-NotAValue.path ++ (c.colon_after-colon.result.now ++ (expected_text c.in-Err-NotAValue.expected ++ codes ": ")))))))
       c.in_ok-schema.ensures.untouched c.in_ok-write-in-Err-NotAValue.ensures.bytes;
 }

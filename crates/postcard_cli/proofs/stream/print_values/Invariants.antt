@@ -10,6 +10,6 @@ invariant-reads g l = record {
   given : List ℕ;
   count : l.counter ≤ length given;
   reader : Consumes (g.R.Read.remaining l.fn.input) (g.R.Read.remaining l.input) given;
-  steady : g.R.Source.steady l.fn.input → g.R.Source.steady l.input;
+  steady : g.R.Reader.steady l.fn.input → g.R.Reader.steady l.input;
   lines : IsAfter l.format l.fn.longest given l.stream (g.W.Write.contents l.initial.output) (g.W.Write.contents l.output);
 }

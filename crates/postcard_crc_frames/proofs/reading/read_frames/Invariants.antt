@@ -9,5 +9,5 @@ invariant-loop g l = record {
   so_far : ReadSoFar g.row.N (IsOwn g.T.Shaped.shape g.W.Width.size l.fn.crc) (g.R.Read.remaining l.fn.reader)
       (g.R.Read.remaining l.reader) l.fn.acc l.acc l.fn.out.items l.out.items l.counter
       (length l.fn.chunk);
-  steady : g.R.Source.steady l.fn.reader → g.R.Source.steady l.reader;
+  steady : g.R.Reader.steady l.fn.reader → g.R.Reader.steady l.reader;
 }

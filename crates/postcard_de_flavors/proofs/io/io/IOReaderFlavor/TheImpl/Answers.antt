@@ -25,6 +25,6 @@ try_take_n_temp-meets g x c =
     let remainder = Tuple (param 0 g.row.T ∷ (mut_slice_field (record { mir = erased; lft = g.lifetime.n1 }) u8 tt).row ∷ []) in
     let lent = (shr_slice_field (record { mir = erased; lft = g.lifetime.n1 }) u8 tt).row in
     turns g.world.𝓤 _ _
-    (λ r e. (own.clauses g.row.T g.T.Source g.T.Source-dict g.T.Read g.T.Read-dict g.T.Destruct-dict g.world.𝓛 g.world.𝓜.mem g.world.𝓡.returns (c.lifetimes.0, (g.lifetime.n1, (c.lifetimes.1.0, tt))) (c.args.self, (c.args.ct, tt))).ensures tt r e)
-    (λ r e. (its_trait.clauses row remainder lent (the_impl.ghosts g.row.T g.T.Source g.T.Source-dict g.T.Read g.T.Read-dict g.T.Destruct-dict) (the_impl.dict g.row.T g.T.Source g.T.Source-dict g.T.Read g.T.Read-dict g.T.Destruct-dict) x g.world.𝓛 g.world.𝓜.mem g.world.𝓡.returns c.lifetimes (c.args.self, (c.args.ct, tt))).ensures c.ghost r (e.0, (e.1.0, tt)))
+    (λ r e. (own.clauses g.row.T g.T.Reader g.T.Reader-dict g.T.Read g.T.Read-dict g.T.Destruct-dict g.world.𝓛 g.world.𝓜.mem g.world.𝓡.returns (c.lifetimes.0, (g.lifetime.n1, (c.lifetimes.1.0, tt))) (c.args.self, (c.args.ct, tt))).ensures tt r e)
+    (λ r e. (its_trait.clauses row remainder lent (the_impl.ghosts g.row.T g.T.Reader g.T.Reader-dict g.T.Read g.T.Read-dict g.T.Destruct-dict) (the_impl.dict g.row.T g.T.Reader g.T.Reader-dict g.T.Read g.T.Read-dict g.T.Destruct-dict) x g.world.𝓛 g.world.𝓜.mem g.world.𝓡.returns c.lifetimes (c.args.self, (c.args.ct, tt))).ensures c.ghost r (e.0, (e.1.0, tt)))
     (λ r e. fewer g.world.𝓤 _ _ _ _ _ _ (rests_less g.world.𝓛 row c.args.self _ _ (λ new known. known.0)))

@@ -1,5 +1,5 @@
 use Rattle.std.proofs.Common.{◌≡◌, ◌-◌, ◌≤◌, ◌++◌, length, take}
-use Rattle.postcard_test_support.proofs.devices.readers.PiecesSource.read_full.Given as goal
+use Rattle.postcard_test_support.proofs.devices.readers.PiecesReader.read_full.Given as goal
 
 -- The bytes of the reader are those before the place in the buffer, and then those that are left.
 abbrev pub invariant-loop-at : goal.invariant-loop-at

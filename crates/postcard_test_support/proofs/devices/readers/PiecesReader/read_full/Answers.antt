@@ -1,6 +1,6 @@
 use Rattle.std.proofs.Common.{rules, ◌-◌, ◌++◌, length, take, sym, ap, ◌∙◌, append_assoc}
 use Rattle.postcard_test_support.proofs.Filled.{front_filled}
-use Rattle.postcard_test_support.proofs.devices.readers.PiecesSource.read_full.Goals as goal
+use Rattle.postcard_test_support.proofs.devices.readers.PiecesReader.read_full.Goals as goal
 
 pub loop-at-preserved : goal.loop-at-preserved
 loop-at-preserved c =

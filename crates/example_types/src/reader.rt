@@ -1,6 +1,6 @@
 //! A user's own reader for a source: it counts the bytes that are read from another reader.
 
-use postcard::de_flavors::Source;
+use postcard::de_flavors::Reader;
 use std::io;
 use std::io::Read;
 
@@ -26,7 +26,7 @@ impl<R: Read> Read for Counted<R> {
 }
 
 /// It is steady if the inner reader is, which means that no read fails while bytes are left.
-impl<R: Source> Source for Counted<R> {
+impl<R: Reader> Reader for Counted<R> {
     ghost steady = { λ s. R.steady s.inner };
 
     fn read_some(&mut self, buf: &mut [u8]) -> io::Result<usize> {

@@ -13,7 +13,7 @@ use std::io::Read;
 ///
 /// The sources of this crate read only by these two methods. Wrap a reader that has no such
 /// contract in [`Plain`](crate::plain::Plain).
-pub trait Source: Read + Drop {
+pub trait Reader: Read + Drop {
     /// No read fails while bytes are left.
     ghost steady: { Self → Type 0 };
 
@@ -48,7 +48,7 @@ pub trait Source: Read + Drop {
 
 /// A slice is always steady. If it has fewer bytes than `buf`, `read_full` fails with
 /// `UnexpectedEof` and takes nothing.
-impl Source for &[u8] {
+impl Reader for &[u8] {
     ghost steady = { λ _. ⊤ };
 
     fn read_some(&mut self, buf: &mut [u8]) -> io::Result<usize> {

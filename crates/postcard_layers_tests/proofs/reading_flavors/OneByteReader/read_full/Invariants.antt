@@ -1,5 +1,5 @@
 use Rattle.std.proofs.Common.{◌≡◌, ◌++◌, take}
-use Rattle.postcard_layers_tests.proofs.reading_flavors.OneByteSource.read_full.Given as goal
+use Rattle.postcard_layers_tests.proofs.reading_flavors.OneByteReader.read_full.Given as goal
 
 -- The bytes at the call are the first `at` bytes of `buf`, and then those left.
 abbrev pub invariant-loop-at : goal.invariant-loop-at
