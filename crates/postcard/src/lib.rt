@@ -37,8 +37,8 @@
 //!   names end in `_crc32`, write values with a checksum after each, and check it when they read
 //!   (`postcard_crc`, `postcard_crc_frames`).
 //! - `fixint` writes and reads numbers at their full width (all of `postcard_fixint`).
-//! - `write_variant`, `FromParts` and `read_parts` are for the impls of types of your own (module
-//!   `own`).
+//! - `write_variant`, `FromParts`, `read_parts` and `read_parts_owned` are for the impls of types of
+//!   your own (module `types`).
 //! - `laws` has the laws that tie both directions together.
 #![tactic(auto)]
 
@@ -48,9 +48,9 @@ mod de;
 pub mod de_flavors;
 pub mod experimental;
 pub mod laws;
-mod own;
 mod ser;
 pub mod ser_flavors;
+mod types;
 mod with_flavor;
 
 pub use cobs::{
@@ -58,7 +58,6 @@ pub use cobs::{
     to_vec_cobs,
 };
 pub use de::from_io;
-pub use own::{FromParts, read_parts, write_variant};
 pub use postcard_accumulator::{Answer, ReadEnd, read_frames};
 pub use postcard_crc::de::{
     from_bytes as from_bytes_crc32, take_from_bytes as take_from_bytes_crc32,
@@ -77,4 +76,5 @@ pub use postcard_ser::{Serialize, SerializeRepr, Serializer, serialize_variant};
 pub use postcard_shape::FirstBytes;
 pub use postcard_wire::{Error, Result};
 pub use ser::{fill_slice, to_slice};
+pub use types::{FromParts, read_parts, read_parts_owned, write_variant};
 pub use with_flavor::{serialize_with_flavor, to_allocvec, to_extend, to_io, to_stdvec, to_vec};

@@ -1,7 +1,7 @@
 -- The variant of a value is written: from what the call wrote to what is written of the value.
 use Rattle.std.proofs.lemmas.Result.{on_ok_weaker}
 use Rattle.postcard_ser.proofs.PartByPart.{wrote_as}
-use Rattle.postcard.proofs.own.write_variant.Goals as goal
+use Rattle.postcard.proofs.types.write_variant.Goals as goal
 
 pub returns-clause-wrote : goal.returns-clause-wrote
 returns-clause-wrote g c = rw c.requires.tree (wrote_as c.serialize_variant.ensures.wrote c.requires.refusal c.requires.text)
