@@ -1,6 +1,5 @@
 //! The impls of the types of a file, as they are written between its marks.
 
-use crate::decoded::add_decoded;
 use crate::enums::add_enum;
 use crate::form::Form;
 use crate::item::Item;
@@ -18,7 +17,6 @@ pub(crate) fn impls(
     forms: &[Form],
 ) -> Result<String, ImplProblemAt> {
     let mut out = Text::new(alloc);
-    add_decoded(&mut out, items, forms);
     for (item, form) in items.iter().zip(forms) {
         match item.kind {
             Kind::Struct => add_struct(&mut out, item, *form),
