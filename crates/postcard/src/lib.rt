@@ -30,6 +30,8 @@
 //! - The names that end in `_crc32`, and the modules `checksum`, write a checksum after each value,
 //!   and check it when they read.
 //! - `fixint` writes and reads numbers at their full width.
+//! - `write_variant`, `FromParts`, `read_parts` and `read_parts_owned` are for the impls of types of
+//!   your own.
 //! - `laws` has the laws that tie both directions together.
 #![tactic(auto)]
 
@@ -41,6 +43,7 @@ pub mod experimental;
 pub mod laws;
 mod ser;
 pub mod ser_flavors;
+mod types;
 mod with_flavor;
 
 pub use cobs::{
@@ -66,4 +69,5 @@ pub use postcard_ser::{Serialize, SerializeRepr, Serializer, serialize_variant};
 pub use postcard_shape::FirstBytes;
 pub use postcard_wire::{Error, Result};
 pub use ser::{fill_slice, to_slice};
+pub use types::{FromParts, read_parts, read_parts_owned, write_variant};
 pub use with_flavor::{serialize_with_flavor, to_allocvec, to_extend, to_io, to_stdvec, to_vec};

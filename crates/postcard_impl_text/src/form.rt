@@ -104,8 +104,8 @@ pub(crate) enum Form {
     Alias,
     /// `Shaped` by `via`, `Serialize`, `Deserialize`, and `DeserializeOwned` if nothing in it borrows.
     Via,
-    /// The same, with a trait of the file by which a value is made of its parts, since it has several
-    /// signed numbers, or variants.
+    /// The same, and `FromParts`, by which a value is made of its parts, since it has several signed
+    /// numbers, or variants.
     ByParts,
     /// `Repr`, `FromRepr` and `SerializeRepr`, since it has a parameter and a lifetime.
     Seen,

@@ -2,8 +2,7 @@
 
 use crate::form::Form;
 use crate::heads::{
-    DESERIALIZE, DESERIALIZE_OWNED, SERIALIZES, Trait, USE_VIA, add_decoded_body, add_head,
-    add_owned,
+    DESERIALIZE, DESERIALIZE_OWNED, SERIALIZES, Trait, USE_VIA, add_head, add_owned, add_parts_body,
 };
 use crate::item::{Item, Member};
 use crate::pieces::{Lifetimes, Piece, add_tuple, add_value};
@@ -40,12 +39,12 @@ fn add_shape(out: &mut Text, item: &Item, member: &Member) {
 /// Adds the impl by which a struct is made of its parts.
 fn add_from_parts(out: &mut Text, item: &Item, member: &Member) {
     let fields = member.fields.as_slice();
-    add_head(out, item, Trait::FromDecoded);
+    add_head(out, item, Trait::FromParts);
     out.add("    type Parts = ");
     add_tuple(out, fields, Piece::Type);
     out.add(";\n\n    ghost seen = { λ v. ");
     add_tuple(out, fields, Piece::OfValue);
-    out.add(" };\n\n    fn from_decoded(parts: Self::Parts) -> Self {\n        let ");
+    out.add(" };\n\n    fn from_parts(parts: Self::Parts) -> Self {\n        let ");
     add_tuple(out, fields, Piece::Variable);
     out.add(" = parts;\n        ");
     add_value(out, &[item.name], member);
@@ -86,7 +85,7 @@ fn add_reads(out: &mut Text, item: &Item, member: &Member, form: Form) {
 /// end of its impl.
 fn add_read_body(out: &mut Text, item: &Item, member: &Member, form: Form, lifetimes: Lifetimes) {
     if form == Form::ByParts {
-        add_decoded_body(out, lifetimes);
+        add_parts_body(out, lifetimes);
         return;
     }
     let call = match lifetimes {
