@@ -34,8 +34,6 @@ pub struct Open {
 }
 
 impl Read for Open {
-    ghost remaining = { λ _. None };
-
     fn read(&mut self, buf: &mut [u8]) -> io::Result<usize> {
         if self.reads_left == 0 {
             return Err(io::Error::from(ErrorKind::BrokenPipe));
