@@ -1,9 +1,7 @@
 //! The parameters of an algorithm.
 
 /// The parameters of an algorithm, after R. Williams, "A painless guide to CRC error detection
-/// algorithms", 1993. Catalogues list algorithms by them.
-///
-/// The checksums are of the type `W`: `u8`, `u16`, `u32`, `u64` or `u128`.
+/// algorithms", 1993. Its checksums are of the type `W`, `u8` to `u128`.
 #[derive(Clone, Copy)]
 pub struct Algorithm<W> {
     /// The number of bits of a checksum, at least 1 and at most as many as `W` has.

@@ -1,10 +1,10 @@
 //! Algorithms by their names in Koopman's and Cook's catalogue of parametrised CRC algorithms.
+//! [`Algorithm`] says what each field is.
 //!
-//! The checksum of the text `123456789` is each algorithm's `check`, and the remainder of a message
-//! with its checksum is its `residue`. Where the checksum follows the message lowest byte first, as
-//! in the checked messages of [`laws`](crate::laws) and of `postcard`, take an algorithm whose
-//! `refin` and `refout` are true: it sees every burst of changed bits that is not longer than the
-//! checksum, also across the end of the message.
+//! Where the checksum follows the message lowest byte first, as in the checked messages of
+//! [`laws`](crate::laws) and of `postcard`, take an algorithm whose `refin` and `refout` are true:
+//! it sees every burst of changed bits that is not longer than the checksum, also across the end of
+//! the message. The others are marked as not reflected.
 
 ghost use Rattle.std.specs.Prelude.{◌-◌, ◌^◌};
 ghost use Rattle.crc.specs.Algorithm.{parameters};
@@ -48,7 +48,7 @@ pub const CRC_16_IBM_SDLC: Algorithm<u16> = Algorithm {
     residue: 0xf0b8,
 };
 
-/// CRC-16/XMODEM: file transfer by XMODEM. Not reflected: see the head of this module.
+/// CRC-16/XMODEM: file transfer by XMODEM. Not reflected.
 pub const CRC_16_XMODEM: Algorithm<u16> = Algorithm {
     width: 16,
     poly: 0x1021,
@@ -193,10 +193,8 @@ pub const CRC_82_DARC: Algorithm<u128> = Algorithm {
 };
 
 /// How far apart two changed bits have to be to pass: the order of x modulo the generator of each
-/// entry is at least this. No two changed bits pass that are closer
-/// ([`two_in_message`](crate::laws::two_in_message), and of a reflected entry
-/// [`two_in_checked`](crate::laws::two_in_checked)). The numbers are the orders themselves, so some
-/// two bits that far apart do pass. The function does nothing.
+/// entry is at least this ([`two_in_message`](crate::laws::two_in_message), and of a reflected
+/// entry [`two_in_checked`](crate::laws::two_in_checked)).
 pub fn orders()
     ensures crc_8_smbus { HasOrderFrom 127 (parameters (λ n. n) CRC_8_SMBUS) }
     ensures crc_8_maxim_dow { HasOrderFrom 127 (parameters (λ n. n) CRC_8_MAXIM_DOW) }

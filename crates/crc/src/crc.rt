@@ -12,10 +12,8 @@ use crate::implementation::{Implementation, Table};
 use crate::width::Width;
 use std::marker::Model;
 
-/// An algorithm with its tables, which are those of the implementation `I`, by default a [`Table`] of
-/// 256 entries.
-///
-/// A contract sees it as the parameters of its algorithm.
+/// An algorithm with its tables, of the implementation `I`, by default a [`Table`]. A contract sees
+/// the parameters of the algorithm.
 #[derive(Drop)]
 pub struct Crc<W: Width, I: Implementation<W> = Table<W>> {
     pub(crate) algorithm: Algorithm<W>,

@@ -11,9 +11,8 @@ use crate::register;
 use crate::width::Width;
 use std::marker::Model;
 
-/// The checksum of a message that comes in pieces.
-///
-/// A contract sees it as [`Progress`]: what it has taken is said by `Took`.
+/// The checksum of a message that comes in pieces. A contract sees it as [`Progress`]: `Took` says
+/// what it has taken.
 #[derive(Drop)]
 pub struct Digest<'a, W: Width, I: Implementation<W> = Table<W>> {
     crc: &'a Crc<W, I>,

@@ -23,8 +23,7 @@ pub trait Implementation<W: Width>: Drop {
         ensures { AreEntries (8 * W.size) (parameters W.number algorithm.now) count
             (entries result) };
 
-    /// Returns the register after more bytes of the message, where `register` is the register
-    /// before them.
+    /// Returns the register after more bytes of the message.
     fn update(&self, algorithm: &Algorithm<W>, register: W, bytes: &[u8]) -> W
         requires valid { IsValid (8 * W.size) (parameters W.number algorithm.now) }
         requires served { AreEntries (8 * W.size) (parameters W.number algorithm.now) count

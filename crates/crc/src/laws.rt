@@ -1,8 +1,8 @@
-//! What a checksum says of its message. The functions do nothing: their contracts are the laws.
+//! What a checksum says of its message, as contracts of functions that do nothing.
 //!
-//! A message is read as the bits of its bytes in a row, of each byte the lowest first if `refin`.
-//! That is the order in which a serial line sends them. What was changed in a message is the sum of
-//! the polynomials before and after: a bit is one where the two differ.
+//! A message is read as the bits of its bytes in a row, of each byte the lowest first if `refin`,
+//! as a serial line sends them. A checked message is a message and then its checksum in `k` bytes,
+//! the lowest first; `refin` and `refout` are true.
 
 ghost use Rattle.std.specs.Prelude.{◌≡◌, ◌+◌, ◌*◌, ◌^◌, ◌<◌, ◌≤◌, ◌++◌, true, ℕ, List, length};
 ghost use Rattle.std.specs.Prelude.{bit_xor, IsTrue};
@@ -43,9 +43,7 @@ pub fn two_in_message()
 {}
 
 /// Two checked messages of one length that differ only within `width` bits in a row, those of their
-/// checksums included, are equal. A checked message is a message and then its checksum in `k` bytes,
-/// the lowest first; `refin` and `refout` are true. Without them the checksum's bits aren't in the
-/// message's order, and a burst across the end of a message may pass.
+/// checksums included, are equal.
 pub fn burst_in_checked()
     ensures { (a : Parameters) (k i : ℕ) → IsSound a → a.refin ≡ true → a.refout ≡ true
         → a.width + i ≡ 8 * k → (f g : List ℕ) → length f ≡ length g
@@ -53,8 +51,8 @@ pub fn burst_in_checked()
         → IsBurst a.width (bit_xor (message a.refin f) (message a.refin g)) → f ≡ g }
 {}
 
-/// The same of whole bytes: two checked messages that differ only in bytes in a row, as many as the
-/// checksum has or fewer, are equal.
+/// Two checked messages of one length that differ only in bytes in a row, as many as the checksum
+/// has or fewer, are equal.
 pub fn bytes_in_checked()
     ensures { (a : Parameters) (k i : ℕ) → IsSound a → a.refin ≡ true → a.refout ≡ true
         → a.width + i ≡ 8 * k → (p x y s : List ℕ) → length x ≡ length y → 8 * length x ≤ a.width
@@ -80,12 +78,10 @@ pub fn two_in_checked()
         → AreTwo d (bit_xor (message a.refin f) (message a.refin g)) → ⊥ }
 {}
 
-/// The order of x modulo a generator is the product of some primes if they pass a test that
-/// computes: x to the product is congruent to 1, and not if a prime is left out. It squares
-/// polynomials, and so takes about as many steps as the order has digits, where
-/// [`order_from`](crate::order_from) takes as many as the order. The primes are tested by each
-/// number up to `k + 1`, and are below `(k + 2)^2`. [`orders`](crate::catalog::orders) has the orders
-/// of the catalogue.
+/// The order of x modulo a generator is the product of some primes if x to the product is congruent
+/// to 1, and not if a prime is left out. The test takes about as many steps as the order has
+/// digits, where [`order_from`](crate::order_from) takes as many as the order. The primes are
+/// tested by each number up to `k + 1`, and are below `(k + 2)^2`.
 pub fn order_by_primes()
     ensures none_below { (a : Parameters) (k : ℕ) (primes : List ℕ)
         → IsTrue (shows_order a.width a.poly k primes) → HasOrderFrom (product primes) a }

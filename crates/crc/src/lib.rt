@@ -1,9 +1,8 @@
 //! Checksums of 1 to 128 bits: the remainder of a message by a polynomial over GF(2), the field of
 //! two elements.
 //!
-//! A [`Crc`] is an algorithm with its tables. It computes the checksum of a whole message
-//! ([`Crc::checksum`]), or of one that comes in pieces ([`Crc::digest`]). The names are those of
-//! the Rust crate `crc`.
+//! A [`Crc`] computes the checksum of a whole message ([`Crc::checksum`]), or of one that comes in
+//! pieces ([`Crc::digest`]). The names are those of the Rust crate `crc`.
 #![tactic(auto)]
 
 pub mod algorithm;

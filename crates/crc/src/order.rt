@@ -11,13 +11,11 @@ use crate::register;
 use crate::width::Width;
 
 /// Returns the order of x modulo the generator of an algorithm, which is the least d above 0 with
-/// x^d congruent to 1; or `limit` if the order isn't below that. Two messages of one length and one
-/// checksum don't differ in just two bits that are less than the order apart
-/// ([`two_in_message`](crate::laws::two_in_message)).
+/// x^d congruent to 1; or `limit` if the order isn't below that.
+/// [`two_in_message`](crate::laws::two_in_message) says what it tells of damage.
 ///
-/// It makes as many steps as the result has. The order is at most 2^width - 1. A generator with no
-/// constant term, as no algorithm of the catalogue has, has no such d. The Rust crate has no such
-/// call.
+/// It makes as many steps as the result has; the order is at most 2^width - 1. A generator with no
+/// constant term, as none of the catalogue is, has no such d. The Rust crate has no such call.
 pub fn order_from<W: Width>(algorithm: &Algorithm<W>, limit: u64) -> u64
     requires { IsValid (8 * W.size) (parameters W.number algorithm.now) }
     ensures at_most_limit { result ≤ limit }

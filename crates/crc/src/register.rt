@@ -1,5 +1,4 @@
-//! The register of a checksum, of 1 to 128 bits: its shifts, its order of bits, and one or eight
-//! more powers of x.
+//! The register of a checksum, of 1 to 128 bits.
 
 ghost use Rattle.std.specs.Prelude.{◌≡◌, ◌<◌, ◌≤◌, ◌*◌, ◌-◌, ◌/◌, ◌%◌, ◌^◌};
 ghost use Rattle.crc.specs.Crc.{in_order};

@@ -1,5 +1,4 @@
-//! Eight tables of an algorithm, and the register that takes a message by them, eight bytes at a
-//! time.
+//! Eight tables of an algorithm, by which a register takes eight bytes at a time.
 
 ghost use Rattle.std.specs.Prelude.{◌≡◌, ◌<◌, ◌≤◌, ◌*◌, ◌^◌, ◌++◌, ℕ, List, length, map};
 ghost use Rattle.crc.specs.Algorithm.{parameters};
@@ -13,8 +12,7 @@ use crate::register;
 use crate::table::by_bytes;
 use crate::width::Width;
 
-/// Eight tables of 256 entries each, by which a register takes eight bytes at a time. They have
-/// 2048 bytes for each byte of a checksum's type: 8 KiB at `u32`, and 16 KiB at `u64`.
+/// Eight tables of 256 entries each: 2048 bytes for each byte of a checksum's type, 8 KiB at `u32`.
 #[derive(Drop)]
 pub struct Slice8<W> {
     entries: [W; 2048],
@@ -96,7 +94,6 @@ fn pick<W: Width>(entries: &[W], bytes: &[u8]) -> u128
     sum
 }
 
-/// Returns the register after eight bytes more.
 #[inline]
 fn step_eight<W: Width>(algorithm: &Algorithm<W>, entries: &[W], register: W, eight: &[u8]) -> W
     requires valid { IsValid (8 * W.size) (parameters W.number algorithm.now) }

@@ -1,4 +1,4 @@
-//! One table of an algorithm, and the register that takes a message by it, a byte at a time.
+//! One table of an algorithm, by which a register takes a byte at a time.
 
 ghost use Rattle.std.specs.Prelude.{◌<◌, ◌≤◌, ◌*◌, ◌^◌, ◌++◌, ℕ, List, length, map};
 ghost use Rattle.crc.specs.Algorithm.{parameters};
@@ -11,14 +11,12 @@ use crate::implementation::Implementation;
 use crate::register;
 use crate::width::Width;
 
-/// A table of 256 entries, by which a register takes one byte at a time. It has 256 bytes for each
-/// byte of a checksum's type: 1 KiB at `u32`, and 2 KiB at `u64`.
+/// A table of 256 entries: 256 bytes for each byte of a checksum's type, 1 KiB at `u32`.
 #[derive(Drop)]
 pub struct Table<W> {
     entries: [W; 256],
 }
 
-/// Returns the register after one byte more.
 #[inline]
 fn step<W: Width>(algorithm: &Algorithm<W>, entries: &[W], register: W, byte: u8) -> W
     requires valid { IsValid (8 * W.size) (parameters W.number algorithm.now) }

@@ -2,10 +2,8 @@
 
 ghost use Rattle.std.specs.Prelude.{◌≡◌, ◌<◌, ◌≤◌, ◌*◌, ◌^◌, ℕ};
 
-/// The type of a checksum: an unsigned integer of 8, 16, 32, 64 or 128 bits.
-///
-/// Named as in the Rust crate `crc`. It is not `Algorithm::width`, the number of bits of a checksum,
-/// which may be less than `bits`.
+/// The type of a checksum: an unsigned integer of 8, 16, 32, 64 or 128 bits, of which a checksum
+/// may have fewer.
 pub trait Width: Copy {
     /// The number that a value is.
     ghost number: { Self → ℕ };

@@ -1,18 +1,15 @@
 //! Commands to a receiver: an enum whose variants hold structs with memory, and lists of them.
 
 ghost use Rattle.example_config.specs.declared.command.Command.{Command};
-ghost use Rattle.postcard_ser.specs.Writing.{Wrote};
 ghost use Rattle.postcard_shape.specs.Shape.{via};
 ghost use Rattle.postcard_shape.specs.declared.cases.Case.TheVariants.{This, Next};
-ghost use Rattle.postcard_wire.specs.Spelling.{canonical};
-ghost use Rattle.std.specs.Prelude.{OnOk};
 
 use crate::config::Config;
 use postcard::de_flavors::Flavor as DeFlavor;
 use postcard::ser_flavors::Flavor;
 use postcard::{
     Case, Deserialize, DeserializeOwned, Deserializer, NoCase, Result, Serialize, Serializer,
-    Shaped, serialize_variant,
+    Shaped, write_variant,
 };
 use std::alloc::Global;
 
@@ -43,24 +40,13 @@ impl Shaped for Command {
     ]) ⟦<Case<(), Case<Config, Case<Vec<Config>, Case<(u8, String), NoCase>>>> as Shaped>⟧.shape };
 }
 
-/// Writes the variant `Set`.
-fn write_set<F: Flavor>(config: &Config, serializer: &mut Serializer<F>) -> Result<()>
-    ensures wrote { Wrote F.Flavor serializer.old.output
-        (canonical (⟦<Command as Shaped>⟧.shape.tree (Command.Set config.now)))
-        (⟦<Command as Shaped>⟧.shape.refusal (Command.Set config.now))
-        ⟦<Command as Shaped>⟧.shape.text result serializer.new.output }
-    ensures fits { OnOk result (⟦<Command as Shaped>⟧.shape.fits (Command.Set config.now)) }
-{
-    serialize_variant(1, config, serializer)
-}
-
 impl Serialize for Command {
     fn serialize<F: Flavor>(&self, serializer: &mut Serializer<F>) -> Result<()> {
         match self {
-            Command::Ping => serialize_variant(0, &(), serializer),
-            Command::Set(config) => write_set(config, serializer),
-            Command::Batch(configs) => serialize_variant(2, configs, serializer),
-            Command::Fault { code, text } => serialize_variant(3, &(code, text), serializer),
+            Command::Ping => write_variant(self, 0, &(), serializer),
+            Command::Set(config) => write_variant(self, 1, config, serializer),
+            Command::Batch(configs) => write_variant(self, 2, configs, serializer),
+            Command::Fault { code, text } => write_variant(self, 3, &(code, text), serializer),
         }
     }
 }

@@ -8,7 +8,7 @@ use postcard::de_flavors::Flavor as DeFlavor;
 use postcard::ser_flavors::Flavor;
 use postcard::{
     Case, Deserialize, DeserializeOwned, Deserializer, NoCase, Result, Serialize, Serializer,
-    Shaped, serialize_variant,
+    Shaped, write_variant,
 };
 use std::alloc::Global;
 
@@ -34,9 +34,9 @@ impl Shaped for Parity {
 impl Serialize for Parity {
     fn serialize<F: Flavor>(&self, serializer: &mut Serializer<F>) -> Result<()> {
         match self {
-            Parity::None => serialize_variant(0, &(), serializer),
-            Parity::Even => serialize_variant(1, &(), serializer),
-            Parity::Odd => serialize_variant(2, &(), serializer),
+            Parity::None => write_variant(self, 0, &(), serializer),
+            Parity::Even => write_variant(self, 1, &(), serializer),
+            Parity::Odd => write_variant(self, 2, &(), serializer),
         }
     }
 }

@@ -8,7 +8,7 @@ use postcard::de_flavors::Flavor as DeFlavor;
 use postcard::ser_flavors::Flavor;
 use postcard::{
     Case, Deserialize, DeserializeOwned, Deserializer, NoCase, Result, Serialize, Serializer,
-    Shaped, from_bytes, from_bytes_cobs, serialize_variant, to_allocvec, to_allocvec_cobs,
+    Shaped, from_bytes, from_bytes_cobs, to_allocvec, to_allocvec_cobs, write_variant,
 };
 use std::alloc::Global;
 
@@ -42,9 +42,9 @@ impl Shaped for Sky {
 impl Serialize for Sky {
     fn serialize<F: Flavor>(&self, serializer: &mut Serializer<F>) -> Result<()> {
         match self {
-            Sky::Clear => serialize_variant(0, &(), serializer),
-            Sky::Cloudy(eighths) => serialize_variant(1, eighths, serializer),
-            Sky::Storm { name, wind } => serialize_variant(2, &(name, wind), serializer),
+            Sky::Clear => write_variant(self, 0, &(), serializer),
+            Sky::Cloudy(eighths) => write_variant(self, 1, eighths, serializer),
+            Sky::Storm { name, wind } => write_variant(self, 2, &(name, wind), serializer),
         }
     }
 }

@@ -8,7 +8,6 @@ mod counted;
 mod first;
 mod limited;
 mod pair;
-mod parts;
 mod request;
 mod routes;
 mod store;

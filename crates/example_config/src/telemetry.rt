@@ -2,11 +2,11 @@
 
 ghost use Rattle.postcard_shape.specs.Shape.{via};
 
-use crate::parts::{FromParts, read_parts};
 use postcard::de_flavors::Flavor as DeFlavor;
 use postcard::ser_flavors::Flavor;
 use postcard::{
-    Deserialize, DeserializeOwned, Deserializer, Result, Serialize, Serializer, Shaped,
+    Deserialize, DeserializeOwned, Deserializer, FromParts, Result, Serialize, Serializer, Shaped,
+    read_parts,
 };
 use std::alloc::Global;
 
@@ -53,14 +53,6 @@ type Parts = (
     (u16, u16, u8, bool, String),
 );
 
-impl Shaped for Telemetry {
-    ghost shape = { via (λ v. (
-      (v.sequence, v.uptime, v.voltage, v.current, v.temperature),
-      (v.humidity, v.pressure, v.latitude, v.longitude, v.altitude),
-      (v.heading, v.speed, v.satellites, v.fix, v.label),
-    )) ⟦<Parts as Shaped>⟧.shape };
-}
-
 impl FromParts for Telemetry {
     type Parts = Parts;
 
@@ -93,6 +85,10 @@ impl FromParts for Telemetry {
             label,
         }
     }
+}
+
+impl Shaped for Telemetry {
+    ghost shape = { via ⟦<Telemetry as FromParts>⟧.seen ⟦<Parts as Shaped>⟧.shape };
 }
 
 impl Serialize for Telemetry {

@@ -192,44 +192,6 @@ pub enum Command {
 
 // pcard impl: the impls of the types of this file. Don't edit them: run it again.
 
-/// A type whose values are made of the parts that were decoded.
-trait FromDecoded: postcard::Shaped + Sized + Drop {
-    ghost use Rattle.std.specs.Prelude.{◌≡◌};
-
-    /// The type of the parts.
-    type Parts: postcard::Shaped + Drop;
-
-    ghost seen: { Self → Self.Parts };
-
-    /// Makes a value of its parts.
-    fn from_decoded(parts: Self::Parts) -> Self
-        ensures { Self.seen result ≡ parts };
-}
-
-/// What decodes values by their parts.
-struct Decoded;
-
-impl Decoded {
-    ghost use Rattle.postcard_de.specs.Deserializer.{source_of};
-    ghost use Rattle.postcard_de.specs.Reads.{Reads};
-    ghost use Rattle.postcard_wire.specs.Spelling.{Spells};
-
-    /// Reads the parts of a value, and makes it of them.
-    fn read<'de, T: FromDecoded, F: postcard::de_flavors::Flavor>(
-        alloc: std::alloc::Global,
-        d: &mut postcard::Deserializer<'de, F>,
-    ) -> postcard::Result<T>
-    where
-        T::Parts: postcard::Deserialize<'de>,
-        ensures { Reads F.Flavor Spells T.Parts.shape.reads
-            (λ t v. T.Parts.shape.value t (T.seen v))
-            T.Parts.shape.other (source_of d.old) result (source_of d.new) }
-    {
-        let parts = <T::Parts as postcard::Deserialize<'de>>::deserialize(alloc, d)?;
-        Ok(T::from_decoded(parts))
-    }
-}
-
 impl postcard::Shaped for Heartbeat {
     ghost use Rattle.postcard_shape.specs.Shape.{via};
 
@@ -307,12 +269,12 @@ impl postcard::Shaped for Position {
         ⟦<(i32, i32, i16) as postcard::Shaped>⟧.shape };
 }
 
-impl FromDecoded for Position {
+impl postcard::FromParts for Position {
     type Parts = (i32, i32, i16);
 
     ghost seen = { λ v. (v.latitude, v.longitude, v.altitude) };
 
-    fn from_decoded(parts: Self::Parts) -> Self {
+    fn from_parts(parts: Self::Parts) -> Self {
         let (latitude, longitude, altitude) = parts;
         Position {
             latitude,
@@ -337,7 +299,7 @@ impl<'de> postcard::Deserialize<'de> for Position {
         alloc: std::alloc::Global,
         d: &mut postcard::Deserializer<'de, F>,
     ) -> postcard::Result<Self> {
-        Decoded::read(alloc, d)
+        postcard::read_parts(alloc, d)
     }
 }
 
@@ -407,9 +369,9 @@ impl postcard::Serialize for Level {
         serializer: &mut postcard::Serializer<F>,
     ) -> postcard::Result<()> {
         match self {
-            Level::Low => postcard::serialize_variant(0, &(), serializer),
-            Level::Normal => postcard::serialize_variant(1, &(), serializer),
-            Level::High => postcard::serialize_variant(2, &(), serializer),
+            Level::Low => postcard::write_variant(self, 0, &(), serializer),
+            Level::Normal => postcard::write_variant(self, 1, &(), serializer),
+            Level::High => postcard::write_variant(self, 2, &(), serializer),
         }
     }
 }
@@ -457,38 +419,20 @@ impl postcard::Shaped for Sky {
     ]) ⟦<SkyRow as postcard::Shaped>⟧.shape };
 }
 
-impl Sky {
-    ghost use Rattle.example_generated.specs.declared.types.Sky.{Sky};
-    ghost use Rattle.postcard_ser.specs.Writing.{Wrote};
-    ghost use Rattle.postcard_wire.specs.Spelling.{canonical};
-    ghost use Rattle.std.specs.Prelude.{OnOk};
-
-    /// Writes the variant `Storm`.
-    fn write_2<F: postcard::ser_flavors::Flavor>(
-        x0: &String,
-        x1: &u16,
-        serializer: &mut postcard::Serializer<F>,
-    ) -> postcard::Result<()>
-        ensures wrote { Wrote F.Flavor serializer.old.output
-            (canonical (⟦<Sky as postcard::Shaped>⟧.shape.tree (Sky.Storm x0.now x1.now)))
-            (⟦<Sky as postcard::Shaped>⟧.shape.refusal (Sky.Storm x0.now x1.now))
-            ⟦<Sky as postcard::Shaped>⟧.shape.text result serializer.new.output }
-        ensures fits { OnOk result
-            (⟦<Sky as postcard::Shaped>⟧.shape.fits (Sky.Storm x0.now x1.now)) }
-    {
-        postcard::serialize_variant(2, &(x0, x1), serializer)
-    }
-}
-
 impl postcard::Serialize for Sky {
     fn serialize<F: postcard::ser_flavors::Flavor>(
         &self,
         serializer: &mut postcard::Serializer<F>,
     ) -> postcard::Result<()> {
         match self {
-            Sky::Clear => postcard::serialize_variant(0, &(), serializer),
-            Sky::Cloudy(x0) => postcard::serialize_variant(1, x0, serializer),
-            Sky::Storm { name, wind } => Self::write_2(name, wind, serializer),
+            Sky::Clear => postcard::write_variant(self, 0, &(), serializer),
+            Sky::Cloudy(x0) => postcard::write_variant(self, 1, x0, serializer),
+            Sky::Storm { name, wind } => postcard::write_variant(
+                self,
+                2,
+                &(name, wind),
+                serializer,
+            ),
         }
     }
 }
@@ -575,7 +519,7 @@ impl postcard::Shaped for Telemetry {
         ⟦<((u32, u64, u16, i16, i16), (u8, u32, i32, i32, i16), (u16, u16, u8, bool, String)) as postcard::Shaped>⟧.shape };
 }
 
-impl FromDecoded for Telemetry {
+impl postcard::FromParts for Telemetry {
     type Parts = (
         (u32, u64, u16, i16, i16),
         (u8, u32, i32, i32, i16),
@@ -584,7 +528,7 @@ impl FromDecoded for Telemetry {
 
     ghost seen = { λ v. ((v.sequence, v.uptime, v.voltage, v.current, v.temperature), (v.humidity, v.pressure, v.latitude, v.longitude, v.altitude), (v.heading, v.speed, v.satellites, v.fix, v.label)) };
 
-    fn from_decoded(parts: Self::Parts) -> Self {
+    fn from_parts(parts: Self::Parts) -> Self {
         let (
             (sequence, uptime, voltage, current, temperature),
             (humidity, pressure, latitude, longitude, altitude),
@@ -647,7 +591,7 @@ impl<'de> postcard::Deserialize<'de> for Telemetry {
         alloc: std::alloc::Global,
         d: &mut postcard::Deserializer<'de, F>,
     ) -> postcard::Result<Self> {
-        Decoded::read(alloc, d)
+        postcard::read_parts(alloc, d)
     }
 }
 
@@ -715,53 +659,15 @@ impl<T: postcard::Shaped> postcard::Shaped for Request<T> {
     ]) ⟦<RequestRow<T> as postcard::Shaped>⟧.shape };
 }
 
-impl<T: postcard::Serialize> Request<T> {
-    ghost use Rattle.example_generated.specs.declared.types.Request.{Request};
-    ghost use Rattle.postcard_ser.specs.Writing.{Wrote};
-    ghost use Rattle.postcard_wire.specs.Spelling.{canonical};
-    ghost use Rattle.std.specs.Prelude.{OnOk};
-
-    /// Writes the variant `Set`.
-    fn write_1<F: postcard::ser_flavors::Flavor>(
-        x0: &T,
-        serializer: &mut postcard::Serializer<F>,
-    ) -> postcard::Result<()>
-        ensures wrote { Wrote F.Flavor serializer.old.output
-            (canonical (⟦<Request<T> as postcard::Shaped>⟧.shape.tree (Request.Set x0.now)))
-            (⟦<Request<T> as postcard::Shaped>⟧.shape.refusal (Request.Set x0.now))
-            ⟦<Request<T> as postcard::Shaped>⟧.shape.text result serializer.new.output }
-        ensures fits { OnOk result
-            (⟦<Request<T> as postcard::Shaped>⟧.shape.fits (Request.Set x0.now)) }
-    {
-        postcard::serialize_variant(1, x0, serializer)
-    }
-
-    /// Writes the variant `Limit`.
-    fn write_2<F: postcard::ser_flavors::Flavor>(
-        x0: &T,
-        x1: &T,
-        serializer: &mut postcard::Serializer<F>,
-    ) -> postcard::Result<()>
-        ensures wrote { Wrote F.Flavor serializer.old.output
-            (canonical (⟦<Request<T> as postcard::Shaped>⟧.shape.tree (Request.Limit x0.now x1.now)))
-            (⟦<Request<T> as postcard::Shaped>⟧.shape.refusal (Request.Limit x0.now x1.now))
-            ⟦<Request<T> as postcard::Shaped>⟧.shape.text result serializer.new.output }
-        ensures fits { OnOk result
-            (⟦<Request<T> as postcard::Shaped>⟧.shape.fits (Request.Limit x0.now x1.now)) }
-    {
-        postcard::serialize_variant(2, &(x0, x1), serializer)
-    }
-}
-
 impl<T: postcard::Serialize> postcard::Serialize for Request<T> {
     fn serialize<F: postcard::ser_flavors::Flavor>(
         &self,
         serializer: &mut postcard::Serializer<F>,
     ) -> postcard::Result<()> {
         match self {
-            Request::Get => postcard::serialize_variant(0, &(), serializer),
-            Request::Set(x0) => Self::write_1(x0, serializer),
-            Request::Limit(x0, x1) => Self::write_2(x0, x1, serializer),
+            Request::Get => postcard::write_variant(self, 0, &(), serializer),
+            Request::Set(x0) => postcard::write_variant(self, 1, x0, serializer),
+            Request::Limit(x0, x1) => postcard::write_variant(self, 2, &(x0, x1), serializer),
         }
     }
 }
@@ -849,13 +755,14 @@ impl postcard::Serialize for Chunk<'_> {
         serializer: &mut postcard::Serializer<F>,
     ) -> postcard::Result<()> {
         match self {
-            Chunk::Name(x0) => postcard::serialize_variant(0, x0, serializer),
-            Chunk::Data { start, bytes } => postcard::serialize_variant(
+            Chunk::Name(x0) => postcard::write_variant(self, 0, x0, serializer),
+            Chunk::Data { start, bytes } => postcard::write_variant(
+                self,
                 1,
                 &(start, bytes),
                 serializer,
             ),
-            Chunk::End => postcard::serialize_variant(2, &(), serializer),
+            Chunk::End => postcard::write_variant(self, 2, &(), serializer),
         }
     }
 }
@@ -936,7 +843,7 @@ impl postcard::Shaped for Command {
     ]) ⟦<CommandRow as postcard::Shaped>⟧.shape };
 }
 
-impl FromDecoded for Command {
+impl postcard::FromParts for Command {
     ghost use Rattle.example_generated.specs.declared.types.Command.{Command};
     ghost use Rattle.postcard_shape.specs.declared.cases.Case.TheVariants.{This, Next};
 
@@ -952,7 +859,7 @@ impl FromDecoded for Command {
       | Command.Fault x0 x1 ↦ Next (Next (Next (Next (Next (Next (This (x0, x1)))))))
     ]) };
 
-    fn from_decoded(row: Self::Parts) -> Self {
+    fn from_parts(row: Self::Parts) -> Self {
         use postcard::Case::{Next, This};
         match row {
             This(()) => Command::Ping,
@@ -971,119 +878,29 @@ impl FromDecoded for Command {
     }
 }
 
-impl Command {
-    ghost use Rattle.example_generated.specs.declared.types.Command.{Command};
-    ghost use Rattle.postcard_ser.specs.Writing.{Wrote};
-    ghost use Rattle.postcard_wire.specs.Spelling.{canonical};
-    ghost use Rattle.std.specs.Prelude.{OnOk};
-
-    /// Writes the variant `Forward`.
-    fn write_1<F: postcard::ser_flavors::Flavor>(
-        x0: &Report,
-        serializer: &mut postcard::Serializer<F>,
-    ) -> postcard::Result<()>
-        ensures wrote { Wrote F.Flavor serializer.old.output
-            (canonical (⟦<Command as postcard::Shaped>⟧.shape.tree (Command.Forward x0.now)))
-            (⟦<Command as postcard::Shaped>⟧.shape.refusal (Command.Forward x0.now))
-            ⟦<Command as postcard::Shaped>⟧.shape.text result serializer.new.output }
-        ensures fits { OnOk result
-            (⟦<Command as postcard::Shaped>⟧.shape.fits (Command.Forward x0.now)) }
-    {
-        postcard::serialize_variant(1, x0, serializer)
-    }
-
-    /// Writes the variant `Batch`.
-    fn write_2<F: postcard::ser_flavors::Flavor>(
-        x0: &Vec<Report>,
-        serializer: &mut postcard::Serializer<F>,
-    ) -> postcard::Result<()>
-        ensures wrote { Wrote F.Flavor serializer.old.output
-            (canonical (⟦<Command as postcard::Shaped>⟧.shape.tree (Command.Batch x0.now)))
-            (⟦<Command as postcard::Shaped>⟧.shape.refusal (Command.Batch x0.now))
-            ⟦<Command as postcard::Shaped>⟧.shape.text result serializer.new.output }
-        ensures fits { OnOk result
-            (⟦<Command as postcard::Shaped>⟧.shape.fits (Command.Batch x0.now)) }
-    {
-        postcard::serialize_variant(2, x0, serializer)
-    }
-
-    /// Writes the variant `Setting`.
-    fn write_3<F: postcard::ser_flavors::Flavor>(
-        x0: &Request<u32>,
-        serializer: &mut postcard::Serializer<F>,
-    ) -> postcard::Result<()>
-        ensures wrote { Wrote F.Flavor serializer.old.output
-            (canonical (⟦<Command as postcard::Shaped>⟧.shape.tree (Command.Setting x0.now)))
-            (⟦<Command as postcard::Shaped>⟧.shape.refusal (Command.Setting x0.now))
-            ⟦<Command as postcard::Shaped>⟧.shape.text result serializer.new.output }
-        ensures fits { OnOk result
-            (⟦<Command as postcard::Shaped>⟧.shape.fits (Command.Setting x0.now)) }
-    {
-        postcard::serialize_variant(3, x0, serializer)
-    }
-
-    /// Writes the variant `Settings`.
-    fn write_4<F: postcard::ser_flavors::Flavor>(
-        x0: &Vec<Request<u32>>,
-        serializer: &mut postcard::Serializer<F>,
-    ) -> postcard::Result<()>
-        ensures wrote { Wrote F.Flavor serializer.old.output
-            (canonical (⟦<Command as postcard::Shaped>⟧.shape.tree (Command.Settings x0.now)))
-            (⟦<Command as postcard::Shaped>⟧.shape.refusal (Command.Settings x0.now))
-            ⟦<Command as postcard::Shaped>⟧.shape.text result serializer.new.output }
-        ensures fits { OnOk result
-            (⟦<Command as postcard::Shaped>⟧.shape.fits (Command.Settings x0.now)) }
-    {
-        postcard::serialize_variant(4, x0, serializer)
-    }
-
-    /// Writes the variant `Move`.
-    fn write_5<F: postcard::ser_flavors::Flavor>(
-        x0: &Position,
-        x1: &i16,
-        x2: &bool,
-        serializer: &mut postcard::Serializer<F>,
-    ) -> postcard::Result<()>
-        ensures wrote { Wrote F.Flavor serializer.old.output
-            (canonical (⟦<Command as postcard::Shaped>⟧.shape.tree (Command.Move x0.now x1.now x2.now)))
-            (⟦<Command as postcard::Shaped>⟧.shape.refusal (Command.Move x0.now x1.now x2.now))
-            ⟦<Command as postcard::Shaped>⟧.shape.text result serializer.new.output }
-        ensures fits { OnOk result
-            (⟦<Command as postcard::Shaped>⟧.shape.fits (Command.Move x0.now x1.now x2.now)) }
-    {
-        postcard::serialize_variant(5, &(x0, x1, x2), serializer)
-    }
-
-    /// Writes the variant `Fault`.
-    fn write_6<F: postcard::ser_flavors::Flavor>(
-        x0: &u8,
-        x1: &String,
-        serializer: &mut postcard::Serializer<F>,
-    ) -> postcard::Result<()>
-        ensures wrote { Wrote F.Flavor serializer.old.output
-            (canonical (⟦<Command as postcard::Shaped>⟧.shape.tree (Command.Fault x0.now x1.now)))
-            (⟦<Command as postcard::Shaped>⟧.shape.refusal (Command.Fault x0.now x1.now))
-            ⟦<Command as postcard::Shaped>⟧.shape.text result serializer.new.output }
-        ensures fits { OnOk result
-            (⟦<Command as postcard::Shaped>⟧.shape.fits (Command.Fault x0.now x1.now)) }
-    {
-        postcard::serialize_variant(6, &(x0, x1), serializer)
-    }
-}
-
 impl postcard::Serialize for Command {
     fn serialize<F: postcard::ser_flavors::Flavor>(
         &self,
         serializer: &mut postcard::Serializer<F>,
     ) -> postcard::Result<()> {
         match self {
-            Command::Ping => postcard::serialize_variant(0, &(), serializer),
-            Command::Forward(x0) => Self::write_1(x0, serializer),
-            Command::Batch(x0) => Self::write_2(x0, serializer),
-            Command::Setting(x0) => Self::write_3(x0, serializer),
-            Command::Settings(x0) => Self::write_4(x0, serializer),
-            Command::Move { to, speed, now } => Self::write_5(to, speed, now, serializer),
-            Command::Fault { code, text } => Self::write_6(code, text, serializer),
+            Command::Ping => postcard::write_variant(self, 0, &(), serializer),
+            Command::Forward(x0) => postcard::write_variant(self, 1, x0, serializer),
+            Command::Batch(x0) => postcard::write_variant(self, 2, x0, serializer),
+            Command::Setting(x0) => postcard::write_variant(self, 3, x0, serializer),
+            Command::Settings(x0) => postcard::write_variant(self, 4, x0, serializer),
+            Command::Move { to, speed, now } => postcard::write_variant(
+                self,
+                5,
+                &(to, speed, now),
+                serializer,
+            ),
+            Command::Fault { code, text } => postcard::write_variant(
+                self,
+                6,
+                &(code, text),
+                serializer,
+            ),
         }
     }
 }
@@ -1093,7 +910,7 @@ impl<'de> postcard::Deserialize<'de> for Command {
         alloc: std::alloc::Global,
         d: &mut postcard::Deserializer<'de, F>,
     ) -> postcard::Result<Self> {
-        Decoded::read(alloc, d)
+        postcard::read_parts(alloc, d)
     }
 }
 

@@ -30,6 +30,7 @@ impl Default for Settings {
     }
 }
 
+/// On the wire, settings are the tuple of their fields.
 impl Repr for Settings {
     type As = (ArrayString<12>, u8, Option<u16>);
 

@@ -12,10 +12,11 @@ use std::io::{BufWriter, Write};
 use std::process::ExitCode;
 use std::{env, io};
 
-/// The greatest number of bytes of a file whose impls are printed.
+/// The most bytes of a file whose impls are printed.
 const LONGEST_FILE: usize = 1_048_576;
 
-/// Returns the words after the program's name.
+/// Returns the words after the program's name. Fails with `Usage` if they aren't text, and with
+/// `Library(OutOfMemory)`.
 fn words(rt: &HostRuntime) -> Result<Vec<String>, Failure> {
     match env::args(rt) {
         Ok(mut args) => {

@@ -4,3 +4,4 @@ pub mod Frames
 pub mod Front
 pub mod Finished
 pub mod Lemmas
+pub mod Variants

@@ -1,5 +1,4 @@
-//! Frames from a stream that comes in pieces: the accumulator, what it returns, and the laws of
-//! streams. The module `checksum` has the same calls for values with a checksum after them.
+//! Frames from a stream that comes in pieces, and in `checksum` frames of values with a checksum.
 
 pub use postcard_accumulator::{CobsAccumulator, FeedResult, laws};
 pub use postcard_crc_frames as checksum;

@@ -1,6 +1,6 @@
-//! Encoding into frames: the canonical encoding of a value, framed by COBS (Cheshire and Baker,
-//! 1999). The clause `decodes` of each call says that it wrote one frame, which decodes to that
-//! encoding, and then the zero that ends it, the sentinel.
+//! Encoding into frames of COBS (Cheshire and Baker, 1999): the frame of a value's canonical
+//! encoding, and the zero that ends it, the sentinel, which counts as a byte of the frame. By the
+//! clause `decodes` it decodes to that encoding.
 
 ghost use Rattle.std.specs.Prelude.{◌≡◌, [], ◌-◌, ◌≤◌, ◌↔◌, ◌++◌, length, take, drop};
 ghost use Rattle.std.specs.Prelude.{IfOk, IfErr, IsOk, OnOk, ⊤};
@@ -23,7 +23,7 @@ use postcard_wire::{Error, Result};
 use std::alloc::Global;
 
 /// Encodes a value as a frame after the bytes that a storage holds, ends the storage, and returns
-/// its output.
+/// its output. Fails as [`serialize_with_flavor`] does.
 fn framed<T: Serialize, B: Storage + Drop>(value: &T, storage: B) -> Result<<B as Flavor>::Output>
     ensures gives { IfOk result (λ output. (last : B)
         × (B.held last ≡ B.held storage ++ made (canonical (T.shape.tree value.now)))
@@ -40,8 +40,7 @@ fn framed<T: Serialize, B: Storage + Drop>(value: &T, storage: B) -> Result<<B a
     serialize_with_flavor(value, Cobs::try_new(storage)?)
 }
 
-/// Encodes a value as a frame into a vector with room for `B` bytes, the sentinel included. Nothing
-/// is allocated.
+/// Encodes a value as a frame into a vector with room for `B` bytes. Nothing is allocated.
 ///
 /// # Errors
 ///
@@ -63,12 +62,11 @@ pub fn to_vec_cobs<T: Serialize, const B: usize>(value: &T) -> Result<ArrayVec<u
     framed(value, HVec::new())
 }
 
-/// Encodes a value as a frame into the front of `buf`, and returns that front, which is the frame
-/// with its sentinel. The bytes after it are unchanged. Nothing is allocated.
+/// Encodes a value as a frame into the front of `buf`, and returns the frame. The bytes after it
+/// are unchanged. Nothing is allocated.
 ///
 /// Once the loan has ended, the buffer holds what the caller made of the frame, and then the old
-/// bytes (clause `writes_back`). A caller with proofs of its own about the buffer uses
-/// [`fill_slice_cobs`], whose plain clauses say the same.
+/// bytes (`writes_back`). [`fill_slice_cobs`] says the same in plain clauses.
 ///
 /// # Errors
 ///
@@ -141,10 +139,8 @@ fn write_frame<'a, T: Serialize>(value: &T, buf: &'a mut [u8]) -> Attempt<'a>
     }
 }
 
-/// Does what [`to_slice_cobs`] does, with the same errors, and returns the number of bytes of the
-/// frame, the sentinel included, for callers that keep the buffer: its contract says what the whole
-/// buffer holds after the call. After a failure its content is unspecified. The Rust crate has no
-/// such call.
+/// Does what [`to_slice_cobs`] does, with the same errors, and returns the number of the frame's
+/// bytes, for callers that keep the buffer. The Rust crate has no such call.
 pub fn fill_slice_cobs<T: Serialize>(value: &T, buf: &mut [u8]) -> Result<usize>
     ensures count_is_length { IfOk result
         (λ count. count ≡ length (made (canonical (T.shape.tree value.now)))) }
@@ -168,7 +164,7 @@ pub fn fill_slice_cobs<T: Serialize>(value: &T, buf: &mut [u8]) -> Result<usize>
     if failed { Err(error) } else { Ok(count) }
 }
 
-/// Encodes a value as a frame into a new `Vec`, the sentinel included.
+/// Encodes a value as a frame into a new `Vec`.
 ///
 /// # Errors
 ///
@@ -185,7 +181,7 @@ pub fn to_allocvec_cobs<T: Serialize>(alloc: Global, value: &T) -> Result<Vec<u8
     framed(value, AllocVec::new(alloc))
 }
 
-/// Does the same as [`to_allocvec_cobs`], under the name that the Rust crate has for `std`.
+/// [`to_allocvec_cobs`] under the name that the Rust crate has for `std`.
 pub fn to_stdvec_cobs<T: Serialize>(alloc: Global, value: &T) -> Result<Vec<u8>>
     ensures gives { IfOk result (λ vec. vec.items ≡ made (canonical (T.shape.tree value.now))) }
     ensures decodes { IfOk result
@@ -196,8 +192,8 @@ pub fn to_stdvec_cobs<T: Serialize>(alloc: Global, value: &T) -> Result<Vec<u8>>
     to_allocvec_cobs(alloc, value)
 }
 
-/// Encodes a value as a frame, the sentinel included, after the bytes of a vector, and returns the
-/// vector. The Rust crate has no such call.
+/// Encodes a value as a frame after the bytes of a vector, and returns the vector. The Rust crate
+/// has no such call.
 ///
 /// # Errors
 ///

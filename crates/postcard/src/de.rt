@@ -15,19 +15,17 @@ use postcard_de_flavors::io::io::IOReader;
 use postcard_wire::{Error, Result};
 use std::alloc::Global;
 
-/// Decodes a value from a reader and a scratch buffer, and returns it with the reader and the
-/// scratch left. The bytes after the value stay unread, so the next call can take what this one
-/// returned.
+/// Decodes a value from a reader and a scratch buffer, and returns it with what is left of both,
+/// for the next call. The bytes after the value stay unread.
 ///
-/// Slices and texts in the value, as a `&str`, are in the scratch buffer, of which they use up as
-/// many bytes. A `String` needs as many bytes of scratch while it is read and uses up none; numbers
-/// need none. The scratch left is a part at the rear of the one passed, in which only bytes among
-/// the first of the whole, as many as were read, may have changed, whatever the reader.
+/// Slices and texts that the value borrows, as a `&str`, are in the scratch buffer, of which they
+/// use up as many bytes. A `String` needs as many while it is read and uses up none; numbers need
+/// none. The scratch left is the rear of the one passed; of the whole only the first bytes, at most
+/// as many as were read, may have changed.
 ///
-/// If the reader knows its bytes, the value is that of a front of them, and just that front was
-/// read. Over a steady reader it succeeds if a front spells a tree that the type reads, the scratch
-/// is at least as long as that front, and no allocation fails. Wrap a reader that isn't a `Reader`
-/// in [`Plain`](crate::de_flavors::Plain).
+/// Over a steady reader it succeeds if a front of the bytes spells a tree that the type reads, the
+/// scratch is at least as long as that front, and no allocation fails.
+/// [`Plain`](crate::de_flavors::Plain) wraps a reader that is no `Reader`.
 ///
 /// # Errors
 ///

@@ -1,5 +1,5 @@
-//! The size of a value's encoding, and the greatest size of a type's encodings: calls that the Rust
-//! crate has in its module of this name.
+//! The size of a value's encoding, and the greatest of a type's encodings, which the Rust crate has
+//! in its module of this name.
 
 ghost use Rattle.std.specs.Prelude.{◌≡◌, ◌<◌, ◌^◌, ◌↔◌, length, IfOk, IfErr, IsOk};
 ghost use Rattle.postcard_wire.specs.Spelling.{canonical};

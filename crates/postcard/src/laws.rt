@@ -1,4 +1,4 @@
-//! Laws of what the calls return, as contracts of functions. The functions do nothing, except for
+//! Laws of what the calls return, as contracts of functions that do nothing, except for
 //! [`comes_back`] and [`frame_comes_back`].
 
 ghost use Rattle.std.specs.Prelude.{◌≡◌, ◌≤◌, ℕ, List, ◌++◌, length, Some, IfOk};
@@ -17,9 +17,9 @@ use postcard_ser::Serialize;
 use postcard_wire::Result;
 use std::alloc::Global;
 
-/// What was encoded is decoded, whatever bytes follow: if bytes begin with the canonical encoding
-/// of a tree that the type reads, the value read from them is a value of that tree, and exactly the
-/// bytes after the encoding are left.
+/// What was encoded is decoded, whatever bytes follow: bytes that begin with the canonical encoding
+/// of a tree that the type reads are read as a value of that tree, and just the bytes after it are
+/// left.
 pub fn decodes_encoded<'a, T: Deserialize<'a>>()
     ensures spelled { (t : Tree) → T.shape.reads t → Spells t (canonical t) }
     ensures decoded { (t : Tree) (rest left : List ℕ) (v : T) → T.shape.reads t
@@ -35,9 +35,9 @@ pub fn decodes_alike<'a, T: Deserialize<'a>>()
 {}
 
 /// Reading from a reader that knows its bytes agrees with reading from these bytes: the values of
-/// `from_io` and of `take_from_bytes` look alike, and what stays unread is the rest. If `from_io`
-/// succeeds, the bytes can be decoded; and if they can, `from_io` succeeds over a steady reader
-/// with scratch as long as the bytes, unless an allocation fails.
+/// `from_io` and of `take_from_bytes` look alike, and what stays unread is the rest. Over a steady
+/// reader with scratch as long as the bytes, `from_io` succeeds if and only if they can be decoded,
+/// unless an allocation fails.
 pub fn reads_alike<'a, T: Deserialize<'a>, R: Reader>()
     ensures alike { (old new : R) (all scratch room rest : List ℕ) (v w : T)
         → R.remaining old ≡ Some all
@@ -68,8 +68,8 @@ pub fn comes_back<T: Serialize + DeserializeOwned>(alloc: Global, value: &T) -> 
     Ok(back)
 }
 
-/// Encodes a value as a frame, decodes it again in place, and returns the decoded value, which
-/// looks like the first. Fails as [`comes_back`].
+/// Encodes a value as a frame, decodes it in place, and returns the decoded value, which looks like
+/// the first. Fails as [`comes_back`].
 pub fn frame_comes_back<T: Serialize + DeserializeOwned>(alloc: Global, value: &T) -> Result<T>
     ensures { IfOk result (λ back. T.shape.same back value.now) }
 {

@@ -15,12 +15,10 @@ use postcard_ser_flavors::Slice;
 use postcard_wire::{Error, Result};
 
 /// Encodes a value into the front of `buf`, and returns that front: the canonical encoding of the
-/// value's tree, which is its shortest spelling. The bytes after it are unchanged. Nothing is
-/// allocated.
+/// value's tree. The bytes after it are unchanged. Nothing is allocated.
 ///
 /// Once the loan has ended, the buffer holds what the caller made of the front, and then the old
-/// bytes (clause `writes_back`). A caller with proofs of its own about the buffer uses
-/// [`fill_slice`], whose plain clauses say the same.
+/// bytes (`writes_back`). [`fill_slice`] says the same in plain clauses.
 ///
 /// # Errors
 ///
@@ -46,9 +44,8 @@ pub fn to_slice<'a, T: Serialize>(value: &T, buf: &'a mut [u8]) -> Result<&'a mu
     lend_front(write_front(value, buf))
 }
 
-/// Does what [`to_slice`] does, with the same errors and the same bytes in the buffer after them,
-/// and returns the number of bytes written, for callers that keep the buffer: its contract says
-/// what the whole buffer holds after the call. The Rust crate has no such call.
+/// Does what [`to_slice`] does, with the same errors, for callers that keep the buffer, and returns
+/// the number of bytes written. The Rust crate has no such call.
 pub fn fill_slice<T: Serialize>(value: &T, buf: &mut [u8]) -> Result<usize>
     ensures count_is_length { IfOk result (λ count. count
         ≡ length (canonical (T.shape.tree value.now))) }
@@ -71,8 +68,8 @@ pub fn fill_slice<T: Serialize>(value: &T, buf: &mut [u8]) -> Result<usize>
     if failed { Err(error) } else { Ok(count) }
 }
 
-/// What an attempt to write returns: the whole buffer, the number of bytes written, and the error,
-/// which counts only if the attempt `failed`.
+/// The whole buffer, the number of bytes written, and the error, which counts only if the attempt
+/// `failed`.
 pub(crate) struct Attempt<'a> {
     pub(crate) all: &'a mut [u8],
     pub(crate) count: usize,

@@ -1,4 +1,5 @@
-//! Encoding into any writing flavor, and the calls for the flavors of this library.
+//! Encoding into any writing flavor, and the calls that encode into an `ArrayVec`, a `Vec`, a
+//! target that grows, and a writer.
 
 ghost use Rattle.std.specs.Prelude.{◌≡◌, ◌≤◌, ◌↔◌, ◌++◌, length, IfOk, IfErr, IsOk, OnOk};
 ghost use Rattle.std.specs.Io.KnownBytes.{Appends};
@@ -15,8 +16,8 @@ use postcard_wire::{Error, Result};
 use std::alloc::Global;
 use std::io::Write;
 
-/// Encodes a value into a flavor, ends the flavor, and returns its output. The flavor has then
-/// taken exactly the canonical encoding of the value's tree.
+/// Passes the canonical encoding of a value's tree to a flavor, ends the flavor, and returns its
+/// output.
 ///
 /// # Errors
 ///
@@ -76,7 +77,7 @@ pub fn to_allocvec<T: Serialize>(alloc: Global, value: &T) -> Result<Vec<u8>>
     serialize_with_flavor(value, AllocVec::new(alloc))
 }
 
-/// Does the same as [`to_allocvec`], under the name that the Rust crate has for `std`.
+/// [`to_allocvec`] under the name that the Rust crate has for `std`.
 pub fn to_stdvec<T: Serialize>(alloc: Global, value: &T) -> Result<Vec<u8>>
     ensures gives { IfOk result (λ vec. vec.items ≡ canonical (T.shape.tree value.now)) }
     ensures named_error { IfErr result (IsErrorOf T.shape value.now) }

@@ -14,11 +14,9 @@ use postcard_wire::Result;
 use std::alloc::Global;
 use std::marker::Model;
 
-/// Puts COBS frames together from pieces of a stream, and decodes their values.
-///
-/// It holds at most `N` bytes: the front of a frame that hasn't ended yet. A frame has room if it
-/// has at most `N` bytes, its zero included. A frame that has no room is skipped through its zero
-/// and has one answer, `OverFull`; while it is skipped, nothing is held.
+/// Puts COBS frames together from pieces of a stream, and decodes their values, by the
+/// [rule](crate#the-rule) on the crate's page. It holds at most `N` bytes: the front of a frame
+/// that hasn't ended yet.
 #[derive(Drop)]
 pub struct CobsAccumulator<const N: usize> {
     buf: [u8; N],
@@ -48,7 +46,7 @@ impl<const N: usize> Default for CobsAccumulator<N> {
 }
 
 /// Decodes the frame of the first `end` bytes of a buffer in place, and returns the length of its
-/// data, which begins at place 1. Fails if and only if the frame has no data.
+/// data, which begins at place 1. Fails if and only if there is no data.
 fn decode_front(buf: &mut [u8], end: usize) -> Result<usize>
     requires within { end ≤ length buf.old }
     requires no_zero { NoZero (take end buf.old) }
@@ -59,8 +57,7 @@ fn decode_front(buf: &mut [u8], end: usize) -> Result<usize>
     decode_behind_code(&mut buf[..end])
 }
 
-/// Reads the value of a frame that was taken in, and so makes the result of a feed. The value may
-/// borrow from the frame's data.
+/// Reads the value of a frame that was taken in, and so makes the result of a feed.
 fn read<'de, 'a, T: Deserialize<'de>>(
     alloc: Global,
     taken: FeedResult<'a, &'de [u8]>,
@@ -121,8 +118,8 @@ impl<const N: usize> CobsAccumulator<N> {
     }
 
     /// Decodes the bytes held as a frame, and lends its data. The accumulator must not be skipping
-    /// a frame. Fails if and only if the bytes held are a frame of no data. Nothing is held once
-    /// the loan ends, also after a failure.
+    /// a frame. Fails if and only if the frame has no data. Nothing is held once the loan ends,
+    /// also after a failure.
     fn decode<'de>(&'de mut self) -> Result<&'de [u8]>
         requires { is_skipping self.old ≡ false }
         ensures decodes { IfOk result (λ d. Groups (held_of self.old) d.now) }
@@ -138,8 +135,7 @@ impl<const N: usize> CobsAccumulator<N> {
         Ok(&all[1..n + 1])
     }
 
-    /// The part of [`take_in`](CobsAccumulator::take_in) for an accumulator that isn't skipping a
-    /// frame.
+    /// [`take_in`](CobsAccumulator::take_in) of an accumulator that isn't skipping a frame.
     fn take_held<'de, 'a>(&'de mut self, input: &'a [u8]) -> FeedResult<'a, &'de [u8]>
         requires { is_skipping self.old ≡ false }
         ensures answer { (after : State)
@@ -173,10 +169,9 @@ impl<const N: usize> CobsAccumulator<N> {
         }
     }
 
-    /// Does the same as [`feed`](CobsAccumulator::feed), but decodes only the frame and reads no
-    /// value: `Success` has the frame's data, and `DeserError` is returned for a frame that is no
-    /// COBS frame. The data borrows from the accumulator, which can be used again once that loan
-    /// ends.
+    /// Does the same as [`feed`](CobsAccumulator::feed), but reads no value: `Success` has the
+    /// frame's data, and `DeserError` is for what is no COBS frame. The data borrows from the
+    /// accumulator.
     pub fn take_in<'de, 'a>(&'de mut self, input: &'a [u8]) -> FeedResult<'a, &'de [u8]>
         ensures answer { (after : State) × IsTaken N self.old input.now result after }
         ensures* after { sem 𝓛 (follows_so (the_row N.row) (the_row N.row)
@@ -193,9 +188,8 @@ impl<const N: usize> CobsAccumulator<N> {
         self.take_held(&input[n + 1..])
     }
 
-    /// Takes in a piece of a stream up to the end of a frame, and decodes that frame's value, by
-    /// the [rule](crate#the-rule) on the crate's page. Bytes after the value in a frame's data are
-    /// ignored.
+    /// Takes in a piece of a stream up to the end of a frame, and decodes that frame's value. Bytes
+    /// after the value in a frame's data are ignored.
     pub fn feed<'a, T: DeserializeOwned>(
         &mut self,
         alloc: Global,
@@ -221,7 +215,7 @@ impl<const N: usize> CobsAccumulator<N> {
     }
 
     /// Does the same as [`feed`](CobsAccumulator::feed), for a value that may borrow from the
-    /// accumulator, which can be used again once that loan ends.
+    /// accumulator.
     pub fn feed_ref<'de, 'a, T: Deserialize<'de>>(
         &'de mut self,
         alloc: Global,

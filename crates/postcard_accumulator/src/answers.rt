@@ -1,8 +1,7 @@
-//! What a feed of an accumulator returns, and what `read_frames` collects, one answer for each frame.
+//! What a feed of an accumulator returns, and what `read_frames` collects.
 
 /// The result of [`feed`](crate::accumulator::CobsAccumulator::feed), and of
-/// [`take_in`](crate::accumulator::CobsAccumulator::take_in), where the value of a frame is its data.
-///
+/// [`take_in`](crate::accumulator::CobsAccumulator::take_in), where the value is the frame's data.
 /// Except for `Consumed`, each has the bytes of the piece that weren't taken in, which may be none.
 /// Feed these next.
 #[derive(Drop)]
@@ -24,8 +23,7 @@ pub enum FeedResult<'a, T> {
     },
 }
 
-/// The answer to one frame of a stream, as [`read_frames`](crate::read_frames) collects them. The
-/// variants are those of [`FeedResult`].
+/// The answer to one frame of a stream: a [`FeedResult`] without the rest of the piece.
 #[derive(Debug, PartialEq, Eq, Drop)]
 pub enum Answer<T> {
     OverFull,

@@ -1,5 +1,5 @@
-//! What holds of every accumulator and stream. The functions do nothing: their contracts are the
-//! laws, whose statements are in `specs/Laws.antt` and `specs/Messages.antt`.
+//! What holds of every accumulator and stream, as contracts of functions that do nothing
+//! (`specs/Laws.antt`, `specs/Messages.antt`).
 
 ghost use Rattle.std.specs.Prelude.{◌≤◌, length};
 ghost use Rattle.postcard_cobs.specs.Groups.{NoZero};

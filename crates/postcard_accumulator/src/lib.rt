@@ -1,8 +1,8 @@
 //! Frames from a stream: an accumulator that is fed pieces, and a loop that reads them.
 //!
 //! A stream is COBS frames, each ended by a zero, and comes in pieces, of which one may have half a
-//! frame or many frames. A [`CobsAccumulator`] holds the front of a frame until its zero comes,
-//! decodes the frame and reads its value. [`read_frames`] does so for all bytes of a reader.
+//! frame or many frames. A [`CobsAccumulator`] holds the front of a frame until its zero comes, and
+//! then reads its value; [`read_frames`] does so for all bytes of a reader.
 //!
 //! # The rule
 //!
@@ -22,22 +22,16 @@
 //! front of the frame's data spells and with `p[n + 1..]`, if there is such a value and memory for
 //! it; otherwise it is `DeserError` of `p[n + 1..]`.
 //!
-//! So an oversized frame has one answer, wherever the line cuts it. If `N` is 0, every frame is
-//! oversized.
-//!
-//! A link that joins late may begin inside a frame. It loses at most what comes before the first
-//! zero, which may give `DeserError`, `OverFull` or, by chance, a value. After that zero the
-//! answers are those of the frames.
+//! So an oversized frame has one answer, wherever the line cuts it. A link that joins late may
+//! begin inside a frame. It loses at most what comes before the first zero, which may give
+//! `DeserError`, `OverFull` or, by chance, a value.
 //!
 //! # What is proved
 //!
-//! `specs/Feeding.antt` is the table, the contract of [`feed`](CobsAccumulator::feed) and
-//! [`feed_ref`](CobsAccumulator::feed_ref). `specs/Streams.antt` defines the answers of a whole
-//! stream: one for each frame, in order, whatever the pieces are. `specs/Values.antt` says what a
-//! frame's own answer is. The answers of [`read_frames`] are those of all bytes that it read and
-//! fed. [`laws`] has what follows for every stream: above all, [`laws::messages_arrive`].
-//! [`take_in`](CobsAccumulator::take_in) is the half of a feed that reads no value, for callers
-//! with proofs of their own.
+//! [`feed`](CobsAccumulator::feed) and [`feed_ref`](CobsAccumulator::feed_ref) answer by the table
+//! (`specs/Feeding.antt`); `specs/Values.antt` says what a frame's own answer is. A whole stream
+//! has one answer for each frame, in order, whatever the pieces are (`specs/Streams.antt`).
+//! [`laws`] has what follows, above all [`laws::messages_arrive`].
 #![tactic(auto)]
 
 pub mod accumulator;

@@ -39,8 +39,8 @@ fn keep<T: Drop>(out: &mut Vec<Answer<T>>, answer: Answer<T>)
     let _ = out.push(answer);
 }
 
-/// Feeds a piece and appends the answers to `out`. Returns the number of bytes at the end of the
-/// piece that weren't fed, which is above 0 only if an allocation for an answer failed.
+/// Feeds a piece and appends the answers to `out`. Returns how many bytes at its end weren't fed:
+/// 0, unless an allocation for an answer failed.
 fn feed_all<T: DeserializeOwned, const N: usize>(
     alloc: Global,
     piece: &[u8],
@@ -82,15 +82,13 @@ fn feed_all<T: DeserializeOwned, const N: usize>(
 ///
 /// It makes at most `reads` reads, each into `chunk`, which must not be empty, and feeds what was
 /// read at once. However it ends, `out` keeps the answers and the accumulator its state, so another
-/// call continues there. Room in `out` is reserved before each feed, so no answer is lost.
+/// call continues there.
 ///
 /// The answers are those of the stream, however the reader cuts it: of what was held before, and of
-/// all bytes read, except for `chunk[from..to]` at `OutOfMemory`. The caller must feed these next;
-/// no other byte that was read is lost.
+/// all bytes read, except for `chunk[from..to]` at `OutOfMemory`, which the caller must feed next.
 ///
-/// `ReadFailed` is never returned for a steady reader. At `Limit` at least `reads` bytes were read,
-/// and in any case at most `reads * chunk.len()`. What is said here of the bytes read is promised
-/// of a reader that knows its bytes.
+/// `ReadFailed` is never returned for a steady reader. At `Limit` at least `reads` bytes were read.
+/// What is said here of the bytes read is promised of a reader that knows its bytes.
 pub fn read_frames<R: Reader, T: DeserializeOwned, const N: usize>(
     alloc: Global,
     reader: &mut R,

@@ -9,35 +9,33 @@ ghost use Rattle.postcard_c.specs.Feeding.{Takes, Stands, Feeds};
 use postcard_cobs::{decode_in_place, frame_len};
 use postcard_wire::Result;
 
-/// All of the piece was taken, and no frame ended except one that was being skipped.
+/// No frame ended, except one that was being skipped.
 const CONSUMED: u32 = 0;
-/// A frame ended, and its data is at the front of the buffer.
+/// A frame ended.
 const FRAME: u32 = 1;
 /// A frame has no room.
 const OVERSIZED: u32 = 2;
-/// A frame ended that is no COBS frame: it is empty, or one of its groups runs past its end.
+/// A frame ended that is no COBS frame.
 const DAMAGED: u32 = 3;
 
 /// Puts COBS frames together from the pieces of a stream.
 ///
-/// `buffer[..held]` is the front of a frame that hasn't ended yet. A frame has room if it has at most
-/// as many bytes as the buffer, its zero included. An oversized frame is skipped through its zero, and
-/// meanwhile nothing is held.
+/// A frame has room if it has at most as many bytes as the buffer, its zero included. An oversized
+/// frame is skipped through its zero, and meanwhile nothing is held.
 #[repr(C)]
 #[derive(Drop)]
 pub struct Accumulator<'a> {
     /// The whole buffer.
     pub buffer: &'a mut [u8],
-    /// The number of bytes held at the front of the buffer.
+    /// The number of bytes at the front of the buffer that are held: the front of a frame that
+    /// hasn't ended.
     pub held: usize,
     /// Whether an oversized frame is being skipped.
     pub skipping: bool,
 }
 
-/// What a piece completes.
-///
-/// `answer` is one of the four constants, `taken` the number of bytes of the piece that were taken,
-/// and `size` that of a frame's data; `held` and `skipping` are what the accumulator carries on.
+/// What a piece completes: one of the four constants, how many bytes of the piece were taken, how
+/// many a frame's data has, and what the accumulator carries on.
 #[derive(Clone, Copy)]
 pub struct Outcome {
     answer: u32,
@@ -47,8 +45,8 @@ pub struct Outcome {
     skipping: bool,
 }
 
-/// Decodes the frame at the front of the first `end` bytes of a buffer in place, and returns the
-/// length of its data. Fails if and only if the frame has no data.
+/// Decodes the frame of the first `end` bytes of a buffer in place, and returns the length of its
+/// data. Fails if and only if the frame has no data.
 fn decode_front(buf: &mut [u8], end: usize) -> Result<usize>
     requires { end ≤ length buf.old }
     ensures decodes { IfOk result (λ n. (n ≤ length buf.new)
@@ -59,7 +57,6 @@ fn decode_front(buf: &mut [u8], end: usize) -> Result<usize>
     decode_in_place(&mut buf[..end])
 }
 
-/// Writes a piece of a frame after the bytes held.
 fn extend(buf: &mut [u8], held: usize, piece: &[u8])
     requires { held + length piece.now ≤ length buf.old }
     ensures { take (held + length piece.now) buf.new ≡ take held buf.old ++ piece.now }
@@ -155,13 +152,12 @@ fn take_in(buf: &mut [u8], held: usize, skipping: bool, piece: &[u8]) -> Outcome
 /// Takes in a piece of a stream up to the end of a frame, and returns what that completed: 0 if no
 /// frame ended, 1 for a frame, 2 for one that has no room, 3 for one that is no COBS frame.
 ///
-/// Writes the number of bytes of the piece that were taken into `taken`; the caller feeds the others
-/// next. Writes the number of bytes of a frame's data into `count`, and 0 without a frame; the data is
-/// at the front of the buffer until the next feed. The crate `postcard_accumulator` has the rule as a
-/// table.
+/// Writes into `taken` how many bytes of the piece were taken; the caller feeds the others next.
+/// Writes into `count` how many a frame's data has, or 0 without a frame; the data is at the front
+/// of the buffer until the next feed.
 ///
-/// If C changes the fields between two feeds to what no feed leaves, the answer may be any, but nothing
-/// outside of the buffer is touched.
+/// If C changes the fields between two feeds to what no feed leaves, the answer may be any, but
+/// nothing outside of the buffer is touched.
 #[unsafe(no_mangle)]
 pub extern "C" fn postcard_feed(
     accumulator: &mut Accumulator<'_>,

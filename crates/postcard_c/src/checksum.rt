@@ -1,8 +1,7 @@
 //! Checksums: of bytes, of what a writer holds, and of what a reader has read.
 //!
-//! The algorithms are two of Koopman's and Cook's catalogue of parametrised CRC algorithms. Both take
-//! and give the lowest bit first. A register takes a message bit by bit, without a table, so that the
-//! code is small.
+//! The algorithms are two of Koopman's and Cook's catalogue of parametrised CRC algorithms. Both
+//! take and give the lowest bit first, here without a table, so that the code is small.
 
 ghost use Rattle.std.specs.Prelude.{◌≡◌, ◌↔◌, ◌++◌, ℕ, List, length, take, true, IsTrue};
 ghost use Rattle.crc.specs.Crc.{Parameters, IsCrc};
@@ -17,7 +16,7 @@ use postcard_fixint::FixInt;
 
 /// The generator of CRC-32/ISO-HDLC without its highest power, the lowest bit first.
 const GENERATOR_32: u32 = 0xedb8_8320;
-/// The generator of CRC-16/IBM-SDLC without its highest power, the lowest bit first.
+/// The generator of CRC-16/IBM-SDLC, likewise.
 const GENERATOR_16: u32 = 0x8408;
 
 /// Returns the register after one more power of x.
@@ -78,8 +77,7 @@ pub extern "C" fn postcard_crc32(so_far: u32, bytes: &[u8]) -> u32
     continued(GENERATOR_32, 0xffff_ffff, so_far, bytes)
 }
 
-/// Returns the checksum of a message by CRC-16/IBM-SDLC, that of HDLC and X.25. Where the message
-/// comes in pieces, `so_far` is the checksum of those before this one; it is 0 for the first.
+/// Does the same by CRC-16/IBM-SDLC, that of HDLC and X.25.
 #[unsafe(no_mangle)]
 pub extern "C" fn postcard_crc16(so_far: u16, bytes: &[u8]) -> u16
     ensures whole { so_far ≡ 0 → IsCrc crc_16 bytes.now result }
@@ -99,7 +97,6 @@ fn front_at(bytes: &[u8], place: usize) -> &[u8]
     &bytes[..place]
 }
 
-/// Returns the bytes that a writer holds.
 fn held<'b>(writer: &'b Writer<'_>) -> &'b [u8]
     ensures { result.now ≡ take writer.now.used writer.now.buffer.now }
 {
@@ -125,7 +122,6 @@ pub extern "C" fn postcard_put_crc16(writer: &mut Writer<'_>) -> u32
     postcard_put_u16_le(writer, crc)
 }
 
-/// Returns whether two lists of bytes of one length are the same.
 fn are_same(found: &[u8], wanted: &[u8]) -> bool
     requires { length found.now ≡ length wanted.now }
     ensures { IsTrue result ↔ (found.now ≡ wanted.now) }
@@ -138,12 +134,8 @@ fn are_same(found: &[u8], wanted: &[u8]) -> bool
     true
 }
 
-/// Takes the next bytes, which must be those that are wanted.
-///
-/// # Errors
-///
-/// Fails with `DeserializeUnexpectedEnd` if fewer bytes are left, and with `DeserializeBadCrc` if they
-/// are others.
+/// Takes the next bytes, which must be those that are wanted. Fails with `DeserializeUnexpectedEnd`
+/// if fewer are left, and with `DeserializeBadCrc` if they are others.
 fn take_just(reader: &mut Reader<'_>, wanted: &[u8]) -> u32
     ensures { TakesJust wanted.now reader.old reader.new result }
 {
@@ -164,13 +156,9 @@ fn take_just(reader: &mut Reader<'_>, wanted: &[u8]) -> u32
     0
 }
 
-/// Takes the next 4 bytes, which must be the CRC-32/ISO-HDLC of all bytes that were read before, the
-/// lowest first.
-///
-/// # Errors
-///
-/// Fails with `DeserializeUnexpectedEnd` if fewer bytes are left, and with `DeserializeBadCrc` if they
-/// are others.
+/// Takes the next 4 bytes, which must be the CRC-32/ISO-HDLC of all bytes that were read before,
+/// the lowest first. Fails with `DeserializeUnexpectedEnd` if fewer bytes are left, and with
+/// `DeserializeBadCrc` if they are others.
 #[unsafe(no_mangle)]
 pub extern "C" fn postcard_get_crc32(reader: &mut Reader<'_>) -> u32
     ensures { GetsCrc crc_32 4 reader.old reader.new result }
@@ -179,13 +167,8 @@ pub extern "C" fn postcard_get_crc32(reader: &mut Reader<'_>) -> u32
     take_just(reader, &u32::encode_le(crc))
 }
 
-/// Takes the next 2 bytes, which must be the CRC-16/IBM-SDLC of all bytes that were read before, the
-/// lowest first.
-///
-/// # Errors
-///
-/// Fails with `DeserializeUnexpectedEnd` if fewer bytes are left, and with `DeserializeBadCrc` if they
-/// are others.
+/// Takes the next 2 bytes, which must be the CRC-16/IBM-SDLC of all bytes that were read before,
+/// the lowest first. Fails as [`postcard_get_crc32`] does.
 #[unsafe(no_mangle)]
 pub extern "C" fn postcard_get_crc16(reader: &mut Reader<'_>) -> u32
     ensures { GetsCrc crc_16 2 reader.old reader.new result }

@@ -14,9 +14,6 @@ use postcard_ser_flavors::{Flavor, Slice, Storage};
 use postcard_wire::Result;
 
 /// Writes bytes as a frame after those that a storage holds, and returns the storage in any case.
-///
-/// # Errors
-///
 /// The second part is `SerializeBufferFull` if and only if the frame has no room.
 fn frame_into<B: Storage + Drop>(bytes: &[u8], storage: B) -> (B, Result<()>)
     ensures gives { OnOk result.1 (B.held result.0 ≡ B.held storage ++ made bytes.now) }
@@ -31,7 +28,8 @@ fn frame_into<B: Storage + Drop>(bytes: &[u8], storage: B) -> (B, Result<()>)
     }
 }
 
-/// Writes bytes as a frame into the front of a buffer, and returns the whole buffer in any case.
+/// Writes bytes as a frame into the front of a buffer, and returns the whole buffer in any case,
+/// with the number of the frame's bytes, or `SerializeBufferFull` if it has no room.
 fn write_frame<'a>(bytes: &[u8], buffer: &'a mut [u8]) -> (&'a mut [u8], Result<usize>)
     ensures same_loan { result.0.ghost_name ≡ buffer.entry.ghost_name }
     ensures count_is_length { IfOk result.1 (λ count. count ≡ length (made bytes.now)) }
@@ -47,8 +45,8 @@ fn write_frame<'a>(bytes: &[u8], buffer: &'a mut [u8]) -> (&'a mut [u8], Result<
 }
 
 /// Writes bytes as a COBS frame (Cheshire and Baker 1999), the zero that ends it included, into the
-/// front of `frame`, and the number of the frame's bytes into `count`. The bytes after it are
-/// unchanged. A frame of `n` bytes of data has at most `n + n / 254 + 2`.
+/// front of `frame`, and the frame's size into `count`. The bytes after it are unchanged. The frame
+/// of `n` bytes has at most `n + n / 254 + 2`.
 ///
 /// # Errors
 ///

@@ -1,9 +1,17 @@
 //! The calls that read: one for each node of the format.
 //!
 //! Each reads from a [`Reader`], writes what it has read to where its last pointers point, and
-//! returns the reader's status, which is 0 for success. After an error the reader's place is that of
-//! the first byte of the node, and nothing was written. A reader that has failed before fails as
+//! returns the reader's status, which is 0 for success. After an error the reader's place is that
+//! of the first byte of the node, and nothing was written. A reader that has failed before fails as
 //! before.
+//!
+//! Each fails with `DeserializeUnexpectedEnd` if the bytes end before the node does. A number, an
+//! index, a count or a length fails with `DeserializeBadVarint` if its varint has more bytes than
+//! its width allows, 3, 5, 10 or 19 for 16, 32, 64 or 128 bits, or its number more bits. A call
+//! with an error of its own says so.
+//!
+//! `open` returns a source of the bytes that aren't read yet. `settle` ends a call: it writes the
+//! value and moves the reader on, or keeps the error, and returns the status.
 
 ghost use Rattle.std.specs.Prelude.{◌≡◌, ◌+◌, ◌*◌, ◌^◌, ◌<◌};
 ghost use Rattle.std.specs.Int.{w8, w128, cast_unsigned, cast_signed};
@@ -20,12 +28,7 @@ use crate::wide::{halves, joined};
 use postcard_c_status::{BAD_OPTION, UNEXPECTED_END};
 use postcard_wire::Result;
 
-/// Reads a boolean.
-///
-/// # Errors
-///
-/// Fails with `DeserializeUnexpectedEnd` if no byte is left, and with `DeserializeBadBool` if the byte
-/// is neither 0 nor 1.
+/// Reads a boolean. Fails with `DeserializeBadBool` if the byte is neither 0 nor 1.
 #[unsafe(no_mangle)]
 pub extern "C" fn postcard_get_bool(reader: &mut Reader<'_>, value: &mut bool) -> u32
     ensures { Gets IsBoolean (λ t v. t ≡ Boolean v) WantsByte BadBool
@@ -37,10 +40,6 @@ pub extern "C" fn postcard_get_bool(reader: &mut Reader<'_>, value: &mut bool) -
 }
 
 /// Reads a number of 8 bits.
-///
-/// # Errors
-///
-/// Fails with `DeserializeUnexpectedEnd` if no byte is left.
 #[unsafe(no_mangle)]
 pub extern "C" fn postcard_get_u8(reader: &mut Reader<'_>, value: &mut u8) -> u32
     ensures { Gets IsByte (λ t v. t ≡ Byte v) WantsByte NoneBad
@@ -52,11 +51,6 @@ pub extern "C" fn postcard_get_u8(reader: &mut Reader<'_>, value: &mut u8) -> u3
 }
 
 /// Reads a number of 16 bits.
-///
-/// # Errors
-///
-/// Fails with `DeserializeUnexpectedEnd` if the bytes end within the varint, and with
-/// `DeserializeBadVarint` if it has more than 3 bytes or its number more than 16 bits.
 #[unsafe(no_mangle)]
 pub extern "C" fn postcard_get_u16(reader: &mut Reader<'_>, value: &mut u16) -> u32
     ensures { Gets (IsNum 16) (λ t v. t ≡ Num 16 v) (WantsDigit 16) (BadNumber 16)
@@ -68,11 +62,6 @@ pub extern "C" fn postcard_get_u16(reader: &mut Reader<'_>, value: &mut u16) -> 
 }
 
 /// Reads a number of 32 bits.
-///
-/// # Errors
-///
-/// Fails with `DeserializeUnexpectedEnd` if the bytes end within the varint, and with
-/// `DeserializeBadVarint` if it has more than 5 bytes or its number more than 32 bits.
 #[unsafe(no_mangle)]
 pub extern "C" fn postcard_get_u32(reader: &mut Reader<'_>, value: &mut u32) -> u32
     ensures { Gets (IsNum 32) (λ t v. t ≡ Num 32 v) (WantsDigit 32) (BadNumber 32)
@@ -84,11 +73,6 @@ pub extern "C" fn postcard_get_u32(reader: &mut Reader<'_>, value: &mut u32) -> 
 }
 
 /// Reads a number of 64 bits.
-///
-/// # Errors
-///
-/// Fails with `DeserializeUnexpectedEnd` if the bytes end within the varint, and with
-/// `DeserializeBadVarint` if it has more than 10 bytes or its number more than 64 bits.
 #[unsafe(no_mangle)]
 pub extern "C" fn postcard_get_u64(reader: &mut Reader<'_>, value: &mut u64) -> u32
     ensures { Gets (IsNum 64) (λ t v. t ≡ Num 64 v) (WantsDigit 64) (BadNumber 64)
@@ -100,10 +84,6 @@ pub extern "C" fn postcard_get_u64(reader: &mut Reader<'_>, value: &mut u64) -> 
 }
 
 /// Reads a signed number of 8 bits.
-///
-/// # Errors
-///
-/// Fails as [`postcard_get_u8`].
 #[unsafe(no_mangle)]
 pub extern "C" fn postcard_get_i8(reader: &mut Reader<'_>, value: &mut i8) -> u32
     ensures { Gets IsByte (λ t v. t ≡ Byte (cast_unsigned w8 v)) WantsByte NoneBad
@@ -115,10 +95,6 @@ pub extern "C" fn postcard_get_i8(reader: &mut Reader<'_>, value: &mut i8) -> u3
 }
 
 /// Reads a signed number of 16 bits.
-///
-/// # Errors
-///
-/// Fails as [`postcard_get_u16`].
 #[unsafe(no_mangle)]
 pub extern "C" fn postcard_get_i16(reader: &mut Reader<'_>, value: &mut i16) -> u32
     ensures { Gets (IsInt 16) (λ t v. t ≡ Int 16 v) (WantsDigit 16) (BadNumber 16)
@@ -130,10 +106,6 @@ pub extern "C" fn postcard_get_i16(reader: &mut Reader<'_>, value: &mut i16) -> 
 }
 
 /// Reads a signed number of 32 bits.
-///
-/// # Errors
-///
-/// Fails as [`postcard_get_u32`].
 #[unsafe(no_mangle)]
 pub extern "C" fn postcard_get_i32(reader: &mut Reader<'_>, value: &mut i32) -> u32
     ensures { Gets (IsInt 32) (λ t v. t ≡ Int 32 v) (WantsDigit 32) (BadNumber 32)
@@ -145,10 +117,6 @@ pub extern "C" fn postcard_get_i32(reader: &mut Reader<'_>, value: &mut i32) -> 
 }
 
 /// Reads a signed number of 64 bits.
-///
-/// # Errors
-///
-/// Fails as [`postcard_get_u64`].
 #[unsafe(no_mangle)]
 pub extern "C" fn postcard_get_i64(reader: &mut Reader<'_>, value: &mut i64) -> u32
     ensures { Gets (IsInt 64) (λ t v. t ≡ Int 64 v) (WantsDigit 64) (BadNumber 64)
@@ -159,11 +127,7 @@ pub extern "C" fn postcard_get_i64(reader: &mut Reader<'_>, value: &mut i64) -> 
     settle(reader, source, read, value)
 }
 
-/// Reads the index of a variant of an enum, whose content is read next.
-///
-/// # Errors
-///
-/// Fails as [`postcard_get_u32`].
+/// Reads the index of a variant of an enum, of 32 bits. The content is read next.
 #[unsafe(no_mangle)]
 pub extern "C" fn postcard_get_variant(reader: &mut Reader<'_>, value: &mut u32) -> u32
     ensures { Gets (IsNum 32) (λ t v. t ≡ Num 32 v) (WantsDigit 32) (BadNumber 32)
@@ -172,12 +136,8 @@ pub extern "C" fn postcard_get_variant(reader: &mut Reader<'_>, value: &mut u32)
     postcard_get_u32(reader, value)
 }
 
-/// Reads the number of elements of a list or of pairs of a map, which are read next. Nothing says that
+/// Reads the number of elements of a list or of pairs of a map, of 64 bits. They are read next, if
 /// the bytes have that many.
-///
-/// # Errors
-///
-/// Fails as [`postcard_get_u64`].
 #[unsafe(no_mangle)]
 pub extern "C" fn postcard_get_count(reader: &mut Reader<'_>, value: &mut usize) -> u32
     ensures { Gets (IsNum 64) (λ t v. t ≡ Num 64 v) (WantsDigit 64) (BadNumber 64)
@@ -188,7 +148,6 @@ pub extern "C" fn postcard_get_count(reader: &mut Reader<'_>, value: &mut usize)
     settle(reader, source, read, value)
 }
 
-/// Returns a number of 64 bits that was read as a count, or the error.
 fn count_of(read: Result<u64>) -> Result<usize>
     ensures { result ≡ read }
 {
@@ -199,11 +158,6 @@ fn count_of(read: Result<u64>) -> Result<usize>
 }
 
 /// Reads a number of 128 bits as its lower and its higher 64 bits.
-///
-/// # Errors
-///
-/// Fails with `DeserializeUnexpectedEnd` if the bytes end within the varint, and with
-/// `DeserializeBadVarint` if it has more than 19 bytes or its number more than 128 bits.
 #[unsafe(no_mangle)]
 pub extern "C" fn postcard_get_u128(reader: &mut Reader<'_>, low: &mut u64, high: &mut u64) -> u32
     ensures { Gets (IsNum 128) (λ t v. t ≡ Num 128 v) (WantsDigit 128) (BadNumber 128)
@@ -215,7 +169,6 @@ pub extern "C" fn postcard_get_u128(reader: &mut Reader<'_>, low: &mut u64, high
     status
 }
 
-/// Reads a number of 128 bits.
 fn get_wide(reader: &mut Reader<'_>, value: &mut u128) -> u32
     ensures { Gets (IsNum 128) (λ t v. t ≡ Num 128 v) (WantsDigit 128) (BadNumber 128)
         reader.old reader.new value.old value.new result }
@@ -226,10 +179,6 @@ fn get_wide(reader: &mut Reader<'_>, value: &mut u128) -> u32
 }
 
 /// Reads a signed number of 128 bits as the lower and the higher 64 bits of its two's complement.
-///
-/// # Errors
-///
-/// Fails as [`postcard_get_u128`].
 #[unsafe(no_mangle)]
 pub extern "C" fn postcard_get_i128(reader: &mut Reader<'_>, low: &mut u64, high: &mut u64) -> u32
     ensures { Gets (IsInt 128) (λ t v. t ≡ Int 128 (cast_signed w128 v)) (WantsDigit 128) (BadNumber 128)
@@ -251,7 +200,6 @@ fn get_wide_signed(reader: &mut Reader<'_>, before: u128) -> (u32, u128)
     (status, value.cast_unsigned())
 }
 
-/// Reads a signed number of 128 bits.
 fn get_signed(reader: &mut Reader<'_>, value: &mut i128) -> u32
     ensures { Gets (IsInt 128) (λ t v. t ≡ Int 128 v) (WantsDigit 128) (BadNumber 128)
         reader.old reader.new value.old value.new result }
@@ -261,14 +209,9 @@ fn get_signed(reader: &mut Reader<'_>, value: &mut i128) -> u32
     settle(reader, source, read, value)
 }
 
-/// Reads a character, as its code. A length and that many bytes are read, of which the first
-/// character counts, as in postcard 1.1.3.
-///
-/// # Errors
-///
-/// Fails as [`postcard_get_u64`] if the length can't be read, with `DeserializeUnexpectedEnd` if fewer
-/// bytes are left than a length of at most 4 says, and with `DeserializeBadChar` if the length is above
-/// 4 or 0, or the bytes are not UTF-8.
+/// Reads a character, as its code. A length of 64 bits and that many bytes are read, of which the
+/// first character counts, as in postcard 1.1.3. Fails with `DeserializeBadChar` if the length is
+/// above 4 or 0, or the bytes are not UTF-8.
 #[unsafe(no_mangle)]
 pub extern "C" fn postcard_get_char(reader: &mut Reader<'_>, code: &mut u32) -> u32
     ensures { Gets IsChar (λ t v. t ≡ Char v) WantsChar BadChar
@@ -279,7 +222,6 @@ pub extern "C" fn postcard_get_char(reader: &mut Reader<'_>, code: &mut u32) -> 
     settle(reader, source, read, code)
 }
 
-/// Returns the code of a character that was read, or the error.
 fn code_of(read: Result<char>) -> Result<u32>
     ensures { result ≡ read }
 {
@@ -289,12 +231,8 @@ fn code_of(read: Result<char>) -> Result<u32>
     }
 }
 
-/// Reads a text, and lends its bytes, which are UTF-8 and lie in the reader's bytes.
-///
-/// # Errors
-///
-/// Fails as [`postcard_get_u64`] if the length can't be read, with `DeserializeUnexpectedEnd` if fewer
-/// bytes are left than it says, and with `DeserializeBadUtf8` if they are not UTF-8.
+/// Reads a text after its length, of 64 bits, and lends its bytes, which lie in the reader's bytes.
+/// Fails with `DeserializeBadUtf8` if they are not UTF-8.
 #[unsafe(no_mangle)]
 pub extern "C" fn postcard_get_str<'a>(reader: &mut Reader<'a>, text: &mut &'a [u8]) -> u32
     ensures { Gets IsText (λ t v. t ≡ Text v.now) WantsText (BadText ⊥)
@@ -305,7 +243,6 @@ pub extern "C" fn postcard_get_str<'a>(reader: &mut Reader<'a>, text: &mut &'a [
     settle(reader, source, read, text)
 }
 
-/// Returns the bytes of a text that was read, or the error.
 fn bytes_of(read: Result<&str>) -> Result<&[u8]>
     ensures { AreBytesOf read.entry result }
 {
@@ -315,12 +252,8 @@ fn bytes_of(read: Result<&str>) -> Result<&[u8]>
     }
 }
 
-/// Reads a byte string, which is a list of `u8`, and lends its bytes, which lie in the reader's bytes.
-///
-/// # Errors
-///
-/// Fails as [`postcard_get_u64`] if the length can't be read, and with `DeserializeUnexpectedEnd` if
-/// fewer bytes are left than it says.
+/// Reads a byte string, a list of `u8`, after its length, of 64 bits, and lends its bytes, which
+/// lie in the reader's bytes.
 #[unsafe(no_mangle)]
 pub extern "C" fn postcard_get_bytes<'a>(reader: &mut Reader<'a>, bytes: &mut &'a [u8]) -> u32
     ensures { Gets (IsSeq IsByte) (λ t v. ListIs (λ s b. s ≡ Byte b) t v.now) WantsText (BadNumber 64)
@@ -331,12 +264,8 @@ pub extern "C" fn postcard_get_bytes<'a>(reader: &mut Reader<'a>, bytes: &mut &'
     settle(reader, source, read, bytes)
 }
 
-/// Reads a number of bytes with no length before them, as an array of `u8`, and lends them. They lie
-/// in the reader's bytes.
-///
-/// # Errors
-///
-/// Fails with `DeserializeUnexpectedEnd` if fewer bytes are left.
+/// Reads a number of bytes with no length before them, as an array of `u8`, and lends them. They
+/// lie in the reader's bytes.
 #[unsafe(no_mangle)]
 pub extern "C" fn postcard_get_raw<'a>(
     reader: &mut Reader<'a>,
@@ -358,12 +287,8 @@ pub extern "C" fn postcard_get_raw<'a>(
     0
 }
 
-/// Reads whether an option has a value, which is read next.
-///
-/// # Errors
-///
-/// Fails with `DeserializeUnexpectedEnd` if no byte is left, and with `DeserializeBadOption` if the
-/// byte is neither 0 nor 1.
+/// Reads whether an option has a value, which is read next. Fails with `DeserializeBadOption` if
+/// the byte is neither 0 nor 1.
 #[unsafe(no_mangle)]
 pub extern "C" fn postcard_get_option(reader: &mut Reader<'_>, present: &mut bool) -> u32
     ensures { GetsOption reader.old reader.new present.old present.new result }

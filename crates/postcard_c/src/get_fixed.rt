@@ -1,5 +1,7 @@
-//! The calls that read numbers at their full width: 2, 4, 8 or 16 bytes, the lowest first (`_le`) or
-//! the highest first (`_be`), in place of a varint.
+//! The calls that read numbers at their full width: 2, 4, 8 or 16 bytes, the lowest first (`_le`)
+//! or the highest first (`_be`), in place of a varint. Each returns the reader's status, as those
+//! of [`get`](crate::get), and fails with `DeserializeUnexpectedEnd` if fewer bytes are left. After
+//! an error the reader's place is that before the call, and nothing was written.
 //!
 //! A signed number is the unsigned number of its two's complement; `c/postcard.h` has the casts.
 
@@ -13,10 +15,6 @@ use postcard_c_status::UNEXPECTED_END;
 use postcard_fixint::FixInt;
 
 /// Reads as many bytes as `bytes` has, and copies them there.
-///
-/// # Errors
-///
-/// Fails with `DeserializeUnexpectedEnd` if fewer bytes are left.
 fn fill(reader: &mut Reader<'_>, bytes: &mut [u8]) -> u32
     ensures { GetsBytes (length bytes.old) reader.old reader.new bytes.old bytes.new result }
 {
@@ -34,11 +32,7 @@ fn fill(reader: &mut Reader<'_>, bytes: &mut [u8]) -> u32
     0
 }
 
-/// Reads a number of 16 bits from its 2 bytes, the lowest first.
-///
-/// # Errors
-///
-/// Fails with `DeserializeUnexpectedEnd` if fewer bytes are left.
+/// Reads a number from 2 bytes, the lowest first.
 #[unsafe(no_mangle)]
 pub extern "C" fn postcard_get_u16_le(reader: &mut Reader<'_>, value: &mut u16) -> u32
     ensures { GetsFixed little.value 2 reader.old reader.new value.old value.new result }
@@ -52,11 +46,7 @@ pub extern "C" fn postcard_get_u16_le(reader: &mut Reader<'_>, value: &mut u16) 
     status
 }
 
-/// Reads a number of 16 bits from its 2 bytes, the highest first.
-///
-/// # Errors
-///
-/// Fails with `DeserializeUnexpectedEnd` if fewer bytes are left.
+/// Reads a number from 2 bytes, the highest first.
 #[unsafe(no_mangle)]
 pub extern "C" fn postcard_get_u16_be(reader: &mut Reader<'_>, value: &mut u16) -> u32
     ensures { GetsFixed big.value 2 reader.old reader.new value.old value.new result }
@@ -70,11 +60,7 @@ pub extern "C" fn postcard_get_u16_be(reader: &mut Reader<'_>, value: &mut u16) 
     status
 }
 
-/// Reads a number of 32 bits from its 4 bytes, the lowest first.
-///
-/// # Errors
-///
-/// Fails with `DeserializeUnexpectedEnd` if fewer bytes are left.
+/// Reads a number from 4 bytes, the lowest first.
 #[unsafe(no_mangle)]
 pub extern "C" fn postcard_get_u32_le(reader: &mut Reader<'_>, value: &mut u32) -> u32
     ensures { GetsFixed little.value 4 reader.old reader.new value.old value.new result }
@@ -88,11 +74,7 @@ pub extern "C" fn postcard_get_u32_le(reader: &mut Reader<'_>, value: &mut u32) 
     status
 }
 
-/// Reads a number of 32 bits from its 4 bytes, the highest first.
-///
-/// # Errors
-///
-/// Fails with `DeserializeUnexpectedEnd` if fewer bytes are left.
+/// Reads a number from 4 bytes, the highest first.
 #[unsafe(no_mangle)]
 pub extern "C" fn postcard_get_u32_be(reader: &mut Reader<'_>, value: &mut u32) -> u32
     ensures { GetsFixed big.value 4 reader.old reader.new value.old value.new result }
@@ -106,11 +88,7 @@ pub extern "C" fn postcard_get_u32_be(reader: &mut Reader<'_>, value: &mut u32) 
     status
 }
 
-/// Reads a number of 64 bits from its 8 bytes, the lowest first.
-///
-/// # Errors
-///
-/// Fails with `DeserializeUnexpectedEnd` if fewer bytes are left.
+/// Reads a number from 8 bytes, the lowest first.
 #[unsafe(no_mangle)]
 pub extern "C" fn postcard_get_u64_le(reader: &mut Reader<'_>, value: &mut u64) -> u32
     ensures { GetsFixed little.value 8 reader.old reader.new value.old value.new result }
@@ -124,11 +102,7 @@ pub extern "C" fn postcard_get_u64_le(reader: &mut Reader<'_>, value: &mut u64) 
     status
 }
 
-/// Reads a number of 64 bits from its 8 bytes, the highest first.
-///
-/// # Errors
-///
-/// Fails with `DeserializeUnexpectedEnd` if fewer bytes are left.
+/// Reads a number from 8 bytes, the highest first.
 #[unsafe(no_mangle)]
 pub extern "C" fn postcard_get_u64_be(reader: &mut Reader<'_>, value: &mut u64) -> u32
     ensures { GetsFixed big.value 8 reader.old reader.new value.old value.new result }
@@ -142,12 +116,7 @@ pub extern "C" fn postcard_get_u64_be(reader: &mut Reader<'_>, value: &mut u64) 
     status
 }
 
-/// Reads a number of 128 bits from its 16 bytes, the lowest first, as its lower and its higher 64
-/// bits.
-///
-/// # Errors
-///
-/// Fails with `DeserializeUnexpectedEnd` if fewer bytes are left.
+/// Reads a number from 16 bytes, the lowest first, as its lower and its higher 64 bits.
 #[unsafe(no_mangle)]
 pub extern "C" fn postcard_get_u128_le(
     reader: &mut Reader<'_>,
@@ -166,12 +135,7 @@ pub extern "C" fn postcard_get_u128_le(
     status
 }
 
-/// Reads a number of 128 bits from its 16 bytes, the highest first, as its lower and its higher 64
-/// bits.
-///
-/// # Errors
-///
-/// Fails with `DeserializeUnexpectedEnd` if fewer bytes are left.
+/// Reads a number from 16 bytes, the highest first, as its lower and its higher 64 bits.
 #[unsafe(no_mangle)]
 pub extern "C" fn postcard_get_u128_be(
     reader: &mut Reader<'_>,

@@ -1,8 +1,9 @@
 //! The calls that write: one for each node of the format.
 //!
 //! Each appends to a [`Writer`], and returns the writer's status, which is 0 for success. It fails
-//! with `SerializeBufferFull` if and only if the bytes have no room, and as before if the writer has
-//! failed before; where a call has an error of its own, its page says so.
+//! with `SerializeBufferFull` if and only if the bytes have no room, and as before if the writer
+//! has failed before. A call with an error of its own says so. A number of 16 bits or more is
+//! written as a varint, of its zigzag encoding if signed.
 
 ghost use Rattle.std.specs.Prelude.{◌≡◌, ◌∷◌, [], ◌+◌, ◌*◌, ◌^◌, ◌<◌, map, length, IsUtf8};
 ghost use Rattle.std.specs.Char.{IsScalar};
@@ -33,7 +34,7 @@ pub extern "C" fn postcard_put_u8(writer: &mut Writer<'_>, value: u8) -> u32
     append(writer, &[value], &[])
 }
 
-/// Appends a number of 16 bits as a varint.
+/// Appends a number of 16 bits.
 #[unsafe(no_mangle)]
 pub extern "C" fn postcard_put_u16(writer: &mut Writer<'_>, value: u16) -> u32
     ensures { Puts (canonical (Num 16 value)) writer.old writer.new result }
@@ -41,7 +42,7 @@ pub extern "C" fn postcard_put_u16(writer: &mut Writer<'_>, value: u16) -> u32
     put_number(writer, value.into())
 }
 
-/// Appends a number of 32 bits as a varint.
+/// Appends a number of 32 bits.
 #[unsafe(no_mangle)]
 pub extern "C" fn postcard_put_u32(writer: &mut Writer<'_>, value: u32) -> u32
     ensures { Puts (canonical (Num 32 value)) writer.old writer.new result }
@@ -49,7 +50,7 @@ pub extern "C" fn postcard_put_u32(writer: &mut Writer<'_>, value: u32) -> u32
     put_number(writer, u64::from(value))
 }
 
-/// Appends a number of 64 bits as a varint.
+/// Appends a number of 64 bits.
 #[unsafe(no_mangle)]
 pub extern "C" fn postcard_put_u64(writer: &mut Writer<'_>, value: u64) -> u32
     ensures { Puts (canonical (Num 64 value)) writer.old writer.new result }
@@ -57,7 +58,7 @@ pub extern "C" fn postcard_put_u64(writer: &mut Writer<'_>, value: u64) -> u32
     put_number(writer, value)
 }
 
-/// Appends a number of 128 bits as a varint. It is passed as its lower and its higher 64 bits.
+/// Appends a number of 128 bits, passed as its lower and its higher 64 bits.
 #[unsafe(no_mangle)]
 pub extern "C" fn postcard_put_u128(writer: &mut Writer<'_>, low: u64, high: u64) -> u32
     ensures { Puts (canonical (Num 128 (low + 2 ^ 64 * high))) writer.old writer.new result }
@@ -65,7 +66,6 @@ pub extern "C" fn postcard_put_u128(writer: &mut Writer<'_>, low: u64, high: u64
     put_wide(writer, joined(low, high))
 }
 
-/// Appends the varint of a number of 128 bits.
 fn put_wide(writer: &mut Writer<'_>, value: u128) -> u32
     ensures { Puts (canonical (Num 128 value)) writer.old writer.new result }
 {
@@ -81,7 +81,7 @@ pub extern "C" fn postcard_put_i8(writer: &mut Writer<'_>, value: i8) -> u32
     append(writer, &[value.cast_unsigned()], &[])
 }
 
-/// Appends a signed number of 16 bits as the varint of its zigzag encoding.
+/// Appends a signed number of 16 bits.
 #[unsafe(no_mangle)]
 pub extern "C" fn postcard_put_i16(writer: &mut Writer<'_>, value: i16) -> u32
     ensures { Puts (canonical (Int 16 value)) writer.old writer.new result }
@@ -89,7 +89,7 @@ pub extern "C" fn postcard_put_i16(writer: &mut Writer<'_>, value: i16) -> u32
     put_number(writer, u64::from(zig_zag_i16(value)))
 }
 
-/// Appends a signed number of 32 bits as the varint of its zigzag encoding.
+/// Appends a signed number of 32 bits.
 #[unsafe(no_mangle)]
 pub extern "C" fn postcard_put_i32(writer: &mut Writer<'_>, value: i32) -> u32
     ensures { Puts (canonical (Int 32 value)) writer.old writer.new result }
@@ -97,7 +97,7 @@ pub extern "C" fn postcard_put_i32(writer: &mut Writer<'_>, value: i32) -> u32
     put_number(writer, u64::from(zig_zag_i32(value)))
 }
 
-/// Appends a signed number of 64 bits as the varint of its zigzag encoding.
+/// Appends a signed number of 64 bits.
 #[unsafe(no_mangle)]
 pub extern "C" fn postcard_put_i64(writer: &mut Writer<'_>, value: i64) -> u32
     ensures { Puts (canonical (Int 64 value)) writer.old writer.new result }
@@ -105,8 +105,8 @@ pub extern "C" fn postcard_put_i64(writer: &mut Writer<'_>, value: i64) -> u32
     put_number(writer, zig_zag_i64(value))
 }
 
-/// Appends a signed number of 128 bits as the varint of its zigzag encoding. It is passed as the
-/// lower and the higher 64 bits of its two's complement.
+/// Appends a signed number of 128 bits, passed as the lower and the higher 64 bits of its two's
+/// complement.
 #[unsafe(no_mangle)]
 pub extern "C" fn postcard_put_i128(writer: &mut Writer<'_>, low: u64, high: u64) -> u32
     ensures { Puts (canonical (Int 128 (cast_signed w128 (low + 2 ^ 64 * high))))
@@ -116,11 +116,8 @@ pub extern "C" fn postcard_put_i128(writer: &mut Writer<'_>, low: u64, high: u64
     put_wide(writer, zig_zag_i128(value))
 }
 
-/// Appends a character, which is passed as its code.
-///
-/// # Errors
-///
-/// Fails with `DeserializeBadChar` if the code is no Unicode scalar value.
+/// Appends a character, which is passed as its code. Fails with `DeserializeBadChar` if the code is
+/// no Unicode scalar value.
 #[unsafe(no_mangle)]
 pub extern "C" fn postcard_put_char(writer: &mut Writer<'_>, code: u32) -> u32
     ensures written { IsScalar code → Puts (canonical (Char code)) writer.old writer.new result }
@@ -136,11 +133,8 @@ pub extern "C" fn postcard_put_char(writer: &mut Writer<'_>, code: u32) -> u32
     }
 }
 
-/// Appends a text: its length in bytes as a varint, and its bytes.
-///
-/// # Errors
-///
-/// Fails with `DeserializeBadUtf8` if the bytes are not UTF-8.
+/// Appends a text: its length in bytes as a varint, and its bytes. Fails with `DeserializeBadUtf8`
+/// if they are not UTF-8.
 #[unsafe(no_mangle)]
 pub extern "C" fn postcard_put_str(writer: &mut Writer<'_>, text: &[u8]) -> u32
     ensures written { IsUtf8 text.now → Puts (canonical (Text text.now)) writer.old writer.new result }
@@ -152,7 +146,7 @@ pub extern "C" fn postcard_put_str(writer: &mut Writer<'_>, text: &[u8]) -> u32
     }
 }
 
-/// Appends a byte string, which is a list of `u8`: its length as a varint, and its bytes.
+/// Appends a byte string, a list of `u8`: its length as a varint, and its bytes.
 #[unsafe(no_mangle)]
 #[tactic(auto, using(crate::proofs::Bytes::counted_bytes))]
 pub extern "C" fn postcard_put_bytes(writer: &mut Writer<'_>, bytes: &[u8]) -> u32

@@ -1,5 +1,6 @@
-//! The calls that write numbers at their full width: 2, 4, 8 or 16 bytes, the lowest first (`_le`) or
-//! the highest first (`_be`), in place of a varint.
+//! The calls that write numbers at their full width: 2, 4, 8 or 16 bytes, the lowest first (`_le`)
+//! or the highest first (`_be`), in place of a varint. Each returns the writer's status, and fails
+//! as those of [`put`](crate::put).
 //!
 //! A signed number is the unsigned number of its two's complement; `c/postcard.h` has the casts.
 
@@ -11,7 +12,7 @@ use crate::wide::joined;
 use crate::writer::{Writer, append};
 use postcard_fixint::FixInt;
 
-/// Appends a number of 16 bits as its 2 bytes, the lowest first.
+/// Appends the 2 bytes of a number, the lowest first.
 #[unsafe(no_mangle)]
 pub extern "C" fn postcard_put_u16_le(writer: &mut Writer<'_>, value: u16) -> u32
     ensures { Puts (little.spell 2 value) writer.old writer.new result }
@@ -19,7 +20,7 @@ pub extern "C" fn postcard_put_u16_le(writer: &mut Writer<'_>, value: u16) -> u3
     append(writer, &u16::encode_le(value), &[])
 }
 
-/// Appends a number of 16 bits as its 2 bytes, the highest first.
+/// Appends the 2 bytes of a number, the highest first.
 #[unsafe(no_mangle)]
 pub extern "C" fn postcard_put_u16_be(writer: &mut Writer<'_>, value: u16) -> u32
     ensures { Puts (big.spell 2 value) writer.old writer.new result }
@@ -27,7 +28,7 @@ pub extern "C" fn postcard_put_u16_be(writer: &mut Writer<'_>, value: u16) -> u3
     append(writer, &u16::encode_be(value), &[])
 }
 
-/// Appends a number of 32 bits as its 4 bytes, the lowest first.
+/// Appends the 4 bytes of a number, the lowest first.
 #[unsafe(no_mangle)]
 pub extern "C" fn postcard_put_u32_le(writer: &mut Writer<'_>, value: u32) -> u32
     ensures { Puts (little.spell 4 value) writer.old writer.new result }
@@ -35,7 +36,7 @@ pub extern "C" fn postcard_put_u32_le(writer: &mut Writer<'_>, value: u32) -> u3
     append(writer, &u32::encode_le(value), &[])
 }
 
-/// Appends a number of 32 bits as its 4 bytes, the highest first.
+/// Appends the 4 bytes of a number, the highest first.
 #[unsafe(no_mangle)]
 pub extern "C" fn postcard_put_u32_be(writer: &mut Writer<'_>, value: u32) -> u32
     ensures { Puts (big.spell 4 value) writer.old writer.new result }
@@ -43,7 +44,7 @@ pub extern "C" fn postcard_put_u32_be(writer: &mut Writer<'_>, value: u32) -> u3
     append(writer, &u32::encode_be(value), &[])
 }
 
-/// Appends a number of 64 bits as its 8 bytes, the lowest first.
+/// Appends the 8 bytes of a number, the lowest first.
 #[unsafe(no_mangle)]
 pub extern "C" fn postcard_put_u64_le(writer: &mut Writer<'_>, value: u64) -> u32
     ensures { Puts (little.spell 8 value) writer.old writer.new result }
@@ -51,7 +52,7 @@ pub extern "C" fn postcard_put_u64_le(writer: &mut Writer<'_>, value: u64) -> u3
     append(writer, &u64::encode_le(value), &[])
 }
 
-/// Appends a number of 64 bits as its 8 bytes, the highest first.
+/// Appends the 8 bytes of a number, the highest first.
 #[unsafe(no_mangle)]
 pub extern "C" fn postcard_put_u64_be(writer: &mut Writer<'_>, value: u64) -> u32
     ensures { Puts (big.spell 8 value) writer.old writer.new result }
@@ -59,8 +60,7 @@ pub extern "C" fn postcard_put_u64_be(writer: &mut Writer<'_>, value: u64) -> u3
     append(writer, &u64::encode_be(value), &[])
 }
 
-/// Appends a number of 128 bits as its 16 bytes, the lowest first. It is passed as its lower and its
-/// higher 64 bits.
+/// Appends the 16 bytes of a number, passed as its lower and its higher 64 bits, the lowest first.
 #[unsafe(no_mangle)]
 pub extern "C" fn postcard_put_u128_le(writer: &mut Writer<'_>, low: u64, high: u64) -> u32
     ensures { Puts (little.spell 16 (low + 2 ^ 64 * high)) writer.old writer.new result }
@@ -68,15 +68,13 @@ pub extern "C" fn postcard_put_u128_le(writer: &mut Writer<'_>, low: u64, high: 
     put_wide_le(writer, joined(low, high))
 }
 
-/// Appends the 16 bytes of a number of 128 bits, the lowest first.
 fn put_wide_le(writer: &mut Writer<'_>, value: u128) -> u32
     ensures { Puts (little.spell 16 value) writer.old writer.new result }
 {
     append(writer, &u128::encode_le(value), &[])
 }
 
-/// Appends a number of 128 bits as its 16 bytes, the highest first. It is passed as its lower and its
-/// higher 64 bits.
+/// Appends the 16 bytes of a number, passed as its lower and its higher 64 bits, the highest first.
 #[unsafe(no_mangle)]
 pub extern "C" fn postcard_put_u128_be(writer: &mut Writer<'_>, low: u64, high: u64) -> u32
     ensures { Puts (big.spell 16 (low + 2 ^ 64 * high)) writer.old writer.new result }
@@ -84,7 +82,6 @@ pub extern "C" fn postcard_put_u128_be(writer: &mut Writer<'_>, low: u64, high: 
     put_wide_be(writer, joined(low, high))
 }
 
-/// Appends the 16 bytes of a number of 128 bits, the highest first.
 fn put_wide_be(writer: &mut Writer<'_>, value: u128) -> u32
     ensures { Puts (big.spell 16 value) writer.old writer.new result }
 {

@@ -52,10 +52,9 @@ fn place_before<'a>(bytes: &[u8], source: Deserializer<'a, Slice<'a>>) -> usize
     }
 }
 
-/// Ends a call that read a value from a source of the bytes that weren't read yet: writes the value
-/// to where the caller wants it, and moves the reader on to what the source has left. After an error
-/// the reader has failed with its number, and nothing else is changed. A reader that has failed
-/// before is not changed.
+/// Ends a call that read a value from a source of the bytes that weren't read yet: writes the
+/// value, and moves the reader on to what the source has left. After an error the reader has failed
+/// with its number. A reader that has failed before is not changed.
 pub(crate) fn settle<'a, T: Drop>(
     reader: &mut Reader<'a>,
     source: Deserializer<'a, Slice<'a>>,

@@ -9,9 +9,9 @@ use postcard_wire::varint::{VARINT_MAX_64, write_u64};
 
 /// A writer over the caller's buffer.
 ///
-/// `buffer[..used]` is the message so far. `needed` is the number of bytes that the message has, or
-/// would have in a buffer with room for it: it also counts what found no room. `status` is 0 until a
-/// call fails; from then on each call returns that status, and changes nothing but `needed`.
+/// `buffer[..used]` is the message so far. `needed` also counts what found no room. `status` is 0
+/// until a call fails; from then on each call returns that status, and changes nothing but
+/// `needed`.
 #[repr(C)]
 #[derive(Drop)]
 pub struct Writer<'a> {
@@ -19,18 +19,16 @@ pub struct Writer<'a> {
     pub buffer: &'a mut [u8],
     /// The number of bytes written at the front of the buffer.
     pub used: usize,
-    /// The number of bytes that the message needs, at most `usize::MAX`.
+    /// The number of bytes that the message has, or would have in a buffer with room for it, at
+    /// most `usize::MAX`.
     pub needed: usize,
     /// 0, or the number of the first error.
     pub status: u32,
 }
 
-/// Appends the bytes of `head` and then those of `tail`, all or none of them.
-///
-/// # Errors
-///
-/// Fails with `SerializeBufferFull` if and only if both have no room together, and as before if the
-/// writer has failed before.
+/// Appends the bytes of `head` and then those of `tail`, all or none of them. Fails with
+/// `SerializeBufferFull` if and only if both have no room together, and as before if the writer has
+/// failed before.
 pub(crate) fn append(writer: &mut Writer<'_>, head: &[u8], tail: &[u8]) -> u32
     ensures { Puts (head.now ++ tail.now) writer.old writer.new result }
 {
@@ -69,11 +67,7 @@ fn copy_at(buffer: &mut [u8], place: usize, bytes: &[u8])
     buffer[place..end].copy_from_slice(bytes);
 }
 
-/// Appends the varint of a number.
-///
-/// # Errors
-///
-/// Fails as [`append`].
+/// Appends the varint of a number. Fails as [`append`] does.
 pub(crate) fn put_number(writer: &mut Writer<'_>, number: u64) -> u32
     ensures { Puts (digits number) writer.old writer.new result }
 {
@@ -86,11 +80,7 @@ pub(crate) fn put_number(writer: &mut Writer<'_>, number: u64) -> u32
     0
 }
 
-/// Appends the varint of a number, and then bytes, all or none of them.
-///
-/// # Errors
-///
-/// Fails as [`append`].
+/// Appends the varint of a number, and then bytes, all or none of them. Fails as [`append`] does.
 pub(crate) fn put_counted(writer: &mut Writer<'_>, number: u64, bytes: &[u8]) -> u32
     ensures { Puts (digits number ++ bytes.now) writer.old writer.new result }
 {
@@ -136,7 +126,7 @@ fn write_number_at(buffer: &mut [u8], place: usize, number: u64) -> usize
     write_u64(number, &mut buffer[place..])
 }
 
-/// Appends the varint of a number, and then bytes, where the room may not suffice.
+/// Does what [`put_counted`] does, where the room may not suffice.
 #[inline(never)]
 #[tactic(auto, using(postcard_wire::proofs::Writing::few_64))]
 fn put_if_it_fits(writer: &mut Writer<'_>, number: u64, bytes: &[u8]) -> u32

@@ -1,7 +1,6 @@
-//! The numbers by which C knows the errors: a status is 0 for success, or the number of an error.
-//!
-//! Both static libraries, `postcard_c` and `postcard_c_text`, return them; `c/postcard.h` has their
-//! names. `specs/Numbers.antt` defines the number of each error.
+//! The numbers by which C knows the errors: a status is 0 for success, or the number of an error
+//! (`specs/Numbers.antt`). Both static libraries, `postcard_c` and `postcard_c_text`, return them;
+//! `c/postcard.h` has their names. The last two stand for no [`Error`].
 #![tactic(auto)]
 
 ghost use Rattle.std.specs.Prelude.{◌≡◌, ◌<◌};
@@ -25,9 +24,9 @@ pub const BAD_FRAME: u32 = 11;
 pub const BAD_CRC: u32 = 12;
 /// An allocation failed.
 pub const OUT_OF_MEMORY: u32 = 16;
-/// A text is no type expression. The library has no such error among those of [`Error`].
+/// A text is no type expression.
 pub const BAD_TYPE: u32 = 17;
-/// A text is no value of a type. The library has no such error among those of [`Error`].
+/// A text is no value of a type.
 pub const BAD_TEXT: u32 = 18;
 
 /// Returns the number by which C knows an error: its place in the list of errors, counted from 0.

@@ -13,13 +13,8 @@ use postcard_dyn::{Problem, Schema, Value, parse, refused_at, take_from_bytes};
 use postcard_wire::Error;
 use std::alloc::Global;
 
-/// Reads a type expression.
-///
-/// # Errors
-///
-/// Fails with `BAD_TYPE` if the text is no type expression, and writes the number of the character
-/// where it isn't, counted from 1, into `place`; or 0 if the text is not UTF-8. Fails with
-/// `OUT_OF_MEMORY` if an allocation fails.
+/// Reads a type expression. Fails as [`postcard_to_text`](crate::texts::postcard_to_text) does,
+/// with `place` as there.
 pub(crate) fn schema_of(alloc: Global, expression: &[u8], place: &mut usize) -> Result<Schema, u32>
     ensures spelled { IfOk result (λ schema. IsExpression schema expression.now) }
     ensures named { IfErr result (λ status. (status ≡ 16) ⊎ (status ≡ 17)) }
@@ -42,13 +37,8 @@ pub(crate) fn schema_of(alloc: Global, expression: &[u8], place: &mut usize) -> 
 }
 
 /// Reads the message of a type that some bytes begin with, and writes the number of its bytes into
-/// `place`.
-///
-/// # Errors
-///
-/// Fails with the number of an error of reading if no front of the bytes is a message of the type, and
-/// writes the offset in bytes of the part that can't be read into `place`. Fails with `OUT_OF_MEMORY`
-/// if an allocation fails.
+/// `place`. Fails as [`postcard_to_text`](crate::texts::postcard_to_text) does, with `place` as
+/// there.
 pub(crate) fn message_of(
     alloc: Global,
     schema: &Schema,

@@ -61,11 +61,7 @@ pub extern "C" fn postcard_to_text(
     }
 }
 
-/// Returns the text of a value.
-///
-/// # Errors
-///
-/// Fails with `OUT_OF_MEMORY` if an allocation fails.
+/// Returns the text of a value, or fails with `OUT_OF_MEMORY` if an allocation fails.
 fn text_of(alloc: Global, schema: &Schema, value: &Value) -> Result<String, u32>
     ensures printed { IfOk result (λ shown. IfSome (text_of_tree (layout_of schema.now) (tree value.now))
         (λ printed. string_bytes shown ≡ printed)) }
@@ -83,10 +79,9 @@ fn text_of(alloc: Global, schema: &Schema, value: &Value) -> Result<String, u32>
 ///
 /// # Errors
 ///
-/// Fails with 17 if `expression` is no type, and with 18 if `text` is no value of it; `place` is then
-/// the number of the character where it isn't, counted from 1, or 0 if it is not UTF-8. Fails with 2 if
-/// the message has no room; `count` is then the size that it needs. Fails with 16 if an allocation
-/// fails. After any error `bytes` is unchanged.
+/// Fails with 17 as [`postcard_to_text`] does, and with 18 if `text` is no value of the type;
+/// `place` is then as there. Fails with 2 if the message has no room; `count` is then the size that
+/// it needs. Fails with 16 if an allocation fails. After any error `bytes` is unchanged.
 #[unsafe(no_mangle)]
 pub extern "C" fn postcard_from_text(
     alloc: Global,
@@ -118,13 +113,8 @@ pub extern "C" fn postcard_from_text(
     }
 }
 
-/// Reads the value of a type that a text spells.
-///
-/// # Errors
-///
-/// Fails with `BAD_TEXT` if the text is no value of the type, and writes the number of the character
-/// where it isn't, counted from 1, into `place`; or 0 if the text is not UTF-8. Fails with
-/// `OUT_OF_MEMORY` if an allocation fails.
+/// Reads the value of a type that a text spells. Fails as [`postcard_from_text`] does for the text,
+/// with `place` as there.
 fn value_of(alloc: Global, schema: &Schema, text: &[u8], place: &mut usize) -> Result<Value, u32>
     ensures value { IfOk result (λ v. reads (type_of schema.now) (tree v)) }
     ensures spelled { IfOk result (λ v. SpellsValue schema.now v text.now) }
@@ -145,11 +135,8 @@ fn value_of(alloc: Global, schema: &Schema, text: &[u8], place: &mut usize) -> R
     }
 }
 
-/// Returns the message of a value: the canonical encoding of its tree.
-///
-/// # Errors
-///
-/// Fails with `OUT_OF_MEMORY` if an allocation fails.
+/// Returns the canonical encoding of a value's tree, or fails with `OUT_OF_MEMORY` if an allocation
+/// fails.
 fn encoded(alloc: Global, value: &Value) -> Result<Vec<u8>, u32>
     ensures gives { IfOk result (λ message. message.items ≡ canonical (tree value.now)) }
     ensures out_of_memory { IfErr result (λ status. status ≡ 16) }

@@ -1,4 +1,5 @@
-//! The examples of `README.md` and `docs/CALLING.md`, line by line.
+//! Tests of the examples of `README.md` and `docs/CALLING.md` that are just calls, but for that
+//! with a checksum, which `postcard_crc_tests` has.
 
 use crate::asserts::same;
 use postcard::experimental::serialized_size;

@@ -1,10 +1,13 @@
 //! Tests of the calls of `postcard` beside the rows of `postcard_rows`: each call at a concrete type,
-//! the calls of a `Serializer` and of a `Deserializer`, numbers at their full width, greatest sizes,
-//! the examples of the pages, and the types, flavors and theorems of `example_types`.
+//! the calls of a `Serializer` and of a `Deserializer`, those of the impls of a user's types, numbers
+//! at their full width, greatest sizes, the examples of the pages, and the types, flavors and theorems
+//! of `example_types`.
 #![tactic(auto)]
 
 #[cfg(test)]
 mod asserts;
+#[cfg(test)]
+mod by_parts;
 #[cfg(test)]
 mod deserializer;
 #[cfg(test)]

@@ -67,7 +67,7 @@ pub enum Checksum {
 }
 
 impl Checksum {
-    /// Returns the algorithm with this name, or `None` if no algorithm has it.
+    /// Returns the algorithm with this name, if there is one.
     pub fn from_name(name: &str) -> Option<Checksum>
         ensures found { IfSome result (λ checksum. name.now ≡ checksum_name checksum) }
         ensures none { IfNone result ((checksum : Checksum) → name.now ≢ checksum_name checksum) }
@@ -150,13 +150,9 @@ impl Checksum {
         }
     }
 
-    /// Checks that `behind`, what comes after the message `front`, begins with the checksum of that
-    /// message, and returns the bytes after the checksum.
-    ///
-    /// # Errors
-    ///
-    /// Fails with `DeserializeUnexpectedEnd` if `behind` has fewer bytes than a checksum, and with
-    /// `DeserializeBadCrc` if it begins with another.
+    /// Returns the bytes after the checksum of the message `front`, with which `behind`, what comes
+    /// after the message, is to begin. Fails with `DeserializeUnexpectedEnd` if `behind` has fewer
+    /// bytes than a checksum, and with `DeserializeBadCrc` if it begins with another.
     pub fn after_trailer<'a>(self, front: &[u8], behind: &'a [u8]) -> WireResult<&'a [u8]>
         ensures follows { IfOk result (λ rest. IsTrailer self front.now behind.now rest.now) }
         ensures refused { IfErr result (λ e. HasNoTrailer self front.now behind.now e) }
@@ -197,7 +193,8 @@ impl Checksum {
     }
 }
 
-/// Returns the checksum of bytes by an algorithm of at most 8 bits.
+/// Returns the checksum of bytes by an algorithm of at most 8 bits. The functions below do so for
+/// more.
 fn checksum_in_u8(algorithm: &Algorithm<u8>, bytes: &[u8]) -> u128
     requires { IsValid 8 (parameters (λ n. n) algorithm.now) }
     ensures { IsCrc (parameters (λ n. n) algorithm.now) bytes.now result }
@@ -206,7 +203,6 @@ fn checksum_in_u8(algorithm: &Algorithm<u8>, bytes: &[u8]) -> u128
     u128::from(crc.checksum(bytes))
 }
 
-/// Returns the checksum of bytes by an algorithm of at most 16 bits.
 fn checksum_in_u16(algorithm: &Algorithm<u16>, bytes: &[u8]) -> u128
     requires { IsValid 16 (parameters (λ n. n) algorithm.now) }
     ensures { IsCrc (parameters (λ n. n) algorithm.now) bytes.now result }
@@ -215,7 +211,6 @@ fn checksum_in_u16(algorithm: &Algorithm<u16>, bytes: &[u8]) -> u128
     u128::from(crc.checksum(bytes))
 }
 
-/// Returns the checksum of bytes by an algorithm of at most 32 bits.
 fn checksum_in_u32(algorithm: &Algorithm<u32>, bytes: &[u8]) -> u128
     requires { IsValid 32 (parameters (λ n. n) algorithm.now) }
     ensures { IsCrc (parameters (λ n. n) algorithm.now) bytes.now result }
@@ -224,7 +219,6 @@ fn checksum_in_u32(algorithm: &Algorithm<u32>, bytes: &[u8]) -> u128
     u128::from(crc.checksum(bytes))
 }
 
-/// Returns the checksum of bytes by an algorithm of at most 64 bits.
 fn checksum_in_u64(algorithm: &Algorithm<u64>, bytes: &[u8]) -> u128
     requires { IsValid 64 (parameters (λ n. n) algorithm.now) }
     ensures { IsCrc (parameters (λ n. n) algorithm.now) bytes.now result }
@@ -233,7 +227,6 @@ fn checksum_in_u64(algorithm: &Algorithm<u64>, bytes: &[u8]) -> u128
     u128::from(crc.checksum(bytes))
 }
 
-/// Returns the checksum of bytes by an algorithm of at most 128 bits.
 fn checksum_in_u128(algorithm: &Algorithm<u128>, bytes: &[u8]) -> u128
     requires { IsValid 128 (parameters (λ n. n) algorithm.now) }
     ensures { IsCrc (parameters (λ n. n) algorithm.now) bytes.now result }
@@ -242,18 +235,14 @@ fn checksum_in_u128(algorithm: &Algorithm<u128>, bytes: &[u8]) -> u128
     crc.checksum(bytes)
 }
 
-/// Returns whether the bytes are the same.
 fn is_same(found: &[u8], wanted: &[u8]) -> bool
     ensures { IsTrue result ↔ (found.now ≡ wanted.now) }
 {
     *found == *wanted
 }
 
-/// Returns the algorithm with this name. If there is none, prints the name.
-///
-/// # Errors
-///
-/// Fails with `UnknownChecksum` if there is none, and with `Output` if the output can't be written.
+/// Returns the algorithm with this name. Fails with `UnknownChecksum` if there is none, after the
+/// name is printed.
 pub fn named<W: Write>(name: &str, output: &mut W) -> Result<Checksum, Failure>
     ensures named { IfOk result (λ checksum. name.now ≡ checksum_name checksum) }
     ensures untouched { OnOk result (output.new ≡ output.old) }
@@ -269,11 +258,8 @@ pub fn named<W: Write>(name: &str, output: &mut W) -> Result<Checksum, Failure>
     }
 }
 
-/// Prints the checksum of the bytes of HEX by the algorithm with this name, on a line.
-///
-/// # Errors
-///
-/// Fails as [`named`] and [`hexadecimal::read_loose`] do.
+/// Prints the checksum of the bytes of HEX by the algorithm with this name, on a line. Fails as
+/// [`named`] and [`hexadecimal::read_loose`] do.
 pub fn print<R: Reader, W: Write>(
     alloc: Global,
     name: &str,
@@ -294,7 +280,7 @@ pub fn print<R: Reader, W: Write>(
     Ok(())
 }
 
-/// Prints the catalogue. Fails with `Output` if the output can't be written.
+/// Prints the catalogue.
 pub fn print_catalog<W: Write>(output: &mut W) -> Result<(), Failure>
     ensures printed { OnOk result (Appends (W.contents output.old) (W.contents output.new)
         CATALOG.now) }

@@ -1,4 +1,6 @@
-//! The commands, and how they are read from the words of a call.
+//! The commands, and how they are read from the words of a call. The functions below
+//! [`Command::from_words`] serve the calls of the words that their pages name, and return `None` if
+//! the words are no call.
 
 ghost use Rattle.std.specs.Prelude.{◌≡◌, ◌≢◌, ℕ, [], ◌∷◌, codes, IfSome, IfNone, map, string_bytes};
 ghost use Rattle.postcard_cli.specs.Command.{IsCallOf, IsNoCall, IsWordOf, SaysLongest};
@@ -29,7 +31,7 @@ pub enum ValueType {
 }
 
 impl ValueType {
-    /// Returns the type with this name, or `None` if no type has it.
+    /// Returns the type with this name, if there is one.
     pub fn from_name(name: &str) -> Option<ValueType>
         ensures found { IfSome result (λ kind. name.now ≡ name_of kind) }
         ensures none { IfNone result ((kind : ValueType) → name.now ≢ name_of kind) }
@@ -89,7 +91,7 @@ pub enum TypeWord<'a> {
 }
 
 impl<'a> TypeWord<'a> {
-    /// Returns the type of a word, or `None` if the word is neither a name nor an expression.
+    /// Returns the type of a word, or `None` if it is neither a name nor an expression.
     pub fn from_word(word: &'a str) -> Option<TypeWord<'a>>
         ensures found { IfSome result (λ kind. IsWordOf word.now kind) }
         ensures none { IfNone result ((kind : TypeWord) → IsWordOf word.now kind → ⊥) }
@@ -105,15 +107,16 @@ impl<'a> TypeWord<'a> {
 }
 
 /// A call with a known command, the right number of words, and a TYPE that is a name or counts as
-/// an expression. The expression, VALUE and HEX aren't read yet.
+/// an expression. The expression, VALUE and HEX aren't read yet. Where nothing else is said, TYPE
+/// is taken as an expression.
 #[derive(Clone, Copy, Debug, PartialEq, Eq)]
 pub enum Command<'a> {
-    /// `enc TYPE VALUE`.
+    /// `enc TYPE VALUE`, where TYPE may be a name.
     Encode {
         kind: TypeWord<'a>,
         value: &'a str,
     },
-    /// `dec TYPE HEX`.
+    /// `dec TYPE HEX`, where TYPE may be a name.
     Decode {
         kind: TypeWord<'a>,
         hex: &'a str,
@@ -123,58 +126,58 @@ pub enum Command<'a> {
         expression: &'a str,
         hex: &'a str,
     },
-    /// `enc --crc NAME TYPE VALUE`, where TYPE is taken as an expression.
+    /// `enc --crc NAME TYPE VALUE`.
     EncodeChecked {
         name: &'a str,
         expression: &'a str,
         value: &'a str,
     },
-    /// `dec --crc NAME TYPE HEX`, where TYPE is taken as an expression.
+    /// `dec --crc NAME TYPE HEX`.
     DecodeChecked {
         name: &'a str,
         expression: &'a str,
         hex: &'a str,
     },
-    /// `enc --json TYPE JSON`, where TYPE is taken as an expression.
+    /// `enc --json TYPE JSON`.
     EncodeJson {
         expression: &'a str,
         text: &'a str,
     },
-    /// `dec --json TYPE HEX`, where TYPE is taken as an expression.
+    /// `dec --json TYPE HEX`.
     DecodeJson {
         expression: &'a str,
         hex: &'a str,
     },
-    /// `decs --json TYPE HEX`, where TYPE is taken as an expression.
+    /// `decs --json TYPE HEX`.
     DecodeAllJson {
         expression: &'a str,
         hex: &'a str,
     },
-    /// `enc --frame TYPE VALUE`, where TYPE is taken as an expression.
+    /// `enc --frame TYPE VALUE`.
     EncodeFramed {
         expression: &'a str,
         value: &'a str,
     },
-    /// `enc --frame --raw TYPE VALUE`, where TYPE is taken as an expression.
+    /// `enc --frame --raw TYPE VALUE`.
     EncodeFramedRaw {
         expression: &'a str,
         value: &'a str,
     },
-    /// `dec --frame TYPE HEX`, where TYPE is taken as an expression.
+    /// `dec --frame TYPE HEX`.
     DecodeFramed {
         expression: &'a str,
         hex: &'a str,
     },
-    /// `enc --raw TYPE VALUE`, where TYPE is taken as an expression.
+    /// `enc --raw TYPE VALUE`.
     EncodeRaw {
         expression: &'a str,
         value: &'a str,
     },
-    /// `dec --raw TYPE` or `dec --raw TYPE -`, where TYPE is taken as an expression.
+    /// `dec --raw TYPE` or `dec --raw TYPE -`.
     DecodeRaw {
         expression: &'a str,
     },
-    /// `decs --raw TYPE` or `decs --raw TYPE -`, where TYPE is taken as an expression.
+    /// `decs --raw TYPE` or `decs --raw TYPE -`.
     DecodeAllRaw {
         expression: &'a str,
     },
@@ -186,33 +189,32 @@ pub enum Command<'a> {
         expression: &'a str,
         longest: usize,
     },
-    /// `frames --crc NAME TYPE`, where TYPE is taken as an expression.
+    /// `frames --crc NAME TYPE`.
     FramesChecked {
         name: &'a str,
         expression: &'a str,
     },
-    /// `frames --hex TYPE HEX`, where TYPE is taken as an expression.
+    /// `frames --hex TYPE HEX`.
     FramesHex {
         expression: &'a str,
         hex: &'a str,
     },
-    /// `frames --json TYPE`, where TYPE is taken as an expression.
+    /// `frames --json TYPE`.
     FramesJson {
         expression: &'a str,
     },
-    /// `explain TYPE HEX` or `explain --all TYPE HEX`, where TYPE is taken as an expression, and `all`
-    /// is whether nothing is cut.
+    /// `explain TYPE HEX`, or `explain --all TYPE HEX`, by which nothing is cut.
     Explain {
         expression: &'a str,
         hex: &'a str,
         all: bool,
     },
-    /// `explain --json TYPE HEX`, where TYPE is taken as an expression.
+    /// `explain --json TYPE HEX`.
     ExplainJson {
         expression: &'a str,
         hex: &'a str,
     },
-    /// `size TYPE`, where TYPE is taken as an expression.
+    /// `size TYPE`.
     Size {
         expression: &'a str,
     },
@@ -228,8 +230,8 @@ pub enum Command<'a> {
 }
 
 impl<'a> Command<'a> {
-    /// Returns the command of these words, or `None` if they are no call: if the command or the
-    /// type is unknown, or if there are too few or too many words.
+    /// Returns the command of these words, or `None` if the command or the type is unknown, or if
+    /// there are too few or too many words.
     pub fn from_words(words: &'a [String]) -> Option<Command<'a>>
         ensures found { IfSome result (λ command. IsCallOf (map string_bytes words.now) command) }
         ensures none { IfNone result (IsNoCall (map string_bytes words.now)) }
@@ -257,7 +259,7 @@ impl<'a> Command<'a> {
         }
     }
 
-    /// Returns the command of a call of one word.
+    /// One word.
     fn alone(command: &'a str) -> Option<Command<'a>>
         ensures found { IfSome result (λ found. IsCallOf (command.now ∷ []) found) }
         ensures none { IfNone result (IsNoCall (command.now ∷ [])) }
@@ -270,7 +272,7 @@ impl<'a> Command<'a> {
         }
     }
 
-    /// Returns the command of a call of two words, the second of which is a type.
+    /// A command and a type.
     fn of_type(command: &'a str, kind: &'a str) -> Option<Command<'a>>
         ensures found { IfSome result (λ found. IsCallOf (command.now ∷ kind.now ∷ []) found) }
         ensures none { IfNone result (IsNoCall (command.now ∷ kind.now ∷ [])) }
@@ -285,7 +287,7 @@ impl<'a> Command<'a> {
         }
     }
 
-    /// Returns the command of a call of three words: a command, a type and a text.
+    /// A command, a type and a text.
     fn of_text(command: &'a str, kind: &'a str, text: &'a str) -> Option<Command<'a>>
         ensures found { IfSome result
             (λ found. IsCallOf (command.now ∷ kind.now ∷ text.now ∷ []) found) }
@@ -307,8 +309,7 @@ impl<'a> Command<'a> {
         }
     }
 
-    /// Returns the command of a call of three words, the first of which is neither `explain` nor
-    /// `crc`: a command, `--raw`, and a type.
+    /// A command that is neither `explain` nor `crc`, `--raw`, and a type.
     fn of_input(command: &'a str, expression: &'a str) -> Option<Command<'a>>
         ensures found { IfSome result
             (λ found. IsCallOf (command.now ∷ codes "--raw" ∷ expression.now ∷ []) found) }
@@ -326,8 +327,8 @@ impl<'a> Command<'a> {
         }
     }
 
-    /// Returns the command of a call of three words, the second of which isn't `--raw`, and `--json` only
-    /// if the first isn't `frames`, but has to be a name or count as an expression.
+    /// Three words, the second of which is neither `--raw` nor, after `frames`, `--json`, but a
+    /// name or an expression.
     fn of_known_type(command: &'a str, kind: &'a str, text: &'a str) -> Option<Command<'a>>
         ensures found { IfSome result
             (λ found. IsCallOf (command.now ∷ kind.now ∷ text.now ∷ []) found) }
@@ -356,7 +357,7 @@ impl<'a> Command<'a> {
         }
     }
 
-    /// Returns the command of a call of four words: a command, an option, and two words more.
+    /// A command, an option, and two words more.
     fn with_option(
         command: &'a str,
         option: &'a str,
@@ -375,8 +376,7 @@ impl<'a> Command<'a> {
         }
     }
 
-    /// Returns the command of a call of four words, the first of which is neither `explain` nor
-    /// `frames`: a command, an option, a type and a text.
+    /// A command that is neither `explain` nor `frames`, an option, a type and a text.
     fn of_message(
         command: &'a str,
         option: &'a str,
@@ -396,8 +396,7 @@ impl<'a> Command<'a> {
         }
     }
 
-    /// Returns the command of a call of four words, the first of which isn't `explain`: a command,
-    /// `--json`, a type and a text.
+    /// A command that isn't `explain`, `--json`, a type and a text.
     fn in_json(command: &'a str, kind: &'a str, text: &'a str) -> Option<Command<'a>>
         ensures found { IfSome result (λ found.
             IsCallOf (command.now ∷ codes "--json" ∷ kind.now ∷ text.now ∷ []) found) }
@@ -421,7 +420,7 @@ impl<'a> Command<'a> {
         }
     }
 
-    /// Returns the command of a call of four words: a command, `--frame`, a type and a text.
+    /// A command, `--frame`, a type and a text.
     fn framed(command: &'a str, kind: &'a str, text: &'a str) -> Option<Command<'a>>
         ensures found { IfSome result (λ found.
             IsCallOf (command.now ∷ codes "--frame" ∷ kind.now ∷ text.now ∷ []) found) }
@@ -441,8 +440,7 @@ impl<'a> Command<'a> {
         }
     }
 
-    /// Returns the command of a call of four words: a command, `--raw`, a type and a text, which is
-    /// `-` unless the command is `enc`.
+    /// A command, `--raw`, a type and a text, which is `-` unless the command is `enc`.
     fn raw(command: &'a str, kind: &'a str, text: &'a str) -> Option<Command<'a>>
         ensures found { IfSome result (λ found.
             IsCallOf (command.now ∷ codes "--raw" ∷ kind.now ∷ text.now ∷ []) found) }
@@ -460,8 +458,7 @@ impl<'a> Command<'a> {
         }
     }
 
-    /// Returns the command of a call of five words: a command, an option, the name of a checksum or
-    /// another option, a type and a text.
+    /// A command, an option, the name of a checksum or another option, a type and a text.
     fn checked(
         command: &'a str,
         option: &'a str,
@@ -493,7 +490,7 @@ impl<'a> Command<'a> {
         }
     }
 
-    /// Returns the command of `explain` with three words after it: an option, a type and a text.
+    /// `explain`, an option, a type and a text.
     fn of_explain(option: &'a str, kind: &'a str, text: &'a str) -> Option<Command<'a>>
         ensures found { IfSome result (λ found.
             IsCallOf (codes "explain" ∷ option.now ∷ kind.now ∷ text.now ∷ []) found) }
@@ -514,8 +511,7 @@ impl<'a> Command<'a> {
         }
     }
 
-    /// Returns the command of `frames` with three words after it: an option, and its value and a type,
-    /// or a type and HEX.
+    /// `frames`, an option, and its value and a type, or a type and HEX.
     fn of_stream(option: &'a str, third: &'a str, fourth: &'a str) -> Option<Command<'a>>
         ensures found { IfSome result (λ found.
             IsCallOf (codes "frames" ∷ option.now ∷ third.now ∷ fourth.now ∷ []) found) }

@@ -27,14 +27,13 @@ use std::alloc::Global;
 use std::fmt;
 use std::io::Write;
 
-/// The greatest number of columns of a line that is cut.
+/// The most columns of a line that is cut.
 pub const COLUMNS: usize = 80;
 
-/// The greatest number of bytes on a line that is cut, and of elements of a list that have lines of
-/// their own then.
+/// The most bytes on a line that is cut.
 pub const SHOWN: usize = 8;
 
-/// The greatest number of elements of one list that have lines of their own, unless all have.
+/// The most elements of one list that have lines of their own, unless all have.
 pub const ELEMENTS: u64 = 16;
 
 /// The greatest depth to which a line is indented.
@@ -57,9 +56,8 @@ struct Layout {
 ///
 /// # Errors
 ///
-/// Fails as `dec` does: if the bytes begin with no message of the type, with `Refused`, after the
-/// lines of the parts before the one that can't be read, the line of what was expected there, and
-/// what `dec` prints.
+/// Fails as `dec` does. If that is with `Refused`, the lines of the parts before the one that can't
+/// be read, and of what was expected there, are printed before what `dec` prints.
 pub fn print<R: Reader, W: Write>(
     alloc: Global,
     expression: &str,
@@ -91,7 +89,8 @@ pub fn print<R: Reader, W: Write>(
     }
 }
 
-/// Prints the rows of lines.
+/// Prints each line of an explanation as a row, with the offset of its bytes in the message. Fails
+/// with `Output`, and with `Library(OutOfMemory)`.
 fn print_lines<W: Write>(
     alloc: Global,
     lines: &Vec<Line<'_>>,
@@ -205,7 +204,6 @@ fn print_bytes<W: Write>(layout: Layout, bytes: &[u8], output: &mut W) -> Result
     Ok(())
 }
 
-/// Prints bytes as hexadecimal, each with a blank after it.
 fn print_spaced<W: Write>(bytes: &[u8], output: &mut W) -> Result<(), Failure>
     ensures printed { OnOk result (Appends (W.contents output.old) (W.contents output.new)
         (spaced bytes.now)) }
@@ -268,7 +266,6 @@ impl fmt::Display for Told<'_> {
     }
 }
 
-/// Prints what a part is called.
 fn show_title<W: fmt::Write>(label: Label<'_>, f: &mut fmt::Formatter<W>) -> fmt::Result
     ensures { WritesOnOk W.write_str_gives f.old result (title_text label.entry) f.new }
 {
@@ -293,7 +290,6 @@ fn separator(label: Label<'_>, kind: &LineKind<'_>) -> &'static str
     }
 }
 
-/// Prints what the bytes of a line are.
 fn show_kind<W: fmt::Write>(kind: &LineKind<'_>, f: &mut fmt::Formatter<W>) -> fmt::Result
     ensures { DisplaysOnOk W.write_str_gives f.old result (kind_text kind.now) f.new }
 {
@@ -316,7 +312,6 @@ fn show_kind<W: fmt::Write>(kind: &LineKind<'_>, f: &mut fmt::Formatter<W>) -> f
     }
 }
 
-/// Prints a value without parts.
 fn show_value<W: fmt::Write>(
     schema: &Schema,
     value: &Value,
@@ -329,7 +324,6 @@ fn show_value<W: fmt::Write>(
     write!(f, "{shown}")
 }
 
-/// Returns the word for this number of elements.
 fn noun(count: u64) -> &'static str
     ensures { result.now ≡ elements_text count }
 {

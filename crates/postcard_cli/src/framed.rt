@@ -32,11 +32,8 @@ use std::io::Write;
 const FRAME: usize = BUFFER + BUFFER / 254 + 2;
 
 /// Encodes the value of a text, and prints the frame of its encoding, its zero included, as
-/// hexadecimal on a line.
-///
-/// # Errors
-///
-/// Fails as [`encode`](crate::message::encode) does. The 4,096 bytes are those of the encoding.
+/// hexadecimal on a line. Fails as [`encode`](crate::message::encode) does. The 4,096 bytes are
+/// those of the encoding.
 pub fn encode<W: Write>(
     alloc: Global,
     expression: &str,
@@ -55,12 +52,8 @@ pub fn encode<W: Write>(
     Ok(())
 }
 
-/// Encodes the value of a text, and prints the bytes of the frame of its encoding, its zero included,
-/// and nothing after them.
-///
-/// # Errors
-///
-/// Fails as [`encode`] does.
+/// Does what [`encode`] does, with the same errors, but prints the bytes themselves, and nothing
+/// after them.
 pub fn encode_raw<W: Write>(
     alloc: Global,
     expression: &str,
@@ -93,9 +86,9 @@ fn frame_of(encoding: &ArrayVec<u8, BUFFER>) -> ArrayVec<u8, FRAME>
 ///
 /// # Errors
 ///
-/// Fails as [`schema_of`] and [`hexadecimal::read_loose`] do, and with `Refused` if no zero ends the
-/// frame, if the bytes before it are no frame, or if its data begins with no message of the type,
-/// after a line without its end is printed that says so.
+/// Fails as [`schema_of`] and [`hexadecimal::read_loose`] do, and with `Refused`, after a line
+/// without its end says why, if no zero ends the frame, if the bytes before it are no frame, or if
+/// its data begins with no message of the type.
 pub fn decode<R: Reader, W: Write>(
     alloc: Global,
     expression: &str,
@@ -120,8 +113,8 @@ pub fn decode<R: Reader, W: Write>(
     Ok(())
 }
 
-/// Returns the frame with which bytes begin, without the zero that ends it, and the bytes after that
-/// zero. If there is no zero, prints the bytes.
+/// Returns the frame with which bytes begin, without the zero that ends it, and the bytes after
+/// that zero. If there is no zero, prints the bytes, and fails with `Refused`.
 fn cut_frame<'a, W: Write>(bytes: &'a [u8], output: &mut W) -> Result<(&'a [u8], &'a [u8]), Failure>
     ensures cut { IfOk result (λ parts. EndsFrame bytes.now parts.0.now parts.1.now) }
     ensures untouched { OnOk result (output.new ≡ output.old) }
@@ -137,7 +130,8 @@ fn cut_frame<'a, W: Write>(bytes: &'a [u8], output: &mut W) -> Result<(&'a [u8],
     Ok((&bytes[..end], &bytes[end + 1..]))
 }
 
-/// Returns the data of a frame without a zero. If the bytes are no frame, prints them.
+/// Returns the data of a frame without a zero. If the bytes are no frame, prints them, and fails
+/// with `Refused`.
 fn content_of<W: Write>(alloc: Global, frame: &[u8], output: &mut W) -> Result<Vec<u8>, Failure>
     requires { NoZero frame.now }
     ensures unpacked { IfOk result (λ content. Groups frame.now content.items) }
@@ -160,8 +154,8 @@ fn content_of<W: Write>(alloc: Global, frame: &[u8], output: &mut W) -> Result<V
     }
 }
 
-/// Decodes a value from the front of a frame's data. Returns it, and the bytes after it. If the data
-/// is refused, prints which part can't be read, why, and the data.
+/// Decodes a value from the front of a frame's data, and returns it and the bytes after it. If the
+/// data is refused, prints which part can't be read, why, and the data, and fails with `Refused`.
 fn read_content<'a, W: Write>(
     alloc: Global,
     schema: &Schema,

@@ -13,13 +13,13 @@ use postcard_de_flavors::Reader;
 use std::alloc::Global;
 use std::io::Write;
 
-/// The greatest number of bytes of a frame, its zero included.
+/// The most bytes of a frame, its zero included.
 pub const LONGEST_FRAME: usize = 64;
 
-/// The greatest number of bytes of one read.
+/// The most bytes of one read.
 pub const CHUNK: usize = 16;
 
-/// The greatest number of reads.
+/// The most reads.
 pub const READS: usize = 65_536;
 
 /// Reads frames of lists of bytes until the input ends, and prints a line for each: `ok` and the
@@ -30,7 +30,7 @@ pub const READS: usize = 65_536;
 ///
 /// Fails with `Limit` if the input doesn't end within 65,536 reads, with `ReadFailed` if a read
 /// fails, and with `OutOfMemory` if an allocation for an answer fails; the lines of the frames
-/// until then are printed. Fails with `Output` if the output can't be written.
+/// until then are printed.
 pub fn print<R: Reader, W: Write>(
     alloc: Global,
     input: &mut R,
@@ -63,7 +63,6 @@ pub fn print<R: Reader, W: Write>(
     }
 }
 
-/// Prints the answer to a frame on a line.
 fn print_answer<W: Write>(answer: &Answer<Vec<u8>>, output: &mut W) -> Result<(), Failure>
     ensures printed { OnOk result (Appends (W.contents output.old) (W.contents output.new)
         (answer_line answer.now)) }

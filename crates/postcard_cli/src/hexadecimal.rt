@@ -16,15 +16,11 @@ use std::alloc::Global;
 use std::io;
 use std::io::Write;
 
-/// The greatest number of bytes that are written at once.
+/// The most bytes that are written at once.
 const PIECE: usize = 64;
 
-/// Returns the bytes of a text of hexadecimal digits, of either case.
-///
-/// # Errors
-///
-/// Fails with `BadHex` if the text has another character or an odd number of digits, and with
-/// `Library(OutOfMemory)` if an allocation fails.
+/// Returns the bytes of a text of hexadecimal digits, of either case. Fails with `BadHex` if the
+/// text has another character or an odd number of digits.
 pub fn read(alloc: Global, text: &[u8]) -> Result<Vec<u8>, Failure>
     ensures value { IfOk result (λ bytes. decode_of text.now ≡ Ok bytes.items) }
     ensures refused { IfErr result (λ e. ((e ≡ Failure.BadHex) × IsErr (decode_of text.now))
@@ -67,12 +63,8 @@ pub fn read_loose<R: Reader>(alloc: Global, text: &str, input: &mut R) -> Result
     pasted::read(alloc, &held)
 }
 
-/// Returns all bytes of the input.
-///
-/// # Errors
-///
-/// Fails with `ReadFailed` if a read of the input fails, with `Library(OutOfMemory)` if an allocation
-/// fails, and with `Limit` if the input doesn't end within [`READS`] reads, which no input does.
+/// Returns all bytes of the input. Fails with `ReadFailed` if a read of the input fails, and with
+/// `Limit` if the input doesn't end within [`READS`] reads, which no input does.
 pub fn read_input<R: Reader>(alloc: Global, input: &mut R) -> Result<Vec<u8>, Failure>
     ensures all { IfOk result (λ held. Consumes (R.remaining input.old) (R.remaining input.new)
         held.items × IsAtEnd (R.remaining input.new)) }
@@ -109,7 +101,6 @@ pub fn write<W: Write>(bytes: &[u8], output: &mut W) -> io::Result<()>
     Ok(())
 }
 
-/// Writes at most [`PIECE`] bytes at once.
 fn write_piece<W: Write>(piece: &[u8], output: &mut W) -> io::Result<()>
     requires { length piece.now ≤ PIECE }
     ensures { OnOk result (Appends (W.contents output.old) (W.contents output.new)

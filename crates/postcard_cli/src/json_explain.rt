@@ -28,20 +28,19 @@ use std::io::Write;
 /// A part that has a line, and that may be around parts with later lines.
 #[derive(Drop)]
 struct Open {
-    /// The depth of its line.
     depth: usize,
     /// The path around its parts.
     path: String,
 }
 
-/// Prints the bytes of HEX as lines of JSON: the offset, the bytes, and which part of a value of the
-/// type they are. Nothing is cut.
+/// Prints the bytes of HEX as lines of JSON: the offset, the bytes, and which part of a value of
+/// the type they are. Nothing is cut.
 ///
 /// # Errors
 ///
-/// Fails as [`schema_of`] and [`hexadecimal::read_loose`] do; if the bytes begin with no message of
-/// the type, with `Refused`, after the lines of the parts before the one that can't be read, and the
-/// line of that one, without its end; and with `Library(WontImplement)` if a value has no JSON.
+/// Fails as [`schema_of`] and [`hexadecimal::read_loose`] do, and with `Refused` if the bytes begin
+/// with no message of the type, after the lines of the parts up to the one that can't be read; that
+/// one has no end.
 pub fn print<R: Reader, W: Write>(
     alloc: Global,
     expression: &str,
@@ -66,7 +65,9 @@ pub fn print<R: Reader, W: Write>(
     }
 }
 
-/// Prints the rows of lines, with the error by which the bytes are refused, if they are.
+/// Prints each line of an explanation as a row, with the offset of its bytes in the message, and
+/// the error by which the bytes are refused, if they are. Fails with `Output`,
+/// `Library(OutOfMemory)` or `Library(WontImplement)`.
 fn print_lines<W: Write>(
     alloc: Global,
     error: &Option<Error>,
@@ -90,8 +91,8 @@ fn print_lines<W: Write>(
     Ok(())
 }
 
-/// Removes from the end the parts that can't be around a line of this depth, since they are as deep or
-/// deeper.
+/// Removes from the end the parts that are as deep as a line of this depth, or deeper, which can't
+/// be around it.
 fn leave(around: &mut Vec<Open>, depth: usize)
     ensures { (d : ℕ) → d ≤ depth → path_in around.new.items d ≡ path_in around.old.items d }
 {
@@ -99,7 +100,7 @@ fn leave(around: &mut Vec<Open>, depth: usize)
     around.truncate(count);
 }
 
-/// Returns the number of open parts without those at the end that are as deep as a line, or deeper.
+/// Returns the number of open parts without those at the end.
 fn count_around(around: &[Open], depth: usize) -> usize
     ensures within { result ≤ length around.now }
     ensures last { 0 < result → (part : Open) → part ≡ get_or around.now (result - 1) part
@@ -163,7 +164,6 @@ fn push_label(label: Label<'_>, path: &mut String) -> Result<(), Failure>
     }
 }
 
-/// Opens the part of a line with this path.
 fn enter(around: &mut Vec<Open>, line: &Line<'_>, path: String) -> Result<(), Failure>
     ensures added { OnOk result ((part : Open) × (around.new.items ≡ around.old.items ++ part ∷ [])
         × (part.depth ≡ line.now.depth)

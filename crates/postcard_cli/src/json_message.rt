@@ -33,8 +33,8 @@ use std::io::Write;
 ///
 /// # Errors
 ///
-/// Fails as [`schema_of`] does, with `BadValue` if the text is no JSON of a value of the type, after
-/// the character of the text where it stops being one, the path to it and what is wrong are printed, and
+/// Fails as [`schema_of`] does, with `BadValue` if the text is no JSON of a value of the type,
+/// after the character where it stops being one, the path to it and what is wrong are printed, and
 /// with `Library(SerializeBufferFull)` if the encoding is longer than 4,096 bytes.
 pub fn encode<W: Write>(
     alloc: Global,
@@ -92,13 +92,9 @@ fn encoding_of<W: Write>(
 }
 
 /// Decodes a value from the front of the bytes of HEX, and prints a line of JSON with it and the
-/// bytes after it.
-///
-/// # Errors
-///
-/// Fails as [`schema_of`] and [`hexadecimal::read_loose`] do, with `Refused` if the bytes begin with
-/// no message of the type, after a line of JSON is printed, without its line feed, that says where and
-/// why, and with `Library(WontImplement)` if the value has no JSON.
+/// bytes after it. Fails as [`schema_of`] and [`hexadecimal::read_loose`] do, and with `Refused` if
+/// the bytes begin with no message of the type, after a line of JSON is printed, without its line
+/// feed, that says where and why.
 pub fn decode<R: Reader, W: Write>(
     alloc: Global,
     expression: &str,
@@ -119,12 +115,8 @@ pub fn decode<R: Reader, W: Write>(
 }
 
 /// Decodes values one after another until no byte of HEX is left, and prints a line of JSON for
-/// each.
-///
-/// # Errors
-///
-/// Fails as [`decode`] does, and with `BadType` if messages of the type have no bytes. The lines of
-/// the values before an error are printed.
+/// each. Fails as [`decode`] does, and with `BadType` if messages of the type have no bytes. The
+/// values before an error are printed.
 pub fn decode_all<R: Reader, W: Write>(
     alloc: Global,
     expression: &str,
@@ -148,8 +140,8 @@ pub fn decode_all<R: Reader, W: Write>(
     Ok(())
 }
 
-/// Decodes a value from the front of `rest`, with which `all` ends, and prints the line of JSON of it,
-/// or of the refusal. Returns the bytes after it. Offsets are counted from the first byte of `all`.
+/// Prints the line of JSON of the value at the front of `rest`, with which `all` ends, and returns
+/// the bytes after it. Fails as [`read_front`] does.
 fn print_front<'a, W: Write>(
     alloc: Global,
     schema: &Schema,
@@ -170,9 +162,9 @@ fn print_front<'a, W: Write>(
     Ok(after)
 }
 
-/// Decodes a value from the front of `rest`, with which `all` ends. Returns it, and the bytes after
-/// it. If the bytes are refused, prints the line of JSON that says so, without its line feed, with an
-/// offset that is counted from the first byte of `all`.
+/// Decodes a value from the front of `rest`, with which `all` ends, and returns it and the bytes
+/// after it. If the bytes are refused, prints the line of JSON that says so, without its line feed,
+/// with an offset that is counted from the first byte of `all`, and fails with `Refused`.
 fn read_front<'a, W: Write>(
     alloc: Global,
     schema: &Schema,
@@ -238,14 +230,8 @@ pub fn quote(alloc: Global, text: &str) -> Result<String, AllocError>
     json.to_string(alloc)
 }
 
-/// Prints the line of JSON of a value that begins at this offset, and of the bytes left after it, if
-/// there are some.
-///
-/// # Errors
-///
-/// Fails with `Library(OutOfMemory)` if an allocation fails, with `Library(WontImplement)` if the
-/// value has no JSON, both before anything is printed, and with `Output` if the output can't be
-/// written.
+/// Prints the line of JSON of a value that begins at this offset, and of the bytes left after it,
+/// if there are some. Unless the output can't be written, it fails before anything is printed.
 pub fn print_line<W: Write>(
     alloc: Global,
     schema: &Schema,
@@ -267,11 +253,6 @@ pub fn print_line<W: Write>(
 }
 
 /// Returns the JSON of a value.
-///
-/// # Errors
-///
-/// Fails with `Library(OutOfMemory)` if an allocation fails, and with `Library(WontImplement)` if the
-/// value has no JSON.
 pub fn text_of(alloc: Global, schema: &Schema, value: &Value) -> Result<String, Failure>
     ensures text { IfOk result (λ text. IsJsonOf schema.now value.now (string_bytes text)) }
     ensures refused { IfErr result (λ e. (e ≡ Failure.Library OutOfMemory)
@@ -284,7 +265,6 @@ pub fn text_of(alloc: Global, schema: &Schema, value: &Value) -> Result<String, 
     Ok(text)
 }
 
-/// Prints the member with the bytes left after a value, if there are some.
 fn print_rest<W: Write>(rest: &[u8], output: &mut W) -> Result<(), Failure>
     ensures printed { OnOk result (Appends (W.contents output.old) (W.contents output.new)
         (rest_text rest.now)) }

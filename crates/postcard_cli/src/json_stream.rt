@@ -15,13 +15,9 @@ use postcard_wire::Error;
 use std::alloc::Global;
 use std::io::Write;
 
-/// Prints the line of a value that the data of the frame at this offset has, and of the bytes of the
-/// data after it, if there are some.
-///
-/// # Errors
-///
-/// Fails with `OutOfMemory` if an allocation fails, with `Library(WontImplement)` if the value has no
-/// JSON, both before anything is printed, and with `Output` if the output can't be written.
+/// Prints the line of a value that the data of the frame at this offset has, and of the bytes of
+/// the data after it, if there are some. Fails with `OutOfMemory` if an allocation fails, and with
+/// `Library(WontImplement)` if the value has no JSON, both before anything is printed.
 pub fn print_value<W: Write>(
     alloc: Global,
     schema: &Schema,
@@ -42,12 +38,8 @@ pub fn print_value<W: Write>(
 }
 
 /// Prints the line of a frame at this offset whose data is refused: why, the path of the part that
-/// can't be read, if it isn't the whole value, and the data.
-///
-/// # Errors
-///
-/// Fails with `OutOfMemory` if an allocation fails, before anything is printed, and with `Output` if
-/// the output can't be written.
+/// can't be read, if it isn't the whole value, and the data. Fails with `OutOfMemory` if an
+/// allocation fails, before anything is printed.
 pub fn print_refused<W: Write>(
     alloc: Global,
     start: u64,
@@ -69,10 +61,6 @@ pub fn print_refused<W: Write>(
 
 /// Prints the line of a frame at this offset that has no value: why, a member with more of it or
 /// nothing, and a member of this name with bytes.
-///
-/// # Errors
-///
-/// Fails with `Output` if the output can't be written.
 pub fn print_error<W: Write>(
     start: u64,
     why: &str,

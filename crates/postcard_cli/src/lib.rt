@@ -1,8 +1,10 @@
 //! What the program `pcard` does: it encodes a value in the Postcard format, or decodes bytes or a
-//! stream of frames.
+//! stream of frames. [`program::run`] runs the call of some words, over any reader as its input and
+//! any writer as its output.
 //!
-//! [`program::run`] runs the call of some words, over any reader as its input and any writer as its
-//! output.
+//! Where nothing else is said, a function that prints fails with `Output` if the output can't be
+//! written, one that allocates with `Library(OutOfMemory)` if an allocation fails, and one that
+//! makes the JSON of a value with `Library(WontImplement)` if the value has none.
 #![tactic(auto)]
 
 pub mod checksum;

@@ -7,8 +7,8 @@ pub const BUFFER: usize = 4096;
 /// is asked for.
 pub const LONGEST: usize = 65_536;
 
-/// The greatest number of bytes of one read of an input that is read to its end.
+/// The most bytes of one read of an input that is read to its end.
 pub const CHUNK: usize = 65_536;
 
-/// The greatest number of such reads. It only ends the loop: no input has so many bytes.
+/// The most such reads. It only ends the loop: no input has so many bytes.
 pub const READS: u64 = u64::MAX;

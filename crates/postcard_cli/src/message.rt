@@ -33,13 +33,8 @@ use postcard_wire::Error;
 use std::alloc::Global;
 use std::io::Write;
 
-/// Reads a type expression. If it is misspelled, prints what is wrong and where, and of an unknown
-/// type what would do.
-///
-/// # Errors
-///
-/// Fails with `BadType` if it is misspelled, with `Library(OutOfMemory)` if an allocation fails,
-/// and with `Output` if the output can't be written.
+/// Reads a type expression. Fails with `BadType` if it is misspelled, after what is wrong and
+/// where, and of an unknown type what would do, are printed.
 pub fn schema_of<W: Write>(alloc: Global, text: &str, output: &mut W) -> Result<Schema, Failure>
     ensures spelled { IfOk result (λ schema. IsExpression schema text.now) }
     ensures untouched { OnOk result (output.new ≡ output.old) }
@@ -71,12 +66,9 @@ fn hint_of(problem: Problem) -> &'static str
     }
 }
 
-/// Reads a type expression of records, one after another, each of which has to have a byte.
-///
-/// # Errors
-///
-/// Fails as [`schema_of`] does, and with `BadType` if messages of the type have no bytes, after this
-/// is printed.
+/// Reads a type expression of records, one after another, each of which has to have a byte. Fails
+/// as [`schema_of`] does, and with `BadType` if messages of the type have no bytes, after this is
+/// printed.
 pub fn schema_of_records<W: Write>(
     alloc: Global,
     text: &str,
@@ -96,13 +88,10 @@ pub fn schema_of_records<W: Write>(
     Ok(schema)
 }
 
-/// Encodes the value of a text, and prints its encoding as hexadecimal on a line.
-///
-/// # Errors
-///
-/// Fails as [`schema_of`] does, with `BadValue` if the text is no value of the type, after the
-/// place of the error and what is expected there are printed, and with
-/// `Library(SerializeBufferFull)` if the encoding is longer than 4,096 bytes.
+/// Encodes the value of a text, and prints its encoding as hexadecimal on a line. Fails as
+/// [`schema_of`] does, with `BadValue` if the text is no value of the type, after the place of the
+/// error and what is expected there are printed, and with `Library(SerializeBufferFull)` if the
+/// encoding is longer than 4,096 bytes.
 pub fn encode<W: Write>(
     alloc: Global,
     expression: &str,
@@ -120,11 +109,8 @@ pub fn encode<W: Write>(
     Ok(())
 }
 
-/// Encodes the value of a text, and prints the bytes of its encoding, and nothing after them.
-///
-/// # Errors
-///
-/// Fails as [`encode`] does.
+/// Does what [`encode`] does, with the same errors, but prints the bytes themselves, and nothing
+/// after them.
 pub fn encode_raw<W: Write>(
     alloc: Global,
     expression: &str,
@@ -142,11 +128,8 @@ pub fn encode_raw<W: Write>(
 }
 
 /// Encodes the value of a text, and prints its encoding and the bytes of its checksum by the
-/// algorithm with this name, the lowest first, as hexadecimal on a line.
-///
-/// # Errors
-///
-/// Fails as [`checksum::named`] and [`encode`] do. The 4,096 bytes are those of the encoding.
+/// algorithm with this name, the lowest first, as hexadecimal on a line. Fails as
+/// [`checksum::named`] and [`encode`] do. The 4,096 bytes are those of the encoding.
 pub fn encode_checked<W: Write>(
     alloc: Global,
     name: &str,
@@ -201,12 +184,9 @@ pub fn encoding_of<W: Write>(
 }
 
 /// Decodes a value from the front of the bytes of HEX, and prints it on a line, and the bytes after
-/// it as hexadecimal on a second.
-///
-/// # Errors
-///
-/// Fails as [`schema_of`] and [`hexadecimal::read_loose`] do, and with `Refused` if the bytes begin
-/// with no message of the type, after which part can't be read, where, and why are printed.
+/// it as hexadecimal on a second. Fails as [`schema_of`] and [`hexadecimal::read_loose`] do, and
+/// with `Refused` if the bytes begin with no message of the type, after which part can't be read,
+/// where, and why are printed.
 pub fn decode<R: Reader, W: Write>(
     alloc: Global,
     expression: &str,
@@ -225,12 +205,8 @@ pub fn decode<R: Reader, W: Write>(
     print_first(alloc, &schema, &bytes, output)
 }
 
-/// Does what [`decode`] does with all bytes of the input.
-///
-/// # Errors
-///
-/// Fails as [`schema_of`] and [`hexadecimal::read_input`] do, and with `Refused` if the bytes begin
-/// with no message of the type, after which part can't be read, where, and why are printed.
+/// Does what [`decode`] does with all bytes of the input. Fails as [`schema_of`] and
+/// [`hexadecimal::read_input`] do, and with `Refused` as [`decode`].
 pub fn decode_raw<R: Reader, W: Write>(
     alloc: Global,
     expression: &str,
@@ -249,7 +225,7 @@ pub fn decode_raw<R: Reader, W: Write>(
 }
 
 /// Prints the value at the front of bytes on a line, and the bytes after it as hexadecimal on a
-/// second.
+/// second. Fails as [`read_front`] does.
 fn print_first<W: Write>(
     alloc: Global,
     schema: &Schema,
@@ -267,15 +243,13 @@ fn print_first<W: Write>(
     Ok(())
 }
 
-/// Decodes a value from the front of the bytes of HEX, checks that the checksum of its message by the
-/// algorithm with this name follows, and prints the value on a line, and the bytes after the
-/// checksum as hexadecimal on a second.
+/// Does what [`decode`] does, and checks that the checksum of the message by the algorithm with
+/// this name follows it. The bytes on the second line are those after the checksum.
 ///
 /// # Errors
 ///
-/// Fails as [`checksum::named`] and [`decode`] do, and with `Library(DeserializeBadCrc)` or, if fewer
-/// bytes follow, `Library(DeserializeUnexpectedEnd)` if it isn't the checksum that follows, after
-/// the place where it should begin is printed.
+/// Fails as [`checksum::named`] and [`decode`] do, and as [`Checksum::after_trailer`] if it isn't
+/// the checksum that follows, after the place where it should begin is printed.
 pub fn decode_checked<R: Reader, W: Write>(
     alloc: Global,
     name: &str,
@@ -302,9 +276,9 @@ pub fn decode_checked<R: Reader, W: Write>(
     Ok(())
 }
 
-/// Checks that `behind`, what comes after the message with which `all` begins, begins with the
-/// checksum of that message, and returns the bytes after the checksum. If it doesn't begin so, prints
-/// the offset in `all` at which the checksum should begin.
+/// Returns the bytes after the checksum that is to follow the message with which `all` begins;
+/// `behind` are the bytes after the message. If it doesn't follow, prints the offset in `all` at
+/// which it should begin, and fails as [`Checksum::after_trailer`] does.
 fn skip_trailer<'a, W: Write>(
     checksum: Checksum,
     all: &[u8],
@@ -329,12 +303,9 @@ fn skip_trailer<'a, W: Write>(
     }
 }
 
-/// Decodes values one after another until no byte of HEX is left, and prints each on a line.
-///
-/// # Errors
-///
-/// Fails as [`decode`] does, and with `BadType` if messages of the type have no bytes. The values
-/// before an error are printed.
+/// Decodes values one after another until no byte of HEX is left, and prints each on a line. Fails
+/// as [`decode`] does, and with `BadType` if messages of the type have no bytes. The values before
+/// an error are printed.
 pub fn decode_all<R: Reader, W: Write>(
     alloc: Global,
     expression: &str,
@@ -353,12 +324,8 @@ pub fn decode_all<R: Reader, W: Write>(
     print_all(alloc, &schema, &bytes, output)
 }
 
-/// Does what [`decode_all`] does with all bytes of the input.
-///
-/// # Errors
-///
-/// Fails as [`decode_raw`] does, and with `BadType` if messages of the type have no bytes. The
-/// values before an error are printed.
+/// Does what [`decode_all`] does with all bytes of the input. Fails as [`decode_raw`] does, and
+/// with `BadType` as [`decode_all`].
 pub fn decode_all_raw<R: Reader, W: Write>(
     alloc: Global,
     expression: &str,
@@ -376,7 +343,8 @@ pub fn decode_all_raw<R: Reader, W: Write>(
     print_all(alloc, &schema, &held, output)
 }
 
-/// Prints the values of bytes, one after another until no byte is left, each on a line.
+/// Prints the values of bytes, one after another until no byte is left, each on a line. Fails as
+/// [`read_front`] does.
 fn print_all<W: Write>(
     alloc: Global,
     schema: &Schema,
@@ -396,9 +364,8 @@ fn print_all<W: Write>(
     Ok(())
 }
 
-/// Decodes a value from the front of `rest`, with which `all` ends, and prints it on a line. Returns
-/// the bytes after it. If the bytes are refused, prints the offset in `all` of the part that can't be
-/// read, its place, and why.
+/// Prints the value at the front of `rest`, with which `all` ends, on a line, and returns the bytes
+/// after it. Fails as [`read_front`] does.
 fn print_front<'a, W: Write>(
     alloc: Global,
     schema: &Schema,
@@ -417,9 +384,9 @@ fn print_front<'a, W: Write>(
     Ok(after)
 }
 
-/// Decodes a value from the front of `rest`, with which `all` ends. Returns it, and the bytes after
-/// it. If the bytes are refused, prints the offset in `all` of the part that can't be read, its place,
-/// and why.
+/// Decodes a value from the front of `rest`, with which `all` ends, and returns it and the bytes
+/// after it. If the bytes are refused, prints the offset in `all` of the part that can't be read,
+/// its place, and why, and fails with `Refused`.
 fn read_front<'a, W: Write>(
     alloc: Global,
     schema: &Schema,

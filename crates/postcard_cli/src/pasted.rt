@@ -1,5 +1,5 @@
-//! Reading bytes from a text of hexadecimal digits as it is pasted: with blanks, `:`, `,` or `-` between
-//! the bytes, or as the lines of a dump.
+//! Reading bytes from a text of hexadecimal digits as it is pasted: with separators between the
+//! bytes, or as the lines of a dump. The functions below [`read`] fail as it does.
 
 ghost use Rattle.std.specs.Prelude.{◌≡◌, ◌==◌, ◌≤◌, ◌+◌, ◌⊎◌, ℕ, List, length, take, true, not};
 ghost use Rattle.std.specs.Prelude.{IfOk, IfErr};
@@ -20,12 +20,8 @@ use postcard_dyn_schema::scan::character_of;
 use std::alloc::Global;
 
 /// Returns the bytes of a text, which are those of the words of its lines, in order. Of a line that
-/// `xxd` or `hexdump -C` printed, the offset and the text after the bytes are passed over.
-///
-/// # Errors
-///
-/// Fails with `BadHexAt` if a word isn't an even number of digits, and with `Library(OutOfMemory)`
-/// if an allocation fails.
+/// `xxd` or `hexdump -C` printed, the offset and the text after the bytes are passed over. Fails
+/// with `BadHexAt` if a word isn't an even number of digits.
 pub fn read(alloc: Global, text: &[u8]) -> Result<Vec<u8>, Failure>
     ensures value { IfOk result (λ bytes. SpellsBytes text.now bytes.items) }
     ensures only { IfOk result (λ bytes. (other : List ℕ) → SpellsBytes text.now other
@@ -47,7 +43,7 @@ pub fn read(alloc: Global, text: &[u8]) -> Result<Vec<u8>, Failure>
 }
 
 /// Returns the bytes of a line, which begins at the index `place` of the text. In a `dump`, eight
-/// digits alone are an offset. Fails as [`read`] does.
+/// digits alone are an offset.
 fn read_line(
     alloc: Global,
     text: &[u8],
@@ -65,7 +61,7 @@ fn read_line(
     read_words(alloc, text, place + start, column)
 }
 
-/// Returns the bytes of words, which begin at the index `place` of the text. Fails as [`read`] does.
+/// Returns the bytes of words, which begin at the index `place` of the text.
 fn read_words(alloc: Global, text: &[u8], place: usize, words: &[u8]) -> Result<Vec<u8>, Failure>
     requires { place + length words.now ≤ length text.now }
     ensures value { IfOk result (λ bytes. AreBytesOf IsWord (words_of words.now) bytes.items) }
@@ -86,7 +82,7 @@ fn read_words(alloc: Global, text: &[u8], place: usize, words: &[u8]) -> Result<
     Ok(bytes)
 }
 
-/// Returns the bytes of a word, which begins at the index `place` of the text. Fails as [`read`] does.
+/// Returns the bytes of a word, which begins at the index `place` of the text.
 fn read_word(alloc: Global, text: &[u8], place: usize, word: &[u8]) -> Result<Vec<u8>, Failure>
     requires { place + length word.now ≤ length text.now }
     ensures value { IfOk result (λ bytes. IsWord word.now bytes.items) }
@@ -127,21 +123,20 @@ fn wrong_digit(digits: &[u8]) -> usize
     }
 }
 
-/// Returns the index of the first byte that is no digit.
+/// Returns the index of the first byte that is no digit, if there is one.
 fn first_other(digits: &[u8]) -> Option<usize>
     ensures { result ≡ position (λ b. not (is_ascii_hexdigit b)) digits.now }
 {
     digits.iter().position(|byte| !byte.is_ascii_hexdigit())
 }
 
-/// Returns the index of the first separator.
+/// Returns the index of the first separator, if there is one.
 fn end_of_word(text: &[u8]) -> Option<usize>
     ensures { result ≡ position is_separator text.now }
 {
     text.iter().position(|byte| byte.is_ascii_whitespace() || matches!(byte, b':' | b',' | b'-'))
 }
 
-/// Returns the index of the first end of a line.
 fn end_of_line(text: &[u8]) -> Option<usize>
     ensures { result ≡ position (λ b. b == 10) text.now }
 {
@@ -183,7 +178,6 @@ fn column(line: &[u8], dump: bool) -> (usize, &[u8])
     }
 }
 
-/// Returns whether a line begins as those of `xxd` do.
 #[tactic(auto, unfolding(crate::specs::Hexadecimal::is_of_xxd))]
 fn is_of_xxd(line: &[u8]) -> bool
     ensures is { result ≡ is_of_xxd line.now }
@@ -192,7 +186,6 @@ fn is_of_xxd(line: &[u8]) -> bool
     begins_with_digits(line, 8) && line[8..].starts_with(b": ")
 }
 
-/// Returns whether a line begins as those of `hexdump -C` do.
 #[tactic(auto, unfolding(crate::specs::Hexadecimal::is_of_hexdump))]
 fn is_of_hexdump(line: &[u8]) -> bool
     ensures is { result ≡ is_of_hexdump line.now }
@@ -227,7 +220,6 @@ fn is_lone_offset(line: &[u8]) -> bool
     begins_with_digits(line, 8) && are_blank(&line[8..])
 }
 
-/// Returns whether a text begins with this number of digits.
 #[tactic(auto, unfolding(crate::specs::Hexadecimal::begins_with_digits))]
 fn begins_with_digits(text: &[u8], count: usize) -> bool
     ensures is { result ≡ begins_with_digits count text.now }

@@ -1,4 +1,5 @@
-//! The place in a value where reading fails, as a path of names and numbers: [`place_of`].
+//! The place in a value where reading fails, as a path of names and numbers: [`place_of`]. Each
+//! function fails with `OutOfMemory` if an allocation fails, and with nothing else.
 
 ghost use Rattle.std.specs.Prelude.{◌≡◌, ◌⊎◌, List, ℕ, ◌++◌, Box, string_bytes, IfOk, IfErr, OnOk};
 ghost use Rattle.std.specs.declared.alloc.Global.{Global};
@@ -17,15 +18,11 @@ use std::alloc::Global;
 /// `samples[1]: `. The path is empty if the whole value can't be read, and then so is the text.
 ///
 /// A field is its name, a part of a tuple its number, counted from 0, after a `.`, an element of a
-/// list or an array its number in brackets, and a variant its name. Of an entry of a map, the key is
-/// part 0, and the value part 1.
+/// list or an array its number in brackets, and a variant its name. Of an entry of a map, the key
+/// is part 0, and the value part 1.
 ///
 /// The caller must know that `take_from_bytes` fails on these bytes, and not with `OutOfMemory`;
 /// this is not checked.
-///
-/// # Errors
-///
-/// Fails with `OutOfMemory` if an allocation fails.
 pub fn place_of(alloc: Global, schema: &Schema, message: &[u8]) -> Result<String>
     ensures named { IfOk result (λ place. HasNoFront schema.now message.now → (path : List ℕ)
         × IsPathOf schema.now message.now path × (string_bytes place ≡ place_text path)) }
@@ -39,10 +36,6 @@ pub fn place_of(alloc: Global, schema: &Schema, message: &[u8]) -> Result<String
 }
 
 /// Returns the path of that part, without the `: ` after it.
-///
-/// # Errors
-///
-/// Fails with `OutOfMemory` if an allocation fails.
 pub fn path_of(alloc: Global, schema: &Schema, message: &[u8]) -> Result<String>
     ensures named { IfOk result (λ path. HasNoFront schema.now message.now
         → IsPathOf schema.now message.now (string_bytes path)) }
@@ -53,7 +46,7 @@ pub fn path_of(alloc: Global, schema: &Schema, message: &[u8]) -> Result<String>
     Ok(path)
 }
 
-/// Appends a `.`, unless the path is empty. Fails with `OutOfMemory` if an allocation fails.
+/// Appends a `.`, unless the path is empty.
 pub fn push_dot(path: &mut String) -> Result<()>
     ensures added { OnOk result (string_bytes path.new ≡ dotted (string_bytes path.old)) }
     ensures refused { IfErr result (λ e. e ≡ Error.OutOfMemory) }
@@ -64,7 +57,6 @@ pub fn push_dot(path: &mut String) -> Result<()>
     Ok(())
 }
 
-/// Appends the path in a value of the schema.
 #[cycle(place)]
 fn push_path(alloc: Global, schema: &Schema, bytes: &[u8], path: &mut String) -> Result<()>
     ensures stops { OnOk result (HasNoFront schema.now bytes.now

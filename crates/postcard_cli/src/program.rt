@@ -1,4 +1,5 @@
-//! The work of the program: from the words of a call to its output and exit status.
+//! The work of the program: from the words of a call to its output and exit status. [`Failure`]
+//! says when a call fails.
 
 ghost use Rattle.std.specs.Prelude.{◌≡◌, ◌≢◌, ◌≤◌, ◌⊎◌, ◌↔◌, ℕ, List, [], ◌∷◌, ◌++◌, map};
 ghost use Rattle.std.specs.Prelude.{string_bytes, IfSome, IfErr, OnOk, IsErrOf};
@@ -101,8 +102,8 @@ pub fn report<W: Write>(outcome: Result<(), Failure>, output: &mut W) -> u8
     }
 }
 
-/// Runs the call that these words are. If they are no call of a command, prints nothing and fails
-/// with `Usage`, which comes for nothing else.
+/// Runs the call that these words are. If they are none of a command, fails with `Usage`, which
+/// comes for nothing else.
 fn perform<R: Reader, W: Write>(
     alloc: Global,
     words: &[String],
@@ -124,7 +125,6 @@ fn perform<R: Reader, W: Write>(
     }
 }
 
-/// Does what a command asks for.
 fn carry_out<R: Reader, W: Write>(
     alloc: Global,
     command: Command<'_>,
@@ -210,7 +210,6 @@ fn carry_out<R: Reader, W: Write>(
     }
 }
 
-/// Encodes the value of the word VALUE.
 fn encode<W: Write>(
     alloc: Global,
     kind: TypeWord<'_>,
@@ -228,7 +227,6 @@ fn encode<W: Write>(
     }
 }
 
-/// Decodes a value from the front of the bytes of the word HEX.
 fn decode<R: Reader, W: Write>(
     alloc: Global,
     kind: TypeWord<'_>,
@@ -301,7 +299,6 @@ where
     }
 }
 
-/// Encodes or decodes a text.
 fn convert_text<W: Write>(alloc: Global, task: Task<'_>, output: &mut W) -> Result<(), Failure>
     ensures { Converts task.entry whole_word
         (W.contents output.old) (W.contents output.new) result }
@@ -315,7 +312,6 @@ fn convert_text<W: Write>(alloc: Global, task: Task<'_>, output: &mut W) -> Resu
     }
 }
 
-/// Encodes or decodes a list of numbers.
 fn convert_list<'a, T, W: Write>(
     alloc: Global,
     task: Task<'a>,
@@ -336,7 +332,8 @@ where
     }
 }
 
-/// Prints the encoding of a value as hexadecimal on a line.
+/// Prints the encoding of a value as hexadecimal on a line, or fails with the error of encoding it
+/// into 4,096 bytes.
 fn print_encoded<T: Serialize, W: Write>(value: &T, output: &mut W) -> Result<(), Failure>
     ensures printed { OnOk result (Appends (W.contents output.old) (W.contents output.new)
         (encode_lower (canonical (T.shape.tree value.now)) ++ 10 ∷ [])) }

@@ -15,12 +15,8 @@ use std::fmt;
 use std::io::Write;
 
 /// Prints the least and the greatest number of bytes of a message of the type, and of its frame, on
-/// a line. If there is no greatest number, prints the paths of the parts that have none.
-///
-/// # Errors
-///
-/// Fails as [`schema_of`] does if the expression is misspelled, with `Library(OutOfMemory)` if an
-/// allocation fails, and with `Output` if the output can't be written.
+/// a line. If there is no greatest number, prints the paths of the parts that have none. Fails as
+/// [`schema_of`] does.
 pub fn print<W: Write>(alloc: Global, expression: &str, output: &mut W) -> Result<(), Failure>
     ensures printed { OnOk result (PrintsSize expression.now (W.contents output.old)
         (W.contents output.new)) }
@@ -38,7 +34,6 @@ pub fn print<W: Write>(alloc: Global, expression: &str, output: &mut W) -> Resul
     }
 }
 
-/// Prints the least and the greatest number of bytes, of a message and of its frame, on a line.
 fn print_bounded<W: Write>(
     least: Option<usize>,
     greatest: usize,
@@ -116,7 +111,6 @@ fn print_parts<W: Write>(parts: &[String], output: &mut W) -> Result<(), Failure
     print_others(others, output)
 }
 
-/// Prints paths, each with a comma before it.
 fn print_others<W: Write>(parts: &[String], output: &mut W) -> Result<(), Failure>
     ensures printed { OnOk result (Appends (W.contents output.old) (W.contents output.new)
         (others_text (map string_bytes parts.now))) }

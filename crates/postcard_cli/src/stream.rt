@@ -1,5 +1,5 @@
-//! The command `frames` with a TYPE, which prints the values of a stream of frames, each on a line as
-//! soon as its frame has ended.
+//! The command `frames` with a TYPE, which prints the values of a stream of frames, each on a line
+//! as soon as its frame has ended. `start` is the offset of a frame in the stream.
 
 ghost use Rattle.std.specs.Prelude.{◌≡◌, ◌+◌, ◌-◌, ◌^◌, ◌<◌, ◌≤◌, ℕ, List, [], ◌∷◌, ◌++◌, length};
 ghost use Rattle.std.specs.Prelude.{Some, IfOk, IfErr, IfSome, IfNone, OnOk, false, min, take};
@@ -49,11 +49,9 @@ use std::io::Write;
 ///
 /// # Errors
 ///
-/// Fails with `BadType` if the expression is misspelled, with `Library(OutOfMemory)` if an
-/// allocation fails while it is read, with `OutOfMemory` if another allocation fails, with
-/// `Library(WontImplement)` if a value has no JSON and JSON is asked for, with `ReadFailed` if a
-/// read fails, with `Output` if the output can't be written, and with `Limit` after 2^64 - 1 reads.
-/// The lines of what was read before are printed.
+/// Fails as [`schema_of`] does, with `OutOfMemory` if another allocation fails, with `ReadFailed`
+/// if a read fails, and with `Limit` after 2^64 - 1 reads. The lines of what was read before are
+/// printed.
 pub fn print<R: Reader, W: Write>(
     alloc: Global,
     expression: &str,
@@ -79,12 +77,9 @@ pub fn print<R: Reader, W: Write>(
 }
 
 /// Does the same for frames whose data is a message and then the bytes of its checksum by the
-/// algorithm with this name, the lowest first. The line of a frame in which the message isn't
-/// followed by its checksum is an `error` too. A frame has at most [`LONGEST`] bytes.
-///
-/// # Errors
-///
-/// Fails as [`checksum::named`] and [`print`] do.
+/// algorithm with this name, the lowest first; if the checksum doesn't follow, the line is an
+/// `error` too. A frame has at most [`LONGEST`] bytes. Fails as [`checksum::named`] and [`print`]
+/// do.
 pub fn print_checked<R: Reader, W: Write>(
     alloc: Global,
     name: &str,
@@ -110,12 +105,8 @@ pub fn print_checked<R: Reader, W: Write>(
 }
 
 /// Prints what [`print`] prints if the bytes of HEX are its input. A frame has at most [`LONGEST`]
-/// bytes.
-///
-/// # Errors
-///
-/// Fails as [`schema_of`] and [`hexadecimal::read_loose`] do, with `OutOfMemory` if another
-/// allocation fails, and with `Output` if the output can't be written.
+/// bytes. Fails as [`schema_of`] and [`hexadecimal::read_loose`] do, and with `OutOfMemory` if
+/// another allocation fails.
 pub fn print_hex<R: Reader, W: Write>(
     alloc: Global,
     expression: &str,
@@ -161,7 +152,8 @@ pub struct Format {
     pub notation: Notation,
 }
 
-/// Reads frames of this format until the input ends, and prints their lines.
+/// Reads frames of this format until the input ends, and prints their lines. Fails as [`print`]
+/// does once its expression is read.
 fn print_values<R: Reader, W: Write>(
     alloc: Global,
     format: &Format,
@@ -187,7 +179,8 @@ fn print_values<R: Reader, W: Write>(
     Err(Failure::Limit)
 }
 
-/// What is kept of a stream between two reads.
+/// What is kept of a stream between two reads. Its methods and the functions below fail with
+/// `OutOfMemory` if an allocation fails.
 #[derive(Drop)]
 struct Stream {
     /// The greatest length of a frame, its zero included.
@@ -205,7 +198,6 @@ struct Stream {
 }
 
 impl Stream {
-    /// Returns the state before the first byte of a stream.
     fn new(alloc: Global, longest: usize) -> Stream
         ensures limit { result.longest ≡ longest }
         ensures held { result.held.items ≡ [] }
@@ -224,7 +216,7 @@ impl Stream {
     }
 
     /// Reads once, prints the lines of what was read, and flushes them. Returns `false` at the end
-    /// of the input.
+    /// of the input. Fails with `ReadFailed` if the read fails.
     fn read<R: Reader, W: Write>(
         &mut self,
         alloc: Global,
@@ -278,7 +270,9 @@ impl Stream {
         Ok(())
     }
 
-    /// Takes bytes without a zero. Prints the line of their frame if it becomes too long.
+    /// Adds bytes without a zero to those held of their frame. If it becomes too long, prints its
+    /// line, holds nothing, and drops what comes of it from then on. Fails with `OutOfMemory` if
+    /// they can't be held, and with `Output` if the line can't be written.
     fn hold<W: Write>(
         &mut self,
         format: &Format,
@@ -340,7 +334,7 @@ impl Stream {
         self.start = self.count;
     }
 
-    /// Prints the line of the frame that is held, to which its zero has come.
+    /// Prints the line of the frame that is held, which has ended.
     fn print_frame<W: Write>(
         &mut self,
         alloc: Global,
@@ -369,7 +363,6 @@ impl Stream {
     }
 }
 
-/// Prints that the frame at this offset is too long.
 fn print_overfull<W: Write>(format: &Format, start: u64, output: &mut W) -> Result<(), Failure>
     ensures printed { OnOk result (PrintsAnswerLine format.now start overfull
         (W.contents output.old) (W.contents output.new)) }
@@ -382,7 +375,7 @@ fn print_overfull<W: Write>(format: &Format, start: u64, output: &mut W) -> Resu
     Ok(())
 }
 
-/// Prints the line of the frame at this offset, whose data is put into `message`.
+/// Prints the line of a frame, whose data is put into `message`.
 fn print_answer<W: Write>(
     alloc: Global,
     format: &Format,
@@ -403,7 +396,7 @@ fn print_answer<W: Write>(
     print_decoded(alloc, format, start, frame, message, output)
 }
 
-/// Prints the line of the frame at this offset, of which `buffer` is a copy, in which it is decoded.
+/// Prints the line of a frame, of which `buffer` is a copy, in which it is decoded.
 fn print_decoded<W: Write>(
     alloc: Global,
     format: &Format,
@@ -425,7 +418,7 @@ fn print_decoded<W: Write>(
     Ok(())
 }
 
-/// Prints that the frame at this offset is no COBS frame, and its bytes.
+/// Prints that a frame is no COBS frame, and its bytes.
 fn print_damaged<W: Write>(
     format: &Format,
     start: u64,
@@ -443,7 +436,7 @@ fn print_damaged<W: Write>(
     }
 }
 
-/// Prints the line of the frame at this offset with this data.
+/// Prints the line of a frame with this data.
 fn print_message<W: Write>(
     alloc: Global,
     format: &Format,
@@ -467,9 +460,9 @@ fn print_message<W: Write>(
     }
 }
 
-/// Returns what is left of `behind`, what comes after the message with which `bytes` begin: all of it
-/// if messages have no checksum, and else what comes after the checksum, or `None` if `behind` doesn't
-/// begin with that.
+/// Returns what is left of `behind`, what comes after the message with which `bytes` begin: all of
+/// it if messages have no checksum, and else what comes after that, or `None` if it doesn't come
+/// first.
 fn rest_of<'a>(checksum: Option<Checksum>, bytes: &[u8], behind: &'a [u8]) -> Option<&'a [u8]>
     requires { length behind.now ≤ length bytes.now }
     ensures follows { IfSome result (λ rest. IsBehind checksum
@@ -486,7 +479,7 @@ fn rest_of<'a>(checksum: Option<Checksum>, bytes: &[u8], behind: &'a [u8]) -> Op
     }
 }
 
-/// Prints that the checksum in this data of the frame at this offset is wrong, and the data.
+/// Prints that the checksum in a frame's data is wrong, and the data.
 fn print_unchecked<W: Write>(
     format: &Format,
     start: u64,
@@ -504,7 +497,7 @@ fn print_unchecked<W: Write>(
     }
 }
 
-/// Prints at which place this data of the frame at this offset is refused, and why, and the data.
+/// Prints at which place a frame's data is refused, and why, and the data.
 fn print_unread<W: Write>(
     alloc: Global,
     format: &Format,
@@ -535,8 +528,7 @@ fn print_unread<W: Write>(
     }
 }
 
-/// Prints the line of a value that the data of the frame at this offset has, and of the bytes of the
-/// data after it.
+/// Prints the line of a frame's value, and of the bytes of the data after it.
 fn print_read<W: Write>(
     alloc: Global,
     format: &Format,
@@ -575,7 +567,6 @@ pub fn print_value<W: Write>(
     Ok(())
 }
 
-/// Prints the bytes of the frame's data after a value, if there are some.
 fn print_rest<W: Write>(rest: &[u8], output: &mut W) -> Result<(), Failure>
     ensures printed { OnOk result (Appends (W.contents output.old) (W.contents output.new)
         (more_text rest.now)) }
@@ -591,15 +582,13 @@ fn print_rest<W: Write>(rest: &[u8], output: &mut W) -> Result<(), Failure>
     Ok(())
 }
 
-/// Returns the word for this number of bytes.
 fn noun(count: usize) -> &'static str
     ensures { result.now ≡ noun_of count }
 {
     if count == 1 { "byte" } else { "bytes" }
 }
 
-/// Prints why the frame at this offset has no value, with the place before, and the bytes of the frame
-/// or its data.
+/// Prints why a frame has no value, with the place before, and the bytes of the frame or its data.
 fn print_error<W: Write>(
     start: u64,
     place: &str,

@@ -33,7 +33,7 @@ Where a type is asked for, an expression begins with ( [ { or &, ends with ? or 
 So (u8) is the expression u8. HEX may have blanks and 0x, and - reads it from the input.
 ";
 
-/// Prints how a type expression is written. Fails with `Output` if the output can't be written.
+/// Prints how a type expression is written.
 pub fn print<W: Write>(output: &mut W) -> Result<(), Failure>
     ensures printed { OnOk result (Appends (W.contents output.old) (W.contents output.new)
         SYNTAX.now) }

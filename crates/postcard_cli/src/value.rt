@@ -9,11 +9,7 @@ use std::str::FromStr;
 
 /// Returns the value of a word by the type's `parse`: of a number, the decimal digits, which may
 /// have a `+` before them, or for a signed type a `-`; of a bool, `true` or `false`; of a `char`,
-/// one character.
-///
-/// # Errors
-///
-/// Fails with `BadValue` if the word is no value of the type.
+/// one character. Fails with `BadValue` if the word is no value of the type.
 pub fn scalar<T: FromStr>(word: &str) -> Result<T, Failure>
 where
     T::Err: Drop,
@@ -26,11 +22,7 @@ where
 }
 
 /// Returns the numbers of a word, in which they have commas between them. The empty word has none.
-///
-/// # Errors
-///
-/// Fails with `BadValue` if a part of the word is no number of the type, and with
-/// `Library(OutOfMemory)` if an allocation fails.
+/// Fails with `BadValue` if a part of the word is no number of the type.
 pub fn list<T: FromStr + Drop>(alloc: Global, word: &str) -> Result<Vec<T>, Failure>
 where
     T::Err: Drop,

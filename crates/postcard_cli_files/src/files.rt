@@ -30,21 +30,14 @@ pub trait Files {
     ghost lacks: { Self → List ℕ → Type 0 };
 
     /// Returns the first `most` bytes of the file with this name, or all of them if it has fewer.
-    ///
-    /// # Errors
-    ///
     /// Fails with `Failed` if it can't be read, and with `OutOfMemory` if an allocation fails.
     fn read(&self, alloc: Global, name: &str, most: usize) -> Result<Vec<u8>, ReadError>
         ensures given { IfOk result (λ bytes. (content : List ℕ)
             × gives self.now name.now content × (bytes.items ≡ take most content)) }
         ensures lacking { IfErr result (λ e. e ≡ Failed → lacks self.now name.now) };
 
-    /// Opens the file with this name. Reads nothing from it.
-    ///
-    /// # Errors
-    ///
-    /// Fails with `Failed` if it can't be opened, and with `OutOfMemory` if memory is lacking. No file is
-    /// open then.
+    /// Opens the file with this name. Reads nothing from it. Fails with `Failed` if it can't be
+    /// opened, and with `OutOfMemory` if memory is lacking. No file is open then.
     fn open(&self, name: &str) -> Result<Self::Opened, ReadError>
         ensures given { IfOk result
             (λ opened. MayHave Self.Opened.remaining (gives self.now name.now) opened) }
@@ -83,8 +76,8 @@ impl Files for Disk<'_> {
     }
 }
 
-/// An open file of the system. Nothing is claimed of what it has left, and it is never steady: no read
-/// is promised to succeed.
+/// An open file of the system. Nothing is claimed of what it has left, and no read is promised to
+/// succeed.
 #[derive(Drop)]
 pub struct DiskFile {
     file: File,

@@ -34,12 +34,11 @@ use std::io::Write;
 const CALL: usize = 3;
 
 /// Runs the call of these words, which come after the program's name, as [`call::run`] does, and
-/// returns the exit status. If the words are `dec`, `decs` or `frames`, `--raw`, TYPE and `@FILE`, the
-/// call is that of the first three, and reads the file in the place of `input`.
+/// returns the exit status. If the words are `dec`, `decs` or `frames`, `--raw`, TYPE and `@FILE`,
+/// the call is that of the first three, and reads the file in the place of `input`.
 ///
-/// If the file can't be opened, a line on `errors` says why, nothing is read, and nothing is printed to
-/// `output`. The status is then 1 if memory is lacking, 3 if the line can't be written, and else 2.
-/// If a read of the file fails, that is said as of an input whose read fails.
+/// If the file can't be opened, a line on `errors` says why, nothing is read, and nothing is
+/// printed to `output`. The status is then 1, 2 or 3, as there for a file of types.
 pub fn run<F: Files, R: Reader, W: Write, E: Write>(
     alloc: Global,
     words: &mut [String],
@@ -92,7 +91,6 @@ fn takes_bytes(command: &str, option: &str) -> bool
     option == "--raw" && matches!(command, "dec" | "decs" | "frames")
 }
 
-/// Returns the fault of an error of opening.
 fn fault_of(error: ReadError) -> TypeFault
     ensures { result ≡ open_fault error }
 {

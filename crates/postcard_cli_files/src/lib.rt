@@ -1,9 +1,9 @@
-//! Calls of the program `pcard` with files: the word `@FILE:NAME` for TYPE stands for the type that FILE
-//! declares with the name NAME, and a word `@FILE` behind the TYPE of `--raw` for the bytes of FILE.
+//! Calls of the program `pcard` with files: the word `@FILE:NAME` for TYPE stands for the type that
+//! FILE declares with the name NAME, and a word `@FILE` behind the TYPE of `--raw` for the bytes of
+//! FILE.
 //!
-//! [`run`] runs the call of some words, as that of `postcard_cli` does, with a type expression in the
-//! place of such a TYPE, and such a FILE in the place of the input. TYPE is the first word after the
-//! command and its options.
+//! [`run`] runs the call of some words, as that of `postcard_cli` does. TYPE is the first word
+//! after the command and its options.
 #![tactic(auto)]
 
 pub mod call;

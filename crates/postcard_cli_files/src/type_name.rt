@@ -10,7 +10,7 @@ use postcard_dyn_file::{FileError, FileProblem, expression};
 use postcard_dyn_schema::Problem;
 use std::alloc::Global;
 
-/// The greatest number of bytes of a file of types.
+/// The most bytes of a file of types.
 pub const LONGEST_FILE: usize = 1_048_576;
 
 /// The name of a type in a file.
@@ -23,8 +23,8 @@ pub struct TypeName<'a> {
 }
 
 impl<'a> TypeName<'a> {
-    /// Returns the name that a word is: `@`, the name of the file, `:`, and the name of the type, which
-    /// has no `:`. Returns `None` for another word.
+    /// Returns the name that a word is: `@`, the name of the file, `:`, and the name of the type,
+    /// which has no `:`. `None` for another word.
     pub fn from_word(word: &'a str) -> Option<TypeName<'a>>
         ensures found { IfSome result (λ found. IsNameWord word.now found.file.now found.name.now) }
         ensures none { IfNone result
@@ -39,13 +39,9 @@ impl<'a> TypeName<'a> {
         }
     }
 
-    /// Returns a type expression of the type.
-    ///
-    /// # Errors
-    ///
-    /// Fails with `Unreadable` if the file can't be read, with `TooLong` if it has more than
-    /// [`LONGEST_FILE`] bytes, with `NoText` if it is no UTF-8, with `Wrong` if [`expression`] refuses
-    /// it, and with `OutOfMemory` if an allocation fails.
+    /// Returns a type expression of the type. Fails with `Unreadable` if the file can't be read,
+    /// with `TooLong`, with `NoText`, with `Wrong` if [`expression`] refuses it, and with
+    /// `OutOfMemory` if an allocation fails.
     pub fn expression<F: Files>(self, alloc: Global, files: &F) -> Result<String, TypeFault>
         ensures declared { IfOk result (λ text. Declares (F.gives files.now)
             self.entry.file.now self.entry.name.now (string_bytes text)) }
@@ -62,7 +58,8 @@ impl<'a> TypeName<'a> {
         }
     }
 
-    /// Returns the bytes of the file.
+    /// Returns the bytes of the file. Fails with `Unreadable`, `TooLong` and `OutOfMemory`, as
+    /// [`expression`](TypeName::expression) does.
     fn bytes<F: Files>(self, alloc: Global, files: &F) -> Result<Vec<u8>, TypeFault>
         ensures given { IfOk result (λ bytes. F.gives files.now self.entry.file.now bytes.items) }
         ensures refused { IfErr result (IsFaultOf (F.gives files.now) (F.lacks files.now)
@@ -88,7 +85,6 @@ fn checked(bytes: Vec<u8>) -> Result<Vec<u8>, TypeFault>
     Ok(bytes)
 }
 
-/// Returns the fault of an error of the file.
 fn fault_of(error: FileError) -> TypeFault
     ensures { IsFaultBy error result }
 {

@@ -1,5 +1,4 @@
-//! What holds of every frame. The functions do nothing: their contracts are the laws, whose
-//! statements are in `specs/Laws.antt`.
+//! What holds of every frame, as contracts of functions that do nothing (`specs/Laws.antt`).
 
 ghost use Rattle.postcard_cobs.specs.Laws.{DataIsOne, HasNoZero, MadeIsMade, MadeIsOne, OneZero};
 ghost use Rattle.postcard_cobs.specs.Laws.{MadeLength, BoundIsReached, ReachesBound, MadeDecodes};

@@ -1,8 +1,5 @@
-//! Decoding with a checksum.
-//!
-//! A decoding call reads the value first, and then compares the bytes after it with the checksum of
-//! the bytes of the value. So a value that can't be read is refused by its own error, whatever its
-//! checksum.
+//! Decoding with a checksum. The value is read first, and then the bytes after it are compared with
+//! the checksum. So a value that can't be read is refused by its own error, whatever its checksum.
 
 ghost use Rattle.std.specs.Prelude.{◌≡◌, ◌≢◌, ◌≤◌, ◌<◌, ◌*◌, ◌⊎◌, ◌↔◌, IsTrue, [], ◌++◌, length, take};
 ghost use Rattle.std.specs.Prelude.{ℕ, List, IfOk, IfErr, IsErrOf, IsErrAnd, OnOk, MatchResult};
@@ -30,14 +27,12 @@ pub use cobs::from_bytes_cobs;
 pub use modifier::CrcModifier;
 
 /// Decodes a value from the front of `bytes`, which its checksum follows, and returns it with the
-/// bytes after the checksum. The checksum is that of what `digest` has taken, and then the bytes
-/// of the value.
+/// bytes after the checksum. The checksum is that of what `digest` has taken, and then the bytes of
+/// the value.
 ///
-/// It succeeds if and only if a front of `bytes` spells a tree that the type reads, the bytes of its
-/// checksum follow, and no allocation fails.
-///
-/// A caller that expects exactly one message must check that the rest is empty, or call
-/// [`from_bytes_whole`]: only a success with an empty rest says anything about damage.
+/// It succeeds if and only if a front of `bytes` spells a tree that the type reads, the bytes of
+/// its checksum follow, and no allocation fails. Only a success with no bytes after the checksum
+/// says anything about damage: see [`from_bytes_whole`].
 ///
 /// # Errors
 ///
@@ -106,8 +101,8 @@ pub fn from_bytes<'a, T: Deserialize<'a>, W: Width, I: Implementation<W>>(
 /// such call: its `from_bytes_crc32` ignores what follows the checksum.
 ///
 /// If `bytes` is a message with its checksum in which at most as many bits in a row were changed as
-/// the checksum has, those of the checksum included, it fails: the clause `refuses_damage`. The
-/// algorithm's `refin` and `refout` must be true for that.
+/// the checksum has, those of the checksum included, it fails (`refuses_damage`). The algorithm's
+/// `refin` and `refout` must be true for that.
 ///
 /// # Errors
 ///
@@ -149,7 +144,8 @@ pub fn from_bytes_whole<'a, T: Deserialize<'a>, W: Width, I: Implementation<W>>(
     }
 }
 
-/// Returns what follows the checksum of the bytes before `rest`, with which `rest` is to begin.
+/// Returns the bytes after the checksum with which `rest` begins: that of what the digest has
+/// taken, and then the bytes before `rest`. Fails as [`after_trailer`] does.
 fn checked<'a, W: Width, I: Implementation<W>>(
     bytes: &'a [u8],
     rest: &'a [u8],
@@ -184,7 +180,8 @@ fn crc_before<W: Width, I: Implementation<W>>(
     digest.finalize()
 }
 
-/// Returns what follows the trailer of the checksum `crc`, with which `rest` is to begin.
+/// Returns the bytes after the checksum `crc` with which `rest` begins. Fails as [`after_trailer`]
+/// does.
 fn after_checksum<W: Width>(rest: &[u8], crc: W) -> Result<&[u8]>
     ensures gives { IfOk result (λ after. rest.now
         ≡ low_bytes W.size (W.number crc) ++ after.now) }
@@ -200,7 +197,9 @@ fn after_checksum<W: Width>(rest: &[u8], crc: W) -> Result<&[u8]>
     after_trailer(rest, &wanted.bytes[..wanted.len])
 }
 
-/// Returns what follows `trailer`, with which `rest` is to begin.
+/// Returns the bytes after the checksum `trailer` with which `rest` begins. Fails with
+/// `DeserializeUnexpectedEnd` if `rest` has fewer bytes than that, and with `DeserializeBadCrc` if
+/// it begins with others.
 fn after_trailer<'a>(rest: &'a [u8], trailer: &[u8]) -> Result<&'a [u8]>
     requires { length trailer.now ≤ length rest.now }
     ensures gives { IfOk result (λ after. rest.now ≡ trailer.now ++ after.now) }

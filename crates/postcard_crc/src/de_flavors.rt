@@ -1,7 +1,6 @@
 //! The reading flavor that checks a checksum, and the calls that decode messages with one, under
-//! the names that the Rust crate has for each width.
-//!
-//! The names of a call are one function: the width is that of the digest.
+//! the Rust crate's names for each width. The width is that of the digest, so the names of a call
+//! are one function.
 
 pub use crate::de::{
     CrcModifier, from_bytes as from_bytes_u8, from_bytes as from_bytes_u16,

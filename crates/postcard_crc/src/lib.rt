@@ -1,18 +1,15 @@
-//! Messages with a checksum after them, also in frames: the flavors that write and check it, and
-//! the calls over them.
-//!
-//! A message with its checksum is the encoding of a value, and then the checksum of the encoding in
-//! as many bytes as the checksum's type has, the lowest first.
+//! Messages with a checksum after them, also in frames: the encoding of a value, and then the
+//! checksum of the encoding in as many bytes as the checksum's type has, the lowest first.
 //!
 //! # Errors of encoding
 //!
-//! Each call that encodes says when it fails with `SerializeBufferFull`. There are two exceptions.
-//! For a type whose text may fail to print, the error may be `CollectStrError` instead. A value
-//! that refuses itself may fail in any case, also with an error of its own; if there is room for
-//! the message, only with such an error.
+//! Each call that encodes says when it fails with `SerializeBufferFull`, with two exceptions. For a
+//! type whose text may fail to print, the error may be `CollectStrError` instead. A value that
+//! refuses itself may fail in any case, also with an error of its own; if there is room for the
+//! message, only with such an error.
 //!
 //! In reading order: [`ser`], [`de`], and [`ser_flavors`] and [`de_flavors`] with the names of the
-//! Rust crate for each width, as the modules `checksum` of `postcard`.
+//! Rust crate for each width.
 #![tactic(auto)]
 
 pub mod de;

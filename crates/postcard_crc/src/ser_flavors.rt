@@ -1,7 +1,5 @@
-//! The writing flavor that adds a checksum, and the calls over it, under the names that the Rust
-//! crate has for each width.
-//!
-//! The names of a call are one function: the width is that of the digest.
+//! The writing flavor that adds a checksum, and the calls over it, under the Rust crate's names for
+//! each width. The width is that of the digest, so the names of a call are one function.
 
 pub use crate::ser::{
     CrcModifier, serialize_with_checksum, to_allocvec as to_allocvec_u8,

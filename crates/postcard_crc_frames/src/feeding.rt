@@ -27,7 +27,8 @@ pub fn feed<'a, T: DeserializeOwned, W: Width, I: Implementation<W>, const N: us
     read(alloc, taken, crc)
 }
 
-/// Reads the value of a frame that was taken in, and checks its checksum.
+/// Reads the value of a frame that was taken in, and checks its checksum; otherwise the result is
+/// `DeserError`.
 fn read<'a, T: DeserializeOwned, W: Width, I: Implementation<W>>(
     alloc: Global,
     taken: FeedResult<'a, &[u8]>,

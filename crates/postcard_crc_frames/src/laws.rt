@@ -1,5 +1,5 @@
-//! What holds of every frame with a checksum. The functions do nothing: their contracts are the laws,
-//! whose statements are in `specs/Laws.antt`.
+//! What holds of every frame with a checksum, as contracts of functions that do nothing
+//! (`specs/Laws.antt`).
 
 ghost use Rattle.postcard_crc_frames.specs.Laws.{DamageRefused, MessageArrives};
 

@@ -22,8 +22,8 @@ fn keep<T: Drop>(out: &mut Vec<Answer<T>>, answer: Answer<T>)
     let _ = out.push(answer);
 }
 
-/// Feeds a piece and appends the answers to `out`. Returns the number of bytes at the end of the
-/// piece that weren't fed, which is above 0 only if an allocation for an answer failed.
+/// Feeds a piece and appends the answers to `out`. Returns how many bytes at its end weren't fed:
+/// 0, unless an allocation for an answer failed.
 fn feed_all<T: DeserializeOwned, W: Width, I: Implementation<W>, const N: usize>(
     alloc: Global,
     piece: &[u8],
@@ -63,15 +63,11 @@ fn feed_all<T: DeserializeOwned, W: Width, I: Implementation<W>, const N: usize>
 }
 
 /// Reads a stream of frames of values with a checksum, and appends the answers to `out`, in all
-/// else as [`read_frames`](postcard_accumulator::read_frames) does: it makes at most `reads` reads,
-/// each into `chunk`, which must not be empty; however it ends, `out` keeps the answers and `acc`
-/// its state, so another call continues there; and after `OutOfMemory` the caller must feed
-/// `chunk[from..to]` next. The Rust crate has no such call.
+/// else as [`read_frames`](postcard_accumulator::read_frames) does. The Rust crate has no such
+/// call.
 ///
-/// The answers are one for each frame of the stream, in order, however the reader cuts it: the
-/// value, if the frame's data is its encoding and then just its checksum; otherwise `DeserError`,
-/// or `OverFull` for a frame that has no room. What holds of damaged frames is in
-/// [`laws`](crate::laws).
+/// The answer to a frame is the value, if the frame's data is its encoding and then just its
+/// checksum; otherwise `DeserError`, or `OverFull` for a frame that has no room.
 pub fn read_frames<R: Reader, T: DeserializeOwned, W: Width, I: Implementation<W>, const N: usize>(
     alloc: Global,
     reader: &mut R,

@@ -12,8 +12,8 @@ use postcard_wire::Result;
 use std::alloc::Global;
 use std::marker::Model;
 
-/// Reads the elements of a list, a tuple or a struct, and counts those that are left. A contract
-/// sees that count.
+/// Reads the elements of a list, a tuple or a struct, and counts those that are left, as a contract
+/// sees it.
 #[derive(Drop)]
 pub struct SeqAccess {
     len: usize,
@@ -28,14 +28,12 @@ impl Model for SeqAccess {
 }
 
 impl SeqAccess {
-    /// Returns an access with `len` elements left.
     pub(crate) fn new(len: usize) -> SeqAccess
         ensures { result ≡ len }
     {
         SeqAccess { len }
     }
 
-    /// Returns the number of elements left.
     pub(crate) fn left(&self) -> usize
         ensures { result ≡ self.now }
     {

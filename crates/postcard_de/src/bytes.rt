@@ -20,10 +20,9 @@ use std::alloc::Global;
 ///
 /// # Errors
 ///
-/// Fails with the error of the first part that can't be read: with `DeserializeUnexpectedEnd` if
-/// the bytes end before the value does, with the errors of `Deserializer`'s calls, and with
-/// `SerdeDeCustom` if a type refuses what was read. Fails with `OutOfMemory` if an allocation
-/// fails, and only for a type that grows.
+/// Fails with the error of the first part that can't be read: `DeserializeUnexpectedEnd` if the
+/// bytes end, an error of `Deserializer`'s calls, or `SerdeDeCustom` if a type refuses what was
+/// read. Fails with `OutOfMemory` if an allocation fails, and only for a type that grows.
 #[inline(always)]
 pub fn take_from_bytes<'a, T: Deserialize<'a>>(
     alloc: Global,
@@ -49,12 +48,8 @@ pub fn take_from_bytes<'a, T: Deserialize<'a>>(
     Ok((value, rest))
 }
 
-/// Decodes a value from the front of `bytes`. Bytes after that front are ignored. Slices and texts
-/// in the value, as a `&str`, borrow from `bytes`.
-///
-/// # Errors
-///
-/// Fails as [`take_from_bytes`].
+/// Decodes a value as [`take_from_bytes`] does, with the same errors. Bytes after that front are
+/// ignored.
 pub fn from_bytes<'a, T: Deserialize<'a>>(alloc: Global, bytes: &'a [u8]) -> Result<T>
     ensures gives { IfOk result (λ value. (rest : List ℕ)
         × ReadsFront T.shape.reads T.shape.value bytes.now value rest) }

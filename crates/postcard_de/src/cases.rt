@@ -14,11 +14,8 @@ use std::alloc::Global;
 
 /// Variants in a row that can be read.
 pub trait DeserializeCase<'de>: Cased + Sized + Drop {
-    /// Reads the content of the variant of index `index`, counted from 0.
-    ///
-    /// # Errors
-    ///
-    /// Fails with `SerdeDeCustom` if there is no such variant, and as reading the content does.
+    /// Reads the content of the variant of index `index`, counted from 0. Fails with
+    /// `SerdeDeCustom` if there is no such variant, and as reading the content does.
     fn deserialize_case<F: Flavor>(
         index: u32,
         alloc: Global,

@@ -14,10 +14,8 @@ pub trait Deserialize<'de>: Shaped + Sized + Drop {
     ///
     /// # Errors
     ///
-    /// Fails with the error of the first part that can't be read: `DeserializeUnexpectedEnd` if the
-    /// bytes end, an error of the `deserialize_*` calls, or `SerdeDeCustom` if the type itself
-    /// refuses what was read. Fails with `OutOfMemory` if an allocation fails, and only for a type
-    /// that grows. Some of the bytes may have been taken then.
+    /// Fails as [`take_from_bytes`](crate::take_from_bytes) does. Some of the bytes may have been
+    /// taken then.
     fn deserialize<F: Flavor>(alloc: Global, d: &mut Deserializer<'de, F>) -> Result<Self>
         ensures { ReadsShape F.Flavor Self.shape (source_of d.old) result (source_of d.new) };
 }

@@ -1,9 +1,5 @@
 //! The deserializer, and its calls for integers, texts, byte strings and the counts of lists and
-//! maps.
-//!
-//! The modules below have those for booleans, characters and units (`leaves`), `floats`, `options`,
-//! tuples and structs (`tuples`), `enums`, and whole containers (`containers`); `unsupported`
-//! refuses the rest.
+//! maps. The modules below have the others; `unsupported` refuses what the format can't serve.
 
 ghost use Rattle.std.specs.Prelude.{◌≡◌, false};
 ghost use Rattle.postcard_de.specs.Reads.{ReadsNode, byte_node, bytes_node, int_node};
@@ -27,9 +23,12 @@ use std::alloc::Global;
 use std::marker::PhantomData;
 
 /// Reads values from a source, each from the front of what is left. Padded varints are read too.
-/// The names of structs, fields and variants aren't used.
+/// The names of structs, fields and variants aren't used. A signed number of 16 or more bits is
+/// read from its zigzag encoding.
 ///
-/// A contract sees the source, by `source_of`.
+/// A call that begins a tuple, a struct or the content of a variant returns a [`SeqAccess`], which
+/// reads the parts. It reads nothing itself, and never fails. A contract sees the source, by
+/// `source_of`.
 ///
 /// # Errors
 ///
@@ -64,8 +63,7 @@ impl<'de, F: Flavor> Deserializer<'de, F> {
         }
     }
 
-    /// Ends reading, and returns what `finalize` of the source does: what is left of it, or an
-    /// error.
+    /// Ends reading, and returns what is left of the source, or the error of its `finalize`.
     pub fn finalize(self) -> Result<F::Remainder>
         ensures { F.finishes (source_of self.entry) result }
     {
@@ -95,7 +93,7 @@ impl<'de, F: Flavor> Deserializer<'de, F> {
         Ok(bits.cast_signed())
     }
 
-    /// Reads a number of 16 bits: a varint of at most 3 bytes.
+    /// Reads a number of 16 bits.
     pub fn deserialize_u16(&mut self) -> Result<u16>
         ensures { ReadsNode F.Flavor (num_node 16)
             (source_of self.old) result (source_of self.new) }
@@ -104,7 +102,7 @@ impl<'de, F: Flavor> Deserializer<'de, F> {
         Ok(n as u16)
     }
 
-    /// Reads a number of 32 bits: a varint of at most 5 bytes.
+    /// Reads a number of 32 bits.
     pub fn deserialize_u32(&mut self) -> Result<u32>
         ensures { ReadsNode F.Flavor (num_node 32)
             (source_of self.old) result (source_of self.new) }
@@ -113,7 +111,7 @@ impl<'de, F: Flavor> Deserializer<'de, F> {
         Ok(n as u32)
     }
 
-    /// Reads a number of 64 bits: a varint of at most 10 bytes.
+    /// Reads a number of 64 bits.
     pub fn deserialize_u64(&mut self) -> Result<u64>
         ensures { ReadsNode F.Flavor (num_node 64)
             (source_of self.old) result (source_of self.new) }
@@ -122,7 +120,7 @@ impl<'de, F: Flavor> Deserializer<'de, F> {
         Ok(n as u64)
     }
 
-    /// Reads a number of 128 bits: a varint of at most 19 bytes.
+    /// Reads a number of 128 bits.
     pub fn deserialize_u128(&mut self) -> Result<u128>
         ensures { ReadsNode F.Flavor (num_node 128)
             (source_of self.old) result (source_of self.new) }
@@ -131,7 +129,7 @@ impl<'de, F: Flavor> Deserializer<'de, F> {
         Ok(n)
     }
 
-    /// Reads a signed number of 16 bits: its zigzag encoding, a varint of at most 3 bytes.
+    /// Reads a signed number of 16 bits.
     pub fn deserialize_i16(&mut self) -> Result<i16>
         ensures { ReadsNode F.Flavor (int_node 16)
             (source_of self.old) result (source_of self.new) }
@@ -140,7 +138,7 @@ impl<'de, F: Flavor> Deserializer<'de, F> {
         Ok(zigzag::de_zig_zag_i16(folded as u16))
     }
 
-    /// Reads a signed number of 32 bits: its zigzag encoding, a varint of at most 5 bytes.
+    /// Reads a signed number of 32 bits.
     pub fn deserialize_i32(&mut self) -> Result<i32>
         ensures { ReadsNode F.Flavor (int_node 32)
             (source_of self.old) result (source_of self.new) }
@@ -149,7 +147,7 @@ impl<'de, F: Flavor> Deserializer<'de, F> {
         Ok(zigzag::de_zig_zag_i32(folded as u32))
     }
 
-    /// Reads a signed number of 64 bits: its zigzag encoding, a varint of at most 10 bytes.
+    /// Reads a signed number of 64 bits.
     pub fn deserialize_i64(&mut self) -> Result<i64>
         ensures { ReadsNode F.Flavor (int_node 64)
             (source_of self.old) result (source_of self.new) }
@@ -158,7 +156,7 @@ impl<'de, F: Flavor> Deserializer<'de, F> {
         Ok(zigzag::de_zig_zag_i64(folded as u64))
     }
 
-    /// Reads a signed number of 128 bits: its zigzag encoding, a varint of at most 19 bytes.
+    /// Reads a signed number of 128 bits.
     pub fn deserialize_i128(&mut self) -> Result<i128>
         ensures { ReadsNode F.Flavor (int_node 128)
             (source_of self.old) result (source_of self.new) }
@@ -168,11 +166,8 @@ impl<'de, F: Flavor> Deserializer<'de, F> {
     }
 
     /// Reads a text: its length in bytes, and that many bytes of UTF-8. The text borrows from what
-    /// the source borrows.
-    ///
-    /// # Errors
-    ///
-    /// Also fails with `DeserializeBadUtf8` if the bytes aren't UTF-8; they are taken then.
+    /// the source borrows. Also fails with `DeserializeBadUtf8` if the bytes aren't UTF-8; they are
+    /// taken then.
     pub fn deserialize_str(&mut self) -> Result<&'de str>
         ensures { ReadsNode F.Flavor lent_text_node
             (source_of self.old) result (source_of self.new) }
@@ -180,13 +175,8 @@ impl<'de, F: Flavor> Deserializer<'de, F> {
         texts::text(&mut self.flavor)
     }
 
-    /// Reads a text, and returns a copy of it, which is allocated once the bytes were taken and
-    /// found to be UTF-8.
-    ///
-    /// # Errors
-    ///
-    /// Fails as `deserialize_str`, and with `OutOfMemory` if the allocation fails; the text is
-    /// taken then.
+    /// Reads a text as `deserialize_str` does, and returns a copy of it. Also fails with
+    /// `OutOfMemory` if the allocation fails; the text is taken then.
     pub fn deserialize_string(&mut self, alloc: Global) -> Result<String>
         ensures { ReadsNode F.Flavor text_node (source_of self.old) result (source_of self.new) }
     {
@@ -202,20 +192,16 @@ impl<'de, F: Flavor> Deserializer<'de, F> {
         bytes::bytes(&mut self.flavor)
     }
 
-    /// Reads a byte string, and returns a copy of its bytes, which is allocated once they were
-    /// taken.
-    ///
-    /// # Errors
-    ///
-    /// Also fails with `OutOfMemory` if the allocation fails; the bytes are taken then.
+    /// Reads a byte string, and returns a copy of its bytes. Also fails with `OutOfMemory` if the
+    /// allocation fails; the bytes are taken then.
     pub fn deserialize_byte_buf(&mut self, alloc: Global) -> Result<Vec<u8>>
         ensures { ReadsNode F.Flavor bytes_node (source_of self.old) result (source_of self.new) }
     {
         bytes::bytes_copy(alloc, &mut self.flavor)
     }
 
-    /// Reads the number of elements of a list, a varint of at most 10 bytes. The elements are then
-    /// read by [`next_element`](SeqAccess::next_element).
+    /// Reads the number of elements of a list. [`next_element`](SeqAccess::next_element) then reads
+    /// each.
     pub fn deserialize_seq(&mut self) -> Result<SeqAccess>
         ensures { ReadsNode F.Flavor (number_node 64)
             (source_of self.old) result (source_of self.new) }
@@ -224,9 +210,8 @@ impl<'de, F: Flavor> Deserializer<'de, F> {
         Ok(SeqAccess::new(count))
     }
 
-    /// Reads the number of pairs of a map, a varint of at most 10 bytes. Their keys and values are
-    /// then read in turn by [`next_key`](MapAccess::next_key) and
-    /// [`next_value`](MapAccess::next_value).
+    /// Reads the number of pairs of a map. [`next_key`](MapAccess::next_key) and
+    /// [`next_value`](MapAccess::next_value) then read each in turn.
     pub fn deserialize_map(&mut self) -> Result<MapAccess>
         ensures { ReadsNode F.Flavor (number_node 64)
             (source_of self.old) result (source_of self.new) }

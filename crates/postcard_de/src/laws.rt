@@ -1,4 +1,4 @@
-//! Laws of every type that is read. The functions do nothing: their contracts are the laws.
+//! Laws of every type that is read, as contracts of functions that do nothing.
 
 ghost use Rattle.std.specs.Prelude.{◌≡◌, ℕ, List, ◌++◌};
 ghost use Rattle.postcard_wire.specs.Tree.{Tree};
@@ -16,7 +16,7 @@ pub fn one_message<'de, T: Deserialize<'de>>()
 {}
 
 /// The canonical encoding of a tree that the type reads spells that tree. Whatever bytes follow it,
-/// no other front spells a tree that the type reads, and it spells no other such tree.
+/// no other front spells such a tree.
 pub fn read_again<'de, T: Deserialize<'de>>()
     ensures spelled { (t : Tree) → T.shape.reads t → Spells t (canonical t) }
     ensures no_other_front { (t s : Tree) (p rest left : List ℕ) → T.shape.reads t →

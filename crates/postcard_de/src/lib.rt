@@ -4,20 +4,14 @@
 //! one contract, that of [`Deserialize::deserialize`]: `ReadsShape F.Flavor shape ..` says that the
 //! result is the value of a front that spells a tree that the type reads, that such a front is read
 //! if the source is able to give it and no allocation fails, what is left, and which errors may be
-//! returned. A single node has one clause, `ReadsNode F.Flavor node ..`, at its function in
-//! `postcard_de_nodes`, at its call `deserialize_*` and at the types that are that node: the same
-//! for the node (`reads`), and the exact reason of a failure (`refused`). Options and `Result` have
-//! `ReadsOption` and `ReadsResult`, likewise.
+//! returned. A type that is one node has the clause `ReadsNode` of `postcard_de_nodes`, which adds
+//! the exact reason of a failure; options and `Result` have `ReadsOption` and `ReadsResult`.
 //!
 //! A struct is read as the tuple of its fields and an enum as its variants in a row ([`FromRepr`]),
-//! with no proof of its own. [`from_bytes`] and [`take_from_bytes`] are the calls for bytes in
-//! memory.
+//! with no proof of its own.
 //!
-//! In reading order: [`deserialize`] has the trait, [`owned`] that of types that borrow nothing,
-//! [`repr`] how a type is read as another, [`rows`] and [`cases`] what tuples and enums are read
-//! as; [`deserializer`] the calls for one node, which are made of the functions of
-//! `postcard_de_nodes`, [`access`] and [`map_access`] those for the elements of a list and the
-//! pairs of a map, [`values`] the types, [`laws`] what holds of every type that is read.
+//! In reading order: [`deserialize`], [`owned`], [`repr`], [`rows`], [`cases`], [`deserializer`],
+//! [`access`], [`map_access`], [`values`], [`laws`].
 #![tactic(auto)]
 
 pub mod access;

@@ -13,8 +13,8 @@ use postcard_wire::Result;
 use std::alloc::Global;
 use std::marker::Model;
 
-/// Reads the pairs of a map, and counts the keys that are left. A contract sees that count. A call
-/// fails as reading the key or the value does.
+/// Reads the pairs of a map, and counts the keys that are left, as a contract sees it. A call fails
+/// as reading the key or the value does.
 #[derive(Drop)]
 pub struct MapAccess {
     keys: SeqAccess,
@@ -29,7 +29,6 @@ impl Model for MapAccess {
 }
 
 impl MapAccess {
-    /// Returns an access with `len` pairs left.
     pub(crate) fn new(len: usize) -> MapAccess
         ensures { result ≡ len }
     {
@@ -53,7 +52,7 @@ impl MapAccess {
         self.keys.next_element(alloc, d)
     }
 
-    /// Reads the value of the key that was read last. The caller must have read that key by
+    /// Reads the value of the key that was read last, which must be by
     /// [`next_key`](MapAccess::next_key) just before; this is not checked.
     pub fn next_value<'de, V: Deserialize<'de>, F: Flavor>(
         &mut self,

@@ -11,8 +11,8 @@ use postcard_shape::Repr;
 use postcard_wire::Result;
 use std::alloc::Global;
 
-/// A type that is read as another, `Repr::As`, and made from its value. It implements `Deserialize`
-/// if `As` does, and `DeserializeOwned` likewise.
+/// A type that is read as another, `Repr::As`, and made from its value. It gets `Deserialize` and
+/// `DeserializeOwned` from `As`.
 pub trait FromRepr: Repr<As: Drop> + Sized + Drop {
     /// Makes a value from `repr`, which was read.
     fn from_repr(repr: Self::As) -> Self

@@ -42,7 +42,7 @@ impl<'de, A: Deserialize<'de>, R: DeserializeParts<'de>> Deserialize<'de> for Pa
 
 /// Parts in a row that can be read and borrow nothing from the source.
 pub trait DeserializePartsOwned: Parts + Sized + Drop {
-    /// Reads the parts from left to right. Fails with the error of the first that can't be read.
+    /// Does the same as [`DeserializeParts::deserialize_parts`].
     fn deserialize_parts_owned<'de, F: Flavor>(
         alloc: Global,
         d: &mut Deserializer<'de, F>,

@@ -1,5 +1,6 @@
 //! The types that are read, a module for each kind. The contract of a type that is one node states
-//! the exact reason of a failure, as the call for that node does.
+//! the exact reason of a failure. What the pages here don't say, as of `OutOfMemory`,
+//! [`Deserialize`](crate::Deserialize) says.
 
 pub mod c_strings;
 pub mod error;

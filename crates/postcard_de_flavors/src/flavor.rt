@@ -9,8 +9,8 @@ ghost use Rattle.postcard_de_flavors.specs.Source.{Left, Takes, CanTake, LendsFr
 
 use postcard_wire::{Error, Result};
 
-/// A source of bytes: returns the bytes of a message in order, as a reading flavor of postcard
-/// 1.1.3 does.
+/// A source of bytes, as a reading flavor of postcard 1.1.3: returns the bytes of a message in
+/// order.
 ///
 /// # Errors
 ///
@@ -63,8 +63,8 @@ pub trait Flavor: Drop {
         &[]
     }
 
-    /// Takes the next `ct` bytes. The slice borrows from what the source borrows (`Self: 'de`) and
-    /// not from the source itself, so it stays valid after later calls.
+    /// Takes the next `ct` bytes. The slice borrows from what the source borrows (`Self: 'de`), so
+    /// it stays valid after later calls.
     fn try_take_n<'de>(&mut self, ct: usize) -> Result<&'de [u8]>
     where
         Self: 'de,

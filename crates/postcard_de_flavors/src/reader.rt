@@ -9,12 +9,9 @@ use std::io;
 use std::io::Read;
 
 /// A reader whose contract says when it is *steady*: no read fails while bytes are left. The bytes
-/// left are the ghost `remaining` of `Read`.
-///
-/// The sources of this crate read only by these two methods. Wrap a reader that has no such
-/// contract in [`Plain`](crate::plain::Plain).
+/// left are the ghost `remaining` of `Read`. [`Plain`](crate::plain::Plain) wraps a reader that has
+/// no such contract.
 pub trait Reader: Read + Drop {
-    /// No read fails while bytes are left.
     ghost steady: { Self → Type 0 };
 
     /// Reads into the front of `buf` and returns the number of bytes read, as `Read::read` does. If
@@ -32,12 +29,9 @@ pub trait Reader: Read + Drop {
         ensures succeeds { steady self.old → IsOk result }
         ensures stays_steady { steady self.old → steady self.new };
 
-    /// Fills all of `buf` with the next `buf.len()` bytes, as `Read::read_exact` does.
-    ///
-    /// # Errors
-    ///
-    /// Fails if the reader fails or ends first. A steady reader that is known to have at least
-    /// `buf.len()` bytes left succeeds. It stays steady, also after a failure.
+    /// Fills all of `buf` with the next `buf.len()` bytes, as `Read::read_exact` does. Fails if the
+    /// reader fails or ends first. A steady reader that is known to have at least `buf.len()` bytes
+    /// left succeeds. It stays steady, also after a failure.
     fn read_full(&mut self, buf: &mut [u8]) -> io::Result<()>
         ensures bytes { OnOk result (Consumes (Self.remaining self.old)
             (Self.remaining self.new) buf.new) }

@@ -3,15 +3,13 @@
 //!
 //! Each function takes its node from the front of what the source has left. Its contract is one
 //! record, `ReadsNode` of a kind of node (`specs/Nodes.antt`): `reads` says what the result is,
-//! when there is one, what is left, and which errors may be returned (`specs/Reads.antt`);
-//! `refused` the exact reason of an error (`specs/Refuses.antt`, `specs/Unfit.antt`). A list has
-//! clauses of its own. A single byte is read by `Flavor::pop` itself.
+//! when there is one, what is left, and which errors may be returned; `refused` the exact reason of
+//! an error.
 //!
 //! Each fails with `DeserializeUnexpectedEnd` if the source can't give the bytes that it takes.
 //! What has a length or a count fails as [`numbers::count`] if that can't be read.
 //!
-//! The layer above is `Deserializer`, whose calls for one node are calls of these functions. In
-//! reading order: [`numbers`], [`choices`], [`texts`], [`bytes`], [`floats`], [`lists`].
+//! In reading order: [`numbers`], [`choices`], [`texts`], [`bytes`], [`floats`], [`lists`].
 #![tactic(auto)]
 
 pub mod bytes;

@@ -67,11 +67,8 @@ pub fn short_text<F: Flavor, const CAP: usize>(flavor: &mut F) -> Result<ArraySt
 
 /// Reads a character: a length of at most 4 as a varint, and that many bytes of UTF-8 (wire format
 /// 1.0, "char"). Returns the first character of these, as postcard 1.1.3 does, and ignores others.
-///
-/// # Errors
-///
-/// Also fails with `DeserializeBadChar` if the length is above 4; only the length is taken then.
-/// The same if the bytes aren't UTF-8 or the length is 0; they are taken then.
+/// Also fails with `DeserializeBadChar`: if the length is above 4, which alone is taken then, if it
+/// is 0, or if the bytes aren't UTF-8, which are taken too.
 pub fn character<F: Flavor>(flavor: &mut F) -> Result<char>
     ensures { ReadsNode F.Flavor char_node flavor.old result flavor.new }
 {

@@ -25,8 +25,7 @@ use std::alloc::Global;
 /// that front.
 ///
 /// It succeeds if and only if a front of the bytes spells a tree of the schema, padded numbers
-/// included, unless an allocation fails. There is at most one such front. If the bytes begin with
-/// the encoding of a value of the schema, a value with the same tree is returned, whatever follows.
+/// included, unless an allocation fails. There is at most one such front.
 ///
 /// # Errors
 ///
@@ -54,13 +53,13 @@ pub fn take_from_bytes<'a>(
     Ok((value, rest))
 }
 
-/// Encodes a value into a flavor, ends the flavor, and returns its output: the canonical encoding
-/// of the value's tree, in the form that the flavor makes of it.
+/// Encodes a value into a flavor, ends the flavor, and returns its output, of the canonical
+/// encoding of the value's tree.
 ///
 /// # Errors
 ///
-/// Fails with `SerializeBufferFull` if the flavor refuses bytes or can't end. The flavor is then
-/// dropped. It doesn't fail if the flavor has room for the whole encoding.
+/// Fails with `SerializeBufferFull`, and drops the flavor, if that refuses bytes or can't end;
+/// never if it has room for the encoding.
 pub fn to_flavor<S: Flavor<Output = O> + Drop, O>(value: &Value, storage: S) -> Result<O>
     ensures gives { IfOk result (Finished S.Flavor storage (canonical (tree value.now))) }
     ensures has_room { S.room storage (canonical (tree value.now)) → IsOk result }

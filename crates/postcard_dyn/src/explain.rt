@@ -1,4 +1,8 @@
 //! Which bytes are which part of a value: [`explain`].
+//!
+//! A function that adds lines fails with `OutOfMemory` if an allocation fails, and one that returns
+//! the bytes after a value also with the error of a part that can't be read, once its line is
+//! added.
 
 ghost use Rattle.std.specs.Prelude.{◌≡◌, ◌≢◌, ◌⊎◌, ℕ, List, [], ◌∷◌, ◌++◌, Box, None};
 ghost use Rattle.std.specs.Prelude.{IfOk, IfErr, IfSome, OnOk};
@@ -107,13 +111,13 @@ struct Place<'a> {
 #[derive(Drop)]
 struct Walk<'a> {
     alloc: Global,
-    /// The greatest number of elements of one list that have lines of their own.
+    /// The most elements of one list that have lines of their own.
     most: u64,
     lines: Vec<Line<'a>>,
 }
 
 /// Says of bytes line by line which part of a value of the schema they are. Each byte is on one
-/// line, in order, whether a value is read or not.
+/// line, in order.
 ///
 /// The lines are those of the value at the front of the bytes, as [`take_from_bytes`] reads it: one
 /// for each value without parts, count, index and byte of an option, and one without bytes for each
@@ -185,7 +189,6 @@ fn push_rest<'a>(walk: &mut Walk<'a>, rest: &'a [u8]) -> Result<()>
     push(walk, place, LineKind::AfterValue, rest)
 }
 
-/// Adds a line.
 fn push<'a>(
     walk: &mut Walk<'a>,
     place: Place<'a>,
@@ -291,7 +294,7 @@ fn name_of(variant: &Schema) -> &str
 }
 
 /// Adds the lines of a value of the schema at the front of the bytes, and returns the bytes after
-/// it. If a part can't be read, its line has the rest of the bytes.
+/// it.
 #[cycle(explain)]
 fn explain_part<'a>(
     walk: &mut Walk<'a>,
@@ -314,7 +317,6 @@ fn explain_part<'a>(
     }
 }
 
-/// Adds the line of a value without parts.
 fn explain_leaf<'a>(
     walk: &mut Walk<'a>,
     schema: &'a Schema,
@@ -393,7 +395,6 @@ fn explain_list<'a>(
     }
 }
 
-/// Adds the lines of an array.
 #[cycle(explain)]
 fn explain_array<'a>(
     walk: &mut Walk<'a>,
@@ -411,7 +412,6 @@ fn explain_array<'a>(
     explain_elements(walk, element, count as u64, depth, bytes)
 }
 
-/// Adds the lines of `count` elements in a row.
 #[cycle(explain)]
 fn explain_elements<'a>(
     walk: &mut Walk<'a>,
@@ -485,7 +485,6 @@ fn explain_more<'a>(
     Ok(rest)
 }
 
-/// Adds the lines of a tuple or a struct.
 #[cycle(explain)]
 fn explain_group<'a>(
     walk: &mut Walk<'a>,
@@ -501,7 +500,6 @@ fn explain_group<'a>(
     explain_parts(walk, parts, depth, bytes)
 }
 
-/// Adds the lines of a value of each type, in order.
 #[cycle(explain)]
 fn explain_parts<'a>(
     walk: &mut Walk<'a>,

@@ -19,11 +19,8 @@ use postcard_fixint::{FixInt, be, le};
 use postcard_ser::Serializer;
 use std::alloc::Global;
 
-/// Reads the bits of a number from its bytes.
-///
-/// # Errors
-///
-/// Fails with `DeserializeUnexpectedEnd` if the source can't give as many bytes.
+/// Reads the bits of a number from its bytes. Fails with `DeserializeUnexpectedEnd` if the source
+/// can't give as many bytes.
 pub fn read_bits<'de, F: postcard_de::Flavor>(
     alloc: Global,
     order: ByteOrder,
@@ -42,7 +39,7 @@ pub fn read_bits<'de, F: postcard_de::Flavor>(
     }
 }
 
-/// Reads a number from its bytes, in this order.
+/// Reads a number from its bytes, in this order. Fails as [`read_bits`] does.
 fn read_number<'de, T: FixInt, F: postcard_de::Flavor>(
     alloc: Global,
     order: ByteOrder,
@@ -59,9 +56,6 @@ fn read_number<'de, T: FixInt, F: postcard_de::Flavor>(
 }
 
 /// Writes the bytes of the number with these bits, of which those beyond its width are left out.
-///
-/// # Errors
-///
 /// Fails with `SerializeBufferFull` if the flavor refuses the bytes.
 pub fn write_bits<F: postcard_ser::Flavor>(
     order: ByteOrder,
@@ -80,7 +74,7 @@ pub fn write_bits<F: postcard_ser::Flavor>(
     }
 }
 
-/// Writes the bytes of a number, in this order.
+/// Writes the bytes of a number, in this order. Fails as [`write_bits`] does.
 fn write_number<T: FixInt, F: postcard_ser::Flavor>(
     order: ByteOrder,
     value: T,
@@ -141,7 +135,6 @@ pub fn are_bits(integer: Integer, bits: u128) -> bool
     bits / 2 < half_of(integer)
 }
 
-/// Returns half of the number of values that the type has.
 fn half_of(integer: Integer) -> u128
     ensures { 2 * result ≡ 256 ^ size_of integer }
 {

@@ -6,8 +6,8 @@ ghost use Rattle.postcard_wire.specs.Reading.{IsDelimited, ReadsWellFormed};
 ghost use Rattle.postcard_wire.specs.Spelling.{Spells};
 ghost use Rattle.postcard_dyn_schema.specs.Meaning.{MessageType, has_bytes, reads};
 
-/// The encodings of each type are prefix-free: if two fronts of the same bytes spell trees of the
-/// type, they are the same front, and the trees are the same.
+/// The encodings of each type are prefix-free: at most one front of any bytes spells a tree of the
+/// type, and it spells only one.
 pub fn prefix_free()
     ensures { (t : MessageType) → IsDelimited (reads t) }
 {}

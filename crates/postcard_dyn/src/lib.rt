@@ -1,10 +1,9 @@
 //! Messages of a type that is known only at run time, as a [`Schema`].
 //!
 //! [`read_value`] reads a [`Value`] of a schema from any source, and [`write_value`] writes one
-//! into any flavor. [`take_from_bytes`] decodes a value from a slice, and [`to_flavor`] encodes one
-//! and returns the flavor's output. [`mod@explain`] says which bytes of a message are which part of
-//! the value, and [`refused_at`] where reading one fails. By the [`laws`], the encodings of each
-//! schema are prefix-free.
+//! into any flavor; [`take_from_bytes`] and [`to_flavor`] are the calls for whole messages.
+//! [`mod@explain`] says which bytes of a message are which part of the value, and [`refused_at`]
+//! where reading one fails. By the [`laws`], the encodings of each schema are prefix-free.
 #![tactic(auto)]
 
 pub mod calls;

@@ -1,4 +1,5 @@
-//! The place in a message where reading fails: [`refused_at`].
+//! The place in a message where reading fails: [`refused_at`]. The functions below return that
+//! offset in the bytes of what their names say, and fail as it does.
 
 ghost use Rattle.std.specs.Prelude.{◌≡◌, ◌≤◌, length, IfOk, IfErr};
 
@@ -37,8 +38,7 @@ pub fn refused_at(alloc: Global, schema: &Schema, bytes: &[u8]) -> Result<usize>
     }
 }
 
-/// Returns the offset of the refused part in the bytes of a list: the count, or a part of an
-/// element.
+/// It is the count, or a part of an element.
 #[cycle(locate)]
 fn refused_after_count(alloc: Global, element: &Schema, bytes: &[u8]) -> Result<usize>
     ensures within { IfOk result (λ place. place ≤ length bytes.now) }
@@ -53,7 +53,8 @@ fn refused_after_count(alloc: Global, element: &Schema, bytes: &[u8]) -> Result<
     }
 }
 
-/// Returns the offset of the refused part in the bytes of elements in a row.
+/// Each element before the refused one has at least one byte, so there are no more of them than
+/// bytes; if they use up all bytes, the next one is refused at the end.
 #[cycle(locate)]
 fn refused_element(alloc: Global, element: &Schema, bytes: &[u8]) -> Result<usize>
     ensures within { IfOk result (λ place. place ≤ length bytes.now) }
@@ -73,7 +74,6 @@ fn refused_element(alloc: Global, element: &Schema, bytes: &[u8]) -> Result<usiz
     Ok(bytes.len())
 }
 
-/// Returns the offset of the refused part in the bytes of a group.
 #[cycle(locate)]
 fn refused_part(alloc: Global, parts: &Vec<Schema>, bytes: &[u8]) -> Result<usize>
     ensures within { IfOk result (λ place. place ≤ length bytes.now) }
@@ -93,8 +93,7 @@ fn refused_part(alloc: Global, parts: &Vec<Schema>, bytes: &[u8]) -> Result<usiz
     Ok(bytes.len())
 }
 
-/// Returns the offset of the refused part in the bytes of an enum: the index, or a part of the
-/// content.
+/// It is the index, or a part of the content.
 #[cycle(locate)]
 fn refused_content(alloc: Global, variants: &Vec<Schema>, bytes: &[u8]) -> Result<usize>
     ensures within { IfOk result (λ place. place ≤ length bytes.now) }

@@ -1,4 +1,4 @@
-//! Reading a value of a schema from a source: [`read_value`].
+//! Reading a value of a schema from a source: [`read_value`]. The functions below it fail as it does.
 
 ghost use Rattle.std.specs.Prelude.{◌≡◌, ◌++◌, ◌∷◌, [], IfOk, IfErr, OnOk};
 ghost use Rattle.postcard_wire.specs.Spelling.{Spells, SpellsAll};
@@ -23,11 +23,10 @@ use std::alloc::Global;
 ///
 /// # Errors
 ///
-/// Fails with the error of the first part that can't be read: with `DeserializeUnexpectedEnd` if
-/// the bytes end in it, with an error of the `deserialize_*` calls of [`Deserializer`], with
-/// `DeserializeBadOption` if the first byte of an option is neither 0 nor 1, or with
-/// `SerdeDeCustom` if an index has no variant. Fails with `OutOfMemory` if an allocation fails. A
-/// count or a length in the message alone never decides how much memory is requested.
+/// Fails with the error of the first part that can't be read: an error of the `deserialize_*` calls
+/// of [`Deserializer`], or `SerdeDeCustom` if an index has no variant. Fails with `OutOfMemory` if
+/// an allocation fails. A count or a length in the message alone never decides how much memory is
+/// requested.
 #[cycle(read)]
 pub fn read_value<'de, F: Flavor>(
     alloc: Global,
@@ -49,7 +48,6 @@ pub fn read_value<'de, F: Flavor>(
     }
 }
 
-/// Reads an option: the byte 0, or the byte 1 and then the content.
 #[cycle(read)]
 fn read_option<'de, F: Flavor>(
     alloc: Global,
@@ -70,7 +68,6 @@ fn read_option<'de, F: Flavor>(
     }
 }
 
-/// Reads a list or a map: the number of its elements, and then the elements.
 #[cycle(read)]
 fn read_list<'de, F: Flavor>(
     alloc: Global,
@@ -85,7 +82,6 @@ fn read_list<'de, F: Flavor>(
     Ok(Value::Seq(items))
 }
 
-/// Reads an array: its `count` elements. The message has no count.
 #[cycle(read)]
 fn read_array<'de, F: Flavor>(
     alloc: Global,
@@ -100,7 +96,6 @@ fn read_array<'de, F: Flavor>(
     Ok(Value::Group(items))
 }
 
-/// Reads `count` values of the type in a row.
 #[cycle(read)]
 fn read_elements<'de, F: Flavor>(
     alloc: Global,
@@ -119,7 +114,6 @@ fn read_elements<'de, F: Flavor>(
     Ok(items)
 }
 
-/// Reads a tuple or a struct: a value of each of the types, in order.
 #[cycle(read)]
 fn read_group<'de, F: Flavor>(
     alloc: Global,
@@ -137,7 +131,6 @@ fn read_group<'de, F: Flavor>(
     Ok(Value::Group(items))
 }
 
-/// Reads an enum: the index of a variant, and then the variant's content.
 #[cycle(read)]
 fn read_variant<'de, F: Flavor>(
     alloc: Global,
@@ -156,7 +149,6 @@ fn read_variant<'de, F: Flavor>(
     Ok(Value::Variant(index, held))
 }
 
-/// Adds a value to the end of the list.
 fn push(items: &mut Vec<Value>, item: Value) -> Result<()>
     ensures added { OnOk result (items.new.items ≡ items.old.items ++ item ∷ []) }
     ensures refused { IfErr result (λ e. e ≡ Error.OutOfMemory) }
@@ -167,7 +159,6 @@ fn push(items: &mut Vec<Value>, item: Value) -> Result<()>
     }
 }
 
-/// Puts a value into a `Box`.
 fn boxed(alloc: Global, value: Value) -> Result<Box<Value>>
     ensures held { IfOk result (λ held. held.value ≡ value) }
     ensures refused { IfErr result (λ e. e ≡ Error.OutOfMemory) }
@@ -178,7 +169,6 @@ fn boxed(alloc: Global, value: Value) -> Result<Box<Value>>
     }
 }
 
-/// Reads a value of a type without parts.
 fn read_leaf<'de, F: Flavor>(
     alloc: Global,
     leaf: Leaf,

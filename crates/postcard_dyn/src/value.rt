@@ -2,9 +2,8 @@
 
 use postcard_dyn_schema::{ByteOrder, Integer};
 
-/// A value of some [`Schema`](postcard_dyn_schema::Schema).
-///
-/// The names of fields and variants are in the schema, and not in the value.
+/// A value of some [`Schema`](postcard_dyn_schema::Schema), which has the names of fields and
+/// variants.
 #[derive(Debug, Drop)]
 pub enum Value {
     Bool(bool),

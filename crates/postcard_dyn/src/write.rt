@@ -13,16 +13,14 @@ use postcard_ser::Serializer;
 use postcard_ser_flavors::Flavor;
 use postcard_wire::Result;
 
-/// Writes the canonical encoding of the value's tree, as `Serialize::serialize` does for a type
-/// of the program.
-///
-/// [`Value`] does not implement `Serialize`: a type that does must have prefix-free encodings, and
-/// those of all values together are not.
+/// Writes the canonical encoding of the value's tree, as `Serialize::serialize` does for a type of
+/// the program. [`Value`] itself is no such type: the encodings of all values together aren't
+/// prefix-free.
 ///
 /// # Errors
 ///
-/// Fails with `SerializeBufferFull` if the flavor refuses bytes. The bytes that the flavor took
-/// before the error stay in it.
+/// Fails with `SerializeBufferFull` if the flavor refuses bytes. What it took before the error
+/// stays in it.
 #[cycle(write)]
 pub fn write_value<F: Flavor>(value: &Value, serializer: &mut Serializer<F>) -> Result<()>
     ensures { Wrote F.Flavor serializer.old.output (canonical (tree value.now)) never ⊥ result
@@ -63,7 +61,7 @@ pub fn write_value<F: Flavor>(value: &Value, serializer: &mut Serializer<F>) -> 
     }
 }
 
-/// Writes the values in order, without a count.
+/// Writes the values in order, without a count. Fails as [`write_value`] does.
 #[cycle(write)]
 fn write_all<F: Flavor>(items: &Vec<Value>, serializer: &mut Serializer<F>) -> Result<()>
     ensures { Wrote F.Flavor serializer.old.output

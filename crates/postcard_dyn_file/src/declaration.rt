@@ -52,12 +52,9 @@ pub struct Declaration<'a> {
     pub end: usize,
 }
 
-/// Returns the declarations of a file with these tokens, in their order. Their names differ.
-///
-/// # Errors
-///
-/// Fails with `NameExpected` at a declaration without a name, with `ItemOpen` at one that doesn't
-/// end, with `DeclaredTwice` at a name that a declaration before has, and with `OutOfMemory`.
+/// Returns the declarations of a file with these tokens, in their order. Their names differ. Fails
+/// with `NameExpected` at a declaration without a name, with `ItemOpen` at one that doesn't end,
+/// with `DeclaredTwice` at a name that a declaration before has, and with `OutOfMemory`.
 pub fn declarations<'a>(
     alloc: Global,
     tokens: &[Token<'a>],
@@ -92,7 +89,8 @@ fn ends_item(tokens: &[Token], at: usize) -> bool
     }
 }
 
-/// Adds the declaration that an item at the index is, if one is, to the end of the list.
+/// Adds the declaration that an item at the index is, if one is, to the end of the list. Fails as
+/// [`declarations`] does.
 fn read_item<'a>(
     tokens: &[Token<'a>],
     at: usize,
@@ -118,7 +116,8 @@ fn read_item<'a>(
     }
 }
 
-/// Returns the declaration that an item at the index is, or `None` if none is.
+/// Returns the declaration that an item at the index is, or `None` if none is. Fails as
+/// [`declarations`] does, but never with `DeclaredTwice`.
 fn declared<'a>(tokens: &[Token<'a>], at: usize) -> Result<Option<Declaration<'a>>, ProblemAt>
     requires { at < length tokens.now }
     ensures found { IfOk result (λ found. IfSome found (λ d. Declares tokens.now at d)) }

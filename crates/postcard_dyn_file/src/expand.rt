@@ -1,9 +1,9 @@
-//! The words that a declaration stands for, where each name of another one is replaced by what that stands
-//! for.
+//! The words that a declaration stands for, where each name of another one is replaced by what that
+//! stands for.
 //!
-//! `known` has the declarations of the file, and `within` those that are being replaced, each in the
-//! one before it; the last is the one that is being written. `depth` is the number that may still be
-//! replaced inside of that.
+//! `known` has the declarations of the file, and `within` those that are being replaced, each in
+//! the one before it. `depth` is how many more may be replaced inside of the last. The functions
+//! below [`words_of`] fail as it does.
 
 ghost use Rattle.std.specs.Prelude.{◌≡◌, ℕ, ◌+◌, ◌<◌, ◌≤◌, ◌++◌, ◌∷◌, [], true, false, length};
 ghost use Rattle.std.specs.Prelude.{Decides, OnOk, IfOk, IfErr, IfSome, IfNone};
@@ -28,11 +28,8 @@ const MAX_DEPTH: usize = 64;
 /// How many words and signs a type may have, with its names replaced.
 const MAX_WORDS: usize = 65_536;
 
-/// Returns the words of a type expression that spell the type with this name.
-///
-/// # Errors
-///
-/// Fails with `NotDeclared` at the end of the file if no declaration has the name, and otherwise as
+/// Returns the words of a type expression that spell the type with this name. Fails with
+/// `NotDeclared` at the end of the file if no declaration has the name, and otherwise as
 /// [`FileProblem`] says, where the declaration, or one that it needs, is wrong.
 pub fn words_of<'a>(
     alloc: Global,
@@ -97,7 +94,7 @@ fn write_declaration<'a>(
     Ok(())
 }
 
-/// Adds what the token at the index, which is one of the declaration, stands for to the end of `out`.
+/// Adds what a token of the declaration stands for to the end of `out`.
 #[cycle(expand)]
 fn write_token<'a>(
     tokens: &[Token<'a>],
@@ -167,11 +164,8 @@ fn is_member(tokens: &[Token], kind: Kind, at: usize) -> bool
     }
 }
 
-/// Adds a declaration to those that are being replaced.
-///
-/// # Errors
-///
-/// Fails with `Recursive` if it is one of them, and with `OutOfMemory`.
+/// Adds a declaration to those that are being replaced. Fails with `Recursive` if it is one of
+/// them, and with `OutOfMemory`.
 fn enter<'a>(
     within: &mut Vec<Declaration<'a>>,
     other: &Declaration<'a>,
@@ -193,11 +187,7 @@ fn enter<'a>(
     }
 }
 
-/// Adds a word.
-///
-/// # Errors
-///
-/// Fails with `TooLong` if there are `MAX_WORDS` before it, and with `OutOfMemory`.
+/// Adds a word. Fails with `TooLong` if there are `MAX_WORDS` before it, and with `OutOfMemory`.
 fn push<'a>(out: &mut Vec<Token<'a>>, text: &'a [u8], left: usize) -> Result<(), ProblemAt>
     ensures pushed { OnOk result (spelling out.new.items
         ≡ spelling out.old.items ++ (text.now ++ 32 ∷ [])) }

@@ -1,5 +1,5 @@
-//! The tokens of a file that declarations are read from: all but those of attributes, visibilities and
-//! paths before a name.
+//! The tokens of a file that declarations are read from: all but those of attributes, visibilities
+//! and paths before a name, and `<` and `>` with nothing between them.
 
 ghost use Rattle.std.specs.Prelude.{◌≡◌, ℕ, ◌+◌, ◌<◌, false, length, Decides, IfOk, IfErr, IfSome, IfNone};
 ghost use Rattle.postcard_dyn_file.specs.Kept.{IsAttribute, IsLimit, IsScope, HasBracket};
@@ -10,11 +10,9 @@ use crate::error::{FileProblem, ProblemAt, out_of_memory};
 use crate::token::{Token, after_word, is_at, is_before, is_name_at, place_of};
 use std::alloc::Global;
 
-/// Returns the tokens that are kept.
-///
-/// # Errors
-///
-/// Fails with `OutOfMemory` if an allocation fails.
+/// Returns the tokens that are kept. Fails with `OutOfMemory`, and with `BracketOpen` if the
+/// bracket of an attribute or of a `pub` isn't closed, as each is in what
+/// [`tokens`](crate::lex::tokens) returns.
 pub fn kept<'a>(alloc: Global, tokens: &[Token<'a>]) -> Result<Vec<Token<'a>>, ProblemAt>
     ensures kept { IfOk result (λ kept. AreKept tokens.now kept.items) }
     ensures other { IfErr result (λ e. is_of_type e.problem ≡ false) }
@@ -27,8 +25,8 @@ pub fn kept<'a>(alloc: Global, tokens: &[Token<'a>]) -> Result<Vec<Token<'a>>, P
     Ok(kept)
 }
 
-/// Passes over what begins at the index, or adds its token to the end of the list, and returns the
-/// index that is read next.
+/// Passes over what begins at the index, or adds the token there to the end of the list, and
+/// returns the index that is read next. Fails as [`kept`] does.
 fn keep_next<'a>(
     tokens: &[Token<'a>],
     at: usize,
@@ -67,7 +65,8 @@ fn bracket_from(tokens: &[Token], at: usize) -> Option<usize>
     }
 }
 
-/// Returns the index of the bracket of an attribute, whose `#` is before the index.
+/// Returns the index of the `[` of the attribute whose `#` is before the index, with a `!` between
+/// them if it is `#![..]`, or `None` if there is no such `[`.
 fn attribute_bracket(tokens: &[Token], at: usize) -> Option<usize>
     ensures found { IfSome result (λ bracket. IsAttribute tokens.now at bracket) }
     ensures none { IfNone result ((b : ℕ) → IsAttribute tokens.now at b → ⊥) }
@@ -97,7 +96,7 @@ fn is_scope(tokens: &[Token], at: usize) -> bool
     }
 }
 
-/// Returns the index after `crate`, `self` or `super`.
+/// Returns the index after `crate`, `self` or `super`, or `None` if none of them is at the index.
 fn after_limit(tokens: &[Token], at: usize) -> Option<usize>
     ensures found { IfSome result (λ after. IsLimit tokens.now at × (after ≡ at + 1)) }
     ensures none { IfNone result (IsLimit tokens.now at → ⊥) }
@@ -111,7 +110,8 @@ fn after_limit(tokens: &[Token], at: usize) -> Option<usize>
     after_word(tokens, at, b"super")
 }
 
-/// Returns the index after the bracket that closes the one at the index.
+/// Returns the index after the bracket that closes the one at the index, or fails with
+/// `BracketOpen` if none does.
 fn after_bracket(tokens: &[Token], at: usize) -> Result<usize, ProblemAt>
     ensures ends { IfOk result (λ after. EndsBefore tokens.now at after) }
     ensures other { IfErr result (λ e. is_of_type e.problem ≡ false) }

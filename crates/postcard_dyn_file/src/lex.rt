@@ -1,7 +1,7 @@
 //! The tokens of a file: its words, signs and literals, without blanks, comments and lifetimes.
 //!
-//! A function whose name begins with `after_` returns the text after what its name says, if the text
-//! begins with it.
+//! A function `after_..` returns the text after what its name says, or `None` if the text doesn't
+//! begin with that.
 
 ghost use Rattle.std.specs.Prelude.{◌≡◌, ℕ, ◌<◌, List, ◌∷◌, length, false, IfOk, IfErr};
 ghost use Rattle.std.specs.Prelude.{IfSome, IfNone};
@@ -16,13 +16,10 @@ use crate::error::{FileProblem, ProblemAt, out_of_memory};
 use crate::token::Token;
 use std::alloc::Global;
 
-/// Returns the tokens of a file, in order.
-///
-/// # Errors
-///
-/// Fails with `CommentOpen` or `LiteralOpen` where one begins that isn't closed, with `AsciiExpected`
-/// at another character than of ASCII that is in none of them, with `NotOpen` at a bracket that is
-/// closed and isn't open, with `BracketOpen` at one that isn't closed, and with `OutOfMemory`.
+/// Returns the tokens of a file, in order. Fails with `CommentOpen` or `LiteralOpen` where one
+/// begins that isn't closed, with `AsciiExpected` at a character beyond ASCII outside of both, with
+/// `NotOpen` at a bracket that is closed and isn't open, with `BracketOpen` at one that isn't
+/// closed, and with `OutOfMemory`.
 pub fn tokens<'a>(alloc: Global, file: &'a [u8]) -> Result<Vec<Token<'a>>, ProblemAt>
     ensures read { IfOk result (λ tokens. IsRead file.now tokens.items) }
     ensures other { IfErr result (λ e. is_of_type e.problem ≡ false) }
@@ -38,11 +35,8 @@ pub fn tokens<'a>(alloc: Global, file: &'a [u8]) -> Result<Vec<Token<'a>>, Probl
     closed(tokens, depth)
 }
 
-/// Returns the tokens of the whole file.
-///
-/// # Errors
-///
-/// Fails with `BracketOpen` if brackets are open at its end.
+/// Returns the tokens of the whole file, or fails with `BracketOpen` if brackets are open at its
+/// end.
 fn closed(tokens: Vec<Token>, depth: usize) -> Result<Vec<Token>, ProblemAt>
     ensures closed { IfOk result (λ all. (all.items ≡ tokens.entry.items) × (depth ≡ 0)) }
     ensures other { IfErr result (λ e. is_of_type e.problem ≡ false) }
@@ -67,8 +61,8 @@ fn last_within(tokens: &[Token], depth: usize) -> usize {
     left
 }
 
-/// Reads a gap, or else a token, which it adds to the end of the list, where `depth` brackets are open.
-/// Returns the text after it, and how many are open there.
+/// Reads a gap, or else a token, which it adds to the end of the list, where `depth` brackets are
+/// open. Returns the text after it, and how many are open there. Fails as [`tokens`] does.
 fn read_next<'a>(
     text: &'a [u8],
     depth: usize,
@@ -101,7 +95,7 @@ fn read_next<'a>(
 }
 
 /// Returns how many brackets are open around the word or sign, and after it, where `depth` are open
-/// before, or `None` if it closes one and none is open.
+/// before, or `None` if the number would leave `usize`, as when one is closed and none is open.
 #[tactic(auto, unfolding(crate::specs::Lexical::HasDepth))]
 fn depths(word: &[u8], depth: usize) -> Option<(usize, usize)>
     ensures { IfSome result (λ found. HasDepth word.now depth found.0 found.1) }
@@ -119,8 +113,8 @@ fn depths(word: &[u8], depth: usize) -> Option<(usize, usize)>
     }
 }
 
-/// Returns the text after what is between tokens: a blank, a comment, or a lifetime and the comma after
-/// it.
+/// A gap is a blank, a comment, or a lifetime and the comma after it. Fails with `CommentOpen` at a
+/// comment that isn't closed.
 #[tactic(auto, unfolding(crate::specs::Lexical::IsGap))]
 fn after_gap(text: &[u8]) -> Result<Option<&[u8]>, ProblemAt>
     ensures found { IfOk result (λ found. IfSome found (λ rest. IsGap text.now rest.now)) }
@@ -139,7 +133,6 @@ fn after_gap(text: &[u8]) -> Result<Option<&[u8]>, ProblemAt>
     after_comment(text)
 }
 
-/// Returns the text after a blank.
 fn after_blank(text: &[u8]) -> Option<&[u8]>
     ensures found { IfSome result (λ rest. IsBlank text.now rest.now) }
     ensures none { IfNone result ((rest : List ℕ) → IsBlank text.now rest → ⊥) }
@@ -150,7 +143,6 @@ fn after_blank(text: &[u8]) -> Option<&[u8]>
     }
 }
 
-/// Returns the text after this byte.
 fn after_byte(text: &[u8], byte: u8) -> Option<&[u8]>
     ensures found { IfSome result (λ rest. text.now ≡ byte ∷ rest.now) }
     ensures none { IfNone result ((rest : List ℕ) → text.now ≡ byte ∷ rest → ⊥) }
@@ -161,7 +153,6 @@ fn after_byte(text: &[u8], byte: u8) -> Option<&[u8]>
     }
 }
 
-/// Returns the text after these two bytes.
 fn after_two(text: &[u8], first: u8, second: u8) -> Option<&[u8]>
     ensures found { IfSome result (λ rest. text.now ≡ first ∷ second ∷ rest.now) }
     ensures none { IfNone result (Begins first second text.now → ⊥) }
@@ -172,7 +163,7 @@ fn after_two(text: &[u8], first: u8, second: u8) -> Option<&[u8]>
     }
 }
 
-/// Returns the text after a comment that begins with `//`: nothing, or the end of its line.
+/// The text after a comment that begins with `//` is nothing, or begins with the end of its line.
 fn after_line(text: &[u8]) -> Option<&[u8]>
     ensures found { IfSome result (λ rest. IsLine text.now rest.now) }
     ensures none { IfNone result (Begins 47 47 text.now → ⊥) }
@@ -188,7 +179,7 @@ fn after_line(text: &[u8]) -> Option<&[u8]>
     Some(rest)
 }
 
-/// Returns the text after a comment in `/*` and `*/`, which may have others in it.
+/// A comment in `/*` and `*/` may have others in it. Fails with `CommentOpen` if it isn't closed.
 fn after_comment(text: &[u8]) -> Result<Option<&[u8]>, ProblemAt>
     ensures found { IfOk result (λ found. IfSome found (λ rest. IsComment text.now rest.now)) }
     ensures none { IfOk result (λ found. IfNone found (Begins 47 42 text.now → ⊥)) }
@@ -216,7 +207,7 @@ fn after_comment(text: &[u8]) -> Result<Option<&[u8]>, ProblemAt>
 }
 
 /// Returns how many comments are open after `*/`, `/*` or another byte, if `depth` are open before,
-/// and the text after it.
+/// and the text after it, or `None` if no byte is left, or the number would leave `usize`.
 fn in_comment(text: &[u8], depth: usize) -> Option<(usize, &[u8])>
     ensures { IfSome result (λ found. CommentStep (depth, text.now) (found.0, found.1.now)) }
 {
@@ -238,7 +229,7 @@ fn in_comment(text: &[u8], depth: usize) -> Option<(usize, &[u8])>
     }
 }
 
-/// Returns the text after a lifetime, as `'a`, and the comma after it if there is one.
+/// A lifetime is a word after `'`, as `'a`, and the comma after it if there is one.
 #[tactic(auto, unfolding(crate::specs::Lexical::IsLifetime))]
 fn after_lifetime(text: &[u8]) -> Option<&[u8]>
     ensures found { IfSome result (λ rest. IsLifetime text.now rest.now) }
@@ -278,7 +269,9 @@ fn is_of_word(byte: u8) -> bool
     byte.is_ascii_alphanumeric() || byte == b'_'
 }
 
-/// Returns the token that the text begins with, and the text after it.
+/// Returns the token that the text begins with, and the text after it. Fails with `LiteralOpen` if
+/// it is a literal that isn't closed, and with `AsciiExpected` if the text is empty or begins with
+/// a character beyond ASCII.
 #[tactic(auto, unfolding(crate::specs::Lexical::IsTokenAt))]
 fn token_front(text: &[u8]) -> Result<(&[u8], &[u8]), ProblemAt>
     ensures read { IfOk result (λ found. IsTokenAt found.0.now text.now found.1.now) }
@@ -291,7 +284,7 @@ fn token_front(text: &[u8]) -> Result<(&[u8], &[u8]), ProblemAt>
     other_front(text)
 }
 
-/// Returns the token that the text begins with, where no word begins it, and the text after it.
+/// Does the same where no word begins the text.
 fn other_front(text: &[u8]) -> Result<(&[u8], &[u8]), ProblemAt>
     ensures read { IfOk result (λ found. IsOtherAt found.0.now text.now found.1.now) }
     ensures other { IfErr result (λ e. is_of_type e.problem ≡ false) }
@@ -308,7 +301,8 @@ fn other_front(text: &[u8]) -> Result<(&[u8], &[u8]), ProblemAt>
     sign_front(text)
 }
 
-/// Returns the first byte of the text, and the text after it.
+/// Returns the first byte of the text, and the text after it, or fails with `AsciiExpected` as
+/// [`token_front`].
 fn sign_front(text: &[u8]) -> Result<(&[u8], &[u8]), ProblemAt>
     ensures read { IfOk result (λ found. IsSignAt found.0.now text.now found.1.now) }
     ensures other { IfErr result (λ e. is_of_type e.problem ≡ false) }
@@ -322,8 +316,8 @@ fn sign_front(text: &[u8]) -> Result<(&[u8], &[u8]), ProblemAt>
     })
 }
 
-/// Returns the literal in these quotes that the text begins with, where `inner` follows the first of
-/// them, and the text after it.
+/// Returns the literal in these quotes that the text begins with, where `inner` follows the first
+/// of them, and the text after it, or fails with `LiteralOpen` if it isn't closed.
 fn literal_front<'a>(
     text: &'a [u8],
     inner: &'a [u8],
@@ -358,7 +352,7 @@ fn after_letters(text: &[u8], quote: u8) -> Option<&[u8]>
     None
 }
 
-/// Returns the text after a letter of a literal: a `\` and the byte after it, or one byte.
+/// A letter of a literal is a `\` and the byte after it, or one byte.
 fn after_letter(text: &[u8]) -> Option<&[u8]>
     ensures { IfSome result (λ rest. IsLetter text.now rest.now) }
 {

@@ -1,19 +1,8 @@
 //! Types of messages that a file declares, in Rust's own form: [`find`].
 //!
-//! A file has the declarations of a program's source, so that these may be pasted:
-//!
-//! ```text
-//! /// What a sensor sends.
-//! #[derive(Serialize, Deserialize)]
-//! pub struct Reading { id: u32, label: String, samples: Vec<i16> }
-//! struct Pair(u8, u16);
-//! struct Unit;
-//! enum Event { Boot, Reading(Reading), Fault { code: u8, text: String } }
-//! type Millimetres = i32;
-//! ```
-//!
-//! A name stands for its declaration, wherever in the file that is: each name in the place of a type
-//! is replaced by what its declaration stands for, until a type expression is left, which is read by
+//! A file has the declarations of a program's source, so that these may be pasted. A name stands
+//! for its declaration, wherever in the file that is: each name in the place of a type is replaced
+//! by what its declaration stands for, until a type expression is left, which is read by
 //! [`postcard_dyn_schema::parse`].
 //!
 //! | A declaration | What it stands for |
@@ -24,16 +13,17 @@
 //! | `enum A { B, C(T), D { a: U } = 5 }` | `(\| B \| C(T) \| D { a: U })` |
 //! | `type A = T;` | `(T)` |
 //!
-//! Passed over are comments, attributes, lifetimes, `pub` and its limit, as `pub(crate)`, paths before
-//! a name, as in `std::string::String`, and the number of a variant, which is one word after `=`, or
-//! after `=` and `-`. An item ends with its first `;` or `}` outside of all brackets; one that doesn't begin with
-//! `struct`, `enum` or `type` is passed over. Types with parameters aren't supported. With its names
-//! replaced, a type has at most 65,536 words and signs, and in it names stand for one another at most
-//! 64 deep.
+//! Passed over are comments, attributes, lifetimes, `pub` and its limit, as `pub(crate)`, paths
+//! before a name, and the number of a variant, which is one word after `=`, or after `=` and `-`.
+//! An item ends with its first `;` or `}` outside of all brackets; one that doesn't begin with
+//! `struct`, `enum` or `type` is passed over. Types with parameters aren't supported. With its
+//! names replaced, a type has at most 65,536 words and signs, and in it names stand for one another
+//! at most 64 deep.
 //!
-//! A file is read in five steps, one module each: its tokens ([`lex`]), those that are kept ([`kept`]),
-//! the declarations ([`declaration`]), the words of a type with its names replaced ([`expand`], and for
-//! each token [`words`]), and their text ([`place`]).
+//! A file is read in five steps, one module each: its tokens ([`lex`]), those that are kept
+//! ([`kept`]), the declarations ([`declaration`]), the words of a type with its names replaced
+//! ([`expand`], and for each token [`words`]), and their text, and the line and column of an error
+//! ([`place`]).
 #![tactic(auto)]
 
 ghost use Rattle.std.specs.Prelude.{IfOk, IfErr, string_bytes};
@@ -65,9 +55,9 @@ use std::alloc::Global;
 ///
 /// # Errors
 ///
-/// Fails with what is wrong, one of [`FileProblem`], and the line and column where it is, each counted
-/// from 1. The file's tokens and declarations are looked at first, to its end, and then what the
-/// declaration of the name and those that it needs consist of: what is wrong in another one isn't found.
+/// Fails with what is wrong, one of [`FileProblem`], and the line and column where it is. The
+/// file's tokens and declarations are looked at first, to its end, and then the bodies of the
+/// declaration of the name and of those that it needs: what is wrong in another one isn't found.
 pub fn find(alloc: Global, file: &str, name: &str) -> Result<Schema, FileError>
     ensures found { IfOk result (λ schema. IsTypeOf file.now name.now schema) }
     ensures problem { IfErr result (λ e. HasProblemOf file.now name.now e.problem) }
@@ -79,8 +69,8 @@ pub fn find(alloc: Global, file: &str, name: &str) -> Result<Schema, FileError>
     }
 }
 
-/// Returns a type expression of the type with this name, which the file declares: what its declaration
-/// stands for. It begins with `(` or `{`.
+/// Returns what the declaration with this name stands for, a type expression that begins with `(`
+/// or `{`.
 ///
 /// # Errors
 ///
@@ -105,7 +95,7 @@ struct Found {
     schema: Schema,
 }
 
-/// Returns the type with this name, and its expression.
+/// Returns the type with this name, and its expression. Fails as [`find`] does.
 fn read(alloc: Global, file: &[u8], name: &[u8]) -> Result<Found, ProblemAt>
     ensures spelled { IfOk result (λ found. IsExpressionOf file.now name.now
         (string_bytes found.text)) }

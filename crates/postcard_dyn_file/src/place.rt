@@ -11,12 +11,8 @@ use crate::token::Token;
 use postcard_dyn_schema::scan::character_of;
 use std::alloc::Global;
 
-/// Returns the text of the words: each of them and a blank.
-///
-/// # Errors
-///
-/// Fails with `AsciiExpected` at a word that is no UTF-8, as no token of a text is, and with
-/// `OutOfMemory`.
+/// Returns the text of the words: each of them and a blank. Fails with `AsciiExpected` at a word
+/// that is no UTF-8, as no token of a text is, and with `OutOfMemory`.
 pub fn spelled(alloc: Global, words: &[Token]) -> Result<String, ProblemAt>
     ensures spelled { IfOk result (λ text. string_bytes text ≡ spelling words.now) }
     ensures other { IfErr result (λ e. is_of_type e.problem ≡ false) }
@@ -34,7 +30,7 @@ pub fn spelled(alloc: Global, words: &[Token]) -> Result<String, ProblemAt>
     Ok(text)
 }
 
-/// Adds a word and a blank to the text.
+/// Adds a word and a blank to the text, or fails with `OutOfMemory`.
 fn add(text: &mut String, word: &str, left: usize) -> Result<(), ProblemAt>
     ensures added { OnOk result (string_bytes text.new
         ≡ string_bytes text.old ++ (word.now ++ 32 ∷ [])) }
@@ -49,9 +45,8 @@ fn add(text: &mut String, word: &str, left: usize) -> Result<(), ProblemAt>
     }
 }
 
-/// Returns the place in the file of the word that has this character of the words' text, counted
-/// from 1: how many bytes of the file there are from the word on. Past the last word it is that of
-/// the last one.
+/// Returns how many bytes of the file there are from the word on that has this character of the
+/// words' text, counted from 1. Past the last word it is that of the last one.
 pub fn left_of(words: &[Token], character: usize) -> usize {
     let mut left = 0;
     let mut characters = character;
@@ -65,7 +60,7 @@ pub fn left_of(words: &[Token], character: usize) -> usize {
     left
 }
 
-/// Returns the error of a problem, with its line and column, each counted from 1.
+/// Returns the error of a problem, with its line and column.
 pub fn error_at(file: &[u8], problem_at: ProblemAt) -> FileError
     ensures problem { result.problem ≡ problem_at.problem }
     ensures place { IsPlace file.now (length file.now - problem_at.left) result.line result.column }

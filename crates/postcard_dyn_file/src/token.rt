@@ -74,7 +74,6 @@ pub fn is_name_at(tokens: &[Token], at: usize) -> bool
     }
 }
 
-/// Returns whether the word begins with a letter or `_`.
 fn is_name(word: &[u8]) -> bool
     ensures { Decides result (IsName word.now) }
 {

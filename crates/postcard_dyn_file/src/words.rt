@@ -47,7 +47,6 @@ fn begins_type(tokens: &[Token], declaration: &Declaration) -> bool
         && opens(text_of(tokens, declaration.kind, start))
 }
 
-/// Returns whether a text begins with `(` or `{`.
 fn opens(text: &[u8]) -> bool
     ensures { result ≡ true → Opens text.now }
 {
@@ -69,7 +68,6 @@ pub fn text_of<'a>(tokens: &[Token<'a>], kind: Kind, at: usize) -> &'a [u8]
     }
 }
 
-/// Returns the text that the token at the index stands for in a struct.
 fn struct_text<'a>(tokens: &[Token<'a>], at: usize) -> &'a [u8]
     requires { at < length tokens.now }
     ensures { IsStructText tokens.now at result.now }
@@ -83,7 +81,6 @@ fn struct_text<'a>(tokens: &[Token<'a>], at: usize) -> &'a [u8]
     b"()"
 }
 
-/// Returns the text that the token at the index stands for in a type alias.
 fn alias_text<'a>(tokens: &[Token<'a>], at: usize) -> &'a [u8]
     requires { at < length tokens.now }
     ensures { IsAliasText tokens.now at result.now }
@@ -97,7 +94,6 @@ fn alias_text<'a>(tokens: &[Token<'a>], at: usize) -> &'a [u8]
     plain_text(tokens, at)
 }
 
-/// Returns the text that the token at the index stands for in an enum.
 fn enum_text<'a>(tokens: &[Token<'a>], at: usize) -> &'a [u8]
     requires { at < length tokens.now }
     ensures { IsEnumText tokens.now at result.now }
@@ -136,7 +132,6 @@ fn plain_text<'a>(tokens: &[Token<'a>], at: usize) -> &'a [u8]
     tokens[at].text
 }
 
-/// Returns whether this sign is at the index, with this number of brackets around it.
 fn is_sign(tokens: &[Token], at: usize, depth: usize, sign: &[u8]) -> bool
     requires { at < length tokens.now }
     ensures { Decides result (IsSign depth sign.now tokens.now at) }

@@ -161,7 +161,6 @@ pub fn colon_after(path: &str) -> &'static str
     if path.is_empty() { "" } else { ": " }
 }
 
-/// Returns the word for this number of members.
 fn noun(count: usize) -> &'static str
     ensures { result.now ≡ members_text count }
 {

@@ -1,4 +1,7 @@
 //! Reading a value without parts from JSON.
+//!
+//! A function `find_..` returns `None` if the JSON is no value of its type, and fails only if an
+//! allocation fails.
 
 ghost use Rattle.std.specs.Prelude.{ℕ, ℤ, ◌<◌, ◌^◌, ◌≡◌, IfOk, IfSome, MatchOption, FitsSigned};
 ghost use Rattle.std.specs.Prelude.{true, false};
@@ -23,12 +26,8 @@ use serde_json::Value as Json;
 use std::alloc::{AllocError, Global};
 use std::num::{f32_to_bits_with_nan, f64_to_bits_with_nan, nearest_f64_to_f32_with_nan};
 
-/// Reads a value without parts.
-///
-/// # Errors
-///
-/// Fails with `NotAValue` if the JSON is no value of the type, and with `OutOfMemory` if an
-/// allocation fails.
+/// Reads a value without parts. Fails with `NotAValue` if the JSON is no value of the type, and
+/// with `OutOfMemory` if an allocation fails.
 pub fn read_leaf(alloc: Global, leaf: Leaf, json: &Json) -> Result<Value, JsonError>
     ensures { Reads (leaf_type leaf) (leaf_layout leaf) (view json.now) result }
 {
@@ -39,7 +38,6 @@ pub fn read_leaf(alloc: Global, leaf: Leaf, json: &Json) -> Result<Value, JsonEr
     }
 }
 
-/// Returns the value without parts, or `None` if the JSON is no value of the type.
 fn find_leaf(alloc: Global, leaf: Leaf, json: &Json) -> Result<Option<Value>, AllocError>
     ensures { IfOk result (Finds tree (IsReading (leaf_type leaf) (leaf_layout leaf))
         (view json.now)) }
@@ -57,7 +55,6 @@ fn find_leaf(alloc: Global, leaf: Leaf, json: &Json) -> Result<Option<Value>, Al
     }
 }
 
-/// Returns the bool, or `None` if the JSON is none.
 fn find_bool(json: &Json) -> Option<Value>
     ensures { Finds tree (IsReading (leaf_type leaves.Bool) (leaf_layout leaves.Bool))
         (view json.now) result }
@@ -68,7 +65,6 @@ fn find_bool(json: &Json) -> Option<Value>
     }
 }
 
-/// Returns the value of an unsigned type, or `None` if the JSON is no value of it.
 fn find_unsigned(leaf: Leaf, json: &Json) -> Option<Value>
     requires { IsUnsignedType leaf }
     ensures { Finds tree (IsReading (leaf_type leaf) (leaf_layout leaf)) (view json.now) result }
@@ -97,7 +93,6 @@ fn find_unsigned(leaf: Leaf, json: &Json) -> Option<Value>
     }
 }
 
-/// Returns the value of a signed type, or `None` if the JSON is no value of it.
 fn find_signed(leaf: Leaf, json: &Json) -> Option<Value>
     requires { IsSignedType leaf }
     ensures { Finds tree (IsReading (leaf_type leaf) (leaf_layout leaf)) (view json.now) result }
@@ -126,7 +121,6 @@ fn find_signed(leaf: Leaf, json: &Json) -> Option<Value>
     }
 }
 
-/// Returns the number of a fixed width, or `None` if the JSON is no value of its type.
 fn find_fixed(order: ByteOrder, integer: Integer, json: &Json) -> Option<Value>
     ensures { Finds tree (IsReading (leaf_type (leaves.Fixed order integer))
         (leaf_layout (leaves.Fixed order integer))) (view json.now) result }
@@ -137,7 +131,6 @@ fn find_fixed(order: ByteOrder, integer: Integer, json: &Json) -> Option<Value>
     }
 }
 
-/// Returns the bits of a number of the type, or `None` if the JSON is none.
 fn find_bits(integer: Integer, json: &Json) -> Option<u128>
     ensures { MatchOption result
         ((n : ℕ) → IsBitsJson (is_signed integer) integer n (view json.now) → ⊥)
@@ -150,7 +143,7 @@ fn find_bits(integer: Integer, json: &Json) -> Option<u128>
     }
 }
 
-/// Returns the number of an unsigned type, which is its bits, or `None` if the JSON is none.
+/// Returns the number, which is its bits.
 fn find_unsigned_bits(integer: Integer, json: &Json) -> Option<u128>
     ensures { MatchOption result ((n : ℕ) → IsBitsJson false integer n (view json.now) → ⊥)
         (λ n. IsBitsJson false integer n (view json.now)) }
@@ -161,7 +154,7 @@ fn find_unsigned_bits(integer: Integer, json: &Json) -> Option<u128>
     }
 }
 
-/// Returns the bits of a number of a signed type, or `None` if the JSON is none.
+/// Returns the bits of the number's two's complement.
 fn find_signed_bits(integer: Integer, json: &Json) -> Option<u128>
     ensures { MatchOption result ((n : ℕ) → IsBitsJson true integer n (view json.now) → ⊥)
         (λ n. IsBitsJson true integer n (view json.now)) }
@@ -210,7 +203,6 @@ fn signed(json: &Json) -> Option<i128>
     }
 }
 
-/// Returns the `f32` that is nearest to the JSON number, or that the string spells.
 fn find_f32(json: &Json) -> Option<Value>
     ensures { Finds tree (IsReading (leaf_type leaves.F32) (leaf_layout leaves.F32))
         (view json.now) result }
@@ -221,7 +213,6 @@ fn find_f32(json: &Json) -> Option<Value>
     }
 }
 
-/// Returns the `f64` that is nearest to the JSON number, or that the string spells.
 fn find_f64(json: &Json) -> Option<Value>
     ensures { Finds tree (IsReading (leaf_type leaves.F64) (leaf_layout leaves.F64))
         (view json.now) result }
@@ -232,7 +223,8 @@ fn find_f64(json: &Json) -> Option<Value>
     }
 }
 
-/// Returns the bits of the `f32` that is nearest to the JSON number, or that the string spells.
+/// Returns the bits of the `f32` that is nearest to the JSON number, or that the string spells, or
+/// `None` if the JSON is neither.
 fn f32_bits(json: &Json) -> Option<u32>
     ensures { MatchOption result ((bits : ℕ) → IsF32Json bits (view json.now) → ⊥)
         (λ bits. IsF32Json bits (view json.now)
@@ -254,7 +246,7 @@ fn f32_bits(json: &Json) -> Option<u32>
     None
 }
 
-/// Returns the bits of the `f64` that is nearest to the JSON number, or that the string spells.
+/// Returns the bits of the `f64`, as [`f32_bits`] those of an `f32`.
 fn f64_bits(json: &Json) -> Option<u64>
     ensures { MatchOption result ((bits : ℕ) → IsF64Json bits (view json.now) → ⊥)
         (λ bits. IsF64Json bits (view json.now)

@@ -37,7 +37,6 @@ fn number_of(digits: &[u8]) -> usize {
     }
 }
 
-/// Returns what is left of an array from the item at the index on.
 fn from_item(array: &[u8], index: usize) -> &[u8] {
     let mut rest = array;
     let _ = take(&mut rest, b'[');
@@ -72,7 +71,6 @@ fn from_member<'a>(object: &'a [u8], name: &[u8]) -> &'a [u8] {
     found
 }
 
-/// Returns whether a text is the name in quotes.
 fn is_quoted(text: &[u8], name: &[u8]) -> bool {
     match text.strip_prefix(b"\"") {
         Some(behind) => behind.strip_suffix(b"\"") == Some(name),
@@ -96,7 +94,6 @@ fn value_len(text: &[u8]) -> usize {
     }
 }
 
-/// Returns the number of bytes of the string at the front, with its quotes.
 fn string_len(text: &[u8]) -> usize {
     let mut escaped = true;
     for (i, byte) in text.iter().enumerate() {
@@ -108,7 +105,6 @@ fn string_len(text: &[u8]) -> usize {
     text.len()
 }
 
-/// Returns the number of bytes of the array or object at the front.
 fn nested_len(text: &[u8]) -> usize {
     let mut depth = 0usize;
     let mut is_text = false;
@@ -132,13 +128,11 @@ fn nested_len(text: &[u8]) -> usize {
     text.len()
 }
 
-/// Returns the number of bytes of the number or word at the front.
 fn scalar_len(text: &[u8]) -> usize {
     let end = |byte: &u8| byte.is_ascii_whitespace() || matches!(*byte, b',' | b']' | b'}');
     text.iter().position(end).unwrap_or(text.len())
 }
 
-/// Returns what is left after this number of bytes.
 fn after(text: &[u8], count: usize) -> &[u8] {
     split(text, count).1
 }

@@ -1,4 +1,4 @@
-//! Reading a value from JSON: [`from_json`].
+//! Reading a value from JSON: [`from_json`]. The functions below it fail as it does.
 
 ghost use Rattle.std.specs.Prelude.{◌≡◌, ℕ, ◌<◌, length, get_or, map, true, false, Some};
 ghost use Rattle.std.specs.Prelude.{IfOk, IfSome, IfNone, MatchResult};
@@ -50,7 +50,6 @@ pub fn from_json(alloc: Global, schema: &Schema, json: &Json) -> Result<Value, J
     read(alloc, schema, json)
 }
 
-/// Reads a value of the schema.
 #[cycle(read)]
 fn read(alloc: Global, schema: &Schema, json: &Json) -> Result<Value, JsonError>
     ensures { Reads (type_of schema.now) (layout_of schema.now) (view json.now) result }
@@ -67,7 +66,6 @@ fn read(alloc: Global, schema: &Schema, json: &Json) -> Result<Value, JsonError>
     }
 }
 
-/// Reads an option.
 #[cycle(read)]
 fn read_option(alloc: Global, content: &Schema, json: &Json) -> Result<Value, JsonError>
     ensures { Reads (types.option (type_of content.now)) (layouts.option (layout_of content.now))
@@ -89,7 +87,6 @@ fn read_option(alloc: Global, content: &Schema, json: &Json) -> Result<Value, Js
     }
 }
 
-/// Returns an option with a value.
 fn present(alloc: Global, value: Value) -> Result<Value, JsonError>
     ensures { MatchResult result (λ v. tree v ≡ Present (tree value))
         (λ e. e ≡ errors.OutOfMemory) }
@@ -100,7 +97,8 @@ fn present(alloc: Global, value: Value) -> Result<Value, JsonError>
     }
 }
 
-/// Returns the member with this name if the JSON is an object without other members.
+/// Returns the member with this name, or `None` unless the JSON is an object with this member
+/// alone.
 fn only_member<'a>(json: &'a Json, name: &str) -> Option<&'a Json>
     ensures found { IfSome result (λ found. view json.now ≡ alone name.now (view found.now)) }
     ensures none { IfNone result ((e : Data) → view json.now ≡ alone name.now e → ⊥) }
@@ -127,7 +125,6 @@ fn read_list(alloc: Global, element: &Schema, json: &Json) -> Result<Value, Json
     Ok(Value::Seq(values))
 }
 
-/// Reads an array of `count` elements.
 #[cycle(read)]
 fn read_array(
     alloc: Global,
@@ -148,7 +145,6 @@ fn read_array(
     Ok(Value::Group(values))
 }
 
-/// Reads each element from its item.
 #[cycle(read)]
 fn read_items(alloc: Global, element: &Schema, items: &Vec<Json>) -> Result<Vec<Value>, JsonError>
     ensures { Answers (HasDistinctNames (layout_of element.now)) (λ v. trees (map tree v.items))
@@ -183,7 +179,6 @@ fn read_group(alloc: Global, parts: &Vec<Schema>, json: &Json) -> Result<Value, 
     Ok(Value::Group(values))
 }
 
-/// Reads the unit.
 fn read_unit(alloc: Global, json: &Json) -> Result<Value, JsonError>
     ensures { Reads (types.group types.no_types) (layouts.group layouts.no_layouts)
         (view json.now) result }
@@ -194,9 +189,9 @@ fn read_unit(alloc: Global, json: &Json) -> Result<Value, JsonError>
     Err(JsonError::here(alloc, Expected::Null))
 }
 
-/// Returns the error for JSON that isn't an object with as many members, or, if `named` is false, an
-/// array with as many items as a struct or a tuple has parts. It names the first field that an object
-/// lacks, or else a member that is no field.
+/// Returns the error for JSON that isn't an object with as many members, or, if `named` is false,
+/// an array with as many items as there are parts. It names the first field that an object lacks,
+/// or else a member that is no field.
 fn length_error(alloc: Global, parts: &Vec<Schema>, json: &Json, named: bool) -> JsonError {
     if !named {
         return JsonError::here(alloc, Expected::ArrayOf(parts.len()));
@@ -215,7 +210,7 @@ fn length_error(alloc: Global, parts: &Vec<Schema>, json: &Json, named: bool) ->
     JsonError::here(alloc, Expected::ObjectOf(parts.len()))
 }
 
-/// Returns the name of the first field that JSON has no member for.
+/// Returns the name of the first field that JSON has no member for, or `None` if it has all.
 fn missing<'a>(parts: &'a Vec<Schema>, json: &Json) -> Option<&'a str>
     ensures { IfSome result (λ name. (e : Data) → get name.now (view json.now) ≡ Some e → ⊥) }
 {
@@ -229,7 +224,6 @@ fn missing<'a>(parts: &'a Vec<Schema>, json: &Json) -> Option<&'a str>
     None
 }
 
-/// Returns whether a field has this name.
 fn has_field(parts: &Vec<Schema>, name: &[u8]) -> bool
     ensures { result ≡ false → IsNewTo parts.now.items name.now }
 {
@@ -298,7 +292,6 @@ fn read_parts(
     Ok(values)
 }
 
-/// Reads the part at an index.
 #[cycle(read)]
 fn read_part(
     alloc: Global,
@@ -317,7 +310,7 @@ fn read_part(
 }
 
 /// Returns the JSON of the part at an index: of a struct the member with the part's name, and of a
-/// tuple the item at the index.
+/// tuple the item at the index. `None` if it has none.
 fn find_part<'a>(json: &'a Json, part: &Schema, index: usize, named: bool) -> Option<&'a Json>
     ensures found { IfSome result (λ found. part_of named index (layout_of part.now)
         (view json.now) ≡ Some (view found.now)) }
@@ -344,7 +337,6 @@ fn at_part(error: JsonError, alloc: Global, part: &Schema, index: usize) -> Json
     }
 }
 
-/// Reads a variant.
 #[cycle(read)]
 fn read_variant(alloc: Global, variants: &Vec<Schema>, json: &Json) -> Result<Value, JsonError>
     ensures { Reads (types.choice (types_of variants.now.items))
@@ -401,7 +393,6 @@ fn is_called(json: &Json, variant: &Schema) -> bool
     }
 }
 
-/// Returns whether the JSON is this string.
 fn is_text(json: &Json, text: &str) -> bool
     ensures same { result ≡ true → view json.now ≡ string text.now }
     ensures other { result ≡ false → view json.now ≡ string text.now → ⊥ }
@@ -412,7 +403,6 @@ fn is_text(json: &Json, text: &str) -> bool
     }
 }
 
-/// Reads the content of the variant with this name.
 #[cycle(read)]
 fn read_content(
     alloc: Global,

@@ -1,4 +1,4 @@
-//! The JSON of a value: [`to_json`].
+//! The JSON of a value: [`to_json`]. The functions below it return `None` and fail as it does.
 
 ghost use Rattle.std.specs.Prelude.{◌≡◌, ◌<◌, ◌^◌, IfOk, IfSome, Some, map, option_map};
 ghost use Rattle.std.specs.Char.{encode_utf8};
@@ -65,7 +65,6 @@ pub fn to_json(alloc: Global, schema: &Schema, value: &Value) -> Result<Option<J
     }
 }
 
-/// Returns an object with one member.
 fn alone(alloc: Global, name: &str, content: Json) -> Result<Json, AllocError>
     ensures { IfOk result (λ j. view j ≡ alone name.now (view content)) }
 {
@@ -74,7 +73,6 @@ fn alone(alloc: Global, name: &str, content: Json) -> Result<Json, AllocError>
     Ok(Json::Object(members))
 }
 
-/// Returns the JSON of an option.
 #[cycle(write)]
 fn write_option(alloc: Global, content: &Schema, value: &Value) -> Result<Option<Json>, AllocError>
     ensures { IfOk result (λ o. IfSome o (λ j. Some (view j)
@@ -109,7 +107,6 @@ pub fn may_be_null(schema: &Schema) -> bool
     }
 }
 
-/// Returns the array of the JSON of each element.
 #[cycle(write)]
 fn write_list(
     alloc: Global,
@@ -209,7 +206,6 @@ fn write_struct(
     Ok(Some(Json::Object(members)))
 }
 
-/// Returns the JSON of a variant.
 #[cycle(write)]
 fn write_variant(alloc: Global, variant: &Schema, value: &Value) -> Result<Option<Json>, AllocError>
     ensures { IfOk result (λ o. IfSome o (λ j. Some (view j)
@@ -227,7 +223,6 @@ fn write_variant(alloc: Global, variant: &Schema, value: &Value) -> Result<Optio
     Ok(Some(alone(alloc, name, json)?))
 }
 
-/// Returns the JSON of a value without parts.
 fn write_leaf(alloc: Global, leaf: Leaf, value: &Value) -> Result<Option<Json>, AllocError>
     ensures { IfOk result (λ o. IfSome o (λ j. Some (view j)
         ≡ leaf_json leaf (tree value.now))) }
@@ -276,7 +271,6 @@ fn write_bits(alloc: Global, integer: Integer, bits: u128) -> Result<Option<Json
     }
 }
 
-/// Returns the JSON of a number that isn't negative.
 fn write_unsigned(alloc: Global, n: u128) -> Result<Option<Json>, AllocError>
     ensures { IfOk result (λ o. IfSome o (λ j. Some (view j) ≡ Some (unsigned_json n))) }
 {
@@ -287,7 +281,6 @@ fn write_unsigned(alloc: Global, n: u128) -> Result<Option<Json>, AllocError>
     Ok(Some(Json::String(digits)))
 }
 
-/// Returns the JSON of a signed number.
 fn write_signed(alloc: Global, n: i128) -> Result<Option<Json>, AllocError>
     ensures { IfOk result (λ o. IfSome o (λ j. Some (view j) ≡ Some (signed_json n))) }
 {
@@ -306,7 +299,6 @@ fn write_i8(alloc: Global, n: i8) -> Result<Option<Json>, AllocError>
     write_signed(alloc, i128::from(n))
 }
 
-/// Returns the JSON of the `f32` with these bits.
 fn write_f32(alloc: Global, bits: u32) -> Result<Option<Json>, AllocError>
     ensures { IfOk result (λ o. IfSome o (λ j. Some (view j) ≡ leaf_json F32 (bits_tree 4 bits))) }
 {
@@ -325,7 +317,6 @@ fn write_f32(alloc: Global, bits: u32) -> Result<Option<Json>, AllocError>
     }
 }
 
-/// Returns the JSON of the `f64` with these bits.
 fn write_f64(alloc: Global, bits: u64) -> Result<Option<Json>, AllocError>
     ensures { IfOk result (λ o. IfSome o (λ j. Some (view j) ≡ leaf_json F64 (bits_tree 8 bits))) }
 {
@@ -344,7 +335,6 @@ fn write_f64(alloc: Global, bits: u64) -> Result<Option<Json>, AllocError>
     }
 }
 
-/// Returns the string of one character.
 fn write_char(alloc: Global, c: char) -> Result<Option<Json>, AllocError>
     ensures { IfOk result (λ o. IfSome o (λ j. Some (view j) ≡ Some (string (encode_utf8 c)))) }
 {
@@ -353,7 +343,6 @@ fn write_char(alloc: Global, c: char) -> Result<Option<Json>, AllocError>
     Ok(Some(Json::String(text)))
 }
 
-/// Returns the text as a string of JSON.
 fn write_text(alloc: Global, text: &str) -> Result<Option<Json>, AllocError>
     ensures { IfOk result (λ o. IfSome o (λ j. Some (view j) ≡ Some (string text.now))) }
 {

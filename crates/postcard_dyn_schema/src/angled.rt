@@ -1,4 +1,5 @@
-//! Types of Rust that have types in `<` and `>`, such as `Vec<T>`, and their schemas.
+//! Types of Rust that have types in `<` and `>`, such as `Vec<T>`, and their schemas. Each function
+//! fails at the front of `start`, and with `OutOfMemory` if an allocation fails.
 
 ghost use Rattle.std.specs.Prelude.{◌≡◌, [], ◌∷◌, IfOk, IfErr};
 ghost use Rattle.postcard_dyn_schema.specs.declared.angled.Pair.TheVariants as pairs;
@@ -35,13 +36,9 @@ pub enum Holder {
 }
 
 impl Holder {
-    /// Returns the schema of the type where `T` is the type of `inner`.
-    ///
-    /// # Errors
-    ///
-    /// Fails at the front of `start`: with `NoBytes` if it is a list and `T` has no bytes, with
-    /// `NumberExpected` if it is `LE` or `BE` and `T` is no number of 16 to 128 bits, and with
-    /// `OutOfMemory` if an allocation fails.
+    /// Returns the schema of the type where `T` is the type of `inner`. Also fails with `NoBytes`
+    /// if it is a list and `T` has no bytes, and with `NumberExpected` if it is `LE` or `BE` and
+    /// `T` is no number of 16 to 128 bits.
     pub fn of_type(self, alloc: Global, inner: Schema, start: &[u8]) -> Result<Schema, ProblemAt>
         ensures made { IfOk result (λ schema. MayHold self (type_of inner) × IsHolderOf self inner schema) }
         ensures refused { IfErr result (λ found. IsRefusal found.problem (MayHold self (type_of inner))) }
@@ -69,12 +66,8 @@ pub enum Pair {
 }
 
 impl Pair {
-    /// Returns the schema of the type where these are its two types, in order.
-    ///
-    /// # Errors
-    ///
-    /// Fails at the front of `start`: with `NoBytes` if it is a map and its entries have no bytes,
-    /// and with `OutOfMemory` if an allocation fails.
+    /// Returns the schema of the type where these are its two types, in order. Also fails with
+    /// `NoBytes` if it is a map and its entries have no bytes.
     pub fn of_types(
         self,
         alloc: Global,
@@ -94,12 +87,8 @@ impl Pair {
     }
 }
 
-/// Returns a [`Schema::Map`] of the types of key and value.
-///
-/// # Errors
-///
-/// Fails at the front of `start`: with `NoBytes` if its entries have no bytes, and with
-/// `OutOfMemory` if an allocation fails.
+/// Returns a [`Schema::Map`] of the types of key and value. Also fails with `NoBytes` if its
+/// entries have no bytes.
 pub fn map_of(alloc: Global, key: Schema, value: Schema, start: &[u8]) -> Result<Schema, ProblemAt>
     ensures made { IfOk result (λ schema. MayPair pairs.Map (type_of key) (type_of value)
         × IsPairOf pairs.Map key value schema) }

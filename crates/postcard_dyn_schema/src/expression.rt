@@ -14,23 +14,15 @@
 //! variant  = Name [tuple | "{" fields "}"]
 //! ```
 //!
-//! An enum with a single variant needs the leading `|`. As in Rust, `(T)` is the type `T`, and
-//! `(T,)` is a tuple of one part. The fields of a struct have different names, and so have the
-//! variants of an enum; a count is an integer literal, as `16`, `0x10` or `1_024` ([`number_of`]),
-//! below 2^64.
+//! An enum with a single variant needs the leading `|`. `(T)` is the type `T`, and `(T,)` is a
+//! tuple of one part. The fields of a struct have different names, and so have the variants of an
+//! enum; a count is an integer literal below 2^64.
 //!
-//! [`number_of`]: crate::literal::number_of
-//!
-//! A word is the name of a type without parts, such as `u16` or `String` ([`TypeName`]). A type that
-//! begins with a capital letter is an enum if `|`, `(` or `{` follows its first word, and else that
-//! word names a type of Rust. So `String | Number` is an enum, and `[String]` a list of texts.
-//!
-//! `Box<T>` is the type `T`, `Vec<T>` is `[T]`, `Option<T>` is `T?`, a `BTreeMap<K, V>` or
-//! `HashMap<K, V>` is `{K => V}`, and `Result<T, E>` is `Ok(T) | Err(E)`. `&T` is the type `T`, since
-//! a reference is written as what it refers to; the name of a lifetime, as `a` in `&'a str`, begins
-//! with no digit. `LE<T>` and `BE<T>` are the number `T` at its full width, the lowest byte first or
-//! the highest; `T` is one of `u16` to `u128` and `i16` to `i128`, or `usize` or `isize`, which are
-//! `u64` and `i64`.
+//! A word is the name of a type without parts ([`TypeName`]), and [`Angled`](crate::angled::Angled)
+//! has the names before a `<`. A type that begins with a capital letter is an enum if `|`, `(` or
+//! `{` follows its first word, and else that word names a type of Rust. So `String | Number` is an
+//! enum, and `[String]` a list of texts. `&T` is the type `T`, since a reference is written as what
+//! it refers to; the name of a lifetime begins with no digit.
 
 ghost use Rattle.std.specs.Prelude.{◌≡◌, ℕ, List, ◌+◌, ◌≤◌, true, length, Decides, IfOk, IfErr, OnOk, OnErr};
 ghost use Rattle.postcard_dyn_schema.specs.Text.{characters, TakesPhrase, IsSign, EndsWord, GoesOnBy};
@@ -60,21 +52,18 @@ use std::alloc::Global;
 /// How deep types may nest in brackets, where the outermost type has depth 1.
 const MAX_DEPTH: usize = 64;
 
-/// The greatest number of `?` after a type.
+/// The most `?` after a type.
 const MAX_OPTIONS: usize = 4;
 
 /// Reads a type expression, such as `{id: u16, label: str, samples: [i32]}`, and returns its type.
-/// Each text of the grammar of this module is accepted, within the limits below, if no allocation fails.
+/// Each text of the grammar of this module is accepted, but for the limits that [`Problem`] names,
+/// if no allocation fails. The functions below fail as this does.
 ///
 /// # Errors
 ///
 /// Fails with what is wrong, one of [`Problem`], and the character where it is, counted from 1.
-///
-/// The problem is `NoBytes` if the elements of a list or an array, or the entries of a map, have no
-/// bytes, since a short message could then hold any number of them. It is `TooDeep` if types are
-/// nested more than 64 deep in brackets, or if more than 4 `?` follow a type. It is `NumberExpected`
-/// if the type in the `<` of `LE` or `BE` is no number of 16 to 128 bits. It is `AsciiExpected`, at that
-/// letter, if a name begins or goes on with a letter beyond ASCII.
+/// `AsciiExpected` is at the letter beyond ASCII. `NoBytes` is a problem since a short message
+/// could then hold any number of elements.
 pub fn parse(alloc: Global, text: &str) -> Result<Schema, ExpressionError>
     ensures spelled { IfOk result (λ schema. IsExpression schema text.now) }
     ensures one { IfOk result (λ schema. (other : Schema)
@@ -161,7 +150,6 @@ fn begins_enum(text: &[u8]) -> bool
     follows_name(rest)
 }
 
-/// Returns whether `|`, `(` or `{` comes next.
 fn follows_name(text: &[u8]) -> bool
     ensures { Decides result (Starts is_after_first_name text.now) }
 {
@@ -178,7 +166,7 @@ fn is_after_name(byte: u8) -> bool
     byte == b'|' || byte == b'(' || byte == b'{'
 }
 
-/// Reads a type that is no enum, with any number of `&` before it and without the `?` after it.
+/// Reads a type that is no enum, without the `?` after it.
 #[cycle(expression)]
 fn read_referred(alloc: Global, rest: &mut &[u8], depth: usize) -> Result<Schema, ProblemAt>
     ensures spelled { IfOk result (λ schema. TakesPhrase (IsReferred (IsType depth) schema)
@@ -194,7 +182,7 @@ fn read_referred(alloc: Global, rest: &mut &[u8], depth: usize) -> Result<Schema
     read_plain(alloc, rest, depth)
 }
 
-/// Reads a type that is no enum, with no `&` before it and without the `?` after it.
+/// Reads a type that is no enum, without the `&` before it and the `?` after it.
 #[cycle(expression)]
 fn read_plain(alloc: Global, rest: &mut &[u8], depth: usize) -> Result<Schema, ProblemAt>
     ensures spelled { IfOk result (λ schema. TakesPhrase (IsPlain (IsType depth) schema)
@@ -216,7 +204,6 @@ fn read_plain(alloc: Global, rest: &mut &[u8], depth: usize) -> Result<Schema, P
     read_worded(alloc, rest, depth)
 }
 
-/// Reads a type that begins with a word.
 #[cycle(expression)]
 fn read_worded(alloc: Global, rest: &mut &[u8], depth: usize) -> Result<Schema, ProblemAt>
     ensures spelled { IfOk result (λ schema. TakesPhrase (IsWorded (IsType depth) schema)
@@ -243,11 +230,8 @@ fn read_worded(alloc: Global, rest: &mut &[u8], depth: usize) -> Result<Schema, 
     }
 }
 
-/// Takes the `<` after the name of a type, with which `name` begins.
-///
-/// # Errors
-///
-/// Fails with `UnknownType` at the name if something else follows it.
+/// Takes the `<` after the name of a type, with which `name` begins, or fails with `UnknownType` at
+/// the name if something else follows it.
 fn open_angle(rest: &mut &[u8], name: &[u8]) -> Result<(), ProblemAt>
     ensures taken { OnOk result (TakesPhrase (IsSign 60) rest.old.now rest.new.now) }
     ensures none { OnErr result ((after : List ℕ)
@@ -259,7 +243,6 @@ fn open_angle(rest: &mut &[u8], name: &[u8]) -> Result<(), ProblemAt>
     Err(problem_at(Problem::UnknownType, name))
 }
 
-/// Reads the types and the `>` after the `<` of a type, and returns that type.
 #[cycle(expression)]
 fn read_angled(
     alloc: Global,
@@ -280,7 +263,7 @@ fn read_angled(
     }
 }
 
-/// Reads a type and `>` after the `<` of a type of one type, and returns that type.
+/// Reads a type and `>`, and returns the type of the holder.
 #[cycle(expression)]
 fn read_holder(
     alloc: Global,
@@ -300,8 +283,7 @@ fn read_holder(
     holder.of_type(alloc, inner, start)
 }
 
-/// Reads two types, with `,` between them, and `>` after the `<` of a type of two types, and
-/// returns that type.
+/// Reads two types, with `,` between them, and `>`, and returns the type of the pair.
 #[cycle(expression)]
 fn read_pair(alloc: Global, pair: Pair, rest: &mut &[u8], depth: usize) -> Result<Schema, ProblemAt>
     ensures spelled { IfOk result (λ schema. TakesPhrase
@@ -447,7 +429,6 @@ fn begins_field(text: &[u8]) -> bool
     !word.is_empty() && take(&mut rest, b':')
 }
 
-/// Reads the fields of a struct after its `{`, and the `}`.
 #[cycle(expression)]
 fn read_fields(alloc: Global, rest: &mut &[u8], depth: usize) -> Result<Schema, ProblemAt>
     ensures spelled { IfOk result (λ schema. TakesPhrase (IsFieldsRest (IsType depth) schema)
@@ -479,7 +460,6 @@ fn read_fields(alloc: Global, rest: &mut &[u8], depth: usize) -> Result<Schema, 
     Err(problem_at(Problem::FieldExpected, rest))
 }
 
-/// Reads the key type and the value type of a map after its `{`, and the `}`.
 #[cycle(expression)]
 fn read_map(alloc: Global, rest: &mut &[u8], depth: usize) -> Result<Schema, ProblemAt>
     ensures spelled { IfOk result (λ schema. TakesPhrase (IsMapRest (IsType depth) schema)
@@ -496,7 +476,6 @@ fn read_map(alloc: Global, rest: &mut &[u8], depth: usize) -> Result<Schema, Pro
     map_of(alloc, key, value, start)
 }
 
-/// Reads an enum: its variants, with `|` between them.
 #[cycle(expression)]
 fn read_enum(alloc: Global, rest: &mut &[u8], depth: usize) -> Result<Schema, ProblemAt>
     ensures spelled { IfOk result (λ schema. TakesPhrase (IsEnumText (IsType depth) schema)
@@ -550,7 +529,6 @@ fn read_variant(
     named(alloc, name, content, start)
 }
 
-/// Reads the content of a variant: a tuple, a struct, or nothing.
 #[cycle(expression)]
 fn read_content(alloc: Global, rest: &mut &[u8], depth: usize) -> Result<Schema, ProblemAt>
     ensures spelled { IfOk result (λ schema. TakesPhrase (IsContent (IsType depth) schema)

@@ -1,8 +1,6 @@
-//! Types of messages that are known only at run time: [`Schema`], and the text that describes one.
-//!
-//! [`parse`] reads an expression such as `{id: u16, label: str, samples: [i32]}`. A schema means
-//! a set of trees, those of the messages of its type (`specs/Meaning.antt`). The crate
-//! `postcard_dyn` reads and writes values of a schema, and `postcard_dyn_text` their texts.
+//! Types of messages that are known only at run time: [`Schema`], and the text that describes one,
+//! as `{id: u16, label: str, samples: [i32]}` ([`parse`]). A schema means a set of trees, those of
+//! the messages of its type (`specs/Meaning.antt`).
 #![tactic(auto)]
 
 pub mod angled;

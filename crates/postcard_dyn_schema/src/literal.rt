@@ -22,12 +22,8 @@ pub enum LiteralError {
     TooLarge,
 }
 
-/// Returns the number that a word spells.
-///
-/// # Errors
-///
-/// Fails with `Malformed` if the word is no integer literal, and with `TooLarge` if it is one of a
-/// number that `u128` doesn't hold.
+/// Returns the number that a word spells. Fails with `Malformed` if the word is no integer literal,
+/// and with `TooLarge` if it is one of a number that `u128` doesn't hold.
 pub fn number_of(word: &[u8]) -> Result<u128, LiteralError>
     ensures spelled { IfOk result (λ n. IsLiteral n word.now) }
     ensures refused { IfErr result (λ e. IsNoNumber (λ n. IsLiteral n word.now) e) }
@@ -57,7 +53,7 @@ fn marked(word: &[u8]) -> Option<(u32, &[u8])>
     }
 }
 
-/// Returns the number that digits of a radix spell.
+/// Returns the number that digits of a radix spell. Fails as [`number_of`] does.
 fn digits_of(digits: &[u8], radix: u32) -> Result<u128, LiteralError>
     requires low { 2 ≤ radix }
     requires high { radix ≤ 16 }
@@ -103,14 +99,12 @@ fn are_digits(bytes: &[u8], radix: u32) -> bool
     !are_underscores(bytes) && are_of_digits(bytes, radix)
 }
 
-/// Returns whether each byte is a `_`.
 fn are_underscores(bytes: &[u8]) -> bool
     ensures { Decides result (AllPass is_underscore bytes.now) }
 {
     bytes.iter().all(|byte| *byte == b'_')
 }
 
-/// Returns whether each byte is a digit of the radix or a `_`.
 fn are_of_digits(bytes: &[u8], radix: u32) -> bool
     requires low { 2 ≤ radix }
     requires high { radix ≤ 16 }

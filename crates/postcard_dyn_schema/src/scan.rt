@@ -1,7 +1,8 @@
 //! Functions that take signs, words and counts from the front of a text.
 //!
 //! The parameter `rest` is the part of the text that isn't read yet; what a function takes is
-//! dropped from its front. Blanks are the white space of ASCII.
+//! dropped from its front. Blanks are the white space of ASCII. A function fails with `OutOfMemory`
+//! at the front of `rest` if an allocation fails.
 
 ghost use Rattle.std.specs.Prelude.{◌≡◌, ◌⊎◌, ℕ, ◌+◌, ◌-◌, ◌*◌, ◌^◌, ◌<◌, ◌++◌, ◌≤◌, List, [], ◌∷◌, true, false, take, length};
 ghost use Rattle.std.specs.Prelude.{Box, Decides, SomeIff, IfOk, IfErr, OnErr, OnOk, string_bytes};
@@ -86,8 +87,8 @@ pub fn skip_blanks(rest: &mut &[u8])
     *rest = rest.trim_ascii_start();
 }
 
-/// Takes the blanks at the front and then `byte`, and returns `true`. If another byte follows the
-/// blanks, or none, it takes nothing and returns `false`.
+/// Takes the blanks at the front and then `byte`, and returns `true`; or, if something else follows
+/// the blanks, takes nothing and returns `false`.
 pub fn take(rest: &mut &[u8], byte: u8) -> bool
     ensures taken { result ≡ true → TakesPhrase (IsSign byte) rest.old.now rest.new.now }
     ensures left { result ≡ false → rest.new.now ≡ rest.old.now }
@@ -103,12 +104,8 @@ pub fn take(rest: &mut &[u8], byte: u8) -> bool
     }
 }
 
-/// Takes the blanks at the front and then `byte`.
-///
-/// # Errors
-///
-/// Fails with `problem` if another byte follows the blanks, or none. The blanks are taken, and the
-/// problem is at what follows them.
+/// Takes the blanks at the front and then `byte`. Fails with `problem` at what follows the blanks
+/// if it is something else. The blanks are taken then.
 pub fn expect(rest: &mut &[u8], byte: u8, problem: Problem) -> Result<(), ProblemAt>
     ensures taken { OnOk result (TakesPhrase (IsSign byte) rest.old.now rest.new.now) }
     ensures refused { IfErr result (λ found. (found.problem ≡ problem)
@@ -149,11 +146,8 @@ fn is_of_word(byte: u8) -> bool
     byte.is_ascii_alphanumeric() || byte == b'_'
 }
 
-/// Takes a lifetime, such as `'a`, if `'` comes next.
-///
-/// # Errors
-///
-/// Fails with `LifetimeExpected` if no name follows the `'`, or one that begins with a digit.
+/// Takes a lifetime, such as `'a`, if `'` comes next. Fails with `LifetimeExpected` if no name
+/// follows the `'`, or one that begins with a digit.
 pub fn skip_lifetime(rest: &mut &[u8]) -> Result<(), ProblemAt>
     ensures taken { OnOk result (TakesLifetime rest.old.now rest.new.now) }
     ensures none { OnErr result ((after : List ℕ) → TakesLifetime rest.old.now after → ⊥) }
@@ -169,13 +163,9 @@ pub fn skip_lifetime(rest: &mut &[u8]) -> Result<(), ProblemAt>
     Ok(())
 }
 
-/// Takes the blanks at the front and then the count of an array, which it returns: an integer literal,
-/// as `16`, `0x10` or `1_024`.
-///
-/// # Errors
-///
-/// Fails with `CountExpected` if the next word isn't one, and with `CountTooLarge` if the count
-/// doesn't fit in a `usize`.
+/// Takes the blanks at the front and then the count of an array, which it returns: an integer
+/// literal, as `16`, `0x10` or `1_024`. Fails with `CountExpected` if the next word isn't one, and
+/// with `CountTooLarge` if the count doesn't fit in a `usize`.
 pub fn take_count(rest: &mut &[u8]) -> Result<usize, ProblemAt>
     ensures taken { IfOk result (λ count. TakesPhrase (IsCount count) rest.old.now rest.new.now) }
     ensures one { IfOk result (λ count. (n : ℕ) (after : List ℕ)
@@ -198,10 +188,6 @@ pub fn take_count(rest: &mut &[u8]) -> Result<usize, ProblemAt>
 }
 
 /// Puts a type into a `Box`.
-///
-/// # Errors
-///
-/// Fails with `OutOfMemory` at the front of `rest` if the allocation fails.
 pub fn boxed(alloc: Global, schema: Schema, rest: &[u8]) -> Result<Box<Schema>, ProblemAt>
     ensures held { IfOk result (λ held. held.value ≡ schema) }
     ensures refused { IfErr result (λ found. found.problem ≡ Problem.OutOfMemory) }
@@ -212,12 +198,8 @@ pub fn boxed(alloc: Global, schema: Schema, rest: &[u8]) -> Result<Box<Schema>, 
     }
 }
 
-/// Returns a [`Schema::Named`] of the name and the type.
-///
-/// # Errors
-///
-/// Fails at the front of `rest`: with `OutOfMemory` if an allocation fails, and with
-/// `FieldExpected` if the name is not UTF-8.
+/// Returns a [`Schema::Named`] of the name and the type. Also fails with `FieldExpected`, at the
+/// front of `rest`, if the name is not UTF-8.
 pub fn named(alloc: Global, name: &[u8], schema: Schema, rest: &[u8]) -> Result<Schema, ProblemAt>
     ensures held { IfOk result (λ whole. (text : String Global) × (held : Box Schema Global)
         × (whole ≡ Named text held) × (string_bytes text ≡ name.now) × (held.value ≡ schema)) }
@@ -234,10 +216,6 @@ pub fn named(alloc: Global, name: &[u8], schema: Schema, rest: &[u8]) -> Result<
 }
 
 /// Adds a type to the end of the list.
-///
-/// # Errors
-///
-/// Fails with `OutOfMemory` at the front of `rest` if an allocation fails.
 pub fn push(schemas: &mut Vec<Schema>, schema: Schema, rest: &[u8]) -> Result<(), ProblemAt>
     ensures added { OnOk result (schemas.new.items ≡ schemas.old.items ++ schema ∷ []) }
     ensures refused { IfErr result (λ found. found.problem ≡ Problem.OutOfMemory) }

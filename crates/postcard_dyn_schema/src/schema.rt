@@ -9,11 +9,12 @@ ghost use Rattle.postcard_dyn_schema.specs.Meaning.{types_of};
 
 use crate::fixed::{ByteOrder, Integer};
 
-/// A type without parts. Each is read by one call of `Deserializer` and written by one of
-/// `Serializer`, but for the floats, whose bits are read and written at their full width, so that
-/// each NaN is kept, and the numbers of a fixed width.
+/// A type without parts. Each is read and written by one call of `Deserializer` and `Serializer`,
+/// but for the numbers of a fixed width, and for the floats, whose bits are kept, also those of a
+/// NaN.
 ///
-/// `usize` and `isize` are `U64` and `I64` here, since the format writes them as numbers of 64 bits.
+/// `usize` and `isize` are `U64` and `I64` here, since the format writes them as numbers of 64
+/// bits.
 #[derive(Clone, Copy, Debug, PartialEq, Eq)]
 pub enum Leaf {
     Bool,
@@ -139,7 +140,6 @@ impl Schema {
     }
 }
 
-/// Returns whether at least one of the types has only messages of one byte or more.
 #[cycle(has_bytes)]
 fn any_has_bytes(parts: &Vec<Schema>) -> bool
     ensures { result ≡ some_has_bytes (types_of parts.now.items) }

@@ -1,4 +1,5 @@
-//! The parts of a type that have no greatest size: [`endless_parts`].
+//! The parts of a type that have no greatest size: [`endless_parts`]. The functions below it fail
+//! as it does.
 
 ghost use Rattle.std.specs.Prelude.{◌≡◌, ◌++◌, ◌∷◌, [], if◌then◌else◌, None, Some};
 ghost use Rattle.std.specs.Prelude.{IfErr, IfOk, OnOk, map, string_bytes};
@@ -14,8 +15,8 @@ use std::alloc::Global;
 ///
 /// A field and a variant is its name, and a part of a tuple its number, counted from 0, each with a
 /// `.` before it, unless it comes first; `[]` stands for each element of a list or an array, and
-/// each entry of a map, whose key is part 0 and whose value part 1. An array without elements has no
-/// parts.
+/// each entry of a map, whose key is part 0 and whose value part 1. An array without elements has
+/// no parts.
 ///
 /// # Errors
 ///
@@ -63,7 +64,6 @@ fn push_endless(alloc: Global, schema: &Schema, path: &str, paths: &mut Vec<Stri
     }
 }
 
-/// Appends the path of a type without parts, if it has no greatest size.
 fn push_leaf(alloc: Global, leaf: Leaf, path: &str, paths: &mut Vec<String>) -> Result<()>
     ensures added { OnOk result (map string_bytes paths.new.items ≡ map string_bytes paths.old.items
         ++ (if is_endless_leaf leaf then path.now ∷ [] else [])) }
@@ -75,7 +75,6 @@ fn push_leaf(alloc: Global, leaf: Leaf, path: &str, paths: &mut Vec<String>) -> 
     }
 }
 
-/// Appends a path.
 fn push_path(alloc: Global, path: &str, paths: &mut Vec<String>) -> Result<()>
     ensures added { OnOk result (map string_bytes paths.new.items
         ≡ map string_bytes paths.old.items ++ path.now ∷ []) }
@@ -86,7 +85,6 @@ fn push_path(alloc: Global, path: &str, paths: &mut Vec<String>) -> Result<()>
     Ok(())
 }
 
-/// Appends the paths of the parts of each element of the list or array at a path.
 #[cycle(endless)]
 fn push_in_elements(
     alloc: Global,
@@ -102,7 +100,6 @@ fn push_in_elements(
     push_endless(alloc, element, &own, paths)
 }
 
-/// Appends the paths of the parts of the tuple or struct at a path.
 #[cycle(endless)]
 fn push_in_parts(
     alloc: Global,
@@ -121,7 +118,6 @@ fn push_in_parts(
     Ok(())
 }
 
-/// Appends the paths of the parts of the enum at a path.
 #[cycle(endless)]
 fn push_in_variants(
     alloc: Global,

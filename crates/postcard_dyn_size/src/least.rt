@@ -1,4 +1,5 @@
-//! The least number of bytes of the messages of a type: [`min_size`].
+//! The least number of bytes of the messages of a type: [`min_size`]. The functions below it return
+//! `None` where it does.
 
 ghost use Rattle.std.specs.Prelude.{◌≡◌, Some};
 ghost use Rattle.postcard_wire.specs.Reading.{IsArray, IsGroup, IsVariant};
@@ -29,7 +30,6 @@ pub fn min_size(schema: &Schema) -> Option<usize>
     }
 }
 
-/// Returns the least number of bytes of a message of a type without parts.
 fn min_leaf_size(leaf: Leaf) -> usize
     ensures { result ≡ leaf_least leaf }
 {
@@ -44,7 +44,6 @@ fn min_leaf_size(leaf: Leaf) -> usize
     }
 }
 
-/// Returns the least number of bytes of an array of `count` elements.
 #[cycle(least)]
 fn min_array_size(element: &Schema, count: usize) -> Option<usize>
     ensures { IsLeastSize result (IsArray count (reads (type_of element.now))) }
@@ -52,7 +51,6 @@ fn min_array_size(element: &Schema, count: usize) -> Option<usize>
     array_size(count, min_size(element))
 }
 
-/// Returns the least number of bytes of the parts in a row.
 #[cycle(least)]
 fn min_group_size(parts: &Vec<Schema>) -> Option<usize>
     ensures { IsLeastSize result (IsGroup (reads_all (types_of parts.now.items))) }
@@ -64,7 +62,7 @@ fn min_group_size(parts: &Vec<Schema>) -> Option<usize>
     total
 }
 
-/// Returns the least number of bytes of one of the variants, its index included.
+/// Returns the least size of one of the variants, its index included.
 #[cycle(least)]
 fn min_enum_size(variants: &Vec<Schema>) -> Option<usize>
     ensures { IsLeastSize result (IsVariant (reads_at (types_of variants.now.items))) }

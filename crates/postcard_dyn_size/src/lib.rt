@@ -30,7 +30,7 @@ pub fn max_size(schema: &Schema) -> Option<usize>
     size(schema)
 }
 
-/// Returns the greatest number of bytes of a message of the type.
+/// Does what [`max_size`] does. The functions below return `None` where it does.
 #[cycle(size)]
 fn size(schema: &Schema) -> Option<usize>
     ensures { result ≡ (limit (type_of schema.now)).greatest }
@@ -47,7 +47,6 @@ fn size(schema: &Schema) -> Option<usize>
     }
 }
 
-/// Returns the greatest number of bytes of a message of a type without parts.
 fn leaf_size(leaf: Leaf) -> Option<usize>
     ensures { result ≡ leaf_greatest leaf }
 {

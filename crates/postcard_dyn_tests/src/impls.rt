@@ -240,7 +240,7 @@ const PARTS: [&str; 12] = [
     "\nimpl<T: Debug + postcard::Serialize> postcard::SerializeRepr for Reading<'_, T> {\n",
     "    ghost use Rattle.weather.specs.declared.net.types.Event.{Event};\n",
     "      | Event.Moved x0 x1 ↦ Next (This (x0, x1))\n",
-    "            Event::Moved { from, d: x1 } => Self::write_1(from, x1, serializer),\n",
+    "Event::Moved { from, d: x1 } => postcard::write_variant(self, 1, &(from, x1), serializer),\n",
     "postcard::Case<(String, [u8; 4]), postcard::NoCase>>>;\n",
     "Next(Next(This((x0, x1)))) => Event::Texts(x0, x1),\n",
     "\nimpl<'de> postcard::Deserialize<'de> for Event {\n",

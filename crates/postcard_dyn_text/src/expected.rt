@@ -63,14 +63,12 @@ impl fmt::Display for Expected<'_> {
     }
 }
 
-/// Returns the word for this number of elements.
 fn noun(count: usize) -> &'static str
     ensures { result.now ≡ elements_text count }
 {
     if count == 1 { "element" } else { "elements" }
 }
 
-/// Returns the phrase for a value of the type.
 fn phrase_of(leaf: Leaf) -> &'static str
     ensures { result.now ≡ leaf_phrase leaf }
 {
@@ -95,7 +93,6 @@ fn phrase_of(leaf: Leaf) -> &'static str
     }
 }
 
-/// Returns the phrase for a number of the type.
 fn number_phrase(integer: Integer) -> &'static str
     ensures { result.now ≡ number_phrase integer }
 {

@@ -85,13 +85,8 @@ pub fn read_f32(rest: &mut &[u8]) -> Result<u32, Stop<'static>>
     }
 }
 
-/// Takes blanks and then the text of an `f64`, and returns its bits: those of the float that is
-/// nearest to a number, or those in parentheses after `nan`.
-///
-/// # Errors
-///
-/// Stops at the front of `rest` if no float is next, or at the bits after `nan(` if these aren't
-/// hexadecimal digits after `0x`, and then `)`.
+/// Takes blanks and then the text of an `f64`, and returns its bits, as [`read_f32`] does those of
+/// an `f32`, with the same errors.
 pub fn read_f64(rest: &mut &[u8]) -> Result<u64, Stop<'static>>
     ensures spelled { IfOk result (λ bits.
         TakesPhrase (SpellsFloat binary64 bits) rest.old.now rest.new.now) }
@@ -117,7 +112,8 @@ pub fn read_f64(rest: &mut &[u8]) -> Result<u64, Stop<'static>>
     }
 }
 
-/// Takes `0x`, hexadecimal digits and `)`, and returns the number that the digits spell.
+/// Takes `0x`, hexadecimal digits and `)`, and returns the number that the digits spell. Stops at
+/// the front of `rest` if these aren't next, or the number is no `u64`.
 fn read_code(rest: &mut &[u8]) -> Result<u64, Stop<'static>>
     ensures spelled { IfOk result (λ n.
         TakesPhrase (Then (IsHexadecimal n) (IsSign 41)) rest.old.now rest.new.now) }

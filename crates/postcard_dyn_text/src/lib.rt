@@ -1,15 +1,16 @@
 //! Texts of values whose type is known only at run time: printing with [`Shown`], and reading with
-//! [`read_text`].
+//! [`read_text`]. `docs/PCARD.md` has a table of the text of each type.
 //!
-//! Numbers are printed in decimal digits, and read as any integer literals of Rust ([`number`]).
-//! A float is printed as the shortest number that reads back, with a point or an exponent, or as
-//! `inf`, `-inf` or `nan` ([`mod@float`]). Texts and characters are quoted, with the escapes of Rust,
-//! and byte strings are hexadecimal after `0x`. An option is `None` or `Some(7)`, a list or an array
-//! `[1, 2]`, a tuple `(1, 2)`, a struct `{id: 42, label: "x"}`, a map `{1 => true}`, and a variant
-//! `Boot`, `Reading(1, -2)` or `Fault{code: 1}`. The name of a field is also read between double
-//! quotes, as in JSON. The contract of [`read_text`] says that the text spells the value, and that
-//! each text that spells one is read if memory suffices; that of [`Shown`] says which text it prints.
-//! That a printed text is read as the same value is shown by tests; of a float alone it is proved.
+//! Numbers are printed in decimal digits, and read as any integer literals of Rust ([`number`]). A
+//! float is printed as the shortest number that reads back ([`mod@float`]). Texts and characters
+//! are quoted, with the escapes of Rust, and byte strings are hexadecimal after `0x`. An option is
+//! `None` or `Some(7)`, a list or an array `[1, 2]`, a tuple `(1, 2)`, a struct
+//! `{id: 42, label: "x"}`, a map `{1 => true}`, and a variant `Boot`, `Reading(1, -2)` or
+//! `Fault{code: 1}`.
+//!
+//! By its contract, [`read_text`] returns a value that the text spells, and reads each text that
+//! spells one if memory suffices; that of [`Shown`] says which text it prints. That a printed text
+//! is read as the same value is proved of floats alone, and else shown by tests.
 #![tactic(auto)]
 
 pub mod expected;

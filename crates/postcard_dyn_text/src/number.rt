@@ -1,7 +1,6 @@
-//! Numbers of the integer types, as texts.
-//!
-//! A number is an integer literal of Rust ([`number_of`]). A `+` may be before it, and for a type with a
-//! sign also a `-`: `42`, `+42`, `1_000`, `0x2a`, `-0x2A`, `0b10_1010`, `0o52`.
+//! Numbers of the integer types, as texts: integer literals of Rust ([`number_of`]), with a `+`
+//! before them or not, and for a type with a sign also a `-`: `42`, `+42`, `1_000`, `0x2a`,
+//! `-0x2A`, `0b10_1010`, `0o52`.
 
 ghost use Rattle.std.specs.Prelude.{◌≡◌, ℕ, ℤ, ◌^◌, ◌<◌, List, FitsSigned};
 ghost use Rattle.std.specs.Prelude.{IfOk, IfSome, IfNone, MatchResult, Ok, Err, true, false};
@@ -21,11 +20,8 @@ use postcard_dyn::fixed::{are_bits, bits_of};
 use postcard_dyn::{Integer, Leaf};
 use postcard_dyn_schema::literal::number_of;
 
-/// Takes blanks and then a number of the type `leaf`, which has no sign.
-///
-/// # Errors
-///
-/// Stops at the front of `rest` if no number is next, or one that `T` doesn't hold.
+/// Takes blanks and then a number of the type `leaf`, which has no sign. Stops at the front of
+/// `rest` if no number is next, or one that `T` doesn't hold.
 pub fn read_unsigned<T: TryFrom<u128>>(rest: &mut &[u8], leaf: Leaf) -> Result<T, Stop<'static>>
 where
     T::Error: Drop,
@@ -46,11 +42,8 @@ where
     }
 }
 
-/// Takes blanks and then a number of the type `leaf`, which has a sign.
-///
-/// # Errors
-///
-/// Stops at the front of `rest` if no number is next, or one that `T` doesn't hold.
+/// Takes blanks and then a number of the type `leaf`, which has a sign. It stops as
+/// [`read_unsigned`].
 pub fn read_signed<T: TryFrom<i128>>(rest: &mut &[u8], leaf: Leaf) -> Result<T, Stop<'static>>
 where
     T::Error: Drop,
@@ -71,11 +64,8 @@ where
     }
 }
 
-/// Takes blanks and then a number of the type, and returns its bits.
-///
-/// # Errors
-///
-/// Stops at the front of `rest` if no number of the type is next.
+/// Takes blanks and then a number of the type, and returns its bits. Stops at the front of `rest`
+/// if no number of the type is next.
 pub fn read_bits(rest: &mut &[u8], integer: Integer) -> Result<u128, Stop<'static>>
     ensures spelled { IfOk result (λ n. TakesPhrase (SpellsBits (is_signed integer) integer n)
         rest.old.now rest.new.now) }
@@ -91,7 +81,7 @@ pub fn read_bits(rest: &mut &[u8], integer: Integer) -> Result<u128, Stop<'stati
     }
 }
 
-/// Takes blanks and then a number of an unsigned type, which is its bits.
+/// [`read_bits`] of an unsigned type.
 fn read_unsigned_bits(rest: &mut &[u8], integer: Integer) -> Result<u128, Stop<'static>>
     ensures spelled { IfOk result (λ n.
         TakesPhrase (SpellsBits false integer n) rest.old.now rest.new.now) }
@@ -107,7 +97,7 @@ fn read_unsigned_bits(rest: &mut &[u8], integer: Integer) -> Result<u128, Stop<'
     Err(Stop::here(start, Expected::Leaf(integer.leaf())))
 }
 
-/// Takes blanks and then a number of a signed type, and returns its bits.
+/// [`read_bits`] of a signed type.
 fn read_signed_bits(rest: &mut &[u8], integer: Integer) -> Result<u128, Stop<'static>>
     ensures spelled { IfOk result (λ n.
         TakesPhrase (SpellsBits true integer n) rest.old.now rest.new.now) }

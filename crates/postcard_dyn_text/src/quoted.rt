@@ -17,11 +17,8 @@ use std::alloc::Global;
 
 /// Takes blanks, and then a text between two bytes `quote`, which may have the escapes `\n`, `\r`,
 /// `\t`, `\0`, `\\`, `\'`, `\"` and `\u{..}`. Returns the text with the escapes replaced. Where the
-/// first `quote` should be, a value of `leaf` is expected.
-///
-/// # Errors
-///
-/// Stops where the text stops being one, and with `Memory` if an allocation fails.
+/// first `quote` should be, a value of `leaf` is expected. Stops where the text stops being one,
+/// and with `Memory` if an allocation fails.
 pub fn take_quoted(
     alloc: Global,
     rest: &mut &[u8],
@@ -72,7 +69,8 @@ fn take_byte(rest: &mut &[u8], expected: Expected<'static>) -> Result<u8, Stop<'
     }
 }
 
-/// Takes an escape after its `\`, and adds the character that it stands for to `bytes`.
+/// Takes an escape after its `\`, and adds the character that it stands for to `bytes`. Stops as
+/// [`take_quoted`] does.
 fn take_escape(rest: &mut &[u8], bytes: &mut Vec<u8>) -> Result<(), Stop<'static>>
     ensures taken { OnOk result ((held : List ℕ) × (bytes.new.items ≡ bytes.old.items ++ held)
         × TakesPhrase (IsEscape held) rest.old.now rest.new.now) }
@@ -110,9 +108,6 @@ fn short_escape(letter: u8) -> Option<u8>
 }
 
 /// Takes `{`, one to six hexadecimal digits and `}`, and returns the character with this code.
-///
-/// # Errors
-///
 /// Stops at the front of `rest` if something else is next, and at the end of the text if it ends
 /// before the `}`.
 fn take_code(rest: &mut &[u8]) -> Result<char, Stop<'static>>
@@ -154,12 +149,8 @@ fn character(code: u32, count: usize, start: &[u8]) -> Result<char, Stop<'static
     }
 }
 
-/// Returns the bytes of hexadecimal digits of either case, two for each byte.
-///
-/// # Errors
-///
-/// Stops at the front of `start` if a digit is missing or isn't hexadecimal, and with `Memory` if
-/// an allocation fails.
+/// Returns the bytes of hexadecimal digits of either case, two for each byte. Stops at the front of
+/// `start` if a digit is missing or isn't hexadecimal, and with `Memory` if an allocation fails.
 pub fn bytes_of(alloc: Global, digits: &[u8], start: &[u8]) -> Result<Vec<u8>, Stop<'static>>
     ensures held { IfOk result (λ held. AreDigitsOf held.items digits.now) }
     ensures refused { IfErr result (λ stop. (stop ≡ Stop.Memory)
@@ -210,7 +201,6 @@ fn digit_of(byte: u8, start: &[u8], expected: Expected<'static>) -> Result<u8, S
     }
 }
 
-/// Adds a byte to the end.
 fn push(bytes: &mut Vec<u8>, byte: u8) -> Result<(), Stop<'static>>
     ensures added { OnOk result (bytes.new.items ≡ bytes.old.items ++ byte ∷ []) }
     ensures refused { IfErr result (λ stop. stop ≡ Stop.Memory) }
@@ -221,7 +211,7 @@ fn push(bytes: &mut Vec<u8>, byte: u8) -> Result<(), Stop<'static>>
     }
 }
 
-/// Adds a character's UTF-8 to the end.
+/// Adds a character's UTF-8 to the end, or stops with `Memory`.
 fn push_character(bytes: &mut Vec<u8>, c: char) -> Result<(), Stop<'static>>
     ensures added { OnOk result (bytes.new.items ≡ bytes.old.items ++ encode_utf8 c) }
     ensures refused { IfErr result (λ stop. stop ≡ Stop.Memory) }

@@ -1,4 +1,5 @@
-//! Reading a value from its text: [`read_text`].
+//! Reading a value from its text: [`read_text`]. A function with a [`Stop`] stops where the text
+//! isn't what it takes, and with `Memory` if an allocation fails.
 
 ghost use Rattle.std.specs.Prelude.{◌≡◌, ◌≢◌, ℕ, ◌<◌, List, [], ◌∷◌, ◌++◌, codes, map, slice_index, length};
 ghost use Rattle.std.specs.Prelude.{IfOk, IfErr, IfSome, IfNone, OnOk, MatchResult, Some, Bool, true, false, get_or};
@@ -110,7 +111,6 @@ pub fn read_text<'a>(alloc: Global, schema: &'a Schema, text: &str) -> Result<Va
     }
 }
 
-/// Returns the error for a text in which reading stops.
 fn error_in<'a>(text: &str, stop: Stop<'a>) -> TextError<'a>
     ensures place { IsPlaceIn text.now result }
     ensures memory { stop.entry ≡ Stop.Memory → result ≡ TextError.OutOfMemory }
@@ -273,7 +273,6 @@ fn before<'a>(part: &'a Schema, between: &[u8]) -> Expected<'a>
     }
 }
 
-/// Adds a value to the end of the list.
 fn push(items: &mut Vec<Value>, item: Value) -> Result<(), Stop<'static>>
     ensures added { OnOk result (items.new.items ≡ items.old.items ++ item ∷ []) }
     ensures refused { IfErr result (λ stop. stop ≡ Stop.Memory) }
@@ -284,7 +283,6 @@ fn push(items: &mut Vec<Value>, item: Value) -> Result<(), Stop<'static>>
     }
 }
 
-/// Reads a value.
 #[cycle(text)]
 fn read<'a>(alloc: Global, schema: &'a Schema, rest: &mut &[u8]) -> Result<Value, Stop<'a>>
     ensures value { IfOk result (λ v. reads (type_of schema.now) (tree v)) }
@@ -340,7 +338,6 @@ fn read_option<'a>(alloc: Global, content: &'a Schema, rest: &mut &[u8]) -> Resu
     }
 }
 
-/// Reads a list or a map between the brackets `opening` and `closing`.
 #[cycle(text)]
 fn read_list<'a>(
     alloc: Global,
@@ -425,7 +422,6 @@ fn read_item<'a>(
     Ok(Value::Group(read_parts(alloc, parts, rest, b"=>")?))
 }
 
-/// Reads an array, or stops if it hasn't exactly `count` elements.
 #[cycle(text)]
 fn read_array<'a>(
     alloc: Global,
@@ -526,7 +522,6 @@ fn read_parts<'a>(
     Ok(items)
 }
 
-/// Reads a variant: its name, and then its content.
 #[cycle(text)]
 fn read_variant<'a>(
     alloc: Global,
@@ -614,7 +609,6 @@ fn read_content<'a>(alloc: Global, content: &'a Schema, rest: &mut &[u8]) -> Res
     Ok(value)
 }
 
-/// Reads a value without parts.
 fn read_leaf(alloc: Global, leaf: Leaf, rest: &mut &[u8]) -> Result<Value, Stop<'static>>
     ensures value { IfOk result (λ v. leaf_reads leaf (tree v)) }
     ensures spelled { IfOk result (λ v. TakesPhrase (SpellsLeaf leaf (tree v))
@@ -645,7 +639,6 @@ fn read_leaf(alloc: Global, leaf: Leaf, rest: &mut &[u8]) -> Result<Value, Stop<
     }
 }
 
-/// Takes blanks and then `true` or `false`.
 fn read_bool(rest: &mut &[u8]) -> Result<bool, Stop<'static>>
     ensures spelled { IfOk result (λ x. TakesPhrase (Led (IsTruth x)) rest.old.now rest.new.now) }
     ensures accepted { (x : Bool) (after : List ℕ)
@@ -671,7 +664,6 @@ fn truth_of(word: &[u8]) -> Option<bool>
     }
 }
 
-/// Reads one character between single quotes.
 fn read_char(alloc: Global, rest: &mut &[u8]) -> Result<char, Stop<'static>>
     ensures spelled { IfOk result (λ c.
         TakesPhrase (IsQuoted 39 (encode_utf8 c)) rest.old.now rest.new.now) }

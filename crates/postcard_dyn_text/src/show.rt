@@ -48,7 +48,6 @@ impl Display for Shown<'_> {
     }
 }
 
-/// Prints a value of the schema.
 #[cycle(show)]
 fn show<W: Write>(schema: &Schema, value: &Value, f: &mut Formatter<W>) -> fmt::Result
     ensures { DisplaysOnOk W.write_str_gives f.old result
@@ -115,7 +114,6 @@ fn separate<W: Write>(index: usize, separator: &str, f: &mut Formatter<W>) -> fm
     f.write_str(separator)
 }
 
-/// Prints the elements of a list or an array between `[` and `]`.
 #[cycle(show)]
 fn show_list<W: Write>(element: &Schema, items: &Vec<Value>, f: &mut Formatter<W>) -> fmt::Result
     ensures { DisplaysOnOk W.write_str_gives f.old result
@@ -129,7 +127,6 @@ fn show_list<W: Write>(element: &Schema, items: &Vec<Value>, f: &mut Formatter<W
     f.write_str("]")
 }
 
-/// Prints the entries of a map between `{` and `}`.
 #[cycle(show)]
 fn show_map<W: Write>(entry: &Schema, items: &Vec<Value>, f: &mut Formatter<W>) -> fmt::Result
     ensures { DisplaysOnOk W.write_str_gives f.old result
@@ -143,7 +140,6 @@ fn show_map<W: Write>(entry: &Schema, items: &Vec<Value>, f: &mut Formatter<W>) 
     f.write_str("}")
 }
 
-/// Prints an entry of a map: its key, `=>` and its value.
 #[cycle(show)]
 fn show_entry<W: Write>(entry: &Schema, item: &Value, f: &mut Formatter<W>) -> fmt::Result
     ensures { DisplaysOnOk W.write_str_gives f.old result
@@ -218,7 +214,6 @@ fn show_parts<W: Write>(
     Ok(())
 }
 
-/// Prints the name and the content of a variant.
 #[cycle(show)]
 fn show_variant<W: Write>(variant: &Schema, content: &Value, f: &mut Formatter<W>) -> fmt::Result
     ensures { DisplaysOnOk W.write_str_gives f.old result
@@ -270,7 +265,6 @@ pub fn has_brackets(schema: &Schema) -> bool
     }
 }
 
-/// Prints a value without parts.
 fn show_leaf<W: Write>(leaf: Leaf, value: &Value, f: &mut Formatter<W>) -> fmt::Result
     ensures shown { DisplaysOnOk W.write_str_gives f.old result
         (leaf_text leaf (tree value.now)) f.new }

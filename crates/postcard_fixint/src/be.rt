@@ -118,7 +118,7 @@ pub fn serialize<T: FixInt, F: postcard_ser::Flavor>(
 }
 
 /// Reads a number as [`BE`] does. Fails with `DeserializeUnexpectedEnd` if the source can't give
-/// that many bytes; some of them may have been taken then. Nothing is allocated.
+/// that many bytes; some of them may have been taken then.
 pub fn deserialize<'de, T: FixInt, F: postcard_de::Flavor>(
     alloc: Global,
     d: &mut Deserializer<'de, F>,

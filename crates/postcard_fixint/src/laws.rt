@@ -1,4 +1,4 @@
-//! What holds of the bytes of numbers. The functions do nothing: their contracts are the laws.
+//! What holds of the bytes of numbers, as contracts of functions that do nothing.
 
 ghost use Rattle.std.specs.Prelude.{◌≡◌, ◌↔◌, ◌<◌, ◌^◌, ℕ, List, length};
 ghost use Rattle.postcard_wire.specs.Spelling.{canonical};

@@ -1,9 +1,7 @@
 //! Numbers at their full width: 2, 4, 8 or 16 bytes, the lowest or the highest first, in place of a
 //! varint (behaviour of postcard 1.1.3, module `fixint`). No length is written, and a signed number
-//! is in two's complement.
-//!
-//! A varint is shorter for small numbers. At its full width a number always has the same length: a
-//! random `u64`, as a hash or an identifier, has 8 bytes in place of 9 or 10.
+//! is in two's complement. A varint is shorter for small numbers; a random `u64`, as a hash or an
+//! identifier, has 8 bytes here in place of 9 or 10.
 //!
 //! `specs/Base256.antt` of `postcard_shape` defines the bytes of a number: those, as many as its
 //! type has, whose value in base 256 is the number. `specs/Fixed.antt` defines the shape and proves
@@ -11,7 +9,7 @@
 //! read.
 //!
 //! [`LE`] and [`BE`] stand in place of the number inside a larger value: in a list, in an option,
-//! or in the tuple of a struct's fields:
+//! or in the tuple of a struct's fields, where `new` wraps the number and `get` returns it:
 //!
 //! ```text
 //! impl Repr for Header {
@@ -19,23 +17,9 @@
 //!
 //!     ghost repr = { λ v. (v.address, v.port) };
 //! }
-//!
-//! impl FromRepr for Header {
-//!     fn from_repr((address, port): Self::As) -> Self {
-//!         Header { address: address.get(), port: port.get() }
-//!     }
-//! }
-//!
-//! impl SerializeRepr for Header {
-//!     fn serialize_repr<F: Flavor>(&self, s: &mut Serializer<F>) -> Result<()> {
-//!         (BE::new(self.address), LE::new(self.port)).serialize(s)
-//!     }
-//! }
 //! ```
 //!
-//! In reading order: [`FixInt`] is the trait of the numbers and [`ByteArray`] that of their bytes,
-//! [`le`] and [`be`] write and read them, `block` reads lists of them from memory, and [`laws`] has
-//! what holds of their bytes.
+//! In reading order: [`FixInt`], [`ByteArray`], [`le`], [`be`], `block`, [`laws`].
 #![tactic(auto)]
 
 mod array;

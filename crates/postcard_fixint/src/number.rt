@@ -15,11 +15,7 @@ mod sealed {
 }
 
 /// A type of numbers that can be written at its full width: `u16`, `u32`, `u64`, `u128`, `i16`,
-/// `i32`, `i64` and `i128`.
-///
-/// The trait is sealed: its supertrait is in a private module, so no other crate can implement it.
-/// The contracts don't rely on that: an implementation must prove that its bytes are those of the
-/// number, in base 256.
+/// `i32`, `i64` and `i128`. The trait is sealed.
 pub trait FixInt: Sealed + Copy + Drop {
     /// An array of the bytes of a number: `[u8; 2]`, `[u8; 4]`, `[u8; 8]` or `[u8; 16]`.
     type Bytes: Serialize + ByteArray;

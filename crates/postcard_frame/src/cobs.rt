@@ -21,13 +21,12 @@ use std::alloc::Global;
 /// Decodes a value from the frame at the front of the buffer `s`, in place.
 ///
 /// The frame is the bytes before the first zero, or all bytes if there is no zero. Its data is
-/// written over its front, and slices and texts in the value, as a `&str`, borrow from there. Bytes
-/// of the data after the value are ignored. The first zero and the bytes after it stay as they are,
-/// whatever the result: the clause `writes_back` says so of the buffer once the loan has ended.
+/// written over its front, where slices and texts in the value borrow from; bytes of the data after
+/// the value are ignored. The first zero and the bytes after it stay as they are, whatever the
+/// result (`writes_back`).
 ///
 /// It succeeds if and only if the frame has data of which a front spells a tree that the type
-/// reads, and no allocation fails. So the made frame of a value that fits, with its sentinel or
-/// without, is decoded to a value that looks like it.
+/// reads, and no allocation fails.
 ///
 /// # Errors
 ///
@@ -54,13 +53,12 @@ pub fn from_bytes_cobs<'a, T: Deserialize<'a>>(alloc: Global, s: &'a mut [u8]) -
     read_data(alloc, front, len)
 }
 
-/// Does the same as [`from_bytes_cobs`], and returns the value with the bytes after the frame and
-/// after the zero that ends it. These bytes are unchanged; there are none if there is no zero.
+/// Does the same as [`from_bytes_cobs`], with the same errors, and returns the value with the bytes
+/// after the frame and after the zero that ends it; there are none if there is no zero. The next
+/// call can read the next frame from them while the value is used.
 ///
-/// The value can be used beside the bytes returned, from which the next call can read the next
-/// frame. Once the loan has ended, the buffer holds the zero as it was, and then what the caller
-/// made of the bytes returned (`writes_back`). It fails as [`from_bytes_cobs`], and leaves the
-/// buffer as that does.
+/// Once the loan has ended, the buffer holds the zero as it was, and then what the caller made of
+/// the bytes returned (`writes_back`).
 pub fn take_from_bytes_cobs<'a, T: Deserialize<'a>>(
     alloc: Global,
     s: &'a mut [u8],
@@ -99,7 +97,6 @@ struct Decoded<'a> {
     len: usize,
 }
 
-/// Decodes the frame at the front of a buffer in place.
 fn decode<'a>(s: &'a mut [u8]) -> Decoded<'a>
     ensures same_loan { result.all.ghost_name ≡ s.entry.ghost_name }
     ensures decodes { IsDecoded s.old result }
@@ -122,7 +119,7 @@ fn decode<'a>(s: &'a mut [u8]) -> Decoded<'a>
 }
 
 /// Reads a value from the first `len` bytes of `front`, the data of a frame; `front` is empty if
-/// the frame has no data.
+/// the frame has no data. Fails as [`from_bytes_cobs`] does.
 fn read_data<'a, T: Deserialize<'a>>(alloc: Global, front: &'a [u8], len: usize) -> Result<T>
     requires { len ≤ length front.now }
     ensures reads { (frame : List ℕ) → HasDataOf frame front.now len

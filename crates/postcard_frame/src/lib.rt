@@ -1,5 +1,4 @@
-//! Reading values from frames: `from_bytes_cobs` and `take_from_bytes_cobs` read a value from the
-//! COBS frame at the front of a buffer, which they decode in place.
+//! Reading values from the COBS frame at the front of a buffer, which is decoded in place.
 #![tactic(auto)]
 
 mod cobs;

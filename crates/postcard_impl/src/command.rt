@@ -85,7 +85,7 @@ pub fn answer<W: Write, E: Write>(
     }
 }
 
-/// Returns the file with these bytes and the impls of its types.
+/// Returns the file with these bytes and the impls of its types, or why there is none.
 fn file_with_impls<'a>(
     alloc: Global,
     path: &str,

@@ -1,20 +1,11 @@
-//! The impls of the types that a file of Rattle declares, as text: [`impl_file`].
+//! Puts the impls of the types that a file of Rattle declares into the text of that file:
+//! [`impl_file`].
 //!
-//! A file has items as they are written in a program's source. Of these the declarations are read, `struct`,
-//! `enum` and `type`, with lifetimes, parameters, attributes, comments and visibilities:
-//!
-//! ```text
-//! /// What a sensor sends.
-//! #[derive(Debug, Drop)]
-//! pub struct Reading<'a> { id: u32, label: &'a str, samples: Vec<i16> }
-//! #[derive(Drop)]
-//! enum Event<T> { Boot, Set(T), Fault { code: u8, text: String } }
-//! type Millimetres = i32;
-//! ```
-//!
-//! The impls are written between two marks ([`marks`]), after the text of a file that has none. What is
-//! between the marks isn't read, and what is outside of them is kept as it is, so that a second run
-//! replaces just the impls. They name all that they use by its path, and no `use` line of the file.
+//! Of the items of a file the declarations are read, `struct`, `enum` and `type`, with lifetimes,
+//! parameters, attributes, comments and visibilities. The impls are written between two marks
+//! ([`marks`]), after the text of a file that has none. What is between the marks isn't read, and
+//! what is outside of them is kept as it is, so that a second run replaces just the impls. They
+//! name all that they use by its path, and no `use` line of the file.
 //!
 //! Which impls a type has, and which types have none, `postcard_impl_text` says.
 #![tactic(auto)]
@@ -43,8 +34,7 @@ use std::alloc::Global;
 ///
 /// # Errors
 ///
-/// Fails with what is wrong, one of [`ImplProblem`], and the line and column where it is, each counted
-/// from 1.
+/// Fails with what is wrong, one of [`ImplProblem`], and the line and column where it is.
 pub fn impl_file<'a>(alloc: Global, home: Home, file: &'a str) -> Result<String, ImplError<'a>>
     ensures marked { IfOk result (λ written. IsMarked BEGIN.now END.now file.now
         (string_bytes written)) }
@@ -56,7 +46,7 @@ pub fn impl_file<'a>(alloc: Global, home: Home, file: &'a str) -> Result<String,
     }
 }
 
-/// Returns the file with the impls of its types between its marks.
+/// Does what [`impl_file`] does. The functions below fail as it does.
 fn written(alloc: Global, home: Home, file: &str) -> Result<String, ImplProblemAt>
     ensures { IfOk result (λ written. IsMarked BEGIN.now END.now file.now
         (string_bytes written)) }

@@ -24,12 +24,8 @@ pub struct Outside<'a> {
 }
 
 impl<'a> Outside<'a> {
-    /// Returns the text outside of the marks.
-    ///
-    /// # Errors
-    ///
-    /// Fails with `MarkOpen` at a first mark that no second one follows, and with `MarkAlone` at a
-    /// second one in a file without a first one.
+    /// Returns the text outside of the marks. Fails with `MarkOpen` at a first mark that no second
+    /// one follows, and with `MarkAlone` at a second one in a file without a first one.
     pub fn of(file: &'a str) -> Result<Outside<'a>, ImplProblemAt>
         ensures outside { IfOk result (λ outside. IsOutside BEGIN.now END.now file.now
             outside.before.now outside.after.now) }

@@ -149,7 +149,6 @@ impl From<ProblemAt> for ImplProblemAt {
     }
 }
 
-/// That an allocation failed.
 const OUT_OF_MEMORY: ImplProblemAt = ImplProblemAt {
     problem: ImplProblem::File(FileProblem::Expression(Problem::OutOfMemory)),
     left: 0,

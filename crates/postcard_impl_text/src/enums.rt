@@ -2,8 +2,7 @@
 
 use crate::form::Form;
 use crate::heads::{
-    DESERIALIZE, DESERIALIZE_OWNED, SERIALIZES, Trait, USE_VIA, add_decoded_body, add_head,
-    add_own_head, add_owned,
+    DESERIALIZE, DESERIALIZE_OWNED, SERIALIZES, Trait, USE_VIA, add_head, add_owned, add_parts_body,
 };
 use crate::item::{Item, Member};
 use crate::pieces::{Lifetimes, Piece, add_arguments, add_row_variable, add_tuple, add_value};
@@ -17,18 +16,12 @@ const USE_ROW: &str =
 /// The line of a function that brings the words of a row into its scope.
 const USE_CASES: &str = "        use postcard::Case::{Next, This};\n";
 
-/// The `ghost use` lines of the words in the clauses of a function that writes a variant.
-const USE_WRITERS: &str = "    ghost use Rattle.postcard_ser.specs.Writing.{Wrote};
-    ghost use Rattle.postcard_wire.specs.Spelling.{canonical};
-    ghost use Rattle.std.specs.Prelude.{OnOk};
-";
+/// The call of a `serialize` that writes a variant, up to its index.
+const WRITE_VARIANT: &str = "postcard::write_variant(self, ";
 
-/// The end of the head of a function that writes a variant.
-const WRITES: &str = "        serializer: &mut postcard::Serializer<F>,
-    ) -> postcard::Result<()>
-";
+/// The call of a `serialize_repr` that does.
+const SERIALIZE_VARIANT: &str = "postcard::serialize_variant(";
 
-/// Adds the impls of an enum.
 pub(crate) fn add_enum(out: &mut Text, home: Home, item: &Item, form: Form) {
     add_row_type(out, item);
     if form == Form::Seen {
@@ -45,10 +38,9 @@ pub(crate) fn add_enum(out: &mut Text, home: Home, item: &Item, form: Form) {
     if form == Form::ByParts {
         add_from_row(out, home, item);
     }
-    add_writers(out, home, item);
     add_head(out, item, Trait::Serialize);
     out.add_all(&["    fn serialize", SERIALIZES]);
-    add_serialize_body(out, item);
+    add_serialize_body(out, item, WRITE_VARIANT);
     add_reads(out, item, form);
 }
 
@@ -68,7 +60,6 @@ fn add_row_type(out: &mut Text, item: &Item) {
     out.add(";\n");
 }
 
-/// Adds the `ghost use` line of the enum's own name.
 fn add_enum_use(out: &mut Text, home: Home, item: &Item) {
     out.add_all(&["    ghost use Rattle.", home.library, ".specs.declared"]);
     if !home.is_root() {
@@ -92,8 +83,11 @@ fn add_rows(out: &mut Text, item: &Item) {
 
 /// Adds the line of that function for a variant, which has this many before it.
 fn add_row(out: &mut Text, item: &Item, member: &Member, index: usize) {
-    out.add("      | ");
-    add_ghost_value(out, item, member, false);
+    out.add_all(&["      | ", item.name, ".", member.name]);
+    for field in &member.fields {
+        out.add(" ");
+        add_row_variable(out, field);
+    }
     out.add(" ↦ ");
     out.add_times("Next (", index);
     out.add("This ");
@@ -102,148 +96,27 @@ fn add_row(out: &mut Text, item: &Item, member: &Member, index: usize) {
     out.add("\n");
 }
 
-/// Adds the variant of the prover's variables, or of the values behind them.
-fn add_ghost_value(out: &mut Text, item: &Item, member: &Member, behind: bool) {
-    out.add_all(&[item.name, ".", member.name]);
-    for field in &member.fields {
-        out.add(" ");
-        add_row_variable(out, field);
-        if behind {
-            out.add(".now");
-        }
-    }
-}
-
-/// Returns whether the variant is written by a function of its own: whether the enum borrows nothing,
-/// and the variant has other fields than one number, one truth value or one text.
-fn has_writer(item: &Item, member: &Member) -> bool {
-    if !item.parameters.lifetimes.is_empty() {
-        return false;
-    }
-    match member.fields.as_slice() {
-        [] => false,
-        [field] => !PLAIN.contains(&field.text),
-        _ => true,
-    }
-}
-
-/// The types that need no function of their own.
-const PLAIN: [&str; 16] = [
-    "u8", "u16", "u32", "u64", "u128", "usize", "i8", "i16", "i32", "i64", "i128", "isize", "f32",
-    "f64", "bool", "String",
-];
-
-/// Adds the functions that write the variants which have one.
-fn add_writers(out: &mut Text, home: Home, item: &Item) {
-    if !item.members.iter().any(|member| has_writer(item, member)) {
-        return;
-    }
-    add_own_head(out, item, "postcard::Serialize");
-    add_enum_use(out, home, item);
-    out.add(USE_WRITERS);
-    let mut index: usize = 0;
-    for member in &item.members {
-        if has_writer(item, member) {
-            add_writer(out, item, member, index);
-        }
-        index = index.saturating_add(1);
-    }
-    out.add("}\n");
-}
-
-/// Adds the function that writes a variant.
-fn add_writer(out: &mut Text, item: &Item, member: &Member, index: usize) {
-    out.add_all(&["\n    /// Writes the variant `", member.name]);
-    out.add("`.\n    fn write_");
-    out.add_number(index);
-    out.add("<F: postcard::ser_flavors::Flavor>(\n");
-    for field in &member.fields {
-        out.add("        ");
-        add_row_variable(out, field);
-        out.add_all(&[": &", field.text, ",\n"]);
-    }
-    out.add(WRITES);
-    add_writer_clauses(out, item, member);
-    out.add("    {\n        ");
-    add_variant_call(out, member, index, Piece::InRow);
-    out.add("\n    }\n");
-}
-
-/// Adds the call that writes a variant with the values of these variables.
-fn add_variant_call(out: &mut Text, member: &Member, index: usize, piece: Piece) {
-    let fields = member.fields.as_slice();
-    out.add("postcard::serialize_variant(");
-    out.add_number(index);
-    out.add(if fields.len() == 1 { ", " } else { ", &" });
-    add_tuple(out, fields, piece);
-    out.add(", serializer)");
-}
-
-/// Adds the clauses of the function that writes a variant: those of `serialize`, of this variant.
-fn add_writer_clauses(out: &mut Text, item: &Item, member: &Member) {
-    out.add(
-        "        ensures wrote { Wrote F.Flavor serializer.old.output\n            (canonical (",
-    );
-    add_of_shape(out, item, member, ".tree (");
-    out.add("))\n            (");
-    add_of_shape(out, item, member, ".refusal (");
-    out.add(")\n            ");
-    add_shape(out, item);
-    out.add(".text result serializer.new.output }\n");
-    out.add("        ensures fits { OnOk result\n            (");
-    add_of_shape(out, item, member, ".fits (");
-    out.add(") }\n");
-}
-
-/// Adds what a word of the enum's shape says of the variant.
-fn add_of_shape(out: &mut Text, item: &Item, member: &Member, word: &str) {
-    add_shape(out, item);
-    out.add(word);
-    add_ghost_value(out, item, member, true);
-    out.add(")");
-}
-
-/// Adds the shape of the enum, as it is quoted in clauses.
-fn add_shape(out: &mut Text, item: &Item) {
-    out.add_all(&["⟦<", item.name]);
-    add_arguments(out, item, Lifetimes::Own);
-    out.add(" as postcard::Shaped>⟧.shape");
-}
-
-/// Adds the body of a `serialize`, and the end of its impl.
-fn add_serialize_body(out: &mut Text, item: &Item) {
+/// Adds the body of a function that writes the value, each variant by `call`, and the end of its impl.
+fn add_serialize_body(out: &mut Text, item: &Item, call: &str) {
     out.add("        match self {\n");
     let mut index: usize = 0;
     for member in &item.members {
-        add_serialize_arm(out, item, member, index);
+        add_serialize_arm(out, item, member, index, call);
         index = index.saturating_add(1);
     }
     out.add("        }\n    }\n}\n");
 }
 
 /// Adds the arm of its `match` for a variant, which has this many before it.
-fn add_serialize_arm(out: &mut Text, item: &Item, member: &Member, index: usize) {
+fn add_serialize_arm(out: &mut Text, item: &Item, member: &Member, index: usize, call: &str) {
+    let fields = member.fields.as_slice();
     out.add("            ");
     add_value(out, &[item.name, "::", member.name], member);
-    out.add(" => ");
-    if has_writer(item, member) {
-        add_writer_call(out, member, index);
-    } else {
-        add_variant_call(out, member, index, Piece::Variable);
-    }
-    out.add(",\n");
-}
-
-/// Adds the call of the function that writes a variant.
-fn add_writer_call(out: &mut Text, member: &Member, index: usize) {
-    out.add("Self::write_");
+    out.add_all(&[" => ", call]);
     out.add_number(index);
-    out.add("(");
-    for field in &member.fields {
-        out.add(field.variable.as_str());
-        out.add(", ");
-    }
-    out.add("serializer)");
+    out.add(if fields.len() == 1 { ", " } else { ", &" });
+    add_tuple(out, fields, Piece::Variable);
+    out.add(", serializer),\n");
 }
 
 /// Adds the `match` that makes the enum of its row.
@@ -275,13 +148,13 @@ fn add_arm(out: &mut Text, item: &Item, member: &Member, index: usize) {
 
 /// Adds the impl by which an enum is made of its row.
 fn add_from_row(out: &mut Text, home: Home, item: &Item) {
-    add_head(out, item, Trait::FromDecoded);
+    add_head(out, item, Trait::FromParts);
     add_enum_use(out, home, item);
     out.add_all(&[USE_ROW, "\n    type Parts = ", item.name, "Row"]);
     add_arguments(out, item, Lifetimes::Own);
     out.add(";\n\n    ghost seen = { ");
     add_rows(out, item);
-    out.add(" };\n\n    fn from_decoded(row: Self::Parts) -> Self {\n");
+    out.add(" };\n\n    fn from_parts(row: Self::Parts) -> Self {\n");
     out.add_all(&[USE_CASES, "        "]);
     add_match(out, item);
     out.add("\n    }\n}\n");
@@ -308,7 +181,7 @@ fn add_reads(out: &mut Text, item: &Item, form: Form) {
 /// Adds the body of a function that reads the row by `call`, and the end of its impl.
 fn add_read_body(out: &mut Text, item: &Item, form: Form, lifetimes: Lifetimes, call: &str) {
     if form == Form::ByParts {
-        add_decoded_body(out, lifetimes);
+        add_parts_body(out, lifetimes);
         return;
     }
     out.add_all(&[USE_CASES, "        let row: ", item.name, "Row"]);
@@ -337,5 +210,5 @@ fn add_seen(out: &mut Text, home: Home, item: &Item) {
     out.add("\n    }\n}\n");
     add_head(out, item, Trait::SerializeRepr);
     out.add_all(&["    fn serialize_repr", SERIALIZES]);
-    add_serialize_body(out, item);
+    add_serialize_body(out, item, SERIALIZE_VARIANT);
 }

@@ -95,7 +95,6 @@ const NO_MEMORY: [&[u8]; 48] = [
 /// How many variants an enum has at most that the prover follows from its row into its value.
 const FEW_VARIANTS: usize = 3;
 
-/// The signed numbers.
 const SIGNED: [&[u8]; 6] = [b"i8", b"i16", b"i32", b"i64", b"i128", b"isize"];
 
 /// Which impls a type has.
@@ -105,19 +104,15 @@ pub(crate) enum Form {
     Alias,
     /// `Shaped` by `via`, `Serialize`, `Deserialize`, and `DeserializeOwned` if nothing in it borrows.
     Via,
-    /// The same, with a trait of the file by which a value is made of its parts, since it has several
-    /// signed numbers, or variants.
+    /// The same, and `FromParts`, by which a value is made of its parts, since it has several signed
+    /// numbers, or variants.
     ByParts,
     /// `Repr`, `FromRepr` and `SerializeRepr`, since it has a parameter and a lifetime.
     Seen,
 }
 
-/// Returns the form of each item.
-///
-/// # Errors
-///
-/// Fails at the first item that has itself in it, and else at the first field whose type has no impls
-/// that would be proved.
+/// Returns the form of each item. Fails at the first item that has itself in it, and else at the
+/// first field whose type has no impls that would be proved, and with `OutOfMemory`.
 pub(crate) fn forms(
     alloc: Global,
     file: &str,
@@ -134,7 +129,6 @@ pub(crate) fn forms(
     Ok(forms)
 }
 
-/// Returns the form of an item.
 fn form_of(tokens: &[Token], items: &[Item], item: &Item) -> Form {
     if item.kind == Kind::Alias {
         return Form::Alias;
@@ -193,14 +187,14 @@ fn is_signed_alias(tokens: &[Token], items: &[Item], token: Token) -> bool {
     false
 }
 
-/// Returns the index of the item that has the token's text as its name, or `None` if none has.
+/// Returns the index of the item with the token's text as its name, if there is one.
 fn named(items: &[Item], token: Token) -> Option<usize> {
     items
         .iter()
         .position(|item| token.says(item.name.as_bytes()))
 }
 
-/// Returns `false` for each item.
+/// Returns `false` for each item, or fails with `OutOfMemory`.
 fn flags(alloc: Global, items: &[Item]) -> Result<Vec<bool>, ImplProblemAt> {
     let mut flags = Vec::new(alloc);
     for _ in items {
@@ -229,8 +223,8 @@ fn check_recursion(alloc: Global, tokens: &[Token], items: &[Item]) -> Result<()
     Ok(())
 }
 
-/// Returns the index of the first token in the types of an item that names one that isn't done, or `None`
-/// if none does.
+/// Returns the index of the first token in the types of an item that [`open_in`] finds, if there is
+/// one.
 fn first_open(tokens: &[Token], items: &[Item], done: &[bool], item: &Item) -> Option<usize> {
     if item.kind == Kind::Alias {
         return open_in(tokens, items, done, item.words);
@@ -245,7 +239,8 @@ fn first_open(tokens: &[Token], items: &[Item], done: &[bool], item: &Item) -> O
     None
 }
 
-/// Returns the index of the first of these tokens that names an item that isn't done.
+/// Returns the index of the first of these tokens that names an item that isn't done, if there is
+/// one.
 fn open_in(tokens: &[Token], items: &[Item], done: &[bool], words: Span) -> Option<usize> {
     for at in words.start..words.end {
         if let Some(token) = token_at(tokens, at) {
@@ -259,7 +254,7 @@ fn open_in(tokens: &[Token], items: &[Item], done: &[bool], words: Span) -> Opti
     None
 }
 
-/// Returns of each item whether it holds no memory, unless one of its parameters does.
+/// Returns of each item whether [`is_light`] holds of it, or fails with `OutOfMemory`.
 fn light(alloc: Global, tokens: &[Token], items: &[Item]) -> Result<Vec<bool>, ImplProblemAt> {
     let mut light = flags(alloc, items)?;
     for _ in items {
@@ -401,7 +396,8 @@ fn names_seen(tokens: &[Token], items: &[Item], field: &Field) -> bool {
     false
 }
 
-/// Returns what is wrong with the token at the index of a type that ends before `end`.
+/// Returns what is wrong with the token at the index of a type that ends before `end`, if anything
+/// is.
 fn refusal_at(
     file: &str,
     tokens: &[Token],
@@ -442,7 +438,7 @@ fn has_count(tokens: &[Token], open: usize) -> bool {
     false
 }
 
-/// Returns what is wrong with the reference whose `&` is at the index.
+/// Returns what is wrong with the reference whose `&` is at the index, if anything is.
 fn reference_problem(file: &str, tokens: &[Token], item: &Item, at: usize) -> Option<ImplProblem> {
     let next = at.saturating_add(1);
     if is_at(tokens, next, b"mut") {

@@ -1,4 +1,4 @@
-//! The heads of impls and of their functions.
+//! The text of the heads of impls and of their functions, and of the bodies that name no field.
 
 use crate::item::Item;
 use crate::pieces::{Lifetimes, add_arguments, add_declared};
@@ -29,7 +29,7 @@ pub(crate) const DESERIALIZE_OWNED: &str =
     ) -> postcard::Result<Self> {
 ";
 
-/// A trait whose impl is written: one of the library, or `FromDecoded`.
+/// A trait of the library, whose impl is written.
 #[derive(Clone, Copy)]
 pub(crate) enum Trait {
     Shaped,
@@ -39,11 +39,10 @@ pub(crate) enum Trait {
     Repr,
     FromRepr,
     SerializeRepr,
-    FromDecoded,
+    FromParts,
 }
 
 impl Trait {
-    /// Returns its path.
     fn name(self) -> &'static str {
         match self {
             Trait::Shaped => "postcard::Shaped",
@@ -53,7 +52,7 @@ impl Trait {
             Trait::Repr => "postcard::Repr",
             Trait::FromRepr => "postcard::FromRepr",
             Trait::SerializeRepr => "postcard::SerializeRepr",
-            Trait::FromDecoded => "FromDecoded",
+            Trait::FromParts => "postcard::FromParts",
         }
     }
 
@@ -61,7 +60,7 @@ impl Trait {
     fn bound(self) -> &'static str {
         match self {
             Trait::Shaped | Trait::Repr => "postcard::Shaped",
-            Trait::FromRepr | Trait::FromDecoded => "postcard::Shaped + Drop",
+            Trait::FromRepr | Trait::FromParts => "postcard::Shaped + Drop",
             Trait::Serialize | Trait::SerializeRepr => "postcard::Serialize",
             Trait::Deserialize => "postcard::Deserialize<'de>",
             Trait::DeserializeOwned => "postcard::DeserializeOwned",
@@ -71,29 +70,19 @@ impl Trait {
     /// Returns the lifetimes that its impl names.
     fn lifetimes(self) -> Lifetimes {
         match self {
-            Trait::Shaped | Trait::Repr | Trait::FromDecoded => Lifetimes::Own,
+            Trait::Shaped | Trait::Repr | Trait::FromParts => Lifetimes::Own,
             Trait::Deserialize => Lifetimes::Read,
             _ => Lifetimes::Any,
         }
     }
 }
 
-/// Adds the head of an impl of a trait for a type.
 pub(crate) fn add_head(out: &mut Text, item: &Item, of: Trait) {
     out.add("\nimpl");
     add_declared(out, item, of.lifetimes(), of.bound());
     out.add_all(&[" ", of.name(), " for "]);
     out.add(item.name);
     add_arguments(out, item, of.lifetimes());
-    out.add(" {\n");
-}
-
-/// Adds the head of an impl of a type's own functions, which ask `bound` of each parameter.
-pub(crate) fn add_own_head(out: &mut Text, item: &Item, bound: &str) {
-    out.add("\nimpl");
-    add_declared(out, item, Lifetimes::Own, bound);
-    out.add_all(&[" ", item.name]);
-    add_arguments(out, item, Lifetimes::Own);
     out.add(" {\n");
 }
 
@@ -106,10 +95,10 @@ pub(crate) fn add_owned(out: &mut Text, item: &Item) {
 
 /// Adds the body of a function that reads a value by its parts, with the lifetime of what is read or with
 /// none, and the end of its impl.
-pub(crate) fn add_decoded_body(out: &mut Text, lifetimes: Lifetimes) {
+pub(crate) fn add_parts_body(out: &mut Text, lifetimes: Lifetimes) {
     let call = match lifetimes {
-        Lifetimes::Read => "read",
-        _ => "read_owned",
+        Lifetimes::Read => "read_parts",
+        _ => "read_parts_owned",
     };
-    out.add_all(&["        Decoded::", call, "(alloc, d)\n    }\n}\n"]);
+    out.add_all(&["        postcard::", call, "(alloc, d)\n    }\n}\n"]);
 }

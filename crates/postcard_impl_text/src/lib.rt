@@ -1,5 +1,5 @@
-//! The impls of the types that a file of Rattle declares, as text: [`impls_of`]. What is read are the tokens of
-//! the file and its declarations, as `postcard_dyn_file` has them.
+//! The impls of the types that a file of Rattle declares, as text: [`impls_of`]. What is read are
+//! the tokens of the file and its declarations, as `postcard_dyn_file` has them.
 //!
 //! | A type | Its impls |
 //! |---|---|
@@ -7,18 +7,16 @@
 //! | with a lifetime and a parameter | `Repr`, `FromRepr`, `SerializeRepr` |
 //! | any other | `Shaped` by `via`, `Serialize`, `Deserialize`, and `DeserializeOwned` if nothing borrows |
 //!
-//! A struct goes via the tuple of its fields, an enum via its variants in a row, and more than eight
-//! fields via tuples of five. If a struct or a variant has more than one signed number, or an enum more than
-//! three variants, a trait of the file, `FromDecoded`, makes the value of what was read, so that the
+//! A struct goes via the tuple of its fields, an enum via its variants in a row, and more than
+//! eight fields via tuples of five. If a struct or a variant has more than one signed number, or an
+//! enum more than three variants, it has `FromParts`, too, and is read by its parts, so that the
 //! prover follows. A type that has no impls that would be proved is refused with the place of the
 //! field, by one of [`ImplProblem`].
 //!
-//! It is done in three steps, one module each: the items of the file (`read`), which impls each item has
-//! (`form`), and the text of these; `structs` and `enums` write it, into a `Text`
-//! that keeps its failure for the end.
+//! In three steps, one module each: the items of the file (`read`), which impls each has (`form`),
+//! and their text (`structs`, `enums`), in a `Text` that keeps its failure for the end.
 #![tactic(auto)]
 
-mod decoded;
 mod enums;
 mod form;
 mod heads;
@@ -40,12 +38,9 @@ pub use scan::text_at;
 use std::alloc::Global;
 use write::impls;
 
-/// Returns the impls of the types that a file declares, which has these tokens and these declarations.
-/// `home` is the place of the file.
-///
-/// # Errors
-///
-/// Fails with what is wrong with a declaration, and where, or with `OutOfMemory`.
+/// Returns the impls of the types that a file declares, which has these tokens and these
+/// declarations. `home` is the place of the file. Fails with what is wrong with a declaration, and
+/// where, or with `OutOfMemory`.
 pub fn impls_of(
     alloc: Global,
     home: Home,

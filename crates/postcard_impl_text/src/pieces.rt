@@ -25,7 +25,6 @@ pub(crate) enum Piece {
     Variable,
 }
 
-/// Adds what stands for a field.
 fn add_piece(out: &mut Text, field: &Field, piece: Piece) {
     let name = field.name.as_str();
     match piece {
@@ -71,7 +70,6 @@ pub(crate) fn add_tuple(out: &mut Text, fields: &[Field], piece: Piece) {
     out.add(")");
 }
 
-/// Adds one tuple of these fields.
 fn add_group(out: &mut Text, fields: &[Field], piece: Piece) {
     match fields {
         [] => out.add(empty(piece)),
@@ -80,7 +78,6 @@ fn add_group(out: &mut Text, fields: &[Field], piece: Piece) {
     }
 }
 
-/// Adds the tuple of two fields or more.
 fn add_several(out: &mut Text, fields: &[Field], piece: Piece) {
     let mut separator = "(";
     for field in fields {

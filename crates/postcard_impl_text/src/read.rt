@@ -1,4 +1,5 @@
-//! The items of a file, read from its tokens.
+//! The items of a file, read from its tokens. The functions below [`items`] fail with what is wrong
+//! with a declaration, and where, and with `OutOfMemory`.
 
 use crate::item::{Field, Item, Member, Parameters, Span, Style};
 use crate::scan::{
@@ -11,7 +12,7 @@ use postcard_dyn_file::token::{Token, after_word, is_at, is_name_at, token_at};
 use postcard_impl_error::{ImplProblem, ImplProblemAt};
 use std::alloc::Global;
 
-/// The greatest number of fields of a struct or a variant: twelve tuples of five.
+/// The most fields of a struct or a variant: twelve tuples of five.
 const MAX_FIELDS: usize = 60;
 
 /// The names of variables that the impls have themselves.
@@ -39,7 +40,6 @@ pub(crate) fn items<'a>(
     Ok(items)
 }
 
-/// Returns the item that a declaration is.
 fn item<'a>(
     alloc: Global,
     file: &'a str,
@@ -185,7 +185,6 @@ fn lifetimes<'a>(
     Ok(lifetimes)
 }
 
-/// Returns the parameters that are types, of those that these tokens are.
 fn types<'a>(
     alloc: Global,
     file: &'a str,
@@ -233,7 +232,6 @@ fn whole<'a>(
     Ok(members)
 }
 
-/// Returns the variants of an enum whose body begins at the index.
 fn variants<'a>(
     alloc: Global,
     file: &'a str,
@@ -254,7 +252,6 @@ fn variants<'a>(
     Ok(members)
 }
 
-/// Returns the variant that these tokens are.
 fn variant<'a>(
     alloc: Global,
     file: &'a str,
@@ -353,7 +350,6 @@ fn field<'a>(
     }
 }
 
-/// Returns the field of a tuple with this type.
 fn tuple_field<'a>(
     alloc: Global,
     file: &'a str,

@@ -45,7 +45,6 @@ pub(crate) fn raw_between<'a>(
     }
 }
 
-/// Returns what is wrong with these tokens.
 pub(crate) fn problem_of(
     file: &str,
     tokens: &[Token],
@@ -63,7 +62,6 @@ pub(crate) fn problem_of(
     }
 }
 
-/// Returns what is wrong at the token with this index.
 pub(crate) fn problem_at(tokens: &[Token], at: usize, problem: ImplProblem) -> ImplProblemAt {
     match token_at(tokens, at) {
         Some(token) => ImplProblemAt {
@@ -134,8 +132,8 @@ pub(crate) fn closing_angle(tokens: &[Token], start: usize) -> usize {
     tokens.len()
 }
 
-/// Returns the parts of these tokens that commas divide, outside of brackets, and with `angles` outside of
-/// `<` and `>`, too.
+/// Returns the parts of these tokens that commas divide, outside of brackets, and with `angles`
+/// outside of `<` and `>`, too. Fails with `OutOfMemory`.
 pub(crate) fn parts(
     alloc: Global,
     tokens: &[Token],
@@ -203,7 +201,6 @@ fn after_modifier(tokens: &[Token], at: usize) -> Option<usize> {
     }
 }
 
-/// Returns whether `crate`, `self`, `super` or `in` is at the index.
 fn is_scope(tokens: &[Token], at: usize) -> bool {
     is_at(tokens, at, b"crate")
         || is_at(tokens, at, b"self")

@@ -2,14 +2,12 @@
 
 use crate::form::Form;
 use crate::heads::{
-    DESERIALIZE, DESERIALIZE_OWNED, SERIALIZES, Trait, USE_VIA, add_decoded_body, add_head,
-    add_owned,
+    DESERIALIZE, DESERIALIZE_OWNED, SERIALIZES, Trait, USE_VIA, add_head, add_owned, add_parts_body,
 };
 use crate::item::{Item, Member};
 use crate::pieces::{Lifetimes, Piece, add_tuple, add_value};
 use crate::text::Text;
 
-/// Adds the impls of a struct.
 pub(crate) fn add_struct(out: &mut Text, item: &Item, form: Form) {
     let Some(member) = item.members.first() else {
         return;
@@ -28,7 +26,6 @@ pub(crate) fn add_struct(out: &mut Text, item: &Item, form: Form) {
     add_reads(out, item, member, form);
 }
 
-/// Adds the impl of `Shaped`.
 fn add_shape(out: &mut Text, item: &Item, member: &Member) {
     let fields = member.fields.as_slice();
     add_head(out, item, Trait::Shaped);
@@ -42,19 +39,18 @@ fn add_shape(out: &mut Text, item: &Item, member: &Member) {
 /// Adds the impl by which a struct is made of its parts.
 fn add_from_parts(out: &mut Text, item: &Item, member: &Member) {
     let fields = member.fields.as_slice();
-    add_head(out, item, Trait::FromDecoded);
+    add_head(out, item, Trait::FromParts);
     out.add("    type Parts = ");
     add_tuple(out, fields, Piece::Type);
     out.add(";\n\n    ghost seen = { λ v. ");
     add_tuple(out, fields, Piece::OfValue);
-    out.add(" };\n\n    fn from_decoded(parts: Self::Parts) -> Self {\n        let ");
+    out.add(" };\n\n    fn from_parts(parts: Self::Parts) -> Self {\n        let ");
     add_tuple(out, fields, Piece::Variable);
     out.add(" = parts;\n        ");
     add_value(out, &[item.name], member);
     out.add("\n    }\n}\n");
 }
 
-/// Adds the body of a `serialize`, and the end of its impl.
 fn add_serialize_body(out: &mut Text, member: &Member) {
     let fields = member.fields.as_slice();
     if fields.len() < 2 {
@@ -89,7 +85,7 @@ fn add_reads(out: &mut Text, item: &Item, member: &Member, form: Form) {
 /// end of its impl.
 fn add_read_body(out: &mut Text, item: &Item, member: &Member, form: Form, lifetimes: Lifetimes) {
     if form == Form::ByParts {
-        add_decoded_body(out, lifetimes);
+        add_parts_body(out, lifetimes);
         return;
     }
     let call = match lifetimes {

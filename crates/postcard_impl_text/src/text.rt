@@ -16,7 +16,6 @@ pub(crate) struct Text {
 }
 
 impl Text {
-    /// Returns an empty text.
     pub(crate) fn new(alloc: Global) -> Text {
         Text {
             added: String::new(alloc),
@@ -24,14 +23,12 @@ impl Text {
         }
     }
 
-    /// Adds a text to the end.
     pub(crate) fn add(&mut self, text: &str) {
         if self.outcome.is_ok() {
             self.outcome = self.added.push_str(text);
         }
     }
 
-    /// Adds texts to the end, in their order.
     pub(crate) fn add_all(&mut self, texts: &[&str]) {
         for text in texts {
             self.add(text);
@@ -52,11 +49,8 @@ impl Text {
         }
     }
 
-    /// Returns all that was added.
-    ///
-    /// # Errors
-    ///
-    /// Fails with `OutOfMemory` if memory lacked for a text that was to be added.
+    /// Returns all that was added. Fails with `OutOfMemory` if memory lacked for a text that was to
+    /// be added.
     pub(crate) fn finish(self) -> Result<String, ImplProblemAt> {
         self.outcome?;
         Ok(self.added)

@@ -1,6 +1,6 @@
-//! The impls of the types of a file, as they are written between its marks.
+//! The text of all impls of a file: what is read by parts first, if a type needs it, and then each
+//! type's.
 
-use crate::decoded::add_decoded;
 use crate::enums::add_enum;
 use crate::form::Form;
 use crate::item::Item;
@@ -18,7 +18,6 @@ pub(crate) fn impls(
     forms: &[Form],
 ) -> Result<String, ImplProblemAt> {
     let mut out = Text::new(alloc);
-    add_decoded(&mut out, items, forms);
     for (item, form) in items.iter().zip(forms) {
         match item.kind {
             Kind::Struct => add_struct(&mut out, item, *form),

@@ -1,6 +1,6 @@
-//! The reading flavors: the source over a slice, and the source over a reader, by what it takes
-//! from its reader and from its scratch. The readers read many bytes a call, read one byte a call,
-//! or fail.
+//! Tests of the reading flavors: the source over a slice, and the source over a reader, by what it
+//! takes from its reader and from its scratch. The readers read many bytes a call, read one byte a
+//! call, or fail. Two of the readers are tested alone, too.
 
 ghost use Rattle.std.specs.Prelude.{◌≡◌, ◌<◌, ◌≤◌, [], ◌++◌, length, take, Some, IsOk, ⊤};
 ghost use Rattle.postcard_de_flavors.specs.IOReader.{scratch_of};

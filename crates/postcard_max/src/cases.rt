@@ -12,14 +12,14 @@ use crate::sizes::{greater, sum, varint_len};
 use postcard_shape::{Case, Cased, NoCase};
 
 /// Variants in a row whose contents each have a greatest size: `NoCase`, or a `Case` of a type with
-/// [`MaxSize`], followed by other variants. They may be the last variants of an enum, so their
-/// sizes depend on the index of the first of them: `None` if that does not fit `usize`.
+/// [`MaxSize`], followed by others. They may be the last variants of an enum, so their sizes depend
+/// on the index of the first of them: `None` if that does not fit `usize`.
 pub trait MaxCases: Cased {
     /// The greatest size of a variant with its index, and its conditions, as in [`MaxSize`].
     ghost limit: { Option ℕ → SizeLimit };
 
-    /// Returns the greatest size in bytes of a variant with its index, or `None` if it does not fit
-    /// `usize`. The first variant has the index `index`.
+    /// Returns the greatest size of a variant with its index, or `None` if it does not fit `usize`.
+    /// The first variant has the index `index`.
     fn cases_size(index: Option<usize>) -> Option<usize>
         ensures { result ≡ (limit index).greatest };
 
@@ -49,7 +49,7 @@ impl<A: MaxSize, R: MaxCases> MaxCases for Case<A, R> {
     ghost lawful = { case_lawful A.lawful R.lawful };
 }
 
-/// The size of one variant with its index.
+/// The size of one variant with its index, or `None` if it does not fit `usize`.
 fn case_size<A: MaxSize>(index: Option<usize>) -> Option<usize>
     ensures { result ≡ sum_of (len_of index) A.limit.greatest }
 {

@@ -1,5 +1,4 @@
-//! Laws of greatest sizes: the table of all of them, and what follows from a size. The functions do
-//! nothing: their contracts are the laws.
+//! Laws of greatest sizes, as contracts of functions that do nothing.
 
 ghost use Rattle.std.specs.Prelude.{◌≤◌, length, Some, IfSome, [], ◌∷◌, ⊤};
 ghost use Rattle.postcard_wire.specs.Spelling.{canonical};

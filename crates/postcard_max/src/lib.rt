@@ -1,9 +1,8 @@
 //! The greatest size of a type's encodings, in bytes, so that a buffer can be sized once for all
-//! its values.
+//! its values: [`MaxSize`], as a number for a program and as a theorem for a proof. A struct or an
+//! enum has it by [`MaxSizeRepr`].
 //!
-//! [`MaxSize`] has the greatest size of a type, as a number for a program and as a theorem for a
-//! proof. A struct or an enum has it by [`MaxSizeRepr`]. In reading order: [`max_size`], [`sizes`],
-//! [`rows`], [`cases`], `values`, [`laws`].
+//! In reading order: [`max_size`], [`sizes`], [`rows`], [`cases`], `values`, [`laws`].
 #![tactic(auto)]
 
 pub mod cases;

@@ -21,7 +21,7 @@ pub trait MaxSize: Shaped {
         ensures { result ≡ limit.greatest };
 
     /// Does nothing. Its contract tells the prover that this value fits and that the type reads its
-    /// tree, so that its encoding has at most the type's greatest size.
+    /// tree.
     fn in_forms(&self)
         ensures fits { Self.shape.fits self.now }
         ensures in_forms { Self.shape.reads (Self.shape.tree self.now) };

@@ -1,5 +1,5 @@
-//! The greatest sizes of the types of std and of `arrayvec`, a module for each kind. A type that is
-//! written as another has the size of that; [`table`](crate::laws::table) has them all.
+//! The greatest sizes of the types of std and of `arrayvec`, a module for each kind;
+//! [`table`](crate::laws::table) has them all.
 
 mod fixed;
 mod floats;

@@ -72,7 +72,7 @@ impl<F: Flavor, K: Lasting<F>> fmt::Write for FmtWriter<F, K> {
     }
 }
 
-/// Returns the number of bytes that a value prints.
+/// Returns the number of bytes that a value prints, or fails if its `Display` does.
 fn count_text<T: Display>(value: &T) -> std::result::Result<usize, fmt::Error>
     ensures { IfOk result
         (λ n. IfSome (T.output value.now) (λ u. (n ≡ length u) × IsUtf8 u)) }
@@ -112,8 +112,8 @@ fn print<T: Display, F: Flavor>(output: F, value: &T) -> (F, fmt::Result)
 
 impl<F: Flavor> Serializer<F> {
     /// Writes the text that a value prints: the number of its bytes as a varint of 1 to 10 bytes,
-    /// and then the bytes. The value is formatted twice, first to count. Both passes must print the
-    /// same text, which the prover knows if the `Display` impl says its text (`output`).
+    /// and then the bytes. The value is formatted twice, first to count; both passes must print the
+    /// same text, which the prover knows by `output`.
     ///
     /// Fails with `CollectStrError` if the text fails to format, is longer than `usize::MAX` bytes,
     /// or is refused by the flavor, and with `SerializeBufferFull` if the flavor refuses the count.

@@ -2,36 +2,15 @@
 //!
 //! The one contract is that of [`Serialize`]: a call of `serialize` has `Wrote` the bytes of the
 //! value's tree, which the type's shape says (`Shaped`, of the crate `postcard_shape`). After an
-//! `Ok` exactly these bytes are appended, and the value `fits`, so that they are read again. If the
-//! flavor has room for them, an error is one by which the value refuses itself; without room also
-//! `SerializeBufferFull`, or `CollectStrError` in a text that a value prints. If the value doesn't
-//! refuse itself, a tidy flavor then has appended a beginning of them. The layer above cites
-//! nothing else.
+//! `Ok` exactly these bytes are appended, and the value `fits`, so that they are read again. The
+//! layer above cites nothing else.
 //!
-//! A struct of your own needs one ghost line and two impls to be written, and `FromRepr` of
-//! `postcard_de` to be read:
+//! A struct or an enum of your own implements `Repr` and [`SerializeRepr`] (`docs/TYPES.md`). A
+//! type that calls the [`Serializer`] itself more than once joins what each call wrote by the
+//! lemmas of `postcard::specs::Lemmas` whose names begin with `wrote_`.
 //!
-//! ```text
-//! impl<'a> Repr for Reading<'a> {
-//!     type As = (&'a str, u32);
-//!
-//!     ghost repr = { λ v. (v.name, v.value) };
-//! }
-//!
-//! impl SerializeRepr for Reading<'_> {
-//!     fn serialize_repr<F: Flavor>(&self, serializer: &mut Serializer<F>) -> Result<()> {
-//!         (&self.name, &self.value).serialize(serializer)
-//!     }
-//! }
-//! ```
-//!
-//! An enum is written as its variants in a row, each by [`serialize_variant`]. A type that calls
-//! the [`Serializer`] itself more than once joins what each call wrote by the lemmas of
-//! `postcard::specs::Lemmas` whose names begin with `wrote_`.
-//!
-//! In reading order: the crates `postcard_ser_flavors`, of which [`Flavor`] and [`Slice`] are
-//! re-exported here, and `postcard_shape`; `serializer`, `collect_str`, `serialize`, `repr`,
-//! `cases`, `values`.
+//! In reading order: `serializer`, `collect_str`, `serialize`, `repr`, `cases`, `values`.
+//! [`Flavor`] and [`Slice`] are those of `postcard_ser_flavors`.
 #![tactic(auto)]
 
 pub mod cases;

@@ -12,9 +12,8 @@ use postcard_wire::Result;
 
 /// A type that is written as the type that its `Repr` names.
 ///
-/// A struct writes the tuple of its fields, as `(&self.name, &self.count).serialize(serializer)`.
-/// An enum writes the variant of each arm of a `match` by `serialize_variant`. The prover needs no
-/// help for either.
+/// A struct writes the tuple of its fields, as `(&self.name, &self.count).serialize(serializer)`,
+/// and an enum the variant of each arm of a `match` by `serialize_variant`.
 pub trait SerializeRepr: Repr {
     /// Writes the value that `repr` makes of this one, as its `serialize` does.
     fn serialize_repr<F: Flavor>(&self, serializer: &mut Serializer<F>) -> Result<()>

@@ -12,8 +12,7 @@ use postcard_wire::Result;
 /// A type whose values are written, as their shape says.
 ///
 /// Your own struct or enum implements `SerializeRepr`, and gets this trait by that. A type that
-/// implements `Shaped` itself, as one that refuses values or whose text may fail to print,
-/// implements this trait itself, too.
+/// implements `Shaped` itself implements this trait itself, too.
 pub trait Serialize: Shaped {
     /// Writes the canonical encoding of the value's tree.
     ///
@@ -21,10 +20,10 @@ pub trait Serialize: Shaped {
     ///
     /// Fails with `SerializeBufferFull` if the flavor refuses a piece. A type that is written as
     /// the text that it prints may fail with `CollectStrError` instead, also if it fails to print,
-    /// and one whose values refuse themselves with the errors that its shape names. A value made of
-    /// others refuses itself if one of them does. If the flavor has room for the encoding, no other
-    /// error is returned. What the flavor took before the error stays in it: over a tidy flavor a
-    /// beginning of the encoding, or nothing, unless the value refuses itself.
+    /// and one whose values refuse themselves with the errors that its shape names. A value refuses
+    /// itself if a part of it does. If the flavor has room for the encoding, no other error is
+    /// returned. What the flavor took before the error stays in it: over a tidy flavor a beginning
+    /// of the encoding, or nothing, unless the value refuses itself.
     fn serialize<F: Flavor>(&self, serializer: &mut Serializer<F>) -> Result<()>
         ensures wrote { Wrote F.Flavor serializer.old.output (canonical (Self.shape.tree self.now))
             (Self.shape.refusal self.now) Self.shape.text result serializer.new.output }

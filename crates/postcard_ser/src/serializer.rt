@@ -1,5 +1,5 @@
-//! The calls by which a type writes itself, one for each node of the wire format. Here are those
-//! for numbers, texts and lists.
+//! The calls by which a type writes itself, one for each node of the format: here those for
+//! numbers, texts and lists.
 
 ghost use Rattle.std.specs.Prelude.{◌≡◌, [], ◌∷◌, ◌++◌, length, map, false, IsOk, IsErrOf, IfSome};
 ghost use Rattle.std.specs.Prelude.{OnOk};
@@ -38,8 +38,8 @@ use postcard_wire::{Error, Result};
 /// own error is; only in the text of `collect_str` the error is `CollectStrError`. A call for a
 /// part of a value also fails as that part's own `serialize` does, and a list or a map without a
 /// length with `SerializeSeqLengthUnknown`, before anything is written. A call that writes nothing
-/// never fails. What the flavor took before the error stays in it: over a tidy flavor a beginning
-/// of what the call writes, or nothing, unless the value refuses itself.
+/// never fails. What the flavor took before the error stays in it, as
+/// [`Serialize::serialize`](crate::Serialize::serialize) says.
 #[derive(Drop)]
 pub struct Serializer<F: Flavor> {
     /// The flavor that the bytes go to.
@@ -72,7 +72,6 @@ impl<F: Flavor> Serializer<F> {
         self.output.try_varint(n).map_err(refusal)
     }
 
-    /// Writes the count of the bytes, and then the bytes.
     fn extend_counted(&mut self, piece: &[u8]) -> Result<()>
         ensures { Wrote F.Flavor self.old.output (digits (length piece.now) ++ piece.now) never ⊥
             result self.new.output }
@@ -88,7 +87,7 @@ impl<F: Flavor> Serializer<F> {
         false
     }
 
-    /// Writes a `u8` as one byte.
+    /// Writes a `u8`.
     pub fn serialize_u8(&mut self, v: u8) -> Result<()>
         ensures { Wrote F.Flavor self.old.output (canonical (Byte v)) never ⊥
             result self.new.output }
@@ -96,7 +95,7 @@ impl<F: Flavor> Serializer<F> {
         self.push(v)
     }
 
-    /// Writes a `u16` as a varint of 1 to 3 bytes.
+    /// Writes a `u16`.
     pub fn serialize_u16(&mut self, v: u16) -> Result<()>
         ensures { Wrote F.Flavor self.old.output (canonical (Num 16 v)) never ⊥
             result self.new.output }
@@ -104,7 +103,7 @@ impl<F: Flavor> Serializer<F> {
         self.serialize_u32(u32::from(v))
     }
 
-    /// Writes a `u32` as a varint of 1 to 5 bytes.
+    /// Writes a `u32`.
     pub fn serialize_u32(&mut self, v: u32) -> Result<()>
         ensures { Wrote F.Flavor self.old.output (canonical (Num 32 v)) never ⊥
             result self.new.output }
@@ -112,7 +111,7 @@ impl<F: Flavor> Serializer<F> {
         self.varint(u64::from(v))
     }
 
-    /// Writes a `u64` as a varint of 1 to 10 bytes.
+    /// Writes a `u64`.
     pub fn serialize_u64(&mut self, v: u64) -> Result<()>
         ensures { Wrote F.Flavor self.old.output (canonical (Num 64 v)) never ⊥
             result self.new.output }
@@ -120,7 +119,7 @@ impl<F: Flavor> Serializer<F> {
         self.varint(v)
     }
 
-    /// Writes a `u128` as a varint of 1 to 19 bytes.
+    /// Writes a `u128`.
     pub fn serialize_u128(&mut self, v: u128) -> Result<()>
         ensures { Wrote F.Flavor self.old.output
             (canonical (Num 128 v)) never ⊥ result self.new.output }
@@ -129,7 +128,7 @@ impl<F: Flavor> Serializer<F> {
         self.extend(varint_u128(v, &mut out))
     }
 
-    /// Writes an `i8` as one byte, in two's complement.
+    /// Writes an `i8`.
     pub fn serialize_i8(&mut self, v: i8) -> Result<()>
         ensures { Wrote F.Flavor self.old.output (canonical (Byte (cast_unsigned w8 v))) never ⊥
             result self.new.output }
@@ -137,7 +136,7 @@ impl<F: Flavor> Serializer<F> {
         self.push(v.cast_unsigned())
     }
 
-    /// Writes the zigzag encoding of an `i16` as a varint of 1 to 3 bytes.
+    /// Writes an `i16`.
     pub fn serialize_i16(&mut self, v: i16) -> Result<()>
         ensures { Wrote F.Flavor self.old.output (canonical (Int 16 v)) never ⊥
             result self.new.output }
@@ -145,7 +144,7 @@ impl<F: Flavor> Serializer<F> {
         self.serialize_u16(zig_zag_i16(v))
     }
 
-    /// Writes the zigzag encoding of an `i32` as a varint of 1 to 5 bytes.
+    /// Writes an `i32`.
     pub fn serialize_i32(&mut self, v: i32) -> Result<()>
         ensures { Wrote F.Flavor self.old.output (canonical (Int 32 v)) never ⊥
             result self.new.output }
@@ -153,7 +152,7 @@ impl<F: Flavor> Serializer<F> {
         self.serialize_u32(zig_zag_i32(v))
     }
 
-    /// Writes the zigzag encoding of an `i64` as a varint of 1 to 10 bytes.
+    /// Writes an `i64`.
     pub fn serialize_i64(&mut self, v: i64) -> Result<()>
         ensures { Wrote F.Flavor self.old.output (canonical (Int 64 v)) never ⊥
             result self.new.output }
@@ -161,7 +160,7 @@ impl<F: Flavor> Serializer<F> {
         self.serialize_u64(zig_zag_i64(v))
     }
 
-    /// Writes the zigzag encoding of an `i128` as a varint of 1 to 19 bytes.
+    /// Writes an `i128`.
     pub fn serialize_i128(&mut self, v: i128) -> Result<()>
         ensures { Wrote F.Flavor self.old.output
             (canonical (Int 128 v)) never ⊥ result self.new.output }

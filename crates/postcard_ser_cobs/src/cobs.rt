@@ -19,9 +19,8 @@ mod runs;
 /// that the storage already holds.
 ///
 /// Data of `n` bytes becomes a frame of at most `n + n / 254 + 2` bytes, its sentinel included.
-/// While the frame is open, the storage holds what it held before, followed by the frame without
-/// its sentinel, in which the last code byte is still to be set; `finalize` sets it and writes the
-/// sentinel.
+/// While the frame is open, the storage holds it without its sentinel, and the last code byte is
+/// still to be set; `finalize` sets it and writes the sentinel.
 ///
 /// # Errors
 ///
@@ -63,8 +62,8 @@ impl<B: Storage + Drop> Cobs<B> {
     }
 
     /// Opens a frame as [`try_new`](Cobs::try_new) does, for a caller that wants its storage back
-    /// in any case. If the storage has no room for one byte, the `Cobs` has failed. The Rust crate
-    /// has no such call.
+    /// in any case. If there is no room for one byte, the `Cobs` has failed. The Rust crate has no
+    /// such call.
     pub fn open(storage: B) -> Cobs<B>
         ensures opens_after_held { IsFalse result.failed → HoldsOpen B.held result.storage
             result.start result.encoder result.failed (B.held storage) [] }
@@ -84,9 +83,8 @@ impl<B: Storage + Drop> Cobs<B> {
         }
     }
 
-    /// Closes the frame with its last code byte and the sentinel, and returns the storage, which
-    /// then holds what it held before the frame, followed by the whole frame. If the second part is
-    /// an error, a storage of `postcard_ser_flavors` holds only part of a frame after that. The
+    /// Closes the frame with its last code byte and the sentinel, and returns the storage. If the
+    /// second part is an error, a storage of `postcard_ser_flavors` holds only part of a frame. The
     /// Rust crate has no such call.
     pub fn close(self) -> (B, Result<()>)
         ensures holds_frame { OnOk result.1 ((before d : List ℕ)
@@ -183,7 +181,7 @@ impl<B: Storage + Drop> Flavor for Cobs<B> {
     }
 
     /// Takes bytes of data. Each run of bytes between zeros goes to the storage in one piece, and
-    /// so do bytes that are dense with zeros, but each piece is cut where a group of 254 bytes is
+    /// so do bytes that are dense with zeros, but each piece ends where a group of 254 bytes is
     /// full.
     fn try_extend(&mut self, bytes: &[u8]) -> Result<()>
         ensures pushed { PushedBy ⟦<Self as Flavor>⟧ self.old bytes.now result self.new }

@@ -1,9 +1,9 @@
 //! Frames: the flavor [`Cobs`] encodes the bytes that it takes by COBS, and writes the frame into a
 //! storage: a `Slice`, an `HVec`, an `AllocVec`, or a user's own.
 //!
-//! The crate `postcard_cobs` explains frames. A code byte is known only at the end of its group, so
-//! the flavor goes back and sets it. It counts places from the first byte of the frame, so a frame
-//! can be written after bytes that the storage already holds:
+//! A code byte is known only at the end of its group, so the flavor goes back and sets it. It
+//! counts places from the first byte of the frame, so a frame can be written after bytes that the
+//! storage already holds:
 //!
 //! ```text
 //! let mut frame = Cobs::try_new(AllocVec::from_vec(vec))?;

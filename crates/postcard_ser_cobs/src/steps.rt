@@ -10,7 +10,6 @@ use postcard_cobs::{EncoderState, PushResult};
 use postcard_ser_flavors::{Flavor, Storage};
 use postcard_wire::{Error, Result};
 
-/// Appends a byte.
 pub(crate) fn push_one<B: Storage>(storage: &mut B, byte: u8) -> Result<()>
     ensures appends { OnOk result (B.held storage.new ≡ B.held storage.old ++ byte ∷ []) }
     ensures has_room { B.free storage.old 1 → IsOk result }
@@ -25,7 +24,6 @@ pub(crate) fn push_one<B: Storage>(storage: &mut B, byte: u8) -> Result<()>
     }
 }
 
-/// Appends bytes in one piece.
 pub(crate) fn push_piece<B: Storage>(storage: &mut B, bytes: &[u8]) -> Result<()>
     ensures appends { OnOk result (B.held storage.new ≡ B.held storage.old ++ bytes.now) }
     ensures has_room { B.free storage.old (length bytes.now) → IsOk result }

@@ -17,8 +17,8 @@ use std::marker::Model;
 use std::ops::{Index, IndexMut};
 
 /// Appends to a vector that grows by the allocator, to a multiple of its capacity at a time. A
-/// piece is written whole, in one copy, or not at all. A push fails only if an allocation fails,
-/// with `SerializeBufferFull`, and changes nothing then.
+/// piece is written whole or not at all. A push fails only if an allocation fails, with
+/// `SerializeBufferFull`, and changes nothing then.
 ///
 /// A contract sees the bytes that it holds.
 #[derive(Drop)]

@@ -39,8 +39,7 @@ pub trait Flavor {
     fn try_push(&mut self, byte: u8) -> Result<()>
         ensures { Pushed appended room tidy reaches self.old (byte ∷ []) result self.new };
 
-    /// Takes bytes in a row, by default one by one. A flavor that can take them at once overrides
-    /// this.
+    /// Takes bytes in a row, by default one by one.
     fn try_extend(&mut self, bytes: &[u8]) -> Result<()>
         ensures { Pushed appended room tidy reaches self.old bytes.now result self.new }
     {
@@ -50,8 +49,7 @@ pub trait Flavor {
         Ok(())
     }
 
-    /// Takes the varint of a number of at most 64 bits, 1 to 10 bytes. A flavor that can write it
-    /// in place overrides this.
+    /// Takes the varint of a number of at most 64 bits, 1 to 10 bytes.
     fn try_varint(&mut self, n: u64) -> Result<()>
         ensures { Pushed appended room tidy reaches self.old (digits n) result self.new }
     {

@@ -1,12 +1,7 @@
 //! Where written bytes go: a flavor takes them one by one or many at once, and returns its output
-//! at the end.
-//!
-//! The one contract is that of [`Flavor`], by the record `Pushed`. After an `Ok` the bytes that
-//! were passed are `appended`; bytes that it has `room` for are taken; `reaches` says what a call
-//! leaves, whether it succeeds or fails. The layer above cites nothing else, but for a `Slice`,
-//! whose `into_parts` says what a caller's buffer holds in the end.
-//!
-//! Which flavor for what:
+//! at the end. The one contract is that of [`Flavor`], by the record `Pushed`. The layer above
+//! cites nothing else, but for a `Slice`, whose `into_parts` says what a caller's buffer holds in
+//! the end.
 //!
 //! | A message goes | Flavor | Output | Fails |
 //! |---|---|---|---|
@@ -18,8 +13,8 @@
 //! | nowhere, but is counted | [`Size`] | the number of bytes | above `usize::MAX` |
 //!
 //! Each fails with `SerializeBufferFull`; its page says what a failure leaves. Only the `finalize`
-//! of a `WriteFlavor` may fail. A flavor of your own, also one over another flavor, implements the
-//! same trait; `example_types` has one that writes to two others.
+//! of a `WriteFlavor` may fail. A flavor of your own implements the same trait; `example_types` has
+//! one.
 //!
 //! In reading order: `flavor`, `storage`, `slice`, and the other flavors.
 #![tactic(auto)]

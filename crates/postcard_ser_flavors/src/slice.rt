@@ -63,9 +63,8 @@ impl<'a> Slice<'a> {
         }
     }
 
-    /// Returns the whole slice that was lent, and the number of bytes written at its front. So a
-    /// caller can say what its buffer holds in the end, also after a failure. The Rust crate has no
-    /// such call.
+    /// Returns the whole slice that was lent, and the number of bytes written at its front, also
+    /// after a failure. The Rust crate has no such call.
     pub fn into_parts(self) -> (&'a mut [u8], usize)
         ensures same_loan { result.0.ghost_name ≡ self.entry.loan }
         ensures parts { (result.0.now ≡ self.entry.buffer) × (result.1 ≡ self.entry.count) }

@@ -4,8 +4,8 @@ ghost use Rattle.std.specs.Prelude.{◌≡◌, T};
 ghost use Rattle.std.specs.Float.{binary32, binary64};
 ghost use Rattle.std.specs.Float.Ieee.{fits};
 
-/// Returns the same number. The prover doesn't know of a number that it finds behind a reference that
-/// it is a value of its format.
+/// Returns the same number. The prover doesn't know that a number behind a reference is a value of
+/// its format.
 pub fn known_f32(x: f32) -> f32
     ensures same { result ≡ x }
     ensures fits { T (fits binary32 x) }

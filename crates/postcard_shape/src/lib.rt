@@ -5,9 +5,8 @@
 //! values, when two values look alike, whether reading asks for memory, what holds of every value
 //! that a program has, and the laws: the encodings are prefix-free, what is read is well formed,
 //! the values of one tree look alike, and what was written is read again. `specs/` has the shapes
-//! of values that are one node (`Leaves`, `Floats`, `Spans`, `Enumerations`) and the combinators
-//! (`Shape`, `Lists`, `Options`, `Rows`, `Cases`, `Maps`, `Refusing`, `Only`), each of which makes
-//! a shape from those of its parts, laws included, so that a type says its shape in one line.
+//! of values that are one node, and the combinators, each of which makes a shape from those of its
+//! parts, laws included, so that a type says its shape in one line.
 //!
 //! In reading order: [`shape`], [`first`], [`rows`], [`cases`], `runs` and `pieces`, [`formats`],
 //! `values`.

@@ -230,7 +230,7 @@ pub(crate) fn append<T: Varint>(
 }
 
 /// The part of [`append`] for lists that are long enough, if they have room for a row. It is a
-/// function of its own, so that the loop that calls [`append`] stays small: few lists are long.
+/// function of its own, so that the loop that calls [`append`] stays small.
 #[inline(never)]
 fn append_row<T: Varint>(items: &mut Vec<T>, bytes: &[u8], most: usize) -> Result<Option<usize>>
     requires small { type_size T.row ≤ 16 }

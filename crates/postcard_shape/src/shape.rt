@@ -18,9 +18,9 @@ pub trait Shaped {
     ghost shape: { Shape Self };
 
     /// Returns the encodings of some first `items`, one after the other, for a type whose values
-    /// are written quicker many at a time: those of all items if they are just these bytes in
-    /// memory, as those of a slice of `u8` are, or a block or a row of them, as of four or sixteen
-    /// `f32`, or of sixteen `u32` below 128. Any type may return `OneByOne`, which is the default.
+    /// are written quicker many at a time: of all items if they are just these bytes in memory, as
+    /// those of a slice of `u8` are, or of a block or a row of them, as of four or sixteen `f32`,
+    /// or of sixteen `u32` below 128. By default returns `OneByOne`.
     fn first_bytes(items: &[Self]) -> FirstBytes<'_>
     where
         Self: Sized,
@@ -32,9 +32,8 @@ pub trait Shaped {
 
     /// Appends to `items` the first elements of a list, at most `most` of them, which a front of
     /// `bytes` encodes, and returns how many bytes that front has. So a list of bytes is one copy,
-    /// and numbers are read many at a time. With `None`, which any type may return and which is the
-    /// default, nothing is appended, and elements are to be read one by one. Fails only with
-    /// `OutOfMemory`, if an allocation fails.
+    /// and numbers are read many at a time. With `None`, the default, nothing is appended, and
+    /// elements are to be read one by one. Fails only with `OutOfMemory`, if an allocation fails.
     fn append_at_hand(items: &mut Vec<Self>, bytes: &[u8], most: usize) -> Result<Option<usize>>
     where
         Self: Sized,

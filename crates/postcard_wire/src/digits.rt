@@ -26,8 +26,8 @@ impl Digits {
         Digits { value: 0, count: 0 }
     }
 
-    /// Takes the next byte of a varint of `bits` bits: 16, 32, 64 or 128, the same for each byte of
-    /// one varint. Returns the number if this was its last byte, or `None` if more bytes follow.
+    /// Takes the next byte of a varint of `bits` bits: 16, 32, 64 or 128, the same for each byte.
+    /// Returns the number if this was the last byte, or else `None`.
     ///
     /// # Errors
     ///

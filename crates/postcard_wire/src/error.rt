@@ -8,19 +8,18 @@ use std::alloc::{AllocError, AllocFailed};
 use std::fmt::Display;
 use std::{error, fmt};
 
-/// Why a value was not written or not read: the errors of postcard 1.1.3 in its order, and then
+/// Why a value was not written or not read: the errors of postcard 1.1.3, and then
 /// [`Error::OutOfMemory`], which is this port's own.
 ///
-/// An error doesn't say where in the bytes or in which part of a value it arose. No call of this
-/// port returns [`Error::NotYetImplemented`] or [`Error::DeserializeBadEnum`]; they are there so
-/// that a `match` can name them. `Display` prints the texts of postcard 1.1.3, and `Debug` the name
-/// of the variant.
+/// An error doesn't say where in the bytes or in which part of a value it arose. `Display` prints
+/// the texts of postcard 1.1.3, and `Debug` the name of the variant.
 #[derive(Clone, Debug, Drop, PartialEq, Eq)]
 pub enum Error {
     /// A call that the format can't serve, since a message doesn't say of which type it is: reading
     /// a value of any type, an identifier, or a value to be ignored. Nothing was read.
     WontImplement,
-    /// A feature that the format doesn't have yet. Never returned.
+    /// A feature that the format doesn't have yet. Never returned; it is there so that a `match`
+    /// can name it.
     NotYetImplemented,
     /// A writing flavor refused bytes: it has no room left, an allocation or its writer failed, or
     /// its count of bytes would exceed `usize::MAX`.
@@ -114,8 +113,7 @@ impl fmt::Display for Error {
 
 impl error::Error for Error {}
 
-/// A refused allocation is [`Error::OutOfMemory`], so that a type which grows may be read with `?`,
-/// as in `String::from_str(alloc, text)?`.
+/// For `?` after a call that allocates, as in `String::from_str(alloc, text)?`.
 impl From<AllocError> for Error {
     ghost from_gives = { λ _ e. e ≡ OutOfMemory };
 
@@ -124,8 +122,8 @@ impl From<AllocError> for Error {
     }
 }
 
-/// So is one that hands back the value that was to be stored, which is dropped, so that
-/// `items.push(item)?` can be written while reading.
+/// The same where the value that was to be stored is handed back, which is dropped, as in
+/// `items.push(item)?`.
 impl<T: Drop> From<AllocFailed<T>> for Error {
     ghost from_gives = { λ _ e. e ≡ OutOfMemory };
 

@@ -1,6 +1,5 @@
-//! Laws of bytes and of spellings. The functions do nothing: their contracts are the laws.
-//!
-//! A law over any set of trees is about a type that names the set.
+//! Laws of bytes and of spellings, as contracts of functions that do nothing. A law over any set of
+//! trees is about a type that names the set.
 
 ghost use Rattle.std.specs.Prelude.{◌≡◌, ℕ, ℤ, ◌+◌, ◌-◌, ◌≤◌, ◌*◌, ◌%◌, ◌^◌, ◌<◌, ◌⊎◌, ◌++◌, ◌∷◌};
 ghost use Rattle.std.specs.Prelude.{[], List, length, slice_index};
@@ -61,8 +60,8 @@ pub fn self_delimiting_containers<S: TreeSet>()
     ensures array { (n : ℕ) → IsDelimited S.has → IsDelimited (IsArray n S.has) }
 {}
 
-/// The spellings of parts in a row, and of the group that they make, are prefix-free if those of
-/// the first part and of the parts after it are.
+/// The spellings of parts in a row, and of their group, are prefix-free if those of the first part
+/// and of the parts after it are.
 pub fn self_delimiting_parts<S: TreeSet, P: PartsSet>()
     ensures end { AreDelimited IsEnd }
     ensures then { IsDelimited S.has → AreDelimited P.have → AreDelimited (IsThen S.has P.have) }
@@ -96,8 +95,7 @@ pub fn well_formed_containers<S: TreeSet>()
     ensures array { (n : ℕ) → ReadsWellFormed S.has → ReadsWellFormed (IsArray n S.has) }
 {}
 
-/// Parts in a row, and the group that they make, are well formed if the first part and the parts
-/// after it are.
+/// Parts in a row, and their group, are well formed if the first part and the parts after it are.
 pub fn well_formed_parts<S: TreeSet, P: PartsSet>()
     ensures end { PartsWellFormed IsEnd }
     ensures then { ReadsWellFormed S.has

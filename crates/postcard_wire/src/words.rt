@@ -1,8 +1,6 @@
-//! Varints that are in memory, many at a time: the bytes of each by one load of eight bytes.
-//!
-//! The steps below return numbers only if the bytes are as those of most are: at most eight for a
-//! number, and in range. If they return none, the caller reads byte by byte
-//! ([`Digits`](crate::digits::Digits)).
+//! Varints that are in memory, many at a time: the bytes of each by one load of eight bytes. If
+//! what is here returns no numbers, as for a varint of more than eight bytes or out of range, the
+//! caller reads byte by byte ([`Digits`](crate::digits::Digits)).
 
 ghost use Rattle.std.specs.Prelude.{◌≡◌, ℕ, ◌+◌, ◌*◌, ◌≤◌, ◌<◌, ◌^◌, List, length, take, drop};
 ghost use Rattle.std.specs.Prelude.{IfSome, slice_index};
@@ -161,8 +159,8 @@ pub struct Run {
 }
 
 /// Cuts the next numbers of `bits` bits, which must be 16, 32 or 64, from the front of a block, for
-/// which [`ends`] returned `ends`. Returns `None` if one of them has more than eight bytes or is
-/// out of range, or if they have more than 64 bytes together.
+/// which [`ends`] returned `ends`. Returns `None` if one has more than eight bytes or is out of
+/// range, or if they have more than 64 bytes together.
 #[inline(always)]
 pub fn cut(block: &[u8; BLOCK], ends: u64, bits: u32) -> Option<Run>
     requires { IsNarrow bits }

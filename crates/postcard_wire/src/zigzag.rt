@@ -2,9 +2,6 @@
 //! `n` becomes `2 * n`, or `-2 * n - 1` if it is negative: 0, -1, 1, -2, 2 become 0, 1, 2, 3, 4, so
 //! that a number near zero is short whatever its sign. An `i8` is not a varint: it is written as
 //! one byte.
-//!
-//! The functions `zig_zag_` return the encoding of a number of the width in their name, and
-//! `de_zig_zag_` the number whose encoding `n` is.
 
 ghost use Rattle.std.specs.Prelude.{◌≡◌};
 ghost use Rattle.postcard_wire.specs.Number.{zigzag};

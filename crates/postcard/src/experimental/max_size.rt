@@ -12,9 +12,8 @@ pub use postcard_max::{MaxSize, MaxSizeRepr, SizeBound, cases, laws, rows, sizes
 use postcard_ser::Serialize;
 use postcard_wire::Result;
 
-/// Encodes a value into the front of a buffer and returns the number of bytes written, as
-/// [`fill_slice`](crate::fill_slice) does. If `T::postcard_max_size()` is `Some(n)`, a buffer of at
-/// least `n` bytes is enough for every value that doesn't refuse itself.
+/// Does what [`fill_slice`](crate::fill_slice) does. If `T::postcard_max_size()` is `Some(n)`, a
+/// buffer of at least `n` bytes is enough for every value that doesn't refuse itself.
 pub fn fill_max_size<T: Serialize + MaxSize>(value: &T, buffer: &mut [u8]) -> Result<usize>
     ensures count_is_length { IfOk result (λ count. count
         ≡ length (canonical (T.shape.tree value.now))) }

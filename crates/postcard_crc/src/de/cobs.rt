@@ -23,12 +23,10 @@ use std::alloc::Global;
 /// Decodes a value from the frame at the front of the buffer `s`, in place, as
 /// [`from_bytes_cobs`](postcard_frame::from_bytes_cobs): the frame's data is the value's encoding,
 /// and then just its checksum. The first zero and the bytes after it stay as they are, whatever the
-/// result: the clause `writes_back` says so of the buffer once the loan has ended. The Rust crate
-/// has no such call.
+/// result (`writes_back`). The Rust crate has no such call.
 ///
-/// If the frame's data is a message with its checksum in which at most as many bits in a row were
-/// changed as the checksum has, it fails: the clause `refuses_damage`. A damaged code byte of the
-/// frame moves zeros of the data, which need not be such a change.
+/// Damage to the frame's data is refused as [`from_bytes_whole`] says (`refuses_damage`). A damaged
+/// code byte of the frame moves zeros of the data, which need not be such damage.
 ///
 /// # Errors
 ///
@@ -61,18 +59,15 @@ pub fn from_bytes_cobs<'a, T: Deserialize<'a>, W: Width, I: Implementation<W>>(
     read_checked(alloc, front, data_len, digest)
 }
 
-/// What decoding in place leaves: the whole buffer, and the lengths of the frame at its front and
-/// of the frame's data. The zero that ends the frame isn't counted, since no call here returns what
-/// follows it.
+/// What decoding in place leaves: the whole buffer, and where its parts end.
 struct DecodedFrame<'a> {
     all: &'a mut [u8],
-    /// The length of the frame; 0 if it has no data.
+    /// The length of the frame without the zero that ends it; 0 if it has no data.
     frame_len: usize,
     /// The length of the data, which is at the front of the buffer.
     data_len: usize,
 }
 
-/// Decodes the frame at the front of a buffer in place.
 fn decode_frame<'a>(s: &'a mut [u8]) -> DecodedFrame<'a>
     ensures same_loan { result.all.ghost_name ≡ s.entry.ghost_name }
     ensures decodes { IsDecodedFrame s.old result }
@@ -91,8 +86,8 @@ fn decode_frame<'a>(s: &'a mut [u8]) -> DecodedFrame<'a>
     }
 }
 
-/// Reads a value and then just its checksum from the first `data_len` bytes of `front`, the data of
-/// a frame; `front` is empty if the frame has no data.
+/// Reads a value and then just its checksum from the first `data_len` bytes of `front`, a frame's
+/// data; `front` is empty if there is none. Fails as [`from_bytes_cobs`] does.
 fn read_checked<'a, T: Deserialize<'a>, W: Width, I: Implementation<W>>(
     alloc: Global,
     front: &'a [u8],

@@ -12,9 +12,8 @@ use postcard_wire::Result;
 /// Reads from a slice, and checks at the end that the bytes after the message are its checksum: as
 /// many as its type has, the lowest first.
 ///
-/// The Rust crate has it over any flavor; here it serves [`Slice`] alone. The interface of a source
-/// doesn't say which bytes a call that fails has taken, so over another source nothing could be
-/// said of the digest.
+/// The Rust crate has it over any flavor; here it serves [`Slice`] alone, since which bytes a call
+/// that fails has taken is known only of that.
 #[derive(Drop)]
 pub struct CrcModifier<'de, B, W: Width, I: Implementation<W> = Table<W>> {
     pub flavor: B,

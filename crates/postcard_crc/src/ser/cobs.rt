@@ -18,7 +18,8 @@ use postcard_wire::Result;
 use std::alloc::Global;
 
 /// Encodes a value and its checksum as a frame after the bytes that a storage holds, ends the
-/// storage, and returns its output.
+/// storage, and returns its output. Fails as
+/// [`serialize_with_checksum`](crate::ser::serialize_with_checksum) does.
 fn framed<T: Serialize, B: Storage + Drop, W: Width, I: Implementation<W>>(
     value: &T,
     storage: B,
@@ -42,8 +43,8 @@ fn framed<T: Serialize, B: Storage + Drop, W: Width, I: Implementation<W>>(
     serialize_with_checksum(value, Cobs::try_new(storage)?, digest)
 }
 
-/// Encodes a value and its checksum as a frame into the front of `buf`, and returns that front,
-/// which is the frame with its sentinel. Nothing is allocated. The Rust crate has no such call.
+/// Encodes a value and its checksum as a frame into the front of `buf`, and returns the frame with
+/// its sentinel. Nothing is allocated. The Rust crate has no such call.
 ///
 /// # Errors
 ///
@@ -70,7 +71,7 @@ pub fn to_slice_cobs<'a, T: Serialize, W: Width, I: Implementation<W>>(
     framed(value, Slice::new(buf), digest)
 }
 
-/// Encodes a value and its checksum as a frame into a new `Vec`, the sentinel included. Fails as
+/// Encodes a value and its checksum as a frame with its sentinel into a new `Vec`. Fails as
 /// [`to_allocvec`](crate::ser::to_allocvec). The Rust crate has no such call.
 pub fn to_allocvec_cobs<T: Serialize, W: Width, I: Implementation<W>>(
     alloc: Global,

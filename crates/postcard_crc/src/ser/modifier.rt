@@ -13,8 +13,7 @@ use postcard_wire::Result;
 /// Writes to another flavor, and adds the checksum of the message at its end: as many bytes as its
 /// type has, the lowest first.
 ///
-/// It has room for a message if the inner flavor has room for the message's bytes and those of the
-/// checksum.
+/// It has room for a message if the inner flavor has room for both.
 #[derive(Drop)]
 pub struct CrcModifier<'a, B, W: Width, I: Implementation<W> = Table<W>> {
     pub flavor: B,

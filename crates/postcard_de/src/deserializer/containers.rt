@@ -1,4 +1,5 @@
 //! The calls that read a whole container: its count, if it has one, and its elements in one loop.
+//! They fail with `OutOfMemory` if an allocation fails.
 
 ghost use Rattle.std.specs.Prelude.{◌≡◌, [], ◌∷◌, ◌++◌, IfErr, OnOk};
 ghost use Rattle.postcard_de.specs.Reads.{ReadsShape, source_of};
@@ -13,16 +14,13 @@ use postcard_wire::{Error, Result};
 use std::alloc::Global;
 use std::collections::{BTreeMap, BTreeSet};
 
-/// Appends an element to a list that is to get `announced` more elements, this one included.
+/// Appends an element to a list that is to get `announced` more elements, this one included, or
+/// fails with `OutOfMemory`.
 ///
 /// If the list is full, it first asks for room for `first` more elements, or for three times the
 /// number that it has if that is greater, but never for more than `announced`. So a list takes few
 /// requests for memory, and none is for more than `first` elements or three times those that were
 /// read, whatever count a damaged message announces.
-///
-/// # Errors
-///
-/// Fails with `OutOfMemory` if the allocation fails.
 fn push_announced<T: Drop>(
     items: &mut Vec<T>,
     item: T,
@@ -46,10 +44,6 @@ fn push_announced<T: Drop>(
 
 impl<'de, F: Flavor> Deserializer<'de, F> {
     /// Reads a list: a count, and that many elements.
-    ///
-    /// # Errors
-    ///
-    /// Also fails with `OutOfMemory` if an allocation fails.
     pub(crate) fn list<T: Shaped + Drop, E: ReadElement<'de, T>>(
         &mut self,
         alloc: Global,
@@ -74,12 +68,8 @@ impl<'de, F: Flavor> Deserializer<'de, F> {
         Ok(items)
     }
 
-    /// Reads a list of at most `CAP` elements: a count, and that many elements.
-    ///
-    /// # Errors
-    ///
-    /// Also fails with `SerdeDeCustom` if there are more than `CAP` elements, once `CAP + 1` of
-    /// them have been read.
+    /// Reads a list of at most `CAP` elements: a count, and that many elements. Also fails with
+    /// `SerdeDeCustom` if there are more than `CAP`, once `CAP + 1` of them have been read.
     pub(crate) fn array_vec<T: Shaped + Drop + Default, E: ReadElement<'de, T>, const CAP: usize>(
         &mut self,
         alloc: Global,
@@ -115,10 +105,6 @@ impl<'de, F: Flavor> Deserializer<'de, F> {
 
     /// Reads a map: a count, and that many pairs of a key and a value, in any order of the keys. If
     /// a key is repeated, its last value is kept.
-    ///
-    /// # Errors
-    ///
-    /// Also fails with `OutOfMemory` if an allocation fails.
     pub(crate) fn map<
         K: Shaped + Ord + Drop,
         V: Shaped + Drop,
@@ -141,10 +127,6 @@ impl<'de, F: Flavor> Deserializer<'de, F> {
 
     /// Reads a set: a count, and that many keys, in any order. If a key is repeated, the first is
     /// kept.
-    ///
-    /// # Errors
-    ///
-    /// Also fails with `OutOfMemory` if an allocation fails.
     pub(crate) fn set<K: Shaped + Ord + Drop, E: ReadElement<'de, K>>(
         &mut self,
         alloc: Global,

@@ -12,8 +12,8 @@ use postcard_wire::Result;
 use std::alloc::Global;
 
 impl<'de, F: Flavor> Deserializer<'de, F> {
-    /// Reads the index of an enum's variant: a varint of at most 5 bytes. The content is then read
-    /// by the call for its kind. The caller has to refuse an index that no variant has.
+    /// Reads the index of an enum's variant: a varint of at most 5 bytes. The caller has to refuse
+    /// an index that no variant has, and reads the content by the call for its kind.
     pub fn deserialize_enum(&mut self, _name: &str, _variants: &[&str]) -> Result<u32>
         ensures { ReadsNode F.Flavor (number_node 32)
             (source_of self.old) result (source_of self.new) }
@@ -37,8 +37,7 @@ impl<'de, F: Flavor> Deserializer<'de, F> {
         T::deserialize(alloc, self)
     }
 
-    /// Begins the content of a variant of `len` parts, which are then read by
-    /// [`next_element`](SeqAccess::next_element). Reads nothing, and never fails.
+    /// Begins the content of a variant of `len` parts.
     pub fn tuple_variant(&mut self, len: usize) -> Result<SeqAccess>
         ensures parts { result ≡ Ok len }
         ensures unchanged { self.new ≡ self.old }
@@ -46,9 +45,7 @@ impl<'de, F: Flavor> Deserializer<'de, F> {
         Ok(SeqAccess::new(len))
     }
 
-    /// Begins the content of a variant with these fields, which are then read by
-    /// [`next_element`](SeqAccess::next_element). Only their number is used. Reads nothing, and
-    /// never fails.
+    /// Begins the content of a variant with these fields, of which only the number is used.
     pub fn struct_variant(&mut self, fields: &[&str]) -> Result<SeqAccess>
         ensures parts { result ≡ Ok (length fields.now) }
         ensures unchanged { self.new ≡ self.old }

@@ -1,4 +1,4 @@
-//! The calls for floating-point numbers.
+//! The calls for floating-point numbers. Every NaN is read as a NaN, whatever its bits.
 
 ghost use Rattle.std.specs.Float.{binary32, binary64};
 ghost use Rattle.postcard_de.specs.Reads.{ReadsNode, float_node, source_of};
@@ -9,8 +9,7 @@ use postcard_de_nodes::floats;
 use postcard_wire::Result;
 
 impl<'de, F: Flavor> Deserializer<'de, F> {
-    /// Reads an `f32`: the 4 bytes of its bits, the lowest first. Every NaN is read as a NaN,
-    /// whatever its bits.
+    /// Reads an `f32`: the 4 bytes of its bits, the lowest first.
     pub fn deserialize_f32(&mut self) -> Result<f32>
         ensures { ReadsNode F.Flavor (float_node binary32)
             (source_of self.old) result (source_of self.new) }
@@ -18,8 +17,7 @@ impl<'de, F: Flavor> Deserializer<'de, F> {
         floats::float_32(&mut self.flavor)
     }
 
-    /// Reads an `f64`: the 8 bytes of its bits, the lowest first. Every NaN is read as a NaN,
-    /// whatever its bits.
+    /// Reads an `f64`: the 8 bytes of its bits, the lowest first.
     pub fn deserialize_f64(&mut self) -> Result<f64>
         ensures { ReadsNode F.Flavor (float_node binary64)
             (source_of self.old) result (source_of self.new) }

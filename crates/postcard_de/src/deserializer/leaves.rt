@@ -11,11 +11,8 @@ use postcard_shape::Shaped;
 use postcard_wire::Result;
 
 impl<'de, F: Flavor> Deserializer<'de, F> {
-    /// Reads a boolean: the byte 0 for `false`, or 1 for `true`.
-    ///
-    /// # Errors
-    ///
-    /// Also fails with `DeserializeBadBool` for any other byte, which is taken.
+    /// Reads a boolean: the byte 0 for `false`, or 1 for `true`. Also fails with
+    /// `DeserializeBadBool` for any other byte, which is taken.
     pub fn deserialize_bool(&mut self) -> Result<bool>
         ensures { ReadsNode F.Flavor boolean_node (source_of self.old) result (source_of self.new) }
     {
@@ -23,12 +20,9 @@ impl<'de, F: Flavor> Deserializer<'de, F> {
     }
 
     /// Reads a character: a length of at most 4, and that many bytes of UTF-8. Returns the first
-    /// character; others are ignored, as in postcard 1.1.3.
-    ///
-    /// # Errors
-    ///
-    /// Also fails with `DeserializeBadChar` if the length is above 4; only the length is taken
-    /// then. The same if the bytes aren't UTF-8 or the length is 0; they are taken then.
+    /// character; others are ignored, as in postcard 1.1.3. Also fails with `DeserializeBadChar`:
+    /// if the length is above 4, which alone is taken then, if it is 0, or if the bytes aren't
+    /// UTF-8, which are taken too.
     pub fn deserialize_char(&mut self) -> Result<char>
         ensures { ReadsNode F.Flavor char_node (source_of self.old) result (source_of self.new) }
     {

@@ -9,11 +9,8 @@ use postcard_wire::{Error, Result};
 use std::alloc::Global;
 
 impl<'de, F: Flavor> Deserializer<'de, F> {
-    /// Reads an option: the byte 0 for `None`, or the byte 1 and then the content.
-    ///
-    /// # Errors
-    ///
-    /// Also fails with `DeserializeBadOption` for any other byte, which is taken.
+    /// Reads an option: the byte 0 for `None`, or the byte 1 and then the content. Also fails with
+    /// `DeserializeBadOption` for any other byte, which is taken.
     pub fn deserialize_option<T: Deserialize<'de>>(&mut self, alloc: Global) -> Result<Option<T>>
         ensures { ReadsOption F.Flavor T.shape (source_of self.old) result (source_of self.new) }
     {

@@ -8,8 +8,7 @@ use postcard_de_flavors::Flavor;
 use postcard_wire::Result;
 
 impl<'de, F: Flavor> Deserializer<'de, F> {
-    /// Begins a tuple of `len` parts, which are then read by
-    /// [`next_element`](SeqAccess::next_element). Reads nothing, and never fails.
+    /// Begins a tuple of `len` parts.
     pub fn deserialize_tuple(&mut self, len: usize) -> Result<SeqAccess>
         ensures parts { result ≡ Ok len }
         ensures unchanged { self.new ≡ self.old }
@@ -17,8 +16,7 @@ impl<'de, F: Flavor> Deserializer<'de, F> {
         Ok(SeqAccess::new(len))
     }
 
-    /// Begins a tuple struct of `len` parts, which are then read by
-    /// [`next_element`](SeqAccess::next_element). Reads nothing, and never fails.
+    /// Begins a tuple struct of `len` parts.
     pub fn deserialize_tuple_struct(&mut self, _name: &str, len: usize) -> Result<SeqAccess>
         ensures parts { result ≡ Ok len }
         ensures unchanged { self.new ≡ self.old }
@@ -26,9 +24,7 @@ impl<'de, F: Flavor> Deserializer<'de, F> {
         self.deserialize_tuple(len)
     }
 
-    /// Begins a struct with these fields, which are then read by
-    /// [`next_element`](SeqAccess::next_element). Only their number is used. Reads nothing, and
-    /// never fails.
+    /// Begins a struct with these fields, of which only the number is used.
     pub fn deserialize_struct(&mut self, _name: &str, fields: &[&str]) -> Result<SeqAccess>
         ensures parts { result ≡ Ok (length fields.now) }
         ensures unchanged { self.new ≡ self.old }

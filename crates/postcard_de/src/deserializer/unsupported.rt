@@ -1,5 +1,5 @@
-//! The calls that the format can't serve, since a message doesn't say what type it has. They are
-//! refused as in postcard 1.1.3.
+//! The calls that the format can't serve, since a message doesn't say what type it has. As in
+//! postcard 1.1.3, each fails with `WontImplement`, and changes nothing.
 
 ghost use Rattle.std.specs.Prelude.{◌≡◌, Err};
 
@@ -8,7 +8,7 @@ use postcard_de_flavors::Flavor;
 use postcard_wire::{Error, Result};
 
 impl<'de, F: Flavor> Deserializer<'de, F> {
-    /// Would read a value of any type. Always fails with `WontImplement`, and changes nothing.
+    /// Would read a value of any type. Always fails.
     pub fn deserialize_any(&mut self) -> Result<()>
         ensures refused { result ≡ Err Error.WontImplement }
         ensures unchanged { self.new ≡ self.old }
@@ -16,8 +16,7 @@ impl<'de, F: Flavor> Deserializer<'de, F> {
         Err(Error::WontImplement)
     }
 
-    /// Would read the name of a field or a variant. Always fails with `WontImplement`, and changes
-    /// nothing.
+    /// Would read the name of a field or a variant. Always fails.
     pub fn deserialize_identifier(&mut self) -> Result<()>
         ensures refused { result ≡ Err Error.WontImplement }
         ensures unchanged { self.new ≡ self.old }
@@ -25,7 +24,7 @@ impl<'de, F: Flavor> Deserializer<'de, F> {
         self.deserialize_any()
     }
 
-    /// Would skip a value of any type. Always fails with `WontImplement`, and changes nothing.
+    /// Would skip a value of any type. Always fails.
     pub fn deserialize_ignored_any(&mut self) -> Result<()>
         ensures refused { result ≡ Err Error.WontImplement }
         ensures unchanged { self.new ≡ self.old }

@@ -13,11 +13,8 @@ use postcard_wire::{Error, Result};
 use std::alloc::Global;
 use std::ffi::CString;
 
-/// Returns the text of these bytes, or `None` if one of them is 0.
-///
-/// # Errors
-///
-/// Fails with `OutOfMemory` if an allocation fails.
+/// Returns the text of these bytes, or `None` if one of them is 0. Fails with `OutOfMemory` if an
+/// allocation fails.
 #[tactic(auto, using(crate::proofs::CStrings::text_before_nul))]
 fn text_of(alloc: Global, bytes: Vec<u8>) -> Result<Option<CString>>
     ensures some { IfOk result (λ text. IfSome text (λ s. c_string_bytes s ≡ bytes.items)) }
@@ -32,7 +29,7 @@ fn text_of(alloc: Global, bytes: Vec<u8>) -> Result<Option<CString>>
 }
 
 /// Reads the bytes before the NUL at the end. Fails with `SerdeDeCustom` if one of them is 0, once
-/// all were read, and with `OutOfMemory` if an allocation fails.
+/// all were read.
 impl<'de> Deserialize<'de> for CString {
     fn deserialize<F: Flavor>(alloc: Global, d: &mut Deserializer<'de, F>) -> Result<Self> {
         let bytes = <Vec<u8>>::deserialize(alloc, d)?;

@@ -1,4 +1,5 @@
-//! Sets and maps that find a key by its hash, read as lists of their keys or pairs.
+//! Sets and maps that find a key by its hash, read as lists of their keys or pairs. Each function
+//! fails with `OutOfMemory` if an allocation fails.
 
 ghost use Rattle.std.specs.Prelude.{◌≡◌, [], IfErr, IfOk};
 ghost use Rattle.postcard_wire.specs.declared.error.Error.{Error};
@@ -17,10 +18,6 @@ use std::hash::{BuildHasher, Hash};
 
 /// Returns a set that hashes by `hasher`, into which the keys were put one by one. Of equal keys
 /// the first is kept.
-///
-/// # Errors
-///
-/// Fails with `OutOfMemory` if an allocation fails.
 fn set_of<K: Eq + Hash + Drop, S: BuildHasher + Drop>(
     alloc: Global,
     keys: Vec<K>,
@@ -38,10 +35,6 @@ fn set_of<K: Eq + Hash + Drop, S: BuildHasher + Drop>(
 
 /// Returns a map that hashes by `hasher`, into which the pairs were put one by one. Of equal keys
 /// the last value is kept.
-///
-/// # Errors
-///
-/// Fails with `OutOfMemory` if an allocation fails.
 fn map_of<K: Eq + Hash + Drop, V: Drop, S: BuildHasher + Drop>(
     alloc: Global,
     pairs: Vec<(K, V)>,
@@ -80,11 +73,7 @@ pub fn read_hash_set<'de, K: Deserialize<'de> + Eq + Hash, S: BuildHasher + Drop
 }
 
 /// Reads a map that hashes by `hasher`: the pairs in any order, of which the last value of equal
-/// keys is kept.
-///
-/// The `deserialize` of `HashMap` takes the default of its hasher. The hasher of std has a fixed
-/// seed, so a sender can choose keys that make the map slow. From input that isn't trusted, read a
-/// map by this call with a `RandomState`, or a `BTreeMap`.
+/// keys is kept. What [`read_hash_set`] says of hashers holds here too.
 ///
 /// # Errors
 ///

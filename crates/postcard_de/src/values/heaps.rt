@@ -13,11 +13,6 @@ use postcard_wire::Result;
 use std::alloc::Global;
 use std::collections::BinaryHeap;
 
-/// Returns a heap into which the elements were put one by one, in their order.
-///
-/// # Errors
-///
-/// Fails with `OutOfMemory` if an allocation fails.
 fn heap_of<T: Ord + Drop>(alloc: Global, items: Vec<T>) -> Result<BinaryHeap<T>>
     ensures items { IfOk result (λ heap. IsPermutation items.items (heap_items heap)) }
     ensures refused { IfErr result (λ e. e ≡ Error.OutOfMemory) }
@@ -30,7 +25,7 @@ fn heap_of<T: Ord + Drop>(alloc: Global, items: Vec<T>) -> Result<BinaryHeap<T>>
 }
 
 /// Reads the elements in any order, and puts them into a heap in the order in which they were read,
-/// as the Rust crate does. Fails with `OutOfMemory` if an allocation fails.
+/// as the Rust crate does.
 impl<'de, T: Deserialize<'de> + Ord> Deserialize<'de> for BinaryHeap<T> {
     fn deserialize<F: Flavor>(alloc: Global, d: &mut Deserializer<'de, F>) -> Result<Self> {
         let items = <Vec<T>>::deserialize(alloc, d)?;

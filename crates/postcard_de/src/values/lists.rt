@@ -53,11 +53,6 @@ impl<T: DeserializeOwned> DeserializeOwned for VecDeque<T> {
     }
 }
 
-/// Moves the elements of a list into the nodes of another, in their order.
-///
-/// # Errors
-///
-/// Fails with `OutOfMemory` if an allocation fails.
 fn linked_of<T: Drop>(alloc: Global, items: Vec<T>) -> Result<LinkedList<T>>
     ensures same { IfOk result (λ linked. linked ≡ items.items) }
     ensures refused { IfErr result (λ e. e ≡ Error.OutOfMemory) }
@@ -71,8 +66,7 @@ fn linked_of<T: Drop>(alloc: Global, items: Vec<T>) -> Result<LinkedList<T>>
     Ok(linked)
 }
 
-/// Reads the elements, and then moves each into a node. Fails with `OutOfMemory` if an allocation
-/// fails.
+/// Reads the elements, and then moves each into a node.
 impl<'de, T: Deserialize<'de>> Deserialize<'de> for LinkedList<T> {
     fn deserialize<F: Flavor>(alloc: Global, d: &mut Deserializer<'de, F>) -> Result<Self> {
         let elements: Vec<T> = Deserialize::deserialize(alloc, d)?;

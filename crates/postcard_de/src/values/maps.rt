@@ -9,8 +9,7 @@ use postcard_wire::Result;
 use std::alloc::Global;
 use std::collections::BTreeMap;
 
-/// Reads the pairs in any order; of equal keys the last value is kept. Fails with `OutOfMemory` if
-/// an allocation fails.
+/// Reads the pairs in any order; of equal keys the last value is kept.
 impl<'de, K: Deserialize<'de> + Ord, V: Deserialize<'de>> Deserialize<'de> for BTreeMap<K, V> {
     fn deserialize<F: Flavor>(alloc: Global, d: &mut Deserializer<'de, F>) -> Result<Self> {
         d.map::<K, V, ByDeserialize>(alloc)

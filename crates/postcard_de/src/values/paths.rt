@@ -1,4 +1,5 @@
-//! Paths: `Path`, which borrows from the source, and `PathBuf`.
+//! Paths: `Path`, which borrows from the source, is read as a `&str`, and `PathBuf` as a `String`,
+//! with the same errors.
 
 use crate::deserialize::Deserialize;
 use crate::deserializer::Deserializer;
@@ -8,7 +9,6 @@ use postcard_wire::Result;
 use std::alloc::Global;
 use std::path::{Path, PathBuf};
 
-/// Reads a text as `&str` does, and fails as that does.
 impl<'de> Deserialize<'de> for Path<'de> {
     fn deserialize<F: Flavor>(alloc: Global, d: &mut Deserializer<'de, F>) -> Result<Self> {
         let text = <&'de str>::deserialize(alloc, d)?;
@@ -16,7 +16,6 @@ impl<'de> Deserialize<'de> for Path<'de> {
     }
 }
 
-/// Reads a text as `String` does, and fails as that does.
 impl<'de> Deserialize<'de> for PathBuf {
     fn deserialize<F: Flavor>(alloc: Global, d: &mut Deserializer<'de, F>) -> Result<Self> {
         let text = <String>::deserialize(alloc, d)?;

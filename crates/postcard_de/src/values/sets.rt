@@ -9,8 +9,7 @@ use postcard_wire::Result;
 use std::alloc::Global;
 use std::collections::BTreeSet;
 
-/// Reads the keys in any order; of equal keys the first is kept. Fails with `OutOfMemory` if an
-/// allocation fails.
+/// Reads the keys in any order; of equal keys the first is kept.
 impl<'de, K: Deserialize<'de> + Ord> Deserialize<'de> for BTreeSet<K> {
     fn deserialize<F: Flavor>(alloc: Global, d: &mut Deserializer<'de, F>) -> Result<Self> {
         d.set::<K, ByDeserialize>(alloc)

@@ -1,4 +1,6 @@
-//! Slices in a box, an `Rc` or an `Arc`, and slices that may be borrowed: read as a `Vec`.
+//! Slices in a box, an `Rc` or an `Arc`, and slices that may be borrowed, as owned ones: read as a
+//! `Vec`, with the same errors. An `Rc` or an `Arc` is allocated after that, and may fail with
+//! `OutOfMemory`.
 
 use crate::deserialize::Deserialize;
 use crate::deserializer::Deserializer;
@@ -11,7 +13,6 @@ use std::boxed::BoxedSlice;
 use std::rc::RcSlice;
 use std::sync::ArcSlice;
 
-/// Reads a list as `Vec` does, and fails as that does.
 impl<'de, T: Deserialize<'de>> Deserialize<'de> for BoxedSlice<T> {
     fn deserialize<F: Flavor>(alloc: Global, d: &mut Deserializer<'de, F>) -> Result<Self> {
         let items = <Vec<T>>::deserialize(alloc, d)?;
@@ -29,8 +30,6 @@ impl<T: DeserializeOwned> DeserializeOwned for BoxedSlice<T> {
     }
 }
 
-/// Reads a list as `Vec` does, and fails as that does, and with `OutOfMemory` if an allocation
-/// fails.
 impl<'de, T: Deserialize<'de>> Deserialize<'de> for RcSlice<T> {
     fn deserialize<F: Flavor>(alloc: Global, d: &mut Deserializer<'de, F>) -> Result<Self> {
         let items = <Vec<T>>::deserialize(alloc, d)?;
@@ -54,8 +53,6 @@ impl<T: DeserializeOwned> DeserializeOwned for RcSlice<T> {
     }
 }
 
-/// Reads a list as `Vec` does, and fails as that does, and with `OutOfMemory` if an allocation
-/// fails.
 impl<'de, T: Deserialize<'de>> Deserialize<'de> for ArcSlice<T> {
     fn deserialize<F: Flavor>(alloc: Global, d: &mut Deserializer<'de, F>) -> Result<Self> {
         let items = <Vec<T>>::deserialize(alloc, d)?;
@@ -79,7 +76,6 @@ impl<T: DeserializeOwned> DeserializeOwned for ArcSlice<T> {
     }
 }
 
-/// Reads owned elements as `Vec` does, and fails as that does.
 impl<'de, T: Deserialize<'de>> Deserialize<'de> for CowSlice<'_, T> {
     fn deserialize<F: Flavor>(alloc: Global, d: &mut Deserializer<'de, F>) -> Result<Self> {
         let items = <Vec<T>>::deserialize(alloc, d)?;

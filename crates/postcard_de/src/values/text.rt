@@ -1,4 +1,5 @@
-//! Texts: `&str`, which borrows from the source, and texts that are owned or shared.
+//! Texts: `&str`, which borrows from the source, and the others, which are read as a `String`, with
+//! the same errors. An `Rc` or an `Arc` is allocated after that, and may fail with `OutOfMemory`.
 
 ghost use Rattle.postcard_de.specs.Reads.{ReadsNode, lent_text_node, text_node, source_of};
 
@@ -42,7 +43,6 @@ impl DeserializeOwned for String {
     }
 }
 
-/// Reads a text as `String` does, and fails as that does.
 impl<'de> Deserialize<'de> for BoxedStr {
     fn deserialize<F: Flavor>(alloc: Global, d: &mut Deserializer<'de, F>) -> Result<Self> {
         let text = <String>::deserialize(alloc, d)?;
@@ -60,8 +60,6 @@ impl DeserializeOwned for BoxedStr {
     }
 }
 
-/// Reads a text as `String` does, and fails as that does, and with `OutOfMemory` if an allocation
-/// fails.
 impl<'de> Deserialize<'de> for RcStr {
     fn deserialize<F: Flavor>(alloc: Global, d: &mut Deserializer<'de, F>) -> Result<Self> {
         let text = <String>::deserialize(alloc, d)?;
@@ -85,8 +83,6 @@ impl DeserializeOwned for RcStr {
     }
 }
 
-/// Reads a text as `String` does, and fails as that does, and with `OutOfMemory` if an allocation
-/// fails.
 impl<'de> Deserialize<'de> for ArcStr {
     fn deserialize<F: Flavor>(alloc: Global, d: &mut Deserializer<'de, F>) -> Result<Self> {
         let text = <String>::deserialize(alloc, d)?;
@@ -110,7 +106,6 @@ impl DeserializeOwned for ArcStr {
     }
 }
 
-/// Reads an owned text as `String` does, and fails as that does.
 impl<'de> Deserialize<'de> for CowStr<'_> {
     fn deserialize<F: Flavor>(alloc: Global, d: &mut Deserializer<'de, F>) -> Result<Self> {
         let text = <String>::deserialize(alloc, d)?;

@@ -1,4 +1,5 @@
-//! Types that hold one value of another, as `Box<T>`: read as that value.
+//! Types that hold one value of another: read as that value, with the same errors, and `Box`, `Rc`
+//! and `Arc` also with `OutOfMemory` if the allocation fails.
 
 use crate::deserialize::Deserialize;
 use crate::deserializer::Deserializer;
@@ -14,7 +15,6 @@ use std::num::{Saturating, Wrapping};
 use std::rc::Rc;
 use std::sync::Arc;
 
-/// Reads the value. Fails as that does, and with `OutOfMemory` if the allocation fails.
 impl<'de, T: Deserialize<'de>> Deserialize<'de> for Box<T> {
     fn deserialize<F: Flavor>(alloc: Global, d: &mut Deserializer<'de, F>) -> Result<Self> {
         let value = T::deserialize(alloc, d)?;
@@ -38,7 +38,6 @@ impl<T: DeserializeOwned> DeserializeOwned for Box<T> {
     }
 }
 
-/// Reads the value. Fails as that does, and with `OutOfMemory` if the allocation fails.
 impl<'de, T: Deserialize<'de>> Deserialize<'de> for Rc<T> {
     fn deserialize<F: Flavor>(alloc: Global, d: &mut Deserializer<'de, F>) -> Result<Self> {
         let value = T::deserialize(alloc, d)?;
@@ -80,7 +79,6 @@ impl<T: Shaped + Drop> FromRepr for Saturating<T> {
     }
 }
 
-/// Reads the value. Fails as that does, and with `OutOfMemory` if the allocation fails.
 impl<'de, T: Deserialize<'de>> Deserialize<'de> for Arc<T> {
     fn deserialize<F: Flavor>(alloc: Global, d: &mut Deserializer<'de, F>) -> Result<Self> {
         let value = T::deserialize(alloc, d)?;

@@ -24,8 +24,7 @@ use postcard_wire::{Error, Result};
 /// `try_take_n_temp` leaves them free for the next call.
 ///
 /// A contract sees a reader, `reader_of`, and the scratch left, `scratch_of`. A call succeeds if
-/// the reader is steady and has enough bytes left, and enough scratch is left. If the reader knows
-/// its bytes, steady or not, the bytes returned are the next of them.
+/// the reader is steady and has enough bytes left, and enough scratch is left.
 ///
 /// # Errors
 ///

@@ -1,4 +1,5 @@
-//! Each call of the deserializer and of what it returns for values with parts, and laws.
+//! Tests of the deserializer's calls for values with parts, for values without bytes, and for what
+//! tells no type; of what they return; and of two laws.
 
 use crate::asserts::{same, same_bytes, value};
 use postcard_de::laws::{one_message, read_again};

@@ -1,7 +1,5 @@
-//! The greatest sizes of floating-point numbers: 4 and 8 bytes.
-//!
-//! In each `in_forms` the value is read for the prover, which learns from it that it is a float of
-//! its type.
+//! The greatest sizes of floating-point numbers: 4 and 8 bytes. In each `in_forms` the value is
+//! read for the prover, which learns from it that it is a float of its type.
 
 ghost use Rattle.std.specs.Float.{binary32, binary64};
 ghost use Rattle.postcard_max.specs.SizeLimit.{exactly};

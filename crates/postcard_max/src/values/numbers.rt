@@ -1,8 +1,6 @@
-//! The greatest sizes of integers of 8 to 128 bits: 1 byte for 8 bits, and that of a varint, 3, 5,
-//! 10 or 19 bytes, for 16, 32, 64 or 128.
-//!
-//! In each `in_forms` the value is read for the prover, which learns from it that the number has
-//! its width.
+//! The greatest sizes of integers: 1 byte for 8 bits, and that of a varint, 3, 5, 10 or 19 bytes,
+//! for 16, 32, 64 or 128. In each `in_forms` the value is read for the prover, which learns from it
+//! that the number has its width.
 
 ghost use Rattle.std.specs.Prelude.{refl};
 ghost use Rattle.std.proofs.Common.{inl, inr};

@@ -1,8 +1,6 @@
 //! The greatest sizes of booleans, 1 byte; of characters, 5 bytes: a count, and at most four bytes
-//! of UTF-8; and of `usize` and `isize`, 10 bytes, as of numbers of 64 bits.
-//!
-//! In the `in_forms` of a number or a character the value is read for the prover, which learns its
-//! range from that.
+//! of UTF-8; and of `usize` and `isize`, 10 bytes, as of numbers of 64 bits. In each `in_forms` of
+//! a number or a character the value is read for the prover, which learns its range from that.
 
 ghost use Rattle.std.specs.Prelude.{refl};
 ghost use Rattle.std.proofs.Common.{inl, inr};

@@ -16,7 +16,6 @@ impl Serialize for Error {
     }
 }
 
-/// Returns the position of an error in [`Error`].
 fn index_of(error: &Error) -> u32
     ensures index { result ≡ error_index error.now }
     ensures few { result < 17 }

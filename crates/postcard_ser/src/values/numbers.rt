@@ -1,5 +1,4 @@
-//! Integers of 8 to 128 bits: one byte for 8 bits, in two's complement if signed, and else a varint
-//! of at most 3, 5, 10 or 19 bytes, of the zigzag encoding if signed.
+//! Integers of 8 to 128 bits, written as the [`Serializer`] says.
 
 use crate::serialize::Serialize;
 use crate::serializer::Serializer;

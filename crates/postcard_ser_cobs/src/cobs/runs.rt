@@ -58,7 +58,8 @@ fn run_len(bytes: &[u8], most: usize) -> usize
 }
 
 impl<B: Storage + Drop> Cobs<B> {
-    /// Takes a run in one piece. It must have no zero, and not make the open group full.
+    /// Takes a run in one piece. It must have no zero, and not make the open group full. Fails as
+    /// `try_push` does.
     fn push_run(&mut self, run: &[u8]) -> Result<()>
         requires no_zero { NoZero run.now }
         requires short { length run.now < 255 - self.old.encoder.code }
@@ -82,7 +83,7 @@ impl<B: Storage + Drop> Cobs<B> {
 
     /// Takes a piece at once, zeros included. It must be too short to make the open group full. A
     /// zero of the data is at the place of the next code in the frame, so the piece is pushed as it
-    /// is, and the codes are set after that.
+    /// is, and the codes are set after that. Fails as `try_push` does.
     #[inline(never)]
     fn push_dense(&mut self, piece: &[u8]) -> Result<()>
         requires short { length piece.now < 255 - self.old.encoder.code }

@@ -1,7 +1,7 @@
 //! The shapes of floating-point numbers, and their encodings many at a time.
 //!
 //! The functions `bytes_of_` return the encodings one after the other, and `bits_of_` the bits of
-//! each number, and for a NaN those of the usual one, 7FC00000 or 7FF8000000000000.
+//! each number, of a NaN always 7FC00000 or 7FF8000000000000.
 
 ghost use Rattle.std.specs.Prelude.{◌≡◌, ◌<◌, ◌≤◌, [], ◌∷◌, length, map, T};
 ghost use Rattle.std.specs.Float.{binary32, binary64};

@@ -1,5 +1,5 @@
 //! The shapes of tuples of thirteen to sixteen parts: that of their first eight and of the others,
-//! with nothing between them, so that the bytes are those of the parts in a row.
+//! whose bytes are those of the parts in a row.
 
 use crate::shape::{Repr, Shaped};
 

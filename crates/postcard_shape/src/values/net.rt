@@ -1,5 +1,5 @@
-//! The shapes of addresses of the Internet: the bytes of an address in network order, the highest
-//! first, and the port of a socket.
+//! The shapes of addresses of the Internet: the bytes in network order, the highest first, and the
+//! port of a socket.
 
 ghost use Rattle.std.specs.Net.Addr.{ipv4_octets, ipv6_octets};
 ghost use Rattle.std.specs.Net.Socket.{v4_ip, v4_port, v6_ip, v6_port};
