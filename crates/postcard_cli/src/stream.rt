@@ -49,9 +49,9 @@ use std::io::Write;
 ///
 /// # Errors
 ///
-/// Fails as [`schema_of`] does, with `OutOfMemory` if another allocation fails, with `ReadFailed`
-/// if a read fails, and with `Limit` after 2^64 - 1 reads. The lines of what was read before are
-/// printed.
+/// Fails as [`schema_of`] does, with `OutOfMemory` if another allocation fails, with `Output` if a
+/// line can't be written, with `ReadFailed` if a read fails, and with `Limit` after 2^64 - 1 reads.
+/// At the last two the lines of what was read before are printed.
 pub fn print<R: Reader, W: Write>(
     alloc: Global,
     expression: &str,
@@ -243,7 +243,7 @@ impl Stream {
         Ok(count > 0)
     }
 
-    /// Takes a piece of the stream, and prints the lines of the frames that end in it.
+    /// Takes a piece, and prints the lines of the frames that end in it. Fails as [`print`] does.
     fn take<W: Write>(
         &mut self,
         alloc: Global,
