@@ -319,6 +319,17 @@ impl postcard::Shaped for Rain {
         ⟦<(u32, Option<Millimetres>) as postcard::Shaped>⟧.shape };
 }
 
+impl postcard::FromParts for Rain {
+    type Parts = (u32, Option<Millimetres>);
+
+    ghost seen = { λ v. (v.0, v.1) };
+
+    fn from_parts(parts: Self::Parts) -> Self {
+        let (x0, x1) = parts;
+        Rain(x0, x1)
+    }
+}
+
 impl postcard::Serialize for Rain {
     fn serialize<F: postcard::ser_flavors::Flavor>(
         &self,
@@ -334,8 +345,7 @@ impl<'de> postcard::Deserialize<'de> for Rain {
         alloc: std::alloc::Global,
         d: &mut postcard::Deserializer<'de, F>,
     ) -> postcard::Result<Self> {
-        let (x0, x1) = postcard::Deserialize::deserialize(alloc, d)?;
-        Ok(Rain(x0, x1))
+        postcard::read_parts(alloc, d)
     }
 }
 

@@ -92,7 +92,7 @@ const NO_MEMORY: [&[u8]; 48] = [
     b"fixint",
 ];
 
-/// How many variants an enum has at most that the prover follows from its row into its value.
+/// How many variants an enum has at most whose plain form is proved.
 const FEW_VARIANTS: usize = 3;
 
 const SIGNED: [&[u8]; 6] = [b"i8", b"i16", b"i32", b"i64", b"i128", b"isize"];
@@ -104,8 +104,8 @@ pub(crate) enum Form {
     Alias,
     /// `Shaped` by `via`, `Serialize`, `Deserialize`, and `DeserializeOwned` if nothing in it borrows.
     Via,
-    /// The same, and `FromParts`, by which a value is made of its parts, since it has several signed
-    /// numbers, or variants.
+    /// The same, and `FromParts`, by which a value is made of its parts, since it has a signed number or
+    /// many variants, and the plain form might not be proved.
     ByParts,
     /// `Repr`, `FromRepr` and `SerializeRepr`, since it has a parameter and a lifetime.
     Seen,
@@ -140,12 +140,10 @@ fn form_of(tokens: &[Token], items: &[Item], item: &Item) -> Form {
         return Form::ByParts;
     }
     for member in &item.members {
-        let mut signed: usize = 0;
         for field in &member.fields {
-            signed = signed.saturating_add(signed_in(tokens, items, field));
-        }
-        if signed > 1 {
-            return Form::ByParts;
+            if has_signed(tokens, items, field.words) {
+                return Form::ByParts;
+            }
         }
     }
     Form::Via
@@ -156,17 +154,13 @@ fn is_seen(item: &Item) -> bool {
     !item.parameters.lifetimes.is_empty() && !item.parameters.types.is_empty()
 }
 
-/// Returns how many signed numbers the words of the field's type are.
-fn signed_in(tokens: &[Token], items: &[Item], field: &Field) -> usize {
-    let mut count: usize = 0;
-    for at in field.words.start..field.words.end {
-        if let Some(token) = token_at(tokens, at) {
-            if is_signed(token) || is_signed_alias(tokens, items, token) {
-                count = count.saturating_add(1);
-            }
-        }
-    }
-    count
+/// Returns whether one of these words of a type is the type of a signed number, or an alias that has
+/// one, also inside of an option, a list or a tuple.
+fn has_signed(tokens: &[Token], items: &[Item], words: Span) -> bool {
+    (words.start..words.end).any(|at| match token_at(tokens, at) {
+        Some(token) => is_signed(token) || is_signed_alias(tokens, items, token),
+        None => false,
+    })
 }
 
 /// Returns whether the token is the type of a signed number.
