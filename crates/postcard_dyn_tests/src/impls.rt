@@ -28,10 +28,11 @@ enum Event {
     Texts(String, [u8; 4],),
 }
 
-type Metres = i16;
-
 #[derive(Drop)]
 struct Depth(Option<Metres>);
+
+type Metres = Steps;
+type Steps = i16;
 
 /// \u{3bb}
 fn other() -> char {

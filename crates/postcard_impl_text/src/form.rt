@@ -121,15 +121,16 @@ pub(crate) fn forms(
 ) -> Result<Vec<Form>, ImplProblemAt> {
     check_recursion(alloc, tokens, items)?;
     let light = light(alloc, tokens, items)?;
+    let signed = signed(alloc, tokens, items)?;
     let mut forms = Vec::new(alloc);
     for item in items {
         check_fields(file, tokens, items, light.as_slice(), item)?;
-        forms.push(form_of(tokens, items, item))?;
+        forms.push(form_of(tokens, items, signed.as_slice(), item))?;
     }
     Ok(forms)
 }
 
-fn form_of(tokens: &[Token], items: &[Item], item: &Item) -> Form {
+fn form_of(tokens: &[Token], items: &[Item], signed: &[bool], item: &Item) -> Form {
     if item.kind == Kind::Alias {
         return Form::Alias;
     }
@@ -141,7 +142,7 @@ fn form_of(tokens: &[Token], items: &[Item], item: &Item) -> Form {
     }
     for member in &item.members {
         for field in &member.fields {
-            if has_signed(tokens, items, field.words) {
+            if has_signed(tokens, items, signed, field.words) {
                 return Form::ByParts;
             }
         }
@@ -154,31 +155,45 @@ fn is_seen(item: &Item) -> bool {
     !item.parameters.lifetimes.is_empty() && !item.parameters.types.is_empty()
 }
 
+/// Returns of each item whether it is an alias that has a signed number, or fails with `OutOfMemory`.
+fn signed(alloc: Global, tokens: &[Token], items: &[Item]) -> Result<Vec<bool>, ImplProblemAt> {
+    let mut signed = flags(alloc, items)?;
+    for _ in items {
+        for (index, item) in items.iter().enumerate() {
+            if item.kind == Kind::Alias
+                && has_signed(tokens, items, signed.as_slice(), item.words)
+            {
+                if let Some(flag) = signed.get_mut(index) {
+                    *flag = true;
+                }
+            }
+        }
+    }
+    Ok(signed)
+}
+
 /// Returns whether one of these words of a type is the type of a signed number, or an alias that has
 /// one, also inside of an option, a list or a tuple.
-fn has_signed(tokens: &[Token], items: &[Item], words: Span) -> bool {
-    (words.start..words.end).any(|at| match token_at(tokens, at) {
-        Some(token) => is_signed(token) || is_signed_alias(tokens, items, token),
-        None => false,
-    })
-}
-
-/// Returns whether the token is the type of a signed number.
-fn is_signed(token: Token) -> bool {
-    SIGNED.iter().any(|word| token.says(word))
-}
-
-/// Returns whether the token is the name of an alias that has a signed number.
-fn is_signed_alias(tokens: &[Token], items: &[Item], token: Token) -> bool {
-    for item in items {
-        if item.kind == Kind::Alias && token.says(item.name.as_bytes()) {
-            return (item.words.start..item.words.end).any(|at| match token_at(tokens, at) {
-                Some(token) => is_signed(token),
-                None => false,
-            });
+fn has_signed(tokens: &[Token], items: &[Item], signed: &[bool], words: Span) -> bool {
+    for at in words.start..words.end {
+        if let Some(token) = token_at(tokens, at) {
+            if is_signed(items, signed, token) {
+                return true;
+            }
         }
     }
     false
+}
+
+/// Returns whether the token is the type of a signed number, or an alias that has one.
+fn is_signed(items: &[Item], signed: &[bool], token: Token) -> bool {
+    if SIGNED.iter().any(|word| token.says(word)) {
+        return true;
+    }
+    match named(items, token) {
+        Some(index) => signed.get(index).copied().unwrap_or(false),
+        None => false,
+    }
 }
 
 /// Returns the index of the item with the token's text as its name, if there is one.
