@@ -5,7 +5,7 @@ ghost use Rattle.std.specs.Prelude.{◌≡◌, ◌+◌, ◌-◌, ◌^◌, ◌<�
 ghost use Rattle.std.specs.Prelude.{Some, IfOk, IfErr, IfSome, IfNone, OnOk, false, min, take};
 ghost use Rattle.std.specs.Fmt.{◌++?◌};
 ghost use Rattle.std.specs.Io.KnownBytes.{Appends};
-ghost use Rattle.postcard_cobs.specs.Groups.{NoZero};
+ghost use Rattle.postcard_cobs.specs.Groups.{Groups, NoZero};
 ghost use Rattle.postcard_dyn.specs.Explained.{HasNoFront};
 ghost use Rattle.postcard_dyn.specs.Tree.{tree};
 ghost use Rattle.postcard_dyn_text.specs.Shown.{layout_of, text};
@@ -195,7 +195,7 @@ struct Stream {
     start: u64,
     /// The number of bytes of the stream so far.
     count: u64,
-    /// The data of the frame that ended last.
+    /// The data of the last frame that had several groups.
     message: Vec<u8>,
 }
 
@@ -377,7 +377,7 @@ fn print_overfull<W: Write>(format: &Format, start: u64, output: &mut W) -> Resu
     Ok(())
 }
 
-/// Prints the line of a frame, whose data is put into `message`.
+/// Prints the line of a frame. The data of a frame of several groups is put into `message`.
 fn print_answer<W: Write>(
     alloc: Global,
     format: &Format,
@@ -391,11 +391,28 @@ fn print_answer<W: Write>(
         (W.contents output.old) (W.contents output.new)) }
     ensures refused { IfErr result (LinesFail format.now) }
 {
+    if let Some(content) = only_group(frame) {
+        return print_message(alloc, format, start, content, output);
+    }
     message.clear();
     if message.extend_from_slice(frame).is_err() {
         return Err(Failure::OutOfMemory);
     }
     print_decoded(alloc, format, start, frame, message, output)
+}
+
+/// Returns the data of a frame of one group, which lies behind its code byte as it is, or `None` if
+/// the frame has several groups or none.
+fn only_group(frame: &[u8]) -> Option<&[u8]>
+    ensures { IfSome result (λ content. NoZero frame.now → Groups frame.now content.now) }
+{
+    let Some((code, content)) = frame.split_first() else {
+        return None;
+    };
+    if usize::from(*code) != frame.len() {
+        return None;
+    }
+    Some(content)
 }
 
 /// Prints the line of a frame, of which `buffer` is a copy, in which it is decoded.
