@@ -8,7 +8,7 @@
 //! | any other | `Shaped` by `via`, `Serialize`, `Deserialize`, and `DeserializeOwned` if nothing borrows |
 //!
 //! A struct goes via the tuple of its fields, an enum via its variants in a row, and more than
-//! eight fields via tuples of five. A struct or an enum with a signed number in a field, and an
+//! six fields via tuples of five. A struct or an enum with a signed number in a field, and an
 //! enum of more than three variants, has `FromParts`, too, and is read by its parts, since without
 //! them the prover might give up. A type that has no impls that would be proved is refused with the
 //! place of the field, by one of [`ImplProblem`].
