@@ -125,7 +125,7 @@ fn read_group<'de, F: Flavor>(
 {
     let mut items = room_for(alloc, parts.len())?;
     for part in parts {
-        let item = read_value(alloc, unnamed(part), d)?;
+        let item = read_value(alloc, part, d)?;
         push(&mut items, item)?;
     }
     Ok(Value::Group(items))
@@ -147,16 +147,6 @@ fn read_variant<'de, F: Flavor>(
     let content = read_value(alloc, variant, d)?;
     let held = boxed(alloc, content)?;
     Ok(Value::Variant(index, held))
-}
-
-/// Returns the type behind the names that a schema has.
-fn unnamed(schema: &Schema) -> &Schema
-    ensures { type_of result.now ≡ type_of schema.now }
-{
-    match schema {
-        Schema::Named(_, content) => unnamed(content),
-        _ => schema,
-    }
 }
 
 /// Returns no values, and room for `count` of them.

@@ -107,7 +107,7 @@ read_group-returns-in_err-item g t c =
     let x = c.part-item.result in
     let here : types_of (drop l.part-index xs) ≡ then_type (type_of x) (types_of (drop (l.part-index + 1) xs)) = ap types_of (drop_more xs l.part-index x (omega arith) ∙ ap (λ y. y ∷ drop (l.part-index + 1) xs) (sym c.part-item.is)) in
     rw (is_refusal c.from_residual-in_err-item.result c.in_err-item.field-0.0 c.from_residual-in_err-item.ensures.1, ← c.deref-part-items.ensures.value)
-    (group_refused laws (types_of xs) (part_stops laws (rw here at l.invariant) (rw c.unnamed.ensures at c.in_err-item.ensures)))
+    (group_refused laws (types_of xs) (part_stops laws (rw here at l.invariant) c.in_err-item.ensures))
 
 pub read_group-returns-in_err-push : goal.read_group-returns-in_err-push
 read_group-returns-in_err-push g t c =
@@ -126,7 +126,7 @@ read_group-loop-part-preserved g t c =
     let xs = c.deref-part-items.result.now in
     let x = c.part-item.result in
     let here : types_of (drop l.part-index xs) ≡ then_type (type_of x) (types_of (drop (l.part-index + 1) xs)) = ap types_of (drop_more xs l.part-index x (omega arith) ∙ ap (λ y. y ∷ drop (l.part-index + 1) xs) (sym c.part-item.is)) in
-    rw c.in_ok-push.ensures.added (part_read laws (rw here at l.invariant) (rw c.unnamed.ensures at c.in_ok-item.ensures))
+    rw c.in_ok-push.ensures.added (part_read laws (rw here at l.invariant) c.in_ok-item.ensures)
 
 pub read_group-returns : goal.read_group-returns
 read_group-returns g t c =
