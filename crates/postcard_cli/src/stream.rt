@@ -611,8 +611,8 @@ fn print_short<W: Write>(
 /// one piece, which is quicker than a write to the output for each part of it; a longer one is
 /// begun anew.
 fn print_gathered<W: Write>(shown: Shown<'_>, output: &mut W) -> Result<(), Failure>
-    ensures printed { OnOk result (Prints (text (layout_of shown.schema.now) (tree shown.value.now))
-        (W.contents output.old) (W.contents output.new)) }
+    ensures printed { OnOk result (Prints (text (layout_of shown.entry.schema.now)
+        (tree shown.entry.value.now)) (W.contents output.old) (W.contents output.new)) }
     ensures refused { IfErr result (λ e. e ≡ Failure.Output) }
 {
     let mut line = ArrayString::<LINE>::new();
