@@ -1,10 +1,11 @@
-/* Measures the exports of crates/postcard_bench: `speed` prints the time of an item or of a byte, `beside` and `alone` the same as
- * rows of the tables of docs/SPEED.md, `growth` the time of a byte of longer and longer messages as such rows, `plot` the same as an image, and
- * `memory` the memory that is requested. */
+/* Measures the exports of crates/postcard_bench beside plain C: `speed` prints the time of an item or of a byte, `beside` and `values`
+ * the same as rows of two tables of docs/SPEED.md, `growth` the time of a byte of longer and longer messages as such rows, `plot` the
+ * same as an image, and `memory` the memory that is requested. */
 #include "exports.h"
 #include "growth.h"
 #include "measure.h"
 #include "plain.h"
+#include "values.h"
 #include <inttypes.h>
 #include <stdbool.h>
 #include <string.h>
@@ -73,17 +74,12 @@ static void fill_at_random(void) {
 
 static double copying;
 
-/* What is printed: lines, or rows of a table in Markdown, of only the rows that plain C stands beside or of only the others. */
-static enum { LINES, BESIDE, ALONE } form = LINES;
-
-static void tell(const char *row, double nanoseconds, const char *unit) {
-    if (form == LINES) printf("%-44s %8.2f ns %s\n", row, nanoseconds, unit);
-    else if (form == ALONE) printf("| %s | %s | %.2f |\n", row, unit, nanoseconds);
-}
+/* Whether rows of a table in Markdown are printed, and not lines. */
+static bool as_rows;
 
 static void tell_beside(const char *row, double nanoseconds, const char *unit, double plain) {
-    if (form == LINES) printf("%-44s %8.2f ns %s, plain C %.2f, ratio %.2f\n", row, nanoseconds, unit, plain, nanoseconds / plain);
-    else if (form == BESIDE) printf("| %s | %s | %.2f | %.2f | %.2f |\n", row, unit, nanoseconds, plain, nanoseconds / plain);
+    if (as_rows) printf("| %s | %s | %.2f | %.2f | %.2f |\n", row, unit, nanoseconds, plain, nanoseconds / plain);
+    else printf("%-44s %8.2f ns %s, plain C %.2f, ratio %.2f\n", row, nanoseconds, unit, plain, nanoseconds / plain);
 }
 
 /* Of 16 MiB, beside memcpy. */
@@ -135,8 +131,6 @@ static void speed_of_bytes(void) {
     size_t size = port_bytes_encode(source, MOST, room, 2 * MOST);
     BEST(best, port_bytes_decode(room, size));
     tell_bytes("16 MiB of u8: read into a vector", best);
-    BEST(best, port_bytes_lend(room, size));
-    tell("16 MiB of u8: read, lent", best, "in all");
 }
 
 static void speed_of_frames(uint8_t zero_every) {
@@ -305,26 +299,75 @@ static void require(uint64_t sum, uint32_t rounds, uint64_t each) {
     if (sum != rounds * each) fail("a message was refused, or another one was written");
 }
 
-static void speed_of_kind(uint32_t kind, uint32_t count, uint32_t length) {
-    double best;
+/* Texts, maps and records are counted without being written, too. */
+static bool has_size(uint32_t kind) { return kind == 0 || kind == 1 || kind == 3; }
+
+static void differ(uint32_t kind, const char *what) {
+    char text[128];
+    snprintf(text, sizeof text, "%s: %s", kinds[kind], what);
+    fail(text);
+}
+
+/* Requires that the library and plain C read the message and write the same bytes, that each reads what the other wrote, that they
+ * count as many, refuse each front of the message, and free what they asked for. */
+static void compare(uint32_t kind) {
+    uint8_t *other = room + MOST;
+    forget();
+    if (port_read(kind, message, message_size, 1) != 1) differ(kind, "the library refuses a message");
+    if (plain_read(kind, message, message_size, 1) != 1) differ(kind, "plain C refuses a message");
+    uint64_t size = port_write(kind, message, message_size, 1, room, MOST);
+    if (size > MOST) differ(kind, "the library doesn't write a message");
+    if (plain_write(kind, message, message_size, 1, other, MOST) != size || memcmp(room, other, size)) differ(kind, "what plain C writes is different");
+    if (plain_write(kind, room, size, 1, other, MOST) != size || memcmp(room, other, size)) differ(kind, "plain C reads another value from the library's bytes");
+    if (port_write(kind, other, size, 1, room, MOST) != size || memcmp(room, other, size)) differ(kind, "the library reads another value from plain C's bytes");
+    if (plain_write(kind, message, message_size, 1, other, size - 1) != UINT64_MAX) differ(kind, "plain C writes into too little room");
+    if (has_size(kind) && port_size(kind, message, message_size, 1) != size) differ(kind, "the library counts other bytes than it writes");
+    if (has_size(kind) && plain_size(kind, message, message_size, 1) != size) differ(kind, "plain C counts other bytes than it writes");
+    for (size_t front = 0; front < message_size; front++) {
+        if (port_read(kind, message, front, 1)) differ(kind, "the library reads a front of a message");
+        if (plain_read(kind, message, front, 1)) differ(kind, "plain C reads a front of a message");
+    }
+    if (memory.held) differ(kind, "memory was not given back");
+}
+
+/* Compares on a map whose keys are in no order, and of which some are equal. */
+static void compare_disorder(void) {
+    message = source;
+    message_size = 0;
+    put_number(1000);
+    for (uint32_t i = 0; i < 1000; i++) put_number(i * 2654435761u >> 23), put_number(i);
+    compare(1);
+}
+
+static void tell_kind(uint32_t kind, uint32_t count, uint32_t length, const char *what, double best, double plain) {
     char row[64];
+    if (kind == 0) snprintf(row, sizeof row, "%u %s of %u bytes: %s", count, kinds[kind], length, what);
+    else snprintf(row, sizeof row, "%u %s: %s", count, kinds[kind], what);
+    tell_beside(row, best, "an element", plain);
+}
+
+static void speed_of_kind(uint32_t kind, uint32_t count, uint32_t length) {
+    double best, plain;
     uint32_t rounds = 2000000 / (count * (1 + length / 16)) + 1;
     double all = (double)count * rounds;
     make(kind, count, length);
-    snprintf(row, sizeof row, kind == 0 ? "%u %s of %u bytes: read" : "%u %s: read", count, kinds[kind], length);
+    compare(kind);
     require(port_read(kind, message, message_size, rounds), rounds, 1);
+    require(plain_read(kind, message, message_size, rounds), rounds, 1);
+    BEST(plain, plain_read(kind, message, message_size, rounds));
     BEST(best, port_read(kind, message, message_size, rounds));
-    tell(row, best / all, "an element");
-    snprintf(row, sizeof row, kind == 0 ? "%u %s of %u bytes: write" : "%u %s: write", count, kinds[kind], length);
+    tell_kind(kind, count, length, "read", best / all, plain / all);
     require(port_write(kind, message, message_size, rounds, room, 2 * MOST), rounds, message_size);
+    require(plain_write(kind, message, message_size, rounds, room, 2 * MOST), rounds, message_size);
+    BEST(plain, plain_write(kind, message, message_size, rounds, room, 2 * MOST));
     BEST(best, port_write(kind, message, message_size, rounds, room, 2 * MOST));
-    tell(row, best / all, "an element");
-    if (kind == 0 || kind == 1 || kind == 3) {
-        snprintf(row, sizeof row, kind == 0 ? "%u %s of %u bytes: size" : "%u %s: size", count, kinds[kind], length);
-        require(port_size(kind, message, message_size, rounds), rounds, message_size);
-        BEST(best, port_size(kind, message, message_size, rounds));
-        tell(row, best / all, "an element");
-    }
+    tell_kind(kind, count, length, "write", best / all, plain / all);
+    if (!has_size(kind)) return;
+    require(port_size(kind, message, message_size, rounds), rounds, message_size);
+    require(plain_size(kind, message, message_size, rounds), rounds, message_size);
+    BEST(plain, plain_size(kind, message, message_size, rounds));
+    BEST(best, port_size(kind, message, message_size, rounds));
+    tell_kind(kind, count, length, "size", best / all, plain / all);
 }
 
 /* Decodes the frame in place `rounds` times; it is refused, and stays as it is. Returns how many times it was. */
@@ -349,42 +392,69 @@ static void speed_of_refused_frames(void) {
     tell_beside("a code past the frame's end: refuse", best / rounds, "a message", plain / rounds);
 }
 
-/* A list of records of which the last text is cut, so that all is read before it is refused; and one whose first text isn't UTF-8. */
-static void speed_of_refusals(void) {
-    double best;
+/* A message that both refuse. */
+static void speed_of_refusal(uint32_t kind, const char *row) {
+    double best, plain;
     const uint32_t rounds = 20000;
-    make(3, 100, 0);
-    require(port_read(3, message, message_size - 1, rounds), rounds, 0);
-    BEST(best, port_read(3, message, message_size - 1, rounds));
-    tell("100 records, the last byte missing: refuse", best / rounds, "a message");
-    make(0, 1, 12);
-    message[3] = 0xff;
-    require(port_read(0, message, message_size, rounds), rounds, 0);
-    BEST(best, port_read(0, message, message_size, rounds));
-    tell("a text that is not UTF-8: refuse", best / rounds, "a message");
-    make(2, 1, 0);
-    message[1] = 2;
-    require(port_read(2, message, message_size, rounds), rounds, 0);
-    BEST(best, port_read(2, message, message_size, rounds));
-    tell("an option byte of 2: refuse", best / rounds, "a message");
-    /* An option whose number has a bit too many. */
-    memcpy(message, (const uint8_t[]){1, 1, 0xff, 0xff, 0xff, 0xff, 0x7f}, message_size = 7);
-    require(port_read(2, message, message_size, rounds), rounds, 0);
-    BEST(best, port_read(2, message, message_size, rounds));
-    tell("a number too large for u32: refuse", best / rounds, "a message");
-    /* A count of 2^40, and no element. */
-    memcpy(message, (const uint8_t[]){0x80, 0x80, 0x80, 0x80, 0x80, 0x20}, message_size = 6);
-    require(port_read(3, message, message_size, rounds), rounds, 0);
-    BEST(best, port_read(3, message, message_size, rounds));
-    tell("2^40 records announced, none there: refuse", best / rounds, "a message");
-    speed_of_refused_frames();
+    require(port_read(kind, message, message_size, rounds), rounds, 0);
+    require(plain_read(kind, message, message_size, rounds), rounds, 0);
+    BEST(plain, plain_read(kind, message, message_size, rounds));
+    BEST(best, port_read(kind, message, message_size, rounds));
+    tell_beside(row, best / rounds, "a message", plain / rounds);
 }
 
-static void speed_of_kinds(void) {
+/* A list of records of which the last text is cut, so that all is read before it is refused; and one whose first text isn't UTF-8. */
+static void speed_of_refusals(void) {
+    make(3, 100, 0);
+    message_size -= 1;
+    speed_of_refusal(3, "100 records, the last byte missing: refuse");
+    make(0, 1, 12);
+    message[3] = 0xff;
+    speed_of_refusal(0, "a text that is not UTF-8: refuse");
+    make(2, 1, 0);
+    message[1] = 2;
+    speed_of_refusal(2, "an option byte of 2: refuse");
+    /* An option whose number has a bit too many. */
+    memcpy(message, (const uint8_t[]){1, 1, 0xff, 0xff, 0xff, 0xff, 0x7f}, message_size = 7);
+    speed_of_refusal(2, "a number too large for u32: refuse");
+    /* A count of 2^40, and no element. */
+    memcpy(message, (const uint8_t[]){0x80, 0x80, 0x80, 0x80, 0x80, 0x20}, message_size = 6);
+    speed_of_refusal(3, "2^40 records announced, none there: refuse");
+}
+
+/* Lends the list of bytes `rounds` times. Returns the sum of what each call returned, or UINT64_MAX if one refused. */
+static uint64_t lent(bool here, const uint8_t *bytes, size_t size, uint32_t rounds) {
+    uint64_t sum = 0;
+    for (uint32_t i = 0; i < rounds; i++) {
+        __asm__ volatile("" ::: "memory");
+        uint64_t ends = here ? port_bytes_lend(bytes, size) : plain_bytes_lend(bytes, size);
+        if (ends == UINT64_MAX) return ends;
+        sum += ends;
+    }
+    return sum;
+}
+
+/* A call takes less than the clock does, so many are measured at once. */
+static void speed_of_lent_bytes(void) {
+    double best, plain;
+    const uint32_t rounds = 20000;
+    memset(source, 0x55, MOST);
+    size_t size = port_bytes_encode(source, MOST, room, 2 * MOST);
+    if (plain_bytes_lend(room, size) != port_bytes_lend(room, size)) fail("lent bytes are others than the plain ones");
+    if (plain_bytes_lend(room, size - 1) != UINT64_MAX || port_bytes_lend(room, size - 1) != UINT64_MAX) fail("a cut list of bytes was lent");
+    BEST(plain, lent(false, room, size, rounds));
+    BEST(best, lent(true, room, size, rounds));
+    tell_beside("16 MiB of u8: read, lent", best / rounds, "in all", plain / rounds);
+}
+
+/* The rows of lists and maps of many types, of messages that are refused, and of bytes that are lent. */
+static void speed_of_values(void) {
     static const uint32_t lengths[] = {5, 50, 500};
+    compare_disorder();
     for (int i = 0; i < 3; i++) speed_of_kind(0, 100, lengths[i]);
     for (uint32_t kind = 1; kind < sizeof kinds / sizeof *kinds; kind++) speed_of_kind(kind, kind == 1 ? 1000 : 100, 0);
     speed_of_refusals();
+    speed_of_lent_bytes();
 }
 
 static uint64_t plain_allocate(const uint8_t *values, size_t count) {
@@ -486,7 +556,7 @@ static void speed(void) {
     speed_of_fixed_widths();
     speed_of_floats();
     speed_of_checksums();
-    speed_of_kinds();
+    speed_of_refused_frames();
     speed_of_numbers("mixed");
     speed_of_numbers("random sizes");
     speed_of_numbers("one byte");
@@ -554,12 +624,13 @@ int main(int count, char **words) {
     if (!room || !source || !numbers) fail("too little memory");
     memset(source, 0x55, MOST);
     memset(room, 0x55, 2 * MOST);
-    if (!strcmp(task, "speed")) speed();
-    else if (!strcmp(task, "beside")) form = BESIDE, speed();
-    else if (!strcmp(task, "alone")) form = ALONE, speed();
+    as_rows = strcmp(task, "speed") != 0;
+    if (!strcmp(task, "speed")) speed(), speed_of_values();
+    else if (!strcmp(task, "beside")) speed();
+    else if (!strcmp(task, "values")) speed_of_values();
     else if (!strcmp(task, "growth")) growth(false);
     else if (!strcmp(task, "plot")) growth(true);
     else if (!strcmp(task, "memory")) memory_of_lists(), memory_of_hostile_counts();
-    else fail("say speed, beside, alone, growth, plot or memory");
+    else fail("say speed, beside, values, growth, plot or memory");
     return 0;
 }

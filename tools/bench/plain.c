@@ -1,16 +1,8 @@
 /* The plain loops of plain.h. */
 #include "plain.h"
-#include <stdbool.h>
+#include "bytes.h"
 #include <stdlib.h>
 #include <string.h>
-
-typedef struct { uint8_t *at, *end; } Room;
-
-static bool put(Room *room, uint8_t byte) {
-    if (room->at == room->end) return false;
-    *room->at++ = byte;
-    return true;
-}
 
 static bool put_number(Room *room, uint32_t number) {
     for (; number > 127; number >>= 7)
@@ -99,14 +91,6 @@ uint64_t plain_frames_encode(uint32_t count, uint8_t *out, size_t size) {
         used += frame;
     }
     return used;
-}
-
-typedef struct { const uint8_t *at, *end; } Bytes;
-
-static bool take(Bytes *bytes, uint8_t *byte) {
-    if (bytes->at == bytes->end) return false;
-    *byte = *bytes->at++;
-    return true;
 }
 
 static bool take_number(Bytes *bytes, int bits, uint32_t *number) {

@@ -15,7 +15,7 @@ use crate::width::Width;
 /// [`two_in_message`](crate::laws::two_in_message) says what it tells of damage.
 ///
 /// It makes as many steps as the result has; the order is at most 2^width - 1. A generator with no
-/// constant term, as none of the catalogue is, has no such d. The Rust crate has no such call.
+/// constant term, as none of the catalogue is, has no such d.
 pub fn order_from<W: Width>(algorithm: &Algorithm<W>, limit: u64) -> u64
     requires { IsValid (8 * W.size) (parameters W.number algorithm.now) }
     ensures at_most_limit { result ≤ limit }

@@ -8,8 +8,8 @@ use crate::config::Config;
 use postcard::de_flavors::Flavor as DeFlavor;
 use postcard::ser_flavors::Flavor;
 use postcard::{
-    Case, Deserialize, DeserializeOwned, Deserializer, NoCase, Result, Serialize, Serializer,
-    Shaped, write_variant,
+    Case, Deserialize, DeserializeOwned, Deserializer, FromParts, NoCase, Result, Serialize,
+    Serializer, Shaped, read_parts, write_variant,
 };
 use std::alloc::Global;
 
@@ -31,13 +31,34 @@ pub enum Command {
     },
 }
 
-impl Shaped for Command {
-    ghost shape = { via (elim [
+/// What the variants of [`Command`] hold, in a row.
+type Parts = Case<(), Case<Config, Case<Vec<Config>, Case<(u8, String), NoCase>>>>;
+
+impl FromParts for Command {
+    type Parts = Parts;
+
+    ghost seen = { elim [
       | Command.Ping ↦ This tt
       | Command.Set config ↦ Next (This config)
       | Command.Batch configs ↦ Next (Next (This configs))
       | Command.Fault code text ↦ Next (Next (Next (This (code, text))))
-    ]) ⟦<Case<(), Case<Config, Case<Vec<Config>, Case<(u8, String), NoCase>>>> as Shaped>⟧.shape };
+    ] };
+
+    fn from_parts(parts: Self::Parts) -> Self {
+        match parts {
+            Case::This(()) => Command::Ping,
+            Case::Next(Case::This(config)) => Command::Set(config),
+            Case::Next(Case::Next(Case::This(configs))) => Command::Batch(configs),
+            Case::Next(Case::Next(Case::Next(Case::This((code, text))))) => {
+                Command::Fault { code, text }
+            }
+            Case::Next(Case::Next(Case::Next(Case::Next(never)))) => match never {},
+        }
+    }
+}
+
+impl Shaped for Command {
+    ghost shape = { via ⟦<Command as FromParts>⟧.seen ⟦<Parts as Shaped>⟧.shape };
 }
 
 impl Serialize for Command {
@@ -53,17 +74,7 @@ impl Serialize for Command {
 
 impl<'de> Deserialize<'de> for Command {
     fn deserialize<F: DeFlavor>(alloc: Global, d: &mut Deserializer<'de, F>) -> Result<Self> {
-        let case: Case<(), Case<Config, Case<Vec<Config>, Case<(u8, String), NoCase>>>> =
-            Deserialize::deserialize(alloc, d)?;
-        Ok(match case {
-            Case::This(()) => Command::Ping,
-            Case::Next(Case::This(config)) => Command::Set(config),
-            Case::Next(Case::Next(Case::This(configs))) => Command::Batch(configs),
-            Case::Next(Case::Next(Case::Next(Case::This((code, text))))) => {
-                Command::Fault { code, text }
-            }
-            Case::Next(Case::Next(Case::Next(Case::Next(never)))) => match never {},
-        })
+        read_parts(alloc, d)
     }
 }
 

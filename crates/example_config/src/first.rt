@@ -7,8 +7,9 @@ ghost use Rattle.postcard_shape.specs.declared.cases.Case.TheVariants.{This, Nex
 use postcard::de_flavors::Flavor as DeFlavor;
 use postcard::ser_flavors::Flavor;
 use postcard::{
-    Case, Deserialize, DeserializeOwned, Deserializer, NoCase, Result, Serialize, Serializer,
-    Shaped, from_bytes, from_bytes_cobs, to_allocvec, to_allocvec_cobs, write_variant,
+    Case, Deserialize, DeserializeOwned, Deserializer, FromParts, NoCase, Result, Serialize,
+    Serializer, Shaped, from_bytes, from_bytes_cobs, read_parts, to_allocvec, to_allocvec_cobs,
+    write_variant,
 };
 use std::alloc::Global;
 
@@ -29,14 +30,29 @@ pub enum Sky {
 }
 
 /// What the variants of [`Sky`] hold, in a row.
-type Contents = Case<(), Case<u8, Case<(String, u16), NoCase>>>;
+type SkyParts = Case<(), Case<u8, Case<(String, u16), NoCase>>>;
 
-impl Shaped for Sky {
-    ghost shape = { via (elim [
+impl FromParts for Sky {
+    type Parts = SkyParts;
+
+    ghost seen = { elim [
       | Sky.Clear ↦ This tt
       | Sky.Cloudy eighths ↦ Next (This eighths)
       | Sky.Storm name wind ↦ Next (Next (This (name, wind)))
-    ]) ⟦<Contents as Shaped>⟧.shape };
+    ] };
+
+    fn from_parts(parts: Self::Parts) -> Self {
+        match parts {
+            Case::This(()) => Sky::Clear,
+            Case::Next(Case::This(eighths)) => Sky::Cloudy(eighths),
+            Case::Next(Case::Next(Case::This((name, wind)))) => Sky::Storm { name, wind },
+            Case::Next(Case::Next(Case::Next(never))) => match never {},
+        }
+    }
+}
+
+impl Shaped for Sky {
+    ghost shape = { via ⟦<Sky as FromParts>⟧.seen ⟦<SkyParts as Shaped>⟧.shape };
 }
 
 impl Serialize for Sky {
@@ -51,13 +67,7 @@ impl Serialize for Sky {
 
 impl<'de> Deserialize<'de> for Sky {
     fn deserialize<F: DeFlavor>(alloc: Global, d: &mut Deserializer<'de, F>) -> Result<Self> {
-        let contents: Contents = Deserialize::deserialize(alloc, d)?;
-        Ok(match contents {
-            Case::This(()) => Sky::Clear,
-            Case::Next(Case::This(eighths)) => Sky::Cloudy(eighths),
-            Case::Next(Case::Next(Case::This((name, wind)))) => Sky::Storm { name, wind },
-            Case::Next(Case::Next(Case::Next(never))) => match never {},
-        })
+        read_parts(alloc, d)
     }
 }
 
@@ -78,9 +88,26 @@ pub struct Report {
     pub skies: Vec<Sky>,
 }
 
+/// The fields of a [`Report`], in a tuple.
+type ReportParts = (u16, i16, Vec<Sky>);
+
+impl FromParts for Report {
+    type Parts = ReportParts;
+
+    ghost seen = { λ v. (v.station, v.temperature, v.skies) };
+
+    fn from_parts(parts: Self::Parts) -> Self {
+        let (station, temperature, skies) = parts;
+        Report {
+            station,
+            temperature,
+            skies,
+        }
+    }
+}
+
 impl Shaped for Report {
-    ghost shape = { via (λ v. (v.station, v.temperature, v.skies))
-        ⟦<(u16, i16, Vec<Sky>) as Shaped>⟧.shape };
+    ghost shape = { via ⟦<Report as FromParts>⟧.seen ⟦<ReportParts as Shaped>⟧.shape };
 }
 
 impl Serialize for Report {
@@ -91,12 +118,7 @@ impl Serialize for Report {
 
 impl<'de> Deserialize<'de> for Report {
     fn deserialize<F: DeFlavor>(alloc: Global, d: &mut Deserializer<'de, F>) -> Result<Self> {
-        let (station, temperature, skies) = Deserialize::deserialize(alloc, d)?;
-        Ok(Report {
-            station,
-            temperature,
-            skies,
-        })
+        read_parts(alloc, d)
     }
 }
 

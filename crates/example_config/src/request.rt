@@ -1,4 +1,4 @@
-//! Requests for a setting of any type: an enum with a type parameter, two of which are in a variant.
+//! Requests for a setting of any type: an enum with a type parameter, read by its parts.
 
 ghost use Rattle.example_config.specs.declared.request.Request.{Request};
 ghost use Rattle.postcard_shape.specs.Shape.{via};
@@ -7,8 +7,8 @@ ghost use Rattle.postcard_shape.specs.declared.cases.Case.TheVariants.{This, Nex
 use postcard::de_flavors::Flavor as DeFlavor;
 use postcard::ser_flavors::Flavor;
 use postcard::{
-    Case, Deserialize, DeserializeOwned, Deserializer, NoCase, Result, Serialize, Serializer,
-    Shaped, write_variant,
+    Case, Deserialize, DeserializeOwned, Deserializer, FromParts, NoCase, Result, Serialize,
+    Serializer, Shaped, read_parts, read_parts_owned, write_variant,
 };
 use std::alloc::Global;
 
@@ -21,6 +21,32 @@ pub enum Request<T> {
     Set(T),
     /// Take none outside these two.
     Limit(T, T),
+    /// Change it by so many steps.
+    Step(i16),
+}
+
+/// What the variants of [`Request`] hold, in a row.
+type Parts<T> = Case<(), Case<T, Case<(T, T), Case<i16, NoCase>>>>;
+
+impl<T: Shaped + Drop> FromParts for Request<T> {
+    type Parts = Parts<T>;
+
+    ghost seen = { elim [
+      | Request.Get ↦ This tt
+      | Request.Set value ↦ Next (This value)
+      | Request.Limit least most ↦ Next (Next (This (least, most)))
+      | Request.Step steps ↦ Next (Next (Next (This steps)))
+    ] };
+
+    fn from_parts(parts: Self::Parts) -> Self {
+        match parts {
+            Case::This(()) => Request::Get,
+            Case::Next(Case::This(value)) => Request::Set(value),
+            Case::Next(Case::Next(Case::This((least, most)))) => Request::Limit(least, most),
+            Case::Next(Case::Next(Case::Next(Case::This(steps)))) => Request::Step(steps),
+            Case::Next(Case::Next(Case::Next(Case::Next(never)))) => match never {},
+        }
+    }
 }
 
 impl<T: Shaped> Shaped for Request<T> {
@@ -28,7 +54,8 @@ impl<T: Shaped> Shaped for Request<T> {
       | Request.Get ↦ This tt
       | Request.Set value ↦ Next (This value)
       | Request.Limit least most ↦ Next (Next (This (least, most)))
-    ]) ⟦<Case<(), Case<T, Case<(T, T), NoCase>>> as Shaped>⟧.shape };
+      | Request.Step steps ↦ Next (Next (Next (This steps)))
+    ]) ⟦<Parts<T> as Shaped>⟧.shape };
 }
 
 impl<T: Serialize> Serialize for Request<T> {
@@ -37,32 +64,19 @@ impl<T: Serialize> Serialize for Request<T> {
             Request::Get => write_variant(self, 0, &(), serializer),
             Request::Set(value) => write_variant(self, 1, value, serializer),
             Request::Limit(least, most) => write_variant(self, 2, &(least, most), serializer),
+            Request::Step(steps) => write_variant(self, 3, steps, serializer),
         }
     }
 }
 
 impl<'de, T: Deserialize<'de>> Deserialize<'de> for Request<T> {
     fn deserialize<F: DeFlavor>(alloc: Global, d: &mut Deserializer<'de, F>) -> Result<Self> {
-        let case: Case<(), Case<T, Case<(T, T), NoCase>>> = Deserialize::deserialize(alloc, d)?;
-        Ok(match case {
-            Case::This(()) => Request::Get,
-            Case::Next(Case::This(value)) => Request::Set(value),
-            Case::Next(Case::Next(Case::This((least, most)))) => Request::Limit(least, most),
-            Case::Next(Case::Next(Case::Next(never))) => match never {},
-        })
+        read_parts(alloc, d)
     }
 }
 
 impl<T: DeserializeOwned> DeserializeOwned for Request<T> {
     fn deserialize_owned<F: DeFlavor>(alloc: Global, d: &mut Deserializer<'_, F>) -> Result<Self> {
-        let case: Case<(), Case<T, Case<(T, T), NoCase>>> = DeserializeOwned::deserialize_owned(
-            alloc, d,
-        )?;
-        Ok(match case {
-            Case::This(()) => Request::Get,
-            Case::Next(Case::This(value)) => Request::Set(value),
-            Case::Next(Case::Next(Case::This((least, most)))) => Request::Limit(least, most),
-            Case::Next(Case::Next(Case::Next(never))) => match never {},
-        })
+        read_parts_owned(alloc, d)
     }
 }

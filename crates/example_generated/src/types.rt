@@ -262,13 +262,6 @@ impl postcard::DeserializeOwned for Serial {
     }
 }
 
-impl postcard::Shaped for Position {
-    ghost use Rattle.postcard_shape.specs.Shape.{via};
-
-    ghost shape = { via (λ v. (v.latitude, v.longitude, v.altitude))
-        ⟦<(i32, i32, i16) as postcard::Shaped>⟧.shape };
-}
-
 impl postcard::FromParts for Position {
     type Parts = (i32, i32, i16);
 
@@ -282,6 +275,13 @@ impl postcard::FromParts for Position {
             altitude,
         }
     }
+}
+
+impl postcard::Shaped for Position {
+    ghost use Rattle.postcard_shape.specs.Shape.{via};
+
+    ghost shape = { via ⟦<Position as postcard::FromParts>⟧.seen
+        ⟦<(i32, i32, i16) as postcard::Shaped>⟧.shape };
 }
 
 impl postcard::Serialize for Position {
@@ -312,10 +312,21 @@ impl postcard::DeserializeOwned for Position {
     }
 }
 
+impl postcard::FromParts for Rain {
+    type Parts = (u32, Option<Millimetres>);
+
+    ghost seen = { λ v. (v.0, v.1) };
+
+    fn from_parts(parts: Self::Parts) -> Self {
+        let (x0, x1) = parts;
+        Rain(x0, x1)
+    }
+}
+
 impl postcard::Shaped for Rain {
     ghost use Rattle.postcard_shape.specs.Shape.{via};
 
-    ghost shape = { via (λ v. (v.0, v.1))
+    ghost shape = { via ⟦<Rain as postcard::FromParts>⟧.seen
         ⟦<(u32, Option<Millimetres>) as postcard::Shaped>⟧.shape };
 }
 
@@ -334,8 +345,7 @@ impl<'de> postcard::Deserialize<'de> for Rain {
         alloc: std::alloc::Global,
         d: &mut postcard::Deserializer<'de, F>,
     ) -> postcard::Result<Self> {
-        let (x0, x1) = postcard::Deserialize::deserialize(alloc, d)?;
-        Ok(Rain(x0, x1))
+        postcard::read_parts(alloc, d)
     }
 }
 
@@ -512,13 +522,6 @@ impl postcard::DeserializeOwned for Report {
     }
 }
 
-impl postcard::Shaped for Telemetry {
-    ghost use Rattle.postcard_shape.specs.Shape.{via};
-
-    ghost shape = { via (λ v. ((v.sequence, v.uptime, v.voltage, v.current, v.temperature), (v.humidity, v.pressure, v.latitude, v.longitude, v.altitude), (v.heading, v.speed, v.satellites, v.fix, v.label)))
-        ⟦<((u32, u64, u16, i16, i16), (u8, u32, i32, i32, i16), (u16, u16, u8, bool, String)) as postcard::Shaped>⟧.shape };
-}
-
 impl postcard::FromParts for Telemetry {
     type Parts = (
         (u32, u64, u16, i16, i16),
@@ -552,6 +555,13 @@ impl postcard::FromParts for Telemetry {
             label,
         }
     }
+}
+
+impl postcard::Shaped for Telemetry {
+    ghost use Rattle.postcard_shape.specs.Shape.{via};
+
+    ghost shape = { via ⟦<Telemetry as postcard::FromParts>⟧.seen
+        ⟦<((u32, u64, u16, i16, i16), (u8, u32, i32, i32, i16), (u16, u16, u8, bool, String)) as postcard::Shaped>⟧.shape };
 }
 
 impl postcard::Serialize for Telemetry {
@@ -827,22 +837,6 @@ type CommandRow = postcard::Case<
     >,
 >;
 
-impl postcard::Shaped for Command {
-    ghost use Rattle.example_generated.specs.declared.types.Command.{Command};
-    ghost use Rattle.postcard_shape.specs.Shape.{via};
-    ghost use Rattle.postcard_shape.specs.declared.cases.Case.TheVariants.{This, Next};
-
-    ghost shape = { via (elim [
-      | Command.Ping ↦ This tt
-      | Command.Forward x0 ↦ Next (This x0)
-      | Command.Batch x0 ↦ Next (Next (This x0))
-      | Command.Setting x0 ↦ Next (Next (Next (This x0)))
-      | Command.Settings x0 ↦ Next (Next (Next (Next (This x0))))
-      | Command.Move x0 x1 x2 ↦ Next (Next (Next (Next (Next (This (x0, x1, x2))))))
-      | Command.Fault x0 x1 ↦ Next (Next (Next (Next (Next (Next (This (x0, x1)))))))
-    ]) ⟦<CommandRow as postcard::Shaped>⟧.shape };
-}
-
 impl postcard::FromParts for Command {
     ghost use Rattle.example_generated.specs.declared.types.Command.{Command};
     ghost use Rattle.postcard_shape.specs.declared.cases.Case.TheVariants.{This, Next};
@@ -876,6 +870,12 @@ impl postcard::FromParts for Command {
             Next(Next(Next(Next(Next(Next(Next(never))))))) => match never {},
         }
     }
+}
+
+impl postcard::Shaped for Command {
+    ghost use Rattle.postcard_shape.specs.Shape.{via};
+
+    ghost shape = { via ⟦<Command as postcard::FromParts>⟧.seen ⟦<CommandRow as postcard::Shaped>⟧.shape };
 }
 
 impl postcard::Serialize for Command {

@@ -1,6 +1,5 @@
 //! Encoding into frames of COBS (Cheshire and Baker, 1999): the frame of a value's canonical
-//! encoding, and the zero that ends it, the sentinel, which counts as a byte of the frame. By the
-//! clause `decodes` it decodes to that encoding.
+//! encoding, and the zero that ends it, the sentinel, which counts as a byte of the frame.
 
 ghost use Rattle.std.specs.Prelude.{◌≡◌, [], ◌-◌, ◌≤◌, ◌↔◌, ◌++◌, length, take, drop};
 ghost use Rattle.std.specs.Prelude.{IfOk, IfErr, IsOk, OnOk, ⊤};
@@ -65,8 +64,7 @@ pub fn to_vec_cobs<T: Serialize, const B: usize>(value: &T) -> Result<ArrayVec<u
 /// Encodes a value as a frame into the front of `buf`, and returns the frame. The bytes after it
 /// are unchanged. Nothing is allocated.
 ///
-/// Once the loan has ended, the buffer holds what the caller made of the frame, and then the old
-/// bytes (`writes_back`). [`fill_slice_cobs`] says the same in plain clauses.
+/// [`fill_slice_cobs`] says in plain clauses what `writes_back` does.
 ///
 /// # Errors
 ///
@@ -114,8 +112,7 @@ fn frame_into<T: Serialize, B: Storage + Drop>(value: &T, storage: B) -> (B, Res
     }
 }
 
-/// Encodes a value as a frame into the front of a buffer. Returns the whole buffer, the same loan,
-/// with the outcome.
+/// Encodes a value as a frame into the front of a buffer.
 fn write_frame<'a, T: Serialize>(value: &T, buf: &'a mut [u8]) -> Attempt<'a>
     ensures same_loan { result.all.ghost_name ≡ buf.entry.ghost_name }
     ensures attempts { IsAttempt T.shape value.now (made (canonical (T.shape.tree value.now)))
@@ -140,7 +137,7 @@ fn write_frame<'a, T: Serialize>(value: &T, buf: &'a mut [u8]) -> Attempt<'a>
 }
 
 /// Does what [`to_slice_cobs`] does, with the same errors, and returns the number of the frame's
-/// bytes, for callers that keep the buffer. The Rust crate has no such call.
+/// bytes, for callers that keep the buffer.
 pub fn fill_slice_cobs<T: Serialize>(value: &T, buf: &mut [u8]) -> Result<usize>
     ensures count_is_length { IfOk result
         (λ count. count ≡ length (made (canonical (T.shape.tree value.now)))) }
@@ -192,8 +189,7 @@ pub fn to_stdvec_cobs<T: Serialize>(alloc: Global, value: &T) -> Result<Vec<u8>>
     to_allocvec_cobs(alloc, value)
 }
 
-/// Encodes a value as a frame after the bytes of a vector, and returns the vector. The Rust crate
-/// has no such call.
+/// Encodes a value as a frame after the bytes of a vector, and returns the vector.
 ///
 /// # Errors
 ///

@@ -17,8 +17,7 @@ use postcard_wire::{Error, Result};
 /// Encodes a value into the front of `buf`, and returns that front: the canonical encoding of the
 /// value's tree. The bytes after it are unchanged. Nothing is allocated.
 ///
-/// Once the loan has ended, the buffer holds what the caller made of the front, and then the old
-/// bytes (`writes_back`). [`fill_slice`] says the same in plain clauses.
+/// [`fill_slice`] says in plain clauses what `writes_back` does.
 ///
 /// # Errors
 ///
@@ -45,7 +44,7 @@ pub fn to_slice<'a, T: Serialize>(value: &T, buf: &'a mut [u8]) -> Result<&'a mu
 }
 
 /// Does what [`to_slice`] does, with the same errors, for callers that keep the buffer, and returns
-/// the number of bytes written. The Rust crate has no such call.
+/// the number of bytes written.
 pub fn fill_slice<T: Serialize>(value: &T, buf: &mut [u8]) -> Result<usize>
     ensures count_is_length { IfOk result (λ count. count
         ≡ length (canonical (T.shape.tree value.now))) }
@@ -77,7 +76,7 @@ pub(crate) struct Attempt<'a> {
     pub(crate) error: Error,
 }
 
-/// Writes the value into the front of the buffer, and returns the whole buffer, the same loan.
+/// Writes the value into the front of the buffer.
 fn write_front<'a, T: Serialize>(value: &T, buf: &'a mut [u8]) -> Attempt<'a>
     ensures same_loan { result.all.ghost_name ≡ buf.entry.ghost_name }
     ensures attempts { IsAttempt T.shape value.now (canonical (T.shape.tree value.now))

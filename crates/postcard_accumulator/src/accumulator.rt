@@ -95,16 +95,14 @@ impl<const N: usize> CobsAccumulator<N> {
         }
     }
 
-    /// Returns whether an oversized frame is being skipped: `OverFull` was returned, and the
-    /// frame's zero hasn't come yet.
+    /// Returns whether an oversized frame is being skipped.
     pub fn skipping(&self) -> bool
         ensures { result ≡ is_skipping self.now }
     {
         self.skipping
     }
 
-    /// Adds bytes to those held. They must have room and no zero among them, and the accumulator
-    /// must not be skipping a frame.
+    /// Adds bytes to those held.
     fn extend(&mut self, input: &[u8])
         requires not_skipping { is_skipping self.old ≡ false }
         requires room { length (held_of self.old) + length input.now ≤ N }
@@ -117,9 +115,8 @@ impl<const N: usize> CobsAccumulator<N> {
         self.idx = end;
     }
 
-    /// Decodes the bytes held as a frame, and lends its data. The accumulator must not be skipping
-    /// a frame. Fails if and only if the frame has no data. Nothing is held once the loan ends,
-    /// also after a failure.
+    /// Decodes the bytes held as a frame, and lends its data. Fails if and only if the frame has
+    /// no data. Nothing is held once the loan ends, also after a failure.
     fn decode<'de>(&'de mut self) -> Result<&'de [u8]>
         requires { is_skipping self.old ≡ false }
         ensures decodes { IfOk result (λ d. Groups (held_of self.old) d.now) }

@@ -31,7 +31,6 @@ pub enum ReadEnd {
     },
 }
 
-/// Appends an answer to a vector, which must have capacity for it.
 fn keep<T: Drop>(out: &mut Vec<Answer<T>>, answer: Answer<T>)
     requires { vec_len out.old < vec_capacity out.old }
     ensures { out.new.items ≡ out.old.items ++ answer ∷ [] }

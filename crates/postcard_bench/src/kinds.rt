@@ -18,7 +18,8 @@ fn read<'a, T: Deserialize<'a> + Drop>(alloc: Global, bytes: &'a [u8], rounds: u
     successes
 }
 
-/// Decodes the message once, and encodes its value `rounds` times into `out`. Returns the sum of the encodings' lengths.
+/// Decodes the message once, and encodes its value `rounds` times into `out`. Returns the sum of
+/// the lengths, or `u64::MAX` if a call fails.
 fn write<'a, T: Deserialize<'a> + Serialize + Drop>(
     alloc: Global,
     bytes: &'a [u8],
@@ -38,7 +39,8 @@ fn write<'a, T: Deserialize<'a> + Serialize + Drop>(
     sum
 }
 
-/// Decodes the message once, and counts its value's bytes `rounds` times. Returns the sum of the counts.
+/// Decodes the message once, and counts its value's bytes `rounds` times. Returns the sum of the
+/// counts, or `u64::MAX` if a call fails.
 fn size<'a, T: Deserialize<'a> + Serialize + Drop>(
     alloc: Global,
     bytes: &'a [u8],
@@ -79,8 +81,7 @@ pub extern "C" fn port_read(alloc: Global, kind: u32, bytes: &[u8], rounds: u32)
     }
 }
 
-/// Decodes the message as [`port_read`] does, once, and encodes its value `rounds` times into `out`. Returns the sum of the
-/// encodings' lengths.
+/// Does [`write`] with the type that has the number `kind` in [`port_read`]; 0 for another number.
 #[unsafe(no_mangle)]
 pub extern "C" fn port_write(
     alloc: Global,

@@ -9,15 +9,12 @@ use postcard_wire::varint::{VARINT_MAX_64, write_u64};
 
 /// A writer over the caller's buffer.
 ///
-/// `buffer[..used]` is the message so far. `needed` also counts what found no room. `status` is 0
-/// until a call fails; from then on each call returns that status, and changes nothing but
-/// `needed`.
+/// `buffer[..used]` is the message so far. `status` is 0 until a call fails; from then on each
+/// call returns that status, and changes nothing but `needed`.
 #[repr(C)]
 #[derive(Drop)]
 pub struct Writer<'a> {
-    /// The whole buffer.
     pub buffer: &'a mut [u8],
-    /// The number of bytes written at the front of the buffer.
     pub used: usize,
     /// The number of bytes that the message has, or would have in a buffer with room for it, at
     /// most `usize::MAX`.
@@ -48,7 +45,6 @@ pub(crate) fn append(writer: &mut Writer<'_>, head: &[u8], tail: &[u8]) -> u32
     0
 }
 
-/// Writes the bytes of `head` and then those of `tail` at a place of a buffer. They must have room.
 #[tactic(auto, using(crate::proofs::Places::both_written))]
 fn write_at(buffer: &mut [u8], place: usize, head: &[u8], tail: &[u8])
     requires { place + length (head.now ++ tail.now) ≤ length buffer.old }
@@ -58,7 +54,6 @@ fn write_at(buffer: &mut [u8], place: usize, head: &[u8], tail: &[u8])
     copy_at(buffer, place + head.len(), tail);
 }
 
-/// Copies bytes to a place of a buffer. They must have room.
 fn copy_at(buffer: &mut [u8], place: usize, bytes: &[u8])
     requires { place + length bytes.now ≤ length buffer.old }
     ensures { WrittenAt place bytes.now buffer.old buffer.new }
@@ -93,8 +88,7 @@ pub(crate) fn put_counted(writer: &mut Writer<'_>, number: u64, bytes: &[u8]) ->
     0
 }
 
-/// Writes the varint of a number, and then bytes, at a place of a buffer, and returns how many bytes
-/// both are. The longest varint and the bytes must have room.
+/// The longest varint and the bytes must have room at the place.
 fn write_counted_at(buffer: &mut [u8], place: usize, number: u64, bytes: &[u8]) -> usize
     requires { place + 10 + length bytes.now ≤ length buffer.old }
     ensures written { WrittenAt place (digits number ++ bytes.now) buffer.old buffer.new }
@@ -115,8 +109,7 @@ fn surely_fits(writer: &Writer<'_>, size: usize) -> bool
         && size <= room - writer.used - VARINT_MAX_64
 }
 
-/// Writes the varint of a number at a place of a buffer, which must have ten bytes from there on, and
-/// returns the number of its bytes.
+/// The buffer must have ten bytes from the place on.
 fn write_number_at(buffer: &mut [u8], place: usize, number: u64) -> usize
     requires { place + 10 ≤ length buffer.old }
     ensures written { WrittenAt place (digits number) buffer.old buffer.new }

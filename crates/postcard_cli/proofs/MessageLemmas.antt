@@ -1,8 +1,9 @@
 -- Lemmas on the lines of values, one after another.
 use Rattle.std.proofs.Common.{◌≡◌, ℕ, ◌<◌, List, [], ◌∷◌, ◌++◌, length, arith, Option, Some, None, Result, OnOk, true, refl, sym, ap, subst, ◌∙◌, length-append}
-use Rattle.std.specs.Fmt.{◌++?◌}
+use Rattle.std.specs.Fmt.{◌++?◌, WritesText}
 use Rattle.std.proofs.KnownBytes.{Appends-nil, Appends-trans}
 use Rattle.std.specs.Io.KnownBytes.{Appends}
+use Rattle.std.proofs.lemmas.Fmt.{contents_after_writes}
 use Rattle.std.proofs.lemmas.List.{append-nil}
 use Rattle.std.proofs.lemmas.Result.{on_ok_weaker}
 use Rattle.std.proofs.Output.{if_some_weaken, then_text_assoc}
@@ -20,6 +21,14 @@ pub prints_both : (o p : Option (List ℕ)) (a b c : Option (List ℕ)) → Prin
 prints_both None p a b c h k = tt
 prints_both (Some x) None a b c h k = tt
 prints_both (Some x) (Some y) a b c h k = Appends-trans a b c x y h k
+
+-- A text that was written into an empty line is printed if the line is.
+pub gathered : {L : Type 0} (took : L → List ℕ → L → Type 0) (bytes : L → List ℕ) → ((a : L) (x : List ℕ) (b : L) → took a x b → bytes b ≡ bytes a ++ x)
+    → (said : Option (List ℕ)) (empty full : L) (old new : Option (List ℕ)) → bytes empty ≡ [] → WritesText took empty said full → Appends old new (bytes full) → Prints said old new
+gathered took bytes appends None empty full old new none written printed = tt
+gathered took bytes appends (Some x) empty full old new none written printed =
+    let whole : bytes full ≡ x = contents_after_writes took bytes appends empty x full written ∙ ap (λ (front : List ℕ). front ++ x) none in
+    subst (λ (line : List ℕ). Appends old new line) whole printed
 
 -- A text is appended, and then nothing.
 pub appends_no_more : (old mid new : Option (List ℕ)) (shown : List ℕ) → Appends old mid shown → Appends mid new [] → Appends old new shown

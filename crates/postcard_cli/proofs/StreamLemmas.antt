@@ -423,6 +423,21 @@ decoded frame new n free (d, groups, length_is, is) =
     let front : take n new ≡ d = rw (length_is, is) (take_front_of d (drop (length d) frame)) in
     let P : List ℕ → Type 0 = λ t. Groups frame t in subst P (sym front) whole
 
+-- A frame without a zero whose code byte is its length is one group.
+pub one_group : (frame content : List ℕ) (code : ℕ) → frame ≡ code ∷ content → code ≡ length frame → code < 256 → NoZero frame → Groups frame content
+one_group frame content code cut whole small free =
+    let long : length frame ≡ length (code ∷ content) = ap length cut in
+    let is_code : code ≡ length content + 1 = omega arith in
+    let parts : NoZero (code ∷ content) = subst NoZero cut free in
+    record {
+      before = [];
+      last = content;
+      are = tt;
+      is = record { fits = omega arith; no_zero = parts.1 };
+      frame_is = cut ∙ ap (λ (n : ℕ). n ∷ content) is_code;
+      data_is = refl;
+    }
+
 -- A stream that is one piece has the lines of the piece.
 pub one_piece : (s : Format) (longest : ℕ) (before after : Stream) (piece : List ℕ) (old new : Option (List ℕ)) → before.longest ≡ longest → before.held.items ≡ []
     → before.skipping ≡ false → before.start ≡ 0 → before.count ≡ 0 → Continues s before piece after old new → PrintsLines s longest piece old new

@@ -34,7 +34,8 @@ use std::alloc::Global;
 use std::io::Write;
 
 /// Reads a type expression. Fails with `BadType` if it is misspelled, after what is wrong and
-/// where, and of an unknown type what would do, are printed.
+/// where, and of an unknown type what would do, are printed; with `Output` if these can't be; and
+/// with `Library(OutOfMemory)` if an allocation fails.
 pub fn schema_of<W: Write>(alloc: Global, text: &str, output: &mut W) -> Result<Schema, Failure>
     ensures spelled { IfOk result (λ schema. IsExpression schema text.now) }
     ensures untouched { OnOk result (output.new ≡ output.old) }

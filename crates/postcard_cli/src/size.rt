@@ -78,8 +78,6 @@ impl fmt::Display for Span {
     }
 }
 
-/// Prints the least number of bytes, and the paths of the parts that have no greatest number, on a
-/// line.
 fn print_endless<W: Write>(
     least: Option<usize>,
     parts: &[String],
@@ -123,7 +121,6 @@ fn print_others<W: Write>(parts: &[String], output: &mut W) -> Result<(), Failur
     Ok(())
 }
 
-/// Returns what a part is called: its path, or, if that is empty, the value.
 fn name_of(path: &str) -> &str
     ensures { result.now ≡ part_text path.now }
 {

@@ -5,7 +5,7 @@ ghost use Rattle.std.specs.Prelude.{◌≡◌, ◌+◌, ◌-◌, ◌^◌, ◌<�
 ghost use Rattle.std.specs.Prelude.{Some, IfOk, IfErr, IfSome, IfNone, OnOk, false, min, take};
 ghost use Rattle.std.specs.Fmt.{◌++?◌};
 ghost use Rattle.std.specs.Io.KnownBytes.{Appends};
-ghost use Rattle.postcard_cobs.specs.Groups.{NoZero};
+ghost use Rattle.postcard_cobs.specs.Groups.{Groups, NoZero};
 ghost use Rattle.postcard_dyn.specs.Explained.{HasNoFront};
 ghost use Rattle.postcard_dyn.specs.Tree.{tree};
 ghost use Rattle.postcard_dyn_text.specs.Shown.{layout_of, text};
@@ -23,17 +23,19 @@ ghost use Rattle.postcard_cli.specs.declared.stream.Format.{Format};
 
 use crate::checksum::Checksum;
 use crate::failure::Failure;
-use crate::limits::{CHUNK, LONGEST, READS};
+use crate::limits::{CHUNK, LINE, LONGEST, READS, SHORT};
 use crate::message::schema_of;
 use crate::place::{path_of, place_of};
 use crate::reason::reason;
 use crate::{checksum, hexadecimal, json_stream};
+use arrayvec::ArrayString;
 use postcard_cobs::{decode_in_place, frame_len};
 use postcard_de_flavors::Reader;
 use postcard_dyn::{Schema, Value, take_from_bytes};
 use postcard_dyn_text::Shown;
 use postcard_wire::Error;
 use std::alloc::Global;
+use std::fmt;
 use std::io::Write;
 
 /// Reads frames of messages of the type until the input ends, and prints a line for each once its
@@ -49,9 +51,9 @@ use std::io::Write;
 ///
 /// # Errors
 ///
-/// Fails as [`schema_of`] does, with `OutOfMemory` if another allocation fails, with `ReadFailed`
-/// if a read fails, and with `Limit` after 2^64 - 1 reads. The lines of what was read before are
-/// printed.
+/// Fails as [`schema_of`] does, with `OutOfMemory` if another allocation fails, with `Output` if a
+/// line can't be written, with `ReadFailed` if a read fails, and with `Limit` after 2^64 - 1 reads.
+/// At the last two the lines of what was read before are printed.
 pub fn print<R: Reader, W: Write>(
     alloc: Global,
     expression: &str,
@@ -193,7 +195,7 @@ struct Stream {
     start: u64,
     /// The number of bytes of the stream so far.
     count: u64,
-    /// The data of the frame that ended last.
+    /// The data of the last frame that had several groups.
     message: Vec<u8>,
 }
 
@@ -243,7 +245,7 @@ impl Stream {
         Ok(count > 0)
     }
 
-    /// Takes a piece of the stream, and prints the lines of the frames that end in it.
+    /// Takes a piece, and prints the lines of the frames that end in it. Fails as [`print`] does.
     fn take<W: Write>(
         &mut self,
         alloc: Global,
@@ -375,7 +377,7 @@ fn print_overfull<W: Write>(format: &Format, start: u64, output: &mut W) -> Resu
     Ok(())
 }
 
-/// Prints the line of a frame, whose data is put into `message`.
+/// Prints the line of a frame. The data of a frame of several groups is put into `message`.
 fn print_answer<W: Write>(
     alloc: Global,
     format: &Format,
@@ -389,11 +391,28 @@ fn print_answer<W: Write>(
         (W.contents output.old) (W.contents output.new)) }
     ensures refused { IfErr result (LinesFail format.now) }
 {
+    if let Some(content) = only_group(frame) {
+        return print_message(alloc, format, start, content, output);
+    }
     message.clear();
     if message.extend_from_slice(frame).is_err() {
         return Err(Failure::OutOfMemory);
     }
     print_decoded(alloc, format, start, frame, message, output)
+}
+
+/// Returns the data of a frame of one group, which lies behind its code byte as it is, or `None` if
+/// the frame has several groups or none.
+fn only_group(frame: &[u8]) -> Option<&[u8]>
+    ensures { IfSome result (λ content. NoZero frame.now → Groups frame.now content.now) }
+{
+    let Some((code, content)) = frame.split_first() else {
+        return None;
+    };
+    if usize::from(*code) != frame.len() {
+        return None;
+    }
+    Some(content)
 }
 
 /// Prints the line of a frame, of which `buffer` is a copy, in which it is decoded.
@@ -450,7 +469,7 @@ fn print_message<W: Write>(
 {
     match take_from_bytes(alloc, &format.schema, message) {
         Ok((value, behind)) => match rest_of(format.checksum, message, behind) {
-            Some(rest) => print_read(alloc, format, start, &value, rest, output),
+            Some(rest) => print_read(alloc, format, start, message, &value, rest, output),
             None => print_unchecked(format, start, message, output),
         },
         Err(error) => match error {
@@ -528,11 +547,12 @@ fn print_unread<W: Write>(
     }
 }
 
-/// Prints the line of a frame's value, and of the bytes of the data after it.
+/// Prints the line of the value of a frame with this data, and of the bytes of the data after it.
 fn print_read<W: Write>(
     alloc: Global,
     format: &Format,
     start: u64,
+    message: &[u8],
     value: &Value,
     rest: &[u8],
     output: &mut W,
@@ -542,6 +562,9 @@ fn print_read<W: Write>(
     ensures refused { IfErr result (LinesFail format.now) }
 {
     match format.notation {
+        Notation::Text if message.len() <= SHORT => {
+            print_short(&format.schema, value, rest, output)
+        }
         Notation::Text => print_value(&format.schema, value, rest, output),
         Notation::Json => {
             json_stream::print_value(alloc, &format.schema, start, value, rest, output)
@@ -564,6 +587,39 @@ pub fn print_value<W: Write>(
     write!(output, "{shown}")?;
     print_rest(rest, output)?;
     writeln!(output)?;
+    Ok(())
+}
+
+/// Prints what [`print_value`] prints, of a value whose text is likely to be short.
+fn print_short<W: Write>(
+    schema: &Schema,
+    value: &Value,
+    rest: &[u8],
+    output: &mut W,
+) -> Result<(), Failure>
+    ensures printed { OnOk result (Prints (text (layout_of schema.now) (tree value.now)
+        ++? Some (more_text rest.now ++ 10 ∷ [])) (W.contents output.old) (W.contents output.new)) }
+    ensures refused { IfErr result (λ e. e ≡ Failure.Output) }
+{
+    print_gathered(Shown { schema, value }, output)?;
+    print_rest(rest, output)?;
+    output.write_all(b"\n")?;
+    Ok(())
+}
+
+/// Prints the text of a value. One of at most [`LINE`] bytes is gathered first and then written in
+/// one piece, which is quicker than a write to the output for each part of it; a longer one is
+/// begun anew.
+fn print_gathered<W: Write>(shown: Shown<'_>, output: &mut W) -> Result<(), Failure>
+    ensures printed { OnOk result (Prints (text (layout_of shown.entry.schema.now)
+        (tree shown.entry.value.now)) (W.contents output.old) (W.contents output.new)) }
+    ensures refused { IfErr result (λ e. e ≡ Failure.Output) }
+{
+    let mut line = ArrayString::<LINE>::new();
+    match fmt::Write::write_fmt(&mut line, shown) {
+        Ok(()) => output.write_all(line.as_str().as_bytes())?,
+        Err(_) => write!(output, "{shown}")?,
+    }
     Ok(())
 }
 

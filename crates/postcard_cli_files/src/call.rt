@@ -83,7 +83,6 @@ fn named_type(words: &[String]) -> Option<(usize, TypeName<'_>)>
     }
 }
 
-/// Returns the index of the word TYPE, or `None` if the words have none.
 fn type_index(words: &[String]) -> Option<usize>
     ensures found { IfSome result (IsTypeAt (map string_bytes words.now)) }
     ensures none { IfNone result ((i : ℕ) → IsTypeAt (map string_bytes words.now) i → ⊥) }
@@ -95,7 +94,6 @@ fn type_index(words: &[String]) -> Option<usize>
     }
 }
 
-/// Returns whether a call of this command has a TYPE.
 fn takes_type(command: &str) -> bool
     ensures { Decides result (TakesType command.now) }
 {

@@ -14,7 +14,6 @@ use postcard_de::DeserializeOwned;
 use postcard_de_flavors::Reader;
 use std::alloc::Global;
 
-/// Appends an answer to a vector, which must have capacity for it.
 fn keep<T: Drop>(out: &mut Vec<Answer<T>>, answer: Answer<T>)
     requires { vec_len out.old < vec_capacity out.old }
     ensures { out.new.items ≡ out.old.items ++ answer ∷ [] }
@@ -63,8 +62,7 @@ fn feed_all<T: DeserializeOwned, W: Width, I: Implementation<W>, const N: usize>
 }
 
 /// Reads a stream of frames of values with a checksum, and appends the answers to `out`, in all
-/// else as [`read_frames`](postcard_accumulator::read_frames) does. The Rust crate has no such
-/// call.
+/// else as [`read_frames`](postcard_accumulator::read_frames) does.
 ///
 /// The answer to a frame is the value, if the frame's data is its encoding and then just its
 /// checksum; otherwise `DeserError`, or `OverFull` for a frame that has no room.

@@ -56,15 +56,14 @@ pub trait Flavor: Drop {
         ensures { result ≡ hint self.now };
 
     /// Returns some of the next bytes: ones that are in memory already, so that taking them
-    /// succeeds. The default returns none, as a source over a reader does.
+    /// succeeds.
     fn at_hand(&self) -> &[u8]
         ensures can_take { 0 < length result.now → CanTake left able self.now result.now }
     {
         &[]
     }
 
-    /// Takes the next `ct` bytes. The slice borrows from what the source borrows (`Self: 'de`), so
-    /// it stays valid after later calls.
+    /// Takes the next `ct` bytes. The slice stays valid after later calls.
     fn try_take_n<'de>(&mut self, ct: usize) -> Result<&'de [u8]>
     where
         Self: 'de,
@@ -75,7 +74,7 @@ pub trait Flavor: Drop {
         ensures refuses_by_unexpected_end { IfErr result
             (λ e. e ≡ Error.DeserializeUnexpectedEnd) };
 
-    /// Takes the next `ct` bytes. The slice is valid until the next call on this source.
+    /// Takes the next `ct` bytes. The slice is valid until the next call.
     fn try_take_n_temp(&mut self, ct: usize) -> Result<&[u8]>
         ensures length { IfOk result (λ front. length front.now ≡ ct) }
         ensures* gives { sem 𝓛 (Rests Self.row self.entry

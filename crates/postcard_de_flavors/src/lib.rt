@@ -1,6 +1,5 @@
 //! Where the bytes of a message come from. The layer above relies on the contract of [`Flavor`]
-//! alone: `gives`, `accepts`, `leaves` and `refuses_by_unexpected_end`, which `lawful` ties
-//! together.
+//! alone.
 //!
 //! In reading order: [`flavor`]; the sources [`slice`] and [`io`]; [`reader`], the interface that a
 //! reader needs, and [`plain`], which adapts any reader to it.

@@ -79,14 +79,12 @@ impl<'de> Flavor for Slice<'de> {
         Ok(self.bytes.pop())
     }
 
-    /// Returns the number of bytes left.
     fn size_hint(&self) -> Option<usize>
         ensures { result ≡ Some (length self.now) }
     {
         Some(self.len)
     }
 
-    /// Returns all bytes left.
     fn at_hand(&self) -> &[u8]
         ensures can_take { 0 < length result.now → CanTake ⟦<Slice<'de> as Flavor>⟧.left
             ⟦<Slice<'de> as Flavor>⟧.able self.now result.now }
@@ -95,7 +93,6 @@ impl<'de> Flavor for Slice<'de> {
         self.bytes.view(self.len)
     }
 
-    /// The slice returned is valid as long as the slice that is read.
     fn try_take_n<'a>(&mut self, ct: usize) -> Result<&'a [u8]>
     where
         Self: 'a,

@@ -123,7 +123,7 @@ fn read_group<'de, F: Flavor>(
     ensures { Reads F.Flavor Spells (IsGroup (reads_all (types_of parts.now.items))) IsTree memory
         (source_of d.old) result (source_of d.new) }
 {
-    let mut items = Vec::new(alloc);
+    let mut items = room_for(alloc, parts.len())?;
     for part in parts {
         let item = read_value(alloc, part, d)?;
         push(&mut items, item)?;
@@ -149,6 +149,18 @@ fn read_variant<'de, F: Flavor>(
     Ok(Value::Variant(index, held))
 }
 
+/// Returns no values, and room for `count` of them.
+fn room_for(alloc: Global, count: usize) -> Result<Vec<Value>>
+    ensures empty { IfOk result (λ items. items.items ≡ []) }
+    ensures refused { IfErr result (λ e. e ≡ Error.OutOfMemory) }
+{
+    match Vec::with_capacity(alloc, count) {
+        Ok(items) => Ok(items),
+        Err(_) => Err(Error::OutOfMemory),
+    }
+}
+
+#[inline(always)]
 fn push(items: &mut Vec<Value>, item: Value) -> Result<()>
     ensures added { OnOk result (items.new.items ≡ items.old.items ++ item ∷ []) }
     ensures refused { IfErr result (λ e. e ≡ Error.OutOfMemory) }

@@ -28,6 +28,12 @@ enum Event {
     Texts(String, [u8; 4],),
 }
 
+#[derive(Drop)]
+struct Depth(Option<Metres>);
+
+type Metres = Steps;
+type Steps = i16;
+
 /// \u{3bb}
 fn other() -> char {
     '\u{3bb}'
@@ -229,10 +235,11 @@ fn writes_the_same_again(rt: HostRuntime) {
     for part in &PARTS {
         assert!(&rt; impls.contains(*part), "{part}");
     }
+    assert!(&rt; !impls.contains("postcard::FromParts for Number"));
 }
 
 /// Parts of the impls of `FILE`.
-const PARTS: [&str; 12] = [
+const PARTS: [&str; 15] = [
     "\nimpl postcard::Shaped for Number {\n",
     "ghost shape = { via (λ v. v.0)\n        ⟦<u8 as postcard::Shaped>⟧.shape };",
     "\nimpl<'a, T: Debug + postcard::Shaped> postcard::Repr for Reading<'a, T> {\n",
@@ -245,4 +252,7 @@ const PARTS: [&str; 12] = [
     "Next(Next(This((x0, x1)))) => Event::Texts(x0, x1),\n",
     "\nimpl<'de> postcard::Deserialize<'de> for Event {\n",
     "\nimpl postcard::DeserializeOwned for Event {\n",
+    "ghost shape = { via ⟦<Event as postcard::FromParts>⟧.seen ⟦<EventRow as postcard::Shaped>⟧",
+    "\nimpl postcard::FromParts for Depth {\n    type Parts = Option<Metres>;\n",
+    "ghost shape = { via ⟦<Depth as postcard::FromParts>⟧.seen\n",
 ];

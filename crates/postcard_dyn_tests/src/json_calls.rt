@@ -1,4 +1,4 @@
-//! Tests of calls of `pcard` with `--json`: what they print, and their exit status.
+//! Tests of calls of `pcard` with `--json`: words, input, what they print, and exit status.
 
 use crate::calls::{Call, SENSOR, USAGE, check_all};
 

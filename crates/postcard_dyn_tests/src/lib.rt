@@ -1,6 +1,6 @@
 //! Tests of the crates for types known only at run time: expressions, messages, the texts and the
 //! JSON of values, all of these from end to end, the calls of `pcard`, files of declarations, and the
-//! impls of a file's types.
+//! impls written for their types.
 #![tactic(auto)]
 
 #[cfg(test)]

@@ -1,7 +1,7 @@
 -- The text of a value of a type with names, on one line. Of a text or a character that isn't ASCII, std's contract
 -- doesn't say how it is escaped, and of a float the contract of `ryu` doesn't say which digits it has: then nothing is said of
 -- the whole text (`None`). The text of a float alone spells it (`ShowsFloat`).
-use Rattle.std.specs.Prelude.{ℕ, zero, suc, ◌/◌, ◌%◌, Bool, true, false, if◌then◌else◌, List, [], ◌∷◌, ◌++◌, Option, Some, None, map, codes, string_bytes, box_value}
+use Rattle.std.specs.Prelude.{ℕ, zero, suc, ◌/◌, ◌%◌, Bool, true, false, not, ◌&&◌, ◌==◌, nat_lt, if◌then◌else◌, List, [], ◌∷◌, ◌++◌, Option, Some, None, map, codes, string_bytes, box_value}
 use Rattle.std.specs.Int.{w8, cast_signed}
 use Rattle.std.specs.Fmt.{◌++?◌, decimal, signed_decimal, digits, debug_char, debug_str}
 use Rattle.postcard_wire.specs.Tree.{Tree, Trees, Byte, Boolean, Num, Int, Text, NoTrees, Then}
@@ -58,6 +58,10 @@ layouts_of ss = layout_row (map layout_of ss)
 -- The text as which a tree is printed, or `None` if nothing is said of it.
 abbrev pub Printer : Type 0
 Printer = Tree → Option (List ℕ)
+
+-- Whether a byte is a printable ASCII character that has no escape between double quotes.
+abbrev pub stands_for_itself : ℕ → Bool
+stands_for_itself c = ((nat_lt 31 c && nat_lt c 127) && not (c == 34)) && not (c == 92)
 
 -- Two lower-case hexadecimal digits for each byte, the high one first.
 abbrev pub hexadecimal : Trees → List ℕ

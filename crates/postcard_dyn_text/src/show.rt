@@ -2,8 +2,9 @@
 
 ghost use Rattle.std.specs.Prelude.{◌≡◌, ℕ, ◌++◌, ◌/◌, ◌%◌, ◌<◌, ◌^◌, true, false, Vec, codes, map, OnOk};
 ghost use Rattle.std.specs.Float.{binary32, binary64};
-ghost use Rattle.std.specs.Fmt.{DisplaysOnOk, WritesOnOk, digits, signed_decimal};
+ghost use Rattle.std.specs.Fmt.{DisplaysOnOk, WritesOnOk, debug_str, digits, signed_decimal};
 ghost use Rattle.std.specs.Int.{w8, cast_signed, cast_unsigned};
+ghost use Rattle.std.specs.List.{list_all};
 ghost use Rattle.std.specs.declared.alloc.Global.{Global};
 ghost use Rattle.postcard_wire.specs.Tree.{Byte, trees};
 ghost use Rattle.postcard_dyn_schema.specs.declared.schema.Leaf.TheVariants as leaves;
@@ -15,7 +16,7 @@ ghost use Rattle.postcard_dyn.specs.Tree.{tree};
 ghost use Rattle.postcard_dyn.specs.declared.value.Value.TheVariants as values;
 ghost use Rattle.postcard_dyn_text.specs.Floats.{ShowsFloat};
 ghost use Rattle.postcard_dyn_text.specs.Shown.{layout_of, layouts_of, text, texts, joined};
-ghost use Rattle.postcard_dyn_text.specs.Shown.{each_by};
+ghost use Rattle.postcard_dyn_text.specs.Shown.{each_by, stands_for_itself};
 ghost use Rattle.postcard_dyn_text.specs.Shown.{leaf_text, bits_text, option_text, items_text};
 ghost use Rattle.postcard_dyn_text.specs.Shown.{entries_text};
 ghost use Rattle.postcard_dyn_text.specs.Shown.{entry_text, parts_text, variant_text, hexadecimal};
@@ -288,7 +289,7 @@ fn show_leaf<W: Write>(leaf: Leaf, value: &Value, f: &mut Formatter<W>) -> fmt::
         (Leaf::F32, Value::F32(bits)) => show_f32(*bits, f),
         (Leaf::F64, Value::F64(bits)) => show_f64(*bits, f),
         (Leaf::Char, Value::Char(c)) => write!(f, "{c:?}"),
-        (Leaf::Str, Value::Str(text)) => write!(f, "{text:?}"),
+        (Leaf::Str, Value::Str(text)) => show_text(text, f),
         (Leaf::Bytes, Value::Bytes(held)) => show_bytes(held, f),
         (Leaf::Fixed(order, integer), Value::Fixed(own_order, own_integer, bits)) => {
             if order != *own_order || integer != *own_integer {
@@ -298,6 +299,32 @@ fn show_leaf<W: Write>(leaf: Leaf, value: &Value, f: &mut Formatter<W>) -> fmt::
         }
         _ => Err(fmt::Error),
     }
+}
+
+/// Prints a text between double quotes, with escapes. A text without escapes is written as it is.
+fn show_text<W: Write>(text: &str, f: &mut Formatter<W>) -> fmt::Result
+    ensures { DisplaysOnOk W.write_str_gives f.old result (debug_str text.now) f.new }
+{
+    if !is_plain(text.as_bytes()) {
+        return write!(f, "{text:?}");
+    }
+    f.write_str("\"")?;
+    f.write_str(text)?;
+    f.write_str("\"")
+}
+
+/// Returns whether a text is characters alone that stand for themselves between double quotes.
+fn is_plain(text: &[u8]) -> bool
+    ensures { result ≡ list_all stands_for_itself text.now }
+{
+    text.iter().all(|byte| is_plain_byte(*byte))
+}
+
+/// Returns whether a byte is a printable ASCII character without an escape.
+fn is_plain_byte(byte: u8) -> bool
+    ensures { result ≡ stands_for_itself byte }
+{
+    31 < byte && byte < 127 && byte != b'"' && byte != b'\\'
 }
 
 /// Prints the number of the type with these bits. Fails if the type has fewer bits.

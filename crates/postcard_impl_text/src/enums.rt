@@ -2,7 +2,8 @@
 
 use crate::form::Form;
 use crate::heads::{
-    DESERIALIZE, DESERIALIZE_OWNED, SERIALIZES, Trait, USE_VIA, add_head, add_owned, add_parts_body,
+    DESERIALIZE, DESERIALIZE_OWNED, SERIALIZES, Trait, USE_VIA, add_head, add_owned,
+    add_parts_body, add_seen_name, quotes_seen,
 };
 use crate::item::{Item, Member};
 use crate::pieces::{Lifetimes, Piece, add_arguments, add_row_variable, add_tuple, add_value};
@@ -28,20 +29,29 @@ pub(crate) fn add_enum(out: &mut Text, home: Home, item: &Item, form: Form) {
         add_seen(out, home, item);
         return;
     }
-    add_head(out, item, Trait::Shaped);
-    add_enum_use(out, home, item);
-    out.add_all(&[USE_VIA, USE_ROW, "\n    ghost shape = { via "]);
-    add_rows(out, item);
-    out.add_all(&[" ⟦<", item.name, "Row"]);
-    add_arguments(out, item, Lifetimes::Own);
-    out.add(" as postcard::Shaped>⟧.shape };\n}\n");
     if form == Form::ByParts {
         add_from_row(out, home, item);
     }
+    add_shape(out, home, item, form);
     add_head(out, item, Trait::Serialize);
     out.add_all(&["    fn serialize", SERIALIZES]);
     add_serialize_body(out, item, WRITE_VARIANT);
     add_reads(out, item, form);
+}
+
+fn add_shape(out: &mut Text, home: Home, item: &Item, form: Form) {
+    add_head(out, item, Trait::Shaped);
+    if quotes_seen(item, form) {
+        out.add_all(&[USE_VIA, "\n    ghost shape = { via "]);
+        add_seen_name(out, item);
+    } else {
+        add_enum_use(out, home, item);
+        out.add_all(&[USE_VIA, USE_ROW, "\n    ghost shape = { via "]);
+        add_rows(out, item);
+    }
+    out.add_all(&[" ⟦<", item.name, "Row"]);
+    add_arguments(out, item, Lifetimes::Own);
+    out.add(" as postcard::Shaped>⟧.shape };\n}\n");
 }
 
 /// Adds the type of what the variants hold, in a row.

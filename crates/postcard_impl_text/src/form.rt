@@ -92,7 +92,7 @@ const NO_MEMORY: [&[u8]; 48] = [
     b"fixint",
 ];
 
-/// How many variants an enum has at most that the prover follows from its row into its value.
+/// How many variants an enum has at most whose plain form is proved.
 const FEW_VARIANTS: usize = 3;
 
 const SIGNED: [&[u8]; 6] = [b"i8", b"i16", b"i32", b"i64", b"i128", b"isize"];
@@ -104,8 +104,8 @@ pub(crate) enum Form {
     Alias,
     /// `Shaped` by `via`, `Serialize`, `Deserialize`, and `DeserializeOwned` if nothing in it borrows.
     Via,
-    /// The same, and `FromParts`, by which a value is made of its parts, since it has several signed
-    /// numbers, or variants.
+    /// The same, and `FromParts`, by which a value is made of its parts, since it has a signed number or
+    /// many variants, and the plain form might not be proved.
     ByParts,
     /// `Repr`, `FromRepr` and `SerializeRepr`, since it has a parameter and a lifetime.
     Seen,
@@ -121,15 +121,16 @@ pub(crate) fn forms(
 ) -> Result<Vec<Form>, ImplProblemAt> {
     check_recursion(alloc, tokens, items)?;
     let light = light(alloc, tokens, items)?;
+    let signed = signed(alloc, tokens, items)?;
     let mut forms = Vec::new(alloc);
     for item in items {
         check_fields(file, tokens, items, light.as_slice(), item)?;
-        forms.push(form_of(tokens, items, item))?;
+        forms.push(form_of(tokens, items, signed.as_slice(), item))?;
     }
     Ok(forms)
 }
 
-fn form_of(tokens: &[Token], items: &[Item], item: &Item) -> Form {
+fn form_of(tokens: &[Token], items: &[Item], signed: &[bool], item: &Item) -> Form {
     if item.kind == Kind::Alias {
         return Form::Alias;
     }
@@ -140,12 +141,10 @@ fn form_of(tokens: &[Token], items: &[Item], item: &Item) -> Form {
         return Form::ByParts;
     }
     for member in &item.members {
-        let mut signed: usize = 0;
         for field in &member.fields {
-            signed = signed.saturating_add(signed_in(tokens, items, field));
-        }
-        if signed > 1 {
-            return Form::ByParts;
+            if has_signed(tokens, items, signed, field.words) {
+                return Form::ByParts;
+            }
         }
     }
     Form::Via
@@ -156,35 +155,45 @@ fn is_seen(item: &Item) -> bool {
     !item.parameters.lifetimes.is_empty() && !item.parameters.types.is_empty()
 }
 
-/// Returns how many signed numbers the words of the field's type are.
-fn signed_in(tokens: &[Token], items: &[Item], field: &Field) -> usize {
-    let mut count: usize = 0;
-    for at in field.words.start..field.words.end {
-        if let Some(token) = token_at(tokens, at) {
-            if is_signed(token) || is_signed_alias(tokens, items, token) {
-                count = count.saturating_add(1);
+/// Returns of each item whether it is an alias that has a signed number, or fails with `OutOfMemory`.
+fn signed(alloc: Global, tokens: &[Token], items: &[Item]) -> Result<Vec<bool>, ImplProblemAt> {
+    let mut signed = flags(alloc, items)?;
+    for _ in items {
+        for (index, item) in items.iter().enumerate() {
+            if item.kind == Kind::Alias
+                && has_signed(tokens, items, signed.as_slice(), item.words)
+            {
+                if let Some(flag) = signed.get_mut(index) {
+                    *flag = true;
+                }
             }
         }
     }
-    count
+    Ok(signed)
 }
 
-/// Returns whether the token is the type of a signed number.
-fn is_signed(token: Token) -> bool {
-    SIGNED.iter().any(|word| token.says(word))
-}
-
-/// Returns whether the token is the name of an alias that has a signed number.
-fn is_signed_alias(tokens: &[Token], items: &[Item], token: Token) -> bool {
-    for item in items {
-        if item.kind == Kind::Alias && token.says(item.name.as_bytes()) {
-            return (item.words.start..item.words.end).any(|at| match token_at(tokens, at) {
-                Some(token) => is_signed(token),
-                None => false,
-            });
+/// Returns whether one of these words of a type is the type of a signed number, or an alias that has
+/// one, also inside of an option, a list or a tuple.
+fn has_signed(tokens: &[Token], items: &[Item], signed: &[bool], words: Span) -> bool {
+    for at in words.start..words.end {
+        if let Some(token) = token_at(tokens, at) {
+            if is_signed(items, signed, token) {
+                return true;
+            }
         }
     }
     false
+}
+
+/// Returns whether the token is the type of a signed number, or an alias that has one.
+fn is_signed(items: &[Item], signed: &[bool], token: Token) -> bool {
+    if SIGNED.iter().any(|word| token.says(word)) {
+        return true;
+    }
+    match named(items, token) {
+        Some(index) => signed.get(index).copied().unwrap_or(false),
+        None => false,
+    }
 }
 
 /// Returns the index of the item with the token's text as its name, if there is one.

@@ -1,5 +1,6 @@
 //! The text of the heads of impls and of their functions, and of the bodies that name no field.
 
+use crate::form::Form;
 use crate::item::Item;
 use crate::pieces::{Lifetimes, add_arguments, add_declared};
 use crate::text::Text;
@@ -84,6 +85,19 @@ pub(crate) fn add_head(out: &mut Text, item: &Item, of: Trait) {
     out.add(item.name);
     add_arguments(out, item, of.lifetimes());
     out.add(" {\n");
+}
+
+/// Returns whether the shape of a type names what is `seen` by its `FromParts`. That of a type with parameters
+/// repeats it, since its `Shaped` doesn't ask of them to be `Drop`.
+pub(crate) fn quotes_seen(item: &Item, form: Form) -> bool {
+    form == Form::ByParts && item.parameters.types.is_empty()
+}
+
+/// Adds the prover's name of what is `seen` of a value.
+pub(crate) fn add_seen_name(out: &mut Text, item: &Item) {
+    out.add_all(&["⟦<", item.name]);
+    add_arguments(out, item, Lifetimes::Own);
+    out.add(" as postcard::FromParts>⟧.seen");
 }
 
 /// Adds the impl of `DeserializeOwned` for a type without parameters.

@@ -8,10 +8,10 @@
 //! | any other | `Shaped` by `via`, `Serialize`, `Deserialize`, and `DeserializeOwned` if nothing borrows |
 //!
 //! A struct goes via the tuple of its fields, an enum via its variants in a row, and more than
-//! eight fields via tuples of five. If a struct or a variant has more than one signed number, or an
-//! enum more than three variants, it has `FromParts`, too, and is read by its parts, so that the
-//! prover follows. A type that has no impls that would be proved is refused with the place of the
-//! field, by one of [`ImplProblem`].
+//! six fields via tuples of five. A struct or an enum with a signed number in a field, and an
+//! enum of more than three variants, has `FromParts`, too, and is read by its parts, since without
+//! them the prover might give up. A type that has no impls that would be proved is refused with the
+//! place of the field, by one of [`ImplProblem`].
 //!
 //! In three steps, one module each: the items of the file (`read`), which impls each has (`form`),
 //! and their text (`structs`, `enums`), in a `Text` that keeps its failure for the end.

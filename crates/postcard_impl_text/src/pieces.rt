@@ -5,7 +5,7 @@ use crate::item::{Field, Item, Member, Style};
 use crate::text::Text;
 
 /// How many fields one tuple has at most. More stand in tuples of [`GROUP`].
-const TUPLE: usize = 8;
+const TUPLE: usize = 6;
 
 /// How many fields a tuple in a tuple has.
 const GROUP: usize = 5;
@@ -54,7 +54,7 @@ pub(crate) fn add_type(out: &mut Text, text: &str) {
     }
 }
 
-/// Adds the tuple of the fields: nothing in brackets for none, of one itself, and past eight a tuple of
+/// Adds the tuple of the fields: nothing in brackets for none, of one itself, and past six a tuple of
 /// tuples of five.
 pub(crate) fn add_tuple(out: &mut Text, fields: &[Field], piece: Piece) {
     if fields.len() <= TUPLE {

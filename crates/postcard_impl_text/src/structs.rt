@@ -2,7 +2,8 @@
 
 use crate::form::Form;
 use crate::heads::{
-    DESERIALIZE, DESERIALIZE_OWNED, SERIALIZES, Trait, USE_VIA, add_head, add_owned, add_parts_body,
+    DESERIALIZE, DESERIALIZE_OWNED, SERIALIZES, Trait, USE_VIA, add_head, add_owned,
+    add_parts_body, add_seen_name, quotes_seen,
 };
 use crate::item::{Item, Member};
 use crate::pieces::{Lifetimes, Piece, add_tuple, add_value};
@@ -16,22 +17,28 @@ pub(crate) fn add_struct(out: &mut Text, item: &Item, form: Form) {
         add_seen(out, item, member);
         return;
     }
-    add_shape(out, item, member);
     if form == Form::ByParts {
         add_from_parts(out, item, member);
     }
+    add_shape(out, item, member, form);
     add_head(out, item, Trait::Serialize);
     out.add_all(&["    fn serialize", SERIALIZES]);
     add_serialize_body(out, member);
     add_reads(out, item, member, form);
 }
 
-fn add_shape(out: &mut Text, item: &Item, member: &Member) {
+fn add_shape(out: &mut Text, item: &Item, member: &Member, form: Form) {
     let fields = member.fields.as_slice();
     add_head(out, item, Trait::Shaped);
-    out.add_all(&[USE_VIA, "\n    ghost shape = { via (λ v. "]);
-    add_tuple(out, fields, Piece::OfValue);
-    out.add(")\n        ⟦<");
+    out.add_all(&[USE_VIA, "\n    ghost shape = { via "]);
+    if quotes_seen(item, form) {
+        add_seen_name(out, item);
+    } else {
+        out.add("(λ v. ");
+        add_tuple(out, fields, Piece::OfValue);
+        out.add(")");
+    }
+    out.add("\n        ⟦<");
     add_tuple(out, fields, Piece::Type);
     out.add(" as postcard::Shaped>⟧.shape };\n}\n");
 }

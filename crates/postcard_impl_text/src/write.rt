@@ -1,5 +1,4 @@
-//! The text of all impls of a file: what is read by parts first, if a type needs it, and then each
-//! type's.
+//! The text of all impls of a file, those of one type after those of another.
 
 use crate::enums::add_enum;
 use crate::form::Form;

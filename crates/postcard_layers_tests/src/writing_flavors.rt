@@ -17,7 +17,6 @@ use std::process::Abort;
 /// A piece that a flavor is to take, and the result of that.
 type Row<'a> = (&'a [u8], Result<()>);
 
-/// A row of one byte is pushed, and any other is taken as a piece.
 fn assert_row<F: Flavor>(rt: &impl Abort, flavor: &mut F, piece: &[u8], want: &Result<()>) {
     let result = match piece {
         [byte] => flavor.try_push(*byte),
@@ -42,7 +41,7 @@ fn vec_of(rt: &impl Abort, alloc: Global, bytes: &[u8]) -> Vec<u8> {
 
 const ONE_TO_FOUR: [Row<'static>; 3] = [(&[1], Ok(())), (&[2, 3, 4], Ok(())), (&[], Ok(()))];
 
-/// Has a flavor take 01, then 02 03 04, then nothing. Returns its output.
+/// Asserts that a flavor takes 01, then 02 03 04, then nothing. Returns its output.
 fn one_to_four<F: Flavor + Drop>(rt: &impl Abort, flavor: F) -> F::Output {
     let mut flavor = flavor;
     assert_rows(rt, &mut flavor, &ONE_TO_FOUR);

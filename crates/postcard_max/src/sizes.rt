@@ -1,6 +1,6 @@
-//! Sizes in bytes from those of parts.
+//! Greatest sizes in bytes from those of parts.
 //!
-//! A sum, a product or a greater size is `None` if a size is, or if it does not fit `usize`.
+//! One is `None` if that of a part is, or if it does not fit `usize`.
 
 ghost use Rattle.std.specs.Prelude.{◌≡◌};
 ghost use Rattle.postcard_max.specs.Sizes.{sum_of, times, greater_of, varint_len as len_of};

@@ -15,7 +15,7 @@ use postcard_wire::Result;
 /// A struct writes the tuple of its fields, as `(&self.name, &self.count).serialize(serializer)`,
 /// and an enum the variant of each arm of a `match` by `serialize_variant`.
 pub trait SerializeRepr: Repr {
-    /// Writes the value that `repr` makes of this one, as its `serialize` does.
+    /// Does what `serialize` of the value that `repr` makes of this one does.
     fn serialize_repr<F: Flavor>(&self, serializer: &mut Serializer<F>) -> Result<()>
         ensures wrote { Wrote F.Flavor serializer.old.output
             (canonical (Self.As.shape.tree (Self.repr self.now)))

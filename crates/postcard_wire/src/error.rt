@@ -12,14 +12,13 @@ use std::{error, fmt};
 /// [`Error::OutOfMemory`], which is this port's own.
 ///
 /// An error doesn't say where in the bytes or in which part of a value it arose. `Display` prints
-/// the texts of postcard 1.1.3, and `Debug` the name of the variant.
+/// the texts of postcard 1.1.3.
 #[derive(Clone, Debug, Drop, PartialEq, Eq)]
 pub enum Error {
     /// A call that the format can't serve, since a message doesn't say of which type it is: reading
     /// a value of any type, an identifier, or a value to be ignored. Nothing was read.
     WontImplement,
-    /// A feature that the format doesn't have yet. Never returned; it is there so that a `match`
-    /// can name it.
+    /// Never returned; it is there so that a `match` can name it.
     NotYetImplemented,
     /// A writing flavor refused bytes: it has no room left, an allocation or its writer failed, or
     /// its count of bytes would exceed `usize::MAX`.
@@ -66,15 +65,14 @@ pub enum Error {
 pub type Result<T> = std::result::Result<T, Error>;
 
 impl Error {
-    /// Returns [`Error::SerdeSerCustom`], for a value that refuses to be written. The message is
-    /// not kept.
+    /// For a value that refuses to be written. The message is not kept.
     pub fn ser_custom<M: Display + Drop>(_msg: M) -> Error
         ensures { result ≡ Error.SerdeSerCustom }
     {
         Self::SerdeSerCustom
     }
 
-    /// Returns [`Error::SerdeDeCustom`], for bytes that spell no value. The message is not kept.
+    /// For bytes that spell no value. The message is not kept.
     pub fn de_custom<M: Display + Drop>(_msg: M) -> Error
         ensures { result ≡ Error.SerdeDeCustom }
     {

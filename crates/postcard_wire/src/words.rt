@@ -119,7 +119,6 @@ fn cut_one(word: u64, len: usize, bits: u32) -> (u64, u64)
     ((word & high_bits) ^ GOES_ON[len], word & DATA[len])
 }
 
-/// Returns the eight bytes that begin at `at` as one word, the first byte lowest.
 #[inline(always)]
 fn word_at(block: &[u8; BLOCK], at: usize) -> u64
     requires { at + 8 ≤ 80 }

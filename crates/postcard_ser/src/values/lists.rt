@@ -33,9 +33,9 @@ pub(crate) fn serialize_all<T: Serialize, F: Flavor>(
                 serializer.extend(&block)?;
                 rest = &rest[count..];
             }
-            FirstBytes::Row(row, numbers) => {
+            FirstBytes::Row(row, row_count) => {
                 serializer.extend(&row)?;
-                rest = &rest[numbers..];
+                rest = &rest[row_count..];
             }
             FirstBytes::SomeOneByOne(some) => {
                 serialize_each(&rest[..some], serializer)?;

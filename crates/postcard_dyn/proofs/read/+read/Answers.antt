@@ -95,6 +95,10 @@ read_option-returns-in_ok-held-in-1 g t c =
     let seen : tree (Present held) ≡ nodes.Present (tree c.in_ok-value-in-1.value) = rw (← c.in_ok-held-in-1.ensures.held) (search (rules, the_lemmas)) in
     some_read g.F.Flavor.lawful (one_taken r c.in-1.is) r.leaves (Present held) seen c.in_ok-value-in-1.ensures
 
+pub read_group-returns-in_err-items : goal.read_group-returns-in_err-items
+read_group-returns-in_err-items g t c =
+    no_memory c.from_residual.ensures.1 c.in_err-items.ensures.refused (g.F.Flavor.lawful.itself _)
+
 pub read_group-returns-in_err-item : goal.read_group-returns-in_err-item
 read_group-returns-in_err-item g t c =
     let laws = g.F.Flavor.lawful in
@@ -102,7 +106,7 @@ read_group-returns-in_err-item g t c =
     let xs = c.deref-part-items.result.now in
     let x = c.part-item.result in
     let here : types_of (drop l.part-index xs) ≡ then_type (type_of x) (types_of (drop (l.part-index + 1) xs)) = ap types_of (drop_more xs l.part-index x (omega arith) ∙ ap (λ y. y ∷ drop (l.part-index + 1) xs) (sym c.part-item.is)) in
-    rw (is_refusal c.from_residual.result c.in_err-item.field-0.0 c.from_residual.ensures.1, ← c.deref-part-items.ensures.value)
+    rw (is_refusal c.from_residual-in_err-item.result c.in_err-item.field-0.0 c.from_residual-in_err-item.ensures.1, ← c.deref-part-items.ensures.value)
     (group_refused laws (types_of xs) (part_stops laws (rw here at l.invariant) c.in_err-item.ensures))
 
 pub read_group-returns-in_err-push : goal.read_group-returns-in_err-push

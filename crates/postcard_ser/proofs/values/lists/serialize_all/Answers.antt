@@ -29,11 +29,11 @@ returns-in_err-extend-in-Row-clause-wrote g c =
     wrote_err _ c.from_residual-in_err-extend-in-Row.ensures.1 (written_stop c.loop-bytes.invariant c.in-Row.ensures.gives c.in_err-extend-in-Row.ensures)
 
 pub loop-bytes-smaller-in-Row : goal.loop-bytes-smaller-in-Row
-loop-bytes-smaller-in-Row g c = block_shortens c.in-Row.ensures.gives (take_rest c.loop-bytes.rest.now c.in-Row.numbers)
+loop-bytes-smaller-in-Row g c = block_shortens c.in-Row.ensures.gives (take_rest c.loop-bytes.rest.now c.in-Row.row_count)
 
 pub loop-bytes-preserved-in-Row : goal.loop-bytes-preserved-in-Row
 loop-bytes-preserved-in-Row g c =
-    written_more c.loop-bytes.invariant c.in-Row.ensures.gives (take_rest c.loop-bytes.rest.now c.in-Row.numbers) c.in_ok-extend-in-Row.ensures
+    written_more c.loop-bytes.invariant c.in-Row.ensures.gives (take_rest c.loop-bytes.rest.now c.in-Row.row_count) c.in_ok-extend-in-Row.ensures
 
 pub returns-in-OneByOne-clause-wrote : goal.returns-in-OneByOne-clause-wrote
 returns-in-OneByOne-clause-wrote g c = written_end c.loop-bytes.invariant c.serialize_each-in-OneByOne.ensures.wrote
