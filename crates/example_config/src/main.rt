@@ -154,7 +154,7 @@ fn change(rt: &HostRuntime) -> Result<()> {
         new: example_config(rt.alloc(), "d", 300)?,
     };
     there_and_back(rt, &change)?;
-    let message = [5, 118, 111, 108, 116, 115, 2, 172, 2, 5];
+    let message = [5, 118, 111, 108, 116, 115, 2, 172, 2, 5, 0, 0, 0, 96];
     let label: Label = from_bytes(rt.alloc(), &message)?;
     println!(rt; "{label:?}")?;
     Ok(())

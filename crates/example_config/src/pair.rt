@@ -1,8 +1,10 @@
-//! A struct with a type parameter, and one that borrows from the message.
+//! A struct with a type parameter, and one that borrows from the message and has a field at its full
+//! width.
 
 ghost use Rattle.postcard_shape.specs.Shape.{via};
 
 use postcard::de_flavors::Flavor as DeFlavor;
+use postcard::fixint::LE;
 use postcard::ser_flavors::Flavor;
 use postcard::{
     Deserialize, DeserializeOwned, Deserializer, Result, Serialize, Serializer, Shaped,
@@ -49,21 +51,24 @@ pub struct Label<'a> {
     pub text: &'a str,
     /// The values.
     pub values: Vec<u16>,
+    /// Seconds since 1970, in four bytes: a varint of so many has five.
+    pub at: LE<u32>,
 }
 
 impl<'a> Shaped for Label<'a> {
-    ghost shape = { via (λ v. (v.text, v.values)) ⟦<(&'a str, Vec<u16>) as Shaped>⟧.shape };
+    ghost shape = { via (λ v. (v.text, v.values, v.at))
+        ⟦<(&'a str, Vec<u16>, LE<u32>) as Shaped>⟧.shape };
 }
 
 impl Serialize for Label<'_> {
     fn serialize<F: Flavor>(&self, serializer: &mut Serializer<F>) -> Result<()> {
-        (self.text, &self.values).serialize(serializer)
+        (self.text, &self.values, &self.at).serialize(serializer)
     }
 }
 
 impl<'de> Deserialize<'de> for Label<'de> {
     fn deserialize<F: DeFlavor>(alloc: Global, d: &mut Deserializer<'de, F>) -> Result<Self> {
-        let (text, values) = Deserialize::deserialize(alloc, d)?;
-        Ok(Label { text, values })
+        let (text, values, at) = Deserialize::deserialize(alloc, d)?;
+        Ok(Label { text, values, at })
     }
 }

@@ -23,7 +23,7 @@ use std::marker::Model;
 
 /// A number that is written with the lowest byte first, as the [crate's page](crate) says. A
 /// contract sees the number.
-#[derive(Drop)]
+#[derive(Debug, Drop)]
 pub struct LE<T>(T);
 
 impl<T> Model for LE<T> {
