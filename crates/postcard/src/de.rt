@@ -53,7 +53,7 @@ pub fn from_io<'a, T: Deserialize<'a>, R: Reader + 'a>(
         × Consumes (R.remaining from.entry.0) (R.remaining read.1.0) (canonical (T.shape.tree x)))
         (λ e. (e ≡ Error.OutOfMemory) × Grows T.shape) }
     ensures stays_steady { R.steady from.entry.0 → IfOk result (λ read. R.steady read.1.0) }
-    // Follows from `named_error`; stated for users' proofs.
+    // For users' proofs.
     ensures out_of_memory_only_if_grows { result ≡ Err Error.OutOfMemory → Grows T.shape }
     ensures named_error { IfErr result (IsReadError T.shape.other) }
 {

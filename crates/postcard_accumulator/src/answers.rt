@@ -1,9 +1,8 @@
 //! What a feed of an accumulator returns, and what `read_frames` collects.
 
-/// The result of [`feed`](crate::accumulator::CobsAccumulator::feed), and of
-/// [`take_in`](crate::accumulator::CobsAccumulator::take_in), where the value is the frame's data.
-/// Except for `Consumed`, each has the bytes of the piece that weren't taken in, which may be none.
-/// Feed these next.
+/// The result of `feed`, and of `take_in`, where the value is the frame's data. Except for
+/// `Consumed`, each has the bytes of the piece that weren't taken in, which may be none. Feed these
+/// next.
 #[derive(Drop)]
 pub enum FeedResult<'a, T> {
     /// All of the piece was consumed, and no frame ended except one that was being skipped.

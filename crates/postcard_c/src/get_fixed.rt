@@ -1,7 +1,7 @@
 //! The calls that read numbers at their full width: 2, 4, 8 or 16 bytes, the lowest first (`_le`)
 //! or the highest first (`_be`), in place of a varint. Each returns the reader's status, as those
-//! of [`get`](crate::get), and fails with `DeserializeUnexpectedEnd` if fewer bytes are left. After
-//! an error the reader's place is that before the call, and nothing was written.
+//! of `get`, and fails with `DeserializeUnexpectedEnd` if fewer bytes are left. After an error the
+//! reader's place is that before the call, and nothing was written.
 //!
 //! A signed number is the unsigned number of its two's complement; `c/postcard.h` has the casts.
 

@@ -6,9 +6,8 @@
 //! passes, and whatever it writes into the fields of a struct, a call returns and touches only the
 //! memory that it was given. Nothing allocates.
 //!
-//! In reading order: [`writer`], [`put`], [`put_fixed`], [`reader`], [`get`], [`get_fixed`],
-//! [`checksum`], [`frames`], [`accumulator`]; in `specs/`: `Writing`, `Reading`, `Checksums`,
-//! `Feeding`.
+//! In reading order: `writer`, `put`, `put_fixed`, `reader`, `get`, `get_fixed`, `checksum`,
+//! `frames`, `accumulator`.
 #![tactic(auto)]
 
 mod accumulator;

@@ -1,6 +1,6 @@
 //! The calls that write numbers at their full width: 2, 4, 8 or 16 bytes, the lowest first (`_le`)
 //! or the highest first (`_be`), in place of a varint. Each returns the writer's status, and fails
-//! as those of [`put`](crate::put).
+//! as those of `put`.
 //!
 //! A signed number is the unsigned number of its two's complement; `c/postcard.h` has the casts.
 

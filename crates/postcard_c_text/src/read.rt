@@ -13,8 +13,7 @@ use postcard_dyn::{Problem, Schema, Value, parse, refused_at, take_from_bytes};
 use postcard_wire::Error;
 use std::alloc::Global;
 
-/// Reads a type expression. Fails as [`postcard_to_text`](crate::texts::postcard_to_text) does,
-/// with `place` as there.
+/// Reads a type expression. Fails as `postcard_to_text` does, with `place` as there.
 pub(crate) fn schema_of(alloc: Global, expression: &[u8], place: &mut usize) -> Result<Schema, u32>
     ensures spelled { IfOk result (λ schema. IsExpression schema expression.now) }
     ensures named { IfErr result (λ status. (status ≡ 16) ⊎ (status ≡ 17)) }
@@ -37,8 +36,7 @@ pub(crate) fn schema_of(alloc: Global, expression: &[u8], place: &mut usize) -> 
 }
 
 /// Reads the message of a type that some bytes begin with, and writes the number of its bytes into
-/// `place`. Fails as [`postcard_to_text`](crate::texts::postcard_to_text) does, with `place` as
-/// there.
+/// `place`. Fails as `postcard_to_text` does, with `place` as there.
 pub(crate) fn message_of(
     alloc: Global,
     schema: &Schema,

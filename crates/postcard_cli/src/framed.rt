@@ -32,8 +32,7 @@ use std::io::Write;
 const FRAME: usize = BUFFER + BUFFER / 254 + 2;
 
 /// Encodes the value of a text, and prints the frame of its encoding, its zero included, as
-/// hexadecimal on a line. Fails as [`encode`](crate::message::encode) does. The 4,096 bytes are
-/// those of the encoding.
+/// hexadecimal on a line. Fails as `encode` does. The 4,096 bytes are those of the encoding.
 pub fn encode<W: Write>(
     alloc: Global,
     expression: &str,

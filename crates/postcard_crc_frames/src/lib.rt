@@ -2,11 +2,9 @@
 //! and the checksum after each value is checked before the value is handed out.
 //!
 //! A frame's data is the encoding of a value, and then just its checksum in as many bytes as the
-//! checksum's type has, the lowest first, as [`to_slice_cobs`](postcard_crc::ser::to_slice_cobs)
-//! writes it. A frame whose data is anything else has the answer `DeserError`. In all else the
-//! answers of a stream are as in `postcard_accumulator` (`specs/Checked.antt`).
-//!
-//! In reading order: [`feed`], [`read_frames`], [`laws`].
+//! checksum's type has, the lowest first, as `to_slice_cobs` writes it. A frame whose data is
+//! anything else has the answer `DeserError`. In all else the answers of a stream are as in
+//! `postcard_accumulator` (`specs/Checked.antt`).
 #![tactic(auto)]
 
 mod feeding;

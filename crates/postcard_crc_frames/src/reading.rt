@@ -62,7 +62,7 @@ fn feed_all<T: DeserializeOwned, W: Width, I: Implementation<W>, const N: usize>
 }
 
 /// Reads a stream of frames of values with a checksum, and appends the answers to `out`, in all
-/// else as [`read_frames`](postcard_accumulator::read_frames) does.
+/// else as `read_frames` does.
 ///
 /// The answer to a frame is the value, if the frame's data is its encoding and then just its
 /// checksum; otherwise `DeserError`, or `OverFull` for a frame that has no room.

@@ -38,7 +38,7 @@ pub fn take_from_bytes<'a, T: Deserialize<'a>>(
         → T.shape.fits x → bytes.now ≡ canonical (T.shape.tree x) ++ rest →
         MatchResult result (λ read. T.shape.same read.0 x × (read.1.now ≡ rest))
         (λ e. (e ≡ Error.OutOfMemory) × Grows T.shape) }
-    // Follows from `named_error`; stated for users' proofs.
+    // For users' proofs.
     ensures out_of_memory_only_if_grows { result ≡ Err Error.OutOfMemory → Grows T.shape }
     ensures named_error { IfErr result (IsReadError T.shape.other) }
 {
@@ -61,7 +61,7 @@ pub fn from_bytes<'a, T: Deserialize<'a>>(alloc: Global, bytes: &'a [u8]) -> Res
         → T.shape.fits x → bytes.now ≡ canonical (T.shape.tree x) ++ rest →
         MatchResult result (λ value. T.shape.same value x)
         (λ e. (e ≡ Error.OutOfMemory) × Grows T.shape) }
-    // Follows from `named_error`; stated for users' proofs.
+    // For users' proofs.
     ensures out_of_memory_only_if_grows { result ≡ Err Error.OutOfMemory → Grows T.shape }
     ensures named_error { IfErr result (IsReadError T.shape.other) }
 {

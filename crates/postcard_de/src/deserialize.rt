@@ -14,8 +14,7 @@ pub trait Deserialize<'de>: Shaped + Sized + Drop {
     ///
     /// # Errors
     ///
-    /// Fails as [`take_from_bytes`](crate::take_from_bytes) does. Some of the bytes may have been
-    /// taken then.
+    /// Fails as `take_from_bytes` does. Some of the bytes may have been taken then.
     fn deserialize<F: Flavor>(alloc: Global, d: &mut Deserializer<'de, F>) -> Result<Self>
         ensures { ReadsShape F.Flavor Self.shape (source_of d.old) result (source_of d.new) };
 }

@@ -10,8 +10,8 @@
 //! A struct is read as the tuple of its fields and an enum as its variants in a row ([`FromRepr`]),
 //! with no proof of its own.
 //!
-//! In reading order: [`deserialize`], [`owned`], [`repr`], [`rows`], [`cases`], [`deserializer`],
-//! [`access`], [`map_access`], [`values`], [`laws`].
+//! In reading order: `deserialize`, `owned`, `repr`, `rows`, `cases`, `deserializer`, `access`,
+//! `map_access`, `values`, `laws`.
 #![tactic(auto)]
 
 pub mod access;

@@ -1,6 +1,6 @@
 //! The types that are read, a module for each kind. The contract of a type that is one node states
-//! the exact reason of a failure. What the pages here don't say, as of `OutOfMemory`,
-//! [`Deserialize`](crate::Deserialize) says.
+//! the exact reason of a failure. What the pages here don't say, as of `OutOfMemory`, `Deserialize`
+//! says.
 
 pub mod c_strings;
 pub mod error;

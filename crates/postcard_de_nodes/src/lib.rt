@@ -8,8 +8,6 @@
 //!
 //! Each fails with `DeserializeUnexpectedEnd` if the source can't give the bytes that it takes.
 //! What has a length or a count fails as [`numbers::count`] if that can't be read.
-//!
-//! In reading order: [`numbers`], [`choices`], [`texts`], [`bytes`], [`floats`], [`lists`].
 #![tactic(auto)]
 
 pub mod bytes;

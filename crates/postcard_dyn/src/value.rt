@@ -2,8 +2,7 @@
 
 use postcard_dyn_schema::{ByteOrder, Integer};
 
-/// A value of some [`Schema`](postcard_dyn_schema::Schema), which has the names of fields and
-/// variants.
+/// A value of some `Schema`, which has the names of fields and variants.
 #[derive(Debug, Drop)]
 pub enum Value {
     Bool(bool),

@@ -11,8 +11,7 @@ use crate::token::{Token, after_word, is_at, is_before, is_name_at, place_of};
 use std::alloc::Global;
 
 /// Returns the tokens that are kept. Fails with `OutOfMemory`, and with `BracketOpen` if the
-/// bracket of an attribute or of a `pub` isn't closed, as each is in what
-/// [`tokens`](crate::lex::tokens) returns.
+/// bracket of an attribute or of a `pub` isn't closed, as each is in what `tokens` returns.
 pub fn kept<'a>(alloc: Global, tokens: &[Token<'a>]) -> Result<Vec<Token<'a>>, ProblemAt>
     ensures kept { IfOk result (λ kept. AreKept tokens.now kept.items) }
     ensures other { IfErr result (λ e. is_of_type e.problem ≡ false) }

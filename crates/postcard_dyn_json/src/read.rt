@@ -30,8 +30,8 @@ use postcard_dyn_text::{is_struct, is_unit};
 use serde_json::Value as Json;
 use std::alloc::Global;
 
-/// Reads the value of the schema that the JSON spells: what [`to_json`](crate::to_json) returns of
-/// the value, or another form of it.
+/// Reads the value of the schema that the JSON spells: what `to_json` returns of the value, or
+/// another form of it.
 ///
 /// # Errors
 ///

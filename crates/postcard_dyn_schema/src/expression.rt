@@ -18,11 +18,11 @@
 //! tuple of one part. The fields of a struct have different names, and so have the variants of an
 //! enum; a count is an integer literal below 2^64.
 //!
-//! A word is the name of a type without parts ([`TypeName`]), and [`Angled`](crate::angled::Angled)
-//! has the names before a `<`. A type that begins with a capital letter is an enum if `|`, `(` or
-//! `{` follows its first word, and else that word names a type of Rust. So `String | Number` is an
-//! enum, and `[String]` a list of texts. `&T` is the type `T`, since a reference is written as what
-//! it refers to; the name of a lifetime begins with no digit.
+//! A word is the name of a type without parts ([`TypeName`]), and `Angled` has the names before a
+//! `<`. A type that begins with a capital letter is an enum if `|`, `(` or `{` follows its first
+//! word, and else that word names a type of Rust. So `String | Number` is an enum, and `[String]` a
+//! list of texts. `&T` is the type `T`, since a reference is written as what it refers to; the name
+//! of a lifetime begins with no digit.
 
 ghost use Rattle.std.specs.Prelude.{◌≡◌, ℕ, List, ◌+◌, ◌≤◌, true, length, Decides, IfOk, IfErr, OnOk, OnErr};
 ghost use Rattle.postcard_dyn_schema.specs.Text.{characters, TakesPhrase, IsSign, EndsWord, GoesOnBy};

@@ -14,8 +14,8 @@ pub(crate) trait OfBytes: Sized {
     /// The array.
     type Bytes: ByteArray;
 
-    /// The shape of a value, once more: the impls of [`Shaped`](postcard_shape::Shaped) call
-    /// [`append`], whose bound can't lead back to them.
+    /// The shape of a value, once more: the impls of `Shaped` call [`append`], whose bound can't
+    /// lead back to them.
     ghost form: { Shape Self };
 
     /// Returns the number that has these bytes.
@@ -23,9 +23,8 @@ pub(crate) trait OfBytes: Sized {
         ensures { (p : List ℕ) → IsValue Self.Bytes.shape p bytes → IsValue form p result };
 }
 
-/// Appends the next numbers to a list, as
-/// [`append_at_hand`](postcard_shape::Shaped::append_at_hand) does: as many as `bytes` have whole,
-/// but at most `most`. Asks for memory for just these.
+/// Appends the next numbers to a list, as `append_at_hand` does: as many as `bytes` have whole, but
+/// at most `most`. Asks for memory for just these.
 pub(crate) fn append<T: OfBytes>(
     items: &mut Vec<T>,
     bytes: &[u8],

@@ -18,8 +18,6 @@
 //!     ghost repr = { λ v. (v.address, v.port) };
 //! }
 //! ```
-//!
-//! In reading order: [`FixInt`], [`ByteArray`], [`le`], [`be`], `block`, [`laws`].
 #![tactic(auto)]
 
 mod array;

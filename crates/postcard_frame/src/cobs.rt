@@ -43,7 +43,7 @@ pub fn from_bytes_cobs<'a, T: Deserialize<'a>>(alloc: Global, s: &'a mut [u8]) -
         → IsErrOf result Error.DeserializeBadEncoding }
     ensures bad_only_if_no_data { result ≡ Err Error.DeserializeBadEncoding
         → HasNoData (before_zero s.old) }
-    // Follows from `named_error`; stated for users' proofs.
+    // For users' proofs.
     ensures out_of_memory_only_if_grows { result ≡ Err Error.OutOfMemory → Grows T.shape }
     ensures named_error { IfErr result
         (λ e. (e ≡ Error.DeserializeBadEncoding) ⊎ IsReadError T.shape.other e) }
@@ -77,7 +77,7 @@ pub fn take_from_bytes_cobs<'a, T: Deserialize<'a>>(
         → IsErrOf result Error.DeserializeBadEncoding }
     ensures bad_only_if_no_data { result ≡ Err Error.DeserializeBadEncoding
         → HasNoData (before_zero s.old) }
-    // Follows from `named_error`; stated for users' proofs.
+    // For users' proofs.
     ensures out_of_memory_only_if_grows { result ≡ Err Error.OutOfMemory → Grows T.shape }
     ensures named_error { IfErr result
         (λ e. (e ≡ Error.DeserializeBadEncoding) ⊎ IsReadError T.shape.other e) }

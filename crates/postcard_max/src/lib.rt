@@ -1,8 +1,6 @@
 //! The greatest size of a type's encodings, in bytes, so that a buffer can be sized once for all
 //! its values: [`MaxSize`], as a number for a program and as a theorem for a proof. A struct or an
 //! enum has it by [`MaxSizeRepr`].
-//!
-//! In reading order: [`max_size`], [`sizes`], [`rows`], [`cases`], `values`, [`laws`].
 #![tactic(auto)]
 
 pub mod cases;

@@ -1,5 +1,5 @@
-//! The greatest sizes of the types of std and of `arrayvec`, a module for each kind;
-//! [`table`](crate::laws::table) has them all.
+//! The greatest sizes of the types of std and of `arrayvec`, a module for each kind; `table` has
+//! them all.
 
 mod fixed;
 mod floats;

@@ -8,9 +8,6 @@
 //! A struct or an enum of your own implements `Repr` and [`SerializeRepr`] (`docs/TYPES.md`). A
 //! type that calls the [`Serializer`] itself more than once joins what each call wrote by the
 //! lemmas of `postcard::specs::Lemmas` whose names begin with `wrote_`.
-//!
-//! In reading order: `serializer`, `collect_str`, `serialize`, `repr`, `cases`, `values`.
-//! [`Flavor`] and [`Slice`] are those of `postcard_ser_flavors`.
 #![tactic(auto)]
 
 pub mod cases;

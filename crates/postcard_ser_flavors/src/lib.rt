@@ -15,8 +15,6 @@
 //! Each fails with `SerializeBufferFull`; its page says what a failure leaves. Only the `finalize`
 //! of a `WriteFlavor` may fail. A flavor of your own implements the same trait; `example_types` has
 //! one.
-//!
-//! In reading order: `flavor`, `storage`, `slice`, and the other flavors.
 #![tactic(auto)]
 
 pub mod alloc_vec;

@@ -1,7 +1,6 @@
 //! The encodings of the first items of a list, by which many are written at once.
 
-/// The encodings of some first items of a list, one after the other
-/// ([`Shaped::first_bytes`](crate::Shaped::first_bytes)).
+/// The encodings of some first items of a list, one after the other (`Shaped::first_bytes`).
 #[derive(Drop)]
 pub enum FirstBytes<'a> {
     /// The encodings of all items.

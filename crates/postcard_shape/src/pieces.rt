@@ -12,8 +12,7 @@ const ROW: usize = 16;
 /// repeat themselves, the processor foresees them, but not if a row is looked for too often.
 const PAUSE: usize = 256;
 
-/// Does what [`first_bytes`](crate::shape::Shaped::first_bytes) does: returns a row if each of the
-/// first 16 numbers has one byte.
+/// Does what `first_bytes` does: returns a row if each of the first 16 numbers has one byte.
 #[inline(always)]
 pub(crate) fn first_row<T: Varint>(items: &[T]) -> FirstBytes<'_>
     ensures { AreFirst T.form items.now result }

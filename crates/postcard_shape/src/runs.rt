@@ -27,8 +27,8 @@ const LEAST: usize = 32;
 pub(crate) trait Varint: Copy + Default {
     ghost width: { ℕ };
 
-    /// The shape of a value, once more: the impls of [`Shaped`](crate::shape::Shaped) call
-    /// [`append`], whose bound can't lead back to them.
+    /// The shape of a value, once more: the impls of `Shaped` call [`append`], whose bound can't
+    /// lead back to them.
     ghost form: { Shape Self };
 
     fn bits() -> u32
@@ -205,9 +205,9 @@ fn push_row<T: Copy>(items: &mut Vec<T>, row: &[T]) -> Result<()>
     }
 }
 
-/// Appends some of the next numbers to a list, as
-/// [`append_at_hand`](crate::shape::Shaped::append_at_hand) does, if at least [`LEAST`] are left
-/// and the next bytes are as those of most numbers are. Asks for no memory, and so never fails.
+/// Appends some of the next numbers to a list, as `append_at_hand` does, if at least [`LEAST`] are
+/// left and the next bytes are as those of most numbers are. Asks for no memory, and so never
+/// fails.
 #[inline(always)]
 pub(crate) fn append<T: Varint>(
     items: &mut Vec<T>,

@@ -1,6 +1,6 @@
 //! Varints that are in memory, many at a time: the bytes of each by one load of eight bytes. If
 //! what is here returns no numbers, as for a varint of more than eight bytes or out of range, the
-//! caller reads byte by byte ([`Digits`](crate::digits::Digits)).
+//! caller reads byte by byte (`Digits`).
 
 ghost use Rattle.std.specs.Prelude.{◌≡◌, ℕ, ◌+◌, ◌*◌, ◌≤◌, ◌<◌, ◌^◌, List, length, take, drop};
 ghost use Rattle.std.specs.Prelude.{IfSome, slice_index};
