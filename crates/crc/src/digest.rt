@@ -65,7 +65,8 @@ impl<'a, W: Width, I: Implementation<W>> Digest<'a, W, I> {
     }
 }
 
-/// Returns what is read from a register at the end.
+/// Returns the remainder, reversed if `refout`, of a register that has it reversed if `refin`, or
+/// else above `gap` bits.
 fn read(refin: bool, refout: bool, bits: u32, gap: u32, register: u128) -> u128
     requires some { 1 ≤ bits }
     requires few { bits ≤ 128 }

@@ -15,7 +15,7 @@ use postcard::{
 };
 use std::alloc::Global;
 
-/// A list of numbers. Writing or reading one of 32 numbers or more fails.
+/// A list of numbers. Writing or reading a list of 32 numbers or more fails.
 #[derive(Debug, Drop, PartialEq)]
 pub enum Chain {
     /// No number.
@@ -25,8 +25,8 @@ pub enum Chain {
 }
 
 /// Writes a chain of fewer than `limit` links. Fails with `SerdeSerCustom` if it has `limit` links
-/// or more, and with `SerializeBufferFull` if the flavor refuses bytes. The bytes that the flavor
-/// took before stay in it.
+/// or more, and with `SerializeBufferFull` if the flavor refuses bytes; no part is a printed text,
+/// which could fail otherwise. The bytes that the flavor took before stay in it.
 fn write_links<F: Flavor>(chain: &Chain, limit: u32, serializer: &mut Serializer<F>) -> Result<()>
     ensures wrote { Wrote F.Flavor serializer.old.output
         (canonical ((chain_shape limit).tree chain.now)) ((chain_shape limit).refusal chain.now)
@@ -47,7 +47,7 @@ fn write_links<F: Flavor>(chain: &Chain, limit: u32, serializer: &mut Serializer
 }
 
 /// Reads a chain of fewer than `limit` links. Fails with `SerdeDeCustom` if it has `limit` links or
-/// more, or if an index is neither 0 nor 1, and with `OutOfMemory` if an allocation fails.
+/// more, or if a variant's index is neither 0 nor 1, and with `OutOfMemory` if an allocation fails.
 fn read_links<F: DeFlavor>(limit: u32, alloc: Global, d: &mut Deserializer<'_, F>) -> Result<Chain>
     ensures { Reads F.Flavor Spells (chain_shape limit).reads (chain_shape limit).value
         (chain_shape limit).other (source_of d.old) result (source_of d.new) }

@@ -1,4 +1,4 @@
-//! A store of settings: a buffer of the greatest size that encoded settings can have.
+//! A store of a lamp's settings: a buffer of the greatest size that encoded settings can have.
 
 ghost use Rattle.example_types.specs.declared.store.Mode.{Mode};
 ghost use Rattle.std.specs.Prelude.{◌≡◌, Some, IsOk};

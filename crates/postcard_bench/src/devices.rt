@@ -1,4 +1,5 @@
-//! Records and a list of bytes, written by `to_io` and read by `from_io`, whose writer and reader are memory.
+//! Records and a list of bytes, written by `to_io` and read by `from_io`, whose writer and reader are
+//! memory. A failure returns `u64::MAX`.
 
 use crate::lists::ends_of;
 use crate::records::Record;

@@ -150,7 +150,7 @@ fn take_in(buf: &mut [u8], held: usize, skipping: bool, piece: &[u8]) -> Outcome
 }
 
 /// Takes in a piece of a stream up to the end of a frame, and returns what that completed: 0 if no
-/// frame ended, 1 for a frame, 2 for one that has no room, 3 for one that is no COBS frame.
+/// frame ended but a skipped one, 1 for a frame, 2 for one without room, 3 for what is no COBS frame.
 ///
 /// Writes into `taken` how many bytes of the piece were taken; the caller feeds the others next.
 /// Writes into `count` how many a frame's data has, or 0 without a frame; the data is at the front

@@ -67,7 +67,7 @@ pub fn print<R: Reader, W: Write>(
 
 /// Prints each line of an explanation as a row, with the offset of its bytes in the message, and
 /// the error by which the bytes are refused, if they are. Fails with `Output`,
-/// `Library(OutOfMemory)` or `Library(WontImplement)`.
+/// `Library(OutOfMemory)` or, if a value has no JSON, `Library(WontImplement)`.
 fn print_lines<W: Write>(
     alloc: Global,
     error: &Option<Error>,

@@ -21,7 +21,7 @@ use std::alloc::Global;
 
 /// Returns the bytes of a text, which are those of the words of its lines, in order. Of a line that
 /// `xxd` or `hexdump -C` printed, the offset and the text after the bytes are passed over. Fails
-/// with `BadHexAt` if a word isn't an even number of digits.
+/// with `BadHexAt` if a word isn't an even number of digits, after `0x` or not.
 pub fn read(alloc: Global, text: &[u8]) -> Result<Vec<u8>, Failure>
     ensures value { IfOk result (λ bytes. SpellsBytes text.now bytes.items) }
     ensures only { IfOk result (λ bytes. (other : List ℕ) → SpellsBytes text.now other

@@ -7,9 +7,6 @@
 //! type whose text may fail to print, the error may be `CollectStrError` instead. A value that
 //! refuses itself may fail in any case, also with an error of its own; if there is room for the
 //! message, only with such an error.
-//!
-//! In reading order: `ser`, `de`, and `ser_flavors` and `de_flavors` with the names of the Rust
-//! crate for each width.
 #![tactic(auto)]
 
 pub mod de;

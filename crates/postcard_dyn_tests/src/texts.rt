@@ -95,7 +95,7 @@ const READ: [(&str, &str, &str); 27] = [
     ("u8?", "Some (3)", "Some(3)"),
 ];
 
-/// Types and texts that are no value, each beside the error as it is printed.
+/// Types and texts that are no value of theirs, each beside the error as it is printed.
 const REFUSED: [(&str, &str, &str); 57] = [
     (
         "u8",

@@ -361,8 +361,8 @@ fn read_list<'a>(
     Ok(Value::Seq(items))
 }
 
-/// Reads elements of a list, or entries of a map, and the closing bracket. A `,` may follow the
-/// last.
+/// Reads elements of a list, or entries of a map before `}` (125), and the closing bracket. A `,`
+/// may follow the last.
 #[cycle(text)]
 fn read_items<'a>(
     alloc: Global,

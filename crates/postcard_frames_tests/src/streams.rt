@@ -63,7 +63,7 @@ fn chunks_and_reads(rt: HostRuntime) {
 }
 
 /// Asserts that the whole stream has these answers, with chunks of each size up to 32 bytes. A zero
-/// that is fed after each reading ends a frame that it left.
+/// that is fed after each reading ends a frame that was left open.
 fn check<T: DeserializeOwned + PartialEq + Debug, const N: usize>(
     rt: &(impl Abort + AllocGlobal),
     acc: &mut CobsAccumulator<N>,

@@ -29,8 +29,8 @@ const HIGH_BITS: [u64; 10] = [
     0,
 ];
 
-/// The same for a number of 32 bits, of at most five bytes, with the bits of the fifth that exceed
-/// 32.
+/// [`HIGH_BITS`] for a number of 32 bits, of at most five bytes, with the bits of the fifth that
+/// exceed 32.
 const HIGH_BITS_32: [u64; 10] = [
     0,
     0x80,
@@ -44,10 +44,10 @@ const HIGH_BITS_32: [u64; 10] = [
     0,
 ];
 
-/// The same for a number of 16 bits, of at most three bytes.
+/// [`HIGH_BITS`] for a number of 16 bits, of at most three bytes.
 const HIGH_BITS_16: [u64; 10] = [0, 0x80, 0x8080, 0xfc_8080, 0, 0, 0, 0, 0, 0];
 
-/// The value of these bits: 1 in each byte but the last. If there is no such varint, a value that
+/// The value of the high bits: 1 in each byte but the last. If there is no such varint, a value that
 /// they can't have.
 const GOES_ON: [u64; 10] = [
     1,

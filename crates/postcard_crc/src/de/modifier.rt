@@ -10,7 +10,7 @@ use postcard_de_flavors::{Flavor, Slice};
 use postcard_wire::Result;
 
 /// Reads from a slice, and checks at the end that the bytes after the message are its checksum: as
-/// many as its type has, the lowest first.
+/// many as `W` has, the lowest first.
 ///
 /// The Rust crate has it over any flavor; here it serves [`Slice`] alone, since which bytes a call
 /// that fails has taken is known only of that.

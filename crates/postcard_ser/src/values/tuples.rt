@@ -1,6 +1,6 @@
 //! Tuples of one to twelve parts: written as the parts in order, with no count before them.
 //!
-//! A tuple passes its parts to a function with one parameter each, since the prover's work for a
+//! A tuple passes its parts to a function with a parameter for each, since the prover's work for a
 //! tuple within a tuple grows fast with its length.
 
 ghost use Rattle.std.specs.Prelude.{OnOk};
