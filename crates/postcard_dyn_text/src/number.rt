@@ -2,11 +2,11 @@
 //! before them or not, and for a type with a sign also a `-`: `42`, `+42`, `1_000`, `0x2a`,
 //! `-0x2A`, `0b10_1010`, `0o52`.
 
-ghost use Rattle.std.specs.Prelude.{◌≡◌, ℕ, ℤ, ◌^◌, ◌<◌, List, FitsSigned};
-ghost use Rattle.std.specs.Prelude.{IfOk, IfSome, IfNone, MatchResult, Ok, Err, true, false};
+ghost use Rattle.std.specs.Prelude.{◌≡◌, ℕ, ℤ, ◌^◌, ◌<◌, List, length, FitsSigned};
+ghost use Rattle.std.specs.Prelude.{IfOk, IfErr, IfSome, IfNone, MatchResult, Ok, Err, true, false};
 ghost use Rattle.std.specs.Int.{w128};
 ghost use Rattle.std.specs.Str.Parse.{without_leading_plus};
-ghost use Rattle.postcard_dyn_schema.specs.Fixed.{is_signed};
+ghost use Rattle.postcard_dyn_schema.specs.Fixed.{is_signed, number_of as leaf_of};
 ghost use Rattle.postcard_dyn_schema.specs.Literals.{IsLiteral};
 ghost use Rattle.postcard_dyn_schema.specs.Text.{Led, TakesPhrase};
 ghost use Rattle.postcard_dyn_text.specs.Floats.{EndsNumber};
@@ -31,6 +31,8 @@ where
         → TakesPhrase (Led (IsUnsigned n)) rest.old.now after → EndsNumber after
         → MatchResult result (λ x. T.try_from_gives n (Ok x) × (rest.new.now ≡ after))
         (λ stop. (e : T.Error) × T.try_from_gives n (Err e)) }
+    ensures stops { IfErr result (λ stop.
+        stop ≡ Stop.At (length rest.old.now) (Expected.Leaf leaf)) }
 {
     let start = *rest;
     let Some(n) = unsigned(take_number(rest)) else {
@@ -53,6 +55,8 @@ where
         → TakesPhrase (Led (IsSigned z)) rest.old.now after → EndsNumber after
         → MatchResult result (λ x. T.try_from_gives z (Ok x) × (rest.new.now ≡ after))
         (λ stop. (e : T.Error) × T.try_from_gives z (Err e)) }
+    ensures stops { IfErr result (λ stop.
+        stop ≡ Stop.At (length rest.old.now) (Expected.Leaf leaf)) }
 {
     let start = *rest;
     let Some(z) = signed(take_number(rest)) else {
@@ -73,6 +77,8 @@ pub fn read_bits(rest: &mut &[u8], integer: Integer) -> Result<u128, Stop<'stati
         → TakesPhrase (SpellsBits (is_signed integer) integer n) rest.old.now after
         → EndsNumber after → MatchResult result (λ bits. (bits ≡ n) × (rest.new.now ≡ after))
         (λ stop. ⊥) }
+    ensures stops { IfErr result (λ stop.
+        stop ≡ Stop.At (length rest.old.now) (Expected.Leaf (leaf_of integer))) }
 {
     if integer.is_signed() {
         read_signed_bits(rest, integer)
@@ -88,6 +94,8 @@ fn read_unsigned_bits(rest: &mut &[u8], integer: Integer) -> Result<u128, Stop<'
     ensures accepted { (n : ℕ) (after : List ℕ)
         → TakesPhrase (SpellsBits false integer n) rest.old.now after → EndsNumber after
         → MatchResult result (λ bits. (bits ≡ n) × (rest.new.now ≡ after)) (λ stop. ⊥) }
+    ensures stops { IfErr result (λ stop.
+        stop ≡ Stop.At (length rest.old.now) (Expected.Leaf (leaf_of integer))) }
 {
     let start = *rest;
     let n = read_unsigned::<u128>(rest, integer.leaf())?;
@@ -104,6 +112,8 @@ fn read_signed_bits(rest: &mut &[u8], integer: Integer) -> Result<u128, Stop<'st
     ensures accepted { (n : ℕ) (after : List ℕ)
         → TakesPhrase (SpellsBits true integer n) rest.old.now after → EndsNumber after
         → MatchResult result (λ bits. (bits ≡ n) × (rest.new.now ≡ after)) (λ stop. ⊥) }
+    ensures stops { IfErr result (λ stop.
+        stop ≡ Stop.At (length rest.old.now) (Expected.Leaf (leaf_of integer))) }
 {
     let start = *rest;
     let z = read_signed::<i128>(rest, integer.leaf())?;
