@@ -1,7 +1,7 @@
 //! Tests of each type that is written, with values whose bytes were worked out by hand.
 
 use super::{Pieces, assert_written};
-use crate::asserts::{same, value as unwrapped};
+use crate::asserts::{same, value};
 use arrayvec::{ArrayString, ArrayVec};
 use postcard_ser::{Serialize, Serializer};
 use postcard_ser_flavors::Slice;
@@ -154,8 +154,8 @@ fn options_and_results(rt: HostRuntime) {
 #[test]
 fn wrappers(rt: HostRuntime) {
     let mut number = 300u16;
-    let boxed = unwrapped(&rt, Box::new(rt.alloc(), 300u16));
-    let shared = unwrapped(&rt, Rc::new(rt.alloc(), 300u16));
+    let boxed = value(&rt, Box::new(rt.alloc(), 300u16));
+    let shared = value(&rt, Rc::new(rt.alloc(), 300u16));
     assert_written(&rt, &&number, &[0xAC, 0x02]);
     assert_written(&rt, &&mut number, &[0xAC, 0x02]);
     assert_written(&rt, &boxed, &[0xAC, 0x02]);
@@ -175,16 +175,16 @@ fn ranges(rt: HostRuntime) {
 fn maps(rt: HostRuntime) {
     let mut map: BTreeMap<u8, u8> = BTreeMap::new(rt.alloc());
     assert_written(&rt, &map, &[0x00]);
-    let _ = unwrapped(&rt, map.insert(2, 6));
-    let _ = unwrapped(&rt, map.insert(1, 5));
+    let _ = value(&rt, map.insert(2, 6));
+    let _ = value(&rt, map.insert(1, 5));
     assert_written(&rt, &map, &[0x02, 0x01, 0x05, 0x02, 0x06]);
 }
 
 #[test]
 fn maps_whose_value_was_replaced(rt: HostRuntime) {
     let mut map: BTreeMap<u8, u8> = BTreeMap::new(rt.alloc());
-    let _ = unwrapped(&rt, map.insert(1, 5));
-    let _ = unwrapped(&rt, map.insert(1, 6));
+    let _ = value(&rt, map.insert(1, 5));
+    let _ = value(&rt, map.insert(1, 6));
     assert_written(&rt, &map, &[0x01, 0x01, 0x06]);
 }
 
@@ -200,11 +200,11 @@ fn spans_of_time(rt: HostRuntime) {
 
 #[test]
 fn fixed_capacities(rt: HostRuntime) {
-    let numbers: ArrayVec<u16, 4> = unwrapped(&rt, ArrayVec::from_iter(rt.alloc(), [1u16, 300]));
+    let numbers: ArrayVec<u16, 4> = value(&rt, ArrayVec::from_iter(rt.alloc(), [1u16, 300]));
     assert_written(&rt, &numbers, &[0x02, 0x01, 0xAC, 0x02]);
-    let bytes: ArrayVec<u8, 4> = unwrapped(&rt, ArrayVec::from_iter(rt.alloc(), [1u8, 2, 3, 4]));
+    let bytes: ArrayVec<u8, 4> = value(&rt, ArrayVec::from_iter(rt.alloc(), [1u8, 2, 3, 4]));
     assert_written(&rt, &bytes, &[0x04, 0x01, 0x02, 0x03, 0x04]);
-    let text: ArrayString<6> = unwrapped(&rt, ArrayString::from("helLO!"));
+    let text: ArrayString<6> = value(&rt, ArrayString::from("helLO!"));
     assert_written(&rt, &text, &[0x06, 0x68, 0x65, 0x6C, 0x4C, 0x4F, 0x21]);
 }
 
@@ -234,9 +234,9 @@ fn assert_pieces<T: Serialize>(rt: &impl Abort, value: &T, pieces: usize) {
 fn bytes_go_as_one_piece(rt: HostRuntime) {
     assert_pieces(&rt, &[1u8, 2, 3, 4], 1);
     assert_pieces(&rt, &[1u8, 2, 3, 4].as_slice(), 2);
-    let grown = unwrapped(&rt, vec![in rt.alloc(); 1u8, 2, 3, 4]);
+    let grown = value(&rt, vec![in rt.alloc(); 1u8, 2, 3, 4]);
     assert_pieces(&rt, &grown, 2);
-    let list: ArrayVec<u8, 4> = unwrapped(&rt, ArrayVec::from_iter(rt.alloc(), [1u8, 2, 3, 4]));
+    let list: ArrayVec<u8, 4> = value(&rt, ArrayVec::from_iter(rt.alloc(), [1u8, 2, 3, 4]));
     assert_pieces(&rt, &list, 2);
 }
 
