@@ -5,7 +5,6 @@
 mod command;
 mod config;
 mod counted;
-mod first;
 mod limited;
 mod pair;
 mod request;
@@ -21,7 +20,7 @@ use limited::Limited;
 use pair::{Label, Pair};
 use postcard::accumulator::CobsAccumulator;
 use postcard::de_flavors::Plain;
-use postcard::ser_flavors::AllocVec;
+use postcard::ser_flavors::Slice;
 use postcard::{
     Answer, DeserializeOwned, Owned, Serialize, from_bytes, read_frames, serialize_with_flavor,
     to_allocvec, to_allocvec_cobs_after,
@@ -166,8 +165,9 @@ fn write_limited(rt: &HostRuntime, limit: usize) -> Result<()> {
         code: 3,
         text: String::from_str(rt.alloc(), "too hot")?,
     };
+    let mut buffer = [0; 16];
     let inner = Counted {
-        inner: AllocVec::new(rt.alloc()),
+        inner: Slice::new(&mut buffer),
         count: 0,
     };
     match serialize_with_flavor(&fault, Limited { inner, limit }) {
@@ -178,7 +178,6 @@ fn write_limited(rt: &HostRuntime, limit: usize) -> Result<()> {
 }
 
 fn main(rt: HostRuntime) -> Result<()> {
-    first::show(&rt)?;
     keep(&rt)?;
     answer(&rt)?;
     there_and_back(&rt, &example_routes(rt.alloc())?)?;

@@ -1,6 +1,6 @@
 //! An enum and a struct, encoded, framed, read back and printed.
 
-ghost use Rattle.example_config.specs.declared.first.Sky.{Sky};
+ghost use Rattle.example_first.specs.declared.first.Sky.{Sky};
 ghost use Rattle.postcard_shape.specs.Shape.{via};
 ghost use Rattle.postcard_shape.specs.declared.cases.Case.TheVariants.{This, Next};
 
