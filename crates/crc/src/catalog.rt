@@ -7,8 +7,7 @@
 //! the message. The others are marked as not reflected.
 
 ghost use Rattle.std.specs.Prelude.{◌-◌, ◌^◌};
-ghost use Rattle.crc.specs.Algorithm.{parameters};
-ghost use Rattle.crc.specs.Damage.{HasOrderFrom};
+ghost use Rattle.crc.specs.{HasOrderOf};
 
 use crate::algorithm::Algorithm;
 
@@ -196,19 +195,19 @@ pub const CRC_82_DARC: Algorithm<u128> = Algorithm {
 /// entry is at least this ([`two_in_message`](crate::laws::two_in_message), and of a reflected
 /// entry [`two_in_checked`](crate::laws::two_in_checked)).
 pub fn orders()
-    ensures crc_8_smbus { HasOrderFrom 127 (parameters (λ n. n) CRC_8_SMBUS) }
-    ensures crc_8_maxim_dow { HasOrderFrom 127 (parameters (λ n. n) CRC_8_MAXIM_DOW) }
-    ensures crc_16_ibm_sdlc { HasOrderFrom 32767 (parameters (λ n. n) CRC_16_IBM_SDLC) }
-    ensures crc_16_xmodem { HasOrderFrom 32767 (parameters (λ n. n) CRC_16_XMODEM) }
-    ensures crc_16_modbus { HasOrderFrom 32767 (parameters (λ n. n) CRC_16_MODBUS) }
-    ensures crc_16_usb { HasOrderFrom 32767 (parameters (λ n. n) CRC_16_USB) }
-    ensures crc_16_kermit { HasOrderFrom 32767 (parameters (λ n. n) CRC_16_KERMIT) }
-    ensures crc_24_openpgp { HasOrderFrom (2 ^ 23 - 1) (parameters (λ n. n) CRC_24_OPENPGP) }
-    ensures crc_32_iso_hdlc { HasOrderFrom (2 ^ 32 - 1) (parameters (λ n. n) CRC_32_ISO_HDLC) }
-    ensures crc_32_iscsi { HasOrderFrom (2 ^ 31 - 1) (parameters (λ n. n) CRC_32_ISCSI) }
-    ensures crc_32_bzip2 { HasOrderFrom (2 ^ 32 - 1) (parameters (λ n. n) CRC_32_BZIP2) }
-    ensures crc_32_mpeg_2 { HasOrderFrom (2 ^ 32 - 1) (parameters (λ n. n) CRC_32_MPEG_2) }
-    ensures crc_64_xz { HasOrderFrom 8589606914 (parameters (λ n. n) CRC_64_XZ) }
-    ensures crc_64_ecma_182 { HasOrderFrom 8589606914 (parameters (λ n. n) CRC_64_ECMA_182) }
-    ensures crc_82_darc { HasOrderFrom 273 (parameters (λ n. n) CRC_82_DARC) }
+    ensures crc_8_smbus { HasOrderOf 127 CRC_8_SMBUS }
+    ensures crc_8_maxim_dow { HasOrderOf 127 CRC_8_MAXIM_DOW }
+    ensures crc_16_ibm_sdlc { HasOrderOf 32767 CRC_16_IBM_SDLC }
+    ensures crc_16_xmodem { HasOrderOf 32767 CRC_16_XMODEM }
+    ensures crc_16_modbus { HasOrderOf 32767 CRC_16_MODBUS }
+    ensures crc_16_usb { HasOrderOf 32767 CRC_16_USB }
+    ensures crc_16_kermit { HasOrderOf 32767 CRC_16_KERMIT }
+    ensures crc_24_openpgp { HasOrderOf (2 ^ 23 - 1) CRC_24_OPENPGP }
+    ensures crc_32_iso_hdlc { HasOrderOf (2 ^ 32 - 1) CRC_32_ISO_HDLC }
+    ensures crc_32_iscsi { HasOrderOf (2 ^ 31 - 1) CRC_32_ISCSI }
+    ensures crc_32_bzip2 { HasOrderOf (2 ^ 32 - 1) CRC_32_BZIP2 }
+    ensures crc_32_mpeg_2 { HasOrderOf (2 ^ 32 - 1) CRC_32_MPEG_2 }
+    ensures crc_64_xz { HasOrderOf 8589606914 CRC_64_XZ }
+    ensures crc_64_ecma_182 { HasOrderOf 8589606914 CRC_64_ECMA_182 }
+    ensures crc_82_darc { HasOrderOf 273 CRC_82_DARC }
 {}

@@ -1,10 +1,7 @@
 //! An algorithm with its tables.
 
 ghost use Rattle.std.specs.Prelude.{◌≡◌, ◌<◌, ◌*◌, ◌^◌, []};
-ghost use Rattle.crc.specs.Algorithm.{parameters};
-ghost use Rattle.crc.specs.Crc.{Parameters, IsCrc, IsValid};
-ghost use Rattle.crc.specs.Digest.{Took};
-ghost use Rattle.crc.specs.Register.{AreEntries};
+ghost use Rattle.crc.specs.{IsCrc, IsServable, Parameters, Serve, Took, parameters};
 
 use crate::algorithm::Algorithm;
 use crate::digest::Digest;
@@ -25,15 +22,14 @@ impl<W: Width, I: Implementation<W>> Model for Crc<W, I> {
 
     ghost view = { λ c. parameters W.number c.algorithm };
 
-    ghost invariant = { λ c. IsValid (8 * W.size) (parameters W.number c.algorithm)
-        × AreEntries (8 * W.size) (parameters W.number c.algorithm) I.count
-        (I.entries c.tables) };
+    ghost invariant = { λ c. IsServable W.Width c.algorithm
+        × Serve W.Width c.algorithm I.count (I.entries c.tables) };
 }
 
 impl<W: Width, I: Implementation<W>> Crc<W, I> {
     /// Makes the tables of an algorithm.
     pub fn new(algorithm: &Algorithm<W>) -> Crc<W, I>
-        requires { IsValid (8 * W.size) (parameters W.number algorithm.now) }
+        requires { IsServable W.Width algorithm.now }
         ensures { result ≡ parameters W.number algorithm.now }
     {
         Crc {

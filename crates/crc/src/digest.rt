@@ -1,9 +1,7 @@
 //! A checksum that is computed as its message comes in.
 
 ghost use Rattle.std.specs.Prelude.{◌≡◌, ◌<◌, ◌≤◌, ◌*◌, ◌-◌, ◌^◌, ◌++◌, ℕ, List, []};
-ghost use Rattle.crc.specs.Crc.{Parameters, IsCrc};
-ghost use Rattle.crc.specs.Digest.{Progress, Took};
-ghost use Rattle.crc.specs.Register.{read};
+ghost use Rattle.crc.specs.{IsCrc, Parameters, Progress, Took, read};
 
 use crate::crc::Crc;
 use crate::implementation::{Implementation, Table};

@@ -2,9 +2,7 @@
 //! register.
 
 ghost use Rattle.std.specs.Prelude.{◌<◌, ◌≤◌, ◌≡◌, ◌*◌, ◌^◌, length, map, slice_index};
-ghost use Rattle.crc.specs.Algorithm.{parameters};
-ghost use Rattle.crc.specs.Crc.{IsValid};
-ghost use Rattle.crc.specs.Register.{AreEntries, feedback, first_byte};
+ghost use Rattle.crc.specs.{IsServable, Serve, feedback, first_byte, parameters};
 
 use crate::algorithm::Algorithm;
 use crate::register;
@@ -12,7 +10,7 @@ use crate::width::Width;
 
 /// Returns the generator without its highest power, as a register has it.
 fn feedback<W: Width>(algorithm: &Algorithm<W>) -> u128
-    requires { IsValid (8 * W.size) (parameters W.number algorithm.now) }
+    requires { IsServable W.Width algorithm.now }
     ensures is { result ≡ feedback (8 * W.size) (parameters W.number algorithm.now) }
     ensures fits { result < 2 ^ (8 * W.size) }
 {
@@ -48,9 +46,8 @@ pub fn look_up<W: Width>(entries: &[W], at: usize) -> u128
 
 /// Fills tables of 256 entries each, one after the other.
 pub fn fill<W: Width>(algorithm: &Algorithm<W>, entries: &mut [W])
-    requires { IsValid (8 * W.size) (parameters W.number algorithm.now) }
-    ensures { AreEntries (8 * W.size) (parameters W.number algorithm.now) (length entries.old)
-        (map W.number entries.new) }
+    requires { IsServable W.Width algorithm.now }
+    ensures { Serve W.Width algorithm.now (length entries.old) (map W.number entries.new) }
 {
     let bits = W::bits();
     let refin = algorithm.refin;

@@ -6,11 +6,9 @@
 
 ghost use Rattle.std.specs.Prelude.{◌≡◌, ◌+◌, ◌*◌, ◌^◌, ◌<◌, ◌≤◌, ◌++◌, true, ℕ, List, length};
 ghost use Rattle.std.specs.Prelude.{bit_xor, IsTrue};
-ghost use Rattle.crc.specs.Crc.{Parameters, IsCrc, IsSound, generator, message};
-ghost use Rattle.crc.specs.Checked.{AreBytes, IsChecked};
-ghost use Rattle.crc.specs.Damage.{IsBurst, IsOddDamage, HasParity, AreTwo, HasOrderFrom};
-ghost use Rattle.crc.specs.Order.{shows_order, product};
-ghost use Rattle.crc.specs.Polynomial.{Congruent};
+ghost use Rattle.crc.specs.{AreBytes, AreTwo, Congruent, HasOrderFrom, HasParity, IsBurst};
+ghost use Rattle.crc.specs.{IsChecked, IsCrc, IsOddDamage, IsSound, Parameters, generator, message};
+ghost use Rattle.crc.specs.{product, shows_order};
 
 /// A message has at most one checksum.
 pub fn one_checksum()

@@ -1,10 +1,7 @@
 //! The order of x modulo a generator, which says how far apart two changed bits may be.
 
-ghost use Rattle.std.specs.Prelude.{◌≡◌, ◌<◌, ◌≤◌, ◌*◌, ◌^◌};
-ghost use Rattle.crc.specs.Algorithm.{parameters};
-ghost use Rattle.crc.specs.Crc.{IsValid, generator};
-ghost use Rattle.crc.specs.Damage.{HasOrderFrom};
-ghost use Rattle.crc.specs.Polynomial.{Congruent};
+ghost use Rattle.std.specs.Prelude.{◌<◌, ◌≤◌, ◌^◌};
+ghost use Rattle.crc.specs.{Congruent, HasOrderFrom, IsServable, generator, parameters};
 
 use crate::algorithm::Algorithm;
 use crate::register;
@@ -17,7 +14,7 @@ use crate::width::Width;
 /// It makes as many steps as the result has; the order is at most 2^width - 1. A generator with no
 /// constant term, as none of the catalogue is, has no such d.
 pub fn order_from<W: Width>(algorithm: &Algorithm<W>, limit: u64) -> u64
-    requires { IsValid (8 * W.size) (parameters W.number algorithm.now) }
+    requires { IsServable W.Width algorithm.now }
     ensures at_most_limit { result ≤ limit }
     ensures not_zero { 0 < limit → 0 < result }
     ensures none_below { HasOrderFrom result (parameters W.number algorithm.now) }

@@ -1,8 +1,7 @@
 //! The register of a checksum, of 1 to 128 bits.
 
 ghost use Rattle.std.specs.Prelude.{◌≡◌, ◌<◌, ◌≤◌, ◌*◌, ◌-◌, ◌/◌, ◌%◌, ◌^◌};
-ghost use Rattle.crc.specs.Crc.{in_order};
-ghost use Rattle.crc.specs.Register.{next, rounds};
+ghost use Rattle.crc.specs.{in_order, next, rounds};
 
 /// Returns a number of `bits` bits, in reverse order if `reflected`.
 #[inline]

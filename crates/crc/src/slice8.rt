@@ -1,9 +1,8 @@
 //! Eight tables of an algorithm, by which a register takes eight bytes at a time.
 
-ghost use Rattle.std.specs.Prelude.{◌≡◌, ◌<◌, ◌≤◌, ◌*◌, ◌^◌, ◌++◌, ℕ, List, length, map};
-ghost use Rattle.crc.specs.Algorithm.{parameters};
-ghost use Rattle.crc.specs.Crc.{Parameters, IsValid, in_order, message};
-ghost use Rattle.crc.specs.Register.{AreEntries, Holds, IsSumFor, leaving, staying};
+ghost use Rattle.std.specs.Prelude.{◌≡◌, ◌<◌, ◌≤◌, ◌*◌, ◌^◌, length, map};
+ghost use Rattle.crc.specs.{AreEntries, HoldsMore, IsServable, IsSumFor, IsValid, Parameters};
+ghost use Rattle.crc.specs.{Serve, in_order, leaving, message, staying};
 
 use crate::algorithm::Algorithm;
 use crate::entries::{fill, look_up};
@@ -96,14 +95,11 @@ fn pick<W: Width>(entries: &[W], bytes: &[u8]) -> u128
 
 #[inline]
 fn step_eight<W: Width>(algorithm: &Algorithm<W>, entries: &[W], register: W, eight: &[u8]) -> W
-    requires valid { IsValid (8 * W.size) (parameters W.number algorithm.now) }
+    requires valid { IsServable W.Width algorithm.now }
     requires enough { 2048 ≤ length entries.now }
-    requires served { AreEntries (8 * W.size) (parameters W.number algorithm.now) 2048
-        (map W.number entries.now) }
+    requires served { Serve W.Width algorithm.now 2048 (map W.number entries.now) }
     requires eight { length eight.now ≡ 8 }
-    ensures { (i : ℕ) (m : List ℕ) → let a = record (parameters W.number algorithm.now) { init = i } in
-        Holds (8 * W.size) a (W.number register) m
-        → Holds (8 * W.size) a (W.number result) (m ++ eight.now) }
+    ensures { HoldsMore W.Width algorithm.now register eight.now result }
 {
     let refin = algorithm.refin;
     let bits = W::bits();

@@ -1,9 +1,7 @@
 //! One table of an algorithm, by which a register takes a byte at a time.
 
-ghost use Rattle.std.specs.Prelude.{◌<◌, ◌≤◌, ◌*◌, ◌^◌, ◌++◌, ℕ, List, length, map};
-ghost use Rattle.crc.specs.Algorithm.{parameters};
-ghost use Rattle.crc.specs.Crc.{IsValid, in_order};
-ghost use Rattle.crc.specs.Register.{AreEntries, Holds, Takes};
+ghost use Rattle.std.specs.Prelude.{◌<◌, ◌≤◌, ◌*◌, ◌^◌, length, map};
+ghost use Rattle.crc.specs.{HoldsMore, IsServable, Serve, Takes, in_order, parameters};
 
 use crate::algorithm::Algorithm;
 use crate::entries::{fill, look_up};
@@ -19,10 +17,9 @@ pub struct Table<W> {
 
 #[inline]
 fn step<W: Width>(algorithm: &Algorithm<W>, entries: &[W], register: W, byte: u8) -> W
-    requires valid { IsValid (8 * W.size) (parameters W.number algorithm.now) }
+    requires valid { IsServable W.Width algorithm.now }
     requires enough { 256 ≤ length entries.now }
-    requires served { AreEntries (8 * W.size) (parameters W.number algorithm.now) 256
-        (map W.number entries.now) }
+    requires served { Serve W.Width algorithm.now 256 (map W.number entries.now) }
     ensures takes { Takes (8 * W.size) (parameters W.number algorithm.now) 8 (W.number register)
         (in_order algorithm.now.refin 8 byte) (W.number result) }
     ensures fits { W.number result < 2 ^ (8 * W.size) }
@@ -47,13 +44,10 @@ pub(crate) fn by_bytes<W: Width>(
     register: W,
     bytes: &[u8],
 ) -> W
-    requires valid { IsValid (8 * W.size) (parameters W.number algorithm.now) }
+    requires valid { IsServable W.Width algorithm.now }
     requires enough { 256 ≤ length entries.now }
-    requires served { AreEntries (8 * W.size) (parameters W.number algorithm.now) 256
-        (map W.number entries.now) }
-    ensures { (i : ℕ) (m : List ℕ) → let a = record (parameters W.number algorithm.now) { init = i } in
-        Holds (8 * W.size) a (W.number register) m
-        → Holds (8 * W.size) a (W.number result) (m ++ bytes.now) }
+    requires served { Serve W.Width algorithm.now 256 (map W.number entries.now) }
+    ensures { HoldsMore W.Width algorithm.now register bytes.now result }
 {
     let mut register = register;
     for byte in bytes {

@@ -1,9 +1,8 @@
 //! A recursive type: a chain of links, with a limit on their number.
 
 ghost use Rattle.std.specs.Prelude.{OnOk};
-ghost use Rattle.postcard_wire.specs.Spelling.{Spells, canonical};
-ghost use Rattle.postcard_de.specs.Deserializer.{source_of};
-ghost use Rattle.postcard_de.specs.Reads.{Reads};
+ghost use Rattle.postcard_wire.specs.Spelling.{canonical};
+ghost use Rattle.postcard_de.specs.Reads.{Deserializes};
 ghost use Rattle.postcard_ser.specs.Writing.{Wrote};
 ghost use Rattle.example_types.specs.Links.{chain_shape};
 
@@ -49,8 +48,7 @@ fn write_links<F: Flavor>(chain: &Chain, limit: u32, serializer: &mut Serializer
 /// Reads a chain of fewer than `limit` links. Fails with `SerdeDeCustom` if it has `limit` links or
 /// more, or if a variant's index is neither 0 nor 1, and with `OutOfMemory` if an allocation fails.
 fn read_links<F: DeFlavor>(limit: u32, alloc: Global, d: &mut Deserializer<'_, F>) -> Result<Chain>
-    ensures { Reads F.Flavor Spells (chain_shape limit).reads (chain_shape limit).value
-        (chain_shape limit).other (source_of d.old) result (source_of d.new) }
+    ensures { Deserializes F.Flavor (chain_shape limit) d.old result d.new }
 {
     if limit == 0 {
         return Err(Error::de_custom("too many links"));

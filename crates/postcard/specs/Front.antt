@@ -1,10 +1,14 @@
 -- What a decoding call returns for the front of its reader's bytes.
-use Rattle.std.specs.Prelude.{ℕ, ◌+◌, ◌≤◌, List, length, Option}
+use Rattle.std.specs.Prelude.{◌≡◌, ℕ, ◌+◌, ◌≤◌, List, length, Option, Result, MatchResult}
+use Rattle.std.specs.Borrow.{MutBor}
 use Rattle.std.specs.Io.KnownBytes.{Consumes}
 use Rattle.postcard_wire.specs.Tree.{Tree}
-use Rattle.postcard_wire.specs.Spelling.{Spells}
+use Rattle.postcard_wire.specs.Spelling.{Spells, canonical}
+use Rattle.postcard_wire.specs.declared.error.Error.{Error}
+use Rattle.postcard_wire.specs.declared.error.Error.TheVariants.{OutOfMemory}
+use Rattle.postcard_shape.specs.Shape.{Shape, Grows}
 use Rattle.postcard_de_flavors.specs.Reader.{AtLeast}
-use Rattle.postcard_de_flavors.specs.Source.{KeepsRear}
+use Rattle.postcard_de_flavors.specs.Source.{Begins, KeepsRear}
 
 -- The bytes `front` spell a tree that is read, and v is that tree's value. If the reader knows its
 -- bytes, they begin with `front`, and just it was read. The scratch left, `rest`, is a part at the rear
@@ -20,3 +24,21 @@ pub record ReadsReader {R V : Type 0} (reads : Tree → Type 0) (value : Tree �
   pub joins : Consumes (remaining old) (remaining new) front
   pub keeps : (n : ℕ) → steady old → AtLeast (remaining old) (length front + n) → length front + n ≤ length scratch → AtLeast (remaining new) n × (n ≤ length rest)
   pub keeps_rear : KeepsRear (length front) scratch rest
+
+-- A call read a value of that shape from a steady reader in the state `old`, with the scratch; it returned r, the value
+-- and what is left of both.
+module _ {V R : Type 0} (shape : Shape V) (remaining : R → Option (List ℕ)) (steady : R → Type 0) (old : R) (scratch : List ℕ) (r : Result (V × (R × MutBor (List ℕ))) Error) where
+  -- If the reader's bytes begin with a front that spells a tree that is read, and the scratch is as long, the call
+  -- succeeds with a value of that tree and has read just that front, unless memory runs out for a type that grows.
+  abbrev pub AcceptsReader : Type 0
+  AcceptsReader = (t : Tree) (front : List ℕ) → shape.reads t → Spells t front
+      → steady old → Begins (remaining old) front → length front ≤ length scratch
+      → MatchResult r (λ read. shape.value t read.0 × Consumes (remaining old) (remaining read.1.0) front)
+      (λ e. (e ≡ OutOfMemory) × Grows shape)
+
+  -- The encoding of a value that fits reads back as a value that looks like it.
+  abbrev pub ReadsBackReader : Type 0
+  ReadsBackReader = (x : V) → shape.fits x
+      → steady old → Begins (remaining old) (canonical (shape.tree x)) → length (canonical (shape.tree x)) ≤ length scratch
+      → MatchResult r (λ read. shape.same read.0 x × Consumes (remaining old) (remaining read.1.0) (canonical (shape.tree x)))
+      (λ e. (e ≡ OutOfMemory) × Grows shape)

@@ -1,16 +1,10 @@
 //! Encoding into frames of COBS (Cheshire and Baker, 1999): the frame of a value's canonical
-//! encoding, and the zero that ends it, the sentinel, which counts as a byte of the frame.
+//! encoding, and the zero that ends it, which counts as a byte of the frame.
 
-ghost use Rattle.std.specs.Prelude.{◌≡◌, [], ◌-◌, ◌≤◌, ◌↔◌, ◌++◌, length, take, drop};
-ghost use Rattle.std.specs.Prelude.{IfOk, IfErr, IsOk, OnOk, ⊤};
-ghost use Rattle.std.specs.Borrow.{sem, LendsSoOk, Array, u8};
-ghost use Rattle.postcard_cobs.specs.Groups.{made};
-ghost use Rattle.postcard_wire.specs.Spelling.{canonical};
-ghost use Rattle.postcard_shape.specs.Shape.{IsWilling};
-ghost use Rattle.postcard_ser.specs.Writing.{IsErrorOf};
-ghost use Rattle.postcard.specs.Attempt.{IsAttempt};
-ghost use Rattle.postcard.specs.Buffers.{Fills};
-ghost use Rattle.postcard.specs.Frames.{DecodesTo};
+ghost use Rattle.std.specs.Prelude.{◌≡◌, ◌-◌, ◌≤◌, ◌↔◌, ◌++◌, length, take, drop, IfOk, IfErr};
+ghost use Rattle.std.specs.Prelude.{IsOk, OnOk, ⊤};
+ghost use Rattle.postcard.specs.{Array, DecodesTo, EncodesFrame, Fills, IsAttempt, IsErrorOf};
+ghost use Rattle.postcard.specs.{IsWilling, LendsSoOk, encoding, made, sem, u8};
 
 use crate::ser::{Attempt, lend_front};
 use crate::with_flavor::serialize_with_flavor;
@@ -25,13 +19,13 @@ use std::alloc::Global;
 /// its output. Fails as [`serialize_with_flavor`] does.
 fn framed<T: Serialize, B: Storage + Drop>(value: &T, storage: B) -> Result<<B as Flavor>::Output>
     ensures gives { IfOk result (λ output. (last : B)
-        × (B.held last ≡ B.held storage ++ made (canonical (T.shape.tree value.now)))
+        × (B.held last ≡ B.held storage ++ made (encoding T.shape value.now))
         × B.reaches storage last × B.finishes last output) }
     ensures has_room { IsWilling T.shape value.now
-        → length (made (canonical (T.shape.tree value.now))) ≤ usize.MAX - 2
-        → B.free storage (length (made (canonical (T.shape.tree value.now)))) → IsOk result }
-    ensures own_error { length (made (canonical (T.shape.tree value.now))) ≤ usize.MAX - 2
-        → B.free storage (length (made (canonical (T.shape.tree value.now))))
+        → length (made (encoding T.shape value.now)) ≤ usize.MAX - 2
+        → B.free storage (length (made (encoding T.shape value.now))) → IsOk result }
+    ensures own_error { length (made (encoding T.shape value.now)) ≤ usize.MAX - 2
+        → B.free storage (length (made (encoding T.shape value.now)))
         → IfErr result (T.shape.refusal value.now) }
     ensures named_error { IfErr result (IsErrorOf T.shape value.now) }
     ensures fits { OnOk result (T.shape.fits value.now) }
@@ -47,13 +41,12 @@ fn framed<T: Serialize, B: Storage + Drop>(value: &T, storage: B) -> Result<<B a
 /// longer than `B` bytes, but for the [exceptions](crate#errors-of-encoding).
 #[tactic(auto, using(crate::specs::Lemmas::frame_decodes))]
 pub fn to_vec_cobs<T: Serialize, const B: usize>(value: &T) -> Result<ArrayVec<u8, B>>
-    ensures gives { IfOk result (λ vec. vec.items ≡ made (canonical (T.shape.tree value.now))) }
-    ensures decodes { IfOk result
-        (λ vec. DecodesTo vec.items (canonical (T.shape.tree value.now))) }
+    ensures gives { IfOk result (λ vec. vec.items ≡ made (encoding T.shape value.now)) }
+    ensures decodes { IfOk result (λ vec. DecodesTo vec.items (encoding T.shape value.now)) }
     ensures fits_iff { IsWilling T.shape value.now → B ≤ usize.MAX - 2
-        → (IsOk result ↔ (length (made (canonical (T.shape.tree value.now))) ≤ B)) }
+        → (IsOk result ↔ (length (made (encoding T.shape value.now)) ≤ B)) }
     ensures own_error { B ≤ usize.MAX - 2
-        → length (made (canonical (T.shape.tree value.now))) ≤ B
+        → length (made (encoding T.shape value.now)) ≤ B
         → IfErr result (T.shape.refusal value.now) }
     ensures named_error { IfErr result (IsErrorOf T.shape value.now) }
     ensures fits { OnOk result (T.shape.fits value.now) }
@@ -74,14 +67,13 @@ pub fn to_vec_cobs<T: Serialize, const B: usize>(value: &T) -> Result<ArrayVec<u
 pub fn to_slice_cobs<'a, T: Serialize>(value: &T, buf: &'a mut [u8]) -> Result<&'a mut [u8]>
     ensures* writes_back { sem 𝓛 (LendsSoOk (Array u8 0) (Array u8 0) buf.entry result
         (λ all front. all ≡ front
-        ++ drop (length (made (canonical (T.shape.tree value.now)))) buf.old)
+        ++ drop (length (made (encoding T.shape value.now))) buf.old)
         (λ _. ⊤)) }
-    ensures gives { IfOk result (λ front. front.now ≡ made (canonical (T.shape.tree value.now))) }
-    ensures decodes { IfOk result
-        (λ front. DecodesTo front.now (canonical (T.shape.tree value.now))) }
+    ensures gives { IfOk result (λ front. front.now ≡ made (encoding T.shape value.now)) }
+    ensures decodes { IfOk result (λ front. DecodesTo front.now (encoding T.shape value.now)) }
     ensures fits_iff { IsWilling T.shape value.now
-        → (IsOk result ↔ (length (made (canonical (T.shape.tree value.now))) ≤ length buf.old)) }
-    ensures own_error { length (made (canonical (T.shape.tree value.now))) ≤ length buf.old
+        → (IsOk result ↔ (length (made (encoding T.shape value.now)) ≤ length buf.old)) }
+    ensures own_error { length (made (encoding T.shape value.now)) ≤ length buf.old
         → IfErr result (T.shape.refusal value.now) }
     ensures named_error { IfErr result (IsErrorOf T.shape value.now) }
     ensures fits { OnOk result (T.shape.fits value.now) }
@@ -92,13 +84,13 @@ pub fn to_slice_cobs<'a, T: Serialize>(value: &T, buf: &'a mut [u8]) -> Result<&
 /// Does what [`framed`] does, but returns the storage in any case, and whether it succeeded.
 fn frame_into<T: Serialize, B: Storage + Drop>(value: &T, storage: B) -> (B, Result<()>)
     ensures gives { OnOk result.1
-        (B.held result.0 ≡ B.held storage ++ made (canonical (T.shape.tree value.now))) }
+        (B.held result.0 ≡ B.held storage ++ made (encoding T.shape value.now)) }
     ensures leaves { B.reaches storage result.0 }
     ensures has_room { IsWilling T.shape value.now
-        → length (made (canonical (T.shape.tree value.now))) ≤ usize.MAX - 2
-        → B.free storage (length (made (canonical (T.shape.tree value.now)))) → IsOk result.1 }
-    ensures own_error { length (made (canonical (T.shape.tree value.now))) ≤ usize.MAX - 2
-        → B.free storage (length (made (canonical (T.shape.tree value.now))))
+        → length (made (encoding T.shape value.now)) ≤ usize.MAX - 2
+        → B.free storage (length (made (encoding T.shape value.now))) → IsOk result.1 }
+    ensures own_error { length (made (encoding T.shape value.now)) ≤ usize.MAX - 2
+        → B.free storage (length (made (encoding T.shape value.now)))
         → IfErr result.1 (T.shape.refusal value.now) }
     ensures named_error { IfErr result.1 (IsErrorOf T.shape value.now) }
     ensures fits { OnOk result.1 (T.shape.fits value.now) }
@@ -115,7 +107,7 @@ fn frame_into<T: Serialize, B: Storage + Drop>(value: &T, storage: B) -> (B, Res
 /// Encodes a value as a frame into the front of a buffer.
 fn write_frame<'a, T: Serialize>(value: &T, buf: &'a mut [u8]) -> Attempt<'a>
     ensures same_loan { result.all.ghost_name ≡ buf.entry.ghost_name }
-    ensures attempts { IsAttempt T.shape value.now (made (canonical (T.shape.tree value.now)))
+    ensures attempts { IsAttempt T.shape value.now (made (encoding T.shape value.now))
         (λ _. ⊤) buf.old result }
 {
     let (slice, framed) = frame_into(value, Slice::new(buf));
@@ -140,14 +132,13 @@ fn write_frame<'a, T: Serialize>(value: &T, buf: &'a mut [u8]) -> Attempt<'a>
 /// bytes, for callers that keep the buffer.
 pub fn fill_slice_cobs<T: Serialize>(value: &T, buf: &mut [u8]) -> Result<usize>
     ensures count_is_length { IfOk result
-        (λ count. count ≡ length (made (canonical (T.shape.tree value.now)))) }
-    ensures fills { OnOk result
-        (Fills (made (canonical (T.shape.tree value.now))) buf.old buf.new) }
+        (λ count. count ≡ length (made (encoding T.shape value.now))) }
+    ensures fills { OnOk result (Fills (made (encoding T.shape value.now)) buf.old buf.new) }
     ensures decodes { IfOk result
-        (λ count. DecodesTo (take count buf.new) (canonical (T.shape.tree value.now))) }
+        (λ count. DecodesTo (take count buf.new) (encoding T.shape value.now)) }
     ensures fits_iff { IsWilling T.shape value.now
-        → (IsOk result ↔ (length (made (canonical (T.shape.tree value.now))) ≤ length buf.old)) }
-    ensures own_error { length (made (canonical (T.shape.tree value.now))) ≤ length buf.old
+        → (IsOk result ↔ (length (made (encoding T.shape value.now)) ≤ length buf.old)) }
+    ensures own_error { length (made (encoding T.shape value.now)) ≤ length buf.old
         → IfErr result (T.shape.refusal value.now) }
     ensures named_error { IfErr result (IsErrorOf T.shape value.now) }
     ensures fits { OnOk result (T.shape.fits value.now) }
@@ -169,22 +160,14 @@ pub fn fill_slice_cobs<T: Serialize>(value: &T, buf: &mut [u8]) -> Result<usize>
 /// [exceptions](crate#errors-of-encoding).
 #[tactic(auto, using(crate::specs::Lemmas::frame_decodes))]
 pub fn to_allocvec_cobs<T: Serialize>(alloc: Global, value: &T) -> Result<Vec<u8>>
-    ensures gives { IfOk result (λ vec. vec.items ≡ made (canonical (T.shape.tree value.now))) }
-    ensures decodes { IfOk result
-        (λ vec. DecodesTo vec.items (canonical (T.shape.tree value.now))) }
-    ensures named_error { IfErr result (IsErrorOf T.shape value.now) }
-    ensures fits { OnOk result (T.shape.fits value.now) }
+    ensures { EncodesFrame T.shape value.now (λ vec. vec.items) result }
 {
     framed(value, AllocVec::new(alloc))
 }
 
 /// [`to_allocvec_cobs`] under the name that the Rust crate has for `std`.
 pub fn to_stdvec_cobs<T: Serialize>(alloc: Global, value: &T) -> Result<Vec<u8>>
-    ensures gives { IfOk result (λ vec. vec.items ≡ made (canonical (T.shape.tree value.now))) }
-    ensures decodes { IfOk result
-        (λ vec. DecodesTo vec.items (canonical (T.shape.tree value.now))) }
-    ensures named_error { IfErr result (IsErrorOf T.shape value.now) }
-    ensures fits { OnOk result (T.shape.fits value.now) }
+    ensures { EncodesFrame T.shape value.now (λ vec. vec.items) result }
 {
     to_allocvec_cobs(alloc, value)
 }
@@ -197,9 +180,9 @@ pub fn to_stdvec_cobs<T: Serialize>(alloc: Global, value: &T) -> Result<Vec<u8>>
 #[tactic(auto, using(crate::specs::Lemmas::frame_after_decodes))]
 pub fn to_allocvec_cobs_after<T: Serialize>(value: &T, vec: Vec<u8>) -> Result<Vec<u8>>
     ensures gives { IfOk result
-        (λ output. output.items ≡ vec.items ++ made (canonical (T.shape.tree value.now))) }
+        (λ output. output.items ≡ vec.items ++ made (encoding T.shape value.now)) }
     ensures decodes { IfOk result (λ output. DecodesTo (drop (length vec.items) output.items)
-        (canonical (T.shape.tree value.now))) }
+        (encoding T.shape value.now)) }
     ensures named_error { IfErr result (IsErrorOf T.shape value.now) }
     ensures fits { OnOk result (T.shape.fits value.now) }
 {

@@ -1,13 +1,7 @@
 //! Decoding a value from a reader.
 
-ghost use Rattle.std.specs.Prelude.{◌≡◌, ◌≤◌, ℕ, List, length, Err, IfOk, IfErr, MatchResult};
-ghost use Rattle.std.specs.Io.KnownBytes.{Consumes};
-ghost use Rattle.postcard_wire.specs.Tree.{Tree};
-ghost use Rattle.postcard_wire.specs.Spelling.{Spells, canonical};
-ghost use Rattle.postcard_de_flavors.specs.Source.{Begins};
-ghost use Rattle.postcard_de.specs.Reads.{IsReadError};
-ghost use Rattle.postcard_shape.specs.Shape.{Grows};
-ghost use Rattle.postcard.specs.Front.{ReadsReader};
+ghost use Rattle.std.specs.Prelude.{◌≡◌, Err, IfOk, IfErr};
+ghost use Rattle.postcard.specs.{AcceptsReader, Grows, IsReadError, ReadsBackReader, ReadsReader};
 
 use postcard_de::{Deserialize, Deserializer};
 use postcard_de_flavors::Reader;
@@ -38,20 +32,10 @@ pub fn from_io<'a, T: Deserialize<'a>, R: Reader + 'a>(
 ) -> Result<(T, (R, &'a mut [u8]))>
     ensures gives { IfOk result (λ read. ReadsReader T.shape.reads T.shape.value R.remaining
         R.steady from.entry.0 from.entry.1.now read.0 read.1.0 read.1.1.now) }
-    ensures accepts { (t : Tree) (front : List ℕ) → T.shape.reads t → Spells t front
-        → R.steady from.entry.0 → Begins (R.remaining from.entry.0) front
-        → length front ≤ length from.entry.1.now
-        → MatchResult result
-        (λ read. T.shape.value t read.0
-        × Consumes (R.remaining from.entry.0) (R.remaining read.1.0) front)
-        (λ e. (e ≡ Error.OutOfMemory) × Grows T.shape) }
-    ensures reads_back { (x : T) → T.shape.fits x → R.steady from.entry.0
-        → Begins (R.remaining from.entry.0) (canonical (T.shape.tree x))
-        → length (canonical (T.shape.tree x)) ≤ length from.entry.1.now
-        → MatchResult result
-        (λ read. T.shape.same read.0 x
-        × Consumes (R.remaining from.entry.0) (R.remaining read.1.0) (canonical (T.shape.tree x)))
-        (λ e. (e ≡ Error.OutOfMemory) × Grows T.shape) }
+    ensures accepts { AcceptsReader T.shape R.remaining R.steady from.entry.0 from.entry.1.now
+        result }
+    ensures reads_back { ReadsBackReader T.shape R.remaining R.steady from.entry.0
+        from.entry.1.now result }
     ensures stays_steady { R.steady from.entry.0 → IfOk result (λ read. R.steady read.1.0) }
     // For users' proofs.
     ensures out_of_memory_only_if_grows { result ≡ Err Error.OutOfMemory → Grows T.shape }

@@ -2,9 +2,7 @@
 //! in its module of this name.
 
 ghost use Rattle.std.specs.Prelude.{◌≡◌, ◌<◌, ◌^◌, ◌↔◌, length, IfOk, IfErr, IsOk};
-ghost use Rattle.postcard_wire.specs.Spelling.{canonical};
-ghost use Rattle.postcard_shape.specs.Shape.{IsWilling};
-ghost use Rattle.postcard_ser.specs.Writing.{IsErrorOf};
+ghost use Rattle.postcard.specs.{IsErrorOf, IsWilling, encoding};
 
 pub mod max_size;
 
@@ -20,10 +18,10 @@ use postcard_wire::Result;
 /// Fails with `SerializeBufferFull` if and only if the number exceeds `usize::MAX`, but for the
 /// [exceptions](crate#errors-of-encoding).
 pub fn serialized_size<T: Serialize>(value: &T) -> Result<usize>
-    ensures gives { IfOk result (λ count. count ≡ length (canonical (T.shape.tree value.now))) }
+    ensures gives { IfOk result (λ count. count ≡ length (encoding T.shape value.now)) }
     ensures fits_iff { IsWilling T.shape value.now
-        → (IsOk result ↔ (length (canonical (T.shape.tree value.now)) < 2 ^ 64)) }
-    ensures own_error { length (canonical (T.shape.tree value.now)) < 2 ^ 64
+        → (IsOk result ↔ (length (encoding T.shape value.now) < 2 ^ 64)) }
+    ensures own_error { length (encoding T.shape value.now) < 2 ^ 64
         → IfErr result (T.shape.refusal value.now) }
     ensures named_error { IfErr result (IsErrorOf T.shape value.now) }
 {

@@ -2,11 +2,7 @@
 //! [`comes_back`] and [`frame_comes_back`].
 
 ghost use Rattle.std.specs.Prelude.{◌≡◌, ◌≤◌, ℕ, List, ◌++◌, length, Some, IfOk};
-ghost use Rattle.postcard_wire.specs.Tree.{Tree};
-ghost use Rattle.postcard_wire.specs.Spelling.{Spells, canonical};
-ghost use Rattle.postcard_de_flavors.specs.Source.{Begins};
-ghost use Rattle.postcard_de.specs.Front.{ReadsFront};
-ghost use Rattle.postcard.specs.Front.{ReadsReader};
+ghost use Rattle.postcard.specs.{Begins, ReadsFront, ReadsReader, Spells, Tree, canonical};
 
 use crate::cobs::to_allocvec_cobs;
 use crate::with_flavor::to_allocvec;

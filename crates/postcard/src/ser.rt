@@ -1,13 +1,9 @@
 //! Encoding a value into a buffer.
 
 ghost use Rattle.std.specs.Prelude.{◌≡◌, ◌<◌, ◌≤◌, ◌↔◌, ◌⊎◌, ℕ, List, ◌++◌, length, drop, IfOk};
-ghost use Rattle.std.specs.Prelude.{IfErr, IsOk, OnErr, OnOk};
-ghost use Rattle.std.specs.Borrow.{sem, LendsIfOk, LendsSoOk, Array, u8};
-ghost use Rattle.postcard_wire.specs.Spelling.{canonical, Spells};
-ghost use Rattle.postcard_shape.specs.Shape.{IsWilling};
-ghost use Rattle.postcard_ser.specs.Writing.{IsErrorOf};
-ghost use Rattle.postcard.specs.Buffers.{Fills, FillsFront};
-ghost use Rattle.postcard.specs.Attempt.{IsAttempt, LendsAttempt};
+ghost use Rattle.std.specs.Prelude.{IfErr, IsOk, OnOk};
+ghost use Rattle.postcard.specs.{Array, FillsFront, FillsSlice, IsAttempt, IsErrorOf, IsWilling};
+ghost use Rattle.postcard.specs.{LendsAttempt, LendsIfOk, LendsSoOk, Spells, encoding, sem, u8};
 
 use postcard_memory::front;
 use postcard_ser::{Serialize, Serializer};
@@ -26,15 +22,15 @@ use postcard_wire::{Error, Result};
 /// after it the old bytes; if the value refuses itself, its content is unspecified.
 pub fn to_slice<'a, T: Serialize>(value: &T, buf: &'a mut [u8]) -> Result<&'a mut [u8]>
     ensures* writes_back { sem 𝓛 (LendsSoOk (Array u8 0) (Array u8 0) buf.entry result
-        (λ all front. all ≡ front ++ drop (length (canonical (T.shape.tree value.now))) buf.old)
+        (λ all front. all ≡ front ++ drop (length (encoding T.shape value.now)) buf.old)
         (λ all. IsWilling T.shape value.now
-        → FillsFront (canonical (T.shape.tree value.now)) buf.old all)) }
-    ensures gives { IfOk result (λ front. front.now ≡ canonical (T.shape.tree value.now)) }
+        → FillsFront (encoding T.shape value.now) buf.old all)) }
+    ensures gives { IfOk result (λ front. front.now ≡ encoding T.shape value.now) }
     ensures shortest { IfOk result (λ front. (p : List ℕ) → Spells (T.shape.tree value.now) p
         → (p ≡ front.now) ⊎ (length front.now < length p)) }
     ensures fits_iff { IsWilling T.shape value.now
-        → (IsOk result ↔ (length (canonical (T.shape.tree value.now)) ≤ length buf.old)) }
-    ensures own_error { length (canonical (T.shape.tree value.now)) ≤ length buf.old
+        → (IsOk result ↔ (length (encoding T.shape value.now) ≤ length buf.old)) }
+    ensures own_error { length (encoding T.shape value.now) ≤ length buf.old
         → IfErr result (T.shape.refusal value.now) }
     ensures named_error { IfErr result (IsErrorOf T.shape value.now) }
     ensures fits { OnOk result (T.shape.fits value.now) }
@@ -46,17 +42,7 @@ pub fn to_slice<'a, T: Serialize>(value: &T, buf: &'a mut [u8]) -> Result<&'a mu
 /// Does what [`to_slice`] does, with the same errors, for callers that keep the buffer, and returns
 /// the number of bytes written.
 pub fn fill_slice<T: Serialize>(value: &T, buf: &mut [u8]) -> Result<usize>
-    ensures count_is_length { IfOk result (λ count. count
-        ≡ length (canonical (T.shape.tree value.now))) }
-    ensures fills { OnOk result (Fills (canonical (T.shape.tree value.now)) buf.old buf.new) }
-    ensures refused { OnErr result (IsWilling T.shape value.now
-        → FillsFront (canonical (T.shape.tree value.now)) buf.old buf.new) }
-    ensures fits_iff { IsWilling T.shape value.now
-        → (IsOk result ↔ (length (canonical (T.shape.tree value.now)) ≤ length buf.old)) }
-    ensures own_error { length (canonical (T.shape.tree value.now)) ≤ length buf.old
-        → IfErr result (T.shape.refusal value.now) }
-    ensures named_error { IfErr result (IsErrorOf T.shape value.now) }
-    ensures fits { OnOk result (T.shape.fits value.now) }
+    ensures { FillsSlice T.shape value.now buf.old result buf.new }
 {
     let Attempt {
         all: _all,
@@ -79,8 +65,8 @@ pub(crate) struct Attempt<'a> {
 /// Writes the value into the front of the buffer.
 fn write_front<'a, T: Serialize>(value: &T, buf: &'a mut [u8]) -> Attempt<'a>
     ensures same_loan { result.all.ghost_name ≡ buf.entry.ghost_name }
-    ensures attempts { IsAttempt T.shape value.now (canonical (T.shape.tree value.now))
-        (FillsFront (canonical (T.shape.tree value.now)) buf.old) buf.old result }
+    ensures attempts { IsAttempt T.shape value.now (encoding T.shape value.now)
+        (FillsFront (encoding T.shape value.now) buf.old) buf.old result }
 {
     let mut serializer = Serializer {
         output: Slice::new(buf),

@@ -1,12 +1,8 @@
 //! What the impls of a type of your own call: `write_variant` writes a value of an enum, and
 //! `read_parts` reads a value by its parts, of which `from_parts` of the type makes it.
 
-ghost use Rattle.postcard.specs.Variants.{IsVariantOf};
-ghost use Rattle.postcard_de.specs.Reads.{ReadsShape, source_of};
-ghost use Rattle.postcard_ser.specs.Writing.{Wrote};
-ghost use Rattle.postcard_shape.specs.Shape.{via};
-ghost use Rattle.postcard_wire.specs.Spelling.{canonical};
 ghost use Rattle.std.specs.Prelude.{◌≡◌, OnOk};
+ghost use Rattle.postcard.specs.{Deserializes, IsVariantOf, Wrote, encoding, via};
 
 use postcard_de::{Deserialize, DeserializeOwned, Deserializer};
 use postcard_de_flavors::Flavor as DeFlavor;
@@ -35,7 +31,7 @@ pub fn write_variant<E: Shaped, T: Serialize, F: Flavor>(
     serializer: &mut Serializer<F>,
 ) -> Result<()>
     requires { IsVariantOf E.shape value.now index T.shape content.now }
-    ensures wrote { Wrote F.Flavor serializer.old.output (canonical (E.shape.tree value.now))
+    ensures wrote { Wrote F.Flavor serializer.old.output (encoding E.shape value.now)
         (E.shape.refusal value.now) E.shape.text result serializer.new.output }
     ensures fits { OnOk result (E.shape.fits value.now) }
 {
@@ -72,8 +68,7 @@ pub fn read_parts<'de, T: FromParts, F: DeFlavor>(
 ) -> Result<T>
 where
     T::Parts: Deserialize<'de>,
-    ensures { ReadsShape F.Flavor (via T.seen T.Parts.shape) (source_of d.old) result
-        (source_of d.new) }
+    ensures { Deserializes F.Flavor (via T.seen T.Parts.shape) d.old result d.new }
 {
     let parts = <T::Parts as Deserialize<'de>>::deserialize(alloc, d)?;
     Ok(T::from_parts(parts))
@@ -92,8 +87,7 @@ pub fn read_parts_owned<T: FromParts, F: DeFlavor>(
 ) -> Result<T>
 where
     T::Parts: DeserializeOwned,
-    ensures { ReadsShape F.Flavor (via T.seen T.Parts.shape) (source_of d.old) result
-        (source_of d.new) }
+    ensures { Deserializes F.Flavor (via T.seen T.Parts.shape) d.old result d.new }
 {
     let parts = <T::Parts as DeserializeOwned>::deserialize_owned(alloc, d)?;
     Ok(T::from_parts(parts))

@@ -1,11 +1,8 @@
 //! Encoding into any writing flavor, and the calls that encode into an `ArrayVec`, a `Vec`, a
 //! target that grows, and a writer.
 
-ghost use Rattle.std.specs.Prelude.{◌≡◌, ◌≤◌, ◌↔◌, ◌++◌, length, IfOk, IfErr, IsOk, OnOk};
-ghost use Rattle.std.specs.Io.KnownBytes.{Appends};
-ghost use Rattle.postcard_wire.specs.Spelling.{canonical};
-ghost use Rattle.postcard_shape.specs.Shape.{IsWilling};
-ghost use Rattle.postcard_ser.specs.Writing.{IsErrorOf};
+ghost use Rattle.std.specs.Prelude.{◌≡◌, ◌≤◌, ◌++◌, length, IfOk, IfErr, IsOk, OnOk};
+ghost use Rattle.postcard.specs.{Appends, Encodes, EncodesGrowing, IsErrorOf, IsWilling, encoding};
 ghost use Rattle.postcard.specs.Finished.{Finished};
 
 use arrayvec::ArrayVec;
@@ -28,10 +25,10 @@ pub fn serialize_with_flavor<T: Serialize, S: Flavor<Output = O> + Drop, O>(
     value: &T,
     flavor: S,
 ) -> Result<O>
-    ensures gives { IfOk result (Finished S.Flavor flavor (canonical (T.shape.tree value.now))) }
+    ensures gives { IfOk result (Finished S.Flavor flavor (encoding T.shape value.now)) }
     ensures has_room { IsWilling T.shape value.now
-        → S.room flavor (canonical (T.shape.tree value.now)) → IsOk result }
-    ensures own_error { S.room flavor (canonical (T.shape.tree value.now))
+        → S.room flavor (encoding T.shape value.now) → IsOk result }
+    ensures own_error { S.room flavor (encoding T.shape value.now)
         → IfErr result (T.shape.refusal value.now) }
     ensures named_error { IfErr result (IsErrorOf T.shape value.now) }
     ensures fits { OnOk result (T.shape.fits value.now) }
@@ -52,13 +49,8 @@ pub fn serialize_with_flavor<T: Serialize, S: Flavor<Output = O> + Drop, O>(
 /// Fails with `SerializeBufferFull` if and only if the encoding has more than `B` bytes, but for
 /// the [exceptions](crate#errors-of-encoding).
 pub fn to_vec<T: Serialize, const B: usize>(value: &T) -> Result<ArrayVec<u8, B>>
-    ensures gives { IfOk result (λ vec. vec.items ≡ canonical (T.shape.tree value.now)) }
-    ensures fits_iff { IsWilling T.shape value.now
-        → (IsOk result ↔ (length (canonical (T.shape.tree value.now)) ≤ B)) }
-    ensures own_error { length (canonical (T.shape.tree value.now)) ≤ B
-        → IfErr result (T.shape.refusal value.now) }
-    ensures named_error { IfErr result (IsErrorOf T.shape value.now) }
-    ensures fits { OnOk result (T.shape.fits value.now) }
+    ensures { Encodes T.shape value.now (λ vec. vec.items ≡ encoding T.shape value.now)
+        (length (encoding T.shape value.now) ≤ B) result }
 {
     serialize_with_flavor(value, HVec::new())
 }
@@ -70,18 +62,16 @@ pub fn to_vec<T: Serialize, const B: usize>(value: &T) -> Result<ArrayVec<u8, B>
 /// Fails with `SerializeBufferFull`, and only if an allocation fails, but for the
 /// [exceptions](crate#errors-of-encoding).
 pub fn to_allocvec<T: Serialize>(alloc: Global, value: &T) -> Result<Vec<u8>>
-    ensures gives { IfOk result (λ vec. vec.items ≡ canonical (T.shape.tree value.now)) }
-    ensures named_error { IfErr result (IsErrorOf T.shape value.now) }
-    ensures fits { OnOk result (T.shape.fits value.now) }
+    ensures { EncodesGrowing T.shape value.now (λ vec. vec.items ≡ encoding T.shape value.now)
+        result }
 {
     serialize_with_flavor(value, AllocVec::new(alloc))
 }
 
 /// [`to_allocvec`] under the name that the Rust crate has for `std`.
 pub fn to_stdvec<T: Serialize>(alloc: Global, value: &T) -> Result<Vec<u8>>
-    ensures gives { IfOk result (λ vec. vec.items ≡ canonical (T.shape.tree value.now)) }
-    ensures named_error { IfErr result (IsErrorOf T.shape value.now) }
-    ensures fits { OnOk result (T.shape.fits value.now) }
+    ensures { EncodesGrowing T.shape value.now (λ vec. vec.items ≡ encoding T.shape value.now)
+        result }
 {
     serialize_with_flavor(value, StdVec::new(alloc))
 }
@@ -94,7 +84,7 @@ pub fn to_stdvec<T: Serialize>(alloc: Global, value: &T) -> Result<Vec<u8>>
 /// [exceptions](crate#errors-of-encoding). After a failure the target is dropped.
 pub fn to_extend<T: Serialize, W: ExtendBytes + Drop>(value: &T, writer: W) -> Result<W>
     ensures appends { IfOk result
-        (λ target. W.content target ≡ W.content writer ++ canonical (T.shape.tree value.now)) }
+        (λ target. W.content target ≡ W.content writer ++ encoding T.shape value.now) }
     ensures named_error { IfErr result (IsErrorOf T.shape value.now) }
     ensures fits { OnOk result (T.shape.fits value.now) }
 {
@@ -110,7 +100,7 @@ pub fn to_extend<T: Serialize, W: ExtendBytes + Drop>(value: &T, writer: W) -> R
 /// given some of the bytes.
 pub fn to_io<T: Serialize, W: Write + Drop>(value: &T, writer: W) -> Result<W>
     ensures appends { IfOk result (λ output. Appends (W.contents writer) (W.contents output)
-        (canonical (T.shape.tree value.now))) }
+        (encoding T.shape value.now)) }
     ensures named_error { IfErr result (IsErrorOf T.shape value.now) }
     ensures fits { OnOk result (T.shape.fits value.now) }
 {

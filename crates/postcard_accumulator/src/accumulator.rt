@@ -2,10 +2,10 @@
 
 ghost use Rattle.std.specs.Prelude.{◌≡◌, ◌+◌, ◌<◌, ◌≤◌, List, ℕ, [], ◌++◌, length, take, drop};
 ghost use Rattle.std.specs.Prelude.{false, IfOk, OnErr};
-ghost use Rattle.postcard_cobs.specs.Groups.{Groups, NoZero};
-ghost use Rattle.postcard_accumulator.specs.State.{State, holding, held_of, is_skipping};
-ghost use Rattle.postcard_accumulator.specs.Feeding.{IsFedHolding};
-ghost use Rattle.postcard_accumulator.specs.Values.{IsDecoded, IsFed, IsOwn, IsReadOf, IsTaken};
+ghost use Rattle.postcard_accumulator.specs.{Groups, IsDecoded, IsFed, IsFedHolding, IsOwn};
+ghost use Rattle.postcard_accumulator.specs.{IsReadOf, IsTaken, NoZero, held_of, holding};
+ghost use Rattle.postcard_accumulator.specs.{is_skipping};
+ghost use Rattle.postcard_accumulator.specs.State.{State};
 
 pub use crate::answers::FeedResult;
 use postcard_cobs::{decode_behind_code, frame_len};

@@ -2,12 +2,9 @@
 //! (`specs/Laws.antt`, `specs/Messages.antt`).
 
 ghost use Rattle.std.specs.Prelude.{◌≤◌, length};
-ghost use Rattle.postcard_cobs.specs.Groups.{NoZero};
-ghost use Rattle.postcard_accumulator.specs.State.{held_of};
-ghost use Rattle.postcard_accumulator.specs.Laws.{AnswersAreOne, CutAtZero, DamageStays};
-ghost use Rattle.postcard_accumulator.specs.Laws.{FeedsAnswer, FramesAreOne, Joined};
-ghost use Rattle.postcard_accumulator.specs.Laws.{NothingAfterZero, Split};
-ghost use Rattle.postcard_accumulator.specs.Messages.{MessagesArrive};
+ghost use Rattle.postcard_accumulator.specs.{AnswersAreOne, CutAtZero, DamageStays, FeedsAnswer};
+ghost use Rattle.postcard_accumulator.specs.{FramesAreOne, Joined, MessagesArrive, NoZero};
+ghost use Rattle.postcard_accumulator.specs.{NothingAfterZero, Split, held_of};
 
 use crate::accumulator::CobsAccumulator;
 use postcard_de::DeserializeOwned;

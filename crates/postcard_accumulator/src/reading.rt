@@ -1,10 +1,7 @@
 //! The loop that reads the frames of a reader: [`read_frames`].
 
-ghost use Rattle.std.specs.Prelude.{◌≡◌, ◌≢◌, ◌<◌, ◌++◌, ◌∷◌, [], length};
-ghost use Rattle.std.specs.Prelude.{vec_len, vec_capacity};
-ghost use Rattle.std.specs.Io.KnownBytes.{IsAtEnd};
-ghost use Rattle.postcard_accumulator.specs.Reading.{IsFedAll};
-ghost use Rattle.postcard_accumulator.specs.Values.{IsOwn, IsReading};
+ghost use Rattle.std.specs.Prelude.{◌≡◌, ◌≢◌, ◌<◌, ◌++◌, ◌∷◌, [], length, vec_len, vec_capacity};
+ghost use Rattle.postcard_accumulator.specs.{IsAtEnd, IsFedAll, IsOwn, IsReading};
 
 use crate::accumulator::CobsAccumulator;
 use crate::answers::{Answer, FeedResult};

@@ -1,10 +1,9 @@
 //! Frames from a stream that comes in pieces, in the caller's memory.
 
-ghost use Rattle.std.specs.Prelude.{◌≡◌, ◌≢◌, ◌+◌, ◌≤◌, ◌++◌, [], List, ℕ, length, take, drop, IsTrue};
-ghost use Rattle.std.specs.Prelude.{false, IfOk, OnErr};
-ghost use Rattle.postcard_cobs.specs.Groups.{Groups, NoZero, before_zero};
-ghost use Rattle.postcard_accumulator.specs.State.{State, holding, state_of};
-ghost use Rattle.postcard_c.specs.Feeding.{Takes, Stands, Feeds};
+ghost use Rattle.std.specs.Prelude.{◌≡◌, ◌+◌, ◌≤◌, ◌++◌, List, ℕ, length, take, IsTrue, false};
+ghost use Rattle.std.specs.Prelude.{IfOk, OnErr};
+ghost use Rattle.postcard_c.specs.{Feeds, Groups, NoZero, Stands, Takes, before_zero, holding};
+ghost use Rattle.postcard_c.specs.{state_of};
 
 use postcard_cobs::{decode_in_place, frame_len};
 use postcard_wire::Result;

@@ -4,9 +4,8 @@
 //! take and give the lowest bit first, here without a table, so that the code is small.
 
 ghost use Rattle.std.specs.Prelude.{◌≡◌, ◌↔◌, ◌++◌, ℕ, List, length, take, true, IsTrue};
-ghost use Rattle.crc.specs.Crc.{Parameters, IsCrc};
-ghost use Rattle.crc.specs.Register.{next, rounds, Holds};
-ghost use Rattle.postcard_c.specs.Checksums.{crc_16, crc_32, Reflects, PutsCrc, GetsCrc, TakesJust};
+ghost use Rattle.postcard_c.specs.{GetsCrc, Holds, IsCrc, Parameters, PutsCrc, Reflects, TakesJust};
+ghost use Rattle.postcard_c.specs.{crc_16, crc_32, next, rounds};
 
 use crate::put_fixed::{postcard_put_u16_le, postcard_put_u32_le};
 use crate::reader::{Reader, rest_at};

@@ -1,11 +1,7 @@
 //! Frames of COBS, made from a message and decoded in place.
 
-ghost use Rattle.std.specs.Prelude.{◌≡◌, ◌≢◌, ◌-◌, ◌≤◌, ◌↔◌, ◌++◌, length, take, drop};
-ghost use Rattle.std.specs.Prelude.{IfOk, IsOk, OnOk};
-ghost use Rattle.postcard_cobs.specs.Groups.{made, before_zero};
-ghost use Rattle.postcard_cobs.specs.InPlace.{LeavesData};
-ghost use Rattle.postcard_frame.specs.Frame.{HasNoData};
-ghost use Rattle.postcard_c.specs.Writing.{Fills};
+ghost use Rattle.std.specs.Prelude.{◌≡◌, ◌≢◌, ◌-◌, ◌≤◌, ◌↔◌, ◌++◌, length, IfOk, IsOk, OnOk};
+ghost use Rattle.postcard_c.specs.{Fills, HasNoData, LeavesData, before_zero, made};
 
 use postcard_c_status::{BAD_FRAME, BUFFER_FULL};
 use postcard_cobs::decode_in_place;

@@ -14,21 +14,18 @@
 //! value and moves the reader on, or keeps the error, and returns the status.
 
 ghost use Rattle.std.specs.Prelude.{◌≡◌, ◌+◌, ◌*◌, ◌^◌, ◌<◌};
-ghost use Rattle.std.specs.Int.{w8, w128, cast_unsigned, cast_signed};
-ghost use Rattle.postcard_wire.specs.Tree.{Byte, Boolean, Num, Int, Char, Text};
-ghost use Rattle.postcard_wire.specs.Reading.{IsByte, IsBoolean, IsNum, IsInt, IsChar, IsText, IsSeq};
-ghost use Rattle.postcard_shape.specs.Lists.{ListIs};
-ghost use Rattle.postcard_de.specs.Refuses.{WantsByte, NoneBad, WantsDigit, BadNumber, WantsText};
-ghost use Rattle.postcard_de.specs.Refuses.{BadText};
-ghost use Rattle.postcard_de.specs.Unfit.{BadBool, WantsChar, BadChar};
-ghost use Rattle.postcard_c.specs.Reading.{Gets, GetsBytes, GetsOption, AreBytesOf};
+ghost use Rattle.postcard_c.specs.{AreBytesOf, BadBool, BadChar, BadNumber, BadText, Boolean, Byte};
+ghost use Rattle.postcard_c.specs.{Char, Gets, GetsBytes, GetsOption, Int, IsBoolean, IsByte};
+ghost use Rattle.postcard_c.specs.{IsChar, IsInt, IsNum, IsSeq, IsText, ListIs, NoneBad, Num, Text};
+ghost use Rattle.postcard_c.specs.{WantsByte, WantsChar, WantsDigit, WantsText, cast_signed};
+ghost use Rattle.postcard_c.specs.{cast_unsigned, w128, w8};
 
 use crate::reader::{Reader, open, rest_at, settle};
 use crate::wide::{halves, joined};
 use postcard_c_status::{BAD_OPTION, UNEXPECTED_END};
 use postcard_wire::Result;
 
-/// Reads a boolean. Fails with `DeserializeBadBool` if the byte is neither 0 nor 1.
+/// Reads a `bool`. Fails with `DeserializeBadBool` if the byte is neither 0 nor 1.
 #[unsafe(no_mangle)]
 pub extern "C" fn postcard_get_bool(reader: &mut Reader<'_>, value: &mut bool) -> u32
     ensures { Gets IsBoolean (λ t v. t ≡ Boolean v) WantsByte BadBool

@@ -5,9 +5,8 @@
 //!
 //! A signed number is the unsigned number of its two's complement; `c/postcard.h` has the casts.
 
-ghost use Rattle.std.specs.Prelude.{◌≡◌, ◌+◌, ◌*◌, ◌^◌, length};
-ghost use Rattle.postcard_shape.specs.Base256.{little, big};
-ghost use Rattle.postcard_c.specs.Reading.{GetsBytes, GetsFixed};
+ghost use Rattle.std.specs.Prelude.{◌+◌, ◌*◌, ◌^◌, length};
+ghost use Rattle.postcard_c.specs.{GetsBytes, GetsFixed, big, little};
 
 use crate::reader::{Reader, rest_at};
 use crate::wide::halves;

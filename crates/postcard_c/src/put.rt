@@ -5,12 +5,10 @@
 //! has failed before. A call with an error of its own says so. A number of 16 bits or more is
 //! written as a varint, of its zigzag encoding if signed.
 
-ghost use Rattle.std.specs.Prelude.{◌≡◌, ◌∷◌, [], ◌+◌, ◌*◌, ◌^◌, ◌<◌, map, length, IsUtf8};
-ghost use Rattle.std.specs.Char.{IsScalar};
-ghost use Rattle.std.specs.Int.{w8, w128, cast_signed, cast_unsigned};
-ghost use Rattle.postcard_wire.specs.Tree.{Byte, Boolean, Num, Int, Char, Text, Seq, trees, Absent};
-ghost use Rattle.postcard_wire.specs.Spelling.{canonical};
-ghost use Rattle.postcard_c.specs.Writing.{Puts, Refuses};
+ghost use Rattle.std.specs.Prelude.{◌∷◌, [], ◌+◌, ◌*◌, ◌^◌, ◌<◌, map, IsUtf8};
+ghost use Rattle.postcard_c.specs.{Absent, Boolean, Byte, Char, Int, IsScalar, Num, Puts, Refuses};
+ghost use Rattle.postcard_c.specs.{Seq, Text, canonical, cast_signed, cast_unsigned, trees, w128};
+ghost use Rattle.postcard_c.specs.{w8};
 
 use crate::wide::joined;
 use crate::writer::{Writer, append, put_counted, put_number, refuse};
@@ -18,7 +16,7 @@ use postcard_c_status::{BAD_CHAR, BAD_UTF8};
 use postcard_wire::varint::{VARINT_MAX_128, varint_u128};
 use postcard_wire::zigzag::{zig_zag_i16, zig_zag_i32, zig_zag_i64, zig_zag_i128};
 
-/// Appends a boolean as one byte, 0 or 1.
+/// Appends a `bool` as one byte, 0 or 1.
 #[unsafe(no_mangle)]
 pub extern "C" fn postcard_put_bool(writer: &mut Writer<'_>, value: bool) -> u32
     ensures { Puts (canonical (Boolean value)) writer.old writer.new result }

@@ -5,8 +5,7 @@
 //! A signed number is the unsigned number of its two's complement; `c/postcard.h` has the casts.
 
 ghost use Rattle.std.specs.Prelude.{◌+◌, ◌*◌, ◌^◌};
-ghost use Rattle.postcard_shape.specs.Base256.{little, big};
-ghost use Rattle.postcard_c.specs.Writing.{Puts};
+ghost use Rattle.postcard_c.specs.{Puts, big, little};
 
 use crate::wide::joined;
 use crate::writer::{Writer, append};

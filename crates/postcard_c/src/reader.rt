@@ -1,8 +1,7 @@
 //! The reader: a place in the caller's bytes, from which each call reads one node of the format.
 
 ghost use Rattle.std.specs.Prelude.{◌≡◌, ◌-◌, drop, length};
-ghost use Rattle.postcard_de.specs.Deserializer.{source_of};
-ghost use Rattle.postcard_c.specs.Reading.{Settles, rest_of};
+ghost use Rattle.postcard_c.specs.{Settles, rest_of, source_of};
 
 use postcard_c_status::status_of;
 use postcard_de::Deserializer;

@@ -1,8 +1,7 @@
 //! The writer: appends bytes to the caller's buffer, and counts those that a whole message needs.
 
-ghost use Rattle.std.specs.Prelude.{◌≡◌, ◌≢◌, ◌+◌, ◌<◌, ◌≤◌, ◌^◌, [], ◌++◌, length, IsTrue};
-ghost use Rattle.postcard_wire.specs.Number.{digits};
-ghost use Rattle.postcard_c.specs.Writing.{Puts, Refuses, WrittenAt};
+ghost use Rattle.std.specs.Prelude.{◌≡◌, ◌+◌, ◌<◌, ◌≤◌, [], ◌++◌, length, IsTrue};
+ghost use Rattle.postcard_c.specs.{Puts, Refuses, WrittenAt, digits};
 
 use postcard_c_status::BUFFER_FULL;
 use postcard_wire::varint::{VARINT_MAX_64, write_u64};

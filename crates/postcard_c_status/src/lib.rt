@@ -4,7 +4,7 @@
 #![tactic(auto)]
 
 ghost use Rattle.std.specs.Prelude.{◌≡◌, ◌<◌};
-ghost use Rattle.postcard_c_status.specs.Numbers.{number_of};
+ghost use Rattle.postcard_c_status.specs.{number_of};
 
 use postcard_wire::Error;
 

@@ -1,7 +1,7 @@
 //! Bytes copied out to the caller's buffer.
 
-ghost use Rattle.postcard_c_text.specs.Messages.{CopiesOut};
 ghost use Rattle.std.specs.Prelude.{◌≡◌, ◌⊎◌};
+ghost use Rattle.postcard_c_text.specs.{CopiesOut};
 
 use postcard_c_status::BUFFER_FULL;
 

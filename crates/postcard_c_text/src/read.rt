@@ -1,12 +1,8 @@
 //! The type of an expression, and a message of that type at the front of some bytes.
 
-ghost use Rattle.std.specs.Prelude.{◌≡◌, ◌≢◌, ◌⊎◌, ◌+◌, ◌≤◌, length, drop, IfOk, IfErr};
-ghost use Rattle.postcard_de.specs.Front.{ReadsFront};
-ghost use Rattle.postcard_dyn_schema.specs.Meaning.{type_of, reads};
-ghost use Rattle.postcard_dyn_schema.specs.Text.{characters};
-ghost use Rattle.postcard_dyn_schema.specs.Grammar.{IsExpression};
-ghost use Rattle.postcard_dyn.specs.Tree.{IsTree};
-ghost use Rattle.postcard_c_text.specs.Messages.{IsRefused};
+ghost use Rattle.std.specs.Prelude.{◌≡◌, ◌⊎◌, ◌+◌, ◌≤◌, length, drop, IfOk, IfErr};
+ghost use Rattle.postcard_c_text.specs.{IsExpression, IsRefused, IsTree, ReadsFront, characters};
+ghost use Rattle.postcard_c_text.specs.{reads, type_of};
 
 use postcard_c_status::{BAD_TYPE, OUT_OF_MEMORY, status_of};
 use postcard_dyn::{Problem, Schema, Value, parse, refused_at, take_from_bytes};

@@ -2,13 +2,9 @@
 
 ghost use Rattle.std.specs.Prelude.{◌≡◌, ◌≢◌, ◌⊎◌, ℕ, List, ◌+◌, ◌≤◌, length, IfOk, IfErr, IfSome};
 ghost use Rattle.std.specs.Prelude.{string_bytes};
-ghost use Rattle.postcard_wire.specs.Spelling.{canonical};
-ghost use Rattle.postcard_dyn_schema.specs.Text.{characters};
-ghost use Rattle.postcard_dyn_schema.specs.Meaning.{type_of, reads};
-ghost use Rattle.postcard_dyn.specs.Tree.{tree};
-ghost use Rattle.postcard_dyn_text.specs.Shown.{layout_of, text as text_of_tree};
-ghost use Rattle.postcard_dyn_text.specs.Spelled.{SpellsValue};
-ghost use Rattle.postcard_c_text.specs.Messages.{HasMessage, HasNoMessage, Shows, Encodes, CopiesOut};
+ghost use Rattle.postcard_c_text.specs.{CopiesOut, Encodes, HasMessage, HasNoMessage, Shows};
+ghost use Rattle.postcard_c_text.specs.{SpellsValue, canonical, characters, layout_of, reads};
+ghost use Rattle.postcard_c_text.specs.{text_of_tree, tree, type_of};
 
 use crate::copy::copy_out;
 use crate::read::{message_of, schema_of};

@@ -1,15 +1,11 @@
 //! Checksums by the names that their algorithms have in the catalogue, and the commands `crc`.
 
-ghost use Rattle.std.specs.Prelude.{◌≡◌, ◌≢◌, ◌+◌, ◌*◌, ◌/◌, ℕ, ◌++◌, ◌∷◌, [], codes, Err};
-ghost use Rattle.std.specs.Prelude.{IfSome, IfNone, IfOk, IfErr, OnOk, IsTrue, ◌↔◌, length, ◌≤◌};
-ghost use Rattle.std.specs.Int.{w128, to_le_bytes};
-ghost use Rattle.std.specs.Io.KnownBytes.{Appends};
-ghost use Rattle.crc.specs.Algorithm.{parameters};
-ghost use Rattle.crc.specs.Crc.{IsCrc, IsValid};
-ghost use Rattle.postcard_cli.specs.Checksum.{IsChecksum, IsTrailer, HasNoTrailer, PrintsChecksum};
-ghost use Rattle.postcard_cli.specs.Checksum.{PrintsDigits, PrintsTrailer, bytes_for, checksum_name};
-ghost use Rattle.postcard_cli.specs.Checksum.{parameters_of};
-ghost use Rattle.postcard_cli.specs.Refusal.{ChecksumFails, NameFails};
+ghost use Rattle.std.specs.Prelude.{◌≡◌, ◌≢◌, ◌*◌, ◌/◌, Err, IfSome, IfNone, IfOk, IfErr, OnOk};
+ghost use Rattle.std.specs.Prelude.{IsTrue, ◌↔◌};
+ghost use Rattle.postcard_cli.specs.{Appends, ChecksumFails, HasNoTrailer, IsChecksum, IsCrc};
+ghost use Rattle.postcard_cli.specs.{IsTrailer, IsValid, NameFails, PrintsChecksum, PrintsDigits};
+ghost use Rattle.postcard_cli.specs.{PrintsTrailer, bytes_for, checksum_name, parameters};
+ghost use Rattle.postcard_cli.specs.{parameters_of, to_le_bytes};
 ghost use Rattle.postcard_cli.specs.declared.checksum.Checksum.{Checksum};
 
 use crate::failure::Failure;
@@ -284,7 +280,7 @@ pub fn print<R: Reader, W: Write>(
 pub fn print_catalog<W: Write>(output: &mut W) -> Result<(), Failure>
     ensures printed { OnOk result (Appends (W.contents output.old) (W.contents output.new)
         CATALOG.now) }
-    ensures refused { IfErr result (λ e. e ≡ Failure.Output) }
+    ensures only_output { IfErr result (λ e. e ≡ Failure.Output) }
 {
     output.write_all(CATALOG.as_bytes())?;
     Ok(())

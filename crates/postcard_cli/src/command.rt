@@ -3,10 +3,8 @@
 //! the words are no call.
 
 ghost use Rattle.std.specs.Prelude.{◌≡◌, ◌≢◌, ℕ, [], ◌∷◌, codes, IfSome, IfNone, map, string_bytes};
-ghost use Rattle.postcard_cli.specs.Command.{IsCallOf, IsNoCall, IsWordOf, SaysLongest};
-ghost use Rattle.postcard_cli.specs.Command.{begins_expression, looks_like_expression, name_of};
-ghost use Rattle.postcard_cli.specs.declared.command.TypeWord.{TypeWord};
-ghost use Rattle.postcard_cli.specs.declared.command.ValueType.{ValueType};
+ghost use Rattle.postcard_cli.specs.{IsCallOf, IsNoCall, IsWordOf, SaysLongest, TypeWord};
+ghost use Rattle.postcard_cli.specs.{ValueType, begins_expression, looks_like_expression, name_of};
 
 use crate::limits::LONGEST;
 

@@ -2,17 +2,11 @@
 
 ghost use Rattle.std.specs.Prelude.{◌≡◌, ◌⊎◌, ◌++◌, ◌∷◌, [], ℕ, List, IfErr, OnOk, codes, min};
 ghost use Rattle.std.specs.Prelude.{replicate};
-ghost use Rattle.std.specs.Fmt.{DisplaysOnOk, WritesOnOk};
-ghost use Rattle.std.specs.Io.KnownBytes.{Appends};
-ghost use Rattle.postcard_wire.specs.declared.error.Error.TheVariants.{OutOfMemory};
-ghost use Rattle.postcard_dyn.specs.Tree.{tree};
-ghost use Rattle.postcard_dyn_text.specs.Shown.{layout_of, text};
-ghost use Rattle.postcard_cli.specs.Explain.{IsCut, PrintsExplained, PrintsRow, PrintsRows};
-ghost use Rattle.postcard_cli.specs.Explain.{bytes_text, elements_text, expected_text};
-ghost use Rattle.postcard_cli.specs.Explain.{kind_text, offset_text};
-ghost use Rattle.postcard_cli.specs.Explain.{separator_text, spaced, title_text, told_text};
-ghost use Rattle.postcard_cli.specs.Refusal.{ExplainFails};
-ghost use Rattle.postcard_cli.specs.declared.explain.Layout.{Layout};
+ghost use Rattle.postcard_cli.specs.{Appends, DisplaysOnOk, ExplainFails, IsCut, Layout};
+ghost use Rattle.postcard_cli.specs.{OutOfMemory, PrintsExplained, PrintsRow, PrintsRows};
+ghost use Rattle.postcard_cli.specs.{WritesOnOk, bytes_text, elements_text, expected_text};
+ghost use Rattle.postcard_cli.specs.{kind_text, layout_of, offset_text, separator_text, spaced};
+ghost use Rattle.postcard_cli.specs.{text, title_text, told_text, tree};
 
 use crate::failure::Failure;
 use crate::hexadecimal;
@@ -99,8 +93,8 @@ fn print_lines<W: Write>(
 ) -> Result<(), Failure>
     ensures printed { OnOk result ((layout : Layout) × (layout.all ≡ all)
         × PrintsRows layout 0 lines.now.items (W.contents output.old) (W.contents output.new)) }
-    ensures refused { IfErr result (λ e. (e ≡ Failure.Output)
-        ⊎ (e ≡ Failure.Library OutOfMemory)) }
+    ensures only_output_or_out_of_memory { IfErr result
+        (λ e. (e ≡ Failure.Output) ⊎ (e ≡ Failure.Library OutOfMemory)) }
 {
     let layout = layout_of(lines, all);
     let mut at = 0u64;
@@ -145,8 +139,8 @@ fn print_row<W: Write>(
 ) -> Result<(), Failure>
     ensures printed { OnOk result (PrintsRow layout at line.now
         (W.contents output.old) (W.contents output.new)) }
-    ensures refused { IfErr result (λ e. (e ≡ Failure.Output)
-        ⊎ (e ≡ Failure.Library OutOfMemory)) }
+    ensures only_output_or_out_of_memory { IfErr result
+        (λ e. (e ≡ Failure.Output) ⊎ (e ≡ Failure.Library OutOfMemory)) }
 {
     let told = Told(line);
     let text = format!(in alloc; "{told}")?;
@@ -176,7 +170,7 @@ fn print_head<W: Write>(
     ensures printed { OnOk result ((pad : ℕ) × Appends (W.contents output.old)
         (W.contents output.new) (offset_text layout at ++ (codes "  "
         ++ (bytes_text layout bytes.now ++ replicate pad 32)))) }
-    ensures refused { IfErr result (λ e. e ≡ Failure.Output) }
+    ensures only_output { IfErr result (λ e. e ≡ Failure.Output) }
 {
     let digits = at.to_be_bytes();
     let (_, shown) = digits.split_at(8usize.saturating_sub(layout.offset));
@@ -193,7 +187,7 @@ fn print_head<W: Write>(
 fn print_bytes<W: Write>(layout: Layout, bytes: &[u8], output: &mut W) -> Result<(), Failure>
     ensures printed { OnOk result (Appends (W.contents output.old) (W.contents output.new)
         (bytes_text layout bytes.now)) }
-    ensures refused { IfErr result (λ e. e ≡ Failure.Output) }
+    ensures only_output { IfErr result (λ e. e ≡ Failure.Output) }
 {
     if layout.all || bytes.len() <= SHOWN {
         return print_spaced(bytes, output);
@@ -207,7 +201,7 @@ fn print_bytes<W: Write>(layout: Layout, bytes: &[u8], output: &mut W) -> Result
 fn print_spaced<W: Write>(bytes: &[u8], output: &mut W) -> Result<(), Failure>
     ensures printed { OnOk result (Appends (W.contents output.old) (W.contents output.new)
         (spaced bytes.now)) }
-    ensures refused { IfErr result (λ e. e ≡ Failure.Output) }
+    ensures only_output { IfErr result (λ e. e ≡ Failure.Output) }
 {
     for byte in bytes {
         hexadecimal::write(&[*byte], output)?;
@@ -220,7 +214,7 @@ fn print_spaced<W: Write>(bytes: &[u8], output: &mut W) -> Result<(), Failure>
 fn print_blanks<W: Write>(count: usize, output: &mut W) -> Result<(), Failure>
     ensures printed { OnOk result (Appends (W.contents output.old) (W.contents output.new)
         (replicate (min count 64) 32)) }
-    ensures refused { IfErr result (λ e. e ≡ Failure.Output) }
+    ensures only_output { IfErr result (λ e. e ≡ Failure.Output) }
 {
     let blanks = [b' '; 64];
     let (shown, _) = blanks.split_at(count.min(64));
@@ -238,7 +232,7 @@ fn print_cut<W: Write>(
 ) -> Result<(), Failure>
     ensures printed { OnOk result ((shown : List ℕ) × IsCut layout text.now shown
         × Appends (W.contents output.old) (W.contents output.new) (shown ++ 10 ∷ [])) }
-    ensures refused { IfErr result (λ e. e ≡ Failure.Output) }
+    ensures only_output { IfErr result (λ e. e ≡ Failure.Output) }
 {
     if layout.all || text.len() <= room {
         output.write_all(text.as_bytes())?;

@@ -1,9 +1,7 @@
 //! Why a call fails: each reason with its text and exit status.
 
 ghost use Rattle.std.specs.Prelude.{◌≡◌, Some};
-ghost use Rattle.postcard_wire.specs.declared.error.Error.TheVariants.{OutOfMemory};
-ghost use Rattle.postcard_cli.specs.Failure.{failure_status, failure_text};
-ghost use Rattle.postcard_cli.specs.declared.failure.Failure.TheVariants.{Library, Output};
+ghost use Rattle.postcard_cli.specs.{Library, OutOfMemory, Output, failure_status, failure_text};
 
 use postcard_wire::Error;
 use std::alloc::{AllocError, AllocFailed};

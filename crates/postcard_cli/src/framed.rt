@@ -1,15 +1,10 @@
 //! The commands `enc` and `dec` with `--frame`, for a message in a frame.
 
 ghost use Rattle.std.specs.Prelude.{◌≡◌, ◌++◌, codes, IfOk, IfErr, OnOk};
-ghost use Rattle.std.specs.Io.KnownBytes.{Appends};
-ghost use Rattle.hex.specs.Hex.{encode_lower};
-ghost use Rattle.postcard_cobs.specs.Groups.{EndsFrame, Groups, IsMade, NoZero};
-ghost use Rattle.postcard_cli.specs.Framed.{PrintsEncodedFrame, PrintsEncodedFrameRaw};
-ghost use Rattle.postcard_cli.specs.Framed.{PrintsFirstFrame};
-ghost use Rattle.postcard_cli.specs.Message.{ReadsValue};
-ghost use Rattle.postcard_cli.specs.Refusal.{ContentFails, CutFails, DecodeFramedFails};
-ghost use Rattle.postcard_cli.specs.Refusal.{EncodeFails, UnpackFails};
-ghost use Rattle.postcard_cli.specs.Reason.{reason_text};
+ghost use Rattle.postcard_cli.specs.{Appends, ContentFails, CutFails, DecodeFramedFails};
+ghost use Rattle.postcard_cli.specs.{EncodeFails, EndsFrame, Groups, IsMade, NoZero};
+ghost use Rattle.postcard_cli.specs.{PrintsEncodedFrame, PrintsEncodedFrameRaw, PrintsFirstFrame};
+ghost use Rattle.postcard_cli.specs.{ReadsValue, UnpackFails, encode_lower, reason_text};
 
 use crate::failure::Failure;
 use crate::hexadecimal;
@@ -187,7 +182,7 @@ fn print_refused<W: Write>(
 ) -> Result<(), Failure>
     ensures printed { OnOk result (Appends (W.contents output.old) (W.contents output.new)
         ((place.now ++ (reason_text error.now ++ codes ": ")) ++ encode_lower content.now)) }
-    ensures refused { IfErr result (λ e. e ≡ Failure.Output) }
+    ensures only_output { IfErr result (λ e. e ≡ Failure.Output) }
 {
     let why = reason(error);
     write!(output, "{place}{why}: ")?;

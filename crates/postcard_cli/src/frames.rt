@@ -2,9 +2,7 @@
 //! line.
 
 ghost use Rattle.std.specs.Prelude.{◌≡◌, IfErr, OnOk};
-ghost use Rattle.std.specs.Io.KnownBytes.{Appends};
-ghost use Rattle.postcard_cli.specs.Frames.{answer_line, PrintsAnswers};
-ghost use Rattle.postcard_cli.specs.Refusal.{FramesFail};
+ghost use Rattle.postcard_cli.specs.{Appends, FramesFail, PrintsAnswers, answer_line};
 
 use crate::failure::Failure;
 use crate::hexadecimal;
@@ -66,7 +64,7 @@ pub fn print<R: Reader, W: Write>(
 fn print_answer<W: Write>(answer: &Answer<Vec<u8>>, output: &mut W) -> Result<(), Failure>
     ensures printed { OnOk result (Appends (W.contents output.old) (W.contents output.new)
         (answer_line answer.now)) }
-    ensures refused { IfErr result (λ e. e ≡ Failure.Output) }
+    ensures only_output { IfErr result (λ e. e ≡ Failure.Output) }
 {
     match answer {
         Answer::OverFull => output.write_all(b"overfull\n")?,

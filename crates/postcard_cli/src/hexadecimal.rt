@@ -1,11 +1,8 @@
 //! Reading and writing bytes as hexadecimal digits, two for each byte, the high one first.
 
 ghost use Rattle.std.specs.Prelude.{◌≡◌, ◌≤◌, ◌⊎◌, length, IfOk, IfErr, OnOk, IsErr};
-ghost use Rattle.std.specs.Io.KnownBytes.{Appends, Consumes, IsAtEnd};
-ghost use Rattle.hex.specs.Hex.{decode_of, encode_lower};
-ghost use Rattle.postcard_wire.specs.declared.error.Error.TheVariants.{OutOfMemory};
-ghost use Rattle.postcard_cli.specs.Message.{StandsFor};
-ghost use Rattle.postcard_cli.specs.Refusal.{HexFails, InputFails};
+ghost use Rattle.postcard_cli.specs.{Appends, Consumes, HexFails, InputFails, IsAtEnd, OutOfMemory};
+ghost use Rattle.postcard_cli.specs.{StandsFor, decode_of, encode_lower};
 
 use crate::failure::Failure;
 use crate::limits::{CHUNK, READS};

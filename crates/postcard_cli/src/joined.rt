@@ -1,7 +1,6 @@
 //! The text of a list of numbers, as `dec` prints it: [`Joined`].
 
-ghost use Rattle.std.specs.Prelude.{codes, map};
-ghost use Rattle.postcard_dyn_text.specs.Shown.{joined};
+ghost use Rattle.postcard_cli.specs.{codes, joined, map};
 
 use std::fmt;
 

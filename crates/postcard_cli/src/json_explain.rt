@@ -1,15 +1,12 @@
 //! The command `explain --json`, which prints which bytes of a message are which part of its value, as
 //! lines of JSON.
 
-ghost use Rattle.std.specs.Prelude.{◌≡◌, ◌⊎◌, ◌++◌, ◌∷◌, ◌-◌, ◌<◌, ◌≤◌, [], ℕ, IfOk, IfErr, OnOk, codes};
-ghost use Rattle.std.specs.Prelude.{List, get_or, length, string_bytes, take};
-ghost use Rattle.postcard_wire.specs.declared.error.Error.TheVariants.{OutOfMemory, WontImplement};
-ghost use Rattle.postcard_cli.specs.Explain.{expected_text};
-ghost use Rattle.postcard_cli.specs.JsonExplain.{IsMembers, PrintsExplainedJson, PrintsJsonRow};
-ghost use Rattle.postcard_cli.specs.JsonExplain.{PrintsJsonRows, entered, error_member, labelled};
-ghost use Rattle.postcard_cli.specs.JsonExplain.{path_in, row_end};
-ghost use Rattle.postcard_cli.specs.Refusal.{ExplainJsonFails};
-ghost use Rattle.postcard_cli.specs.declared.json_explain.Open.{Open};
+ghost use Rattle.std.specs.Prelude.{◌≡◌, ◌⊎◌, ◌++◌, ◌∷◌, ◌-◌, ◌<◌, ◌≤◌, [], ℕ, IfOk, IfErr, OnOk};
+ghost use Rattle.std.specs.Prelude.{codes, get_or, length, string_bytes, take};
+ghost use Rattle.postcard_cli.specs.{ExplainJsonFails, IsMembers, Open, OutOfMemory};
+ghost use Rattle.postcard_cli.specs.{PrintsExplainedJson, PrintsJsonRow, PrintsJsonRows};
+ghost use Rattle.postcard_cli.specs.{WontImplement, entered, error_member, expected_text, labelled};
+ghost use Rattle.postcard_cli.specs.{path_in, row_end};
 
 use crate::explain::words_of;
 use crate::failure::Failure;
@@ -76,7 +73,7 @@ fn print_lines<W: Write>(
 ) -> Result<(), Failure>
     ensures printed { OnOk result (PrintsJsonRows error.now 0 [] lines.now.items
         (W.contents output.old) (W.contents output.new)) }
-    ensures refused { IfErr result (λ e. (e ≡ Failure.Output)
+    ensures only_output_out_of_memory_or_wont_implement { IfErr result (λ e. (e ≡ Failure.Output)
         ⊎ ((e ≡ Failure.Library OutOfMemory) ⊎ (e ≡ Failure.Library WontImplement))) }
 {
     let mut around = Vec::new(alloc);
@@ -122,7 +119,7 @@ fn count_around(around: &[Open], depth: usize) -> usize
 fn path_of(alloc: Global, around: &[Open], line: &Line<'_>) -> Result<String, Failure>
     ensures path { IfOk result (λ path. string_bytes path
         ≡ labelled (path_in around.now line.now.depth) line.now.label) }
-    ensures refused { IfErr result (λ e. e ≡ Failure.Library OutOfMemory) }
+    ensures only_out_of_memory { IfErr result (λ e. e ≡ Failure.Library OutOfMemory) }
 {
     let mut path = String::from_str(alloc, innermost(around, line.depth))?;
     push_label(line.label, &mut path)?;
@@ -143,7 +140,7 @@ fn innermost(around: &[Open], depth: usize) -> &str
 fn push_label(label: Label<'_>, path: &mut String) -> Result<(), Failure>
     ensures added { OnOk result
         (string_bytes path.new ≡ labelled (string_bytes path.old) label.entry) }
-    ensures refused { IfErr result (λ e. e ≡ Failure.Library OutOfMemory) }
+    ensures only_out_of_memory { IfErr result (λ e. e ≡ Failure.Library OutOfMemory) }
 {
     match label {
         Label::Whole => Ok(()),
@@ -168,7 +165,7 @@ fn enter(around: &mut Vec<Open>, line: &Line<'_>, path: String) -> Result<(), Fa
     ensures added { OnOk result ((part : Open) × (around.new.items ≡ around.old.items ++ part ∷ [])
         × (part.depth ≡ line.now.depth)
         × (string_bytes part.path ≡ entered (string_bytes path) line.now.kind)) }
-    ensures refused { IfErr result (λ e. e ≡ Failure.Library OutOfMemory) }
+    ensures only_out_of_memory { IfErr result (λ e. e ≡ Failure.Library OutOfMemory) }
 {
     let path = inner_path(path, &line.kind)?;
     around.push(Open {
@@ -182,7 +179,7 @@ fn enter(around: &mut Vec<Open>, line: &Line<'_>, path: String) -> Result<(), Fa
 fn inner_path(path: String, kind: &LineKind<'_>) -> Result<String, Failure>
     ensures path { IfOk result
         (λ inner. string_bytes inner ≡ entered (string_bytes path) kind.now) }
-    ensures refused { IfErr result (λ e. e ≡ Failure.Library OutOfMemory) }
+    ensures only_out_of_memory { IfErr result (λ e. e ≡ Failure.Library OutOfMemory) }
 {
     match kind {
         LineKind::Variant(_, name) => {
@@ -207,7 +204,7 @@ fn print_row<W: Write>(
 ) -> Result<(), Failure>
     ensures printed { OnOk result (PrintsJsonRow error.now at path.now line.now
         (W.contents output.old) (W.contents output.new)) }
-    ensures refused { IfErr result (λ e. (e ≡ Failure.Output)
+    ensures only_output_out_of_memory_or_wont_implement { IfErr result (λ e. (e ≡ Failure.Output)
         ⊎ ((e ≡ Failure.Library OutOfMemory) ⊎ (e ≡ Failure.Library WontImplement))) }
 {
     let field = field_of(alloc, path)?;
@@ -223,8 +220,8 @@ fn print_row<W: Write>(
 fn members_of(alloc: Global, error: &Option<Error>, kind: &LineKind<'_>) -> Result<String, Failure>
     ensures told { IfOk result
         (λ members. IsMembers error.now kind.now (string_bytes members)) }
-    ensures refused { IfErr result (λ e. (e ≡ Failure.Library OutOfMemory)
-        ⊎ (e ≡ Failure.Library WontImplement)) }
+    ensures only_out_of_memory_or_wont_implement { IfErr result
+        (λ e. (e ≡ Failure.Library OutOfMemory) ⊎ (e ≡ Failure.Library WontImplement)) }
 {
     match kind {
         LineKind::Value(schema, value) => {
@@ -254,7 +251,7 @@ fn expected_members(
 ) -> Result<String, Failure>
     ensures told { IfOk result (λ members. string_bytes members ≡ error_member error.now
         ++ (codes ",\"expected\":\"" ++ (expected_text expected ++ codes "\""))) }
-    ensures refused { IfErr result (λ e. e ≡ Failure.Library OutOfMemory) }
+    ensures only_out_of_memory { IfErr result (λ e. e ≡ Failure.Library OutOfMemory) }
 {
     let words = words_of(expected);
     match error {

@@ -1,16 +1,12 @@
 //! The commands `enc`, `dec` and `decs` with `--json`.
 
 ghost use Rattle.std.specs.Prelude.{◌≡◌, ◌-◌, ◌⊎◌, [], IfOk, IfErr, OnOk, length, string_bytes};
-ghost use Rattle.std.specs.Io.KnownBytes.{Appends};
-ghost use Rattle.json.specs.Print.{quoted};
-ghost use Rattle.postcard_wire.specs.declared.error.Error.TheVariants.{OutOfMemory, WontImplement};
+ghost use Rattle.postcard_cli.specs.{Appends, DecodeAllJsonFails, DecodeJsonFails, EncodeJsonFails};
+ghost use Rattle.postcard_cli.specs.{IsJsonEncoding, IsJsonOf, JsonFrontFails, JsonLineFails};
+ghost use Rattle.postcard_cli.specs.{OutOfMemory, PrintsAllJson, PrintsEncodedJson};
+ghost use Rattle.postcard_cli.specs.{PrintsFirstJson, PrintsJsonLine, ReadsValue, WontImplement};
+ghost use Rattle.postcard_cli.specs.{field_text, quoted, refusal_text, rest_text};
 ghost use Rattle.postcard_dyn.specs.declared.value.Value.{Value};
-ghost use Rattle.postcard_cli.specs.JsonMessage.{IsJsonEncoding, PrintsAllJson, PrintsEncodedJson};
-ghost use Rattle.postcard_cli.specs.JsonMessage.{IsJsonOf, PrintsFirstJson, PrintsJsonLine};
-ghost use Rattle.postcard_cli.specs.JsonMessage.{field_text, refusal_text, rest_text};
-ghost use Rattle.postcard_cli.specs.Message.{ReadsValue};
-ghost use Rattle.postcard_cli.specs.Refusal.{DecodeAllJsonFails, DecodeJsonFails, EncodeJsonFails};
-ghost use Rattle.postcard_cli.specs.Refusal.{JsonFrontFails, JsonLineFails};
 
 use crate::failure::Failure;
 use crate::hexadecimal;
@@ -201,7 +197,8 @@ fn print_refused<W: Write>(
 ) -> Result<(), Failure>
     ensures printed { OnOk result (Appends (W.contents output.old) (W.contents output.new)
         (refusal_text offset error.now path.now)) }
-    ensures refused { IfErr result (λ e. (e ≡ Failure.Output) ⊎ (e ≡ Failure.Library OutOfMemory)) }
+    ensures only_output_or_out_of_memory { IfErr result
+        (λ e. (e ≡ Failure.Output) ⊎ (e ≡ Failure.Library OutOfMemory)) }
 {
     let why = reason(error);
     let field = field_of(alloc, path)?;
@@ -242,8 +239,8 @@ pub fn print_line<W: Write>(
 ) -> Result<(), Failure>
     ensures printed { OnOk result (PrintsJsonLine schema.now at value.now rest.now
         (W.contents output.old) (W.contents output.new)) }
-    ensures refused { IfErr result (λ e. (e ≡ Failure.Output) ⊎ ((e ≡ Failure.Library OutOfMemory)
-        ⊎ (e ≡ Failure.Library WontImplement))) }
+    ensures only_output_out_of_memory_or_wont_implement { IfErr result (λ e. (e ≡ Failure.Output)
+        ⊎ ((e ≡ Failure.Library OutOfMemory) ⊎ (e ≡ Failure.Library WontImplement))) }
 {
     let text = text_of(alloc, schema, value)?;
     write!(output, "{{\"at\":{at},\"value\":{text}")?;
@@ -255,8 +252,8 @@ pub fn print_line<W: Write>(
 /// Returns the JSON of a value.
 pub fn text_of(alloc: Global, schema: &Schema, value: &Value) -> Result<String, Failure>
     ensures text { IfOk result (λ text. IsJsonOf schema.now value.now (string_bytes text)) }
-    ensures refused { IfErr result (λ e. (e ≡ Failure.Library OutOfMemory)
-        ⊎ (e ≡ Failure.Library WontImplement)) }
+    ensures only_out_of_memory_or_wont_implement { IfErr result
+        (λ e. (e ≡ Failure.Library OutOfMemory) ⊎ (e ≡ Failure.Library WontImplement)) }
 {
     let Some(json) = to_json(alloc, schema, value)? else {
         return Err(Failure::from(Error::WontImplement));
@@ -268,7 +265,7 @@ pub fn text_of(alloc: Global, schema: &Schema, value: &Value) -> Result<String, 
 fn print_rest<W: Write>(rest: &[u8], output: &mut W) -> Result<(), Failure>
     ensures printed { OnOk result (Appends (W.contents output.old) (W.contents output.new)
         (rest_text rest.now)) }
-    ensures refused { IfErr result (λ e. e ≡ Failure.Output) }
+    ensures only_output { IfErr result (λ e. e ≡ Failure.Output) }
 {
     if rest.is_empty() {
         return Ok(());

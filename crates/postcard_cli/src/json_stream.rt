@@ -1,10 +1,8 @@
 //! The lines that `frames --json` prints, one for each frame of a stream.
 
 ghost use Rattle.std.specs.Prelude.{◌≡◌, ◌⊎◌, IfErr, OnOk, codes};
-ghost use Rattle.std.specs.Io.KnownBytes.{Appends};
-ghost use Rattle.postcard_wire.specs.declared.error.Error.TheVariants.{WontImplement};
-ghost use Rattle.postcard_cli.specs.JsonMessage.{PrintsJsonLine, failed_line, field_text};
-ghost use Rattle.postcard_cli.specs.Reason.{reason_text};
+ghost use Rattle.postcard_cli.specs.{Appends, PrintsJsonLine, WontImplement, failed_line};
+ghost use Rattle.postcard_cli.specs.{field_text, reason_text};
 
 use crate::failure::Failure;
 use crate::hexadecimal;
@@ -28,8 +26,8 @@ pub fn print_value<W: Write>(
 ) -> Result<(), Failure>
     ensures printed { OnOk result (PrintsJsonLine schema.now start value.now rest.now
         (W.contents output.old) (W.contents output.new)) }
-    ensures refused { IfErr result (λ e. (e ≡ Failure.Output) ⊎ ((e ≡ Failure.OutOfMemory)
-        ⊎ (e ≡ Failure.Library WontImplement))) }
+    ensures only_output_out_of_memory_or_wont_implement { IfErr result (λ e. (e ≡ Failure.Output)
+        ⊎ ((e ≡ Failure.OutOfMemory) ⊎ (e ≡ Failure.Library WontImplement))) }
 {
     match print_line(alloc, schema, value, start, rest, output) {
         Err(Failure::Library(Error::OutOfMemory)) => Err(Failure::OutOfMemory),
@@ -51,7 +49,8 @@ pub fn print_refused<W: Write>(
     ensures printed { OnOk result (Appends (W.contents output.old) (W.contents output.new)
         (failed_line start (reason_text error.now) (field_text path.now) (codes "data")
         message.now)) }
-    ensures refused { IfErr result (λ e. (e ≡ Failure.Output) ⊎ (e ≡ Failure.OutOfMemory)) }
+    ensures only_output_or_out_of_memory { IfErr result
+        (λ e. (e ≡ Failure.Output) ⊎ (e ≡ Failure.OutOfMemory)) }
 {
     let Ok(field) = field_of(alloc, path) else {
         return Err(Failure::OutOfMemory);
@@ -71,7 +70,7 @@ pub fn print_error<W: Write>(
 ) -> Result<(), Failure>
     ensures printed { OnOk result (Appends (W.contents output.old) (W.contents output.new)
         (failed_line start why.now field.now name.now bytes.now)) }
-    ensures refused { IfErr result (λ e. e ≡ Failure.Output) }
+    ensures only_output { IfErr result (λ e. e ≡ Failure.Output) }
 {
     write!(
         output,

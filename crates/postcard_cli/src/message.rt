@@ -2,21 +2,16 @@
 //! or `--crc`.
 
 ghost use Rattle.std.specs.Prelude.{◌≡◌, ◌≤◌, ◌-◌, IfOk, IfErr, OnOk, length, take, true};
-ghost use Rattle.std.specs.Io.KnownBytes.{Appends};
-ghost use Rattle.postcard_dyn_schema.specs.Grammar.{IsExpression};
-ghost use Rattle.postcard_dyn_schema.specs.Meaning.{has_bytes, type_of};
+ghost use Rattle.postcard_cli.specs.{Appends, DecodeAllFails, DecodeAllRawFails};
+ghost use Rattle.postcard_cli.specs.{DecodeCheckedFails, DecodeFails, DecodeRawFails, EachFails};
+ghost use Rattle.postcard_cli.specs.{EncodeCheckedFails, EncodeFails, FrontFails, IsEncoding};
+ghost use Rattle.postcard_cli.specs.{IsExpression, IsTrailer, Prints, PrintsAll, PrintsAllRaw};
+ghost use Rattle.postcard_cli.specs.{PrintsEach, PrintsEncoded, PrintsEncodedChecked};
+ghost use Rattle.postcard_cli.specs.{PrintsEncodedRaw, PrintsFirst, PrintsFirstChecked};
+ghost use Rattle.postcard_cli.specs.{PrintsFirstRaw, PrintsFront, ReadsValue, RecordTypeFails};
+ghost use Rattle.postcard_cli.specs.{TrailerFails, TypeFails, has_bytes, hint_text, line_of};
+ghost use Rattle.postcard_cli.specs.{refused_text, type_of};
 ghost use Rattle.postcard_dyn.specs.declared.value.Value.{Value};
-ghost use Rattle.postcard_cli.specs.Checked.{IsEncoding, PrintsEncodedChecked, PrintsEncodedRaw};
-ghost use Rattle.postcard_cli.specs.Checked.{PrintsFirstChecked};
-ghost use Rattle.postcard_cli.specs.Checksum.{IsTrailer};
-ghost use Rattle.postcard_cli.specs.Message.{line_of, Prints, PrintsAll, PrintsAllRaw, PrintsEach};
-ghost use Rattle.postcard_cli.specs.Message.{PrintsEncoded, PrintsFirst, PrintsFirstRaw};
-ghost use Rattle.postcard_cli.specs.Message.{PrintsFront, ReadsValue};
-ghost use Rattle.postcard_cli.specs.Refusal.{DecodeAllFails, DecodeFails, EncodeFails, FrontFails};
-ghost use Rattle.postcard_cli.specs.Refusal.{DecodeCheckedFails, EncodeCheckedFails, TrailerFails};
-ghost use Rattle.postcard_cli.specs.Refusal.{DecodeAllRawFails, DecodeRawFails, EachFails};
-ghost use Rattle.postcard_cli.specs.Refusal.{RecordTypeFails, TypeFails, hint_text};
-ghost use Rattle.postcard_cli.specs.Stream.{refused_text};
 
 use crate::checksum::Checksum;
 use crate::failure::Failure;
@@ -423,7 +418,7 @@ pub fn print_refused<W: Write>(
 ) -> Result<(), Failure>
     ensures printed { OnOk result (Appends (W.contents output.old) (W.contents output.new)
         (refused_text offset place.now error.now)) }
-    ensures refused { IfErr result (λ e. e ≡ Failure.Output) }
+    ensures only_output { IfErr result (λ e. e ≡ Failure.Output) }
 {
     let why = reason(error);
     write!(output, "at byte {offset}: {place}{why}")?;
@@ -434,7 +429,7 @@ pub fn print_refused<W: Write>(
 pub fn print_value<W: Write>(schema: &Schema, value: &Value, output: &mut W) -> Result<(), Failure>
     ensures printed { OnOk result (Prints (line_of schema.now value.now)
         (W.contents output.old) (W.contents output.new)) }
-    ensures refused { IfErr result (λ e. e ≡ Failure.Output) }
+    ensures only_output { IfErr result (λ e. e ≡ Failure.Output) }
 {
     let shown = Shown { schema, value };
     writeln!(output, "{shown}")?;

@@ -3,16 +3,13 @@
 
 ghost use Rattle.std.specs.Prelude.{◌≡◌, ◌==◌, ◌≤◌, ◌+◌, ◌⊎◌, ℕ, List, length, take, true, not};
 ghost use Rattle.std.specs.Prelude.{IfOk, IfErr};
-ghost use Rattle.std.specs.List.{list_all, position};
-ghost use Rattle.std.specs.Char.{is_ascii_hexdigit, is_ascii_whitespace};
-ghost use Rattle.postcard_wire.specs.declared.error.Error.TheVariants.{OutOfMemory};
-ghost use Rattle.postcard_dyn_schema.specs.Text.{characters};
-ghost use Rattle.postcard_cli.specs.Hexadecimal.{AreBytesOf, IsLine, IsWord, IsWrongAt, IsWrongHex};
-ghost use Rattle.postcard_cli.specs.Hexadecimal.{IsWrongLine, IsWrongWord, SpellsBytes};
-ghost use Rattle.postcard_cli.specs.Hexadecimal.{begins_blank, begins_with_byte};
-ghost use Rattle.postcard_cli.specs.Hexadecimal.{begins_with_digits, column_of, digits_of, is_dump};
-ghost use Rattle.postcard_cli.specs.Hexadecimal.{is_lone_offset, is_of_hexdump, is_of_xxd};
-ghost use Rattle.postcard_cli.specs.Hexadecimal.{is_separator, start_of, up_to, words_of, wrong_digit};
+ghost use Rattle.postcard_cli.specs.{AreBytesOf, IsLine, IsWord, IsWrongAt, IsWrongHex};
+ghost use Rattle.postcard_cli.specs.{IsWrongLine, IsWrongWord, OutOfMemory, SpellsBytes};
+ghost use Rattle.postcard_cli.specs.{begins_blank, begins_with_byte, begins_with_digits};
+ghost use Rattle.postcard_cli.specs.{characters, column_of, digits_of, is_ascii_hexdigit};
+ghost use Rattle.postcard_cli.specs.{is_ascii_whitespace, is_dump, is_lone_offset, is_of_hexdump};
+ghost use Rattle.postcard_cli.specs.{is_of_xxd, is_separator, list_all, position, start_of, up_to};
+ghost use Rattle.postcard_cli.specs.{words_of, wrong_digit};
 
 use crate::failure::Failure;
 use crate::hexadecimal;

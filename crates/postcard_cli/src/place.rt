@@ -1,14 +1,10 @@
 //! The place in a value where reading fails, as a path of names and numbers: [`place_of`]. Each
 //! function fails with `OutOfMemory` if an allocation fails, and with nothing else.
 
-ghost use Rattle.std.specs.Prelude.{◌≡◌, ◌⊎◌, List, ℕ, ◌++◌, Box, string_bytes, IfOk, IfErr, OnOk};
-ghost use Rattle.std.specs.declared.alloc.Global.{Global};
-ghost use Rattle.postcard_dyn_schema.specs.Meaning.{type_of};
-ghost use Rattle.postcard_dyn_schema.specs.declared.schema.Schema.{Schema};
+ghost use Rattle.std.specs.Prelude.{◌≡◌, ◌⊎◌, List, ℕ, Box, string_bytes, IfOk, IfErr, OnOk};
+ghost use Rattle.postcard_cli.specs.{Global, HasNoFront, HasNoRow, IsPartPath, IsPathOf, Schema};
+ghost use Rattle.postcard_cli.specs.{StopsAt, StopsInRow, dotted, place_text, type_of};
 ghost use Rattle.postcard_dyn_schema.specs.declared.schema.Schema.TheVariants as schemas;
-ghost use Rattle.postcard_dyn.specs.Explained.{HasNoFront};
-ghost use Rattle.postcard_cli.specs.Place.{HasNoRow, IsPartPath, IsPathOf, StopsAt, StopsInRow};
-ghost use Rattle.postcard_cli.specs.Place.{dotted, place_text};
 
 use postcard_dyn::{Schema, take_from_bytes};
 use postcard_wire::{Error, Result};
@@ -26,7 +22,7 @@ use std::alloc::Global;
 pub fn place_of(alloc: Global, schema: &Schema, message: &[u8]) -> Result<String>
     ensures named { IfOk result (λ place. HasNoFront schema.now message.now → (path : List ℕ)
         × IsPathOf schema.now message.now path × (string_bytes place ≡ place_text path)) }
-    ensures refused { IfErr result (λ e. e ≡ Error.OutOfMemory) }
+    ensures only_out_of_memory { IfErr result (λ e. e ≡ Error.OutOfMemory) }
 {
     let mut path = path_of(alloc, schema, message)?;
     if !path.is_empty() {
@@ -39,7 +35,7 @@ pub fn place_of(alloc: Global, schema: &Schema, message: &[u8]) -> Result<String
 pub fn path_of(alloc: Global, schema: &Schema, message: &[u8]) -> Result<String>
     ensures named { IfOk result (λ path. HasNoFront schema.now message.now
         → IsPathOf schema.now message.now (string_bytes path)) }
-    ensures refused { IfErr result (λ e. e ≡ Error.OutOfMemory) }
+    ensures only_out_of_memory { IfErr result (λ e. e ≡ Error.OutOfMemory) }
 {
     let mut path = String::new(alloc);
     push_path(alloc, schema, message, &mut path)?;
@@ -49,7 +45,7 @@ pub fn path_of(alloc: Global, schema: &Schema, message: &[u8]) -> Result<String>
 /// Appends a `.`, unless the path is empty.
 pub fn push_dot(path: &mut String) -> Result<()>
     ensures added { OnOk result (string_bytes path.new ≡ dotted (string_bytes path.old)) }
-    ensures refused { IfErr result (λ e. e ≡ Error.OutOfMemory) }
+    ensures only_out_of_memory { IfErr result (λ e. e ≡ Error.OutOfMemory) }
 {
     if !path.is_empty() {
         path.push_str(".")?;
@@ -61,7 +57,7 @@ pub fn push_dot(path: &mut String) -> Result<()>
 fn push_path(alloc: Global, schema: &Schema, bytes: &[u8], path: &mut String) -> Result<()>
     ensures stops { OnOk result (HasNoFront schema.now bytes.now
         → StopsAt schema.now bytes.now (string_bytes path.old) (string_bytes path.new)) }
-    ensures refused { IfErr result (λ e. e ≡ Error.OutOfMemory) }
+    ensures only_out_of_memory { IfErr result (λ e. e ≡ Error.OutOfMemory) }
 {
     match schema {
         Schema::Leaf(_) => Ok(()),
@@ -87,7 +83,7 @@ fn push_in_option(alloc: Global, content: &Schema, bytes: &[u8], path: &mut Stri
     ensures stops { (s : Schema) (held : Box Schema Global) → s ≡ schemas.Option held
         → held.value ≡ content.now → OnOk result (HasNoFront s bytes.now
         → StopsAt s bytes.now (string_bytes path.old) (string_bytes path.new)) }
-    ensures refused { IfErr result (λ e. e ≡ Error.OutOfMemory) }
+    ensures only_out_of_memory { IfErr result (λ e. e ≡ Error.OutOfMemory) }
 {
     let Some((first, rest)) = bytes.split_first() else {
         return Ok(());
@@ -105,7 +101,7 @@ fn push_in_list(alloc: Global, element: &Schema, bytes: &[u8], path: &mut String
         → (s ≡ schemas.Seq held) ⊎ (s ≡ schemas.Map held) → held.value ≡ element.now
         → OnOk result (HasNoFront s bytes.now
         → StopsAt s bytes.now (string_bytes path.old) (string_bytes path.new)) }
-    ensures refused { IfErr result (λ e. e ≡ Error.OutOfMemory) }
+    ensures only_out_of_memory { IfErr result (λ e. e ≡ Error.OutOfMemory) }
 {
     match postcard_de::take_from_bytes::<u64>(alloc, bytes) {
         Ok((count, rest)) => push_in_elements(alloc, element, count, rest, path),
@@ -124,7 +120,7 @@ fn push_in_elements(
 ) -> Result<()>
     ensures stops { OnOk result (HasNoRow (type_of element.now) count bytes.now
         → StopsInRow element.now count bytes.now (string_bytes path.old) (string_bytes path.new)) }
-    ensures refused { IfErr result (λ e. e ≡ Error.OutOfMemory) }
+    ensures only_out_of_memory { IfErr result (λ e. e ≡ Error.OutOfMemory) }
 {
     let mut rest = bytes;
     for i in 0..count {
@@ -148,7 +144,7 @@ fn push_in_group(alloc: Global, parts: &Vec<Schema>, bytes: &[u8], path: &mut St
     ensures stops { (s : Schema) → s ≡ schemas.Group parts.now
         → OnOk result (HasNoFront s bytes.now
         → StopsAt s bytes.now (string_bytes path.old) (string_bytes path.new)) }
-    ensures refused { IfErr result (λ e. e ≡ Error.OutOfMemory) }
+    ensures only_out_of_memory { IfErr result (λ e. e ≡ Error.OutOfMemory) }
 {
     let mut rest = bytes;
     for (i, part) in parts.iter().enumerate() {
@@ -170,7 +166,7 @@ fn push_in_group(alloc: Global, parts: &Vec<Schema>, bytes: &[u8], path: &mut St
 fn push_number(part: &Schema, number: usize, path: &mut String) -> Result<()>
     ensures added { OnOk result
         (IsPartPath (string_bytes path.old) number part.now (string_bytes path.new)) }
-    ensures refused { IfErr result (λ e. e ≡ Error.OutOfMemory) }
+    ensures only_out_of_memory { IfErr result (λ e. e ≡ Error.OutOfMemory) }
 {
     match part {
         Schema::Named(_, _) => Ok(()),
@@ -193,7 +189,7 @@ fn push_in_variant(
     ensures stops { (s : Schema) → s ≡ schemas.Enum variants.now
         → OnOk result (HasNoFront s bytes.now
         → StopsAt s bytes.now (string_bytes path.old) (string_bytes path.new)) }
-    ensures refused { IfErr result (λ e. e ≡ Error.OutOfMemory) }
+    ensures only_out_of_memory { IfErr result (λ e. e ≡ Error.OutOfMemory) }
 {
     match postcard_de::take_from_bytes::<u32>(alloc, bytes) {
         Ok((index, rest)) => match variants.get(index as usize) {

@@ -1,33 +1,13 @@
 //! The work of the program: from the words of a call to its output and exit status. [`Failure`]
 //! says when a call fails.
 
-ghost use Rattle.std.specs.Prelude.{◌≡◌, ◌≢◌, ◌≤◌, ◌⊎◌, ◌↔◌, ℕ, List, [], ◌∷◌, ◌++◌, map};
-ghost use Rattle.std.specs.Prelude.{string_bytes, IfSome, IfErr, OnOk, IsErrOf};
-ghost use Rattle.std.specs.Io.KnownBytes.{Appends};
-ghost use Rattle.hex.specs.Hex.{encode_lower};
-ghost use Rattle.postcard_wire.specs.Spelling.{canonical};
-ghost use Rattle.postcard_cli.specs.Command.{IsNoCall};
-ghost use Rattle.postcard_cli.specs.Failure.{AnswersFailure};
-ghost use Rattle.postcard_cli.specs.Refusal.{
-  Answers,
-  CallFails,
-  CommandFails,
-  Converts,
-  DecodeWordFails,
-  EncodeWordFails,
-  PrintingFails,
-  Reports,
-};
-ghost use Rattle.postcard_cli.specs.Program.{
-  Performs,
-  PrintsCall,
-  PrintsDecode,
-  PrintsEncode,
-  form_of,
-  list_of,
-  one_word,
-  whole_word,
-};
+ghost use Rattle.std.specs.Prelude.{◌≡◌, ◌≤◌, ◌↔◌, [], ◌∷◌, ◌++◌, map, string_bytes, IfSome, IfErr};
+ghost use Rattle.std.specs.Prelude.{OnOk, IsErrOf};
+ghost use Rattle.postcard_cli.specs.{Answers, AnswersFailure, Appends, CallFails, CommandFails};
+ghost use Rattle.postcard_cli.specs.{Converts, DecodeWordFails, EncodeWordFails, IsNoCall};
+ghost use Rattle.postcard_cli.specs.{Performs, PrintingFails, PrintsCall, PrintsDecode};
+ghost use Rattle.postcard_cli.specs.{PrintsEncode, Reports, canonical, encode_lower, form_of};
+ghost use Rattle.postcard_cli.specs.{list_of, one_word, whole_word};
 
 use crate::command::{Command, TypeWord, ValueType};
 use crate::failure::Failure;
@@ -278,7 +258,7 @@ fn convert<W: Write>(
     }
 }
 
-/// Encodes or decodes a value that is one word: a number, a bool or a character.
+/// Encodes or decodes a value that is one word: a number, a `bool` or a character.
 fn convert_scalar<'a, T, W: Write>(
     alloc: Global,
     task: Task<'a>,
@@ -358,7 +338,7 @@ fn print_decoded<D: Display + Drop, W: Write>(
     ensures printed { OnOk result (IfSome (D.output value)
         (λ text. Appends (W.contents output.old) (W.contents output.new)
         (text ++ 10 ∷ encode_lower rest.now ++ 10 ∷ []))) }
-    ensures refused { IfErr result (λ e. e ≡ Failure.Output) }
+    ensures only_output { IfErr result (λ e. e ≡ Failure.Output) }
 {
     writeln!(output, "{value}")?;
     hexadecimal::write(rest, output)?;

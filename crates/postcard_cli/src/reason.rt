@@ -1,7 +1,7 @@
 //! Why a message is refused, in a few words.
 
 ghost use Rattle.std.specs.Prelude.{◌≡◌};
-ghost use Rattle.postcard_cli.specs.Reason.{reason_text};
+ghost use Rattle.postcard_cli.specs.{reason_text};
 
 use postcard_wire::Error;
 

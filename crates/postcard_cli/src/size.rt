@@ -2,10 +2,8 @@
 
 ghost use Rattle.std.specs.Prelude.{◌≡◌, ◌++◌, ◌∷◌, [], ◌≤◌, ◌^◌, IfErr, OnOk, Some, map};
 ghost use Rattle.std.specs.Prelude.{string_bytes};
-ghost use Rattle.std.specs.Io.KnownBytes.{Appends};
-ghost use Rattle.postcard_cli.specs.Refusal.{TypeFails};
-ghost use Rattle.postcard_cli.specs.Size.{PrintsSize, bounded_text, endless_text, least_number};
-ghost use Rattle.postcard_cli.specs.Size.{others_text, part_text, parts_text, span_text};
+ghost use Rattle.postcard_cli.specs.{Appends, PrintsSize, TypeFails, bounded_text, endless_text};
+ghost use Rattle.postcard_cli.specs.{least_number, others_text, part_text, parts_text, span_text};
 
 use crate::failure::Failure;
 use crate::message::schema_of;
@@ -41,7 +39,7 @@ fn print_bounded<W: Write>(
 ) -> Result<(), Failure>
     ensures printed { OnOk result (Appends (W.contents output.old) (W.contents output.new)
         (bounded_text (least_number least) greatest ++ 10 ∷ [])) }
-    ensures refused { IfErr result (λ e. e ≡ Failure.Output) }
+    ensures only_output { IfErr result (λ e. e ≡ Failure.Output) }
 {
     let least = number_of(least);
     let greatest = greatest as u128;
@@ -85,7 +83,7 @@ fn print_endless<W: Write>(
 ) -> Result<(), Failure>
     ensures printed { OnOk result (Appends (W.contents output.old) (W.contents output.new)
         (endless_text (least_number least) (map string_bytes parts.now) ++ 10 ∷ [])) }
-    ensures refused { IfErr result (λ e. e ≡ Failure.Output) }
+    ensures only_output { IfErr result (λ e. e ≡ Failure.Output) }
 {
     let least = number_of(least);
     write!(output, "bytes: at least {least}, no greatest number")?;
@@ -98,7 +96,7 @@ fn print_endless<W: Write>(
 fn print_parts<W: Write>(parts: &[String], output: &mut W) -> Result<(), Failure>
     ensures printed { OnOk result (Appends (W.contents output.old) (W.contents output.new)
         (parts_text (map string_bytes parts.now))) }
-    ensures refused { IfErr result (λ e. e ≡ Failure.Output) }
+    ensures only_output { IfErr result (λ e. e ≡ Failure.Output) }
 {
     let Some((first, others)) = parts.split_first() else {
         output.write_all(b" below 2^64")?;
@@ -112,7 +110,7 @@ fn print_parts<W: Write>(parts: &[String], output: &mut W) -> Result<(), Failure
 fn print_others<W: Write>(parts: &[String], output: &mut W) -> Result<(), Failure>
     ensures printed { OnOk result (Appends (W.contents output.old) (W.contents output.new)
         (others_text (map string_bytes parts.now))) }
-    ensures refused { IfErr result (λ e. e ≡ Failure.Output) }
+    ensures only_output { IfErr result (λ e. e ≡ Failure.Output) }
 {
     for part in parts {
         output.write_all(b", ")?;

@@ -3,23 +3,14 @@
 
 ghost use Rattle.std.specs.Prelude.{◌≡◌, ◌+◌, ◌-◌, ◌^◌, ◌<◌, ◌≤◌, ℕ, List, [], ◌∷◌, ◌++◌, length};
 ghost use Rattle.std.specs.Prelude.{Some, IfOk, IfErr, IfSome, IfNone, OnOk, false, min, take};
+ghost use Rattle.postcard_cli.specs.{Appends, Continues, Format, FramesHexFail, Groups, HasNoFront};
+ghost use Rattle.postcard_cli.specs.{IsBehind, IsNamed, IsPathOf, IsPlain, IsSame, LacksChecksum};
+ghost use Rattle.postcard_cli.specs.{LinesFail, NoZero, Prints, PrintsAnswer, PrintsAnswerLine};
+ghost use Rattle.postcard_cli.specs.{PrintsHexFrames, PrintsMessage, PrintsValues, ReadFails};
+ghost use Rattle.postcard_cli.specs.{Reads, StreamCheckedFails, StreamFails, ValuesFail, damaged};
+ghost use Rattle.postcard_cli.specs.{error_line, layout_of, more_text, noun_of, overfull, refused};
+ghost use Rattle.postcard_cli.specs.{text, tree, unchecked, value_answer};
 ghost use Rattle.std.specs.Fmt.{◌++?◌};
-ghost use Rattle.std.specs.Io.KnownBytes.{Appends};
-ghost use Rattle.postcard_cobs.specs.Groups.{Groups, NoZero};
-ghost use Rattle.postcard_dyn.specs.Explained.{HasNoFront};
-ghost use Rattle.postcard_dyn.specs.Tree.{tree};
-ghost use Rattle.postcard_dyn_text.specs.Shown.{layout_of, text};
-ghost use Rattle.postcard_cli.specs.Framed.{PrintsHexFrames};
-ghost use Rattle.postcard_cli.specs.Message.{Prints};
-ghost use Rattle.postcard_cli.specs.Place.{IsPathOf};
-ghost use Rattle.postcard_cli.specs.Receiving.{Continues, IsSame, LinesFail, PrintsAnswer};
-ghost use Rattle.postcard_cli.specs.Receiving.{PrintsMessage, ReadFails, Reads};
-ghost use Rattle.postcard_cli.specs.Refusal.{FramesHexFail, StreamCheckedFails, StreamFails};
-ghost use Rattle.postcard_cli.specs.Refusal.{ValuesFail};
-ghost use Rattle.postcard_cli.specs.Stream.{IsBehind, IsNamed, IsPlain, LacksChecksum, PrintsValues};
-ghost use Rattle.postcard_cli.specs.Stream.{PrintsAnswerLine, damaged, error_line, more_text, noun_of};
-ghost use Rattle.postcard_cli.specs.Stream.{overfull, refused, unchecked, value as value_answer};
-ghost use Rattle.postcard_cli.specs.declared.stream.Format.{Format};
 
 use crate::checksum::Checksum;
 use crate::failure::Failure;
@@ -368,7 +359,7 @@ impl Stream {
 fn print_overfull<W: Write>(format: &Format, start: u64, output: &mut W) -> Result<(), Failure>
     ensures printed { OnOk result (PrintsAnswerLine format.now start overfull
         (W.contents output.old) (W.contents output.new)) }
-    ensures refused { IfErr result (λ e. e ≡ Failure.Output) }
+    ensures only_output { IfErr result (λ e. e ≡ Failure.Output) }
 {
     match format.notation {
         Notation::Text => writeln!(output, "overfull at byte {start}")?,
@@ -446,7 +437,7 @@ fn print_damaged<W: Write>(
 ) -> Result<(), Failure>
     ensures printed { OnOk result (PrintsAnswerLine format.now start (damaged frame.now)
         (W.contents output.old) (W.contents output.new)) }
-    ensures refused { IfErr result (λ e. e ≡ Failure.Output) }
+    ensures only_output { IfErr result (λ e. e ≡ Failure.Output) }
 {
     let why = "no COBS frame";
     match format.notation {
@@ -507,7 +498,7 @@ fn print_unchecked<W: Write>(
 ) -> Result<(), Failure>
     ensures printed { OnOk result (PrintsAnswerLine format.now start (unchecked content.now)
         (W.contents output.old) (W.contents output.new)) }
-    ensures refused { IfErr result (λ e. e ≡ Failure.Output) }
+    ensures only_output { IfErr result (λ e. e ≡ Failure.Output) }
 {
     let why = "bad checksum";
     match format.notation {
@@ -581,7 +572,7 @@ pub fn print_value<W: Write>(
 ) -> Result<(), Failure>
     ensures printed { OnOk result (Prints (text (layout_of schema.now) (tree value.now)
         ++? Some (more_text rest.now ++ 10 ∷ [])) (W.contents output.old) (W.contents output.new)) }
-    ensures refused { IfErr result (λ e. e ≡ Failure.Output) }
+    ensures only_output { IfErr result (λ e. e ≡ Failure.Output) }
 {
     let shown = Shown { schema, value };
     write!(output, "{shown}")?;
@@ -599,7 +590,7 @@ fn print_short<W: Write>(
 ) -> Result<(), Failure>
     ensures printed { OnOk result (Prints (text (layout_of schema.now) (tree value.now)
         ++? Some (more_text rest.now ++ 10 ∷ [])) (W.contents output.old) (W.contents output.new)) }
-    ensures refused { IfErr result (λ e. e ≡ Failure.Output) }
+    ensures only_output { IfErr result (λ e. e ≡ Failure.Output) }
 {
     print_gathered(Shown { schema, value }, output)?;
     print_rest(rest, output)?;
@@ -613,7 +604,7 @@ fn print_short<W: Write>(
 fn print_gathered<W: Write>(shown: Shown<'_>, output: &mut W) -> Result<(), Failure>
     ensures printed { OnOk result (Prints (text (layout_of shown.entry.schema.now)
         (tree shown.entry.value.now)) (W.contents output.old) (W.contents output.new)) }
-    ensures refused { IfErr result (λ e. e ≡ Failure.Output) }
+    ensures only_output { IfErr result (λ e. e ≡ Failure.Output) }
 {
     let mut line = ArrayString::<LINE>::new();
     match fmt::Write::write_fmt(&mut line, shown) {
@@ -626,7 +617,7 @@ fn print_gathered<W: Write>(shown: Shown<'_>, output: &mut W) -> Result<(), Fail
 fn print_rest<W: Write>(rest: &[u8], output: &mut W) -> Result<(), Failure>
     ensures printed { OnOk result (Appends (W.contents output.old) (W.contents output.new)
         (more_text rest.now)) }
-    ensures refused { IfErr result (λ e. e ≡ Failure.Output) }
+    ensures only_output { IfErr result (λ e. e ≡ Failure.Output) }
 {
     if rest.is_empty() {
         return Ok(());
@@ -654,7 +645,7 @@ fn print_error<W: Write>(
 ) -> Result<(), Failure>
     ensures printed { OnOk result (Appends (W.contents output.old) (W.contents output.new)
         (error_line start place.now why.now bytes.now)) }
-    ensures refused { IfErr result (λ e. e ≡ Failure.Output) }
+    ensures only_output { IfErr result (λ e. e ≡ Failure.Output) }
 {
     write!(output, "error at byte {start}: {place}{why}: ")?;
     hexadecimal::write(bytes, output)?;

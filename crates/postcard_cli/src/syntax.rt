@@ -1,7 +1,7 @@
 //! The command `types`, which prints how a type expression is written.
 
 ghost use Rattle.std.specs.Prelude.{◌≡◌, IfErr, OnOk};
-ghost use Rattle.std.specs.Io.KnownBytes.{Appends};
+ghost use Rattle.postcard_cli.specs.{Appends};
 
 use crate::failure::Failure;
 use std::io::Write;
@@ -37,7 +37,7 @@ So (u8) is the expression u8. HEX may have blanks and 0x, and - reads it from th
 pub fn print<W: Write>(output: &mut W) -> Result<(), Failure>
     ensures printed { OnOk result (Appends (W.contents output.old) (W.contents output.new)
         SYNTAX.now) }
-    ensures refused { IfErr result (λ e. e ≡ Failure.Output) }
+    ensures only_output { IfErr result (λ e. e ≡ Failure.Output) }
 {
     output.write_all(SYNTAX.as_bytes())?;
     Ok(())

@@ -1,14 +1,14 @@
 //! Reading the word VALUE of `enc` where TYPE is a name, as `u32`, and no expression.
 
 ghost use Rattle.std.specs.Prelude.{IfOk, IfErr};
-ghost use Rattle.postcard_cli.specs.Value.{ReadsScalar, SayEach, RefusesList, parts};
+ghost use Rattle.postcard_cli.specs.{ReadsScalar, RefusesList, SayEach, parts};
 
 use crate::failure::Failure;
 use std::alloc::Global;
 use std::str::FromStr;
 
 /// Returns the value of a word by the type's `parse`: of a number, the decimal digits, which may
-/// have a `+` before them, or for a signed type a `-`; of a bool, `true` or `false`; of a `char`,
+/// have a `+` before them, or for a signed type a `-`; of a `bool`, `true` or `false`; of a `char`,
 /// one character. Fails with `BadValue` if the word is no value of the type.
 pub fn scalar<T: FromStr>(word: &str) -> Result<T, Failure>
 where

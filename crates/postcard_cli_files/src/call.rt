@@ -1,15 +1,9 @@
 //! The call of some words, in which TYPE may be the name of a type in a file.
 
-ghost use Rattle.std.specs.Prelude.{◌≡◌, ◌<◌, ◌≤◌, ℕ, List, length, map, string_bytes, Decides, IfSome, IfNone};
-ghost use Rattle.postcard_cli_files.specs.Call.{
-  AnswersNamed,
-  ComesAfterOptions,
-  IsTypeAt,
-  NamesType,
-  TakesType,
-  option_words,
-};
-ghost use Rattle.postcard_cli_files.specs.Fault.{Tells};
+ghost use Rattle.std.specs.Prelude.{◌≡◌, ◌<◌, ◌≤◌, ℕ, List, length, map, string_bytes, Decides};
+ghost use Rattle.std.specs.Prelude.{IfSome, IfNone};
+ghost use Rattle.postcard_cli_files.specs.{AnswersNamed, ComesAfterOptions, IsTypeAt, NamesType};
+ghost use Rattle.postcard_cli_files.specs.{TakesType, Tells, option_words};
 
 use crate::fault::TypeFault;
 use crate::files::Files;

@@ -1,7 +1,7 @@
 //! What is wrong with a file that a call names.
 
 ghost use Rattle.std.specs.Prelude.{◌≡◌, Some};
-ghost use Rattle.postcard_cli_files.specs.Fault.{fault_status, fault_text};
+ghost use Rattle.postcard_cli_files.specs.{fault_status, fault_text};
 
 use postcard_dyn_file::FileError;
 use std::fmt;

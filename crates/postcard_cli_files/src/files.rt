@@ -1,8 +1,7 @@
 //! The files that a call reads types from, or the bytes of messages.
 
 ghost use Rattle.std.specs.Prelude.{◌≡◌, ℕ, List, ⊤, take, IfOk, IfErr};
-ghost use Rattle.postcard_cli_files.specs.Input.{MayHave};
-ghost use Rattle.postcard_cli_files.specs.declared.files.ReadError.TheVariants.{Failed};
+ghost use Rattle.postcard_cli_files.specs.{Failed, MayHave};
 
 use postcard_de_flavors::Reader;
 use std::alloc::Global;

@@ -1,8 +1,8 @@
 //! The name of a type in a file, as the word TYPE has it: `@FILE:NAME`.
 
-ghost use Rattle.std.specs.Prelude.{◌≡◌, ◌<◌, ◌≤◌, ℕ, List, length, IfSome, IfNone, IfOk, IfErr, string_bytes};
-ghost use Rattle.postcard_cli_files.specs.declared.fault.TypeFault.TheVariants.{TooLong};
-ghost use Rattle.postcard_cli_files.specs.TypeName.{IsNameWord, Declares, IsFaultOf, IsFaultBy};
+ghost use Rattle.std.specs.Prelude.{◌≡◌, ◌<◌, ◌≤◌, ℕ, List, length, IfSome, IfNone, IfOk, IfErr};
+ghost use Rattle.std.specs.Prelude.{string_bytes};
+ghost use Rattle.postcard_cli_files.specs.{Declares, IsFaultBy, IsFaultOf, IsNameWord, TooLong};
 
 use crate::fault::TypeFault;
 use crate::files::{Files, ReadError};

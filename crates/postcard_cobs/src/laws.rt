@@ -1,8 +1,8 @@
 //! What holds of every frame, as contracts of functions that do nothing (`specs/Laws.antt`).
 
-ghost use Rattle.postcard_cobs.specs.Laws.{DataIsOne, HasNoZero, MadeIsMade, MadeIsOne, OneZero};
-ghost use Rattle.postcard_cobs.specs.Laws.{MadeLength, BoundIsReached, ReachesBound, MadeDecodes};
-ghost use Rattle.postcard_cobs.specs.Laws.{OpenFinishes, OpenLength, MadeByLastCode, OpenByParts};
+ghost use Rattle.postcard_cobs.specs.{BoundIsReached, DataIsOne, HasNoZero, MadeByLastCode};
+ghost use Rattle.postcard_cobs.specs.{MadeDecodes, MadeIsMade, MadeIsOne, MadeLength, OneZero};
+ghost use Rattle.postcard_cobs.specs.{OpenByParts, OpenFinishes, OpenLength, ReachesBound};
 
 /// No frame is a frame of two different data.
 pub fn data_is_one()

@@ -1,18 +1,12 @@
 //! Decoding with a checksum. The value is read first, and then the bytes after it are compared with
 //! the checksum. So a value that can't be read is refused by its own error, whatever its checksum.
 
-ghost use Rattle.std.specs.Prelude.{◌≡◌, ◌≢◌, ◌≤◌, ◌<◌, ◌*◌, ◌⊎◌, ◌↔◌, IsTrue, [], ◌++◌, length, take};
-ghost use Rattle.std.specs.Prelude.{ℕ, List, IfOk, IfErr, IsErrOf, IsErrAnd, OnOk, MatchResult};
-ghost use Rattle.crc.specs.Crc.{Parameters, IsCrc, IsSound};
-ghost use Rattle.crc.specs.Digest.{Took};
-ghost use Rattle.crc.specs.Checked.{low_bytes};
-ghost use Rattle.postcard_wire.specs.Tree.{Tree};
-ghost use Rattle.postcard_wire.specs.Spelling.{Spells, canonical};
-ghost use Rattle.postcard_de.specs.Reads.{IsReadError};
-ghost use Rattle.postcard_shape.specs.Shape.{Grows};
-ghost use Rattle.postcard_crc.specs.Writing.{IsCrcAfter};
-ghost use Rattle.postcard_crc.specs.Reading.{ReadsChecked, IsDamaged};
-ghost use Rattle.postcard_crc.specs.Reading.{HasExactErrors};
+ghost use Rattle.std.specs.Prelude.{◌≡◌, ◌≤◌, ◌<◌, ◌*◌, ◌⊎◌, ◌↔◌, IsTrue, [], ◌++◌, length, ℕ};
+ghost use Rattle.std.specs.Prelude.{List, IfOk, IfErr, IsErrOf, IsOkUnless, OnOk, MatchResult};
+ghost use Rattle.postcard_crc.specs.{AcceptsFront, AcceptsFrontAndRest, AcceptsWhole};
+ghost use Rattle.postcard_crc.specs.{HasExactErrors, IsCrc, IsCrcAfter, IsDamaged, IsReadError};
+ghost use Rattle.postcard_crc.specs.{IsSound, Parameters, ReadsBackFront, ReadsBackFrontAndRest};
+ghost use Rattle.postcard_crc.specs.{ReadsBackWhole, ReadsChecked, RefusesMore, Took, low_bytes};
 
 use crate::trailer::trailer_of;
 use crc::{Digest, Implementation, Width};
@@ -46,17 +40,8 @@ pub fn take_from_bytes<'a, T: Deserialize<'a>, W: Width, I: Implementation<W>>(
 ) -> Result<(T, &'a [u8])>
     ensures gives { IfOk result (λ read. ReadsChecked T.shape.reads T.shape.value W.size
         digest.entry bytes.now read.0 read.1.now) }
-    ensures accepts { (t : Tree) (a : Parameters) (m front rest : List ℕ) (crc : ℕ)
-        → T.shape.reads t → Spells t front → IsSound a → Took digest.entry a m
-        → IsCrc a (m ++ front) crc → bytes.now ≡ front ++ (low_bytes W.size crc ++ rest) →
-        MatchResult result (λ read. T.shape.value t read.0 × (read.1.now ≡ rest))
-        (λ e. (e ≡ Error.OutOfMemory) × Grows T.shape) }
-    ensures reads_back { (x : T) (a : Parameters) (m rest : List ℕ) (crc : ℕ)
-        → T.shape.fits x → IsSound a → Took digest.entry a m
-        → IsCrc a (m ++ canonical (T.shape.tree x)) crc
-        → bytes.now ≡ canonical (T.shape.tree x) ++ (low_bytes W.size crc ++ rest) →
-        MatchResult result (λ read. T.shape.same read.0 x × (read.1.now ≡ rest))
-        (λ e. (e ≡ Error.OutOfMemory) × Grows T.shape) }
+    ensures accepts { AcceptsFrontAndRest T.shape W.size digest.entry bytes.now result }
+    ensures reads_back { ReadsBackFrontAndRest T.shape W.size digest.entry bytes.now result }
     ensures refuses_damage { (a : Parameters) (sent : List ℕ) → Took digest.entry a []
         → IsDamaged W.size a sent bytes.now
         → IfOk result (λ read. read.1.now ≡ [] → sent ≡ bytes.now) }
@@ -78,17 +63,8 @@ pub fn from_bytes<'a, T: Deserialize<'a>, W: Width, I: Implementation<W>>(
 ) -> Result<T>
     ensures gives { IfOk result (λ value. (rest : List ℕ) × ReadsChecked T.shape.reads
         T.shape.value W.size digest.entry bytes.now value rest) }
-    ensures accepts { (t : Tree) (a : Parameters) (m front rest : List ℕ) (crc : ℕ)
-        → T.shape.reads t → Spells t front → IsSound a → Took digest.entry a m
-        → IsCrc a (m ++ front) crc → bytes.now ≡ front ++ (low_bytes W.size crc ++ rest) →
-        MatchResult result (λ value. T.shape.value t value)
-        (λ e. (e ≡ Error.OutOfMemory) × Grows T.shape) }
-    ensures reads_back { (x : T) (a : Parameters) (m rest : List ℕ) (crc : ℕ)
-        → T.shape.fits x → IsSound a → Took digest.entry a m
-        → IsCrc a (m ++ canonical (T.shape.tree x)) crc
-        → bytes.now ≡ canonical (T.shape.tree x) ++ (low_bytes W.size crc ++ rest) →
-        MatchResult result (λ value. T.shape.same value x)
-        (λ e. (e ≡ Error.OutOfMemory) × Grows T.shape) }
+    ensures accepts { AcceptsFront T.shape W.size digest.entry bytes.now result }
+    ensures reads_back { ReadsBackFront T.shape W.size digest.entry bytes.now result }
     ensures exact_errors { HasExactErrors T.shape W.size digest.entry bytes.now result }
     ensures named_error { IfErr result
         (λ e. IsReadError T.shape.other e ⊎ (e ≡ Error.DeserializeBadCrc)) }
@@ -114,25 +90,12 @@ pub fn from_bytes_whole<'a, T: Deserialize<'a>, W: Width, I: Implementation<W>>(
 ) -> Result<T>
     ensures gives { IfOk result (λ value. ReadsChecked T.shape.reads T.shape.value W.size
         digest.entry bytes.now value []) }
-    ensures accepts { (t : Tree) (a : Parameters) (m front : List ℕ) (crc : ℕ)
-        → T.shape.reads t → Spells t front → IsSound a → Took digest.entry a m
-        → IsCrc a (m ++ front) crc → bytes.now ≡ front ++ low_bytes W.size crc →
-        MatchResult result (λ value. T.shape.value t value)
-        (λ e. (e ≡ Error.OutOfMemory) × Grows T.shape) }
-    ensures reads_back { (x : T) (a : Parameters) (m : List ℕ) (crc : ℕ)
-        → T.shape.fits x → IsSound a → Took digest.entry a m
-        → IsCrc a (m ++ canonical (T.shape.tree x)) crc
-        → bytes.now ≡ canonical (T.shape.tree x) ++ low_bytes W.size crc →
-        MatchResult result (λ value. T.shape.same value x)
-        (λ e. (e ≡ Error.OutOfMemory) × Grows T.shape) }
+    ensures accepts { AcceptsWhole T.shape W.size digest.entry bytes.now result }
+    ensures reads_back { ReadsBackWhole T.shape W.size digest.entry bytes.now result }
     ensures refuses_damage { (a : Parameters) (sent : List ℕ) → Took digest.entry a []
         → IsDamaged W.size a sent bytes.now → OnOk result (sent ≡ bytes.now) }
     ensures exact_errors { HasExactErrors T.shape W.size digest.entry bytes.now result }
-    ensures bytes_after { (t : Tree) (a : Parameters) (m front rest : List ℕ) (crc : ℕ)
-        → T.shape.reads t → Spells t front → IsSound a → Took digest.entry a m
-        → IsCrc a (m ++ front) crc → bytes.now ≡ front ++ (low_bytes W.size crc ++ rest)
-        → rest ≢ [] → IsErrAnd result (λ e. (e ≡ Error.DeserializeBadEncoding)
-        ⊎ ((e ≡ Error.OutOfMemory) × Grows T.shape)) }
+    ensures bytes_after { RefusesMore T.shape W.size digest.entry bytes.now result }
     ensures named_error { IfErr result (λ e. IsReadError T.shape.other e
         ⊎ ((e ≡ Error.DeserializeBadCrc) ⊎ (e ≡ Error.DeserializeBadEncoding))) }
 {
@@ -160,7 +123,7 @@ fn checked<'a, W: Width, I: Implementation<W>>(
         → IsCrc a (m ++ front) crc → rest.now ≡ low_bytes W.size crc ++ after
         → MatchResult result (λ r. r.now ≡ after) (λ _. ⊥) }
     ensures short { length rest.now < W.size → IsErrOf result Error.DeserializeUnexpectedEnd }
-    ensures long { W.size ≤ length rest.now → IfErr result (λ e. e ≡ Error.DeserializeBadCrc) }
+    ensures long { W.size ≤ length rest.now → IsOkUnless result Error.DeserializeBadCrc }
 {
     after_checksum(rest, crc_before(bytes, rest, digest))
 }
@@ -183,12 +146,11 @@ fn crc_before<W: Width, I: Implementation<W>>(
 /// Returns the bytes after the checksum `crc` with which `rest` begins. Fails as [`after_trailer`]
 /// does.
 fn after_checksum<W: Width>(rest: &[u8], crc: W) -> Result<&[u8]>
-    ensures gives { IfOk result (λ after. rest.now
-        ≡ low_bytes W.size (W.number crc) ++ after.now) }
+    ensures gives { IfOk result (λ after. rest.now ≡ low_bytes W.size (W.number crc) ++ after.now) }
     ensures accepts { (after : List ℕ) → rest.now ≡ low_bytes W.size (W.number crc) ++ after
         → MatchResult result (λ r. r.now ≡ after) (λ _. ⊥) }
     ensures short { length rest.now < W.size → IsErrOf result Error.DeserializeUnexpectedEnd }
-    ensures long { W.size ≤ length rest.now → IfErr result (λ e. e ≡ Error.DeserializeBadCrc) }
+    ensures long { W.size ≤ length rest.now → IsOkUnless result Error.DeserializeBadCrc }
 {
     let wanted = trailer_of(crc);
     if rest.len() < wanted.len {
@@ -205,7 +167,7 @@ fn after_trailer<'a>(rest: &'a [u8], trailer: &[u8]) -> Result<&'a [u8]>
     ensures gives { IfOk result (λ after. rest.now ≡ trailer.now ++ after.now) }
     ensures accepts { (after : List ℕ) → rest.now ≡ trailer.now ++ after
         → MatchResult result (λ r. r.now ≡ after) (λ _. ⊥) }
-    ensures named { IfErr result (λ e. e ≡ Error.DeserializeBadCrc) }
+    ensures named { IsOkUnless result Error.DeserializeBadCrc }
 {
     let (found, after) = rest.split_at(trailer.len());
     if are_same(found, trailer) {

@@ -1,11 +1,8 @@
 //! Encoding with a checksum.
 
-ghost use Rattle.std.specs.Prelude.{◌+◌, ◌≤◌, ◌↔◌, length, IfOk, IfErr, IsOk, OnOk};
-ghost use Rattle.postcard_wire.specs.Spelling.{canonical};
-ghost use Rattle.postcard_shape.specs.Shape.{IsWilling};
-ghost use Rattle.postcard_ser.specs.Writing.{IsErrorOf};
-ghost use Rattle.postcard_crc.specs.Reading.{IsWithCrc};
-ghost use Rattle.postcard_crc.specs.Writing.{FinishedWithCrc, HasRoom};
+ghost use Rattle.std.specs.Prelude.{◌+◌, ◌≤◌, length, IfOk, IfErr, IsOk, OnOk};
+ghost use Rattle.postcard_crc.specs.{Encodes, EncodesGrowing, FinishedWithCrc, HasRoom, IsErrorOf};
+ghost use Rattle.postcard_crc.specs.{IsWilling, IsWithCrc, encoding};
 
 use arrayvec::ArrayVec;
 use crc::{Digest, Implementation, Width};
@@ -36,10 +33,10 @@ pub fn serialize_with_checksum<
     I: Implementation<W>,
 >(value: &T, flavor: S, digest: Digest<'_, W, I>) -> Result<O>
     ensures gives { IfOk result (FinishedWithCrc S.Flavor W.size digest.entry flavor
-        (canonical (T.shape.tree value.now))) }
+        (encoding T.shape value.now)) }
     ensures has_room { IsWilling T.shape value.now
-        → HasRoom W.size S.room flavor (canonical (T.shape.tree value.now)) → IsOk result }
-    ensures own_error { HasRoom W.size S.room flavor (canonical (T.shape.tree value.now))
+        → HasRoom W.size S.room flavor (encoding T.shape value.now) → IsOk result }
+    ensures own_error { HasRoom W.size S.room flavor (encoding T.shape value.now)
         → IfErr result (T.shape.refusal value.now) }
     ensures named_error { IfErr result (IsErrorOf T.shape value.now) }
     ensures fits { OnOk result (T.shape.fits value.now) }
@@ -67,14 +64,9 @@ pub fn to_slice<'a, T: Serialize, W: Width, I: Implementation<W>>(
     buf: &'a mut [u8],
     digest: Digest<'_, W, I>,
 ) -> Result<&'a mut [u8]>
-    ensures gives { IfOk result (λ front. IsWithCrc W.size digest.entry
-        (canonical (T.shape.tree value.now)) front.now) }
-    ensures fits_iff { IsWilling T.shape value.now → (IsOk result
-        ↔ (length (canonical (T.shape.tree value.now)) + W.size ≤ length buf.old)) }
-    ensures own_error { length (canonical (T.shape.tree value.now)) + W.size ≤ length buf.old
-        → IfErr result (T.shape.refusal value.now) }
-    ensures named_error { IfErr result (IsErrorOf T.shape value.now) }
-    ensures fits { OnOk result (T.shape.fits value.now) }
+    ensures { Encodes T.shape value.now
+        (λ front. IsWithCrc W.size digest.entry (encoding T.shape value.now) front.now)
+        (length (encoding T.shape value.now) + W.size ≤ length buf.old) result }
 {
     serialize_with_checksum(value, Slice::new(buf), digest)
 }
@@ -90,14 +82,9 @@ pub fn to_vec<T: Serialize, W: Width, I: Implementation<W>, const B: usize>(
     value: &T,
     digest: Digest<'_, W, I>,
 ) -> Result<ArrayVec<u8, B>>
-    ensures gives { IfOk result (λ vec. IsWithCrc W.size digest.entry
-        (canonical (T.shape.tree value.now)) vec.items) }
-    ensures fits_iff { IsWilling T.shape value.now → (IsOk result
-        ↔ (length (canonical (T.shape.tree value.now)) + W.size ≤ B)) }
-    ensures own_error { length (canonical (T.shape.tree value.now)) + W.size ≤ B
-        → IfErr result (T.shape.refusal value.now) }
-    ensures named_error { IfErr result (IsErrorOf T.shape value.now) }
-    ensures fits { OnOk result (T.shape.fits value.now) }
+    ensures { Encodes T.shape value.now
+        (λ vec. IsWithCrc W.size digest.entry (encoding T.shape value.now) vec.items)
+        (length (encoding T.shape value.now) + W.size ≤ B) result }
 {
     serialize_with_checksum(value, HVec::new(), digest)
 }
@@ -113,10 +100,8 @@ pub fn to_allocvec<T: Serialize, W: Width, I: Implementation<W>>(
     value: &T,
     digest: Digest<'_, W, I>,
 ) -> Result<Vec<u8>>
-    ensures gives { IfOk result (λ vec. IsWithCrc W.size digest.entry
-        (canonical (T.shape.tree value.now)) vec.items) }
-    ensures named_error { IfErr result (IsErrorOf T.shape value.now) }
-    ensures fits { OnOk result (T.shape.fits value.now) }
+    ensures { EncodesGrowing T.shape value.now
+        (λ vec. IsWithCrc W.size digest.entry (encoding T.shape value.now) vec.items) result }
 {
     serialize_with_checksum(value, AllocVec::new(alloc), digest)
 }

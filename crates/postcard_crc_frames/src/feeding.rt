@@ -1,8 +1,6 @@
 //! One feed of an accumulator, with the checksum of the frame that it completes.
 
-ghost use Rattle.postcard_accumulator.specs.Feeding.{IsFed};
-ghost use Rattle.postcard_accumulator.specs.Values.{IsReadOf};
-ghost use Rattle.postcard_crc_frames.specs.Checked.{IsOwn};
+ghost use Rattle.postcard_crc_frames.specs.{IsFed, IsOwn, IsReadOf};
 
 use crc::{Crc, Implementation, Width};
 use postcard_accumulator::{CobsAccumulator, FeedResult};

@@ -1,10 +1,7 @@
 //! The reading loop: reads all frames of a reader by an accumulator, and checks their checksums.
 
-ghost use Rattle.std.specs.Prelude.{◌≡◌, ◌≢◌, ◌<◌, ◌++◌, ◌∷◌, [], length};
-ghost use Rattle.std.specs.Prelude.{vec_len, vec_capacity};
-ghost use Rattle.std.specs.Io.KnownBytes.{IsAtEnd};
-ghost use Rattle.postcard_accumulator.specs.Reading.{IsFedAll, IsReading};
-ghost use Rattle.postcard_crc_frames.specs.Checked.{IsOwn};
+ghost use Rattle.std.specs.Prelude.{◌≡◌, ◌≢◌, ◌<◌, ◌++◌, ◌∷◌, [], length, vec_len, vec_capacity};
+ghost use Rattle.postcard_crc_frames.specs.{IsAtEnd, IsFedAll, IsOwn, IsReading};
 
 use crate::feeding::feed;
 use crc::{Crc, Implementation, Width};

@@ -1,6 +1,9 @@
--- The words of reading: the definitions of `postcard_de_nodes` on what a call does that reads, the kinds
--- of nodes, and the source of a deserializer, under one path of this crate.
-pub use Rattle.postcard_de.specs.Deserializer.{source_of}
+-- The words of reading: what a call does that reads from a deserializer, and the definitions of
+-- `postcard_de_nodes` on what a call does that reads, and on the kinds of nodes, under one path of this crate.
+pub use Rattle.postcard_de.specs.Deserializer.{source_of, Deserializes, DeserializesNode, DeserializesOption}
+pub use Rattle.postcard_de.specs.Deserializer.{DeserializesResult, DeserializesTree, DeserializesParts}
+pub use Rattle.postcard_de.specs.Deserializer.{DeserializesCase, DeserializesNext, DeserializesNothing}
+pub use Rattle.postcard_de.specs.Deserializer.{BeginsParts, IsUnsupported}
 pub use Rattle.postcard_de_nodes.specs.Reads.{IsReadError, Gives, ReadsFrom, Reads, ReadsShape}
 pub use Rattle.postcard_de_nodes.specs.Nodes.{Node, ReadsNode, ReadsOption, ReadsResult}
 pub use Rattle.postcard_de_nodes.specs.Nodes.{number_node, tree_node, copied_node, seen_node}

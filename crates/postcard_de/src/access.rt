@@ -1,9 +1,7 @@
 //! The elements of a list, one by one.
 
-ghost use Rattle.std.specs.Prelude.{◌≡◌, ℕ, ◌-◌, ◌<◌, ◌≤◌, None, Some, Ok};
-ghost use Rattle.postcard_wire.specs.Spelling.{Spells};
-ghost use Rattle.postcard_shape.specs.Options.{SomeIs};
-ghost use Rattle.postcard_de.specs.Reads.{Reads, source_of};
+ghost use Rattle.std.specs.Prelude.{◌≡◌, ℕ, ◌<◌, ◌≤◌, None, Some};
+ghost use Rattle.postcard_de.specs.{DeserializesNext, source_of};
 
 use crate::deserialize::Deserialize;
 use crate::deserializer::Deserializer;
@@ -47,10 +45,7 @@ impl SeqAccess {
         alloc: Global,
         d: &mut Deserializer<'de, F>,
     ) -> Result<Option<T>>
-        ensures count { self.new ≡ self.old - 1 }
-        ensures none { self.old ≡ 0 → (result ≡ Ok None) × (d.new ≡ d.old) }
-        ensures some { 0 < self.old → Reads F.Flavor Spells T.shape.reads (SomeIs T.shape.value)
-            T.shape.other (source_of d.old) result (source_of d.new) }
+        ensures { DeserializesNext F.Flavor T.shape self.old d.old result self.new d.new }
     {
         if self.len == 0 {
             return Ok(None);

@@ -1,8 +1,7 @@
 //! The variants of an enum in a row: an index is read, and then the content of the variant of that
 //! index.
 
-ghost use Rattle.postcard_wire.specs.Spelling.{Spells};
-ghost use Rattle.postcard_de.specs.Reads.{Reads, source_of};
+ghost use Rattle.postcard_de.specs.{DeserializesCase};
 
 use crate::deserialize::Deserialize;
 use crate::deserializer::Deserializer;
@@ -21,8 +20,7 @@ pub trait DeserializeCase<'de>: Cased + Sized + Drop {
         alloc: Global,
         d: &mut Deserializer<'de, F>,
     ) -> Result<Self>
-        ensures { Reads F.Flavor Spells (Self.cases.reads index) (Self.cases.value index)
-            Self.cases.other (source_of d.old) result (source_of d.new) };
+        ensures { DeserializesCase F.Flavor Self.cases index d.old result d.new };
 }
 
 impl<'de> DeserializeCase<'de> for NoCase {
@@ -70,8 +68,7 @@ pub trait DeserializeCaseOwned: Cased + Sized + Drop {
         alloc: Global,
         d: &mut Deserializer<'de, F>,
     ) -> Result<Self>
-        ensures { Reads F.Flavor Spells (Self.cases.reads index) (Self.cases.value index)
-            Self.cases.other (source_of d.old) result (source_of d.new) };
+        ensures { DeserializesCase F.Flavor Self.cases index d.old result d.new };
 }
 
 impl DeserializeCaseOwned for NoCase {

@@ -1,6 +1,6 @@
 //! The trait of the types that are read.
 
-ghost use Rattle.postcard_de.specs.Reads.{ReadsShape, source_of};
+ghost use Rattle.postcard_de.specs.{Deserializes};
 
 use crate::deserializer::Deserializer;
 use postcard_de_flavors::Flavor;
@@ -16,5 +16,5 @@ pub trait Deserialize<'de>: Shaped + Sized + Drop {
     ///
     /// Fails as `take_from_bytes` does. Some of the bytes may have been taken then.
     fn deserialize<F: Flavor>(alloc: Global, d: &mut Deserializer<'de, F>) -> Result<Self>
-        ensures { ReadsShape F.Flavor Self.shape (source_of d.old) result (source_of d.new) };
+        ensures { Deserializes F.Flavor Self.shape d.old result d.new };
 }

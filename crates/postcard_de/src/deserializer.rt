@@ -2,9 +2,9 @@
 //! maps. The modules below have the others; `unsupported` refuses what the format can't serve.
 
 ghost use Rattle.std.specs.Prelude.{◌≡◌, false};
-ghost use Rattle.postcard_de.specs.Reads.{ReadsNode, byte_node, bytes_node, int_node};
-ghost use Rattle.postcard_de.specs.Reads.{lent_bytes_node, lent_text_node, num_node, number_node};
-ghost use Rattle.postcard_de.specs.Reads.{signed_byte_node, text_node, source_of};
+ghost use Rattle.postcard_de.specs.{DeserializesNode, byte_node, bytes_node, int_node};
+ghost use Rattle.postcard_de.specs.{lent_bytes_node, lent_text_node, num_node, number_node};
+ghost use Rattle.postcard_de.specs.{signed_byte_node, source_of, text_node};
 
 mod containers;
 mod enums;
@@ -79,15 +79,14 @@ impl<'de, F: Flavor> Deserializer<'de, F> {
 
     /// Reads a byte.
     pub fn deserialize_u8(&mut self) -> Result<u8>
-        ensures { ReadsNode F.Flavor byte_node (source_of self.old) result (source_of self.new) }
+        ensures { DeserializesNode F.Flavor byte_node self.old result self.new }
     {
         self.flavor.pop()
     }
 
     /// Reads a byte as a signed number, in two's complement.
     pub fn deserialize_i8(&mut self) -> Result<i8>
-        ensures { ReadsNode F.Flavor signed_byte_node
-            (source_of self.old) result (source_of self.new) }
+        ensures { DeserializesNode F.Flavor signed_byte_node self.old result self.new }
     {
         let bits = self.flavor.pop()?;
         Ok(bits.cast_signed())
@@ -95,8 +94,7 @@ impl<'de, F: Flavor> Deserializer<'de, F> {
 
     /// Reads a number of 16 bits.
     pub fn deserialize_u16(&mut self) -> Result<u16>
-        ensures { ReadsNode F.Flavor (num_node 16)
-            (source_of self.old) result (source_of self.new) }
+        ensures { DeserializesNode F.Flavor (num_node 16) self.old result self.new }
     {
         let n = numbers::number(&mut self.flavor, 16)?;
         Ok(n as u16)
@@ -104,8 +102,7 @@ impl<'de, F: Flavor> Deserializer<'de, F> {
 
     /// Reads a number of 32 bits.
     pub fn deserialize_u32(&mut self) -> Result<u32>
-        ensures { ReadsNode F.Flavor (num_node 32)
-            (source_of self.old) result (source_of self.new) }
+        ensures { DeserializesNode F.Flavor (num_node 32) self.old result self.new }
     {
         let n = numbers::number(&mut self.flavor, 32)?;
         Ok(n as u32)
@@ -113,8 +110,7 @@ impl<'de, F: Flavor> Deserializer<'de, F> {
 
     /// Reads a number of 64 bits.
     pub fn deserialize_u64(&mut self) -> Result<u64>
-        ensures { ReadsNode F.Flavor (num_node 64)
-            (source_of self.old) result (source_of self.new) }
+        ensures { DeserializesNode F.Flavor (num_node 64) self.old result self.new }
     {
         let n = numbers::number(&mut self.flavor, 64)?;
         Ok(n as u64)
@@ -122,8 +118,7 @@ impl<'de, F: Flavor> Deserializer<'de, F> {
 
     /// Reads a number of 128 bits.
     pub fn deserialize_u128(&mut self) -> Result<u128>
-        ensures { ReadsNode F.Flavor (num_node 128)
-            (source_of self.old) result (source_of self.new) }
+        ensures { DeserializesNode F.Flavor (num_node 128) self.old result self.new }
     {
         let n = numbers::number(&mut self.flavor, 128)?;
         Ok(n)
@@ -131,8 +126,7 @@ impl<'de, F: Flavor> Deserializer<'de, F> {
 
     /// Reads a signed number of 16 bits.
     pub fn deserialize_i16(&mut self) -> Result<i16>
-        ensures { ReadsNode F.Flavor (int_node 16)
-            (source_of self.old) result (source_of self.new) }
+        ensures { DeserializesNode F.Flavor (int_node 16) self.old result self.new }
     {
         let folded = numbers::number(&mut self.flavor, 16)?;
         Ok(zigzag::de_zig_zag_i16(folded as u16))
@@ -140,8 +134,7 @@ impl<'de, F: Flavor> Deserializer<'de, F> {
 
     /// Reads a signed number of 32 bits.
     pub fn deserialize_i32(&mut self) -> Result<i32>
-        ensures { ReadsNode F.Flavor (int_node 32)
-            (source_of self.old) result (source_of self.new) }
+        ensures { DeserializesNode F.Flavor (int_node 32) self.old result self.new }
     {
         let folded = numbers::number(&mut self.flavor, 32)?;
         Ok(zigzag::de_zig_zag_i32(folded as u32))
@@ -149,8 +142,7 @@ impl<'de, F: Flavor> Deserializer<'de, F> {
 
     /// Reads a signed number of 64 bits.
     pub fn deserialize_i64(&mut self) -> Result<i64>
-        ensures { ReadsNode F.Flavor (int_node 64)
-            (source_of self.old) result (source_of self.new) }
+        ensures { DeserializesNode F.Flavor (int_node 64) self.old result self.new }
     {
         let folded = numbers::number(&mut self.flavor, 64)?;
         Ok(zigzag::de_zig_zag_i64(folded as u64))
@@ -158,8 +150,7 @@ impl<'de, F: Flavor> Deserializer<'de, F> {
 
     /// Reads a signed number of 128 bits.
     pub fn deserialize_i128(&mut self) -> Result<i128>
-        ensures { ReadsNode F.Flavor (int_node 128)
-            (source_of self.old) result (source_of self.new) }
+        ensures { DeserializesNode F.Flavor (int_node 128) self.old result self.new }
     {
         let folded = numbers::number(&mut self.flavor, 128)?;
         Ok(zigzag::de_zig_zag_i128(folded))
@@ -169,8 +160,7 @@ impl<'de, F: Flavor> Deserializer<'de, F> {
     /// the source borrows. Also fails with `DeserializeBadUtf8` if the bytes aren't UTF-8; they are
     /// taken then.
     pub fn deserialize_str(&mut self) -> Result<&'de str>
-        ensures { ReadsNode F.Flavor lent_text_node
-            (source_of self.old) result (source_of self.new) }
+        ensures { DeserializesNode F.Flavor lent_text_node self.old result self.new }
     {
         texts::text(&mut self.flavor)
     }
@@ -178,7 +168,7 @@ impl<'de, F: Flavor> Deserializer<'de, F> {
     /// Reads a text as `deserialize_str` does, and returns a copy of it. Also fails with
     /// `OutOfMemory` if the allocation fails; the text is taken then.
     pub fn deserialize_string(&mut self, alloc: Global) -> Result<String>
-        ensures { ReadsNode F.Flavor text_node (source_of self.old) result (source_of self.new) }
+        ensures { DeserializesNode F.Flavor text_node self.old result self.new }
     {
         texts::text_copy(alloc, &mut self.flavor)
     }
@@ -186,8 +176,7 @@ impl<'de, F: Flavor> Deserializer<'de, F> {
     /// Reads a byte string: its length, and that many bytes. The slice borrows from what the source
     /// borrows.
     pub fn deserialize_bytes(&mut self) -> Result<&'de [u8]>
-        ensures { ReadsNode F.Flavor lent_bytes_node
-            (source_of self.old) result (source_of self.new) }
+        ensures { DeserializesNode F.Flavor lent_bytes_node self.old result self.new }
     {
         bytes::bytes(&mut self.flavor)
     }
@@ -195,7 +184,7 @@ impl<'de, F: Flavor> Deserializer<'de, F> {
     /// Reads a byte string, and returns a copy of its bytes. Also fails with `OutOfMemory` if the
     /// allocation fails; the bytes are taken then.
     pub fn deserialize_byte_buf(&mut self, alloc: Global) -> Result<Vec<u8>>
-        ensures { ReadsNode F.Flavor bytes_node (source_of self.old) result (source_of self.new) }
+        ensures { DeserializesNode F.Flavor bytes_node self.old result self.new }
     {
         bytes::bytes_copy(alloc, &mut self.flavor)
     }
@@ -203,8 +192,7 @@ impl<'de, F: Flavor> Deserializer<'de, F> {
     /// Reads the number of elements of a list. [`next_element`](SeqAccess::next_element) then reads
     /// each.
     pub fn deserialize_seq(&mut self) -> Result<SeqAccess>
-        ensures { ReadsNode F.Flavor (number_node 64)
-            (source_of self.old) result (source_of self.new) }
+        ensures { DeserializesNode F.Flavor (number_node 64) self.old result self.new }
     {
         let count = numbers::count(&mut self.flavor)?;
         Ok(SeqAccess::new(count))
@@ -213,8 +201,7 @@ impl<'de, F: Flavor> Deserializer<'de, F> {
     /// Reads the number of pairs of a map. [`next_key`](MapAccess::next_key) and
     /// [`next_value`](MapAccess::next_value) then read each in turn.
     pub fn deserialize_map(&mut self) -> Result<MapAccess>
-        ensures { ReadsNode F.Flavor (number_node 64)
-            (source_of self.old) result (source_of self.new) }
+        ensures { DeserializesNode F.Flavor (number_node 64) self.old result self.new }
     {
         let pairs = numbers::count(&mut self.flavor)?;
         Ok(MapAccess::new(pairs))

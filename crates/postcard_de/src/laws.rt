@@ -1,10 +1,7 @@
 //! Laws of every type that is read, as contracts of functions that do nothing.
 
 ghost use Rattle.std.specs.Prelude.{◌≡◌, ℕ, List, ◌++◌};
-ghost use Rattle.postcard_wire.specs.Tree.{Tree};
-ghost use Rattle.postcard_wire.specs.Spelling.{Spells, canonical};
-ghost use Rattle.postcard_wire.specs.Reading.{IsDelimited};
-ghost use Rattle.postcard_shape.specs.Shape.{HasOne};
+ghost use Rattle.postcard_de.specs.{HasOne, IsDelimited, Spells, Tree, canonical};
 
 use crate::deserialize::Deserialize;
 

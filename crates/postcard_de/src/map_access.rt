@@ -1,9 +1,7 @@
 //! The pairs of a map, one by one.
 
-ghost use Rattle.std.specs.Prelude.{◌≡◌, ℕ, ◌-◌, ◌<◌, None, Some, Ok};
-ghost use Rattle.postcard_wire.specs.Spelling.{Spells};
-ghost use Rattle.postcard_shape.specs.Options.{SomeIs};
-ghost use Rattle.postcard_de.specs.Reads.{Reads, ReadsShape, source_of};
+ghost use Rattle.std.specs.Prelude.{◌≡◌, Some};
+ghost use Rattle.postcard_de.specs.{Deserializes, DeserializesNext};
 
 use crate::access::SeqAccess;
 use crate::deserialize::Deserialize;
@@ -44,10 +42,7 @@ impl MapAccess {
         alloc: Global,
         d: &mut Deserializer<'de, F>,
     ) -> Result<Option<K>>
-        ensures count { self.new ≡ self.old - 1 }
-        ensures none { self.old ≡ 0 → (result ≡ Ok None) × (d.new ≡ d.old) }
-        ensures some { 0 < self.old → Reads F.Flavor Spells K.shape.reads (SomeIs K.shape.value)
-            K.shape.other (source_of d.old) result (source_of d.new) }
+        ensures { DeserializesNext F.Flavor K.shape self.old d.old result self.new d.new }
     {
         self.keys.next_element(alloc, d)
     }
@@ -60,7 +55,7 @@ impl MapAccess {
         d: &mut Deserializer<'de, F>,
     ) -> Result<V>
         ensures count { self.new ≡ self.old }
-        ensures value { ReadsShape F.Flavor V.shape (source_of d.old) result (source_of d.new) }
+        ensures value { Deserializes F.Flavor V.shape d.old result d.new }
     {
         V::deserialize(alloc, d)
     }

@@ -1,6 +1,6 @@
 //! The trait of the types that are read and borrow nothing, and how to use one as a `Deserialize`.
 
-ghost use Rattle.postcard_de.specs.Reads.{ReadsShape, source_of};
+ghost use Rattle.postcard_de.specs.{Deserializes};
 
 use crate::deserialize::Deserialize;
 use crate::deserializer::Deserializer;
@@ -16,7 +16,7 @@ pub trait DeserializeOwned: Shaped + Sized + Drop {
         alloc: Global,
         d: &mut Deserializer<'de, F>,
     ) -> Result<Self>
-        ensures { ReadsShape F.Flavor Self.shape (source_of d.old) result (source_of d.new) };
+        ensures { Deserializes F.Flavor Self.shape d.old result d.new };
 }
 
 /// A value that borrows nothing. Calls for a `Deserialize` read an `Owned<T>` by

@@ -1,7 +1,7 @@
 //! What the loops of `deserializer::containers` take: elements that are read by `Deserialize`, or by
 //! `DeserializeOwned`.
 
-ghost use Rattle.postcard_de.specs.Reads.{ReadsShape, source_of};
+ghost use Rattle.postcard_de.specs.{Deserializes};
 
 use crate::deserialize::Deserialize;
 use crate::deserializer::Deserializer;
@@ -15,7 +15,7 @@ use std::alloc::Global;
 pub(crate) trait ReadElement<'de, T: Shaped + Drop> {
     /// Reads a value from the front of what is left. Fails as [`Deserialize::deserialize`] does.
     fn read_element<F: Flavor>(alloc: Global, d: &mut Deserializer<'de, F>) -> Result<T>
-        ensures { ReadsShape F.Flavor T.shape (source_of d.old) result (source_of d.new) };
+        ensures { Deserializes F.Flavor T.shape d.old result d.new };
 }
 
 /// For a container that is read by [`Deserialize`]: its elements may borrow from the message.

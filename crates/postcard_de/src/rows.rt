@@ -1,7 +1,6 @@
 //! Parts in a row, read from left to right: one proof for tuples of any length.
 
-ghost use Rattle.postcard_wire.specs.Spelling.{SpellsAll};
-ghost use Rattle.postcard_de.specs.Reads.{Reads, source_of};
+ghost use Rattle.postcard_de.specs.{DeserializesParts};
 
 use crate::deserialize::Deserialize;
 use crate::deserializer::Deserializer;
@@ -15,8 +14,7 @@ use std::alloc::Global;
 pub trait DeserializeParts<'de>: Parts + Sized + Drop {
     /// Reads the parts from left to right. Fails with the error of the first that can't be read.
     fn deserialize_parts<F: Flavor>(alloc: Global, d: &mut Deserializer<'de, F>) -> Result<Self>
-        ensures { Reads F.Flavor SpellsAll Self.parts.reads (λ ts v. Self.parts.value v ts)
-            Self.parts.other (source_of d.old) result (source_of d.new) };
+        ensures { DeserializesParts F.Flavor Self.parts d.old result d.new };
 }
 
 impl<'de> DeserializeParts<'de> for () {
@@ -47,8 +45,7 @@ pub trait DeserializePartsOwned: Parts + Sized + Drop {
         alloc: Global,
         d: &mut Deserializer<'de, F>,
     ) -> Result<Self>
-        ensures { Reads F.Flavor SpellsAll Self.parts.reads (λ ts v. Self.parts.value v ts)
-            Self.parts.other (source_of d.old) result (source_of d.new) };
+        ensures { DeserializesParts F.Flavor Self.parts d.old result d.new };
 }
 
 impl DeserializePartsOwned for () {

@@ -1,7 +1,7 @@
 //! The interface of a source, which bytes are read from.
 
-ghost use Rattle.std.specs.Prelude.{◌≡◌, ◌<◌, ℕ, List, [], ◌∷◌, length, Option, Result, IfOk};
-ghost use Rattle.std.specs.Prelude.{IfErr, IsOk};
+ghost use Rattle.std.specs.Prelude.{◌≡◌, ◌<◌, ℕ, [], ◌∷◌, length, Option, Result, IfOk, IsOk};
+ghost use Rattle.std.specs.Prelude.{IsOkUnless};
 ghost use Rattle.std.specs.Borrow.{sem};
 ghost use Rattle.std.specs.Io.BufRead.{Rests};
 ghost use Rattle.postcard_wire.specs.declared.error.Error.{Error};
@@ -48,8 +48,7 @@ pub trait Flavor: Drop {
         ensures gives { IfOk result (λ b. Takes left able self.old (b ∷ []) self.new) }
         ensures accepts { able self.old 1 → IsOk result }
         ensures leaves { may_leave self.old self.new }
-        ensures refuses_by_unexpected_end { IfErr result
-            (λ e. e ≡ Error.DeserializeUnexpectedEnd) };
+        ensures refuses_by_unexpected_end { IsOkUnless result Error.DeserializeUnexpectedEnd };
 
     /// Returns a hint of the number of bytes left, or `None`. No law ties it to the bytes.
     fn size_hint(&self) -> Option<usize>
@@ -71,8 +70,7 @@ pub trait Flavor: Drop {
         ensures gives { IfOk result (λ front. Takes left able self.old front.now self.new) }
         ensures accepts { able self.old ct → IsOk result }
         ensures leaves { may_leave self.old self.new }
-        ensures refuses_by_unexpected_end { IfErr result
-            (λ e. e ≡ Error.DeserializeUnexpectedEnd) };
+        ensures refuses_by_unexpected_end { IsOkUnless result Error.DeserializeUnexpectedEnd };
 
     /// Takes the next `ct` bytes. The slice is valid until the next call.
     fn try_take_n_temp(&mut self, ct: usize) -> Result<&[u8]>
@@ -80,8 +78,7 @@ pub trait Flavor: Drop {
         ensures* gives { sem 𝓛 (Rests Self.row self.entry
             (LendsFront left able may_leave self.old result)) }
         ensures accepts { able self.old ct → IsOk result }
-        ensures refuses_by_unexpected_end { IfErr result
-            (λ e. e ≡ Error.DeserializeUnexpectedEnd) };
+        ensures refuses_by_unexpected_end { IsOkUnless result Error.DeserializeUnexpectedEnd };
 
     /// Ends reading, and returns what is left of the source, or an error, as `finishes` says.
     fn finalize(self) -> Result<Self::Remainder>

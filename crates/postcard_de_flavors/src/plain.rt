@@ -1,7 +1,7 @@
 //! Any reader as a `Reader`.
 
 ghost use Rattle.std.specs.Prelude.{◌≡◌};
-ghost use Rattle.postcard_de_flavors.specs.Plain.{inner_of};
+ghost use Rattle.postcard_de_flavors.specs.{inner_of};
 
 use crate::reader::Reader;
 use std::io;

@@ -1,11 +1,9 @@
 //! The source over a slice.
 
-ghost use Rattle.std.specs.Prelude.{◌≡◌, ◌↔◌, ◌<◌, ◌≤◌, [], ◌∷◌, length, Some};
-ghost use Rattle.std.specs.Prelude.{IfOk, IfErr, OnErr, IsOk, MatchResult};
-ghost use Rattle.std.specs.Borrow.{sem};
-ghost use Rattle.std.specs.Io.BufRead.{Rests};
-ghost use Rattle.postcard_de_flavors.specs.Source.{known, Takes, CanTake, LeavesRest, IsEndOf};
-ghost use Rattle.postcard_de_flavors.specs.SliceLaws.{slice_laws};
+ghost use Rattle.std.specs.Prelude.{◌≡◌, ◌↔◌, ◌<◌, ◌≤◌, [], ◌∷◌, length, Some, IfOk, IsOk};
+ghost use Rattle.std.specs.Prelude.{IsOkUnless, MatchResult};
+ghost use Rattle.postcard_de_flavors.specs.{CanTake, IsEndOf, LeavesRest, Rests, TakesIfEnough};
+ghost use Rattle.postcard_de_flavors.specs.{known, sem, slice_laws};
 
 use crate::flavor::Flavor;
 use postcard_memory::Bytes;
@@ -65,12 +63,7 @@ impl<'de> Flavor for Slice<'de> {
     ghost lawful = { slice_laws };
 
     fn pop(&mut self) -> Result<u8>
-        ensures gives { IfOk result (λ b. Takes ⟦<Slice<'de> as Flavor>⟧.left
-            ⟦<Slice<'de> as Flavor>⟧.able self.old (b ∷ []) self.new) }
-        ensures leaves { ⟦<Slice<'de> as Flavor>⟧.may_leave self.old self.new }
-        ensures refuses_by_unexpected_end { IfErr result (λ e. e ≡ Error.DeserializeUnexpectedEnd) }
-        ensures succeeds_iff_enough { IsOk result ↔ (1 ≤ length self.old) }
-        ensures unchanged { OnErr result (self.new ≡ self.old) }
+        ensures { TakesIfEnough ⟦<Self as Flavor>⟧ (λ b. b ∷ []) 1 self.old result self.new }
     {
         if self.len == 0 {
             return Err(Error::DeserializeUnexpectedEnd);
@@ -86,8 +79,8 @@ impl<'de> Flavor for Slice<'de> {
     }
 
     fn at_hand(&self) -> &[u8]
-        ensures can_take { 0 < length result.now → CanTake ⟦<Slice<'de> as Flavor>⟧.left
-            ⟦<Slice<'de> as Flavor>⟧.able self.now result.now }
+        ensures can_take { 0 < length result.now → CanTake ⟦<Self as Flavor>⟧.left
+            ⟦<Self as Flavor>⟧.able self.now result.now }
         ensures returns_all { result.now ≡ self.now }
     {
         self.bytes.view(self.len)
@@ -97,12 +90,8 @@ impl<'de> Flavor for Slice<'de> {
     where
         Self: 'a,
         ensures length { IfOk result (λ front. length front.now ≡ ct) }
-        ensures gives { IfOk result (λ front. Takes ⟦<Slice<'de> as Flavor>⟧.left
-            ⟦<Slice<'de> as Flavor>⟧.able self.old front.now self.new) }
-        ensures leaves { ⟦<Slice<'de> as Flavor>⟧.may_leave self.old self.new }
-        ensures refuses_by_unexpected_end { IfErr result (λ e. e ≡ Error.DeserializeUnexpectedEnd) }
-        ensures succeeds_iff_enough { IsOk result ↔ (ct ≤ length self.old) }
-        ensures unchanged { OnErr result (self.new ≡ self.old) }
+        ensures takes { TakesIfEnough ⟦<Self as Flavor>⟧ (λ front. front.now) ct
+            self.old result self.new }
     {
         if self.len < ct {
             return Err(Error::DeserializeUnexpectedEnd);
@@ -115,7 +104,7 @@ impl<'de> Flavor for Slice<'de> {
         ensures length { IfOk result (λ front. length front.now ≡ ct) }
         ensures* gives { sem 𝓛 (Rests (the_row (record { mir = named 1; lft = [] })) self.entry
             (LeavesRest self.old result)) }
-        ensures refuses_by_unexpected_end { IfErr result (λ e. e ≡ Error.DeserializeUnexpectedEnd) }
+        ensures refuses_by_unexpected_end { IsOkUnless result Error.DeserializeUnexpectedEnd }
         ensures succeeds_iff_enough { IsOk result ↔ (ct ≤ length self.old) }
     {
         // The code of `try_take_n`, once more for the prover: through a call of it, the prover

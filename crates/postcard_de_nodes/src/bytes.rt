@@ -1,6 +1,6 @@
 //! Byte strings: a length and the bytes, lent or copied.
 
-ghost use Rattle.postcard_de_nodes.specs.Nodes.{ReadsNode, bytes_node, lent_bytes_node};
+ghost use Rattle.postcard_de_nodes.specs.{ReadsNode, bytes_node, lent_bytes_node};
 
 use crate::numbers;
 use postcard_de_flavors::Flavor;

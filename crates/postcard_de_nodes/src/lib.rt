@@ -1,4 +1,4 @@
-//! Reading one node of a message from a source: a number, a boolean, a character, a text, a byte
+//! Reading one node of a message from a source: a number, a `bool`, a character, a text, a byte
 //! string, a float; and a list whose bytes are at hand.
 //!
 //! Each function takes its node from the front of what the source has left. Its contract is one

@@ -1,8 +1,7 @@
 //! Elements of a list whose bytes are in memory: read many at a time.
 
 ghost use Rattle.std.specs.Prelude.{◌≡◌, IfErr, IfOk, MatchBool};
-ghost use Rattle.postcard_shape.specs.Shape.{or_memory};
-ghost use Rattle.postcard_de_nodes.specs.Reads.{ReadsMore};
+ghost use Rattle.postcard_de_nodes.specs.{ReadsMore, or_memory};
 
 use postcard_de_flavors::Flavor;
 use postcard_shape::Shaped;

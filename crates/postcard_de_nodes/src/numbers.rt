@@ -1,7 +1,6 @@
 //! Varints: numbers of a given width, and counts.
 
-ghost use Rattle.postcard_wire.specs.Tree.{IsWidth};
-ghost use Rattle.postcard_de_nodes.specs.Nodes.{ReadsNode, number_node};
+ghost use Rattle.postcard_de_nodes.specs.{IsWidth, ReadsNode, number_node};
 
 use postcard_de_flavors::Flavor;
 use postcard_wire::digits::Digits;

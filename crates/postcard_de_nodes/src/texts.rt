@@ -1,7 +1,7 @@
 //! Texts, lent or copied, and characters, which are written as texts.
 
-ghost use Rattle.postcard_de_nodes.specs.Nodes.{ReadsNode, char_node, lent_text_node};
-ghost use Rattle.postcard_de_nodes.specs.Nodes.{seen_node, short_text_node, text_node};
+ghost use Rattle.postcard_de_nodes.specs.{ReadsNode, char_node, lent_text_node, seen_node};
+ghost use Rattle.postcard_de_nodes.specs.{short_text_node, text_node};
 
 use crate::numbers;
 use arrayvec::ArrayString;

@@ -1,16 +1,9 @@
 //! Calls for whole messages: decoding from a slice of bytes, and encoding into a flavor.
 
 ghost use Rattle.std.specs.Prelude.{◌≡◌, ℕ, List, ◌++◌, IfOk, IfErr, IsOk, MatchResult};
+ghost use Rattle.postcard_dyn.specs.{Finished, IsReadError, IsTree, ReadsFront, Spells, Value};
+ghost use Rattle.postcard_dyn.specs.{canonical, memory, reads, tree, type_of};
 ghost use Rattle.postcard_wire.specs.Tree.{Tree};
-ghost use Rattle.postcard_wire.specs.Spelling.{Spells, canonical};
-ghost use Rattle.postcard_ser.specs.Writing.{IsWriteError};
-ghost use Rattle.postcard_shape.specs.Shape.{memory};
-ghost use Rattle.postcard_de.specs.Reads.{IsReadError};
-ghost use Rattle.postcard_de.specs.Front.{ReadsFront};
-ghost use Rattle.postcard_ser.specs.Finished.{Finished};
-ghost use Rattle.postcard_dyn_schema.specs.Meaning.{type_of, reads};
-ghost use Rattle.postcard_dyn.specs.Tree.{tree, IsTree};
-ghost use Rattle.postcard_dyn.specs.declared.value.Value.{Value};
 
 use crate::read::read_value;
 use crate::value::Value;

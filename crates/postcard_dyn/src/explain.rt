@@ -4,21 +4,13 @@
 //! the bytes after a value also with the error of a part that can't be read, once its line is
 //! added.
 
-ghost use Rattle.std.specs.Prelude.{◌≡◌, ◌≢◌, ◌⊎◌, ℕ, List, [], ◌∷◌, ◌++◌, Box, None};
-ghost use Rattle.std.specs.Prelude.{IfOk, IfErr, IfSome, OnOk};
-ghost use Rattle.std.specs.declared.alloc.Global.{Global};
-ghost use Rattle.postcard_shape.specs.Shape.{memory};
-ghost use Rattle.postcard_de.specs.Reads.{IsReadError};
-ghost use Rattle.postcard_dyn_schema.specs.declared.schema.Schema.{Schema};
-ghost use Rattle.postcard_dyn_schema.specs.declared.schema.Schema.TheVariants.{Leaf as AsLeaf};
-ghost use Rattle.postcard_dyn_schema.specs.declared.schema.Schema.TheVariants.{Option, Seq, Map};
-ghost use Rattle.postcard_dyn_schema.specs.declared.schema.Schema.TheVariants.{Array, Group, Enum};
-ghost use Rattle.postcard_dyn.specs.Explained.{Explains, ExplainsElements, ExplainsMore};
-ghost use Rattle.postcard_dyn.specs.Explained.{ExplainsParts, HasNoFront, IsAt, IsExplained};
-ghost use Rattle.postcard_dyn.specs.Explained.{IsLast, IsNameOf, IsOwn, Opens, Walks, bytes_of};
-ghost use Rattle.postcard_dyn.specs.Explained.{deeper};
-ghost use Rattle.postcard_dyn.specs.declared.explain.Label.TheVariants.{Element, Whole};
-ghost use Rattle.postcard_dyn.specs.declared.explain.Line.{Line};
+ghost use Rattle.std.specs.Prelude.{◌≡◌, ◌≢◌, ◌⊎◌, ℕ, List, [], ◌∷◌, ◌++◌, Box, None, IfOk, IfErr};
+ghost use Rattle.std.specs.Prelude.{IfSome, OnOk};
+ghost use Rattle.postcard_dyn.specs.{Array, AsLeaf, Element, Enum, Explains, ExplainsElements};
+ghost use Rattle.postcard_dyn.specs.{ExplainsMore, ExplainsParts, Global, Group, HasNoFront, IsAt};
+ghost use Rattle.postcard_dyn.specs.{IsExplained, IsLast, IsNameOf, IsOwn, IsReadError, Line, Map};
+ghost use Rattle.postcard_dyn.specs.{Opens, Option, Schema, Seq, Walks, Whole, bytes_of, deeper};
+ghost use Rattle.postcard_dyn.specs.{memory};
 
 use crate::calls::take_from_bytes;
 use crate::value::Value;
@@ -177,7 +169,7 @@ pub fn explain<'a>(
 fn push_rest<'a>(walk: &mut Walk<'a>, rest: &'a [u8]) -> Result<()>
     ensures added { OnOk result ((last : List Line) × IsLast last
         × (walk.new.lines.items ≡ walk.old.lines.items ++ last) × (bytes_of last ≡ rest.now)) }
-    ensures refused { IfErr result (λ e. e ≡ Error.OutOfMemory) }
+    ensures only_out_of_memory { IfErr result (λ e. e ≡ Error.OutOfMemory) }
 {
     if rest.is_empty() {
         return Ok(());
@@ -199,7 +191,7 @@ fn push<'a>(
         × (walk.new.lines.items ≡ walk.old.lines.items ++ line ∷ [])
         × IsAt place.entry.depth place.entry.label line × (line.kind ≡ kind.entry)
         × (line.bytes.now ≡ bytes.now)) }
-    ensures refused { IfErr result (λ e. e ≡ Error.OutOfMemory) }
+    ensures only_out_of_memory { IfErr result (λ e. e ≡ Error.OutOfMemory) }
 {
     let line = Line {
         depth: place.depth,
@@ -238,7 +230,7 @@ fn open_parts<'a>(walk: &mut Walk<'a>, place: Place<'a>) -> Result<usize>
     ensures added { IfOk result (λ inner. (head : List Line)
         × Opens place.entry.depth place.entry.label inner head
         × (walk.new.lines.items ≡ walk.old.lines.items ++ head)) }
-    ensures refused { IfErr result (λ e. e ≡ Error.OutOfMemory) }
+    ensures only_out_of_memory { IfErr result (λ e. e ≡ Error.OutOfMemory) }
 {
     match place.label {
         Label::Whole => Ok(place.depth),

@@ -1,17 +1,9 @@
 //! Numbers of a fixed width: their bytes, and the bits of signed numbers.
 
 ghost use Rattle.std.specs.Prelude.{◌≡◌, ℕ, ◌<◌, ◌*◌, ◌^◌, true, false, IfSome, IfNone};
-ghost use Rattle.postcard_wire.specs.Reading.{IsByte, IsArray};
-ghost use Rattle.postcard_wire.specs.Spelling.{Spells};
-ghost use Rattle.postcard_shape.specs.Leaves.{byte};
-ghost use Rattle.postcard_shape.specs.Lists.{array};
-ghost use Rattle.postcard_shape.specs.Shape.{never as never_refused};
-ghost use Rattle.postcard_ser.specs.Writing.{Wrote, never};
-ghost use Rattle.postcard_de.specs.Reads.{Reads};
-ghost use Rattle.postcard_de.specs.Deserializer.{source_of};
-ghost use Rattle.postcard_fixint.specs.Fixed.{IsFixed, unsigned};
-ghost use Rattle.postcard_dyn_schema.specs.Fixed.{size_of};
-ghost use Rattle.postcard_dyn.specs.Fixed.{order_of, signed_of as number_of, IsBitsOf};
+ghost use Rattle.postcard_dyn.specs.{DeserializesTree, IsArray, IsBitsOf, IsByte, IsFixed, Wrote};
+ghost use Rattle.postcard_dyn.specs.{array, byte, never, never_refused, number_of, order_of};
+ghost use Rattle.postcard_dyn.specs.{size_of, unsigned};
 
 use postcard_de::{Deserializer, Result};
 use postcard_dyn_schema::{ByteOrder, Integer};
@@ -27,9 +19,8 @@ pub fn read_bits<'de, F: postcard_de::Flavor>(
     integer: Integer,
     d: &mut Deserializer<'de, F>,
 ) -> Result<u128>
-    ensures { Reads F.Flavor Spells (IsArray (size_of integer) IsByte)
-        (IsFixed (order_of order) (unsigned (size_of integer))) never_refused
-        (source_of d.old) result (source_of d.new) }
+    ensures { DeserializesTree F.Flavor (IsArray (size_of integer) IsByte)
+        (IsFixed (order_of order) (unsigned (size_of integer))) never_refused d.old result d.new }
 {
     match integer {
         Integer::U16 | Integer::I16 => Ok(u128::from(read_number::<u16, F>(alloc, order, d)?)),
@@ -45,9 +36,8 @@ fn read_number<'de, T: FixInt, F: postcard_de::Flavor>(
     order: ByteOrder,
     d: &mut Deserializer<'de, F>,
 ) -> Result<T>
-    ensures { Reads F.Flavor Spells (array T.width.size byte).reads
-        (IsFixed (order_of order) T.width) never_refused
-        (source_of d.old) result (source_of d.new) }
+    ensures { DeserializesTree F.Flavor (array T.width.size byte).reads
+        (IsFixed (order_of order) T.width) never_refused d.old result d.new }
 {
     match order {
         ByteOrder::Little => le::deserialize::<T, F>(alloc, d),

@@ -1,10 +1,9 @@
 //! Laws of every type that is known only at run time, as contracts of functions that do nothing.
 
 ghost use Rattle.std.specs.Prelude.{◌≡◌, ◌<◌, ℕ, List, length, true};
+ghost use Rattle.postcard_dyn.specs.{IsDelimited, MessageType, ReadsWellFormed, Spells, has_bytes};
+ghost use Rattle.postcard_dyn.specs.{reads};
 ghost use Rattle.postcard_wire.specs.Tree.{Tree};
-ghost use Rattle.postcard_wire.specs.Reading.{IsDelimited, ReadsWellFormed};
-ghost use Rattle.postcard_wire.specs.Spelling.{Spells};
-ghost use Rattle.postcard_dyn_schema.specs.Meaning.{MessageType, has_bytes, reads};
 
 /// The encodings of each type are prefix-free: at most one front of any bytes spells a tree of the
 /// type, and it spells only one.

@@ -21,7 +21,7 @@ use std::alloc::Global;
 #[cycle(locate)]
 pub fn refused_at(alloc: Global, schema: &Schema, bytes: &[u8]) -> Result<usize>
     ensures within { IfOk result (λ place. place ≤ length bytes.now) }
-    ensures refused { IfErr result (λ e. e ≡ Error.OutOfMemory) }
+    ensures only_out_of_memory { IfErr result (λ e. e ≡ Error.OutOfMemory) }
 {
     match schema {
         Schema::Leaf(_) => Ok(0),
@@ -42,7 +42,7 @@ pub fn refused_at(alloc: Global, schema: &Schema, bytes: &[u8]) -> Result<usize>
 #[cycle(locate)]
 fn refused_after_count(alloc: Global, element: &Schema, bytes: &[u8]) -> Result<usize>
     ensures within { IfOk result (λ place. place ≤ length bytes.now) }
-    ensures refused { IfErr result (λ e. e ≡ Error.OutOfMemory) }
+    ensures only_out_of_memory { IfErr result (λ e. e ≡ Error.OutOfMemory) }
 {
     match postcard_de::take_from_bytes::<u64>(alloc, bytes) {
         Ok((_, rest)) => {
@@ -58,7 +58,7 @@ fn refused_after_count(alloc: Global, element: &Schema, bytes: &[u8]) -> Result<
 #[cycle(locate)]
 fn refused_element(alloc: Global, element: &Schema, bytes: &[u8]) -> Result<usize>
     ensures within { IfOk result (λ place. place ≤ length bytes.now) }
-    ensures refused { IfErr result (λ e. e ≡ Error.OutOfMemory) }
+    ensures only_out_of_memory { IfErr result (λ e. e ≡ Error.OutOfMemory) }
 {
     let mut rest = bytes;
     for _ in 0..bytes.len() {
@@ -77,7 +77,7 @@ fn refused_element(alloc: Global, element: &Schema, bytes: &[u8]) -> Result<usiz
 #[cycle(locate)]
 fn refused_part(alloc: Global, parts: &Vec<Schema>, bytes: &[u8]) -> Result<usize>
     ensures within { IfOk result (λ place. place ≤ length bytes.now) }
-    ensures refused { IfErr result (λ e. e ≡ Error.OutOfMemory) }
+    ensures only_out_of_memory { IfErr result (λ e. e ≡ Error.OutOfMemory) }
 {
     let mut rest = bytes;
     for part in parts {
@@ -97,7 +97,7 @@ fn refused_part(alloc: Global, parts: &Vec<Schema>, bytes: &[u8]) -> Result<usiz
 #[cycle(locate)]
 fn refused_content(alloc: Global, variants: &Vec<Schema>, bytes: &[u8]) -> Result<usize>
     ensures within { IfOk result (λ place. place ≤ length bytes.now) }
-    ensures refused { IfErr result (λ e. e ≡ Error.OutOfMemory) }
+    ensures only_out_of_memory { IfErr result (λ e. e ≡ Error.OutOfMemory) }
 {
     match postcard_de::take_from_bytes::<u32>(alloc, bytes) {
         Ok((index, rest)) => match variants.get(index as usize) {

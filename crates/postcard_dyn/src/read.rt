@@ -1,15 +1,10 @@
 //! Reading a value of a schema from a source: [`read_value`]. The functions below it fail as it does.
 
 ghost use Rattle.std.specs.Prelude.{◌≡◌, ◌++◌, ◌∷◌, [], IfOk, IfErr, OnOk};
-ghost use Rattle.postcard_wire.specs.Spelling.{Spells, SpellsAll};
-ghost use Rattle.postcard_wire.specs.Reading.{IsOption, IsSeq, IsArray, IsGroup, IsVariant};
-ghost use Rattle.postcard_shape.specs.Lists.{AreRead};
-ghost use Rattle.postcard_shape.specs.Shape.{memory};
-ghost use Rattle.postcard_de.specs.Reads.{Reads};
-ghost use Rattle.postcard_de.specs.Deserializer.{source_of};
-ghost use Rattle.postcard_dyn_schema.specs.Meaning.{type_of, types_of, reads, reads_all, reads_at};
-ghost use Rattle.postcard_dyn_schema.specs.Meaning.{leaf_reads};
-ghost use Rattle.postcard_dyn.specs.Tree.{IsTree, AreTrees};
+ghost use Rattle.postcard_dyn.specs.{AreRead, AreTrees, DeserializesTree, IsArray, IsGroup};
+ghost use Rattle.postcard_dyn.specs.{IsOption, IsSeq, IsTree, IsVariant, Reads, SpellsAll};
+ghost use Rattle.postcard_dyn.specs.{leaf_reads, memory, reads, reads_all, reads_at, source_of};
+ghost use Rattle.postcard_dyn.specs.{type_of, types_of};
 
 use crate::fixed::read_bits;
 use crate::value::Value;
@@ -33,8 +28,8 @@ pub fn read_value<'de, F: Flavor>(
     schema: &Schema,
     d: &mut Deserializer<'de, F>,
 ) -> Result<Value>
-    ensures { Reads F.Flavor Spells (reads (type_of schema.now)) IsTree memory
-        (source_of d.old) result (source_of d.new) }
+    ensures { DeserializesTree F.Flavor (reads (type_of schema.now)) IsTree memory
+        d.old result d.new }
 {
     match schema {
         Schema::Leaf(leaf) => read_leaf(alloc, *leaf, d),
@@ -54,8 +49,8 @@ fn read_option<'de, F: Flavor>(
     content: &Schema,
     d: &mut Deserializer<'de, F>,
 ) -> Result<Value>
-    ensures { Reads F.Flavor Spells (IsOption (reads (type_of content.now))) IsTree memory
-        (source_of d.old) result (source_of d.new) }
+    ensures { DeserializesTree F.Flavor (IsOption (reads (type_of content.now))) IsTree memory
+        d.old result d.new }
 {
     match d.deserialize_u8()? {
         0 => Ok(Value::Absent),
@@ -74,8 +69,8 @@ fn read_list<'de, F: Flavor>(
     element: &Schema,
     d: &mut Deserializer<'de, F>,
 ) -> Result<Value>
-    ensures { Reads F.Flavor Spells (IsSeq (reads (type_of element.now))) IsTree memory
-        (source_of d.old) result (source_of d.new) }
+    ensures { DeserializesTree F.Flavor (IsSeq (reads (type_of element.now))) IsTree memory
+        d.old result d.new }
 {
     let count = d.deserialize_u64()?;
     let items = read_elements(alloc, element, count, d)?;
@@ -89,8 +84,8 @@ fn read_array<'de, F: Flavor>(
     count: usize,
     d: &mut Deserializer<'de, F>,
 ) -> Result<Value>
-    ensures { Reads F.Flavor Spells (IsArray count (reads (type_of element.now))) IsTree memory
-        (source_of d.old) result (source_of d.new) }
+    ensures { DeserializesTree F.Flavor (IsArray count (reads (type_of element.now))) IsTree memory
+        d.old result d.new }
 {
     let items = read_elements(alloc, element, count as u64, d)?;
     Ok(Value::Group(items))
@@ -120,8 +115,8 @@ fn read_group<'de, F: Flavor>(
     parts: &Vec<Schema>,
     d: &mut Deserializer<'de, F>,
 ) -> Result<Value>
-    ensures { Reads F.Flavor Spells (IsGroup (reads_all (types_of parts.now.items))) IsTree memory
-        (source_of d.old) result (source_of d.new) }
+    ensures { DeserializesTree F.Flavor (IsGroup (reads_all (types_of parts.now.items)))
+        IsTree memory d.old result d.new }
 {
     let mut items = room_for(alloc, parts.len())?;
     for part in parts {
@@ -137,8 +132,8 @@ fn read_variant<'de, F: Flavor>(
     variants: &Vec<Schema>,
     d: &mut Deserializer<'de, F>,
 ) -> Result<Value>
-    ensures { Reads F.Flavor Spells (IsVariant (reads_at (types_of variants.now.items))) IsTree memory
-        (source_of d.old) result (source_of d.new) }
+    ensures { DeserializesTree F.Flavor (IsVariant (reads_at (types_of variants.now.items)))
+        IsTree memory d.old result d.new }
 {
     let index = d.deserialize_enum("", &[])?;
     let Some(variant) = variants.get(index as usize) else {
@@ -152,7 +147,7 @@ fn read_variant<'de, F: Flavor>(
 /// Returns no values, and room for `count` of them.
 fn room_for(alloc: Global, count: usize) -> Result<Vec<Value>>
     ensures empty { IfOk result (λ items. items.items ≡ []) }
-    ensures refused { IfErr result (λ e. e ≡ Error.OutOfMemory) }
+    ensures only_out_of_memory { IfErr result (λ e. e ≡ Error.OutOfMemory) }
 {
     match Vec::with_capacity(alloc, count) {
         Ok(items) => Ok(items),
@@ -163,7 +158,7 @@ fn room_for(alloc: Global, count: usize) -> Result<Vec<Value>>
 #[inline(always)]
 fn push(items: &mut Vec<Value>, item: Value) -> Result<()>
     ensures added { OnOk result (items.new.items ≡ items.old.items ++ item ∷ []) }
-    ensures refused { IfErr result (λ e. e ≡ Error.OutOfMemory) }
+    ensures only_out_of_memory { IfErr result (λ e. e ≡ Error.OutOfMemory) }
 {
     match items.push(item) {
         Ok(()) => Ok(()),
@@ -173,7 +168,7 @@ fn push(items: &mut Vec<Value>, item: Value) -> Result<()>
 
 fn boxed(alloc: Global, value: Value) -> Result<Box<Value>>
     ensures held { IfOk result (λ held. held.value ≡ value) }
-    ensures refused { IfErr result (λ e. e ≡ Error.OutOfMemory) }
+    ensures only_out_of_memory { IfErr result (λ e. e ≡ Error.OutOfMemory) }
 {
     match Box::new(alloc, value) {
         Ok(held) => Ok(held),
@@ -186,8 +181,7 @@ fn read_leaf<'de, F: Flavor>(
     leaf: Leaf,
     d: &mut Deserializer<'de, F>,
 ) -> Result<Value>
-    ensures { Reads F.Flavor Spells (leaf_reads leaf) IsTree memory
-        (source_of d.old) result (source_of d.new) }
+    ensures { DeserializesTree F.Flavor (leaf_reads leaf) IsTree memory d.old result d.new }
 {
     match leaf {
         Leaf::Bool => Ok(Value::Bool(d.deserialize_bool()?)),

@@ -1,10 +1,6 @@
 //! Writing a value into a flavor: [`write_value`].
 
-ghost use Rattle.std.specs.Prelude.{map};
-ghost use Rattle.postcard_wire.specs.Spelling.{canonical, canonical_all};
-ghost use Rattle.postcard_wire.specs.Tree.{trees};
-ghost use Rattle.postcard_ser.specs.Writing.{Wrote, never};
-ghost use Rattle.postcard_dyn.specs.Tree.{tree};
+ghost use Rattle.postcard_dyn.specs.{Wrote, canonical, canonical_all, map, never, tree, trees};
 
 use crate::fixed::write_bits;
 use crate::value::Value;

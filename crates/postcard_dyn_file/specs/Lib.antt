@@ -9,3 +9,26 @@ pub mod Expands
 pub mod Openings
 pub mod Places
 pub mod Files
+-- The words that clauses of this crate cite, under one path.
+pub use Rattle.postcard_dyn_schema.specs.Grammar.{IsExpression}
+pub use Rattle.postcard_dyn_schema.specs.Text.{is_of_word as is_of_word_byte}
+pub use Rattle.postcard_dyn_schema.specs.declared.schema.Schema.{Schema}
+pub use Rattle.postcard_dyn_file.specs.Expands.{AreInOrder, EntersAgain, FindsRecursion, HasProblem}
+pub use Rattle.postcard_dyn_file.specs.Expands.{IsMember, IsSpelledBy, Refers, Spelled, Writes}
+pub use Rattle.postcard_dyn_file.specs.Files.{HasProblemOf, IsExpressionOf, IsTypeOf, IsWithin}
+pub use Rattle.postcard_dyn_file.specs.Items.{AreDeclarations, BeginsItem, Declares, EndsItem}
+pub use Rattle.postcard_dyn_file.specs.Items.{IsItemEnd, IsKeyword, NamesDiffer, ReadsItem}
+pub use Rattle.postcard_dyn_file.specs.Kept.{AreKept, EndsBefore, HasBracket, IsAttribute}
+pub use Rattle.postcard_dyn_file.specs.Kept.{IsEmptyAngle, IsLimit, IsPassed, IsScope, KeepStep}
+pub use Rattle.postcard_dyn_file.specs.Lexical.{Begins, CommentStep, HasDepth, IsBlank, IsComment}
+pub use Rattle.postcard_dyn_file.specs.Lexical.{IsGap, IsLetter, IsLifetime, IsLine, IsLiteral}
+pub use Rattle.postcard_dyn_file.specs.Lexical.{IsOtherAt, IsQuoted, IsRead, IsSignAt, IsTokenAt}
+pub use Rattle.postcard_dyn_file.specs.Lexical.{IsWordFront, ReadStep}
+pub use Rattle.postcard_dyn_file.specs.Openings.{BeginsType, IsOpened, Opens}
+pub use Rattle.postcard_dyn_file.specs.Places.{IsLineStart, IsPlace}
+pub use Rattle.postcard_dyn_file.specs.Printed.{file_error_text, file_problem_text, is_of_type}
+pub use Rattle.postcard_dyn_file.specs.Tokens.{IsAt, IsBefore, IsName, IsNameAt, Says, spelling}
+pub use Rattle.postcard_dyn_file.specs.Words.{IsAliasText, IsDiscriminant, IsEnumText, IsPlainText}
+pub use Rattle.postcard_dyn_file.specs.Words.{IsSign, IsStructText, IsText}
+pub use Rattle.postcard_dyn_file.specs.declared.declaration.Declaration.{Declaration}
+pub use Rattle.postcard_dyn_file.specs.declared.declaration.Kind.{Kind}

@@ -1,13 +1,10 @@
 //! The declarations of types in a file.
 
-ghost use Rattle.std.specs.Prelude.{◌≡◌, ℕ, ◌+◌, ◌<◌, ◌++◌, ◌∷◌, [], false, length, All, Contains};
-ghost use Rattle.std.specs.Prelude.{Decides, OnOk, IfOk, IfErr, IfSome, IfNone};
-ghost use Rattle.postcard_dyn_file.specs.declared.declaration.Declaration.{Declaration};
-ghost use Rattle.postcard_dyn_file.specs.declared.declaration.Kind.{Kind};
-ghost use Rattle.postcard_dyn_file.specs.Tokens.{Says};
-ghost use Rattle.postcard_dyn_file.specs.Items.{IsKeyword, EndsItem, BeginsItem, IsItemEnd};
-ghost use Rattle.postcard_dyn_file.specs.Items.{Declares, ReadsItem, AreDeclarations};
-ghost use Rattle.postcard_dyn_file.specs.Printed.{is_of_type};
+ghost use Rattle.std.specs.Prelude.{◌≡◌, ◌+◌, ◌<◌, false, length, All, Contains, Decides, OnOk};
+ghost use Rattle.std.specs.Prelude.{IfOk, IfErr, IfSome, IfNone};
+ghost use Rattle.postcard_dyn_file.specs.{AreDeclarations, BeginsItem, Declaration, Declares};
+ghost use Rattle.postcard_dyn_file.specs.{EndsItem, IsItemEnd, IsKeyword, Kind, ReadsItem, Says};
+ghost use Rattle.postcard_dyn_file.specs.{is_of_type};
 
 use crate::error::{FileProblem, ProblemAt, out_of_memory};
 use crate::token::{Token, is_name_at, place_of, token_at};

@@ -1,7 +1,7 @@
 //! The errors of reading a file of declarations.
 
 ghost use Rattle.std.specs.Prelude.{◌≡◌, Some, false};
-ghost use Rattle.postcard_dyn_file.specs.Printed.{file_problem_text, file_error_text, is_of_type};
+ghost use Rattle.postcard_dyn_file.specs.{file_error_text, file_problem_text, is_of_type};
 
 use postcard_dyn_schema::Problem;
 use std::fmt;

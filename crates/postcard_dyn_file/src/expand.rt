@@ -5,15 +5,12 @@
 //! the one before it. `depth` is how many more may be replaced inside of the last. The functions
 //! below [`words_of`] fail as it does.
 
-ghost use Rattle.std.specs.Prelude.{◌≡◌, ℕ, ◌+◌, ◌<◌, ◌≤◌, ◌++◌, ◌∷◌, [], true, false, length};
+ghost use Rattle.std.specs.Prelude.{◌≡◌, ◌+◌, ◌<◌, ◌≤◌, ◌++◌, ◌∷◌, [], true, false, length};
 ghost use Rattle.std.specs.Prelude.{Decides, OnOk, IfOk, IfErr, IfSome, IfNone};
-ghost use Rattle.postcard_dyn_file.specs.declared.declaration.Declaration.{Declaration};
-ghost use Rattle.postcard_dyn_file.specs.Items.{NamesDiffer};
-ghost use Rattle.postcard_dyn_file.specs.Tokens.{spelling};
-ghost use Rattle.postcard_dyn_file.specs.Printed.{is_of_type};
-ghost use Rattle.postcard_dyn_file.specs.Expands.{IsMember, Refers, Writes, Spelled, AreInOrder};
-ghost use Rattle.postcard_dyn_file.specs.Openings.{BeginsType, IsOpened};
-ghost use Rattle.postcard_dyn_file.specs.Expands.{IsSpelledBy, FindsRecursion, EntersAgain, HasProblem};
+ghost use Rattle.postcard_dyn_file.specs.{AreInOrder, BeginsType, Declaration, EntersAgain};
+ghost use Rattle.postcard_dyn_file.specs.{FindsRecursion, HasProblem, IsMember, IsOpened};
+ghost use Rattle.postcard_dyn_file.specs.{IsSpelledBy, NamesDiffer, Refers, Spelled, Writes};
+ghost use Rattle.postcard_dyn_file.specs.{is_of_type, spelling};
 
 use crate::declaration::{Declaration, Kind, named};
 use crate::error::{FileProblem, ProblemAt, out_of_memory};

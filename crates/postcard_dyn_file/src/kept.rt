@@ -1,10 +1,11 @@
 //! The tokens of a file that declarations are read from: all but those of attributes, visibilities
 //! and paths before a name, and `<` and `>` with nothing between them.
 
-ghost use Rattle.std.specs.Prelude.{◌≡◌, ℕ, ◌+◌, ◌<◌, false, length, Decides, IfOk, IfErr, IfSome, IfNone};
-ghost use Rattle.postcard_dyn_file.specs.Kept.{IsAttribute, IsLimit, IsScope, HasBracket};
-ghost use Rattle.postcard_dyn_file.specs.Kept.{EndsBefore, IsEmptyAngle, IsPassed, KeepStep, AreKept};
-ghost use Rattle.postcard_dyn_file.specs.Printed.{is_of_type};
+ghost use Rattle.std.specs.Prelude.{◌≡◌, ℕ, ◌+◌, ◌<◌, false, length, Decides, IfOk, IfErr, IfSome};
+ghost use Rattle.std.specs.Prelude.{IfNone};
+ghost use Rattle.postcard_dyn_file.specs.{AreKept, EndsBefore, HasBracket, IsAttribute};
+ghost use Rattle.postcard_dyn_file.specs.{IsEmptyAngle, IsLimit, IsPassed, IsScope, KeepStep};
+ghost use Rattle.postcard_dyn_file.specs.{is_of_type};
 
 use crate::error::{FileProblem, ProblemAt, out_of_memory};
 use crate::token::{Token, after_word, is_at, is_before, is_name_at, place_of};

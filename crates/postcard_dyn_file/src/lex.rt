@@ -3,14 +3,12 @@
 //! A function `after_..` returns the text after what its name says, or `None` if the text doesn't
 //! begin with that.
 
-ghost use Rattle.std.specs.Prelude.{◌≡◌, ℕ, ◌<◌, List, ◌∷◌, length, false, IfOk, IfErr};
-ghost use Rattle.std.specs.Prelude.{IfSome, IfNone};
-ghost use Rattle.postcard_dyn_schema.specs.Text.{is_of_word as is_of_word_byte};
-ghost use Rattle.postcard_dyn_file.specs.Printed.{is_of_type};
-ghost use Rattle.postcard_dyn_file.specs.Lexical.{Begins, CommentStep, IsComment, IsLine, IsLetter};
-ghost use Rattle.postcard_dyn_file.specs.Lexical.{IsQuoted, IsLiteral, IsWordFront, IsLifetime};
-ghost use Rattle.postcard_dyn_file.specs.Lexical.{IsBlank, IsGap, HasDepth, IsSignAt, IsOtherAt};
-ghost use Rattle.postcard_dyn_file.specs.Lexical.{IsTokenAt, ReadStep, IsRead};
+ghost use Rattle.std.specs.Prelude.{◌≡◌, ℕ, ◌<◌, List, ◌∷◌, length, false, IfOk, IfErr, IfSome};
+ghost use Rattle.std.specs.Prelude.{IfNone};
+ghost use Rattle.postcard_dyn_file.specs.{Begins, CommentStep, HasDepth, IsBlank, IsComment, IsGap};
+ghost use Rattle.postcard_dyn_file.specs.{IsLetter, IsLifetime, IsLine, IsLiteral, IsOtherAt};
+ghost use Rattle.postcard_dyn_file.specs.{IsQuoted, IsRead, IsSignAt, IsTokenAt, IsWordFront};
+ghost use Rattle.postcard_dyn_file.specs.{ReadStep, is_of_type, is_of_word_byte};
 
 use crate::error::{FileProblem, ProblemAt, out_of_memory};
 use crate::token::Token;

@@ -27,10 +27,8 @@
 #![tactic(auto)]
 
 ghost use Rattle.std.specs.Prelude.{IfOk, IfErr, string_bytes};
-ghost use Rattle.postcard_dyn_schema.specs.declared.schema.Schema.{Schema};
-ghost use Rattle.postcard_dyn_schema.specs.Grammar.{IsExpression};
-ghost use Rattle.postcard_dyn_file.specs.Openings.{Opens};
-ghost use Rattle.postcard_dyn_file.specs.Files.{IsExpressionOf, IsTypeOf, HasProblemOf, IsWithin};
+ghost use Rattle.postcard_dyn_file.specs.{HasProblemOf, IsExpression, IsExpressionOf, IsTypeOf};
+ghost use Rattle.postcard_dyn_file.specs.{IsWithin, Opens, Schema};
 
 pub mod declaration;
 pub mod error;

@@ -1,10 +1,8 @@
 //! The text of the words of a type, and places in it and in the file.
 
-ghost use Rattle.std.specs.Prelude.{◌≡◌, ◌+◌, ◌-◌, ◌≤◌, ◌==◌, [], ◌∷◌, ◌++◌, false, length, take, count_by};
-ghost use Rattle.std.specs.Prelude.{IfOk, IfErr, OnOk, string_bytes};
-ghost use Rattle.postcard_dyn_file.specs.Tokens.{spelling};
-ghost use Rattle.postcard_dyn_file.specs.Places.{IsLineStart, IsPlace};
-ghost use Rattle.postcard_dyn_file.specs.Printed.{is_of_type};
+ghost use Rattle.std.specs.Prelude.{◌≡◌, ◌+◌, ◌-◌, ◌≤◌, ◌==◌, [], ◌∷◌, ◌++◌, false, length, take};
+ghost use Rattle.std.specs.Prelude.{count_by, IfOk, IfErr, OnOk, string_bytes};
+ghost use Rattle.postcard_dyn_file.specs.{IsLineStart, IsPlace, is_of_type, spelling};
 
 use crate::error::{FileError, FileProblem, ProblemAt, out_of_memory};
 use crate::token::Token;

@@ -1,7 +1,7 @@
 //! The words, signs and literals of a file of declarations.
 
 ghost use Rattle.std.specs.Prelude.{◌≡◌, ◌+◌, Decides, IfSome, IfNone, slice_get};
-ghost use Rattle.postcard_dyn_file.specs.Tokens.{Says, IsAt, IsBefore, IsName, IsNameAt};
+ghost use Rattle.postcard_dyn_file.specs.{IsAt, IsBefore, IsName, IsNameAt, Says};
 
 /// A word, a sign or a literal of a file.
 #[derive(Clone, Copy, Debug)]

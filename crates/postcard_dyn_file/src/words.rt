@@ -1,10 +1,9 @@
 //! What the tokens of a declaration stand for, and which tokens it may begin and end with.
 
 ghost use Rattle.std.specs.Prelude.{◌≡◌, ◌<◌, true, false, length, Decides, IfErr, OnOk};
-ghost use Rattle.postcard_dyn_file.specs.Openings.{Opens, BeginsType};
-ghost use Rattle.postcard_dyn_file.specs.Printed.{is_of_type};
-ghost use Rattle.postcard_dyn_file.specs.Words.{IsSign, IsDiscriminant, IsText, IsStructText};
-ghost use Rattle.postcard_dyn_file.specs.Words.{IsEnumText, IsAliasText, IsPlainText};
+ghost use Rattle.postcard_dyn_file.specs.{BeginsType, IsAliasText, IsDiscriminant, IsEnumText};
+ghost use Rattle.postcard_dyn_file.specs.{IsPlainText, IsSign, IsStructText, IsText, Opens};
+ghost use Rattle.postcard_dyn_file.specs.{is_of_type};
 
 use crate::declaration::{Declaration, Kind};
 use crate::error::{FileProblem, ProblemAt};

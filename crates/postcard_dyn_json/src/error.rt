@@ -1,9 +1,9 @@
 //! The error of reading a value from JSON.
 
 ghost use Rattle.std.specs.Prelude.{◌≡◌, Some, OnOk, IfErr, ◌++◌, ◌∷◌, [], codes};
-ghost use Rattle.std.specs.Fmt.{decimal};
-ghost use Rattle.postcard_dyn_json.specs.Printed.{expected_leaf_text, expected_text, json_error_text};
-ghost use Rattle.postcard_dyn_json.specs.Printed.{IsAt, IsWithin, colon_after, dot_before, members_text};
+ghost use Rattle.postcard_dyn_json.specs.{IsAt, IsWithin, colon_after, decimal, dot_before};
+ghost use Rattle.postcard_dyn_json.specs.{expected_leaf_text, expected_text, json_error_text};
+ghost use Rattle.postcard_dyn_json.specs.{members_text};
 ghost use Rattle.postcard_dyn_json.specs.declared.error.JsonError.TheVariants as errors;
 
 use postcard_dyn::{Leaf, Value};
@@ -105,7 +105,7 @@ fn separator(path: &str) -> &'static str
 /// Appends a value, or fails with `OutOfMemory`.
 pub fn push(values: &mut Vec<Value>, value: Value) -> Result<(), JsonError>
     ensures added { OnOk result (values.new.items ≡ values.old.items ++ value ∷ []) }
-    ensures refused { IfErr result (λ e. e ≡ errors.OutOfMemory) }
+    ensures only_out_of_memory { IfErr result (λ e. e ≡ errors.OutOfMemory) }
 {
     match values.push(value) {
         Ok(()) => Ok(()),

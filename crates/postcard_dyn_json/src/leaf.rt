@@ -5,17 +5,11 @@
 
 ghost use Rattle.std.specs.Prelude.{ℕ, ℤ, ◌<◌, ◌^◌, ◌≡◌, IfOk, IfSome, MatchOption, FitsSigned};
 ghost use Rattle.std.specs.Prelude.{true, false};
-ghost use Rattle.std.specs.Int.{w128};
+ghost use Rattle.postcard_dyn_json.specs.{Finds, IsBitsJson, IsF32Json, IsF64Json, IsReading};
+ghost use Rattle.postcard_dyn_json.specs.{IsSignedJson, IsSignedType, IsUnsignedJson};
+ghost use Rattle.postcard_dyn_json.specs.{IsUnsignedType, Reads, is_signed, leaf_layout, leaf_type};
+ghost use Rattle.postcard_dyn_json.specs.{tree, view, w128};
 ghost use Rattle.postcard_dyn_schema.specs.declared.schema.Leaf.TheVariants as leaves;
-ghost use Rattle.postcard_dyn_schema.specs.Fixed.{is_signed};
-ghost use Rattle.postcard_dyn_schema.specs.Meaning.{leaf as leaf_type};
-ghost use Rattle.postcard_dyn.specs.Tree.{tree};
-ghost use Rattle.postcard_dyn_text.specs.Shown.{leaf as leaf_layout};
-ghost use Rattle.serde_json.specs.View.{view};
-ghost use Rattle.postcard_dyn_json.specs.Accepted.{Finds, Reads, IsReading};
-ghost use Rattle.postcard_dyn_json.specs.Accepted.{IsUnsignedType, IsSignedType};
-ghost use Rattle.postcard_dyn_json.specs.Reading.{IsUnsignedJson, IsSignedJson};
-ghost use Rattle.postcard_dyn_json.specs.Reading.{IsF32Json, IsF64Json, IsBitsJson};
 
 use crate::error::{Expected, JsonError};
 use postcard_dyn::fixed::{are_bits, bits_of};

@@ -1,25 +1,16 @@
 //! Reading a value from JSON: [`from_json`]. The functions below it fail as it does.
 
-ghost use Rattle.std.specs.Prelude.{◌≡◌, ℕ, ◌<◌, length, get_or, map, true, false, Some};
-ghost use Rattle.std.specs.Prelude.{IfOk, IfSome, IfNone, MatchResult};
-ghost use Rattle.postcard_wire.specs.Tree.{Tree, trees, Present};
-ghost use Rattle.postcard_dyn.specs.Tree.{tree};
-ghost use Rattle.postcard_dyn_schema.specs.Meaning.{type_of, types_of, reads};
+ghost use Rattle.std.specs.Prelude.{◌≡◌, ℕ, ◌<◌, length, get_or, map, true, false, Some, IfOk};
+ghost use Rattle.std.specs.Prelude.{IfSome, IfNone, MatchResult};
+ghost use Rattle.postcard_dyn_json.specs.{Answers, AreItems, AreParts, Data, HasDistinctNames};
+ghost use Rattle.postcard_dyn_json.specs.{HasLength, HasNameOf, HaveDistinctNames};
+ghost use Rattle.postcard_dyn_json.specs.{IsContentReading, IsJsonOf, IsNewTo, IsPart, IsReading};
+ghost use Rattle.postcard_dyn_json.specs.{IsVariantJson, IsWithin, Present, Reads, Schema, Tree};
+ghost use Rattle.postcard_dyn_json.specs.{alone, get, items_view, json_of, layout_of, layouts_of};
+ghost use Rattle.postcard_dyn_json.specs.{part_of, part_step, reads, string, tree, trees, type_of};
+ghost use Rattle.postcard_dyn_json.specs.{types_of, view};
 ghost use Rattle.postcard_dyn_schema.specs.Meaning as types;
-ghost use Rattle.postcard_dyn_schema.specs.Names.{IsNewTo};
-ghost use Rattle.postcard_dyn_schema.specs.declared.schema.Schema.{Schema};
-ghost use Rattle.postcard_dyn_text.specs.Accepted.{HasDistinctNames, HaveDistinctNames};
-ghost use Rattle.postcard_dyn_text.specs.Shown.{layout_of, layouts_of, have_names};
 ghost use Rattle.postcard_dyn_text.specs.Shown as layouts;
-ghost use Rattle.serde_json.specs.Data.{string, Data};
-ghost use Rattle.serde_json.specs.Find.{get};
-ghost use Rattle.serde_json.specs.View.{view, items_view};
-ghost use Rattle.postcard_dyn_json.specs.Written.{alone, json_of};
-ghost use Rattle.postcard_dyn_json.specs.Reading.{IsJsonOf, AreItems, HasLength, part_of};
-ghost use Rattle.postcard_dyn_json.specs.Reading.{IsVariantJson};
-ghost use Rattle.postcard_dyn_json.specs.Accepted.{Answers, Reads, IsReading, AreParts, IsPart};
-ghost use Rattle.postcard_dyn_json.specs.Accepted.{IsContentReading, HasNameOf};
-ghost use Rattle.postcard_dyn_json.specs.Printed.{IsWithin, part_step};
 ghost use Rattle.postcard_dyn_json.specs.declared.error.JsonError.TheVariants as errors;
 
 use crate::error::{Expected, JsonError, push};

@@ -1,14 +1,8 @@
 //! Reading a value from a JSON text: [`read_json`].
 
 ghost use Rattle.std.specs.Prelude.{◌≡◌, Some, IfOk, IfErr, MatchResult};
-ghost use Rattle.postcard_wire.specs.Tree.{Tree};
-ghost use Rattle.postcard_dyn.specs.Tree.{tree};
-ghost use Rattle.postcard_dyn_schema.specs.Meaning.{type_of, reads};
-ghost use Rattle.postcard_dyn_text.specs.Accepted.{HasDistinctNames};
-ghost use Rattle.postcard_dyn_text.specs.Shown.{layout_of};
-ghost use Rattle.serde_json.specs.Errors.{IsMemory};
-ghost use Rattle.postcard_dyn_json.specs.Printed.{IsPlaceIn, text_error_text};
-ghost use Rattle.postcard_dyn_json.specs.Reading.{IsJsonText};
+ghost use Rattle.postcard_dyn_json.specs.{HasDistinctNames, IsJsonText, IsMemory, IsPlaceIn, Tree};
+ghost use Rattle.postcard_dyn_json.specs.{layout_of, reads, text_error_text, tree, type_of};
 ghost use Rattle.postcard_dyn_json.specs.declared.error.JsonError.TheVariants as errors;
 
 use crate::error::{Expected, JsonError, colon_after};

@@ -1,21 +1,13 @@
 //! The JSON of a value: [`to_json`]. The functions below it return `None` and fail as it does.
 
 ghost use Rattle.std.specs.Prelude.{◌≡◌, ◌<◌, ◌^◌, IfOk, IfSome, Some, map, option_map};
-ghost use Rattle.std.specs.Char.{encode_utf8};
-ghost use Rattle.std.specs.Int.{w8, cast_signed, cast_unsigned};
-ghost use Rattle.postcard_wire.specs.Tree.{trees, Byte, Group, Seq};
-ghost use Rattle.postcard_dyn.specs.Tree.{tree, bits_tree};
-ghost use Rattle.postcard_dyn_schema.specs.Fixed.{size_of, is_signed};
-ghost use Rattle.postcard_dyn_schema.specs.declared.schema.Leaf.TheVariants.{F32, F64, Bytes};
-ghost use Rattle.postcard_dyn_text.specs.Shown.{layout_of, layouts_of, have_names};
-ghost use Rattle.serde_json.specs.Data.{string};
-ghost use Rattle.serde_json.specs.View.{view};
-ghost use Rattle.postcard_dyn_json.specs.Written.{json_of, leaf_json, unsigned_json, signed_json};
-ghost use Rattle.postcard_dyn_json.specs.Written.{bits_json};
-ghost use Rattle.postcard_dyn_json.specs.Written.{can_be_null, alone};
-ghost use Rattle.postcard_dyn_json.specs.Written.{option_json, all_json, row, group_json};
-ghost use Rattle.postcard_dyn_json.specs.Written.{struct_json, tuple_json, fields, variant_of};
-ghost use Rattle.postcard_dyn_json.specs.Written.{items as parts_of};
+ghost use Rattle.postcard_dyn_json.specs.{Byte, Bytes, F32, F64, Group, Seq, all_json, alone};
+ghost use Rattle.postcard_dyn_json.specs.{bits_json, bits_tree, can_be_null, cast_signed};
+ghost use Rattle.postcard_dyn_json.specs.{cast_unsigned, encode_utf8, fields, group_json};
+ghost use Rattle.postcard_dyn_json.specs.{have_names, is_signed, json_of, layout_of, layouts_of};
+ghost use Rattle.postcard_dyn_json.specs.{leaf_json, option_json, parts_of, row, signed_json};
+ghost use Rattle.postcard_dyn_json.specs.{size_of, string, struct_json, tree, trees, tuple_json};
+ghost use Rattle.postcard_dyn_json.specs.{unsigned_json, variant_of, view, w8};
 
 use postcard_dyn::fixed::{are_bits, signed_of};
 use postcard_dyn::{Integer, Leaf, Schema, Value};

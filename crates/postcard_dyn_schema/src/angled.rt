@@ -2,10 +2,9 @@
 //! fails at the front of `start`, and with `OutOfMemory` if an allocation fails.
 
 ghost use Rattle.std.specs.Prelude.{◌≡◌, [], ◌∷◌, IfOk, IfErr};
+ghost use Rattle.postcard_dyn_schema.specs.{IsHolderOf, IsPairOf, IsRefusal, MayHold, MayPair};
+ghost use Rattle.postcard_dyn_schema.specs.{type_of};
 ghost use Rattle.postcard_dyn_schema.specs.declared.angled.Pair.TheVariants as pairs;
-ghost use Rattle.postcard_dyn_schema.specs.Angled.{MayHold, IsHolderOf, MayPair, IsPairOf};
-ghost use Rattle.postcard_dyn_schema.specs.Fronts.{IsRefusal};
-ghost use Rattle.postcard_dyn_schema.specs.Meaning.{type_of};
 
 use crate::error::Problem;
 use crate::fixed::ByteOrder;
@@ -105,7 +104,7 @@ pub fn map_of(alloc: Global, key: Schema, value: Schema, start: &[u8]) -> Result
 /// Returns the enum `Ok(T) | Err(E)`, where `T` and `E` are these types.
 fn result_of(alloc: Global, value: Schema, error: Schema, start: &[u8]) -> Result<Schema, ProblemAt>
     ensures made { IfOk result (λ schema. IsPairOf pairs.Result value error schema) }
-    ensures refused { IfErr result (λ found. found.problem ≡ Problem.OutOfMemory) }
+    ensures only_out_of_memory { IfErr result (λ found. found.problem ≡ Problem.OutOfMemory) }
 {
     let value = named(alloc, b"Ok", value, start)?;
     let error = named(alloc, b"Err", error, start)?;
@@ -115,7 +114,7 @@ fn result_of(alloc: Global, value: Schema, error: Schema, start: &[u8]) -> Resul
 /// Returns the list of two schemas.
 fn two(alloc: Global, first: Schema, second: Schema, start: &[u8]) -> Result<Vec<Schema>, ProblemAt>
     ensures held { IfOk result (λ list. list.items ≡ first ∷ second ∷ []) }
-    ensures refused { IfErr result (λ found. found.problem ≡ Problem.OutOfMemory) }
+    ensures only_out_of_memory { IfErr result (λ found. found.problem ≡ Problem.OutOfMemory) }
 {
     let mut list = Vec::new(alloc);
     push(&mut list, first, start)?;

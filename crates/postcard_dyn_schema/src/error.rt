@@ -1,7 +1,7 @@
 //! The errors of reading a type expression.
 
 ghost use Rattle.std.specs.Prelude.{Some};
-ghost use Rattle.postcard_dyn_schema.specs.Printed.{problem_text, expression_error_text};
+ghost use Rattle.postcard_dyn_schema.specs.{expression_error_text, problem_text};
 
 use std::fmt;
 

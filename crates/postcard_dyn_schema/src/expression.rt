@@ -24,20 +24,17 @@
 //! list of texts. `&T` is the type `T`, since a reference is written as what it refers to; the name
 //! of a lifetime begins with no digit.
 
-ghost use Rattle.std.specs.Prelude.{◌≡◌, ℕ, List, ◌+◌, ◌≤◌, true, length, Decides, IfOk, IfErr, OnOk, OnErr};
-ghost use Rattle.postcard_dyn_schema.specs.Text.{characters, TakesPhrase, IsSign, EndsWord, GoesOnBy};
-ghost use Rattle.postcard_dyn_schema.specs.Fronts.{HasFront, IsOnlyFront, IsRefusal, IsNamed, Anything};
-ghost use Rattle.postcard_dyn_schema.specs.Fronts.{Starts, StartsEnum};
-ghost use Rattle.postcard_dyn_schema.specs.Fronts.{follows_name as is_after_first_name};
-ghost use Rattle.postcard_dyn_schema.specs.Fronts.{follows_type, follows_variant};
-ghost use Rattle.postcard_dyn_schema.specs.declared.schema.Schema.{Schema};
-ghost use Rattle.postcard_dyn_schema.specs.Meaning.{type_of};
-ghost use Rattle.postcard_dyn_schema.specs.Names.{IsNewTo, IsTakenIn, HasNamesOf};
-ghost use Rattle.postcard_dyn_schema.specs.Bounds.{ElementsHaveBytes, depth as depth_of};
-ghost use Rattle.postcard_dyn_schema.specs.Grammar.{IsType, IsReferred, IsPlain, IsListRest, IsTupleRest};
-ghost use Rattle.postcard_dyn_schema.specs.Grammar.{IsWorded, IsAngledRest, IsEndedBy, IsOfOne, IsOfTwo};
-ghost use Rattle.postcard_dyn_schema.specs.Grammar.{IsFieldsRest, IsMapRest, IsBracesRest, IsEnumText};
-ghost use Rattle.postcard_dyn_schema.specs.Grammar.{IsNewVariant, IsContent, IsExpression};
+ghost use Rattle.std.specs.Prelude.{◌≡◌, ℕ, List, ◌+◌, ◌≤◌, true, length, Decides, IfOk, IfErr};
+ghost use Rattle.std.specs.Prelude.{OnOk, OnErr};
+ghost use Rattle.postcard_dyn_schema.specs.{Anything, ElementsHaveBytes, EndsWord, GoesOnBy};
+ghost use Rattle.postcard_dyn_schema.specs.{HasFront, HasNamesOf, IsAngledRest, IsBracesRest};
+ghost use Rattle.postcard_dyn_schema.specs.{IsContent, IsEndedBy, IsEnumText, IsExpression};
+ghost use Rattle.postcard_dyn_schema.specs.{IsFieldsRest, IsListRest, IsMapRest, IsNamed, IsNewTo};
+ghost use Rattle.postcard_dyn_schema.specs.{IsNewVariant, IsOfOne, IsOfTwo, IsOnlyFront, IsPlain};
+ghost use Rattle.postcard_dyn_schema.specs.{IsReferred, IsRefusal, IsSign, IsTakenIn, IsTupleRest};
+ghost use Rattle.postcard_dyn_schema.specs.{IsType, IsWorded, Schema, Starts, StartsEnum};
+ghost use Rattle.postcard_dyn_schema.specs.{TakesPhrase, characters, depth_of, follows_type};
+ghost use Rattle.postcard_dyn_schema.specs.{follows_variant, is_after_first_name, type_of};
 
 use crate::angled::{Angled, Holder, Pair, map_of};
 use crate::error::{ExpressionError, Problem};
@@ -405,7 +402,7 @@ fn read_braces(alloc: Global, rest: &mut &[u8], depth: usize) -> Result<Schema, 
 /// its first word is no type and neither `=>` nor `<` follows the word, it is a field whose `:` is
 /// missing.
 fn or_colon(found: ProblemAt, text: &[u8]) -> ProblemAt
-    ensures refused { found.problem ≡ Problem.OutOfMemory → result.problem ≡ Problem.OutOfMemory }
+    ensures memory { found.problem ≡ Problem.OutOfMemory → result.problem ≡ Problem.OutOfMemory }
 {
     let mut rest = text.trim_ascii_start();
     if found.problem != Problem::UnknownType || found.left != rest.len() {

@@ -1,8 +1,7 @@
 //! Numbers of a fixed width, `LE<T>` and `BE<T>`: which numbers `T` may be, and the order of bytes.
 
 ghost use Rattle.std.specs.Prelude.{◌≡◌};
-ghost use Rattle.postcard_dyn_schema.specs.Fixed.{size_of, is_signed, number_of, name_of};
-ghost use Rattle.postcard_dyn_schema.specs.LeafNames.{fixed_name};
+ghost use Rattle.postcard_dyn_schema.specs.{fixed_name, is_signed, name_of, number_of, size_of};
 
 use crate::schema::Leaf;
 

@@ -6,12 +6,9 @@
 
 ghost use Rattle.std.specs.Prelude.{◌≡◌, ◌⊎◌, ℕ, ◌^◌, ◌<◌, ◌≤◌, List, ◌∷◌, Decides, IfOk, IfErr};
 ghost use Rattle.std.specs.Prelude.{IfSome, IfNone, SomeIff, slice_index};
-ghost use Rattle.std.specs.Char.{digit_value};
-ghost use Rattle.std.specs.List.{AllPass};
-ghost use Rattle.std.specs.Str.Parse.{IsNumeral};
-ghost use Rattle.postcard_dyn_schema.specs.Literals.{without_underscores, AreDigits, IsLiteral};
-ghost use Rattle.postcard_dyn_schema.specs.Literals.{IsNoNumber, with_byte, radix_of};
-ghost use Rattle.postcard_dyn_schema.specs.Literals.{is_underscore, is_of_digits};
+ghost use Rattle.postcard_dyn_schema.specs.{AllPass, AreDigits, IsLiteral, IsNoNumber, IsNumeral};
+ghost use Rattle.postcard_dyn_schema.specs.{digit_value, is_of_digits, is_underscore, radix_of};
+ghost use Rattle.postcard_dyn_schema.specs.{with_byte, without_underscores};
 
 /// Why a word spells no number that fits.
 #[derive(Clone, Copy, Debug, PartialEq, Eq)]

@@ -1,8 +1,7 @@
 //! The names of types: what a word stands for.
 
 ghost use Rattle.std.specs.Prelude.{IfSome, IfNone};
-ghost use Rattle.postcard_dyn_schema.specs.Angled.{IsTypeName};
-ghost use Rattle.postcard_dyn_schema.specs.declared.names.TypeName.{TypeName};
+ghost use Rattle.postcard_dyn_schema.specs.{IsTypeName, TypeName};
 
 use crate::angled::{Angled, Holder, Pair};
 use crate::fixed::ByteOrder;

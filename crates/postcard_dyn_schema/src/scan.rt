@@ -4,17 +4,13 @@
 //! dropped from its front. Blanks are the white space of ASCII. A function fails with `OutOfMemory`
 //! at the front of `rest` if an allocation fails.
 
-ghost use Rattle.std.specs.Prelude.{◌≡◌, ◌⊎◌, ℕ, ◌+◌, ◌-◌, ◌*◌, ◌^◌, ◌<◌, ◌++◌, ◌≤◌, List, [], ◌∷◌, true, false, take, length};
-ghost use Rattle.std.specs.Prelude.{Box, Decides, SomeIff, IfOk, IfErr, OnErr, OnOk, string_bytes};
-ghost use Rattle.std.specs.Char.{is_ascii_digit, is_ascii_whitespace};
-ghost use Rattle.std.specs.List.{AllPass};
-ghost use Rattle.std.specs.Str.{IsTrimAsciiStart};
-ghost use Rattle.std.specs.declared.alloc.Global.{Global};
-ghost use Rattle.std.specs.declared.string.String.{String};
-ghost use Rattle.postcard_dyn_schema.specs.declared.schema.Schema.{Schema};
-ghost use Rattle.postcard_dyn_schema.specs.declared.schema.Schema.TheVariants.{Named};
-ghost use Rattle.postcard_dyn_schema.specs.Text.{characters, TakesPhrase, IsSign, IsWord, IsCount};
-ghost use Rattle.postcard_dyn_schema.specs.Text.{is_of_word as is_of_word_byte, EndsWord, TakesLifetime};
+ghost use Rattle.std.specs.Prelude.{◌≡◌, ◌⊎◌, ℕ, ◌+◌, ◌-◌, ◌*◌, ◌<◌, ◌++◌, ◌≤◌, List, [], ◌∷◌};
+ghost use Rattle.std.specs.Prelude.{true, false, take, length, Box, IfOk, IfErr, OnErr, OnOk};
+ghost use Rattle.std.specs.Prelude.{string_bytes};
+ghost use Rattle.postcard_dyn_schema.specs.{AllPass, EndsWord, Global, IsCount, IsSign};
+ghost use Rattle.postcard_dyn_schema.specs.{IsTrimAsciiStart, IsWord, Named, Schema, String};
+ghost use Rattle.postcard_dyn_schema.specs.{TakesLifetime, TakesPhrase, characters, is_ascii_digit};
+ghost use Rattle.postcard_dyn_schema.specs.{is_ascii_whitespace, is_of_word_byte};
 
 use crate::error::Problem;
 use crate::literal::{LiteralError, number_of};
@@ -190,7 +186,7 @@ pub fn take_count(rest: &mut &[u8]) -> Result<usize, ProblemAt>
 /// Puts a type into a `Box`.
 pub fn boxed(alloc: Global, schema: Schema, rest: &[u8]) -> Result<Box<Schema>, ProblemAt>
     ensures held { IfOk result (λ held. held.value ≡ schema) }
-    ensures refused { IfErr result (λ found. found.problem ≡ Problem.OutOfMemory) }
+    ensures only_out_of_memory { IfErr result (λ found. found.problem ≡ Problem.OutOfMemory) }
 {
     match Box::new(alloc, schema) {
         Ok(held) => Ok(held),
@@ -218,7 +214,7 @@ pub fn named(alloc: Global, name: &[u8], schema: Schema, rest: &[u8]) -> Result<
 /// Adds a type to the end of the list.
 pub fn push(schemas: &mut Vec<Schema>, schema: Schema, rest: &[u8]) -> Result<(), ProblemAt>
     ensures added { OnOk result (schemas.new.items ≡ schemas.old.items ++ schema ∷ []) }
-    ensures refused { IfErr result (λ found. found.problem ≡ Problem.OutOfMemory) }
+    ensures only_out_of_memory { IfErr result (λ found. found.problem ≡ Problem.OutOfMemory) }
 {
     match schemas.push(schema) {
         Ok(()) => Ok(()),

@@ -1,11 +1,8 @@
 //! Types of messages, as values of a program.
 
 ghost use Rattle.std.specs.Prelude.{◌≡◌, IfSome, IfNone};
-ghost use Rattle.postcard_dyn_schema.specs.declared.fixed.Integer.{Integer};
-ghost use Rattle.postcard_dyn_schema.specs.Fixed.{number_of};
-ghost use Rattle.postcard_dyn_schema.specs.LeafNames.{leaf_name};
-ghost use Rattle.postcard_dyn_schema.specs.Meaning.{leaf, has_bytes, some_has_bytes, type_of};
-ghost use Rattle.postcard_dyn_schema.specs.Meaning.{types_of};
+ghost use Rattle.postcard_dyn_schema.specs.{Integer, has_bytes, leaf, leaf_name, number_of};
+ghost use Rattle.postcard_dyn_schema.specs.{some_has_bytes, type_of, types_of};
 
 use crate::fixed::{ByteOrder, Integer};
 

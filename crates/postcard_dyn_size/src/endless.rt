@@ -1,10 +1,10 @@
 //! The parts of a type that have no greatest size: [`endless_parts`]. The functions below it fail
 //! as it does.
 
-ghost use Rattle.std.specs.Prelude.{◌≡◌, ◌++◌, ◌∷◌, [], if◌then◌else◌, None, Some};
-ghost use Rattle.std.specs.Prelude.{IfErr, IfOk, OnOk, map, string_bytes};
-ghost use Rattle.postcard_dyn_size.specs.Endless.{element_path, endless, in_parts, in_variants};
-ghost use Rattle.postcard_dyn_size.specs.Endless.{inner_path, is_endless_leaf};
+ghost use Rattle.std.specs.Prelude.{◌≡◌, ◌++◌, ◌∷◌, [], if◌then◌else◌, None, Some, IfErr, IfOk};
+ghost use Rattle.std.specs.Prelude.{OnOk, map, string_bytes};
+ghost use Rattle.postcard_dyn_size.specs.{element_path, endless, in_parts, in_variants, inner_path};
+ghost use Rattle.postcard_dyn_size.specs.{is_endless_leaf};
 
 use postcard_dyn_schema::{Leaf, Schema};
 use postcard_wire::{Error, Result};
@@ -24,7 +24,7 @@ use std::alloc::Global;
 pub fn endless_parts(alloc: Global, schema: &Schema) -> Result<Vec<String>>
     ensures listed { IfOk result (λ paths. map string_bytes paths.items
         ≡ endless schema.now None []) }
-    ensures refused { IfErr result (λ e. e ≡ Error.OutOfMemory) }
+    ensures only_out_of_memory { IfErr result (λ e. e ≡ Error.OutOfMemory) }
 {
     let mut paths = Vec::new(alloc);
     push_endless(alloc, schema, "", &mut paths)?;
@@ -36,7 +36,7 @@ pub fn endless_parts(alloc: Global, schema: &Schema) -> Result<Vec<String>>
 fn push_endless(alloc: Global, schema: &Schema, path: &str, paths: &mut Vec<String>) -> Result<()>
     ensures added { OnOk result (map string_bytes paths.new.items
         ≡ map string_bytes paths.old.items ++ endless schema.now None path.now) }
-    ensures refused { IfErr result (λ e. e ≡ Error.OutOfMemory) }
+    ensures only_out_of_memory { IfErr result (λ e. e ≡ Error.OutOfMemory) }
 {
     match schema {
         Schema::Leaf(leaf) => push_leaf(alloc, *leaf, path, paths),
@@ -67,7 +67,7 @@ fn push_endless(alloc: Global, schema: &Schema, path: &str, paths: &mut Vec<Stri
 fn push_leaf(alloc: Global, leaf: Leaf, path: &str, paths: &mut Vec<String>) -> Result<()>
     ensures added { OnOk result (map string_bytes paths.new.items ≡ map string_bytes paths.old.items
         ++ (if is_endless_leaf leaf then path.now ∷ [] else [])) }
-    ensures refused { IfErr result (λ e. e ≡ Error.OutOfMemory) }
+    ensures only_out_of_memory { IfErr result (λ e. e ≡ Error.OutOfMemory) }
 {
     match leaf {
         Leaf::Str | Leaf::Bytes => push_path(alloc, path, paths),
@@ -78,7 +78,7 @@ fn push_leaf(alloc: Global, leaf: Leaf, path: &str, paths: &mut Vec<String>) -> 
 fn push_path(alloc: Global, path: &str, paths: &mut Vec<String>) -> Result<()>
     ensures added { OnOk result (map string_bytes paths.new.items
         ≡ map string_bytes paths.old.items ++ path.now ∷ []) }
-    ensures refused { IfErr result (λ e. e ≡ Error.OutOfMemory) }
+    ensures only_out_of_memory { IfErr result (λ e. e ≡ Error.OutOfMemory) }
 {
     let own = String::from_str(alloc, path)?;
     paths.push(own)?;
@@ -94,7 +94,7 @@ fn push_in_elements(
 ) -> Result<()>
     ensures added { OnOk result (map string_bytes paths.new.items ≡ map string_bytes paths.old.items
         ++ endless element.now None (element_path path.now)) }
-    ensures refused { IfErr result (λ e. e ≡ Error.OutOfMemory) }
+    ensures only_out_of_memory { IfErr result (λ e. e ≡ Error.OutOfMemory) }
 {
     let own = format!(in alloc; "{path}[]")?;
     push_endless(alloc, element, &own, paths)
@@ -109,7 +109,7 @@ fn push_in_parts(
 ) -> Result<()>
     ensures added { OnOk result (map string_bytes paths.new.items ≡ map string_bytes paths.old.items
         ++ in_parts 0 (map endless parts.now.items) path.now) }
-    ensures refused { IfErr result (λ e. e ≡ Error.OutOfMemory) }
+    ensures only_out_of_memory { IfErr result (λ e. e ≡ Error.OutOfMemory) }
 {
     for (number, part) in parts.iter().enumerate() {
         let own = part_path(alloc, part, number, path)?;
@@ -127,7 +127,7 @@ fn push_in_variants(
 ) -> Result<()>
     ensures added { OnOk result (map string_bytes paths.new.items ≡ map string_bytes paths.old.items
         ++ in_variants (map endless variants.now.items) path.now) }
-    ensures refused { IfErr result (λ e. e ≡ Error.OutOfMemory) }
+    ensures only_out_of_memory { IfErr result (λ e. e ≡ Error.OutOfMemory) }
 {
     for variant in variants {
         push_endless(alloc, variant, path, paths)?;
@@ -140,7 +140,7 @@ fn push_in_variants(
 fn part_path(alloc: Global, part: &Schema, number: usize, path: &str) -> Result<String>
     ensures made { IfOk result (λ own. endless part.now (Some number) path.now
         ≡ endless part.now None (string_bytes own)) }
-    ensures refused { IfErr result (λ e. e ≡ Error.OutOfMemory) }
+    ensures only_out_of_memory { IfErr result (λ e. e ≡ Error.OutOfMemory) }
 {
     match part {
         Schema::Named(_, _) => Ok(String::from_str(alloc, path)?),
@@ -154,7 +154,7 @@ fn part_path(alloc: Global, part: &Schema, number: usize, path: &str) -> Result<
 /// Returns the path of a part with this name or number in the type at a path.
 fn inner(alloc: Global, path: &str, name: &str) -> Result<String>
     ensures made { IfOk result (λ own. string_bytes own ≡ inner_path path.now name.now) }
-    ensures refused { IfErr result (λ e. e ≡ Error.OutOfMemory) }
+    ensures only_out_of_memory { IfErr result (λ e. e ≡ Error.OutOfMemory) }
 {
     if path.is_empty() {
         return Ok(String::from_str(alloc, name)?);

@@ -2,9 +2,9 @@
 //! `None` where it does.
 
 ghost use Rattle.std.specs.Prelude.{◌≡◌, Some};
-ghost use Rattle.postcard_wire.specs.Reading.{IsArray, IsGroup, IsVariant};
-ghost use Rattle.postcard_dyn_schema.specs.Meaning.{type_of, types_of, reads, reads_all, reads_at};
-ghost use Rattle.postcard_dyn_size.specs.Least.{IsLeastSize, IsVariantAt, leaf_least};
+ghost use Rattle.postcard_dyn_size.specs.{IsArray, IsGroup, IsLeastSize, IsVariant, IsVariantAt};
+ghost use Rattle.postcard_dyn_size.specs.{leaf_least, reads, reads_all, reads_at, type_of};
+ghost use Rattle.postcard_dyn_size.specs.{types_of};
 
 use crate::sizes::{array_size, lesser};
 use postcard_dyn_schema::{Leaf, Schema};

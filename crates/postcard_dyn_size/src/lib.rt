@@ -3,9 +3,8 @@
 #![tactic(auto)]
 
 ghost use Rattle.std.specs.Prelude.{◌≡◌, Some};
-ghost use Rattle.postcard_dyn_schema.specs.Meaning.{type_of, types_of, reads};
-ghost use Rattle.postcard_max.specs.Limits.{AreBounded, IsReached};
-ghost use Rattle.postcard_dyn_size.specs.Sizes.{limit, limit_all, limit_of_choice, leaf_greatest};
+ghost use Rattle.postcard_dyn_size.specs.{AreBounded, IsReached, leaf_greatest, limit, limit_all};
+ghost use Rattle.postcard_dyn_size.specs.{limit_of_choice, reads, type_of, types_of};
 
 pub mod endless;
 pub mod least;

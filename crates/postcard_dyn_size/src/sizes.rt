@@ -1,8 +1,7 @@
 //! The greatest size of a type from those of its parts: the functions that `postcard_max` doesn't have.
 
 ghost use Rattle.std.specs.Prelude.{◌≡◌};
-ghost use Rattle.postcard_dyn_size.specs.Least.{lesser_of};
-ghost use Rattle.postcard_dyn_size.specs.Sizes.{repeated};
+ghost use Rattle.postcard_dyn_size.specs.{lesser_of, repeated};
 
 use postcard_max::sizes::product;
 

@@ -1,7 +1,7 @@
 //! What is expected where a text is no value: [`Expected`].
 
 ghost use Rattle.std.specs.Prelude.{◌≡◌, Some};
-ghost use Rattle.postcard_dyn_text.specs.Printed.{elements_text, expected_text, leaf_phrase, number_phrase};
+ghost use Rattle.postcard_dyn_text.specs.{elements_text, expected_text, leaf_phrase, number_phrase};
 
 use postcard_dyn::{Integer, Leaf};
 use std::fmt;

@@ -5,12 +5,9 @@
 //! bits than `f32::NAN` or `f64::NAN` has these in parentheses: `nan(0x7fc00001)`.
 
 ghost use Rattle.std.specs.Prelude.{◌≡◌, ℕ, ◌^◌, ◌<◌, ◌++◌, List, IfOk, MatchResult};
-ghost use Rattle.std.specs.Float.{binary32, binary64};
-ghost use Rattle.std.specs.List.{AllPass};
-ghost use Rattle.std.specs.Str.{IsTrimAsciiStart};
-ghost use Rattle.postcard_dyn_schema.specs.Text.{Led, Then, TakesPhrase, IsSign};
-ghost use Rattle.postcard_dyn_text.specs.Floats.{ShowsFloat, SpellsFloat, EndsFloat, EndsNumber};
-ghost use Rattle.postcard_dyn_text.specs.Floats.{IsHexadecimal, is_of_float as is_of_number};
+ghost use Rattle.postcard_dyn_text.specs.{AllPass, EndsFloat, EndsNumber, IsHexadecimal, IsSign};
+ghost use Rattle.postcard_dyn_text.specs.{IsTrimAsciiStart, Led, ShowsFloat, SpellsFloat};
+ghost use Rattle.postcard_dyn_text.specs.{TakesPhrase, Then, binary32, binary64, is_of_number};
 
 use crate::expected::Expected;
 use crate::read::Stop;

@@ -2,16 +2,11 @@
 //! before them or not, and for a type with a sign also a `-`: `42`, `+42`, `1_000`, `0x2a`,
 //! `-0x2A`, `0b10_1010`, `0o52`.
 
-ghost use Rattle.std.specs.Prelude.{◌≡◌, ℕ, ℤ, ◌^◌, ◌<◌, List, length, FitsSigned};
-ghost use Rattle.std.specs.Prelude.{IfOk, IfErr, IfSome, IfNone, MatchResult, Ok, Err, true, false};
-ghost use Rattle.std.specs.Int.{w128};
-ghost use Rattle.std.specs.Str.Parse.{without_leading_plus};
-ghost use Rattle.postcard_dyn_schema.specs.Fixed.{is_signed, number_of as leaf_of};
-ghost use Rattle.postcard_dyn_schema.specs.Literals.{IsLiteral};
-ghost use Rattle.postcard_dyn_schema.specs.Text.{Led, TakesPhrase};
-ghost use Rattle.postcard_dyn_text.specs.Floats.{EndsNumber};
-ghost use Rattle.postcard_dyn_text.specs.Numbers.{IsUnsigned, IsSigned};
-ghost use Rattle.postcard_dyn_text.specs.Numbers.{SpellsBits};
+ghost use Rattle.std.specs.Prelude.{◌≡◌, ℕ, ℤ, ◌^◌, ◌<◌, List, length, FitsSigned, IfOk, IfErr};
+ghost use Rattle.std.specs.Prelude.{IfSome, IfNone, MatchResult, Ok, Err, true, false};
+ghost use Rattle.postcard_dyn_text.specs.{EndsNumber, IsLiteral, IsSigned, IsUnsigned, Led};
+ghost use Rattle.postcard_dyn_text.specs.{SpellsBits, TakesPhrase, is_signed, leaf_of, w128};
+ghost use Rattle.postcard_dyn_text.specs.{without_leading_plus};
 
 use crate::expected::Expected;
 use crate::float::take_number;

@@ -1,13 +1,11 @@
 //! Reading quoted texts and characters, and the digits of byte strings.
 
 ghost use Rattle.std.specs.Prelude.{◌≡◌, ◌≢◌, ◌+◌, ◌*◌, ◌<◌, ◌⊎◌, ℕ, List, [], ◌∷◌, ◌++◌, length};
-ghost use Rattle.std.specs.Prelude.{IfOk, IfErr, IfSome, IfNone, OnOk, OnErr, MatchResult};
-ghost use Rattle.std.specs.Prelude.{false, IsUtf8, string_bytes};
-ghost use Rattle.std.specs.Char.{IsScalar, digit_value, encode_utf8, is_ascii_whitespace};
-ghost use Rattle.postcard_dyn_schema.specs.Text.{TakesPhrase};
-ghost use Rattle.postcard_dyn_text.specs.Accepted.{ReadsAs};
-ghost use Rattle.postcard_dyn_text.specs.Quoted.{StandsFor, IsCode, IsEscape, IsQuoted};
-ghost use Rattle.postcard_dyn_text.specs.Quoted.{AreDigitsOf};
+ghost use Rattle.std.specs.Prelude.{IfOk, IfErr, IfSome, IfNone, OnOk, OnErr, MatchResult, false};
+ghost use Rattle.std.specs.Prelude.{IsUtf8, string_bytes};
+ghost use Rattle.postcard_dyn_text.specs.{AreDigitsOf, IsCode, IsEscape, IsQuoted, IsScalar};
+ghost use Rattle.postcard_dyn_text.specs.{ReadsAs, StandsFor, TakesPhrase, digit_value};
+ghost use Rattle.postcard_dyn_text.specs.{encode_utf8, is_ascii_whitespace};
 
 use crate::expected::Expected;
 use crate::read::Stop;
@@ -203,7 +201,7 @@ fn digit_of(byte: u8, start: &[u8], expected: Expected<'static>) -> Result<u8, S
 
 fn push(bytes: &mut Vec<u8>, byte: u8) -> Result<(), Stop<'static>>
     ensures added { OnOk result (bytes.new.items ≡ bytes.old.items ++ byte ∷ []) }
-    ensures refused { IfErr result (λ stop. stop ≡ Stop.Memory) }
+    ensures only_out_of_memory { IfErr result (λ stop. stop ≡ Stop.Memory) }
 {
     match bytes.push(byte) {
         Ok(()) => Ok(()),
@@ -214,7 +212,7 @@ fn push(bytes: &mut Vec<u8>, byte: u8) -> Result<(), Stop<'static>>
 /// Adds a character's UTF-8 to the end, or stops with `Memory`.
 fn push_character(bytes: &mut Vec<u8>, c: char) -> Result<(), Stop<'static>>
     ensures added { OnOk result (bytes.new.items ≡ bytes.old.items ++ encode_utf8 c) }
-    ensures refused { IfErr result (λ stop. stop ≡ Stop.Memory) }
+    ensures only_out_of_memory { IfErr result (λ stop. stop ≡ Stop.Memory) }
 {
     let mut room = [0; 4];
     match bytes.extend_from_slice(c.encode_utf8(&mut room).as_bytes()) {

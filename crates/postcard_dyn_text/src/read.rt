@@ -1,33 +1,24 @@
 //! Reading a value from its text: [`read_text`]. A function with a [`Stop`] stops where the text
 //! isn't what it takes, and with `Memory` if an allocation fails.
 
-ghost use Rattle.std.specs.Prelude.{◌≡◌, ◌≢◌, ℕ, ◌<◌, List, [], ◌∷◌, ◌++◌, codes, map, slice_index, length};
-ghost use Rattle.std.specs.Prelude.{IfOk, IfErr, IfSome, IfNone, OnOk, MatchResult, Some, Bool, true, false, get_or};
+ghost use Rattle.std.specs.Prelude.{◌≡◌, ◌≢◌, ℕ, ◌<◌, List, [], ◌∷◌, ◌++◌, codes, map, slice_index};
+ghost use Rattle.std.specs.Prelude.{length, IfOk, IfErr, IfSome, IfNone, OnOk, MatchResult, Some};
+ghost use Rattle.std.specs.Prelude.{Bool, true, false, get_or};
+ghost use Rattle.postcard_dyn_text.specs.{Accepts, AreClosed, AreSigns, Each, EndsNumber, EndsWord};
+ghost use Rattle.postcard_dyn_text.specs.{FollowsValue, HasDistinctItems, HasDistinctNames};
+ghost use Rattle.postcard_dyn_text.specs.{HaveDistinctNames, IsArray, IsBetween, IsByteString};
+ghost use Rattle.postcard_dyn_text.specs.{IsCalled, IsClosing, IsFieldName, IsGroup, IsMaybe};
+ghost use Rattle.postcard_dyn_text.specs.{IsNotCalled, IsOption, IsPlaceIn, IsQuoted, IsQuotedName};
+ghost use Rattle.postcard_dyn_text.specs.{IsScalar, IsSeq, IsSign, IsTruth, IsVariant, IsWord, Led};
+ghost use Rattle.postcard_dyn_text.specs.{NamesDiffer, ReadsAs, Row, Schema, SpellsArray, SpellsAt};
+ghost use Rattle.postcard_dyn_text.specs.{SpellsChoice, SpellsContent, SpellsGroup, SpellsItem};
+ghost use Rattle.postcard_dyn_text.specs.{SpellsLeaf, SpellsList, SpellsOption, SpellsTree};
+ghost use Rattle.postcard_dyn_text.specs.{SpellsValue, TakesPhrase, Then, Trees, Unless};
+ghost use Rattle.postcard_dyn_text.specs.{closing_sign, encode_utf8, is_ascii_whitespace};
+ghost use Rattle.postcard_dyn_text.specs.{layout_of, layouts_of, leaf_reads, opening_sign};
+ghost use Rattle.postcard_dyn_text.specs.{part_phrases, phrases, reads, reads_all, reads_at, tree};
+ghost use Rattle.postcard_dyn_text.specs.{trees, type_of, types_of, value_error_text};
 ghost use Rattle.std.specs.Bool.{◌==◌};
-ghost use Rattle.std.specs.Char.{encode_utf8, is_ascii_whitespace, IsScalar};
-ghost use Rattle.postcard_dyn_text.specs.Accepted.{Accepts, ReadsAs, FollowsValue, IsClosing};
-ghost use Rattle.postcard_dyn_text.specs.Accepted.{IsBetween, HasDistinctNames, HaveDistinctNames};
-ghost use Rattle.postcard_dyn_text.specs.Accepted.{HasDistinctItems, NamesDiffer, IsNotCalled};
-ghost use Rattle.postcard_dyn_text.specs.Place.{IsPlaceIn};
-ghost use Rattle.postcard_dyn_text.specs.Printed.{value_error_text};
-ghost use Rattle.postcard_dyn_text.specs.Quoted.{IsQuoted, IsByteString};
-ghost use Rattle.postcard_dyn_text.specs.Shown.{layout_of, layouts_of};
-ghost use Rattle.postcard_dyn_text.specs.Spelled.{SpellsValue, SpellsTree, SpellsLeaf, SpellsItem};
-ghost use Rattle.postcard_dyn_text.specs.Spelled.{SpellsOption, SpellsList, SpellsArray};
-ghost use Rattle.postcard_dyn_text.specs.Spelled.{SpellsGroup, SpellsChoice, SpellsAt};
-ghost use Rattle.postcard_dyn_text.specs.Spelled.{SpellsContent, AreSigns, Row, AreClosed};
-ghost use Rattle.postcard_dyn_text.specs.Spelled.{phrases, part_phrases};
-ghost use Rattle.postcard_dyn_text.specs.Spelled.{IsTruth, IsQuotedName, IsFieldName, Unless, opening_sign, closing_sign};
-ghost use Rattle.postcard_dyn_text.specs.Floats.{EndsNumber};
-ghost use Rattle.postcard_wire.specs.Tree.{Tree, Trees, trees};
-ghost use Rattle.postcard_wire.specs.Reading.{IsOption, IsGroup, IsSeq, IsArray, IsVariant, Each};
-ghost use Rattle.postcard_dyn_schema.specs.Meaning.{type_of, types_of, reads, reads_all, reads_at};
-ghost use Rattle.postcard_dyn_schema.specs.Meaning.{leaf_reads};
-ghost use Rattle.postcard_dyn_schema.specs.Text.{Led, TakesPhrase, Then, IsSign, IsWord, IsMaybe};
-ghost use Rattle.postcard_dyn_schema.specs.Text.{EndsWord};
-ghost use Rattle.postcard_dyn_schema.specs.Names.{IsCalled};
-ghost use Rattle.postcard_dyn_schema.specs.declared.schema.Schema.{Schema};
-ghost use Rattle.postcard_dyn.specs.Tree.{tree};
 
 use crate::expected::Expected;
 use crate::float::{read_f32, read_f64, take_number};
@@ -275,7 +266,7 @@ fn before<'a>(part: &'a Schema, between: &[u8]) -> Expected<'a>
 
 fn push(items: &mut Vec<Value>, item: Value) -> Result<(), Stop<'static>>
     ensures added { OnOk result (items.new.items ≡ items.old.items ++ item ∷ []) }
-    ensures refused { IfErr result (λ stop. stop ≡ Stop.Memory) }
+    ensures only_out_of_memory { IfErr result (λ stop. stop ≡ Stop.Memory) }
 {
     match items.push(item) {
         Ok(()) => Ok(()),

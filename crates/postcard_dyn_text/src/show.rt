@@ -1,27 +1,18 @@
 //! Printing a value with the names of its schema: [`Shown`].
 
-ghost use Rattle.std.specs.Prelude.{◌≡◌, ℕ, ◌++◌, ◌/◌, ◌%◌, ◌<◌, ◌^◌, true, false, Vec, codes, map, OnOk};
-ghost use Rattle.std.specs.Float.{binary32, binary64};
-ghost use Rattle.std.specs.Fmt.{DisplaysOnOk, WritesOnOk, debug_str, digits, signed_decimal};
-ghost use Rattle.std.specs.Int.{w8, cast_signed, cast_unsigned};
-ghost use Rattle.std.specs.List.{list_all};
-ghost use Rattle.std.specs.declared.alloc.Global.{Global};
-ghost use Rattle.postcard_wire.specs.Tree.{Byte, trees};
+ghost use Rattle.std.specs.Prelude.{◌≡◌, ℕ, ◌++◌, ◌/◌, ◌%◌, ◌<◌, ◌^◌, true, false, Vec, codes, map};
+ghost use Rattle.std.specs.Prelude.{OnOk};
+ghost use Rattle.postcard_dyn_text.specs.{Byte, DisplaysOnOk, Global, Group, Schema, ShowsFloat};
+ghost use Rattle.postcard_dyn_text.specs.{WritesOnOk, binary32, binary64, bits_text, cast_signed};
+ghost use Rattle.postcard_dyn_text.specs.{cast_unsigned, closing_of, debug_str, digits, each_by};
+ghost use Rattle.postcard_dyn_text.specs.{entries_text, entry_text, group, have_names, hexadecimal};
+ghost use Rattle.postcard_dyn_text.specs.{is_empty_group, is_group, is_signed, items_text, joined};
+ghost use Rattle.postcard_dyn_text.specs.{layout_of, layouts_of, lead, leaf_text, list_all};
+ghost use Rattle.postcard_dyn_text.specs.{no_types, opening_of, option_text, parts_text};
+ghost use Rattle.postcard_dyn_text.specs.{signed_decimal, size_of, stands_for_itself, text, texts};
+ghost use Rattle.postcard_dyn_text.specs.{tree, trees, type_of, variant_text, w8};
 ghost use Rattle.postcard_dyn_schema.specs.declared.schema.Leaf.TheVariants as leaves;
-ghost use Rattle.postcard_dyn_schema.specs.declared.schema.Schema.{Schema};
-ghost use Rattle.postcard_dyn_schema.specs.declared.schema.Schema.TheVariants.{Group};
-ghost use Rattle.postcard_dyn_schema.specs.Meaning.{type_of, group, no_types};
-ghost use Rattle.postcard_dyn_schema.specs.Fixed.{size_of, is_signed};
-ghost use Rattle.postcard_dyn.specs.Tree.{tree};
 ghost use Rattle.postcard_dyn.specs.declared.value.Value.TheVariants as values;
-ghost use Rattle.postcard_dyn_text.specs.Floats.{ShowsFloat};
-ghost use Rattle.postcard_dyn_text.specs.Shown.{layout_of, layouts_of, text, texts, joined};
-ghost use Rattle.postcard_dyn_text.specs.Shown.{each_by, stands_for_itself};
-ghost use Rattle.postcard_dyn_text.specs.Shown.{leaf_text, bits_text, option_text, items_text};
-ghost use Rattle.postcard_dyn_text.specs.Shown.{entries_text};
-ghost use Rattle.postcard_dyn_text.specs.Shown.{entry_text, parts_text, variant_text, hexadecimal};
-ghost use Rattle.postcard_dyn_text.specs.Shown.{have_names, is_empty_group, is_group, lead};
-ghost use Rattle.postcard_dyn_text.specs.Shown.{opening_of, closing_of};
 
 use crate::float::{show_f32, show_f64};
 use postcard_dyn::fixed::{are_bits, signed_of};

@@ -1,13 +1,7 @@
 //! The arrays of bytes that numbers are written as and read from.
 
-ghost use Rattle.std.specs.Prelude.{◌≡◌, ◌≤◌, ℕ, IfErr, length, take};
-ghost use Rattle.postcard_wire.specs.declared.error.Error.{Error};
-ghost use Rattle.postcard_wire.specs.Spelling.{Spells};
-ghost use Rattle.postcard_shape.specs.Runs.{IsValue};
-ghost use Rattle.postcard_shape.specs.Shape.{never};
-ghost use Rattle.postcard_de.specs.Reads.{Reads};
-ghost use Rattle.postcard_de.specs.Refuses.{Refuses, WantsBytes, NoneBad};
-ghost use Rattle.postcard_de.specs.Deserializer.{source_of};
+ghost use Rattle.std.specs.Prelude.{◌≡◌, ◌≤◌, ℕ, length, take};
+ghost use Rattle.postcard_fixint.specs.{DeserializesNode, IsValue, array_node};
 
 use postcard_de::{Deserializer, Flavor, Result};
 use postcard_shape::Shaped;
@@ -31,10 +25,7 @@ pub trait ByteArray: Shaped + Sized + Drop {
     /// Reads the array from the next bytes. Fails with `DeserializeUnexpectedEnd` if the source
     /// can't give as many; some of them may have been taken then.
     fn read<'de, F: Flavor>(d: &mut Deserializer<'de, F>) -> Result<Self>
-        ensures reads { Reads F.Flavor Spells Self.shape.reads Self.shape.value never
-            (source_of d.old) result (source_of d.new) }
-        ensures refused { IfErr result (λ e. Refuses F.Flavor (WantsBytes size) NoneBad
-            (source_of d.old) e (source_of d.new)) };
+        ensures { DeserializesNode F.Flavor (array_node Self.shape size) d.old result d.new };
 }
 
 impl<const N: usize> ByteArray for [u8; N] {

@@ -1,15 +1,7 @@
 //! Numbers at their full width, the highest byte first: big-endian.
 
-ghost use Rattle.std.specs.Prelude.{◌≡◌, OnOk, IfErr};
-ghost use Rattle.postcard_wire.specs.Spelling.{Spells};
-ghost use Rattle.postcard_shape.specs.Leaves.{byte};
-ghost use Rattle.postcard_shape.specs.Lists.{array};
-ghost use Rattle.postcard_ser.specs.Writing.{Wrote, never};
-ghost use Rattle.postcard_de.specs.Deserializer.{source_of};
-ghost use Rattle.postcard_de.specs.Reads.{Reads};
-ghost use Rattle.postcard_de.specs.Refuses.{Refuses, WantsBytes, NoneBad};
-ghost use Rattle.postcard_shape.specs.Base256.{big};
-ghost use Rattle.postcard_fixint.specs.Fixed.{IsFixed, fixed};
+ghost use Rattle.std.specs.Prelude.{◌≡◌, OnOk};
+ghost use Rattle.postcard_fixint.specs.{DeserializesNode, Wrote, big, fixed, fixed_node, never};
 
 use crate::array::ByteArray;
 use crate::block::{self, OfBytes};
@@ -79,10 +71,7 @@ impl<'de, T: FixInt> Deserialize<'de> for BE<T> {
         alloc: Global,
         d: &mut Deserializer<'de, F>,
     ) -> Result<Self>
-        ensures reads { Reads F.Flavor Spells (array T.width.size byte).reads
-            (IsFixed big T.width) never (source_of d.old) result (source_of d.new) }
-        ensures refused { IfErr result (λ e. Refuses F.Flavor (WantsBytes T.width.size) NoneBad
-            (source_of d.old) e (source_of d.new)) }
+        ensures { DeserializesNode F.Flavor (fixed_node big T.width) d.old result d.new }
     {
         BE::deserialize_owned(alloc, d)
     }
@@ -93,10 +82,7 @@ impl<T: FixInt> DeserializeOwned for BE<T> {
         _alloc: Global,
         d: &mut Deserializer<'de, F>,
     ) -> Result<Self>
-        ensures reads { Reads F.Flavor Spells (array T.width.size byte).reads
-            (IsFixed big T.width) never (source_of d.old) result (source_of d.new) }
-        ensures refused { IfErr result (λ e. Refuses F.Flavor (WantsBytes T.width.size) NoneBad
-            (source_of d.old) e (source_of d.new)) }
+        ensures { DeserializesNode F.Flavor (fixed_node big T.width) d.old result d.new }
     {
         let bytes = T::Bytes::read(d)?;
         Ok(BE(T::decode_be(bytes)))
@@ -123,10 +109,7 @@ pub fn deserialize<'de, T: FixInt, F: postcard_de::Flavor>(
     alloc: Global,
     d: &mut Deserializer<'de, F>,
 ) -> Result<T>
-    ensures reads { Reads F.Flavor Spells (array T.width.size byte).reads
-        (IsFixed big T.width) never (source_of d.old) result (source_of d.new) }
-    ensures refused { IfErr result (λ e. Refuses F.Flavor (WantsBytes T.width.size) NoneBad
-        (source_of d.old) e (source_of d.new)) }
+    ensures { DeserializesNode F.Flavor (fixed_node big T.width) d.old result d.new }
 {
     let value = <BE<T>>::deserialize_owned(alloc, d)?;
     Ok(value.get())

@@ -1,10 +1,7 @@
 //! Lists of numbers at their full width, read many at a time from bytes that are in memory.
 
 ghost use Rattle.std.specs.Prelude.{◌≡◌, ◌<◌, ◌≤◌, ℕ, List, length, take, IfErr, IfOk, IfSome};
-ghost use Rattle.std.specs.Option.{IfNone};
-ghost use Rattle.postcard_shape.specs.Lists.{Appends};
-ghost use Rattle.postcard_shape.specs.Runs.{IsValue};
-ghost use Rattle.postcard_shape.specs.Shape.{Shape};
+ghost use Rattle.postcard_fixint.specs.{Appends, IfNone, IsValue, Shape};
 
 use crate::array::ByteArray;
 use postcard_wire::{Error, Result};
@@ -36,7 +33,7 @@ pub(crate) fn append<T: OfBytes>(
         (take n bytes.now) items.old.items items.new.items)) }
     ensures unchanged_if_none { IfOk result
         (λ front. IfNone front (items.new.items ≡ items.old.items)) }
-    ensures refused { IfErr result (λ e. e ≡ Error.OutOfMemory) }
+    ensures only_out_of_memory { IfErr result (λ e. e ≡ Error.OutOfMemory) }
 {
     let size = T::Bytes::size();
     if size == 0 || bytes.len() < size || most == 0 {

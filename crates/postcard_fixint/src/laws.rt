@@ -1,9 +1,7 @@
 //! What holds of the bytes of numbers, as contracts of functions that do nothing.
 
 ghost use Rattle.std.specs.Prelude.{◌≡◌, ◌↔◌, ◌<◌, ◌^◌, ℕ, List, length};
-ghost use Rattle.postcard_wire.specs.Spelling.{canonical};
-ghost use Rattle.postcard_shape.specs.Base256.{AreNumber, little, big};
-ghost use Rattle.postcard_fixint.specs.Fixed.{fixed};
+ghost use Rattle.postcard_fixint.specs.{AreNumber, big, canonical, fixed, little};
 
 use crate::number::FixInt;
 

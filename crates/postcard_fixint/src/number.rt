@@ -1,9 +1,8 @@
 //! The numbers that can be written at their full width.
 
 ghost use Rattle.std.specs.Prelude.{◌≡◌, ℕ, List, refl};
-ghost use Rattle.postcard_shape.specs.Base256.{little, big};
-ghost use Rattle.postcard_fixint.specs.Fixed.{FixedWidth, unsigned, signed};
-ghost use Rattle.postcard_fixint.specs.Fixed.{IsByteArray, byte_array};
+ghost use Rattle.postcard_fixint.specs.{FixedWidth, IsByteArray, big, byte_array, little, signed};
+ghost use Rattle.postcard_fixint.specs.{unsigned};
 
 use crate::array::ByteArray;
 use postcard_ser::Serialize;

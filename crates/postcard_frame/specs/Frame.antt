@@ -34,7 +34,7 @@ module _ {V R : Type 0} (shape : Shape V) (value : R → V) (frame : List ℕ)
   AcceptsFrame = (content : List ℕ) (t : Tree) (front rest : List ℕ) → Groups frame content
       → shape.reads t → Spells t front → content ≡ front ++ rest → SucceedsWith (shape.value t)
 
-  -- The made frame of a value that fits, with its sentinel or without, reads back as a value that
+  -- The made frame of a value that fits, with its zero or without, reads back as a value that
   -- looks like it.
   abbrev pub ReadsBackFrame : Type 0
   ReadsBackFrame = (x : V) → shape.fits x → frame ≡ before_zero (made (canonical (shape.tree x)))
@@ -47,5 +47,6 @@ module _ {V R : Type 0} (shape : Shape V) (value : R → V) (frame : List ℕ)
     pub reads_back : ReadsBackFrame
     pub no_frame : HasNoData frame → IsErrOf r DeserializeBadEncoding
     pub bad_only_if_no_data : r ≡ Err DeserializeBadEncoding → HasNoData frame
+    -- For users' proofs.
     pub out_of_memory_only_if_grows : r ≡ Err OutOfMemory → Grows shape
     pub named_error : IfErr r (λ e. (e ≡ DeserializeBadEncoding) ⊎ IsReadError shape.other e)

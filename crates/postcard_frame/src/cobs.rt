@@ -1,16 +1,10 @@
 //! Decoding a value from a COBS frame, in the buffer that holds it.
 
-ghost use Rattle.std.specs.Prelude.{◌≡◌, ◌+◌, ◌≤◌, ◌⊎◌, ⊤, List, ℕ, length, drop, Err};
-ghost use Rattle.std.specs.Prelude.{IfOk, IfErr, IsErrOf, OnOk, OnErr};
-ghost use Rattle.std.specs.Borrow.{sem, follows_if, follows_so, name_if_ok, Array, u8};
+ghost use Rattle.std.specs.Prelude.{◌≡◌, ◌+◌, ◌≤◌, ⊤, List, ℕ, length, drop, IfOk, OnOk, OnErr};
+ghost use Rattle.postcard_frame.specs.{Array, HasDataOf, IsBeside, IsDecoded, IsReadOf};
+ghost use Rattle.postcard_frame.specs.{KeepsFromZero, KeepsZero, before_zero, follows_if};
+ghost use Rattle.postcard_frame.specs.{follows_so, name_if_ok, sem, u8};
 ghost use mathlib.Core.Option.{none};
-ghost use Rattle.postcard_cobs.specs.Groups.{before_zero};
-ghost use Rattle.postcard_de.specs.Reads.{IsReadError};
-ghost use Rattle.postcard_shape.specs.Shape.{Grows};
-ghost use Rattle.postcard_frame.specs.Frame.{ReadsFrame, HasNoData, AcceptsFrame, ReadsBackFrame};
-ghost use Rattle.postcard_frame.specs.Frame.{IsReadOf};
-ghost use Rattle.postcard_frame.specs.Buffer.{KeepsFromZero, KeepsZero, HasDataOf};
-ghost use Rattle.postcard_frame.specs.Parts.{IsDecoded, IsBeside};
 
 use postcard_cobs::decode_in_place_report;
 use postcard_de::{Deserialize, from_bytes};
@@ -36,17 +30,7 @@ use std::alloc::Global;
 pub fn from_bytes_cobs<'a, T: Deserialize<'a>>(alloc: Global, s: &'a mut [u8]) -> Result<T>
     ensures* writes_back { sem 𝓛 (follows_so (Array u8 0) (Array u8 0) s.entry.ghost_name none
         (λ _ _. ⊤) (KeepsFromZero s.old)) }
-    ensures gives { IfOk result (ReadsFrame T.shape.reads T.shape.value (before_zero s.old)) }
-    ensures accepts { AcceptsFrame T.shape (λ value. value) (before_zero s.old) result }
-    ensures reads_back { ReadsBackFrame T.shape (λ value. value) (before_zero s.old) result }
-    ensures no_frame { HasNoData (before_zero s.old)
-        → IsErrOf result Error.DeserializeBadEncoding }
-    ensures bad_only_if_no_data { result ≡ Err Error.DeserializeBadEncoding
-        → HasNoData (before_zero s.old) }
-    // For users' proofs.
-    ensures out_of_memory_only_if_grows { result ≡ Err Error.OutOfMemory → Grows T.shape }
-    ensures named_error { IfErr result
-        (λ e. (e ≡ Error.DeserializeBadEncoding) ⊎ IsReadError T.shape.other e) }
+    ensures reads { IsReadOf T.shape (λ value. value) (before_zero s.old) result }
 {
     let Decoded { all, end, len } = decode(s);
     let (front, _) = split_front(all, end);
@@ -67,20 +51,9 @@ pub fn take_from_bytes_cobs<'a, T: Deserialize<'a>>(
         (name_if_ok (λ read. read.1.ghost_name) result)
         (λ rest all. OnOk result (KeepsZero s.old rest all))
         (λ all. OnErr result (KeepsFromZero s.old all))) }
-    ensures gives { IfOk result
-        (λ read. ReadsFrame T.shape.reads T.shape.value (before_zero s.old) read.0) }
+    ensures reads { IsReadOf T.shape (λ read. read.0) (before_zero s.old) result }
     ensures remaining_unchanged { IfOk result (λ read. read.1.now
         ≡ drop (length (before_zero s.old) + 1) s.old) }
-    ensures accepts { AcceptsFrame T.shape (λ read. read.0) (before_zero s.old) result }
-    ensures reads_back { ReadsBackFrame T.shape (λ read. read.0) (before_zero s.old) result }
-    ensures no_frame { HasNoData (before_zero s.old)
-        → IsErrOf result Error.DeserializeBadEncoding }
-    ensures bad_only_if_no_data { result ≡ Err Error.DeserializeBadEncoding
-        → HasNoData (before_zero s.old) }
-    // For users' proofs.
-    ensures out_of_memory_only_if_grows { result ≡ Err Error.OutOfMemory → Grows T.shape }
-    ensures named_error { IfErr result
-        (λ e. (e ≡ Error.DeserializeBadEncoding) ⊎ IsReadError T.shape.other e) }
 {
     let Decoded { all, end, len } = decode(s);
     let (front, rest) = split_front(all, end);

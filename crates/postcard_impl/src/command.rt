@@ -1,9 +1,7 @@
 //! The call `pcard impl FILE`: what it prints, and its exit status.
 
 ghost use Rattle.std.specs.Prelude.{◌≡◌, ◌≢◌, ◌≤◌, ℕ, List, Some, IfOk, string_bytes};
-ghost use Rattle.std.specs.Io.KnownBytes.{Appends};
-ghost use Rattle.postcard_impl.specs.Marks.{IsMarked};
-ghost use Rattle.postcard_impl.specs.Printed.{impl_failure_status, impl_failure_text};
+ghost use Rattle.postcard_impl.specs.{Appends, IsMarked, impl_failure_status, impl_failure_text};
 
 use crate::marks::{BEGIN, END};
 use crate::{Home, ImplError, ImplProblem, impl_file};
@@ -65,7 +63,8 @@ pub fn answer<W: Write, E: Write>(
     ensures printed { result ≡ 0 → (written : List ℕ)
         × IsMarked BEGIN.now END.now bytes.now written
         × Appends (W.contents output.old) (W.contents output.new) written }
-    ensures refused { result ≢ 0 → result ≢ 3 → W.contents output.new ≡ W.contents output.old }
+    ensures nothing_printed { result ≢ 0 → result ≢ 3
+        → W.contents output.new ≡ W.contents output.old }
 {
     match file_with_impls(alloc, path, bytes) {
         Ok(written) => {

@@ -11,8 +11,7 @@
 #![tactic(auto)]
 
 ghost use Rattle.std.specs.Prelude.{◌≡◌, IfOk, IfErr, string_bytes};
-ghost use Rattle.postcard_impl.specs.Marks.{IsMarked};
-ghost use Rattle.postcard_impl.specs.Places.{IsIn};
+ghost use Rattle.postcard_impl.specs.{IsIn, IsMarked};
 
 pub mod command;
 pub mod marks;

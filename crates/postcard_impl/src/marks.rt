@@ -1,8 +1,7 @@
 //! The two marks of a file, between which stands what is generated.
 
 ghost use Rattle.std.specs.Prelude.{◌≡◌, IfOk, IfErr, IsTrue, string_bytes};
-ghost use Rattle.postcard_impl.specs.Marks.{IsOutside, IsOpen, IsAlone, marked};
-ghost use Rattle.postcard_impl_error.specs.declared.error.ImplProblem.TheVariants.{MarkOpen, MarkAlone};
+ghost use Rattle.postcard_impl.specs.{IsAlone, IsOpen, IsOutside, MarkAlone, MarkOpen, marked};
 
 use postcard_impl_error::{ImplProblem, ImplProblemAt};
 use std::alloc::{AllocError, Global};

@@ -1,10 +1,8 @@
 //! The errors of writing the impls of a file's types.
 
 ghost use Rattle.std.specs.Prelude.{◌≡◌, Some};
-ghost use Rattle.postcard_impl_error.specs.declared.error.ImplProblem.TheVariants.{File};
-ghost use Rattle.postcard_dyn_file.specs.declared.error.FileProblem.TheVariants.{Expression};
-ghost use Rattle.postcard_dyn_schema.specs.declared.error.Problem.TheVariants.{OutOfMemory};
-ghost use Rattle.postcard_impl_error.specs.Printed.{impl_problem_text, impl_error_text};
+ghost use Rattle.postcard_impl_error.specs.{Expression, File, OutOfMemory, impl_error_text};
+ghost use Rattle.postcard_impl_error.specs.{impl_problem_text};
 
 use postcard_dyn_file::FileProblem;
 use postcard_dyn_file::error::ProblemAt;

@@ -1,7 +1,7 @@
 //! Where a file stands: in which crate, and as which module. The prover names an enum by these.
 
 ghost use Rattle.std.specs.Prelude.{IfSome};
-ghost use Rattle.postcard_impl_error.specs.Home.{IsHome};
+ghost use Rattle.postcard_impl_error.specs.{IsHome};
 
 /// The place of a file in a repository.
 #[derive(Clone, Copy, Debug, PartialEq, Eq)]

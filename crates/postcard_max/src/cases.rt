@@ -1,11 +1,9 @@
 //! The greatest size of an enum: that of its greatest variant, the index and the content.
 
 ghost use Rattle.std.specs.Prelude.{◌≡◌, ℕ, Option};
-ghost use Rattle.postcard_max.specs.Sizes.{index_len as len_of, sum_of};
-ghost use Rattle.postcard_max.specs.SizeLimit.{SizeLimit, no_case_limit, case_limit};
-ghost use Rattle.postcard_max.specs.SizeLimit.{variants_limit};
-ghost use Rattle.postcard_max.specs.CasesLimit.{IsCasesLimit, no_case_lawful, case_lawful};
-ghost use Rattle.postcard_max.specs.CasesLimit.{variants_lawful};
+ghost use Rattle.postcard_max.specs.{IsCasesLimit, case_lawful, case_limit, len_of, no_case_lawful};
+ghost use Rattle.postcard_max.specs.{no_case_limit, sum_of, variants_lawful, variants_limit};
+ghost use Rattle.postcard_max.specs.SizeLimit.{SizeLimit};
 
 use crate::max_size::{MaxSize, SizeBound};
 use crate::sizes::{greater, sum, varint_len};

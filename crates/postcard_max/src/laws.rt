@@ -1,11 +1,8 @@
 //! Laws of greatest sizes, as contracts of functions that do nothing.
 
 ghost use Rattle.std.specs.Prelude.{◌≤◌, length, Some, IfSome, [], ◌∷◌, ⊤};
-ghost use Rattle.postcard_wire.specs.Spelling.{canonical};
-ghost use Rattle.postcard_shape.specs.Shape.{IsWilling};
-ghost use Rattle.postcard_max.specs.Limits.{AreBounded, IsReached};
-ghost use Rattle.postcard_max.specs.Sizes.{sum_of, times, greater_of, varint_len};
-ghost use Rattle.postcard_max.specs.SizeLimit.{IsSize, IsSum};
+ghost use Rattle.postcard_max.specs.{AreBounded, IsReached, IsSize, IsSum, IsWilling, canonical};
+ghost use Rattle.postcard_max.specs.{greater_of, sum_of, times, varint_len};
 
 use crate::max_size::MaxSize;
 use arrayvec::{ArrayString, ArrayVec};

@@ -1,8 +1,8 @@
 //! The traits by which a type says its greatest size: directly, or as that of another type.
 
 ghost use Rattle.std.specs.Prelude.{◌≡◌};
+ghost use Rattle.postcard_max.specs.{IsLimit, via_lawful};
 ghost use Rattle.postcard_max.specs.SizeLimit.{SizeLimit};
-ghost use Rattle.postcard_max.specs.Limits.{IsLimit, via_lawful};
 
 use postcard_shape::{Repr, Shaped};
 

@@ -1,9 +1,9 @@
 //! The greatest size of parts in a row, which tuples are written as: the sum of the parts' sizes.
 
 ghost use Rattle.std.specs.Prelude.{◌≡◌};
-ghost use Rattle.postcard_max.specs.SizeLimit.{SizeLimit, exactly, then_limit};
-ghost use Rattle.postcard_max.specs.Limits.{IsRowLimit, via_lawful};
-ghost use Rattle.postcard_max.specs.Rows.{end_lawful, then_lawful, group_lawful};
+ghost use Rattle.postcard_max.specs.{IsRowLimit, end_lawful, exactly, group_lawful, then_lawful};
+ghost use Rattle.postcard_max.specs.{then_limit, via_lawful};
+ghost use Rattle.postcard_max.specs.SizeLimit.{SizeLimit};
 
 use crate::max_size::{MaxSize, SizeBound};
 use crate::sizes::sum;

@@ -1,6 +1,6 @@
 //! The front of a slice, alone or with the rest, lent for as long as the whole was.
 
-ghost use Rattle.std.specs.Prelude.{◌≡◌, ◌≤◌, [], ◌++◌, length, take, drop};
+ghost use Rattle.std.specs.Prelude.{◌≡◌, ◌≤◌, ◌++◌, length, take, drop};
 ghost use Rattle.std.specs.Borrow.{sem, Lends, Array, u8};
 
 use std::slice;

@@ -1,11 +1,11 @@
 -- What a call did whose task was to pass bytes to a flavor.
-use Rattle.std.specs.Prelude.{◌≡◌, ◌⊎◌, ℕ, List, Result, OnOk, OnErr, IfErr}
+use Rattle.std.specs.Prelude.{◌≡◌, ◌⊎◌, ◌↔◌, ℕ, List, Result, IsOk, OnOk, OnErr, IfOk, IfErr}
 use Rattle.postcard_ser_flavors.specs.Flavor.{AppendsFront}
 use Rattle.postcard_ser_flavors.specs.declared.flavor.Flavor.{Ghosts}
 use Rattle.postcard_shape.specs.Rows.{Row}
-use Rattle.postcard_shape.specs.Shape.{Shape, IsEmpty}
+use Rattle.postcard_shape.specs.Shape.{Shape, IsEmpty, IsWilling}
 pub use Rattle.postcard_shape.specs.Shape.{never}
-use Rattle.postcard_wire.specs.Spelling.{canonical_all}
+use Rattle.postcard_wire.specs.Spelling.{canonical, canonical_all}
 use Rattle.postcard_wire.specs.declared.error.Error.{Error}
 use Rattle.postcard_wire.specs.declared.error.Error.TheVariants.{SerializeBufferFull, CollectStrError}
 
@@ -31,9 +31,34 @@ pub record Wrote {S O : Type 0} (F : Ghosts S O) (s : S) (xs : List ℕ) (refusa
   pub refused : IsEmpty refusal → F.tidy → OnErr r (AppendsFront F.appended s xs t)
   pub leaves : F.reaches s t
 
+-- The encoding of the value v.
+abbrev pub encoding : {V : Type 0} → Shape V → V → List ℕ
+encoding s v = canonical (s.tree v)
+
+-- A call that encodes the value v returned r, of which `says` holds after a success. It succeeds if and only if
+-- `room` holds, unless the value refuses itself; with room an error is one by which it does. After a success the
+-- value fits.
+pub record Encodes {V R : Type 0} (s : Shape V) (v : V) (says : R → Type 0) (room : Type 0) (r : Result R Error) : Type 0 where
+  pub gives : IfOk r says
+  pub fits_iff : IsWilling s v → (IsOk r ↔ room)
+  pub own_error : room → IfErr r (s.refusal v)
+  pub named_error : IfErr r (IsErrorOf s v)
+  pub fits : OnOk r (s.fits v)
+
+-- The same, of a call that asks for memory, which may run out.
+pub record EncodesGrowing {V R : Type 0} (s : Shape V) (v : V) (says : R → Type 0) (r : Result R Error) : Type 0 where
+  pub gives : IfOk r says
+  pub named_error : IfErr r (IsErrorOf s v)
+  pub fits : OnOk r (s.fits v)
+
 -- The call, whose task was to write the parts v of a row one after the other, returned r and left t.
 abbrev pub WroteRow : {S O V : Type 0} → Ghosts S O → S → Row V → V → Result (Unit {0}) Error → S → Type 0
 WroteRow F s row v r t = Wrote F s (canonical_all (row.trees v)) (row.refusal v) row.text r t
+
+-- Such a call, after whose success the parts fit.
+pub record WritesRow {S O V : Type 0} (F : Ghosts S O) (s : S) (row : Row V) (v : V) (r : Result (Unit {0}) Error) (t : S) : Type 0 where
+  pub wrote : WroteRow F s row v r t
+  pub fits : OnOk r (row.fits v)
 
 -- A part of a row, followed by the others.
 abbrev pub part : {A B : Type 0} → A → B → A × B

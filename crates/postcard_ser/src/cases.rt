@@ -1,9 +1,7 @@
 //! The variants of an enum: the index, followed by the content.
 
 ghost use Rattle.std.specs.Prelude.{OnOk, ◌<◌, ◌^◌};
-ghost use Rattle.postcard_wire.specs.Spelling.{canonical};
-ghost use Rattle.postcard_wire.specs.Tree.{Variant};
-ghost use Rattle.postcard_ser.specs.Writing.{Wrote};
+ghost use Rattle.postcard_ser.specs.{Variant, Wrote, canonical};
 
 use crate::serialize::Serialize;
 use crate::serializer::Serializer;

@@ -3,11 +3,7 @@
 
 ghost use Rattle.std.specs.Prelude.{◌≡◌, ◌↔◌, ◌+◌, ◌^◌, ◌<◌, length, ⊤, IsOk, OnOk, IfOk, IfErr};
 ghost use Rattle.std.specs.Prelude.{IsErrOf, IsUtf8, IfSome};
-ghost use Rattle.postcard_wire.specs.Number.{digits};
-ghost use Rattle.postcard_wire.specs.Spelling.{canonical};
-ghost use Rattle.postcard_wire.specs.Tree.{Text};
-ghost use Rattle.postcard_ser_flavors.specs.Flavor.{AppendsFront};
-ghost use Rattle.postcard_ser.specs.Writing.{Wrote, IsWriteError};
+ghost use Rattle.postcard_ser.specs.{AppendsFront, IsWriteError, Text, Wrote, canonical, digits};
 
 use crate::serializer::Serializer;
 use core::mem::replace_with;

@@ -1,8 +1,7 @@
 //! Structs and enums that are written as another type.
 
 ghost use Rattle.std.specs.Prelude.{OnOk};
-ghost use Rattle.postcard_wire.specs.Spelling.{canonical};
-ghost use Rattle.postcard_ser.specs.Writing.{Wrote};
+ghost use Rattle.postcard_ser.specs.{Wrote, canonical};
 
 use crate::serialize::Serialize;
 use crate::serializer::Serializer;

@@ -1,8 +1,7 @@
 //! The trait of all types that are written.
 
 ghost use Rattle.std.specs.Prelude.{OnOk};
-ghost use Rattle.postcard_wire.specs.Spelling.{canonical};
-ghost use Rattle.postcard_ser.specs.Writing.{Wrote};
+ghost use Rattle.postcard_ser.specs.{Wrote, canonical};
 
 use crate::serializer::Serializer;
 use postcard_ser_flavors::Flavor;

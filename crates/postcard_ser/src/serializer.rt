@@ -2,13 +2,8 @@
 //! numbers, texts and lists.
 
 ghost use Rattle.std.specs.Prelude.{◌≡◌, [], ◌∷◌, ◌++◌, length, map, false, IsOk, IsErrOf, IfSome};
-ghost use Rattle.std.specs.Prelude.{OnOk};
-ghost use Rattle.std.specs.Option.{IfNone};
-ghost use Rattle.std.specs.Int.{w8, cast_unsigned};
-ghost use Rattle.postcard_wire.specs.Number.{digits};
-ghost use Rattle.postcard_wire.specs.Spelling.{canonical};
-ghost use Rattle.postcard_wire.specs.Tree.{Byte, Num, Int, Text, Seq, trees};
-ghost use Rattle.postcard_ser.specs.Writing.{Wrote, never};
+ghost use Rattle.postcard_ser.specs.{Byte, IfNone, Int, Num, Seq, Serializes, SerializesBytes};
+ghost use Rattle.postcard_ser.specs.{SerializesTree, Text, cast_unsigned, digits, trees, w8};
 
 mod enums;
 mod floats;
@@ -54,26 +49,26 @@ fn refusal(_of_flavor: Error) -> Error
 
 impl<F: Flavor> Serializer<F> {
     fn push(&mut self, byte: u8) -> Result<()>
-        ensures { Wrote F.Flavor self.old.output (byte ∷ []) never ⊥ result self.new.output }
+        ensures { SerializesBytes F.Flavor (byte ∷ []) self.old result self.new }
     {
         self.output.try_push(byte).map_err(refusal)
     }
 
     pub(crate) fn extend(&mut self, piece: &[u8]) -> Result<()>
-        ensures { Wrote F.Flavor self.old.output piece.now never ⊥ result self.new.output }
+        ensures { SerializesBytes F.Flavor piece.now self.old result self.new }
     {
         self.output.try_extend(piece).map_err(refusal)
     }
 
     fn varint(&mut self, n: u64) -> Result<()>
-        ensures { Wrote F.Flavor self.old.output (digits n) never ⊥ result self.new.output }
+        ensures { SerializesBytes F.Flavor (digits n) self.old result self.new }
     {
         self.output.try_varint(n).map_err(refusal)
     }
 
     fn extend_counted(&mut self, piece: &[u8]) -> Result<()>
-        ensures { Wrote F.Flavor self.old.output (digits (length piece.now) ++ piece.now) never ⊥
-            result self.new.output }
+        ensures { SerializesBytes F.Flavor (digits (length piece.now) ++ piece.now)
+            self.old result self.new }
     {
         self.serialize_u64(piece.len() as u64)?;
         self.extend(piece)
@@ -88,40 +83,35 @@ impl<F: Flavor> Serializer<F> {
 
     /// Writes a `u8`.
     pub fn serialize_u8(&mut self, v: u8) -> Result<()>
-        ensures { Wrote F.Flavor self.old.output (canonical (Byte v)) never ⊥
-            result self.new.output }
+        ensures { SerializesTree F.Flavor (Byte v) self.old result self.new }
     {
         self.push(v)
     }
 
     /// Writes a `u16`.
     pub fn serialize_u16(&mut self, v: u16) -> Result<()>
-        ensures { Wrote F.Flavor self.old.output (canonical (Num 16 v)) never ⊥
-            result self.new.output }
+        ensures { SerializesTree F.Flavor (Num 16 v) self.old result self.new }
     {
         self.serialize_u32(u32::from(v))
     }
 
     /// Writes a `u32`.
     pub fn serialize_u32(&mut self, v: u32) -> Result<()>
-        ensures { Wrote F.Flavor self.old.output (canonical (Num 32 v)) never ⊥
-            result self.new.output }
+        ensures { SerializesTree F.Flavor (Num 32 v) self.old result self.new }
     {
         self.varint(u64::from(v))
     }
 
     /// Writes a `u64`.
     pub fn serialize_u64(&mut self, v: u64) -> Result<()>
-        ensures { Wrote F.Flavor self.old.output (canonical (Num 64 v)) never ⊥
-            result self.new.output }
+        ensures { SerializesTree F.Flavor (Num 64 v) self.old result self.new }
     {
         self.varint(v)
     }
 
     /// Writes a `u128`.
     pub fn serialize_u128(&mut self, v: u128) -> Result<()>
-        ensures { Wrote F.Flavor self.old.output
-            (canonical (Num 128 v)) never ⊥ result self.new.output }
+        ensures { SerializesTree F.Flavor (Num 128 v) self.old result self.new }
     {
         let mut out = [0; VARINT_MAX_128];
         self.extend(varint_u128(v, &mut out))
@@ -129,48 +119,42 @@ impl<F: Flavor> Serializer<F> {
 
     /// Writes an `i8`.
     pub fn serialize_i8(&mut self, v: i8) -> Result<()>
-        ensures { Wrote F.Flavor self.old.output (canonical (Byte (cast_unsigned w8 v))) never ⊥
-            result self.new.output }
+        ensures { SerializesTree F.Flavor (Byte (cast_unsigned w8 v)) self.old result self.new }
     {
         self.push(v.cast_unsigned())
     }
 
     /// Writes an `i16`.
     pub fn serialize_i16(&mut self, v: i16) -> Result<()>
-        ensures { Wrote F.Flavor self.old.output (canonical (Int 16 v)) never ⊥
-            result self.new.output }
+        ensures { SerializesTree F.Flavor (Int 16 v) self.old result self.new }
     {
         self.serialize_u16(zig_zag_i16(v))
     }
 
     /// Writes an `i32`.
     pub fn serialize_i32(&mut self, v: i32) -> Result<()>
-        ensures { Wrote F.Flavor self.old.output (canonical (Int 32 v)) never ⊥
-            result self.new.output }
+        ensures { SerializesTree F.Flavor (Int 32 v) self.old result self.new }
     {
         self.serialize_u32(zig_zag_i32(v))
     }
 
     /// Writes an `i64`.
     pub fn serialize_i64(&mut self, v: i64) -> Result<()>
-        ensures { Wrote F.Flavor self.old.output (canonical (Int 64 v)) never ⊥
-            result self.new.output }
+        ensures { SerializesTree F.Flavor (Int 64 v) self.old result self.new }
     {
         self.serialize_u64(zig_zag_i64(v))
     }
 
     /// Writes an `i128`.
     pub fn serialize_i128(&mut self, v: i128) -> Result<()>
-        ensures { Wrote F.Flavor self.old.output
-            (canonical (Int 128 v)) never ⊥ result self.new.output }
+        ensures { SerializesTree F.Flavor (Int 128 v) self.old result self.new }
     {
         self.serialize_u128(zig_zag_i128(v))
     }
 
     /// Writes the number of the text's bytes, and then the bytes.
     pub fn serialize_str(&mut self, v: &str) -> Result<()>
-        ensures { Wrote F.Flavor self.old.output
-            (canonical (Text v.now)) never ⊥ result self.new.output }
+        ensures { SerializesTree F.Flavor (Text v.now) self.old result self.new }
     {
         self.extend_counted(v.as_bytes())
     }
@@ -178,8 +162,7 @@ impl<F: Flavor> Serializer<F> {
     /// Writes the number of the bytes, and then the bytes, as of a list of `u8`.
     #[tactic(auto, using(crate::proofs::Elements::elements_count, postcard_shape::proofs::Bytes::bytes_of_bytes))]
     pub fn serialize_bytes(&mut self, v: &[u8]) -> Result<()>
-        ensures { Wrote F.Flavor self.old.output (canonical (Seq (trees (map Byte v.now)))) never ⊥
-            result self.new.output }
+        ensures { SerializesTree F.Flavor (Seq (trees (map Byte v.now))) self.old result self.new }
     {
         self.extend_counted(v)
     }
@@ -187,8 +170,8 @@ impl<F: Flavor> Serializer<F> {
     /// Begins a list: writes the number of its elements. Each is then written by
     /// `serialize_element`.
     pub fn serialize_seq(&mut self, len: Option<usize>) -> Result<()>
-        ensures known { IfSome len (λ n. Wrote F.Flavor self.old.output (canonical (Num 64 n))
-            never ⊥ result self.new.output) }
+        ensures known { IfSome len
+            (λ n. SerializesTree F.Flavor (Num 64 n) self.old result self.new) }
         ensures unknown { IfNone len (IsErrOf result Error.SerializeSeqLengthUnknown
             × (self.new ≡ self.old)) }
     {
@@ -200,16 +183,14 @@ impl<F: Flavor> Serializer<F> {
 
     /// Writes an element of a list, or any part of a value.
     pub fn serialize_element<T: Serialize>(&mut self, value: &T) -> Result<()>
-        ensures wrote { Wrote F.Flavor self.old.output (canonical (T.shape.tree value.now))
-            (T.shape.refusal value.now) T.shape.text result self.new.output }
-        ensures fits { OnOk result (T.shape.fits value.now) }
+        ensures { Serializes F.Flavor T.shape value.now self.old result self.new }
     {
         value.serialize(self)
     }
 
     /// Ends a list. Writes nothing.
     pub fn end(&mut self) -> Result<()>
-        ensures wrote { Wrote F.Flavor self.old.output [] never ⊥ result self.new.output }
+        ensures wrote { SerializesBytes F.Flavor [] self.old result self.new }
         ensures succeeds { IsOk result }
         ensures unchanged { self.new ≡ self.old }
     {

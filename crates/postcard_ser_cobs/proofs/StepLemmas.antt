@@ -48,7 +48,7 @@ pub place_small : {S : Type 0} {held : S → List ℕ} {free : S → ℕ → Typ
 place_small {at = at} b room =
     omega (arith, open_made room.holds.frame room.d at room.holds.stands, open_length room.holds.frame room.d at room.holds.stands, made_grows room.d (b ∷ []), room.few)
 
--- If no data has room, one byte is free for the sentinel.
+-- If no data has room, one byte is free for the zero that ends the frame.
 pub end_free : {S : Type 0} {held : S → List ℕ} {free : S → ℕ → Type 0} {s : S} {start : ℕ} {at : Standing} {f : Bool} → HasFrameRoom held free s start at f [] → free s 1
 end_free {free = free} {s = s} room =
     let q : length (made (room.d ++ [])) ≡ length (made room.d) = ap (λ z. length (made z)) (append-nil room.d) in

@@ -23,7 +23,7 @@ module _ {S : Type 0} (held : S → List ℕ) where
 
   module _ (free : S → ℕ → Type 0) where
     -- The data x has room: the storage has as many bytes free as the frame grows by, and one more
-    -- for the sentinel, and the length of the whole frame can be counted.
+    -- for its zero, and the length of the whole frame can be counted.
     pub record HasFrameRoom (s : S) (start : ℕ) (at : Standing) (failed : Bool) (x : List ℕ) : Type 0 where
       pub before : List ℕ
       pub d : List ℕ

@@ -7,7 +7,7 @@ use Rattle.postcard_cobs.specs.Groups.{IsOpen, Standing, made, made_from, coded}
 use Rattle.postcard_cobs.proofs.Encoding.{open_finishes}
 use Rattle.postcard_ser_cobs.specs.Framing.{HoldsOpen, HasFrameRoom, LeavesFrame}
 
--- A made frame has at least the bytes of its open group, a code byte and a sentinel.
+-- A made frame has at least the bytes of its open group, a code byte and a zero.
 pub made_least : (g x : List ℕ) → length g + 2 ≤ length (made_from g x)
 made_least g [] = omega (arith, length-append (coded g) (0 ∷ []))
 made_least g (b ∷ x) =
@@ -36,7 +36,7 @@ made_grows_from g (b ∷ d) x =
 pub made_grows : (d x : List ℕ) → length (made d) ≤ length (made (d ++ x))
 made_grows d x = made_grows_from [] d x
 
--- A made frame is longer than the open one by its sentinel.
+-- A made frame is longer than the open one by its zero.
 pub open_made : (L d : List ℕ) (at : Standing) → IsOpen L at d → length (made d) ≡ length L + 1
 open_made L d at h = omega (arith, ap length (open_finishes L d at h), length-append (slice_set L at.code_at at.code) (0 ∷ []), length-set L at.code_at at.code)
 

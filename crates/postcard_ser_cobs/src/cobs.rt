@@ -1,11 +1,9 @@
 //! The flavor that encodes by COBS.
 
 ghost use Rattle.std.specs.Prelude.{◌≡◌, ℕ, ◌+◌, ◌<◌, List, [], ◌∷◌, ◌++◌, length, IsFalse, IfOk};
-ghost use Rattle.std.specs.Prelude.{IfErr, OnOk, OnErr, IsOk, IsOkUnless, IsTrue, IsErrOf};
-ghost use Rattle.postcard_cobs.specs.Groups.{made};
-ghost use Rattle.postcard_ser_cobs.specs.Framing.{HoldsOpen, HasFrameRoom, LeavesFrame};
-ghost use Rattle.postcard_ser_flavors.specs.Pushing.{PushedBy, FinalizedBy};
-ghost use Rattle.postcard_wire.specs.Number.{digits};
+ghost use Rattle.std.specs.Prelude.{OnOk, OnErr, IsOk, IsOkUnless, IsTrue, IsErrOf};
+ghost use Rattle.postcard_ser_cobs.specs.{FinalizedBy, HasFrameRoom, HoldsOpen, LeavesFrame};
+ghost use Rattle.postcard_ser_cobs.specs.{PushedBy, PushedToFrame, digits, made};
 
 use crate::steps::{push_one, set_code, take_step};
 use postcard_cobs::EncoderState;
@@ -15,12 +13,16 @@ use postcard_wire::{Error, Result};
 
 mod runs;
 
+/// The greatest place at which a byte is still taken: the byte moves it on by at most two, and a
+/// `usize` has to count it then.
+const MAX_PLACE: usize = usize::MAX - 2;
+
 /// Encodes the bytes that it takes by COBS, and writes the frame into a storage, after the bytes
 /// that the storage already holds.
 ///
-/// Data of `n` bytes becomes a frame of at most `n + n / 254 + 2` bytes, its sentinel included.
-/// While the frame is open, the storage holds it without its sentinel, and the last code byte is
-/// still to be set; `finalize` sets it and writes the sentinel.
+/// Data of `n` bytes becomes a frame of at most `n + n / 254 + 2` bytes, its zero included. While
+/// the frame is open, the storage holds it without the zero that ends it, and the last code byte is
+/// still to be set; `finalize` sets it and writes the zero.
 ///
 /// # Errors
 ///
@@ -49,8 +51,7 @@ impl<B: Storage + Drop> Cobs<B> {
         ensures opens_after_held { IfOk result (λ c.
             HoldsOpen B.held c.storage c.start c.encoder c.failed (B.held bee) []) }
         ensures leaves { IfOk result (λ c. B.reaches bee c.storage) }
-        ensures keeps_free { IfOk result
-            (λ c. (n : ℕ) → B.free bee (1 + n) → B.free c.storage n) }
+        ensures keeps_free { IfOk result (λ c. (n : ℕ) → B.free bee (1 + n) → B.free c.storage n) }
         ensures has_room { B.free bee 1 → IsOk result }
         ensures refuses_by_buffer_full { IsOkUnless result Error.SerializeBufferFull }
     {
@@ -83,7 +84,7 @@ impl<B: Storage + Drop> Cobs<B> {
         }
     }
 
-    /// Closes the frame with its last code byte and the sentinel, and returns the storage. If the
+    /// Closes the frame with its last code byte and its zero, and returns the storage. If the
     /// second part is an error, a storage of `postcard_ser_flavors` holds only part of a frame. The
     /// Rust crate has no such call.
     pub fn close(self) -> (B, Result<()>)
@@ -96,7 +97,7 @@ impl<B: Storage + Drop> Cobs<B> {
         ensures has_room { ⟦<Self as Flavor>⟧.room self [] → IsOk result.1 }
         ensures stays_refused { IsTrue self.failed → IsErrOf result.1 Error.SerializeBufferFull }
         ensures storage_kept { IsTrue self.failed → result.0 ≡ self.storage }
-        ensures refuses_by_buffer_full { IfErr result.1 (λ e. e ≡ Error.SerializeBufferFull) }
+        ensures refuses_by_buffer_full { IsOkUnless result.1 Error.SerializeBufferFull }
     {
         let Cobs {
             storage,
@@ -115,7 +116,7 @@ impl<B: Storage + Drop> Cobs<B> {
     }
 
     /// Gives up the frame, and returns the storage as it is: if no call has failed, with the frame
-    /// so far, with no sentinel. The Rust crate has no such call.
+    /// so far, without its zero. The Rust crate has no such call.
     pub fn into_storage(self) -> B
         ensures { result ≡ self.storage }
     {
@@ -162,13 +163,10 @@ impl<B: Storage + Drop> Flavor for Cobs<B> {
     /// Takes a byte of data, by which the frame grows by 1 or 2 bytes.
     #[inline(always)]
     fn try_push(&mut self, byte: u8) -> Result<()>
-        ensures pushed { PushedBy ⟦<Self as Flavor>⟧ self.old (byte ∷ []) result self.new }
-        ensures stays_refused { IsTrue self.old.failed → IsErrOf result Error.SerializeBufferFull }
-        ensures storage_kept { IsTrue self.old.failed → self.new.storage ≡ self.old.storage }
-        ensures remembers_refusal { OnErr result (IsTrue self.new.failed) }
-        ensures refuses_by_buffer_full { IsOkUnless result Error.SerializeBufferFull }
+        ensures { PushedToFrame ⟦<Self as Flavor>⟧ (λ c. c.failed) (λ c. c.storage)
+            self.old (byte ∷ []) result self.new }
     {
-        if self.failed || self.encoder.place() > usize::MAX - 2 {
+        if self.failed || self.encoder.place() > MAX_PLACE {
             self.failed = true;
             return Err(Error::SerializeBufferFull);
         }
@@ -199,11 +197,8 @@ impl<B: Storage + Drop> Flavor for Cobs<B> {
     }
 
     fn try_varint(&mut self, n: u64) -> Result<()>
-        ensures pushed { PushedBy ⟦<Self as Flavor>⟧ self.old (digits n) result self.new }
-        ensures stays_refused { IsTrue self.old.failed → IsErrOf result Error.SerializeBufferFull }
-        ensures storage_kept { IsTrue self.old.failed → self.new.storage ≡ self.old.storage }
-        ensures remembers_refusal { OnErr result (IsTrue self.new.failed) }
-        ensures refuses_by_buffer_full { IsOkUnless result Error.SerializeBufferFull }
+        ensures { PushedToFrame ⟦<Self as Flavor>⟧ (λ c. c.failed) (λ c. c.storage)
+            self.old (digits n) result self.new }
     {
         let mut out = [0; VARINT_MAX_64];
         self.try_extend(varint_u64(n, &mut out))

@@ -1,10 +1,9 @@
 //! What a frame asks of its storage: bytes after those that it holds, and code bytes set. A call
 //! that pushes bytes fails with `SerializeBufferFull` if the storage fails, by whatever error.
 
-ghost use Rattle.std.specs.Prelude.{◌≡◌, ℕ, ◌+◌, ◌-◌, ◌<◌, ◌≤◌, List, [], ◌∷◌, ◌++◌};
-ghost use Rattle.std.specs.Prelude.{length, slice_set, IsOkUnless, OnOk, IsOk};
-ghost use Rattle.postcard_ser_cobs.specs.Framing.{HoldsThen};
-ghost use Rattle.postcard_ser_cobs.specs.Steps.{growth, SetsBelow, changed_from};
+ghost use Rattle.std.specs.Prelude.{◌≡◌, ℕ, ◌+◌, ◌-◌, ◌<◌, ◌≤◌, List, [], ◌∷◌, ◌++◌, length};
+ghost use Rattle.std.specs.Prelude.{slice_set, IsOkUnless, OnOk, IsOk};
+ghost use Rattle.postcard_ser_cobs.specs.{HoldsThen, SetsBelow, changed_from, growth};
 
 use postcard_cobs::{EncoderState, PushResult};
 use postcard_ser_flavors::{Flavor, Storage};

@@ -1,5 +1,5 @@
--- The laws that the words of each storage keep.
-use Rattle.std.specs.Prelude.{◌≡◌, ℕ, ◌+◌, ◌<◌, List, ◌++◌, length, slice_index}
+-- The laws that the words of each storage keep, and what setting a byte does.
+use Rattle.std.specs.Prelude.{◌≡◌, ℕ, ◌+◌, ◌^◌, ◌<◌, List, ◌++◌, length, slice_index, slice_set}
 
 -- If bytes are free, so are fewer, and two proofs that bytes are free are equal.
 pub record IsFree {S : Type 0} (free : S → ℕ → Type 0) : Type 0 where
@@ -17,3 +17,13 @@ pub record IsStorage {S : Type 0} (appended : S → List ℕ → S → Type 0) (
 pub record IsIndexed {S : Type 0} (can_index : S → ℕ → Type 0) (index_gives : S → ℕ → ℕ → Type 0) (held : S → List ℕ) : Type 0 where
   pub can_read : (s : S) (place : ℕ) → place < length (held s) → can_index s place
   pub reads : (s : S) (place byte : ℕ) → place < length (held s) → index_gives s place byte → byte ≡ slice_index (held s) place
+
+-- A call set the byte at a place that is held, in a storage in state s, and left t. Nothing else that is held
+-- changed, there is room for the same bytes and as many are free, pushes may leave t, and the number of bytes
+-- held fits a `usize`.
+pub record SetsByte {S : Type 0} (room : S → List ℕ → Type 0) (reaches : S → S → Type 0) (held : S → List ℕ) (free : S → ℕ → Type 0) (s : S) (place byte : ℕ) (t : S) : Type 0 where
+  pub sets : held t ≡ slice_set (held s) place byte
+  pub keeps_room : (x : List ℕ) → room s x → room t x
+  pub keeps_free : (n : ℕ) → free s n → free t n
+  pub leaves : reaches s t
+  pub countable : length (held t) < 2 ^ 64

@@ -1,12 +1,9 @@
 //! The flavor that appends to a growing vector.
 
 ghost use Rattle.std.specs.Prelude.{◌≡◌, ◌<◌, [], ◌∷◌, length, slice_index, slice_set, ⊤};
-ghost use Rattle.std.specs.Prelude.{IsOk, IsOkUnless, OnErr};
-ghost use Rattle.postcard_wire.specs.Number.{digits};
-ghost use Rattle.postcard_ser_flavors.specs.Pushing.{PushedBy, FinalizedBy};
-ghost use Rattle.postcard_ser_flavors.specs.Held.{Appended, NoRoom, NoneFree, AnyReached};
-ghost use Rattle.postcard_ser_flavors.specs.Held.{grows_lawful, none_free, grows_storage};
-ghost use Rattle.postcard_ser_flavors.specs.Held.{list_indexed};
+ghost use Rattle.postcard_ser_flavors.specs.{AlwaysFinalized, AnyReached, Appended, NoRoom};
+ghost use Rattle.postcard_ser_flavors.specs.{NoneFree, PushedWhole, digits, grows_lawful};
+ghost use Rattle.postcard_ser_flavors.specs.{grows_storage, list_indexed, none_free};
 
 use crate::flavor::Flavor;
 use crate::storage::Storage;
@@ -72,17 +69,13 @@ impl Flavor for AllocVec {
     ghost lawful = { grows_lawful (λ s. s) };
 
     fn try_push(&mut self, byte: u8) -> Result<()>
-        ensures pushed { PushedBy ⟦<Self as Flavor>⟧ self.old (byte ∷ []) result self.new }
-        ensures refuses_by_buffer_full { IsOkUnless result Error.SerializeBufferFull }
-        ensures unchanged { OnErr result (self.new ≡ self.old) }
+        ensures { PushedWhole ⟦<Self as Flavor>⟧ (λ s. s) self.old (byte ∷ []) result self.new }
     {
         self.vec.push(byte).map_err(|_| Error::SerializeBufferFull)
     }
 
     fn try_extend(&mut self, bytes: &[u8]) -> Result<()>
-        ensures pushed { PushedBy ⟦<Self as Flavor>⟧ self.old bytes.now result self.new }
-        ensures refuses_by_buffer_full { IsOkUnless result Error.SerializeBufferFull }
-        ensures unchanged { OnErr result (self.new ≡ self.old) }
+        ensures { PushedWhole ⟦<Self as Flavor>⟧ (λ s. s) self.old bytes.now result self.new }
     {
         self.vec
             .extend_from_slice(bytes)
@@ -90,17 +83,14 @@ impl Flavor for AllocVec {
     }
 
     fn try_varint(&mut self, n: u64) -> Result<()>
-        ensures pushed { PushedBy ⟦<Self as Flavor>⟧ self.old (digits n) result self.new }
-        ensures refuses_by_buffer_full { IsOkUnless result Error.SerializeBufferFull }
-        ensures unchanged { OnErr result (self.new ≡ self.old) }
+        ensures { PushedWhole ⟦<Self as Flavor>⟧ (λ s. s) self.old (digits n) result self.new }
     {
         let mut out = [0; VARINT_MAX_64];
         self.try_extend(varint_u64(n, &mut out))
     }
 
     fn finalize(self) -> Result<Vec<u8>>
-        ensures finalized { FinalizedBy ⟦<Self as Flavor>⟧ self result }
-        ensures succeeds { IsOk result }
+        ensures { AlwaysFinalized ⟦<Self as Flavor>⟧ self result }
     {
         Ok(self.vec)
     }

@@ -1,10 +1,8 @@
 //! The flavor that appends to a target, such as a vector.
 
-ghost use Rattle.std.specs.Prelude.{◌≡◌, ℕ, List, [], ◌∷◌, ◌++◌, ⊤, IsOk, OnOk, OnErr};
-ghost use Rattle.std.specs.Prelude.{IsOkUnless};
-ghost use Rattle.postcard_wire.specs.Number.{digits};
-ghost use Rattle.postcard_ser_flavors.specs.Pushing.{PushedBy, FinalizedBy};
-ghost use Rattle.postcard_ser_flavors.specs.Held.{Appended, NoRoom, AnyReached, grows_lawful};
+ghost use Rattle.std.specs.Prelude.{◌≡◌, ℕ, List, [], ◌∷◌, ◌++◌, ⊤, OnOk, OnErr, IsOkUnless};
+ghost use Rattle.postcard_ser_flavors.specs.{AlwaysFinalized, AnyReached, Appended, NoRoom};
+ghost use Rattle.postcard_ser_flavors.specs.{PushedWhole, digits, grows_lawful};
 
 use crate::flavor::Flavor;
 use postcard_wire::varint::{VARINT_MAX_64, varint_u64};
@@ -78,17 +76,13 @@ impl<T: ExtendBytes + Drop> Flavor for ExtendFlavor<T> {
     ghost lawful = { grows_lawful T.content };
 
     fn try_push(&mut self, byte: u8) -> Result<()>
-        ensures pushed { PushedBy ⟦<Self as Flavor>⟧ self.old (byte ∷ []) result self.new }
-        ensures refuses_by_buffer_full { IsOkUnless result Error.SerializeBufferFull }
-        ensures unchanged { OnErr result (T.content self.new ≡ T.content self.old) }
+        ensures { PushedWhole ⟦<Self as Flavor>⟧ T.content self.old (byte ∷ []) result self.new }
     {
         self.try_extend(&[byte])
     }
 
     fn try_extend(&mut self, bytes: &[u8]) -> Result<()>
-        ensures pushed { PushedBy ⟦<Self as Flavor>⟧ self.old bytes.now result self.new }
-        ensures refuses_by_buffer_full { IsOkUnless result Error.SerializeBufferFull }
-        ensures unchanged { OnErr result (T.content self.new ≡ T.content self.old) }
+        ensures { PushedWhole ⟦<Self as Flavor>⟧ T.content self.old bytes.now result self.new }
     {
         self.target
             .extend(bytes)
@@ -96,17 +90,14 @@ impl<T: ExtendBytes + Drop> Flavor for ExtendFlavor<T> {
     }
 
     fn try_varint(&mut self, n: u64) -> Result<()>
-        ensures pushed { PushedBy ⟦<Self as Flavor>⟧ self.old (digits n) result self.new }
-        ensures refuses_by_buffer_full { IsOkUnless result Error.SerializeBufferFull }
-        ensures unchanged { OnErr result (T.content self.new ≡ T.content self.old) }
+        ensures { PushedWhole ⟦<Self as Flavor>⟧ T.content self.old (digits n) result self.new }
     {
         let mut out = [0; VARINT_MAX_64];
         self.try_extend(varint_u64(n, &mut out))
     }
 
     fn finalize(self) -> Result<T>
-        ensures finalized { FinalizedBy ⟦<Self as Flavor>⟧ self result }
-        ensures succeeds { IsOk result }
+        ensures { AlwaysFinalized ⟦<Self as Flavor>⟧ self result }
     {
         Ok(self.target)
     }

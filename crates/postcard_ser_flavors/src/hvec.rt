@@ -1,14 +1,11 @@
 //! The flavor that fills a vector of a fixed capacity.
 
-ghost use Rattle.std.specs.Prelude.{◌≡◌, ◌+◌, ◌≤◌, ◌<◌, ◌↔◌, [], ◌∷◌, length, slice_index, slice_set};
-ghost use Rattle.std.specs.Prelude.{⊤, IsOk, IsOkUnless, OnErr};
-ghost use Rattle.postcard_wire.specs.Number.{digits};
-ghost use Rattle.postcard_ser_flavors.specs.Pushing.{PushedBy, FinalizedBy};
-ghost use Rattle.postcard_ser_flavors.specs.Held.{Appended, HasRoom, HasFreeUpTo, AnyReached};
-ghost use Rattle.postcard_ser_flavors.specs.Held.{fixed_lawful, fixed_free, fixed_storage};
-ghost use Rattle.postcard_ser_flavors.specs.Held.{list_indexed};
-ghost use Rattle.std.specs.Borrow.{sem, Lends, u8 as byte_row, unit as unit_row};
-ghost use Rattle.arrayvec.specs.Lends.{lends_item};
+ghost use Rattle.std.specs.Prelude.{◌≡◌, ◌<◌, [], ◌∷◌, ⊤, length, slice_index, slice_set};
+ghost use Rattle.postcard_ser_flavors.specs.{AlwaysFinalized, AnyReached, Appended, HasFreeUpTo};
+ghost use Rattle.postcard_ser_flavors.specs.{Lends, PushedIfRoom, byte_row, digits, fixed_free};
+ghost use Rattle.postcard_ser_flavors.specs.{fixed_lawful, fixed_storage, lends_item, list_indexed};
+ghost use Rattle.postcard_ser_flavors.specs.{sem, unit_row};
+ghost use Rattle.postcard_ser_flavors.specs.Held.{HasRoom};
 
 use crate::flavor::Flavor;
 use crate::storage::Storage;
@@ -73,10 +70,7 @@ impl<const B: usize> Flavor for HVec<B> {
     ghost lawful = { fixed_lawful (λ s. s) B };
 
     fn try_push(&mut self, byte: u8) -> Result<()>
-        ensures pushed { PushedBy ⟦<Self as Flavor>⟧ self.old (byte ∷ []) result self.new }
-        ensures fits_iff { IsOk result ↔ (length self.old + 1 ≤ B) }
-        ensures refuses_by_buffer_full { IsOkUnless result Error.SerializeBufferFull }
-        ensures unchanged { OnErr result (self.new ≡ self.old) }
+        ensures { PushedIfRoom ⟦<Self as Flavor>⟧ self.old (byte ∷ []) result self.new }
     {
         self.vec
             .try_push(byte)
@@ -84,10 +78,7 @@ impl<const B: usize> Flavor for HVec<B> {
     }
 
     fn try_extend(&mut self, bytes: &[u8]) -> Result<()>
-        ensures pushed { PushedBy ⟦<Self as Flavor>⟧ self.old bytes.now result self.new }
-        ensures fits_iff { IsOk result ↔ (length self.old + length bytes.now ≤ B) }
-        ensures refuses_by_buffer_full { IsOkUnless result Error.SerializeBufferFull }
-        ensures unchanged { OnErr result (self.new ≡ self.old) }
+        ensures { PushedIfRoom ⟦<Self as Flavor>⟧ self.old bytes.now result self.new }
     {
         self.vec
             .try_extend_from_slice(bytes)
@@ -95,18 +86,14 @@ impl<const B: usize> Flavor for HVec<B> {
     }
 
     fn try_varint(&mut self, n: u64) -> Result<()>
-        ensures pushed { PushedBy ⟦<Self as Flavor>⟧ self.old (digits n) result self.new }
-        ensures fits_iff { IsOk result ↔ (length self.old + length (digits n) ≤ B) }
-        ensures refuses_by_buffer_full { IsOkUnless result Error.SerializeBufferFull }
-        ensures unchanged { OnErr result (self.new ≡ self.old) }
+        ensures { PushedIfRoom ⟦<Self as Flavor>⟧ self.old (digits n) result self.new }
     {
         let mut out = [0; VARINT_MAX_64];
         self.try_extend(varint_u64(n, &mut out))
     }
 
     fn finalize(self) -> Result<ArrayVec<u8, B>>
-        ensures finalized { FinalizedBy ⟦<Self as Flavor>⟧ self.entry result }
-        ensures succeeds { IsOk result }
+        ensures { AlwaysFinalized ⟦<Self as Flavor>⟧ self.entry result }
     {
         Ok(self.vec)
     }

@@ -1,10 +1,8 @@
 //! The flavor that writes to a writer of `std`.
 
 ghost use Rattle.std.specs.Prelude.{◌≡◌, [], ◌∷◌, IsOkUnless};
-ghost use Rattle.std.specs.Io.KnownBytes.{Keeps};
-ghost use Rattle.postcard_ser_flavors.specs.Pushing.{PushedBy, FinalizedBy};
-ghost use Rattle.postcard_ser_flavors.specs.Held.{NoRoom, AnyReached};
-ghost use Rattle.postcard_ser_flavors.specs.WriterLaws.{AppendsKnown, writer_lawful};
+ghost use Rattle.postcard_ser_flavors.specs.{AnyReached, AppendsKnown, FinalizedBy, Keeps, NoRoom};
+ghost use Rattle.postcard_ser_flavors.specs.{PushedOrFull, writer_lawful};
 
 use crate::flavor::Flavor;
 use postcard_wire::{Error, Result};
@@ -53,16 +51,14 @@ impl<T: Write + Drop> Flavor for WriteFlavor<T> {
     ghost lawful = { writer_lawful T.contents };
 
     fn try_push(&mut self, byte: u8) -> Result<()>
-        ensures pushed { PushedBy ⟦<Self as Flavor>⟧ self.old (byte ∷ []) result self.new }
-        ensures refuses_by_buffer_full { IsOkUnless result Error.SerializeBufferFull }
+        ensures { PushedOrFull ⟦<Self as Flavor>⟧ self.old (byte ∷ []) result self.new }
     {
         self.try_extend(&[byte])
     }
 
     /// Writes the bytes in one piece, by `write_all`.
     fn try_extend(&mut self, bytes: &[u8]) -> Result<()>
-        ensures pushed { PushedBy ⟦<Self as Flavor>⟧ self.old bytes.now result self.new }
-        ensures refuses_by_buffer_full { IsOkUnless result Error.SerializeBufferFull }
+        ensures { PushedOrFull ⟦<Self as Flavor>⟧ self.old bytes.now result self.new }
     {
         self.writer
             .write_all(bytes)

@@ -1,10 +1,9 @@
 //! The flavor that only counts.
 
-ghost use Rattle.std.specs.Prelude.{◌≡◌, ◌+◌, ◌^◌, ◌<◌, ◌↔◌, [], ◌∷◌, length, ⊤, IsOk, OnOk, OnErr};
+ghost use Rattle.std.specs.Prelude.{◌≡◌, ◌+◌, ◌^◌, ◌<◌, ◌↔◌, [], ◌∷◌, ⊤, IsOk, OnOk, OnErr};
 ghost use Rattle.std.specs.Prelude.{IsOkUnless};
-ghost use Rattle.postcard_wire.specs.Number.{digits};
-ghost use Rattle.postcard_ser_flavors.specs.Counted.{Counts, CanCount, Rises, count_lawful};
-ghost use Rattle.postcard_ser_flavors.specs.Pushing.{PushedBy, FinalizedBy};
+ghost use Rattle.postcard_ser_flavors.specs.{AlwaysFinalized, CanCount, Counts, PushedIfRoom};
+ghost use Rattle.postcard_ser_flavors.specs.{Rises, count_lawful, digits};
 
 use crate::flavor::Flavor;
 use postcard_wire::varint::{VARINT_MAX_64, varint_u64};
@@ -70,37 +69,27 @@ impl Flavor for Size {
     ghost lawful = { count_lawful };
 
     fn try_push(&mut self, byte: u8) -> Result<()>
-        ensures pushed { PushedBy ⟦<Self as Flavor>⟧ self.old (byte ∷ []) result self.new }
-        ensures fits_iff { IsOk result ↔ (self.old + 1 < 2 ^ 64) }
-        ensures refuses_by_buffer_full { IsOkUnless result Error.SerializeBufferFull }
-        ensures unchanged { OnErr result (self.new ≡ self.old) }
+        ensures { PushedIfRoom ⟦<Self as Flavor>⟧ self.old (byte ∷ []) result self.new }
     {
         let _ = byte;
         self.add(1)
     }
 
     fn try_extend(&mut self, bytes: &[u8]) -> Result<()>
-        ensures pushed { PushedBy ⟦<Self as Flavor>⟧ self.old bytes.now result self.new }
-        ensures fits_iff { IsOk result ↔ (self.old + length bytes.now < 2 ^ 64) }
-        ensures refuses_by_buffer_full { IsOkUnless result Error.SerializeBufferFull }
-        ensures unchanged { OnErr result (self.new ≡ self.old) }
+        ensures { PushedIfRoom ⟦<Self as Flavor>⟧ self.old bytes.now result self.new }
     {
         self.add(bytes.len())
     }
 
     fn try_varint(&mut self, n: u64) -> Result<()>
-        ensures pushed { PushedBy ⟦<Self as Flavor>⟧ self.old (digits n) result self.new }
-        ensures fits_iff { IsOk result ↔ (self.old + length (digits n) < 2 ^ 64) }
-        ensures refuses_by_buffer_full { IsOkUnless result Error.SerializeBufferFull }
-        ensures unchanged { OnErr result (self.new ≡ self.old) }
+        ensures { PushedIfRoom ⟦<Self as Flavor>⟧ self.old (digits n) result self.new }
     {
         let mut out = [0; VARINT_MAX_64];
         self.try_extend(varint_u64(n, &mut out))
     }
 
     fn finalize(self) -> Result<usize>
-        ensures finalized { FinalizedBy ⟦<Self as Flavor>⟧ self result }
-        ensures succeeds { IsOk result }
+        ensures { AlwaysFinalized ⟦<Self as Flavor>⟧ self result }
     {
         Ok(self.count)
     }

@@ -1,11 +1,9 @@
 //! The flavor that fills a caller's slice from its front.
 
-ghost use Rattle.std.specs.Prelude.{◌≡◌, ◌≤◌, ◌↔◌, [], ◌∷◌, length, drop, ⊤, IsOk, OnOk, OnErr};
-ghost use Rattle.std.specs.Prelude.{IsOkUnless};
-ghost use Rattle.postcard_wire.specs.Number.{digits};
-ghost use Rattle.postcard_ser_flavors.specs.Pushing.{PushedBy, FinalizedBy};
-ghost use Rattle.postcard_ser_flavors.specs.Slice.{held, free, Appended, HasRoom, Reaches};
-ghost use Rattle.postcard_ser_flavors.specs.SliceLaws.{slice_lawful};
+ghost use Rattle.std.specs.Prelude.{◌≡◌, ◌≤◌, [], ◌∷◌, ⊤, length};
+ghost use Rattle.postcard_ser_flavors.specs.{AlwaysFinalized, HasRoom, PushedToSlice, Reaches};
+ghost use Rattle.postcard_ser_flavors.specs.{digits, held, slice_lawful};
+ghost use Rattle.postcard_ser_flavors.specs.Slice.{Appended};
 
 use crate::flavor::Flavor;
 use postcard_memory::{Life, Memory};
@@ -96,11 +94,7 @@ impl<'a> Flavor for Slice<'a> {
     ghost lawful = { slice_lawful };
 
     fn try_push(&mut self, byte: u8) -> Result<()>
-        ensures pushed { PushedBy ⟦<Self as Flavor>⟧ self.old (byte ∷ []) result self.new }
-        ensures fits_iff { IsOk result ↔ (1 ≤ length (free self.old)) }
-        ensures rest_unchanged { OnOk result (free self.new ≡ drop 1 (free self.old)) }
-        ensures refuses_by_buffer_full { IsOkUnless result Error.SerializeBufferFull }
-        ensures unchanged { OnErr result (self.new ≡ self.old) }
+        ensures { PushedToSlice ⟦<Self as Flavor>⟧ self.old (byte ∷ []) result self.new }
     {
         if self.position == self.len {
             return Err(Error::SerializeBufferFull);
@@ -112,12 +106,7 @@ impl<'a> Flavor for Slice<'a> {
     }
 
     fn try_extend(&mut self, bytes: &[u8]) -> Result<()>
-        ensures pushed { PushedBy ⟦<Self as Flavor>⟧ self.old bytes.now result self.new }
-        ensures fits_iff { IsOk result ↔ (length bytes.now ≤ length (free self.old)) }
-        ensures rest_unchanged { OnOk result (free self.new
-            ≡ drop (length bytes.now) (free self.old)) }
-        ensures refuses_by_buffer_full { IsOkUnless result Error.SerializeBufferFull }
-        ensures unchanged { OnErr result (self.new ≡ self.old) }
+        ensures { PushedToSlice ⟦<Self as Flavor>⟧ self.old bytes.now result self.new }
     {
         if self.len - self.position < bytes.len() {
             return Err(Error::SerializeBufferFull);
@@ -133,12 +122,7 @@ impl<'a> Flavor for Slice<'a> {
     /// Writes the varint in place if 10 bytes are free.
     #[inline]
     fn try_varint(&mut self, n: u64) -> Result<()>
-        ensures pushed { PushedBy ⟦<Self as Flavor>⟧ self.old (digits n) result self.new }
-        ensures fits_iff { IsOk result ↔ (length (digits n) ≤ length (free self.old)) }
-        ensures rest_unchanged { OnOk result (free self.new
-            ≡ drop (length (digits n)) (free self.old)) }
-        ensures refuses_by_buffer_full { IsOkUnless result Error.SerializeBufferFull }
-        ensures unchanged { OnErr result (self.new ≡ self.old) }
+        ensures { PushedToSlice ⟦<Self as Flavor>⟧ self.old (digits n) result self.new }
     {
         if self.len - self.position < VARINT_MAX_64 {
             let mut out = [0; VARINT_MAX_64];
@@ -153,8 +137,7 @@ impl<'a> Flavor for Slice<'a> {
     }
 
     fn finalize(self) -> Result<&'a mut [u8]>
-        ensures finalized { FinalizedBy ⟦<Self as Flavor>⟧ self.entry result }
-        ensures succeeds { IsOk result }
+        ensures { AlwaysFinalized ⟦<Self as Flavor>⟧ self.entry result }
     {
         let (all, count) = self.into_parts();
         let (front, _) = all.split_at_mut(count);

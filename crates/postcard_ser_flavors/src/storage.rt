@@ -1,7 +1,7 @@
 //! The trait of the flavors that keep their bytes where they can be changed.
 
-ghost use Rattle.std.specs.Prelude.{◌≡◌, ℕ, ◌^◌, ◌<◌, List, length, slice_set};
-ghost use Rattle.postcard_ser_flavors.specs.Storage.{IsFree, IsStorage, IsIndexed};
+ghost use Rattle.std.specs.Prelude.{◌≡◌, ℕ, ◌<◌, List, length};
+ghost use Rattle.postcard_ser_flavors.specs.{IsFree, IsIndexed, IsStorage, SetsByte};
 
 use crate::flavor::Flavor;
 use std::ops::IndexMut;
@@ -27,11 +27,7 @@ pub trait Storage: Flavor + IndexMut<usize, Output = u8> {
     /// number of bytes held fits a `usize`.
     fn set(&mut self, place: usize, byte: u8)
         requires { place < length (held self.old) }
-        ensures sets { held self.new ≡ slice_set (held self.old) place byte }
-        ensures keeps_room { (x : List ℕ) → Self.room self.old x → Self.room self.new x }
-        ensures keeps_free { (n : ℕ) → free self.old n → free self.new n }
-        ensures leaves { Self.reaches self.old self.new }
-        ensures countable { length (held self.new) < 2 ^ 64 };
+        ensures { SetsByte Self.room Self.reaches held free self.old place byte self.new };
 
     /// Returns the number of bytes held. A frame that is written after these bytes starts at this
     /// place.

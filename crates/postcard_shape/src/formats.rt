@@ -1,8 +1,7 @@
 //! Functions that tell the prover that a floating-point number is a value of its format.
 
 ghost use Rattle.std.specs.Prelude.{◌≡◌, T};
-ghost use Rattle.std.specs.Float.{binary32, binary64};
-ghost use Rattle.std.specs.Float.Ieee.{fits};
+ghost use Rattle.postcard_shape.specs.{binary32, binary64, fits};
 
 /// Returns the same number. The prover doesn't know that a number behind a reference is a value of
 /// its format.

@@ -1,6 +1,6 @@
 //! Numbers that are varints, written many at a time.
 
-ghost use Rattle.postcard_shape.specs.First.{AreFirst};
+ghost use Rattle.postcard_shape.specs.{AreFirst};
 
 use crate::first::FirstBytes;
 use crate::runs::Varint;

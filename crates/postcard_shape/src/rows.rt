@@ -1,6 +1,6 @@
 //! Parts in a row, as a type: what tuples of any length are written and read as.
 
-ghost use Rattle.postcard_shape.specs.Rows.{Row, none, then, along, group};
+ghost use Rattle.postcard_shape.specs.{Row, along, group, none, then};
 
 use crate::shape::Shaped;
 

@@ -1,15 +1,10 @@
 //! Numbers that are varints, read many at a time from bytes that are in memory.
 
-ghost use Rattle.std.specs.Prelude.{◌≡◌, ◌<◌, ◌≤◌, ℕ, List, length, take, IfErr, IfOk};
-ghost use Rattle.std.specs.Prelude.{IfSome, OnOk, ◌++◌, refl};
-ghost use Rattle.std.proofs.Common.{inl, inr};
-ghost use Rattle.std.specs.Mem.{type_size};
-ghost use Rattle.std.specs.Option.{IfNone};
-ghost use Rattle.postcard_wire.specs.Words.{IsCut, IsNarrow};
-ghost use Rattle.postcard_shape.specs.Leaves.{num, int};
-ghost use Rattle.postcard_shape.specs.Runs.{IsValue, AreValuesOf, IsVarintOf};
+ghost use Rattle.std.specs.Prelude.{◌≡◌, ◌<◌, ◌≤◌, ℕ, List, length, take, IfErr, IfOk, IfSome};
+ghost use Rattle.std.specs.Prelude.{OnOk, ◌++◌, refl};
+ghost use Rattle.postcard_shape.specs.{Appends, AreValuesOf, IfNone, IsCut, IsNarrow, IsValue};
+ghost use Rattle.postcard_shape.specs.{IsVarintOf, inl, inr, int, num, type_size};
 ghost use Rattle.postcard_shape.specs.Shape.{Shape};
-ghost use Rattle.postcard_shape.specs.Lists.{Appends};
 
 use postcard_wire::words::{BLOCK, RUN, cut, ends, number_of};
 use postcard_wire::zigzag::{
@@ -197,7 +192,7 @@ fn row_of_bytes<T: Varint>(block: &[u8; BLOCK]) -> [T; ROW]
 #[inline(always)]
 fn push_row<T: Copy>(items: &mut Vec<T>, row: &[T]) -> Result<()>
     ensures appended { OnOk result (items.new.items ≡ items.old.items ++ row.now) }
-    ensures refused { IfErr result (λ e. e ≡ Error.OutOfMemory) }
+    ensures only_out_of_memory { IfErr result (λ e. e ≡ Error.OutOfMemory) }
 {
     match items.extend_from_slice(row) {
         Ok(()) => Ok(()),
@@ -221,7 +216,7 @@ pub(crate) fn append<T: Varint>(
         (take n bytes.now) items.old.items items.new.items)) }
     ensures unchanged_if_none { IfOk result
         (λ front. IfNone front (items.new.items ≡ items.old.items)) }
-    ensures refused { IfErr result (λ e. e ≡ Error.OutOfMemory) }
+    ensures only_out_of_memory { IfErr result (λ e. e ≡ Error.OutOfMemory) }
 {
     if most < LEAST {
         return Ok(None);
@@ -240,7 +235,7 @@ fn append_row<T: Varint>(items: &mut Vec<T>, bytes: &[u8], most: usize) -> Resul
         (take n bytes.now) items.old.items items.new.items)) }
     ensures unchanged_if_none { IfOk result
         (λ front. IfNone front (items.new.items ≡ items.old.items)) }
-    ensures refused { IfErr result (λ e. e ≡ Error.OutOfMemory) }
+    ensures only_out_of_memory { IfErr result (λ e. e ≡ Error.OutOfMemory) }
 {
     let Some(block) = bytes.first_chunk::<BLOCK>() else {
         return Ok(None);

@@ -1,10 +1,8 @@
 //! The traits by which a type says its shape: directly, or as that of another type.
 
 ghost use Rattle.std.specs.Prelude.{◌≡◌, ◌<◌, ◌≤◌, length, take, IfErr, IfOk, IfSome};
-ghost use Rattle.std.specs.Option.{IfNone};
-ghost use Rattle.postcard_shape.specs.First.{AreFirst};
-ghost use Rattle.postcard_shape.specs.Lists.{Appends};
-ghost use Rattle.postcard_shape.specs.Shape.{Shape, via};
+ghost use Rattle.postcard_shape.specs.{Appends, AreFirst, IfNone, via};
+ghost use Rattle.postcard_shape.specs.Shape.{Shape};
 
 use crate::first::FirstBytes;
 use postcard_wire::{Error, Result};
@@ -43,7 +41,7 @@ pub trait Shaped {
             (take n bytes.now) items.old.items items.new.items)) }
         ensures unchanged_if_none { IfOk result
             (λ front. IfNone front (items.new.items ≡ items.old.items)) }
-        ensures refused { IfErr result (λ e. e ≡ Error.OutOfMemory) }
+        ensures only_out_of_memory { IfErr result (λ e. e ≡ Error.OutOfMemory) }
     {
         let _ = items;
         let _ = bytes;

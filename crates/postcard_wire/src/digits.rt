@@ -3,10 +3,8 @@
 //! A padded spelling, such as `80 00` for 0, is accepted if it has no more bytes than the width
 //! allows.
 
-ghost use Rattle.std.specs.Prelude.{◌≡◌, ◌≤◌, ◌*◌, ◌++◌, ◌∷◌, [], ℕ, List, MatchBool};
-ghost use Rattle.postcard_wire.specs.Digits.{Within};
-ghost use Rattle.postcard_wire.specs.Tree.{IsWidth};
-ghost use Rattle.postcard_wire.specs.Digits.{HasRead, PushReturns};
+ghost use Rattle.std.specs.Prelude.{◌≤◌, ◌*◌, ◌++◌, ◌∷◌, [], ℕ, List, MatchBool};
+ghost use Rattle.postcard_wire.specs.{HasRead, IsWidth, PushReturns, Within};
 
 use crate::error::{Error, Result};
 

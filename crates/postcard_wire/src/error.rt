@@ -1,8 +1,7 @@
 //! The errors of both directions.
 
 ghost use Rattle.std.specs.Prelude.{◌≡◌, Some};
-ghost use Rattle.postcard_wire.specs.declared.error.Error.TheVariants.{OutOfMemory};
-ghost use Rattle.postcard_wire.specs.Error.{error_text};
+ghost use Rattle.postcard_wire.specs.{OutOfMemory, error_text};
 
 use std::alloc::{AllocError, AllocFailed};
 use std::fmt::Display;

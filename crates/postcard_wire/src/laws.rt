@@ -3,15 +3,13 @@
 
 ghost use Rattle.std.specs.Prelude.{◌≡◌, ℕ, ℤ, ◌+◌, ◌-◌, ◌≤◌, ◌*◌, ◌%◌, ◌^◌, ◌<◌, ◌⊎◌, ◌++◌, ◌∷◌};
 ghost use Rattle.std.specs.Prelude.{[], List, length, slice_index};
-ghost use Rattle.postcard_wire.specs.Number.{number, zigzag, max_digits, InRange};
-ghost use Rattle.postcard_wire.specs.Tree.{Tree, Trees, Num, WellFormed, IsWidth};
-ghost use Rattle.postcard_wire.specs.Spelling.{Spells, canonical};
-ghost use Rattle.postcard_wire.specs.Digits.{ReadsNum, RefusesNum};
+ghost use Rattle.postcard_wire.specs.{AreDelimited, InRange, IsArray, IsBoolean, IsByte, IsChar};
+ghost use Rattle.postcard_wire.specs.{IsDelimited, IsEnd, IsGroup, IsInt, IsNum, IsOption, IsSeq};
+ghost use Rattle.postcard_wire.specs.{IsText, IsThen, IsVariant, IsWidth, Num, PartsWellFormed};
+ghost use Rattle.postcard_wire.specs.{ReadsNum, ReadsWellFormed, RefusesNum, Spells, Trees};
+ghost use Rattle.postcard_wire.specs.{WellFormed, canonical, max_digits, number, zigzag};
+ghost use Rattle.postcard_wire.specs.Tree.{Tree};
 ghost use Rattle.postcard_wire.specs.declared.error.Error.{Error};
-ghost use Rattle.postcard_wire.specs.Reading.{IsDelimited, AreDelimited, ReadsWellFormed};
-ghost use Rattle.postcard_wire.specs.Reading.{PartsWellFormed, IsByte, IsBoolean, IsNum, IsInt};
-ghost use Rattle.postcard_wire.specs.Reading.{IsChar, IsText, IsOption, IsEnd, IsThen, IsGroup};
-ghost use Rattle.postcard_wire.specs.Reading.{IsSeq, IsArray, IsVariant};
 
 /// A set of trees.
 pub trait TreeSet {

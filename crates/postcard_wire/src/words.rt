@@ -4,8 +4,7 @@
 
 ghost use Rattle.std.specs.Prelude.{◌≡◌, ℕ, ◌+◌, ◌*◌, ◌≤◌, ◌<◌, ◌^◌, List, length, take, drop};
 ghost use Rattle.std.specs.Prelude.{IfSome, slice_index};
-ghost use Rattle.postcard_wire.specs.Number.{number};
-ghost use Rattle.postcard_wire.specs.Words.{word_of, IsCut, AreCut, AreBytes, IsNarrow};
+ghost use Rattle.postcard_wire.specs.{AreBytes, AreCut, IsCut, IsNarrow, number, word_of};
 
 use std::simd::prelude::*;
 

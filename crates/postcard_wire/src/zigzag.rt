@@ -4,7 +4,7 @@
 //! one byte.
 
 ghost use Rattle.std.specs.Prelude.{◌≡◌};
-ghost use Rattle.postcard_wire.specs.Number.{zigzag};
+ghost use Rattle.postcard_wire.specs.{zigzag};
 
 /// Twice a number, with each bit flipped if the number is negative.
 macro_rules! fold_sign {

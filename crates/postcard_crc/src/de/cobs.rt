@@ -1,16 +1,9 @@
 //! Decoding with a checksum from a COBS frame, in the buffer that holds it.
 
-ghost use Rattle.std.specs.Prelude.{◌≡◌, ◌≤◌, ◌⊎◌, ⊤, List, ℕ, length, IfOk, IfErr, IsErrOf};
-ghost use Rattle.std.specs.Borrow.{sem, follows_so, Array, u8};
+ghost use Rattle.std.specs.Prelude.{◌≡◌, ◌≤◌, ⊤, List, ℕ, length};
+ghost use Rattle.postcard_crc.specs.{Array, HasDataOf, IsDecodedFrame, IsReadOf, KeepsFromZero};
+ghost use Rattle.postcard_crc.specs.{before_zero, follows_so, sem, u8};
 ghost use mathlib.Core.Option.{none};
-ghost use Rattle.postcard_cobs.specs.Groups.{before_zero};
-ghost use Rattle.postcard_de.specs.Reads.{IsReadError};
-ghost use Rattle.postcard_frame.specs.Frame.{HasNoData};
-ghost use Rattle.postcard_frame.specs.Buffer.{KeepsFromZero, HasDataOf};
-ghost use Rattle.postcard_crc.specs.Reading.{ReadsFrameChecked};
-ghost use Rattle.postcard_crc.specs.InFrame.{AcceptsChecked, ReadsBackChecked, RefusesDamage};
-ghost use Rattle.postcard_crc.specs.InFrame.{HasDataErrors, IsReadOf};
-ghost use Rattle.postcard_crc.specs.Parts.{IsDecodedFrame};
 
 use crate::de::from_bytes_whole;
 use crc::{Digest, Implementation, Width};
@@ -39,16 +32,7 @@ pub fn from_bytes_cobs<'a, T: Deserialize<'a>, W: Width, I: Implementation<W>>(
 ) -> Result<T>
     ensures* writes_back { sem 𝓛 (follows_so (Array u8 0) (Array u8 0) s.entry.ghost_name none
         (λ _ _. ⊤) (KeepsFromZero s.old)) }
-    ensures gives { IfOk result (ReadsFrameChecked T.shape.reads T.shape.value W.size
-        digest.entry (before_zero s.old)) }
-    ensures accepts { AcceptsChecked T.shape W.size digest.entry (before_zero s.old) result }
-    ensures reads_back { ReadsBackChecked T.shape W.size digest.entry (before_zero s.old) result }
-    ensures refuses_damage { RefusesDamage T.shape W.size digest.entry (before_zero s.old) result }
-    ensures no_frame { HasNoData (before_zero s.old)
-        → IsErrOf result Error.DeserializeBadEncoding }
-    ensures exact_errors { HasDataErrors T.shape W.size digest.entry (before_zero s.old) result }
-    ensures named_error { IfErr result (λ e. IsReadError T.shape.other e
-        ⊎ ((e ≡ Error.DeserializeBadCrc) ⊎ (e ≡ Error.DeserializeBadEncoding))) }
+    ensures reads { IsReadOf T.shape W.size digest.entry (before_zero s.old) result }
 {
     let DecodedFrame {
         all,

@@ -1,8 +1,7 @@
 //! The reading flavor that checks a checksum, over a slice.
 
 ghost use Rattle.std.specs.Prelude.{◌≡◌, ◌≤◌, Some, length};
-ghost use Rattle.postcard_de_flavors.specs.Source.{known};
-ghost use Rattle.postcard_crc.specs.Source.{TookBoth, Finishes, crc_laws};
+ghost use Rattle.postcard_crc.specs.{Finishes, TookBoth, crc_laws, known};
 
 use super::after_checksum;
 use crc::{Digest, Implementation, Table, Width};

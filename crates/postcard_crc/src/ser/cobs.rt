@@ -1,13 +1,8 @@
 //! Encoding with a checksum into a COBS frame.
 
-ghost use Rattle.std.specs.Prelude.{◌≡◌, ◌+◌, ◌-◌, ◌++◌, ℕ, List, length};
-ghost use Rattle.std.specs.Prelude.{IfOk, IfErr, IsOk, OnOk};
-ghost use Rattle.crc.specs.Checked.{low_bytes};
-ghost use Rattle.postcard_cobs.specs.Groups.{made};
-ghost use Rattle.postcard_wire.specs.Spelling.{canonical};
-ghost use Rattle.postcard_shape.specs.Shape.{IsWilling};
-ghost use Rattle.postcard_ser.specs.Writing.{IsErrorOf};
-ghost use Rattle.postcard_crc.specs.Writing.{IsCrcAfter, IsFrameWithCrc, FrameFits};
+ghost use Rattle.std.specs.Prelude.{◌≡◌, ◌+◌, ◌-◌, ◌++◌, ℕ, List, length, IfOk, IfErr, IsOk, OnOk};
+ghost use Rattle.postcard_crc.specs.{EncodesGrowing, FrameFits, IsCrcAfter, IsErrorOf};
+ghost use Rattle.postcard_crc.specs.{IsFrameWithCrc, IsWilling, encoding, low_bytes, made};
 
 use crate::ser::serialize_with_checksum;
 use crc::{Digest, Implementation, Width};
@@ -26,16 +21,16 @@ fn framed<T: Serialize, B: Storage + Drop, W: Width, I: Implementation<W>>(
     digest: Digest<'_, W, I>,
 ) -> Result<<B as Flavor>::Output>
     ensures gives { IfOk result (λ output. (crc : ℕ)
-        × IsCrcAfter digest.entry (canonical (T.shape.tree value.now)) crc × ((last : B)
+        × IsCrcAfter digest.entry (encoding T.shape value.now) crc × ((last : B)
         × (B.held last ≡ B.held storage
-        ++ made (canonical (T.shape.tree value.now) ++ low_bytes W.size crc))
+        ++ made (encoding T.shape value.now ++ low_bytes W.size crc))
         × B.reaches storage last × B.finishes last output)) }
     ensures has_room { IsWilling T.shape value.now
-        → FrameFits W.size (canonical (T.shape.tree value.now)) (usize.MAX - 2)
-        → ((ys : List ℕ) → length ys ≡ length (canonical (T.shape.tree value.now)) + W.size
+        → FrameFits W.size (encoding T.shape value.now) (usize.MAX - 2)
+        → ((ys : List ℕ) → length ys ≡ length (encoding T.shape value.now) + W.size
         → B.free storage (length (made ys))) → IsOk result }
-    ensures own_error { FrameFits W.size (canonical (T.shape.tree value.now)) (usize.MAX - 2)
-        → ((ys : List ℕ) → length ys ≡ length (canonical (T.shape.tree value.now)) + W.size
+    ensures own_error { FrameFits W.size (encoding T.shape value.now) (usize.MAX - 2)
+        → ((ys : List ℕ) → length ys ≡ length (encoding T.shape value.now) + W.size
         → B.free storage (length (made ys))) → IfErr result (T.shape.refusal value.now) }
     ensures named_error { IfErr result (IsErrorOf T.shape value.now) }
     ensures fits { OnOk result (T.shape.fits value.now) }
@@ -44,7 +39,7 @@ fn framed<T: Serialize, B: Storage + Drop, W: Width, I: Implementation<W>>(
 }
 
 /// Encodes a value and its checksum as a frame into the front of `buf`, and returns the frame with
-/// its sentinel. Nothing is allocated. The Rust crate has no such call.
+/// its zero. Nothing is allocated. The Rust crate has no such call.
 ///
 /// # Errors
 ///
@@ -58,10 +53,10 @@ pub fn to_slice_cobs<'a, T: Serialize, W: Width, I: Implementation<W>>(
     digest: Digest<'_, W, I>,
 ) -> Result<&'a mut [u8]>
     ensures gives { IfOk result (λ front. IsFrameWithCrc W.size digest.entry
-        (canonical (T.shape.tree value.now)) front.now) }
+        (encoding T.shape value.now) front.now) }
     ensures has_room { IsWilling T.shape value.now
-        → FrameFits W.size (canonical (T.shape.tree value.now)) (length buf.old) → IsOk result }
-    ensures own_error { FrameFits W.size (canonical (T.shape.tree value.now)) (length buf.old)
+        → FrameFits W.size (encoding T.shape value.now) (length buf.old) → IsOk result }
+    ensures own_error { FrameFits W.size (encoding T.shape value.now) (length buf.old)
         → IfErr result (T.shape.refusal value.now) }
     ensures named_error { IfErr result (IsErrorOf T.shape value.now) }
     ensures fits { OnOk result (T.shape.fits value.now) }
@@ -71,17 +66,15 @@ pub fn to_slice_cobs<'a, T: Serialize, W: Width, I: Implementation<W>>(
     framed(value, Slice::new(buf), digest)
 }
 
-/// Encodes a value and its checksum as a frame with its sentinel into a new `Vec`. Fails as
+/// Encodes a value and its checksum as a frame with its zero into a new `Vec`. Fails as
 /// [`to_allocvec`](crate::ser::to_allocvec). The Rust crate has no such call.
 pub fn to_allocvec_cobs<T: Serialize, W: Width, I: Implementation<W>>(
     alloc: Global,
     value: &T,
     digest: Digest<'_, W, I>,
 ) -> Result<Vec<u8>>
-    ensures gives { IfOk result (λ vec. IsFrameWithCrc W.size digest.entry
-        (canonical (T.shape.tree value.now)) vec.items) }
-    ensures named_error { IfErr result (IsErrorOf T.shape value.now) }
-    ensures fits { OnOk result (T.shape.fits value.now) }
+    ensures { EncodesGrowing T.shape value.now
+        (λ vec. IsFrameWithCrc W.size digest.entry (encoding T.shape value.now) vec.items) result }
 {
     framed(value, AllocVec::new(alloc), digest)
 }

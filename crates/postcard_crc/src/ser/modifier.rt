@@ -1,9 +1,8 @@
 //! The writing flavor that adds a checksum.
 
-ghost use Rattle.std.specs.Prelude.{◌≡◌, [], ◌∷◌};
-ghost use Rattle.postcard_crc.specs.Writing.{Continues, HasRoom, EndsWithCrc};
-ghost use Rattle.postcard_crc.specs.Writing.{continues_none, continues_join};
-ghost use Rattle.postcard_crc.specs.Writing.{front_has_room, rest_has_room};
+ghost use Rattle.std.specs.Prelude.{◌≡◌};
+ghost use Rattle.postcard_crc.specs.{Continues, EndsWithCrc, HasRoom, continues_join};
+ghost use Rattle.postcard_crc.specs.{continues_none, front_has_room, rest_has_room};
 
 use crate::trailer::trailer_of;
 use crc::{Digest, Implementation, Table, Width};

@@ -1,8 +1,8 @@
 //! The calls that read a whole container: its count, if it has one, and its elements in one loop.
 //! They fail with `OutOfMemory` if an allocation fails.
 
-ghost use Rattle.std.specs.Prelude.{◌≡◌, [], ◌∷◌, ◌++◌, IfErr, OnOk};
-ghost use Rattle.postcard_de.specs.Reads.{ReadsShape, source_of};
+ghost use Rattle.std.specs.Prelude.{◌≡◌, [], ◌∷◌, ◌++◌, OnOk, IsOkUnless};
+ghost use Rattle.postcard_de.specs.{Deserializes};
 
 use crate::deserializer::Deserializer;
 use crate::read_element::ReadElement;
@@ -28,7 +28,7 @@ fn push_announced<T: Drop>(
     announced: usize,
 ) -> Result<()>
     ensures pushed { OnOk result (items.new.items ≡ items.old.items ++ item ∷ []) }
-    ensures refused { IfErr result (λ e. e ≡ Error.OutOfMemory) }
+    ensures refused { IsOkUnless result Error.OutOfMemory }
 {
     if items.len() == items.capacity() {
         let room = items.len().saturating_mul(3).max(first).min(announced);
@@ -48,8 +48,7 @@ impl<'de, F: Flavor> Deserializer<'de, F> {
         &mut self,
         alloc: Global,
     ) -> Result<Vec<T>>
-        ensures { ReadsShape F.Flavor ⟦<Vec<T> as Shaped>⟧.shape
-            (source_of self.old) result (source_of self.new) }
+        ensures { Deserializes F.Flavor ⟦<Vec<T> as Shaped>⟧.shape self.old result self.new }
     {
         let count = numbers::count(&mut self.flavor)?;
         // Each element has at least one byte, except for types that write nothing.
@@ -74,8 +73,8 @@ impl<'de, F: Flavor> Deserializer<'de, F> {
         &mut self,
         alloc: Global,
     ) -> Result<ArrayVec<T, CAP>>
-        ensures { ReadsShape F.Flavor ⟦<ArrayVec<T, CAP> as Shaped>⟧.shape
-            (source_of self.old) result (source_of self.new) }
+        ensures { Deserializes F.Flavor ⟦<ArrayVec<T, CAP> as Shaped>⟧.shape
+            self.old result self.new }
     {
         let count = numbers::count(&mut self.flavor)?;
         let mut items = ArrayVec::new();
@@ -93,8 +92,7 @@ impl<'de, F: Flavor> Deserializer<'de, F> {
         &mut self,
         alloc: Global,
     ) -> Result<[T; N]>
-        ensures { ReadsShape F.Flavor ⟦<[T; N] as Shaped>⟧.shape
-            (source_of self.old) result (source_of self.new) }
+        ensures { Deserializes F.Flavor ⟦<[T; N] as Shaped>⟧.shape self.old result self.new }
     {
         let mut items = [T::default(); N];
         for i in 0..N {
@@ -110,8 +108,8 @@ impl<'de, F: Flavor> Deserializer<'de, F> {
         V: Shaped + Drop,
         E: ReadElement<'de, K> + ReadElement<'de, V>,
     >(&mut self, alloc: Global) -> Result<BTreeMap<K, V>>
-        ensures { ReadsShape F.Flavor ⟦<BTreeMap<K, V> as Shaped>⟧.shape
-            (source_of self.old) result (source_of self.new) }
+        ensures { Deserializes F.Flavor ⟦<BTreeMap<K, V> as Shaped>⟧.shape
+            self.old result self.new }
     {
         let count = numbers::count(&mut self.flavor)?;
         let mut map = BTreeMap::new(alloc);
@@ -131,8 +129,7 @@ impl<'de, F: Flavor> Deserializer<'de, F> {
         &mut self,
         alloc: Global,
     ) -> Result<BTreeSet<K>>
-        ensures { ReadsShape F.Flavor ⟦<BTreeSet<K> as Shaped>⟧.shape
-            (source_of self.old) result (source_of self.new) }
+        ensures { Deserializes F.Flavor ⟦<BTreeSet<K> as Shaped>⟧.shape self.old result self.new }
     {
         let count = numbers::count(&mut self.flavor)?;
         let mut set = BTreeSet::new(alloc);

@@ -1,8 +1,6 @@
 //! The calls for values that have no parts, besides numbers, texts and byte strings.
 
-ghost use Rattle.std.specs.Prelude.{◌≡◌, IsOk};
-ghost use Rattle.postcard_de.specs.Reads.{ReadsNode, ReadsShape, boolean_node, char_node};
-ghost use Rattle.postcard_de.specs.Reads.{source_of};
+ghost use Rattle.postcard_de.specs.{DeserializesNode, DeserializesNothing, boolean_node, char_node};
 
 use crate::deserializer::Deserializer;
 use postcard_de_flavors::Flavor;
@@ -14,7 +12,7 @@ impl<'de, F: Flavor> Deserializer<'de, F> {
     /// Reads a boolean: the byte 0 for `false`, or 1 for `true`. Also fails with
     /// `DeserializeBadBool` for any other byte, which is taken.
     pub fn deserialize_bool(&mut self) -> Result<bool>
-        ensures { ReadsNode F.Flavor boolean_node (source_of self.old) result (source_of self.new) }
+        ensures { DeserializesNode F.Flavor boolean_node self.old result self.new }
     {
         choices::boolean(&mut self.flavor)
     }
@@ -24,27 +22,21 @@ impl<'de, F: Flavor> Deserializer<'de, F> {
     /// if the length is above 4, which alone is taken then, if it is 0, or if the bytes aren't
     /// UTF-8, which are taken too.
     pub fn deserialize_char(&mut self) -> Result<char>
-        ensures { ReadsNode F.Flavor char_node (source_of self.old) result (source_of self.new) }
+        ensures { DeserializesNode F.Flavor char_node self.old result self.new }
     {
         texts::character(&mut self.flavor)
     }
 
     /// Reads a unit, which has no bytes. Never fails.
     pub fn deserialize_unit(&mut self) -> Result<()>
-        ensures reads { ReadsShape F.Flavor ⟦<() as Shaped>⟧.shape
-            (source_of self.old) result (source_of self.new) }
-        ensures succeeds { IsOk result }
-        ensures unchanged { self.new ≡ self.old }
+        ensures { DeserializesNothing F.Flavor ⟦<() as Shaped>⟧.shape self.old result self.new }
     {
         Ok(())
     }
 
     /// Reads a struct without fields, which has no bytes. Never fails.
     pub fn deserialize_unit_struct(&mut self, _name: &str) -> Result<()>
-        ensures reads { ReadsShape F.Flavor ⟦<() as Shaped>⟧.shape
-            (source_of self.old) result (source_of self.new) }
-        ensures succeeds { IsOk result }
-        ensures unchanged { self.new ≡ self.old }
+        ensures { DeserializesNothing F.Flavor ⟦<() as Shaped>⟧.shape self.old result self.new }
     {
         self.deserialize_unit()
     }

@@ -1,6 +1,6 @@
 //! The calls for options, and for structs of one part.
 
-ghost use Rattle.postcard_de.specs.Reads.{ReadsOption, ReadsShape, source_of};
+ghost use Rattle.postcard_de.specs.{Deserializes, DeserializesOption};
 
 use crate::deserialize::Deserialize;
 use crate::deserializer::Deserializer;
@@ -12,7 +12,7 @@ impl<'de, F: Flavor> Deserializer<'de, F> {
     /// Reads an option: the byte 0 for `None`, or the byte 1 and then the content. Also fails with
     /// `DeserializeBadOption` for any other byte, which is taken.
     pub fn deserialize_option<T: Deserialize<'de>>(&mut self, alloc: Global) -> Result<Option<T>>
-        ensures { ReadsOption F.Flavor T.shape (source_of self.old) result (source_of self.new) }
+        ensures { DeserializesOption F.Flavor T.shape self.old result self.new }
     {
         match self.flavor.pop()? {
             0 => Ok(None),
@@ -30,7 +30,7 @@ impl<'de, F: Flavor> Deserializer<'de, F> {
         alloc: Global,
         _name: &str,
     ) -> Result<T>
-        ensures { ReadsShape F.Flavor T.shape (source_of self.old) result (source_of self.new) }
+        ensures { Deserializes F.Flavor T.shape self.old result self.new }
     {
         T::deserialize(alloc, self)
     }

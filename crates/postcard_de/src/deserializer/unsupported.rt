@@ -1,7 +1,7 @@
 //! The calls that the format can't serve, since a message doesn't say what type it has. As in
 //! postcard 1.1.3, each fails with `WontImplement`, and changes nothing.
 
-ghost use Rattle.std.specs.Prelude.{◌≡◌, Err};
+ghost use Rattle.postcard_de.specs.{IsUnsupported};
 
 use crate::deserializer::Deserializer;
 use postcard_de_flavors::Flavor;
@@ -10,24 +10,21 @@ use postcard_wire::{Error, Result};
 impl<'de, F: Flavor> Deserializer<'de, F> {
     /// Would read a value of any type. Always fails.
     pub fn deserialize_any(&mut self) -> Result<()>
-        ensures refused { result ≡ Err Error.WontImplement }
-        ensures unchanged { self.new ≡ self.old }
+        ensures { IsUnsupported self.old result self.new }
     {
         Err(Error::WontImplement)
     }
 
     /// Would read the name of a field or a variant. Always fails.
     pub fn deserialize_identifier(&mut self) -> Result<()>
-        ensures refused { result ≡ Err Error.WontImplement }
-        ensures unchanged { self.new ≡ self.old }
+        ensures { IsUnsupported self.old result self.new }
     {
         self.deserialize_any()
     }
 
     /// Would skip a value of any type. Always fails.
     pub fn deserialize_ignored_any(&mut self) -> Result<()>
-        ensures refused { result ≡ Err Error.WontImplement }
-        ensures unchanged { self.new ≡ self.old }
+        ensures { IsUnsupported self.old result self.new }
     {
         self.deserialize_identifier()
     }

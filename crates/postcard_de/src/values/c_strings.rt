@@ -1,9 +1,7 @@
 //! The texts of C: `CString`, read as a list of bytes.
 
-ghost use Rattle.std.specs.Prelude.{◌≡◌, IfErr, IfOk, IfSome};
-ghost use Rattle.std.specs.CStr.{c_string_bytes};
-ghost use Rattle.std.specs.Ffi.{HasNoNul};
-ghost use Rattle.std.specs.Option.{IfNone};
+ghost use Rattle.std.specs.Prelude.{◌≡◌, IfOk, IfSome, IsOkUnless};
+ghost use Rattle.postcard_de.specs.{HasNoNul, IfNone, c_string_bytes};
 
 use crate::deserialize::Deserialize;
 use crate::deserializer::Deserializer;
@@ -20,7 +18,7 @@ fn text_of(alloc: Global, bytes: Vec<u8>) -> Result<Option<CString>>
     ensures some { IfOk result (λ text. IfSome text (λ s. c_string_bytes s ≡ bytes.items)) }
     ensures no_nul { IfOk result (λ text. IfSome text (λ _. HasNoNul bytes.items)) }
     ensures none { IfOk result (λ text. IfNone text (¬ HasNoNul bytes.items)) }
-    ensures refused { IfErr result (λ e. e ≡ Error.OutOfMemory) }
+    ensures refused { IsOkUnless result Error.OutOfMemory }
 {
     match CString::new(alloc, bytes)? {
         Ok(text) => Ok(Some(text)),

@@ -1,7 +1,7 @@
 //! Errors as values: read by their index.
 
 ghost use Rattle.std.specs.Prelude.{◌≡◌, ◌<◌, ◌≤◌, IfSome, IfNone};
-ghost use Rattle.postcard_shape.specs.Enumerations.{error_index};
+ghost use Rattle.postcard_de.specs.{error_index};
 
 use crate::deserialize::Deserialize;
 use crate::deserializer::Deserializer;

@@ -1,6 +1,6 @@
 //! Arrays, and vectors and texts of a fixed capacity.
 
-ghost use Rattle.postcard_de.specs.Reads.{ReadsNode, seen_node, short_text_node, source_of};
+ghost use Rattle.postcard_de.specs.{DeserializesNode, seen_node, short_text_node};
 
 use crate::deserialize::Deserialize;
 use crate::deserializer::Deserializer;
@@ -48,8 +48,8 @@ impl<T: DeserializeOwned + Default, const CAP: usize> DeserializeOwned for Array
 /// taken and found to be UTF-8.
 impl<'de, const CAP: usize> Deserialize<'de> for ArrayString<CAP> {
     fn deserialize<F: Flavor>(_alloc: Global, d: &mut Deserializer<'de, F>) -> Result<Self>
-        ensures { ReadsNode F.Flavor (seen_node (λ v. v.bytes) (short_text_node CAP))
-            (source_of d.old) result (source_of d.new) }
+        ensures { DeserializesNode F.Flavor (seen_node (λ v. v.bytes) (short_text_node CAP))
+            d.old result d.new }
     {
         texts::short_text(&mut d.flavor)
     }
@@ -60,8 +60,8 @@ impl<const CAP: usize> DeserializeOwned for ArrayString<CAP> {
         alloc: Global,
         d: &mut Deserializer<'de, F>,
     ) -> Result<Self>
-        ensures { ReadsNode F.Flavor (seen_node (λ v. v.bytes) (short_text_node CAP))
-            (source_of d.old) result (source_of d.new) }
+        ensures { DeserializesNode F.Flavor (seen_node (λ v. v.bytes) (short_text_node CAP))
+            d.old result d.new }
     {
         <ArrayString<CAP>>::deserialize(alloc, d)
     }

@@ -1,7 +1,6 @@
 //! Floating-point numbers.
 
-ghost use Rattle.std.specs.Float.{binary32, binary64};
-ghost use Rattle.postcard_de.specs.Reads.{ReadsNode, float_node, source_of};
+ghost use Rattle.postcard_de.specs.{DeserializesNode, binary32, binary64, float_node};
 
 use crate::deserialize::Deserialize;
 use crate::deserializer::Deserializer;
@@ -12,8 +11,7 @@ use std::alloc::Global;
 
 impl<'de> Deserialize<'de> for f32 {
     fn deserialize<F: Flavor>(_alloc: Global, d: &mut Deserializer<'de, F>) -> Result<Self>
-        ensures { ReadsNode F.Flavor (float_node binary32)
-            (source_of d.old) result (source_of d.new) }
+        ensures { DeserializesNode F.Flavor (float_node binary32) d.old result d.new }
     {
         d.deserialize_f32()
     }
@@ -24,8 +22,7 @@ impl DeserializeOwned for f32 {
         alloc: Global,
         d: &mut Deserializer<'de, F>,
     ) -> Result<Self>
-        ensures { ReadsNode F.Flavor (float_node binary32)
-            (source_of d.old) result (source_of d.new) }
+        ensures { DeserializesNode F.Flavor (float_node binary32) d.old result d.new }
     {
         f32::deserialize(alloc, d)
     }
@@ -33,8 +30,7 @@ impl DeserializeOwned for f32 {
 
 impl<'de> Deserialize<'de> for f64 {
     fn deserialize<F: Flavor>(_alloc: Global, d: &mut Deserializer<'de, F>) -> Result<Self>
-        ensures { ReadsNode F.Flavor (float_node binary64)
-            (source_of d.old) result (source_of d.new) }
+        ensures { DeserializesNode F.Flavor (float_node binary64) d.old result d.new }
     {
         d.deserialize_f64()
     }
@@ -45,8 +41,7 @@ impl DeserializeOwned for f64 {
         alloc: Global,
         d: &mut Deserializer<'de, F>,
     ) -> Result<Self>
-        ensures { ReadsNode F.Flavor (float_node binary64)
-            (source_of d.old) result (source_of d.new) }
+        ensures { DeserializesNode F.Flavor (float_node binary64) d.old result d.new }
     {
         f64::deserialize(alloc, d)
     }

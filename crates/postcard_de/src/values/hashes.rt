@@ -1,10 +1,8 @@
 //! Sets and maps that find a key by its hash, read as lists of their keys or pairs. Each function
 //! fails with `OutOfMemory` if an allocation fails.
 
-ghost use Rattle.std.specs.Prelude.{◌≡◌, [], IfErr, IfOk};
-ghost use Rattle.postcard_wire.specs.declared.error.Error.{Error};
-ghost use Rattle.postcard_shape.specs.Maps.{Puts, PutsKey, PutsPair};
-ghost use Rattle.postcard_de.specs.Reads.{ReadsShape, source_of};
+ghost use Rattle.std.specs.Prelude.{[], IfOk, IsOkUnless};
+ghost use Rattle.postcard_de.specs.{Deserializes, Error, Puts, PutsKey, PutsPair};
 
 use crate::deserialize::Deserialize;
 use crate::deserializer::Deserializer;
@@ -24,7 +22,7 @@ fn set_of<K: Eq + Hash + Drop, S: BuildHasher + Drop>(
     hasher: S,
 ) -> Result<HashSet<K, S>>
     ensures keys { IfOk result (λ set. Puts (PutsKey K.eq) keys.items [] set.keys) }
-    ensures refused { IfErr result (λ e. e ≡ Error.OutOfMemory) }
+    ensures refused { IsOkUnless result Error.OutOfMemory }
 {
     let mut set = HashSet::with_hasher(alloc, hasher);
     for key in keys {
@@ -41,7 +39,7 @@ fn map_of<K: Eq + Hash + Drop, V: Drop, S: BuildHasher + Drop>(
     hasher: S,
 ) -> Result<HashMap<K, V, S>>
     ensures entries { IfOk result (λ map. Puts (PutsPair K.eq) pairs.items [] map.entries) }
-    ensures refused { IfErr result (λ e. e ≡ Error.OutOfMemory) }
+    ensures refused { IsOkUnless result Error.OutOfMemory }
 {
     let mut map = HashMap::with_hasher(alloc, hasher);
     for (key, value) in pairs {
@@ -65,8 +63,7 @@ pub fn read_hash_set<'de, K: Deserialize<'de> + Eq + Hash, S: BuildHasher + Drop
     d: &mut Deserializer<'de, F>,
     hasher: S,
 ) -> Result<HashSet<K, S>>
-    ensures { ReadsShape F.Flavor ⟦<HashSet<K, S> as Shaped>⟧.shape
-        (source_of d.old) result (source_of d.new) }
+    ensures { Deserializes F.Flavor ⟦<HashSet<K, S> as Shaped>⟧.shape d.old result d.new }
 {
     let keys = <Vec<K>>::deserialize(alloc, d)?;
     set_of(alloc, keys, hasher)
@@ -85,8 +82,7 @@ pub fn read_hash_map<
     S: BuildHasher + Drop,
     F: Flavor,
 >(alloc: Global, d: &mut Deserializer<'de, F>, hasher: S) -> Result<HashMap<K, V, S>>
-    ensures { ReadsShape F.Flavor ⟦<HashMap<K, V, S> as Shaped>⟧.shape
-        (source_of d.old) result (source_of d.new) }
+    ensures { Deserializes F.Flavor ⟦<HashMap<K, V, S> as Shaped>⟧.shape d.old result d.new }
 {
     let pairs = <Vec<(K, V)>>::deserialize(alloc, d)?;
     map_of(alloc, pairs, hasher)

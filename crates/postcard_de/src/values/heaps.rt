@@ -1,9 +1,7 @@
 //! Heaps: `BinaryHeap<T>`, read as a list of its elements.
 
-ghost use Rattle.std.specs.Prelude.{◌≡◌, IfErr, IfOk};
-ghost use Rattle.postcard_wire.specs.declared.error.Error.{Error};
-ghost use Rattle.std.specs.BinaryHeap.{heap_items};
-ghost use Rattle.std.specs.List.Sorted.{IsPermutation};
+ghost use Rattle.std.specs.Prelude.{IfOk, IsOkUnless};
+ghost use Rattle.postcard_de.specs.{Error, IsPermutation, heap_items};
 
 use crate::deserialize::Deserialize;
 use crate::deserializer::Deserializer;
@@ -15,7 +13,7 @@ use std::collections::BinaryHeap;
 
 fn heap_of<T: Ord + Drop>(alloc: Global, items: Vec<T>) -> Result<BinaryHeap<T>>
     ensures items { IfOk result (λ heap. IsPermutation items.items (heap_items heap)) }
-    ensures refused { IfErr result (λ e. e ≡ Error.OutOfMemory) }
+    ensures refused { IsOkUnless result Error.OutOfMemory }
 {
     let mut heap = BinaryHeap::new(alloc);
     for item in items {

@@ -1,8 +1,8 @@
 //! Lists of any length: `Vec<T>`, `VecDeque<T>`, `LinkedList<T>`, and `&[u8]`, which borrows from
 //! the source.
 
-ghost use Rattle.std.specs.Prelude.{◌≡◌, IfErr, IfOk};
-ghost use Rattle.postcard_de.specs.Reads.{ReadsNode, lent_bytes_node, source_of};
+ghost use Rattle.std.specs.Prelude.{◌≡◌, IfOk, IsOkUnless};
+ghost use Rattle.postcard_de.specs.{DeserializesNode, lent_bytes_node};
 
 use crate::deserialize::Deserialize;
 use crate::deserializer::Deserializer;
@@ -15,7 +15,7 @@ use std::collections::{LinkedList, VecDeque};
 
 impl<'de> Deserialize<'de> for &'de [u8] {
     fn deserialize<F: Flavor>(_alloc: Global, d: &mut Deserializer<'de, F>) -> Result<Self>
-        ensures { ReadsNode F.Flavor lent_bytes_node (source_of d.old) result (source_of d.new) }
+        ensures { DeserializesNode F.Flavor lent_bytes_node d.old result d.new }
     {
         d.deserialize_bytes()
     }
@@ -55,7 +55,7 @@ impl<T: DeserializeOwned> DeserializeOwned for VecDeque<T> {
 
 fn linked_of<T: Drop>(alloc: Global, items: Vec<T>) -> Result<LinkedList<T>>
     ensures same { IfOk result (λ linked. linked ≡ items.items) }
-    ensures refused { IfErr result (λ e. e ≡ Error.OutOfMemory) }
+    ensures refused { IsOkUnless result Error.OutOfMemory }
 {
     let mut linked = LinkedList::new(alloc);
     for item in items {

@@ -2,7 +2,7 @@
 //! and the port of a socket.
 
 ghost use Rattle.std.specs.Prelude.{◌≡◌, ◌<◌, ℕ, slice_index};
-ghost use Rattle.std.specs.Net.Socket.{v6_ip, v6_port, v6_flowinfo, v6_scope_id};
+ghost use Rattle.postcard_de.specs.{v6_flowinfo, v6_ip, v6_port, v6_scope_id};
 
 use crate::repr::FromRepr;
 use postcard_shape::cases::Case;

@@ -1,12 +1,10 @@
 //! Numbers that aren't 0: read as the number, of which 0 is refused with `SerdeDeCustom`.
 
-ghost use Rattle.std.specs.Int.NonZero.{non_zero_u8_get, non_zero_u16_get, non_zero_u32_get};
-ghost use Rattle.std.specs.Int.NonZero.{non_zero_u64_get, non_zero_u128_get, non_zero_usize_get};
-ghost use Rattle.std.specs.Int.NonZero.{non_zero_i8_get, non_zero_i16_get, non_zero_i32_get};
-ghost use Rattle.std.specs.Int.NonZero.{non_zero_i64_get, non_zero_i128_get, non_zero_isize_get};
-ghost use Rattle.postcard_de.specs.Reads.{ReadsNode, nonzero_byte_node, nonzero_int_node};
-ghost use Rattle.postcard_de.specs.Reads.{nonzero_num_node, nonzero_signed_byte_node, seen_node};
-ghost use Rattle.postcard_de.specs.Reads.{source_of};
+ghost use Rattle.postcard_de.specs.{DeserializesNode, non_zero_i128_node, non_zero_i16_node};
+ghost use Rattle.postcard_de.specs.{non_zero_i32_node, non_zero_i64_node, non_zero_i8_node};
+ghost use Rattle.postcard_de.specs.{non_zero_isize_node, non_zero_u128_node, non_zero_u16_node};
+ghost use Rattle.postcard_de.specs.{non_zero_u32_node, non_zero_u64_node, non_zero_u8_node};
+ghost use Rattle.postcard_de.specs.{non_zero_usize_node};
 
 use crate::deserialize::Deserialize;
 use crate::deserializer::Deserializer;
@@ -21,8 +19,7 @@ use std::num::{
 
 impl<'de> Deserialize<'de> for NonZeroU8 {
     fn deserialize<F: Flavor>(alloc: Global, d: &mut Deserializer<'de, F>) -> Result<Self>
-        ensures { ReadsNode F.Flavor (seen_node non_zero_u8_get nonzero_byte_node)
-            (source_of d.old) result (source_of d.new) }
+        ensures { DeserializesNode F.Flavor non_zero_u8_node d.old result d.new }
     {
         let number = u8::deserialize(alloc, d)?;
         match NonZeroU8::new(number) {
@@ -37,8 +34,7 @@ impl DeserializeOwned for NonZeroU8 {
         alloc: Global,
         d: &mut Deserializer<'de, F>,
     ) -> Result<Self>
-        ensures { ReadsNode F.Flavor (seen_node non_zero_u8_get nonzero_byte_node)
-            (source_of d.old) result (source_of d.new) }
+        ensures { DeserializesNode F.Flavor non_zero_u8_node d.old result d.new }
     {
         NonZeroU8::deserialize(alloc, d)
     }
@@ -46,8 +42,7 @@ impl DeserializeOwned for NonZeroU8 {
 
 impl<'de> Deserialize<'de> for NonZeroU16 {
     fn deserialize<F: Flavor>(alloc: Global, d: &mut Deserializer<'de, F>) -> Result<Self>
-        ensures { ReadsNode F.Flavor (seen_node non_zero_u16_get (nonzero_num_node 16))
-            (source_of d.old) result (source_of d.new) }
+        ensures { DeserializesNode F.Flavor non_zero_u16_node d.old result d.new }
     {
         let number = u16::deserialize(alloc, d)?;
         match NonZeroU16::new(number) {
@@ -62,8 +57,7 @@ impl DeserializeOwned for NonZeroU16 {
         alloc: Global,
         d: &mut Deserializer<'de, F>,
     ) -> Result<Self>
-        ensures { ReadsNode F.Flavor (seen_node non_zero_u16_get (nonzero_num_node 16))
-            (source_of d.old) result (source_of d.new) }
+        ensures { DeserializesNode F.Flavor non_zero_u16_node d.old result d.new }
     {
         NonZeroU16::deserialize(alloc, d)
     }
@@ -71,8 +65,7 @@ impl DeserializeOwned for NonZeroU16 {
 
 impl<'de> Deserialize<'de> for NonZeroU32 {
     fn deserialize<F: Flavor>(alloc: Global, d: &mut Deserializer<'de, F>) -> Result<Self>
-        ensures { ReadsNode F.Flavor (seen_node non_zero_u32_get (nonzero_num_node 32))
-            (source_of d.old) result (source_of d.new) }
+        ensures { DeserializesNode F.Flavor non_zero_u32_node d.old result d.new }
     {
         let number = u32::deserialize(alloc, d)?;
         match NonZeroU32::new(number) {
@@ -87,8 +80,7 @@ impl DeserializeOwned for NonZeroU32 {
         alloc: Global,
         d: &mut Deserializer<'de, F>,
     ) -> Result<Self>
-        ensures { ReadsNode F.Flavor (seen_node non_zero_u32_get (nonzero_num_node 32))
-            (source_of d.old) result (source_of d.new) }
+        ensures { DeserializesNode F.Flavor non_zero_u32_node d.old result d.new }
     {
         NonZeroU32::deserialize(alloc, d)
     }
@@ -96,8 +88,7 @@ impl DeserializeOwned for NonZeroU32 {
 
 impl<'de> Deserialize<'de> for NonZeroU64 {
     fn deserialize<F: Flavor>(alloc: Global, d: &mut Deserializer<'de, F>) -> Result<Self>
-        ensures { ReadsNode F.Flavor (seen_node non_zero_u64_get (nonzero_num_node 64))
-            (source_of d.old) result (source_of d.new) }
+        ensures { DeserializesNode F.Flavor non_zero_u64_node d.old result d.new }
     {
         let number = u64::deserialize(alloc, d)?;
         match NonZeroU64::new(number) {
@@ -112,8 +103,7 @@ impl DeserializeOwned for NonZeroU64 {
         alloc: Global,
         d: &mut Deserializer<'de, F>,
     ) -> Result<Self>
-        ensures { ReadsNode F.Flavor (seen_node non_zero_u64_get (nonzero_num_node 64))
-            (source_of d.old) result (source_of d.new) }
+        ensures { DeserializesNode F.Flavor non_zero_u64_node d.old result d.new }
     {
         NonZeroU64::deserialize(alloc, d)
     }
@@ -121,8 +111,7 @@ impl DeserializeOwned for NonZeroU64 {
 
 impl<'de> Deserialize<'de> for NonZeroU128 {
     fn deserialize<F: Flavor>(alloc: Global, d: &mut Deserializer<'de, F>) -> Result<Self>
-        ensures { ReadsNode F.Flavor (seen_node non_zero_u128_get (nonzero_num_node 128))
-            (source_of d.old) result (source_of d.new) }
+        ensures { DeserializesNode F.Flavor non_zero_u128_node d.old result d.new }
     {
         let number = u128::deserialize(alloc, d)?;
         match NonZeroU128::new(number) {
@@ -137,8 +126,7 @@ impl DeserializeOwned for NonZeroU128 {
         alloc: Global,
         d: &mut Deserializer<'de, F>,
     ) -> Result<Self>
-        ensures { ReadsNode F.Flavor (seen_node non_zero_u128_get (nonzero_num_node 128))
-            (source_of d.old) result (source_of d.new) }
+        ensures { DeserializesNode F.Flavor non_zero_u128_node d.old result d.new }
     {
         NonZeroU128::deserialize(alloc, d)
     }
@@ -146,8 +134,7 @@ impl DeserializeOwned for NonZeroU128 {
 
 impl<'de> Deserialize<'de> for NonZeroUsize {
     fn deserialize<F: Flavor>(alloc: Global, d: &mut Deserializer<'de, F>) -> Result<Self>
-        ensures { ReadsNode F.Flavor (seen_node non_zero_usize_get (nonzero_num_node 64))
-            (source_of d.old) result (source_of d.new) }
+        ensures { DeserializesNode F.Flavor non_zero_usize_node d.old result d.new }
     {
         let number = usize::deserialize(alloc, d)?;
         match NonZeroUsize::new(number) {
@@ -162,8 +149,7 @@ impl DeserializeOwned for NonZeroUsize {
         alloc: Global,
         d: &mut Deserializer<'de, F>,
     ) -> Result<Self>
-        ensures { ReadsNode F.Flavor (seen_node non_zero_usize_get (nonzero_num_node 64))
-            (source_of d.old) result (source_of d.new) }
+        ensures { DeserializesNode F.Flavor non_zero_usize_node d.old result d.new }
     {
         NonZeroUsize::deserialize(alloc, d)
     }
@@ -171,8 +157,7 @@ impl DeserializeOwned for NonZeroUsize {
 
 impl<'de> Deserialize<'de> for NonZeroI8 {
     fn deserialize<F: Flavor>(alloc: Global, d: &mut Deserializer<'de, F>) -> Result<Self>
-        ensures { ReadsNode F.Flavor (seen_node non_zero_i8_get nonzero_signed_byte_node)
-            (source_of d.old) result (source_of d.new) }
+        ensures { DeserializesNode F.Flavor non_zero_i8_node d.old result d.new }
     {
         let number = i8::deserialize(alloc, d)?;
         match NonZeroI8::new(number) {
@@ -187,8 +172,7 @@ impl DeserializeOwned for NonZeroI8 {
         alloc: Global,
         d: &mut Deserializer<'de, F>,
     ) -> Result<Self>
-        ensures { ReadsNode F.Flavor (seen_node non_zero_i8_get nonzero_signed_byte_node)
-            (source_of d.old) result (source_of d.new) }
+        ensures { DeserializesNode F.Flavor non_zero_i8_node d.old result d.new }
     {
         NonZeroI8::deserialize(alloc, d)
     }
@@ -196,8 +180,7 @@ impl DeserializeOwned for NonZeroI8 {
 
 impl<'de> Deserialize<'de> for NonZeroI16 {
     fn deserialize<F: Flavor>(alloc: Global, d: &mut Deserializer<'de, F>) -> Result<Self>
-        ensures { ReadsNode F.Flavor (seen_node non_zero_i16_get (nonzero_int_node 16))
-            (source_of d.old) result (source_of d.new) }
+        ensures { DeserializesNode F.Flavor non_zero_i16_node d.old result d.new }
     {
         let number = i16::deserialize(alloc, d)?;
         match NonZeroI16::new(number) {
@@ -212,8 +195,7 @@ impl DeserializeOwned for NonZeroI16 {
         alloc: Global,
         d: &mut Deserializer<'de, F>,
     ) -> Result<Self>
-        ensures { ReadsNode F.Flavor (seen_node non_zero_i16_get (nonzero_int_node 16))
-            (source_of d.old) result (source_of d.new) }
+        ensures { DeserializesNode F.Flavor non_zero_i16_node d.old result d.new }
     {
         NonZeroI16::deserialize(alloc, d)
     }
@@ -221,8 +203,7 @@ impl DeserializeOwned for NonZeroI16 {
 
 impl<'de> Deserialize<'de> for NonZeroI32 {
     fn deserialize<F: Flavor>(alloc: Global, d: &mut Deserializer<'de, F>) -> Result<Self>
-        ensures { ReadsNode F.Flavor (seen_node non_zero_i32_get (nonzero_int_node 32))
-            (source_of d.old) result (source_of d.new) }
+        ensures { DeserializesNode F.Flavor non_zero_i32_node d.old result d.new }
     {
         let number = i32::deserialize(alloc, d)?;
         match NonZeroI32::new(number) {
@@ -237,8 +218,7 @@ impl DeserializeOwned for NonZeroI32 {
         alloc: Global,
         d: &mut Deserializer<'de, F>,
     ) -> Result<Self>
-        ensures { ReadsNode F.Flavor (seen_node non_zero_i32_get (nonzero_int_node 32))
-            (source_of d.old) result (source_of d.new) }
+        ensures { DeserializesNode F.Flavor non_zero_i32_node d.old result d.new }
     {
         NonZeroI32::deserialize(alloc, d)
     }
@@ -246,8 +226,7 @@ impl DeserializeOwned for NonZeroI32 {
 
 impl<'de> Deserialize<'de> for NonZeroI64 {
     fn deserialize<F: Flavor>(alloc: Global, d: &mut Deserializer<'de, F>) -> Result<Self>
-        ensures { ReadsNode F.Flavor (seen_node non_zero_i64_get (nonzero_int_node 64))
-            (source_of d.old) result (source_of d.new) }
+        ensures { DeserializesNode F.Flavor non_zero_i64_node d.old result d.new }
     {
         let number = i64::deserialize(alloc, d)?;
         match NonZeroI64::new(number) {
@@ -262,8 +241,7 @@ impl DeserializeOwned for NonZeroI64 {
         alloc: Global,
         d: &mut Deserializer<'de, F>,
     ) -> Result<Self>
-        ensures { ReadsNode F.Flavor (seen_node non_zero_i64_get (nonzero_int_node 64))
-            (source_of d.old) result (source_of d.new) }
+        ensures { DeserializesNode F.Flavor non_zero_i64_node d.old result d.new }
     {
         NonZeroI64::deserialize(alloc, d)
     }
@@ -271,8 +249,7 @@ impl DeserializeOwned for NonZeroI64 {
 
 impl<'de> Deserialize<'de> for NonZeroI128 {
     fn deserialize<F: Flavor>(alloc: Global, d: &mut Deserializer<'de, F>) -> Result<Self>
-        ensures { ReadsNode F.Flavor (seen_node non_zero_i128_get (nonzero_int_node 128))
-            (source_of d.old) result (source_of d.new) }
+        ensures { DeserializesNode F.Flavor non_zero_i128_node d.old result d.new }
     {
         let number = i128::deserialize(alloc, d)?;
         match NonZeroI128::new(number) {
@@ -287,8 +264,7 @@ impl DeserializeOwned for NonZeroI128 {
         alloc: Global,
         d: &mut Deserializer<'de, F>,
     ) -> Result<Self>
-        ensures { ReadsNode F.Flavor (seen_node non_zero_i128_get (nonzero_int_node 128))
-            (source_of d.old) result (source_of d.new) }
+        ensures { DeserializesNode F.Flavor non_zero_i128_node d.old result d.new }
     {
         NonZeroI128::deserialize(alloc, d)
     }
@@ -296,8 +272,7 @@ impl DeserializeOwned for NonZeroI128 {
 
 impl<'de> Deserialize<'de> for NonZeroIsize {
     fn deserialize<F: Flavor>(alloc: Global, d: &mut Deserializer<'de, F>) -> Result<Self>
-        ensures { ReadsNode F.Flavor (seen_node non_zero_isize_get (nonzero_int_node 64))
-            (source_of d.old) result (source_of d.new) }
+        ensures { DeserializesNode F.Flavor non_zero_isize_node d.old result d.new }
     {
         let number = isize::deserialize(alloc, d)?;
         match NonZeroIsize::new(number) {
@@ -312,8 +287,7 @@ impl DeserializeOwned for NonZeroIsize {
         alloc: Global,
         d: &mut Deserializer<'de, F>,
     ) -> Result<Self>
-        ensures { ReadsNode F.Flavor (seen_node non_zero_isize_get (nonzero_int_node 64))
-            (source_of d.old) result (source_of d.new) }
+        ensures { DeserializesNode F.Flavor non_zero_isize_node d.old result d.new }
     {
         NonZeroIsize::deserialize(alloc, d)
     }

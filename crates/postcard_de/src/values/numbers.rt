@@ -1,7 +1,7 @@
 //! Integers of 8 to 128 bits.
 
-ghost use Rattle.postcard_de.specs.Reads.{ReadsNode, byte_node, int_node, num_node};
-ghost use Rattle.postcard_de.specs.Reads.{signed_byte_node, source_of};
+ghost use Rattle.postcard_de.specs.{DeserializesNode, byte_node, int_node, num_node};
+ghost use Rattle.postcard_de.specs.{signed_byte_node};
 
 use crate::deserialize::Deserialize;
 use crate::deserializer::Deserializer;
@@ -12,7 +12,7 @@ use std::alloc::Global;
 
 impl<'de> Deserialize<'de> for u8 {
     fn deserialize<F: Flavor>(_alloc: Global, d: &mut Deserializer<'de, F>) -> Result<Self>
-        ensures { ReadsNode F.Flavor byte_node (source_of d.old) result (source_of d.new) }
+        ensures { DeserializesNode F.Flavor byte_node d.old result d.new }
     {
         d.deserialize_u8()
     }
@@ -23,7 +23,7 @@ impl DeserializeOwned for u8 {
         alloc: Global,
         d: &mut Deserializer<'de, F>,
     ) -> Result<Self>
-        ensures { ReadsNode F.Flavor byte_node (source_of d.old) result (source_of d.new) }
+        ensures { DeserializesNode F.Flavor byte_node d.old result d.new }
     {
         u8::deserialize(alloc, d)
     }
@@ -31,7 +31,7 @@ impl DeserializeOwned for u8 {
 
 impl<'de> Deserialize<'de> for u16 {
     fn deserialize<F: Flavor>(_alloc: Global, d: &mut Deserializer<'de, F>) -> Result<Self>
-        ensures { ReadsNode F.Flavor (num_node 16) (source_of d.old) result (source_of d.new) }
+        ensures { DeserializesNode F.Flavor (num_node 16) d.old result d.new }
     {
         d.deserialize_u16()
     }
@@ -42,7 +42,7 @@ impl DeserializeOwned for u16 {
         alloc: Global,
         d: &mut Deserializer<'de, F>,
     ) -> Result<Self>
-        ensures { ReadsNode F.Flavor (num_node 16) (source_of d.old) result (source_of d.new) }
+        ensures { DeserializesNode F.Flavor (num_node 16) d.old result d.new }
     {
         u16::deserialize(alloc, d)
     }
@@ -50,7 +50,7 @@ impl DeserializeOwned for u16 {
 
 impl<'de> Deserialize<'de> for u32 {
     fn deserialize<F: Flavor>(_alloc: Global, d: &mut Deserializer<'de, F>) -> Result<Self>
-        ensures { ReadsNode F.Flavor (num_node 32) (source_of d.old) result (source_of d.new) }
+        ensures { DeserializesNode F.Flavor (num_node 32) d.old result d.new }
     {
         d.deserialize_u32()
     }
@@ -61,7 +61,7 @@ impl DeserializeOwned for u32 {
         alloc: Global,
         d: &mut Deserializer<'de, F>,
     ) -> Result<Self>
-        ensures { ReadsNode F.Flavor (num_node 32) (source_of d.old) result (source_of d.new) }
+        ensures { DeserializesNode F.Flavor (num_node 32) d.old result d.new }
     {
         u32::deserialize(alloc, d)
     }
@@ -69,7 +69,7 @@ impl DeserializeOwned for u32 {
 
 impl<'de> Deserialize<'de> for u64 {
     fn deserialize<F: Flavor>(_alloc: Global, d: &mut Deserializer<'de, F>) -> Result<Self>
-        ensures { ReadsNode F.Flavor (num_node 64) (source_of d.old) result (source_of d.new) }
+        ensures { DeserializesNode F.Flavor (num_node 64) d.old result d.new }
     {
         d.deserialize_u64()
     }
@@ -80,7 +80,7 @@ impl DeserializeOwned for u64 {
         alloc: Global,
         d: &mut Deserializer<'de, F>,
     ) -> Result<Self>
-        ensures { ReadsNode F.Flavor (num_node 64) (source_of d.old) result (source_of d.new) }
+        ensures { DeserializesNode F.Flavor (num_node 64) d.old result d.new }
     {
         u64::deserialize(alloc, d)
     }
@@ -88,7 +88,7 @@ impl DeserializeOwned for u64 {
 
 impl<'de> Deserialize<'de> for u128 {
     fn deserialize<F: Flavor>(_alloc: Global, d: &mut Deserializer<'de, F>) -> Result<Self>
-        ensures { ReadsNode F.Flavor (num_node 128) (source_of d.old) result (source_of d.new) }
+        ensures { DeserializesNode F.Flavor (num_node 128) d.old result d.new }
     {
         d.deserialize_u128()
     }
@@ -99,7 +99,7 @@ impl DeserializeOwned for u128 {
         alloc: Global,
         d: &mut Deserializer<'de, F>,
     ) -> Result<Self>
-        ensures { ReadsNode F.Flavor (num_node 128) (source_of d.old) result (source_of d.new) }
+        ensures { DeserializesNode F.Flavor (num_node 128) d.old result d.new }
     {
         u128::deserialize(alloc, d)
     }
@@ -107,7 +107,7 @@ impl DeserializeOwned for u128 {
 
 impl<'de> Deserialize<'de> for i8 {
     fn deserialize<F: Flavor>(_alloc: Global, d: &mut Deserializer<'de, F>) -> Result<Self>
-        ensures { ReadsNode F.Flavor signed_byte_node (source_of d.old) result (source_of d.new) }
+        ensures { DeserializesNode F.Flavor signed_byte_node d.old result d.new }
     {
         d.deserialize_i8()
     }
@@ -118,7 +118,7 @@ impl DeserializeOwned for i8 {
         alloc: Global,
         d: &mut Deserializer<'de, F>,
     ) -> Result<Self>
-        ensures { ReadsNode F.Flavor signed_byte_node (source_of d.old) result (source_of d.new) }
+        ensures { DeserializesNode F.Flavor signed_byte_node d.old result d.new }
     {
         i8::deserialize(alloc, d)
     }
@@ -126,7 +126,7 @@ impl DeserializeOwned for i8 {
 
 impl<'de> Deserialize<'de> for i16 {
     fn deserialize<F: Flavor>(_alloc: Global, d: &mut Deserializer<'de, F>) -> Result<Self>
-        ensures { ReadsNode F.Flavor (int_node 16) (source_of d.old) result (source_of d.new) }
+        ensures { DeserializesNode F.Flavor (int_node 16) d.old result d.new }
     {
         d.deserialize_i16()
     }
@@ -137,7 +137,7 @@ impl DeserializeOwned for i16 {
         alloc: Global,
         d: &mut Deserializer<'de, F>,
     ) -> Result<Self>
-        ensures { ReadsNode F.Flavor (int_node 16) (source_of d.old) result (source_of d.new) }
+        ensures { DeserializesNode F.Flavor (int_node 16) d.old result d.new }
     {
         i16::deserialize(alloc, d)
     }
@@ -145,7 +145,7 @@ impl DeserializeOwned for i16 {
 
 impl<'de> Deserialize<'de> for i32 {
     fn deserialize<F: Flavor>(_alloc: Global, d: &mut Deserializer<'de, F>) -> Result<Self>
-        ensures { ReadsNode F.Flavor (int_node 32) (source_of d.old) result (source_of d.new) }
+        ensures { DeserializesNode F.Flavor (int_node 32) d.old result d.new }
     {
         d.deserialize_i32()
     }
@@ -156,7 +156,7 @@ impl DeserializeOwned for i32 {
         alloc: Global,
         d: &mut Deserializer<'de, F>,
     ) -> Result<Self>
-        ensures { ReadsNode F.Flavor (int_node 32) (source_of d.old) result (source_of d.new) }
+        ensures { DeserializesNode F.Flavor (int_node 32) d.old result d.new }
     {
         i32::deserialize(alloc, d)
     }
@@ -164,7 +164,7 @@ impl DeserializeOwned for i32 {
 
 impl<'de> Deserialize<'de> for i64 {
     fn deserialize<F: Flavor>(_alloc: Global, d: &mut Deserializer<'de, F>) -> Result<Self>
-        ensures { ReadsNode F.Flavor (int_node 64) (source_of d.old) result (source_of d.new) }
+        ensures { DeserializesNode F.Flavor (int_node 64) d.old result d.new }
     {
         d.deserialize_i64()
     }
@@ -175,7 +175,7 @@ impl DeserializeOwned for i64 {
         alloc: Global,
         d: &mut Deserializer<'de, F>,
     ) -> Result<Self>
-        ensures { ReadsNode F.Flavor (int_node 64) (source_of d.old) result (source_of d.new) }
+        ensures { DeserializesNode F.Flavor (int_node 64) d.old result d.new }
     {
         i64::deserialize(alloc, d)
     }
@@ -183,7 +183,7 @@ impl DeserializeOwned for i64 {
 
 impl<'de> Deserialize<'de> for i128 {
     fn deserialize<F: Flavor>(_alloc: Global, d: &mut Deserializer<'de, F>) -> Result<Self>
-        ensures { ReadsNode F.Flavor (int_node 128) (source_of d.old) result (source_of d.new) }
+        ensures { DeserializesNode F.Flavor (int_node 128) d.old result d.new }
     {
         d.deserialize_i128()
     }
@@ -194,7 +194,7 @@ impl DeserializeOwned for i128 {
         alloc: Global,
         d: &mut Deserializer<'de, F>,
     ) -> Result<Self>
-        ensures { ReadsNode F.Flavor (int_node 128) (source_of d.old) result (source_of d.new) }
+        ensures { DeserializesNode F.Flavor (int_node 128) d.old result d.new }
     {
         i128::deserialize(alloc, d)
     }

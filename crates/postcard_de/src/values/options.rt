@@ -1,6 +1,6 @@
 //! Options, and results, which are read as an enum of two variants.
 
-ghost use Rattle.postcard_de.specs.Reads.{ReadsOption, ReadsResult, source_of};
+ghost use Rattle.postcard_de.specs.{DeserializesOption, DeserializesResult};
 
 use crate::deserialize::Deserialize;
 use crate::deserializer::Deserializer;
@@ -16,7 +16,7 @@ impl<'de, T: Deserialize<'de>> Deserialize<'de> for Option<T> {
         alloc: Global,
         d: &mut Deserializer<'de, F>,
     ) -> postcard_wire::Result<Self>
-        ensures { ReadsOption F.Flavor T.shape (source_of d.old) result (source_of d.new) }
+        ensures { DeserializesOption F.Flavor T.shape d.old result d.new }
     {
         d.deserialize_option(alloc)
     }
@@ -27,7 +27,7 @@ impl<T: DeserializeOwned> DeserializeOwned for Option<T> {
         alloc: Global,
         d: &mut Deserializer<'de, F>,
     ) -> postcard_wire::Result<Self>
-        ensures { ReadsOption F.Flavor T.shape (source_of d.old) result (source_of d.new) }
+        ensures { DeserializesOption F.Flavor T.shape d.old result d.new }
     {
         let value = d.deserialize_option::<Owned<T>>(alloc)?;
         match value {
@@ -44,7 +44,7 @@ impl<'de, T: Deserialize<'de>, E: Deserialize<'de>> Deserialize<'de> for Result<
         alloc: Global,
         d: &mut Deserializer<'de, F>,
     ) -> postcard_wire::Result<Self>
-        ensures { ReadsResult F.Flavor T.shape E.shape (source_of d.old) result (source_of d.new) }
+        ensures { DeserializesResult F.Flavor T.shape E.shape d.old result d.new }
     {
         let index = d.deserialize_enum("Result", &["Ok", "Err"])?;
         match index {
@@ -66,7 +66,7 @@ impl<T: DeserializeOwned, E: DeserializeOwned> DeserializeOwned for Result<T, E>
         alloc: Global,
         d: &mut Deserializer<'de, F>,
     ) -> postcard_wire::Result<Self>
-        ensures { ReadsResult F.Flavor T.shape E.shape (source_of d.old) result (source_of d.new) }
+        ensures { DeserializesResult F.Flavor T.shape E.shape d.old result d.new }
     {
         let value = <Result<Owned<T>, Owned<E>>>::deserialize(alloc, d)?;
         match value {

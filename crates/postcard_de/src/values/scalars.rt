@@ -1,7 +1,6 @@
 //! Booleans, characters, and `usize` and `isize` as numbers of 64 bits.
 
-ghost use Rattle.postcard_de.specs.Reads.{ReadsNode, boolean_node, char_node, int_node, num_node};
-ghost use Rattle.postcard_de.specs.Reads.{source_of};
+ghost use Rattle.postcard_de.specs.{DeserializesNode, boolean_node, char_node, int_node, num_node};
 
 use crate::deserialize::Deserialize;
 use crate::deserializer::Deserializer;
@@ -12,7 +11,7 @@ use std::alloc::Global;
 
 impl<'de> Deserialize<'de> for bool {
     fn deserialize<F: Flavor>(_alloc: Global, d: &mut Deserializer<'de, F>) -> Result<Self>
-        ensures { ReadsNode F.Flavor boolean_node (source_of d.old) result (source_of d.new) }
+        ensures { DeserializesNode F.Flavor boolean_node d.old result d.new }
     {
         d.deserialize_bool()
     }
@@ -23,7 +22,7 @@ impl DeserializeOwned for bool {
         alloc: Global,
         d: &mut Deserializer<'de, F>,
     ) -> Result<Self>
-        ensures { ReadsNode F.Flavor boolean_node (source_of d.old) result (source_of d.new) }
+        ensures { DeserializesNode F.Flavor boolean_node d.old result d.new }
     {
         bool::deserialize(alloc, d)
     }
@@ -31,7 +30,7 @@ impl DeserializeOwned for bool {
 
 impl<'de> Deserialize<'de> for char {
     fn deserialize<F: Flavor>(_alloc: Global, d: &mut Deserializer<'de, F>) -> Result<Self>
-        ensures { ReadsNode F.Flavor char_node (source_of d.old) result (source_of d.new) }
+        ensures { DeserializesNode F.Flavor char_node d.old result d.new }
     {
         d.deserialize_char()
     }
@@ -42,7 +41,7 @@ impl DeserializeOwned for char {
         alloc: Global,
         d: &mut Deserializer<'de, F>,
     ) -> Result<Self>
-        ensures { ReadsNode F.Flavor char_node (source_of d.old) result (source_of d.new) }
+        ensures { DeserializesNode F.Flavor char_node d.old result d.new }
     {
         char::deserialize(alloc, d)
     }
@@ -50,7 +49,7 @@ impl DeserializeOwned for char {
 
 impl<'de> Deserialize<'de> for usize {
     fn deserialize<F: Flavor>(_alloc: Global, d: &mut Deserializer<'de, F>) -> Result<Self>
-        ensures { ReadsNode F.Flavor (num_node 64) (source_of d.old) result (source_of d.new) }
+        ensures { DeserializesNode F.Flavor (num_node 64) d.old result d.new }
     {
         let n = d.deserialize_u64()?;
         Ok(n as usize)
@@ -62,7 +61,7 @@ impl DeserializeOwned for usize {
         alloc: Global,
         d: &mut Deserializer<'de, F>,
     ) -> Result<Self>
-        ensures { ReadsNode F.Flavor (num_node 64) (source_of d.old) result (source_of d.new) }
+        ensures { DeserializesNode F.Flavor (num_node 64) d.old result d.new }
     {
         usize::deserialize(alloc, d)
     }
@@ -70,7 +69,7 @@ impl DeserializeOwned for usize {
 
 impl<'de> Deserialize<'de> for isize {
     fn deserialize<F: Flavor>(_alloc: Global, d: &mut Deserializer<'de, F>) -> Result<Self>
-        ensures { ReadsNode F.Flavor (int_node 64) (source_of d.old) result (source_of d.new) }
+        ensures { DeserializesNode F.Flavor (int_node 64) d.old result d.new }
     {
         let n = d.deserialize_i64()?;
         Ok(n as isize)
@@ -82,7 +81,7 @@ impl DeserializeOwned for isize {
         alloc: Global,
         d: &mut Deserializer<'de, F>,
     ) -> Result<Self>
-        ensures { ReadsNode F.Flavor (int_node 64) (source_of d.old) result (source_of d.new) }
+        ensures { DeserializesNode F.Flavor (int_node 64) d.old result d.new }
     {
         isize::deserialize(alloc, d)
     }

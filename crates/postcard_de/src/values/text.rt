@@ -1,7 +1,7 @@
 //! Texts: `&str`, which borrows from the source, and the others, which are read as a `String`, with
 //! the same errors. An `Rc` or an `Arc` is allocated after that, and may fail with `OutOfMemory`.
 
-ghost use Rattle.postcard_de.specs.Reads.{ReadsNode, lent_text_node, text_node, source_of};
+ghost use Rattle.postcard_de.specs.{DeserializesNode, lent_text_node, text_node};
 
 use crate::deserialize::Deserialize;
 use crate::deserializer::Deserializer;
@@ -18,7 +18,7 @@ impl<'de> Deserialize<'de> for &'de str {
     // So that the caller has the text in registers, too.
     #[inline(always)]
     fn deserialize<F: Flavor>(_alloc: Global, d: &mut Deserializer<'de, F>) -> Result<Self>
-        ensures { ReadsNode F.Flavor lent_text_node (source_of d.old) result (source_of d.new) }
+        ensures { DeserializesNode F.Flavor lent_text_node d.old result d.new }
     {
         d.deserialize_str()
     }
@@ -26,7 +26,7 @@ impl<'de> Deserialize<'de> for &'de str {
 
 impl<'de> Deserialize<'de> for String {
     fn deserialize<F: Flavor>(alloc: Global, d: &mut Deserializer<'de, F>) -> Result<Self>
-        ensures { ReadsNode F.Flavor text_node (source_of d.old) result (source_of d.new) }
+        ensures { DeserializesNode F.Flavor text_node d.old result d.new }
     {
         d.deserialize_string(alloc)
     }
@@ -37,7 +37,7 @@ impl DeserializeOwned for String {
         alloc: Global,
         d: &mut Deserializer<'de, F>,
     ) -> Result<Self>
-        ensures { ReadsNode F.Flavor text_node (source_of d.old) result (source_of d.new) }
+        ensures { DeserializesNode F.Flavor text_node d.old result d.new }
     {
         String::deserialize(alloc, d)
     }

@@ -1,15 +1,11 @@
 //! The source over a reader.
 
-ghost use Rattle.std.specs.Prelude.{◌≡◌, ◌<◌, ◌≤◌, [], ◌∷◌, length, drop, None, IfOk, IfErr, IsOk};
-ghost use Rattle.std.specs.Prelude.{IsErr, MatchResult};
-ghost use Rattle.std.specs.Borrow.{sem};
-ghost use Rattle.std.specs.Io.BufRead.{Rests};
-ghost use Rattle.postcard_de_flavors.specs.contracts.io.io.IOReader.{the_row};
+ghost use Rattle.std.specs.Prelude.{◌≡◌, ◌<◌, ◌≤◌, [], ◌∷◌, length, drop, None, IfOk, IsOk, IsErr};
+ghost use Rattle.std.specs.Prelude.{IsOkUnless, MatchResult};
+ghost use Rattle.postcard_de_flavors.specs.{AtLeast, CanRead, LendsScratch, MayBecome, Rests};
+ghost use Rattle.postcard_de_flavors.specs.{TakesIfAble, left_of, reader_laws, reader_of};
+ghost use Rattle.postcard_de_flavors.specs.{scratch_of, sem, the_row};
 ghost use mir.Syntax.{named};
-ghost use Rattle.postcard_de_flavors.specs.Source.{Takes};
-ghost use Rattle.postcard_de_flavors.specs.Reader.{AtLeast};
-ghost use Rattle.postcard_de_flavors.specs.IOReader.{reader_of, scratch_of, left_of, CanRead, MayBecome};
-ghost use Rattle.postcard_de_flavors.specs.IOReader.{LendsScratch, reader_laws};
 
 use super::sliding_buffer::SlidingBuffer;
 use crate::flavor::Flavor;
@@ -69,11 +65,7 @@ impl<'de, T: Reader> Flavor for IOReader<'de, T> {
     ghost lawful = { reader_laws T.remaining T.steady };
 
     fn pop(&mut self) -> Result<u8>
-        ensures gives { IfOk result (λ b. Takes ⟦<IOReader<'de, T> as Flavor>⟧.left
-            ⟦<IOReader<'de, T> as Flavor>⟧.able self.old (b ∷ []) self.new) }
-        ensures leaves { ⟦<IOReader<'de, T> as Flavor>⟧.may_leave self.old self.new }
-        ensures refuses_by_unexpected_end { IfErr result (λ e. e ≡ Error.DeserializeUnexpectedEnd) }
-        ensures accepts { ⟦<IOReader<'de, T> as Flavor>⟧.able self.old 1 → IsOk result }
+        ensures takes { TakesIfAble ⟦<Self as Flavor>⟧ (λ b. b ∷ []) 1 self.old result self.new }
         ensures succeeds { T.steady (reader_of self.old)
             → AtLeast (T.remaining (reader_of self.old)) 1 → IsOk result }
         ensures no_scratch { scratch_of self.new ≡ scratch_of self.old }
@@ -96,11 +88,8 @@ impl<'de, T: Reader> Flavor for IOReader<'de, T> {
     where
         Self: 'a,
         ensures length { IfOk result (λ front. length front.now ≡ ct) }
-        ensures gives { IfOk result (λ front. Takes ⟦<IOReader<'de, T> as Flavor>⟧.left
-            ⟦<IOReader<'de, T> as Flavor>⟧.able self.old front.now self.new) }
-        ensures accepts { ⟦<IOReader<'de, T> as Flavor>⟧.able self.old ct → IsOk result }
-        ensures leaves { ⟦<IOReader<'de, T> as Flavor>⟧.may_leave self.old self.new }
-        ensures refuses_by_unexpected_end { IfErr result (λ e. e ≡ Error.DeserializeUnexpectedEnd) }
+        ensures takes { TakesIfAble ⟦<Self as Flavor>⟧ (λ front. front.now) ct
+            self.old result self.new }
         ensures short_scratch_refused { length (scratch_of self.old) < ct → IsErr result
             × (self.new ≡ self.old) }
         ensures uses { ct ≤ length (scratch_of self.old) → scratch_of self.new
@@ -118,8 +107,8 @@ impl<'de, T: Reader> Flavor for IOReader<'de, T> {
         ensures* gives { sem 𝓛 (Rests (the_row
             (record { mir = named 1; lft = [] }) T.row) self.entry
             (LendsScratch T.remaining T.steady ct self.old result)) }
-        ensures accepts { ⟦<IOReader<'de, T> as Flavor>⟧.able self.old ct → IsOk result }
-        ensures refuses_by_unexpected_end { IfErr result (λ e. e ≡ Error.DeserializeUnexpectedEnd) }
+        ensures accepts { ⟦<Self as Flavor>⟧.able self.old ct → IsOk result }
+        ensures refuses_by_unexpected_end { IsOkUnless result Error.DeserializeUnexpectedEnd }
         ensures short_scratch_refused { length (scratch_of self.old) < ct → IsErr result }
     {
         self.scratch.fill(&mut self.reader, ct)?;

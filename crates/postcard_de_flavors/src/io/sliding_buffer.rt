@@ -1,10 +1,9 @@
 //! The scratch buffer of a source over a reader: bytes at its front are used up, or lent until the
 //! next call.
 
-ghost use Rattle.std.specs.Prelude.{◌≡◌, ◌<◌, ◌≤◌, ◌^◌, ◌++◌, length, take, drop, IfOk, IfErr};
-ghost use Rattle.std.specs.Prelude.{OnOk, OnErr, IsOk, IsErr};
-ghost use Rattle.std.specs.Io.KnownBytes.{Consumes};
-ghost use Rattle.postcard_de_flavors.specs.Reader.{AtLeast};
+ghost use Rattle.std.specs.Prelude.{◌≡◌, ◌<◌, ◌≤◌, ◌^◌, ◌++◌, length, take, drop, IfOk, OnOk};
+ghost use Rattle.std.specs.Prelude.{OnErr, IsOk, IsErr, IsOkUnless};
+ghost use Rattle.postcard_de_flavors.specs.{AtLeast, Consumes};
 
 use crate::reader::Reader;
 use postcard_memory::{Life, Memory};
@@ -47,7 +46,7 @@ impl<'de> SlidingBuffer<'de> {
         ensures taken { IfOk result (λ front. (length front.now ≡ n)
             × (self.old ≡ front.now ++ self.new)) }
         ensures unchanged_if_short { OnErr result ((self.new ≡ self.old) × (length self.old < n)) }
-        ensures refuses_by_unexpected_end { IfErr result (λ e. e ≡ Error.DeserializeUnexpectedEnd) }
+        ensures refuses_by_unexpected_end { IsOkUnless result Error.DeserializeUnexpectedEnd }
     {
         if self.len < n {
             return Err(Error::DeserializeUnexpectedEnd);
@@ -76,7 +75,7 @@ impl<'de> SlidingBuffer<'de> {
         ensures stays_steady { R.steady reader.old → R.steady reader.new }
         ensures short_scratch_refused { length self.old < n → IsErr result × (self.new ≡ self.old)
             × (reader.new ≡ reader.old) }
-        ensures refuses_by_unexpected_end { IfErr result (λ e. e ≡ Error.DeserializeUnexpectedEnd) }
+        ensures refuses_by_unexpected_end { IsOkUnless result Error.DeserializeUnexpectedEnd }
     {
         if self.len < n {
             return Err(Error::DeserializeUnexpectedEnd);

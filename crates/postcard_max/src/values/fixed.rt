@@ -1,11 +1,8 @@
 //! The greatest sizes of arrays, and of vectors and texts of a fixed capacity: that of all elements
 //! and, but for arrays, of their count as a varint.
 
-ghost use Rattle.postcard_shape.specs.Lists.{AllFit};
-ghost use Rattle.postcard_max.specs.SizeLimit.{array_limit, few_limit, short_text_limit};
-ghost use Rattle.postcard_max.specs.Limits.{via_lawful};
-ghost use Rattle.postcard_max.specs.Containers.{array_lawful, few_lawful};
-ghost use Rattle.postcard_max.specs.Leaves.{short_text_lawful};
+ghost use Rattle.postcard_max.specs.{AllFit, array_lawful, array_limit, few_lawful, few_limit};
+ghost use Rattle.postcard_max.specs.{short_text_lawful, short_text_limit, via_lawful};
 
 use crate::max_size::MaxSize;
 use crate::sizes::{product, sum, varint_len};

@@ -1,9 +1,7 @@
 //! The greatest sizes of floating-point numbers: 4 and 8 bytes. In each `in_forms` the value is
 //! read for the prover, which learns from it that it is a float of its type.
 
-ghost use Rattle.std.specs.Float.{binary32, binary64};
-ghost use Rattle.postcard_max.specs.SizeLimit.{exactly};
-ghost use Rattle.postcard_max.specs.Floats.{float_lawful};
+ghost use Rattle.postcard_max.specs.{binary32, binary64, exactly, float_lawful};
 
 use crate::max_size::MaxSize;
 use postcard_shape::formats::{known_f32, known_f64};

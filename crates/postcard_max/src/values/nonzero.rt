@@ -1,10 +1,7 @@
 //! The greatest sizes of numbers that aren't 0: those of the numbers.
 
-ghost use Rattle.std.specs.Prelude.{refl};
-ghost use Rattle.std.proofs.Common.{inl, inr};
-ghost use Rattle.postcard_max.specs.SizeLimit.{exactly};
-ghost use Rattle.postcard_max.specs.Leaves.{nonzero_byte_lawful, nonzero_num_lawful};
-ghost use Rattle.postcard_max.specs.Leaves.{nonzero_int_lawful};
+ghost use Rattle.postcard_max.specs.{exactly, inl, inr, nonzero_byte_lawful, nonzero_int_lawful};
+ghost use Rattle.postcard_max.specs.{nonzero_num_lawful, refl};
 
 use crate::max_size::MaxSize;
 use std::num::{

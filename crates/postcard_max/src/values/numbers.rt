@@ -2,10 +2,7 @@
 //! for 16, 32, 64 or 128. In each `in_forms` the value is read for the prover, which learns from it
 //! that the number has its width.
 
-ghost use Rattle.std.specs.Prelude.{refl};
-ghost use Rattle.std.proofs.Common.{inl, inr};
-ghost use Rattle.postcard_max.specs.SizeLimit.{exactly};
-ghost use Rattle.postcard_max.specs.Leaves.{byte_lawful, num_lawful, int_lawful};
+ghost use Rattle.postcard_max.specs.{byte_lawful, exactly, inl, inr, int_lawful, num_lawful, refl};
 
 use crate::max_size::MaxSize;
 

@@ -1,7 +1,6 @@
 //! The greatest sizes of options and results: 1 byte, and the greatest size of the content.
 
-ghost use Rattle.postcard_max.specs.SizeLimit.{option_limit, result_limit};
-ghost use Rattle.postcard_max.specs.Containers.{option_lawful, result_lawful};
+ghost use Rattle.postcard_max.specs.{option_lawful, option_limit, result_lawful, result_limit};
 
 use crate::max_size::MaxSize;
 use crate::sizes::{greater, sum};

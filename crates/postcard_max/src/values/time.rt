@@ -1,8 +1,7 @@
 //! The greatest size of spans of time, 15 bytes: 10 for the seconds, of 64 bits, and 5 for the
 //! nanoseconds, of 32.
 
-ghost use Rattle.postcard_max.specs.SizeLimit.{exactly};
-ghost use Rattle.postcard_max.specs.Leaves.{span_lawful};
+ghost use Rattle.postcard_max.specs.{exactly, span_lawful};
 
 use crate::max_size::MaxSize;
 use std::time::Duration;

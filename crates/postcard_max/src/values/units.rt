@@ -1,7 +1,6 @@
 //! The greatest size of types with one value, for which nothing is written: 0.
 
-ghost use Rattle.postcard_max.specs.SizeLimit.{exactly};
-ghost use Rattle.postcard_max.specs.Rows.{end_lawful, group_lawful};
+ghost use Rattle.postcard_max.specs.{end_lawful, exactly, group_lawful};
 
 use crate::max_size::MaxSize;
 use std::marker::PhantomData;

@@ -1,6 +1,6 @@
 //! The greatest sizes of types that hold one value of another, or point to it: that of the value.
 
-ghost use Rattle.postcard_max.specs.Limits.{via_lawful};
+ghost use Rattle.postcard_max.specs.{via_lawful};
 
 use crate::max_size::{MaxSize, MaxSizeRepr};
 use std::borrow::Cow;

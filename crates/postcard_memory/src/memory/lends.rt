@@ -1,8 +1,7 @@
 //! The bytes are lent on, for as long as the memory is borrowed.
 
-ghost use Rattle.std.specs.Prelude.{◌≡◌, ◌<◌, ◌^◌, [], length, slice_set, slice_index};
-ghost use Rattle.std.specs.Borrow.{sem, Lends, Array, u8};
-ghost use Rattle.postcard_memory.specs.contracts.memory.Memory.{the_row};
+ghost use Rattle.std.specs.Prelude.{◌≡◌, ◌<◌, ◌^◌, length, slice_set, slice_index};
+ghost use Rattle.postcard_memory.specs.{Array, Lends, sem, the_row, u8};
 
 use super::{Life, Memory};
 use std::slice;

@@ -1,10 +1,7 @@
 //! The calls for enums: the variant's index as a varint, followed by its content.
 
 ghost use Rattle.std.specs.Prelude.{OnOk};
-ghost use Rattle.postcard_wire.specs.Spelling.{canonical};
-ghost use Rattle.postcard_wire.specs.Tree.{Num, Variant};
-ghost use Rattle.postcard_shape.specs.Enumerations.{unit_variant};
-ghost use Rattle.postcard_ser.specs.Writing.{Wrote, never};
+ghost use Rattle.postcard_ser.specs.{Num, SerializesTree, Variant, Wrote, canonical, unit_variant};
 
 use crate::serialize::Serialize;
 use crate::serializer::Serializer;
@@ -14,8 +11,7 @@ use postcard_wire::Result;
 impl<F: Flavor> Serializer<F> {
     /// Writes the index of a variant without content.
     pub fn serialize_unit_variant(&mut self, name: &str, index: u32, variant: &str) -> Result<()>
-        ensures { Wrote F.Flavor self.old.output (canonical (unit_variant index)) never ⊥ result
-            self.new.output }
+        ensures { SerializesTree F.Flavor (unit_variant index) self.old result self.new }
     {
         self.serialize_tuple_variant(name, index, variant, 0)
     }
@@ -46,8 +42,7 @@ impl<F: Flavor> Serializer<F> {
         _variant: &str,
         _len: usize,
     ) -> Result<()>
-        ensures { Wrote F.Flavor self.old.output
-            (canonical (Num 32 index)) never ⊥ result self.new.output }
+        ensures { SerializesTree F.Flavor (Num 32 index) self.old result self.new }
     {
         self.serialize_u32(index)
     }
@@ -61,8 +56,7 @@ impl<F: Flavor> Serializer<F> {
         variant: &str,
         len: usize,
     ) -> Result<()>
-        ensures { Wrote F.Flavor self.old.output
-            (canonical (Num 32 index)) never ⊥ result self.new.output }
+        ensures { SerializesTree F.Flavor (Num 32 index) self.old result self.new }
     {
         self.serialize_tuple_variant(name, index, variant, len)
     }

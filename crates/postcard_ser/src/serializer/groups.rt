@@ -1,11 +1,8 @@
 //! The calls for tuples, structs and maps, and for their parts. Nothing is written before the parts
 //! of a tuple or a struct.
 
-ghost use Rattle.std.specs.Prelude.{◌≡◌, [], IsOk, IsErrOf, IfSome, OnOk};
-ghost use Rattle.std.specs.Option.{IfNone};
-ghost use Rattle.postcard_wire.specs.Spelling.{canonical};
-ghost use Rattle.postcard_wire.specs.Tree.{Num};
-ghost use Rattle.postcard_ser.specs.Writing.{Wrote, never};
+ghost use Rattle.std.specs.Prelude.{◌≡◌, [], IsOk, IsErrOf, IfSome};
+ghost use Rattle.postcard_ser.specs.{IfNone, Num, Serializes, SerializesBytes, SerializesTree};
 
 use crate::serialize::Serialize;
 use crate::serializer::Serializer;
@@ -15,7 +12,7 @@ use postcard_wire::{Error, Result};
 impl<F: Flavor> Serializer<F> {
     /// Begins a tuple or an array of `len` elements, each then written by `serialize_element`.
     pub fn serialize_tuple(&mut self, _len: usize) -> Result<()>
-        ensures wrote { Wrote F.Flavor self.old.output [] never ⊥ result self.new.output }
+        ensures wrote { SerializesBytes F.Flavor [] self.old result self.new }
         ensures succeeds { IsOk result }
         ensures unchanged { self.new ≡ self.old }
     {
@@ -24,7 +21,7 @@ impl<F: Flavor> Serializer<F> {
 
     /// Begins a struct of `len` fields without names, each then written by `serialize_field`.
     pub fn serialize_tuple_struct(&mut self, _name: &str, len: usize) -> Result<()>
-        ensures wrote { Wrote F.Flavor self.old.output [] never ⊥ result self.new.output }
+        ensures wrote { SerializesBytes F.Flavor [] self.old result self.new }
         ensures succeeds { IsOk result }
         ensures unchanged { self.new ≡ self.old }
     {
@@ -33,7 +30,7 @@ impl<F: Flavor> Serializer<F> {
 
     /// Begins a struct of `len` named fields, each then written by `serialize_struct_field`.
     pub fn serialize_struct(&mut self, name: &str, len: usize) -> Result<()>
-        ensures wrote { Wrote F.Flavor self.old.output [] never ⊥ result self.new.output }
+        ensures wrote { SerializesBytes F.Flavor [] self.old result self.new }
         ensures succeeds { IsOk result }
         ensures unchanged { self.new ≡ self.old }
     {
@@ -43,8 +40,8 @@ impl<F: Flavor> Serializer<F> {
     /// Begins a map: writes the number of its entries. Each is then written by `serialize_key` and
     /// `serialize_value`.
     pub fn serialize_map(&mut self, len: Option<usize>) -> Result<()>
-        ensures known { IfSome len (λ n. Wrote F.Flavor self.old.output (canonical (Num 64 n))
-            never ⊥ result self.new.output) }
+        ensures known { IfSome len
+            (λ n. SerializesTree F.Flavor (Num 64 n) self.old result self.new) }
         ensures unknown { IfNone len (IsErrOf result Error.SerializeSeqLengthUnknown ×
             (self.new ≡ self.old)) }
     {
@@ -53,36 +50,28 @@ impl<F: Flavor> Serializer<F> {
 
     /// Writes the key of a map's entry.
     pub fn serialize_key<T: Serialize>(&mut self, key: &T) -> Result<()>
-        ensures wrote { Wrote F.Flavor self.old.output (canonical (T.shape.tree key.now))
-            (T.shape.refusal key.now) T.shape.text result self.new.output }
-        ensures fits { OnOk result (T.shape.fits key.now) }
+        ensures { Serializes F.Flavor T.shape key.now self.old result self.new }
     {
         key.serialize(self)
     }
 
     /// Writes the value of a map's entry, after its key.
     pub fn serialize_value<T: Serialize>(&mut self, value: &T) -> Result<()>
-        ensures wrote { Wrote F.Flavor self.old.output (canonical (T.shape.tree value.now))
-            (T.shape.refusal value.now) T.shape.text result self.new.output }
-        ensures fits { OnOk result (T.shape.fits value.now) }
+        ensures { Serializes F.Flavor T.shape value.now self.old result self.new }
     {
         value.serialize(self)
     }
 
     /// Writes a field without a name, of a struct or a variant.
     pub fn serialize_field<T: Serialize>(&mut self, value: &T) -> Result<()>
-        ensures wrote { Wrote F.Flavor self.old.output (canonical (T.shape.tree value.now))
-            (T.shape.refusal value.now) T.shape.text result self.new.output }
-        ensures fits { OnOk result (T.shape.fits value.now) }
+        ensures { Serializes F.Flavor T.shape value.now self.old result self.new }
     {
         self.serialize_element(value)
     }
 
     /// Writes a named field, of a struct or a variant.
     pub fn serialize_struct_field<T: Serialize>(&mut self, _key: &str, value: &T) -> Result<()>
-        ensures wrote { Wrote F.Flavor self.old.output (canonical (T.shape.tree value.now))
-            (T.shape.refusal value.now) T.shape.text result self.new.output }
-        ensures fits { OnOk result (T.shape.fits value.now) }
+        ensures { Serializes F.Flavor T.shape value.now self.old result self.new }
     {
         self.serialize_field(value)
     }

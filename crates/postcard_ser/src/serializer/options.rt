@@ -1,9 +1,7 @@
 //! The calls for options and for structs of one value.
 
 ghost use Rattle.std.specs.Prelude.{OnOk};
-ghost use Rattle.postcard_wire.specs.Spelling.{canonical};
-ghost use Rattle.postcard_wire.specs.Tree.{Absent, Present};
-ghost use Rattle.postcard_ser.specs.Writing.{Wrote, never};
+ghost use Rattle.postcard_ser.specs.{Absent, Present, Serializes, SerializesTree, Wrote, canonical};
 
 use crate::serialize::Serialize;
 use crate::serializer::Serializer;
@@ -13,7 +11,7 @@ use postcard_wire::Result;
 impl<F: Flavor> Serializer<F> {
     /// Writes an option without a value: the byte 0.
     pub fn serialize_none(&mut self) -> Result<()>
-        ensures { Wrote F.Flavor self.old.output (canonical Absent) never ⊥ result self.new.output }
+        ensures { SerializesTree F.Flavor Absent self.old result self.new }
     {
         self.serialize_u8(0)
     }
@@ -31,9 +29,7 @@ impl<F: Flavor> Serializer<F> {
 
     /// Writes a struct of one value as that value.
     pub fn serialize_newtype_struct<T: Serialize>(&mut self, _name: &str, value: &T) -> Result<()>
-        ensures wrote { Wrote F.Flavor self.old.output (canonical (T.shape.tree value.now))
-            (T.shape.refusal value.now) T.shape.text result self.new.output }
-        ensures fits { OnOk result (T.shape.fits value.now) }
+        ensures { Serializes F.Flavor T.shape value.now self.old result self.new }
     {
         self.serialize_element(value)
     }

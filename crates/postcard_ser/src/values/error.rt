@@ -2,7 +2,7 @@
 //! byte.
 
 ghost use Rattle.std.specs.Prelude.{◌≡◌, ◌<◌};
-ghost use Rattle.postcard_shape.specs.Enumerations.{error_index};
+ghost use Rattle.postcard_ser.specs.{error_index};
 
 use crate::cases::serialize_variant;
 use crate::serialize::Serialize;

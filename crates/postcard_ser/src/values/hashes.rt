@@ -2,11 +2,7 @@
 //! these in the order in which the set or the map keeps them, a value after its key.
 
 ghost use Rattle.std.specs.Prelude.{Any, map, OnOk};
-ghost use Rattle.postcard_wire.specs.Spelling.{canonical_all};
-ghost use Rattle.postcard_wire.specs.Tree.{trees};
-ghost use Rattle.postcard_shape.specs.Lists.{AllFit};
-ghost use Rattle.postcard_shape.specs.Maps.{pair};
-ghost use Rattle.postcard_ser.specs.Writing.{Wrote};
+ghost use Rattle.postcard_ser.specs.{AllFit, Wrote, canonical_all, pair, trees};
 
 use crate::serialize::Serialize;
 use crate::serializer::Serializer;

@@ -1,10 +1,7 @@
 //! Lists: the number of the elements, a varint, and then the elements.
 
 ghost use Rattle.std.specs.Prelude.{Any, map, OnOk};
-ghost use Rattle.postcard_wire.specs.Spelling.{canonical_all};
-ghost use Rattle.postcard_wire.specs.Tree.{trees};
-ghost use Rattle.postcard_shape.specs.Lists.{AllFit};
-ghost use Rattle.postcard_ser.specs.Writing.{Wrote};
+ghost use Rattle.postcard_ser.specs.{AllFit, Wrote, canonical_all, trees};
 
 use crate::serialize::Serialize;
 use crate::serializer::Serializer;

@@ -2,11 +2,7 @@
 //! keys.
 
 ghost use Rattle.std.specs.Prelude.{◌⊎◌, Any, map, OnOk};
-ghost use Rattle.postcard_wire.specs.Spelling.{canonical_all};
-ghost use Rattle.postcard_wire.specs.Tree.{trees};
-ghost use Rattle.postcard_shape.specs.Maps.{entry_tree};
-ghost use Rattle.postcard_shape.specs.Lists.{AllFit};
-ghost use Rattle.postcard_ser.specs.Writing.{Wrote};
+ghost use Rattle.postcard_ser.specs.{AllFit, Wrote, canonical_all, entry_tree, trees};
 
 use crate::serialize::Serialize;
 use crate::serializer::Serializer;

@@ -3,9 +3,7 @@
 //! A tuple passes its parts to a function with a parameter for each, since the prover's work for a
 //! tuple within a tuple grows fast with its length.
 
-ghost use Rattle.std.specs.Prelude.{OnOk};
-ghost use Rattle.postcard_shape.specs.Rows.{no_part, then};
-ghost use Rattle.postcard_ser.specs.Writing.{WroteRow, part};
+ghost use Rattle.postcard_ser.specs.{WritesRow, no_part, part, then};
 
 use crate::serialize::Serialize;
 use crate::serializer::Serializer;
@@ -17,13 +15,10 @@ fn serialize_both<P: Serialize, Q: Serialize, F: Flavor>(
     second: &Q,
     serializer: &mut Serializer<F>,
 ) -> Result<()>
-    ensures wrote { WroteRow F.Flavor serializer.old.output
+    ensures { WritesRow F.Flavor serializer.old.output
         (then P.shape (then Q.shape no_part))
         (part first.now (part second.now tt))
         result serializer.new.output }
-    ensures fits { OnOk result
-        ((then P.shape (then Q.shape no_part)).fits
-        (part first.now (part second.now tt))) }
 {
     first.serialize(serializer)?;
     second.serialize(serializer)
@@ -35,13 +30,10 @@ fn serialize_three<P: Serialize, Q: Serialize, R: Serialize, F: Flavor>(
     third: &R,
     serializer: &mut Serializer<F>,
 ) -> Result<()>
-    ensures wrote { WroteRow F.Flavor serializer.old.output
+    ensures { WritesRow F.Flavor serializer.old.output
         (then P.shape (then Q.shape (then R.shape no_part)))
         (part first.now (part second.now (part third.now tt)))
         result serializer.new.output }
-    ensures fits { OnOk result
-        ((then P.shape (then Q.shape (then R.shape no_part))).fits
-        (part first.now (part second.now (part third.now tt)))) }
 {
     first.serialize(serializer)?;
     serialize_both(second, third, serializer)
@@ -54,13 +46,10 @@ fn serialize_four<P: Serialize, Q: Serialize, R: Serialize, S: Serialize, F: Fla
     fourth: &S,
     serializer: &mut Serializer<F>,
 ) -> Result<()>
-    ensures wrote { WroteRow F.Flavor serializer.old.output
+    ensures { WritesRow F.Flavor serializer.old.output
         (then P.shape (then Q.shape (then R.shape (then S.shape no_part))))
         (part first.now (part second.now (part third.now (part fourth.now tt))))
         result serializer.new.output }
-    ensures fits { OnOk result
-        ((then P.shape (then Q.shape (then R.shape (then S.shape no_part)))).fits
-        (part first.now (part second.now (part third.now (part fourth.now tt))))) }
 {
     first.serialize(serializer)?;
     serialize_three(second, third, fourth, serializer)
@@ -81,13 +70,10 @@ pub(super) fn serialize_five<
     fifth: &T,
     serializer: &mut Serializer<F>,
 ) -> Result<()>
-    ensures wrote { WroteRow F.Flavor serializer.old.output
+    ensures { WritesRow F.Flavor serializer.old.output
         (then P.shape (then Q.shape (then R.shape (then S.shape (then T.shape no_part)))))
         (part first.now (part second.now (part third.now (part fourth.now (part fifth.now tt)))))
         result serializer.new.output }
-    ensures fits { OnOk result
-        ((then P.shape (then Q.shape (then R.shape (then S.shape (then T.shape no_part))))).fits
-        (part first.now (part second.now (part third.now (part fourth.now (part fifth.now tt)))))) }
 {
     first.serialize(serializer)?;
     serialize_four(second, third, fourth, fifth, serializer)
@@ -110,17 +96,12 @@ pub(super) fn serialize_six<
     sixth: &U,
     serializer: &mut Serializer<F>,
 ) -> Result<()>
-    ensures wrote { WroteRow F.Flavor serializer.old.output
+    ensures { WritesRow F.Flavor serializer.old.output
         (then P.shape (then Q.shape (then R.shape (then S.shape (then T.shape (then U.shape
         no_part))))))
         (part first.now (part second.now (part third.now (part fourth.now (part fifth.now
         (part sixth.now tt))))))
         result serializer.new.output }
-    ensures fits { OnOk result
-        ((then P.shape (then Q.shape (then R.shape (then S.shape (then T.shape (then U.shape
-        no_part)))))).fits
-        (part first.now (part second.now (part third.now (part fourth.now (part fifth.now
-        (part sixth.now tt))))))) }
 {
     first.serialize(serializer)?;
     serialize_five(second, third, fourth, fifth, sixth, serializer)
@@ -145,17 +126,12 @@ pub(super) fn serialize_seven<
     seventh: &V,
     serializer: &mut Serializer<F>,
 ) -> Result<()>
-    ensures wrote { WroteRow F.Flavor serializer.old.output
+    ensures { WritesRow F.Flavor serializer.old.output
         (then P.shape (then Q.shape (then R.shape (then S.shape (then T.shape (then U.shape
         (then V.shape no_part)))))))
         (part first.now (part second.now (part third.now (part fourth.now (part fifth.now
         (part sixth.now (part seventh.now tt)))))))
         result serializer.new.output }
-    ensures fits { OnOk result
-        ((then P.shape (then Q.shape (then R.shape (then S.shape (then T.shape (then U.shape
-        (then V.shape no_part))))))).fits
-        (part first.now (part second.now (part third.now (part fourth.now (part fifth.now
-        (part sixth.now (part seventh.now tt)))))))) }
 {
     first.serialize(serializer)?;
     serialize_six(second, third, fourth, fifth, sixth, seventh, serializer)
@@ -182,17 +158,12 @@ pub(super) fn serialize_eight<
     eighth: &W,
     serializer: &mut Serializer<F>,
 ) -> Result<()>
-    ensures wrote { WroteRow F.Flavor serializer.old.output
+    ensures { WritesRow F.Flavor serializer.old.output
         (then P.shape (then Q.shape (then R.shape (then S.shape (then T.shape (then U.shape
         (then V.shape (then W.shape no_part))))))))
         (part first.now (part second.now (part third.now (part fourth.now (part fifth.now
         (part sixth.now (part seventh.now (part eighth.now tt))))))))
         result serializer.new.output }
-    ensures fits { OnOk result
-        ((then P.shape (then Q.shape (then R.shape (then S.shape (then T.shape (then U.shape
-        (then V.shape (then W.shape no_part)))))))).fits
-        (part first.now (part second.now (part third.now (part fourth.now (part fifth.now
-        (part sixth.now (part seventh.now (part eighth.now tt))))))))) }
 {
     first.serialize(serializer)?;
     serialize_seven(
@@ -223,17 +194,12 @@ fn serialize_nine<
     ninth: &X,
     serializer: &mut Serializer<F>,
 ) -> Result<()>
-    ensures wrote { WroteRow F.Flavor serializer.old.output
+    ensures { WritesRow F.Flavor serializer.old.output
         (then P.shape (then Q.shape (then R.shape (then S.shape (then T.shape (then U.shape
         (then V.shape (then W.shape (then X.shape no_part)))))))))
         (part first.now (part second.now (part third.now (part fourth.now (part fifth.now
         (part sixth.now (part seventh.now (part eighth.now (part ninth.now tt)))))))))
         result serializer.new.output }
-    ensures fits { OnOk result
-        ((then P.shape (then Q.shape (then R.shape (then S.shape (then T.shape (then U.shape
-        (then V.shape (then W.shape (then X.shape no_part))))))))).fits
-        (part first.now (part second.now (part third.now (part fourth.now (part fifth.now
-        (part sixth.now (part seventh.now (part eighth.now (part ninth.now tt)))))))))) }
 {
     first.serialize(serializer)?;
     serialize_eight(
@@ -266,19 +232,13 @@ fn serialize_ten<
     tenth: &Y,
     serializer: &mut Serializer<F>,
 ) -> Result<()>
-    ensures wrote { WroteRow F.Flavor serializer.old.output
+    ensures { WritesRow F.Flavor serializer.old.output
         (then P.shape (then Q.shape (then R.shape (then S.shape (then T.shape (then U.shape
         (then V.shape (then W.shape (then X.shape (then Y.shape no_part))))))))))
         (part first.now (part second.now (part third.now (part fourth.now (part fifth.now
         (part sixth.now (part seventh.now (part eighth.now (part ninth.now (part tenth.now
         tt))))))))))
         result serializer.new.output }
-    ensures fits { OnOk result
-        ((then P.shape (then Q.shape (then R.shape (then S.shape (then T.shape (then U.shape
-        (then V.shape (then W.shape (then X.shape (then Y.shape no_part)))))))))).fits
-        (part first.now (part second.now (part third.now (part fourth.now (part fifth.now
-        (part sixth.now (part seventh.now (part eighth.now (part ninth.now (part tenth.now
-        tt))))))))))) }
 {
     first.serialize(serializer)?;
     serialize_nine(
@@ -313,20 +273,13 @@ fn serialize_eleven<
     eleventh: &Z,
     serializer: &mut Serializer<F>,
 ) -> Result<()>
-    ensures wrote { WroteRow F.Flavor serializer.old.output
+    ensures { WritesRow F.Flavor serializer.old.output
         (then P.shape (then Q.shape (then R.shape (then S.shape (then T.shape (then U.shape
         (then V.shape (then W.shape (then X.shape (then Y.shape (then Z.shape no_part)))))))))))
         (part first.now (part second.now (part third.now (part fourth.now (part fifth.now
         (part sixth.now (part seventh.now (part eighth.now (part ninth.now (part tenth.now
         (part eleventh.now tt)))))))))))
         result serializer.new.output }
-    ensures fits { OnOk result
-        ((then P.shape (then Q.shape (then R.shape (then S.shape (then T.shape (then U.shape
-        (then V.shape (then W.shape (then X.shape (then Y.shape (then Z.shape
-        no_part))))))))))).fits
-        (part first.now (part second.now (part third.now (part fourth.now (part fifth.now
-        (part sixth.now (part seventh.now (part eighth.now (part ninth.now (part tenth.now
-        (part eleventh.now tt)))))))))))) }
 {
     first.serialize(serializer)?;
     serialize_ten(
@@ -363,7 +316,7 @@ fn serialize_twelve<
     twelfth: &A,
     serializer: &mut Serializer<F>,
 ) -> Result<()>
-    ensures wrote { WroteRow F.Flavor serializer.old.output
+    ensures { WritesRow F.Flavor serializer.old.output
         (then P.shape (then Q.shape (then R.shape (then S.shape (then T.shape (then U.shape
         (then V.shape (then W.shape (then X.shape (then Y.shape (then Z.shape (then A.shape
         no_part))))))))))))
@@ -371,13 +324,6 @@ fn serialize_twelve<
         (part sixth.now (part seventh.now (part eighth.now (part ninth.now (part tenth.now
         (part eleventh.now (part twelfth.now tt))))))))))))
         result serializer.new.output }
-    ensures fits { OnOk result
-        ((then P.shape (then Q.shape (then R.shape (then S.shape (then T.shape (then U.shape
-        (then V.shape (then W.shape (then X.shape (then Y.shape (then Z.shape (then A.shape
-        no_part)))))))))))).fits
-        (part first.now (part second.now (part third.now (part fourth.now (part fifth.now
-        (part sixth.now (part seventh.now (part eighth.now (part ninth.now (part tenth.now
-        (part eleventh.now (part twelfth.now tt))))))))))))) }
 {
     first.serialize(serializer)?;
     serialize_eleven(

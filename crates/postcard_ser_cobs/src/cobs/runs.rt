@@ -3,10 +3,9 @@
 
 ghost use Rattle.std.specs.Prelude.{◌≡◌, ◌≤◌, ◌+◌, ◌-◌, ◌<◌, length, take, drop, slice_index, IfOk};
 ghost use Rattle.std.specs.Prelude.{IsOkUnless, OnErr, IsOk, IsTrue, IsErrOf};
-ghost use Rattle.postcard_cobs.specs.Groups.{NoZero};
-ghost use Rattle.postcard_ser_flavors.specs.Pushing.{PushedBy};
+ghost use Rattle.postcard_ser_cobs.specs.{NoZero, PushedToFrame};
 
-use crate::cobs::Cobs;
+use crate::cobs::{Cobs, MAX_PLACE};
 use crate::steps::{push_piece, set_codes};
 use postcard_cobs::{EncoderState, frame_len};
 use postcard_ser_flavors::{Flavor, Storage};
@@ -63,13 +62,10 @@ impl<B: Storage + Drop> Cobs<B> {
     fn push_run(&mut self, run: &[u8]) -> Result<()>
         requires no_zero { NoZero run.now }
         requires short { length run.now < 255 - self.old.encoder.code }
-        ensures pushed { PushedBy ⟦<Self as Flavor>⟧ self.old run.now result self.new }
-        ensures stays_refused { IsTrue self.old.failed → IsErrOf result Error.SerializeBufferFull }
-        ensures storage_kept { IsTrue self.old.failed → self.new.storage ≡ self.old.storage }
-        ensures remembers_refusal { OnErr result (IsTrue self.new.failed) }
-        ensures refuses_by_buffer_full { IsOkUnless result Error.SerializeBufferFull }
+        ensures { PushedToFrame ⟦<Self as Flavor>⟧ (λ c. c.failed) (λ c. c.storage)
+            self.old run.now result self.new }
     {
-        if self.failed || self.encoder.place() > usize::MAX - 2 - run.len() {
+        if self.failed || self.encoder.place() > MAX_PLACE - run.len() {
             self.failed = true;
             return Err(Error::SerializeBufferFull);
         }
@@ -87,13 +83,10 @@ impl<B: Storage + Drop> Cobs<B> {
     #[inline(never)]
     fn push_dense(&mut self, piece: &[u8]) -> Result<()>
         requires short { length piece.now < 255 - self.old.encoder.code }
-        ensures pushed { PushedBy ⟦<Self as Flavor>⟧ self.old piece.now result self.new }
-        ensures stays_refused { IsTrue self.old.failed → IsErrOf result Error.SerializeBufferFull }
-        ensures storage_kept { IsTrue self.old.failed → self.new.storage ≡ self.old.storage }
-        ensures remembers_refusal { OnErr result (IsTrue self.new.failed) }
-        ensures refuses_by_buffer_full { IsOkUnless result Error.SerializeBufferFull }
+        ensures { PushedToFrame ⟦<Self as Flavor>⟧ (λ c. c.failed) (λ c. c.storage)
+            self.old piece.now result self.new }
     {
-        if self.failed || self.encoder.place() > usize::MAX - 2 - piece.len() {
+        if self.failed || self.encoder.place() > MAX_PLACE - piece.len() {
             self.failed = true;
             return Err(Error::SerializeBufferFull);
         }

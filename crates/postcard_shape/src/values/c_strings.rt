@@ -1,12 +1,8 @@
 //! The shapes of the texts of C: the list of their bytes without the NUL at the end, of which none
 //! is 0.
 
-ghost use Rattle.std.specs.CStr.{c_str_bytes, c_string_bytes};
-ghost use Rattle.std.specs.Ffi.{HasNoNul};
-ghost use Rattle.postcard_shape.specs.Leaves.{byte};
-ghost use Rattle.postcard_shape.specs.Lists.{seq};
-ghost use Rattle.postcard_shape.specs.Only.{only};
-ghost use Rattle.postcard_shape.specs.Shape.{via, growing};
+ghost use Rattle.postcard_shape.specs.{HasNoNul, byte, c_str_bytes, c_string_bytes, growing, only};
+ghost use Rattle.postcard_shape.specs.{seq, via};
 
 use crate::shape::Shaped;
 use std::ffi::{CStr, CString};

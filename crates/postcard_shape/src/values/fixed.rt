@@ -1,8 +1,6 @@
 //! The shapes of arrays, and of vectors and texts of a fixed capacity.
 
-ghost use Rattle.postcard_shape.specs.Shape.{via};
-ghost use Rattle.postcard_shape.specs.Leaves.{short_text};
-ghost use Rattle.postcard_shape.specs.Lists.{array, few};
+ghost use Rattle.postcard_shape.specs.{array, few, short_text, via};
 
 use crate::shape::Shaped;
 use arrayvec::{ArrayString, ArrayVec};

@@ -4,13 +4,8 @@
 //! each number, of a NaN always 7FC00000 or 7FF8000000000000.
 
 ghost use Rattle.std.specs.Prelude.{◌≡◌, ◌<◌, ◌≤◌, [], ◌∷◌, length, map, T};
-ghost use Rattle.std.specs.Float.{binary32, binary64};
-ghost use Rattle.std.specs.Float.Ieee.{fits, to_bits};
-ghost use Rattle.postcard_wire.specs.Spelling.{canonical_all};
-ghost use Rattle.postcard_wire.specs.Tree.{trees};
-ghost use Rattle.postcard_shape.specs.First.{AreFirst, IsBlockOf, IsRowOf};
-ghost use Rattle.postcard_shape.specs.Floats.{float, float_tree};
-ghost use Rattle.postcard_shape.specs.Lists.{AllFit};
+ghost use Rattle.postcard_shape.specs.{AllFit, AreFirst, IsBlockOf, IsRowOf, binary32, binary64};
+ghost use Rattle.postcard_shape.specs.{canonical_all, fits, float, float_tree, to_bits, trees};
 
 use crate::first::FirstBytes;
 use crate::shape::Shaped;

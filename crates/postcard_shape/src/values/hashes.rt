@@ -1,8 +1,6 @@
 //! The shapes of sets and maps that find a key by its hash.
 
-ghost use Rattle.postcard_shape.specs.Lists.{seq};
-ghost use Rattle.postcard_shape.specs.Maps.{PutsKey, PutsPair, pair, put_in};
-ghost use Rattle.postcard_shape.specs.Shape.{via};
+ghost use Rattle.postcard_shape.specs.{PutsKey, PutsPair, pair, put_in, seq, via};
 
 use crate::shape::Shaped;
 use std::collections::{HashMap, HashSet};

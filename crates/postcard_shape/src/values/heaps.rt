@@ -1,8 +1,6 @@
 //! The shape of heaps: a list of the elements, in any order.
 
-ghost use Rattle.std.specs.BinaryHeap.{heap_items};
-ghost use Rattle.postcard_shape.specs.Lists.{in_any_order, seq};
-ghost use Rattle.postcard_shape.specs.Shape.{via, growing};
+ghost use Rattle.postcard_shape.specs.{growing, heap_items, in_any_order, seq, via};
 
 use crate::shape::Shaped;
 use std::collections::BinaryHeap;

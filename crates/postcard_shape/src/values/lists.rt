@@ -1,7 +1,6 @@
 //! The shapes of lists.
 
-ghost use Rattle.postcard_shape.specs.Shape.{via, growing};
-ghost use Rattle.postcard_shape.specs.Lists.{seq};
+ghost use Rattle.postcard_shape.specs.{growing, seq, via};
 
 use crate::shape::Shaped;
 use std::collections::{LinkedList, VecDeque};

@@ -1,7 +1,6 @@
 //! The shapes of maps.
 
-ghost use Rattle.postcard_shape.specs.Shape.{via};
-ghost use Rattle.postcard_shape.specs.Maps.{entries};
+ghost use Rattle.postcard_shape.specs.{entries, via};
 
 use crate::shape::Shaped;
 use std::collections::BTreeMap;

@@ -1,11 +1,10 @@
 //! The shapes of addresses of the Internet: the bytes in network order, the highest first, and the
 //! port of a socket.
 
-ghost use Rattle.std.specs.Net.Addr.{ipv4_octets, ipv6_octets};
-ghost use Rattle.std.specs.Net.Socket.{v4_ip, v4_port, v6_ip, v6_port};
+ghost use Rattle.postcard_shape.specs.{Next, This, ipv4_octets, ipv6_octets, v4_ip, v4_port, v6_ip};
+ghost use Rattle.postcard_shape.specs.{v6_port};
 ghost use Rattle.std.specs.declared.net.ip_addr.IpAddr.TheVariants as Ip;
 ghost use Rattle.std.specs.declared.net.socket_addr.SocketAddr.TheVariants as Socket;
-ghost use Rattle.postcard_shape.specs.declared.cases.Case.TheVariants.{This, Next};
 
 use crate::cases::{Case, NoCase};
 use crate::shape::Repr;

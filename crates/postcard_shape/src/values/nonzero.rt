@@ -1,14 +1,11 @@
 //! The shapes of numbers that aren't 0.
 
-ghost use Rattle.std.specs.Prelude.{refl, pos};
-ghost use Rattle.std.specs.Int.NonZero.{non_zero_u8_get, non_zero_u16_get, non_zero_u32_get};
-ghost use Rattle.std.specs.Int.NonZero.{non_zero_u64_get, non_zero_u128_get, non_zero_usize_get};
-ghost use Rattle.std.specs.Int.NonZero.{non_zero_i8_get, non_zero_i16_get, non_zero_i32_get};
-ghost use Rattle.std.specs.Int.NonZero.{non_zero_i64_get, non_zero_i128_get, non_zero_isize_get};
-ghost use Rattle.std.proofs.Common.{inl, inr};
-ghost use Rattle.postcard_wire.specs.Tree.{Byte, Num, Int};
-ghost use Rattle.postcard_shape.specs.Shape.{via};
-ghost use Rattle.postcard_shape.specs.Leaves.{byte, signed_byte, num, int, without};
+ghost use Rattle.postcard_shape.specs.{Byte, Int, Num, byte, inl, inr, int, non_zero_i128_get};
+ghost use Rattle.postcard_shape.specs.{non_zero_i16_get, non_zero_i32_get, non_zero_i64_get};
+ghost use Rattle.postcard_shape.specs.{non_zero_i8_get, non_zero_isize_get, non_zero_u128_get};
+ghost use Rattle.postcard_shape.specs.{non_zero_u16_get, non_zero_u32_get, non_zero_u64_get};
+ghost use Rattle.postcard_shape.specs.{non_zero_u8_get, non_zero_usize_get, num, pos, refl};
+ghost use Rattle.postcard_shape.specs.{signed_byte, via, without};
 
 use crate::shape::Shaped;
 use std::num::{

@@ -1,12 +1,8 @@
 //! The shapes of integers of 8 to 128 bits.
 
-ghost use Rattle.std.specs.Prelude.{◌≡◌, ◌<◌, ◌≤◌, length, take, refl};
-ghost use Rattle.std.specs.Prelude.{IfErr, IfOk, IfSome, IsSome};
-ghost use Rattle.std.specs.Option.{IfNone};
-ghost use Rattle.std.proofs.Common.{inl, inr};
-ghost use Rattle.postcard_shape.specs.First.{AreFirst, IsWhole};
-ghost use Rattle.postcard_shape.specs.Leaves.{byte, signed_byte, num, int};
-ghost use Rattle.postcard_shape.specs.Lists.{Appends};
+ghost use Rattle.std.specs.Prelude.{◌≡◌, ◌<◌, ◌≤◌, length, take, refl, IfErr, IfOk, IfSome, IsSome};
+ghost use Rattle.postcard_shape.specs.{Appends, AreFirst, IfNone, IsWhole, byte, inl, inr, int};
+ghost use Rattle.postcard_shape.specs.{num, signed_byte};
 
 use crate::first::FirstBytes;
 use crate::shape::Shaped;
@@ -31,7 +27,7 @@ impl Shaped for u8 {
             (take n bytes.now) items.old.items items.new.items)) }
         ensures unchanged_if_none { IfOk result
             (λ front. IfNone front (items.new.items ≡ items.old.items)) }
-        ensures refused { IfErr result (λ e. e ≡ Error.OutOfMemory) }
+        ensures only_out_of_memory { IfErr result (λ e. e ≡ Error.OutOfMemory) }
         ensures returns_some { (0 < most) → (most ≤ length bytes.now)
             → IfOk result (λ front. IsSome front) }
     {

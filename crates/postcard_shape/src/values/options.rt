@@ -1,6 +1,6 @@
 //! The shapes of options and results.
 
-ghost use Rattle.postcard_shape.specs.Options.{option, result};
+ghost use Rattle.postcard_shape.specs.{option, result};
 
 use crate::shape::Shaped;
 

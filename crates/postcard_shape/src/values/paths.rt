@@ -1,8 +1,6 @@
 //! The shapes of paths, which are texts.
 
-ghost use Rattle.std.specs.Path.{path_bytes, path_buf_bytes};
-ghost use Rattle.postcard_shape.specs.Shape.{via, growing};
-ghost use Rattle.postcard_shape.specs.Leaves.{text};
+ghost use Rattle.postcard_shape.specs.{growing, path_buf_bytes, path_bytes, text, via};
 
 use crate::shape::Shaped;
 use std::path::{Path, PathBuf};

@@ -1,9 +1,8 @@
 //! The shapes of ranges, that of the tuple of their ends, and of one end. Whether a range is
 //! exhausted is not written.
 
-ghost use Rattle.std.specs.Range.{range_inclusive_start, range_inclusive_end};
+ghost use Rattle.postcard_shape.specs.{Next, This, range_inclusive_end, range_inclusive_start};
 ghost use Rattle.std.specs.declared.ops.Bound.TheVariants as End;
-ghost use Rattle.postcard_shape.specs.declared.cases.Case.TheVariants.{This, Next};
 
 use crate::cases::{Case, NoCase};
 use crate::shape::{Repr, Shaped};

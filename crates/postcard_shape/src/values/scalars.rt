@@ -1,8 +1,6 @@
-//! The shapes of booleans, of characters, and of `usize` and `isize` as numbers of 64 bits.
+//! The shapes of `bool`, of characters, and of `usize` and `isize` as numbers of 64 bits.
 
-ghost use Rattle.std.specs.Prelude.{refl};
-ghost use Rattle.std.proofs.Common.{inl, inr};
-ghost use Rattle.postcard_shape.specs.Leaves.{boolean, character, num, int};
+ghost use Rattle.postcard_shape.specs.{boolean, character, inl, inr, int, num, refl};
 
 use crate::shape::Shaped;
 

@@ -1,7 +1,6 @@
 //! The shapes of sets.
 
-ghost use Rattle.postcard_shape.specs.Shape.{via};
-ghost use Rattle.postcard_shape.specs.Maps.{keys};
+ghost use Rattle.postcard_shape.specs.{keys, via};
 
 use crate::shape::Shaped;
 use std::collections::BTreeSet;

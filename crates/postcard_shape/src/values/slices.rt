@@ -1,12 +1,8 @@
 //! The shapes of slices in a box, an `Rc` or an `Arc`, and of slices that may be borrowed: those of
 //! lists.
 
-ghost use Rattle.std.specs.Arc.{arc_slice_items};
-ghost use Rattle.std.specs.Box.{boxed_slice_items};
-ghost use Rattle.std.specs.Cow.{cow_slice_items};
-ghost use Rattle.std.specs.Rc.{rc_slice_items};
-ghost use Rattle.postcard_shape.specs.Shape.{via, growing};
-ghost use Rattle.postcard_shape.specs.Lists.{seq};
+ghost use Rattle.postcard_shape.specs.{arc_slice_items, boxed_slice_items, cow_slice_items};
+ghost use Rattle.postcard_shape.specs.{growing, rc_slice_items, seq, via};
 
 use crate::shape::Shaped;
 use std::borrow::CowSlice;

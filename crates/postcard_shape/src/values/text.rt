@@ -1,12 +1,7 @@
 //! The shapes of texts: borrowed, owned, and shared.
 
-ghost use Rattle.std.specs.Prelude.{string_bytes};
-ghost use Rattle.std.specs.Arc.{arc_str_bytes};
-ghost use Rattle.std.specs.Box.{boxed_str_bytes};
-ghost use Rattle.std.specs.Cow.{cow_str_bytes};
-ghost use Rattle.std.specs.Rc.{rc_str_bytes};
-ghost use Rattle.postcard_shape.specs.Shape.{via, growing};
-ghost use Rattle.postcard_shape.specs.Leaves.{text};
+ghost use Rattle.postcard_shape.specs.{arc_str_bytes, boxed_str_bytes, cow_str_bytes, growing};
+ghost use Rattle.postcard_shape.specs.{rc_str_bytes, string_bytes, text, via};
 
 use crate::shape::Shaped;
 use std::borrow::CowStr;

@@ -1,6 +1,6 @@
 //! The shapes of spans and points of time.
 
-ghost use Rattle.postcard_shape.specs.Spans.{span_of_time, point_of_time};
+ghost use Rattle.postcard_shape.specs.{point_of_time, span_of_time};
 
 use crate::shape::Shaped;
 use std::time::{Duration, SystemTime};

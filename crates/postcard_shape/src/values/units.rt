@@ -1,6 +1,6 @@
 //! The shapes of types with one value, for which nothing is written.
 
-ghost use Rattle.postcard_shape.specs.Rows.{none, group};
+ghost use Rattle.postcard_shape.specs.{group, none};
 
 use crate::shape::Shaped;
 use std::marker::PhantomData;

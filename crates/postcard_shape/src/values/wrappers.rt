@@ -1,7 +1,6 @@
 //! The shapes of types that hold one value of another, or point to it: that of the value.
 
-ghost use Rattle.std.specs.Cow.{cow_value};
-ghost use Rattle.postcard_shape.specs.Shape.{via, growing};
+ghost use Rattle.postcard_shape.specs.{cow_value, growing, via};
 
 use crate::shape::{Repr, Shaped};
 use std::borrow::Cow;

@@ -15,5 +15,5 @@ refused (Err e) reply g m n = m
 
 pub returns-clause-refuses : goal.returns-clause-refuses
 returns-clause-refuses c n =
-    let e = refused c.from_bytes_cobs.result c.reply_to-reply.result c.from_bytes_cobs.ensures.gives c.reply_to-reply.ensures n in
+    let e = refused c.from_bytes_cobs.result c.reply_to-reply.result c.from_bytes_cobs.ensures.reads.gives c.reply_to-reply.ensures n in
     rw e at c.to_slice_cobs.ensures.gives

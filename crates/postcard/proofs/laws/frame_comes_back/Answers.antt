@@ -6,5 +6,5 @@ use Rattle.postcard.proofs.laws.frame_comes_back.Goals as goal
 pub returns : goal.returns
 returns g c =
     let framed = c.deref_mut.ensures.value ∙ c.in_ok-frame.ensures.gives in
-    c.in_ok-back.ensures.reads_back (record { 0 = c.args.value.now }) c.in_ok-frame.ensures.fits
+    c.in_ok-back.ensures.reads.reads_back (record { 0 = c.args.value.now }) c.in_ok-frame.ensures.fits
     (ap before_zero framed)

@@ -25,4 +25,4 @@ returns-clause-printed g c =
     (rw (c.in_ok-value.ensures.untouched, c.in_ok-schema.ensures.untouched) at c.print_line.ensures.printed)
 
 pub returns-clause-refused : goal.returns-clause-refused
-returns-clause-refused g c = IfErr-weaker c.print_line.result _ _ (λ e h. only_line_fails _ _ _ _ _ _ _ _ e h) c.print_line.ensures.refused
+returns-clause-refused g c = IfErr-weaker c.print_line.result _ _ (λ e h. only_line_fails _ _ _ _ _ _ _ _ e h) c.print_line.ensures.only_output_out_of_memory_or_wont_implement

@@ -10,7 +10,7 @@ returns-in_err-value-clause-refused g c =
 pub returns-in_err-print_line-clause-refused : goal.returns-in_err-print_line-clause-refused
 returns-in_err-print_line-clause-refused g c =
     let p = err_from_is_err_and c.from_residual-in_err-print_line.result c.from_residual-in_err-print_line.ensures.1 in
-    rw (p.1, p.2) (line_fails _ _ _ _ _ c.in_err-print_line.field-0.0 c.in_err-print_line.ensures.refused)
+    rw (p.1, p.2) (line_fails _ _ _ _ _ c.in_err-print_line.field-0.0 c.in_err-print_line.ensures.only_output_out_of_memory_or_wont_implement)
 
 pub returns-clause-printed : goal.returns-clause-printed
 returns-clause-printed g c = (

@@ -79,3 +79,9 @@ returns-in_err-value-clause-exact_errors g c =
     let e = c.in_err-value.field-0.0 in
     rw (is_refusal c.from_residual.result e c.from_residual.ensures.1)
     (of_value s.reads (Grows s) g.W.Width.size c.args.digest c.args.bytes.now s.other e h.accepts h.named_error)
+
+pub returns-in_err-value-clause-accepts : goal.returns-in_err-value-clause-accepts
+returns-in_err-value-clause-accepts g c t a m front rest crc is_read is_spelled sound took is e =
+    let refused = c.in_err-value in
+    let found = refused.ensures.accepts t front (low_bytes g.W.Width.size crc ++ rest) is_read is_spelled e in
+    rw (is_refusal c.from_residual.result refused.field-0.0 c.from_residual.ensures.1) found

@@ -57,7 +57,7 @@ pub read_elements-returns-in_err-push : goal.read_elements-returns-in_err-push
 read_elements-returns-in_err-push g t c =
     let laws = g.F.Flavor.lawful in
     let more : c.args.count - c.loop.counter ≡ suc (c.args.count - (c.loop.counter + 1)) = omega arith in
-    passed_on (λ x a. a) (λ e h. h) (rw c.in_err-push.ensures.refused at c.from_residual-in_err-push.ensures.1)
+    passed_on (λ x a. a) (λ e h. h) (rw c.in_err-push.ensures.only_out_of_memory at c.from_residual-in_err-push.ensures.1)
     (going_full laws tt (rw more at c.loop.invariant) c.in_ok-item.ensures.leaves)
 
 pub read_elements-loop-preserved : goal.read_elements-loop-preserved
@@ -85,7 +85,7 @@ read_option-returns-in_err-value-in-1 g t c =
 
 pub read_option-returns-in_err-held-in-1 : goal.read_option-returns-in_err-held-in-1
 read_option-returns-in_err-held-in-1 g t c =
-    no_memory c.from_residual-in_err-held-in-1.ensures.1 c.in_err-held-in-1.ensures.refused
+    no_memory c.from_residual-in_err-held-in-1.ensures.1 c.in_err-held-in-1.ensures.only_out_of_memory
     (g.F.Flavor.lawful.joins _ _ _ c.in_ok-deserialize_u8.ensures.reads.leaves c.in_ok-value-in-1.ensures.leaves)
 
 pub read_option-returns-in_ok-held-in-1 : goal.read_option-returns-in_ok-held-in-1
@@ -97,7 +97,7 @@ read_option-returns-in_ok-held-in-1 g t c =
 
 pub read_group-returns-in_err-items : goal.read_group-returns-in_err-items
 read_group-returns-in_err-items g t c =
-    no_memory c.from_residual.ensures.1 c.in_err-items.ensures.refused (g.F.Flavor.lawful.itself _)
+    no_memory c.from_residual.ensures.1 c.in_err-items.ensures.only_out_of_memory (g.F.Flavor.lawful.itself _)
 
 pub read_group-returns-in_err-item : goal.read_group-returns-in_err-item
 read_group-returns-in_err-item g t c =
@@ -116,7 +116,7 @@ read_group-returns-in_err-push g t c =
     let xs = c.deref-part-items.result.now in
     let x = c.part-item.result in
     let here : types_of (drop l.part-index xs) ≡ then_type (type_of x) (types_of (drop (l.part-index + 1) xs)) = ap types_of (drop_more xs l.part-index x (omega arith) ∙ ap (λ y. y ∷ drop (l.part-index + 1) xs) (sym c.part-item.is)) in
-    rw (is_refusal c.from_residual-in_err-push.result c.in_err-push.field-0.0 c.from_residual-in_err-push.ensures.1, c.in_err-push.ensures.refused, ← c.deref-part-items.ensures.value)
+    rw (is_refusal c.from_residual-in_err-push.result c.in_err-push.field-0.0 c.from_residual-in_err-push.ensures.1, c.in_err-push.ensures.only_out_of_memory, ← c.deref-part-items.ensures.value)
     (group_refused laws (types_of xs) (parts_full laws (rw here at l.invariant) c.in_ok-item.ensures.leaves))
 
 pub read_group-loop-part-preserved : goal.read_group-loop-part-preserved
@@ -163,7 +163,7 @@ read_variant-returns-in_err-content g t c =
 
 pub read_variant-returns-in_err-held : goal.read_variant-returns-in_err-held
 read_variant-returns-in_err-held g t c =
-    no_memory c.from_residual-in_err-held.ensures.1 c.in_err-held.ensures.refused
+    no_memory c.from_residual-in_err-held.ensures.1 c.in_err-held.ensures.only_out_of_memory
     (g.F.Flavor.lawful.joins _ _ _ c.in_ok-index.ensures.reads.leaves c.in_ok-content.ensures.leaves)
 
 pub read_variant-returns : goal.read_variant-returns

@@ -205,7 +205,7 @@ read_items-returns-in-Err t c =
 pub read_items-returns-in_err-push : goal.read_items-returns-in_err-push
 read_items-returns-in_err-push t c =
     let x = layout_of c.args.element.now in
-    passed (HasDistinctNames x) (λ (v : Vec Value Global). trees (map tree v.items)) (AreItems (IsReading (type_of c.args.element.now) x)) (items_view c.args.items.now.items) c.from_residual.result _ c.from_residual.ensures.1 (λ names u r. c.in_err-push.ensures.refused)
+    passed (HasDistinctNames x) (λ (v : Vec Value Global). trees (map tree v.items)) (AreItems (IsReading (type_of c.args.element.now) x)) (items_view c.args.items.now.items) c.from_residual.result _ c.from_residual.ensures.1 (λ names u r. c.in_err-push.ensures.only_out_of_memory)
 
 pub read_items-loop-i-preserved : goal.read_items-loop-i-preserved
 read_items-loop-i-preserved t c =
@@ -296,7 +296,7 @@ read_parts-returns-in-Err t c =
 pub read_parts-returns-in_err-push : goal.read_parts-returns-in_err-push
 read_parts-returns-in_err-push t c =
     let ss = c.args.parts.now.items in
-    passed (HaveDistinctNames (layouts_of ss)) (λ (v : Vec Value Global). trees (map tree v.items)) (AreParts c.args.named (types_of ss) (layouts_of ss)) (view c.args.json.now) c.from_residual.result _ c.from_residual.ensures.1 (λ names u r. c.in_err-push.ensures.refused)
+    passed (HaveDistinctNames (layouts_of ss)) (λ (v : Vec Value Global). trees (map tree v.items)) (AreParts c.args.named (types_of ss) (layouts_of ss)) (view c.args.json.now) c.from_residual.result _ c.from_residual.ensures.1 (λ names u r. c.in_err-push.ensures.only_out_of_memory)
 
 pub read_parts-loop-i-preserved : goal.read_parts-loop-i-preserved
 read_parts-loop-i-preserved t c =

@@ -57,7 +57,7 @@ read_braces-returns-in-Ok-clause-one t c = λ s r h free.
 
 pub read_braces-returns-in-Err-clause-refused : goal.read_braces-returns-in-Err-clause-refused
 read_braces-returns-in-Err-clause-refused t c =
-    refusal_as c.or_colon.ensures.refused (refusal (λ (s, r, h, free). (s, r, braces_as_map c.args.depth s c.args.rest.now.now r (λ named. true≢false (sym (c.begins_field.ensures.1 named) ∙ c.if-begins_field.false)) h, free)) c.in-Err.ensures.refused)
+    refusal_as c.or_colon.ensures.memory (refusal (λ (s, r, h, free). (s, r, braces_as_map c.args.depth s c.args.rest.now.now r (λ named. true≢false (sym (c.begins_field.ensures.1 named) ∙ c.if-begins_field.false)) h, free)) c.in-Err.ensures.refused)
 
 pub read_content-returns-then-take-clause-spelled : goal.read_content-returns-then-take-clause-spelled
 read_content-returns-then-take-clause-spelled t c =
@@ -695,7 +695,7 @@ read_enum-returns-in_err-variant-clause-refused t c =
     refused_err _ _ c.from_residual.ensures.1 (refusal (λ (s, r, h, goes). variant_begins T done leads s c1 r (c.loop.invariant.left s r h goes) goes) c.in_err-variant.ensures.refused)
 
 pub read_enum-returns-in_err-push-clause-refused : goal.read_enum-returns-in_err-push-clause-refused
-read_enum-returns-in_err-push-clause-refused t c = refused_err _ _ c.from_residual-in_err-push.ensures.1 (inl c.in_err-push.ensures.refused)
+read_enum-returns-in_err-push-clause-refused t c = refused_err _ _ c.from_residual-in_err-push.ensures.1 (inl c.in_err-push.ensures.only_out_of_memory)
 
 pub read_enum-returns-then-not-leads-clause-refused : goal.read_enum-returns-then-not-leads-clause-refused
 read_enum-returns-then-not-leads-clause-refused t c =
@@ -844,7 +844,7 @@ read_fields-returns-in_err-schema-clause-refused t c =
     refused_err _ _ c.from_residual-in_err-schema.ensures.1 (refusal (λ (s, r, h, free). field_begins T done s name c1 c.expect.new.rest.now r (front s r h) c.in_ok-expect.ensures.taken) c.in_err-schema.ensures.refused)
 
 pub read_fields-returns-in_err-push-clause-refused : goal.read_fields-returns-in_err-push-clause-refused
-read_fields-returns-in_err-push-clause-refused t c = refused_err _ _ c.from_residual-in_err-push.ensures.1 (inl c.in_err-push.ensures.refused)
+read_fields-returns-in_err-push-clause-refused t c = refused_err _ _ c.from_residual-in_err-push.ensures.1 (inl c.in_err-push.ensures.only_out_of_memory)
 
 pub read_fields-returns-then-take-clause-spelled : goal.read_fields-returns-then-take-clause-spelled
 read_fields-returns-then-take-clause-spelled t c =
@@ -1018,7 +1018,7 @@ read_tuple-returns-then-take-2-clause-one t c s r h free =
     tuple_single d s x a c1 c.take-2.new.rest.now r one (front s r h) (c.take-2.ensures.taken c.if-take-2.true)
 
 pub read_tuple-returns-in_err-push-clause-refused : goal.read_tuple-returns-in_err-push-clause-refused
-read_tuple-returns-in_err-push-clause-refused t c = refused_err _ _ c.from_residual-in_err-push.ensures.1 (inl c.in_err-push.ensures.refused)
+read_tuple-returns-in_err-push-clause-refused t c = refused_err _ _ c.from_residual-in_err-push.ensures.1 (inl c.in_err-push.ensures.only_out_of_memory)
 
 pub read_tuple-loop-init : goal.read_tuple-loop-init
 read_tuple-loop-init t c =
@@ -1083,7 +1083,7 @@ read_tuple-returns-in_err-part-clause-refused t c =
     refused_err _ _ c.from_residual-in_err-part.ensures.1 (refusal (λ (s, r, h, free). tuple_next_begins d done s c2 r (next s r h)) c.in_err-part.ensures.refused)
 
 pub read_tuple-returns-in_err-push-2-clause-refused : goal.read_tuple-returns-in_err-push-2-clause-refused
-read_tuple-returns-in_err-push-2-clause-refused t c = refused_err _ _ c.from_residual-in_err-push-2.ensures.1 (inl c.in_err-push-2.ensures.refused)
+read_tuple-returns-in_err-push-2-clause-refused t c = refused_err _ _ c.from_residual-in_err-push-2.ensures.1 (inl c.in_err-push-2.ensures.only_out_of_memory)
 
 pub read_tuple-returns-then-take-4-clause-spelled : goal.read_tuple-returns-then-take-4-clause-spelled
 read_tuple-returns-then-take-4-clause-spelled t c =

@@ -30,7 +30,7 @@ returns-in_err-low-clause-refused c =
 pub returns-in_err-push-clause-refused : goal.returns-in_err-push-clause-refused
 returns-in_err-push-clause-refused c =
     let p = err_from_is_err_and c.from_residual-in_err-push.result c.from_residual-in_err-push.ensures.1 in
-    rw (p.1, p.2) (inl c.in_err-push.ensures.refused)
+    rw (p.1, p.2) (inl c.in_err-push.ensures.only_out_of_memory)
 
 pub loop-preserved : goal.loop-preserved
 loop-preserved c =

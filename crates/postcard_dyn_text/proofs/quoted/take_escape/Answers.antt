@@ -30,7 +30,7 @@ returns-then-letter-eq117-clause-accepted c = λ held after h.
     let k = code_of held c.args.rest.now.now c.take_byte.new.rest.now after h next in
     let read = c.in_ok-c.ensures.accepted k.character after k.taken in
     let same = ap encode_utf8 read.0 ∙ sym k.is in
-    reads_as c.push_character.result (λ added. (added ∙ ap (λ t. c.args.bytes.now.items ++ t) same, read.1)) c.push_character.ensures.added c.push_character.ensures.refused
+    reads_as c.push_character.result (λ added. (added ∙ ap (λ t. c.args.bytes.now.items ++ t) same, read.1)) c.push_character.ensures.added c.push_character.ensures.only_out_of_memory
 
 pub returns-in-Some-clause-taken : goal.returns-in-Some-clause-taken
 returns-in-Some-clause-taken c =
@@ -42,7 +42,7 @@ pub returns-in-Some-clause-accepted : goal.returns-in-Some-clause-accepted
 returns-in-Some-clause-accepted c = λ held after h.
     let k = letter_of c.in_ok-letter.letter held c.args.rest.now.now c.take_byte.new.rest.now after h c.in_ok-letter.ensures.taken c.if-letter-eq117.false in
     let same = ap (λ b. b ∷ []) (one_byte c.in_ok-letter.letter c.in-Some.byte k.byte c.in-Some.ensures.found k.stands) ∙ sym k.is in
-    reads_as c.push.result (λ added. (added ∙ ap (λ t. c.args.bytes.now.items ++ t) same, k.left)) c.push.ensures.added c.push.ensures.refused
+    reads_as c.push.result (λ added. (added ∙ ap (λ t. c.args.bytes.now.items ++ t) same, k.left)) c.push.ensures.added c.push.ensures.only_out_of_memory
 
 pub returns-in-None-clause-accepted : goal.returns-in-None-clause-accepted
 returns-in-None-clause-accepted c = λ held after h.

@@ -54,7 +54,7 @@ returns-in_err-take_escape-clause-accepted c = λ black plain held after utf8 h.
 
 pub returns-in_err-push-clause-accepted : goal.returns-in_err-push-clause-accepted
 returns-in_err-push-clause-accepted c = λ black plain held after utf8 h.
-    memory_passed _ c.from_residual-in_err-push.result _ c.from_residual-in_err-push.ensures.1 c.in_err-push.ensures.refused
+    memory_passed _ c.from_residual-in_err-push.result _ c.from_residual-in_err-push.ensures.1 c.in_err-push.ensures.only_out_of_memory
 
 pub returns-clause-accepted : goal.returns-clause-accepted
 returns-clause-accepted c = λ black plain held after utf8 h.

@@ -650,7 +650,7 @@ read_items-returns-in_err-item-clause-accepted t c = λ closes names ts after ea
 
 pub read_items-returns-in_err-push-clause-accepted : goal.read_items-returns-in_err-push-clause-accepted
 read_items-returns-in_err-push-clause-accepted t c = λ closes names ts after each h.
-    memory_passed _ c.from_residual-in_err-push.result _ c.from_residual-in_err-push.ensures.1 c.in_err-push.ensures.refused
+    memory_passed _ c.from_residual-in_err-push.result _ c.from_residual-in_err-push.ensures.1 c.in_err-push.ensures.only_out_of_memory
 
 pub read_items-returns-in_err-expect-clause-accepted : goal.read_items-returns-in_err-expect-clause-accepted
 read_items-returns-in_err-expect-clause-accepted t c = λ closes names ts after each h.
@@ -731,7 +731,7 @@ read_parts-returns-in_err-read-clause-accepted t c = λ between names ts after e
 
 pub read_parts-returns-in_err-push-clause-accepted : goal.read_parts-returns-in_err-push-clause-accepted
 read_parts-returns-in_err-push-clause-accepted t c = λ between names ts after each h goes.
-    memory_passed _ c.from_residual-in_err-push.result _ c.from_residual-in_err-push.ensures.1 c.in_err-push.ensures.refused
+    memory_passed _ c.from_residual-in_err-push.result _ c.from_residual-in_err-push.ensures.1 c.in_err-push.ensures.only_out_of_memory
 
 pub read_parts-returns-clause-accepted : goal.read_parts-returns-clause-accepted
 read_parts-returns-clause-accepted t c = λ between names ts after each h goes.

@@ -1,18 +1,15 @@
 -- `from_bytes_cobs`: three calls; the rest that the second lends is let go. Assumes `Logic`.
 use Rattle.postcard_memory.proofs.Steps.{ℕ, MutBor, List, [], ◌∷◌, ◌≡◌, ◌∙◌, ap, refl, sym, id⊢, w64, vint, ‵, raw, ◌⊛◌, some, later, await, pick, tables, ftrue, flft, fres, named, Val, ◌$◌, ◌∵◌, !, qed, move, keep, split, drop, join, fsplit, fsplit3, fjoin, fpick, rewrite, done, enter, alloc_all, pass_all, free_all, look_at, look_in_at, get, get_in, sets, fld, hop, from, stop, agg, addr, and_then, no_more, of_opd, returns, sub, whole, plain, yes, no, u8, heard, peeks, shows, use1, use2, Stays, walk_of, stay_dropped, Goes-dropped, Goes-spent_slice, suffices, nothing, MutSlice, slice_val, mut_slice_vals, mut_slice_Tells, fact, owned, uint_Makes, lands_as, only, calls_at, lasts, triple_of, framed}
-use Rattle.std.proofs.Common.{◌<◌, ◌≤◌, ◌⊎◌, ◌^◌, ◌++◌, length, take, drop as drop_list, subst, Err, IfOk}
+use Rattle.std.proofs.Common.{◌<◌, ◌≤◌, ◌^◌, ◌++◌, length, take, drop as drop_list, subst}
 use Rattle.std.proofs.raw_atomic.Walks.{proved_at, leaves}
 use Rattle.std.proofs.result.Result.TheLaws.{the_row_laws as result_laws}
 use Rattle.std.proofs.alloc.Global.TheLaws as heap_laws
 use Rattle.std.specs.contracts.alloc.Global as Heap
 use Rattle.std.specs.contracts.result.Result as RS
-use Rattle.std.specs.Prelude.{⊤, IfErr, IsErrOf}
-use Rattle.postcard_wire.specs.declared.error.Error.TheVariants.{OutOfMemory, DeserializeBadEncoding}
+use Rattle.std.specs.Prelude.{⊤}
 use Rattle.postcard_wire.specs.contracts.error.Error.{the_row as err_row}
 use Rattle.postcard_wire.proofs.error.Error.TheLaws.{the_row_laws as err_laws}
 use Rattle.postcard_cobs.specs.Groups.{before_zero}
-use Rattle.postcard_de.specs.Reads.{IsReadError}
-use Rattle.postcard_shape.specs.Shape.{Grows}
 use base.Fml.{Lft, GName, Share, fobs}
 use base.Logic.{ent, emp}
 use base.Stored.{coded_list}
@@ -37,7 +34,7 @@ use mir.Syntax.{Fn, Args, a_type, dcons, dnil}
 use mir.Val.{vstruct, of_list}
 use prog.Wp.{WpFn}
 use types.Kit.{use0, given, learn, split3}
-use Rattle.postcard_frame.specs.Frame.{ReadsFrame, HasNoData, AcceptsFrame, ReadsBackFrame, IsReadOf}
+use Rattle.postcard_frame.specs.Frame.{IsReadOf}
 use Rattle.postcard_frame.specs.Buffer.{KeepsFromZero, HasDataOf}
 use Rattle.postcard_frame.specs.Parts.{IsDecoded}
 use Rattle.postcard_frame.specs.declared.cobs.Decoded.{Decoded}
@@ -150,14 +147,8 @@ walk decodes reads 𝓤 𝓛 𝓜 𝓡 wired T L Gh D Sh Ds Dd P met shaped glue
     returns ! (look_at ! 0 refl) $ free_all ! refl $
     let F : List ℕ = before_zero xs in
     let is-read = read F (subst (λ (m : List ℕ). HasDataOf F m d.len) (sym front_is) (has_data xs d made)) in
-    use0 𝓛 (raw (fact 𝓤 (IfErr w (λ x. (x ≡ DeserializeBadEncoding) ⊎ IsReadError Sh.shape.other x)))) (fact_i 𝓤 _ (emp 𝓤) is-read.named_error) $
-    use0 𝓛 (raw (fact 𝓤 (w ≡ Err OutOfMemory → Grows Sh.shape))) (fact_i 𝓤 _ (emp 𝓤) is-read.out_of_memory_only_if_grows) $
-    use0 𝓛 (raw (fact 𝓤 (w ≡ Err DeserializeBadEncoding → HasNoData F))) (fact_i 𝓤 _ (emp 𝓤) is-read.bad_only_if_no_data) $
-    use0 𝓛 (raw (fact 𝓤 (HasNoData F → IsErrOf w DeserializeBadEncoding))) (fact_i 𝓤 _ (emp 𝓤) is-read.no_frame) $
-    use0 𝓛 (raw (fact 𝓤 (ReadsBackFrame Sh.shape (λ x. x) F w))) (fact_i 𝓤 _ (emp 𝓤) is-read.reads_back) $
-    use0 𝓛 (raw (fact 𝓤 (AcceptsFrame Sh.shape (λ x. x) F w))) (fact_i 𝓤 _ (emp 𝓤) is-read.accepts) $
-    use0 𝓛 (raw (fact 𝓤 (IfOk w (ReadsFrame Sh.shape.reads Sh.shape.value F)))) (fact_i 𝓤 _ (emp 𝓤) is-read.gives) $
-    suffices ! _ (leaves 𝓛 En hs c y u w (tt, (tt, tt)) (tt, (tt, tt))) $ nothing ! $ nothing ! $ fjoin ! $ nothing ! $ fjoin ! $ move ! (9 ∷ 0 ∷ 8 ∷ 10 ∷ 1 ∷ 2 ∷ 3 ∷ 4 ∷ 5 ∷ 6 ∷ 7 ∷ []) $ done !)))))))))))))))))))))))))))
+    use0 𝓛 (raw (fact 𝓤 (IsReadOf Sh.shape (λ x. x) F w))) (fact_i 𝓤 _ (emp 𝓤) is-read) $
+    suffices ! _ (leaves 𝓛 En hs c y u w (tt, (tt, tt)) (tt, (tt, tt))) $ nothing ! $ nothing ! $ fjoin ! $ nothing ! $ fjoin ! $ move ! (3 ∷ 0 ∷ 2 ∷ 4 ∷ 1 ∷ []) $ done !)))))))))))))))))))))))))))
 
 pub from_bytes_cobs_spec : {M : Type 1} → statement M
 from_bytes_cobs_spec = walk g-thm.met r-thm.met

@@ -1,19 +1,16 @@
 -- `take_from_bytes_cobs`: four calls; the rest that the second lends is handed on by the last, or let go. Assumes `Logic`.
 use Rattle.postcard_memory.proofs.Steps.{ℕ, MutBor, List, [], ◌∷◌, ◌≡◌, ◌∙◌, ap, refl, sym, id⊢, w64, vint, ‵, raw, ◌⊛◌, some, later, await, pick, tables, ftrue, flft, named, Val, ◌$◌, ◌∵◌, !, qed, move, keep, split, drop, join, fsplit, fsplit3, fjoin, fpick, rewrite, done, enter, alloc_all, pass_all, free_all, look_at, look_in_at, get, get_in, sets, fld, hop, from, stop, agg, addr, and_then, no_more, of_opd, returns, sub, whole, plain, yes, no, u8, heard, peeks, shows, use1, use2, Stays, walk_of, stay_dropped, Goes-dropped, Goes-spent_slice, suffices, nothing, MutSlice, slice_val, mut_slice_vals, mut_slice_Tells, fact, owned, uint_Makes, lands_as, only, calls_at, lasts, triple_of, framed}
-use Rattle.std.proofs.Common.{◌+◌, ◌<◌, ◌≤◌, ◌⊎◌, ◌^◌, ◌++◌, length, take, drop as drop_list, subst, Err, IfOk}
+use Rattle.std.proofs.Common.{◌+◌, ◌<◌, ◌≤◌, ◌^◌, ◌++◌, length, take, drop as drop_list, subst, IfOk}
 use Rattle.std.proofs.raw_atomic.Walks.{proved_at, leaves}
 use Rattle.std.proofs.result.Result.TheLaws.{the_row_laws as result_laws}
 use Rattle.std.proofs.alloc.Global.TheLaws as heap_laws
 use Rattle.std.specs.contracts.alloc.Global as Heap
 use Rattle.std.specs.contracts.result.Result as RS
 use Rattle.std.specs.Borrow.{name_if_ok}
-use Rattle.std.specs.Prelude.{IfErr, IsErrOf, OnOk, OnErr}
-use Rattle.postcard_wire.specs.declared.error.Error.TheVariants.{OutOfMemory, DeserializeBadEncoding}
+use Rattle.std.specs.Prelude.{OnOk, OnErr}
 use Rattle.postcard_wire.specs.contracts.error.Error.{the_row as err_row}
 use Rattle.postcard_wire.proofs.error.Error.TheLaws.{the_row_laws as err_laws}
 use Rattle.postcard_cobs.specs.Groups.{before_zero}
-use Rattle.postcard_de.specs.Reads.{IsReadError}
-use Rattle.postcard_shape.specs.Shape.{Grows}
 use base.Fml.{Lft, GName, Share}
 use base.Logic.{ent, emp}
 use contract.BorrowLft.{◌⊑◌}
@@ -39,7 +36,7 @@ use mir.Syntax.{Fn, Args, a_type, dcons, dnil}
 use mir.Val.{vstruct, of_list}
 use prog.Wp.{WpFn}
 use types.Kit.{use0, given, learn, split3}
-use Rattle.postcard_frame.specs.Frame.{ReadsFrame, HasNoData, AcceptsFrame, ReadsBackFrame, IsReadOf}
+use Rattle.postcard_frame.specs.Frame.{IsReadOf}
 use Rattle.postcard_frame.specs.Buffer.{KeepsFromZero, KeepsZero, HasDataOf}
 use Rattle.postcard_frame.specs.Parts.{IsDecoded, IsBeside}
 use Rattle.postcard_frame.specs.declared.cobs.Decoded.{Decoded}
@@ -184,15 +181,9 @@ walk decodes reads joins 𝓤 𝓛 𝓜 𝓡 wired T L Gh D Sh Ds Dd P met shape
     (hands_on 𝓛 (Array u8 0) (Array u8 0) d.all.ghost_name p.1.ghost_name (λ l. front ++ l) p.1.now Ends Stays-so (name x) (λ l. kept_ok Sh.shape xs d made x is-read l) failed) $
     rewrite ! 0 (λ (δ : GName). ‵ (follows_so (Array u8 0) (Array u8 0) δ (name x) Ends Stays-so)) same refl $ move ! (1 ∷ 2 ∷ 0 ∷ []) $
     -- [the result; the tokens; what the whole ends as]
-    use0 𝓛 (raw (fact 𝓤 (IfErr x (λ e. (e ≡ DeserializeBadEncoding) ⊎ IsReadError Sh.shape.other e)))) (fact_i 𝓤 _ (emp 𝓤) is-read.named_error) $
-    use0 𝓛 (raw (fact 𝓤 (x ≡ Err OutOfMemory → Grows Sh.shape))) (fact_i 𝓤 _ (emp 𝓤) is-read.out_of_memory_only_if_grows) $
-    use0 𝓛 (raw (fact 𝓤 (x ≡ Err DeserializeBadEncoding → HasNoData F))) (fact_i 𝓤 _ (emp 𝓤) is-read.bad_only_if_no_data) $
-    use0 𝓛 (raw (fact 𝓤 (HasNoData F → IsErrOf x DeserializeBadEncoding))) (fact_i 𝓤 _ (emp 𝓤) is-read.no_frame) $
-    use0 𝓛 (raw (fact 𝓤 (ReadsBackFrame Sh.shape (λ read. read.0) F x))) (fact_i 𝓤 _ (emp 𝓤) is-read.reads_back) $
-    use0 𝓛 (raw (fact 𝓤 (AcceptsFrame Sh.shape (λ read. read.0) F x))) (fact_i 𝓤 _ (emp 𝓤) is-read.accepts) $
     use0 𝓛 (raw (fact 𝓤 (IfOk x (λ read. read.1.now ≡ drop_list (length F + 1) xs)))) (fact_i 𝓤 _ (emp 𝓤) (remaining Sh.shape xs d made x is-read w beside')) $
-    use0 𝓛 (raw (fact 𝓤 (IfOk x (λ read. ReadsFrame Sh.shape.reads Sh.shape.value F read.0)))) (fact_i 𝓤 _ (emp 𝓤) is-read.gives) $
-    suffices ! _ (leaves 𝓛 En hs c y u' x (tt, (tt, tt)) (tt, (tt, tt))) $ nothing ! $ nothing ! $ fjoin ! $ nothing ! $ fjoin ! $ move ! (10 ∷ 0 ∷ 9 ∷ 11 ∷ 1 ∷ 2 ∷ 3 ∷ 4 ∷ 5 ∷ 6 ∷ 7 ∷ 8 ∷ []) $ done !))))))))))))))))))))))))))))))))
+    use0 𝓛 (raw (fact 𝓤 (IsReadOf Sh.shape (λ read. read.0) F x))) (fact_i 𝓤 _ (emp 𝓤) is-read) $
+    suffices ! _ (leaves 𝓛 En hs c y u' x (tt, (tt, tt)) (tt, (tt, tt))) $ nothing ! $ nothing ! $ fjoin ! $ nothing ! $ fjoin ! $ move ! (4 ∷ 0 ∷ 3 ∷ 5 ∷ 1 ∷ 2 ∷ []) $ done !))))))))))))))))))))))))))))))))
 
 pub take_from_bytes_cobs_spec : {M : Type 1} → statement M
 take_from_bytes_cobs_spec = walk g-thm.met r-thm.met b-thm.met

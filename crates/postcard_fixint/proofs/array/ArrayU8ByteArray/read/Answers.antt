@@ -1,4 +1,4 @@
-use Rattle.std.proofs.Common.{◌≡◌, suc, ◌<◌, ◌-◌, ◌+◌, length, take, arith, add-one}
+use Rattle.std.proofs.Common.{◌≡◌, suc, ◌<◌, ◌-◌, ◌+◌, length, take, arith, rules, add-one}
 use Rattle.std.proofs.Math.ListN.{length-set}
 use Rattle.std.proofs.Math.Seq.{take-suc-set}
 use Rattle.std.proofs.lemmas.List.{take_all, length-replicate}
@@ -48,10 +48,13 @@ loop-i-preserved g c =
       took = took_more so.took c.in_ok-bytes.ensures.reads;
     }
 
-pub returns-clause-reads : goal.returns-clause-reads
-returns-clause-reads g c =
-    let laws = g.F.Flavor.lawful in
-    let i = c.loop-i.i in
-    let none : g.row.N - i ≡ 0 = omega arith in
-    let all : take i c.loop-i.bytes ≡ c.loop-i.bytes = take_all i c.loop-i.bytes (omega arith) in
-    array_read (going_done laws (rw (none, all) at c.loop-i.invariant.going))
+pub returns : goal.returns
+returns g c = record {
+  reads =
+      let laws = g.F.Flavor.lawful in
+      let i = c.loop-i.i in
+      let none : g.row.N - i ≡ 0 = omega arith in
+      let all : take i c.loop-i.bytes ≡ c.loop-i.bytes = take_all i c.loop-i.bytes (omega arith) in
+      array_read (going_done laws (rw (none, all) at c.loop-i.invariant.going));
+  refused = search rules;
+}

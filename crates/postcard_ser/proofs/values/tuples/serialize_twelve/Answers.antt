@@ -1,14 +1,17 @@
 -- The first value is written, and then the others.
-use Rattle.std.proofs.Common.{inl, inr}
+use Rattle.std.proofs.Common.{inl, inr, rules}
 use Rattle.std.proofs.lemmas.Result.{on_ok_weaker}
 use Rattle.postcard_ser.proofs.PartByPart.{wrote_then, wrote_stop, wrote_err}
 use Rattle.postcard_ser.proofs.values.tuples.serialize_twelve.Goals as goal
 
-pub returns-in_err-serialize-clause-wrote : goal.returns-in_err-serialize-clause-wrote
-returns-in_err-serialize-clause-wrote g c = wrote_err _ c.from_residual.ensures.1 (wrote_stop _ _ c.in_err-serialize.ensures.wrote (λ e. inl) inl)
+pub returns-in_err-serialize : goal.returns-in_err-serialize
+returns-in_err-serialize g c = record {
+  wrote = wrote_err _ c.from_residual.ensures.1 (wrote_stop _ _ c.in_err-serialize.ensures.wrote (λ e. inl) inl);
+  fits = search rules;
+}
 
-pub returns-clause-wrote : goal.returns-clause-wrote
-returns-clause-wrote g c = wrote_then _ _ c.in_ok-serialize.ensures.wrote c.serialize_eleven.ensures.wrote (λ e. inr) inr
-
-pub returns-clause-fits : goal.returns-clause-fits
-returns-clause-fits g c = on_ok_weaker c.serialize_eleven.result (λ others. (c.in_ok-serialize.ensures.fits, others)) c.serialize_eleven.ensures.fits
+pub returns : goal.returns
+returns g c = record {
+  wrote = wrote_then _ _ c.in_ok-serialize.ensures.wrote c.serialize_eleven.ensures.wrote (λ e. inr) inr;
+  fits = on_ok_weaker c.serialize_eleven.result (λ others. (c.in_ok-serialize.ensures.fits, others)) c.serialize_eleven.ensures.fits;
+}

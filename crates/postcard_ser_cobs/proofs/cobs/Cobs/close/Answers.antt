@@ -1,4 +1,4 @@
--- The open frame, with its last code and the sentinel, is the made frame.
+-- The open frame, with its last code and the zero, is the made frame.
 use Rattle.std.proofs.Common.{[], ◌∷◌, ◌++◌, ap, ◌∙◌}
 use Rattle.std.proofs.lemmas.Result.{on_ok_weaker}
 use Rattle.postcard_ser_cobs.proofs.StepLemmas.{ends}

@@ -10,31 +10,41 @@ use Rattle.postcard_ser_cobs.proofs.PieceLemmas.{piece_holds, holds_length}
 use Rattle.postcard_ser_cobs.proofs.cobs.Cobs.push_dense.Goals as goal
 use Rattle.postcard_ser_cobs.proofs.cobs.Cobs.push_dense.Goals.{then-self-via-then-self, then-self-via-else-self+then-place-piece}
 
-pub returns-then-self-clause-pushed : goal.returns-then-self-clause-pushed
-returns-then-self-clause-pushed g c =
-    let s = c.requires in
-    record {
-      appends = search rules;
-      has_room = λ r.
-          elim c.then-self.branch [
-            | then-self-via-then-self w ↦ absurd (not_both w.if-self.true r.holds.going)
-            | then-self-via-else-self+then-place-piece w ↦ absurd (omega (arith, piece_small _ (omega (arith, s)) r, w.place.ensures, w.if-place-piece.true))
-          ];
-      refused = search rules;
-      leaves = search rules;
-    }
+pub returns-then-self : goal.returns-then-self
+returns-then-self g c = record {
+  pushed = let s = c.requires in
+      record {
+        appends = search rules;
+        has_room = λ r.
+            elim c.then-self.branch [
+              | then-self-via-then-self w ↦ absurd (not_both w.if-self.true r.holds.going)
+              | then-self-via-else-self+then-place-piece w ↦ absurd (omega (arith, piece_small _ (omega (arith, s)) r, w.place.ensures, w.if-place-piece.true))
+            ];
+        refused = search rules;
+        leaves = search rules;
+      };
+  stays_refused = search rules;
+  storage_kept = search rules;
+  remembers_refusal = search rules;
+  refuses_by_buffer_full = search rules;
+}
 
-pub returns-in_err-push_piece-clause-pushed : goal.returns-in_err-push_piece-clause-pushed
-returns-in_err-push_piece-clause-pushed g c =
-    let s = c.requires in
-    record {
-      appends = search rules;
-      has_room = λ r.
-          let no = c.in_err-push_piece.ensures.has_room (piece_free _ (omega (arith, s)) g.B.Storage.free_lawful.free_fewer r) in
-          absurd (cc);
-      refused = search rules;
-      leaves = search rules;
-    }
+pub returns-in_err-push_piece : goal.returns-in_err-push_piece
+returns-in_err-push_piece g c = record {
+  pushed = let s = c.requires in
+      record {
+        appends = search rules;
+        has_room = λ r.
+            let no = c.in_err-push_piece.ensures.has_room (piece_free _ (omega (arith, s)) g.B.Storage.free_lawful.free_fewer r) in
+            absurd (cc);
+        refused = search rules;
+        leaves = search rules;
+      };
+  stays_refused = search rules;
+  storage_kept = search rules;
+  remembers_refusal = search rules;
+  refuses_by_buffer_full = search rules;
+}
 
 pub set_codes-self-requires-clause-held : goal.set_codes-self-requires-clause-held
 set_codes-self-requires-clause-held g c =
@@ -51,15 +61,20 @@ invariant_of-self-2 g c =
           (p.0, p.1 ++ c.args.piece.now, piece_holds _ refl c.in_ok-push_piece.ensures.appends c.replace-encoder.ensures.value c.set_codes-self.ensures.opens p.2));
     }
 
-pub returns-clause-pushed : goal.returns-clause-pushed
-returns-clause-pushed g c =
-    let piece = c.in_ok-push_piece.ensures in
-    let codes = c.set_codes-self.ensures in
-    record {
-      appends = λ before d h. piece_holds _ refl piece.appends c.replace-encoder.ensures.value codes.opens h;
-      has_room = search rules;
-      refused = search rules;
-      leaves =
-          grown_leaves _ c.if-self.false (g.B.Flavor.lawful.reaches_join _ _ _ piece.leaves codes.leaves)
-          (codes.same_length ∙ ap length piece.appends ∙ length-append _ _) (λ n h. codes.keeps_free n (piece.keeps_free n h));
-    }
+pub returns : goal.returns
+returns g c = record {
+  pushed = let piece = c.in_ok-push_piece.ensures in
+      let codes = c.set_codes-self.ensures in
+      record {
+        appends = λ before d h. piece_holds _ refl piece.appends c.replace-encoder.ensures.value codes.opens h;
+        has_room = search rules;
+        refused = search rules;
+        leaves =
+            grown_leaves _ c.if-self.false (g.B.Flavor.lawful.reaches_join _ _ _ piece.leaves codes.leaves)
+            (codes.same_length ∙ ap length piece.appends ∙ length-append _ _) (λ n h. codes.keeps_free n (piece.keeps_free n h));
+      };
+  stays_refused = search rules;
+  storage_kept = search rules;
+  remembers_refusal = search rules;
+  refuses_by_buffer_full = search rules;
+}

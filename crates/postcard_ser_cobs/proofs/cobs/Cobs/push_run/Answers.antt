@@ -6,31 +6,41 @@ use Rattle.postcard_ser_cobs.proofs.RunLemmas.{run_holds, piece_free, piece_smal
 use Rattle.postcard_ser_cobs.proofs.cobs.Cobs.push_run.Goals as goal
 use Rattle.postcard_ser_cobs.proofs.cobs.Cobs.push_run.Goals.{then-self-via-then-self, then-self-via-else-self+then-place-run}
 
-pub returns-then-self-clause-pushed : goal.returns-then-self-clause-pushed
-returns-then-self-clause-pushed g c =
-    let s = c.requires.short in
-    record {
-      appends = search rules;
-      has_room = λ r.
-          elim c.then-self.branch [
-            | then-self-via-then-self w ↦ absurd (not_both w.if-self.true r.holds.going)
-            | then-self-via-else-self+then-place-run w ↦ absurd (omega (arith, piece_small _ (omega (arith, s)) r, w.place.ensures, w.if-place-run.true))
-          ];
-      refused = search rules;
-      leaves = search rules;
-    }
+pub returns-then-self : goal.returns-then-self
+returns-then-self g c = record {
+  pushed = let s = c.requires.short in
+      record {
+        appends = search rules;
+        has_room = λ r.
+            elim c.then-self.branch [
+              | then-self-via-then-self w ↦ absurd (not_both w.if-self.true r.holds.going)
+              | then-self-via-else-self+then-place-run w ↦ absurd (omega (arith, piece_small _ (omega (arith, s)) r, w.place.ensures, w.if-place-run.true))
+            ];
+        refused = search rules;
+        leaves = search rules;
+      };
+  stays_refused = search rules;
+  storage_kept = search rules;
+  remembers_refusal = search rules;
+  refuses_by_buffer_full = search rules;
+}
 
-pub returns-in_err-push_piece-clause-pushed : goal.returns-in_err-push_piece-clause-pushed
-returns-in_err-push_piece-clause-pushed g c =
-    let s = c.requires.short in
-    record {
-      appends = search rules;
-      has_room = λ r.
-          let no = c.in_err-push_piece.ensures.has_room (piece_free _ (omega (arith, s)) g.B.Storage.free_lawful.free_fewer r) in
-          absurd (cc);
-      refused = search rules;
-      leaves = search rules;
-    }
+pub returns-in_err-push_piece : goal.returns-in_err-push_piece
+returns-in_err-push_piece g c = record {
+  pushed = let s = c.requires.short in
+      record {
+        appends = search rules;
+        has_room = λ r.
+            let no = c.in_err-push_piece.ensures.has_room (piece_free _ (omega (arith, s)) g.B.Storage.free_lawful.free_fewer r) in
+            absurd (cc);
+        refused = search rules;
+        leaves = search rules;
+      };
+  stays_refused = search rules;
+  storage_kept = search rules;
+  remembers_refusal = search rules;
+  refuses_by_buffer_full = search rules;
+}
 
 pub invariant_of-self-2 : goal.invariant_of-self-2
 invariant_of-self-2 g c =
@@ -40,12 +50,17 @@ invariant_of-self-2 g c =
           (p.0, p.1 ++ c.args.run.now, run_holds _ refl c.in_ok-push_piece.ensures.appends c.push_run.ensures.open p.2));
     }
 
-pub returns-clause-pushed : goal.returns-clause-pushed
-returns-clause-pushed g c =
-    let said = c.in_ok-push_piece.ensures in
-    record {
-      appends = λ before d h. run_holds _ refl said.appends c.push_run.ensures.open h;
-      has_room = search rules;
-      refused = search rules;
-      leaves = grown_leaves _ c.if-self.false said.leaves (ap length said.appends ∙ length-append _ _) said.keeps_free;
-    }
+pub returns : goal.returns
+returns g c = record {
+  pushed = let said = c.in_ok-push_piece.ensures in
+      record {
+        appends = λ before d h. run_holds _ refl said.appends c.push_run.ensures.open h;
+        has_room = search rules;
+        refused = search rules;
+        leaves = grown_leaves _ c.if-self.false said.leaves (ap length said.appends ∙ length-append _ _) said.keeps_free;
+      };
+  stays_refused = search rules;
+  storage_kept = search rules;
+  remembers_refusal = search rules;
+  refuses_by_buffer_full = search rules;
+}

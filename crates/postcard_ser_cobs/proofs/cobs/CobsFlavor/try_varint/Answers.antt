@@ -1,5 +1,5 @@
 -- A number has a digit, so that its varint is refused after a refusal.
-use Rattle.std.proofs.Common.{ℕ, suc, zero, ◌+◌, ◌<◌, ◌/◌, ◌%◌, [], ◌∷◌, length, Bool, true, false, nat_lt, if◌then◌else◌, arith}
+use Rattle.std.proofs.Common.{ℕ, suc, zero, ◌+◌, ◌<◌, ◌/◌, ◌%◌, [], ◌∷◌, length, Bool, true, false, nat_lt, if◌then◌else◌, arith, rules}
 use Rattle.postcard_wire.specs.Number.{digits, digits_within}
 use Rattle.postcard_ser_cobs.proofs.cobs.CobsFlavor.try_varint.Goals as goal
 
@@ -16,6 +16,11 @@ digits_some : (n : ℕ) → 0 < length (digits n)
 unfolding digits
 digits_some n = some_digits 18 n
 
-pub returns-clause-stays_refused : goal.returns-clause-stays_refused
-returns-clause-stays_refused g c failed =
-    c.try_extend.ensures.stays_refused failed (rw c.varint_u64.ensures (digits_some c.args.n))
+pub returns : goal.returns
+returns g c = record {
+  pushed = search rules;
+  stays_refused = λ failed. c.try_extend.ensures.stays_refused failed (rw c.varint_u64.ensures (digits_some c.args.n));
+  storage_kept = search rules;
+  remembers_refusal = search rules;
+  refuses_by_buffer_full = search rules;
+}

@@ -4,18 +4,21 @@ use Rattle.std.proofs.lemmas.Grind.{common_steps}
 use Rattle.std.proofs.lemmas.Slice.{overwrites}
 use Rattle.postcard_ser_flavors.proofs.slice.SliceFlavor.try_extend.Goals as goal
 
-pub returns-clause-pushed : goal.returns-clause-pushed
-returns-clause-pushed c = record {
-  appends = grind (arith, common_steps);
-  has_room = search rules;
-  refused = search rules;
-  leaves = record {
-    same_loan = search rules;
-    same_length = search rules;
-    grows = search rules;
-    bytes_after_unchanged = search (rules, overwrites);
+pub returns : goal.returns
+returns c = record {
+  pushed = record {
+    appends = grind (arith, common_steps);
+    has_room = search rules;
+    refused = search rules;
+    leaves = record {
+      same_loan = search rules;
+      same_length = search rules;
+      grows = search rules;
+      bytes_after_unchanged = search (rules, overwrites);
+    };
   };
+  fits_iff = grind (arith, common_steps);
+  rest_unchanged = search (rules, overwrites);
+  refuses_by_buffer_full = search rules;
+  unchanged = search rules;
 }
-
-pub returns-clause-rest_unchanged : goal.returns-clause-rest_unchanged
-returns-clause-rest_unchanged c = search (rules, overwrites)

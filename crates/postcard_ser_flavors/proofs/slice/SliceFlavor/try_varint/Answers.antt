@@ -1,5 +1,6 @@
 -- The digits follow what was held, and the bytes after them are unchanged.
 use Rattle.std.proofs.Common.{length, ap, ◌∙◌, rules, arith}
+use Rattle.std.proofs.lemmas.Grind.{common_steps}
 use Rattle.postcard_ser_flavors.specs.Slice.{Written}
 use Rattle.postcard_ser_flavors.proofs.InPlace.{fits_here, held_here, behind_here, free_here}
 use Rattle.postcard_ser_flavors.proofs.slice.SliceFlavor.try_varint.Goals as goal
@@ -7,22 +8,25 @@ use Rattle.postcard_ser_flavors.proofs.slice.SliceFlavor.try_varint.Goals as goa
 pub write_u64-count-requires : goal.write_u64-count-requires
 write_u64-count-requires c = fits_here c.args.n c.self.inside.position c.lend-all.result.now (omega arith) (omega (arith, c.if-self-lt-VARINT_MAX_64.false, ap length c.lend-all.ensures.value, c.self.invariant))
 
-pub returns-clause-pushed : goal.returns-clause-pushed
-returns-clause-pushed c = record {
-  appends = held_here c.self.inside.position c.write_u64-count.result c.lend-all.result.now c.write_u64-count.new.out _ _ _ (omega (arith, ap length c.lend-all.ensures.value, c.self.invariant)) c.write_u64-count.ensures.within
-      (c.lend-all.ensures.value ∙ ap (λ (w : Written). w.buffer) c.self.view_is) (ap (λ (w : Written). w.count) c.self.view_is) c.write_u64-count.ensures.digits;
-  has_room = search rules;
-  refused = search rules;
-  leaves = record {
-    same_loan = search rules;
-    same_length = search rules;
-    grows = search rules;
-    bytes_after_unchanged = behind_here c.self.inside.position c.write_u64-count.result c.lend-all.result.now c.write_u64-count.new.out _ _ _ (omega (arith, ap length c.lend-all.ensures.value, c.self.invariant)) c.write_u64-count.ensures.within
-        (c.lend-all.ensures.value ∙ ap (λ (w : Written). w.buffer) c.self.view_is) (ap (λ (w : Written). w.count) c.self.view_is) c.write_u64-count.ensures.digits c.write_u64-count.ensures.bytes_after_unchanged;
+pub returns : goal.returns
+returns c = record {
+  pushed = record {
+    appends = held_here c.self.inside.position c.write_u64-count.result c.lend-all.result.now c.write_u64-count.new.out _ _ _ (omega (arith, ap length c.lend-all.ensures.value, c.self.invariant)) c.write_u64-count.ensures.within
+        (c.lend-all.ensures.value ∙ ap (λ (w : Written). w.buffer) c.self.view_is) (ap (λ (w : Written). w.count) c.self.view_is) c.write_u64-count.ensures.digits;
+    has_room = search rules;
+    refused = search rules;
+    leaves = record {
+      same_loan = search rules;
+      same_length = search rules;
+      grows = search rules;
+      bytes_after_unchanged = behind_here c.self.inside.position c.write_u64-count.result c.lend-all.result.now c.write_u64-count.new.out _ _ _ (omega (arith, ap length c.lend-all.ensures.value, c.self.invariant)) c.write_u64-count.ensures.within
+          (c.lend-all.ensures.value ∙ ap (λ (w : Written). w.buffer) c.self.view_is) (ap (λ (w : Written). w.count) c.self.view_is) c.write_u64-count.ensures.digits c.write_u64-count.ensures.bytes_after_unchanged;
+    };
   };
+  fits_iff = grind (arith, common_steps);
+  rest_unchanged =
+      free_here c.self.inside.position c.write_u64-count.result c.lend-all.result.now c.write_u64-count.new.out _ _ _ (omega (arith, ap length c.lend-all.ensures.value, c.self.invariant)) c.write_u64-count.ensures.within
+      (c.lend-all.ensures.value ∙ ap (λ (w : Written). w.buffer) c.self.view_is) (ap (λ (w : Written). w.count) c.self.view_is) c.write_u64-count.ensures.digits c.write_u64-count.ensures.bytes_after_unchanged;
+  refuses_by_buffer_full = search rules;
+  unchanged = search rules;
 }
-
-pub returns-clause-rest_unchanged : goal.returns-clause-rest_unchanged
-returns-clause-rest_unchanged c =
-    free_here c.self.inside.position c.write_u64-count.result c.lend-all.result.now c.write_u64-count.new.out _ _ _ (omega (arith, ap length c.lend-all.ensures.value, c.self.invariant)) c.write_u64-count.ensures.within
-    (c.lend-all.ensures.value ∙ ap (λ (w : Written). w.buffer) c.self.view_is) (ap (λ (w : Written). w.count) c.self.view_is) c.write_u64-count.ensures.digits c.write_u64-count.ensures.bytes_after_unchanged

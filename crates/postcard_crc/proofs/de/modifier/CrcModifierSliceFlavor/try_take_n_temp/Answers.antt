@@ -8,8 +8,8 @@ returns g c = (
     refl,
     (λ s. tt),
     (
-      record { drops = c.in_ok-taken.ensures.gives.drops; scratch = c.in_ok-taken.ensures.gives.scratch; keeps = c.in_ok-taken.ensures.gives.keeps },
-      record { bytes = c.in_ok-taken.taken.now; joins = c.in_ok-taken.ensures.gives.drops; continues = c.update.ensures },
+      record { drops = c.in_ok-taken.ensures.takes.gives.drops; scratch = c.in_ok-taken.ensures.takes.gives.scratch; keeps = c.in_ok-taken.ensures.takes.gives.keeps },
+      record { bytes = c.in_ok-taken.taken.now; joins = c.in_ok-taken.ensures.takes.gives.drops; continues = c.update.ensures },
     ),
   ),
   record { length = c.in_ok-taken.ensures.length; gives = tt; accepts = λ h. refl; refuses_by_unexpected_end = tt },
