@@ -1,4 +1,4 @@
-//! Algorithms by their names in Koopman's and Cook's catalogue of parametrised CRC algorithms.
+//! Algorithms by their names in Greg Cook's catalogue of parametrised CRC algorithms.
 //! [`Algorithm`] says what each field is.
 //!
 //! Where the checksum follows the message lowest byte first, as in the checked messages of

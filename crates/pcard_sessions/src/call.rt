@@ -1,4 +1,4 @@
-//! A call of a session, and what it must print, which is written below it.
+//! A call of a session, and the lines that are written below it.
 
 use crate::call_error::CallError;
 use crate::words::words_of;
@@ -20,7 +20,7 @@ pub struct Call {
     /// Its line.
     line: String,
     /// The lines that are written below it, each with its line feed.
-    expected: String,
+    written: String,
 }
 
 impl Call {
@@ -32,18 +32,18 @@ impl Call {
     /// Returns the call of the line with this number, with nothing below it yet.
     pub fn new(alloc: Global, number: u64, line: &str) -> Result<Call, AllocError> {
         let line = String::from_str(alloc, line)?;
-        let expected = String::new(alloc);
+        let written = String::new(alloc);
         Ok(Call {
             number,
             line,
-            expected,
+            written,
         })
     }
 
     /// Adds a line that is written below the call.
     pub fn add(&mut self, line: &str) -> Result<(), AllocError> {
-        self.expected.push_str(line)?;
-        self.expected.push_str("\n")
+        self.written.push_str(line)?;
+        self.written.push_str("\n")
     }
 
     /// Requires that the call prints what is written below it, or, if it begins with `not`, that it
@@ -52,10 +52,10 @@ impl Call {
         let line = without(&self.line, NOT);
         let is_wrong = self.line.starts_with(NOT);
         let found = output_of(rt, without(line, PROMPT))?;
-        if (found.as_str() == self.expected.as_str()) != is_wrong {
+        if (found.as_str() == self.written.as_str()) != is_wrong {
             return Ok(());
         }
-        let written = self.expected.clone()?;
+        let written = self.written.clone()?;
         Err(CallError::Other { written, found })
     }
 }

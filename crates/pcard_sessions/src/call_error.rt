@@ -12,7 +12,8 @@ pub enum CallError {
     Input,
     /// What the call prints is no text.
     NoText,
-    /// The call prints something else than what is written below it.
+    /// The call prints something else than what is written below it, or just that if it begins with
+    /// `not`.
     Other {
         /// What is written below it.
         written: String,

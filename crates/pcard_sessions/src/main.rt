@@ -1,10 +1,9 @@
 //! A program that replays sessions of `pcard`, which it reads from its standard input. A session has
-//! calls, each with all that it must print; the comments at the head of the input say how they are
-//! written.
+//! calls, each with all that it must print, or, after `not`, must not print; the comments at the head
+//! of the input say how they are written.
 //!
-//! It prints each call that prints something else, with the number of its line, what is written and
-//! what was printed, and then the number of calls that passed and failed. The exit status is 0 only if none
-//! failed.
+//! It prints each call that fails, with the number of its line, what is written and what was printed,
+//! and then the number of calls that passed and failed. The exit status is 0 only if none failed.
 #![tactic(auto)]
 
 mod call;
@@ -31,7 +30,7 @@ struct Sessions {
 }
 
 impl Sessions {
-    /// Takes the next line: a comment, the first line of a call, or a line of what it must print.
+    /// Takes the next line: a comment, the first line of a call, or a line that is written below it.
     fn take(&mut self, rt: &HostRuntime, line: &str) -> io::Result<()> {
         self.lines = self.lines.saturating_add(1);
         if line.starts_with('#') {

@@ -46,7 +46,7 @@ impl<const N: usize> Default for CobsAccumulator<N> {
 }
 
 /// Decodes the frame of the first `end` bytes of a buffer in place, and returns the length of its
-/// data, which begins at place 1. Fails if and only if there is no data.
+/// data, which begins at place 1. Fails if and only if the bytes are no COBS frame.
 fn decode_front(buf: &mut [u8], end: usize) -> Result<usize>
     requires within { end ≤ length buf.old }
     requires no_zero { NoZero (take end buf.old) }
@@ -102,7 +102,6 @@ impl<const N: usize> CobsAccumulator<N> {
         self.skipping
     }
 
-    /// Adds bytes to those held.
     fn extend(&mut self, input: &[u8])
         requires not_skipping { is_skipping self.old ≡ false }
         requires room { length (held_of self.old) + length input.now ≤ N }
@@ -115,8 +114,8 @@ impl<const N: usize> CobsAccumulator<N> {
         self.idx = end;
     }
 
-    /// Decodes the bytes held as a frame, and lends its data. Fails if and only if the frame has
-    /// no data. Nothing is held once the loan ends, also after a failure.
+    /// Decodes the bytes held as a frame, and lends its data. Fails if and only if they are
+    /// none. Nothing is held once the loan ends, also after a failure.
     fn decode<'de>(&'de mut self) -> Result<&'de [u8]>
         requires { is_skipping self.old ≡ false }
         ensures decodes { IfOk result (λ d. Groups (held_of self.old) d.now) }

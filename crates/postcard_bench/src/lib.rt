@@ -1,10 +1,10 @@
-//! The functions by which the speed of the library is measured: its calls on small records, lists
-//! and frames, as exports of a static library for a driver in C.
+//! The functions by which the speed of the library is measured: its calls on values of many kinds,
+//! frames, streams, checksums and wrong counts, as exports of a static library for a driver in C.
+//! The name of each begins with `port_`, as those of plain C with `plain_`; `small` stands for small
+//! records.
 //!
-//! Each export returns the number of bytes that it wrote or a sum over what it wrote or read, so
-//! that no work can be optimized away, and `u64::MAX` if encoding or decoding fails. But
-//! `port_hostile` returns 0 if decoding succeeds, and `port_accumulate` counts the frames that
-//! fail. The page `docs/SPEED.md` says how they are measured, and has the results.
+//! Each export returns a number that depends on what it wrote or read, so that no work can be
+//! optimized away, mostly `u64::MAX` if encoding or decoding fails. The page `docs/SPEED.md` says how they are measured, and has the results.
 #![tactic(auto)]
 
 mod checksums;

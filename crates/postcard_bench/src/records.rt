@@ -7,7 +7,7 @@ use postcard::{
 };
 use std::alloc::Global;
 
-/// A record whose encoding has a few bytes, such as a device sends.
+/// A record whose encoding has some twenty bytes, such as a device sends.
 #[derive(Drop)]
 pub struct Record<'a> {
     a: u32,

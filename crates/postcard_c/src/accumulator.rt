@@ -45,7 +45,7 @@ pub struct Outcome {
 }
 
 /// Decodes the frame of the first `end` bytes of a buffer in place, and returns the length of its
-/// data. Fails if and only if the frame has no data.
+/// data. Fails if and only if the bytes are no COBS frame.
 fn decode_front(buf: &mut [u8], end: usize) -> Result<usize>
     requires { end ≤ length buf.old }
     ensures decodes { IfOk result (λ n. (n ≤ length buf.new)

@@ -1,6 +1,6 @@
 //! Checksums: of bytes, of what a writer holds, and of what a reader has read.
 //!
-//! The algorithms are two of Koopman's and Cook's catalogue of parametrised CRC algorithms. Both
+//! The algorithms are two of Greg Cook's catalogue of parametrised CRC algorithms. Both
 //! take and give the lowest bit first, here without a table, so that the code is small.
 
 ghost use Rattle.std.specs.Prelude.{◌≡◌, ◌↔◌, ◌++◌, ℕ, List, length, take, true, IsTrue};

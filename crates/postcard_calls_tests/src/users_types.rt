@@ -105,7 +105,7 @@ fn enums(rt: HostRuntime) {
 }
 
 #[test]
-fn values_that_are_refused(rt: HostRuntime) {
+fn percents_and_intervals(rt: HostRuntime) {
     for value in [0, 100] {
         match Percent::new(value) {
             Some(percent) => assert_owned(&rt, &[value], Ok(percent)),
@@ -160,8 +160,7 @@ fn settings_in_a_buffer_of_the_greatest_size(rt: HostRuntime) {
     same(&rt, store.load(rt.alloc()), Ok(on));
 }
 
-/// Returns the chain of these numbers.
-fn links(alloc: Global, numbers: &[u16]) -> Result<Chain, AllocError> {
+fn try_chain(alloc: Global, numbers: &[u16]) -> Result<Chain, AllocError> {
     let mut chain = Chain::End;
     for number in numbers.iter().rev() {
         chain = Chain::Link(*number, Box::new(alloc, chain)?);
@@ -171,7 +170,7 @@ fn links(alloc: Global, numbers: &[u16]) -> Result<Chain, AllocError> {
 
 /// Returns the chain of these numbers.
 fn chain(rt: &(impl Abort + AllocGlobal), numbers: &[u16]) -> Chain {
-    match links(rt.alloc(), numbers) {
+    match try_chain(rt.alloc(), numbers) {
         Ok(chain) => chain,
         Err(e) => panic!(rt; "{e}"),
     }
@@ -231,7 +230,7 @@ fn strokes_up_to_the_capacity(rt: HostRuntime) {
     assert_owned::<Tally>(&rt, &rows, Err(Error::SerdeDeCustom));
 }
 
-/// A sample, and its bytes: 21.5 is 1.34375 * 2^4, and 101325 is 1.546... * 2^16.
+/// A sample: 21.5 is 1.34375 * 2^4, and 101325 is 1.546... * 2^16.
 const SAMPLE: Sample = Sample {
     sensor: 300,
     temperature: 21.5,

@@ -11,7 +11,7 @@ use Rattle.postcard_cli.specs.declared.checksum.Checksum.{Checksum}
 use Rattle.postcard_cli.specs.declared.checksum.Checksum.TheVariants.{Crc8Smbus, Crc8MaximDow, Crc16IbmSdlc, Crc16Xmodem, Crc16Modbus, Crc16Usb, Crc16Kermit, Crc24Openpgp}
 use Rattle.postcard_cli.specs.declared.checksum.Checksum.TheVariants.{Crc32IsoHdlc, Crc32Iscsi, Crc32Bzip2, Crc32Mpeg2, Crc64Xz, Crc64Ecma182, Crc82Darc}
 
--- The name in Koopman's and Cook's catalogue of parametrised CRC algorithms.
+-- The name in Greg Cook's catalogue of parametrised CRC algorithms.
 abbrev pub checksum_name : Checksum → List ℕ
 checksum_name Crc8Smbus = codes "CRC-8/SMBUS"
 checksum_name Crc8MaximDow = codes "CRC-8/MAXIM-DOW"

@@ -109,9 +109,9 @@ impl Checksum {
         }
     }
 
-    /// Returns the number of bytes of a checksum after its message: those of the smallest unsigned
-    /// integer type that has the bits.
-    pub fn size(self) -> usize
+    /// Returns the number of bytes of the trailer: those of the smallest unsigned integer type that
+    /// has the bits.
+    pub fn trailer_size(self) -> usize
         ensures { result ≡ bytes_for (parameters_of self).width }
     {
         match self.width() {
@@ -153,7 +153,7 @@ impl Checksum {
         ensures follows { IfOk result (λ rest. IsTrailer self front.now behind.now rest.now) }
         ensures refused { IfErr result (λ e. HasNoTrailer self front.now behind.now e) }
     {
-        let size = self.size();
+        let size = self.trailer_size();
         if behind.len() < size {
             return Err(Error::DeserializeUnexpectedEnd);
         }
@@ -185,7 +185,7 @@ impl Checksum {
             (W.contents output.old) (W.contents output.new)) }
     {
         let trailer = self.of(message).to_le_bytes();
-        hexadecimal::write(&trailer[..self.size()], output)
+        hexadecimal::write(&trailer[..self.trailer_size()], output)
     }
 }
 

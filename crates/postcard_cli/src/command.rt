@@ -1,6 +1,6 @@
 //! The commands, and how they are read from the words of a call. The functions below
-//! [`Command::from_words`] serve the calls of the words that their pages name, and return `None` if
-//! the words are no call.
+//! [`Command::from_words`] serve the calls of the words that their contracts name, and return
+//! `None` if the words are no call.
 
 ghost use Rattle.std.specs.Prelude.{◌≡◌, ◌≢◌, ℕ, [], ◌∷◌, codes, IfSome, IfNone, map, string_bytes};
 ghost use Rattle.postcard_cli.specs.{IsCallOf, IsNoCall, IsWordOf, SaysLongest, TypeWord};
@@ -69,7 +69,6 @@ pub fn is_expression(word: &str) -> bool
         || bytes == b"f64".as_slice()
 }
 
-/// Returns whether a word begins with `(`, `[`, `{` or `&`.
 fn opens_expression(word: &[u8]) -> bool
     ensures { result ≡ begins_expression word.now }
 {
@@ -104,9 +103,8 @@ impl<'a> TypeWord<'a> {
     }
 }
 
-/// A call with a known command, the right number of words, and a TYPE that is a name or counts as
-/// an expression. The expression, VALUE and HEX aren't read yet. Where nothing else is said, TYPE
-/// is taken as an expression.
+/// A call with a known command and the right number of words. The expression, VALUE and HEX aren't
+/// read yet. Where nothing else is said, TYPE is taken as an expression, whatever it is.
 #[derive(Clone, Copy, Debug, PartialEq, Eq)]
 pub enum Command<'a> {
     /// `enc TYPE VALUE`, where TYPE may be a name.
@@ -228,8 +226,9 @@ pub enum Command<'a> {
 }
 
 impl<'a> Command<'a> {
-    /// Returns the command of these words, or `None` if the command or the type is unknown, or if
-    /// there are too few or too many words.
+    /// Returns the command of these words, or `None` if they are none: if the command or an option
+    /// is unknown, if there are too few or too many words, or if TYPE is neither a name nor an
+    /// expression where it must be one.
     pub fn from_words(words: &'a [String]) -> Option<Command<'a>>
         ensures found { IfSome result (λ command. IsCallOf (map string_bytes words.now) command) }
         ensures none { IfNone result (IsNoCall (map string_bytes words.now)) }
@@ -257,7 +256,6 @@ impl<'a> Command<'a> {
         }
     }
 
-    /// One word.
     fn alone(command: &'a str) -> Option<Command<'a>>
         ensures found { IfSome result (λ found. IsCallOf (command.now ∷ []) found) }
         ensures none { IfNone result (IsNoCall (command.now ∷ [])) }
@@ -270,7 +268,6 @@ impl<'a> Command<'a> {
         }
     }
 
-    /// A command and a type.
     fn of_type(command: &'a str, kind: &'a str) -> Option<Command<'a>>
         ensures found { IfSome result (λ found. IsCallOf (command.now ∷ kind.now ∷ []) found) }
         ensures none { IfNone result (IsNoCall (command.now ∷ kind.now ∷ [])) }
@@ -285,7 +282,6 @@ impl<'a> Command<'a> {
         }
     }
 
-    /// A command, a type and a text.
     fn of_text(command: &'a str, kind: &'a str, text: &'a str) -> Option<Command<'a>>
         ensures found { IfSome result
             (λ found. IsCallOf (command.now ∷ kind.now ∷ text.now ∷ []) found) }
@@ -355,7 +351,6 @@ impl<'a> Command<'a> {
         }
     }
 
-    /// A command, an option, and two words more.
     fn with_option(
         command: &'a str,
         option: &'a str,

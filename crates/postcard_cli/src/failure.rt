@@ -23,8 +23,8 @@ pub enum Failure {
     BadHexAt(usize),
     /// No checksum has the name NAME.
     UnknownChecksum,
-    /// The library failed to encode or decode the value, or an allocation failed while TYPE, VALUE
-    /// or HEX was read.
+    /// The library failed to encode or decode the value, or an allocation failed, but for those of
+    /// [`OutOfMemory`](Failure::OutOfMemory).
     Library(Error),
     /// The library failed to decode, and a line that says so is printed, but for its line feed.
     Refused,

@@ -120,14 +120,12 @@ fn wrong_digit(digits: &[u8]) -> usize
     }
 }
 
-/// Returns the index of the first byte that is no digit, if there is one.
 fn first_other(digits: &[u8]) -> Option<usize>
     ensures { result ≡ position (λ b. not (is_ascii_hexdigit b)) digits.now }
 {
     digits.iter().position(|byte| !byte.is_ascii_hexdigit())
 }
 
-/// Returns the index of the first separator, if there is one.
 fn end_of_word(text: &[u8]) -> Option<usize>
     ensures { result ≡ position is_separator text.now }
 {
@@ -225,14 +223,12 @@ fn begins_with_digits(text: &[u8], count: usize) -> bool
     count <= text.len() && are_digits(&text[..count])
 }
 
-/// Returns whether a text is hexadecimal digits alone, or empty.
 fn are_digits(text: &[u8]) -> bool
     ensures { result ≡ list_all is_ascii_hexdigit text.now }
 {
     text.iter().all(|byte| byte.is_ascii_hexdigit())
 }
 
-/// Returns whether a text is blanks alone, or empty.
 fn are_blank(text: &[u8]) -> bool
     ensures { result ≡ list_all is_ascii_whitespace text.now }
 {

@@ -20,8 +20,7 @@ pub trait Reader: Read + Drop {
     ///
     /// # Errors
     ///
-    /// Fails if the reader does; the bytes left, if known, are unchanged then. A steady reader
-    /// never fails here, and stays steady.
+    /// Fails if the reader does; the bytes left, if known, are unchanged then.
     fn read_some(&mut self, buf: &mut [u8]) -> io::Result<usize>
         ensures bound { ReadsAtMost result buf.new }
         ensures bytes { ReadConsumes (Self.remaining self.old)
@@ -30,8 +29,7 @@ pub trait Reader: Read + Drop {
         ensures stays_steady { steady self.old → steady self.new };
 
     /// Fills all of `buf` with the next `buf.len()` bytes, as `Read::read_exact` does. Fails if the
-    /// reader fails or ends first. A steady reader that is known to have at least `buf.len()` bytes
-    /// left succeeds. It stays steady, also after a failure.
+    /// reader fails or ends first.
     fn read_full(&mut self, buf: &mut [u8]) -> io::Result<()>
         ensures bytes { OnOk result (Consumes (Self.remaining self.old)
             (Self.remaining self.new) buf.new) }

@@ -1,10 +1,10 @@
-//! Tests of the bytes around those that are written: the bytes before them in a vector, those after
-//! them in a buffer, and those of another buffer that is filled in turn.
+//! Tests of the bytes around those that are written: those before them in a vector, and those after
+//! them in a buffer.
 
 use crate::OLD;
 use crate::asserts::{same, same_bytes};
 use postcard::ser_flavors::{Flavor, Slice};
-use postcard::{Error, Serialize, to_extend, to_slice};
+use postcard::{Serialize, to_extend, to_slice};
 use std::process::Abort;
 
 /// Returns the vector with the value's bytes after those that it held.
@@ -34,28 +34,4 @@ fn bytes_after_a_slice(rt: HostRuntime) {
     let front = to_slice(&300u16, &mut buffer).expect(&rt, "the number has room");
     front.reverse();
     same_bytes(&rt, &buffer, &[0x02, 0xAC, 1, OLD, OLD]);
-}
-
-#[test]
-fn two_buffers_in_turn(rt: HostRuntime) {
-    let mut low = [OLD; 4];
-    let mut high = [OLD; 3];
-    let mut lows = Slice::new(&mut low);
-    let mut highs = Slice::new(&mut high);
-    lows.try_push(1).expect(&rt, "a byte has room");
-    let pushed = highs.try_extend(&[0xF1, 0xF2]);
-    pushed.expect(&rt, "two bytes have room");
-    lows.try_varint(300).expect(&rt, "two more have room");
-    let full = highs.try_extend(&[0xF3, 0xF4]);
-    let error = full.expect_err(&rt, "two more have no room");
-    same(&rt, error, Error::SerializeBufferFull);
-    lows[0] = 9;
-    highs[1] = 0xF9;
-    let front = lows.finalize().expect(&rt, "a slice comes back");
-    same_bytes(&rt, &*front, &[9, 0xAC, 0x02]);
-    same(&rt, highs.try_push(0xF3), Ok(()));
-    let front = highs.finalize().expect(&rt, "a slice comes back");
-    same(&rt, front.len(), 3);
-    same_bytes(&rt, &low, &[9, 0xAC, 0x02, OLD]);
-    same_bytes(&rt, &high, &[0xF1, 0xF9, 0xF3]);
 }

@@ -1,5 +1,5 @@
-//! Tests of values that are written and read elsewhere than in a slice: through readers and writers
-//! that give few bytes, fail or are interrupted, and through the other flavors.
+//! Tests of values that are written and read through readers and writers that give few bytes, fail
+//! or are interrupted, and through the flavors, with the bytes around what is written.
 #![tactic(auto)]
 
 #[cfg(test)]

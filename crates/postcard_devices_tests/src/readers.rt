@@ -1,5 +1,5 @@
-//! Tests of reading values from readers: steady ones, in pieces of several lengths, and one that
-//! fails.
+//! Tests of reading values from readers: steady ones, in pieces of several lengths, the same without
+//! a promise, and one that fails.
 
 use crate::OLD;
 use crate::asserts::{assert_read, assert_refused, assert_scratch, same, same_bytes};
@@ -207,24 +207,24 @@ fn all_takes<'b, R: Over + 'b>(rt: &impl Abort, lengths: &'static [usize]) {
 }
 
 /// Runs all of these tests over readers of one kind.
-fn all_rows<'b, R: Over + 'b>(rt: &(impl Abort + AllocGlobal), lengths: &'static [usize]) {
+fn all_tests<'b, R: Over + 'b>(rt: &(impl Abort + AllocGlobal), lengths: &'static [usize]) {
     all_values::<R>(rt, lengths);
     all_takes::<R>(rt, lengths);
 }
 
 #[test]
 fn over_steady_readers(rt: HostRuntime) {
-    all_rows::<&[u8]>(&rt, &[]);
-    all_rows::<Pieces>(&rt, &[1]);
-    all_rows::<Pieces>(&rt, &[2, 3]);
-    all_rows::<Pieces>(&rt, &[4, 1, 9]);
+    all_tests::<&[u8]>(&rt, &[]);
+    all_tests::<Pieces>(&rt, &[1]);
+    all_tests::<Pieces>(&rt, &[2, 3]);
+    all_tests::<Pieces>(&rt, &[4, 1, 9]);
 }
 
 #[test]
 fn over_any_reader(rt: HostRuntime) {
-    all_rows::<Plain<&[u8]>>(&rt, &[]);
-    all_rows::<Plain<Pieces>>(&rt, &[1]);
-    all_rows::<Plain<Pieces>>(&rt, &[2, 3]);
+    all_tests::<Plain<&[u8]>>(&rt, &[]);
+    all_tests::<Plain<Pieces>>(&rt, &[1]);
+    all_tests::<Plain<Pieces>>(&rt, &[2, 3]);
 }
 
 /// Reads `(5u8, 300u32, "Hi!")` from a reader of which one read fails, if the value needs it.

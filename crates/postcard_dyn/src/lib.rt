@@ -10,14 +10,14 @@ pub mod calls;
 pub mod explain;
 pub mod fixed;
 pub mod laws;
-pub mod locate;
+pub mod place;
 pub mod read;
 pub mod value;
 pub mod write;
 
 pub use calls::{take_from_bytes, to_flavor};
 pub use explain::{Expected, Explanation, Label, Line, LineKind};
-pub use locate::refused_at;
+pub use place::refused_at;
 pub use postcard_dyn_schema::{ByteOrder, ExpressionError, Integer, Leaf, Problem, Schema, parse};
 pub use read::read_value;
 pub use value::Value;

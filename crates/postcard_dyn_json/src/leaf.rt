@@ -276,7 +276,6 @@ fn find_char(json: &Json) -> Option<Value>
     }
 }
 
-/// Returns a copy of a string.
 fn find_text(alloc: Global, json: &Json) -> Result<Option<Value>, AllocError>
     ensures { IfOk result (Finds tree (IsReading (leaf_type leaves.Str) (leaf_layout leaves.Str))
         (view json.now)) }

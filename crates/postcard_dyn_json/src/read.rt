@@ -103,7 +103,6 @@ fn only_member<'a>(json: &'a Json, name: &str) -> Option<&'a Json>
     json.get(name)
 }
 
-/// Reads a list or a map.
 #[cycle(read)]
 fn read_list(alloc: Global, element: &Schema, json: &Json) -> Result<Value, JsonError>
     ensures { Reads (types.seq (type_of element.now)) (layouts.list (layout_of element.now))
@@ -153,7 +152,6 @@ fn read_items(alloc: Global, element: &Schema, items: &Vec<Json>) -> Result<Vec<
     Ok(values)
 }
 
-/// Reads a tuple or a struct.
 #[cycle(read)]
 fn read_group(alloc: Global, parts: &Vec<Schema>, json: &Json) -> Result<Value, JsonError>
     ensures { Reads (types.group (types_of parts.now.items))

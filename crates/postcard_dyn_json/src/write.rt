@@ -118,7 +118,6 @@ fn write_list(
     Ok(Some(Json::Array(all)))
 }
 
-/// Returns the JSON of a tuple or a struct.
 #[cycle(write)]
 fn write_group(
     alloc: Global,

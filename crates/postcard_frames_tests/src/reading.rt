@@ -69,6 +69,10 @@ fn numbers_are_read(rt: &(impl Abort + AllocGlobal), frame: &[u8]) {
 fn zeros_inside_and_after(rt: HostRuntime) {
     numbers_are_read(&rt, &[0x02, 0x08, 0x02, 0x04]);
     numbers_are_read(&rt, &[0x02, 0x08, 0x02, 0x04, 0x00]);
+}
+
+#[test]
+fn a_frame_of_no_bool(rt: HostRuntime) {
     let refused = from_bytes_cobs::<bool>(rt.alloc(), &mut [0x02, 0x05, 0x00]);
     same(&rt, refused, Err(Error::DeserializeBadBool));
 }
@@ -121,7 +125,7 @@ fn comes_back<T: Serialize + DeserializeOwned + PartialEq>(
     rt: &(impl Abort + AllocGlobal),
     value: &T,
 ) {
-    let mut buffer = [0xAA; 32];
+    let mut buffer = [crate::OLD; 32];
     let frame = to_slice_cobs(value, &mut buffer).expect(rt, "the frame has room");
     let read = from_bytes_cobs::<Owned<T>>(rt.alloc(), frame);
     let Owned(back) = read.expect(rt, "the frame has a value");
@@ -145,7 +149,7 @@ pub fn list_comes_back(rt: &(impl Abort + AllocGlobal), list: &[u8]) {
 }
 
 /// Frames of values of many types.
-const FRAMES: [&[u8]; 20] = [
+const VALUE_FRAMES: [&[u8]; 20] = [
     &[0x01, 0x00],
     &[0x01, 0x01, 0x00],
     &[0x04, 0xC7, 0xCB, 0x02, 0x00],
@@ -199,7 +203,7 @@ fn place_survives(rt: &(impl Abort + AllocGlobal), frame: &[u8], place: usize) {
 
 #[test]
 fn changed_frames_are_read_or_not(rt: HostRuntime) {
-    for frame in &FRAMES {
+    for frame in &VALUE_FRAMES {
         for place in 0..frame.len() {
             place_survives(&rt, frame, place);
         }

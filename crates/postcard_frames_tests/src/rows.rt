@@ -1,4 +1,4 @@
-//! Data beside its frames, worked out by hand.
+//! Data beside its frames, worked out by hand; and bytes joined, searched for a zero, and set.
 
 use std::alloc::AllocGlobal;
 use std::process::Abort;

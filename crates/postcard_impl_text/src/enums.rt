@@ -54,7 +54,6 @@ fn add_shape(out: &mut Text, home: Home, item: &Item, form: Form) {
     out.add(" as postcard::Shaped>⟧.shape };\n}\n");
 }
 
-/// Adds the type of what the variants hold, in a row.
 fn add_row_type(out: &mut Text, item: &Item) {
     out.add_all(&["\n/// What the variants of [`", item.name]);
     out.add_all(&["`] hold, in a row.\ntype ", item.name, "Row"]);
@@ -91,7 +90,6 @@ fn add_rows(out: &mut Text, item: &Item) {
     out.add("    ])");
 }
 
-/// Adds the line of that function for a variant, which has this many before it.
 fn add_row(out: &mut Text, item: &Item, member: &Member, index: usize) {
     out.add_all(&["      | ", item.name, ".", member.name]);
     for field in &member.fields {
@@ -117,7 +115,6 @@ fn add_serialize_body(out: &mut Text, item: &Item, call: &str) {
     out.add("        }\n    }\n}\n");
 }
 
-/// Adds the arm of its `match` for a variant, which has this many before it.
 fn add_serialize_arm(out: &mut Text, item: &Item, member: &Member, index: usize, call: &str) {
     let fields = member.fields.as_slice();
     out.add("            ");
@@ -144,7 +141,6 @@ fn add_match(out: &mut Text, item: &Item) {
     out.add(" => match never {},\n        }");
 }
 
-/// Adds the arm of that `match` that makes a variant, which has this many before it.
 fn add_arm(out: &mut Text, item: &Item, member: &Member, index: usize) {
     out.add("            ");
     out.add_times("Next(", index);
@@ -156,7 +152,6 @@ fn add_arm(out: &mut Text, item: &Item, member: &Member, index: usize) {
     out.add(",\n");
 }
 
-/// Adds the impl by which an enum is made of its row.
 fn add_from_row(out: &mut Text, home: Home, item: &Item) {
     add_head(out, item, Trait::FromParts);
     add_enum_use(out, home, item);
@@ -170,7 +165,6 @@ fn add_from_row(out: &mut Text, home: Home, item: &Item) {
     out.add("\n    }\n}\n");
 }
 
-/// Adds the impl of `Deserialize`, and that of `DeserializeOwned` if nothing in the enum borrows.
 fn add_reads(out: &mut Text, item: &Item, form: Form) {
     add_head(out, item, Trait::Deserialize);
     out.add(DESERIALIZE);
@@ -201,7 +195,6 @@ fn add_read_body(out: &mut Text, item: &Item, form: Form, lifetimes: Lifetimes, 
     out.add(")\n    }\n}\n");
 }
 
-/// Adds the impls of an enum that is seen as its row.
 fn add_seen(out: &mut Text, home: Home, item: &Item) {
     add_head(out, item, Trait::Repr);
     add_enum_use(out, home, item);

@@ -185,7 +185,6 @@ fn has_signed(tokens: &[Token], items: &[Item], signed: &[bool], words: Span) ->
     false
 }
 
-/// Returns whether the token is the type of a signed number, or an alias that has one.
 fn is_signed(items: &[Item], signed: &[bool], token: Token) -> bool {
     if SIGNED.iter().any(|word| token.says(word)) {
         return true;
@@ -203,7 +202,6 @@ fn named(items: &[Item], token: Token) -> Option<usize> {
         .position(|item| token.says(item.name.as_bytes()))
 }
 
-/// Returns `false` for each item, or fails with `OutOfMemory`.
 fn flags(alloc: Global, items: &[Item]) -> Result<Vec<bool>, ImplProblemAt> {
     let mut flags = Vec::new(alloc);
     for _ in items {
@@ -212,7 +210,6 @@ fn flags(alloc: Global, items: &[Item]) -> Result<Vec<bool>, ImplProblemAt> {
     Ok(flags)
 }
 
-/// Fails at a field of the first item that has itself in it.
 fn check_recursion(alloc: Global, tokens: &[Token], items: &[Item]) -> Result<(), ImplProblemAt> {
     let mut done = flags(alloc, items)?;
     for _ in items {
@@ -316,7 +313,6 @@ fn are_light(
     true
 }
 
-/// Returns whether the token is a type that holds no memory.
 fn is_light_word(items: &[Item], light: &[bool], parameters: &[&str], token: Token) -> bool {
     if NO_MEMORY.iter().any(|word| token.says(word)) {
         return true;
@@ -341,7 +337,6 @@ pub(crate) fn name_of(parameter: &str) -> &str {
     }
 }
 
-/// Fails at the first field of an item whose type has no impls that would be proved.
 fn check_fields(
     file: &str,
     tokens: &[Token],

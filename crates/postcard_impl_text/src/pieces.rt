@@ -88,7 +88,6 @@ fn add_several(out: &mut Text, fields: &[Field], piece: Piece) {
     out.add(")");
 }
 
-/// Returns what stands for no field.
 fn empty(piece: Piece) -> &'static str {
     match piece {
         Piece::OfValue | Piece::InRow => "tt",
@@ -179,7 +178,6 @@ pub(crate) fn add_declared(out: &mut Text, item: &Item, lifetimes: Lifetimes, bo
     close(out, separator);
 }
 
-/// Adds the `>` of parameters, if one was before this separator.
 fn close(out: &mut Text, separator: &str) {
     if separator != "<" {
         out.add(">");

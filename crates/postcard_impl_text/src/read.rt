@@ -135,7 +135,6 @@ fn check_attributes(tokens: &[Token], name: usize) -> Result<(), ImplProblemAt> 
     Err(problem_at(tokens, name, ImplProblem::NotDrop))
 }
 
-/// Fails where one of these tokens is `serde`.
 fn check_serde(tokens: &[Token], words: Span) -> Result<(), ImplProblemAt> {
     match find_word(tokens, words, b"serde") {
         Some(at) => Err(problem_at(tokens, at, ImplProblem::SerdeAttribute)),
@@ -143,7 +142,6 @@ fn check_serde(tokens: &[Token], words: Span) -> Result<(), ImplProblemAt> {
     }
 }
 
-/// Returns the parameters that begin at the index, if there are any, and the index after them.
 fn parameters<'a>(
     alloc: Global,
     file: &'a str,
@@ -369,7 +367,6 @@ fn tuple_field<'a>(
     })
 }
 
-/// Returns the field that these tokens are: a name, `:`, and a type.
 fn named_field<'a>(
     alloc: Global,
     file: &'a str,

@@ -43,7 +43,6 @@ fn add_shape(out: &mut Text, item: &Item, member: &Member, form: Form) {
     out.add(" as postcard::Shaped>⟧.shape };\n}\n");
 }
 
-/// Adds the impl by which a struct is made of its parts.
 fn add_from_parts(out: &mut Text, item: &Item, member: &Member) {
     let fields = member.fields.as_slice();
     add_head(out, item, Trait::FromParts);
@@ -71,7 +70,6 @@ fn add_serialize_body(out: &mut Text, member: &Member) {
     out.add(";\n        postcard::Serialize::serialize(&parts, serializer)\n    }\n}\n");
 }
 
-/// Adds the impl of `Deserialize`, and that of `DeserializeOwned` if nothing in the struct borrows.
 fn add_reads(out: &mut Text, item: &Item, member: &Member, form: Form) {
     add_head(out, item, Trait::Deserialize);
     out.add(DESERIALIZE);
@@ -106,7 +104,6 @@ fn add_read_body(out: &mut Text, item: &Item, member: &Member, form: Form, lifet
     out.add(")\n    }\n}\n");
 }
 
-/// Adds the impls of a struct that is seen as the tuple of its fields.
 fn add_seen(out: &mut Text, item: &Item, member: &Member) {
     let fields = member.fields.as_slice();
     add_head(out, item, Trait::Repr);

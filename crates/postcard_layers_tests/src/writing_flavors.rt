@@ -105,6 +105,30 @@ fn a_slice_changes_held_bytes_alone(rt: HostRuntime) {
 }
 
 #[test]
+fn two_buffers_in_turn(rt: HostRuntime) {
+    let mut low = [0xAA; 4];
+    let mut high = [0xAA; 3];
+    let mut low_slice = Slice::new(&mut low);
+    let mut high_slice = Slice::new(&mut high);
+    low_slice.try_push(1).expect(&rt, "a byte has room");
+    let pushed = high_slice.try_extend(&[0xF1, 0xF2]);
+    pushed.expect(&rt, "two bytes have room");
+    low_slice.try_varint(300).expect(&rt, "two more have room");
+    let full = high_slice.try_extend(&[0xF3, 0xF4]);
+    let error = full.expect_err(&rt, "two more have no room");
+    same(&rt, error, Error::SerializeBufferFull);
+    low_slice[0] = 9;
+    high_slice[1] = 0xF9;
+    let front = low_slice.finalize().expect(&rt, "a slice comes back");
+    same_bytes(&rt, &*front, &[9, 0xAC, 0x02]);
+    same(&rt, high_slice.try_push(0xF3), Ok(()));
+    let front = high_slice.finalize().expect(&rt, "a slice comes back");
+    same(&rt, front.len(), 3);
+    same_bytes(&rt, &low, &[9, 0xAC, 0x02, 0xAA]);
+    same_bytes(&rt, &high, &[0xF1, 0xF9, 0xF3]);
+}
+
+#[test]
 fn a_fixed_vector_changes_held_bytes_alone(rt: HostRuntime) {
     let mut fixed = HVec::<4>::new();
     assert_counts(&rt, &mut fixed, 0, 1);

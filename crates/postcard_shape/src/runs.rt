@@ -224,8 +224,8 @@ pub(crate) fn append<T: Varint>(
     append_row(items, bytes, most)
 }
 
-/// The part of [`append`] for lists that are long enough, if they have room for a row. It is a
-/// function of its own, so that the loop that calls [`append`] stays small.
+/// The part of [`append`] for lists that are long enough. It is a function of its own, so that the
+/// loop that calls [`append`] stays small.
 #[inline(never)]
 fn append_row<T: Varint>(items: &mut Vec<T>, bytes: &[u8], most: usize) -> Result<Option<usize>>
     requires small { type_size T.row ≤ 16 }

@@ -28,10 +28,10 @@ pub trait Shaped {
         FirstBytes::OneByOne
     }
 
-    /// Appends to `items` the first elements of a list, at most `most` of them, which a front of
-    /// `bytes` encodes, and returns how many bytes that front has. So a list of bytes is one copy,
+    /// Appends to `items` the next elements of a list, at most `most` of them, which a front of
+    /// `bytes` spells, and returns how many bytes that front has. So a list of bytes is one copy,
     /// and numbers are read many at a time. With `None`, the default, nothing is appended, and
-    /// elements are to be read one by one. Fails only with `OutOfMemory`, if an allocation fails.
+    /// elements are to be read one by one.
     fn append_at_hand(items: &mut Vec<Self>, bytes: &[u8], most: usize) -> Result<Option<usize>>
     where
         Self: Sized,

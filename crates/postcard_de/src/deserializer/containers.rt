@@ -28,7 +28,7 @@ fn push_announced<T: Drop>(
     announced: usize,
 ) -> Result<()>
     ensures pushed { OnOk result (items.new.items ≡ items.old.items ++ item ∷ []) }
-    ensures refused { IsOkUnless result Error.OutOfMemory }
+    ensures only_out_of_memory { IsOkUnless result Error.OutOfMemory }
 {
     if items.len() == items.capacity() {
         let room = items.len().saturating_mul(3).max(first).min(announced);

@@ -9,7 +9,7 @@ use postcard_shape::Shaped;
 use postcard_wire::Result;
 
 impl<'de, F: Flavor> Deserializer<'de, F> {
-    /// Reads a boolean: the byte 0 for `false`, or 1 for `true`. Also fails with
+    /// Reads a `bool`: the byte 0 for `false`, or 1 for `true`. Also fails with
     /// `DeserializeBadBool` for any other byte, which is taken.
     pub fn deserialize_bool(&mut self) -> Result<bool>
         ensures { DeserializesNode F.Flavor boolean_node self.old result self.new }

@@ -18,7 +18,7 @@ fn text_of(alloc: Global, bytes: Vec<u8>) -> Result<Option<CString>>
     ensures some { IfOk result (λ text. IfSome text (λ s. c_string_bytes s ≡ bytes.items)) }
     ensures no_nul { IfOk result (λ text. IfSome text (λ _. HasNoNul bytes.items)) }
     ensures none { IfOk result (λ text. IfNone text (¬ HasNoNul bytes.items)) }
-    ensures refused { IsOkUnless result Error.OutOfMemory }
+    ensures only_out_of_memory { IsOkUnless result Error.OutOfMemory }
 {
     match CString::new(alloc, bytes)? {
         Ok(text) => Ok(Some(text)),

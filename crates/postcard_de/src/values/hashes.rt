@@ -22,7 +22,7 @@ fn set_of<K: Eq + Hash + Drop, S: BuildHasher + Drop>(
     hasher: S,
 ) -> Result<HashSet<K, S>>
     ensures keys { IfOk result (λ set. Puts (PutsKey K.eq) keys.items [] set.keys) }
-    ensures refused { IsOkUnless result Error.OutOfMemory }
+    ensures only_out_of_memory { IsOkUnless result Error.OutOfMemory }
 {
     let mut set = HashSet::with_hasher(alloc, hasher);
     for key in keys {
@@ -39,7 +39,7 @@ fn map_of<K: Eq + Hash + Drop, V: Drop, S: BuildHasher + Drop>(
     hasher: S,
 ) -> Result<HashMap<K, V, S>>
     ensures entries { IfOk result (λ map. Puts (PutsPair K.eq) pairs.items [] map.entries) }
-    ensures refused { IsOkUnless result Error.OutOfMemory }
+    ensures only_out_of_memory { IsOkUnless result Error.OutOfMemory }
 {
     let mut map = HashMap::with_hasher(alloc, hasher);
     for (key, value) in pairs {

@@ -13,7 +13,7 @@ use std::collections::BinaryHeap;
 
 fn heap_of<T: Ord + Drop>(alloc: Global, items: Vec<T>) -> Result<BinaryHeap<T>>
     ensures items { IfOk result (λ heap. IsPermutation items.items (heap_items heap)) }
-    ensures refused { IsOkUnless result Error.OutOfMemory }
+    ensures only_out_of_memory { IsOkUnless result Error.OutOfMemory }
 {
     let mut heap = BinaryHeap::new(alloc);
     for item in items {

@@ -55,7 +55,7 @@ impl<T: DeserializeOwned> DeserializeOwned for VecDeque<T> {
 
 fn linked_of<T: Drop>(alloc: Global, items: Vec<T>) -> Result<LinkedList<T>>
     ensures same { IfOk result (λ linked. linked ≡ items.items) }
-    ensures refused { IsOkUnless result Error.OutOfMemory }
+    ensures only_out_of_memory { IsOkUnless result Error.OutOfMemory }
 {
     let mut linked = LinkedList::new(alloc);
     for item in items {

@@ -68,7 +68,7 @@ impl<'de, T: Reader> Flavor for IOReader<'de, T> {
         ensures takes { TakesIfAble ⟦<Self as Flavor>⟧ (λ b. b ∷ []) 1 self.old result self.new }
         ensures succeeds { T.steady (reader_of self.old)
             → AtLeast (T.remaining (reader_of self.old)) 1 → IsOk result }
-        ensures no_scratch { scratch_of self.new ≡ scratch_of self.old }
+        ensures uses_no_scratch { scratch_of self.new ≡ scratch_of self.old }
     {
         let mut byte = [0];
         match self.reader.read_full(&mut byte) {
@@ -77,7 +77,7 @@ impl<'de, T: Reader> Flavor for IOReader<'de, T> {
         }
     }
 
-    /// Returns `None`: a reader doesn't know how many bytes are left.
+    /// A reader doesn't know how many bytes are left.
     fn size_hint(&self) -> Option<usize>
         ensures { result ≡ None }
     {

@@ -40,8 +40,7 @@ impl<'de> SlidingBuffer<'de> {
         SlidingBuffer { memory, life, len }
     }
 
-    /// Takes the first `n` free bytes for good. Fails with `DeserializeUnexpectedEnd` if and only
-    /// if fewer are free; nothing is changed then.
+    /// Takes the first `n` free bytes for good, if there are that many.
     pub fn take_n(&mut self, n: usize) -> Result<&'de mut [u8]>
         ensures taken { IfOk result (λ front. (length front.now ≡ n)
             × (self.old ≡ front.now ++ self.new)) }
@@ -90,7 +89,7 @@ impl<'de> SlidingBuffer<'de> {
         }
     }
 
-    /// Returns the first `n` free bytes, of which there must be that many.
+    /// Returns the first `n` free bytes.
     pub fn front(&self, n: usize) -> &[u8]
         requires { n ≤ length self.now }
         ensures { result.now ≡ take n self.now }

@@ -47,7 +47,7 @@ impl Shaped for u16 {
 
     #[inline(always)]
     fn first_bytes(items: &[u16]) -> FirstBytes<'_> {
-        pieces::first_row(items)
+        pieces::first_block(items)
     }
 
     #[inline(always)]
@@ -61,7 +61,7 @@ impl Shaped for u32 {
 
     #[inline(always)]
     fn first_bytes(items: &[u32]) -> FirstBytes<'_> {
-        pieces::first_row(items)
+        pieces::first_block(items)
     }
 
     #[inline(always)]
@@ -75,7 +75,7 @@ impl Shaped for u64 {
 
     #[inline(always)]
     fn first_bytes(items: &[u64]) -> FirstBytes<'_> {
-        pieces::first_row(items)
+        pieces::first_block(items)
     }
 
     #[inline(always)]
@@ -97,7 +97,7 @@ impl Shaped for i16 {
 
     #[inline(always)]
     fn first_bytes(items: &[i16]) -> FirstBytes<'_> {
-        pieces::first_row(items)
+        pieces::first_block(items)
     }
 
     #[inline(always)]
@@ -111,7 +111,7 @@ impl Shaped for i32 {
 
     #[inline(always)]
     fn first_bytes(items: &[i32]) -> FirstBytes<'_> {
-        pieces::first_row(items)
+        pieces::first_block(items)
     }
 
     #[inline(always)]
@@ -125,7 +125,7 @@ impl Shaped for i64 {
 
     #[inline(always)]
     fn first_bytes(items: &[i64]) -> FirstBytes<'_> {
-        pieces::first_row(items)
+        pieces::first_block(items)
     }
 
     #[inline(always)]

@@ -82,7 +82,7 @@ returns-in_err-push_announced g c =
     rw (
       is_refusal c.from_residual-in_err-push_announced.result e
           c.from_residual-in_err-push_announced.ensures.1,
-      c.in_err-push_announced.ensures.refused,
+      c.in_err-push_announced.ensures.only_out_of_memory,
     )
     (list_refused laws (λ (v : Vec g.row.T.Denot Global). v.items) c.in_ok-count.ensures.reads
     (going_full laws tt (going_same laws same (rw more at c.elements.invariant.so))

@@ -1,6 +1,6 @@
 use Rattle.std.proofs.Common.{◌≡◌, take, length}
 use Rattle.postcard_shape.proofs.OneByte.{AreOneByte}
-use Rattle.postcard_shape.proofs.pieces.first_row.Given as goal
+use Rattle.postcard_shape.proofs.pieces.first_block.Given as goal
 
 abbrev pub invariant-loop-i : goal.invariant-loop-i
 invariant-loop-i g l = record {

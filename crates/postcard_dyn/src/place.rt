@@ -1,5 +1,5 @@
-//! The place in a message where reading fails: [`refused_at`]. The functions below return that
-//! offset in the bytes of what their names say, and fail as it does.
+//! The place in a message where reading fails: [`refused_at`]. A function `refused_..` below returns
+//! that offset in the bytes that it is given, and fails as it does.
 
 ghost use Rattle.std.specs.Prelude.{◌≡◌, ◌≤◌, length, IfOk, IfErr};
 
@@ -13,12 +13,12 @@ use std::alloc::Global;
 /// variant.
 ///
 /// The caller must know that `take_from_bytes` fails on these bytes, and not with `OutOfMemory`;
-/// this is not checked. In any case the offset is at most the number of bytes.
+/// this is not checked.
 ///
 /// # Errors
 ///
 /// Fails with `OutOfMemory` if an allocation for a value before that part fails.
-#[cycle(locate)]
+#[cycle(place)]
 pub fn refused_at(alloc: Global, schema: &Schema, bytes: &[u8]) -> Result<usize>
     ensures within { IfOk result (λ place. place ≤ length bytes.now) }
     ensures only_out_of_memory { IfErr result (λ e. e ≡ Error.OutOfMemory) }
@@ -39,7 +39,7 @@ pub fn refused_at(alloc: Global, schema: &Schema, bytes: &[u8]) -> Result<usize>
 }
 
 /// It is the count, or a part of an element.
-#[cycle(locate)]
+#[cycle(place)]
 fn refused_after_count(alloc: Global, element: &Schema, bytes: &[u8]) -> Result<usize>
     ensures within { IfOk result (λ place. place ≤ length bytes.now) }
     ensures only_out_of_memory { IfErr result (λ e. e ≡ Error.OutOfMemory) }
@@ -55,7 +55,7 @@ fn refused_after_count(alloc: Global, element: &Schema, bytes: &[u8]) -> Result<
 
 /// Each element before the refused one has at least one byte, so there are no more of them than
 /// bytes; if they use up all bytes, the next one is refused at the end.
-#[cycle(locate)]
+#[cycle(place)]
 fn refused_element(alloc: Global, element: &Schema, bytes: &[u8]) -> Result<usize>
     ensures within { IfOk result (λ place. place ≤ length bytes.now) }
     ensures only_out_of_memory { IfErr result (λ e. e ≡ Error.OutOfMemory) }
@@ -74,7 +74,7 @@ fn refused_element(alloc: Global, element: &Schema, bytes: &[u8]) -> Result<usiz
     Ok(bytes.len())
 }
 
-#[cycle(locate)]
+#[cycle(place)]
 fn refused_part(alloc: Global, parts: &Vec<Schema>, bytes: &[u8]) -> Result<usize>
     ensures within { IfOk result (λ place. place ≤ length bytes.now) }
     ensures only_out_of_memory { IfErr result (λ e. e ≡ Error.OutOfMemory) }
@@ -94,7 +94,7 @@ fn refused_part(alloc: Global, parts: &Vec<Schema>, bytes: &[u8]) -> Result<usiz
 }
 
 /// It is the index, or a part of the content.
-#[cycle(locate)]
+#[cycle(place)]
 fn refused_content(alloc: Global, variants: &Vec<Schema>, bytes: &[u8]) -> Result<usize>
     ensures within { IfOk result (λ place. place ≤ length bytes.now) }
     ensures only_out_of_memory { IfErr result (λ e. e ≡ Error.OutOfMemory) }
